@@ -1,0 +1,4 @@
+pub mod Ops
+pub mod Sizes
+pub mod Whole
+pub mod Words

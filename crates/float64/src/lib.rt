@@ -1,0 +1,5 @@
+// What Rust's f64 has as methods and casts, as total functions, and the words of a bit pattern.
+pub mod casts;
+pub mod sizes;
+pub mod whole;
+pub mod words;
