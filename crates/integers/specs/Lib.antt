@@ -1,0 +1,5 @@
+pub mod Parts
+pub mod Sums
+pub mod Quotients
+pub mod Order
+pub mod Ranges

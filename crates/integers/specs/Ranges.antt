@@ -1,0 +1,29 @@
+-- Which integers an i32 or an i64 holds, by their parts, and what the machine reads back of one that it holds. Assumes nothing.
+use mathlib.Core.Path.{_≡_}
+use Prim.Native.Nat.{_^_, _≤_, _<_}
+use native.Mathlib.Omega.{arith}
+use lib.IntN.{ℤ, pos, negsuc}
+use mir.Syntax.{Width}
+use mir.Val.{SFits, toZ, ofZ, hbits}
+use mir.ValLaws.{toZ-ofZ}
+use Rattle.integers.specs.Parts.{P, N}
+
+-- z is from -2 ^ h to 2 ^ h - 1, where h is the width less its sign bit: 31, 63
+pub record Range (w : Width) (z : ℤ) : Type 0 where
+  pub high : P z < 2 ^ hbits w
+  pub low : N z ≤ 2 ^ hbits w
+
+pub fits : (w : Width) (z : ℤ) → P z < 2 ^ hbits w → N z ≤ 2 ^ hbits w → SFits w z
+fits w (pos n) h l = record { sfits = h }
+fits w (negsuc n) h l = record { sfits = l }
+
+pub range : (w : Width) (z : ℤ) → SFits w z → Range w z
+range w (pos n) h = record { high = h .sfits; low = omega arith }
+range w (negsuc n) h = record { high = omega (arith, h .sfits); low = h .sfits }
+
+-- what the machine reads back of z's bits
+abbrev pub readBack : Width → ℤ → ℤ
+readBack w z = toZ w (ofZ w z)
+
+pub read : (w : Width) (z : ℤ) → SFits w z → readBack w z ≡ z
+read w z h = toZ-ofZ w z h
