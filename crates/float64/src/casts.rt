@@ -1,3 +1,60 @@
 // Rust's saturating casts: toward zero, to the nearest end of the range, and 0 for a NaN.
 ghost use mathlib.Core.Path.{_≡_};
 ghost use lib.Ieee.{toSigned, toUnsigned};
+
+// Rust's `x as u64`.
+pub fn to_u64(x: f64) -> u64
+    ensures { λ r. ⌜ r ≡ toUnsigned 64 x ⌝ }
+{
+    if x > -1.0 {
+        if x < 18446744073709551616.0 {
+            return std::num::truncating_f64_to_u64(x);
+        }
+        return 18446744073709551615;
+    }
+    0
+}
+
+// Rust's `x as u32`.
+pub fn to_u32(x: f64) -> u32
+    ensures { λ r. ⌜ r ≡ toUnsigned 32 x ⌝ }
+{
+    let n = to_u64(x);
+    if n < 4294967296 { n as u32 } else { 4294967295 }
+}
+
+// Rust's `x as i64`.
+pub fn to_i64(x: f64) -> i64
+    ensures { λ r. ⌜ r ≡ toSigned 63 x ⌝ }
+{
+    if x < 0.0 {
+        let n = to_u64(-x);
+        if n < 9223372036854775808 {
+            return 0 - (n as i64);
+        }
+        return -9223372036854775808;
+    }
+    let n = to_u64(x);
+    if n < 9223372036854775808 {
+        return n as i64;
+    }
+    9223372036854775807
+}
+
+// Rust's `x as i32`.
+pub fn to_i32(x: f64) -> i32
+    ensures { λ r. ⌜ r ≡ toSigned 31 x ⌝ }
+{
+    if x < 0.0 {
+        let n = to_u32(-x);
+        if n < 2147483648 {
+            return 0 - (n as i32);
+        }
+        return -2147483648;
+    }
+    let n = to_u32(x);
+    if n < 2147483648 {
+        return n as i32;
+    }
+    2147483647
+}

@@ -1,0 +1,4 @@
+pub mod Doubling
+pub mod OldWhole
+pub mod Patterns
+pub mod Saturate

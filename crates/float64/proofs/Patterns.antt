@@ -1,0 +1,80 @@
+-- What a float's bit pattern says of it: the sign, the size, and that a pattern which is no larger than a number's is no NaN's. Assumes nothing.
+use mathlib.Core.Path.{_≡_, refl, sym, ap, subst, _∙_}
+use Prim.Native.Nat.{ℕ, zero, suc, _+_, _/_, _%_, _*_, _^_, _≤_, _<_}
+use native.Mathlib.Nat.{le-trans, mod-mod, mod-lt, mod-eq-of-lt}
+use native.Mathlib.Omega.{arith}
+use mathlib.Core.Bool.{Bool, true, false, not, cond}
+use lib.Dec.{T, leb, ltb, eqb, lit<}
+use lib.IntN.{pos}
+use borrow.Author.Tests.{le-ltb, ltb-false, lt-leb}
+use lib.Ieee.{Float, nan, inf, fin, Format, binary64, ne, isNan, fits, toBits, ofBits, ofFields, odd, nanBits, prec, low, hid, ones}
+use lib.Ieee.Compare.{differs-from-itself}
+use lib.Ieee.Bits.{nanBits-above, nanBits-is, ofBits-toBits, toBits-lt, is-false}
+use Rattle.float64.specs.Sizes.{absOf}
+use Rattle.float64.specs.Words.{signOf}
+
+-- what the test `x != x` says
+pub is-nan : (x : Float) → ne x x ≡ true → x ≡ nan
+is-nan x e = differs-from-itself x (subst T (sym e) tt)
+
+pub no-nan : (x : Float) → ne x x ≡ false → T (not (isNan x))
+unfolding ne isNan
+no-nan nan e = subst T e tt
+no-nan (inf s) e = tt
+no-nan (fin s m d) e = tt
+
+abbrev sign : ℕ
+sign = 0x8000_0000_0000_0000
+
+-- the sign aside, a pattern is a NaN's from the infinity's on
+pub no-larger : (x : Float) (n : ℕ) → T (fits binary64 x) → T (not (isNan x)) → n % sign ≤ toBits binary64 x % sign → T (not (nanBits binary64 n))
+no-larger x n h t l =
+    let b = toBits binary64 x in
+    let e : ltb 0x7ff0_0000_0000_0000 (b % sign) ≡ false = sym (nanBits-above binary64 b) ∙ nanBits-is binary64 b ∙ ap isNan (ofBits-toBits binary64 x h) ∙ is-false (isNan x) t in
+    subst (λ (v : Bool). T (not v)) (sym (nanBits-above binary64 n ∙ le-ltb 0x7ff0_0000_0000_0000 (n % sign) (le-trans l (ltb-false _ _ e)))) tt
+
+sign-odd : (d : ℕ) (s : Bool) (q k l : ℕ) → signOf (odd d s q k l) ≡ s
+unfolding odd signOf
+sign-odd d s zero k l = refl
+sign-odd d s (suc q) k l = refl
+
+abs-odd : (d : ℕ) (s : Bool) (q k l : ℕ) → absOf (odd d s q k l) ≡ odd d false q k l
+unfolding odd absOf
+abs-odd d s zero k l = refl
+abs-odd d s (suc q) k l = refl
+
+sign-fields : (f : Format) (s : Bool) (x t : ℕ) → T (not (isNan (ofFields f s x t))) → signOf (ofFields f s x t) ≡ s
+unfolding ofFields
+sign-fields f s zero t n = sign-odd (prec f) s t 0 (low f)
+sign-fields f s (suc x) t n = go (eqb (suc x) (ones f)) (eqb t 0) n
+  where
+    go : (a b : Bool) → T (not (isNan (cond a (cond b (inf s) nan) (odd (prec f) s (hid f + t) x (low f))))) → signOf (cond a (cond b (inf s) nan) (odd (prec f) s (hid f + t) x (low f))) ≡ s
+    go false b n = sign-odd (prec f) s (hid f + t) x (low f)
+    go true false n = unfold isNan in absurd n
+    go true true n = unfold signOf in refl
+
+abs-fields : (f : Format) (s : Bool) (x t : ℕ) → absOf (ofFields f s x t) ≡ ofFields f false x t
+unfolding ofFields
+abs-fields f s zero t = abs-odd (prec f) s t 0 (low f)
+abs-fields f s (suc x) t = go (eqb (suc x) (ones f)) (eqb t 0)
+  where
+    go : (a b : Bool) → absOf (cond a (cond b (inf s) nan) (odd (prec f) s (hid f + t) x (low f))) ≡ cond a (cond b (inf false) nan) (odd (prec f) false (hid f + t) x (low f))
+    go false b = abs-odd (prec f) s (hid f + t) x (low f)
+    go true false = unfold absOf in refl
+    go true true = unfold absOf in refl
+
+pub sign-bit : (x : Float) → T (fits binary64 x) → T (not (isNan x)) → leb sign (toBits binary64 x) ≡ signOf x
+unfolding ofBits
+sign-bit x h t =
+    let b = toBits binary64 x in
+    let e = ofBits-toBits binary64 x h in
+    sym (sign-fields binary64 (leb sign b) (b % sign / 2 ^ 52) (b % 2 ^ 52) (subst (λ (v : Float). T (not (isNan v))) (sym e) t)) ∙ ap signOf e
+
+pub size-bits : (x : Float) → T (fits binary64 x) → ofBits binary64 (toBits binary64 x % sign) ≡ absOf x
+unfolding ofBits
+size-bits x h =
+    let b = toBits binary64 x in
+    let l : b % sign < sign = mod-lt b (lit< tt) in
+    let m : b % sign % 2 ^ 52 ≡ b % 2 ^ 52 = omega arith in
+    rw (lt-leb sign (b % sign) l, mod-eq-of-lt l, m)
+    (sym (abs-fields binary64 (leb sign b) (b % sign / 2 ^ 52) (b % 2 ^ 52)) ∙ ap absOf (ofBits-toBits binary64 x h))

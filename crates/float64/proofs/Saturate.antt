@@ -1,0 +1,94 @@
+-- A saturating cast from a wider unsigned one: the same number, held to the narrower range, with x's sign. Assumes nothing.
+use mathlib.Core.Path.{_≡_, refl, sym, ap, _∙_, subst}
+use Prim.Native.Nat.{ℕ, zero, suc, _+_, _-_, _*_, _/_, _^_, _≤_, _<_, min, zero-le}
+use native.Mathlib.Nat.{min-eq-left, min-eq-right, le-trans, le-of-lt, zero-div}
+use native.Mathlib.Omega.{arith}
+use mathlib.Core.Bool.{Bool, true, false, not}
+use lib.IntN.{ℤ, pos, negsuc, negℤ, _-ℤ_, +ℤ-idl}
+use lib.Signed.{mag}
+use lib.Dec.{T, leb, ltb, lit<}
+use lib.Pow.{pow-pos, pow-mono, pow-lt, le-ones}
+use borrow.Author.Tests.{leb-true, leb-false, ltb-true, ltb-false}
+use mir.Syntax.{Width, w8, w16, w32, w64, w128}
+use mir.Val.{SFits, toZ, ofZ, bits, hbits}
+use mir.ValLaws.{toZ-pos, toZ-ofZ}
+use lib.Ieee.{Float, nan, inf, fin, up, down, binary64, neg, ofBits, lt, toSigned, toUnsigned}
+
+abbrev zero64 : Float
+zero64 = ofBits binary64 0
+
+no : {X : Type 0} → _≡_ {A = Bool} false true → X
+no z = absurd (subst (λ (b : Bool). T (not b)) z tt)
+
+min-min : (a b c : ℕ) → c ≤ b → min (min a b) c ≡ min a c
+min-min a b c h = go (leb a b) refl
+  where
+    go : (t : Bool) → leb a b ≡ t → min (min a b) c ≡ min a c
+    go true l = ap (λ (z : ℕ). min z c) (min-eq-left (leb-true a b l))
+    go false l = let k = leb-false a b l in ap (λ (z : ℕ). min z c) (min-eq-right (le-of-lt k)) ∙ min-eq-right h ∙ sym (min-eq-right {n = c} {m = a} (omega arith))
+
+pub narrow : (v w : ℕ) (x : Float) → v ≤ w → min (toUnsigned w x) (2 ^ v - 1) ≡ toUnsigned v x
+unfolding toUnsigned
+narrow v w nan h = min-eq-left zero-le
+narrow v w (inf true) h = min-eq-left zero-le
+narrow v w (inf false) h = let p = pow-mono h in min-eq-right (omega arith)
+narrow v w (fin true m e) h = min-eq-left zero-le
+narrow v w (fin false m e) h = let p = pow-mono h in min-min (m * up e / down e) (2 ^ w - 1) (2 ^ v - 1) (omega arith)
+
+not-negative : (h w : ℕ) (x : Float) → h ≤ w → lt x zero64 ≡ false → pos (min (toUnsigned w x) (2 ^ h - 1)) ≡ toSigned h x
+unfolding toUnsigned toSigned lt ofBits
+not-negative h w nan g t = ap pos (min-eq-left zero-le)
+not-negative h w (inf true) g t = no (sym t)
+not-negative h w (inf false) g t = let p = pow-mono g in ap pos (min-eq-right {n = 2 ^ h - 1} {m = 2 ^ w - 1} (omega arith))
+not-negative h w (fin true m e) g t =
+    let l = ltb-false 0 (m * up e * 1 + 0 * down e) t in
+    let z : m * up e ≡ 0 = omega arith in
+    rw (z, zero-div (down e), min-eq-left {n = 0} {m = 2 ^ h} zero-le) (ap pos (min-eq-left zero-le))
+not-negative h w (fin false m e) g t = let p = pow-mono g in ap pos (min-min (m * up e / down e) (2 ^ w - 1) (2 ^ h - 1) (omega arith))
+
+negative : (h w : ℕ) (x : Float) → h < w → lt x zero64 ≡ true → negℤ (pos (min (toUnsigned w (neg x)) (2 ^ h))) ≡ toSigned h x
+unfolding toUnsigned toSigned lt ofBits neg
+negative h w nan g t = no t
+negative h w (inf true) g t = let p = pow-lt g in ap (λ (n : ℕ). negℤ (pos n)) (min-eq-right {n = 2 ^ h} {m = 2 ^ w - 1} (omega arith))
+negative h w (inf false) g t = no t
+negative h w (fin true m e) g t = let p = pow-lt g in ap (λ (n : ℕ). negℤ (pos n)) (min-min (m * up e / down e) (2 ^ w - 1) (2 ^ h) (omega arith))
+negative h w (fin false m e) g t = absurd (omega (arith, ltb-true (m * up e * 1) (0 * down e) t))
+
+-- ---- a signed cast, as the code makes it: n is the unsigned one of x's size
+shorter : (w : Width) → hbits w < bits w
+shorter w8 = lit< tt
+shorter w16 = lit< tt
+shorter w32 = lit< tt
+shorter w64 = lit< tt
+shorter w128 = lit< tt
+
+module _ (w : Width) (x : Float) (n : ℕ) where
+  module _ (s : lt x zero64 ≡ false) (e : n ≡ toUnsigned (bits w) x) where
+    is : pos (min n (2 ^ hbits w - 1)) ≡ toSigned (hbits w) x
+    is = ap (λ (k : ℕ). pos (min k (2 ^ hbits w - 1))) e ∙ not-negative (hbits w) (bits w) x (le-of-lt (shorter w)) s
+
+    pub above : n < 2 ^ hbits w → toZ w n ≡ toSigned (hbits w) x
+    above l = toZ-pos w n l ∙ ap pos (sym (min-eq-left (le-ones (hbits w) l))) ∙ is
+
+    pub top : 2 ^ hbits w ≤ n → pos (2 ^ hbits w - 1) ≡ toSigned (hbits w) x
+    top l = ap pos (sym (min-eq-right {n = 2 ^ hbits w - 1} {m = n} (omega arith))) ∙ is
+
+  minus : n < 2 ^ hbits w → pos 0 -ℤ toZ w n ≡ negℤ (pos n)
+  minus l = ap (λ (z : ℤ). pos 0 -ℤ z) (toZ-pos w n l) ∙ +ℤ-idl (negℤ (pos n))
+
+  pub minus-fits : n < 2 ^ hbits w → SFits w (pos 0 -ℤ toZ w n)
+  minus-fits l = subst (SFits w) (sym (minus l)) (record { sfits = go n l })
+    where
+      go : (n : ℕ) → n < 2 ^ hbits w → mag (negℤ (pos n)) < 2 ^ hbits w
+      go zero l = l
+      go (suc k) l = omega arith
+
+  module _ (s : lt x zero64 ≡ true) (e : n ≡ toUnsigned (bits w) (neg x)) where
+    is-minus : negℤ (pos (min n (2 ^ hbits w))) ≡ toSigned (hbits w) x
+    is-minus = ap (λ (k : ℕ). negℤ (pos (min k (2 ^ hbits w)))) e ∙ negative (hbits w) (bits w) x (shorter w) s
+
+    pub below : n < 2 ^ hbits w → toZ w (ofZ w (pos 0 -ℤ toZ w n)) ≡ toSigned (hbits w) x
+    below l = toZ-ofZ w (pos 0 -ℤ toZ w n) (minus-fits l) ∙ minus l ∙ ap (λ (k : ℕ). negℤ (pos k)) (sym (min-eq-left (le-of-lt l))) ∙ is-minus
+
+    pub bottom : 2 ^ hbits w ≤ n → negℤ (pos (2 ^ hbits w)) ≡ toSigned (hbits w) x
+    bottom l = ap (λ (k : ℕ). negℤ (pos k)) (sym (min-eq-right l)) ∙ is-minus

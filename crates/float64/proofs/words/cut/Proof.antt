@@ -1,0 +1,35 @@
+use mathlib.Core.Path.{refl, sym, ap, _∙_}
+use native.Mathlib.Omega.{arith}
+use Prim.Native.Nat.{_/_, _*_}
+use lib.Ieee.{fits, binary64, toBits, ofBits}
+use lib.Ieee.Bits.{toBits-lt}
+use denote.Floats.{passes}
+use Rattle.float64.specs.Words.{cutOf}
+use Rattle.float64.proofs.Patterns.{is-nan, no-nan, no-larger}
+use Rattle.float64.proofs.words.cut.Statement.{statement}
+use Rattle.float64.proofs.words.cut.Tie as tie
+
+float-to-bits-result : tie.Need-float-to-bits-result
+float-to-bits-result c = no-nan (c .before .args .x) (c .if1 .left)
+
+mul-result : tie.Need-mul-result
+mul-result c =
+    let x = c .before .args .x in
+    let l = toBits-lt binary64 x (passes (fits binary64 x) (c .before .good .0 .1)) in
+    record { fits = omega arith }
+
+float-from-bits-result : tie.Need-float-from-bits-result
+float-from-bits-result c =
+    let x = c .before .args .x in
+    no-larger x (toBits binary64 x / 4294967296 * 4294967296) (passes (fits binary64 x) (c .before .good .0 .1)) (no-nan x (c .if1 .left)) (omega arith)
+
+returns : tie.Need-returns
+unfolding cutOf toBits ofBits
+returns c = c .not-a-number .ensures ∙ sym (ap cutOf (is-nan (c .before .before .args .x) (c .before .if1 .taken)))
+
+returns-2 : tie.Need-returns-2
+unfolding cutOf
+returns-2 c = refl
+
+pub cut-spec : {M : Type 1} → statement M
+cut-spec = tie.close (tie.spec (λ c κs. tt) float-to-bits-result mul-result float-from-bits-result returns returns-2)
