@@ -1,4 +1,5 @@
 // What Rust's f64 has as methods and casts, as total functions, and the words of a bit pattern.
+pub mod bits;
 pub mod casts;
 pub mod sizes;
 pub mod whole;
