@@ -1,0 +1,6 @@
+pub mod Squares
+pub mod Rounding
+pub mod Sticky
+pub mod Patterns
+pub mod Special
+pub mod Moved

@@ -1,0 +1,3 @@
+// The square root of an f64, correctly rounded, without the processor's instruction.
+mod digits;
+pub mod e_sqrt;
