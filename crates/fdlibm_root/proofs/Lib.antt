@@ -1,4 +1,5 @@
 pub mod Squares
+pub mod Certificate
 pub mod Rounding
 pub mod Sticky
 pub mod Patterns

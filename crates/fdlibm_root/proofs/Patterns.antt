@@ -8,7 +8,7 @@ use native.Mathlib.Omega.{arith}
 use lib.IntN.{pos}
 use lib.Dec.{T, leb, eqb, lit<}
 use lib.Pow.{pow-add, pow-pos}
-use lib.Ieee.{Float, nan, inf, fin, binary64, up, down, fits, isNan, lt, odd, ofFields, ofBits, nanBits, toBits}
+use lib.Ieee.{Float, nan, inf, fin, binary64, up, down, fits, isNan, lt, eq, odd, ofFields, ofBits, nanBits, toBits}
 use lib.Ieee.Fits.{down-pos}
 use lib.Ieee.Exact.{HasValue, odd-sign}
 use lib.Ieee.Bits.{ofBits-toBits, nanBits-above}
@@ -136,6 +136,13 @@ unfolding lt isNan
 no-nan nan h = absurd (false≢true h)
 no-nan (inf s) h = tt
 no-nan (fin s m e) h = tt
+
+-- a NaN does not equal itself
+pub self-equal : (x : Float) → eq x x ≡ true → T (not (isNan x))
+unfolding eq isNan
+self-equal nan h = absurd (false≢true h)
+self-equal (inf s) h = tt
+self-equal (fin s m e) h = tt
 
 -- a pattern below the infinity's is no NaN's
 pub no-nan-bits : (n : ℕ) → n < 0x7ff0_0000_0000_0000 → T (not (nanBits binary64 n))

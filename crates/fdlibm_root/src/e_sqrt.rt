@@ -4,6 +4,8 @@ ghost use Prim.Native.Nat.{_+_, _*_, _-_, _^_, _≤_, _<_};
 ghost use lib.Ieee.{ofBits, binary64};
 ghost use Rattle.fdlibm_root.specs.Root.{roundedRoot, sqrtOf};
 ghost use Rattle.fdlibm_root.specs.Near.{Near};
+use crate::certify::corrected;
+use crate::certify::estimate;
 use crate::digits::by_digits;
 
 // the leading digit of a normal float's significand, which its pattern leaves out, and the pattern of the infinity
@@ -16,7 +18,9 @@ fn nearest(significand: u64, odd: u64) -> u64
     requires { ⌜ (2 ^ 52 ≤ significand) × (significand < 2 ^ 53) × (odd < 2) ⌝ }
     ensures { λ r. ⌜ Near (significand * (1 + odd)) r ⌝ }
 {
-    by_digits(significand * (1 + odd))
+    let m = significand * (1 + odd);
+    let s = corrected(m, estimate(significand + (odd + 1022) * LEADING));
+    if s == 0 { by_digits(m) } else { s }
 }
 
 // The pattern of the root of significand * 2^(exponent - 2098).
