@@ -1,0 +1,105 @@
+-- Where `round` lands: within half a unit of s, in the binade of s, it gives s. And a float's pattern from its value.
+use Prim.Native.Nat.{ℕ, zero, suc, _+_, _-_, _*_, _/_, _%_, _^_, _≤_, _<_, compare, Ordering, Ordering·lt, Ordering·eq, Ordering·gt}
+use mathlib.Core.Path.{_≡_, refl, sym, ap, _∙_, subst}
+use mathlib.Core.Bool.{Bool, true, false, not, cond, true≢false}
+use native.Mathlib.Nat.{le-antisymm, le-of-eq, lt-of-le-of-lt, lt-of-lt-of-le, lt-of-not-le, not-le-of-lt, lt-of-mul-lt-mul-right, mul-comm, mul-assoc, mul-right-comm, mul-pos, mul-div-cancel, mul-le-mul-right, mul-lt-mul-of-pos-right, div-add-mod', mod-lt}
+use native.Mathlib.Omega.{arith}
+use lib.Dec.{T, isLe, isEq, leb→le, nleb→lt, eqb→eq, eqb-refl, ltb, eqb, lit<}
+use lib.Arith.{lt-of-le-ne}
+use lib.Pow.{pow-add, pow-pos, pow-mono, shl-lt}
+use lib.Ieee.{Float, nan, inf, fin, binary64, up, down, size, nearest, units, round, fits, toBits, ofBits}
+use lib.Ieee.Digits.{size-lt, size-le}
+use lib.Ieee.Fits.{round-is, round-fits, down-pos}
+use lib.Ieee.Nearest.{closest, closest-same}
+use lib.Ieee.Exact.{HasValue, units-val}
+use lib.Ieee.Bits.{ofBits-toBits}
+
+-- ---- the whole number nearest to a / b
+abbrev Compared : Ordering → ℕ → ℕ → Type 0
+Compared Ordering·lt a b = a < b
+Compared Ordering·eq a b = a ≡ b
+Compared Ordering·gt a b = b < a
+
+compared : (a b : ℕ) → Compared (compare a b) a b
+compared a b = go (compare a b) (leb→le a b) (nleb→lt a b) (eqb→eq a b) (λ (e : a ≡ b). subst (λ (x : ℕ). T (eqb a x)) e (eqb-refl a))
+  where
+    go : (o : Ordering) → (T (isLe o) → a ≤ b) → (T (not (isLe o)) → b < a) → (T (isEq o) → a ≡ b) → (a ≡ b → T (isEq o)) → Compared o a b
+    go Ordering·lt h k e n = lt-of-le-ne (h tt) n
+    go Ordering·eq h k e n = e tt
+    go Ordering·gt h k e n = k tt
+
+-- q * b + t is a, which is within half of b of s * b
+nearest-is : (q t b s : ℕ) (o : Ordering) → Compared o (t * 2) b → t < b → 2 * s * b < 2 * (q * b + t) + b → 2 * (q * b + t) < 2 * s * b + b → nearest q o ≡ s
+nearest-is q t b s Ordering·lt c r lo hi =
+    let x : 2 * s * b < (2 * q + 2) * b = omega arith in
+    let y : 2 * q * b < (2 * s + 1) * b = omega arith in
+    let x' : 2 * s < 2 * q + 2 = lt-of-mul-lt-mul-right b x in
+    let y' : 2 * q < 2 * s + 1 = lt-of-mul-lt-mul-right b y in
+    omega arith
+nearest-is q t b s Ordering·eq c r lo hi =
+    let x : 2 * s * b < (2 * q + 2) * b = omega arith in
+    let y : (2 * q + 1) * b < (2 * s + 1) * b = omega arith in
+    let x' : 2 * s < 2 * q + 2 = lt-of-mul-lt-mul-right b x in
+    let y' : 2 * q + 1 < 2 * s + 1 = lt-of-mul-lt-mul-right b y in
+    absurd (clash x' y')
+  where
+    clash : 2 * s < 2 * q + 2 → 2 * q + 1 < 2 * s + 1 → ⊥
+    clash g h = omega arith
+nearest-is q t b s Ordering·gt c r lo hi =
+    let x : 2 * s * b < (2 * q + 3) * b = omega arith in
+    let y : (2 * q + 1) * b < (2 * s + 1) * b = omega arith in
+    let x' : 2 * s < 2 * q + 3 = lt-of-mul-lt-mul-right b x in
+    let y' : 2 * q + 1 < 2 * s + 1 = lt-of-mul-lt-mul-right b y in
+    omega arith
+
+closest-is : (a b s : ℕ) → 0 < b → 2 * s * b < 2 * a + b → 2 * a < 2 * s * b + b → closest a b ≡ s
+closest-is a b s B lo hi =
+    let whole : a / b * b + a % b ≡ a = div-add-mod' a b in
+    nearest-is (a / b) (a % b) b s (compare (a % b * 2) b) (compared (a % b * 2) b) (mod-lt a B)
+    (rw whole lo) (rw whole hi)
+
+-- ---- U smallest floats, rounded: j digits are dropped
+dropped : (n j : ℕ) → 2 ^ (52 + j) ≤ n → n < 2 ^ (53 + j) → size n - 53 ≡ j
+dropped n j lo hi =
+    let most : size n ≤ 53 + j = size-le n (53 + j) hi in
+    let least : 52 + j < size n = lt-of-not-le (λ (g : size n ≤ 52 + j). not-le-of-lt (lt-of-lt-of-le (size-lt n) (pow-mono g)) lo) in
+    omega arith
+
+pub round-to : (U D s j : ℕ) → D ≡ 2 ^ 1074 → 2 ^ (52 + j) ≤ U → U < 2 ^ (53 + j) → 2 * s * 2 ^ j < 2 * U + 2 ^ j → 2 * U < 2 * s * 2 ^ j + 2 ^ j
+    → round binary64 false U D ≡ units binary64 false s j
+round-to U D s j e lo hi near-lo near-hi =
+    let P : 0 < D = rw e (pow-pos 1074) in
+    let whole : U * 2 ^ 1074 / D ≡ U = rw (← e) (mul-div-cancel U P) in
+    let k : size (U * 2 ^ 1074 / D) - 53 ≡ j = ap (λ (z : ℕ). size z - 53) whole ∙ dropped U j lo hi in
+    let scaled : U * 2 ^ 1074 * 2 ^ j ≡ U * (D * 2 ^ j) = rw (← e) (mul-assoc U D (2 ^ j)) in
+    round-is binary64 false U D
+    ∙ ap (λ (z : ℕ). units binary64 false (closest (U * 2 ^ 1074) (D * 2 ^ z)) z) k
+    ∙ ap (λ (z : ℕ). units binary64 false z j) (closest-same (U * 2 ^ 1074) (D * 2 ^ j) U (2 ^ j) (mul-pos P (pow-pos j)) (pow-pos j) scaled ∙ closest-is U (2 ^ j) s (pow-pos j) near-lo near-hi)
+
+-- ---- the pattern of s * 2 ^ j smallest floats, s having 53 digits
+pattern-is : (v : Float) (s j : ℕ) → 2 ^ (52 + j) ≤ s * 2 ^ j → s * 2 ^ j < 2 ^ (53 + j) → HasValue v false (s * 2 ^ j) (2 ^ 1074) → toBits binary64 v ≡ j * 2 ^ 52 + s
+unfolding toBits
+pattern-is (fin false m e) s j lo hi v =
+    let n : m * up e * 2 ^ 1074 / down e ≡ s * 2 ^ j = ap (λ (z : ℕ). z / down e) (v .1) ∙ mul-div-cancel (s * 2 ^ j) (down-pos e) in
+    let k : size (s * 2 ^ j) - 53 ≡ j = dropped (s * 2 ^ j) j lo hi in
+    ap (λ (z : ℕ). 0 + (size z - 53) * 2 ^ 52 + z / 2 ^ (size z - 53)) n
+    ∙ ap (λ (z : ℕ). 0 + z * 2 ^ 52 + s * 2 ^ j / 2 ^ z) k
+    ∙ ap (λ (z : ℕ). 0 + j * 2 ^ 52 + z) (mul-div-cancel s (pow-pos j))
+    ∙ tidy (j * 2 ^ 52) s
+  where
+    tidy : (a b : ℕ) → 0 + a + b ≡ a + b
+    tidy a b = omega arith
+pattern-is (fin true m e) s j lo hi v = absurd (true≢false (v .0))
+
+pub round-pattern : (U D s j : ℕ) → D ≡ 2 ^ 1074 → 2 ^ 52 ≤ s → s < 2 ^ 53 → j < 2045 → 2 ^ (52 + j) ≤ U → U < 2 ^ (53 + j)
+    → 2 * s * 2 ^ j < 2 * U + 2 ^ j → 2 * U < 2 * s * 2 ^ j + 2 ^ j → round binary64 false U D ≡ ofBits binary64 (j * 2 ^ 52 + s)
+round-pattern U D s j e s-lo s-hi j-hi lo hi near-lo near-hi =
+    let top : s * 2 ^ j < 2 ^ (53 + j) = shl-lt 53 j s-hi in
+    let bottom : 2 ^ (52 + j) ≤ s * 2 ^ j = rw (pow-add 2 52 j) (mul-le-mul-right (2 ^ j) s-lo) in
+    let is = round-to U D s j e lo hi near-lo near-hi in
+    let value = units-val binary64 false s j (lt-of-lt-of-le top (pow-mono (room j j-hi))) in
+    let back = ofBits-toBits binary64 (units binary64 false s j) (subst (λ (z : Float). T (fits binary64 z)) is (round-fits binary64 false U D)) in
+    is ∙ sym back ∙ ap (ofBits binary64) (pattern-is (units binary64 false s j) s j bottom top value)
+  where
+    room : (j : ℕ) → j < 2045 → 53 + j ≤ 2098
+    room j h = omega arith

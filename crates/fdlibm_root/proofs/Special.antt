@@ -1,0 +1,43 @@
+-- The roots that are no numbers above 0: a zero's is the zero itself, and what is neither above 0 nor a zero has none.
+use Prim.Native.Nat.{ℕ, zero, suc, _*_, _<_}
+use mathlib.Core.Path.{_≡_, refl, sym, ap, _∙_, subst}
+use mathlib.Core.Bool.{Bool, true, false, _&&_, _||_, Bool·beq, false≢true, true≢false}
+use native.Mathlib.Nat.{lt-irrefl, mul-one, mul-pos, zero-lt-suc, zero-mul}
+use lib.IntN.{ℤ, pos}
+use lib.Dec.{T, eqb, ltb, eqb→eq, lt→ltb}
+use lib.Ieee.{Float, nan, inf, fin, up, down, lt, eq}
+use lib.Ieee.Bits.{is-true}
+use lib.Ieee.Fits.{and-l, up-pos}
+use Rattle.fdlibm_root.specs.Root.{sqrtOf}
+
+-- a number's size, and a zero's, as the comparisons take them
+size-above : (m : ℕ) (e : ℤ) → 0 < suc m * up e * 1
+size-above m e = mul-pos (mul-pos (zero-lt-suc m) (up-pos e)) (zero-lt-suc 0)
+
+size-zero : (a b : ℕ) → 0 * a * b ≡ 0
+size-zero a b = ap (λ (z : ℕ). z * b) (zero-mul a) ∙ zero-mul b
+
+pub zero-root : (x : Float) → eq x (fin false 0 (pos 0)) ≡ true → x ≡ sqrtOf x
+unfolding eq sqrtOf
+zero-root nan h = refl
+zero-root (inf true) h = absurd (false≢true h)
+zero-root (inf false) h = refl
+zero-root (fin s zero e) h = refl
+zero-root (fin s (suc m) e) h =
+    let a = suc m * up e * 1 in
+    let same : a ≡ 0 * 1 * down e = eqb→eq a (0 * 1 * down e) (and-l (eqb a (0 * 1 * down e)) (Bool·beq s false || eqb a 0) (subst T (sym h) tt)) in
+    absurd (lt-irrefl 0 (subst (λ (z : ℕ). 0 < z) (same ∙ size-zero 1 (down e)) (size-above m e)))
+
+pub no-root : (x : Float) → lt (fin false 0 (pos 0)) x ≡ false → eq x (fin false 0 (pos 0)) ≡ false → nan ≡ sqrtOf x
+unfolding lt eq sqrtOf
+no-root nan h k = refl
+no-root (inf true) h k = refl
+no-root (inf false) h k = absurd (true≢false h)
+no-root (fin s zero e) h k = absurd (true≢false (sym (equal s (0 * up e * 1) (0 * 1 * down e) (size-zero (up e) 1) (size-zero 1 (down e))) ∙ k))
+  where
+    equal : (s : Bool) (a b : ℕ) → a ≡ 0 → b ≡ 0 → (eqb a b && (Bool·beq s false || eqb a 0)) ≡ true
+    equal true a b p q = simp (p, q)
+    equal false a b p q = simp (p, q)
+no-root (fin true (suc m) e) h k = refl
+no-root (fin false (suc m) e) h k =
+    absurd (true≢false (sym (is-true (ltb (0 * 1 * down e) (suc m * up e * 1)) (lt→ltb (0 * 1 * down e) (suc m * up e * 1) (subst (λ (z : ℕ). z < suc m * up e * 1) (sym (size-zero 1 (down e))) (size-above m e)))) ∙ h))

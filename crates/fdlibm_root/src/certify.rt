@@ -1,0 +1,73 @@
+// A candidate for the whole number nearest to the root of m * 2^52, by floats, and whole-number arithmetic that decides whether it is right.
+ghost use mathlib.Core.Path.{_≡_};
+ghost use Prim.Native.Nat.{_+_, _*_, _^_, _<_};
+ghost use Rattle.fdlibm_root.specs.Near.{Near};
+
+// 1 / sqrt(f) is within 4 % of the float whose pattern is this less half of f's
+const GUESS: u64 = 0x5fe6_eb50_c7b5_37a9;
+
+const LEADING: u64 = 0x0010_0000_0000_0000;
+
+// what is added to a residue, so that no number here is negative
+const OFFSET: u64 = 0x0080_0000_0000_0000;
+
+// sqrt(f) * 2^52 for the f in [1, 4) with this pattern, nearly always right to a unit; only its size is promised.
+// g and y are near sqrt(f) and 1 / sqrt(f). Each of two steps multiplies them by the first terms of 1 / sqrt(1 - e), where g * y = 1 - e.
+pub fn estimate(pattern: u64) -> u64
+    requires { ⌜ pattern < 0x4010_0000_0000_0000 ⌝ }
+    ensures { λ r. ⌜ r < 2 ^ 53 ⌝ }
+{
+    let y = f64::from_bits(GUESS - pattern / 2);
+    let g = f64::from_bits(pattern) * y;
+    let e = 1.0 - g * y;
+    let p = e * 0.5 + e * e * (0.375 + e * 0.3125);
+    let g1 = g + g * p;
+    let e1 = 1.0 - g1 * (y + y * p);
+    let r = g1 + g1 * (e1 * 0.5 + e1 * e1 * (0.375 + e1 * 0.3125));
+    if r == r {
+        f64::to_bits(r) % LEADING + LEADING
+    } else {
+        0
+    }
+}
+
+// OFFSET + m * 2^52 - s * s, or 0 where m * 2^52 and s * s are further apart than OFFSET.
+// With s = a * 2^27 + b the difference is e * 2^52 - 2 * a * b * 2^27 - b * b, where e = m - 4 * a * a: `over` and `under` count its multiples of 2^27.
+fn residue(m: u64, s: u64) -> u64
+    requires { ⌜ (m < 2 ^ 54) × (s < 2 ^ 53) ⌝ }
+    ensures { λ r. ⌜ (r < 2 ^ 57) × (0 < r → r + s * s ≡ 2 ^ 55 + m * 2 ^ 52) ⌝ }
+{
+    let a = s / 0x800_0000;
+    let b = s % 0x800_0000;
+    let top = 4 * a * a;
+    let under = 2 * a * b + b * b / 0x800_0000;
+    if top <= m {
+        let e = m - top;
+        if e < under / 0x200_0000 + 8 {
+            let over = e * 0x200_0000 + 0x1000_0000;
+            if under < over {
+                return (over - under) * 0x800_0000 - b * b % 0x800_0000;
+            }
+        }
+    }
+    0
+}
+
+// The right root where it is s or next to s, and 0 elsewhere: s * s and (s ± 1) * (s ± 1) are 2 * s ± 1 apart, so the residue tells.
+pub fn corrected(m: u64, s: u64) -> u64
+    requires { ⌜ (m < 2 ^ 54) × (s < 2 ^ 53) ⌝ }
+    ensures { λ r. ⌜ (0 < r → Near m r) ⌝ }
+{
+    let z = residue(m, s);
+    if z + 3 * s > OFFSET + 2 && z <= OFFSET + 3 * s + 2 {
+        if z > OFFSET + s {
+            s + 1
+        } else if z + s <= OFFSET {
+            s - 1
+        } else {
+            s
+        }
+    } else {
+        0
+    }
+}
