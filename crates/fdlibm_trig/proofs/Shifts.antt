@@ -1,0 +1,19 @@
+-- A high word moved up to its place: no bit is lost, and no NaN's pattern comes of it. Assumes nothing.
+use Prim.Native.Nat.{ℕ, _%_, _*_, _<_, _≤_}
+use mathlib.Core.Path.{_≡_, sym, subst, _∙_}
+use mathlib.Core.Bool.{Bool, not}
+use native.Mathlib.Nat.{mod-le, mod-eq-of-lt}
+use native.Mathlib.Omega.{arith}
+use lib.Dec.{T}
+use lib.Ieee.{binary64, nanBits}
+use lib.Ieee.Bits.{nanBits-above}
+use borrow.Author.Tests.{le-ltb}
+
+pub shifted : (n : ℕ) → n < 4294967296 → n * 4294967296 % 18446744073709551616 ≡ n * 4294967296
+shifted n h = mod-eq-of-lt (omega arith)
+
+-- a pattern below the infinity's is no NaN's
+pub below-inf : (n : ℕ) → n < 0x7ff0_0000_0000_0000 → T (not (nanBits binary64 n))
+below-inf n h =
+    let m : n % 0x8000_0000_0000_0000 ≤ n = mod-le n 0x8000_0000_0000_0000 in
+    subst (λ (b : Bool). T (not b)) (sym (nanBits-above binary64 n ∙ le-ltb 0x7ff0_0000_0000_0000 (n % 0x8000_0000_0000_0000) (omega arith))) tt

@@ -1,0 +1,130 @@
+// The leaf functions as exports, for benchmarks and for runs against other libraries: no part of what a host links.
+ghost use mathlib.Core.Path.{_≡_};
+ghost use lib.Ieee.{toSigned, toUnsigned};
+ghost use Rattle.float64.specs.Sizes.{absOf, isNormalOf};
+ghost use Rattle.float64.specs.Whole.{floorOf, truncOf, roundOf};
+ghost use Rattle.fdlibm_root.specs.Root.{sqrtOf};
+ghost use Rattle.fdlibm_trig.specs.Trig.{sinOf, cosOf, tanOf};
+ghost use Rattle.fdlibm_arc.specs.Atan.{atanOf};
+ghost use Rattle.fdlibm_arc.specs.Asin.{asinOf};
+ghost use Rattle.fdlibm_arc.specs.Acos.{acosOf};
+ghost use Rattle.fdlibm_arc.specs.Atan2.{atan2Of};
+
+#[no_mangle]
+pub extern "C" fn leaf_sqrt(x: f64) -> f64
+    ensures { λ r. ⌜ r ≡ sqrtOf x ⌝ }
+{
+    fdlibm_root::e_sqrt::sqrt(x)
+}
+
+#[no_mangle]
+pub extern "C" fn leaf_sin(x: f64) -> f64
+    ensures { λ r. ⌜ r ≡ sinOf x ⌝ }
+{
+    fdlibm_trig::s_sin::sin(x)
+}
+
+#[no_mangle]
+pub extern "C" fn leaf_cos(x: f64) -> f64
+    ensures { λ r. ⌜ r ≡ cosOf x ⌝ }
+{
+    fdlibm_trig::s_cos::cos(x)
+}
+
+#[no_mangle]
+pub extern "C" fn leaf_tan(x: f64) -> f64
+    ensures { λ r. ⌜ r ≡ tanOf x ⌝ }
+{
+    fdlibm_trig::s_tan::tan(x)
+}
+
+#[no_mangle]
+pub extern "C" fn leaf_atan(x: f64) -> f64
+    ensures { λ r. ⌜ r ≡ atanOf x ⌝ }
+{
+    fdlibm_arc::s_atan::atan(x)
+}
+
+#[no_mangle]
+pub extern "C" fn leaf_asin(x: f64) -> f64
+    ensures { λ r. ⌜ r ≡ asinOf x ⌝ }
+{
+    fdlibm_arc::e_asin::asin(x)
+}
+
+#[no_mangle]
+pub extern "C" fn leaf_acos(x: f64) -> f64
+    ensures { λ r. ⌜ r ≡ acosOf x ⌝ }
+{
+    fdlibm_arc::e_acos::acos(x)
+}
+
+#[no_mangle]
+pub extern "C" fn leaf_atan2(y: f64, x: f64) -> f64
+    ensures { λ r. ⌜ r ≡ atan2Of y x ⌝ }
+{
+    fdlibm_arc::e_atan2::atan2(y, x)
+}
+
+#[no_mangle]
+pub extern "C" fn leaf_floor(x: f64) -> f64
+    ensures { λ r. ⌜ r ≡ floorOf x ⌝ }
+{
+    float64::whole::floor(x)
+}
+
+#[no_mangle]
+pub extern "C" fn leaf_trunc(x: f64) -> f64
+    ensures { λ r. ⌜ r ≡ truncOf x ⌝ }
+{
+    float64::whole::trunc(x)
+}
+
+#[no_mangle]
+pub extern "C" fn leaf_round(x: f64) -> f64
+    ensures { λ r. ⌜ r ≡ roundOf x ⌝ }
+{
+    float64::whole::round(x)
+}
+
+#[no_mangle]
+pub extern "C" fn leaf_abs(x: f64) -> f64
+    ensures { λ r. ⌜ r ≡ absOf x ⌝ }
+{
+    float64::sizes::abs(x)
+}
+
+#[no_mangle]
+pub extern "C" fn leaf_is_normal(x: f64) -> bool
+    ensures { λ r. ⌜ r ≡ isNormalOf x ⌝ }
+{
+    float64::sizes::is_normal(x)
+}
+
+#[no_mangle]
+pub extern "C" fn leaf_to_i32(x: f64) -> i32
+    ensures { λ r. ⌜ r ≡ toSigned 31 x ⌝ }
+{
+    float64::casts::to_i32(x)
+}
+
+#[no_mangle]
+pub extern "C" fn leaf_to_u32(x: f64) -> u32
+    ensures { λ r. ⌜ r ≡ toUnsigned 32 x ⌝ }
+{
+    float64::casts::to_u32(x)
+}
+
+#[no_mangle]
+pub extern "C" fn leaf_to_i64(x: f64) -> i64
+    ensures { λ r. ⌜ r ≡ toSigned 63 x ⌝ }
+{
+    float64::casts::to_i64(x)
+}
+
+#[no_mangle]
+pub extern "C" fn leaf_to_u64(x: f64) -> u64
+    ensures { λ r. ⌜ r ≡ toUnsigned 64 x ⌝ }
+{
+    float64::casts::to_u64(x)
+}
