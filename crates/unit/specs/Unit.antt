@@ -1,0 +1,61 @@
+-- unit.rs: angles in degrees and places on the earth, operation by operation in f64.
+use mathlib.Core.Bool.{_&&_, cond}
+use lib.Ieee.{Float, neg, le}
+use Rattle.float64.specs.Ops.{_+ᶠ_, _-ᶠ_, _*ᶠ_, _/ᶠ_, bits}
+use Rattle.float64.specs.Whole.{floorOf, roundOf}
+use Rattle.unit.specs.declared.Angle.{Angle}
+use Rattle.unit.specs.declared.Coordinates.{Coordinates}
+
+abbrev pub pi : Float
+pi = bits 0x4009_21fb_5444_2d18
+
+abbrev pub half-turn : Float
+half-turn = bits 0x4066_8000_0000_0000
+
+abbrev pub full-turn : Float
+full-turn = bits 0x4076_8000_0000_0000
+
+-- x less the whole multiples of max below it
+unfoldable pub normalizedToScaleOf : Float → Float → Float
+normalizedToScaleOf x max = x -ᶠ max *ᶠ floorOf (x /ᶠ max)
+
+abbrev pub angleOf : Float → Angle
+angleOf x = record { degrees = x }
+
+abbrev pub fromRadiansOf : Float → Angle
+fromRadiansOf x = angleOf (x *ᶠ half-turn /ᶠ pi)
+
+abbrev pub radiansOf : Angle → Float
+radiansOf a = a .degrees *ᶠ pi /ᶠ half-turn
+
+-- from 0 to 360 degrees
+abbrev pub unwoundOf : Angle → Angle
+unwoundOf a = angleOf (normalizedToScaleOf (a .degrees) full-turn)
+
+-- from -180 to 180 degrees
+unfoldable pub quadrantShiftedOf : Angle → Angle
+quadrantShiftedOf a =
+    let x = a .degrees in
+    cond (le (neg half-turn) x && le x half-turn) a (angleOf (x -ᶠ full-turn *ᶠ roundOf (x /ᶠ full-turn)))
+
+abbrev pub plusOf : Angle → Angle → Angle
+plusOf a b = angleOf (a .degrees +ᶠ b .degrees)
+
+abbrev pub minusOf : Angle → Angle → Angle
+minusOf a b = angleOf (a .degrees -ᶠ b .degrees)
+
+abbrev pub timesOf : Angle → Angle → Angle
+timesOf a b = angleOf (a .degrees *ᶠ b .degrees)
+
+-- by 0 an infinity or NaN, as f64 has it
+abbrev pub overOf : Angle → Angle → Angle
+overOf a b = angleOf (a .degrees /ᶠ b .degrees)
+
+abbrev pub coordinatesOf : Float → Float → Coordinates
+coordinatesOf latitude longitude = record { latitude = latitude; longitude = longitude }
+
+abbrev pub latitudeAngleOf : Coordinates → Angle
+latitudeAngleOf c = angleOf (c .latitude)
+
+abbrev pub longitudeAngleOf : Coordinates → Angle
+longitudeAngleOf c = angleOf (c .longitude)
