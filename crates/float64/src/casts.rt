@@ -1,12 +1,16 @@
 // Rust's saturating casts: toward zero, to the nearest end of the range, and 0 for a NaN.
 ghost use mathlib.Core.Path.{_≡_};
 ghost use lib.Ieee.{toSigned, toUnsigned};
+use crate::whole::trunc;
 
-// Rust's `x as u64`.
+// Rust's `x as u64`. The whole part is a float that the machine casts at once; std's shifts serve from 2^52 on.
 pub fn to_u64(x: f64) -> u64
     ensures { λ r. ⌜ r ≡ toUnsigned 64 x ⌝ }
 {
-    if x > -1.0 {
+    if x > 0.0 {
+        if x < 4503599627370496.0 {
+            return trunc(x) as u64;
+        }
         if x < 18446744073709551616.0 {
             return std::num::truncating_f64_to_u64(x);
         }
@@ -19,8 +23,13 @@ pub fn to_u64(x: f64) -> u64
 pub fn to_u32(x: f64) -> u32
     ensures { λ r. ⌜ r ≡ toUnsigned 32 x ⌝ }
 {
-    let n = to_u64(x);
-    if n < 4294967296 { n as u32 } else { 4294967295 }
+    if x > 0.0 {
+        if x < 4294967296.0 {
+            return trunc(x) as u32;
+        }
+        return 4294967295;
+    }
+    0
 }
 
 // Rust's `x as i64`.
