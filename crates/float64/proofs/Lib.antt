@@ -4,3 +4,4 @@ pub mod Parts
 pub mod Patterns
 pub mod Saturate
 pub mod Steps
+pub mod Values

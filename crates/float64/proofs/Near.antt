@@ -1,22 +1,23 @@
 -- (x + 2 ^ 52) - 2 ^ 52, for 0 ≤ x < 2 ^ 52: a whole number that lies on the same side of every whole number as x.
 -- The sum is rounded into [2 ^ 52, 2 ^ 53], where all floats are whole numbers, and rounding keeps the order; the difference is exact. Assumes nothing.
-use mathlib.Core.Path.{_≡_, refl, sym, ap, _∙_, subst}
-use Prim.Native.Nat.{ℕ, zero, suc, _+_, _-_, _*_, _^_, _≤_, _<_}
-use native.Mathlib.Nat.{mul-one, add-mul, mul-le-mul-left, mul-le-mul-right, le-of-mul-le-mul-right, pow-succ'}
+use mathlib.Core.Path.{_≡_, refl, sym}
+use Prim.Native.Nat.{ℕ, suc, _+_, _-_, _*_, _^_, _≤_, _<_}
+use native.Mathlib.Nat.{mul-one, add-mul, le-of-mul-le-mul-right}
 use native.Mathlib.Omega.{arith}
 use mathlib.Core.Bool.{true, false}
 use lib.IntN.{ℤ, pos, negsuc}
 use lib.Dec.{T, lit<, lit≤}
-use lib.Pow.{pow-pos}
-use lib.Ieee.{Float, nan, inf, fin, binary64, up, down, fits, ofBits, ofInt, round, add, sub, le}
+use lib.Ieee.{Float, nan, inf, fin, binary64, up, down, fits, ofBits, round, add, sub, le}
 use lib.Ieee.Exact.{HasValue}
 use lib.Ieee.Back.{round-whole}
 use lib.Ieee.Fits.{down-pos, round-fits}
 use lib.Ieee.Order.{round-mono}
 use lib.Ieee.Positive.{positive, positive-of-value, values-of-le, between}
-use Rattle.float64.proofs.Exact.{add-same, sub-same, digits}
+use Rattle.float64.proofs.Values.{big, fraction-below}
+use Rattle.float64.proofs.Exact.{add-same, sub-same}
 
-abbrev W : ℕ
+-- 2 ^ 52
+abbrev pub W : ℕ
 W = 4503599627370496
 
 -- the code's constant
@@ -27,14 +28,14 @@ pub whole64-value : (c : ℕ) → HasValue whole64 false (W * c) c
 unfolding ofBits
 whole64-value c = (refl, sym (mul-one (W * c)))
 
--- the whole numbers up to 2 ^ 53 that are above 0
-abbrev at : ℕ → Float
+-- n as a float
+abbrev pub at : ℕ → Float
 at n = round binary64 false n 1
 
-at-value : (n : ℕ) → n ≤ 9007199254740992 → HasValue (at n) false n 1
+pub at-value : (n : ℕ) → n ≤ big → HasValue (at n) false n 1
 at-value n h = round-whole binary64 false n h
 
-at-positive : (n : ℕ) → 0 < n → n ≤ 9007199254740992 → T (positive (at n))
+at-positive : (n : ℕ) → 0 < n → n ≤ big → T (positive (at n))
 at-positive n p h = positive-of-value (at n) n 1 (at-value n h) p
 
 -- a float from 2 ^ 52 on has no fraction
@@ -45,15 +46,12 @@ whole-from (fin true m e) h p l = absurd p
 whole-from (fin false m (pos k)) h p l = (m * 2 ^ k, (refl, refl))
 whole-from (fin false m (negsuc k)) h p l =
     let v = values-of-le (at W) (fin false m (negsuc k)) W 1 (m * 1) (2 ^ suc k) (at-positive W (lit< tt) (lit≤ tt)) p (at-value W (lit≤ tt)) (refl, refl) l in
-    let d = digits false m (negsuc k) h in
-    let q = mul-le-mul-left W (pow-pos k) in
-    let r : W * 2 ^ suc k ≡ W * (2 * 2 ^ k) = ap (λ (n : ℕ). W * n) (pow-succ' 2 k) in
-    absurd (omega arith)
+    absurd (omega (arith, fraction-below false m k h))
 
 -- k is a whole number, and every whole number that is on one side of a / d is on that side of k
 pub record Near (k : Float) (a d : ℕ) : Type 0 where
   pub z : ℕ
-  pub is : k ≡ round binary64 false z 1
+  pub is : k ≡ at z
   pub least : (n : ℕ) → n * d ≤ a → n ≤ z
   pub most : (n : ℕ) → n ≤ W → a ≤ n * d → z ≤ n
 

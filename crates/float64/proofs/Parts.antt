@@ -1,25 +1,20 @@
 -- What the three definitions of specs/Whole.antt have in common: a number with no fraction is its own result, and two of them are odd. Assumes nothing.
-use mathlib.Core.Path.{_≡_, refl, sym, ap, _∙_, subst}
-use Prim.Native.Nat.{ℕ, zero, suc, _+_, _*_, _/_, _%_, _^_, _≤_, _<_}
-use native.Mathlib.Nat.{mul-one, zero-mod, mod-one, mul-le-mul-left, pow-succ', div-add-mod'}
+use mathlib.Core.Path.{_≡_, refl, sym, ap, _∙_}
+use Prim.Native.Nat.{ℕ, suc, _+_, _*_, _%_, _^_, _≤_, _<_}
+use native.Mathlib.Nat.{zero-mod, mod-one, div-add-mod'}
 use native.Mathlib.Omega.{arith}
-use mathlib.Core.Bool.{Bool, true, false, not, cond}
+use mathlib.Core.Bool.{Bool, true, false, cond, false≢true}
 use lib.IntN.{ℤ, pos, negsuc}
 use lib.Dec.{T, eqb, lit<}
-use lib.Pow.{pow-pos}
 use borrow.Author.Tests.{ltb-true, ltb-false, lt-ltb, eq-eqb}
-use lib.Ieee.{Float, nan, inf, fin, binary64, up, down, fits, ofBits, ofInt, round, neg, lt}
+use lib.Ieee.{Float, nan, inf, fin, binary64, up, down, fits, ofBits, ofInt, neg, lt}
 use lib.Ieee.Fits.{round-fits}
-use lib.Ieee.Back.{round-whole}
 use Rattle.float64.specs.Whole.{floorOf, truncOf, roundOf, wholePart, fraction, halfUp}
-use Rattle.float64.proofs.Exact.{value-unique, digits}
-use Rattle.float64.proofs.Near.{whole64}
+use Rattle.float64.proofs.Values.{big, value-unique, fraction-below}
+use Rattle.float64.proofs.Near.{W, at, at-value, whole64}
 
 abbrev pub zero64 : Float
 zero64 = ofBits binary64 0
-
-pub no : {X : Type 0} → _≡_ {A = Bool} false true → X
-no z = absurd (subst (λ (b : Bool). T (not b)) z tt)
 
 -- ---- opposites
 pub neg-neg : (x : Float) → neg (neg x) ≡ x
@@ -32,9 +27,9 @@ neg-neg (fin false m e) = refl
 
 pub neg-positive : (x : Float) → lt x zero64 ≡ true → lt zero64 (neg x) ≡ true
 unfolding lt neg ofBits
-neg-positive nan h = no h
+neg-positive nan h = absurd (false≢true h)
 neg-positive (inf true) h = refl
-neg-positive (inf false) h = no h
+neg-positive (inf false) h = absurd (false≢true h)
 neg-positive (fin true m e) h = lt-ltb (0 * down e) (m * up e * 1) (omega (arith, ltb-true 0 (m * up e * 1 + 0 * down e) h))
 neg-positive (fin false m e) h = absurd (omega (arith, ltb-true (m * up e * 1) (0 * down e) h))
 
@@ -61,7 +56,7 @@ pub floor-positive : (x : Float) → lt zero64 x ≡ true → truncOf x ≡ floo
 unfolding truncOf floorOf lt ofBits
 floor-positive nan h = refl
 floor-positive (inf s) h = refl
-floor-positive (fin true m e) h = no h
+floor-positive (fin true m e) h = absurd (false≢true h)
 floor-positive (fin false m e) h = refl
 
 -- ---- numbers with no fraction
@@ -89,21 +84,18 @@ still-zero (fin true m e) h k =
 -- from 2 ^ 52 on a float has no fraction, and so has its opposite
 pub still-far : (x : Float) → T (fits binary64 x) → lt zero64 x ≡ true → lt x whole64 ≡ false → Still x × Still (neg x)
 unfolding lt ofBits neg
-still-far nan f h k = no h
+still-far nan f h k = absurd (false≢true h)
 still-far (inf s) f h k = unfold floorOf truncOf roundOf in ((refl, refl, refl), (refl, refl, refl))
-still-far (fin true m e) f h k = no h
+still-far (fin true m e) f h k = absurd (false≢true h)
 still-far (fin false m (pos j)) f h k = (still false m (pos j) (mod-one (m * 2 ^ j)), still true m (pos j) (mod-one (m * 2 ^ j)))
 still-far (fin false m (negsuc j)) f h k =
-    let l = ltb-false (m * 1 * 1) (4503599627370496 * 2 ^ suc j) k in
-    let d = digits false m (negsuc j) f in
-    let q = mul-le-mul-left 4503599627370496 (pow-pos j) in
-    let r : 4503599627370496 * 2 ^ suc j ≡ 4503599627370496 * (2 * 2 ^ j) = ap (λ (n : ℕ). 4503599627370496 * n) (pow-succ' 2 j) in
-    absurd (omega arith)
+    let l = ltb-false (m * 1 * 1) (W * 2 ^ suc j) k in
+    absurd (omega (arith, fraction-below false m j f))
 
 -- the whole part as a float is x, where x has no fraction
-pub own-whole : (m : ℕ) (e : ℤ) → T (fits binary64 (fin false m e)) → wholePart m e ≤ 9007199254740992 → fraction m e ≡ 0 → round binary64 false (wholePart m e) 1 ≡ fin false m e
+pub own-whole : (m : ℕ) (e : ℤ) → T (fits binary64 (fin false m e)) → wholePart m e ≤ big → fraction m e ≡ 0 → at (wholePart m e) ≡ fin false m e
 own-whole m e f l z =
     let q = wholePart m e in
     let g = div-add-mod' (m * up e) (down e) in
     let v : m * up e * 1 ≡ q * down e = omega arith in
-    value-unique binary64 (round binary64 false q 1) (fin false m e) false q 1 (lit< tt) (round-fits binary64 false q 1) f (round-whole binary64 false q l) (refl, v)
+    value-unique binary64 (at q) (fin false m e) false q 1 (lit< tt) (round-fits binary64 false q 1) f (at-value q l) (refl, v)

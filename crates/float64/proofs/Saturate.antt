@@ -3,11 +3,11 @@ use mathlib.Core.Path.{_≡_, refl, sym, ap, _∙_, subst}
 use Prim.Native.Nat.{ℕ, zero, suc, _+_, _-_, _*_, _/_, _^_, _≤_, _<_, min, zero-le}
 use native.Mathlib.Nat.{min-eq-left, min-eq-right, le-of-lt, lt-of-lt-of-le, zero-div, mul-le-mul-right, div-lt-iff-lt-mul, le-div-iff-mul-le}
 use native.Mathlib.Omega.{arith}
-use mathlib.Core.Bool.{Bool, true, false, not}
-use lib.IntN.{ℤ, pos, negsuc, negℤ, _-ℤ_, +ℤ-idl}
+use mathlib.Core.Bool.{Bool, true, false, false≢true}
+use lib.IntN.{ℤ, pos, negℤ, _-ℤ_, +ℤ-idl}
 use lib.Signed.{mag}
 use lib.Dec.{T, leb, le→leb, lt→ltb, lit<}
-use lib.Pow.{pow-pos, pow-mono, pow-lt, le-ones}
+use lib.Pow.{pow-mono, pow-lt, le-ones}
 use borrow.Author.Tests.{leb-true, leb-false, ltb-true, ltb-false}
 use mir.Syntax.{Width, w8, w16, w32, w64, w128}
 use mir.Val.{SFits, toZ, ofZ, bits, hbits}
@@ -17,8 +17,9 @@ use lib.Ieee.Exact.{HasValue}
 use lib.Ieee.Back.{unsigned-back}
 use lib.Ieee.Fits.{down-pos}
 use Rattle.float64.specs.Whole.{truncOf}
-use Rattle.float64.proofs.Exact.{lt-values}
-use Rattle.float64.proofs.Parts.{zero64, no}
+use Rattle.float64.proofs.Values.{big, lt-values}
+use Rattle.float64.proofs.Near.{W}
+use Rattle.float64.proofs.Parts.{zero64}
 use Rattle.float64.proofs.Steps.{inside, trunc-at}
 
 min-min : (a b c : ℕ) → c ≤ b → min (min a b) c ≡ min a c
@@ -30,7 +31,7 @@ min-min a b c h = go (leb a b) refl
 
 -- ---- an unsigned cast
 -- below 2 ^ 52 and 2 ^ w the whole part is a float that `as` takes
-pub cast-below : (w b : ℕ) (y : Float) → HasValue y false b 1 → b ≤ 4503599627370496 → b ≤ 2 ^ w → (x : Float) → T (fits binary64 x) → lt zero64 x ≡ true → lt x y ≡ true
+pub cast-below : (w b : ℕ) (y : Float) → HasValue y false b 1 → b ≤ W → b ≤ 2 ^ w → (x : Float) → T (fits binary64 x) → lt zero64 x ≡ true → lt x y ≡ true
     → T (inUnsigned binary64 w (truncOf x)) × (toUnsigned w (truncOf x) ≡ toUnsigned w x)
 cast-below w b y v small room = inside (λ x. T (inUnsigned binary64 w (truncOf x)) × (toUnsigned w (truncOf x) ≡ toUnsigned w x)) b y v at
   where
@@ -39,15 +40,15 @@ cast-below w b y v small room = inside (λ x. T (inUnsigned binary64 w (truncOf 
         let q = m * up e / down e in
         let p : q < b = div-lt-iff-lt-mul (down-pos e) .1 l in
         let k = mul-le-mul-right (down e) small in
-        let i = unsigned-back binary64 w q (unfold inFloat in le→leb q 9007199254740992 (omega arith)) (omega arith) in
+        let i = unsigned-back binary64 w q (unfold inFloat in le→leb q big (omega arith)) (omega arith) in
         rw (trunc-at m e f (omega arith)) (unfold ofInt toUnsigned in (i .0, i .1 ∙ sym (min-eq-left (le-ones w (lt-of-lt-of-le p room)))))
 
 pub cast-end : (w : ℕ) (y : Float) → HasValue y false (2 ^ w) 1 → (x : Float) → lt zero64 x ≡ true → lt x y ≡ false → 2 ^ w - 1 ≡ toUnsigned w x
 unfolding lt ofBits toUnsigned
-cast-end w y v nan h k = no h
-cast-end w y v (inf true) h k = no h
+cast-end w y v nan h k = absurd (false≢true h)
+cast-end w y v (inf true) h k = absurd (false≢true h)
 cast-end w y v (inf false) h k = refl
-cast-end w y v (fin true m e) h k = no h
+cast-end w y v (fin true m e) h k = absurd (false≢true h)
 cast-end w y v (fin false m e) h k =
     let l = ltb-false (m * up e * 1) (2 ^ w * down e) (sym (lt-values (fin false m e) y (m * up e) (2 ^ w) (down e) 1 (down-pos e) (lit< tt) (refl, refl) v) ∙ k) in
     let g : 2 ^ w ≤ m * up e / down e = le-div-iff-mul-le (down-pos e) .1 (omega arith) in
@@ -57,7 +58,7 @@ pub cast-zero : (w : ℕ) (x : Float) → lt zero64 x ≡ false → 0 ≡ toUnsi
 unfolding lt ofBits toUnsigned
 cast-zero w nan h = refl
 cast-zero w (inf true) h = refl
-cast-zero w (inf false) h = no (sym h)
+cast-zero w (inf false) h = absurd (false≢true (sym h))
 cast-zero w (fin true m e) h = refl
 cast-zero w (fin false m e) h =
     let l = ltb-false (0 * down e) (m * up e * 1) h in
@@ -67,17 +68,17 @@ cast-zero w (fin false m e) h =
 -- what std's function asks of x
 pub above-minus-one : (x : Float) → lt zero64 x ≡ true → T (lt (fin true 1 (pos 0)) x)
 unfolding lt ofBits
-above-minus-one nan h = no h
-above-minus-one (inf true) h = no h
+above-minus-one nan h = absurd (false≢true h)
+above-minus-one (inf true) h = absurd (false≢true h)
 above-minus-one (inf false) h = tt
-above-minus-one (fin true m e) h = no h
+above-minus-one (fin true m e) h = absurd (false≢true h)
 above-minus-one (fin false m e) h = let d = down-pos e in lt→ltb 0 (1 * down e + m * up e * 1) (omega arith)
 
 -- ---- a signed cast from the unsigned one of as many bits
 not-negative : (h w : ℕ) (x : Float) → h ≤ w → lt x zero64 ≡ false → pos (min (toUnsigned w x) (2 ^ h - 1)) ≡ toSigned h x
 unfolding toUnsigned toSigned lt ofBits
 not-negative h w nan g t = ap pos (min-eq-left zero-le)
-not-negative h w (inf true) g t = no (sym t)
+not-negative h w (inf true) g t = absurd (false≢true (sym t))
 not-negative h w (inf false) g t = let p = pow-mono g in ap pos (min-eq-right {n = 2 ^ h - 1} {m = 2 ^ w - 1} (omega arith))
 not-negative h w (fin true m e) g t =
     let l = ltb-false 0 (m * up e * 1 + 0 * down e) t in
@@ -87,9 +88,9 @@ not-negative h w (fin false m e) g t = let p = pow-mono g in ap pos (min-min (m 
 
 negative : (h w : ℕ) (x : Float) → h < w → lt x zero64 ≡ true → negℤ (pos (min (toUnsigned w (neg x)) (2 ^ h))) ≡ toSigned h x
 unfolding toUnsigned toSigned lt ofBits neg
-negative h w nan g t = no t
+negative h w nan g t = absurd (false≢true t)
 negative h w (inf true) g t = let p = pow-lt g in ap (λ (n : ℕ). negℤ (pos n)) (min-eq-right {n = 2 ^ h} {m = 2 ^ w - 1} (omega arith))
-negative h w (inf false) g t = no t
+negative h w (inf false) g t = absurd (false≢true t)
 negative h w (fin true m e) g t = let p = pow-lt g in ap (λ (n : ℕ). negℤ (pos n)) (min-min (m * up e / down e) (2 ^ w - 1) (2 ^ h) (omega arith))
 negative h w (fin false m e) g t = absurd (omega (arith, ltb-true (m * up e * 1) (0 * down e) t))
 

@@ -1,27 +1,22 @@
 -- From the whole number near x to the one below, the one above and the nearest, for 0 < x < 2 ^ 52. A test is added as 0 or 1. Assumes nothing.
-use mathlib.Core.Path.{_≡_, refl, sym, ap, _∙_, subst}
-use Prim.Native.Nat.{ℕ, zero, suc, _+_, _-_, _*_, _/_, _%_, _^_, _≤_, _<_}
-use native.Mathlib.Nat.{mul-one, one-mul, mul-comm, mul-right-comm, mod-one, mod-le, div-add-mod', div-mul-le-self, le-div-iff-mul-le, div-lt-iff-lt-mul, mul-le-mul-right, lt-of-mul-lt-mul-right, pos-of-ne-zero, add-zero}
+use mathlib.Core.Path.{_≡_, refl, sym, ap, _∙_}
+use Prim.Native.Nat.{ℕ, suc, _+_, _-_, _*_, _%_, _^_, _≤_, _<_}
+use native.Mathlib.Nat.{one-mul, mul-comm, mod-one, mod-le, div-add-mod', div-mul-le-self, le-div-iff-mul-le, div-lt-iff-lt-mul, mul-le-mul-right, lt-of-mul-lt-mul-right, pos-of-ne-zero, add-zero}
 use native.Mathlib.Omega.{arith}
-use mathlib.Core.Bool.{Bool, true, false, not, cond}
+use mathlib.Core.Bool.{Bool, true, false, not, cond, false≢true}
 use lib.IntN.{ℤ, pos, negsuc}
 use lib.Dec.{T, ltb, eqb, lit<, lit≤}
-use borrow.Author.Tests.{ltb-true, ltb-false, eqb-true, eqb-false, lt-ltb, le-ltb}
+use borrow.Author.Tests.{ltb-true, ltb-false, eqb-true, eqb-false, le-ltb}
 use mir.Val.{boolByte}
 use lib.Ieee.{Float, nan, inf, fin, binary64, up, down, fits, ofBits, ofInt, round, neg, lt, add, sub}
 use lib.Ieee.Exact.{HasValue}
 use lib.Ieee.Back.{round-whole}
 use lib.Ieee.Fits.{down-pos, round-fits, neg-fits}
 use Rattle.float64.specs.Whole.{floorOf, truncOf, roundOf, wholePart, fraction, halfUp}
-use Rattle.float64.proofs.Exact.{value-unique, digits, places, over, dyadic-value, lt-values, sub-same, add-dyadic, sub-dyadic}
-use Rattle.float64.proofs.Near.{Near, near, whole64, whole64-value}
-use Rattle.float64.proofs.Parts.{own-whole, zero64, no}
-
-abbrev W : ℕ
-W = 4503599627370496
-
-abbrev at : ℕ → Float
-at n = round binary64 false n 1
+use Rattle.float64.proofs.Values.{big, value-unique, dyadic-value, digits, places, over, lt-values}
+use Rattle.float64.proofs.Exact.{sub-same, add-dyadic, sub-dyadic}
+use Rattle.float64.proofs.Near.{W, at, at-value, Near, near, whole64, whole64-value}
+use Rattle.float64.proofs.Parts.{own-whole, zero64}
 
 -- the code's 0 or 1
 abbrev bit : Bool → Float
@@ -30,7 +25,7 @@ bit b = ofInt binary64 (pos (boolByte b))
 abbrev half : Float
 half = ofBits binary64 0x3fe0_0000_0000_0000
 
-bit-small : (b : Bool) → boolByte b < 9007199254740992
+bit-small : (b : Bool) → boolByte b < big
 bit-small true = lit< tt
 bit-small false = lit< tt
 
@@ -48,10 +43,10 @@ neg-value nan a c v = absurd v
 neg-value (inf s) a c v = absurd v
 neg-value (fin s m e) a c v = (ap not (v .0), v .1)
 
-neg-at : (n : ℕ) → n ≤ 9007199254740992 → neg (at n) ≡ round binary64 true n 1
+neg-at : (n : ℕ) → n ≤ big → neg (at n) ≡ round binary64 true n 1
 neg-at n h =
     value-unique binary64 (neg (at n)) (round binary64 true n 1) true n 1 (lit< tt) (neg-fits binary64 (at n) (round-fits binary64 false n 1)) (round-fits binary64 true n 1)
-    (neg-value (at n) n 1 (round-whole binary64 false n h)) (round-whole binary64 true n h)
+    (neg-value (at n) n 1 (at-value n h)) (round-whole binary64 true n h)
 
 module _ (m : ℕ) (e : ℤ) (fit : T (fits binary64 (fin false m e))) (small : m * up e < W * down e) where
   abbrev a : ℕ
@@ -98,7 +93,7 @@ module _ (m : ℕ) (e : ℤ) (fit : T (fits binary64 (fin false m e))) (small : 
     z-over = let l = q-small in let h = q-over in n .most (suc q) (omega arith) (omega arith)
 
     z-value : HasValue (at z) false z 1
-    z-value = let l = z-small in round-whole binary64 false z (omega arith)
+    z-value = let l = z-small in at-value z (omega arith)
 
     pub lower-is : sub binary64 k (bit (lt (fin false m e) k)) ≡ truncOf (fin false m e)
     lower-is =
@@ -160,7 +155,7 @@ module _ (m : ℕ) (e : ℤ) (fit : T (fits binary64 (fin false m e))) (small : 
   rest-is : sub binary64 (fin false m e) (at q) ≡ rest
   rest-is =
       let l = q-small in
-      let v = round-whole binary64 false q (omega arith) in
+      let v = at-value q (omega arith) in
       let g = div-add-mod' a d in
       let r : a - q * d ≡ fraction m e = omega arith in
       sub-same binary64 a (q * d) d (down-pos e) q-under (fin false m e) (at q) (refl, refl) (over (at q) false q d v) ∙ ap (λ (i : ℕ). round binary64 false i d) r
@@ -198,10 +193,10 @@ module _ (m : ℕ) (e : ℤ) (fit : T (fits binary64 (fin false m e))) (small : 
 pub inside : (P : Float → Type 0) (b : ℕ) (y : Float) → HasValue y false b 1 → ((m : ℕ) (e : ℤ) → T (fits binary64 (fin false m e)) → m * up e < b * down e → P (fin false m e))
     → (x : Float) → T (fits binary64 x) → lt zero64 x ≡ true → lt x y ≡ true → P x
 unfolding lt ofBits
-inside P b y v g nan f h k = no h
-inside P b y v g (inf true) f h k = no h
-inside P b (fin s n c) v g (inf false) f h k = no k
-inside P b y v g (fin true m e) f h k = no h
+inside P b y v g nan f h k = absurd (false≢true h)
+inside P b y v g (inf true) f h k = absurd (false≢true h)
+inside P b (fin s n c) v g (inf false) f h k = absurd (false≢true k)
+inside P b y v g (fin true m e) f h k = absurd (false≢true h)
 inside P b y v g (fin false m e) f h k =
     let l = ltb-true (m * up e * 1) (b * down e) (sym (lt-values (fin false m e) y (m * up e) b (down e) 1 (down-pos e) (lit< tt) (refl, refl) v) ∙ k) in
     g m e f (omega arith)

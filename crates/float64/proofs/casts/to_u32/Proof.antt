@@ -1,10 +1,9 @@
-use mathlib.Core.Path.{_≡_, refl, ap, _∙_}
-use lib.Dec.{T, lit≤}
-use mathlib.Core.Bool.{true, false}
+use mathlib.Core.Path.{refl}
+use lib.Dec.{lit≤}
+use mathlib.Core.Bool.{false}
 use denote.Floats.{passes}
-use lib.Ieee.{Float, fits, binary64, ofBits, lt, inUnsigned, toUnsigned}
+use lib.Ieee.{Float, fits, binary64, ofBits}
 use lib.Ieee.Exact.{HasValue}
-use Rattle.float64.specs.Whole.{truncOf}
 use Rattle.float64.proofs.Saturate.{cast-below, cast-end, cast-zero}
 use Rattle.float64.proofs.casts.to_u32.Statement.{statement}
 use Rattle.float64.proofs.casts.to_u32.Tie as tie
