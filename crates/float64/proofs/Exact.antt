@@ -56,7 +56,8 @@ module _ (f : Format) (a b c : ℕ) (p : 0 < c) where
       let h : B * c ≡ b * D = second m n e d (v .1) (w .1) in
       let k : b * D ≤ a * D = mul-le-mul-right D l in
       let o : B ≤ A = le-of-mul-le-mul-right (omega arith) p in
-      rw (le-ltb A B o) (round-same f false (A - B) D (a - b) c (mul-pos (down-pos e) (down-pos d)) p (sub-mul A B c ∙ rw (g, h) (sym (sub-mul a b D))))
+      rw (le-ltb A B o)
+      (round-same f false (A - B) D (a - b) c (mul-pos (down-pos e) (down-pos d)) p (sub-mul A B c ∙ rw (g, h) (sym (sub-mul a b D))))
     where
       sub-mul : (a b c : ℕ) → (a - b) * c ≡ a * c - b * c
       sub-mul a b c = mul-comm (a - b) c ∙ mul-sub c a b ∙ rw (mul-comm c a, mul-comm c b)

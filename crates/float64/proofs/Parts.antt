@@ -42,14 +42,18 @@ pub trunc-odd : (x : Float) → truncOf (neg x) ≡ neg (truncOf x)
 unfolding truncOf neg
 trunc-odd nan = refl
 trunc-odd (inf s) = refl
-trunc-odd (fin true m e) = ap (cond (eqb (fraction m e) 0) (fin false m e)) (sym (neg-neg (ofInt binary64 (pos (wholePart m e))))) ∙ neg-cond (eqb (fraction m e) 0) (fin true m e) (neg (ofInt binary64 (pos (wholePart m e))))
+trunc-odd (fin true m e) =
+    ap (cond (eqb (fraction m e) 0) (fin false m e)) (sym (neg-neg (ofInt binary64 (pos (wholePart m e)))))
+    ∙ neg-cond (eqb (fraction m e) 0) (fin true m e) (neg (ofInt binary64 (pos (wholePart m e))))
 trunc-odd (fin false m e) = neg-cond (eqb (fraction m e) 0) (fin false m e) (ofInt binary64 (pos (wholePart m e)))
 
 pub round-odd : (x : Float) → roundOf (neg x) ≡ neg (roundOf x)
 unfolding roundOf neg
 round-odd nan = refl
 round-odd (inf s) = refl
-round-odd (fin true m e) = ap (cond (eqb (fraction m e) 0) (fin false m e)) (sym (neg-neg (ofInt binary64 (pos (halfUp m e))))) ∙ neg-cond (eqb (fraction m e) 0) (fin true m e) (neg (ofInt binary64 (pos (halfUp m e))))
+round-odd (fin true m e) =
+    ap (cond (eqb (fraction m e) 0) (fin false m e)) (sym (neg-neg (ofInt binary64 (pos (halfUp m e)))))
+    ∙ neg-cond (eqb (fraction m e) 0) (fin true m e) (neg (ofInt binary64 (pos (halfUp m e))))
 round-odd (fin false m e) = neg-cond (eqb (fraction m e) 0) (fin false m e) (ofInt binary64 (pos (halfUp m e)))
 
 pub floor-positive : (x : Float) → lt zero64 x ≡ true → truncOf x ≡ floorOf x

@@ -31,11 +31,14 @@ min-min a b c h = go (leb a b) refl
 
 -- ---- an unsigned cast
 -- below 2 ^ 52 and 2 ^ w the whole part is a float that `as` takes
-pub cast-below : (w b : ℕ) (y : Float) → HasValue y false b 1 → b ≤ W → b ≤ 2 ^ w → (x : Float) → T (fits binary64 x) → lt zero64 x ≡ true → lt x y ≡ true
-    → T (inUnsigned binary64 w (truncOf x)) × (toUnsigned w (truncOf x) ≡ toUnsigned w x)
-cast-below w b y v small room = inside (λ x. T (inUnsigned binary64 w (truncOf x)) × (toUnsigned w (truncOf x) ≡ toUnsigned w x)) b y v at
+abbrev pub Casts : ℕ → Float → Float → Type 0
+Casts w r x = T (inUnsigned binary64 w r) × (toUnsigned w r ≡ toUnsigned w x)
+
+pub cast-below : (w b : ℕ) (y : Float) → HasValue y false b 1 → b ≤ W → b ≤ 2 ^ w
+    → (r x : Float) → r ≡ truncOf x → T (fits binary64 x) → lt zero64 x ≡ true → lt x y ≡ true → Casts w r x
+cast-below w b y v small room r x e f h k = rw e (inside (λ x. Casts w (truncOf x) x) b y v at x f h k)
   where
-    at : (m : ℕ) (e : ℤ) → T (fits binary64 (fin false m e)) → m * up e < b * down e → T (inUnsigned binary64 w (truncOf (fin false m e))) × (toUnsigned w (truncOf (fin false m e)) ≡ toUnsigned w (fin false m e))
+    at : (m : ℕ) (e : ℤ) → T (fits binary64 (fin false m e)) → m * up e < b * down e → Casts w (truncOf (fin false m e)) (fin false m e)
     at m e f l =
         let q = m * up e / down e in
         let p : q < b = div-lt-iff-lt-mul (down-pos e) .1 l in

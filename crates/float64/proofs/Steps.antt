@@ -59,7 +59,7 @@ module _ (m : ℕ) (e : ℤ) (fit : T (fits binary64 (fin false m e))) (small : 
   q = wholePart m e
 
   -- a is q * d and less than d more
-  pub q-small : q < W
+  q-small : q < W
   q-small = div-lt-iff-lt-mul (down-pos e) .1 small
 
   q-under : q * d ≤ a
@@ -95,7 +95,7 @@ module _ (m : ℕ) (e : ℤ) (fit : T (fits binary64 (fin false m e))) (small : 
     z-value : HasValue (at z) false z 1
     z-value = let l = z-small in at-value z (omega arith)
 
-    pub lower-is : sub binary64 k (bit (lt (fin false m e) k)) ≡ truncOf (fin false m e)
+    lower-is : sub binary64 k (bit (lt (fin false m e) k)) ≡ truncOf (fin false m e)
     lower-is =
         let g = go (ltb (a * 1) (z * d)) refl in
         rw (n .is, lt-values (fin false m e) (at z) a z d 1 (down-pos e) (lit< tt) (refl, refl) z-value)
@@ -136,7 +136,7 @@ module _ (m : ℕ) (e : ℤ) (fit : T (fits binary64 (fin false m e))) (small : 
         let p = z-over in
         omega arith
 
-    pub upper-is : neg (add binary64 k (bit (lt k (fin false m e)))) ≡ floorOf (fin true m e)
+    upper-is : neg (add binary64 k (bit (lt k (fin false m e)))) ≡ floorOf (fin true m e)
     unfolding floorOf ofInt neg
     upper-is =
         let u = ltb (z * d) (a * 1) in
@@ -167,7 +167,7 @@ module _ (m : ℕ) (e : ℤ) (fit : T (fits binary64 (fin false m e))) (small : 
       go (pos j) f = rw (mod-one (m * 2 ^ j)) (dyadic-value false 0 0 (lit< tt) (lit≤ tt))
       go (negsuc j) f = dyadic-value false (m * 1 % 2 ^ suc j) (suc j) (let h = digits false m (negsuc j) f in let l = mod-le (m * 1) (2 ^ suc j) in omega arith) (places false m j f)
 
-  pub half-up-is : add binary64 (at q) (bit (not (lt (sub binary64 (fin false m e) (at q)) half))) ≡ roundOf (fin false m e)
+  half-up-is : add binary64 (at q) (bit (not (lt (sub binary64 (fin false m e) (at q)) half))) ≡ roundOf (fin false m e)
   unfolding roundOf ofInt ofBits
   half-up-is =
       let u = ltb (fraction m e * 2) (1 * d) in

@@ -26,7 +26,8 @@ pattern-is f nan s a c p v = absurd v
 pattern-is f (inf t) s a c p v = absurd v
 pattern-is f (fin t m e) s a c p v =
     let l = 2 ^ low f in
-    let q : m * up e * l / down e ≡ a * l / c = div-same (m * up e * l) (down e) (a * l) c (down-pos e) p (mul-right-comm (m * up e) l c ∙ ap (λ (n : ℕ). n * l) (v .1) ∙ mul-right-comm a (down e) l) in
+    let q : m * up e * l / down e ≡ a * l / c = div-same (m * up e * l) (down e) (a * l) c (down-pos e) p
+    (mul-right-comm (m * up e) l c ∙ ap (λ (n : ℕ). n * l) (v .1) ∙ mul-right-comm a (down e) l) in
     ap (λ (b : Bool). pattern f b (m * up e * l / down e)) (v .0) ∙ ap (pattern f s) q
 
 pub value-unique : (f : Format) (x y : Float) (s : Bool) (a c : ℕ) → 0 < c → T (fits f x) → T (fits f y) → HasValue x s a c → HasValue y s a c → x ≡ y
@@ -92,14 +93,18 @@ fraction-below s m k t =
 
 -- ---- a float is the rounding of its own value
 own : (s : Bool) (m : ℕ) (e : ℤ) → T (fits binary64 (fin s m e)) → HasValue (round binary64 s (m * up e) (down e)) s (m * up e) (down e)
-own s zero e t = round-exact binary64 s (0 * up e) (down e) 0 0 (down-pos e) (lit< tt) (lit< tt) (ap (λ (z : ℕ). z * 2 ^ 1074) (zero-mul (up e)) ∙ zero-mul (2 ^ 1074) ∙ sym (zero-mul (down e)))
+own s zero e t =
+    round-exact binary64 s (0 * up e) (down e) 0 0 (down-pos e) (lit< tt) (lit< tt)
+    (ap (λ (z : ℕ). z * 2 ^ 1074) (zero-mul (up e)) ∙ zero-mul (2 ^ 1074) ∙ sym (zero-mul (down e)))
 own s (suc m) (pos k) t = large-value s (suc m) k (digits s (suc m) (pos k) t) (let l = parts s m (pos k) t .2 in subst (λ (z : ℕ). suc m * 2 ^ k < z) (mul-one (2 ^ 1024)) l)
 own s (suc m) (negsuc k) t =
-    subst (λ (z : ℕ). HasValue (round binary64 s z (2 ^ suc k)) s z (2 ^ suc k)) (sym (mul-one (suc m))) (dyadic-value s (suc m) (suc k) (digits s (suc m) (negsuc k) t) (places s (suc m) k t))
+    subst (λ (z : ℕ). HasValue (round binary64 s z (2 ^ suc k)) s z (2 ^ suc k)) (sym (mul-one (suc m)))
+    (dyadic-value s (suc m) (suc k) (digits s (suc m) (negsuc k) t) (places s (suc m) k t))
 
 pub round-own : (s : Bool) (m : ℕ) (e : ℤ) → T (fits binary64 (fin s m e)) → round binary64 s (m * up e) (down e) ≡ fin s m e
 round-own s m e t =
-    value-unique binary64 (round binary64 s (m * up e) (down e)) (fin s m e) s (m * up e) (down e) (down-pos e) (round-fits binary64 s (m * up e) (down e)) t (own s m e t) (refl, refl)
+    value-unique binary64 (round binary64 s (m * up e) (down e)) (fin s m e) s (m * up e) (down e) (down-pos e)
+    (round-fits binary64 s (m * up e) (down e)) t (own s m e t) (refl, refl)
 
 -- a whole number over any denominator
 pub over : (x : Float) (s : Bool) (a c : ℕ) → HasValue x s a 1 → HasValue x s (a * c) c

@@ -1,14 +1,15 @@
-// Whole numbers near a float. The work is done on sizes: a negative x is taken by its opposite, and a zero or a NaN is its own result.
+// Whole numbers near a float. The work is done on positive numbers: a negative x is taken by its opposite, and a zero, whose sign must stay, and a NaN
+// are their own results.
 ghost use mathlib.Core.Path.{_≡_};
 ghost use mathlib.Core.Bool.{true};
 ghost use lib.Ieee.{lt, neg};
 ghost use Rattle.float64.specs.Ops.{bits};
 ghost use Rattle.float64.specs.Whole.{floorOf, truncOf, roundOf};
 
-// 2^52: a sum with it keeps no digit below one, and from it on a float has no fraction.
+// 2^52. From here on a float has no fraction, so adding it to x and taking it away leaves a whole number next to x.
 const WHOLE: f64 = 4503599627370496.0;
 
-// Of x > 0, the whole part. k is a whole number within one of x; the test is added as a number since a branch on it would be missed half of the time.
+// The whole part of x > 0. The test is taken off as a number: a branch on it would be mispredicted half of the time.
 fn lower(x: f64) -> f64
     requires { ⌜ lt (bits 0) x ≡ true ⌝ }
     ensures { λ r. ⌜ r ≡ truncOf x ⌝ }
@@ -21,7 +22,7 @@ fn lower(x: f64) -> f64
     }
 }
 
-// Of x > 0, the smallest whole number that is not below it.
+// The smallest whole number that is not below x > 0.
 fn upper(x: f64) -> f64
     requires { ⌜ lt (bits 0) x ≡ true ⌝ }
     ensures { λ r. ⌜ neg r ≡ floorOf (neg x) ⌝ }
@@ -34,7 +35,7 @@ fn upper(x: f64) -> f64
     }
 }
 
-// Of x > 0, the whole part, and one more from a half on: what is left of x is exact.
+// The whole part of x > 0, and one more from a half on. The difference x - k is exact.
 fn half_up(x: f64) -> f64
     requires { ⌜ lt (bits 0) x ≡ true ⌝ }
     ensures { λ r. ⌜ r ≡ roundOf x ⌝ }

@@ -1,10 +1,12 @@
-use mathlib.Core.Path.{refl}
+use mathlib.Core.Path.{_≡_, refl}
+use mathlib.Core.Bool.{true, false}
 use lib.Dec.{lit≤}
-use mathlib.Core.Bool.{false}
 use denote.Floats.{passes}
-use lib.Ieee.{Float, fits, binary64, ofBits}
+use lib.Ieee.{Float, binary64, fits, ofBits, lt}
 use lib.Ieee.Exact.{HasValue}
-use Rattle.float64.proofs.Saturate.{cast-below, cast-end, cast-zero}
+use Rattle.float64.specs.Whole.{truncOf}
+use Rattle.float64.proofs.Parts.{zero64}
+use Rattle.float64.proofs.Saturate.{Casts, cast-below, cast-end, cast-zero}
 use Rattle.float64.proofs.casts.to_u32.Statement.{statement}
 use Rattle.float64.proofs.casts.to_u32.Tie as tie
 
@@ -16,17 +18,21 @@ end-value : HasValue end false 4294967296 1
 unfolding ofBits
 end-value = (refl, refl)
 
+-- the whole part, as the cast takes it
+small : (r x : Float) → r ≡ truncOf x → fits binary64 x ≡ true → lt zero64 x ≡ true → lt x end ≡ true → Casts 32 r x
+small r x e f = cast-below 32 4294967296 end end-value (lit≤ tt) (lit≤ tt) r x e (passes (fits binary64 x) f)
+
 float-to-int-result : tie.Need-float-to-int-result
 float-to-int-result c =
-    let b = c .before .before .before .before in
-    let x = b .args .x in
-    rw (c .before .trunc .ensures) (cast-below 32 4294967296 end end-value (lit≤ tt) (lit≤ tt) x (passes (fits binary64 x) (b .good .0 .1)) (c .before .before .before .if1 .taken) (c .before .before .if2 .taken) .0)
+    let t = c .before in
+    let b = t .before .before in
+    small (t .trunc .result) (b .before .args .x) (t .trunc .ensures) (b .before .good .0 .1) (b .if1 .taken) (t .before .if2 .taken) .0
 
 returns : tie.Need-returns
 returns c =
-    let b = c .before .before .before .before in
-    let x = b .args .x in
-    rw (c .before .trunc .ensures) (cast-below 32 4294967296 end end-value (lit≤ tt) (lit≤ tt) x (passes (fits binary64 x) (b .good .0 .1)) (c .before .before .before .if1 .taken) (c .before .before .if2 .taken) .1)
+    let t = c .before in
+    let b = t .before .before in
+    small (t .trunc .result) (b .before .args .x) (t .trunc .ensures) (b .before .good .0 .1) (b .if1 .taken) (t .before .if2 .taken) .1
 
 returns-2 : tie.Need-returns-2
 returns-2 c = cast-end 32 end end-value (c .before .before .args .x) (c .before .if1 .taken) (c .if2 .left)

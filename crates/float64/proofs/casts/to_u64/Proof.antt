@@ -1,11 +1,13 @@
-use mathlib.Core.Path.{refl, sym, subst}
-use mathlib.Core.Bool.{false}
+use mathlib.Core.Path.{_≡_, refl, sym, subst}
+use mathlib.Core.Bool.{true, false}
 use lib.Dec.{T, lit≤}
 use denote.Floats.{passes}
-use lib.Ieee.{Float, fits, binary64, ofBits}
+use lib.Ieee.{Float, binary64, fits, ofBits, lt}
 use lib.Ieee.Exact.{HasValue}
-use Rattle.float64.proofs.Near.{whole64, whole64-value}
-use Rattle.float64.proofs.Saturate.{cast-below, cast-end, cast-zero, above-minus-one}
+use Rattle.float64.specs.Whole.{truncOf}
+use Rattle.float64.proofs.Near.{W, whole64, whole64-value}
+use Rattle.float64.proofs.Parts.{zero64}
+use Rattle.float64.proofs.Saturate.{Casts, cast-below, cast-end, cast-zero, above-minus-one}
 use Rattle.float64.proofs.casts.to_u64.Statement.{statement}
 use Rattle.float64.proofs.casts.to_u64.Tie as tie
 
@@ -17,17 +19,21 @@ end-value : HasValue end false 18446744073709551616 1
 unfolding ofBits
 end-value = (refl, refl)
 
+-- the whole part, as the cast takes it
+small : (r x : Float) → r ≡ truncOf x → fits binary64 x ≡ true → lt zero64 x ≡ true → lt x whole64 ≡ true → Casts 64 r x
+small r x e f = cast-below 64 W whole64 (whole64-value 1) (lit≤ tt) (lit≤ tt) r x e (passes (fits binary64 x) f)
+
 float-to-int-result : tie.Need-float-to-int-result
 float-to-int-result c =
-    let b = c .before .before .before .before in
-    let x = b .args .x in
-    rw (c .before .trunc .ensures) (cast-below 64 4503599627370496 whole64 (whole64-value 1) (lit≤ tt) (lit≤ tt) x (passes (fits binary64 x) (b .good .0 .1)) (c .before .before .before .if1 .taken) (c .before .before .if2 .taken) .0)
+    let t = c .before in
+    let b = t .before .before in
+    small (t .trunc .result) (b .before .args .x) (t .trunc .ensures) (b .before .good .0 .1) (b .if1 .taken) (t .before .if2 .taken) .0
 
 returns : tie.Need-returns
 returns c =
-    let b = c .before .before .before .before in
-    let x = b .args .x in
-    rw (c .before .trunc .ensures) (cast-below 64 4503599627370496 whole64 (whole64-value 1) (lit≤ tt) (lit≤ tt) x (passes (fits binary64 x) (b .good .0 .1)) (c .before .before .before .if1 .taken) (c .before .before .if2 .taken) .1)
+    let t = c .before in
+    let b = t .before .before in
+    small (t .trunc .result) (b .before .args .x) (t .trunc .ensures) (b .before .good .0 .1) (b .if1 .taken) (t .before .if2 .taken) .1
 
 truncating-f64-to-u64-requires : tie.Need-truncating-f64-to-u64-requires
 unfolding ofBits
