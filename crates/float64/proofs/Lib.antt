@@ -1,4 +1,7 @@
-pub mod Doubling
-pub mod OldWhole
+pub mod Exact
+pub mod Near
+pub mod Parts
 pub mod Patterns
 pub mod Saturate
+pub mod Steps
+pub mod Values

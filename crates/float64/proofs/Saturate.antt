@@ -1,24 +1,26 @@
--- A saturating cast from a wider unsigned one: the same number, held to the narrower range, with x's sign. Assumes nothing.
+-- Saturating casts: of x > 0 to an unsigned number, by its whole part as a float; and from that to a signed one of as many bits. Assumes nothing.
 use mathlib.Core.Path.{_≡_, refl, sym, ap, _∙_, subst}
 use Prim.Native.Nat.{ℕ, zero, suc, _+_, _-_, _*_, _/_, _^_, _≤_, _<_, min, zero-le}
-use native.Mathlib.Nat.{min-eq-left, min-eq-right, le-trans, le-of-lt, zero-div}
+use native.Mathlib.Nat.{min-eq-left, min-eq-right, le-of-lt, lt-of-lt-of-le, zero-div, mul-le-mul-right, div-lt-iff-lt-mul, le-div-iff-mul-le}
 use native.Mathlib.Omega.{arith}
-use mathlib.Core.Bool.{Bool, true, false, not}
-use lib.IntN.{ℤ, pos, negsuc, negℤ, _-ℤ_, +ℤ-idl}
+use mathlib.Core.Bool.{Bool, true, false, false≢true}
+use lib.IntN.{ℤ, pos, negℤ, _-ℤ_, +ℤ-idl}
 use lib.Signed.{mag}
-use lib.Dec.{T, leb, ltb, lit<}
-use lib.Pow.{pow-pos, pow-mono, pow-lt, le-ones}
+use lib.Dec.{T, leb, le→leb, lt→ltb, lit<}
+use lib.Pow.{pow-mono, pow-lt, le-ones}
 use borrow.Author.Tests.{leb-true, leb-false, ltb-true, ltb-false}
 use mir.Syntax.{Width, w8, w16, w32, w64, w128}
 use mir.Val.{SFits, toZ, ofZ, bits, hbits}
 use mir.ValLaws.{toZ-pos, toZ-ofZ}
-use lib.Ieee.{Float, nan, inf, fin, up, down, binary64, neg, ofBits, lt, toSigned, toUnsigned}
-
-abbrev zero64 : Float
-zero64 = ofBits binary64 0
-
-no : {X : Type 0} → _≡_ {A = Bool} false true → X
-no z = absurd (subst (λ (b : Bool). T (not b)) z tt)
+use lib.Ieee.{Float, nan, inf, fin, up, down, binary64, fits, neg, ofBits, ofInt, lt, toSigned, toUnsigned, inUnsigned, inFloat}
+use lib.Ieee.Exact.{HasValue}
+use lib.Ieee.Back.{unsigned-back}
+use lib.Ieee.Fits.{down-pos}
+use Rattle.float64.specs.Whole.{truncOf}
+use Rattle.float64.proofs.Values.{big, lt-values}
+use Rattle.float64.proofs.Near.{W}
+use Rattle.float64.proofs.Parts.{zero64}
+use Rattle.float64.proofs.Steps.{inside, trunc-at}
 
 min-min : (a b c : ℕ) → c ≤ b → min (min a b) c ≡ min a c
 min-min a b c h = go (leb a b) refl
@@ -27,18 +29,59 @@ min-min a b c h = go (leb a b) refl
     go true l = ap (λ (z : ℕ). min z c) (min-eq-left (leb-true a b l))
     go false l = let k = leb-false a b l in ap (λ (z : ℕ). min z c) (min-eq-right (le-of-lt k)) ∙ min-eq-right h ∙ sym (min-eq-right {n = c} {m = a} (omega arith))
 
-pub narrow : (v w : ℕ) (x : Float) → v ≤ w → min (toUnsigned w x) (2 ^ v - 1) ≡ toUnsigned v x
-unfolding toUnsigned
-narrow v w nan h = min-eq-left zero-le
-narrow v w (inf true) h = min-eq-left zero-le
-narrow v w (inf false) h = let p = pow-mono h in min-eq-right (omega arith)
-narrow v w (fin true m e) h = min-eq-left zero-le
-narrow v w (fin false m e) h = let p = pow-mono h in min-min (m * up e / down e) (2 ^ w - 1) (2 ^ v - 1) (omega arith)
+-- ---- an unsigned cast
+-- below 2 ^ 52 and 2 ^ w the whole part is a float that `as` takes
+abbrev pub Casts : ℕ → Float → Float → Type 0
+Casts w r x = T (inUnsigned binary64 w r) × (toUnsigned w r ≡ toUnsigned w x)
 
+pub cast-below : (w b : ℕ) (y : Float) → HasValue y false b 1 → b ≤ W → b ≤ 2 ^ w
+    → (r x : Float) → r ≡ truncOf x → T (fits binary64 x) → lt zero64 x ≡ true → lt x y ≡ true → Casts w r x
+cast-below w b y v small room r x e f h k = rw e (inside (λ x. Casts w (truncOf x) x) b y v at x f h k)
+  where
+    at : (m : ℕ) (e : ℤ) → T (fits binary64 (fin false m e)) → m * up e < b * down e → Casts w (truncOf (fin false m e)) (fin false m e)
+    at m e f l =
+        let q = m * up e / down e in
+        let p : q < b = div-lt-iff-lt-mul (down-pos e) .1 l in
+        let k = mul-le-mul-right (down e) small in
+        let i = unsigned-back binary64 w q (unfold inFloat in le→leb q big (omega arith)) (omega arith) in
+        rw (trunc-at m e f (omega arith)) (unfold ofInt toUnsigned in (i .0, i .1 ∙ sym (min-eq-left (le-ones w (lt-of-lt-of-le p room)))))
+
+pub cast-end : (w : ℕ) (y : Float) → HasValue y false (2 ^ w) 1 → (x : Float) → lt zero64 x ≡ true → lt x y ≡ false → 2 ^ w - 1 ≡ toUnsigned w x
+unfolding lt ofBits toUnsigned
+cast-end w y v nan h k = absurd (false≢true h)
+cast-end w y v (inf true) h k = absurd (false≢true h)
+cast-end w y v (inf false) h k = refl
+cast-end w y v (fin true m e) h k = absurd (false≢true h)
+cast-end w y v (fin false m e) h k =
+    let l = ltb-false (m * up e * 1) (2 ^ w * down e) (sym (lt-values (fin false m e) y (m * up e) (2 ^ w) (down e) 1 (down-pos e) (lit< tt) (refl, refl) v) ∙ k) in
+    let g : 2 ^ w ≤ m * up e / down e = le-div-iff-mul-le (down-pos e) .1 (omega arith) in
+    sym (min-eq-right {n = 2 ^ w - 1} {m = m * up e / down e} (omega arith))
+
+pub cast-zero : (w : ℕ) (x : Float) → lt zero64 x ≡ false → 0 ≡ toUnsigned w x
+unfolding lt ofBits toUnsigned
+cast-zero w nan h = refl
+cast-zero w (inf true) h = refl
+cast-zero w (inf false) h = absurd (false≢true (sym h))
+cast-zero w (fin true m e) h = refl
+cast-zero w (fin false m e) h =
+    let l = ltb-false (0 * down e) (m * up e * 1) h in
+    let z : m * up e ≡ 0 = omega arith in
+    rw (z, zero-div (down e)) (sym (min-eq-left zero-le))
+
+-- what std's function asks of x
+pub above-minus-one : (x : Float) → lt zero64 x ≡ true → T (lt (fin true 1 (pos 0)) x)
+unfolding lt ofBits
+above-minus-one nan h = absurd (false≢true h)
+above-minus-one (inf true) h = absurd (false≢true h)
+above-minus-one (inf false) h = tt
+above-minus-one (fin true m e) h = absurd (false≢true h)
+above-minus-one (fin false m e) h = let d = down-pos e in lt→ltb 0 (1 * down e + m * up e * 1) (omega arith)
+
+-- ---- a signed cast from the unsigned one of as many bits
 not-negative : (h w : ℕ) (x : Float) → h ≤ w → lt x zero64 ≡ false → pos (min (toUnsigned w x) (2 ^ h - 1)) ≡ toSigned h x
 unfolding toUnsigned toSigned lt ofBits
 not-negative h w nan g t = ap pos (min-eq-left zero-le)
-not-negative h w (inf true) g t = no (sym t)
+not-negative h w (inf true) g t = absurd (false≢true (sym t))
 not-negative h w (inf false) g t = let p = pow-mono g in ap pos (min-eq-right {n = 2 ^ h - 1} {m = 2 ^ w - 1} (omega arith))
 not-negative h w (fin true m e) g t =
     let l = ltb-false 0 (m * up e * 1 + 0 * down e) t in
@@ -48,9 +91,9 @@ not-negative h w (fin false m e) g t = let p = pow-mono g in ap pos (min-min (m 
 
 negative : (h w : ℕ) (x : Float) → h < w → lt x zero64 ≡ true → negℤ (pos (min (toUnsigned w (neg x)) (2 ^ h))) ≡ toSigned h x
 unfolding toUnsigned toSigned lt ofBits neg
-negative h w nan g t = no t
+negative h w nan g t = absurd (false≢true t)
 negative h w (inf true) g t = let p = pow-lt g in ap (λ (n : ℕ). negℤ (pos n)) (min-eq-right {n = 2 ^ h} {m = 2 ^ w - 1} (omega arith))
-negative h w (inf false) g t = no t
+negative h w (inf false) g t = absurd (false≢true t)
 negative h w (fin true m e) g t = let p = pow-lt g in ap (λ (n : ℕ). negℤ (pos n)) (min-min (m * up e / down e) (2 ^ w - 1) (2 ^ h) (omega arith))
 negative h w (fin false m e) g t = absurd (omega (arith, ltb-true (m * up e * 1) (0 * down e) t))
 

@@ -1,12 +1,16 @@
 // Rust's saturating casts: toward zero, to the nearest end of the range, and 0 for a NaN.
 ghost use mathlib.Core.Path.{_≡_};
 ghost use lib.Ieee.{toSigned, toUnsigned};
+use crate::whole::trunc;
 
-// Rust's `x as u64`.
+// Rust's `x as u64`. Below 2^52 the whole part is a float that one instruction casts; std's function, which shifts the bit pattern, serves the rest.
 pub fn to_u64(x: f64) -> u64
     ensures { λ r. ⌜ r ≡ toUnsigned 64 x ⌝ }
 {
-    if x > -1.0 {
+    if x > 0.0 {
+        if x < 4503599627370496.0 {
+            return trunc(x) as u64;
+        }
         if x < 18446744073709551616.0 {
             return std::num::truncating_f64_to_u64(x);
         }
@@ -15,22 +19,27 @@ pub fn to_u64(x: f64) -> u64
     0
 }
 
-// Rust's `x as u32`.
+// Rust's `x as u32`. Here the instruction serves the whole range.
 pub fn to_u32(x: f64) -> u32
     ensures { λ r. ⌜ r ≡ toUnsigned 32 x ⌝ }
 {
-    let n = to_u64(x);
-    if n < 4294967296 { n as u32 } else { 4294967295 }
+    if x > 0.0 {
+        if x < 4294967296.0 {
+            return trunc(x) as u32;
+        }
+        return 4294967295;
+    }
+    0
 }
 
-// Rust's `x as i64`.
+// Rust's `x as i64`, from the unsigned cast of x's size.
 pub fn to_i64(x: f64) -> i64
     ensures { λ r. ⌜ r ≡ toSigned 63 x ⌝ }
 {
     if x < 0.0 {
         let n = to_u64(-x);
         if n < 9223372036854775808 {
-            return 0 - (n as i64);
+            return -(n as i64);
         }
         return -9223372036854775808;
     }
@@ -41,14 +50,14 @@ pub fn to_i64(x: f64) -> i64
     9223372036854775807
 }
 
-// Rust's `x as i32`.
+// Rust's `x as i32`, from the unsigned cast of x's size.
 pub fn to_i32(x: f64) -> i32
     ensures { λ r. ⌜ r ≡ toSigned 31 x ⌝ }
 {
     if x < 0.0 {
         let n = to_u32(-x);
         if n < 2147483648 {
-            return 0 - (n as i32);
+            return -(n as i32);
         }
         return -2147483648;
     }

@@ -1,24 +1,62 @@
-// Whole numbers near a float.
+// Whole numbers near a float. The work is done on positive numbers: a negative x is taken by its opposite, and a zero, whose sign must stay, and a NaN
+// are their own results.
 ghost use mathlib.Core.Path.{_≡_};
+ghost use mathlib.Core.Bool.{true};
+ghost use lib.Ieee.{lt, neg};
+ghost use Rattle.float64.specs.Ops.{bits};
 ghost use Rattle.float64.specs.Whole.{floorOf, truncOf, roundOf};
-use crate::casts::to_u64;
 
-// The largest whole number that is not above x. From 2^53 on every f64 is one.
+// 2^52. From here on a float has no fraction, so adding it to x and taking it away leaves a whole number next to x.
+const WHOLE: f64 = 4503599627370496.0;
+
+// The whole part of x > 0. The test is taken off as a number: a branch on it would be mispredicted half of the time.
+fn lower(x: f64) -> f64
+    requires { ⌜ lt (bits 0) x ≡ true ⌝ }
+    ensures { λ r. ⌜ r ≡ truncOf x ⌝ }
+{
+    if x < WHOLE {
+        let k = (x + WHOLE) - WHOLE;
+        k - ((k > x) as u8 as f64)
+    } else {
+        x
+    }
+}
+
+// The smallest whole number that is not below x > 0.
+fn upper(x: f64) -> f64
+    requires { ⌜ lt (bits 0) x ≡ true ⌝ }
+    ensures { λ r. ⌜ neg r ≡ floorOf (neg x) ⌝ }
+{
+    if x < WHOLE {
+        let k = (x + WHOLE) - WHOLE;
+        k + ((k < x) as u8 as f64)
+    } else {
+        x
+    }
+}
+
+// The whole part of x > 0, and one more from a half on. The difference x - k is exact.
+fn half_up(x: f64) -> f64
+    requires { ⌜ lt (bits 0) x ≡ true ⌝ }
+    ensures { λ r. ⌜ r ≡ roundOf x ⌝ }
+{
+    if x < WHOLE {
+        let k = lower(x);
+        k + (!(x - k < 0.5) as u8 as f64)
+    } else {
+        x
+    }
+}
+
+// The largest whole number that is not above x.
 pub fn floor(x: f64) -> f64
     ensures { λ r. ⌜ r ≡ floorOf x ⌝ }
 {
-    if x > -9007199254740992.0 {
-        if x < 9007199254740992.0 {
-            let n = std::num::truncating_f64_to_i64(x);
-            let t = std::num::nearest_i64_to_f64(n);
-            if t == x {
-                return x;
-            }
-            if x < 0.0 {
-                return std::num::nearest_i64_to_f64(n - 1);
-            }
-            return t;
-        }
+    if x > 0.0 {
+        return lower(x);
+    }
+    if x < 0.0 {
+        return -upper(-x);
     }
     x
 }
@@ -27,27 +65,24 @@ pub fn floor(x: f64) -> f64
 pub fn trunc(x: f64) -> f64
     ensures { λ r. ⌜ r ≡ truncOf x ⌝ }
 {
-    if x < 0.0 { -floor(-x) } else { floor(x) }
+    if x > 0.0 {
+        return lower(x);
+    }
+    if x < 0.0 {
+        return -lower(-x);
+    }
+    x
 }
 
 // The whole number nearest to x, and of two the one further from zero.
 pub fn round(x: f64) -> f64
     ensures { λ r. ⌜ r ≡ roundOf x ⌝ }
 {
-    if x > -9007199254740992.0 {
-        if x < 9007199254740992.0 {
-            let n = std::num::truncating_f64_to_i64(x);
-            let t = std::num::nearest_i64_to_f64(n);
-            if t == x {
-                return x;
-            }
-            if x < 0.0 {
-                let k = to_u64(-x + -x);
-                return -std::num::nearest_u64_to_f64(k / 2 + k % 2);
-            }
-            let k = to_u64(x + x);
-            return std::num::nearest_u64_to_f64(k / 2 + k % 2);
-        }
+    if x > 0.0 {
+        return half_up(x);
+    }
+    if x < 0.0 {
+        return -half_up(-x);
     }
     x
 }

@@ -1,24 +1,44 @@
-use mathlib.Core.Path.{sym, ap, _∙_}
-use Prim.Native.Nat.{ℕ, _≤_, min}
-use native.Mathlib.Nat.{min-eq-left, min-eq-right}
-use native.Mathlib.Omega.{arith}
+use mathlib.Core.Path.{_≡_, refl}
+use mathlib.Core.Bool.{true, false}
 use lib.Dec.{lit≤}
-use borrow.Author.Needs.{needs}
-use Rattle.float64.proofs.Saturate.{narrow}
+use denote.Floats.{passes}
+use lib.Ieee.{Float, binary64, fits, ofBits, lt}
+use lib.Ieee.Exact.{HasValue}
+use Rattle.float64.specs.Whole.{truncOf}
+use Rattle.float64.proofs.Parts.{zero64}
+use Rattle.float64.proofs.Saturate.{Casts, cast-below, cast-end, cast-zero}
 use Rattle.float64.proofs.casts.to_u32.Statement.{statement}
 use Rattle.float64.proofs.casts.to_u32.Tie as tie
 
+-- 2 ^ 32
+abbrev end : Float
+end = ofBits binary64 0x41f0_0000_0000_0000
+
+end-value : HasValue end false 4294967296 1
+unfolding ofBits
+end-value = (refl, refl)
+
+-- the whole part, as the cast takes it
+small : (r x : Float) → r ≡ truncOf x → fits binary64 x ≡ true → lt zero64 x ≡ true → lt x end ≡ true → Casts 32 r x
+small r x e f = cast-below 32 4294967296 end end-value (lit≤ tt) (lit≤ tt) r x e (passes (fits binary64 x) f)
+
+float-to-int-result : tie.Need-float-to-int-result
+float-to-int-result c =
+    let t = c .before in
+    let b = t .before .before in
+    small (t .trunc .result) (b .before .args .x) (t .trunc .ensures) (b .before .good .0 .1) (b .if1 .taken) (t .before .if2 .taken) .0
+
 returns : tie.Need-returns
 returns c =
-    let n = c .before .to-u64 .result in
-    let l : n ≤ 4294967295 = omega arith in
-    sym (min-eq-left l) ∙ ap (λ (k : ℕ). min k 4294967295) (c .before .to-u64 .ensures) ∙ narrow 32 64 (c .before .before .args .x) (lit≤ tt)
+    let t = c .before in
+    let b = t .before .before in
+    small (t .trunc .result) (b .before .args .x) (t .trunc .ensures) (b .before .good .0 .1) (b .if1 .taken) (t .before .if2 .taken) .1
 
 returns-2 : tie.Need-returns-2
-returns-2 c =
-    let n = c .before .to-u64 .result in
-    let l : 4294967295 ≤ n = omega arith in
-    sym (min-eq-right l) ∙ ap (λ (k : ℕ). min k 4294967295) (c .before .to-u64 .ensures) ∙ narrow 32 64 (c .before .before .args .x) (lit≤ tt)
+returns-2 c = cast-end 32 end end-value (c .before .before .args .x) (c .before .if1 .taken) (c .if2 .left)
+
+returns-3 : tie.Need-returns-3
+returns-3 c = cast-zero 32 (c .before .args .x) (c .if1 .left)
 
 pub to-u32-spec : {M : Type 1} → statement M
-to-u32-spec = tie.close (tie.spec (λ c κs. tt) (λ c. search needs) returns returns-2)
+to-u32-spec = tie.close (tie.spec (λ c κs. tt) float-to-int-result returns returns-2 returns-3)

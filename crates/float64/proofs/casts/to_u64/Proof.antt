@@ -1,23 +1,58 @@
-use Rattle.float64.proofs.Doubling as doubling
-use mathlib.Core.Path.{sym, subst}
-use lib.Dec.{T}
-use lib.Ieee.{ofBits, neg}
-use borrow.Author.Needs.{needs}
+use mathlib.Core.Path.{_≡_, refl, sym, subst}
+use mathlib.Core.Bool.{true, false}
+use lib.Dec.{T, lit≤}
+use denote.Floats.{passes}
+use lib.Ieee.{Float, binary64, fits, ofBits, lt}
+use lib.Ieee.Exact.{HasValue}
+use Rattle.float64.specs.Whole.{truncOf}
+use Rattle.float64.proofs.Near.{W, whole64, whole64-value}
+use Rattle.float64.proofs.Parts.{zero64}
+use Rattle.float64.proofs.Saturate.{Casts, cast-below, cast-end, cast-zero, above-minus-one}
 use Rattle.float64.proofs.casts.to_u64.Statement.{statement}
 use Rattle.float64.proofs.casts.to_u64.Tie as tie
 
-truncating-f64-to-u64-requires : tie.Need-truncating-f64-to-u64-requires
-unfolding ofBits neg
-truncating-f64-to-u64-requires c κs = (subst T (sym (c .before .if1 .taken)) tt, subst T (sym (c .if2 .taken)) tt)
+-- 2 ^ 64
+abbrev end : Float
+end = ofBits binary64 0x43f0_0000_0000_0000
+
+end-value : HasValue end false 18446744073709551616 1
+unfolding ofBits
+end-value = (refl, refl)
+
+-- the whole part, as the cast takes it
+small : (r x : Float) → r ≡ truncOf x → fits binary64 x ≡ true → lt zero64 x ≡ true → lt x whole64 ≡ true → Casts 64 r x
+small r x e f = cast-below 64 W whole64 (whole64-value 1) (lit≤ tt) (lit≤ tt) r x e (passes (fits binary64 x) f)
+
+float-to-int-result : tie.Need-float-to-int-result
+float-to-int-result c =
+    let t = c .before in
+    let b = t .before .before in
+    small (t .trunc .result) (b .before .args .x) (t .trunc .ensures) (b .before .good .0 .1) (b .if1 .taken) (t .before .if2 .taken) .0
 
 returns : tie.Need-returns
-returns c = search needs
+returns c =
+    let t = c .before in
+    let b = t .before .before in
+    small (t .trunc .result) (b .before .args .x) (t .trunc .ensures) (b .before .good .0 .1) (b .if1 .taken) (t .before .if2 .taken) .1
 
-returns-2 : tie.Need-returns-2
-returns-2 c = doubling.over-u64 (c .before .before .args .x) (c .before .if1 .taken) (c .if2 .left)
+truncating-f64-to-u64-requires : tie.Need-truncating-f64-to-u64-requires
+unfolding ofBits
+truncating-f64-to-u64-requires c κs = (above-minus-one (c .before .before .before .args .x) (c .before .before .if1 .taken), subst T (sym (c .if3 .taken)) tt)
 
 returns-3 : tie.Need-returns-3
-returns-3 c = doubling.under-u64 (c .before .args .x) (c .if1 .left)
+returns-3 c = cast-end 64 end end-value (c .before .before .before .args .x) (c .before .before .if1 .taken) (c .if3 .left)
+
+returns-4 : tie.Need-returns-4
+returns-4 c = cast-zero 64 (c .before .args .x) (c .if1 .left)
 
 pub to-u64-spec : {M : Type 1} → statement M
-to-u64-spec = tie.close (tie.spec truncating-f64-to-u64-requires returns returns-2 returns-3)
+to-u64-spec =
+    tie.close
+    (tie.spec
+    (λ c κs. tt)
+    float-to-int-result
+    returns
+    truncating-f64-to-u64-requires
+    (λ c. c .truncating-f64-to-u64 .ensures)
+    returns-3
+    returns-4)

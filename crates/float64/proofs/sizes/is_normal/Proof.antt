@@ -1,14 +1,15 @@
-use mathlib.Core.Path.{_≡_, refl, sym, ap, _∙_, subst}
-use Prim.Native.Nat.{ℕ, _*_, _^_, _≤_, _<_}
+use mathlib.Core.Path.{_≡_, refl, sym, ap, _∙_}
+use Prim.Native.Nat.{ℕ, _*_, _^_}
 use native.Mathlib.Nat.{one-mul}
-use mathlib.Core.Bool.{Bool, true, false, not}
-use lib.Dec.{T, leb, ltb}
+use mathlib.Core.Bool.{Bool, true, false, not, true≢false, false≢true}
+use lib.Dec.{leb, ltb}
 use borrow.Author.Tests.{ltb-true, ltb-false, lt-leb, le-leb}
 use lib.Ieee.{Float, nan, inf, fin, up, down, binary64, lt, div, round, ofBits}
 use Rattle.float64.specs.Sizes.{absOf, isNormalOf}
 use Rattle.float64.proofs.sizes.is_normal.Statement.{statement}
 use Rattle.float64.proofs.sizes.is_normal.Tie as tie
 
+-- the code's constants
 abbrev infinity : Float
 infinity = div binary64 (ofBits binary64 0x3ff0_0000_0000_0000) (ofBits binary64 0)
 
@@ -24,15 +25,15 @@ not-lt a b = go (ltb a b) refl
 
 finite : (x : Float) → lt (absOf x) infinity ≡ true → not (lt (absOf x) least) ≡ isNormalOf x
 unfolding absOf isNormalOf lt div round ofBits
-finite nan h = absurd (subst (λ (b : Bool). T (not b)) h tt)
-finite (inf s) h = absurd (subst (λ (b : Bool). T (not b)) h tt)
+finite nan h = absurd (false≢true h)
+finite (inf s) h = absurd (false≢true h)
 finite (fin s m e) h = not-lt (m * up e * 2 ^ 1022) (1 * down e) ∙ ap (λ (n : ℕ). leb n (m * up e * 2 ^ 1022)) (one-mul (down e))
 
 infinite : (x : Float) → lt (absOf x) infinity ≡ false → false ≡ isNormalOf x
 unfolding absOf isNormalOf lt div round ofBits
 infinite nan h = refl
 infinite (inf s) h = refl
-infinite (fin s m e) h = absurd (subst T h tt)
+infinite (fin s m e) h = absurd (true≢false h)
 
 returns : tie.Need-returns
 returns c = rw (c .before .abs .ensures) (finite (c .before .before .args .x) (rw (c .before .abs .ensures) at (c .if1 .taken)))
