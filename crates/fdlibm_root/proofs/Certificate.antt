@@ -1,8 +1,12 @@
 -- The whole-number arithmetic that decides on a candidate s.
 use Prim.Native.Nat.{ℕ, _+_, _-_, _*_, _/_, _%_, _^_, _≤_, _<_}
-use mathlib.Core.Path.{_≡_, ap}
+use mathlib.Core.Path.{_≡_, refl, ap}
+use mathlib.Core.Bool.{Bool, true, false}
 use native.Mathlib.Nat.{div-add-mod', mul-le-mul}
 use native.Mathlib.Omega.{arith}
+use lib.Dec.{leb, ltb, lit≤}
+use borrow.Author.Tests.{leb-true, leb-false, ltb-true, ltb-false}
+use mir.Val.{boolByte}
 use Rattle.fdlibm_root.specs.Near.{Near}
 
 -- ---- the products of the two halves of an s of 53 digits fit
@@ -54,16 +58,38 @@ module _ (m s : ℕ) where
       rest j c h = omega arith
 
 -- ---- where the residue z lies, s or a neighbour is the nearest
-module _ (m s z : ℕ) (is : z + s * s ≡ 2 ^ 55 + m * 2 ^ 52) where
-  pub near-same : 2 ^ 55 < z + s → z ≤ 2 ^ 55 + s → Near m s
-  near-same lo hi = record { low = omega arith; high = omega arith }
+bit : (b : Bool) → boolByte b ≤ 1
+bit true = lit≤ tt
+bit false = lit≤ tt
 
-  pub near-above : 2 ^ 55 + s < z → z ≤ 2 ^ 55 + 3 * s + 2 → Near m (s + 1)
-  near-above lo hi = record { low = omega arith; high = omega arith }
+pub up-fits : (s z : ℕ) → s < 2 ^ 53 → s + boolByte (ltb (2 ^ 55 + s) z) < 2 ^ 64
+up-fits s z h = omega (arith, bit (ltb (2 ^ 55 + s) z))
 
-  pub near-below : 2 ^ 55 + 2 < z + 3 * s → z + s ≤ 2 ^ 55 → Near m (s - 1)
-  near-below lo hi =
-      let t = s - 1 in
-      let less : t + 1 ≡ s = omega arith in
+pub down-fits : (s z : ℕ) → 2 ^ 55 + 2 < z + 3 * s → z ≤ 2 ^ 55 + 3 * s + 2 → boolByte (leb (z + s) (2 ^ 55)) ≤ s + boolByte (ltb (2 ^ 55 + s) z)
+down-fits s z lo hi = omega (arith, bit (leb (z + s) (2 ^ 55)))
+
+module _ (m s z : ℕ) (is : z + s * s ≡ 2 ^ 55 + m * 2 ^ 52) (lo : 2 ^ 55 + 2 < z + 3 * s) (hi : z ≤ 2 ^ 55 + 3 * s + 2) where
+  below : (t : ℕ) → t + 1 ≡ s → z + s ≤ 2 ^ 55 → Near m t
+  below t less far =
       let square : (t + 1) * (t + 1) ≡ s * s = ap (λ (x : ℕ). x * x) less in
       record { low = omega arith; high = omega arith }
+
+  above : (t : ℕ) → t ≡ s + 1 → 2 ^ 55 + s < z → Near m t
+  above t more far =
+      let square : t * t ≡ (s + 1) * (s + 1) = ap (λ (x : ℕ). x * x) more in
+      record { low = omega arith; high = omega arith }
+
+  same : (t : ℕ) → t ≡ s → 2 ^ 55 < z + s → z ≤ 2 ^ 55 + s → Near m t
+  same t e p q = rw e (record { low = omega arith; high = omega arith })
+
+  pub chosen : Near m (s + boolByte (ltb (2 ^ 55 + s) z) - boolByte (leb (z + s) (2 ^ 55)))
+  chosen = go (ltb (2 ^ 55 + s) z) (leb (z + s) (2 ^ 55)) refl refl
+    where
+      go : (up down : Bool) → ltb (2 ^ 55 + s) z ≡ up → leb (z + s) (2 ^ 55) ≡ down → Near m (s + boolByte up - boolByte down)
+      go true true p q = absurd (clash (ltb-true (2 ^ 55 + s) z p) (leb-true (z + s) (2 ^ 55) q))
+        where
+          clash : 2 ^ 55 + s < z → z + s ≤ 2 ^ 55 → ⊥
+          clash g h = omega arith
+      go true false p q = above (s + 1 - 0) (omega arith) (ltb-true (2 ^ 55 + s) z p)
+      go false true p q = below (s + 0 - 1) (omega arith) (leb-true (z + s) (2 ^ 55) q)
+      go false false p q = same (s + 0 - 0) (omega arith) (leb-false (z + s) (2 ^ 55) q) (ltb-false (2 ^ 55 + s) z p)

@@ -2,6 +2,8 @@ pub mod Squares
 pub mod Certificate
 pub mod Rounding
 pub mod Sticky
-pub mod Patterns
-pub mod Special
+pub mod Scaled
 pub mod Moved
+pub mod Patterns
+pub mod NoNan
+pub mod Special

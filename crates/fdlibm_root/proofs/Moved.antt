@@ -1,7 +1,7 @@
 -- A subnormal significand t, moved up by k places to d: what the loop of `subnormal_pattern` keeps.
 use Prim.Native.Nat.{ℕ, _+_, _-_, _*_, _^_, _≤_, _<_}
 use mathlib.Core.Path.{_≡_, sym, ap, _∙_}
-use native.Mathlib.Nat.{le-trans, mul-assoc, mul-le-mul-right, pow-suc}
+use native.Mathlib.Nat.{mul-assoc, mul-le-mul-right, pow-suc}
 use native.Mathlib.Numerals.{add-one}
 use native.Mathlib.Omega.{arith}
 use lib.Pow.{pow-add, pow-mono}

@@ -1,63 +1,23 @@
--- Between a float's pattern and the whole number whose root `sqrtOf` takes.
+-- From the pattern of a float above 0 to the whole number whose root `sqrtOf` takes.
 use Prim.Native.Nat.{ℕ, zero, suc, _+_, _-_, _*_, _/_, _%_, _^_, _≤_, _<_}
 use mathlib.Core.Path.{_≡_, refl, sym, ap, _∙_, subst}
-use mathlib.Core.Bool.{Bool, true, false, not, cond, false≢true}
+use mathlib.Core.Bool.{Bool, true, false, cond, false≢true}
 use mathlib.Core.Logic.{inl, inr}
-use native.Mathlib.Nat.{add-comm, eq-zero-or-pos, le-of-lt, lt-irrefl, lt-trans, mod-eq-of-lt, mul-assoc, mul-div-cancel, mul-le-mul, mul-one, mul-pos, mul-right-comm}
+use native.Mathlib.Nat.{add-comm, eq-zero-or-pos, lt-irrefl, mod-eq-of-lt, mul-assoc, mul-div-cancel, mul-one, mul-pos, mul-right-comm}
 use native.Mathlib.Omega.{arith}
 use lib.IntN.{pos}
-use lib.Dec.{T, leb, eqb, lit<}
+use lib.Dec.{T, leb, eqb}
 use lib.Pow.{pow-add, pow-pos}
-use lib.Ieee.{Float, nan, inf, fin, binary64, up, down, fits, isNan, lt, eq, odd, ofFields, ofBits, nanBits, toBits}
+use lib.Ieee.{Float, nan, inf, fin, binary64, up, down, fits, lt, odd, ofFields, ofBits, toBits}
 use lib.Ieee.Fits.{down-pos}
 use lib.Ieee.Exact.{HasValue, odd-sign}
-use lib.Ieee.Bits.{ofBits-toBits, nanBits-above}
+use lib.Ieee.Bits.{ofBits-toBits}
 use lib.Ieee.Positive.{positive, positive-of-value}
-use borrow.Author.Tests.{leb-false, eqb-true, le-ltb}
+use borrow.Author.Tests.{leb-false, eqb-true}
 use Rattle.fdlibm_root.specs.Root.{roundedRoot, sqrtOf}
-use Rattle.fdlibm_root.specs.Near.{Near}
-use Rattle.fdlibm_root.proofs.Sticky.{rounded-root, near-hi}
-
--- ---- the root of d * 2 ^ (a - 898) / 2 ^ 1200, which is d * 2 ^ (a - 2098), for a d of 53 digits
-one-more : (o : ℕ) → o < 2 → 2 ^ o ≡ 1 + o
-one-more zero h = refl
-one-more (suc zero) h = refl
-one-more (suc (suc o)) h = absurd (large o h)
-  where
-    large : (o : ℕ) → suc (suc o) < 2 → ⊥
-    large o h = omega arith
-
-halved : (d a i : ℕ) → 952 ≤ a → i ≡ a / 2 - 476 → d * 2 ^ (a - 898) ≡ 4 * (d * (1 + a % 2) * 2 ^ 52) * (2 ^ i * 2 ^ i)
-halved d a i h e =
-    let exponent : a - 898 ≡ a % 2 + (54 + (i + i)) = omega arith in
-    ap (λ (z : ℕ). d * 2 ^ z) exponent
-    ∙ ap (λ (z : ℕ). d * z) (pow-add 2 (a % 2) (54 + (i + i)) ∙ ap (λ (z : ℕ). z * 2 ^ (54 + (i + i))) (one-more (a % 2) (omega arith)) ∙ ap (λ (z : ℕ). (1 + a % 2) * z) (pow-add 2 54 (i + i) ∙ ap (λ (z : ℕ). 2 ^ 54 * z) (pow-add 2 i i)))
-    ∙ spread d (1 + a % 2) (2 ^ i * 2 ^ i)
-  where
-    spread : (d o w : ℕ) → d * (o * (2 ^ 54 * w)) ≡ 4 * (d * o * 2 ^ 52) * w
-    spread d o w = omega arith
-
-pub doubled : (d o : ℕ) → d < 2 ^ 53 → 1 + o ≤ 2 → d * (1 + o) ≤ 18014398509481982
-doubled d o h g = let product : d * (1 + o) ≤ 9007199254740991 * 2 = mul-le-mul (cut d h) g in omega arith
-  where
-    cut : (d : ℕ) → d < 2 ^ 53 → d ≤ 9007199254740991
-    cut d h = omega arith
-
-pub scaled-root : (d a s : ℕ) → 2 ^ 52 ≤ d → d < 2 ^ 53 → 972 ≤ a → a < 3900 → Near (d * (1 + a % 2)) s → roundedRoot (d * 2 ^ (a - 898)) ≡ ofBits binary64 ((a / 2 - 1) * 2 ^ 52 + s)
-scaled-root d a s d-lo d-hi a-lo a-hi near =
-    let m = d * (1 + a % 2) in
-    let i = a / 2 - 476 in
-    let same : i + 475 ≡ a / 2 - 1 = omega arith in
-    rounded-root m s i (d * 2 ^ (a - 898)) near (omega arith) (doubled d (a % 2) d-hi (omega arith)) (omega arith) (halved d a i (omega arith) refl)
-    ∙ ap (λ (z : ℕ). ofBits binary64 (z * 2 ^ 52 + s)) same
-
-pub scaled-fits : (d a s : ℕ) → d < 2 ^ 53 → a < 3900 → Near (d * (1 + a % 2)) s → (a / 2 - 1) * 2 ^ 52 + s < 0x7ff0_0000_0000_0000
-scaled-fits d a s d-hi a-hi near =
-    let least : s < 2 ^ 53 = near-hi (d * (1 + a % 2)) s near (doubled d (a % 2) d-hi (omega arith)) in
-    omega arith
 
 -- ---- what the fields of a pattern say of a float above 0
-abbrev Above : Float → Type 0
+abbrev pub Above : Float → Type 0
 Above x = lt (fin false 0 (pos 0)) x ≡ true
 
 not-negative : (x : Float) (a c : ℕ) → HasValue x true a c → Above x → ⊥
@@ -76,23 +36,25 @@ no-sign true (suc E) t h = absurd (go (eqb (suc E) 2047) (eqb t 0) h)
     go true false h = false≢true h
     go false b h = not-negative (odd 53 true (2 ^ 52 + t) E 1074) ((2 ^ 52 + t) * 2 ^ E) (2 ^ 1074) (odd-sign 53 true (2 ^ 52 + t) E 1074) h
 
-pub subnormal-value : (t : ℕ) → HasValue (ofFields binary64 false 0 t) false t (2 ^ 1074)
+subnormal-value : (t : ℕ) → HasValue (ofFields binary64 false 0 t) false t (2 ^ 1074)
 unfolding ofFields
 subnormal-value t = subst (λ (z : ℕ). HasValue (odd 53 false t 0 1074) false z (2 ^ 1074)) (mul-one t) (odd-sign 53 false t 0 1074)
 
-pub normal-value : (E t : ℕ) → 0 < E → E < 2047 → HasValue (ofFields binary64 false E t) false ((2 ^ 52 + t) * 2 ^ (E - 1)) (2 ^ 1074)
+normal-value : (E t : ℕ) → 0 < E → E < 2047 → HasValue (ofFields binary64 false E t) false ((2 ^ 52 + t) * 2 ^ (E - 1)) (2 ^ 1074)
 unfolding ofFields
 normal-value zero t h k = absurd (lt-irrefl 0 h)
-normal-value (suc E) t h k = subst (λ (z : ℕ). HasValue (ofFields binary64 false (suc E) t) false ((2 ^ 52 + t) * 2 ^ z) (2 ^ 1074)) (less E) (go (eqb (suc E) 2047) refl)
+normal-value (suc E) t h k =
+    subst (λ (z : ℕ). HasValue (ofFields binary64 false (suc E) t) false ((2 ^ 52 + t) * 2 ^ z) (2 ^ 1074)) (less E) (go (eqb (suc E) 2047) refl)
   where
     less : (E : ℕ) → E ≡ suc E - 1
     less E = omega arith
 
-    go : (b : Bool) → eqb (suc E) 2047 ≡ b → HasValue (cond b (cond (eqb t 0) (inf false) nan) (odd 53 false (2 ^ 52 + t) E 1074)) false ((2 ^ 52 + t) * 2 ^ E) (2 ^ 1074)
+    go : (b : Bool) → eqb (suc E) 2047 ≡ b
+        → HasValue (cond b (cond (eqb t 0) (inf false) nan) (odd 53 false (2 ^ 52 + t) E 1074)) false ((2 ^ 52 + t) * 2 ^ E) (2 ^ 1074)
     go true e = absurd (lt-irrefl 2047 (subst (λ (z : ℕ). z < 2047) (eqb-true (suc E) 2047 e) k))
     go false e = odd-sign 53 false (2 ^ 52 + t) E 1074
 
-pub infinite : (t : ℕ) → Above (ofFields binary64 false 2047 t) → ofFields binary64 false 2047 t ≡ inf false
+infinite : (t : ℕ) → Above (ofFields binary64 false 2047 t) → ofFields binary64 false 2047 t ≡ inf false
 unfolding ofFields lt
 infinite t h = go (eqb t 0) h
   where
@@ -100,17 +62,22 @@ infinite t h = go (eqb t 0) h
     go true h = refl
     go false h = absurd (false≢true h)
 
-pub fields-of : (x : Float) → fits binary64 x ≡ true → Above x → (toBits binary64 x < 2 ^ 63) × (x ≡ ofFields binary64 false (toBits binary64 x / 2 ^ 52) (toBits binary64 x % 2 ^ 52))
+fields-of : (x : Float) → fits binary64 x ≡ true → Above x
+    → (toBits binary64 x < 2 ^ 63) × (x ≡ ofFields binary64 false (toBits binary64 x / 2 ^ 52) (toBits binary64 x % 2 ^ 52))
 unfolding ofBits
 fields-of x h up =
     let b = toBits binary64 x in
     let back : ofFields binary64 (leb (2 ^ 63) b) (b % 2 ^ 63 / 2 ^ 52) (b % 2 ^ 52) ≡ x = ofBits-toBits binary64 x (subst T (sym h) tt) in
     let sign : leb (2 ^ 63) b ≡ false = no-sign (leb (2 ^ 63) b) (b % 2 ^ 63 / 2 ^ 52) (b % 2 ^ 52) (subst Above (sym back) up) in
-    let small : b < 2 ^ 63 = leb-false (2 ^ 63) b sign in
-    (small, sym back ∙ ap (λ (z : Bool). ofFields binary64 z (b % 2 ^ 63 / 2 ^ 52) (b % 2 ^ 52)) sign ∙ ap (λ (z : ℕ). ofFields binary64 false (z / 2 ^ 52) (b % 2 ^ 52)) (mod-eq-of-lt small))
+    let small : b < 2 ^ 63 = leb-false (2 ^ 63) b sign in (
+      small,
+      sym back
+          ∙ ap (λ (z : Bool). ofFields binary64 z (b % 2 ^ 63 / 2 ^ 52) (b % 2 ^ 52)) sign
+          ∙ ap (λ (z : ℕ). ofFields binary64 false (z / 2 ^ 52) (b % 2 ^ 52)) (mod-eq-of-lt small),
+    )
 
 -- ---- the root of w smallest floats
-pub value-root : (x : Float) (w : ℕ) → 0 < w → HasValue x false w (2 ^ 1074) → sqrtOf x ≡ roundedRoot (w * 2 ^ 126)
+value-root : (x : Float) (w : ℕ) → 0 < w → HasValue x false w (2 ^ 1074) → sqrtOf x ≡ roundedRoot (w * 2 ^ 126)
 unfolding sqrtOf
 value-root x w h v = go x v (positive-of-value x w (2 ^ 1074) v h)
   where
@@ -131,34 +98,20 @@ own : inf false ≡ sqrtOf (inf false)
 unfolding sqrtOf
 own = refl
 
-pub no-nan : (x : Float) → Above x → T (not (isNan x))
-unfolding lt isNan
-no-nan nan h = absurd (false≢true h)
-no-nan (inf s) h = tt
-no-nan (fin s m e) h = tt
-
--- a NaN does not equal itself
-pub self-equal : (x : Float) → eq x x ≡ true → T (not (isNan x))
-unfolding eq isNan
-self-equal nan h = absurd (false≢true h)
-self-equal (inf s) h = tt
-self-equal (fin s m e) h = tt
-
--- a pattern below the infinity's is no NaN's
-pub no-nan-bits : (n : ℕ) → n < 0x7ff0_0000_0000_0000 → T (not (nanBits binary64 n))
-no-nan-bits n h =
-    let same : n % 2 ^ 63 ≡ n = mod-eq-of-lt (lt-trans h (lit< tt)) in
-    subst (λ (b : Bool). T (not b)) (sym (nanBits-above binary64 n ∙ le-ltb 0x7ff0_0000_0000_0000 (n % 2 ^ 63) (rw same (le-of-lt h)))) tt
-
 module _ (x : Float) (h : fits binary64 x ≡ true) (up : Above x) where
   pub not-zero : 0 < toBits binary64 x
-  not-zero = elim (eq-zero-or-pos (toBits binary64 x)) [ inl z ↦ absurd (none (subst Above (fields-of x h up .1 ∙ ap (λ (b : ℕ). ofFields binary64 false (b / 2 ^ 52) (b % 2 ^ 52)) z) up)) | inr p ↦ p ]
+  not-zero =
+      elim (eq-zero-or-pos (toBits binary64 x)) [
+        | inl z ↦ absurd (none (subst Above (fields-of x h up .1 ∙ ap (λ (b : ℕ). ofFields binary64 false (b / 2 ^ 52) (b % 2 ^ 52)) z) up))
+        | inr p ↦ p
+      ]
 
   pub subnormal-root : toBits binary64 x < 2 ^ 52 → sqrtOf x ≡ roundedRoot (toBits binary64 x * 2 ^ 126)
   subnormal-root small =
       let b = toBits binary64 x in
       let E : b / 2 ^ 52 ≡ 0 = omega arith in
-      let is : x ≡ ofFields binary64 false 0 b = fields-of x h up .1 ∙ ap (λ (z : ℕ). ofFields binary64 false z (b % 2 ^ 52)) E ∙ ap (λ (z : ℕ). ofFields binary64 false 0 z) (mod-eq-of-lt small) in
+      let is : x ≡ ofFields binary64 false 0 b =
+      fields-of x h up .1 ∙ ap (λ (z : ℕ). ofFields binary64 false z (b % 2 ^ 52)) E ∙ ap (λ (z : ℕ). ofFields binary64 false 0 z) (mod-eq-of-lt small) in
       value-root x b not-zero (subst (λ (z : Float). HasValue z false b (2 ^ 1074)) (sym is) (subnormal-value b))
 
   pub normal-root : 2 ^ 52 ≤ toBits binary64 x → toBits binary64 x < 0x7ff0_0000_0000_0000
@@ -167,10 +120,14 @@ module _ (x : Float) (h : fits binary64 x ≡ true) (up : Above x) where
       let b = toBits binary64 x in
       let E = b / 2 ^ 52 in
       let t = b % 2 ^ 52 in
-      let value = normal-value E t (omega arith) (omega arith) in
+      let w = (2 ^ 52 + t) * 2 ^ (E - 1) in
+      let value : HasValue x false w (2 ^ 1074) =
+      subst (λ (z : Float). HasValue z false w (2 ^ 1074)) (sym (fields-of x h up .1)) (normal-value E t (omega arith) (omega arith)) in
       let exponent : E - 1 + 126 ≡ E + 1023 - 898 = omega arith in
-      value-root x ((2 ^ 52 + t) * 2 ^ (E - 1)) (mul-pos (omega arith) (pow-pos (E - 1))) (subst (λ (z : Float). HasValue z false ((2 ^ 52 + t) * 2 ^ (E - 1)) (2 ^ 1074)) (sym (fields-of x h up .1)) value)
-      ∙ ap roundedRoot (mul-assoc (2 ^ 52 + t) (2 ^ (E - 1)) (2 ^ 126) ∙ ap (λ (z : ℕ). (2 ^ 52 + t) * z) (sym (pow-add 2 (E - 1) 126) ∙ ap (λ (z : ℕ). 2 ^ z) exponent) ∙ ap (λ (z : ℕ). z * 2 ^ (E + 1023 - 898)) (add-comm (2 ^ 52) t))
+      let scaled : w * 2 ^ 126 ≡ (2 ^ 52 + t) * 2 ^ (E + 1023 - 898) =
+      mul-assoc (2 ^ 52 + t) (2 ^ (E - 1)) (2 ^ 126) ∙ ap (λ (z : ℕ). (2 ^ 52 + t) * z) (sym (pow-add 2 (E - 1) 126) ∙ ap (λ (z : ℕ). 2 ^ z) exponent) in
+      value-root x w (mul-pos (omega arith) (pow-pos (E - 1))) value
+      ∙ ap roundedRoot (scaled ∙ ap (λ (z : ℕ). z * 2 ^ (E + 1023 - 898)) (add-comm (2 ^ 52) t))
 
   pub infinite-root : 0x7ff0_0000_0000_0000 ≤ toBits binary64 x → x ≡ sqrtOf x
   infinite-root lo =

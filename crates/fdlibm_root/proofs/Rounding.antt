@@ -1,13 +1,13 @@
--- Where `round` lands: within half a unit of s, in the binade of s, it gives s. And a float's pattern from its value.
-use Prim.Native.Nat.{ℕ, zero, suc, _+_, _-_, _*_, _/_, _%_, _^_, _≤_, _<_, compare, Ordering, Ordering·lt, Ordering·eq, Ordering·gt}
-use mathlib.Core.Path.{_≡_, refl, sym, ap, _∙_, subst}
-use mathlib.Core.Bool.{Bool, true, false, not, cond, true≢false}
-use native.Mathlib.Nat.{le-antisymm, le-of-eq, lt-of-le-of-lt, lt-of-lt-of-le, lt-of-not-le, not-le-of-lt, lt-of-mul-lt-mul-right, mul-comm, mul-assoc, mul-right-comm, mul-pos, mul-div-cancel, mul-le-mul-right, mul-lt-mul-of-pos-right, div-add-mod', mod-lt}
+-- `round` of a number in the binade of s, and within half a unit of s, is s; and the pattern of that float.
+use Prim.Native.Nat.{ℕ, _+_, _-_, _*_, _/_, _%_, _^_, _≤_, _<_, compare, Ordering, Ordering·lt, Ordering·eq, Ordering·gt}
+use mathlib.Core.Path.{_≡_, sym, ap, _∙_, subst}
+use mathlib.Core.Bool.{true, false, not, true≢false}
+use native.Mathlib.Nat.{lt-of-lt-of-le, lt-of-not-le, not-le-of-lt, lt-of-mul-lt-mul-right, mul-assoc, mul-pos, mul-div-cancel, mul-le-mul-right, div-add-mod', mod-lt}
 use native.Mathlib.Omega.{arith}
-use lib.Dec.{T, isLe, isEq, leb→le, nleb→lt, eqb→eq, eqb-refl, ltb, eqb, lit<}
+use lib.Dec.{T, isLe, isEq, leb→le, nleb→lt, eqb→eq, eqb-refl, eqb}
 use lib.Arith.{lt-of-le-ne}
 use lib.Pow.{pow-add, pow-pos, pow-mono, shl-lt}
-use lib.Ieee.{Float, nan, inf, fin, binary64, up, down, size, nearest, units, round, fits, toBits, ofBits}
+use lib.Ieee.{Float, fin, binary64, up, down, size, nearest, units, round, fits, toBits, ofBits}
 use lib.Ieee.Digits.{size-lt, size-le}
 use lib.Ieee.Fits.{round-is, round-fits, down-pos}
 use lib.Ieee.Nearest.{closest, closest-same}
@@ -29,7 +29,8 @@ compared a b = go (compare a b) (leb→le a b) (nleb→lt a b) (eqb→eq a b) (�
     go Ordering·gt h k e n = k tt
 
 -- q * b + t is a, which is within half of b of s * b
-nearest-is : (q t b s : ℕ) (o : Ordering) → Compared o (t * 2) b → t < b → 2 * s * b < 2 * (q * b + t) + b → 2 * (q * b + t) < 2 * s * b + b → nearest q o ≡ s
+nearest-is : (q t b s : ℕ) (o : Ordering) → Compared o (t * 2) b → t < b
+    → 2 * s * b < 2 * (q * b + t) + b → 2 * (q * b + t) < 2 * s * b + b → nearest q o ≡ s
 nearest-is q t b s Ordering·lt c r lo hi =
     let x : 2 * s * b < (2 * q + 2) * b = omega arith in
     let y : 2 * q * b < (2 * s + 1) * b = omega arith in
@@ -65,7 +66,7 @@ dropped n j lo hi =
     let least : 52 + j < size n = lt-of-not-le (λ (g : size n ≤ 52 + j). not-le-of-lt (lt-of-lt-of-le (size-lt n) (pow-mono g)) lo) in
     omega arith
 
-pub round-to : (U D s j : ℕ) → D ≡ 2 ^ 1074 → 2 ^ (52 + j) ≤ U → U < 2 ^ (53 + j) → 2 * s * 2 ^ j < 2 * U + 2 ^ j → 2 * U < 2 * s * 2 ^ j + 2 ^ j
+round-to : (U D s j : ℕ) → D ≡ 2 ^ 1074 → 2 ^ (52 + j) ≤ U → U < 2 ^ (53 + j) → 2 * s * 2 ^ j < 2 * U + 2 ^ j → 2 * U < 2 * s * 2 ^ j + 2 ^ j
     → round binary64 false U D ≡ units binary64 false s j
 round-to U D s j e lo hi near-lo near-hi =
     let P : 0 < D = rw e (pow-pos 1074) in
@@ -74,10 +75,12 @@ round-to U D s j e lo hi near-lo near-hi =
     let scaled : U * 2 ^ 1074 * 2 ^ j ≡ U * (D * 2 ^ j) = rw (← e) (mul-assoc U D (2 ^ j)) in
     round-is binary64 false U D
     ∙ ap (λ (z : ℕ). units binary64 false (closest (U * 2 ^ 1074) (D * 2 ^ z)) z) k
-    ∙ ap (λ (z : ℕ). units binary64 false z j) (closest-same (U * 2 ^ 1074) (D * 2 ^ j) U (2 ^ j) (mul-pos P (pow-pos j)) (pow-pos j) scaled ∙ closest-is U (2 ^ j) s (pow-pos j) near-lo near-hi)
+    ∙ ap (λ (z : ℕ). units binary64 false z j)
+    (closest-same (U * 2 ^ 1074) (D * 2 ^ j) U (2 ^ j) (mul-pos P (pow-pos j)) (pow-pos j) scaled ∙ closest-is U (2 ^ j) s (pow-pos j) near-lo near-hi)
 
 -- ---- the pattern of s * 2 ^ j smallest floats, s having 53 digits
-pattern-is : (v : Float) (s j : ℕ) → 2 ^ (52 + j) ≤ s * 2 ^ j → s * 2 ^ j < 2 ^ (53 + j) → HasValue v false (s * 2 ^ j) (2 ^ 1074) → toBits binary64 v ≡ j * 2 ^ 52 + s
+pattern-is : (v : Float) (s j : ℕ) → 2 ^ (52 + j) ≤ s * 2 ^ j → s * 2 ^ j < 2 ^ (53 + j) → HasValue v false (s * 2 ^ j) (2 ^ 1074)
+    → toBits binary64 v ≡ j * 2 ^ 52 + s
 unfolding toBits
 pattern-is (fin false m e) s j lo hi v =
     let n : m * up e * 2 ^ 1074 / down e ≡ s * 2 ^ j = ap (λ (z : ℕ). z / down e) (v .1) ∙ mul-div-cancel (s * 2 ^ j) (down-pos e) in

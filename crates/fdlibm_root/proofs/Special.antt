@@ -2,7 +2,7 @@
 use Prim.Native.Nat.{ℕ, zero, suc, _*_, _<_}
 use mathlib.Core.Path.{_≡_, refl, sym, ap, _∙_, subst}
 use mathlib.Core.Bool.{Bool, true, false, _&&_, _||_, Bool·beq, false≢true, true≢false}
-use native.Mathlib.Nat.{lt-irrefl, mul-one, mul-pos, zero-lt-suc, zero-mul}
+use native.Mathlib.Nat.{lt-irrefl, mul-pos, zero-lt-suc, zero-mul}
 use lib.IntN.{ℤ, pos}
 use lib.Dec.{T, eqb, ltb, eqb→eq, lt→ltb}
 use lib.Ieee.{Float, nan, inf, fin, up, down, lt, eq}

@@ -79,9 +79,8 @@ even-or-odd : (q s r : ℕ) → s ≡ (q + 1) / 2 → (q + 1) % 2 ≡ r → (q �
 even-or-odd q s zero e h = inr (omega arith)
 even-or-odd q s (suc r) e h = inl (omega arith)
 
-pub rounded : (m q : ℕ) → 0 < m → Root (m * 2 ^ 54) q → Near m ((q + 1) / 2)
-rounded m q h root =
-    let s = (q + 1) / 2 in
+pub rounded : (m q s : ℕ) → 0 < m → Root (m * 2 ^ 54) q → s ≡ (q + 1) / 2 → Near m s
+rounded m q s h root e =
     let least : 0 < q = some (m * 2 ^ 54) q (omega arith) (root .above) in
-    let bounds = halves (m * 2 ^ 52) q s (omega (arith, root .within)) (omega (arith, root .above)) (omega arith) (even-or-odd q s ((q + 1) % 2) refl refl) in
+    let bounds = halves (m * 2 ^ 52) q s (omega (arith, root .within)) (omega (arith, root .above)) (omega arith) (even-or-odd q s ((q + 1) % 2) e refl) in
     record { low = bounds .0; high = bounds .1 }

@@ -1,42 +1,47 @@
 -- From the whole number s nearest to the root of m * 2 ^ 52 to the float that `roundedRoot` defines.
--- With n = 4 * m * 2 ^ 52 * P * P the root of n lies strictly between (2 s - 1) * P and (2 s + 1) * P, and so does its cut form with the last digit that stands for the rest.
-use Prim.Native.Nat.{ℕ, zero, suc, _+_, _-_, _*_, _/_, _%_, _^_, _≤_, _<_}
-use mathlib.Core.Path.{_≡_, refl, sym, ap, _∙_, subst}
+-- With n = 4 * m * 2 ^ 52 * P * P the root of n lies strictly between (2 s - 1) * P and (2 s + 1) * P,
+-- and so does half of what is rounded, the cut root with the digit that stands for the rest.
+use Prim.Native.Nat.{ℕ, _+_, _-_, _*_, _^_, _≤_, _<_}
+use mathlib.Core.Path.{_≡_, refl, sym, ap, _∙_}
 use mathlib.Core.Bool.{Bool, true, false, cond}
-use native.Mathlib.Nat.{lt-trans, lt-of-le-of-lt, lt-of-lt-of-le, lt-of-not-le, mul-comm, mul-assoc, mul-left-comm, mul-add, add-mul, mul-pos, mul-le-mul, mul-le-mul-left, mul-le-mul-right, mul-lt-mul-of-pos-right}
+use native.Mathlib.Nat.{lt-trans, lt-of-le-of-lt, lt-of-not-le, mul-comm, mul-assoc, mul-left-comm, mul-add, add-mul, mul-pos, mul-le-mul, mul-le-mul-left, mul-le-mul-right, mul-lt-mul-of-pos-right}
 use native.Mathlib.Omega.{arith}
-use lib.Dec.{eqb, lit<, lit≤}
+use lib.Dec.{eqb, lit≤}
 use lib.Pow.{pow-add, pow-pos}
-use lib.Ieee.{Float, binary64, round, ofBits}
+use lib.Ieee.{binary64, ofBits}
 use lib.Ieee.Scale.{round-same}
-use borrow.Author.Tests.{eqb-true, eqb-false}
-use Rattle.fdlibm_root.specs.Root.{Root, wholeRoot, roundedRoot}
+use borrow.Author.Tests.{eqb-true}
+use Rattle.fdlibm_root.specs.Root.{Root, wholeRoot, rest, roundedRoot}
 use Rattle.fdlibm_root.specs.RootLaws.{whole-root, smaller}
 use Rattle.fdlibm_root.specs.Near.{Near}
 use Rattle.fdlibm_root.proofs.Rounding.{round-pattern}
 
 -- ---- between A and B, for the root of an n between their squares
-below-root : (n r A : ℕ) (b : Bool) → eqb (r * r) n ≡ b → Root n r → A * A < n → 2 * A < 2 * r + cond b 0 1
-below-root n r A true e root lo =
-    let less : A < r = smaller A r (rw (eqb-true (r * r) n e) lo) in
-    omega arith
-below-root n r A false e root lo =
-    let less : A < r + 1 = smaller A (r + 1) (lt-trans lo (root .above)) in
-    omega arith
-
-above-root : (n r B : ℕ) (b : Bool) → Root n r → n < B * B → 2 * r + cond b 0 1 < 2 * B
-above-root n r B b root hi =
-    let less : r < B = smaller r B (lt-of-le-of-lt (root .within) hi) in
-    omega (arith, last b)
+below-root : (n r A : ℕ) → Root n r → A * A < n → 2 * A < 2 * r + rest n r
+below-root n r A root lo = go (eqb (r * r) n) refl
   where
-    last : (b : Bool) → cond b 0 1 ≤ 1
-    last true = lit≤ tt
-    last false = lit≤ tt
+    go : (b : Bool) → eqb (r * r) n ≡ b → 2 * A < 2 * r + rest n r
+    go true e =
+        let less : A < r = smaller A r (rw (eqb-true (r * r) n e) lo) in
+        omega arith
+    go false e =
+        let less : A < r + 1 = smaller A (r + 1) (lt-trans lo (root .above)) in
+        let more : rest n r ≡ 1 = simp e in
+        omega arith
 
--- ---- the bounds, for n = 4 * M * P * P with s * (s - 1) < M ≤ s * (s + 1)
+above-root : (n r B : ℕ) → Root n r → n < B * B → 2 * r + rest n r < 2 * B
+above-root n r B root hi =
+    let less : r < B = smaller r B (lt-of-le-of-lt (root .within) hi) in
+    omega (arith, one (eqb (r * r) n))
+  where
+    one : (b : Bool) → cond b 0 1 ≤ 1
+    one true = lit≤ tt
+    one false = lit≤ tt
+
+-- ---- squares times P * P
 ruleset ring = (mul-assoc, mul-comm, mul-left-comm, mul-add, add-mul)
 
-module _ (M s P n : ℕ) (P-pos : 0 < P) (is : n ≡ 4 * M * (P * P)) where
+module _ (M P n : ℕ) (P-pos : 0 < P) (is : n ≡ 4 * M * (P * P)) where
   square-above : (a : ℕ) → a * a < 4 * M → a * P * (a * P) < n
   square-above a h = rw is (simp ring (simp ring at (mul-lt-mul-of-pos-right h (mul-pos P-pos P-pos))))
 
@@ -46,7 +51,7 @@ module _ (M s P n : ℕ) (P-pos : 0 < P) (is : n ≡ 4 * M * (P * P)) where
   square-within : (a : ℕ) → a * a ≤ 4 * M → a * P * (a * P) ≤ n
   square-within a h = rw is (simp ring (simp ring at (mul-le-mul-right (P * P) h)))
 
--- s has 53 digits
+-- ---- s has 53 digits
 too-few : (s M k : ℕ) → s + 1 ≤ k → M ≤ s * s + s → k * k ≤ M → ⊥
 too-few s M k h hi lo = let product : (s + 1) * (s + 1) ≤ k * k = mul-le-mul h h in omega arith
 
@@ -56,7 +61,7 @@ too-many s M k h lo hi =
     let b : k * (k + 1) ≤ k * s = mul-le-mul-left k h in
     omega arith
 
-pub near-lo : (m s : ℕ) → Near m s → 2 ^ 52 ≤ m → 2 ^ 52 ≤ s
+near-lo : (m s : ℕ) → Near m s → 2 ^ 52 ≤ m → 2 ^ 52 ≤ s
 near-lo m s near h =
     let few : s + 1 ≤ 2 ^ 52 → ⊥ = λ g. too-few s (m * 2 ^ 52) (2 ^ 52) g (near .high) (mul-le-mul-right (2 ^ 52) h) in
     omega arith
@@ -64,10 +69,13 @@ near-lo m s near h =
 pub near-hi : (m s : ℕ) → Near m s → m ≤ 18014398509481982 → s < 2 ^ 53
 near-hi m s near h = lt-of-not-le (λ (g : 2 ^ 53 ≤ s). too-many s (m * 2 ^ 52) 9007199254740991 g (near .low) (mul-le-mul-right (2 ^ 52) h))
 
--- v between 2 * t * P and 2 * (2 * s + 1) * P, in the units of `round`: Q of them to each of v's
+-- ---- v between 2 * t * P and 2 * (2 * s + 1) * P, in the units of `round`: Q of them to each of v's
 module _ (s t P Q v w : ℕ) (Q-pos : 0 < Q) (odd : t + 1 ≡ 2 * s) (unit : w ≡ 4 * (P * Q)) where
   unit-lo : 2 * (t * P) < v → 2 * s * w < 2 * (v * Q) + w
-  unit-lo h = let a : 2 * (t * P) * Q < v * Q = mul-lt-mul-of-pos-right h Q-pos in let b : (t + 1) * (P * Q) ≡ 2 * s * (P * Q) = ap (λ (z : ℕ). z * (P * Q)) odd in rw unit (omega arith)
+  unit-lo h =
+      let a : 2 * (t * P) * Q < v * Q = mul-lt-mul-of-pos-right h Q-pos in
+      let b : (t + 1) * (P * Q) ≡ 2 * s * (P * Q) = ap (λ (z : ℕ). z * (P * Q)) odd in
+      rw unit (omega arith)
 
   unit-hi : v < 2 * ((2 * s + 1) * P) → 2 * (v * Q) < 2 * s * w + w
   unit-hi h = let a : v * Q < 2 * ((2 * s + 1) * P) * Q = mul-lt-mul-of-pos-right h Q-pos in rw unit (omega arith)
@@ -78,6 +86,7 @@ module _ (s t P Q v w : ℕ) (Q-pos : 0 < Q) (odd : t + 1 ≡ 2 * s) (unit : w �
   digits-hi : (k : ℕ) → v < k * 4 * P → v * Q < k * w
   digits-hi k h = let a : v * Q < k * 4 * P * Q = mul-lt-mul-of-pos-right h Q-pos in rw unit (omega arith)
 
+-- ---- the whole of it: P is 2 ^ i, Q is 2 ^ 473, and round drops i + 475 digits
 odd-below : (s t M : ℕ) → t + 1 ≡ 2 * s → s * s < M + s → t * t < 4 * M
 odd-below s t M odd h = let squares : (t + 1) * (t + 1) ≡ 2 * s * (2 * s) = ap (λ (z : ℕ). z * z) odd in omega arith
 
@@ -92,23 +101,24 @@ rounded-root m s i n near m-lo m-hi small is =
     let P = 2 ^ i in
     let Q = 2 ^ 473 in
     let r = wholeRoot n in
-    let b = eqb (r * r) n in
-    let v = 2 * r + cond b 0 1 in
+    let v = 2 * r + rest n r in
     let root = whole-root n in
-    let P-pos : 0 < P = pow-pos i in
+    let t = 2 * s - 1 in
+    let w = 2 ^ (i + 475) in
     let s-lo = near-lo m s near m-lo in
     let s-hi = near-hi m s near m-hi in
-    let odd : 2 * s - 1 + 1 ≡ 2 * s = twice s s-lo in
-    let unit : 2 ^ (i + 475) ≡ 4 * (P * Q) = pow-add 2 i 475 ∙ mul-left-comm P 4 Q in
-    let lo : 2 * ((2 * s - 1) * P) < v = below-root n r ((2 * s - 1) * P) b refl root (square-above M s P n P-pos is (2 * s - 1) (odd-below s (2 * s - 1) M odd (near .low))) in
-    let hi : v < 2 * ((2 * s + 1) * P) = above-root n r ((2 * s + 1) * P) b root (square-below M s P n P-pos is (2 * s + 1) (odd-above s M (near .high))) in
-    let first : 2 ^ 53 * P < r + 1 = smaller (2 ^ 53 * P) (r + 1) (lt-of-le-of-lt (square-within M s P n P-pos is (2 ^ 53) (mul-le-mul-left 4 (mul-le-mul-right (2 ^ 52) m-lo))) (root .above)) in
+    let odd : t + 1 ≡ 2 * s = twice s s-lo in
+    let unit : w ≡ 4 * (P * Q) = pow-add 2 i 475 ∙ mul-left-comm P 4 Q in
+    let lo : 2 * (t * P) < v = below-root n r (t * P) root (square-above M P n (pow-pos i) is t (odd-below s t M odd (near .low))) in
+    let hi : v < 2 * ((2 * s + 1) * P) = above-root n r ((2 * s + 1) * P) root (square-below M P n (pow-pos i) is (2 * s + 1) (odd-above s M (near .high))) in
+    let leading : 2 ^ 53 * P * (2 ^ 53 * P) ≤ n = square-within M P n (pow-pos i) is (2 ^ 53) (mul-le-mul-left 4 (mul-le-mul-right (2 ^ 52) m-lo)) in
+    let first : 2 ^ 53 * P < r + 1 = smaller (2 ^ 53 * P) (r + 1) (lt-of-le-of-lt leading (root .above)) in
     round-same binary64 false v (2 ^ 601) (v * Q) (2 ^ 1074) (pow-pos 601) (pow-pos 1074) (sym (mul-assoc v Q (2 ^ 601)))
     ∙ round-pattern (v * Q) (2 ^ 1074) s (i + 475) refl s-lo s-hi (below i small)
-    (rw (pow-add 2 52 (i + 475)) (digits-lo s (2 * s - 1) P Q v (2 ^ (i + 475)) (pow-pos 473) odd unit (2 ^ 52) (least P r (cond b 0 1) first)))
-    (rw (pow-add 2 53 (i + 475)) (digits-hi s (2 * s - 1) P Q v (2 ^ (i + 475)) (pow-pos 473) odd unit (2 ^ 53) (most s P v s-hi hi)))
-    (unit-lo s (2 * s - 1) P Q v (2 ^ (i + 475)) (pow-pos 473) odd unit lo)
-    (unit-hi s (2 * s - 1) P Q v (2 ^ (i + 475)) (pow-pos 473) odd unit hi)
+    (rw (pow-add 2 52 (i + 475)) (digits-lo s t P Q v w (pow-pos 473) odd unit (2 ^ 52) (least P r (rest n r) first)))
+    (rw (pow-add 2 53 (i + 475)) (digits-hi s t P Q v w (pow-pos 473) odd unit (2 ^ 53) (most s P v s-hi hi)))
+    (unit-lo s t P Q v w (pow-pos 473) odd unit lo)
+    (unit-hi s t P Q v w (pow-pos 473) odd unit hi)
   where
     twice : (s : ℕ) → 2 ^ 52 ≤ s → 2 * s - 1 + 1 ≡ 2 * s
     twice s h = omega arith

@@ -1,3 +1,4 @@
 pub mod Root
 pub mod RootLaws
+pub mod Vectors
 pub mod Near

@@ -19,10 +19,14 @@ digits (suc k) n = let r = 2 * digits k (n / 4) in cond (leb ((r + 1) * (r + 1))
 unfoldable pub wholeRoot : ℕ → ℕ
 wholeRoot n = digits (size n) n
 
+-- 0 where r is all of n's root, and 1 where something was cut off
+abbrev pub rest : ℕ → ℕ → ℕ
+rest n r = cond (eqb (r * r) n) 0 1
+
 -- The root of n / 2 ^ 1200, rounded: r / 2 ^ 600 is the root cut to 600 binary places.
--- An odd last digit stands for what was cut off, so that the one rounding sees on which side of a tie the root lies.
+-- One more digit stands for all that was cut off, so that the one rounding sees on which side of a tie the root lies.
 unfoldable pub roundedRoot : ℕ → Float
-roundedRoot n = let r = wholeRoot n in round binary64 false (2 * r + cond (eqb (r * r) n) 0 1) (2 ^ 601)
+roundedRoot n = let r = wholeRoot n in round binary64 false (2 * r + rest n r) (2 ^ 601)
 
 -- √x. The smallest float is 2 ^ -1074, so x * 2 ^ 1200 is a whole number.
 unfoldable pub sqrtOf : Float → Float

@@ -6,7 +6,8 @@ ghost use Rattle.fdlibm_root.specs.Near.{Near};
 // 1 / sqrt(f) is within 4 % of the float whose pattern is this less half of f's
 const GUESS: u64 = 0x5fe6_eb50_c7b5_37a9;
 
-const LEADING: u64 = 0x0010_0000_0000_0000;
+// the leading digit of a normal float's significand, which its pattern leaves out
+pub const LEADING: u64 = 0x0010_0000_0000_0000;
 
 // what is added to a residue, so that no number here is negative
 const OFFSET: u64 = 0x0080_0000_0000_0000;
@@ -60,13 +61,7 @@ pub fn corrected(m: u64, s: u64) -> u64
 {
     let z = residue(m, s);
     if z + 3 * s > OFFSET + 2 && z <= OFFSET + 3 * s + 2 {
-        if z > OFFSET + s {
-            s + 1
-        } else if z + s <= OFFSET {
-            s - 1
-        } else {
-            s
-        }
+        s + (z > OFFSET + s) as u64 - (z + s <= OFFSET) as u64
     } else {
         0
     }

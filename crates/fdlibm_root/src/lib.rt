@@ -1,4 +1,4 @@
-// The square root of an f64, correctly rounded, without the processor's instruction.
+// fdlibm's e_sqrt.c: the same results, the exact root rounded once, by another method.
 mod certify;
 mod digits;
 pub mod e_sqrt;

@@ -1,5 +1,4 @@
 -- Every product fits, and the difference is the one that the comment derives.
-use Prim.Native.Nat.{_/_, _%_, _^_}
 use native.Mathlib.Omega.{arith}
 use borrow.Author.Needs.{needs}
 use Rattle.fdlibm_root.proofs.Certificate.{halves, residue-is}

@@ -1,8 +1,7 @@
 -- Either the certificate or the digit loop.
-use mathlib.Core.Logic.{inl, inr}
 use native.Mathlib.Omega.{arith}
 use borrow.Author.Needs.{needs}
-use Rattle.fdlibm_root.proofs.Patterns.{doubled}
+use Rattle.fdlibm_root.proofs.Scaled.{doubled}
 use Rattle.fdlibm_root.proofs.e_sqrt.nearest.Statement.{statement}
 use Rattle.fdlibm_root.proofs.e_sqrt.nearest.Tie as tie
 

@@ -2,7 +2,7 @@
 use mathlib.Core.Path.{sym}
 use native.Mathlib.Omega.{arith}
 use borrow.Author.Needs.{needs}
-use Rattle.fdlibm_root.proofs.Patterns.{scaled-root, scaled-fits}
+use Rattle.fdlibm_root.proofs.Scaled.{scaled-root, scaled-fits}
 use Rattle.fdlibm_root.proofs.e_sqrt.root_pattern.Statement.{statement}
 use Rattle.fdlibm_root.proofs.e_sqrt.root_pattern.Tie as tie
 

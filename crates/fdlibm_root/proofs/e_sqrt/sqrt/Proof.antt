@@ -2,7 +2,8 @@
 use mathlib.Core.Path.{_∙_, sym}
 use lib.Ieee.{ofBits, div}
 use borrow.Author.Needs.{needs}
-use Rattle.fdlibm_root.proofs.Patterns.{no-nan, no-nan-bits, not-zero, subnormal-root, normal-root, infinite-root}
+use Rattle.fdlibm_root.proofs.NoNan.{no-nan, no-nan-bits}
+use Rattle.fdlibm_root.proofs.Patterns.{not-zero, subnormal-root, normal-root, infinite-root}
 use Rattle.fdlibm_root.proofs.Special.{zero-root, no-root}
 use Rattle.fdlibm_root.proofs.e_sqrt.sqrt.Statement.{statement}
 use Rattle.fdlibm_root.proofs.e_sqrt.sqrt.Tie as tie

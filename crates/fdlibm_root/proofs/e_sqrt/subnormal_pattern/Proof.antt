@@ -1,9 +1,8 @@
 -- The significand doubles up to its 53rd digit, and the number of places that it was moved counts down the exponent.
-use Prim.Native.Nat.{_-_, _^_}
+use Prim.Native.Nat.{_-_}
 use mathlib.Core.Path.{_∙_, ap}
-use native.Mathlib.Nat.{lt-trans}
 use native.Mathlib.Omega.{arith}
-use lib.Dec.{lit<, lit≤}
+use lib.Dec.{lit≤}
 use borrow.Author.Needs.{needs}
 use Rattle.fdlibm_root.specs.Root.{roundedRoot}
 use Rattle.fdlibm_root.proofs.Moved.{Moved, move, moved-same}

@@ -1,0 +1,29 @@
+-- Where a float or a pattern is no NaN's: what `f64::to_bits` and `f64::from_bits` ask.
+use Prim.Native.Nat.{ℕ, _%_, _^_, _<_}
+use mathlib.Core.Path.{_≡_, sym, _∙_, subst}
+use mathlib.Core.Bool.{Bool, true, not, false≢true}
+use native.Mathlib.Nat.{le-of-lt, lt-trans, mod-eq-of-lt}
+use lib.Dec.{T, lit<}
+use lib.Ieee.{Float, nan, inf, fin, binary64, isNan, lt, eq, nanBits}
+use lib.Ieee.Bits.{nanBits-above}
+use borrow.Author.Tests.{le-ltb}
+use Rattle.fdlibm_root.proofs.Patterns.{Above}
+
+pub no-nan : (x : Float) → Above x → T (not (isNan x))
+unfolding lt isNan
+no-nan nan h = absurd (false≢true h)
+no-nan (inf s) h = tt
+no-nan (fin s m e) h = tt
+
+-- a NaN does not equal itself
+pub self-equal : (x : Float) → eq x x ≡ true → T (not (isNan x))
+unfolding eq isNan
+self-equal nan h = absurd (false≢true h)
+self-equal (inf s) h = tt
+self-equal (fin s m e) h = tt
+
+-- a pattern below the infinity's is no NaN's
+pub no-nan-bits : (n : ℕ) → n < 0x7ff0_0000_0000_0000 → T (not (nanBits binary64 n))
+no-nan-bits n h =
+    let same : n % 2 ^ 63 ≡ n = mod-eq-of-lt (lt-trans h (lit< tt)) in
+    subst (λ (b : Bool). T (not b)) (sym (nanBits-above binary64 n ∙ le-ltb 0x7ff0_0000_0000_0000 (n % 2 ^ 63) (rw same (le-of-lt h)))) tt
