@@ -13,7 +13,8 @@ pub const LEADING: u64 = 0x0010_0000_0000_0000;
 const OFFSET: u64 = 0x0080_0000_0000_0000;
 
 // sqrt(f) * 2^52 for the f in [1, 4) with this pattern, nearly always right to a unit; only its size is promised.
-// g and y are near sqrt(f) and 1 / sqrt(f). Each of two steps multiplies them by the first terms of 1 / sqrt(1 - e), where g * y = 1 - e.
+// g and y are near sqrt(f) and 1 / sqrt(f). Each of two steps multiplies them by 1 / sqrt(1 - e) = 1 + e * (1/2 + 3/8 e + 5/16 e^2 + ..),
+// where g * y = 1 - e.
 pub fn estimate(pattern: u64) -> u64
     requires { ⌜ pattern < 0x4010_0000_0000_0000 ⌝ }
     ensures { λ r. ⌜ r < 2 ^ 53 ⌝ }
@@ -21,10 +22,10 @@ pub fn estimate(pattern: u64) -> u64
     let y = f64::from_bits(GUESS - pattern / 2);
     let g = f64::from_bits(pattern) * y;
     let e = 1.0 - g * y;
-    let p = e * 0.5 + e * e * (0.375 + e * 0.3125);
-    let g1 = g + g * p;
-    let e1 = 1.0 - g1 * (y + y * p);
-    let r = g1 + g1 * (e1 * 0.5 + e1 * e1 * (0.375 + e1 * 0.3125));
+    let p = 0.5 + e * 0.375 + e * e * 0.3125;
+    let g1 = g + g * e * p;
+    let e1 = 1.0 - g1 * (y + y * e * p);
+    let r = g1 + g1 * e1 * (0.5 + e1 * 0.375 + e1 * e1 * 0.3125);
     if r == r {
         f64::to_bits(r) % LEADING + LEADING
     } else {
