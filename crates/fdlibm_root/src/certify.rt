@@ -33,8 +33,9 @@ pub fn estimate(pattern: u64) -> u64
     }
 }
 
-// OFFSET + m * 2^52 - s * s, or 0 where m * 2^52 and s * s are further apart than OFFSET.
-// With s = a * 2^27 + b the difference is e * 2^52 - 2 * a * b * 2^27 - b * b, where e = m - 4 * a * a: `over` and `under` count its multiples of 2^27.
+// OFFSET + m * 2^52 - s * s, or 0 where the tests do not show that it is near OFFSET and can be worked out without a carry.
+// With s = a * 2^27 + b the difference is e * 2^52 - 2 * a * b * 2^27 - b * b, where e = m - 4 * a * a.
+// `over` and `under` count the multiples of 2^27 in OFFSET and e * 2^52, and in the rest.
 fn residue(m: u64, s: u64) -> u64
     requires { ⌜ (m < 2 ^ 54) × (s < 2 ^ 53) ⌝ }
     ensures { λ r. ⌜ (r < 2 ^ 57) × (0 < r → r + s * s ≡ 2 ^ 55 + m * 2 ^ 52) ⌝ }
@@ -55,7 +56,8 @@ fn residue(m: u64, s: u64) -> u64
     0
 }
 
-// The right root where it is s or next to s, and 0 elsewhere: s * s and (s ± 1) * (s ± 1) are 2 * s ± 1 apart, so the residue tells.
+// The whole number nearest to the root of m * 2^52 where it is s or next to s, and 0 elsewhere. For s + 1 it is, for example, where
+// m * 2^52 - s * s is above s, from s * (s + 1) on, and at most 3 * s + 2, up to (s + 1) * (s + 2).
 pub fn corrected(m: u64, s: u64) -> u64
     requires { ⌜ (m < 2 ^ 54) × (s < 2 ^ 53) ⌝ }
     ensures { λ r. ⌜ (0 < r → Near m r) ⌝ }
