@@ -13,7 +13,8 @@ pub const LEADING: u64 = 0x0010_0000_0000_0000;
 const OFFSET: u64 = 0x0080_0000_0000_0000;
 
 // sqrt(f) * 2^52 for the f in [1, 4) with this pattern, nearly always right to a unit; only its size is promised.
-// g and y are near sqrt(f) and 1 / sqrt(f). Each of two steps multiplies them by the first terms of 1 / sqrt(1 - e), where g * y = 1 - e.
+// g and y are near sqrt(f) and 1 / sqrt(f). Each of two steps multiplies them by 1 / sqrt(1 - e) = 1 + e * (1/2 + 3/8 e + 5/16 e^2 + ..),
+// where g * y = 1 - e.
 pub fn estimate(pattern: u64) -> u64
     requires { ⌜ pattern < 0x4010_0000_0000_0000 ⌝ }
     ensures { λ r. ⌜ r < 2 ^ 53 ⌝ }
@@ -21,10 +22,10 @@ pub fn estimate(pattern: u64) -> u64
     let y = f64::from_bits(GUESS - pattern / 2);
     let g = f64::from_bits(pattern) * y;
     let e = 1.0 - g * y;
-    let p = e * 0.5 + e * e * (0.375 + e * 0.3125);
-    let g1 = g + g * p;
-    let e1 = 1.0 - g1 * (y + y * p);
-    let r = g1 + g1 * (e1 * 0.5 + e1 * e1 * (0.375 + e1 * 0.3125));
+    let p = 0.5 + e * 0.375 + e * e * 0.3125;
+    let g1 = g + g * e * p;
+    let e1 = 1.0 - g1 * (y + y * e * p);
+    let r = g1 + g1 * e1 * (0.5 + e1 * 0.375 + e1 * e1 * 0.3125);
     if r == r {
         f64::to_bits(r) % LEADING + LEADING
     } else {
@@ -32,8 +33,9 @@ pub fn estimate(pattern: u64) -> u64
     }
 }
 
-// OFFSET + m * 2^52 - s * s, or 0 where m * 2^52 and s * s are further apart than OFFSET.
-// With s = a * 2^27 + b the difference is e * 2^52 - 2 * a * b * 2^27 - b * b, where e = m - 4 * a * a: `over` and `under` count its multiples of 2^27.
+// OFFSET + m * 2^52 - s * s, or 0 where the tests do not show that it is near OFFSET and can be worked out without a carry.
+// With s = a * 2^27 + b the difference is e * 2^52 - 2 * a * b * 2^27 - b * b, where e = m - 4 * a * a.
+// `over` and `under` count the multiples of 2^27 in OFFSET and e * 2^52, and in the rest.
 fn residue(m: u64, s: u64) -> u64
     requires { ⌜ (m < 2 ^ 54) × (s < 2 ^ 53) ⌝ }
     ensures { λ r. ⌜ (r < 2 ^ 57) × (0 < r → r + s * s ≡ 2 ^ 55 + m * 2 ^ 52) ⌝ }
@@ -54,7 +56,8 @@ fn residue(m: u64, s: u64) -> u64
     0
 }
 
-// The right root where it is s or next to s, and 0 elsewhere: s * s and (s ± 1) * (s ± 1) are 2 * s ± 1 apart, so the residue tells.
+// The whole number nearest to the root of m * 2^52 where it is s or next to s, and 0 elsewhere. For s + 1 it is, for example, where
+// m * 2^52 - s * s is above s, from s * (s + 1) on, and at most 3 * s + 2, up to (s + 1) * (s + 2).
 pub fn corrected(m: u64, s: u64) -> u64
     requires { ⌜ (m < 2 ^ 54) × (s < 2 ^ 53) ⌝ }
     ensures { λ r. ⌜ (0 < r → Near m r) ⌝ }
