@@ -1,0 +1,11 @@
+use lib.Ieee.{ofBits}
+use Rattle.models.specs.Settings.{parametersNewOf}
+use Rattle.models.proofs.parameters.Configuration.new.Statement.{statement}
+use Rattle.models.proofs.parameters.Configuration.new.Tie as tie
+
+returns : tie.Need-returns
+unfolding parametersNewOf ofBits
+returns c = cc
+
+pub new-spec : {M : Type 1} → statement M
+new-spec = tie.close (tie.spec (λ c κs. tt) (λ c κs. tt) returns)

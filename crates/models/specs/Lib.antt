@@ -1,0 +1,7 @@
+pub mod Numbers
+pub mod NumbersLaws
+pub mod Minutes
+pub mod Rules
+pub mod Settings
+pub mod Builder
+pub mod Presets

@@ -1,0 +1,79 @@
+-- The numbers by which an order and an answer name the cases of each enum, and the case of each number.
+-- A number that names none is taken for the last one's: the reader of an order refuses it before.
+use Prim.Native.Nat.{ℕ}
+use mathlib.Core.List.{[], _∷_}
+use lib.ListN.{getD}
+use Rattle.models.specs.declared.rounding.Rounding.{Rounding}
+use Rattle.models.specs.declared.rounding.Rounding.the-variants.{Nearest, Up, None}
+use Rattle.models.specs.declared.shafaq.Shafaq.{Shafaq}
+use Rattle.models.specs.declared.shafaq.Shafaq.the-variants.{General, Ahmer, Abyad}
+use Rattle.models.specs.declared.madhab.Madhab.{Madhab}
+use Rattle.models.specs.declared.madhab.Madhab.the-variants.{Shafi, Hanafi}
+use Rattle.models.specs.declared.high_altitude_rule.HighLatitudeRule.{HighLatitudeRule}
+use Rattle.models.specs.declared.high_altitude_rule.HighLatitudeRule.the-variants.{MiddleOfTheNight, SeventhOfTheNight, TwilightAngle}
+use Rattle.models.specs.declared.method.Method.{Method}
+use Rattle.models.specs.declared.method.Method.the-variants.{MuslimWorldLeague, Egyptian, Karachi, UmmAlQura, Dubai, MoonsightingCommittee, NorthAmerica, Kuwait, Qatar, Singapore, Tehran, Turkey, Other}
+use Rattle.models.specs.declared.prayer.Prayer.{Prayer}
+use Rattle.models.specs.declared.prayer.Prayer.the-variants.{Fajr, Sunrise, Dhuhr, Asr, Maghrib, Isha, Qiyam, FajrTomorrow}
+
+unfoldable pub roundingNumberOf : Rounding → ℕ
+roundingNumberOf Nearest = 0
+roundingNumberOf Up = 1
+roundingNumberOf None = 2
+
+unfoldable pub roundingOf : ℕ → Rounding
+roundingOf n = getD (Nearest ∷ Up ∷ []) n None
+
+unfoldable pub shafaqNumberOf : Shafaq → ℕ
+shafaqNumberOf General = 0
+shafaqNumberOf Ahmer = 1
+shafaqNumberOf Abyad = 2
+
+unfoldable pub shafaqOf : ℕ → Shafaq
+shafaqOf n = getD (General ∷ Ahmer ∷ []) n Abyad
+
+unfoldable pub madhabNumberOf : Madhab → ℕ
+madhabNumberOf Shafi = 1
+madhabNumberOf Hanafi = 2
+
+unfoldable pub madhabOf : ℕ → Madhab
+madhabOf n = getD (Hanafi ∷ Shafi ∷ []) n Hanafi
+
+unfoldable pub ruleNumberOf : HighLatitudeRule → ℕ
+ruleNumberOf MiddleOfTheNight = 0
+ruleNumberOf SeventhOfTheNight = 1
+ruleNumberOf TwilightAngle = 2
+
+unfoldable pub ruleOf : ℕ → HighLatitudeRule
+ruleOf n = getD (MiddleOfTheNight ∷ SeventhOfTheNight ∷ []) n TwilightAngle
+
+unfoldable pub methodNumberOf : Method → ℕ
+methodNumberOf MuslimWorldLeague = 0
+methodNumberOf Egyptian = 1
+methodNumberOf Karachi = 2
+methodNumberOf UmmAlQura = 3
+methodNumberOf Dubai = 4
+methodNumberOf MoonsightingCommittee = 5
+methodNumberOf NorthAmerica = 6
+methodNumberOf Kuwait = 7
+methodNumberOf Qatar = 8
+methodNumberOf Singapore = 9
+methodNumberOf Tehran = 10
+methodNumberOf Turkey = 11
+methodNumberOf Other = 12
+
+unfoldable pub methodOf : ℕ → Method
+methodOf n = getD (MuslimWorldLeague ∷ Egyptian ∷ Karachi ∷ UmmAlQura ∷ Dubai ∷ MoonsightingCommittee ∷ NorthAmerica ∷ Kuwait ∷ Qatar ∷ Singapore ∷ Tehran ∷ Turkey ∷ []) n Other
+
+unfoldable pub prayerNumberOf : Prayer → ℕ
+prayerNumberOf Fajr = 1
+prayerNumberOf Sunrise = 2
+prayerNumberOf Dhuhr = 3
+prayerNumberOf Asr = 4
+prayerNumberOf Maghrib = 5
+prayerNumberOf Isha = 6
+prayerNumberOf Qiyam = 7
+prayerNumberOf FajrTomorrow = 8
+
+unfoldable pub prayerOf : ℕ → Prayer
+prayerOf n = getD (FajrTomorrow ∷ Fajr ∷ Sunrise ∷ Dhuhr ∷ Asr ∷ Maghrib ∷ Isha ∷ Qiyam ∷ []) n FajrTomorrow

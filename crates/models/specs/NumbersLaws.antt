@@ -1,0 +1,65 @@
+-- Each case's number names that case.
+use mathlib.Core.Path.{_≡_, refl}
+use Rattle.models.specs.declared.rounding.Rounding.{Rounding}
+use Rattle.models.specs.declared.rounding.Rounding.the-variants.{Nearest, Up, None}
+use Rattle.models.specs.declared.shafaq.Shafaq.{Shafaq}
+use Rattle.models.specs.declared.shafaq.Shafaq.the-variants.{General, Ahmer, Abyad}
+use Rattle.models.specs.declared.madhab.Madhab.{Madhab}
+use Rattle.models.specs.declared.madhab.Madhab.the-variants.{Shafi, Hanafi}
+use Rattle.models.specs.declared.high_altitude_rule.HighLatitudeRule.{HighLatitudeRule}
+use Rattle.models.specs.declared.high_altitude_rule.HighLatitudeRule.the-variants.{MiddleOfTheNight, SeventhOfTheNight, TwilightAngle}
+use Rattle.models.specs.declared.method.Method.{Method}
+use Rattle.models.specs.declared.method.Method.the-variants.{MuslimWorldLeague, Egyptian, Karachi, UmmAlQura, Dubai, MoonsightingCommittee, NorthAmerica, Kuwait, Qatar, Singapore, Tehran, Turkey, Other}
+use Rattle.models.specs.declared.prayer.Prayer.{Prayer}
+use Rattle.models.specs.declared.prayer.Prayer.the-variants.{Fajr, Sunrise, Dhuhr, Asr, Maghrib, Isha, Qiyam, FajrTomorrow}
+use Rattle.models.specs.Numbers.{roundingNumberOf, roundingOf, shafaqNumberOf, shafaqOf, madhabNumberOf, madhabOf, ruleNumberOf, ruleOf, methodNumberOf, methodOf, prayerNumberOf, prayerOf}
+
+pub rounding-back : (c : Rounding) → roundingOf (roundingNumberOf c) ≡ c
+unfolding roundingNumberOf roundingOf
+rounding-back Nearest = refl
+rounding-back Up = refl
+rounding-back None = refl
+
+pub shafaq-back : (c : Shafaq) → shafaqOf (shafaqNumberOf c) ≡ c
+unfolding shafaqNumberOf shafaqOf
+shafaq-back General = refl
+shafaq-back Ahmer = refl
+shafaq-back Abyad = refl
+
+pub madhab-back : (c : Madhab) → madhabOf (madhabNumberOf c) ≡ c
+unfolding madhabNumberOf madhabOf
+madhab-back Shafi = refl
+madhab-back Hanafi = refl
+
+pub rule-back : (c : HighLatitudeRule) → ruleOf (ruleNumberOf c) ≡ c
+unfolding ruleNumberOf ruleOf
+rule-back MiddleOfTheNight = refl
+rule-back SeventhOfTheNight = refl
+rule-back TwilightAngle = refl
+
+pub method-back : (c : Method) → methodOf (methodNumberOf c) ≡ c
+unfolding methodNumberOf methodOf
+method-back MuslimWorldLeague = refl
+method-back Egyptian = refl
+method-back Karachi = refl
+method-back UmmAlQura = refl
+method-back Dubai = refl
+method-back MoonsightingCommittee = refl
+method-back NorthAmerica = refl
+method-back Kuwait = refl
+method-back Qatar = refl
+method-back Singapore = refl
+method-back Tehran = refl
+method-back Turkey = refl
+method-back Other = refl
+
+pub prayer-back : (c : Prayer) → prayerOf (prayerNumberOf c) ≡ c
+unfolding prayerNumberOf prayerOf
+prayer-back Fajr = refl
+prayer-back Sunrise = refl
+prayer-back Dhuhr = refl
+prayer-back Asr = refl
+prayer-back Maghrib = refl
+prayer-back Isha = refl
+prayer-back Qiyam = refl
+prayer-back FajrTomorrow = refl

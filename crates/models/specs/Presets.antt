@@ -1,0 +1,72 @@
+-- method.rs: each method's preset, a line a method.
+use Prim.Native.Nat.{ℕ}
+use lib.IntN.{pos, negℤ}
+use Rattle.float64.specs.Ops.{dec}
+use Rattle.models.specs.declared.adjustments.TimeAdjustment.{TimeAdjustment}
+use Rattle.models.specs.declared.high_altitude_rule.HighLatitudeRule.the-variants.{MiddleOfTheNight}
+use Rattle.models.specs.declared.madhab.Madhab.{Madhab}
+use Rattle.models.specs.declared.madhab.Madhab.the-variants.{Shafi}
+use Rattle.models.specs.declared.method.Method.{Method}
+use Rattle.models.specs.declared.method.Method.the-variants.{MuslimWorldLeague, Egyptian, Karachi, UmmAlQura, Dubai, MoonsightingCommittee, NorthAmerica, Kuwait, Qatar, Singapore, Tehran, Turkey, Other}
+use Rattle.models.specs.declared.parameters.Parameters.{Parameters}
+use Rattle.models.specs.declared.rounding.Rounding.{Rounding}
+use Rattle.models.specs.declared.rounding.Rounding.the-variants.{Nearest, Up}
+use Rattle.models.specs.declared.shafaq.Shafaq.the-variants.{General}
+use Rattle.models.specs.Minutes.{minutesOf, noMinutes}
+
+-- the Fajr, Isha and Maghrib angles in tenths of a degree, the Isha interval, the method's minutes and its rounding
+unfoldable pub preset : Method → ℕ → ℕ → ℕ → ℕ → TimeAdjustment → Rounding → Parameters
+unfolding dec
+preset method fajr isha maghrib interval minutes rounding =
+    record {
+      method = method;
+      «fajr_angle» = dec fajr 1;
+      «maghrib_angle» = dec maghrib 1;
+      «isha_angle» = dec isha 1;
+      «isha_interval» = pos interval;
+      madhab = Shafi;
+      «high_latitude_rule» = MiddleOfTheNight;
+      adjustments = noMinutes;
+      «method_adjustments» = minutes;
+      rounding = rounding;
+      shafaq = General;
+    }
+
+-- minutes of sunrise (taken off), Dhuhr, Asr and Maghrib (added)
+abbrev pub offset : ℕ → ℕ → ℕ → ℕ → TimeAdjustment
+offset sunrise dhuhr asr maghrib = minutesOf (pos 0) (negℤ (pos sunrise)) (pos dhuhr) (pos asr) (pos maghrib) (pos 0)
+
+--                                                    Fajr Isha Maghrib interval  sunrise Dhuhr Asr Maghrib
+unfoldable pub presetOf : Method → Parameters
+unfolding preset
+presetOf MuslimWorldLeague = preset MuslimWorldLeague 180 170 0 0 (offset 0 1 0 0) Nearest
+presetOf Egyptian = preset Egyptian 195 175 0 0 (offset 0 1 0 0) Nearest
+presetOf Karachi = preset Karachi 180 180 0 0 (offset 0 1 0 0) Nearest
+presetOf UmmAlQura = preset UmmAlQura 185 0 0 90 (offset 0 0 0 0) Nearest
+presetOf Dubai = preset Dubai 182 182 0 0 (offset 3 3 3 3) Nearest
+presetOf MoonsightingCommittee = preset MoonsightingCommittee 180 180 0 0 (offset 0 5 0 3) Nearest
+presetOf NorthAmerica = preset NorthAmerica 150 150 0 0 (offset 0 1 0 0) Nearest
+presetOf Kuwait = preset Kuwait 180 175 0 0 (offset 0 0 0 0) Nearest
+presetOf Qatar = preset Qatar 180 0 0 90 (offset 0 0 0 0) Nearest
+presetOf Singapore = preset Singapore 200 180 0 0 (offset 0 1 0 0) Up
+presetOf Tehran = preset Tehran 177 140 45 0 (offset 0 0 0 0) Nearest
+presetOf Turkey = preset Turkey 180 170 0 0 (offset 7 5 4 7) Nearest
+presetOf Other = preset Other 0 0 0 0 (offset 0 0 0 0) Nearest
+
+-- a preset with another madhab
+unfoldable pub withOf : Method → Madhab → Parameters
+withOf method madhab =
+    let p = presetOf method in
+    record {
+      method = p .method;
+      «fajr_angle» = p .«fajr_angle»;
+      «maghrib_angle» = p .«maghrib_angle»;
+      «isha_angle» = p .«isha_angle»;
+      «isha_interval» = p .«isha_interval»;
+      madhab = madhab;
+      «high_latitude_rule» = p .«high_latitude_rule»;
+      adjustments = p .adjustments;
+      «method_adjustments» = p .«method_adjustments»;
+      rounding = p .rounding;
+      shafaq = p .shafaq;
+    }

@@ -1,0 +1,63 @@
+-- parameters.rs: what the times are worked by, and its builder.
+use lib.IntN.{ℤ, pos, _+ℤ_}
+use lib.Ieee.{Float}
+use Rattle.float64.specs.Ops.{_/ᶠ_, dec}
+use Rattle.models.specs.declared.adjustments.TimeAdjustment.{TimeAdjustment}
+use Rattle.models.specs.declared.high_altitude_rule.HighLatitudeRule.{HighLatitudeRule}
+use Rattle.models.specs.declared.high_altitude_rule.HighLatitudeRule.the-variants.{MiddleOfTheNight, SeventhOfTheNight, TwilightAngle}
+use Rattle.models.specs.declared.madhab.Madhab.{Madhab}
+use Rattle.models.specs.declared.madhab.Madhab.the-variants.{Shafi}
+use Rattle.models.specs.declared.method.Method.{Method}
+use Rattle.models.specs.declared.method.Method.the-variants.{Other}
+use Rattle.models.specs.declared.parameters.NightPortions.{NightPortions}
+use Rattle.models.specs.declared.parameters.Parameters.{Parameters}
+use Rattle.models.specs.declared.prayer.Prayer.{Prayer}
+use Rattle.models.specs.declared.prayer.Prayer.the-variants.{Fajr, Sunrise, Dhuhr, Asr, Maghrib, Isha, Qiyam, FajrTomorrow}
+use Rattle.models.specs.declared.rounding.Rounding.{Rounding}
+use Rattle.models.specs.declared.rounding.Rounding.the-variants.{Nearest}
+use Rattle.models.specs.declared.shafaq.Shafaq.{Shafaq}
+use Rattle.models.specs.declared.shafaq.Shafaq.the-variants.{General}
+use Rattle.models.specs.Minutes.{noMinutes}
+
+-- both angles given, and everything else as it is where nothing is said
+unfoldable pub parametersNewOf : Float → Float → Parameters
+unfolding dec
+parametersNewOf fajr isha =
+    record {
+      method = Other;
+      «fajr_angle» = fajr;
+      «maghrib_angle» = dec 0 0;
+      «isha_angle» = isha;
+      «isha_interval» = pos 0;
+      madhab = Shafi;
+      «high_latitude_rule» = MiddleOfTheNight;
+      adjustments = noMinutes;
+      «method_adjustments» = noMinutes;
+      rounding = Nearest;
+      shafaq = General;
+    }
+
+-- the portions of the night by which Fajr and Isha are bounded
+unfoldable pub portionsOf : HighLatitudeRule → Float → Float → NightPortions
+unfolding dec
+portionsOf MiddleOfTheNight fajr isha = record { fajr = dec 1 0 /ᶠ dec 2 0; isha = dec 1 0 /ᶠ dec 2 0 }
+portionsOf SeventhOfTheNight fajr isha = record { fajr = dec 1 0 /ᶠ dec 7 0; isha = dec 1 0 /ᶠ dec 7 0 }
+portionsOf TwilightAngle fajr isha = record { fajr = fajr /ᶠ dec 60 0; isha = isha /ᶠ dec 60 0 }
+
+abbrev pub nightPortionsOf : Parameters → NightPortions
+nightPortionsOf p = portionsOf (p .«high_latitude_rule») (p .«fajr_angle») (p .«isha_angle»)
+
+-- a prayer's minutes of one kind; Qiyam and tomorrow's Fajr have none of their own
+unfoldable pub minutesFor : Prayer → TimeAdjustment → ℤ
+minutesFor Fajr m = m .fajr
+minutesFor Sunrise m = m .sunrise
+minutesFor Dhuhr m = m .dhuhr
+minutesFor Asr m = m .asr
+minutesFor Maghrib m = m .maghrib
+minutesFor Isha m = m .isha
+minutesFor Qiyam m = pos 0
+minutesFor FajrTomorrow m = pos 0
+
+-- a prayer's sum: own minutes and the method's
+unfoldable pub timeAdjustmentsOf : Parameters → Prayer → ℤ
+timeAdjustmentsOf p prayer = minutesFor prayer (p .adjustments) +ℤ minutesFor prayer (p .«method_adjustments»)

@@ -1,0 +1,48 @@
+// high_altitude_rule.rs: how Fajr and Isha are bounded where the night is short.
+ghost use mathlib.Core.Path.{_≡_};
+ghost use Rattle.models.specs.Numbers.{ruleNumberOf, ruleOf};
+ghost use Rattle.models.specs.Rules.{recommendedOf};
+use unit::Coordinates;
+
+pub enum HighLatitudeRule {
+    // Fajr is never before the middle of the night, and Isha never after it.
+    MiddleOfTheNight,
+    // Fajr is never before the last seventh of the night, and Isha never after the first.
+    SeventhOfTheNight,
+    // The portions are the Fajr and Isha angles, divided by 60.
+    TwilightAngle,
+}
+
+impl HighLatitudeRule {
+    pub fn recommended(coordinates: Coordinates) -> HighLatitudeRule
+        ensures { λ r. ⌜ r ≡ recommendedOf coordinates ⌝ }
+    {
+        if coordinates.latitude > 48.0 {
+            HighLatitudeRule::SeventhOfTheNight
+        } else {
+            HighLatitudeRule::MiddleOfTheNight
+        }
+    }
+
+    // The number by which an order names it.
+    pub fn number(self) -> u32
+        ensures { λ r. ⌜ r ≡ ruleNumberOf self ⌝ }
+    {
+        match self {
+            HighLatitudeRule::MiddleOfTheNight => 0,
+            HighLatitudeRule::SeventhOfTheNight => 1,
+            HighLatitudeRule::TwilightAngle => 2,
+        }
+    }
+
+    // And back; any other number is the last one's.
+    pub fn of_number(n: u32) -> HighLatitudeRule
+        ensures { λ r. ⌜ r ≡ ruleOf n ⌝ }
+    {
+        match n {
+            0 => HighLatitudeRule::MiddleOfTheNight,
+            1 => HighLatitudeRule::SeventhOfTheNight,
+            _ => HighLatitudeRule::TwilightAngle,
+        }
+    }
+}

@@ -1,0 +1,41 @@
+// madhab.rs: the school of law, which sets the time of Asr. It is later for Hanafi than for Shafi.
+ghost use mathlib.Core.Path.{_≡_};
+ghost use lib.IntN.{pos};
+ghost use Rattle.models.specs.Numbers.{madhabNumberOf, madhabOf};
+
+pub enum Madhab {
+    Shafi,
+    Hanafi,
+}
+
+impl Madhab {
+    // How many times its own length a shadow grows until Asr.
+    pub fn shadow(self) -> i32
+        ensures { λ r. ⌜ r ≡ pos (madhabNumberOf self) ⌝ }
+    {
+        match self {
+            Madhab::Shafi => 1,
+            Madhab::Hanafi => 2,
+        }
+    }
+
+    // The number by which an order names it.
+    pub fn number(self) -> u32
+        ensures { λ r. ⌜ r ≡ madhabNumberOf self ⌝ }
+    {
+        match self {
+            Madhab::Shafi => 1,
+            Madhab::Hanafi => 2,
+        }
+    }
+
+    // And back; any other number is the last one's.
+    pub fn of_number(n: u32) -> Madhab
+        ensures { λ r. ⌜ r ≡ madhabOf n ⌝ }
+    {
+        match n {
+            1 => Madhab::Shafi,
+            _ => Madhab::Hanafi,
+        }
+    }
+}

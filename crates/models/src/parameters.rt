@@ -1,0 +1,292 @@
+// parameters.rs: what the times are worked by, and its builder.
+ghost use mathlib.Core.Path.{_≡_};
+ghost use lib.IntN.{_+ℤ_};
+ghost use Rattle.models.specs.Settings.{parametersNewOf, nightPortionsOf, minutesFor, timeAdjustmentsOf};
+ghost use Rattle.models.specs.Builder.{configurationOf, doneOf, chosenOf, setMethod, setMethodAdjustments, setHighLatitudeRule, setMadhab, setIshaInterval, setMaghribAngle, setRounding, setShafaq};
+ghost use Rattle.models.specs.Presets.{withOf};
+use super::adjustments::TimeAdjustment;
+use super::high_altitude_rule::HighLatitudeRule;
+use super::madhab::Madhab;
+use super::method::Method;
+use super::prayer::Prayer;
+use super::rounding::Rounding;
+use super::shafaq::Shafaq;
+
+pub struct Parameters {
+    pub method: Method,
+    pub fajr_angle: f64,
+    pub maghrib_angle: f64,
+    pub isha_angle: f64,
+    pub isha_interval: i32,
+    pub madhab: Madhab,
+    pub high_latitude_rule: HighLatitudeRule,
+    pub adjustments: TimeAdjustment,
+    pub method_adjustments: TimeAdjustment,
+    pub rounding: Rounding,
+    pub shafaq: Shafaq,
+}
+
+// The sum of two numbers of minutes, which can't overflow.
+fn sum(a: i32, b: i32) -> i64
+    ensures { λ r. ⌜ r ≡ a +ℤ b ⌝ }
+{
+    a as i64 + b as i64
+}
+
+// A prayer's minutes of one kind; Qiyam and tomorrow's Fajr have none of their own.
+fn minutes_for(prayer: Prayer, minutes: TimeAdjustment) -> i32
+    ensures { λ r. ⌜ r ≡ minutesFor prayer minutes ⌝ }
+{
+    match prayer {
+        Prayer::Fajr => minutes.fajr,
+        Prayer::Sunrise => minutes.sunrise,
+        Prayer::Dhuhr => minutes.dhuhr,
+        Prayer::Asr => minutes.asr,
+        Prayer::Maghrib => minutes.maghrib,
+        Prayer::Isha => minutes.isha,
+        Prayer::Qiyam => 0,
+        Prayer::FajrTomorrow => 0,
+    }
+}
+
+pub struct NightPortions {
+    pub fajr: f64,
+    pub isha: f64,
+}
+
+impl Parameters {
+    pub fn new(fajr_angle: f64, isha_angle: f64) -> Parameters
+        ensures { λ r. ⌜ r ≡ parametersNewOf «fajr_angle» «isha_angle» ⌝ }
+    {
+        Parameters {
+            fajr_angle: fajr_angle,
+            maghrib_angle: 0.0,
+            isha_angle: isha_angle,
+            method: Method::Other,
+            isha_interval: 0,
+            madhab: Madhab::Shafi,
+            high_latitude_rule: HighLatitudeRule::MiddleOfTheNight,
+            adjustments: TimeAdjustment::default(),
+            method_adjustments: TimeAdjustment::default(),
+            rounding: Rounding::Nearest,
+            shafaq: Shafaq::General,
+        }
+    }
+
+    // The portions of the night by which Fajr and Isha are bounded.
+    pub fn night_portions(self) -> NightPortions
+        ensures { λ r. ⌜ r ≡ nightPortionsOf self ⌝ }
+    {
+        let rule = self.high_latitude_rule;
+        match rule {
+            HighLatitudeRule::MiddleOfTheNight => NightPortions {
+                fajr: 1.0 / 2.0,
+                isha: 1.0 / 2.0,
+            },
+            HighLatitudeRule::SeventhOfTheNight => NightPortions {
+                fajr: 1.0 / 7.0,
+                isha: 1.0 / 7.0,
+            },
+            HighLatitudeRule::TwilightAngle => NightPortions {
+                fajr: self.fajr_angle / 60.0,
+                isha: self.isha_angle / 60.0,
+            },
+        }
+    }
+
+    // A prayer's own minutes and the method's.
+    pub fn time_adjustments(self, prayer: Prayer) -> i64
+        ensures { λ r. ⌜ r ≡ timeAdjustmentsOf self prayer ⌝ }
+    {
+        let own = self.adjustments;
+        let preset = self.method_adjustments;
+        sum(minutes_for(prayer, own), minutes_for(prayer, preset))
+    }
+}
+
+// Builds Parameters, a field at a time.
+pub struct Configuration {
+    pub method: Method,
+    pub fajr_angle: f64,
+    pub maghrib_angle: f64,
+    pub isha_angle: f64,
+    pub isha_interval: i32,
+    pub madhab: Madhab,
+    pub high_latitude_rule: HighLatitudeRule,
+    pub adjustments: TimeAdjustment,
+    pub method_adjustments: TimeAdjustment,
+    pub rounding: Rounding,
+    pub shafaq: Shafaq,
+}
+
+impl Configuration {
+    pub fn new(fajr_angle: f64, isha_angle: f64) -> Configuration
+        ensures { λ r. ⌜ r ≡ configurationOf (parametersNewOf «fajr_angle» «isha_angle») ⌝ }
+    {
+        Configuration {
+            fajr_angle: fajr_angle,
+            maghrib_angle: 0.0,
+            isha_angle: isha_angle,
+            method: Method::Other,
+            isha_interval: 0,
+            madhab: Madhab::Shafi,
+            high_latitude_rule: HighLatitudeRule::MiddleOfTheNight,
+            adjustments: TimeAdjustment::default(),
+            method_adjustments: TimeAdjustment::default(),
+            rounding: Rounding::Nearest,
+            shafaq: Shafaq::General,
+        }
+    }
+
+    // The choices anew, the numbers as they were.
+    fn choosing(
+        self,
+        method: Method,
+        madhab: Madhab,
+        high_latitude_rule: HighLatitudeRule,
+        rounding: Rounding,
+        shafaq: Shafaq,
+    ) -> Configuration
+        ensures { λ r. ⌜ r ≡ chosenOf self method madhab «high_latitude_rule» rounding shafaq ⌝ }
+    {
+        let adjustments = self.adjustments;
+        let method_adjustments = self.method_adjustments;
+        Configuration {
+            method: method,
+            fajr_angle: self.fajr_angle,
+            maghrib_angle: self.maghrib_angle,
+            isha_angle: self.isha_angle,
+            isha_interval: self.isha_interval,
+            madhab: madhab,
+            high_latitude_rule: high_latitude_rule,
+            adjustments: adjustments,
+            method_adjustments: method_adjustments,
+            rounding: rounding,
+            shafaq: shafaq,
+        }
+    }
+
+    pub fn method(self, method: Method) -> Configuration
+        ensures { λ r. ⌜ r ≡ setMethod self method ⌝ }
+    {
+        let madhab = self.madhab;
+        let high_latitude_rule = self.high_latitude_rule;
+        let rounding = self.rounding;
+        let shafaq = self.shafaq;
+        self.choosing(method, madhab, high_latitude_rule, rounding, shafaq)
+    }
+
+    pub fn method_adjustments(mut self, method_adjustments: TimeAdjustment) -> Configuration
+        ensures { λ r. ⌜ r ≡ setMethodAdjustments self «method_adjustments» ⌝ }
+    {
+        self.method_adjustments = method_adjustments;
+        self
+    }
+
+    pub fn high_latitude_rule(self, high_latitude_rule: HighLatitudeRule) -> Configuration
+        ensures { λ r. ⌜ r ≡ setHighLatitudeRule self «high_latitude_rule» ⌝ }
+    {
+        let method = self.method;
+        let madhab = self.madhab;
+        let rounding = self.rounding;
+        let shafaq = self.shafaq;
+        self.choosing(method, madhab, high_latitude_rule, rounding, shafaq)
+    }
+
+    pub fn madhab(self, madhab: Madhab) -> Configuration
+        ensures { λ r. ⌜ r ≡ setMadhab self madhab ⌝ }
+    {
+        let method = self.method;
+        let high_latitude_rule = self.high_latitude_rule;
+        let rounding = self.rounding;
+        let shafaq = self.shafaq;
+        self.choosing(method, madhab, high_latitude_rule, rounding, shafaq)
+    }
+
+    // An interval takes the place of the Isha angle.
+    pub fn isha_interval(mut self, isha_interval: i32) -> Configuration
+        ensures { λ r. ⌜ r ≡ setIshaInterval self «isha_interval» ⌝ }
+    {
+        self.isha_angle = 0.0;
+        self.isha_interval = isha_interval;
+        self
+    }
+
+    pub fn maghrib_angle(mut self, angle: f64) -> Configuration
+        ensures { λ r. ⌜ r ≡ setMaghribAngle self angle ⌝ }
+    {
+        self.maghrib_angle = angle;
+        self
+    }
+
+    pub fn rounding(self, value: Rounding) -> Configuration
+        ensures { λ r. ⌜ r ≡ setRounding self value ⌝ }
+    {
+        let method = self.method;
+        let madhab = self.madhab;
+        let high_latitude_rule = self.high_latitude_rule;
+        let shafaq = self.shafaq;
+        self.choosing(method, madhab, high_latitude_rule, value, shafaq)
+    }
+
+    pub fn shafaq(self, value: Shafaq) -> Configuration
+        ensures { λ r. ⌜ r ≡ setShafaq self value ⌝ }
+    {
+        let method = self.method;
+        let madhab = self.madhab;
+        let high_latitude_rule = self.high_latitude_rule;
+        let rounding = self.rounding;
+        self.choosing(method, madhab, high_latitude_rule, rounding, value)
+    }
+
+    pub fn done(self) -> Parameters
+        ensures { λ r. ⌜ r ≡ doneOf self ⌝ }
+    {
+        let method = self.method;
+        let madhab = self.madhab;
+        let high_latitude_rule = self.high_latitude_rule;
+        let rounding = self.rounding;
+        let shafaq = self.shafaq;
+        let adjustments = self.adjustments;
+        let method_adjustments = self.method_adjustments;
+        Parameters {
+            method: method,
+            fajr_angle: self.fajr_angle,
+            maghrib_angle: self.maghrib_angle,
+            isha_angle: self.isha_angle,
+            isha_interval: self.isha_interval,
+            madhab: madhab,
+            high_latitude_rule: high_latitude_rule,
+            adjustments: adjustments,
+            method_adjustments: method_adjustments,
+            rounding: rounding,
+            shafaq: shafaq,
+        }
+    }
+
+    // A method's preset with another madhab.
+    pub fn with(method: Method, madhab: Madhab) -> Parameters
+        ensures { λ r. ⌜ r ≡ withOf method madhab ⌝ }
+    {
+        let preset = method.parameters();
+        let method = preset.method;
+        let high_latitude_rule = preset.high_latitude_rule;
+        let rounding = preset.rounding;
+        let shafaq = preset.shafaq;
+        let adjustments = preset.adjustments;
+        let method_adjustments = preset.method_adjustments;
+        Parameters {
+            method: method,
+            fajr_angle: preset.fajr_angle,
+            maghrib_angle: preset.maghrib_angle,
+            isha_angle: preset.isha_angle,
+            isha_interval: preset.isha_interval,
+            madhab: madhab,
+            high_latitude_rule: high_latitude_rule,
+            adjustments: adjustments,
+            method_adjustments: method_adjustments,
+            rounding: rounding,
+            shafaq: shafaq,
+        }
+    }
+}

@@ -1,0 +1,33 @@
+// rounding.rs: how a time is brought to a whole minute.
+ghost use mathlib.Core.Path.{_≡_};
+ghost use Rattle.models.specs.Numbers.{roundingNumberOf, roundingOf};
+
+pub enum Rounding {
+    Nearest,
+    Up,
+    None,
+}
+
+impl Rounding {
+    // The number by which an order names it.
+    pub fn number(self) -> u32
+        ensures { λ r. ⌜ r ≡ roundingNumberOf self ⌝ }
+    {
+        match self {
+            Rounding::Nearest => 0,
+            Rounding::Up => 1,
+            Rounding::None => 2,
+        }
+    }
+
+    // And back; any other number is the last one's.
+    pub fn of_number(n: u32) -> Rounding
+        ensures { λ r. ⌜ r ≡ roundingOf n ⌝ }
+    {
+        match n {
+            0 => Rounding::Nearest,
+            1 => Rounding::Up,
+            _ => Rounding::None,
+        }
+    }
+}
