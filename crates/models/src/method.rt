@@ -1,11 +1,29 @@
 // method.rs: the presets of the authorities.
 ghost use mathlib.Core.Path.{_≡_};
 ghost use Rattle.models.specs.Numbers.{methodNumberOf, methodOf};
+ghost use lib.IntN.{pos};
+ghost use Rattle.models.specs.Builder.{configurationOf, setMethod, setMethodAdjustments};
+ghost use Rattle.models.specs.Minutes.{minutesOf};
+ghost use Rattle.models.specs.Settings.{parametersNewOf};
 ghost use Rattle.models.specs.Presets.{presetOf};
-use super::adjustments::Adjustment;
+use super::adjustments::TimeAdjustment;
 use super::parameters::Configuration;
 use super::parameters::Parameters;
 use super::rounding::Rounding;
+
+// Minutes of the four times that a method moves.
+fn offset(sunrise: i32, dhuhr: i32, asr: i32, maghrib: i32) -> TimeAdjustment
+    ensures { λ r. ⌜ r ≡ minutesOf (pos 0) sunrise dhuhr asr maghrib (pos 0) ⌝ }
+{
+    TimeAdjustment {
+        fajr: 0,
+        sunrise: sunrise,
+        dhuhr: dhuhr,
+        asr: asr,
+        maghrib: maghrib,
+        isha: 0,
+    }
+}
 
 pub enum Method {
     // Muslim World League.
@@ -78,72 +96,41 @@ impl Method {
         }
     }
 
+    fn preset(self, fajr_angle: f64, isha_angle: f64, minutes: TimeAdjustment) -> Configuration
+        ensures { λ r. ⌜ r ≡ setMethodAdjustments (setMethod (configurationOf (parametersNewOf «fajr_angle» «isha_angle»)) self) minutes ⌝ }
+    {
+        Configuration::new(fajr_angle, isha_angle)
+            .method(self)
+            .method_adjustments(minutes)
+    }
+
+    // The angles of Fajr and Isha, and the minutes of sunrise, Dhuhr, Asr and Maghrib.
+    fn configuration(self) -> Configuration
+        ensures { λ r. ⌜ r ≡ configurationOf (presetOf self) ⌝ }
+    {
+        match self {
+            Method::MuslimWorldLeague => self.preset(18.0, 17.0, offset(0, 1, 0, 0)),
+            Method::Egyptian => self.preset(19.5, 17.5, offset(0, 1, 0, 0)),
+            Method::Karachi => self.preset(18.0, 18.0, offset(0, 1, 0, 0)),
+            Method::UmmAlQura => self.preset(18.5, 0.0, offset(0, 0, 0, 0)).isha_interval(90),
+            Method::Dubai => self.preset(18.2, 18.2, offset(-3, 3, 3, 3)),
+            Method::MoonsightingCommittee => self.preset(18.0, 18.0, offset(0, 5, 0, 3)),
+            Method::NorthAmerica => self.preset(15.0, 15.0, offset(0, 1, 0, 0)),
+            Method::Kuwait => self.preset(18.0, 17.5, offset(0, 0, 0, 0)),
+            Method::Qatar => self.preset(18.0, 0.0, offset(0, 0, 0, 0)).isha_interval(90),
+            Method::Singapore => self.preset(20.0, 18.0, offset(0, 1, 0, 0))
+                .rounding(Rounding::Up),
+            Method::Tehran => self.preset(17.7, 14.0, offset(0, 0, 0, 0))
+                .maghrib_angle(4.5),
+            Method::Turkey => self.preset(18.0, 17.0, offset(-7, 5, 4, 7)),
+            Method::Other => self.preset(0.0, 0.0, offset(0, 0, 0, 0)),
+        }
+    }
+
     // The method's preset.
     pub fn parameters(self) -> Parameters
         ensures { λ r. ⌜ r ≡ presetOf self ⌝ }
     {
-        match self {
-            Method::MuslimWorldLeague => Configuration::new(18.0, 17.0)
-                .method(self)
-                .method_adjustments(Adjustment::new().dhuhr(1).done())
-                .done(),
-            Method::Egyptian => Configuration::new(19.5, 17.5)
-                .method(self)
-                .method_adjustments(Adjustment::new().dhuhr(1).done())
-                .done(),
-            Method::Karachi => Configuration::new(18.0, 18.0)
-                .method(self)
-                .method_adjustments(Adjustment::new().dhuhr(1).done())
-                .done(),
-            Method::UmmAlQura => Configuration::new(18.5, 0.0)
-                .method(self)
-                .isha_interval(90)
-                .done(),
-            Method::Dubai => Configuration::new(18.2, 18.2)
-                .method(self)
-                .method_adjustments(
-                    Adjustment::new()
-                        .sunrise(-3)
-                        .dhuhr(3)
-                        .asr(3)
-                        .maghrib(3)
-                        .done(),
-                )
-                .done(),
-            Method::MoonsightingCommittee => Configuration::new(18.0, 18.0)
-                .method(self)
-                .method_adjustments(Adjustment::new().dhuhr(5).maghrib(3).done())
-                .done(),
-            Method::NorthAmerica => Configuration::new(15.0, 15.0)
-                .method(self)
-                .method_adjustments(Adjustment::new().dhuhr(1).done())
-                .done(),
-            Method::Kuwait => Configuration::new(18.0, 17.5).method(self).done(),
-            Method::Qatar => Configuration::new(18.0, 0.0)
-                .method(self)
-                .isha_interval(90)
-                .done(),
-            Method::Singapore => Configuration::new(20.0, 18.0)
-                .method(self)
-                .method_adjustments(Adjustment::new().dhuhr(1).done())
-                .rounding(Rounding::Up)
-                .done(),
-            Method::Tehran => Configuration::new(17.7, 14.0)
-                .method(self)
-                .maghrib_angle(4.5)
-                .done(),
-            Method::Turkey => Configuration::new(18.0, 17.0)
-                .method(self)
-                .method_adjustments(
-                    Adjustment::new()
-                        .sunrise(-7)
-                        .dhuhr(5)
-                        .asr(4)
-                        .maghrib(7)
-                        .done(),
-                )
-                .done(),
-            Method::Other => Configuration::new(0.0, 0.0).method(self).done(),
-        }
+        self.configuration().done()
     }
 }
