@@ -1,0 +1,14 @@
+use Rattle.ops.specs.Shared.{hour-number-shared}
+use borrow.Author.Needs.{needs}
+use Rattle.ops.proofs.transit.corrected_hour_angle.Statement.{statement}
+use Rattle.ops.proofs.transit.corrected_hour_angle.Tie as tie
+
+returns : tie.Need-returns
+returns c =
+    let a = c .before .before .before .before .args in
+    simp (c .hour-number .ensures, c .before .half-arc .ensures, c .before .before .new2 .ensures, c .before .before .before .new .ensures)
+    (hour-number-shared (a .approximate-transit) (a .coordinates) (a .sidereal-time) (a .right-ascension) (a .previous-right-ascension) (a .next-right-ascension) (a .declination) (a .previous-declination) (a .next-declination) (a .angle) (a .after-transit))
+
+pub corrected-hour-angle-spec : {M : Type 1} → statement M
+corrected-hour-angle-spec =
+    tie.close (tie.spec (λ c κs. search needs) (λ c κs. search needs) (λ c κs. search needs) (λ c κs. search needs) returns)

@@ -1,0 +1,13 @@
+use Rattle.float64.specs.Ops.{dec}
+use Rattle.ops.specs.Transit.{interpolateOf}
+use Rattle.ops.specs.Shared.{interpolatedOf}
+use borrow.Author.Needs.{needs}
+use Rattle.ops.proofs.transit.interpolate.Statement.{statement}
+use Rattle.ops.proofs.transit.interpolate.Tie as tie
+
+returns : tie.Need-returns
+unfolding interpolateOf interpolatedOf dec
+returns c = simp (c .at .ensures, c .before .new .ensures)
+
+pub interpolate-spec : {M : Type 1} → statement M
+interpolate-spec = tie.close (tie.spec (λ c κs. search needs) (λ c κs. search needs) returns)

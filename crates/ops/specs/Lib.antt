@@ -1,0 +1,3 @@
+pub mod Sun
+pub mod Transit
+pub mod Shared

@@ -1,0 +1,103 @@
+-- The same formulas over what several calls share, worked once: the place's sine and cosine, the differences of an interpolation, the
+-- products of sines and of cosines. The laws say that they are the formulas of Transit.
+use mathlib.Core.Path.{_≡_, refl}
+use mathlib.Core.Bool.{Bool, cond}
+use lib.Ieee.{Float, neg}
+use Rattle.float64.specs.Ops.{_+ᶠ_, _-ᶠ_, _*ᶠ_, _/ᶠ_, dec}
+use Rattle.fdlibm_trig.specs.Trig.{sinOf, cosOf}
+use Rattle.fdlibm_arc.specs.Asin.{asinOf}
+use Rattle.fdlibm_arc.specs.Acos.{acosOf}
+use Rattle.unit.specs.declared.Angle.{Angle}
+use Rattle.unit.specs.declared.Coordinates.{Coordinates}
+use Rattle.unit.specs.Unit.{angleOf, fromRadiansOf, radiansOf, unwoundOf, quadrantShiftedOf, minusOf, overOf, latitudeAngleOf, longitudeAngleOf}
+use Rattle.ops.specs.declared.transit.Interpolation.{Interpolation}
+use Rattle.ops.specs.declared.transit.Observer.{Observer}
+use Rattle.ops.specs.declared.transit.Course.{Course}
+use Rattle.ops.specs.Transit.{interpolateOf, interpolateAnglesOf, altitudeOfCelestialBodyOf, westOf, hourAngleAtOf, correctedTransitOf, correctedHourAngleOf}
+
+-- the differences of an interpolation: a + b and c
+abbrev pub differencesOf : Float → Float → Float → Interpolation
+differencesOf value previous next =
+    let a = value -ᶠ previous in
+    let b = next -ᶠ value in
+    record { value = value; sum = a +ᶠ b; change = b -ᶠ a }
+
+abbrev pub angleDifferencesOf : Angle → Angle → Angle → Interpolation
+angleDifferencesOf value previous next =
+    let a = (unwoundOf (minusOf value previous)) .degrees in
+    let b = (unwoundOf (minusOf next value)) .degrees in
+    record { value = value .degrees; sum = a +ᶠ b; change = b -ᶠ a }
+
+unfoldable pub interpolatedOf : Interpolation → Float → Float
+unfolding dec
+interpolatedOf i factor = i .value +ᶠ factor /ᶠ dec 2 0 *ᶠ (i .sum +ᶠ factor *ᶠ i .change)
+
+-- a place: its longitude to the west, and the sine and cosine of its latitude
+abbrev pub observerOf : Coordinates → Observer
+observerOf place =
+    let latitude = radiansOf (latitudeAngleOf place) in
+    record { west = westOf (longitudeAngleOf place); sine = sinOf latitude; cosine = cosOf latitude }
+
+-- the sun's course over a place on a day, from its transit and its position on three days
+abbrev pub courseOf : Float → Observer → Angle → Angle → Angle → Angle → Angle → Angle → Angle → Course
+courseOf transit observer sidereal ascension previous next declination previous-declination next-declination =
+    record {
+      observer = observer;
+      transit = transit;
+      «sidereal_time» = sidereal;
+      «right_ascension» = angleDifferencesOf ascension previous next;
+      declination = differencesOf (declination .degrees) (previous-declination .degrees) (next-declination .degrees);
+      sines = observer .sine *ᶠ sinOf (radiansOf declination);
+      cosines = observer .cosine *ᶠ cosOf (radiansOf declination);
+    }
+
+-- the sun's hour angle at m
+unfoldable pub hourAngleOf : Course → Float → Angle
+unfolding dec
+hourAngleOf c m =
+    let plane = unwoundOf (angleOf (c .«sidereal_time» .degrees +ᶠ dec 360985647 6 *ᶠ m)) in
+    minusOf (minusOf plane (c .observer .west)) (unwoundOf (angleOf (interpolatedOf (c .«right_ascension») m)))
+
+-- the hour number of the transit
+unfoldable pub transitNumberOf : Course → Float
+unfolding dec
+transitNumberOf c =
+    let delta = overOf (quadrantShiftedOf (hourAngleOf c (c .transit))) (angleOf (neg (dec 360 0))) in
+    (c .transit +ᶠ delta .degrees) *ᶠ dec 24 0
+
+-- how much of a turn lies between the transit and an altitude, in degrees
+unfoldable pub halfArcOf : Course → Angle → Float
+halfArcOf c angle = (fromRadiansOf (acosOf ((sinOf (radiansOf angle) -ᶠ c .sines) /ᶠ c .cosines))) .degrees
+
+-- the transit moved by an arc, to the evening or to the morning
+unfoldable pub movedTransitOf : Float → Float → Bool → Float
+unfolding dec
+movedTransitOf transit arc after = cond after (transit +ᶠ arc /ᶠ dec 360 0) (transit -ᶠ arc /ᶠ dec 360 0)
+
+-- the hour number at which the sun stands at the altitude, from its half arc
+unfoldable pub hourNumberOf : Course → Angle → Float → Bool → Float
+unfolding dec
+hourNumberOf c angle arc after =
+    let m = movedTransitOf (c .transit) arc after in
+    let hour = radiansOf (hourAngleOf c m) in
+    let declination = radiansOf (angleOf (interpolatedOf (c .declination) m)) in
+    let cosine = cosOf declination in
+    let term1 = c .observer .sine *ᶠ sinOf declination in
+    let term2 = c .observer .cosine *ᶠ cosine *ᶠ cosOf hour in
+    let term3 = (minusOf (fromRadiansOf (asinOf (term1 +ᶠ term2))) angle) .degrees in
+    let term4 = dec 360 0 *ᶠ cosine *ᶠ c .observer .cosine *ᶠ sinOf hour in
+    (m +ᶠ term3 /ᶠ term4) *ᶠ dec 24 0
+
+-- what is shared changes no bit
+module _ (transit : Float) (place : Coordinates) (sidereal ascension previous next declination previous-declination next-declination : Angle) where
+  pub transit-shared : transitNumberOf (courseOf transit (observerOf place) sidereal ascension previous next declination previous-declination next-declination)
+      ≡ correctedTransitOf transit (longitudeAngleOf place) sidereal ascension previous next
+  unfolding transitNumberOf correctedTransitOf hourAngleOf hourAngleAtOf interpolatedOf interpolateAnglesOf
+  transit-shared = refl
+
+  pub hour-number-shared : (angle : Angle) (after : Bool) →
+      let c = courseOf transit (observerOf place) sidereal ascension previous next declination previous-declination next-declination in
+      hourNumberOf c angle (halfArcOf c angle) after
+      ≡ correctedHourAngleOf transit angle place after sidereal ascension previous next declination previous-declination next-declination
+  unfolding hourNumberOf movedTransitOf halfArcOf correctedHourAngleOf hourAngleOf hourAngleAtOf interpolatedOf interpolateAnglesOf interpolateOf altitudeOfCelestialBodyOf
+  hour-number-shared angle after = refl

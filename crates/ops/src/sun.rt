@@ -1,0 +1,159 @@
+// ops.rs: where the sun is, by the formulas of Meeus, Astronomical Algorithms.
+ghost use mathlib.Core.Path.{_≡_};
+ghost use Rattle.ops.specs.Sun.{square, cube, julianCenturyOf, meanSolarLongitudeOf, meanLunarLongitudeOf, ascendingLunarNodeLongitudeOf, meanSolarAnomalyOf, solarEquationOfTheCenterOf, omegaOf, apparentSolarLongitudeOf, meanObliquityOfTheEclipticOf, apparentObliquityOfTheEclipticOf, meanSiderealTimeOf, nutationInLongitudeOf, nutationInObliquityOf};
+use fdlibm_trig::s_cos::cos;
+use fdlibm_trig::s_sin::sin;
+use unit::Angle;
+
+// powf(2.0).
+fn squared(x: f64) -> f64
+    ensures { λ r. ⌜ r ≡ square x ⌝ }
+{
+    x * x
+}
+
+// powf(3.0), by two multiplications.
+fn cubed(x: f64) -> f64
+    ensures { λ r. ⌜ r ≡ cube x ⌝ }
+{
+    x * x * x
+}
+
+// Julian century from the epoch.
+pub fn julian_century(julian_day: f64) -> f64
+    ensures { λ r. ⌜ r ≡ julianCenturyOf «julian_day» ⌝ }
+{
+    (julian_day - 2451545.0) / 36525.0
+}
+
+// The geometric mean longitude of the sun.
+pub fn mean_solar_longitude(julian_century: f64) -> Angle
+    ensures { λ r. ⌜ r ≡ meanSolarLongitudeOf «julian_century» ⌝ }
+{
+    let term1 = 280.4664567;
+    let term2 = 36000.76983 * julian_century;
+    let term3 = 0.0003032 * squared(julian_century);
+    Angle::new(term1 + term2 + term3).unwound()
+}
+
+// The geometric mean longitude of the moon.
+pub fn mean_lunar_longitude(julian_century: f64) -> Angle
+    ensures { λ r. ⌜ r ≡ meanLunarLongitudeOf «julian_century» ⌝ }
+{
+    let term1 = 218.3165;
+    let term2 = 481267.8813 * julian_century;
+    Angle::new(term1 + term2).unwound()
+}
+
+pub fn ascending_lunar_node_longitude(julian_century: f64) -> Angle
+    ensures { λ r. ⌜ r ≡ ascendingLunarNodeLongitudeOf «julian_century» ⌝ }
+{
+    let term1 = 125.04452;
+    let term2 = 1934.136261 * julian_century;
+    let term3 = 0.0020708 * squared(julian_century);
+    let term4 = cubed(julian_century) / 450000.0;
+    Angle::new(term1 - term2 + term3 + term4).unwound()
+}
+
+// The mean anomaly of the sun.
+pub fn mean_solar_anomaly(julian_century: f64) -> Angle
+    ensures { λ r. ⌜ r ≡ meanSolarAnomalyOf «julian_century» ⌝ }
+{
+    let term1 = 357.52911;
+    let term2 = 35999.05029 * julian_century;
+    let term3 = 0.0001537 * squared(julian_century);
+    Angle::new(term1 + term2 - term3).unwound()
+}
+
+// The sun's equation of the center.
+pub fn solar_equation_of_the_center(julian_century: f64, mean_anomaly: Angle) -> Angle
+    ensures { λ r. ⌜ r ≡ solarEquationOfTheCenterOf «julian_century» «mean_anomaly» ⌝ }
+{
+    let mean_radians = mean_anomaly.radians();
+    let term1 = (1.914602 - (0.004817 * julian_century) - (0.000014 * squared(julian_century)))
+        * sin(mean_radians);
+    let term2 = (0.019993 - (0.000101 * julian_century)) * sin(2.0 * mean_radians);
+    let term3 = 0.000289 * sin(3.0 * mean_radians);
+    Angle::new(term1 + term2 + term3)
+}
+
+// The moon's ascending node, as the two corrections below take it.
+fn omega(julian_century: f64) -> Angle
+    ensures { λ r. ⌜ r ≡ omegaOf «julian_century» ⌝ }
+{
+    Angle::new(125.04 - (1934.136 * julian_century))
+}
+
+// The apparent longitude of the sun, referred to the true equinox of the date.
+pub fn apparent_solar_longitude(julian_century: f64, mean_longitude: Angle) -> Angle
+    ensures { λ r. ⌜ r ≡ apparentSolarLongitudeOf «julian_century» «mean_longitude» ⌝ }
+{
+    let longitude = mean_longitude.add(solar_equation_of_the_center(
+        julian_century,
+        mean_solar_anomaly(julian_century),
+    ));
+    let node = sin(omega(julian_century).radians());
+    Angle::new(longitude.degrees - 0.00569 - (0.00478 * node)).unwound()
+}
+
+// The mean obliquity of the ecliptic, as adopted by the International Astronomical Union.
+pub fn mean_obliquity_of_the_ecliptic(julian_century: f64) -> Angle
+    ensures { λ r. ⌜ r ≡ meanObliquityOfTheEclipticOf «julian_century» ⌝ }
+{
+    let term1 = 23.439291;
+    let term2 = 0.013004167 * julian_century;
+    let term3 = 0.0000001639 * squared(julian_century);
+    let term4 = 0.0000005036 * cubed(julian_century);
+    Angle::new(term1 - term2 - term3 + term4)
+}
+
+// The mean obliquity, corrected for the apparent position of the sun.
+pub fn apparent_obliquity_of_the_ecliptic(
+    julian_century: f64,
+    mean_obliquity_of_the_ecliptic: Angle,
+) -> Angle
+    ensures { λ r. ⌜ r ≡ apparentObliquityOfTheEclipticOf «julian_century» «mean_obliquity_of_the_ecliptic» ⌝ }
+{
+    let node = cos(omega(julian_century).radians());
+    Angle::new(mean_obliquity_of_the_ecliptic.degrees + (0.00256 * node))
+}
+
+// Mean sidereal time, the hour angle of the vernal equinox.
+pub fn mean_sidereal_time(julian_century: f64) -> Angle
+    ensures { λ r. ⌜ r ≡ meanSiderealTimeOf «julian_century» ⌝ }
+{
+    let julian_day = (julian_century * 36525.0) + 2451545.0;
+    let term1 = 280.46061837;
+    let term2 = 360.98564736629 * (julian_day - 2451545.0);
+    let term3 = 0.000387933 * squared(julian_century);
+    let term4 = cubed(julian_century) / 38710000.0;
+    Angle::new(term1 + term2 + term3 - term4).unwound()
+}
+
+pub fn nutation_in_longitude(
+    solar_longitude: Angle,
+    lunar_longitude: Angle,
+    ascending_node: Angle,
+) -> f64
+    ensures { λ r. ⌜ r ≡ nutationInLongitudeOf «solar_longitude» «lunar_longitude» «ascending_node» ⌝ }
+{
+    let term1 = (-17.2 / 3600.0) * sin(ascending_node.radians());
+    let term2 = (1.32 / 3600.0) * sin(2.0 * solar_longitude.radians());
+    let term3 = (0.23 / 3600.0) * sin(2.0 * lunar_longitude.radians());
+    let term4 = (0.21 / 3600.0) * sin(2.0 * ascending_node.radians());
+    term1 - term2 - term3 + term4
+}
+
+pub fn nutation_in_obliquity(
+    solar_longitude: Angle,
+    lunar_longitude: Angle,
+    ascending_node: Angle,
+) -> f64
+    ensures { λ r. ⌜ r ≡ nutationInObliquityOf «solar_longitude» «lunar_longitude» «ascending_node» ⌝ }
+{
+    let term1 = (9.2 / 3600.0) * cos(ascending_node.radians());
+    let term2 = (0.57 / 3600.0) * cos(2.0 * solar_longitude.radians());
+    let term3 = (0.10 / 3600.0) * cos(2.0 * lunar_longitude.radians());
+    let term4 = (0.09 / 3600.0) * cos(2.0 * ascending_node.radians());
+    term1 + term2 + term3 - term4
+}

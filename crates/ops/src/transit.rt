@@ -1,0 +1,285 @@
+// ops.rs: when the sun crosses the meridian and when it stands at a given altitude, by Meeus, Astronomical Algorithms.
+// What several hour numbers of a day share is worked once: the sine and cosine of the latitude (Observer), the differences
+// of the interpolations and the products of the sines and of the cosines (Course).
+ghost use mathlib.Core.Path.{_≡_};
+ghost use Rattle.ops.specs.Transit.{interpolateOf, interpolateAnglesOf, altitudeOfCelestialBodyOf, westOf, approximateTransitOf, hourAngleAtOf, correctedTransitOf, correctedHourAngleOf};
+ghost use Rattle.ops.specs.Shared.{differencesOf, angleDifferencesOf, interpolatedOf, observerOf, courseOf, hourAngleOf, movedTransitOf, transitNumberOf, halfArcOf, hourNumberOf};
+use fdlibm_arc::e_acos::acos;
+use fdlibm_arc::e_asin::asin;
+use fdlibm_trig::s_cos::cos;
+use fdlibm_trig::s_sin::sin;
+use unit::Angle;
+use unit::Coordinates;
+use unit::normalized_to_scale;
+
+// A value and the differences to its equidistant neighbours: a + b and c.
+pub struct Interpolation {
+    pub value: f64,
+    pub sum: f64,
+    pub change: f64,
+}
+
+impl Interpolation {
+    pub fn new(value: f64, previous_value: f64, next_value: f64) -> Interpolation
+        ensures { λ r. ⌜ r ≡ differencesOf value «previous_value» «next_value» ⌝ }
+    {
+        let a = value - previous_value;
+        let b = next_value - value;
+        Interpolation {
+            value: value,
+            sum: a + b,
+            change: b - a,
+        }
+    }
+
+    // Of angles, whose differences are unwound.
+    pub fn of_angles(value: Angle, previous_value: Angle, next_value: Angle) -> Interpolation
+        ensures { λ r. ⌜ r ≡ angleDifferencesOf value «previous_value» «next_value» ⌝ }
+    {
+        let a = value.sub(previous_value).unwound();
+        let b = next_value.sub(value).unwound();
+        Interpolation {
+            value: value.degrees,
+            sum: a.degrees + b.degrees,
+            change: b.degrees - a.degrees,
+        }
+    }
+
+    // The value at `factor` of the way to the next.
+    pub fn at(self, factor: f64) -> f64
+        ensures { λ r. ⌜ r ≡ interpolatedOf self factor ⌝ }
+    {
+        self.value + ((factor / 2.0) * (self.sum + (factor * self.change)))
+    }
+}
+
+// Interpolation of a value given equidistant previous and next values.
+pub fn interpolate(value: f64, previous_value: f64, next_value: f64, factor: f64) -> f64
+    ensures { λ r. ⌜ r ≡ interpolateOf value «previous_value» «next_value» factor ⌝ }
+{
+    Interpolation::new(value, previous_value, next_value).at(factor)
+}
+
+// Interpolation of three angles, accounting for angle unwinding.
+pub fn interpolate_angles(
+    value: Angle,
+    previous_value: Angle,
+    next_value: Angle,
+    factor: f64,
+) -> Angle
+    ensures { λ r. ⌜ r ≡ interpolateAnglesOf value «previous_value» «next_value» factor ⌝ }
+{
+    Angle::new(Interpolation::of_angles(value, previous_value, next_value).at(factor))
+}
+
+pub fn altitude_of_celestial_body(
+    observer_latitude: Angle,
+    declination: Angle,
+    local_hour_angle: Angle,
+) -> Angle
+    ensures { λ r. ⌜ r ≡ altitudeOfCelestialBodyOf «observer_latitude» declination «local_hour_angle» ⌝ }
+{
+    let latitude = observer_latitude.radians();
+    let inclination = declination.radians();
+    let term1 = sin(latitude) * sin(inclination);
+    let term2 = cos(latitude) * cos(inclination) * cos(local_hour_angle.radians());
+    Angle::from_radians(asin(term1 + term2))
+}
+
+// The longitude counted to the west.
+fn west(longitude: Angle) -> Angle
+    ensures { λ r. ⌜ r ≡ westOf longitude ⌝ }
+{
+    longitude.mul(Angle::new(-1.0))
+}
+
+pub fn approximate_transit(longitude: Angle, sidereal_time: Angle, right_ascension: Angle) -> f64
+    ensures { λ r. ⌜ r ≡ approximateTransitOf longitude «sidereal_time» «right_ascension» ⌝ }
+{
+    let angle = right_ascension.add(west(longitude)).sub(sidereal_time);
+    normalized_to_scale(angle.div(Angle::new(360.0)).degrees, 1.0)
+}
+
+// A place, with what its latitude brings.
+pub struct Observer {
+    pub west: Angle,
+    pub sine: f64,
+    pub cosine: f64,
+}
+
+impl Observer {
+    pub fn new(coordinates: Coordinates) -> Observer
+        ensures { λ r. ⌜ r ≡ observerOf coordinates ⌝ }
+    {
+        let latitude = coordinates.latitude_angle().radians();
+        let longitude = west(coordinates.longitude_angle());
+        Observer {
+            west: longitude,
+            sine: sin(latitude),
+            cosine: cos(latitude),
+        }
+    }
+}
+
+// The sun's course over a place on a day.
+pub struct Course {
+    pub observer: Observer,
+    pub transit: f64,
+    pub sidereal_time: Angle,
+    pub right_ascension: Interpolation,
+    pub declination: Interpolation,
+    pub sines: f64,
+    pub cosines: f64,
+}
+
+impl Course {
+    // From the transit, a place, and the sun's position on the day, the day before and the day after.
+    pub fn new(
+        transit: f64,
+        observer: Observer,
+        sidereal_time: Angle,
+        right_ascension: Angle,
+        previous_right_ascension: Angle,
+        next_right_ascension: Angle,
+        declination: Angle,
+        previous_declination: Angle,
+        next_declination: Angle,
+    ) -> Course
+        ensures { λ r. ⌜ r ≡ courseOf transit observer «sidereal_time» «right_ascension» «previous_right_ascension» «next_right_ascension» declination «previous_declination» «next_declination» ⌝ }
+    {
+        let inclination = declination.radians();
+        Course {
+            observer: observer,
+            transit: transit,
+            sidereal_time: sidereal_time,
+            right_ascension: Interpolation::of_angles(
+                right_ascension,
+                previous_right_ascension,
+                next_right_ascension,
+            ),
+            declination: Interpolation::new(
+                declination.degrees,
+                previous_declination.degrees,
+                next_declination.degrees,
+            ),
+            sines: observer.sine * sin(inclination),
+            cosines: observer.cosine * cos(inclination),
+        }
+    }
+
+    // The sun's hour angle at a fraction of the day.
+    fn hour_angle(self, at: f64) -> Angle
+        ensures { λ r. ⌜ r ≡ hourAngleOf self at ⌝ }
+    {
+        let sidereal_time = self.sidereal_time;
+        let right_ascension = self.right_ascension;
+        let observer = self.observer;
+        let west = observer.west;
+        let plane_angle = Angle::new(sidereal_time.degrees + (360.985647 * at)).unwound();
+        let interpolated_angles = Angle::new(right_ascension.at(at)).unwound();
+        plane_angle.sub(west).sub(interpolated_angles)
+    }
+
+    // The hour number of the transit.
+    pub fn transit_number(self) -> f64
+        ensures { λ r. ⌜ r ≡ transitNumberOf self ⌝ }
+    {
+        let transit = self.transit;
+        let angles = self.hour_angle(transit).quadrant_shifted();
+        let angle_delta = angles.div(Angle::new(-360.0));
+        (transit + angle_delta.degrees) * 24.0
+    }
+
+    // How much of a turn lies between the transit and an altitude, in degrees.
+    pub fn half_arc(self, angle: Angle) -> f64
+        ensures { λ r. ⌜ r ≡ halfArcOf self angle ⌝ }
+    {
+        let term1 = sin(angle.radians()) - self.sines;
+        Angle::from_radians(acos(term1 / self.cosines)).degrees
+    }
+
+    // The hour number at which the sun stands at the altitude, from its half arc.
+    pub fn hour_number(self, angle: Angle, arc: f64, after_transit: bool) -> f64
+        ensures { λ r. ⌜ r ≡ hourNumberOf self angle arc «after_transit» ⌝ }
+    {
+        let at = moved_transit(self.transit, arc, after_transit);
+        let observer = self.observer;
+        let interpolation = self.declination;
+        let hour = self.hour_angle(at).radians();
+        let declination = Angle::new(interpolation.at(at)).radians();
+        let cosine = cos(declination);
+        let term1 = observer.sine * sin(declination);
+        let term2 = observer.cosine * cosine * cos(hour);
+        let term3 = Angle::from_radians(asin(term1 + term2)).sub(angle).degrees;
+        let term4 = 360.0 * cosine * observer.cosine * sin(hour);
+        (at + term3 / term4) * 24.0
+    }
+}
+
+// The transit moved by an arc, to the evening or to the morning.
+fn moved_transit(transit: f64, arc: f64, after_transit: bool) -> f64
+    ensures { λ r. ⌜ r ≡ movedTransitOf transit arc «after_transit» ⌝ }
+{
+    if after_transit {
+        transit + (arc / 360.0)
+    } else {
+        transit - (arc / 360.0)
+    }
+}
+
+// The hour number at which the sun is at its highest point (in universal time).
+pub fn corrected_transit(
+    approximate_transit: f64,
+    longitude: Angle,
+    sidereal_time: Angle,
+    right_ascension: Angle,
+    previous_right_ascension: Angle,
+    next_right_ascension: Angle,
+) -> f64
+    ensures { λ r. ⌜ r ≡ correctedTransitOf «approximate_transit» longitude «sidereal_time» «right_ascension» «previous_right_ascension» «next_right_ascension» ⌝ }
+{
+    let plane_angle = Angle::new(
+        sidereal_time.degrees + (360.985647 * approximate_transit),
+    ).unwound();
+    let interpolated_angles = interpolate_angles(
+        right_ascension,
+        previous_right_ascension,
+        next_right_ascension,
+        approximate_transit,
+    ).unwound();
+    let angles = plane_angle
+        .sub(west(longitude))
+        .sub(interpolated_angles)
+        .quadrant_shifted();
+    let angle_delta = angles.div(Angle::new(-360.0));
+    (approximate_transit + angle_delta.degrees) * 24.0
+}
+
+pub fn corrected_hour_angle(
+    approximate_transit: f64,
+    angle: Angle,
+    coordinates: Coordinates,
+    after_transit: bool,
+    sidereal_time: Angle,
+    right_ascension: Angle,
+    previous_right_ascension: Angle,
+    next_right_ascension: Angle,
+    declination: Angle,
+    previous_declination: Angle,
+    next_declination: Angle,
+) -> f64
+    ensures { λ r. ⌜ r ≡ correctedHourAngleOf «approximate_transit» angle coordinates «after_transit» «sidereal_time» «right_ascension» «previous_right_ascension» «next_right_ascension» declination «previous_declination» «next_declination» ⌝ }
+{
+    let course = Course::new(
+        approximate_transit,
+        Observer::new(coordinates),
+        sidereal_time,
+        right_ascension,
+        previous_right_ascension,
+        next_right_ascension,
+        declination,
+        previous_declination,
+        next_declination,
+    );
+    course.hour_number(angle, course.half_arc(angle), after_transit)
+}
