@@ -1,18 +1,18 @@
 -- The laws of the calendar: the formulas of Days give the calendar of Gregorian, in every year. Assumes nothing.
 -- That the rows are the running sums of the months' lengths is row-january, row-step and row-december of MonthTables.
-use mathlib.Core.Path.{_≡_, refl, sym, ap, _∙_, subst}
-use mathlib.Core.Bool.{Bool, true, false, cond}
-use Prim.Native.Nat.{ℕ, zero, suc, _+_, _-_, _%_, _≤_, _<_}
+use mathlib.Core.Path.{_≡_, refl, sym, ap, _∙_}
+use mathlib.Core.Bool.{true}
+use Prim.Native.Nat.{ℕ, _+_, _-_, _%_, _≤_, _<_}
 use native.Mathlib.Omega.{arith}
-use lib.IntN.{ℤ, pos, negsuc, _+ℤ_, _-ℤ_, +ℤ-idr}
+use lib.IntN.{ℤ, pos, negsuc, _+ℤ_, +ℤ-idr}
 use lib.Dec.{lit<}
 use lib.Signed.{leZ}
 use Rattle.integers.specs.Parts.{P, N, same, not-negative}
-use Rattle.integers.specs.Sums.{Sum, Flip, sum, difference}
+use Rattle.integers.specs.Sums.{sum, difference}
 use Rattle.integers.specs.Order.{le-yes, to-le}
-use Rattle.integers.specs.Quotients.{Floored, floorQuot, floorRem, floored}
+use Rattle.integers.specs.Quotients.{floored}
 use Rattle.calendar.specs.Gregorian.{dateOf, leapOf, existsOf, dayAfterOf, dayBeforeOf}
-use Rattle.calendar.specs.Days.{daysBeforeOf, daysInYearOf, ordinalOf, daysBeforeYearOf, dayNumberOf, dateAtOf, dateOfDayOf, weekdayOf}
+use Rattle.calendar.specs.Days.{daysInYearOf, ordinalOf, daysBeforeYearOf, dayNumberOf, dateAtOf, dateOfDayOf, weekdayOf}
 use Rattle.calendar.specs.declared.dates.Date.{Date}
 use Rattle.calendar.proofs.MonthTables.{row-january, row-december}
 use Rattle.calendar.proofs.YearSteps.{year-zero, year-step, year-mono}

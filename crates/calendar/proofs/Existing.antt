@@ -1,15 +1,15 @@
 -- Dates that exist: their place in the year and in the count of days, and the way back from there. Assumes nothing.
 use mathlib.Core.Path.{_≡_, refl, sym, ap, _∙_, subst}
 use mathlib.Core.Bool.{Bool, true, false, cond, _&&_, true≢false}
-use Prim.Native.Nat.{ℕ, zero, suc, _+_, _-_, _*_, _≤_, _<_}
+use Prim.Native.Nat.{ℕ, _+_, _-_, _≤_, _<_}
 use native.Mathlib.Omega.{arith}
-use lib.Dec.{leb}
+use lib.Dec.{leb, lit≤}
 use borrow.Author.Tests.{leb-true, le-leb}
-use Rattle.calendar.specs.Gregorian.{dateOf, leapOf, lengthOf, monthDaysOf, existsOf}
-use Rattle.calendar.specs.Days.{daysBeforeOf, daysInYearOf, ordinalOf, ofOrdinalOf, monthOf, daysBeforeYearOf, dayNumberOf, dateAtOf, yearOf}
+use Rattle.calendar.specs.Gregorian.{dateOf, leapOf, monthDaysOf, existsOf}
+use Rattle.calendar.specs.Days.{daysBeforeOf, daysInYearOf, ordinalOf, ofOrdinalOf, monthOf, daysBeforeYearOf, dateAtOf, yearOf}
 use Rattle.calendar.specs.declared.dates.Date.{Date}
-use Rattle.calendar.proofs.MonthTables.{Month, Place, month, month-found, month-place}
-use Rattle.calendar.proofs.YearSteps.{In, year-step, year-mono, year-found, year-unique}
+use Rattle.calendar.proofs.MonthTables.{year-short, Month, month, month-found, month-place}
+use Rattle.calendar.proofs.YearSteps.{In, year-step, year-found, year-unique}
 
 -- ---- what it means that a date exists
 pub record Exists (d : Date) : Type 0 where
@@ -48,6 +48,17 @@ ordinal-within d h =
     let o = ordinal-is d h in
     let m = month-of-date d e in
     record { from = omega arith; to = omega arith }
+
+pub ordinal-short : (d : Date) → ordinalOf d ≤ 366
+unfolding ordinalOf
+ordinal-short d = by-test (existsOf d) refl
+  where
+    by-test : (b : Bool) → existsOf d ≡ b → cond b (daysBeforeOf (leapOf (d .year)) (d .month) + d .day) 0 ≤ 366
+    by-test true h =
+        let e = exists-yes d h in
+        let m = month-of-date d e in
+        omega (arith, year-short (leapOf (d .year)))
+    by-test false h = lit≤ tt
 
 -- a date is found again by its year and its ordinal
 pub ordinal-back : (d : Date) → existsOf d ≡ true → ofOrdinalOf (d .year) (ordinalOf d) ≡ d

@@ -1,16 +1,16 @@
 -- The day after a date that exists, by the calendar's rule, exists and counts one more; the day before it one less. Assumes nothing.
-use mathlib.Core.Path.{_≡_, refl, sym, ap, _∙_, subst}
+use mathlib.Core.Path.{_≡_, refl, ap, _∙_, subst}
 use mathlib.Core.Bool.{Bool, true, false, cond}
-use Prim.Native.Nat.{ℕ, zero, suc, _+_, _-_, _≤_, _<_}
+use Prim.Native.Nat.{ℕ, _+_, _-_, _<_}
 use native.Mathlib.Omega.{arith}
 use lib.Dec.{ltb}
 use borrow.Author.Tests.{ltb-true, ltb-false}
 use Rattle.calendar.specs.Gregorian.{dateOf, leapOf, lengthOf, monthDaysOf, existsOf, dayAfterOf, dayBeforeOf}
-use Rattle.calendar.specs.Days.{daysBeforeOf, daysInYearOf, daysBeforeYearOf}
+use Rattle.calendar.specs.Days.{daysInYearOf}
 use Rattle.calendar.specs.declared.dates.Date.{Date}
 use Rattle.calendar.proofs.MonthTables.{row-step, row-january, row-december, length-january, length-december, length-some}
 use Rattle.calendar.proofs.YearSteps.{year-step}
-use Rattle.calendar.proofs.Existing.{Exists, exists-yes, to-exists, month-of-date, ordinal-is, count}
+use Rattle.calendar.proofs.Existing.{exists-yes, to-exists, month-of-date, ordinal-is, count}
 
 -- e exists, and is the next in the count
 pub record Follows (d e : Date) : Type 0 where
@@ -36,8 +36,8 @@ next-year y =
     record {
       there = new-year (y + 1);
       number =
-        omega
-        (arith, ordinal-is (dateOf y 12 31) (year-end y), ordinal-is (dateOf (y + 1) 1 1) (new-year (y + 1)), year-step y, row-december (leapOf y), row-january (leapOf (y + 1)));
+          omega
+          (arith, ordinal-is (dateOf y 12 31) (year-end y), ordinal-is (dateOf (y + 1) 1 1) (new-year (y + 1)), year-step y, row-december (leapOf y), row-january (leapOf (y + 1)));
     }
 
 pub after : (d : Date) → existsOf d ≡ true → Follows d (dayAfterOf d)

@@ -4,7 +4,7 @@ use mathlib.Core.Bool.{Bool, true, false, cond, not, _&&_, _||_}
 use Prim.Native.Nat.{ℕ, zero, suc, _+_, _-_, _*_, _/_, _%_, _≤_, _<_}
 use native.Mathlib.Nat.{zero-add, le-refl, le-antisymm}
 use native.Mathlib.Omega.{arith}
-use lib.Dec.{T, eqb, ltb, leb}
+use lib.Dec.{T, ltb, leb}
 use borrow.Author.Tests.{eqb-true, eqb-false, ltb-true, ltb-false, leb-true, leb-false}
 use Rattle.calendar.specs.Gregorian.{divides, leapOf}
 use Rattle.calendar.specs.Days.{daysInYearOf, daysBeforeYearOf, yearOf}
@@ -60,6 +60,11 @@ year-step y = by-test (divides 4 y) (divides 100 y) (divides 400 y) refl refl re
 pub year-zero : daysBeforeYearOf 0 ≡ 0
 unfolding daysBeforeYearOf
 year-zero = refl
+
+-- the year after the last that a u32 holds
+pub last-year : daysBeforeYearOf 4294967296 ≡ 1568704592610
+unfolding daysBeforeYearOf
+last-year = refl
 
 pub year-mono : (y z : ℕ) → y ≤ z → daysBeforeYearOf y ≤ daysBeforeYearOf z
 year-mono y z h = let e : z - y + y ≡ z = omega arith in subst (λ (x : ℕ). daysBeforeYearOf y ≤ daysBeforeYearOf x) e (up (z - y))

@@ -3,6 +3,7 @@ use Prim.Native.Nat.{ℕ}
 use mathlib.Core.Bool.{Bool, cond}
 use lib.Dec.{leb}
 use lib.IntN.{ℤ, pos, _+ℤ_}
+use Rattle.integers.specs.Parts.{P}
 use Rattle.calendar.specs.Gregorian.{dateOf, existsOf, dayAfterOf, dayBeforeOf}
 use Rattle.calendar.specs.Days.{dayNumberOf, dateOfDayOf}
 use Rattle.calendar.specs.declared.dates.Date.{Date}
@@ -23,6 +24,10 @@ yesterdayOf d = fromOf d (dayBeforeOf d)
 
 abbrev pub nextDateOf : Date → Bool → Date
 nextDateOf d fwd = cond fwd (tomorrowOf d) (yesterdayOf d)
+
+-- the days from 0000-01-01 to a day, at most as many as to the last date of the year 4294967295
+unfoldable pub sinceFirstOf : ℤ → ℕ
+sinceFirstOf day = let n = P (day +ℤ pos 719528) in cond (leb n 1568704592609) n 1568704592609
 
 abbrev pub ofDayOf : ℤ → Date
 ofDayOf day = heldOf (dateOfDayOf day)

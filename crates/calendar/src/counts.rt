@@ -1,7 +1,21 @@
 // Days and years counted from 0000-01-01, for every year that a u32 holds and the one after.
 ghost use mathlib.Core.Path.{_≡_};
 ghost use Prim.Native.Nat.{_≤_, _<_};
+ghost use Rattle.calendar.specs.Answers.{sinceFirstOf};
 ghost use Rattle.calendar.specs.Days.{daysBeforeYearOf, yearOf};
+
+// The days from there to a day by its number, from the first to the last date that there is.
+pub fn since_first(day: i64) -> u64
+    ensures { λ r. ⌜ r ≡ sinceFirstOf day ⌝ }
+{
+    if day < -719528 {
+        return 0;
+    }
+    if day > 1568703873081 {
+        return 1568704592609;
+    }
+    (day + 719528) as u64
+}
 
 // The days before the year's January 1st.
 pub fn days_before_year(year: u64) -> u64

@@ -5,6 +5,7 @@ ghost use Rattle.calendar.specs.Gregorian.{dateOf, existsOf};
 ghost use Rattle.calendar.specs.Days.{ordinalOf, ofOrdinalOf, dayNumberOf, weekdayOf};
 ghost use Rattle.calendar.specs.Answers.{tomorrowOf, yesterdayOf, nextDateOf, ofDayOf, rowDateOf};
 use super::counts::days_before_year;
+use super::counts::since_first;
 use super::counts::year_of;
 use super::months::days_before;
 use super::months::month_days;
@@ -107,7 +108,11 @@ impl Date {
     pub fn next_date(self, fwd: bool) -> Date
         ensures { λ r. ⌜ r ≡ nextDateOf self fwd ⌝ }
     {
-        if fwd { self.tomorrow() } else { self.yesterday() }
+        if fwd {
+            self.tomorrow()
+        } else {
+            self.yesterday()
+        }
     }
 
     // Days from 1970-01-01.
@@ -122,21 +127,7 @@ impl Date {
     pub fn of_day(day: i64) -> Date
         ensures { λ r. ⌜ r ≡ ofDayOf day ⌝ }
     {
-        if day < -719528 {
-            return Date {
-                year: 0,
-                month: 1,
-                day: 1,
-            };
-        }
-        if day > 1568703873081 {
-            return Date {
-                year: 4294967295,
-                month: 12,
-                day: 31,
-            };
-        }
-        let n = (day + 719528) as u64;
+        let n = since_first(day);
         let year = year_of(n);
         of_ordinal(year as u32, (n + 1 - days_before_year(year)) as u32)
     }

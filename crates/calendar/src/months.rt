@@ -6,6 +6,7 @@ ghost use Rattle.calendar.specs.Days.{daysBeforeOf, monthOf};
 
 // The days before each month.
 const COMMON: [u32; 12] = [0, 31, 59, 90, 120, 151, 181, 212, 243, 273, 304, 334];
+
 const LEAP: [u32; 12] = [0, 31, 60, 91, 121, 152, 182, 213, 244, 274, 305, 335];
 
 pub fn days_before(leap: bool, month: u32) -> u32

@@ -5,20 +5,15 @@ use borrow.Author.Tests.{eq-eqb, ne-eqb, not-true, not-false}
 use Rattle.calendar.specs.Gregorian.{leapOf}
 use Rattle.calendar.proofs.years.is_leap_year.Statement.{statement}
 use Rattle.calendar.proofs.years.is_leap_year.Tie as tie
-use Rattle.calendar.proofs.years.is_leap_year.Reads as reads
-use Rattle.calendar.proofs.years.is_leap_year.Lts as lts
 
--- src/years.rt:10:9
 returns : tie.Need-returns
 unfolding leapOf
 returns c = simp (ne-eqb _ _ (c .if1 .taken))
 
--- src/years.rt:13:9
 returns-2 : tie.Need-returns-2
 unfolding leapOf
 returns-2 c = simp (eq-eqb _ _ (c .before .before .if1 .left), eq-eqb _ _ (c .before .if2 .taken), not-true (eqb (c .before .before .before .args .year % 400) 0) (c .if3 .taken))
 
--- src/years.rt:6:1
 returns-3 : tie.Need-returns-3
 unfolding leapOf
 returns-3 c =

@@ -1,52 +1,44 @@
+use Prim.Native.Nat.{_+_, _≤_}
+use native.Mathlib.Omega.{arith}
+use Rattle.calendar.proofs.Machine.{count-fits, less-fits, number-read}
 use borrow.Author.Needs.{needs}
 use Rattle.calendar.proofs.dates.Date.day_number.Statement.{statement}
 use Rattle.calendar.proofs.dates.Date.day_number.Tie as tie
-use Rattle.calendar.proofs.dates.Date.day_number.Reads as reads
-use Rattle.calendar.proofs.dates.Date.day_number.Lts as lts
-use Rattle.calendar.proofs.counts.days_before_year.Reads as days-before-year-reads
-use Rattle.calendar.proofs.dates.Date.ordinal.Reads as ordinal-reads
 
--- src/dates.rt:117:37
-cast-days-before-year : tie.Need-cast-days-before-year
-cast-days-before-year c = search needs
-
--- src/dates.rt:117:20
-days-before-year-requires : tie.Need-days-before-year-requires
-days-before-year-requires c κs = search needs
-
--- src/dates.rt:117:57
-ordinal-requires : tie.Need-ordinal-requires
-ordinal-requires c κs = tt
-
--- src/dates.rt:117:57
-cast-days : tie.Need-cast-days
-cast-days c = search needs
-
--- src/dates.rt:117:20
 add-days : tie.Need-add-days
-add-days c = ?
+add-days c =
+    let d = c .before .before .before .args .self in
+    let k : d .year ≤ 4294967295 = search needs in
+    let e = c .before .days-before-year .ensures in
+    let o = c .ordinal .ensures in
+    let r = count-fits d k (c .before .days-before-year .result + c .ordinal .result) (omega arith) in
+    omega arith
 
--- src/dates.rt:118:9
 cast-result : tie.Need-cast-result
-cast-result c = ?
+cast-result c =
+    let d = c .before .before .before .args .self in
+    let k : d .year ≤ 4294967295 = search needs in
+    let e = c .before .days-before-year .ensures in
+    let o = c .ordinal .ensures in
+    record { sfits = count-fits d k (c .before .days-before-year .result + c .ordinal .result) (omega arith) }
 
--- src/dates.rt:118:9
 sub-result : tie.Need-sub-result
-sub-result c = ?
+sub-result c =
+    let d = c .before .before .before .args .self in
+    let k : d .year ≤ 4294967295 = search needs in
+    let e = c .before .days-before-year .ensures in
+    let o = c .ordinal .ensures in
+    less-fits d k (c .before .days-before-year .result + c .ordinal .result) (omega arith)
 
--- src/dates.rt:114:5
 returns : tie.Need-returns
-returns c = ?
+returns c =
+    let d = c .before .before .before .args .self in
+    let k : d .year ≤ 4294967295 = search needs in
+    let e = c .before .days-before-year .ensures in
+    let o = c .ordinal .ensures in
+    number-read d k (c .before .days-before-year .result + c .ordinal .result) (omega arith)
 
 pub day-number-spec : {M : Type 1} → statement M
 day-number-spec =
     tie.close
-    (tie.spec
-    cast-days-before-year
-    days-before-year-requires
-    ordinal-requires
-    cast-days
-    add-days
-    cast-result
-    sub-result
-    returns)
+    (tie.spec (λ c. search needs) (λ c κs. search needs) (λ c κs. tt) (λ c. search needs) add-days cast-result sub-result returns)

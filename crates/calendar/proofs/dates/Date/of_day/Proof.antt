@@ -1,72 +1,49 @@
+use mir.Syntax.{w64}
+use Rattle.integers.specs.Ranges.{read}
+use native.Mathlib.Omega.{arith}
+use Rattle.calendar.specs.Days.{dateAtOf}
+use Rattle.calendar.proofs.ByCount.{days-fit, year-fits, rest, since-held}
+use borrow.Author.Needs.{needs}
 use Rattle.calendar.proofs.dates.Date.of_day.Statement.{statement}
 use Rattle.calendar.proofs.dates.Date.of_day.Tie as tie
-use Rattle.calendar.proofs.dates.Date.of_day.Reads as reads
-use Rattle.calendar.proofs.dates.Date.of_day.Lts as lts
-use Rattle.calendar.proofs.counts.days_before_year.Reads as days-before-year-reads
-use Rattle.calendar.proofs.counts.year_of.Reads as year-of-reads
-use Rattle.calendar.proofs.dates.of_ordinal.Reads as of-ordinal-reads
 
--- src/dates.rt:126:13
-returns : tie.Need-returns
-returns c = ?
-
--- src/dates.rt:133:13
-returns-2 : tie.Need-returns-2
-returns-2 c = ?
-
--- src/dates.rt:139:18
-add-n : tie.Need-add-n
-add-n c = ?
-
--- src/dates.rt:139:17
-cast-n : tie.Need-cast-n
-cast-n c = ?
-
--- src/dates.rt:140:13
 year-of-requires : tie.Need-year-of-requires
-year-of-requires c κs = ?
+year-of-requires c κs = days-fit _ (c .since-first .result) (c .since-first .ensures)
 
--- src/dates.rt:141:20
 cast-of-ordinal : tie.Need-cast-of-ordinal
-cast-of-ordinal c = ?
+cast-of-ordinal c = let y = year-fits _ (c .before .since-first .result) (c .before .since-first .ensures) (c .year-of .result) (c .year-of .ensures) in omega arith
 
--- src/dates.rt:141:34
 add-of-ordinal : tie.Need-add-of-ordinal
-add-of-ordinal c = ?
+add-of-ordinal c = let d = days-fit _ (c .before .since-first .result) (c .before .since-first .ensures) in omega arith
 
--- src/dates.rt:141:42
 days-before-year-requires : tie.Need-days-before-year-requires
-days-before-year-requires c κs = ?
+days-before-year-requires c κs = let y = year-fits _ (c .before .since-first .result) (c .before .since-first .ensures) (c .year-of .result) (c .year-of .ensures) in omega arith
 
--- src/dates.rt:141:34
 sub-of-ordinal : tie.Need-sub-of-ordinal
-sub-of-ordinal c = ?
+sub-of-ordinal c =
+    rest _ (c .before .before .since-first .result) (c .before .before .since-first .ensures) (c .before .year-of .result) (c .before .year-of .ensures) (c .days-before-year .result) (c .days-before-year .ensures) .less
 
--- src/dates.rt:141:33
 cast-of-ordinal-2 : tie.Need-cast-of-ordinal-2
-cast-of-ordinal-2 c = ?
+cast-of-ordinal-2 c =
+    let r = rest _ (c .before .before .since-first .result) (c .before .before .since-first .ensures) (c .before .year-of .result) (c .before .year-of .ensures) (c .days-before-year .result) (c .days-before-year .ensures) in
+    omega arith
 
--- src/dates.rt:141:9
 of-ordinal-requires : tie.Need-of-ordinal-requires
-of-ordinal-requires c κs = ?
+of-ordinal-requires c κs =
+    let r = rest _ (c .before .before .since-first .result) (c .before .before .since-first .ensures) (c .before .year-of .result) (c .before .year-of .ensures) (c .days-before-year .result) (c .days-before-year .ensures) in
+    (r .from, r .to)
 
--- src/dates.rt:122:5
-returns-3 : tie.Need-returns-3
-returns-3 c = ?
+returns : tie.Need-returns
+unfolding dateAtOf
+returns c =
+    let z = c .before .before .before .before .args .day in
+    let s = c .before .before .before .since-first .ensures in
+    let y = c .before .before .year-of .ensures in
+    let b = c .before .days-before-year .ensures in
+    let o = c .of-ordinal .ensures in
+    simp (o, b, y, s, read w64 z (c .before .before .before .before .fits .day)) (since-held z)
 
 pub of-day-spec : {M : Type 1} → statement M
 of-day-spec =
     tie.close
-    (tie.spec
-    returns
-    returns-2
-    add-n
-    cast-n
-    year-of-requires
-    cast-of-ordinal
-    add-of-ordinal
-    days-before-year-requires
-    sub-of-ordinal
-    cast-of-ordinal-2
-    of-ordinal-requires
-    returns-3)
+    (tie.spec (λ c κs. search needs) year-of-requires cast-of-ordinal add-of-ordinal days-before-year-requires sub-of-ordinal cast-of-ordinal-2 of-ordinal-requires returns)

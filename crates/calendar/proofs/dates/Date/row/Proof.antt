@@ -1,39 +1,30 @@
-use mathlib.Core.Path.{sym}
-use Rattle.calendar.specs.Answers.{fromOf}
+use mathlib.Core.Path.{sym, ap, _∙_}
+use mir.Syntax.{w64}
+use mir.Val.{SFits}
+use Rattle.calendar.specs.Answers.{fromOf, ofDayOf}
+use Prim.Native.Nat.{_≤_}
+use Rattle.calendar.proofs.Machine.{row-fits, row-read}
 use borrow.Author.Needs.{needs}
 use Rattle.calendar.proofs.dates.Date.row.Statement.{statement}
 use Rattle.calendar.proofs.dates.Date.row.Tie as tie
-use Rattle.calendar.proofs.dates.Date.row.Reads as reads
-use Rattle.calendar.proofs.dates.Date.row.Lts as lts
-use Rattle.calendar.proofs.dates.Date.day_number.Reads as day-number-reads
-use Rattle.calendar.proofs.dates.Date.exists.Reads as exists-reads
-use Rattle.calendar.proofs.dates.Date.of_day.Reads as of-day-reads
 
--- src/dates.rt:148:12
-exists-requires : tie.Need-exists-requires
-exists-requires c κs = tt
-
--- src/dates.rt:149:26
-day-number-requires : tie.Need-day-number-requires
-day-number-requires c κs = tt
-
--- src/dates.rt:149:46
-cast-of-day : tie.Need-cast-of-day
-cast-of-day c = search needs
-
--- src/dates.rt:149:26
 add-of-day : tie.Need-add-of-day
-add-of-day c = ?
+add-of-day c =
+    let d = c .before .before .before .args .self in
+    let k : d .year ≤ 4294967295 = search needs in
+    row-fits d k (c .day-number .result) (search needs) (c .day-number .ensures) (c .before .before .before .args .row) (search needs)
 
--- src/dates.rt:149:13
-of-day-requires : tie.Need-of-day-requires
-of-day-requires c κs = tt
-
--- src/dates.rt:145:5
 returns : tie.Need-returns
-returns c = ?
+unfolding fromOf
+returns c =
+    let s = c .before .before .before .before in
+    let d = s .args .self in
+    let z = c .before .day-number .result in
+    let f : SFits w64 z = search needs in
+    let h = sym (c .before .before .before .exists .ensures) ∙ c .before .before .if1 .taken in
+    let k : d .year ≤ 4294967295 = search needs in
+    rw (h, c .of-day .ensures) (ap ofDayOf (row-read d k z f (c .before .day-number .ensures) (s .args .row) (search needs)))
 
--- src/dates.rt:145:5
 returns-2 : tie.Need-returns-2
 unfolding fromOf
 returns-2 c =
@@ -43,11 +34,4 @@ returns-2 c =
 pub row-spec : {M : Type 1} → statement M
 row-spec =
     tie.close
-    (tie.spec
-    exists-requires
-    day-number-requires
-    cast-of-day
-    add-of-day
-    of-day-requires
-    returns
-    returns-2)
+    (tie.spec (λ c κs. tt) (λ c κs. tt) (λ c. search needs) add-of-day (λ c κs. tt) returns returns-2)

@@ -1,58 +1,49 @@
+use mathlib.Core.Path.{sym, ap, _∙_}
+use Prim.Native.Nat.{ℕ, _+_, _-_, _≤_}
+use native.Mathlib.Omega.{arith}
+use Rattle.calendar.specs.Gregorian.{leapOf, dayAfterOf}
+use Rattle.calendar.specs.Days.{daysInYearOf, ofOrdinalOf}
+use Rattle.calendar.proofs.MonthTables.{year-short}
+use Rattle.calendar.proofs.ByOrdinal.{from-none, tomorrow-within, tomorrow-new-year, tomorrow-last}
 use borrow.Author.Needs.{needs}
 use Rattle.calendar.proofs.dates.Date.tomorrow.Statement.{statement}
 use Rattle.calendar.proofs.dates.Date.tomorrow.Tie as tie
-use Rattle.calendar.proofs.dates.Date.tomorrow.Reads as reads
-use Rattle.calendar.proofs.dates.Date.tomorrow.Lts as lts
-use Rattle.calendar.proofs.dates.Date.ordinal.Reads as ordinal-reads
-use Rattle.calendar.proofs.dates.of_ordinal.Reads as of-ordinal-reads
-use Rattle.calendar.proofs.years.days_in_year.Reads as days-in-year-reads
 
--- src/dates.rt:69:13
-ordinal-requires : tie.Need-ordinal-requires
-ordinal-requires c κs = tt
-
--- src/dates.rt:71:13
 returns : tie.Need-returns
-returns c = ?
+returns c =
+    let d = c .before .before .args .self in
+    from-none d (dayAfterOf d) (sym (c .before .ordinal .ensures) ∙ c .if1 .taken)
 
--- src/dates.rt:73:22
-days-in-year-requires : tie.Need-days-in-year-requires
-days-in-year-requires c κs = tt
-
--- src/dates.rt:74:37
-add-of-ordinal : tie.Need-add-of-ordinal
-add-of-ordinal c = search needs
-
--- src/dates.rt:74:13
 of-ordinal-requires : tie.Need-of-ordinal-requires
-of-ordinal-requires c κs = ?
+of-ordinal-requires c κs =
+    let e = c .before .days-in-year .ensures in
+    let y = year-short (leapOf (c .before .before .before .before .args .self .year)) in
+    unfold daysInYearOf in (omega arith, omega arith)
 
--- src/dates.rt:74:13
 returns-2 : tie.Need-returns-2
-returns-2 c = ?
+returns-2 c =
+    let s = c .before .before .before .before .before in
+    let d = s .args .self in
+    let o = c .before .before .before .before .ordinal .ensures in
+    let k : d .year ≤ 4294967295 = search needs in
+    c .of-ordinal .ensures ∙ ap (λ (n : ℕ). ofOrdinalOf (d .year) (n + 1)) o
+    ∙ tomorrow-within d (λ z. c .before .before .before .if1 .left (o ∙ z)) k (omega arith)
 
--- src/dates.rt:77:13
 returns-3 : tie.Need-returns-3
-returns-3 c = ?
+returns-3 c =
+    let d = c .before .before .before .before .before .args .self in
+    let o = c .before .before .before .before .ordinal .ensures in
+    let k : d .year ≤ 4294967295 = search needs in
+    tomorrow-last d (λ z. c .before .before .before .if1 .left (o ∙ z)) k (omega arith) (c .if3 .taken)
 
--- src/dates.rt:80:19
-add-t5 : tie.Need-add-t5
-add-t5 c = search needs
-
--- src/dates.rt:65:5
 returns-4 : tie.Need-returns-4
-returns-4 c = ?
+returns-4 c =
+    let d = c .before .before .before .before .before .args .self in
+    let o = c .before .before .before .before .ordinal .ensures in
+    let k : d .year ≤ 4294967295 = search needs in
+    tomorrow-new-year d (λ z. c .before .before .before .if1 .left (o ∙ z)) k (omega arith) (c .if3 .left)
 
 pub tomorrow-spec : {M : Type 1} → statement M
 tomorrow-spec =
     tie.close
-    (tie.spec
-    ordinal-requires
-    returns
-    days-in-year-requires
-    add-of-ordinal
-    of-ordinal-requires
-    returns-2
-    returns-3
-    add-t5
-    returns-4)
+    (tie.spec (λ c κs. tt) returns (λ c κs. tt) (λ c. search needs) of-ordinal-requires returns-2 returns-3 (λ c. search needs) returns-4)

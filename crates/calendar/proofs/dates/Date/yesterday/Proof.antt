@@ -1,52 +1,50 @@
+use mathlib.Core.Path.{sym, ap, _∙_}
+use Prim.Native.Nat.{ℕ, _-_, _≤_}
+use native.Mathlib.Omega.{arith}
+use Rattle.calendar.specs.Gregorian.{dayBeforeOf}
+use Rattle.calendar.specs.Days.{ofOrdinalOf}
+use Rattle.calendar.proofs.Existing.{ordinal-short}
+use Rattle.calendar.proofs.ByOrdinal.{from-none, yesterday-within, yesterday-old-year, yesterday-first}
 use borrow.Author.Needs.{needs}
 use Rattle.calendar.proofs.dates.Date.yesterday.Statement.{statement}
 use Rattle.calendar.proofs.dates.Date.yesterday.Tie as tie
-use Rattle.calendar.proofs.dates.Date.yesterday.Reads as reads
-use Rattle.calendar.proofs.dates.Date.yesterday.Lts as lts
-use Rattle.calendar.proofs.dates.Date.ordinal.Reads as ordinal-reads
-use Rattle.calendar.proofs.dates.of_ordinal.Reads as of-ordinal-reads
 
--- src/dates.rt:90:13
-ordinal-requires : tie.Need-ordinal-requires
-ordinal-requires c κs = tt
-
--- src/dates.rt:92:13
 returns : tie.Need-returns
-returns c = ?
+returns c =
+    let d = c .before .before .args .self in
+    from-none d (dayBeforeOf d) (sym (c .before .ordinal .ensures) ∙ c .if1 .taken)
 
--- src/dates.rt:95:37
-sub-of-ordinal : tie.Need-sub-of-ordinal
-sub-of-ordinal c = search needs
-
--- src/dates.rt:95:13
 of-ordinal-requires : tie.Need-of-ordinal-requires
-of-ordinal-requires c κs = ?
+of-ordinal-requires c κs =
+    let d = c .before .before .before .args .self in
+    let o = c .before .before .ordinal .ensures in
+    let n = ordinal-short d in
+    (omega arith, omega arith)
 
--- src/dates.rt:95:13
 returns-2 : tie.Need-returns-2
-returns-2 c = ?
+returns-2 c =
+    let s = c .before .before .before .before in
+    let d = s .args .self in
+    let o = c .before .before .before .ordinal .ensures in
+    let k : d .year ≤ 4294967295 = search needs in
+    c .of-ordinal .ensures ∙ ap (λ (n : ℕ). ofOrdinalOf (d .year) (n - 1)) o
+    ∙ yesterday-within d (λ z. c .before .before .if1 .left (o ∙ z)) k (omega arith)
 
--- src/dates.rt:98:13
 returns-3 : tie.Need-returns-3
-returns-3 c = ?
+returns-3 c =
+    let d = c .before .before .before .before .args .self in
+    let o = c .before .before .before .ordinal .ensures in
+    let k : d .year ≤ 4294967295 = search needs in
+    yesterday-first d (λ z. c .before .before .if1 .left (o ∙ z)) k (omega arith) (c .if3 .taken)
 
--- src/dates.rt:101:19
-sub-t6 : tie.Need-sub-t6
-sub-t6 c = search needs
-
--- src/dates.rt:86:5
 returns-4 : tie.Need-returns-4
-returns-4 c = ?
+returns-4 c =
+    let d = c .before .before .before .before .args .self in
+    let o = c .before .before .before .ordinal .ensures in
+    let k : d .year ≤ 4294967295 = search needs in
+    yesterday-old-year d (λ z. c .before .before .if1 .left (o ∙ z)) k (omega arith) (c .if3 .left)
 
 pub yesterday-spec : {M : Type 1} → statement M
 yesterday-spec =
     tie.close
-    (tie.spec
-    ordinal-requires
-    returns
-    sub-of-ordinal
-    of-ordinal-requires
-    returns-2
-    returns-3
-    sub-t6
-    returns-4)
+    (tie.spec (λ c κs. tt) returns (λ c. search needs) of-ordinal-requires returns-2 returns-3 (λ c. search needs) returns-4)
