@@ -1,0 +1,108 @@
+-- The neighbours of a date by its day of the year: the way that the code takes is the calendar's rule. Assumes nothing.
+use mathlib.Core.Path.{_≡_, refl, ap, _∙_, subst}
+use mathlib.Core.Bool.{Bool, true, false, cond}
+use Prim.Native.Nat.{_+_, _-_, _≤_, _<_}
+use native.Mathlib.Omega.{arith}
+use borrow.Author.Tests.{le-leb, lt-leb}
+use Rattle.calendar.specs.Gregorian.{dateOf, existsOf, dayAfterOf, dayBeforeOf}
+use Rattle.calendar.specs.Days.{daysInYearOf, daysBeforeYearOf, ordinalOf, ofOrdinalOf}
+use Rattle.calendar.specs.Answers.{heldOf, fromOf, tomorrowOf, yesterdayOf}
+use Rattle.calendar.specs.declared.dates.Date.{Date}
+use Rattle.calendar.proofs.YearSteps.{year-step}
+use Rattle.calendar.proofs.Existing.{ordinal-within, ordinal-forth, count-injective}
+use Rattle.calendar.proofs.Neighbours.{after, before, new-year, year-end}
+use Rattle.calendar.proofs.CalendarLaws.{ordinal-first, ordinal-last}
+
+-- ---- what is answered of a date, and of its neighbours
+held : (d : Date) → d .year ≤ 4294967295 → d ≡ heldOf d
+unfolding heldOf
+held d h = rw (le-leb (d .year) 4294967295 h)
+
+from-there : (d e : Date) → existsOf d ≡ true → e .year ≤ 4294967295 → e ≡ fromOf d e
+unfolding fromOf
+from-there d e h l = rw h (held e l)
+
+-- only a date that does not exist has the ordinal 0
+there : (d : Date) → (ordinalOf d ≡ 0 → ⊥) → existsOf d ≡ true
+unfolding ordinalOf
+there d h = by-test (existsOf d) refl
+  where
+    by-test : (b : Bool) → existsOf d ≡ b → existsOf d ≡ true
+    by-test true e = e
+    by-test false e = absurd (h (rw e))
+
+pub from-none : (d e : Date) → ordinalOf d ≡ 0 → d ≡ fromOf d e
+unfolding fromOf
+from-none d e h = by-test (existsOf d) refl
+  where
+    by-test : (b : Bool) → existsOf d ≡ b → d ≡ cond b (heldOf e) d
+    by-test true t = let o = ordinal-within d t in absurd (omega arith)
+    by-test false t = refl
+
+module _ (d : Date) (some : ordinalOf d ≡ 0 → ⊥) (small : d .year ≤ 4294967295) where
+  here : existsOf d ≡ true
+  here = there d some
+
+  -- ---- tomorrow
+  pub tomorrow-within : ordinalOf d < daysInYearOf (d .year) → ofOrdinalOf (d .year) (ordinalOf d + 1) ≡ tomorrowOf d
+  tomorrow-within l =
+      let n = ordinalOf d + 1 in
+      let e = ofOrdinalOf (d .year) n in
+      let f = ordinal-forth (d .year) n (record { from = omega arith; to = omega arith }) in
+      let a = after d here in
+      let y = ap daysBeforeYearOf (f .year) in
+      let i : e ≡ dayAfterOf d = count-injective e (dayAfterOf d) (f .there) (a .there) (omega arith) in
+      i ∙ from-there d (dayAfterOf d) here (subst (λ (x : Date). x .year ≤ 4294967295) i (omega (arith, f .year)))
+
+  year-over : daysInYearOf (d .year) ≤ ordinalOf d → dateOf (d .year + 1) 1 1 ≡ dayAfterOf d
+  year-over l =
+      let a = after d here in
+      let o = ordinal-within d here in
+      let s = year-step (d .year) in
+      count-injective (dateOf (d .year + 1) 1 1) (dayAfterOf d) (new-year (d .year + 1)) (a .there) (omega (arith, ordinal-first (d .year + 1)))
+
+  pub tomorrow-new-year : daysInYearOf (d .year) ≤ ordinalOf d → (d .year ≡ 4294967295 → ⊥) → dateOf (d .year + 1) 1 1 ≡ tomorrowOf d
+  tomorrow-new-year l n = subst (λ (x : Date). dateOf (d .year + 1) 1 1 ≡ fromOf d x) (year-over l) (from-there d (dateOf (d .year + 1) 1 1) here (omega arith))
+
+  -- the last date of the last year
+  pub tomorrow-last : daysInYearOf (d .year) ≤ ordinalOf d → d .year ≡ 4294967295 → d ≡ tomorrowOf d
+  unfolding fromOf heldOf
+  tomorrow-last l n =
+      let o = ordinal-within d here in
+      let e : d ≡ dateOf 4294967295 12 31 = count-injective d (dateOf 4294967295 12 31) here (year-end 4294967295) (omega (arith, ordinal-last 4294967295, ap daysBeforeYearOf n, ap daysInYearOf n)) in
+      rw (here, ← year-over l, lt-leb (d .year + 1) 4294967295 (omega arith)) e
+
+  -- ---- yesterday
+  pub yesterday-within : 1 < ordinalOf d → ofOrdinalOf (d .year) (ordinalOf d - 1) ≡ yesterdayOf d
+  yesterday-within l =
+      let n = ordinalOf d - 1 in
+      let o = ordinal-within d here in
+      let e = ofOrdinalOf (d .year) n in
+      let f = ordinal-forth (d .year) n (record { from = omega arith; to = omega arith }) in
+      let b = before d here (λ z. not-first l (ap ordinalOf z)) in
+      let g = b .next in
+      let y = ap daysBeforeYearOf (f .year) in
+      let i : e ≡ dayBeforeOf d = count-injective e (dayBeforeOf d) (f .there) (b .there) (omega arith) in
+      i ∙ from-there d (dayBeforeOf d) here (subst (λ (x : Date). x .year ≤ 4294967295) i (omega (arith, f .year)))
+    where
+      not-first : 1 < ordinalOf d → ordinalOf d ≡ ordinalOf (dateOf 0 1 1) → ⊥
+      not-first l z = omega (arith, ordinal-first 0)
+
+  pub yesterday-old-year : ordinalOf d ≤ 1 → (d .year ≡ 0 → ⊥) → dateOf (d .year - 1) 12 31 ≡ yesterdayOf d
+  yesterday-old-year l n =
+      let o = ordinal-within d here in
+      let e = dateOf (d .year - 1) 12 31 in
+      let b = before d here (λ z. n (ap (λ (x : Date). x .year) z)) in
+      let g = b .next in
+      let y : d .year - 1 + 1 ≡ d .year = omega arith in
+      let s = year-step (d .year - 1) in
+      let i : e ≡ dayBeforeOf d = count-injective e (dayBeforeOf d) (year-end (d .year - 1)) (b .there) (omega (arith, ordinal-last (d .year - 1), ap daysBeforeYearOf y)) in
+      i ∙ from-there d (dayBeforeOf d) here (subst (λ (x : Date). x .year ≤ 4294967295) i (omega arith))
+
+  -- the first date of all
+  pub yesterday-first : ordinalOf d ≤ 1 → d .year ≡ 0 → d ≡ yesterdayOf d
+  unfolding dayBeforeOf
+  yesterday-first l n =
+      let o = ordinal-within d here in
+      let e : dateOf 0 1 1 ≡ d = count-injective (dateOf 0 1 1) d (new-year 0) here (omega (arith, ordinal-first 0, ap daysBeforeYearOf n)) in
+      subst (λ (x : Date). x ≡ yesterdayOf x) e (from-there (dateOf 0 1 1) (dateOf 0 1 1) (new-year 0) (omega arith))

@@ -1,0 +1,20 @@
+-- A rule for each number below n, by one test that antt computes. Assumes nothing.
+use mathlib.Core.Path.{_≡_, subst, sym}
+use mathlib.Core.Bool.{Bool, true, _&&_}
+use mathlib.Core.Logic.{⊎-elim}
+use Prim.Native.Nat.{ℕ, zero, suc, _<_}
+use native.Mathlib.Nat.{eq-or-lt-of-le, le-of-suc-le-suc, not-suc-le-zero}
+use lib.Dec.{T}
+use lib.Ieee.Fits.{and-l, and-r}
+
+-- the test f passes at each number below n
+abbrev pub below : (ℕ → Bool) → ℕ → Bool
+below f zero = true
+below f (suc n) = f n && below f n
+
+pub at : (f : ℕ → Bool) (n : ℕ) → T (below f n) → (k : ℕ) → k < n → T (f k)
+at f zero t k h = absurd (not-suc-le-zero h)
+at f (suc n) t k h =
+    ⊎-elim (λ (e : k ≡ n). subst (λ (j : ℕ). T (f j)) (sym e) (and-l (f n) (below f n) t))
+    (λ (l : k < n). at f n (and-r (f n) (below f n) t) k l)
+    (eq-or-lt-of-le (le-of-suc-le-suc h))

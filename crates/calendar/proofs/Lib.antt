@@ -1,0 +1,9 @@
+pub mod ByCount
+pub mod ByOrdinal
+pub mod CalendarLaws
+pub mod Computed
+pub mod Existing
+pub mod Machine
+pub mod MonthTables
+pub mod Neighbours
+pub mod YearSteps

@@ -1,0 +1,158 @@
+-- Day numbers as i64: no step of the code loses anything. Assumes nothing.
+use mathlib.Core.Path.{_≡_, sym, ap, _∙_}
+use mathlib.Core.Bool.{true, false}
+use Prim.Native.Nat.{ℕ, _+_, _-_, _%_, _^_, _≤_, _<_}
+use native.Mathlib.Omega.{arith}
+use lib.Dec.{T, lit<}
+use lib.IntN.{ℤ, pos, negsuc, natAbs, _+ℤ_, _-ℤ_}
+use lib.Signed.{ltZ, quotZ, remZ, nonNeg}
+use mir.Syntax.{w64, w32}
+use mir.Val.{SFits, Fits, toZ}
+use borrow.Author.Tests.{le-leb, lt-leb}
+use Rattle.integers.specs.Parts.{P, N, natural, not-negative, not-positive}
+use Rattle.integers.specs.Sums.{sum, difference}
+use Rattle.integers.specs.Order.{lt-yes, lt-no}
+use Rattle.integers.specs.Quotients.{divided, floored}
+use Rattle.integers.specs.Ranges.{range, fits, readBack, read}
+use Rattle.calendar.specs.Days.{dayNumberOf, weekdayOf}
+use Rattle.calendar.specs.Answers.{sinceFirstOf}
+use Rattle.calendar.specs.declared.dates.Date.{Date}
+use Rattle.calendar.proofs.YearSteps.{year-mono, last-year}
+use Rattle.calendar.proofs.Existing.{count, ordinal-short}
+
+-- ---- the number of a day
+pub count-room : (d : Date) → d .year ≤ 4294967295 → count d < 1568704592977
+count-room d h = let o = ordinal-short d in let m = year-mono (d .year) 4294967296 (omega arith) in omega (arith, last-year)
+
+module _ (d : Date) (small : d .year ≤ 4294967295) (n : ℕ) (e : n ≡ count d) where
+  pub count-fits : n < 2 ^ 63
+  count-fits = let r = count-room d small in omega arith
+
+  number : ℤ
+  number = pos n -ℤ pos 719529
+
+  seen : toZ w64 n ≡ pos n
+  seen = read w64 (pos n) (record { sfits = count-fits })
+
+  number-fits : SFits w64 number
+  unfolding number
+  number-fits = let s = difference (pos n) (pos 719529) in let c = count-fits in fits w64 number (omega (arith, s .0, s .1)) (omega (arith, s .0, s .1))
+
+  pub less-fits : SFits w64 (toZ w64 n -ℤ pos 719529)
+  unfolding number
+  less-fits = rw seen number-fits
+
+  pub number-read : readBack w64 (toZ w64 n -ℤ pos 719529) ≡ dayNumberOf d
+  unfolding number dayNumberOf
+  number-read = rw (seen, read w64 number number-fits) (ap (λ (k : ℕ). pos k -ℤ pos 719529) e)
+
+-- ---- the day of a number
+module _ (z : ℤ) (f : SFits w64 z) where
+  same-read : readBack w64 z ≡ z
+  same-read = read w64 z f
+
+  pub first-below : ltZ (readBack w64 z) (negsuc 719527) ≡ true → 0 ≡ sinceFirstOf z
+  unfolding sinceFirstOf
+  first-below t =
+      let l = lt-yes z (negsuc 719527) (ap (λ (x : ℤ). ltZ x (negsuc 719527)) (sym same-read) ∙ t) in
+      let s = sum z (pos 719528) in
+      let n = not-positive (z +ℤ pos 719528) (omega arith) in
+      rw n
+
+  pub first-above : ltZ (pos 1568703873081) (readBack w64 z) ≡ true → 1568704592609 ≡ sinceFirstOf z
+  unfolding sinceFirstOf
+  first-above t =
+      let l = lt-yes (pos 1568703873081) z (ap (ltZ (pos 1568703873081)) (sym same-read) ∙ t) in
+      let s = sum z (pos 719528) in
+      rw (lt-leb (P (z +ℤ pos 719528)) 1568704592609 (omega arith))
+
+  module _ (a : ltZ (readBack w64 z) (negsuc 719527) ≡ false) (b : ltZ (pos 1568703873081) (readBack w64 z) ≡ false) where
+    low : N z ≤ P z + 719528
+    low = let l = lt-no z (negsuc 719527) (ap (λ (x : ℤ). ltZ x (negsuc 719527)) (sym same-read) ∙ a) in omega arith
+
+    high : P z ≤ N z + 1568703873081
+    high = let l = lt-no (pos 1568703873081) z (ap (ltZ (pos 1568703873081)) (sym same-read) ∙ b) in omega arith
+
+    within : P (z +ℤ pos 719528) ≤ 1568704592609
+    within = let s = sum z (pos 719528) in let l = low in let h = high in let n = not-negative (z +ℤ pos 719528) (omega arith) in omega arith
+
+    sum-fits : SFits w64 (z +ℤ pos 719528)
+    sum-fits = let s = sum z (pos 719528) in let r = range w64 z f in let w = within in fits w64 (z +ℤ pos 719528) (omega arith) (omega arith)
+
+    pub shift-fits : SFits w64 (readBack w64 z +ℤ pos 719528)
+    shift-fits = rw same-read sum-fits
+
+    shifted : readBack w64 (readBack w64 z +ℤ pos 719528) ≡ pos (P (z +ℤ pos 719528))
+    shifted =
+        let s = sum z (pos 719528) in
+        let l = low in
+        rw same-read (read w64 (z +ℤ pos 719528) sum-fits ∙ natural (z +ℤ pos 719528) (omega arith))
+
+    pub shift-cast : T (nonNeg (readBack w64 (readBack w64 z +ℤ pos 719528))) × Fits w64 (natAbs (readBack w64 (readBack w64 z +ℤ pos 719528)))
+    shift-cast = let w = within in rw shifted (tt, record { fits = omega arith })
+
+    pub first-within : natAbs (readBack w64 (readBack w64 z +ℤ pos 719528)) ≡ sinceFirstOf z
+    unfolding sinceFirstOf
+    first-within = rw (shifted, le-leb (P (z +ℤ pos 719528)) 1568704592609 within)
+
+-- ---- a row's day
+module _ (d : Date) (small : d .year ≤ 4294967295) (z : ℤ) (f : SFits w64 z) (e : z ≡ dayNumberOf d) (row : ℕ) (r : row < 2 ^ 32) where
+  row-seen : readBack w64 z +ℤ toZ w64 row ≡ z +ℤ pos row
+  row-seen = rw (read w64 z f, read w64 (pos row) (record { sfits = omega arith }))
+
+  sum-small : SFits w64 (z +ℤ pos row)
+  unfolding dayNumberOf
+  sum-small =
+      let c = count-room d small in
+      let b = difference (pos (count d)) (pos 719529) in
+      let s = sum z (pos row) in
+      fits w64 (z +ℤ pos row) (omega (arith, b .0, b .1, ap P e, ap N e)) (omega (arith, b .0, b .1, ap P e, ap N e))
+
+  pub row-fits : SFits w64 (readBack w64 z +ℤ toZ w64 row)
+  row-fits = rw row-seen sum-small
+
+  pub row-read : readBack w64 (readBack w64 z +ℤ toZ w64 row) ≡ dayNumberOf d +ℤ pos row
+  row-read = rw row-seen (read w64 (z +ℤ pos row) sum-small ∙ ap (λ (x : ℤ). x +ℤ pos row) e)
+
+-- ---- the day of the week: z % 7 + 11 is a natural number k from 5 to 17
+module _ (z : ℤ) (f : SFits w64 z) where
+  k : ℕ
+  k = P (remZ z (pos 7) +ℤ pos 11)
+
+  eleven : remZ z (pos 7) +ℤ pos 11 ≡ pos k
+  unfolding k
+  eleven = let d = divided z 7 (lit< tt) in let s = sum (remZ z (pos 7)) (pos 11) in natural (remZ z (pos 7) +ℤ pos 11) (omega arith)
+
+  k-small : k < 18
+  unfolding k
+  k-small = let d = divided z 7 (lit< tt) in let s = sum (remZ z (pos 7)) (pos 11) in omega arith
+
+  rest : readBack w64 (remZ (readBack w64 z) (pos 7)) ≡ remZ z (pos 7)
+  rest = let d = divided z 7 (lit< tt) in rw (read w64 z f) (read w64 (remZ z (pos 7)) (fits w64 (remZ z (pos 7)) (omega arith) (omega arith)))
+
+  pub week-quotient : SFits w64 (quotZ (readBack w64 z) (pos 7))
+  week-quotient = let d = divided z 7 (lit< tt) in let r = range w64 z f in rw (read w64 z f) (fits w64 (quotZ z (pos 7)) (omega arith) (omega arith))
+
+  pub week-sum : SFits w64 (readBack w64 (remZ (readBack w64 z) (pos 7)) +ℤ pos 11)
+  week-sum = let l = k-small in rw (rest, eleven) (record { sfits = omega arith })
+
+  again : readBack w64 (readBack w64 (remZ (readBack w64 z) (pos 7)) +ℤ pos 11) ≡ pos k
+  again = let l = k-small in rw (rest, eleven) (read w64 (pos k) (record { sfits = omega arith }))
+
+  pub week-quotient-2 : SFits w64 (quotZ (readBack w64 (readBack w64 (remZ (readBack w64 z) (pos 7)) +ℤ pos 11)) (pos 7))
+  week-quotient-2 = let l = k-small in rw again (record { sfits = omega arith })
+
+  day : readBack w64 (remZ (readBack w64 (readBack w64 (remZ (readBack w64 z) (pos 7)) +ℤ pos 11)) (pos 7)) ≡ pos (k % 7)
+  day = rw again (read w64 (pos (k % 7)) (record { sfits = omega arith }))
+
+  pub week-cast : (let w = readBack w64 (remZ (readBack w64 (readBack w64 (remZ (readBack w64 z) (pos 7)) +ℤ pos 11)) (pos 7)) in T (nonNeg w) × Fits w32 (natAbs w))
+  week-cast = rw day (tt, record { fits = omega arith })
+
+  pub week-day : natAbs (readBack w64 (remZ (readBack w64 (readBack w64 (remZ (readBack w64 z) (pos 7)) +ℤ pos 11)) (pos 7))) ≡ weekdayOf z
+  unfolding weekdayOf k
+  week-day =
+      let d = divided z 7 (lit< tt) in
+      let g = floored z 7 (lit< tt) in
+      let s = sum (remZ z (pos 7)) (pos 11) in
+      let e = ap N eleven in
+      rw day (omega arith)

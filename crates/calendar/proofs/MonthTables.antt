@@ -1,0 +1,162 @@
+-- The rows of days before each month, held to the months' lengths by tests that antt computes. Assumes nothing.
+use mathlib.Core.Path.{_≡_, refl}
+use mathlib.Core.Bool.{Bool, true, false, cond, not, _&&_, _||_}
+use Prim.Native.Nat.{ℕ, zero, suc, _+_, _-_, _/_, _≤_, _<_}
+use native.Mathlib.Omega.{arith}
+use borrow.Author.Tests.{ltb-true, ltb-false}
+use lib.Dec.{T, eqb, ltb, leb, eqb→eq, leb→le, ltb→lt, le→leb, lit≤}
+use lib.ListN.{List·getD-eq-default}
+use lib.Ieee.Fits.{and-l, and-r}
+use Rattle.calendar.specs.Gregorian.{lengthsOf, lengthOf}
+use Rattle.calendar.specs.Days.{rowOf, daysBeforeOf, countBelow, monthOf}
+use Rattle.calendar.proofs.Computed.{below, at}
+
+-- a test at each number below n, in both kinds of year
+tested : (f : Bool → ℕ → Bool) (n : ℕ) → T (below (f true) n && below (f false) n) → (leap : Bool) (k : ℕ) → k < n → T (f leap k)
+tested f n t true k h = at (f true) n (and-l (below (f true) n) (below (f false) n) t) k h
+tested f n t false k h = at (f false) n (and-r (below (f true) n) (below (f false) n) t) k h
+
+-- a test that is asked under a condition
+when : (a b : Bool) → T (not a || b) → T a → T b
+when true b t h = t
+when false b t h = absurd h
+
+-- a year is short
+pub year-short : (leap : Bool) → cond leap 366 365 ≤ 366
+year-short true = lit≤ tt
+year-short false = lit≤ tt
+
+-- ---- the days before a month are the sum of the months before it
+stepTest : Bool → ℕ → Bool
+stepTest leap m = eqb (daysBeforeOf leap (m + 1)) (daysBeforeOf leap m + lengthOf leap m)
+
+pub row-step : (leap : Bool) (m : ℕ) → m < 12 → daysBeforeOf leap (m + 1) ≡ daysBeforeOf leap m + lengthOf leap m
+unfolding stepTest daysBeforeOf lengthOf
+row-step leap m h = eqb→eq _ _ (tested stepTest 12 tt leap m h)
+
+pub row-january : (leap : Bool) → daysBeforeOf leap 1 ≡ 0
+unfolding daysBeforeOf
+row-january true = refl
+row-january false = refl
+
+pub row-none : (leap : Bool) → daysBeforeOf leap 0 ≡ 0
+unfolding daysBeforeOf
+row-none true = refl
+row-none false = refl
+
+pub row-december : (leap : Bool) → daysBeforeOf leap 12 + 31 ≡ cond leap 366 365
+unfolding daysBeforeOf
+row-december true = refl
+row-december false = refl
+
+pub length-january : (leap : Bool) → lengthOf leap 1 ≡ 31
+unfolding lengthOf
+length-january leap = refl
+
+pub length-december : (leap : Bool) → lengthOf leap 12 ≡ 31
+unfolding lengthOf
+length-december leap = refl
+
+pub length-past : (leap : Bool) (m : ℕ) → 12 < m → lengthOf leap m ≡ 0
+unfolding lengthOf
+length-past leap m h = List·getD-eq-default (lengthsOf leap) 0 h
+
+pub row-past : (leap : Bool) (m : ℕ) → 12 < m → daysBeforeOf leap m ≡ 0
+unfolding daysBeforeOf
+row-past true m h = let k : 12 ≤ m - 1 = omega arith in List·getD-eq-default (rowOf true) 0 k
+row-past false m h = let k : 12 ≤ m - 1 = omega arith in List·getD-eq-default (rowOf false) 0 k
+
+someTest : Bool → ℕ → Bool
+someTest leap k = ltb 0 (lengthOf leap (k + 1))
+
+pub length-some : (leap : Bool) (k : ℕ) → k < 12 → 0 < lengthOf leap (k + 1)
+unfolding someTest lengthOf
+length-some leap k h = ltb→lt 0 _ (tested someTest 12 tt leap k h)
+
+-- a month that has days is one of the twelve, with at most 31, and the row allows for them
+pub record Month (leap : Bool) (m : ℕ) : Type 0 where
+  pub first : 0 < m
+  pub last : m ≤ 12
+  pub long : lengthOf leap m ≤ 31
+  pub room : daysBeforeOf leap m + lengthOf leap m ≤ cond leap 366 365
+
+monthTest : Bool → ℕ → Bool
+monthTest leap m = leb (lengthOf leap m) 31 && leb (daysBeforeOf leap m + lengthOf leap m) (cond leap 366 365)
+
+pub month : (leap : Bool) (m d : ℕ) → 0 < d → d ≤ lengthOf leap m → Month leap m
+unfolding monthTest daysBeforeOf lengthOf
+month leap zero d p q = absurd (omega arith)
+month leap (suc k) d p q = by-test (ltb 12 (suc k)) refl
+  where
+    by-test : (b : Bool) → ltb 12 (suc k) ≡ b → Month leap (suc k)
+    by-test true e = let z = length-past leap (suc k) (ltb-true 12 (suc k) e) in absurd (omega arith)
+    by-test false e =
+        let l = ltb-false 12 (suc k) e in
+        let t = tested monthTest 13 tt leap (suc k) (omega arith) in
+        record {
+          first = omega arith;
+          last = l;
+          long = leb→le _ _ (and-l (leb (lengthOf leap (suc k)) 31) _ t);
+          room = leb→le _ _ (and-r (leb (lengthOf leap (suc k)) 31) _ t);
+        }
+
+-- ---- the month of an ordinal
+-- a date's month is the one that its ordinal names
+findTest : Bool → ℕ → ℕ → Bool
+findTest leap m d = not (leb 1 d) || (not (leb d (lengthOf leap m)) || eqb (monthOf leap (daysBeforeOf leap m + d)) m)
+
+pub month-found : (leap : Bool) (m d : ℕ) → 0 < d → d ≤ lengthOf leap m → monthOf leap (daysBeforeOf leap m + d) ≡ m
+unfolding findTest daysBeforeOf lengthOf monthOf countBelow
+month-found leap m d p q =
+    let r = month leap m d p q in
+    let t = at (findTest leap m) 32 (tested (λ (b : Bool) (k : ℕ). below (findTest b k) 32) 13 tt leap m (omega arith)) d (omega arith) in
+    eqb→eq _ _ (when (leb d (lengthOf leap m)) _ (when (leb 1 d) _ t (le→leb 1 d p)) (le→leb d (lengthOf leap m) q))
+
+-- each day of the year lies in the month that its ordinal names
+pub record Place (leap : Bool) (n m : ℕ) : Type 0 where
+  pub first : 0 < m
+  pub last : m ≤ 12
+  pub after : daysBeforeOf leap m < n
+  pub within : n ≤ daysBeforeOf leap m + lengthOf leap m
+
+placeTest : Bool → ℕ → Bool
+placeTest leap n =
+    let m = monthOf leap n in
+    not (leb 1 n) || (not (leb n (cond leap 366 365)) || (ltb 0 m && leb m 12 && ltb (daysBeforeOf leap m) n && leb n (daysBeforeOf leap m + lengthOf leap m)))
+
+pub month-place : (leap : Bool) (n : ℕ) → 0 < n → n ≤ cond leap 366 365 → Place leap n (monthOf leap n)
+unfolding placeTest daysBeforeOf lengthOf monthOf countBelow
+month-place leap n p q =
+    let m = monthOf leap n in
+    let a = ltb 0 m in
+    let b = leb m 12 in
+    let c = ltb (daysBeforeOf leap m) n in
+    let d = leb n (daysBeforeOf leap m + lengthOf leap m) in
+    let k = tested placeTest 367 tt leap n (let y = year-short leap in omega arith) in
+    let t : T (a && b && c && d) = when (leb n (cond leap 366 365)) _ (when (leb 1 n) _ k (le→leb 1 n p)) (le→leb n (cond leap 366 365) q) in
+    record {
+      first = ltb→lt 0 m (and-l a b (and-l (a && b) c (and-l (a && b && c) d t)));
+      last = leb→le m 12 (and-r a b (and-l (a && b) c (and-l (a && b && c) d t)));
+      after = ltb→lt (daysBeforeOf leap m) n (and-r (a && b) c (and-l (a && b && c) d t));
+      within = leb→le n (daysBeforeOf leap m + lengthOf leap m) (and-r (a && b && c) d t);
+    }
+
+afterTest : Bool → ℕ → Bool
+afterTest leap n = leb (daysBeforeOf leap (monthOf leap n)) n
+
+-- the days before an ordinal's month are no more than the ordinal, whatever it is
+pub month-after : (leap : Bool) (n : ℕ) → n ≤ 366 → daysBeforeOf leap (monthOf leap n) ≤ n
+unfolding afterTest daysBeforeOf monthOf countBelow
+month-after leap n h = leb→le _ _ (tested afterTest 367 tt leap n (omega arith))
+
+-- the search: where the months were 32 days long, or one later
+searchOf : Bool → ℕ → ℕ
+searchOf leap n = let guess = n / 32 + 1 in cond (ltb guess 12 && ltb (daysBeforeOf leap (guess + 1)) n) (guess + 1) guess
+
+searchTest : Bool → ℕ → Bool
+searchTest leap n = not (leb 1 n) || eqb (searchOf leap n) (monthOf leap n)
+
+pub month-searched : (leap : Bool) (n : ℕ) → 0 < n → n ≤ 366 →
+    (let guess = n / 32 + 1 in cond (ltb guess 12 && ltb (daysBeforeOf leap (guess + 1)) n) (guess + 1) guess) ≡ monthOf leap n
+unfolding searchTest searchOf daysBeforeOf monthOf countBelow
+month-searched leap n p q = eqb→eq _ _ (when (leb 1 n) _ (tested searchTest 367 tt leap n (omega arith)) (le→leb 1 n p))

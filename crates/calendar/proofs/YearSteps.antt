@@ -1,0 +1,125 @@
+-- Years follow each other without a gap in the count of days, and the quotient finds the year of each day. Assumes nothing.
+use mathlib.Core.Path.{_≡_, refl, sym, subst}
+use mathlib.Core.Bool.{Bool, true, false, cond, not, _&&_, _||_}
+use Prim.Native.Nat.{ℕ, zero, suc, _+_, _-_, _*_, _/_, _%_, _≤_, _<_}
+use native.Mathlib.Nat.{zero-add, le-refl, le-antisymm}
+use native.Mathlib.Omega.{arith}
+use lib.Dec.{T, ltb, leb}
+use borrow.Author.Tests.{eqb-true, eqb-false, ltb-true, ltb-false, leb-true, leb-false}
+use Rattle.calendar.specs.Gregorian.{divides, leapOf}
+use Rattle.calendar.specs.Days.{daysInYearOf, daysBeforeYearOf, yearOf}
+
+-- ---- a year later
+-- each of the three rules adds a day after a year that it names
+fourth : (y : ℕ) (b : Bool) → divides 4 y ≡ b → (y + 1 + 3) / 4 ≡ (y + 3) / 4 + cond b 1 0
+fourth y true h = omega (arith, eqb-true (y % 4) 0 h)
+fourth y false h = omega (arith, eqb-false (y % 4) 0 h)
+
+hundredth : (y : ℕ) (b : Bool) → divides 100 y ≡ b → (y + 1 + 99) / 100 ≡ (y + 99) / 100 + cond b 1 0
+hundredth y true h = omega (arith, eqb-true (y % 100) 0 h)
+hundredth y false h = omega (arith, eqb-false (y % 100) 0 h)
+
+four-hundredth : (y : ℕ) (b : Bool) → divides 400 y ≡ b → (y + 1 + 399) / 400 ≡ (y + 399) / 400 + cond b 1 0
+four-hundredth y true h = omega (arith, eqb-true (y % 400) 0 h)
+four-hundredth y false h = omega (arith, eqb-false (y % 400) 0 h)
+
+-- a hundredth year is a fourth one, and a four-hundredth a hundredth one
+nested : {X : Type 0} (y : ℕ) (a b c : Bool) → divides 4 y ≡ a → divides 100 y ≡ b → divides 400 y ≡ c → T (b && not a || c && not b) → X
+nested y true true true p q r t = absurd t
+nested y true true false p q r t = absurd t
+nested y true false true p q r t = absurd (omega (arith, eqb-false (y % 100) 0 q, eqb-true (y % 400) 0 r))
+nested y true false false p q r t = absurd t
+nested y false true c p q r t = absurd (omega (arith, eqb-false (y % 4) 0 p, eqb-true (y % 100) 0 q))
+nested y false false true p q r t = absurd (omega (arith, eqb-false (y % 100) 0 q, eqb-true (y % 400) 0 r))
+nested y false false false p q r t = absurd t
+
+pub year-step : (y : ℕ) → daysBeforeYearOf (y + 1) ≡ daysBeforeYearOf y + daysInYearOf y
+unfolding daysBeforeYearOf daysInYearOf leapOf
+year-step y = by-test (divides 4 y) (divides 100 y) (divides 400 y) refl refl refl
+  where
+    less : (y + 99) / 100 ≤ 365 * y + (y + 3) / 4
+    less = omega arith
+
+    by-test : (a b c : Bool) → divides 4 y ≡ a → divides 100 y ≡ b → divides 400 y ≡ c →
+        365 * (y + 1) + (y + 1 + 3) / 4 - (y + 1 + 99) / 100 + (y + 1 + 399) / 400
+        ≡ 365 * y + (y + 3) / 4 - (y + 99) / 100 + (y + 399) / 400 + cond (a && (not b || c)) 366 365
+    by-test a b c p q r =
+        rw (fourth y a p, hundredth y b q, four-hundredth y c r)
+        (added ((y + 3) / 4) ((y + 99) / 100) ((y + 399) / 400) less a b c (nested y a b c p q r))
+      where
+        added : (i j k : ℕ) → j ≤ 365 * y + i → (a b c : Bool) → (T (b && not a || c && not b) → ⊥) →
+            365 * (y + 1) + (i + cond a 1 0) - (j + cond b 1 0) + (k + cond c 1 0) ≡ 365 * y + i - j + k + cond (a && (not b || c)) 366 365
+        added i j k l true true true n = omega arith
+        added i j k l true true false n = omega arith
+        added i j k l true false true n = absurd (n tt)
+        added i j k l true false false n = omega arith
+        added i j k l false true c n = absurd (n tt)
+        added i j k l false false true n = absurd (n tt)
+        added i j k l false false false n = omega arith
+
+pub year-zero : daysBeforeYearOf 0 ≡ 0
+unfolding daysBeforeYearOf
+year-zero = refl
+
+-- the year after the last that a u32 holds
+pub last-year : daysBeforeYearOf 4294967296 ≡ 1568704592610
+unfolding daysBeforeYearOf
+last-year = refl
+
+pub year-mono : (y z : ℕ) → y ≤ z → daysBeforeYearOf y ≤ daysBeforeYearOf z
+year-mono y z h = let e : z - y + y ≡ z = omega arith in subst (λ (x : ℕ). daysBeforeYearOf y ≤ daysBeforeYearOf x) e (up (z - y))
+  where
+    up : (k : ℕ) → daysBeforeYearOf y ≤ daysBeforeYearOf (k + y)
+    up zero = rw (zero-add y) (le-refl (daysBeforeYearOf y))
+    up (suc k) =
+        let e : k + y + 1 ≡ suc k + y = omega arith in
+        let g = year-step (k + y) in
+        let i = up k in
+        subst (λ (x : ℕ). daysBeforeYearOf y ≤ daysBeforeYearOf x) e (omega arith)
+
+-- a year that begins after some day is not the first
+pub year-above : (y n : ℕ) → n < daysBeforeYearOf y → 1 ≤ y
+year-above zero n h = absurd (omega (arith, year-zero))
+year-above (suc y) n h = omega arith
+
+-- n days after 0000-01-01 is a day of the year y
+pub record In (n y : ℕ) : Type 0 where
+  pub from : daysBeforeYearOf y ≤ n
+  pub before : n < daysBeforeYearOf (y + 1)
+
+-- a year's share of 400 years, which have 146097 days
+spread : (y : ℕ) → (146097 * y ≤ 400 * daysBeforeYearOf y + 396) × (400 * daysBeforeYearOf y ≤ 146097 * y + 699)
+unfolding daysBeforeYearOf
+spread y = shares ((y + 3) / 4) ((y + 99) / 100) ((y + 399) / 400) (omega arith) (omega arith) (omega arith) (omega arith) (omega arith) (omega arith)
+  where
+    shares : (i j k : ℕ) → y ≤ 4 * i → 4 * i ≤ y + 3 → y ≤ 100 * j → 100 * j ≤ y + 99 → y ≤ 400 * k → 400 * k ≤ y + 399 →
+        (146097 * y ≤ 400 * (365 * y + i - j + k) + 396) × (400 * (365 * y + i - j + k) ≤ 146097 * y + 699)
+    shares i j k a b c d e f = (omega arith, omega arith)
+
+pub year-found : (n : ℕ) → In n (yearOf n)
+unfolding yearOf
+year-found n = by-test ((n + 1) * 400 / 146097) (omega arith) (omega arith) (leb (daysBeforeYearOf ((n + 1) * 400 / 146097)) n) refl
+  where
+    by-test : (guess : ℕ) → 146097 * guess ≤ (n + 1) * 400 → (n + 1) * 400 < 146097 * (guess + 1) →
+        (b : Bool) → leb (daysBeforeYearOf guess) n ≡ b → In n (cond b guess (guess - 1))
+    by-test guess l g true h = let s = spread (guess + 1) in record { from = leb-true (daysBeforeYearOf guess) n h; before = omega (arith, s .0) }
+    by-test zero l g false h = absurd (omega (arith, leb-false (daysBeforeYearOf 0) n h, year-zero))
+    by-test (suc k) l g false h =
+        let f = leb-false (daysBeforeYearOf (suc k)) n h in
+        let s = spread k in
+        let e : suc k - 1 + 1 ≡ suc k = omega arith in
+        let z : suc k - 1 ≡ k = omega arith in
+        record {
+          from = subst (λ (x : ℕ). daysBeforeYearOf x ≤ n) (sym z) (omega (arith, s .1));
+          before = subst (λ (x : ℕ). n < daysBeforeYearOf x) (sym e) f;
+        }
+
+pub year-unique : (n y z : ℕ) → In n y → In n z → y ≡ z
+year-unique n y z p q = le-antisymm (no-later y z p q) (no-later z y q p)
+  where
+    no-later : (y z : ℕ) → In n y → In n z → y ≤ z
+    no-later y z p q = by-test (ltb z y) refl
+      where
+        by-test : (b : Bool) → ltb z y ≡ b → y ≤ z
+        by-test true h = let l = ltb-true z y h in let m = year-mono (z + 1) y (omega arith) in absurd (omega arith)
+        by-test false h = ltb-false z y h

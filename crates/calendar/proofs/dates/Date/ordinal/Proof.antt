@@ -1,0 +1,37 @@
+use Rattle.calendar.proofs.MonthTables.{year-short}
+use mathlib.Core.Path.{ap, _∙_, sym}
+use mathlib.Core.Bool.{Bool}
+use native.Mathlib.Omega.{arith}
+use Rattle.calendar.specs.Gregorian.{leapOf}
+use Rattle.calendar.specs.Days.{daysBeforeOf, ordinalOf}
+use Rattle.calendar.proofs.Existing.{exists-yes, month-of-date}
+use Rattle.calendar.proofs.dates.Date.ordinal.Statement.{statement}
+use Rattle.calendar.proofs.dates.Date.ordinal.Tie as tie
+
+add-result : tie.Need-add-result
+add-result c =
+    let d = c .before .before .before .before .before .args .self in
+    let x = exists-yes d (sym (c .before .before .before .before .exists .ensures) ∙ c .before .before .before .if1 .taken) in
+    let m = month-of-date d x in
+    let e = c .before .days-before .ensures ∙ ap (λ (b : Bool). daysBeforeOf b (d .month)) (c .before .before .is-leap-year .ensures) in
+    let y = year-short (leapOf (d .year)) in
+    omega arith
+
+returns : tie.Need-returns
+unfolding ordinalOf
+returns c =
+    let e0 = c .before .days-before .ensures in
+    let e1 = c .before .before .is-leap-year .ensures in
+    let e2 = c .before .before .before .before .exists .ensures in
+    simp (sym e0, sym e1, sym e2, c .before .before .before .if1 .taken)
+
+returns-2 : tie.Need-returns-2
+unfolding ordinalOf
+returns-2 c =
+    let e0 = c .before .exists .ensures in
+    simp (sym e0, c .if1 .left)
+
+pub ordinal-spec : {M : Type 1} → statement M
+ordinal-spec =
+    tie.close
+    (tie.spec (λ c κs. tt) (λ c κs. tt) (λ c κs. tt) add-result returns returns-2)

@@ -1,0 +1,37 @@
+use mathlib.Core.Path.{sym, ap, _∙_}
+use mir.Syntax.{w64}
+use mir.Val.{SFits}
+use Rattle.calendar.specs.Answers.{fromOf, ofDayOf}
+use Prim.Native.Nat.{_≤_}
+use Rattle.calendar.proofs.Machine.{row-fits, row-read}
+use borrow.Author.Needs.{needs}
+use Rattle.calendar.proofs.dates.Date.row.Statement.{statement}
+use Rattle.calendar.proofs.dates.Date.row.Tie as tie
+
+add-of-day : tie.Need-add-of-day
+add-of-day c =
+    let d = c .before .before .before .args .self in
+    let k : d .year ≤ 4294967295 = search needs in
+    row-fits d k (c .day-number .result) (search needs) (c .day-number .ensures) (c .before .before .before .args .row) (search needs)
+
+returns : tie.Need-returns
+unfolding fromOf
+returns c =
+    let s = c .before .before .before .before in
+    let d = s .args .self in
+    let z = c .before .day-number .result in
+    let f : SFits w64 z = search needs in
+    let h = sym (c .before .before .before .exists .ensures) ∙ c .before .before .if1 .taken in
+    let k : d .year ≤ 4294967295 = search needs in
+    rw (h, c .of-day .ensures) (ap ofDayOf (row-read d k z f (c .before .day-number .ensures) (s .args .row) (search needs)))
+
+returns-2 : tie.Need-returns-2
+unfolding fromOf
+returns-2 c =
+    let e0 = c .before .exists .ensures in
+    simp (sym e0, c .if1 .left)
+
+pub row-spec : {M : Type 1} → statement M
+row-spec =
+    tie.close
+    (tie.spec (λ c κs. tt) (λ c κs. tt) (λ c. search needs) add-of-day (λ c κs. tt) returns returns-2)

@@ -1,0 +1,70 @@
+-- Days by number: of the year from 1 on, from 1970-01-01 on, and of the week. That these formulas are the calendar of Gregorian is proved in
+-- proofs/CalendarLaws.
+use Prim.Native.Nat.{ℕ, _+_, _-_, _*_, _/_, _%_}
+use mathlib.Core.Bool.{Bool, cond}
+use mathlib.Core.List.{List, [], _∷_}
+use lib.Dec.{ltb, leb}
+use lib.IntN.{ℤ, pos, _+ℤ_, _-ℤ_}
+use lib.ListN.{getD}
+use Rattle.integers.specs.Parts.{P}
+use Rattle.integers.specs.Quotients.{floorRem}
+use Rattle.calendar.specs.Gregorian.{dateOf, leapOf, existsOf}
+use Rattle.calendar.specs.declared.dates.Date.{Date}
+
+-- ---- days of the year
+-- the days before each month, in a leap year and in a common one
+abbrev pub rowOf : Bool → List ℕ
+rowOf leap =
+    cond leap (0 ∷ 31 ∷ 60 ∷ 91 ∷ 121 ∷ 152 ∷ 182 ∷ 213 ∷ 244 ∷ 274 ∷ 305 ∷ 335 ∷ [])
+    (0 ∷ 31 ∷ 59 ∷ 90 ∷ 120 ∷ 151 ∷ 181 ∷ 212 ∷ 243 ∷ 273 ∷ 304 ∷ 334 ∷ [])
+
+-- 0 for a month that there is not
+unfoldable pub daysBeforeOf : Bool → ℕ → ℕ
+daysBeforeOf leap month = getD (rowOf leap) (month - 1) 0
+
+unfoldable pub daysInYearOf : ℕ → ℕ
+daysInYearOf year = cond (leapOf year) 366 365
+
+-- 1 on January 1st; 0 for a date that does not exist
+unfoldable pub ordinalOf : Date → ℕ
+ordinalOf d = cond (existsOf d) (daysBeforeOf (leapOf (d .year)) (d .month) + d .day) 0
+
+-- how many of the numbers are below n
+unfoldable pub countBelow : List ℕ → ℕ → ℕ
+countBelow [] n = 0
+countBelow (x ∷ xs) n = cond (ltb x n) 1 0 + countBelow xs n
+
+-- the month of a day of the year: as many months as begin before it ends
+unfoldable pub monthOf : Bool → ℕ → ℕ
+monthOf leap ordinal = countBelow (rowOf leap) ordinal
+
+unfoldable pub ofOrdinalOf : ℕ → ℕ → Date
+ofOrdinalOf year ordinal =
+    let month = monthOf (leapOf year) ordinal in
+    dateOf year month (ordinal - daysBeforeOf (leapOf year) month)
+
+-- ---- days from 1970-01-01
+-- the days from 0000-01-01 to a year's January 1st
+unfoldable pub daysBeforeYearOf : ℕ → ℕ
+daysBeforeYearOf year = 365 * year + (year + 3) / 4 - (year + 99) / 100 + (year + 399) / 400
+
+-- 0000-01-01 is day -719528
+unfoldable pub dayNumberOf : Date → ℤ
+dayNumberOf d = pos (daysBeforeYearOf (d .year) + ordinalOf d) -ℤ pos 719529
+
+-- the year of the day that is n days after 0000-01-01. 400 years have 146097 days: the quotient is the year or the one after it
+unfoldable pub yearOf : ℕ → ℕ
+yearOf n = let guess = (n + 1) * 400 / 146097 in cond (leb (daysBeforeYearOf guess) n) guess (guess - 1)
+
+-- the date that is n days after 0000-01-01
+unfoldable pub dateAtOf : ℕ → Date
+dateAtOf n = ofOrdinalOf (yearOf n) (n + 1 - daysBeforeYearOf (yearOf n))
+
+-- the date of a day by its number; 0000-01-01 for the days before it
+unfoldable pub dateOfDayOf : ℤ → Date
+dateOfDayOf day = dateAtOf (P (day +ℤ pos 719528))
+
+-- ---- days of the week
+-- 0 is Sunday; 1970-01-01 was a Thursday
+unfoldable pub weekdayOf : ℤ → ℕ
+weekdayOf day = (floorRem day 7 + 4) % 7

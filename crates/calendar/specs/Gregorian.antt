@@ -1,0 +1,44 @@
+-- The Gregorian calendar by its rule, for every year from 0 on, also before it was decreed. A reader need believe no more than this file.
+use Prim.Native.Nat.{ℕ, _+_, _-_, _%_}
+use mathlib.Core.Bool.{Bool, cond, not, _&&_, _||_}
+use mathlib.Core.List.{List, [], _∷_}
+use lib.Dec.{eqb, ltb, leb}
+use lib.ListN.{getD}
+use Rattle.calendar.specs.declared.dates.Date.{Date}
+
+abbrev pub dateOf : ℕ → ℕ → ℕ → Date
+dateOf year month day = record { year = year; month = month; day = day }
+
+abbrev pub divides : ℕ → ℕ → Bool
+divides k n = eqb (n % k) 0
+
+-- every fourth year, and of the hundredth years every fourth
+unfoldable pub leapOf : ℕ → Bool
+leapOf year = divides 4 year && (not (divides 100 year) || divides 400 year)
+
+-- the days of each month by its number; there is no month 0, and none after 12
+abbrev pub lengthsOf : Bool → List ℕ
+lengthsOf leap = 0 ∷ 31 ∷ cond leap 29 28 ∷ 31 ∷ 30 ∷ 31 ∷ 30 ∷ 31 ∷ 31 ∷ 30 ∷ 31 ∷ 30 ∷ 31 ∷ []
+
+unfoldable pub lengthOf : Bool → ℕ → ℕ
+lengthOf leap month = getD (lengthsOf leap) month 0
+
+abbrev pub monthDaysOf : ℕ → ℕ → ℕ
+monthDaysOf year month = lengthOf (leapOf year) month
+
+-- a month that there is not has no days, so no date in it exists
+unfoldable pub existsOf : Date → Bool
+existsOf d = leb 1 (d .day) && leb (d .day) (monthDaysOf (d .year) (d .month))
+
+-- the next day of the month; after the last the first of the next month; after December's the first of January
+unfoldable pub dayAfterOf : Date → Date
+dayAfterOf d =
+    cond (ltb (d .day) (monthDaysOf (d .year) (d .month))) (dateOf (d .year) (d .month) (d .day + 1))
+    (cond (ltb (d .month) 12) (dateOf (d .year) (d .month + 1) 1) (dateOf (d .year + 1) 1 1))
+
+-- the same backwards; nothing is before 0000-01-01, which stays
+unfoldable pub dayBeforeOf : Date → Date
+dayBeforeOf d =
+    cond (ltb 1 (d .day)) (dateOf (d .year) (d .month) (d .day - 1))
+    (cond (ltb 1 (d .month)) (dateOf (d .year) (d .month - 1) (monthDaysOf (d .year) (d .month - 1)))
+    (cond (ltb 0 (d .year)) (dateOf (d .year - 1) 12 31) d))

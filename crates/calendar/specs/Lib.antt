@@ -1,0 +1,3 @@
+pub mod Gregorian
+pub mod Days
+pub mod Answers

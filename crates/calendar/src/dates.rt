@@ -1,0 +1,152 @@
+// Dates and the days they stand for: unit.rs's Stride on a date, with the functions that chrono gave it.
+ghost use mathlib.Core.Path.{_≡_};
+ghost use Prim.Native.Nat.{_≤_, _<_};
+ghost use Rattle.calendar.specs.Gregorian.{dateOf, existsOf};
+ghost use Rattle.calendar.specs.Days.{ordinalOf, ofOrdinalOf, dayNumberOf, weekdayOf};
+ghost use Rattle.calendar.specs.Answers.{tomorrowOf, yesterdayOf, nextDateOf, ofDayOf, rowDateOf};
+use super::counts::days_before_year;
+use super::counts::since_first;
+use super::counts::year_of;
+use super::months::days_before;
+use super::months::month_days;
+use super::months::month_of;
+use super::years::days_in_year;
+use super::years::is_leap_year;
+
+pub struct Date {
+    pub year: u32,
+    pub month: u32,
+    pub day: u32,
+}
+
+// The date of a day of the year, by a search of the row.
+fn of_ordinal(year: u32, ordinal: u32) -> Date
+    requires { ⌜ (0 < ordinal) × (ordinal ≤ 366) ⌝ }
+    ensures { λ r. ⌜ r ≡ ofOrdinalOf year ordinal ⌝ }
+{
+    let leap = is_leap_year(year);
+    let month = month_of(leap, ordinal);
+    let before = days_before(leap, month);
+    Date {
+        year: year,
+        month: month,
+        day: ordinal - before,
+    }
+}
+
+impl Date {
+    pub fn new(year: u32, month: u32, day: u32) -> Date
+        ensures { λ r. ⌜ r ≡ dateOf year month day ⌝ }
+    {
+        Date {
+            year: year,
+            month: month,
+            day: day,
+        }
+    }
+
+    pub fn exists(self) -> bool
+        ensures { λ r. ⌜ r ≡ existsOf self ⌝ }
+    {
+        let days = month_days(is_leap_year(self.year), self.month);
+        self.day >= 1 && self.day <= days
+    }
+
+    // The day of the year.
+    pub fn ordinal(self) -> u32
+        ensures { λ r. ⌜ r ≡ ordinalOf self ⌝ }
+    {
+        if self.exists() {
+            days_before(is_leap_year(self.year), self.month) + self.day
+        } else {
+            0
+        }
+    }
+
+    pub fn tomorrow(self) -> Date
+        ensures { λ r. ⌜ r ≡ tomorrowOf self ⌝ }
+    {
+        let year = self.year;
+        let ordinal = self.ordinal();
+        if ordinal == 0 {
+            return self;
+        }
+        if ordinal < days_in_year(year) {
+            return of_ordinal(year, ordinal + 1);
+        }
+        if year == 4294967295 {
+            return self;
+        }
+        Date {
+            year: year + 1,
+            month: 1,
+            day: 1,
+        }
+    }
+
+    pub fn yesterday(self) -> Date
+        ensures { λ r. ⌜ r ≡ yesterdayOf self ⌝ }
+    {
+        let year = self.year;
+        let ordinal = self.ordinal();
+        if ordinal == 0 {
+            return self;
+        }
+        if ordinal > 1 {
+            return of_ordinal(year, ordinal - 1);
+        }
+        if year == 0 {
+            return self;
+        }
+        Date {
+            year: year - 1,
+            month: 12,
+            day: 31,
+        }
+    }
+
+    pub fn next_date(self, fwd: bool) -> Date
+        ensures { λ r. ⌜ r ≡ nextDateOf self fwd ⌝ }
+    {
+        if fwd {
+            self.tomorrow()
+        } else {
+            self.yesterday()
+        }
+    }
+
+    // Days from 1970-01-01.
+    pub fn day_number(self) -> i64
+        ensures { λ r. ⌜ r ≡ dayNumberOf self ⌝ }
+    {
+        let days = days_before_year(self.year as u64) + self.ordinal() as u64;
+        days as i64 - 719529
+    }
+
+    // The date of a day by its number, from 0000-01-01 to the last date of the year 4294967295.
+    pub fn of_day(day: i64) -> Date
+        ensures { λ r. ⌜ r ≡ ofDayOf day ⌝ }
+    {
+        let n = since_first(day);
+        let year = year_of(n);
+        of_ordinal(year as u32, (n + 1 - days_before_year(year)) as u32)
+    }
+
+    // The date of a row of a timetable that begins on this date: so many days later.
+    pub fn row(self, row: u32) -> Date
+        ensures { λ r. ⌜ r ≡ rowDateOf self row ⌝ }
+    {
+        if self.exists() {
+            Date::of_day(self.day_number() + row as i64)
+        } else {
+            self
+        }
+    }
+}
+
+// The day of the week, 0 on a Sunday.
+pub fn weekday(day: i64) -> u32
+    ensures { λ r. ⌜ r ≡ weekdayOf day ⌝ }
+{
+    ((day % 7 + 11) % 7) as u32
+}

@@ -1,0 +1,6 @@
+// The Gregorian calendar on whole numbers: dates by year, month and day, days by number, and the way between them.
+// Every function answers for every argument; specs/Answers.antt says what it answers outside the calendar.
+mod counts;
+pub mod dates;
+mod months;
+pub mod years;
