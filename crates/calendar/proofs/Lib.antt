@@ -3,6 +3,7 @@ pub mod ByOrdinal
 pub mod CalendarLaws
 pub mod Computed
 pub mod Existing
+pub mod Floors
 pub mod Machine
 pub mod MonthTables
 pub mod Neighbours

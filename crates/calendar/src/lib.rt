@@ -2,5 +2,6 @@
 // Every function answers for every argument; specs/Answers.antt says what it answers outside the calendar.
 mod counts;
 pub mod dates;
+pub mod instants;
 mod months;
 pub mod years;

@@ -1,6 +1,9 @@
 // prayer.rs: the prayers in their order through the day, sunrise and Qiyam among them.
 ghost use mathlib.Core.Path.{_≡_};
 ghost use Rattle.models.specs.Numbers.{prayerNumberOf, prayerOf};
+ghost use Rattle.models.specs.Names.{isFridayOf, nameOf, lettersOf};
+use calendar::dates::weekday;
+use calendar::instants::day_of;
 
 pub enum Prayer {
     Fajr,
@@ -13,7 +16,66 @@ pub enum Prayer {
     FajrTomorrow,
 }
 
+// The names, in letters. Friday's Dhuhr has one of its own.
+pub enum Name {
+    Fajr,
+    Sunrise,
+    Dhuhr,
+    Jumua,
+    Asr,
+    Maghrib,
+    Isha,
+    Qiyam,
+}
+
+impl Name {
+    // Seven letters, with blanks behind a shorter name.
+    pub fn letters(self) -> [u8; 7]
+        ensures { λ r. ⌜ r ≡ lettersOf self ⌝ }
+    {
+        match self {
+            Name::Fajr => *b"Fajr   ",
+            Name::Sunrise => *b"Sunrise",
+            Name::Dhuhr => *b"Dhuhr  ",
+            Name::Jumua => *b"Jumua  ",
+            Name::Asr => *b"Asr    ",
+            Name::Maghrib => *b"Maghrib",
+            Name::Isha => *b"Isha   ",
+            Name::Qiyam => *b"Qiyam  ",
+        }
+    }
+}
+
+// Whether the day of an instant, in seconds from 1970-01-01 0h UTC, is a Friday.
+fn is_friday(seconds: i64) -> bool
+    ensures { λ r. ⌜ r ≡ isFridayOf seconds ⌝ }
+{
+    weekday(day_of(seconds)) == 5
+}
+
 impl Prayer {
+    // Its name at an instant: where the crate reads the clock, the instant is given.
+    pub fn name(self, seconds: i64) -> Name
+        ensures { λ r. ⌜ r ≡ nameOf self seconds ⌝ }
+    {
+        match self {
+            Prayer::Fajr => Name::Fajr,
+            Prayer::Sunrise => Name::Sunrise,
+            Prayer::Dhuhr => {
+                if is_friday(seconds) {
+                    Name::Jumua
+                } else {
+                    Name::Dhuhr
+                }
+            }
+            Prayer::Asr => Name::Asr,
+            Prayer::Maghrib => Name::Maghrib,
+            Prayer::Isha => Name::Isha,
+            Prayer::Qiyam => Name::Qiyam,
+            Prayer::FajrTomorrow => Name::Fajr,
+        }
+    }
+
     // Its place in the list, from 1.
     pub fn number(self) -> u32
         ensures { λ r. ⌜ r ≡ prayerNumberOf self ⌝ }
