@@ -1,20 +1,21 @@
 -- The second of the minute, what rounding adds, and minutes as two halves, as the code works them. Assumes nothing.
-use mathlib.Core.Path.{_≡_, sym, ap, _∙_}
-use Prim.Native.Nat.{ℕ, suc, _+_, _-_, _*_, _%_, _^_, _≤_, _<_}
+use mathlib.Core.Path.{_≡_, ap, _∙_}
+use Prim.Native.Nat.{ℕ, suc, _-_, _%_, _≤_}
 use native.Mathlib.Omega.{arith}
 use mathlib.Core.Bool.{true, false}
-use lib.IntN.{ℤ, pos, negsuc, negℤ, natAbs, _+ℤ_, _-ℤ_, _*ℤ_, +ℤ-assoc}
+use lib.IntN.{ℤ, pos, negsuc, negℤ, natAbs, _+ℤ_, _-ℤ_, _*ℤ_}
 use lib.Signed.{ltZ, quotZ, remZ, nonNeg}
 use lib.Dec.{T, lit<}
 use mir.Syntax.{w32, w64}
 use mir.Val.{SFits, Fits, toZ}
-use Rattle.integers.specs.Parts.{P, N, same}
+use Rattle.integers.specs.Parts.{same}
 use Rattle.integers.specs.Sums.{sum, difference, times, flip}
 use Rattle.integers.specs.Quotients.{divided, floored}
-use Rattle.integers.specs.Order.{_≼_, lt-yes, lt-no}
+use Rattle.integers.specs.Order.{lt-yes, lt-no}
 use Rattle.integers.specs.Ranges.{readBack, read, range, fits}
 use Rattle.stride.specs.Times.{most, least, satOf, secondOf, adjustedOf}
-use Rattle.stride.proofs.Saturation.{between, sat-high, sat-low, sat-twice}
+use Rattle.stride.specs.TimesLaws.{between}
+use Rattle.stride.proofs.Saturation.{sat-high, sat-low, sat-twice}
 
 -- ---- the second
 abbrev rem : ℤ → ℤ
@@ -77,23 +78,29 @@ less-is k s h f =
     read w64 (pos k -ℤ toZ w64 s) (less-fits k s h f) ∙ rw (read w64 (pos s) (record { sfits = omega arith }))
 
 -- ---- minutes: past 2 ^ 64 / 60 no time stays in range, and up to there half of their seconds fits
+abbrev far-ahead : ℤ
+far-ahead = pos 307445734561825860
+
+abbrev far-back : ℤ
+far-back = negsuc 307445734561825859
+
 module _ (t k : ℤ) (ht : SFits w64 t) (hk : SFits w64 k) where
   rk : readBack w64 k ≡ k
   rk = read w64 k hk
 
-  pub far-up : ltZ (pos 307445734561825860) (readBack w64 k) ≡ true → most ≡ satOf (adjustedOf t k)
+  pub far-up : ltZ far-ahead (readBack w64 k) ≡ true → most ≡ satOf (adjustedOf t k)
   unfolding adjustedOf
   far-up l =
-      let m = lt-yes (pos 307445734561825860) k (rw rk at l) in
+      let m = lt-yes far-ahead k (rw rk at l) in
       let r = range w64 t ht in
       let p = times k 60 in
       let s = sum t (k *ℤ pos 60) in
       sat-high (t +ℤ k *ℤ pos 60) (omega arith)
 
-  pub far-down : ltZ (readBack w64 k) (negsuc 307445734561825859) ≡ true → least ≡ satOf (adjustedOf t k)
+  pub far-down : ltZ (readBack w64 k) far-back ≡ true → least ≡ satOf (adjustedOf t k)
   unfolding adjustedOf
   far-down l =
-      let m = lt-yes k (negsuc 307445734561825859) (rw rk at l) in
+      let m = lt-yes k far-back (rw rk at l) in
       let r = range w64 t ht in
       let p = times k 60 in
       let s = sum t (k *ℤ pos 60) in
@@ -103,10 +110,10 @@ module _ (t k : ℤ) (ht : SFits w64 t) (hk : SFits w64 k) where
   abbrev half : ℤ
   half = readBack w64 k *ℤ pos 30
 
-  pub half-fits : ltZ (pos 307445734561825860) (readBack w64 k) ≡ false → ltZ (readBack w64 k) (negsuc 307445734561825859) ≡ false → SFits w64 half
+  pub half-fits : ltZ far-ahead (readBack w64 k) ≡ false → ltZ (readBack w64 k) far-back ≡ false → SFits w64 half
   half-fits a b =
-      let m = lt-no (pos 307445734561825860) k (rw rk at a) in
-      let n = lt-no k (negsuc 307445734561825859) (rw rk at b) in
+      let m = lt-no far-ahead k (rw rk at a) in
+      let n = lt-no k far-back (rw rk at b) in
       let p = times k 30 in
       rw rk (between (k *ℤ pos 30) (omega arith) (omega arith))
 
@@ -119,7 +126,9 @@ module _ (t k : ℤ) (ht : SFits w64 t) (hk : SFits w64 k) where
       let v = sum t (k *ℤ pos 60) in
       same (t +ℤ k *ℤ pos 30 +ℤ k *ℤ pos 30) (t +ℤ k *ℤ pos 60) (omega arith)
 
-  pub adjusted-is : (x r : ℤ) → SFits w64 half → readBack w64 x ≡ x → readBack w64 r ≡ r → x ≡ satOf (readBack w64 t +ℤ readBack w64 half) → r ≡ satOf (readBack w64 x +ℤ readBack w64 half) → readBack w64 r ≡ satOf (adjustedOf t k)
+  pub adjusted-is :
+      (x r : ℤ) → SFits w64 half → readBack w64 x ≡ x → readBack w64 r ≡ r →
+      x ≡ satOf (readBack w64 t +ℤ readBack w64 half) → r ≡ satOf (readBack w64 x +ℤ readBack w64 half) → readBack w64 r ≡ satOf (adjustedOf t k)
   unfolding adjustedOf
   adjusted-is x r f p q d e =
       let h : readBack w64 half ≡ k *ℤ pos 30 = read w64 half f ∙ rw rk in

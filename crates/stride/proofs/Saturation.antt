@@ -1,6 +1,6 @@
 -- Where a sum of two i64 saturates, and where it fits. Assumes nothing.
-use mathlib.Core.Path.{_≡_, refl, sym, ap, _∙_}
-use Prim.Native.Nat.{_+_, _^_, _≤_, _<_}
+use mathlib.Core.Path.{_≡_, refl, sym, _∙_}
+use Prim.Native.Nat.{_+_, _<_}
 use native.Mathlib.Omega.{arith}
 use mathlib.Core.Bool.{Bool, true, false}
 use lib.IntN.{ℤ, pos, negsuc, _+ℤ_, _-ℤ_}
@@ -12,11 +12,7 @@ use Rattle.integers.specs.Sums.{sum, difference}
 use Rattle.integers.specs.Order.{_≼_, le-yes, le-no, lt-yes, lt-no, to-lt, to-not-lt}
 use Rattle.integers.specs.Ranges.{readBack, read, range}
 use Rattle.stride.specs.Times.{most, least, satOf}
-use Rattle.stride.specs.TimesLaws.{sat-in}
-
-pub between : (z : ℤ) → least ≼ z → z ≼ most → SFits w64 z
-between (pos n) l h = record { sfits = omega arith }
-between (negsuc n) l h = record { sfits = omega arith }
+use Rattle.stride.specs.TimesLaws.{between, sat-in}
 
 pub sat-high : (z : ℤ) → P most + N z < P z → most ≡ satOf z
 unfolding satOf
@@ -98,34 +94,35 @@ module _ (a b : ℤ) (ha : SFits w64 a) (hb : SFits w64 b) where
         rw (ra, rb) (between (a +ℤ b) (omega (arith, d .0, d .1)) (omega (arith, d .0, d .1)))
 
 -- a sum that saturates stays at its end under a second step of the same sign
-pub sat-twice : (t h : ℤ) → SFits w64 t → satOf (satOf (t +ℤ h) +ℤ h) ≡ satOf (t +ℤ h +ℤ h)
-sat-twice t h f = by-test (ltZ most (t +ℤ h)) refl
-  where
-    high : ltZ most (t +ℤ h) ≡ true → satOf (satOf (t +ℤ h) +ℤ h) ≡ satOf (t +ℤ h +ℤ h)
-    high p =
-        let l = lt-yes most (t +ℤ h) p in
-        let r = range w64 t f in
-        let s = sum t h in
-        let u = sum (t +ℤ h) h in
-        let v = sum most h in
-        rw (sym (sat-high (t +ℤ h) (omega arith))) (sym (sat-high (most +ℤ h) (omega arith)) ∙ sat-high (t +ℤ h +ℤ h) (omega arith))
+module _ (t h : ℤ) (f : SFits w64 t) where
+  abbrev Twice : Type 0
+  Twice = satOf (satOf (t +ℤ h) +ℤ h) ≡ satOf (t +ℤ h +ℤ h)
 
-    low : ltZ (t +ℤ h) least ≡ true → satOf (satOf (t +ℤ h) +ℤ h) ≡ satOf (t +ℤ h +ℤ h)
-    low p =
-        let l = lt-yes (t +ℤ h) least p in
-        let r = range w64 t f in
-        let s = sum t h in
-        let u = sum (t +ℤ h) h in
-        let v = sum least h in
-        rw (sym (sat-low (t +ℤ h) (omega arith))) (sym (sat-low (least +ℤ h) (omega arith)) ∙ sat-low (t +ℤ h +ℤ h) (omega arith))
+  high : ltZ most (t +ℤ h) ≡ true → Twice
+  high p =
+      let l = lt-yes most (t +ℤ h) p in
+      let r = range w64 t f in
+      let s = sum t h in
+      let u = sum (t +ℤ h) h in
+      let v = sum most h in
+      rw (sym (sat-high (t +ℤ h) (omega arith))) (sym (sat-high (most +ℤ h) (omega arith)) ∙ sat-high (t +ℤ h +ℤ h) (omega arith))
 
-    by-low : (b : Bool) → ltZ most (t +ℤ h) ≡ false → ltZ (t +ℤ h) least ≡ b → satOf (satOf (t +ℤ h) +ℤ h) ≡ satOf (t +ℤ h +ℤ h)
-    by-low true n p = low p
-    by-low false n p =
-        let l = lt-no most (t +ℤ h) n in
-        let m = lt-no (t +ℤ h) least p in
-        rw (sat-in (t +ℤ h) (between (t +ℤ h) (omega arith) (omega arith)))
+  low : ltZ (t +ℤ h) least ≡ true → Twice
+  low p =
+      let l = lt-yes (t +ℤ h) least p in
+      let r = range w64 t f in
+      let s = sum t h in
+      let u = sum (t +ℤ h) h in
+      let v = sum least h in
+      rw (sym (sat-low (t +ℤ h) (omega arith))) (sym (sat-low (least +ℤ h) (omega arith)) ∙ sat-low (t +ℤ h +ℤ h) (omega arith))
 
-    by-test : (b : Bool) → ltZ most (t +ℤ h) ≡ b → satOf (satOf (t +ℤ h) +ℤ h) ≡ satOf (t +ℤ h +ℤ h)
-    by-test true p = high p
-    by-test false p = by-low (ltZ (t +ℤ h) least) p refl
+  within : ltZ most (t +ℤ h) ≡ false → ltZ (t +ℤ h) least ≡ false → Twice
+  within p q = rw (sat-in (t +ℤ h) (between (t +ℤ h) (lt-no (t +ℤ h) least q) (lt-no most (t +ℤ h) p)))
+
+  pub sat-twice : satOf (satOf (t +ℤ h) +ℤ h) ≡ satOf (t +ℤ h +ℤ h)
+  sat-twice = by-tests (ltZ most (t +ℤ h)) (ltZ (t +ℤ h) least) refl refl
+    where
+      by-tests : (b c : Bool) → ltZ most (t +ℤ h) ≡ b → ltZ (t +ℤ h) least ≡ c → Twice
+      by-tests true c p q = high p
+      by-tests false true p q = low q
+      by-tests false false p q = within p q

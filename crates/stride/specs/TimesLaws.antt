@@ -3,32 +3,37 @@ use mathlib.Core.Path.{_≡_, refl, sym, ap, _∙_}
 use mathlib.Core.Bool.{Bool, true, false, cond}
 use Prim.Native.Nat.{ℕ, _+_, _*_, _^_, _≤_, _<_}
 use native.Mathlib.Omega.{arith}
-use lib.IntN.{ℤ, pos, _+ℤ_, _-ℤ_, _*ℤ_, +ℤ-idr, +ℤ-assoc, +ℤ-comm}
+use lib.IntN.{ℤ, pos, negsuc, _+ℤ_, _-ℤ_, _*ℤ_, +ℤ-idr, +ℤ-assoc, +ℤ-comm}
 use lib.Dec.{ltb, lit<}
 use borrow.Author.Tests.{ltb-true, ltb-false}
 use mir.Syntax.{w64}
 use mir.Val.{SFits}
-use Rattle.integers.specs.Parts.{P, N, same}
+use Rattle.integers.specs.Parts.{P, N}
 use Rattle.integers.specs.Sums.{sum, difference, times}
 use Rattle.integers.specs.Quotients.{Floored, floorQuot, floored}
 use Rattle.integers.specs.Order.{_≼_, to-not-lt}
-use Rattle.integers.specs.Ranges.{fits, range}
+use Rattle.integers.specs.Ranges.{range}
 use Rattle.models.specs.declared.rounding.Rounding.{Rounding}
 use Rattle.models.specs.declared.rounding.Rounding.the-variants.{Nearest, Up, None}
 use Rattle.stride.specs.Times.{most, least, satOf, secondOf, shiftOf, roundedOf, adjustedOf}
+
+-- an i64 holds what lies between the ends of its range
+pub between : (z : ℤ) → least ≼ z → z ≼ most → SFits w64 z
+between (pos n) l h = record { sfits = omega arith }
+between (negsuc n) l h = record { sfits = omega arith }
 
 -- nothing saturates in an i64's range
 pub sat-in : (z : ℤ) → SFits w64 z → satOf z ≡ z
 unfolding satOf
 sat-in z h = let r = range w64 z h in rw (to-not-lt most z (omega arith), to-not-lt z least (omega arith))
 
--- so not where minutes are no more than two i32 can sum to, and the time is no farther off than 2 ^ 62 seconds
+-- so nothing saturates where minutes are no more than two i32 can sum to, and the time is no farther off than 2 ^ 62 seconds
 pub adjusted-in : (t k : ℤ) → P t ≤ 2 ^ 62 → N t ≤ 2 ^ 62 → P k ≤ 2 ^ 32 → N k ≤ 2 ^ 32 → satOf (adjustedOf t k) ≡ adjustedOf t k
 unfolding adjustedOf
 adjusted-in t k a b d e =
     let p = times k 60 in
     let s = sum t (k *ℤ pos 60) in
-    sat-in (t +ℤ k *ℤ pos 60) (fits w64 (t +ℤ k *ℤ pos 60) (omega arith) (omega arith))
+    sat-in (t +ℤ k *ℤ pos 60) (between (t +ℤ k *ℤ pos 60) (omega arith) (omega arith))
 
 minute : (t : ℤ) → Floored t 60 (floorQuot t 60) (secondOf t)
 minute t = floored t 60 (lit< tt)
@@ -91,8 +96,11 @@ height-most Nearest s h = by-test (ltb s 30)
 height-most Up s h = omega arith
 height-most None s h = omega arith
 
--- the rounded time, from the minute's start
-rounded : (r : Rounding) (t : ℤ) → P (roundedOf r t) + N (floorQuot t 60) * 60 ≡ N (roundedOf r t) + (P (floorQuot t 60) * 60 + heightOf r (secondOf t))
+-- x stands h seconds above the start of t's minute
+abbrev Above : ℤ → ℤ → ℕ → Type 0
+Above t x h = P x + N (floorQuot t 60) * 60 ≡ N x + (P (floorQuot t 60) * 60 + h)
+
+rounded : (r : Rounding) (t : ℤ) → Above t (roundedOf r t) (heightOf r (secondOf t))
 unfolding roundedOf
 rounded r t =
     let a = minute t in
@@ -136,11 +144,20 @@ rounded-low r t =
     let s = sum (roundedOf r t) (pos 60) in
     omega arith
 
+-- so nothing saturates for such a time here either
+pub rounded-in : (r : Rounding) (t : ℤ) → P t ≤ 2 ^ 62 → N t ≤ 2 ^ 62 → satOf (roundedOf r t) ≡ roundedOf r t
+rounded-in r t a b =
+    let h = rounded-high r t in
+    let l = rounded-low r t in
+    let u = sum t (pos 60) in
+    let v = sum (roundedOf r t) (pos 60) in
+    sat-in (roundedOf r t) (between (roundedOf r t) (omega arith) (omega arith))
+
 second-nearest : (t : ℤ) → secondOf (roundedOf Nearest t) ≡ 0
 unfolding heightOf
 second-nearest t = by-test (ltb (secondOf t) 30) (rounded Nearest t)
   where
-    by-test : (b : Bool) → P (roundedOf Nearest t) + N (floorQuot t 60) * 60 ≡ N (roundedOf Nearest t) + (P (floorQuot t 60) * 60 + cond b 0 60) → secondOf (roundedOf Nearest t) ≡ 0
+    by-test : (b : Bool) → Above t (roundedOf Nearest t) (cond b 0 60) → secondOf (roundedOf Nearest t) ≡ 0
     by-test true h = second-unique (roundedOf Nearest t) (floorQuot t 60) 0 (record { balance = omega arith; below = lit< tt })
     by-test false h =
         let s = sum (floorQuot t 60) (pos 1) in

@@ -18,9 +18,11 @@ mul-half c = let s = c .before .before in minutes.half-fits (s .args .t) (s .arg
 returns-3 : tie.Need-returns-3
 returns-3 c =
     let s = c .before .before .before .before in
-    let p : readBack w64 (c .before .plus .result) ≡ c .before .plus .result = search needs in
-    let q : readBack w64 (c .plus2 .result) ≡ c .plus2 .result = search needs in
-    minutes.adjusted-is (s .args .t) (s .args .minutes) (s .fits .t) (s .fits .minutes) (c .before .plus .result) (c .plus2 .result) (mul-half (c .before .before)) p q (c .before .plus .ensures) (c .plus2 .ensures)
+    let x = c .before .plus .result in
+    let r = c .plus2 .result in
+    let p : readBack w64 x ≡ x = search needs in
+    let q : readBack w64 r ≡ r = search needs in
+    minutes.adjusted-is (s .args .t) (s .args .minutes) (s .fits .t) (s .fits .minutes) x r (mul-half (c .before .before)) p q (c .before .plus .ensures) (c .plus2 .ensures)
 
 pub adjust-time-spec : {M : Type 1} → statement M
 adjust-time-spec = tie.close (tie.spec returns returns-2 mul-half (λ c κs. tt) (λ c κs. tt) returns-3)

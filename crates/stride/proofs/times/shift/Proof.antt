@@ -1,4 +1,6 @@
 use borrow.Author.Needs.{needs}
+use mathlib.Core.Path.{_∙_}
+use native.Mathlib.Omega.{arith}
 use borrow.Author.Tests.{lt-ltb, le-ltb}
 use lib.Dec.{lit≤}
 use Rattle.stride.specs.Times.{shiftOf}
@@ -13,22 +15,22 @@ enum-told : tie.Need-enum-told
 enum-told c = search needs
 
 sub-result : tie.Need-sub-result
-sub-result c = let s = c .before .before .before in minutes.less-fits 0 (s .args .s) (lit≤ tt) (s .fits .s)
+sub-result c = let s = c .before .before .before in minutes.less-fits _ (s .args .s) (lit≤ tt) (s .fits .s)
 
 returns : tie.Need-returns
 unfolding shiftOf
 returns c =
     let s = c .before .before .before in
-    rw (minutes.less-is 0 (s .args .s) (lit≤ tt) (s .fits .s), c .before .enum-told .given .1, lt-ltb (s .args .s) 30 (c .if1 .taken))
+    minutes.less-is _ (s .args .s) (lit≤ tt) (s .fits .s) ∙ rw (c .before .enum-told .given .1, lt-ltb (s .args .s) 30 (omega arith))
 
 sub-result-2 : tie.Need-sub-result-2
-sub-result-2 c = let s = c .before .before .before in minutes.less-fits 60 (s .args .s) (lit≤ tt) (s .fits .s)
+sub-result-2 c = let s = c .before .before .before in minutes.less-fits _ (s .args .s) (lit≤ tt) (s .fits .s)
 
 enum-told-2 : tie.Need-enum-told-2
 enum-told-2 c = search needs
 
 sub-result-3 : tie.Need-sub-result-3
-sub-result-3 c = let s = c .before .before in minutes.less-fits 60 (s .args .s) (lit≤ tt) (s .fits .s)
+sub-result-3 c = let s = c .before .before in minutes.less-fits _ (s .args .s) (lit≤ tt) (s .fits .s)
 
 enum-told-3 : tie.Need-enum-told-3
 enum-told-3 c = search needs
@@ -37,11 +39,11 @@ returns-2 : tie.Need-returns-2
 unfolding shiftOf
 returns-2 c =
     let s = c .before .before .before in
-    rw (minutes.less-is 60 (s .args .s) (lit≤ tt) (s .fits .s), c .before .enum-told .given .1, le-ltb (s .args .s) 30 (c .if1 .left))
+    minutes.less-is _ (s .args .s) (lit≤ tt) (s .fits .s) ∙ rw (c .before .enum-told .given .1, le-ltb (s .args .s) 30 (omega arith))
 
 returns-3 : tie.Need-returns-3
 unfolding shiftOf
-returns-3 c = let s = c .before .before in rw (minutes.less-is 60 (s .args .s) (lit≤ tt) (s .fits .s), c .enum-told2 .given .1)
+returns-3 c = let s = c .before .before in minutes.less-is _ (s .args .s) (lit≤ tt) (s .fits .s) ∙ rw (c .enum-told2 .given .1)
 
 returns-4 : tie.Need-returns-4
 unfolding shiftOf
