@@ -1,1 +1,3 @@
 pub mod Julian
+pub mod Times
+pub mod TimesLaws

@@ -1,2 +1,3 @@
-// unit.rs's Stride, what it says of dates alone being the crate calendar's.
+// unit.rs's Stride on times and the Julian Day; what it says of dates alone is the crate calendar's.
 pub mod julian;
+pub mod times;

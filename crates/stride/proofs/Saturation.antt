@@ -1,0 +1,128 @@
+-- Where a sum of two i64 saturates, and where it fits. Assumes nothing.
+use mathlib.Core.Path.{_≡_, refl, sym, _∙_}
+use Prim.Native.Nat.{_+_, _<_}
+use native.Mathlib.Omega.{arith}
+use mathlib.Core.Bool.{Bool, true, false}
+use lib.IntN.{ℤ, pos, negsuc, _+ℤ_, _-ℤ_}
+use lib.Signed.{leZ, ltZ}
+use mir.Syntax.{w64}
+use mir.Val.{SFits}
+use Rattle.integers.specs.Parts.{P, N, not-negative, not-positive}
+use Rattle.integers.specs.Sums.{sum, difference}
+use Rattle.integers.specs.Order.{_≼_, le-yes, le-no, lt-yes, lt-no, to-lt, to-not-lt}
+use Rattle.integers.specs.Ranges.{readBack, read, range}
+use Rattle.stride.specs.Times.{most, least, satOf}
+use Rattle.stride.specs.TimesLaws.{between, sat-in}
+
+pub sat-high : (z : ℤ) → P most + N z < P z → most ≡ satOf z
+unfolding satOf
+sat-high z h = rw (to-lt most z (omega arith))
+
+pub sat-low : (z : ℤ) → N least + P z < N z → least ≡ satOf z
+unfolding satOf
+sat-low z h = rw (to-not-lt most z (omega arith), to-lt z least (omega arith))
+
+-- the code of `plus`, whose operands are read back from their bits
+module _ (a b : ℤ) (ha : SFits w64 a) (hb : SFits w64 b) where
+  abbrev a′ : ℤ
+  a′ = readBack w64 a
+
+  abbrev b′ : ℤ
+  b′ = readBack w64 b
+
+  ra : a′ ≡ a
+  ra = read w64 a ha
+
+  rb : b′ ≡ b
+  rb = read w64 b hb
+
+  pub added : SFits w64 (a′ +ℤ b′) → readBack w64 (a′ +ℤ b′) ≡ satOf (a +ℤ b)
+  added f = let s = rw (ra, rb) at f in rw (ra, rb) (read w64 (a +ℤ b) s ∙ sym (sat-in (a +ℤ b) s))
+
+  -- b is not negative
+  module _ (t : leZ (pos 0) b′ ≡ true) where
+    up : N b ≡ 0
+    up = let l = le-yes (pos 0) b (rw rb at t) in not-negative b (omega arith)
+
+    room : SFits w64 (most -ℤ b)
+    room = let u = up in let r = range w64 b hb in let d = difference most b in between (most -ℤ b) (omega (arith, d .0, d .1)) (omega (arith, d .0, d .1))
+
+    pub room-fits : SFits w64 (most -ℤ b′)
+    room-fits = rw rb room
+
+    pub over : ltZ (readBack w64 (most -ℤ b′)) a′ ≡ true → most ≡ satOf (a +ℤ b)
+    over l =
+        let k = lt-yes (most -ℤ b) a (rw (ra, rb, read w64 (most -ℤ b) room) at l) in
+        let d = difference most b in
+        let s = sum a b in
+        sat-high (a +ℤ b) (omega (arith, d .0, d .1))
+
+    pub in-fits : ltZ (readBack w64 (most -ℤ b′)) a′ ≡ false → SFits w64 (a′ +ℤ b′)
+    in-fits l =
+        let k = lt-no (most -ℤ b) a (rw (ra, rb, read w64 (most -ℤ b) room) at l) in
+        let d = difference most b in
+        let s = sum a b in
+        let r = range w64 a ha in
+        let u = up in
+        rw (ra, rb) (between (a +ℤ b) (omega (arith, d .0, d .1)) (omega (arith, d .0, d .1)))
+
+  -- b is negative
+  module _ (t : leZ (pos 0) b′ ≡ false) where
+    down : P b ≡ 0
+    down = let l = le-no (pos 0) b (rw rb at t) in not-positive b (omega arith)
+
+    room′ : SFits w64 (least -ℤ b)
+    room′ = let u = down in let r = range w64 b hb in let d = difference least b in between (least -ℤ b) (omega (arith, d .0, d .1)) (omega (arith, d .0, d .1))
+
+    pub room-fits′ : SFits w64 (least -ℤ b′)
+    room-fits′ = rw rb room′
+
+    pub under : ltZ a′ (readBack w64 (least -ℤ b′)) ≡ true → least ≡ satOf (a +ℤ b)
+    under l =
+        let k = lt-yes a (least -ℤ b) (rw (ra, rb, read w64 (least -ℤ b) room′) at l) in
+        let d = difference least b in
+        let s = sum a b in
+        sat-low (a +ℤ b) (omega (arith, d .0, d .1))
+
+    pub in-fits′ : ltZ a′ (readBack w64 (least -ℤ b′)) ≡ false → SFits w64 (a′ +ℤ b′)
+    in-fits′ l =
+        let k = lt-no a (least -ℤ b) (rw (ra, rb, read w64 (least -ℤ b) room′) at l) in
+        let d = difference least b in
+        let s = sum a b in
+        let r = range w64 a ha in
+        let u = down in
+        rw (ra, rb) (between (a +ℤ b) (omega (arith, d .0, d .1)) (omega (arith, d .0, d .1)))
+
+-- a sum that saturates stays at its end under a second step of the same sign
+module _ (t h : ℤ) (f : SFits w64 t) where
+  abbrev Twice : Type 0
+  Twice = satOf (satOf (t +ℤ h) +ℤ h) ≡ satOf (t +ℤ h +ℤ h)
+
+  high : ltZ most (t +ℤ h) ≡ true → Twice
+  high p =
+      let l = lt-yes most (t +ℤ h) p in
+      let r = range w64 t f in
+      let s = sum t h in
+      let u = sum (t +ℤ h) h in
+      let v = sum most h in
+      rw (sym (sat-high (t +ℤ h) (omega arith))) (sym (sat-high (most +ℤ h) (omega arith)) ∙ sat-high (t +ℤ h +ℤ h) (omega arith))
+
+  low : ltZ (t +ℤ h) least ≡ true → Twice
+  low p =
+      let l = lt-yes (t +ℤ h) least p in
+      let r = range w64 t f in
+      let s = sum t h in
+      let u = sum (t +ℤ h) h in
+      let v = sum least h in
+      rw (sym (sat-low (t +ℤ h) (omega arith))) (sym (sat-low (least +ℤ h) (omega arith)) ∙ sat-low (t +ℤ h +ℤ h) (omega arith))
+
+  within : ltZ most (t +ℤ h) ≡ false → ltZ (t +ℤ h) least ≡ false → Twice
+  within p q = rw (sat-in (t +ℤ h) (between (t +ℤ h) (lt-no (t +ℤ h) least q) (lt-no most (t +ℤ h) p)))
+
+  pub sat-twice : satOf (satOf (t +ℤ h) +ℤ h) ≡ satOf (t +ℤ h +ℤ h)
+  sat-twice = by-tests (ltZ most (t +ℤ h)) (ltZ (t +ℤ h) least) refl refl
+    where
+      by-tests : (b c : Bool) → ltZ most (t +ℤ h) ≡ b → ltZ (t +ℤ h) least ≡ c → Twice
+      by-tests true c p q = high p
+      by-tests false true p q = low q
+      by-tests false false p q = within p q
