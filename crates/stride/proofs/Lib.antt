@@ -1,1 +1,4 @@
+pub mod Counted
+pub mod JulianLaws
+pub mod Products
 pub mod Wide
