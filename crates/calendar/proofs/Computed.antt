@@ -1,6 +1,6 @@
 -- A rule for each number below n, by one test that antt computes. Assumes nothing.
 use mathlib.Core.Path.{_≡_, subst, sym}
-use mathlib.Core.Bool.{Bool, true, _&&_}
+use mathlib.Core.Bool.{Bool, true, false, not, _&&_, _||_}
 use mathlib.Core.Logic.{⊎-elim}
 use Prim.Native.Nat.{ℕ, zero, suc, _<_}
 use native.Mathlib.Nat.{eq-or-lt-of-le, le-of-suc-le-suc, not-suc-le-zero}
@@ -18,3 +18,13 @@ at f (suc n) t k h =
     ⊎-elim (λ (e : k ≡ n). subst (λ (j : ℕ). T (f j)) (sym e) (and-l (f n) (below f n) t))
     (λ (l : k < n). at f n (and-r (f n) (below f n) t) k l)
     (eq-or-lt-of-le (le-of-suc-le-suc h))
+
+-- a test at each number below n, in both kinds of year
+pub tested : (f : Bool → ℕ → Bool) (n : ℕ) → T (below (f true) n && below (f false) n) → (leap : Bool) (k : ℕ) → k < n → T (f leap k)
+tested f n t true k h = at (f true) n (and-l (below (f true) n) (below (f false) n) t) k h
+tested f n t false k h = at (f false) n (and-r (below (f true) n) (below (f false) n) t) k h
+
+-- a test that is asked under a condition
+pub when : (a b : Bool) → T (not a || b) → T a → T b
+when true b t h = t
+when false b t h = absurd h

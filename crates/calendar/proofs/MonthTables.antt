@@ -9,17 +9,7 @@ use lib.ListN.{List·getD-eq-default}
 use lib.Ieee.Fits.{and-l, and-r}
 use Rattle.calendar.specs.Gregorian.{lengthsOf, lengthOf}
 use Rattle.calendar.specs.Days.{rowOf, daysBeforeOf, countBelow, monthOf}
-use Rattle.calendar.proofs.Computed.{below, at}
-
--- a test at each number below n, in both kinds of year
-tested : (f : Bool → ℕ → Bool) (n : ℕ) → T (below (f true) n && below (f false) n) → (leap : Bool) (k : ℕ) → k < n → T (f leap k)
-tested f n t true k h = at (f true) n (and-l (below (f true) n) (below (f false) n) t) k h
-tested f n t false k h = at (f false) n (and-r (below (f true) n) (below (f false) n) t) k h
-
--- a test that is asked under a condition
-when : (a b : Bool) → T (not a || b) → T a → T b
-when true b t h = t
-when false b t h = absurd h
+use Rattle.calendar.proofs.Computed.{below, at, tested, when}
 
 -- a year is short
 pub year-short : (leap : Bool) → cond leap 366 365 ≤ 366

@@ -43,7 +43,7 @@ neg-value nan a c v = absurd v
 neg-value (inf s) a c v = absurd v
 neg-value (fin s m e) a c v = (ap not (v .0), v .1)
 
-neg-at : (n : ℕ) → n ≤ big → neg (at n) ≡ round binary64 true n 1
+pub neg-at : (n : ℕ) → n ≤ big → neg (at n) ≡ round binary64 true n 1
 neg-at n h =
     value-unique binary64 (neg (at n)) (round binary64 true n 1) true n 1 (lit< tt) (neg-fits binary64 (at n) (round-fits binary64 false n 1)) (round-fits binary64 true n 1)
     (neg-value (at n) n 1 (at-value n h)) (round-whole binary64 true n h)

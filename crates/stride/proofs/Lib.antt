@@ -1,2 +1,6 @@
-pub mod Saturation
+pub mod Counted
+pub mod JulianLaws
 pub mod Minutes
+pub mod Products
+pub mod Saturation
+pub mod Wide

@@ -1,3 +1,4 @@
 pub mod Julian
+pub mod Meeus
 pub mod Times
 pub mod TimesLaws

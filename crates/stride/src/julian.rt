@@ -1,16 +1,23 @@
 // The Julian Day in f64: ops.rs's julian_day, and Stride's on a date.
 ghost use mathlib.Core.Path.{_≡_};
-ghost use Rattle.stride.specs.Julian.{fromMarchOf, julianDayOf, toI32Of, dateJulianDayOf};
+ghost use Rattle.stride.specs.Julian.{correctionOf, fromMarchOf, julianDayOf, toI32Of, dateJulianDayOf};
 use calendar::dates::Date;
 use float64::casts::to_i32;
 use std::num::nearest_i64_to_f64;
+
+// The Gregorian calendar's correction for the centuries.
+fn correction(year: i64) -> i64
+    ensures { λ r. ⌜ r ≡ correctionOf year ⌝ }
+{
+    let a = year / 100;
+    2 - a + a / 4
+}
 
 // The month is 3 to 14, counted from the start of the year in which its March is.
 fn from_march(year: i64, month: i64, day: f64) -> f64
     ensures { λ r. ⌜ r ≡ fromMarchOf year month day ⌝ }
 {
-    let a = year / 100;
-    let b = 2 - a + a / 4;
+    let b = correction(year);
     let i0 = to_i32(365.25 * (nearest_i64_to_f64(year) + 4716.0));
     let i1 = to_i32(30.6001 * (nearest_i64_to_f64(month) + 1.0));
     (i0 as f64) + (i1 as f64) + day + nearest_i64_to_f64(b) - 1524.5

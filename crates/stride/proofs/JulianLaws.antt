@@ -1,0 +1,130 @@
+-- The Julian Day of the f64 formula is the one of Meeus's whole numbers and of the calendar's count of days, for every date of the years 1899
+-- to 2200: its sums of whole numbers and halves lose nothing. Assumes nothing.
+use mathlib.Core.Path.{_≡_, refl, ap, _∙_}
+use mathlib.Core.Bool.{Bool, true, false, cond}
+use Prim.Native.Nat.{ℕ, suc, _+_, _-_, _*_, _/_, _≤_, _<_}
+use native.Mathlib.Omega.{arith}
+use lib.Dec.{ltb, lit<, lit≤}
+use lib.IntN.{ℤ, pos, negsuc, _+ℤ_, _-ℤ_, _*ℤ_}
+use lib.Ieee.{Float, binary64, ofInt, ofBits, round, sub, div}
+use borrow.Author.Tests.{ltb-true, ltb-false, lt-ltb}
+use Rattle.integers.specs.Parts.{P, same}
+use Rattle.integers.specs.Sums.{sum, difference}
+use Rattle.float64.specs.Ops.{_+ᶠ_, _-ᶠ_, _/ᶠ_, bits}
+use Rattle.float64.proofs.Exact.{dyadic, int-dyadic, add-dyadic, sub-dyadic}
+use Rattle.float64.proofs.Steps.{neg-at}
+use Rattle.calendar.specs.Gregorian.{dateOf, leapOf, lengthOf, existsOf}
+use Rattle.calendar.specs.Days.{dayNumberOf}
+use Rattle.calendar.specs.declared.dates.Date.{Date}
+use Rattle.calendar.proofs.Existing.{exists-yes, month-of-date}
+use Rattle.stride.specs.Julian.{real, correctionOf, fromMarchOf, julianDayOf, toI32Of, dateJulianDayOf}
+use Rattle.stride.specs.Meeus.{yearDaysOf, monthDaysOf, meeusOf}
+use Rattle.stride.proofs.Products.{year-cut, month-cut}
+use Rattle.stride.proofs.Counted.{meeus-number}
+
+-- so many halves as an f64
+abbrev pub halves : ℕ → Float
+halves n = dyadic 1 n
+
+whole : (n : ℕ) → real (pos n) ≡ halves (n * 2)
+whole n = int-dyadic 1 n
+
+offset : bits 0x4097_d200_0000_0000 ≡ halves 3049
+unfolding ofBits round
+offset = refl
+
+no-hours : bits 0 /ᶠ bits 0x4038_0000_0000_0000 ≡ halves 0
+unfolding ofBits round div
+no-hours = refl
+
+-- a whole number of B's size and sign is taken away
+taken : (x b : ℕ) → x < 100000000 → 0 < b → b * 2 ≤ x → halves x +ᶠ real (negsuc (b - 1)) ≡ halves (x - b * 2)
+unfolding sub ofInt
+taken x b h p l =
+    let s : suc (b - 1) ≡ b = omega arith in
+    rw (s, ← neg-at b (omega arith)) (ap (sub binary64 (halves x)) (whole b) ∙ sub-dyadic 1 x (b * 2) (lit≤ tt) (omega arith) l)
+
+-- u, v: the days of the years and of the months; b: what the centuries take away
+exact : (u v day b : ℕ) → u + v + day < 10000000 → 0 < b → b + 1525 ≤ u + v + day →
+    real (pos u) +ᶠ real (pos v) +ᶠ (real (pos day) +ᶠ bits 0 /ᶠ bits 0x4038_0000_0000_0000) +ᶠ real (negsuc (b - 1)) -ᶠ bits 0x4097_d200_0000_0000
+    ≡ halves (2 * (u + v + day - b) - 3049)
+exact u v day b small p large =
+    let e0 : halves (day * 2) +ᶠ halves 0 ≡ halves (day * 2 + 0) = add-dyadic 1 (day * 2) 0 (lit≤ tt) (omega arith) (lit< tt) in
+    let e1 : halves (u * 2) +ᶠ halves (v * 2) ≡ halves (u * 2 + v * 2) = add-dyadic 1 (u * 2) (v * 2) (lit≤ tt) (omega arith) (omega arith) in
+    let e2 : halves (u * 2 + v * 2) +ᶠ halves (day * 2 + 0) ≡ halves (u * 2 + v * 2 + (day * 2 + 0)) = add-dyadic 1 (u * 2 + v * 2) (day * 2 + 0) (lit≤ tt) (omega arith) (omega arith) in
+    let x = u * 2 + v * 2 + (day * 2 + 0) in
+    let e3 = taken x b (omega arith) p (omega arith) in
+    let e4 : halves (x - b * 2) -ᶠ halves 3049 ≡ halves (x - b * 2 - 3049) = sub-dyadic 1 (x - b * 2) 3049 (lit≤ tt) (omega arith) (omega arith) in
+    let e5 : x - b * 2 - 3049 ≡ 2 * (u + v + day - b) - 3049 = omega arith in
+    rw (whole u, whole v, whole day, no-hours, offset, e0, e1, e2, e3, e4) (ap halves e5)
+
+-- ---- the formula
+correction : (y : ℕ) → 1898 ≤ y → y ≤ 2200 → correctionOf (pos y) ≡ negsuc (y / 100 - 2 - y / 100 / 4 - 1)
+unfolding correctionOf
+correction y p q =
+    let a = y / 100 in
+    let d = difference (pos 2) (pos a) in
+    let s = sum (pos 2 -ℤ pos a) (pos (a / 4)) in
+    same ((pos 2 -ℤ pos a) +ℤ pos (a / 4)) (negsuc (a - 2 - a / 4 - 1)) (omega (arith, d .0, d .1))
+
+from-march : (y m day : ℕ) → 1898 ≤ y → y ≤ 2200 → 3 ≤ m → m ≤ 14 → day ≤ 31 →
+    fromMarchOf (pos y) (pos m) (real (pos day) +ᶠ bits 0 /ᶠ bits 0x4038_0000_0000_0000)
+    ≡ halves (2 * (yearDaysOf y + monthDaysOf m + day + 2 + y / 100 / 4 - y / 100) - 3049)
+unfolding fromMarchOf
+from-march y m day p q i j k =
+    let u : yearDaysOf y ≤ 2600000 = omega arith in
+    let v : 1525 + 100 ≤ yearDaysOf y = omega arith in
+    let w : monthDaysOf m ≤ 500 = omega arith in
+    let a : 18 ≤ y / 100 = omega arith in
+    let b : y / 100 ≤ 22 = omega arith in
+    rw (year-cut y p q, month-cut m i j, correction y p q) (sum-of (yearDaysOf y) (monthDaysOf m) (y / 100) u v w a b)
+  where
+    sum-of : (u v a : ℕ) → u ≤ 2600000 → 1625 ≤ u → v ≤ 500 → 18 ≤ a → a ≤ 22 →
+        real (pos u) +ᶠ real (pos v) +ᶠ (real (pos day) +ᶠ bits 0 /ᶠ bits 0x4038_0000_0000_0000) +ᶠ real (negsuc (a - 2 - a / 4 - 1)) -ᶠ bits 0x4097_d200_0000_0000
+        ≡ halves (2 * (u + v + day + 2 + a / 4 - a) - 3049)
+    sum-of u v a b c d e f =
+        let g : 2 * (u + v + day - (a - 2 - a / 4)) - 3049 ≡ 2 * (u + v + day + 2 + a / 4 - a) - 3049 = omega arith in
+        exact u v day (a - 2 - a / 4) (omega arith) (omega arith) (omega arith) ∙ ap halves g
+
+to-i32 : (n : ℕ) → n < 2147483648 → toI32Of n ≡ pos n
+unfolding toI32Of
+to-i32 n h = rw (lt-ltb n 2147483648 h)
+
+before : (y : ℕ) → 1 ≤ y → pos y -ℤ pos 1 ≡ pos (y - 1)
+before y h = let d = difference (pos y) (pos 1) in same (pos y -ℤ pos 1) (pos (y - 1)) (omega (arith, d .0, d .1))
+
+-- the f64 formula and the whole-number one
+pub julian-meeus : (d : Date) → existsOf d ≡ true → 1899 ≤ d .year → d .year ≤ 2200 → dateJulianDayOf d ≡ halves (meeusOf d)
+unfolding dateJulianDayOf julianDayOf meeusOf
+julian-meeus d h p q =
+    let x = exists-yes d h in
+    let m = month-of-date d x in
+    rw (to-i32 (d .year) (omega arith), to-i32 (d .month) (omega arith), to-i32 (d .day) (omega arith)) (by-test (ltb 2 (d .month)) refl)
+  where
+    day : Float
+    day = real (pos (d .day)) +ᶠ bits 0 /ᶠ bits 0x4038_0000_0000_0000
+
+    by-test : (b : Bool) → ltb 2 (d .month) ≡ b →
+        cond b (fromMarchOf (pos (d .year)) (pos (d .month)) day) (fromMarchOf (pos (d .year) -ℤ pos 1) (pos (d .month + 12)) day)
+        ≡ halves
+        (let y = cond b (d .year) (d .year - 1) in let m = cond b (d .month) (d .month + 12) in
+        2 * (yearDaysOf y + monthDaysOf m + d .day + 2 + y / 100 / 4 - y / 100) - 3049)
+    by-test true e =
+        let x = exists-yes d h in
+        let m = month-of-date d x in
+        let l = ltb-true 2 (d .month) e in
+        from-march (d .year) (d .month) (d .day) (omega arith) q l (omega arith) (omega arith)
+    by-test false e =
+        let x = exists-yes d h in
+        let m = month-of-date d x in
+        let l = ltb-false 2 (d .month) e in
+        rw (before (d .year) (omega arith)) (from-march (d .year - 1) (d .month + 12) (d .day) (omega arith) (omega arith) (omega arith) (omega arith) (omega arith))
+
+-- and the calendar's count of days: day 0 begins at 2440587.5
+pub julian-number : (d : Date) → existsOf d ≡ true → 1899 ≤ d .year → d .year ≤ 2200 → dateJulianDayOf d ≡ halves (P (dayNumberOf d *ℤ pos 2 +ℤ pos 4881175))
+julian-number d h p q = julian-meeus d h p q ∙ ap (λ (z : ℤ). halves (P z)) (meeus-number d h (omega arith))
+
+-- 2000-01-01 is 2451544.5, and 1957-10-04 is 2436115.5
+pub marked-days : (dateJulianDayOf (dateOf 2000 1 1) ≡ halves 4903089) × (dateJulianDayOf (dateOf 1957 10 4) ≡ halves 4872231)
+unfolding meeusOf existsOf lengthOf leapOf
+marked-days = (julian-meeus (dateOf 2000 1 1) refl (lit≤ tt) (lit≤ tt), julian-meeus (dateOf 1957 10 4) refl (lit≤ tt) (lit≤ tt))

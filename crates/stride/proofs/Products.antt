@@ -1,0 +1,42 @@
+-- The f64 products of the Julian Day, cut to whole numbers, are quotients of whole numbers at every year and month in use: two tests that antt
+-- computes. Assumes nothing.
+use mathlib.Core.Path.{_≡_, sym, ap, _∙_}
+use mathlib.Core.Bool.{Bool, _&&_}
+use Prim.Native.Nat.{ℕ, _+_, _-_, _≤_}
+use native.Mathlib.Omega.{arith}
+use lib.Dec.{T, eqb, eqb→eq}
+use lib.IntN.{ℤ, pos, natAbs}
+use lib.Signed.{nonNeg, pos-natAbs}
+use lib.Ieee.{add, mul, ofInt, ofBits, toSigned, round}
+use lib.Ieee.Fits.{and-l, and-r}
+use Rattle.calendar.proofs.Computed.{at}
+use Rattle.stride.specs.Julian.{cutOf, yearProductOf, monthProductOf}
+use Rattle.stride.specs.Meeus.{yearDaysOf, monthDaysOf}
+
+is : ℤ → ℕ → Bool
+is z n = nonNeg z && eqb (natAbs z) n
+
+is-pos : (z : ℤ) (n : ℕ) → T (is z n) → z ≡ pos n
+unfolding is
+is-pos z n t =
+    sym (pos-natAbs z (and-l (nonNeg z) (eqb (natAbs z) n) t)) ∙ ap pos (eqb→eq (natAbs z) n (and-r (nonNeg z) (eqb (natAbs z) n) t))
+
+yearTest : ℕ → Bool
+yearTest k = is (cutOf (yearProductOf (pos (k + 1898)))) (yearDaysOf (k + 1898))
+
+monthTest : ℕ → Bool
+monthTest k = is (cutOf (monthProductOf (pos (k + 3)))) (monthDaysOf (k + 3))
+
+pub year-cut : (y : ℕ) → 1898 ≤ y → y ≤ 2200 → cutOf (yearProductOf (pos y)) ≡ pos (yearDaysOf y)
+unfolding is yearTest yearProductOf toSigned mul add ofInt ofBits round
+year-cut y p q =
+    let e : y - 1898 + 1898 ≡ y = omega arith in
+    let t = at yearTest 303 tt (y - 1898) (omega arith) in
+    rw e at (is-pos (cutOf (yearProductOf (pos (y - 1898 + 1898)))) (yearDaysOf (y - 1898 + 1898)) t)
+
+pub month-cut : (m : ℕ) → 3 ≤ m → m ≤ 14 → cutOf (monthProductOf (pos m)) ≡ pos (monthDaysOf m)
+unfolding is monthTest monthProductOf toSigned mul add ofInt ofBits round
+month-cut m p q =
+    let e : m - 3 + 3 ≡ m = omega arith in
+    let t = at monthTest 12 tt (m - 3) (omega arith) in
+    rw e at (is-pos (cutOf (monthProductOf (pos (m - 3 + 3)))) (monthDaysOf (m - 3 + 3)) t)

@@ -1,0 +1,93 @@
+-- The whole numbers of the Julian Day as i64: no step loses anything. Assumes nothing.
+use mathlib.Core.Path.{_≡_}
+use Prim.Native.Nat.{_+_, _<_}
+use native.Mathlib.Omega.{arith}
+use lib.Dec.{lit<}
+use lib.IntN.{ℤ, pos, _+ℤ_, _-ℤ_}
+use lib.Signed.{quotZ}
+use mir.Syntax.{w64, w32}
+use mir.Val.{SFits}
+use Rattle.integers.specs.Sums.{sum, difference}
+use Rattle.integers.specs.Quotients.{divided}
+use Rattle.integers.specs.Ranges.{range, fits, readBack, read}
+use Rattle.stride.specs.Julian.{correctionOf}
+
+-- ---- 2 - a + a / 4, where a is year / 100
+module _ (year : ℤ) (f : SFits w64 year) where
+  a : ℤ
+  a = quotZ year (pos 100)
+
+  a-fits : SFits w64 a
+  unfolding a
+  a-fits = let d = divided year 100 (lit< tt) in let r = range w64 year f in fits w64 a (omega arith) (omega arith)
+
+  pub century-fits : SFits w64 (quotZ (readBack w64 year) (pos 100))
+  unfolding a
+  century-fits = rw (read w64 year f) a-fits
+
+  century : readBack w64 (quotZ (readBack w64 year) (pos 100)) ≡ a
+  unfolding a
+  century = rw (read w64 year f) (read w64 a a-fits)
+
+  less-fits : SFits w64 (pos 2 -ℤ a)
+  unfolding a
+  less-fits =
+      let d = divided year 100 (lit< tt) in
+      let r = range w64 year f in
+      let s = difference (pos 2) a in
+      fits w64 (pos 2 -ℤ a) (omega (arith, s .0, s .1)) (omega (arith, s .0, s .1))
+
+  pub two-less-fits : SFits w64 (pos 2 -ℤ readBack w64 (quotZ (readBack w64 year) (pos 100)))
+  two-less-fits = rw century less-fits
+
+  quarter-fits : SFits w64 (quotZ a (pos 4))
+  quarter-fits = let d = divided a 4 (lit< tt) in let r = range w64 a a-fits in fits w64 (quotZ a (pos 4)) (omega arith) (omega arith)
+
+  pub fourth-fits : SFits w64 (quotZ (readBack w64 (quotZ (readBack w64 year) (pos 100))) (pos 4))
+  fourth-fits = rw century quarter-fits
+
+  whole-fits : SFits w64 ((pos 2 -ℤ a) +ℤ quotZ a (pos 4))
+  unfolding a
+  whole-fits =
+      let d = divided year 100 (lit< tt) in
+      let q = divided a 4 (lit< tt) in
+      let r = range w64 year f in
+      let s = difference (pos 2) a in
+      let t = sum (pos 2 -ℤ a) (quotZ a (pos 4)) in
+      fits w64 ((pos 2 -ℤ a) +ℤ quotZ a (pos 4)) (omega (arith, s .0, s .1)) (omega (arith, s .0, s .1))
+
+  pub sum-fits : SFits w64 (readBack w64 (pos 2 -ℤ readBack w64 (quotZ (readBack w64 year) (pos 100))) +ℤ readBack w64 (quotZ (readBack w64 (quotZ (readBack w64 year) (pos 100))) (pos 4)))
+  sum-fits = rw (century, read w64 (pos 2 -ℤ a) less-fits, read w64 (quotZ a (pos 4)) quarter-fits) whole-fits
+
+  pub correction-read : readBack w64 (readBack w64 (pos 2 -ℤ readBack w64 (quotZ (readBack w64 year) (pos 100))) +ℤ readBack w64 (quotZ (readBack w64 (quotZ (readBack w64 year) (pos 100))) (pos 4))) ≡ correctionOf year
+  unfolding a correctionOf
+  correction-read = rw (century, read w64 (pos 2 -ℤ a) less-fits, read w64 (quotZ a (pos 4)) quarter-fits, read w64 ((pos 2 -ℤ a) +ℤ quotZ a (pos 4)) whole-fits)
+
+-- ---- an i32 as an i64, the year before and the month of the year before
+module _ (z : ℤ) (f : SFits w32 z) where
+  wide : SFits w64 z
+  wide = let r = range w32 z f in fits w64 z (omega arith) (omega arith)
+
+  pub wide-fits : SFits w64 (readBack w32 z)
+  wide-fits = rw (read w32 z f) wide
+
+  pub wide-read : readBack w64 (readBack w32 z) ≡ z
+  wide-read = rw (read w32 z f) (read w64 z wide)
+
+  less-one : SFits w64 (z -ℤ pos 1)
+  less-one = let r = range w32 z f in let s = difference z (pos 1) in fits w64 (z -ℤ pos 1) (omega (arith, s .0, s .1)) (omega (arith, s .0, s .1))
+
+  pub less-one-fits : SFits w64 (readBack w64 (readBack w32 z) -ℤ pos 1)
+  less-one-fits = rw wide-read less-one
+
+  pub less-one-read : readBack w64 (readBack w64 (readBack w32 z) -ℤ pos 1) ≡ z -ℤ pos 1
+  less-one-read = rw wide-read (read w64 (z -ℤ pos 1) less-one)
+
+  more-twelve : SFits w64 (z +ℤ pos 12)
+  more-twelve = let r = range w32 z f in let s = sum z (pos 12) in fits w64 (z +ℤ pos 12) (omega arith) (omega arith)
+
+  pub more-twelve-fits : SFits w64 (readBack w64 (readBack w32 z) +ℤ pos 12)
+  more-twelve-fits = rw wide-read more-twelve
+
+  pub more-twelve-read : readBack w64 (readBack w64 (readBack w32 z) +ℤ pos 12) ≡ z +ℤ pos 12
+  more-twelve-read = rw wide-read (read w64 (z +ℤ pos 12) more-twelve)

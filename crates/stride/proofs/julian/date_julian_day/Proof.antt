@@ -1,0 +1,24 @@
+use mir.Syntax.{w32}
+use mir.Val.{SFits}
+use Rattle.integers.specs.Ranges.{read}
+use Rattle.stride.specs.Julian.{dateJulianDayOf}
+use borrow.Author.Needs.{needs}
+use Rattle.stride.proofs.julian.date_julian_day.Statement.{statement}
+use Rattle.stride.proofs.julian.date_julian_day.Tie as tie
+
+returns : tie.Need-returns
+unfolding dateJulianDayOf
+returns c =
+    let c1 = c .before in
+    let c2 = c1 .before in
+    let c3 = c2 .before in
+    let r1 : SFits w32 (c1 .saturated3 .result) = search needs in
+    let r2 : SFits w32 (c2 .saturated2 .result) = search needs in
+    let r3 : SFits w32 (c3 .saturated .result) = search needs in
+    simp (c .julian-day .ensures, read w32 (c1 .saturated3 .result) r1, read w32 (c2 .saturated2 .result) r2, read w32 (c3 .saturated .result) r3)
+    (simp (c1 .saturated3 .ensures, c2 .saturated2 .ensures, c3 .saturated .ensures))
+
+pub date-julian-day-spec : {M : Type 1} → statement M
+date-julian-day-spec =
+    tie.close
+    (tie.spec (λ c κs. tt) (λ c κs. tt) (λ c κs. tt) (λ c κs. tt) returns)
