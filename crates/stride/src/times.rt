@@ -9,7 +9,8 @@ const MOST: i64 = 9223372036854775807;
 
 const LEAST: i64 = -9223372036854775808;
 
-fn plus(a: i64, b: i64) -> i64
+// The sum, which is chrono's checked_add_signed where it stays in range.
+pub fn plus(a: i64, b: i64) -> i64
     ensures { λ r. ⌜ r ≡ satOf (a +ℤ b) ⌝ }
 {
     if b >= 0 {

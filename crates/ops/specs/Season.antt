@@ -1,0 +1,93 @@
+-- ops.rs: the season, by which the MoonsightingCommittee method bounds Fajr and Isha: minutes before sunrise and after sunset.
+use Prim.Native.Nat.{ℕ, _+_, _-_, _%_, _^_}
+use mathlib.Core.Bool.{Bool, _&&_, cond}
+use lib.Dec.{leb}
+use lib.IntN.{ℤ, pos, _+ℤ_}
+use lib.Ieee.{Float, binary64, neg, le, ofInt, toSigned}
+use Rattle.float64.specs.Ops.{_+ᶠ_, _-ᶠ_, _*ᶠ_, _/ᶠ_, dec}
+use Rattle.float64.specs.Sizes.{absOf}
+use Rattle.float64.specs.Whole.{roundOf}
+use Rattle.calendar.specs.Gregorian.{leapOf}
+use Rattle.calendar.specs.Days.{daysInYearOf}
+use Rattle.models.specs.declared.rounding.Rounding.the-variants.{Nearest}
+use Rattle.models.specs.declared.shafaq.Shafaq.{Shafaq}
+use Rattle.models.specs.declared.shafaq.Shafaq.the-variants.{General, Ahmer, Abyad}
+use Rattle.stride.specs.Times.{satOf, roundedOf}
+use Rattle.ops.specs.declared.season.AdjustmentDaytime.{AdjustmentDaytime}
+use Rattle.ops.specs.declared.season.AdjustmentDaytime.the-variants.{Morning, Evening}
+use Rattle.ops.specs.declared.season.TwilightAdjustmentValues.{TwilightAdjustmentValues}
+
+-- Days since the solstice of winter, by the day of the year. From the equator north the count starts again with the year's days;
+-- south of it, it is counted from June and is not reduced. A u32 holds it, and wraps.
+unfoldable pub daysSinceSolsticeOf : ℕ → ℕ → Float → ℕ
+unfolding dec
+daysSinceSolsticeOf day year latitude =
+    let days = daysInYearOf year in
+    let lapsed = (day + 10) % 2 ^ 32 in
+    cond (le (dec 0 0) latitude) (cond (leb days lapsed) (lapsed - days) lapsed) ((day + days - cond (leapOf year) 173 172) % 2 ^ 32)
+
+-- minutes at the equator, and more or fewer of them for each 55 degrees of latitude
+unfoldable pub raisedOf : Float → Float → Float → Float
+unfolding dec
+raisedOf base slope size = base +ᶠ slope /ᶠ dec 55 0 *ᶠ size
+
+unfoldable pub loweredOf : Float → Float → Float → Float
+unfolding dec
+loweredOf base slope size = base -ᶠ slope /ᶠ dec 55 0 *ᶠ size
+
+-- a base in minutes, and a slope in thousandths
+abbrev moreOf : ℕ → Float → ℕ → Float
+moreOf base latitude n = raisedOf (dec base 0) (dec n 3) (absOf latitude)
+
+abbrev fewerOf : ℕ → Float → ℕ → Float
+fewerOf base latitude n = loweredOf (dec base 0) (dec n 3) (absOf latitude)
+
+abbrev valuesOf : Float → Float → Float → Float → TwilightAdjustmentValues
+valuesOf a b c d = record { a = a; b = b; c = c; d = d }
+
+-- the observed minutes at four points of the year
+unfoldable pub eveningValuesOf : Float → Shafaq → TwilightAdjustmentValues
+unfolding dec
+eveningValuesOf x General = valuesOf (moreOf 75 x 25600) (moreOf 75 x 2050) (fewerOf 75 x 9210) (moreOf 75 x 6140)
+eveningValuesOf x Ahmer = valuesOf (moreOf 62 x 17400) (fewerOf 62 x 7160) (moreOf 62 x 5120) (moreOf 62 x 19440)
+eveningValuesOf x Abyad = valuesOf (moreOf 75 x 25600) (moreOf 75 x 7160) (moreOf 75 x 36840) (moreOf 75 x 81840)
+
+unfoldable pub twilightAdjustmentValuesOf : AdjustmentDaytime → Float → Shafaq → TwilightAdjustmentValues
+unfolding dec
+twilightAdjustmentValuesOf Morning x shafaq = valuesOf (moreOf 75 x 28650) (moreOf 75 x 19440) (moreOf 75 x 32740) (moreOf 75 x 48100)
+twilightAdjustmentValuesOf Evening x shafaq = eveningValuesOf x shafaq
+
+-- so many of the days on the way from one value to the next
+abbrev pub onTheWayOf : Float → Float → Float → Float → Float
+onTheWayOf from to days lapsed = from +ᶠ (to -ᶠ from) /ᶠ days *ᶠ lapsed
+
+abbrev within : ℕ → ℕ → Float → Bool
+within low high x = le (dec low 0) x && le x (dec high 0)
+
+-- the minutes on a day, by the six parts of the year
+unfoldable pub twilightAdjustmentsOf : TwilightAdjustmentValues → Float → Float
+unfolding dec
+twilightAdjustmentsOf v days =
+    cond (within 0 90 days) (onTheWayOf (v .a) (v .b) (dec 91 0) days)
+    (cond (within 91 136 days) (onTheWayOf (v .b) (v .c) (dec 46 0) (days -ᶠ dec 91 0))
+    (cond (within 137 182 days) (onTheWayOf (v .c) (v .d) (dec 46 0) (days -ᶠ dec 137 0))
+    (cond (within 183 228 days) (onTheWayOf (v .d) (v .c) (dec 46 0) (days -ᶠ dec 183 0))
+    (cond (within 229 274 days) (onTheWayOf (v .c) (v .b) (dec 46 0) (days -ᶠ dec 229 0))
+    (onTheWayOf (v .b) (v .a) (dec 91 0) (days -ᶠ dec 275 0))))))
+
+-- the minutes on a day of a year, of which the Morning's are the same for every shafaq
+abbrev pub minutesOf : AdjustmentDaytime → Float → ℕ → ℕ → Shafaq → Float
+minutesOf daytime latitude day year shafaq =
+    twilightAdjustmentsOf (twilightAdjustmentValuesOf daytime latitude shafaq) (ofInt binary64 (pos (daysSinceSolsticeOf day year latitude)))
+
+-- whole seconds before sunrise, half a second away from zero
+unfoldable pub seasonAdjustedMorningTwilightOf : Float → ℕ → ℕ → ℤ → ℤ
+unfolding dec
+seasonAdjustedMorningTwilightOf latitude day year sunrise =
+    satOf (sunrise +ℤ toSigned 63 (roundOf (minutesOf Morning latitude day year General *ᶠ neg (dec 60 0))))
+
+-- whole seconds after sunset, and then the nearest minute
+unfoldable pub seasonAdjustedEveningTwilightOf : Float → ℕ → ℕ → ℤ → Shafaq → ℤ
+unfolding dec
+seasonAdjustedEveningTwilightOf latitude day year sunset shafaq =
+    satOf (roundedOf Nearest (satOf (sunset +ℤ toSigned 63 (roundOf (minutesOf Evening latitude day year shafaq *ᶠ dec 60 0)))))

@@ -1,0 +1,179 @@
+// ops.rs: the season, by which the MoonsightingCommittee method bounds Fajr and Isha.
+ghost use mathlib.Core.Path.{_≡_};
+ghost use Rattle.ops.specs.Season.{daysSinceSolsticeOf, raisedOf, loweredOf, eveningValuesOf, twilightAdjustmentValuesOf, onTheWayOf, twilightAdjustmentsOf, minutesOf, seasonAdjustedMorningTwilightOf, seasonAdjustedEveningTwilightOf};
+use calendar::years::days_in_year;
+use calendar::years::is_leap_year;
+use float64::casts::to_i64;
+use float64::sizes::abs;
+use float64::whole::round;
+use models::rounding::Rounding;
+use models::shafaq::Shafaq;
+use stride::times::plus;
+use stride::times::rounded_minute;
+
+pub enum AdjustmentDaytime {
+    Morning,
+    Evening,
+}
+
+// Observed minutes at four points of the year.
+pub struct TwilightAdjustmentValues {
+    pub a: f64,
+    pub b: f64,
+    pub c: f64,
+    pub d: f64,
+}
+
+// Days since the solstice of winter. South of the equator the source's u32 wraps and comes back, and the count is not reduced.
+pub fn days_since_solstice(day_of_year: u32, year: u32, latitude: f64) -> u32
+    ensures { λ r. ⌜ r ≡ daysSinceSolsticeOf «day_of_year» year latitude ⌝ }
+{
+    let days_in_year = days_in_year(year);
+    if latitude >= 0.0 {
+        let lapsed_days = std::num::wrapping_add_u32(day_of_year, 10);
+        if lapsed_days >= days_in_year {
+            lapsed_days - days_in_year
+        } else {
+            lapsed_days
+        }
+    } else {
+        let southern_offset = if is_leap_year(year) { 173 } else { 172 };
+        std::num::wrapping_add_u32(
+            std::num::wrapping_sub_u32(day_of_year, southern_offset),
+            days_in_year,
+        )
+    }
+}
+
+// Minutes at the equator, with `slope` more for each 55 degrees of latitude.
+fn raised(base: f64, slope: f64, size: f64) -> f64
+    ensures { λ r. ⌜ r ≡ raisedOf base slope size ⌝ }
+{
+    base + ((slope / 55.0) * size)
+}
+
+// With `slope` fewer.
+fn lowered(base: f64, slope: f64, size: f64) -> f64
+    ensures { λ r. ⌜ r ≡ loweredOf base slope size ⌝ }
+{
+    base - ((slope / 55.0) * size)
+}
+
+fn evening_values(latitude: f64, shafaq: Shafaq) -> TwilightAdjustmentValues
+    ensures { λ r. ⌜ r ≡ eveningValuesOf latitude shafaq ⌝ }
+{
+    let x = abs(latitude);
+    match shafaq {
+        Shafaq::General => TwilightAdjustmentValues {
+            a: raised(75.0, 25.60, x),
+            b: raised(75.0, 2.050, x),
+            c: lowered(75.0, 9.210, x),
+            d: raised(75.0, 6.140, x),
+        },
+        Shafaq::Ahmer => TwilightAdjustmentValues {
+            a: raised(62.0, 17.40, x),
+            b: lowered(62.0, 7.160, x),
+            c: raised(62.0, 5.120, x),
+            d: raised(62.0, 19.44, x),
+        },
+        Shafaq::Abyad => TwilightAdjustmentValues {
+            a: raised(75.0, 25.60, x),
+            b: raised(75.0, 7.160, x),
+            c: raised(75.0, 36.84, x),
+            d: raised(75.0, 81.84, x),
+        },
+    }
+}
+
+fn twilight_adjustment_values(
+    daytime: AdjustmentDaytime,
+    latitude: f64,
+    shafaq: Shafaq,
+) -> TwilightAdjustmentValues
+    ensures { λ r. ⌜ r ≡ twilightAdjustmentValuesOf daytime latitude shafaq ⌝ }
+{
+    match daytime {
+        AdjustmentDaytime::Morning => {
+            let x = abs(latitude);
+            TwilightAdjustmentValues {
+                a: raised(75.0, 28.65, x),
+                b: raised(75.0, 19.44, x),
+                c: raised(75.0, 32.74, x),
+                d: raised(75.0, 48.10, x),
+            }
+        }
+        AdjustmentDaytime::Evening => evening_values(latitude, shafaq),
+    }
+}
+
+// So many of the days on the way from one value to the next.
+fn on_the_way(from: f64, to: f64, days: f64, lapsed: f64) -> f64
+    ensures { λ r. ⌜ r ≡ onTheWayOf from to days lapsed ⌝ }
+{
+    from + (to - from) / days * lapsed
+}
+
+// The minutes on a day, by the six parts of the year.
+fn twilight_adjustments(values: TwilightAdjustmentValues, dyy: f64) -> f64
+    ensures { λ r. ⌜ r ≡ twilightAdjustmentsOf values dyy ⌝ }
+{
+    if dyy >= 0.0 && dyy <= 90.0 {
+        on_the_way(values.a, values.b, 91.0, dyy)
+    } else if dyy >= 91.0 && dyy <= 136.0 {
+        on_the_way(values.b, values.c, 46.0, dyy - 91.0)
+    } else if dyy >= 137.0 && dyy <= 182.0 {
+        on_the_way(values.c, values.d, 46.0, dyy - 137.0)
+    } else if dyy >= 183.0 && dyy <= 228.0 {
+        on_the_way(values.d, values.c, 46.0, dyy - 183.0)
+    } else if dyy >= 229.0 && dyy <= 274.0 {
+        on_the_way(values.c, values.b, 46.0, dyy - 229.0)
+    } else {
+        on_the_way(values.b, values.a, 91.0, dyy - 275.0)
+    }
+}
+
+// The minutes on a day of a year.
+fn season_minutes(
+    daytime: AdjustmentDaytime,
+    latitude: f64,
+    day: u32,
+    year: u32,
+    shafaq: Shafaq,
+) -> f64
+    ensures { λ r. ⌜ r ≡ minutesOf daytime latitude day year shafaq ⌝ }
+{
+    let dyy = days_since_solstice(day, year, latitude) as f64;
+    twilight_adjustments(
+        twilight_adjustment_values(daytime, latitude, shafaq),
+        dyy,
+    )
+}
+
+// Whole seconds before sunrise.
+pub fn season_adjusted_morning_twilight(latitude: f64, day: u32, year: u32, sunrise: i64) -> i64
+    ensures { λ r. ⌜ r ≡ seasonAdjustedMorningTwilightOf latitude day year sunrise ⌝ }
+{
+    let adjustment = season_minutes(
+        AdjustmentDaytime::Morning,
+        latitude,
+        day,
+        year,
+        Shafaq::General,
+    );
+    plus(sunrise, to_i64(round(adjustment * -60.0)))
+}
+
+// Whole seconds after sunset, and then the nearest minute.
+pub fn season_adjusted_evening_twilight(
+    latitude: f64,
+    day: u32,
+    year: u32,
+    sunset: i64,
+    shafaq: Shafaq,
+) -> i64
+    ensures { λ r. ⌜ r ≡ seasonAdjustedEveningTwilightOf latitude day year sunset shafaq ⌝ }
+{
+    let adjustment = season_minutes(AdjustmentDaytime::Evening, latitude, day, year, shafaq);
+    let adjusted = plus(sunset, to_i64(round(adjustment * 60.0)));
+    rounded_minute(adjusted, Rounding::Nearest)
+}
