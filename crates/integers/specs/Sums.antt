@@ -1,5 +1,5 @@
 -- Sums, differences, and products by a natural number, by their parts. Assumes nothing.
-use mathlib.Core.Path.{_≡_, refl, sym, _∙_}
+use mathlib.Core.Path.{_≡_, refl, sym, ap, _∙_}
 use Prim.Native.Nat.{ℕ, zero, suc, _+_, _-_, _*_, _≤_}
 use native.Mathlib.Nat.{zero-mul}
 use native.Mathlib.Omega.{arith}
@@ -33,6 +33,10 @@ sum (pos a) (pos b) = record { balance = omega arith; high = omega arith; low = 
 sum (pos a) (negsuc b) = let d = less a (suc b) in record { balance = omega (arith, d .balance); high = omega (arith, d .high); low = omega (arith, d .low) }
 sum (negsuc a) (pos b) = let d = less b (suc a) in record { balance = omega (arith, d .balance); high = omega (arith, d .high); low = omega (arith, d .low) }
 sum (negsuc a) (negsuc b) = record { balance = omega arith; high = omega arith; low = omega arith }
+
+-- sums of equal summands
+pub summands : {x y u v : ℤ} → x ≡ u → y ≡ v → x +ℤ y ≡ u +ℤ v
+summands {x} {y} {u} {v} p q = ap (λ (z : ℤ). z +ℤ y) p ∙ ap (λ (z : ℤ). u +ℤ z) q
 
 -- y is -x
 pub record Flip (x y : ℤ) : Type 0 where

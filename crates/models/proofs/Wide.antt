@@ -1,5 +1,5 @@
 -- Two i32 numbers as i64, and their sum, which fits. Assumes nothing.
-use mathlib.Core.Path.{_≡_, sym, ap, subst, _∙_}
+use mathlib.Core.Path.{_≡_, sym, subst, _∙_}
 use Prim.Native.Nat.{_^_}
 use native.Mathlib.Omega.{arith}
 use lib.IntN.{ℤ, _+ℤ_}
@@ -7,7 +7,7 @@ use mir.Syntax.{w32, w64}
 use mir.Val.{SFits}
 use mir.Facts.{sfits-widen}
 use Rattle.integers.specs.Parts.{P, N}
-use Rattle.integers.specs.Sums.{sum}
+use Rattle.integers.specs.Sums.{sum, summands}
 use Rattle.integers.specs.Ranges.{Range, range, fits, readBack, read}
 
 pub wide-fits : (z : ℤ) → SFits w32 z → SFits w64 (readBack w32 z)
@@ -15,9 +15,6 @@ wide-fits z h = subst (SFits w64) (sym (read w32 z h)) (sfits-widen tt h)
 
 wide : (z : ℤ) → SFits w32 z → readBack w64 (readBack w32 z) ≡ z
 wide z h = read w64 (readBack w32 z) (wide-fits z h) ∙ read w32 z h
-
-pub plus : {x y u v : ℤ} → x ≡ u → y ≡ v → x +ℤ y ≡ u +ℤ v
-plus {x} {y} {u} {v} p q = ap (λ (z : ℤ). z +ℤ y) p ∙ ap (λ (z : ℤ). u +ℤ z) q
 
 module _ (a b : ℤ) (ha : SFits w32 a) (hb : SFits w32 b) where
   exact : SFits w64 (a +ℤ b)
@@ -28,7 +25,7 @@ module _ (a b : ℤ) (ha : SFits w32 a) (hb : SFits w32 b) where
       fits w64 (a +ℤ b) (omega arith) (omega arith)
 
   both : readBack w64 (readBack w32 a) +ℤ readBack w64 (readBack w32 b) ≡ a +ℤ b
-  both = plus (wide a ha) (wide b hb)
+  both = summands (wide a ha) (wide b hb)
 
   pub sum-fits : SFits w64 (readBack w64 (readBack w32 a) +ℤ readBack w64 (readBack w32 b))
   sum-fits = subst (SFits w64) (sym both) exact

@@ -1,3 +1,4 @@
+pub mod Season
 pub mod Sun
 pub mod Transit
 pub mod Shared

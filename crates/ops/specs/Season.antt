@@ -17,6 +17,10 @@ use Rattle.ops.specs.declared.season.AdjustmentDaytime.{AdjustmentDaytim
 use Rattle.ops.specs.declared.season.AdjustmentDaytime.the-variants.{Morning, Evening}
 use Rattle.ops.specs.declared.season.TwilightAdjustmentValues.{TwilightAdjustmentValues}
 
+-- the day of the June solstice
+unfoldable pub southernOffsetOf : ℕ → ℕ
+southernOffsetOf year = cond (leapOf year) 173 172
+
 -- Days since the solstice of winter, by the day of the year. From the equator north the count starts again with the year's days;
 -- south of it, it is counted from June and is not reduced. A u32 holds it, and wraps.
 unfoldable pub daysSinceSolsticeOf : ℕ → ℕ → Float → ℕ
@@ -24,7 +28,7 @@ unfolding dec
 daysSinceSolsticeOf day year latitude =
     let days = daysInYearOf year in
     let lapsed = (day + 10) % 2 ^ 32 in
-    cond (le (dec 0 0) latitude) (cond (leb days lapsed) (lapsed - days) lapsed) ((day + days - cond (leapOf year) 173 172) % 2 ^ 32)
+    cond (le (dec 0 0) latitude) (cond (leb days lapsed) (lapsed - days) lapsed) ((day + days - southernOffsetOf year) % 2 ^ 32)
 
 -- minutes at the equator, and more or fewer of them for each 55 degrees of latitude
 unfoldable pub raisedOf : Float → Float → Float → Float
@@ -61,18 +65,18 @@ twilightAdjustmentValuesOf Evening x shafaq = eveningValuesOf x shafaq
 abbrev pub onTheWayOf : Float → Float → Float → Float → Float
 onTheWayOf from to days lapsed = from +ᶠ (to -ᶠ from) /ᶠ days *ᶠ lapsed
 
-abbrev within : ℕ → ℕ → Float → Bool
-within low high x = le (dec low 0) x && le x (dec high 0)
+abbrev pub withinOf : Float → Float → Float → Bool
+withinOf low high x = le low x && le x high
 
 -- the minutes on a day, by the six parts of the year
 unfoldable pub twilightAdjustmentsOf : TwilightAdjustmentValues → Float → Float
 unfolding dec
 twilightAdjustmentsOf v days =
-    cond (within 0 90 days) (onTheWayOf (v .a) (v .b) (dec 91 0) days)
-    (cond (within 91 136 days) (onTheWayOf (v .b) (v .c) (dec 46 0) (days -ᶠ dec 91 0))
-    (cond (within 137 182 days) (onTheWayOf (v .c) (v .d) (dec 46 0) (days -ᶠ dec 137 0))
-    (cond (within 183 228 days) (onTheWayOf (v .d) (v .c) (dec 46 0) (days -ᶠ dec 183 0))
-    (cond (within 229 274 days) (onTheWayOf (v .c) (v .b) (dec 46 0) (days -ᶠ dec 229 0))
+    cond (withinOf (dec 0 0) (dec 90 0) days) (onTheWayOf (v .a) (v .b) (dec 91 0) days)
+    (cond (withinOf (dec 91 0) (dec 136 0) days) (onTheWayOf (v .b) (v .c) (dec 46 0) (days -ᶠ dec 91 0))
+    (cond (withinOf (dec 137 0) (dec 182 0) days) (onTheWayOf (v .c) (v .d) (dec 46 0) (days -ᶠ dec 137 0))
+    (cond (withinOf (dec 183 0) (dec 228 0) days) (onTheWayOf (v .d) (v .c) (dec 46 0) (days -ᶠ dec 183 0))
+    (cond (withinOf (dec 229 0) (dec 274 0) days) (onTheWayOf (v .c) (v .b) (dec 46 0) (days -ᶠ dec 229 0))
     (onTheWayOf (v .b) (v .a) (dec 91 0) (days -ᶠ dec 275 0))))))
 
 -- the minutes on a day of a year, of which the Morning's are the same for every shafaq

@@ -1,6 +1,6 @@
 // ops.rs: the season, by which the MoonsightingCommittee method bounds Fajr and Isha.
 ghost use mathlib.Core.Path.{_≡_};
-ghost use Rattle.ops.specs.Season.{daysSinceSolsticeOf, raisedOf, loweredOf, eveningValuesOf, twilightAdjustmentValuesOf, onTheWayOf, twilightAdjustmentsOf, minutesOf, seasonAdjustedMorningTwilightOf, seasonAdjustedEveningTwilightOf};
+ghost use Rattle.ops.specs.Season.{southernOffsetOf, daysSinceSolsticeOf, raisedOf, loweredOf, eveningValuesOf, twilightAdjustmentValuesOf, onTheWayOf, withinOf, twilightAdjustmentsOf, minutesOf, seasonAdjustedMorningTwilightOf, seasonAdjustedEveningTwilightOf};
 use calendar::years::days_in_year;
 use calendar::years::is_leap_year;
 use float64::casts::to_i64;
@@ -24,6 +24,13 @@ pub struct TwilightAdjustmentValues {
     pub d: f64,
 }
 
+// The day of the June solstice.
+fn southern_offset(year: u32) -> u32
+    ensures { λ r. ⌜ r ≡ southernOffsetOf year ⌝ }
+{
+    if is_leap_year(year) { 173 } else { 172 }
+}
+
 // Days since the solstice of winter. South of the equator the source's u32 wraps and comes back, and the count is not reduced.
 pub fn days_since_solstice(day_of_year: u32, year: u32, latitude: f64) -> u32
     ensures { λ r. ⌜ r ≡ daysSinceSolsticeOf «day_of_year» year latitude ⌝ }
@@ -37,11 +44,8 @@ pub fn days_since_solstice(day_of_year: u32, year: u32, latitude: f64) -> u32
             lapsed_days
         }
     } else {
-        let southern_offset = if is_leap_year(year) { 173 } else { 172 };
-        std::num::wrapping_add_u32(
-            std::num::wrapping_sub_u32(day_of_year, southern_offset),
-            days_in_year,
-        )
+        let lapsed_days = std::num::wrapping_sub_u32(day_of_year, southern_offset(year));
+        std::num::wrapping_add_u32(lapsed_days, days_in_year)
     }
 }
 
@@ -113,19 +117,26 @@ fn on_the_way(from: f64, to: f64, days: f64, lapsed: f64) -> f64
     from + (to - from) / days * lapsed
 }
 
+// Rust's (low..=high).contains(&x).
+fn within(low: f64, high: f64, x: f64) -> bool
+    ensures { λ r. ⌜ r ≡ withinOf low high x ⌝ }
+{
+    if low <= x { x <= high } else { false }
+}
+
 // The minutes on a day, by the six parts of the year.
 fn twilight_adjustments(values: TwilightAdjustmentValues, dyy: f64) -> f64
     ensures { λ r. ⌜ r ≡ twilightAdjustmentsOf values dyy ⌝ }
 {
-    if dyy >= 0.0 && dyy <= 90.0 {
+    if within(0.0, 90.0, dyy) {
         on_the_way(values.a, values.b, 91.0, dyy)
-    } else if dyy >= 91.0 && dyy <= 136.0 {
+    } else if within(91.0, 136.0, dyy) {
         on_the_way(values.b, values.c, 46.0, dyy - 91.0)
-    } else if dyy >= 137.0 && dyy <= 182.0 {
+    } else if within(137.0, 182.0, dyy) {
         on_the_way(values.c, values.d, 46.0, dyy - 137.0)
-    } else if dyy >= 183.0 && dyy <= 228.0 {
+    } else if within(183.0, 228.0, dyy) {
         on_the_way(values.d, values.c, 46.0, dyy - 183.0)
-    } else if dyy >= 229.0 && dyy <= 274.0 {
+    } else if within(229.0, 274.0, dyy) {
         on_the_way(values.c, values.b, 46.0, dyy - 229.0)
     } else {
         on_the_way(values.b, values.a, 91.0, dyy - 275.0)
@@ -143,10 +154,7 @@ fn season_minutes(
     ensures { λ r. ⌜ r ≡ minutesOf daytime latitude day year shafaq ⌝ }
 {
     let dyy = days_since_solstice(day, year, latitude) as f64;
-    twilight_adjustments(
-        twilight_adjustment_values(daytime, latitude, shafaq),
-        dyy,
-    )
+    twilight_adjustments(twilight_adjustment_values(daytime, latitude, shafaq), dyy)
 }
 
 // Whole seconds before sunrise.

@@ -1,0 +1,40 @@
+use Prim.Native.Nat.{ℕ, _+_, _%_, _<_}
+use mathlib.Core.Path.{sym, ap, _∙_}
+use lib.Ieee.{round, ofBits}
+use borrow.Author.Tests.{le-leb, lt-leb}
+use Rattle.float64.specs.Ops.{dec}
+use Rattle.ops.specs.Season.{daysSinceSolsticeOf}
+use Rattle.ops.proofs.Wrapped.{wrapped}
+use borrow.Author.Needs.{needs}
+use Rattle.ops.proofs.season.days_since_solstice.Statement.{statement}
+use Rattle.ops.proofs.season.days_since_solstice.Tie as tie
+
+returns : tie.Need-returns
+unfolding daysSinceSolsticeOf dec round ofBits
+returns c =
+    let e = c .before .wrapping-add-u32 .ensures in
+    let d = c .before .before .before .days-in-year .ensures in
+    simp (sym e, sym d, c .before .before .if1 .taken, le-leb _ _ (c .if2 .taken))
+
+returns-2 : tie.Need-returns-2
+unfolding daysSinceSolsticeOf dec round ofBits
+returns-2 c =
+    let e = c .before .wrapping-add-u32 .ensures in
+    let d = c .before .before .before .days-in-year .ensures in
+    simp (sym e, sym d, c .before .before .if1 .taken, lt-leb _ _ (c .if2 .left))
+
+returns-3 : tie.Need-returns-3
+unfolding daysSinceSolsticeOf dec round ofBits
+returns-3 c =
+    let a = c .before .before .before .before .before in
+    let r = c .before .wrapping-sub-u32 .result in
+    let o = c .before .before .southern-offset .ensures in
+    let d = c .before .before .before .before .days-in-year .ensures in
+    let fits : r < 4294967296 = search needs in
+    let sub = ap (λ (n : ℕ). (r + n) % 4294967296) (sym o) ∙ c .before .wrapping-sub-u32 .ensures in
+    simp (c .before .before .before .if1 .left) (c .wrapping-add-u322 .ensures ∙ ap (λ (n : ℕ). (r + n) % 4294967296) d ∙ wrapped r (a .args .day-of-year) (a .args .year) fits (a .fits .day-of-year .fits) sub)
+
+pub days-since-solstice-spec : {M : Type 1} → statement M
+days-since-solstice-spec =
+    tie.close
+    (tie.spec (λ c κs. search needs) (λ c κs. search needs) (λ c κs. search needs) (λ c κs. search needs) (λ c κs. search needs) returns returns-2 returns-3)
