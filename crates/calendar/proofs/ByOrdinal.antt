@@ -67,10 +67,13 @@ module _ (d : Date) (some : ordinalOf d ≡ 0 → ⊥) (small : d .year ≤ 4294
   -- the last date of the last year
   pub tomorrow-last : daysInYearOf (d .year) ≤ ordinalOf d → d .year ≡ 4294967295 → d ≡ tomorrowOf d
   unfolding fromOf heldOf
-  tomorrow-last l n =
+  tomorrow-last i n =
       let o = ordinal-within d here in
-      let e : d ≡ dateOf 4294967295 12 31 = count-injective d (dateOf 4294967295 12 31) here (year-end 4294967295) (omega (arith, ordinal-last 4294967295, ap daysBeforeYearOf n, ap daysInYearOf n)) in
-      rw (here, ← year-over l, lt-leb (d .year + 1) 4294967295 (omega arith)) e
+      let l = ap daysBeforeYearOf n in
+      let k = ap daysInYearOf n in
+      let e : d ≡ dateOf 4294967295 12 31 =
+      count-injective d (dateOf 4294967295 12 31) here (year-end 4294967295) (omega (arith, ordinal-last 4294967295)) in
+      rw (here, ← year-over i, lt-leb (d .year + 1) 4294967295 (omega arith)) e
 
   -- ---- yesterday
   pub yesterday-within : 1 < ordinalOf d → ofOrdinalOf (d .year) (ordinalOf d - 1) ≡ yesterdayOf d

@@ -1,5 +1,5 @@
 -- The laws of the calendar: the formulas of Days give the calendar of Gregorian, in every year. Assumes nothing.
--- That the rows are the running sums of the months' lengths is row-january, row-step and row-december of MonthTables.
+-- That the rows are the running sums of the months' lengths is before-january, before-next and before-december of MonthTables.
 use mathlib.Core.Path.{_≡_, refl, sym, ap, _∙_}
 use mathlib.Core.Bool.{true}
 use Prim.Native.Nat.{ℕ, _+_, _-_, _%_, _≤_, _<_}
@@ -14,18 +14,18 @@ use Rattle.integers.specs.Quotients.{floored}
 use Rattle.calendar.specs.Gregorian.{dateOf, leapOf, existsOf, dayAfterOf, dayBeforeOf}
 use Rattle.calendar.specs.Days.{daysInYearOf, ordinalOf, daysBeforeYearOf, dayNumberOf, dateAtOf, dateOfDayOf, weekdayOf}
 use Rattle.calendar.specs.declared.dates.Date.{Date}
-use Rattle.calendar.proofs.MonthTables.{row-january, row-december}
+use Rattle.calendar.proofs.MonthTables.{before-january, before-december}
 use Rattle.calendar.proofs.YearSteps.{year-zero, year-step, year-mono}
 use Rattle.calendar.proofs.Existing.{ordinal-is, ordinal-within, count, count-back, count-forth, count-injective}
 use Rattle.calendar.proofs.Neighbours.{after, before, new-year, year-end}
 
 -- ---- days of the year
 pub ordinal-first : (y : ℕ) → ordinalOf (dateOf y 1 1) ≡ 1
-ordinal-first y = omega (arith, ordinal-is (dateOf y 1 1) (new-year y), row-january (leapOf y))
+ordinal-first y = omega (arith, ordinal-is (dateOf y 1 1) (new-year y), before-january (leapOf y))
 
 pub ordinal-last : (y : ℕ) → ordinalOf (dateOf y 12 31) ≡ daysInYearOf y
 unfolding daysInYearOf
-ordinal-last y = omega (arith, ordinal-is (dateOf y 12 31) (year-end y), row-december (leapOf y))
+ordinal-last y = omega (arith, ordinal-is (dateOf y 12 31) (year-end y), before-december (leapOf y))
 
 pub ordinal-next : (d : Date) → existsOf d ≡ true → dayAfterOf d .year ≡ d .year → ordinalOf (dayAfterOf d) ≡ ordinalOf d + 1
 ordinal-next d h e = let f = after d h in omega (arith, ap daysBeforeYearOf e)
@@ -33,7 +33,7 @@ ordinal-next d h e = let f = after d h in omega (arith, ap daysBeforeYearOf e)
 -- ---- day numbers
 pub day-zero : dayNumberOf (dateOf 1970 1 1) ≡ pos 0
 unfolding dayNumberOf daysBeforeYearOf
-day-zero = rw (ordinal-is (dateOf 1970 1 1) (new-year 1970), row-january) refl
+day-zero = rw (ordinal-is (dateOf 1970 1 1) (new-year 1970), before-january) refl
 
 -- d counts as the number of its day, and 719529 more
 balance : (d : Date) → P (dayNumberOf d) + 719529 ≡ N (dayNumberOf d) + count d

@@ -20,24 +20,24 @@ year-short false = lit≤ tt
 stepTest : Bool → ℕ → Bool
 stepTest leap m = eqb (daysBeforeOf leap (m + 1)) (daysBeforeOf leap m + lengthOf leap m)
 
-pub row-step : (leap : Bool) (m : ℕ) → m < 12 → daysBeforeOf leap (m + 1) ≡ daysBeforeOf leap m + lengthOf leap m
+pub before-next : (leap : Bool) (m : ℕ) → m < 12 → daysBeforeOf leap (m + 1) ≡ daysBeforeOf leap m + lengthOf leap m
 unfolding stepTest daysBeforeOf lengthOf
-row-step leap m h = eqb→eq _ _ (tested stepTest 12 tt leap m h)
+before-next leap m h = eqb→eq _ _ (tested stepTest 12 tt leap m h)
 
-pub row-january : (leap : Bool) → daysBeforeOf leap 1 ≡ 0
+pub before-january : (leap : Bool) → daysBeforeOf leap 1 ≡ 0
 unfolding daysBeforeOf
-row-january true = refl
-row-january false = refl
+before-january true = refl
+before-january false = refl
 
-pub row-none : (leap : Bool) → daysBeforeOf leap 0 ≡ 0
+pub before-none : (leap : Bool) → daysBeforeOf leap 0 ≡ 0
 unfolding daysBeforeOf
-row-none true = refl
-row-none false = refl
+before-none true = refl
+before-none false = refl
 
-pub row-december : (leap : Bool) → daysBeforeOf leap 12 + 31 ≡ cond leap 366 365
+pub before-december : (leap : Bool) → daysBeforeOf leap 12 + 31 ≡ cond leap 366 365
 unfolding daysBeforeOf
-row-december true = refl
-row-december false = refl
+before-december true = refl
+before-december false = refl
 
 pub length-january : (leap : Bool) → lengthOf leap 1 ≡ 31
 unfolding lengthOf
@@ -51,10 +51,10 @@ pub length-past : (leap : Bool) (m : ℕ) → 12 < m → lengthOf leap m ≡ 0
 unfolding lengthOf
 length-past leap m h = List·getD-eq-default (lengthsOf leap) 0 h
 
-pub row-past : (leap : Bool) (m : ℕ) → 12 < m → daysBeforeOf leap m ≡ 0
+pub before-past : (leap : Bool) (m : ℕ) → 12 < m → daysBeforeOf leap m ≡ 0
 unfolding daysBeforeOf
-row-past true m h = let k : 12 ≤ m - 1 = omega arith in List·getD-eq-default (rowOf true) 0 k
-row-past false m h = let k : 12 ≤ m - 1 = omega arith in List·getD-eq-default (rowOf false) 0 k
+before-past true m h = let k : 12 ≤ m - 1 = omega arith in List·getD-eq-default (rowOf true) 0 k
+before-past false m h = let k : 12 ≤ m - 1 = omega arith in List·getD-eq-default (rowOf false) 0 k
 
 someTest : Bool → ℕ → Bool
 someTest leap k = ltb 0 (lengthOf leap (k + 1))

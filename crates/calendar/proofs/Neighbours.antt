@@ -8,7 +8,7 @@ use borrow.Author.Tests.{ltb-true, ltb-false}
 use Rattle.calendar.specs.Gregorian.{dateOf, leapOf, lengthOf, monthDaysOf, existsOf, dayAfterOf, dayBeforeOf}
 use Rattle.calendar.specs.Days.{daysInYearOf}
 use Rattle.calendar.specs.declared.dates.Date.{Date}
-use Rattle.calendar.proofs.MonthTables.{row-step, row-january, row-december, length-january, length-december, length-some}
+use Rattle.calendar.proofs.MonthTables.{before-next, before-january, before-december, length-january, length-december, length-some}
 use Rattle.calendar.proofs.YearSteps.{year-step}
 use Rattle.calendar.proofs.Existing.{exists-yes, to-exists, month-of-date, ordinal-is, count}
 
@@ -21,7 +21,7 @@ pub record Follows (d e : Date) : Type 0 where
 next-month : (y m : ℕ) → 0 < m → m < 12 → (d : ℕ) → d ≡ monthDaysOf y m → existsOf (dateOf y m d) ≡ true → Follows (dateOf y m d) (dateOf y (m + 1) 1)
 next-month y m p q d e h =
     let t = to-exists (dateOf y (m + 1) 1) (record { from = omega arith; to = length-some (leapOf y) m q }) in
-    let r = row-step (leapOf y) m q in
+    let r = before-next (leapOf y) m q in
     record { there = t; number = omega (arith, ordinal-is (dateOf y m d) h, ordinal-is (dateOf y (m + 1) 1) t) }
 
 pub new-year : (y : ℕ) → existsOf (dateOf y 1 1) ≡ true
@@ -37,7 +37,7 @@ next-year y =
       there = new-year (y + 1);
       number =
           omega
-          (arith, ordinal-is (dateOf y 12 31) (year-end y), ordinal-is (dateOf (y + 1) 1 1) (new-year (y + 1)), year-step y, row-december (leapOf y), row-january (leapOf (y + 1)));
+          (arith, ordinal-is (dateOf y 12 31) (year-end y), ordinal-is (dateOf (y + 1) 1 1) (new-year (y + 1)), year-step y, before-december (leapOf y), before-january (leapOf (y + 1)));
     }
 
 pub after : (d : Date) → existsOf d ≡ true → Follows d (dayAfterOf d)

@@ -4,15 +4,22 @@ ghost use Prim.Native.Nat.{_≤_, _<_};
 ghost use Rattle.calendar.specs.Answers.{sinceFirstOf};
 ghost use Rattle.calendar.specs.Days.{daysBeforeYearOf, yearOf};
 
-// The days from there to a day by its number, from the first to the last date that there is.
+// 0000-01-01 and the last date of the year 4294967295 by their numbers, and the days from the one to the other.
+const FIRST: i64 = -719528;
+
+const LAST: i64 = 1568703873081;
+
+const SPAN: u64 = 1568704592609;
+
+// The days from 0000-01-01 to a day by its number, for a day between the two, and else for the nearer of them.
 pub fn since_first(day: i64) -> u64
     ensures { λ r. ⌜ r ≡ sinceFirstOf day ⌝ }
 {
-    if day < -719528 {
+    if day < FIRST {
         return 0;
     }
-    if day > 1568703873081 {
-        return 1568704592609;
+    if day > LAST {
+        return SPAN;
     }
     (day + 719528) as u64
 }

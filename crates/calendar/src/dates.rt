@@ -52,7 +52,7 @@ impl Date {
         self.day >= 1 && self.day <= days
     }
 
-    // The day of the year.
+    // The day of the year; 0 for a date that does not exist, so that who asks for it need not ask whether the date exists.
     pub fn ordinal(self) -> u32
         ensures { λ r. ⌜ r ≡ ordinalOf self ⌝ }
     {
@@ -63,6 +63,7 @@ impl Date {
         }
     }
 
+    // The next ordinal of the year, or the next year's first.
     pub fn tomorrow(self) -> Date
         ensures { λ r. ⌜ r ≡ tomorrowOf self ⌝ }
     {
@@ -84,6 +85,7 @@ impl Date {
         }
     }
 
+    // The ordinal before, or the last of the year before.
     pub fn yesterday(self) -> Date
         ensures { λ r. ⌜ r ≡ yesterdayOf self ⌝ }
     {

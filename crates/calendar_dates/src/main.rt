@@ -5,6 +5,7 @@ use calendar::dates::Date;
 use calendar::dates::weekday;
 use float64::casts::to_u64;
 use libc::STDOUT_FILENO;
+use std::num::nearest_i64_to_f64;
 use stride::julian::date_julian_day;
 
 // What is folded of each date, in the order in which it is printed.
@@ -29,15 +30,9 @@ fn digits(d: Date) -> u64 {
     d.year as u64 * 10000 + d.month as u64 * 100 + d.day as u64
 }
 
-// A day number as a number above 0; 0 for those that are out of the walk's range.
+// A day number as a number above 0, through f64, which holds both.
 fn shifted(day: i64) -> u64 {
-    if day < -1000000 {
-        return 0;
-    }
-    if day > 1000000 {
-        return 0;
-    }
-    (day + 1000000) as u64
+    to_u64(nearest_i64_to_f64(day) + 1000000.0)
 }
 
 fn folded(f: Folds, first: Date, n: u32, d: Date) -> Folds {

@@ -20,7 +20,7 @@ use Rattle.stride.specs.Meeus.{yearDaysOf, monthDaysOf, meeusOf}
 years : (y : ℕ) → yearDaysOf y + 2 + y / 100 / 4 - y / 100 ≡ daysBeforeYearOf (y + 1) + 1722155
 unfolding daysBeforeYearOf
 years y =
-    let a : 1461 * (y + 4716) / 4 ≡ 365 * y + y / 4 + 1722519 = omega arith in
+    let a : yearDaysOf y ≡ 365 * y + y / 4 + 1722519 = omega arith in
     let b : y / 100 / 4 ≡ y / 400 = omega arith in
     let c : (y + 1 + 3) / 4 ≡ y / 4 + 1 = omega arith in
     let d : (y + 1 + 99) / 100 ≡ y / 100 + 1 = omega arith in

@@ -33,6 +33,10 @@ offset : bits 0x4097_d200_0000_0000 ≡ halves 3049
 unfolding ofBits round
 offset = refl
 
+-- the day of the month at 0 h
+abbrev at-midnight : ℕ → Float
+at-midnight day = real (pos day) +ᶠ bits 0 /ᶠ bits 0x4038_0000_0000_0000
+
 no-hours : bits 0 /ᶠ bits 0x4038_0000_0000_0000 ≡ halves 0
 unfolding ofBits round div
 no-hours = refl
@@ -46,7 +50,7 @@ taken x b h p l =
 
 -- u, v: the days of the years and of the months; b: what the centuries take away
 exact : (u v day b : ℕ) → u + v + day < 10000000 → 0 < b → b + 1525 ≤ u + v + day →
-    real (pos u) +ᶠ real (pos v) +ᶠ (real (pos day) +ᶠ bits 0 /ᶠ bits 0x4038_0000_0000_0000) +ᶠ real (negsuc (b - 1)) -ᶠ bits 0x4097_d200_0000_0000
+    real (pos u) +ᶠ real (pos v) +ᶠ at-midnight day +ᶠ real (negsuc (b - 1)) -ᶠ bits 0x4097_d200_0000_0000
     ≡ halves (2 * (u + v + day - b) - 3049)
 exact u v day b small p large =
     let e0 : halves (day * 2) +ᶠ halves 0 ≡ halves (day * 2 + 0) = add-dyadic 1 (day * 2) 0 (lit≤ tt) (omega arith) (lit< tt) in
@@ -68,7 +72,7 @@ correction y p q =
     same ((pos 2 -ℤ pos a) +ℤ pos (a / 4)) (negsuc (a - 2 - a / 4 - 1)) (omega (arith, d .0, d .1))
 
 from-march : (y m day : ℕ) → 1898 ≤ y → y ≤ 2200 → 3 ≤ m → m ≤ 14 → day ≤ 31 →
-    fromMarchOf (pos y) (pos m) (real (pos day) +ᶠ bits 0 /ᶠ bits 0x4038_0000_0000_0000)
+    fromMarchOf (pos y) (pos m) (at-midnight day)
     ≡ halves (2 * (yearDaysOf y + monthDaysOf m + day + 2 + y / 100 / 4 - y / 100) - 3049)
 unfolding fromMarchOf
 from-march y m day p q i j k =
@@ -80,7 +84,7 @@ from-march y m day p q i j k =
     rw (year-cut y p q, month-cut m i j, correction y p q) (sum-of (yearDaysOf y) (monthDaysOf m) (y / 100) u v w a b)
   where
     sum-of : (u v a : ℕ) → u ≤ 2600000 → 1625 ≤ u → v ≤ 500 → 18 ≤ a → a ≤ 22 →
-        real (pos u) +ᶠ real (pos v) +ᶠ (real (pos day) +ᶠ bits 0 /ᶠ bits 0x4038_0000_0000_0000) +ᶠ real (negsuc (a - 2 - a / 4 - 1)) -ᶠ bits 0x4097_d200_0000_0000
+        real (pos u) +ᶠ real (pos v) +ᶠ at-midnight day +ᶠ real (negsuc (a - 2 - a / 4 - 1)) -ᶠ bits 0x4097_d200_0000_0000
         ≡ halves (2 * (u + v + day + 2 + a / 4 - a) - 3049)
     sum-of u v a b c d e f =
         let g : 2 * (u + v + day - (a - 2 - a / 4)) - 3049 ≡ 2 * (u + v + day + 2 + a / 4 - a) - 3049 = omega arith in
@@ -101,11 +105,8 @@ julian-meeus d h p q =
     let m = month-of-date d x in
     rw (to-i32 (d .year) (omega arith), to-i32 (d .month) (omega arith), to-i32 (d .day) (omega arith)) (by-test (ltb 2 (d .month)) refl)
   where
-    day : Float
-    day = real (pos (d .day)) +ᶠ bits 0 /ᶠ bits 0x4038_0000_0000_0000
-
     by-test : (b : Bool) → ltb 2 (d .month) ≡ b →
-        cond b (fromMarchOf (pos (d .year)) (pos (d .month)) day) (fromMarchOf (pos (d .year) -ℤ pos 1) (pos (d .month + 12)) day)
+        cond b (fromMarchOf (pos (d .year)) (pos (d .month)) (at-midnight (d .day))) (fromMarchOf (pos (d .year) -ℤ pos 1) (pos (d .month + 12)) (at-midnight (d .day)))
         ≡ halves
         (let y = cond b (d .year) (d .year - 1) in let m = cond b (d .month) (d .month + 12) in
         2 * (yearDaysOf y + monthDaysOf m + d .day + 2 + y / 100 / 4 - y / 100) - 3049)

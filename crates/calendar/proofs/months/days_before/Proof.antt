@@ -1,6 +1,6 @@
 use mathlib.Core.Path.{_≡_, sym}
 use native.Mathlib.Omega.{arith}
-use Rattle.calendar.proofs.MonthTables.{row-none, row-past}
+use Rattle.calendar.proofs.MonthTables.{before-none, before-past}
 use borrow.Author.Tests.{le-ltb}
 use Rattle.calendar.specs.Days.{daysBeforeOf}
 use borrow.Author.Needs.{needs}
@@ -11,10 +11,10 @@ returns : tie.Need-returns
 returns c =
     let s = c .before in
     let z : s .args .month ≡ 0 = omega arith in
-    rw z (sym (row-none (s .args .leap)))
+    rw z (sym (before-none (s .args .leap)))
 
 returns-2 : tie.Need-returns-2
-returns-2 c = sym (row-past (c .before .before .args .leap) (c .before .before .args .month) (c .if2 .taken))
+returns-2 c = sym (before-past (c .before .before .args .leap) (c .before .before .args .month) (c .if2 .taken))
 
 returns-3 : tie.Need-returns-3
 unfolding daysBeforeOf

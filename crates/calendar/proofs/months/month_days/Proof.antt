@@ -1,15 +1,15 @@
 use mathlib.Core.Path.{_≡_, sym}
 use native.Mathlib.Omega.{arith}
-use Rattle.calendar.proofs.MonthTables.{row-step, length-past, length-december}
+use Rattle.calendar.proofs.MonthTables.{before-next, length-past, length-december}
 use borrow.Author.Needs.{needs}
 use Rattle.calendar.proofs.months.month_days.Statement.{statement}
 use Rattle.calendar.proofs.months.month_days.Tie as tie
 
 sub-result : tie.Need-sub-result
-sub-result c = omega (arith, row-step (c .before .before .before .args .leap) (c .before .before .before .args .month) (c .before .before .if1 .taken))
+sub-result c = omega (arith, before-next (c .before .before .before .args .leap) (c .before .before .before .args .month) (c .before .before .if1 .taken))
 
 returns : tie.Need-returns
-returns c = omega (arith, row-step (c .before .before .before .args .leap) (c .before .before .before .args .month) (c .before .before .if1 .taken))
+returns c = omega (arith, before-next (c .before .before .before .args .leap) (c .before .before .before .args .month) (c .before .before .if1 .taken))
 
 returns-2 : tie.Need-returns-2
 returns-2 c = sym (length-past (c .before .before .args .leap) (c .before .before .args .month) (c .if2 .taken))
