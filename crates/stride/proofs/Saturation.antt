@@ -3,13 +3,13 @@ use mathlib.Core.Path.{_≡_, refl, sym, _∙_}
 use Prim.Native.Nat.{_+_, _<_}
 use native.Mathlib.Omega.{arith}
 use mathlib.Core.Bool.{Bool, true, false}
-use lib.IntN.{ℤ, pos, negsuc, _+ℤ_, _-ℤ_}
+use lib.IntN.{ℤ, pos, _+ℤ_, _-ℤ_}
 use lib.Signed.{leZ, ltZ}
 use mir.Syntax.{w64}
 use mir.Val.{SFits}
 use Rattle.integers.specs.Parts.{P, N, not-negative, not-positive}
 use Rattle.integers.specs.Sums.{sum, difference}
-use Rattle.integers.specs.Order.{_≼_, le-yes, le-no, lt-yes, lt-no, to-lt, to-not-lt}
+use Rattle.integers.specs.Order.{le-yes, le-no, lt-yes, lt-no, to-lt, to-not-lt}
 use Rattle.integers.specs.Ranges.{readBack, read, range}
 use Rattle.stride.specs.Times.{most, least, satOf}
 use Rattle.stride.specs.TimesLaws.{between, sat-in}

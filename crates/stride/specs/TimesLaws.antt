@@ -174,3 +174,8 @@ nearest-again t = stays (roundedOf Nearest t) (second-nearest t)
 pub none-stays : (t : ℤ) → roundedOf None t ≡ t
 unfolding roundedOf shiftOf
 none-stays t = +ℤ-idr t
+
+-- worked: 31 seconds before 1970 the second is 29, a second later it is 30; and Up from a whole minute
+worked : (roundedOf Nearest (negsuc 30) ≡ negsuc 59) × ((roundedOf Nearest (negsuc 29) ≡ pos 0) × (roundedOf Up (pos 0) ≡ pos 60))
+unfolding roundedOf shiftOf
+worked = (refl, (refl, refl))
