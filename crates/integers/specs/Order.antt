@@ -9,7 +9,7 @@ use lib.Dec.{T}
 use borrow.Author.Tests.{ltb-true, ltb-false, leb-true, leb-false, lt-ltb, le-ltb, le-leb, lt-leb}
 use Rattle.integers.specs.Parts.{P, N}
 
--- x is at most y: P x - N x ≤ P y - N y, with no difference
+-- x is at most y: P x - N x ≤ P y - N y, by sums, since a difference of natural numbers stops at 0
 infix 4 _≼_
 abbrev pub _≼_ : ℤ → ℤ → Type 0
 x ≼ y = P x + N y ≤ P y + N x
