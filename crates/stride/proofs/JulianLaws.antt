@@ -124,8 +124,3 @@ julian-meeus d h p q =
 -- and the calendar's count of days: day 0 begins at 2440587.5
 pub julian-number : (d : Date) → existsOf d ≡ true → 1899 ≤ d .year → d .year ≤ 2200 → dateJulianDayOf d ≡ halves (P (dayNumberOf d *ℤ pos 2 +ℤ pos 4881175))
 julian-number d h p q = julian-meeus d h p q ∙ ap (λ (z : ℤ). halves (P z)) (meeus-number d h (omega arith))
-
--- 2000-01-01 is 2451544.5, and 1957-10-04 is 2436115.5
-pub marked-days : (dateJulianDayOf (dateOf 2000 1 1) ≡ halves 4903089) × (dateJulianDayOf (dateOf 1957 10 4) ≡ halves 4872231)
-unfolding meeusOf existsOf lengthOf leapOf
-marked-days = (julian-meeus (dateOf 2000 1 1) refl (lit≤ tt) (lit≤ tt), julian-meeus (dateOf 1957 10 4) refl (lit≤ tt) (lit≤ tt))
