@@ -5,5 +5,6 @@ pub mod madhab;
 pub mod method;
 pub mod parameters;
 pub mod prayer;
+pub mod refusal;
 pub mod rounding;
 pub mod shafaq;

@@ -1,0 +1,14 @@
+use lib.Ieee.{round, ofBits}
+use Rattle.float64.specs.Ops.{dec}
+use Rattle.solar.specs.Setting.{minuteOf}
+use borrow.Author.Needs.{needs}
+use Rattle.solar.proofs.setting.minute.Statement.{statement}
+use Rattle.solar.proofs.setting.minute.Tie as tie
+
+returns : tie.Need-returns
+unfolding minuteOf dec round ofBits
+returns c = simp (c .to-u32 .ensures, c .before .round .ensures, c .before .before .floor2 .ensures, c .before .before .before .floor .ensures)
+
+pub minute-spec : {M : Type 1} → statement M
+minute-spec =
+    tie.close (tie.spec (λ c κs. search needs) (λ c κs. search needs) (λ c κs. search needs) (λ c κs. search needs) returns)

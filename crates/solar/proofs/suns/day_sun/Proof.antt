@@ -1,0 +1,45 @@
+use mir.Syntax.{w64}
+use mir.Val.{SFits}
+use mir.Facts.{toZ-ofZ}
+use Rattle.solar.specs.Suns.{daySunOf}
+use borrow.Author.Needs.{needs}
+use Rattle.solar.proofs.suns.day_sun.Statement.{statement}
+use Rattle.solar.proofs.suns.day_sun.Tie as tie
+
+returns : tie.Need-returns
+unfolding daySunOf
+returns c = simp (c .enum-told .given .1)
+
+returns-2 : tie.Need-returns-2
+unfolding daySunOf
+returns-2 c =
+    simp (c .enum-told2 .given .1, c .before .before .before .transit .given .1)
+
+returns-3 : tie.Need-returns-3
+unfolding daySunOf
+returns-3 c =
+    simp (
+      c .enum-told3 .given .1,
+      c .before .before .before .sunrise .given .1,
+      c .before .before .before .before .before .before .transit .given .1,
+    )
+
+returns-4 : tie.Need-returns-4
+unfolding daySunOf
+returns-4 c =
+    let f0 : SFits w64 (c .before .before .before .before .before .before .before .transit .given .0 .0) = search needs in
+    let f1 : SFits w64 (c .before .before .before .before .sunrise .given .0 .0) = search needs in
+    let f2 : SFits w64 (c .before .sunset .given .0 .0) = search needs in
+    simp (
+      toZ-ofZ f0,
+      toZ-ofZ f1,
+      toZ-ofZ f2,
+      c .before .sunset .given .1,
+      c .before .before .before .before .sunrise .given .1,
+      c .before .before .before .before .before .before .before .transit .given .1,
+    )
+
+pub day-sun-spec : {M : Type 1} → statement M
+day-sun-spec =
+    tie.close
+    (tie.spec (λ c. search needs) (λ c. search needs) returns (λ c. search needs) (λ c. search needs) returns-2 (λ c. search needs) (λ c. search needs) returns-3 returns-4)

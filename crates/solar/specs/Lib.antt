@@ -1,0 +1,4 @@
+pub mod Coordinates
+pub mod Hours
+pub mod Setting
+pub mod Suns

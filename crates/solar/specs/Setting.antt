@@ -1,0 +1,45 @@
+-- solar.rs: an hour number as a time of a date, in seconds from 1970-01-01 0h UTC. The day is the date's number.
+use Prim.Native.Nat.{ℕ, _+_, _*_}
+use mathlib.Core.Bool.{cond}
+use lib.IntN.{ℤ, pos, _+ℤ_, _-ℤ_, _*ℤ_}
+use lib.Dec.{ltb}
+use lib.Ieee.{Float, lt, toUnsigned}
+use Rattle.float64.specs.Ops.{_+ᶠ_, _-ᶠ_, _*ᶠ_, _/ᶠ_, dec}
+use Rattle.float64.specs.Sizes.{isNormalOf}
+use Rattle.float64.specs.Whole.{floorOf, roundOf}
+use Rattle.solar.specs.declared.setting.SolarHour.{SolarHour}
+use Rattle.solar.specs.declared.setting.SolarHour.the-variants.{At, None}
+use Rattle.solar.specs.declared.setting.Placed.{Placed}
+
+-- Floored hours below 0 take yesterday, hours plus 24, clamped at 0; from 24, tomorrow, minus 24.
+-- `ahead` is 0 for yesterday, 1 for the date, 2 for tomorrow.
+unfoldable pub hourAdjustmentOf : Float → Placed
+unfolding dec
+hourAdjustmentOf hours =
+    cond (lt hours (dec 0 0)) (record { ahead = 0; hour = toUnsigned 32 (hours +ᶠ dec 24 0) })
+    (cond (lt hours (dec 24 0)) (record { ahead = 1; hour = toUnsigned 32 hours }) (record { ahead = 2; hour = toUnsigned 32 (hours -ᶠ dec 24 0) }))
+
+-- minutes and seconds are floored; the seconds round the minute
+unfoldable pub minuteOf : Float → Float → ℕ
+unfolding dec
+minuteOf value hours =
+    let minutes = floorOf ((value -ᶠ hours) *ᶠ dec 60 0) in
+    let seconds = floorOf ((value -ᶠ (hours +ᶠ minutes /ᶠ dec 60 0)) *ᶠ dec 60 0 *ᶠ dec 60 0) in
+    toUnsigned 32 (roundOf (minutes +ᶠ seconds /ᶠ dec 60 0))
+
+-- n seconds after 0h of the day before
+unfoldable pub atSecondOf : ℤ → ℕ → ℤ
+atSecondOf day n = day *ℤ pos 86400 -ℤ pos 86400 +ℤ pos n
+
+-- minute 60 adds an hour, and a sum of 24 or more has no time
+unfoldable pub instantOf : ℤ → Placed → ℕ → SolarHour
+instantOf day p minute =
+    cond (ltb minute 60)
+    (cond (ltb (p .hour) 24) (At (atSecondOf day (p .ahead * 86400 + p .hour * 3600 + minute * 60))) None)
+    (cond (ltb (p .hour) 23) (At (atSecondOf day (p .ahead * 86400 + (p .hour + 1) * 3600))) None)
+
+-- what is not normal (NaN, infinite, zero, subnormal) has no time
+unfoldable pub settingHourOf : Float → ℤ → SolarHour
+settingHourOf value day =
+    let hours = floorOf value in
+    cond (isNormalOf value) (instantOf day (hourAdjustmentOf hours) (minuteOf value hours)) None

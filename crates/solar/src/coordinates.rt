@@ -1,0 +1,81 @@
+// solar.rs: the sun's position at 0h of a day.
+ghost use mathlib.Core.Path.{_≡_};
+ghost use Rattle.solar.specs.Coordinates.{equatorialOf, apparentSiderealTimeOf, solarCoordinatesOf};
+use fdlibm_arc::e_asin::asin;
+use fdlibm_arc::e_atan2::atan2;
+use fdlibm_trig::s_cos::cos;
+use fdlibm_trig::s_sin::sin;
+use ops::sun::apparent_obliquity_of_the_ecliptic;
+use ops::sun::apparent_solar_longitude;
+use ops::sun::ascending_lunar_node_longitude;
+use ops::sun::julian_century;
+use ops::sun::mean_lunar_longitude;
+use ops::sun::mean_obliquity_of_the_ecliptic;
+use ops::sun::mean_sidereal_time;
+use ops::sun::mean_solar_longitude;
+use ops::sun::nutation_in_longitude;
+use ops::sun::nutation_in_obliquity;
+use unit::Angle;
+
+pub struct SolarCoordinates {
+    // The angle between the rays of the sun and the plane of the equator.
+    pub declination: Angle,
+    // The angular distance on the celestial equator from the vernal equinox to the hour circle.
+    pub right_ascension: Angle,
+    // The hour angle of the vernal equinox.
+    pub apparent_sidereal_time: Angle,
+}
+
+pub struct Equatorial {
+    pub declination: Angle,
+    pub right_ascension: Angle,
+}
+
+// The position on the celestial sphere, from the apparent obliquity and longitude in radians: both need the longitude's sine.
+fn on_the_sphere(obliquity: f64, longitude: f64) -> Equatorial
+    ensures { λ r. ⌜ r ≡ equatorialOf obliquity longitude ⌝ }
+{
+    let sine = sin(longitude);
+    let declination = Angle::from_radians(asin(sin(obliquity) * sine));
+    let right_ascension = Angle::from_radians(atan2(cos(obliquity) * sine, cos(longitude)));
+    Equatorial {
+        declination: declination,
+        right_ascension: right_ascension.unwound(),
+    }
+}
+
+fn apparent_sidereal_time(
+    julian_century: f64,
+    mean_solar_longitude: Angle,
+    mean_obliquity: Angle,
+) -> Angle
+    ensures { λ r. ⌜ r ≡ apparentSiderealTimeOf «julian_century» «mean_solar_longitude» «mean_obliquity» ⌝ }
+{
+    let lunar = mean_lunar_longitude(julian_century);
+    let node = ascending_lunar_node_longitude(julian_century);
+    let nutation = nutation_in_longitude(mean_solar_longitude, lunar, node);
+    let tilt = nutation_in_obliquity(mean_solar_longitude, lunar, node);
+    let cosine = cos(Angle::new(mean_obliquity.degrees + tilt).radians());
+    let sidereal = mean_sidereal_time(julian_century);
+    Angle::new(sidereal.degrees + ((nutation * 3600.0) * cosine) / 3600.0)
+}
+
+impl SolarCoordinates {
+    pub fn new(julian_day: f64) -> SolarCoordinates
+        ensures { λ r. ⌜ r ≡ solarCoordinatesOf «julian_day» ⌝ }
+    {
+        let century = julian_century(julian_day);
+        let mean_longitude = mean_solar_longitude(century);
+        let mean_obliquity = mean_obliquity_of_the_ecliptic(century);
+        let longitude = apparent_solar_longitude(century, mean_longitude).radians();
+        let obliquity = apparent_obliquity_of_the_ecliptic(century, mean_obliquity).radians();
+        let position = on_the_sphere(obliquity, longitude);
+        let declination = position.declination;
+        let right_ascension = position.right_ascension;
+        SolarCoordinates {
+            declination: declination,
+            right_ascension: right_ascension,
+            apparent_sidereal_time: apparent_sidereal_time(century, mean_longitude, mean_obliquity),
+        }
+    }
+}

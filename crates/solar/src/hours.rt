@@ -1,0 +1,98 @@
+// solar.rs: the sun's hour numbers over a place on a day. The three positions are handed in, so that neighbouring days share them.
+ghost use mathlib.Core.Path.{_≡_};
+ghost use Rattle.solar.specs.Hours.{solarAltitude, sunOf, angleNumberOf, hourNumbersOf, shadowAngleOf, afternoonNumberOf};
+use super::coordinates::SolarCoordinates;
+use fdlibm_arc::s_atan::atan;
+use fdlibm_trig::s_tan::tan;
+use float64::sizes::abs;
+use ops::transit::Course;
+use ops::transit::Observer;
+use ops::transit::approximate_transit;
+use unit::Angle;
+use unit::Coordinates;
+
+// The hours of the transit, of sunrise and of sunset, from 0h of the day in universal time: not yet times.
+pub struct HourNumbers {
+    pub transit: f64,
+    pub sunrise: f64,
+    pub sunset: f64,
+}
+
+// The altitude of the sun's center at sunrise and sunset.
+fn solar_altitude() -> Angle
+    ensures { λ r. ⌜ r ≡ solarAltitude ⌝ }
+{
+    Angle::new(-50.0 / 60.0)
+}
+
+// The sun's course over the place of an observer, from its position on the day, the day before and the day after.
+pub fn sun(
+    coordinates: Coordinates,
+    observer: Observer,
+    previous: SolarCoordinates,
+    today: SolarCoordinates,
+    next: SolarCoordinates,
+) -> Course
+    ensures { λ r. ⌜ r ≡ sunOf coordinates observer previous today next ⌝ }
+{
+    let sidereal_time = today.apparent_sidereal_time;
+    let right_ascension = today.right_ascension;
+    let transit = approximate_transit(
+        coordinates.longitude_angle(),
+        sidereal_time,
+        right_ascension,
+    );
+    let previous_right_ascension = previous.right_ascension;
+    let next_right_ascension = next.right_ascension;
+    let declination = today.declination;
+    let previous_declination = previous.declination;
+    let next_declination = next.declination;
+    Course::new(
+        transit,
+        observer,
+        sidereal_time,
+        right_ascension,
+        previous_right_ascension,
+        next_right_ascension,
+        declination,
+        previous_declination,
+        next_declination,
+    )
+}
+
+// The hour number at which the sun stands at an angle.
+pub fn angle_number(course: Course, angle: Angle, after_transit: bool) -> f64
+    ensures { λ r. ⌜ r ≡ angleNumberOf course angle «after_transit» ⌝ }
+{
+    course.hour_number(angle, course.half_arc(angle), after_transit)
+}
+
+// Sunrise and sunset lie half of one arc before and after the transit.
+pub fn hour_numbers(course: Course) -> HourNumbers
+    ensures { λ r. ⌜ r ≡ hourNumbersOf course ⌝ }
+{
+    let altitude = solar_altitude();
+    let arc = course.half_arc(altitude);
+    HourNumbers {
+        transit: course.transit_number(),
+        sunrise: course.hour_number(altitude, arc, false),
+        sunset: course.hour_number(altitude, arc, true),
+    }
+}
+
+// The angle at which a shadow has grown by so many lengths.
+fn shadow_angle(course: Course, latitude: f64, shadow_length: f64) -> Angle
+    ensures { λ r. ⌜ r ≡ shadowAngleOf course latitude «shadow_length» ⌝ }
+{
+    let declination = course.declination;
+    let tangent = Angle::new(abs(latitude - declination.value));
+    let inverse = shadow_length + tan(tangent.radians());
+    Angle::from_radians(atan(1.0 / inverse))
+}
+
+// The hour number of Asr.
+pub fn afternoon_number(course: Course, latitude: f64, shadow_length: f64) -> f64
+    ensures { λ r. ⌜ r ≡ afternoonNumberOf course latitude «shadow_length» ⌝ }
+{
+    angle_number(course, shadow_angle(course, latitude, shadow_length), true)
+}
