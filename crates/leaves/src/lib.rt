@@ -9,6 +9,18 @@ ghost use Rattle.fdlibm_arc.specs.Atan.{atanOf};
 ghost use Rattle.fdlibm_arc.specs.Asin.{asinOf};
 ghost use Rattle.fdlibm_arc.specs.Acos.{acosOf};
 ghost use Rattle.fdlibm_arc.specs.Atan2.{atan2Of};
+ghost use Rattle.calendar.specs.Gregorian.{dateOf};
+ghost use Rattle.unit.specs.Unit.{angleOf, coordinatesOf};
+ghost use Rattle.solar.specs.Hours.{dateSunOf, angleNumberOf, afternoonNumberOf};
+ghost use Rattle.leaves.specs.Leaves.{leafHoursOf};
+use calendar::dates::Date;
+use ops::transit::Course;
+use solar::hours::afternoon_number;
+use solar::hours::angle_number;
+use solar::hours::date_sun;
+use solar::hours::hour_numbers;
+use unit::Angle;
+use unit::Coordinates;
 
 #[no_mangle]
 pub extern "C" fn leaf_sqrt(x: f64) -> f64
@@ -127,4 +139,78 @@ pub extern "C" fn leaf_to_u64(x: f64) -> u64
     ensures { λ r. ⌜ r ≡ toUnsigned 64 x ⌝ }
 {
     float64::casts::to_u64(x)
+}
+
+#[repr(C)]
+pub struct LeafHours {
+    pub transit: f64,
+    pub sunrise: f64,
+    pub sunset: f64,
+}
+
+fn course(year: u32, month: u32, day: u32, latitude: f64, longitude: f64) -> Course
+    ensures { λ r. ⌜ r ≡ dateSunOf (dateOf year month day) (coordinatesOf latitude longitude) ⌝ }
+{
+    date_sun(
+        Date::new(year, month, day),
+        Coordinates::new(latitude, longitude),
+    )
+}
+
+// The hour numbers of a date at a place.
+#[no_mangle]
+pub extern "C" fn leaf_hour_numbers(
+    year: u32,
+    month: u32,
+    day: u32,
+    latitude: f64,
+    longitude: f64,
+) -> LeafHours
+    ensures { λ r. ⌜ r ≡ leafHoursOf (dateSunOf (dateOf year month day) (coordinatesOf latitude longitude)) ⌝ }
+{
+    let numbers = hour_numbers(course(year, month, day, latitude, longitude));
+    LeafHours {
+        transit: numbers.transit,
+        sunrise: numbers.sunrise,
+        sunset: numbers.sunset,
+    }
+}
+
+// The hour number at which the sun stands at an angle.
+#[no_mangle]
+pub extern "C" fn leaf_angle_number(
+    year: u32,
+    month: u32,
+    day: u32,
+    latitude: f64,
+    longitude: f64,
+    angle: f64,
+    after_transit: bool,
+) -> f64
+    ensures { λ r. ⌜ r ≡ angleNumberOf (dateSunOf (dateOf year month day) (coordinatesOf latitude longitude)) (angleOf angle) «after_transit» ⌝ }
+{
+    angle_number(
+        course(year, month, day, latitude, longitude),
+        Angle::new(angle),
+        after_transit,
+    )
+}
+
+// The hour number of Asr.
+#[no_mangle]
+pub extern "C" fn leaf_afternoon_number(
+    year: u32,
+    month: u32,
+    day: u32,
+    latitude: f64,
+    longitude: f64,
+    shadow_length: f64,
+) -> f64
+    ensures { λ r. ⌜ r ≡ afternoonNumberOf (dateSunOf (dateOf year month day) (coordinatesOf latitude longitude)) latitude «shadow_length» ⌝ }
+{
+    afternoon_number(
+        course(year, month, day, latitude, longitude),
+        latitude,
+        shadow_length,
+    )
 }

@@ -4,6 +4,8 @@ use Rattle.float64.specs.Ops.{_+ᶠ_, _*ᶠ_, _/ᶠ_, dec}
 use Rattle.fdlibm_trig.specs.Trig.{sinOf, cosOf}
 use Rattle.fdlibm_arc.specs.Asin.{asinOf}
 use Rattle.fdlibm_arc.specs.Atan2.{atan2Of}
+use Rattle.calendar.specs.declared.dates.Date.{Date}
+use Rattle.stride.specs.Julian.{dateJulianDayOf}
 use Rattle.unit.specs.declared.Angle.{Angle}
 use Rattle.unit.specs.Unit.{angleOf, fromRadiansOf, radiansOf, unwoundOf}
 use Rattle.ops.specs.Sun.{julianCenturyOf, meanSolarLongitudeOf, meanLunarLongitudeOf, ascendingLunarNodeLongitudeOf, apparentSolarLongitudeOf, meanObliquityOfTheEclipticOf, apparentObliquityOfTheEclipticOf, meanSiderealTimeOf, nutationInLongitudeOf, nutationInObliquityOf}
@@ -43,3 +45,7 @@ solarCoordinatesOf day =
       «right_ascension» = rightAscensionOf obliquity longitude;
       «apparent_sidereal_time» = apparentSiderealTimeOf t mean-longitude mean-obliquity;
     }
+
+-- at 0h of a date
+abbrev pub positionOf : Date → SolarCoordinates
+positionOf d = solarCoordinatesOf (dateJulianDayOf d)

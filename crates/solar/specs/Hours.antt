@@ -7,6 +7,8 @@ use Rattle.float64.specs.Ops.{_+ᶠ_, _-ᶠ_, _/ᶠ_, dec}
 use Rattle.float64.specs.Sizes.{absOf}
 use Rattle.fdlibm_trig.specs.Trig.{tanOf}
 use Rattle.fdlibm_arc.specs.Atan.{atanOf}
+use Rattle.calendar.specs.Answers.{yesterdayOf, tomorrowOf}
+use Rattle.calendar.specs.declared.dates.Date.{Date}
 use Rattle.unit.specs.declared.Angle.{Angle}
 use Rattle.unit.specs.declared.Coordinates.{Coordinates}
 use Rattle.unit.specs.Unit.{angleOf, fromRadiansOf, radiansOf, longitudeAngleOf}
@@ -16,6 +18,7 @@ use Rattle.ops.specs.Transit.{approximateTransitOf, correctedTransitOf, correct
 use Rattle.ops.specs.Shared.{observerOf, courseOf, transitNumberOf, halfArcOf, hourNumberOf, transit-shared, hour-number-shared}
 use Rattle.solar.specs.declared.coordinates.SolarCoordinates.{SolarCoordinates}
 use Rattle.solar.specs.declared.hours.HourNumbers.{HourNumbers}
+use Rattle.solar.specs.Coordinates.{positionOf}
 
 -- the altitude of the sun's center at sunrise and sunset: 50 minutes of arc below the horizon
 unfoldable pub solarAltitude : Angle
@@ -31,6 +34,10 @@ sunOf place observer previous today next =
     courseOf (transitOf place today) observer (today .«apparent_sidereal_time»)
     (today .«right_ascension») (previous .«right_ascension») (next .«right_ascension»)
     (today .declination) (previous .declination) (next .declination)
+
+-- on a date, by itself
+abbrev pub dateSunOf : Date → Coordinates → Course
+dateSunOf d place = sunOf place (observerOf place) (positionOf (yesterdayOf d)) (positionOf d) (positionOf (tomorrowOf d))
 
 -- the hour number at which the sun stands at an angle
 unfoldable pub angleNumberOf : Course → Angle → Bool → Float

@@ -1,6 +1,7 @@
 // solar.rs: the sun's position at 0h of a day.
 ghost use mathlib.Core.Path.{_≡_};
-ghost use Rattle.solar.specs.Coordinates.{equatorialOf, apparentSiderealTimeOf, solarCoordinatesOf};
+ghost use Rattle.solar.specs.Coordinates.{equatorialOf, apparentSiderealTimeOf, solarCoordinatesOf, positionOf};
+use calendar::dates::Date;
 use fdlibm_arc::e_asin::asin;
 use fdlibm_arc::e_atan2::atan2;
 use fdlibm_trig::s_cos::cos;
@@ -15,6 +16,7 @@ use ops::sun::mean_sidereal_time;
 use ops::sun::mean_solar_longitude;
 use ops::sun::nutation_in_longitude;
 use ops::sun::nutation_in_obliquity;
+use stride::julian::date_julian_day;
 use unit::Angle;
 
 pub struct SolarCoordinates {
@@ -78,4 +80,11 @@ impl SolarCoordinates {
             apparent_sidereal_time: apparent_sidereal_time(century, mean_longitude, mean_obliquity),
         }
     }
+}
+
+// The sun's position at 0h of a date.
+pub fn position(date: Date) -> SolarCoordinates
+    ensures { λ r. ⌜ r ≡ positionOf date ⌝ }
+{
+    SolarCoordinates::new(date_julian_day(date))
 }

@@ -1,7 +1,9 @@
 // solar.rs: the sun's hour numbers over a place on a day. The three positions are handed in, so that neighbouring days share them.
 ghost use mathlib.Core.Path.{_≡_};
-ghost use Rattle.solar.specs.Hours.{solarAltitude, sunOf, angleNumberOf, hourNumbersOf, shadowAngleOf, afternoonNumberOf};
+ghost use Rattle.solar.specs.Hours.{solarAltitude, sunOf, dateSunOf, angleNumberOf, hourNumbersOf, shadowAngleOf, afternoonNumberOf};
 use super::coordinates::SolarCoordinates;
+use super::coordinates::position;
+use calendar::dates::Date;
 use fdlibm_arc::s_atan::atan;
 use fdlibm_trig::s_tan::tan;
 use float64::sizes::abs;
@@ -57,6 +59,19 @@ pub fn sun(
         declination,
         previous_declination,
         next_declination,
+    )
+}
+
+// The sun's course over a place on a date, by itself: rows that follow one another hand their positions on instead.
+pub fn date_sun(date: Date, coordinates: Coordinates) -> Course
+    ensures { λ r. ⌜ r ≡ dateSunOf date coordinates ⌝ }
+{
+    sun(
+        coordinates,
+        Observer::new(coordinates),
+        position(date.yesterday()),
+        position(date),
+        position(date.tomorrow()),
     )
 }
 
