@@ -74,7 +74,7 @@ impl Draw {
             8 => sun.declination() + self.sign() * (90.0 - altitude) + self.step(),
             _ => self.sign() * (90.0 + altitude) - sun.declination() + self.step(),
         };
-        latitude.clamp(-90.0, 90.0)
+        if latitude.abs() <= 90.0 { latitude } else { self.between(-90.0, 90.0) }
     }
 
     /// `sun` is that of longitude 0.
@@ -86,9 +86,16 @@ impl Draw {
             7 => self.below(721) as f64 / 2.0 - 180.0,
             8 => self.sign() * 180.0 + self.step(),
             // transit at about midnight: its fraction is of about 0 or 1
-            _ => (sun.transit_fraction() * 360.0 + 180.0) % 360.0 - 180.0 + self.step(),
+            _ => sun.transit_fraction() * 360.0 + self.step(),
         };
-        longitude.clamp(-180.0, 180.0)
+        // over the date line
+        if longitude > 180.0 {
+            longitude - 360.0
+        } else if longitude < -180.0 {
+            longitude + 360.0
+        } else {
+            longitude
+        }
     }
 
     pub fn case(&mut self) -> Case {
