@@ -1,0 +1,44 @@
+//! The seven hour numbers of a case: by the port, by the crate as it is, and by the crate on the port's functions.
+use crate::draw::Case;
+use salah_leaves::astronomy::solar::access as leaves;
+use salah_plain::astronomy::solar::access as plain;
+
+pub const VALUES: [&str; 7] = ["transit", "sunrise", "sunset", "Fajr's angle", "Isha's angle", "afternoon 1", "afternoon 2"];
+
+#[repr(C)]
+struct LeafHours {
+    transit: f64,
+    sunrise: f64,
+    sunset: f64,
+}
+
+// The library is linked with salah_leaves.
+#[rustfmt::skip]
+extern "C" {
+    fn leaf_hour_numbers(year: u32, month: u32, day: u32, latitude: f64, longitude: f64) -> LeafHours;
+    fn leaf_angle_number(year: u32, month: u32, day: u32, latitude: f64, longitude: f64, angle: f64, after_transit: bool) -> f64;
+    fn leaf_afternoon_number(year: u32, month: u32, day: u32, latitude: f64, longitude: f64, shadow_length: f64) -> f64;
+}
+
+pub fn by_port(c: &Case) -> [f64; 7] {
+    let Case { year, month, day, latitude, longitude, .. } = *c;
+    let angle = |angle, after| unsafe { leaf_angle_number(year, month, day, latitude, longitude, angle, after) };
+    let afternoon = |shadow| unsafe { leaf_afternoon_number(year, month, day, latitude, longitude, shadow) };
+    let LeafHours { transit, sunrise, sunset } = unsafe { leaf_hour_numbers(year, month, day, latitude, longitude) };
+    [transit, sunrise, sunset, angle(c.fajr, false), angle(c.isha, true), afternoon(1.0), afternoon(2.0)]
+}
+
+/// The copies' types are their own, so the one text is written out for each.
+macro_rules! by_copy {
+    ($name:ident, $copy:ident) => {
+        pub fn $name(c: &Case, day: &$copy::Day) -> [f64; 7] {
+            let afternoon = |shadow| day.angle(day.afternoon_angle(shadow), true);
+            let (sunrise, sunset) = (day.angle($copy::HORIZON, false), day.angle($copy::HORIZON, true));
+            let (fajr, isha) = (day.angle(c.fajr, false), day.angle(c.isha, true));
+            [day.transit(), sunrise, sunset, fajr, isha, afternoon(1.0), afternoon(2.0)]
+        }
+    };
+}
+
+by_copy!(by_plain, plain);
+by_copy!(by_leaves, leaves);
