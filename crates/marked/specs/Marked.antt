@@ -1,13 +1,20 @@
 -- The marked cases of the definitions, in one table. Each row is a test; that all of them hold is one statement, which antt computes.
-use mathlib.Core.Bool.{Bool, true, _&&_}
+use mathlib.Core.Bool.{Bool, true, false, _&&_}
 use mathlib.Core.List.{List, [], _∷_}
 use lib.Dec.{T, eqb}
-use lib.Ieee.{Float, eq, le, lt, add, sub, mul, div, neg, round, ofInt, ofBits, toSigned}
+use lib.IntN.{ℤ, pos, negsuc}
+use lib.Signed.{leZ}
+use lib.Ieee.{Float, eq, le, lt, add, sub, mul, div, neg, round, ofInt, ofBits, toSigned, toUnsigned}
 use Rattle.float64.specs.Ops.{dec}
 use Rattle.calendar.specs.Gregorian.{dateOf, leapOf}
 use Rattle.calendar.specs.Days.{daysInYearOf}
 use Rattle.stride.specs.Julian.{dateJulianDayOf, julianDayOf, fromMarchOf, yearProductOf, monthProductOf, correctionOf, toI32Of}
+use Rattle.float64.specs.Sizes.{isNormalOf}
+use Rattle.float64.specs.Whole.{floorOf, roundOf}
 use Rattle.ops.specs.Season.{daysSinceSolsticeOf, southernOffsetOf}
+use Rattle.solar.specs.declared.setting.SolarHour.{SolarHour}
+use Rattle.solar.specs.declared.setting.SolarHour.the-variants.{At, None}
+use Rattle.solar.specs.Setting.{settingHourOf, instantOf, hourAdjustmentOf, minuteOf, atSecondOf}
 
 -- the latitudes of a place on the equator, which counts as northern, and of one south of it
 abbrev north : Float
@@ -15,6 +22,21 @@ north = dec 0 0
 
 abbrev south : Float
 south = neg (dec 1 0)
+
+-- an hour number of day 0 that gives a time, and one that gives none
+abbrev gives : SolarHour → ℤ → Bool
+gives (At s) t = leZ s t && leZ t s
+gives None t = false
+
+abbrev misses : SolarHour → Bool
+misses (At s) = false
+misses None = true
+
+abbrev at : Float → ℤ → Bool
+at x t = gives (settingHourOf x (pos 0)) t
+
+abbrev none : Float → Bool
+none x = misses (settingHourOf x (pos 0))
 
 unfoldable pub marked : List Bool
 marked =
@@ -27,6 +49,14 @@ marked =
     eqb (daysSinceSolsticeOf 171 2025 south) 364 ∷
     eqb (daysSinceSolsticeOf 172 2025 south) 365 ∷
     eqb (daysSinceSolsticeOf 365 2025 south) 558 ∷
+    -- setting_hour on day 0: 05:30, yesterday 23:30, tomorrow 00:15, yesterday 00:00, and three that have no time
+    at (dec 55 1) (pos 19800) ∷
+    at (neg (dec 5 1)) (negsuc 1799) ∷
+    at (dec 2425 2) (pos 87300) ∷
+    at (neg (dec 25 0)) (negsuc 86399) ∷
+    none (dec 0 0) ∷
+    none (dec 23995 3) ∷
+    none (dec 48 0) ∷
     []
 
 unfoldable pub all : List Bool → Bool
@@ -34,5 +64,5 @@ all [] = true
 all (t ∷ ts) = t && all ts
 
 pub all-hold : T (all marked)
-unfolding marked all dec round ofBits eq le lt add sub mul div neg ofInt toSigned dateJulianDayOf julianDayOf fromMarchOf yearProductOf monthProductOf correctionOf toI32Of daysSinceSolsticeOf southernOffsetOf daysInYearOf leapOf
+unfolding marked all settingHourOf instantOf hourAdjustmentOf minuteOf atSecondOf isNormalOf floorOf roundOf toUnsigned dec round ofBits eq le lt add sub mul div neg ofInt toSigned dateJulianDayOf julianDayOf fromMarchOf yearProductOf monthProductOf correctionOf toI32Of daysSinceSolsticeOf southernOffsetOf daysInYearOf leapOf
 all-hold = tt
