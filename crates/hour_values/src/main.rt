@@ -1,7 +1,7 @@
 // Holds the hour numbers to those of the crate that is ported: reads a list of the crate's, made by
 //     tests/crate/list --seed 1 --lines 3000
-// which also says what a line holds, writes each line of which a number differs here, and then how many lines and numbers
-// there were. A number of the list that is marked as skipped lies where the crate's own is not to be met.
+// which also says what a line holds and which numbers it marks as skipped. Writes each line of which a number differs here, and
+// then how many lines there were, how many numbers were compared, how many were skipped and how many differ.
 use calendar::dates::Date;
 use float64::bits::from_bits;
 use float64::bits::to_bits;
@@ -23,7 +23,7 @@ const SKIPPED: u64 = 0x7ff8_0000_0000_0001;
 // In hours.
 const NEAR: f64 = 0.0001;
 
-// Of numbers. At six a line no count comes near 2^64, so that they are added with no proof that they fit.
+// Counts of numbers, not of lines. At six a line none comes near 2^64, so they are added without a proof that they fit.
 struct Counts {
     compared: u64,
     skipped: u64,

@@ -1,6 +1,6 @@
 // Reads numbers from the fixed-width lines of the lists that the test programs replay.
 ghost use mathlib.Core.Path.{_≡_};
-ghost use Prim.Native.Nat.{_+_, _≤_, _<_};
+ghost use Prim.Native.Nat.{_+_, _≤_};
 ghost use lib.ListN.{getD};
 ghost use Rattle.listed.specs.Listed.{digitOf, numberOf, hexOf, decimalOf};
 
