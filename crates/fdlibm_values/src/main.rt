@@ -1,6 +1,5 @@
 // Holds fdlibm's functions to Java's StrictMath: reads the lines that tests/fdlibm/Values.java prints, writes each line
 // whose function has another result here, and then how many lines there were and how many differ.
-ghost use Prim.Native.Nat.{_≤_};
 use fdlibm_arc::e_acos::acos;
 use fdlibm_arc::e_asin::asin;
 use fdlibm_arc::e_atan2::atan2;
@@ -13,33 +12,12 @@ use float64::bits::from_bits;
 use float64::bits::to_bits;
 use libc::STDIN_FILENO;
 use libc::STDOUT_FILENO;
+use listed::hex;
 
 enum Line {
     Same,
     Different,
     End,
-}
-
-// A hexadecimal digit.
-fn digit(b: u8) -> u64 {
-    if b < 97 {
-        (b % 16) as u64
-    } else {
-        (b - 87) as u64
-    }
-}
-
-// The sixteen digits from `at` on.
-fn hex(line: &[u8; 53], at: usize) -> u64
-    requires { ⌜ at ≤ 37 ⌝ }
-{
-    let mut v: u64 = 0;
-    let mut i: usize = 0;
-    while i < 16 {
-        v = (v << 4) | digit(line[at + i]);
-        i += 1;
-    }
-    v
 }
 
 // The function with the letter f, of x, or of x and y.
