@@ -10,7 +10,7 @@ use Rattle.fdlibm_arc.specs.Acos.{acosOf}
 use Rattle.unit.specs.declared.Angle.{Angle}
 use Rattle.unit.specs.declared.Coordinates.{Coordinates}
 use Rattle.unit.specs.Unit.{angleOf, fromRadiansOf, radiansOf, unwoundOf, quadrantShiftedOf, minusOf, overOf, latitudeAngleOf, longitudeAngleOf}
-use Rattle.ops.specs.declared.transit.Interpolation.{Interpolation}
+use Rattle.ops.specs.declared.interpolation.Interpolation.{Interpolation}
 use Rattle.ops.specs.declared.transit.Observer.{Observer}
 use Rattle.ops.specs.declared.transit.Course.{Course}
 use Rattle.ops.specs.Transit.{interpolateOf, interpolateAnglesOf, altitudeOfCelestialBodyOf, westOf, hourAngleAtOf, correctedTransitOf, correctedHourAngleOf}

@@ -1,6 +1,6 @@
 use borrow.Author.Needs.{needs}
-use Rattle.ops.proofs.transit.Interpolation.of_angles.Statement.{statement}
-use Rattle.ops.proofs.transit.Interpolation.of_angles.Tie as tie
+use Rattle.ops.proofs.interpolation.Interpolation.of_angles.Statement.{statement}
+use Rattle.ops.proofs.interpolation.Interpolation.of_angles.Tie as tie
 
 returns : tie.Need-returns
 returns c = simp (c .before .before .before .before .unwound2 .ensures, c .before .before .before .before .before .sub2 .ensures, c .before .before .before .before .before .before .unwound .ensures, c .before .before .before .before .before .before .before .sub .ensures)

@@ -2,8 +2,8 @@ use Rattle.float64.specs.Ops.{dec}
 use Rattle.ops.specs.Transit.{interpolateAnglesOf}
 use Rattle.ops.specs.Shared.{interpolatedOf}
 use borrow.Author.Needs.{needs}
-use Rattle.ops.proofs.transit.interpolate_angles.Statement.{statement}
-use Rattle.ops.proofs.transit.interpolate_angles.Tie as tie
+use Rattle.ops.proofs.interpolation.interpolate_angles.Statement.{statement}
+use Rattle.ops.proofs.interpolation.interpolate_angles.Tie as tie
 
 returns : tie.Need-returns
 unfolding interpolateAnglesOf interpolatedOf dec

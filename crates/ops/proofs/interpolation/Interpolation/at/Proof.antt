@@ -2,8 +2,8 @@ use lib.Ieee.{round, ofBits}
 use Rattle.float64.specs.Ops.{dec}
 use mathlib.Core.Path.{refl}
 use Rattle.ops.specs.Shared.{interpolatedOf}
-use Rattle.ops.proofs.transit.Interpolation.at.Statement.{statement}
-use Rattle.ops.proofs.transit.Interpolation.at.Tie as tie
+use Rattle.ops.proofs.interpolation.Interpolation.at.Statement.{statement}
+use Rattle.ops.proofs.interpolation.Interpolation.at.Tie as tie
 
 returns : tie.Need-returns
 unfolding interpolatedOf dec round ofBits

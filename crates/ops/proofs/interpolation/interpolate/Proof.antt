@@ -2,8 +2,8 @@ use Rattle.float64.specs.Ops.{dec}
 use Rattle.ops.specs.Transit.{interpolateOf}
 use Rattle.ops.specs.Shared.{interpolatedOf}
 use borrow.Author.Needs.{needs}
-use Rattle.ops.proofs.transit.interpolate.Statement.{statement}
-use Rattle.ops.proofs.transit.interpolate.Tie as tie
+use Rattle.ops.proofs.interpolation.interpolate.Statement.{statement}
+use Rattle.ops.proofs.interpolation.interpolate.Tie as tie
 
 returns : tie.Need-returns
 unfolding interpolateOf interpolatedOf dec
