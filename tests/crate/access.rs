@@ -7,6 +7,12 @@ pub mod access {
     /// The altitude of sunrise and sunset in `SolarTime::new`.
     pub const HORIZON: f64 = -50.0 / 60.0;
 
+    /// `setting_hour` on the day with a number from 1970-01-01, in seconds.
+    pub fn setting_hour(value: f64, day: i32) -> Option<i64> {
+        let date = Utc.timestamp_opt(day as i64 * 86400, 0).unwrap();
+        SolarTime::setting_hour(value, &date).map(|time| time.timestamp())
+    }
+
     /// A place's sun on a date, its times not set, so that it stands also where `SolarTime::new` panics.
     pub struct Day(SolarTime);
 

@@ -1,6 +1,7 @@
-//! The port's hour numbers against the crate's: see tests/crate/run and tests/crate/list.
+//! The port's hour numbers, setting_hour and season against the crate's: see tests/crate/run and tests/crate/list.
 mod draw;
 mod numbers;
+mod steps;
 mod tally;
 mod zones;
 
@@ -9,6 +10,7 @@ use numbers::{by_leaves, by_plain, by_port};
 use salah_leaves::astronomy::solar::access::Day as LeavesDay;
 use salah_plain::astronomy::solar::access::Day;
 use std::process::exit;
+use steps::steps;
 use tally::Tally;
 use zones::zones;
 
@@ -69,19 +71,20 @@ fn main() {
         let mut number = || words.next().and_then(|word| word.parse().ok()).unwrap_or_else(|| usage());
         match (what.as_str(), word.as_str()) {
             (_, "--seed") => seed = number(),
-            ("hours", "--pairs") | ("list", "--lines") => size = number(),
+            ("hours", "--pairs") | ("steps", "--cases") | ("list", "--lines") => size = number(),
             ("hours", "--zones") => print_zones = true,
             _ => usage(),
         }
     }
     match what.as_str() {
         "hours" => exit(!hours(seed, size, print_zones) as i32),
+        "steps" => exit(!steps(seed, size) as i32),
         "list" => list(seed, size),
         _ => usage(),
     }
 }
 
 fn usage() -> ! {
-    eprintln!("hours [--seed N] [--pairs N] [--zones], or list [--seed N] [--lines N]");
+    eprintln!("hours [--seed N] [--pairs N] [--zones], steps [--seed N] [--cases N], or list [--seed N] [--lines N]");
     exit(2)
 }

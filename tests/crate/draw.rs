@@ -98,6 +98,43 @@ impl Draw {
         }
     }
 
+    /// An hour number below 2^32: ordinary ones, halves of minutes and whole hours with their neighbours, and every pattern.
+    pub fn hour_number(&mut self) -> f64 {
+        let near = |x: f64, bits: u64| f64::from_bits(x.to_bits().wrapping_add(bits % 9).wrapping_sub(4));
+        let value = match self.below(8) {
+            0 | 1 => self.between(-50.0, 75.0),
+            2 => (self.below(15000) as f64 - 6000.0) / 120.0,
+            3 => near((self.below(15000) as f64 - 6000.0) / 120.0, self.bits()),
+            4 => self.one_of(&[0.0, 24.0, 48.0, -24.0, 23.995, -1.0]) + self.step(),
+            5 => self.one_of(&[0.0, -0.0, 5e-324, 2.2250738585072014e-308, f64::NAN, f64::INFINITY, -25.0, -1e-17]),
+            6 => self.between(0.0, 4294967296.0),
+            _ => f64::from_bits(self.bits()),
+        };
+        if value.abs() < 4294967296.0 || !value.is_finite() { value } else { self.between(-50.0, 75.0) }
+    }
+
+    /// A day from 1899 to 2200, by its number.
+    pub fn day_number(&mut self) -> i32 {
+        self.below(110_000) as i32 - 25_900
+    }
+
+    pub fn any_latitude(&mut self) -> f64 {
+        if self.below(4) == 0 { self.one_of(&LATITUDES) } else { self.between(-90.0, 90.0) }
+    }
+
+    pub fn year(&mut self) -> u32 {
+        1900 + self.below(300) as u32
+    }
+
+    pub fn ordinal(&mut self) -> u32 {
+        1 + self.below(366) as u32
+    }
+
+    /// A second from 1899 to 2200.
+    pub fn instant(&mut self) -> i64 {
+        self.below(9_500_000_000) as i64 - 2_240_000_000
+    }
+
     pub fn case(&mut self) -> Case {
         let (first, end) = (NaiveDate::from_ymd_opt(1900, 1, 1).unwrap(), NaiveDate::from_ymd_opt(2200, 1, 1).unwrap());
         let days = end.signed_duration_since(first).num_days() as u64;

@@ -12,13 +12,22 @@ ghost use Rattle.fdlibm_arc.specs.Atan2.{atan2Of};
 ghost use Rattle.calendar.specs.Gregorian.{dateOf};
 ghost use Rattle.unit.specs.Unit.{angleOf, coordinatesOf};
 ghost use Rattle.solar.specs.Hours.{dateSunOf, angleNumberOf, afternoonNumberOf};
-ghost use Rattle.leaves.specs.Leaves.{leafHoursOf};
+ghost use Rattle.models.specs.Numbers.{shafaqOf};
+ghost use Rattle.ops.specs.Season.{daysSinceSolsticeOf, seasonAdjustedMorningTwilightOf, seasonAdjustedEveningTwilightOf};
+ghost use Rattle.solar.specs.Setting.{settingHourOf};
+ghost use Rattle.leaves.specs.Leaves.{leafHoursOf, leafTimeOf};
 use calendar::dates::Date;
+use models::shafaq::Shafaq;
+use ops::season::days_since_solstice;
+use ops::season::season_adjusted_evening_twilight;
+use ops::season::season_adjusted_morning_twilight;
 use ops::transit::Course;
 use solar::hours::afternoon_number;
 use solar::hours::angle_number;
 use solar::hours::date_sun;
 use solar::hours::hour_numbers;
+use solar::setting::SolarHour;
+use solar::setting::setting_hour;
 use unit::Angle;
 use unit::Coordinates;
 
@@ -213,4 +222,62 @@ pub extern "C" fn leaf_afternoon_number(
         latitude,
         shadow_length,
     )
+}
+
+// A time, or none: then `seconds` is 0.
+#[repr(C)]
+pub struct LeafTime {
+    pub found: bool,
+    pub seconds: i64,
+}
+
+fn time(hour: SolarHour) -> LeafTime
+    ensures { λ r. ⌜ r ≡ leafTimeOf hour ⌝ }
+{
+    match hour {
+        SolarHour::At(seconds) => LeafTime {
+            found: true,
+            seconds: seconds,
+        },
+        SolarHour::None => LeafTime {
+            found: false,
+            seconds: 0,
+        },
+    }
+}
+
+// The time of an hour number on the day with a number.
+#[no_mangle]
+pub extern "C" fn leaf_setting_hour(value: f64, day: i32) -> LeafTime
+    ensures { λ r. ⌜ r ≡ leafTimeOf (settingHourOf value day) ⌝ }
+{
+    time(setting_hour(value, day))
+}
+
+#[no_mangle]
+pub extern "C" fn leaf_days_since_solstice(day: u32, year: u32, latitude: f64) -> u32
+    ensures { λ r. ⌜ r ≡ daysSinceSolsticeOf day year latitude ⌝ }
+{
+    days_since_solstice(day, year, latitude)
+}
+
+#[no_mangle]
+pub extern "C" fn leaf_morning_twilight(latitude: f64, day: u32, year: u32, sunrise: i64) -> i64
+    ensures { λ r. ⌜ r ≡ seasonAdjustedMorningTwilightOf latitude day year sunrise ⌝ }
+{
+    season_adjusted_morning_twilight(latitude, day, year, sunrise)
+}
+
+// The shafaq by its number.
+#[no_mangle]
+pub extern "C" fn leaf_evening_twilight(
+    latitude: f64,
+    day: u32,
+    year: u32,
+    sunset: i64,
+    shafaq: u32,
+) -> i64
+    ensures { λ r. ⌜ r ≡ seasonAdjustedEveningTwilightOf latitude day year sunset (shafaqOf shafaq) ⌝ }
+{
+    season_adjusted_evening_twilight(latitude, day, year, sunset, Shafaq::of_number(shafaq))
 }
