@@ -1,0 +1,21 @@
+use borrow.Author.Needs.{needs}
+use Rattle.schedule.proofs.twilight.by_seventh.Statement.{statement}
+use Rattle.schedule.proofs.twilight.by_seventh.Tie as tie
+use Rattle.schedule.proofs.twilight.by_seventh.Reads as reads
+use Rattle.schedule.proofs.twilight.by_seventh.Lts as lts
+use Rattle.schedule.proofs.twilight.by_season.Reads as by-season-reads
+
+-- src/twilight.rt:78:9
+by-season-requires : tie.Need-by-season-requires
+by-season-requires c κs = tt
+
+-- src/twilight.rt:78:9
+returns : tie.Need-returns
+returns c = ?
+
+-- src/twilight.rt:74:1
+returns-2 : tie.Need-returns-2
+returns-2 c = ?
+
+pub by-seventh-spec : {M : Type 1} → statement M
+by-seventh-spec = tie.close (tie.spec by-season-requires returns returns-2)

@@ -1,0 +1,3 @@
+pub mod Rooms
+pub mod Hours
+pub mod Twilight

@@ -1,0 +1,92 @@
+-- schedule.rs: Fajr and Isha. Each is the time of an angle, bounded by a portion of the night or by the season. Times are seconds from 0h of
+-- the date.
+use mathlib.Core.Bool.{Bool, _&&_, cond}
+use lib.Dec.{eqb}
+use lib.IntN.{ℤ, pos, _+ℤ_, _-ℤ_, _*ℤ_}
+use lib.Signed.{ltZ}
+use lib.Ieee.{Float, le}
+use Rattle.float64.specs.Ops.{dec}
+use Rattle.calendar.specs.Days.{ordinalOf}
+use Rattle.calendar.specs.declared.dates.Date.{Date}
+use Rattle.models.specs.declared.method.Method.{Method}
+use Rattle.models.specs.declared.method.Method.the-variants.{MoonsightingCommittee}
+use Rattle.models.specs.declared.parameters.Parameters.{Parameters}
+use Rattle.models.specs.declared.prayer.Prayer.the-variants.{Fajr, Isha}
+use Rattle.models.specs.declared.rounding.Rounding.the-variants.{Nearest}
+use Rattle.models.specs.Numbers.{methodNumberOf}
+use Rattle.models.specs.Settings.{nightPortionsOf, timeAdjustmentsOf}
+use Rattle.stride.specs.Times.{roundedOf, adjustedOf}
+use Rattle.night.specs.Portions.{portionBeforeOf, portionAfterOf, seventhOf}
+use Rattle.ops.specs.Season.{morningSecondsOf, eveningSecondsOf}
+use Rattle.solar.specs.declared.setting.SolarHour.{SolarHour}
+use Rattle.solar.specs.declared.setting.SolarHour.the-variants.{At, None}
+use Rattle.solar.specs.declared.times.SolarTime.{SolarTime}
+
+-- a time of the next date, from 0h of this one
+abbrev pub nextDayOf : ℤ → ℤ
+nextDayOf t = t +ℤ pos 86400
+
+-- the next sunrise less sunset
+unfoldable pub nightOf : SolarTime → SolarTime → ℤ
+nightOf today next = nextDayOf (next .sunrise) -ℤ today .sunset
+
+unfoldable pub laterOf : ℤ → ℤ → ℤ
+laterOf a b = cond (ltZ a b) b a
+
+unfoldable pub earlierOf : ℤ → ℤ → ℤ
+earlierOf a b = cond (ltZ b a) b a
+
+-- without a time of its own the other one serves
+unfoldable pub orOf : SolarHour → ℤ → ℤ
+orOf (At t) other = t
+orOf None other = other
+
+-- MoonsightingCommittee bounds by season
+unfoldable pub bySeasonOf : Method → Bool
+bySeasonOf method = eqb (methodNumberOf method) (methodNumberOf MoonsightingCommittee)
+
+-- and from latitude 55.0 takes a seventh of the night in place of the angle
+unfoldable pub bySeventhOf : Method → Float → Bool
+unfolding dec
+bySeventhOf method latitude = bySeasonOf method && le (dec 55 0) latitude
+
+-- ---- Fajr
+-- from sunrise to its bound
+unfoldable pub beforeSunriseOf : Parameters → Float → Date → ℤ → ℤ
+beforeSunriseOf p latitude date night =
+    cond (bySeasonOf (p .method)) (morningSecondsOf latitude (ordinalOf date) (date .year)) (portionBeforeOf (nightPortionsOf p .fajr) night)
+
+abbrev pub fajrBoundOf : Parameters → Float → Date → SolarTime → ℤ → ℤ
+fajrBoundOf p latitude date today night = today .sunrise +ℤ beforeSunriseOf p latitude date night
+
+-- the later of its angle's time and the bound
+unfoldable pub unadjustedFajrOf : Parameters → Float → Date → SolarTime → ℤ → SolarHour → ℤ
+unadjustedFajrOf p latitude date today night hour =
+    let bound = fajrBoundOf p latitude date today night in
+    laterOf (cond (bySeventhOf (p .method) latitude) (today .sunrise -ℤ seventhOf night) (orOf hour bound)) bound
+
+unfoldable pub calculateFajrOf : Parameters → Float → Date → SolarTime → SolarTime → SolarHour → ℤ
+calculateFajrOf p latitude date today next hour =
+    adjustedOf (unadjustedFajrOf p latitude date today (nightOf today next) hour) (timeAdjustmentsOf p Fajr)
+
+-- ---- Isha
+-- only this bound is itself rounded
+unfoldable pub ishaBoundOf : Parameters → Float → Date → SolarTime → ℤ → ℤ
+ishaBoundOf p latitude date today night =
+    cond (bySeasonOf (p .method)) (roundedOf Nearest (today .sunset +ℤ eveningSecondsOf latitude (ordinalOf date) (date .year) (p .shafaq)))
+    (today .sunset +ℤ portionAfterOf (nightPortionsOf p .isha) night)
+
+-- the earlier of its angle's time and the bound
+unfoldable pub boundedIshaOf : Parameters → Float → Date → SolarTime → ℤ → SolarHour → ℤ
+boundedIshaOf p latitude date today night hour =
+    let bound = ishaBoundOf p latitude date today night in
+    earlierOf (cond (bySeventhOf (p .method) latitude) (today .sunset +ℤ seventhOf night) (orOf hour bound)) bound
+
+-- an interval above 0 replaces the rule
+unfoldable pub unadjustedIshaOf : Parameters → Float → Date → SolarTime → ℤ → SolarHour → ℤ
+unadjustedIshaOf p latitude date today night hour =
+    cond (ltZ (pos 0) (p .«isha_interval»)) (today .sunset +ℤ p .«isha_interval» *ℤ pos 60) (boundedIshaOf p latitude date today night hour)
+
+unfoldable pub calculateIshaOf : Parameters → Float → Date → SolarTime → SolarTime → SolarHour → ℤ
+calculateIshaOf p latitude date today next hour =
+    adjustedOf (unadjustedIshaOf p latitude date today (nightOf today next) hour) (timeAdjustmentsOf p Isha)

@@ -1,0 +1,3 @@
+// part
+pub mod hours;
+mod twilight;
