@@ -1,1 +1,4 @@
 pub mod Portions
+pub mod Steady
+pub mod Thirds
+pub mod PortionsLaws
