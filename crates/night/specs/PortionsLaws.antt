@@ -1,5 +1,5 @@
--- The middle of the night and its last third lie in the night, and a later maghrib and a later Fajr never bring them forward. Over the definitions of
--- `Portions`. Assumes nothing.
+-- A seventh of a night, its middle and its last third lie in the night, and a later maghrib and a later Fajr never bring the last two forward. Over the
+-- definitions of `Portions`. Assumes nothing.
 use mathlib.Core.Path.{_≡_, refl, ap, _∙_}
 use mathlib.Core.Bool.{Bool, true, false}
 use Prim.Native.Nat.{ℕ, suc, _+_, _*_, _/_, _^_, _≤_, _<_}
@@ -18,8 +18,9 @@ use Rattle.float64.proofs.Exact.{mul-same}
 use Rattle.float64.proofs.Within.{Within, round-signed, round-neg, value-within}
 use Rattle.float64.proofs.WholeSizes.{wholeSize, signed, whole-most, whole-value, whole-neg, cast-is}
 use Rattle.integers.specs.Parts.{P, N}
+use Rattle.integers.specs.Quotients.{divided}
 use Rattle.integers.specs.Order.{_≼_}
-use Rattle.night.specs.Portions.{middleOf, lastThirdOf}
+use Rattle.night.specs.Portions.{seventhOf, middleOf, lastThirdOf}
 use Rattle.night.specs.Steady.{longest, Small, Steady, share, share-inside, share-later}
 use Rattle.night.specs.Thirds.{twoThirds, third, third-within, third-steady}
 
@@ -94,6 +95,10 @@ third-share (negsuc k) h = third-cut true (suc k) (h .1)
 
 -- ---- the laws
 -- never outside the night
+pub seventh-inside : (z : ℤ) → (P (seventhOf z) ≤ P z) × (N (seventhOf z) ≤ N z)
+unfolding seventhOf
+seventh-inside z = let d = divided z 7 (lit< tt) in (omega arith, omega arith)
+
 pub middle-inside : (z : ℤ) → Small z → (P (middleOf z) ≤ P z) × (N (middleOf z) ≤ N z)
 middle-inside z h = rw (middle-is z h, half-share z) (share-inside (λ (d : ℕ). d / 2) half-steady z h)
 
