@@ -1,7 +1,10 @@
 pub mod Exact
+pub mod Limits
 pub mod Near
 pub mod Parts
 pub mod Patterns
 pub mod Saturate
 pub mod Steps
 pub mod Values
+pub mod Within
+pub mod WholeSizes

@@ -1,6 +1,6 @@
 // schedule.rs: portions of a night, cut toward zero to whole seconds, also where the night is negative.
-// The source casts a bounded portion to i64. To an i32 every later sum fits with nothing to refuse, and no order's parameters tell the two apart: a
-// portion is no more than half of a night.
+// The source casts the portions of Fajr and Isha to i64. From an i32 every later sum fits with nothing to refuse, and no order's parameters tell the
+// two casts apart: they give no more than half of a night (after-source and before-source of specs/BoundsLaws).
 ghost use mathlib.Core.Path.{_≡_};
 ghost use Rattle.night.specs.Portions.{portionAfterOf, portionBeforeOf, seventhOf, middleOf, lastThirdOf};
 use float64::casts::to_i32;
