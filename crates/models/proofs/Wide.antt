@@ -1,20 +1,13 @@
--- Two i32 numbers as i64, and their sum, which fits. Assumes nothing.
+-- The sum of two i32 numbers as i64. Assumes nothing.
 use mathlib.Core.Path.{_≡_, sym, subst, _∙_}
 use Prim.Native.Nat.{_^_}
 use native.Mathlib.Omega.{arith}
 use lib.IntN.{ℤ, _+ℤ_}
 use mir.Syntax.{w32, w64}
 use mir.Val.{SFits}
-use mir.Facts.{sfits-widen}
 use Rattle.integers.specs.Parts.{P, N}
 use Rattle.integers.specs.Sums.{sum, summands}
-use Rattle.integers.specs.Ranges.{Range, range, fits, readBack, read}
-
-pub wide-fits : (z : ℤ) → SFits w32 z → SFits w64 (readBack w32 z)
-wide-fits z h = subst (SFits w64) (sym (read w32 z h)) (sfits-widen tt h)
-
-wide : (z : ℤ) → SFits w32 z → readBack w64 (readBack w32 z) ≡ z
-wide z h = read w64 (readBack w32 z) (wide-fits z h) ∙ read w32 z h
+use Rattle.integers.specs.Ranges.{range, fits, readBack, read, read-wide}
 
 module _ (a b : ℤ) (ha : SFits w32 a) (hb : SFits w32 b) where
   exact : SFits w64 (a +ℤ b)
@@ -25,7 +18,7 @@ module _ (a b : ℤ) (ha : SFits w32 a) (hb : SFits w32 b) where
       fits w64 (a +ℤ b) (omega arith) (omega arith)
 
   both : readBack w64 (readBack w32 a) +ℤ readBack w64 (readBack w32 b) ≡ a +ℤ b
-  both = summands (wide a ha) (wide b hb)
+  both = summands (read-wide a ha) (read-wide b hb)
 
   pub sum-fits : SFits w64 (readBack w64 (readBack w32 a) +ℤ readBack w64 (readBack w32 b))
   sum-fits = subst (SFits w64) (sym both) exact

@@ -1,3 +1,4 @@
-pub mod Rooms
 pub mod Hours
 pub mod Twilight
+pub mod Rooms
+pub mod TwilightLaws

@@ -48,7 +48,7 @@ bySeasonOf method = eqb (methodNumberOf method) (methodNumberOf MoonsightingComm
 -- and from latitude 55.0 takes a seventh of the night in place of the angle
 unfoldable pub bySeventhOf : Method → Float → Bool
 unfolding dec
-bySeventhOf method latitude = bySeasonOf method && le (dec 55 0) latitude
+bySeventhOf method latitude = le (dec 55 0) latitude && bySeasonOf method
 
 -- ---- Fajr
 -- from sunrise to its bound

@@ -5,7 +5,7 @@ ghost use Prim.Native.Nat.{_^_};
 ghost use lib.IntN.{_+ℤ_};
 ghost use Rattle.stride.specs.Times.{adjustedOf};
 ghost use Rattle.models.specs.Settings.{timeAdjustmentsOf};
-ghost use Rattle.schedule.specs.Rooms.{Within};
+ghost use Rattle.schedule.specs.Rooms.{Near};
 ghost use Rattle.schedule.specs.Twilight.{nightOf, laterOf, earlierOf, orOf, bySeasonOf, bySeventhOf, beforeSunriseOf, fajrBoundOf, unadjustedFajrOf, calculateFajrOf, ishaBoundOf, boundedIshaOf, unadjustedIshaOf, calculateIshaOf};
 use calendar::dates::Date;
 use models::method::Method;
@@ -23,14 +23,14 @@ use stride::times::adjust_time;
 use stride::times::rounded_minute;
 
 fn sum(a: i32, b: i32) -> i64
-    ensures { λ r. ⌜ (r ≡ a +ℤ b) × Within (2 ^ 32) r ⌝ }
+    ensures { λ r. ⌜ r ≡ a +ℤ b ⌝ }
 {
     a as i64 + b as i64
 }
 
 // The next sunrise less sunset.
 fn night(today: SolarTime, next: SolarTime) -> i64
-    ensures { λ r. ⌜ (r ≡ nightOf today next) × Within (2 ^ 33) r ⌝ }
+    ensures { λ r. ⌜ r ≡ nightOf today next ⌝ }
 {
     next.sunrise as i64 + 86400 - today.sunset as i64
 }
@@ -55,7 +55,8 @@ fn earlier(a: i64, b: i64) -> i64
 
 // An hour's time; without one, the other serves.
 fn or(hour: SolarHour, other: i64) -> i64
-    ensures { λ r. ⌜ r ≡ orOf hour other ⌝ }
+    requires { ⌜ Near (2 ^ 34) other ⌝ }
+    ensures { λ r. ⌜ (r ≡ orOf hour other) × Near (2 ^ 34) r ⌝ }
 {
     match hour {
         SolarHour::At(time) => time as i64,
@@ -82,8 +83,8 @@ pub fn by_seventh(method: Method, latitude: f64) -> bool
 
 // A time with a prayer's own minutes and the method's.
 pub fn adjusted(parameters: Parameters, prayer: Prayer, time: i64) -> i64
-    requires { ⌜ Within (2 ^ 38) time ⌝ }
-    ensures { λ r. ⌜ (r ≡ adjustedOf time (timeAdjustmentsOf parameters prayer)) × Within (2 ^ 39) r ⌝ }
+    requires { ⌜ Near (2 ^ 38) time ⌝ }
+    ensures { λ r. ⌜ (r ≡ adjustedOf time (timeAdjustmentsOf parameters prayer)) × Near (2 ^ 39) r ⌝ }
 {
     adjust_time(time, parameters.time_adjustments(prayer))
 }
@@ -105,19 +106,20 @@ fn unadjusted_fajr(
     latitude: f64,
     date: Date,
     today: SolarTime,
-    night: i64,
+    next: SolarTime,
     hour: SolarHour,
 ) -> i64
-    requires { ⌜ Within (2 ^ 33) night ⌝ }
-    ensures { λ r. ⌜ (r ≡ unadjustedFajrOf parameters latitude date today night hour) × Within (2 ^ 33) r ⌝ }
+    ensures { λ r. ⌜ (r ≡ unadjustedFajrOf parameters latitude date today (nightOf today next) hour) × Near (2 ^ 34) r ⌝ }
 {
     let method = parameters.method;
+    let night = night(today, next);
     let bound = sum(
         today.sunrise,
         before_sunrise(parameters, latitude, date, night),
     );
     if by_seventh(method, latitude) {
-        return later(today.sunrise as i64 - seventh(night), bound);
+        let fajr = today.sunrise as i64 - seventh(night);
+        return later(fajr, bound);
     }
     later(or(hour, bound), bound)
 }
@@ -130,13 +132,12 @@ pub fn calculate_fajr(
     next: SolarTime,
     hour: SolarHour,
 ) -> i64
-    ensures { λ r. ⌜ (r ≡ calculateFajrOf parameters latitude date today next hour) × Within (2 ^ 39) r ⌝ }
+    ensures { λ r. ⌜ (r ≡ calculateFajrOf parameters latitude date today next hour) × Near (2 ^ 39) r ⌝ }
 {
-    let night = night(today, next);
     adjusted(
         parameters,
         Prayer::Fajr,
-        unadjusted_fajr(parameters, latitude, date, today, night, hour),
+        unadjusted_fajr(parameters, latitude, date, today, next, hour),
     )
 }
 
@@ -147,7 +148,7 @@ fn isha_bound(
     today: SolarTime,
     night: i64,
 ) -> i64
-    ensures { λ r. ⌜ (r ≡ ishaBoundOf parameters latitude date today night) × Within (2 ^ 33) r ⌝ }
+    ensures { λ r. ⌜ (r ≡ ishaBoundOf parameters latitude date today night) × Near (2 ^ 34) r ⌝ }
 {
     let method = parameters.method;
     if by_season(method) {
@@ -165,16 +166,17 @@ fn bounded_isha(
     latitude: f64,
     date: Date,
     today: SolarTime,
-    night: i64,
+    next: SolarTime,
     hour: SolarHour,
 ) -> i64
-    requires { ⌜ Within (2 ^ 33) night ⌝ }
-    ensures { λ r. ⌜ (r ≡ boundedIshaOf parameters latitude date today night hour) × Within (2 ^ 33) r ⌝ }
+    ensures { λ r. ⌜ (r ≡ boundedIshaOf parameters latitude date today (nightOf today next) hour) × Near (2 ^ 34) r ⌝ }
 {
     let method = parameters.method;
+    let night = night(today, next);
     let bound = isha_bound(parameters, latitude, date, today, night);
     if by_seventh(method, latitude) {
-        return earlier(today.sunset as i64 + seventh(night), bound);
+        let isha = today.sunset as i64 + seventh(night);
+        return earlier(isha, bound);
     }
     earlier(or(hour, bound), bound)
 }
@@ -187,13 +189,12 @@ fn unadjusted_isha(
     next: SolarTime,
     hour: SolarHour,
 ) -> i64
-    ensures { λ r. ⌜ (r ≡ unadjustedIshaOf parameters latitude date today (nightOf today next) hour) × Within (2 ^ 38) r ⌝ }
+    ensures { λ r. ⌜ (r ≡ unadjustedIshaOf parameters latitude date today (nightOf today next) hour) × Near (2 ^ 38) r ⌝ }
 {
     if parameters.isha_interval > 0 {
         return today.sunset as i64 + parameters.isha_interval as i64 * 60;
     }
-    let night = night(today, next);
-    bounded_isha(parameters, latitude, date, today, night, hour)
+    bounded_isha(parameters, latitude, date, today, next, hour)
 }
 
 pub fn calculate_isha(
@@ -204,7 +205,7 @@ pub fn calculate_isha(
     next: SolarTime,
     hour: SolarHour,
 ) -> i64
-    ensures { λ r. ⌜ (r ≡ calculateIshaOf parameters latitude date today next hour) × Within (2 ^ 39) r ⌝ }
+    ensures { λ r. ⌜ (r ≡ calculateIshaOf parameters latitude date today next hour) × Near (2 ^ 39) r ⌝ }
 {
     adjusted(
         parameters,

@@ -1,3 +1,19 @@
+use Rattle.models.specs.Settings.{timeAdjustmentsOf}
+use Rattle.integers.specs.Parts.{P, N}
+use mathlib.Core.Path.{_≡_, ap, sym, subst, _∙_}
+use mir.Syntax.{w32, w64}
+use mir.Val.{SFits}
+use lib.IntN.{ℤ, pos, _+ℤ_, _-ℤ_, _*ℤ_}
+use Prim.Native.Nat.{_+_, _^_}
+use native.Mathlib.Omega.{arith}
+use Rattle.integers.specs.Sums.{summands}
+use Rattle.integers.specs.Ranges.{readBack, read, wide, read-wide}
+use Rattle.schedule.specs.Rooms as rooms
+use Rattle.schedule.specs.Rooms.{Near}
+use Rattle.schedule.specs.TwilightLaws as laws
+use Rattle.stride.specs.Times.{satOf, adjustedOf}
+use Rattle.stride.specs.TimesLaws.{adjusted-in}
+use Rattle.models.specs.Settings.{minutesFor, timeAdjustmentsOf}
 use borrow.Author.Needs.{needs}
 use Rattle.schedule.proofs.twilight.adjusted.Statement.{statement}
 use Rattle.schedule.proofs.twilight.adjusted.Tie as tie
@@ -8,15 +24,23 @@ use Rattle.stride.proofs.times.adjust_time.Reads as adjust-time-reads
 
 -- src/twilight.rt:88:23
 time-adjustments-requires : tie.Need-time-adjustments-requires
-time-adjustments-requires c κs = tt
+time-adjustments-requires c κs = search needs
 
 -- src/twilight.rt:88:5
 adjust-time-requires : tie.Need-adjust-time-requires
-adjust-time-requires c κs = tt
+adjust-time-requires c κs = search needs
 
 -- src/twilight.rt:84:1
 returns : tie.Need-returns
-returns c = ?
+returns c =
+    let t = c .before .before in
+    let k : readBack w64 (c .adjust-time .result) ≡ c .adjust-time .result = search needs in
+    let km : readBack w64 (c .before .time-adjustments .result) ≡ c .before .time-adjustments .result = search needs in
+    let m = km ∙ c .before .time-adjustments .ensures .0 in
+    let n : Near (2 ^ 32) (timeAdjustmentsOf (t .args .parameters) (t .args .prayer)) = subst (Near (2 ^ 32)) (c .before .time-adjustments .ensures .0) (c .before .time-adjustments .ensures .1) in
+    let h = t .pre in
+    let near = adjusted-in (t .args .time) (timeAdjustmentsOf (t .args .parameters) (t .args .prayer)) (omega (arith, h .0)) (omega (arith, h .1)) (omega (arith, n .0)) (omega (arith, n .1)) in
+    k ∙ c .adjust-time .ensures ∙ ap satOf (rooms.both adjustedOf (read w64 (t .args .time) (t .fits .time)) m) ∙ near
 
 pub adjusted-spec : {M : Type 1} → statement M
 adjusted-spec = tie.close (tie.spec time-adjustments-requires adjust-time-requires returns)

@@ -1,3 +1,16 @@
+use mathlib.Core.Path.{_≡_, ap, sym, subst, _∙_}
+use mir.Syntax.{w32, w64}
+use mir.Val.{SFits}
+use lib.IntN.{ℤ, pos, _+ℤ_, _-ℤ_, _*ℤ_}
+use Prim.Native.Nat.{_+_, _^_}
+use native.Mathlib.Omega.{arith}
+use Rattle.integers.specs.Sums.{summands}
+use Rattle.integers.specs.Ranges.{readBack, read, wide, read-wide}
+use Rattle.schedule.specs.Rooms as rooms
+use Rattle.schedule.specs.Rooms.{Near}
+use Rattle.schedule.specs.TwilightLaws as laws
+use Rattle.schedule.specs.Twilight.{nightOf, earlierOf, orOf, ishaBoundOf, boundedIshaOf}
+use Rattle.night.specs.Portions.{seventhOf}
 use borrow.Author.Needs.{needs}
 use Rattle.schedule.proofs.twilight.bounded_isha.Statement.{statement}
 use Rattle.schedule.proofs.twilight.bounded_isha.Tie as tie
@@ -7,57 +20,112 @@ use Rattle.night.proofs.portions.seventh.Reads as seventh-reads
 use Rattle.schedule.proofs.twilight.by_seventh.Reads as by-seventh-reads
 use Rattle.schedule.proofs.twilight.earlier.Reads as earlier-reads
 use Rattle.schedule.proofs.twilight.isha_bound.Reads as isha-bound-reads
+use Rattle.schedule.proofs.twilight.night.Reads as night-reads
 use Rattle.schedule.proofs.twilight.or.Reads as or-reads
+
+-- src/twilight.rt:174:9
+night-requires : tie.Need-night-requires
+night-requires c κs = search needs
 
 -- src/twilight.rt:175:9
 isha-bound-requires : tie.Need-isha-bound-requires
-isha-bound-requires c κs = tt
+isha-bound-requires c κs = search needs
 
 -- src/twilight.rt:176:8
 by-seventh-requires : tie.Need-by-seventh-requires
-by-seventh-requires c κs = tt
+by-seventh-requires c κs = search needs
 
--- src/twilight.rt:177:24
-cast-earlier : tie.Need-cast-earlier
-cast-earlier c = ?
+-- src/twilight.rt:177:20
+cast-isha : tie.Need-cast-isha
+cast-isha c =
+    let t = c .before .before .before .before .before .before in
+    let f : SFits w32 (t .args .today .sunset) = search needs in
+    wide (t .args .today .sunset) f
 
--- src/twilight.rt:177:46
+-- src/twilight.rt:177:42
 seventh-requires : tie.Need-seventh-requires
-seventh-requires c κs = tt
+seventh-requires c κs = search needs
 
--- src/twilight.rt:177:24
-add-earlier : tie.Need-add-earlier
-add-earlier c = ?
+-- src/twilight.rt:177:20
+add-isha : tie.Need-add-isha
+add-isha c =
+    let t = c .before .before .before .before .before .before .before in
+    let p = t .args .parameters in
+    let today = t .args .today in
+    let night = nightOf today (t .args .next) in
+    let f : SFits w32 (today .sunset) = search needs in
+    let kn : readBack w64 (c .before .before .before .before .before .before .night .result) ≡ c .before .before .before .before .before .before .night .result = search needs in
+    let n = kn ∙ c .before .before .before .before .before .before .night .ensures in
+    let h : SFits w32 (t .args .next .sunrise) = search needs in
+    let kv : readBack w64 (c .seventh .result) ≡ c .seventh .result = search needs in
+    let v = kv ∙ c .seventh .ensures ∙ ap seventhOf n in
+    let x = today .sunset +ℤ seventhOf night in
+    let e = summands (read-wide (today .sunset) f) v in
+    let near : Near (2 ^ 62) x = rooms.near-more (2 ^ 31 + laws.roomy) (2 ^ 62) x (omega arith) (rooms.near-sum (2 ^ 31) laws.roomy (today .sunset) (seventhOf night) (rooms.near-i32 (today .sunset) f) (rooms.near-seventh laws.roomy night (laws.night-roomy today (t .args .next) f h))) in
+    rooms.held _ x e near
 
--- src/twilight.rt:177:9
+-- src/twilight.rt:178:9
 earlier-requires : tie.Need-earlier-requires
-earlier-requires c κs = tt
+earlier-requires c κs = search needs
 
--- src/twilight.rt:177:9
+-- src/twilight.rt:178:9
 returns : tie.Need-returns
-returns c = ?
+unfolding boundedIshaOf
+returns c =
+    let t = c .before .before .before .before .before .before .before .before in
+    let p = t .args .parameters in
+    let today = t .args .today in
+    let night = nightOf today (t .args .next) in
+    let f : SFits w32 (today .sunset) = search needs in
+    let kn : readBack w64 (c .before .before .before .before .before .before .before .night .result) ≡ c .before .before .before .before .before .before .before .night .result = search needs in
+    let n = kn ∙ c .before .before .before .before .before .before .before .night .ensures in
+    let kb : readBack w64 (c .before .before .before .before .before .before .isha-bound .result) ≡ c .before .before .before .before .before .before .isha-bound .result = search needs in
+    let bound = kb ∙ c .before .before .before .before .before .before .isha-bound .ensures ∙ ap (ishaBoundOf p (t .args .latitude) (t .args .date) today) n in
+    let h : SFits w32 (t .args .next .sunrise) = search needs in
+    let kv : readBack w64 (c .before .seventh .result) ≡ c .before .seventh .result = search needs in
+    let v = kv ∙ c .before .seventh .ensures ∙ ap seventhOf n in
+    let x = today .sunset +ℤ seventhOf night in
+    let e = summands (read-wide (today .sunset) f) v in
+    let near : Near (2 ^ 62) x = rooms.near-more (2 ^ 31 + laws.roomy) (2 ^ 62) x (omega arith) (rooms.near-sum (2 ^ 31) laws.roomy (today .sunset) (seventhOf night) (rooms.near-i32 (today .sunset) f) (rooms.near-seventh laws.roomy night (laws.night-roomy today (t .args .next) f h))) in
+    let k : readBack w64 (c .earlier .result) ≡ c .earlier .result = search needs in
+    k ∙ c .earlier .ensures ∙ rooms.both earlierOf (rooms.read-held _ x e near) bound ∙ simp (sym (c .before .before .before .before .before .by-seventh .ensures), c .before .before .before .before .if1 .taken)
 
--- src/twilight.rt:179:13
+-- src/twilight.rt:180:13
 or-requires : tie.Need-or-requires
-or-requires c κs = tt
+or-requires c κs = search needs
 
--- src/twilight.rt:179:5
+-- src/twilight.rt:180:5
 earlier-requires-2 : tie.Need-earlier-requires-2
-earlier-requires-2 c κs = tt
+earlier-requires-2 c κs = search needs
 
 -- src/twilight.rt:163:1
 returns-2 : tie.Need-returns-2
-returns-2 c = ?
+unfolding boundedIshaOf
+returns-2 c =
+    let t = c .before .before .before .before .before .before in
+    let p = t .args .parameters in
+    let today = t .args .today in
+    let night = nightOf today (t .args .next) in
+    let f : SFits w32 (today .sunset) = search needs in
+    let kn : readBack w64 (c .before .before .before .before .before .night .result) ≡ c .before .before .before .before .before .night .result = search needs in
+    let n = kn ∙ c .before .before .before .before .before .night .ensures in
+    let kb : readBack w64 (c .before .before .before .before .isha-bound .result) ≡ c .before .before .before .before .isha-bound .result = search needs in
+    let bound = kb ∙ c .before .before .before .before .isha-bound .ensures ∙ ap (ishaBoundOf p (t .args .latitude) (t .args .date) today) n in
+    let k : readBack w64 (c .earlier2 .result) ≡ c .earlier2 .result = search needs in
+    let ko : readBack w64 (c .before .or .result) ≡ c .before .or .result = search needs in
+    let o = ko ∙ c .before .or .ensures ∙ ap (orOf (t .args .hour)) bound in
+    k ∙ c .earlier2 .ensures ∙ rooms.both earlierOf o bound ∙ simp (sym (c .before .before .before .by-seventh .ensures), c .before .before .if1 .left)
 
 pub bounded-isha-spec : {M : Type 1} → statement M
 bounded-isha-spec =
     tie.close
     (tie.spec
+    night-requires
     isha-bound-requires
     by-seventh-requires
-    cast-earlier
+    cast-isha
     seventh-requires
-    add-earlier
+    add-isha
     earlier-requires
     returns
     or-requires

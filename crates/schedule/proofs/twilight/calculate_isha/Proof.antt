@@ -8,11 +8,11 @@ use Rattle.schedule.proofs.twilight.unadjusted_isha.Reads as unadjusted
 
 -- src/twilight.rt:212:9
 unadjusted-isha-requires : tie.Need-unadjusted-isha-requires
-unadjusted-isha-requires c κs = tt
+unadjusted-isha-requires c κs = search needs
 
 -- src/twilight.rt:209:5
 adjusted-requires : tie.Need-adjusted-requires
-adjusted-requires c κs = search needs
+adjusted-requires c κs = ?
 
 -- src/twilight.rt:199:1
 returns : tie.Need-returns

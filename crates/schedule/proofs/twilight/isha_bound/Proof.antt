@@ -1,3 +1,23 @@
+use Prim.Native.Nat.{ℕ}
+use Rattle.night.specs.Portions.{portionAfterOf}
+use Rattle.models.specs.Settings.{nightPortionsOf}
+use mathlib.Core.Path.{_≡_, ap, sym, subst, _∙_}
+use mir.Syntax.{w32, w64}
+use mir.Val.{SFits}
+use lib.IntN.{ℤ, pos, _+ℤ_, _-ℤ_, _*ℤ_}
+use Prim.Native.Nat.{_+_, _^_}
+use native.Mathlib.Omega.{arith}
+use Rattle.integers.specs.Sums.{summands}
+use Rattle.integers.specs.Ranges.{readBack, read, wide, read-wide}
+use Rattle.schedule.specs.Rooms as rooms
+use Rattle.schedule.specs.Rooms.{Near}
+use Rattle.schedule.specs.TwilightLaws as laws
+use Rattle.schedule.specs.Twilight.{ishaBoundOf}
+use Rattle.stride.specs.Times.{satOf, roundedOf}
+use Rattle.stride.specs.TimesLaws.{rounded-in}
+use Rattle.models.specs.declared.rounding.Rounding.the-variants.{Nearest}
+use Rattle.ops.specs.Season.{eveningSecondsOf}
+use Rattle.calendar.specs.Days.{ordinalOf}
 use borrow.Author.Needs.{needs}
 use Rattle.schedule.proofs.twilight.isha_bound.Statement.{statement}
 use Rattle.schedule.proofs.twilight.isha_bound.Tie as tie
@@ -13,43 +33,68 @@ use Rattle.stride.proofs.times.rounded_minute.Reads as rounded-minute-reads
 
 -- src/twilight.rt:153:8
 by-season-requires : tie.Need-by-season-requires
-by-season-requires c κs = tt
+by-season-requires c κs = search needs
 
 -- src/twilight.rt:155:58
 ordinal-requires : tie.Need-ordinal-requires
-ordinal-requires c κs = tt
+ordinal-requires c κs = search needs
 
 -- src/twilight.rt:155:13
 evening-twilight-seconds-requires : tie.Need-evening-twilight-seconds-requires
-evening-twilight-seconds-requires c κs = tt
+evening-twilight-seconds-requires c κs = search needs
 
 -- src/twilight.rt:156:31
 sum-requires : tie.Need-sum-requires
-sum-requires c κs = tt
+sum-requires c κs = search needs
 
 -- src/twilight.rt:156:9
 rounded-minute-requires : tie.Need-rounded-minute-requires
-rounded-minute-requires c κs = tt
+rounded-minute-requires c κs = search needs
 
 -- src/twilight.rt:156:9
 returns : tie.Need-returns
-returns c = ?
+unfolding ishaBoundOf
+returns c =
+    let t = c .before .before .before .before .before .before .before in
+    let k : readBack w64 (c .rounded-minute .result) ≡ c .rounded-minute .result = search needs in
+    let ks : readBack w64 (c .before .sum .result) ≡ c .before .sum .result = search needs in
+    let ke : readBack w32 (c .before .before .before .evening-twilight-seconds .result) ≡ c .before .before .before .evening-twilight-seconds .result = search needs in
+    let s = t .args .today .sunset in
+    let f : SFits w32 s = search needs in
+    let o = c .before .before .before .before .ordinal .ensures in
+    let e : readBack w32 (c .before .before .before .evening-twilight-seconds .result) ≡ eveningSecondsOf (t .args .latitude) (ordinalOf (t .args .date)) (t .args .date .year) (t .args .parameters .shafaq) = ke ∙ c .before .before .before .evening-twilight-seconds .ensures ∙ ap (λ (n : ℕ). eveningSecondsOf (t .args .latitude) n (t .args .date .year) (t .args .parameters .shafaq)) o in
+    let x = s +ℤ eveningSecondsOf (t .args .latitude) (ordinalOf (t .args .date)) (t .args .date .year) (t .args .parameters .shafaq) in
+    let z : readBack w64 (c .before .sum .result) ≡ x = ks ∙ c .before .sum .ensures ∙ summands (read w32 s f) e in
+    let h = rooms.near-sum (2 ^ 31) (2 ^ 31) s (eveningSecondsOf (t .args .latitude) (ordinalOf (t .args .date)) (t .args .date .year) (t .args .parameters .shafaq)) (rooms.near-i32 s f) (laws.evening-near (t .args .latitude) (t .args .date) (t .args .parameters)) in
+    let r = rounded-in Nearest x (omega (arith, h .0)) (omega (arith, h .1)) in
+    let g = c .before .before .before .before .before .before .by-season .ensures in
+    k ∙ c .rounded-minute .ensures ∙ ap (λ (y : ℤ). satOf (roundedOf Nearest y)) z ∙ r ∙ simp (sym g, c .before .before .before .before .before .if1 .taken)
 
 -- src/twilight.rt:158:9
 night-portions-requires : tie.Need-night-portions-requires
-night-portions-requires c κs = tt
+night-portions-requires c κs = search needs
 
 -- src/twilight.rt:159:23
 portion-after-requires : tie.Need-portion-after-requires
-portion-after-requires c κs = tt
+portion-after-requires c κs = search needs
 
 -- src/twilight.rt:159:5
 sum-requires-2 : tie.Need-sum-requires-2
-sum-requires-2 c κs = tt
+sum-requires-2 c κs = search needs
 
 -- src/twilight.rt:143:1
 returns-2 : tie.Need-returns-2
-returns-2 c = ?
+unfolding ishaBoundOf
+returns-2 c =
+    let t = c .before .before .before .before .before .before in
+    let k : readBack w64 (c .sum2 .result) ≡ c .sum2 .result = search needs in
+    let kp : readBack w32 (c .before .before .portion-after .result) ≡ c .before .before .portion-after .result = search needs in
+    let s = t .args .today .sunset in
+    let f : SFits w32 s = search needs in
+    let n = read w64 (t .args .night) (t .fits .night) in
+    let e : readBack w32 (c .before .before .portion-after .result) ≡ portionAfterOf (nightPortionsOf (t .args .parameters) .isha) (t .args .night) = kp ∙ c .before .before .portion-after .ensures ∙ simp (n, c .before .before .before .night-portions .ensures) in
+    let g = c .before .before .before .before .before .by-season .ensures in
+    k ∙ c .sum2 .ensures ∙ summands (read w32 s f) e ∙ simp (sym g, c .before .before .before .before .if1 .left)
 
 pub isha-bound-spec : {M : Type 1} → statement M
 isha-bound-spec =

@@ -1,6 +1,15 @@
-use mir.Syntax.{w64}
+use mathlib.Core.Path.{_≡_, ap, sym, subst, _∙_}
+use Rattle.schedule.specs.TwilightLaws as laws
+use mathlib.Core.Path.{_≡_, ap, sym, _∙_}
+use mir.Syntax.{w32, w64}
 use mir.Val.{SFits}
-use mir.Facts.{toZ-ofZ}
+use lib.IntN.{ℤ, pos, _+ℤ_, _-ℤ_, _*ℤ_}
+use Prim.Native.Nat.{_+_, _^_}
+use native.Mathlib.Omega.{arith}
+use Rattle.integers.specs.Sums.{summands}
+use Rattle.integers.specs.Ranges.{readBack, read, wide, read-wide}
+use Rattle.schedule.specs.Rooms as rooms
+use Rattle.schedule.specs.Rooms.{Near}
 use Rattle.schedule.specs.Twilight.{orOf}
 use borrow.Author.Needs.{needs}
 use Rattle.schedule.proofs.twilight.or.Statement.{statement}
@@ -14,7 +23,10 @@ enum-known-hour c = search needs
 
 -- src/twilight.rt:61:32
 cast-result : tie.Need-cast-result
-cast-result c = ?
+cast-result c =
+    let z = c .before .hour .given .0 .0 in
+    let f : SFits w32 z = search needs in
+    wide z f
 
 -- src/twilight.rt:62:28
 enum-told : tie.Need-enum-told
@@ -22,14 +34,18 @@ enum-told c = search needs
 
 -- src/twilight.rt:57:1
 returns : tie.Need-returns
-returns c = ?
+unfolding orOf
+returns c =
+    let z = c .before .hour .given .0 .0 in
+    let f : SFits w32 z = search needs in
+    read-wide z f ∙ simp (c .before .hour .given .1)
 
 -- src/twilight.rt:57:1
 returns-2 : tie.Need-returns-2
 unfolding orOf
 returns-2 c =
-    let f0 : SFits w64 (c .before .before .args .other) = search needs in
-    simp (toZ-ofZ f0, c .enum-told .given .1)
+    let t = c .before .before in
+    read w64 (t .args .other) (t .fits .other) ∙ simp (c .enum-told .given .1)
 
 pub or-spec : {M : Type 1} → statement M
 or-spec = tie.close (tie.spec enum-known-hour cast-result enum-told returns returns-2)

@@ -1,3 +1,16 @@
+use mathlib.Core.Path.{_≡_, ap, sym, subst, _∙_}
+use mir.Syntax.{w32, w64}
+use mir.Val.{SFits}
+use lib.IntN.{ℤ, pos, _+ℤ_, _-ℤ_, _*ℤ_}
+use Prim.Native.Nat.{_+_, _^_}
+use native.Mathlib.Omega.{arith}
+use Rattle.integers.specs.Sums.{summands}
+use Rattle.integers.specs.Ranges.{readBack, read, wide, read-wide}
+use Rattle.schedule.specs.Rooms as rooms
+use Rattle.schedule.specs.Rooms.{Near}
+use Rattle.schedule.specs.TwilightLaws as laws
+use Rattle.schedule.specs.Twilight.{nightOf, laterOf, orOf, beforeSunriseOf, unadjustedFajrOf}
+use Rattle.night.specs.Portions.{seventhOf}
 use borrow.Author.Needs.{needs}
 use Rattle.schedule.proofs.twilight.unadjusted_fajr.Statement.{statement}
 use Rattle.schedule.proofs.twilight.unadjusted_fajr.Tie as tie
@@ -7,63 +20,124 @@ use Rattle.night.proofs.portions.seventh.Reads as seventh-reads
 use Rattle.schedule.proofs.twilight.before_sunrise.Reads as before-sunrise-reads
 use Rattle.schedule.proofs.twilight.by_seventh.Reads as by-seventh-reads
 use Rattle.schedule.proofs.twilight.later.Reads as later-reads
+use Rattle.schedule.proofs.twilight.night.Reads as night-reads
 use Rattle.schedule.proofs.twilight.or.Reads as or-reads
 use Rattle.schedule.proofs.twilight.sum.Reads as sum-reads
 
+-- src/twilight.rt:114:9
+night-requires : tie.Need-night-requires
+night-requires c κs = search needs
+
 -- src/twilight.rt:117:9
 before-sunrise-requires : tie.Need-before-sunrise-requires
-before-sunrise-requires c κs = tt
+before-sunrise-requires c κs = search needs
 
 -- src/twilight.rt:115:9
 sum-requires : tie.Need-sum-requires
-sum-requires c κs = tt
+sum-requires c κs = search needs
 
 -- src/twilight.rt:119:8
 by-seventh-requires : tie.Need-by-seventh-requires
-by-seventh-requires c κs = tt
+by-seventh-requires c κs = search needs
 
--- src/twilight.rt:120:22
-cast-later : tie.Need-cast-later
-cast-later c = ?
+-- src/twilight.rt:120:20
+cast-fajr : tie.Need-cast-fajr
+cast-fajr c =
+    let t = c .before .before .before .before .before .before .before .before in
+    let f : SFits w32 (t .args .today .sunrise) = search needs in
+    wide (t .args .today .sunrise) f
 
--- src/twilight.rt:120:45
+-- src/twilight.rt:120:43
 seventh-requires : tie.Need-seventh-requires
-seventh-requires c κs = tt
+seventh-requires c κs = search needs
 
--- src/twilight.rt:120:22
-sub-later : tie.Need-sub-later
-sub-later c = ?
+-- src/twilight.rt:120:20
+sub-fajr : tie.Need-sub-fajr
+sub-fajr c =
+    let t = c .before .before .before .before .before .before .before .before .before in
+    let p = t .args .parameters in
+    let today = t .args .today in
+    let night = nightOf today (t .args .next) in
+    let f : SFits w32 (today .sunrise) = search needs in
+    let kn : readBack w64 (c .before .before .before .before .before .before .before .before .night .result) ≡ c .before .before .before .before .before .before .before .before .night .result = search needs in
+    let n = kn ∙ c .before .before .before .before .before .before .before .before .night .ensures in
+    let g : SFits w32 (today .sunset) = search needs in
+    let h : SFits w32 (t .args .next .sunrise) = search needs in
+    let kv : readBack w64 (c .seventh .result) ≡ c .seventh .result = search needs in
+    let v = kv ∙ c .seventh .ensures ∙ ap seventhOf n in
+    let x = today .sunrise -ℤ seventhOf night in
+    let e = rooms.differences (read-wide (today .sunrise) f) v in
+    let near : Near (2 ^ 62) x = rooms.near-more (2 ^ 31 + laws.roomy) (2 ^ 62) x (omega arith) (rooms.near-difference (2 ^ 31) laws.roomy (today .sunrise) (seventhOf night) (rooms.near-i32 (today .sunrise) f) (rooms.near-seventh laws.roomy night (laws.night-roomy today (t .args .next) g h))) in
+    rooms.held _ x e near
 
--- src/twilight.rt:120:9
+-- src/twilight.rt:121:9
 later-requires : tie.Need-later-requires
-later-requires c κs = tt
+later-requires c κs = search needs
 
--- src/twilight.rt:120:9
+-- src/twilight.rt:121:9
 returns : tie.Need-returns
-returns c = ?
+unfolding unadjustedFajrOf
+returns c =
+    let t = c .before .before .before .before .before .before .before .before .before .before in
+    let p = t .args .parameters in
+    let today = t .args .today in
+    let night = nightOf today (t .args .next) in
+    let f : SFits w32 (today .sunrise) = search needs in
+    let kn : readBack w64 (c .before .before .before .before .before .before .before .before .before .night .result) ≡ c .before .before .before .before .before .before .before .before .before .night .result = search needs in
+    let n = kn ∙ c .before .before .before .before .before .before .before .before .before .night .ensures in
+    let kb : readBack w32 (c .before .before .before .before .before .before .before .before .before-sunrise .result) ≡ c .before .before .before .before .before .before .before .before .before-sunrise .result = search needs in
+    let bs = kb ∙ c .before .before .before .before .before .before .before .before .before-sunrise .ensures ∙ ap (beforeSunriseOf p (t .args .latitude) (t .args .date)) n in
+    let ks : readBack w64 (c .before .before .before .before .before .before .sum .result) ≡ c .before .before .before .before .before .before .sum .result = search needs in
+    let bound = ks ∙ c .before .before .before .before .before .before .sum .ensures ∙ summands (read w32 (today .sunrise) f) bs in
+    let g : SFits w32 (today .sunset) = search needs in
+    let h : SFits w32 (t .args .next .sunrise) = search needs in
+    let kv : readBack w64 (c .before .seventh .result) ≡ c .before .seventh .result = search needs in
+    let v = kv ∙ c .before .seventh .ensures ∙ ap seventhOf n in
+    let x = today .sunrise -ℤ seventhOf night in
+    let e = rooms.differences (read-wide (today .sunrise) f) v in
+    let near : Near (2 ^ 62) x = rooms.near-more (2 ^ 31 + laws.roomy) (2 ^ 62) x (omega arith) (rooms.near-difference (2 ^ 31) laws.roomy (today .sunrise) (seventhOf night) (rooms.near-i32 (today .sunrise) f) (rooms.near-seventh laws.roomy night (laws.night-roomy today (t .args .next) g h))) in
+    let k : readBack w64 (c .later .result) ≡ c .later .result = search needs in
+    k ∙ c .later .ensures ∙ rooms.both laterOf (rooms.read-held _ x e near) bound ∙ simp (sym (c .before .before .before .before .before .by-seventh .ensures), c .before .before .before .before .if1 .taken)
 
--- src/twilight.rt:122:11
+-- src/twilight.rt:123:11
 or-requires : tie.Need-or-requires
-or-requires c κs = tt
+or-requires c κs = search needs
 
--- src/twilight.rt:122:5
+-- src/twilight.rt:123:5
 later-requires-2 : tie.Need-later-requires-2
-later-requires-2 c κs = tt
+later-requires-2 c κs = search needs
 
 -- src/twilight.rt:103:1
 returns-2 : tie.Need-returns-2
-returns-2 c = ?
+unfolding unadjustedFajrOf
+returns-2 c =
+    let t = c .before .before .before .before .before .before .before .before in
+    let p = t .args .parameters in
+    let today = t .args .today in
+    let night = nightOf today (t .args .next) in
+    let f : SFits w32 (today .sunrise) = search needs in
+    let kn : readBack w64 (c .before .before .before .before .before .before .before .night .result) ≡ c .before .before .before .before .before .before .before .night .result = search needs in
+    let n = kn ∙ c .before .before .before .before .before .before .before .night .ensures in
+    let kb : readBack w32 (c .before .before .before .before .before .before .before-sunrise .result) ≡ c .before .before .before .before .before .before .before-sunrise .result = search needs in
+    let bs = kb ∙ c .before .before .before .before .before .before .before-sunrise .ensures ∙ ap (beforeSunriseOf p (t .args .latitude) (t .args .date)) n in
+    let ks : readBack w64 (c .before .before .before .before .sum .result) ≡ c .before .before .before .before .sum .result = search needs in
+    let bound = ks ∙ c .before .before .before .before .sum .ensures ∙ summands (read w32 (today .sunrise) f) bs in
+    let k : readBack w64 (c .later2 .result) ≡ c .later2 .result = search needs in
+    let ko : readBack w64 (c .before .or .result) ≡ c .before .or .result = search needs in
+    let o = ko ∙ c .before .or .ensures ∙ ap (orOf (t .args .hour)) bound in
+    k ∙ c .later2 .ensures ∙ rooms.both laterOf o bound ∙ simp (sym (c .before .before .before .by-seventh .ensures), c .before .before .if1 .left)
 
 pub unadjusted-fajr-spec : {M : Type 1} → statement M
 unadjusted-fajr-spec =
     tie.close
     (tie.spec
+    night-requires
     before-sunrise-requires
     sum-requires
     by-seventh-requires
-    cast-later
+    cast-fajr
     seventh-requires
-    sub-later
+    sub-fajr
     later-requires
     returns
     or-requires

@@ -1,42 +1,101 @@
+use mathlib.Core.Path.{_≡_, ap, sym, subst, _∙_}
+use mir.Syntax.{w32, w64}
+use mir.Val.{SFits}
+use lib.IntN.{ℤ, pos, _+ℤ_, _-ℤ_, _*ℤ_}
+use Prim.Native.Nat.{_+_, _^_}
+use native.Mathlib.Omega.{arith}
+use Rattle.integers.specs.Sums.{summands}
+use Rattle.integers.specs.Ranges.{readBack, read, wide, read-wide}
+use Rattle.schedule.specs.Rooms as rooms
+use Rattle.schedule.specs.Rooms.{Near}
+use Rattle.schedule.specs.TwilightLaws as laws
+use Rattle.schedule.specs.Twilight.{nightOf, unadjustedIshaOf}
+use Rattle.integers.specs.Sums.{times}
+use Prim.Native.Nat.{_*_}
 use borrow.Author.Needs.{needs}
 use Rattle.schedule.proofs.twilight.unadjusted_isha.Statement.{statement}
 use Rattle.schedule.proofs.twilight.unadjusted_isha.Tie as tie
 use Rattle.schedule.proofs.twilight.unadjusted_isha.Reads as reads
 use Rattle.schedule.proofs.twilight.unadjusted_isha.Lts as lts
 use Rattle.schedule.proofs.twilight.bounded_isha.Reads as bounded-isha-reads
-use Rattle.schedule.proofs.twilight.night.Reads as night-reads
 
--- src/twilight.rt:193:16
+-- src/twilight.rt:194:16
 cast-result : tie.Need-cast-result
-cast-result c = ?
+cast-result c =
+    let t = c .before .before .before .before .before in
+    let f : SFits w32 (t .args .today .sunset) = search needs in
+    wide (t .args .today .sunset) f
 
--- src/twilight.rt:193:38
+-- src/twilight.rt:194:38
 cast-result-2 : tie.Need-cast-result-2
-cast-result-2 c = ?
+cast-result-2 c =
+    let t = c .before .before .before .before .before .before .before in
+    let f : SFits w32 (t .args .parameters .«isha_interval») = search needs in
+    wide (t .args .parameters .«isha_interval») f
 
--- src/twilight.rt:193:38
+-- src/twilight.rt:194:38
 mul-result : tie.Need-mul-result
-mul-result c = ?
+mul-result c =
+    let t = c .before .before .before .before .before .before .before in
+    let i = t .args .parameters .«isha_interval» in
+    let s = t .args .today .sunset in
+    let f : SFits w32 i = search needs in
+    let g : SFits w32 s = search needs in
+    let q = times i 60 in
+    let r = rooms.near-i32 i f in
+    let e = ap (λ (z : ℤ). z *ℤ pos 60) (read-wide i f) in
+    let l : Near (60 * 2 ^ 31) (i *ℤ pos 60) = (omega (arith, r .0), omega (arith, r .1)) in
+    let near = rooms.near-more (60 * 2 ^ 31) (2 ^ 62) (i *ℤ pos 60) (omega arith) l in
+    rooms.held _ (i *ℤ pos 60) e near
 
--- src/twilight.rt:193:16
+-- src/twilight.rt:194:16
 add-result : tie.Need-add-result
-add-result c = ?
+add-result c =
+    let t = c .before .before .before .before .before .before .before in
+    let i = t .args .parameters .«isha_interval» in
+    let s = t .args .today .sunset in
+    let f : SFits w32 i = search needs in
+    let g : SFits w32 s = search needs in
+    let q = times i 60 in
+    let r = rooms.near-i32 i f in
+    let e = ap (λ (z : ℤ). z *ℤ pos 60) (read-wide i f) in
+    let l : Near (60 * 2 ^ 31) (i *ℤ pos 60) = (omega (arith, r .0), omega (arith, r .1)) in
+    let near = rooms.near-more (60 * 2 ^ 31) (2 ^ 62) (i *ℤ pos 60) (omega arith) l in
+    let d = summands (read-wide s g) (rooms.read-held _ (i *ℤ pos 60) e near) in
+    let sum-near = rooms.near-more (2 ^ 31 + 60 * 2 ^ 31) (2 ^ 62) (s +ℤ i *ℤ pos 60) (omega arith) (rooms.near-sum (2 ^ 31) (60 * 2 ^ 31) s (i *ℤ pos 60) (rooms.near-i32 s g) l) in
+    rooms.held _ (s +ℤ i *ℤ pos 60) d sum-near
 
--- src/twilight.rt:193:9
+-- src/twilight.rt:194:9
 returns : tie.Need-returns
-returns c = ?
-
--- src/twilight.rt:195:9
-night-requires : tie.Need-night-requires
-night-requires c κs = tt
+unfolding unadjustedIshaOf
+returns c =
+    let t = c .before .before .before .before .before .before .before in
+    let i = t .args .parameters .«isha_interval» in
+    let s = t .args .today .sunset in
+    let f : SFits w32 i = search needs in
+    let g : SFits w32 s = search needs in
+    let q = times i 60 in
+    let r = rooms.near-i32 i f in
+    let e = ap (λ (z : ℤ). z *ℤ pos 60) (read-wide i f) in
+    let l : Near (60 * 2 ^ 31) (i *ℤ pos 60) = (omega (arith, r .0), omega (arith, r .1)) in
+    let near = rooms.near-more (60 * 2 ^ 31) (2 ^ 62) (i *ℤ pos 60) (omega arith) l in
+    let d = summands (read-wide s g) (rooms.read-held _ (i *ℤ pos 60) e near) in
+    let sum-near = rooms.near-more (2 ^ 31 + 60 * 2 ^ 31) (2 ^ 62) (s +ℤ i *ℤ pos 60) (omega arith) (rooms.near-sum (2 ^ 31) (60 * 2 ^ 31) s (i *ℤ pos 60) (rooms.near-i32 s g) l) in
+    rooms.read-held _ (s +ℤ i *ℤ pos 60) d sum-near ∙ simp (rw (read w32 i f) at (c .before .before .before .before .if1 .taken))
 
 -- src/twilight.rt:196:5
 bounded-isha-requires : tie.Need-bounded-isha-requires
 bounded-isha-requires c κs = search needs
 
--- src/twilight.rt:182:1
+-- src/twilight.rt:183:1
 returns-2 : tie.Need-returns-2
-returns-2 c = ?
+unfolding unadjustedIshaOf
+returns-2 c =
+    let t = c .before .before .before .before in
+    let i = t .args .parameters .«isha_interval» in
+    let f : SFits w32 i = search needs in
+    let k : readBack w64 (c .bounded-isha .result) ≡ c .bounded-isha .result = search needs in
+    k ∙ c .bounded-isha .ensures ∙ simp (rw (read w32 i f) at (c .before .if1 .left))
 
 pub unadjusted-isha-spec : {M : Type 1} → statement M
 unadjusted-isha-spec =
@@ -47,6 +106,5 @@ unadjusted-isha-spec =
     mul-result
     add-result
     returns
-    night-requires
     bounded-isha-requires
     returns-2)
