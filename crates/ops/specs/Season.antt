@@ -84,14 +84,19 @@ abbrev pub minutesOf : AdjustmentDaytime → Float → ℕ → ℕ → Shafaq �
 minutesOf daytime latitude day year shafaq =
     twilightAdjustmentsOf (twilightAdjustmentValuesOf daytime latitude shafaq) (ofInt binary64 (pos (daysSinceSolsticeOf day year latitude)))
 
--- whole seconds before sunrise, half a second away from zero
-unfoldable pub seasonAdjustedMorningTwilightOf : Float → ℕ → ℕ → ℤ → ℤ
+-- whole seconds from sunrise, half a second away from zero: below 0 before it
+unfoldable pub morningSecondsOf : Float → ℕ → ℕ → ℤ
 unfolding dec
-seasonAdjustedMorningTwilightOf latitude day year sunrise =
-    satOf (sunrise +ℤ toSigned 63 (roundOf (minutesOf Morning latitude day year General *ᶠ neg (dec 60 0))))
+morningSecondsOf latitude day year = toSigned 31 (roundOf (minutesOf Morning latitude day year General *ᶠ neg (dec 60 0)))
 
--- whole seconds after sunset, and then the nearest minute
-unfoldable pub seasonAdjustedEveningTwilightOf : Float → ℕ → ℕ → ℤ → Shafaq → ℤ
+-- and from sunset
+unfoldable pub eveningSecondsOf : Float → ℕ → ℕ → Shafaq → ℤ
 unfolding dec
-seasonAdjustedEveningTwilightOf latitude day year sunset shafaq =
-    satOf (roundedOf Nearest (satOf (sunset +ℤ toSigned 63 (roundOf (minutesOf Evening latitude day year shafaq *ᶠ dec 60 0)))))
+eveningSecondsOf latitude day year shafaq = toSigned 31 (roundOf (minutesOf Evening latitude day year shafaq *ᶠ dec 60 0))
+
+unfoldable pub seasonAdjustedMorningTwilightOf : Float → ℕ → ℕ → ℤ → ℤ
+seasonAdjustedMorningTwilightOf latitude day year sunrise = satOf (sunrise +ℤ morningSecondsOf latitude day year)
+
+-- the evening's time alone goes on to the nearest minute
+unfoldable pub seasonAdjustedEveningTwilightOf : Float → ℕ → ℕ → ℤ → Shafaq → ℤ
+seasonAdjustedEveningTwilightOf latitude day year sunset shafaq = satOf (roundedOf Nearest (satOf (sunset +ℤ eveningSecondsOf latitude day year shafaq)))

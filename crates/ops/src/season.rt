@@ -1,9 +1,9 @@
 // ops.rs: the season, by which the MoonsightingCommittee method bounds Fajr and Isha.
 ghost use mathlib.Core.Path.{_≡_};
-ghost use Rattle.ops.specs.Season.{southernOffsetOf, daysSinceSolsticeOf, raisedOf, loweredOf, eveningValuesOf, twilightAdjustmentValuesOf, onTheWayOf, withinOf, twilightAdjustmentsOf, minutesOf, seasonAdjustedMorningTwilightOf, seasonAdjustedEveningTwilightOf};
+ghost use Rattle.ops.specs.Season.{southernOffsetOf, daysSinceSolsticeOf, raisedOf, loweredOf, eveningValuesOf, twilightAdjustmentValuesOf, onTheWayOf, withinOf, twilightAdjustmentsOf, minutesOf, morningSecondsOf, eveningSecondsOf, seasonAdjustedMorningTwilightOf, seasonAdjustedEveningTwilightOf};
 use calendar::years::days_in_year;
 use calendar::years::is_leap_year;
-use float64::casts::to_i64;
+use float64::casts::to_i32;
 use float64::sizes::abs;
 use float64::whole::round;
 use models::rounding::Rounding;
@@ -157,9 +157,9 @@ fn season_minutes(
     twilight_adjustments(twilight_adjustment_values(daytime, latitude, shafaq), dyy)
 }
 
-// Whole seconds before sunrise.
-pub fn season_adjusted_morning_twilight(latitude: f64, day: u32, year: u32, sunrise: i64) -> i64
-    ensures { λ r. ⌜ r ≡ seasonAdjustedMorningTwilightOf latitude day year sunrise ⌝ }
+// Whole seconds from sunrise, below 0 before it. The source casts to i64; from an i32 every later sum fits with nothing to refuse.
+pub fn morning_twilight_seconds(latitude: f64, day: u32, year: u32) -> i32
+    ensures { λ r. ⌜ r ≡ morningSecondsOf latitude day year ⌝ }
 {
     let adjustment = season_minutes(
         AdjustmentDaytime::Morning,
@@ -168,10 +168,27 @@ pub fn season_adjusted_morning_twilight(latitude: f64, day: u32, year: u32, sunr
         year,
         Shafaq::General,
     );
-    plus(sunrise, to_i64(round(adjustment * -60.0)))
+    to_i32(round(adjustment * -60.0))
 }
 
-// Whole seconds after sunset, and then the nearest minute.
+// Whole seconds from sunset.
+pub fn evening_twilight_seconds(latitude: f64, day: u32, year: u32, shafaq: Shafaq) -> i32
+    ensures { λ r. ⌜ r ≡ eveningSecondsOf latitude day year shafaq ⌝ }
+{
+    let adjustment = season_minutes(AdjustmentDaytime::Evening, latitude, day, year, shafaq);
+    to_i32(round(adjustment * 60.0))
+}
+
+pub fn season_adjusted_morning_twilight(latitude: f64, day: u32, year: u32, sunrise: i64) -> i64
+    ensures { λ r. ⌜ r ≡ seasonAdjustedMorningTwilightOf latitude day year sunrise ⌝ }
+{
+    plus(
+        sunrise,
+        morning_twilight_seconds(latitude, day, year) as i64,
+    )
+}
+
+// The evening's time alone goes on to the nearest minute.
 pub fn season_adjusted_evening_twilight(
     latitude: f64,
     day: u32,
@@ -181,7 +198,9 @@ pub fn season_adjusted_evening_twilight(
 ) -> i64
     ensures { λ r. ⌜ r ≡ seasonAdjustedEveningTwilightOf latitude day year sunset shafaq ⌝ }
 {
-    let adjustment = season_minutes(AdjustmentDaytime::Evening, latitude, day, year, shafaq);
-    let adjusted = plus(sunset, to_i64(round(adjustment * 60.0)));
+    let adjusted = plus(
+        sunset,
+        evening_twilight_seconds(latitude, day, year, shafaq) as i64,
+    );
     rounded_minute(adjusted, Rounding::Nearest)
 }
