@@ -157,7 +157,8 @@ fn season_minutes(
     twilight_adjustments(twilight_adjustment_values(daytime, latitude, shafaq), dyy)
 }
 
-// Whole seconds from sunrise, below 0 before it. The source casts to i64; from an i32 every later sum fits with nothing to refuse.
+// Whole seconds from sunrise, below 0 before it. The source casts to i64; from an i32 every later sum fits with nothing to refuse, and at every latitude and
+// on every day of a year the two casts give the same (morning-source and evening-source of specs/SeasonLaws).
 pub fn morning_twilight_seconds(latitude: f64, day: u32, year: u32) -> i32
     ensures { λ r. ⌜ r ≡ morningSecondsOf latitude day year ⌝ }
 {
