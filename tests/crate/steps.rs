@@ -8,13 +8,13 @@ use salah_plain::models::shafaq::Shafaq;
 #[repr(C)]
 struct LeafTime {
     found: bool,
-    seconds: i64,
+    seconds: i32,
 }
 
 // The library is linked with salah_leaves.
 #[rustfmt::skip]
 extern "C" {
-    fn leaf_setting_hour(value: f64, day: i32) -> LeafTime;
+    fn leaf_setting_hour(value: f64) -> LeafTime;
     fn leaf_days_since_solstice(day: u32, year: u32, latitude: f64) -> u32;
     fn leaf_morning_twilight(latitude: f64, day: u32, year: u32, sunrise: i64) -> i64;
     fn leaf_evening_twilight(latitude: f64, day: u32, year: u32, sunset: i64, shafaq: u32) -> i64;
@@ -45,9 +45,9 @@ pub fn steps(seed: u64, cases: u64) -> bool {
         (Count::default(), Count::default(), Count::default(), Count::default());
     for _ in 0..cases {
         let (value, day) = (draw.hour_number(), draw.day_number());
-        let ours = unsafe { leaf_setting_hour(value, day) };
+        let ours = unsafe { leaf_setting_hour(value) };
         let theirs = setting_hour(value, day);
-        let ours = if ours.found { Some(ours.seconds) } else { None };
+        let ours = if ours.found { Some(day as i64 * 86400 + ours.seconds as i64) } else { None };
         hours.add(ours == theirs, || format!("setting_hour {value:e} on day {day}: {ours:?}, the crate's {theirs:?}"));
 
         let (latitude, year, ordinal, seconds) = (draw.any_latitude(), draw.year(), draw.ordinal(), draw.instant());

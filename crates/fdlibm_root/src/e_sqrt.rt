@@ -8,7 +8,7 @@
 //      It is never a tie, since the square of s + 1/2 is not whole.
 //   3. certify.rt has a candidate for s, made by floats with no bound on their errors, and the exact difference of its square and
 //      m * 2^52 in whole numbers, which tells whether the candidate or a neighbour of it is s.
-//   4. Where neither is, in one of some 80,000 roots, digits.rt finds s one binary digit at a time.
+//   4. Where neither is, which is rare, digits.rt finds s one binary digit at a time.
 //   Both promise of s what step 2 says, and the proof takes no more of them: the result does not depend on the candidate.
 ghost use mathlib.Core.Path.{_≡_};
 ghost use Prim.Native.Nat.{_+_, _*_, _-_, _^_, _≤_, _<_};

@@ -1,11 +1,12 @@
 -- Which integers an i32 or an i64 holds, by their parts, and what the machine reads back of one that it holds. Assumes nothing.
-use mathlib.Core.Path.{_≡_}
+use mathlib.Core.Path.{_≡_, sym, subst, _∙_}
 use Prim.Native.Nat.{_^_, _≤_, _<_}
 use native.Mathlib.Omega.{arith}
 use lib.IntN.{ℤ, pos, negsuc}
-use mir.Syntax.{Width}
+use mir.Syntax.{Width, w32, w64}
 use mir.Val.{SFits, toZ, ofZ, hbits}
 use mir.ValLaws.{toZ-ofZ}
+use mir.Facts.{sfits-widen}
 use Rattle.integers.specs.Parts.{P, N}
 
 -- z is from -2 ^ h to 2 ^ h - 1, where h is the width less its sign bit: 31, 63
@@ -27,3 +28,10 @@ readBack w z = toZ w (ofZ w z)
 
 pub read : (w : Width) (z : ℤ) → SFits w z → readBack w z ≡ z
 read w z h = toZ-ofZ w z h
+
+-- an i32 as an i64: it fits, and nothing is lost
+pub wide : (z : ℤ) → SFits w32 z → SFits w64 (readBack w32 z)
+wide z h = subst (λ (x : ℤ). SFits w64 x) (sym (read w32 z h)) (sfits-widen tt h)
+
+pub read-wide : (z : ℤ) → SFits w32 z → readBack w64 (readBack w32 z) ≡ z
+read-wide z h = read w64 (readBack w32 z) (wide z h) ∙ read w32 z h

@@ -228,7 +228,7 @@ pub extern "C" fn leaf_afternoon_number(
 #[repr(C)]
 pub struct LeafTime {
     pub found: bool,
-    pub seconds: i64,
+    pub seconds: i32,
 }
 
 fn time(hour: SolarHour) -> LeafTime
@@ -246,12 +246,12 @@ fn time(hour: SolarHour) -> LeafTime
     }
 }
 
-// The time of an hour number on the day with a number.
+// The time of an hour number, in seconds from 0h of its date.
 #[no_mangle]
-pub extern "C" fn leaf_setting_hour(value: f64, day: i32) -> LeafTime
-    ensures { λ r. ⌜ r ≡ leafTimeOf (settingHourOf value day) ⌝ }
+pub extern "C" fn leaf_setting_hour(value: f64) -> LeafTime
+    ensures { λ r. ⌜ r ≡ leafTimeOf (settingHourOf value) ⌝ }
 {
-    time(setting_hour(value, day))
+    time(setting_hour(value))
 }
 
 #[no_mangle]

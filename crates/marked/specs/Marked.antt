@@ -14,7 +14,7 @@ use Rattle.float64.specs.Whole.{floorOf, roundOf}
 use Rattle.ops.specs.Season.{daysSinceSolsticeOf, southernOffsetOf}
 use Rattle.solar.specs.declared.setting.SolarHour.{SolarHour}
 use Rattle.solar.specs.declared.setting.SolarHour.the-variants.{At, None}
-use Rattle.solar.specs.Setting.{settingHourOf, instantOf, hourAdjustmentOf, minuteOf, atSecondOf}
+use Rattle.solar.specs.Setting.{settingHourOf, hourOf, hourAdjustmentOf, minuteOf}
 
 -- the latitudes of a place on the equator, which counts as northern, and of one south of it
 abbrev north : Float
@@ -23,7 +23,7 @@ north = dec 0 0
 abbrev south : Float
 south = neg (dec 1 0)
 
--- an hour number of day 0 that gives a time, and one that gives none
+-- an hour number that gives a time, in seconds from 0h of the date, and one that gives none
 abbrev gives : SolarHour → ℤ → Bool
 gives (At s) t = leZ s t && leZ t s
 gives None t = false
@@ -33,10 +33,10 @@ misses (At s) = false
 misses None = true
 
 abbrev at : Float → ℤ → Bool
-at x t = gives (settingHourOf x (pos 0)) t
+at x t = gives (settingHourOf x) t
 
 abbrev none : Float → Bool
-none x = misses (settingHourOf x (pos 0))
+none x = misses (settingHourOf x)
 
 unfoldable pub marked : List Bool
 marked =
@@ -49,7 +49,7 @@ marked =
     eqb (daysSinceSolsticeOf 171 2025 south) 364 ∷
     eqb (daysSinceSolsticeOf 172 2025 south) 365 ∷
     eqb (daysSinceSolsticeOf 365 2025 south) 558 ∷
-    -- setting_hour on day 0: 05:30, yesterday 23:30, tomorrow 00:15, yesterday 00:00, and three that have no time
+    -- setting_hour: 05:30, yesterday 23:30, tomorrow 00:15, yesterday 00:00, and three that have no time
     at (dec 55 1) (pos 19800) ∷
     at (neg (dec 5 1)) (negsuc 1799) ∷
     at (dec 2425 2) (pos 87300) ∷
@@ -64,5 +64,5 @@ all [] = true
 all (t ∷ ts) = t && all ts
 
 pub all-hold : T (all marked)
-unfolding marked all settingHourOf instantOf hourAdjustmentOf minuteOf atSecondOf isNormalOf floorOf roundOf toUnsigned dec round ofBits eq le lt add sub mul div neg ofInt toSigned dateJulianDayOf julianDayOf fromMarchOf yearProductOf monthProductOf correctionOf toI32Of daysSinceSolsticeOf southernOffsetOf daysInYearOf leapOf
+unfolding marked all settingHourOf hourOf hourAdjustmentOf minuteOf isNormalOf floorOf roundOf toUnsigned dec round ofBits eq le lt add sub mul div neg ofInt toSigned dateJulianDayOf julianDayOf fromMarchOf yearProductOf monthProductOf correctionOf toI32Of daysSinceSolsticeOf southernOffsetOf daysInYearOf leapOf
 all-hold = tt

@@ -84,19 +84,19 @@ abbrev pub minutesOf : AdjustmentDaytime → Float → ℕ → ℕ → Shafaq �
 minutesOf daytime latitude day year shafaq =
     twilightAdjustmentsOf (twilightAdjustmentValuesOf daytime latitude shafaq) (ofInt binary64 (pos (daysSinceSolsticeOf day year latitude)))
 
--- whole seconds from sunrise, half a second away from zero: below 0 before it
+-- Whole seconds before sunrise and after sunset, half a second away from zero. The source casts to an i64; no latitude of a place comes
+-- near the end of an i32.
 unfoldable pub morningSecondsOf : Float → ℕ → ℕ → ℤ
 unfolding dec
 morningSecondsOf latitude day year = toSigned 31 (roundOf (minutesOf Morning latitude day year General *ᶠ neg (dec 60 0)))
 
--- and from sunset
 unfoldable pub eveningSecondsOf : Float → ℕ → ℕ → Shafaq → ℤ
 unfolding dec
 eveningSecondsOf latitude day year shafaq = toSigned 31 (roundOf (minutesOf Evening latitude day year shafaq *ᶠ dec 60 0))
 
-unfoldable pub seasonAdjustedMorningTwilightOf : Float → ℕ → ℕ → ℤ → ℤ
+abbrev pub seasonAdjustedMorningTwilightOf : Float → ℕ → ℕ → ℤ → ℤ
 seasonAdjustedMorningTwilightOf latitude day year sunrise = satOf (sunrise +ℤ morningSecondsOf latitude day year)
 
--- the evening's time alone goes on to the nearest minute
-unfoldable pub seasonAdjustedEveningTwilightOf : Float → ℕ → ℕ → ℤ → Shafaq → ℤ
+-- the evening's is itself rounded to the nearest minute
+abbrev pub seasonAdjustedEveningTwilightOf : Float → ℕ → ℕ → ℤ → Shafaq → ℤ
 seasonAdjustedEveningTwilightOf latitude day year sunset shafaq = satOf (roundedOf Nearest (satOf (sunset +ℤ eveningSecondsOf latitude day year shafaq)))

@@ -157,8 +157,7 @@ fn season_minutes(
     twilight_adjustments(twilight_adjustment_values(daytime, latitude, shafaq), dyy)
 }
 
-// Whole seconds from sunrise, below 0 before it. The source casts to i64; from an i32 every later sum fits with nothing to refuse, and at every latitude and
-// on every day of a year the two casts give the same (morning-source and evening-source of specs/SeasonLaws).
+// Whole seconds from sunrise to the bound of Fajr, which are negative.
 pub fn morning_twilight_seconds(latitude: f64, day: u32, year: u32) -> i32
     ensures { λ r. ⌜ r ≡ morningSecondsOf latitude day year ⌝ }
 {
@@ -172,7 +171,7 @@ pub fn morning_twilight_seconds(latitude: f64, day: u32, year: u32) -> i32
     to_i32(round(adjustment * -60.0))
 }
 
-// Whole seconds from sunset.
+// Whole seconds from sunset to the bound of Isha.
 pub fn evening_twilight_seconds(latitude: f64, day: u32, year: u32, shafaq: Shafaq) -> i32
     ensures { λ r. ⌜ r ≡ eveningSecondsOf latitude day year shafaq ⌝ }
 {
@@ -189,7 +188,7 @@ pub fn season_adjusted_morning_twilight(latitude: f64, day: u32, year: u32, sunr
     )
 }
 
-// The evening's time alone goes on to the nearest minute.
+// Rounded to the nearest minute.
 pub fn season_adjusted_evening_twilight(
     latitude: f64,
     day: u32,

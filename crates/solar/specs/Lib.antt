@@ -1,4 +1,4 @@
 pub mod Coordinates
 pub mod Hours
 pub mod Setting
-pub mod Suns
+pub mod Times

@@ -1,7 +1,7 @@
--- solar.rs: an hour number as a time of a date, in seconds from 1970-01-01 0h UTC. The day is the date's number.
+-- solar.rs: an hour number as a time, in seconds from 0h of its date.
 use Prim.Native.Nat.{ℕ, _+_, _*_}
 use mathlib.Core.Bool.{cond}
-use lib.IntN.{ℤ, pos, _+ℤ_, _-ℤ_, _*ℤ_}
+use lib.IntN.{pos, _-ℤ_}
 use lib.Dec.{ltb}
 use lib.Ieee.{Float, lt, toUnsigned}
 use Rattle.float64.specs.Ops.{_+ᶠ_, _-ᶠ_, _*ᶠ_, _/ᶠ_, dec}
@@ -27,19 +27,15 @@ minuteOf value hours =
     let seconds = floorOf ((value -ᶠ (hours +ᶠ minutes /ᶠ dec 60 0)) *ᶠ dec 60 0 *ᶠ dec 60 0) in
     toUnsigned 32 (roundOf (minutes +ᶠ seconds /ᶠ dec 60 0))
 
--- n seconds after 0h of the day before
-unfoldable pub atSecondOf : ℤ → ℕ → ℤ
-atSecondOf day n = day *ℤ pos 86400 -ℤ pos 86400 +ℤ pos n
-
 -- minute 60 adds an hour, and a sum of 24 or more has no time
-unfoldable pub instantOf : ℤ → Placed → ℕ → SolarHour
-instantOf day p minute =
+unfoldable pub hourOf : Placed → ℕ → SolarHour
+hourOf p minute =
     cond (ltb minute 60)
-    (cond (ltb (p .hour) 24) (At (atSecondOf day (p .ahead * 86400 + p .hour * 3600 + minute * 60))) None)
-    (cond (ltb (p .hour) 23) (At (atSecondOf day (p .ahead * 86400 + (p .hour + 1) * 3600))) None)
+    (cond (ltb (p .hour) 24) (At (pos (p .ahead * 86400 + p .hour * 3600 + minute * 60) -ℤ pos 86400)) None)
+    (cond (ltb (p .hour) 23) (At (pos (p .ahead * 86400 + (p .hour + 1) * 3600) -ℤ pos 86400)) None)
 
 -- what is not normal (NaN, infinite, zero, subnormal) has no time
-unfoldable pub settingHourOf : Float → ℤ → SolarHour
-settingHourOf value day =
+unfoldable pub settingHourOf : Float → SolarHour
+settingHourOf value =
     let hours = floorOf value in
-    cond (isNormalOf value) (instantOf day (hourAdjustmentOf hours) (minuteOf value hours)) None
+    cond (isNormalOf value) (hourOf (hourAdjustmentOf hours) (minuteOf value hours)) None

@@ -3,4 +3,4 @@
 pub mod coordinates;
 pub mod hours;
 pub mod setting;
-pub mod suns;
+pub mod times;

@@ -1,13 +1,14 @@
-// solar.rs: an hour number as a time of a date. The date is given by its day number, and the time in seconds from 1970-01-01 0h UTC.
+// solar.rs: an hour number as a time, in seconds from 0h of its date. An i32 holds them, so that no sum of them needs an end of a range.
 ghost use mathlib.Core.Path.{_≡_};
-ghost use Rattle.solar.specs.Setting.{hourAdjustmentOf, minuteOf, atSecondOf, instantOf, settingHourOf};
+ghost use Rattle.solar.specs.Setting.{hourAdjustmentOf, minuteOf, hourOf, settingHourOf};
 use float64::casts::to_u32;
 use float64::sizes::is_normal;
 use float64::whole::floor;
 use float64::whole::round;
 
 pub enum SolarHour {
-    At(i64),
+    // Below 0 yesterday's, from 86,400 on tomorrow's.
+    At(i32),
     None,
 }
 
@@ -50,40 +51,32 @@ fn minute(value: f64, calculated_hours: f64) -> u32
     to_u32(round(calculated_minutes + calculated_seconds / 60.0))
 }
 
-// n seconds after 0h of the day before.
-fn at_second(day: i32, n: u32) -> i64
-    ensures { λ r. ⌜ r ≡ atSecondOf day n ⌝ }
-{
-    (day as i64) * 86400 - 86400 + (n as i64)
-}
-
-fn instant(day: i32, p: Placed, minute: u32) -> SolarHour
-    ensures { λ r. ⌜ r ≡ instantOf day p minute ⌝ }
+fn hour(p: Placed, minute: u32) -> SolarHour
+    ensures { λ r. ⌜ r ≡ hourOf p minute ⌝ }
 {
     let ahead = p.ahead;
     let hour = p.hour;
     if minute < 60 {
         if hour < 24 {
-            return SolarHour::At(at_second(
-                day,
-                (ahead as u32) * 86400 + hour * 3600 + minute * 60,
-            ));
+            let n = (ahead as u32) * 86400 + hour * 3600 + minute * 60;
+            return SolarHour::At(n as i32 - 86400);
         }
         return SolarHour::None;
     }
     if hour < 23 {
-        return SolarHour::At(at_second(day, (ahead as u32) * 86400 + (hour + 1) * 3600));
+        let n = (ahead as u32) * 86400 + (hour + 1) * 3600;
+        return SolarHour::At(n as i32 - 86400);
     }
     SolarHour::None
 }
 
 // The time of an hour number, where it has one.
-pub fn setting_hour(value: f64, day: i32) -> SolarHour
-    ensures { λ r. ⌜ r ≡ settingHourOf value day ⌝ }
+pub fn setting_hour(value: f64) -> SolarHour
+    ensures { λ r. ⌜ r ≡ settingHourOf value ⌝ }
 {
     if is_normal(value) {
         let hours = floor(value);
-        return instant(day, hour_adjustment(hours), minute(value, hours));
+        return hour(hour_adjustment(hours), minute(value, hours));
     }
     SolarHour::None
 }

@@ -1,4 +1,4 @@
-use mir.Syntax.{w64}
+use mir.Syntax.{w32}
 use mir.Val.{SFits}
 use mir.Facts.{toZ-ofZ}
 use Rattle.leaves.specs.Leaves.{leafTimeOf}
@@ -9,7 +9,7 @@ use Rattle.leaves.proofs.time.Tie as tie
 returns : tie.Need-returns
 unfolding leafTimeOf
 returns c =
-    let f0 : SFits w64 (c .before .hour .given .0 .0) = search needs in
+    let f0 : SFits w32 (c .before .hour .given .0 .0) = search needs in
     simp (toZ-ofZ f0, c .before .hour .given .1)
 
 returns-2 : tie.Need-returns-2

@@ -17,4 +17,5 @@ returns c =
     k ∙ c .to-i32 .ensures ∙ ap (toSigned 31) (c .before .round .ensures ∙ m)
 
 pub evening-twilight-seconds-spec : {M : Type 1} → statement M
-evening-twilight-seconds-spec = tie.close (tie.spec (λ c κs. search needs) (λ c κs. search needs) (λ c κs. search needs) returns)
+evening-twilight-seconds-spec =
+    tie.close (tie.spec (λ c κs. tt) (λ c κs. tt) (λ c κs. tt) returns)

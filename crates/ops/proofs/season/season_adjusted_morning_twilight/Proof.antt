@@ -1,28 +1,26 @@
 use mathlib.Core.Path.{_≡_, ap, _∙_}
 use mir.Syntax.{w32, w64}
 use mir.Val.{SFits}
-use Rattle.integers.specs.Ranges.{readBack, read}
+use Rattle.integers.specs.Ranges.{readBack, read, wide, read-wide}
 use Rattle.integers.specs.Sums.{summands}
 use Rattle.stride.specs.Times.{satOf}
-use Rattle.stride.proofs.Wide.{wide-fits, wide-read}
-use Rattle.ops.specs.Season.{seasonAdjustedMorningTwilightOf}
 use borrow.Author.Needs.{needs}
 use Rattle.ops.proofs.season.season_adjusted_morning_twilight.Statement.{statement}
 use Rattle.ops.proofs.season.season_adjusted_morning_twilight.Tie as tie
 
 cast-plus : tie.Need-cast-plus
-cast-plus c = let f : SFits w32 (c .morning-twilight-seconds .result) = search needs in wide-fits (c .morning-twilight-seconds .result) f
+cast-plus c =
+    let f : SFits w32 (c .morning-twilight-seconds .result) = search needs in
+    wide (c .morning-twilight-seconds .result) f
 
 returns : tie.Need-returns
-unfolding seasonAdjustedMorningTwilightOf
 returns c =
     let t = c .before .before in
-    let s = c .before .morning-twilight-seconds in
-    let f : SFits w32 (s .result) = search needs in
+    let z = c .before .morning-twilight-seconds .result in
+    let f : SFits w32 z = search needs in
     let k : readBack w64 (c .plus .result) ≡ c .plus .result = search needs in
-    k ∙ c .plus .ensures ∙ ap satOf (summands (read w64 (t .args .sunrise) (t .fits .sunrise)) (wide-read (s .result) f ∙ s .ensures))
+    k ∙ c .plus .ensures ∙ ap satOf (summands (read w64 (t .args .sunrise) (t .fits .sunrise)) (read-wide z f ∙ c .before .morning-twilight-seconds .ensures))
 
 pub season-adjusted-morning-twilight-spec : {M : Type 1} → statement M
 season-adjusted-morning-twilight-spec =
-    tie.close
-    (tie.spec (λ c κs. search needs) cast-plus (λ c κs. search needs) returns)
+    tie.close (tie.spec (λ c κs. tt) cast-plus (λ c κs. tt) returns)

@@ -1,25 +1,25 @@
-use Rattle.solar.proofs.Instants as steps
-use mathlib.Core.Path.{_≡_}
-use mir.Syntax.{w32}
-use mir.Val.{toZ, ofZ}
-use borrow.Author.Needs.{needs}
+use mathlib.Core.Path.{sym}
+use Rattle.solar.specs.Setting.{settingHourOf}
 use Rattle.solar.proofs.setting.setting_hour.Statement.{statement}
 use Rattle.solar.proofs.setting.setting_hour.Tie as tie
 
 returns : tie.Need-returns
-returns c = let s = c .before .before .before .before .before .before .args in let d : toZ w32 (ofZ w32 (s .day)) ≡ s .day = search needs in steps.has-time (s .value) (s .day) (c .before .before .before .before .before .is-normal .result) (c .before .before .before .before .before .is-normal .ensures) (c .instant .result) _ (c .before .before .before .floor .result) (c .before .before .hour-adjustment .result) (c .before .minute .result) (c .before .before .before .before .if1 .taken) (c .before .before .before .floor .ensures) (c .before .before .hour-adjustment .ensures) (c .before .minute .ensures) d (c .instant .ensures)
+unfolding settingHourOf
+returns c =
+    let e0 = c .hour .ensures in
+    let e1 = c .before .minute .ensures in
+    let e2 = c .before .before .hour-adjustment .ensures in
+    let e3 = c .before .before .before .floor .ensures in
+    let e4 = c .before .before .before .before .before .is-normal .ensures in
+    simp (sym e0, sym e1, sym e2, sym e3, sym e4, c .before .before .before .before .if1 .taken)
 
 returns-2 : tie.Need-returns-2
-returns-2 c = steps.no-time (c .before .before .args .value) (c .before .before .args .day) (c .before .is-normal .result) (c .before .is-normal .ensures) (c .if1 .left)
+unfolding settingHourOf
+returns-2 c =
+    let e0 = c .before .is-normal .ensures in
+    simp (sym e0, c .if1 .left)
 
 pub setting-hour-spec : {M : Type 1} → statement M
 setting-hour-spec =
     tie.close
-    (tie.spec
-    (λ c κs. tt)
-    (λ c κs. tt)
-    (λ c κs. tt)
-    (λ c κs. tt)
-    (λ c κs. tt)
-    returns
-    returns-2)
+    (tie.spec (λ c κs. tt) (λ c κs. tt) (λ c κs. tt) (λ c κs. tt) (λ c κs. tt) returns returns-2)

@@ -1,22 +1,22 @@
-use mir.Syntax.{w64}
+use mir.Syntax.{w32}
 use mir.Val.{SFits}
 use mir.Facts.{toZ-ofZ}
-use Rattle.solar.specs.Suns.{daySunOf}
+use Rattle.solar.specs.Times.{dayOf}
 use borrow.Author.Needs.{needs}
-use Rattle.solar.proofs.suns.day_sun.Statement.{statement}
-use Rattle.solar.proofs.suns.day_sun.Tie as tie
+use Rattle.solar.proofs.times.day.Statement.{statement}
+use Rattle.solar.proofs.times.day.Tie as tie
 
 returns : tie.Need-returns
-unfolding daySunOf
+unfolding dayOf
 returns c = simp (c .enum-told .given .1)
 
 returns-2 : tie.Need-returns-2
-unfolding daySunOf
+unfolding dayOf
 returns-2 c =
     simp (c .enum-told2 .given .1, c .before .before .before .transit .given .1)
 
 returns-3 : tie.Need-returns-3
-unfolding daySunOf
+unfolding dayOf
 returns-3 c =
     simp (
       c .enum-told3 .given .1,
@@ -25,11 +25,11 @@ returns-3 c =
     )
 
 returns-4 : tie.Need-returns-4
-unfolding daySunOf
+unfolding dayOf
 returns-4 c =
-    let f0 : SFits w64 (c .before .before .before .before .before .before .before .transit .given .0 .0) = search needs in
-    let f1 : SFits w64 (c .before .before .before .before .sunrise .given .0 .0) = search needs in
-    let f2 : SFits w64 (c .before .sunset .given .0 .0) = search needs in
+    let f0 : SFits w32 (c .before .before .before .before .before .before .before .transit .given .0 .0) = search needs in
+    let f1 : SFits w32 (c .before .before .before .before .sunrise .given .0 .0) = search needs in
+    let f2 : SFits w32 (c .before .sunset .given .0 .0) = search needs in
     simp (
       toZ-ofZ f0,
       toZ-ofZ f1,
@@ -39,7 +39,7 @@ returns-4 c =
       c .before .before .before .before .before .before .before .transit .given .1,
     )
 
-pub day-sun-spec : {M : Type 1} → statement M
-day-sun-spec =
+pub day-spec : {M : Type 1} → statement M
+day-spec =
     tie.close
     (tie.spec (λ c. search needs) (λ c. search needs) returns (λ c. search needs) (λ c. search needs) returns-2 (λ c. search needs) (λ c. search needs) returns-3 returns-4)

@@ -1,7 +1,7 @@
-use Rattle.solar.specs.Suns.{firstLackOf}
+use Rattle.solar.specs.Times.{firstLackOf}
 use borrow.Author.Needs.{needs}
-use Rattle.solar.proofs.suns.first_lack.Statement.{statement}
-use Rattle.solar.proofs.suns.first_lack.Tie as tie
+use Rattle.solar.proofs.times.first_lack.Statement.{statement}
+use Rattle.solar.proofs.times.first_lack.Tie as tie
 
 returns : tie.Need-returns
 unfolding firstLackOf

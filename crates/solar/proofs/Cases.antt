@@ -1,0 +1,36 @@
+-- The arithmetic of `hour` at what the machine reads, and its two times. Assumes nothing.
+use mathlib.Core.Path.{_≡_, sym, ap, subst, _∙_}
+use Prim.Native.Nat.{ℕ, _+_, _*_, _≤_, _<_}
+use native.Mathlib.Omega.{arith}
+use lib.IntN.{ℤ, pos, negsuc, _-ℤ_}
+use lib.Dec.{ltb}
+use borrow.Author.Tests.{lt-ltb, le-ltb}
+use mir.Syntax.{w32}
+use mir.Val.{SFits, toZ, ofZ}
+use Rattle.integers.specs.Sums.{sum}
+use Rattle.integers.specs.Ranges.{fits, read}
+use Rattle.solar.specs.Setting.{hourOf}
+use Rattle.solar.specs.declared.setting.SolarHour.the-variants.{At}
+use Rattle.solar.specs.declared.setting.Placed.{Placed}
+
+-- a day before the second n
+module _ (n : ℕ) (h : n < 2147483648) where
+  n-is : toZ w32 n ≡ pos n
+  n-is = read w32 (pos n) (record { sfits = omega arith })
+
+  pub back-fits : SFits w32 (toZ w32 n -ℤ pos 86400)
+  back-fits =
+      let s = sum (pos n) (negsuc 86399) in
+      subst (λ (z : ℤ). SFits w32 (z -ℤ pos 86400)) (sym n-is) (fits w32 (pos n -ℤ pos 86400) (omega arith) (omega arith))
+
+  pub back : toZ w32 (ofZ w32 (toZ w32 n -ℤ pos 86400)) ≡ pos n -ℤ pos 86400
+  back = read w32 (toZ w32 n -ℤ pos 86400) back-fits ∙ ap (λ (z : ℤ). z -ℤ pos 86400) n-is
+
+module _ (p : Placed) (minute : ℕ) where
+  pub on-hour : minute < 60 → p .hour < 24 → At (pos (p .ahead * 86400 + p .hour * 3600 + minute * 60) -ℤ pos 86400) ≡ hourOf p minute
+  unfolding hourOf
+  on-hour h k = rw (lt-ltb minute 60 h, lt-ltb (p .hour) 24 k)
+
+  pub next-hour : 60 ≤ minute → p .hour < 23 → At (pos (p .ahead * 86400 + (p .hour + 1) * 3600) -ℤ pos 86400) ≡ hourOf p minute
+  unfolding hourOf
+  next-hour h k = rw (le-ltb minute 60 h, lt-ltb (p .hour) 23 k)

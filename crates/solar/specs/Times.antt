@@ -1,0 +1,42 @@
+-- solar.rs: the times of a day's transit, sunrise and sunset, or the number of the first that it lacks; the first lack of three days; and the
+-- times of an angle and of Asr. All in seconds from 0h of the day's date.
+use Prim.Native.Nat.{ℕ}
+use mathlib.Core.Bool.{Bool}
+use lib.Ieee.{Float}
+use Rattle.models.specs.declared.refusal.Refusal.{Refusal}
+use Rattle.ops.specs.declared.transit.Course.{Course}
+use Rattle.unit.specs.declared.Angle.{Angle}
+use Rattle.solar.specs.declared.hours.HourNumbers.{HourNumbers}
+use Rattle.solar.specs.declared.setting.SolarHour.{SolarHour}
+use Rattle.solar.specs.declared.setting.SolarHour.the-variants.{At, None}
+use Rattle.solar.specs.declared.times.SolarTime.{SolarTime}
+use Rattle.solar.specs.declared.times.SolarDay.{SolarDay}
+use Rattle.solar.specs.declared.times.SolarDay.the-variants.{Whole, Lacks}
+use Rattle.solar.specs.Hours.{angleNumberOf, afternoonNumberOf}
+use Rattle.solar.specs.Setting.{settingHourOf}
+
+-- no transit is 6, no sunrise 7, no sunset 8, tried in that order
+unfoldable pub dayOf : SolarHour → SolarHour → SolarHour → SolarDay
+dayOf None sunrise sunset = Lacks 6
+dayOf (At t) None sunset = Lacks 7
+dayOf (At t) (At r) None = Lacks 8
+dayOf (At t) (At r) (At s) = Whole (record { transit = t; sunrise = r; sunset = s })
+
+unfoldable pub solarTimeOf : HourNumbers → SolarDay
+solarTimeOf n = dayOf (settingHourOf (n .transit)) (settingHourOf (n .sunrise)) (settingHourOf (n .sunset))
+
+abbrev pub timeForSolarAngleOf : Course → Angle → Bool → SolarHour
+timeForSolarAngleOf course angle after = settingHourOf (angleNumberOf course angle after)
+
+abbrev pub afternoonOf : Course → Float → Float → SolarHour
+afternoonOf course latitude shadow = settingHourOf (afternoonNumberOf course latitude shadow)
+
+abbrev pub refusal : ℕ → ℕ → Refusal
+refusal number place = record { number = number; place = place }
+
+-- days 0, 1 and 2, tried in that order; 0 where none lacks anything
+unfoldable pub firstLackOf : SolarDay → SolarDay → SolarDay → Refusal
+firstLackOf (Lacks n) b c = refusal n 0
+firstLackOf (Whole x) (Lacks n) c = refusal n 1
+firstLackOf (Whole x) (Whole y) (Lacks n) = refusal n 2
+firstLackOf (Whole x) (Whole y) (Whole z) = refusal 0 0
