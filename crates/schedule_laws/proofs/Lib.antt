@@ -1,0 +1,4 @@
+pub mod Spans
+pub mod SunSpans
+pub mod RangeLaws
+pub mod CarriedLaws
