@@ -2,3 +2,4 @@ pub mod Spans
 pub mod SunSpans
 pub mod RangeLaws
 pub mod CarriedLaws
+pub mod LaterLaws
