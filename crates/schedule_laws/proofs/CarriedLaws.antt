@@ -1,7 +1,7 @@
 -- The parameters that an order carries are those of specs/Carried: each method's preset is one, and stays one where the tags set their fields in
 -- range. Assumes nothing.
 use mathlib.Core.Path.{_≡_, refl, sym, subst}
-use Prim.Native.Nat.{ℕ, _≤_}
+use Prim.Native.Nat.{ℕ, _^_, _≤_}
 use native.Mathlib.Omega.{arith}
 use lib.Dec.{lit≤}
 use lib.IntN.{pos}
@@ -18,8 +18,9 @@ use Rattle.models.specs.declared.rounding.Rounding.{Rounding}
 use Rattle.models.specs.declared.rounding.Rounding.the-variants.{Nearest, Up}
 use Rattle.models.specs.Minutes.{noMinutes}
 use Rattle.models.specs.Presets.{preset, presetOf, offset}
-use Rattle.models.specs.Settings.{minutesFor}
-use Rattle.schedule.specs.Rooms.{Near}
+use Rattle.models.specs.Settings.{minutesFor, timeAdjustmentsOf}
+use Rattle.schedule.specs.Rooms.{Near, near-more}
+use Rattle.schedule.specs.TwilightLaws.{sum-near}
 use Rattle.schedule_laws.specs.Carried.{AngleInOrder, Carried}
 
 -- six minutes in range
@@ -79,3 +80,7 @@ still-carried p q c e f i v own =
       own = own;
       preset = λ (prayer : Prayer). subst (λ (m : TimeAdjustment). Near 7 (minutesFor prayer m)) (sym e) (c .preset prayer);
     }
+
+-- their sums are such that the laws of later minutes hold of them
+pub carried-held : (p : Parameters) → Carried p → (prayer : Prayer) → Near (2 ^ 32) (timeAdjustmentsOf p prayer)
+carried-held p c prayer = near-more 727 (2 ^ 32) (timeAdjustmentsOf p prayer) (lit≤ tt) (sum-near 720 7 p prayer (c .own prayer) (c .preset prayer))

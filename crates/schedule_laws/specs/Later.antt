@@ -1,7 +1,8 @@
--- Two sets of parameters that differ only in a school's own minutes (demand 3): what the second's larger sums do to the days that are refused and to
--- the nine times. For all hour numbers, every date and every latitude. Proved in proofs/LaterLaws.
+-- Two sets of parameters that differ only in a school's own minutes (demand 3): what the second's larger sums do to the days that are refused, to
+-- the nine times and to the prayer in force. For all hour numbers, every date and every latitude. Proved in proofs/LaterLaws.
 use mathlib.Core.Path.{_≡_}
-use Prim.Native.Nat.{_^_}
+use mathlib.Core.Logic.{_⊎_}
+use Prim.Native.Nat.{ℕ, _^_, _≤_, _<_}
 use lib.IntN.{ℤ, pos, _+ℤ_, _-ℤ_, _*ℤ_}
 use lib.Ieee.{Float}
 use Rattle.integers.specs.Order.{_≼_}
@@ -11,12 +12,17 @@ use Rattle.models.specs.declared.parameters.Parameters.{Parameters}
 use Rattle.models.specs.declared.prayer.Prayer.{Prayer}
 use Rattle.models.specs.declared.prayer.Prayer.the-variants.{Fajr, Sunrise, Dhuhr, Asr, Maghrib, Isha}
 use Rattle.models.specs.declared.refusal.Refusal.{Refusal}
+use Rattle.models.specs.Numbers.{prayerNumberOf}
 use Rattle.models.specs.Settings.{timeAdjustmentsOf}
 use Rattle.schedule.specs.declared.hours.RowNumbers.{RowNumbers}
+use Rattle.schedule.specs.declared.in_force.Instant.{Instant}
+use Rattle.schedule.specs.declared.in_force.Current.{Current}
+use Rattle.schedule.specs.declared.in_force.Current.the-variants.{Some, None}
 use Rattle.schedule.specs.declared.prayer_times.PrayerTimes.{PrayerTimes}
 use Rattle.schedule.specs.declared.prayer_times.Worked.{Worked}
 use Rattle.schedule.specs.declared.prayer_times.Worked.the-variants.{Times, Refused}
 use Rattle.schedule.specs.Hours.{hoursOf}
+use Rattle.schedule.specs.InForce.{nanosecondsOf, currentTimeOf}
 use Rattle.schedule.specs.Rooms.{Near}
 use Rattle.schedule.specs.Times.{workedOf}
 
@@ -70,6 +76,20 @@ pub record ExactlyLater (p q : Parameters) (t u : PrayerTimes) : Type 0 where
   pub isha : u .isha ≡ t .isha +ℤ laterBy p q Isha
   pub «fajr_tomorrow» : u .«fajr_tomorrow» ≡ t .«fajr_tomorrow» +ℤ laterBy p q Fajr
 
+-- ---- "the prayer in force .. stands no later in the list of eight .. ("none" standing before Fajr)"
+abbrev pub placeOf : Current → ℕ
+placeOf None = 0
+placeOf (Some prayer) = prayerNumberOf prayer
+
+-- an instant is not after another, by the nanoseconds to both
+abbrev pub NotAfter : Instant → Instant → Type 0
+NotAfter j i = nanosecondsOf j ≼ nanosecondsOf i
+
+-- which is the order by whole seconds, then nanoseconds, since an instant's nanoseconds are less than a second
+abbrev pub NotAfterByParts : Type 0
+NotAfterByParts =
+    (j i : Instant) → j .nanoseconds < 1000000000 → (j .seconds +ℤ pos 1 ≼ i .seconds) ⊎ ((j .seconds ≡ i .seconds) × (j .nanoseconds ≤ i .nanoseconds)) → NotAfter j i
+
 -- ---- demand 3 of one day, w under the first and v under the second
 pub record Moved (p q : Parameters) (w v : Worked) : Type 0 where
   -- the same days are refused, with the same number and place
@@ -78,6 +98,7 @@ pub record Moved (p q : Parameters) (w v : Worked) : Type 0 where
   -- on every other day
   pub «none_earlier» : (t u : PrayerTimes) → w ≡ Times t → v ≡ Times u → NoneEarlier t u
   pub «exactly_later» : (t u : PrayerTimes) → w ≡ Times t → v ≡ Times u → ExactlyLater p q t u
+  pub «in_force» : (t u : PrayerTimes) → w ≡ Times t → v ≡ Times u → (i j : Instant) → NotAfter j i → placeOf (currentTimeOf u j) ≤ placeOf (currentTimeOf t i)
 
 abbrev pub LaterMinutesMoveTheDay : Type 0
 LaterMinutesMoveTheDay =

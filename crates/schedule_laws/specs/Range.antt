@@ -15,7 +15,7 @@ use Rattle.schedule.specs.Hours.{hoursOf}
 use Rattle.schedule.specs.Times.{startOf, workedOf}
 use Rattle.schedule_laws.specs.Carried.{LatitudeInOrder, Carried}
 
--- from 4 days before 0h of the date on, and before the end of the fifth day from there
+-- from 4 days before 0h of the date to before 5 days after it
 pub record OfDate (date : Date) (time : ℤ) : Type 0 where
   pub from : N (time -ℤ startOf date) ≤ 4 * 86400
   pub before : P (time -ℤ startOf date) < 5 * 86400
