@@ -1,5 +1,5 @@
 -- What a school's later minutes do to a day: the statement of specs/Later. Assumes nothing.
-use mathlib.Core.Path.{_≡_, sym, subst}
+use mathlib.Core.Path.{_≡_, refl, sym, ap, subst, _∙_}
 use Prim.Native.Nat.{ℕ, _^_}
 use native.Mathlib.Omega.{arith}
 use lib.Ieee.{Float}
@@ -13,14 +13,16 @@ use Rattle.models.specs.Settings.{timeAdjustmentsOf}
 use Rattle.solar.specs.declared.times.SolarDay.{SolarDay}
 use Rattle.solar.specs.declared.times.SolarDay.the-variants.{Whole, Lacks}
 use Rattle.solar.specs.Times.{solarTimeOf}
+use Rattle.unit.specs.declared.Coordinates.{Coordinates}
 use Rattle.schedule.specs.declared.hours.RowHours.{RowHours}
 use Rattle.schedule.specs.declared.hours.RowNumbers.{RowNumbers}
 use Rattle.schedule.specs.declared.prayer_times.PrayerTimes.{PrayerTimes}
 use Rattle.schedule.specs.declared.prayer_times.Worked.the-variants.{Times, Refused}
 use Rattle.schedule.specs.Hours.{hoursOf}
+use Rattle.schedule.specs.Numbers.{fajrNumberOf, ishaNumberOf, asrNumberOf, numbersOf}
 use Rattle.schedule.specs.Rooms.{Near}
 use Rattle.schedule.specs.Times.{workedFrom, workedOf}
-use Rattle.schedule_laws.specs.Later.{withMinutes, NoneEarlier, ExactlyLater, NotAfter, Moved, LaterMinutesMoveTheDay}
+use Rattle.schedule_laws.specs.Later.{withMinutes, NoneEarlier, ExactlyLater, NotAfter, Moved, LaterMinutesMoveTheDay, LaterMinutesMoveTheRow}
 use Rattle.schedule_laws.proofs.Spans.{BetweenHour}
 use Rattle.schedule_laws.proofs.SunSpans.{DaySpan, hour-span, day-span}
 use Rattle.schedule.specs.declared.in_force.Instant.{Instant}
@@ -80,3 +82,15 @@ later-minutes-move-the-day n date latitude p q h =
     latitude
     date
     n)
+
+-- ---- from date and place on
+numbers-alike : (date : Date) (place : Coordinates) (p : Parameters) (minutes : TimeAdjustment) → numbersOf date place (withMinutes p minutes) ≡ numbersOf date place p
+unfolding numbersOf fajrNumberOf asrNumberOf ishaNumberOf
+numbers-alike date place p minutes = refl
+
+pub later-minutes-move-the-row : LaterMinutesMoveTheRow
+later-minutes-move-the-row date place p q h =
+    let n = numbersOf date place p in
+    let e : numbersOf date place q ≡ n = ap (numbersOf date place) (sym (h .alike)) ∙ numbers-alike date place p (q .adjustments) in
+    subst (λ (m : RowNumbers). Moved p q (workedOf (hoursOf n) date (place .latitude) p) (workedOf (hoursOf m) date (place .latitude) q)) (sym e)
+    (later-minutes-move-the-day n date (place .latitude) p q h)

@@ -14,6 +14,7 @@ use Rattle.models.specs.declared.prayer.Prayer.the-variants.{Fajr, Sunrise, Dhu
 use Rattle.models.specs.declared.refusal.Refusal.{Refusal}
 use Rattle.models.specs.Numbers.{prayerNumberOf}
 use Rattle.models.specs.Settings.{timeAdjustmentsOf}
+use Rattle.unit.specs.declared.Coordinates.{Coordinates}
 use Rattle.schedule.specs.declared.hours.RowNumbers.{RowNumbers}
 use Rattle.schedule.specs.declared.in_force.Instant.{Instant}
 use Rattle.schedule.specs.declared.in_force.Current.{Current}
@@ -23,6 +24,7 @@ use Rattle.schedule.specs.declared.prayer_times.Worked.{Worked}
 use Rattle.schedule.specs.declared.prayer_times.Worked.the-variants.{Times, Refused}
 use Rattle.schedule.specs.Hours.{hoursOf}
 use Rattle.schedule.specs.InForce.{nanosecondsOf, currentTimeOf}
+use Rattle.schedule.specs.Numbers.{numbersOf}
 use Rattle.schedule.specs.Rooms.{Near}
 use Rattle.schedule.specs.Times.{workedOf}
 
@@ -104,3 +106,10 @@ abbrev pub LaterMinutesMoveTheDay : Type 0
 LaterMinutesMoveTheDay =
     (n : RowNumbers) (date : Date) (latitude : Float) (p q : Parameters) → LaterMinutes p q
     → Moved p q (workedOf (hoursOf n) date latitude p) (workedOf (hoursOf n) date latitude q)
+
+-- from date and place on: the minutes change no hour number
+abbrev pub rowOf : Date → Coordinates → Parameters → Worked
+rowOf date place p = workedOf (hoursOf (numbersOf date place p)) date (place .latitude) p
+
+abbrev pub LaterMinutesMoveTheRow : Type 0
+LaterMinutesMoveTheRow = (date : Date) (place : Coordinates) (p q : Parameters) → LaterMinutes p q → Moved p q (rowOf date place p) (rowOf date place q)
