@@ -5,3 +5,4 @@ pub mod CarriedLaws
 pub mod InForceLaws
 pub mod Moves
 pub mod LaterLaws
+pub mod StartLaws

@@ -87,7 +87,8 @@ placeOf (Some prayer) = prayerNumberOf prayer
 abbrev pub NotAfter : Instant → Instant → Type 0
 NotAfter j i = nanosecondsOf j ≼ nanosecondsOf i
 
--- which is the order by whole seconds, then nanoseconds, since an instant's nanoseconds are less than a second
+-- which is the order by whole seconds, then nanoseconds, since an instant's nanoseconds are less than a second: j's whole seconds are fewer, or the same
+-- and its nanoseconds no more
 abbrev pub NotAfterByParts : Type 0
 NotAfterByParts =
     (j i : Instant) → j .nanoseconds < 1000000000 → (j .seconds +ℤ pos 1 ≼ i .seconds) ⊎ ((j .seconds ≡ i .seconds) × (j .nanoseconds ≤ i .nanoseconds)) → NotAfter j i
