@@ -3,7 +3,7 @@ use mir.Syntax.{w64}
 use Rattle.integers.specs.Ranges.{readBack}
 use Rattle.schedule.specs.declared.in_force.Current.the-variants.{Some}
 use Rattle.schedule.proofs.Due as due
-use mathlib.Core.Path.{_≡_, sym, ap, _∙_}
+use mathlib.Core.Path.{_≡_, refl, sym, ap, _∙_}
 use Prim.Native.Nat.{_≤_, _-_}
 use native.Mathlib.Omega.{arith}
 use borrow.Author.Needs.{needs}
