@@ -17,7 +17,7 @@ abbrev pub longest : List ℕ
 longest = 0 ∷ 40 ∷ 4 ∷ 1 ∷ 8 ∷ 8 ∷ 1 ∷ 1 ∷ 1 ∷ 1 ∷ 1 ∷ 12 ∷ 8 ∷ 8 ∷ 2 ∷ []
 
 abbrev pub lastTag : ℕ
-lastTag = 14
+lastTag = length shortest - 1
 
 unfoldable pub knownTag : ℕ → Bool
 knownTag tag = leb 1 tag && leb tag lastTag

@@ -3,15 +3,27 @@
 use native.Mathlib.Omega.{arith}
 use Prim.Native.Nat.{ℕ, zero, suc, _≤_, _<_, _+_, _-_}
 use mathlib.Core.Path.{_≡_, refl, sym, ap, _∙_}
-use mathlib.Core.Bool.{Bool, true, false, cond, not}
+use mathlib.Core.Bool.{Bool, true, false, cond, not, _&&_, and-eq-true-iff}
 use mathlib.Core.List.{List, []}
-use lib.ListN.{length, take, drop, length-take, length-drop, drop-of-length-le}
+use lib.ListN.{length, getD, take, drop, length-take, length-drop, drop-of-length-le}
 use lib.Seq.{take-nil}
-use lib.Dec.{ltb, eqb}
-use borrow.Author.Tests.{lt-ltb, eq-eqb, ltb-true, ltb-false, eqb-true, eqb-false}
+use lib.Dec.{ltb, leb, eqb}
+use borrow.Author.Tests.{lt-ltb, eq-eqb, ltb-true, ltb-false, leb-true, eqb-true, eqb-false}
 use Rattle.fields.specs.Numbers.{byteOf}
-use Rattle.fields.specs.Fields.{knownTag, lengthFits, lengthAt, after, firstBefore, faultOf, refusal, walkOf, checkOf}
+use Rattle.fields.specs.Fields.{shortest, longest, lastTag, knownTag, lengthFits, lengthAt, after, firstBefore, faultOf, refusal, walkOf, checkOf}
 use Rattle.fields.specs.Values.{offsetOf, hasOf, valueOf}
+
+-- the table's limits
+pub fits-between : (tag n : ℕ) → lengthFits tag n ≡ true → (getD shortest tag 0 ≤ n) × (n ≤ getD longest tag 0)
+unfolding lengthFits
+fits-between tag n e = go (ltb lastTag tag) e
+  where
+    go : (b : Bool) → cond b false (leb (getD shortest tag 0) n && leb n (getD longest tag 0)) ≡ true
+        → (getD shortest tag 0 ≤ n) × (n ≤ getD longest tag 0)
+    go true e = let z : _≡_ {A = ℕ} 0 1 = cc in absurd (omega arith)
+    go false e =
+        let h = and-eq-true-iff (leb (getD shortest tag 0) n) (leb n (getD longest tag 0)) .0 e in
+        (leb-true (getD shortest tag 0) n (h .0), leb-true n (getD longest tag 0) (h .1))
 
 -- a field that is not refused
 pub record Good (s : List ℕ) (at : ℕ) : Type 0 where

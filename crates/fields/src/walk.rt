@@ -1,5 +1,5 @@
-// The walk over an order's fields: the first one whose form is broken, by number and offset. A repeated tag is found by looking back
-// over the fields passed; an order has few enough that this costs less than keeping a list of them.
+// The walk over an order's fields: the first one whose form is broken, by number and offset. A repeated tag is found by looking again over
+// the fields before it, which are never more than there are tags, so the walk keeps nothing but its offset.
 ghost use mathlib.Core.Path.{_≡_};
 ghost use Prim.Native.Nat.{_≤_, _<_};
 ghost use lib.ListN.{length};
@@ -10,9 +10,9 @@ use models::refusal::Refusal;
 
 const LONGEST_ORDER: usize = 1024;
 
+// The table of tags: by tag, the shortest and the longest value. There is no tag 0. A new tag is a new entry of each and a new last tag.
 const LAST_TAG: u32 = 14;
 
-// By tag, the shortest and the longest value. There is no tag 0.
 const SHORTEST: [usize; 15] = [1, 1, 4, 1, 8, 8, 1, 1, 1, 1, 1, 12, 8, 8, 2];
 
 const LONGEST: [usize; 15] = [0, 40, 4, 1, 8, 8, 1, 1, 1, 1, 1, 12, 8, 8, 2];
