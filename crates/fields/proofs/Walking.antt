@@ -24,7 +24,8 @@ unfolding firstBefore
 find-none zero s tag at stop h = refl
 find-none (suc k) s tag at stop h = simp (le-ltb _ _ h)
 
-pub walk-stop : (k : ℕ) (s : List ℕ) (at n : ℕ) → length s ≤ at + k → at < length s → n ≡ faultOf s at → (n ≡ 0 → ⊥) → walkOf k s at ≡ refusal n at
+pub walk-stop : (k : ℕ) (s : List ℕ) (at n : ℕ) → length s ≤ at + k → at < length s → n ≡ faultOf s at → (n ≡ 0 → ⊥)
+    → walkOf k s at ≡ refusal n at
 unfolding walkOf
 walk-stop zero s at n h l e f = absurd (omega arith)
 walk-stop (suc k) s at n h l e f = rw e (simp (lt-ltb _ _ l, ne-eqb (faultOf s at) 0 (λ q. f (omega arith))))

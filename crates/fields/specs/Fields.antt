@@ -34,8 +34,8 @@ lengthAt s at = unsignedOf s (at + 1)
 abbrev pub after : List ℕ → ℕ → ℕ
 after s at = at + 3 + lengthAt s at
 
--- The fields from an offset on are gone through by recursion on how many of them there can be, k; a field has three bytes at least, so
--- there are never more than the order has bytes.
+-- A field says itself where the next one begins, so the fields from an offset on are gone through by recursion on how many there can be, k.
+-- Each begins three bytes or more after the one before, so there are never more than the order has bytes, and `length s` of them are all.
 
 -- the offset of the first field with the tag, from at on and before stop; stop where there is none
 unfoldable pub firstBefore : ℕ → List ℕ → ℕ → ℕ → ℕ → ℕ
@@ -46,10 +46,15 @@ firstBefore (suc k) s tag at stop =
 -- "field by field: header cut, unknown tag, tag again, wrong length, value cut": what the field at an offset is refused by, or 0
 unfoldable pub faultOf : List ℕ → ℕ → ℕ
 faultOf s at =
+    -- header cut
     cond (ltb (length s - at) 3) 1
+    -- unknown tag
     (cond (not (knownTag (byteOf s at))) 2
+    -- tag again
     (cond (ltb (firstBefore (length s) s (byteOf s at) 0 at) at) 3
+    -- wrong length
     (cond (not (lengthFits (byteOf s at) (lengthAt s at))) 2
+    -- value cut
     (cond (ltb (length s - at - 3) (lengthAt s at)) 1 0))))
 
 abbrev pub refusal : ℕ → ℕ → Refusal
@@ -61,6 +66,7 @@ walkOf zero s at = refusal 0 0
 walkOf (suc k) s at =
     cond (ltb at (length s)) (cond (eqb (faultOf s at) 0) (walkOf k s (after s at)) (refusal (faultOf s at) at)) (refusal 0 0)
 
--- "Order of checks: length over 1,024; then field by field". Number 0 where nothing is refused.
+-- "Order of checks: length over 1,024; then field by field"; 1 is "over 1,024 bytes, or a field cut", 2 "unknown tag, wrong length",
+-- 3 "tag a second time", each with "its offset, or 0". Number and place are 0 where nothing is refused.
 unfoldable pub checkOf : List ℕ → Refusal
 checkOf s = cond (ltb 1024 (length s)) (refusal 1 0) (walkOf (length s) s 0)

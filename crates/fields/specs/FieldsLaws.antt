@@ -93,6 +93,15 @@ check-walk s e = go (ltb 1024 (length s)) e
     go true e = absurd (omega arith)
     go false e = e
 
+-- it is no longer than 1,024 bytes
+pub check-short : (s : List ℕ) → checkOf s .number ≡ 0 → length s ≤ 1024
+unfolding checkOf
+check-short s e = go (ltb 1024 (length s)) refl e
+  where
+    go : (b : Bool) → ltb 1024 (length s) ≡ b → cond b (refusal 1 0) (walkOf (length s) s 0) .number ≡ 0 → length s ≤ 1024
+    go true h e = absurd (omega arith)
+    go false h e = ltb-false 1024 (length s) h
+
 -- the field of a tag that a checked order has
 pub has-good : (s : List ℕ) (tag : ℕ) → checkOf s .number ≡ 0 → hasOf s tag ≡ true
     → Good s (offsetOf s tag) × (byteOf s (offsetOf s tag) ≡ tag)

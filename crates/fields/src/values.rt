@@ -1,14 +1,12 @@
 // The value of a tag, as the part of the order that it is. Any bytes are answered, so a reader that has checked an order, and one that
 // has not, need no proof to ask.
 ghost use mathlib.Core.Path.{_≡_};
-ghost use Prim.Native.Nat.{_≤_};
-ghost use lib.ListN.{length};
 ghost use Rattle.fields.specs.Values.{offsetOf, hasOf, valueOf};
 use super::walk::first_before;
 use super::walk::length_at;
 
 // The offset of the tag's field, or the order's length where it has none.
-fn offset(order: &[u8], tag: u32) -> usize
+pub fn offset(order: &[u8], tag: u32) -> usize
     ensures { λ r. ⌜ r ≡ offsetOf (now (order .entry)) tag ⌝ }
 {
     first_before(order, tag, order.len())

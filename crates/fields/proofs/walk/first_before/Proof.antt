@@ -1,4 +1,5 @@
--- `fields::walk::first_before` meets its contract. The invariant: what the definition finds from here on, with enough fields left to pass, is what it finds from the start.
+-- `fields::walk::first_before` meets its contract. The invariant: what the definition finds from here on, with enough fields left to
+-- pass, is what it finds from the start.
 use borrow.Author.Needs.{needs}
 use native.Mathlib.Omega.{arith}
 use Prim.Native.Nat.{ℕ, _≤_, _+_, _-_}

@@ -1,4 +1,5 @@
--- `fields::walk::walk` meets its contract. The invariant: what the definition answers from here on, with enough fields left to pass, is what it answers from the start.
+-- `fields::walk::walk` meets its contract. The invariant: what the definition answers from here on, with enough fields left to
+-- pass, is what it answers from the start.
 use borrow.Author.Needs.{needs}
 use native.Mathlib.Omega.{arith}
 use Prim.Native.Nat.{ℕ, _≤_, _+_, _-_}
