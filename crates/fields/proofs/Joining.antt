@@ -1,0 +1,44 @@
+-- Laws of the numbers that bytes write: a byte put behind others by a shift, and sixteen bits with a sign in an i32.
+use native.Mathlib.Omega.{arith}
+use Prim.Native.Nat.{ℕ, _≤_, _<_, _+_, _*_, _^_, _%_}
+use native.Mathlib.Nat.{mod-eq-of-lt, lt-of-lt-of-le}
+use native.Mathlib.Numerals.{add-one}
+use mathlib.Core.Path.{_≡_, sym, ap, _∙_}
+use mathlib.Core.List.{List}
+use lib.Pow.{pow-mono, pow-add}
+use lib.Bits.{bitOr, or-shifted}
+use lib.IntN.{pos, _-ℤ_}
+use borrow.Author.Tests.{lt-ltb, le-ltb}
+use mir.Syntax.{w32}
+use mir.Val.{toZ, ofZ, SFits}
+use mir.Facts.{toZ-pos, toZ-ofZ}
+use Rattle.fields.specs.Numbers.{byteOf, unsignedOf, signedOf, joinedOf}
+
+pub join-on : (v : List ℕ) (i : ℕ) → joinedOf (i + 1) v ≡ joinedOf i v * 256 + byteOf v i
+unfolding joinedOf
+join-on v i = rw add-one
+
+-- a shift by a byte and an or put a byte behind fewer than eight
+pub shift-in : (x b i : ℕ) → i < 8 → x < 2 ^ (8 * i) → b < 256 → bitOr (x * 2 ^ 8 % 2 ^ 64) b ≡ x * 256 + b
+shift-in x b i h l s =
+    let small : x < 2 ^ 56 = lt-of-lt-of-le l (pow-mono {j = 56} (omega arith)) in
+    let kept : x * 2 ^ 8 % 2 ^ 64 ≡ x * 2 ^ 8 = mod-eq-of-lt (omega arith) in
+    rw kept (or-shifted x 8 b s)
+
+pub shift-room : (x b i : ℕ) → x < 2 ^ (8 * i) → b < 256 → x * 256 + b < 2 ^ (8 * (i + 1))
+shift-room x b i l s =
+    let e : 2 ^ (8 * i) * 256 ≡ 2 ^ (8 * (i + 1)) = sym (pow-add 2 (8 * i) 8) ∙ ap (λ (n : ℕ). 2 ^ n) (omega arith) in
+    rw (sym e) (omega arith)
+
+-- sixteen bits less 65,536 fit
+pub less-fits : (x : ℕ) → x < 65536 → SFits w32 (toZ w32 x -ℤ pos 65536)
+less-fits x h = rw (toZ-pos w32 {n = x} (omega arith)) (rw (lt-ltb x 65536 h) (record { sfits = omega arith }))
+
+module _ (v : List ℕ) (at x : ℕ) (is-x : x ≡ unsignedOf v at) where
+  pub signed-low : x < 32768 → toZ w32 x ≡ signedOf v at
+  unfolding signedOf
+  signed-low h = toZ-pos w32 {n = x} (omega arith) ∙ simp (sym is-x, lt-ltb _ _ h)
+
+  pub signed-high : x < 65536 → 32768 ≤ x → toZ w32 (ofZ w32 (toZ w32 x -ℤ pos 65536)) ≡ signedOf v at
+  unfolding signedOf
+  signed-high u h = toZ-ofZ (less-fits x u) ∙ rw (toZ-pos w32 {n = x} (omega arith)) (simp (sym is-x, le-ltb _ _ h))

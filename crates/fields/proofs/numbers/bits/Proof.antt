@@ -1,0 +1,43 @@
+-- `fields::numbers::bits` meets its contract. The invariant: x is the number of the bytes passed, and has no more bits than they.
+use borrow.Author.Needs.{needs}
+use native.Mathlib.Omega.{arith}
+use Prim.Native.Nat.{ℕ, _≤_, _<_, _-_, _*_, _^_}
+use mathlib.Core.Path.{_≡_, ap, _∙_}
+use denote.Ref.{now}
+use Rattle.fields.specs.Numbers.{joinedOf, bitsOf}
+use Rattle.fields.proofs.Joining.{join-on, shift-in, shift-room}
+use Rattle.fields.proofs.numbers.bits.Statement.{statement}
+use Rattle.fields.proofs.numbers.bits.Tie as tie
+
+abbrev Inv-loop : tie.InvT-loop
+Inv-loop bytes x₀ i₀ x i = (i ≤ 8) × (x ≡ joinedOf i bytes) × (x < 2 ^ (8 * i))
+
+abbrev μ-loop : tie.MeasureT-loop
+μ-loop bytes x₀ i₀ x i = 8 - i
+
+loop-holds : tie.Need-loop-holds Inv-loop μ-loop
+unfolding joinedOf
+loop-holds c = search needs
+
+loop-again : tie.Need-loop-again Inv-loop μ-loop
+loop-again c =
+    let l = c .before .before .loop in
+    let v = now (c .before .before .before .before .args .bytes) in
+    let s = shift-in (l .x) (c .byte .result) (l .i) (omega arith) (l .inv .2) (c .byte .ensures .1) in (
+      omega arith,
+      rw (s, join-on v (l .i)) (omega arith),
+      rw s (shift-room (l .x) (c .byte .result) (l .i) (l .inv .2) (c .byte .ensures .1)),
+    )
+
+returns : tie.Need-returns Inv-loop μ-loop
+unfolding bitsOf
+returns c =
+    let l = c .before .loop in
+    let v = now (c .before .before .before .args .bytes) in
+    let e : l .i ≡ 8 = omega arith in
+    l .inv .1 ∙ ap (λ (n : ℕ). joinedOf n v) e
+
+pub bits-spec : {M : Type 1} → statement M
+bits-spec =
+    tie.close
+    (tie.spec Inv-loop μ-loop loop-holds (λ c κs. search needs) (λ c. search needs) (λ c. search needs) (λ c. search needs) loop-again returns)

@@ -1,0 +1,27 @@
+-- `fields::numbers::unsigned` meets its contract: past the end both bytes are 0.
+use native.Mathlib.Omega.{arith}
+use Prim.Native.Nat.{_+_}
+use mathlib.Core.Path.{_≡_}
+use lib.ListN.{getD, List·getD-eq-default}
+use Rattle.fields.specs.Numbers.{unsignedOf}
+use borrow.Author.Needs.{needs}
+use Rattle.fields.proofs.numbers.unsigned.Statement.{statement}
+use Rattle.fields.proofs.numbers.unsigned.Tie as tie
+
+returns : tie.Need-returns
+unfolding unsignedOf
+returns c = search needs
+
+returns-2 : tie.Need-returns-2
+unfolding unsignedOf
+returns-2 c =
+    let v = c .before .before .args .bytes .now in
+    let a = c .before .before .args .at in
+    let low : getD v a 0 ≡ 0 = List·getD-eq-default v 0 (c .if1 .left) in
+    let high : getD v (a + 1) 0 ≡ 0 = List·getD-eq-default v 0 (omega arith) in
+    (simp (low, high), search needs)
+
+pub unsigned-spec : {M : Type 1} → statement M
+unsigned-spec =
+    tie.close
+    (tie.spec (λ c κs. search needs) (λ c. search needs) (λ c. search needs) (λ c κs. search needs) (λ c. search needs) returns returns-2)

@@ -1,0 +1,20 @@
+-- `fields::walk::check` meets its contract: the walk asks that the order is no longer than 1,024 bytes.
+use borrow.Author.Tests.{lt-ltb, le-ltb}
+use mathlib.Core.Path.{sym}
+use Rattle.fields.specs.Fields.{checkOf}
+use borrow.Author.Needs.{needs}
+use Rattle.fields.proofs.walk.check.Statement.{statement}
+use Rattle.fields.proofs.walk.check.Tie as tie
+
+returns : tie.Need-returns
+unfolding checkOf
+returns c = simp (lt-ltb _ _ (c .if1 .taken))
+
+returns-2 : tie.Need-returns-2
+unfolding checkOf
+returns-2 c =
+    let e0 = c .walk .ensures in
+    simp (sym e0, le-ltb _ _ (c .before .if1 .left))
+
+pub check-spec : {M : Type 1} → statement M
+check-spec = tie.close (tie.spec returns (λ c κs. search needs) returns-2)

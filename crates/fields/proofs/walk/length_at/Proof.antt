@@ -1,0 +1,12 @@
+-- `fields::walk::length_at` meets its contract.
+use Rattle.fields.specs.Fields.{lengthAt}
+use borrow.Author.Needs.{needs}
+use Rattle.fields.proofs.walk.length_at.Statement.{statement}
+use Rattle.fields.proofs.walk.length_at.Tie as tie
+
+returns : tie.Need-returns
+unfolding lengthAt
+returns c = search needs
+
+pub length-at-spec : {M : Type 1} → statement M
+length-at-spec = tie.close (tie.spec (λ c. search needs) (λ c κs. tt) (λ c. search needs) returns)

@@ -1,0 +1,44 @@
+-- `fields::walk::walk` meets its contract. The invariant: what the definition answers from here on, with enough fields left to
+-- pass, is what it answers from the start.
+use borrow.Author.Needs.{needs}
+use native.Mathlib.Omega.{arith}
+use Prim.Native.Nat.{ℕ, _≤_, _+_, _-_}
+use mathlib.Core.Path.{_≡_, refl, sym, _∙_}
+use lib.ListN.{length}
+use Rattle.fields.specs.Fields.{walkOf}
+use Rattle.fields.proofs.Walking.{walk-stop, walk-on, walk-end}
+use Rattle.fields.proofs.walk.walk.Statement.{statement}
+use Rattle.fields.proofs.walk.walk.Tie as tie
+
+abbrev Inv-loop : tie.InvT-loop
+Inv-loop order at₀ at =
+    (k : ℕ) × (length order ≤ at + k) × (walkOf k order at ≡ walkOf (length order) order 0)
+
+abbrev μ-loop : tie.MeasureT-loop
+μ-loop order at₀ at = length order - at
+
+loop-holds : tie.Need-loop-holds Inv-loop μ-loop
+loop-holds c = (length (c .before .args .order .now), omega arith, refl)
+
+returns : tie.Need-returns Inv-loop μ-loop
+returns c =
+    let h = c .before .before .before .loop .inv in
+    let s = c .before .before .before .before .before .args .order .now in
+    sym (walk-stop (h .0) s (c .before .before .before .loop .at) (c .before .fault .result) (h .1) (c .before .before .loop-test .taken) (c .before .fault .ensures) (c .if1 .taken)) ∙ h .2
+
+loop-again : tie.Need-loop-again Inv-loop μ-loop
+loop-again c =
+    let h = c .before .before .before .before .loop .inv in
+    let s = c .before .before .before .before .before .before .args .order .now in
+    let on = walk-on (h .0) s (c .before .before .before .before .loop .at) (c .before .before .fault .result) (h .1) (c .before .before .before .loop-test .taken) (c .before .before .fault .ensures) (c .before .if1 .left) in
+    (on .0, omega (arith, on .1, h .1), rw (c .length-at .ensures .0) (sym (on .2) ∙ h .2))
+
+returns-2 : tie.Need-returns-2 Inv-loop μ-loop
+returns-2 c =
+    let h = c .before .loop .inv in
+    sym (walk-end (h .0) (c .before .before .before .args .order .now) (c .before .loop .at) (c .loop-test .left)) ∙ h .2
+
+pub walk-spec : {M : Type 1} → statement M
+walk-spec =
+    tie.close
+    (tie.spec Inv-loop μ-loop loop-holds (λ c κs. search needs) (λ c. search needs) returns (λ c. search needs) (λ c κs. search needs) (λ c. search needs) (λ c. search needs) loop-again returns-2)

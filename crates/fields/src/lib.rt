@@ -1,0 +1,5 @@
+// The bytes of an order as fields (added): which bytes break the fields' form, where a tag's value stands, and what numbers its bytes
+// write. What a value may say, and what an order without a tag means, is not decided here.
+pub mod numbers;
+pub mod values;
+pub mod walk;

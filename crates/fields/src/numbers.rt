@@ -1,0 +1,60 @@
+// The numbers that bytes write, high byte first. A byte past the end counts as 0, so every call has an answer and no caller has an index to prove.
+ghost use mathlib.Core.Path.{_≡_};
+ghost use Prim.Native.Nat.{_<_};
+ghost use Rattle.fields.specs.Numbers.{byteOf, unsignedOf, signedOf, bitsOf, floatOf};
+use float64::bits::from_bits;
+
+pub fn byte(bytes: &[u8], at: usize) -> u32
+    ensures { λ r. ⌜ r ≡ byteOf (now (bytes .entry)) at ⌝ }
+    ensures { λ r. ⌜ r < 256 ⌝ }
+{
+    if at < bytes.len() {
+        bytes[at] as u32
+    } else {
+        0
+    }
+}
+
+// The two bytes from an offset on.
+pub fn unsigned(bytes: &[u8], at: usize) -> u32
+    ensures { λ r. ⌜ r ≡ unsignedOf (now (bytes .entry)) at ⌝ }
+    ensures { λ r. ⌜ r < 65536 ⌝ }
+{
+    if at < bytes.len() {
+        byte(bytes, at) * 256 + byte(bytes, at + 1)
+    } else {
+        0
+    }
+}
+
+// The same two bytes, as a number with a sign.
+pub fn signed(bytes: &[u8], at: usize) -> i32
+    ensures { λ r. ⌜ r ≡ signedOf (now (bytes .entry)) at ⌝ }
+{
+    let x = unsigned(bytes, at);
+    if x < 32768 {
+        x as i32
+    } else {
+        x as i32 - 65536
+    }
+}
+
+// The first eight bytes.
+pub fn bits(bytes: &[u8]) -> u64
+    ensures { λ r. ⌜ r ≡ bitsOf (now (bytes .entry)) ⌝ }
+{
+    let mut x: u64 = 0;
+    let mut i = 0;
+    while i < 8 {
+        x = (x << 8) | byte(bytes, i) as u64;
+        i = i + 1;
+    }
+    x
+}
+
+// The float whose bit pattern is the first eight bytes.
+pub fn float(bytes: &[u8]) -> f64
+    ensures { λ r. ⌜ r ≡ floatOf (now (bytes .entry)) ⌝ }
+{
+    from_bits(bits(bytes))
+}
