@@ -14,6 +14,7 @@ use lib.Ieee.Fits.{down-pos, and-l}
 use lib.Ieee.Order.{round-mono, transfer}
 use lib.Ieee.Positive.{first-pos}
 use Rattle.float64.specs.Sizes.{absOf}
+use Rattle.float64.specs.Words.{signOf}
 use Rattle.float64.proofs.Values.{big, dyadic-value}
 
 -- finite, and no more than a / c in size
@@ -21,6 +22,12 @@ abbrev pub Within : Float → ℕ → ℕ → Type 0
 Within nan a c = ⊥
 Within (inf s) a c = ⊥
 Within (fin s m e) a c = m * up e * c ≤ a * down e
+
+-- no NaN, and with the sign s
+abbrev pub Signed : Bool → Float → Type 0
+Signed s nan = ⊥
+Signed s (inf t) = t ≡ s
+Signed s (fin t m e) = t ≡ s
 
 pub value-within : (x : Float) (s : Bool) (a c : ℕ) → HasValue x s a c → Within x a c
 value-within nan s a c v = absurd v
@@ -39,6 +46,13 @@ abs-within nan a c h = h
 abs-within (inf s) a c h = h
 abs-within (fin s m e) a c h = h
 
+-- what has a size has a sign
+pub within-signed : (x : Float) (a c : ℕ) → Within x a c → Signed (signOf x) x
+unfolding signOf
+within-signed nan a c h = absurd h
+within-signed (inf s) a c h = absurd h
+within-signed (fin s m e) a c h = refl
+
 -- a wider bound
 pub widen : (x : Float) (a b c : ℕ) → a ≤ b → Within x a c → Within x b c
 widen nan a b c l h = h
@@ -51,12 +65,6 @@ odd-neg : (d q k l : ℕ) → odd d true q k l ≡ neg (odd d false q k l)
 unfolding odd neg
 odd-neg d zero k l = refl
 odd-neg d (suc q) k l = refl
-
--- no NaN, and with the sign s
-abbrev pub Signed : Bool → Float → Type 0
-Signed s nan = ⊥
-Signed s (inf t) = t ≡ s
-Signed s (fin t m e) = t ≡ s
 
 -- `round`'s last step
 module _ (a b : ℕ) where
@@ -202,3 +210,36 @@ add-within (fin s m e) (fin t n d) a b h k p = by-sign s t
 pub sub-within : (x y : Float) (a b : ℕ) → Within x a 1 → Within y b 1 → a + b < big → Within (sub binary64 x y) (a + b) 1
 unfolding sub
 sub-within x y a b h k p = add-within x (neg y) a b h (neg-within y b 1 k) p
+
+-- the difference of two whole numbers that are no more than c apart
+pub apart-within : (x y : Float) (a b c : ℕ) → HasValue x false a 1 → HasValue y false b 1 → a ≤ b + c → b ≤ a + c → c < big → Within (sub binary64 x y) c 1
+unfolding sub neg add sum
+apart-within nan y a b c v w h k p = absurd v
+apart-within (inf s) y a b c v w h k p = absurd v
+apart-within (fin s m e) nan a b c v w h k p = absurd w
+apart-within (fin s m e) (inf t) a b c v w h k p = absurd w
+apart-within (fin true m e) (fin t n d) a b c v w h k p = absurd (true≢false (v .0))
+apart-within (fin false m e) (fin true n d) a b c v w h k p = absurd (true≢false (w .0))
+apart-within (fin false m e) (fin false n d) a b c v w h k p = by-test (ltb A B)
+  where
+    A : ℕ
+    A = m * up e * down d
+
+    B : ℕ
+    B = n * up d * down e
+
+    D : ℕ
+    D = down e * down d
+
+    a-is : A ≡ a * D
+    a-is = ap (λ (z : ℕ). z * down d) (sym (mul-one (m * up e)) ∙ v .1) ∙ mul-assoc a (down e) (down d)
+
+    b-is : B ≡ b * D
+    b-is = ap (λ (z : ℕ). z * down e) (sym (mul-one (n * up d)) ∙ w .1) ∙ mul-assoc b (down d) (down e) ∙ ap (λ (z : ℕ). b * z) (mul-comm (down d) (down e))
+
+    at : (u : Bool) (q : ℕ) → q ≤ c * D → Within (round binary64 u q D) c 1
+    at u q l = round-within q D c 0 (mul-pos (down-pos e) (down-pos d)) p (lit≤ tt) (omega arith) u
+
+    by-test : (t : Bool) → Within (cond t (round binary64 true (B - A) D) (round binary64 (false && ltb B A) (A - B) D)) c 1
+    by-test true = at true (B - A) (let i = a-is in let j = b-is in omega (arith, add-mul a c D, mul-le-mul-right D k))
+    by-test false = at (false && ltb B A) (A - B) (let i = a-is in let j = b-is in omega (arith, add-mul b c D, mul-le-mul-right D h))

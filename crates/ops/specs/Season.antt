@@ -85,7 +85,7 @@ minutesOf daytime latitude day year shafaq =
     twilightAdjustmentsOf (twilightAdjustmentValuesOf daytime latitude shafaq) (ofInt binary64 (pos (daysSinceSolsticeOf day year latitude)))
 
 -- Whole seconds before sunrise and after sunset, half a second away from zero. The source casts to an i64; no latitude of a place comes
--- near the end of an i32.
+-- near the end of an i32 (SeasonLaws).
 unfoldable pub morningSecondsOf : Float → ℕ → ℕ → ℤ
 unfolding dec
 morningSecondsOf latitude day year = toSigned 31 (roundOf (minutesOf Morning latitude day year General *ᶠ neg (dec 60 0)))

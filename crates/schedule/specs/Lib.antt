@@ -2,3 +2,4 @@ pub mod Hours
 pub mod Twilight
 pub mod Rooms
 pub mod TwilightLaws
+pub mod Times

@@ -27,6 +27,9 @@ Near n z = (P z ≤ n) × (N z ≤ n)
 pub near-more : (m n : ℕ) (z : ℤ) → m ≤ n → Near m z → Near n z
 near-more m n z l h = (omega (arith, h .0), omega (arith, h .1))
 
+pub near-as : (n : ℕ) (z w : ℤ) → z ≡ w → Near n w → Near n z
+near-as n z w e h = subst (Near n) (sym e) h
+
 pub near-sum : (m n : ℕ) (x y : ℤ) → Near m x → Near n y → Near (m + n) (x +ℤ y)
 near-sum m n x y a b = let s = sum x y in (omega (arith, a .0, b .0), omega (arith, a .1, b .1))
 

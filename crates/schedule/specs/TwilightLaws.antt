@@ -6,23 +6,19 @@ use lib.IntN.{ℤ, pos, negsuc, _+ℤ_, _-ℤ_, _*ℤ_}
 use lib.Signed.{ltZ, mag}
 use lib.Ieee.{Float, toSigned}
 use lib.Ieee.Casts.{toSigned-in}
-use mir.Syntax.{w32}
-use mir.Val.{SFits}
 use Rattle.integers.specs.Sums.{times}
 use Rattle.calendar.specs.Days.{ordinalOf}
 use Rattle.calendar.specs.declared.dates.Date.{Date}
 use Rattle.models.specs.declared.parameters.Parameters.{Parameters}
 use Rattle.models.specs.declared.rounding.Rounding.the-variants.{Nearest}
-use Rattle.models.specs.declared.adjustments.TimeAdjustment.{TimeAdjustment}
 use Rattle.models.specs.declared.prayer.Prayer.{Prayer}
-use Rattle.models.specs.declared.prayer.Prayer.the-variants.{Fajr, Sunrise, Dhuhr, Asr, Maghrib, Isha, Qiyam, FajrTomorrow}
 use Rattle.models.specs.Settings.{nightPortionsOf, minutesFor, timeAdjustmentsOf}
 use Rattle.stride.specs.Times.{roundedOf}
 use Rattle.night.specs.Portions.{portionBeforeOf, portionAfterOf, seventhOf}
 use Rattle.ops.specs.Season.{morningSecondsOf, eveningSecondsOf}
 use Rattle.solar.specs.declared.setting.SolarHour.{SolarHour}
 use Rattle.solar.specs.declared.times.SolarTime.{SolarTime}
-use Rattle.schedule.specs.Rooms.{Near, NearHour, near-more, near-sum, near-difference, near-either, near-later, near-earlier, near-or, near-rounded, near-hour-more, near-i32}
+use Rattle.schedule.specs.Rooms.{Near, NearHour, near-more, near-sum, near-difference, near-either, near-later, near-earlier, near-or, near-rounded, near-hour-more}
 use Rattle.schedule.specs.Twilight.{nightOf, nextDayOf, bySeasonOf, bySeventhOf, orOf, beforeSunriseOf, fajrBoundOf, unadjustedFajrOf, ishaBoundOf, boundedIshaOf, unadjustedIshaOf}
 
 pub night-near : (s : ℕ) (today next : SolarTime) → Near s (today .sunset) → Near s (next .sunrise) → Near (s + 86400 + s) (nightOf today next)
@@ -30,14 +26,7 @@ unfolding nightOf
 night-near s today next h k =
     near-difference (s + 86400) s (nextDayOf (next .sunrise)) (today .sunset) (near-sum s 86400 (next .sunrise) (pos 86400) k (omega arith, omega arith)) h
 
--- ---- whatever the sun's times and the parameters are
-abbrev pub roomy : ℕ
-roomy = 2 ^ 31 + 86400 + 2 ^ 31
-
-pub night-roomy : (today next : SolarTime) → SFits w32 (today .sunset) → SFits w32 (next .sunrise) → Near roomy (nightOf today next)
-night-roomy today next h k = night-near (2 ^ 31) today next (near-i32 (today .sunset) h) (near-i32 (next .sunrise) k)
-
--- what is cut to an i32 is one
+-- ---- what is cut to an i32 is one
 in-i32 : (z : ℤ) → mag z < 2 ^ 31 → Near (2 ^ 31) z
 in-i32 (pos n) h = (omega arith, omega arith)
 in-i32 (negsuc n) h = (omega arith, omega arith)
@@ -101,17 +90,6 @@ isha-bound-near p latitude date today night s b r e a =
     (near-more (s + b) (s + b + 60) y (omega arith) (near-sum s b (today .sunset) (portionAfterOf (nightPortionsOf p .isha) night) r a))
 
 -- ---- minutes
-pub minutes-near : (prayer : Prayer) (m : TimeAdjustment) → SFits w32 (m .fajr) → SFits w32 (m .sunrise) → SFits w32 (m .dhuhr) → SFits w32 (m .asr) → SFits w32 (m .maghrib) → SFits w32 (m .isha) → Near (2 ^ 31) (minutesFor prayer m)
-unfolding minutesFor
-minutes-near Fajr m a b c d e f = near-i32 (m .fajr) a
-minutes-near Sunrise m a b c d e f = near-i32 (m .sunrise) b
-minutes-near Dhuhr m a b c d e f = near-i32 (m .dhuhr) c
-minutes-near Asr m a b c d e f = near-i32 (m .asr) d
-minutes-near Maghrib m a b c d e f = near-i32 (m .maghrib) e
-minutes-near Isha m a b c d e f = near-i32 (m .isha) f
-minutes-near Qiyam m a b c d e f = (omega arith, omega arith)
-minutes-near FajrTomorrow m a b c d e f = (omega arith, omega arith)
-
 pub sum-near : (n k : ℕ) (p : Parameters) (prayer : Prayer) → Near n (minutesFor prayer (p .adjustments)) → Near k (minutesFor prayer (p .«method_adjustments»)) → Near (n + k) (timeAdjustmentsOf p prayer)
 unfolding timeAdjustmentsOf
 sum-near n k p prayer h l = near-sum n k (minutesFor prayer (p .adjustments)) (minutesFor prayer (p .«method_adjustments»)) h l

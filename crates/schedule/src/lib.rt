@@ -1,3 +1,4 @@
 // part
 pub mod hours;
+pub mod prayer_times;
 mod twilight;

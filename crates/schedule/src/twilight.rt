@@ -30,7 +30,7 @@ fn sum(a: i32, b: i32) -> i64
 
 // The next sunrise less sunset.
 fn night(today: SolarTime, next: SolarTime) -> i64
-    ensures { λ r. ⌜ r ≡ nightOf today next ⌝ }
+    ensures { λ r. ⌜ (r ≡ nightOf today next) × Near (2 ^ 33) r ⌝ }
 {
     next.sunrise as i64 + 86400 - today.sunset as i64
 }

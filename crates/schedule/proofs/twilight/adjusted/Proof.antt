@@ -4,7 +4,7 @@ use mathlib.Core.Path.{_≡_, ap, sym, subst, _∙_}
 use mir.Syntax.{w32, w64}
 use mir.Val.{SFits}
 use lib.IntN.{ℤ, pos, _+ℤ_, _-ℤ_, _*ℤ_}
-use Prim.Native.Nat.{_+_, _^_}
+use Prim.Native.Nat.{_+_, _*_, _^_}
 use native.Mathlib.Omega.{arith}
 use Rattle.integers.specs.Sums.{summands}
 use Rattle.integers.specs.Ranges.{readBack, read, wide, read-wide}
@@ -37,10 +37,13 @@ returns c =
     let k : readBack w64 (c .adjust-time .result) ≡ c .adjust-time .result = search needs in
     let km : readBack w64 (c .before .time-adjustments .result) ≡ c .before .time-adjustments .result = search needs in
     let m = km ∙ c .before .time-adjustments .ensures .0 in
-    let n : Near (2 ^ 32) (timeAdjustmentsOf (t .args .parameters) (t .args .prayer)) = subst (Near (2 ^ 32)) (c .before .time-adjustments .ensures .0) (c .before .time-adjustments .ensures .1) in
+    let x = timeAdjustmentsOf (t .args .parameters) (t .args .prayer) in
+    let n : Near (2 ^ 32) x = subst (Near (2 ^ 32)) (c .before .time-adjustments .ensures .0) (c .before .time-adjustments .ensures .1) in
     let h = t .pre in
-    let near = adjusted-in (t .args .time) (timeAdjustmentsOf (t .args .parameters) (t .args .prayer)) (omega (arith, h .0)) (omega (arith, h .1)) (omega (arith, n .0)) (omega (arith, n .1)) in
-    k ∙ c .adjust-time .ensures ∙ ap satOf (rooms.both adjustedOf (read w64 (t .args .time) (t .fits .time)) m) ∙ near
+    let in-range = adjusted-in (t .args .time) x (omega (arith, h .0)) (omega (arith, h .1)) (omega (arith, n .0)) (omega (arith, n .1)) in
+    let e = k ∙ c .adjust-time .ensures ∙ ap satOf (rooms.both adjustedOf (read w64 (t .args .time) (t .fits .time)) m) ∙ in-range in
+    let near = rooms.near-more (2 ^ 38 + 60 * 2 ^ 32) (2 ^ 39) (adjustedOf (t .args .time) x) (omega arith) (rooms.near-adjusted (2 ^ 38) (2 ^ 32) (t .args .time) x h n) in
+    (e, rooms.near-as (2 ^ 39) _ (adjustedOf (t .args .time) x) e near)
 
 pub adjusted-spec : {M : Type 1} → statement M
 adjusted-spec = tie.close (tie.spec time-adjustments-requires adjust-time-requires returns)

@@ -53,15 +53,17 @@ add-isha c =
     let p = t .args .parameters in
     let today = t .args .today in
     let night = nightOf today (t .args .next) in
-    let f : SFits w32 (today .sunset) = search needs in
     let kn : readBack w64 (c .before .before .before .before .before .before .night .result) ≡ c .before .before .before .before .before .before .night .result = search needs in
-    let n = kn ∙ c .before .before .before .before .before .before .night .ensures in
-    let h : SFits w32 (t .args .next .sunrise) = search needs in
+    let n = kn ∙ c .before .before .before .before .before .before .night .ensures .0 in
+    let f : SFits w32 (today .sunset) = search needs in
+    let r = rooms.near-i32 (today .sunset) f in
     let kv : readBack w64 (c .seventh .result) ≡ c .seventh .result = search needs in
     let v = kv ∙ c .seventh .ensures ∙ ap seventhOf n in
     let x = today .sunset +ℤ seventhOf night in
     let e = summands (read-wide (today .sunset) f) v in
-    let near : Near (2 ^ 62) x = rooms.near-more (2 ^ 31 + laws.roomy) (2 ^ 62) x (omega arith) (rooms.near-sum (2 ^ 31) laws.roomy (today .sunset) (seventhOf night) (rooms.near-i32 (today .sunset) f) (rooms.near-seventh laws.roomy night (laws.night-roomy today (t .args .next) f h))) in
+    let m : Near (2 ^ 33) night = subst (Near (2 ^ 33)) (c .before .before .before .before .before .before .night .ensures .0) (c .before .before .before .before .before .before .night .ensures .1) in
+    let near-x = rooms.near-sum (2 ^ 31) (2 ^ 33) (today .sunset) (seventhOf night) r (rooms.near-seventh (2 ^ 33) night m) in
+    let near : Near (2 ^ 62) x = rooms.near-more (2 ^ 31 + 2 ^ 33) (2 ^ 62) x (omega arith) near-x in
     rooms.held _ x e near
 
 -- src/twilight.rt:178:9
@@ -76,23 +78,39 @@ returns c =
     let p = t .args .parameters in
     let today = t .args .today in
     let night = nightOf today (t .args .next) in
-    let f : SFits w32 (today .sunset) = search needs in
     let kn : readBack w64 (c .before .before .before .before .before .before .before .night .result) ≡ c .before .before .before .before .before .before .before .night .result = search needs in
-    let n = kn ∙ c .before .before .before .before .before .before .before .night .ensures in
+    let n = kn ∙ c .before .before .before .before .before .before .before .night .ensures .0 in
     let kb : readBack w64 (c .before .before .before .before .before .before .isha-bound .result) ≡ c .before .before .before .before .before .before .isha-bound .result = search needs in
-    let bound = kb ∙ c .before .before .before .before .before .before .isha-bound .ensures ∙ ap (ishaBoundOf p (t .args .latitude) (t .args .date) today) n in
-    let h : SFits w32 (t .args .next .sunrise) = search needs in
+    let bound = kb ∙ c .before .before .before .before .before .before .isha-bound .ensures .0 ∙ ap (ishaBoundOf p (t .args .latitude) (t .args .date) today) n in
+    let y = ishaBoundOf p (t .args .latitude) (t .args .date) today night in
+    let near-bound : Near (2 ^ 34) y = subst (Near (2 ^ 34)) (sym kb ∙ bound) (c .before .before .before .before .before .before .isha-bound .ensures .1) in
+    let f : SFits w32 (today .sunset) = search needs in
+    let r = rooms.near-i32 (today .sunset) f in
     let kv : readBack w64 (c .before .seventh .result) ≡ c .before .seventh .result = search needs in
     let v = kv ∙ c .before .seventh .ensures ∙ ap seventhOf n in
     let x = today .sunset +ℤ seventhOf night in
     let e = summands (read-wide (today .sunset) f) v in
-    let near : Near (2 ^ 62) x = rooms.near-more (2 ^ 31 + laws.roomy) (2 ^ 62) x (omega arith) (rooms.near-sum (2 ^ 31) laws.roomy (today .sunset) (seventhOf night) (rooms.near-i32 (today .sunset) f) (rooms.near-seventh laws.roomy night (laws.night-roomy today (t .args .next) f h))) in
+    let m : Near (2 ^ 33) night = subst (Near (2 ^ 33)) (c .before .before .before .before .before .before .before .night .ensures .0) (c .before .before .before .before .before .before .before .night .ensures .1) in
+    let near-x = rooms.near-sum (2 ^ 31) (2 ^ 33) (today .sunset) (seventhOf night) r (rooms.near-seventh (2 ^ 33) night m) in
+    let near : Near (2 ^ 62) x = rooms.near-more (2 ^ 31 + 2 ^ 33) (2 ^ 62) x (omega arith) near-x in
     let k : readBack w64 (c .earlier .result) ≡ c .earlier .result = search needs in
-    k ∙ c .earlier .ensures ∙ rooms.both earlierOf (rooms.read-held _ x e near) bound ∙ simp (sym (c .before .before .before .before .before .by-seventh .ensures), c .before .before .before .before .if1 .taken)
+    let q = k ∙ c .earlier .ensures ∙ rooms.both earlierOf (rooms.read-held _ x e near) bound in
+    (q ∙ simp (sym (c .before .before .before .before .before .by-seventh .ensures), c .before .before .before .before .if1 .taken), rooms.near-as (2 ^ 34) _ (earlierOf x y) q (rooms.near-earlier (2 ^ 34) x y (rooms.near-more (2 ^ 31 + 2 ^ 33) (2 ^ 34) x (omega arith) near-x) near-bound))
 
 -- src/twilight.rt:180:13
 or-requires : tie.Need-or-requires
-or-requires c κs = search needs
+or-requires c κs =
+    let t = c .before .before .before .before in
+    let p = t .args .parameters in
+    let today = t .args .today in
+    let night = nightOf today (t .args .next) in
+    let kn : readBack w64 (c .before .before .before .night .result) ≡ c .before .before .before .night .result = search needs in
+    let n = kn ∙ c .before .before .before .night .ensures .0 in
+    let kb : readBack w64 (c .before .before .isha-bound .result) ≡ c .before .before .isha-bound .result = search needs in
+    let bound = kb ∙ c .before .before .isha-bound .ensures .0 ∙ ap (ishaBoundOf p (t .args .latitude) (t .args .date) today) n in
+    let y = ishaBoundOf p (t .args .latitude) (t .args .date) today night in
+    let near-bound : Near (2 ^ 34) y = subst (Near (2 ^ 34)) (sym kb ∙ bound) (c .before .before .isha-bound .ensures .1) in
+    rooms.near-as (2 ^ 34) _ y bound near-bound
 
 -- src/twilight.rt:180:5
 earlier-requires-2 : tie.Need-earlier-requires-2
@@ -106,15 +124,17 @@ returns-2 c =
     let p = t .args .parameters in
     let today = t .args .today in
     let night = nightOf today (t .args .next) in
-    let f : SFits w32 (today .sunset) = search needs in
     let kn : readBack w64 (c .before .before .before .before .before .night .result) ≡ c .before .before .before .before .before .night .result = search needs in
-    let n = kn ∙ c .before .before .before .before .before .night .ensures in
+    let n = kn ∙ c .before .before .before .before .before .night .ensures .0 in
     let kb : readBack w64 (c .before .before .before .before .isha-bound .result) ≡ c .before .before .before .before .isha-bound .result = search needs in
-    let bound = kb ∙ c .before .before .before .before .isha-bound .ensures ∙ ap (ishaBoundOf p (t .args .latitude) (t .args .date) today) n in
+    let bound = kb ∙ c .before .before .before .before .isha-bound .ensures .0 ∙ ap (ishaBoundOf p (t .args .latitude) (t .args .date) today) n in
+    let y = ishaBoundOf p (t .args .latitude) (t .args .date) today night in
+    let near-bound : Near (2 ^ 34) y = subst (Near (2 ^ 34)) (sym kb ∙ bound) (c .before .before .before .before .isha-bound .ensures .1) in
     let k : readBack w64 (c .earlier2 .result) ≡ c .earlier2 .result = search needs in
     let ko : readBack w64 (c .before .or .result) ≡ c .before .or .result = search needs in
-    let o = ko ∙ c .before .or .ensures ∙ ap (orOf (t .args .hour)) bound in
-    k ∙ c .earlier2 .ensures ∙ rooms.both earlierOf o bound ∙ simp (sym (c .before .before .before .by-seventh .ensures), c .before .before .if1 .left)
+    let q = k ∙ c .earlier2 .ensures ∙ rooms.both earlierOf ko bound in
+    let o = c .before .or .ensures .0 ∙ ap (orOf (t .args .hour)) bound in
+    (q ∙ ap (λ (z : ℤ). earlierOf z y) o ∙ simp (sym (c .before .before .before .by-seventh .ensures), c .before .before .if1 .left), rooms.near-as (2 ^ 34) _ (earlierOf (c .before .or .result) y) q (rooms.near-earlier (2 ^ 34) (c .before .or .result) y (c .before .or .ensures .1) near-bound))
 
 pub bounded-isha-spec : {M : Type 1} → statement M
 bounded-isha-spec =

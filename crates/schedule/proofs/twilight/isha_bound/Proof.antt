@@ -68,7 +68,9 @@ returns c =
     let h = rooms.near-sum (2 ^ 31) (2 ^ 31) s (eveningSecondsOf (t .args .latitude) (ordinalOf (t .args .date)) (t .args .date .year) (t .args .parameters .shafaq)) (rooms.near-i32 s f) (laws.evening-near (t .args .latitude) (t .args .date) (t .args .parameters)) in
     let r = rounded-in Nearest x (omega (arith, h .0)) (omega (arith, h .1)) in
     let g = c .before .before .before .before .before .before .by-season .ensures in
-    k ∙ c .rounded-minute .ensures ∙ ap (λ (y : ℤ). satOf (roundedOf Nearest y)) z ∙ r ∙ simp (sym g, c .before .before .before .before .before .if1 .taken)
+    let q = k ∙ c .rounded-minute .ensures ∙ ap (λ (y : ℤ). satOf (roundedOf Nearest y)) z ∙ r in
+    let near = rooms.near-more (2 ^ 31 + 2 ^ 31 + 60) (2 ^ 34) (roundedOf Nearest x) (omega arith) (rooms.near-rounded (2 ^ 31 + 2 ^ 31) Nearest x h) in
+    (q ∙ simp (sym g, c .before .before .before .before .before .if1 .taken), rooms.near-as (2 ^ 34) _ (roundedOf Nearest x) q near)
 
 -- src/twilight.rt:158:9
 night-portions-requires : tie.Need-night-portions-requires
@@ -94,7 +96,10 @@ returns-2 c =
     let n = read w64 (t .args .night) (t .fits .night) in
     let e : readBack w32 (c .before .before .portion-after .result) ≡ portionAfterOf (nightPortionsOf (t .args .parameters) .isha) (t .args .night) = kp ∙ c .before .before .portion-after .ensures ∙ simp (n, c .before .before .before .night-portions .ensures) in
     let g = c .before .before .before .before .before .by-season .ensures in
-    k ∙ c .sum2 .ensures ∙ summands (read w32 s f) e ∙ simp (sym g, c .before .before .before .before .if1 .left)
+    let x = s +ℤ portionAfterOf (nightPortionsOf (t .args .parameters) .isha) (t .args .night) in
+    let q = k ∙ c .sum2 .ensures ∙ summands (read w32 s f) e in
+    let near = rooms.near-more (2 ^ 31 + 2 ^ 31) (2 ^ 34) x (omega arith) (rooms.near-sum (2 ^ 31) (2 ^ 31) s (portionAfterOf (nightPortionsOf (t .args .parameters) .isha) (t .args .night)) (rooms.near-i32 s f) (laws.portion-after-near (nightPortionsOf (t .args .parameters) .isha) (t .args .night))) in
+    (q ∙ simp (sym g, c .before .before .before .before .if1 .left), rooms.near-as (2 ^ 34) _ x q near)
 
 pub isha-bound-spec : {M : Type 1} → statement M
 isha-bound-spec =

@@ -71,7 +71,9 @@ returns c =
     let g : SFits w32 y = search needs in
     let d = rooms.differences (rooms.read-held _ (x +ℤ pos 86400) e n) (read-wide y g) in
     let k = rooms.near-more (2 ^ 31 + 86400 + 2 ^ 31) (2 ^ 62) (x +ℤ pos 86400 -ℤ y) (omega arith) (rooms.near-difference (2 ^ 31 + 86400) (2 ^ 31) (x +ℤ pos 86400) y h (rooms.near-i32 y g)) in
-    rooms.read-held _ (x +ℤ pos 86400 -ℤ y) d k
+    let r = rooms.read-held _ (x +ℤ pos 86400 -ℤ y) d k in
+    let m = rooms.near-more (2 ^ 31 + 86400 + 2 ^ 31) (2 ^ 33) (x +ℤ pos 86400 -ℤ y) (omega arith) (rooms.near-difference (2 ^ 31 + 86400) (2 ^ 31) (x +ℤ pos 86400) y h (rooms.near-i32 y g)) in
+    (r, rooms.near-as (2 ^ 33) _ (x +ℤ pos 86400 -ℤ y) r m)
 
 pub night-spec : {M : Type 1} → statement M
 night-spec = tie.close (tie.spec cast-result add-result cast-result-2 sub-result returns)

@@ -38,14 +38,16 @@ unfolding orOf
 returns c =
     let z = c .before .hour .given .0 .0 in
     let f : SFits w32 z = search needs in
-    read-wide z f ∙ simp (c .before .hour .given .1)
+    let e = read-wide z f in
+    (e ∙ simp (c .before .hour .given .1), rooms.near-as (2 ^ 34) _ z e (rooms.near-more (2 ^ 31) (2 ^ 34) z (omega arith) (rooms.near-i32 z f)))
 
 -- src/twilight.rt:57:1
 returns-2 : tie.Need-returns-2
 unfolding orOf
 returns-2 c =
     let t = c .before .before in
-    read w64 (t .args .other) (t .fits .other) ∙ simp (c .enum-told .given .1)
+    let e = read w64 (t .args .other) (t .fits .other) in
+    (e ∙ simp (c .enum-told .given .1), rooms.near-as (2 ^ 34) _ (t .args .other) e (t .pre))
 
 pub or-spec : {M : Type 1} → statement M
 or-spec = tie.close (tie.spec enum-known-hour cast-result enum-told returns returns-2)

@@ -81,7 +81,10 @@ returns c =
     let near = rooms.near-more (60 * 2 ^ 31) (2 ^ 62) (i *ℤ pos 60) (omega arith) l in
     let d = summands (read-wide s g) (rooms.read-held _ (i *ℤ pos 60) e near) in
     let sum-near = rooms.near-more (2 ^ 31 + 60 * 2 ^ 31) (2 ^ 62) (s +ℤ i *ℤ pos 60) (omega arith) (rooms.near-sum (2 ^ 31) (60 * 2 ^ 31) s (i *ℤ pos 60) (rooms.near-i32 s g) l) in
-    rooms.read-held _ (s +ℤ i *ℤ pos 60) d sum-near ∙ simp (rw (read w32 i f) at (c .before .before .before .before .if1 .taken))
+    let x = s +ℤ i *ℤ pos 60 in
+    let q = rooms.read-held _ x d sum-near in
+    let m = rooms.near-more (2 ^ 31 + 60 * 2 ^ 31) (2 ^ 38) x (omega arith) (rooms.near-sum (2 ^ 31) (60 * 2 ^ 31) s (i *ℤ pos 60) (rooms.near-i32 s g) l) in
+    (q ∙ simp (rw (read w32 i f) at (c .before .before .before .before .if1 .taken)), rooms.near-as (2 ^ 38) _ x q m)
 
 -- src/twilight.rt:196:5
 bounded-isha-requires : tie.Need-bounded-isha-requires
@@ -95,7 +98,7 @@ returns-2 c =
     let i = t .args .parameters .«isha_interval» in
     let f : SFits w32 i = search needs in
     let k : readBack w64 (c .bounded-isha .result) ≡ c .bounded-isha .result = search needs in
-    k ∙ c .bounded-isha .ensures ∙ simp (rw (read w32 i f) at (c .before .if1 .left))
+    (k ∙ c .bounded-isha .ensures .0 ∙ simp (rw (read w32 i f) at (c .before .if1 .left)), rooms.near-as (2 ^ 38) _ (c .bounded-isha .result) k (rooms.near-more (2 ^ 34) (2 ^ 38) (c .bounded-isha .result) (omega arith) (c .bounded-isha .ensures .1)))
 
 pub unadjusted-isha-spec : {M : Type 1} → statement M
 unadjusted-isha-spec =

@@ -1,0 +1,97 @@
+use mathlib.Core.Path.{_≡_, ap, sym, subst, _∙_}
+use mir.Syntax.{w32, w64}
+use mir.Val.{SFits, Fits}
+use lib.IntN.{ℤ, pos, _+ℤ_, _-ℤ_, _*ℤ_}
+use Prim.Native.Nat.{_+_, _*_, _^_, _<_}
+use native.Mathlib.Omega.{arith}
+use Rattle.integers.specs.Sums.{summands}
+use Rattle.integers.specs.Ranges.{readBack, read, wide, read-wide}
+use Rattle.schedule.specs.Rooms as rooms
+use Rattle.schedule.specs.Rooms.{Near}
+use Rattle.schedule.specs.Times.{qiyamOf}
+use Rattle.night.specs.Portions.{lastThirdOf}
+use Rattle.night.specs.PortionsLaws.{last-third-inside}
+use Rattle.stride.specs.Times.{satOf, roundedOf}
+use Rattle.stride.specs.TimesLaws.{rounded-in}
+use Rattle.models.specs.declared.rounding.Rounding.the-variants.{Nearest}
+use borrow.Author.Needs.{needs}
+use Rattle.schedule.proofs.prayer_times.last_third_of_the_night.Statement.{statement}
+use Rattle.schedule.proofs.prayer_times.last_third_of_the_night.Tie as tie
+use Rattle.schedule.proofs.prayer_times.last_third_of_the_night.Reads as reads
+use Rattle.schedule.proofs.prayer_times.last_third_of_the_night.Lts as lts
+use Rattle.night.proofs.portions.last_third.Reads as last-third-reads
+use Rattle.stride.proofs.times.rounded_minute.Reads as rounded-minute-reads
+
+-- src/prayer_times.rt:145:30
+sub-last-third : tie.Need-sub-last-third
+sub-last-third c =
+    let t = c in
+    let m = t .args .maghrib in
+    let f = t .args .tomorrow in
+    let d = f -ℤ m in
+    let e = rooms.differences (read w64 f (t .fits .tomorrow)) (read w64 m (t .fits .maghrib)) in
+    let h = rooms.near-difference (2 ^ 40) (2 ^ 40) f m (t .pre .1) (t .pre .0) in
+    let n = rooms.near-more (2 ^ 40 + 2 ^ 40) (2 ^ 62) d (omega arith) h in
+    rooms.held _ d e n
+
+-- src/prayer_times.rt:145:19
+last-third-requires : tie.Need-last-third-requires
+last-third-requires c κs = search needs
+
+-- src/prayer_times.rt:145:9
+add-rounded-minute : tie.Need-add-rounded-minute
+add-rounded-minute c =
+    let t = c .before in
+    let m = t .args .maghrib in
+    let f = t .args .tomorrow in
+    let d = f -ℤ m in
+    let e = rooms.differences (read w64 f (t .fits .tomorrow)) (read w64 m (t .fits .maghrib)) in
+    let h = rooms.near-difference (2 ^ 40) (2 ^ 40) f m (t .pre .1) (t .pre .0) in
+    let n = rooms.near-more (2 ^ 40 + 2 ^ 40) (2 ^ 62) d (omega arith) h in
+    let km : readBack w64 (c .last-third .result) ≡ c .last-third .result = search needs in
+    let p = km ∙ c .last-third .ensures ∙ ap lastThirdOf (rooms.read-held _ d e n) in
+    let x = m +ℤ lastThirdOf d in
+    let s = summands (read w64 m (t .fits .maghrib)) p in
+    let i = last-third-inside d (omega (arith, h .0), omega (arith, h .1)) in
+    let g : Near (2 ^ 41) (lastThirdOf d) = (omega (arith, h .0, i .0), omega (arith, h .1, i .1)) in
+    let a = rooms.near-sum (2 ^ 40) (2 ^ 41) m (lastThirdOf d) (t .pre .0) g in
+    let o = rooms.near-more (2 ^ 40 + 2 ^ 41) (2 ^ 62) x (omega arith) a in
+    rooms.held _ x s o
+
+-- src/prayer_times.rt:144:5
+rounded-minute-requires : tie.Need-rounded-minute-requires
+rounded-minute-requires c κs = search needs
+
+-- src/prayer_times.rt:140:1
+returns : tie.Need-returns
+unfolding qiyamOf
+returns c =
+    let t = c .before .before in
+    let m = t .args .maghrib in
+    let f = t .args .tomorrow in
+    let d = f -ℤ m in
+    let e = rooms.differences (read w64 f (t .fits .tomorrow)) (read w64 m (t .fits .maghrib)) in
+    let h = rooms.near-difference (2 ^ 40) (2 ^ 40) f m (t .pre .1) (t .pre .0) in
+    let n = rooms.near-more (2 ^ 40 + 2 ^ 40) (2 ^ 62) d (omega arith) h in
+    let km : readBack w64 (c .before .last-third .result) ≡ c .before .last-third .result = search needs in
+    let p = km ∙ c .before .last-third .ensures ∙ ap lastThirdOf (rooms.read-held _ d e n) in
+    let x = m +ℤ lastThirdOf d in
+    let s = summands (read w64 m (t .fits .maghrib)) p in
+    let i = last-third-inside d (omega (arith, h .0), omega (arith, h .1)) in
+    let g : Near (2 ^ 41) (lastThirdOf d) = (omega (arith, h .0, i .0), omega (arith, h .1, i .1)) in
+    let a = rooms.near-sum (2 ^ 40) (2 ^ 41) m (lastThirdOf d) (t .pre .0) g in
+    let o = rooms.near-more (2 ^ 40 + 2 ^ 41) (2 ^ 62) x (omega arith) a in
+    let k : readBack w64 (c .rounded-minute .result) ≡ c .rounded-minute .result = search needs in
+    let j = rounded-in Nearest x (omega (arith, a .0)) (omega (arith, a .1)) in
+    let q = k ∙ c .rounded-minute .ensures ∙ ap (λ (z : ℤ). satOf (roundedOf Nearest z)) (rooms.read-held _ x s o) ∙ j in
+    (q, rooms.near-as (2 ^ 43) _ (roundedOf Nearest x) q (rooms.near-more (2 ^ 40 + 2 ^ 41 + 60) (2 ^ 43) (roundedOf Nearest x) (omega arith) (rooms.near-rounded (2 ^ 40 + 2 ^ 41) Nearest x a)))
+
+pub last-third-of-the-night-spec : {M : Type 1} → statement M
+last-third-of-the-night-spec =
+    tie.close
+    (tie.spec
+    sub-last-third
+    last-third-requires
+    add-rounded-minute
+    rounded-minute-requires
+    returns)
