@@ -22,7 +22,7 @@ pub struct Refusal {
     pub day: u32,
 }
 
-/// The prayer in force, the next one, hours and minutes to it.
+/// The prayer in force, the next one, hours and minutes to it. Prayers count from 1.
 #[derive(Debug, Clone, Copy, PartialEq)]
 pub struct InForce {
     pub current: Option<u32>,
@@ -84,7 +84,7 @@ pub fn day(c: &DayCase) -> Result<PrayerTimes, Refusal> {
 /// The crate's `next` and `time_remaining` panic where no prayer is in force.
 pub fn in_force(times: &PrayerTimes, instant: Instant) -> InForce {
     given::set_now(instant.seconds, instant.nanoseconds);
-    let number = |prayer: Prayer| prayer as u32;
+    let number = |prayer: Prayer| prayer as u32 + 1;
     InForce {
         current: access::current_time(times).map(number),
         next: catch_unwind(AssertUnwindSafe(|| times.next())).ok().map(number),

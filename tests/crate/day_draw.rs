@@ -21,8 +21,8 @@ pub const METHODS: [Method; 13] = [
 ];
 const MOONSIGHTING: u32 = 5;
 
-/// The number that stands for no prayer in force.
-pub const NONE: u32 = 8;
+/// The number that stands for no prayer in force; the prayers count from 1.
+pub const NONE: u32 = 0;
 
 /// Parameters by document 01's numbers, none left to the method.
 #[derive(Debug, Clone, Copy)]

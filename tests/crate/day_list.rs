@@ -9,9 +9,9 @@ use salah_given::schedule::{access, PrayerTimes};
 
 const INSTANTS: usize = 4;
 
-/// Where a line's times and instants are counted from, so that none is negative.
-const TIMES_FROM: i64 = 50_000_000;
-const INSTANTS_FROM: i64 = 10_000_000_000;
+/// What a line's times, its date's 0h and its instants are given more than they are, so that none is negative.
+const LATER: i64 = 50_000_000;
+const SINCE: i64 = 10_000_000_000;
 
 fn print_case(c: &DayCase) {
     let s = &c.settings;
@@ -23,13 +23,13 @@ fn print_case(c: &DayCase) {
     for (first, second) in [(s.fajr, s.sunrise), (s.dhuhr, s.asr), (s.maghrib, s.isha)] {
         print!(" {:04}{:04}", first + 1000, second + 1000);
     }
-    print!(" {:08}", s.isha_interval);
+    print!(" {:08} {:016x}", s.isha_interval, midnight(c.date) + SINCE);
 }
 
 fn print_instant(times: &PrayerTimes, at: Instant) {
     let found = day_crate::in_force(times, at);
     let (hours, minutes) = found.remaining.unwrap_or_default();
-    let nanoseconds = (at.seconds + INSTANTS_FROM) as u64 * 1_000_000_000 + at.nanoseconds as u64;
+    let nanoseconds = (at.seconds + SINCE) as u64 * 1_000_000_000 + at.nanoseconds as u64;
     print!(" {nanoseconds:016x} {}{}{hours:04}{minutes:02}", found.current.unwrap_or(NONE), found.next.unwrap_or(NONE));
 }
 
@@ -40,7 +40,7 @@ fn print_line(c: &DayCase, mut instant: impl FnMut(&[i64; 9], usize) -> Instant)
             let nine = access::nine(&times);
             print!(" {:08}", 0);
             for time in nine {
-                print!(" {:08}", time - midnight(c.date) + TIMES_FROM);
+                print!(" {:08}", time - midnight(c.date) + LATER);
             }
             for n in 0..INSTANTS {
                 print_instant(&times, instant(&nine, n));
@@ -83,7 +83,7 @@ fn print_marked() -> u64 {
 fn within(draw: &mut Draw, nine: &[i64; 9]) -> Instant {
     loop {
         let at = draw.instant_near(nine);
-        if at.seconds.abs() < INSTANTS_FROM * 4 / 5 {
+        if at.seconds.abs() < SINCE * 4 / 5 {
             return at;
         }
     }

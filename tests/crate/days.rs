@@ -34,7 +34,7 @@ struct Days {
     counts: [Count; 16],
     printed: u64,
     unknown_panics: u64,
-    /// The crate's answers: days refused, by number and day, and instants by the prayer in force, none last.
+    /// The crate's answers: days refused, by number and day, and instants by the prayer in force, none first.
     refused: [[u64; 3]; 3],
     in_force: [u64; 9],
 }
@@ -122,7 +122,7 @@ impl Days {
 
     fn print(&self) {
         println!("days refused, on day 0, 1 and 2: 6 {:?}, 7 {:?}, 8 {:?}", self.refused[0], self.refused[1], self.refused[2]);
-        println!("instants by the prayer in force, from Fajr to FajrTomorrow, then none: {:?}\n", self.in_force);
+        println!("instants by the prayer in force, none, then from Fajr to FajrTomorrow: {:?}\n", self.in_force);
         println!("from equal arguments      compared       equal    listed  different");
         for (name, n) in ROWS.iter().zip(&self.counts) {
             let compared = n.equal + n.listed + n.different;
