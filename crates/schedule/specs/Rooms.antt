@@ -1,6 +1,6 @@
 -- How far a time lies from 0h of its date. For every i32 of the sun and every parameter it is near enough that all sums fit an i64; for the
 -- parameters that an order can carry it is near enough to print its days as one digit. Both follow from the laws here. Assumes nothing.
-use mathlib.Core.Path.{_≡_, sym, ap, subst, _∙_}
+use mathlib.Core.Path.{_≡_, refl, sym, ap, subst, _∙_}
 use mathlib.Core.Bool.{Bool, true, false, cond}
 use Prim.Native.Nat.{ℕ, _+_, _*_, _^_, _≤_, _<_}
 use native.Mathlib.Omega.{arith}
@@ -102,3 +102,6 @@ held z w e h = subst (λ (x : ℤ). SFits w64 x) (sym e) (fits w64 w (omega (ari
 
 pub read-held : (z w : ℤ) → z ≡ w → Near (2 ^ 62) w → readBack w64 z ≡ w
 read-held z w e h = subst (λ (x : ℤ). readBack w64 x ≡ w) (sym e) (read w64 w (fits w64 w (omega (arith, h .0)) (omega (arith, h .1))))
+
+pub read-near : (n : ℕ) (z : ℤ) → n ≤ 2 ^ 62 → Near n z → readBack w64 z ≡ z
+read-near n z l h = read-held z z refl (near-more n (2 ^ 62) z l h)

@@ -2,6 +2,7 @@
 ghost use mathlib.Core.Path.{_≡_};
 ghost use Prim.Native.Nat.{_^_};
 ghost use lib.IntN.{_+ℤ_};
+ghost use Rattle.models.specs.declared.prayer.Prayer.the-variants.{Sunrise, Dhuhr, Asr, Maghrib};
 ghost use Rattle.schedule.specs.Hours.{hoursOf};
 ghost use Rattle.schedule.specs.Rooms.{Near};
 ghost use Rattle.schedule.specs.Twilight.{orOf};
@@ -53,7 +54,7 @@ fn start(date: Date) -> i64
 // A time of the date that begins at `start`, from 1970 on.
 fn on(start: i64, time: i64) -> i64
     requires { ⌜ Near (2 ^ 58) start × Near (2 ^ 43) time ⌝ }
-    ensures { λ r. ⌜ r ≡ start +ℤ time ⌝ }
+    ensures { λ r. ⌜ (r ≡ start +ℤ time) × Near (2 ^ 59) r ⌝ }
 {
     start + time
 }
@@ -109,6 +110,30 @@ fn or_transit(asr: SolarHour, transit: i32) -> i32
     }
 }
 
+fn final_sunrise(parameters: Parameters, today: SolarTime) -> i64
+    ensures { λ r. ⌜ (r ≡ finalOf parameters Sunrise (today .sunrise)) × Near (2 ^ 40) r ⌝ }
+{
+    final_time(parameters, Prayer::Sunrise, today.sunrise)
+}
+
+fn final_dhuhr(parameters: Parameters, today: SolarTime) -> i64
+    ensures { λ r. ⌜ (r ≡ finalOf parameters Dhuhr (today .transit)) × Near (2 ^ 40) r ⌝ }
+{
+    final_time(parameters, Prayer::Dhuhr, today.transit)
+}
+
+fn final_asr(parameters: Parameters, today: SolarTime, hour: SolarHour) -> i64
+    ensures { λ r. ⌜ (r ≡ finalOf parameters Asr (orOf hour (today .transit))) × Near (2 ^ 40) r ⌝ }
+{
+    final_time(parameters, Prayer::Asr, or_transit(hour, today.transit))
+}
+
+fn final_maghrib(parameters: Parameters, today: SolarTime) -> i64
+    ensures { λ r. ⌜ (r ≡ finalOf parameters Maghrib (today .sunset)) × Near (2 ^ 40) r ⌝ }
+{
+    final_time(parameters, Prayer::Maghrib, today.sunset)
+}
+
 // Adjusted and not rounded.
 fn next_fajr(
     parameters: Parameters,
@@ -120,14 +145,7 @@ fn next_fajr(
 ) -> i64
     ensures { λ r. ⌜ (r ≡ fajrTomorrowOf parameters latitude date tomorrow after hour) × Near (2 ^ 40) r ⌝ }
 {
-    calculate_fajr(
-        parameters,
-        latitude,
-        date.tomorrow(),
-        tomorrow,
-        after,
-        hour,
-    ) + 86400
+    calculate_fajr(parameters, latitude, date.tomorrow(), tomorrow, after, hour) + 86400
 }
 
 fn middle_of_the_night(maghrib: i64, tomorrow: i64) -> i64
@@ -141,10 +159,7 @@ fn last_third_of_the_night(maghrib: i64, tomorrow: i64) -> i64
     requires { ⌜ Near (2 ^ 40) maghrib × Near (2 ^ 40) tomorrow ⌝ }
     ensures { λ r. ⌜ (r ≡ qiyamOf maghrib tomorrow) × Near (2 ^ 43) r ⌝ }
 {
-    rounded_minute(
-        maghrib + last_third(tomorrow - maghrib),
-        Rounding::Nearest,
-    )
+    rounded_minute(maghrib + last_third(tomorrow - maghrib), Rounding::Nearest)
 }
 
 fn times(
@@ -162,23 +177,21 @@ fn times(
     ensures { λ r. ⌜ r ≡ timesOf parameters latitude date today tomorrow after fajr asr isha «fajr_tomorrow» ⌝ }
 {
     let start = start(date);
-    let asr = or_transit(asr, today.transit);
-    let maghrib = final_time(parameters, Prayer::Maghrib, today.sunset);
-    let next_fajr = next_fajr(
-        parameters,
-        latitude,
-        date,
-        tomorrow,
-        after,
-        fajr_tomorrow,
-    );
+    let maghrib = final_maghrib(parameters, today);
+    let next_fajr = next_fajr(parameters, latitude, date, tomorrow, after, fajr_tomorrow);
     PrayerTimes {
-        fajr: on(start, final_fajr(parameters, latitude, date, today, tomorrow, fajr)),
-        sunrise: on(start, final_time(parameters, Prayer::Sunrise, today.sunrise)),
-        dhuhr: on(start, final_time(parameters, Prayer::Dhuhr, today.transit)),
-        asr: on(start, final_time(parameters, Prayer::Asr, asr)),
+        fajr: on(
+            start,
+            final_fajr(parameters, latitude, date, today, tomorrow, fajr),
+        ),
+        sunrise: on(start, final_sunrise(parameters, today)),
+        dhuhr: on(start, final_dhuhr(parameters, today)),
+        asr: on(start, final_asr(parameters, today, asr)),
         maghrib: on(start, maghrib),
-        isha: on(start, final_isha(parameters, latitude, date, today, tomorrow, isha)),
+        isha: on(
+            start,
+            final_isha(parameters, latitude, date, today, tomorrow, isha),
+        ),
         middle_of_the_night: on(start, middle_of_the_night(maghrib, next_fajr)),
         qiyam: on(start, last_third_of_the_night(maghrib, next_fajr)),
         fajr_tomorrow: on(start, next_fajr),

@@ -1,3 +1,4 @@
+use Rattle.schedule.specs.Times.{workedOf, workedFrom}
 use borrow.Author.Needs.{needs}
 use Rattle.schedule.proofs.hours.RowHours.work.Statement.{statement}
 use Rattle.schedule.proofs.hours.RowHours.work.Tie as tie
@@ -20,7 +21,9 @@ first-lack-requires c κs = tt
 
 -- src/prayer_times.rt:201:13
 returns : tie.Need-returns
-returns c = ?
+unfolding workedOf workedFrom
+returns c =
+    simp (c .first-lack .ensures, c .before .enum-told .given .1)
 
 -- src/prayer_times.rt:203:29
 enum-known-tomorrow : tie.Need-enum-known-tomorrow
@@ -36,7 +39,9 @@ first-lack-requires-2 c κs = tt
 
 -- src/prayer_times.rt:204:13
 returns-2 : tie.Need-returns-2
-returns-2 c = ?
+unfolding workedOf workedFrom
+returns-2 c =
+    simp (c .first-lack2 .ensures, c .before .enum-told2 .given .1, c .before .before .before .before .today .given .1)
 
 -- src/prayer_times.rt:206:29
 enum-known-after : tie.Need-enum-known-after
@@ -52,7 +57,9 @@ first-lack-requires-3 c κs = tt
 
 -- src/prayer_times.rt:207:13
 returns-3 : tie.Need-returns-3
-returns-3 c = ?
+unfolding workedOf workedFrom
+returns-3 c =
+    simp (c .first-lack3 .ensures, c .before .enum-told3 .given .1, c .before .before .before .before .tomorrow .given .1, c .before .before .before .before .before .before .before .today .given .1)
 
 -- src/prayer_times.rt:209:23
 times-requires : tie.Need-times-requires
@@ -60,7 +67,9 @@ times-requires c κs = tt
 
 -- src/prayer_times.rt:190:5
 returns-4 : tie.Need-returns-4
-returns-4 c = ?
+unfolding workedOf workedFrom
+returns-4 c =
+    simp (c .times .ensures, c .before .before .after .given .1, c .before .before .before .before .before .tomorrow .given .1, c .before .before .before .before .before .before .before .before .today .given .1)
 
 pub work-spec : {M : Type 1} → statement M
 work-spec =
