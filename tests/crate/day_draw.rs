@@ -67,6 +67,12 @@ const EDGES: [f64; 16] = [
     0.0, -0.0, 1.0, 23.99, 23.991666666666667, 23.995, 24.0, 24.25, 47.99, 47.991666666666667, 48.0, -0.5, -1e-17, -24.001, -25.0, -50.0,
 ];
 
+/// Far below 0, where the hour is clamped, and those that are not normal or nearly so.
+const FAR: [f64; 12] = [
+    -1e300, -1e15, -4294967297.5, -4294967319.9999, -1000.3, f64::NEG_INFINITY, f64::INFINITY, f64::NAN, 1e-310, -1e-310,
+    f64::MIN_POSITIVE, -f64::MIN_POSITIVE,
+];
+
 /// From 2^32 on, where the crate's hour can wrap.
 const WRAPPING: [f64; 6] = [4294967296.0, 4294967319.9999, 4294967320.995, 4294967319.0, 1e12 + 0.9990234375, 1e300];
 
@@ -75,7 +81,11 @@ impl Draw {
     fn timed(&mut self) -> f64 {
         match self.below(32) {
             0..=15 => self.between(-50.0, 48.0),
-            16..=29 => (self.below(11_759) as f64 - 6000.0) / 120.0,
+            16..=23 => (self.below(11_759) as f64 - 6000.0) / 120.0,
+            24..=29 => {
+                let half = ((self.below(11_759) as f64 - 6000.0) / 120.0).to_bits();
+                f64::from_bits(half.wrapping_add(self.below(9)).wrapping_sub(4))
+            }
             30 => self.one_of(&EDGES),
             _ => self.one_of(&EDGES) + self.step(),
         }
@@ -110,6 +120,7 @@ impl Draw {
             7 => numbers = [0.0; 13].map(|_| self.hour_number()),
             8 => numbers[self.below(13) as usize] = self.one_of(&WRAPPING),
             9 => numbers[self.below(13) as usize] = self.between(4294967296.0, 4294967400.0),
+            10 => numbers[self.below(13) as usize] = self.one_of(&FAR),
             _ => {}
         }
         numbers

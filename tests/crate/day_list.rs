@@ -9,7 +9,8 @@ use salah_given::schedule::{access, PrayerTimes};
 
 const INSTANTS: usize = 4;
 
-/// What a line's times, its date's 0h and its instants are given more than they are, so that none is negative.
+/// What a line's times and its instants are given more than they are, so that none is negative. Of 0h it is the difference, so that
+/// 0h and a time give the sum.
 const LATER: i64 = 50_000_000;
 const SINCE: i64 = 10_000_000_000;
 
@@ -23,7 +24,7 @@ fn print_case(c: &DayCase) {
     for (first, second) in [(s.fajr, s.sunrise), (s.dhuhr, s.asr), (s.maghrib, s.isha)] {
         print!(" {:04}{:04}", first + 1000, second + 1000);
     }
-    print!(" {:08} {:016x}", s.isha_interval, midnight(c.date) + SINCE);
+    print!(" {:08} {:016x}", s.isha_interval, midnight(c.date) + SINCE - LATER);
 }
 
 fn print_instant(times: &PrayerTimes, at: Instant) {

@@ -1,7 +1,9 @@
 -- A day's numbers, settings and answers as the exports take and hand them out.
-use lib.IntN.{pos}
+use Prim.Native.Nat.{ℕ}
+use mathlib.Core.Bool.{true, false}
+use lib.IntN.{ℤ, pos}
 use Rattle.models.specs.Minutes.{minutesOf}
-use Rattle.models.specs.Numbers.{methodOf, methodNumberOf, madhabOf, madhabNumberOf, ruleOf, ruleNumberOf, roundingOf, roundingNumberOf, shafaqOf, shafaqNumberOf}
+use Rattle.models.specs.Numbers.{methodOf, methodNumberOf, madhabOf, madhabNumberOf, ruleOf, ruleNumberOf, roundingOf, roundingNumberOf, shafaqOf, shafaqNumberOf, prayerNumberOf}
 use Rattle.models.specs.Presets.{presetOf}
 use Rattle.models.specs.declared.adjustments.TimeAdjustment.{TimeAdjustment}
 use Rattle.models.specs.declared.parameters.Parameters.{Parameters}
@@ -10,11 +12,17 @@ use Rattle.schedule.specs.declared.hours.RowNumbers.{RowNumbers}
 use Rattle.schedule.specs.declared.prayer_times.PrayerTimes.{PrayerTimes}
 use Rattle.schedule.specs.declared.prayer_times.Worked.{Worked}
 use Rattle.schedule.specs.declared.prayer_times.Worked.the-variants.{Times, Refused}
+use Rattle.schedule.specs.declared.in_force.Instant.{Instant}
+use Rattle.schedule.specs.declared.in_force.Current.{Current}
+use Rattle.schedule.specs.declared.in_force.Current.the-variants.{Some, None}
+use Rattle.schedule.specs.declared.in_force.Remaining.{Remaining}
+use Rattle.schedule.specs.declared.in_force.Remaining.the-variants.{In, Nothing}
 use Rattle.day_leaves.specs.declared.LeafSun.{LeafSun}
 use Rattle.day_leaves.specs.declared.LeafNumbers.{LeafNumbers}
 use Rattle.day_leaves.specs.declared.LeafSettings.{LeafSettings}
 use Rattle.day_leaves.specs.declared.LeafTimes.{LeafTimes}
 use Rattle.day_leaves.specs.declared.LeafDay.{LeafDay}
+use Rattle.day_leaves.specs.declared.LeafRemaining.{LeafRemaining}
 
 abbrev pub sunOf : LeafSun → HourNumbers
 sunOf s = record { transit = s .transit; sunrise = s .sunrise; sunset = s .sunset }
@@ -76,3 +84,15 @@ noTimes = record { fajr = pos 0; sunrise = pos 0; dhuhr = pos 0; asr = pos 0; ma
 unfoldable pub leafDayOf : Worked → LeafDay
 leafDayOf (Times t) = record { number = 0; place = 0; times = leafTimesOf t }
 leafDayOf (Refused r) = record { number = r .number; place = r .place; times = noTimes }
+
+abbrev pub instantFrom : ℤ → ℕ → Instant
+instantFrom seconds nanoseconds = record { seconds = seconds; nanoseconds = nanoseconds }
+
+-- none is 0
+unfoldable pub currentNumberOf : Current → ℕ
+currentNumberOf (Some p) = prayerNumberOf p
+currentNumberOf None = 0
+
+unfoldable pub leafRemainingOf : Remaining → LeafRemaining
+leafRemainingOf (In t) = record { found = true; hours = t .hours; minutes = t .minutes }
+leafRemainingOf Nothing = record { found = false; hours = 0; minutes = 0 }

@@ -5,7 +5,8 @@ ghost use Rattle.models.specs.Numbers.{methodOf};
 ghost use Rattle.models.specs.Presets.{presetOf};
 ghost use Rattle.schedule.specs.Hours.{hoursOf};
 ghost use Rattle.schedule.specs.Times.{workedOf};
-ghost use Rattle.day_leaves.specs.DayLeaves.{sunOf, rowOf, minutesFrom, parametersFrom, settingsOf, leafTimesOf, noTimes, leafDayOf};
+ghost use Rattle.schedule.specs.InForce.{currentTimeOf, nextOf, timeRemainingOf};
+ghost use Rattle.day_leaves.specs.DayLeaves.{sunOf, rowOf, minutesFrom, parametersFrom, settingsOf, leafTimesOf, noTimes, leafDayOf, timesFrom, instantFrom, currentNumberOf, leafRemainingOf};
 use calendar::dates::Date;
 use models::adjustments::TimeAdjustment;
 use models::high_altitude_rule::HighLatitudeRule;
@@ -15,6 +16,9 @@ use models::parameters::Parameters;
 use models::rounding::Rounding;
 use models::shafaq::Shafaq;
 use schedule::hours::RowNumbers;
+use schedule::in_force::Current;
+use schedule::in_force::Instant;
+use schedule::in_force::Remaining;
 use schedule::prayer_times::PrayerTimes;
 use schedule::prayer_times::Worked;
 use solar::hours::HourNumbers;
@@ -235,4 +239,86 @@ pub extern "C" fn leaf_day(
         latitude,
         parameters(settings),
     ))
+}
+
+fn prayer_times(t: LeafTimes) -> PrayerTimes
+    ensures { λ r. ⌜ r ≡ timesFrom t ⌝ }
+{
+    PrayerTimes {
+        fajr: t.fajr,
+        sunrise: t.sunrise,
+        dhuhr: t.dhuhr,
+        asr: t.asr,
+        maghrib: t.maghrib,
+        isha: t.isha,
+        middle_of_the_night: t.middle_of_the_night,
+        qiyam: t.qiyam,
+        fajr_tomorrow: t.fajr_tomorrow,
+    }
+}
+
+fn instant(seconds: i64, nanoseconds: u32) -> Instant
+    ensures { λ r. ⌜ r ≡ instantFrom seconds nanoseconds ⌝ }
+{
+    Instant {
+        seconds: seconds,
+        nanoseconds: nanoseconds,
+    }
+}
+
+fn number(current: Current) -> u32
+    ensures { λ r. ⌜ r ≡ currentNumberOf current ⌝ }
+{
+    match current {
+        Current::Some(prayer) => prayer.number(),
+        Current::None => 0,
+    }
+}
+
+// The number of the prayer in force, 0 where there is none.
+#[no_mangle]
+pub extern "C" fn leaf_current(times: LeafTimes, seconds: i64, nanoseconds: u32) -> u32
+    ensures { λ r. ⌜ r ≡ currentNumberOf (currentTimeOf (timesFrom times) (instantFrom seconds nanoseconds)) ⌝ }
+{
+    number(prayer_times(times).current_time(instant(seconds, nanoseconds)))
+}
+
+// And of the next one.
+#[no_mangle]
+pub extern "C" fn leaf_next(times: LeafTimes, seconds: i64, nanoseconds: u32) -> u32
+    ensures { λ r. ⌜ r ≡ currentNumberOf (nextOf (timesFrom times) (instantFrom seconds nanoseconds)) ⌝ }
+{
+    number(prayer_times(times).next(instant(seconds, nanoseconds)))
+}
+
+// The time until the next prayer; zeros where none is in force.
+#[repr(C)]
+pub struct LeafRemaining {
+    pub found: bool,
+    pub hours: u32,
+    pub minutes: u32,
+}
+
+fn leaf_hours_minutes(remaining: Remaining) -> LeafRemaining
+    ensures { λ r. ⌜ r ≡ leafRemainingOf remaining ⌝ }
+{
+    match remaining {
+        Remaining::In(time) => LeafRemaining {
+            found: true,
+            hours: time.hours,
+            minutes: time.minutes,
+        },
+        Remaining::Nothing => LeafRemaining {
+            found: false,
+            hours: 0,
+            minutes: 0,
+        },
+    }
+}
+
+#[no_mangle]
+pub extern "C" fn leaf_remaining(times: LeafTimes, seconds: i64, nanoseconds: u32) -> LeafRemaining
+    ensures { λ r. ⌜ r ≡ leafRemainingOf (timeRemainingOf (timesFrom times) (instantFrom seconds nanoseconds)) ⌝ }
+{
+    leaf_hours_minutes(prayer_times(times).time_remaining(instant(seconds, nanoseconds)))
 }

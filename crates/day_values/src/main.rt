@@ -93,10 +93,10 @@ fn seconds(listed: u64) -> i64 {
     (listed % 100000000000) as i64 - 10000000000
 }
 
-// A time of the line's date: 0h and the seconds from there, of which a list gives 50,000,000 more.
+// A time of the line's date: 0h and the seconds from there.
 fn time(line: &[u8], at: usize) -> i64 {
-    let since = decimal(line, at) % 100000000;
-    seconds(hex(line, 326)) + since as i64 - 50000000
+    let start = hex(line, 326) % 100000000000;
+    seconds(start + decimal(line, at) % 100000000)
 }
 
 fn timed(before: Counts, times: LeafTimes, line: &[u8]) -> Counts {
