@@ -3,3 +3,4 @@ pub mod Twilight
 pub mod Rooms
 pub mod TwilightLaws
 pub mod Times
+pub mod InForce

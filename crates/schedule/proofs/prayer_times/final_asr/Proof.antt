@@ -1,33 +1,17 @@
-use mathlib.Core.Path.{_≡_, ap, sym, subst, _∙_}
-use mir.Syntax.{w32, w64}
-use mir.Val.{SFits, Fits}
-use lib.IntN.{ℤ, pos, _+ℤ_, _-ℤ_, _*ℤ_}
-use Prim.Native.Nat.{_+_, _*_, _^_, _<_}
+use mathlib.Core.Path.{_≡_, ap, _∙_}
+use mir.Syntax.{w32}
+use mir.Val.{SFits}
+use Prim.Native.Nat.{_^_}
 use native.Mathlib.Omega.{arith}
-use Rattle.integers.specs.Sums.{summands}
-use Rattle.integers.specs.Ranges.{readBack, read, wide, read-wide}
+use Rattle.integers.specs.Ranges.{readBack, read}
 use Rattle.schedule.specs.Rooms as rooms
-use Rattle.schedule.specs.Rooms.{Near}
 use Rattle.schedule.specs.Times.{finalOf}
 use Rattle.models.specs.declared.prayer.Prayer.the-variants.{Asr}
 use Rattle.schedule.specs.Twilight.{orOf}
 use borrow.Author.Needs.{needs}
 use Rattle.schedule.proofs.prayer_times.final_asr.Statement.{statement}
 use Rattle.schedule.proofs.prayer_times.final_asr.Tie as tie
-use Rattle.schedule.proofs.prayer_times.final_asr.Reads as reads
-use Rattle.schedule.proofs.prayer_times.final_asr.Lts as lts
-use Rattle.schedule.proofs.prayer_times.final_time.Reads as final-time-reads
-use Rattle.schedule.proofs.prayer_times.or_transit.Reads as or-transit-reads
 
--- src/prayer_times.rt:131:9
-or-transit-requires : tie.Need-or-transit-requires
-or-transit-requires c κs = search needs
-
--- src/prayer_times.rt:128:5
-final-time-requires : tie.Need-final-time-requires
-final-time-requires c κs = search needs
-
--- src/prayer_times.rt:125:1
 returns : tie.Need-returns
 returns c =
     let t = c .before .before .before in
@@ -39,4 +23,4 @@ returns c =
     (k ∙ c .final-time .ensures .0 ∙ ap (finalOf (t .args .parameters) Asr) o, rooms.near-as (2 ^ 40) _ (c .final-time .result) k (c .final-time .ensures .1))
 
 pub final-asr-spec : {M : Type 1} → statement M
-final-asr-spec = tie.close (tie.spec or-transit-requires final-time-requires returns)
+final-asr-spec = tie.close (tie.spec (λ c κs. search needs) (λ c κs. search needs) returns)

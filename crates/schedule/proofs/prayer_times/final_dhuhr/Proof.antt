@@ -1,27 +1,16 @@
-use mathlib.Core.Path.{_≡_, ap, sym, subst, _∙_}
-use mir.Syntax.{w32, w64}
-use mir.Val.{SFits, Fits}
-use lib.IntN.{ℤ, pos, _+ℤ_, _-ℤ_, _*ℤ_}
-use Prim.Native.Nat.{_+_, _*_, _^_, _<_}
+use mathlib.Core.Path.{ap, _∙_}
+use mir.Syntax.{w32}
+use mir.Val.{SFits}
+use Prim.Native.Nat.{_^_}
 use native.Mathlib.Omega.{arith}
-use Rattle.integers.specs.Sums.{summands}
-use Rattle.integers.specs.Ranges.{readBack, read, wide, read-wide}
+use Rattle.integers.specs.Ranges.{read}
 use Rattle.schedule.specs.Rooms as rooms
-use Rattle.schedule.specs.Rooms.{Near}
 use Rattle.schedule.specs.Times.{finalOf}
 use Rattle.models.specs.declared.prayer.Prayer.the-variants.{Dhuhr}
 use borrow.Author.Needs.{needs}
 use Rattle.schedule.proofs.prayer_times.final_dhuhr.Statement.{statement}
 use Rattle.schedule.proofs.prayer_times.final_dhuhr.Tie as tie
-use Rattle.schedule.proofs.prayer_times.final_dhuhr.Reads as reads
-use Rattle.schedule.proofs.prayer_times.final_dhuhr.Lts as lts
-use Rattle.schedule.proofs.prayer_times.final_time.Reads as final-time-reads
 
--- src/prayer_times.rt:122:5
-final-time-requires : tie.Need-final-time-requires
-final-time-requires c κs = search needs
-
--- src/prayer_times.rt:119:1
 returns : tie.Need-returns
 returns c =
     let t = c .before .before in
@@ -31,4 +20,4 @@ returns c =
     (k ∙ c .final-time .ensures .0 ∙ ap (finalOf (t .args .parameters) Dhuhr) (read w32 x f), rooms.near-as (2 ^ 40) _ (c .final-time .result) k (c .final-time .ensures .1))
 
 pub final-dhuhr-spec : {M : Type 1} → statement M
-final-dhuhr-spec = tie.close (tie.spec final-time-requires returns)
+final-dhuhr-spec = tie.close (tie.spec (λ c κs. search needs) returns)

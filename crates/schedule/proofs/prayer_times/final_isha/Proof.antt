@@ -1,34 +1,17 @@
-use mathlib.Core.Path.{_≡_, ap, sym, subst, _∙_}
-use mir.Syntax.{w32, w64}
-use mir.Val.{SFits, Fits}
-use lib.IntN.{ℤ, pos, _+ℤ_, _-ℤ_, _*ℤ_}
-use Prim.Native.Nat.{_+_, _*_, _^_, _<_}
+use mathlib.Core.Path.{_≡_, ap, _∙_}
+use mir.Syntax.{w64}
+use lib.IntN.{ℤ}
+use Prim.Native.Nat.{_+_, _^_}
 use native.Mathlib.Omega.{arith}
-use Rattle.integers.specs.Sums.{summands}
-use Rattle.integers.specs.Ranges.{readBack, read, wide, read-wide}
+use Rattle.integers.specs.Ranges.{readBack}
 use Rattle.schedule.specs.Rooms as rooms
-use Rattle.schedule.specs.Rooms.{Near}
 use Rattle.schedule.specs.Times.{finalIshaOf}
-use Rattle.schedule.specs.Twilight.{calculateIshaOf}
 use Rattle.stride.specs.Times.{satOf, roundedOf}
 use Rattle.stride.specs.TimesLaws.{rounded-in}
 use borrow.Author.Needs.{needs}
 use Rattle.schedule.proofs.prayer_times.final_isha.Statement.{statement}
 use Rattle.schedule.proofs.prayer_times.final_isha.Tie as tie
-use Rattle.schedule.proofs.prayer_times.final_isha.Reads as reads
-use Rattle.schedule.proofs.prayer_times.final_isha.Lts as lts
-use Rattle.schedule.proofs.twilight.calculate_isha.Reads as calculate-isha-reads
-use Rattle.stride.proofs.times.rounded_minute.Reads as rounded-minute-reads
 
--- src/prayer_times.rt:97:9
-calculate-isha-requires : tie.Need-calculate-isha-requires
-calculate-isha-requires c κs = search needs
-
--- src/prayer_times.rt:96:5
-rounded-minute-requires : tie.Need-rounded-minute-requires
-rounded-minute-requires c κs = search needs
-
--- src/prayer_times.rt:85:1
 returns : tie.Need-returns
 unfolding finalIshaOf
 returns c =
@@ -44,4 +27,4 @@ returns c =
     (q ∙ ap (roundedOf r) (c .before .calculate-isha .ensures .0), rooms.near-as (2 ^ 40) _ (roundedOf r z) q n)
 
 pub final-isha-spec : {M : Type 1} → statement M
-final-isha-spec = tie.close (tie.spec calculate-isha-requires rounded-minute-requires returns)
+final-isha-spec = tie.close (tie.spec (λ c κs. search needs) (λ c κs. search needs) returns)

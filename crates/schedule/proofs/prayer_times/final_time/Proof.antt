@@ -1,13 +1,10 @@
-use mathlib.Core.Path.{_≡_, ap, sym, subst, _∙_}
-use mir.Syntax.{w32, w64}
-use mir.Val.{SFits, Fits}
-use lib.IntN.{ℤ, pos, _+ℤ_, _-ℤ_, _*ℤ_}
-use Prim.Native.Nat.{_+_, _*_, _^_, _<_}
+use mathlib.Core.Path.{_≡_, ap, _∙_}
+use mir.Syntax.{w64}
+use lib.IntN.{ℤ}
+use Prim.Native.Nat.{_+_, _^_}
 use native.Mathlib.Omega.{arith}
-use Rattle.integers.specs.Sums.{summands}
-use Rattle.integers.specs.Ranges.{readBack, read, wide, read-wide}
+use Rattle.integers.specs.Ranges.{readBack, wide, read-wide}
 use Rattle.schedule.specs.Rooms as rooms
-use Rattle.schedule.specs.Rooms.{Near}
 use Rattle.schedule.specs.Times.{finalOf}
 use Rattle.stride.specs.Times.{satOf, roundedOf, adjustedOf}
 use Rattle.stride.specs.TimesLaws.{rounded-in}
@@ -15,27 +12,16 @@ use Rattle.models.specs.Settings.{timeAdjustmentsOf}
 use borrow.Author.Needs.{needs}
 use Rattle.schedule.proofs.prayer_times.final_time.Statement.{statement}
 use Rattle.schedule.proofs.prayer_times.final_time.Tie as tie
-use Rattle.schedule.proofs.prayer_times.final_time.Reads as reads
-use Rattle.schedule.proofs.prayer_times.final_time.Lts as lts
-use Rattle.schedule.proofs.twilight.adjusted.Reads as adjusted-reads
-use Rattle.stride.proofs.times.rounded_minute.Reads as rounded-minute-reads
 
--- src/prayer_times.rt:65:49
 cast-adjusted : tie.Need-cast-adjusted
 cast-adjusted c =
     wide (c .args .time) (c .fits .time)
 
--- src/prayer_times.rt:65:20
 adjusted-requires : tie.Need-adjusted-requires
 adjusted-requires c κs =
     let x = c .args .time in
     rooms.near-as (2 ^ 38) _ x (read-wide x (c .fits .time)) (rooms.near-more (2 ^ 31) (2 ^ 38) x (omega arith) (rooms.near-i32 x (c .fits .time)))
 
--- src/prayer_times.rt:65:5
-rounded-minute-requires : tie.Need-rounded-minute-requires
-rounded-minute-requires c κs = search needs
-
--- src/prayer_times.rt:61:1
 returns : tie.Need-returns
 unfolding finalOf
 returns c =
@@ -54,4 +40,4 @@ returns c =
 
 pub final-time-spec : {M : Type 1} → statement M
 final-time-spec =
-    tie.close (tie.spec cast-adjusted adjusted-requires rounded-minute-requires returns)
+    tie.close (tie.spec cast-adjusted adjusted-requires (λ c κs. search needs) returns)

@@ -1,11 +1,10 @@
-use mathlib.Core.Path.{_≡_, ap, sym, subst, _∙_}
-use mir.Syntax.{w32, w64}
-use mir.Val.{SFits, Fits}
-use lib.IntN.{ℤ, pos, _+ℤ_, _-ℤ_, _*ℤ_}
-use Prim.Native.Nat.{_+_, _*_, _^_, _<_}
+use mathlib.Core.Path.{_≡_, ap, _∙_}
+use mir.Syntax.{w64}
+use lib.IntN.{ℤ, _+ℤ_, _-ℤ_}
+use Prim.Native.Nat.{_+_, _^_}
 use native.Mathlib.Omega.{arith}
 use Rattle.integers.specs.Sums.{summands}
-use Rattle.integers.specs.Ranges.{readBack, read, wide, read-wide}
+use Rattle.integers.specs.Ranges.{readBack, read}
 use Rattle.schedule.specs.Rooms as rooms
 use Rattle.schedule.specs.Rooms.{Near}
 use Rattle.schedule.specs.Times.{qiyamOf}
@@ -17,12 +16,7 @@ use Rattle.models.specs.declared.rounding.Rounding.the-variants.{Nearest}
 use borrow.Author.Needs.{needs}
 use Rattle.schedule.proofs.prayer_times.last_third_of_the_night.Statement.{statement}
 use Rattle.schedule.proofs.prayer_times.last_third_of_the_night.Tie as tie
-use Rattle.schedule.proofs.prayer_times.last_third_of_the_night.Reads as reads
-use Rattle.schedule.proofs.prayer_times.last_third_of_the_night.Lts as lts
-use Rattle.night.proofs.portions.last_third.Reads as last-third-reads
-use Rattle.stride.proofs.times.rounded_minute.Reads as rounded-minute-reads
 
--- src/prayer_times.rt:145:30
 sub-last-third : tie.Need-sub-last-third
 sub-last-third c =
     let t = c in
@@ -34,11 +28,6 @@ sub-last-third c =
     let n = rooms.near-more (2 ^ 40 + 2 ^ 40) (2 ^ 62) d (omega arith) h in
     rooms.held _ d e n
 
--- src/prayer_times.rt:145:19
-last-third-requires : tie.Need-last-third-requires
-last-third-requires c κs = search needs
-
--- src/prayer_times.rt:145:9
 add-rounded-minute : tie.Need-add-rounded-minute
 add-rounded-minute c =
     let t = c .before in
@@ -58,11 +47,6 @@ add-rounded-minute c =
     let o = rooms.near-more (2 ^ 40 + 2 ^ 41) (2 ^ 62) x (omega arith) a in
     rooms.held _ x s o
 
--- src/prayer_times.rt:144:5
-rounded-minute-requires : tie.Need-rounded-minute-requires
-rounded-minute-requires c κs = search needs
-
--- src/prayer_times.rt:140:1
 returns : tie.Need-returns
 unfolding qiyamOf
 returns c =
@@ -89,9 +73,4 @@ returns c =
 pub last-third-of-the-night-spec : {M : Type 1} → statement M
 last-third-of-the-night-spec =
     tie.close
-    (tie.spec
-    sub-last-third
-    last-third-requires
-    add-rounded-minute
-    rounded-minute-requires
-    returns)
+    (tie.spec sub-last-third (λ c κs. search needs) add-rounded-minute (λ c κs. search needs) returns)

@@ -1,11 +1,10 @@
-use mathlib.Core.Path.{_≡_, ap, sym, subst, _∙_}
-use mir.Syntax.{w32, w64}
-use mir.Val.{SFits, Fits}
-use lib.IntN.{ℤ, pos, _+ℤ_, _-ℤ_, _*ℤ_}
-use Prim.Native.Nat.{_+_, _*_, _^_, _<_}
+use mathlib.Core.Path.{_≡_, ap, _∙_}
+use mir.Syntax.{w64}
+use lib.IntN.{ℤ, _+ℤ_, _-ℤ_}
+use Prim.Native.Nat.{_+_, _^_}
 use native.Mathlib.Omega.{arith}
 use Rattle.integers.specs.Sums.{summands}
-use Rattle.integers.specs.Ranges.{readBack, read, wide, read-wide}
+use Rattle.integers.specs.Ranges.{readBack, read}
 use Rattle.schedule.specs.Rooms as rooms
 use Rattle.schedule.specs.Rooms.{Near}
 use Rattle.schedule.specs.Times.{middleOfTheNightOf}
@@ -17,12 +16,7 @@ use Rattle.models.specs.declared.rounding.Rounding.the-variants.{Nearest}
 use borrow.Author.Needs.{needs}
 use Rattle.schedule.proofs.prayer_times.middle_of_the_night.Statement.{statement}
 use Rattle.schedule.proofs.prayer_times.middle_of_the_night.Tie as tie
-use Rattle.schedule.proofs.prayer_times.middle_of_the_night.Reads as reads
-use Rattle.schedule.proofs.prayer_times.middle_of_the_night.Lts as lts
-use Rattle.night.proofs.portions.middle.Reads as middle-reads
-use Rattle.stride.proofs.times.rounded_minute.Reads as rounded-minute-reads
 
--- src/prayer_times.rt:137:37
 sub-middle : tie.Need-sub-middle
 sub-middle c =
     let t = c in
@@ -34,11 +28,6 @@ sub-middle c =
     let n = rooms.near-more (2 ^ 40 + 2 ^ 40) (2 ^ 62) d (omega arith) h in
     rooms.held _ d e n
 
--- src/prayer_times.rt:137:30
-middle-requires : tie.Need-middle-requires
-middle-requires c κs = search needs
-
--- src/prayer_times.rt:137:20
 add-rounded-minute : tie.Need-add-rounded-minute
 add-rounded-minute c =
     let t = c .before in
@@ -58,11 +47,6 @@ add-rounded-minute c =
     let o = rooms.near-more (2 ^ 40 + 2 ^ 41) (2 ^ 62) x (omega arith) a in
     rooms.held _ x s o
 
--- src/prayer_times.rt:137:5
-rounded-minute-requires : tie.Need-rounded-minute-requires
-rounded-minute-requires c κs = search needs
-
--- src/prayer_times.rt:133:1
 returns : tie.Need-returns
 unfolding middleOfTheNightOf
 returns c =
@@ -89,4 +73,4 @@ returns c =
 pub middle-of-the-night-spec : {M : Type 1} → statement M
 middle-of-the-night-spec =
     tie.close
-    (tie.spec sub-middle middle-requires add-rounded-minute rounded-minute-requires returns)
+    (tie.spec sub-middle (λ c κs. search needs) add-rounded-minute (λ c κs. search needs) returns)

@@ -1,27 +1,19 @@
-use mathlib.Core.Path.{_≡_, ap, sym, subst, _∙_}
-use mir.Syntax.{w32, w64}
-use mir.Val.{SFits, Fits}
-use lib.IntN.{ℤ, pos, _+ℤ_, _-ℤ_, _*ℤ_}
-use Prim.Native.Nat.{_+_, _*_, _^_, _<_}
+use mir.Syntax.{w64}
+use lib.IntN.{ℤ, _+ℤ_}
+use Prim.Native.Nat.{_+_, _^_}
 use native.Mathlib.Omega.{arith}
-use borrow.Author.Needs.{needs}
 use Rattle.integers.specs.Sums.{summands}
-use Rattle.integers.specs.Ranges.{readBack, read, wide, read-wide}
+use Rattle.integers.specs.Ranges.{read}
 use Rattle.schedule.specs.Rooms as rooms
-use Rattle.schedule.specs.Rooms.{Near}
 use Rattle.schedule.proofs.prayer_times.on.Statement.{statement}
 use Rattle.schedule.proofs.prayer_times.on.Tie as tie
-use Rattle.schedule.proofs.prayer_times.on.Reads as reads
-use Rattle.schedule.proofs.prayer_times.on.Lts as lts
 
--- src/prayer_times.rt:58:5
 add-result : tie.Need-add-result
 add-result c =
     let e = summands (read w64 (c .args .start) (c .fits .start)) (read w64 (c .args .time) (c .fits .time)) in
     let n = rooms.near-more (2 ^ 58 + 2 ^ 43) (2 ^ 62) (c .args .start +ℤ c .args .time) (omega arith) (rooms.near-sum (2 ^ 58) (2 ^ 43) (c .args .start) (c .args .time) (c .pre .0) (c .pre .1)) in
     rooms.held _ (c .args .start +ℤ c .args .time) e n
 
--- src/prayer_times.rt:54:1
 returns : tie.Need-returns
 returns c =
     let e = summands (read w64 (c .args .start) (c .fits .start)) (read w64 (c .args .time) (c .fits .time)) in

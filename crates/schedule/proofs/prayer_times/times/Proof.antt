@@ -1,141 +1,79 @@
-use mathlib.Core.Path.{_≡_, ap, sym, subst, _∙_}
-use mir.Syntax.{w32, w64}
-use mir.Val.{SFits, Fits}
-use lib.IntN.{ℤ, pos, _+ℤ_, _-ℤ_, _*ℤ_}
-use Prim.Native.Nat.{_+_, _*_, _^_, _<_}
+use mathlib.Core.Path.{_∙_}
+use Prim.Native.Nat.{_^_}
 use native.Mathlib.Omega.{arith}
 use Rattle.integers.specs.Sums.{summands}
-use Rattle.integers.specs.Ranges.{readBack, read, wide, read-wide}
 use Rattle.schedule.specs.Rooms as rooms
-use Rattle.schedule.specs.Rooms.{Near}
 use Rattle.schedule.specs.Times.{middleOfTheNightOf, qiyamOf, timesOf}
 use borrow.Author.Needs.{needs}
 use Rattle.schedule.proofs.prayer_times.times.Statement.{statement}
 use Rattle.schedule.proofs.prayer_times.times.Tie as tie
-use Rattle.schedule.proofs.prayer_times.times.Reads as reads
-use Rattle.schedule.proofs.prayer_times.times.Lts as lts
-use Rattle.schedule.proofs.prayer_times.final_asr.Reads as final-asr-reads
-use Rattle.schedule.proofs.prayer_times.final_dhuhr.Reads as final-dhuhr-reads
-use Rattle.schedule.proofs.prayer_times.final_fajr.Reads as final-fajr-reads
-use Rattle.schedule.proofs.prayer_times.final_isha.Reads as final-isha-reads
-use Rattle.schedule.proofs.prayer_times.final_maghrib.Reads as final-maghrib-reads
-use Rattle.schedule.proofs.prayer_times.final_sunrise.Reads as final-sunrise-reads
-use Rattle.schedule.proofs.prayer_times.last_third_of_the_night.Reads as last-third-of-the-night-reads
-use Rattle.schedule.proofs.prayer_times.middle_of_the_night.Reads as middle-of-the-night-reads
-use Rattle.schedule.proofs.prayer_times.next_fajr.Reads as next-fajr-reads
-use Rattle.schedule.proofs.prayer_times.on.Reads as on-reads
-use Rattle.schedule.proofs.prayer_times.start.Reads as start-reads
 
--- src/prayer_times.rt:193:9
-start-requires : tie.Need-start-requires
-start-requires c κs = search needs
-
--- src/prayer_times.rt:194:9
-final-maghrib-requires : tie.Need-final-maghrib-requires
-final-maghrib-requires c κs = search needs
-
--- src/prayer_times.rt:195:9
-next-fajr-requires : tie.Need-next-fajr-requires
-next-fajr-requires c κs = search needs
-
--- src/prayer_times.rt:204:25
-final-fajr-requires : tie.Need-final-fajr-requires
-final-fajr-requires c κs = search needs
-
--- src/prayer_times.rt:204:15
 on-requires : tie.Need-on-requires
 on-requires c κs =
     let ks = rooms.read-near (2 ^ 58) (c .before .before .before .start .result) (omega arith) (c .before .before .before .start .ensures .1) in
     let kt = rooms.read-near (2 ^ 40) (c .final-fajr .result) (omega arith) (c .final-fajr .ensures .1) in
     (rooms.near-as (2 ^ 58) _ (c .before .before .before .start .result) ks (c .before .before .before .start .ensures .1), rooms.near-as (2 ^ 43) _ (c .final-fajr .result) kt (rooms.near-more (2 ^ 40) (2 ^ 43) (c .final-fajr .result) (omega arith) (c .final-fajr .ensures .1)))
 
--- src/prayer_times.rt:205:28
-final-sunrise-requires : tie.Need-final-sunrise-requires
-final-sunrise-requires c κs = search needs
-
--- src/prayer_times.rt:205:18
 on-requires-2 : tie.Need-on-requires-2
 on-requires-2 c κs =
     let ks = rooms.read-near (2 ^ 58) (c .before .before .before .before .before .start .result) (omega arith) (c .before .before .before .before .before .start .ensures .1) in
     let kt = rooms.read-near (2 ^ 40) (c .final-sunrise .result) (omega arith) (c .final-sunrise .ensures .1) in
     (rooms.near-as (2 ^ 58) _ (c .before .before .before .before .before .start .result) ks (c .before .before .before .before .before .start .ensures .1), rooms.near-as (2 ^ 43) _ (c .final-sunrise .result) kt (rooms.near-more (2 ^ 40) (2 ^ 43) (c .final-sunrise .result) (omega arith) (c .final-sunrise .ensures .1)))
 
--- src/prayer_times.rt:206:26
-final-dhuhr-requires : tie.Need-final-dhuhr-requires
-final-dhuhr-requires c κs = search needs
-
--- src/prayer_times.rt:206:16
 on-requires-3 : tie.Need-on-requires-3
 on-requires-3 c κs =
     let ks = rooms.read-near (2 ^ 58) (c .before .before .before .before .before .before .before .start .result) (omega arith) (c .before .before .before .before .before .before .before .start .ensures .1) in
     let kt = rooms.read-near (2 ^ 40) (c .final-dhuhr .result) (omega arith) (c .final-dhuhr .ensures .1) in
     (rooms.near-as (2 ^ 58) _ (c .before .before .before .before .before .before .before .start .result) ks (c .before .before .before .before .before .before .before .start .ensures .1), rooms.near-as (2 ^ 43) _ (c .final-dhuhr .result) kt (rooms.near-more (2 ^ 40) (2 ^ 43) (c .final-dhuhr .result) (omega arith) (c .final-dhuhr .ensures .1)))
 
--- src/prayer_times.rt:207:24
-final-asr-requires : tie.Need-final-asr-requires
-final-asr-requires c κs = search needs
-
--- src/prayer_times.rt:207:14
 on-requires-4 : tie.Need-on-requires-4
 on-requires-4 c κs =
     let ks = rooms.read-near (2 ^ 58) (c .before .before .before .before .before .before .before .before .before .start .result) (omega arith) (c .before .before .before .before .before .before .before .before .before .start .ensures .1) in
     let kt = rooms.read-near (2 ^ 40) (c .final-asr .result) (omega arith) (c .final-asr .ensures .1) in
     (rooms.near-as (2 ^ 58) _ (c .before .before .before .before .before .before .before .before .before .start .result) ks (c .before .before .before .before .before .before .before .before .before .start .ensures .1), rooms.near-as (2 ^ 43) _ (c .final-asr .result) kt (rooms.near-more (2 ^ 40) (2 ^ 43) (c .final-asr .result) (omega arith) (c .final-asr .ensures .1)))
 
--- src/prayer_times.rt:208:18
 on-requires-5 : tie.Need-on-requires-5
 on-requires-5 c κs =
     let ks = rooms.read-near (2 ^ 58) (c .before .before .before .before .before .before .before .before .before .before .start .result) (omega arith) (c .before .before .before .before .before .before .before .before .before .before .start .ensures .1) in
     let kt = rooms.read-near (2 ^ 40) (c .before .before .before .before .before .before .before .before .before .final-maghrib .result) (omega arith) (c .before .before .before .before .before .before .before .before .before .final-maghrib .ensures .1) in
     (rooms.near-as (2 ^ 58) _ (c .before .before .before .before .before .before .before .before .before .before .start .result) ks (c .before .before .before .before .before .before .before .before .before .before .start .ensures .1), rooms.near-as (2 ^ 43) _ (c .before .before .before .before .before .before .before .before .before .final-maghrib .result) kt (rooms.near-more (2 ^ 40) (2 ^ 43) (c .before .before .before .before .before .before .before .before .before .final-maghrib .result) (omega arith) (c .before .before .before .before .before .before .before .before .before .final-maghrib .ensures .1)))
 
--- src/prayer_times.rt:209:25
-final-isha-requires : tie.Need-final-isha-requires
-final-isha-requires c κs = search needs
-
--- src/prayer_times.rt:209:15
 on-requires-6 : tie.Need-on-requires-6
 on-requires-6 c κs =
     let ks = rooms.read-near (2 ^ 58) (c .before .before .before .before .before .before .before .before .before .before .before .before .start .result) (omega arith) (c .before .before .before .before .before .before .before .before .before .before .before .before .start .ensures .1) in
     let kt = rooms.read-near (2 ^ 40) (c .final-isha .result) (omega arith) (c .final-isha .ensures .1) in
     (rooms.near-as (2 ^ 58) _ (c .before .before .before .before .before .before .before .before .before .before .before .before .start .result) ks (c .before .before .before .before .before .before .before .before .before .before .before .before .start .ensures .1), rooms.near-as (2 ^ 43) _ (c .final-isha .result) kt (rooms.near-more (2 ^ 40) (2 ^ 43) (c .final-isha .result) (omega arith) (c .final-isha .ensures .1)))
 
--- src/prayer_times.rt:210:40
 middle-of-the-night-requires : tie.Need-middle-of-the-night-requires
 middle-of-the-night-requires c κs =
     let km = rooms.read-near (2 ^ 40) (c .before .before .before .before .before .before .before .before .before .before .before .before .final-maghrib .result) (omega arith) (c .before .before .before .before .before .before .before .before .before .before .before .before .final-maghrib .ensures .1) in
     let kf = rooms.read-near (2 ^ 40) (c .before .before .before .before .before .before .before .before .before .before .before .next-fajr .result) (omega arith) (c .before .before .before .before .before .before .before .before .before .before .before .next-fajr .ensures .1) in
     (rooms.near-as (2 ^ 40) _ (c .before .before .before .before .before .before .before .before .before .before .before .before .final-maghrib .result) km (c .before .before .before .before .before .before .before .before .before .before .before .before .final-maghrib .ensures .1), rooms.near-as (2 ^ 40) _ (c .before .before .before .before .before .before .before .before .before .before .before .next-fajr .result) kf (c .before .before .before .before .before .before .before .before .before .before .before .next-fajr .ensures .1))
 
--- src/prayer_times.rt:210:30
 on-requires-7 : tie.Need-on-requires-7
 on-requires-7 c κs =
     let ks = rooms.read-near (2 ^ 58) (c .before .before .before .before .before .before .before .before .before .before .before .before .before .before .start .result) (omega arith) (c .before .before .before .before .before .before .before .before .before .before .before .before .before .before .start .ensures .1) in
     let kt = rooms.read-near (2 ^ 43) (c .middle-of-the-night .result) (omega arith) (c .middle-of-the-night .ensures .1) in
     (rooms.near-as (2 ^ 58) _ (c .before .before .before .before .before .before .before .before .before .before .before .before .before .before .start .result) ks (c .before .before .before .before .before .before .before .before .before .before .before .before .before .before .start .ensures .1), rooms.near-as (2 ^ 43) _ (c .middle-of-the-night .result) kt (c .middle-of-the-night .ensures .1))
 
--- src/prayer_times.rt:211:26
 last-third-of-the-night-requires : tie.Need-last-third-of-the-night-requires
 last-third-of-the-night-requires c κs =
     let km = rooms.read-near (2 ^ 40) (c .before .before .before .before .before .before .before .before .before .before .before .before .before .before .final-maghrib .result) (omega arith) (c .before .before .before .before .before .before .before .before .before .before .before .before .before .before .final-maghrib .ensures .1) in
     let kf = rooms.read-near (2 ^ 40) (c .before .before .before .before .before .before .before .before .before .before .before .before .before .next-fajr .result) (omega arith) (c .before .before .before .before .before .before .before .before .before .before .before .before .before .next-fajr .ensures .1) in
     (rooms.near-as (2 ^ 40) _ (c .before .before .before .before .before .before .before .before .before .before .before .before .before .before .final-maghrib .result) km (c .before .before .before .before .before .before .before .before .before .before .before .before .before .before .final-maghrib .ensures .1), rooms.near-as (2 ^ 40) _ (c .before .before .before .before .before .before .before .before .before .before .before .before .before .next-fajr .result) kf (c .before .before .before .before .before .before .before .before .before .before .before .before .before .next-fajr .ensures .1))
 
--- src/prayer_times.rt:211:16
 on-requires-8 : tie.Need-on-requires-8
 on-requires-8 c κs =
     let ks = rooms.read-near (2 ^ 58) (c .before .before .before .before .before .before .before .before .before .before .before .before .before .before .before .before .start .result) (omega arith) (c .before .before .before .before .before .before .before .before .before .before .before .before .before .before .before .before .start .ensures .1) in
     let kt = rooms.read-near (2 ^ 43) (c .last-third-of-the-night .result) (omega arith) (c .last-third-of-the-night .ensures .1) in
     (rooms.near-as (2 ^ 58) _ (c .before .before .before .before .before .before .before .before .before .before .before .before .before .before .before .before .start .result) ks (c .before .before .before .before .before .before .before .before .before .before .before .before .before .before .before .before .start .ensures .1), rooms.near-as (2 ^ 43) _ (c .last-third-of-the-night .result) kt (c .last-third-of-the-night .ensures .1))
 
--- src/prayer_times.rt:212:24
 on-requires-9 : tie.Need-on-requires-9
 on-requires-9 c κs =
     let ks = rooms.read-near (2 ^ 58) (c .before .before .before .before .before .before .before .before .before .before .before .before .before .before .before .before .before .start .result) (omega arith) (c .before .before .before .before .before .before .before .before .before .before .before .before .before .before .before .before .before .start .ensures .1) in
     let kt = rooms.read-near (2 ^ 40) (c .before .before .before .before .before .before .before .before .before .before .before .before .before .before .before .next-fajr .result) (omega arith) (c .before .before .before .before .before .before .before .before .before .before .before .before .before .before .before .next-fajr .ensures .1) in
     (rooms.near-as (2 ^ 58) _ (c .before .before .before .before .before .before .before .before .before .before .before .before .before .before .before .before .before .start .result) ks (c .before .before .before .before .before .before .before .before .before .before .before .before .before .before .before .before .before .start .ensures .1), rooms.near-as (2 ^ 43) _ (c .before .before .before .before .before .before .before .before .before .before .before .before .before .before .before .next-fajr .result) kt (rooms.near-more (2 ^ 40) (2 ^ 43) (c .before .before .before .before .before .before .before .before .before .before .before .before .before .before .before .next-fajr .result) (omega arith) (c .before .before .before .before .before .before .before .before .before .before .before .before .before .before .before .next-fajr .ensures .1)))
 
--- src/prayer_times.rt:179:1
 returns : tie.Need-returns
 unfolding timesOf
 returns c =
@@ -183,24 +121,4 @@ returns c =
 pub times-spec : {M : Type 1} → statement M
 times-spec =
     tie.close
-    (tie.spec
-    start-requires
-    final-maghrib-requires
-    next-fajr-requires
-    final-fajr-requires
-    on-requires
-    final-sunrise-requires
-    on-requires-2
-    final-dhuhr-requires
-    on-requires-3
-    final-asr-requires
-    on-requires-4
-    on-requires-5
-    final-isha-requires
-    on-requires-6
-    middle-of-the-night-requires
-    on-requires-7
-    last-third-of-the-night-requires
-    on-requires-8
-    on-requires-9
-    returns)
+    (tie.spec (λ c κs. search needs) (λ c κs. search needs) (λ c κs. search needs) (λ c κs. search needs) on-requires (λ c κs. search needs) on-requires-2 (λ c κs. search needs) on-requires-3 (λ c κs. search needs) on-requires-4 on-requires-5 (λ c κs. search needs) on-requires-6 middle-of-the-night-requires on-requires-7 last-third-of-the-night-requires on-requires-8 on-requires-9 returns)

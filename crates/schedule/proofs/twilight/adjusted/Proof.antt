@@ -1,36 +1,18 @@
 use Rattle.models.specs.Settings.{timeAdjustmentsOf}
-use Rattle.integers.specs.Parts.{P, N}
-use mathlib.Core.Path.{_≡_, ap, sym, subst, _∙_}
-use mir.Syntax.{w32, w64}
-use mir.Val.{SFits}
-use lib.IntN.{ℤ, pos, _+ℤ_, _-ℤ_, _*ℤ_}
+use mathlib.Core.Path.{_≡_, ap, subst, _∙_}
+use mir.Syntax.{w64}
 use Prim.Native.Nat.{_+_, _*_, _^_}
 use native.Mathlib.Omega.{arith}
-use Rattle.integers.specs.Sums.{summands}
-use Rattle.integers.specs.Ranges.{readBack, read, wide, read-wide}
+use Rattle.integers.specs.Ranges.{readBack, read}
 use Rattle.schedule.specs.Rooms as rooms
 use Rattle.schedule.specs.Rooms.{Near}
-use Rattle.schedule.specs.TwilightLaws as laws
 use Rattle.stride.specs.Times.{satOf, adjustedOf}
 use Rattle.stride.specs.TimesLaws.{adjusted-in}
-use Rattle.models.specs.Settings.{minutesFor, timeAdjustmentsOf}
+use Rattle.models.specs.Settings.{timeAdjustmentsOf}
 use borrow.Author.Needs.{needs}
 use Rattle.schedule.proofs.twilight.adjusted.Statement.{statement}
 use Rattle.schedule.proofs.twilight.adjusted.Tie as tie
-use Rattle.schedule.proofs.twilight.adjusted.Reads as reads
-use Rattle.schedule.proofs.twilight.adjusted.Lts as lts
-use Rattle.models.proofs.parameters.Parameters.time_adjustments.Reads as time-adjustments-reads
-use Rattle.stride.proofs.times.adjust_time.Reads as adjust-time-reads
 
--- src/twilight.rt:88:23
-time-adjustments-requires : tie.Need-time-adjustments-requires
-time-adjustments-requires c κs = search needs
-
--- src/twilight.rt:88:5
-adjust-time-requires : tie.Need-adjust-time-requires
-adjust-time-requires c κs = search needs
-
--- src/twilight.rt:84:1
 returns : tie.Need-returns
 returns c =
     let t = c .before .before in
@@ -46,4 +28,4 @@ returns c =
     (e, rooms.near-as (2 ^ 39) _ (adjustedOf (t .args .time) x) e near)
 
 pub adjusted-spec : {M : Type 1} → statement M
-adjusted-spec = tie.close (tie.spec time-adjustments-requires adjust-time-requires returns)
+adjusted-spec = tie.close (tie.spec (λ c κs. search needs) (λ c κs. search needs) returns)

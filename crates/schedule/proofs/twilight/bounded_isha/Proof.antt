@@ -1,52 +1,25 @@
 use mathlib.Core.Path.{_≡_, ap, sym, subst, _∙_}
 use mir.Syntax.{w32, w64}
 use mir.Val.{SFits}
-use lib.IntN.{ℤ, pos, _+ℤ_, _-ℤ_, _*ℤ_}
+use lib.IntN.{ℤ, _+ℤ_}
 use Prim.Native.Nat.{_+_, _^_}
 use native.Mathlib.Omega.{arith}
 use Rattle.integers.specs.Sums.{summands}
-use Rattle.integers.specs.Ranges.{readBack, read, wide, read-wide}
+use Rattle.integers.specs.Ranges.{readBack, wide, read-wide}
 use Rattle.schedule.specs.Rooms as rooms
 use Rattle.schedule.specs.Rooms.{Near}
-use Rattle.schedule.specs.TwilightLaws as laws
 use Rattle.schedule.specs.Twilight.{nightOf, earlierOf, orOf, ishaBoundOf, boundedIshaOf}
 use Rattle.night.specs.Portions.{seventhOf}
 use borrow.Author.Needs.{needs}
 use Rattle.schedule.proofs.twilight.bounded_isha.Statement.{statement}
 use Rattle.schedule.proofs.twilight.bounded_isha.Tie as tie
-use Rattle.schedule.proofs.twilight.bounded_isha.Reads as reads
-use Rattle.schedule.proofs.twilight.bounded_isha.Lts as lts
-use Rattle.night.proofs.portions.seventh.Reads as seventh-reads
-use Rattle.schedule.proofs.twilight.by_seventh.Reads as by-seventh-reads
-use Rattle.schedule.proofs.twilight.earlier.Reads as earlier-reads
-use Rattle.schedule.proofs.twilight.isha_bound.Reads as isha-bound-reads
-use Rattle.schedule.proofs.twilight.night.Reads as night-reads
-use Rattle.schedule.proofs.twilight.or.Reads as or-reads
 
--- src/twilight.rt:174:9
-night-requires : tie.Need-night-requires
-night-requires c κs = search needs
-
--- src/twilight.rt:175:9
-isha-bound-requires : tie.Need-isha-bound-requires
-isha-bound-requires c κs = search needs
-
--- src/twilight.rt:176:8
-by-seventh-requires : tie.Need-by-seventh-requires
-by-seventh-requires c κs = search needs
-
--- src/twilight.rt:177:20
 cast-isha : tie.Need-cast-isha
 cast-isha c =
     let t = c .before .before .before .before .before .before in
     let f : SFits w32 (t .args .today .sunset) = search needs in
     wide (t .args .today .sunset) f
 
--- src/twilight.rt:177:42
-seventh-requires : tie.Need-seventh-requires
-seventh-requires c κs = search needs
-
--- src/twilight.rt:177:20
 add-isha : tie.Need-add-isha
 add-isha c =
     let t = c .before .before .before .before .before .before .before in
@@ -66,11 +39,6 @@ add-isha c =
     let near : Near (2 ^ 62) x = rooms.near-more (2 ^ 31 + 2 ^ 33) (2 ^ 62) x (omega arith) near-x in
     rooms.held _ x e near
 
--- src/twilight.rt:178:9
-earlier-requires : tie.Need-earlier-requires
-earlier-requires c κs = search needs
-
--- src/twilight.rt:178:9
 returns : tie.Need-returns
 unfolding boundedIshaOf
 returns c =
@@ -97,7 +65,6 @@ returns c =
     let q = k ∙ c .earlier .ensures ∙ rooms.both earlierOf (rooms.read-held _ x e near) bound in
     (q ∙ simp (sym (c .before .before .before .before .before .by-seventh .ensures), c .before .before .before .before .if1 .taken), rooms.near-as (2 ^ 34) _ (earlierOf x y) q (rooms.near-earlier (2 ^ 34) x y (rooms.near-more (2 ^ 31 + 2 ^ 33) (2 ^ 34) x (omega arith) near-x) near-bound))
 
--- src/twilight.rt:180:13
 or-requires : tie.Need-or-requires
 or-requires c κs =
     let t = c .before .before .before .before in
@@ -112,11 +79,6 @@ or-requires c κs =
     let near-bound : Near (2 ^ 34) y = subst (Near (2 ^ 34)) (sym kb ∙ bound) (c .before .before .isha-bound .ensures .1) in
     rooms.near-as (2 ^ 34) _ y bound near-bound
 
--- src/twilight.rt:180:5
-earlier-requires-2 : tie.Need-earlier-requires-2
-earlier-requires-2 c κs = search needs
-
--- src/twilight.rt:163:1
 returns-2 : tie.Need-returns-2
 unfolding boundedIshaOf
 returns-2 c =
@@ -139,15 +101,4 @@ returns-2 c =
 pub bounded-isha-spec : {M : Type 1} → statement M
 bounded-isha-spec =
     tie.close
-    (tie.spec
-    night-requires
-    isha-bound-requires
-    by-seventh-requires
-    cast-isha
-    seventh-requires
-    add-isha
-    earlier-requires
-    returns
-    or-requires
-    earlier-requires-2
-    returns-2)
+    (tie.spec (λ c κs. search needs) (λ c κs. search needs) (λ c κs. search needs) cast-isha (λ c κs. search needs) add-isha (λ c κs. search needs) returns or-requires (λ c κs. search needs) returns-2)

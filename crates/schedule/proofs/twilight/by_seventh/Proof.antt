@@ -4,25 +4,16 @@ use Rattle.schedule.specs.Twilight.{bySeventhOf}
 use borrow.Author.Needs.{needs}
 use Rattle.schedule.proofs.twilight.by_seventh.Statement.{statement}
 use Rattle.schedule.proofs.twilight.by_seventh.Tie as tie
-use Rattle.schedule.proofs.twilight.by_seventh.Reads as reads
-use Rattle.schedule.proofs.twilight.by_seventh.Lts as lts
-use Rattle.schedule.proofs.twilight.by_season.Reads as by-season-reads
 
--- src/twilight.rt:78:9
-by-season-requires : tie.Need-by-season-requires
-by-season-requires c κs = search needs
-
--- src/twilight.rt:78:9
 returns : tie.Need-returns
 unfolding bySeventhOf dec round ofBits
 returns c =
     simp (c .by-season .ensures, c .before .if1 .taken)
 
--- src/twilight.rt:74:1
 returns-2 : tie.Need-returns-2
 unfolding bySeventhOf dec round ofBits
 returns-2 c =
     simp (c .if1 .left)
 
 pub by-seventh-spec : {M : Type 1} → statement M
-by-seventh-spec = tie.close (tie.spec by-season-requires returns returns-2)
+by-seventh-spec = tie.close (tie.spec (λ c κs. search needs) returns returns-2)

@@ -1,37 +1,23 @@
-use mathlib.Core.Path.{_≡_, ap, sym, subst, _∙_}
-use mir.Syntax.{w32, w64}
-use mir.Val.{SFits}
-use lib.IntN.{ℤ, pos, _+ℤ_, _-ℤ_, _*ℤ_}
-use Prim.Native.Nat.{_+_, _^_}
+use mathlib.Core.Path.{_≡_, ap, _∙_}
+use mir.Syntax.{w64}
+use lib.IntN.{ℤ}
+use Prim.Native.Nat.{_^_}
 use native.Mathlib.Omega.{arith}
-use Rattle.integers.specs.Sums.{summands}
-use Rattle.integers.specs.Ranges.{readBack, read, wide, read-wide}
+use Rattle.integers.specs.Ranges.{readBack}
 use Rattle.schedule.specs.Rooms as rooms
-use Rattle.schedule.specs.Rooms.{Near}
-use Rattle.schedule.specs.TwilightLaws as laws
-use Rattle.schedule.specs.Twilight.{nightOf, unadjustedIshaOf, calculateIshaOf}
+use Rattle.schedule.specs.Twilight.{calculateIshaOf}
 use Rattle.stride.specs.Times.{adjustedOf}
 use Rattle.models.specs.Settings.{timeAdjustmentsOf}
 use Rattle.models.specs.declared.prayer.Prayer.the-variants.{Isha}
 use borrow.Author.Needs.{needs}
 use Rattle.schedule.proofs.twilight.calculate_isha.Statement.{statement}
 use Rattle.schedule.proofs.twilight.calculate_isha.Tie as tie
-use Rattle.schedule.proofs.twilight.calculate_isha.Reads as reads
-use Rattle.schedule.proofs.twilight.calculate_isha.Lts as lts
-use Rattle.schedule.proofs.twilight.adjusted.Reads as adjusted-reads
-use Rattle.schedule.proofs.twilight.unadjusted_isha.Reads as unadjusted-isha-reads
 
--- src/twilight.rt:212:9
-unadjusted-isha-requires : tie.Need-unadjusted-isha-requires
-unadjusted-isha-requires c κs = search needs
-
--- src/twilight.rt:209:5
 adjusted-requires : tie.Need-adjusted-requires
 adjusted-requires c κs =
     let k : readBack w64 (c .unadjusted-isha .result) ≡ c .unadjusted-isha .result = search needs in
     rooms.near-as (2 ^ 38) _ (c .unadjusted-isha .result) k (rooms.near-more (2 ^ 38) (2 ^ 38) (c .unadjusted-isha .result) (omega arith) (c .unadjusted-isha .ensures .1))
 
--- src/twilight.rt:199:1
 returns : tie.Need-returns
 unfolding calculateIshaOf
 returns c =
@@ -42,4 +28,4 @@ returns c =
     (k ∙ c .adjusted .ensures .0 ∙ ap (λ (z : ℤ). adjustedOf z (timeAdjustmentsOf (t .args .parameters) Isha)) u, rooms.near-as (2 ^ 39) _ (c .adjusted .result) k (c .adjusted .ensures .1))
 
 pub calculate-isha-spec : {M : Type 1} → statement M
-calculate-isha-spec = tie.close (tie.spec unadjusted-isha-requires adjusted-requires returns)
+calculate-isha-spec = tie.close (tie.spec (λ c κs. search needs) adjusted-requires returns)

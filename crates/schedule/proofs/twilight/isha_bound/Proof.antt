@@ -1,16 +1,15 @@
 use Prim.Native.Nat.{ℕ}
 use Rattle.night.specs.Portions.{portionAfterOf}
 use Rattle.models.specs.Settings.{nightPortionsOf}
-use mathlib.Core.Path.{_≡_, ap, sym, subst, _∙_}
+use mathlib.Core.Path.{_≡_, ap, sym, _∙_}
 use mir.Syntax.{w32, w64}
 use mir.Val.{SFits}
-use lib.IntN.{ℤ, pos, _+ℤ_, _-ℤ_, _*ℤ_}
+use lib.IntN.{ℤ, _+ℤ_}
 use Prim.Native.Nat.{_+_, _^_}
 use native.Mathlib.Omega.{arith}
 use Rattle.integers.specs.Sums.{summands}
-use Rattle.integers.specs.Ranges.{readBack, read, wide, read-wide}
+use Rattle.integers.specs.Ranges.{readBack, read}
 use Rattle.schedule.specs.Rooms as rooms
-use Rattle.schedule.specs.Rooms.{Near}
 use Rattle.schedule.specs.TwilightLaws as laws
 use Rattle.schedule.specs.Twilight.{ishaBoundOf}
 use Rattle.stride.specs.Times.{satOf, roundedOf}
@@ -21,37 +20,7 @@ use Rattle.calendar.specs.Days.{ordinalOf}
 use borrow.Author.Needs.{needs}
 use Rattle.schedule.proofs.twilight.isha_bound.Statement.{statement}
 use Rattle.schedule.proofs.twilight.isha_bound.Tie as tie
-use Rattle.schedule.proofs.twilight.isha_bound.Reads as reads
-use Rattle.schedule.proofs.twilight.isha_bound.Lts as lts
-use Rattle.calendar.proofs.dates.Date.ordinal.Reads as ordinal-reads
-use Rattle.models.proofs.parameters.Parameters.night_portions.Reads as night-portions-reads
-use Rattle.night.proofs.portions.portion_after.Reads as portion-after-reads
-use Rattle.ops.proofs.season.evening_twilight_seconds.Reads as evening-twilight-seconds-reads
-use Rattle.schedule.proofs.twilight.by_season.Reads as by-season-reads
-use Rattle.schedule.proofs.twilight.sum.Reads as sum-reads
-use Rattle.stride.proofs.times.rounded_minute.Reads as rounded-minute-reads
 
--- src/twilight.rt:153:8
-by-season-requires : tie.Need-by-season-requires
-by-season-requires c κs = search needs
-
--- src/twilight.rt:155:58
-ordinal-requires : tie.Need-ordinal-requires
-ordinal-requires c κs = search needs
-
--- src/twilight.rt:155:13
-evening-twilight-seconds-requires : tie.Need-evening-twilight-seconds-requires
-evening-twilight-seconds-requires c κs = search needs
-
--- src/twilight.rt:156:31
-sum-requires : tie.Need-sum-requires
-sum-requires c κs = search needs
-
--- src/twilight.rt:156:9
-rounded-minute-requires : tie.Need-rounded-minute-requires
-rounded-minute-requires c κs = search needs
-
--- src/twilight.rt:156:9
 returns : tie.Need-returns
 unfolding ishaBoundOf
 returns c =
@@ -72,19 +41,6 @@ returns c =
     let near = rooms.near-more (2 ^ 31 + 2 ^ 31 + 60) (2 ^ 34) (roundedOf Nearest x) (omega arith) (rooms.near-rounded (2 ^ 31 + 2 ^ 31) Nearest x h) in
     (q ∙ simp (sym g, c .before .before .before .before .before .if1 .taken), rooms.near-as (2 ^ 34) _ (roundedOf Nearest x) q near)
 
--- src/twilight.rt:158:9
-night-portions-requires : tie.Need-night-portions-requires
-night-portions-requires c κs = search needs
-
--- src/twilight.rt:159:23
-portion-after-requires : tie.Need-portion-after-requires
-portion-after-requires c κs = search needs
-
--- src/twilight.rt:159:5
-sum-requires-2 : tie.Need-sum-requires-2
-sum-requires-2 c κs = search needs
-
--- src/twilight.rt:143:1
 returns-2 : tie.Need-returns-2
 unfolding ishaBoundOf
 returns-2 c =
@@ -104,14 +60,4 @@ returns-2 c =
 pub isha-bound-spec : {M : Type 1} → statement M
 isha-bound-spec =
     tie.close
-    (tie.spec
-    by-season-requires
-    ordinal-requires
-    evening-twilight-seconds-requires
-    sum-requires
-    rounded-minute-requires
-    returns
-    night-portions-requires
-    portion-after-requires
-    sum-requires-2
-    returns-2)
+    (tie.spec (λ c κs. search needs) (λ c κs. search needs) (λ c κs. search needs) (λ c κs. search needs) (λ c κs. search needs) returns (λ c κs. search needs) (λ c κs. search needs) (λ c κs. search needs) returns-2)

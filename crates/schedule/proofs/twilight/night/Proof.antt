@@ -1,30 +1,23 @@
-use mathlib.Core.Path.{_≡_, ap, sym, subst, _∙_}
+use mathlib.Core.Path.{ap}
 use borrow.Author.Needs.{needs}
-use Rattle.schedule.specs.TwilightLaws as laws
-use mathlib.Core.Path.{_≡_, ap, sym, _∙_}
-use mir.Syntax.{w32, w64}
+use mathlib.Core.Path.{ap}
+use mir.Syntax.{w32}
 use mir.Val.{SFits}
-use lib.IntN.{ℤ, pos, _+ℤ_, _-ℤ_, _*ℤ_}
+use lib.IntN.{ℤ, pos, _+ℤ_, _-ℤ_}
 use Prim.Native.Nat.{_+_, _^_}
 use native.Mathlib.Omega.{arith}
-use Rattle.integers.specs.Sums.{summands}
-use Rattle.integers.specs.Ranges.{readBack, read, wide, read-wide}
+use Rattle.integers.specs.Ranges.{wide, read-wide}
 use Rattle.schedule.specs.Rooms as rooms
-use Rattle.schedule.specs.Rooms.{Near}
 use Rattle.schedule.specs.Twilight.{nightOf}
 use Rattle.schedule.proofs.twilight.night.Statement.{statement}
 use Rattle.schedule.proofs.twilight.night.Tie as tie
-use Rattle.schedule.proofs.twilight.night.Reads as reads
-use Rattle.schedule.proofs.twilight.night.Lts as lts
 
--- src/twilight.rt:35:5
 cast-result : tie.Need-cast-result
 cast-result c =
     let t = c .before .before in
     let f : SFits w32 (t .args .next .sunrise) = search needs in
     wide (t .args .next .sunrise) f
 
--- src/twilight.rt:35:5
 add-result : tie.Need-add-result
 add-result c =
     let t = c .before .before in
@@ -35,14 +28,12 @@ add-result c =
     let n = rooms.near-more (2 ^ 31 + 86400) (2 ^ 62) (x +ℤ pos 86400) (omega arith) h in
     rooms.held _ (x +ℤ pos 86400) e n
 
--- src/twilight.rt:35:35
 cast-result-2 : tie.Need-cast-result-2
 cast-result-2 c =
     let t = c .before .before .before .before in
     let f : SFits w32 (t .args .today .sunset) = search needs in
     wide (t .args .today .sunset) f
 
--- src/twilight.rt:35:5
 sub-result : tie.Need-sub-result
 sub-result c =
     let t = c .before .before .before .before in
@@ -57,7 +48,6 @@ sub-result c =
     let k = rooms.near-more (2 ^ 31 + 86400 + 2 ^ 31) (2 ^ 62) (x +ℤ pos 86400 -ℤ y) (omega arith) (rooms.near-difference (2 ^ 31 + 86400) (2 ^ 31) (x +ℤ pos 86400) y h (rooms.near-i32 y g)) in
     rooms.held _ (x +ℤ pos 86400 -ℤ y) d k
 
--- src/twilight.rt:32:1
 returns : tie.Need-returns
 unfolding nightOf
 returns c =

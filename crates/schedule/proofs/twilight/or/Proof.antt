@@ -1,38 +1,22 @@
-use mathlib.Core.Path.{_≡_, ap, sym, subst, _∙_}
-use Rattle.schedule.specs.TwilightLaws as laws
-use mathlib.Core.Path.{_≡_, ap, sym, _∙_}
+use mathlib.Core.Path.{_∙_}
+use mathlib.Core.Path.{_∙_}
 use mir.Syntax.{w32, w64}
 use mir.Val.{SFits}
-use lib.IntN.{ℤ, pos, _+ℤ_, _-ℤ_, _*ℤ_}
-use Prim.Native.Nat.{_+_, _^_}
+use Prim.Native.Nat.{_^_}
 use native.Mathlib.Omega.{arith}
-use Rattle.integers.specs.Sums.{summands}
-use Rattle.integers.specs.Ranges.{readBack, read, wide, read-wide}
+use Rattle.integers.specs.Ranges.{read, wide, read-wide}
 use Rattle.schedule.specs.Rooms as rooms
-use Rattle.schedule.specs.Rooms.{Near}
 use Rattle.schedule.specs.Twilight.{orOf}
 use borrow.Author.Needs.{needs}
 use Rattle.schedule.proofs.twilight.or.Statement.{statement}
 use Rattle.schedule.proofs.twilight.or.Tie as tie
-use Rattle.schedule.proofs.twilight.or.Reads as reads
-use Rattle.schedule.proofs.twilight.or.Lts as lts
 
--- src/twilight.rt:61:23
-enum-known-hour : tie.Need-enum-known-hour
-enum-known-hour c = search needs
-
--- src/twilight.rt:61:32
 cast-result : tie.Need-cast-result
 cast-result c =
     let z = c .before .hour .given .0 .0 in
     let f : SFits w32 z = search needs in
     wide z f
 
--- src/twilight.rt:62:28
-enum-told : tie.Need-enum-told
-enum-told c = search needs
-
--- src/twilight.rt:57:1
 returns : tie.Need-returns
 unfolding orOf
 returns c =
@@ -41,7 +25,6 @@ returns c =
     let e = read-wide z f in
     (e ∙ simp (c .before .hour .given .1), rooms.near-as (2 ^ 34) _ z e (rooms.near-more (2 ^ 31) (2 ^ 34) z (omega arith) (rooms.near-i32 z f)))
 
--- src/twilight.rt:57:1
 returns-2 : tie.Need-returns-2
 unfolding orOf
 returns-2 c =
@@ -50,4 +33,4 @@ returns-2 c =
     (e ∙ simp (c .enum-told .given .1), rooms.near-as (2 ^ 34) _ (t .args .other) e (t .pre))
 
 pub or-spec : {M : Type 1} → statement M
-or-spec = tie.close (tie.spec enum-known-hour cast-result enum-told returns returns-2)
+or-spec = tie.close (tie.spec (λ c. search needs) cast-result (λ c. search needs) returns returns-2)

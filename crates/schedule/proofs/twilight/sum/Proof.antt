@@ -1,35 +1,24 @@
-use mathlib.Core.Path.{_≡_, ap, sym, _∙_}
-use mir.Syntax.{w32, w64}
-use mir.Val.{SFits}
-use lib.IntN.{ℤ, pos, _+ℤ_, _-ℤ_, _*ℤ_}
-use Prim.Native.Nat.{_+_, _^_}
-use native.Mathlib.Omega.{arith}
+use lib.IntN.{ℤ, _+ℤ_}
+use Prim.Native.Nat.{_+_}
 use Rattle.integers.specs.Sums.{summands}
-use Rattle.integers.specs.Ranges.{readBack, read, wide, read-wide}
+use Rattle.integers.specs.Ranges.{wide, read-wide}
 use Rattle.schedule.specs.Rooms as rooms
-use Rattle.schedule.specs.Rooms.{Near}
 use Rattle.schedule.proofs.twilight.sum.Statement.{statement}
 use Rattle.schedule.proofs.twilight.sum.Tie as tie
-use Rattle.schedule.proofs.twilight.sum.Reads as reads
-use Rattle.schedule.proofs.twilight.sum.Lts as lts
 
--- src/twilight.rt:28:5
 cast-result : tie.Need-cast-result
 cast-result c =
     wide (c .args .a) (c .fits .a)
 
--- src/twilight.rt:28:16
 cast-result-2 : tie.Need-cast-result-2
 cast-result-2 c =
     wide (c .args .b) (c .fits .b)
 
--- src/twilight.rt:28:5
 add-result : tie.Need-add-result
 add-result c =
     let e = summands (read-wide (c .args .a) (c .fits .a)) (read-wide (c .args .b) (c .fits .b)) in
     rooms.held _ (c .args .a +ℤ c .args .b) e (rooms.near-i32s (c .args .a) (c .args .b) (c .fits .a) (c .fits .b))
 
--- src/twilight.rt:25:1
 returns : tie.Need-returns
 returns c =
     let e = summands (read-wide (c .args .a) (c .fits .a)) (read-wide (c .args .b) (c .fits .b)) in

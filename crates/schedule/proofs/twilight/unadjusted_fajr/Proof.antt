@@ -2,7 +2,7 @@ use Rattle.schedule.specs.Twilight.{nightOf, laterOf, orOf, beforeSunris
 use mathlib.Core.Path.{_≡_, ap, sym, subst, _∙_}
 use mir.Syntax.{w32, w64}
 use mir.Val.{SFits}
-use lib.IntN.{ℤ, pos, _+ℤ_, _-ℤ_, _*ℤ_}
+use lib.IntN.{ℤ, _-ℤ_}
 use Prim.Native.Nat.{_+_, _^_}
 use native.Mathlib.Omega.{arith}
 use Rattle.integers.specs.Sums.{summands}
@@ -15,44 +15,13 @@ use Rattle.night.specs.Portions.{seventhOf}
 use borrow.Author.Needs.{needs}
 use Rattle.schedule.proofs.twilight.unadjusted_fajr.Statement.{statement}
 use Rattle.schedule.proofs.twilight.unadjusted_fajr.Tie as tie
-use Rattle.schedule.proofs.twilight.unadjusted_fajr.Reads as reads
-use Rattle.schedule.proofs.twilight.unadjusted_fajr.Lts as lts
-use Rattle.night.proofs.portions.seventh.Reads as seventh-reads
-use Rattle.schedule.proofs.twilight.before_sunrise.Reads as before-sunrise-reads
-use Rattle.schedule.proofs.twilight.by_seventh.Reads as by-seventh-reads
-use Rattle.schedule.proofs.twilight.later.Reads as later-reads
-use Rattle.schedule.proofs.twilight.night.Reads as night-reads
-use Rattle.schedule.proofs.twilight.or.Reads as or-reads
-use Rattle.schedule.proofs.twilight.sum.Reads as sum-reads
 
--- src/twilight.rt:114:9
-night-requires : tie.Need-night-requires
-night-requires c κs = search needs
-
--- src/twilight.rt:117:9
-before-sunrise-requires : tie.Need-before-sunrise-requires
-before-sunrise-requires c κs = search needs
-
--- src/twilight.rt:115:9
-sum-requires : tie.Need-sum-requires
-sum-requires c κs = search needs
-
--- src/twilight.rt:119:8
-by-seventh-requires : tie.Need-by-seventh-requires
-by-seventh-requires c κs = search needs
-
--- src/twilight.rt:120:20
 cast-fajr : tie.Need-cast-fajr
 cast-fajr c =
     let t = c .before .before .before .before .before .before .before .before in
     let f : SFits w32 (t .args .today .sunrise) = search needs in
     wide (t .args .today .sunrise) f
 
--- src/twilight.rt:120:43
-seventh-requires : tie.Need-seventh-requires
-seventh-requires c κs = search needs
-
--- src/twilight.rt:120:20
 sub-fajr : tie.Need-sub-fajr
 sub-fajr c =
     let t = c .before .before .before .before .before .before .before .before .before in
@@ -72,11 +41,6 @@ sub-fajr c =
     let near : Near (2 ^ 62) x = rooms.near-more (2 ^ 31 + 2 ^ 33) (2 ^ 62) x (omega arith) near-x in
     rooms.held _ x e near
 
--- src/twilight.rt:121:9
-later-requires : tie.Need-later-requires
-later-requires c κs = search needs
-
--- src/twilight.rt:121:9
 returns : tie.Need-returns
 unfolding unadjustedFajrOf
 returns c =
@@ -105,7 +69,6 @@ returns c =
     let q = k ∙ c .later .ensures ∙ rooms.both laterOf (rooms.read-held _ x e near) bound in
     (q ∙ simp (sym (c .before .before .before .before .before .by-seventh .ensures), c .before .before .before .before .if1 .taken), rooms.near-as (2 ^ 34) _ (laterOf x y) q (rooms.near-later (2 ^ 34) x y (rooms.near-more (2 ^ 31 + 2 ^ 33) (2 ^ 34) x (omega arith) near-x) near-bound))
 
--- src/twilight.rt:123:11
 or-requires : tie.Need-or-requires
 or-requires c κs =
     let t = c .before .before .before .before .before .before in
@@ -124,11 +87,6 @@ or-requires c κs =
     let near-bound : Near (2 ^ 34) y = rooms.near-more (2 ^ 31 + 2 ^ 31) (2 ^ 34) y (omega arith) (rooms.near-sum (2 ^ 31) (2 ^ 31) (today .sunrise) (beforeSunriseOf p (t .args .latitude) (t .args .date) night) r (laws.before-sunrise-near p (t .args .latitude) (t .args .date) night)) in
     rooms.near-as (2 ^ 34) _ y bound near-bound
 
--- src/twilight.rt:123:5
-later-requires-2 : tie.Need-later-requires-2
-later-requires-2 c κs = search needs
-
--- src/twilight.rt:103:1
 returns-2 : tie.Need-returns-2
 unfolding unadjustedFajrOf
 returns-2 c =
@@ -155,16 +113,4 @@ returns-2 c =
 pub unadjusted-fajr-spec : {M : Type 1} → statement M
 unadjusted-fajr-spec =
     tie.close
-    (tie.spec
-    night-requires
-    before-sunrise-requires
-    sum-requires
-    by-seventh-requires
-    cast-fajr
-    seventh-requires
-    sub-fajr
-    later-requires
-    returns
-    or-requires
-    later-requires-2
-    returns-2)
+    (tie.spec (λ c κs. search needs) (λ c κs. search needs) (λ c κs. search needs) (λ c κs. search needs) cast-fajr (λ c κs. search needs) sub-fajr (λ c κs. search needs) returns or-requires (λ c κs. search needs) returns-2)

@@ -1,39 +1,32 @@
-use mathlib.Core.Path.{_≡_, ap, sym, subst, _∙_}
+use mathlib.Core.Path.{_≡_, ap, _∙_}
 use mir.Syntax.{w32, w64}
 use mir.Val.{SFits}
-use lib.IntN.{ℤ, pos, _+ℤ_, _-ℤ_, _*ℤ_}
+use lib.IntN.{ℤ, pos, _+ℤ_, _*ℤ_}
 use Prim.Native.Nat.{_+_, _^_}
 use native.Mathlib.Omega.{arith}
 use Rattle.integers.specs.Sums.{summands}
 use Rattle.integers.specs.Ranges.{readBack, read, wide, read-wide}
 use Rattle.schedule.specs.Rooms as rooms
 use Rattle.schedule.specs.Rooms.{Near}
-use Rattle.schedule.specs.TwilightLaws as laws
-use Rattle.schedule.specs.Twilight.{nightOf, unadjustedIshaOf}
+use Rattle.schedule.specs.Twilight.{unadjustedIshaOf}
 use Rattle.integers.specs.Sums.{times}
 use Prim.Native.Nat.{_*_}
 use borrow.Author.Needs.{needs}
 use Rattle.schedule.proofs.twilight.unadjusted_isha.Statement.{statement}
 use Rattle.schedule.proofs.twilight.unadjusted_isha.Tie as tie
-use Rattle.schedule.proofs.twilight.unadjusted_isha.Reads as reads
-use Rattle.schedule.proofs.twilight.unadjusted_isha.Lts as lts
-use Rattle.schedule.proofs.twilight.bounded_isha.Reads as bounded-isha-reads
 
--- src/twilight.rt:194:16
 cast-result : tie.Need-cast-result
 cast-result c =
     let t = c .before .before .before .before .before in
     let f : SFits w32 (t .args .today .sunset) = search needs in
     wide (t .args .today .sunset) f
 
--- src/twilight.rt:194:38
 cast-result-2 : tie.Need-cast-result-2
 cast-result-2 c =
     let t = c .before .before .before .before .before .before .before in
     let f : SFits w32 (t .args .parameters .«isha_interval») = search needs in
     wide (t .args .parameters .«isha_interval») f
 
--- src/twilight.rt:194:38
 mul-result : tie.Need-mul-result
 mul-result c =
     let t = c .before .before .before .before .before .before .before in
@@ -48,7 +41,6 @@ mul-result c =
     let near = rooms.near-more (60 * 2 ^ 31) (2 ^ 62) (i *ℤ pos 60) (omega arith) l in
     rooms.held _ (i *ℤ pos 60) e near
 
--- src/twilight.rt:194:16
 add-result : tie.Need-add-result
 add-result c =
     let t = c .before .before .before .before .before .before .before in
@@ -65,7 +57,6 @@ add-result c =
     let sum-near = rooms.near-more (2 ^ 31 + 60 * 2 ^ 31) (2 ^ 62) (s +ℤ i *ℤ pos 60) (omega arith) (rooms.near-sum (2 ^ 31) (60 * 2 ^ 31) s (i *ℤ pos 60) (rooms.near-i32 s g) l) in
     rooms.held _ (s +ℤ i *ℤ pos 60) d sum-near
 
--- src/twilight.rt:194:9
 returns : tie.Need-returns
 unfolding unadjustedIshaOf
 returns c =
@@ -86,11 +77,6 @@ returns c =
     let m = rooms.near-more (2 ^ 31 + 60 * 2 ^ 31) (2 ^ 38) x (omega arith) (rooms.near-sum (2 ^ 31) (60 * 2 ^ 31) s (i *ℤ pos 60) (rooms.near-i32 s g) l) in
     (q ∙ simp (rw (read w32 i f) at (c .before .before .before .before .if1 .taken)), rooms.near-as (2 ^ 38) _ x q m)
 
--- src/twilight.rt:196:5
-bounded-isha-requires : tie.Need-bounded-isha-requires
-bounded-isha-requires c κs = search needs
-
--- src/twilight.rt:183:1
 returns-2 : tie.Need-returns-2
 unfolding unadjustedIshaOf
 returns-2 c =
@@ -103,11 +89,4 @@ returns-2 c =
 pub unadjusted-isha-spec : {M : Type 1} → statement M
 unadjusted-isha-spec =
     tie.close
-    (tie.spec
-    cast-result
-    cast-result-2
-    mul-result
-    add-result
-    returns
-    bounded-isha-requires
-    returns-2)
+    (tie.spec cast-result cast-result-2 mul-result add-result returns (λ c κs. search needs) returns-2)

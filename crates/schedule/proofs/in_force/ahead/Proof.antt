@@ -1,0 +1,33 @@
+use Rattle.schedule.specs.Rooms as rooms
+use mathlib.Core.Path.{ap, _∙_}
+use mir.Syntax.{w64}
+use native.Mathlib.Omega.{arith}
+use Rattle.integers.specs.Ranges.{read}
+use Rattle.schedule.proofs.Due as due
+use mir.Val.{SFits}
+use Rattle.integers.specs.Parts.{P}
+use borrow.Author.Needs.{needs}
+use Rattle.schedule.proofs.in_force.ahead.Statement.{statement}
+use Rattle.schedule.proofs.in_force.ahead.Tie as tie
+
+returns : tie.Need-returns
+returns c =
+    let t = c .before .before .before .before in
+    let s = t .args .instant .seconds in
+    let f : SFits w64 s = search needs in
+    let e = c .before .before .between .ensures ∙ ap P (rooms.differences (read w64 (t .args .time) (t .fits .time)) (read w64 s f)) in
+    let d = due.ahead-is (t .args .time) (t .args .instant) in
+    let l = c .if1 .taken in
+    omega arith
+
+returns-2 : tie.Need-returns-2
+returns-2 c =
+    let t = c .before .before .before .before in
+    let s = t .args .instant .seconds in
+    let f : SFits w64 s = search needs in
+    let e = c .before .before .between .ensures ∙ ap P (rooms.differences (read w64 (t .args .time) (t .fits .time)) (read w64 s f)) in
+    let d = due.ahead-is (t .args .time) (t .args .instant) in
+    omega arith
+
+pub ahead-spec : {M : Type 1} → statement M
+ahead-spec = tie.close (tie.spec (λ c κs. tt) (λ c. search needs) (λ c. search needs) returns returns-2)

@@ -1,0 +1,21 @@
+use mathlib.Core.Path.{sym, ap, _∙_}
+use Rattle.schedule.specs.InForce.{followingCurrentOf}
+use Rattle.schedule.specs.declared.in_force.Current.the-variants.{Some}
+use borrow.Author.Needs.{needs}
+use Rattle.schedule.proofs.prayer_times.PrayerTimes.next.Statement.{statement}
+use Rattle.schedule.proofs.prayer_times.PrayerTimes.next.Tie as tie
+
+returns : tie.Need-returns
+unfolding followingCurrentOf
+returns c =
+    ap Some (c .following .ensures) ∙ ap followingCurrentOf (sym (c .before .before .prayer .given .1) ∙ c .before .before .before .before .current-time .ensures)
+
+returns-2 : tie.Need-returns-2
+unfolding followingCurrentOf
+returns-2 c =
+    ap followingCurrentOf (sym (c .enum-told .given .1) ∙ c .before .before .current-time .ensures)
+
+pub next-spec : {M : Type 1} → statement M
+next-spec =
+    tie.close
+    (tie.spec (λ c κs. tt) (λ c. search needs) (λ c κs. tt) (λ c. search needs) returns returns-2)

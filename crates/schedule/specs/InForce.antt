@@ -1,0 +1,81 @@
+-- schedule.rs: the prayer in force at an instant, the next one, and the time until it.
+use Prim.Native.Nat.{ℕ, zero, suc, _/_}
+use mathlib.Core.Bool.{cond}
+use lib.Dec.{eqb}
+use lib.IntN.{ℤ, pos, _+ℤ_, _-ℤ_, _*ℤ_}
+use lib.Ieee.{Float, binary64, ofInt, toUnsigned}
+use Rattle.integers.specs.Parts.{P}
+use Rattle.float64.specs.Ops.{_-ᶠ_, _*ᶠ_, _/ᶠ_, dec}
+use Rattle.float64.specs.Whole.{truncOf, roundOf}
+use Rattle.models.specs.declared.prayer.Prayer.{Prayer}
+use Rattle.models.specs.declared.prayer.Prayer.the-variants.{Fajr, Sunrise, Dhuhr, Asr, Maghrib, Isha, Qiyam, FajrTomorrow}
+use Rattle.models.specs.Numbers.{prayerOf}
+use Rattle.schedule.specs.declared.in_force.Instant.{Instant}
+use Rattle.schedule.specs.declared.in_force.Current.{Current}
+use Rattle.schedule.specs.declared.in_force.Current.the-variants.{Some, None}
+use Rattle.schedule.specs.declared.in_force.HoursMinutes.{HoursMinutes}
+use Rattle.schedule.specs.declared.in_force.Remaining.{Remaining}
+use Rattle.schedule.specs.declared.in_force.Remaining.the-variants.{In, Nothing}
+use Rattle.schedule.specs.declared.prayer_times.PrayerTimes.{PrayerTimes}
+
+unfoldable pub timeOf : PrayerTimes → Prayer → ℤ
+timeOf t Fajr = t .fajr
+timeOf t Sunrise = t .sunrise
+timeOf t Dhuhr = t .dhuhr
+timeOf t Asr = t .asr
+timeOf t Maghrib = t .maghrib
+timeOf t Isha = t .isha
+timeOf t Qiyam = t .qiyam
+timeOf t FajrTomorrow = t .«fajr_tomorrow»
+
+abbrev pub second : ℤ
+second = pos 1000000000
+
+-- an instant in nanoseconds
+unfoldable pub nanosecondsOf : Instant → ℤ
+nanosecondsOf i = i .seconds *ℤ second +ℤ pos (i .nanoseconds)
+
+-- whole seconds from an instant to a time; 0 where less than one is left, or the time has passed
+unfoldable pub aheadOf : ℤ → Instant → ℕ
+aheadOf t i = P (t *ℤ second -ℤ nanosecondsOf i) / 1000000000
+
+-- the last of the first n in the list whose time lies less than one second ahead; else none
+unfoldable pub lastOf : PrayerTimes → Instant → ℕ → Current
+lastOf t i zero = None
+lastOf t i (suc n) = cond (eqb (aheadOf (timeOf t (prayerOf (suc n))) i) 0) (Some (prayerOf (suc n))) (lastOf t i n)
+
+abbrev pub currentTimeOf : PrayerTimes → Instant → Current
+currentTimeOf t i = lastOf t i 8
+
+-- after FajrTomorrow, FajrTomorrow
+unfoldable pub followingOf : Prayer → Prayer
+followingOf Fajr = Sunrise
+followingOf Sunrise = Dhuhr
+followingOf Dhuhr = Asr
+followingOf Asr = Maghrib
+followingOf Maghrib = Isha
+followingOf Isha = Qiyam
+followingOf Qiyam = FajrTomorrow
+followingOf FajrTomorrow = FajrTomorrow
+
+unfoldable pub followingCurrentOf : Current → Current
+followingCurrentOf (Some prayer) = Some (followingOf prayer)
+followingCurrentOf None = None
+
+abbrev pub nextOf : PrayerTimes → Instant → Current
+nextOf t i = followingCurrentOf (currentTimeOf t i)
+
+-- so many seconds as hours and minutes, by the crate's expression in f64: its 60 minutes stay 60
+unfoldable pub hoursMinutesOf : ℕ → HoursMinutes
+unfolding dec
+hoursMinutesOf seconds =
+    let whole = ofInt binary64 (pos seconds) /ᶠ dec 60 0 /ᶠ dec 60 0 in
+    let fract = whole -ᶠ truncOf whole in
+    record { hours = toUnsigned 32 (truncOf whole); minutes = toUnsigned 32 (roundOf (fract *ᶠ dec 60 0)) }
+
+unfoldable pub untilOf : PrayerTimes → Instant → Current → Remaining
+untilOf t i (Some prayer) = In (hoursMinutesOf (aheadOf (timeOf t prayer) i))
+untilOf t i None = Nothing
+
+abbrev pub timeRemainingOf : PrayerTimes → Instant → Remaining
+timeRemainingOf t i = untilOf t i (nextOf t i)

@@ -1,0 +1,156 @@
+// schedule.rs: the prayer in force, the next one and the time until it. Where the crate reads the clock, the instant is given; where it panics,
+// since no prayer is in force, there is an answer that says so.
+ghost use mathlib.Core.Path.{_≡_};
+ghost use lib.IntN.{_-ℤ_};
+ghost use Rattle.integers.specs.Parts.{P, N};
+ghost use Rattle.schedule.specs.InForce.{timeOf, aheadOf, lastOf, currentTimeOf, followingOf, nextOf, hoursMinutesOf, timeRemainingOf};
+use super::prayer_times::PrayerTimes;
+use float64::casts::to_u32;
+use float64::whole::round;
+use float64::whole::trunc;
+use models::prayer::Prayer;
+use std::num::nearest_u64_to_f64;
+
+// Seconds from 1970-01-01 0h UTC, rounded down, and the nanoseconds after them.
+pub struct Instant {
+    pub seconds: i64,
+    pub nanoseconds: u32,
+}
+
+pub enum Current {
+    Some(Prayer),
+    None,
+}
+
+pub struct HoursMinutes {
+    pub hours: u32,
+    pub minutes: u32,
+}
+
+pub enum Remaining {
+    In(HoursMinutes),
+    Nothing,
+}
+
+// How far a number lies above 0, and how far below it.
+fn above(z: i64) -> u64
+    ensures { λ r. ⌜ r ≡ P z ⌝ }
+{
+    if z > 0 {
+        return z as u64;
+    }
+    0
+}
+
+fn below(z: i64) -> u64
+    ensures { λ r. ⌜ r ≡ N z ⌝ }
+{
+    if z < 0 {
+        return (-(z + 1)) as u64 + 1;
+    }
+    0
+}
+
+// Seconds from one to the other, 0 where the other is not later. The difference of two i64 fits a u64, and not always an i64.
+fn between(seconds: i64, time: i64) -> u64
+    ensures { λ r. ⌜ r ≡ P (time -ℤ seconds) ⌝ }
+{
+    let to = above(time) + below(seconds);
+    let from = above(seconds) + below(time);
+    if to < from {
+        return 0;
+    }
+    to - from
+}
+
+// Whole seconds from an instant to a time. A second that has begun by some nanoseconds is not whole.
+fn ahead(time: i64, instant: Instant) -> u64
+    ensures { λ r. ⌜ r ≡ aheadOf time instant ⌝ }
+{
+    let whole = between(instant.seconds, time);
+    let begun = (instant.nanoseconds as u64 + 999999999) / 1000000000;
+    if whole < begun {
+        return 0;
+    }
+    whole - begun
+}
+
+fn following(prayer: Prayer) -> Prayer
+    ensures { λ r. ⌜ r ≡ followingOf prayer ⌝ }
+{
+    match prayer {
+        Prayer::Fajr => Prayer::Sunrise,
+        Prayer::Sunrise => Prayer::Dhuhr,
+        Prayer::Dhuhr => Prayer::Asr,
+        Prayer::Asr => Prayer::Maghrib,
+        Prayer::Maghrib => Prayer::Isha,
+        Prayer::Isha => Prayer::Qiyam,
+        Prayer::Qiyam => Prayer::FajrTomorrow,
+        Prayer::FajrTomorrow => Prayer::FajrTomorrow,
+    }
+}
+
+fn hours_minutes(seconds: u64) -> HoursMinutes
+    ensures { λ r. ⌜ r ≡ hoursMinutesOf seconds ⌝ }
+{
+    let whole = nearest_u64_to_f64(seconds) / 60.0 / 60.0;
+    let hours = trunc(whole);
+    let fract = whole - hours;
+    HoursMinutes {
+        hours: to_u32(hours),
+        minutes: to_u32(round(fract * 60.0)),
+    }
+}
+
+impl PrayerTimes {
+    pub fn time(self, prayer: Prayer) -> i64
+        ensures { λ r. ⌜ r ≡ timeOf self prayer ⌝ }
+    {
+        match prayer {
+            Prayer::Fajr => self.fajr,
+            Prayer::Sunrise => self.sunrise,
+            Prayer::Dhuhr => self.dhuhr,
+            Prayer::Asr => self.asr,
+            Prayer::Maghrib => self.maghrib,
+            Prayer::Isha => self.isha,
+            Prayer::Qiyam => self.qiyam,
+            Prayer::FajrTomorrow => self.fajr_tomorrow,
+        }
+    }
+
+    // The last in the list whose time lies less than a second ahead. The times need not rise along the list.
+    pub fn current_time(self, instant: Instant) -> Current
+        ensures { λ r. ⌜ r ≡ currentTimeOf self instant ⌝ }
+    {
+        let mut n: u32 = 8;
+        while n > 0 {
+            let prayer = Prayer::of_number(n);
+            if ahead(self.time(prayer), instant) == 0 {
+                return Current::Some(prayer);
+            }
+            n = n - 1;
+        }
+        Current::None
+    }
+
+    pub fn next(self, instant: Instant) -> Current
+        ensures { λ r. ⌜ r ≡ nextOf self instant ⌝ }
+    {
+        match self.current_time(instant) {
+            Current::Some(prayer) => Current::Some(following(prayer)),
+            Current::None => Current::None,
+        }
+    }
+
+    pub fn time_remaining(self, instant: Instant) -> Remaining
+        ensures { λ r. ⌜ r ≡ timeRemainingOf self instant ⌝ }
+    {
+        match self.next(instant) {
+            Current::Some(prayer) => Remaining::In(hours_minutes(ahead(
+                self.time(prayer),
+                instant,
+            ))),
+            Current::None => Remaining::Nothing,
+        }
+    }
+}
