@@ -52,7 +52,7 @@ pub fn answer(day: Result<[i64; 9], Refusal>) -> Answer {
     rows
 }
 
-/// The crate's answer without the numbers from 2^32 on, where the day has such: a difference that is not to be found there is listed.
+/// The crate's answer without the numbers from 2^32 on, where the day has such: where the port answers so, a difference is the listed one.
 pub fn without_wrapping(c: &DayCase) -> Option<Answer> {
     let numbers = c.numbers.map(|number| if number >= LISTED_FROM { f64::NAN } else { number });
     let wrapping = c.numbers.iter().any(|&number| number >= LISTED_FROM && number.is_finite());
@@ -89,9 +89,9 @@ impl Days {
             Err(refusal) => self.refused[refusal.number as usize - 6][refusal.day as usize] += 1,
             Ok(_) => {}
         }
+        let listed = without == Some(port);
         for row in 0..12 {
             if port[row].is_some() && by_crate[row].is_some() {
-                let listed = without.is_some_and(|rows| rows[row] == port[row]);
                 self.count(row, port[row] == by_crate[row], listed, || {
                     format!("port {port:?}, crate {by_crate:?}, 0h {}, {c:?}", midnight(c.date))
                 });
@@ -138,10 +138,12 @@ pub fn days(seed: u64, size: u64, instants: u64) -> bool {
     days.presets();
     for _ in 0..size {
         let c = draw.day_case();
+        // so that the days drawn do not hang on answers
+        let mut near = Draw(draw.bits());
         if let Some((theirs, ours)) = days.day(&c) {
             with_times += 1;
             for _ in 0..instants {
-                let at = draw.instant_near(&ours.0);
+                let at = near.instant_near(&ours.0);
                 days.instant(at, &ours.0, day_port::in_force(ours, at), day_crate::in_force(&theirs, at));
             }
         }
