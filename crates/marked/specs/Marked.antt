@@ -3,6 +3,7 @@ use mathlib.Core.Bool.{Bool, true, false, _&&_}
 use mathlib.Core.List.{List, [], _∷_}
 use lib.Dec.{T, eqb}
 use lib.IntN.{ℤ, pos, negsuc}
+use Prim.Native.Nat.{ℕ}
 use lib.Signed.{leZ}
 use lib.Ieee.{Float, eq, le, lt, add, sub, mul, div, neg, round, ofInt, ofBits, toSigned, toUnsigned}
 use Rattle.float64.specs.Ops.{dec}
@@ -10,7 +11,14 @@ use Rattle.calendar.specs.Gregorian.{dateOf, leapOf}
 use Rattle.calendar.specs.Days.{daysInYearOf}
 use Rattle.stride.specs.Julian.{dateJulianDayOf, julianDayOf, fromMarchOf, yearProductOf, monthProductOf, correctionOf, toI32Of}
 use Rattle.float64.specs.Sizes.{isNormalOf}
-use Rattle.float64.specs.Whole.{floorOf, roundOf}
+use Rattle.float64.specs.Whole.{floorOf, truncOf, roundOf}
+use Rattle.models.specs.Numbers.{prayerNumberOf, prayerOf}
+use Rattle.schedule.specs.declared.in_force.Current.{Current}
+use Rattle.schedule.specs.declared.in_force.Current.the-variants as current
+use Rattle.schedule.specs.declared.in_force.HoursMinutes.{HoursMinutes}
+use Rattle.schedule.specs.declared.in_force.Instant.{Instant}
+use Rattle.schedule.specs.declared.prayer_times.PrayerTimes.{PrayerTimes}
+use Rattle.schedule.specs.InForce.{timeOf, nanosecondsOf, aheadOf, lastOf, currentTimeOf, followingOf, followingCurrentOf, nextOf, hoursMinutesOf}
 use Rattle.ops.specs.Season.{daysSinceSolsticeOf, southernOffsetOf}
 use Rattle.solar.specs.declared.setting.SolarHour.{SolarHour}
 use Rattle.solar.specs.declared.setting.SolarHour.the-variants.{At, None}
@@ -38,6 +46,32 @@ at x t = gives (settingHourOf x) t
 abbrev none : Float → Bool
 none x = misses (settingHourOf x)
 
+-- nine times, a thousand seconds apart from 1000 on, but for the middle of the night, which is no prayer
+abbrev times : PrayerTimes
+times =
+    record {
+      fajr = pos 1000;
+      sunrise = pos 2000;
+      dhuhr = pos 3000;
+      asr = pos 4000;
+      maghrib = pos 5000;
+      isha = pos 6000;
+      «middle_of_the_night» = pos 6500;
+      qiyam = pos 7000;
+      «fajr_tomorrow» = pos 8000;
+    }
+
+abbrev instant : ℕ → ℕ → Instant
+instant seconds nanoseconds = record { seconds = pos seconds; nanoseconds = nanoseconds }
+
+-- whether the prayer that stands n-th in the list is named, and none where n is 0
+abbrev names : Current → ℕ → Bool
+names (current.Some prayer) n = eqb (prayerNumberOf prayer) n
+names current.None n = eqb n 0
+
+abbrev lasts : HoursMinutes → ℕ → ℕ → Bool
+lasts r hours minutes = eqb (r .hours) hours && eqb (r .minutes) minutes
+
 unfoldable pub marked : List Bool
 marked =
     -- the Julian Day, 2451544.5 and 2436115.5
@@ -57,6 +91,14 @@ marked =
     none (dec 0 0) ∷
     none (dec 23995 3) ∷
     none (dec 48 0) ∷
+    -- half a second before Fajr it is in force, a full second before it is not
+    names (currentTimeOf times (instant 999 500000000)) 1 ∷
+    names (currentTimeOf times (instant 999 0)) 0 ∷
+    -- next after FajrTomorrow is FajrTomorrow
+    names (nextOf times (instant 8000 0)) 8 ∷
+    -- 3,599 seconds are 0 hours and 60 minutes; what has passed is 0 and 0
+    lasts (hoursMinutesOf 3599) 0 60 ∷
+    lasts (hoursMinutesOf (aheadOf (pos 1000) (instant 2000 0))) 0 0 ∷
     []
 
 unfoldable pub all : List Bool → Bool
@@ -64,5 +106,5 @@ all [] = true
 all (t ∷ ts) = t && all ts
 
 pub all-hold : T (all marked)
-unfolding marked all settingHourOf hourOf hourAdjustmentOf minuteOf isNormalOf floorOf roundOf toUnsigned dec round ofBits eq le lt add sub mul div neg ofInt toSigned dateJulianDayOf julianDayOf fromMarchOf yearProductOf monthProductOf correctionOf toI32Of daysSinceSolsticeOf southernOffsetOf daysInYearOf leapOf
+unfolding marked all timeOf nanosecondsOf aheadOf lastOf followingOf followingCurrentOf hoursMinutesOf prayerNumberOf prayerOf truncOf settingHourOf hourOf hourAdjustmentOf minuteOf isNormalOf floorOf roundOf toUnsigned dec round ofBits eq le lt add sub mul div neg ofInt toSigned dateJulianDayOf julianDayOf fromMarchOf yearProductOf monthProductOf correctionOf toI32Of daysSinceSolsticeOf southernOffsetOf daysInYearOf leapOf
 all-hold = tt

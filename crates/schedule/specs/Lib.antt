@@ -4,3 +4,5 @@ pub mod Rooms
 pub mod TwilightLaws
 pub mod Times
 pub mod InForce
+pub mod Numbers
+pub mod Builder

@@ -1,0 +1,42 @@
+use mathlib.Core.Path.{sym}
+use mir.Syntax.{w32}
+use mir.Val.{SFits}
+use lib.Ieee.{round, ofBits}
+use Rattle.integers.specs.Ranges.{read}
+use Rattle.float64.specs.Ops.{dec}
+use Rattle.schedule.specs.Numbers.{ishaNumberOf}
+use borrow.Author.Needs.{needs}
+use Rattle.schedule.proofs.numbers.isha_number.Statement.{statement}
+use Rattle.schedule.proofs.numbers.isha_number.Tie as tie
+
+returns : tie.Need-returns
+unfolding ishaNumberOf dec round ofBits
+returns c =
+    let t = c .before .before .before in
+    let i = t .args .parameters .«isha_interval» in
+    let f : SFits w32 i = search needs in
+    let e = rw (read w32 i f) at (c .if1 .taken) in
+    simp e
+
+returns-2 : tie.Need-returns-2
+unfolding ishaNumberOf dec round ofBits
+returns-2 c =
+    let t = c .before .before .before .before .before in
+    let i = t .args .parameters .«isha_interval» in
+    let f : SFits w32 i = search needs in
+    let e = rw (read w32 i f) at (c .before .before .if1 .left) in
+    simp (e, sym (c .before .by-seventh .ensures), c .if2 .taken)
+
+returns-3 : tie.Need-returns-3
+unfolding ishaNumberOf dec round ofBits
+returns-3 c =
+    let t = c .before .before .before .before .before .before .before .before in
+    let i = t .args .parameters .«isha_interval» in
+    let f : SFits w32 i = search needs in
+    let e = rw (read w32 i f) at (c .before .before .before .before .before .if1 .left) in
+    simp (c .angle-number .ensures, c .before .new .ensures, e, sym (c .before .before .before .before .by-seventh .ensures), c .before .before .before .if2 .left)
+
+pub isha-number-spec : {M : Type 1} → statement M
+isha-number-spec =
+    tie.close
+    (tie.spec returns (λ c κs. tt) returns-2 (λ c κs. tt) (λ c κs. tt) returns-3)

@@ -1,0 +1,87 @@
+// The hour numbers of a row from its date and place. Five positions serve the three days, and what depends on the place alone is worked once.
+ghost use mathlib.Core.Path.{_≡_};
+ghost use Rattle.schedule.specs.Numbers.{fajrNumberOf, ishaNumberOf, asrNumberOf, numbersOf};
+use super::hours::RowNumbers;
+use super::twilight::by_seventh;
+use calendar::dates::Date;
+use models::madhab::Madhab;
+use models::parameters::Parameters;
+use ops::transit::Course;
+use ops::transit::Observer;
+use solar::coordinates::position;
+use solar::hours::afternoon_number;
+use solar::hours::angle_number;
+use solar::hours::hour_numbers;
+use solar::hours::sun;
+use unit::Angle;
+use unit::Coordinates;
+
+// 0.0, which has no time, where a seventh of the night takes the angle's place.
+pub fn fajr_number(parameters: Parameters, latitude: f64, sun: Course) -> f64
+    ensures { λ r. ⌜ r ≡ fajrNumberOf parameters latitude sun ⌝ }
+{
+    let method = parameters.method;
+    if by_seventh(method, latitude) {
+        return 0.0;
+    }
+    angle_number(sun, Angle::new(-parameters.fajr_angle), false)
+}
+
+// 0.0 where an interval or a seventh of the night takes the angle's place.
+pub fn isha_number(parameters: Parameters, latitude: f64, sun: Course) -> f64
+    ensures { λ r. ⌜ r ≡ ishaNumberOf parameters latitude sun ⌝ }
+{
+    let method = parameters.method;
+    if parameters.isha_interval > 0 {
+        return 0.0;
+    }
+    if by_seventh(method, latitude) {
+        return 0.0;
+    }
+    angle_number(sun, Angle::new(-parameters.isha_angle), true)
+}
+
+pub fn asr_number(parameters: Parameters, latitude: f64, sun: Course) -> f64
+    ensures { λ r. ⌜ r ≡ asrNumberOf parameters latitude sun ⌝ }
+{
+    let madhab = parameters.madhab;
+    afternoon_number(sun, latitude, madhab.shadow() as f64)
+}
+
+impl RowNumbers {
+    pub fn new(date: Date, coordinates: Coordinates, parameters: Parameters) -> RowNumbers
+        ensures { λ r. ⌜ r ≡ numbersOf date coordinates parameters ⌝ }
+    {
+        let latitude = coordinates.latitude;
+        let observer = Observer::new(coordinates);
+        let next = date.tomorrow();
+        let second = next.tomorrow();
+        let at_date = position(date);
+        let at_next = position(next);
+        let at_second = position(second);
+        let today = sun(
+            coordinates,
+            observer,
+            position(date.yesterday()),
+            at_date,
+            at_next,
+        );
+        let tomorrow = sun(coordinates, observer, at_date, at_next, at_second);
+        let after = sun(
+            coordinates,
+            observer,
+            at_next,
+            at_second,
+            position(second.tomorrow()),
+        );
+        RowNumbers {
+            today: hour_numbers(today),
+            tomorrow: hour_numbers(tomorrow),
+            after: hour_numbers(after),
+            fajr: fajr_number(parameters, latitude, today),
+            asr: asr_number(parameters, latitude, today),
+            isha: isha_number(parameters, latitude, today),
+            fajr_tomorrow: fajr_number(parameters, latitude, tomorrow),
+        }
+    }
+}
