@@ -146,10 +146,10 @@ impl PrayerTimes {
         ensures { λ r. ⌜ r ≡ timeRemainingOf self instant ⌝ }
     {
         match self.next(instant) {
-            Current::Some(prayer) => Remaining::In(hours_minutes(ahead(
-                self.time(prayer),
-                instant,
-            ))),
+            Current::Some(prayer) => {
+                let seconds = ahead(self.time(prayer), instant);
+                Remaining::In(hours_minutes(seconds))
+            }
             Current::None => Remaining::Nothing,
         }
     }
