@@ -3,7 +3,7 @@ use mir.Syntax.{w64}
 use Rattle.integers.specs.Ranges.{readBack}
 use Rattle.schedule.specs.declared.in_force.Current.the-variants.{Some}
 use Rattle.schedule.proofs.Due as due
-use mathlib.Core.Path.{_≡_, sym, ap, _∙_}
+use mathlib.Core.Path.{_≡_, refl, sym, ap, _∙_}
 use Prim.Native.Nat.{_≤_, _-_}
 use native.Mathlib.Omega.{arith}
 use borrow.Author.Needs.{needs}
@@ -16,6 +16,10 @@ Inv-loop self instant n₀ n = (n ≤ 8) × (lastOf self instant n ≡ lastOf se
 
 abbrev μ-loop : tie.MeasureT-loop
 μ-loop self instant n₀ n = n
+
+-- the search begins at the end of the list
+loop-holds : tie.Need-loop-holds Inv-loop μ-loop
+loop-holds c = (omega arith, refl)
 
 returns : tie.Need-returns Inv-loop μ-loop
 returns c =
@@ -47,4 +51,4 @@ returns-2 c =
 pub current-time-spec : {M : Type 1} → statement M
 current-time-spec =
     tie.close
-    (tie.spec Inv-loop μ-loop (λ c. search needs) (λ c κs. tt) (λ c κs. tt) (λ c κs. tt) returns (λ c. search needs) (λ c. search needs) loop-again returns-2)
+    (tie.spec Inv-loop μ-loop loop-holds (λ c κs. tt) (λ c κs. tt) (λ c κs. tt) returns (λ c. search needs) (λ c. search needs) loop-again returns-2)

@@ -1,0 +1,97 @@
+-- The prayer in force where no time is earlier and the instant is not after: what is due under the second is due under the first. Assumes nothing.
+use mathlib.Core.Path.{_≡_, refl, ap}
+use mathlib.Core.Bool.{Bool, true, false, cond}
+use mathlib.Core.Logic.{_⊎_, ⊎-elim}
+use Prim.Native.Nat.{ℕ, zero, suc, _+_, _*_, _≤_}
+use native.Mathlib.Omega.{arith}
+use lib.Dec.{eqb, eqb→eq, lit≤}
+use lib.IntN.{ℤ, pos, negsuc, _+ℤ_, _-ℤ_, _*ℤ_}
+use borrow.Author.Tests.{eqb-true, eqb-false}
+use Rattle.integers.specs.Parts.{P, N}
+use Rattle.integers.specs.Sums.{sum, difference, times}
+use Rattle.integers.specs.Order.{_≼_}
+use Rattle.calendar.proofs.Computed.{at}
+use Rattle.models.specs.declared.prayer.Prayer.{Prayer}
+use Rattle.models.specs.declared.prayer.Prayer.the-variants.{Fajr, Sunrise, Dhuhr, Asr, Maghrib, Isha, Qiyam, FajrTomorrow}
+use Rattle.models.specs.Numbers.{prayerNumberOf, prayerOf}
+use Rattle.schedule.specs.declared.in_force.Instant.{Instant}
+use Rattle.schedule.specs.declared.in_force.Current.the-variants.{Some}
+use Rattle.schedule.specs.declared.prayer_times.PrayerTimes.{PrayerTimes}
+use Rattle.schedule.specs.InForce.{timeOf, second, nanosecondsOf, aheadOf, lastOf, currentTimeOf}
+use Rattle.schedule_laws.specs.Later.{NoneEarlier, placeOf, NotAfter, NotAfterByParts}
+
+pub not-after-by-parts : NotAfterByParts
+unfolding nanosecondsOf
+not-after-by-parts j i h o =
+    let a = times (j .seconds) 1000000000 in
+    let b = times (i .seconds) 1000000000 in
+    let c = sum (j .seconds *ℤ second) (pos (j .nanoseconds)) in
+    let d = sum (i .seconds *ℤ second) (pos (i .nanoseconds)) in
+    let e = sum (j .seconds) (pos 1) in
+    ⊎-elim (λ (l : j .seconds +ℤ pos 1 ≼ i .seconds). omega arith)
+    (λ (l : (j .seconds ≡ i .seconds) × (j .nanoseconds ≤ i .nanoseconds)). let x = ap P (l .0) in let y = ap N (l .0) in omega (arith, l .1))
+    o
+
+-- ---- the whole seconds that lie ahead
+positive-grows : (x y : ℤ) → x ≼ y → P x ≤ P y
+positive-grows (pos a) (pos b) h = omega arith
+positive-grows (pos a) (negsuc b) h = omega arith
+positive-grows (negsuc a) y h = omega arith
+
+ahead-grows : (s t : ℤ) (i j : Instant) → s ≼ t → NotAfter j i → aheadOf s i ≤ aheadOf t j
+unfolding aheadOf
+ahead-grows s t i j h k =
+    let a = times s 1000000000 in
+    let b = times t 1000000000 in
+    let c = difference (s *ℤ second) (nanosecondsOf i) in
+    let d = difference (t *ℤ second) (nanosecondsOf j) in
+    let g = positive-grows (s *ℤ second -ℤ nanosecondsOf i) (t *ℤ second -ℤ nanosecondsOf j) (omega (arith, c .0, c .1, d .0, d .1)) in
+    omega (arith, g)
+
+-- ---- the list
+time-grows : (t u : PrayerTimes) → NoneEarlier t u → (prayer : Prayer) → timeOf t prayer ≼ timeOf u prayer
+unfolding timeOf
+time-grows t u h Fajr = h .fajr
+time-grows t u h Sunrise = h .sunrise
+time-grows t u h Dhuhr = h .dhuhr
+time-grows t u h Asr = h .asr
+time-grows t u h Maghrib = h .maghrib
+time-grows t u h Isha = h .isha
+time-grows t u h Qiyam = h .qiyam
+time-grows t u h FajrTomorrow = h .«fajr_tomorrow»
+
+placeTest : ℕ → Bool
+placeTest n = eqb (prayerNumberOf (prayerOf (suc n))) (suc n)
+
+place-is : (n : ℕ) → suc n ≤ 8 → prayerNumberOf (prayerOf (suc n)) ≡ suc n
+unfolding placeTest prayerNumberOf prayerOf
+place-is n h = eqb→eq _ _ (at placeTest 8 tt n h)
+
+-- no prayer of the first n stands after the n-th place
+first-places : (t : PrayerTimes) (i : Instant) (n : ℕ) → n ≤ 8 → placeOf (lastOf t i n) ≤ n
+unfolding lastOf
+first-places t i zero h = lit≤ tt
+first-places t i (suc n) h = by-test (eqb (aheadOf (timeOf t (prayerOf (suc n))) i) 0) (first-places t i n (omega arith))
+  where
+    by-test : (b : Bool) → placeOf (lastOf t i n) ≤ n → placeOf (cond b (Some (prayerOf (suc n))) (lastOf t i n)) ≤ suc n
+    by-test true before = omega (arith, place-is n h)
+    by-test false before = omega arith
+
+module _ (t u : PrayerTimes) (i j : Instant) (h : NoneEarlier t u) (k : NotAfter j i) where
+  places : (n : ℕ) → n ≤ 8 → placeOf (lastOf u j n) ≤ placeOf (lastOf t i n)
+  unfolding lastOf
+  places zero l = lit≤ tt
+  places (suc n) l = by-tests (eqb (aheadOf (timeOf u (prayerOf (suc n))) j) 0) (eqb (aheadOf (timeOf t (prayerOf (suc n))) i) 0) refl refl (places n (omega arith))
+    where
+      by-tests : (b c : Bool) → eqb (aheadOf (timeOf u (prayerOf (suc n))) j) 0 ≡ b → eqb (aheadOf (timeOf t (prayerOf (suc n))) i) 0 ≡ c → placeOf (lastOf u j n) ≤ placeOf (lastOf t i n)
+          → placeOf (cond b (Some (prayerOf (suc n))) (lastOf u j n)) ≤ placeOf (cond c (Some (prayerOf (suc n))) (lastOf t i n))
+      by-tests true true p q before = omega arith
+      by-tests true false p q before =
+          let g = ahead-grows (timeOf t (prayerOf (suc n))) (timeOf u (prayerOf (suc n))) i j (time-grows t u h (prayerOf (suc n))) k in
+          let due = eqb-true (aheadOf (timeOf u (prayerOf (suc n))) j) 0 p in
+          absurd (eqb-false (aheadOf (timeOf t (prayerOf (suc n))) i) 0 q (omega arith))
+      by-tests false true p q before = omega (arith, first-places u j n (omega arith), place-is n l)
+      by-tests false false p q before = before
+
+pub in-force-no-later : (t u : PrayerTimes) (i j : Instant) → NoneEarlier t u → NotAfter j i → placeOf (currentTimeOf u j) ≤ placeOf (currentTimeOf t i)
+in-force-no-later t u i j h k = places t u i j h k 8 (lit≤ tt)

@@ -1,0 +1,96 @@
+-- What a school's later minutes do to a day: the statement of specs/Later. Assumes nothing.
+use mathlib.Core.Path.{_≡_, refl, sym, ap, subst, _∙_}
+use Prim.Native.Nat.{ℕ, _^_}
+use native.Mathlib.Omega.{arith}
+use lib.Ieee.{Float}
+use Rattle.integers.specs.Order.{_≼_}
+use Rattle.calendar.specs.declared.dates.Date.{Date}
+use Rattle.models.specs.declared.adjustments.TimeAdjustment.{TimeAdjustment}
+use Rattle.models.specs.declared.parameters.Parameters.{Parameters}
+use Rattle.models.specs.declared.prayer.Prayer.{Prayer}
+use Rattle.models.specs.declared.refusal.Refusal.{Refusal}
+use Rattle.models.specs.Settings.{timeAdjustmentsOf}
+use Rattle.solar.specs.declared.times.SolarDay.{SolarDay}
+use Rattle.solar.specs.declared.times.SolarDay.the-variants.{Whole, Lacks}
+use Rattle.solar.specs.Times.{solarTimeOf}
+use Rattle.unit.specs.declared.Coordinates.{Coordinates}
+use Rattle.schedule.specs.declared.hours.RowHours.{RowHours}
+use Rattle.schedule.specs.declared.hours.RowNumbers.{RowNumbers}
+use Rattle.schedule.specs.declared.prayer_times.PrayerTimes.{PrayerTimes}
+use Rattle.schedule.specs.declared.prayer_times.Worked.the-variants.{Times, Refused}
+use Rattle.schedule.specs.Hours.{hoursOf}
+use Rattle.schedule.specs.Numbers.{fajrNumberOf, ishaNumberOf, asrNumberOf, numbersOf}
+use Rattle.schedule.specs.Rooms.{Near}
+use Rattle.schedule.specs.Times.{workedFrom, workedOf}
+use Rattle.schedule_laws.specs.Later.{withMinutes, NoneEarlier, ExactlyLater, NotAfter, Moved, LaterMinutesMoveTheDay, LaterMinutesMoveTheRow}
+use Rattle.schedule_laws.proofs.Spans.{BetweenHour}
+use Rattle.schedule_laws.proofs.SunSpans.{DaySpan, hour-span, day-span}
+use Rattle.schedule.specs.declared.in_force.Instant.{Instant}
+use Rattle.schedule_laws.proofs.Moves.{exactly, none-earlier}
+use Rattle.schedule_laws.proofs.InForceLaws.{in-force-no-later}
+
+-- ---- the day, refused or worked
+refused-alike : (p q : Parameters) (x : Refusal) → Moved p q (Refused x) (Refused x)
+refused-alike p q x =
+    record {
+      refused = λ (r : Refusal) (e : Refused x ≡ Refused r). e;
+      «refused_too» = λ (r : Refusal) (e : Refused x ≡ Refused r). e;
+      «none_earlier» = λ (t u : PrayerTimes) (e : Refused x ≡ Times t) (f : Refused x ≡ Times u). let z : _≡_ {A = ℕ} 0 1 = cc in absurd (omega arith);
+      «exactly_later» = λ (t u : PrayerTimes) (e : Refused x ≡ Times t) (f : Refused x ≡ Times u). let z : _≡_ {A = ℕ} 0 1 = cc in absurd (omega arith);
+      «in_force» = λ (t u : PrayerTimes) (e : Refused x ≡ Times t) (f : Refused x ≡ Times u). let z : _≡_ {A = ℕ} 0 1 = cc in absurd (omega arith);
+    }
+
+worked-alike : (p q : Parameters) (x y : PrayerTimes) → NoneEarlier x y → ExactlyLater p q x y → Moved p q (Times x) (Times y)
+worked-alike p q x y none exact =
+    record {
+      refused = λ (r : Refusal) (e : Times x ≡ Refused r). let z : _≡_ {A = ℕ} 0 1 = cc in absurd (omega arith);
+      «refused_too» = λ (r : Refusal) (e : Times y ≡ Refused r). let z : _≡_ {A = ℕ} 0 1 = cc in absurd (omega arith);
+      «none_earlier» = λ (t u : PrayerTimes) (e : Times x ≡ Times t) (f : Times y ≡ Times u).
+          let a : x ≡ t = cc in let b : y ≡ u = cc in subst (λ (k : PrayerTimes). NoneEarlier t k) b (subst (λ (k : PrayerTimes). NoneEarlier k y) a none);
+      «exactly_later» = λ (t u : PrayerTimes) (e : Times x ≡ Times t) (f : Times y ≡ Times u).
+          let a : x ≡ t = cc in let b : y ≡ u = cc in subst (λ (k : PrayerTimes). ExactlyLater p q t k) b (subst (λ (k : PrayerTimes). ExactlyLater p q k y) a exact);
+      «in_force» = λ (t u : PrayerTimes) (e : Times x ≡ Times t) (f : Times y ≡ Times u) (i j : Instant) (l : NotAfter j i).
+          let a : x ≡ t = cc in
+          let b : y ≡ u = cc in
+          in-force-no-later t u i j (subst (λ (k : PrayerTimes). NoneEarlier t k) b (subst (λ (k : PrayerTimes). NoneEarlier k y) a none)) l;
+    }
+
+module _ (p : Parameters) (minutes : TimeAdjustment) (more : (prayer : Prayer) → timeAdjustmentsOf p prayer ≼ timeAdjustmentsOf (withMinutes p minutes) prayer)
+    (held : (prayer : Prayer) → Near (2 ^ 32) (timeAdjustmentsOf p prayer)) (held-q : (prayer : Prayer) → Near (2 ^ 32) (timeAdjustmentsOf (withMinutes p minutes) prayer))
+    (latitude : Float) (date : Date) where
+  by-suns : (a b c : SolarDay) (h : RowHours) → DaySpan a → DaySpan b → DaySpan c → BetweenHour 86400 172799 (h .«fajr_tomorrow»)
+      → Moved p (withMinutes p minutes) (workedFrom a b c h date latitude p) (workedFrom a b c h date latitude (withMinutes p minutes))
+  unfolding workedFrom
+  by-suns (Lacks n) b c h x y z k = refused-alike p (withMinutes p minutes) _
+  by-suns (Whole a) (Lacks n) c h x y z k = refused-alike p (withMinutes p minutes) _
+  by-suns (Whole a) (Whole b) (Lacks n) h x y z k = refused-alike p (withMinutes p minutes) _
+  by-suns (Whole a) (Whole b) (Whole c) h x y z k =
+      worked-alike p (withMinutes p minutes) _ _ (none-earlier p minutes latitude date a b c (h .fajr) (h .asr) (h .isha) (h .«fajr_tomorrow») more held held-q x y z k)
+      (exactly p minutes latitude date a b c (h .fajr) (h .asr) (h .isha) (h .«fajr_tomorrow»))
+
+  by-numbers : (n : RowNumbers) → Moved p (withMinutes p minutes) (workedOf (hoursOf n) date latitude p) (workedOf (hoursOf n) date latitude (withMinutes p minutes))
+  unfolding workedOf hoursOf
+  by-numbers n =
+      by-suns (solarTimeOf (n .today)) (solarTimeOf (n .tomorrow)) (solarTimeOf (n .after)) (hoursOf n) (day-span (n .today)) (day-span (n .tomorrow)) (day-span (n .after)) (hour-span (n .«fajr_tomorrow»))
+
+pub later-minutes-move-the-day : LaterMinutesMoveTheDay
+later-minutes-move-the-day n date latitude p q h =
+    let e = h .alike in
+    subst (λ (x : Parameters). Moved p x (workedOf (hoursOf n) date latitude p) (workedOf (hoursOf n) date latitude x)) e
+    (by-numbers p (q .adjustments) (λ (prayer : Prayer). subst (λ (x : Parameters). timeAdjustmentsOf p prayer ≼ timeAdjustmentsOf x prayer) (sym e) (h .more prayer)) (h .«first_held»)
+    (λ (prayer : Prayer). subst (λ (x : Parameters). Near (2 ^ 32) (timeAdjustmentsOf x prayer)) (sym e) (h .«second_held» prayer))
+    latitude
+    date
+    n)
+
+-- ---- from date and place on
+numbers-alike : (date : Date) (place : Coordinates) (p : Parameters) (minutes : TimeAdjustment) → numbersOf date place (withMinutes p minutes) ≡ numbersOf date place p
+unfolding numbersOf fajrNumberOf asrNumberOf ishaNumberOf
+numbers-alike date place p minutes = refl
+
+pub later-minutes-move-the-row : LaterMinutesMoveTheRow
+later-minutes-move-the-row date place p q h =
+    let n = numbersOf date place p in
+    let e : numbersOf date place q ≡ n = ap (numbersOf date place) (sym (h .alike)) ∙ numbers-alike date place p (q .adjustments) in
+    subst (λ (m : RowNumbers). Moved p q (workedOf (hoursOf n) date (place .latitude) p) (workedOf (hoursOf m) date (place .latitude) q)) (sym e)
+    (later-minutes-move-the-day n date (place .latitude) p q h)

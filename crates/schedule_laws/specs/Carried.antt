@@ -1,0 +1,28 @@
+-- What an order's parameters can be: each number in the range that its tag allows, and the method's minutes as the methods bring them.
+use mathlib.Core.Path.{_≡_}
+use mathlib.Core.Bool.{true}
+use lib.Ieee.{Float, neg, le}
+use Rattle.float64.specs.Ops.{dec}
+use Rattle.models.specs.declared.parameters.Parameters.{Parameters}
+use Rattle.models.specs.declared.prayer.Prayer.{Prayer}
+use Rattle.models.specs.Settings.{minutesFor}
+use Rattle.schedule.specs.Rooms.{Near}
+
+-- tags 12 and 13: from 0 to 30 degrees
+abbrev pub AngleInOrder : Float → Type 0
+AngleInOrder angle = (le (dec 0 0) angle ≡ true) × (le angle (dec 30 0) ≡ true)
+
+-- tag 4: from -90 to 90
+pub record LatitudeInOrder (latitude : Float) : Type 0 where
+  pub south : le (neg (dec 90 0)) latitude ≡ true
+  pub north : le latitude (dec 90 0) ≡ true
+
+pub record Carried (p : Parameters) : Type 0 where
+  pub «fajr_angle» : AngleInOrder (p .«fajr_angle»)
+  pub «isha_angle» : AngleInOrder (p .«isha_angle»)
+  -- tag 14
+  pub «isha_interval» : Near 1440 (p .«isha_interval»)
+  -- tag 11
+  pub own : (prayer : Prayer) → Near 720 (minutesFor prayer (p .adjustments))
+  -- no method brings more than 7 minutes
+  pub preset : (prayer : Prayer) → Near 7 (minutesFor prayer (p .«method_adjustments»))

@@ -1,0 +1,116 @@
+-- Two sets of parameters that differ only in a school's own minutes (demand 3): what the second's larger sums do to the days that are refused, to
+-- the nine times and to the prayer in force. For all hour numbers, every date and every latitude. Proved in proofs/LaterLaws.
+use mathlib.Core.Path.{_≡_}
+use mathlib.Core.Logic.{_⊎_}
+use Prim.Native.Nat.{ℕ, _^_, _≤_, _<_}
+use lib.IntN.{ℤ, pos, _+ℤ_, _-ℤ_, _*ℤ_}
+use lib.Ieee.{Float}
+use Rattle.integers.specs.Order.{_≼_}
+use Rattle.calendar.specs.declared.dates.Date.{Date}
+use Rattle.models.specs.declared.adjustments.TimeAdjustment.{TimeAdjustment}
+use Rattle.models.specs.declared.parameters.Parameters.{Parameters}
+use Rattle.models.specs.declared.prayer.Prayer.{Prayer}
+use Rattle.models.specs.declared.prayer.Prayer.the-variants.{Fajr, Sunrise, Dhuhr, Asr, Maghrib, Isha}
+use Rattle.models.specs.declared.refusal.Refusal.{Refusal}
+use Rattle.models.specs.Numbers.{prayerNumberOf}
+use Rattle.models.specs.Settings.{timeAdjustmentsOf}
+use Rattle.unit.specs.declared.Coordinates.{Coordinates}
+use Rattle.schedule.specs.declared.hours.RowNumbers.{RowNumbers}
+use Rattle.schedule.specs.declared.in_force.Instant.{Instant}
+use Rattle.schedule.specs.declared.in_force.Current.{Current}
+use Rattle.schedule.specs.declared.in_force.Current.the-variants.{Some, None}
+use Rattle.schedule.specs.declared.prayer_times.PrayerTimes.{PrayerTimes}
+use Rattle.schedule.specs.declared.prayer_times.Worked.{Worked}
+use Rattle.schedule.specs.declared.prayer_times.Worked.the-variants.{Times, Refused}
+use Rattle.schedule.specs.Hours.{hoursOf}
+use Rattle.schedule.specs.InForce.{nanosecondsOf, currentTimeOf}
+use Rattle.schedule.specs.Numbers.{numbersOf}
+use Rattle.schedule.specs.Rooms.{Near}
+use Rattle.schedule.specs.Times.{workedOf}
+
+-- ---- "differ only in schools' own minutes, and the second's sum (own plus method's) for each of the six prayers is at least the first's"
+abbrev pub withMinutes : Parameters → TimeAdjustment → Parameters
+withMinutes p minutes =
+    record {
+      method = p .method;
+      «fajr_angle» = p .«fajr_angle»;
+      «maghrib_angle» = p .«maghrib_angle»;
+      «isha_angle» = p .«isha_angle»;
+      «isha_interval» = p .«isha_interval»;
+      madhab = p .madhab;
+      «high_latitude_rule» = p .«high_latitude_rule»;
+      adjustments = minutes;
+      «method_adjustments» = p .«method_adjustments»;
+      rounding = p .rounding;
+      shafaq = p .shafaq;
+    }
+
+-- Qiyam and tomorrow's Fajr have no minutes: their sums are 0. Any two i32 have a sum within 2 ^ 32.
+pub record LaterMinutes (p q : Parameters) : Type 0 where
+  pub alike : withMinutes p (q .adjustments) ≡ q
+  pub more : (prayer : Prayer) → timeAdjustmentsOf p prayer ≼ timeAdjustmentsOf q prayer
+  pub «first_held» : (prayer : Prayer) → Near (2 ^ 32) (timeAdjustmentsOf p prayer)
+  pub «second_held» : (prayer : Prayer) → Near (2 ^ 32) (timeAdjustmentsOf q prayer)
+
+-- ---- "none of the second's nine times is earlier than the first's"
+pub record NoneEarlier (t u : PrayerTimes) : Type 0 where
+  pub fajr : t .fajr ≼ u .fajr
+  pub sunrise : t .sunrise ≼ u .sunrise
+  pub dhuhr : t .dhuhr ≼ u .dhuhr
+  pub asr : t .asr ≼ u .asr
+  pub maghrib : t .maghrib ≼ u .maghrib
+  pub isha : t .isha ≼ u .isha
+  pub «middle_of_the_night» : t .«middle_of_the_night» ≼ u .«middle_of_the_night»
+  pub qiyam : t .qiyam ≼ u .qiyam
+  pub «fajr_tomorrow» : t .«fajr_tomorrow» ≼ u .«fajr_tomorrow»
+
+-- ---- "each of its six daily times is later by exactly the difference of the two sums for it, and tomorrow's Fajr by exactly Fajr's difference"
+-- 60 seconds for each minute of difference
+abbrev pub laterBy : Parameters → Parameters → Prayer → ℤ
+laterBy p q prayer = (timeAdjustmentsOf q prayer -ℤ timeAdjustmentsOf p prayer) *ℤ pos 60
+
+pub record ExactlyLater (p q : Parameters) (t u : PrayerTimes) : Type 0 where
+  pub fajr : u .fajr ≡ t .fajr +ℤ laterBy p q Fajr
+  pub sunrise : u .sunrise ≡ t .sunrise +ℤ laterBy p q Sunrise
+  pub dhuhr : u .dhuhr ≡ t .dhuhr +ℤ laterBy p q Dhuhr
+  pub asr : u .asr ≡ t .asr +ℤ laterBy p q Asr
+  pub maghrib : u .maghrib ≡ t .maghrib +ℤ laterBy p q Maghrib
+  pub isha : u .isha ≡ t .isha +ℤ laterBy p q Isha
+  pub «fajr_tomorrow» : u .«fajr_tomorrow» ≡ t .«fajr_tomorrow» +ℤ laterBy p q Fajr
+
+-- ---- "the prayer in force .. stands no later in the list of eight .. ("none" standing before Fajr)"
+abbrev pub placeOf : Current → ℕ
+placeOf None = 0
+placeOf (Some prayer) = prayerNumberOf prayer
+
+-- an instant is not after another, by the nanoseconds to both
+abbrev pub NotAfter : Instant → Instant → Type 0
+NotAfter j i = nanosecondsOf j ≼ nanosecondsOf i
+
+-- which is the order by whole seconds, then nanoseconds, since an instant's nanoseconds are less than a second: j's whole seconds are fewer, or the same
+-- and its nanoseconds no more
+abbrev pub NotAfterByParts : Type 0
+NotAfterByParts =
+    (j i : Instant) → j .nanoseconds < 1000000000 → (j .seconds +ℤ pos 1 ≼ i .seconds) ⊎ ((j .seconds ≡ i .seconds) × (j .nanoseconds ≤ i .nanoseconds)) → NotAfter j i
+
+-- ---- demand 3 of one day, w under the first and v under the second
+pub record Moved (p q : Parameters) (w v : Worked) : Type 0 where
+  -- the same days are refused, with the same number and place
+  pub refused : (r : Refusal) → w ≡ Refused r → v ≡ Refused r
+  pub «refused_too» : (r : Refusal) → v ≡ Refused r → w ≡ Refused r
+  -- on every other day
+  pub «none_earlier» : (t u : PrayerTimes) → w ≡ Times t → v ≡ Times u → NoneEarlier t u
+  pub «exactly_later» : (t u : PrayerTimes) → w ≡ Times t → v ≡ Times u → ExactlyLater p q t u
+  pub «in_force» : (t u : PrayerTimes) → w ≡ Times t → v ≡ Times u → (i j : Instant) → NotAfter j i → placeOf (currentTimeOf u j) ≤ placeOf (currentTimeOf t i)
+
+abbrev pub LaterMinutesMoveTheDay : Type 0
+LaterMinutesMoveTheDay =
+    (n : RowNumbers) (date : Date) (latitude : Float) (p q : Parameters) → LaterMinutes p q
+    → Moved p q (workedOf (hoursOf n) date latitude p) (workedOf (hoursOf n) date latitude q)
+
+-- from date and place on: the minutes change no hour number
+abbrev pub rowOf : Date → Coordinates → Parameters → Worked
+rowOf date place p = workedOf (hoursOf (numbersOf date place p)) date (place .latitude) p
+
+abbrev pub LaterMinutesMoveTheRow : Type 0
+LaterMinutesMoveTheRow = (date : Date) (place : Coordinates) (p q : Parameters) → LaterMinutes p q → Moved p q (rowOf date place p) (rowOf date place q)

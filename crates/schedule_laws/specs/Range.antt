@@ -1,0 +1,42 @@
+-- Where the nine times of a date lie, and that a sheet can print each one's days as one signed digit: for all hour numbers, every date, and every
+-- latitude and parameters that an order can carry. Proved in proofs/RangeLaws.
+use mathlib.Core.Path.{_≡_}
+use Prim.Native.Nat.{_*_, _≤_, _<_}
+use lib.IntN.{ℤ, _-ℤ_}
+use lib.Ieee.{Float}
+use Rattle.integers.specs.Parts.{P, N}
+use Rattle.integers.specs.Quotients.{floorQuot}
+use Rattle.calendar.specs.declared.dates.Date.{Date}
+use Rattle.models.specs.declared.parameters.Parameters.{Parameters}
+use Rattle.schedule.specs.declared.hours.RowNumbers.{RowNumbers}
+use Rattle.schedule.specs.declared.prayer_times.PrayerTimes.{PrayerTimes}
+use Rattle.schedule.specs.declared.prayer_times.Worked.the-variants.{Times}
+use Rattle.schedule.specs.Hours.{hoursOf}
+use Rattle.schedule.specs.Times.{startOf, workedOf}
+use Rattle.schedule_laws.specs.Carried.{LatitudeInOrder, Carried}
+
+-- from 4 days before 0h of the date to before 5 days after it
+pub record OfDate (date : Date) (time : ℤ) : Type 0 where
+  pub from : N (time -ℤ startOf date) ≤ 4 * 86400
+  pub before : P (time -ℤ startOf date) < 5 * 86400
+
+pub record AllOfDate (date : Date) (t : PrayerTimes) : Type 0 where
+  pub fajr : OfDate date (t .fajr)
+  pub sunrise : OfDate date (t .sunrise)
+  pub dhuhr : OfDate date (t .dhuhr)
+  pub asr : OfDate date (t .asr)
+  pub maghrib : OfDate date (t .maghrib)
+  pub isha : OfDate date (t .isha)
+  pub «middle_of_the_night» : OfDate date (t .«middle_of_the_night»)
+  pub qiyam : OfDate date (t .qiyam)
+  pub «fajr_tomorrow» : OfDate date (t .«fajr_tomorrow»)
+
+abbrev pub TimesLieByTheirDate : Type 0
+TimesLieByTheirDate =
+    (n : RowNumbers) (date : Date) (latitude : Float) (p : Parameters) (t : PrayerTimes)
+    → LatitudeInOrder latitude → Carried p → workedOf (hoursOf n) date latitude p ≡ Times t → AllOfDate date t
+
+-- the days that the sheet prints, rounded down, are from -4 to 4
+abbrev pub DaysAreOneDigit : Type 0
+DaysAreOneDigit =
+    (date : Date) (time : ℤ) → OfDate date time → (N (floorQuot (time -ℤ startOf date) 86400) ≤ 4) × (P (floorQuot (time -ℤ startOf date) 86400) ≤ 4)

@@ -1,0 +1,74 @@
+-- Where the times of `setting_hour` lie: from 0h of yesterday to before 24h of tomorrow, for every hour number that has a time. Over the
+-- definitions of `Setting`. Assumes nothing.
+use mathlib.Core.Path.{_≡_, refl, subst}
+use mathlib.Core.Bool.{Bool, true, false, cond}
+use Prim.Native.Nat.{ℕ, _+_, _*_, _≤_, _<_}
+use native.Mathlib.Omega.{arith}
+use lib.Dec.{ltb, lit≤}
+use lib.IntN.{ℤ, pos, negsuc, _-ℤ_}
+use lib.Ieee.{Float, lt}
+use borrow.Author.Tests.{ltb-true}
+use Rattle.integers.specs.Parts.{P, N}
+use Rattle.integers.specs.Sums.{difference}
+use Rattle.float64.specs.Ops.{dec}
+use Rattle.float64.specs.Sizes.{isNormalOf}
+use Rattle.float64.specs.Whole.{floorOf}
+use Rattle.solar.specs.declared.setting.SolarHour.{SolarHour}
+use Rattle.solar.specs.declared.setting.SolarHour.the-variants.{At, None}
+use Rattle.solar.specs.declared.setting.Placed.{Placed}
+use Rattle.solar.specs.Setting.{hourAdjustmentOf, minuteOf, hourOf, settingHourOf}
+
+-- t is from -86400 to 172799
+abbrev pub OfThreeDays : ℤ → Type 0
+OfThreeDays t = (N t ≤ 86400) × (P t < 172800)
+
+-- an hour's time, where it has one
+abbrev pub HourOfThreeDays : SolarHour → Type 0
+HourOfThreeDays (At t) = OfThreeDays t
+HourOfThreeDays None = 0 ≤ 0
+
+-- so many seconds from 0h of yesterday
+counted : (n : ℕ) → n < 259200 → OfThreeDays (pos n -ℤ pos 86400)
+counted n h = let d = difference (pos n) (pos 86400) in by-sign (pos n -ℤ pos 86400) (omega (arith, d .0, d .1))
+  where
+    by-sign : (z : ℤ) → P z + 86400 ≡ N z + n → OfThreeDays z
+    by-sign (pos a) e = (omega arith, omega arith)
+    by-sign (negsuc a) e = (omega arith, omega arith)
+
+where-so : (b : Bool) (t : ℤ) → (b ≡ true → OfThreeDays t) → HourOfThreeDays (cond b (At t) None)
+where-so true t h = h refl
+where-so false t h = lit≤ tt
+
+hour-held : (p : Placed) (minute : ℕ) → p .ahead ≤ 2 → HourOfThreeDays (hourOf p minute)
+unfolding hourOf
+hour-held p minute h = by-test (ltb minute 60) refl
+  where
+    by-test : (b : Bool) → ltb minute 60 ≡ b → HourOfThreeDays (cond b
+        (cond (ltb (p .hour) 24) (At (pos (p .ahead * 86400 + p .hour * 3600 + minute * 60) -ℤ pos 86400)) None)
+        (cond (ltb (p .hour) 23) (At (pos (p .ahead * 86400 + (p .hour + 1) * 3600) -ℤ pos 86400)) None))
+    by-test true e =
+        where-so (ltb (p .hour) 24) (pos (p .ahead * 86400 + p .hour * 3600 + minute * 60) -ℤ pos 86400)
+        (λ k. counted (p .ahead * 86400 + p .hour * 3600 + minute * 60) (omega (arith, ltb-true (p .hour) 24 k, ltb-true minute 60 e)))
+    by-test false e =
+        where-so (ltb (p .hour) 23) (pos (p .ahead * 86400 + (p .hour + 1) * 3600) -ℤ pos 86400)
+        (λ k. counted (p .ahead * 86400 + (p .hour + 1) * 3600) (omega (arith, ltb-true (p .hour) 23 k)))
+
+ahead-held : (hours : Float) → hourAdjustmentOf hours .ahead ≤ 2
+unfolding hourAdjustmentOf
+ahead-held hours = by-tests (lt hours (dec 0 0)) (lt hours (dec 24 0)) _ _ _
+  where
+    by-tests : (a b : Bool) (x y z : ℕ) → cond {A = Placed} a (record { ahead = 0; hour = x }) (cond b (record { ahead = 1; hour = y }) (record { ahead = 2; hour = z })) .ahead ≤ 2
+    by-tests true b x y z = lit≤ tt
+    by-tests false true x y z = lit≤ tt
+    by-tests false false x y z = lit≤ tt
+
+pub setting-held : (value : Float) → HourOfThreeDays (settingHourOf value)
+unfolding settingHourOf
+setting-held value = by-test (isNormalOf value)
+  where
+    by-test : (b : Bool) → HourOfThreeDays (cond b (hourOf (hourAdjustmentOf (floorOf value)) (minuteOf value (floorOf value))) None)
+    by-test true = hour-held (hourAdjustmentOf (floorOf value)) (minuteOf value (floorOf value)) (ahead-held (floorOf value))
+    by-test false = lit≤ tt
+
+pub setting-range : (value : Float) (t : ℤ) → settingHourOf value ≡ At t → OfThreeDays t
+setting-range value t e = subst HourOfThreeDays e (setting-held value)
