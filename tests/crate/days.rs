@@ -83,7 +83,8 @@ impl Days {
     fn day(&mut self, c: &DayCase) -> Option<(PrayerTimes, LeafTimes)> {
         let without = without_wrapping(c);
         let (ours, theirs) = (day_port::day(c), day_crate::day(c));
-        let (port, by_crate) = (answer(ours.map(|times| times.0)), answer(theirs.map(|times| access::nine(&times))));
+        let (our_day, their_day) = (ours.map(|times| times.0), theirs.map(|times| access::nine(&times)));
+        let (port, by_crate) = (answer(our_day), answer(their_day));
         match theirs {
             Err(Refusal { number: 0, .. }) => self.unknown_panics += 1,
             Err(refusal) => self.refused[refusal.number as usize - 6][refusal.day as usize] += 1,
@@ -93,7 +94,7 @@ impl Days {
         for row in 0..12 {
             if port[row].is_some() && by_crate[row].is_some() {
                 self.count(row, port[row] == by_crate[row], listed, || {
-                    format!("port {port:?}, crate {by_crate:?}, 0h {}, {c:?}", midnight(c.date))
+                    format!("port {our_day:?}, crate {their_day:?}, 0h {}, {c:?}", midnight(c.date))
                 });
             }
         }
