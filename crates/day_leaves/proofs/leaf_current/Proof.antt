@@ -1,11 +1,7 @@
 use mathlib.Core.Path.{_≡_, ap, _∙_}
-use lib.IntN.{ℤ}
-use mir.Syntax.{w64}
-use Rattle.integers.specs.Ranges.{readBack, read}
-use Rattle.schedule.specs.declared.in_force.Instant.{Instant}
-use Rattle.schedule.specs.declared.prayer_times.PrayerTimes.{PrayerTimes}
 use Rattle.schedule.specs.InForce.{currentTimeOf}
-use Rattle.day_leaves.specs.DayLeaves.{timesFrom, instantFrom, currentNumberOf}
+use Rattle.day_leaves.specs.DayLeaves.{currentNumberOf}
+use Rattle.day_leaves.proofs.At.{at}
 use Rattle.day_leaves.proofs.leaf_current.Statement.{statement}
 use Rattle.day_leaves.proofs.leaf_current.Tie as tie
 
@@ -17,10 +13,7 @@ returns c =
     let i = c .before .before .instant in
     let e0 : c .number .result ≡ currentNumberOf (c .before .current-time .result) = c .number .ensures in
     let e1 : c .before .current-time .result ≡ currentTimeOf (t .result) (i .result) = c .before .current-time .ensures in
-    let e2 : t .result ≡ timesFrom (a .times) = t .ensures in
-    let e3 : i .result ≡ instantFrom (readBack w64 (a .seconds)) (a .nanoseconds) = i .ensures in
-    let e4 = ap (λ (z : ℤ). instantFrom z (a .nanoseconds)) (read w64 (a .seconds) (start .fits .seconds)) in
-    e0 ∙ ap currentNumberOf (e1 ∙ ap (λ (x : PrayerTimes). currentTimeOf x (i .result)) e2 ∙ ap (λ (x : Instant). currentTimeOf (timesFrom (a .times)) x) (e3 ∙ e4))
+    e0 ∙ ap currentNumberOf (e1 ∙ at currentTimeOf (a .times) (a .seconds) (a .nanoseconds) (t .result) (i .result) (start .fits .seconds) (t .ensures) (i .ensures))
 
 pub leaf-current-spec : {M : Type 1} → statement M
 leaf-current-spec =

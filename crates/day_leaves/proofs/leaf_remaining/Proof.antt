@@ -1,11 +1,7 @@
 use mathlib.Core.Path.{_≡_, ap, _∙_}
-use lib.IntN.{ℤ}
-use mir.Syntax.{w64}
-use Rattle.integers.specs.Ranges.{readBack, read}
-use Rattle.schedule.specs.declared.in_force.Instant.{Instant}
-use Rattle.schedule.specs.declared.prayer_times.PrayerTimes.{PrayerTimes}
 use Rattle.schedule.specs.InForce.{timeRemainingOf}
-use Rattle.day_leaves.specs.DayLeaves.{timesFrom, instantFrom, leafRemainingOf}
+use Rattle.day_leaves.specs.DayLeaves.{leafRemainingOf}
+use Rattle.day_leaves.proofs.At.{at}
 use Rattle.day_leaves.proofs.leaf_remaining.Statement.{statement}
 use Rattle.day_leaves.proofs.leaf_remaining.Tie as tie
 
@@ -17,10 +13,7 @@ returns c =
     let i = c .before .before .instant in
     let e0 : c .leaf-hours-minutes .result ≡ leafRemainingOf (c .before .time-remaining .result) = c .leaf-hours-minutes .ensures in
     let e1 : c .before .time-remaining .result ≡ timeRemainingOf (t .result) (i .result) = c .before .time-remaining .ensures in
-    let e2 : t .result ≡ timesFrom (a .times) = t .ensures in
-    let e3 : i .result ≡ instantFrom (readBack w64 (a .seconds)) (a .nanoseconds) = i .ensures in
-    let e4 = ap (λ (z : ℤ). instantFrom z (a .nanoseconds)) (read w64 (a .seconds) (start .fits .seconds)) in
-    e0 ∙ ap leafRemainingOf (e1 ∙ ap (λ (x : PrayerTimes). timeRemainingOf x (i .result)) e2 ∙ ap (λ (x : Instant). timeRemainingOf (timesFrom (a .times)) x) (e3 ∙ e4))
+    e0 ∙ ap leafRemainingOf (e1 ∙ at timeRemainingOf (a .times) (a .seconds) (a .nanoseconds) (t .result) (i .result) (start .fits .seconds) (t .ensures) (i .ensures))
 
 pub leaf-remaining-spec : {M : Type 1} → statement M
 leaf-remaining-spec =
