@@ -1,10 +1,18 @@
-//! The port's hour numbers, setting_hour and season against the crate's: see tests/crate/run and tests/crate/list.
+//! The port's hour numbers, setting_hour, season and days against the crate's: see tests/crate/run, tests/crate/list and
+//! tests/crate/list-days.
+mod day_crate;
+mod day_draw;
+mod day_list;
+mod day_port;
+mod days;
 mod draw;
 mod numbers;
 mod steps;
 mod tally;
 mod zones;
 
+use day_list::list_days;
+use days::days;
 use draw::{Case, Draw};
 use numbers::{by_leaves, by_plain, by_port};
 use salah_leaves::astronomy::solar::access::Day as LeavesDay;
@@ -63,28 +71,47 @@ fn list(seed: u64, lines: u64) {
     }
 }
 
-fn main() {
+struct Words {
+    what: String,
+    seed: u64,
+    size: u64,
+    instants: u64,
+    print_zones: bool,
+}
+
+fn words() -> Words {
     let mut words = std::env::args().skip(1);
     let what = words.next().unwrap_or_default();
-    let (mut seed, mut size, mut print_zones) = (1, if what == "list" { 3_000 } else { 1_000_000 }, false);
+    let size = if what.starts_with("list") { 3_000 } else { 1_000_000 };
+    let mut read = Words { what, seed: 1, size, instants: 16, print_zones: false };
     while let Some(word) = words.next() {
         let mut number = || words.next().and_then(|word| word.parse().ok()).unwrap_or_else(|| usage());
-        match (what.as_str(), word.as_str()) {
-            (_, "--seed") => seed = number(),
-            ("hours", "--pairs") | ("steps", "--cases") | ("list", "--lines") => size = number(),
-            ("hours", "--zones") => print_zones = true,
+        match (read.what.as_str(), word.as_str()) {
+            (_, "--seed") => read.seed = number(),
+            ("hours", "--pairs") | ("steps", "--cases") | ("days", "--days") => read.size = number(),
+            ("list" | "list-days", "--lines") => read.size = number(),
+            ("days", "--instants") => read.instants = number(),
+            ("hours", "--zones") => read.print_zones = true,
             _ => usage(),
         }
     }
+    read
+}
+
+fn main() {
+    let Words { what, seed, size, instants, print_zones } = words();
     match what.as_str() {
         "hours" => exit(!hours(seed, size, print_zones) as i32),
         "steps" => exit(!steps(seed, size) as i32),
+        "days" => exit(!days(seed, size, instants) as i32),
         "list" => list(seed, size),
+        "list-days" => list_days(seed, size),
         _ => usage(),
     }
 }
 
 fn usage() -> ! {
-    eprintln!("hours [--seed N] [--pairs N] [--zones], steps [--seed N] [--cases N], or list [--seed N] [--lines N]");
+    eprintln!("hours [--seed N] [--pairs N] [--zones], steps [--seed N] [--cases N], days [--seed N] [--days N] [--instants N],");
+    eprintln!("list [--seed N] [--lines N] or list-days [--seed N] [--lines N]");
     exit(2)
 }

@@ -15,7 +15,7 @@ pub struct Case {
 }
 
 /// Ends of the ranges, both zeros, the poles' and tropics' circles, where MoonsightingCommittee changes, where a zone begins.
-const LATITUDES: [f64; 16] = [
+pub const LATITUDES: [f64; 16] = [
     0.0, -0.0, 90.0, -90.0, 89.0, -89.0, 66.56, -66.56, 23.44, -23.44, 55.0, -55.0, 48.0, 5e-324, -5e-324, 1e-9,
 ];
 const LONGITUDES: [f64; 12] =
@@ -25,36 +25,36 @@ const LONGITUDES: [f64; 12] =
 pub struct Draw(pub u64);
 
 impl Draw {
-    fn bits(&mut self) -> u64 {
+    pub fn bits(&mut self) -> u64 {
         self.0 = self.0.wrapping_add(0x9e3779b97f4a7c15);
         let z = (self.0 ^ (self.0 >> 30)).wrapping_mul(0xbf58476d1ce4e5b9);
         let z = (z ^ (z >> 27)).wrapping_mul(0x94d049bb133111eb);
         z ^ (z >> 31)
     }
 
-    fn below(&mut self, count: u64) -> u64 {
+    pub fn below(&mut self, count: u64) -> u64 {
         self.bits() % count
     }
 
-    fn between(&mut self, from: f64, to: f64) -> f64 {
+    pub fn between(&mut self, from: f64, to: f64) -> f64 {
         from + (to - from) * ((self.bits() >> 11) as f64 / (1u64 << 53) as f64)
     }
 
-    fn one_of(&mut self, list: &[f64]) -> f64 {
+    pub fn one_of(&mut self, list: &[f64]) -> f64 {
         list[self.below(list.len() as u64) as usize]
     }
 
-    fn sign(&mut self) -> f64 {
+    pub fn sign(&mut self) -> f64 {
         if self.below(2) == 0 { 1.0 } else { -1.0 }
     }
 
     /// A small step to either side, every size from 1 down to 10^-12 as likely as another.
-    fn step(&mut self) -> f64 {
+    pub fn step(&mut self) -> f64 {
         self.sign() * 10f64.powf(self.between(-12.0, 0.0))
     }
 
     /// An angle of a method or of an order, 0 to 30.
-    fn angle(&mut self, of_methods: &[f64]) -> f64 {
+    pub fn angle(&mut self, of_methods: &[f64]) -> f64 {
         match self.below(8) {
             0 => self.one_of(&[0.0, 30.0, 5e-324]),
             1..=4 => self.one_of(of_methods),

@@ -1,0 +1,12 @@
+use Rattle.day_leaves.specs.DayLeaves.{leafDayOf, parametersFrom}
+use Rattle.day_leaves.proofs.leaf_day.Statement.{statement}
+use Rattle.day_leaves.proofs.leaf_day.Tie as tie
+
+returns : tie.Need-returns
+unfolding leafDayOf parametersFrom
+returns c = cc
+
+pub leaf-day-spec : {M : Type 1} → statement M
+leaf-day-spec =
+    tie.close
+    (tie.spec (λ c κs. tt) (λ c κs. tt) (λ c κs. tt) (λ c κs. tt) (λ c κs. tt) returns)

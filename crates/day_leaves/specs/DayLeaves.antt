@@ -1,0 +1,98 @@
+-- A day's numbers, settings and answers as the exports take and hand them out.
+use Prim.Native.Nat.{ℕ}
+use mathlib.Core.Bool.{true, false}
+use lib.IntN.{ℤ, pos}
+use Rattle.models.specs.Minutes.{minutesOf}
+use Rattle.models.specs.Numbers.{methodOf, methodNumberOf, madhabOf, madhabNumberOf, ruleOf, ruleNumberOf, roundingOf, roundingNumberOf, shafaqOf, shafaqNumberOf, prayerNumberOf}
+use Rattle.models.specs.Presets.{presetOf}
+use Rattle.models.specs.declared.adjustments.TimeAdjustment.{TimeAdjustment}
+use Rattle.models.specs.declared.parameters.Parameters.{Parameters}
+use Rattle.solar.specs.declared.hours.HourNumbers.{HourNumbers}
+use Rattle.schedule.specs.declared.hours.RowNumbers.{RowNumbers}
+use Rattle.schedule.specs.declared.prayer_times.PrayerTimes.{PrayerTimes}
+use Rattle.schedule.specs.declared.prayer_times.Worked.{Worked}
+use Rattle.schedule.specs.declared.prayer_times.Worked.the-variants.{Times, Refused}
+use Rattle.schedule.specs.declared.in_force.Instant.{Instant}
+use Rattle.schedule.specs.declared.in_force.Current.{Current}
+use Rattle.schedule.specs.declared.in_force.Current.the-variants.{Some, None}
+use Rattle.schedule.specs.declared.in_force.Remaining.{Remaining}
+use Rattle.schedule.specs.declared.in_force.Remaining.the-variants.{In, Nothing}
+use Rattle.day_leaves.specs.declared.LeafSun.{LeafSun}
+use Rattle.day_leaves.specs.declared.LeafNumbers.{LeafNumbers}
+use Rattle.day_leaves.specs.declared.LeafSettings.{LeafSettings}
+use Rattle.day_leaves.specs.declared.LeafTimes.{LeafTimes}
+use Rattle.day_leaves.specs.declared.LeafDay.{LeafDay}
+use Rattle.day_leaves.specs.declared.LeafRemaining.{LeafRemaining}
+
+abbrev pub sunOf : LeafSun → HourNumbers
+sunOf s = record { transit = s .transit; sunrise = s .sunrise; sunset = s .sunset }
+
+abbrev pub rowOf : LeafNumbers → RowNumbers
+rowOf n = record { today = sunOf (n .today); tomorrow = sunOf (n .tomorrow); after = sunOf (n .after); fajr = n .fajr; asr = n .asr; isha = n .isha; «fajr_tomorrow» = n .«fajr_tomorrow» }
+
+abbrev pub minutesFrom : LeafSettings → TimeAdjustment
+minutesFrom s = minutesOf (s .fajr) (s .sunrise) (s .dhuhr) (s .asr) (s .maghrib) (s .isha)
+
+-- the preset with each field set that an order can set
+unfoldable pub parametersFrom : LeafSettings → Parameters
+parametersFrom s =
+    let p = presetOf (methodOf (s .method)) in
+    record {
+      method = p .method;
+      «fajr_angle» = s .«fajr_angle»;
+      «maghrib_angle» = p .«maghrib_angle»;
+      «isha_angle» = s .«isha_angle»;
+      «isha_interval» = s .«isha_interval»;
+      madhab = madhabOf (s .madhab);
+      «high_latitude_rule» = ruleOf (s .«high_latitude_rule»);
+      adjustments = minutesFrom s;
+      «method_adjustments» = p .«method_adjustments»;
+      rounding = roundingOf (s .rounding);
+      shafaq = shafaqOf (s .shafaq);
+    }
+
+unfoldable pub settingsOf : Parameters → LeafSettings
+settingsOf p =
+    let m = p .adjustments in
+    record {
+      method = methodNumberOf (p .method);
+      madhab = madhabNumberOf (p .madhab);
+      «high_latitude_rule» = ruleNumberOf (p .«high_latitude_rule»);
+      rounding = roundingNumberOf (p .rounding);
+      shafaq = shafaqNumberOf (p .shafaq);
+      fajr = m .fajr;
+      sunrise = m .sunrise;
+      dhuhr = m .dhuhr;
+      asr = m .asr;
+      maghrib = m .maghrib;
+      isha = m .isha;
+      «isha_interval» = p .«isha_interval»;
+      «fajr_angle» = p .«fajr_angle»;
+      «isha_angle» = p .«isha_angle»;
+    }
+
+abbrev pub leafTimesOf : PrayerTimes → LeafTimes
+leafTimesOf t = record { fajr = t .fajr; sunrise = t .sunrise; dhuhr = t .dhuhr; asr = t .asr; maghrib = t .maghrib; isha = t .isha; «middle_of_the_night» = t .«middle_of_the_night»; qiyam = t .qiyam; «fajr_tomorrow» = t .«fajr_tomorrow» }
+
+-- and back
+abbrev pub timesFrom : LeafTimes → PrayerTimes
+timesFrom t = record { fajr = t .fajr; sunrise = t .sunrise; dhuhr = t .dhuhr; asr = t .asr; maghrib = t .maghrib; isha = t .isha; «middle_of_the_night» = t .«middle_of_the_night»; qiyam = t .qiyam; «fajr_tomorrow» = t .«fajr_tomorrow» }
+
+abbrev pub noTimes : LeafTimes
+noTimes = record { fajr = pos 0; sunrise = pos 0; dhuhr = pos 0; asr = pos 0; maghrib = pos 0; isha = pos 0; «middle_of_the_night» = pos 0; qiyam = pos 0; «fajr_tomorrow» = pos 0 }
+
+unfoldable pub leafDayOf : Worked → LeafDay
+leafDayOf (Times t) = record { number = 0; place = 0; times = leafTimesOf t }
+leafDayOf (Refused r) = record { number = r .number; place = r .place; times = noTimes }
+
+abbrev pub instantFrom : ℤ → ℕ → Instant
+instantFrom seconds nanoseconds = record { seconds = seconds; nanoseconds = nanoseconds }
+
+-- none is 0
+unfoldable pub currentNumberOf : Current → ℕ
+currentNumberOf (Some p) = prayerNumberOf p
+currentNumberOf None = 0
+
+unfoldable pub leafRemainingOf : Remaining → LeafRemaining
+leafRemainingOf (In t) = record { found = true; hours = t .hours; minutes = t .minutes }
+leafRemainingOf Nothing = record { found = false; hours = 0; minutes = 0 }
