@@ -1,3 +1,4 @@
 pub mod Carried
 pub mod Range
 pub mod Later
+pub mod RowDates
