@@ -7,6 +7,8 @@ mod day_port;
 mod days;
 mod draw;
 mod numbers;
+mod rows;
+mod settings;
 mod steps;
 mod tally;
 mod zones;
@@ -15,6 +17,7 @@ use day_list::list_days;
 use days::days;
 use draw::{Case, Draw};
 use numbers::{by_leaves, by_plain, by_port};
+use rows::rows;
 use salah_leaves::astronomy::solar::access::Day as LeavesDay;
 use salah_plain::astronomy::solar::access::Day;
 use std::process::exit;
@@ -88,7 +91,7 @@ fn words() -> Words {
         let mut number = || words.next().and_then(|word| word.parse().ok()).unwrap_or_else(|| usage());
         match (read.what.as_str(), word.as_str()) {
             (_, "--seed") => read.seed = number(),
-            ("hours", "--pairs") | ("steps", "--cases") | ("days", "--days") => read.size = number(),
+            ("hours", "--pairs") | ("steps", "--cases") | ("days", "--days") | ("rows", "--rows") => read.size = number(),
             ("list" | "list-days", "--lines") => read.size = number(),
             ("days", "--instants") => read.instants = number(),
             ("hours", "--zones") => read.print_zones = true,
@@ -104,6 +107,7 @@ fn main() {
         "hours" => exit(!hours(seed, size, print_zones) as i32),
         "steps" => exit(!steps(seed, size) as i32),
         "days" => exit(!days(seed, size, instants) as i32),
+        "rows" => exit(!rows(seed, size) as i32),
         "list" => list(seed, size),
         "list-days" => list_days(seed, size),
         _ => usage(),
@@ -112,6 +116,6 @@ fn main() {
 
 fn usage() -> ! {
     eprintln!("hours [--seed N] [--pairs N] [--zones], steps [--seed N] [--cases N], days [--seed N] [--days N] [--instants N],");
-    eprintln!("list [--seed N] [--lines N] or list-days [--seed N] [--lines N]");
+    eprintln!("rows [--seed N] [--rows N], list [--seed N] [--lines N] or list-days [--seed N] [--lines N]");
     exit(2)
 }

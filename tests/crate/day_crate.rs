@@ -1,15 +1,10 @@
 //! What the crate answers: its own `PrayerTimes` from hour numbers that are handed in; a panic stands for a refusal or for none.
-use crate::day_draw::{DayCase, Instant, Settings, METHODS};
+use crate::day_draw::{DayCase, Instant};
+use crate::settings::parameters_of;
 use salah_given::astronomy::unit::Coordinates;
 use salah_given::given;
-use salah_given::models::adjustments::TimeAdjustment;
-use salah_given::models::high_altitude_rule::HighLatitudeRule;
-use salah_given::models::madhab::Madhab;
-use salah_given::models::parameters::Parameters;
 use salah_given::models::prayer::Prayer;
-use salah_given::models::rounding::Rounding;
-use salah_given::models::shafaq::Shafaq;
-use salah_given::schedule::{access, PrayerTimes};
+use salah_given::schedule::{clock_access, PrayerTimes};
 use std::cell::RefCell;
 use std::panic::{catch_unwind, set_hook, AssertUnwindSafe};
 
@@ -43,35 +38,26 @@ pub fn keep_panics() {
     }));
 }
 
-/// By the line of `SolarTime::new` that panicked, and by the suns begun.
-fn refusal() -> Refusal {
+/// By the line of `SolarTime::new` that panicked, in the text of solar.rs; 0 where it was another.
+pub fn refused_number(solar: &str) -> u32 {
     let (file, line) = PANIC.with_borrow(|last| last.clone());
-    let text = SOLAR.lines().nth(line as usize - 1).unwrap_or_default().trim_start();
+    let text = solar.lines().nth(line as usize - 1).unwrap_or_default().trim_start();
     let number = ["transit: ", "sunrise: ", "sunset: "].iter().position(|field| text.starts_with(field));
     match number {
-        Some(number) if file.ends_with("solar.rs") && text.ends_with(".unwrap(),") => {
-            Refusal { number: 6 + number as u32, day: given::suns_begun() as u32 - 1 }
-        }
-        _ => Refusal { number: 0, day: 0 },
+        Some(number) if file.ends_with("solar.rs") && text.ends_with(".unwrap(),") => 6 + number as u32,
+        _ => 0,
     }
 }
 
-pub fn parameters(s: &Settings) -> Parameters {
-    let minutes = [s.fajr, s.sunrise, s.dhuhr, s.asr, s.maghrib, s.isha].map(|minutes| minutes as i64);
-    let mut parameters = METHODS[s.method as usize].parameters();
-    parameters.madhab = [Madhab::Shafi, Madhab::Hanafi][s.madhab as usize - 1];
-    parameters.high_latitude_rule =
-        [HighLatitudeRule::MiddleOfTheNight, HighLatitudeRule::SeventhOfTheNight, HighLatitudeRule::TwilightAngle]
-            [s.high_latitude_rule as usize];
-    parameters.rounding = [Rounding::Nearest, Rounding::Up, Rounding::None][s.rounding as usize];
-    parameters.shafaq = [Shafaq::General, Shafaq::Ahmer, Shafaq::Abyad][s.shafaq as usize];
-    let [fajr, sunrise, dhuhr, asr, maghrib, isha] = minutes;
-    parameters.adjustments = TimeAdjustment::new(fajr, sunrise, dhuhr, asr, maghrib, isha);
-    parameters.fajr_angle = s.fajr_angle;
-    parameters.isha_angle = s.isha_angle;
-    parameters.isha_interval = s.isha_interval;
-    parameters
+/// The day is told by the suns begun.
+fn refusal() -> Refusal {
+    match refused_number(SOLAR) {
+        0 => Refusal { number: 0, day: 0 },
+        number => Refusal { number, day: given::suns_begun() as u32 - 1 },
+    }
 }
+
+parameters_of!(salah_given);
 
 pub fn day(c: &DayCase) -> Result<PrayerTimes, Refusal> {
     let parameters = parameters(&c.settings);
@@ -86,7 +72,7 @@ pub fn in_force(times: &PrayerTimes, instant: Instant) -> InForce {
     given::set_now(instant.seconds, instant.nanoseconds);
     let number = |prayer: Prayer| prayer as u32 + 1;
     InForce {
-        current: access::current_time(times).map(number),
+        current: clock_access::current_time(times).map(number),
         next: catch_unwind(AssertUnwindSafe(|| times.next())).ok().map(number),
         remaining: catch_unwind(AssertUnwindSafe(|| times.time_remaining())).ok(),
     }

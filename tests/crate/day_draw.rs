@@ -1,6 +1,7 @@
 //! The days and instants that are compared: hour numbers, dates, latitudes and parameters of every kind.
 use crate::draw::{Draw, LATITUDES};
-use chrono::{Datelike, Duration, NaiveDate};
+pub use chrono::NaiveDate;
+use chrono::{Datelike, Duration};
 use salah_given::given::{Numbers, ASR, FAJR, FAJR_TOMORROW, ISHA};
 use salah_given::models::method::Method;
 
@@ -153,7 +154,7 @@ impl Draw {
         }
     }
 
-    fn settings(&mut self) -> Settings {
+    pub fn settings(&mut self) -> Settings {
         let method = if self.below(4) == 0 { MOONSIGHTING } else { self.below(13) as u32 };
         let preset = METHODS[method as usize].parameters();
         let own_interval = [0, 1, 90, 1440, self.below(1441) as i32][self.below(5) as usize];

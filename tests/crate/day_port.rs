@@ -1,6 +1,7 @@
 //! What the port answers, by the exports of crates/day_leaves.
 use crate::day_crate::{InForce, Refusal};
 use crate::day_draw::{DayCase, Instant, Settings, NONE};
+use crate::draw::Case;
 use chrono::Datelike;
 use salah_given::given::Numbers;
 
@@ -31,6 +32,7 @@ struct LeafRemaining {
 extern "C" {
     fn leaf_preset(method: u32) -> Settings;
     fn leaf_day(numbers: LeafNumbers, year: u32, month: u32, day: u32, latitude: f64, settings: Settings) -> LeafDay;
+    fn leaf_row(year: u32, month: u32, day: u32, latitude: f64, longitude: f64, settings: Settings) -> LeafDay;
     fn leaf_current(times: LeafTimes, seconds: i64, nanoseconds: u32) -> u32;
     fn leaf_next(times: LeafTimes, seconds: i64, nanoseconds: u32) -> u32;
     fn leaf_remaining(times: LeafTimes, seconds: i64, nanoseconds: u32) -> LeafRemaining;
@@ -43,7 +45,14 @@ pub fn preset(method: u32) -> Settings {
 
 pub fn day(c: &DayCase) -> Result<LeafTimes, Refusal> {
     let (year, month, day) = (c.date.year() as u32, c.date.month(), c.date.day());
-    let worked = unsafe { leaf_day(LeafNumbers(c.numbers), year, month, day, c.latitude, c.settings) };
+    answered(unsafe { leaf_day(LeafNumbers(c.numbers), year, month, day, c.latitude, c.settings) })
+}
+
+pub fn row(c: &Case, settings: &Settings) -> Result<LeafTimes, Refusal> {
+    answered(unsafe { leaf_row(c.year, c.month, c.day, c.latitude, c.longitude, *settings) })
+}
+
+fn answered(worked: LeafDay) -> Result<LeafTimes, Refusal> {
     match worked.number {
         0 => Ok(worked.times),
         number => Err(Refusal { number, day: worked.place }),

@@ -1,5 +1,5 @@
 
-/// Appended to salah_given's copy of schedule.rs, for what it keeps to itself.
+/// Appended to the copies of schedule.rs that are compared whole, for what it keeps to itself.
 pub mod access {
     use super::*;
 
@@ -17,9 +17,5 @@ pub mod access {
             times.fajr_tomorrow,
         ]
         .map(|time| time.timestamp())
-    }
-
-    pub fn current_time(times: &PrayerTimes) -> Option<Prayer> {
-        times.current_time(crate::given::now())
     }
 }

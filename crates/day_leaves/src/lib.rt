@@ -3,10 +3,11 @@ ghost use mathlib.Core.Path.{_≡_};
 ghost use Rattle.calendar.specs.Gregorian.{dateOf};
 ghost use Rattle.models.specs.Numbers.{methodOf};
 ghost use Rattle.models.specs.Presets.{presetOf};
+ghost use Rattle.unit.specs.Unit.{coordinatesOf};
 ghost use Rattle.schedule.specs.Hours.{hoursOf};
 ghost use Rattle.schedule.specs.Times.{workedOf};
 ghost use Rattle.schedule.specs.InForce.{currentTimeOf, nextOf, timeRemainingOf};
-ghost use Rattle.day_leaves.specs.DayLeaves.{sunOf, rowOf, minutesFrom, parametersFrom, settingsOf, leafTimesOf, noTimes, leafDayOf, timesFrom, instantFrom, currentNumberOf, leafRemainingOf};
+ghost use Rattle.day_leaves.specs.DayLeaves.{sunOf, rowOf, minutesFrom, parametersFrom, settingsOf, leafTimesOf, noTimes, leafDayOf, placeRowOf, timesFrom, instantFrom, currentNumberOf, leafRemainingOf};
 use calendar::dates::Date;
 use models::adjustments::TimeAdjustment;
 use models::high_altitude_rule::HighLatitudeRule;
@@ -22,6 +23,7 @@ use schedule::in_force::Remaining;
 use schedule::prayer_times::PrayerTimes;
 use schedule::prayer_times::Worked;
 use solar::hours::HourNumbers;
+use unit::Coordinates;
 
 #[repr(C)]
 pub struct LeafSun {
@@ -239,6 +241,24 @@ pub extern "C" fn leaf_day(
         latitude,
         parameters(settings),
     ))
+}
+
+// The day of a date at a place.
+#[no_mangle]
+pub extern "C" fn leaf_row(
+    year: u32,
+    month: u32,
+    day: u32,
+    latitude: f64,
+    longitude: f64,
+    settings: LeafSettings,
+) -> LeafDay
+    ensures { λ r. ⌜ r ≡ leafDayOf (placeRowOf (dateOf year month day) (coordinatesOf latitude longitude) (parametersFrom settings)) ⌝ }
+{
+    let date = Date::new(year, month, day);
+    let parameters = parameters(settings);
+    let numbers = RowNumbers::new(date, Coordinates::new(latitude, longitude), parameters);
+    answered(PrayerTimes::new(numbers, date, latitude, parameters))
 }
 
 fn prayer_times(t: LeafTimes) -> PrayerTimes
