@@ -28,7 +28,6 @@ rowsIn v = byteOf v 0
 
 -- a float; "-0.0 is read as 0.0"
 unfoldable pub degreesIn : List ℕ → Float
-unfolding dec
 degreesIn v = cond (eq (floatOf v) (dec 0 0)) (dec 0 0) (floatOf v)
 
 -- "six minutes, Fajr to Isha"

@@ -51,18 +51,15 @@ minutesFit m =
 unfoldable pub intervalFits : List ℕ → Bool
 intervalFits v = between 0 1440 (unsignedOf v 0)
 
--- the table of ranges, a row for each tag from 0 on; there is no tag 0
-unfoldable pub fitsOf : List ℕ → ℕ → Bool
-unfolding dec
-fitsOf s tag =
-    let v = valueOf s tag in
-    getD (
+-- the table of ranges, a row for each tag from 0 on: whether v, as the tag's value in the order s, is in range. There is no tag 0.
+abbrev pub ranges : List ℕ → List ℕ → List Bool
+ranges s v =
     true
     -- town
     ∷ textFits v
     -- date
     ∷ dateFits (dateIn v)
-    -- rows from the date on
+    -- rows, from the date on
     ∷ rowsFit (dateIn (valueOf s 2)) (rowsIn v)
     -- latitude, longitude
     ∷ degreesFit (neg (dec 90 0)) (dec 90 0) v
@@ -80,8 +77,10 @@ fitsOf s tag =
     ∷ degreesFit (dec 0 0) (dec 30 0) v
     -- Isha interval
     ∷ intervalFits v
-    ∷ [])
-    tag true
+    ∷ []
+
+unfoldable pub fitsOf : List ℕ → ℕ → Bool
+fitsOf s tag = getD (ranges s (valueOf s tag)) tag true
 
 -- a tag that the order lacks has nothing out of range
 unfoldable pub inRangeOf : List ℕ → ℕ → Bool

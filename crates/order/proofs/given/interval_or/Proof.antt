@@ -1,38 +1,26 @@
+-- `order::given::interval_or` meets its contract: two bytes are no less as an i32.
+use native.Mathlib.Omega.{arith}
+use Prim.Native.Nat.{ℕ, _<_}
+use mathlib.Core.Path.{_≡_, sym, _∙_}
+use lib.IntN.{pos}
 use mir.Syntax.{w32}
-use mir.Val.{SFits}
-use mir.Facts.{toZ-ofZ}
-use mathlib.Core.Path.{sym}
+use mir.Val.{SFits, toZ}
+use mir.Facts.{toZ-ofZ, toZ-pos}
 use Rattle.order.specs.Given.{intervalOr}
 use borrow.Author.Needs.{needs}
 use Rattle.order.proofs.given.interval_or.Statement.{statement}
 use Rattle.order.proofs.given.interval_or.Tie as tie
-use Rattle.order.proofs.given.interval_or.Reads as reads
-use Rattle.order.proofs.given.interval_or.Lts as lts
-use Rattle.fields.proofs.numbers.unsigned.Reads as unsigned-reads
-use Rattle.fields.proofs.values.has.Reads as has-reads
-use Rattle.fields.proofs.values.value.Reads as value-reads
 
--- src/given.rt:96:8
-has-requires : tie.Need-has-requires
-has-requires c κs = tt
+two-bytes : (x : ℕ) → x < 65536 → toZ w32 x ≡ pos x
+two-bytes x h = toZ-pos w32 {n = x} (omega arith)
 
--- src/given.rt:97:18
-value-requires : tie.Need-value-requires
-value-requires c κs = tt
-
--- src/given.rt:97:9
-unsigned-requires : tie.Need-unsigned-requires
-unsigned-requires c κs = tt
-
--- src/given.rt:97:9
-cast-result : tie.Need-cast-result
-cast-result c = search needs
-
--- src/given.rt:93:1
 returns : tie.Need-returns
-returns c = ?
+unfolding intervalOr
+returns c =
+    let u = c .unsigned in
+    let e = two-bytes (u .result) (u .ensures .1) in
+    e ∙ simp (u .ensures .0, c .before .value .ensures, sym (c .before .before .before .has .ensures), c .before .before .if1 .taken)
 
--- src/given.rt:93:1
 returns-2 : tie.Need-returns-2
 unfolding intervalOr
 returns-2 c =
@@ -42,5 +30,4 @@ returns-2 c =
 
 pub interval-or-spec : {M : Type 1} → statement M
 interval-or-spec =
-    tie.close
-    (tie.spec has-requires value-requires unsigned-requires cast-result returns returns-2)
+    tie.close (tie.spec (λ c κs. tt) (λ c κs. tt) (λ c κs. tt) (λ c. search needs) returns returns-2)

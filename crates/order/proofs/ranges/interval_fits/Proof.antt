@@ -1,17 +1,14 @@
-use borrow.Author.Needs.{needs}
+-- `order::ranges::interval_fits` meets its contract: no number is below 0.
+use Prim.Native.Nat.{zero-le}
+use mathlib.Core.Path.{sym}
+use borrow.Author.Tests.{le-leb}
+use Rattle.order.specs.Ranges.{intervalFits}
 use Rattle.order.proofs.ranges.interval_fits.Statement.{statement}
 use Rattle.order.proofs.ranges.interval_fits.Tie as tie
-use Rattle.order.proofs.ranges.interval_fits.Reads as reads
-use Rattle.order.proofs.ranges.interval_fits.Lts as lts
-use Rattle.fields.proofs.numbers.unsigned.Reads as unsigned-reads
 
--- src/ranges.rt:116:5
-unsigned-requires : tie.Need-unsigned-requires
-unsigned-requires c κs = tt
-
--- src/ranges.rt:113:1
 returns : tie.Need-returns
-returns c = ?
+unfolding intervalFits
+returns c = simp (sym (c .unsigned .ensures .0), le-leb 0 (c .unsigned .result) zero-le)
 
 pub interval-fits-spec : {M : Type 1} → statement M
-interval-fits-spec = tie.close (tie.spec unsigned-requires returns)
+interval-fits-spec = tie.close (tie.spec (λ c κs. tt) returns)

@@ -1,20 +1,14 @@
 use borrow.Author.Tests.{lt-ltb, le-ltb, le-leb, lt-leb}
 use mathlib.Core.Path.{sym}
 use Rattle.order.specs.Ranges.{rowsFit}
-use borrow.Author.Needs.{needs}
 use Rattle.order.proofs.ranges.rows_fit.Statement.{statement}
 use Rattle.order.proofs.ranges.rows_fit.Tie as tie
-use Rattle.order.proofs.ranges.rows_fit.Reads as reads
-use Rattle.order.proofs.ranges.rows_fit.Lts as lts
-use Rattle.calendar.proofs.dates.Date.row.Reads as row-reads
 
--- src/ranges.rt:56:9
 returns : tie.Need-returns
 unfolding rowsFit
 returns c =
     simp (lt-ltb _ _ (c .if1 .taken), lt-leb _ _ (c .if1 .taken))
 
--- src/ranges.rt:59:9
 returns-2 : tie.Need-returns-2
 unfolding rowsFit
 returns-2 c =
@@ -25,11 +19,6 @@ returns-2 c =
       le-ltb _ _ (c .before .if1 .left),
     )
 
--- src/ranges.rt:61:9
-row-requires : tie.Need-row-requires
-row-requires c κs = tt
-
--- src/ranges.rt:52:1
 returns-3 : tie.Need-returns-3
 unfolding rowsFit
 returns-3 c =
@@ -43,4 +32,4 @@ returns-3 c =
     )
 
 pub rows-fit-spec : {M : Type 1} → statement M
-rows-fit-spec = tie.close (tie.spec returns returns-2 row-requires returns-3)
+rows-fit-spec = tie.close (tie.spec returns returns-2 (λ c κs. tt) returns-3)

@@ -1,62 +1,40 @@
+-- `order::ranges::text_fits` meets its contract. The invariant: what is left of the text decides as the whole does.
+use borrow.Author.Needs.{needs}
+use Prim.Native.Nat.{_≤_, _-_}
+use mathlib.Core.Path.{_≡_, sym, _∙_}
+use denote.Ref.{now}
+use lib.ListN.{length, drop}
+use Rattle.order.specs.Ranges.{textFits}
+use Rattle.order.proofs.Text.{byte-low, byte-high, byte-on, text-end}
 use Rattle.order.proofs.ranges.text_fits.Statement.{statement}
 use Rattle.order.proofs.ranges.text_fits.Tie as tie
-use Rattle.order.proofs.ranges.text_fits.Reads as reads
-use Rattle.order.proofs.ranges.text_fits.Lts as lts
 
 abbrev Inv-loop : tie.InvT-loop
-Inv-loop bytes i₀ i = ?
+Inv-loop bytes i₀ i = (i ≤ length bytes) × (textFits (drop i bytes) ≡ textFits bytes)
 
 abbrev μ-loop : tie.MeasureT-loop
-μ-loop bytes i₀ i = ?
+μ-loop bytes i₀ i = length bytes - i
 
--- src/ranges.rt:27:5
-loop-holds : tie.Need-loop-holds Inv-loop μ-loop
-loop-holds c = ?
-
--- src/ranges.rt:28:12
-shared-slice-read-if1 : tie.Need-shared-slice-read-if1 Inv-loop μ-loop
-shared-slice-read-if1 c = ?
-
--- src/ranges.rt:29:13
 returns : tie.Need-returns Inv-loop μ-loop
-returns c = ?
+returns c =
+    let l = c .before .before .before .loop in
+    sym (byte-low (now (c .before .before .before .before .args .bytes)) (l .i) (c .before .before .loop-test .taken) (c .if1 .taken)) ∙ l .inv .1
 
--- src/ranges.rt:31:18
-shared-slice-read-if2 : tie.Need-shared-slice-read-if2 Inv-loop μ-loop
-shared-slice-read-if2 c = ?
-
--- src/ranges.rt:32:13
 returns-2 : tie.Need-returns-2 Inv-loop μ-loop
-returns-2 c = ?
+returns-2 c =
+    let l = c .before .before .before .before .before .loop in
+    sym (byte-high (now (c .before .before .before .before .before .before .args .bytes)) (l .i) (c .before .before .before .before .loop-test .taken) (c .before .before .if1 .left) (c .if2 .taken)) ∙ l .inv .1
 
--- src/ranges.rt:34:13
-add-i : tie.Need-add-i Inv-loop μ-loop
-add-i c = ?
-
--- src/ranges.rt:27:5
-loop-less : tie.Need-loop-less Inv-loop μ-loop
-loop-less c = ?
-
--- src/ranges.rt:27:5
 loop-again : tie.Need-loop-again Inv-loop μ-loop
-loop-again c = ?
+loop-again c =
+    let l = c .before .before .before .before .before .loop in
+    let e = byte-on (now (c .before .before .before .before .before .before .args .bytes)) (l .i) (c .before .before .before .before .loop-test .taken) (c .before .before .if1 .left) (c .if2 .left) in
+    (search needs, sym e ∙ l .inv .1)
 
--- src/ranges.rt:23:1
 returns-3 : tie.Need-returns-3 Inv-loop μ-loop
-returns-3 c = ?
+returns-3 c = sym (text-end (now (c .before .before .args .bytes)) (c .before .loop .i) (c .loop-test .left)) ∙ c .before .loop .inv .1
 
 pub text-fits-spec : {M : Type 1} → statement M
 text-fits-spec =
     tie.close
-    (tie.spec
-    Inv-loop
-    μ-loop
-    loop-holds
-    shared-slice-read-if1
-    returns
-    shared-slice-read-if2
-    returns-2
-    add-i
-    loop-less
-    loop-again
-    returns-3)
+    (tie.spec Inv-loop μ-loop (λ c. search needs) (λ c. search needs) returns (λ c. search needs) returns-2 (λ c. search needs) (λ c. search needs) loop-again returns-3)
