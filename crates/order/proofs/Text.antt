@@ -1,0 +1,27 @@
+-- A text from one of its bytes on: what the loop over a town's bytes goes by. Assumes nothing.
+use native.Mathlib.Numerals.{add-one}
+use Prim.Native.Nat.{ℕ, _+_, _≤_, _<_}
+use mathlib.Core.Path.{_≡_}
+use mathlib.Core.Bool.{true, false}
+use mathlib.Core.List.{List}
+use lib.ListN.{length, getD, drop, drop-of-length-le}
+use lib.Seq.{drop-cons}
+use borrow.Author.Tests.{le-leb, lt-leb}
+use Rattle.order.specs.Ranges.{textFits}
+
+pub byte-low : (s : List ℕ) (i : ℕ) → i < length s → getD s i 0 < 32 → textFits (drop i s) ≡ false
+unfolding textFits
+byte-low s i h l = rw (drop-cons s i 0) (simp (lt-leb _ _ l))
+
+pub byte-high : (s : List ℕ) (i : ℕ) → i < length s → 32 ≤ getD s i 0 → 126 < getD s i 0 → textFits (drop i s) ≡ false
+unfolding textFits
+byte-high s i h l u = rw (drop-cons s i 0) (simp (le-leb _ _ l, lt-leb _ _ u))
+
+pub byte-on : (s : List ℕ) (i : ℕ) → i < length s → 32 ≤ getD s i 0 → getD s i 0 ≤ 126
+    → textFits (drop i s) ≡ textFits (drop (i + 1) s)
+unfolding textFits
+byte-on s i h l u = rw (add-one, drop-cons s i 0) (simp (le-leb _ _ l, le-leb _ _ u))
+
+pub text-end : (s : List ℕ) (i : ℕ) → length s ≤ i → textFits (drop i s) ≡ true
+unfolding textFits
+text-end s i h = rw (drop-of-length-le s h)

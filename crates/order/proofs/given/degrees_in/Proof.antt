@@ -1,0 +1,22 @@
+use lib.Ieee.{round, ofBits}
+use Rattle.float64.specs.Ops.{dec}
+use mathlib.Core.Path.{sym}
+use lib.Ieee.{ofBits}
+use Rattle.order.specs.Given.{degreesIn}
+use Rattle.order.proofs.given.degrees_in.Statement.{statement}
+use Rattle.order.proofs.given.degrees_in.Tie as tie
+
+returns : tie.Need-returns
+unfolding degreesIn dec round ofBits
+returns c =
+    let e0 = c .before .float .ensures in
+    simp (e0, simp (e0) at (c .if1 .taken))
+
+returns-2 : tie.Need-returns-2
+unfolding degreesIn dec round ofBits
+returns-2 c =
+    let e0 = c .before .float .ensures in
+    simp (sym e0, c .if1 .left)
+
+pub degrees-in-spec : {M : Type 1} → statement M
+degrees-in-spec = tie.close (tie.spec (λ c κs. tt) returns returns-2)

@@ -1,0 +1,22 @@
+use mathlib.Core.Path.{sym}
+use Rattle.order.specs.Given.{minutesOr}
+use Rattle.order.proofs.given.minutes_or.Statement.{statement}
+use Rattle.order.proofs.given.minutes_or.Tie as tie
+
+returns : tie.Need-returns
+unfolding minutesOr
+returns c =
+    let e0 = c .minutes-in .ensures in
+    let e1 = c .before .value .ensures in
+    let e2 = c .before .before .before .has .ensures in
+    simp (sym e0, sym e1, sym e2, c .before .before .if1 .taken)
+
+returns-2 : tie.Need-returns-2
+unfolding minutesOr
+returns-2 c =
+    let e0 = c .before .has .ensures in
+    simp (sym e0, c .if1 .left)
+
+pub minutes-or-spec : {M : Type 1} → statement M
+minutes-or-spec =
+    tie.close (tie.spec (λ c κs. tt) (λ c κs. tt) (λ c κs. tt) returns returns-2)

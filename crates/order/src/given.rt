@@ -1,0 +1,124 @@
+// What each tag gives where its value is in range, and what stands for a missing one.
+ghost use mathlib.Core.Path.{_≡_};
+ghost use Prim.Native.Nat.{_<_};
+ghost use Rattle.order.specs.Given.{dateIn, rowsIn, degreesIn, minutesIn, byteOr, degreesOr, roundingOr, minutesOr, intervalOr, parametersIn};
+use calendar::dates::Date;
+use fields::numbers::byte;
+use fields::numbers::float;
+use fields::numbers::signed;
+use fields::numbers::unsigned;
+use fields::values::has;
+use fields::values::value;
+use models::adjustments::TimeAdjustment;
+use models::high_altitude_rule::HighLatitudeRule;
+use models::madhab::Madhab;
+use models::method::Method;
+use models::parameters::Parameters;
+use models::rounding::Rounding;
+use models::shafaq::Shafaq;
+
+pub fn date_in(bytes: &[u8]) -> Date
+    ensures { λ r. ⌜ r ≡ dateIn (now (bytes .entry)) ⌝ }
+{
+    Date::new(unsigned(bytes, 0), byte(bytes, 2), byte(bytes, 3))
+}
+
+pub fn rows_in(bytes: &[u8]) -> u32
+    ensures { λ r. ⌜ r ≡ rowsIn (now (bytes .entry)) ⌝ }
+{
+    byte(bytes, 0)
+}
+
+// -0.0 equals 0.0 and is read as it; a NaN equals nothing and stays.
+pub fn degrees_in(bytes: &[u8]) -> f64
+    ensures { λ r. ⌜ r ≡ degreesIn (now (bytes .entry)) ⌝ }
+{
+    let x = float(bytes);
+    if x == 0.0 { 0.0 } else { x }
+}
+
+pub fn minutes_in(bytes: &[u8]) -> TimeAdjustment
+    ensures { λ r. ⌜ r ≡ minutesIn (now (bytes .entry)) ⌝ }
+{
+    TimeAdjustment::new(
+        signed(bytes, 0),
+        signed(bytes, 2),
+        signed(bytes, 4),
+        signed(bytes, 6),
+        signed(bytes, 8),
+        signed(bytes, 10),
+    )
+}
+
+fn byte_or(order: &[u8], tag: u32, missing: u32) -> u32
+    ensures { λ r. ⌜ r ≡ byteOr (now (order .entry)) tag missing ⌝ }
+{
+    if has(order, tag) {
+        byte(value(order, tag), 0)
+    } else {
+        missing
+    }
+}
+
+fn degrees_or(order: &[u8], tag: u32, missing: f64) -> f64
+    ensures { λ r. ⌜ r ≡ degreesOr (now (order .entry)) tag missing ⌝ }
+{
+    if has(order, tag) {
+        degrees_in(value(order, tag))
+    } else {
+        missing
+    }
+}
+
+fn rounding_or(order: &[u8], missing: Rounding) -> Rounding
+    ensures { λ r. ⌜ r ≡ roundingOr (now (order .entry)) missing ⌝ }
+{
+    if has(order, 9) {
+        Rounding::of_number(byte(value(order, 9), 0))
+    } else {
+        missing
+    }
+}
+
+fn minutes_or(order: &[u8], missing: TimeAdjustment) -> TimeAdjustment
+    ensures { λ r. ⌜ r ≡ minutesOr (now (order .entry)) missing ⌝ }
+{
+    if has(order, 11) {
+        minutes_in(value(order, 11))
+    } else {
+        missing
+    }
+}
+
+fn interval_or(order: &[u8], missing: i32) -> i32
+    ensures { λ r. ⌜ r ≡ intervalOr (now (order .entry)) missing ⌝ }
+{
+    if has(order, 14) {
+        unsigned(value(order, 14), 0) as i32
+    } else {
+        missing
+    }
+}
+
+// The method's, and tags 7 to 14 set their one field each: the interval leaves the Isha angle.
+pub fn parameters_in(order: &[u8]) -> Parameters
+    ensures { λ r. ⌜ r ≡ parametersIn (now (order .entry)) ⌝ }
+{
+    let preset = Method::of_number(byte(value(order, 6), 0)).parameters();
+    let method = preset.method;
+    let rounding = preset.rounding;
+    let method_adjustments = preset.method_adjustments;
+    Parameters {
+        method: method,
+        fajr_angle: degrees_or(order, 12, preset.fajr_angle),
+        maghrib_angle: preset.maghrib_angle,
+        isha_angle: degrees_or(order, 13, preset.isha_angle),
+        isha_interval: interval_or(order, preset.isha_interval),
+        madhab: Madhab::of_number(byte_or(order, 7, 1)),
+        high_latitude_rule: HighLatitudeRule::of_number(byte_or(order, 8, 0)),
+        adjustments: minutes_or(order, TimeAdjustment::default()),
+        method_adjustments: method_adjustments,
+        rounding: rounding_or(order, rounding),
+        shafaq: Shafaq::of_number(byte_or(order, 10, 0)),
+    }
+}

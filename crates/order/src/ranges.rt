@@ -1,0 +1,152 @@
+// What stands inside a right length: the range of each tag's value. Range ends are allowed.
+ghost use mathlib.Core.Path.{_≡_};
+ghost use lib.IntN.{pos};
+ghost use Rattle.order.specs.Ranges.{textFits, dateFits, rowsFit, byteFits, degreesFit, minuteFits, minutesFit, intervalFits, fitsOf, inRangeOf};
+use super::given::date_in;
+use super::given::degrees_in;
+use super::given::minutes_in;
+use super::given::rows_in;
+use calendar::dates::Date;
+use fields::numbers::byte;
+use fields::numbers::unsigned;
+use fields::values::has;
+use fields::values::value;
+use models::adjustments::TimeAdjustment;
+
+const FIRST_YEAR: u32 = 1900;
+
+const LAST_YEAR: u32 = 2199;
+
+const MOST_ROWS: u32 = 250;
+
+// Printable ASCII.
+fn text_fits(bytes: &[u8]) -> bool
+    ensures { λ r. ⌜ r ≡ textFits (now (bytes .entry)) ⌝ }
+{
+    let mut i = 0;
+    while i < bytes.len() {
+        if bytes[i] < 32 {
+            return false;
+        }
+        if 126 < bytes[i] {
+            return false;
+        }
+        i = i + 1;
+    }
+    true
+}
+
+fn date_fits(date: Date) -> bool
+    ensures { λ r. ⌜ r ≡ dateFits date ⌝ }
+{
+    if date.year < FIRST_YEAR {
+        return false;
+    }
+    if LAST_YEAR < date.year {
+        return false;
+    }
+    date.exists()
+}
+
+// The last row is the one with one less row before it than there are; its year decides, since the last year is allowed to its end.
+fn rows_fit(date: Date, rows: u32) -> bool
+    ensures { λ r. ⌜ r ≡ rowsFit date rows ⌝ }
+{
+    if rows < 1 {
+        return false;
+    }
+    if MOST_ROWS < rows {
+        return false;
+    }
+    let last = date.row(rows - 1);
+    last.year <= LAST_YEAR
+}
+
+fn byte_fits(bytes: &[u8], low: u32, high: u32) -> bool
+    ensures { λ r. ⌜ r ≡ byteFits low high (now (bytes .entry)) ⌝ }
+{
+    let x = byte(bytes, 0);
+    if x < low {
+        return false;
+    }
+    x <= high
+}
+
+// A NaN passes no comparison.
+fn degrees_fit(bytes: &[u8], low: f64, high: f64) -> bool
+    ensures { λ r. ⌜ r ≡ degreesFit low high (now (bytes .entry)) ⌝ }
+{
+    let x = degrees_in(bytes);
+    if low <= x { x <= high } else { false }
+}
+
+fn minute_fits(minute: i32) -> bool
+    ensures { λ r. ⌜ r ≡ minuteFits minute ⌝ }
+{
+    if minute < -720 {
+        return false;
+    }
+    minute <= 720
+}
+
+fn minutes_fit(m: TimeAdjustment) -> bool
+    ensures { λ r. ⌜ r ≡ minutesFit m ⌝ }
+{
+    if !minute_fits(m.fajr) {
+        return false;
+    }
+    if !minute_fits(m.sunrise) {
+        return false;
+    }
+    if !minute_fits(m.dhuhr) {
+        return false;
+    }
+    if !minute_fits(m.asr) {
+        return false;
+    }
+    if !minute_fits(m.maghrib) {
+        return false;
+    }
+    minute_fits(m.isha)
+}
+
+fn interval_fits(bytes: &[u8]) -> bool
+    ensures { λ r. ⌜ r ≡ intervalFits (now (bytes .entry)) ⌝ }
+{
+    unsigned(bytes, 0) <= 1440
+}
+
+// A row for each tag.
+fn fits(order: &[u8], tag: u32) -> bool
+    ensures { λ r. ⌜ r ≡ fitsOf (now (order .entry)) tag ⌝ }
+{
+    let bytes = value(order, tag);
+    match tag {
+        1 => text_fits(bytes),
+        2 => date_fits(date_in(bytes)),
+        3 => rows_fit(date_in(value(order, 2)), rows_in(bytes)),
+        4 => degrees_fit(bytes, -90.0, 90.0),
+        5 => degrees_fit(bytes, -180.0, 180.0),
+        6 => byte_fits(bytes, 0, 12),
+        7 => byte_fits(bytes, 1, 2),
+        8 => byte_fits(bytes, 0, 2),
+        9 => byte_fits(bytes, 0, 2),
+        10 => byte_fits(bytes, 0, 2),
+        11 => minutes_fit(minutes_in(bytes)),
+        12 => degrees_fit(bytes, 0.0, 30.0),
+        13 => degrees_fit(bytes, 0.0, 30.0),
+        14 => interval_fits(bytes),
+        _ => true,
+    }
+}
+
+// A tag that the order lacks has nothing out of range.
+pub fn in_range(order: &[u8], tag: u32) -> bool
+    ensures { λ r. ⌜ r ≡ inRangeOf (now (order .entry)) tag ⌝ }
+{
+    if has(order, tag) {
+        fits(order, tag)
+    } else {
+        true
+    }
+}
