@@ -1,3 +1,6 @@
+use mathlib.Core.Path.{_≡_, sym, ap, _∙_}
+use Rattle.order.specs.declared.reading.Reading.{Reading}
+use Rattle.calls.specs.Calls.{workReadingOf, workDayOf}
 use borrow.Author.Needs.{needs}
 use Rattle.calls.proofs.day.work_day.Statement.{statement}
 use Rattle.calls.proofs.day.work_day.Tie as tie
@@ -24,11 +27,17 @@ enum-known-refusal c = search needs
 
 -- src/day.rt:31:1
 returns : tie.Need-returns
-returns c = ?
+unfolding workDayOf workReadingOf
+returns c =
+    let t = c .before .before .before .before .before .before in
+    c .work-row .ensures ∙ ap (λ (x : Reading). workReadingOf x (t .args .row)) (sym (c .before .before .order .given .1) ∙ c .before .before .before .before .read .ensures)
 
 -- src/day.rt:31:1
 returns-2 : tie.Need-returns-2
-returns-2 c = ?
+unfolding workDayOf workReadingOf
+returns-2 c =
+    let t = c .before .before .before .before .before in
+    ap (λ (x : Reading). workReadingOf x (t .args .row)) (sym (c .before .refusal .given .1) ∙ c .before .before .before .read .ensures)
 
 pub work-day-spec : {M : Type 1} → statement M
 work-day-spec =

@@ -1,3 +1,10 @@
+use mathlib.Core.Path.{_≡_, sym, ap, _∙_}
+use lib.IntN.{ℤ, pos, negsuc}
+use lib.Signed.{ltZ}
+use mir.Syntax.{w64}
+use Rattle.integers.specs.Order.{lt-yes, lt-no, to-le, to-not-le}
+use Rattle.integers.specs.Ranges.{read}
+use Rattle.calls.specs.Calls.{instantFits}
 use Rattle.calls.proofs.in_force.instant_fits.Statement.{statement}
 use Rattle.calls.proofs.in_force.instant_fits.Tie as tie
 use Rattle.calls.proofs.in_force.instant_fits.Reads as reads
@@ -5,15 +12,35 @@ use Rattle.calls.proofs.in_force.instant_fits.Lts as lts
 
 -- src/in_force.rt:35:9
 returns : tie.Need-returns
-returns c = ?
+unfolding instantFits
+returns c =
+    let t = c .before in
+    let s = t .args .seconds in
+    let r = read w64 s (t .fits .seconds) in
+    let low = to-not-le (negsuc 999999999999) s (lt-yes s (negsuc 999999999999) (sym (ap (λ (z : ℤ). ltZ z (negsuc 999999999999)) r) ∙ c .if1 .taken)) in
+    simp low
 
 -- src/in_force.rt:38:9
 returns-2 : tie.Need-returns-2
-returns-2 c = ?
+unfolding instantFits
+returns-2 c =
+    let t = c .before .before in
+    let s = t .args .seconds in
+    let r = read w64 s (t .fits .seconds) in
+    let low = to-le (negsuc 999999999999) s (lt-no s (negsuc 999999999999) (sym (ap (λ (z : ℤ). ltZ z (negsuc 999999999999)) r) ∙ c .before .if1 .left)) in
+    let high = to-not-le s (pos 1000000000000) (lt-yes (pos 1000000000000) s (sym (ap (ltZ (pos 1000000000000)) r) ∙ c .if2 .taken)) in
+    simp (low, high)
 
 -- src/in_force.rt:31:1
 returns-3 : tie.Need-returns-3
-returns-3 c = ?
+unfolding instantFits
+returns-3 c =
+    let t = c .before .before in
+    let s = t .args .seconds in
+    let r = read w64 s (t .fits .seconds) in
+    let low = to-le (negsuc 999999999999) s (lt-no s (negsuc 999999999999) (sym (ap (λ (z : ℤ). ltZ z (negsuc 999999999999)) r) ∙ c .before .if1 .left)) in
+    let high = to-le s (pos 1000000000000) (lt-no (pos 1000000000000) s (sym (ap (ltZ (pos 1000000000000)) r) ∙ c .if2 .left)) in
+    simp (low, high)
 
 pub instant-fits-spec : {M : Type 1} → statement M
 instant-fits-spec = tie.close (tie.spec returns returns-2 returns-3)
