@@ -3,7 +3,7 @@ use native.Mathlib.Omega.{arith}
 use Prim.Native.Nat.{ℕ, zero, suc, _+_, _-_, _≤_, _<_, zero-le}
 use mathlib.Core.Path.{_≡_, refl, sym, ap, subst, _∙_}
 use mathlib.Core.Bool.{Bool, true, false, cond, not, _&&_, and-eq-true-iff}
-use mathlib.Core.List.{List}
+use mathlib.Core.List.{List, []}
 use lib.Dec.{eqb, leb, lit≤}
 use lib.Ieee.{Float, neg, le, round}
 use lib.IntN.{ℤ, pos, negsuc}
@@ -248,3 +248,27 @@ pub read-accepted : (s : List ℕ) (order : Order) → readingOf s ≡ Read orde
 read-accepted s order e =
     let passed = read-passed s order e in
     subst Accepted (sym (passed .same)) (accepted s order passed)
+
+-- ---- its town: 1 to 40 bytes of printable ASCII, which are a part of the order
+pub record Town (s town : List ℕ) : Type 0 where
+  pub part : town ≡ valueOf s 1
+  pub size : (1 ≤ length town) × (length town ≤ 40)
+  pub text : textFits town ≡ true
+
+town-of : (s : List ℕ) (order : Order) → Passed s order → Town s (valueOf s 1)
+unfolding fitsOf
+town-of s order passed =
+    let has = has-required s order passed 1 (lit≤ tt) (lit≤ tt) in
+    record {
+      part = refl;
+      size = fits-between 1 (length (valueOf s 1)) (value-fits s 1 (passed .fields) has);
+      text = fits-given s order passed 1 (lit≤ tt) (lit≤ tt) has;
+    }
+
+pub read-town : (s : List ℕ) (order : Order) → readingOf s ≡ Read order → Town s (townOf s)
+unfolding townOf
+read-town s order e = simp e (town-of s order (read-passed s order e))
+
+pub refused-town : (s : List ℕ) (r : Refusal) → readingOf s ≡ Refused r → townOf s ≡ []
+unfolding townOf
+refused-town s r e = simp e

@@ -4,3 +4,4 @@ pub mod Reading
 pub mod Accepted
 pub mod RowDates
 pub mod AcceptedLaws
+pub mod Examples
