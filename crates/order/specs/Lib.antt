@@ -1,3 +1,7 @@
 pub mod Given
 pub mod Ranges
 pub mod Reading
+pub mod Accepted
+pub mod RowDates
+pub mod AcceptedLaws
+pub mod Examples

@@ -1,0 +1,43 @@
+-- What the record of an order that is read can hold: each value in the range that its tag allows. AcceptedLaws.antt proves it of every
+-- order that is read.
+use Prim.Native.Nat.{ℕ, _≤_, _<_}
+use mathlib.Core.Path.{_≡_}
+use mathlib.Core.Bool.{true}
+use lib.Ieee.{Float, neg, le}
+use lib.IntN.{ℤ}
+use Rattle.integers.specs.Parts.{P, N}
+use Rattle.float64.specs.Ops.{dec}
+use Rattle.calendar.specs.declared.dates.Date.{Date}
+use Rattle.calendar.specs.Gregorian.{existsOf}
+use Rattle.calendar.specs.Answers.{rowDateOf}
+use Rattle.models.specs.declared.prayer.Prayer.{Prayer}
+use Rattle.models.specs.Presets.{presetOf}
+use Rattle.models.specs.Settings.{minutesFor}
+use Rattle.order.specs.declared.reading.Order.{Order}
+
+-- z is from -n to n
+abbrev pub Within : ℕ → ℤ → Type 0
+Within n z = (P z ≤ n) × (N z ≤ n)
+
+abbrev pub Between : Float → Float → Float → Type 0
+Between low high x = (le low x ≡ true) × (le x high ≡ true)
+
+-- a date of the calendar, from 1900-01-01 to 2199-12-31
+pub record DateInOrder (date : Date) : Type 0 where
+  pub there : existsOf date ≡ true
+  pub from : 1900 ≤ date .year
+  pub to : date .year ≤ 2199
+
+pub record Accepted (order : Order) : Type 0 where
+  pub date : DateInOrder (order .date)
+  pub rows : (1 ≤ order .rows) × (order .rows ≤ 250)
+  -- the date of each row, the first and the last among them
+  pub row : (row : ℕ) → row < order .rows → DateInOrder (rowDateOf (order .date) row)
+  pub latitude : Between (neg (dec 90 0)) (dec 90 0) (order .coordinates .latitude)
+  pub longitude : Between (neg (dec 180 0)) (dec 180 0) (order .coordinates .longitude)
+  -- an order's own, or the method's
+  pub «fajr_angle» : Between (dec 0 0) (dec 30 0) (order .parameters .«fajr_angle»)
+  pub «isha_angle» : Between (dec 0 0) (dec 30 0) (order .parameters .«isha_angle»)
+  pub «isha_interval» : Within 1440 (order .parameters .«isha_interval»)
+  pub own : (prayer : Prayer) → Within 720 (minutesFor prayer (order .parameters .adjustments))
+  pub preset : order .parameters .«method_adjustments» ≡ presetOf (order .parameters .method) .«method_adjustments»
