@@ -1,0 +1,188 @@
+-- Demand 3: from the bytes of two orders to the parameters of one row's day, where crates/schedule_laws has proved it. Assumes nothing.
+use mathlib.Core.Path.{_≡_, refl, sym, ap, subst, _∙_}
+use mathlib.Core.Bool.{Bool, true, false, cond, not, _&&_}
+use mathlib.Core.List.{List}
+use Prim.Native.Nat.{ℕ, _+_, _≤_, _<_, _^_}
+use native.Mathlib.Omega.{arith}
+use lib.Dec.{T, ltb, leb}
+use borrow.Author.Tests.{leb-true}
+use lib.IntN.{ℤ, pos, negsuc}
+use lib.Signed.{leZ}
+use Rattle.integers.specs.Order.{_≼_}
+use Rattle.calendar.specs.Answers.{rowDateOf}
+use Rattle.fields.specs.Fields.{refusal}
+use Rattle.models.specs.declared.adjustments.TimeAdjustment.{TimeAdjustment}
+use Rattle.models.specs.declared.parameters.Parameters.{Parameters}
+use Rattle.models.specs.declared.prayer.Prayer.{Prayer}
+use Rattle.models.specs.declared.refusal.Refusal.{Refusal}
+use Rattle.models.specs.Presets.{presetOf}
+use Rattle.models.specs.Settings.{timeAdjustmentsOf}
+use Rattle.order.specs.declared.reading.Order.{Order}
+use Rattle.order.specs.declared.reading.Reading.{Reading}
+use Rattle.order.specs.declared.reading.Reading.the-variants.{Read}
+use Rattle.order.specs.Reading.{readingOf}
+use Rattle.order.specs.Accepted.{Accepted}
+use Rattle.order.specs.AcceptedLaws.{read-accepted}
+use Rattle.schedule.specs.Rooms.{Near}
+use Rattle.schedule.specs.declared.in_force.Current.{Current}
+use Rattle.schedule.specs.declared.in_force.Current.the-variants as none
+use Rattle.schedule.specs.declared.in_force.Instant.{Instant}
+use Rattle.schedule.specs.declared.prayer_times.PrayerTimes.{PrayerTimes}
+use Rattle.schedule.specs.declared.prayer_times.Worked.{Worked}
+use Rattle.schedule.specs.declared.prayer_times.Worked.the-variants as worked
+use Rattle.schedule.specs.InForce.{currentTimeOf}
+use Rattle.schedule_laws.specs.Carried.{Carried}
+use Rattle.schedule_laws.specs.Later.{withMinutes, LaterMinutes, Moved, placeOf, rowOf}
+use Rattle.schedule_laws.proofs.CarriedLaws.{presets-carried, still-carried, carried-held}
+use Rattle.schedule_laws.proofs.InForceLaws.{not-after-by-parts}
+use Rattle.schedule_laws.proofs.LaterLaws.{later-minutes-move-the-row}
+use Rattle.calls.specs.declared.in_force.Named.{Named}
+use Rattle.calls.specs.declared.in_force.Named.the-variants as named
+use Rattle.calls.specs.Calls.{workRowOf, workReadingOf, workDayOf, instantFits, instantOf, namedOf, prayerAtOf}
+use Rattle.minutes.specs.Minutes.{withOwnMinutes, LaterOrder, NotAfter, MovedRow, LaterOrdersMoveTheirRows}
+
+-- ---- what an accepted order's sums can be
+held : (order : Order) → Accepted order → (prayer : Prayer) → Near (2 ^ 32) (timeAdjustmentsOf (order .parameters) prayer)
+held order h =
+    let p = order .parameters in
+    carried-held p (still-carried (presetOf (p .method)) p (presets-carried (p .method)) (h .preset) (h .«fajr_angle») (h .«isha_angle») (h .«isha_interval») (h .own))
+
+-- ---- a row that the order lacks
+alike-refused : (p q : Parameters) (r : Refusal) → Moved p q (worked.Refused r) (worked.Refused r)
+alike-refused p q r =
+    record {
+      refused = λ x e. e;
+      «refused_too» = λ x e. e;
+      «none_earlier» = λ t u e f. no e;
+      «exactly_later» = λ t u e f. no e;
+      «in_force» = λ t u e f. no e;
+    }
+  where
+    isTimes : Worked → Type 0
+    isTimes (worked.Times t) = T true
+    isTimes (worked.Refused x) = T false
+
+    no : {X : Type 0} {t : PrayerTimes} → worked.Refused r ≡ worked.Times t → X
+    no e = absurd (subst isTimes (sym e) tt)
+
+-- ---- a day
+module _ (first : Order) (minutes : TimeAdjustment) (row : ℕ) where
+  second : Order
+  second = withOwnMinutes first minutes
+
+  row-moved : Accepted first → Accepted second → ((prayer : Prayer) → timeAdjustmentsOf (first .parameters) prayer ≼ timeAdjustmentsOf (second .parameters) prayer)
+      → Moved (first .parameters) (second .parameters) (workRowOf first row) (workRowOf second row)
+  unfolding workRowOf second
+  row-moved h k more = by-test (ltb row (first .rows))
+    where
+      p : Parameters
+      p = first .parameters
+
+      q : Parameters
+      q = withMinutes p minutes
+
+      later : LaterMinutes p q
+      later = record { alike = refl; more = more; «first_held» = held first h; «second_held» = held (withOwnMinutes first minutes) k }
+
+      by-test : (b : Bool) → Moved p q (cond b (rowOf (rowDateOf (first .date) row) (first .coordinates) p) (worked.Refused (refusal 5 3)))
+          (cond b (rowOf (rowDateOf (first .date) row) (first .coordinates) q) (worked.Refused (refusal 5 3)))
+      by-test true = later-minutes-move-the-row (rowDateOf (first .date) row) (first .coordinates) p q later
+      by-test false = alike-refused p q (refusal 5 3)
+
+-- ---- what naming the prayer answers
+-- the prayer of an answer, which a refusal has not
+prayerIn : Named → Current
+prayerIn (named.Prayer x) = x
+prayerIn (named.Refused r) = none.None
+
+refusalIn : Named → Refusal
+refusalIn (named.Prayer x) = refusal 0 0
+refusalIn (named.Refused r) = r
+
+isPrayer : Named → Type 0
+isPrayer (named.Prayer x) = T true
+isPrayer (named.Refused r) = T false
+
+isRefused : Named → Type 0
+isRefused (named.Prayer x) = T false
+isRefused (named.Refused r) = T true
+
+record OfTimes (w : Worked) (i : Instant) (x : Current) : Type 0 where
+  times : PrayerTimes
+  worked-are : w ≡ worked.Times times
+  current-is : currentTimeOf times i ≡ x
+
+named-times : (w : Worked) (i : Instant) (x : Current) → namedOf w i ≡ named.Prayer x → OfTimes w i x
+unfolding namedOf prayerIn isPrayer
+named-times (worked.Times t) i x e = record { times = t; worked-are = refl; current-is = ap prayerIn e }
+named-times (worked.Refused r) i x e = absurd (subst isPrayer (sym e) tt)
+
+named-refused : (w : Worked) (i : Instant) (r : Refusal) → namedOf w i ≡ named.Refused r → w ≡ worked.Refused r
+unfolding namedOf refusalIn isRefused
+named-refused (worked.Times t) i r e = absurd (subst isRefused (sym e) tt)
+named-refused (worked.Refused x) i r e = ap worked.Refused (ap refusalIn e)
+
+refused-named : (w : Worked) (i : Instant) (r : Refusal) → w ≡ worked.Refused r → namedOf w i ≡ named.Refused r
+unfolding namedOf
+refused-named w i r e = ap (λ (x : Worked). namedOf x i) e
+
+asked : (s : List ℕ) (row : ℕ) (seconds : ℤ) (n : ℕ) → instantFits seconds n ≡ true → prayerAtOf s row seconds n ≡ namedOf (workDayOf s row) (instantOf seconds n)
+unfolding prayerAtOf
+asked s row seconds n h = rw h
+
+last : (a b c : Bool) → a && b && c ≡ true → c ≡ true
+last true true c h = h
+last true false c h = absurd (subst (λ (x : Bool). T (not x)) h tt)
+last false b c h = absurd (subst (λ (x : Bool). T (not x)) h tt)
+
+less-than-a-second : (seconds : ℤ) (n : ℕ) → instantFits seconds n ≡ true → n < 1000000000
+unfolding instantFits
+less-than-a-second seconds n h =
+    let l = leb-true n 999999999 (last (leZ (negsuc 999999999999) seconds) (leZ seconds (pos 1000000000000)) (leb n 999999999) h) in
+    omega arith
+
+-- ---- the theorem
+module _ (a b : List ℕ) (orders : LaterOrder a b) (row : ℕ) where
+  p : Parameters
+  p = orders .first .parameters
+
+  q : Parameters
+  q = orders .second .parameters
+
+  day-of-first : workDayOf a row ≡ workRowOf (orders .first) row
+  unfolding workDayOf workReadingOf
+  day-of-first = ap (λ (x : Reading). workReadingOf x row) (orders .«first_read»)
+
+  day-of-second : workDayOf b row ≡ workRowOf (orders .second) row
+  unfolding workDayOf workReadingOf
+  day-of-second = ap (λ (x : Reading). workReadingOf x row) (orders .«second_read»)
+
+  day : Moved p q (workDayOf a row) (workDayOf b row)
+  unfolding p q second
+  day =
+      let e = orders .alike in
+      let h = read-accepted a (orders .first) (orders .«first_read») in
+      let k = subst Accepted (sym e) (read-accepted b (orders .second) (orders .«second_read»)) in
+      let more : (prayer : Prayer) → timeAdjustmentsOf (orders .first .parameters) prayer ≼ timeAdjustmentsOf (withOwnMinutes (orders .first) (orders .second .parameters .adjustments) .parameters) prayer = λ (prayer : Prayer). subst (λ (x : Order). timeAdjustmentsOf (orders .first .parameters) prayer ≼ timeAdjustmentsOf (x .parameters) prayer) (sym e) (orders .more prayer) in
+      let m = row-moved (orders .first) (orders .second .parameters .adjustments) row h k more in
+      let n = subst (λ (x : Order). Moved (orders .first .parameters) (x .parameters) (workRowOf (orders .first) row) (workRowOf x row)) e m in
+      subst (λ (w : Worked). Moved (orders .first .parameters) (orders .second .parameters) w (workDayOf b row)) (sym day-of-first)
+      (subst (λ (w : Worked). Moved (orders .first .parameters) (orders .second .parameters) (workRowOf (orders .first) row) w) (sym day-of-second) n)
+
+pub later-orders-move-their-rows : LaterOrdersMoveTheirRows
+unfolding p q
+later-orders-move-their-rows a b orders row =
+    let moved = day a b orders row in
+    record {
+      day = moved;
+      «in_force» = λ t u m n ht hu after x y ex ey.
+          let i = instantOf t m in
+          let j = instantOf u n in
+          let f = named-times (workDayOf a row) i x (sym (asked a row t m ht) ∙ ex) in
+          let g = named-times (workDayOf b row) j y (sym (asked b row u n hu) ∙ ey) in
+          let l = moved .«in_force» (f .times) (g .times) (f .worked-are) (g .worked-are) i j (not-after-by-parts j i (less-than-a-second u n hu) after) in
+          subst (λ (z : Current). placeOf y ≤ placeOf z) (f .current-is) (subst (λ (z : Current). placeOf z ≤ placeOf (currentTimeOf (f .times) i)) (g .current-is) l);
+      «in_force_refused» = λ t u m n ht hu r e.
+          let w = named-refused (workDayOf a row) (instantOf t m) r (sym (asked a row t m ht) ∙ e) in
+          asked b row u n hu ∙ refused-named (workDayOf b row) (instantOf u n) r (moved .refused r w);
+    }
