@@ -4,7 +4,7 @@ use Prim.Native.Nat.{ℕ, zero, suc, _+_, _-_, _≤_, _<_, zero-le}
 use mathlib.Core.Path.{_≡_, refl, sym, ap, subst, _∙_}
 use mathlib.Core.Bool.{Bool, true, false, cond, not, _&&_, and-eq-true-iff}
 use mathlib.Core.List.{List, []}
-use lib.Dec.{eqb, leb, lit≤}
+use lib.Dec.{eqb, leb, ltb, lit≤}
 use lib.Ieee.{Float, neg, le, round}
 use lib.IntN.{ℤ, pos, negsuc}
 use lib.ListN.{length}
@@ -16,7 +16,7 @@ use Rattle.float64.specs.Ops.{dec}
 use Rattle.calendar.specs.declared.dates.Date.{Date}
 use Rattle.calendar.specs.Gregorian.{existsOf}
 use Rattle.calendar.specs.Answers.{rowDateOf}
-use Rattle.fields.specs.Fields.{lastTag, refusal, checkOf}
+use Rattle.fields.specs.Fields.{refusal, knownTag, lengthFits, lengthAt, after, firstBefore, faultOf, walkOf, checkOf}
 use Rattle.fields.specs.FieldsLaws.{value-fits, fits-between}
 use Rattle.fields.specs.Numbers.{byteOf, unsignedOf}
 use Rattle.fields.specs.Values.{hasOf, valueOf}
@@ -84,6 +84,59 @@ refused-numbered s r e n =
         let z : refusal 5 (outOfRangeOf s) ≡ r = cc in
         omega (arith, ap (λ (x : Refusal). x .number) z)
     go true ha true true e = let z : _≡_ {A = ℕ} 0 1 = cc in omega arith
+
+-- the fields give no number over 3, and so reading none over 5
+fault-small : (s : List ℕ) (at : ℕ) → faultOf s at ≤ 3
+unfolding faultOf
+fault-small s at =
+    go (ltb (length s - at) 3) (knownTag (byteOf s at)) (ltb (firstBefore (length s) s (byteOf s at) 0 at) at)
+    (lengthFits (byteOf s at) (lengthAt s at)) (ltb (length s - at - 3) (lengthAt s at))
+  where
+    go : (a b c d f : Bool) → cond a 1 (cond (not b) 2 (cond c 3 (cond (not d) 2 (cond f 1 0)))) ≤ 3
+    go true b c d f = lit≤ tt
+    go false false c d f = lit≤ tt
+    go false true true d f = lit≤ tt
+    go false true false false f = lit≤ tt
+    go false true false true true = lit≤ tt
+    go false true false true false = lit≤ tt
+
+walk-small : (k : ℕ) (s : List ℕ) (at : ℕ) → walkOf k s at .number ≤ 3
+unfolding walkOf
+walk-small zero s at = lit≤ tt
+walk-small (suc k) s at = go (ltb at (length s)) (eqb (faultOf s at) 0) (walk-small k s (after s at))
+  where
+    go : (a b : Bool) → walkOf k s (after s at) .number ≤ 3
+        → cond a (cond b (walkOf k s (after s at)) (refusal (faultOf s at) at)) (refusal 0 0) .number ≤ 3
+    go true true h = h
+    go true false h = fault-small s at
+    go false b h = lit≤ tt
+
+check-small : (s : List ℕ) → checkOf s .number ≤ 3
+unfolding checkOf
+check-small s = go (ltb 1024 (length s))
+  where
+    go : (a : Bool) → cond a (refusal 1 0) (walkOf (length s) s 0) .number ≤ 3
+    go true = lit≤ tt
+    go false = walk-small (length s) s 0
+
+pub refused-by : (s : List ℕ) (r : Refusal) → readingOf s ≡ Refused r → r .number ≤ 5
+unfolding readingOf
+refused-by s r e =
+    go (eqb (checkOf s .number) 0) (eqb (missingOf s) 0) (eqb (outOfRangeOf s) 0) e
+  where
+    go : (a b c : Bool)
+        → cond (not a) (Refused (checkOf s)) (cond (not b) (Refused (refusal 4 (missingOf s))) (cond (not c) (Refused (refusal 5 (outOfRangeOf s))) (Read (orderOf s))))
+        ≡ Refused r → r .number ≤ 5
+    go false b c e =
+        let z : checkOf s ≡ r = cc in
+        omega (arith, ap (λ (x : Refusal). x .number) z, check-small s)
+    go true false c e =
+        let z : refusal 4 (missingOf s) ≡ r = cc in
+        omega (arith, ap (λ (x : Refusal). x .number) z)
+    go true true false e =
+        let z : refusal 5 (outOfRangeOf s) ≡ r = cc in
+        omega (arith, ap (λ (x : Refusal). x .number) z)
+    go true true true e = let z : _≡_ {A = ℕ} 0 1 = cc in absurd (omega arith)
 
 -- ---- where no tag fails, each passes
 all-pass : (passes : ℕ → Bool) (k tag : ℕ) → 1 ≤ tag → firstFailing passes k tag ≡ 0 → (t : ℕ) → tag ≤ t → t < tag + k → passes t ≡ true

@@ -1,6 +1,5 @@
 // What each tag gives where its value is in range, and what stands for a missing one.
 ghost use mathlib.Core.Path.{_≡_};
-ghost use Prim.Native.Nat.{_<_};
 ghost use Rattle.order.specs.Given.{dateIn, rowsIn, degreesIn, minutesIn, byteOr, degreesOr, roundingOr, minutesOr, intervalOr, parametersIn};
 use calendar::dates::Date;
 use fields::numbers::byte;

@@ -1,6 +1,5 @@
 // What stands inside a right length: the range of each tag's value. Range ends are allowed.
 ghost use mathlib.Core.Path.{_≡_};
-ghost use lib.IntN.{pos};
 ghost use Rattle.order.specs.Ranges.{textFits, dateFits, rowsFit, byteFits, degreesFit, minuteFits, minutesFit, intervalFits, fitsOf, inRangeOf};
 use super::given::date_in;
 use super::given::degrees_in;

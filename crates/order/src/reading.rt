@@ -1,6 +1,5 @@
 // Reading an order: the form of its fields, then missing tags, then ranges, and then the record.
 ghost use mathlib.Core.Path.{_≡_};
-ghost use Prim.Native.Nat.{_≤_};
 ghost use Rattle.order.specs.Reading.{missingOf, outOfRangeOf, orderOf, readingOf, townOf};
 use super::given::date_in;
 use super::given::degrees_in;

@@ -1,3 +1,4 @@
+-- `order::given::byte_or` meets its contract.
 use mathlib.Core.Path.{sym}
 use Rattle.order.specs.Given.{byteOr}
 use Rattle.order.proofs.given.byte_or.Statement.{statement}

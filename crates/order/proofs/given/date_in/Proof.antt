@@ -1,3 +1,4 @@
+-- `order::given::date_in` meets its contract.
 use Rattle.order.specs.Given.{dateIn}
 use Rattle.order.proofs.given.date_in.Statement.{statement}
 use Rattle.order.proofs.given.date_in.Tie as tie

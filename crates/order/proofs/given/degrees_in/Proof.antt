@@ -1,7 +1,7 @@
+-- `order::given::degrees_in` meets its contract.
 use lib.Ieee.{round, ofBits}
 use Rattle.float64.specs.Ops.{dec}
 use mathlib.Core.Path.{sym}
-use lib.Ieee.{ofBits}
 use Rattle.order.specs.Given.{degreesIn}
 use Rattle.order.proofs.given.degrees_in.Statement.{statement}
 use Rattle.order.proofs.given.degrees_in.Tie as tie
@@ -10,7 +10,7 @@ returns : tie.Need-returns
 unfolding degreesIn dec round ofBits
 returns c =
     let e0 = c .before .float .ensures in
-    simp (e0, simp (e0) at (c .if1 .taken))
+    simp (simp e0 at (c .if1 .taken))
 
 returns-2 : tie.Need-returns-2
 unfolding degreesIn dec round ofBits

@@ -1,3 +1,4 @@
+-- `order::given::degrees_or` meets its contract.
 use mathlib.Core.Path.{sym}
 use Rattle.order.specs.Given.{degreesOr}
 use Rattle.order.proofs.given.degrees_or.Statement.{statement}

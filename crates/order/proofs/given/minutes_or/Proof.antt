@@ -1,3 +1,4 @@
+-- `order::given::minutes_or` meets its contract.
 use mathlib.Core.Path.{sym}
 use Rattle.order.specs.Given.{minutesOr}
 use Rattle.order.proofs.given.minutes_or.Statement.{statement}

@@ -12,12 +12,15 @@ use Rattle.order.proofs.given.parameters_in.Tie as tie
 returns : tie.Need-returns
 unfolding parametersIn
 returns c =
-    let s = now (c .before .before .before .before .before .before .before .before .before .before .before .before .before .before .before .before .before .before .before .args .order) in
-    let f0 : SFits w32 (c .before .before .before .before .before .before .before .before .before .interval-or .result) = search needs in
-    let known = c .before .before .before .before .before .before .before .before .before .before .struct-told .given in
-    let whole = c .before .before .before .before .before .before .before .before .before .before .before .before .before .method-adjustments .given in
-    let f1 : SFits w32 (c .before .before .before .before .before .before .before .before .before .before .before .before .before .before .parameters .result .«isha_interval») = search needs in
-    let interval = c .before .before .before .before .before .before .before .before .before .interval-or .ensures ∙ ap (intervalOr s) (toZ-ofZ f1) in
+    let c5 = c .before .before .before .before .before in
+    let c9 = c5 .before .before .before .before in
+    let c14 = c9 .before .before .before .before .before in
+    let s = now (c14 .before .before .before .before .before .args .order) in
+    let f0 : SFits w32 (c9 .interval-or .result) = search needs in
+    let known = c9 .before .struct-told .given in
+    let whole = c9 .before .before .before .before .method-adjustments .given in
+    let f1 : SFits w32 (c14 .parameters .result .«isha_interval») = search needs in
+    let interval = c9 .interval-or .ensures ∙ ap (intervalOr s) (toZ-ofZ f1) in
     simp (
       toZ-ofZ f0,
       sym interval,
@@ -26,16 +29,16 @@ returns c =
       sym (c .before .before .rounding-or .ensures),
       sym (c .before .before .before .minutes-or .ensures),
       sym (c .before .before .before .before .default .ensures),
-      sym (c .before .before .before .before .before .of-number3 .ensures),
-      sym (c .before .before .before .before .before .before .byte-or2 .ensures),
-      sym (c .before .before .before .before .before .before .before .of-number2 .ensures),
-      sym (c .before .before .before .before .before .before .before .before .byte-or .ensures),
-      sym (c .before .before .before .before .before .before .before .before .before .before .before .degrees-or2 .ensures),
-      sym (c .before .before .before .before .before .before .before .before .before .before .before .before .degrees-or .ensures),
-      sym (c .before .before .before .before .before .before .before .before .before .before .before .before .before .before .parameters .ensures),
-      sym (c .before .before .before .before .before .before .before .before .before .before .before .before .before .before .before .of-number .ensures),
-      sym (c .before .before .before .before .before .before .before .before .before .before .before .before .before .before .before .before .byte .ensures .0),
-      sym (c .before .before .before .before .before .before .before .before .before .before .before .before .before .before .before .before .before .value .ensures),
+      sym (c5 .of-number3 .ensures),
+      sym (c5 .before .byte-or2 .ensures),
+      sym (c5 .before .before .of-number2 .ensures),
+      sym (c5 .before .before .before .byte-or .ensures),
+      sym (c9 .before .before .degrees-or2 .ensures),
+      sym (c9 .before .before .before .degrees-or .ensures),
+      sym (c14 .parameters .ensures),
+      sym (c14 .before .of-number .ensures),
+      sym (c14 .before .before .byte .ensures .0),
+      sym (c14 .before .before .before .value .ensures),
     )
 
 pub parameters-in-spec : {M : Type 1} → statement M

@@ -1,3 +1,4 @@
+-- `order::given::rounding_or` meets its contract.
 use mathlib.Core.Path.{sym}
 use Rattle.order.specs.Given.{roundingOr}
 use Rattle.order.proofs.given.rounding_or.Statement.{statement}

@@ -1,3 +1,4 @@
+-- `order::given::rows_in` meets its contract.
 use Rattle.order.specs.Given.{rowsIn}
 use Rattle.order.proofs.given.rows_in.Statement.{statement}
 use Rattle.order.proofs.given.rows_in.Tie as tie

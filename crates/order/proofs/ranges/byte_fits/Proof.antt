@@ -1,4 +1,5 @@
-use borrow.Author.Tests.{lt-ltb, le-ltb, le-leb, lt-leb}
+-- `order::ranges::byte_fits` meets its contract.
+use borrow.Author.Tests.{le-leb, lt-leb}
 use mathlib.Core.Path.{sym}
 use Rattle.order.specs.Ranges.{byteFits}
 use Rattle.order.proofs.ranges.byte_fits.Statement.{statement}
@@ -8,13 +9,13 @@ returns : tie.Need-returns
 unfolding byteFits
 returns c =
     let e0 = c .before .byte .ensures .0 in
-    simp (sym e0, lt-ltb _ _ (c .if1 .taken), lt-leb _ _ (c .if1 .taken))
+    simp (sym e0, lt-leb _ _ (c .if1 .taken))
 
 returns-2 : tie.Need-returns-2
 unfolding byteFits
 returns-2 c =
     let e0 = c .before .byte .ensures .0 in
-    simp (sym e0, le-leb _ _ (c .if1 .left), le-ltb _ _ (c .if1 .left))
+    simp (sym e0, le-leb _ _ (c .if1 .left))
 
 pub byte-fits-spec : {M : Type 1} → statement M
 byte-fits-spec = tie.close (tie.spec (λ c κs. tt) returns returns-2)

@@ -1,3 +1,4 @@
+-- `order::ranges::degrees_fit` meets its contract.
 use mathlib.Core.Path.{sym}
 use Rattle.order.specs.Ranges.{degreesFit}
 use Rattle.order.proofs.ranges.degrees_fit.Statement.{statement}

@@ -1,3 +1,4 @@
+-- `order::ranges::in_range` meets its contract.
 use mathlib.Core.Path.{sym}
 use Rattle.order.specs.Ranges.{inRangeOf}
 use Rattle.order.proofs.ranges.in_range.Statement.{statement}

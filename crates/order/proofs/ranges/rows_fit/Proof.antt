@@ -1,4 +1,5 @@
-use borrow.Author.Tests.{lt-ltb, le-ltb, le-leb, lt-leb}
+-- `order::ranges::rows_fit` meets its contract.
+use borrow.Author.Tests.{le-leb, lt-leb}
 use mathlib.Core.Path.{sym}
 use Rattle.order.specs.Ranges.{rowsFit}
 use Rattle.order.proofs.ranges.rows_fit.Statement.{statement}
@@ -7,16 +8,14 @@ use Rattle.order.proofs.ranges.rows_fit.Tie as tie
 returns : tie.Need-returns
 unfolding rowsFit
 returns c =
-    simp (lt-ltb _ _ (c .if1 .taken), lt-leb _ _ (c .if1 .taken))
+    simp (lt-leb _ _ (c .if1 .taken))
 
 returns-2 : tie.Need-returns-2
 unfolding rowsFit
 returns-2 c =
     simp (
-      lt-ltb _ _ (c .if2 .taken),
       lt-leb _ _ (c .if2 .taken),
       le-leb _ _ (c .before .if1 .left),
-      le-ltb _ _ (c .before .if1 .left),
     )
 
 returns-3 : tie.Need-returns-3
@@ -26,9 +25,7 @@ returns-3 c =
     simp (
       sym e0,
       le-leb _ _ (c .before .before .if2 .left),
-      le-ltb _ _ (c .before .before .if2 .left),
       le-leb _ _ (c .before .before .before .if1 .left),
-      le-ltb _ _ (c .before .before .before .if1 .left),
     )
 
 pub rows-fit-spec : {M : Type 1} → statement M

@@ -1,3 +1,4 @@
+-- `order::reading::read` meets its contract: a line for each check, with those before it passed.
 use borrow.Author.Tests.{eq-eqb, ne-eqb}
 use mathlib.Core.Path.{sym}
 use Rattle.order.specs.Reading.{readingOf}

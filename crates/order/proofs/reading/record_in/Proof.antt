@@ -1,3 +1,4 @@
+-- `order::reading::record_in` meets its contract: each field by its call.
 use Rattle.order.specs.Reading.{orderOf}
 use Rattle.order.proofs.reading.record_in.Statement.{statement}
 use Rattle.order.proofs.reading.record_in.Tie as tie

@@ -1,3 +1,4 @@
+-- `order::reading::town` meets its contract: a match on what reading answers.
 use mathlib.Core.Path.{sym}
 use Rattle.order.specs.Reading.{townOf}
 use borrow.Author.Needs.{needs}
