@@ -1,4 +1,4 @@
-use mathlib.Core.Path.{_≡_, sym, ap, _∙_}
+use mathlib.Core.Path.{sym, ap, _∙_}
 use lib.IntN.{ℤ, pos, negsuc}
 use lib.Signed.{ltZ}
 use mir.Syntax.{w64}
@@ -7,10 +7,7 @@ use Rattle.integers.specs.Ranges.{read}
 use Rattle.calls.specs.Calls.{instantFits}
 use Rattle.calls.proofs.in_force.instant_fits.Statement.{statement}
 use Rattle.calls.proofs.in_force.instant_fits.Tie as tie
-use Rattle.calls.proofs.in_force.instant_fits.Reads as reads
-use Rattle.calls.proofs.in_force.instant_fits.Lts as lts
 
--- src/in_force.rt:35:9
 returns : tie.Need-returns
 unfolding instantFits
 returns c =
@@ -20,7 +17,6 @@ returns c =
     let low = to-not-le (negsuc 999999999999) s (lt-yes s (negsuc 999999999999) (sym (ap (λ (z : ℤ). ltZ z (negsuc 999999999999)) r) ∙ c .if1 .taken)) in
     simp low
 
--- src/in_force.rt:38:9
 returns-2 : tie.Need-returns-2
 unfolding instantFits
 returns-2 c =
@@ -31,7 +27,6 @@ returns-2 c =
     let high = to-not-le s (pos 1000000000000) (lt-yes (pos 1000000000000) s (sym (ap (ltZ (pos 1000000000000)) r) ∙ c .if2 .taken)) in
     simp (low, high)
 
--- src/in_force.rt:31:1
 returns-3 : tie.Need-returns-3
 unfolding instantFits
 returns-3 c =
