@@ -1,0 +1,24 @@
+use Rattle.katchidul.specs.Exports.{nextAnswerOf}
+use borrow.Author.Needs.{needs}
+use Rattle.katchidul.proofs.katchidul_next_at.Statement.{statement}
+use Rattle.katchidul.proofs.katchidul_next_at.Tie as tie
+use Rattle.katchidul.proofs.katchidul_next_at.Reads as reads
+use Rattle.katchidul.proofs.katchidul_next_at.Lts as lts
+use Rattle.calls.proofs.in_force.next_at.Reads as next-at-reads
+use Rattle.katchidul.proofs.next_answer.Reads as next-answer-reads
+
+-- src/lib.rt:343:17
+next-at-requires : tie.Need-next-at-requires
+next-at-requires c κs = tt
+
+-- src/lib.rt:343:5
+next-answer-requires : tie.Need-next-answer-requires
+next-answer-requires c κs = tt
+
+-- src/lib.rt:334:1
+returns : tie.Need-returns
+unfolding nextAnswerOf
+returns c = cc
+
+pub katchidul-next-at-spec : {M : Type 1} → statement M
+katchidul-next-at-spec = tie.close (tie.spec next-at-requires next-answer-requires returns)
