@@ -1,3 +1,8 @@
+use mathlib.Core.Path.{ap, _∙_}
+use lib.IntN.{ℤ}
+use mir.Syntax.{w64}
+use Rattle.integers.specs.Ranges.{read}
+use Rattle.calls.specs.Calls.{nextAtOf}
 use Rattle.katchidul.specs.Exports.{nextAnswerOf}
 use borrow.Author.Needs.{needs}
 use Rattle.katchidul.proofs.katchidul_next_at.Statement.{statement}
@@ -17,8 +22,10 @@ next-answer-requires c κs = tt
 
 -- src/lib.rt:334:1
 returns : tie.Need-returns
-unfolding nextAnswerOf
-returns c = cc
+returns c =
+    let t = c .before .before .before in
+    let r = read w64 (t .args .seconds) (t .fits .seconds) in
+    c .next-answer .ensures ∙ ap nextAnswerOf (c .before .next-at .ensures) ∙ simp r
 
 pub katchidul-next-at-spec : {M : Type 1} → statement M
 katchidul-next-at-spec = tie.close (tie.spec next-at-requires next-answer-requires returns)

@@ -1,3 +1,8 @@
+use mathlib.Core.Path.{ap, _∙_}
+use lib.IntN.{ℤ}
+use mir.Syntax.{w64}
+use Rattle.integers.specs.Ranges.{read}
+use Rattle.calls.specs.Calls.{prayerAtOf}
 use Rattle.katchidul.specs.Exports.{prayerAnswerOf}
 use borrow.Author.Needs.{needs}
 use Rattle.katchidul.proofs.katchidul_prayer_at.Statement.{statement}
@@ -17,8 +22,10 @@ prayer-answer-requires c κs = tt
 
 -- src/lib.rt:305:1
 returns : tie.Need-returns
-unfolding prayerAnswerOf
-returns c = cc
+returns c =
+    let t = c .before .before .before in
+    let r = read w64 (t .args .seconds) (t .fits .seconds) in
+    c .prayer-answer .ensures ∙ ap prayerAnswerOf (c .before .prayer-at .ensures) ∙ simp r
 
 pub katchidul-prayer-at-spec : {M : Type 1} → statement M
 katchidul-prayer-at-spec = tie.close (tie.spec prayer-at-requires prayer-answer-requires returns)

@@ -1,5 +1,5 @@
 use mathlib.Core.Path.{sym}
-use Rattle.katchidul.specs.Exports.{orderAnswerOf}
+use Rattle.katchidul.specs.Exports.{orderAnswerOf, orderIn}
 use borrow.Author.Needs.{needs}
 use Rattle.katchidul.proofs.katchidul_read_order.Statement.{statement}
 use Rattle.katchidul.proofs.katchidul_read_order.Tie as tie
@@ -41,21 +41,21 @@ order-refused-requires c κs = tt
 
 -- src/lib.rt:213:1
 returns : tie.Need-returns
-unfolding orderAnswerOf
+unfolding orderAnswerOf orderIn
 returns c =
     let e0 = c .order-read .ensures in
     let e1 = c .before .town-length .ensures in
     let e2 = c .before .before .town-at .ensures in
     let e3 = c .before .before .before .before .before .before .read .ensures in
-    simp (sym e0, sym e1, sym e2, sym e3, c .before .before .before .before .«record» .given .1)
+    simp (e0, e1, e2, sym e3, c .before .before .before .before .«record» .given .1)
 
 -- src/lib.rt:213:1
 returns-2 : tie.Need-returns-2
-unfolding orderAnswerOf
+unfolding orderAnswerOf orderIn
 returns-2 c =
     let e0 = c .order-refused .ensures in
     let e1 = c .before .before .before .before .read .ensures in
-    simp (sym e0, sym e1, c .before .before .refusal .given .1)
+    simp (e0, sym e1, c .before .before .refusal .given .1)
 
 pub katchidul-read-order-spec : {M : Type 1} → statement M
 katchidul-read-order-spec =

@@ -1,3 +1,8 @@
+use mathlib.Core.Path.{ap, _∙_}
+use lib.IntN.{ℤ}
+use mir.Syntax.{w64}
+use Rattle.integers.specs.Ranges.{read}
+use Rattle.calls.specs.Calls.{remainingAtOf}
 use Rattle.katchidul.specs.Exports.{remainingAnswerOf}
 use borrow.Author.Needs.{needs}
 use Rattle.katchidul.proofs.katchidul_remaining_at.Statement.{statement}
@@ -17,8 +22,10 @@ remaining-answer-requires c κs = tt
 
 -- src/lib.rt:365:1
 returns : tie.Need-returns
-unfolding remainingAnswerOf
-returns c = cc
+returns c =
+    let t = c .before .before .before in
+    let r = read w64 (t .args .seconds) (t .fits .seconds) in
+    c .remaining-answer .ensures ∙ ap remainingAnswerOf (c .before .remaining-at .ensures) ∙ simp r
 
 pub katchidul-remaining-at-spec : {M : Type 1} → statement M
 katchidul-remaining-at-spec =

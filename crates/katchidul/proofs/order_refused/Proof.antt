@@ -1,4 +1,7 @@
 use Rattle.katchidul.specs.Exports.{orderRefused}
+use mathlib.Core.Path.{sym}
+use lib.Ieee.{round, ofBits}
+use Rattle.float64.specs.Ops.{dec}
 use borrow.Author.Needs.{needs}
 use Rattle.katchidul.proofs.order_refused.Statement.{statement}
 use Rattle.katchidul.proofs.order_refused.Tie as tie
@@ -12,8 +15,10 @@ no-minutes-requires c κs = tt
 
 -- src/lib.rt:187:1
 returns : tie.Need-returns
-unfolding orderRefused
-returns c = cc
+unfolding orderRefused dec round ofBits
+returns c =
+    let e0 = c .no-minutes .ensures in
+    simp (sym e0)
 
 pub order-refused-spec : {M : Type 1} → statement M
 order-refused-spec = tie.close (tie.spec no-minutes-requires returns)
