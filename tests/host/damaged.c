@@ -32,9 +32,11 @@ static void put_options(order_bytes *order) {
 static order_bytes sound_order(void) {
   char town[41] = {0};
   for (uint64_t i = 0, length = 1 + below(40); i < length; i++) town[i] = (char)(32 + below(95));
+  /* Some polar places, and some where the transit is near midnight: without them 6 and 7 would be rare. */
   double latitude = below(4) ? between(-66, 66) : between(-90, 90);
+  double longitude = below(8) ? between(-180, 180) : between(-180, -175);
   order_bytes order = place_order(town, (uint16_t)(1900 + below(300)), (uint8_t)(1 + below(12)), (uint8_t)(1 + below(28)),
-                                  (uint8_t)(1 + below(31)), latitude, between(-180, 180), (uint8_t)below(13));
+                                  (uint8_t)(1 + below(31)), latitude, longitude, (uint8_t)below(13));
   put_options(&order);
   return order;
 }
@@ -87,7 +89,7 @@ static int64_t any_instant(const katchidul_order *order, uint32_t row) {
   if (order->number == 0 && below(8)) {
     return (days_to(order->year, order->month, order->day) + row) * 86400 + (int64_t)below(4 * 86400) - 86400;
   }
-  return below(2) ? (int64_t)draw() : (int64_t)below(UINT64_C(2000000000003)) - INT64_C(1000000000001);
+  return below(8) == 0 ? (int64_t)draw() : (int64_t)below(UINT64_C(2000000000003)) - INT64_C(1000000000001);
 }
 
 void check_damaged(uint32_t orders) {

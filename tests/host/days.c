@@ -40,7 +40,7 @@ static void check_dates_move(void) {
 
 static void mark(bool seen[3][3], double latitude, double longitude) {
   order_bytes order = place_order("A", 2026, 3, 1, 250, latitude, longitude, 0);
-  for (uint32_t row = 0; row < 250; row += 1) {
+  for (uint32_t row = 0; row < 250; row++) {
     answers all = ask(&order, row, 0, 0);
     uint32_t number = all.day.number, day = all.day.place;
     bool sound = answers_agree(&all, row, 0, 0);
@@ -49,13 +49,13 @@ static void mark(bool seen[3][3], double latitude, double longitude) {
   }
 }
 
-/* A transit that rounds to midnight, a sun that does not rise, a sunset that rounds to midnight: a year's approach meets each on the
-   second day after, the day after, and the day itself. */
+/* A transit that rounds to midnight, a sun that does not rise, a sunset that rounds to midnight: as the rows come near, each is met
+   on day 2 first, then on day 1, then on day 0. */
 static void check_every_day(void) {
   bool seen[3][3] = {{false}};
   for (int i = 0; i < 20; i++) mark(seen, 0, -180 + 0.25 * i);
   for (int i = 0; i < 20; i++) mark(seen, 40, -66 - 0.25 * i);
-  mark(seen, 67, 0);
+  for (int i = 0; i < 4; i++) mark(seen, 66.75 + 0.25 * i, 0);
   for (int number = 0; number < 3; number++)
     for (int day = 0; day < 3; day++) check(seen[number][day], "6, 7 and 8 are each met on days 0, 1 and 2");
 }
