@@ -1,0 +1,95 @@
+/* Every call on one order. The order is lent from a page with a forbidden page on each side; in every second call it ends where
+   the forbidden page begins, so that a byte read past it ends the run, and otherwise canary bytes stand on both sides. */
+#define _DEFAULT_SOURCE
+#include <string.h>
+#include <sys/mman.h>
+#include <unistd.h>
+
+#include "host.h"
+
+#define CANARY 0xA5
+
+static uint8_t *room;
+static size_t room_size;
+static bool at_the_end;
+
+/* Refused answers are compared whole, byte by byte: no struct may have padding. */
+_Static_assert(sizeof(katchidul_order) == 8 * 4 + 4 * 8 + 12 * 4, "katchidul_order has padding");
+_Static_assert(sizeof(katchidul_day) == 2 * 4 + 9 * 8, "katchidul_day has padding");
+_Static_assert(sizeof(katchidul_prayer) == 3 * 4, "katchidul_prayer has padding");
+_Static_assert(sizeof(katchidul_remaining) == 4 * 4, "katchidul_remaining has padding");
+
+bool ask_start(void) {
+  size_t page = (size_t)sysconf(_SC_PAGESIZE);
+  room_size = page;
+  if (page < ORDER_ROOM + 128) return false;
+  uint8_t *pages = mmap(NULL, 3 * page, PROT_NONE, MAP_PRIVATE | MAP_ANONYMOUS, -1, 0);
+  if (pages == MAP_FAILED) return false;
+  room = pages + page;
+  return mprotect(room, page, PROT_READ | PROT_WRITE) == 0;
+}
+
+static const uint8_t *lend(const order_bytes *order) {
+  at_the_end = !at_the_end;
+  size_t at = at_the_end ? room_size - order->length : 64;
+  memset(room, CANARY, room_size);
+  memcpy(room + at, order->bytes, order->length);
+  return room + at;
+}
+
+static bool all_canaries(const uint8_t *from, const uint8_t *to) {
+  while (from < to && *from == CANARY) from++;
+  return from >= to;
+}
+
+static bool kept(const order_bytes *order, const uint8_t *lent) {
+  return memcmp(lent, order->bytes, order->length) == 0 && all_canaries(room, lent) &&
+         all_canaries(lent + order->length, room + room_size);
+}
+
+answers ask(const order_bytes *order, uint32_t row, int64_t seconds, uint32_t nanoseconds) {
+  answers all;
+  size_t length = order->length;
+  const uint8_t *lent = lend(order);
+  all.order = katchidul_read_order(lent, length);
+  all.lent_kept = kept(order, lent);
+  all.day = katchidul_work_day(lent, length, row);
+  all.lent_kept = all.lent_kept && kept(order, lent);
+  all.prayer = katchidul_prayer_at(lent, length, row, seconds, nanoseconds);
+  all.lent_kept = all.lent_kept && kept(order, lent);
+  all.next = katchidul_next_at(lent, length, row, seconds, nanoseconds);
+  all.lent_kept = all.lent_kept && kept(order, lent);
+  all.remaining = katchidul_remaining_at(lent, length, row, seconds, nanoseconds);
+  all.lent_kept = all.lent_kept && kept(order, lent);
+  return all;
+}
+
+bool order_refused(const katchidul_order *answer, uint32_t number, uint32_t place) {
+  katchidul_order expected;
+  memset(&expected, 0, sizeof expected);
+  expected.number = number;
+  expected.place = place;
+  return memcmp(answer, &expected, sizeof expected) == 0;
+}
+
+bool day_refused(const katchidul_day *answer, uint32_t number, uint32_t place) {
+  katchidul_day expected = {number, place, {0}};
+  return memcmp(answer, &expected, sizeof expected) == 0;
+}
+
+bool prayer_refused(const katchidul_prayer *answer, uint32_t number, uint32_t place) {
+  return answer->number == number && answer->place == place && answer->prayer == 0;
+}
+
+bool remaining_refused(const katchidul_remaining *answer, uint32_t number, uint32_t place) {
+  return answer->number == number && answer->place == place && answer->hours == 0 && answer->minutes == 0;
+}
+
+bool instant_refused(const answers *all, uint32_t number, uint32_t place) {
+  return prayer_refused(&all->prayer, number, place) && prayer_refused(&all->next, number, place) &&
+         remaining_refused(&all->remaining, number, place);
+}
+
+bool row_refused(const answers *all, uint32_t number, uint32_t place) {
+  return day_refused(&all->day, number, place) && instant_refused(all, number, place);
+}

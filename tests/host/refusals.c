@@ -1,0 +1,117 @@
+/* Refusals of an order before its values are looked at: 1 to 4, with their places, and the order in which they are found. */
+#include <stdio.h>
+
+#include "host.h"
+
+#define GOOD_LENGTH 46
+
+static void refused(const order_bytes *order, uint32_t number, uint32_t place, const char *what) {
+  answers all = ask(order, 0, 0, 0);
+  check(all.lent_kept && order_refused(&all.order, number, place) && row_refused(&all, number, place), what);
+}
+
+static order_bytes raw(size_t length, const uint8_t *bytes) {
+  order_bytes order = {0};
+  for (size_t i = 0; i < length; i++) put_byte(&order, bytes[i]);
+  return order;
+}
+
+/* The bytes alone, and after a good order. */
+static void bytes_refused(size_t length, const uint8_t *bytes, uint32_t alone, uint32_t after, const char *what) {
+  order_bytes order = raw(length, bytes), longer = good_order();
+  refused(&order, alone, 0, what);
+  for (size_t i = 0; i < length; i++) put_byte(&longer, bytes[i]);
+  refused(&longer, after, GOOD_LENGTH, what);
+}
+
+static void check_cut_fields(void) {
+  bytes_refused(2, (const uint8_t[]){1, 0}, 1, 1, "the header 1, 0 is cut");
+  bytes_refused(1, (const uint8_t[]){99}, 1, 1, "the byte 99 alone is a cut header");
+  bytes_refused(1, (const uint8_t[]){7}, 1, 1, "the byte 7 alone is a cut header");
+  bytes_refused(3, (const uint8_t[]){99, 0, 0}, 2, 2, "tag 99, length 0");
+  bytes_refused(3, (const uint8_t[]){0, 0, 1}, 2, 2, "tag 0");
+  bytes_refused(3, (const uint8_t[]){255, 255, 255}, 2, 2, "tag 255, cut too");
+  bytes_refused(3, (const uint8_t[]){1, 0, 0}, 2, 3, "1, 0, 0: a town of no bytes, or the town again");
+  bytes_refused(3, (const uint8_t[]){7, 0, 2}, 2, 2, "7, 0, 2: a wrong length before a cut value");
+  bytes_refused(3, (const uint8_t[]){7, 1, 1}, 2, 2, "7, 1, 1: the length's high byte counts");
+  bytes_refused(3, (const uint8_t[]){7, 0, 1}, 1, 1, "7, 0, 1: a cut value");
+  bytes_refused(4, (const uint8_t[]){1, 0, 40, 65}, 1, 3, "a cut town, or the town again");
+  bytes_refused(10, (const uint8_t[]){12, 0, 8, 0, 0, 0, 0, 0, 0, 0}, 1, 1, "a float cut by one byte");
+  order_bytes whole = good_order();
+  for (size_t length = 43; length < GOOD_LENGTH; length++) {
+    order_bytes cut = raw(length, whole.bytes);
+    refused(&cut, 1, 42, "a good order cut in its last field");
+  }
+}
+
+static void check_sizes(void) {
+  order_bytes order = full_order(), bare = {0};
+  uint32_t end = (uint32_t)order.length;
+  while (order.length < 1024) put_byte(&order, 0);
+  refused(&order, 2, end, "1,024 bytes are read");
+  put_byte(&order, 0);
+  refused(&order, 1, 0, "1,025 bytes are too many");
+  while (bare.length < 1025) put_byte(&bare, 99);
+  refused(&bare, 1, 0, "1,025 bytes, before an unknown tag");
+  order.length = ORDER_ROOM;
+  refused(&order, 1, 0, "2,048 bytes");
+}
+
+static void check_lengths(void) {
+  static const uint8_t length[15] = {0, 0, 4, 1, 8, 8, 1, 1, 1, 1, 1, 12, 8, 8, 2};
+  order_bytes full = full_order();
+  char what[64];
+  for (uint8_t tag = 1; tag <= 14; tag++) {
+    for (int way = 0; way < 3; way++) {
+      order_bytes order = without(&full, tag);
+      uint32_t at = (uint32_t)order.length;
+      unsigned wrong = way == 0 ? 256u + length[tag] : tag == 1 ? (way == 1 ? 0 : 41) : length[tag] + (way == 1 ? -1u : 1u);
+      put_header(&order, tag, (uint16_t)wrong);
+      for (unsigned i = 0; i < wrong; i++) put_byte(&order, 65);
+      snprintf(what, sizeof what, "tag %u of %u bytes", tag, wrong);
+      refused(&order, 2, at, what);
+    }
+  }
+}
+
+static void check_repeats_and_missing(void) {
+  order_bytes full = full_order(), empty = {0};
+  char what[64];
+  refused(&empty, 4, 1, "an empty order");
+  for (uint8_t tag = 1; tag <= 14; tag++) {
+    order_bytes order = full;
+    put_header(&order, tag, 9);
+    snprintf(what, sizeof what, "tag %u again, with a wrong length and cut", tag);
+    refused(&order, 3, (uint32_t)full.length, what);
+    if (tag > 6) continue;
+    order = without(&full, tag);
+    snprintf(what, sizeof what, "tag %u missing", tag);
+    refused(&order, 4, tag, what);
+  }
+}
+
+/* Two rules broken at once: the first in document 01's order gives the number. */
+static void check_precedence(void) {
+  order_bytes order = good_order();
+  put_town(&order, "Makkah");
+  refused(&order, 3, GOOD_LENGTH, "town twice");
+  order = place_order("Makkah", 2026, 13, 21, 10, 21.4225, 39.8262, 0);
+  order_bytes nameless = without(&order, 1);
+  refused(&nameless, 4, 1, "a missing tag before month 13");
+  nameless = without(&nameless, 6);
+  refused(&nameless, 4, 1, "the lower of two missing tags");
+  put_byte(&order, 99);
+  refused(&order, 1, GOOD_LENGTH, "a cut header before month 13");
+  order_bytes first = {0};
+  put_header(&first, 1, 0);
+  put_header(&first, 99, 0);
+  refused(&first, 2, 0, "the first wrong field of two");
+}
+
+void check_refusals(void) {
+  check_cut_fields();
+  check_sizes();
+  check_lengths();
+  check_repeats_and_missing();
+  check_precedence();
+}
