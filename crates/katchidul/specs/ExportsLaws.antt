@@ -11,7 +11,7 @@ use Rattle.fields.specs.Values.{offsetOf, hasOf, valueOf}
 use Rattle.order.specs.declared.reading.Order.{Order}
 use Rattle.order.specs.declared.reading.Reading.the-variants.{Read}
 use Rattle.order.specs.Reading.{readingOf, townOf}
-use Rattle.order.specs.AcceptedLaws.{read-passed, read-town}
+use Rattle.order.specs.ReadingLaws.{read-passed, read-town}
 use Rattle.katchidul.specs.Exports.{townAtOf, townLengthOf}
 
 module _ (s : List ℕ) (order : Order) (e : readingOf s ≡ Read order) where
