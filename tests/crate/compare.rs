@@ -1,12 +1,15 @@
 //! The port's hour numbers, setting_hour, season and days against the crate's: see tests/crate/run, tests/crate/list and
 //! tests/crate/list-days.
+mod counts;
 mod day_crate;
 mod day_draw;
 mod day_list;
 mod day_port;
 mod days;
 mod draw;
+mod in_force;
 mod numbers;
+mod row_crate;
 mod rows;
 mod settings;
 mod steps;
