@@ -6,19 +6,21 @@ pub struct Counts<const N: usize> {
     names: [&'static str; N],
     compared: [u64; N],
     different: [u64; N],
-    shown: Vec<String>,
+    /// The number of the case at hand, which tells the first differences of several threads.
+    pub case: u64,
+    shown: Vec<(u64, String)>,
 }
 
 impl<const N: usize> Counts<N> {
     pub fn new(names: [&'static str; N]) -> Counts<N> {
-        Counts { names, compared: [0; N], different: [0; N], shown: Vec::new() }
+        Counts { names, compared: [0; N], different: [0; N], case: 0, shown: Vec::new() }
     }
 
     pub fn add(&mut self, line: usize, equal: bool, what: impl FnOnce() -> String) {
         self.compared[line] += 1;
         self.different[line] += !equal as u64;
         if !equal && self.shown.len() < SHOWN {
-            self.shown.push(format!("DIFFERENT, {}: {}", self.names[line], what()));
+            self.shown.push((self.case, format!("DIFFERENT, {}: {}", self.names[line], what())));
         }
     }
 
@@ -29,11 +31,12 @@ impl<const N: usize> Counts<N> {
             self.different[line] += other.different[line];
         }
         self.shown.extend(other.shown);
+        self.shown.sort_by_key(|(case, _)| *case);
         self.shown.truncate(SHOWN);
     }
 
     pub fn print(&self) {
-        for difference in &self.shown {
+        for (_, difference) in &self.shown {
             println!("{difference}");
         }
         println!("{:<24} {:>11} {:>11}", "from equal arguments", "compared", "different");
