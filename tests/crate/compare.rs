@@ -103,7 +103,8 @@ fn words() -> Words {
         let mut number = || words.next().and_then(|word| word.parse().ok()).unwrap_or_else(|| usage());
         match (read.what.as_str(), word.as_str()) {
             (_, "--seed") => read.seed = number(),
-            ("hours", "--pairs") | ("steps", "--cases") | ("days", "--days") | ("rows", "--rows") | ("orders", "--orders") => read.size = number(),
+            ("hours", "--pairs") | ("steps", "--cases") | ("days", "--days") => read.size = number(),
+            ("rows", "--rows") | ("orders", "--orders") => read.size = number(),
             ("list" | "list-days", "--lines") => read.size = number(),
             ("days" | "orders", "--instants") => read.instants = number(),
             ("hours", "--zones") => read.print_zones = true,
@@ -129,6 +130,7 @@ fn main() {
 
 fn usage() -> ! {
     eprintln!("hours [--seed N] [--pairs N] [--zones], steps [--seed N] [--cases N], days [--seed N] [--days N] [--instants N],");
-    eprintln!("rows [--seed N] [--rows N], orders [--seed N] [--orders N] [--instants N], list [--seed N] [--lines N] or list-days [--seed N] [--lines N]");
+    eprintln!("rows [--seed N] [--rows N], orders [--seed N] [--orders N] [--instants N],");
+    eprintln!("list [--seed N] [--lines N] or list-days [--seed N] [--lines N]");
     exit(2)
 }

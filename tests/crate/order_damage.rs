@@ -1,5 +1,5 @@
-//! Orders damaged in every way that document 01's tables name. A way may leave an order good (a byte changed to itself): the reading decides,
-//! not the way.
+//! Orders damaged in every way that document 01's tables name. A damage may leave an order good (a byte changed to itself): the
+//! reading decides, not the damage.
 use crate::draw::Draw;
 use crate::order_draw::{date_value, last_date, written, Field};
 use crate::order_read::{lengths, LAST_TAG, LONGEST};

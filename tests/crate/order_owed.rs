@@ -1,5 +1,5 @@
-//! What document 01 and the crate have the calls answer on an order's bytes: the reading by order_read.rs, the day and the prayer in force by
-//! the crate on our functions, and the order in which a call refuses ("The order": instant, order, row, day, 11).
+//! What the calls owe on an order's bytes: the reading by order_read.rs, the day and the prayer in force by the crate on our functions,
+//! and document 01's order of refusals in a call (instant, order, row, day, 11).
 use crate::day_crate::Refusal;
 use crate::day_draw::{Instant, NONE};
 use crate::order_port::{KatchidulOrder, KatchidulPrayer, KatchidulRemaining};

@@ -7,6 +7,7 @@ use crate::order_damage::KINDS;
 use crate::order_owed::{InstantAnswers, Order, FARTHEST};
 use crate::order_port::{self, KatchidulDay, KatchidulOrder, ORDER_FIELDS};
 use salah_leaves::schedule::{access, PrayerTimes};
+use std::process::exit;
 use std::thread;
 
 /// What is compared, a line of the table each. The fields of the order that was read come first.
@@ -86,10 +87,10 @@ impl Orders {
             Ok(times) => KatchidulDay { number: 0, place: 0, times: access::nine(&times) },
             Err(refusal) => refusal.into(),
         };
-        match owed.number {
-            0 => self.with_times += 1,
-            1..=5 => self.no_row += 1,
-            number => self.refused[number as usize - 6][owed.place as usize] += 1,
+        match (owed.number, owed.place) {
+            (0, _) => self.with_times += 1,
+            (number @ 6..=8, day @ 0..=2) => self.refused[number as usize - 6][day as usize] += 1,
+            _ => self.no_row += 1,
         }
         let ours = order_port::work_day(order.bytes, row);
         let what = || format!("port {ours:?}, owed {owed:?}, row {row}, order {}", hexadecimal(order.bytes));
@@ -142,7 +143,8 @@ impl Orders {
 
     fn print(&self) {
         println!("{:<24} {:>9}{:>9}{:>9}{:>9}{:>9}{:>9}", "orders by refusal", "read", 1, 2, 3, 4, 5);
-        for (name, [read, one, two, three, four, five]) in KINDS.iter().zip(&self.kinds) {
+        let all = [0, 1, 2, 3, 4, 5].map(|number| self.kinds.iter().map(|kind| kind[number]).sum());
+        for (name, [read, one, two, three, four, five]) in KINDS.iter().zip(&self.kinds).chain([(&"all", &all)]) {
             println!("{name:<24} {read:>9}{one:>9}{two:>9}{three:>9}{four:>9}{five:>9}");
         }
         let [six, seven, eight] = self.refused;
@@ -185,6 +187,12 @@ fn share(seed: u64, size: u64, instants: u64, thread: u64, threads: u64) -> Orde
     orders
 }
 
+/// Panics print nothing here, so one that is no answer of the crate must be told.
+fn strayed() -> ! {
+    eprintln!("tests/crate: a panic of the comparison itself, so that it says nothing");
+    exit(2)
+}
+
 /// Returns whether all are equal.
 pub fn orders(seed: u64, size: u64, instants: u64) -> bool {
     keep_panics();
@@ -192,7 +200,7 @@ pub fn orders(seed: u64, size: u64, instants: u64) -> bool {
     let mut all = Orders::new();
     thread::scope(|scope| {
         let shares: Vec<_> = (0..threads).map(|thread| scope.spawn(move || share(seed, size, instants, thread, threads))).collect();
-        shares.into_iter().for_each(|share| all.merge(share.join().unwrap()));
+        shares.into_iter().for_each(|share| all.merge(share.join().unwrap_or_else(|_| strayed())));
     });
     println!("{size} orders, seed {seed}, {instants} instants for each row with times\n");
     all.print();

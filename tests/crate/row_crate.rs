@@ -19,8 +19,8 @@ pub fn row(date: NaiveDate, latitude: f64, longitude: f64, settings: &Settings) 
     catch_unwind(|| PrayerTimes::new(date, coordinates, parameters)).map_err(|_| refusal(date, coordinates))
 }
 
-/// Right after `PrayerTimes::new` panicked. Its panic tells the number, but not the day: that is the first whose sun panics by itself, and so
-/// must it with the same number.
+/// Right after `PrayerTimes::new` panicked. Its panic tells the number but not the day: that is the first whose sun panics by itself,
+/// which must be with the same number.
 fn refusal(date: NaiveDate, coordinates: Coordinates) -> Refusal {
     let number = refused_number(SOLAR);
     let has_no_sun = |day: &u32| {
