@@ -30,7 +30,7 @@ fn insert(draw: &mut Draw, fields: &mut Vec<Field>, field: Field) {
     fields.insert(at, field);
 }
 
-/// The number of the next float up, or down for one below 0.
+/// The next float away from 0.
 fn beyond(value: f64) -> f64 {
     f64::from_bits(value.to_bits() + 1)
 }
@@ -85,7 +85,7 @@ impl Draw {
         }
     }
 
-    /// Each range's ends and what lies just out of them.
+    /// What lies just out of each range; the ends themselves are in good orders.
     fn just_out(&mut self, fields: &mut Vec<Field>) {
         let tag = [1, 3, 4, 5, 6, 7, 8, 9, 10, 11, 12, 13, 14][self.index(13)];
         let field = match tag {
