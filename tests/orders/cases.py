@@ -1,16 +1,18 @@
 #!/usr/bin/env python3
 # Makes the orders that crates/order_values reads, good ones and ones damaged in every way, and what it must write of them:
 #     tests/orders/cases.py ORDERS LINES
-# The lines come from a reader written here from document 01 alone. Deterministic.
+# The lines come from a reader written here from document 01 and the crate's method.rs alone. Deterministic.
 import datetime
 import random
 import struct
 import sys
 
 LENGTHS = {1: range(1, 41), 2: [4], 3: [1], 4: [8], 5: [8], 6: [1], 7: [1], 8: [1], 9: [1], 10: [1], 11: [12], 12: [8], 13: [8], 14: [2]}
-# By method: Fajr and Isha angle, interval, rounding.
-METHODS = [(18.0, 17.0, 0, 0), (19.5, 17.5, 0, 0), (18.0, 18.0, 0, 0), (18.5, 0.0, 90, 0), (18.2, 18.2, 0, 0), (18.0, 18.0, 0, 0), (15.0, 15.0, 0, 0),
-           (18.0, 17.5, 0, 0), (18.0, 0.0, 90, 0), (20.0, 18.0, 0, 1), (17.7, 14.0, 0, 0), (18.0, 17.0, 0, 0), (0.0, 0.0, 0, 0)]
+# By method: Fajr, Isha and Maghrib angle, interval, rounding, and the minutes for sunrise, Dhuhr, Asr and Maghrib.
+METHODS = [(18.0, 17.0, 0.0, 0, 0, (0, 1, 0, 0)), (19.5, 17.5, 0.0, 0, 0, (0, 1, 0, 0)), (18.0, 18.0, 0.0, 0, 0, (0, 1, 0, 0)), (18.5, 0.0, 0.0, 90, 0, (0, 0, 0, 0)),
+           (18.2, 18.2, 0.0, 0, 0, (-3, 3, 3, 3)), (18.0, 18.0, 0.0, 0, 0, (0, 5, 0, 3)), (15.0, 15.0, 0.0, 0, 0, (0, 1, 0, 0)), (18.0, 17.5, 0.0, 0, 0, (0, 0, 0, 0)),
+           (18.0, 0.0, 0.0, 90, 0, (0, 0, 0, 0)), (20.0, 18.0, 0.0, 0, 1, (0, 1, 0, 0)), (17.7, 14.0, 4.5, 0, 0, (0, 0, 0, 0)), (18.0, 17.0, 0.0, 0, 0, (-7, 5, 4, 7)),
+           (0.0, 0.0, 0.0, 0, 0, (0, 0, 0, 0))]
 LAST = datetime.date(2199, 12, 31)
 
 
@@ -85,13 +87,14 @@ def line(order):
     if refusal is not None:
         return b"%d %d \n" % refusal
     date, method = date_of(values[2]), values[6][0]
-    fajr, isha, interval, rounding = METHODS[method]
+    fajr, isha, maghrib, interval, rounding, brought = METHODS[method]
     angle = lambda tag, missing: real(values[tag]) if tag in values else missing
     one = lambda tag, missing: values[tag][0] if tag in values else missing
     bits = lambda x: struct.unpack(">Q", struct.pack(">d", x))[0]
     own = struct.unpack(">6h", values.get(11, bytes(12)))
+    minutes = struct.unpack(">H", values[14])[0] if 14 in values else interval
     numbers = [0, 0, date.year, date.month, date.day, values[3][0], bits(real(values[4])), bits(real(values[5])), method, one(7, 1), one(8, 0),
-               one(9, rounding), one(10, 0), struct.unpack(">H", values[14])[0] if 14 in values else interval, bits(angle(12, fajr)), bits(angle(13, isha)), *own]
+               one(9, rounding), one(10, 0), bits(angle(12, fajr)), bits(angle(13, isha)), bits(maghrib), minutes, *own, 0, *brought, 0]
     return b"".join(b"%d " % n for n in numbers) + values[1] + b"\n"
 
 

@@ -3,99 +3,120 @@
 // and writes a line for each: number and place of its refusal; or 0, 0 and what it gives. A float stands by its bits.
 ghost use mathlib.Core.Path.{_≡_};
 ghost use lib.IntN.{natAbs};
+ghost use Rattle.order_values.specs.Numbers.{unsignedNumbersOf, signedNumbersOf};
 use fields::numbers::unsigned;
 use float64::bits::to_bits;
 use libc::STDIN_FILENO;
 use libc::STDOUT_FILENO;
-use models::adjustments::TimeAdjustment;
-use models::high_altitude_rule::HighLatitudeRule;
-use models::madhab::Madhab;
-use models::method::Method;
-use models::parameters::Parameters;
-use models::rounding::Rounding;
-use models::shafaq::Shafaq;
 use order::reading::Order;
 use order::reading::Reading;
 use order::reading::read;
 use order::reading::town;
 
-fn word(n: u64) {
-    io::print_decimal(STDOUT_FILENO, n);
-    io::write_all(STDOUT_FILENO, b" ");
+fn wide(n: u32) -> u64
+    ensures { λ r. ⌜ r ≡ n ⌝ }
+{
+    n as u64
 }
 
-fn number(n: u32) {
-    word(n as u64);
+// Date, rows, place, choices and angles.
+fn unsigned_numbers(order: Order) -> [u64; 14]
+    ensures { λ r. ⌜ r ≡ unsignedNumbersOf order ⌝ }
+{
+    let date = order.date;
+    let place = order.coordinates;
+    let p = order.parameters;
+    let method = p.method;
+    let madhab = p.madhab;
+    let rule = p.high_latitude_rule;
+    let rounding = p.rounding;
+    let shafaq = p.shafaq;
+    [
+        wide(date.year),
+        wide(date.month),
+        wide(date.day),
+        wide(order.rows),
+        to_bits(place.latitude),
+        to_bits(place.longitude),
+        wide(method.number()),
+        wide(madhab.number()),
+        wide(rule.number()),
+        wide(rounding.number()),
+        wide(shafaq.number()),
+        to_bits(p.fajr_angle),
+        to_bits(p.isha_angle),
+        to_bits(p.maghrib_angle),
+    ]
+}
+
+// The interval, the school's own minutes and the method's.
+fn signed_numbers(order: Order) -> [i32; 13]
+    ensures { λ r. ⌜ r ≡ signedNumbersOf order ⌝ }
+{
+    let p = order.parameters;
+    let own = p.adjustments;
+    let brought = p.method_adjustments;
+    [
+        p.isha_interval,
+        own.fajr,
+        own.sunrise,
+        own.dhuhr,
+        own.asr,
+        own.maghrib,
+        own.isha,
+        brought.fajr,
+        brought.sunrise,
+        brought.dhuhr,
+        brought.asr,
+        brought.maghrib,
+        brought.isha,
+    ]
 }
 
 // Worked as an i64, which holds the size of every i32.
 fn size(m: i32) -> u64
     ensures { λ r. ⌜ r ≡ natAbs m ⌝ }
 {
-    let wide = m as i64;
-    if wide < 0 {
-        return (0 - wide) as u64;
+    let value = m as i64;
+    if value < 0 {
+        return (0 - value) as u64;
     }
-    wide as u64
+    value as u64
 }
 
-fn minutes(m: i32) {
+fn print(n: u64) {
+    io::print_decimal(STDOUT_FILENO, n);
+    io::write_all(STDOUT_FILENO, b" ");
+}
+
+fn print_signed(m: i32) {
     if m < 0 {
         io::write_all(STDOUT_FILENO, b"-");
     }
-    word(size(m));
+    print(size(m));
 }
 
-fn all_minutes(m: TimeAdjustment) {
-    minutes(m.fajr);
-    minutes(m.sunrise);
-    minutes(m.dhuhr);
-    minutes(m.asr);
-    minutes(m.maghrib);
-    minutes(m.isha);
-}
-
-fn parameters(p: Parameters) {
-    let method = p.method;
-    let madhab = p.madhab;
-    let rule = p.high_latitude_rule;
-    let rounding = p.rounding;
-    let shafaq = p.shafaq;
-    number(method.number());
-    number(madhab.number());
-    number(rule.number());
-    number(rounding.number());
-    number(shafaq.number());
-    minutes(p.isha_interval);
-    word(to_bits(p.fajr_angle));
-    word(to_bits(p.isha_angle));
-}
-
-fn record(order: Order) {
-    let date = order.date;
-    let place = order.coordinates;
-    let p = order.parameters;
-    let own = p.adjustments;
-    number(date.year);
-    number(date.month);
-    number(date.day);
-    number(order.rows);
-    word(to_bits(place.latitude));
-    word(to_bits(place.longitude));
-    parameters(p);
-    all_minutes(own);
+fn print_record(order: Order) {
+    let numbers = unsigned_numbers(order);
+    for i in 0..14 {
+        print(numbers[i]);
+    }
+    let minutes = signed_numbers(order);
+    for i in 0..13 {
+        print_signed(minutes[i]);
+    }
 }
 
 fn answer(order: &[u8]) {
     match read(order) {
         Reading::Read(given) => {
-            number(0);
-            number(0);
-            record(given);
+            print(0);
+            print(0);
+            print_record(given);
         }
         Reading::Refused(refusal) => {
-            number(refusal.number);
-            number(refusal.place);
+            print(wide(refusal.number));
+            print(wide(refusal.place));
         }
     }
     io::write_all(STDOUT_FILENO, town(order));

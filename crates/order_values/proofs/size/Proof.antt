@@ -2,8 +2,8 @@ use Rattle.order_values.proofs.Sizes.{wide-fits, turned-fits, turned-ca
 use Rattle.order_values.proofs.size.Statement.{statement}
 use Rattle.order_values.proofs.size.Tie as tie
 
-cast-wide : tie.Need-cast-wide
-cast-wide c = wide-fits (c .args .m) (c .fits .m)
+cast-value : tie.Need-cast-value
+cast-value c = wide-fits (c .args .m) (c .fits .m)
 
 sub-result : tie.Need-sub-result
 sub-result c = turned-fits (c .before .args .m) (c .before .fits .m) (c .if1 .taken)
@@ -21,4 +21,4 @@ returns-2 : tie.Need-returns-2
 returns-2 c = kept-size (c .before .args .m) (c .before .fits .m)
 
 pub size-spec : {M : Type 1} → statement M
-size-spec = tie.close (tie.spec cast-wide sub-result cast-result returns cast-result-2 returns-2)
+size-spec = tie.close (tie.spec cast-value sub-result cast-result returns cast-result-2 returns-2)
