@@ -1,5 +1,5 @@
-//! The port's hour numbers, setting_hour, season, days and orders against the crate's: see tests/crate/run, tests/crate/list and
-//! tests/crate/list-days.
+//! The port against the crate: see tests/crate/run, tests/crate/list and tests/crate/list-days.
+mod all;
 mod counts;
 mod day_crate;
 mod day_draw;
@@ -7,7 +7,9 @@ mod day_list;
 mod day_port;
 mod days;
 mod draw;
+mod hours;
 mod in_force;
+mod near_edge;
 mod numbers;
 mod order_damage;
 mod order_draw;
@@ -15,76 +17,26 @@ mod order_owed;
 mod order_port;
 mod order_read;
 mod orders;
+mod plain;
 mod row_crate;
+mod row_numbers;
 mod rows;
 mod settings;
+mod sheet_owed;
+mod sheet_port;
+mod sheets;
 mod steps;
+mod summary;
 mod tally;
+mod threads;
 mod zones;
 
-use day_list::list_days;
-use days::days;
-use draw::{Case, Draw};
-use numbers::{by_leaves, by_plain, by_port};
-use orders::orders;
-use rows::rows;
-use salah_leaves::astronomy::solar::access::Day as LeavesDay;
-use salah_plain::astronomy::solar::access::Day;
+use std::panic::catch_unwind;
 use std::process::exit;
-use steps::steps;
-use tally::Tally;
-use zones::zones;
-
-/// Returns whether all is as demand 2 has it.
-fn hours(seed: u64, pairs: u64, print_zones: bool) -> bool {
-    let mut draw = Draw(seed);
-    let mut tally = Tally::new(print_zones);
-    let mut strayed = 0;
-    for _ in 0..pairs {
-        let c = draw.case();
-        let day = Day::new(c.year, c.month, c.day, c.latitude, c.longitude);
-        let on_leaves = LeavesDay::new(c.year, c.month, c.day, c.latitude, c.longitude);
-        let port = by_port(&c);
-        tally.plain(&c, port, by_plain(&c, &day), zones(&c, &day, 1.0));
-        tally.on_leaves(&c, port, by_leaves(&c, &on_leaves));
-        strayed += !day.is_the_crates(c.fajr, c.isha, 1.0) as u64;
-        strayed += !day.is_the_crates(c.fajr, c.isha, 2.0) as u64;
-    }
-    println!("{pairs} pairs (place, date), seed {seed}\n");
-    tally.print(pairs);
-    let (unexplained, not_equal) = (tally.unexplained(), tally.not_equal_on_leaves());
-    println!("\n{unexplained} unexplained, {not_equal} not equal on our functions");
-    if strayed > 0 {
-        println!("{strayed} times access.rs strays from the crate's own times: mend it first");
-    }
-    unexplained + not_equal + strayed == 0
-}
-
-/// Prints the list for replay. Zones are taken twice as wide, so that no value stands on a zone's edge.
-fn list(seed: u64, lines: u64) {
-    let mut draw = Draw(seed);
-    for _ in 0..lines {
-        let drawn = draw.case();
-        let c = Case { isha: drawn.fajr, ..drawn };
-        let day = Day::new(c.year, c.month, c.day, c.latitude, c.longitude);
-        let (values, zones) = (by_plain(&c, &day), zones(&c, &day, 2.0));
-        print!("{:04}{:02}{:02}", c.year, c.month, c.day);
-        for input in [c.latitude, c.longitude, c.fajr] {
-            print!(" {:016x}", input.to_bits());
-        }
-        for value in 0..6 {
-            let bits = match (zones[value].contains(&true), values[value].is_nan()) {
-                (true, _) => 0x7ff8000000000001,
-                (false, true) => 0x7ff8000000000000,
-                (false, false) => values[value].to_bits(),
-            };
-            print!(" {bits:016x}");
-        }
-        println!();
-    }
-}
+use summary::Line;
 
 struct Words {
+    /// Which comparison; all of them where it is empty.
     what: String,
     seed: u64,
     size: u64,
@@ -92,10 +44,20 @@ struct Words {
     print_zones: bool,
 }
 
+fn default_size(what: &str) -> u64 {
+    match what {
+        "" => all::DEFAULT_SIZE,
+        "list" | "list-days" => 3_000,
+        "edges" => 100,
+        "sheets" => 10_000,
+        _ => 1_000_000,
+    }
+}
+
 fn words() -> Words {
-    let mut words = std::env::args().skip(1);
-    let what = words.next().unwrap_or_default();
-    let size = if what.starts_with("list") { 3_000 } else { 1_000_000 };
+    let mut words = std::env::args().skip(1).peekable();
+    let what = words.next_if(|word| !word.starts_with("--")).unwrap_or_default();
+    let size = default_size(&what);
     // each instant of an order works its row three times more
     let instants = if what == "orders" { 9 } else { 16 };
     let mut read = Words { what, seed: 1, size, instants, print_zones: false };
@@ -103,8 +65,10 @@ fn words() -> Words {
         let mut number = || words.next().and_then(|word| word.parse().ok()).unwrap_or_else(|| usage());
         match (read.what.as_str(), word.as_str()) {
             (_, "--seed") => read.seed = number(),
+            ("", "--size") => read.size = number(),
+            ("", "--long") => read.size = all::LONG_SIZE,
             ("hours", "--pairs") | ("steps", "--cases") | ("days", "--days") => read.size = number(),
-            ("rows", "--rows") | ("orders", "--orders") => read.size = number(),
+            ("rows" | "plain", "--rows") | ("edges", "--places") | ("orders" | "sheets", "--orders") => read.size = number(),
             ("list" | "list-days", "--lines") => read.size = number(),
             ("days" | "orders", "--instants") => read.instants = number(),
             ("hours", "--zones") => read.print_zones = true,
@@ -114,23 +78,49 @@ fn words() -> Words {
     read
 }
 
-fn main() {
-    let Words { what, seed, size, instants, print_zones } = words();
+/// One comparison with its own table.
+macro_rules! single {
+    ($compared:expr) => {{
+        let compared = $compared;
+        compared.print();
+        println!();
+        let lines = compared.lines();
+        summary::print(&lines);
+        lines
+    }};
+}
+
+fn compare(words: &Words) -> Vec<Line> {
+    let Words { what, seed, size, instants, print_zones } = words;
+    let (seed, size, instants) = (*seed, *size, *instants);
     match what.as_str() {
-        "hours" => exit(!hours(seed, size, print_zones) as i32),
-        "steps" => exit(!steps(seed, size) as i32),
-        "days" => exit(!days(seed, size, instants) as i32),
-        "rows" => exit(!rows(seed, size) as i32),
-        "orders" => exit(!orders(seed, size, instants) as i32),
-        "list" => list(seed, size),
-        "list-days" => list_days(seed, size),
+        "" => return all::all(seed, size),
+        "list" => hours::list(seed, size),
+        "list-days" => day_list::list_days(seed, size),
+        "hours" => return single!(hours::hours(seed, size, *print_zones)),
+        "steps" => return single!(steps::steps(seed, size)),
+        "days" => return single!(days::days(seed, size, instants)),
+        "rows" => return single!(rows::rows(seed, size)),
+        "plain" => return single!(plain::plain_rows(seed, size)),
+        "edges" => return single!(near_edge::near_edge(seed, size)),
+        "orders" => return single!(orders::orders(seed, size, instants)),
+        "sheets" => return single!(sheets::sheets(seed, size)),
         _ => usage(),
     }
+    vec![]
+}
+
+fn main() {
+    let words = words();
+    day_crate::keep_panics();
+    let lines = catch_unwind(|| compare(&words)).unwrap_or_else(|_| threads::strayed());
+    exit((summary::unexplained(&lines) > 0) as i32)
 }
 
 fn usage() -> ! {
+    eprintln!("[--seed N] [--size N] [--long], or one comparison:");
     eprintln!("hours [--seed N] [--pairs N] [--zones], steps [--seed N] [--cases N], days [--seed N] [--days N] [--instants N],");
-    eprintln!("rows [--seed N] [--rows N], orders [--seed N] [--orders N] [--instants N],");
+    eprintln!("rows or plain [--seed N] [--rows N], edges [--seed N] [--places N], orders [--seed N] [--orders N] [--instants N], sheets [--seed N] [--orders N],");
     eprintln!("list [--seed N] [--lines N] or list-days [--seed N] [--lines N]");
     exit(2)
 }

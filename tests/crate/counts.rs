@@ -1,4 +1,6 @@
 //! A table of what is compared, a line each: how often, and how often it was different. The first differences are kept in full.
+use crate::summary::Line;
+use std::ops::Range;
 
 const SHOWN: usize = 20;
 
@@ -35,17 +37,21 @@ impl<const N: usize> Counts<N> {
         self.shown.truncate(SHOWN);
     }
 
-    pub fn print(&self) {
+    pub fn print_differences(&self) {
         for (_, difference) in &self.shown {
             println!("{difference}");
         }
+    }
+
+    pub fn print(&self) {
         println!("{:<24} {:>11} {:>11}", "from equal arguments", "compared", "different");
         for line in 0..N {
             println!("{:<24} {:>11} {:>11}", self.names[line], self.compared[line], self.different[line]);
         }
     }
 
-    pub fn different(&self) -> u64 {
-        self.different.iter().sum()
+    /// Several lines as one of the whole run's table.
+    pub fn line(&self, what: &'static str, lines: Range<usize>) -> Line {
+        Line::exact(what, self.compared[lines.clone()].iter().sum(), self.different[lines].iter().sum())
     }
 }

@@ -20,7 +20,7 @@ pub const METHODS: [Method; 13] = [
     Method::Turkey,
     Method::Other,
 ];
-const MOONSIGHTING: u32 = 5;
+pub const MOONSIGHTING: u32 = 5;
 
 /// The number that stands for no prayer in force; the prayers count from 1.
 pub const NONE: u32 = 0;

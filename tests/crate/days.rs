@@ -4,6 +4,8 @@ use crate::day_draw::{midnight, DayCase, Instant, METHODS, NONE};
 use crate::day_port::{self, LeafTimes};
 use crate::draw::Draw;
 use crate::in_force::InForce;
+use crate::summary::Line;
+use std::ops::Range;
 use salah_given::given;
 use salah_given::schedule::{access, PrayerTimes};
 
@@ -31,10 +33,11 @@ struct Count {
 }
 
 #[derive(Default)]
-struct Days {
+pub struct Days {
     counts: [Count; 16],
     printed: u64,
     unknown_panics: u64,
+    with_times: u64,
     /// The crate's answers: days refused, by number and day, and instants by the prayer in force, none first.
     refused: [[u64; 3]; 3],
     in_force: [u64; 9],
@@ -74,10 +77,6 @@ impl Days {
                 }
             }
         }
-    }
-
-    fn different(&self) -> u64 {
-        self.counts.iter().map(|count| count.different).sum()
     }
 
     /// Counts a day's answers, and returns the times where both have all nine alike.
@@ -122,7 +121,8 @@ impl Days {
         }
     }
 
-    fn print(&self) {
+    pub fn print(&self) {
+        println!("{} days with times", self.with_times);
         println!("days refused, on day 0, 1 and 2: 6 {:?}, 7 {:?}, 8 {:?}", self.refused[0], self.refused[1], self.refused[2]);
         println!("instants by the prayer in force, none, then from Fajr to FajrTomorrow: {:?}\n", self.in_force);
         println!("from equal arguments      compared       equal    listed  different");
@@ -131,28 +131,48 @@ impl Days {
             println!("{name:<22}{compared:>12}{:>12}{:>10}{:>11}", n.equal, n.listed, n.different);
         }
     }
+
+    fn line(&self, what: &'static str, rows: Range<usize>) -> Line {
+        let mut line = Line::exact(what, 0, 0);
+        for count in &self.counts[rows] {
+            line.compared += count.equal + count.listed + count.different;
+            line.listed += count.listed;
+            line.unexplained += count.different;
+        }
+        line
+    }
+
+    /// A panic of the crate at no time of the sun, or a call that got no number, says nothing of the two and must not pass.
+    pub fn lines(&self) -> Vec<Line> {
+        let strayed = self.unknown_panics + given::strayed();
+        let mut lines = vec![
+            self.line("from equal hour numbers: times", 0..REFUSED_OR_NOT),
+            self.line("from equal hour numbers: refusals", REFUSED_OR_NOT..CURRENT),
+            self.line("from equal times: prayer in force, next", CURRENT..REMAINING),
+            self.line("from equal times: time remaining", REMAINING..PRESET),
+            self.line("a method's parameters", PRESET..ROWS.len()),
+        ];
+        if strayed > 0 {
+            lines.push(Line::exact("from equal hour numbers: calls that stray", strayed, strayed));
+        }
+        lines
+    }
 }
 
-/// Returns whether all are equal but for what is listed.
-pub fn days(seed: u64, size: u64, instants: u64) -> bool {
-    day_crate::keep_panics();
-    let (mut draw, mut days, mut with_times) = (Draw(seed), Days::default(), 0);
+pub fn days(seed: u64, size: u64, instants: u64) -> Days {
+    let (mut draw, mut days) = (Draw(seed), Days::default());
     days.presets();
     for _ in 0..size {
         let c = draw.day_case();
         // so that the days drawn do not hang on answers
         let mut near = Draw(draw.bits());
         if let Some((theirs, ours)) = days.day(&c) {
-            with_times += 1;
+            days.with_times += 1;
             for _ in 0..instants {
                 let at = near.instant_near(&ours.0);
                 days.instant(at, &ours.0, day_port::in_force(ours, at), day_crate::in_force(&theirs, at));
             }
         }
     }
-    println!("{size} days, {with_times} of them with times, {instants} instants each, seed {seed}");
-    days.print();
-    let (different, unknown, strayed) = (days.different(), days.unknown_panics, given::strayed());
-    println!("\n{different} different; {unknown} panics of the crate at no time of the sun; {strayed} calls that got no number");
-    different + unknown + strayed == 0
+    days
 }

@@ -4,7 +4,7 @@ use salah_plain::astronomy::solar::access::{Day, HORIZON};
 use salah_plain::models::method::Method::*;
 
 /// A date, a place and two angles as `time_for_solar_angle` gets them (below the horizon is negative).
-#[derive(Debug)]
+#[derive(Debug, Clone, Copy)]
 pub struct Case {
     pub year: u32,
     pub month: u32,

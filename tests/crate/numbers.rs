@@ -20,12 +20,24 @@ extern "C" {
     fn leaf_afternoon_number(year: u32, month: u32, day: u32, latitude: f64, longitude: f64, shadow_length: f64) -> f64;
 }
 
+/// Transit, sunrise and sunset of the case's date.
+pub fn port_sun(c: &Case) -> [f64; 3] {
+    let LeafHours { transit, sunrise, sunset } = unsafe { leaf_hour_numbers(c.year, c.month, c.day, c.latitude, c.longitude) };
+    [transit, sunrise, sunset]
+}
+
+pub fn port_angle(c: &Case, angle: f64, after_transit: bool) -> f64 {
+    unsafe { leaf_angle_number(c.year, c.month, c.day, c.latitude, c.longitude, angle, after_transit) }
+}
+
+pub fn port_afternoon(c: &Case, shadow_length: f64) -> f64 {
+    unsafe { leaf_afternoon_number(c.year, c.month, c.day, c.latitude, c.longitude, shadow_length) }
+}
+
 pub fn by_port(c: &Case) -> [f64; 7] {
-    let Case { year, month, day, latitude, longitude, .. } = *c;
-    let angle = |angle, after| unsafe { leaf_angle_number(year, month, day, latitude, longitude, angle, after) };
-    let afternoon = |shadow| unsafe { leaf_afternoon_number(year, month, day, latitude, longitude, shadow) };
-    let LeafHours { transit, sunrise, sunset } = unsafe { leaf_hour_numbers(year, month, day, latitude, longitude) };
-    [transit, sunrise, sunset, angle(c.fajr, false), angle(c.isha, true), afternoon(1.0), afternoon(2.0)]
+    let [transit, sunrise, sunset] = port_sun(c);
+    let (fajr, isha) = (port_angle(c, c.fajr, false), port_angle(c, c.isha, true));
+    [transit, sunrise, sunset, fajr, isha, port_afternoon(c, 1.0), port_afternoon(c, 2.0)]
 }
 
 /// The copies' types are their own, so the one text is written out for each.

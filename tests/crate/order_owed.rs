@@ -4,7 +4,7 @@ use crate::day_crate::Refusal;
 use crate::day_draw::{Instant, NONE};
 use crate::order_port::{KatchidulOrder, KatchidulPrayer, KatchidulRemaining};
 use crate::order_read::{read, Asked};
-use crate::row_crate;
+use crate::row_crate::on_leaves;
 use chrono::{Datelike, Duration};
 use salah_leaves::schedule::PrayerTimes;
 
@@ -35,7 +35,7 @@ impl Order<'_> {
             return Err(Refusal { number: 5, place: 3 });
         }
         let date = asked.date + Duration::days(row as i64);
-        row_crate::row(date, asked.latitude, asked.longitude, &asked.settings())
+        on_leaves::row(date, asked.latitude, asked.longitude, &asked.settings())
     }
 }
 
@@ -91,7 +91,7 @@ impl InstantAnswers {
 
     /// None in force is an answer; the next one and the time until it are refused then.
     fn of_times(times: &PrayerTimes, at: Instant) -> InstantAnswers {
-        let found = row_crate::in_force(times, at);
+        let found = on_leaves::in_force(times, at);
         let (number, place) = (0, 0);
         let none = Refusal { number: 11, place };
         InstantAnswers {

@@ -1,14 +1,14 @@
 //! Orders: what the port's calls answer on an order's bytes must be what document 01 and the crate have.
 use crate::counts::Counts;
-use crate::day_crate::{keep_panics, Refusal};
+use crate::day_crate::Refusal;
 use crate::day_draw::Instant;
 use crate::draw::Draw;
 use crate::order_damage::KINDS;
 use crate::order_owed::{InstantAnswers, Order, FARTHEST};
 use crate::order_port::{self, KatchidulDay, KatchidulOrder, ORDER_FIELDS};
+use crate::summary::Line;
+use crate::threads::shared;
 use salah_leaves::schedule::{access, PrayerTimes};
-use std::process::exit;
-use std::thread;
 
 /// What is compared, a line of the table each. The fields of the order that was read come first.
 const LINES: [&str; 30] = {
@@ -29,7 +29,7 @@ const PRAYER: usize = 27;
 const NEXT: usize = 28;
 const REMAINING: usize = 29;
 
-struct Orders {
+pub struct Orders {
     counts: Counts<{ LINES.len() }>,
     /// Orders by kind and by the number that refuses them, 0 first.
     kinds: [[u64; 6]; KINDS.len()],
@@ -42,7 +42,7 @@ struct Orders {
     no_prayer: u64,
 }
 
-fn hexadecimal(bytes: &[u8]) -> String {
+pub fn hexadecimal(bytes: &[u8]) -> String {
     bytes.iter().map(|byte| format!("{byte:02x}")).collect()
 }
 
@@ -141,7 +141,7 @@ impl Orders {
         self.no_prayer += other.no_prayer;
     }
 
-    fn print(&self) {
+    pub fn print(&self) {
         println!("{:<24} {:>9}{:>9}{:>9}{:>9}{:>9}{:>9}", "orders by refusal", "read", 1, 2, 3, 4, 5);
         let all = [0, 1, 2, 3, 4, 5].map(|number| self.kinds.iter().map(|kind| kind[number]).sum());
         for (name, [read, one, two, three, four, five]) in KINDS.iter().zip(&self.kinds).chain([(&"all", &all)]) {
@@ -153,6 +153,18 @@ impl Orders {
         println!("instants by the prayer in force, none, then from Fajr to FajrTomorrow: {:?}", self.in_force);
         println!("instants refused by themselves, or with the order, the row or the day: {}\n", self.no_prayer);
         self.counts.print();
+    }
+
+    pub fn print_differences(&self) {
+        self.counts.print_differences();
+    }
+
+    pub fn lines(&self) -> Vec<Line> {
+        vec![
+            self.counts.line("orders: fields read, or the refusal", 0..NUMBER),
+            self.counts.line("orders: nine times of a row, or the refusal", NUMBER..PRAYER),
+            self.counts.line("orders: prayer, next and remaining at an instant", PRAYER..LINES.len()),
+        ]
     }
 }
 
@@ -174,37 +186,13 @@ impl Draw {
     }
 }
 
-/// The orders of one thread of so many. Each order is drawn from a seed of its own, so that neither threads nor answers change it.
-fn share(seed: u64, size: u64, instants: u64, thread: u64, threads: u64) -> Orders {
-    let (mut seeds, mut orders) = (Draw(seed), Orders::new());
-    for number in 0..size {
-        let mut draw = Draw(seeds.bits());
-        if number % threads == thread {
-            orders.counts.case = number;
-            orders.order(&mut draw, instants);
-        }
-    }
-    orders
-}
-
-/// Panics print nothing here, so one that is no answer of the crate must be told.
-fn strayed() -> ! {
-    eprintln!("tests/crate: a panic of the comparison itself, so that it says nothing");
-    exit(2)
-}
-
-/// Returns whether all are equal.
-pub fn orders(seed: u64, size: u64, instants: u64) -> bool {
-    keep_panics();
-    let threads = thread::available_parallelism().map_or(1, |count| count.get() as u64);
-    let mut all = Orders::new();
-    thread::scope(|scope| {
-        let shares: Vec<_> = (0..threads).map(|thread| scope.spawn(move || share(seed, size, instants, thread, threads))).collect();
-        shares.into_iter().for_each(|share| all.merge(share.join().unwrap_or_else(|_| strayed())));
+/// Each order is drawn from a seed of its own, so that neither threads nor answers change it.
+pub fn orders(seed: u64, size: u64, instants: u64) -> Orders {
+    let shares = shared(seed, size, Orders::new, |orders, number, draw| {
+        orders.counts.case = number;
+        orders.order(draw, instants);
     });
-    println!("{size} orders, seed {seed}, {instants} instants for each row with times\n");
-    all.print();
-    let different = all.counts.different();
-    println!("\n{different} different");
-    different == 0
+    let mut all = Orders::new();
+    shares.into_iter().for_each(|share| all.merge(share));
+    all
 }

@@ -1,6 +1,7 @@
 //! `setting_hour` and the season: from equal arguments the crate's results and the port's must be equal.
 use crate::counts::Counts;
 use crate::draw::Draw;
+use crate::summary::Line;
 use chrono::{DateTime, TimeZone, Utc};
 use salah_plain::astronomy::ops;
 use salah_plain::astronomy::solar::access::setting_hour;
@@ -27,33 +28,57 @@ fn time(seconds: i64) -> DateTime<Utc> {
 
 const LINES: [&str; 4] = ["setting_hour", "days_since_solstice", "morning twilight", "evening twilight"];
 
-/// Returns whether all are equal.
-pub fn steps(seed: u64, cases: u64) -> bool {
-    let mut draw = Draw(seed);
-    let mut counts = Counts::new(LINES);
-    for _ in 0..cases {
-        let (value, day) = (draw.hour_number(), draw.day_number());
-        let ours = unsafe { leaf_setting_hour(value) };
-        let theirs = setting_hour(value, day);
-        let ours = if ours.found { Some(day as i64 * 86400 + ours.seconds as i64) } else { None };
-        counts.add(0, ours == theirs, || format!("setting_hour {value:e} on day {day}: {ours:?}, the crate's {theirs:?}"));
+/// Seconds from 0h of the date; none where there is no time.
+pub fn port_setting_hour(value: f64) -> Option<i64> {
+    let time = unsafe { leaf_setting_hour(value) };
+    if time.found { Some(time.seconds as i64) } else { None }
+}
 
+pub struct Steps(Counts<{ LINES.len() }>);
+
+impl Steps {
+    fn setting_hour(&mut self, draw: &mut Draw) {
+        let (value, day) = (draw.hour_number(), draw.day_number());
+        let ours = port_setting_hour(value).map(|seconds| day as i64 * 86400 + seconds);
+        let theirs = setting_hour(value, day);
+        self.0.add(0, ours == theirs, || format!("setting_hour {value:e} on day {day}: {ours:?}, the crate's {theirs:?}"));
+    }
+
+    fn season(&mut self, draw: &mut Draw) {
         let (latitude, year, ordinal, seconds) = (draw.any_latitude(), draw.year(), draw.ordinal(), draw.instant());
         let (ours, theirs) =
             (unsafe { leaf_days_since_solstice(ordinal, year, latitude) }, ops::days_since_solstice(ordinal, year, latitude));
-        counts.add(1, ours == theirs, || format!("solstice {ordinal} of {year} at {latitude}: {ours}, the crate's {theirs}"));
+        self.0.add(1, ours == theirs, || format!("solstice {ordinal} of {year} at {latitude}: {ours}, the crate's {theirs}"));
 
         let ours = unsafe { leaf_morning_twilight(latitude, ordinal, year, seconds) };
         let theirs = ops::season_adjusted_morning_twilight(latitude, ordinal, year, time(seconds)).timestamp();
-        counts.add(2, ours == theirs, || format!("morning {ordinal} of {year} at {latitude}: {ours}, the crate's {theirs}"));
+        self.0.add(2, ours == theirs, || format!("morning {ordinal} of {year} at {latitude}: {ours}, the crate's {theirs}"));
 
         for (number, shafaq) in [Shafaq::General, Shafaq::Ahmer, Shafaq::Abyad].into_iter().enumerate() {
             let ours = unsafe { leaf_evening_twilight(latitude, ordinal, year, seconds, number as u32) };
             let theirs = ops::season_adjusted_evening_twilight(latitude, ordinal, year, time(seconds), shafaq).timestamp();
-            counts.add(3, ours == theirs, || format!("evening {number} {ordinal} of {year} at {latitude}: {ours}, the crate's {theirs}"));
+            self.0.add(3, ours == theirs, || format!("evening {number} {ordinal} of {year} at {latitude}: {ours}, the crate's {theirs}"));
         }
     }
-    println!("{cases} cases, seed {seed}\n");
-    counts.print();
-    counts.different() == 0
+
+    pub fn print_differences(&self) {
+        self.0.print_differences();
+    }
+
+    pub fn print(&self) {
+        self.0.print();
+    }
+
+    pub fn lines(&self) -> Vec<Line> {
+        vec![self.0.line("setting_hour", 0..1), self.0.line("season: days and twilights", 1..4)]
+    }
+}
+
+pub fn steps(seed: u64, cases: u64) -> Steps {
+    let (mut draw, mut steps) = (Draw(seed), Steps(Counts::new(LINES)));
+    for _ in 0..cases {
+        steps.setting_hour(&mut draw);
+        steps.season(&mut draw);
+    }
+    steps
 }

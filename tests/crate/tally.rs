@@ -1,6 +1,7 @@
 //! Holds the port's hour numbers to the crate's, counts, and prints what is against demand 2.
 use crate::draw::Case;
 use crate::numbers::VALUES;
+use crate::summary::Line;
 use crate::zones::ZONES;
 
 /// An hour, by demand 2.
@@ -30,12 +31,13 @@ fn print_value(what: &str, c: &Case, value: usize, port: f64, by_crate: f64) {
     );
 }
 
-/// One kind of hour number. The first four count it against the crate as it is and leave no value out.
+/// One kind of hour number. All but the last two count it against the crate as it is and leave no value out.
 #[derive(Default, Clone, Copy)]
 struct Count {
     same: u64,
     within: u64,
     in_zone: u64,
+    in_zone_over: u64,
     unexplained: u64,
     largest: f64,
     not_equal_on_leaves: u64,
@@ -75,6 +77,7 @@ impl Tally {
             let count = &mut self.counts[value];
             if zones[value].contains(&true) {
                 count.in_zone += 1;
+                count.in_zone_over += (apart > TOLERANCE) as u64;
                 if self.print_zones && apart > TOLERANCE {
                     print_value("in a zone", c, value, port[value], by_crate[value]);
                 }
@@ -123,11 +126,19 @@ impl Tally {
         }
     }
 
-    pub fn unexplained(&self) -> u64 {
-        self.counts.iter().map(|n| n.unexplained).sum()
-    }
-
-    pub fn not_equal_on_leaves(&self) -> u64 {
-        self.counts.iter().map(|n| n.not_equal_on_leaves).sum()
+    /// A value in a zone counts there only where it is over the tolerance.
+    pub fn lines(&self, pairs: u64) -> Vec<Line> {
+        let sum = |of: fn(&Count) -> u64| self.counts.iter().map(of).sum();
+        let compared = pairs * VALUES.len() as u64;
+        vec![
+            Line {
+                what: "hour numbers as the crate is, within 0.0001",
+                compared,
+                in_zone: sum(|n| n.in_zone_over),
+                listed: 0,
+                unexplained: sum(|n| n.unexplained),
+            },
+            Line::exact("hour numbers on our fdlibm, bit for bit", compared, sum(|n| n.not_equal_on_leaves)),
+        ]
     }
 }

@@ -4,18 +4,29 @@ use salah_plain::astronomy::solar::access::{Day, HORIZON};
 
 pub const ZONES: [&str; 4] = ["arc cosine's argument", "transit fraction", "latitude", "hour angle's sine"];
 
-/// The zones that each value lies in; a margin over 1 widens all but the latitude's. The transit is worked from neither latitude
-/// nor hour angle, so only the fraction takes it out of judgement.
-pub fn zones(c: &Case, day: &Day, margin: f64) -> [[bool; 4]; 7] {
+/// The zones that a value lies in.
+pub type Inside = [bool; 4];
+
+/// The transit is worked from neither latitude nor hour angle, so only the fraction takes it out of judgement. A margin over 1
+/// widens the zone.
+pub fn of_transit(day: &Day, margin: f64) -> Inside {
     let fraction = day.transit_fraction();
-    let fraction = fraction <= margin * 1e-9 || fraction >= 1.0 - margin * 1e-9;
-    let of_angle = |angle: f64, after: bool| {
-        let (cosine, sine) = day.critical(angle, after);
-        let cosine = cosine.abs() >= 1.0 - margin * 0.000001 && cosine.abs() <= 1.0 + margin * 0.000001;
-        [cosine, fraction, c.latitude.abs() > 89.0, sine.abs() < margin * 0.01]
-    };
+    [false, fraction <= margin * 1e-9 || fraction >= 1.0 - margin * 1e-9, false, false]
+}
+
+/// A margin over 1 widens all but the latitude's.
+pub fn of_angle(day: &Day, latitude: f64, angle: f64, after: bool, margin: f64) -> Inside {
+    let (cosine, sine) = day.critical(angle, after);
+    let cosine = cosine.abs() >= 1.0 - margin * 0.000001 && cosine.abs() <= 1.0 + margin * 0.000001;
+    let [_, fraction, ..] = of_transit(day, margin);
+    [cosine, fraction, latitude.abs() > 89.0, sine.abs() < margin * 0.01]
+}
+
+/// Of the seven hour numbers of a case.
+pub fn zones(c: &Case, day: &Day, margin: f64) -> [Inside; 7] {
+    let of_angle = |angle: f64, after: bool| of_angle(day, c.latitude, angle, after, margin);
     [
-        [false, fraction, false, false],
+        of_transit(day, margin),
         of_angle(HORIZON, false),
         of_angle(HORIZON, true),
         of_angle(c.fajr, false),
