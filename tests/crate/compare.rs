@@ -71,7 +71,7 @@ fn words() -> Words {
             ("rows" | "plain", "--rows") | ("edges", "--places") | ("orders" | "sheets", "--orders") => read.size = number(),
             ("list" | "list-days", "--lines") => read.size = number(),
             ("days" | "orders", "--instants") => read.instants = number(),
-            ("hours", "--zones") => read.print_zones = true,
+            ("hours" | "plain", "--zones") => read.print_zones = true,
             _ => usage(),
         }
     }
@@ -101,7 +101,7 @@ fn compare(words: &Words) -> Vec<Line> {
         "steps" => return single!(steps::steps(seed, size)),
         "days" => return single!(days::days(seed, size, instants)),
         "rows" => return single!(rows::rows(seed, size)),
-        "plain" => return single!(plain::plain_rows(seed, size)),
+        "plain" => return single!(plain::plain_rows(seed, size, *print_zones)),
         "edges" => return single!(near_edge::near_edge(seed, size)),
         "orders" => return single!(orders::orders(seed, size, instants)),
         "sheets" => return single!(sheets::sheets(seed, size)),
@@ -120,7 +120,8 @@ fn main() {
 fn usage() -> ! {
     eprintln!("[--seed N] [--size N] [--long], or one comparison:");
     eprintln!("hours [--seed N] [--pairs N] [--zones], steps [--seed N] [--cases N], days [--seed N] [--days N] [--instants N],");
-    eprintln!("rows or plain [--seed N] [--rows N], edges [--seed N] [--places N], orders [--seed N] [--orders N] [--instants N], sheets [--seed N] [--orders N],");
+    eprintln!("rows [--seed N] [--rows N], plain [--seed N] [--rows N] [--zones], edges [--seed N] [--places N],");
+    eprintln!("orders [--seed N] [--orders N] [--instants N], sheets [--seed N] [--orders N],");
     eprintln!("list [--seed N] [--lines N] or list-days [--seed N] [--lines N]");
     exit(2)
 }

@@ -18,6 +18,9 @@ const LAST_BITS: f64 = 1e-9;
 /// As near to an edge as last bits bring a number.
 pub const NEAR: f64 = 1e-13;
 
+/// As in the sheet's header.
+const TIMES: [&str; 9] = ["fajr", "sunrise", "dhuhr", "asr", "maghrib", "isha", "middle", "qiyam", "tomorrow"];
+
 #[derive(PartialEq)]
 pub enum Verdict {
     Equal,
@@ -28,6 +31,7 @@ pub enum Verdict {
 
 #[derive(Default)]
 pub struct Plain {
+    print_zones: bool,
     rows: u64,
     in_zone: u64,
     listed: u64,
@@ -69,7 +73,12 @@ impl Plain {
         }
         let (verdict, numbers) = judge(c, settings, &ours, &theirs);
         match verdict {
-            Verdict::InZone => self.in_zone += 1,
+            Verdict::InZone => {
+                self.in_zone += 1;
+                if self.print_zones {
+                    print_row("in a zone", c, settings, &numbers, &ours, &theirs);
+                }
+            }
             Verdict::Listed => {
                 self.listed += 1;
                 print_row("listed", c, settings, &numbers, &ours, &theirs);
@@ -107,7 +116,7 @@ fn judge(c: &Case, settings: &Settings, ours: &Row, theirs: &Row) -> (Verdict, D
     (verdict, Differing { port, by_crate, moved })
 }
 
-/// The place and what moved: the hour numbers, the port's first, and the times.
+/// The place and what moved: the hour numbers, the port's first, and by how much the port's times are later.
 fn print_row(verdict: &str, c: &Case, settings: &Settings, numbers: &Differing, ours: &Row, theirs: &Row) {
     let Case { year, month, day, latitude, longitude, .. } = c;
     let Settings { method, fajr_angle, isha_angle, .. } = settings;
@@ -118,15 +127,17 @@ fn print_row(verdict: &str, c: &Case, settings: &Settings, numbers: &Differing, 
     }
     match (ours, theirs) {
         (Ok(ours), Ok(theirs)) => {
-            let apart: Vec<i64> = ours.iter().zip(theirs).map(|(ours, theirs)| ours - theirs).collect();
-            println!("; the nine times are later by {apart:?} s");
+            for time in (0..9).filter(|&time| ours[time] != theirs[time]) {
+                print!("; {} {:+} s", TIMES[time], ours[time] - theirs[time]);
+            }
+            println!();
         }
         _ => println!("; port {ours:?}, crate {theirs:?}"),
     }
 }
 
-pub fn plain_rows(seed: u64, rows: u64) -> Plain {
-    let (mut draw, mut plain) = (Draw(seed), Plain::default());
+pub fn plain_rows(seed: u64, rows: u64, print_zones: bool) -> Plain {
+    let (mut draw, mut plain) = (Draw(seed), Plain { print_zones, ..Plain::default() });
     for _ in 0..rows {
         let (c, settings) = (draw.case(), draw.settings());
         plain.row(&c, &settings);
@@ -140,7 +151,7 @@ impl Plain {
     }
 
     pub fn print(&self) {
-        let Plain { rows, in_zone, listed, unexplained } = self;
+        let Plain { rows, in_zone, listed, unexplained, .. } = self;
         println!("{rows} rows: {in_zone} differ in a zone, {listed} are listed, {unexplained} unexplained");
     }
 
