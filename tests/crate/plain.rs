@@ -1,6 +1,7 @@
 //! Whole rows against the crate as it is, whose sin, cos and the others are the platform's. A row that differs is explained only by
 //! its hour numbers: from the crate's numbers the port must give the crate's row, and each number that moved a time must lie in a zone
 //! of document 01, or so near its fellow that nothing but the last bits parts them, with an edge of setting_hour between the two.
+use crate::day_crate::Refusal;
 use crate::day_draw::{DayCase, Settings};
 use crate::day_port;
 use crate::draw::{Case, Draw};
@@ -116,6 +117,13 @@ fn judge(c: &Case, settings: &Settings, ours: &Row, theirs: &Row) -> (Verdict, D
     (verdict, Differing { port, by_crate, moved })
 }
 
+fn said(row: &Row) -> String {
+    match row {
+        Ok(_) => "nine times".to_string(),
+        Err(Refusal { number, place }) => format!("refused {number} day {place}"),
+    }
+}
+
 /// The place and what moved: the hour numbers, the port's first, and by how much the port's times are later.
 fn print_row(verdict: &str, c: &Case, settings: &Settings, numbers: &Differing, ours: &Row, theirs: &Row) {
     let Case { year, month, day, latitude, longitude, .. } = c;
@@ -132,7 +140,7 @@ fn print_row(verdict: &str, c: &Case, settings: &Settings, numbers: &Differing, 
             }
             println!();
         }
-        _ => println!("; port {ours:?}, crate {theirs:?}"),
+        _ => println!("; port {}, crate {}", said(ours), said(theirs)),
     }
 }
 
