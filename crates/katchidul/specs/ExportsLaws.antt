@@ -1,18 +1,21 @@
--- Of an order that is read, town_at and town_length are the town's own offset and length. Assumes nothing.
+-- Of an order that is read, town_at and town_length are the town's own offset and length, and the Isha interval is the record's. Assumes nothing.
 use native.Mathlib.Omega.{arith}
 use Prim.Native.Nat.{ℕ, _+_, _≤_, _<_}
 use mathlib.Core.Path.{_≡_, refl, sym, ap, _∙_}
 use mathlib.Core.Bool.{Bool, true, false}
 use mathlib.Core.List.{List, []}
+use lib.IntN.{pos}
 use lib.ListN.{length}
 use borrow.Author.Tests.{le-leb, ltb-true}
+use Rattle.integers.specs.Parts.{natural}
 use Rattle.fields.specs.FieldsLaws.{check-short, value-missing}
 use Rattle.fields.specs.Values.{offsetOf, hasOf, valueOf}
 use Rattle.order.specs.declared.reading.Order.{Order}
 use Rattle.order.specs.declared.reading.Reading.the-variants.{Read}
 use Rattle.order.specs.Reading.{readingOf, townOf}
+use Rattle.order.specs.AcceptedLaws.{read-accepted}
 use Rattle.order.specs.ReadingLaws.{read-passed, read-town}
-use Rattle.katchidul.specs.Exports.{townAtOf, townLengthOf}
+use Rattle.katchidul.specs.Exports.{townAtOf, townLengthOf, orderRead, orderIn, orderAnswerOf}
 
 module _ (s : List ℕ) (order : Order) (e : readingOf s ≡ Read order) where
   part : townOf s ≡ valueOf s 1
@@ -49,3 +52,11 @@ module _ (s : List ℕ) (order : Order) (e : readingOf s ≡ Read order) where
   town-length =
       let z = size .1 in
       rw (le-leb (length (valueOf s 1)) 1024 (omega arith)) (ap (length {A = ℕ}) (sym part))
+
+  -- an interval that is read is never below 0
+  pub interval : pos (orderAnswerOf s .«isha_interval») ≡ order .parameters .«isha_interval»
+  unfolding orderAnswerOf orderIn orderRead
+  interval =
+      let z = order .parameters .«isha_interval» in
+      let from = read-accepted s order e .«isha_interval» .1 in
+      rw e (sym (natural z (omega arith)))

@@ -113,7 +113,7 @@ fn town_length(order: &[u8]) -> u32
     0
 }
 
-// An interval that is read is never below 0.
+// An interval that is read is never below 0 (the law `interval` of specs/ExportsLaws.antt): the test shows that the cast loses nothing.
 fn interval(minutes: i32) -> u32
     ensures { λ r. ⌜ r ≡ P minutes ⌝ }
 {
@@ -215,7 +215,11 @@ pub extern "C" fn katchidul_read_order(order: &[u8]) -> KatchidulOrder
     ensures { λ r. ⌜ r ≡ orderAnswerOf (now (order .entry)) ⌝ }
 {
     match read(order) {
-        Reading::Read(record) => order_read(record, town_at(order), town_length(order)),
+        Reading::Read(record) => {
+            let at = town_at(order);
+            let length = town_length(order);
+            order_read(record, at, length)
+        }
         Reading::Refused(refusal) => order_refused(refusal),
     }
 }

@@ -45,7 +45,8 @@ use Rattle.minutes.specs.Minutes.{withOwnMinutes, LaterOrder, NotAfter, 
 held : (order : Order) → Accepted order → (prayer : Prayer) → Near (2 ^ 32) (timeAdjustmentsOf (order .parameters) prayer)
 held order h =
     let p = order .parameters in
-    carried-held p (still-carried (presetOf (p .method)) p (presets-carried (p .method)) (h .preset) (h .«fajr_angle») (h .«isha_angle») (h .«isha_interval») (h .own))
+    let interval : Near 1440 (p .«isha_interval») = (h .«isha_interval» .0, omega (arith, h .«isha_interval» .1)) in
+    carried-held p (still-carried (presetOf (p .method)) p (presets-carried (p .method)) (h .preset) (h .«fajr_angle») (h .«isha_angle») interval (h .own))
 
 -- ---- a row that the order lacks
 alike-refused : (p q : Parameters) (r : Refusal) → Moved p q (worked.Refused r) (worked.Refused r)

@@ -19,6 +19,10 @@ use Rattle.order.specs.declared.reading.Order.{Order}
 abbrev pub Within : ℕ → ℤ → Type 0
 Within n z = (P z ≤ n) × (N z ≤ n)
 
+-- z is from 0 to n
+abbrev pub UpTo : ℕ → ℤ → Type 0
+UpTo n z = (P z ≤ n) × (N z ≡ 0)
+
 abbrev pub Between : Float → Float → Float → Type 0
 Between low high x = (le low x ≡ true) × (le x high ≡ true)
 
@@ -38,6 +42,6 @@ pub record Accepted (order : Order) : Type 0 where
   -- an order's own, or the method's
   pub «fajr_angle» : Between (dec 0 0) (dec 30 0) (order .parameters .«fajr_angle»)
   pub «isha_angle» : Between (dec 0 0) (dec 30 0) (order .parameters .«isha_angle»)
-  pub «isha_interval» : Within 1440 (order .parameters .«isha_interval»)
+  pub «isha_interval» : UpTo 1440 (order .parameters .«isha_interval»)
   pub own : (prayer : Prayer) → Within 720 (minutesFor prayer (order .parameters .adjustments))
   pub preset : order .parameters .«method_adjustments» ≡ presetOf (order .parameters .method) .«method_adjustments»

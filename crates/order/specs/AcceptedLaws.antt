@@ -31,7 +31,7 @@ use Rattle.order.specs.declared.reading.Reading.the-variants.{Read}
 use Rattle.order.specs.Given.{dateIn, rowsIn, degreesIn, minutesIn, degreesOr, minutesOr, intervalOr, parametersIn}
 use Rattle.order.specs.Ranges.{dateFits, rowsFit, degreesFit, minuteFits, minutesFit, intervalFits, fitsOf}
 use Rattle.order.specs.Reading.{orderOf, readingOf}
-use Rattle.order.specs.Accepted.{Within, Between, DateInOrder, Accepted}
+use Rattle.order.specs.Accepted.{Within, UpTo, Between, DateInOrder, Accepted}
 use Rattle.order.specs.RowDates.{row-in-order}
 use Rattle.order.specs.ReadingLaws.{Passed, read-passed, has-required, fits-given}
 
@@ -99,15 +99,15 @@ angle-or s tag missing fits otherwise = go (hasOf s tag) fits
     go true f = degrees-between (dec 0 0) (dec 30 0) (valueOf s tag) (f refl)
     go false f = otherwise
 
-interval-or : (s : List ℕ) (missing : ℤ) → (hasOf s 14 ≡ true → intervalFits (valueOf s 14) ≡ true) → Within 1440 missing
-    → Within 1440 (intervalOr s missing)
+interval-or : (s : List ℕ) (missing : ℤ) → (hasOf s 14 ≡ true → intervalFits (valueOf s 14) ≡ true) → UpTo 1440 missing
+    → UpTo 1440 (intervalOr s missing)
 unfolding intervalOr intervalFits
 interval-or s missing fits otherwise = go (hasOf s 14) fits
   where
     go : (b : Bool) → (b ≡ true → (leb 0 (unsignedOf (valueOf s 14) 0) && leb (unsignedOf (valueOf s 14) 0) 1440) ≡ true)
-        → Within 1440 (cond b (pos (unsignedOf (valueOf s 14) 0)) missing)
+        → UpTo 1440 (cond b (pos (unsignedOf (valueOf s 14) 0)) missing)
     go true f =
-        (leb-true (unsignedOf (valueOf s 14) 0) 1440 (both (leb 0 (unsignedOf (valueOf s 14) 0)) (leb (unsignedOf (valueOf s 14) 0) 1440) (f refl) .1), lit≤ tt)
+        (leb-true (unsignedOf (valueOf s 14) 0) 1440 (both (leb 0 (unsignedOf (valueOf s 14) 0)) (leb (unsignedOf (valueOf s 14) 0) 1440) (f refl) .1), refl)
     go false f = otherwise
 
 none-fit : minutesFit noMinutes ≡ true
@@ -129,23 +129,23 @@ pub record Brought (method : Method) : Type 0 where
   pub named : presetOf method .method ≡ method
   pub fajr : Between (dec 0 0) (dec 30 0) (presetOf method .«fajr_angle»)
   pub isha : Between (dec 0 0) (dec 30 0) (presetOf method .«isha_angle»)
-  pub interval : Within 1440 (presetOf method .«isha_interval»)
+  pub interval : UpTo 1440 (presetOf method .«isha_interval»)
 
 pub brought : (method : Method) → Brought method
 unfolding presetOf preset dec round le
-brought MuslimWorldLeague = record { named = refl; fajr = (refl, refl); isha = (refl, refl); interval = (lit≤ tt, lit≤ tt) }
-brought Egyptian = record { named = refl; fajr = (refl, refl); isha = (refl, refl); interval = (lit≤ tt, lit≤ tt) }
-brought Karachi = record { named = refl; fajr = (refl, refl); isha = (refl, refl); interval = (lit≤ tt, lit≤ tt) }
-brought UmmAlQura = record { named = refl; fajr = (refl, refl); isha = (refl, refl); interval = (lit≤ tt, lit≤ tt) }
-brought Dubai = record { named = refl; fajr = (refl, refl); isha = (refl, refl); interval = (lit≤ tt, lit≤ tt) }
-brought MoonsightingCommittee = record { named = refl; fajr = (refl, refl); isha = (refl, refl); interval = (lit≤ tt, lit≤ tt) }
-brought NorthAmerica = record { named = refl; fajr = (refl, refl); isha = (refl, refl); interval = (lit≤ tt, lit≤ tt) }
-brought Kuwait = record { named = refl; fajr = (refl, refl); isha = (refl, refl); interval = (lit≤ tt, lit≤ tt) }
-brought Qatar = record { named = refl; fajr = (refl, refl); isha = (refl, refl); interval = (lit≤ tt, lit≤ tt) }
-brought Singapore = record { named = refl; fajr = (refl, refl); isha = (refl, refl); interval = (lit≤ tt, lit≤ tt) }
-brought Tehran = record { named = refl; fajr = (refl, refl); isha = (refl, refl); interval = (lit≤ tt, lit≤ tt) }
-brought Turkey = record { named = refl; fajr = (refl, refl); isha = (refl, refl); interval = (lit≤ tt, lit≤ tt) }
-brought Other = record { named = refl; fajr = (refl, refl); isha = (refl, refl); interval = (lit≤ tt, lit≤ tt) }
+brought MuslimWorldLeague = record { named = refl; fajr = (refl, refl); isha = (refl, refl); interval = (lit≤ tt, refl) }
+brought Egyptian = record { named = refl; fajr = (refl, refl); isha = (refl, refl); interval = (lit≤ tt, refl) }
+brought Karachi = record { named = refl; fajr = (refl, refl); isha = (refl, refl); interval = (lit≤ tt, refl) }
+brought UmmAlQura = record { named = refl; fajr = (refl, refl); isha = (refl, refl); interval = (lit≤ tt, refl) }
+brought Dubai = record { named = refl; fajr = (refl, refl); isha = (refl, refl); interval = (lit≤ tt, refl) }
+brought MoonsightingCommittee = record { named = refl; fajr = (refl, refl); isha = (refl, refl); interval = (lit≤ tt, refl) }
+brought NorthAmerica = record { named = refl; fajr = (refl, refl); isha = (refl, refl); interval = (lit≤ tt, refl) }
+brought Kuwait = record { named = refl; fajr = (refl, refl); isha = (refl, refl); interval = (lit≤ tt, refl) }
+brought Qatar = record { named = refl; fajr = (refl, refl); isha = (refl, refl); interval = (lit≤ tt, refl) }
+brought Singapore = record { named = refl; fajr = (refl, refl); isha = (refl, refl); interval = (lit≤ tt, refl) }
+brought Tehran = record { named = refl; fajr = (refl, refl); isha = (refl, refl); interval = (lit≤ tt, refl) }
+brought Turkey = record { named = refl; fajr = (refl, refl); isha = (refl, refl); interval = (lit≤ tt, refl) }
+brought Other = record { named = refl; fajr = (refl, refl); isha = (refl, refl); interval = (lit≤ tt, refl) }
 
 -- ---- the record
 accepted : (s : List ℕ) (order : Order) → Passed s order → Accepted (orderOf s)

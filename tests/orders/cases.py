@@ -1,0 +1,172 @@
+#!/usr/bin/env python3
+# Makes the orders that crates/order_values reads, good ones and ones damaged in every way, and what it must write of them:
+#     tests/orders/cases.py ORDERS LINES
+# The lines come from a reader written here from document 01 and the crate's method.rs alone. Deterministic.
+import datetime
+import random
+import struct
+import sys
+
+LENGTHS = {1: range(1, 41), 2: [4], 3: [1], 4: [8], 5: [8], 6: [1], 7: [1], 8: [1], 9: [1], 10: [1], 11: [12], 12: [8], 13: [8], 14: [2]}
+# By method: Fajr, Isha and Maghrib angle, interval, rounding, and the minutes for sunrise, Dhuhr, Asr and Maghrib.
+METHODS = [(18.0, 17.0, 0.0, 0, 0, (0, 1, 0, 0)), (19.5, 17.5, 0.0, 0, 0, (0, 1, 0, 0)), (18.0, 18.0, 0.0, 0, 0, (0, 1, 0, 0)), (18.5, 0.0, 0.0, 90, 0, (0, 0, 0, 0)),
+           (18.2, 18.2, 0.0, 0, 0, (-3, 3, 3, 3)), (18.0, 18.0, 0.0, 0, 0, (0, 5, 0, 3)), (15.0, 15.0, 0.0, 0, 0, (0, 1, 0, 0)), (18.0, 17.5, 0.0, 0, 0, (0, 0, 0, 0)),
+           (18.0, 0.0, 0.0, 90, 0, (0, 0, 0, 0)), (20.0, 18.0, 0.0, 0, 1, (0, 1, 0, 0)), (17.7, 14.0, 4.5, 0, 0, (0, 0, 0, 0)), (18.0, 17.0, 0.0, 0, 0, (-7, 5, 4, 7)),
+           (0.0, 0.0, 0.0, 0, 0, (0, 0, 0, 0))]
+LAST = datetime.date(2199, 12, 31)
+
+
+def field(tag, value):
+    return bytes([tag]) + struct.pack(">H", len(value)) + value
+
+
+def join(fields):
+    return b"".join(field(tag, value) for tag, value in fields)
+
+
+def real(value):
+    x = struct.unpack(">d", value)[0]
+    return 0.0 if x == 0.0 else x
+
+
+def fields_of(order):
+    """The values by tag, or the refusal."""
+    if len(order) > 1024:
+        return None, (1, 0)
+    values, at = {}, 0
+    while at < len(order):
+        if len(order) - at < 3:
+            return None, (1, at)
+        tag, size = order[at], order[at + 1] * 256 + order[at + 2]
+        if tag not in LENGTHS:
+            return None, (2, at)
+        if tag in values:
+            return None, (3, at)
+        if size not in LENGTHS[tag]:
+            return None, (2, at)
+        if len(order) - at - 3 < size:
+            return None, (1, at)
+        values[tag] = order[at + 3:at + 3 + size]
+        at += 3 + size
+    return values, None
+
+
+def date_of(value):
+    try:
+        return datetime.date(value[0] * 256 + value[1], value[2], value[3])
+    except ValueError:
+        return None
+
+
+def in_range(values, tag):
+    value = values[tag]
+    if tag == 1:
+        return all(32 <= byte <= 126 for byte in value)
+    if tag == 2:
+        date = date_of(value)
+        return date is not None and 1900 <= date.year <= 2199
+    if tag == 3:
+        return 1 <= value[0] <= 250 and (LAST - date_of(values[2])).days >= value[0] - 1
+    if tag in (4, 5, 12, 13):
+        low, high = {4: (-90, 90), 5: (-180, 180), 12: (0, 30), 13: (0, 30)}[tag]
+        return low <= real(value) <= high
+    if tag == 11:
+        return all(-720 <= minutes <= 720 for minutes in struct.unpack(">6h", value))
+    if tag == 14:
+        return struct.unpack(">H", value)[0] <= 1440
+    low, high = {6: (0, 12), 7: (1, 2), 8: (0, 2), 9: (0, 2), 10: (0, 2)}[tag]
+    return low <= value[0] <= high
+
+
+def line(order):
+    values, refusal = fields_of(order)
+    if refusal is None:
+        refusal = next(((4, tag) for tag in range(1, 7) if tag not in values), None)
+    if refusal is None:
+        refusal = next(((5, tag) for tag in range(1, 15) if tag in values and not in_range(values, tag)), None)
+    if refusal is not None:
+        return b"%d %d \n" % refusal
+    date, method = date_of(values[2]), values[6][0]
+    fajr, isha, maghrib, interval, rounding, brought = METHODS[method]
+    angle = lambda tag, missing: real(values[tag]) if tag in values else missing
+    one = lambda tag, missing: values[tag][0] if tag in values else missing
+    bits = lambda x: struct.unpack(">Q", struct.pack(">d", x))[0]
+    own = struct.unpack(">6h", values.get(11, bytes(12)))
+    minutes = struct.unpack(">H", values[14])[0] if 14 in values else interval
+    numbers = [0, 0, date.year, date.month, date.day, values[3][0], bits(real(values[4])), bits(real(values[5])), method, one(7, 1), one(8, 0),
+               one(9, rounding), one(10, 0), bits(angle(12, fajr)), bits(angle(13, isha)), bits(maghrib), minutes, *own, 0, *brought, 0]
+    return b"".join(b"%d " % n for n in numbers) + values[1] + b"\n"
+
+
+def good(draw):
+    """A good order, now and then at an end of a range."""
+    date = datetime.date(1900, 1, 1) + datetime.timedelta(draw.choice([0, draw.randrange(109572), 109571]))
+    rows = draw.choice([1, draw.randint(1, 250), 250])
+    rows = min(rows, (LAST - date).days + 1)
+    double = lambda low, high: struct.pack(">d", draw.choice([low, high, -0.0, 0.0, draw.uniform(low, high)]))
+    fields = [(1, bytes(draw.choice([32, 126, draw.randint(32, 126)]) for _ in range(draw.choice([1, 40, draw.randint(1, 40)])))),
+              (2, struct.pack(">HBB", date.year, date.month, date.day)), (3, bytes([rows])), (4, double(-90.0, 90.0)), (5, double(-180.0, 180.0)),
+              (6, bytes([draw.randrange(13)]))]
+    more = [(7, bytes([draw.randint(1, 2)])), (8, bytes([draw.randrange(3)])), (9, bytes([draw.randrange(3)])), (10, bytes([draw.randrange(3)])),
+            (11, struct.pack(">6h", *[draw.choice([-720, 720, 0, draw.randint(-720, 720)]) for _ in range(6)])), (12, double(0.0, 30.0)),
+            (13, double(0.0, 30.0)), (14, struct.pack(">H", draw.choice([0, 1440, draw.randint(0, 1440)])))]
+    fields += [f for f in more if draw.random() < 0.5]
+    draw.shuffle(fields)
+    return fields
+
+
+def out_of_range(draw, tag, value):
+    if tag in (4, 5, 12, 13):
+        return struct.pack(">d", draw.choice([float("nan"), float("inf"), float("-inf"), -90.00000000000001, 90.00000000000001, -180.00000000000003,
+                                              180.00000000000003, -5e-324, 30.000000000000004]))
+    return bytes(draw.choice([byte, byte ^ 1, byte ^ 128, 0, 255, draw.randrange(256)]) for byte in value)
+
+
+def damaged(draw):
+    fields = good(draw)
+    kind = draw.randrange(9)
+    place = draw.randrange(len(fields))
+    tag, value = fields[place]
+    if kind == 0:
+        del fields[place]
+    elif kind == 1:
+        fields.insert(draw.randrange(len(fields) + 1), (tag, draw.choice([value, b""])))
+    elif kind == 2:
+        fields[place] = (draw.choice([0, 15, 99, 255]), value)
+    elif kind == 3:
+        fields[place] = (tag, draw.choice([value + b" ", value[:-1], b""]))
+    elif kind <= 5:
+        fields[place] = (tag, out_of_range(draw, tag, value))
+    order = join(fields)
+    if kind == 6:
+        order = order[:draw.randrange(len(order))]
+    elif kind == 7:
+        at = draw.randrange(len(order))
+        order = order[:at] + bytes([draw.randrange(256)]) + order[at + 1:]
+    elif kind == 8:
+        order = bytes(draw.randrange(256) for _ in range(draw.randrange(40)))
+    return order
+
+
+def marked(draw):
+    """Document 01's own examples, and points where the order of the checks tells."""
+    pole = [(1, b"Pole"), (2, struct.pack(">HBB", 2026, 6, 21)), (3, b"\1"), (4, struct.pack(">d", 90.0)), (5, bytes(8)), (6, b"\0")]
+    whole = join(pole)
+    dated = lambda year, month, day, rows: join([pole[0], (2, struct.pack(">HBB", year, month, day)), (3, bytes([rows])), *pole[3:]])
+    long = whole + bytes(1024 - len(whole))
+    return [whole, b"", b"\1\0", b"\x63", field(99, b""), whole + field(1, b"Pole"), whole + b"\1\0\0", whole + b"\7\0\2", dated(2026, 13, 1, 1),
+            dated(2026, 4, 31, 0), dated(2026, 4, 30, 0), dated(2199, 12, 31, 1), dated(2199, 12, 31, 2), dated(1900, 1, 1, 251), dated(1899, 12, 31, 1),
+            dated(2200, 1, 1, 1), dated(2023, 2, 29, 1), dated(2024, 2, 29, 1), long, long + b"\0", whole + field(7, b"\1"), whole + field(12, struct.pack(">d", -0.0))]
+
+
+def main():
+    draw = random.Random(1)
+    orders = marked(draw) + [join(good(draw)) for _ in range(1000)] + [damaged(draw) for _ in range(3000)]
+    with open(sys.argv[1], "wb") as out:
+        out.write(b"".join(struct.pack(">H", len(order)) + order for order in orders))
+    with open(sys.argv[2], "wb") as out:
+        out.write(b"".join(map(line, orders)))
+
+
+if __name__ == "__main__":
+    main()
