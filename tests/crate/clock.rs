@@ -1,9 +1,16 @@
+//! A module of the copies salah_leaves and salah_given: an instant that is handed in, in place of the clock that schedule.rs reads.
+use chrono::{DateTime, TimeZone, Utc};
+use std::cell::Cell;
 
-/// Appended to salah_given's copy of schedule.rs, whose clock is given.
-pub mod clock_access {
-    use super::*;
+thread_local! {
+    static NOW: Cell<DateTime<Utc>> = Cell::new(DateTime::default());
+}
 
-    pub fn current_time(times: &PrayerTimes) -> Option<Prayer> {
-        times.current_time(crate::given::now())
-    }
+pub fn set_now(seconds: i64, nanoseconds: u32) {
+    NOW.set(Utc.timestamp_opt(seconds, nanoseconds).unwrap())
+}
+
+/// In place of `Utc::now`.
+pub fn now() -> DateTime<Utc> {
+    NOW.get()
 }

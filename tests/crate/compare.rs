@@ -1,12 +1,21 @@
-//! The port's hour numbers, setting_hour, season and days against the crate's: see tests/crate/run, tests/crate/list and
+//! The port's hour numbers, setting_hour, season, days and orders against the crate's: see tests/crate/run, tests/crate/list and
 //! tests/crate/list-days.
+mod counts;
 mod day_crate;
 mod day_draw;
 mod day_list;
 mod day_port;
 mod days;
 mod draw;
+mod in_force;
 mod numbers;
+mod order_damage;
+mod order_draw;
+mod order_owed;
+mod order_port;
+mod order_read;
+mod orders;
+mod row_crate;
 mod rows;
 mod settings;
 mod steps;
@@ -17,6 +26,7 @@ use day_list::list_days;
 use days::days;
 use draw::{Case, Draw};
 use numbers::{by_leaves, by_plain, by_port};
+use orders::orders;
 use rows::rows;
 use salah_leaves::astronomy::solar::access::Day as LeavesDay;
 use salah_plain::astronomy::solar::access::Day;
@@ -86,14 +96,17 @@ fn words() -> Words {
     let mut words = std::env::args().skip(1);
     let what = words.next().unwrap_or_default();
     let size = if what.starts_with("list") { 3_000 } else { 1_000_000 };
-    let mut read = Words { what, seed: 1, size, instants: 16, print_zones: false };
+    // each instant of an order works its row three times more
+    let instants = if what == "orders" { 9 } else { 16 };
+    let mut read = Words { what, seed: 1, size, instants, print_zones: false };
     while let Some(word) = words.next() {
         let mut number = || words.next().and_then(|word| word.parse().ok()).unwrap_or_else(|| usage());
         match (read.what.as_str(), word.as_str()) {
             (_, "--seed") => read.seed = number(),
-            ("hours", "--pairs") | ("steps", "--cases") | ("days", "--days") | ("rows", "--rows") => read.size = number(),
+            ("hours", "--pairs") | ("steps", "--cases") | ("days", "--days") => read.size = number(),
+            ("rows", "--rows") | ("orders", "--orders") => read.size = number(),
             ("list" | "list-days", "--lines") => read.size = number(),
-            ("days", "--instants") => read.instants = number(),
+            ("days" | "orders", "--instants") => read.instants = number(),
             ("hours", "--zones") => read.print_zones = true,
             _ => usage(),
         }
@@ -108,6 +121,7 @@ fn main() {
         "steps" => exit(!steps(seed, size) as i32),
         "days" => exit(!days(seed, size, instants) as i32),
         "rows" => exit(!rows(seed, size) as i32),
+        "orders" => exit(!orders(seed, size, instants) as i32),
         "list" => list(seed, size),
         "list-days" => list_days(seed, size),
         _ => usage(),
@@ -116,6 +130,7 @@ fn main() {
 
 fn usage() -> ! {
     eprintln!("hours [--seed N] [--pairs N] [--zones], steps [--seed N] [--cases N], days [--seed N] [--days N] [--instants N],");
-    eprintln!("rows [--seed N] [--rows N], list [--seed N] [--lines N] or list-days [--seed N] [--lines N]");
+    eprintln!("rows [--seed N] [--rows N], orders [--seed N] [--orders N] [--instants N],");
+    eprintln!("list [--seed N] [--lines N] or list-days [--seed N] [--lines N]");
     exit(2)
 }

@@ -1,28 +1,20 @@
 //! What the crate answers: its own `PrayerTimes` from hour numbers that are handed in; a panic stands for a refusal or for none.
-use crate::day_draw::{DayCase, Instant};
+use crate::day_draw::DayCase;
+use crate::in_force::in_force_of;
 use crate::settings::parameters_of;
 use salah_given::astronomy::unit::Coordinates;
 use salah_given::given;
-use salah_given::models::prayer::Prayer;
-use salah_given::schedule::{clock_access, PrayerTimes};
+use salah_given::schedule::PrayerTimes;
 use std::cell::RefCell;
-use std::panic::{catch_unwind, set_hook, AssertUnwindSafe};
+use std::panic::{catch_unwind, set_hook};
 
 const SOLAR: &str = include_str!("../../salah_given/src/astronomy/solar.rs");
 
-/// Document 01's numbers; (0, 0) is a panic that it has none for.
+/// Document 01's numbers and places; (0, 0) is a panic that it has none for.
 #[derive(Debug, Clone, Copy, PartialEq)]
 pub struct Refusal {
     pub number: u32,
-    pub day: u32,
-}
-
-/// The prayer in force, the next one, hours and minutes to it. Prayers count from 1.
-#[derive(Debug, Clone, Copy, PartialEq)]
-pub struct InForce {
-    pub current: Option<u32>,
-    pub next: Option<u32>,
-    pub remaining: Option<(u32, u32)>,
+    pub place: u32,
 }
 
 thread_local! {
@@ -52,12 +44,13 @@ pub fn refused_number(solar: &str) -> u32 {
 /// The day is told by the suns begun.
 fn refusal() -> Refusal {
     match refused_number(SOLAR) {
-        0 => Refusal { number: 0, day: 0 },
-        number => Refusal { number, day: given::suns_begun() as u32 - 1 },
+        0 => Refusal { number: 0, place: 0 },
+        number => Refusal { number, place: given::suns_begun() as u32 - 1 },
     }
 }
 
 parameters_of!(salah_given);
+in_force_of!(salah_given);
 
 pub fn day(c: &DayCase) -> Result<PrayerTimes, Refusal> {
     let parameters = parameters(&c.settings);
@@ -65,15 +58,4 @@ pub fn day(c: &DayCase) -> Result<PrayerTimes, Refusal> {
     let coordinates = Coordinates::new(c.latitude, 0.0);
     given::begin(c.numbers, c.settings.fajr_angle, c.settings.isha_angle);
     catch_unwind(|| PrayerTimes::new(c.date, coordinates, parameters)).map_err(|_| refusal())
-}
-
-/// The crate's `next` and `time_remaining` panic where no prayer is in force.
-pub fn in_force(times: &PrayerTimes, instant: Instant) -> InForce {
-    given::set_now(instant.seconds, instant.nanoseconds);
-    let number = |prayer: Prayer| prayer as u32 + 1;
-    InForce {
-        current: clock_access::current_time(times).map(number),
-        next: catch_unwind(AssertUnwindSafe(|| times.next())).ok().map(number),
-        remaining: catch_unwind(AssertUnwindSafe(|| times.time_remaining())).ok(),
-    }
 }

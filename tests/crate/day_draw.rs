@@ -127,7 +127,7 @@ impl Draw {
         numbers
     }
 
-    fn date(&mut self) -> NaiveDate {
+    pub fn date(&mut self) -> NaiveDate {
         if self.below(4) == 0 {
             let (year, ordinal) = (self.year() as i32, ORDINALS[self.below(18) as usize] as u32);
             return NaiveDate::from_yo_opt(year, ordinal).unwrap_or(NaiveDate::from_ymd_opt(year, 12, 31).unwrap());
@@ -145,7 +145,7 @@ impl Draw {
         latitude.clamp(-90.0, 90.0)
     }
 
-    fn minutes(&mut self) -> i32 {
+    pub fn minutes(&mut self) -> i32 {
         match self.below(8) {
             0..=2 => 0,
             3..=5 => self.below(121) as i32 - 60,

@@ -48,7 +48,7 @@ fn print_line(c: &DayCase, mut instant: impl FnMut(&[i64; 9], usize) -> Instant)
             }
         }
         Err(refusal) => {
-            print!(" {:08}{}", refusal.number * 10 + refusal.day, " 00000000".repeat(9));
+            print!(" {:08}{}", refusal.number * 10 + refusal.place, " 00000000".repeat(9));
             print!("{}", " 0000000000000000 00000000".repeat(INSTANTS));
         }
     }

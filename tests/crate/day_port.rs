@@ -1,7 +1,8 @@
 //! What the port answers, by the exports of crates/day_leaves.
-use crate::day_crate::{InForce, Refusal};
+use crate::day_crate::Refusal;
 use crate::day_draw::{DayCase, Instant, Settings, NONE};
 use crate::draw::Case;
+use crate::in_force::InForce;
 use chrono::Datelike;
 use salah_given::given::Numbers;
 
@@ -55,7 +56,7 @@ pub fn row(c: &Case, settings: &Settings) -> Result<LeafTimes, Refusal> {
 fn answered(worked: LeafDay) -> Result<LeafTimes, Refusal> {
     match worked.number {
         0 => Ok(worked.times),
-        number => Err(Refusal { number, day: worked.place }),
+        number => Err(Refusal { number, place: worked.place }),
     }
 }
 

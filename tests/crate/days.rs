@@ -1,8 +1,9 @@
 //! Days and the prayer in force: from equal hour numbers the crate's answers and the port's must be equal.
-use crate::day_crate::{self, InForce, Refusal};
+use crate::day_crate::{self, Refusal};
 use crate::day_draw::{midnight, DayCase, Instant, METHODS, NONE};
 use crate::day_port::{self, LeafTimes};
 use crate::draw::Draw;
+use crate::in_force::InForce;
 use salah_given::given;
 use salah_given::schedule::{access, PrayerTimes};
 
@@ -47,7 +48,7 @@ pub fn answer(day: Result<[i64; 9], Refusal>) -> Answer {
     rows[REFUSED_OR_NOT] = Some(day.is_err() as i64);
     match day {
         Ok(times) => rows[..9].copy_from_slice(&times.map(Some)),
-        Err(refusal) => (rows[NUMBER], rows[DAY]) = (Some(refusal.number as i64), Some(refusal.day as i64)),
+        Err(refusal) => (rows[NUMBER], rows[DAY]) = (Some(refusal.number as i64), Some(refusal.place as i64)),
     }
     rows
 }
@@ -87,7 +88,7 @@ impl Days {
         let (port, by_crate) = (answer(our_day), answer(their_day));
         match theirs {
             Err(Refusal { number: 0, .. }) => self.unknown_panics += 1,
-            Err(refusal) => self.refused[refusal.number as usize - 6][refusal.day as usize] += 1,
+            Err(refusal) => self.refused[refusal.number as usize - 6][refusal.place as usize] += 1,
             Ok(_) => {}
         }
         let listed = without == Some(port);

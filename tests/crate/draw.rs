@@ -140,6 +140,10 @@ impl Draw {
         let (first, end) = (NaiveDate::from_ymd_opt(1900, 1, 1).unwrap(), NaiveDate::from_ymd_opt(2200, 1, 1).unwrap());
         let days = end.signed_duration_since(first).num_days() as u64;
         let date = first + Duration::days(self.below(days) as i64);
+        self.case_on(date)
+    }
+
+    pub fn case_on(&mut self, date: NaiveDate) -> Case {
         let (year, month, day) = (date.year() as u32, date.month(), date.day());
 
         let methods = [

@@ -1,7 +1,6 @@
-//! A module of the copy salah_given: hour numbers and an instant that are handed in, in place of what ops works out and of the clock.
+//! A module of the copy salah_given: hour numbers that are handed in, in place of what ops works out.
 //! Each call of the crate is told by its sun and its place in that sun's calls, and must ask for what that call asks for.
 use crate::astronomy::unit::{Angle, Coordinates};
-use chrono::{DateTime, TimeZone, Utc};
 use std::cell::RefCell;
 
 /// A sun's three numbers stand at `3 * day`: transit, sunrise, sunset, for the date, the next one and the one after that.
@@ -24,7 +23,6 @@ struct Given {
     /// How many hour angles each sun was asked for.
     asked: [usize; 3],
     strayed: u64,
-    now: DateTime<Utc>,
 }
 
 thread_local! {
@@ -48,15 +46,6 @@ pub fn suns_begun() -> usize {
 /// How often a call was none of those that schedule.rs makes: the numbers handed out then say nothing.
 pub fn strayed() -> u64 {
     GIVEN.with_borrow(|given| given.strayed)
-}
-
-pub fn set_now(seconds: i64, nanoseconds: u32) {
-    GIVEN.with_borrow_mut(|given| given.now = Utc.timestamp_opt(seconds, nanoseconds).unwrap())
-}
-
-/// In place of `Utc::now`.
-pub fn now() -> DateTime<Utc> {
-    GIVEN.with_borrow(|given| given.now)
 }
 
 /// In place of `ops::corrected_transit`, the first that a sun asks for.

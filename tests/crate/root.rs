@@ -1,4 +1,4 @@
-//! The root of both copies of the crate: its modules, and what the installed chrono lacks.
+//! The root of each copy of the crate: its modules, and what the installed chrono lacks.
 #![allow(warnings)]
 
 pub mod astronomy {

@@ -1,28 +1,20 @@
 //! Whole rows: from equal dates, places and parameters the port's answers and those of the crate on our functions must be equal.
-use crate::day_crate::{keep_panics, refused_number};
+use crate::day_crate::{keep_panics, Refusal};
 use crate::day_draw::{NaiveDate, Settings};
 use crate::day_port;
 use crate::draw::{Case, Draw};
-use crate::settings::parameters_of;
-use salah_leaves::astronomy::unit::Coordinates;
-use salah_leaves::schedule::{access, PrayerTimes};
-use std::panic::catch_unwind;
+use crate::row_crate;
+use salah_leaves::schedule::access;
 
-const SOLAR: &str = include_str!("../../salah_leaves/src/astronomy/solar.rs");
-
-parameters_of!(salah_leaves);
-
-/// The nine times, or the refusal's number: the crate's panic does not tell the day.
-type Row = Result<[i64; 9], u32>;
+type Row = Result<[i64; 9], Refusal>;
 
 fn by_crate(c: &Case, settings: &Settings) -> Row {
     let date = NaiveDate::from_ymd_opt(c.year as i32, c.month, c.day).unwrap();
-    let (coordinates, parameters) = (Coordinates::new(c.latitude, c.longitude), parameters(settings));
-    catch_unwind(|| PrayerTimes::new(date, coordinates, parameters)).map(|times| access::nine(&times)).map_err(|_| refused_number(SOLAR))
+    row_crate::row(date, c.latitude, c.longitude, settings).map(|times| access::nine(&times))
 }
 
 fn by_port(c: &Case, settings: &Settings) -> Row {
-    day_port::row(c, settings).map(|times| times.0).map_err(|refusal| refusal.number)
+    day_port::row(c, settings).map(|times| times.0)
 }
 
 /// Returns whether all are equal.

@@ -18,4 +18,9 @@ pub mod access {
         ]
         .map(|time| time.timestamp())
     }
+
+    /// At the instant that the clock is given.
+    pub fn current_time(times: &PrayerTimes) -> Option<Prayer> {
+        times.current_time(crate::clock::now())
+    }
 }

@@ -1,0 +1,205 @@
+//! Document 01's reading of an order ("The order"), in plain Rust and from its text alone: what katchidul_read_order is held to.
+use crate::day_crate::Refusal;
+use crate::day_draw::{NaiveDate, Settings, METHODS};
+use chrono::{Datelike, Duration};
+use std::ops::{Range, RangeInclusive};
+
+/// Over this an order is refused unread.
+pub const LONGEST: usize = 1_024;
+pub const LAST_TAG: u8 = 14;
+
+/// What an order asks for. The tags that a method answers for where they are missing are none then.
+#[derive(Debug)]
+pub struct Asked {
+    pub town: Range<usize>,
+    pub date: NaiveDate,
+    pub rows: u32,
+    pub latitude: f64,
+    pub longitude: f64,
+    pub method: u32,
+    pub madhab: u32,
+    pub high_latitude_rule: u32,
+    pub rounding: Option<u32>,
+    pub shafaq: u32,
+    pub minutes: [i32; 6],
+    pub fajr_angle: Option<f64>,
+    pub isha_angle: Option<f64>,
+    pub isha_interval: Option<i32>,
+}
+
+impl Asked {
+    /// The crate's own `Method::parameters`, and on them what the tags set.
+    pub fn settings(&self) -> Settings {
+        let brought = METHODS[self.method as usize].parameters();
+        let [fajr, sunrise, dhuhr, asr, maghrib, isha] = self.minutes;
+        Settings {
+            method: self.method,
+            madhab: self.madhab,
+            high_latitude_rule: self.high_latitude_rule,
+            rounding: self.rounding.unwrap_or(brought.rounding as u32),
+            shafaq: self.shafaq,
+            fajr,
+            sunrise,
+            dhuhr,
+            asr,
+            maghrib,
+            isha,
+            isha_interval: self.isha_interval.unwrap_or(brought.isha_interval),
+            fajr_angle: self.fajr_angle.unwrap_or(brought.fajr_angle),
+            isha_angle: self.isha_angle.unwrap_or(brought.isha_angle),
+        }
+    }
+}
+
+fn refused<T>(number: u32, place: usize) -> Result<T, Refusal> {
+    Err(Refusal { number, place: place as u32 })
+}
+
+/// The lengths that a tag's value can have; none where there is no such tag.
+pub fn lengths(tag: u8) -> Option<RangeInclusive<usize>> {
+    match tag {
+        1 => Some(1..=40),
+        2 => Some(4..=4),
+        3 | 6..=10 => Some(1..=1),
+        4 | 5 | 12 | 13 => Some(8..=8),
+        11 => Some(12..=12),
+        14 => Some(2..=2),
+        _ => None,
+    }
+}
+
+/// Where each tag's value stands, by tag.
+type Values = [Option<Range<usize>>; LAST_TAG as usize + 1];
+
+/// Field by field, the checks of one in the order of the paper's sentence.
+fn fields(order: &[u8]) -> Result<Values, Refusal> {
+    let mut values = Values::default();
+    let mut at = 0;
+    while at < order.len() {
+        let left = order.len() - at;
+        if left < 3 {
+            return refused(1, at);
+        }
+        let tag = order[at];
+        let length = order[at + 1] as usize * 256 + order[at + 2] as usize;
+        let Some(lengths) = lengths(tag) else { return refused(2, at) };
+        if values[tag as usize].is_some() {
+            return refused(3, at);
+        }
+        if !lengths.contains(&length) {
+            return refused(2, at);
+        }
+        if left < 3 + length {
+            return refused(1, at);
+        }
+        values[tag as usize] = Some(at + 3..at + 3 + length);
+        at += 3 + length;
+    }
+    Ok(values)
+}
+
+/// An order whose fields are whole; a tag's value is none where it is missing.
+struct Whole<'a> {
+    order: &'a [u8],
+    values: Values,
+}
+
+impl Whole<'_> {
+    fn bytes(&self, tag: u8) -> Option<&[u8]> {
+        self.values[tag as usize].clone().map(|value| &self.order[value])
+    }
+
+    fn byte(&self, tag: u8, allowed: RangeInclusive<u8>) -> Result<Option<u32>, Refusal> {
+        match self.bytes(tag) {
+            Some(value) if !allowed.contains(&value[0]) => refused(5, tag as usize),
+            value => Ok(value.map(|value| value[0] as u32)),
+        }
+    }
+
+    /// A NaN is in no range; -0.0 is read as 0.0.
+    fn float(&self, tag: u8, allowed: RangeInclusive<f64>) -> Result<Option<f64>, Refusal> {
+        let value = self.bytes(tag).map(|value| f64::from_be_bytes(value.try_into().unwrap()));
+        match value {
+            Some(value) if !allowed.contains(&value) => refused(5, tag as usize),
+            Some(value) if value == 0.0 => Ok(Some(0.0)),
+            value => Ok(value),
+        }
+    }
+
+    fn town(&self) -> Result<Range<usize>, Refusal> {
+        if self.bytes(1).unwrap().iter().any(|byte| !(32..=126).contains(byte)) {
+            return refused(5, 1);
+        }
+        Ok(self.values[1].clone().unwrap())
+    }
+
+    /// By chrono's calendar, which is none of the port's.
+    fn date(&self) -> Result<NaiveDate, Refusal> {
+        let value = self.bytes(2).unwrap();
+        let year = u16::from_be_bytes([value[0], value[1]]) as i32;
+        match NaiveDate::from_ymd_opt(year, value[2] as u32, value[3] as u32) {
+            Some(date) if (1900..=2199).contains(&date.year()) => Ok(date),
+            _ => refused(5, 2),
+        }
+    }
+
+    fn rows(&self, date: NaiveDate) -> Result<u32, Refusal> {
+        let rows = self.byte(3, 1..=250)?.unwrap();
+        let last_row = date + Duration::days(rows as i64 - 1);
+        if last_row > NaiveDate::from_ymd_opt(2199, 12, 31).unwrap() {
+            return refused(5, 3);
+        }
+        Ok(rows)
+    }
+
+    fn minutes(&self) -> Result<Option<[i32; 6]>, Refusal> {
+        let Some(value) = self.bytes(11) else { return Ok(None) };
+        let minutes = [0, 1, 2, 3, 4, 5].map(|prayer| i16::from_be_bytes([value[2 * prayer], value[2 * prayer + 1]]) as i32);
+        if minutes.iter().any(|minutes| !(-720..=720).contains(minutes)) {
+            return refused(5, 11);
+        }
+        Ok(Some(minutes))
+    }
+
+    fn isha_interval(&self) -> Result<Option<i32>, Refusal> {
+        let interval = self.bytes(14).map(|value| u16::from_be_bytes([value[0], value[1]]) as i32);
+        if interval.is_some_and(|interval| interval > 1_440) {
+            return refused(5, 14);
+        }
+        Ok(interval)
+    }
+
+    /// The ranges by rising tag, which is the order in which a struct's fields are worked out.
+    fn ranges(&self) -> Result<Asked, Refusal> {
+        let (town, date) = (self.town()?, self.date()?);
+        Ok(Asked {
+            town,
+            date,
+            rows: self.rows(date)?,
+            latitude: self.float(4, -90.0..=90.0)?.unwrap(),
+            longitude: self.float(5, -180.0..=180.0)?.unwrap(),
+            method: self.byte(6, 0..=12)?.unwrap(),
+            madhab: self.byte(7, 1..=2)?.unwrap_or(1),
+            high_latitude_rule: self.byte(8, 0..=2)?.unwrap_or(0),
+            rounding: self.byte(9, 0..=2)?,
+            shafaq: self.byte(10, 0..=2)?.unwrap_or(0),
+            minutes: self.minutes()?.unwrap_or([0; 6]),
+            fajr_angle: self.float(12, 0.0..=30.0)?,
+            isha_angle: self.float(13, 0.0..=30.0)?,
+            isha_interval: self.isha_interval()?,
+        })
+    }
+}
+
+pub fn read(order: &[u8]) -> Result<Asked, Refusal> {
+    if order.len() > LONGEST {
+        return refused(1, 0);
+    }
+    let values = fields(order)?;
+    for tag in 1..=6 {
+        if values[tag].is_none() {
+            return refused(4, tag);
+        }
+    }
+    Whole { order, values }.ranges()
+}
