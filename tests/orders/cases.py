@@ -168,4 +168,5 @@ def main():
         out.write(b"".join(map(line, orders)))
 
 
-main()
+if __name__ == "__main__":
+    main()

@@ -7,4 +7,5 @@ pub mod Floors
 pub mod Machine
 pub mod MonthTables
 pub mod Neighbours
+pub mod Successors
 pub mod YearSteps

@@ -10,7 +10,7 @@ use schedule::prayer_times::PrayerTimes;
 use schedule::prayer_times::Worked;
 
 // Rows count from 0; one that the order lacks is 5, place 3.
-fn work_row(order: Order, row: u32) -> Worked
+pub fn work_row(order: Order, row: u32) -> Worked
     ensures { λ r. ⌜ r ≡ workRowOf order row ⌝ }
 {
     let first = order.date;

@@ -1,1 +1,2 @@
-// Laws about whole numbers, stated once for the crates above: see specs/. There is no code here.
+// Laws about whole numbers, stated once for the crates above (specs/), and the parts of a number with a sign.
+pub mod parts;

@@ -3,25 +3,15 @@ use native.Mathlib.Omega.{arith}
 use Prim.Native.Nat.{ℕ, zero, suc, _+_, _-_, _≤_}
 use mathlib.Core.Path.{_≡_, sym, ap, subst}
 use mathlib.Core.Bool.{Bool, true, false, cond}
-use lib.Dec.{ltb, leb}
+use lib.Dec.{leb}
 use lib.IntN.{pos, _+ℤ_}
-use borrow.Author.Tests.{le-leb}
 use Rattle.calendar.specs.declared.dates.Date.{Date}
-use Rattle.calendar.specs.Gregorian.{dateOf, monthDaysOf, existsOf, dayAfterOf}
+use Rattle.calendar.specs.Gregorian.{dateOf, existsOf, dayAfterOf}
 use Rattle.calendar.specs.Days.{dayNumberOf, dateOfDayOf}
 use Rattle.calendar.specs.Answers.{heldOf, fromOf, rowDateOf}
 use Rattle.calendar.proofs.CalendarLaws.{row-first, row-next, date-of-day-exists}
+use Rattle.calendar.proofs.Successors.{year-after, row-is}
 use Rattle.order.specs.Accepted.{DateInOrder}
-
-year-after : (d : Date) → d .year ≤ dayAfterOf d .year
-unfolding dayAfterOf
-year-after d = go (ltb (d .day) (monthDaysOf (d .year) (d .month))) (ltb (d .month) 12)
-  where
-    go : (a b : Bool)
-        → d .year ≤ cond a (dateOf (d .year) (d .month) (d .day + 1)) (cond b (dateOf (d .year) (d .month + 1) 1) (dateOf (d .year + 1) 1 1)) .year
-    go true b = omega arith
-    go false true = omega arith
-    go false false = omega arith
 
 -- the date so many days after another
 abbrev daysAfter : Date → ℕ → Date
@@ -33,16 +23,11 @@ module _ (d : Date) (there : existsOf d ≡ true) where
   years-rise k (suc j) =
       let i = years-rise k j in
       let n : daysAfter d (k + j + 1) .year ≡ dayAfterOf (daysAfter d (k + j)) .year = ap (λ (x : Date). x .year) (row-next d (k + j) there) in
-      let y = year-after (daysAfter d (k + j)) in
+      let y = year-after (daysAfter d (k + j)) .0 in
       let e : daysAfter d (k + suc j) .year ≡ daysAfter d (k + j + 1) .year = ap (λ (x : ℕ). daysAfter d x .year) (omega arith) in
       omega arith
 
-  -- a row's date is so many days later, since no year of an order is beyond a u32
-  row-is : (k : ℕ) → daysAfter d k .year ≤ 2199 → rowDateOf d k ≡ daysAfter d k
-  unfolding fromOf heldOf
-  row-is k h = simp (there, le-leb (daysAfter d k .year) 4294967295 (omega arith))
-
-  row-year : (k : ℕ) → rowDateOf d k .year ≤ 2199 → daysAfter d k .year ≤ 2199
+  pub row-year : (k : ℕ) → rowDateOf d k .year ≤ 2199 → daysAfter d k .year ≤ 2199
   unfolding fromOf heldOf
   row-year k h = go (leb (daysAfter d k .year) 4294967295) (simp there at h)
     where
@@ -60,4 +45,4 @@ module _ (d : Date) (there : existsOf d ≡ true) where
       let g = row-year last to in
       let low : 1900 ≤ daysAfter d row .year = omega arith in
       let high : daysAfter d row .year ≤ 2199 = omega arith in
-      subst DateInOrder (sym (row-is row high)) (record { there = date-of-day-exists (dayNumberOf d +ℤ pos row); from = low; to = high })
+      subst DateInOrder (sym (row-is d there row (omega arith))) (record { there = date-of-day-exists (dayNumberOf d +ℤ pos row); from = low; to = high })

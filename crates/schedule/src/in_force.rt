@@ -2,12 +2,14 @@
 // since no prayer is in force, there is an answer that says so.
 ghost use mathlib.Core.Path.{_≡_};
 ghost use lib.IntN.{_-ℤ_};
-ghost use Rattle.integers.specs.Parts.{P, N};
+ghost use Rattle.integers.specs.Parts.{P};
 ghost use Rattle.schedule.specs.InForce.{timeOf, aheadOf, lastOf, currentTimeOf, followingOf, nextOf, hoursMinutesOf, timeRemainingOf};
 use super::prayer_times::PrayerTimes;
 use float64::casts::to_u32;
 use float64::whole::round;
 use float64::whole::trunc;
+use integers::parts::above;
+use integers::parts::below;
 use models::prayer::Prayer;
 use std::num::nearest_u64_to_f64;
 
@@ -30,25 +32,6 @@ pub struct HoursMinutes {
 pub enum Remaining {
     In(HoursMinutes),
     Nothing,
-}
-
-// How far a number lies above 0, and how far below it.
-fn above(z: i64) -> u64
-    ensures { λ r. ⌜ r ≡ P z ⌝ }
-{
-    if z > 0 {
-        return z as u64;
-    }
-    0
-}
-
-fn below(z: i64) -> u64
-    ensures { λ r. ⌜ r ≡ N z ⌝ }
-{
-    if z < 0 {
-        return (-(z + 1)) as u64 + 1;
-    }
-    0
 }
 
 // Seconds from one to the other, 0 where the other is not later. The difference of two i64 fits a u64, and not always an i64.

@@ -1,44 +1,44 @@
 use mir.Syntax.{w64}
 use Rattle.integers.specs.Ranges.{read}
-use Rattle.schedule.proofs.Due as due
-use Rattle.schedule.proofs.in_force.below.Statement.{statement}
-use Rattle.schedule.proofs.in_force.below.Tie as tie
+use Rattle.integers.proofs.Unsigned as unsigned
+use Rattle.integers.proofs.parts.below.Statement.{statement}
+use Rattle.integers.proofs.parts.below.Tie as tie
 
 add-result : tie.Need-add-result
 add-result c =
     let z = c .before .args .z in
     let f = c .before .fits .z in
-    due.up-fits z f (c .if1 .taken)
+    unsigned.up-fits z f (c .if1 .taken)
 
 sub-result : tie.Need-sub-result
 sub-result c =
     let z = c .before .args .z in
     let f = c .before .fits .z in
-    due.turned-fits z f (c .if1 .taken)
+    unsigned.turned-fits z f (c .if1 .taken)
 
 cast-result : tie.Need-cast-result
 cast-result c =
     let z = c .before .args .z in
     let f = c .before .fits .z in
-    due.turned-cast z f (c .if1 .taken)
+    unsigned.turned-cast z f (c .if1 .taken)
 
 add-result-2 : tie.Need-add-result-2
 add-result-2 c =
     let z = c .before .args .z in
     let f = c .before .fits .z in
-    due.below-fits z f (c .if1 .taken)
+    unsigned.below-fits z f (c .if1 .taken)
 
 returns : tie.Need-returns
 returns c =
     let z = c .before .args .z in
     let f = c .before .fits .z in
-    due.below-is z f (c .if1 .taken)
+    unsigned.below-is z f (c .if1 .taken)
 
 returns-2 : tie.Need-returns-2
 returns-2 c =
     let z = c .before .args .z in
     let f = c .before .fits .z in
-    due.not-below z _ (read w64 z f) (c .if1 .left)
+    unsigned.not-below z _ (read w64 z f) (c .if1 .left)
 
 pub below-spec : {M : Type 1} → statement M
 below-spec = tie.close (tie.spec add-result sub-result cast-result add-result-2 returns returns-2)

@@ -1,0 +1,61 @@
+-- The days before and after a date, and the dates of rows, where every year fits a u32. Assumes nothing.
+use mathlib.Core.Path.{_≡_, sym, ap, subst, _∙_}
+use mathlib.Core.Bool.{Bool, true, false, cond}
+use Prim.Native.Nat.{ℕ, _+_, _≤_}
+use native.Mathlib.Omega.{arith}
+use lib.Dec.{ltb}
+use lib.IntN.{pos, _+ℤ_}
+use borrow.Author.Tests.{le-leb}
+use Rattle.calendar.specs.Answers.{heldOf, fromOf, tomorrowOf, yesterdayOf, rowDateOf}
+use Rattle.calendar.specs.Days.{dayNumberOf, dateOfDayOf}
+use Rattle.calendar.specs.Gregorian.{dateOf, existsOf, monthDaysOf, dayAfterOf, dayBeforeOf}
+use Rattle.calendar.specs.declared.dates.Date.{Date}
+use Rattle.calendar.proofs.CalendarLaws.{before-after, day-after-exists, row-next, date-of-day-exists}
+
+-- a year holds, or the next one begins
+pub year-after : (d : Date) → (d .year ≤ dayAfterOf d .year) × (dayAfterOf d .year ≤ d .year + 1)
+unfolding dayAfterOf
+year-after d = by-tests (ltb (d .day) (monthDaysOf (d .year) (d .month))) (ltb (d .month) 12)
+  where
+    after : Bool → Bool → Date
+    after b c = cond b (dateOf (d .year) (d .month) (d .day + 1)) (cond c (dateOf (d .year) (d .month + 1) 1) (dateOf (d .year + 1) 1 1))
+
+    by-tests : (b c : Bool) → (d .year ≤ after b c .year) × (after b c .year ≤ d .year + 1)
+    by-tests true c = (omega arith, omega arith)
+    by-tests false true = (omega arith, omega arith)
+    by-tests false false = (omega arith, omega arith)
+
+pub from-is : (d e : Date) → existsOf d ≡ true → e .year ≤ 4294967295 → fromOf d e ≡ e
+unfolding fromOf heldOf
+from-is d e h l = rw (h, le-leb (e .year) 4294967295 l)
+
+module _ (d : Date) (h : existsOf d ≡ true) (l : d .year + 1 ≤ 4294967295) where
+  pub tomorrow-is : tomorrowOf d ≡ dayAfterOf d
+  tomorrow-is = let y = year-after d in from-is d (dayAfterOf d) h (omega arith)
+
+  pub tomorrow-exists : existsOf (tomorrowOf d) ≡ true
+  tomorrow-exists = ap existsOf tomorrow-is ∙ day-after-exists d h
+
+  pub tomorrow-year : tomorrowOf d .year ≤ d .year + 1
+  tomorrow-year = subst (λ (e : Date). e .year ≤ d .year + 1) (sym tomorrow-is) (year-after d .1)
+
+  -- the day before the next one is the day itself
+  pub back : yesterdayOf (tomorrowOf d) ≡ d
+  back =
+      let e : dayBeforeOf (tomorrowOf d) ≡ d = ap dayBeforeOf tomorrow-is ∙ before-after d h in
+      from-is (tomorrowOf d) (dayBeforeOf (tomorrowOf d)) tomorrow-exists (subst (λ (x : Date). x .year ≤ 4294967295) (sym e) (omega arith)) ∙ e
+
+-- a row's date is so many days later, and the next row's is the day after it
+module _ (d : Date) (h : existsOf d ≡ true) where
+  pub row-is : (k : ℕ) → dateOfDayOf (dayNumberOf d +ℤ pos k) .year ≤ 4294967295 → rowDateOf d k ≡ dateOfDayOf (dayNumberOf d +ℤ pos k)
+  row-is k l = from-is d (dateOfDayOf (dayNumberOf d +ℤ pos k)) h l
+
+  pub row-tomorrow : (k : ℕ) → dateOfDayOf (dayNumberOf d +ℤ pos k) .year + 1 ≤ 4294967295 → rowDateOf d (k + 1) ≡ tomorrowOf (rowDateOf d k)
+  row-tomorrow k l =
+      let e : Date = dateOfDayOf (dayNumberOf d +ℤ pos k) in
+      let n : dateOfDayOf (dayNumberOf d +ℤ pos (k + 1)) ≡ dayAfterOf e = row-next d k h in
+      let y = year-after e .1 in
+      row-is (k + 1) (subst (λ (x : Date). x .year ≤ 4294967295) (sym n) (omega arith))
+      ∙ n
+      ∙ sym (tomorrow-is e (date-of-day-exists (dayNumberOf d +ℤ pos k)) l)
+      ∙ ap tomorrowOf (sym (row-is k (omega arith)))

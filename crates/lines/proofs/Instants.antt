@@ -1,0 +1,53 @@
+-- The days from a date to an instant, and its second of the day, in the machine's numbers. Assumes nothing.
+use mathlib.Core.Path.{_≡_, refl, sym, ap, _∙_}
+use mathlib.Core.Bool.{true, false}
+use Prim.Native.Nat.{ℕ, _+_, _-_, _*_, _/_, _%_, _^_, _<_}
+use native.Mathlib.Omega.{arith}
+use lib.IntN.{ℤ, pos, negsuc, _-ℤ_}
+use lib.Signed.{ltZ}
+use mir.Syntax.{w64}
+use mir.Val.{SFits, Fits}
+use Rattle.integers.specs.Parts.{P, N}
+use Rattle.integers.specs.Sums.{difference, times}
+use Rattle.integers.specs.Order.{lt-yes, lt-no}
+use Rattle.integers.specs.Quotients.{floorQuot, floorRem}
+use Rattle.integers.specs.Ranges.{range, fits}
+use Rattle.calendar.specs.Days.{dayNumberOf}
+use Rattle.calendar.specs.declared.dates.Date.{Date}
+use Rattle.schedule.proofs.Starts.{start-near}
+use Rattle.lines.specs.Lines.{signOf}
+
+pub days-fit : (t : ℤ) (d : Date) → SFits w64 t → d .year < 2 ^ 32 → SFits w64 (floorQuot t 86400 -ℤ dayNumberOf d)
+days-fit (pos n) d h y =
+    let r = range w64 (pos n) h in
+    let s = start-near d y in
+    let m = times (dayNumberOf d) 86400 in
+    let b = difference (pos (n / 86400)) (dayNumberOf d) in
+    fits w64 _ (omega (arith, b .0, b .1, m, s .0, s .1)) (omega (arith, b .0, b .1, m, s .0, s .1))
+days-fit (negsuc n) d h y =
+    let r = range w64 (negsuc n) h in
+    let s = start-near d y in
+    let m = times (dayNumberOf d) 86400 in
+    let b = difference (negsuc (n / 86400)) (dayNumberOf d) in
+    fits w64 _ (omega (arith, b .0, b .1, m, s .0, s .1)) (omega (arith, b .0, b .1, m, s .0, s .1))
+
+pub before-zero : (t : ℤ) → ltZ t (pos 0) ≡ true → (1 + (N t - 1) ≡ N t) × (86399 - (N t - 1) % 86400 ≡ floorRem t 86400)
+before-zero (pos n) h = absurd (omega (arith, lt-yes (pos n) (pos 0) h))
+before-zero (negsuc n) h = (omega arith, omega arith)
+
+pub from-zero : (t : ℤ) → ltZ t (pos 0) ≡ false → P t % 86400 ≡ floorRem t 86400
+from-zero (pos n) h = refl
+from-zero (negsuc n) h = absurd (omega (arith, lt-no (negsuc n) (pos 0) h))
+
+pub minus : (z : ℤ) → ltZ z (pos 0) ≡ true → 45 ≡ signOf z
+minus (pos n) h = absurd (omega (arith, lt-yes (pos n) (pos 0) h))
+minus (negsuc n) h = refl
+
+pub plus : (z : ℤ) → ltZ z (pos 0) ≡ false → 43 ≡ signOf z
+plus (pos n) h = refl
+plus (negsuc n) h = absurd (omega (arith, lt-no (negsuc n) (pos 0) h))
+
+-- one of the two parts is 0
+pub size-fits : (z : ℤ) → SFits w64 z → Fits w64 (P z + N z)
+size-fits (pos n) h = let r = range w64 (pos n) h in record { fits = omega (arith, r .high) }
+size-fits (negsuc n) h = let r = range w64 (negsuc n) h in record { fits = omega (arith, r .low) }

@@ -1,0 +1,39 @@
+use mathlib.Core.Path.{_≡_, sym, ap, subst, _∙_}
+use mir.Syntax.{w64}
+use Rattle.integers.specs.Ranges.{read}
+use Rattle.lines.proofs.Instants as instants
+use Prim.Native.Nat.{ℕ, _+_}
+use mir.Val.{Fits}
+use Rattle.integers.specs.Parts.{P, N}
+use borrow.Author.Needs.{needs}
+use Rattle.lines.proofs.cells.size.Statement.{statement}
+use Rattle.lines.proofs.cells.size.Tie as tie
+use Rattle.lines.proofs.cells.size.Reads as reads
+use Rattle.lines.proofs.cells.size.Lts as lts
+use Rattle.integers.proofs.parts.above.Reads as above-reads
+use Rattle.integers.proofs.parts.below.Reads as below-reads
+
+above-requires : tie.Need-above-requires
+above-requires c κs = search needs
+
+below-requires : tie.Need-below-requires
+below-requires c κs = search needs
+
+add-result : tie.Need-add-result
+add-result c =
+    let t = c .before .before in
+    let z = read w64 (t .args .days) (t .fits .days) in
+    let a = c .before .above .ensures ∙ ap P z in
+    let b = c .below .ensures ∙ ap N z in
+    subst (Fits w64) (sym (ap (λ (n : ℕ). n + c .below .result) a ∙ ap (λ (n : ℕ). P (t .args .days) + n) b)) (instants.size-fits (t .args .days) (t .fits .days))
+
+returns : tie.Need-returns
+returns c =
+    let t = c .before .before in
+    let z = read w64 (t .args .days) (t .fits .days) in
+    let a = c .before .above .ensures ∙ ap P z in
+    let b = c .below .ensures ∙ ap N z in
+    cc
+
+pub size-spec : {M : Type 1} → statement M
+size-spec = tie.close (tie.spec above-requires below-requires add-result returns)

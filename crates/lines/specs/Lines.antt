@@ -1,0 +1,74 @@
+-- Document 01, "The sheet": the lines of a sheet, as bytes of ASCII.
+use Prim.Native.Nat.{ℕ, _+_, _*_, _/_, _%_}
+use mathlib.Core.List.{List, [], _∷_, _++_}
+use lib.IntN.{ℤ, pos, negsuc, _-ℤ_}
+use Rattle.integers.specs.Parts.{P, N}
+use Rattle.integers.specs.Quotients.{floorQuot, floorRem}
+use Rattle.calendar.specs.declared.dates.Date.{Date}
+use Rattle.calendar.specs.Days.{dayNumberOf}
+use Rattle.models.specs.declared.refusal.Refusal.{Refusal}
+use Rattle.schedule.specs.declared.prayer_times.PrayerTimes.{PrayerTimes}
+use Rattle.schedule.specs.declared.prayer_times.Worked.{Worked}
+use Rattle.schedule.specs.declared.prayer_times.Worked.the-variants.{Times, Refused}
+use Rattle.text.specs.Text.{ascii, digitOf, decimalOf}
+
+abbrev twoDigits : ℕ → List ℕ
+twoDigits n = digitOf (n / 10) ∷ digitOf n ∷ []
+
+abbrev fourDigits : ℕ → List ℕ
+fourDigits n = digitOf (n / 1000) ∷ digitOf (n / 100) ∷ twoDigits n
+
+-- 2026-06-21
+unfoldable pub dateText : Date → List ℕ
+dateText date = fourDigits (date .year) ++ (45 ∷ twoDigits (date .month)) ++ (45 ∷ twoDigits (date .day))
+
+-- ---- a time: "signed days from the row's date, T, UTC time (`+0T05:12:00`)", behind a blank
+abbrev pub daysOf : Date → ℤ → ℤ
+daysOf date time = floorQuot time 86400 -ℤ dayNumberOf date
+
+abbrev pub signOf : ℤ → ℕ
+signOf (pos n) = 43
+signOf (negsuc n) = 45
+
+abbrev pub sizeOf : ℤ → ℕ
+sizeOf z = P z + N z
+
+abbrev pub clockText : ℕ → List ℕ
+clockText second = twoDigits (second / 3600) ++ (58 ∷ twoDigits (second / 60 % 60)) ++ (58 ∷ twoDigits (second % 60))
+
+unfoldable pub cellText : Date → ℤ → List ℕ
+cellText date time =
+    let days = daysOf date time in
+    (32 ∷ signOf days ∷ digitOf (sizeOf days) ∷ 84 ∷ []) ++ clockText (floorRem time 86400)
+
+-- ---- "one line a row: date, then nine times in the header's order .. a full row has 119 bytes with its newline"
+abbrev pub nineOf : PrayerTimes → List ℤ
+nineOf t =
+    t .fajr ∷ t .sunrise ∷ t .dhuhr ∷ t .asr ∷ t .maghrib ∷ t .isha ∷ t .«middle_of_the_night» ∷ t .qiyam ∷ t .«fajr_tomorrow» ∷ []
+
+unfoldable pub cellsText : Date → List ℤ → List ℕ
+cellsText date [] = []
+cellsText date (time ∷ times) = cellText date time ++ cellsText date times
+
+unfoldable pub rowText : Date → PrayerTimes → List ℕ
+rowText date t = dateText date ++ cellsText date (nineOf t) ++ ascii "\n"
+
+-- ---- a refusal's line: whose it is, its number, and its place by a word
+unfoldable pub numberText : List ℕ → ℕ → List ℕ
+numberText word n = word ++ decimalOf n
+
+unfoldable pub refusedText : List ℕ → List ℕ → Refusal → List ℕ
+refusedText whose word r = whose ++ numberText (ascii " refused ") (r .number) ++ numberText word (r .place) ++ ascii "\n"
+
+-- `2026-06-21 refused 7 day 0`
+abbrev pub refusedDayText : Date → Refusal → List ℕ
+refusedDayText date r = refusedText (dateText date) (ascii " day ") r
+
+-- `order refused 5 place 2`
+abbrev pub refusedOrderText : Refusal → List ℕ
+refusedOrderText r = refusedText (ascii "order") (ascii " place ") r
+
+-- ---- "a refused day prints as below and the run goes on"
+unfoldable pub lineText : Date → Worked → List ℕ
+lineText date (Times t) = rowText date t
+lineText date (Refused r) = refusedDayText date r

@@ -1,0 +1,66 @@
+-- The suns of a row and what the next row takes over from them.
+use lib.Ieee.{Float}
+use Rattle.calendar.specs.Answers.{yesterdayOf, tomorrowOf}
+use Rattle.calendar.specs.declared.dates.Date.{Date}
+use Rattle.models.specs.declared.parameters.Parameters.{Parameters}
+use Rattle.ops.specs.declared.transit.Course.{Course}
+use Rattle.ops.specs.Shared.{observerOf}
+use Rattle.solar.specs.Coordinates.{positionOf}
+use Rattle.solar.specs.Hours.{sunOf, hourNumbersOf}
+use Rattle.solar.specs.Setting.{settingHourOf}
+use Rattle.solar.specs.Times.{solarTimeOf}
+use Rattle.schedule.specs.declared.hours.RowHours.{RowHours}
+use Rattle.schedule.specs.Numbers.{fajrNumberOf, asrNumberOf, ishaNumberOf}
+use Rattle.unit.specs.declared.Coordinates.{Coordinates}
+use Rattle.rolling.specs.declared.DaySun.{DaySun}
+use Rattle.rolling.specs.declared.Rolling.{Rolling}
+
+unfoldable pub daySunOf : Coordinates → Parameters → Course → DaySun
+daySunOf place p course =
+    record { course = course; times = solarTimeOf (hourNumbersOf course); fajr = settingHourOf (fajrNumberOf p (place .latitude) course) }
+
+-- a row's, from its date
+unfoldable pub rollingOf : Date → Coordinates → Parameters → Rolling
+rollingOf date place p =
+    let observer = observerOf place in
+    let next = tomorrowOf date in
+    let second = tomorrowOf next in
+    let third = tomorrowOf second in
+    record {
+      date = date;
+      third = third;
+      observer = observer;
+      «at_second» = positionOf second;
+      «at_third» = positionOf third;
+      today = daySunOf place p (sunOf place observer (positionOf (yesterdayOf date)) (positionOf date) (positionOf next));
+      tomorrow = daySunOf place p (sunOf place observer (positionOf date) (positionOf next) (positionOf second));
+      after = daySunOf place p (sunOf place observer (positionOf next) (positionOf second) (positionOf third));
+    }
+
+-- the next row's, from this one's: one new position and one new sun
+unfoldable pub nextRollingOf : Coordinates → Parameters → Rolling → Rolling
+nextRollingOf place p r =
+    let fourth = tomorrowOf (r .third) in
+    record {
+      date = tomorrowOf (r .date);
+      third = fourth;
+      observer = r .observer;
+      «at_second» = r .«at_third»;
+      «at_third» = positionOf fourth;
+      today = r .tomorrow;
+      tomorrow = r .after;
+      after = daySunOf place p (sunOf place (r .observer) (r .«at_second») (r .«at_third») (positionOf fourth));
+    }
+
+-- the sun's times that the row is worked from
+unfoldable pub rollingHoursOf : Float → Parameters → Rolling → RowHours
+rollingHoursOf latitude p r =
+    record {
+      today = r .today .times;
+      tomorrow = r .tomorrow .times;
+      after = r .after .times;
+      fajr = r .today .fajr;
+      asr = settingHourOf (asrNumberOf p latitude (r .today .course));
+      isha = settingHourOf (ishaNumberOf p latitude (r .today .course));
+      «fajr_tomorrow» = r .tomorrow .fajr;
+    }

@@ -1,0 +1,136 @@
+// Rows that follow one another (added). The date of the next row is worked from the next sun's position alone: two of its three suns, and its Fajr's
+// angle, are the row's own.
+ghost use mathlib.Core.Path.{_≡_};
+ghost use Rattle.rolling.specs.Rolling.{daySunOf, rollingOf, nextRollingOf, rollingHoursOf};
+ghost use Rattle.schedule.specs.Times.{workedOf};
+ghost use Rattle.solar.specs.Hours.{sunOf};
+use calendar::dates::Date;
+use models::parameters::Parameters;
+use ops::transit::Course;
+use ops::transit::Observer;
+use schedule::hours::RowHours;
+use schedule::numbers::asr_number;
+use schedule::numbers::fajr_number;
+use schedule::numbers::isha_number;
+use schedule::prayer_times::Worked;
+use solar::coordinates::SolarCoordinates;
+use solar::coordinates::position;
+use solar::hours::hour_numbers;
+use solar::hours::sun;
+use solar::setting::SolarHour;
+use solar::setting::setting_hour;
+use solar::times::SolarDay;
+use solar::times::SolarTime;
+use unit::Coordinates;
+
+// The sun of a day over the place, and what it gives to every row that it serves.
+pub struct DaySun {
+    pub course: Course,
+    pub times: SolarDay,
+    pub fajr: SolarHour,
+}
+
+// The suns of a row: its date's and those of the two days after it. The positions at 0h of the second and the third day after the date are kept for the
+// next row.
+pub struct Rolling {
+    pub date: Date,
+    pub third: Date,
+    pub observer: Observer,
+    pub at_second: SolarCoordinates,
+    pub at_third: SolarCoordinates,
+    pub today: DaySun,
+    pub tomorrow: DaySun,
+    pub after: DaySun,
+}
+
+fn day_sun(coordinates: Coordinates, parameters: Parameters, course: Course) -> DaySun
+    ensures { λ r. ⌜ r ≡ daySunOf coordinates parameters course ⌝ }
+{
+    DaySun {
+        course: course,
+        times: SolarTime::new(hour_numbers(course)),
+        fajr: setting_hour(fajr_number(parameters, coordinates.latitude, course)),
+    }
+}
+
+impl Rolling {
+    // The first row's.
+    pub fn new(date: Date, coordinates: Coordinates, parameters: Parameters) -> Rolling
+        ensures { λ r. ⌜ r ≡ rollingOf date coordinates parameters ⌝ }
+    {
+        let observer = Observer::new(coordinates);
+        let next = date.tomorrow();
+        let second = next.tomorrow();
+        let third = second.tomorrow();
+        let at_date = position(date);
+        let at_next = position(next);
+        let at_second = position(second);
+        let at_third = position(third);
+        let before = position(date.yesterday());
+        let today = sun(coordinates, observer, before, at_date, at_next);
+        let tomorrow = sun(coordinates, observer, at_date, at_next, at_second);
+        let after = sun(coordinates, observer, at_next, at_second, at_third);
+        Rolling {
+            date: date,
+            third: third,
+            observer: observer,
+            at_second: at_second,
+            at_third: at_third,
+            today: day_sun(coordinates, parameters, today),
+            tomorrow: day_sun(coordinates, parameters, tomorrow),
+            after: day_sun(coordinates, parameters, after),
+        }
+    }
+
+    // The next row's, for the same place and parameters.
+    pub fn next(self, coordinates: Coordinates, parameters: Parameters) -> Rolling
+        ensures { λ r. ⌜ r ≡ nextRollingOf coordinates parameters self ⌝ }
+    {
+        let date = self.date;
+        let observer = self.observer;
+        let at_second = self.at_second;
+        let at_third = self.at_third;
+        let tomorrow = self.tomorrow;
+        let after = self.after;
+        let third = self.third;
+        let fourth = third.tomorrow();
+        let at_fourth = position(fourth);
+        let course = sun(coordinates, observer, at_second, at_third, at_fourth);
+        Rolling {
+            date: date.tomorrow(),
+            third: fourth,
+            observer: observer,
+            at_second: at_third,
+            at_third: at_fourth,
+            today: tomorrow,
+            tomorrow: after,
+            after: day_sun(coordinates, parameters, course),
+        }
+    }
+
+    // The row's times, or its refusal.
+    pub fn work(self, latitude: f64, parameters: Parameters) -> Worked
+        ensures { λ r. ⌜ r ≡ workedOf (rollingHoursOf latitude parameters self) (self .date) latitude parameters ⌝ }
+    {
+        let date = self.date;
+        let today = self.today;
+        let tomorrow = self.tomorrow;
+        let after = self.after;
+        let course = today.course;
+        let times = today.times;
+        let times_tomorrow = tomorrow.times;
+        let times_after = after.times;
+        let fajr = today.fajr;
+        let fajr_tomorrow = tomorrow.fajr;
+        let hours = RowHours {
+            today: times,
+            tomorrow: times_tomorrow,
+            after: times_after,
+            fajr: fajr,
+            asr: setting_hour(asr_number(parameters, latitude, course)),
+            isha: setting_hour(isha_number(parameters, latitude, course)),
+            fajr_tomorrow: fajr_tomorrow,
+        };
+        hours.work(date, latitude, parameters)
+    }
+}

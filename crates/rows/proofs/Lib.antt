@@ -1,0 +1,4 @@
+pub mod Lengths
+pub mod Answers
+pub mod Rolled
+pub mod SheetLaws

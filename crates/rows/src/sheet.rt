@@ -1,0 +1,95 @@
+// The whole sheet of an order at the front of a lent buffer.
+ghost use mathlib.Core.Path.{_≡_};
+ghost use Prim.Native.Nat.{_+_, _*_, _≤_};
+ghost use lib.ListN.{length};
+ghost use Rattle.lines.specs.Lines.{lineText};
+ghost use Rattle.order.specs.Accepted.{Accepted};
+ghost use Rattle.text.specs.Text.{putOf, frontOf};
+ghost use Rattle.rows.specs.Rows.{headText, linesText, acceptedText, sheetLengthOf, sheetBufferOf};
+use calendar::dates::Date;
+use fields::values::value;
+use lines::refused::put_refused_day;
+use lines::refused::put_refused_order;
+use lines::row::put_row;
+use order::reading::Order;
+use order::reading::Reading;
+use order::reading::read;
+use rolling::Rolling;
+use schedule::prayer_times::Worked;
+use text::put::put;
+
+// What the longest sheet takes: a town of 40 bytes, its newline, the header and 250 full rows.
+pub const SHEET_BYTES: usize = 29854;
+
+// A row's line, or its refusal's.
+fn put_line(buffer: &mut [u8], at: usize, date: Date, worked: Worked) -> usize
+    ensures { λ r. ⌜ r ≡ length (lineText date worked) ⌝ }
+    ensures { λ _. ⌜ now (buffer .exit) ≡ putOf (now (buffer .entry)) at (lineText date worked) ⌝ }
+{
+    match worked {
+        Worked::Times(times) => put_row(&mut buffer[..], at, date, times),
+        Worked::Refused(refusal) => put_refused_day(&mut buffer[..], at, date, refusal),
+    }
+}
+
+// The town and the header.
+fn put_head(buffer: &mut [u8], town: &[u8]) -> usize
+    requires { ⌜ (length (now town) ≤ 40) × (29854 ≤ length (now buffer)) ⌝ }
+    ensures { λ r. ⌜ r ≡ length (headText (now (town .entry))) ⌝ }
+    ensures { λ _. ⌜ now (buffer .exit) ≡ frontOf (headText (now (town .entry))) (now (buffer .entry)) ⌝ }
+{
+    let end = town.len();
+    put(&mut buffer[..], 0, town);
+    put(
+        &mut buffer[..],
+        end,
+        b"\ndate fajr sunrise dhuhr asr maghrib isha middle qiyam tomorrow\n",
+    );
+    end + 64
+}
+
+// The lines of all rows from an offset on; answers where they end. Each row takes over what it can from the one before it.
+fn put_rows(buffer: &mut [u8], at: usize, order: Order) -> usize
+    requires { ⌜ Accepted order × (at + 119 * 250 ≤ length (now buffer)) ⌝ }
+    ensures { λ r. ⌜ r ≡ at + length (linesText order (order .rows)) ⌝ }
+    ensures { λ _. ⌜ now (buffer .exit) ≡ putOf (now (buffer .entry)) at (linesText order (order .rows)) ⌝ }
+{
+    let coordinates = order.coordinates;
+    let parameters = order.parameters;
+    let latitude = coordinates.latitude;
+    let mut rolling = Rolling::new(order.date, coordinates, parameters);
+    let mut row = 0;
+    let mut end = at;
+    loop {
+        let worked = rolling.work(latitude, parameters);
+        end = end + put_line(&mut buffer[..], end, rolling.date, worked);
+        row = row + 1;
+        if row >= order.rows {
+            return end;
+        }
+        rolling = rolling.next(coordinates, parameters);
+    }
+}
+
+fn put_accepted(buffer: &mut [u8], town: &[u8], order: Order) -> usize
+    requires { ⌜ Accepted order × (length (now town) ≤ 40) × (29854 ≤ length (now buffer)) ⌝ }
+    ensures { λ r. ⌜ r ≡ length (acceptedText (now (town .entry)) order) ⌝ }
+    ensures { λ _. ⌜ now (buffer .exit) ≡ frontOf (acceptedText (now (town .entry)) order) (now (buffer .entry)) ⌝ }
+{
+    let head = put_head(&mut buffer[..], town);
+    put_rows(&mut buffer[..], head, order)
+}
+
+// Answers the length of the text. A buffer that might not hold it, under SHEET_BYTES, is left as it was, and the answer is 0.
+pub fn write_sheet(order: &[u8], buffer: &mut [u8]) -> usize
+    ensures { λ r. ⌜ r ≡ sheetLengthOf (now (order .entry)) (now (buffer .entry)) ⌝ }
+    ensures { λ _. ⌜ now (buffer .exit) ≡ sheetBufferOf (now (order .entry)) (now (buffer .entry)) ⌝ }
+{
+    if buffer.len() < SHEET_BYTES {
+        return 0;
+    }
+    match read(order) {
+        Reading::Read(record) => put_accepted(&mut buffer[..], value(order, 1), record),
+        Reading::Refused(refusal) => put_refused_order(&mut buffer[..], 0, refusal),
+    }
+}

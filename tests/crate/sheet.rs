@@ -1,0 +1,106 @@
+// Appended to root.rs as a program: reads an order, which must be one that is read, and prints its sheet by the crate. The crate's
+// panic in SolarTime::new, on the line of the time that has none, stands for the refusal of a day.
+use astronomy::solar::SolarTime;
+use astronomy::unit::Coordinates;
+use chrono::{Duration, NaiveDate};
+use models::adjustments::TimeAdjustment;
+use models::parameters::Parameters;
+use schedule::{access, PrayerTimes};
+use std::collections::HashMap;
+use std::io::Read;
+use std::panic::{catch_unwind, set_hook};
+use std::sync::atomic::{AtomicUsize, Ordering};
+
+const SOLAR: &str = include_str!("astronomy/solar.rs");
+static PANICKED: AtomicUsize = AtomicUsize::new(0);
+
+type Fields = HashMap<u8, Vec<u8>>;
+
+fn fields(order: &[u8]) -> Fields {
+    let (mut fields, mut at) = (Fields::new(), 0);
+    while at < order.len() {
+        let end = at + 3 + order[at + 1] as usize * 256 + order[at + 2] as usize;
+        fields.insert(order[at], order[at + 3..end].to_vec());
+        at = end;
+    }
+    fields
+}
+
+fn float(value: &Vec<u8>) -> f64 {
+    f64::from_be_bytes(value[..].try_into().unwrap())
+}
+
+fn signed(value: &[u8]) -> i64 {
+    i16::from_be_bytes([value[0], value[1]]) as i64
+}
+
+/// The method's parameters; then each tag that is there sets its own field.
+fn parameters(fields: &Fields) -> Parameters {
+    use models::high_altitude_rule::HighLatitudeRule::*;
+    use models::madhab::Madhab::*;
+    use models::method::Method::*;
+    use models::rounding::Rounding;
+    use models::shafaq::Shafaq::*;
+    let methods = [
+        MuslimWorldLeague, Egyptian, Karachi, UmmAlQura, Dubai, MoonsightingCommittee, NorthAmerica, Kuwait, Qatar, Singapore, Tehran, Turkey,
+        Other,
+    ];
+    let mut p = methods[fields[&6][0] as usize].parameters();
+    for (&tag, value) in fields {
+        let number = value[0] as usize;
+        match tag {
+            7 => p.madhab = [Shafi, Hanafi][number - 1],
+            8 => p.high_latitude_rule = [MiddleOfTheNight, SeventhOfTheNight, TwilightAngle][number],
+            9 => p.rounding = [Rounding::Nearest, Rounding::Up, Rounding::None][number],
+            10 => p.shafaq = [General, Ahmer, Abyad][number],
+            11 => {
+                let m: Vec<i64> = value.chunks(2).map(signed).collect();
+                p.adjustments = TimeAdjustment::new(m[0], m[1], m[2], m[3], m[4], m[5]);
+            }
+            12 => p.fajr_angle = float(value),
+            13 => p.isha_angle = float(value),
+            14 => p.isha_interval = signed(value) as i32,
+            _ => {}
+        }
+    }
+    p
+}
+
+/// The first of the date and the two days after it that lacks a time, and the refusal's number.
+fn refused(date: NaiveDate, place: Coordinates) -> Option<(usize, i64)> {
+    (0..3).find_map(|day| {
+        let midnight = (date + Duration::days(day)).and_hms_opt(0, 0, 0).unwrap().and_utc();
+        catch_unwind(|| SolarTime::new(midnight, place)).err()?;
+        let line = SOLAR.lines().nth(PANICKED.load(Ordering::Relaxed) - 1).unwrap().trim_start();
+        let number = ["transit: ", "sunrise: ", "sunset: "].iter().position(|field| line.starts_with(field));
+        Some((6 + number.expect("a panic of another line"), day))
+    })
+}
+
+/// A time as signed days from a date, and the clock.
+fn written(time: i64, midnight: i64) -> String {
+    let (days, seconds) = ((time - midnight).div_euclid(86400), (time - midnight).rem_euclid(86400));
+    format!(" {days:+}T{:02}:{:02}:{:02}", seconds / 3600, seconds / 60 % 60, seconds % 60)
+}
+
+fn main() {
+    set_hook(Box::new(|info| PANICKED.store(info.location().unwrap().line() as usize, Ordering::Relaxed)));
+    let mut order = Vec::new();
+    std::io::stdin().read_to_end(&mut order).unwrap();
+    let fields = fields(&order);
+    let (place, parameters) = (Coordinates::new(float(&fields[&4]), float(&fields[&5])), parameters(&fields));
+    let first = &fields[&2];
+    let first = NaiveDate::from_ymd_opt(signed(first) as i32, first[2] as u32, first[3] as u32).unwrap();
+    println!("{}", std::str::from_utf8(&fields[&1]).unwrap());
+    println!("date fajr sunrise dhuhr asr maghrib isha middle qiyam tomorrow");
+    for row in 0..fields[&3][0] as i64 {
+        let date = first + Duration::days(row);
+        if let Some((number, day)) = refused(date, place) {
+            println!("{date} refused {number} day {day}");
+            continue;
+        }
+        let midnight = date.and_hms_opt(0, 0, 0).unwrap().timestamp();
+        let times = access::nine(&PrayerTimes::new(date, place, parameters));
+        println!("{date}{}", times.map(|time| written(time, midnight)).concat());
+    }
+}
