@@ -1,22 +1,13 @@
-//! The port's sheet of an order.
-use crate::day_crate::Refusal;
-use crate::order_port::{read_order, work_day};
-use crate::sheet_owed::{row_text, HEADER};
-use chrono::{Duration, NaiveDate};
+//! The port's sheet of an order, printed by the program `sheet` from its bytes on standard input.
+use std::io::Write;
+use std::process::{Command, Stdio};
 
-/// From the calls that there are, so far: the reading and the times are the port's, the text is not.
+/// From the folder that tests/crate/run works in.
+const PROGRAM: &str = "target/bin/sheet";
+
 pub fn sheet(order: &[u8]) -> Vec<u8> {
-    let asked = read_order(order);
-    if asked.number != 0 {
-        return format!("order refused {} place {}\n", asked.number, asked.place).into_bytes();
-    }
-    let mut sheet = order[asked.town_at as usize..(asked.town_at + asked.town_length) as usize].to_vec();
-    sheet.extend(format!("\n{HEADER}\n").bytes());
-    let date = NaiveDate::from_ymd_opt(asked.year as i32, asked.month, asked.day).unwrap();
-    for row in 0..asked.rows {
-        let day = work_day(order, row);
-        let times = if day.number == 0 { Ok(day.times) } else { Err(Refusal { number: day.number, place: day.place }) };
-        sheet.extend(row_text(date + Duration::days(row as i64), &times).bytes());
-    }
-    sheet
+    let mut program = Command::new(PROGRAM).stdin(Stdio::piped()).stdout(Stdio::piped()).spawn().unwrap();
+    // a far too long order is not read to its end
+    let _ = program.stdin.take().unwrap().write_all(order);
+    program.wait_with_output().unwrap().stdout
 }
