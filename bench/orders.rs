@@ -20,7 +20,7 @@ pub struct Order {
 }
 
 impl Order {
-    fn new(bytes: Vec<u8>) -> Order {
+    pub fn new(bytes: Vec<u8>) -> Order {
         let asked: Asked = read(&bytes).unwrap();
         Order {
             town: String::from_utf8(bytes[asked.town.clone()].to_vec()).unwrap(),

@@ -2,7 +2,7 @@
 use crate::day_draw::midnight;
 use crate::orders::{orders, Order};
 use crate::rounds::beside;
-use crate::sheet_port::sheet;
+use crate::sheet_port::{write_sheet, LONGEST};
 use chrono::Datelike;
 use salah_plain::schedule::{access, PrayerTimes};
 use std::fmt::Write;
@@ -29,26 +29,47 @@ pub fn by_crate(order: &Order) -> String {
     sheet
 }
 
-/// The sheets of so many orders of so many rows each.
+pub fn by_port(orders: &[Order]) {
+    let mut buffer = vec![0; LONGEST];
+    for order in orders {
+        black_box(write_sheet(black_box(&order.bytes), &mut buffer));
+    }
+}
+
+/// The sheets of so many orders of so many rows each, as often as makes a round of some milliseconds.
 fn sheets(what: &str, count: usize, rows: u8) {
     let orders = orders(count, rows);
-    let port = &mut || orders.iter().for_each(|order| drop(black_box(sheet(black_box(&order.bytes)))));
-    let other = &mut || orders.iter().for_each(|order| drop(black_box(by_crate(black_box(order)))));
-    beside(ROUNDS, port, other).print_rate(what, count * rows as usize);
+    let times = 2000usize.div_ceil(count * rows as usize);
+    let mut buffer = vec![0; LONGEST];
+    let mut port = || {
+        for order in orders.iter().cycle().take(times * count) {
+            black_box(write_sheet(black_box(&order.bytes), &mut buffer));
+        }
+    };
+    let mut other = || {
+        for order in orders.iter().cycle().take(times * count) {
+            black_box(by_crate(black_box(order)));
+        }
+    };
+    beside(ROUNDS, &mut port, &mut other).print_rate(what, times * count * rows as usize);
 }
 
 pub fn whole() {
-    sheets("a sheet of 250 rows as text, a row", 8, 250);
+    sheets("a row of a sheet of 250, as text", 8, 250);
 }
 
-/// Rows of one order: what a row costs in a sheet of few and of many.
+/// What a row costs in a sheet of few and of many, all of one order.
 pub fn growing() {
-    for (what, count, rows) in [
-        ("one order, 1 row, a row", 1, 1),
-        ("one order, 10 rows, a row", 1, 10),
-        ("one order, 100 rows, a row", 1, 100),
-        ("one order, 250 rows, a row", 1, 250),
-    ] {
-        sheets(what, count, rows);
+    for rows in [1, 10, 100, 250] {
+        sheets(&format!("a row of one order with {rows}, as text"), 1, rows);
     }
+}
+
+/// Both sides print the same sheets.
+pub fn are_equal() -> bool {
+    let mut buffer = vec![0; LONGEST];
+    orders(20, 250).iter().all(|order| {
+        let length = write_sheet(&order.bytes, &mut buffer);
+        buffer[..length] == *by_crate(order).as_bytes()
+    })
 }
