@@ -31,9 +31,9 @@ use Rattle.schedule.specs.declared.prayer_times.PrayerTimes.{PrayerTimes}
 use Rattle.schedule.specs.declared.prayer_times.Worked.{Worked}
 use Rattle.schedule.specs.declared.prayer_times.Worked.the-variants as worked
 use Rattle.schedule.specs.InForce.{currentTimeOf}
-use Rattle.schedule_laws.specs.Carried.{Carried}
 use Rattle.schedule_laws.specs.Later.{withMinutes, LaterMinutes, Moved, placeOf, rowOf}
-use Rattle.schedule_laws.proofs.CarriedLaws.{presets-carried, still-carried, carried-held}
+use Rattle.schedule_laws.proofs.CarriedLaws.{carried-held}
+use Rattle.order_laws.proofs.AcceptedParameters.{accepted-carried}
 use Rattle.schedule_laws.proofs.InForceLaws.{not-after-by-parts}
 use Rattle.schedule_laws.proofs.LaterLaws.{later-minutes-move-the-row}
 use Rattle.calls.specs.declared.in_force.Named.{Named}
@@ -43,10 +43,7 @@ use Rattle.minutes.specs.Minutes.{withOwnMinutes, LaterOrder, NotAfter, 
 
 -- ---- what an accepted order's sums can be
 held : (order : Order) → Accepted order → (prayer : Prayer) → Near (2 ^ 32) (timeAdjustmentsOf (order .parameters) prayer)
-held order h =
-    let p = order .parameters in
-    let interval : Near 1440 (p .«isha_interval») = (h .«isha_interval» .0, omega (arith, h .«isha_interval» .1)) in
-    carried-held p (still-carried (presetOf (p .method)) p (presets-carried (p .method)) (h .preset) (h .«fajr_angle») (h .«isha_angle») interval (h .own))
+held order h = carried-held (order .parameters) (accepted-carried order h)
 
 -- ---- a row that the order lacks
 alike-refused : (p q : Parameters) (r : Refusal) → Moved p q (worked.Refused r) (worked.Refused r)

@@ -67,7 +67,8 @@ fn put_rows(buffer: &mut [u8], at: usize, order: Order) -> usize
         if row >= order.rows {
             return end;
         }
-        rolling = rolling.next(coordinates, parameters);
+        let next = rolling.next(coordinates, parameters);
+        rolling = next;
     }
 }
 
