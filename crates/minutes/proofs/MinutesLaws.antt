@@ -31,7 +31,8 @@ use Rattle.schedule.specs.declared.prayer_times.PrayerTimes.{PrayerTimes}
 use Rattle.schedule.specs.declared.prayer_times.Worked.{Worked}
 use Rattle.schedule.specs.declared.prayer_times.Worked.the-variants as worked
 use Rattle.schedule.specs.InForce.{currentTimeOf}
-use Rattle.schedule_laws.specs.Later.{withMinutes, LaterMinutes, Moved, placeOf, rowOf}
+use Rattle.schedule.specs.Times.{workedAt}
+use Rattle.schedule_laws.specs.Later.{withMinutes, LaterMinutes, Moved, placeOf}
 use Rattle.schedule_laws.proofs.CarriedLaws.{carried-held}
 use Rattle.order_laws.proofs.AcceptedParameters.{accepted-carried}
 use Rattle.schedule_laws.proofs.InForceLaws.{not-after-by-parts}
@@ -82,8 +83,8 @@ module _ (first : Order) (minutes : TimeAdjustment) (row : ℕ) where
       later : LaterMinutes p q
       later = record { alike = refl; more = more; «first_held» = held first h; «second_held» = held (withOwnMinutes first minutes) k }
 
-      by-test : (b : Bool) → Moved p q (cond b (rowOf (rowDateOf (first .date) row) (first .coordinates) p) (worked.Refused (refusal 5 3)))
-          (cond b (rowOf (rowDateOf (first .date) row) (first .coordinates) q) (worked.Refused (refusal 5 3)))
+      by-test : (b : Bool) → Moved p q (cond b (workedAt (rowDateOf (first .date) row) (first .coordinates) p) (worked.Refused (refusal 5 3)))
+          (cond b (workedAt (rowDateOf (first .date) row) (first .coordinates) q) (worked.Refused (refusal 5 3)))
       by-test true = later-minutes-move-the-row (rowDateOf (first .date) row) (first .coordinates) p q later
       by-test false = alike-refused p q (refusal 5 3)
 

@@ -17,9 +17,8 @@ use Rattle.fields.specs.Fields.{refusal}
 use Rattle.lines.specs.Lines.{daysOf, sizeOf, nineOf}
 use Rattle.order.specs.Accepted.{Accepted}
 use Rattle.order.specs.declared.reading.Order.{Order}
-use Rattle.schedule.specs.Hours.{hoursOf}
 use Rattle.schedule.specs.Numbers.{numbersOf}
-use Rattle.schedule.specs.Times.{startOf, workedOf}
+use Rattle.schedule.specs.Times.{startOf, workedAt}
 use Rattle.schedule.specs.declared.prayer_times.PrayerTimes.{PrayerTimes}
 use Rattle.schedule.specs.declared.prayer_times.Worked.{Worked}
 use Rattle.schedule.specs.declared.prayer_times.Worked.the-variants.{Times, Refused}
@@ -66,7 +65,7 @@ days-are-printed-whole order row t i h e l = by-row (ltb row (order .rows)) e
     date = rowDateOf (order .date) row
 
     by-row : (b : Bool)
-        → cond b (workedOf (hoursOf (numbersOf date (order .coordinates) (order .parameters))) date (order .coordinates .latitude) (order .parameters)) (Refused (refusal 5 3)) ≡ Times t
+        → cond b (workedAt date (order .coordinates) (order .parameters)) (Refused (refusal 5 3)) ≡ Times t
         → sizeOf (daysOf date (getD (nineOf t) i (pos 0))) ≤ 4
     by-row true w =
         nine-digits date t
