@@ -2,7 +2,6 @@
    are not lent, or at their end, in turn. All those bytes, lent or not, differ from place to place and from call to call, and after
    the call each is held against what it must be. */
 #define _DEFAULT_SOURCE
-#include <stdlib.h>
 #include <string.h>
 #include <sys/mman.h>
 #include <unistd.h>
@@ -12,15 +11,16 @@
 static uint8_t *room, *expected;
 static size_t room_size, buffer_at;
 
+/* The pages to lend from, and behind the second forbidden page as many for what they must hold. */
 bool buffer_start(void) {
   size_t page = (size_t)sysconf(_SC_PAGESIZE);
   room_size = 2 * page;
   if (room_size < BUFFER_MOST + 128) return false;
-  uint8_t *pages = mmap(NULL, room_size + 2 * page, PROT_NONE, MAP_PRIVATE | MAP_ANONYMOUS, -1, 0);
-  expected = malloc(room_size);
-  if (pages == MAP_FAILED || expected == NULL) return false;
+  uint8_t *pages = mmap(NULL, 2 * (page + room_size), PROT_NONE, MAP_PRIVATE | MAP_ANONYMOUS, -1, 0);
+  if (pages == MAP_FAILED) return false;
   room = pages + page;
-  return mprotect(room, room_size, PROT_READ | PROT_WRITE) == 0;
+  expected = room + room_size + page;
+  return mprotect(room, room_size, PROT_READ | PROT_WRITE) == 0 && mprotect(expected, room_size, PROT_READ | PROT_WRITE) == 0;
 }
 
 static uint8_t *lend_buffer(size_t size) {
