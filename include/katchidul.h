@@ -1,7 +1,7 @@
 /* Katchidul: what a host in C calls. Link with libkatchidul.a, which `rt staticlib katchidul` builds under target/staticlib.
 
    Each answer is a struct by value. `number` is 0 where the call succeeds; else it is the refusal's, `place` says where, and every
-   other field is 0. No call changes a byte of the order, keeps it or allocates; any bytes are answered.
+   other field is 0. No call changes a byte of the order, keeps what it is lent or allocates; any bytes are answered.
 
    number  when                                                              place
    0       nothing is refused                                                0
@@ -14,12 +14,13 @@
    6       a day has no transit                                              the day: 0 the row's date, 1 and 2 the two after it
    7       a day has no sunrise                                              the day
    8       a day has no sunset                                               the day
-   9       a row buffer is under 119 bytes (no call below gives it)          0
+   9       a row buffer is under 119 bytes                                   0
    10      an instant's seconds are beyond 10^12 either way, or its
            nanoseconds over 999,999,999                                      0
    11      next or remaining is asked while no prayer is in force            0
 
-   An instant (10) is checked before anything else in its calls; then the order (1 to 5), the row (5, place 3), the day (6 to 8), and 11. */
+   A buffer (9) and an instant (10) are checked before anything else in their calls; then the order (1 to 5), the row (5, place 3), the
+   day (6 to 8), and 11. */
 #ifndef KATCHIDUL_H
 #define KATCHIDUL_H
 
@@ -59,6 +60,11 @@ typedef struct {
   uint32_t number, place, hours, minutes;
 } katchidul_remaining;
 
+/* What a call says that writes into a buffer. */
+typedef struct {
+  uint32_t number, place;
+} katchidul_reply;
+
 /* Reads an order. Refusals 1 to 5. */
 katchidul_order katchidul_read_order(const uint8_t *order, size_t length);
 
@@ -73,6 +79,12 @@ katchidul_prayer katchidul_next_at(const uint8_t *order, size_t length, uint32_t
 
 /* Tells the time until the next prayer. Refusals 1 to 8, 10 and 11. */
 katchidul_remaining katchidul_remaining_at(const uint8_t *order, size_t length, uint32_t row, int64_t seconds, uint32_t nanoseconds);
+
+/* Writes a row's line at the front of a buffer of `size` bytes, at least 119 (9 below that): the row's date, then the nine times, each as
+   signed days from that date, T and the UTC time (`+0T05:12:00`), with a blank before each and a newline at the end. A full row has
+   119 bytes with its newline and no zero byte after it; the buffer's bytes after them stay. Where the call is refused no byte of the
+   buffer changes. The buffer and the order must not overlap. Refusals 1 to 9. */
+katchidul_reply katchidul_write_row(const uint8_t *order, size_t length, uint32_t row, uint8_t *buffer, size_t size);
 
 #ifdef __cplusplus
 }

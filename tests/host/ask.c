@@ -18,6 +18,7 @@ _Static_assert(sizeof(katchidul_order) == 8 * 4 + 4 * 8 + 12 * 4, "katchidul_ord
 _Static_assert(sizeof(katchidul_day) == 2 * 4 + 9 * 8, "katchidul_day has padding");
 _Static_assert(sizeof(katchidul_prayer) == 3 * 4, "katchidul_prayer has padding");
 _Static_assert(sizeof(katchidul_remaining) == 4 * 4, "katchidul_remaining has padding");
+_Static_assert(sizeof(katchidul_reply) == 2 * 4, "katchidul_reply has padding");
 
 bool ask_start(void) {
   size_t page = (size_t)sysconf(_SC_PAGESIZE);
@@ -29,7 +30,7 @@ bool ask_start(void) {
   return mprotect(room, page, PROT_READ | PROT_WRITE) == 0;
 }
 
-static const uint8_t *lend(const order_bytes *order) {
+const uint8_t *lend(const order_bytes *order) {
   at_the_end = !at_the_end;
   size_t at = at_the_end ? room_size - order->length : 64;
   memset(room, CANARY, room_size);
@@ -42,9 +43,23 @@ static bool all_canaries(const uint8_t *from, const uint8_t *to) {
   return from >= to;
 }
 
-static bool kept(const order_bytes *order, const uint8_t *lent) {
+bool order_kept(const order_bytes *order, const uint8_t *lent) {
   return memcmp(lent, order->bytes, order->length) == 0 && all_canaries(room, lent) &&
          all_canaries(lent + order->length, room + room_size);
+}
+
+/* The sizes go from the least that a row takes on; buffers under it are asked for by themselves. */
+static void ask_row(answers *all, const order_bytes *order, const uint8_t *lent, uint32_t row) {
+  static const size_t sizes[] = {ROW_LENGTH, ROW_LENGTH + 1, 200, BUFFER_MOST};
+  static uint32_t call;
+  all->written = write_lent(lent, order->length, row, sizes[call++ % 4]);
+  all->lent_kept = all->lent_kept && order_kept(order, lent);
+  all->line_right = false;
+  if (all->written.number != 0) all->line_right = buffer_kept();
+  else if (all->order.number == 0 && all->day.number == 0) {
+    row_line line = line_of(&all->order, row, &all->day);
+    all->line_right = buffer_has(&line);
+  }
 }
 
 answers ask(const order_bytes *order, uint32_t row, int64_t seconds, uint32_t nanoseconds) {
@@ -52,15 +67,16 @@ answers ask(const order_bytes *order, uint32_t row, int64_t seconds, uint32_t na
   size_t length = order->length;
   const uint8_t *lent = lend(order);
   all.order = katchidul_read_order(lent, length);
-  all.lent_kept = kept(order, lent);
+  all.lent_kept = order_kept(order, lent);
   all.day = katchidul_work_day(lent, length, row);
-  all.lent_kept = all.lent_kept && kept(order, lent);
+  all.lent_kept = all.lent_kept && order_kept(order, lent);
   all.prayer = katchidul_prayer_at(lent, length, row, seconds, nanoseconds);
-  all.lent_kept = all.lent_kept && kept(order, lent);
+  all.lent_kept = all.lent_kept && order_kept(order, lent);
   all.next = katchidul_next_at(lent, length, row, seconds, nanoseconds);
-  all.lent_kept = all.lent_kept && kept(order, lent);
+  all.lent_kept = all.lent_kept && order_kept(order, lent);
   all.remaining = katchidul_remaining_at(lent, length, row, seconds, nanoseconds);
-  all.lent_kept = all.lent_kept && kept(order, lent);
+  all.lent_kept = all.lent_kept && order_kept(order, lent);
+  ask_row(&all, order, lent, row);
   return all;
 }
 
@@ -90,6 +106,10 @@ bool instant_refused(const answers *all, uint32_t number, uint32_t place) {
          remaining_refused(&all->remaining, number, place);
 }
 
+bool line_answered(const answers *all, uint32_t number, uint32_t place) {
+  return all->written.number == number && all->written.place == place && all->line_right;
+}
+
 bool row_refused(const answers *all, uint32_t number, uint32_t place) {
-  return day_refused(&all->day, number, place) && instant_refused(all, number, place);
+  return day_refused(&all->day, number, place) && line_answered(all, number, place) && instant_refused(all, number, place);
 }

@@ -105,12 +105,15 @@ void check_damaged(uint32_t orders) {
     answers all = ask(&order, row, seconds, nanoseconds);
     snprintf(what, sizeof what, "order %u of the random and damaged ones", i);
     check(answers_agree(&all, row, seconds, nanoseconds), what);
+    if (below(8) == 0) {
+      numbers[9]++;
+      check(row_unwritten(&order, row, below(ROW_LENGTH), 9, 0), what);
+    }
     if (all.day.number < 12) numbers[all.day.number]++;
     if (all.next.number >= 10 && all.next.number < 12) numbers[all.next.number]++;
   }
   printf("host: random and damaged orders by number:");
   for (uint32_t number = 0; number < 12; number++) {
-    if (number == 9) continue;
     printf(" %u: %u", number, numbers[number]);
     /* 6 and 8 are rare: a few thousand orders may miss them. */
     check(numbers[number] > 0 || orders < 40000, "the random and damaged orders meet every number");

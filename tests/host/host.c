@@ -15,7 +15,7 @@ void check(bool holds, const char *what) {
 
 int main(int count, char **arguments) {
   uint32_t orders = count > 1 ? (uint32_t)strtoul(arguments[1], NULL, 10) : 200000;
-  if (!ask_start()) {
+  if (!ask_start() || !buffer_start()) {
     fprintf(stderr, "host: no pages to lend from\n");
     return 2;
   }
@@ -24,6 +24,7 @@ int main(int count, char **arguments) {
   check_records();
   check_days();
   check_instants();
+  check_lines();
   check_damaged(orders);
   printf("host: %lu checks, %lu failed\n", checks, failed);
   return failed == 0 ? 0 : 1;

@@ -9,6 +9,8 @@
 #include "katchidul.h"
 
 #define ORDER_ROOM 2048
+#define ROW_LENGTH 119
+#define BUFFER_MOST 4096
 
 typedef struct {
   size_t length;
@@ -41,19 +43,44 @@ typedef struct {
   katchidul_day day;
   katchidul_prayer prayer, next;
   katchidul_remaining remaining;
-  bool lent_kept; /* every lent byte and every byte around it is as before, after each call */
+  katchidul_reply written;
+  bool line_right; /* the buffer begins with the row's line, or the row is refused; every other byte of it and around it is as before */
+  bool lent_kept;  /* every byte of the order and every byte around it is as before, after each call */
 } answers;
 
 bool ask_start(void);
+/* Lends an order's bytes until the next order is lent. */
+const uint8_t *lend(const order_bytes *order);
+bool order_kept(const order_bytes *order, const uint8_t *lent);
 answers ask(const order_bytes *order, uint32_t row, int64_t seconds, uint32_t nanoseconds);
 bool order_refused(const katchidul_order *answer, uint32_t number, uint32_t place);
 bool day_refused(const katchidul_day *answer, uint32_t number, uint32_t place);
 bool prayer_refused(const katchidul_prayer *answer, uint32_t number, uint32_t place);
 bool remaining_refused(const katchidul_remaining *answer, uint32_t number, uint32_t place);
-/* All four calls on a row give this number and place and nothing else. */
+/* Writing the row gives this number and place, and the buffer is as they say. */
+bool line_answered(const answers *all, uint32_t number, uint32_t place);
+/* All five calls on a row give this number and place and nothing else. */
 bool row_refused(const answers *all, uint32_t number, uint32_t place);
 /* The three calls on an instant give this number and place and nothing else. */
 bool instant_refused(const answers *all, uint32_t number, uint32_t place);
+
+/* line.c: the line of a row that the order has, from what the other calls answer. Times that no order has make a longer one. */
+typedef struct {
+  char text[512];
+  size_t length;
+} row_line;
+
+row_line line_of(const katchidul_order *order, uint32_t row, const katchidul_day *day);
+
+/* buffer.c: a row asked into a lent buffer of up to BUFFER_MOST bytes. */
+bool buffer_start(void);
+katchidul_reply write_lent(const uint8_t *order, size_t length, uint32_t row, size_t size);
+/* After write_lent: no byte has changed; or the line stands at the buffer's front and no byte after it has changed. */
+bool buffer_kept(void);
+bool buffer_has(const row_line *line);
+/* The whole of a call: its answer, its buffer, its order. */
+bool row_written(const order_bytes *order, uint32_t row, size_t size, const row_line *line);
+bool row_unwritten(const order_bytes *order, uint32_t row, size_t size, uint32_t number, uint32_t place);
 
 /* sense.c: what holds of every answer, whatever the order. */
 bool answers_agree(const answers *all, uint32_t row, int64_t seconds, uint32_t nanoseconds);
@@ -69,6 +96,7 @@ void check_ranges(void);
 void check_records(void);
 void check_days(void);
 void check_instants(void);
+void check_lines(void);
 void check_damaged(uint32_t orders);
 
 #endif

@@ -19,10 +19,8 @@ use Rattle.schedule.specs.declared.in_force.Remaining.{Remaining}
 use Rattle.schedule.specs.declared.in_force.Remaining.the-variants.{In, Nothing}
 use Rattle.schedule.specs.declared.prayer_times.Worked.{Worked}
 use Rattle.schedule.specs.declared.prayer_times.Worked.the-variants as worked
-use Rattle.schedule.specs.Hours.{hoursOf}
 use Rattle.schedule.specs.InForce.{currentTimeOf, nextOf, timeRemainingOf}
-use Rattle.schedule.specs.Numbers.{numbersOf}
-use Rattle.schedule.specs.Times.{workedOf}
+use Rattle.schedule.specs.Times.{workedAt}
 use Rattle.calls.specs.declared.in_force.Named.{Named}
 use Rattle.calls.specs.declared.in_force.Named.the-variants as named
 use Rattle.calls.specs.declared.in_force.Following.{Following}
@@ -35,8 +33,7 @@ use Rattle.calls.specs.declared.in_force.Left.the-variants as left
 unfoldable pub workRowOf : Order → ℕ → Worked
 workRowOf order row =
     let date = rowDateOf (order .date) row in
-    let place = order .coordinates in
-    cond (ltb row (order .rows)) (workedOf (hoursOf (numbersOf date place (order .parameters))) date (place .latitude) (order .parameters)) (worked.Refused (refusal 5 3))
+    cond (ltb row (order .rows)) (workedAt date (order .coordinates) (order .parameters)) (worked.Refused (refusal 5 3))
 
 unfoldable pub workReadingOf : Reading → ℕ → Worked
 workReadingOf (reading.Read order) row = workRowOf order row

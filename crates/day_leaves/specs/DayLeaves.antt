@@ -7,9 +7,6 @@ use Rattle.models.specs.Numbers.{methodOf, methodNumberOf, madhabOf, madhabNumb
 use Rattle.models.specs.Presets.{presetOf}
 use Rattle.calendar.specs.declared.dates.Date.{Date}
 use Rattle.unit.specs.declared.Coordinates.{Coordinates}
-use Rattle.schedule.specs.Hours.{hoursOf}
-use Rattle.schedule.specs.Numbers.{numbersOf}
-use Rattle.schedule.specs.Times.{workedOf}
 use Rattle.models.specs.declared.adjustments.TimeAdjustment.{TimeAdjustment}
 use Rattle.models.specs.declared.parameters.Parameters.{Parameters}
 use Rattle.solar.specs.declared.hours.HourNumbers.{HourNumbers}
@@ -89,10 +86,6 @@ noTimes = record { fajr = pos 0; sunrise = pos 0; dhuhr = pos 0; asr = pos 0; ma
 unfoldable pub leafDayOf : Worked → LeafDay
 leafDayOf (Times t) = record { number = 0; place = 0; times = leafTimesOf t }
 leafDayOf (Refused r) = record { number = r .number; place = r .place; times = noTimes }
-
--- a row from its date and place on
-unfoldable pub placeRowOf : Date → Coordinates → Parameters → Worked
-placeRowOf date place p = workedOf (hoursOf (numbersOf date place p)) date (place .latitude) p
 
 abbrev pub instantFrom : ℤ → ℕ → Instant
 instantFrom seconds nanoseconds = record { seconds = seconds; nanoseconds = nanoseconds }

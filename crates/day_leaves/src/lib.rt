@@ -5,9 +5,9 @@ ghost use Rattle.models.specs.Numbers.{methodOf};
 ghost use Rattle.models.specs.Presets.{presetOf};
 ghost use Rattle.unit.specs.Unit.{coordinatesOf};
 ghost use Rattle.schedule.specs.Hours.{hoursOf};
-ghost use Rattle.schedule.specs.Times.{workedOf};
+ghost use Rattle.schedule.specs.Times.{workedOf, workedAt};
 ghost use Rattle.schedule.specs.InForce.{currentTimeOf, nextOf, timeRemainingOf};
-ghost use Rattle.day_leaves.specs.DayLeaves.{sunOf, rowOf, minutesFrom, parametersFrom, settingsOf, leafTimesOf, noTimes, leafDayOf, placeRowOf, timesFrom, instantFrom, currentNumberOf, leafRemainingOf};
+ghost use Rattle.day_leaves.specs.DayLeaves.{sunOf, rowOf, minutesFrom, parametersFrom, settingsOf, leafTimesOf, noTimes, leafDayOf, timesFrom, instantFrom, currentNumberOf, leafRemainingOf};
 use calendar::dates::Date;
 use models::adjustments::TimeAdjustment;
 use models::high_altitude_rule::HighLatitudeRule;
@@ -253,7 +253,7 @@ pub extern "C" fn leaf_row(
     longitude: f64,
     settings: LeafSettings,
 ) -> LeafDay
-    ensures { λ r. ⌜ r ≡ leafDayOf (placeRowOf (dateOf year month day) (coordinatesOf latitude longitude) (parametersFrom settings)) ⌝ }
+    ensures { λ r. ⌜ r ≡ leafDayOf (workedAt (dateOf year month day) (coordinatesOf latitude longitude) (parametersFrom settings)) ⌝ }
 {
     let date = Date::new(year, month, day);
     let parameters = parameters(settings);

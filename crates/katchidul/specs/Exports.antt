@@ -32,6 +32,7 @@ use Rattle.katchidul.specs.declared.KatchidulTimes.{KatchidulTimes}
 use Rattle.katchidul.specs.declared.KatchidulDay.{KatchidulDay}
 use Rattle.katchidul.specs.declared.KatchidulPrayer.{KatchidulPrayer}
 use Rattle.katchidul.specs.declared.KatchidulRemaining.{KatchidulRemaining}
+use Rattle.katchidul.specs.declared.KatchidulReply.{KatchidulReply}
 
 -- ---- an order
 -- The value of tag 1 begins 3 bytes after its field. An order that is read has 1,024 bytes at most, so neither test fails there.
@@ -131,3 +132,7 @@ nextAnswerOf (following.Refused r) = record { number = r .number; place = r .pla
 unfoldable pub remainingAnswerOf : Left → KatchidulRemaining
 remainingAnswerOf (left.Time t) = record { number = 0; place = 0; hours = t .hours; minutes = t .minutes }
 remainingAnswerOf (left.Refused r) = record { number = r .number; place = r .place; hours = 0; minutes = 0 }
+
+-- ---- a row in a lent buffer: number and place are all that it answers
+unfoldable pub replyOf : Refusal → KatchidulReply
+replyOf r = record { number = r .number; place = r .place }

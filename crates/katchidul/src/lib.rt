@@ -2,7 +2,8 @@
 ghost use mathlib.Core.Path.{_≡_};
 ghost use Rattle.integers.specs.Parts.{P};
 ghost use Rattle.calls.specs.Calls.{workDayOf, prayerAtOf, nextAtOf, remainingAtOf};
-ghost use Rattle.katchidul.specs.Exports.{townAtOf, townLengthOf, minutesAnswerOf, noMinutesAnswer, orderRead, orderRefused, orderAnswerOf, timesAnswerOf, noTimesAnswer, dayAnswerOf, currentNumberOf, prayerAnswerOf, nextAnswerOf, remainingAnswerOf};
+ghost use Rattle.rows.specs.Rows.{rowAnswerOf, rowBufferOf};
+ghost use Rattle.katchidul.specs.Exports.{townAtOf, townLengthOf, minutesAnswerOf, noMinutesAnswer, orderRead, orderRefused, orderAnswerOf, timesAnswerOf, noTimesAnswer, dayAnswerOf, currentNumberOf, prayerAnswerOf, nextAnswerOf, remainingAnswerOf, replyOf};
 use calls::day::work_day;
 use calls::in_force::Following;
 use calls::in_force::Left;
@@ -17,6 +18,7 @@ use models::refusal::Refusal;
 use order::reading::Order;
 use order::reading::Reading;
 use order::reading::read;
+use rows::row::write_row;
 use schedule::in_force::Current;
 use schedule::prayer_times::PrayerTimes;
 use schedule::prayer_times::Worked;
@@ -89,6 +91,12 @@ pub struct KatchidulRemaining {
     pub place: u32,
     pub hours: u32,
     pub minutes: u32,
+}
+
+#[repr(C)]
+pub struct KatchidulReply {
+    pub number: u32,
+    pub place: u32,
 }
 
 // Where the town's name begins in the order.
@@ -376,4 +384,21 @@ pub extern "C" fn katchidul_remaining_at(
     ensures { λ r. ⌜ r ≡ remainingAnswerOf (remainingAtOf (now (order .entry)) row seconds nanoseconds) ⌝ }
 {
     remaining_answer(remaining_at(order, row, seconds, nanoseconds))
+}
+
+fn reply(refusal: Refusal) -> KatchidulReply
+    ensures { λ r. ⌜ r ≡ replyOf refusal ⌝ }
+{
+    KatchidulReply {
+        number: refusal.number,
+        place: refusal.place,
+    }
+}
+
+#[no_mangle]
+pub extern "C" fn katchidul_write_row(order: &[u8], row: u32, buffer: &mut [u8]) -> KatchidulReply
+    ensures { λ r. ⌜ r ≡ replyOf (rowAnswerOf (now (order .entry)) row (now (buffer .entry))) ⌝ }
+    ensures { λ _. ⌜ now (buffer .exit) ≡ rowBufferOf (now (order .entry)) row (now (buffer .entry)) ⌝ }
+{
+    reply(write_row(order, row, &mut buffer[..]))
 }

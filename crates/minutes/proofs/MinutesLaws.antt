@@ -31,9 +31,10 @@ use Rattle.schedule.specs.declared.prayer_times.PrayerTimes.{PrayerTimes}
 use Rattle.schedule.specs.declared.prayer_times.Worked.{Worked}
 use Rattle.schedule.specs.declared.prayer_times.Worked.the-variants as worked
 use Rattle.schedule.specs.InForce.{currentTimeOf}
-use Rattle.schedule_laws.specs.Carried.{Carried}
-use Rattle.schedule_laws.specs.Later.{withMinutes, LaterMinutes, Moved, placeOf, rowOf}
-use Rattle.schedule_laws.proofs.CarriedLaws.{presets-carried, still-carried, carried-held}
+use Rattle.schedule.specs.Times.{workedAt}
+use Rattle.schedule_laws.specs.Later.{withMinutes, LaterMinutes, Moved, placeOf}
+use Rattle.schedule_laws.proofs.CarriedLaws.{carried-held}
+use Rattle.order_laws.proofs.AcceptedParameters.{accepted-carried}
 use Rattle.schedule_laws.proofs.InForceLaws.{not-after-by-parts}
 use Rattle.schedule_laws.proofs.LaterLaws.{later-minutes-move-the-row}
 use Rattle.calls.specs.declared.in_force.Named.{Named}
@@ -43,10 +44,7 @@ use Rattle.minutes.specs.Minutes.{withOwnMinutes, LaterOrder, NotAfter, 
 
 -- ---- what an accepted order's sums can be
 held : (order : Order) → Accepted order → (prayer : Prayer) → Near (2 ^ 32) (timeAdjustmentsOf (order .parameters) prayer)
-held order h =
-    let p = order .parameters in
-    let interval : Near 1440 (p .«isha_interval») = (h .«isha_interval» .0, omega (arith, h .«isha_interval» .1)) in
-    carried-held p (still-carried (presetOf (p .method)) p (presets-carried (p .method)) (h .preset) (h .«fajr_angle») (h .«isha_angle») interval (h .own))
+held order h = carried-held (order .parameters) (accepted-carried order h)
 
 -- ---- a row that the order lacks
 alike-refused : (p q : Parameters) (r : Refusal) → Moved p q (worked.Refused r) (worked.Refused r)
@@ -85,8 +83,8 @@ module _ (first : Order) (minutes : TimeAdjustment) (row : ℕ) where
       later : LaterMinutes p q
       later = record { alike = refl; more = more; «first_held» = held first h; «second_held» = held (withOwnMinutes first minutes) k }
 
-      by-test : (b : Bool) → Moved p q (cond b (rowOf (rowDateOf (first .date) row) (first .coordinates) p) (worked.Refused (refusal 5 3)))
-          (cond b (rowOf (rowDateOf (first .date) row) (first .coordinates) q) (worked.Refused (refusal 5 3)))
+      by-test : (b : Bool) → Moved p q (cond b (workedAt (rowDateOf (first .date) row) (first .coordinates) p) (worked.Refused (refusal 5 3)))
+          (cond b (workedAt (rowDateOf (first .date) row) (first .coordinates) q) (worked.Refused (refusal 5 3)))
       by-test true = later-minutes-move-the-row (rowDateOf (first .date) row) (first .coordinates) p q later
       by-test false = alike-refused p q (refusal 5 3)
 

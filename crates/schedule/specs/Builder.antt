@@ -10,9 +10,7 @@ use Rattle.unit.specs.Unit.{coordinatesOf}
 use Rattle.schedule.specs.declared.prayer_schedule.PrayerSchedule.{PrayerSchedule}
 use Rattle.schedule.specs.declared.prayer_schedule.Calculated.{Calculated}
 use Rattle.schedule.specs.declared.prayer_schedule.Calculated.the-variants.{Worked, Missing}
-use Rattle.schedule.specs.Hours.{hoursOf}
-use Rattle.schedule.specs.Numbers.{numbersOf}
-use Rattle.schedule.specs.Times.{workedOf}
+use Rattle.schedule.specs.Times.{workedAt}
 
 -- the values of what is missing stand for nothing
 unfoldable pub noSchedule : PrayerSchedule
@@ -39,4 +37,4 @@ withConfigurationOf s p = record { dated = s .dated; date = s .date; located = s
 unfoldable pub calculateOf : PrayerSchedule → Calculated
 calculateOf s =
     cond (s .dated && s .located && s .configured)
-    (Worked (workedOf (hoursOf (numbersOf (s .date) (s .coordinates) (s .params))) (s .date) (s .coordinates .latitude) (s .params))) Missing
+    (Worked (workedAt (s .date) (s .coordinates) (s .params))) Missing

@@ -16,10 +16,13 @@ use Rattle.solar.specs.declared.times.SolarTime.{SolarTime}
 use Rattle.solar.specs.declared.times.SolarDay.{SolarDay}
 use Rattle.solar.specs.declared.times.SolarDay.the-variants.{Whole, Lacks}
 use Rattle.solar.specs.Times.{firstLackOf}
+use Rattle.unit.specs.declared.Coordinates.{Coordinates}
 use Rattle.schedule.specs.declared.hours.RowHours.{RowHours}
 use Rattle.schedule.specs.declared.prayer_times.PrayerTimes.{PrayerTimes}
 use Rattle.schedule.specs.declared.prayer_times.Worked.{Worked}
 use Rattle.schedule.specs.declared.prayer_times.Worked.the-variants.{Times, Refused}
+use Rattle.schedule.specs.Hours.{hoursOf}
+use Rattle.schedule.specs.Numbers.{numbersOf}
 use Rattle.schedule.specs.Twilight.{nextDayOf, orOf, calculateFajrOf, calculateIshaOf}
 
 -- a date's 0h, in seconds from 1970-01-01 0h
@@ -74,3 +77,7 @@ workedFrom (Whole x) (Whole y) (Whole z) h date latitude p = Times (timesOf p la
 
 unfoldable pub workedOf : RowHours → Date → Float → Parameters → Worked
 workedOf h date latitude p = workedFrom (h .today) (h .tomorrow) (h .after) h date latitude p
+
+-- the whole way: from date, place and parameters
+abbrev pub workedAt : Date → Coordinates → Parameters → Worked
+workedAt date place p = workedOf (hoursOf (numbersOf date place p)) date (place .latitude) p

@@ -24,9 +24,8 @@ use Rattle.schedule.specs.declared.prayer_times.Worked.{Worked}
 use Rattle.schedule.specs.declared.prayer_times.Worked.the-variants.{Times, Refused}
 use Rattle.schedule.specs.Hours.{hoursOf}
 use Rattle.schedule.specs.InForce.{nanosecondsOf, currentTimeOf}
-use Rattle.schedule.specs.Numbers.{numbersOf}
 use Rattle.schedule.specs.Rooms.{Near}
-use Rattle.schedule.specs.Times.{workedOf}
+use Rattle.schedule.specs.Times.{workedOf, workedAt}
 
 -- ---- "differ only in schools' own minutes, and the second's sum (own plus method's) for each of the six prayers is at least the first's"
 abbrev pub withMinutes : Parameters → TimeAdjustment → Parameters
@@ -109,8 +108,5 @@ LaterMinutesMoveTheDay =
     → Moved p q (workedOf (hoursOf n) date latitude p) (workedOf (hoursOf n) date latitude q)
 
 -- from date and place on: the minutes change no hour number
-abbrev pub rowOf : Date → Coordinates → Parameters → Worked
-rowOf date place p = workedOf (hoursOf (numbersOf date place p)) date (place .latitude) p
-
 abbrev pub LaterMinutesMoveTheRow : Type 0
-LaterMinutesMoveTheRow = (date : Date) (place : Coordinates) (p q : Parameters) → LaterMinutes p q → Moved p q (rowOf date place p) (rowOf date place q)
+LaterMinutesMoveTheRow = (date : Date) (place : Coordinates) (p q : Parameters) → LaterMinutes p q → Moved p q (workedAt date place p) (workedAt date place q)

@@ -1,0 +1,2 @@
+pub mod AcceptedParameters
+pub mod PrintedLaws

@@ -1,0 +1,18 @@
+-- Document 01, "The sheet": "each as signed days from the row's date". The days of every time that a sheet prints are one digit, so nothing of them is
+-- cut. Proved in proofs/PrintedLaws.
+use mathlib.Core.Path.{_≡_}
+use Prim.Native.Nat.{ℕ, _≤_, _<_}
+use lib.IntN.{pos}
+use lib.ListN.{getD}
+use Rattle.calendar.specs.Answers.{rowDateOf}
+use Rattle.calls.specs.Calls.{workRowOf}
+use Rattle.lines.specs.Lines.{daysOf, sizeOf, nineOf}
+use Rattle.order.specs.Accepted.{Accepted}
+use Rattle.order.specs.declared.reading.Order.{Order}
+use Rattle.schedule.specs.declared.prayer_times.PrayerTimes.{PrayerTimes}
+use Rattle.schedule.specs.declared.prayer_times.Worked.the-variants.{Times}
+
+abbrev pub DaysArePrintedWhole : Type 0
+DaysArePrintedWhole =
+    (order : Order) (row : ℕ) (t : PrayerTimes) (i : ℕ) → Accepted order → workRowOf order row ≡ Times t → i < 9
+    → sizeOf (daysOf (rowDateOf (order .date) row) (getD (nineOf t) i (pos 0))) ≤ 4
