@@ -1,6 +1,24 @@
-//! Two ways to the same work, timed one after the other in many rounds. The machine's other work falls on both alike, so that the
-//! rounds' ratios say more than the times.
-use std::time::Instant;
+//! Two ways to the same work, timed one after the other in many rounds by the processor time that they take, so that the machine's
+//! other work hardly counts; what it still costs falls on both alike, so that the rounds' ratios say more than the times.
+
+#[repr(C)]
+struct Timespec {
+    seconds: i64,
+    nanoseconds: i64,
+}
+
+const CLOCK_THREAD_CPUTIME_ID: i32 = 3;
+
+extern "C" {
+    fn clock_gettime(clock: i32, time: *mut Timespec) -> i32;
+}
+
+/// Seconds that this thread has had of a processor.
+fn processor_time() -> f64 {
+    let mut time = Timespec { seconds: 0, nanoseconds: 0 };
+    unsafe { clock_gettime(CLOCK_THREAD_CPUTIME_ID, &mut time) };
+    time.seconds as f64 + time.nanoseconds as f64 * 1e-9
+}
 
 /// Seconds for the work of a round: medians, and the port's over the crate's at the 10th, 50th and 90th hundredth of the rounds.
 pub struct Measured {
@@ -10,9 +28,9 @@ pub struct Measured {
 }
 
 fn seconds(work: &mut dyn FnMut()) -> f64 {
-    let start = Instant::now();
+    let start = processor_time();
     work();
-    start.elapsed().as_secs_f64()
+    processor_time() - start
 }
 
 fn at(list: &mut [f64], percent: usize) -> f64 {

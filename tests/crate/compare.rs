@@ -20,6 +20,7 @@ mod orders;
 mod plain;
 mod row_crate;
 mod row_numbers;
+mod row_written;
 mod rows;
 mod settings;
 mod sheet_owed;

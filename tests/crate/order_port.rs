@@ -1,4 +1,4 @@
-//! What a host asks of the port: the five calls of include/katchidul.h, each answer as it declares it.
+//! What a host asks of the port: the six calls of include/katchidul.h, each answer as it declares it.
 use crate::day_crate::Refusal;
 use crate::day_draw::Instant;
 
@@ -51,6 +51,19 @@ pub struct KatchidulRemaining {
     pub minutes: u32,
 }
 
+#[derive(Debug, Clone, Copy, Default, PartialEq)]
+#[repr(C)]
+pub struct KatchidulReply {
+    pub number: u32,
+    pub place: u32,
+}
+
+impl From<Refusal> for KatchidulReply {
+    fn from(Refusal { number, place }: Refusal) -> KatchidulReply {
+        KatchidulReply { number, place }
+    }
+}
+
 /// A refused answer has number and place, and 0 in every other field.
 macro_rules! refused_as {
     ($answer:ident) => {
@@ -75,6 +88,7 @@ extern "C" {
     fn katchidul_prayer_at(order: *const u8, length: usize, row: u32, seconds: i64, nanoseconds: u32) -> KatchidulPrayer;
     fn katchidul_next_at(order: *const u8, length: usize, row: u32, seconds: i64, nanoseconds: u32) -> KatchidulPrayer;
     fn katchidul_remaining_at(order: *const u8, length: usize, row: u32, seconds: i64, nanoseconds: u32) -> KatchidulRemaining;
+    fn katchidul_write_row(order: *const u8, length: usize, row: u32, buffer: *mut u8, size: usize) -> KatchidulReply;
 }
 
 pub fn read_order(order: &[u8]) -> KatchidulOrder {
@@ -95,6 +109,10 @@ pub fn next_at(order: &[u8], row: u32, at: Instant) -> KatchidulPrayer {
 
 pub fn remaining_at(order: &[u8], row: u32, at: Instant) -> KatchidulRemaining {
     unsafe { katchidul_remaining_at(order.as_ptr(), order.len(), row, at.seconds, at.nanoseconds) }
+}
+
+pub fn write_row(order: &[u8], row: u32, buffer: &mut [u8]) -> KatchidulReply {
+    unsafe { katchidul_write_row(order.as_ptr(), order.len(), row, buffer.as_mut_ptr(), buffer.len()) }
 }
 
 /// The answer's fields in its order, a float by its bits, so that -0.0 is not 0.0.

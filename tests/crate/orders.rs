@@ -6,13 +6,14 @@ use crate::draw::Draw;
 use crate::order_damage::KINDS;
 use crate::order_owed::{InstantAnswers, Order, FARTHEST};
 use crate::order_port::{self, KatchidulDay, KatchidulOrder, ORDER_FIELDS};
+use crate::row_written::Written;
 use crate::summary::Line;
 use crate::threads::shared;
 use salah_leaves::schedule::{access, PrayerTimes};
 
 /// What is compared, a line of the table each. The fields of the order that was read come first.
-const LINES: [&str; 30] = {
-    let mut lines = [""; 30];
+const LINES: [&str; 32] = {
+    let mut lines = [""; 32];
     let mut line = 0;
     while line < ORDER_FIELDS.len() {
         lines[line] = ORDER_FIELDS[line];
@@ -20,6 +21,7 @@ const LINES: [&str; 30] = {
     }
     (lines[NUMBER], lines[PLACE], lines[TIMES]) = ("day's number", "day's place", "nine times");
     (lines[PRAYER], lines[NEXT], lines[REMAINING]) = ("prayer in force", "next prayer", "time remaining");
+    (lines[REPLY], lines[BUFFER]) = ("written row's reply", "written row's buffer");
     lines
 };
 const NUMBER: usize = 24;
@@ -28,6 +30,8 @@ const TIMES: usize = 26;
 const PRAYER: usize = 27;
 const NEXT: usize = 28;
 const REMAINING: usize = 29;
+const REPLY: usize = 30;
+const BUFFER: usize = 31;
 
 pub struct Orders {
     counts: Counts<{ LINES.len() }>,
@@ -68,6 +72,7 @@ impl Orders {
         for row in draw.rows_of(&order) {
             let day = order.day(row);
             self.day(&order, row, &day);
+            self.written(draw, &order, row, &day);
             self.instants(draw, &order, row, &day, instants);
         }
     }
@@ -97,6 +102,15 @@ impl Orders {
         self.counts.add(NUMBER, ours.number == owed.number, what);
         self.counts.add(PLACE, ours.place == owed.place, what);
         self.counts.add(TIMES, ours.times == owed.times, what);
+    }
+
+    fn written(&mut self, draw: &Draw, order: &Order, row: u32, day: &Result<PrayerTimes, Refusal>) {
+        // by its own draw, so that the instants do not hang on buffers
+        let before = Draw(draw.0).row_buffer();
+        let (ours, owed) = (Written::by_port(order.bytes, row, &before), Written::owed(order, row, day, &before));
+        let what = || format!("port {ours:?}, owed {owed:?}, row {row}, order {}", hexadecimal(order.bytes));
+        self.counts.add(REPLY, ours.reply == owed.reply, what);
+        self.counts.add(BUFFER, ours.buffer == owed.buffer, what);
     }
 
     /// Of a row without times one instant, since all are answered alike; of any row one more, that is mostly refused itself.
@@ -163,7 +177,8 @@ impl Orders {
         vec![
             self.counts.line("orders: fields read, or the refusal", 0..NUMBER),
             self.counts.line("orders: nine times of a row, or the refusal", NUMBER..PRAYER),
-            self.counts.line("orders: prayer, next and remaining at an instant", PRAYER..LINES.len()),
+            self.counts.line("orders: prayer, next and remaining at an instant", PRAYER..REPLY),
+            self.counts.line("orders: a row written, and every byte of the buffer", REPLY..LINES.len()),
         ]
     }
 }
