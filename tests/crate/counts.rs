@@ -44,6 +44,7 @@ impl<const N: usize> Counts<N> {
     }
 
     pub fn print(&self) {
+        self.print_differences();
         println!("{:<24} {:>11} {:>11}", "from equal arguments", "compared", "different");
         for line in 0..N {
             println!("{:<24} {:>11} {:>11}", self.names[line], self.compared[line], self.different[line]);

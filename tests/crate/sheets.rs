@@ -60,7 +60,6 @@ impl Sheets {
     }
 
     pub fn print(&self) {
-        self.print_differences();
         self.0.print();
     }
 
