@@ -1,4 +1,4 @@
-//! What a host asks of the port: the five calls of include/katchidul.h, each answer as it declares it.
+//! What a host asks of the port: the first five calls of include/katchidul.h, each answer as it declares it.
 use crate::day_crate::Refusal;
 use crate::day_draw::Instant;
 
