@@ -57,8 +57,7 @@ fn put_rows(buffer: &mut [u8], at: usize, order: Order) -> usize
     let coordinates = order.coordinates;
     let parameters = order.parameters;
     let latitude = coordinates.latitude;
-    let first = Rolling::new(order.date, coordinates, parameters);
-    let mut rolling = first;
+    let mut rolling = Rolling::new(order.date, coordinates, parameters);
     let mut row = 0;
     let mut end = at;
     loop {
