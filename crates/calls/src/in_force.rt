@@ -1,6 +1,6 @@
 // The prayer in force at an instant of a row's day, the next one and the time until it. The instant is checked before anything else.
 ghost use mathlib.Core.Path.{_≡_};
-ghost use Rattle.fields.specs.Fields.{refusal};
+ghost use Rattle.models.specs.Refusals.{refusal};
 ghost use Rattle.calls.specs.Calls.{instantFits, namedOf, prayerAtOf, followingIn, followingOf, nextAtOf, leftIn, leftOf, remainingAtOf};
 use super::day::work_day;
 use models::prayer::Prayer;

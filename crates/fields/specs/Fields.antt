@@ -5,6 +5,7 @@ use mathlib.Core.List.{List, [], _∷_}
 use mathlib.Core.Bool.{Bool, true, false, cond, not, _&&_}
 use lib.ListN.{length, getD}
 use lib.Dec.{ltb, leb, eqb}
+use Rattle.models.specs.Refusals.{refusal}
 use Rattle.models.specs.declared.refusal.Refusal.{Refusal}
 use Rattle.fields.specs.Numbers.{byteOf, unsignedOf}
 
@@ -56,9 +57,6 @@ faultOf s at =
     (cond (not (lengthFits (byteOf s at) (lengthAt s at))) 2
     -- value cut
     (cond (ltb (length s - at - 3) (lengthAt s at)) 1 0))))
-
-abbrev pub refusal : ℕ → ℕ → Refusal
-refusal number place = record { number = number; place = place }
 
 -- the first field that is refused, from an offset on. "Offsets are those of a field's tag byte."
 unfoldable pub walkOf : ℕ → List ℕ → ℕ → Refusal

@@ -35,3 +35,7 @@ not-positive (negsuc n) h = refl
 pub natural : (z : ℤ) → N z ≤ P z → z ≡ pos (P z)
 natural (pos n) h = refl
 natural (negsuc n) h = absurd (omega arith)
+
+-- z is from -n to n
+abbrev pub Near : ℕ → ℤ → Type 0
+Near n z = (P z ≤ n) × (N z ≤ n)

@@ -8,9 +8,10 @@ use lib.Dec.{T, ltb, leb}
 use borrow.Author.Tests.{leb-true}
 use lib.IntN.{ℤ, pos, negsuc}
 use lib.Signed.{leZ}
+use Rattle.integers.specs.Parts.{Near}
 use Rattle.integers.specs.Order.{_≼_}
 use Rattle.calendar.specs.Answers.{rowDateOf}
-use Rattle.fields.specs.Fields.{refusal}
+use Rattle.models.specs.Refusals.{refusal}
 use Rattle.models.specs.declared.adjustments.TimeAdjustment.{TimeAdjustment}
 use Rattle.models.specs.declared.parameters.Parameters.{Parameters}
 use Rattle.models.specs.declared.prayer.Prayer.{Prayer}
@@ -23,7 +24,6 @@ use Rattle.order.specs.declared.reading.Reading.the-variants.{Read}
 use Rattle.order.specs.Reading.{readingOf}
 use Rattle.order.specs.Accepted.{Accepted}
 use Rattle.order.specs.AcceptedLaws.{read-accepted}
-use Rattle.schedule.specs.Rooms.{Near}
 use Rattle.schedule.specs.declared.in_force.Current.{Current}
 use Rattle.schedule.specs.declared.in_force.Current.the-variants as none
 use Rattle.schedule.specs.declared.in_force.Instant.{Instant}

@@ -5,7 +5,7 @@ use mathlib.Core.Path.{_≡_}
 use mathlib.Core.Bool.{true}
 use lib.Ieee.{Float, neg, le}
 use lib.IntN.{ℤ}
-use Rattle.integers.specs.Parts.{P, N}
+use Rattle.integers.specs.Parts.{P, N, Near}
 use Rattle.float64.specs.Ops.{dec}
 use Rattle.calendar.specs.declared.dates.Date.{Date}
 use Rattle.calendar.specs.Gregorian.{existsOf}
@@ -14,10 +14,6 @@ use Rattle.models.specs.declared.prayer.Prayer.{Prayer}
 use Rattle.models.specs.Presets.{presetOf}
 use Rattle.models.specs.Settings.{minutesFor}
 use Rattle.order.specs.declared.reading.Order.{Order}
-
--- z is from -n to n
-abbrev pub Within : ℕ → ℤ → Type 0
-Within n z = (P z ≤ n) × (N z ≤ n)
 
 -- z is from 0 to n
 abbrev pub UpTo : ℕ → ℤ → Type 0
@@ -43,5 +39,5 @@ pub record Accepted (order : Order) : Type 0 where
   pub «fajr_angle» : Between (dec 0 0) (dec 30 0) (order .parameters .«fajr_angle»)
   pub «isha_angle» : Between (dec 0 0) (dec 30 0) (order .parameters .«isha_angle»)
   pub «isha_interval» : UpTo 1440 (order .parameters .«isha_interval»)
-  pub own : (prayer : Prayer) → Within 720 (minutesFor prayer (order .parameters .adjustments))
+  pub own : (prayer : Prayer) → Near 720 (minutesFor prayer (order .parameters .adjustments))
   pub preset : order .parameters .«method_adjustments» ≡ presetOf (order .parameters .method) .«method_adjustments»

@@ -9,7 +9,7 @@ use lib.Ieee.{Float, neg, le, round}
 use lib.IntN.{ℤ, pos, negsuc}
 use lib.Signed.{leZ}
 use borrow.Author.Tests.{leb-true}
-use Rattle.integers.specs.Parts.{P, N}
+use Rattle.integers.specs.Parts.{P, N, Near}
 use Rattle.integers.specs.Order.{le-yes}
 use Rattle.float64.specs.Ops.{dec}
 use Rattle.calendar.specs.declared.dates.Date.{Date}
@@ -31,7 +31,7 @@ use Rattle.order.specs.declared.reading.Reading.the-variants.{Read}
 use Rattle.order.specs.Given.{dateIn, rowsIn, degreesIn, minutesIn, degreesOr, minutesOr, intervalOr, parametersIn}
 use Rattle.order.specs.Ranges.{dateFits, rowsFit, degreesFit, minuteFits, minutesFit, intervalFits, fitsOf}
 use Rattle.order.specs.Reading.{orderOf, readingOf}
-use Rattle.order.specs.Accepted.{Within, UpTo, Between, DateInOrder, Accepted}
+use Rattle.order.specs.Accepted.{UpTo, Between, DateInOrder, Accepted}
 use Rattle.order.specs.RowDates.{row-in-order}
 use Rattle.order.specs.ReadingLaws.{Passed, read-passed, has-required, fits-given}
 
@@ -57,17 +57,17 @@ rows-in d n e =
     let b = both (leb 1 n) (leb n 250) (a .0) in
     ((leb-true 1 n (b .0), leb-true n 250 (b .1)), leb-true (rowDateOf d (n - 1) .year) 2199 (a .1))
 
-minute-within : (m : ℤ) → minuteFits m ≡ true → Within 720 m
+minute-within : (m : ℤ) → minuteFits m ≡ true → Near 720 m
 unfolding minuteFits
 minute-within m e =
     let a = both (leZ (negsuc 719) m) (leZ m (pos 720)) e in
     go m (le-yes (negsuc 719) m (a .0)) (le-yes m (pos 720) (a .1))
   where
-    go : (z : ℤ) → P (negsuc 719) + N z ≤ P z + N (negsuc 719) → P z + N (pos 720) ≤ P (pos 720) + N z → Within 720 z
+    go : (z : ℤ) → P (negsuc 719) + N z ≤ P z + N (negsuc 719) → P z + N (pos 720) ≤ P (pos 720) + N z → Near 720 z
     go (pos n) l h = (omega arith, omega arith)
     go (negsuc n) l h = (omega arith, omega arith)
 
-minutes-within : (m : TimeAdjustment) → minutesFit m ≡ true → (prayer : Prayer) → Within 720 (minutesFor prayer m)
+minutes-within : (m : TimeAdjustment) → minutesFit m ≡ true → (prayer : Prayer) → Near 720 (minutesFor prayer m)
 unfolding minutesFit minutesFor
 minutes-within m e prayer =
     let a = both (minuteFits (m .fajr)) (minuteFits (m .sunrise) && (minuteFits (m .dhuhr) && (minuteFits (m .asr) && (minuteFits (m .maghrib) && minuteFits (m .isha))))) e in
@@ -78,7 +78,7 @@ minutes-within m e prayer =
     go prayer (a .0) (b .0) (c .0) (d .0) (f .0) (f .1)
   where
     go : (prayer : Prayer) → minuteFits (m .fajr) ≡ true → minuteFits (m .sunrise) ≡ true → minuteFits (m .dhuhr) ≡ true
-        → minuteFits (m .asr) ≡ true → minuteFits (m .maghrib) ≡ true → minuteFits (m .isha) ≡ true → Within 720 (minutesFor prayer m)
+        → minuteFits (m .asr) ≡ true → minuteFits (m .maghrib) ≡ true → minuteFits (m .isha) ≡ true → Near 720 (minutesFor prayer m)
     go Fajr a b c d e f = minute-within (m .fajr) a
     go Sunrise a b c d e f = minute-within (m .sunrise) b
     go Dhuhr a b c d e f = minute-within (m .dhuhr) c
@@ -115,12 +115,12 @@ unfolding minutesFit minuteFits
 none-fit = refl
 
 minutes-or : (s : List ℕ) → (hasOf s 11 ≡ true → minutesFit (minutesIn (valueOf s 11)) ≡ true)
-    → (prayer : Prayer) → Within 720 (minutesFor prayer (minutesOr s noMinutes))
+    → (prayer : Prayer) → Near 720 (minutesFor prayer (minutesOr s noMinutes))
 unfolding minutesOr
 minutes-or s fits prayer = go (hasOf s 11) fits
   where
     go : (b : Bool) → (b ≡ true → minutesFit (minutesIn (valueOf s 11)) ≡ true)
-        → Within 720 (minutesFor prayer (cond b (minutesIn (valueOf s 11)) noMinutes))
+        → Near 720 (minutesFor prayer (cond b (minutesIn (valueOf s 11)) noMinutes))
     go true f = minutes-within (minutesIn (valueOf s 11)) (f refl) prayer
     go false f = minutes-within noMinutes none-fit prayer
 

@@ -4,7 +4,8 @@ use Prim.Native.Nat.{ℕ, zero, suc, _+_}
 use mathlib.Core.Bool.{Bool, cond, not}
 use mathlib.Core.List.{List, []}
 use lib.Dec.{eqb}
-use Rattle.fields.specs.Fields.{lastTag, refusal, checkOf}
+use Rattle.fields.specs.Fields.{lastTag, checkOf}
+use Rattle.models.specs.Refusals.{refusal}
 use Rattle.fields.specs.Values.{hasOf, valueOf}
 use Rattle.unit.specs.Unit.{coordinatesOf}
 use Rattle.order.specs.declared.reading.Order.{Order}

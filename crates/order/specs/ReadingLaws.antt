@@ -7,7 +7,8 @@ use mathlib.Core.List.{List, []}
 use lib.Dec.{eqb, ltb, lit≤}
 use lib.ListN.{length}
 use borrow.Author.Tests.{eqb-true, eqb-false}
-use Rattle.fields.specs.Fields.{refusal, knownTag, lengthFits, lengthAt, after, firstBefore, faultOf, walkOf, checkOf}
+use Rattle.fields.specs.Fields.{knownTag, lengthFits, lengthAt, after, firstBefore, faultOf, walkOf, checkOf}
+use Rattle.models.specs.Refusals.{refusal}
 use Rattle.fields.specs.FieldsLaws.{value-fits, fits-between}
 use Rattle.fields.specs.Numbers.{byteOf}
 use Rattle.fields.specs.Values.{hasOf, valueOf}

@@ -1,9 +1,9 @@
 -- The parameters of an order that is read are among those that the laws of the schedule speak of. Assumes nothing.
 use native.Mathlib.Omega.{arith}
+use Rattle.integers.specs.Parts.{Near}
 use Rattle.models.specs.Presets.{presetOf}
 use Rattle.order.specs.Accepted.{Accepted}
 use Rattle.order.specs.declared.reading.Order.{Order}
-use Rattle.schedule.specs.Rooms.{Near}
 use Rattle.schedule_laws.specs.Carried.{LatitudeInOrder, Carried}
 use Rattle.schedule_laws.proofs.CarriedLaws.{presets-carried, still-carried}
 

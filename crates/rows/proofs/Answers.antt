@@ -6,7 +6,7 @@ use lib.ListN.{length}
 use borrow.Author.Tests.{lt-ltb, le-ltb}
 use Rattle.calendar.specs.Answers.{rowDateOf}
 use Rattle.calls.specs.Calls.{workRowOf, workReadingOf, workDayOf}
-use Rattle.fields.specs.Fields.{refusal}
+use Rattle.models.specs.Refusals.{refusal}
 use Rattle.lines.specs.Lines.{refusedOrderText}
 use Rattle.models.specs.declared.refusal.Refusal.{Refusal}
 use Rattle.order.specs.declared.reading.Order.{Order}

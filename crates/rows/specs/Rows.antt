@@ -7,7 +7,7 @@ use lib.ListN.{length}
 use Rattle.calendar.specs.Answers.{rowDateOf}
 use Rattle.calendar.specs.declared.dates.Date.{Date}
 use Rattle.calls.specs.Calls.{workRowOf, workDayOf}
-use Rattle.fields.specs.Fields.{refusal}
+use Rattle.models.specs.Refusals.{refusal}
 use Rattle.lines.specs.Lines.{rowText, lineText, refusedOrderText}
 use Rattle.models.specs.declared.refusal.Refusal.{Refusal}
 use Rattle.order.specs.declared.reading.Order.{Order}

@@ -3,11 +3,11 @@ use mathlib.Core.Path.{_≡_}
 use Prim.Native.Nat.{ℕ, _+_, _*_, _^_, _≤_, _<_}
 use native.Mathlib.Omega.{arith}
 use lib.IntN.{ℤ, pos, _-ℤ_, _*ℤ_}
+use Rattle.integers.specs.Parts.{Near}
 use Rattle.integers.specs.Sums.{difference, times}
 use Rattle.calendar.specs.Days.{daysBeforeYearOf, ordinalOf, dayNumberOf}
 use Rattle.calendar.specs.declared.dates.Date.{Date}
 use Rattle.calendar.proofs.Existing.{ordinal-short}
-use Rattle.schedule.specs.Rooms.{Near}
 
 years : (y : ℕ) → y < 2 ^ 32 → daysBeforeYearOf y ≤ 367 * 2 ^ 32
 unfolding daysBeforeYearOf

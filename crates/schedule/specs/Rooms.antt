@@ -8,7 +8,7 @@ use lib.IntN.{ℤ, pos, negsuc, _+ℤ_, _-ℤ_, _*ℤ_}
 use lib.Signed.{ltZ}
 use mir.Syntax.{w32, w64}
 use mir.Val.{SFits}
-use Rattle.integers.specs.Parts.{P, N}
+use Rattle.integers.specs.Parts.{P, N, Near}
 use Rattle.integers.specs.Sums.{sum, difference, times}
 use Rattle.integers.specs.Ranges.{range, fits, readBack, read}
 use Rattle.models.specs.declared.rounding.Rounding.{Rounding}
@@ -19,10 +19,6 @@ use Rattle.night.specs.PortionsLaws.{seventh-inside}
 use Rattle.solar.specs.declared.setting.SolarHour.{SolarHour}
 use Rattle.solar.specs.declared.setting.SolarHour.the-variants.{At, None}
 use Rattle.schedule.specs.Twilight.{laterOf, earlierOf, orOf}
-
--- z is from -n to n
-abbrev pub Near : ℕ → ℤ → Type 0
-Near n z = (P z ≤ n) × (N z ≤ n)
 
 pub near-more : (m n : ℕ) (z : ℤ) → m ≤ n → Near m z → Near n z
 near-more m n z l h = (omega (arith, h .0), omega (arith, h .1))

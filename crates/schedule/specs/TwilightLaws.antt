@@ -6,6 +6,7 @@ use lib.IntN.{ℤ, pos, negsuc, _+ℤ_, _-ℤ_, _*ℤ_}
 use lib.Signed.{ltZ, mag}
 use lib.Ieee.{Float, toSigned}
 use lib.Ieee.Casts.{toSigned-in}
+use Rattle.integers.specs.Parts.{Near}
 use Rattle.integers.specs.Sums.{times}
 use Rattle.calendar.specs.Days.{ordinalOf}
 use Rattle.calendar.specs.declared.dates.Date.{Date}
@@ -18,7 +19,7 @@ use Rattle.night.specs.Portions.{portionBeforeOf, portionAfterOf, seventhOf}
 use Rattle.ops.specs.Season.{morningSecondsOf, eveningSecondsOf}
 use Rattle.solar.specs.declared.setting.SolarHour.{SolarHour}
 use Rattle.solar.specs.declared.times.SolarTime.{SolarTime}
-use Rattle.schedule.specs.Rooms.{Near, NearHour, near-more, near-sum, near-difference, near-either, near-later, near-earlier, near-or, near-rounded, near-hour-more}
+use Rattle.schedule.specs.Rooms.{NearHour, near-more, near-sum, near-difference, near-either, near-later, near-earlier, near-or, near-rounded, near-hour-more}
 use Rattle.schedule.specs.Twilight.{nightOf, nextDayOf, bySeasonOf, bySeventhOf, orOf, beforeSunriseOf, fajrBoundOf, unadjustedFajrOf, ishaBoundOf, boundedIshaOf, unadjustedIshaOf}
 
 pub night-near : (s : ℕ) (today next : SolarTime) → Near s (today .sunset) → Near s (next .sunrise) → Near (s + 86400 + s) (nightOf today next)

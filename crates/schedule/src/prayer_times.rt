@@ -2,9 +2,9 @@
 ghost use mathlib.Core.Path.{_≡_};
 ghost use Prim.Native.Nat.{_^_};
 ghost use lib.IntN.{_+ℤ_};
+ghost use Rattle.integers.specs.Parts.{Near};
 ghost use Rattle.models.specs.declared.prayer.Prayer.the-variants.{Sunrise, Dhuhr, Asr, Maghrib};
 ghost use Rattle.schedule.specs.Hours.{hoursOf};
-ghost use Rattle.schedule.specs.Rooms.{Near};
 ghost use Rattle.schedule.specs.Twilight.{orOf};
 ghost use Rattle.schedule.specs.Times.{startOf, finalOf, finalFajrOf, finalIshaOf, fajrTomorrowOf, middleOfTheNightOf, qiyamOf, timesOf, workedFrom, workedOf};
 use super::hours::RowHours;

@@ -3,9 +3,9 @@
 ghost use mathlib.Core.Path.{_≡_};
 ghost use Prim.Native.Nat.{_^_};
 ghost use lib.IntN.{_+ℤ_};
+ghost use Rattle.integers.specs.Parts.{Near};
 ghost use Rattle.stride.specs.Times.{adjustedOf};
 ghost use Rattle.models.specs.Settings.{timeAdjustmentsOf};
-ghost use Rattle.schedule.specs.Rooms.{Near};
 ghost use Rattle.schedule.specs.Twilight.{nightOf, laterOf, earlierOf, orOf, bySeasonOf, bySeventhOf, beforeSunriseOf, fajrBoundOf, unadjustedFajrOf, calculateFajrOf, ishaBoundOf, boundedIshaOf, unadjustedIshaOf, calculateIshaOf};
 use calendar::dates::Date;
 use models::method::Method;

@@ -6,6 +6,7 @@ use native.Mathlib.Omega.{arith}
 use lib.Dec.{lit≤}
 use lib.IntN.{pos}
 use lib.Ieee.{round, le}
+use Rattle.integers.specs.Parts.{Near}
 use Rattle.integers.specs.Sums.{flip}
 use Rattle.float64.specs.Ops.{dec}
 use Rattle.models.specs.declared.adjustments.TimeAdjustment.{TimeAdjustment}
@@ -19,7 +20,7 @@ use Rattle.models.specs.declared.rounding.Rounding.the-variants.{Nearest, Up}
 use Rattle.models.specs.Minutes.{noMinutes}
 use Rattle.models.specs.Presets.{preset, presetOf, offset}
 use Rattle.models.specs.Settings.{minutesFor, timeAdjustmentsOf}
-use Rattle.schedule.specs.Rooms.{Near, near-more}
+use Rattle.schedule.specs.Rooms.{near-more}
 use Rattle.schedule.specs.TwilightLaws.{sum-near}
 use Rattle.schedule_laws.specs.Carried.{AngleInOrder, Carried}
 

@@ -6,4 +6,4 @@ pub mod InForceLaws
 pub mod Moves
 pub mod LaterLaws
 pub mod StartLaws
-pub mod RowDatesLaws
+pub mod RowSunsLaws

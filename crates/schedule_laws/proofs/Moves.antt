@@ -6,7 +6,7 @@ use native.Mathlib.Omega.{arith}
 use lib.Dec.{lit≤}
 use lib.IntN.{ℤ, pos, _+ℤ_, _-ℤ_, _*ℤ_, +ℤ-assoc}
 use lib.Ieee.{Float}
-use Rattle.integers.specs.Parts.{same}
+use Rattle.integers.specs.Parts.{same, Near}
 use Rattle.integers.specs.Sums.{sum, difference, times}
 use Rattle.integers.specs.Order.{_≼_}
 use Rattle.calendar.specs.Answers.{tomorrowOf}
@@ -27,7 +27,7 @@ use Rattle.solar.specs.declared.setting.SolarHour.{SolarHour}
 use Rattle.solar.specs.declared.setting.SolarHour.the-variants.{At, None}
 use Rattle.solar.specs.declared.times.SolarTime.{SolarTime}
 use Rattle.schedule.specs.declared.prayer_times.PrayerTimes.{PrayerTimes}
-use Rattle.schedule.specs.Rooms.{Near, NearHour, near-more, near-sum, near-difference, near-rounded, near-adjusted, near-seventh}
+use Rattle.schedule.specs.Rooms.{NearHour, near-more, near-sum, near-difference, near-rounded, near-adjusted, near-seventh}
 use Rattle.schedule.specs.Times.{startOf, finalOf, finalFajrOf, finalIshaOf, fajrTomorrowOf, middleOfTheNightOf, qiyamOf, timesOf}
 use Rattle.schedule.specs.Twilight.{nightOf, nextDayOf, orOf, beforeSunriseOf, unadjustedFajrOf, calculateFajrOf, ishaBoundOf, boundedIshaOf, unadjustedIshaOf, calculateIshaOf}
 use Rattle.schedule.specs.TwilightLaws.{night-near, before-sunrise-near, fajr-near}

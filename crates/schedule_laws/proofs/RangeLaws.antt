@@ -5,7 +5,7 @@ use native.Mathlib.Omega.{arith}
 use lib.Dec.{lit≤}
 use lib.IntN.{ℤ, pos, negsuc, _+ℤ_, _-ℤ_}
 use lib.Ieee.{Float}
-use Rattle.integers.specs.Parts.{P, N, same}
+use Rattle.integers.specs.Parts.{P, N, same, Near}
 use Rattle.integers.specs.Sums.{sum, difference}
 use Rattle.integers.specs.Quotients.{floorQuot}
 use Rattle.calendar.specs.Answers.{tomorrowOf}
@@ -28,7 +28,6 @@ use Rattle.schedule.specs.declared.hours.RowHours.{RowHours}
 use Rattle.schedule.specs.declared.prayer_times.PrayerTimes.{PrayerTimes}
 use Rattle.schedule.specs.declared.prayer_times.Worked.the-variants.{Times}
 use Rattle.schedule.specs.Hours.{hoursOf}
-use Rattle.schedule.specs.Rooms.{Near}
 use Rattle.schedule.specs.Times.{startOf, finalOf, finalFajrOf, finalIshaOf, fajrTomorrowOf, middleOfTheNightOf, qiyamOf, timesOf, workedFrom, workedOf}
 use Rattle.schedule.specs.Twilight.{nightOf, orOf, unadjustedFajrOf, calculateFajrOf, unadjustedIshaOf, calculateIshaOf}
 use Rattle.schedule.specs.TwilightLaws.{sum-near}

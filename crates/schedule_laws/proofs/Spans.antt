@@ -5,14 +5,13 @@ use Prim.Native.Nat.{ℕ, _+_, _*_, _≤_}
 use native.Mathlib.Omega.{arith}
 use lib.IntN.{ℤ, pos, negsuc, _+ℤ_, _-ℤ_, _*ℤ_}
 use lib.Signed.{ltZ}
-use Rattle.integers.specs.Parts.{P, N}
+use Rattle.integers.specs.Parts.{P, N, Near}
 use Rattle.integers.specs.Sums.{sum, difference, times}
 use Rattle.models.specs.declared.rounding.Rounding.{Rounding}
 use Rattle.stride.specs.Times.{roundedOf, adjustedOf}
 use Rattle.stride.specs.TimesLaws.{rounded-high, rounded-low}
 use Rattle.solar.specs.declared.setting.SolarHour.{SolarHour}
 use Rattle.solar.specs.declared.setting.SolarHour.the-variants.{At, None}
-use Rattle.schedule.specs.Rooms.{Near}
 use Rattle.schedule.specs.Twilight.{laterOf, earlierOf, orOf}
 
 abbrev pub Between : ℕ → ℕ → ℤ → Type 0

@@ -2,11 +2,11 @@
 use mathlib.Core.Path.{_≡_}
 use mathlib.Core.Bool.{true}
 use lib.Ieee.{Float, neg, le}
+use Rattle.integers.specs.Parts.{Near}
 use Rattle.float64.specs.Ops.{dec}
 use Rattle.models.specs.declared.parameters.Parameters.{Parameters}
 use Rattle.models.specs.declared.prayer.Prayer.{Prayer}
 use Rattle.models.specs.Settings.{minutesFor}
-use Rattle.schedule.specs.Rooms.{Near}
 
 -- tags 12 and 13: from 0 to 30 degrees
 abbrev pub AngleInOrder : Float → Type 0

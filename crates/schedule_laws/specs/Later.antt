@@ -5,6 +5,7 @@ use mathlib.Core.Logic.{_⊎_}
 use Prim.Native.Nat.{ℕ, _^_, _≤_, _<_}
 use lib.IntN.{ℤ, pos, _+ℤ_, _-ℤ_, _*ℤ_}
 use lib.Ieee.{Float}
+use Rattle.integers.specs.Parts.{Near}
 use Rattle.integers.specs.Order.{_≼_}
 use Rattle.calendar.specs.declared.dates.Date.{Date}
 use Rattle.models.specs.declared.adjustments.TimeAdjustment.{TimeAdjustment}
@@ -24,7 +25,6 @@ use Rattle.schedule.specs.declared.prayer_times.Worked.{Worked}
 use Rattle.schedule.specs.declared.prayer_times.Worked.the-variants.{Times, Refused}
 use Rattle.schedule.specs.Hours.{hoursOf}
 use Rattle.schedule.specs.InForce.{nanosecondsOf, currentTimeOf}
-use Rattle.schedule.specs.Rooms.{Near}
 use Rattle.schedule.specs.Times.{workedOf, workedAt}
 
 -- ---- "differ only in schools' own minutes, and the second's sum (own plus method's) for each of the six prayers is at least the first's"

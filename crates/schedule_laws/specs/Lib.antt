@@ -1,4 +1,4 @@
 pub mod Carried
 pub mod Range
 pub mod Later
-pub mod RowDates
+pub mod RowSuns

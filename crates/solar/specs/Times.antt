@@ -3,6 +3,7 @@
 use Prim.Native.Nat.{ℕ}
 use mathlib.Core.Bool.{Bool}
 use lib.Ieee.{Float}
+use Rattle.models.specs.Refusals.{refusal}
 use Rattle.models.specs.declared.refusal.Refusal.{Refusal}
 use Rattle.ops.specs.declared.transit.Course.{Course}
 use Rattle.unit.specs.declared.Angle.{Angle}
@@ -30,9 +31,6 @@ timeForSolarAngleOf course angle after = settingHourOf (angleNumberOf course ang
 
 abbrev pub afternoonOf : Course → Float → Float → SolarHour
 afternoonOf course latitude shadow = settingHourOf (afternoonNumberOf course latitude shadow)
-
-abbrev pub refusal : ℕ → ℕ → Refusal
-refusal number place = record { number = number; place = place }
 
 -- days 0, 1 and 2, tried in that order; 0 where none lacks anything
 unfoldable pub firstLackOf : SolarDay → SolarDay → SolarDay → Refusal

@@ -3,10 +3,10 @@ use mir.Syntax.{w64}
 use lib.IntN.{ℤ, _+ℤ_, _-ℤ_}
 use Prim.Native.Nat.{_+_, _^_}
 use native.Mathlib.Omega.{arith}
+use Rattle.integers.specs.Parts.{Near}
 use Rattle.integers.specs.Sums.{summands}
 use Rattle.integers.specs.Ranges.{readBack, read}
 use Rattle.schedule.specs.Rooms as rooms
-use Rattle.schedule.specs.Rooms.{Near}
 use Rattle.schedule.specs.Times.{middleOfTheNightOf}
 use Rattle.night.specs.Portions.{middleOf}
 use Rattle.night.specs.PortionsLaws.{middle-inside}

@@ -1,3 +1,4 @@
+use Rattle.integers.specs.Parts.{Near}
 use Rattle.models.specs.Settings.{timeAdjustmentsOf}
 use mathlib.Core.Path.{_≡_, ap, subst, _∙_}
 use mir.Syntax.{w64}
@@ -5,7 +6,6 @@ use Prim.Native.Nat.{_+_, _*_, _^_}
 use native.Mathlib.Omega.{arith}
 use Rattle.integers.specs.Ranges.{readBack, read}
 use Rattle.schedule.specs.Rooms as rooms
-use Rattle.schedule.specs.Rooms.{Near}
 use Rattle.stride.specs.Times.{satOf, adjustedOf}
 use Rattle.stride.specs.TimesLaws.{adjusted-in}
 use Rattle.models.specs.Settings.{timeAdjustmentsOf}

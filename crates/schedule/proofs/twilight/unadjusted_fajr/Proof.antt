@@ -1,3 +1,4 @@
+use Rattle.integers.specs.Parts.{Near}
 use Rattle.schedule.specs.Twilight.{nightOf, laterOf, orOf, beforeSunriseOf, fajrBoundOf, unadjustedFajrOf}
 use mathlib.Core.Path.{_≡_, ap, sym, subst, _∙_}
 use mir.Syntax.{w32, w64}
@@ -8,7 +9,6 @@ use native.Mathlib.Omega.{arith}
 use Rattle.integers.specs.Sums.{summands}
 use Rattle.integers.specs.Ranges.{readBack, read, wide, read-wide}
 use Rattle.schedule.specs.Rooms as rooms
-use Rattle.schedule.specs.Rooms.{Near}
 use Rattle.schedule.specs.TwilightLaws as laws
 use Rattle.schedule.specs.Twilight.{nightOf, laterOf, orOf, beforeSunriseOf, unadjustedFajrOf}
 use Rattle.night.specs.Portions.{seventhOf}

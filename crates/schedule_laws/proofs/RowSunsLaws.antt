@@ -14,7 +14,7 @@ use Rattle.solar.specs.Coordinates.{positionOf}
 use Rattle.solar.specs.Hours.{sunOf, dateSunOf}
 use Rattle.unit.specs.declared.Coordinates.{Coordinates}
 use Rattle.schedule.specs.Numbers.{numbersOf}
-use Rattle.schedule_laws.specs.RowDates.{numbersBySuns, EachDayHasItsOwnSun}
+use Rattle.schedule_laws.specs.RowSuns.{numbersBySuns, EachDayHasItsOwnSun}
 
 module _ (d : Date) (h : existsOf d ≡ true) (l : d .year + 1 ≤ 4294967295) where
   -- the next day's sun, from positions that begin with the day's own

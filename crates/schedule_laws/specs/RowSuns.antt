@@ -1,5 +1,5 @@
 -- A row's hour numbers, each day's from that day's own sun, as the source works them: three suns of three positions each. `numbersOf` takes five
--- positions for all of them. That the two are the same is proved in proofs/RowDatesLaws.
+-- positions for all of them. That the two are the same is proved in proofs/RowSunsLaws.
 use mathlib.Core.Path.{_≡_}
 use mathlib.Core.Bool.{true}
 use Prim.Native.Nat.{_≤_}
