@@ -7,7 +7,7 @@ use lib.Dec.{ltb, leb}
 use lib.IntN.{ℤ, pos, negsuc}
 use lib.Signed.{leZ}
 use Rattle.calendar.specs.Answers.{rowDateOf}
-use Rattle.models.specs.Refusals.{refusal}
+use Rattle.refusals.specs.Refusals.{refusal, outOfRange, instantBeyond, noneInForce}
 use Rattle.order.specs.declared.reading.Order.{Order}
 use Rattle.order.specs.declared.reading.Reading.{Reading}
 use Rattle.order.specs.declared.reading.Reading.the-variants as reading
@@ -33,7 +33,7 @@ use Rattle.calls.specs.declared.in_force.Left.the-variants as left
 unfoldable pub workRowOf : Order → ℕ → Worked
 workRowOf order row =
     let date = rowDateOf (order .date) row in
-    cond (ltb row (order .rows)) (workedAt date (order .coordinates) (order .parameters)) (worked.Refused (refusal 5 3))
+    cond (ltb row (order .rows)) (workedAt date (order .coordinates) (order .parameters)) (worked.Refused (refusal outOfRange 3))
 
 unfoldable pub workReadingOf : Reading → ℕ → Worked
 workReadingOf (reading.Read order) row = workRowOf order row
@@ -57,12 +57,12 @@ namedOf (worked.Refused r) i = named.Refused r
 
 unfoldable pub prayerAtOf : List ℕ → ℕ → ℤ → ℕ → Named
 prayerAtOf s row seconds nanoseconds =
-    cond (instantFits seconds nanoseconds) (namedOf (workDayOf s row) (instantOf seconds nanoseconds)) (named.Refused (refusal 10 0))
+    cond (instantFits seconds nanoseconds) (namedOf (workDayOf s row) (instantOf seconds nanoseconds)) (named.Refused (refusal instantBeyond 0))
 
 -- ---- the next one. 11 is "next or remaining asked while no prayer is in force"
 unfoldable pub followingIn : Current → Following
 followingIn (Some prayer) = following.Prayer prayer
-followingIn None = following.Refused (refusal 11 0)
+followingIn None = following.Refused (refusal noneInForce 0)
 
 unfoldable pub followingOf : Worked → Instant → Following
 followingOf (worked.Times t) i = followingIn (nextOf t i)
@@ -70,12 +70,12 @@ followingOf (worked.Refused r) i = following.Refused r
 
 unfoldable pub nextAtOf : List ℕ → ℕ → ℤ → ℕ → Following
 nextAtOf s row seconds nanoseconds =
-    cond (instantFits seconds nanoseconds) (followingOf (workDayOf s row) (instantOf seconds nanoseconds)) (following.Refused (refusal 10 0))
+    cond (instantFits seconds nanoseconds) (followingOf (workDayOf s row) (instantOf seconds nanoseconds)) (following.Refused (refusal instantBeyond 0))
 
 -- ---- the time until it
 unfoldable pub leftIn : Remaining → Left
 leftIn (In time) = left.Time time
-leftIn Nothing = left.Refused (refusal 11 0)
+leftIn Nothing = left.Refused (refusal noneInForce 0)
 
 unfoldable pub leftOf : Worked → Instant → Left
 leftOf (worked.Times t) i = leftIn (timeRemainingOf t i)
@@ -83,4 +83,4 @@ leftOf (worked.Refused r) i = left.Refused r
 
 unfoldable pub remainingAtOf : List ℕ → ℕ → ℤ → ℕ → Left
 remainingAtOf s row seconds nanoseconds =
-    cond (instantFits seconds nanoseconds) (leftOf (workDayOf s row) (instantOf seconds nanoseconds)) (left.Refused (refusal 10 0))
+    cond (instantFits seconds nanoseconds) (leftOf (workDayOf s row) (instantOf seconds nanoseconds)) (left.Refused (refusal instantBeyond 0))

@@ -1,10 +1,12 @@
 // The prayer in force at an instant of a row's day, the next one and the time until it. The instant is checked before anything else.
 ghost use mathlib.Core.Path.{_≡_};
-ghost use Rattle.models.specs.Refusals.{refusal};
+ghost use Rattle.refusals.specs.Refusals.{refusal, instantBeyond, noneInForce};
 ghost use Rattle.calls.specs.Calls.{instantFits, namedOf, prayerAtOf, followingIn, followingOf, nextAtOf, leftIn, leftOf, remainingAtOf};
 use super::day::work_day;
 use models::prayer::Prayer;
-use models::refusal::Refusal;
+use refusals::INSTANT_BEYOND;
+use refusals::NONE_IN_FORCE;
+use refusals::Refusal;
 use schedule::in_force::Current;
 use schedule::in_force::HoursMinutes;
 use schedule::in_force::Instant;
@@ -42,22 +44,16 @@ fn instant_fits(seconds: i64, nanoseconds: u32) -> bool
 
 // An instant beyond ±10^12 seconds, or with a whole second of nanoseconds.
 fn beyond() -> Refusal
-    ensures { λ r. ⌜ r ≡ refusal 10 0 ⌝ }
+    ensures { λ r. ⌜ r ≡ refusal instantBeyond 0 ⌝ }
 {
-    Refusal {
-        number: 10,
-        place: 0,
-    }
+    Refusal::new(INSTANT_BEYOND, 0)
 }
 
 // Next or remaining asked while no prayer is in force.
 fn none_in_force() -> Refusal
-    ensures { λ r. ⌜ r ≡ refusal 11 0 ⌝ }
+    ensures { λ r. ⌜ r ≡ refusal noneInForce 0 ⌝ }
 {
-    Refusal {
-        number: 11,
-        place: 0,
-    }
+    Refusal::new(NONE_IN_FORCE, 0)
 }
 
 fn name_of(worked: Worked, instant: Instant) -> Named

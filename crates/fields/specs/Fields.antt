@@ -5,8 +5,8 @@ use mathlib.Core.List.{List, [], _∷_}
 use mathlib.Core.Bool.{Bool, true, false, cond, not, _&&_}
 use lib.ListN.{length, getD}
 use lib.Dec.{ltb, leb, eqb}
-use Rattle.models.specs.Refusals.{refusal}
-use Rattle.models.specs.declared.refusal.Refusal.{Refusal}
+use Rattle.refusals.specs.Refusals.{refusal, noRefusal, fieldCut, fieldUnknown, fieldAgain}
+use Rattle.refusals.specs.declared.Refusal.{Refusal}
 use Rattle.fields.specs.Numbers.{byteOf, unsignedOf}
 
 -- the table of tags: for the tags 0 to 14 in turn, the shortest and the longest value. There is no tag 0, and no length is right for it.
@@ -48,23 +48,23 @@ firstBefore (suc k) s tag at stop =
 unfoldable pub faultOf : List ℕ → ℕ → ℕ
 faultOf s at =
     -- header cut
-    cond (ltb (length s - at) 3) 1
+    cond (ltb (length s - at) 3) fieldCut
     -- unknown tag
-    (cond (not (knownTag (byteOf s at))) 2
+    (cond (not (knownTag (byteOf s at))) fieldUnknown
     -- tag again
-    (cond (ltb (firstBefore (length s) s (byteOf s at) 0 at) at) 3
+    (cond (ltb (firstBefore (length s) s (byteOf s at) 0 at) at) fieldAgain
     -- wrong length
-    (cond (not (lengthFits (byteOf s at) (lengthAt s at))) 2
+    (cond (not (lengthFits (byteOf s at) (lengthAt s at))) fieldUnknown
     -- value cut
-    (cond (ltb (length s - at - 3) (lengthAt s at)) 1 0))))
+    (cond (ltb (length s - at - 3) (lengthAt s at)) fieldCut 0))))
 
 -- the first field that is refused, from an offset on. "Offsets are those of a field's tag byte."
 unfoldable pub walkOf : ℕ → List ℕ → ℕ → Refusal
-walkOf zero s at = refusal 0 0
+walkOf zero s at = noRefusal
 walkOf (suc k) s at =
-    cond (ltb at (length s)) (cond (eqb (faultOf s at) 0) (walkOf k s (after s at)) (refusal (faultOf s at) at)) (refusal 0 0)
+    cond (ltb at (length s)) (cond (eqb (faultOf s at) 0) (walkOf k s (after s at)) (refusal (faultOf s at) at)) noRefusal
 
 -- "Order of checks: length over 1,024; then field by field"; 1 is "over 1,024 bytes, or a field cut", 2 "unknown tag, wrong length",
 -- 3 "tag a second time", each with "its offset, or 0". Number and place are 0 where nothing is refused.
 unfoldable pub checkOf : List ℕ → Refusal
-checkOf s = cond (ltb 1024 (length s)) (refusal 1 0) (walkOf (length s) s 0)
+checkOf s = cond (ltb 1024 (length s)) (refusal fieldCut 0) (walkOf (length s) s 0)

@@ -11,7 +11,7 @@ use lib.Dec.{ltb, leb, eqb}
 use borrow.Author.Tests.{lt-ltb, eq-eqb, ltb-true, ltb-false, leb-true, eqb-true, eqb-false}
 use Rattle.fields.specs.Numbers.{byteOf}
 use Rattle.fields.specs.Fields.{shortest, longest, lastTag, knownTag, lengthFits, lengthAt, after, firstBefore, faultOf, walkOf, checkOf}
-use Rattle.models.specs.Refusals.{refusal}
+use Rattle.refusals.specs.Refusals.{refusal}
 use Rattle.fields.specs.Values.{offsetOf, hasOf, valueOf}
 
 -- the table's limits

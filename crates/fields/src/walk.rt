@@ -6,7 +6,10 @@ ghost use lib.ListN.{length};
 ghost use Rattle.fields.specs.Fields.{knownTag, lengthFits, lengthAt, firstBefore, faultOf, walkOf, checkOf};
 use super::numbers::byte;
 use super::numbers::unsigned;
-use models::refusal::Refusal;
+use refusals::FIELD_AGAIN;
+use refusals::FIELD_CUT;
+use refusals::FIELD_UNKNOWN;
+use refusals::Refusal;
 
 const LONGEST_ORDER: usize = 1024;
 
@@ -64,21 +67,21 @@ fn fault(order: &[u8], at: usize) -> u32
 {
     let left = order.len() - at;
     if left < 3 {
-        return 1;
+        return FIELD_CUT;
     }
     let tag = byte(order, at);
     if !known(tag) {
-        return 2;
+        return FIELD_UNKNOWN;
     }
     if first_before(order, tag, at) < at {
-        return 3;
+        return FIELD_AGAIN;
     }
     let size = length_at(order, at);
     if !length_fits(tag, size) {
-        return 2;
+        return FIELD_UNKNOWN;
     }
     if left - 3 < size {
-        return 1;
+        return FIELD_CUT;
     }
     0
 }
@@ -91,17 +94,11 @@ fn walk(order: &[u8]) -> Refusal
     while at < order.len() {
         let number = fault(order, at);
         if number != 0 {
-            return Refusal {
-                number: number,
-                place: at as u32,
-            };
+            return Refusal::new(number, at as u32);
         }
         at = at + 3 + length_at(order, at);
     }
-    Refusal {
-        number: 0,
-        place: 0,
-    }
+    Refusal::none()
 }
 
 // Number 0 where the form of every field is right.
@@ -109,10 +106,7 @@ pub fn check(order: &[u8]) -> Refusal
     ensures { λ r. ⌜ r ≡ checkOf (now (order .entry)) ⌝ }
 {
     if LONGEST_ORDER < order.len() {
-        return Refusal {
-            number: 1,
-            place: 0,
-        };
+        return Refusal::new(FIELD_CUT, 0);
     }
     walk(order)
 }

@@ -10,7 +10,7 @@ use Rattle.float64.specs.Ops.{dec}
 use Rattle.fields.specs.Values.{offsetOf, valueOf}
 use Rattle.models.specs.Numbers.{methodNumberOf, madhabNumberOf, ruleNumberOf, roundingNumberOf, shafaqNumberOf, prayerNumberOf}
 use Rattle.models.specs.declared.adjustments.TimeAdjustment.{TimeAdjustment}
-use Rattle.models.specs.declared.refusal.Refusal.{Refusal}
+use Rattle.refusals.specs.declared.Refusal.{Refusal}
 use Rattle.order.specs.declared.reading.Order.{Order}
 use Rattle.order.specs.declared.reading.Reading.{Reading}
 use Rattle.order.specs.declared.reading.Reading.the-variants as reading

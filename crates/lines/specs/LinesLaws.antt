@@ -6,7 +6,7 @@ use mathlib.Core.List.{List, [], _∷_, _++_}
 use lib.IntN.{ℤ}
 use lib.ListN.{length, length-append}
 use Rattle.calendar.specs.declared.dates.Date.{Date}
-use Rattle.models.specs.declared.refusal.Refusal.{Refusal}
+use Rattle.refusals.specs.declared.Refusal.{Refusal}
 use Rattle.schedule.specs.declared.prayer_times.PrayerTimes.{PrayerTimes}
 use Rattle.schedule.specs.declared.prayer_times.Worked.{Worked}
 use Rattle.schedule.specs.declared.prayer_times.Worked.the-variants.{Times, Refused}

@@ -11,11 +11,11 @@ use lib.Signed.{leZ}
 use Rattle.integers.specs.Parts.{Near}
 use Rattle.integers.specs.Order.{_≼_}
 use Rattle.calendar.specs.Answers.{rowDateOf}
-use Rattle.models.specs.Refusals.{refusal}
+use Rattle.refusals.specs.Refusals.{refusal}
 use Rattle.models.specs.declared.adjustments.TimeAdjustment.{TimeAdjustment}
 use Rattle.models.specs.declared.parameters.Parameters.{Parameters}
 use Rattle.models.specs.declared.prayer.Prayer.{Prayer}
-use Rattle.models.specs.declared.refusal.Refusal.{Refusal}
+use Rattle.refusals.specs.declared.Refusal.{Refusal}
 use Rattle.models.specs.Presets.{presetOf}
 use Rattle.models.specs.Settings.{timeAdjustmentsOf}
 use Rattle.order.specs.declared.reading.Order.{Order}

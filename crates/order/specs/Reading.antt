@@ -5,7 +5,7 @@ use mathlib.Core.Bool.{Bool, cond, not}
 use mathlib.Core.List.{List, []}
 use lib.Dec.{eqb}
 use Rattle.fields.specs.Fields.{lastTag, checkOf}
-use Rattle.models.specs.Refusals.{refusal}
+use Rattle.refusals.specs.Refusals.{refusal, tagMissing, outOfRange}
 use Rattle.fields.specs.Values.{hasOf, valueOf}
 use Rattle.unit.specs.Unit.{coordinatesOf}
 use Rattle.order.specs.declared.reading.Order.{Order}
@@ -41,9 +41,9 @@ readingOf s =
     -- 1, 2, 3: the form of the fields
     cond (not (eqb (checkOf s .number) 0)) (Refused (checkOf s))
     -- 4: "tag missing", place the tag
-    (cond (not (eqb (missingOf s) 0)) (Refused (refusal 4 (missingOf s)))
+    (cond (not (eqb (missingOf s) 0)) (Refused (refusal tagMissing (missingOf s)))
     -- 5: "value out of range, or a day the month lacks", place the tag
-    (cond (not (eqb (outOfRangeOf s) 0)) (Refused (refusal 5 (outOfRangeOf s)))
+    (cond (not (eqb (outOfRangeOf s) 0)) (Refused (refusal outOfRange (outOfRangeOf s)))
     (Read (orderOf s))))
 
 -- "The town's name is handed back as that part of the order itself, an empty part where the order is refused."

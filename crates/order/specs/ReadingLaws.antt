@@ -8,11 +8,11 @@ use lib.Dec.{eqb, ltb, lit≤}
 use lib.ListN.{length}
 use borrow.Author.Tests.{eqb-true, eqb-false}
 use Rattle.fields.specs.Fields.{knownTag, lengthFits, lengthAt, after, firstBefore, faultOf, walkOf, checkOf}
-use Rattle.models.specs.Refusals.{refusal}
+use Rattle.refusals.specs.Refusals.{refusal}
 use Rattle.fields.specs.FieldsLaws.{value-fits, fits-between}
 use Rattle.fields.specs.Numbers.{byteOf}
 use Rattle.fields.specs.Values.{hasOf, valueOf}
-use Rattle.models.specs.declared.refusal.Refusal.{Refusal}
+use Rattle.refusals.specs.declared.Refusal.{Refusal}
 use Rattle.order.specs.declared.reading.Order.{Order}
 use Rattle.order.specs.declared.reading.Reading.the-variants.{Read, Refused}
 use Rattle.order.specs.Ranges.{textFits, fitsOf, inRangeOf}

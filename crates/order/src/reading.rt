@@ -11,7 +11,9 @@ use fields::values::has;
 use fields::values::value;
 use fields::walk::check;
 use models::parameters::Parameters;
-use models::refusal::Refusal;
+use refusals::OUT_OF_RANGE;
+use refusals::Refusal;
+use refusals::TAG_MISSING;
 use unit::Coordinates;
 
 // The tags from 1 on that an order may not lack, and the last tag of all.
@@ -80,17 +82,11 @@ pub fn read(order: &[u8]) -> Reading
     }
     let lacking = missing(order);
     if lacking != 0 {
-        return Reading::Refused(Refusal {
-            number: 4,
-            place: lacking,
-        });
+        return Reading::Refused(Refusal::new(TAG_MISSING, lacking));
     }
     let outside = out_of_range(order);
     if outside != 0 {
-        return Reading::Refused(Refusal {
-            number: 5,
-            place: outside,
-        });
+        return Reading::Refused(Refusal::new(OUT_OF_RANGE, outside));
     }
     Reading::Read(record_in(order))
 }

@@ -7,9 +7,9 @@ use lib.ListN.{length}
 use Rattle.calendar.specs.Answers.{rowDateOf}
 use Rattle.calendar.specs.declared.dates.Date.{Date}
 use Rattle.calls.specs.Calls.{workRowOf, workDayOf}
-use Rattle.models.specs.Refusals.{refusal}
+use Rattle.refusals.specs.Refusals.{refusal, noRefusal, bufferShort}
 use Rattle.lines.specs.Lines.{rowText, lineText, refusedOrderText}
-use Rattle.models.specs.declared.refusal.Refusal.{Refusal}
+use Rattle.refusals.specs.declared.Refusal.{Refusal}
 use Rattle.order.specs.declared.reading.Order.{Order}
 use Rattle.order.specs.declared.reading.Reading.{Reading}
 use Rattle.order.specs.declared.reading.Reading.the-variants as reading
@@ -20,7 +20,7 @@ use Rattle.text.specs.Text.{ascii, frontOf}
 
 -- ---- a row: "a full row has 119 bytes with its newline, at the front of the row buffer; the bytes after them stay"
 unfoldable pub answerOf : Worked → Refusal
-answerOf (worked.Times t) = refusal 0 0
+answerOf (worked.Times t) = noRefusal
 answerOf (worked.Refused r) = r
 
 -- "A refusal .. changes no lent byte."
@@ -34,7 +34,7 @@ rowIn (reading.Refused r) row buffer = buffer
 
 -- 9 is "row buffer under 119 bytes"; "buffer and instant are checked before anything else in their calls"
 unfoldable pub rowAnswerOf : List ℕ → ℕ → List ℕ → Refusal
-rowAnswerOf s row buffer = cond (ltb (length buffer) 119) (refusal 9 0) (answerOf (workDayOf s row))
+rowAnswerOf s row buffer = cond (ltb (length buffer) 119) (refusal bufferShort 0) (answerOf (workDayOf s row))
 
 unfoldable pub rowBufferOf : List ℕ → ℕ → List ℕ → List ℕ
 rowBufferOf s row buffer = cond (ltb (length buffer) 119) buffer (rowIn (readingOf s) row buffer)

@@ -8,10 +8,11 @@ ghost use Rattle.calendar.specs.Answers.{rowDateOf};
 use calendar::dates::Date;
 use calls::day::work_row;
 use lines::row::put_row;
-use models::refusal::Refusal;
 use order::reading::Order;
 use order::reading::Reading;
 use order::reading::read;
+use refusals::BUFFER_SHORT;
+use refusals::Refusal;
 use schedule::prayer_times::Worked;
 
 // Number 0 where the row is written.
@@ -23,10 +24,7 @@ fn write_worked(date: Date, worked: Worked, buffer: &mut [u8]) -> Refusal
     match worked {
         Worked::Times(times) => {
             put_row(&mut buffer[..], 0, date, times);
-            Refusal {
-                number: 0,
-                place: 0,
-            }
+            Refusal::none()
         }
         Worked::Refused(refusal) => refusal,
     }
@@ -47,10 +45,7 @@ pub fn write_row(order: &[u8], row: u32, buffer: &mut [u8]) -> Refusal
     ensures { λ _. ⌜ now (buffer .exit) ≡ rowBufferOf (now (order .entry)) row (now (buffer .entry)) ⌝ }
 {
     if buffer.len() < 119 {
-        return Refusal {
-            number: 9,
-            place: 0,
-        };
+        return Refusal::new(BUFFER_SHORT, 0);
     }
     match read(order) {
         Reading::Read(order) => write_date(order, row, &mut buffer[..]),

@@ -3,8 +3,8 @@
 use Prim.Native.Nat.{ℕ}
 use mathlib.Core.Bool.{Bool}
 use lib.Ieee.{Float}
-use Rattle.models.specs.Refusals.{refusal}
-use Rattle.models.specs.declared.refusal.Refusal.{Refusal}
+use Rattle.refusals.specs.Refusals.{refusal, noRefusal, noTransit, noSunrise, noSunset}
+use Rattle.refusals.specs.declared.Refusal.{Refusal}
 use Rattle.ops.specs.declared.transit.Course.{Course}
 use Rattle.unit.specs.declared.Angle.{Angle}
 use Rattle.solar.specs.declared.hours.HourNumbers.{HourNumbers}
@@ -18,9 +18,9 @@ use Rattle.solar.specs.Setting.{settingHourOf}
 
 -- no transit is 6, no sunrise 7, no sunset 8, tried in that order
 unfoldable pub dayOf : SolarHour → SolarHour → SolarHour → SolarDay
-dayOf None sunrise sunset = Lacks 6
-dayOf (At t) None sunset = Lacks 7
-dayOf (At t) (At r) None = Lacks 8
+dayOf None sunrise sunset = Lacks noTransit
+dayOf (At t) None sunset = Lacks noSunrise
+dayOf (At t) (At r) None = Lacks noSunset
 dayOf (At t) (At r) (At s) = Whole (record { transit = t; sunrise = r; sunset = s })
 
 unfoldable pub solarTimeOf : HourNumbers → SolarDay
@@ -37,4 +37,4 @@ unfoldable pub firstLackOf : SolarDay → SolarDay → SolarDay → Refusal
 firstLackOf (Lacks n) b c = refusal n 0
 firstLackOf (Whole x) (Lacks n) c = refusal n 1
 firstLackOf (Whole x) (Whole y) (Lacks n) = refusal n 2
-firstLackOf (Whole x) (Whole y) (Whole z) = refusal 0 0
+firstLackOf (Whole x) (Whole y) (Whole z) = noRefusal

@@ -7,8 +7,11 @@ use super::hours::afternoon_number;
 use super::hours::angle_number;
 use super::setting::SolarHour;
 use super::setting::setting_hour;
-use models::refusal::Refusal;
 use ops::transit::Course;
+use refusals::NO_SUNRISE;
+use refusals::NO_SUNSET;
+use refusals::NO_TRANSIT;
+use refusals::Refusal;
 use unit::Angle;
 
 pub struct SolarTime {
@@ -28,13 +31,13 @@ fn day(transit: SolarHour, sunrise: SolarHour, sunset: SolarHour) -> SolarDay
     ensures { λ r. ⌜ r ≡ dayOf transit sunrise sunset ⌝ }
 {
     let SolarHour::At(transit) = transit else {
-        return SolarDay::Lacks(6);
+        return SolarDay::Lacks(NO_TRANSIT);
     };
     let SolarHour::At(sunrise) = sunrise else {
-        return SolarDay::Lacks(7);
+        return SolarDay::Lacks(NO_SUNRISE);
     };
     let SolarHour::At(sunset) = sunset else {
-        return SolarDay::Lacks(8);
+        return SolarDay::Lacks(NO_SUNSET);
     };
     SolarDay::Whole(SolarTime {
         transit: transit,

@@ -14,7 +14,7 @@ returns c =
 
 returns-2 : tie.Need-returns-2
 unfolding workRowOf
-returns-2 c = simp (le-ltb _ _ (c .if1 .left))
+returns-2 c = simp (c .new3 .ensures, le-ltb _ _ (c .before .if1 .left))
 
 pub work-row-spec : {M : Type 1} → statement M
-work-row-spec = tie.close (tie.spec (λ c κs. tt) (λ c κs. tt) (λ c κs. tt) returns returns-2)
+work-row-spec = tie.close (tie.spec (λ c κs. tt) (λ c κs. tt) (λ c κs. tt) returns (λ c κs. tt) returns-2)
