@@ -10,7 +10,10 @@ use Rattle.order.proofs.reading.read.Reads as read-reads
 use Rattle.rows.proofs.row.write_date.Reads as write-date-reads
 
 returns : tie.Need-returns
-returns c = let a = c .before .before .before .args in row-short (now (a .order)) (now (a .buffer)) (a .row) (c .if1 .taken)
+returns c =
+    let a = c .before .before .before .before .args in
+    let l = row-short (now (a .order)) (now (a .buffer)) (a .row) (c .before .if1 .taken) in
+    (c .new .ensures ∙ l .0, l .1)
 
 read-requires : tie.Need-read-requires
 read-requires c κs = search needs
@@ -44,6 +47,7 @@ pub write-row-spec : {M : Type 1} → statement M
 write-row-spec =
     tie.close
     (tie.spec
+    (λ c κs. tt)
     returns
     read-requires
     enum-known-order

@@ -1,19 +1,19 @@
 use mathlib.Core.Path.{sym}
-use Rattle.calls.specs.Calls.{leftIn}
+use Rattle.calls.specs.Calls.{timeUntilIn}
 use borrow.Author.Needs.{needs}
-use Rattle.calls.proofs.in_force.left_in.Statement.{statement}
-use Rattle.calls.proofs.in_force.left_in.Tie as tie
+use Rattle.calls.proofs.in_force.until_in.Statement.{statement}
+use Rattle.calls.proofs.in_force.until_in.Tie as tie
 
 returns : tie.Need-returns
-unfolding leftIn
+unfolding timeUntilIn
 returns c = simp (c .before .remaining .given .1)
 
 returns-2 : tie.Need-returns-2
-unfolding leftIn
+unfolding timeUntilIn
 returns-2 c =
     let e0 = c .none-in-force .ensures in
     simp (sym e0, c .before .enum-told .given .1)
 
-pub left-in-spec : {M : Type 1} → statement M
-left-in-spec =
+pub until-in-spec : {M : Type 1} → statement M
+until-in-spec =
     tie.close (tie.spec (λ c. search needs) (λ c. search needs) (λ c κs. tt) returns returns-2)

@@ -1,0 +1,5 @@
+use Rattle.calls.proofs.day.work_date.Statement.{statement}
+use Rattle.calls.proofs.day.work_date.Tie as tie
+
+pub work-date-spec : {M : Type 1} → statement M
+work-date-spec = tie.close (tie.spec (λ c κs. tt) (λ c κs. tt) (λ c. cc))
