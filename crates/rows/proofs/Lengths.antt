@@ -8,7 +8,7 @@ use lib.ListN.{length, length-append}
 use Rattle.calendar.specs.Answers.{rowDateOf}
 use Rattle.calls.specs.Calls.{workRowOf}
 use Rattle.lines.specs.Lines.{lineText}
-use Rattle.lines.specs.LinesLaws.{line-length}
+use Rattle.lines.proofs.LinesLaws.{line-length}
 use Rattle.order.specs.declared.reading.Order.{Order}
 use Rattle.text.specs.Text.{ascii, putOf, frontOf}
 use Rattle.text.specs.TextLaws.{put-front, put-behind, put-next, put-nothing}

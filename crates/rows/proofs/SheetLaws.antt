@@ -7,7 +7,7 @@ use mathlib.Core.List.{List}
 use lib.Dec.{ltb}
 use lib.ListN.{length, length-append}
 use borrow.Author.Tests.{ltb-false}
-use Rattle.lines.specs.LinesLaws.{refused-length}
+use Rattle.lines.proofs.LinesLaws.{refused-length}
 use Rattle.order.specs.AcceptedLaws.{read-accepted}
 use Rattle.order.specs.ReadingLaws.{read-town}
 use Rattle.order.specs.Reading.{readingOf, townOf}

@@ -3,7 +3,7 @@ use mathlib.Core.Path.{refl, _∙_}
 use mathlib.Core.List.{[]}
 use denote.Ref.{now}
 use Rattle.lines.specs.Lines.{rowText}
-use Rattle.lines.specs.LinesLaws.{row-length}
+use Rattle.lines.proofs.LinesLaws.{row-length}
 use Rattle.text.specs.TextLaws.{put-next}
 use Rattle.rows.specs.Rows.{answerOf, rowFrontOf}
 use borrow.Author.Needs.{needs}

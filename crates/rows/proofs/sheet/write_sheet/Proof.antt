@@ -3,7 +3,7 @@ use mathlib.Core.Path.{refl, sym, _∙_}
 use mathlib.Core.List.{[]}
 use denote.Ref.{now}
 use Rattle.lines.specs.Lines.{refusedOrderText}
-use Rattle.lines.specs.LinesLaws.{refused-length}
+use Rattle.lines.proofs.LinesLaws.{refused-length}
 use Rattle.order.specs.AcceptedLaws.{read-accepted}
 use Rattle.order.specs.ReadingLaws.{read-town}
 use Rattle.text.specs.Text.{ascii}

@@ -4,7 +4,7 @@ ghost use Prim.Native.Nat.{_<_};
 ghost use lib.IntN.{_-ℤ_};
 ghost use Rattle.integers.specs.Quotients.{floorQuot, floorRem};
 ghost use Rattle.calendar.specs.Days.{dayNumberOf};
-ghost use Rattle.lines.specs.Lines.{dateText, signOf, sizeOf, daysOf, clockText, cellText};
+ghost use Rattle.lines.specs.Lines.{dateText, signOf, sizeOf, daysOf, clockText, timeText};
 use calendar::dates::Date;
 use calendar::instants::day_of;
 use integers::parts::above;
@@ -61,8 +61,8 @@ fn size(days: i64) -> u64
 }
 
 // A blank, then as +0T05:12:00.
-pub fn cell_text(date: Date, time: i64) -> [u8; 12]
-    ensures { λ r. ⌜ r ≡ cellText date time ⌝ }
+pub fn time_text(date: Date, time: i64) -> [u8; 12]
+    ensures { λ r. ⌜ r ≡ timeText date time ⌝ }
 {
     let days = days_from(date, time);
     let second = second_of_day(time);

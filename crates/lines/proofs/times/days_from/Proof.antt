@@ -7,18 +7,8 @@ use lib.IntN.{ℤ, _-ℤ_}
 use mir.Val.{SFits}
 use Rattle.integers.specs.Quotients.{floorQuot}
 use borrow.Author.Needs.{needs}
-use Rattle.lines.proofs.cells.days_from.Statement.{statement}
-use Rattle.lines.proofs.cells.days_from.Tie as tie
-use Rattle.lines.proofs.cells.days_from.Reads as reads
-use Rattle.lines.proofs.cells.days_from.Lts as lts
-use Rattle.calendar.proofs.dates.Date.day_number.Reads as day-number-reads
-use Rattle.calendar.proofs.instants.day_of.Reads as day-of-reads
-
-day-of-requires : tie.Need-day-of-requires
-day-of-requires c κs = search needs
-
-day-number-requires : tie.Need-day-number-requires
-day-number-requires c κs = search needs
+use Rattle.lines.proofs.times.days_from.Statement.{statement}
+use Rattle.lines.proofs.times.days_from.Tie as tie
 
 sub-result : tie.Need-sub-result
 sub-result c =
@@ -40,4 +30,4 @@ returns c =
     read w64 _ (sub-result c) ∙ e
 
 pub days-from-spec : {M : Type 1} → statement M
-days-from-spec = tie.close (tie.spec day-of-requires day-number-requires sub-result returns)
+days-from-spec = tie.close (tie.spec (λ c κs. search needs) (λ c κs. search needs) sub-result returns)

@@ -1,18 +1,10 @@
-use mathlib.Core.Path.{_≡_, sym, ap, subst, _∙_}
 use mir.Syntax.{w64}
-use Rattle.integers.specs.Ranges.{readBack, read}
+use Rattle.integers.specs.Ranges.{read}
 use Rattle.lines.proofs.Instants as instants
 use native.Mathlib.Omega.{arith}
 use borrow.Author.Needs.{needs}
-use Rattle.lines.proofs.cells.second_of_day.Statement.{statement}
-use Rattle.lines.proofs.cells.second_of_day.Tie as tie
-use Rattle.lines.proofs.cells.second_of_day.Reads as reads
-use Rattle.lines.proofs.cells.second_of_day.Lts as lts
-use Rattle.integers.proofs.parts.above.Reads as above-reads
-use Rattle.integers.proofs.parts.below.Reads as below-reads
-
-below-requires : tie.Need-below-requires
-below-requires c κs = search needs
+use Rattle.lines.proofs.times.second_of_day.Statement.{statement}
+use Rattle.lines.proofs.times.second_of_day.Tie as tie
 
 sub-result : tie.Need-sub-result
 sub-result c =
@@ -22,17 +14,11 @@ sub-result c =
     let b = rw r at (c .below .ensures) in
     omega (arith, z, b)
 
-sub-result-2 : tie.Need-sub-result-2
-sub-result-2 c = search needs
-
 returns : tie.Need-returns
 returns c =
     let t = c .before .before in
     let r = read w64 (t .args .time) (t .fits .time) in
     rw (rw r at (c .below .ensures)) (instants.before-zero (t .args .time) (rw r at (c .before .if1 .taken)) .1)
-
-above-requires : tie.Need-above-requires
-above-requires c κs = search needs
 
 returns-2 : tie.Need-returns-2
 returns-2 c =
@@ -42,4 +28,4 @@ returns-2 c =
 
 pub second-of-day-spec : {M : Type 1} → statement M
 second-of-day-spec =
-    tie.close (tie.spec below-requires sub-result sub-result-2 returns above-requires returns-2)
+    tie.close (tie.spec (λ c κs. search needs) sub-result (λ c. search needs) returns (λ c κs. search needs) returns-2)

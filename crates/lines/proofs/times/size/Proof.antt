@@ -1,4 +1,4 @@
-use mathlib.Core.Path.{_≡_, sym, ap, subst, _∙_}
+use mathlib.Core.Path.{sym, ap, subst, _∙_}
 use mir.Syntax.{w64}
 use Rattle.integers.specs.Ranges.{read}
 use Rattle.lines.proofs.Instants as instants
@@ -6,18 +6,8 @@ use Prim.Native.Nat.{ℕ, _+_}
 use mir.Val.{Fits}
 use Rattle.integers.specs.Parts.{P, N}
 use borrow.Author.Needs.{needs}
-use Rattle.lines.proofs.cells.size.Statement.{statement}
-use Rattle.lines.proofs.cells.size.Tie as tie
-use Rattle.lines.proofs.cells.size.Reads as reads
-use Rattle.lines.proofs.cells.size.Lts as lts
-use Rattle.integers.proofs.parts.above.Reads as above-reads
-use Rattle.integers.proofs.parts.below.Reads as below-reads
-
-above-requires : tie.Need-above-requires
-above-requires c κs = search needs
-
-below-requires : tie.Need-below-requires
-below-requires c κs = search needs
+use Rattle.lines.proofs.times.size.Statement.{statement}
+use Rattle.lines.proofs.times.size.Tie as tie
 
 add-result : tie.Need-add-result
 add-result c =
@@ -36,4 +26,4 @@ returns c =
     cc
 
 pub size-spec : {M : Type 1} → statement M
-size-spec = tie.close (tie.spec above-requires below-requires add-result returns)
+size-spec = tie.close (tie.spec (λ c κs. search needs) (λ c κs. search needs) add-result returns)

@@ -1,11 +1,8 @@
-use mathlib.Core.Path.{_≡_, sym, ap, subst, _∙_}
 use mir.Syntax.{w64}
-use Rattle.integers.specs.Ranges.{readBack, read}
+use Rattle.integers.specs.Ranges.{read}
 use Rattle.lines.proofs.Instants as instants
-use Rattle.lines.proofs.cells.sign.Statement.{statement}
-use Rattle.lines.proofs.cells.sign.Tie as tie
-use Rattle.lines.proofs.cells.sign.Reads as reads
-use Rattle.lines.proofs.cells.sign.Lts as lts
+use Rattle.lines.proofs.times.sign.Statement.{statement}
+use Rattle.lines.proofs.times.sign.Tie as tie
 
 returns : tie.Need-returns
 returns c = instants.minus (c .before .args .days) (rw (read w64 (c .before .args .days) (c .before .fits .days)) at (c .if1 .taken))

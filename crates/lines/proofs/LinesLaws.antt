@@ -7,37 +7,36 @@ use lib.IntN.{ℤ}
 use lib.ListN.{length, length-append}
 use Rattle.calendar.specs.declared.dates.Date.{Date}
 use Rattle.refusals.specs.declared.Refusal.{Refusal}
-use Rattle.schedule.specs.declared.prayer_times.PrayerTimes.{PrayerTimes}
 use Rattle.schedule.specs.declared.prayer_times.Worked.{Worked}
 use Rattle.schedule.specs.declared.prayer_times.Worked.the-variants.{Times, Refused}
 use Rattle.text.specs.Text.{ascii, decimalOf}
 use Rattle.text.specs.TextLaws.{digits-short}
-use Rattle.lines.specs.Lines.{dateText, cellText, cellsText, nineOf, rowText, numberText, refusedText, lineText}
+use Rattle.lines.specs.Lines.{dateText, timeText, timesText, nineOf, rowText, rowBytes, fullRow, numberText, refusedText, lineText}
 
 pub date-length : (date : Date) → length (dateText date) ≡ 10
 unfolding dateText
 date-length date = refl
 
-pub cell-length : (date : Date) (time : ℤ) → length (cellText date time) ≡ 12
-unfolding cellText
-cell-length date time = refl
+pub time-length : (date : Date) (time : ℤ) → length (timeText date time) ≡ 12
+unfolding timeText
+time-length date time = refl
 
-pub cells-length : (date : Date) (times : List ℤ) → length (cellsText date times) ≡ 12 * length times
-unfolding cellsText
-cells-length date [] = refl
-cells-length date (time ∷ times) =
-    let i = cells-length date times in
-    let a = length-append (cellText date time) (cellsText date times) in
-    let c = cell-length date time in
+pub times-length : (date : Date) (times : List ℤ) → length (timesText date times) ≡ 12 * length times
+unfolding timesText
+times-length date [] = refl
+times-length date (time ∷ times) =
+    let i = times-length date times in
+    let a = length-append (timeText date time) (timesText date times) in
+    let c = time-length date time in
     omega arith
 
-pub row-length : (date : Date) (t : PrayerTimes) → length (rowText date t) ≡ 119
+pub row-length : (date : Date) (times : List ℤ) → length (rowText date times) ≡ rowBytes (length times)
 unfolding rowText
-row-length date t =
+row-length date times =
     let d = date-length date in
-    let c = cells-length date (nineOf t) in
-    let a = length-append (dateText date) (cellsText date (nineOf t)) in
-    let b = length-append (dateText date ++ cellsText date (nineOf t)) (ascii "\n") in
+    let c = times-length date times in
+    let a = length-append (dateText date) (timesText date times) in
+    let b = length-append (dateText date ++ timesText date times) (ascii "\n") in
     omega arith
 
 pub number-length : (word : List ℕ) (n : ℕ) → length (numberText word n) ≤ length word + 20
@@ -59,9 +58,9 @@ refused-length whose word r =
     let p = number-length word (r .place) in
     omega arith
 
-pub line-length : (date : Date) (worked : Worked) → length (lineText date worked) ≤ 119
+pub line-length : (date : Date) (worked : Worked) → length (lineText date worked) ≤ fullRow
 unfolding lineText
-line-length date (Times t) = let n = row-length date t in omega arith
+line-length date (Times t) = let n = row-length date (nineOf t) in omega arith
 line-length date (Refused r) =
     let d = date-length date in
     let n = refused-length (dateText date) (ascii " day ") r in
