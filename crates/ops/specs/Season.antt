@@ -80,19 +80,19 @@ twilightAdjustmentsOf v days =
     (onTheWayOf (v .b) (v .a) (dec 91 0) (days -ᶠ dec 275 0))))))
 
 -- the minutes on a day of a year, of which the Morning's are the same for every shafaq
-abbrev pub minutesOf : AdjustmentDaytime → Float → ℕ → ℕ → Shafaq → Float
-minutesOf daytime latitude day year shafaq =
+abbrev pub seasonMinutesOf : AdjustmentDaytime → Float → ℕ → ℕ → Shafaq → Float
+seasonMinutesOf daytime latitude day year shafaq =
     twilightAdjustmentsOf (twilightAdjustmentValuesOf daytime latitude shafaq) (ofInt binary64 (pos (daysSinceSolsticeOf day year latitude)))
 
 -- Whole seconds before sunrise and after sunset, half a second away from zero. The source casts to an i64; no latitude of a place comes
--- near the end of an i32 (SeasonLaws).
+-- near the end of an i32 (proofs/SeasonLaws).
 unfoldable pub morningSecondsOf : Float → ℕ → ℕ → ℤ
 unfolding dec
-morningSecondsOf latitude day year = toSigned 31 (roundOf (minutesOf Morning latitude day year General *ᶠ neg (dec 60 0)))
+morningSecondsOf latitude day year = toSigned 31 (roundOf (seasonMinutesOf Morning latitude day year General *ᶠ neg (dec 60 0)))
 
 unfoldable pub eveningSecondsOf : Float → ℕ → ℕ → Shafaq → ℤ
 unfolding dec
-eveningSecondsOf latitude day year shafaq = toSigned 31 (roundOf (minutesOf Evening latitude day year shafaq *ᶠ dec 60 0))
+eveningSecondsOf latitude day year shafaq = toSigned 31 (roundOf (seasonMinutesOf Evening latitude day year shafaq *ᶠ dec 60 0))
 
 abbrev pub seasonAdjustedMorningTwilightOf : Float → ℕ → ℕ → ℤ → ℤ
 seasonAdjustedMorningTwilightOf latitude day year sunrise = satOf (sunrise +ℤ morningSecondsOf latitude day year)

@@ -1,6 +1,6 @@
 // ops.rs: the season, by which the MoonsightingCommittee method bounds Fajr and Isha.
 ghost use mathlib.Core.Path.{_≡_};
-ghost use Rattle.ops.specs.Season.{southernOffsetOf, daysSinceSolsticeOf, raisedOf, loweredOf, eveningValuesOf, twilightAdjustmentValuesOf, onTheWayOf, withinOf, twilightAdjustmentsOf, minutesOf, morningSecondsOf, eveningSecondsOf, seasonAdjustedMorningTwilightOf, seasonAdjustedEveningTwilightOf};
+ghost use Rattle.ops.specs.Season.{southernOffsetOf, daysSinceSolsticeOf, raisedOf, loweredOf, eveningValuesOf, twilightAdjustmentValuesOf, onTheWayOf, withinOf, twilightAdjustmentsOf, seasonMinutesOf, morningSecondsOf, eveningSecondsOf, seasonAdjustedMorningTwilightOf, seasonAdjustedEveningTwilightOf};
 use calendar::years::days_in_year;
 use calendar::years::is_leap_year;
 use float64::casts::to_i32;
@@ -151,7 +151,7 @@ fn season_minutes(
     year: u32,
     shafaq: Shafaq,
 ) -> f64
-    ensures { λ r. ⌜ r ≡ minutesOf daytime latitude day year shafaq ⌝ }
+    ensures { λ r. ⌜ r ≡ seasonMinutesOf daytime latitude day year shafaq ⌝ }
 {
     let dyy = days_since_solstice(day, year, latitude) as f64;
     twilight_adjustments(twilight_adjustment_values(daytime, latitude, shafaq), dyy)

@@ -1,8 +1,10 @@
+use Rattle.solar.specs.Shared.{courseAfternoonNumberOf}
 use borrow.Author.Needs.{needs}
 use Rattle.solar.proofs.hours.afternoon_number.Statement.{statement}
 use Rattle.solar.proofs.hours.afternoon_number.Tie as tie
 
 returns : tie.Need-returns
+unfolding courseAfternoonNumberOf
 returns c = simp (c .angle-number .ensures, c .before .shadow-angle .ensures)
 
 pub afternoon-number-spec : {M : Type 1} → statement M

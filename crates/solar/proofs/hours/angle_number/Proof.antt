@@ -1,10 +1,10 @@
-use Rattle.solar.specs.Hours.{angleNumberOf}
+use Rattle.solar.specs.Shared.{courseAngleNumberOf}
 use borrow.Author.Needs.{needs}
 use Rattle.solar.proofs.hours.angle_number.Statement.{statement}
 use Rattle.solar.proofs.hours.angle_number.Tie as tie
 
 returns : tie.Need-returns
-unfolding angleNumberOf
+unfolding courseAngleNumberOf
 returns c = simp (c .hour-number .ensures, c .before .half-arc .ensures)
 
 pub angle-number-spec : {M : Type 1} → statement M

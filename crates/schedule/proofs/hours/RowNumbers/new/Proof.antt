@@ -1,10 +1,10 @@
-use Rattle.schedule.specs.Numbers.{numbersOf}
+use Rattle.schedule.proofs.SharedLaws.{row-shared}
 use Rattle.schedule.proofs.hours.RowNumbers.new.Statement.{statement}
 use Rattle.schedule.proofs.hours.RowNumbers.new.Tie as tie
 
 returns : tie.Need-returns
-unfolding numbersOf
 returns c =
+    let t = c .before .before .before .before .before .before .before .before .before .before .before .before .before .before .before .before .before .before .before .before .args in
     simp (
       c .fajr-number2 .ensures,
       c .before .isha-number .ensures,
@@ -27,6 +27,7 @@ returns c =
       c .before .before .before .before .before .before .before .before .before .before .before .before .before .before .before .before .before .before .tomorrow .ensures,
       c .before .before .before .before .before .before .before .before .before .before .before .before .before .before .before .before .before .before .before .new .ensures,
     )
+    (row-shared (t .date) (t .coordinates) (t .parameters))
 
 pub new-spec : {M : Type 1} → statement M
 new-spec =
