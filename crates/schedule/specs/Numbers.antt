@@ -17,19 +17,19 @@ use Rattle.schedule.specs.declared.hours.RowNumbers.{RowNumbers}
 use Rattle.schedule.specs.Twilight.{bySeventhOf}
 
 -- where nothing asks for an angle's number, 0.0 stands, which has no time
-abbrev none : Float
-none = dec 0 0
+abbrev noNumber : Float
+noNumber = dec 0 0
 
 -- by the numbers that a day's sun gives to angles, before and after the transit
 unfoldable pub fajrNumberOf : Parameters → Float → (Angle → Bool → Float) → Float
 unfolding dec
-fajrNumberOf p latitude number = cond (bySeventhOf (p .method) latitude) none (number (angleOf (neg (p .«fajr_angle»))) false)
+fajrNumberOf p latitude number = cond (bySeventhOf (p .method) latitude) noNumber (number (angleOf (neg (p .«fajr_angle»))) false)
 
 unfoldable pub ishaNumberOf : Parameters → Float → (Angle → Bool → Float) → Float
 unfolding dec
 ishaNumberOf p latitude number =
-    cond (ltZ (pos 0) (p .«isha_interval»)) none
-    (cond (bySeventhOf (p .method) latitude) none (number (angleOf (neg (p .«isha_angle»))) true))
+    cond (ltZ (pos 0) (p .«isha_interval»)) noNumber
+    (cond (bySeventhOf (p .method) latitude) noNumber (number (angleOf (neg (p .«isha_angle»))) true))
 
 -- by the numbers that it gives to lengths of a shadow
 unfoldable pub asrNumberOf : Parameters → (Float → Float) → Float

@@ -67,12 +67,15 @@ pub fn sun(
 pub fn date_sun(date: Date, coordinates: Coordinates) -> Course
     ensures { λ r. ⌜ r ≡ dateCourseOf date coordinates ⌝ }
 {
+    let previous = position(date.yesterday());
+    let today = position(date);
+    let next = position(date.tomorrow());
     sun(
         coordinates,
         Observer::new(coordinates),
-        position(date.yesterday()),
-        position(date),
-        position(date.tomorrow()),
+        previous,
+        today,
+        next,
     )
 }
 

@@ -1,6 +1,4 @@
-use Rattle.solar.specs.Shared.{courseNumbersOf}
-use Rattle.solar.specs.Shared.{courseAngleNumberOf}
-use borrow.Author.Needs.{needs}
+use Rattle.solar.specs.Shared.{courseNumbersOf, courseAngleNumberOf}
 use Rattle.solar.proofs.hours.hour_numbers.Statement.{statement}
 use Rattle.solar.proofs.hours.hour_numbers.Tie as tie
 
@@ -9,6 +7,4 @@ unfolding courseNumbersOf courseAngleNumberOf
 returns c = simp (c .hour-number2 .ensures, c .before .hour-number .ensures, c .before .before .transit-number .ensures, c .before .before .before .half-arc .ensures, c .before .before .before .before .solar-altitude .ensures)
 
 pub hour-numbers-spec : {M : Type 1} → statement M
-hour-numbers-spec =
-    tie.close
-    (tie.spec (λ c κs. search needs) (λ c κs. search needs) (λ c κs. search needs) (λ c κs. search needs) (λ c κs. search needs) returns)
+hour-numbers-spec = tie.close (tie.spec (λ c κs. tt) (λ c κs. tt) (λ c κs. tt) (λ c κs. tt) (λ c κs. tt) returns)
