@@ -3,7 +3,6 @@
 ghost use mathlib.Core.Path.{_≡_};
 ghost use Rattle.rolling.specs.Rolling.{daySunOf, rollingOf, nextRollingOf, rollingHoursOf};
 ghost use Rattle.schedule.specs.Times.{workedOf};
-ghost use Rattle.solar.specs.Hours.{sunOf};
 use calendar::dates::Date;
 use models::parameters::Parameters;
 use ops::transit::Course;

@@ -15,7 +15,7 @@ use Rattle.order.specs.RowDates.{row-year}
 use Rattle.order.specs.declared.reading.Order.{Order}
 use Rattle.lines.specs.Lines.{fullRow, lineText}
 use Rattle.rolling.specs.Rolling.{rollingOf, nextRollingOf, rollingHoursOf}
-use Rattle.rolling.specs.RollingLaws.{rolled-hours, rolls}
+use Rattle.rolling.proofs.RollingLaws.{rolled-hours, rolls}
 use Rattle.rolling.specs.declared.Rolling.{Rolling}
 use Rattle.schedule.specs.Times.{workedOf}
 use Rattle.schedule.specs.declared.hours.RowHours.{RowHours}

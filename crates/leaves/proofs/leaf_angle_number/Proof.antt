@@ -1,9 +1,12 @@
+use Rattle.solar.proofs.SharedLaws.{angle-shared}
+use Rattle.leaves.specs.Leaves.{leafSunOf}
 use Rattle.leaves.proofs.leaf_angle_number.Statement.{statement}
 use Rattle.leaves.proofs.leaf_angle_number.Tie as tie
 
 returns : tie.Need-returns
-returns c = cc
+returns c =
+    let a = c .before .before .before .args in
+    simp (c .angle-number .ensures, c .before .new .ensures, c .before .before .course .ensures, angle-shared (leafSunOf (a .year) (a .month) (a .day) (a .latitude) (a .longitude)))
 
 pub leaf-angle-number-spec : {M : Type 1} → statement M
-leaf-angle-number-spec =
-    tie.close (tie.spec (λ c κs. tt) (λ c κs. tt) (λ c κs. tt) returns)
+leaf-angle-number-spec = tie.close (tie.spec (λ c κs. tt) (λ c κs. tt) (λ c κs. tt) returns)

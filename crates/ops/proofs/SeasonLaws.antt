@@ -19,8 +19,8 @@ use Rattle.models.specs.declared.shafaq.Shafaq.{Shafaq}
 use Rattle.models.specs.declared.shafaq.Shafaq.the-variants.{General}
 use Rattle.ops.specs.declared.season.AdjustmentDaytime.{AdjustmentDaytime}
 use Rattle.ops.specs.declared.season.AdjustmentDaytime.the-variants.{Morning, Evening}
-use Rattle.ops.specs.Season.{daysSinceSolsticeOf, twilightAdjustmentValuesOf, minutesOf, morningSecondsOf, eveningSecondsOf}
-use Rattle.ops.specs.SeasonSizes.{whole-value, whole-within, values-bounded, days-most, minutes-within}
+use Rattle.ops.specs.Season.{daysSinceSolsticeOf, twilightAdjustmentValuesOf, seasonMinutesOf, morningSecondsOf, eveningSecondsOf}
+use Rattle.ops.proofs.SeasonSizes.{whole-value, whole-within, values-bounded, days-most, minutes-within}
 
 -- ---- the seconds: a factor of 60, whichever its sign, and the nearest whole number
 module _ (minutes factor : Float) (h : Within minutes 1301 1) (k : Within factor 60 1) where
@@ -53,7 +53,7 @@ minus-sixty-within : Within (neg (dec 60 0)) 60 1
 minus-sixty-within = neg-within (dec 60 0) 60 1 sixty-within
 
 module _ (latitude : Float) (day year : ℕ) (south : le (neg (dec 90 0)) latitude ≡ true) (north : le latitude (dec 90 0) ≡ true) (d : day ≤ 366) where
-  all-within : (t : AdjustmentDaytime) (shafaq : Shafaq) → Within (minutesOf t latitude day year shafaq) 1301 1
+  all-within : (t : AdjustmentDaytime) (shafaq : Shafaq) → Within (seasonMinutesOf t latitude day year shafaq) 1301 1
   all-within t shafaq =
       minutes-within (twilightAdjustmentValuesOf t latitude shafaq)
       (values-bounded latitude (within-limits latitude (dec 90 0) 90 1 (lit< tt) (whole-value 90 (lit≤ tt)) south north) t shafaq)
@@ -63,17 +63,17 @@ module _ (latitude : Float) (day year : ℕ) (south : le (neg (dec 90 0)) latitu
   -- less than a day either way
   pub morning-small : (P (morningSecondsOf latitude day year) ≤ 86400) × (N (morningSecondsOf latitude day year) ≤ 86400)
   unfolding morningSecondsOf
-  morning-small = seconds-small (minutesOf Morning latitude day year General) (neg (dec 60 0)) (all-within Morning General) minus-sixty-within
+  morning-small = seconds-small (seasonMinutesOf Morning latitude day year General) (neg (dec 60 0)) (all-within Morning General) minus-sixty-within
 
   pub evening-small : (shafaq : Shafaq) → (P (eveningSecondsOf latitude day year shafaq) ≤ 86400) × (N (eveningSecondsOf latitude day year shafaq) ≤ 86400)
   unfolding eveningSecondsOf
-  evening-small shafaq = seconds-small (minutesOf Evening latitude day year shafaq) (dec 60 0) (all-within Evening shafaq) sixty-within
+  evening-small shafaq = seconds-small (seasonMinutesOf Evening latitude day year shafaq) (dec 60 0) (all-within Evening shafaq) sixty-within
 
   -- the source's cast gives the same
-  pub morning-source : morningSecondsOf latitude day year ≡ toSigned 63 (roundOf (minutesOf Morning latitude day year General *ᶠ neg (dec 60 0)))
+  pub morning-source : morningSecondsOf latitude day year ≡ toSigned 63 (roundOf (seasonMinutesOf Morning latitude day year General *ᶠ neg (dec 60 0)))
   unfolding morningSecondsOf
-  morning-source = seconds-source (minutesOf Morning latitude day year General) (neg (dec 60 0)) (all-within Morning General) minus-sixty-within
+  morning-source = seconds-source (seasonMinutesOf Morning latitude day year General) (neg (dec 60 0)) (all-within Morning General) minus-sixty-within
 
-  pub evening-source : (shafaq : Shafaq) → eveningSecondsOf latitude day year shafaq ≡ toSigned 63 (roundOf (minutesOf Evening latitude day year shafaq *ᶠ dec 60 0))
+  pub evening-source : (shafaq : Shafaq) → eveningSecondsOf latitude day year shafaq ≡ toSigned 63 (roundOf (seasonMinutesOf Evening latitude day year shafaq *ᶠ dec 60 0))
   unfolding eveningSecondsOf
-  evening-source shafaq = seconds-source (minutesOf Evening latitude day year shafaq) (dec 60 0) (all-within Evening shafaq) sixty-within
+  evening-source shafaq = seconds-source (seasonMinutesOf Evening latitude day year shafaq) (dec 60 0) (all-within Evening shafaq) sixty-within

@@ -1,11 +1,11 @@
 -- How many minutes the season gives at most, at every latitude and on every day of a year: each value of `Season`, from the four of the year to the minutes
 -- on a day, by whole bounds that are wider than need be. Assumes nothing.
 use mathlib.Core.Path.{_≡_, refl}
-use mathlib.Core.Bool.{Bool, true, false, _&&_, cond, false≢true}
+use mathlib.Core.Bool.{Bool, true, false, cond, and-eq-true-iff}
 use Prim.Native.Nat.{ℕ, _+_, _-_, _*_, _%_, _^_, _≤_, _<_}
 use native.Mathlib.Nat.{mod-le, le-trans}
 use native.Mathlib.Omega.{arith}
-use lib.Dec.{leb, lit<, lit≤}
+use lib.Dec.{leb, T, leb→le, lit<, lit≤}
 use lib.IntN.{pos}
 use lib.Ieee.{Float, binary64, le, ofInt}
 use lib.Ieee.Exact.{HasValue}
@@ -22,7 +22,7 @@ use Rattle.models.specs.declared.shafaq.Shafaq.the-variants.{General, Ahmer, Ab
 use Rattle.ops.specs.declared.season.AdjustmentDaytime.{AdjustmentDaytime}
 use Rattle.ops.specs.declared.season.AdjustmentDaytime.the-variants.{Morning, Evening}
 use Rattle.ops.specs.declared.season.TwilightAdjustmentValues.{TwilightAdjustmentValues}
-use Rattle.ops.specs.Season.{southernOffsetOf, daysSinceSolsticeOf, raisedOf, loweredOf, eveningValuesOf, twilightAdjustmentValuesOf, onTheWayOf, withinOf, twilightAdjustmentsOf}
+use Rattle.ops.specs.Season.{southernOffsetOf, daysSinceSolsticeOf, moreMinutes, fewerMinutes, eveningValuesOf, twilightAdjustmentValuesOf, onTheWayOf, withinOf, twilightAdjustmentsOf}
 
 pub whole-value : (n : ℕ) → n ≤ big → HasValue (dec n 0) false n 1
 unfolding dec
@@ -31,78 +31,43 @@ whole-value n h = round-whole binary64 false n h
 pub whole-within : (n a : ℕ) → n ≤ a → a ≤ big → Within (dec n 0) a 1
 whole-within n a l h = widen (dec n 0) n a 1 l (value-within (dec n 0) false n 1 (whole-value n (le-trans l h)))
 
--- ---- the minutes at four points of the year: a slope of n thousandths for 55 degrees, no more than s minutes a degree
-module _ (latitude : Float) (h : Within latitude 90 1) (base n s : ℕ) (j : base ≤ 75) (k : n ≤ 55000 * s) (i : s ≤ 2) where
-  slope-within : Within (dec n 3 /ᶠ dec 55 0) s 1
-  unfolding dec
-  slope-within =
-      div-within (dec n 3) (dec 55 0) false (55 * s) 55 1 1 s 0 (lit< tt) (lit< tt) (lit< tt)
-      (round-within n 1000 (55 * s) 0 (lit< tt) (omega arith) (lit≤ tt) (omega arith) false) (whole-value 55 (lit≤ tt)) (omega arith) (lit≤ tt) (omega arith)
-
-  change-within : Within (dec n 3 /ᶠ dec 55 0 *ᶠ absOf latitude) (s * 90) 1
-  change-within =
-      mul-within (dec n 3 /ᶠ dec 55 0) (absOf latitude) s 90 1 1 (s * 90) 0 (lit< tt) (lit< tt) slope-within (abs-within latitude 90 1 h) (omega arith) (lit≤ tt) (omega arith)
-
-  raised-within : Within (raisedOf (dec base 0) (dec n 3) (absOf latitude)) (75 + s * 90) 1
-  unfolding raisedOf
-  raised-within = add-within (dec base 0) (dec n 3 /ᶠ dec 55 0 *ᶠ absOf latitude) 75 (s * 90) (whole-within base 75 j (lit≤ tt)) change-within (omega arith)
-
-  lowered-within : Within (loweredOf (dec base 0) (dec n 3) (absOf latitude)) (75 + s * 90) 1
-  unfolding loweredOf
-  lowered-within = sub-within (dec base 0) (dec n 3 /ᶠ dec 55 0 *ᶠ absOf latitude) 75 (s * 90) (whole-within base 75 j (lit≤ tt)) change-within (omega arith)
-
+-- ---- the minutes at four points of the year
 pub record Bounded (v : TwilightAdjustmentValues) : Type 0 where
   pub first : Within (v .a) 165 1
   pub second : Within (v .b) 165 1
   pub third : Within (v .c) 255 1
   pub fourth : Within (v .d) 255 1
 
+-- a slope of n thousandths for 55 degrees, no more than s minutes a degree
 module _ (x : Float) (h : Within x 90 1) where
-  evening-bounded : (s : Shafaq) → Bounded (eveningValuesOf x s)
-  unfolding eveningValuesOf dec
-  evening-bounded General =
-      record {
-        first = raised-within x h 75 25600 1 (lit≤ tt) (lit≤ tt) (lit≤ tt);
-        second = raised-within x h 75 2050 1 (lit≤ tt) (lit≤ tt) (lit≤ tt);
-        third = lowered-within x h 75 9210 2 (lit≤ tt) (lit≤ tt) (lit≤ tt);
-        fourth = raised-within x h 75 6140 2 (lit≤ tt) (lit≤ tt) (lit≤ tt);
-      }
-  evening-bounded Ahmer =
-      record {
-        first = raised-within x h 62 17400 1 (lit≤ tt) (lit≤ tt) (lit≤ tt);
-        second = lowered-within x h 62 7160 1 (lit≤ tt) (lit≤ tt) (lit≤ tt);
-        third = raised-within x h 62 5120 2 (lit≤ tt) (lit≤ tt) (lit≤ tt);
-        fourth = raised-within x h 62 19440 2 (lit≤ tt) (lit≤ tt) (lit≤ tt);
-      }
-  evening-bounded Abyad =
-      record {
-        first = raised-within x h 75 25600 1 (lit≤ tt) (lit≤ tt) (lit≤ tt);
-        second = raised-within x h 75 7160 1 (lit≤ tt) (lit≤ tt) (lit≤ tt);
-        third = raised-within x h 75 36840 2 (lit≤ tt) (lit≤ tt) (lit≤ tt);
-        fourth = raised-within x h 75 81840 2 (lit≤ tt) (lit≤ tt) (lit≤ tt);
-      }
+  change-within : (n s : ℕ) → n ≤ 55000 * s → s ≤ 2 → Within (dec n 3 /ᶠ dec 55 0 *ᶠ absOf x) (s * 90) 1
+  unfolding dec
+  change-within n s k i =
+      let slope = div-within (dec n 3) (dec 55 0) false (55 * s) 55 1 1 s 0 (lit< tt) (lit< tt) (lit< tt)
+      (round-within n 1000 (55 * s) 0 (lit< tt) (omega arith) (lit≤ tt) (omega arith) false) (whole-value 55 (lit≤ tt)) (omega arith) (lit≤ tt) (omega arith) in
+      mul-within (dec n 3 /ᶠ dec 55 0) (absOf x) s 90 1 1 (s * 90) 0 (lit< tt) (lit< tt) slope (abs-within x 90 1 h) (omega arith) (lit≤ tt) (omega arith)
+
+  up : (base n s : ℕ) → T (leb base 75) → T (leb n (55000 * s)) → T (leb s 2) → Within (moreMinutes base x n) (75 + s * 90) 1
+  unfolding moreMinutes
+  up base n s j k i = let m = leb→le s 2 i in add-within (dec base 0) (dec n 3 /ᶠ dec 55 0 *ᶠ absOf x) 75 (s * 90) (whole-within base 75 (lit≤ j) (lit≤ tt)) (change-within n s (lit≤ k) m) (omega arith)
+
+  down : (base n s : ℕ) → T (leb base 75) → T (leb n (55000 * s)) → T (leb s 2) → Within (fewerMinutes base x n) (75 + s * 90) 1
+  unfolding fewerMinutes
+  down base n s j k i = let m = leb→le s 2 i in sub-within (dec base 0) (dec n 3 /ᶠ dec 55 0 *ᶠ absOf x) 75 (s * 90) (whole-within base 75 (lit≤ j) (lit≤ tt)) (change-within n s (lit≤ k) m) (omega arith)
 
   pub values-bounded : (t : AdjustmentDaytime) (s : Shafaq) → Bounded (twilightAdjustmentValuesOf t x s)
-  unfolding twilightAdjustmentValuesOf dec
-  values-bounded Morning s =
-      record {
-        first = raised-within x h 75 28650 1 (lit≤ tt) (lit≤ tt) (lit≤ tt);
-        second = raised-within x h 75 19440 1 (lit≤ tt) (lit≤ tt) (lit≤ tt);
-        third = raised-within x h 75 32740 2 (lit≤ tt) (lit≤ tt) (lit≤ tt);
-        fourth = raised-within x h 75 48100 2 (lit≤ tt) (lit≤ tt) (lit≤ tt);
-      }
-  values-bounded Evening s = evening-bounded s
+  unfolding twilightAdjustmentValuesOf eveningValuesOf dec
+  values-bounded Morning s = record { first = up 75 28650 1 tt tt tt; second = up 75 19440 1 tt tt tt; third = up 75 32740 2 tt tt tt; fourth = up 75 48100 2 tt tt tt }
+  values-bounded Evening General = record { first = up 75 25600 1 tt tt tt; second = up 75 2050 1 tt tt tt; third = down 75 9210 2 tt tt tt; fourth = up 75 6140 2 tt tt tt }
+  values-bounded Evening Ahmer = record { first = up 62 17400 1 tt tt tt; second = down 62 7160 1 tt tt tt; third = up 62 5120 2 tt tt tt; fourth = up 62 19440 2 tt tt tt }
+  values-bounded Evening Abyad = record { first = up 75 25600 1 tt tt tt; second = up 75 7160 1 tt tt tt; third = up 75 36840 2 tt tt tt; fourth = up 75 81840 2 tt tt tt }
 
 -- ---- the days
-both : (s t : Bool) → (s && t) ≡ true → (s ≡ true) × (t ≡ true)
-both true t e = (refl, e)
-both false t e = absurd (false≢true e)
-
 -- of whole numbers, the test says what it seems to
 test-within : (low high n : ℕ) → low ≤ big → high ≤ big → n ≤ big → withinOf (dec low 0) (dec high 0) (ofInt binary64 (pos n)) ≡ true → (low ≤ n) × (n ≤ high)
 unfolding dec ofInt
 test-within low high n i j k e =
-    let t = both (le (dec low 0) (ofInt binary64 (pos n))) (le (ofInt binary64 (pos n)) (dec high 0)) e in
+    let t = and-eq-true-iff (le (dec low 0) (ofInt binary64 (pos n))) (le (ofInt binary64 (pos n)) (dec high 0)) .0 e in
     (le-whole low n i k (t .0), le-whole n high k j (t .1))
 
 -- 559 is the last day of a leap year, in the south
