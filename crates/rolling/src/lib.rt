@@ -89,8 +89,8 @@ impl Rolling {
         let observer = self.observer;
         let at_second = self.at_second;
         let at_third = self.at_third;
-        let tomorrow = self.tomorrow;
-        let after = self.after;
+        let today = self.tomorrow;
+        let tomorrow = self.after;
         let third = self.third;
         let fourth = third.tomorrow();
         let at_fourth = position(fourth);
@@ -101,8 +101,8 @@ impl Rolling {
             observer: observer,
             at_second: at_third,
             at_third: at_fourth,
-            today: tomorrow,
-            tomorrow: after,
+            today: today,
+            tomorrow: tomorrow,
             after: day_sun(coordinates, parameters, course),
         }
     }
