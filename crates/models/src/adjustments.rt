@@ -12,6 +12,15 @@ pub struct TimeAdjustment {
 }
 
 impl TimeAdjustment {
+    pub const NONE: TimeAdjustment = TimeAdjustment {
+        fajr: 0,
+        sunrise: 0,
+        dhuhr: 0,
+        asr: 0,
+        maghrib: 0,
+        isha: 0,
+    };
+
     pub fn new(
         fajr: i32,
         sunrise: i32,
@@ -35,14 +44,7 @@ impl TimeAdjustment {
     pub fn default() -> TimeAdjustment
         ensures { λ r. ⌜ r ≡ noMinutes ⌝ }
     {
-        TimeAdjustment {
-            fajr: 0,
-            sunrise: 0,
-            dhuhr: 0,
-            asr: 0,
-            maghrib: 0,
-            isha: 0,
-        }
+        TimeAdjustment::NONE
     }
 }
 

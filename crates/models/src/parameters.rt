@@ -57,21 +57,38 @@ pub struct NightPortions {
 }
 
 impl Parameters {
+    // What holds where nothing is said.
+    pub const METHOD: Method = Method::Other;
+
+    pub const MAGHRIB_ANGLE: f64 = 0.0;
+
+    pub const ISHA_INTERVAL: i32 = 0;
+
+    pub const MADHAB: Madhab = Madhab::Shafi;
+
+    pub const HIGH_LATITUDE_RULE: HighLatitudeRule = HighLatitudeRule::MiddleOfTheNight;
+
+    pub const ADJUSTMENTS: TimeAdjustment = TimeAdjustment::NONE;
+
+    pub const ROUNDING: Rounding = Rounding::Nearest;
+
+    pub const SHAFAQ: Shafaq = Shafaq::General;
+
     pub fn new(fajr_angle: f64, isha_angle: f64) -> Parameters
         ensures { λ r. ⌜ r ≡ parametersNewOf «fajr_angle» «isha_angle» ⌝ }
     {
         Parameters {
             fajr_angle: fajr_angle,
-            maghrib_angle: 0.0,
+            maghrib_angle: Parameters::MAGHRIB_ANGLE,
             isha_angle: isha_angle,
-            method: Method::Other,
-            isha_interval: 0,
-            madhab: Madhab::Shafi,
-            high_latitude_rule: HighLatitudeRule::MiddleOfTheNight,
-            adjustments: TimeAdjustment::default(),
-            method_adjustments: TimeAdjustment::default(),
-            rounding: Rounding::Nearest,
-            shafaq: Shafaq::General,
+            method: Parameters::METHOD,
+            isha_interval: Parameters::ISHA_INTERVAL,
+            madhab: Parameters::MADHAB,
+            high_latitude_rule: Parameters::HIGH_LATITUDE_RULE,
+            adjustments: Parameters::ADJUSTMENTS,
+            method_adjustments: Parameters::ADJUSTMENTS,
+            rounding: Parameters::ROUNDING,
+            shafaq: Parameters::SHAFAQ,
         }
     }
 
@@ -127,16 +144,16 @@ impl Configuration {
     {
         Configuration {
             fajr_angle: fajr_angle,
-            maghrib_angle: 0.0,
+            maghrib_angle: Parameters::MAGHRIB_ANGLE,
             isha_angle: isha_angle,
-            method: Method::Other,
-            isha_interval: 0,
-            madhab: Madhab::Shafi,
-            high_latitude_rule: HighLatitudeRule::MiddleOfTheNight,
-            adjustments: TimeAdjustment::default(),
-            method_adjustments: TimeAdjustment::default(),
-            rounding: Rounding::Nearest,
-            shafaq: Shafaq::General,
+            method: Parameters::METHOD,
+            isha_interval: Parameters::ISHA_INTERVAL,
+            madhab: Parameters::MADHAB,
+            high_latitude_rule: Parameters::HIGH_LATITUDE_RULE,
+            adjustments: Parameters::ADJUSTMENTS,
+            method_adjustments: Parameters::ADJUSTMENTS,
+            rounding: Parameters::ROUNDING,
+            shafaq: Parameters::SHAFAQ,
         }
     }
 
