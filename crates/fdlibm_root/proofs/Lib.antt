@@ -7,3 +7,5 @@ pub mod Moved
 pub mod Patterns
 pub mod NoNan
 pub mod Special
+pub mod Significand
+pub mod Nearest

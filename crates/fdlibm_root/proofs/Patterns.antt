@@ -77,7 +77,7 @@ fields-of x h up =
     )
 
 -- ---- the root of w smallest floats
-value-root : (x : Float) (w : ℕ) → 0 < w → HasValue x false w (2 ^ 1074) → sqrtOf x ≡ roundedRoot (w * 2 ^ 126)
+pub value-root : (x : Float) (w : ℕ) → 0 < w → HasValue x false w (2 ^ 1074) → sqrtOf x ≡ roundedRoot (w * 2 ^ 126)
 unfolding sqrtOf
 value-root x w h v = go x v (positive-of-value x w (2 ^ 1074) v h)
   where

@@ -17,7 +17,7 @@ one-more (suc (suc o)) h = absurd (large o h)
     large : (o : ℕ) → suc (suc o) < 2 → ⊥
     large o h = omega arith
 
-halved : (d a i : ℕ) → 952 ≤ a → i ≡ a / 2 - 476 → d * 2 ^ (a - 898) ≡ 4 * (d * (1 + a % 2) * 2 ^ 52) * (2 ^ i * 2 ^ i)
+pub halved : (d a i : ℕ) → 952 ≤ a → i ≡ a / 2 - 476 → d * 2 ^ (a - 898) ≡ 4 * (d * (1 + a % 2) * 2 ^ 52) * (2 ^ i * 2 ^ i)
 halved d a i h e =
     let exponent : a - 898 ≡ a % 2 + (54 + (i + i)) = omega arith in
     let lowest : 2 ^ (a % 2) ≡ 1 + a % 2 = one-more (a % 2) (omega arith) in
