@@ -1,6 +1,6 @@
 -- Days by number: of the year from 1 on, from 1970-01-01 on, and of the week. That these formulas are the calendar of Gregorian is proved in
 -- proofs/CalendarLaws.
-use Prim.Native.Nat.{ℕ, _+_, _-_, _*_, _/_, _%_}
+use Prim.Native.Nat.{ℕ, zero, suc, _+_, _-_, _*_, _/_, _%_}
 use mathlib.Core.Bool.{Bool, cond}
 use mathlib.Core.List.{List, [], _∷_}
 use lib.Dec.{ltb, leb}
@@ -52,9 +52,14 @@ daysBeforeYearOf year = 365 * year + (year + 3) / 4 - (year + 99) / 100 + (year 
 unfoldable pub dayNumberOf : Date → ℤ
 dayNumberOf d = pos (daysBeforeYearOf (d .year) + ordinalOf d) -ℤ pos 719529
 
--- the year of the day that is n days after 0000-01-01. 400 years have 146097 days: the quotient is the year or the one after it
+-- the last of the years up to y that begins by the day n days after 0000-01-01
+unfoldable pub lastBy : ℕ → ℕ → ℕ
+lastBy zero n = 0
+lastBy (suc y) n = cond (leb (daysBeforeYearOf (suc y)) n) (suc y) (lastBy y n)
+
+-- that day's year: the last that begins by it. A year has 365 days at least
 unfoldable pub yearOf : ℕ → ℕ
-yearOf n = let guess = (n + 1) * 400 / 146097 in cond (leb (daysBeforeYearOf guess) n) guess (guess - 1)
+yearOf n = lastBy (n / 365) n
 
 -- the date that is n days after 0000-01-01
 unfoldable pub dateAtOf : ℕ → Date
