@@ -14,7 +14,7 @@ use lib.Ieee.Fits.{down-pos, and-l}
 use lib.Ieee.Order.{round-mono, transfer}
 use lib.Ieee.Positive.{first-pos}
 use Rattle.float64.specs.Sizes.{absOf}
-use Rattle.float64.specs.Words.{signOf}
+use Rattle.float64.specs.Words.{isNegativeOf}
 use Rattle.float64.proofs.Values.{big, dyadic-value}
 
 -- finite, and no more than a / c in size
@@ -47,8 +47,8 @@ abs-within (inf s) a c h = h
 abs-within (fin s m e) a c h = h
 
 -- what has a size has a sign
-pub within-signed : (x : Float) (a c : ℕ) → Within x a c → Signed (signOf x) x
-unfolding signOf
+pub within-signed : (x : Float) (a c : ℕ) → Within x a c → Signed (isNegativeOf x) x
+unfolding isNegativeOf
 within-signed nan a c h = absurd h
 within-signed (inf s) a c h = absurd h
 within-signed (fin s m e) a c h = refl
