@@ -16,5 +16,5 @@ unfoldable pub highOf : Float → ℕ
 highOf x = toBits binary64 x % 2 ^ 63 / 2 ^ 32
 
 -- x with its low word cleared: __LO(x) = 0
-unfoldable pub cutOf : Float → Float
-cutOf x = bits (toBits binary64 x / 2 ^ 32 * 2 ^ 32)
+unfoldable pub lowClearedOf : Float → Float
+lowClearedOf x = bits (toBits binary64 x / 2 ^ 32 * 2 ^ 32)

@@ -1,7 +1,7 @@
 // The words of a bit pattern, as fdlibm reads and writes them. `f64::to_bits` is undefined at a NaN, so each function asks for one first.
 ghost use mathlib.Core.Path.{_≡_};
 ghost use lib.Ieee.{nan};
-ghost use Rattle.float64.specs.Words.{isNegativeOf, highOf, cutOf};
+ghost use Rattle.float64.specs.Words.{isNegativeOf, highOf, lowClearedOf};
 
 pub fn not_a_number() -> f64
     ensures { λ r. ⌜ r ≡ nan ⌝ }
@@ -33,7 +33,7 @@ pub fn high_word(x: f64) -> u32
 
 // x with its low word cleared: the product of two such numbers is exact.
 pub fn cut(x: f64) -> f64
-    ensures { λ r. ⌜ r ≡ cutOf x ⌝ }
+    ensures { λ r. ⌜ r ≡ lowClearedOf x ⌝ }
 {
     if x != x {
         not_a_number()

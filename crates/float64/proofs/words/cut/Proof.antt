@@ -4,7 +4,7 @@ use Prim.Native.Nat.{_/_, _*_}
 use lib.Ieee.{fits, binary64, toBits, ofBits}
 use lib.Ieee.Bits.{toBits-lt}
 use denote.Floats.{passes}
-use Rattle.float64.specs.Words.{cutOf}
+use Rattle.float64.specs.Words.{lowClearedOf}
 use Rattle.float64.proofs.Patterns.{is-nan, no-nan, no-larger}
 use Rattle.float64.proofs.words.cut.Statement.{statement}
 use Rattle.float64.proofs.words.cut.Tie as tie
@@ -24,11 +24,11 @@ float-from-bits-result c =
     no-larger x (toBits binary64 x / 4294967296 * 4294967296) (passes (fits binary64 x) (c .before .good .0 .1)) (no-nan x (c .if1 .left)) (omega arith)
 
 returns : tie.Need-returns
-unfolding cutOf toBits ofBits
-returns c = c .not-a-number .ensures ∙ sym (ap cutOf (is-nan (c .before .before .args .x) (c .before .if1 .taken)))
+unfolding lowClearedOf toBits ofBits
+returns c = c .not-a-number .ensures ∙ sym (ap lowClearedOf (is-nan (c .before .before .args .x) (c .before .if1 .taken)))
 
 returns-2 : tie.Need-returns-2
-unfolding cutOf
+unfolding lowClearedOf
 returns-2 c = refl
 
 pub cut-spec : {M : Type 1} → statement M
