@@ -5,7 +5,7 @@ use Prim.Native.Nat.{ℕ, _+_, _-_, _≤_, _<_}
 use native.Mathlib.Omega.{arith}
 use lib.Dec.{leb, lit≤}
 use borrow.Author.Tests.{leb-true, le-leb}
-use Rattle.calendar.specs.Gregorian.{dateOf, leapOf, monthDaysOf, existsOf}
+use Rattle.calendar.specs.Gregorian.{dateOf, leapOf, daysInMonthOf, existsOf}
 use Rattle.calendar.specs.Days.{daysBeforeOf, daysInYearOf, ordinalOf, ofOrdinalOf, monthOf, daysBeforeYearOf, dateAtOf, yearOf}
 use Rattle.calendar.specs.declared.dates.Date.{Date}
 use Rattle.calendar.proofs.MonthTables.{year-short, Month, month, month-found, month-place}
@@ -14,20 +14,20 @@ use Rattle.calendar.proofs.YearSteps.{In, year-step, year-found, year-u
 -- ---- what it means that a date exists
 pub record Exists (d : Date) : Type 0 where
   pub from : 0 < d .day
-  pub to : d .day ≤ monthDaysOf (d .year) (d .month)
+  pub to : d .day ≤ daysInMonthOf (d .year) (d .month)
 
 pub exists-yes : (d : Date) → existsOf d ≡ true → Exists d
 unfolding existsOf
-exists-yes d h = by-test (leb 1 (d .day)) (leb (d .day) (monthDaysOf (d .year) (d .month))) refl refl h
+exists-yes d h = by-test (leb 1 (d .day)) (leb (d .day) (daysInMonthOf (d .year) (d .month))) refl refl h
   where
-    by-test : (a b : Bool) → leb 1 (d .day) ≡ a → leb (d .day) (monthDaysOf (d .year) (d .month)) ≡ b → a && b ≡ true → Exists d
-    by-test true true p q h = record { from = leb-true 1 (d .day) p; to = leb-true (d .day) (monthDaysOf (d .year) (d .month)) q }
+    by-test : (a b : Bool) → leb 1 (d .day) ≡ a → leb (d .day) (daysInMonthOf (d .year) (d .month)) ≡ b → a && b ≡ true → Exists d
+    by-test true true p q h = record { from = leb-true 1 (d .day) p; to = leb-true (d .day) (daysInMonthOf (d .year) (d .month)) q }
     by-test true false p q h = absurd (true≢false (sym h))
     by-test false b p q h = absurd (true≢false (sym h))
 
 pub to-exists : (d : Date) → Exists d → existsOf d ≡ true
 unfolding existsOf
-to-exists d e = rw (le-leb 1 (d .day) (e .from), le-leb (d .day) (monthDaysOf (d .year) (d .month)) (e .to))
+to-exists d e = rw (le-leb 1 (d .day) (e .from), le-leb (d .day) (daysInMonthOf (d .year) (d .month)) (e .to))
 
 pub month-of-date : (d : Date) → Exists d → Month (leapOf (d .year)) (d .month)
 month-of-date d e = month (leapOf (d .year)) (d .month) (d .day) (e .from) (e .to)
