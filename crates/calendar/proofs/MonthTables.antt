@@ -8,7 +8,7 @@ use lib.Dec.{T, eqb, ltb, leb, eqb→eq, leb→le, ltb→lt, le→leb, lit≤}
 use lib.ListN.{List·getD-eq-default}
 use lib.Ieee.Fits.{and-l, and-r}
 use Rattle.calendar.specs.Gregorian.{lengthsOf, lengthOf}
-use Rattle.calendar.specs.Days.{rowOf, daysBeforeOf, countBelow, monthOf}
+use Rattle.calendar.specs.Days.{monthStartsOf, daysBeforeOf, countBelow, monthOf}
 use Rattle.calendar.proofs.Computed.{below, at, tested, when}
 
 -- a year is short
@@ -53,8 +53,8 @@ length-past leap m h = List·getD-eq-default (lengthsOf leap) 0 h
 
 pub before-past : (leap : Bool) (m : ℕ) → 12 < m → daysBeforeOf leap m ≡ 0
 unfolding daysBeforeOf
-before-past true m h = let k : 12 ≤ m - 1 = omega arith in List·getD-eq-default (rowOf true) 0 k
-before-past false m h = let k : 12 ≤ m - 1 = omega arith in List·getD-eq-default (rowOf false) 0 k
+before-past true m h = let k : 12 ≤ m - 1 = omega arith in List·getD-eq-default (monthStartsOf true) 0 k
+before-past false m h = let k : 12 ≤ m - 1 = omega arith in List·getD-eq-default (monthStartsOf false) 0 k
 
 someTest : Bool → ℕ → Bool
 someTest leap k = ltb 0 (lengthOf leap (k + 1))

@@ -13,14 +13,14 @@ use Rattle.calendar.specs.declared.dates.Date.{Date}
 
 -- ---- days of the year
 -- the days before each month, in a leap year and in a common one
-abbrev pub rowOf : Bool → List ℕ
-rowOf leap =
+abbrev pub monthStartsOf : Bool → List ℕ
+monthStartsOf leap =
     cond leap (0 ∷ 31 ∷ 60 ∷ 91 ∷ 121 ∷ 152 ∷ 182 ∷ 213 ∷ 244 ∷ 274 ∷ 305 ∷ 335 ∷ [])
     (0 ∷ 31 ∷ 59 ∷ 90 ∷ 120 ∷ 151 ∷ 181 ∷ 212 ∷ 243 ∷ 273 ∷ 304 ∷ 334 ∷ [])
 
 -- 0 for a month that there is not
 unfoldable pub daysBeforeOf : Bool → ℕ → ℕ
-daysBeforeOf leap month = getD (rowOf leap) (month - 1) 0
+daysBeforeOf leap month = getD (monthStartsOf leap) (month - 1) 0
 
 unfoldable pub daysInYearOf : ℕ → ℕ
 daysInYearOf year = cond (leapOf year) 366 365
@@ -36,7 +36,7 @@ countBelow (x ∷ xs) n = cond (ltb x n) 1 0 + countBelow xs n
 
 -- the month of a day of the year: as many months as begin before it ends
 unfoldable pub monthOf : Bool → ℕ → ℕ
-monthOf leap ordinal = countBelow (rowOf leap) ordinal
+monthOf leap ordinal = countBelow (monthStartsOf leap) ordinal
 
 unfoldable pub ofOrdinalOf : ℕ → ℕ → Date
 ofOrdinalOf year ordinal =
