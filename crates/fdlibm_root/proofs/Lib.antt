@@ -1,3 +1,4 @@
+pub mod RootLaws
 pub mod Squares
 pub mod Certificate
 pub mod Rounding

@@ -13,7 +13,7 @@ use lib.Ieee.{Float, binary64, units, fits}
 use lib.Ieee.Exact.{HasValue}
 use borrow.Author.Tests.{leb-true, leb-false}
 use Rattle.fdlibm_root.specs.Root.{wholeRoot, roundedRoot, sqrtOf}
-use Rattle.fdlibm_root.specs.RootLaws.{whole-root}
+use Rattle.fdlibm_root.proofs.RootLaws.{whole-root}
 use Rattle.fdlibm_root.specs.Near.{Near}
 use Rattle.fdlibm_root.specs.Nearest.{Nearer, NearestFloat, SqrtIsNearest}
 use Rattle.fdlibm_root.proofs.Squares.{rounded}

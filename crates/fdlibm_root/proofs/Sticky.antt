@@ -13,7 +13,7 @@ use lib.Ieee.Fits.{round-fits}
 use lib.Ieee.Scale.{round-same}
 use borrow.Author.Tests.{eqb-true}
 use Rattle.fdlibm_root.specs.Root.{Root, wholeRoot, rest, roundedRoot}
-use Rattle.fdlibm_root.specs.RootLaws.{whole-root, smaller}
+use Rattle.fdlibm_root.proofs.RootLaws.{whole-root, smaller}
 use Rattle.fdlibm_root.specs.Near.{Near}
 use Rattle.fdlibm_root.proofs.Rounding.{FullWidth, round-to, units-pattern}
 

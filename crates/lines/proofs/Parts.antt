@@ -10,7 +10,7 @@ use lib.Seq.{take-suc, length-take-le}
 use Rattle.calendar.specs.declared.dates.Date.{Date}
 use Rattle.schedule.specs.declared.prayer_times.PrayerTimes.{PrayerTimes}
 use Rattle.text.specs.Text.{putOf, frontOf}
-use Rattle.text.specs.TextLaws.{put-next}
+use Rattle.text.proofs.TextLaws.{put-next}
 use Rattle.lines.specs.Lines.{dateText, cellText, cellsText, nineOf, rowText}
 use Rattle.lines.specs.LinesLaws.{date-length, cell-length, cells-length}
 

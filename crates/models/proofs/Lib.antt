@@ -1,2 +1,3 @@
+pub mod NumbersLaws
 pub mod Beyond
 pub mod Wide
