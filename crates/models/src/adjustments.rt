@@ -62,13 +62,14 @@ impl Adjustment {
     pub fn new() -> Adjustment
         ensures { λ r. ⌜ r ≡ builderOf noMinutes ⌝ }
     {
+        let none = TimeAdjustment::NONE;
         Adjustment {
-            fajr: 0,
-            sunrise: 0,
-            dhuhr: 0,
-            asr: 0,
-            maghrib: 0,
-            isha: 0,
+            fajr: none.fajr,
+            sunrise: none.sunrise,
+            dhuhr: none.dhuhr,
+            asr: none.asr,
+            maghrib: none.maghrib,
+            isha: none.isha,
         }
     }
 
