@@ -1,3 +1,3 @@
 pub mod NumbersLaws
-pub mod Beyond
+pub mod Rows
 pub mod Wide

@@ -135,24 +135,30 @@ impl Method {
         }
     }
 
-    // And back; any other number is the last one's.
+    // The cases by number but the last, which any other number gives.
+    pub const BY_NUMBER: [Method; 12] = [
+        Method::MuslimWorldLeague,
+        Method::Egyptian,
+        Method::Karachi,
+        Method::UmmAlQura,
+        Method::Dubai,
+        Method::MoonsightingCommittee,
+        Method::NorthAmerica,
+        Method::Kuwait,
+        Method::Qatar,
+        Method::Singapore,
+        Method::Tehran,
+        Method::Turkey,
+    ];
+
+    // And back.
     pub fn of_number(n: u32) -> Method
         ensures { λ r. ⌜ r ≡ methodOf n ⌝ }
     {
-        match n {
-            0 => Method::MuslimWorldLeague,
-            1 => Method::Egyptian,
-            2 => Method::Karachi,
-            3 => Method::UmmAlQura,
-            4 => Method::Dubai,
-            5 => Method::MoonsightingCommittee,
-            6 => Method::NorthAmerica,
-            7 => Method::Kuwait,
-            8 => Method::Qatar,
-            9 => Method::Singapore,
-            10 => Method::Tehran,
-            11 => Method::Turkey,
-            _ => Method::Other,
+        if n < 12 {
+            Method::BY_NUMBER[n as usize]
+        } else {
+            Method::Other
         }
     }
 
