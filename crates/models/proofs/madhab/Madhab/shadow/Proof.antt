@@ -1,9 +1,8 @@
-use mathlib.Core.Path.{_≡_, ap, _∙_}
 use lib.Dec.{lit<}
 use lib.IntN.{pos}
 use mir.Syntax.{w32}
 use mir.Val.{SFits}
-use Rattle.integers.specs.Ranges.{readBack, read}
+use Rattle.integers.specs.Ranges.{read}
 use Rattle.models.specs.declared.madhab.Madhab.{Madhab}
 use Rattle.models.specs.declared.madhab.Madhab.the-variants.{Shafi, Hanafi}
 use Rattle.models.specs.Numbers.{madhabNumberOf}
