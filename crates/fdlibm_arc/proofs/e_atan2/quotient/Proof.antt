@@ -11,8 +11,7 @@ returns c = simp (le-leb _ _ (c .if1 .taken))
 
 returns-2 : tie.Need-returns-2
 unfolding quotientOf
-returns-2 c =
-    simp (c .if3 .taken, c .before .if2 .taken, lt-leb _ _ (c .before .before .if1 .left))
+returns-2 c = simp (c .if3 .taken, c .before .if2 .taken, lt-leb _ _ (c .before .before .if1 .left))
 
 returns-3 : tie.Need-returns-3
 unfolding quotientOf

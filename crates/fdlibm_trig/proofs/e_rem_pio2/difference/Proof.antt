@@ -7,27 +7,15 @@ use Rattle.fdlibm_trig.proofs.e_rem_pio2.difference.Tie as tie
 
 returns : tie.Need-returns
 unfolding differenceOf
-returns c =
-    let e0 = c .refine .ensures in
-    let e1 = c .before .before .npio2 .ensures in
-    simp (
-      sym e0,
-      sym e1,
-      eq-eqb _ _ (c .before .if2 .taken),
-      lt-ltb _ _ (c .before .before .before .if1 .taken),
-    )
+returns c = simp (sym (c .refine .ensures), sym (c .before .before .npio2 .ensures), eq-eqb _ _ (c .before .if2 .taken), lt-ltb _ _ (c .before .before .before .if1 .taken))
 
 returns-2 : tie.Need-returns-2
 unfolding differenceOf
-returns-2 c =
-    let e0 = c .before .npio2 .ensures in
-    simp (sym e0, ne-eqb _ _ (c .if2 .left), lt-ltb _ _ (c .before .before .if1 .taken))
+returns-2 c = simp (sym (c .before .npio2 .ensures), ne-eqb _ _ (c .if2 .left), lt-ltb _ _ (c .before .before .if1 .taken))
 
 returns-3 : tie.Need-returns-3
 unfolding differenceOf
-returns-3 c =
-    let e0 = c .refine2 .ensures in
-    simp (sym e0, le-ltb _ _ (c .before .if1 .left))
+returns-3 c = simp (sym (c .refine2 .ensures), le-ltb _ _ (c .before .if1 .left))
 
 pub difference-spec : {M : Type 1} → statement M
 difference-spec =

@@ -5,15 +5,11 @@ use Rattle.fdlibm_trig.proofs.k_tan.tan_small.Tie as tie
 
 returns : tie.Need-returns
 unfolding tanSmallOf
-returns c =
-    let e0 = c .abs .ensures in
-    simp (sym e0, c .before .if2 .taken, c .before .before .if1 .taken)
+returns c = simp (sym (c .abs .ensures), c .before .if2 .taken, c .before .before .if1 .taken)
 
 returns-2 : tie.Need-returns-2
 unfolding tanSmallOf
-returns-2 c =
-    let e0 = c .reciprocal .ensures in
-    simp (sym e0, c .before .if2 .left, c .before .before .if1 .taken)
+returns-2 c = simp (sym (c .reciprocal .ensures), c .before .if2 .left, c .before .before .if1 .taken)
 
 returns-3 : tie.Need-returns-3
 unfolding tanSmallOf
