@@ -18,13 +18,11 @@ returns-2 c = sym (before-past (c .before .before .args .leap) (c .before .befor
 
 returns-3 : tie.Need-returns-3
 unfolding daysBeforeOf
-returns-3 c =
-    simp (c .if3 .taken, le-ltb _ _ (c .before .if2 .left), le-ltb _ _ (c .before .before .if1 .left))
+returns-3 c = simp (c .if3 .taken, le-ltb _ _ (c .before .if2 .left), le-ltb _ _ (c .before .before .if1 .left))
 
 returns-4 : tie.Need-returns-4
 unfolding daysBeforeOf
-returns-4 c =
-    simp (c .if3 .left, le-ltb _ _ (c .before .if2 .left), le-ltb _ _ (c .before .before .if1 .left))
+returns-4 c = simp (c .if3 .left, le-ltb _ _ (c .before .if2 .left), le-ltb _ _ (c .before .before .if1 .left))
 
 pub days-before-spec : {M : Type 1} → statement M
 days-before-spec =

@@ -22,13 +22,4 @@ returns-4 c = top w64 (c .before .before .before .args .x) (c .before .to-u642 .
 pub to-i64-spec : {M : Type 1} → statement M
 to-i64-spec =
     tie.close
-    (tie.spec
-    (λ c κs. tt)
-    (λ c. search needs)
-    sub-result
-    returns
-    returns-2
-    (λ c κs. tt)
-    (λ c. search needs)
-    returns-3
-    returns-4)
+    (tie.spec (λ c κs. tt) (λ c. search needs) sub-result returns returns-2 (λ c κs. tt) (λ c. search needs) returns-3 returns-4)

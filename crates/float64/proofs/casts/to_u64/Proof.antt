@@ -48,11 +48,4 @@ returns-4 c = cast-zero 64 (c .before .args .x) (c .if1 .left)
 pub to-u64-spec : {M : Type 1} → statement M
 to-u64-spec =
     tie.close
-    (tie.spec
-    (λ c κs. tt)
-    float-to-int-result
-    returns
-    truncating-f64-to-u64-requires
-    (λ c. c .truncating-f64-to-u64 .ensures)
-    returns-3
-    returns-4)
+    (tie.spec (λ c κs. tt) float-to-int-result returns truncating-f64-to-u64-requires (λ c. c .truncating-f64-to-u64 .ensures) returns-3 returns-4)

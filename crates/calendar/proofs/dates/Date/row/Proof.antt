@@ -27,9 +27,7 @@ returns c =
 
 returns-2 : tie.Need-returns-2
 unfolding fromOf
-returns-2 c =
-    let e0 = c .before .exists .ensures in
-    simp (sym e0, c .if1 .left)
+returns-2 c = simp (sym (c .before .exists .ensures), c .if1 .left)
 
 pub row-spec : {M : Type 1} → statement M
 row-spec =
