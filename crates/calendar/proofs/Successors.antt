@@ -53,8 +53,7 @@ module _ (d : Date) (h : existsOf d ≡ true) where
   pub row-tomorrow : (k : ℕ) → dateOfDayOf (dayNumberOf d +ℤ pos k) .year + 1 ≤ 4294967295 → rowDateOf d (k + 1) ≡ tomorrowOf (rowDateOf d k)
   row-tomorrow k l =
       let e : Date = dateOfDayOf (dayNumberOf d +ℤ pos k) in
-      let n : dateOfDayOf (dayNumberOf d +ℤ pos (k + 1)) ≡ dayAfterOf e = row-next d k h in
-      let y = year-after e .1 in
+      let n : dateOfDayOf (dayNumberOf d +ℤ pos (k + 1)) ≡ dayAfterOf e = row-next d k h in let y = year-after e .1 in
       row-is (k + 1) (subst (λ (x : Date). x .year ≤ 4294967295) (sym n) (omega arith))
       ∙ n
       ∙ sym (tomorrow-is e (date-of-day-exists (dayNumberOf d +ℤ pos k)) l)

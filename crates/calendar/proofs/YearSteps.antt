@@ -73,9 +73,7 @@ year-mono y z h = let e : z - y + y ≡ z = omega arith in subst (λ (x : ℕ). 
     up : (k : ℕ) → daysBeforeYearOf y ≤ daysBeforeYearOf (k + y)
     up zero = rw (zero-add y) (le-refl (daysBeforeYearOf y))
     up (suc k) =
-        let e : k + y + 1 ≡ suc k + y = omega arith in
-        let g = year-step (k + y) in
-        let i = up k in
+        let e : k + y + 1 ≡ suc k + y = omega arith in let g = year-step (k + y) in let i = up k in
         subst (λ (x : ℕ). daysBeforeYearOf y ≤ daysBeforeYearOf x) e (omega arith)
 
 -- a year that begins after some day is not the first
@@ -133,7 +131,5 @@ module _ (n guess : ℕ) (is : guess ≡ (n + 1) * 400 / 146097) where
 
   pub guess-over : n < daysBeforeYearOf guess → guess - 1 ≡ yearOf n
   guess-over h =
-      let first = year-above guess n h in
-      let e : guess - 1 + 1 ≡ guess = omega arith in
-      let s = spread (guess - 1) in
+      let first = year-above guess n h in let e : guess - 1 + 1 ≡ guess = omega arith in let s = spread (guess - 1) in
       year-unique n (guess - 1) (yearOf n) (record { from = omega (arith, s .1); before = subst (λ (x : ℕ). n < daysBeforeYearOf x) (sym e) h }) (year-found n)

@@ -34,9 +34,7 @@ split a b = go (leb a b) refl
 module _ (s M : ℕ) (low : s * s < M + s) (high : M ≤ s * s + s) where
   under : (t : ℕ) → t + 1 ≤ 2 * s → t * t < 4 * M
   under t h =
-      let v = 2 * s - 1 in
-      let odd : v + 1 ≡ 2 * s = omega arith in
-      let t-le : t ≤ v = omega arith in
+      let v = 2 * s - 1 in let odd : v + 1 ≡ 2 * s = omega arith in let t-le : t ≤ v = omega arith in
       lt-of-le-of-lt (mul-le-mul t-le t-le) (odd-below s v M odd low)
 
   over : (t : ℕ) → 2 * s + 1 ≤ t → 4 * M < t * t
@@ -63,9 +61,7 @@ module _ (s M : ℕ) (low : s * s < M + s) (high : M ≤ s * s + s) where
 
     finer-below : (b : ℕ) → b < k * w → (s * w + b) * (s * w + b) < n
     finer-below b h =
-        let t = s * w + b in
-        let T' = (s + k) * w in
-        let less : t < T' = rw (add-mul s k w) (omega arith) in
+        let t = s * w + b in let T' = (s + k) * w in let less : t < T' = rw (add-mul s k w) (omega arith) in
         let square : t * t < T' * T' = squares t T' less in
         lt-of-lt-of-le square (square-within M w n w-pos is (s + k) (under-least k k-le least))
       where
@@ -111,22 +107,13 @@ places-small a (suc q) k e some small = (zero-lt-suc q, lt-of-not-le (λ (g : 20
 
 pub sqrt-is-nearest : SqrtIsNearest
 sqrt-is-nearest x a fit value some =
-    let x-is = written x a fit value in
-    let q = x-is .digits in
-    let k = x-is .places in
-    let small = places-small a q k (x-is .is) some (bounded x a fit value) in
-    let wide = widened q (small .0) (x-is .few) in
-    let p = wide .spare in
-    let D = q * 2 ^ p in
-    let E = k + 1024 - p in
-    let m = D * (1 + E % 2) in
-    let i = E / 2 - 476 in
-    let s = (wholeRoot (m * 2 ^ 54) + 1) / 2 in
-    let m-lo : 2 ^ 52 ≤ m = least D (E % 2) (wide .low) in
+    let x-is = written x a fit value in let q = x-is .digits in let k = x-is .places in
+    let small = places-small a q k (x-is .is) some (bounded x a fit value) in let wide = widened q (small .0) (x-is .few) in
+    let p = wide .spare in let D = q * 2 ^ p in let E = k + 1024 - p in let m = D * (1 + E % 2) in let i = E / 2 - 476 in
+    let s = (wholeRoot (m * 2 ^ 54) + 1) / 2 in let m-lo : 2 ^ 52 ≤ m = least D (E % 2) (wide .low) in
     let m-hi = doubled D (E % 2) (wide .high) (omega arith) in
     let near = rounded m (wholeRoot (m * 2 ^ 54)) s (omega arith) (whole-root (m * 2 ^ 54)) refl in
-    let d = near-digits m s i near m-lo m-hi (omega (arith, small .1)) in
-    let w = 2 ^ (i + 475) in
+    let d = near-digits m s i near m-lo m-hi (omega (arith, small .1)) in let w = 2 ^ (i + 475) in
     let is : a * 2 ^ 126 ≡ 4 * (m * 2 ^ 52) * (2 ^ i * 2 ^ i) =
     ap (λ (z : ℕ). z * 2 ^ 126) (x-is .is) ∙ sym (moved q k p (wide .few)) ∙ halved D E i (omega (arith, wide .few)) refl in
     let root : sqrtOf x ≡ units binary64 false s (i + 475) = value-root x a some value ∙ rounded-units m s i (a * 2 ^ 126) near m-lo d is in

@@ -32,25 +32,19 @@ compared a b = go (compare a b) (leb→le a b) (nleb→lt a b) (eqb→eq a b) (�
 nearest-is : (q t b s : ℕ) (o : Ordering) → Compared o (t * 2) b → t < b
     → 2 * s * b < 2 * (q * b + t) + b → 2 * (q * b + t) < 2 * s * b + b → nearest q o ≡ s
 nearest-is q t b s Ordering·lt c r lo hi =
-    let x : 2 * s * b < (2 * q + 2) * b = omega arith in
-    let y : 2 * q * b < (2 * s + 1) * b = omega arith in
-    let x' : 2 * s < 2 * q + 2 = lt-of-mul-lt-mul-right b x in
-    let y' : 2 * q < 2 * s + 1 = lt-of-mul-lt-mul-right b y in
+    let x : 2 * s * b < (2 * q + 2) * b = omega arith in let y : 2 * q * b < (2 * s + 1) * b = omega arith in
+    let x' : 2 * s < 2 * q + 2 = lt-of-mul-lt-mul-right b x in let y' : 2 * q < 2 * s + 1 = lt-of-mul-lt-mul-right b y in
     omega arith
 nearest-is q t b s Ordering·eq c r lo hi =
-    let x : 2 * s * b < (2 * q + 2) * b = omega arith in
-    let y : (2 * q + 1) * b < (2 * s + 1) * b = omega arith in
-    let x' : 2 * s < 2 * q + 2 = lt-of-mul-lt-mul-right b x in
-    let y' : 2 * q + 1 < 2 * s + 1 = lt-of-mul-lt-mul-right b y in
+    let x : 2 * s * b < (2 * q + 2) * b = omega arith in let y : (2 * q + 1) * b < (2 * s + 1) * b = omega arith in
+    let x' : 2 * s < 2 * q + 2 = lt-of-mul-lt-mul-right b x in let y' : 2 * q + 1 < 2 * s + 1 = lt-of-mul-lt-mul-right b y in
     absurd (clash x' y')
   where
     clash : 2 * s < 2 * q + 2 → 2 * q + 1 < 2 * s + 1 → ⊥
     clash g h = omega arith
 nearest-is q t b s Ordering·gt c r lo hi =
-    let x : 2 * s * b < (2 * q + 3) * b = omega arith in
-    let y : (2 * q + 1) * b < (2 * s + 1) * b = omega arith in
-    let x' : 2 * s < 2 * q + 3 = lt-of-mul-lt-mul-right b x in
-    let y' : 2 * q + 1 < 2 * s + 1 = lt-of-mul-lt-mul-right b y in
+    let x : 2 * s * b < (2 * q + 3) * b = omega arith in let y : (2 * q + 1) * b < (2 * s + 1) * b = omega arith in
+    let x' : 2 * s < 2 * q + 3 = lt-of-mul-lt-mul-right b x in let y' : 2 * q + 1 < 2 * s + 1 = lt-of-mul-lt-mul-right b y in
     omega arith
 
 closest-is : (a b s : ℕ) → 0 < b → 2 * s * b < 2 * a + b → 2 * a < 2 * s * b + b → closest a b ≡ s
@@ -69,8 +63,7 @@ dropped n j lo hi =
 pub round-to : (U D s j : ℕ) → D ≡ 2 ^ 1074 → 2 ^ (52 + j) ≤ U → U < 2 ^ (53 + j) → 2 * s * 2 ^ j < 2 * U + 2 ^ j → 2 * U < 2 * s * 2 ^ j + 2 ^ j
     → round binary64 false U D ≡ units binary64 false s j
 round-to U D s j e lo hi near-lo near-hi =
-    let P : 0 < D = rw e (pow-pos 1074) in
-    let whole : U * 2 ^ 1074 / D ≡ U = rw (← e) (mul-div-cancel U P) in
+    let P : 0 < D = rw e (pow-pos 1074) in let whole : U * 2 ^ 1074 / D ≡ U = rw (← e) (mul-div-cancel U P) in
     let k : size (U * 2 ^ 1074 / D) - 53 ≡ j = ap (λ (z : ℕ). size z - 53) whole ∙ dropped U j lo hi in
     let scaled : U * 2 ^ 1074 * 2 ^ j ≡ U * (D * 2 ^ j) = rw (← e) (mul-assoc U D (2 ^ j)) in
     round-is binary64 false U D

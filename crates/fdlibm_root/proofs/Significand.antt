@@ -21,8 +21,7 @@ pub record Written (a : ℕ) : Type 0 where
 -- down to the smallest float
 down-to : (m a k l : ℕ) → 2 ^ k ≤ 2 ^ l → m * 1 * 2 ^ l ≡ a * 2 ^ k → a ≡ m * 2 ^ (l - k)
 down-to m a k l h e =
-    let over : l < k → ⊥ = λ g. not-le-of-lt (pow-lt g) h in
-    let k-le : k ≤ l = omega (arith, over) in
+    let over : l < k → ⊥ = λ g. not-le-of-lt (pow-lt g) h in let k-le : k ≤ l = omega (arith, over) in
     let whole : l - k + k ≡ l = omega arith in
     eq-of-mul-eq-mul-right (2 ^ k) (pow-pos k) a (m * 2 ^ (l - k))
     (sym e ∙ ap (λ (z : ℕ). z * 2 ^ l) (mul-one m) ∙ ap (λ (z : ℕ). m * 2 ^ z) (sym whole) ∙ ap (λ (z : ℕ). m * z) (pow-add 2 (l - k) k) ∙ sym (mul-assoc m (2 ^ (l - k)) (2 ^ k)))
@@ -68,12 +67,9 @@ pub record Widened (q : ℕ) : Type 0 where
 
 pub widened : (q : ℕ) → 0 < q → q < 2 ^ 53 → Widened q
 widened q some few =
-    let p = size q in
-    let none : p ≡ 0 → ⊥ = λ e. no-digit q some (subst (λ (z : ℕ). q < 2 ^ z) e (size-lt q)) in
-    let most : p ≤ 53 = size-le q 53 few in
-    let lead : 2 ^ (p - 1) ≤ q = size-reaches q (p - 1) (omega (arith, none)) in
-    let below : p - 1 + (53 - p) ≡ 52 = omega (arith, none) in
-    let above : p + (53 - p) ≡ 53 = omega arith in
+    let p = size q in let none : p ≡ 0 → ⊥ = λ e. no-digit q some (subst (λ (z : ℕ). q < 2 ^ z) e (size-lt q)) in
+    let most : p ≤ 53 = size-le q 53 few in let lead : 2 ^ (p - 1) ≤ q = size-reaches q (p - 1) (omega (arith, none)) in
+    let below : p - 1 + (53 - p) ≡ 52 = omega (arith, none) in let above : p + (53 - p) ≡ 53 = omega arith in
     record {
       spare = 53 - p;
       few = omega (arith, none);
@@ -87,17 +83,13 @@ widened q some few =
 -- from 2 ^ 52 * 2 ^ j on a float is a multiple of 2 ^ j
 pub multiple : (b j : ℕ) → Written b → 2 ^ 52 * 2 ^ j ≤ b → (u : ℕ) × (b ≡ u * 2 ^ j)
 multiple b j w h =
-    let q = w .digits in
-    let k = w .places in
-    let less : k < j → ⊥ = λ g. not-le-of-lt (small q k (w .few) (w .is) g) h in
-    let j-le : j ≤ k = omega (arith, less) in
-    let whole : k - j + j ≡ k = omega arith in
+    let q = w .digits in let k = w .places in let less : k < j → ⊥ = λ g. not-le-of-lt (small q k (w .few) (w .is) g) h in
+    let j-le : j ≤ k = omega (arith, less) in let whole : k - j + j ≡ k = omega arith in
     (q * 2 ^ (k - j), w .is ∙ ap (λ (z : ℕ). q * 2 ^ z) (sym whole) ∙ ap (λ (z : ℕ). q * z) (pow-add 2 (k - j) j) ∙ sym (mul-assoc q (2 ^ (k - j)) (2 ^ j)))
   where
     small : (q k : ℕ) → q < 2 ^ 53 → b ≡ q * 2 ^ k → k < j → b < 2 ^ 52 * 2 ^ j
     small q k few is g =
-        let top : q * 2 ^ k < 2 ^ (53 + k) = shl-lt 53 k few in
-        let room : 2 ^ (53 + k) ≤ 2 ^ (52 + j) = pow-mono (omega arith) in
+        let top : q * 2 ^ k < 2 ^ (53 + k) = shl-lt 53 k few in let room : 2 ^ (53 + k) ≤ 2 ^ (52 + j) = pow-mono (omega arith) in
         rw (is, ← pow-add 2 52 j) (lt-of-lt-of-le top room)
 
 -- every float is below 2 ^ 2098 of the smallest

@@ -26,8 +26,7 @@ below-root n r A root lo = go (eqb (r * r) n) refl
         let less : A < r = smaller A r (rw (eqb-true (r * r) n e) lo) in
         omega arith
     go false e =
-        let less : A < r + 1 = smaller A (r + 1) (lt-trans lo (root .above)) in
-        let more : rest n r ≡ 1 = simp e in
+        let less : A < r + 1 = smaller A (r + 1) (lt-trans lo (root .above)) in let more : rest n r ≡ 1 = simp e in
         omega arith
 
 above-root : (n r B : ℕ) → Root n r → n < B * B → 2 * r + rest n r < 2 * B
@@ -58,8 +57,7 @@ too-few s M k h hi lo = let product : (s + 1) * (s + 1) ≤ k * k = mul-le-mul h
 
 too-many : (s M k : ℕ) → k + 1 ≤ s → s * s < M + s → M ≤ k * (k + 1) → ⊥
 too-many s M k h lo hi =
-    let a : (k + 1) * s ≤ s * s = mul-le-mul-right s h in
-    let b : k * (k + 1) ≤ k * s = mul-le-mul-left k h in
+    let a : (k + 1) * s ≤ s * s = mul-le-mul-right s h in let b : k * (k + 1) ≤ k * s = mul-le-mul-left k h in
     omega arith
 
 near-lo : (m s : ℕ) → Near m s → 2 ^ 52 ≤ m → 2 ^ 52 ≤ s
@@ -101,15 +99,8 @@ pub rounded-units : (m s i n : ℕ) → Near m s → 2 ^ 52 ≤ m → FullWidth 
     → roundedRoot n ≡ units binary64 false s (i + 475)
 unfolding roundedRoot
 rounded-units m s i n near m-lo d is =
-    let M = m * 2 ^ 52 in
-    let P = 2 ^ i in
-    let Q = 2 ^ 473 in
-    let r = wholeRoot n in
-    let v = 2 * r + rest n r in
-    let root = whole-root n in
-    let t = 2 * s - 1 in
-    let w = 2 ^ (i + 475) in
-    let odd : t + 1 ≡ 2 * s = twice s (d .low) in
+    let M = m * 2 ^ 52 in let P = 2 ^ i in let Q = 2 ^ 473 in let r = wholeRoot n in let v = 2 * r + rest n r in
+    let root = whole-root n in let t = 2 * s - 1 in let w = 2 ^ (i + 475) in let odd : t + 1 ≡ 2 * s = twice s (d .low) in
     let unit : w ≡ 4 * (P * Q) = pow-add 2 i 475 ∙ mul-left-comm P 4 Q in
     let lo : 2 * (t * P) < v = below-root n r (t * P) root (square-above M P n (pow-pos i) is t (odd-below s t M odd (near .low))) in
     let hi : v < 2 * ((2 * s + 1) * P) = above-root n r ((2 * s + 1) * P) root (square-below M P n (pow-pos i) is (2 * s + 1) (odd-above s M (near .high))) in
@@ -142,6 +133,5 @@ rounded-fits n = round-fits binary64 false (2 * wholeRoot n + rest n (wholeRoot 
 pub rounded-root : (m s i n : ℕ) → Near m s → 2 ^ 52 ≤ m → m ≤ 18014398509481982 → i < 1500 → n ≡ 4 * (m * 2 ^ 52) * (2 ^ i * 2 ^ i)
     → roundedRoot n ≡ ofBits binary64 ((i + 475) * 2 ^ 52 + s)
 rounded-root m s i n near m-lo m-hi small is =
-    let d = near-digits m s i near m-lo m-hi small in
-    let e = rounded-units m s i n near m-lo d is in
+    let d = near-digits m s i near m-lo m-hi small in let e = rounded-units m s i n near m-lo d is in
     e ∙ units-pattern s (i + 475) d (rw (← e) (rounded-fits n))

@@ -65,15 +65,13 @@ abs-fields f s (suc x) t = go (eqb (suc x) (ones f)) (eqb t 0)
 pub sign-bit : (x : Float) → T (fits binary64 x) → T (not (isNan x)) → leb sign (toBits binary64 x) ≡ isNegativeOf x
 unfolding ofBits
 sign-bit x h t =
-    let b = toBits binary64 x in
-    let e = ofBits-toBits binary64 x h in
+    let b = toBits binary64 x in let e = ofBits-toBits binary64 x h in
     sym (sign-fields binary64 (leb sign b) (b % sign / 2 ^ 52) (b % 2 ^ 52) (subst (λ (v : Float). T (not (isNan v))) (sym e) t)) ∙ ap isNegativeOf e
 
 pub size-bits : (x : Float) → T (fits binary64 x) → ofBits binary64 (toBits binary64 x % sign) ≡ absOf x
 unfolding ofBits
 size-bits x h =
-    let b = toBits binary64 x in
-    let l : b % sign < sign = mod-lt b (lit< tt) in
+    let b = toBits binary64 x in let l : b % sign < sign = mod-lt b (lit< tt) in
     let m : b % sign % 2 ^ 52 ≡ b % 2 ^ 52 = omega arith in
     rw (lt-leb sign (b % sign) l, mod-eq-of-lt l, m)
     (sym (abs-fields binary64 (leb sign b) (b % sign / 2 ^ 52) (b % 2 ^ 52)) ∙ ap absOf (ofBits-toBits binary64 x h))

@@ -171,10 +171,8 @@ div-within (fin s m e) (fin u r f) t a b c d n k B C D h v p q l =
 within-sum : (M N E D a b : ℕ) → M * 1 ≤ a * E → N * 1 ≤ b * D → M * D + N * E ≤ (a + b) * (E * D)
 within-sum M N E D a b h k =
     let u : a * E * D ≡ a * (E * D) = mul-assoc a E D in
-    let v : b * D * E ≡ b * (E * D) = mul-assoc b D E ∙ ap (λ (z : ℕ). b * z) (mul-comm D E) in
-    let x = mul-le-mul-right D h in
-    let y = mul-le-mul-right E k in
-    let z = add-mul a b (E * D) in
+    let v : b * D * E ≡ b * (E * D) = mul-assoc b D E ∙ ap (λ (z : ℕ). b * z) (mul-comm D E) in let x = mul-le-mul-right D h in
+    let y = mul-le-mul-right E k in let z = add-mul a b (E * D) in
     omega (arith, ap (λ (z : ℕ). z * D) (mul-one M), ap (λ (z : ℕ). z * E) (mul-one N))
 
 pub add-within : (x y : Float) (a b : ℕ) → Within x a 1 → Within y b 1 → a + b < big → Within (add binary64 x y) (a + b) 1

@@ -14,8 +14,7 @@ sub-result c = down-fits (c .before .before .before .args .s) (c .before .before
 
 returns : tie.Need-returns
 returns c =
-    let z = c .before .before .residue in
-    let start = c .before .before .before in
+    let z = c .before .before .residue in let start = c .before .before .before in
     λ h. chosen (start .args .m) (start .args .s) (z .result) (z .ensures .1 (omega arith)) (omega arith) (omega (arith, leb-true))
 
 pub corrected-spec : {M : Type 1} → statement M

@@ -25,8 +25,7 @@ returns-3 c =
 returns-4 : tie.Need-returns-4
 unfolding remPio2Of
 returns-4 c =
-    let d = c .before .before .before .before in
-    let e3 = d .before .before .high-word .ensures in
+    let d = c .before .before .before .before in let e3 = d .before .before .high-word .ensures in
     simp (c .turned .ensures, c .before .medium .ensures, c .before .before .abs .ensures, e3, (c .before .before .before .if4 .taken), le-ltb _ _ (simp (e3) at (d .if2 .left)), lt-leb _ _ (simp (e3) at (d .before .if1 .left)))
 
 returns-5 : tie.Need-returns-5

@@ -24,8 +24,7 @@ small r x e f = cast-below 32 4294967296 end end-value (lit≤ tt) (lit≤ tt) r
 
 float-to-int-result : tie.Need-float-to-int-result
 float-to-int-result c =
-    let t = c .before in
-    let b = t .before .before in
+    let t = c .before in let b = t .before .before in
     small (t .trunc .result) (b .before .args .x) (t .trunc .ensures) (b .before .good .0 .1) (b .if1 .taken) (t .before .if2 .taken) .0
 
 returns : tie.Need-returns × tie.Need-returns-2 × tie.Need-returns-3

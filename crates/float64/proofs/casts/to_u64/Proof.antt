@@ -25,8 +25,7 @@ small r x e f = cast-below 64 W whole64 (whole64-value 1) (lit≤ tt) (lit≤ tt
 
 float-to-int-result : tie.Need-float-to-int-result
 float-to-int-result c =
-    let t = c .before in
-    let b = t .before .before in
+    let t = c .before in let b = t .before .before in
     small (t .trunc .result) (b .before .args .x) (t .trunc .ensures) (b .before .good .0 .1) (b .if1 .taken) (t .before .if2 .taken) .0
 
 returns : tie.Need-returns × tie.Need-returns-3 × tie.Need-returns-4

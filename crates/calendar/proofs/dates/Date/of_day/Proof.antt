@@ -21,11 +21,8 @@ needs-met = (
 returns : tie.Need-returns
 unfolding dateAtOf
 returns c =
-    let z = c .before .before .before .before .args .day in
-    let s = c .before .before .before .since-first .ensures in
-    let y = c .before .before .year-of .ensures in
-    let b = c .before .days-before-year .ensures in
-    let o = c .of-ordinal .ensures in
+    let z = c .before .before .before .before .args .day in let s = c .before .before .before .since-first .ensures in
+    let y = c .before .before .year-of .ensures in let b = c .before .days-before-year .ensures in let o = c .of-ordinal .ensures in
     simp (o, b, y, s, read w64 z (c .before .before .before .before .fits .day)) (since-held z)
 
 pub of-day-spec : {M : Type 1} → statement M
