@@ -10,7 +10,7 @@ use Rattle.refusals.specs.declared.Refusal.{Refusal}
 use Rattle.schedule.specs.declared.prayer_times.Worked.{Worked}
 use Rattle.schedule.specs.declared.prayer_times.Worked.the-variants.{Times, Refused}
 use Rattle.text.specs.Text.{ascii, decimalOf}
-use Rattle.text.specs.TextLaws.{digits-short}
+use Rattle.text.proofs.TextLaws.{digits-short}
 use Rattle.lines.specs.Lines.{dateText, timeText, timesText, nineOf, rowText, rowBytes, fullRow, numberText, refusedText, lineText}
 
 pub date-length : (date : Date) → length (dateText date) ≡ 10

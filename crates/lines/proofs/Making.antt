@@ -6,7 +6,7 @@ use mathlib.Core.List.{List, [], _∷_, _++_}
 use lib.ListN.{length, length-append}
 use Rattle.refusals.specs.declared.Refusal.{Refusal}
 use Rattle.text.specs.Text.{ascii, decimalOf, putOf, frontOf}
-use Rattle.text.specs.TextLaws.{put-behind, put-next, digits-short}
+use Rattle.text.proofs.TextLaws.{put-behind, put-next, digits-short}
 use Rattle.lines.specs.Lines.{numberText, refusedText}
 use Rattle.lines.proofs.LinesLaws.{number-length}
 

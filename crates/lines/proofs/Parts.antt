@@ -9,7 +9,7 @@ use lib.ListN.{length, getD, take, length-append, drop-of-length-le}
 use lib.Seq.{take-suc, take-length, length-take-le}
 use Rattle.calendar.specs.declared.dates.Date.{Date}
 use Rattle.text.specs.Text.{ascii, putOf, frontOf}
-use Rattle.text.specs.TextLaws.{put-next}
+use Rattle.text.proofs.TextLaws.{put-next}
 use Rattle.lines.specs.Lines.{dateText, timeText, timesText, rowText, rowBytes}
 use Rattle.lines.proofs.LinesLaws.{date-length, time-length, times-length, row-length}
 

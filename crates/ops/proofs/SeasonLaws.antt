@@ -11,7 +11,7 @@ use Rattle.integers.specs.Parts.{P, N}
 use Rattle.integers.specs.Sums.{flip}
 use Rattle.float64.specs.Ops.{_*ᶠ_, dec}
 use Rattle.float64.specs.Whole.{roundOf}
-use Rattle.float64.specs.Words.{signOf}
+use Rattle.float64.specs.Words.{isNegativeOf}
 use Rattle.float64.proofs.Within.{Within, within-signed, neg-within, mul-within}
 use Rattle.float64.proofs.Limits.{within-limits}
 use Rattle.float64.proofs.WholeSizes.{wholeSize, signed, whole-most, cast-is, nearest-within}
@@ -31,16 +31,16 @@ module _ (minutes factor : Float) (h : Within minutes 1301 1) (k : Within factor
   unfolding rounded
   rounded-within = nearest-within (minutes *ᶠ factor) 78060 (lit< tt) (mul-within minutes factor 1301 60 1 1 78060 0 (lit< tt) (lit< tt) h k (lit< tt) (lit≤ tt) (lit≤ tt))
 
-  cast : (b : ℕ) → 78060 < 2 ^ b → toSigned b (roundOf (minutes *ᶠ factor)) ≡ signed (signOf rounded) (wholeSize rounded)
+  cast : (b : ℕ) → 78060 < 2 ^ b → toSigned b (roundOf (minutes *ᶠ factor)) ≡ signed (isNegativeOf rounded) (wholeSize rounded)
   unfolding rounded
-  cast b l = let m = whole-most rounded 78060 1 rounded-within in cast-is b (signOf rounded) rounded (within-signed rounded 78060 1 rounded-within) 78060 1 rounded-within (omega arith)
+  cast b l = let m = whole-most rounded 78060 1 rounded-within in cast-is b (isNegativeOf rounded) rounded (within-signed rounded 78060 1 rounded-within) 78060 1 rounded-within (omega arith)
 
   parts : (s : Bool) → (P (signed s (wholeSize rounded)) ≤ 86400) × (N (signed s (wholeSize rounded)) ≤ 86400)
   parts true = let m = whole-most rounded 78060 1 rounded-within in let f = flip (pos (wholeSize rounded)) in (omega arith, omega arith)
   parts false = let m = whole-most rounded 78060 1 rounded-within in (omega arith, lit≤ tt)
 
   seconds-small : (P (toSigned 31 (roundOf (minutes *ᶠ factor))) ≤ 86400) × (N (toSigned 31 (roundOf (minutes *ᶠ factor))) ≤ 86400)
-  seconds-small = rw (cast 31 (lit< tt)) (parts (signOf rounded))
+  seconds-small = rw (cast 31 (lit< tt)) (parts (isNegativeOf rounded))
 
   seconds-source : toSigned 31 (roundOf (minutes *ᶠ factor)) ≡ toSigned 63 (roundOf (minutes *ᶠ factor))
   seconds-source = cast 31 (lit< tt) ∙ sym (cast 63 (lit< tt))

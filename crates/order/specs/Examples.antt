@@ -10,7 +10,7 @@ use lib.ListN.{length, replicate}
 use lib.Signed.{leZ}
 use Rattle.float64.specs.Ops.{dec}
 use Rattle.calendar.specs.Gregorian.{leapOf, lengthOf, existsOf}
-use Rattle.calendar.specs.Days.{daysBeforeOf, ordinalOf, countBelow, monthOf, ofOrdinalOf, daysBeforeYearOf, dayNumberOf, yearOf, dateAtOf, dateOfDayOf}
+use Rattle.calendar.specs.Days.{daysBeforeOf, ordinalOf, countBelow, monthOf, ofOrdinalOf, daysBeforeYearOf, dayNumberOf, lastBy, yearOf, dateAtOf, dateOfDayOf}
 use Rattle.calendar.specs.Answers.{heldOf, fromOf}
 use Rattle.fields.specs.Numbers.{unsignedOf, signedOf, joinedOf, bitsOf, floatOf}
 use Rattle.fields.specs.Fields.{knownTag, lengthFits, lengthAt, firstBefore, faultOf, walkOf, checkOf}
@@ -188,5 +188,5 @@ examples =
     []
 
 pub all-hold : T (all examples)
-unfolding examples all same unsignedOf signedOf joinedOf bitsOf floatOf knownTag lengthFits lengthAt firstBefore faultOf walkOf checkOf offsetOf hasOf valueOf eq le neg ofBits toBits round dec leapOf lengthOf existsOf daysBeforeOf ordinalOf countBelow monthOf ofOrdinalOf daysBeforeYearOf dayNumberOf yearOf dateAtOf dateOfDayOf heldOf fromOf madhabNumberOf madhabOf ruleNumberOf ruleOf roundingNumberOf roundingOf shafaqNumberOf shafaqOf methodNumberOf methodOf preset presetOf dateIn rowsIn degreesIn minutesIn byteOr degreesOr roundingOr minutesOr intervalOr parametersIn textFits dateFits rowsFit byteFits degreesFit minuteFits minutesFit intervalFits fitsOf inRangeOf firstFailing missingOf outOfRangeOf orderOf readingOf townOf
+unfolding examples all same unsignedOf signedOf joinedOf bitsOf floatOf knownTag lengthFits lengthAt firstBefore faultOf walkOf checkOf offsetOf hasOf valueOf eq le neg ofBits toBits round dec leapOf lengthOf existsOf daysBeforeOf ordinalOf countBelow monthOf ofOrdinalOf daysBeforeYearOf dayNumberOf lastBy yearOf dateAtOf dateOfDayOf heldOf fromOf madhabNumberOf madhabOf ruleNumberOf ruleOf roundingNumberOf roundingOf shafaqNumberOf shafaqOf methodNumberOf methodOf preset presetOf dateIn rowsIn degreesIn minutesIn byteOr degreesOr roundingOr minutesOr intervalOr parametersIn textFits dateFits rowsFit byteFits degreesFit minuteFits minutesFit intervalFits fitsOf inRangeOf firstFailing missingOf outOfRangeOf orderOf readingOf townOf
 all-hold = tt

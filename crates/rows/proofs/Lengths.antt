@@ -11,7 +11,7 @@ use Rattle.lines.specs.Lines.{fullRow, lineText}
 use Rattle.lines.proofs.LinesLaws.{line-length}
 use Rattle.order.specs.declared.reading.Order.{Order}
 use Rattle.text.specs.Text.{ascii, putOf, frontOf}
-use Rattle.text.specs.TextLaws.{put-front, put-behind, put-next, put-nothing}
+use Rattle.text.proofs.TextLaws.{put-front, put-behind, put-next, put-nothing}
 use Rattle.rows.specs.Rows.{headText, linesText, acceptedText}
 
 abbrev header : List ℕ

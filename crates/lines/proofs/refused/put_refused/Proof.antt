@@ -2,7 +2,7 @@ use native.Mathlib.Omega.{arith}
 use mathlib.Core.Path.{_≡_, sym, ap, _∙_}
 use lib.ListN.{length}
 use denote.Ref.{now}
-use Rattle.text.specs.TextLaws.{cut-front}
+use Rattle.text.proofs.TextLaws.{cut-front}
 use Rattle.lines.specs.Lines.{refusedText}
 use Rattle.lines.proofs.LinesLaws.{refused-length}
 use borrow.Author.Needs.{needs}

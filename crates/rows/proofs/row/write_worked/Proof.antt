@@ -4,7 +4,7 @@ use mathlib.Core.List.{[]}
 use denote.Ref.{now}
 use Rattle.lines.specs.Lines.{nineOf, rowText}
 use Rattle.lines.proofs.LinesLaws.{row-length}
-use Rattle.text.specs.TextLaws.{put-next}
+use Rattle.text.proofs.TextLaws.{put-next}
 use Rattle.rows.specs.Rows.{answerOf, rowFrontOf}
 use borrow.Author.Needs.{needs}
 use Rattle.rows.proofs.row.write_worked.Statement.{statement}

@@ -7,7 +7,7 @@ use Rattle.lines.proofs.LinesLaws.{refused-length}
 use Rattle.order.specs.AcceptedLaws.{read-accepted}
 use Rattle.order.specs.ReadingLaws.{read-town}
 use Rattle.text.specs.Text.{ascii}
-use Rattle.text.specs.TextLaws.{put-next}
+use Rattle.text.proofs.TextLaws.{put-next}
 use Rattle.rows.proofs.Answers.{sheet-short, sheet-read, sheet-refused}
 use borrow.Author.Needs.{needs}
 use Rattle.rows.proofs.sheet.write_sheet.Statement.{statement}

@@ -18,10 +18,8 @@ digits-root : (k n : ℕ) → n < 4 ^ k → Root n (digits k n)
 unfolding digits
 digits-root zero n h = record { within = omega arith; above = omega arith }
 digits-root (suc k) n h =
-    let s = digits k (n / 4) in
-    let small : n / 4 < 4 ^ k = omega (arith, pow-suc 4 k) in
-    let before = digits-root k (n / 4) small in
-    let lo : 2 * s * (2 * s) ≤ n = omega (arith, before .within) in
+    let s = digits k (n / 4) in let small : n / 4 < 4 ^ k = omega (arith, pow-suc 4 k) in
+    let before = digits-root k (n / 4) small in let lo : 2 * s * (2 * s) ≤ n = omega (arith, before .within) in
     let hi : n < (2 * s + 2) * (2 * s + 2) = omega (arith, before .above) in
     next-digit n (2 * s) (leb ((2 * s + 1) * (2 * s + 1)) n) refl lo hi
 
