@@ -8,8 +8,9 @@ use mathlib.Core.List.{List, []}
 use lib.ListN.{length, take, drop, length-take, length-drop, drop-of-length-le}
 use lib.Seq.{take-nil}
 use lib.Dec.{ltb, leb, eqb, lit≤}
-use borrow.Author.Tests.{lt-ltb, ltb-true, ltb-false, leb-true, eqb-true, eqb-false}
-use Rattle.refusals.specs.Refusals.{refusal}
+use borrow.Author.Tests.{lt-ltb, ltb-true, ltb-false, leb-true, eqb-true, eqb-false, not-false}
+use Rattle.refusals.specs.Refusals.{refusal, noRefusal}
+use Rattle.refusals.specs.declared.Refusal.{Refusal}
 use Rattle.fields.specs.Numbers.{byteOf}
 use Rattle.fields.specs.Tags.{lastTag, column, knownTag, lengthFits}
 use Rattle.fields.specs.Fields.{lengthAt, after, firstBefore, valueFaultOf, faultOf, walkOf, checkOf}
@@ -26,6 +27,19 @@ fits-between tag n e =
     let h = and-eq-true-iff (leb (column tag 0) n) (leb n (column tag 1)) .0 (and-eq-true-iff (leb tag lastTag) limits .0 e .1) in
     (leb-true (column tag 0) n (h .0), leb-true n (column tag 1) (h .1))
 
+-- ---- a check that refuses nothing is passed, and a number that each check may give is not exceeded
+passed : (b : Bool) (x y : ℕ) → 1 ≤ x → cond b x y ≡ 0 → (b ≡ false) × (y ≡ 0)
+passed true x y l e = absurd (omega arith)
+passed false x y l e = (refl, e)
+
+most : (b : Bool) (x y n : ℕ) → x ≤ n → y ≤ n → cond b x y ≤ n
+most true x y n h l = h
+most false x y n h l = l
+
+most-number : (b : Bool) (x y : Refusal) (n : ℕ) → x .number ≤ n → y .number ≤ n → cond b x y .number ≤ n
+most-number true x y n h l = h
+most-number false x y n h l = l
+
 -- ---- a field that is not refused
 pub record Good (s : List ℕ) (at : ℕ) : Type 0 where
   pub known : knownTag (byteOf s at) ≡ true
@@ -36,22 +50,16 @@ pub record Good (s : List ℕ) (at : ℕ) : Type 0 where
 pub fault-none : (s : List ℕ) (at : ℕ) → faultOf s at ≡ 0 → Good s at
 unfolding faultOf valueFaultOf
 fault-none s at e =
-    go (ltb (length s - at) 3) (knownTag (byteOf s at)) (ltb (firstBefore (length s) s (byteOf s at) 0 at) at)
-    (lengthFits (byteOf s at) (lengthAt s at)) (ltb (length s - at - 3) (lengthAt s at)) refl refl refl refl refl e
-  where
-    go : (a b c d f : Bool) → ltb (length s - at) 3 ≡ a → knownTag (byteOf s at) ≡ b
-        → ltb (firstBefore (length s) s (byteOf s at) 0 at) at ≡ c → lengthFits (byteOf s at) (lengthAt s at) ≡ d
-        → ltb (length s - at - 3) (lengthAt s at) ≡ f
-        → _≡_ {A = ℕ} (cond a 1 (cond (not b) 2 (cond c 3 (cond (not d) 2 (cond f 1 0))))) 0 → Good s at
-    go true b c d f ha hb hc hd hf e = absurd (omega arith)
-    go false false c d f ha hb hc hd hf e = absurd (omega arith)
-    go false true true d f ha hb hc hd hf e = absurd (omega arith)
-    go false true false false f ha hb hc hd hf e = absurd (omega arith)
-    go false true false true true ha hb hc hd hf e = absurd (omega arith)
-    go false true false true false ha hb hc hd hf e =
-        let header = ltb-false (length s - at) 3 ha in
-        let value = ltb-false (length s - at - 3) (lengthAt s at) hf in
-        record { known = hb; new = ltb-false (firstBefore (length s) s (byteOf s at) 0 at) at hc; fits = hd; whole = omega arith }
+    let tag = byteOf s at in
+    let first = firstBefore (length s) s tag 0 at in
+    let header = passed (ltb (length s - at) 3) 1 _ (lit≤ tt) e in
+    let known = passed (not (knownTag tag)) 2 _ (lit≤ tt) (header .1) in
+    let new = passed (ltb first at) 3 _ (lit≤ tt) (known .1) in
+    let fits = passed (not (lengthFits tag (lengthAt s at))) 2 _ (lit≤ tt) (new .1) in
+    let value = passed (ltb (length s - at - 3) (lengthAt s at)) 1 0 (lit≤ tt) (fits .1) in
+    let three = ltb-false (length s - at) 3 (header .0) in
+    let rest = ltb-false (length s - at - 3) (lengthAt s at) (value .0) in
+    record { known = not-false _ (known .0); new = ltb-false first at (new .0); fits = not-false _ (fits .0); whole = omega arith }
 
 -- a walk that refuses nothing: its first field is good, and so is the walk from the next on
 pub walk-good : (k : ℕ) (s : List ℕ) (at : ℕ) → at < length s → walkOf (suc k) s at .number ≡ 0
@@ -125,32 +133,21 @@ value-missing s tag h =
 fault-small : (s : List ℕ) (at : ℕ) → faultOf s at ≤ 3
 unfolding faultOf valueFaultOf
 fault-small s at =
-    go (ltb (length s - at) 3) (knownTag (byteOf s at)) (ltb (firstBefore (length s) s (byteOf s at) 0 at) at)
-    (lengthFits (byteOf s at) (lengthAt s at)) (ltb (length s - at - 3) (lengthAt s at))
-  where
-    go : (a b c d f : Bool) → cond a 1 (cond (not b) 2 (cond c 3 (cond (not d) 2 (cond f 1 0)))) ≤ 3
-    go true b c d f = lit≤ tt
-    go false false c d f = lit≤ tt
-    go false true true d f = lit≤ tt
-    go false true false false f = lit≤ tt
-    go false true false true true = lit≤ tt
-    go false true false true false = lit≤ tt
+    most (ltb (length s - at) 3) 1 _ 3 (lit≤ tt)
+    (most (not (knownTag (byteOf s at))) 2 _ 3 (lit≤ tt)
+    (most (ltb (firstBefore (length s) s (byteOf s at) 0 at) at) 3 _ 3 (lit≤ tt)
+    (most (not (lengthFits (byteOf s at) (lengthAt s at))) 2 _ 3 (lit≤ tt)
+    (most (ltb (length s - at - 3) (lengthAt s at)) 1 0 3 (lit≤ tt) (lit≤ tt)))))
 
 walk-small : (k : ℕ) (s : List ℕ) (at : ℕ) → walkOf k s at .number ≤ 3
 unfolding walkOf
 walk-small zero s at = lit≤ tt
-walk-small (suc k) s at = go (ltb at (length s)) (eqb (faultOf s at) 0) (walk-small k s (after s at))
-  where
-    go : (a b : Bool) → walkOf k s (after s at) .number ≤ 3
-        → cond a (cond b (walkOf k s (after s at)) (refusal (faultOf s at) at)) (refusal 0 0) .number ≤ 3
-    go true true h = h
-    go true false h = fault-small s at
-    go false b h = lit≤ tt
+walk-small (suc k) s at =
+    let next = walkOf k s (after s at) in
+    let one = refusal (faultOf s at) at in
+    most-number (ltb at (length s)) (cond (eqb (faultOf s at) 0) next one) noRefusal 3
+    (most-number (eqb (faultOf s at) 0) next one 3 (walk-small k s (after s at)) (fault-small s at)) (lit≤ tt)
 
 pub check-small : (s : List ℕ) → checkOf s .number ≤ 3
 unfolding checkOf
-check-small s = go (ltb 1024 (length s))
-  where
-    go : (a : Bool) → cond a (refusal 1 0) (walkOf (length s) s 0) .number ≤ 3
-    go true = lit≤ tt
-    go false = walk-small (length s) s 0
+check-small s = most-number (ltb 1024 (length s)) (refusal 1 0) (walkOf (length s) s 0) 3 (lit≤ tt) (walk-small (length s) s 0)

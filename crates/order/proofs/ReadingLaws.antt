@@ -9,7 +9,7 @@ use lib.ListN.{length, getD}
 use borrow.Author.Tests.{eqb-true, eqb-false}
 use Rattle.fields.specs.Fields.{checkOf}
 use Rattle.fields.specs.Tags.{lastTag}
-use Rattle.fields.specs.Values.{hasOf, valueOf, partIn, Values, valuesOf}
+use Rattle.fields.specs.Values.{offsetOf, hasOf, valueOf, startOf, partIn, Values, valuesOf}
 use Rattle.fields.proofs.FieldsLaws.{check-small, value-fits, fits-between}
 use Rattle.fields.proofs.Collecting.{part-same}
 use Rattle.refusals.specs.declared.Refusal.{Refusal}
@@ -90,15 +90,19 @@ fits-given v e tag l h has =
 -- ---- its town: 1 to 40 bytes of printable ASCII, which are a part of the order
 pub record Town (s town : List ℕ) (order : Order) : Type 0 where
   pub part : town ≡ partIn s (order .town)
+  pub begins : order .town .at ≡ offsetOf s 1 + 3
+  pub long : order .town .length ≡ length town
   pub size : (1 ≤ length town) × (length town ≤ 40)
   pub text : textFits town ≡ true
 
 town-of : (s : List ℕ) (order : Order) → Passed s order → Town s (valueOf s 1) order
-unfolding fitsOf lookUp orderOf
+unfolding fitsOf lookUp orderOf startOf
 town-of s order passed =
     let has = has-required (hasOf s) (passed .given) 0 (lit≤ tt) in
     record {
       part = sym (ap (λ (o : Order). partIn s (o .town)) (sym (passed .same)) ∙ part-same s 1);
+      begins = ap (λ (o : Order). o .town .at) (sym (passed .same)) ∙ simp has;
+      long = ap (λ (o : Order). o .town .length) (sym (passed .same));
       size = fits-between 1 (length (valueOf s 1)) (value-fits s 1 (passed .fields) has);
       text = fits-given (valuesOf s) (passed .ranges) 1 (lit≤ tt) (lit≤ tt) has;
     }

@@ -11,13 +11,14 @@ use Rattle.refusals.specs.Refusals.{refusal, noRefusal}
 use Rattle.order.specs.Reading.{firstFailing, tagsFrom}
 
 module _ (number : ℕ) (passes : ℕ → Bool) (tags : List ℕ) (i : ℕ) where
-  pub fails : i < length tags → passes (getD tags i 0) ≡ false → firstFailing number passes (drop i tags) ≡ refusal number (getD tags i 0)
-  unfolding firstFailing
-  fails l h = rw (drop-cons tags i 0) (simp h)
+  module _ (l : i < length tags) (tag : ℕ) (is-tag : getD tags i 0 ≡ tag) where
+    pub fails : passes tag ≡ false → firstFailing number passes (drop i tags) ≡ refusal number tag
+    unfolding firstFailing
+    fails h = rw (drop-cons tags i 0, is-tag) (simp h)
 
-  pub on : i < length tags → passes (getD tags i 0) ≡ true → firstFailing number passes (drop i tags) ≡ firstFailing number passes (drop (i + 1) tags)
-  unfolding firstFailing
-  on l h = rw (add-one, drop-cons tags i 0) (simp h)
+    pub on : passes tag ≡ true → firstFailing number passes (drop i tags) ≡ firstFailing number passes (drop (i + 1) tags)
+    unfolding firstFailing
+    on h = rw (add-one, drop-cons tags i 0, is-tag) (simp h)
 
   pub none : length tags ≤ i → firstFailing number passes (drop i tags) ≡ noRefusal
   unfolding firstFailing
@@ -47,6 +48,7 @@ failing-number number passes (tag ∷ rest) = go (passes tag) (failing-number nu
     go true h = h
     go false h = omega arith
 
+-- ---- the tags from one on
 pub tags-from : (k from i : ℕ) → i < k → getD (tagsFrom k from) i 0 ≡ i + from
 unfolding tagsFrom
 tags-from zero from i h = absurd (omega arith)

@@ -92,10 +92,10 @@ pub fn read(order: &[u8]) -> Reading
     }
     let fields = checked.fields;
     let lacking = missing(fields);
+    let outside = out_of_range(order, fields);
     if lacking.number != 0 {
         return Reading::Refused(lacking);
     }
-    let outside = out_of_range(order, fields);
     if outside.number != 0 {
         return Reading::Refused(outside);
     }

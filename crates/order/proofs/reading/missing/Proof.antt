@@ -25,13 +25,13 @@ returns : tie.Need-returns Inv-loop μ-loop
 returns c =
     let h = c .before .before in
     let l = h .before .before in
-    c .new .ensures ∙ sym (fails 4 (hasIn (l .before .args .fields)) required (l .loop .i) (h .before .loop-test .taken) (sym (h .has .ensures) ∙ not-true _ (c .before .if1 .taken))) ∙ l .loop .inv .1
+    c .new .ensures ∙ sym (fails 4 (hasIn (l .before .args .fields)) required (l .loop .i) (h .before .loop-test .taken) _ refl (sym (h .has .ensures) ∙ not-true _ (c .before .if1 .taken))) ∙ l .loop .inv .1
 
 loop-again : tie.Need-loop-again Inv-loop μ-loop
 loop-again c =
     let h = c .before in
     let l = h .before .before in
-    (search needs, sym (on 4 (hasIn (l .before .args .fields)) required (l .loop .i) (h .before .loop-test .taken) (sym (h .has .ensures) ∙ not-false _ (c .if1 .left))) ∙ l .loop .inv .1)
+    (search needs, sym (on 4 (hasIn (l .before .args .fields)) required (l .loop .i) (h .before .loop-test .taken) _ refl (sym (h .has .ensures) ∙ not-false _ (c .if1 .left))) ∙ l .loop .inv .1)
 
 returns-2 : tie.Need-returns-2 Inv-loop μ-loop
 returns-2 c =

@@ -53,25 +53,25 @@ returns c =
 
 returns-2 : tie.Need-returns-2
 returns-2 c =
-    let m = c .before .before in
+    let m = c .before .before .before in
     let p = m .before .before in
     let f = p .before .before .before in
     by-missing (now (f .before .before .args .order)) (f .fields-of .result) (f .fields-of .ensures) (p .if1 .left) (m .missing .result) (m .missing .ensures) (c .if2 .taken)
 
 returns-3 : tie.Need-returns-3
 returns-3 c =
-    let r = c .before .before in
-    let q = r .before in
-    let m = q .before .before in
+    let q = c .before .before in
+    let r = q .before .before in
+    let m = r .before in
     let p = m .before .before in
     let f = p .before .before .before in
     by-range (now (f .before .before .args .order)) (f .fields-of .result) (f .fields-of .ensures) (p .if1 .left) (m .missing .result) (m .missing .ensures) (q .if2 .left) (r .out-of-range .result) (r .out-of-range .ensures) (c .if3 .taken)
 
 returns-4 : tie.Need-returns-4
 returns-4 c =
-    let r = c .before .before .before in
-    let q = r .before in
-    let m = q .before .before in
+    let q = c .before .before .before in
+    let r = q .before .before in
+    let m = r .before in
     let p = m .before .before in
     let f = p .before .before .before in
     by-none (now (f .before .before .args .order)) (f .fields-of .result) (f .fields-of .ensures) (p .if1 .left) (m .missing .result) (m .missing .ensures) (q .if2 .left) (r .out-of-range .result) (r .out-of-range .ensures) (c .before .if3 .left) (c .record-in .result) (c .record-in .ensures)
@@ -79,4 +79,4 @@ returns-4 c =
 pub read-spec : {M : Type 1} → statement M
 read-spec =
     tie.close
-    (tie.spec (λ c κs. tt) returns (λ c κs. tt) returns-2 (λ c κs. tt) returns-3 (λ c κs. tt) returns-4)
+    (tie.spec (λ c κs. tt) returns (λ c κs. tt) (λ c κs. tt) returns-2 returns-3 (λ c κs. tt) returns-4)

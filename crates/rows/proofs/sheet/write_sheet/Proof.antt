@@ -4,8 +4,8 @@ use mathlib.Core.List.{[]}
 use denote.Ref.{now}
 use Rattle.lines.specs.Lines.{refusedOrderText}
 use Rattle.lines.specs.LinesLaws.{refused-length}
-use Rattle.order.specs.AcceptedLaws.{read-accepted}
-use Rattle.order.specs.ReadingLaws.{read-town}
+use Rattle.order.proofs.AcceptedLaws.{read-accepted}
+use Rattle.order.proofs.ReadingLaws.{read-town}
 use Rattle.text.specs.Text.{ascii}
 use Rattle.text.specs.TextLaws.{put-next}
 use Rattle.rows.proofs.Answers.{sheet-short, sheet-read, sheet-refused}
@@ -14,7 +14,7 @@ use Rattle.rows.proofs.sheet.write_sheet.Statement.{statement}
 use Rattle.rows.proofs.sheet.write_sheet.Tie as tie
 use Rattle.rows.proofs.sheet.write_sheet.Reads as reads
 use Rattle.rows.proofs.sheet.write_sheet.Lts as lts
-use Rattle.fields.proofs.values.value.Reads as value-reads
+use Rattle.fields.proofs.values.bytes.Reads as bytes-reads
 use Rattle.lines.proofs.refused.put_refused_order.Reads as put-refused-order-reads
 use Rattle.order.proofs.reading.read.Reads as read-reads
 use Rattle.rows.proofs.sheet.put_accepted.Reads as put-accepted-reads
@@ -28,15 +28,15 @@ read-requires c κs = search needs
 enum-known-record : tie.Need-enum-known-record
 enum-known-record c = search needs
 
-value-requires : tie.Need-value-requires
-value-requires c κs = search needs
+bytes-requires : tie.Need-bytes-requires
+bytes-requires c κs = search needs
 
 put-accepted-requires : tie.Need-put-accepted-requires
 put-accepted-requires c κs =
     let a = c .before .before .before .before .before .before .before .before .before .args in
     let e = sym (c .before .before .before .before .before .read .ensures) ∙ c .before .before .before .«record» .given .1 in
     let t = read-town (now (a .order)) _ e in
-    (read-accepted (now (a .order)) _ e, rw (c .value .ensures ∙ sym (t .part)) (t .size .1), c .before .before .before .before .before .before .if1 .left)
+    (read-accepted (now (a .order)) _ e, rw (c .bytes .ensures ∙ sym (t .part)) (t .size .1), c .before .before .before .before .before .before .if1 .left)
 
 enum-known-refusal : tie.Need-enum-known-refusal
 enum-known-refusal c = search needs
@@ -53,7 +53,7 @@ returns-2 c =
     let e = sym (c .before .before .before .before .before .before .before .before .read .ensures) ∙ c .before .before .before .before .before .before .«record» .given .1 in
     let t = read-town (now (a .order)) _ e in
     let l = sheet-read (now (a .order)) (now (a .buffer)) (c .before .before .before .before .before .before .before .before .before .if1 .left) _ e in
-    let p = simp (c .before .before .before .value .ensures ∙ sym (t .part)) at (c .before .before .put-accepted .ensures) in
+    let p = simp (c .before .before .before .bytes .ensures ∙ sym (t .part)) at (c .before .before .put-accepted .ensures) in
     (p .0 ∙ l .0, p .1 ∙ l .1)
 
 same-length-2 : tie.Need-same-length-2
@@ -77,7 +77,7 @@ write-sheet-spec =
     returns
     read-requires
     enum-known-record
-    value-requires
+    bytes-requires
     put-accepted-requires
     enum-known-refusal
     put-refused-order-requires
