@@ -1,4 +1,4 @@
-//! The port against the crate: see tests/crate/run, tests/crate/list and tests/crate/list-days.
+//! The port against the crate: see tests/crate/run, tests/crate/list, tests/crate/list-days and tests/crate/list-orders.
 mod all;
 mod counts;
 mod day_crate;
@@ -13,6 +13,7 @@ mod near_edge;
 mod numbers;
 mod order_damage;
 mod order_draw;
+mod order_list;
 mod order_owed;
 mod order_port;
 mod order_read;
@@ -49,6 +50,7 @@ fn default_size(what: &str) -> u64 {
     match what {
         "" => all::DEFAULT_SIZE,
         "list" | "list-days" => 3_000,
+        "list-orders" => 1_000,
         "edges" => 100,
         "sheets" => 10_000,
         _ => 1_000_000,
@@ -69,7 +71,7 @@ fn words() -> Words {
             ("", "--size") => read.size = number(),
             ("", "--long") => read.size = all::LONG_SIZE,
             ("hours", "--pairs") | ("steps", "--cases") | ("days", "--days") => read.size = number(),
-            ("rows" | "plain", "--rows") | ("edges", "--places") | ("orders" | "sheets", "--orders") => read.size = number(),
+            ("rows" | "plain", "--rows") | ("edges", "--places") | ("orders" | "sheets" | "list-orders", "--orders") => read.size = number(),
             ("list" | "list-days", "--lines") => read.size = number(),
             ("days" | "orders", "--instants") => read.instants = number(),
             ("hours" | "plain", "--zones") => read.print_zones = true,
@@ -98,6 +100,7 @@ fn compare(words: &Words) -> Vec<Line> {
         "" => return all::all(seed, size),
         "list" => hours::list(seed, size),
         "list-days" => day_list::list_days(seed, size),
+        "list-orders" => order_list::list_orders(seed, size),
         "hours" => return single!(hours::hours(seed, size, *print_zones)),
         "steps" => return single!(steps::steps(seed, size)),
         "days" => return single!(days::days(seed, size, instants)),
@@ -123,6 +126,6 @@ fn usage() -> ! {
     eprintln!("hours [--seed N] [--pairs N] [--zones], steps [--seed N] [--cases N], days [--seed N] [--days N] [--instants N],");
     eprintln!("rows [--seed N] [--rows N], plain [--seed N] [--rows N] [--zones], edges [--seed N] [--places N],");
     eprintln!("orders [--seed N] [--orders N] [--instants N], sheets [--seed N] [--orders N],");
-    eprintln!("list [--seed N] [--lines N] or list-days [--seed N] [--lines N]");
+    eprintln!("list [--seed N] [--lines N], list-days [--seed N] [--lines N] or list-orders [--seed N] [--orders N]");
     exit(2)
 }

@@ -57,6 +57,11 @@ fn edge_between(a: f64, b: f64) -> bool {
     edges.iter().any(|edge| a.min(b) - NEAR <= *edge && *edge <= a.max(b) + NEAR)
 }
 
+/// Whether last bits can carry a number over an edge.
+pub fn by_an_edge(number: f64) -> bool {
+    edge_between(number - LAST_BITS, number + LAST_BITS)
+}
+
 /// A row that differs: the numbers of both sides, and by number whether it gave another time.
 struct Differing {
     port: Numbers,

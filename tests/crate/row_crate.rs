@@ -45,4 +45,5 @@ pub mod on_leaves {
 /// As it is.
 pub mod plain {
     rows_of!(salah_plain);
+    crate::in_force::in_force_of!(salah_plain);
 }

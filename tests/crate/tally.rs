@@ -11,9 +11,9 @@ fn same_bits(a: f64, b: f64) -> bool {
     a.to_bits() == b.to_bits() || (a.is_nan() && b.is_nan())
 }
 
-/// 0 where neither is a number, infinite where one is none.
+/// Infinite where one is a number and the other is none, and between a NaN and an infinity.
 fn difference(a: f64, b: f64) -> f64 {
-    if same_bits(a, b) || !(a.is_finite() || b.is_finite()) {
+    if same_bits(a, b) {
         0.0
     } else if a.is_finite() && b.is_finite() {
         (a - b).abs()

@@ -1,6 +1,7 @@
 // Working the day of an order's row.
 ghost use mathlib.Core.Path.{_≡_};
-ghost use Rattle.calls.specs.Calls.{workRowOf, workDayOf};
+ghost use Rattle.calls.specs.Calls.{workDateOf, lacksRow, workRowOf, workDayOf};
+use calendar::dates::Date;
 use order::reading::Order;
 use order::reading::Reading;
 use order::reading::read;
@@ -10,22 +11,34 @@ use schedule::hours::RowNumbers;
 use schedule::prayer_times::PrayerTimes;
 use schedule::prayer_times::Worked;
 
-// The place of a row that the order lacks: the tag of its rows.
+// The tag of an order's rows: the place of a row that it lacks.
 const ROWS_TAG: u32 = 3;
 
-// Rows count from 0; one that the order lacks is 5, place 3.
+// A date by the order's place and parameters.
+pub fn work_date(order: Order, date: Date) -> Worked
+    ensures { λ r. ⌜ r ≡ workDateOf order date ⌝ }
+{
+    let coordinates = order.coordinates;
+    let parameters = order.parameters;
+    let numbers = RowNumbers::new(date, coordinates, parameters);
+    PrayerTimes::new(numbers, date, coordinates.latitude, parameters)
+}
+
+pub fn lacks_row() -> Refusal
+    ensures { λ r. ⌜ r ≡ lacksRow ⌝ }
+{
+    Refusal::new(OUT_OF_RANGE, ROWS_TAG)
+}
+
+// Rows count from 0.
 pub fn work_row(order: Order, row: u32) -> Worked
     ensures { λ r. ⌜ r ≡ workRowOf order row ⌝ }
 {
-    let first = order.date;
-    let coordinates = order.coordinates;
-    let parameters = order.parameters;
     if row < order.rows {
-        let date = first.row(row);
-        let numbers = RowNumbers::new(date, coordinates, parameters);
-        return PrayerTimes::new(numbers, date, coordinates.latitude, parameters);
+        let first = order.date;
+        return work_date(order, first.row(row));
     }
-    Worked::Refused(Refusal::new(OUT_OF_RANGE, ROWS_TAG))
+    Worked::Refused(lacks_row())
 }
 
 // The nine times of a row's date, or the refusal of the order, of the row or of the day.

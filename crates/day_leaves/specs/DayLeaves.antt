@@ -2,7 +2,7 @@
 use Prim.Native.Nat.{ℕ}
 use mathlib.Core.Bool.{true, false}
 use lib.IntN.{ℤ, pos}
-use Rattle.models.specs.Minutes.{minutesOf}
+use Rattle.models.specs.Minutes.{sixMinutesOf}
 use Rattle.models.specs.Numbers.{methodOf, methodNumberOf, madhabOf, madhabNumberOf, ruleOf, ruleNumberOf, roundingOf, roundingNumberOf, shafaqOf, shafaqNumberOf, prayerNumberOf}
 use Rattle.models.specs.Presets.{presetOf}
 use Rattle.calendar.specs.declared.dates.Date.{Date}
@@ -33,7 +33,7 @@ abbrev pub rowOf : LeafNumbers → RowNumbers
 rowOf n = record { today = sunOf (n .today); tomorrow = sunOf (n .tomorrow); after = sunOf (n .after); fajr = n .fajr; asr = n .asr; isha = n .isha; «fajr_tomorrow» = n .«fajr_tomorrow» }
 
 abbrev pub minutesFrom : LeafSettings → TimeAdjustment
-minutesFrom s = minutesOf (s .fajr) (s .sunrise) (s .dhuhr) (s .asr) (s .maghrib) (s .isha)
+minutesFrom s = sixMinutesOf (s .fajr) (s .sunrise) (s .dhuhr) (s .asr) (s .maghrib) (s .isha)
 
 -- the preset with each field set that an order can set
 unfoldable pub parametersFrom : LeafSettings → Parameters

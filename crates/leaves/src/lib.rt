@@ -11,11 +11,12 @@ ghost use Rattle.fdlibm_arc.specs.Acos.{acosOf};
 ghost use Rattle.fdlibm_arc.specs.Atan2.{atan2Of};
 ghost use Rattle.calendar.specs.Gregorian.{dateOf};
 ghost use Rattle.unit.specs.Unit.{angleOf, coordinatesOf};
-ghost use Rattle.solar.specs.Hours.{dateSunOf, angleNumberOf, afternoonNumberOf};
+ghost use Rattle.solar.specs.Hours.{angleNumberOf, afternoonNumberOf};
+ghost use Rattle.solar.specs.Shared.{dateCourseOf};
 ghost use Rattle.models.specs.Numbers.{shafaqOf};
 ghost use Rattle.ops.specs.Season.{daysSinceSolsticeOf, seasonAdjustedMorningTwilightOf, seasonAdjustedEveningTwilightOf};
 ghost use Rattle.solar.specs.Setting.{settingHourOf};
-ghost use Rattle.leaves.specs.Leaves.{leafHoursOf, leafTimeOf};
+ghost use Rattle.leaves.specs.Leaves.{leafSunOf, leafHoursOf, leafTimeOf};
 use calendar::dates::Date;
 use models::shafaq::Shafaq;
 use ops::season::days_since_solstice;
@@ -158,7 +159,7 @@ pub struct LeafHours {
 }
 
 fn course(year: u32, month: u32, day: u32, latitude: f64, longitude: f64) -> Course
-    ensures { λ r. ⌜ r ≡ dateSunOf (dateOf year month day) (coordinatesOf latitude longitude) ⌝ }
+    ensures { λ r. ⌜ r ≡ dateCourseOf (dateOf year month day) (coordinatesOf latitude longitude) ⌝ }
 {
     date_sun(
         Date::new(year, month, day),
@@ -175,7 +176,7 @@ pub extern "C" fn leaf_hour_numbers(
     latitude: f64,
     longitude: f64,
 ) -> LeafHours
-    ensures { λ r. ⌜ r ≡ leafHoursOf (dateSunOf (dateOf year month day) (coordinatesOf latitude longitude)) ⌝ }
+    ensures { λ r. ⌜ r ≡ leafHoursOf (leafSunOf year month day latitude longitude) ⌝ }
 {
     let numbers = hour_numbers(course(year, month, day, latitude, longitude));
     LeafHours {
@@ -196,7 +197,7 @@ pub extern "C" fn leaf_angle_number(
     angle: f64,
     after_transit: bool,
 ) -> f64
-    ensures { λ r. ⌜ r ≡ angleNumberOf (dateSunOf (dateOf year month day) (coordinatesOf latitude longitude)) (angleOf angle) «after_transit» ⌝ }
+    ensures { λ r. ⌜ r ≡ angleNumberOf (leafSunOf year month day latitude longitude) (angleOf angle) «after_transit» ⌝ }
 {
     angle_number(
         course(year, month, day, latitude, longitude),
@@ -215,7 +216,7 @@ pub extern "C" fn leaf_afternoon_number(
     longitude: f64,
     shadow_length: f64,
 ) -> f64
-    ensures { λ r. ⌜ r ≡ afternoonNumberOf (dateSunOf (dateOf year month day) (coordinatesOf latitude longitude)) latitude «shadow_length» ⌝ }
+    ensures { λ r. ⌜ r ≡ afternoonNumberOf (leafSunOf year month day latitude longitude) «shadow_length» ⌝ }
 {
     afternoon_number(
         course(year, month, day, latitude, longitude),

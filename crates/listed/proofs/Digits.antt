@@ -8,9 +8,9 @@ use native.Mathlib.Numerals.{add-one}
 use native.Mathlib.Omega.{arith}
 use lib.Dec.{ltb}
 use lib.ListN.{getD}
-use Rattle.listed.specs.Listed.{digitOf, numberOf}
+use Rattle.listed.specs.Listed.{digitValueOf, numberOf}
 
-pub number-on : (base : ℕ) (line : List ℕ) (at k : ℕ) → numberOf base line at (k + 1) ≡ numberOf base line at k * base + digitOf (getD line (at + k) 0)
+pub number-on : (base : ℕ) (line : List ℕ) (at k : ℕ) → numberOf base line at (k + 1) ≡ numberOf base line at k * base + digitValueOf (getD line (at + k) 0)
 unfolding numberOf
 number-on base line at k = rw add-one
 
@@ -18,8 +18,8 @@ either-small : (b : Bool) (x y : ℕ) → x < 16 → y < 16 → cond b x y < 16
 either-small true x y p q = p
 either-small false x y p q = q
 
-pub digit-small : (code : ℕ) → digitOf code < 16
-unfolding digitOf
+pub digit-small : (code : ℕ) → digitValueOf code < 16
+unfolding digitValueOf
 digit-small code = either-small (ltb code 97) (code % 16) ((code - 87) % 16) (omega arith) (omega arith)
 
 pub room : (base v d k : ℕ) → base ≤ 16 → v < 16 ^ k → d < 16 → v * base + d < 16 ^ (k + 1)

@@ -2,7 +2,7 @@
 ghost use mathlib.Core.Path.{_≡_};
 ghost use Prim.Native.Nat.{_+_, _≤_};
 ghost use lib.ListN.{getD};
-ghost use Rattle.listed.specs.Listed.{digitOf, numberOf, hexOf, decimalOf};
+ghost use Rattle.listed.specs.Listed.{digitValueOf, numberOf, hexAt, decimalAt};
 
 // The byte k places after `at`. The sum of the two is worked only where it lies in the line, so that it cannot wrap.
 fn byte(line: &[u8], at: usize, k: usize) -> u64
@@ -18,7 +18,7 @@ fn byte(line: &[u8], at: usize, k: usize) -> u64
 }
 
 fn digit(code: u64) -> u64
-    ensures { λ r. ⌜ r ≡ digitOf code ⌝ }
+    ensures { λ r. ⌜ r ≡ digitValueOf code ⌝ }
 {
     if code < 97 {
         code % 16
@@ -43,14 +43,14 @@ fn number(base: u64, line: &[u8], at: usize, digits: usize) -> u64
 
 // The sixteen hexadecimal digits from `at` on, a to f small: an f64's bits.
 pub fn hex(line: &[u8], at: usize) -> u64
-    ensures { λ r. ⌜ r ≡ hexOf (now (line .entry)) at ⌝ }
+    ensures { λ r. ⌜ r ≡ hexAt (now (line .entry)) at ⌝ }
 {
     number(16, line, at, 16)
 }
 
 // The eight decimal digits from `at` on: a date as YYYYMMDD.
 pub fn decimal(line: &[u8], at: usize) -> u64
-    ensures { λ r. ⌜ r ≡ decimalOf (now (line .entry)) at ⌝ }
+    ensures { λ r. ⌜ r ≡ decimalAt (now (line .entry)) at ⌝ }
 {
     number(10, line, at, 8)
 }

@@ -12,9 +12,7 @@ use Rattle.integers.specs.Ranges.{range, fits, readBack, read, read-wide}
 module _ (a b : ℤ) (ha : SFits w32 a) (hb : SFits w32 b) where
   exact : SFits w64 (a +ℤ b)
   exact =
-      let s = sum a b in
-      let p = range w32 a ha in
-      let q = range w32 b hb in
+      let s = sum a b in let p = range w32 a ha in let q = range w32 b hb in
       fits w64 (a +ℤ b) (omega arith) (omega arith)
 
   both : readBack w64 (readBack w32 a) +ℤ readBack w64 (readBack w32 b) ≡ a +ℤ b

@@ -1,5 +1,4 @@
 pub mod Numbers
-pub mod NumbersLaws
 pub mod Names
 pub mod Minutes
 pub mod Rules

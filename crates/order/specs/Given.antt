@@ -12,7 +12,7 @@ use Rattle.fields.specs.Values.{Values}
 use Rattle.models.specs.declared.adjustments.TimeAdjustment.{TimeAdjustment}
 use Rattle.models.specs.declared.parameters.Parameters.{Parameters}
 use Rattle.models.specs.declared.rounding.Rounding.{Rounding}
-use Rattle.models.specs.Minutes.{minutesOf, noMinutes}
+use Rattle.models.specs.Minutes.{sixMinutesOf, noMinutes}
 use Rattle.models.specs.Numbers.{methodOf, madhabOf, ruleOf, roundingOf, shafaqOf}
 use Rattle.models.specs.Presets.{presetOf}
 
@@ -31,7 +31,7 @@ degreesIn v = cond (eq (floatOf v) (dec 0 0)) (dec 0 0) (floatOf v)
 
 -- "six minutes, Fajr to Isha"
 unfoldable pub minutesIn : List ℕ → TimeAdjustment
-minutesIn v = minutesOf (signedOf v 0) (signedOf v 2) (signedOf v 4) (signedOf v 6) (signedOf v 8) (signedOf v 10)
+minutesIn v = sixMinutesOf (signedOf v 0) (signedOf v 2) (signedOf v 4) (signedOf v 6) (signedOf v 8) (signedOf v 10)
 
 -- ---- what a tag gives, and else what stands for a missing one
 unfoldable pub byteOr : Values → ℕ → ℕ → ℕ

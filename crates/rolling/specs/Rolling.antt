@@ -1,4 +1,4 @@
--- The suns of a row and what the next row takes over from them.
+-- This file need not be believed: what rolls is a working value, and proofs/RollingLaws.antt says that it is what each row's own date gives.
 use lib.Ieee.{Float}
 use Rattle.calendar.specs.Answers.{yesterdayOf, tomorrowOf}
 use Rattle.calendar.specs.declared.dates.Date.{Date}
@@ -6,7 +6,7 @@ use Rattle.models.specs.declared.parameters.Parameters.{Parameters}
 use Rattle.ops.specs.declared.transit.Course.{Course}
 use Rattle.ops.specs.Shared.{observerOf}
 use Rattle.solar.specs.Coordinates.{positionOf}
-use Rattle.solar.specs.Hours.{sunOf, hourNumbersOf}
+use Rattle.solar.specs.Shared.{courseOver, courseAngleNumberOf, courseNumbersOf, courseAfternoonNumberOf}
 use Rattle.solar.specs.Setting.{settingHourOf}
 use Rattle.solar.specs.Times.{solarTimeOf}
 use Rattle.schedule.specs.declared.hours.RowHours.{RowHours}
@@ -17,7 +17,7 @@ use Rattle.rolling.specs.declared.Rolling.{Rolling}
 
 unfoldable pub daySunOf : Coordinates → Parameters → Course → DaySun
 daySunOf place p course =
-    record { course = course; times = solarTimeOf (hourNumbersOf course); fajr = settingHourOf (fajrNumberOf p (place .latitude) course) }
+    record { course = course; times = solarTimeOf (courseNumbersOf course); fajr = settingHourOf (fajrNumberOf p (place .latitude) (courseAngleNumberOf course)) }
 
 -- a row's, from its date
 unfoldable pub rollingOf : Date → Coordinates → Parameters → Rolling
@@ -32,9 +32,9 @@ rollingOf date place p =
       observer = observer;
       «at_second» = positionOf second;
       «at_third» = positionOf third;
-      today = daySunOf place p (sunOf place observer (positionOf (yesterdayOf date)) (positionOf date) (positionOf next));
-      tomorrow = daySunOf place p (sunOf place observer (positionOf date) (positionOf next) (positionOf second));
-      after = daySunOf place p (sunOf place observer (positionOf next) (positionOf second) (positionOf third));
+      today = daySunOf place p (courseOver place observer (positionOf (yesterdayOf date)) (positionOf date) (positionOf next));
+      tomorrow = daySunOf place p (courseOver place observer (positionOf date) (positionOf next) (positionOf second));
+      after = daySunOf place p (courseOver place observer (positionOf next) (positionOf second) (positionOf third));
     }
 
 -- the next row's, from this one's: one new position and one new sun
@@ -49,7 +49,7 @@ nextRollingOf place p r =
       «at_third» = positionOf fourth;
       today = r .tomorrow;
       tomorrow = r .after;
-      after = daySunOf place p (sunOf place (r .observer) (r .«at_second») (r .«at_third») (positionOf fourth));
+      after = daySunOf place p (courseOver place (r .observer) (r .«at_second») (r .«at_third») (positionOf fourth));
     }
 
 -- the sun's times that the row is worked from
@@ -60,7 +60,7 @@ rollingHoursOf latitude p r =
       tomorrow = r .tomorrow .times;
       after = r .after .times;
       fajr = r .today .fajr;
-      asr = settingHourOf (asrNumberOf p latitude (r .today .course));
-      isha = settingHourOf (ishaNumberOf p latitude (r .today .course));
+      asr = settingHourOf (asrNumberOf p (courseAfternoonNumberOf (r .today .course) latitude));
+      isha = settingHourOf (ishaNumberOf p latitude (courseAngleNumberOf (r .today .course)));
       «fajr_tomorrow» = r .tomorrow .fajr;
     }

@@ -3,7 +3,6 @@
 ghost use mathlib.Core.Path.{_≡_};
 ghost use Rattle.rolling.specs.Rolling.{daySunOf, rollingOf, nextRollingOf, rollingHoursOf};
 ghost use Rattle.schedule.specs.Times.{workedOf};
-ghost use Rattle.solar.specs.Hours.{sunOf};
 use calendar::dates::Date;
 use models::parameters::Parameters;
 use ops::transit::Course;
@@ -90,8 +89,8 @@ impl Rolling {
         let observer = self.observer;
         let at_second = self.at_second;
         let at_third = self.at_third;
-        let tomorrow = self.tomorrow;
-        let after = self.after;
+        let today = self.tomorrow;
+        let tomorrow = self.after;
         let third = self.third;
         let fourth = third.tomorrow();
         let at_fourth = position(fourth);
@@ -102,8 +101,8 @@ impl Rolling {
             observer: observer,
             at_second: at_third,
             at_third: at_fourth,
-            today: tomorrow,
-            tomorrow: after,
+            today: today,
+            tomorrow: tomorrow,
             after: day_sun(coordinates, parameters, course),
         }
     }

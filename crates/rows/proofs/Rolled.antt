@@ -13,9 +13,9 @@ use Rattle.calls.specs.Calls.{workRowOf}
 use Rattle.order.specs.Accepted.{Accepted}
 use Rattle.order.proofs.RowDates.{row-year}
 use Rattle.order.specs.declared.reading.Order.{Order}
-use Rattle.lines.specs.Lines.{lineText}
+use Rattle.lines.specs.Lines.{fullRow, lineText}
 use Rattle.rolling.specs.Rolling.{rollingOf, nextRollingOf, rollingHoursOf}
-use Rattle.rolling.specs.RollingLaws.{rolled-hours, rolls}
+use Rattle.rolling.proofs.RollingLaws.{rolled-hours, rolls}
 use Rattle.rolling.specs.declared.Rolling.{Rolling}
 use Rattle.schedule.specs.Times.{workedOf}
 use Rattle.schedule.specs.declared.hours.RowHours.{RowHours}
@@ -66,7 +66,7 @@ pub record Run (o : Order) (buffer : List ℕ) (at : ℕ) (now : List ℕ) (roll
 abbrev pub madeLine : Order → Rolling → List ℕ
 madeLine o r = lineText (r .date) (workedOf (rollingHoursOf (o .coordinates .latitude) (o .parameters) r) (r .date) (o .coordinates .latitude) (o .parameters))
 
-module _ (o : Order) (a : Accepted o) (buffer : List ℕ) (at : ℕ) (room : at + 119 * 250 ≤ length buffer) where
+module _ (o : Order) (a : Accepted o) (buffer : List ℕ) (at : ℕ) (room : at + fullRow * 250 ≤ length buffer) where
   pub run-line : (now : List ℕ) (rolling : Rolling) (row end : ℕ) → Run o buffer at now rolling row end
       → (line after : List ℕ) (n : ℕ) → line ≡ madeLine o rolling → n ≡ length line → after ≡ putOf now end line
       → (after ≡ putOf buffer at (linesText o (row + 1))) × (end + n ≡ at + length (linesText o (row + 1)))

@@ -6,4 +6,3 @@ pub mod InForceLaws
 pub mod Moves
 pub mod LaterLaws
 pub mod StartLaws
-pub mod RowSunsLaws

@@ -21,7 +21,7 @@ use Rattle.night.specs.Portions.{portionBeforeOf, portionAfterOf, seventhOf}
 use Rattle.night.specs.BoundsLaws.{Portion, after-half, before-half}
 use Rattle.night.specs.OrderPortions.{half-portion, seventh-portion, angle-portion}
 use Rattle.ops.specs.Season.{morningSecondsOf, eveningSecondsOf}
-use Rattle.ops.specs.SeasonLaws.{morning-small, evening-small}
+use Rattle.ops.proofs.SeasonLaws.{morning-small, evening-small}
 use Rattle.solar.specs.declared.setting.SolarHour.{SolarHour}
 use Rattle.solar.specs.declared.setting.SolarHour.the-variants.{At, None}
 use Rattle.solar.specs.declared.times.SolarTime.{SolarTime}

@@ -13,7 +13,7 @@ use Rattle.solar.specs.declared.setting.SolarHour.the-variants.{At, None
 use Rattle.solar.specs.declared.times.SolarTime.{SolarTime}
 use Rattle.solar.specs.declared.times.SolarDay.{SolarDay}
 use Rattle.solar.specs.declared.times.SolarDay.the-variants.{Whole, Lacks}
-use Rattle.solar.specs.Hours.{angleNumberOf, afternoonNumberOf}
+use Rattle.solar.specs.Shared.{courseAngleNumberOf, courseAfternoonNumberOf}
 use Rattle.solar.specs.Setting.{settingHourOf}
 
 -- no transit is 6, no sunrise 7, no sunset 8, tried in that order
@@ -27,10 +27,10 @@ unfoldable pub solarTimeOf : HourNumbers → SolarDay
 solarTimeOf n = dayOf (settingHourOf (n .transit)) (settingHourOf (n .sunrise)) (settingHourOf (n .sunset))
 
 abbrev pub timeForSolarAngleOf : Course → Angle → Bool → SolarHour
-timeForSolarAngleOf course angle after = settingHourOf (angleNumberOf course angle after)
+timeForSolarAngleOf course angle after = settingHourOf (courseAngleNumberOf course angle after)
 
 abbrev pub afternoonOf : Course → Float → Float → SolarHour
-afternoonOf course latitude shadow = settingHourOf (afternoonNumberOf course latitude shadow)
+afternoonOf course latitude shadow = settingHourOf (courseAfternoonNumberOf course latitude shadow)
 
 -- days 0, 1 and 2, tried in that order; 0 where none lacks anything
 unfoldable pub firstLackOf : SolarDay → SolarDay → SolarDay → Refusal

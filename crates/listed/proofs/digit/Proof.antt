@@ -1,15 +1,15 @@
 use borrow.Author.Tests.{lt-ltb, le-ltb}
-use Rattle.listed.specs.Listed.{digitOf}
+use Rattle.listed.specs.Listed.{digitValueOf}
 use borrow.Author.Needs.{needs}
 use Rattle.listed.proofs.digit.Statement.{statement}
 use Rattle.listed.proofs.digit.Tie as tie
 
 returns : tie.Need-returns
-unfolding digitOf
+unfolding digitValueOf
 returns c = simp (lt-ltb _ _ (c .if1 .taken))
 
 returns-2 : tie.Need-returns-2
-unfolding digitOf
+unfolding digitValueOf
 returns-2 c = simp (le-ltb _ _ (c .if1 .left))
 
 pub digit-spec : {M : Type 1} → statement M

@@ -20,21 +20,18 @@ loop-holds c = search needs
 
 mul-v : tie.Need-mul-v Inv-loop μ-loop
 mul-v c =
-    let a = c .before .before .before .args in
-    let l = c .before .loop in
+    let a = c .before .before .before .args in let l = c .before .loop in
     omega (arith, fits (a .base) (l .v) 0 (l .k) (omega arith) (l .inv .2) (omega arith) (omega arith))
 
 add-v : tie.Need-add-v Inv-loop μ-loop
 add-v c =
-    let a = c .before .before .before .before .before .args in
-    let l = c .before .before .before .loop in
+    let a = c .before .before .before .before .before .args in let l = c .before .before .before .loop in
     let d : c .digit .result < 16 = rw (c .digit .ensures) (digit-small (c .before .byte .result)) in
     omega (arith, fits (a .base) (l .v) (c .digit .result) (l .k) (omega arith) (l .inv .2) d (omega arith))
 
 loop-again : tie.Need-loop-again Inv-loop μ-loop
 loop-again c =
-    let a = c .before .before .before .before .before .args in
-    let l = c .before .before .before .loop in
+    let a = c .before .before .before .before .before .args in let l = c .before .before .before .loop in
     let d : c .digit .result < 16 = rw (c .digit .ensures) (digit-small (c .before .byte .result)) in (
       omega arith,
       cc (number-on (a .base) (a .line .now) (a .at) (l .k)),
@@ -43,8 +40,7 @@ loop-again c =
 
 returns : tie.Need-returns Inv-loop μ-loop
 returns c =
-    let l = c .before .loop in
-    let e : l .k ≡ c .before .before .before .args .digits = omega arith in
+    let l = c .before .loop in let e : l .k ≡ c .before .before .before .args .digits = omega arith in
     rw (sym e) (l .inv .1)
 
 pub number-spec : {M : Type 1} → statement M

@@ -26,6 +26,4 @@ returns c =
     k ∙ c .rounded-minute .ensures ∙ ap (λ (x : ℤ). satOf (roundedOf Nearest x)) (p ∙ c .before .plus .ensures ∙ ap satOf s)
 
 pub season-adjusted-evening-twilight-spec : {M : Type 1} → statement M
-season-adjusted-evening-twilight-spec =
-    tie.close
-    (tie.spec (λ c κs. tt) cast-plus (λ c κs. tt) (λ c κs. tt) returns)
+season-adjusted-evening-twilight-spec = tie.close (tie.spec (λ c κs. tt) cast-plus (λ c κs. tt) (λ c κs. tt) returns)

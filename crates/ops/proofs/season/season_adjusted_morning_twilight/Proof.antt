@@ -22,5 +22,4 @@ returns c =
     k ∙ c .plus .ensures ∙ ap satOf (summands (read w64 (t .args .sunrise) (t .fits .sunrise)) (read-wide z f ∙ c .before .morning-twilight-seconds .ensures))
 
 pub season-adjusted-morning-twilight-spec : {M : Type 1} → statement M
-season-adjusted-morning-twilight-spec =
-    tie.close (tie.spec (λ c κs. tt) cast-plus (λ c κs. tt) returns)
+season-adjusted-morning-twilight-spec = tie.close (tie.spec (λ c κs. tt) cast-plus (λ c κs. tt) returns)

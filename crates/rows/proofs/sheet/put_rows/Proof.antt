@@ -10,21 +10,12 @@ use Rattle.rows.proofs.Lengths.{lines-none}
 use Rattle.rows.proofs.Rolled.{Run, first-state, next-state, run-line, run-room}
 use Rattle.rows.proofs.sheet.put_rows.Statement.{statement}
 use Rattle.rows.proofs.sheet.put_rows.Tie as tie
-use Rattle.rows.proofs.sheet.put_rows.Reads as reads
-use Rattle.rows.proofs.sheet.put_rows.Lts as lts
-use Rattle.rolling.proofs.Rolling.new.Reads as new-reads
-use Rattle.rolling.proofs.Rolling.next.Reads as next-reads
-use Rattle.rolling.proofs.Rolling.work.Reads as work-reads
-use Rattle.rows.proofs.sheet.put_line.Reads as put-line-reads
 
 abbrev Inv-loop : tie.InvT-loop
 Inv-loop buffer₀ at order coordinates parameters latitude rolling₀ row₀ end₀ buffer rolling row end = Run order buffer₀ at buffer rolling row end
 
 abbrev μ-loop : tie.MeasureT-loop
 μ-loop buffer₀ at order coordinates parameters latitude rolling₀ row₀ end₀ buffer rolling row end = order .rows - row
-
-new-requires : tie.Need-new-requires Inv-loop μ-loop
-new-requires c κs = search needs
 
 loop-holds : tie.Need-loop-holds Inv-loop μ-loop
 loop-holds c =
@@ -33,12 +24,6 @@ loop-holds c =
     let p = t .pre in
     let n = lines-none o (now (t .args .buffer)) (t .args .at) (omega (arith, p .1)) in
     record { within = p .0 .rows .0; state = c .new .ensures ∙ first-state o (p .0); text = n .0; place = n .1; same = refl }
-
-work-requires : tie.Need-work-requires Inv-loop μ-loop
-work-requires c κs = search needs
-
-put-line-requires : tie.Need-put-line-requires Inv-loop μ-loop
-put-line-requires c κs = search needs
 
 add-end : tie.Need-add-end Inv-loop μ-loop
 add-end c =
@@ -76,9 +61,6 @@ returns c =
     let e : l .row + 1 ≡ o .rows = omega (arith, c .if1 .taken) in
     (rw e at (line .1), rw e at (line .0))
 
-next-requires : tie.Need-next-requires Inv-loop μ-loop
-next-requires c κs = search needs
-
 loop-less : tie.Need-loop-less Inv-loop μ-loop
 loop-less c = let w = c .before .before .before .before .before .before .before .before .loop .inv .within in omega arith
 
@@ -103,17 +85,4 @@ loop-again c =
 pub put-rows-spec : {M : Type 1} → statement M
 put-rows-spec =
     tie.close
-    (tie.spec
-    Inv-loop
-    μ-loop
-    new-requires
-    loop-holds
-    work-requires
-    put-line-requires
-    add-end
-    add-row
-    same-length
-    returns
-    next-requires
-    loop-less
-    loop-again)
+    (tie.spec Inv-loop μ-loop (λ c κs. search needs) loop-holds (λ c κs. search needs) (λ c κs. search needs) add-end add-row same-length returns (λ c κs. search needs) loop-less loop-again)
