@@ -51,6 +51,14 @@ def fields_of(order):
     return values, None
 
 
+def offsets(order):
+    """Where each field begins, and its tag."""
+    at = 0
+    while at < len(order):
+        yield at, order[at]
+        at += 3 + order[at + 1] * 256 + order[at + 2]
+
+
 def date_of(value):
     try:
         return datetime.date(value[0] * 256 + value[1], value[2], value[3])
@@ -93,7 +101,8 @@ def line(order):
     bits = lambda x: struct.unpack(">Q", struct.pack(">d", x))[0]
     own = struct.unpack(">6h", values.get(11, bytes(12)))
     minutes = struct.unpack(">H", values[14])[0] if 14 in values else interval
-    numbers = [0, 0, date.year, date.month, date.day, values[3][0], bits(real(values[4])), bits(real(values[5])), method, one(7, 1), one(8, 0),
+    town = next(at for at, tag in offsets(order) if tag == 1) + 3
+    numbers = [0, 0, town, len(values[1]), date.year, date.month, date.day, values[3][0], bits(real(values[4])), bits(real(values[5])), method, one(7, 1), one(8, 0),
                one(9, rounding), one(10, 0), bits(angle(12, fajr)), bits(angle(13, isha)), bits(maghrib), minutes, *own, 0, *brought, 0]
     return b"".join(b"%d " % n for n in numbers) + values[1] + b"\n"
 
@@ -149,8 +158,8 @@ def damaged(draw):
 
 
 def marked():
-    """Document 01's own examples, the ends of each range and what lies beyond them, what stands for a missing tag, and points where the order of the
-    checks tells."""
+    """Document 01's own examples, the ends of each range and what lies beyond them, what stands for a missing tag, and points where the
+    order of the checks tells."""
     date = lambda year, month, day: struct.pack(">HBB", year, month, day)
     real = lambda x: struct.pack(">d", x)
     pole = {1: b"Pole", 2: date(2026, 6, 21), 3: b"\1", 4: real(90.0), 5: real(0.0), 6: b"\0"}
@@ -174,18 +183,19 @@ def marked():
     # 5: a town's bytes
     orders += [but({1: name}) for name in (b"A\37", b"\177", b" ~")]
     # a date: months and days that there are not, both ends of the years; before the rows
-    orders += [but({2: date(*day)}) for day in ((2026, 13, 1), (2026, 0, 1), (2026, 4, 31), (2026, 2, 29), (2023, 2, 29), (2024, 2, 29), (1899, 12, 31),
-                                                (1900, 1, 1), (2199, 12, 31), (2200, 1, 1))]
+    orders += [but({2: date(*day)}) for day in ((2026, 13, 1), (2026, 0, 1), (2026, 4, 31), (2026, 2, 29), (2023, 2, 29), (2024, 2, 29))]
+    orders += [but({2: date(*day)}) for day in ((1899, 12, 31), (1900, 1, 1), (2199, 12, 31), (2200, 1, 1))]
     orders += [but({2: date(2026, 4, day), 3: b"\0"}) for day in (31, 30)]
     # rows: 1 to 250, the last by 2199-12-31
-    orders += [but({2: date(*day), 3: bytes([rows])}) for *day, rows in ((2026, 6, 21, 0), (2026, 6, 21, 250), (2026, 6, 21, 251), (1900, 1, 1, 251),
-                                                                         (2199, 12, 31, 2), (2199, 12, 1, 31), (2199, 12, 1, 32))]
+    orders += [but({3: bytes([rows])}) for rows in (0, 250, 251)] + [but({2: date(1900, 1, 1), 3: bytes([251])})]
+    orders += [but({2: date(2199, 12, day), 3: bytes([rows])}) for day, rows in ((31, 2), (1, 31), (1, 32))]
     # floats: both ends, the next beyond them, NaN, and -0.0, which is read as 0.0
     orders += [but({tag: real(sign * x)}) for tag, most in ((4, 90.0), (5, 180.0)) for sign in (1, -1) for x in (most, after(most), 0.0)]
     orders += [but({tag: real(x)}) for tag in (12, 13) for x in (30.0, after(30.0), 0.0, -0.0, -after(0.0))]
     orders += [but({tag: real(nan)}) for tag in (4, 5, 12, 13)]
     # choices: both ends and their neighbours
-    orders += [but({tag: bytes([number])}) for tag, numbers in ((6, (12, 13)), (7, (0, 1, 2, 3)), (8, (0, 1, 2, 3)), (9, (0, 1, 2, 3)), (10, (0, 1, 2, 3))) for number in numbers]
+    orders += [but({6: bytes([number])}) for number in (12, 13)]
+    orders += [but({tag: bytes([number])}) for tag in (7, 8, 9, 10) for number in range(4)]
     # own minutes, signed 16-bit, which leave the method's; the interval, which leaves the Isha angle
     orders += [but({11: minutes(*pair)}) for pair in ((-720, 720), (-721, 0), (0, 721), (32767, 0), (0, -32768), (-1, 2))]
     orders += [but({14: struct.pack(">H", n)}) for n in (0, 1440, 1441)]
