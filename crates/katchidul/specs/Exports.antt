@@ -1,13 +1,9 @@
 -- What a host gets from each call: number and place, 0 and 0 where nothing is refused, and each other field, 0 where the call is refused.
-use Prim.Native.Nat.{ℕ, _+_}
-use mathlib.Core.Bool.{cond}
+use Prim.Native.Nat.{ℕ}
 use mathlib.Core.List.{List}
-use lib.Dec.{leb}
-use lib.ListN.{length}
 use lib.IntN.{ℤ, pos}
 use Rattle.integers.specs.Parts.{P}
 use Rattle.float64.specs.Ops.{dec}
-use Rattle.fields.specs.Values.{offsetOf, valueOf}
 use Rattle.models.specs.Numbers.{methodNumberOf, madhabNumberOf, ruleNumberOf, roundingNumberOf, shafaqNumberOf, prayerNumberOf}
 use Rattle.models.specs.declared.adjustments.TimeAdjustment.{TimeAdjustment}
 use Rattle.refusals.specs.declared.Refusal.{Refusal}
@@ -35,27 +31,20 @@ use Rattle.katchidul.specs.declared.KatchidulRemaining.{KatchidulRemaini
 use Rattle.katchidul.specs.declared.KatchidulReply.{KatchidulReply}
 
 -- ---- an order
--- The value of tag 1 begins 3 bytes after its field. An order that is read has 1,024 bytes at most, so neither test fails there.
-unfoldable pub townAtOf : List ℕ → ℕ
-townAtOf s = cond (leb (offsetOf s 1) 1024) (offsetOf s 1 + 3) 0
-
-unfoldable pub townLengthOf : List ℕ → ℕ
-townLengthOf s = cond (leb (length (valueOf s 1)) 1024) (length (valueOf s 1)) 0
-
 abbrev pub minutesAnswerOf : TimeAdjustment → KatchidulMinutes
 minutesAnswerOf m = record { fajr = m .fajr; sunrise = m .sunrise; dhuhr = m .dhuhr; asr = m .asr; maghrib = m .maghrib; isha = m .isha }
 
 abbrev pub noMinutesAnswer : KatchidulMinutes
 noMinutesAnswer = record { fajr = pos 0; sunrise = pos 0; dhuhr = pos 0; asr = pos 0; maghrib = pos 0; isha = pos 0 }
 
-unfoldable pub orderRead : Order → ℕ → ℕ → KatchidulOrder
-orderRead o at n =
+unfoldable pub orderRead : Order → KatchidulOrder
+orderRead o =
     let p = o .parameters in
     record {
       number = 0;
       place = 0;
-      «town_at» = at;
-      «town_length» = n;
+      «town_at» = o .town .at;
+      «town_length» = o .town .length;
       year = o .date .year;
       month = o .date .month;
       day = o .date .day;
@@ -97,12 +86,12 @@ orderRefused r =
       minutes = noMinutesAnswer;
     }
 
-unfoldable pub orderIn : List ℕ → Reading → KatchidulOrder
-orderIn s (reading.Read o) = orderRead o (townAtOf s) (townLengthOf s)
-orderIn s (reading.Refused r) = orderRefused r
+unfoldable pub orderIn : Reading → KatchidulOrder
+orderIn (reading.Read o) = orderRead o
+orderIn (reading.Refused r) = orderRefused r
 
 unfoldable pub orderAnswerOf : List ℕ → KatchidulOrder
-orderAnswerOf s = orderIn s (readingOf s)
+orderAnswerOf s = orderIn (readingOf s)
 
 -- ---- a day
 abbrev pub timesAnswerOf : PrayerTimes → KatchidulTimes

@@ -3,7 +3,7 @@ ghost use mathlib.Core.Path.{_≡_};
 ghost use Rattle.integers.specs.Parts.{P};
 ghost use Rattle.calls.specs.Calls.{workDayOf, prayerAtOf, nextAtOf, remainingAtOf};
 ghost use Rattle.rows.specs.Rows.{rowAnswerOf, rowBufferOf};
-ghost use Rattle.katchidul.specs.Exports.{townAtOf, townLengthOf, minutesAnswerOf, noMinutesAnswer, orderRead, orderRefused, orderAnswerOf, timesAnswerOf, noTimesAnswer, dayAnswerOf, currentNumberOf, prayerAnswerOf, nextAnswerOf, remainingAnswerOf, replyOf};
+ghost use Rattle.katchidul.specs.Exports.{minutesAnswerOf, noMinutesAnswer, orderRead, orderRefused, orderAnswerOf, timesAnswerOf, noTimesAnswer, dayAnswerOf, currentNumberOf, prayerAnswerOf, nextAnswerOf, remainingAnswerOf, replyOf};
 use calls::day::work_day;
 use calls::in_force::Following;
 use calls::in_force::Left;
@@ -11,8 +11,6 @@ use calls::in_force::Named;
 use calls::in_force::next_at;
 use calls::in_force::prayer_at;
 use calls::in_force::remaining_at;
-use fields::values::offset;
-use fields::values::value;
 use models::adjustments::TimeAdjustment;
 use order::reading::Order;
 use order::reading::Reading;
@@ -99,28 +97,6 @@ pub struct KatchidulReply {
     pub place: u32,
 }
 
-// Where the town's name begins in the order.
-fn town_at(order: &[u8]) -> u32
-    ensures { λ r. ⌜ r ≡ townAtOf (now (order .entry)) ⌝ }
-{
-    let at = offset(order, 1);
-    if at <= 1024 {
-        return at as u32 + 3;
-    }
-    0
-}
-
-fn town_length(order: &[u8]) -> u32
-    ensures { λ r. ⌜ r ≡ townLengthOf (now (order .entry)) ⌝ }
-{
-    let town = value(order, 1);
-    let length = town.len();
-    if length <= 1024 {
-        return length as u32;
-    }
-    0
-}
-
 // An interval that is read is never below 0 (the law `interval` of specs/ExportsLaws.antt): the test shows that the cast loses nothing.
 fn interval(minutes: i32) -> u32
     ensures { λ r. ⌜ r ≡ P minutes ⌝ }
@@ -157,9 +133,10 @@ fn no_minutes() -> KatchidulMinutes
     }
 }
 
-fn order_read(order: Order, at: u32, length: u32) -> KatchidulOrder
-    ensures { λ r. ⌜ r ≡ orderRead order at length ⌝ }
+fn order_read(order: Order) -> KatchidulOrder
+    ensures { λ r. ⌜ r ≡ orderRead order ⌝ }
 {
+    let town = order.town;
     let date = order.date;
     let coordinates = order.coordinates;
     let parameters = order.parameters;
@@ -172,8 +149,8 @@ fn order_read(order: Order, at: u32, length: u32) -> KatchidulOrder
     KatchidulOrder {
         number: 0,
         place: 0,
-        town_at: at,
-        town_length: length,
+        town_at: town.at,
+        town_length: town.length,
         year: date.year,
         month: date.month,
         day: date.day,
@@ -223,11 +200,7 @@ pub extern "C" fn katchidul_read_order(order: &[u8]) -> KatchidulOrder
     ensures { λ r. ⌜ r ≡ orderAnswerOf (now (order .entry)) ⌝ }
 {
     match read(order) {
-        Reading::Read(record) => {
-            let at = town_at(order);
-            let length = town_length(order);
-            order_read(record, at, length)
-        }
+        Reading::Read(record) => order_read(record),
         Reading::Refused(refusal) => order_refused(refusal),
     }
 }

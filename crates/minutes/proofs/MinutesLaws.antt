@@ -12,6 +12,7 @@ use Rattle.integers.specs.Parts.{Near}
 use Rattle.integers.specs.Order.{_≼_}
 use Rattle.calendar.specs.Answers.{rowDateOf}
 use Rattle.refusals.specs.Refusals.{refusal}
+use Rattle.fields.specs.declared.values.Part.{Part}
 use Rattle.models.specs.declared.adjustments.TimeAdjustment.{TimeAdjustment}
 use Rattle.models.specs.declared.parameters.Parameters.{Parameters}
 use Rattle.models.specs.declared.prayer.Prayer.{Prayer}
@@ -23,7 +24,7 @@ use Rattle.order.specs.declared.reading.Reading.{Reading}
 use Rattle.order.specs.declared.reading.Reading.the-variants.{Read}
 use Rattle.order.specs.Reading.{readingOf}
 use Rattle.order.specs.Accepted.{Accepted}
-use Rattle.order.specs.AcceptedLaws.{read-accepted}
+use Rattle.order.proofs.AcceptedLaws.{read-accepted}
 use Rattle.schedule.specs.declared.in_force.Current.{Current}
 use Rattle.schedule.specs.declared.in_force.Current.the-variants as none
 use Rattle.schedule.specs.declared.in_force.Instant.{Instant}
@@ -65,9 +66,9 @@ alike-refused p q r =
     no e = absurd (subst isTimes (sym e) tt)
 
 -- ---- a day
-module _ (first : Order) (minutes : TimeAdjustment) (row : ℕ) where
+module _ (first : Order) (town : Part) (minutes : TimeAdjustment) (row : ℕ) where
   second : Order
-  second = withOwnMinutes first minutes
+  second = withOwnMinutes first town minutes
 
   row-moved : Accepted first → Accepted second → ((prayer : Prayer) → timeAdjustmentsOf (first .parameters) prayer ≼ timeAdjustmentsOf (second .parameters) prayer)
       → Moved (first .parameters) (second .parameters) (workRowOf first row) (workRowOf second row)
@@ -81,7 +82,7 @@ module _ (first : Order) (minutes : TimeAdjustment) (row : ℕ) where
       q = withMinutes p minutes
 
       later : LaterMinutes p q
-      later = record { alike = refl; more = more; «first_held» = held first h; «second_held» = held (withOwnMinutes first minutes) k }
+      later = record { alike = refl; more = more; «first_held» = held first h; «second_held» = held (withOwnMinutes first town minutes) k }
 
       by-test : (b : Bool) → Moved p q (cond b (workedAt (rowDateOf (first .date) row) (first .coordinates) p) (worked.Refused (refusal 5 3)))
           (cond b (workedAt (rowDateOf (first .date) row) (first .coordinates) q) (worked.Refused (refusal 5 3)))
@@ -162,8 +163,8 @@ module _ (a b : List ℕ) (orders : LaterOrder a b) (row : ℕ) where
       let e = orders .alike in
       let h = read-accepted a (orders .first) (orders .«first_read») in
       let k = subst Accepted (sym e) (read-accepted b (orders .second) (orders .«second_read»)) in
-      let more : (prayer : Prayer) → timeAdjustmentsOf (orders .first .parameters) prayer ≼ timeAdjustmentsOf (withOwnMinutes (orders .first) (orders .second .parameters .adjustments) .parameters) prayer = λ (prayer : Prayer). subst (λ (x : Order). timeAdjustmentsOf (orders .first .parameters) prayer ≼ timeAdjustmentsOf (x .parameters) prayer) (sym e) (orders .more prayer) in
-      let m = row-moved (orders .first) (orders .second .parameters .adjustments) row h k more in
+      let more : (prayer : Prayer) → timeAdjustmentsOf (orders .first .parameters) prayer ≼ timeAdjustmentsOf (withOwnMinutes (orders .first) (orders .second .town) (orders .second .parameters .adjustments) .parameters) prayer = λ (prayer : Prayer). subst (λ (x : Order). timeAdjustmentsOf (orders .first .parameters) prayer ≼ timeAdjustmentsOf (x .parameters) prayer) (sym e) (orders .more prayer) in
+      let m = row-moved (orders .first) (orders .second .town) (orders .second .parameters .adjustments) row h k more in
       let n = subst (λ (x : Order). Moved (orders .first .parameters) (x .parameters) (workRowOf (orders .first) row) (workRowOf x row)) e m in
       subst (λ (w : Worked). Moved (orders .first .parameters) (orders .second .parameters) w (workDayOf b row)) (sym day-of-first)
       (subst (λ (w : Worked). Moved (orders .first .parameters) (orders .second .parameters) (workRowOf (orders .first) row) w) (sym day-of-second) n)

@@ -12,6 +12,7 @@ use mathlib.Core.Logic.{_⊎_}
 use Prim.Native.Nat.{ℕ, _≤_}
 use lib.IntN.{ℤ, pos, _+ℤ_}
 use Rattle.integers.specs.Order.{_≼_}
+use Rattle.fields.specs.declared.values.Part.{Part}
 use Rattle.models.specs.declared.adjustments.TimeAdjustment.{TimeAdjustment}
 use Rattle.models.specs.declared.prayer.Prayer.{Prayer}
 use Rattle.refusals.specs.declared.Refusal.{Refusal}
@@ -24,19 +25,26 @@ use Rattle.schedule_laws.specs.Later.{withMinutes, Moved, placeOf}
 use Rattle.calls.specs.declared.in_force.Named.the-variants as named
 use Rattle.calls.specs.Calls.{workDayOf, instantFits, prayerAtOf}
 
--- an order with other own minutes, tag 11's, and all else as it was
-abbrev pub withOwnMinutes : Order → TimeAdjustment → Order
-withOwnMinutes order minutes = record { date = order .date; rows = order .rows; coordinates = order .coordinates; parameters = withMinutes (order .parameters) minutes }
+-- an order with other own minutes, tag 11's, whose town stands elsewhere in its bytes, and all else as it was
+abbrev pub withOwnMinutes : Order → Part → TimeAdjustment → Order
+withOwnMinutes order town minutes =
+    record {
+      town = town;
+      date = order .date;
+      rows = order .rows;
+      coordinates = order .coordinates;
+      parameters = withMinutes (order .parameters) minutes;
+    }
 
 -- "accepted when its bytes pass every check before the day"; "differ only in schools' own minutes when all that the tags other than 11 give, a
--- missing one as in the table, is the same; tag 11 may be equal too": the town, and the record but for its own minutes
+-- missing one as in the table, is the same; tag 11 may be equal too": the town, wherever it stands, and the record but for its own minutes
 pub record LaterOrder (a b : List ℕ) : Type 0 where
   pub first : Order
   pub second : Order
   pub «first_read» : readingOf a ≡ Read first
   pub «second_read» : readingOf b ≡ Read second
   pub town : townOf a ≡ townOf b
-  pub alike : withOwnMinutes first (second .parameters .adjustments) ≡ second
+  pub alike : withOwnMinutes first (second .town) (second .parameters .adjustments) ≡ second
   -- "the six prayers are tag 11's"; Qiyam and tomorrow's Fajr have no minutes, so that their sums are equal
   pub more : (prayer : Prayer) → timeAdjustmentsOf (first .parameters) prayer ≼ timeAdjustmentsOf (second .parameters) prayer
 

@@ -6,11 +6,13 @@ use lib.IntN.{ℤ}
 use Rattle.models.specs.Numbers.{methodNumberOf, madhabNumberOf, ruleNumberOf, roundingNumberOf, shafaqNumberOf}
 use Rattle.order.specs.declared.reading.Order.{Order}
 
--- tags 2 to 10, 12 and 13, and the angle that no tag sets
+-- where tag 1's value stands, tags 2 to 10, 12 and 13, and the angle that no tag sets
 unfoldable pub unsignedNumbersOf : Order → List ℕ
 unsignedNumbersOf order =
     let p = order .parameters in
-    order .date .year
+    order .town .at
+    ∷ order .town .length
+    ∷ order .date .year
     ∷ order .date .month
     ∷ order .date .day
     ∷ order .rows

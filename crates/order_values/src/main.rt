@@ -19,10 +19,11 @@ fn wide(n: u32) -> u64
     n as u64
 }
 
-// Date, rows, place, choices and angles.
-fn unsigned_numbers(order: Order) -> [u64; 14]
+// Where the town stands, date, rows, place, choices and angles.
+fn unsigned_numbers(order: Order) -> [u64; 16]
     ensures { λ r. ⌜ r ≡ unsignedNumbersOf order ⌝ }
 {
+    let town = order.town;
     let date = order.date;
     let place = order.coordinates;
     let p = order.parameters;
@@ -32,6 +33,8 @@ fn unsigned_numbers(order: Order) -> [u64; 14]
     let rounding = p.rounding;
     let shafaq = p.shafaq;
     [
+        wide(town.at),
+        wide(town.length),
         wide(date.year),
         wide(date.month),
         wide(date.day),
@@ -98,7 +101,7 @@ fn print_signed(m: i32) {
 
 fn print_record(order: Order) {
     let numbers = unsigned_numbers(order);
-    for i in 0..14 {
+    for i in 0..16 {
         print(numbers[i]);
     }
     let minutes = signed_numbers(order);

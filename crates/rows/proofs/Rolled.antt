@@ -11,7 +11,7 @@ use Rattle.calendar.proofs.CalendarLaws.{row-first}
 use Rattle.calendar.proofs.Successors.{row-is, row-tomorrow}
 use Rattle.calls.specs.Calls.{workRowOf}
 use Rattle.order.specs.Accepted.{Accepted}
-use Rattle.order.specs.RowDates.{row-year}
+use Rattle.order.proofs.RowDates.{row-year}
 use Rattle.order.specs.declared.reading.Order.{Order}
 use Rattle.lines.specs.Lines.{fullRow, lineText}
 use Rattle.rolling.specs.Rolling.{rollingOf, nextRollingOf, rollingHoursOf}

@@ -8,8 +8,8 @@ use lib.Dec.{ltb}
 use lib.ListN.{length, length-append}
 use borrow.Author.Tests.{ltb-false}
 use Rattle.lines.proofs.LinesLaws.{refused-length}
-use Rattle.order.specs.AcceptedLaws.{read-accepted}
-use Rattle.order.specs.ReadingLaws.{read-town}
+use Rattle.order.proofs.AcceptedLaws.{read-accepted}
+use Rattle.order.proofs.ReadingLaws.{read-town}
 use Rattle.order.specs.Reading.{readingOf, townOf}
 use Rattle.order.specs.declared.reading.Reading.{Reading}
 use Rattle.order.specs.declared.reading.Reading.the-variants.{Read, Refused}

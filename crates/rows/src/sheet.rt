@@ -7,7 +7,7 @@ ghost use Rattle.order.specs.Accepted.{Accepted};
 ghost use Rattle.text.specs.Text.{putOf, frontOf};
 ghost use Rattle.rows.specs.Rows.{headText, linesText, acceptedText, longestSheet, sheetLengthOf, sheetBufferOf};
 use calendar::dates::Date;
-use fields::values::value;
+use fields::values::bytes;
 use lines::refused::put_refused_day;
 use lines::refused::put_refused_order;
 use lines::row::ROW_BYTES;
@@ -97,7 +97,7 @@ pub fn write_sheet(order: &[u8], buffer: &mut [u8]) -> usize
         return 0;
     }
     match read(order) {
-        Reading::Read(record) => put_accepted(&mut buffer[..], value(order, 1), record),
+        Reading::Read(record) => put_accepted(&mut buffer[..], bytes(order, record.town), record),
         Reading::Refused(refusal) => put_refused_order(&mut buffer[..], 0, refusal),
     }
 }

@@ -8,10 +8,8 @@ returns : tie.Need-returns
 unfolding orderAnswerOf orderIn
 returns c =
     let e0 = c .order-read .ensures in
-    let e1 = c .before .town-length .ensures in
-    let e2 = c .before .before .town-at .ensures in
-    let e3 = c .before .before .before .before .before .before .read .ensures in
-    simp (e0, e1, e2, sym e3, c .before .before .before .before .«record» .given .1)
+    let e1 = c .before .before .before .before .read .ensures in
+    simp (e0, sym e1, c .before .before .«record» .given .1)
 
 returns-2 : tie.Need-returns-2
 unfolding orderAnswerOf orderIn
@@ -23,4 +21,4 @@ returns-2 c =
 pub katchidul-read-order-spec : {M : Type 1} → statement M
 katchidul-read-order-spec =
     tie.close
-    (tie.spec (λ c κs. tt) (λ c. search needs) (λ c κs. tt) (λ c κs. tt) (λ c κs. tt) (λ c. search needs) (λ c κs. tt) returns returns-2)
+    (tie.spec (λ c κs. tt) (λ c. search needs) (λ c κs. tt) (λ c. search needs) (λ c κs. tt) returns returns-2)

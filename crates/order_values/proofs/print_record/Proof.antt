@@ -5,10 +5,10 @@ use Rattle.order_values.proofs.print_record.Statement.{statement}
 use Rattle.order_values.proofs.print_record.Tie as tie
 
 abbrev Inv-loop : tie.InvT-loop
-Inv-loop order numbers i₀ i = i ≤ 14
+Inv-loop order numbers i₀ i = i ≤ 16
 
 abbrev μ-loop : tie.MeasureT-loop
-μ-loop order numbers i₀ i = 14 - i
+μ-loop order numbers i₀ i = 16 - i
 
 abbrev Inv-loop2 : tie.InvT-loop2
 Inv-loop2 minutes i₀ i = i ≤ 13

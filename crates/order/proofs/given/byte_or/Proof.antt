@@ -1,11 +1,12 @@
 -- `order::given::byte_or` meets its contract.
 use mathlib.Core.Path.{sym}
+use Rattle.fields.specs.Values.{valuesIn}
 use Rattle.order.specs.Given.{byteOr}
 use Rattle.order.proofs.given.byte_or.Statement.{statement}
 use Rattle.order.proofs.given.byte_or.Tie as tie
 
 returns : tie.Need-returns
-unfolding byteOr
+unfolding byteOr valuesIn
 returns c =
     let e0 = c .byte .ensures .0 in
     let e1 = c .before .value .ensures in
@@ -13,7 +14,7 @@ returns c =
     simp (sym e0, sym e1, sym e2, c .before .before .if1 .taken)
 
 returns-2 : tie.Need-returns-2
-unfolding byteOr
+unfolding byteOr valuesIn
 returns-2 c =
     let e0 = c .before .has .ensures in
     simp (sym e0, c .if1 .left)

@@ -1,11 +1,12 @@
 -- `order::given::minutes_or` meets its contract.
 use mathlib.Core.Path.{sym}
+use Rattle.fields.specs.Values.{valuesIn}
 use Rattle.order.specs.Given.{minutesOr}
 use Rattle.order.proofs.given.minutes_or.Statement.{statement}
 use Rattle.order.proofs.given.minutes_or.Tie as tie
 
 returns : tie.Need-returns
-unfolding minutesOr
+unfolding minutesOr valuesIn
 returns c =
     let e0 = c .minutes-in .ensures in
     let e1 = c .before .value .ensures in
@@ -13,7 +14,7 @@ returns c =
     simp (sym e0, sym e1, sym e2, c .before .before .if1 .taken)
 
 returns-2 : tie.Need-returns-2
-unfolding minutesOr
+unfolding minutesOr valuesIn
 returns-2 c =
     let e0 = c .before .has .ensures in
     simp (sym e0, c .if1 .left)

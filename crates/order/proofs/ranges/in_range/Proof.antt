@@ -1,18 +1,19 @@
 -- `order::ranges::in_range` meets its contract.
 use mathlib.Core.Path.{sym}
+use Rattle.fields.specs.Values.{valuesIn}
 use Rattle.order.specs.Ranges.{inRangeOf}
 use Rattle.order.proofs.ranges.in_range.Statement.{statement}
 use Rattle.order.proofs.ranges.in_range.Tie as tie
 
 returns : tie.Need-returns
-unfolding inRangeOf
+unfolding inRangeOf valuesIn
 returns c =
     let e0 = c .fits2 .ensures in
     let e1 = c .before .before .has .ensures in
     simp (sym e0, sym e1, c .before .if1 .taken)
 
 returns-2 : tie.Need-returns-2
-unfolding inRangeOf
+unfolding inRangeOf valuesIn
 returns-2 c =
     let e0 = c .before .has .ensures in
     simp (sym e0, c .if1 .left)

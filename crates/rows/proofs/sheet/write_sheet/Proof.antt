@@ -4,8 +4,8 @@ use mathlib.Core.List.{[]}
 use denote.Ref.{now}
 use Rattle.lines.specs.Lines.{refusedOrderText}
 use Rattle.lines.proofs.LinesLaws.{refused-length}
-use Rattle.order.specs.AcceptedLaws.{read-accepted}
-use Rattle.order.specs.ReadingLaws.{read-town}
+use Rattle.order.proofs.AcceptedLaws.{read-accepted}
+use Rattle.order.proofs.ReadingLaws.{read-town}
 use Rattle.text.specs.Text.{ascii}
 use Rattle.text.proofs.TextLaws.{put-next}
 use Rattle.rows.proofs.Answers.{sheet-short, sheet-read, sheet-refused}
@@ -21,7 +21,7 @@ put-accepted-requires c κs =
     let a = c .before .before .before .before .before .before .before .before .before .args in
     let e = sym (c .before .before .before .before .before .read .ensures) ∙ c .before .before .before .«record» .given .1 in
     let t = read-town (now (a .order)) _ e in
-    (read-accepted (now (a .order)) _ e, rw (c .value .ensures ∙ sym (t .part)) (t .size .1), c .before .before .before .before .before .before .if1 .left)
+    (read-accepted (now (a .order)) _ e, rw (c .bytes .ensures ∙ sym (t .part)) (t .size .1), c .before .before .before .before .before .before .if1 .left)
 
 returns-2 : tie.Need-returns-2
 returns-2 c =
@@ -29,7 +29,7 @@ returns-2 c =
     let e = sym (c .before .before .before .before .before .before .before .before .read .ensures) ∙ c .before .before .before .before .before .before .«record» .given .1 in
     let t = read-town (now (a .order)) _ e in
     let l = sheet-read (now (a .order)) (now (a .buffer)) (c .before .before .before .before .before .before .before .before .before .if1 .left) _ e in
-    let p = simp (c .before .before .before .value .ensures ∙ sym (t .part)) at (c .before .before .put-accepted .ensures) in
+    let p = simp (c .before .before .before .bytes .ensures ∙ sym (t .part)) at (c .before .before .put-accepted .ensures) in
     (p .0 ∙ l .0, p .1 ∙ l .1)
 
 returns-3 : tie.Need-returns-3

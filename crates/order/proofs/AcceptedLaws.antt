@@ -5,6 +5,7 @@ use mathlib.Core.Path.{_≡_, refl, sym, ap, subst}
 use mathlib.Core.Bool.{Bool, true, false, cond, _&&_, and-eq-true-iff}
 use mathlib.Core.List.{List}
 use lib.Dec.{leb, lit≤}
+use lib.ListN.{getD}
 use lib.Ieee.{Float, neg, le, round}
 use lib.IntN.{ℤ, pos, negsuc}
 use lib.Signed.{leZ}
@@ -16,7 +17,8 @@ use Rattle.calendar.specs.declared.dates.Date.{Date}
 use Rattle.calendar.specs.Gregorian.{existsOf}
 use Rattle.calendar.specs.Answers.{rowDateOf}
 use Rattle.fields.specs.Numbers.{byteOf, unsignedOf}
-use Rattle.fields.specs.Values.{hasOf, valueOf}
+use Rattle.fields.specs.Values.{Values, valuesOf}
+use Rattle.fields.specs.Tags.{lastTag}
 use Rattle.models.specs.declared.adjustments.TimeAdjustment.{TimeAdjustment}
 use Rattle.models.specs.declared.method.Method.{Method}
 use Rattle.models.specs.declared.method.Method.the-variants.{MuslimWorldLeague, Egyptian, Karachi, UmmAlQura, Dubai, MoonsightingCommittee, NorthAmerica, Kuwait, Qatar, Singapore, Tehran, Turkey, Other}
@@ -29,22 +31,20 @@ use Rattle.models.specs.Settings.{minutesFor}
 use Rattle.order.specs.declared.reading.Order.{Order}
 use Rattle.order.specs.declared.reading.Reading.the-variants.{Read}
 use Rattle.order.specs.Given.{dateIn, rowsIn, degreesIn, minutesIn, degreesOr, minutesOr, intervalOr, parametersIn}
-use Rattle.order.specs.Ranges.{dateFits, rowsFit, degreesFit, minuteFits, minutesFit, intervalFits, fitsOf}
-use Rattle.order.specs.Reading.{orderOf, readingOf}
-use Rattle.order.specs.Accepted.{UpTo, Between, DateInOrder, Accepted}
-use Rattle.order.specs.RowDates.{row-in-order}
-use Rattle.order.specs.ReadingLaws.{Passed, read-passed, has-required, fits-given}
+use Rattle.order.specs.Ranges.{dateFits, rowsFit, degreesFit, minuteFits, minutesFit, intervalFits, lookUp, fitsOf}
+use Rattle.order.specs.Reading.{required, missingOf, outOfRangeOf, orderOf, readingOf}
+use Rattle.order.specs.Accepted.{UpTo, Inside, DateInOrder, Accepted}
+use Rattle.order.proofs.RowDates.{row-in-order}
+use Rattle.order.proofs.ReadingLaws.{read-passed, has-required, fits-given}
 
 -- ---- what each test says
 both : (a b : Bool) → (a && b) ≡ true → (a ≡ true) × (b ≡ true)
 both a b e = and-eq-true-iff a b .0 e
 
-degrees-between : (low high : Float) (v : List ℕ) → degreesFit low high v ≡ true → Between low high (degreesIn v)
-unfolding degreesFit
-degrees-between low high v e = both (le low (degreesIn v)) (le (degreesIn v) high) e
+degrees-inside : (low high : Float) (v : List ℕ) → degreesFit low high v ≡ true → Inside low high (degreesIn v)
+degrees-inside low high v e = both (le low (degreesIn v)) (le (degreesIn v) high) e
 
 date-in : (d : Date) → dateFits d ≡ true → DateInOrder d
-unfolding dateFits
 date-in d e =
     let a = both (leb 1900 (d .year) && leb (d .year) 2199) (existsOf d) e in
     let b = both (leb 1900 (d .year)) (leb (d .year) 2199) (a .0) in
@@ -70,12 +70,12 @@ minute-within m e =
 minutes-within : (m : TimeAdjustment) → minutesFit m ≡ true → (prayer : Prayer) → Near 720 (minutesFor prayer m)
 unfolding minutesFit minutesFor
 minutes-within m e prayer =
-    let a = both (minuteFits (m .fajr)) (minuteFits (m .sunrise) && (minuteFits (m .dhuhr) && (minuteFits (m .asr) && (minuteFits (m .maghrib) && minuteFits (m .isha))))) e in
-    let b = both (minuteFits (m .sunrise)) (minuteFits (m .dhuhr) && (minuteFits (m .asr) && (minuteFits (m .maghrib) && minuteFits (m .isha)))) (a .1) in
-    let c = both (minuteFits (m .dhuhr)) (minuteFits (m .asr) && (minuteFits (m .maghrib) && minuteFits (m .isha))) (b .1) in
-    let d = both (minuteFits (m .asr)) (minuteFits (m .maghrib) && minuteFits (m .isha)) (c .1) in
-    let f = both (minuteFits (m .maghrib)) (minuteFits (m .isha)) (d .1) in
-    go prayer (a .0) (b .0) (c .0) (d .0) (f .0) (f .1)
+    let isha = both (minuteFits (m .fajr) && minuteFits (m .sunrise) && minuteFits (m .dhuhr) && minuteFits (m .asr) && minuteFits (m .maghrib)) (minuteFits (m .isha)) e in
+    let maghrib = both (minuteFits (m .fajr) && minuteFits (m .sunrise) && minuteFits (m .dhuhr) && minuteFits (m .asr)) (minuteFits (m .maghrib)) (isha .0) in
+    let asr = both (minuteFits (m .fajr) && minuteFits (m .sunrise) && minuteFits (m .dhuhr)) (minuteFits (m .asr)) (maghrib .0) in
+    let dhuhr = both (minuteFits (m .fajr) && minuteFits (m .sunrise)) (minuteFits (m .dhuhr)) (asr .0) in
+    let first = both (minuteFits (m .fajr)) (minuteFits (m .sunrise)) (dhuhr .0) in
+    go prayer (first .0) (first .1) (dhuhr .1) (asr .1) (maghrib .1) (isha .1)
   where
     go : (prayer : Prayer) → minuteFits (m .fajr) ≡ true → minuteFits (m .sunrise) ≡ true → minuteFits (m .dhuhr) ≡ true
         → minuteFits (m .asr) ≡ true → minuteFits (m .maghrib) ≡ true → minuteFits (m .isha) ≡ true → Near 720 (minutesFor prayer m)
@@ -89,46 +89,41 @@ minutes-within m e prayer =
     go FajrTomorrow a b c d e f = (lit≤ tt, lit≤ tt)
 
 -- ---- what a tag gives, or stands for it, is in range
-angle-or : (s : List ℕ) (tag : ℕ) (missing : Float) → (hasOf s tag ≡ true → degreesFit (dec 0 0) (dec 30 0) (valueOf s tag) ≡ true)
-    → Between (dec 0 0) (dec 30 0) missing → Between (dec 0 0) (dec 30 0) (degreesOr s tag missing)
-unfolding degreesOr
-angle-or s tag missing fits otherwise = go (hasOf s tag) fits
-  where
-    go : (b : Bool) → (b ≡ true → degreesFit (dec 0 0) (dec 30 0) (valueOf s tag) ≡ true)
-        → Between (dec 0 0) (dec 30 0) (cond b (degreesIn (valueOf s tag)) missing)
-    go true f = degrees-between (dec 0 0) (dec 30 0) (valueOf s tag) (f refl)
-    go false f = otherwise
+module _ (v : Values) where
+  angle-or : (tag : ℕ) (missing : Float) → (v .has tag ≡ true → degreesFit (dec 0 0) (dec 30 0) (v .value tag) ≡ true)
+      → Inside (dec 0 0) (dec 30 0) missing → Inside (dec 0 0) (dec 30 0) (degreesOr v tag missing)
+  unfolding degreesOr
+  angle-or tag missing fits otherwise = go (v .has tag) fits
+    where
+      go : (b : Bool) → (b ≡ true → degreesFit (dec 0 0) (dec 30 0) (v .value tag) ≡ true)
+          → Inside (dec 0 0) (dec 30 0) (cond b (degreesIn (v .value tag)) missing)
+      go true f = degrees-inside (dec 0 0) (dec 30 0) (v .value tag) (f refl)
+      go false f = otherwise
 
-interval-or : (s : List ℕ) (missing : ℤ) → (hasOf s 14 ≡ true → intervalFits (valueOf s 14) ≡ true) → UpTo 1440 missing
-    → UpTo 1440 (intervalOr s missing)
-unfolding intervalOr intervalFits
-interval-or s missing fits otherwise = go (hasOf s 14) fits
-  where
-    go : (b : Bool) → (b ≡ true → (leb 0 (unsignedOf (valueOf s 14) 0) && leb (unsignedOf (valueOf s 14) 0) 1440) ≡ true)
-        → UpTo 1440 (cond b (pos (unsignedOf (valueOf s 14) 0)) missing)
-    go true f =
-        (leb-true (unsignedOf (valueOf s 14) 0) 1440 (both (leb 0 (unsignedOf (valueOf s 14) 0)) (leb (unsignedOf (valueOf s 14) 0) 1440) (f refl) .1), refl)
-    go false f = otherwise
+  interval-or : (missing : ℤ) → (v .has 14 ≡ true → intervalFits (v .value 14) ≡ true) → UpTo 1440 missing → UpTo 1440 (intervalOr v missing)
+  unfolding intervalOr intervalFits
+  interval-or missing fits otherwise = go (v .has 14) fits
+    where
+      n : ℕ
+      n = unsignedOf (v .value 14) 0
 
-none-fit : minutesFit noMinutes ≡ true
-unfolding minutesFit minuteFits
-none-fit = refl
+      go : (b : Bool) → (b ≡ true → (leb 0 n && leb n 1440) ≡ true) → UpTo 1440 (cond b (pos n) missing)
+      go true f = (leb-true n 1440 (both (leb 0 n) (leb n 1440) (f refl) .1), refl)
+      go false f = otherwise
 
-minutes-or : (s : List ℕ) → (hasOf s 11 ≡ true → minutesFit (minutesIn (valueOf s 11)) ≡ true)
-    → (prayer : Prayer) → Near 720 (minutesFor prayer (minutesOr s noMinutes))
-unfolding minutesOr
-minutes-or s fits prayer = go (hasOf s 11) fits
-  where
-    go : (b : Bool) → (b ≡ true → minutesFit (minutesIn (valueOf s 11)) ≡ true)
-        → Near 720 (minutesFor prayer (cond b (minutesIn (valueOf s 11)) noMinutes))
-    go true f = minutes-within (minutesIn (valueOf s 11)) (f refl) prayer
-    go false f = minutes-within noMinutes none-fit prayer
+  minutes-or : (v .has 11 ≡ true → minutesFit (minutesIn (v .value 11)) ≡ true) → (prayer : Prayer) → Near 720 (minutesFor prayer (minutesOr v noMinutes))
+  unfolding minutesOr minutesFit minuteFits
+  minutes-or fits prayer = go (v .has 11) fits
+    where
+      go : (b : Bool) → (b ≡ true → minutesFit (minutesIn (v .value 11)) ≡ true) → Near 720 (minutesFor prayer (cond b (minutesIn (v .value 11)) noMinutes))
+      go true f = minutes-within (minutesIn (v .value 11)) (f refl) prayer
+      go false f = minutes-within noMinutes refl prayer
 
 -- the method's angles and interval, and its name
 pub record Brought (method : Method) : Type 0 where
   pub named : presetOf method .method ≡ method
-  pub fajr : Between (dec 0 0) (dec 30 0) (presetOf method .«fajr_angle»)
-  pub isha : Between (dec 0 0) (dec 30 0) (presetOf method .«isha_angle»)
+  pub fajr : Inside (dec 0 0) (dec 30 0) (presetOf method .«fajr_angle»)
+  pub isha : Inside (dec 0 0) (dec 30 0) (presetOf method .«isha_angle»)
   pub interval : UpTo 1440 (presetOf method .«isha_interval»)
 
 pub brought : (method : Method) → Brought method
@@ -148,31 +143,33 @@ brought Turkey = record { named = refl; fajr = (refl, refl); isha = (refl, refl)
 brought Other = record { named = refl; fajr = (refl, refl); isha = (refl, refl); interval = (lit≤ tt, refl) }
 
 -- ---- the record
-accepted : (s : List ℕ) (order : Order) → Passed s order → Accepted (orderOf s)
-unfolding orderOf parametersIn fitsOf
-accepted s order passed =
-    let required = fits-required in
-    let method = methodOf (byteOf (valueOf s 6) 0) in
+accepted : (v : Values) → missingOf (v .has) .number ≡ 0 → outOfRangeOf v .number ≡ 0 → Accepted (orderOf v)
+unfolding orderOf parametersIn fitsOf lookUp
+accepted v given ranges =
+    let method = methodOf (byteOf (v .value 6) 0) in
     let from = brought method in
-    let rows = rows-in (dateIn (valueOf s 2)) (rowsIn (valueOf s 3)) (required 3 (lit≤ tt) (lit≤ tt)) in
-    let date = date-in (dateIn (valueOf s 2)) (required 2 (lit≤ tt) (lit≤ tt)) in
+    let rows = rows-in (dateIn (v .value 2)) (rowsIn (v .value 3)) (fits 3 (lit≤ tt) (lit≤ tt) (has 2 (lit≤ tt))) in
+    let date = date-in (dateIn (v .value 2)) (fits 2 (lit≤ tt) (lit≤ tt) (has 1 (lit≤ tt))) in
     record {
       date = date;
       rows = rows .0;
-      row = λ (row : ℕ) (l : row < rowsIn (valueOf s 3)). row-in-order (dateIn (valueOf s 2)) (date .there) (date .from) (rowsIn (valueOf s 3) - 1) row (rows .1) (omega arith);
-      latitude = degrees-between (neg (dec 90 0)) (dec 90 0) (valueOf s 4) (required 4 (lit≤ tt) (lit≤ tt));
-      longitude = degrees-between (neg (dec 180 0)) (dec 180 0) (valueOf s 5) (required 5 (lit≤ tt) (lit≤ tt));
-      «fajr_angle» = angle-or s 12 (presetOf method .«fajr_angle») (fits-given s order passed 12 (lit≤ tt) (lit≤ tt)) (from .fajr);
-      «isha_angle» = angle-or s 13 (presetOf method .«isha_angle») (fits-given s order passed 13 (lit≤ tt) (lit≤ tt)) (from .isha);
-      «isha_interval» = interval-or s (presetOf method .«isha_interval») (fits-given s order passed 14 (lit≤ tt) (lit≤ tt)) (from .interval);
-      own = minutes-or s (fits-given s order passed 11 (lit≤ tt) (lit≤ tt));
+      row = λ (row : ℕ) (l : row < rowsIn (v .value 3)). row-in-order (dateIn (v .value 2)) (date .there) (date .from) (rowsIn (v .value 3) - 1) row (rows .1) (omega arith);
+      latitude = degrees-inside (neg (dec 90 0)) (dec 90 0) (v .value 4) (fits 4 (lit≤ tt) (lit≤ tt) (has 3 (lit≤ tt)));
+      longitude = degrees-inside (neg (dec 180 0)) (dec 180 0) (v .value 5) (fits 5 (lit≤ tt) (lit≤ tt) (has 4 (lit≤ tt)));
+      «fajr_angle» = angle-or v 12 (presetOf method .«fajr_angle») (fits 12 (lit≤ tt) (lit≤ tt)) (from .fajr);
+      «isha_angle» = angle-or v 13 (presetOf method .«isha_angle») (fits 13 (lit≤ tt) (lit≤ tt)) (from .isha);
+      «isha_interval» = interval-or v (presetOf method .«isha_interval») (fits 14 (lit≤ tt) (lit≤ tt)) (from .interval);
+      own = minutes-or v (fits 11 (lit≤ tt) (lit≤ tt));
       preset = ap (λ (m : Method). presetOf m .«method_adjustments») (sym (from .named));
     }
   where
-    fits-required : (tag : ℕ) → 1 ≤ tag → tag < 7 → fitsOf s tag ≡ true
-    fits-required tag l h = fits-given s order passed tag l (omega arith) (has-required s order passed tag l h)
+    has : (i : ℕ) → i < 6 → v .has (getD required i 0) ≡ true
+    has = has-required (v .has) given
+
+    fits : (tag : ℕ) → 1 ≤ tag → tag ≤ lastTag → v .has tag ≡ true → fitsOf v tag ≡ true
+    fits = fits-given v ranges
 
 pub read-accepted : (s : List ℕ) (order : Order) → readingOf s ≡ Read order → Accepted order
 read-accepted s order e =
     let passed = read-passed s order e in
-    subst Accepted (sym (passed .same)) (accepted s order passed)
+    subst Accepted (passed .same) (accepted (valuesOf s) (passed .given) (passed .ranges))
