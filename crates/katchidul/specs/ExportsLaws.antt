@@ -7,7 +7,7 @@ use mathlib.Core.List.{List, []}
 use lib.IntN.{pos}
 use lib.ListN.{length}
 use borrow.Author.Tests.{le-leb, ltb-true}
-use Rattle.integers.specs.Parts.{natural}
+use Rattle.integers.proofs.PartsLaws.{natural}
 use Rattle.fields.specs.FieldsLaws.{check-short, value-missing}
 use Rattle.fields.specs.Values.{offsetOf, hasOf, valueOf}
 use Rattle.order.specs.declared.reading.Order.{Order}

@@ -9,8 +9,8 @@ use lib.Signed.{ltZ}
 use mir.Syntax.{w32, w64}
 use mir.Val.{SFits}
 use Rattle.integers.specs.Parts.{P, N, Near}
-use Rattle.integers.specs.Sums.{sum, difference, times}
-use Rattle.integers.specs.Ranges.{range, fits, readBack, read}
+use Rattle.integers.proofs.Sums.{sum, difference, times}
+use Rattle.integers.proofs.Ranges.{range, fits, readBack, read}
 use Rattle.models.specs.declared.rounding.Rounding.{Rounding}
 use Rattle.stride.specs.Times.{roundedOf, adjustedOf}
 use Rattle.stride.specs.TimesLaws.{rounded-high, rounded-low}

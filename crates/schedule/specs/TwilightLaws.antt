@@ -7,7 +7,7 @@ use lib.Signed.{ltZ, mag}
 use lib.Ieee.{Float, toSigned}
 use lib.Ieee.Casts.{toSigned-in}
 use Rattle.integers.specs.Parts.{Near}
-use Rattle.integers.specs.Sums.{times}
+use Rattle.integers.proofs.Sums.{times}
 use Rattle.calendar.specs.Days.{ordinalOf}
 use Rattle.calendar.specs.declared.dates.Date.{Date}
 use Rattle.models.specs.declared.parameters.Parameters.{Parameters}

@@ -6,8 +6,9 @@ use native.Mathlib.Omega.{arith}
 use lib.Dec.{lit≤}
 use lib.IntN.{ℤ, pos, _+ℤ_, _-ℤ_, _*ℤ_, +ℤ-assoc}
 use lib.Ieee.{Float}
-use Rattle.integers.specs.Parts.{same, Near}
-use Rattle.integers.specs.Sums.{sum, difference, times}
+use Rattle.integers.specs.Parts.{Near}
+use Rattle.integers.proofs.PartsLaws.{same}
+use Rattle.integers.proofs.Sums.{sum, difference, times}
 use Rattle.integers.specs.Order.{_≼_}
 use Rattle.calendar.specs.Answers.{tomorrowOf}
 use Rattle.calendar.specs.declared.dates.Date.{Date}

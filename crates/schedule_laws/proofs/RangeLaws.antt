@@ -5,8 +5,9 @@ use native.Mathlib.Omega.{arith}
 use lib.Dec.{lit≤}
 use lib.IntN.{ℤ, pos, negsuc, _+ℤ_, _-ℤ_}
 use lib.Ieee.{Float}
-use Rattle.integers.specs.Parts.{P, N, same, Near}
-use Rattle.integers.specs.Sums.{sum, difference}
+use Rattle.integers.specs.Parts.{P, N, Near}
+use Rattle.integers.proofs.PartsLaws.{same}
+use Rattle.integers.proofs.Sums.{sum, difference}
 use Rattle.integers.specs.Quotients.{floorQuot}
 use Rattle.calendar.specs.Answers.{tomorrowOf}
 use Rattle.calendar.specs.declared.dates.Date.{Date}

@@ -6,7 +6,7 @@ use native.Mathlib.Omega.{arith}
 use lib.IntN.{ℤ, pos, negsuc, _+ℤ_, _-ℤ_, _*ℤ_}
 use lib.Signed.{ltZ}
 use Rattle.integers.specs.Parts.{P, N, Near}
-use Rattle.integers.specs.Sums.{sum, difference, times}
+use Rattle.integers.proofs.Sums.{sum, difference, times}
 use Rattle.models.specs.declared.rounding.Rounding.{Rounding}
 use Rattle.stride.specs.Times.{roundedOf, adjustedOf}
 use Rattle.stride.specs.TimesLaws.{rounded-high, rounded-low}

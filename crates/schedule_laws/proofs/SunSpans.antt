@@ -6,8 +6,8 @@ use lib.Dec.{lit<, lit≤}
 use lib.IntN.{ℤ, pos, _+ℤ_, _-ℤ_, _*ℤ_}
 use lib.Signed.{ltZ}
 use lib.Ieee.{Float}
-use Rattle.integers.specs.Sums.{sum, difference, times}
-use Rattle.integers.specs.Quotients.{divided}
+use Rattle.integers.proofs.Sums.{sum, difference, times}
+use Rattle.integers.proofs.QuotientLaws.{divided}
 use Rattle.calendar.specs.Days.{ordinalOf}
 use Rattle.calendar.specs.declared.dates.Date.{Date}
 use Rattle.calendar.proofs.Existing.{ordinal-short}

@@ -1,5 +1,4 @@
 pub mod Coordinates
 pub mod Hours
 pub mod Setting
-pub mod SettingLaws
 pub mod Times

@@ -1,7 +1,7 @@
 use mathlib.Core.Path.{sym, ap, _∙_}
 use lib.IntN.{ℤ}
 use mir.Syntax.{w64}
-use Rattle.integers.specs.Ranges.{read}
+use Rattle.integers.proofs.Ranges.{read}
 use Rattle.calls.specs.Calls.{instantFits, nextAtOf}
 use Rattle.calls.proofs.in_force.next_at.Statement.{statement}
 use Rattle.calls.proofs.in_force.next_at.Tie as tie

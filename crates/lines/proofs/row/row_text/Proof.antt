@@ -6,7 +6,7 @@ use mathlib.Core.List.{List}
 use lib.IntN.{pos}
 use lib.ListN.{length, getD, replicate}
 use mir.Syntax.{w64}
-use Rattle.integers.specs.Ranges.{readBack}
+use Rattle.integers.proofs.Ranges.{readBack}
 use Rattle.text.specs.Text.{frontOf}
 use Rattle.lines.specs.Lines.{cellText}
 use Rattle.lines.proofs.Parts.{partText, date-put, cell-put, row-done}

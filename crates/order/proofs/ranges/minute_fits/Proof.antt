@@ -6,7 +6,7 @@ use lib.Signed.{ltZ, leZ}
 use mir.Syntax.{w32}
 use mir.Val.{SFits, toZ, ofZ}
 use mir.Facts.{toZ-ofZ}
-use Rattle.integers.specs.Order.{lt-yes, lt-no, to-le, to-not-le}
+use Rattle.integers.proofs.OrderLaws.{lt-yes, lt-no, to-le, to-not-le}
 use Rattle.order.specs.Ranges.{minuteFits}
 use Rattle.order.proofs.ranges.minute_fits.Statement.{statement}
 use Rattle.order.proofs.ranges.minute_fits.Tie as tie

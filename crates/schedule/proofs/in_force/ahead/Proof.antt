@@ -2,7 +2,7 @@ use Rattle.schedule.specs.Rooms as rooms
 use mathlib.Core.Path.{ap, _∙_}
 use mir.Syntax.{w64}
 use native.Mathlib.Omega.{arith}
-use Rattle.integers.specs.Ranges.{read}
+use Rattle.integers.proofs.Ranges.{read}
 use Rattle.schedule.proofs.Due as due
 use mir.Val.{SFits}
 use Rattle.integers.specs.Parts.{P}

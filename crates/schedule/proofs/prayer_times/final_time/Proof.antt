@@ -3,7 +3,7 @@ use mir.Syntax.{w64}
 use lib.IntN.{ℤ}
 use Prim.Native.Nat.{_+_, _^_}
 use native.Mathlib.Omega.{arith}
-use Rattle.integers.specs.Ranges.{readBack, wide, read-wide}
+use Rattle.integers.proofs.Ranges.{readBack, wide, read-wide}
 use Rattle.schedule.specs.Rooms as rooms
 use Rattle.schedule.specs.Times.{finalOf}
 use Rattle.stride.specs.Times.{satOf, roundedOf, adjustedOf}

@@ -2,8 +2,8 @@ use mir.Syntax.{w64}
 use lib.IntN.{ℤ, _+ℤ_}
 use Prim.Native.Nat.{_+_, _^_}
 use native.Mathlib.Omega.{arith}
-use Rattle.integers.specs.Sums.{summands}
-use Rattle.integers.specs.Ranges.{read}
+use Rattle.integers.proofs.Sums.{summands}
+use Rattle.integers.proofs.Ranges.{read}
 use Rattle.schedule.specs.Rooms as rooms
 use Rattle.schedule.proofs.prayer_times.on.Statement.{statement}
 use Rattle.schedule.proofs.prayer_times.on.Tie as tie

@@ -1,7 +1,7 @@
 use mathlib.Core.Path.{_∙_}
 use mir.Syntax.{w32}
 use mir.Val.{SFits}
-use Rattle.integers.specs.Ranges.{read}
+use Rattle.integers.proofs.Ranges.{read}
 use Rattle.schedule.specs.Twilight.{orOf}
 use borrow.Author.Needs.{needs}
 use Rattle.schedule.proofs.prayer_times.or_transit.Statement.{statement}

@@ -1,7 +1,7 @@
 use mathlib.Core.Path.{_∙_}
 use Prim.Native.Nat.{_^_}
 use native.Mathlib.Omega.{arith}
-use Rattle.integers.specs.Sums.{summands}
+use Rattle.integers.proofs.Sums.{summands}
 use Rattle.schedule.specs.Rooms as rooms
 use Rattle.schedule.specs.Times.{middleOfTheNightOf, qiyamOf, timesOf}
 use borrow.Author.Needs.{needs}

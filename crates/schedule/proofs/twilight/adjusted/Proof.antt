@@ -4,7 +4,7 @@ use mathlib.Core.Path.{_≡_, ap, subst, _∙_}
 use mir.Syntax.{w64}
 use Prim.Native.Nat.{_+_, _*_, _^_}
 use native.Mathlib.Omega.{arith}
-use Rattle.integers.specs.Ranges.{readBack, read}
+use Rattle.integers.proofs.Ranges.{readBack, read}
 use Rattle.schedule.specs.Rooms as rooms
 use Rattle.stride.specs.Times.{satOf, adjustedOf}
 use Rattle.stride.specs.TimesLaws.{adjusted-in}

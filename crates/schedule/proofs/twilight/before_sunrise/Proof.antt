@@ -1,6 +1,6 @@
 use mathlib.Core.Path.{_≡_, sym, _∙_}
 use mir.Syntax.{w32, w64}
-use Rattle.integers.specs.Ranges.{readBack, read}
+use Rattle.integers.proofs.Ranges.{readBack, read}
 use Rattle.schedule.specs.Twilight.{beforeSunriseOf}
 use borrow.Author.Needs.{needs}
 use Rattle.schedule.proofs.twilight.before_sunrise.Statement.{statement}

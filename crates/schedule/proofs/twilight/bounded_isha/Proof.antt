@@ -5,8 +5,8 @@ use lib.IntN.{ℤ, _+ℤ_}
 use Prim.Native.Nat.{_+_, _^_}
 use native.Mathlib.Omega.{arith}
 use Rattle.integers.specs.Parts.{Near}
-use Rattle.integers.specs.Sums.{summands}
-use Rattle.integers.specs.Ranges.{readBack, wide, read-wide}
+use Rattle.integers.proofs.Sums.{summands}
+use Rattle.integers.proofs.Ranges.{readBack, wide, read-wide}
 use Rattle.schedule.specs.Rooms as rooms
 use Rattle.schedule.specs.Twilight.{nightOf, earlierOf, orOf, ishaBoundOf, boundedIshaOf}
 use Rattle.night.specs.Portions.{seventhOf}

@@ -1,6 +1,6 @@
 use mathlib.Core.Path.{_∙_}
 use mir.Syntax.{w64}
-use Rattle.integers.specs.Ranges.{read}
+use Rattle.integers.proofs.Ranges.{read}
 use Rattle.schedule.specs.Twilight.{earlierOf}
 use Rattle.schedule.proofs.twilight.earlier.Statement.{statement}
 use Rattle.schedule.proofs.twilight.earlier.Tie as tie

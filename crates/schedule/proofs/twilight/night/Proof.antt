@@ -6,7 +6,7 @@ use mir.Val.{SFits}
 use lib.IntN.{ℤ, pos, _+ℤ_, _-ℤ_}
 use Prim.Native.Nat.{_+_, _^_}
 use native.Mathlib.Omega.{arith}
-use Rattle.integers.specs.Ranges.{wide, read-wide}
+use Rattle.integers.proofs.Ranges.{wide, read-wide}
 use Rattle.schedule.specs.Rooms as rooms
 use Rattle.schedule.specs.Twilight.{nightOf}
 use Rattle.schedule.proofs.twilight.night.Statement.{statement}

@@ -4,7 +4,7 @@ use mir.Syntax.{w32, w64}
 use mir.Val.{SFits}
 use Prim.Native.Nat.{_^_}
 use native.Mathlib.Omega.{arith}
-use Rattle.integers.specs.Ranges.{read, wide, read-wide}
+use Rattle.integers.proofs.Ranges.{read, wide, read-wide}
 use Rattle.schedule.specs.Rooms as rooms
 use Rattle.schedule.specs.Twilight.{orOf}
 use borrow.Author.Needs.{needs}

@@ -1,7 +1,7 @@
 use lib.IntN.{ℤ, _+ℤ_}
 use Prim.Native.Nat.{_+_}
-use Rattle.integers.specs.Sums.{summands}
-use Rattle.integers.specs.Ranges.{wide, read-wide}
+use Rattle.integers.proofs.Sums.{summands}
+use Rattle.integers.proofs.Ranges.{wide, read-wide}
 use Rattle.schedule.specs.Rooms as rooms
 use Rattle.schedule.proofs.twilight.sum.Statement.{statement}
 use Rattle.schedule.proofs.twilight.sum.Tie as tie

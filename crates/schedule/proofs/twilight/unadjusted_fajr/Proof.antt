@@ -6,8 +6,8 @@ use mir.Val.{SFits}
 use lib.IntN.{ℤ, _-ℤ_}
 use Prim.Native.Nat.{_+_, _^_}
 use native.Mathlib.Omega.{arith}
-use Rattle.integers.specs.Sums.{summands}
-use Rattle.integers.specs.Ranges.{readBack, read, wide, read-wide}
+use Rattle.integers.proofs.Sums.{summands}
+use Rattle.integers.proofs.Ranges.{readBack, read, wide, read-wide}
 use Rattle.schedule.specs.Rooms as rooms
 use Rattle.schedule.specs.TwilightLaws as laws
 use Rattle.schedule.specs.Twilight.{nightOf, laterOf, orOf, beforeSunriseOf, unadjustedFajrOf}

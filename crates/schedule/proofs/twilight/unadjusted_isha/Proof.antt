@@ -5,11 +5,11 @@ use lib.IntN.{ℤ, pos, _+ℤ_, _*ℤ_}
 use Prim.Native.Nat.{_+_, _^_}
 use native.Mathlib.Omega.{arith}
 use Rattle.integers.specs.Parts.{Near}
-use Rattle.integers.specs.Sums.{summands}
-use Rattle.integers.specs.Ranges.{readBack, read, wide, read-wide}
+use Rattle.integers.proofs.Sums.{summands}
+use Rattle.integers.proofs.Ranges.{readBack, read, wide, read-wide}
 use Rattle.schedule.specs.Rooms as rooms
 use Rattle.schedule.specs.Twilight.{unadjustedIshaOf}
-use Rattle.integers.specs.Sums.{times}
+use Rattle.integers.proofs.Sums.{times}
 use Prim.Native.Nat.{_*_}
 use borrow.Author.Needs.{needs}
 use Rattle.schedule.proofs.twilight.unadjusted_isha.Statement.{statement}

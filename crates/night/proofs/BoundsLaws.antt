@@ -12,18 +12,17 @@ use lib.Ieee.Exact.{HasValue}
 use Rattle.float64.specs.Ops.{dec}
 use Rattle.float64.proofs.Limits.{from-zero}
 use Rattle.float64.proofs.WholeSizes.{signed}
-use Rattle.integers.specs.Parts.{P, N}
-use Rattle.integers.specs.Sums.{flip}
+use Rattle.integers.specs.Parts.{P, N, Near}
+use Rattle.integers.proofs.Sums.{flip}
 use Rattle.night.specs.Portions.{nightFractionOf, portionAfterOf, portionBeforeOf}
-use Rattle.night.specs.Halves.{Halved, night, product-halved}
+use Rattle.night.proofs.Halves.{Halved, night, product-halved}
 
 -- from 0 to a half; -0 is a zero
 abbrev pub Portion : Float → Type 0
 Portion p = (le (dec 0 0) p ≡ true) × (le p (dec 5 1) ≡ true)
 
--- 2 ^ 31 seconds either way
-abbrev pub Short : ℤ → Type 0
-Short n = (P n ≤ 2 ^ 31) × (N n ≤ 2 ^ 31)
+abbrev Short : ℤ → Type 0
+Short n = Near (2 ^ 31) n
 
 pub half-value : HasValue (dec 5 1) false 1 2
 unfolding dec round
@@ -39,13 +38,13 @@ seconds (pos n) = n
 seconds (negsuc n) = suc n
 
 seconds-most : (n : ℤ) → Short n → seconds n ≤ 2 ^ 31
-seconds-most (pos d) k = k .0
-seconds-most (negsuc d) k = k .1
+seconds-most (pos d) k = k .to
+seconds-most (negsuc d) k = k .from
 
 fraction-halved : (p : Float) (n : ℤ) → Portion p → Short n → Halved (nightFractionOf p n) (negative n) (seconds n)
 unfolding ofInt night
-fraction-halved p (pos d) h k = product-halved false d (k .0) p (from-zero p (dec 5 1) 1 2 (lit< tt) half-value (h .0) (h .1))
-fraction-halved p (negsuc d) h k = product-halved true (suc d) (k .1) p (from-zero p (dec 5 1) 1 2 (lit< tt) half-value (h .0) (h .1))
+fraction-halved p (pos d) h k = product-halved false d (k .to) p (from-zero p (dec 5 1) 1 2 (lit< tt) half-value (h .0) (h .1))
+fraction-halved p (negsuc d) h k = product-halved true (suc d) (k .from) p (from-zero p (dec 5 1) 1 2 (lit< tt) half-value (h .0) (h .1))
 
 after-parts : (n : ℤ) (w : ℕ) → w * 2 ≤ seconds n → (P (signed (negative n) w) * 2 ≤ P n) × (N (signed (negative n) w) * 2 ≤ N n)
 after-parts (pos d) w l = (l, lit≤ tt)

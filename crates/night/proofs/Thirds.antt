@@ -11,7 +11,7 @@ use lib.Ieee.Back.{round-whole}
 use lib.Ieee.Order.{round-mono}
 use Rattle.float64.proofs.Within.{Within, round-within, round-signed}
 use Rattle.float64.proofs.WholeSizes.{wholeSize, whole-most, whole-least}
-use Rattle.night.specs.Steady.{longest, Steady, either}
+use Rattle.night.proofs.Steady.{longest, Steady, either}
 
 -- 2.0 / 3.0 is this over 2 ^ 53
 abbrev pub twoThirds : ℕ

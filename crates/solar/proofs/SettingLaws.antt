@@ -1,26 +1,37 @@
--- Where the times of `setting_hour` lie: from 0h of yesterday to before 24h of tomorrow, for every hour number that has a time. Over the
--- definitions of `Setting`. Assumes nothing.
+-- Where the times of `setting_hour` lie: from 0h of yesterday to before 24h of tomorrow, for every hour number that has a time. Assumes nothing.
 use mathlib.Core.Path.{_≡_, refl, subst}
 use mathlib.Core.Bool.{Bool, true, false, cond}
 use Prim.Native.Nat.{ℕ, _+_, _*_, _≤_, _<_}
 use native.Mathlib.Omega.{arith}
 use lib.Dec.{ltb, lit≤}
-use lib.IntN.{ℤ, pos, negsuc, _-ℤ_}
+use lib.IntN.{ℤ, pos, _-ℤ_}
 use lib.Ieee.{Float, lt}
 use borrow.Author.Tests.{ltb-true}
-use Rattle.integers.specs.Parts.{P, N}
-use Rattle.integers.specs.Sums.{difference}
+use Rattle.integers.specs.Parts.{Between}
+use Rattle.integers.proofs.Sums.{difference}
+use Rattle.integers.proofs.Intervals.{by-balance}
 use Rattle.float64.specs.Ops.{dec}
 use Rattle.float64.specs.Sizes.{isNormalOf}
 use Rattle.float64.specs.Whole.{floorOf}
 use Rattle.solar.specs.declared.setting.SolarHour.{SolarHour}
 use Rattle.solar.specs.declared.setting.SolarHour.the-variants.{At, None}
 use Rattle.solar.specs.declared.setting.Placed.{Placed}
+use Rattle.solar.specs.declared.times.SolarTime.{SolarTime}
+use Rattle.solar.specs.declared.times.SolarDay.{SolarDay}
+use Rattle.solar.specs.declared.times.SolarDay.the-variants.{Whole, Lacks}
+use Rattle.solar.specs.declared.hours.HourNumbers.{HourNumbers}
 use Rattle.solar.specs.Setting.{hourAdjustmentOf, minuteOf, hourOf, settingHourOf}
+use Rattle.solar.specs.Times.{solarHourOf, dayOf, solarTimeOf}
 
--- t is from -86400 to 172799
+-- the earliest time of the sun, in seconds before 0h of its date, and the latest
+abbrev pub earliestSun : ℕ
+earliestSun = 86400
+
+abbrev pub latestSun : ℕ
+latestSun = 172799
+
 abbrev pub OfThreeDays : ℤ → Type 0
-OfThreeDays t = (N t ≤ 86400) × (P t < 172800)
+OfThreeDays t = Between earliestSun latestSun t
 
 -- an hour's time, where it has one
 abbrev pub HourOfThreeDays : SolarHour → Type 0
@@ -28,12 +39,8 @@ HourOfThreeDays (At t) = OfThreeDays t
 HourOfThreeDays None = 0 ≤ 0
 
 -- so many seconds from 0h of yesterday
-counted : (n : ℕ) → n < 259200 → OfThreeDays (pos n -ℤ pos 86400)
-counted n h = let d = difference (pos n) (pos 86400) in by-sign (pos n -ℤ pos 86400) (omega (arith, d .0, d .1))
-  where
-    by-sign : (z : ℤ) → P z + 86400 ≡ N z + n → OfThreeDays z
-    by-sign (pos a) e = (omega arith, omega arith)
-    by-sign (negsuc a) e = (omega arith, omega arith)
+counted : (n : ℕ) → n ≤ earliestSun + latestSun → OfThreeDays (pos n -ℤ pos 86400)
+counted n h = let d = difference (pos n) (pos 86400) in by-balance earliestSun latestSun (pos n -ℤ pos 86400) (omega (arith, d .0, d .1)) (omega (arith, d .0, d .1))
 
 where-so : (b : Bool) (t : ℤ) → (b ≡ true → OfThreeDays t) → HourOfThreeDays (cond b (At t) None)
 where-so true t h = h refl
@@ -72,3 +79,23 @@ setting-held value = by-test (isNormalOf value)
 
 pub setting-range : (value : Float) (t : ℤ) → settingHourOf value ≡ At t → OfThreeDays t
 setting-range value t e = subst HourOfThreeDays e (setting-held value)
+
+-- ---- and so of a day's sun, where it is whole
+pub record SunOfThreeDays (sun : SolarTime) : Type 0 where
+  pub transit : OfThreeDays (sun .transit)
+  pub sunrise : OfThreeDays (sun .sunrise)
+  pub sunset : OfThreeDays (sun .sunset)
+
+abbrev pub DayOfThreeDays : SolarDay → Type 0
+DayOfThreeDays (Whole sun) = SunOfThreeDays sun
+DayOfThreeDays (Lacks n) = 0 ≤ n
+
+pub day-held : (n : HourNumbers) → DayOfThreeDays (solarTimeOf n)
+unfolding solarTimeOf dayOf
+day-held n = by-hours (solarHourOf (n .transit)) (solarHourOf (n .sunrise)) (solarHourOf (n .sunset)) (setting-held (n .transit)) (setting-held (n .sunrise)) (setting-held (n .sunset))
+  where
+    by-hours : (t r s : SolarHour) → HourOfThreeDays t → HourOfThreeDays r → HourOfThreeDays s → DayOfThreeDays (dayOf t r s)
+    by-hours None r s h k l = lit≤ tt
+    by-hours (At t) None s h k l = lit≤ tt
+    by-hours (At t) (At r) None h k l = lit≤ tt
+    by-hours (At t) (At r) (At s) h k l = record { transit = h; sunrise = k; sunset = l }

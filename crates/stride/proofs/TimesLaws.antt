@@ -8,11 +8,15 @@ use lib.Dec.{ltb, lit<}
 use borrow.Author.Tests.{ltb-true, ltb-false}
 use mir.Syntax.{w64}
 use mir.Val.{SFits}
-use Rattle.integers.specs.Parts.{P, N}
-use Rattle.integers.specs.Sums.{sum, difference, times}
-use Rattle.integers.specs.Quotients.{Floored, floorQuot, floored}
-use Rattle.integers.specs.Order.{_≼_, to-not-lt}
-use Rattle.integers.specs.Ranges.{range}
+use Rattle.integers.specs.Parts.{P, N, Between, Near}
+use Rattle.integers.proofs.Sums.{sum, difference, times}
+use Rattle.integers.specs.Quotients.{floorQuot}
+use Rattle.integers.proofs.QuotientLaws.{Floored, floored}
+use Rattle.integers.specs.Order.{_≼_}
+use Rattle.integers.proofs.OrderLaws.{to-not-lt}
+use Rattle.integers.proofs.Ranges.{range}
+use Rattle.integers.proofs.Intervals.{sum-between, product-between, shifted-between}
+use Rattle.integers.proofs.Held.{Held, held-fits}
 use Rattle.models.specs.declared.rounding.Rounding.{Rounding}
 use Rattle.models.specs.declared.rounding.Rounding.the-variants.{Nearest, Up, None}
 use Rattle.stride.specs.Times.{most, least, satOf, secondOf, shiftOf, roundedOf, adjustedOf}
@@ -26,14 +30,6 @@ between (negsuc n) l h = record { sfits = omega arith }
 pub sat-in : (z : ℤ) → SFits w64 z → satOf z ≡ z
 unfolding satOf
 sat-in z h = let r = range w64 z h in rw (to-not-lt most z (omega arith), to-not-lt z least (omega arith))
-
--- so nothing saturates where minutes are no more than two i32 can sum to, and the time is no farther off than 2 ^ 62 seconds
-pub adjusted-in : (t k : ℤ) → P t ≤ 2 ^ 62 → N t ≤ 2 ^ 62 → P k ≤ 2 ^ 32 → N k ≤ 2 ^ 32 → satOf (adjustedOf t k) ≡ adjustedOf t k
-unfolding adjustedOf
-adjusted-in t k a b d e =
-    let p = times k 60 in
-    let s = sum t (k *ℤ pos 60) in
-    sat-in (t +ℤ k *ℤ pos 60) (between (t +ℤ k *ℤ pos 60) (omega arith) (omega arith))
 
 minute : (t : ℤ) → Floored t 60 (floorQuot t 60) (secondOf t)
 minute t = floored t 60 (lit< tt)
@@ -144,15 +140,6 @@ rounded-low r t =
     let s = sum (roundedOf r t) (pos 60) in
     omega arith
 
--- so nothing saturates for such a time here either
-pub rounded-in : (r : Rounding) (t : ℤ) → P t ≤ 2 ^ 62 → N t ≤ 2 ^ 62 → satOf (roundedOf r t) ≡ roundedOf r t
-rounded-in r t a b =
-    let h = rounded-high r t in
-    let l = rounded-low r t in
-    let u = sum t (pos 60) in
-    let v = sum (roundedOf r t) (pos 60) in
-    sat-in (roundedOf r t) (between (roundedOf r t) (omega arith) (omega arith))
-
 second-nearest : (t : ℤ) → secondOf (roundedOf Nearest t) ≡ 0
 unfolding heightOf
 second-nearest t = by-test (ltb (secondOf t) 30) (rounded Nearest t)
@@ -175,7 +162,23 @@ pub none-stays : (t : ℤ) → roundedOf None t ≡ t
 unfolding roundedOf shiftOf
 none-stays t = +ℤ-idr t
 
--- worked: 31 seconds before 1970 the second is 29, a second later it is 30; and Up from a whole minute
-worked : (roundedOf Nearest (negsuc 30) ≡ negsuc 59) × ((roundedOf Nearest (negsuc 29) ≡ pos 0) × (roundedOf Up (pos 0) ≡ pos 60))
-unfolding roundedOf shiftOf
-worked = (refl, (refl, refl))
+-- ---- how far they lie, and that nothing saturates within 2 ^ 62 seconds
+pub rounded-between : {a b : ℕ} {t : ℤ} (r : Rounding) → Between a b t → Between (a + 60) (b + 60) (roundedOf r t)
+rounded-between {a} {b} {t} r h = shifted-between 60 (roundedOf r t) h (rounded-high r t) (rounded-low r t)
+
+pub adjusted-between : {a b k : ℕ} {t m : ℤ} → Between a b t → Near k m → Between (a + k * 60) (b + k * 60) (adjustedOf t m)
+unfolding adjustedOf
+adjusted-between h l = sum-between h (product-between l 60)
+
+near-fits : {n : ℕ} {z : ℤ} → Near n z → n ≤ 2 ^ 62 → SFits w64 z
+near-fits h l = held-fits (record { is = refl; near = h }) l
+
+pub held-rounded : {n : ℕ} {z t : ℤ} (r : Rounding) → Held n z t → n + 60 ≤ 2 ^ 62 → Held (n + 60) (satOf (roundedOf r z)) (roundedOf r t)
+held-rounded {n} {z} {t} r h l =
+    let k = rounded-between r (h .near) in
+    record { is = ap (λ (x : ℤ). satOf (roundedOf r x)) (h .is) ∙ sat-in (roundedOf r t) (near-fits k l); near = k }
+
+pub held-adjusted : {m n : ℕ} {x y t k : ℤ} → Held m x t → Held n y k → m + n * 60 ≤ 2 ^ 62 → Held (m + n * 60) (satOf (adjustedOf x y)) (adjustedOf t k)
+held-adjusted {m} {n} {x} {y} {t} {k} h g l =
+    let b = adjusted-between (h .near) (g .near) in
+    record { is = ap (λ (z : ℤ). satOf (adjustedOf z y)) (h .is) ∙ ap (λ (z : ℤ). satOf (adjustedOf t z)) (g .is) ∙ sat-in (adjustedOf t k) (near-fits b l); near = b }

@@ -18,11 +18,12 @@ use Rattle.float64.proofs.Exact.{mul-same}
 use Rattle.float64.proofs.Within.{Within, round-signed, round-neg, value-within}
 use Rattle.float64.proofs.WholeSizes.{wholeSize, signed, whole-most, whole-value, whole-neg, cast-is}
 use Rattle.integers.specs.Parts.{P, N}
-use Rattle.integers.specs.Quotients.{divided}
+use Rattle.integers.proofs.QuotientLaws.{divided}
+use Rattle.integers.proofs.Intervals.{Inside}
 use Rattle.integers.specs.Order.{_≼_}
 use Rattle.night.specs.Portions.{seventhOf, middleOf, lastThirdOf}
-use Rattle.night.specs.Steady.{longest, Small, Steady, share, share-inside, share-later}
-use Rattle.night.specs.Thirds.{twoThirds, third, third-within, third-steady}
+use Rattle.night.proofs.Steady.{longest, Small, Steady, share, share-inside, share-later}
+use Rattle.night.proofs.Thirds.{twoThirds, third, third-within, third-steady}
 
 unlike-plus : (s : Bool) → unlike s false ≡ s
 unlike-plus true = refl
@@ -60,8 +61,8 @@ module _ (s : Bool) (d : ℕ) (h : d ≤ longest) where
 -- in whole numbers, toward zero
 pub middle-is : (z : ℤ) → Small z → middleOf z ≡ quotZ z (pos 2)
 unfolding middleOf ofInt
-middle-is (pos d) h = half-cut false d (h .0)
-middle-is (negsuc k) h = half-cut true (suc k) (h .1)
+middle-is (pos d) h = half-cut false d (h .to)
+middle-is (negsuc k) h = half-cut true (suc k) (h .from)
 
 half-steady : Steady (λ (d : ℕ). d / 2)
 half-steady = record { none = refl; grows = λ d e h l. omega arith; slow = λ d e h l. omega arith }
@@ -90,19 +91,19 @@ module _ (s : Bool) (d : ℕ) (h : d ≤ longest) where
 
 third-share : (z : ℤ) → Small z → lastThirdOf z ≡ share third z
 unfolding lastThirdOf ofInt
-third-share (pos d) h = third-cut false d (h .0)
-third-share (negsuc k) h = third-cut true (suc k) (h .1)
+third-share (pos d) h = third-cut false d (h .to)
+third-share (negsuc k) h = third-cut true (suc k) (h .from)
 
 -- ---- the laws
 -- never outside the night
-pub seventh-inside : (z : ℤ) → (P (seventhOf z) ≤ P z) × (N (seventhOf z) ≤ N z)
+pub seventh-inside : (z : ℤ) → Inside (seventhOf z) z
 unfolding seventhOf
-seventh-inside z = let d = divided z 7 (lit< tt) in (omega arith, omega arith)
+seventh-inside z = let d = divided z 7 (lit< tt) in record { over = omega arith; under = omega arith }
 
-pub middle-inside : (z : ℤ) → Small z → (P (middleOf z) ≤ P z) × (N (middleOf z) ≤ N z)
+pub middle-inside : (z : ℤ) → Small z → Inside (middleOf z) z
 middle-inside z h = rw (middle-is z h, half-share z) (share-inside (λ (d : ℕ). d / 2) half-steady z h)
 
-pub last-third-inside : (z : ℤ) → Small z → (P (lastThirdOf z) ≤ P z) × (N (lastThirdOf z) ≤ N z)
+pub last-third-inside : (z : ℤ) → Small z → Inside (lastThirdOf z) z
 last-third-inside z h = rw (third-share z h) (share-inside third third-steady z h)
 
 -- never forward, where maghrib goes from m to m' and tomorrow's Fajr from f to f'

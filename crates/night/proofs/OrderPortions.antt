@@ -14,7 +14,7 @@ use lib.Ieee.Fits.{up-pos}
 use Rattle.float64.specs.Ops.{_/ᶠ_, dec}
 use Rattle.float64.proofs.Within.{Within, Signed, round-signed, div-within}
 use Rattle.float64.proofs.Limits.{FromZero, from-zero, to-tests}
-use Rattle.night.specs.BoundsLaws.{Portion, half-value}
+use Rattle.night.proofs.BoundsLaws.{Portion, half-value}
 
 -- by the middle of the night, and by its seventh
 pub half-portion : Portion (dec 1 0 /ᶠ dec 2 0)

@@ -9,16 +9,17 @@ use native.Mathlib.Omega.{arith}
 use lib.Dec.{leb}
 use borrow.Author.Tests.{leb-true, leb-false}
 use lib.IntN.{ℤ, pos, negsuc, negℤ, _+ℤ_, _-ℤ_}
-use Rattle.integers.specs.Parts.{P, N}
-use Rattle.integers.specs.Sums.{sum, flip, difference}
+use Rattle.integers.specs.Parts.{P, N, Near}
+use Rattle.integers.proofs.Sums.{sum, flip, difference}
 use Rattle.integers.specs.Order.{_≼_}
+use Rattle.integers.proofs.Intervals.{Inside}
 
 -- 2 ^ 50 seconds: no night is longer
 abbrev pub longest : ℕ
 longest = 1125899906842624
 
 abbrev pub Small : ℤ → Type 0
-Small z = (P z ≤ longest) × (N z ≤ longest)
+Small z = Near longest z
 
 -- a share f d of each d seconds
 pub record Steady (f : ℕ → ℕ) : Type 0 where
@@ -42,27 +43,27 @@ module _ (f : ℕ → ℕ) (s : Steady f) where
   part : (d : ℕ) → d ≤ longest → f d ≤ d
   part d h = omega (arith, s .none, s .slow 0 d h zero-le)
 
-  pub share-inside : (z : ℤ) → Small z → (P (share f z) ≤ P z) × (N (share f z) ≤ N z)
-  share-inside (pos d) h = (part d (h .0), zero-le)
+  pub share-inside : (z : ℤ) → Small z → Inside (share f z) z
+  share-inside (pos d) h = record { over = part d (h .to); under = zero-le }
   share-inside (negsuc k) h =
       let g = flip (pos (f (suc k))) in
-      let l = part (suc k) (h .1) in
-      (omega arith, omega arith)
+      let l = part (suc k) (h .from) in
+      record { over = omega arith; under = omega arith }
 
   -- w is z + b - a
   step : (z w : ℤ) (a b : ℕ) → Small z → Small w → P w + N z + a ≡ P z + N w + b → P (share f z) + N (share f w) ≤ P (share f w) + N (share f z) + a
   step (pos d) (pos e) a b hz hw q =
-      ⊎-elim (λ (l : d ≤ e). let r = s .grows d e (hw .0) l in omega arith) (λ (l : e ≤ d). let r = s .slow e d (hz .0) l in omega arith) (either d e)
+      ⊎-elim (λ (l : d ≤ e). let r = s .grows d e (hw .to) l in omega arith) (λ (l : e ≤ d). let r = s .slow e d (hz .to) l in omega arith) (either d e)
   step (pos d) (negsuc k) a b hz hw q =
       let g = flip (pos (f (suc k))) in
-      let u = part d (hz .0) in
-      let v = part (suc k) (hw .1) in
+      let u = part d (hz .to) in
+      let v = part (suc k) (hw .from) in
       omega arith
   step (negsuc j) (pos e) a b hz hw q = let g = flip (pos (f (suc j))) in omega arith
   step (negsuc j) (negsuc k) a b hz hw q =
       let g = flip (pos (f (suc j))) in
       let h = flip (pos (f (suc k))) in
-      ⊎-elim (λ (l : suc k ≤ suc j). let r = s .grows (suc k) (suc j) (hz .1) l in omega arith) (λ (l : suc j ≤ suc k). let r = s .slow (suc j) (suc k) (hw .1) l in omega arith) (either (suc k) (suc j))
+      ⊎-elim (λ (l : suc k ≤ suc j). let r = s .grows (suc k) (suc j) (hz .from) l in omega arith) (λ (l : suc j ≤ suc k). let r = s .slow (suc j) (suc k) (hw .from) l in omega arith) (either (suc k) (suc j))
 
   -- the night is from m to e, and then from m' to e'
   pub share-later : (m e m' e' : ℤ) → m ≼ m' → e ≼ e' → Small (e -ℤ m) → Small (e' -ℤ m') → m +ℤ share f (e -ℤ m) ≼ m' +ℤ share f (e' -ℤ m')
