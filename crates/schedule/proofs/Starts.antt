@@ -20,4 +20,4 @@ start-near d h =
     let o = ordinal-short d in
     let b = difference (pos (daysBeforeYearOf (d .year) + ordinalOf d)) (pos 719529) in
     let t = times (pos (daysBeforeYearOf (d .year) + ordinalOf d) -ℤ pos 719529) 86400 in
-    (omega (arith, b .0, b .1), omega (arith, b .0, b .1))
+    record { from = omega (arith, b .0, b .1); to = omega (arith, b .0, b .1) }
