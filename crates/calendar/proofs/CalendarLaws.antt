@@ -7,10 +7,11 @@ use native.Mathlib.Omega.{arith}
 use lib.IntN.{ℤ, pos, negsuc, _+ℤ_, +ℤ-idr}
 use lib.Dec.{lit<}
 use lib.Signed.{leZ}
-use Rattle.integers.specs.Parts.{P, N, same, not-negative}
-use Rattle.integers.specs.Sums.{sum, difference}
-use Rattle.integers.specs.Order.{le-yes, to-le}
-use Rattle.integers.specs.Quotients.{floored}
+use Rattle.integers.specs.Parts.{P, N}
+use Rattle.integers.proofs.PartsLaws.{same, not-negative}
+use Rattle.integers.proofs.Sums.{sum, difference}
+use Rattle.integers.proofs.OrderLaws.{le-yes, to-le}
+use Rattle.integers.proofs.QuotientLaws.{floored}
 use Rattle.calendar.specs.Gregorian.{dateOf, leapOf, existsOf, dayAfterOf, dayBeforeOf}
 use Rattle.calendar.specs.Days.{daysInYearOf, ordinalOf, daysBeforeYearOf, dayNumberOf, dateAtOf, dateOfDayOf, weekdayOf}
 use Rattle.calendar.specs.declared.dates.Date.{Date}

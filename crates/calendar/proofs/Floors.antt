@@ -8,11 +8,13 @@ use lib.IntN.{ℤ, pos, negsuc, negℤ, _-ℤ_}
 use lib.Signed.{ltZ, quotZ, remZ}
 use mir.Syntax.{w64}
 use mir.Val.{SFits}
-use Rattle.integers.specs.Parts.{P, N, same}
-use Rattle.integers.specs.Sums.{flip, difference}
-use Rattle.integers.specs.Quotients.{floorQuot, divided}
-use Rattle.integers.specs.Order.{lt-yes, lt-no}
-use Rattle.integers.specs.Ranges.{readBack, read, range, fits}
+use Rattle.integers.specs.Parts.{P, N}
+use Rattle.integers.proofs.PartsLaws.{same}
+use Rattle.integers.proofs.Sums.{flip, difference}
+use Rattle.integers.specs.Quotients.{floorQuot}
+use Rattle.integers.proofs.QuotientLaws.{divided}
+use Rattle.integers.proofs.OrderLaws.{lt-yes, lt-no}
+use Rattle.integers.proofs.Ranges.{readBack, read, range, fits}
 
 abbrev day : ℤ
 day = pos 86400

@@ -9,11 +9,12 @@ use lib.Signed.{ltZ, quotZ, remZ, nonNeg}
 use mir.Syntax.{w64, w32}
 use mir.Val.{SFits, Fits, toZ}
 use borrow.Author.Tests.{le-leb, lt-leb}
-use Rattle.integers.specs.Parts.{P, N, natural, not-negative, not-positive}
-use Rattle.integers.specs.Sums.{sum, difference}
-use Rattle.integers.specs.Order.{lt-yes, lt-no}
-use Rattle.integers.specs.Quotients.{divided, floored}
-use Rattle.integers.specs.Ranges.{range, fits, readBack, read}
+use Rattle.integers.specs.Parts.{P, N}
+use Rattle.integers.proofs.PartsLaws.{natural, not-negative, not-positive}
+use Rattle.integers.proofs.Sums.{sum, difference}
+use Rattle.integers.proofs.OrderLaws.{lt-yes, lt-no}
+use Rattle.integers.proofs.QuotientLaws.{divided, floored}
+use Rattle.integers.proofs.Ranges.{range, fits, readBack, read}
 use Rattle.calendar.specs.Days.{dayNumberOf, weekdayOf}
 use Rattle.calendar.specs.Answers.{sinceFirstOf}
 use Rattle.calendar.specs.declared.dates.Date.{Date}

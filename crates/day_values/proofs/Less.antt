@@ -4,8 +4,8 @@ use native.Mathlib.Omega.{arith}
 use lib.IntN.{ℤ, pos, _-ℤ_}
 use mir.Syntax.{Width}
 use mir.Val.{SFits, toZ, hbits}
-use Rattle.integers.specs.Sums.{difference}
-use Rattle.integers.specs.Ranges.{fits, read}
+use Rattle.integers.proofs.Sums.{difference}
+use Rattle.integers.proofs.Ranges.{fits, read}
 
 pub less-fits : (w : Width) (n k : ℕ) → n < 2 ^ hbits w → k ≤ 2 ^ hbits w → SFits w (toZ w n -ℤ pos k)
 less-fits w n k h l =

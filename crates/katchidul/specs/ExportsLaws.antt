@@ -5,7 +5,7 @@ use mathlib.Core.Path.{_≡_, sym}
 use mathlib.Core.List.{List}
 use lib.IntN.{pos}
 use lib.ListN.{length}
-use Rattle.integers.specs.Parts.{natural}
+use Rattle.integers.proofs.PartsLaws.{natural}
 use Rattle.fields.specs.Values.{offsetOf}
 use Rattle.order.specs.declared.reading.Order.{Order}
 use Rattle.order.specs.declared.reading.Reading.the-variants.{Read}

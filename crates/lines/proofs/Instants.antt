@@ -8,10 +8,10 @@ use lib.Signed.{ltZ}
 use mir.Syntax.{w64}
 use mir.Val.{SFits, Fits}
 use Rattle.integers.specs.Parts.{P, N}
-use Rattle.integers.specs.Sums.{difference, times}
-use Rattle.integers.specs.Order.{lt-yes, lt-no}
+use Rattle.integers.proofs.Sums.{difference, times}
+use Rattle.integers.proofs.OrderLaws.{lt-yes, lt-no}
 use Rattle.integers.specs.Quotients.{floorQuot, floorRem}
-use Rattle.integers.specs.Ranges.{range, fits}
+use Rattle.integers.proofs.Ranges.{range, fits}
 use Rattle.calendar.specs.Days.{dayNumberOf}
 use Rattle.calendar.specs.declared.dates.Date.{Date}
 use Rattle.schedule.proofs.Starts.{start-near}

@@ -6,8 +6,8 @@ use lib.IntN.{ℤ, pos}
 use lib.Signed.{quotZ}
 use mir.Syntax.{w64}
 use mir.Val.{SFits}
-use Rattle.integers.specs.Quotients.{divided}
-use Rattle.integers.specs.Ranges.{range, fits, readBack, read}
+use Rattle.integers.proofs.QuotientLaws.{divided}
+use Rattle.integers.proofs.Ranges.{range, fits, readBack, read}
 use Rattle.night.specs.Portions.{seventhOf}
 
 module _ (night : ℤ) (f : SFits w64 night) where

@@ -8,7 +8,7 @@ use lib.Dec.{lit<, lit≤}
 use lib.IntN.{pos}
 use lib.Ieee.{Float, neg, le, toSigned}
 use Rattle.integers.specs.Parts.{P, N}
-use Rattle.integers.specs.Sums.{flip}
+use Rattle.integers.proofs.Sums.{flip}
 use Rattle.float64.specs.Ops.{_*ᶠ_, dec}
 use Rattle.float64.specs.Whole.{roundOf}
 use Rattle.float64.specs.Words.{isNegativeOf}

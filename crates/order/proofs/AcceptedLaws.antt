@@ -11,7 +11,7 @@ use lib.IntN.{ℤ, pos, negsuc}
 use lib.Signed.{leZ}
 use borrow.Author.Tests.{leb-true}
 use Rattle.integers.specs.Parts.{P, N, Near}
-use Rattle.integers.specs.Order.{le-yes}
+use Rattle.integers.proofs.OrderLaws.{le-yes}
 use Rattle.float64.specs.Ops.{dec}
 use Rattle.calendar.specs.declared.dates.Date.{Date}
 use Rattle.calendar.specs.Gregorian.{existsOf}
@@ -64,8 +64,8 @@ minute-within m e =
     go m (le-yes (negsuc 719) m (a .0)) (le-yes m (pos 720) (a .1))
   where
     go : (z : ℤ) → P (negsuc 719) + N z ≤ P z + N (negsuc 719) → P z + N (pos 720) ≤ P (pos 720) + N z → Near 720 z
-    go (pos n) l h = (omega arith, omega arith)
-    go (negsuc n) l h = (omega arith, omega arith)
+    go (pos n) l h = record { from = omega arith; to = omega arith }
+    go (negsuc n) l h = record { from = omega arith; to = omega arith }
 
 minutes-within : (m : TimeAdjustment) → minutesFit m ≡ true → (prayer : Prayer) → Near 720 (minutesFor prayer m)
 unfolding minutesFit minutesFor
@@ -85,8 +85,8 @@ minutes-within m e prayer =
     go Asr a b c d e f = minute-within (m .asr) d
     go Maghrib a b c d e f = minute-within (m .maghrib) e
     go Isha a b c d e f = minute-within (m .isha) f
-    go Qiyam a b c d e f = (lit≤ tt, lit≤ tt)
-    go FajrTomorrow a b c d e f = (lit≤ tt, lit≤ tt)
+    go Qiyam a b c d e f = record { from = lit≤ tt; to = lit≤ tt }
+    go FajrTomorrow a b c d e f = record { from = lit≤ tt; to = lit≤ tt }
 
 -- ---- what a tag gives, or stands for it, is in range
 module _ (v : Values) where

@@ -8,10 +8,11 @@ use lib.IntN.{ℤ, pos, negsuc, natAbs, _-ℤ_}
 use lib.Signed.{ltZ, nonNeg}
 use mir.Syntax.{w32, w64}
 use mir.Val.{SFits, Fits}
-use Rattle.integers.specs.Parts.{P, N, same, natural, not-positive}
-use Rattle.integers.specs.Order.{lt-yes, lt-no}
-use Rattle.integers.specs.Ranges.{range, fits, readBack, read, wide, read-wide}
-use Rattle.integers.specs.Sums.{difference}
+use Rattle.integers.specs.Parts.{P, N}
+use Rattle.integers.proofs.PartsLaws.{same, natural, not-positive}
+use Rattle.integers.proofs.OrderLaws.{lt-yes, lt-no}
+use Rattle.integers.proofs.Ranges.{range, fits, readBack, read, wide, read-wide}
+use Rattle.integers.proofs.Sums.{difference}
 
 size-parts : (z : ℤ) → natAbs z ≡ P z + N z
 size-parts (pos n) = omega arith

@@ -7,7 +7,7 @@ use lib.Dec.{lit≤}
 use lib.IntN.{pos}
 use lib.Ieee.{round, le}
 use Rattle.integers.specs.Parts.{Near}
-use Rattle.integers.specs.Sums.{flip}
+use Rattle.integers.proofs.Sums.{flip}
 use Rattle.float64.specs.Ops.{dec}
 use Rattle.models.specs.declared.adjustments.TimeAdjustment.{TimeAdjustment}
 use Rattle.models.specs.declared.method.Method.{Method}

@@ -8,7 +8,7 @@ use lib.Dec.{eqb, eqb→eq, lit≤}
 use lib.IntN.{ℤ, pos, negsuc, _+ℤ_, _-ℤ_, _*ℤ_}
 use borrow.Author.Tests.{eqb-true, eqb-false}
 use Rattle.integers.specs.Parts.{P, N}
-use Rattle.integers.specs.Sums.{sum, difference, times}
+use Rattle.integers.proofs.Sums.{sum, difference, times}
 use Rattle.integers.specs.Order.{_≼_}
 use Rattle.calendar.proofs.Computed.{at}
 use Rattle.models.specs.declared.prayer.Prayer.{Prayer}

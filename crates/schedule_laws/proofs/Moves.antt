@@ -6,8 +6,9 @@ use native.Mathlib.Omega.{arith}
 use lib.Dec.{lit≤}
 use lib.IntN.{ℤ, pos, _+ℤ_, _-ℤ_, _*ℤ_, +ℤ-assoc}
 use lib.Ieee.{Float}
-use Rattle.integers.specs.Parts.{same, Near}
-use Rattle.integers.specs.Sums.{sum, difference, times}
+use Rattle.integers.specs.Parts.{Near}
+use Rattle.integers.proofs.PartsLaws.{same}
+use Rattle.integers.proofs.Sums.{sum, difference, times}
 use Rattle.integers.specs.Order.{_≼_}
 use Rattle.calendar.specs.Answers.{tomorrowOf}
 use Rattle.calendar.specs.declared.dates.Date.{Date}
@@ -19,10 +20,10 @@ use Rattle.models.specs.declared.rounding.Rounding.{Rounding}
 use Rattle.models.specs.declared.rounding.Rounding.the-variants.{Nearest}
 use Rattle.models.specs.Settings.{timeAdjustmentsOf}
 use Rattle.stride.specs.Times.{roundedOf, adjustedOf}
-use Rattle.stride.specs.TimesLaws.{rounded-adjusted, rounded-mono}
+use Rattle.stride.proofs.TimesLaws.{rounded-adjusted, rounded-mono}
 use Rattle.night.specs.Portions.{middleOf, lastThirdOf}
-use Rattle.night.specs.Steady.{Small}
-use Rattle.night.specs.PortionsLaws.{middle-later, last-third-later}
+use Rattle.night.proofs.Steady.{Small}
+use Rattle.night.proofs.PortionsLaws.{middle-later, last-third-later}
 use Rattle.solar.specs.declared.setting.SolarHour.{SolarHour}
 use Rattle.solar.specs.declared.setting.SolarHour.the-variants.{At, None}
 use Rattle.solar.specs.declared.times.SolarTime.{SolarTime}

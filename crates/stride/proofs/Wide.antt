@@ -7,9 +7,9 @@ use lib.IntN.{ℤ, pos, _+ℤ_, _-ℤ_}
 use lib.Signed.{quotZ}
 use mir.Syntax.{w64, w32}
 use mir.Val.{SFits}
-use Rattle.integers.specs.Sums.{sum, difference}
-use Rattle.integers.specs.Quotients.{divided}
-use Rattle.integers.specs.Ranges.{range, fits, readBack, read}
+use Rattle.integers.proofs.Sums.{sum, difference}
+use Rattle.integers.proofs.QuotientLaws.{divided}
+use Rattle.integers.proofs.Ranges.{range, fits, readBack, read}
 use Rattle.stride.specs.Julian.{correctionOf}
 
 -- ---- 2 - a + a / 4, where a is year / 100

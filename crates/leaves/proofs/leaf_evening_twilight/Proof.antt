@@ -1,6 +1,6 @@
 use mathlib.Core.Path.{_≡_, ap, _∙_}
 use mir.Syntax.{w64}
-use Rattle.integers.specs.Ranges.{readBack, read}
+use Rattle.integers.proofs.Ranges.{readBack, read}
 use lib.IntN.{ℤ}
 use Rattle.ops.specs.Season.{seasonAdjustedEveningTwilightOf}
 use borrow.Author.Needs.{needs}

@@ -1,6 +1,6 @@
 use mathlib.Core.Path.{_≡_, ap, _∙_}
 use mir.Syntax.{w64}
-use Rattle.integers.specs.Ranges.{readBack, read}
+use Rattle.integers.proofs.Ranges.{readBack, read}
 use Rattle.ops.specs.Season.{seasonAdjustedMorningTwilightOf}
 use borrow.Author.Needs.{needs}
 use Rattle.leaves.proofs.leaf_morning_twilight.Statement.{statement}

@@ -4,7 +4,7 @@ use lib.IntN.{ℤ}
 use mir.Syntax.{w64}
 use mir.Val.{SFits}
 use borrow.Author.Needs.{needs}
-use Rattle.integers.specs.Ranges.{read}
+use Rattle.integers.proofs.Ranges.{read}
 use Rattle.schedule.specs.declared.prayer_times.Worked.the-variants as worked
 use Rattle.calls.specs.Calls.{instantOf, instantFits, workAtOf}
 use Rattle.calls.proofs.in_force.work_at.Statement.{statement}

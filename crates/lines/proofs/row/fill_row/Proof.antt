@@ -6,7 +6,7 @@ use mathlib.Core.List.{List}
 use lib.IntN.{pos}
 use lib.ListN.{length, getD}
 use mir.Syntax.{w64}
-use Rattle.integers.specs.Ranges.{readBack}
+use Rattle.integers.proofs.Ranges.{readBack}
 use Rattle.text.specs.Text.{frontOf}
 use Rattle.lines.specs.Lines.{timeText, rowBytes}
 use Rattle.lines.proofs.Parts.{partText, date-put, time-put, newline-put}

@@ -1,6 +1,6 @@
 use mathlib.Core.Path.{_≡_, sym, ap, subst, _∙_}
 use mir.Syntax.{w64}
-use Rattle.integers.specs.Ranges.{readBack, read}
+use Rattle.integers.proofs.Ranges.{readBack, read}
 use Rattle.lines.proofs.Instants as instants
 use Prim.Native.Nat.{_^_, _<_}
 use lib.IntN.{ℤ, _-ℤ_}

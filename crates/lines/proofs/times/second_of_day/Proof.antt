@@ -1,5 +1,5 @@
 use mir.Syntax.{w64}
-use Rattle.integers.specs.Ranges.{read}
+use Rattle.integers.proofs.Ranges.{read}
 use Rattle.lines.proofs.Instants as instants
 use native.Mathlib.Omega.{arith}
 use borrow.Author.Needs.{needs}

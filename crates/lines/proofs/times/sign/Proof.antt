@@ -1,5 +1,5 @@
 use mir.Syntax.{w64}
-use Rattle.integers.specs.Ranges.{read}
+use Rattle.integers.proofs.Ranges.{read}
 use Rattle.lines.proofs.Instants as instants
 use Rattle.lines.proofs.times.sign.Statement.{statement}
 use Rattle.lines.proofs.times.sign.Tie as tie

@@ -1,6 +1,6 @@
 use mathlib.Core.Path.{sym, ap, subst, _∙_}
 use mir.Syntax.{w64}
-use Rattle.integers.specs.Ranges.{read}
+use Rattle.integers.proofs.Ranges.{read}
 use Rattle.lines.proofs.Instants as instants
 use Prim.Native.Nat.{ℕ, _+_}
 use mir.Val.{Fits}

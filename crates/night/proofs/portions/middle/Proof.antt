@@ -1,6 +1,6 @@
 use mir.Syntax.{w64}
 use mir.Val.{SFits}
-use Rattle.integers.specs.Ranges.{read}
+use Rattle.integers.proofs.Ranges.{read}
 use lib.Ieee.{round, ofBits}
 use Rattle.float64.specs.Ops.{dec}
 use Rattle.night.specs.Portions.{middleOf}

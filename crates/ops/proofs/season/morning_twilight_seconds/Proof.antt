@@ -1,7 +1,7 @@
 use mathlib.Core.Path.{_≡_, _∙_}
 use lib.Ieee.{round, ofBits}
 use mir.Syntax.{w32}
-use Rattle.integers.specs.Ranges.{readBack}
+use Rattle.integers.proofs.Ranges.{readBack}
 use Rattle.float64.specs.Ops.{dec}
 use Rattle.ops.specs.Season.{morningSecondsOf}
 use borrow.Author.Needs.{needs}

@@ -1,8 +1,8 @@
 use mathlib.Core.Path.{_≡_, ap, _∙_}
 use mir.Syntax.{w32, w64}
 use mir.Val.{SFits}
-use Rattle.integers.specs.Ranges.{readBack, read, wide, read-wide}
-use Rattle.integers.specs.Sums.{summands}
+use Rattle.integers.proofs.Ranges.{readBack, read, wide, read-wide}
+use Rattle.integers.proofs.Sums.{summands}
 use Rattle.stride.specs.Times.{satOf}
 use borrow.Author.Needs.{needs}
 use Rattle.ops.proofs.season.season_adjusted_morning_twilight.Statement.{statement}

@@ -1,7 +1,7 @@
 use mathlib.Core.Path.{_≡_, ap, _∙_}
 use mir.Syntax.{w32}
 use lib.Ieee.{binary64, ofInt}
-use Rattle.integers.specs.Ranges.{readBack}
+use Rattle.integers.proofs.Ranges.{readBack}
 use Rattle.schedule.specs.Numbers.{asrNumberOf}
 use lib.IntN.{ℤ}
 use Rattle.solar.specs.Shared.{courseAfternoonNumberOf}

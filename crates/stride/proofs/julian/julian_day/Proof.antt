@@ -3,7 +3,7 @@ use mathlib.Core.Bool.{true, false}
 use lib.IntN.{pos}
 use lib.Signed.{ltZ}
 use mir.Syntax.{w32}
-use Rattle.integers.specs.Ranges.{read}
+use Rattle.integers.proofs.Ranges.{read}
 use Rattle.stride.specs.Julian.{julianDayOf}
 use Rattle.stride.proofs.Wide.{wide-fits, wide-read, less-one-fits, less-one-read, more-twelve-fits, more-twelve-read}
 use borrow.Author.Needs.{needs}

@@ -1,5 +1,5 @@
 use mir.Syntax.{w64}
-use Rattle.integers.specs.Ranges.{read}
+use Rattle.integers.proofs.Ranges.{read}
 use native.Mathlib.Omega.{arith}
 use Rattle.calendar.specs.Days.{dateAtOf}
 use Rattle.calendar.proofs.ByCount.{days-fit, year-fits, rest, since-held}

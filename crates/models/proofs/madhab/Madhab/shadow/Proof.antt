@@ -2,7 +2,7 @@ use lib.Dec.{lit<}
 use lib.IntN.{pos}
 use mir.Syntax.{w32}
 use mir.Val.{SFits}
-use Rattle.integers.specs.Ranges.{read}
+use Rattle.integers.proofs.Ranges.{read}
 use Rattle.models.specs.declared.madhab.Madhab.{Madhab}
 use Rattle.models.specs.declared.madhab.Madhab.the-variants.{Shafi, Hanafi}
 use Rattle.models.specs.Numbers.{madhabNumberOf}

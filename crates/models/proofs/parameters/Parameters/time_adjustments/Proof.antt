@@ -1,9 +1,9 @@
 use native.Mathlib.Omega.{arith}
-use Rattle.integers.specs.Sums.{sum, summands}
+use Rattle.integers.proofs.Sums.{sum, summands}
 use mathlib.Core.Path.{_≡_, _∙_}
 use mir.Syntax.{w32, w64}
 use mir.Val.{SFits}
-use Rattle.integers.specs.Ranges.{range, readBack, read}
+use Rattle.integers.proofs.Ranges.{range, readBack, read}
 use Rattle.models.specs.Settings.{timeAdjustmentsOf}
 use borrow.Author.Needs.{needs}
 use Rattle.models.proofs.parameters.Parameters.time_adjustments.Statement.{statement}

@@ -1,6 +1,6 @@
 use mathlib.Core.Path.{sym, ap, _∙_}
 use mir.Syntax.{w64}
-use Rattle.integers.specs.Ranges.{read}
+use Rattle.integers.proofs.Ranges.{read}
 use Rattle.models.specs.Names.{isFridayOf}
 use Rattle.models.specs.Names.{nameOf}
 use borrow.Author.Needs.{needs}
