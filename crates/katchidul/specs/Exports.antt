@@ -15,8 +15,7 @@ use Rattle.order.specs.declared.reading.Order.{Order}
 use Rattle.order.specs.declared.reading.Reading.{Reading}
 use Rattle.order.specs.declared.reading.Reading.the-variants as reading
 use Rattle.order.specs.Reading.{readingOf}
-use Rattle.schedule.specs.declared.in_force.Current.{Current}
-use Rattle.schedule.specs.declared.in_force.Current.the-variants.{Some, None}
+use Rattle.schedule.specs.InForce.{currentNumberOf}
 use Rattle.schedule.specs.declared.prayer_times.PrayerTimes.{PrayerTimes}
 use Rattle.schedule.specs.declared.prayer_times.Worked.{Worked}
 use Rattle.schedule.specs.declared.prayer_times.Worked.the-variants as worked
@@ -116,10 +115,6 @@ dayAnswerOf (worked.Times t) = record { number = 0; place = 0; times = timesAnsw
 dayAnswerOf (worked.Refused r) = record { number = r .number; place = r .place; times = noTimesAnswer }
 
 -- ---- a prayer: 0 is none, which is an answer
-unfoldable pub currentNumberOf : Current → ℕ
-currentNumberOf (Some p) = prayerNumberOf p
-currentNumberOf None = 0
-
 unfoldable pub prayerAnswerOf : Named → KatchidulPrayer
 prayerAnswerOf (named.Prayer p) = record { number = 0; place = 0; prayer = currentNumberOf p }
 prayerAnswerOf (named.Refused r) = record { number = r .number; place = r .place; prayer = 0 }

@@ -30,17 +30,16 @@ use Rattle.schedule.specs.declared.in_force.Instant.{Instant}
 use Rattle.schedule.specs.declared.prayer_times.PrayerTimes.{PrayerTimes}
 use Rattle.schedule.specs.declared.prayer_times.Worked.{Worked}
 use Rattle.schedule.specs.declared.prayer_times.Worked.the-variants as worked
-use Rattle.schedule.specs.InForce.{currentTimeOf}
+use Rattle.schedule.specs.InForce.{currentTimeOf, currentNumberOf}
 use Rattle.schedule.specs.Times.{workedAt}
-use Rattle.schedule_laws.specs.Later.{withMinutes, LaterMinutes, Moved, placeOf}
+use Rattle.schedule_laws.specs.Later.{withMinutes, LaterMinutes, Moved}
 use Rattle.schedule_laws.proofs.CarriedLaws.{carried-held}
 use Rattle.order_laws.proofs.AcceptedParameters.{accepted-carried}
-use Rattle.schedule_laws.proofs.InForceLaws.{not-after-by-parts}
 use Rattle.schedule_laws.proofs.LaterLaws.{later-minutes-move-the-row}
 use Rattle.calls.specs.declared.in_force.Named.{Named}
 use Rattle.calls.specs.declared.in_force.Named.the-variants as named
 use Rattle.calls.specs.Calls.{workRowOf, workReadingOf, workDayOf, instantFits, instantOf, namedOf, prayerAtOf}
-use Rattle.minutes.specs.Minutes.{withOwnMinutes, LaterOrder, NotAfter, MovedRow, LaterOrdersMoveTheirRows}
+use Rattle.minutes.specs.Minutes.{withOwnMinutes, LaterOrder, MovedRow, LaterOrdersMoveTheirRows}
 
 -- ---- what an accepted order's sums can be
 held : (order : Order) → Accepted order → (prayer : Prayer) → Near (2 ^ 32) (timeAdjustmentsOf (order .parameters) prayer)
@@ -179,8 +178,8 @@ later-orders-move-their-rows a b orders row =
           let j = instantOf u n in
           let f = named-times (workDayOf a row) i x (sym (asked a row t m ht) ∙ ex) in
           let g = named-times (workDayOf b row) j y (sym (asked b row u n hu) ∙ ey) in
-          let l = moved .«in_force» (f .times) (g .times) (f .worked-are) (g .worked-are) i j (not-after-by-parts j i (less-than-a-second u n hu) after) in
-          subst (λ (z : Current). placeOf y ≤ placeOf z) (f .current-is) (subst (λ (z : Current). placeOf z ≤ placeOf (currentTimeOf (f .times) i)) (g .current-is) l);
+          let l = moved .«in_force» (f .times) (g .times) (f .worked-are) (g .worked-are) i j (less-than-a-second u n hu) after in
+          subst (λ (z : Current). currentNumberOf y ≤ currentNumberOf z) (f .current-is) (subst (λ (z : Current). currentNumberOf z ≤ currentNumberOf (currentTimeOf (f .times) i)) (g .current-is) l);
       «in_force_refused» = λ t u m n ht hu r e.
           let w = named-refused (workDayOf a row) (instantOf t m) r (sym (asked a row t m ht) ∙ e) in
           asked b row u n hu ∙ refused-named (workDayOf b row) (instantOf u n) r (moved .refused r w);

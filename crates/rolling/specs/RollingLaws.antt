@@ -10,7 +10,7 @@ use Rattle.models.specs.declared.parameters.Parameters.{Parameters}
 use Rattle.ops.specs.Shared.{observerOf}
 use Rattle.solar.specs.Coordinates.{positionOf}
 use Rattle.solar.specs.Hours.{sunOf}
-use Rattle.schedule.specs.Hours.{hoursOf}
+use Rattle.schedule.specs.Hours.{dayHoursOf, rowHoursOf, hoursOf}
 use Rattle.schedule.specs.Numbers.{numbersOf}
 use Rattle.unit.specs.declared.Coordinates.{Coordinates}
 use Rattle.rolling.specs.declared.DaySun.{DaySun}
@@ -19,7 +19,7 @@ use Rattle.rolling.specs.Rolling.{daySunOf, rollingOf, nextRollingOf, ro
 
 pub rolled-hours : (date : Date) (place : Coordinates) (p : Parameters)
     → rollingHoursOf (place .latitude) p (rollingOf date place p) ≡ hoursOf (numbersOf date place p)
-unfolding rollingHoursOf rollingOf daySunOf hoursOf numbersOf
+unfolding rollingHoursOf rollingOf daySunOf hoursOf dayHoursOf rowHoursOf numbersOf
 rolled-hours date place p = refl
 
 -- the next row's suns are those of the next date
