@@ -3,7 +3,7 @@ use Prim.Native.Nat.{ℕ}
 use mathlib.Core.Bool.{true, false}
 use lib.IntN.{ℤ, pos}
 use Rattle.models.specs.Minutes.{sixMinutesOf}
-use Rattle.models.specs.Numbers.{methodOf, methodNumberOf, madhabOf, madhabNumberOf, ruleOf, ruleNumberOf, roundingOf, roundingNumberOf, shafaqOf, shafaqNumberOf, prayerNumberOf}
+use Rattle.models.specs.Numbers.{methodOf, methodNumberOf, madhabOf, madhabNumberOf, ruleOf, ruleNumberOf, roundingOf, roundingNumberOf, shafaqOf, shafaqNumberOf}
 use Rattle.models.specs.Presets.{presetOf}
 use Rattle.calendar.specs.declared.dates.Date.{Date}
 use Rattle.unit.specs.declared.Coordinates.{Coordinates}
@@ -15,8 +15,6 @@ use Rattle.schedule.specs.declared.prayer_times.PrayerTimes.{PrayerTimes}
 use Rattle.schedule.specs.declared.prayer_times.Worked.{Worked}
 use Rattle.schedule.specs.declared.prayer_times.Worked.the-variants.{Times, Refused}
 use Rattle.schedule.specs.declared.in_force.Instant.{Instant}
-use Rattle.schedule.specs.declared.in_force.Current.{Current}
-use Rattle.schedule.specs.declared.in_force.Current.the-variants.{Some, None}
 use Rattle.schedule.specs.declared.in_force.Remaining.{Remaining}
 use Rattle.schedule.specs.declared.in_force.Remaining.the-variants.{In, Nothing}
 use Rattle.day_leaves.specs.declared.LeafSun.{LeafSun}
@@ -89,11 +87,6 @@ leafDayOf (Refused r) = record { number = r .number; place = r .place; times = n
 
 abbrev pub instantFrom : ℤ → ℕ → Instant
 instantFrom seconds nanoseconds = record { seconds = seconds; nanoseconds = nanoseconds }
-
--- none is 0
-unfoldable pub currentNumberOf : Current → ℕ
-currentNumberOf (Some p) = prayerNumberOf p
-currentNumberOf None = 0
 
 unfoldable pub leafRemainingOf : Remaining → LeafRemaining
 leafRemainingOf (In t) = record { found = true; hours = t .hours; minutes = t .minutes }

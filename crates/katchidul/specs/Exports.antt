@@ -11,17 +11,16 @@ use Rattle.order.specs.declared.reading.Order.{Order}
 use Rattle.order.specs.declared.reading.Reading.{Reading}
 use Rattle.order.specs.declared.reading.Reading.the-variants as reading
 use Rattle.order.specs.Reading.{readingOf}
-use Rattle.schedule.specs.declared.in_force.Current.{Current}
-use Rattle.schedule.specs.declared.in_force.Current.the-variants.{Some, None}
+use Rattle.schedule.specs.InForce.{currentNumberOf}
 use Rattle.schedule.specs.declared.prayer_times.PrayerTimes.{PrayerTimes}
 use Rattle.schedule.specs.declared.prayer_times.Worked.{Worked}
 use Rattle.schedule.specs.declared.prayer_times.Worked.the-variants as worked
-use Rattle.calls.specs.declared.in_force.Named.{Named}
-use Rattle.calls.specs.declared.in_force.Named.the-variants as named
-use Rattle.calls.specs.declared.in_force.Following.{Following}
-use Rattle.calls.specs.declared.in_force.Following.the-variants as following
-use Rattle.calls.specs.declared.in_force.Left.{Left}
-use Rattle.calls.specs.declared.in_force.Left.the-variants as left
+use Rattle.calls.specs.declared.in_force.InForce.{InForce}
+use Rattle.calls.specs.declared.in_force.InForce.the-variants as force
+use Rattle.calls.specs.declared.in_force.NextPrayer.{NextPrayer}
+use Rattle.calls.specs.declared.in_force.NextPrayer.the-variants as next
+use Rattle.calls.specs.declared.in_force.TimeUntil.{TimeUntil}
+use Rattle.calls.specs.declared.in_force.TimeUntil.the-variants as until
 use Rattle.katchidul.specs.declared.KatchidulMinutes.{KatchidulMinutes}
 use Rattle.katchidul.specs.declared.KatchidulOrder.{KatchidulOrder}
 use Rattle.katchidul.specs.declared.KatchidulTimes.{KatchidulTimes}
@@ -105,22 +104,18 @@ dayAnswerOf (worked.Times t) = record { number = 0; place = 0; times = timesAnsw
 dayAnswerOf (worked.Refused r) = record { number = r .number; place = r .place; times = noTimesAnswer }
 
 -- ---- a prayer: 0 is none, which is an answer
-unfoldable pub currentNumberOf : Current → ℕ
-currentNumberOf (Some p) = prayerNumberOf p
-currentNumberOf None = 0
+unfoldable pub prayerAnswerOf : InForce → KatchidulPrayer
+prayerAnswerOf (force.Prayer p) = record { number = 0; place = 0; prayer = currentNumberOf p }
+prayerAnswerOf (force.Refused r) = record { number = r .number; place = r .place; prayer = 0 }
 
-unfoldable pub prayerAnswerOf : Named → KatchidulPrayer
-prayerAnswerOf (named.Prayer p) = record { number = 0; place = 0; prayer = currentNumberOf p }
-prayerAnswerOf (named.Refused r) = record { number = r .number; place = r .place; prayer = 0 }
-
-unfoldable pub nextAnswerOf : Following → KatchidulPrayer
-nextAnswerOf (following.Prayer p) = record { number = 0; place = 0; prayer = prayerNumberOf p }
-nextAnswerOf (following.Refused r) = record { number = r .number; place = r .place; prayer = 0 }
+unfoldable pub nextAnswerOf : NextPrayer → KatchidulPrayer
+nextAnswerOf (next.Prayer p) = record { number = 0; place = 0; prayer = prayerNumberOf p }
+nextAnswerOf (next.Refused r) = record { number = r .number; place = r .place; prayer = 0 }
 
 -- ---- the time until the next one
-unfoldable pub remainingAnswerOf : Left → KatchidulRemaining
-remainingAnswerOf (left.Time t) = record { number = 0; place = 0; hours = t .hours; minutes = t .minutes }
-remainingAnswerOf (left.Refused r) = record { number = r .number; place = r .place; hours = 0; minutes = 0 }
+unfoldable pub remainingAnswerOf : TimeUntil → KatchidulRemaining
+remainingAnswerOf (until.Time t) = record { number = 0; place = 0; hours = t .hours; minutes = t .minutes }
+remainingAnswerOf (until.Refused r) = record { number = r .number; place = r .place; hours = 0; minutes = 0 }
 
 -- ---- a row in a lent buffer: number and place are all that it answers
 unfoldable pub replyOf : Refusal → KatchidulReply

@@ -1,13 +1,14 @@
 // What a host calls from C (added): each answer a struct by value, as include/katchidul.h declares it.
 ghost use mathlib.Core.Path.{_≡_};
 ghost use Rattle.integers.specs.Parts.{P};
-ghost use Rattle.calls.specs.Calls.{workDayOf, prayerAtOf, nextAtOf, remainingAtOf};
+ghost use Rattle.calls.specs.Calls.{workDayOf, instantOf, prayerAtOf, nextAtOf, remainingAtOf};
 ghost use Rattle.rows.specs.Rows.{rowAnswerOf, rowBufferOf};
-ghost use Rattle.katchidul.specs.Exports.{minutesAnswerOf, noMinutesAnswer, orderRead, orderRefused, orderAnswerOf, timesAnswerOf, noTimesAnswer, dayAnswerOf, currentNumberOf, prayerAnswerOf, nextAnswerOf, remainingAnswerOf, replyOf};
+ghost use Rattle.katchidul.specs.Exports.{minutesAnswerOf, noMinutesAnswer, orderRead, orderRefused, orderAnswerOf, timesAnswerOf, noTimesAnswer, dayAnswerOf, prayerAnswerOf, nextAnswerOf, remainingAnswerOf, replyOf};
+ghost use Rattle.schedule.specs.InForce.{currentNumberOf};
 use calls::day::work_day;
-use calls::in_force::Following;
-use calls::in_force::Left;
-use calls::in_force::Named;
+use calls::in_force::InForce;
+use calls::in_force::NextPrayer;
+use calls::in_force::TimeUntil;
 use calls::in_force::next_at;
 use calls::in_force::prayer_at;
 use calls::in_force::remaining_at;
@@ -18,6 +19,7 @@ use order::reading::read;
 use refusals::Refusal;
 use rows::row::write_row;
 use schedule::in_force::Current;
+use schedule::in_force::Instant;
 use schedule::prayer_times::PrayerTimes;
 use schedule::prayer_times::Worked;
 
@@ -261,6 +263,15 @@ pub extern "C" fn katchidul_work_day(order: &[u8], row: u32) -> KatchidulDay
     day_answer(work_day(order, row))
 }
 
+fn instant(seconds: i64, nanoseconds: u32) -> Instant
+    ensures { λ r. ⌜ r ≡ instantOf seconds nanoseconds ⌝ }
+{
+    Instant {
+        seconds: seconds,
+        nanoseconds: nanoseconds,
+    }
+}
+
 fn current_number(current: Current) -> u32
     ensures { λ r. ⌜ r ≡ currentNumberOf current ⌝ }
 {
@@ -270,16 +281,16 @@ fn current_number(current: Current) -> u32
     }
 }
 
-fn prayer_answer(named: Named) -> KatchidulPrayer
-    ensures { λ r. ⌜ r ≡ prayerAnswerOf named ⌝ }
+fn prayer_answer(answer: InForce) -> KatchidulPrayer
+    ensures { λ r. ⌜ r ≡ prayerAnswerOf answer ⌝ }
 {
-    match named {
-        Named::Prayer(current) => KatchidulPrayer {
+    match answer {
+        InForce::Prayer(current) => KatchidulPrayer {
             number: 0,
             place: 0,
             prayer: current_number(current),
         },
-        Named::Refused(refusal) => KatchidulPrayer {
+        InForce::Refused(refusal) => KatchidulPrayer {
             number: refusal.number,
             place: refusal.place,
             prayer: 0,
@@ -294,21 +305,21 @@ pub extern "C" fn katchidul_prayer_at(
     seconds: i64,
     nanoseconds: u32,
 ) -> KatchidulPrayer
-    ensures { λ r. ⌜ r ≡ prayerAnswerOf (prayerAtOf (now (order .entry)) row seconds nanoseconds) ⌝ }
+    ensures { λ r. ⌜ r ≡ prayerAnswerOf (prayerAtOf (now (order .entry)) row (instantOf seconds nanoseconds)) ⌝ }
 {
-    prayer_answer(prayer_at(order, row, seconds, nanoseconds))
+    prayer_answer(prayer_at(order, row, instant(seconds, nanoseconds)))
 }
 
-fn next_answer(following: Following) -> KatchidulPrayer
-    ensures { λ r. ⌜ r ≡ nextAnswerOf following ⌝ }
+fn next_answer(answer: NextPrayer) -> KatchidulPrayer
+    ensures { λ r. ⌜ r ≡ nextAnswerOf answer ⌝ }
 {
-    match following {
-        Following::Prayer(prayer) => KatchidulPrayer {
+    match answer {
+        NextPrayer::Prayer(prayer) => KatchidulPrayer {
             number: 0,
             place: 0,
             prayer: prayer.number(),
         },
-        Following::Refused(refusal) => KatchidulPrayer {
+        NextPrayer::Refused(refusal) => KatchidulPrayer {
             number: refusal.number,
             place: refusal.place,
             prayer: 0,
@@ -323,22 +334,22 @@ pub extern "C" fn katchidul_next_at(
     seconds: i64,
     nanoseconds: u32,
 ) -> KatchidulPrayer
-    ensures { λ r. ⌜ r ≡ nextAnswerOf (nextAtOf (now (order .entry)) row seconds nanoseconds) ⌝ }
+    ensures { λ r. ⌜ r ≡ nextAnswerOf (nextAtOf (now (order .entry)) row (instantOf seconds nanoseconds)) ⌝ }
 {
-    next_answer(next_at(order, row, seconds, nanoseconds))
+    next_answer(next_at(order, row, instant(seconds, nanoseconds)))
 }
 
-fn remaining_answer(left: Left) -> KatchidulRemaining
-    ensures { λ r. ⌜ r ≡ remainingAnswerOf left ⌝ }
+fn remaining_answer(answer: TimeUntil) -> KatchidulRemaining
+    ensures { λ r. ⌜ r ≡ remainingAnswerOf answer ⌝ }
 {
-    match left {
-        Left::Time(time) => KatchidulRemaining {
+    match answer {
+        TimeUntil::Time(time) => KatchidulRemaining {
             number: 0,
             place: 0,
             hours: time.hours,
             minutes: time.minutes,
         },
-        Left::Refused(refusal) => KatchidulRemaining {
+        TimeUntil::Refused(refusal) => KatchidulRemaining {
             number: refusal.number,
             place: refusal.place,
             hours: 0,
@@ -354,9 +365,9 @@ pub extern "C" fn katchidul_remaining_at(
     seconds: i64,
     nanoseconds: u32,
 ) -> KatchidulRemaining
-    ensures { λ r. ⌜ r ≡ remainingAnswerOf (remainingAtOf (now (order .entry)) row seconds nanoseconds) ⌝ }
+    ensures { λ r. ⌜ r ≡ remainingAnswerOf (remainingAtOf (now (order .entry)) row (instantOf seconds nanoseconds)) ⌝ }
 {
-    remaining_answer(remaining_at(order, row, seconds, nanoseconds))
+    remaining_answer(remaining_at(order, row, instant(seconds, nanoseconds)))
 }
 
 fn reply(refusal: Refusal) -> KatchidulReply

@@ -6,12 +6,12 @@ use Prim.Native.Nat.{ℕ, _+_, _≤_, _<_, _^_}
 use native.Mathlib.Omega.{arith}
 use lib.Dec.{T, ltb, leb}
 use borrow.Author.Tests.{leb-true}
-use lib.IntN.{ℤ, pos, negsuc}
+use lib.IntN.{pos, negsuc}
 use lib.Signed.{leZ}
 use Rattle.integers.specs.Parts.{Near}
 use Rattle.integers.specs.Order.{_≼_}
 use Rattle.calendar.specs.Answers.{rowDateOf}
-use Rattle.refusals.specs.Refusals.{refusal}
+use Rattle.refusals.specs.Refusals.{noRefusal}
 use Rattle.fields.specs.declared.values.Part.{Part}
 use Rattle.models.specs.declared.adjustments.TimeAdjustment.{TimeAdjustment}
 use Rattle.models.specs.declared.parameters.Parameters.{Parameters}
@@ -31,17 +31,16 @@ use Rattle.schedule.specs.declared.in_force.Instant.{Instant}
 use Rattle.schedule.specs.declared.prayer_times.PrayerTimes.{PrayerTimes}
 use Rattle.schedule.specs.declared.prayer_times.Worked.{Worked}
 use Rattle.schedule.specs.declared.prayer_times.Worked.the-variants as worked
-use Rattle.schedule.specs.InForce.{currentTimeOf}
+use Rattle.schedule.specs.InForce.{currentTimeOf, currentNumberOf}
 use Rattle.schedule.specs.Times.{workedAt}
-use Rattle.schedule_laws.specs.Later.{withMinutes, LaterMinutes, Moved, placeOf}
+use Rattle.schedule_laws.specs.Later.{withMinutes, LaterMinutes, Moved}
 use Rattle.schedule_laws.proofs.CarriedLaws.{carried-held}
 use Rattle.order_laws.proofs.AcceptedParameters.{accepted-carried}
-use Rattle.schedule_laws.proofs.InForceLaws.{not-after-by-parts}
 use Rattle.schedule_laws.proofs.LaterLaws.{later-minutes-move-the-row}
-use Rattle.calls.specs.declared.in_force.Named.{Named}
-use Rattle.calls.specs.declared.in_force.Named.the-variants as named
-use Rattle.calls.specs.Calls.{workRowOf, workReadingOf, workDayOf, instantFits, instantOf, namedOf, prayerAtOf}
-use Rattle.minutes.specs.Minutes.{withOwnMinutes, LaterOrder, NotAfter, MovedRow, LaterOrdersMoveTheirRows}
+use Rattle.calls.specs.declared.in_force.InForce.{InForce}
+use Rattle.calls.specs.declared.in_force.InForce.the-variants as force
+use Rattle.calls.specs.Calls.{lacksRow, workRowOf, workReadingOf, workDayOf, instantFits, workAtOf, inForceOf, prayerAtOf}
+use Rattle.minutes.specs.Minutes.{withOwnMinutes, LaterOrder, MovedRow, LaterOrdersMoveTheirRows}
 
 -- ---- what an accepted order's sums can be
 held : (order : Order) → Accepted order → (prayer : Prayer) → Near (2 ^ 32) (timeAdjustmentsOf (order .parameters) prayer)
@@ -84,61 +83,67 @@ module _ (first : Order) (town : Part) (minutes : TimeAdjustment) (row : ℕ) wh
       later : LaterMinutes p q
       later = record { alike = refl; more = more; «first_held» = held first h; «second_held» = held (withOwnMinutes first town minutes) k }
 
-      by-test : (b : Bool) → Moved p q (cond b (workedAt (rowDateOf (first .date) row) (first .coordinates) p) (worked.Refused (refusal 5 3)))
-          (cond b (workedAt (rowDateOf (first .date) row) (first .coordinates) q) (worked.Refused (refusal 5 3)))
+      by-test : (b : Bool) → Moved p q (cond b (workedAt (rowDateOf (first .date) row) (first .coordinates) p) (worked.Refused lacksRow))
+          (cond b (workedAt (rowDateOf (first .date) row) (first .coordinates) q) (worked.Refused lacksRow))
       by-test true = later-minutes-move-the-row (rowDateOf (first .date) row) (first .coordinates) p q later
-      by-test false = alike-refused p q (refusal 5 3)
+      by-test false = alike-refused p q lacksRow
 
 -- ---- what naming the prayer answers
 -- the prayer of an answer, which a refusal has not
-prayerIn : Named → Current
-prayerIn (named.Prayer x) = x
-prayerIn (named.Refused r) = none.None
+prayerIn : InForce → Current
+prayerIn (force.Prayer x) = x
+prayerIn (force.Refused r) = none.None
 
-refusalIn : Named → Refusal
-refusalIn (named.Prayer x) = refusal 0 0
-refusalIn (named.Refused r) = r
+refusalIn : InForce → Refusal
+refusalIn (force.Prayer x) = noRefusal
+refusalIn (force.Refused r) = r
 
-isPrayer : Named → Type 0
-isPrayer (named.Prayer x) = T true
-isPrayer (named.Refused r) = T false
+isPrayer : InForce → Type 0
+isPrayer (force.Prayer x) = T true
+isPrayer (force.Refused r) = T false
 
-isRefused : Named → Type 0
-isRefused (named.Prayer x) = T false
-isRefused (named.Refused r) = T true
+isRefused : InForce → Type 0
+isRefused (force.Prayer x) = T false
+isRefused (force.Refused r) = T true
 
 record OfTimes (w : Worked) (i : Instant) (x : Current) : Type 0 where
   times : PrayerTimes
   worked-are : w ≡ worked.Times times
   current-is : currentTimeOf times i ≡ x
 
-named-times : (w : Worked) (i : Instant) (x : Current) → namedOf w i ≡ named.Prayer x → OfTimes w i x
-unfolding namedOf prayerIn isPrayer
-named-times (worked.Times t) i x e = record { times = t; worked-are = refl; current-is = ap prayerIn e }
-named-times (worked.Refused r) i x e = absurd (subst isPrayer (sym e) tt)
+prayer-times : (w : Worked) (i : Instant) (x : Current) → inForceOf w i ≡ force.Prayer x → OfTimes w i x
+unfolding inForceOf prayerIn isPrayer
+prayer-times (worked.Times t) i x e = record { times = t; worked-are = refl; current-is = ap prayerIn e }
+prayer-times (worked.Refused r) i x e = absurd (subst isPrayer (sym e) tt)
 
-named-refused : (w : Worked) (i : Instant) (r : Refusal) → namedOf w i ≡ named.Refused r → w ≡ worked.Refused r
-unfolding namedOf refusalIn isRefused
-named-refused (worked.Times t) i r e = absurd (subst isRefused (sym e) tt)
-named-refused (worked.Refused x) i r e = ap worked.Refused (ap refusalIn e)
+refused-day : (w : Worked) (i : Instant) (r : Refusal) → inForceOf w i ≡ force.Refused r → w ≡ worked.Refused r
+unfolding inForceOf refusalIn isRefused
+refused-day (worked.Times t) i r e = absurd (subst isRefused (sym e) tt)
+refused-day (worked.Refused x) i r e = ap worked.Refused (ap refusalIn e)
 
-refused-named : (w : Worked) (i : Instant) (r : Refusal) → w ≡ worked.Refused r → namedOf w i ≡ named.Refused r
-unfolding namedOf
-refused-named w i r e = ap (λ (x : Worked). namedOf x i) e
+day-refused : (w : Worked) (i : Instant) (r : Refusal) → w ≡ worked.Refused r → inForceOf w i ≡ force.Refused r
+unfolding inForceOf
+day-refused w i r e = ap (λ (x : Worked). inForceOf x i) e
 
-asked : (s : List ℕ) (row : ℕ) (seconds : ℤ) (n : ℕ) → instantFits seconds n ≡ true → prayerAtOf s row seconds n ≡ namedOf (workDayOf s row) (instantOf seconds n)
-unfolding prayerAtOf
-asked s row seconds n h = rw h
+asked : (s : List ℕ) (row : ℕ) (i : Instant) → instantFits i ≡ true → prayerAtOf s row i ≡ inForceOf (workDayOf s row) i
+unfolding prayerAtOf workAtOf
+asked s row i h = rw h
+
+-- a day that is refused at one instant is refused at every other
+refused-alike : (s z : List ℕ) (row : ℕ) (i j : Instant) (r : Refusal) → instantFits i ≡ true → instantFits j ≡ true
+    → (workDayOf s row ≡ worked.Refused r → workDayOf z row ≡ worked.Refused r) → prayerAtOf s row i ≡ force.Refused r → prayerAtOf z row j ≡ force.Refused r
+refused-alike s z row i j r hi hj alike e =
+    asked z row j hj ∙ day-refused (workDayOf z row) j r (alike (refused-day (workDayOf s row) i r (sym (asked s row i hi) ∙ e)))
 
 last : (a b c : Bool) → a && b && c ≡ true → c ≡ true
 last true true c h = h
 last true false c h = absurd (subst (λ (x : Bool). T (not x)) h tt)
 last false b c h = absurd (subst (λ (x : Bool). T (not x)) h tt)
 
-less-than-a-second : (seconds : ℤ) (n : ℕ) → instantFits seconds n ≡ true → n < 1000000000
+less-than-a-second : (i : Instant) → instantFits i ≡ true → i .nanoseconds < 1000000000
 unfolding instantFits
-less-than-a-second seconds n h =
-    let l = leb-true n 999999999 (last (leZ (negsuc 999999999999) seconds) (leZ seconds (pos 1000000000000)) (leb n 999999999) h) in
+less-than-a-second i h =
+    let l = leb-true (i .nanoseconds) 999999999 (last (leZ (negsuc 999999999999) (i .seconds)) (leZ (i .seconds) (pos 1000000000000)) (leb (i .nanoseconds) 999999999) h) in
     omega arith
 
 -- ---- the theorem
@@ -175,14 +180,11 @@ later-orders-move-their-rows a b orders row =
     let moved = day a b orders row in
     record {
       day = moved;
-      «in_force» = λ t u m n ht hu after x y ex ey.
-          let i = instantOf t m in
-          let j = instantOf u n in
-          let f = named-times (workDayOf a row) i x (sym (asked a row t m ht) ∙ ex) in
-          let g = named-times (workDayOf b row) j y (sym (asked b row u n hu) ∙ ey) in
-          let l = moved .«in_force» (f .times) (g .times) (f .worked-are) (g .worked-are) i j (not-after-by-parts j i (less-than-a-second u n hu) after) in
-          subst (λ (z : Current). placeOf y ≤ placeOf z) (f .current-is) (subst (λ (z : Current). placeOf z ≤ placeOf (currentTimeOf (f .times) i)) (g .current-is) l);
-      «in_force_refused» = λ t u m n ht hu r e.
-          let w = named-refused (workDayOf a row) (instantOf t m) r (sym (asked a row t m ht) ∙ e) in
-          asked b row u n hu ∙ refused-named (workDayOf b row) (instantOf u n) r (moved .refused r w);
+      «in_force» = λ t u ht hu after x y ex ey.
+          let f = prayer-times (workDayOf a row) t x (sym (asked a row t ht) ∙ ex) in
+          let g = prayer-times (workDayOf b row) u y (sym (asked b row u hu) ∙ ey) in
+          let l = moved .«in_force» (f .times) (g .times) (f .worked-are) (g .worked-are) t u (less-than-a-second u hu) after in
+          subst (λ (z : Current). currentNumberOf y ≤ currentNumberOf z) (f .current-is) (subst (λ (z : Current). currentNumberOf z ≤ currentNumberOf (currentTimeOf (f .times) t)) (g .current-is) l);
+      «in_force_refused» = λ t u ht hu r e. refused-alike a b row t u r ht hu (moved .refused r) e;
+      «in_force_refused_too» = λ t u ht hu r e. refused-alike b a row u t r hu ht (moved .«refused_too» r) e;
     }

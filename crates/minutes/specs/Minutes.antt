@@ -8,9 +8,7 @@
 use mathlib.Core.Path.{_≡_}
 use mathlib.Core.Bool.{true}
 use mathlib.Core.List.{List}
-use mathlib.Core.Logic.{_⊎_}
 use Prim.Native.Nat.{ℕ, _≤_}
-use lib.IntN.{ℤ, pos, _+ℤ_}
 use Rattle.integers.specs.Order.{_≼_}
 use Rattle.fields.specs.declared.values.Part.{Part}
 use Rattle.models.specs.declared.adjustments.TimeAdjustment.{TimeAdjustment}
@@ -21,8 +19,10 @@ use Rattle.order.specs.declared.reading.Order.{Order}
 use Rattle.order.specs.declared.reading.Reading.the-variants.{Read}
 use Rattle.order.specs.Reading.{readingOf, townOf}
 use Rattle.schedule.specs.declared.in_force.Current.{Current}
-use Rattle.schedule_laws.specs.Later.{withMinutes, Moved, placeOf}
-use Rattle.calls.specs.declared.in_force.Named.the-variants as named
+use Rattle.schedule.specs.declared.in_force.Instant.{Instant}
+use Rattle.schedule.specs.InForce.{NotAfter, currentNumberOf}
+use Rattle.schedule_laws.specs.Later.{withMinutes, Moved}
+use Rattle.calls.specs.declared.in_force.InForce.the-variants as force
 use Rattle.calls.specs.Calls.{workDayOf, instantFits, prayerAtOf}
 
 -- an order with other own minutes, tag 11's, whose town stands elsewhere in its bytes, and all else as it was
@@ -48,20 +48,17 @@ pub record LaterOrder (a b : List ℕ) : Type 0 where
   -- "the six prayers are tag 11's"; Qiyam and tomorrow's Fajr have no minutes, so that their sums are equal
   pub more : (prayer : Prayer) → timeAdjustmentsOf (first .parameters) prayer ≼ timeAdjustmentsOf (second .parameters) prayer
 
--- u not after t: "ordered by whole seconds, then nanoseconds"
-abbrev pub NotAfter : ℤ → ℕ → ℤ → ℕ → Type 0
-NotAfter seconds nanoseconds others nanoseconds-of-other = (seconds +ℤ pos 1 ≼ others) ⊎ ((seconds ≡ others) × (nanoseconds ≤ nanoseconds-of-other))
-
 pub record MovedRow (a b : List ℕ) (orders : LaterOrder a b) (row : ℕ) : Type 0 where
   -- what working the row answers: refused alike, none earlier, six times and tomorrow's Fajr by exactly the difference (crates/schedule_laws/specs/Later)
   pub day : Moved (orders .first .parameters) (orders .second .parameters) (workDayOf a row) (workDayOf b row)
   -- what naming the prayer answers, at t for the first and at u for the second
-  pub «in_force» : (t u : ℤ) (t-nanoseconds u-nanoseconds : ℕ) → instantFits t t-nanoseconds ≡ true → instantFits u u-nanoseconds ≡ true
-      → NotAfter u u-nanoseconds t t-nanoseconds → (x y : Current)
-      → prayerAtOf a row t t-nanoseconds ≡ named.Prayer x → prayerAtOf b row u u-nanoseconds ≡ named.Prayer y → placeOf y ≤ placeOf x
+  pub «in_force» : (t u : Instant) → instantFits t ≡ true → instantFits u ≡ true → NotAfter u t → (x y : Current)
+      → prayerAtOf a row t ≡ force.Prayer x → prayerAtOf b row u ≡ force.Prayer y → currentNumberOf y ≤ currentNumberOf x
   -- and it is refused alike
-  pub «in_force_refused» : (t u : ℤ) (t-nanoseconds u-nanoseconds : ℕ) → instantFits t t-nanoseconds ≡ true → instantFits u u-nanoseconds ≡ true
-      → (r : Refusal) → prayerAtOf a row t t-nanoseconds ≡ named.Refused r → prayerAtOf b row u u-nanoseconds ≡ named.Refused r
+  pub «in_force_refused» : (t u : Instant) → instantFits t ≡ true → instantFits u ≡ true → (r : Refusal)
+      → prayerAtOf a row t ≡ force.Refused r → prayerAtOf b row u ≡ force.Refused r
+  pub «in_force_refused_too» : (t u : Instant) → instantFits t ≡ true → instantFits u ≡ true → (r : Refusal)
+      → prayerAtOf b row u ≡ force.Refused r → prayerAtOf a row t ≡ force.Refused r
 
 abbrev pub LaterOrdersMoveTheirRows : Type 0
 LaterOrdersMoveTheirRows = (a b : List ℕ) (orders : LaterOrder a b) (row : ℕ) → MovedRow a b orders row

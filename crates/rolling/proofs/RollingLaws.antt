@@ -9,7 +9,7 @@ use Rattle.calendar.proofs.Successors.{back}
 use Rattle.models.specs.declared.parameters.Parameters.{Parameters}
 use Rattle.ops.specs.Shared.{observerOf}
 use Rattle.solar.specs.Coordinates.{positionOf}
-use Rattle.schedule.specs.Hours.{hoursOf}
+use Rattle.schedule.specs.Hours.{dayHoursOf, rowHoursOf, hoursOf}
 use Rattle.schedule.specs.Numbers.{numbersOf}
 use Rattle.schedule.proofs.SharedLaws.{courseAt, row-shared}
 use Rattle.unit.specs.declared.Coordinates.{Coordinates}
@@ -19,7 +19,7 @@ use Rattle.rolling.specs.Rolling.{daySunOf, rollingOf, nextRollingOf, ro
 
 pub rolled-hours : (date : Date) (place : Coordinates) (p : Parameters)
     → rollingHoursOf (place .latitude) p (rollingOf date place p) ≡ hoursOf (numbersOf date place p)
-unfolding rollingHoursOf rollingOf daySunOf hoursOf
+unfolding rollingHoursOf rollingOf daySunOf hoursOf dayHoursOf rowHoursOf
 rolled-hours date place p = ap hoursOf (row-shared date place p)
 
 -- the next row's suns are those of the next date

@@ -7,9 +7,8 @@ use Rattle.ops.specs.declared.transit.Course.{Course}
 use Rattle.ops.specs.Shared.{observerOf}
 use Rattle.solar.specs.Coordinates.{positionOf}
 use Rattle.solar.specs.Shared.{courseOver, courseAngleNumberOf, courseNumbersOf, courseAfternoonNumberOf}
-use Rattle.solar.specs.Setting.{settingHourOf}
-use Rattle.solar.specs.Times.{solarTimeOf}
 use Rattle.schedule.specs.declared.hours.RowHours.{RowHours}
+use Rattle.schedule.specs.Hours.{dayHoursOf, rowHoursOf}
 use Rattle.schedule.specs.Numbers.{fajrNumberOf, asrNumberOf, ishaNumberOf}
 use Rattle.unit.specs.declared.Coordinates.{Coordinates}
 use Rattle.rolling.specs.declared.DaySun.{DaySun}
@@ -17,7 +16,7 @@ use Rattle.rolling.specs.declared.Rolling.{Rolling}
 
 unfoldable pub daySunOf : Coordinates → Parameters → Course → DaySun
 daySunOf place p course =
-    record { course = course; times = solarTimeOf (courseNumbersOf course); fajr = settingHourOf (fajrNumberOf p (place .latitude) (courseAngleNumberOf course)) }
+    record { course = course; hours = dayHoursOf (courseNumbersOf course) (fajrNumberOf p (place .latitude) (courseAngleNumberOf course)) }
 
 -- a row's, from its date
 unfoldable pub rollingOf : Date → Coordinates → Parameters → Rolling
@@ -55,12 +54,5 @@ nextRollingOf place p r =
 -- the sun's times that the row is worked from
 unfoldable pub rollingHoursOf : Float → Parameters → Rolling → RowHours
 rollingHoursOf latitude p r =
-    record {
-      today = r .today .times;
-      tomorrow = r .tomorrow .times;
-      after = r .after .times;
-      fajr = r .today .fajr;
-      asr = settingHourOf (asrNumberOf p (courseAfternoonNumberOf (r .today .course) latitude));
-      isha = settingHourOf (ishaNumberOf p latitude (courseAngleNumberOf (r .today .course)));
-      «fajr_tomorrow» = r .tomorrow .fajr;
-    }
+    rowHoursOf (r .today .hours) (r .tomorrow .hours) (r .after .hours .sun)
+    (asrNumberOf p (courseAfternoonNumberOf (r .today .course) latitude)) (ishaNumberOf p latitude (courseAngleNumberOf (r .today .course)))

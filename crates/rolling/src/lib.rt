@@ -7,6 +7,7 @@ use calendar::dates::Date;
 use models::parameters::Parameters;
 use ops::transit::Course;
 use ops::transit::Observer;
+use schedule::hours::DayHours;
 use schedule::hours::RowHours;
 use schedule::numbers::asr_number;
 use schedule::numbers::fajr_number;
@@ -16,17 +17,12 @@ use solar::coordinates::SolarCoordinates;
 use solar::coordinates::position;
 use solar::hours::hour_numbers;
 use solar::hours::sun;
-use solar::setting::SolarHour;
-use solar::setting::setting_hour;
-use solar::times::SolarDay;
-use solar::times::SolarTime;
 use unit::Coordinates;
 
 // The sun of a day over the place, and what it gives to every row that it serves.
 pub struct DaySun {
     pub course: Course,
-    pub times: SolarDay,
-    pub fajr: SolarHour,
+    pub hours: DayHours,
 }
 
 // The suns of a row: its date's and those of the two days after it. The positions at 0h of the second and the third day after the date are kept for the
@@ -47,8 +43,10 @@ fn day_sun(coordinates: Coordinates, parameters: Parameters, course: Course) -> 
 {
     DaySun {
         course: course,
-        times: SolarTime::new(hour_numbers(course)),
-        fajr: setting_hour(fajr_number(parameters, coordinates.latitude, course)),
+        hours: DayHours::new(
+            hour_numbers(course),
+            fajr_number(parameters, coordinates.latitude, course),
+        ),
     }
 }
 
@@ -116,20 +114,15 @@ impl Rolling {
         let tomorrow = self.tomorrow;
         let after = self.after;
         let course = today.course;
-        let times = today.times;
-        let times_tomorrow = tomorrow.times;
-        let times_after = after.times;
-        let fajr = today.fajr;
-        let fajr_tomorrow = tomorrow.fajr;
-        let hours = RowHours {
-            today: times,
-            tomorrow: times_tomorrow,
-            after: times_after,
-            fajr: fajr,
-            asr: setting_hour(asr_number(parameters, latitude, course)),
-            isha: setting_hour(isha_number(parameters, latitude, course)),
-            fajr_tomorrow: fajr_tomorrow,
-        };
+        let last = after.hours;
+        let sun = last.sun;
+        let hours = RowHours::of_days(
+            today.hours,
+            tomorrow.hours,
+            sun,
+            asr_number(parameters, latitude, course),
+            isha_number(parameters, latitude, course),
+        );
         hours.work(date, latitude, parameters)
     }
 }

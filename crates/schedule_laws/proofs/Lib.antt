@@ -1,7 +1,7 @@
 pub mod Spans
 pub mod SunSpans
-pub mod RangeLaws
 pub mod CarriedLaws
+pub mod RangeLaws
 pub mod InForceLaws
 pub mod Moves
 pub mod LaterLaws

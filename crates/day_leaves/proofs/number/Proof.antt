@@ -1,5 +1,5 @@
 use mathlib.Core.Path.{sym}
-use Rattle.day_leaves.specs.DayLeaves.{currentNumberOf}
+use Rattle.schedule.specs.InForce.{currentNumberOf}
 use borrow.Author.Needs.{needs}
 use Rattle.day_leaves.proofs.number.Statement.{statement}
 use Rattle.day_leaves.proofs.number.Tie as tie

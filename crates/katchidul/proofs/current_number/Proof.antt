@@ -1,5 +1,5 @@
 use mathlib.Core.Path.{sym}
-use Rattle.katchidul.specs.Exports.{currentNumberOf}
+use Rattle.schedule.specs.InForce.{currentNumberOf}
 use borrow.Author.Needs.{needs}
 use Rattle.katchidul.proofs.current_number.Statement.{statement}
 use Rattle.katchidul.proofs.current_number.Tie as tie

@@ -7,4 +7,4 @@ unfolding daySunOf
 returns c = cc
 
 pub day-sun-spec : {M : Type 1} → statement M
-day-sun-spec = tie.close (tie.spec (λ c κs. tt) (λ c κs. tt) (λ c κs. tt) (λ c κs. tt) returns)
+day-sun-spec = tie.close (tie.spec (λ c κs. tt) (λ c κs. tt) (λ c κs. tt) returns)

@@ -4,7 +4,7 @@ use Rattle.rolling.proofs.Rolling.work.Tie as tie
 
 returns : tie.Need-returns
 unfolding rollingHoursOf
-returns c = simp (c .work .ensures, c .before .setting-hour2 .ensures, c .before .before .isha-number .ensures, c .before .before .before .setting-hour .ensures, c .before .before .before .before .asr-number .ensures)
+returns c = simp (c .work .ensures, c .before .of-days .ensures, c .before .before .isha-number .ensures, c .before .before .before .asr-number .ensures)
 
 pub work-spec : {M : Type 1} → statement M
-work-spec = tie.close (tie.spec (λ c κs. tt) (λ c κs. tt) (λ c κs. tt) (λ c κs. tt) (λ c κs. tt) returns)
+work-spec = tie.close (tie.spec (λ c κs. tt) (λ c κs. tt) (λ c κs. tt) (λ c κs. tt) returns)

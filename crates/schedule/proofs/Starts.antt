@@ -1,0 +1,23 @@
+-- 0h of any date that a u32's year can name lies within 2 ^ 58 seconds of 1970. Assumes nothing.
+use mathlib.Core.Path.{_≡_}
+use Prim.Native.Nat.{ℕ, _+_, _*_, _^_, _≤_, _<_}
+use native.Mathlib.Omega.{arith}
+use lib.IntN.{ℤ, pos, _-ℤ_, _*ℤ_}
+use Rattle.integers.specs.Parts.{Near}
+use Rattle.integers.proofs.Sums.{difference, times}
+use Rattle.calendar.specs.Days.{daysBeforeYearOf, ordinalOf, dayNumberOf}
+use Rattle.calendar.specs.declared.dates.Date.{Date}
+use Rattle.calendar.proofs.Existing.{ordinal-short}
+
+years : (y : ℕ) → y < 2 ^ 32 → daysBeforeYearOf y ≤ 367 * 2 ^ 32
+unfolding daysBeforeYearOf
+years y h = omega arith
+
+pub start-near : (d : Date) → d .year < 2 ^ 32 → Near (2 ^ 58) (dayNumberOf d *ℤ pos 86400)
+unfolding dayNumberOf
+start-near d h =
+    let y = years (d .year) h in
+    let o = ordinal-short d in
+    let b = difference (pos (daysBeforeYearOf (d .year) + ordinalOf d)) (pos 719529) in
+    let t = times (pos (daysBeforeYearOf (d .year) + ordinalOf d) -ℤ pos 719529) 86400 in
+    record { from = omega (arith, b .0, b .1); to = omega (arith, b .0, b .1) }
