@@ -21,13 +21,13 @@ use Rattle.calls.specs.declared.in_force.NextPrayer.{NextPrayer}
 use Rattle.calls.specs.declared.in_force.NextPrayer.the-variants as next
 use Rattle.calls.specs.declared.in_force.TimeUntil.{TimeUntil}
 use Rattle.calls.specs.declared.in_force.TimeUntil.the-variants as until
-use Rattle.katchidul.specs.declared.KatchidulMinutes.{KatchidulMinutes}
-use Rattle.katchidul.specs.declared.KatchidulOrder.{KatchidulOrder}
-use Rattle.katchidul.specs.declared.KatchidulTimes.{KatchidulTimes}
-use Rattle.katchidul.specs.declared.KatchidulDay.{KatchidulDay}
-use Rattle.katchidul.specs.declared.KatchidulPrayer.{KatchidulPrayer}
-use Rattle.katchidul.specs.declared.KatchidulRemaining.{KatchidulRemaining}
-use Rattle.katchidul.specs.declared.KatchidulReply.{KatchidulReply}
+use Rattle.katchidul.specs.declared.read_order.KatchidulMinutes.{KatchidulMinutes}
+use Rattle.katchidul.specs.declared.read_order.KatchidulOrder.{KatchidulOrder}
+use Rattle.katchidul.specs.declared.work_day.KatchidulTimes.{KatchidulTimes}
+use Rattle.katchidul.specs.declared.work_day.KatchidulDay.{KatchidulDay}
+use Rattle.katchidul.specs.declared.prayer_at.KatchidulPrayer.{KatchidulPrayer}
+use Rattle.katchidul.specs.declared.remaining_at.KatchidulRemaining.{KatchidulRemaining}
+use Rattle.katchidul.specs.declared.write_row.KatchidulReply.{KatchidulReply}
 
 -- ---- an order
 abbrev pub minutesAnswerOf : TimeAdjustment → KatchidulMinutes
