@@ -1,4 +1,4 @@
-# What crates/calendar_dates must print, by Python's datetime alone: the count of the dates from 1899-12-31 to 2200-01-03, and a fold
+# What crates/test_calendar must print, by Python's datetime alone: the count of the dates from 1899-12-31 to 2200-01-03, and a fold
 # over them of the next date, the previous one, the day of the year, the day from 1970-01-01, the date itself twice (as the date of that
 # day and as a row after the first), the day of the week from Sunday, and twice the Julian Day.
 from datetime import date, timedelta

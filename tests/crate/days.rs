@@ -1,7 +1,7 @@
 //! Days and the prayer in force: from equal hour numbers the crate's answers and the port's must be equal.
 use crate::day_crate::{self, Refusal};
 use crate::day_draw::{midnight, DayCase, Instant, METHODS, NONE};
-use crate::day_port::{self, LeafTimes};
+use crate::day_port::{self, ProbeTimes};
 use crate::draw::Draw;
 use crate::in_force::InForce;
 use crate::summary::Line;
@@ -80,7 +80,7 @@ impl Days {
     }
 
     /// Counts a day's answers, and returns the times where both have all nine alike.
-    fn day(&mut self, c: &DayCase) -> Option<(PrayerTimes, LeafTimes)> {
+    fn day(&mut self, c: &DayCase) -> Option<(PrayerTimes, ProbeTimes)> {
         let without = without_wrapping(c);
         let (ours, theirs) = (day_port::day(c), day_crate::day(c));
         let (our_day, their_day) = (ours.map(|times| times.0), theirs.map(|times| access::nine(&times)));

@@ -6,7 +6,7 @@ use salah_plain::astronomy::solar::access as plain;
 pub const VALUES: [&str; 7] = ["transit", "sunrise", "sunset", "Fajr's angle", "Isha's angle", "afternoon 1", "afternoon 2"];
 
 #[repr(C)]
-struct LeafHours {
+struct ProbeHours {
     transit: f64,
     sunrise: f64,
     sunset: f64,
@@ -15,23 +15,23 @@ struct LeafHours {
 // The library is linked with salah_leaves.
 #[rustfmt::skip]
 extern "C" {
-    fn leaf_hour_numbers(year: u32, month: u32, day: u32, latitude: f64, longitude: f64) -> LeafHours;
-    fn leaf_angle_number(year: u32, month: u32, day: u32, latitude: f64, longitude: f64, angle: f64, after_transit: bool) -> f64;
-    fn leaf_afternoon_number(year: u32, month: u32, day: u32, latitude: f64, longitude: f64, shadow_length: f64) -> f64;
+    fn probe_hour_numbers(year: u32, month: u32, day: u32, latitude: f64, longitude: f64) -> ProbeHours;
+    fn probe_angle_number(year: u32, month: u32, day: u32, latitude: f64, longitude: f64, angle: f64, after_transit: bool) -> f64;
+    fn probe_afternoon_number(year: u32, month: u32, day: u32, latitude: f64, longitude: f64, shadow_length: f64) -> f64;
 }
 
 /// Transit, sunrise and sunset of the case's date.
 pub fn port_sun(c: &Case) -> [f64; 3] {
-    let LeafHours { transit, sunrise, sunset } = unsafe { leaf_hour_numbers(c.year, c.month, c.day, c.latitude, c.longitude) };
+    let ProbeHours { transit, sunrise, sunset } = unsafe { probe_hour_numbers(c.year, c.month, c.day, c.latitude, c.longitude) };
     [transit, sunrise, sunset]
 }
 
 pub fn port_angle(c: &Case, angle: f64, after_transit: bool) -> f64 {
-    unsafe { leaf_angle_number(c.year, c.month, c.day, c.latitude, c.longitude, angle, after_transit) }
+    unsafe { probe_angle_number(c.year, c.month, c.day, c.latitude, c.longitude, angle, after_transit) }
 }
 
 pub fn port_afternoon(c: &Case, shadow_length: f64) -> f64 {
-    unsafe { leaf_afternoon_number(c.year, c.month, c.day, c.latitude, c.longitude, shadow_length) }
+    unsafe { probe_afternoon_number(c.year, c.month, c.day, c.latitude, c.longitude, shadow_length) }
 }
 
 pub fn by_port(c: &Case) -> [f64; 7] {

@@ -1,4 +1,4 @@
-//! The port's sheet of an order: in a lent buffer, by the export of crates/row_leaves, and printed by the program `sheet`.
+//! The port's sheet of an order: in a lent buffer, by the export of crates/probes, and printed by the program `sheet`.
 use std::io::Write;
 use std::process::{Command, Stdio};
 
@@ -8,14 +8,14 @@ pub const LONGEST: usize = 41 + 63 + 250 * 119;
 /// From the root of this repository, where tests/crate/run and bench/run work.
 pub const PROGRAM: &str = "target/bin/sheet";
 
-#[link(name = "row_leaves", kind = "static")]
+#[link(name = "probes", kind = "static")]
 extern "C" {
-    fn leaf_sheet(order: *const u8, length: usize, buffer: *mut u8, size: usize) -> usize;
+    fn probe_sheet(order: *const u8, length: usize, buffer: *mut u8, size: usize) -> usize;
 }
 
 /// Writes the sheet at the front of the buffer and returns its length.
 pub fn write_sheet(order: &[u8], buffer: &mut [u8]) -> usize {
-    unsafe { leaf_sheet(order.as_ptr(), order.len(), buffer.as_mut_ptr(), buffer.len()) }
+    unsafe { probe_sheet(order.as_ptr(), order.len(), buffer.as_mut_ptr(), buffer.len()) }
 }
 
 /// What the program prints.

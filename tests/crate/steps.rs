@@ -8,7 +8,7 @@ use salah_plain::astronomy::solar::access::setting_hour;
 use salah_plain::models::shafaq::Shafaq;
 
 #[repr(C)]
-struct LeafTime {
+struct ProbeTime {
     found: bool,
     seconds: i32,
 }
@@ -16,10 +16,10 @@ struct LeafTime {
 // The library is linked with salah_leaves.
 #[rustfmt::skip]
 extern "C" {
-    fn leaf_setting_hour(value: f64) -> LeafTime;
-    fn leaf_days_since_solstice(day: u32, year: u32, latitude: f64) -> u32;
-    fn leaf_morning_twilight(latitude: f64, day: u32, year: u32, sunrise: i64) -> i64;
-    fn leaf_evening_twilight(latitude: f64, day: u32, year: u32, sunset: i64, shafaq: u32) -> i64;
+    fn probe_setting_hour(value: f64) -> ProbeTime;
+    fn probe_days_since_solstice(day: u32, year: u32, latitude: f64) -> u32;
+    fn probe_morning_twilight(latitude: f64, day: u32, year: u32, sunrise: i64) -> i64;
+    fn probe_evening_twilight(latitude: f64, day: u32, year: u32, sunset: i64, shafaq: u32) -> i64;
 }
 
 fn time(seconds: i64) -> DateTime<Utc> {
@@ -30,7 +30,7 @@ const LINES: [&str; 4] = ["setting_hour", "days_since_solstice", "morning twilig
 
 /// Seconds from 0h of the date; none where there is no time.
 pub fn port_setting_hour(value: f64) -> Option<i64> {
-    let time = unsafe { leaf_setting_hour(value) };
+    let time = unsafe { probe_setting_hour(value) };
     if time.found { Some(time.seconds as i64) } else { None }
 }
 
@@ -47,15 +47,15 @@ impl Steps {
     fn season(&mut self, draw: &mut Draw) {
         let (latitude, year, ordinal, seconds) = (draw.any_latitude(), draw.year(), draw.ordinal(), draw.instant());
         let (ours, theirs) =
-            (unsafe { leaf_days_since_solstice(ordinal, year, latitude) }, ops::days_since_solstice(ordinal, year, latitude));
+            (unsafe { probe_days_since_solstice(ordinal, year, latitude) }, ops::days_since_solstice(ordinal, year, latitude));
         self.0.add(1, ours == theirs, || format!("solstice {ordinal} of {year} at {latitude}: {ours}, the crate's {theirs}"));
 
-        let ours = unsafe { leaf_morning_twilight(latitude, ordinal, year, seconds) };
+        let ours = unsafe { probe_morning_twilight(latitude, ordinal, year, seconds) };
         let theirs = ops::season_adjusted_morning_twilight(latitude, ordinal, year, time(seconds)).timestamp();
         self.0.add(2, ours == theirs, || format!("morning {ordinal} of {year} at {latitude}: {ours}, the crate's {theirs}"));
 
         for (number, shafaq) in [Shafaq::General, Shafaq::Ahmer, Shafaq::Abyad].into_iter().enumerate() {
-            let ours = unsafe { leaf_evening_twilight(latitude, ordinal, year, seconds, number as u32) };
+            let ours = unsafe { probe_evening_twilight(latitude, ordinal, year, seconds, number as u32) };
             let theirs = ops::season_adjusted_evening_twilight(latitude, ordinal, year, time(seconds), shafaq).timestamp();
             self.0.add(3, ours == theirs, || format!("evening {number} {ordinal} of {year} at {latitude}: {ours}, the crate's {theirs}"));
         }

@@ -1,5 +1,5 @@
 #!/usr/bin/env python3
-# Makes the orders that crates/order_values reads, good ones and ones damaged in every way, and what it must write of them:
+# Makes the orders that crates/test_orders reads, good ones and ones damaged in every way, and what it must write of them:
 #     tests/orders/cases.py ORDERS LINES
 # The lines come from a reader written here from document 01 and the crate's method.rs alone. Deterministic.
 import datetime

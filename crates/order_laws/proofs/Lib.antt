@@ -1,2 +1,3 @@
 pub mod AcceptedParameters
 pub mod PrintedLaws
+pub mod MinutesLaws

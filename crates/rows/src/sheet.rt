@@ -15,7 +15,7 @@ use lines::row::put_row;
 use order::reading::Order;
 use order::reading::Reading;
 use order::reading::read;
-use rolling::Rolling;
+use row_suns::RowSuns;
 use schedule::prayer_times::Worked;
 use text::put::put;
 
@@ -65,17 +65,17 @@ fn put_rows(buffer: &mut [u8], at: usize, order: Order) -> usize
     let coordinates = order.coordinates;
     let parameters = order.parameters;
     let latitude = coordinates.latitude;
-    let mut rolling = Rolling::new(order.date, coordinates, parameters);
+    let mut suns = RowSuns::new(order.date, coordinates, parameters);
     let mut row = 0;
     let mut end = at;
     loop {
-        let worked = rolling.work(latitude, parameters);
-        end = end + put_line(&mut buffer[..], end, rolling.date, worked);
+        let worked = suns.work(latitude, parameters);
+        end = end + put_line(&mut buffer[..], end, suns.date, worked);
         row = row + 1;
         if row >= order.rows {
             return end;
         }
-        rolling = rolling.next(coordinates, parameters);
+        suns = suns.next(coordinates, parameters);
     }
 }
 

@@ -8,9 +8,9 @@ use Rattle.integers.specs.Parts.{Near}
 use Rattle.integers.proofs.Intervals.{wider, inside-between}
 use Rattle.integers.proofs.Ranges.{readBack}
 use Rattle.integers.proofs.Held.{Held, held-sum, stored}
-use Rattle.night.specs.Portions.{seventhOf, middleOf, lastThirdOf}
-use Rattle.night.proofs.Steady.{longest}
-use Rattle.night.proofs.PortionsLaws.{seventh-inside, middle-inside, last-third-inside}
+use Rattle.night_portions.specs.Portions.{seventhOf, middleOf, lastThirdOf}
+use Rattle.night_portions.proofs.Steady.{longest}
+use Rattle.night_portions.proofs.PortionsLaws.{seventh-inside, middle-inside, last-third-inside}
 
 -- of equal arguments
 pub both : (f : ℤ → ℤ → ℤ) {x y u v : ℤ} → x ≡ u → y ≡ v → f x y ≡ f u v

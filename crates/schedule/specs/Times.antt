@@ -10,7 +10,7 @@ use Rattle.models.specs.declared.prayer.Prayer.the-variants.{Fajr, Sunrise, Dhu
 use Rattle.models.specs.declared.rounding.Rounding.the-variants.{Nearest}
 use Rattle.models.specs.Settings.{timeAdjustmentsOf}
 use Rattle.stride.specs.Times.{roundedOf, adjustedOf}
-use Rattle.night.specs.Portions.{middleOf, lastThirdOf}
+use Rattle.night_portions.specs.Portions.{middleOf, lastThirdOf}
 use Rattle.solar.specs.declared.setting.SolarHour.{SolarHour}
 use Rattle.solar.specs.declared.times.SolarTime.{SolarTime}
 use Rattle.unit.specs.declared.Coordinates.{Coordinates}

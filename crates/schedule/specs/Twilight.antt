@@ -15,7 +15,7 @@ use Rattle.models.specs.declared.rounding.Rounding.the-variants.{Nearest}
 use Rattle.models.specs.Numbers.{methodNumberOf}
 use Rattle.models.specs.Settings.{nightPortionsOf}
 use Rattle.stride.specs.Times.{roundedOf}
-use Rattle.night.specs.Portions.{portionBeforeOf, portionAfterOf, seventhOf}
+use Rattle.night_portions.specs.Portions.{portionBeforeOf, portionAfterOf, seventhOf}
 use Rattle.ops.specs.Season.{morningSecondsOf, eveningSecondsOf}
 use Rattle.solar.specs.declared.setting.SolarHour.{SolarHour}
 use Rattle.solar.specs.declared.setting.SolarHour.the-variants.{At, None}

@@ -24,9 +24,9 @@ use Rattle.models.specs.declared.rounding.Rounding.the-variants.{Nearest}
 use Rattle.models.specs.Settings.{timeAdjustmentsOf}
 use Rattle.stride.specs.Times.{roundedOf, adjustedOf}
 use Rattle.stride.proofs.TimesLaws.{rounded-adjusted, rounded-mono, adjusted-between}
-use Rattle.night.specs.Portions.{portionBeforeOf, middleOf, lastThirdOf}
-use Rattle.night.proofs.Steady.{Small}
-use Rattle.night.proofs.PortionsLaws.{middle-later, last-third-later}
+use Rattle.night_portions.specs.Portions.{portionBeforeOf, middleOf, lastThirdOf}
+use Rattle.night_portions.proofs.Steady.{Small}
+use Rattle.night_portions.proofs.PortionsLaws.{middle-later, last-third-later}
 use Rattle.ops.specs.Season.{morningSecondsOf}
 use Rattle.solar.specs.declared.setting.SolarHour.{SolarHour}
 use Rattle.solar.specs.declared.times.SolarTime.{SolarTime}

@@ -18,8 +18,8 @@ use Rattle.models.specs.declared.prayer.Prayer.the-variants.{Fajr, Sunrise, Dhu
 use Rattle.models.specs.declared.rounding.Rounding.the-variants.{Nearest}
 use Rattle.models.specs.Settings.{timeAdjustmentsOf}
 use Rattle.stride.proofs.TimesLaws.{rounded-between, adjusted-between}
-use Rattle.night.specs.Portions.{middleOf, lastThirdOf}
-use Rattle.night.proofs.PortionsLaws.{middle-inside, last-third-inside}
+use Rattle.night_portions.specs.Portions.{middleOf, lastThirdOf}
+use Rattle.night_portions.proofs.PortionsLaws.{middle-inside, last-third-inside}
 use Rattle.solar.specs.declared.setting.SolarHour.{SolarHour}
 use Rattle.solar.specs.declared.times.SolarTime.{SolarTime}
 use Rattle.schedule.specs.declared.hours.ThreeSuns.{ThreeSuns}

@@ -15,7 +15,7 @@ use Rattle.models.specs.declared.prayer.Prayer.{Prayer}
 use Rattle.models.specs.Settings.{timeAdjustmentsOf}
 use Rattle.stride.specs.Times.{adjustedOf}
 use Rattle.stride.proofs.TimesLaws.{rounded-between, adjusted-between}
-use Rattle.night.specs.Portions.{seventhOf}
+use Rattle.night_portions.specs.Portions.{seventhOf}
 use Rattle.solar.specs.declared.setting.SolarHour.{SolarHour}
 use Rattle.solar.specs.declared.setting.SolarHour.the-variants.{At, None}
 use Rattle.solar.specs.declared.times.SolarTime.{SolarTime}

@@ -18,9 +18,9 @@ use Rattle.models.specs.declared.parameters.Parameters.{Parameters}
 use Rattle.models.specs.declared.rounding.Rounding.the-variants.{Nearest}
 use Rattle.models.specs.Settings.{portionsOf, nightPortionsOf}
 use Rattle.stride.proofs.TimesLaws.{rounded-between}
-use Rattle.night.specs.Portions.{portionAfterOf, seventhOf}
-use Rattle.night.proofs.BoundsLaws.{Portion, after-half, before-half}
-use Rattle.night.proofs.OrderPortions.{half-portion, seventh-portion, angle-portion}
+use Rattle.night_portions.specs.Portions.{portionAfterOf, seventhOf}
+use Rattle.night_portions.proofs.BoundsLaws.{Portion, after-half, before-half}
+use Rattle.night_portions.proofs.OrderPortions.{half-portion, seventh-portion, angle-portion}
 use Rattle.ops.specs.Season.{eveningSecondsOf}
 use Rattle.ops.proofs.SeasonLaws.{morning-small, evening-small}
 use Rattle.solar.specs.declared.setting.SolarHour.{SolarHour}

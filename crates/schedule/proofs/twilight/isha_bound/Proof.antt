@@ -9,7 +9,7 @@ use Rattle.integers.proofs.Held.{held-by, held-as, promised}
 use Rattle.models.specs.declared.rounding.Rounding.the-variants.{Nearest}
 use Rattle.models.specs.Settings.{nightPortionsOf}
 use Rattle.stride.proofs.TimesLaws.{held-rounded}
-use Rattle.night.specs.Portions.{portionAfterOf}
+use Rattle.night_portions.specs.Portions.{portionAfterOf}
 use Rattle.ops.specs.Season.{eveningSecondsOf}
 use Rattle.schedule.specs.Twilight.{ishaBoundOf}
 use Rattle.schedule.proofs.Promises.{of-near}
