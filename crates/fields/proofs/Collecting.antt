@@ -17,7 +17,7 @@ use Rattle.fields.specs.Tags.{tags, lastTag}
 use Rattle.fields.specs.Fields.{lengthAt, after, firstBefore, faultOf, walkOf, checkOf}
 use Rattle.fields.specs.Values.{offsetOf, hasOf, valueOf, startOf, valuesOf, partFor, hasIn, valuesIn, byTag, fieldsOf, checkedOf}
 use Rattle.fields.proofs.FieldsLaws.{Good, fault-none, walk-good, check-none, has-good, known-last, whole-length, value-missing}
-use Rattle.fields.proofs.Walking.{find-here, find-on}
+use Rattle.fields.proofs.Walking.{find-here, find-on, find-none}
 
 -- ---- where a tag is found
 -- not before what neither the search's begin nor its end lies before
@@ -50,174 +50,131 @@ find-sooner (suc k) s tag at stop far l h =
     go true false false e on h =
         absurd (omega (arith, find-from k s tag (after s at) far stop (omega (arith, ltb-false at stop e)) l))
 
--- ---- the walk comes to an offset: the fields from there on are good, and a tag that was not found before is found there or later
-pub record Reached (s : List ℕ) (at : ℕ) : Type 0 where
-  pub left : ℕ
-  pub enough : length s ≤ at + left
-  pub inside : at ≤ length s
-  pub good : walkOf left s at .number ≡ 0
-  pub ahead : (tag : ℕ) → at ≤ offsetOf s tag → firstBefore left s tag at (length s) ≡ offsetOf s tag
-
-pub reached-first : (s : List ℕ) → checkOf s .number ≡ 0 → Reached s 0
-unfolding offsetOf
-reached-first s e =
-    record { left = length s; enough = omega arith; inside = omega arith; good = check-none s e .walk; ahead = λ tag l. refl }
-
-module _ (s : List ℕ) (at : ℕ) (reached : Reached s at) (l : at < length s) where
-  -- so there is a field, and it is good
-  first-of : (k : ℕ) → length s ≤ at + k → walkOf k s at .number ≡ 0
-      → (j : ℕ) × (k ≡ suc j) × (faultOf s at ≡ 0) × (walkOf j s (after s at) .number ≡ 0)
-  first-of zero h e = absurd (omega arith)
-  first-of (suc j) h e = let w = walk-good j s at l e in (j, refl, w .0, w .1)
-
-  here : (j : ℕ) × (reached .left ≡ suc j) × (faultOf s at ≡ 0) × (walkOf j s (after s at) .number ≡ 0)
-  here = first-of (reached .left) (reached .enough) (reached .good)
-
-  pub reached-good : Good s at
-  reached-good = fault-none s at (here .2)
-
-  -- no tag has two fields
-  pub tag-once : offsetOf s (byteOf s at) ≡ at
-  unfolding offsetOf
-  tag-once = go (ltb (firstBefore (length s) s (byteOf s at) 0 (length s)) at) refl
-    where
-      go : (b : Bool) → ltb (firstBefore (length s) s (byteOf s at) 0 (length s)) at ≡ b → firstBefore (length s) s (byteOf s at) 0 (length s) ≡ at
-      go true e =
-          let o = firstBefore (length s) s (byteOf s at) 0 (length s) in
-          let f = find-sooner (length s) s (byteOf s at) 0 at (length s) (reached .inside) (ltb-true o at e) in
-          absurd (omega (arith, ltb-true o at e, reached-good .new))
-      go false e =
-          sym (reached .ahead (byteOf s at) (ltb-false (firstBefore (length s) s (byteOf s at) 0 (length s)) at e))
-          ∙ find-here (reached .left) s (byteOf s at) at (length s) (reached .enough) l refl
-
-  -- another tag that was not found before is found after this field
-  found-later : (tag : ℕ) → (byteOf s at ≡ tag → ⊥) → at ≤ offsetOf s tag
-      → firstBefore (here .0) s tag (after s at) (length s) ≡ offsetOf s tag
-  found-later tag other h =
-      let on = find-on (reached .left) s tag at (length s) (reached .enough) l other in
-      let e : here .0 ≡ on .0 = omega (arith, here .1, on .1) in
-      rw e (sym (on .2) ∙ reached .ahead tag h)
-
-  pub reached-on : Reached s (after s at)
-  reached-on =
-      record {
-        left = here .0;
-        enough = omega (arith, here .1, reached .enough);
-        inside = reached-good .whole;
-        good = here .3;
-        ahead = λ tag h. found-later tag (λ e. let o = tag-once in omega (arith, ap (offsetOf s) e)) (omega arith);
-      }
-
-  -- what is before this field and what is before the next differ in its own tag alone
-  others : (tag : ℕ) → (byteOf s at ≡ tag → ⊥) → ltb (offsetOf s tag) (after s at) ≡ ltb (offsetOf s tag) at
-  others tag other = go (ltb (offsetOf s tag) at) refl
-    where
-      go : (b : Bool) → ltb (offsetOf s tag) at ≡ b → ltb (offsetOf s tag) (after s at) ≡ b
-      go true e = lt-ltb (offsetOf s tag) (after s at) (omega (arith, ltb-true (offsetOf s tag) at e))
-      go false e =
-          let f = found-later tag other (ltb-false (offsetOf s tag) at e) in
-          let g = find-from (here .0) s tag (after s at) (length s) (after s at) (omega arith) (reached-good .whole) in
-          le-ltb (offsetOf s tag) (after s at) (omega arith)
-
--- ---- what is kept by tag: f of each tag whose field begins before an offset
-abbrev pub Kept : List ℕ → (ℕ → ℕ) → ℕ → List ℕ → Type 0
-Kept s f at kept = (tag : ℕ) → tag < length tags → getD kept tag 0 ≡ cond (ltb (offsetOf s tag) at) (f tag) 0
-
-module _ (s : List ℕ) (f : ℕ → ℕ) where
-  pub kept-first : (kept : List ℕ) → ((tag : ℕ) → tag < length tags → getD kept tag 0 ≡ 0) → Kept s f 0 kept
-  kept-first kept h tag l = h tag l ∙ sym (simp (le-ltb (offsetOf s tag) 0 (omega arith)))
-
-  pub kept-on : (at : ℕ) (kept : List ℕ) (x : ℕ) (reached : Reached s at) (l : at < length s) → length kept ≡ length tags → x ≡ f (byteOf s at)
-      → Kept s f at kept → Kept s f (after s at) (set kept (byteOf s at) x)
-  kept-on at kept x reached l size e h tag t = go (eqb (byteOf s at) tag) refl
-    where
-      go : (b : Bool) → eqb (byteOf s at) tag ≡ b → getD (set kept (byteOf s at) x) tag 0 ≡ cond (ltb (offsetOf s tag) (after s at)) (f tag) 0
-      go true q =
-          let own = eqb-true (byteOf s at) tag q in
-          let o = tag-once s at reached l in
-          let before : ltb (offsetOf s (byteOf s at)) (after s at) ≡ true = lt-ltb (offsetOf s (byteOf s at)) (after s at) (omega arith) in
-          rw (sym own) (getD-set-same kept (byteOf s at) x 0 (omega arith) ∙ simp before e)
-      go false q =
-          let other = eqb-false (byteOf s at) tag q in
-          getD-set-other kept (byteOf s at) tag x 0 (λ p. other (sym p)) ∙ h tag t
-          ∙ ap (λ (b : Bool). cond b (f tag) 0) (sym (others s at reached l tag other))
-
 by-tag : (g : ℕ → ℕ) (k from i : ℕ) → i < k → getD (byTag g k from) i 0 ≡ g (from + i)
 unfolding byTag
 by-tag g zero from i h = absurd (omega arith)
 by-tag g (suc k) from zero h = ap g (omega arith)
 by-tag g (suc k) from (suc i) h = by-tag g k (from + 1) i (omega arith) ∙ ap g (omega arith)
 
-from-none : (i : ℕ) → 0 + i ≡ i
-from-none i = omega arith
+tagged : (g : ℕ → ℕ) (tag : ℕ) → tag < length tags → getD (byTag g (length tags) 0) tag 0 ≡ g tag
+tagged g tag l = let z : 0 + tag ≡ tag = omega arith in by-tag g (length tags) 0 tag l ∙ ap g z
 
 by-tag-length : (g : ℕ → ℕ) (k from : ℕ) → length (byTag g k from) ≡ k
 unfolding byTag
 by-tag-length g zero from = refl
 by-tag-length g (suc k) from = ap suc (by-tag-length g k (from + 1))
 
--- at the end it is what the order gives by tag
-pub kept-all : (s : List ℕ) (f g : ℕ → ℕ) (at : ℕ) (kept : List ℕ) → Reached s at → length s ≤ at → length kept ≡ length tags
-    → ((tag : ℕ) → cond (hasOf s tag) (f tag) 0 ≡ g tag) → Kept s f at kept → kept ≡ byTag g (length tags) 0
-unfolding hasOf
-kept-all s f g at kept reached end size same h =
-    ext-getD 0 kept (byTag g (length tags) 0) (size ∙ sym (by-tag-length g (length tags) 0))
-    (λ tag l.
-    let e : at ≡ length s = omega (arith, reached .inside) in
-    h tag (omega arith) ∙ ap (λ (n : ℕ). cond (ltb (offsetOf s tag) n) (f tag) 0) e ∙ same tag ∙ sym (by-tag g (length tags) 0 tag (omega arith) ∙ ap g (from-none tag)))
+-- ---- the walk that collects: a tag that it has not come to yet is found from here on, and one that it has come to is kept
+pub data Kept (s : List ℕ) (left at tag start size : ℕ) : Type 0 where
+  ahead : start ≡ 0 → size ≡ 0 → firstBefore left s tag at (length s) ≡ offsetOf s tag → Kept s left at tag start size
+  behind : offsetOf s tag < at → start ≡ offsetOf s tag + 3 → size ≡ length (valueOf s tag) → Kept s left at tag start size
 
--- ---- the walk that collects: it has come to an offset, and both arrays hold what lies before it
 pub record Collected (s : List ℕ) (at : ℕ) (starts lengths : List ℕ) : Type 0 where
   pub short : length s ≤ 1024
-  pub reached : Reached s at
+  pub inside : at ≤ length s
+  pub left : ℕ
+  pub enough : length s ≤ at + left
+  pub good : walkOf left s at .number ≡ 0
   pub sizes : (length starts ≡ length tags) × (length lengths ≡ length tags)
-  pub by-start : Kept s (λ tag. offsetOf s tag + 3) at starts
-  pub by-length : Kept s (λ tag. length (valueOf s tag)) at lengths
+  pub kept : (tag : ℕ) → tag < length tags → Kept s left at tag (getD starts tag 0) (getD lengths tag 0)
 
 pub collect-first : (s : List ℕ) → checkOf s .number ≡ 0 → Collected s 0 (replicate (length tags) 0) (replicate (length tags) 0)
+unfolding offsetOf
 collect-first s e =
+    let sound = check-none s e in
     record {
-      short = check-none s e .short;
-      reached = reached-first s e;
+      short = sound .short;
+      inside = omega arith;
+      left = length s;
+      enough = omega arith;
+      good = sound .walk;
       sizes = (refl, refl);
-      by-start = kept-first s (λ tag. offsetOf s tag + 3) (replicate (length tags) 0) zeros;
-      by-length = kept-first s (λ tag. length (valueOf s tag)) (replicate (length tags) 0) zeros;
+      kept = λ tag l. ahead (getD-replicate (length tags) tag 0 0 l) (getD-replicate (length tags) tag 0 0 l) refl;
     }
-  where
-    zeros : (tag : ℕ) → tag < length tags → getD {A = ℕ} (replicate (length tags) 0) tag 0 ≡ 0
-    zeros tag l = getD-replicate (length tags) tag 0 0 l
 
 module _ (s : List ℕ) (at : ℕ) (starts lengths : List ℕ) (c : Collected s at starts lengths) where
-  module _ (l : at < length s) (tag : ℕ) (is-tag : tag ≡ byteOf s at) where
-    pub collect-room : tag < length tags
-    collect-room = let h = known-last (byteOf s at) (reached-good s at (c .reached) l .known) in omega arith
+  module _ (l : at < length s) where
+    -- a field begins here, and it is good
+    first-of : (k : ℕ) → length s ≤ at + k → walkOf k s at .number ≡ 0 → (j : ℕ) × (k ≡ suc j) × Good s at × (walkOf j s (after s at) .number ≡ 0)
+    first-of zero h e = absurd (omega arith)
+    first-of (suc j) h e = let w = walk-good j s at l e in (j, refl, fault-none s at (w .0), w .1)
 
-    pub collect-on : (size : ℕ) → size ≡ lengthAt s at → Collected s (at + 3 + size) (set starts tag (at + 3)) (set lengths tag size)
+    here : (j : ℕ) × (c .left ≡ suc j) × Good s at × (walkOf j s (after s at) .number ≡ 0)
+    here = first-of (c .left) (c .enough) (c .good)
+
+    -- no tag has two fields
+    pub tag-once : (start size : ℕ) → Kept s (c .left) at (byteOf s at) start size → offsetOf s (byteOf s at) ≡ at
+    unfolding offsetOf
+    tag-once start size (ahead p q r) = sym r ∙ find-here (c .left) s (byteOf s at) at (length s) (c .enough) l refl
+    tag-once start size (behind o p q) =
+        absurd (omega (arith, here .2 .new, find-sooner (length s) s (byteOf s at) 0 at (length s) (c .inside) o))
+
+    pub collect-room : byteOf s at < length tags
+    collect-room = let h = known-last (byteOf s at) (here .2 .known) in omega arith
+
+    -- what is kept once it is passed: its own tag, and another
+    abbrev Next : ℕ → Type 0
+    Next tag = Kept s (here .0) (after s at) tag (getD (set starts (byteOf s at) (at + 3)) tag 0) (getD (set lengths (byteOf s at) (lengthAt s at)) tag 0)
+
+    own : offsetOf s (byteOf s at) ≡ at → Next (byteOf s at)
     unfolding valueOf
-    collect-on size is-size =
-        let o = tag-once s at (c .reached) l in
-        let n = whole-length s at (reached-good s at (c .reached) l .whole) in
+    own o =
+        let room = collect-room in
+        let n = whole-length s at (here .2 .whole) in
+        behind (omega arith) (getD-set-same starts (byteOf s at) (at + 3) 0 (omega (arith, c .sizes .0)) ∙ omega arith)
+        (getD-set-same lengths (byteOf s at) (lengthAt s at) 0 (omega (arith, c .sizes .1)) ∙ rw o (sym n))
+
+    same : (kept : List ℕ) (x tag : ℕ) → (byteOf s at ≡ tag → ⊥) → getD (set kept (byteOf s at) x) tag 0 ≡ getD kept tag 0
+    same kept x tag differ = getD-set-other kept (byteOf s at) tag x 0 (λ e. differ (sym e))
+
+    other : (tag : ℕ) → (byteOf s at ≡ tag → ⊥) → Kept s (c .left) at tag (getD starts tag 0) (getD lengths tag 0) → Next tag
+    other tag differ (ahead p q r) =
+        let on = find-on (c .left) s tag at (length s) (c .enough) l differ in
+        let e : here .0 ≡ on .0 = omega (arith, here .1, on .1) in
+        ahead (same starts (at + 3) tag differ ∙ p) (same lengths (lengthAt s at) tag differ ∙ q) (rw e (sym (on .2) ∙ r))
+    other tag differ (behind o p q) = behind (omega arith) (same starts (at + 3) tag differ ∙ p) (same lengths (lengthAt s at) tag differ ∙ q)
+
+    next : (tag : ℕ) → tag < length tags → Next tag
+    next tag t = go (eqb (byteOf s at) tag) refl
+      where
+        go : (b : Bool) → eqb (byteOf s at) tag ≡ b → Next tag
+        go true e = rw (sym (eqb-true (byteOf s at) tag e)) (own (tag-once _ _ (c .kept (byteOf s at) collect-room)))
+        go false e = other tag (eqb-false (byteOf s at) tag e) (c .kept tag t)
+
+    pub collect-on : (tag size : ℕ) → tag ≡ byteOf s at → size ≡ lengthAt s at → Collected s (at + 3 + size) (set starts tag (at + 3)) (set lengths tag size)
+    collect-on tag size is-tag is-size =
         rw (is-tag, is-size) (record {
           short = c .short;
-          reached = reached-on s at (c .reached) l;
+          inside = here .2 .whole;
+          left = here .0;
+          enough = omega (arith, here .1, c .enough);
+          good = here .3;
           sizes = (length-set starts (byteOf s at) (at + 3) ∙ c .sizes .0, length-set lengths (byteOf s at) (lengthAt s at) ∙ c .sizes .1);
-          by-start = kept-on s (λ t. offsetOf s t + 3) at starts (at + 3) (c .reached) l (c .sizes .0) (omega arith) (c .by-start);
-          by-length = kept-on s (λ t. length (valueOf s t)) at lengths (lengthAt s at) (c .reached) l (c .sizes .1) (rw o (sym n)) (c .by-length);
+          kept = next;
         })
 
+  -- at the end it is what the order gives by tag
+  ended : length s ≤ at → (tag start size : ℕ) → Kept s (c .left) at tag start size → (start ≡ startOf s tag) × (size ≡ length (valueOf s tag))
+  unfolding startOf hasOf
+  ended end tag start size (ahead p q r) =
+      let n = find-none (c .left) s tag at (length s) end in
+      let no : ltb (offsetOf s tag) (length s) ≡ false = le-ltb (offsetOf s tag) (length s) (omega arith) in
+      (p ∙ sym (simp no), q ∙ sym (ap (length {A = ℕ}) (value-missing s tag no)))
+  ended end tag start size (behind o p q) =
+      let yes : ltb (offsetOf s tag) (length s) ≡ true = lt-ltb (offsetOf s tag) (length s) (omega (arith, c .inside)) in
+      (p ∙ sym (simp yes), q)
+
   pub collect-all : length s ≤ at → _≡_ {A = Fields} (record { at = starts; length = lengths }) (fieldsOf s)
-  unfolding startOf
   collect-all end =
-      let a = kept-all s (λ tag. offsetOf s tag + 3) (startOf s) at starts (c .reached) end (c .sizes .0) (λ tag. refl) (c .by-start) in
-      let b = kept-all s (λ tag. length (valueOf s tag)) (λ tag. length (valueOf s tag)) at lengths (c .reached) end (c .sizes .1) there (c .by-length) in
+      let a = ext-getD 0 starts (byTag (startOf s) (length tags) 0) (c .sizes .0 ∙ sym (by-tag-length (startOf s) (length tags) 0)) (λ tag l. given tag l .0) in
+      let b = ext-getD 0 lengths (byTag (λ t. length (valueOf s t)) (length tags) 0) (c .sizes .1 ∙ sym (by-tag-length (λ t. length (valueOf s t)) (length tags) 0)) (λ tag l. given tag (omega (arith, c .sizes .0, c .sizes .1)) .1) in
       λ i. record { at = a i; length = b i }
     where
-      there : (tag : ℕ) → cond (hasOf s tag) (length (valueOf s tag)) 0 ≡ length (valueOf s tag)
-      there tag = go (hasOf s tag) refl
-        where
-          go : (b : Bool) → hasOf s tag ≡ b → cond b (length (valueOf s tag)) 0 ≡ length (valueOf s tag)
-          go true e = refl
-          go false e = sym (ap (length {A = ℕ}) (value-missing s tag e))
+      given : (tag : ℕ) → tag < length starts → (getD starts tag 0 ≡ getD (fieldsOf s .at) tag 0) × (getD lengths tag 0 ≡ getD (fieldsOf s .length) tag 0)
+      given tag l =
+          let t : tag < length tags = omega (arith, c .sizes .0) in
+          let e = ended end tag (getD starts tag 0) (getD lengths tag 0) (c .kept tag t) in
+          (e .0 ∙ sym (tagged (startOf s) tag t), e .1 ∙ sym (tagged (λ x. length (valueOf s x)) tag t))
 
 -- ---- so what the code holds of a checked order's fields gives what the order gives
 -- a list by tag at any number, where g is 0 of a number that is no tag
@@ -225,7 +182,7 @@ at-tag : (g : ℕ → ℕ) → ((tag : ℕ) → length tags ≤ tag → g tag �
 at-tag g none tag = go (ltb tag (length tags)) refl
   where
     go : (b : Bool) → ltb tag (length tags) ≡ b → getD (byTag g (length tags) 0) tag 0 ≡ g tag
-    go true e = by-tag g (length tags) 0 tag (ltb-true tag (length tags) e) ∙ ap g (from-none tag)
+    go true e = tagged g tag (ltb-true tag (length tags) e)
     go false e =
         let l = ltb-false tag (length tags) e in
         let n = by-tag-length g (length tags) 0 in

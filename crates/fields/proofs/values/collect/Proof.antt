@@ -19,12 +19,13 @@ loop-holds c = collect-first (now (c .before .args .order)) (c .before .pre)
 room : tie.Need-array-write-starts Inv-loop μ-loop
 room c =
     let l = c .before .before .before in
-    collect-room (now (l .before .before .args .order)) (l .loop .at) (l .loop .starts) (l .loop .lengths) (l .loop .inv) (c .before .before .loop-test .taken) (c .before .byte .result) (c .before .byte .ensures .0)
+    rw (c .before .byte .ensures .0)
+    (collect-room (now (l .before .before .args .order)) (l .loop .at) (l .loop .starts) (l .loop .lengths) (l .loop .inv) (c .before .before .loop-test .taken))
 
 loop-again : tie.Need-loop-again Inv-loop μ-loop
 loop-again c =
     let l = c .before .before .before in
-    collect-on (now (l .before .before .args .order)) (l .loop .at) (l .loop .starts) (l .loop .lengths) (l .loop .inv) (c .before .before .loop-test .taken) (c .before .byte .result) (c .before .byte .ensures .0) (c .length-at .result) (c .length-at .ensures .0)
+    collect-on (now (l .before .before .args .order)) (l .loop .at) (l .loop .starts) (l .loop .lengths) (l .loop .inv) (c .before .before .loop-test .taken) (c .before .byte .result) (c .length-at .result) (c .before .byte .ensures .0) (c .length-at .ensures .0)
 
 returns : tie.Need-returns Inv-loop μ-loop
 returns c =
