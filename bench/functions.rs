@@ -1,4 +1,4 @@
-//! The leaf functions beside the platform's: fdlibm's against libm, the helpers against Rust's own methods and casts.
+//! The functions beside the platform's: fdlibm's against libm, the helpers against Rust's own methods and casts.
 //! Arguments are random, the same in every run.
 use crate::rounds::beside;
 use std::hint::black_box;

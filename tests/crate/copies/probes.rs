@@ -1,4 +1,4 @@
-//! What salah_leaves calls in place of the platform's functions.
+//! What salah_probes calls in place of the platform's functions.
 
 #[link(name = "probes", kind = "static")]
 extern "C" {
@@ -11,7 +11,7 @@ extern "C" {
     fn probe_atan2(y: f64, x: f64) -> f64;
 }
 
-pub trait Leaves {
+pub trait Probes {
     fn probe_sin(self) -> f64;
     fn probe_cos(self) -> f64;
     fn probe_tan(self) -> f64;
@@ -22,7 +22,7 @@ pub trait Leaves {
     fn probe_powf(self, power: f64) -> f64;
 }
 
-impl Leaves for f64 {
+impl Probes for f64 {
     fn probe_sin(self) -> f64 {
         unsafe { probe_sin(self) }
     }

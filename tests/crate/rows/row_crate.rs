@@ -37,9 +37,9 @@ macro_rules! rows_of {
 }
 
 /// On our functions.
-pub mod on_leaves {
-    rows_of!(salah_leaves);
-    crate::in_force::in_force_of!(salah_leaves);
+pub mod on_probes {
+    rows_of!(salah_probes);
+    crate::in_force::in_force_of!(salah_probes);
 }
 
 /// As it is.

@@ -4,9 +4,9 @@ use crate::day_crate::Refusal;
 use crate::day_draw::{Instant, NONE};
 use crate::order_port::{KatchidulOrder, KatchidulPrayer, KatchidulRemaining};
 use crate::order_read::{read, Asked};
-use crate::row_crate::on_leaves;
+use crate::row_crate::on_probes;
 use chrono::{Datelike, Duration};
-use salah_leaves::schedule::PrayerTimes;
+use salah_probes::schedule::PrayerTimes;
 
 /// An instant's whole seconds lie no farther from 1970 than this.
 pub const FARTHEST: i64 = 1_000_000_000_000;
@@ -35,7 +35,7 @@ impl Order<'_> {
             return Err(Refusal { number: 5, place: 3 });
         }
         let date = asked.date + Duration::days(row as i64);
-        on_leaves::row(date, asked.latitude, asked.longitude, &asked.settings())
+        on_probes::row(date, asked.latitude, asked.longitude, &asked.settings())
     }
 }
 
@@ -91,7 +91,7 @@ impl InstantAnswers {
 
     /// None in force is an answer; the next one and the time until it are refused then.
     fn of_times(times: &PrayerTimes, at: Instant) -> InstantAnswers {
-        let found = on_leaves::in_force(times, at);
+        let found = on_probes::in_force(times, at);
         let (number, place) = (0, 0);
         let none = Refusal { number: 11, place };
         InstantAnswers {

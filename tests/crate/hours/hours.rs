@@ -1,10 +1,10 @@
 //! Hour numbers: the port's against those of the crate as it is and of its copy on our functions.
 use crate::draw::{Case, Draw};
-use crate::numbers::{by_leaves, by_plain, by_port};
+use crate::numbers::{by_probes, by_plain, by_port};
 use crate::summary::Line;
 use crate::tally::Tally;
 use crate::zones::zones;
-use salah_leaves::astronomy::solar::access::Day as LeavesDay;
+use salah_probes::astronomy::solar::access::Day as ProbesDay;
 use salah_plain::astronomy::solar::access::Day;
 
 pub struct Hours {
@@ -20,10 +20,10 @@ pub fn hours(seed: u64, pairs: u64, print_zones: bool) -> Hours {
     for _ in 0..pairs {
         let c = draw.case();
         let day = Day::new(c.year, c.month, c.day, c.latitude, c.longitude);
-        let on_leaves = LeavesDay::new(c.year, c.month, c.day, c.latitude, c.longitude);
+        let on_probes = ProbesDay::new(c.year, c.month, c.day, c.latitude, c.longitude);
         let port = by_port(&c);
         hours.tally.plain(&c, port, by_plain(&c, &day), zones(&c, &day, 1.0));
-        hours.tally.on_leaves(&c, port, by_leaves(&c, &on_leaves));
+        hours.tally.on_probes(&c, port, by_probes(&c, &on_probes));
         hours.strayed += !day.is_the_crates(c.fajr, c.isha, 1.0) as u64;
         hours.strayed += !day.is_the_crates(c.fajr, c.isha, 2.0) as u64;
     }

@@ -13,7 +13,7 @@ struct ProbeTime {
     seconds: i32,
 }
 
-// The library is linked with salah_leaves.
+// The library is linked with salah_probes.
 #[rustfmt::skip]
 extern "C" {
     fn probe_setting_hour(value: f64) -> ProbeTime;

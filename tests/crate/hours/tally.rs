@@ -40,7 +40,7 @@ struct Count {
     in_zone_over: u64,
     unexplained: u64,
     largest: f64,
-    not_equal_on_leaves: u64,
+    not_equal_on_probes: u64,
 }
 
 /// A value that lies in two zones counts in both.
@@ -96,10 +96,10 @@ impl Tally {
     }
 
     /// Against the crate on our functions; the first ten that are not equal are printed.
-    pub fn on_leaves(&mut self, c: &Case, port: [f64; 7], by_crate: [f64; 7]) {
+    pub fn on_probes(&mut self, c: &Case, port: [f64; 7], by_crate: [f64; 7]) {
         for value in 0..7 {
             if !same_bits(port[value], by_crate[value]) {
-                self.counts[value].not_equal_on_leaves += 1;
+                self.counts[value].not_equal_on_probes += 1;
                 self.printed += 1;
                 if self.printed <= 10 {
                     print_value("NOT EQUAL on our functions", c, value, port[value], by_crate[value]);
@@ -122,7 +122,7 @@ impl Tally {
         println!("\nthe port against the crate on our functions, zones included: bit for bit");
         println!("value           compared  equal bits   not equal");
         for (name, n) in VALUES.iter().zip(&self.counts) {
-            println!("{name:<14}{pairs:>10}{:>12}{:>12}", pairs - n.not_equal_on_leaves, n.not_equal_on_leaves);
+            println!("{name:<14}{pairs:>10}{:>12}{:>12}", pairs - n.not_equal_on_probes, n.not_equal_on_probes);
         }
     }
 
@@ -138,7 +138,7 @@ impl Tally {
                 listed: 0,
                 unexplained: sum(|n| n.unexplained),
             },
-            Line::exact("hour numbers on our fdlibm, bit for bit", compared, sum(|n| n.not_equal_on_leaves)),
+            Line::exact("hour numbers on our fdlibm, bit for bit", compared, sum(|n| n.not_equal_on_probes)),
         ]
     }
 }

@@ -9,7 +9,7 @@ use crate::order_port::{self, KatchidulDay, KatchidulOrder, ORDER_FIELDS};
 use crate::row_written::Written;
 use crate::summary::Line;
 use crate::threads::shared;
-use salah_leaves::schedule::{access, PrayerTimes};
+use salah_probes::schedule::{access, PrayerTimes};
 
 /// What is compared, a line of the table each. The fields of the order that was read come first.
 const LINES: [&str; 32] = {

@@ -5,7 +5,7 @@ use crate::order_owed::Order;
 use crate::order_port::{self, KatchidulReply};
 use crate::sheet_owed::row_text;
 use chrono::Duration;
-use salah_leaves::schedule::{access, PrayerTimes};
+use salah_probes::schedule::{access, PrayerTimes};
 
 /// A full row, with its newline.
 const ROW: usize = 119;

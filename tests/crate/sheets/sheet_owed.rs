@@ -4,7 +4,7 @@ use crate::day_draw::midnight;
 use crate::order_owed::Order;
 use crate::rows::Row;
 use chrono::{Duration, NaiveDate};
-use salah_leaves::schedule::access;
+use salah_probes::schedule::access;
 
 pub const HEADER: &str = "date fajr sunrise dhuhr asr maghrib isha middle qiyam tomorrow";
 

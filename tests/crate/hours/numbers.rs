@@ -1,6 +1,6 @@
 //! The seven hour numbers of a case: by the port, by the crate as it is, and by the crate on the port's functions.
 use crate::draw::Case;
-use salah_leaves::astronomy::solar::access as leaves;
+use salah_probes::astronomy::solar::access as probes;
 use salah_plain::astronomy::solar::access as plain;
 
 pub const VALUES: [&str; 7] = ["transit", "sunrise", "sunset", "Fajr's angle", "Isha's angle", "afternoon 1", "afternoon 2"];
@@ -12,7 +12,7 @@ struct ProbeHours {
     sunset: f64,
 }
 
-// The library is linked with salah_leaves.
+// The library is linked with salah_probes.
 #[rustfmt::skip]
 extern "C" {
     fn probe_hour_numbers(year: u32, month: u32, day: u32, latitude: f64, longitude: f64) -> ProbeHours;
@@ -53,4 +53,4 @@ macro_rules! by_copy {
 }
 
 by_copy!(by_plain, plain);
-by_copy!(by_leaves, leaves);
+by_copy!(by_probes, probes);

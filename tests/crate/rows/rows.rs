@@ -3,9 +3,9 @@ use crate::day_crate::Refusal;
 use crate::day_draw::{NaiveDate, Settings};
 use crate::day_port;
 use crate::draw::{Case, Draw};
-use crate::row_crate::on_leaves;
+use crate::row_crate::on_probes;
 use crate::summary::Line;
-use salah_leaves::schedule::access;
+use salah_probes::schedule::access;
 
 pub type Row = Result<[i64; 9], Refusal>;
 
@@ -14,7 +14,7 @@ pub fn date(c: &Case) -> NaiveDate {
 }
 
 fn by_crate(c: &Case, settings: &Settings) -> Row {
-    on_leaves::row(date(c), c.latitude, c.longitude, settings).map(|times| access::nine(&times))
+    on_probes::row(date(c), c.latitude, c.longitude, settings).map(|times| access::nine(&times))
 }
 
 pub fn by_port(c: &Case, settings: &Settings) -> Row {
