@@ -8,7 +8,7 @@ use Rattle.order.proofs.given.degrees_in.Tie as tie
 
 returns : tie.Need-returns
 unfolding degreesIn dec round ofBits
-returns c = simp (simp c .before .float .ensures at (c .if1 .taken))
+returns c = simp (simp (c .before .float .ensures) at (c .if1 .taken))
 
 returns-2 : tie.Need-returns-2
 unfolding degreesIn dec round ofBits
