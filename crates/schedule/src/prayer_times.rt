@@ -7,7 +7,7 @@ ghost use Rattle.models.specs.declared.rounding.Rounding.the-variants.{Nearest}
 ghost use Rattle.models.specs.Settings.{timeAdjustmentsOf};
 ghost use Rattle.stride.specs.Times.{roundedOf, adjustedOf};
 ghost use Rattle.schedule.specs.Hours.{hoursOf};
-ghost use Rattle.schedule.specs.Times.{startOf, finalOf, fajrTomorrowOf, middleOfTheNightOf, qiyamOf, fromMidnightOf, startedOf, workedOf, Each};
+ghost use Rattle.schedule.specs.Times.{startOf, fajrTomorrowOf, middleOfTheNightOf, qiyamOf, fromMidnightOf, startedOf, workedOf, Each};
 use super::hours::RowHours;
 use super::hours::RowNumbers;
 use super::hours::Suns;
@@ -52,21 +52,15 @@ struct Night {
     last_third: i64,
 }
 
-// A time with a prayer's own minutes and the method's.
-fn adjusted(parameters: Parameters, prayer: Prayer, time: i64) -> i64
+// A prayer's own minutes and the method's are added, then the time is rounded.
+fn final_time(parameters: Parameters, prayer: Prayer, time: i64, rounding: Rounding) -> i64
     requires { ⌜ Near (2 ^ 38) time ⌝ }
-    ensures { λ r. ⌜ (r ≡ adjustedOf time (timeAdjustmentsOf parameters prayer)) × Near (2 ^ 39) r ⌝ }
+    ensures { λ r. ⌜ (r ≡ roundedOf rounding (adjustedOf time (timeAdjustmentsOf parameters prayer))) × Near (2 ^ 40) r ⌝ }
 {
-    adjust_time(time, parameters.time_adjustments(prayer))
-}
-
-// And rounded: the one way of the six daily times.
-fn final_time(parameters: Parameters, prayer: Prayer, time: i64) -> i64
-    requires { ⌜ Near (2 ^ 38) time ⌝ }
-    ensures { λ r. ⌜ (r ≡ finalOf parameters prayer time) × Near (2 ^ 40) r ⌝ }
-{
-    let rounding = parameters.rounding;
-    rounded_minute(adjusted(parameters, prayer, time), rounding)
+    rounded_minute(
+        adjust_time(time, parameters.time_adjustments(prayer)),
+        rounding,
+    )
 }
 
 // Adjusted and not rounded.
@@ -78,22 +72,22 @@ fn next_fajr(
     after: SolarTime,
     hour: SolarHour,
 ) -> i64
-    ensures { λ r. ⌜ (r ≡ fajrTomorrowOf parameters latitude date tomorrow after hour) × Near (2 ^ 40) r ⌝ }
+    ensures { λ r. ⌜ (r ≡ fajrTomorrowOf parameters latitude date tomorrow after hour) × Near (2 ^ 41) r ⌝ }
 {
     let fajr = unadjusted_fajr(parameters, latitude, date.tomorrow(), tomorrow, after, hour);
-    adjusted(parameters, Prayer::Fajr, fajr) + 86400
+    final_time(parameters, Prayer::Fajr, fajr, Rounding::None) + 86400
 }
 
 // So many seconds after maghrib, to the nearest minute.
 fn into_the_night(maghrib: i64, seconds: i64) -> i64
-    requires { ⌜ Near (2 ^ 40) maghrib × Near (2 ^ 41) seconds ⌝ }
+    requires { ⌜ Near (2 ^ 40) maghrib × Near (2 ^ 42) seconds ⌝ }
     ensures { λ r. ⌜ (r ≡ roundedOf Nearest (maghrib +ℤ seconds)) × Near (2 ^ 43) r ⌝ }
 {
     rounded_minute(maghrib + seconds, Rounding::Nearest)
 }
 
 fn calculate_qiyam(maghrib: i64, fajr: i64) -> Night
-    requires { ⌜ Near (2 ^ 40) maghrib × Near (2 ^ 40) fajr ⌝ }
+    requires { ⌜ Near (2 ^ 40) maghrib × Near (2 ^ 41) fajr ⌝ }
     ensures { λ r. ⌜ ((r .middle ≡ middleOfTheNightOf maghrib fajr) × Near (2 ^ 43) (r .middle)) × ((r .«last_third» ≡ qiyamOf maghrib fajr) × Near (2 ^ 43) (r .«last_third»)) ⌝ }
 {
     let night = fajr - maghrib;
@@ -113,6 +107,7 @@ fn from_midnight(
 ) -> PrayerTimes
     ensures { λ r. ⌜ (r ≡ fromMidnightOf parameters latitude date suns hours) × Each (Near (2 ^ 43)) r ⌝ }
 {
+    let rounding = parameters.rounding;
     let hour = hours.fajr;
     let afternoon = hours.asr;
     let evening = hours.isha;
@@ -127,7 +122,12 @@ fn from_midnight(
         suns.tomorrow,
         evening,
     );
-    let maghrib = final_time(parameters, Prayer::Maghrib, suns.today.sunset as i64);
+    let maghrib = final_time(
+        parameters,
+        Prayer::Maghrib,
+        suns.today.sunset as i64,
+        rounding,
+    );
     let fajr_tomorrow = next_fajr(
         parameters,
         latitude,
@@ -138,12 +138,22 @@ fn from_midnight(
     );
     let night = calculate_qiyam(maghrib, fajr_tomorrow);
     PrayerTimes {
-        fajr: final_time(parameters, Prayer::Fajr, fajr),
-        sunrise: final_time(parameters, Prayer::Sunrise, suns.today.sunrise as i64),
-        dhuhr: final_time(parameters, Prayer::Dhuhr, suns.today.transit as i64),
-        asr: final_time(parameters, Prayer::Asr, asr),
+        fajr: final_time(parameters, Prayer::Fajr, fajr, rounding),
+        sunrise: final_time(
+            parameters,
+            Prayer::Sunrise,
+            suns.today.sunrise as i64,
+            rounding,
+        ),
+        dhuhr: final_time(
+            parameters,
+            Prayer::Dhuhr,
+            suns.today.transit as i64,
+            rounding,
+        ),
+        asr: final_time(parameters, Prayer::Asr, asr, rounding),
         maghrib: maghrib,
-        isha: final_time(parameters, Prayer::Isha, isha),
+        isha: final_time(parameters, Prayer::Isha, isha, rounding),
         middle_of_the_night: night.middle,
         qiyam: night.last_third,
         fajr_tomorrow: fajr_tomorrow,

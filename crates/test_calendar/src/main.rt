@@ -1,12 +1,15 @@
-// Walks every date from 1899-12-31 to 2200-01-03 by tomorrow() and folds what the calendar says of each into a few numbers.
-// The expected numbers are those of Python's datetime:
+// Walks every date from 1899-12-31 to 2200-01-03 by tomorrow() and folds what the calendar says of each into a few numbers; and the seconds of the two
+// hours around 1970-01-01 0h, each rounded in the three ways. The expected numbers are those of Python's datetime:
 //     python3 tests/calendar/dates.py > crates/test_calendar/stdout
 use calendar::dates::Date;
 use calendar::dates::weekday;
+use float64::casts::to_i64;
 use float64::casts::to_u64;
 use libc::STDOUT_FILENO;
+use models::rounding::Rounding;
 use std::num::nearest_i64_to_f64;
 use stride::julian::date_julian_day;
+use stride::times::rounded_minute;
 
 // What is folded of each date, in the order in which it is printed.
 struct Folds {
@@ -49,6 +52,21 @@ fn folded(f: Folds, first: Date, n: u32, d: Date) -> Folds {
     }
 }
 
+// The n-th second of the two hours, rounded.
+fn second(n: u32, rounding: Rounding) -> u64 {
+    shifted(rounded_minute(to_i64(n as f64 - 3600.0), rounding))
+}
+
+fn rounded(rounding: Rounding) -> u64 {
+    let mut sum: u64 = 0;
+    let mut n: u32 = 0;
+    while n < 7200 {
+        sum = fold(sum, second(n, rounding));
+        n += 1;
+    }
+    sum
+}
+
 fn print(number: u64) {
     io::print_decimal(STDOUT_FILENO, number);
     io::write_all(STDOUT_FILENO, b"\n");
@@ -85,4 +103,7 @@ fn main() {
     print(f.row);
     print(f.weekday);
     print(f.julian);
+    print(rounded(Rounding::Nearest));
+    print(rounded(Rounding::Up));
+    print(rounded(Rounding::None));
 }

@@ -1,26 +1,25 @@
-use mathlib.Core.Path.{_≡_, ap, _∙_}
+use mathlib.Core.Path.{_≡_, _∙_}
 use lib.Dec.{lit≤}
-use lib.IntN.{ℤ}
 use mir.Syntax.{w64}
-use Rattle.integers.proofs.Ranges.{readBack, read}
-use Rattle.integers.proofs.Held.{held-by, held-as, promised}
-use Rattle.models.specs.Settings.{timeAdjustmentsOf}
-use Rattle.stride.specs.Times.{adjustedOf}
-use Rattle.stride.proofs.TimesLaws.{held-rounded}
-use Rattle.schedule.specs.Times.{finalOf}
+use Rattle.integers.proofs.Ranges.{readBack}
+use Rattle.integers.proofs.Held.{of-i64, held-by, promised}
+use Rattle.stride.proofs.TimesLaws.{held-rounded, held-adjusted}
 use Rattle.schedule.proofs.Promises.{of-near}
 use borrow.Author.Needs.{needs}
 use Rattle.schedule.proofs.prayer_times.final_time.Statement.{statement}
 use Rattle.schedule.proofs.prayer_times.final_time.Tie as tie
 
 returns : tie.Need-returns
-unfolding finalOf
 returns c =
-    let t = c .before .before in
+    let a = c .before in
+    let m = a .before in
+    let t = m .before in
+    let j : readBack w64 (a .adjust-time .result) ≡ a .adjust-time .result = search needs in
     let k : readBack w64 (c .rounded-minute .result) ≡ c .rounded-minute .result = search needs in
-    let m = timeAdjustmentsOf (t .args .parameters) (t .args .prayer) in
-    let a = held-as (of-near (c .before .adjusted .ensures) (lit≤ tt)) (ap (λ (z : ℤ). adjustedOf z m) (read w64 (t .args .time) (t .fits .time))) in
-    promised (held-by (k ∙ c .rounded-minute .ensures) (held-rounded (t .args .parameters .rounding) a (lit≤ tt))) (lit≤ tt)
+    let e = m .time-adjustments .ensures in
+    let minutes = of-near (e .0, record { from = e .1 .1; to = e .1 .0 }) (lit≤ tt) in
+    let adjusted = held-by (j ∙ a .adjust-time .ensures) (held-adjusted (of-i64 (t .args .time) (t .fits .time) (t .pre)) minutes (lit≤ tt)) in
+    promised (held-by (k ∙ c .rounded-minute .ensures) (held-rounded (t .args .rounding) adjusted (lit≤ tt))) (lit≤ tt)
 
 pub final-time-spec : {M : Type 1} → statement M
-final-time-spec = tie.close (tie.spec (λ c κs. search needs) (λ c κs. search needs) returns)
+final-time-spec = tie.close (tie.spec (λ c κs. search needs) (λ c κs. search needs) (λ c κs. search needs) returns)

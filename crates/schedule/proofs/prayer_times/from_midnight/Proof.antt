@@ -61,7 +61,7 @@ final-time-requires-6 c κs =
     asked (of-near (e .unadjusted-isha .ensures) (lit≤ tt)) (lit≤ tt)
 
 returns : tie.Need-returns
-unfolding fromMidnightOf
+unfolding fromMidnightOf finalOf
 returns c =
     let c1 = c .before in
     let c2 = c1 .before in

@@ -6,6 +6,7 @@ use Rattle.calendar.specs.declared.dates.Date.{Date}
 use Rattle.models.specs.declared.prayer.Prayer.the-variants.{Fajr}
 use Rattle.models.specs.Settings.{timeAdjustmentsOf}
 use Rattle.stride.specs.Times.{adjustedOf}
+use Rattle.stride.proofs.TimesLaws.{none-stays}
 use Rattle.schedule.specs.Times.{fajrTomorrowOf}
 use Rattle.schedule.specs.Twilight.{nextDayOf, unadjustedFajrOf}
 use Rattle.schedule.proofs.Promises.{of-near}
@@ -14,7 +15,7 @@ use Rattle.schedule.proofs.prayer_times.next_fajr.Statement.{statement}
 use Rattle.schedule.proofs.prayer_times.next_fajr.Tie as tie
 
 add-result : tie.Need-add-result
-add-result c = held-fits (held-sum (of-near (c .adjusted .ensures) (lit≤ tt)) (constant 86400)) (lit≤ tt)
+add-result c = held-fits (held-sum (of-near (c .final-time .ensures) (lit≤ tt)) (constant 86400)) (lit≤ tt)
 
 returns : tie.Need-returns
 unfolding fajrTomorrowOf
@@ -23,7 +24,8 @@ returns c =
     let p = t .args .parameters in
     let u = of-near (c .before .unadjusted-fajr .ensures) (lit≤ tt) in
     let fajr = u .is ∙ ap (λ (d : Date). unadjustedFajrOf p (t .args .latitude) d (t .args .tomorrow) (t .args .after) (t .args .hour)) (c .before .before .tomorrow .ensures) in
-    promised (held-as (stored (held-sum (of-near (c .adjusted .ensures) (lit≤ tt)) (constant 86400)) (lit≤ tt)) (ap (λ (z : ℤ). nextDayOf (adjustedOf z (timeAdjustmentsOf p Fajr))) fajr)) (lit≤ tt)
+    let adjusted = none-stays _ ∙ ap (λ (z : ℤ). adjustedOf z (timeAdjustmentsOf p Fajr)) fajr in
+    promised (held-as (stored (held-sum (of-near (c .final-time .ensures) (lit≤ tt)) (constant 86400)) (lit≤ tt)) (ap nextDayOf adjusted)) (lit≤ tt)
 
 pub next-fajr-spec : {M : Type 1} → statement M
 next-fajr-spec = tie.close (tie.spec (λ c κs. search needs) (λ c κs. search needs) (λ c κs. search needs) add-result returns)
