@@ -23,13 +23,13 @@ days-fit (pos n) d h y =
     let s = start-near d y in
     let m = times (dayNumberOf d) 86400 in
     let b = difference (pos (n / 86400)) (dayNumberOf d) in
-    fits w64 _ (omega (arith, b .0, b .1, m, s .0, s .1)) (omega (arith, b .0, b .1, m, s .0, s .1))
+    fits w64 _ (omega (arith, b .0, b .1, m, s .from, s .to)) (omega (arith, b .0, b .1, m, s .from, s .to))
 days-fit (negsuc n) d h y =
     let r = range w64 (negsuc n) h in
     let s = start-near d y in
     let m = times (dayNumberOf d) 86400 in
     let b = difference (negsuc (n / 86400)) (dayNumberOf d) in
-    fits w64 _ (omega (arith, b .0, b .1, m, s .0, s .1)) (omega (arith, b .0, b .1, m, s .0, s .1))
+    fits w64 _ (omega (arith, b .0, b .1, m, s .from, s .to)) (omega (arith, b .0, b .1, m, s .from, s .to))
 
 pub before-zero : (t : ℤ) → ltZ t (pos 0) ≡ true → (1 + (N t - 1) ≡ N t) × (86399 - (N t - 1) % 86400 ≡ floorRem t 86400)
 before-zero (pos n) h = absurd (omega (arith, lt-yes (pos n) (pos 0) h))

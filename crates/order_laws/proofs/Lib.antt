@@ -1,3 +1,4 @@
 pub mod AcceptedParameters
-pub mod PrintedLaws
+pub mod Met
 pub mod MinutesLaws
+pub mod PrintedLaws
