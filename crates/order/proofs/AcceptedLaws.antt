@@ -31,7 +31,7 @@ use Rattle.models.specs.Settings.{minutesFor}
 use Rattle.order.specs.declared.reading.Order.{Order}
 use Rattle.order.specs.declared.reading.Reading.the-variants.{Read}
 use Rattle.order.specs.Given.{dateIn, rowsIn, degreesIn, minutesIn, degreesOr, minutesOr, intervalOr, parametersIn}
-use Rattle.order.specs.Ranges.{dateFits, rowsFit, degreesFit, minuteFits, minutesFit, intervalFits, lookUp, fitsOf}
+use Rattle.order.specs.Ranges.{mostRows, dateFits, rowsFit, degreesFit, minuteFits, minutesFit, intervalFits, lookUp, fitsOf}
 use Rattle.order.specs.Reading.{required, missingOf, outOfRangeOf, orderOf, readingOf}
 use Rattle.order.specs.Accepted.{UpTo, Inside, DateInOrder, Accepted}
 use Rattle.order.proofs.RowDates.{row-in-order}
@@ -50,12 +50,12 @@ date-in d e =
     let b = both (leb 1900 (d .year)) (leb (d .year) 2199) (a .0) in
     record { there = a .1; from = leb-true 1900 (d .year) (b .0); to = leb-true (d .year) 2199 (b .1) }
 
-rows-in : (d : Date) (n : ℕ) → rowsFit d n ≡ true → ((1 ≤ n) × (n ≤ 250)) × (rowDateOf d (n - 1) .year ≤ 2199)
+rows-in : (d : Date) (n : ℕ) → rowsFit d n ≡ true → ((1 ≤ n) × (n ≤ mostRows)) × (rowDateOf d (n - 1) .year ≤ 2199)
 unfolding rowsFit
 rows-in d n e =
-    let a = both (leb 1 n && leb n 250) (leb (rowDateOf d (n - 1) .year) 2199) e in
-    let b = both (leb 1 n) (leb n 250) (a .0) in
-    ((leb-true 1 n (b .0), leb-true n 250 (b .1)), leb-true (rowDateOf d (n - 1) .year) 2199 (a .1))
+    let a = both (leb 1 n && leb n mostRows) (leb (rowDateOf d (n - 1) .year) 2199) e in
+    let b = both (leb 1 n) (leb n mostRows) (a .0) in
+    ((leb-true 1 n (b .0), leb-true n mostRows (b .1)), leb-true (rowDateOf d (n - 1) .year) 2199 (a .1))
 
 minute-within : (m : ℤ) → minuteFits m ≡ true → Near 720 m
 unfolding minuteFits

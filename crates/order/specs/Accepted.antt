@@ -14,6 +14,7 @@ use Rattle.models.specs.declared.prayer.Prayer.{Prayer}
 use Rattle.models.specs.Presets.{presetOf}
 use Rattle.models.specs.Settings.{minutesFor}
 use Rattle.order.specs.declared.reading.Order.{Order}
+use Rattle.order.specs.Ranges.{mostRows}
 
 -- z is from 0 to n
 abbrev pub UpTo : ℕ → ℤ → Type 0
@@ -31,7 +32,7 @@ pub record DateInOrder (date : Date) : Type 0 where
 
 pub record Accepted (order : Order) : Type 0 where
   pub date : DateInOrder (order .date)
-  pub rows : (1 ≤ order .rows) × (order .rows ≤ 250)
+  pub rows : (1 ≤ order .rows) × (order .rows ≤ mostRows)
   -- the date of each row, the first and the last among them
   pub row : (row : ℕ) → row < order .rows → DateInOrder (rowDateOf (order .date) row)
   pub latitude : Inside (neg (dec 90 0)) (dec 90 0) (order .coordinates .latitude)

@@ -29,8 +29,11 @@ abbrev pub dateFits : Date → Bool
 dateFits date = between 1900 2199 (date .year) && existsOf date
 
 -- "1 to 250, last row by 2199-12-31"; rows count from 0, so the last is the one before the number of rows
+abbrev pub mostRows : ℕ
+mostRows = 250
+
 unfoldable pub rowsFit : Date → ℕ → Bool
-rowsFit date rows = between 1 250 rows && leb (rowDateOf date (rows - 1) .year) 2199
+rowsFit date rows = between 1 mostRows rows && leb (rowDateOf date (rows - 1) .year) 2199
 
 -- no comparison with a NaN holds
 abbrev pub degreesFit : Float → Float → List ℕ → Bool

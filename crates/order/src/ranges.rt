@@ -6,6 +6,7 @@ use super::given::date_in;
 use super::given::degrees_in;
 use super::given::minutes_in;
 use super::given::rows_in;
+use super::reading::MOST_ROWS;
 use calendar::dates::Date;
 use fields::numbers::byte;
 use fields::numbers::unsigned;
@@ -17,8 +18,6 @@ use models::adjustments::TimeAdjustment;
 const FIRST_YEAR: u32 = 1900;
 
 const LAST_YEAR: u32 = 2199;
-
-const MOST_ROWS: u32 = 250;
 
 // Printable ASCII.
 fn text_fits(bytes: &[u8]) -> bool

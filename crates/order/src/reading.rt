@@ -20,6 +20,9 @@ use refusals::Refusal;
 use refusals::TAG_MISSING;
 use unit::Coordinates;
 
+// The most rows that an order has.
+pub const MOST_ROWS: u32 = 250;
+
 // The tags that an order may not lack.
 const REQUIRED: [u32; 6] = [1, 2, 3, 4, 5, 6];
 

@@ -11,6 +11,7 @@ use Rattle.calendar.proofs.CalendarLaws.{row-first}
 use Rattle.calendar.proofs.Successors.{row-is, row-tomorrow}
 use Rattle.calls.specs.Calls.{workRowOf}
 use Rattle.order.specs.Accepted.{Accepted}
+use Rattle.order.specs.Ranges.{mostRows}
 use Rattle.order.proofs.RowDates.{row-year}
 use Rattle.order.specs.declared.reading.Order.{Order}
 use Rattle.lines.specs.Lines.{fullRow, lineText}
@@ -66,7 +67,7 @@ pub record Run (o : Order) (buffer : List ℕ) (at : ℕ) (now : List ℕ) (suns
 abbrev pub madeLine : Order → RowSuns → List ℕ
 madeLine o r = lineText (r .date) (workedOf (rowSunsHoursOf (o .coordinates .latitude) (o .parameters) r) (r .date) (o .coordinates .latitude) (o .parameters))
 
-module _ (o : Order) (a : Accepted o) (buffer : List ℕ) (at : ℕ) (room : at + fullRow * 250 ≤ length buffer) where
+module _ (o : Order) (a : Accepted o) (buffer : List ℕ) (at : ℕ) (room : at + fullRow * mostRows ≤ length buffer) where
   pub run-line : (now : List ℕ) (suns : RowSuns) (row end : ℕ) → Run o buffer at now suns row end
       → (line after : List ℕ) (n : ℕ) → line ≡ madeLine o suns → n ≡ length line → after ≡ putOf now end line
       → (after ≡ putOf buffer at (linesText o (row + 1))) × (end + n ≡ at + length (linesText o (row + 1)))

@@ -13,6 +13,7 @@ use Rattle.refusals.specs.declared.Refusal.{Refusal}
 use Rattle.order.specs.declared.reading.Order.{Order}
 use Rattle.order.specs.declared.reading.Reading.{Reading}
 use Rattle.order.specs.declared.reading.Reading.the-variants as reading
+use Rattle.order.specs.Ranges.{mostRows}
 use Rattle.order.specs.Reading.{readingOf, townOf}
 use Rattle.schedule.specs.declared.prayer_times.Worked.{Worked}
 use Rattle.schedule.specs.declared.prayer_times.Worked.the-variants as worked
@@ -59,9 +60,9 @@ textIn s (reading.Refused r) = refusedOrderText r
 abbrev pub sheetText : List ℕ → List ℕ
 sheetText s = textIn s (readingOf s)
 
--- the longest sheet: a town of 40 bytes, the header with its two newlines, and 250 full rows
+-- the longest sheet: a town of 40 bytes, the header with its two newlines, and all full rows that an order can have
 abbrev pub longestSheet : ℕ
-longestSheet = 40 + 64 + fullRow * 250
+longestSheet = 40 + 64 + fullRow * mostRows
 
 -- a buffer that it might not fit is left as it was, and the answer is 0
 unfoldable pub sheetLengthOf : List ℕ → List ℕ → ℕ

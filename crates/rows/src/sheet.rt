@@ -4,6 +4,7 @@ ghost use Prim.Native.Nat.{_+_, _*_, _≤_};
 ghost use lib.ListN.{length};
 ghost use Rattle.lines.specs.Lines.{fullRow, lineText};
 ghost use Rattle.order.specs.Accepted.{Accepted};
+ghost use Rattle.order.specs.Ranges.{mostRows};
 ghost use Rattle.text.specs.Text.{putOf, frontOf};
 ghost use Rattle.rows.specs.Rows.{headText, linesText, acceptedText, longestSheet, sheetLengthOf, sheetBufferOf};
 use calendar::dates::Date;
@@ -12,6 +13,7 @@ use lines::refused::put_refused_day;
 use lines::refused::put_refused_order;
 use lines::row::ROW_BYTES;
 use lines::row::put_row;
+use order::reading::MOST_ROWS;
 use order::reading::Order;
 use order::reading::Reading;
 use order::reading::read;
@@ -24,10 +26,8 @@ const LONGEST_TOWN: usize = 40;
 // The header and a newline before and behind it.
 const HEADER_BYTES: usize = 64;
 
-const MOST_ROWS: usize = 250;
-
 // What the longest sheet takes.
-pub const SHEET_BYTES: usize = LONGEST_TOWN + HEADER_BYTES + ROW_BYTES * MOST_ROWS;
+pub const SHEET_BYTES: usize = LONGEST_TOWN + HEADER_BYTES + ROW_BYTES * MOST_ROWS as usize;
 
 // A row's line, or its refusal's.
 fn put_line(buffer: &mut [u8], at: usize, date: Date, worked: Worked) -> usize
@@ -58,7 +58,7 @@ fn put_head(buffer: &mut [u8], town: &[u8]) -> usize
 
 // The lines of all rows from an offset on; answers where they end. Each row takes over what it can from the one before it.
 fn put_rows(buffer: &mut [u8], at: usize, order: Order) -> usize
-    requires { ⌜ Accepted order × (at + fullRow * 250 ≤ length (now buffer)) ⌝ }
+    requires { ⌜ Accepted order × (at + fullRow * mostRows ≤ length (now buffer)) ⌝ }
     ensures { λ r. ⌜ r ≡ at + length (linesText order (order .rows)) ⌝ }
     ensures { λ _. ⌜ now (buffer .exit) ≡ putOf (now (buffer .entry)) at (linesText order (order .rows)) ⌝ }
 {
