@@ -1,5 +1,5 @@
 -- Document 01's column "missing" and its "that part of the order itself": by tag, whether an order has it, and which of its bytes are its value.
--- Where the fields' form is right there is at most one field of a tag, and its value is whole (proofs/FieldsLaws.antt).
+-- Where the fields' form is right there is at most one field of a tag, and its value is whole (proofs/FieldsLaws.antt, Collecting.antt).
 use Prim.Native.Nat.{ℕ, zero, suc, _+_}
 use mathlib.Core.List.{List, [], _∷_}
 use mathlib.Core.Bool.{Bool, cond}

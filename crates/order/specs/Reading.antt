@@ -52,6 +52,7 @@ unfoldable pub firstOf : List Refusal → Order → Reading
 firstOf [] order = Read order
 firstOf (r ∷ rest) order = cond (eqb (r .number) 0) (firstOf rest order) (Refused r)
 
+-- the form of the fields (1, 2, 3), missing tags (4), ranges (5)
 unfoldable pub readingOf : List ℕ → Reading
 readingOf s =
     let v = valuesOf s in
