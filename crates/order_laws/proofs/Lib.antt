@@ -1,4 +1,4 @@
 pub mod AcceptedParameters
-pub mod Met
+pub mod Witness
 pub mod MinutesLaws
 pub mod PrintedLaws

@@ -16,7 +16,7 @@ returns c =
     let e4 = c .before .before .before .before .before .number3 .ensures in
     let e5 = c .before .before .before .before .before .before .number2 .ensures in
     let e6 = c .before .before .before .before .before .before .before .number .ensures in
-    let f6 : SFits w32 (c .before .before .before .before .before .before .before .before .before .before .before .before .args .order .parameters .«isha_interval») = search needs in
+    let f6 : SFits w32 (c .before .before .before .before .before .before .before .before .before .before .before .before .before .args .order .parameters .«isha_interval») = search needs in
     simp (toZ-ofZ f6, e0, e1, e2, e3, e4, e5, e6)
 
 pub order-read-spec : {M : Type 1} → statement M

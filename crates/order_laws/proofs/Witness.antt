@@ -8,8 +8,8 @@ use lib.Ieee.{le, neg, ofBits, round}
 use lib.ListN.{replicate}
 use Rattle.integers.specs.Order.{_≼_}
 use Rattle.float64.specs.Ops.{dec}
-use Rattle.calendar.specs.Gregorian.{leapOf, existsOf}
-use Rattle.calendar.specs.Days.{ordinalOf, dayNumberOf, dateOfDayOf}
+use Rattle.calendar.specs.Gregorian.{leapOf, lengthOf, existsOf}
+use Rattle.calendar.specs.Days.{daysBeforeOf, ordinalOf, countBelow, monthOf, ofOrdinalOf, daysBeforeYearOf, dayNumberOf, lastBy, yearOf, dateAtOf, dateOfDayOf}
 use Rattle.calendar.specs.Answers.{heldOf, fromOf}
 use Rattle.fields.specs.Numbers.{unsignedOf, signedOf, joinedOf, bitsOf, floatOf}
 use Rattle.fields.specs.Tags.{lengthFits, choiceFits}
@@ -17,7 +17,9 @@ use Rattle.fields.specs.Fields.{lengthAt, firstBefore, valueFaultOf, faultOf, w
 use Rattle.fields.specs.Values.{offsetOf, hasOf, valueOf, startOf, valuesOf}
 use Rattle.models.specs.declared.prayer.Prayer.{Prayer}
 use Rattle.models.specs.declared.prayer.Prayer.the-variants.{Fajr, Sunrise, Dhuhr, Asr, Maghrib, Isha, Qiyam, FajrTomorrow}
-use Rattle.models.specs.Settings.{timeAdjustmentsOf}
+use Rattle.models.specs.Numbers.{methodOf}
+use Rattle.models.specs.Presets.{preset, presetOf}
+use Rattle.models.specs.Settings.{minutesFor, timeAdjustmentsOf}
 use Rattle.order.specs.Given.{dateIn, rowsIn, degreesIn, minutesIn, byteOr, degreesOr, roundingOr, minutesOr, intervalOr, parametersIn}
 use Rattle.order.specs.Ranges.{textFits, rowsFit, minuteFits, minutesFit, intervalFits, lookUp, fitsOf, inRangeOf}
 use Rattle.order.specs.Reading.{firstFailing, missingOf, tagsFrom, outOfRangeOf, orderOf, firstOf, readingOf, townOf}
@@ -31,8 +33,19 @@ earlier =
 abbrev later : List ℕ
 later = earlier ++ (11 ∷ 0 ∷ 12 ∷ 0 ∷ 1 ∷ replicate 10 0)
 
+more-minutes : (prayer : Prayer) → timeAdjustmentsOf (orderOf (valuesOf earlier) .parameters) prayer ≼ timeAdjustmentsOf (orderOf (valuesOf later) .parameters) prayer
+unfolding hasOf offsetOf firstBefore lengthAt unsignedOf valueOf signedOf minutesIn minutesOr byteOr degreesOr roundingOr intervalOr parametersIn orderOf timeAdjustmentsOf preset presetOf methodOf minutesFor
+more-minutes Fajr = lit≤ tt
+more-minutes Sunrise = lit≤ tt
+more-minutes Dhuhr = lit≤ tt
+more-minutes Asr = lit≤ tt
+more-minutes Maghrib = lit≤ tt
+more-minutes Isha = lit≤ tt
+more-minutes Qiyam = lit≤ tt
+more-minutes FajrTomorrow = lit≤ tt
+
 pub can-be-met : LaterOrder earlier later
-unfolding readingOf firstOf checkOf walkOf faultOf valueFaultOf firstBefore lengthAt unsignedOf lengthFits choiceFits offsetOf hasOf valueOf startOf missingOf firstFailing tagsFrom outOfRangeOf inRangeOf fitsOf lookUp textFits rowsFit minuteFits minutesFit intervalFits dateIn rowsIn degreesIn minutesIn byteOr degreesOr roundingOr minutesOr intervalOr parametersIn orderOf townOf signedOf joinedOf bitsOf floatOf timeAdjustmentsOf existsOf leapOf ordinalOf dayNumberOf dateOfDayOf heldOf fromOf le neg ofBits round dec
+unfolding readingOf firstOf checkOf walkOf faultOf valueFaultOf firstBefore lengthAt unsignedOf lengthFits choiceFits offsetOf hasOf valueOf startOf missingOf firstFailing tagsFrom outOfRangeOf inRangeOf fitsOf lookUp textFits rowsFit minuteFits minutesFit intervalFits dateIn rowsIn degreesIn minutesIn byteOr degreesOr roundingOr minutesOr intervalOr parametersIn orderOf townOf signedOf joinedOf bitsOf floatOf timeAdjustmentsOf existsOf leapOf lengthOf daysBeforeOf ordinalOf countBelow monthOf ofOrdinalOf daysBeforeYearOf dayNumberOf lastBy yearOf dateAtOf dateOfDayOf heldOf fromOf le neg ofBits round dec
 can-be-met =
     record {
       first = orderOf (valuesOf earlier);
@@ -41,15 +54,5 @@ can-be-met =
       «second_read» = refl;
       town = refl;
       alike = refl;
-      more = λ prayer. more prayer;
+      more = more-minutes;
     }
-  where
-    more : (prayer : Prayer) → timeAdjustmentsOf (orderOf (valuesOf earlier) .parameters) prayer ≼ timeAdjustmentsOf (orderOf (valuesOf later) .parameters) prayer
-    more Fajr = lit≤ tt
-    more Sunrise = lit≤ tt
-    more Dhuhr = lit≤ tt
-    more Asr = lit≤ tt
-    more Maghrib = lit≤ tt
-    more Isha = lit≤ tt
-    more Qiyam = lit≤ tt
-    more FajrTomorrow = lit≤ tt
