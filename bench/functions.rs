@@ -1,25 +1,25 @@
-//! The leaf functions beside the platform's: fdlibm's against libm, the helpers against Rust's own methods and casts.
+//! The functions beside the platform's: fdlibm's against libm, the helpers against Rust's own methods and casts.
 //! Arguments are random, the same in every run.
 use crate::rounds::beside;
 use std::hint::black_box;
 
-#[link(name = "leaves", kind = "static")]
+#[link(name = "probes", kind = "static")]
 extern "C" {
-    fn leaf_sin(x: f64) -> f64;
-    fn leaf_cos(x: f64) -> f64;
-    fn leaf_tan(x: f64) -> f64;
-    fn leaf_sqrt(x: f64) -> f64;
-    fn leaf_asin(x: f64) -> f64;
-    fn leaf_acos(x: f64) -> f64;
-    fn leaf_atan(x: f64) -> f64;
-    fn leaf_atan2(y: f64, x: f64) -> f64;
-    fn leaf_floor(x: f64) -> f64;
-    fn leaf_trunc(x: f64) -> f64;
-    fn leaf_round(x: f64) -> f64;
-    fn leaf_to_i32(x: f64) -> i32;
-    fn leaf_to_u32(x: f64) -> u32;
-    fn leaf_to_i64(x: f64) -> i64;
-    fn leaf_to_u64(x: f64) -> u64;
+    fn probe_sin(x: f64) -> f64;
+    fn probe_cos(x: f64) -> f64;
+    fn probe_tan(x: f64) -> f64;
+    fn probe_sqrt(x: f64) -> f64;
+    fn probe_asin(x: f64) -> f64;
+    fn probe_acos(x: f64) -> f64;
+    fn probe_atan(x: f64) -> f64;
+    fn probe_atan2(y: f64, x: f64) -> f64;
+    fn probe_floor(x: f64) -> f64;
+    fn probe_trunc(x: f64) -> f64;
+    fn probe_round(x: f64) -> f64;
+    fn probe_to_i32(x: f64) -> i32;
+    fn probe_to_u32(x: f64) -> u32;
+    fn probe_to_i64(x: f64) -> i64;
+    fn probe_to_u64(x: f64) -> u64;
 }
 
 const ARGUMENTS: usize = 16384;
@@ -70,21 +70,21 @@ pub fn functions() {
     let positive = numbers.list(0.0, 100.0);
     let wide = numbers.list(-1000.0, 1000.0);
     let other = numbers.list(-1000.0, 1000.0);
-    unary!("sin, -70 to 70", leaf_sin, |x: f64| x.sin(), &angles);
-    unary!("cos, -70 to 70", leaf_cos, |x: f64| x.cos(), &angles);
-    unary!("tan, -70 to 70", leaf_tan, |x: f64| x.tan(), &angles);
-    unary!("sin, -1 to 1", leaf_sin, |x: f64| x.sin(), &unit);
-    unary!("cos, -1 to 1", leaf_cos, |x: f64| x.cos(), &unit);
-    unary!("asin, -1 to 1", leaf_asin, |x: f64| x.asin(), &unit);
-    unary!("acos, -1 to 1", leaf_acos, |x: f64| x.acos(), &unit);
-    unary!("atan, -1000 to 1000", leaf_atan, |x: f64| x.atan(), &wide);
-    row("atan2, -1000 to 1000", &|y, x| unsafe { leaf_atan2(y, x) }, &|y, x| black_box(y).atan2(x), &wide, &other);
-    unary!("sqrt, 0 to 100", leaf_sqrt, |x: f64| x.sqrt(), &positive);
-    unary!("floor, -1000 to 1000", leaf_floor, |x: f64| x.floor(), &wide);
-    unary!("trunc, -1000 to 1000", leaf_trunc, |x: f64| x.trunc(), &wide);
-    unary!("round, -1000 to 1000", leaf_round, |x: f64| x.round(), &wide);
-    unary!("as i32, -1000 to 1000", leaf_to_i32, |x: f64| (x as i32) as f64, &wide);
-    unary!("as u32, -1000 to 1000", leaf_to_u32, |x: f64| (x as u32) as f64, &wide);
-    unary!("as i64, -1000 to 1000", leaf_to_i64, |x: f64| (x as i64) as f64, &wide);
-    unary!("as u64, -1000 to 1000", leaf_to_u64, |x: f64| (x as u64) as f64, &wide);
+    unary!("sin, -70 to 70", probe_sin, |x: f64| x.sin(), &angles);
+    unary!("cos, -70 to 70", probe_cos, |x: f64| x.cos(), &angles);
+    unary!("tan, -70 to 70", probe_tan, |x: f64| x.tan(), &angles);
+    unary!("sin, -1 to 1", probe_sin, |x: f64| x.sin(), &unit);
+    unary!("cos, -1 to 1", probe_cos, |x: f64| x.cos(), &unit);
+    unary!("asin, -1 to 1", probe_asin, |x: f64| x.asin(), &unit);
+    unary!("acos, -1 to 1", probe_acos, |x: f64| x.acos(), &unit);
+    unary!("atan, -1000 to 1000", probe_atan, |x: f64| x.atan(), &wide);
+    row("atan2, -1000 to 1000", &|y, x| unsafe { probe_atan2(y, x) }, &|y, x| black_box(y).atan2(x), &wide, &other);
+    unary!("sqrt, 0 to 100", probe_sqrt, |x: f64| x.sqrt(), &positive);
+    unary!("floor, -1000 to 1000", probe_floor, |x: f64| x.floor(), &wide);
+    unary!("trunc, -1000 to 1000", probe_trunc, |x: f64| x.trunc(), &wide);
+    unary!("round, -1000 to 1000", probe_round, |x: f64| x.round(), &wide);
+    unary!("as i32, -1000 to 1000", probe_to_i32, |x: f64| (x as i32) as f64, &wide);
+    unary!("as u32, -1000 to 1000", probe_to_u32, |x: f64| (x as u32) as f64, &wide);
+    unary!("as i64, -1000 to 1000", probe_to_i64, |x: f64| (x as i64) as f64, &wide);
+    unary!("as u64, -1000 to 1000", probe_to_u64, |x: f64| (x as u64) as f64, &wide);
 }

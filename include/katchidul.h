@@ -1,26 +1,38 @@
-/* Katchidul: what a host in C calls. Link with libkatchidul.a, which `rt staticlib katchidul` builds under target/staticlib.
+/* Katchidul: what a host in C or C++ calls. Link with libkatchidul.a, which `rt staticlib katchidul` builds under target/staticlib, for
+   x86-64 Linux. docs/ORDERS.md says how the bytes of an order are written.
 
    Each answer is a struct by value. `number` is 0 where the call succeeds; else it is the refusal's, `place` says where, and every
-   other field is 0. No call changes a byte of the order, keeps what it is lent or allocates; any bytes are answered.
+   other field is 0. Any bytes are answered, and every call returns.
 
-   number  when                                                              place
-   0       nothing is refused                                                0
-   1       the order is over 1,024 bytes, or a field is cut                  the field's offset, or 0
-   2       an unknown tag, or a length that the tag's value can't have       the field's offset
-   3       a tag a second time                                               the field's offset
-   4       a tag is missing                                                  the tag
-   5       a value is out of range, or a day that the month lacks            the tag
-           a row that the order lacks                                        3, the tag of the rows
-   6       a day has no transit                                              the day: 0 the row's date, 1 and 2 the two after it
-   7       a day has no sunrise                                              the day
-   8       a day has no sunset                                               the day
-   9       a row buffer is under 119 bytes                                   0
-   10      an instant's seconds are beyond 10^12 either way, or its
-           nanoseconds over 999,999,999                                      0
-   11      next or remaining is asked while no prayer is in force            0
+   number  name                      when                                                        place
+   0                                 nothing is refused                                          0
+   1       KATCHIDUL_FIELD_CUT       the order is over 1,024 bytes, or a field is cut            the field's offset, or 0
+   2       KATCHIDUL_FIELD_UNKNOWN   an unknown tag, or a length that its value can't have       the field's offset
+   3       KATCHIDUL_FIELD_AGAIN     a tag a second time                                         the field's offset
+   4       KATCHIDUL_TAG_MISSING     a tag is missing                                            the tag
+   5       KATCHIDUL_OUT_OF_RANGE    a value is out of range, or a day that the month lacks      the tag
+                                     a row that the order lacks                                  3, the tag of the rows
+   6       KATCHIDUL_NO_TRANSIT      a day has no transit                                        the day: 0 the row's date, 1 and 2
+                                                                                                 the two after it
+   7       KATCHIDUL_NO_SUNRISE      a day has no sunrise                                        the day
+   8       KATCHIDUL_NO_SUNSET       a day has no sunset                                         the day
+   9       KATCHIDUL_BUFFER_SHORT    a row buffer is under 119 bytes                             0
+   10      KATCHIDUL_INSTANT_BEYOND  an instant's seconds are beyond 10^12 either way, or its
+                                     nanoseconds over 999,999,999                                0
+   11      KATCHIDUL_NONE_IN_FORCE   next or remaining is asked while no prayer is in force      0
 
    A buffer (9) and an instant (10) are checked before anything else in their calls; then the order (1 to 5), the row (5, place 3), the
-   day (6 to 8), and 11. */
+   day (6 to 8), and 11.
+
+   What a call does with the host's memory. It changes no byte of the order, keeps nothing of what it is lent, allocates nothing and has no
+   state: calls may run on several threads at once, also on the same order, as long as nobody writes to the bytes lent meanwhile. A null
+   pointer is taken with length 0 alone, as an empty order (4, place 1) or an empty buffer (9). A call takes less than 4,096 bytes of
+   stack (tests/host/run prints how many).
+
+   The floating-point environment. The answers are proved for the environment that a C program starts with: rounding to nearest,
+   subnormal numbers kept, no exception trapped. In another one they can be wrong: a host that is linked with -ffast-math starts with
+   subnormal numbers flushed to zero, and a Fajr angle of -5e-324 is then accepted, which is refused by 5, place 12. Each thread has an
+   environment of its own; katchidul_environment_is_default() tells whether the calling thread's will do. */
 #ifndef KATCHIDUL_H
 #define KATCHIDUL_H
 
@@ -31,37 +43,134 @@
 extern "C" {
 #endif
 
-/* What an order asks for. What the order leaves out is as the method, or the table of tags, has it. */
-typedef struct {
+/* Of this header: one more with every change of a call, a struct or a number. Take header and library from the same build. */
+#define KATCHIDUL_VERSION 1
+
+#define KATCHIDUL_ORDER_MAX 1024 /* bytes of an order */
+#define KATCHIDUL_TOWN_MAX 40    /* bytes of a town's name */
+#define KATCHIDUL_ROWS_MAX 250   /* rows of an order */
+#define KATCHIDUL_ROW_BYTES 119  /* of a row's line with its newline, and the least that a row buffer may have */
+#define KATCHIDUL_TIME_COUNT 9
+#define KATCHIDUL_MINUTES_COUNT 6
+#define KATCHIDUL_SECONDS_MAX INT64_C(1000000000000) /* of an instant, either way */
+#define KATCHIDUL_NANOSECONDS_MAX 999999999
+
+/* What `number` says. */
+enum katchidul_refusal {
+  KATCHIDUL_FIELD_CUT = 1,
+  KATCHIDUL_FIELD_UNKNOWN = 2,
+  KATCHIDUL_FIELD_AGAIN = 3,
+  KATCHIDUL_TAG_MISSING = 4,
+  KATCHIDUL_OUT_OF_RANGE = 5,
+  KATCHIDUL_NO_TRANSIT = 6,
+  KATCHIDUL_NO_SUNRISE = 7,
+  KATCHIDUL_NO_SUNSET = 8,
+  KATCHIDUL_BUFFER_SHORT = 9,
+  KATCHIDUL_INSTANT_BEYOND = 10,
+  KATCHIDUL_NONE_IN_FORCE = 11
+};
+
+/* What `prayer` says. */
+enum katchidul_prayer_number {
+  KATCHIDUL_PRAYER_NONE = 0,
+  KATCHIDUL_PRAYER_FAJR = 1,
+  KATCHIDUL_PRAYER_SUNRISE = 2,
+  KATCHIDUL_PRAYER_DHUHR = 3,
+  KATCHIDUL_PRAYER_ASR = 4,
+  KATCHIDUL_PRAYER_MAGHRIB = 5,
+  KATCHIDUL_PRAYER_ISHA = 6,
+  KATCHIDUL_PRAYER_QIYAM = 7,
+  KATCHIDUL_PRAYER_FAJR_TOMORROW = 8
+};
+
+/* Where each time stands in `times`. The middle of the night is a time and no prayer. */
+enum katchidul_time_index {
+  KATCHIDUL_TIME_FAJR = 0,
+  KATCHIDUL_TIME_SUNRISE = 1,
+  KATCHIDUL_TIME_DHUHR = 2,
+  KATCHIDUL_TIME_ASR = 3,
+  KATCHIDUL_TIME_MAGHRIB = 4,
+  KATCHIDUL_TIME_ISHA = 5,
+  KATCHIDUL_TIME_MIDDLE = 6,
+  KATCHIDUL_TIME_QIYAM = 7,
+  KATCHIDUL_TIME_TOMORROW = 8
+};
+
+/* Where each prayer's own minutes stand in `minutes`. */
+enum katchidul_minutes_index {
+  KATCHIDUL_MINUTES_FAJR = 0,
+  KATCHIDUL_MINUTES_SUNRISE = 1,
+  KATCHIDUL_MINUTES_DHUHR = 2,
+  KATCHIDUL_MINUTES_ASR = 3,
+  KATCHIDUL_MINUTES_MAGHRIB = 4,
+  KATCHIDUL_MINUTES_ISHA = 5
+};
+
+/* What the numbers of `method`, `madhab`, `high_latitude_rule`, `rounding` and `shafaq` say; an order has the same. */
+enum katchidul_method {
+  KATCHIDUL_METHOD_MUSLIM_WORLD_LEAGUE = 0,
+  KATCHIDUL_METHOD_EGYPTIAN = 1,
+  KATCHIDUL_METHOD_KARACHI = 2,
+  KATCHIDUL_METHOD_UMM_AL_QURA = 3,
+  KATCHIDUL_METHOD_DUBAI = 4,
+  KATCHIDUL_METHOD_MOONSIGHTING_COMMITTEE = 5,
+  KATCHIDUL_METHOD_NORTH_AMERICA = 6,
+  KATCHIDUL_METHOD_KUWAIT = 7,
+  KATCHIDUL_METHOD_QATAR = 8,
+  KATCHIDUL_METHOD_SINGAPORE = 9,
+  KATCHIDUL_METHOD_TEHRAN = 10,
+  KATCHIDUL_METHOD_TURKEY = 11,
+  KATCHIDUL_METHOD_OTHER = 12
+};
+
+enum katchidul_madhab { KATCHIDUL_MADHAB_SHAFI = 1, KATCHIDUL_MADHAB_HANAFI = 2 };
+
+enum katchidul_high_latitude_rule {
+  KATCHIDUL_HIGH_LATITUDE_RULE_MIDDLE_OF_THE_NIGHT = 0,
+  KATCHIDUL_HIGH_LATITUDE_RULE_SEVENTH_OF_THE_NIGHT = 1,
+  KATCHIDUL_HIGH_LATITUDE_RULE_TWILIGHT_ANGLE = 2
+};
+
+enum katchidul_rounding { KATCHIDUL_ROUNDING_NEAREST = 0, KATCHIDUL_ROUNDING_UP = 1, KATCHIDUL_ROUNDING_NONE = 2 };
+
+enum katchidul_shafaq { KATCHIDUL_SHAFAQ_GENERAL = 0, KATCHIDUL_SHAFAQ_AHMER = 1, KATCHIDUL_SHAFAQ_ABYAD = 2 };
+
+/* What an order asks for. What the order leaves out is as its method, or the table of tags in docs/ORDERS.md, has it. */
+typedef struct katchidul_order {
   uint32_t number, place;
   uint32_t town_at, town_length; /* the part of the order that is the town's name: offset and length in bytes */
   uint32_t year, month, day;     /* the date of row 0 */
   uint32_t rows;                 /* 1 to 250 */
   double latitude, longitude;    /* degrees */
   double fajr_angle, isha_angle; /* degrees */
-  uint32_t method, madhab, high_latitude_rule, rounding, shafaq; /* as the order's numbers */
+  uint32_t method, madhab, high_latitude_rule, rounding, shafaq; /* by their numbers */
   uint32_t isha_interval;        /* minutes */
-  int32_t minutes[6];            /* own minutes: fajr, sunrise, dhuhr, asr, maghrib, isha */
+  int32_t minutes[KATCHIDUL_MINUTES_COUNT]; /* own minutes: fajr, sunrise, dhuhr, asr, maghrib, isha */
 } katchidul_order;
 
-/* Seconds from 1970-01-01T00:00:00 UTC on: fajr, sunrise, dhuhr, asr, maghrib, isha, middle of the night, qiyam, tomorrow's fajr. */
-typedef struct {
+/* Seconds from 1970-01-01T00:00:00 UTC on: fajr, sunrise, dhuhr, asr, maghrib, isha, middle of the night, qiyam, tomorrow's fajr. They
+   need not rise. The first six, after their minutes, are rounded as the order's rounding says: Nearest goes up from second 30, Up to
+   the next minute (from second 0 too), None leaves the seconds. The middle of the night and qiyam are rounded by Nearest, and
+   tomorrow's fajr not. */
+typedef struct katchidul_day {
   uint32_t number, place;
-  int64_t times[9];
+  int64_t times[KATCHIDUL_TIME_COUNT];
 } katchidul_day;
 
-/* 0 none, 1 Fajr, 2 Sunrise, 3 Dhuhr, 4 Asr, 5 Maghrib, 6 Isha, 7 Qiyam, 8 FajrTomorrow. */
-typedef struct {
+/* A prayer by its number, KATCHIDUL_PRAYER_NONE to KATCHIDUL_PRAYER_FAJR_TOMORROW. */
+typedef struct katchidul_prayer {
   uint32_t number, place, prayer;
 } katchidul_prayer;
 
-/* Whole hours, and what is left of an hour in minutes, rounded: 3,599 seconds are 0 hours and 60 minutes. */
-typedef struct {
+/* Whole hours, and what is left of an hour in minutes, rounded: 3,599 seconds are 0 hours and 60 minutes. Half a minute goes up in the
+   last hour (30 seconds are a minute); before that it goes up or down as the doubles of (t / 60 / 60 - hours) * 60 fall (3,630 seconds are
+   1 hour and 0 minutes). */
+typedef struct katchidul_remaining {
   uint32_t number, place, hours, minutes;
 } katchidul_remaining;
 
 /* What a call says that writes into a buffer. */
-typedef struct {
+typedef struct katchidul_reply {
   uint32_t number, place;
 } katchidul_reply;
 
@@ -71,20 +180,33 @@ katchidul_order katchidul_read_order(const uint8_t *order, size_t length);
 /* Works the nine times of a row's date; rows count from 0. Refusals 1 to 8. */
 katchidul_day katchidul_work_day(const uint8_t *order, size_t length, uint32_t row);
 
-/* Names the prayer in force at an instant of the row's day; none (0) is an answer. Refusals 1 to 8 and 10. */
+/* An instant is whole seconds from 1970-01-01T00:00:00 UTC on, rounded down, and nanoseconds, which count forward from there, also before
+   1970: half a second before 1970 is -1 and 500,000,000.
+
+   Names the prayer in force at an instant, from the times of the row's day alone: the last in the list from Fajr to FajrTomorrow whose
+   time is less than a second ahead. None (0) is an answer. Refusals 1 to 8 and 10. */
 katchidul_prayer katchidul_prayer_at(const uint8_t *order, size_t length, uint32_t row, int64_t seconds, uint32_t nanoseconds);
 
-/* Names the next prayer. Refusals 1 to 8, 10 and 11. */
+/* Names the next prayer in that list; after FajrTomorrow it is FajrTomorrow itself. Refusals 1 to 8, 10 and 11. */
 katchidul_prayer katchidul_next_at(const uint8_t *order, size_t length, uint32_t row, int64_t seconds, uint32_t nanoseconds);
 
-/* Tells the time until the next prayer. Refusals 1 to 8, 10 and 11. */
+/* Tells the time until the next prayer: 0 and 0 where that has passed, and so after FajrTomorrow. Refusals 1 to 8, 10 and 11. */
 katchidul_remaining katchidul_remaining_at(const uint8_t *order, size_t length, uint32_t row, int64_t seconds, uint32_t nanoseconds);
 
-/* Writes a row's line at the front of a buffer of `size` bytes, at least 119 (9 below that): the row's date, then the nine times, each as
-   signed days from that date, T and the UTC time (`+0T05:12:00`), with a blank before each and a newline at the end. A full row has
-   119 bytes with its newline and no zero byte after it; the buffer's bytes after them stay. Where the call is refused no byte of the
-   buffer changes. The buffer and the order must not overlap. Refusals 1 to 9. */
+/* Writes a row's line at the front of a buffer of `size` bytes, at least KATCHIDUL_ROW_BYTES (9 below that): the row's date, then the nine
+   times, each as signed days from that date, T and the UTC time (`+0T05:12:00`), with a blank before each and a newline at the end. A full
+   row has 119 bytes with its newline and no zero byte after it; the buffer's bytes after them stay. Where the call is refused no byte
+   of the buffer changes. The buffer and the order must not overlap. Refusals 1 to 9. */
 katchidul_reply katchidul_write_row(const uint8_t *order, size_t length, uint32_t row, uint8_t *buffer, size_t size);
+
+/* Whether the calling thread's floating-point environment is the one that the answers are proved for: 1 or 0. It reads the processor's
+   MXCSR: no subnormal number taken or made zero, rounding to nearest, every exception masked. The six lowest bits say what happened and
+   change no answer. */
+static inline int katchidul_environment_is_default(void) {
+  uint32_t control;
+  __asm__ volatile("stmxcsr %0" : "=m"(control));
+  return (control & 0xffc0u) == 0x1f80u;
+}
 
 #ifdef __cplusplus
 }

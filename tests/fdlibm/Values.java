@@ -8,7 +8,7 @@ import java.util.Random;
  * and tan are NaN here, as in crates/fdlibm_trig. Every NaN is written 7ff8000000000000.
  *
  * java tests/fdlibm/Values.java SEED LINES prints LINES lines for each of the eight functions: the special values first,
- * then random ones, the same for the same seed.
+ * then random ones, the same for the same seed. Two roots more stand at the end.
  */
 public class Values {
     static final StringBuilder OUT = new StringBuilder();
@@ -131,6 +131,8 @@ public class Values {
             }
         }
         pairs(random, lines);
+        // an exact root, and one of a subnormal float that, cut to 600 binary places, lies in the middle of two floats
+        for (long bits : new long[] {0x4022000000000000L, 0x000adca9a24b97f1L}) one('q', Double.longBitsToDouble(bits));
         System.out.print(OUT);
     }
 }

@@ -1,4 +1,5 @@
-/* A host in C: calls the library on good, refused, random and damaged orders. Argument: how many random and damaged orders. */
+/* A host in C: calls the library on good, refused, stored, random and damaged orders. Arguments: the file of stored answers, and how
+   many random and damaged orders. */
 #include <stdio.h>
 #include <stdlib.h>
 
@@ -14,18 +15,26 @@ void check(bool holds, const char *what) {
 }
 
 int main(int count, char **arguments) {
-  uint32_t orders = count > 1 ? (uint32_t)strtoul(arguments[1], NULL, 10) : 200000;
+  if (count != 3) {
+    fprintf(stderr, "usage: host ANSWERS ORDERS\n");
+    return 2;
+  }
   if (!ask_start() || !buffer_start()) {
     fprintf(stderr, "host: no pages to lend from\n");
     return 2;
   }
+  check_names();
   check_refusals();
   check_ranges();
   check_records();
   check_days();
   check_instants();
   check_lines();
-  check_damaged(orders);
+  check_environment();
+  check_threads();
+  check_stack();
+  check_stored(arguments[1]);
+  check_damaged((uint32_t)strtoul(arguments[2], NULL, 10));
   printf("host: %lu checks, %lu failed\n", checks, failed);
   return failed == 0 ? 0 : 1;
 }

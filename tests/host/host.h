@@ -91,12 +91,17 @@ int64_t days_to(int64_t year, int64_t month, int64_t day);
 void check(bool holds, const char *what);
 
 /* The parts of the run. */
+void check_names(void);
 void check_refusals(void);
 void check_ranges(void);
 void check_records(void);
 void check_days(void);
 void check_instants(void);
 void check_lines(void);
+void check_environment(void);
+void check_threads(void);
+void check_stack(void);
+void check_stored(const char *path);
 void check_damaged(uint32_t orders);
 
 #endif

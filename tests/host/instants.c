@@ -1,4 +1,6 @@
 /* Instants: 10 before anything else, 11 after everything, and the marked cases of the prayer in force and of what remains. */
+#include <math.h>
+
 #include "host.h"
 
 #define SECONDS_END INT64_C(1000000000000)
@@ -72,6 +74,18 @@ static void check_remaining(const order_bytes *order, const katchidul_day *day) 
   remains(order, SECONDS_END, LAST_NANOSECOND, 0, 0, "nothing remains at 10^12");
 }
 
+/* Half a minute goes up in the last hour; before that it goes as the doubles of the header's expression fall. */
+static void check_halves(const order_bytes *order, const katchidul_day *day) {
+  uint32_t down = 0;
+  for (uint32_t ahead = 30; ahead < 6 * 3600; ahead += 60) {
+    double whole = ahead / 60.0 / 60.0, hours = trunc(whole), minutes = round((whole - hours) * 60.0);
+    remains(order, day->times[2] - ahead, 0, (uint32_t)hours, (uint32_t)minutes, "half a minute by the header's expression");
+    if (ahead < 3600) remains(order, day->times[2] - ahead, 0, 0, ahead / 60 + 1, "half a minute of the last hour goes up");
+    if (minutes == ahead % 3600 / 60) down++;
+  }
+  check(down > 0, "half a minute goes down too");
+}
+
 void check_instants(void) {
   order_bytes good = good_order(), bad = good_order(), pole = place_order("Pole", 2026, 6, 21, 1, 90, 0, 0), empty = {0};
   answers all = ask(&good, 0, 0, 0);
@@ -84,4 +98,9 @@ void check_instants(void) {
   check_first(&good, &all.day);
   check_prayers(&good, &all.day);
   check_remaining(&good, &all.day);
+  check_halves(&good, &all.day);
+  order_bytes before = place_order("A", 1967, 12, 25, 10, 51.5, -0.125, 5);
+  all = ask(&before, 0, 0, 0);
+  check_first(&before, &all.day);
+  check_prayers(&before, &all.day);
 }

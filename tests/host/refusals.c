@@ -108,7 +108,24 @@ static void check_precedence(void) {
   refused(&first, 2, 0, "the first wrong field of two");
 }
 
+/* A null pointer with length 0 is an empty order, or an empty buffer. */
+static void check_null(void) {
+  const order_bytes good = good_order();
+  uint8_t line[ROW_LENGTH];
+  answers all = {.lent_kept = true, .line_right = true};
+  all.order = katchidul_read_order(NULL, 0);
+  all.day = katchidul_work_day(NULL, 0, 0);
+  all.prayer = katchidul_prayer_at(NULL, 0, 0, 0, 0);
+  all.next = katchidul_next_at(NULL, 0, 0, 0, 0);
+  all.remaining = katchidul_remaining_at(NULL, 0, 0, 0, 0);
+  all.written = katchidul_write_row(NULL, 0, 0, line, sizeof line);
+  check(order_refused(&all.order, 4, 1) && row_refused(&all, 4, 1), "a null pointer with length 0 is an empty order");
+  check(katchidul_write_row(good.bytes, good.length, 0, NULL, 0).number == 9, "a null pointer with size 0 is an empty buffer");
+  check(katchidul_write_row(NULL, 0, 0, NULL, 0).number == 9, "two null pointers");
+}
+
 void check_refusals(void) {
+  check_null();
   check_cut_fields();
   check_sizes();
   check_lengths();

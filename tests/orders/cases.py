@@ -1,5 +1,5 @@
 #!/usr/bin/env python3
-# Makes the orders that crates/order_values reads, good ones and ones damaged in every way, and what it must write of them:
+# Makes the orders that crates/test_orders reads, good ones and ones damaged in every way, and what it must write of them:
 #     tests/orders/cases.py ORDERS LINES
 # The lines come from a reader written here from document 01 and the crate's method.rs alone. Deterministic.
 import datetime
@@ -51,6 +51,14 @@ def fields_of(order):
     return values, None
 
 
+def offsets(order):
+    """Where each field begins, and its tag."""
+    at = 0
+    while at < len(order):
+        yield at, order[at]
+        at += 3 + order[at + 1] * 256 + order[at + 2]
+
+
 def date_of(value):
     try:
         return datetime.date(value[0] * 256 + value[1], value[2], value[3])
@@ -93,7 +101,8 @@ def line(order):
     bits = lambda x: struct.unpack(">Q", struct.pack(">d", x))[0]
     own = struct.unpack(">6h", values.get(11, bytes(12)))
     minutes = struct.unpack(">H", values[14])[0] if 14 in values else interval
-    numbers = [0, 0, date.year, date.month, date.day, values[3][0], bits(real(values[4])), bits(real(values[5])), method, one(7, 1), one(8, 0),
+    town = next(at for at, tag in offsets(order) if tag == 1) + 3
+    numbers = [0, 0, town, len(values[1]), date.year, date.month, date.day, values[3][0], bits(real(values[4])), bits(real(values[5])), method, one(7, 1), one(8, 0),
                one(9, rounding), one(10, 0), bits(angle(12, fajr)), bits(angle(13, isha)), bits(maghrib), minutes, *own, 0, *brought, 0]
     return b"".join(b"%d " % n for n in numbers) + values[1] + b"\n"
 
@@ -148,20 +157,57 @@ def damaged(draw):
     return order
 
 
-def marked(draw):
-    """Document 01's own examples, and points where the order of the checks tells."""
-    pole = [(1, b"Pole"), (2, struct.pack(">HBB", 2026, 6, 21)), (3, b"\1"), (4, struct.pack(">d", 90.0)), (5, bytes(8)), (6, b"\0")]
-    whole = join(pole)
-    dated = lambda year, month, day, rows: join([pole[0], (2, struct.pack(">HBB", year, month, day)), (3, bytes([rows])), *pole[3:]])
-    long = whole + bytes(1024 - len(whole))
-    return [whole, b"", b"\1\0", b"\x63", field(99, b""), whole + field(1, b"Pole"), whole + b"\1\0\0", whole + b"\7\0\2", dated(2026, 13, 1, 1),
-            dated(2026, 4, 31, 0), dated(2026, 4, 30, 0), dated(2199, 12, 31, 1), dated(2199, 12, 31, 2), dated(1900, 1, 1, 251), dated(1899, 12, 31, 1),
-            dated(2200, 1, 1, 1), dated(2023, 2, 29, 1), dated(2024, 2, 29, 1), long, long + b"\0", whole + field(7, b"\1"), whole + field(12, struct.pack(">d", -0.0))]
+def marked():
+    """Document 01's own examples, the ends of each range and what lies beyond them, what stands for a missing tag, and points where the
+    order of the checks tells."""
+    date = lambda year, month, day: struct.pack(">HBB", year, month, day)
+    real = lambda x: struct.pack(">d", x)
+    pole = {1: b"Pole", 2: date(2026, 6, 21), 3: b"\1", 4: real(90.0), 5: real(0.0), 6: b"\0"}
+    # The order of document 01's sheet, 44 bytes, with some of its values others, and with further ones.
+    but = lambda values: join({**pole, **values}.items())
+    without = lambda tag: join((t, value) for t, value in pole.items() if t != tag)
+    whole = but({})
+    minutes = lambda fajr, isha: struct.pack(">6h", fajr, 0, 0, 0, 0, isha)
+    town, long = field(1, b"Pole"), whole + bytes(1024 - len(whole))
+    after = lambda x: struct.unpack(">d", (int.from_bytes(real(x), "big") + 1).to_bytes(8, "big"))[0]
+    nan = float("nan")
+    orders = [whole, b""]
+    # 1: a field cut, in its header or its value; over 1,024 bytes, whatever they are
+    orders += [b"\1\0", b"\x63", b"\1\0\2A", whole + b"\7\0", whole + b"\7\0\1", bytes(1025), long, long + b"\0"]
+    # 2: a tag that is none, and a length that the tag's value can't have
+    orders += [field(99, b""), field(0, b""), field(15, b"\0"), field(1, b""), field(1, b"A" * 41), field(1, b"A" * 40)]
+    # 3: a tag again, before its wrong length; a wrong length before a cut value
+    orders += [town + town, whole + town, whole + b"\1\0\0", whole + b"\7\0\2"]
+    # 4: each tag that may not be missing; before a value out of range, and after a broken field
+    orders += [without(tag) for tag in pole] + [field(1, b"\37") + field(2, pole[2]), field(1, b"\37") + b"\x63"]
+    # 5: a town's bytes
+    orders += [but({1: name}) for name in (b"A\37", b"\177", b" ~")]
+    # a date: months and days that there are not, both ends of the years; before the rows
+    orders += [but({2: date(*day)}) for day in ((2026, 13, 1), (2026, 0, 1), (2026, 4, 31), (2026, 2, 29), (2023, 2, 29), (2024, 2, 29))]
+    orders += [but({2: date(*day)}) for day in ((1899, 12, 31), (1900, 1, 1), (2199, 12, 31), (2200, 1, 1))]
+    orders += [but({2: date(2026, 4, day), 3: b"\0"}) for day in (31, 30)]
+    # rows: 1 to 250, the last by 2199-12-31
+    orders += [but({3: bytes([rows])}) for rows in (0, 250, 251)] + [but({2: date(1900, 1, 1), 3: bytes([251])})]
+    orders += [but({2: date(2199, 12, day), 3: bytes([rows])}) for day, rows in ((31, 2), (1, 31), (1, 32))]
+    # floats: both ends, the next beyond them, NaN, and -0.0, which is read as 0.0
+    orders += [but({tag: real(sign * x)}) for tag, most in ((4, 90.0), (5, 180.0)) for sign in (1, -1) for x in (most, after(most), 0.0)]
+    orders += [but({tag: real(x)}) for tag in (12, 13) for x in (30.0, after(30.0), 0.0, -0.0, -after(0.0))]
+    orders += [but({tag: real(nan)}) for tag in (4, 5, 12, 13)]
+    # choices: both ends and their neighbours
+    orders += [but({6: bytes([number])}) for number in (12, 13)]
+    orders += [but({tag: bytes([number])}) for tag in (7, 8, 9, 10) for number in range(4)]
+    # own minutes, signed 16-bit, which leave the method's; the interval, which leaves the Isha angle
+    orders += [but({11: minutes(*pair)}) for pair in ((-720, 720), (-721, 0), (0, 721), (32767, 0), (0, -32768), (-1, 2))]
+    orders += [but({14: struct.pack(">H", n)}) for n in (0, 1440, 1441)]
+    # what stands for a missing tag comes from the method, and a tag sets its one field
+    orders += [but({6: bytes([method])}) for method in range(12)]
+    orders += [but({6: b"\11", 9: b"\2"}), but({6: b"\13", 11: minutes(-1, 2)})]
+    return orders
 
 
 def main():
     draw = random.Random(1)
-    orders = marked(draw) + [join(good(draw)) for _ in range(1000)] + [damaged(draw) for _ in range(3000)]
+    orders = marked() + [join(good(draw)) for _ in range(1000)] + [damaged(draw) for _ in range(3000)]
     with open(sys.argv[1], "wb") as out:
         out.write(b"".join(struct.pack(">H", len(order)) + order for order in orders))
     with open(sys.argv[2], "wb") as out:

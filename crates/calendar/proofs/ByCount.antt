@@ -30,9 +30,7 @@ year-held n h = by-test (ltb 4294967295 (yearOf n)) refl
   where
     by-test : (b : Bool) → ltb 4294967295 (yearOf n) ≡ b → yearOf n ≤ 4294967295
     by-test true e =
-        let l = ltb-true 4294967295 (yearOf n) e in
-        let m = year-mono 4294967296 (yearOf n) (omega arith) in
-        let i = year-found n in
+        let l = ltb-true 4294967295 (yearOf n) e in let m = year-mono 4294967296 (yearOf n) (omega arith) in let i = year-found n in
         absurd (omega (arith, last-year))
     by-test false e = ltb-false 4294967295 (yearOf n) e
 
@@ -42,8 +40,7 @@ year-past n h = by-test (ltb 4294967295 (yearOf n)) refl
     by-test : (b : Bool) → ltb 4294967295 (yearOf n) ≡ b → 4294967295 < yearOf n
     by-test true e = ltb-true 4294967295 (yearOf n) e
     by-test false e =
-        let l = ltb-false 4294967295 (yearOf n) e in
-        let m = year-mono (yearOf n + 1) 4294967296 (omega arith) in
+        let l = ltb-false 4294967295 (yearOf n) e in let m = year-mono (yearOf n + 1) 4294967296 (omega arith) in
         let i = year-found n in
         absurd (omega (arith, last-year))
 
@@ -65,16 +62,13 @@ module _ (z : ℤ) (n : ℕ) (s : n ≡ sinceFirstOf z) where
       pub rest : Rest
       unfolding daysInYearOf
       rest =
-          let i = year-found n in
-          let s = year-step (yearOf n) in
-          let l = year-short (leapOf (yearOf n)) in
+          let i = year-found n in let s = year-step (yearOf n) in let l = year-short (leapOf (yearOf n)) in
           let g = ap daysBeforeYearOf e in
           record { less = omega arith; from = omega arith; to = omega arith }
 
 last-date : dateAtOf 1568704592609 ≡ dateOf 4294967295 12 31
 last-date =
-    let d = dateOf 4294967295 12 31 in
-    let s = year-step 4294967295 in
+    let d = dateOf 4294967295 12 31 in let s = year-step 4294967295 in
     count-back d (year-end 4294967295) 1568704592609 (omega (arith, ordinal-last 4294967295, last-year))
 
 year-at : (n : ℕ) → dateAtOf n .year ≡ yearOf n
@@ -87,8 +81,7 @@ since-held z = by-test (P (z +ℤ pos 719528)) (leb (P (z +ℤ pos 719528)) 1568
   where
     by-test : (n : ℕ) (b : Bool) → leb n 1568704592609 ≡ b → dateAtOf (cond b n 1568704592609) ≡ cond (leb (dateAtOf n .year) 4294967295) (dateAtOf n) (dateOf 4294967295 12 31)
     by-test n true e =
-        let l = leb-true n 1568704592609 e in
-        let y = year-held n (omega arith) in
+        let l = leb-true n 1568704592609 e in let y = year-held n (omega arith) in
         rw (year-at n, le-leb (yearOf n) 4294967295 y)
     by-test n false e =
         let l = leb-false n 1568704592609 e in

@@ -7,10 +7,11 @@ use native.Mathlib.Omega.{arith}
 use lib.IntN.{ℤ, pos, negsuc, _+ℤ_, +ℤ-idr}
 use lib.Dec.{lit<}
 use lib.Signed.{leZ}
-use Rattle.integers.specs.Parts.{P, N, same, not-negative}
-use Rattle.integers.specs.Sums.{sum, difference}
-use Rattle.integers.specs.Order.{le-yes, to-le}
-use Rattle.integers.specs.Quotients.{floored}
+use Rattle.integers.specs.Parts.{P, N}
+use Rattle.integers.proofs.PartsLaws.{same, not-negative}
+use Rattle.integers.proofs.Sums.{sum, difference}
+use Rattle.integers.proofs.OrderLaws.{le-yes, to-le}
+use Rattle.integers.proofs.QuotientLaws.{floored}
 use Rattle.calendar.specs.Gregorian.{dateOf, leapOf, existsOf, dayAfterOf, dayBeforeOf}
 use Rattle.calendar.specs.Days.{daysInYearOf, ordinalOf, daysBeforeYearOf, dayNumberOf, dateAtOf, dateOfDayOf, weekdayOf}
 use Rattle.calendar.specs.declared.dates.Date.{Date}
@@ -45,9 +46,7 @@ numbered d z h = let b = balance d in same (dayNumberOf d) z (omega arith)
 
 pub day-after : (d : Date) → existsOf d ≡ true → dayNumberOf (dayAfterOf d) ≡ dayNumberOf d +ℤ pos 1
 day-after d h =
-    let f = after d h in
-    let b = balance d in
-    let s = sum (dayNumberOf d) (pos 1) in
+    let f = after d h in let b = balance d in let s = sum (dayNumberOf d) (pos 1) in
     numbered (dayAfterOf d) (dayNumberOf d +ℤ pos 1) (omega arith)
 
 pub day-after-exists : (d : Date) → existsOf d ≡ true → existsOf (dayAfterOf d) ≡ true
@@ -59,32 +58,24 @@ day-before-exists d h n = before d h n .there
 
 pub after-before : (d : Date) → existsOf d ≡ true → (d ≡ dateOf 0 1 1 → ⊥) → dayAfterOf (dayBeforeOf d) ≡ d
 after-before d h n =
-    let b = before d h n in
-    let a = after (dayBeforeOf d) (b .there) in
-    let i = b .next in
+    let b = before d h n in let a = after (dayBeforeOf d) (b .there) in let i = b .next in
     count-injective (dayAfterOf (dayBeforeOf d)) d (a .there) h (omega arith)
 
 pub before-after : (d : Date) → existsOf d ≡ true → dayBeforeOf (dayAfterOf d) ≡ d
 before-after d h =
-    let a = after d h in
-    let b = before (dayAfterOf d) (a .there) not-first in
-    let i = b .next in
+    let a = after d h in let b = before (dayAfterOf d) (a .there) not-first in let i = b .next in
     count-injective (dayBeforeOf (dayAfterOf d)) d (b .there) h (omega arith)
   where
     not-first : dayAfterOf d ≡ dateOf 0 1 1 → ⊥
     not-first e =
-        let a = after d h in
-        let o = ordinal-within d h in
-        let c : count (dayAfterOf d) ≡ count (dateOf 0 1 1) = ap count e in
+        let a = after d h in let o = ordinal-within d h in let c : count (dayAfterOf d) ≡ count (dateOf 0 1 1) = ap count e in
         omega (arith, year-zero, ordinal-first 0)
 
 -- ---- a date and the number of its day give each other
 pub date-of-number : (d : Date) → existsOf d ≡ true → dateOfDayOf (dayNumberOf d) ≡ d
 unfolding dateOfDayOf
 date-of-number d h =
-    let o = ordinal-within d h in
-    let b = balance d in
-    let s = sum (dayNumberOf d) (pos 719528) in
+    let o = ordinal-within d h in let b = balance d in let s = sum (dayNumberOf d) (pos 719528) in
     let n = not-negative (dayNumberOf d +ℤ pos 719528) (omega arith) in
     count-back d h (P (dayNumberOf d +ℤ pos 719528)) (omega arith)
 
@@ -92,9 +83,7 @@ date-of-number d h =
 pub number-of-date : (z : ℤ) → leZ (negsuc 719527) z ≡ true → dayNumberOf (dateOfDayOf z) ≡ z
 unfolding dateOfDayOf
 number-of-date z h =
-    let l = le-yes (negsuc 719527) z h in
-    let s = sum z (pos 719528) in
-    let n = not-negative (z +ℤ pos 719528) (omega arith) in
+    let l = le-yes (negsuc 719527) z h in let s = sum z (pos 719528) in let n = not-negative (z +ℤ pos 719528) (omega arith) in
     let c = count-forth (P (z +ℤ pos 719528)) in
     numbered (dateAtOf (P (z +ℤ pos 719528))) z (omega arith)
 
@@ -108,13 +97,8 @@ row-first d h = ap dateOfDayOf (+ℤ-idr (dayNumberOf d)) ∙ date-of-number d h
 
 pub row-next : (d : Date) (k : ℕ) → existsOf d ≡ true → dateOfDayOf (dayNumberOf d +ℤ pos (k + 1)) ≡ dayAfterOf (dateOfDayOf (dayNumberOf d +ℤ pos k))
 row-next d k h =
-    let z = dayNumberOf d in
-    let e = dateOfDayOf (z +ℤ pos k) in
-    let t = date-of-day-exists (z +ℤ pos k) in
-    let o = ordinal-within d h in
-    let b = balance d in
-    let s = sum z (pos k) in
-    let r = sum z (pos (k + 1)) in
+    let z = dayNumberOf d in let e = dateOfDayOf (z +ℤ pos k) in let t = date-of-day-exists (z +ℤ pos k) in
+    let o = ordinal-within d h in let b = balance d in let s = sum z (pos k) in let r = sum z (pos (k + 1)) in
     let i = sum (z +ℤ pos k) (pos 1) in
     let a : z +ℤ pos (k + 1) ≡ (z +ℤ pos k) +ℤ pos 1 = same (z +ℤ pos (k + 1)) ((z +ℤ pos k) +ℤ pos 1) (omega arith) in
     let n : dayNumberOf e ≡ z +ℤ pos k = number-of-date (z +ℤ pos k) (to-le (negsuc 719527) (z +ℤ pos k) (omega arith)) in
@@ -128,9 +112,7 @@ weekday-zero = refl
 pub weekday-next : (z : ℤ) → weekdayOf (z +ℤ pos 1) ≡ (weekdayOf z + 1) % 7
 unfolding weekdayOf
 weekday-next z =
-    let f = floored z 7 (lit< tt) in
-    let g = floored (z +ℤ pos 1) 7 (lit< tt) in
-    let s = sum z (pos 1) in
+    let f = floored z 7 (lit< tt) in let g = floored (z +ℤ pos 1) 7 (lit< tt) in let s = sum z (pos 1) in
     omega arith
 
 ends : (daysBeforeYearOf 1899 ≡ 693596) × (daysBeforeYearOf 2201 ≡ 803899)
@@ -141,10 +123,6 @@ ends = (refl, refl)
 pub days-between : (d : Date) → existsOf d ≡ true → 1899 ≤ d .year → d .year ≤ 2200 →
     (leZ (negsuc 25931) (dayNumberOf d) ≡ true) × (leZ (dayNumberOf d) (pos 84370) ≡ true)
 days-between d h p q =
-    let o = ordinal-within d h in
-    let b = balance d in
-    let s = year-step (d .year) in
-    let i = year-mono 1899 (d .year) p in
-    let j = year-mono (d .year + 1) 2201 (omega arith) in
-    let k = ends in
+    let o = ordinal-within d h in let b = balance d in let s = year-step (d .year) in let i = year-mono 1899 (d .year) p in
+    let j = year-mono (d .year + 1) 2201 (omega arith) in let k = ends in
     (to-le (negsuc 25931) (dayNumberOf d) (omega (arith, k .0)), to-le (dayNumberOf d) (pos 84370) (omega (arith, k .1)))

@@ -5,7 +5,7 @@ use Prim.Native.Nat.{ℕ, _+_, _-_, _≤_, _<_}
 use native.Mathlib.Omega.{arith}
 use lib.Dec.{leb, lit≤}
 use borrow.Author.Tests.{leb-true, le-leb}
-use Rattle.calendar.specs.Gregorian.{dateOf, leapOf, monthDaysOf, existsOf}
+use Rattle.calendar.specs.Gregorian.{dateOf, leapOf, daysInMonthOf, existsOf}
 use Rattle.calendar.specs.Days.{daysBeforeOf, daysInYearOf, ordinalOf, ofOrdinalOf, monthOf, daysBeforeYearOf, dateAtOf, yearOf}
 use Rattle.calendar.specs.declared.dates.Date.{Date}
 use Rattle.calendar.proofs.MonthTables.{year-short, Month, month, month-found, month-place}
@@ -14,20 +14,20 @@ use Rattle.calendar.proofs.YearSteps.{In, year-step, year-found, year-u
 -- ---- what it means that a date exists
 pub record Exists (d : Date) : Type 0 where
   pub from : 0 < d .day
-  pub to : d .day ≤ monthDaysOf (d .year) (d .month)
+  pub to : d .day ≤ daysInMonthOf (d .year) (d .month)
 
 pub exists-yes : (d : Date) → existsOf d ≡ true → Exists d
 unfolding existsOf
-exists-yes d h = by-test (leb 1 (d .day)) (leb (d .day) (monthDaysOf (d .year) (d .month))) refl refl h
+exists-yes d h = by-test (leb 1 (d .day)) (leb (d .day) (daysInMonthOf (d .year) (d .month))) refl refl h
   where
-    by-test : (a b : Bool) → leb 1 (d .day) ≡ a → leb (d .day) (monthDaysOf (d .year) (d .month)) ≡ b → a && b ≡ true → Exists d
-    by-test true true p q h = record { from = leb-true 1 (d .day) p; to = leb-true (d .day) (monthDaysOf (d .year) (d .month)) q }
+    by-test : (a b : Bool) → leb 1 (d .day) ≡ a → leb (d .day) (daysInMonthOf (d .year) (d .month)) ≡ b → a && b ≡ true → Exists d
+    by-test true true p q h = record { from = leb-true 1 (d .day) p; to = leb-true (d .day) (daysInMonthOf (d .year) (d .month)) q }
     by-test true false p q h = absurd (true≢false (sym h))
     by-test false b p q h = absurd (true≢false (sym h))
 
 pub to-exists : (d : Date) → Exists d → existsOf d ≡ true
 unfolding existsOf
-to-exists d e = rw (le-leb 1 (d .day) (e .from), le-leb (d .day) (monthDaysOf (d .year) (d .month)) (e .to))
+to-exists d e = rw (le-leb 1 (d .day) (e .from), le-leb (d .day) (daysInMonthOf (d .year) (d .month)) (e .to))
 
 pub month-of-date : (d : Date) → Exists d → Month (leapOf (d .year)) (d .month)
 month-of-date d e = month (leapOf (d .year)) (d .month) (d .day) (e .from) (e .to)
@@ -44,9 +44,7 @@ pub record Ordinal (y n : ℕ) : Type 0 where
 pub ordinal-within : (d : Date) → existsOf d ≡ true → Ordinal (d .year) (ordinalOf d)
 unfolding daysInYearOf
 ordinal-within d h =
-    let e = exists-yes d h in
-    let o = ordinal-is d h in
-    let m = month-of-date d e in
+    let e = exists-yes d h in let o = ordinal-is d h in let m = month-of-date d e in
     record { from = omega arith; to = omega arith }
 
 pub ordinal-short : (d : Date) → ordinalOf d ≤ 366
@@ -55,8 +53,7 @@ ordinal-short d = by-test (existsOf d) refl
   where
     by-test : (b : Bool) → existsOf d ≡ b → cond b (daysBeforeOf (leapOf (d .year)) (d .month) + d .day) 0 ≤ 366
     by-test true h =
-        let e = exists-yes d h in
-        let m = month-of-date d e in
+        let e = exists-yes d h in let m = month-of-date d e in
         omega (arith, year-short (leapOf (d .year)))
     by-test false h = lit≤ tt
 
@@ -64,11 +61,9 @@ ordinal-short d = by-test (existsOf d) refl
 pub ordinal-back : (d : Date) → existsOf d ≡ true → ofOrdinalOf (d .year) (ordinalOf d) ≡ d
 unfolding ofOrdinalOf
 ordinal-back d h =
-    let e = exists-yes d h in
-    let leap = leapOf (d .year) in
+    let e = exists-yes d h in let leap = leapOf (d .year) in
     let f : monthOf leap (ordinalOf d) ≡ d .month = ap (monthOf leap) (ordinal-is d h) ∙ month-found leap (d .month) (d .day) (e .from) (e .to) in
-    let o = ordinal-is d h in
-    let g : ordinalOf d - daysBeforeOf leap (d .month) ≡ d .day = omega arith in
+    let o = ordinal-is d h in let g : ordinalOf d - daysBeforeOf leap (d .month) ≡ d .day = omega arith in
     rw (f, g)
 
 -- and an ordinal gives a date of its year, whose ordinal it is
@@ -82,8 +77,7 @@ unfolding ofOrdinalOf daysInYearOf
 ordinal-forth y n o =
     let p = month-place (leapOf y) n (o .from) (o .to) in
     let d = dateOf y (monthOf (leapOf y) n) (n - daysBeforeOf (leapOf y) (monthOf (leapOf y) n)) in
-    let t = to-exists d (record { from = omega arith; to = omega arith }) in
-    let r = ordinal-is d t in
+    let t = to-exists d (record { from = omega arith; to = omega arith }) in let r = ordinal-is d t in
     record { year = refl; there = t; ordinal = omega arith }
 
 -- ---- the count of days: 1 on 0000-01-01
@@ -92,16 +86,14 @@ count d = daysBeforeYearOf (d .year) + ordinalOf d
 
 in-year : (d : Date) → existsOf d ≡ true → In (count d - 1) (d .year)
 in-year d h =
-    let o = ordinal-within d h in
-    let s = year-step (d .year) in
+    let o = ordinal-within d h in let s = year-step (d .year) in
     record { from = omega arith; before = omega arith }
 
 -- a date is found again by its count
 pub count-back : (d : Date) → existsOf d ≡ true → (n : ℕ) → n + 1 ≡ count d → dateAtOf n ≡ d
 unfolding dateAtOf
 count-back d h n e =
-    let i = in-year d h in
-    let c : n ≡ count d - 1 = omega arith in
+    let i = in-year d h in let c : n ≡ count d - 1 = omega arith in
     let y : yearOf n ≡ d .year = year-unique n (yearOf n) (d .year) (year-found n) (subst (λ (k : ℕ). In k (d .year)) (sym c) i) in
     let o : n + 1 - daysBeforeYearOf (d .year) ≡ ordinalOf d = omega arith in
     rw (y, o) (ordinal-back d h)
@@ -119,10 +111,6 @@ pub record Counted (n : ℕ) (d : Date) : Type 0 where
 pub count-forth : (n : ℕ) → Counted n (dateAtOf n)
 unfolding dateAtOf
 count-forth n =
-    let y = yearOf n in
-    let i = year-found n in
-    let s = year-step y in
-    let k = n + 1 - daysBeforeYearOf y in
-    let d = ordinal-forth y k (record { from = omega arith; to = omega arith }) in
-    let e = ap daysBeforeYearOf (d .year) in
+    let y = yearOf n in let i = year-found n in let s = year-step y in let k = n + 1 - daysBeforeYearOf y in
+    let d = ordinal-forth y k (record { from = omega arith; to = omega arith }) in let e = ap daysBeforeYearOf (d .year) in
     record { there = d .there; number = omega arith }

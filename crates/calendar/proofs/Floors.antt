@@ -8,11 +8,13 @@ use lib.IntN.{ℤ, pos, negsuc, negℤ, _-ℤ_}
 use lib.Signed.{ltZ, quotZ, remZ}
 use mir.Syntax.{w64}
 use mir.Val.{SFits}
-use Rattle.integers.specs.Parts.{P, N, same}
-use Rattle.integers.specs.Sums.{flip, difference}
-use Rattle.integers.specs.Quotients.{floorQuot, divided}
-use Rattle.integers.specs.Order.{lt-yes, lt-no}
-use Rattle.integers.specs.Ranges.{readBack, read, range, fits}
+use Rattle.integers.specs.Parts.{P, N}
+use Rattle.integers.proofs.PartsLaws.{same}
+use Rattle.integers.proofs.Sums.{flip, difference}
+use Rattle.integers.specs.Quotients.{floorQuot}
+use Rattle.integers.proofs.QuotientLaws.{divided}
+use Rattle.integers.proofs.OrderLaws.{lt-yes, lt-no}
+use Rattle.integers.proofs.Ranges.{readBack, read, range, fits}
 
 abbrev day : ℤ
 day = pos 86400
@@ -20,17 +22,14 @@ day = pos 86400
 lower : (t : ℤ) → ltZ (remZ t day) (pos 0) ≡ true → quotZ t day -ℤ pos 1 ≡ floorQuot t 86400
 lower (pos n) h = absurd (omega (arith, lt-yes (pos (n % 86400)) (pos 0) h))
 lower (negsuc n) h =
-    let f = flip (pos (suc n / 86400)) in
-    let g = flip (pos (suc n % 86400)) in
-    let l = lt-yes (negℤ (pos (suc n % 86400))) (pos 0) h in
-    let d = difference (negℤ (pos (suc n / 86400))) (pos 1) in
+    let f = flip (pos (suc n / 86400)) in let g = flip (pos (suc n % 86400)) in
+    let l = lt-yes (negℤ (pos (suc n % 86400))) (pos 0) h in let d = difference (negℤ (pos (suc n / 86400))) (pos 1) in
     same (negℤ (pos (suc n / 86400)) -ℤ pos 1) (negsuc (n / 86400)) (omega (arith, d .0, d .1))
 
 level : (t : ℤ) → ltZ (remZ t day) (pos 0) ≡ false → quotZ t day ≡ floorQuot t 86400
 level (pos n) h = refl
 level (negsuc n) h =
-    let f = flip (pos (suc n / 86400)) in
-    let g = flip (pos (suc n % 86400)) in
+    let f = flip (pos (suc n / 86400)) in let g = flip (pos (suc n % 86400)) in
     let l = lt-no (negℤ (pos (suc n % 86400))) (pos 0) h in
     same (negℤ (pos (suc n / 86400))) (negsuc (n / 86400)) (omega arith)
 
@@ -44,9 +43,7 @@ module _ (t : ℤ) (h : SFits w64 t) where
 
   less-fits : SFits w64 (quotZ t day -ℤ pos 1)
   less-fits =
-      let d = divided t 86400 (lit< tt) in
-      let r = range w64 t h in
-      let s = difference (quotZ t day) (pos 1) in
+      let d = divided t 86400 (lit< tt) in let r = range w64 t h in let s = difference (quotZ t day) (pos 1) in
       fits w64 (quotZ t day -ℤ pos 1) (omega (arith, s .0, s .1)) (omega (arith, s .0, s .1))
 
   pub quotient-fits : SFits w64 (quotZ (readBack w64 t) day)

@@ -9,11 +9,12 @@ use lib.Signed.{ltZ, quotZ, remZ, nonNeg}
 use mir.Syntax.{w64, w32}
 use mir.Val.{SFits, Fits, toZ}
 use borrow.Author.Tests.{le-leb, lt-leb}
-use Rattle.integers.specs.Parts.{P, N, natural, not-negative, not-positive}
-use Rattle.integers.specs.Sums.{sum, difference}
-use Rattle.integers.specs.Order.{lt-yes, lt-no}
-use Rattle.integers.specs.Quotients.{divided, floored}
-use Rattle.integers.specs.Ranges.{range, fits, readBack, read}
+use Rattle.integers.specs.Parts.{P, N}
+use Rattle.integers.proofs.PartsLaws.{natural, not-negative, not-positive}
+use Rattle.integers.proofs.Sums.{sum, difference}
+use Rattle.integers.proofs.OrderLaws.{lt-yes, lt-no}
+use Rattle.integers.proofs.QuotientLaws.{divided, floored}
+use Rattle.integers.proofs.Ranges.{range, fits, readBack, read}
 use Rattle.calendar.specs.Days.{dayNumberOf, weekdayOf}
 use Rattle.calendar.specs.Answers.{sinceFirstOf}
 use Rattle.calendar.specs.declared.dates.Date.{Date}
@@ -54,16 +55,14 @@ module _ (z : ℤ) (f : SFits w64 z) where
   pub first-below : ltZ (readBack w64 z) (negsuc 719527) ≡ true → 0 ≡ sinceFirstOf z
   unfolding sinceFirstOf
   first-below t =
-      let l = lt-yes z (negsuc 719527) (ap (λ (x : ℤ). ltZ x (negsuc 719527)) (sym same-read) ∙ t) in
-      let s = sum z (pos 719528) in
+      let l = lt-yes z (negsuc 719527) (ap (λ (x : ℤ). ltZ x (negsuc 719527)) (sym same-read) ∙ t) in let s = sum z (pos 719528) in
       let n = not-positive (z +ℤ pos 719528) (omega arith) in
       rw n
 
   pub first-above : ltZ (pos 1568703873081) (readBack w64 z) ≡ true → 1568704592609 ≡ sinceFirstOf z
   unfolding sinceFirstOf
   first-above t =
-      let l = lt-yes (pos 1568703873081) z (ap (ltZ (pos 1568703873081)) (sym same-read) ∙ t) in
-      let s = sum z (pos 719528) in
+      let l = lt-yes (pos 1568703873081) z (ap (ltZ (pos 1568703873081)) (sym same-read) ∙ t) in let s = sum z (pos 719528) in
       rw (lt-leb (P (z +ℤ pos 719528)) 1568704592609 (omega arith))
 
   module _ (a : ltZ (readBack w64 z) (negsuc 719527) ≡ false) (b : ltZ (pos 1568703873081) (readBack w64 z) ≡ false) where
@@ -84,8 +83,7 @@ module _ (z : ℤ) (f : SFits w64 z) where
 
     shifted : readBack w64 (readBack w64 z +ℤ pos 719528) ≡ pos (P (z +ℤ pos 719528))
     shifted =
-        let s = sum z (pos 719528) in
-        let l = low in
+        let s = sum z (pos 719528) in let l = low in
         rw same-read (read w64 (z +ℤ pos 719528) sum-fits ∙ natural (z +ℤ pos 719528) (omega arith))
 
     pub shift-cast : T (nonNeg (readBack w64 (readBack w64 z +ℤ pos 719528))) × Fits w64 (natAbs (readBack w64 (readBack w64 z +ℤ pos 719528)))
@@ -103,9 +101,7 @@ module _ (d : Date) (small : d .year ≤ 4294967295) (z : ℤ) (f : SFits w64 z)
   sum-small : SFits w64 (z +ℤ pos row)
   unfolding dayNumberOf
   sum-small =
-      let c = count-room d small in
-      let b = difference (pos (count d)) (pos 719529) in
-      let s = sum z (pos row) in
+      let c = count-room d small in let b = difference (pos (count d)) (pos 719529) in let s = sum z (pos row) in
       fits w64 (z +ℤ pos row) (omega (arith, b .0, b .1, ap P e, ap N e)) (omega (arith, b .0, b .1, ap P e, ap N e))
 
   pub row-fits : SFits w64 (readBack w64 z +ℤ toZ w64 row)
@@ -151,8 +147,6 @@ module _ (z : ℤ) (f : SFits w64 z) where
   pub week-day : natAbs (readBack w64 (remZ (readBack w64 (readBack w64 (remZ (readBack w64 z) (pos 7)) +ℤ pos 11)) (pos 7))) ≡ weekdayOf z
   unfolding weekdayOf k
   week-day =
-      let d = divided z 7 (lit< tt) in
-      let g = floored z 7 (lit< tt) in
-      let s = sum (remZ z (pos 7)) (pos 11) in
+      let d = divided z 7 (lit< tt) in let g = floored z 7 (lit< tt) in let s = sum (remZ z (pos 7)) (pos 11) in
       let e = ap N eleven in
       rw day (omega arith)

@@ -8,7 +8,7 @@ use lib.Dec.{T, eqb, ltb, leb, eqb→eq, leb→le, ltb→lt, le→leb, lit≤}
 use lib.ListN.{List·getD-eq-default}
 use lib.Ieee.Fits.{and-l, and-r}
 use Rattle.calendar.specs.Gregorian.{lengthsOf, lengthOf}
-use Rattle.calendar.specs.Days.{rowOf, daysBeforeOf, countBelow, monthOf}
+use Rattle.calendar.specs.Days.{monthStartsOf, daysBeforeOf, countBelow, monthOf}
 use Rattle.calendar.proofs.Computed.{below, at, tested, when}
 
 -- a year is short
@@ -53,8 +53,8 @@ length-past leap m h = List·getD-eq-default (lengthsOf leap) 0 h
 
 pub before-past : (leap : Bool) (m : ℕ) → 12 < m → daysBeforeOf leap m ≡ 0
 unfolding daysBeforeOf
-before-past true m h = let k : 12 ≤ m - 1 = omega arith in List·getD-eq-default (rowOf true) 0 k
-before-past false m h = let k : 12 ≤ m - 1 = omega arith in List·getD-eq-default (rowOf false) 0 k
+before-past true m h = let k : 12 ≤ m - 1 = omega arith in List·getD-eq-default (monthStartsOf true) 0 k
+before-past false m h = let k : 12 ≤ m - 1 = omega arith in List·getD-eq-default (monthStartsOf false) 0 k
 
 someTest : Bool → ℕ → Bool
 someTest leap k = ltb 0 (lengthOf leap (k + 1))
@@ -81,8 +81,7 @@ month leap (suc k) d p q = by-test (ltb 12 (suc k)) refl
     by-test : (b : Bool) → ltb 12 (suc k) ≡ b → Month leap (suc k)
     by-test true e = let z = length-past leap (suc k) (ltb-true 12 (suc k) e) in absurd (omega arith)
     by-test false e =
-        let l = ltb-false 12 (suc k) e in
-        let t = tested monthTest 13 tt leap (suc k) (omega arith) in
+        let l = ltb-false 12 (suc k) e in let t = tested monthTest 13 tt leap (suc k) (omega arith) in
         record {
           first = omega arith;
           last = l;
@@ -117,10 +116,7 @@ placeTest leap n =
 pub month-place : (leap : Bool) (n : ℕ) → 0 < n → n ≤ cond leap 366 365 → Place leap n (monthOf leap n)
 unfolding placeTest daysBeforeOf lengthOf monthOf countBelow
 month-place leap n p q =
-    let m = monthOf leap n in
-    let a = ltb 0 m in
-    let b = leb m 12 in
-    let c = ltb (daysBeforeOf leap m) n in
+    let m = monthOf leap n in let a = ltb 0 m in let b = leb m 12 in let c = ltb (daysBeforeOf leap m) n in
     let d = leb n (daysBeforeOf leap m + lengthOf leap m) in
     let k = tested placeTest 367 tt leap n (let y = year-short leap in omega arith) in
     let t : T (a && b && c && d) = when (leb n (cond leap 366 365)) _ (when (leb 1 n) _ k (le→leb 1 n p)) (le→leb n (cond leap 366 365) q) in

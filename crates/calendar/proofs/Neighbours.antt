@@ -5,7 +5,7 @@ use Prim.Native.Nat.{ℕ, _+_, _-_, _<_}
 use native.Mathlib.Omega.{arith}
 use lib.Dec.{ltb}
 use borrow.Author.Tests.{ltb-true, ltb-false}
-use Rattle.calendar.specs.Gregorian.{dateOf, leapOf, lengthOf, monthDaysOf, existsOf, dayAfterOf, dayBeforeOf}
+use Rattle.calendar.specs.Gregorian.{dateOf, leapOf, lengthOf, daysInMonthOf, existsOf, dayAfterOf, dayBeforeOf}
 use Rattle.calendar.specs.Days.{daysInYearOf}
 use Rattle.calendar.specs.declared.dates.Date.{Date}
 use Rattle.calendar.proofs.MonthTables.{before-next, before-january, before-december, length-january, length-december, length-some}
@@ -18,7 +18,7 @@ pub record Follows (d e : Date) : Type 0 where
   pub number : count e ≡ count d + 1
 
 -- the first day of a month after the last of the month before, in one year
-next-month : (y m : ℕ) → 0 < m → m < 12 → (d : ℕ) → d ≡ monthDaysOf y m → existsOf (dateOf y m d) ≡ true → Follows (dateOf y m d) (dateOf y (m + 1) 1)
+next-month : (y m : ℕ) → 0 < m → m < 12 → (d : ℕ) → d ≡ daysInMonthOf y m → existsOf (dateOf y m d) ≡ true → Follows (dateOf y m d) (dateOf y (m + 1) 1)
 next-month y m p q d e h =
     let t = to-exists (dateOf y (m + 1) 1) (record { from = omega arith; to = length-some (leapOf y) m q }) in
     let r = before-next (leapOf y) m q in
@@ -42,24 +42,19 @@ next-year y =
 
 pub after : (d : Date) → existsOf d ≡ true → Follows d (dayAfterOf d)
 unfolding dayAfterOf
-after d h = by-test (ltb (d .day) (monthDaysOf (d .year) (d .month))) refl (ltb (d .month) 12) refl
+after d h = by-test (ltb (d .day) (daysInMonthOf (d .year) (d .month))) refl (ltb (d .month) 12) refl
   where
-    by-test : (a : Bool) → ltb (d .day) (monthDaysOf (d .year) (d .month)) ≡ a → (b : Bool) → ltb (d .month) 12 ≡ b →
+    by-test : (a : Bool) → ltb (d .day) (daysInMonthOf (d .year) (d .month)) ≡ a → (b : Bool) → ltb (d .month) 12 ≡ b →
         Follows d (cond a (dateOf (d .year) (d .month) (d .day + 1)) (cond b (dateOf (d .year) (d .month + 1) 1) (dateOf (d .year + 1) 1 1)))
     by-test true p b q =
-        let e = dateOf (d .year) (d .month) (d .day + 1) in
-        let l = ltb-true (d .day) (monthDaysOf (d .year) (d .month)) p in
+        let e = dateOf (d .year) (d .month) (d .day + 1) in let l = ltb-true (d .day) (daysInMonthOf (d .year) (d .month)) p in
         let t = to-exists e (record { from = omega arith; to = omega arith }) in
         record { there = t; number = omega (arith, ordinal-is d h, ordinal-is e t) }
     by-test false p true q =
-        let x = exists-yes d h in
-        let m = month-of-date d x in
-        let l = ltb-false (d .day) (monthDaysOf (d .year) (d .month)) p in
+        let x = exists-yes d h in let m = month-of-date d x in let l = ltb-false (d .day) (daysInMonthOf (d .year) (d .month)) p in
         next-month (d .year) (d .month) (m .first) (ltb-true (d .month) 12 q) (d .day) (omega arith) h
     by-test false p false q =
-        let x = exists-yes d h in
-        let m = month-of-date d x in
-        let l = ltb-false (d .day) (monthDaysOf (d .year) (d .month)) p in
+        let x = exists-yes d h in let m = month-of-date d x in let l = ltb-false (d .day) (daysInMonthOf (d .year) (d .month)) p in
         let m12 : d .month ≡ 12 = omega (arith, ltb-false (d .month) 12 q) in
         let d31 : d .day ≡ 31 = let n = length-december (leapOf (d .year)) in let k = ap (lengthOf (leapOf (d .year))) m12 in omega arith in
         let e : dateOf (d .year) 12 31 ≡ d = rw (m12, d31) in
@@ -77,40 +72,29 @@ before d h n = by-test (ltb 1 (d .day)) refl (ltb 1 (d .month)) refl (ltb 0 (d .
     by-test : (a : Bool) → ltb 1 (d .day) ≡ a → (b : Bool) → ltb 1 (d .month) ≡ b → (c : Bool) → ltb 0 (d .year) ≡ c →
         Precedes
         (cond a (dateOf (d .year) (d .month) (d .day - 1))
-        (cond b (dateOf (d .year) (d .month - 1) (monthDaysOf (d .year) (d .month - 1))) (cond c (dateOf (d .year - 1) 12 31) d)))
+        (cond b (dateOf (d .year) (d .month - 1) (daysInMonthOf (d .year) (d .month - 1))) (cond c (dateOf (d .year - 1) 12 31) d)))
         d
     by-test true p b q c r =
-        let e = dateOf (d .year) (d .month) (d .day - 1) in
-        let x = exists-yes d h in
-        let l = ltb-true 1 (d .day) p in
+        let e = dateOf (d .year) (d .month) (d .day - 1) in let x = exists-yes d h in let l = ltb-true 1 (d .day) p in
         let t = to-exists e (record { from = omega arith; to = omega arith }) in
         record { there = t; next = record { there = h; number = omega (arith, ordinal-is d h, ordinal-is e t) } }
     by-test false p true q c r =
-        let x = exists-yes d h in
-        let m = month-of-date d x in
-        let l = ltb-true 1 (d .month) q in
-        let days = monthDaysOf (d .year) (d .month - 1) in
-        let e = dateOf (d .year) (d .month - 1) days in
+        let x = exists-yes d h in let m = month-of-date d x in let l = ltb-true 1 (d .month) q in
+        let days = daysInMonthOf (d .year) (d .month - 1) in let e = dateOf (d .year) (d .month - 1) days in
         let k : d .month - 2 + 1 ≡ d .month - 1 = omega arith in
-        let s : 0 < days = subst (λ (i : ℕ). 0 < monthDaysOf (d .year) i) k (length-some (leapOf (d .year)) (d .month - 2) (omega arith)) in
-        let t = to-exists e (record { from = s; to = omega arith }) in
-        let i : d .month - 1 + 1 ≡ d .month = omega arith in
+        let s : 0 < days = subst (λ (i : ℕ). 0 < daysInMonthOf (d .year) i) k (length-some (leapOf (d .year)) (d .month - 2) (omega arith)) in
+        let t = to-exists e (record { from = s; to = omega arith }) in let i : d .month - 1 + 1 ≡ d .month = omega arith in
         let j : 1 ≡ d .day = omega (arith, ltb-false 1 (d .day) p) in
         let f : dateOf (d .year) (d .month - 1 + 1) 1 ≡ d = rw (i, j) in
         record { there = t; next = subst (λ (g : Date). Follows e g) f (next-month (d .year) (d .month - 1) (omega arith) (omega arith) days refl t) }
     by-test false p false q true r =
-        let x = exists-yes d h in
-        let m = month-of-date d x in
-        let l = ltb-true 0 (d .year) r in
+        let x = exists-yes d h in let m = month-of-date d x in let l = ltb-true 0 (d .year) r in
         let i : 1 ≡ d .month = omega (arith, ltb-false 1 (d .month) q) in
-        let j : 1 ≡ d .day = omega (arith, ltb-false 1 (d .day) p) in
-        let y : d .year - 1 + 1 ≡ d .year = omega arith in
+        let j : 1 ≡ d .day = omega (arith, ltb-false 1 (d .day) p) in let y : d .year - 1 + 1 ≡ d .year = omega arith in
         let f : dateOf (d .year - 1 + 1) 1 1 ≡ d = ap (λ (z : ℕ). dateOf z 1 1) y ∙ ap (λ (z : ℕ). dateOf (d .year) z 1) i ∙ ap (dateOf (d .year) (d .month)) j in
         record { there = year-end (d .year - 1); next = subst (λ (g : Date). Follows (dateOf (d .year - 1) 12 31) g) f (next-year (d .year - 1)) }
     by-test false p false q false r =
-        let x = exists-yes d h in
-        let m = month-of-date d x in
-        let y : d .year ≡ 0 = omega (arith, ltb-false 0 (d .year) r) in
+        let x = exists-yes d h in let m = month-of-date d x in let y : d .year ≡ 0 = omega (arith, ltb-false 0 (d .year) r) in
         let i : d .month ≡ 1 = omega (arith, ltb-false 1 (d .month) q) in
         let j : d .day ≡ 1 = omega (arith, ltb-false 1 (d .day) p) in
         absurd (n (ap (λ (z : ℕ). dateOf z (d .month) (d .day)) y ∙ ap (λ (z : ℕ). dateOf 0 z (d .day)) i ∙ ap (dateOf 0 1) j))

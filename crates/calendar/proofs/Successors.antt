@@ -8,14 +8,14 @@ use lib.IntN.{pos, _+ℤ_}
 use borrow.Author.Tests.{le-leb}
 use Rattle.calendar.specs.Answers.{heldOf, fromOf, tomorrowOf, yesterdayOf, rowDateOf}
 use Rattle.calendar.specs.Days.{dayNumberOf, dateOfDayOf}
-use Rattle.calendar.specs.Gregorian.{dateOf, existsOf, monthDaysOf, dayAfterOf, dayBeforeOf}
+use Rattle.calendar.specs.Gregorian.{dateOf, existsOf, daysInMonthOf, dayAfterOf, dayBeforeOf}
 use Rattle.calendar.specs.declared.dates.Date.{Date}
 use Rattle.calendar.proofs.CalendarLaws.{before-after, day-after-exists, row-next, date-of-day-exists}
 
 -- a year holds, or the next one begins
 pub year-after : (d : Date) → (d .year ≤ dayAfterOf d .year) × (dayAfterOf d .year ≤ d .year + 1)
 unfolding dayAfterOf
-year-after d = by-tests (ltb (d .day) (monthDaysOf (d .year) (d .month))) (ltb (d .month) 12)
+year-after d = by-tests (ltb (d .day) (daysInMonthOf (d .year) (d .month))) (ltb (d .month) 12)
   where
     after : Bool → Bool → Date
     after b c = cond b (dateOf (d .year) (d .month) (d .day + 1)) (cond c (dateOf (d .year) (d .month + 1) 1) (dateOf (d .year + 1) 1 1))
@@ -53,8 +53,7 @@ module _ (d : Date) (h : existsOf d ≡ true) where
   pub row-tomorrow : (k : ℕ) → dateOfDayOf (dayNumberOf d +ℤ pos k) .year + 1 ≤ 4294967295 → rowDateOf d (k + 1) ≡ tomorrowOf (rowDateOf d k)
   row-tomorrow k l =
       let e : Date = dateOfDayOf (dayNumberOf d +ℤ pos k) in
-      let n : dateOfDayOf (dayNumberOf d +ℤ pos (k + 1)) ≡ dayAfterOf e = row-next d k h in
-      let y = year-after e .1 in
+      let n : dateOfDayOf (dayNumberOf d +ℤ pos (k + 1)) ≡ dayAfterOf e = row-next d k h in let y = year-after e .1 in
       row-is (k + 1) (subst (λ (x : Date). x .year ≤ 4294967295) (sym n) (omega arith))
       ∙ n
       ∙ sym (tomorrow-is e (date-of-day-exists (dayNumberOf d +ℤ pos k)) l)

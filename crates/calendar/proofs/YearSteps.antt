@@ -3,11 +3,12 @@ use mathlib.Core.Path.{_≡_, refl, sym, subst}
 use mathlib.Core.Bool.{Bool, true, false, cond, not, _&&_, _||_}
 use Prim.Native.Nat.{ℕ, zero, suc, _+_, _-_, _*_, _/_, _%_, _≤_, _<_}
 use native.Mathlib.Nat.{zero-add, le-refl, le-antisymm}
+use native.Mathlib.Numerals.{add-one}
 use native.Mathlib.Omega.{arith}
 use lib.Dec.{T, ltb, leb}
 use borrow.Author.Tests.{eqb-true, eqb-false, ltb-true, ltb-false, leb-true, leb-false}
 use Rattle.calendar.specs.Gregorian.{divides, leapOf}
-use Rattle.calendar.specs.Days.{daysInYearOf, daysBeforeYearOf, yearOf}
+use Rattle.calendar.specs.Days.{daysInYearOf, daysBeforeYearOf, lastBy, yearOf}
 
 -- ---- a year later
 -- each of the three rules adds a day after a year that it names
@@ -72,9 +73,7 @@ year-mono y z h = let e : z - y + y ≡ z = omega arith in subst (λ (x : ℕ). 
     up : (k : ℕ) → daysBeforeYearOf y ≤ daysBeforeYearOf (k + y)
     up zero = rw (zero-add y) (le-refl (daysBeforeYearOf y))
     up (suc k) =
-        let e : k + y + 1 ≡ suc k + y = omega arith in
-        let g = year-step (k + y) in
-        let i = up k in
+        let e : k + y + 1 ≡ suc k + y = omega arith in let g = year-step (k + y) in let i = up k in
         subst (λ (x : ℕ). daysBeforeYearOf y ≤ daysBeforeYearOf x) e (omega arith)
 
 -- a year that begins after some day is not the first
@@ -96,23 +95,22 @@ spread y = shares ((y + 3) / 4) ((y + 99) / 100) ((y + 399) / 400) (omega arith)
         (146097 * y ≤ 400 * (365 * y + i - j + k) + 396) × (400 * (365 * y + i - j + k) ≤ 146097 * y + 699)
     shares i j k a b c d e f = (omega arith, omega arith)
 
+last-found : (y n : ℕ) → n < daysBeforeYearOf (y + 1) → In n (lastBy y n)
+unfolding lastBy
+last-found zero n h = record { from = omega (arith, year-zero); before = h }
+last-found (suc y) n h = by-test (leb (daysBeforeYearOf (suc y)) n) refl (last-found y n)
+  where
+    by-test : (b : Bool) → leb (daysBeforeYearOf (suc y)) n ≡ b → (n < daysBeforeYearOf (y + 1) → In n (lastBy y n)) → In n (cond b (suc y) (lastBy y n))
+    by-test true e earlier = record { from = leb-true (daysBeforeYearOf (suc y)) n e; before = h }
+    by-test false e earlier = earlier (rw (add-one y) (leb-false (daysBeforeYearOf (suc y)) n e))
+
+not-short : (y : ℕ) → 365 * y ≤ daysBeforeYearOf y
+unfolding daysBeforeYearOf
+not-short y = omega arith
+
 pub year-found : (n : ℕ) → In n (yearOf n)
 unfolding yearOf
-year-found n = by-test ((n + 1) * 400 / 146097) (omega arith) (omega arith) (leb (daysBeforeYearOf ((n + 1) * 400 / 146097)) n) refl
-  where
-    by-test : (guess : ℕ) → 146097 * guess ≤ (n + 1) * 400 → (n + 1) * 400 < 146097 * (guess + 1) →
-        (b : Bool) → leb (daysBeforeYearOf guess) n ≡ b → In n (cond b guess (guess - 1))
-    by-test guess l g true h = let s = spread (guess + 1) in record { from = leb-true (daysBeforeYearOf guess) n h; before = omega (arith, s .0) }
-    by-test zero l g false h = absurd (omega (arith, leb-false (daysBeforeYearOf 0) n h, year-zero))
-    by-test (suc k) l g false h =
-        let f = leb-false (daysBeforeYearOf (suc k)) n h in
-        let s = spread k in
-        let e : suc k - 1 + 1 ≡ suc k = omega arith in
-        let z : suc k - 1 ≡ k = omega arith in
-        record {
-          from = subst (λ (x : ℕ). daysBeforeYearOf x ≤ n) (sym z) (omega (arith, s .1));
-          before = subst (λ (x : ℕ). n < daysBeforeYearOf x) (sym e) f;
-        }
+year-found n = last-found (n / 365) n (omega (arith, not-short (n / 365 + 1)))
 
 pub year-unique : (n y z : ℕ) → In n y → In n z → y ≡ z
 year-unique n y z p q = le-antisymm (no-later y z p q) (no-later z y q p)
@@ -123,3 +121,15 @@ year-unique n y z p q = le-antisymm (no-later y z p q) (no-later z y q p)
         by-test : (b : Bool) → ltb z y ≡ b → y ≤ z
         by-test true h = let l = ltb-true z y h in let m = year-mono (z + 1) y (omega arith) in absurd (omega arith)
         by-test false h = ltb-false z y h
+
+-- ---- the quotient is the year or the one after it
+module _ (n guess : ℕ) (is : guess ≡ (n + 1) * 400 / 146097) where
+  pub guess-right : daysBeforeYearOf guess ≤ n → guess ≡ yearOf n
+  guess-right h =
+      let s = spread (guess + 1) in
+      year-unique n guess (yearOf n) (record { from = h; before = omega (arith, s .0) }) (year-found n)
+
+  pub guess-over : n < daysBeforeYearOf guess → guess - 1 ≡ yearOf n
+  guess-over h =
+      let first = year-above guess n h in let e : guess - 1 + 1 ≡ guess = omega arith in let s = spread (guess - 1) in
+      year-unique n (guess - 1) (yearOf n) (record { from = omega (arith, s .1); before = subst (λ (x : ℕ). n < daysBeforeYearOf x) (sym e) h }) (year-found n)

@@ -1,6 +1,6 @@
 -- Days by number: of the year from 1 on, from 1970-01-01 on, and of the week. That these formulas are the calendar of Gregorian is proved in
 -- proofs/CalendarLaws.
-use Prim.Native.Nat.{ℕ, _+_, _-_, _*_, _/_, _%_}
+use Prim.Native.Nat.{ℕ, zero, suc, _+_, _-_, _*_, _/_, _%_}
 use mathlib.Core.Bool.{Bool, cond}
 use mathlib.Core.List.{List, [], _∷_}
 use lib.Dec.{ltb, leb}
@@ -13,14 +13,14 @@ use Rattle.calendar.specs.declared.dates.Date.{Date}
 
 -- ---- days of the year
 -- the days before each month, in a leap year and in a common one
-abbrev pub rowOf : Bool → List ℕ
-rowOf leap =
+abbrev pub monthStartsOf : Bool → List ℕ
+monthStartsOf leap =
     cond leap (0 ∷ 31 ∷ 60 ∷ 91 ∷ 121 ∷ 152 ∷ 182 ∷ 213 ∷ 244 ∷ 274 ∷ 305 ∷ 335 ∷ [])
     (0 ∷ 31 ∷ 59 ∷ 90 ∷ 120 ∷ 151 ∷ 181 ∷ 212 ∷ 243 ∷ 273 ∷ 304 ∷ 334 ∷ [])
 
 -- 0 for a month that there is not
 unfoldable pub daysBeforeOf : Bool → ℕ → ℕ
-daysBeforeOf leap month = getD (rowOf leap) (month - 1) 0
+daysBeforeOf leap month = getD (monthStartsOf leap) (month - 1) 0
 
 unfoldable pub daysInYearOf : ℕ → ℕ
 daysInYearOf year = cond (leapOf year) 366 365
@@ -36,7 +36,7 @@ countBelow (x ∷ xs) n = cond (ltb x n) 1 0 + countBelow xs n
 
 -- the month of a day of the year: as many months as begin before it ends
 unfoldable pub monthOf : Bool → ℕ → ℕ
-monthOf leap ordinal = countBelow (rowOf leap) ordinal
+monthOf leap ordinal = countBelow (monthStartsOf leap) ordinal
 
 unfoldable pub ofOrdinalOf : ℕ → ℕ → Date
 ofOrdinalOf year ordinal =
@@ -52,9 +52,14 @@ daysBeforeYearOf year = 365 * year + (year + 3) / 4 - (year + 99) / 100 + (year 
 unfoldable pub dayNumberOf : Date → ℤ
 dayNumberOf d = pos (daysBeforeYearOf (d .year) + ordinalOf d) -ℤ pos 719529
 
--- the year of the day that is n days after 0000-01-01. 400 years have 146097 days: the quotient is the year or the one after it
+-- the last of the years up to y that begins by the day n days after 0000-01-01
+unfoldable pub lastBy : ℕ → ℕ → ℕ
+lastBy zero n = 0
+lastBy (suc y) n = cond (leb (daysBeforeYearOf (suc y)) n) (suc y) (lastBy y n)
+
+-- that day's year: the last that begins by it. A year has 365 days at least
 unfoldable pub yearOf : ℕ → ℕ
-yearOf n = let guess = (n + 1) * 400 / 146097 in cond (leb (daysBeforeYearOf guess) n) guess (guess - 1)
+yearOf n = lastBy (n / 365) n
 
 -- the date that is n days after 0000-01-01
 unfoldable pub dateAtOf : ℕ → Date

@@ -23,22 +23,22 @@ lengthsOf leap = 0 ∷ 31 ∷ cond leap 29 28 ∷ 31 ∷ 30 ∷ 31 ∷ 30 ∷ 31
 unfoldable pub lengthOf : Bool → ℕ → ℕ
 lengthOf leap month = getD (lengthsOf leap) month 0
 
-abbrev pub monthDaysOf : ℕ → ℕ → ℕ
-monthDaysOf year month = lengthOf (leapOf year) month
+abbrev pub daysInMonthOf : ℕ → ℕ → ℕ
+daysInMonthOf year month = lengthOf (leapOf year) month
 
 -- a month that there is not has no days, so no date in it exists
 unfoldable pub existsOf : Date → Bool
-existsOf d = leb 1 (d .day) && leb (d .day) (monthDaysOf (d .year) (d .month))
+existsOf d = leb 1 (d .day) && leb (d .day) (daysInMonthOf (d .year) (d .month))
 
 -- the next day of the month; after the last the first of the next month; after December's the first of January
 unfoldable pub dayAfterOf : Date → Date
 dayAfterOf d =
-    cond (ltb (d .day) (monthDaysOf (d .year) (d .month))) (dateOf (d .year) (d .month) (d .day + 1))
+    cond (ltb (d .day) (daysInMonthOf (d .year) (d .month))) (dateOf (d .year) (d .month) (d .day + 1))
     (cond (ltb (d .month) 12) (dateOf (d .year) (d .month + 1) 1) (dateOf (d .year + 1) 1 1))
 
 -- the same backwards; nothing is before 0000-01-01, which stays
 unfoldable pub dayBeforeOf : Date → Date
 dayBeforeOf d =
     cond (ltb 1 (d .day)) (dateOf (d .year) (d .month) (d .day - 1))
-    (cond (ltb 1 (d .month)) (dateOf (d .year) (d .month - 1) (monthDaysOf (d .year) (d .month - 1)))
+    (cond (ltb 1 (d .month)) (dateOf (d .year) (d .month - 1) (daysInMonthOf (d .year) (d .month - 1)))
     (cond (ltb 0 (d .year)) (dateOf (d .year - 1) 12 31) d))

@@ -6,8 +6,10 @@ use mathlib.Core.List.{List}
 use lib.Dec.{ltb, leb}
 use lib.IntN.{ℤ, pos, negsuc}
 use lib.Signed.{leZ}
+use Rattle.refusals.specs.Refusals.{refusal, outOfRange, instantBeyond, noneInForce}
+use Rattle.refusals.specs.declared.Refusal.{Refusal}
 use Rattle.calendar.specs.Answers.{rowDateOf}
-use Rattle.models.specs.Refusals.{refusal}
+use Rattle.calendar.specs.declared.dates.Date.{Date}
 use Rattle.order.specs.declared.reading.Order.{Order}
 use Rattle.order.specs.declared.reading.Reading.{Reading}
 use Rattle.order.specs.declared.reading.Reading.the-variants as reading
@@ -21,19 +23,23 @@ use Rattle.schedule.specs.declared.prayer_times.Worked.{Worked}
 use Rattle.schedule.specs.declared.prayer_times.Worked.the-variants as worked
 use Rattle.schedule.specs.InForce.{currentTimeOf, nextOf, timeRemainingOf}
 use Rattle.schedule.specs.Times.{workedAt}
-use Rattle.calls.specs.declared.in_force.Named.{Named}
-use Rattle.calls.specs.declared.in_force.Named.the-variants as named
-use Rattle.calls.specs.declared.in_force.Following.{Following}
-use Rattle.calls.specs.declared.in_force.Following.the-variants as following
-use Rattle.calls.specs.declared.in_force.Left.{Left}
-use Rattle.calls.specs.declared.in_force.Left.the-variants as left
+use Rattle.calls.specs.declared.in_force.InForce.{InForce}
+use Rattle.calls.specs.declared.in_force.InForce.the-variants as force
+use Rattle.calls.specs.declared.in_force.NextPrayer.{NextPrayer}
+use Rattle.calls.specs.declared.in_force.NextPrayer.the-variants as next
+use Rattle.calls.specs.declared.in_force.TimeUntil.{TimeUntil}
+use Rattle.calls.specs.declared.in_force.TimeUntil.the-variants as until
 
 -- ---- a day
+abbrev pub workDateOf : Order → Date → Worked
+workDateOf order date = workedAt date (order .coordinates) (order .parameters)
+
 -- "rows count from 0, and a row that the order lacks is 5, place 3"
+abbrev pub lacksRow : Refusal
+lacksRow = refusal outOfRange 3
+
 unfoldable pub workRowOf : Order → ℕ → Worked
-workRowOf order row =
-    let date = rowDateOf (order .date) row in
-    cond (ltb row (order .rows)) (workedAt date (order .coordinates) (order .parameters)) (worked.Refused (refusal 5 3))
+workRowOf order row = cond (ltb row (order .rows)) (workDateOf order (rowDateOf (order .date) row)) (worked.Refused lacksRow)
 
 unfoldable pub workReadingOf : Reading → ℕ → Worked
 workReadingOf (reading.Read order) row = workRowOf order row
@@ -43,44 +49,44 @@ unfoldable pub workDayOf : List ℕ → ℕ → Worked
 workDayOf s row = workReadingOf (readingOf s) row
 
 -- ---- an instant
--- 10 is "an instant's whole seconds beyond ±10^12, or its nanoseconds over 999,999,999"
-unfoldable pub instantFits : ℤ → ℕ → Bool
-instantFits seconds nanoseconds = leZ (negsuc 999999999999) seconds && leZ seconds (pos 1000000000000) && leb nanoseconds 999999999
-
 abbrev pub instantOf : ℤ → ℕ → Instant
 instantOf seconds nanoseconds = record { seconds = seconds; nanoseconds = nanoseconds }
 
--- ---- the prayer in force, which may be none
-unfoldable pub namedOf : Worked → Instant → Named
-namedOf (worked.Times t) i = named.Prayer (currentTimeOf t i)
-namedOf (worked.Refused r) i = named.Refused r
+-- 10 is "an instant's whole seconds beyond ±10^12, or its nanoseconds over 999,999,999"
+unfoldable pub instantFits : Instant → Bool
+instantFits i = leZ (negsuc 999999999999) (i .seconds) && leZ (i .seconds) (pos 1000000000000) && leb (i .nanoseconds) 999999999
 
-unfoldable pub prayerAtOf : List ℕ → ℕ → ℤ → ℕ → Named
-prayerAtOf s row seconds nanoseconds =
-    cond (instantFits seconds nanoseconds) (namedOf (workDayOf s row) (instantOf seconds nanoseconds)) (named.Refused (refusal 10 0))
+unfoldable pub workAtOf : List ℕ → ℕ → Instant → Worked
+workAtOf s row i = cond (instantFits i) (workDayOf s row) (worked.Refused (refusal instantBeyond 0))
+
+-- ---- the prayer in force, which may be none
+unfoldable pub inForceOf : Worked → Instant → InForce
+inForceOf (worked.Times t) i = force.Prayer (currentTimeOf t i)
+inForceOf (worked.Refused r) i = force.Refused r
+
+unfoldable pub prayerAtOf : List ℕ → ℕ → Instant → InForce
+prayerAtOf s row i = inForceOf (workAtOf s row i) i
 
 -- ---- the next one. 11 is "next or remaining asked while no prayer is in force"
-unfoldable pub followingIn : Current → Following
-followingIn (Some prayer) = following.Prayer prayer
-followingIn None = following.Refused (refusal 11 0)
+unfoldable pub nextPrayerIn : Current → NextPrayer
+nextPrayerIn (Some prayer) = next.Prayer prayer
+nextPrayerIn None = next.Refused (refusal noneInForce 0)
 
-unfoldable pub followingOf : Worked → Instant → Following
-followingOf (worked.Times t) i = followingIn (nextOf t i)
-followingOf (worked.Refused r) i = following.Refused r
+unfoldable pub nextPrayerOf : Worked → Instant → NextPrayer
+nextPrayerOf (worked.Times t) i = nextPrayerIn (nextOf t i)
+nextPrayerOf (worked.Refused r) i = next.Refused r
 
-unfoldable pub nextAtOf : List ℕ → ℕ → ℤ → ℕ → Following
-nextAtOf s row seconds nanoseconds =
-    cond (instantFits seconds nanoseconds) (followingOf (workDayOf s row) (instantOf seconds nanoseconds)) (following.Refused (refusal 10 0))
+unfoldable pub nextAtOf : List ℕ → ℕ → Instant → NextPrayer
+nextAtOf s row i = nextPrayerOf (workAtOf s row i) i
 
 -- ---- the time until it
-unfoldable pub leftIn : Remaining → Left
-leftIn (In time) = left.Time time
-leftIn Nothing = left.Refused (refusal 11 0)
+unfoldable pub timeUntilIn : Remaining → TimeUntil
+timeUntilIn (In time) = until.Time time
+timeUntilIn Nothing = until.Refused (refusal noneInForce 0)
 
-unfoldable pub leftOf : Worked → Instant → Left
-leftOf (worked.Times t) i = leftIn (timeRemainingOf t i)
-leftOf (worked.Refused r) i = left.Refused r
+unfoldable pub timeUntilOf : Worked → Instant → TimeUntil
+timeUntilOf (worked.Times t) i = timeUntilIn (timeRemainingOf t i)
+timeUntilOf (worked.Refused r) i = until.Refused r
 
-unfoldable pub remainingAtOf : List ℕ → ℕ → ℤ → ℕ → Left
-remainingAtOf s row seconds nanoseconds =
-    cond (instantFits seconds nanoseconds) (leftOf (workDayOf s row) (instantOf seconds nanoseconds)) (left.Refused (refusal 10 0))
+unfoldable pub remainingAtOf : List ℕ → ℕ → Instant → TimeUntil
+remainingAtOf s row i = timeUntilOf (workAtOf s row i) i

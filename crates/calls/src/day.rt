@@ -1,30 +1,44 @@
 // Working the day of an order's row.
 ghost use mathlib.Core.Path.{_≡_};
-ghost use Rattle.calls.specs.Calls.{workRowOf, workDayOf};
-use models::refusal::Refusal;
+ghost use Rattle.calls.specs.Calls.{workDateOf, lacksRow, workRowOf, workDayOf};
+use calendar::dates::Date;
 use order::reading::Order;
 use order::reading::Reading;
 use order::reading::read;
+use refusals::OUT_OF_RANGE;
+use refusals::Refusal;
 use schedule::hours::RowNumbers;
 use schedule::prayer_times::PrayerTimes;
 use schedule::prayer_times::Worked;
 
-// Rows count from 0; one that the order lacks is 5, place 3.
+// The tag of an order's rows: the place of a row that it lacks.
+const ROWS_TAG: u32 = 3;
+
+// A date by the order's place and parameters.
+pub fn work_date(order: Order, date: Date) -> Worked
+    ensures { λ r. ⌜ r ≡ workDateOf order date ⌝ }
+{
+    let coordinates = order.coordinates;
+    let parameters = order.parameters;
+    let numbers = RowNumbers::new(date, coordinates, parameters);
+    PrayerTimes::new(numbers, date, coordinates.latitude, parameters)
+}
+
+pub fn lacks_row() -> Refusal
+    ensures { λ r. ⌜ r ≡ lacksRow ⌝ }
+{
+    Refusal::new(OUT_OF_RANGE, ROWS_TAG)
+}
+
+// Rows count from 0.
 pub fn work_row(order: Order, row: u32) -> Worked
     ensures { λ r. ⌜ r ≡ workRowOf order row ⌝ }
 {
-    let first = order.date;
-    let coordinates = order.coordinates;
-    let parameters = order.parameters;
     if row < order.rows {
-        let date = first.row(row);
-        let numbers = RowNumbers::new(date, coordinates, parameters);
-        return PrayerTimes::new(numbers, date, coordinates.latitude, parameters);
+        let first = order.date;
+        return work_date(order, first.row(row));
     }
-    Worked::Refused(Refusal {
-        number: 5,
-        place: 3,
-    })
+    Worked::Refused(lacks_row())
 }
 
 // The nine times of a row's date, or the refusal of the order, of the row or of the day.

@@ -1,10 +1,12 @@
 // The prayer in force at an instant of a row's day, the next one and the time until it. The instant is checked before anything else.
 ghost use mathlib.Core.Path.{_≡_};
-ghost use Rattle.models.specs.Refusals.{refusal};
-ghost use Rattle.calls.specs.Calls.{instantFits, namedOf, prayerAtOf, followingIn, followingOf, nextAtOf, leftIn, leftOf, remainingAtOf};
+ghost use Rattle.refusals.specs.Refusals.{refusal, instantBeyond, noneInForce};
+ghost use Rattle.calls.specs.Calls.{instantOf, instantFits, workAtOf, prayerAtOf, nextPrayerIn, nextAtOf, timeUntilIn, remainingAtOf};
 use super::day::work_day;
 use models::prayer::Prayer;
-use models::refusal::Refusal;
+use refusals::INSTANT_BEYOND;
+use refusals::NONE_IN_FORCE;
+use refusals::Refusal;
 use schedule::in_force::Current;
 use schedule::in_force::HoursMinutes;
 use schedule::in_force::Instant;
@@ -13,23 +15,23 @@ use schedule::prayer_times::PrayerTimes;
 use schedule::prayer_times::Worked;
 
 // None in force is an answer, and no refusal.
-pub enum Named {
+pub enum InForce {
     Prayer(Current),
     Refused(Refusal),
 }
 
-pub enum Following {
+pub enum NextPrayer {
     Prayer(Prayer),
     Refused(Refusal),
 }
 
-pub enum Left {
+pub enum TimeUntil {
     Time(HoursMinutes),
     Refused(Refusal),
 }
 
 fn instant_fits(seconds: i64, nanoseconds: u32) -> bool
-    ensures { λ r. ⌜ r ≡ instantFits seconds nanoseconds ⌝ }
+    ensures { λ r. ⌜ r ≡ instantFits (instantOf seconds nanoseconds) ⌝ }
 {
     if seconds < -1000000000000 {
         return false;
@@ -40,109 +42,67 @@ fn instant_fits(seconds: i64, nanoseconds: u32) -> bool
     nanoseconds <= 999999999
 }
 
-// An instant beyond ±10^12 seconds, or with a whole second of nanoseconds.
-fn beyond() -> Refusal
-    ensures { λ r. ⌜ r ≡ refusal 10 0 ⌝ }
+// The times of the row's day, for an instant that is in range.
+fn work_at(order: &[u8], row: u32, instant: Instant) -> Worked
+    ensures { λ r. ⌜ r ≡ workAtOf (now (order .entry)) row instant ⌝ }
 {
-    Refusal {
-        number: 10,
-        place: 0,
+    if instant_fits(instant.seconds, instant.nanoseconds) {
+        return work_day(order, row);
     }
+    Worked::Refused(Refusal::new(INSTANT_BEYOND, 0))
 }
 
 // Next or remaining asked while no prayer is in force.
 fn none_in_force() -> Refusal
-    ensures { λ r. ⌜ r ≡ refusal 11 0 ⌝ }
+    ensures { λ r. ⌜ r ≡ refusal noneInForce 0 ⌝ }
 {
-    Refusal {
-        number: 11,
-        place: 0,
-    }
+    Refusal::new(NONE_IN_FORCE, 0)
 }
 
-fn name_of(worked: Worked, instant: Instant) -> Named
-    ensures { λ r. ⌜ r ≡ namedOf worked instant ⌝ }
+pub fn prayer_at(order: &[u8], row: u32, instant: Instant) -> InForce
+    ensures { λ r. ⌜ r ≡ prayerAtOf (now (order .entry)) row instant ⌝ }
 {
-    match worked {
+    match work_at(order, row, instant) {
         Worked::Times(times) => {
             let current = times.current_time(instant);
-            Named::Prayer(current)
+            InForce::Prayer(current)
         }
-        Worked::Refused(refusal) => Named::Refused(refusal),
+        Worked::Refused(refusal) => InForce::Refused(refusal),
     }
 }
 
-pub fn prayer_at(order: &[u8], row: u32, seconds: i64, nanoseconds: u32) -> Named
-    ensures { λ r. ⌜ r ≡ prayerAtOf (now (order .entry)) row seconds nanoseconds ⌝ }
-{
-    if instant_fits(seconds, nanoseconds) {
-        let instant = Instant {
-            seconds: seconds,
-            nanoseconds: nanoseconds,
-        };
-        return name_of(work_day(order, row), instant);
-    }
-    Named::Refused(beyond())
-}
-
-fn next_in(next: Current) -> Following
-    ensures { λ r. ⌜ r ≡ followingIn next ⌝ }
+fn next_in(next: Current) -> NextPrayer
+    ensures { λ r. ⌜ r ≡ nextPrayerIn next ⌝ }
 {
     match next {
-        Current::Some(prayer) => Following::Prayer(prayer),
-        Current::None => Following::Refused(none_in_force()),
+        Current::Some(prayer) => NextPrayer::Prayer(prayer),
+        Current::None => NextPrayer::Refused(none_in_force()),
     }
 }
 
-fn next_of(worked: Worked, instant: Instant) -> Following
-    ensures { λ r. ⌜ r ≡ followingOf worked instant ⌝ }
+pub fn next_at(order: &[u8], row: u32, instant: Instant) -> NextPrayer
+    ensures { λ r. ⌜ r ≡ nextAtOf (now (order .entry)) row instant ⌝ }
 {
-    match worked {
+    match work_at(order, row, instant) {
         Worked::Times(times) => next_in(times.next(instant)),
-        Worked::Refused(refusal) => Following::Refused(refusal),
+        Worked::Refused(refusal) => NextPrayer::Refused(refusal),
     }
 }
 
-pub fn next_at(order: &[u8], row: u32, seconds: i64, nanoseconds: u32) -> Following
-    ensures { λ r. ⌜ r ≡ nextAtOf (now (order .entry)) row seconds nanoseconds ⌝ }
-{
-    if instant_fits(seconds, nanoseconds) {
-        let instant = Instant {
-            seconds: seconds,
-            nanoseconds: nanoseconds,
-        };
-        return next_of(work_day(order, row), instant);
-    }
-    Following::Refused(beyond())
-}
-
-fn left_in(remaining: Remaining) -> Left
-    ensures { λ r. ⌜ r ≡ leftIn remaining ⌝ }
+fn until_in(remaining: Remaining) -> TimeUntil
+    ensures { λ r. ⌜ r ≡ timeUntilIn remaining ⌝ }
 {
     match remaining {
-        Remaining::In(time) => Left::Time(time),
-        Remaining::Nothing => Left::Refused(none_in_force()),
+        Remaining::In(time) => TimeUntil::Time(time),
+        Remaining::Nothing => TimeUntil::Refused(none_in_force()),
     }
 }
 
-fn left_of(worked: Worked, instant: Instant) -> Left
-    ensures { λ r. ⌜ r ≡ leftOf worked instant ⌝ }
+pub fn remaining_at(order: &[u8], row: u32, instant: Instant) -> TimeUntil
+    ensures { λ r. ⌜ r ≡ remainingAtOf (now (order .entry)) row instant ⌝ }
 {
-    match worked {
-        Worked::Times(times) => left_in(times.time_remaining(instant)),
-        Worked::Refused(refusal) => Left::Refused(refusal),
+    match work_at(order, row, instant) {
+        Worked::Times(times) => until_in(times.time_remaining(instant)),
+        Worked::Refused(refusal) => TimeUntil::Refused(refusal),
     }
-}
-
-pub fn remaining_at(order: &[u8], row: u32, seconds: i64, nanoseconds: u32) -> Left
-    ensures { λ r. ⌜ r ≡ remainingAtOf (now (order .entry)) row seconds nanoseconds ⌝ }
-{
-    if instant_fits(seconds, nanoseconds) {
-        let instant = Instant {
-            seconds: seconds,
-            nanoseconds: nanoseconds,
-        };
-        return left_of(work_day(order, row), instant);
-    }
-    Left::Refused(beyond())
 }

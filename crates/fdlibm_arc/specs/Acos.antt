@@ -4,7 +4,7 @@ use lib.Dec.{ltb, leb}
 use lib.Ieee.{Float, nan, lt, eq}
 use Rattle.float64.specs.Ops.{_+ᶠ_, _-ᶠ_, _*ᶠ_, _/ᶠ_, bits}
 use Rattle.float64.specs.Sizes.{absOf}
-use Rattle.float64.specs.Words.{highOf, cutOf}
+use Rattle.float64.specs.Words.{highOf, lowClearedOf}
 use Rattle.fdlibm_root.specs.Root.{sqrtOf}
 use Rattle.fdlibm_arc.specs.Atan.{zero, one, two}
 use Rattle.fdlibm_arc.specs.Asin.{half, pio2-hi, pio2-lo, ratioOf}
@@ -25,7 +25,7 @@ unfoldable pub acosHighOf : Float → Float
 acosHighOf x =
     let z = (one -ᶠ x) *ᶠ half in
     let s = sqrtOf z in
-    let df = cutOf s in
+    let df = lowClearedOf s in
     let c = (z -ᶠ df *ᶠ df) /ᶠ (s +ᶠ df) in
     let w = ratioOf z *ᶠ s +ᶠ c in
     two *ᶠ (df +ᶠ w)

@@ -5,7 +5,7 @@ use lib.Dec.{ltb, leb}
 use lib.Ieee.{Float, nan, neg, lt, eq}
 use Rattle.float64.specs.Ops.{_+ᶠ_, _-ᶠ_, _*ᶠ_, _/ᶠ_, bits}
 use Rattle.float64.specs.Sizes.{absOf}
-use Rattle.float64.specs.Words.{highOf, cutOf}
+use Rattle.float64.specs.Words.{highOf, lowClearedOf}
 use Rattle.fdlibm_root.specs.Root.{sqrtOf}
 use Rattle.fdlibm_arc.specs.Atan.{zero, one, two}
 
@@ -64,7 +64,7 @@ asinLargeOf x ix =
     let t = (one -ᶠ x) *ᶠ half in
     let r = ratioOf t in
     let s = sqrtOf t in
-    let w = cutOf s in
+    let w = lowClearedOf s in
     let c = (t -ᶠ w *ᶠ w) /ᶠ (s +ᶠ w) in
     let p = two *ᶠ s *ᶠ r -ᶠ (pio2-lo -ᶠ two *ᶠ c) in
     let q = pio4-hi -ᶠ two *ᶠ w in

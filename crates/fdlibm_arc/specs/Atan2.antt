@@ -5,7 +5,7 @@ use lib.Dec.{ltb, leb, eqb}
 use lib.Ieee.{Float, nan, neg, eq, ne}
 use Rattle.float64.specs.Ops.{_+ᶠ_, _-ᶠ_, _*ᶠ_, _/ᶠ_, bits}
 use Rattle.float64.specs.Sizes.{absOf}
-use Rattle.float64.specs.Words.{highOf, signOf}
+use Rattle.float64.specs.Words.{highOf, isNegativeOf}
 use Rattle.fdlibm_arc.specs.Atan.{atanOf, zero, one, minus-one}
 use Rattle.fdlibm_arc.specs.Asin.{half}
 use Rattle.fdlibm_arc.specs.Acos.{pi}
@@ -60,8 +60,8 @@ unfoldable pub atan2Of : Float → Float → Float
 atan2Of y x =
     let ix = highOf x in
     let iy = highOf y in
-    let xs = signOf x in
-    let ys = signOf y in
+    let xs = isNegativeOf x in
+    let ys = isNegativeOf y in
     cond (ne x x) nan
     (cond (ne y y) nan
     (cond (eq x one) (atanOf y)

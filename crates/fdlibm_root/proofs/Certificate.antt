@@ -20,8 +20,7 @@ halves s h = products (s / 2 ^ 27) (s % 2 ^ 27) (omega arith) (omega arith)
   where
     products : (a b : ℕ) → a ≤ 67108863 → b ≤ 134217727 → Halves a b
     products a b p q =
-        let aa : a * a ≤ 67108863 * 67108863 = mul-le-mul p p in
-        let ab : a * b ≤ 67108863 * 134217727 = mul-le-mul p q in
+        let aa : a * a ≤ 67108863 * 67108863 = mul-le-mul p p in let ab : a * b ≤ 67108863 * 134217727 = mul-le-mul p q in
         let bb : b * b ≤ 134217727 * 134217727 = mul-le-mul q q in
         record { high = omega arith; mixed = omega arith; low = omega arith }
 
@@ -34,17 +33,12 @@ sum m s a b e j k l z parts top low middle is =
 
 module _ (m s : ℕ) where
   pub residue-is :
-      let a = s / 2 ^ 27 in
-      let b = s % 2 ^ 27 in
-      let over = (m - 4 * a * a) * 2 ^ 25 + 2 ^ 28 in
+      let a = s / 2 ^ 27 in let b = s % 2 ^ 27 in let over = (m - 4 * a * a) * 2 ^ 25 + 2 ^ 28 in
       let under = 2 * a * b + b * b / 2 ^ 27 in
       4 * a * a ≤ m → under < over → (over - under) * 2 ^ 27 - b * b % 2 ^ 27 + s * s ≡ 2 ^ 55 + m * 2 ^ 52
   residue-is top less =
-      let a = s / 2 ^ 27 in
-      let b = s % 2 ^ 27 in
-      let over = (m - 4 * a * a) * 2 ^ 25 + 2 ^ 28 in
-      let under = 2 * a * b + b * b / 2 ^ 27 in
-      let j = over - under in
+      let a = s / 2 ^ 27 in let b = s % 2 ^ 27 in let over = (m - 4 * a * a) * 2 ^ 25 + 2 ^ 28 in
+      let under = 2 * a * b + b * b / 2 ^ 27 in let j = over - under in
       sum m s a b (m - 4 * a * a) j (b * b / 2 ^ 27) (b * b % 2 ^ 27) (j * 2 ^ 27 - b * b % 2 ^ 27)
       (div-add-mod' s (2 ^ 27)) (omega arith) (div-add-mod' (b * b) (2 ^ 27)) (back under over less) (rest j (b * b) (some under over less))
     where

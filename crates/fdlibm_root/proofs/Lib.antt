@@ -1,3 +1,4 @@
+pub mod RootLaws
 pub mod Squares
 pub mod Certificate
 pub mod Rounding
@@ -7,3 +8,5 @@ pub mod Moved
 pub mod Patterns
 pub mod NoNan
 pub mod Special
+pub mod Significand
+pub mod Nearest

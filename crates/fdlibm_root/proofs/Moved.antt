@@ -13,8 +13,7 @@ pub record Moved (t d k : ℕ) : Type 0 where
 
 pub move : (t d k : ℕ) → 0 < t → Moved t d k → d < 2 ^ 52 → Moved t (d * 2) (k + 1)
 move t d k h moved more =
-    let least : 1 * 2 ^ k ≤ t * 2 ^ k = mul-le-mul-right (2 ^ k) h in
-    let far : 52 ≤ k → ⊥ = λ g. lost (2 ^ k) (pow-mono g) least in
+    let least : 1 * 2 ^ k ≤ t * 2 ^ k = mul-le-mul-right (2 ^ k) h in let far : 52 ≤ k → ⊥ = λ g. lost (2 ^ k) (pow-mono g) least in
     record {
       is = rw (add-one k, pow-suc 2 k) (omega (arith, moved .is));
       small = omega arith;

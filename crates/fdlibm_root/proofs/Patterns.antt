@@ -77,7 +77,7 @@ fields-of x h up =
     )
 
 -- ---- the root of w smallest floats
-value-root : (x : Float) (w : ℕ) → 0 < w → HasValue x false w (2 ^ 1074) → sqrtOf x ≡ roundedRoot (w * 2 ^ 126)
+pub value-root : (x : Float) (w : ℕ) → 0 < w → HasValue x false w (2 ^ 1074) → sqrtOf x ≡ roundedRoot (w * 2 ^ 126)
 unfolding sqrtOf
 value-root x w h v = go x v (positive-of-value x w (2 ^ 1074) v h)
   where
@@ -108,8 +108,7 @@ module _ (x : Float) (h : fits binary64 x ≡ true) (up : Above x) where
 
   pub subnormal-root : toBits binary64 x < 2 ^ 52 → sqrtOf x ≡ roundedRoot (toBits binary64 x * 2 ^ 126)
   subnormal-root small =
-      let b = toBits binary64 x in
-      let E : b / 2 ^ 52 ≡ 0 = omega arith in
+      let b = toBits binary64 x in let E : b / 2 ^ 52 ≡ 0 = omega arith in
       let is : x ≡ ofFields binary64 false 0 b =
       fields-of x h up .1 ∙ ap (λ (z : ℕ). ofFields binary64 false z (b % 2 ^ 52)) E ∙ ap (λ (z : ℕ). ofFields binary64 false 0 z) (mod-eq-of-lt small) in
       value-root x b not-zero (subst (λ (z : Float). HasValue z false b (2 ^ 1074)) (sym is) (subnormal-value b))
@@ -117,10 +116,7 @@ module _ (x : Float) (h : fits binary64 x ≡ true) (up : Above x) where
   pub normal-root : 2 ^ 52 ≤ toBits binary64 x → toBits binary64 x < 0x7ff0_0000_0000_0000
       → sqrtOf x ≡ roundedRoot ((toBits binary64 x % 2 ^ 52 + 2 ^ 52) * 2 ^ (toBits binary64 x / 2 ^ 52 + 1023 - 898))
   normal-root lo hi =
-      let b = toBits binary64 x in
-      let E = b / 2 ^ 52 in
-      let t = b % 2 ^ 52 in
-      let w = (2 ^ 52 + t) * 2 ^ (E - 1) in
+      let b = toBits binary64 x in let E = b / 2 ^ 52 in let t = b % 2 ^ 52 in let w = (2 ^ 52 + t) * 2 ^ (E - 1) in
       let value : HasValue x false w (2 ^ 1074) =
       subst (λ (z : Float). HasValue z false w (2 ^ 1074)) (sym (fields-of x h up .1)) (normal-value E t (omega arith) (omega arith)) in
       let exponent : E - 1 + 126 ≡ E + 1023 - 898 = omega arith in
@@ -131,8 +127,7 @@ module _ (x : Float) (h : fits binary64 x ≡ true) (up : Above x) where
 
   pub infinite-root : 0x7ff0_0000_0000_0000 ≤ toBits binary64 x → x ≡ sqrtOf x
   infinite-root lo =
-      let b = toBits binary64 x in
-      let E : b / 2 ^ 52 ≡ 2047 = omega (arith, fields-of x h up .0) in
+      let b = toBits binary64 x in let E : b / 2 ^ 52 ≡ 2047 = omega (arith, fields-of x h up .0) in
       let is : x ≡ ofFields binary64 false 2047 (b % 2 ^ 52) = fields-of x h up .1 ∙ ap (λ (z : ℕ). ofFields binary64 false z (b % 2 ^ 52)) E in
       let inf : x ≡ inf false = is ∙ infinite (b % 2 ^ 52) (subst Above is up) in
       inf ∙ own ∙ ap sqrtOf (sym inf)

@@ -32,25 +32,19 @@ compared a b = go (compare a b) (leb→le a b) (nleb→lt a b) (eqb→eq a b) (�
 nearest-is : (q t b s : ℕ) (o : Ordering) → Compared o (t * 2) b → t < b
     → 2 * s * b < 2 * (q * b + t) + b → 2 * (q * b + t) < 2 * s * b + b → nearest q o ≡ s
 nearest-is q t b s Ordering·lt c r lo hi =
-    let x : 2 * s * b < (2 * q + 2) * b = omega arith in
-    let y : 2 * q * b < (2 * s + 1) * b = omega arith in
-    let x' : 2 * s < 2 * q + 2 = lt-of-mul-lt-mul-right b x in
-    let y' : 2 * q < 2 * s + 1 = lt-of-mul-lt-mul-right b y in
+    let x : 2 * s * b < (2 * q + 2) * b = omega arith in let y : 2 * q * b < (2 * s + 1) * b = omega arith in
+    let x' : 2 * s < 2 * q + 2 = lt-of-mul-lt-mul-right b x in let y' : 2 * q < 2 * s + 1 = lt-of-mul-lt-mul-right b y in
     omega arith
 nearest-is q t b s Ordering·eq c r lo hi =
-    let x : 2 * s * b < (2 * q + 2) * b = omega arith in
-    let y : (2 * q + 1) * b < (2 * s + 1) * b = omega arith in
-    let x' : 2 * s < 2 * q + 2 = lt-of-mul-lt-mul-right b x in
-    let y' : 2 * q + 1 < 2 * s + 1 = lt-of-mul-lt-mul-right b y in
+    let x : 2 * s * b < (2 * q + 2) * b = omega arith in let y : (2 * q + 1) * b < (2 * s + 1) * b = omega arith in
+    let x' : 2 * s < 2 * q + 2 = lt-of-mul-lt-mul-right b x in let y' : 2 * q + 1 < 2 * s + 1 = lt-of-mul-lt-mul-right b y in
     absurd (clash x' y')
   where
     clash : 2 * s < 2 * q + 2 → 2 * q + 1 < 2 * s + 1 → ⊥
     clash g h = omega arith
 nearest-is q t b s Ordering·gt c r lo hi =
-    let x : 2 * s * b < (2 * q + 3) * b = omega arith in
-    let y : (2 * q + 1) * b < (2 * s + 1) * b = omega arith in
-    let x' : 2 * s < 2 * q + 3 = lt-of-mul-lt-mul-right b x in
-    let y' : 2 * q + 1 < 2 * s + 1 = lt-of-mul-lt-mul-right b y in
+    let x : 2 * s * b < (2 * q + 3) * b = omega arith in let y : (2 * q + 1) * b < (2 * s + 1) * b = omega arith in
+    let x' : 2 * s < 2 * q + 3 = lt-of-mul-lt-mul-right b x in let y' : 2 * q + 1 < 2 * s + 1 = lt-of-mul-lt-mul-right b y in
     omega arith
 
 closest-is : (a b s : ℕ) → 0 < b → 2 * s * b < 2 * a + b → 2 * a < 2 * s * b + b → closest a b ≡ s
@@ -66,11 +60,10 @@ dropped n j lo hi =
     let least : 52 + j < size n = lt-of-not-le (λ (g : size n ≤ 52 + j). not-le-of-lt (lt-of-lt-of-le (size-lt n) (pow-mono g)) lo) in
     omega arith
 
-round-to : (U D s j : ℕ) → D ≡ 2 ^ 1074 → 2 ^ (52 + j) ≤ U → U < 2 ^ (53 + j) → 2 * s * 2 ^ j < 2 * U + 2 ^ j → 2 * U < 2 * s * 2 ^ j + 2 ^ j
+pub round-to : (U D s j : ℕ) → D ≡ 2 ^ 1074 → 2 ^ (52 + j) ≤ U → U < 2 ^ (53 + j) → 2 * s * 2 ^ j < 2 * U + 2 ^ j → 2 * U < 2 * s * 2 ^ j + 2 ^ j
     → round binary64 false U D ≡ units binary64 false s j
 round-to U D s j e lo hi near-lo near-hi =
-    let P : 0 < D = rw e (pow-pos 1074) in
-    let whole : U * 2 ^ 1074 / D ≡ U = rw (← e) (mul-div-cancel U P) in
+    let P : 0 < D = rw e (pow-pos 1074) in let whole : U * 2 ^ 1074 / D ≡ U = rw (← e) (mul-div-cancel U P) in
     let k : size (U * 2 ^ 1074 / D) - 53 ≡ j = ap (λ (z : ℕ). size z - 53) whole ∙ dropped U j lo hi in
     let scaled : U * 2 ^ 1074 * 2 ^ j ≡ U * (D * 2 ^ j) = rw (← e) (mul-assoc U D (2 ^ j)) in
     round-is binary64 false U D
@@ -94,15 +87,20 @@ pattern-is (fin false m e) s j lo hi v =
     tidy a b = omega arith
 pattern-is (fin true m e) s j lo hi v = absurd (true≢false (v .0))
 
-pub round-pattern : (U D s j : ℕ) → D ≡ 2 ^ 1074 → 2 ^ 52 ≤ s → s < 2 ^ 53 → j < 2045 → 2 ^ (52 + j) ≤ U → U < 2 ^ (53 + j)
-    → 2 * s * 2 ^ j < 2 * U + 2 ^ j → 2 * U < 2 * s * 2 ^ j + 2 ^ j → round binary64 false U D ≡ ofBits binary64 (j * 2 ^ 52 + s)
-round-pattern U D s j e s-lo s-hi j-hi lo hi near-lo near-hi =
-    let top : s * 2 ^ j < 2 ^ (53 + j) = shl-lt 53 j s-hi in
-    let bottom : 2 ^ (52 + j) ≤ s * 2 ^ j = rw (pow-add 2 52 j) (mul-le-mul-right (2 ^ j) s-lo) in
-    let is = round-to U D s j e lo hi near-lo near-hi in
-    let value = units-val binary64 false s j (lt-of-lt-of-le top (pow-mono (room j j-hi))) in
-    let back = ofBits-toBits binary64 (units binary64 false s j) (subst (λ (z : Float). T (fits binary64 z)) is (round-fits binary64 false U D)) in
-    is ∙ sym back ∙ ap (ofBits binary64) (pattern-is (units binary64 false s j) s j bottom top value)
+-- s has all 53 digits, and j places more are a float's
+pub record FullWidth (s j : ℕ) : Type 0 where
+  pub low : 2 ^ 52 ≤ s
+  pub high : s < 2 ^ 53
+  pub room : j < 2045
+
+pub units-value : (s j : ℕ) → FullWidth s j → HasValue (units binary64 false s j) false (s * 2 ^ j) (2 ^ 1074)
+units-value s j d = units-val binary64 false s j (lt-of-lt-of-le (shl-lt 53 j (d .high)) (pow-mono (fewer j (d .room))))
   where
-    room : (j : ℕ) → j < 2045 → 53 + j ≤ 2098
-    room j h = omega arith
+    fewer : (j : ℕ) → j < 2045 → 53 + j ≤ 2098
+    fewer j h = omega arith
+
+pub units-pattern : (s j : ℕ) → FullWidth s j → T (fits binary64 (units binary64 false s j)) → units binary64 false s j ≡ ofBits binary64 (j * 2 ^ 52 + s)
+units-pattern s j d fine =
+    let bottom : 2 ^ (52 + j) ≤ s * 2 ^ j = rw (pow-add 2 52 j) (mul-le-mul-right (2 ^ j) (d .low)) in
+    sym (ofBits-toBits binary64 (units binary64 false s j) fine)
+    ∙ ap (ofBits binary64) (pattern-is (units binary64 false s j) s j bottom (shl-lt 53 j (d .high)) (units-value s j d))

@@ -17,7 +17,7 @@ one-more (suc (suc o)) h = absurd (large o h)
     large : (o : ℕ) → suc (suc o) < 2 → ⊥
     large o h = omega arith
 
-halved : (d a i : ℕ) → 952 ≤ a → i ≡ a / 2 - 476 → d * 2 ^ (a - 898) ≡ 4 * (d * (1 + a % 2) * 2 ^ 52) * (2 ^ i * 2 ^ i)
+pub halved : (d a i : ℕ) → 952 ≤ a → i ≡ a / 2 - 476 → d * 2 ^ (a - 898) ≡ 4 * (d * (1 + a % 2) * 2 ^ 52) * (2 ^ i * 2 ^ i)
 halved d a i h e =
     let exponent : a - 898 ≡ a % 2 + (54 + (i + i)) = omega arith in
     let lowest : 2 ^ (a % 2) ≡ 1 + a % 2 = one-more (a % 2) (omega arith) in
@@ -36,9 +36,7 @@ doubled d o h g = let product : d * (1 + o) ≤ 9007199254740991 * 2 = mul-le-mu
 pub scaled-root : (d a s : ℕ) → 2 ^ 52 ≤ d → d < 2 ^ 53 → 972 ≤ a → a < 3900 → Near (d * (1 + a % 2)) s
     → roundedRoot (d * 2 ^ (a - 898)) ≡ ofBits binary64 ((a / 2 - 1) * 2 ^ 52 + s)
 scaled-root d a s d-lo d-hi a-lo a-hi near =
-    let m = d * (1 + a % 2) in
-    let i = a / 2 - 476 in
-    let same : i + 475 ≡ a / 2 - 1 = omega arith in
+    let m = d * (1 + a % 2) in let i = a / 2 - 476 in let same : i + 475 ≡ a / 2 - 1 = omega arith in
     rounded-root m s i (d * 2 ^ (a - 898)) near (omega arith) (doubled d (a % 2) d-hi (omega arith)) (omega arith) (halved d a i (omega arith) refl)
     ∙ ap (λ (z : ℕ). ofBits binary64 (z * 2 ^ 52 + s)) same
 

@@ -40,7 +40,6 @@ no-root (fin s zero e) h k = absurd (true≢false (sym (equal s (0 * up e * 1) (
     equal false a b p q = simp (p, q)
 no-root (fin true (suc m) e) h k = refl
 no-root (fin false (suc m) e) h k =
-    let a = 0 * 1 * down e in
-    let b = suc m * up e * 1 in
+    let a = 0 * 1 * down e in let b = suc m * up e * 1 in
     let less : a < b = subst (λ (z : ℕ). z < b) (sym (size-zero 1 (down e))) (size-above m e) in
     absurd (true≢false (sym (is-true (ltb a b) (lt→ltb a b less)) ∙ h))

@@ -57,8 +57,7 @@ module _ (m q left rest i p : ℕ) (k : Kept m q left rest i) (more : i < 54) (i
 
 pub last : (m q left rest i : ℕ) → Kept m q left rest i → 54 ≤ i → Root (m * 2 ^ 54) q
 last m q left rest i k h =
-    let e : i ≡ 54 = omega (arith, k .turns) in
-    let all : (q * q + left) * 2 ^ 54 + rest ≡ m * 4 ^ 54 = rw e at (k .taken) in
+    let e : i ≡ 54 = omega (arith, k .turns) in let all : (q * q + left) * 2 ^ 54 + rest ≡ m * 4 ^ 54 = rw e at (k .taken) in
     let n : q * q + left ≡ m * 2 ^ 54 = omega (arith, k .room) in
     record { within = omega arith; above = omega (arith, k .whole) }
 

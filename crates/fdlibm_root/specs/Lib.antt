@@ -1,4 +1,3 @@
 pub mod Root
-pub mod RootLaws
-pub mod Vectors
 pub mod Near
+pub mod Nearest

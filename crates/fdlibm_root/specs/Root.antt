@@ -15,7 +15,7 @@ unfoldable pub digits : ℕ → ℕ → ℕ
 digits zero n = 0
 digits (suc k) n = let r = 2 * digits k (n / 4) in cond (leb ((r + 1) * (r + 1)) n) (r + 1) r
 
--- The whole part of n's square root. That it is, for every n, is the law RootLaws.whole-root.
+-- The whole part of n's square root. That it is, for every n, is proved in proofs/RootLaws.antt, `whole-root`.
 unfoldable pub wholeRoot : ℕ → ℕ
 wholeRoot n = digits (size n) n
 

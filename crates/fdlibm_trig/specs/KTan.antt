@@ -4,7 +4,7 @@ use lib.Dec.{ltb, leb}
 use lib.Ieee.{Float, neg, eq, lt}
 use Rattle.float64.specs.Ops.{_+ᶠ_, _-ᶠ_, _*ᶠ_, _/ᶠ_, bits}
 use Rattle.float64.specs.Sizes.{absOf}
-use Rattle.float64.specs.Words.{highOf, cutOf}
+use Rattle.float64.specs.Words.{highOf, lowClearedOf}
 use Rattle.fdlibm_trig.specs.KCos.{one}
 
 abbrev pub zero : Float
@@ -74,10 +74,10 @@ tanRestOf x y =
 -- -1 / w for w = x + r, with the error of the division made good
 unfoldable pub reciprocalOf : Float → Float → Float → Float
 reciprocalOf w x r =
-    let z = cutOf w in
+    let z = lowClearedOf w in
     let v = r -ᶠ (z -ᶠ x) in
     let a = minus-one /ᶠ w in
-    let t = cutOf a in
+    let t = lowClearedOf a in
     let s = one +ᶠ t *ᶠ z in
     t +ᶠ a *ᶠ (s +ᶠ t *ᶠ v)
 

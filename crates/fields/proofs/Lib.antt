@@ -1,3 +1,5 @@
+pub mod Joining
 pub mod Walking
 pub mod Parts
-pub mod Joining
+pub mod FieldsLaws
+pub mod Collecting

@@ -7,7 +7,7 @@ use lib.ListN.{length}
 use borrow.Author.Tests.{lt-ltb, le-ltb, eq-eqb, ne-eqb}
 use Rattle.fields.specs.Numbers.{byteOf}
 use Rattle.fields.specs.Fields.{firstBefore, after, faultOf, walkOf}
-use Rattle.models.specs.Refusals.{refusal}
+use Rattle.refusals.specs.Refusals.{refusal}
 
 pub find-here : (k : ℕ) (s : List ℕ) (tag at stop : ℕ) → stop ≤ at + k → at < stop → byteOf s at ≡ tag → firstBefore k s tag at stop ≡ at
 unfolding firstBefore

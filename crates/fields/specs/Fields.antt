@@ -1,31 +1,14 @@
 -- Document 01, "The order": which bytes the form of the fields refuses, by which number and at which place. An order is a list of bytes.
 -- "Fields: one-byte tag, two-byte length (high byte first), value."
 use Prim.Native.Nat.{ℕ, zero, suc, _+_, _-_}
-use mathlib.Core.List.{List, [], _∷_}
-use mathlib.Core.Bool.{Bool, true, false, cond, not, _&&_}
-use lib.ListN.{length, getD}
-use lib.Dec.{ltb, leb, eqb}
-use Rattle.models.specs.Refusals.{refusal}
-use Rattle.models.specs.declared.refusal.Refusal.{Refusal}
+use mathlib.Core.List.{List}
+use mathlib.Core.Bool.{cond, not}
+use lib.ListN.{length}
+use lib.Dec.{ltb, eqb}
+use Rattle.refusals.specs.Refusals.{refusal, noRefusal, fieldCut, fieldUnknown, fieldAgain}
+use Rattle.refusals.specs.declared.Refusal.{Refusal}
 use Rattle.fields.specs.Numbers.{byteOf, unsignedOf}
-
--- the table of tags: for the tags 0 to 14 in turn, the shortest and the longest value. There is no tag 0, and no length is right for it.
--- "Month and day are one byte each, tags 6 to 10 one byte, tags 4, 5, 12 and 13 a float"; the others stand in the table's rows.
-abbrev pub shortest : List ℕ
-shortest = 1 ∷ 1 ∷ 4 ∷ 1 ∷ 8 ∷ 8 ∷ 1 ∷ 1 ∷ 1 ∷ 1 ∷ 1 ∷ 12 ∷ 8 ∷ 8 ∷ 2 ∷ []
-
-abbrev pub longest : List ℕ
-longest = 0 ∷ 40 ∷ 4 ∷ 1 ∷ 8 ∷ 8 ∷ 1 ∷ 1 ∷ 1 ∷ 1 ∷ 1 ∷ 12 ∷ 8 ∷ 8 ∷ 2 ∷ []
-
-abbrev pub lastTag : ℕ
-lastTag = length shortest - 1
-
-unfoldable pub knownTag : ℕ → Bool
-knownTag tag = leb 1 tag && leb tag lastTag
-
--- "A length that the tag's value can't have is 2 (a town of 0 or 41 bytes too)"
-unfoldable pub lengthFits : ℕ → ℕ → Bool
-lengthFits tag n = cond (ltb lastTag tag) false (leb (getD shortest tag 0) n && leb n (getD longest tag 0))
+use Rattle.fields.specs.Tags.{knownTag, lengthFits}
 
 -- the length that the field at an offset says its value has
 unfoldable pub lengthAt : List ℕ → ℕ → ℕ
@@ -44,27 +27,32 @@ firstBefore zero s tag at stop = stop
 firstBefore (suc k) s tag at stop =
     cond (ltb at stop) (cond (eqb (byteOf s at) tag) at (firstBefore k s tag (after s at) stop)) stop
 
--- "field by field: header cut, unknown tag, tag again, wrong length, value cut": what the field at an offset is refused by, or 0
+-- "field by field: header cut, unknown tag, tag again, wrong length, value cut": what the field at an offset is refused by, or 0; of its
+-- value first, whose length is said to be n where so many bytes are left
+unfoldable pub valueFaultOf : ℕ → ℕ → ℕ → ℕ
+valueFaultOf tag n left =
+    -- wrong length
+    cond (not (lengthFits tag n)) fieldUnknown
+    -- value cut
+    (cond (ltb left n) fieldCut 0)
+
 unfoldable pub faultOf : List ℕ → ℕ → ℕ
 faultOf s at =
     -- header cut
-    cond (ltb (length s - at) 3) 1
+    cond (ltb (length s - at) 3) fieldCut
     -- unknown tag
-    (cond (not (knownTag (byteOf s at))) 2
+    (cond (not (knownTag (byteOf s at))) fieldUnknown
     -- tag again
-    (cond (ltb (firstBefore (length s) s (byteOf s at) 0 at) at) 3
-    -- wrong length
-    (cond (not (lengthFits (byteOf s at) (lengthAt s at))) 2
-    -- value cut
-    (cond (ltb (length s - at - 3) (lengthAt s at)) 1 0))))
+    (cond (ltb (firstBefore (length s) s (byteOf s at) 0 at) at) fieldAgain
+    (valueFaultOf (byteOf s at) (lengthAt s at) (length s - at - 3))))
 
 -- the first field that is refused, from an offset on. "Offsets are those of a field's tag byte."
 unfoldable pub walkOf : ℕ → List ℕ → ℕ → Refusal
-walkOf zero s at = refusal 0 0
+walkOf zero s at = noRefusal
 walkOf (suc k) s at =
-    cond (ltb at (length s)) (cond (eqb (faultOf s at) 0) (walkOf k s (after s at)) (refusal (faultOf s at) at)) (refusal 0 0)
+    cond (ltb at (length s)) (cond (eqb (faultOf s at) 0) (walkOf k s (after s at)) (refusal (faultOf s at) at)) noRefusal
 
 -- "Order of checks: length over 1,024; then field by field"; 1 is "over 1,024 bytes, or a field cut", 2 "unknown tag, wrong length",
 -- 3 "tag a second time", each with "its offset, or 0". Number and place are 0 where nothing is refused.
 unfoldable pub checkOf : List ℕ → Refusal
-checkOf s = cond (ltb 1024 (length s)) (refusal 1 0) (walkOf (length s) s 0)
+checkOf s = cond (ltb 1024 (length s)) (refusal fieldCut 0) (walkOf (length s) s 0)

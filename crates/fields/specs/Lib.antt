@@ -1,5 +1,4 @@
 pub mod Numbers
+pub mod Tags
 pub mod Fields
 pub mod Values
-pub mod Examples
-pub mod FieldsLaws

@@ -1,5 +1,6 @@
 // The bytes of an order as fields (added): which bytes break the fields' form, where a tag's value stands, and what numbers its bytes
-// write. What a value may say, and what an order without a tag means, is not decided here.
+// write. What a value may say beside a choice's number, and what an order without a tag means, is not decided here.
 pub mod numbers;
+pub mod tags;
 pub mod values;
-pub mod walk;
+mod walk;

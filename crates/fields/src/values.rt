@@ -1,39 +1,119 @@
-// The value of a tag, as the part of the order that it is. Any bytes are answered, so a reader that has checked an order, and one that
-// has not, need no proof to ask.
+// What an order's fields give: by tag, the part of the order that is the tag's value. The fields are checked and collected once, and all that is
+// asked of them later is asked of what was collected.
 ghost use mathlib.Core.Path.{_≡_};
-ghost use Rattle.fields.specs.Values.{offsetOf, hasOf, valueOf};
-use super::walk::first_before;
+ghost use Rattle.fields.specs.Fields.{checkOf};
+ghost use Rattle.fields.specs.Values.{noFields, fieldsOf, checkedOf, hasIn, partFor, partIn, valuesIn};
+use super::numbers::byte;
+use super::tags::TAGS;
+use super::walk::check;
 use super::walk::length_at;
+use refusals::Refusal;
 
-// The offset of the tag's field, or the order's length where it has none.
-pub fn offset(order: &[u8], tag: u32) -> usize
-    ensures { λ r. ⌜ r ≡ offsetOf (now (order .entry)) tag ⌝ }
-{
-    first_before(order, tag, order.len())
+// Where a value stands in its order. Both are 0 where there is none: no value begins before 3.
+pub struct Part {
+    pub at: u32,
+    pub length: u32,
 }
 
-pub fn has(order: &[u8], tag: u32) -> bool
-    ensures { λ r. ⌜ r ≡ hasOf (now (order .entry)) tag ⌝ }
-{
-    offset(order, tag) < order.len()
+// The part of each tag, by tag.
+pub struct Fields {
+    pub at: [u32; TAGS],
+    pub length: [u32; TAGS],
 }
 
-// An empty part where the order lacks the tag; what there is of a value that is cut.
-pub fn value(order: &[u8], tag: u32) -> &[u8]
-    ensures { λ r. ⌜ now r ≡ valueOf (now (order .entry)) tag ⌝ }
+// What refuses the form of the fields, and the fields where nothing does.
+pub struct Checked {
+    pub refusal: Refusal,
+    pub fields: Fields,
+}
+
+impl Fields {
+    fn none() -> Fields
+        ensures { λ r. ⌜ r ≡ noFields ⌝ }
+    {
+        Fields {
+            at: [0; TAGS],
+            length: [0; TAGS],
+        }
+    }
+
+    pub fn part(self, tag: u32) -> Part
+        ensures { λ r. ⌜ r ≡ partFor self tag ⌝ }
+    {
+        let row = tag as usize;
+        if row < TAGS {
+            return Part {
+                at: self.at[row],
+                length: self.length[row],
+            };
+        }
+        Part { at: 0, length: 0 }
+    }
+
+    pub fn has(self, tag: u32) -> bool
+        ensures { λ r. ⌜ r ≡ hasIn self tag ⌝ }
+    {
+        let part = self.part(tag);
+        part.at > 0
+    }
+}
+
+// The bytes of a part, as that part of the order itself; what there is of them.
+pub fn bytes(order: &[u8], part: Part) -> &[u8]
+    ensures { λ r. ⌜ now r ≡ partIn (now (order .entry)) part ⌝ }
 {
     let n = order.len();
-    let at = offset(order, tag);
-    if n <= at {
-        return &order[n..];
-    }
-    let start = at + 3;
+    let start = part.at as usize;
     if n <= start {
         return &order[n..];
     }
-    let end = start + length_at(order, at);
+    let end = start + part.length as usize;
     if n <= end {
         return &order[start..];
     }
     &order[start..end]
+}
+
+// An empty part where the tag is missing.
+pub fn value(order: &[u8], fields: Fields, tag: u32) -> &[u8]
+    ensures { λ r. ⌜ now r ≡ valuesIn (now (order .entry)) fields .value tag ⌝ }
+{
+    bytes(order, fields.part(tag))
+}
+
+// One walk over the fields of an order that `check` passes.
+fn collect(order: &[u8]) -> Fields
+    requires { ⌜ checkOf (now order) .number ≡ 0 ⌝ }
+    ensures { λ r. ⌜ r ≡ fieldsOf (now (order .entry)) ⌝ }
+{
+    let mut starts = [0u32; TAGS];
+    let mut lengths = [0u32; TAGS];
+    let mut at = 0;
+    while at < order.len() {
+        let tag = byte(order, at) as usize;
+        let length = length_at(order, at);
+        starts[tag] = at as u32 + 3;
+        lengths[tag] = length;
+        at = at + 3 + length as usize;
+    }
+    Fields {
+        at: starts,
+        length: lengths,
+    }
+}
+
+pub fn fields_of(order: &[u8]) -> Checked
+    ensures { λ r. ⌜ r ≡ checkedOf (now (order .entry)) ⌝ }
+{
+    let refusal = check(order);
+    if refusal.number != 0 {
+        return Checked {
+            refusal: refusal,
+            fields: Fields::none(),
+        };
+    }
+    Checked {
+        refusal: refusal,
+        fields: collect(order),
+    }
 }

@@ -3,47 +3,29 @@
 ghost use mathlib.Core.Path.{_≡_};
 ghost use Prim.Native.Nat.{_≤_, _<_};
 ghost use lib.ListN.{length};
-ghost use Rattle.fields.specs.Fields.{knownTag, lengthFits, lengthAt, firstBefore, faultOf, walkOf, checkOf};
+ghost use Rattle.fields.specs.Fields.{lengthAt, firstBefore, valueFaultOf, faultOf, walkOf, checkOf};
 use super::numbers::byte;
 use super::numbers::unsigned;
-use models::refusal::Refusal;
+use super::tags::known;
+use super::tags::length_fits;
+use refusals::FIELD_AGAIN;
+use refusals::FIELD_CUT;
+use refusals::FIELD_UNKNOWN;
+use refusals::Refusal;
 
 const LONGEST_ORDER: usize = 1024;
 
-// The table of tags: by tag, the shortest and the longest value. There is no tag 0. A new tag is a new entry of each and a new last tag.
-const LAST_TAG: u32 = 14;
-
-const SHORTEST: [usize; 15] = [1, 1, 4, 1, 8, 8, 1, 1, 1, 1, 1, 12, 8, 8, 2];
-
-const LONGEST: [usize; 15] = [0, 40, 4, 1, 8, 8, 1, 1, 1, 1, 1, 12, 8, 8, 2];
-
-fn known(tag: u32) -> bool
-    ensures { λ r. ⌜ r ≡ knownTag tag ⌝ }
-{
-    1 <= tag && tag <= LAST_TAG
-}
-
-fn length_fits(tag: u32, size: usize) -> bool
-    ensures { λ r. ⌜ r ≡ lengthFits tag size ⌝ }
-{
-    if LAST_TAG < tag {
-        return false;
-    }
-    let row = tag as usize;
-    SHORTEST[row] <= size && size <= LONGEST[row]
-}
-
 // The length that the field at an offset says its value has.
-pub(crate) fn length_at(order: &[u8], at: usize) -> usize
+pub(crate) fn length_at(order: &[u8], at: usize) -> u32
     requires { ⌜ at ≤ length (now order) ⌝ }
     ensures { λ r. ⌜ r ≡ lengthAt (now (order .entry)) at ⌝ }
     ensures { λ r. ⌜ r < 65536 ⌝ }
 {
-    unsigned(order, at + 1) as usize
+    unsigned(order, at + 1)
 }
 
 // The offset of the first field with the tag that begins before stop, or stop.
-pub(crate) fn first_before(order: &[u8], tag: u32, stop: usize) -> usize
+fn first_before(order: &[u8], tag: u32, stop: usize) -> usize
     requires { ⌜ stop ≤ length (now order) ⌝ }
     ensures { λ r. ⌜ r ≡ firstBefore (length (now (order .entry))) (now (order .entry)) tag 0 stop ⌝ }
 {
@@ -52,9 +34,22 @@ pub(crate) fn first_before(order: &[u8], tag: u32, stop: usize) -> usize
         if byte(order, at) == tag {
             return at;
         }
-        at = at + 3 + length_at(order, at);
+        at = at + 3 + length_at(order, at) as usize;
     }
     stop
+}
+
+// What a value is refused by whose length is said to be one, where so many bytes are left.
+fn value_fault(tag: u32, length: u32, left: usize) -> u32
+    ensures { λ r. ⌜ r ≡ valueFaultOf tag length left ⌝ }
+{
+    if !length_fits(tag, length) {
+        return FIELD_UNKNOWN;
+    }
+    if left < length as usize {
+        return FIELD_CUT;
+    }
+    0
 }
 
 // What the field at an offset is refused by, or 0.
@@ -64,23 +59,16 @@ fn fault(order: &[u8], at: usize) -> u32
 {
     let left = order.len() - at;
     if left < 3 {
-        return 1;
+        return FIELD_CUT;
     }
     let tag = byte(order, at);
     if !known(tag) {
-        return 2;
+        return FIELD_UNKNOWN;
     }
     if first_before(order, tag, at) < at {
-        return 3;
+        return FIELD_AGAIN;
     }
-    let size = length_at(order, at);
-    if !length_fits(tag, size) {
-        return 2;
-    }
-    if left - 3 < size {
-        return 1;
-    }
-    0
+    value_fault(tag, length_at(order, at), left - 3)
 }
 
 fn walk(order: &[u8]) -> Refusal
@@ -91,28 +79,19 @@ fn walk(order: &[u8]) -> Refusal
     while at < order.len() {
         let number = fault(order, at);
         if number != 0 {
-            return Refusal {
-                number: number,
-                place: at as u32,
-            };
+            return Refusal::new(number, at as u32);
         }
-        at = at + 3 + length_at(order, at);
+        at = at + 3 + length_at(order, at) as usize;
     }
-    Refusal {
-        number: 0,
-        place: 0,
-    }
+    Refusal::none()
 }
 
 // Number 0 where the form of every field is right.
-pub fn check(order: &[u8]) -> Refusal
+pub(crate) fn check(order: &[u8]) -> Refusal
     ensures { λ r. ⌜ r ≡ checkOf (now (order .entry)) ⌝ }
 {
     if LONGEST_ORDER < order.len() {
-        return Refusal {
-            number: 1,
-            place: 0,
-        };
+        return Refusal::new(FIELD_CUT, 0);
     }
     walk(order)
 }

@@ -34,9 +34,7 @@ module _ (f : Format) (a b c : ℕ) (p : 0 < c) where
   add-same (fin true m e) (fin t n d) v w = absurd (true≢false (v .0))
   add-same (fin false m e) (fin true n d) v w = absurd (true≢false (w .0))
   add-same (fin false m e) (fin false n d) v w =
-      let D = down e * down d in
-      let g = first m n e d (v .1) (w .1) in
-      let h = second m n e d (v .1) (w .1) in
+      let D = down e * down d in let g = first m n e d (v .1) (w .1) in let h = second m n e d (v .1) (w .1) in
       round-same f false (m * up e * down d + n * up d * down e) D (a + b) c (mul-pos (down-pos e) (down-pos d)) p
       (add-mul (m * up e * down d) (n * up d * down e) c ∙ rw (g, h) (sym (add-mul a b D)))
 
@@ -49,13 +47,9 @@ module _ (f : Format) (a b c : ℕ) (p : 0 < c) where
   sub-same l (fin true m e) (fin t n d) v w = absurd (true≢false (v .0))
   sub-same l (fin false m e) (fin true n d) v w = absurd (true≢false (w .0))
   sub-same l (fin false m e) (fin false n d) v w =
-      let A = m * up e * down d in
-      let B = n * up d * down e in
-      let D = down e * down d in
-      let g : A * c ≡ a * D = first m n e d (v .1) (w .1) in
-      let h : B * c ≡ b * D = second m n e d (v .1) (w .1) in
-      let k : b * D ≤ a * D = mul-le-mul-right D l in
-      let o : B ≤ A = le-of-mul-le-mul-right (omega arith) p in
+      let A = m * up e * down d in let B = n * up d * down e in let D = down e * down d in
+      let g : A * c ≡ a * D = first m n e d (v .1) (w .1) in let h : B * c ≡ b * D = second m n e d (v .1) (w .1) in
+      let k : b * D ≤ a * D = mul-le-mul-right D l in let o : B ≤ A = le-of-mul-le-mul-right (omega arith) p in
       rw (le-ltb A B o)
       (round-same f false (A - B) D (a - b) c (mul-pos (down-pos e) (down-pos d)) p (sub-mul A B c ∙ rw (g, h) (sym (sub-mul a b D))))
     where

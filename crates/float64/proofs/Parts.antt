@@ -77,12 +77,10 @@ unfolding lt ofBits
 still-zero nan h k = unfold floorOf truncOf roundOf in (refl, refl, refl)
 still-zero (inf s) h k = unfold floorOf truncOf roundOf in (refl, refl, refl)
 still-zero (fin false m e) h k =
-    let l = ltb-false (0 * down e) (m * up e * 1) h in
-    let z : m * up e ≡ 0 = omega arith in
+    let l = ltb-false (0 * down e) (m * up e * 1) h in let z : m * up e ≡ 0 = omega arith in
     still false m e (ap (λ (n : ℕ). n % down e) z ∙ zero-mod (down e))
 still-zero (fin true m e) h k =
-    let l = ltb-false 0 (m * up e * 1 + 0 * down e) k in
-    let z : m * up e ≡ 0 = omega arith in
+    let l = ltb-false 0 (m * up e * 1 + 0 * down e) k in let z : m * up e ≡ 0 = omega arith in
     still true m e (ap (λ (n : ℕ). n % down e) z ∙ zero-mod (down e))
 
 -- from 2 ^ 52 on a float has no fraction, and so has its opposite
@@ -99,7 +97,5 @@ still-far (fin false m (negsuc j)) f h k =
 -- the whole part as a float is x, where x has no fraction
 pub own-whole : (m : ℕ) (e : ℤ) → T (fits binary64 (fin false m e)) → wholePart m e ≤ big → fraction m e ≡ 0 → at (wholePart m e) ≡ fin false m e
 own-whole m e f l z =
-    let q = wholePart m e in
-    let g = div-add-mod' (m * up e) (down e) in
-    let v : m * up e * 1 ≡ q * down e = omega arith in
+    let q = wholePart m e in let g = div-add-mod' (m * up e) (down e) in let v : m * up e * 1 ≡ q * down e = omega arith in
     value-unique binary64 (at q) (fin false m e) false q 1 (lit< tt) (round-fits binary64 false q 1) f (at-value q l) (refl, v)

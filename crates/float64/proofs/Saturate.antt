@@ -40,8 +40,7 @@ cast-below w b y v small room r x e f h k = rw e (inside (λ x. Casts w (truncOf
   where
     at : (m : ℕ) (e : ℤ) → T (fits binary64 (fin false m e)) → m * up e < b * down e → Casts w (truncOf (fin false m e)) (fin false m e)
     at m e f l =
-        let q = m * up e / down e in
-        let p : q < b = div-lt-iff-lt-mul (down-pos e) .1 l in
+        let q = m * up e / down e in let p : q < b = div-lt-iff-lt-mul (down-pos e) .1 l in
         let k = mul-le-mul-right (down e) small in
         let i = unsigned-back binary64 w q (unfold inFloat in le→leb q big (omega arith)) (omega arith) in
         rw (trunc-at m e f (omega arith)) (unfold ofInt toUnsigned in (i .0, i .1 ∙ sym (min-eq-left (le-ones w (lt-of-lt-of-le p room)))))
@@ -64,8 +63,7 @@ cast-zero w (inf true) h = refl
 cast-zero w (inf false) h = absurd (false≢true (sym h))
 cast-zero w (fin true m e) h = refl
 cast-zero w (fin false m e) h =
-    let l = ltb-false (0 * down e) (m * up e * 1) h in
-    let z : m * up e ≡ 0 = omega arith in
+    let l = ltb-false (0 * down e) (m * up e * 1) h in let z : m * up e ≡ 0 = omega arith in
     rw (z, zero-div (down e)) (sym (min-eq-left zero-le))
 
 -- what std's function asks of x
@@ -84,8 +82,7 @@ not-negative h w nan g t = ap pos (min-eq-left zero-le)
 not-negative h w (inf true) g t = absurd (false≢true (sym t))
 not-negative h w (inf false) g t = let p = pow-mono g in ap pos (min-eq-right {n = 2 ^ h - 1} {m = 2 ^ w - 1} (omega arith))
 not-negative h w (fin true m e) g t =
-    let l = ltb-false 0 (m * up e * 1 + 0 * down e) t in
-    let z : m * up e ≡ 0 = omega arith in
+    let l = ltb-false 0 (m * up e * 1 + 0 * down e) t in let z : m * up e ≡ 0 = omega arith in
     rw (z, zero-div (down e), min-eq-left {n = 0} {m = 2 ^ h} zero-le) (ap pos (min-eq-left zero-le))
 not-negative h w (fin false m e) g t = let p = pow-mono g in ap pos (min-min (m * up e / down e) (2 ^ w - 1) (2 ^ h - 1) (omega arith))
 

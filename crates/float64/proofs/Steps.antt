@@ -103,44 +103,32 @@ module _ (m : ℕ) (e : ℤ) (fit : T (fits binary64 (fin false m e))) (small : 
       where
         go : (t : Bool) → ltb (a * 1) (z * d) ≡ t → (boolByte t ≤ z) × (z - boolByte t ≡ q)
         go true h =
-            let l = ltb-true (a * 1) (z * d) h in
-            let u : q < z = div-lt-iff-lt-mul (down-pos e) .1 (omega arith) in
+            let l = ltb-true (a * 1) (z * d) h in let u : q < z = div-lt-iff-lt-mul (down-pos e) .1 (omega arith) in
             let o = z-over in
             (omega arith, omega arith)
         go false h =
-            let l = ltb-false (a * 1) (z * d) h in
-            let u : z ≤ q = le-div-iff-mul-le (down-pos e) .1 (omega arith) in
+            let l = ltb-false (a * 1) (z * d) h in let u : z ≤ q = le-div-iff-mul-le (down-pos e) .1 (omega arith) in
             let o = z-under in
             (omega arith, omega arith)
 
     -- z, and one more where it lies below x
     counted : (t u : Bool) → eqb (fraction m e) 0 ≡ t → ltb (z * d) (a * 1) ≡ u → z + boolByte u ≡ cond t q (suc q)
     counted true u h i =
-        let r = eqb-true (fraction m e) 0 h in
-        let g = div-add-mod' a d in
-        let l = q-small in
-        let o : z ≤ q = n .most q (omega arith) (omega arith) in
-        let p = z-under in
-        let j : q * d ≤ z * d = mul-le-mul-right d p in
+        let r = eqb-true (fraction m e) 0 h in let g = div-add-mod' a d in let l = q-small in
+        let o : z ≤ q = n .most q (omega arith) (omega arith) in let p = z-under in let j : q * d ≤ z * d = mul-le-mul-right d p in
         rw (sym i ∙ le-ltb (z * d) (a * 1) (omega arith)) (omega arith)
     counted false true h i =
-        let l = ltb-true (z * d) (a * 1) i in
-        let o : z ≤ q = le-div-iff-mul-le (down-pos e) .1 (omega arith) in
-        let p = z-under in
+        let l = ltb-true (z * d) (a * 1) i in let o : z ≤ q = le-div-iff-mul-le (down-pos e) .1 (omega arith) in let p = z-under in
         omega arith
     counted false false h i =
-        let l = ltb-false (z * d) (a * 1) i in
-        let r : 0 < fraction m e = pos-of-ne-zero (eqb-false (fraction m e) 0 h) in
-        let g = div-add-mod' a d in
-        let o : q < z = lt-of-mul-lt-mul-right d (omega arith) in
-        let p = z-over in
+        let l = ltb-false (z * d) (a * 1) i in let r : 0 < fraction m e = pos-of-ne-zero (eqb-false (fraction m e) 0 h) in
+        let g = div-add-mod' a d in let o : q < z = lt-of-mul-lt-mul-right d (omega arith) in let p = z-over in
         omega arith
 
     upper-is : neg (add binary64 k (bit (lt k (fin false m e)))) ≡ floorOf (fin true m e)
     unfolding floorOf ofInt neg
     upper-is =
-        let u = ltb (z * d) (a * 1) in
-        let t = eqb (fraction m e) 0 in
+        let u = ltb (z * d) (a * 1) in let t = eqb (fraction m e) 0 in
         rw (n .is, lt-values (at z) (fin false m e) z a 1 d (lit< tt) (down-pos e) z-value (refl, refl))
         (ap neg (more z u z-small ∙ ap at (counted t u refl refl)) ∙ go t refl)
       where
@@ -154,9 +142,7 @@ module _ (m : ℕ) (e : ℤ) (fit : T (fits binary64 (fin false m e))) (small : 
 
   rest-is : sub binary64 (fin false m e) (at q) ≡ rest
   rest-is =
-      let l = q-small in
-      let v = at-value q (omega arith) in
-      let g = div-add-mod' a d in
+      let l = q-small in let v = at-value q (omega arith) in let g = div-add-mod' a d in
       let r : a - q * d ≡ fraction m e = omega arith in
       sub-same binary64 a (q * d) d (down-pos e) q-under (fin false m e) (at q) (refl, refl) (over (at q) false q d v) ∙ ap (λ (i : ℕ). round binary64 false i d) r
 
@@ -181,9 +167,7 @@ module _ (m : ℕ) (e : ℤ) (fit : T (fits binary64 (fin false m e))) (small : 
       go : (t u : Bool) → eqb (fraction m e) 0 ≡ t → ltb (fraction m e * 2) (1 * d) ≡ u → at (q + boolByte (not u)) ≡ cond t (fin false m e) (at (halfUp m e))
       go true true h i = ap at (add-zero q) ∙ whole (eqb-true (fraction m e) 0 h)
       go true false h i =
-          let r = eqb-true (fraction m e) 0 h in
-          let l = ltb-false (fraction m e * 2) (1 * d) i in
-          let p = down-pos e in
+          let r = eqb-true (fraction m e) 0 h in let l = ltb-false (fraction m e * 2) (1 * d) i in let p = down-pos e in
           absurd (omega arith)
       go false u h i =
           let g : ltb (2 * fraction m e) d ≡ u = ap (λ (j : ℕ). ltb j d) (mul-comm 2 (fraction m e)) ∙ ap (ltb (fraction m e * 2)) (sym (one-mul d)) ∙ i in

@@ -45,8 +45,7 @@ room n j h g = lt-of-lt-of-le (mul-lt-mul-of-pos-right h (pow-pos j)) (le-trans 
 -- n / 2 ^ k, for n below 2 ^ 53
 pub dyadic-value : (s : Bool) (n k : ℕ) → n < big → k ≤ 1074 → HasValue (round binary64 s n (2 ^ k)) s n (2 ^ k)
 dyadic-value s n k h g =
-    let j = 1074 - k in
-    let w : j + k ≡ 1074 = omega arith in
+    let j = 1074 - k in let w : j + k ≡ 1074 = omega arith in
     round-exact binary64 s n (2 ^ k) n j (pow-pos k) h (room n j h (omega arith))
     (sym (mul-assoc n (2 ^ j) (2 ^ k) ∙ ap (λ (z : ℕ). n * z) (sym (pow-add 2 j k) ∙ ap (λ (z : ℕ). 2 ^ z) w)))
 
@@ -64,11 +63,8 @@ large-value s m k h g =
 parts : (s : Bool) (m : ℕ) (e : ℤ) → T (fits binary64 (fin s (suc m) e)) → (suc m < big) × (down e ≤ 2 ^ 1074) × (suc m * up e < 2 ^ 1024 * down e)
 unfolding fits
 parts s m e t =
-    let o = eqb (suc m % 2) 1 in
-    let d = ltb (suc m) big in
-    let p = leb (down e) (2 ^ 1074) in
-    let r = ltb (suc m * up e) (2 ^ 1024 * down e) in
-    let u = and-l (o && d && p) r t in
+    let o = eqb (suc m % 2) 1 in let d = ltb (suc m) big in let p = leb (down e) (2 ^ 1074) in
+    let r = ltb (suc m * up e) (2 ^ 1024 * down e) in let u = and-l (o && d && p) r t in
     (ltb→lt (suc m) big (and-r o d (and-l (o && d) p u)), leb→le (down e) (2 ^ 1074) (and-r (o && d) p u), ltb→lt (suc m * up e) (2 ^ 1024 * down e) (and-r (o && d && p) r t))
 
 pub digits : (s : Bool) (m : ℕ) (e : ℤ) → T (fits binary64 (fin s m e)) → m < big
@@ -86,8 +82,7 @@ places s (suc m) k t = go (ltb 1074 (suc k)) refl (parts s m (negsuc k) t .1)
 -- a float with digits below one is smaller than 2 ^ 52
 pub fraction-below : (s : Bool) (m k : ℕ) → T (fits binary64 (fin s m (negsuc k))) → m * 1 < 4503599627370496 * 2 ^ suc k
 fraction-below s m k t =
-    let d = digits s m (negsuc k) t in
-    let p = mul-le-mul-left 4503599627370496 (pow-pos k) in
+    let d = digits s m (negsuc k) t in let p = mul-le-mul-left 4503599627370496 (pow-pos k) in
     let r : 4503599627370496 * 2 ^ suc k ≡ 4503599627370496 * (2 * 2 ^ k) = ap (λ (n : ℕ). 4503599627370496 * n) (pow-succ' 2 k) in
     omega arith
 

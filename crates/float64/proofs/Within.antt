@@ -14,7 +14,7 @@ use lib.Ieee.Fits.{down-pos, and-l}
 use lib.Ieee.Order.{round-mono, transfer}
 use lib.Ieee.Positive.{first-pos}
 use Rattle.float64.specs.Sizes.{absOf}
-use Rattle.float64.specs.Words.{signOf}
+use Rattle.float64.specs.Words.{isNegativeOf}
 use Rattle.float64.proofs.Values.{big, dyadic-value}
 
 -- finite, and no more than a / c in size
@@ -47,8 +47,8 @@ abs-within (inf s) a c h = h
 abs-within (fin s m e) a c h = h
 
 -- what has a size has a sign
-pub within-signed : (x : Float) (a c : ℕ) → Within x a c → Signed (signOf x) x
-unfolding signOf
+pub within-signed : (x : Float) (a c : ℕ) → Within x a c → Signed (isNegativeOf x) x
+unfolding isNegativeOf
 within-signed nan a c h = absurd h
 within-signed (inf s) a c h = absurd h
 within-signed (fin s m e) a c h = refl
@@ -171,10 +171,8 @@ div-within (fin s m e) (fin u r f) t a b c d n k B C D h v p q l =
 within-sum : (M N E D a b : ℕ) → M * 1 ≤ a * E → N * 1 ≤ b * D → M * D + N * E ≤ (a + b) * (E * D)
 within-sum M N E D a b h k =
     let u : a * E * D ≡ a * (E * D) = mul-assoc a E D in
-    let v : b * D * E ≡ b * (E * D) = mul-assoc b D E ∙ ap (λ (z : ℕ). b * z) (mul-comm D E) in
-    let x = mul-le-mul-right D h in
-    let y = mul-le-mul-right E k in
-    let z = add-mul a b (E * D) in
+    let v : b * D * E ≡ b * (E * D) = mul-assoc b D E ∙ ap (λ (z : ℕ). b * z) (mul-comm D E) in let x = mul-le-mul-right D h in
+    let y = mul-le-mul-right E k in let z = add-mul a b (E * D) in
     omega (arith, ap (λ (z : ℕ). z * D) (mul-one M), ap (λ (z : ℕ). z * E) (mul-one N))
 
 pub add-within : (x y : Float) (a b : ℕ) → Within x a 1 → Within y b 1 → a + b < big → Within (add binary64 x y) (a + b) 1

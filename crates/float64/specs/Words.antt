@@ -6,15 +6,15 @@ use lib.Ieee.{Float, nan, inf, fin, binary64, toBits}
 use Rattle.float64.specs.Ops.{bits}
 
 -- the sign bit, clear at a NaN
-unfoldable pub signOf : Float → Bool
-signOf nan = false
-signOf (inf s) = s
-signOf (fin s m e) = s
+unfoldable pub isNegativeOf : Float → Bool
+isNegativeOf nan = false
+isNegativeOf (inf s) = s
+isNegativeOf (fin s m e) = s
 
 -- the high word with the sign cleared: ix = __HI(x) & 0x7fffffff
 unfoldable pub highOf : Float → ℕ
 highOf x = toBits binary64 x % 2 ^ 63 / 2 ^ 32
 
 -- x with its low word cleared: __LO(x) = 0
-unfoldable pub cutOf : Float → Float
-cutOf x = bits (toBits binary64 x / 2 ^ 32 * 2 ^ 32)
+unfoldable pub lowClearedOf : Float → Float
+lowClearedOf x = bits (toBits binary64 x / 2 ^ 32 * 2 ^ 32)

@@ -1,7 +1,7 @@
 // The words of a bit pattern, as fdlibm reads and writes them. `f64::to_bits` is undefined at a NaN, so each function asks for one first.
 ghost use mathlib.Core.Path.{_≡_};
 ghost use lib.Ieee.{nan};
-ghost use Rattle.float64.specs.Words.{signOf, highOf, cutOf};
+ghost use Rattle.float64.specs.Words.{isNegativeOf, highOf, lowClearedOf};
 
 pub fn not_a_number() -> f64
     ensures { λ r. ⌜ r ≡ nan ⌝ }
@@ -11,7 +11,7 @@ pub fn not_a_number() -> f64
 
 // The sign bit, which tells -0.0 from 0.0; clear at a NaN.
 pub fn is_negative(x: f64) -> bool
-    ensures { λ r. ⌜ r ≡ signOf x ⌝ }
+    ensures { λ r. ⌜ r ≡ isNegativeOf x ⌝ }
 {
     if x != x {
         false
@@ -33,7 +33,7 @@ pub fn high_word(x: f64) -> u32
 
 // x with its low word cleared: the product of two such numbers is exact.
 pub fn cut(x: f64) -> f64
-    ensures { λ r. ⌜ r ≡ cutOf x ⌝ }
+    ensures { λ r. ⌜ r ≡ lowClearedOf x ⌝ }
 {
     if x != x {
         not_a_number()

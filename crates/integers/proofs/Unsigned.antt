@@ -8,10 +8,11 @@ use lib.IntN.{ℤ, pos, negsuc, natAbs, _+ℤ_, _-ℤ_}
 use lib.Signed.{ltZ, nonNeg}
 use mir.Syntax.{w64}
 use mir.Val.{SFits, Fits}
-use Rattle.integers.specs.Parts.{P, N, same}
-use Rattle.integers.specs.Sums.{sum, difference}
-use Rattle.integers.specs.Order.{lt-yes, lt-no}
-use Rattle.integers.specs.Ranges.{range, fits, readBack, read}
+use Rattle.integers.specs.Parts.{P, N}
+use Rattle.integers.proofs.PartsLaws.{same}
+use Rattle.integers.proofs.Sums.{sum, difference}
+use Rattle.integers.proofs.OrderLaws.{lt-yes, lt-no}
+use Rattle.integers.proofs.Ranges.{range, fits, readBack, read}
 
 no : {X : Type 0} → _≡_ {A = Bool} false true → X
 no e = absurd (subst (λ (b : Bool). T (not b)) e tt)

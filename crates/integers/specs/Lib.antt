@@ -1,5 +1,3 @@
 pub mod Parts
-pub mod Sums
-pub mod Quotients
 pub mod Order
-pub mod Ranges
+pub mod Quotients

@@ -1,8 +1,6 @@
--- Integers for `omega`, which reads only natural numbers: an integer z is P z - N z, one of which is 0. The laws beside this file say
--- what each operation does to the two parts. Bind them by `let`, and `omega arith` goes on from there. Assumes nothing.
-use mathlib.Core.Path.{_≡_, refl, ap}
-use Prim.Native.Nat.{ℕ, suc, _+_, _≤_}
-use native.Mathlib.Omega.{arith}
+-- An integer by its parts, z = P z - N z, one of which is 0: `omega` reads only natural numbers, so what is said of integers is said of these. The
+-- laws (proofs/) say what each operation does to the two. Assumes nothing.
+use Prim.Native.Nat.{ℕ, suc, _≤_}
 use lib.IntN.{ℤ, pos, negsuc}
 
 -- z's positive part
@@ -15,27 +13,11 @@ abbrev pub N : ℤ → ℕ
 N (pos n) = 0
 N (negsuc n) = suc n
 
--- equality: two integers with the same balance are one
-pub same : (x y : ℤ) → P x + N y ≡ P y + N x → x ≡ y
-same (pos a) (pos b) h = ap pos (omega arith)
-same (pos a) (negsuc b) h = absurd (omega arith)
-same (negsuc a) (pos b) h = absurd (omega arith)
-same (negsuc a) (negsuc b) h = ap negsuc (omega arith)
+-- z is from -a to b
+pub record Between (a b : ℕ) (z : ℤ) : Type 0 where
+  pub from : N z ≤ a
+  pub to : P z ≤ b
 
--- one of the two parts is 0
-pub not-negative : (z : ℤ) → N z ≤ P z → N z ≡ 0
-not-negative (pos n) h = refl
-not-negative (negsuc n) h = absurd (omega arith)
-
-pub not-positive : (z : ℤ) → P z ≤ N z → P z ≡ 0
-not-positive (pos n) h = omega arith
-not-positive (negsuc n) h = refl
-
--- an integer that is not negative is a natural number
-pub natural : (z : ℤ) → N z ≤ P z → z ≡ pos (P z)
-natural (pos n) h = refl
-natural (negsuc n) h = absurd (omega arith)
-
--- z is from -n to n
+-- from -n to n
 abbrev pub Near : ℕ → ℤ → Type 0
-Near n z = (P z ≤ n) × (N z ≤ n)
+Near n z = Between n n z

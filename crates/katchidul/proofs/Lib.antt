@@ -1,1 +1,2 @@
 pub mod Unsigned
+pub mod ExportsLaws

@@ -7,9 +7,10 @@ use lib.IntN.{ℤ, pos, natAbs}
 use lib.Signed.{ltZ, nonNeg}
 use mir.Syntax.{w32}
 use mir.Val.{SFits, Fits}
-use Rattle.integers.specs.Parts.{P, N, natural, not-positive}
-use Rattle.integers.specs.Order.{lt-yes, lt-no}
-use Rattle.integers.specs.Ranges.{range, readBack, read}
+use Rattle.integers.specs.Parts.{P, N}
+use Rattle.integers.proofs.PartsLaws.{natural, not-positive}
+use Rattle.integers.proofs.OrderLaws.{lt-yes, lt-no}
+use Rattle.integers.proofs.Ranges.{range, readBack, read}
 
 module _ (z : ℤ) (f : SFits w32 z) where
   same-read : readBack w32 z ≡ z

@@ -8,10 +8,10 @@ use lib.Signed.{ltZ}
 use mir.Syntax.{w64}
 use mir.Val.{SFits, Fits}
 use Rattle.integers.specs.Parts.{P, N}
-use Rattle.integers.specs.Sums.{difference, times}
-use Rattle.integers.specs.Order.{lt-yes, lt-no}
+use Rattle.integers.proofs.Sums.{difference, times}
+use Rattle.integers.proofs.OrderLaws.{lt-yes, lt-no}
 use Rattle.integers.specs.Quotients.{floorQuot, floorRem}
-use Rattle.integers.specs.Ranges.{range, fits}
+use Rattle.integers.proofs.Ranges.{range, fits}
 use Rattle.calendar.specs.Days.{dayNumberOf}
 use Rattle.calendar.specs.declared.dates.Date.{Date}
 use Rattle.schedule.proofs.Starts.{start-near}
@@ -23,13 +23,13 @@ days-fit (pos n) d h y =
     let s = start-near d y in
     let m = times (dayNumberOf d) 86400 in
     let b = difference (pos (n / 86400)) (dayNumberOf d) in
-    fits w64 _ (omega (arith, b .0, b .1, m, s .0, s .1)) (omega (arith, b .0, b .1, m, s .0, s .1))
+    fits w64 _ (omega (arith, b .0, b .1, m, s .from, s .to)) (omega (arith, b .0, b .1, m, s .from, s .to))
 days-fit (negsuc n) d h y =
     let r = range w64 (negsuc n) h in
     let s = start-near d y in
     let m = times (dayNumberOf d) 86400 in
     let b = difference (negsuc (n / 86400)) (dayNumberOf d) in
-    fits w64 _ (omega (arith, b .0, b .1, m, s .0, s .1)) (omega (arith, b .0, b .1, m, s .0, s .1))
+    fits w64 _ (omega (arith, b .0, b .1, m, s .from, s .to)) (omega (arith, b .0, b .1, m, s .from, s .to))
 
 pub before-zero : (t : ℤ) → ltZ t (pos 0) ≡ true → (1 + (N t - 1) ≡ N t) × (86399 - (N t - 1) % 86400 ≡ floorRem t 86400)
 before-zero (pos n) h = absurd (omega (arith, lt-yes (pos n) (pos 0) h))

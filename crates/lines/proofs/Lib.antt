@@ -1,3 +1,4 @@
+pub mod LinesLaws
 pub mod Instants
 pub mod Making
 pub mod Parts

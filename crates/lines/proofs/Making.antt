@@ -4,11 +4,11 @@ use Prim.Native.Nat.{ℕ, _+_, _≤_}
 use mathlib.Core.Path.{_≡_, refl, sym, ap, _∙_}
 use mathlib.Core.List.{List, [], _∷_, _++_}
 use lib.ListN.{length, length-append}
-use Rattle.models.specs.declared.refusal.Refusal.{Refusal}
+use Rattle.refusals.specs.declared.Refusal.{Refusal}
 use Rattle.text.specs.Text.{ascii, decimalOf, putOf, frontOf}
-use Rattle.text.specs.TextLaws.{put-behind, put-next, digits-short}
+use Rattle.text.proofs.TextLaws.{put-behind, put-next, digits-short}
 use Rattle.lines.specs.Lines.{numberText, refusedText}
-use Rattle.lines.specs.LinesLaws.{number-length}
+use Rattle.lines.proofs.LinesLaws.{number-length}
 
 pub number-made : (line worded done word : List ℕ) (at n : ℕ) → at + length word + 20 ≤ length line → worded ≡ putOf line at word
     → done ≡ putOf worded (at + length word) (decimalOf n) → done ≡ putOf line at (numberText word n)

@@ -6,7 +6,7 @@ use Rattle.integers.specs.Parts.{P, N}
 use Rattle.integers.specs.Quotients.{floorQuot, floorRem}
 use Rattle.calendar.specs.declared.dates.Date.{Date}
 use Rattle.calendar.specs.Days.{dayNumberOf}
-use Rattle.models.specs.declared.refusal.Refusal.{Refusal}
+use Rattle.refusals.specs.declared.Refusal.{Refusal}
 use Rattle.schedule.specs.declared.prayer_times.PrayerTimes.{PrayerTimes}
 use Rattle.schedule.specs.declared.prayer_times.Worked.{Worked}
 use Rattle.schedule.specs.declared.prayer_times.Worked.the-variants.{Times, Refused}
@@ -36,22 +36,30 @@ sizeOf z = P z + N z
 abbrev pub clockText : ℕ → List ℕ
 clockText second = twoDigits (second / 3600) ++ (58 ∷ twoDigits (second / 60 % 60)) ++ (58 ∷ twoDigits (second % 60))
 
-unfoldable pub cellText : Date → ℤ → List ℕ
-cellText date time =
+unfoldable pub timeText : Date → ℤ → List ℕ
+timeText date time =
     let days = daysOf date time in
     (32 ∷ signOf days ∷ digitOf (sizeOf days) ∷ 84 ∷ []) ++ clockText (floorRem time 86400)
 
--- ---- "one line a row: date, then nine times in the header's order .. a full row has 119 bytes with its newline"
+-- ---- "one line a row: date, then nine times in the header's order"
 abbrev pub nineOf : PrayerTimes → List ℤ
 nineOf t =
     t .fajr ∷ t .sunrise ∷ t .dhuhr ∷ t .asr ∷ t .maghrib ∷ t .isha ∷ t .«middle_of_the_night» ∷ t .qiyam ∷ t .«fajr_tomorrow» ∷ []
 
-unfoldable pub cellsText : Date → List ℤ → List ℕ
-cellsText date [] = []
-cellsText date (time ∷ times) = cellText date time ++ cellsText date times
+unfoldable pub timesText : Date → List ℤ → List ℕ
+timesText date [] = []
+timesText date (time ∷ times) = timeText date time ++ timesText date times
 
-unfoldable pub rowText : Date → PrayerTimes → List ℕ
-rowText date t = dateText date ++ cellsText date (nineOf t) ++ ascii "\n"
+unfoldable pub rowText : Date → List ℤ → List ℕ
+rowText date times = dateText date ++ timesText date times ++ ascii "\n"
+
+-- the bytes of a row by its columns: a date has 10, a time 12 with its blank, and the line ends in a newline
+abbrev pub rowBytes : ℕ → ℕ
+rowBytes columns = 10 + 12 * columns + 1
+
+-- "a full row has 119 bytes with its newline"
+abbrev pub fullRow : ℕ
+fullRow = rowBytes 9
 
 -- ---- a refusal's line: whose it is, its number, and its place by a word
 unfoldable pub numberText : List ℕ → ℕ → List ℕ
@@ -70,5 +78,5 @@ refusedOrderText r = refusedText (ascii "order") (ascii " place ") r
 
 -- ---- "a refused day prints as below and the run goes on"
 unfoldable pub lineText : Date → Worked → List ℕ
-lineText date (Times t) = rowText date t
+lineText date (Times t) = rowText date (nineOf t)
 lineText date (Refused r) = refusedDayText date r

@@ -4,9 +4,9 @@ ghost use Prim.Native.Nat.{_+_, _≤_};
 ghost use lib.ListN.{length};
 ghost use Rattle.text.specs.Text.{putOf, frontOf};
 ghost use Rattle.lines.specs.Lines.{numberText, refusedText, refusedDayText, refusedOrderText};
-use super::cells::date_text;
+use super::times::date_text;
 use calendar::dates::Date;
-use models::refusal::Refusal;
+use refusals::Refusal;
 use text::decimal::put_decimal;
 use text::put::put;
 

@@ -1,2 +1,3 @@
-pub mod Beyond
+pub mod NumbersLaws
+pub mod Rows
 pub mod Wide

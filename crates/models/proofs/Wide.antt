@@ -6,15 +6,13 @@ use lib.IntN.{ℤ, _+ℤ_}
 use mir.Syntax.{w32, w64}
 use mir.Val.{SFits}
 use Rattle.integers.specs.Parts.{P, N}
-use Rattle.integers.specs.Sums.{sum, summands}
-use Rattle.integers.specs.Ranges.{range, fits, readBack, read, read-wide}
+use Rattle.integers.proofs.Sums.{sum, summands}
+use Rattle.integers.proofs.Ranges.{range, fits, readBack, read, read-wide}
 
 module _ (a b : ℤ) (ha : SFits w32 a) (hb : SFits w32 b) where
   exact : SFits w64 (a +ℤ b)
   exact =
-      let s = sum a b in
-      let p = range w32 a ha in
-      let q = range w32 b hb in
+      let s = sum a b in let p = range w32 a ha in let q = range w32 b hb in
       fits w64 (a +ℤ b) (omega arith) (omega arith)
 
   both : readBack w64 (readBack w32 a) +ℤ readBack w64 (readBack w32 b) ≡ a +ℤ b

@@ -1,8 +1,6 @@
 pub mod Numbers
-pub mod NumbersLaws
 pub mod Names
 pub mod Minutes
-pub mod Refusals
 pub mod Rules
 pub mod Settings
 pub mod Builder

@@ -3,16 +3,16 @@ use lib.IntN.{ℤ, pos}
 use Rattle.models.specs.declared.adjustments.TimeAdjustment.{TimeAdjustment}
 use Rattle.models.specs.declared.adjustments.Adjustment.{Adjustment}
 
-abbrev pub minutesOf : ℤ → ℤ → ℤ → ℤ → ℤ → ℤ → TimeAdjustment
-minutesOf fajr sunrise dhuhr asr maghrib isha =
+abbrev pub sixMinutesOf : ℤ → ℤ → ℤ → ℤ → ℤ → ℤ → TimeAdjustment
+sixMinutesOf fajr sunrise dhuhr asr maghrib isha =
     record { fajr = fajr; sunrise = sunrise; dhuhr = dhuhr; asr = asr; maghrib = maghrib; isha = isha }
 
 abbrev pub noMinutes : TimeAdjustment
-noMinutes = minutesOf (pos 0) (pos 0) (pos 0) (pos 0) (pos 0) (pos 0)
+noMinutes = sixMinutesOf (pos 0) (pos 0) (pos 0) (pos 0) (pos 0) (pos 0)
 
 -- the builder holds the same six, and gives them back
 abbrev pub builderOf : TimeAdjustment → Adjustment
 builderOf m = record { fajr = m .fajr; sunrise = m .sunrise; dhuhr = m .dhuhr; asr = m .asr; maghrib = m .maghrib; isha = m .isha }
 
-abbrev pub doneOf : Adjustment → TimeAdjustment
-doneOf b = minutesOf (b .fajr) (b .sunrise) (b .dhuhr) (b .asr) (b .maghrib) (b .isha)
+abbrev pub builtOf : Adjustment → TimeAdjustment
+builtOf b = sixMinutesOf (b .fajr) (b .sunrise) (b .dhuhr) (b .asr) (b .maghrib) (b .isha)

@@ -1,7 +1,7 @@
 -- The numbers by which an order and an answer name the cases of each enum, and the case of each number.
 -- A number that names none is taken for the last one's: the reader of an order refuses it before.
 use Prim.Native.Nat.{ℕ}
-use mathlib.Core.List.{[], _∷_}
+use mathlib.Core.List.{List, [], _∷_}
 use lib.ListN.{getD}
 use Rattle.models.specs.declared.rounding.Rounding.{Rounding}
 use Rattle.models.specs.declared.rounding.Rounding.the-variants.{Nearest, Up, None}
@@ -21,16 +21,22 @@ roundingNumberOf Nearest = 0
 roundingNumberOf Up = 1
 roundingNumberOf None = 2
 
+abbrev pub roundings : List Rounding
+roundings = Nearest ∷ Up ∷ []
+
 unfoldable pub roundingOf : ℕ → Rounding
-roundingOf n = getD (Nearest ∷ Up ∷ []) n None
+roundingOf n = getD roundings n None
 
 unfoldable pub shafaqNumberOf : Shafaq → ℕ
 shafaqNumberOf General = 0
 shafaqNumberOf Ahmer = 1
 shafaqNumberOf Abyad = 2
 
+abbrev pub shafaqs : List Shafaq
+shafaqs = General ∷ Ahmer ∷ []
+
 unfoldable pub shafaqOf : ℕ → Shafaq
-shafaqOf n = getD (General ∷ Ahmer ∷ []) n Abyad
+shafaqOf n = getD shafaqs n Abyad
 
 unfoldable pub madhabNumberOf : Madhab → ℕ
 madhabNumberOf Shafi = 1
@@ -44,8 +50,11 @@ ruleNumberOf MiddleOfTheNight = 0
 ruleNumberOf SeventhOfTheNight = 1
 ruleNumberOf TwilightAngle = 2
 
+abbrev pub rules : List HighLatitudeRule
+rules = MiddleOfTheNight ∷ SeventhOfTheNight ∷ []
+
 unfoldable pub ruleOf : ℕ → HighLatitudeRule
-ruleOf n = getD (MiddleOfTheNight ∷ SeventhOfTheNight ∷ []) n TwilightAngle
+ruleOf n = getD rules n TwilightAngle
 
 unfoldable pub methodNumberOf : Method → ℕ
 methodNumberOf MuslimWorldLeague = 0
@@ -62,8 +71,11 @@ methodNumberOf Tehran = 10
 methodNumberOf Turkey = 11
 methodNumberOf Other = 12
 
+abbrev pub methods : List Method
+methods = MuslimWorldLeague ∷ Egyptian ∷ Karachi ∷ UmmAlQura ∷ Dubai ∷ MoonsightingCommittee ∷ NorthAmerica ∷ Kuwait ∷ Qatar ∷ Singapore ∷ Tehran ∷ Turkey ∷ []
+
 unfoldable pub methodOf : ℕ → Method
-methodOf n = getD (MuslimWorldLeague ∷ Egyptian ∷ Karachi ∷ UmmAlQura ∷ Dubai ∷ MoonsightingCommittee ∷ NorthAmerica ∷ Kuwait ∷ Qatar ∷ Singapore ∷ Tehran ∷ Turkey ∷ []) n Other
+methodOf n = getD methods n Other
 
 unfoldable pub prayerNumberOf : Prayer → ℕ
 prayerNumberOf Fajr = 1
@@ -75,5 +87,8 @@ prayerNumberOf Isha = 6
 prayerNumberOf Qiyam = 7
 prayerNumberOf FajrTomorrow = 8
 
+abbrev pub prayers : List Prayer
+prayers = FajrTomorrow ∷ Fajr ∷ Sunrise ∷ Dhuhr ∷ Asr ∷ Maghrib ∷ Isha ∷ Qiyam ∷ []
+
 unfoldable pub prayerOf : ℕ → Prayer
-prayerOf n = getD (FajrTomorrow ∷ Fajr ∷ Sunrise ∷ Dhuhr ∷ Asr ∷ Maghrib ∷ Isha ∷ Qiyam ∷ []) n FajrTomorrow
+prayerOf n = getD prayers n FajrTomorrow

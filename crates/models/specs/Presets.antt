@@ -12,7 +12,7 @@ use Rattle.models.specs.declared.parameters.Parameters.{Parameters}
 use Rattle.models.specs.declared.rounding.Rounding.{Rounding}
 use Rattle.models.specs.declared.rounding.Rounding.the-variants.{Nearest, Up}
 use Rattle.models.specs.declared.shafaq.Shafaq.the-variants.{General}
-use Rattle.models.specs.Minutes.{minutesOf, noMinutes}
+use Rattle.models.specs.Minutes.{sixMinutesOf, noMinutes}
 
 -- the Fajr, Isha and Maghrib angles in tenths of a degree, the Isha interval, the method's minutes and its rounding
 unfoldable pub preset : Method → ℕ → ℕ → ℕ → ℕ → TimeAdjustment → Rounding → Parameters
@@ -34,7 +34,7 @@ preset method fajr isha maghrib interval minutes rounding =
 
 -- minutes of sunrise (taken off), Dhuhr, Asr and Maghrib (added)
 abbrev pub offset : ℕ → ℕ → ℕ → ℕ → TimeAdjustment
-offset sunrise dhuhr asr maghrib = minutesOf (pos 0) (negℤ (pos sunrise)) (pos dhuhr) (pos asr) (pos maghrib) (pos 0)
+offset sunrise dhuhr asr maghrib = sixMinutesOf (pos 0) (negℤ (pos sunrise)) (pos dhuhr) (pos asr) (pos maghrib) (pos 0)
 
 --                                                    Fajr Isha Maghrib interval  sunrise Dhuhr Asr Maghrib
 unfoldable pub presetOf : Method → Parameters

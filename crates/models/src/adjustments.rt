@@ -1,6 +1,6 @@
 // adjustments.rs: minutes to add to each of six times, negative ones too. They are i32 here, so that the sum of two fits an i64.
 ghost use mathlib.Core.Path.{_≡_};
-ghost use Rattle.models.specs.Minutes.{minutesOf, noMinutes, builderOf, doneOf};
+ghost use Rattle.models.specs.Minutes.{sixMinutesOf, noMinutes, builderOf, builtOf};
 
 pub struct TimeAdjustment {
     pub fajr: i32,
@@ -12,6 +12,15 @@ pub struct TimeAdjustment {
 }
 
 impl TimeAdjustment {
+    pub const NONE: TimeAdjustment = TimeAdjustment {
+        fajr: 0,
+        sunrise: 0,
+        dhuhr: 0,
+        asr: 0,
+        maghrib: 0,
+        isha: 0,
+    };
+
     pub fn new(
         fajr: i32,
         sunrise: i32,
@@ -20,7 +29,7 @@ impl TimeAdjustment {
         maghrib: i32,
         isha: i32,
     ) -> TimeAdjustment
-        ensures { λ r. ⌜ r ≡ minutesOf fajr sunrise dhuhr asr maghrib isha ⌝ }
+        ensures { λ r. ⌜ r ≡ sixMinutesOf fajr sunrise dhuhr asr maghrib isha ⌝ }
     {
         TimeAdjustment {
             fajr: fajr,
@@ -35,14 +44,7 @@ impl TimeAdjustment {
     pub fn default() -> TimeAdjustment
         ensures { λ r. ⌜ r ≡ noMinutes ⌝ }
     {
-        TimeAdjustment {
-            fajr: 0,
-            sunrise: 0,
-            dhuhr: 0,
-            asr: 0,
-            maghrib: 0,
-            isha: 0,
-        }
+        TimeAdjustment::NONE
     }
 }
 
@@ -60,60 +62,61 @@ impl Adjustment {
     pub fn new() -> Adjustment
         ensures { λ r. ⌜ r ≡ builderOf noMinutes ⌝ }
     {
+        let none = TimeAdjustment::NONE;
         Adjustment {
-            fajr: 0,
-            sunrise: 0,
-            dhuhr: 0,
-            asr: 0,
-            maghrib: 0,
-            isha: 0,
+            fajr: none.fajr,
+            sunrise: none.sunrise,
+            dhuhr: none.dhuhr,
+            asr: none.asr,
+            maghrib: none.maghrib,
+            isha: none.isha,
         }
     }
 
     pub fn fajr(mut self, fajr: i32) -> Adjustment
-        ensures { λ r. ⌜ r ≡ builderOf (minutesOf fajr (self .sunrise) (self .dhuhr) (self .asr) (self .maghrib) (self .isha)) ⌝ }
+        ensures { λ r. ⌜ r ≡ builderOf (sixMinutesOf fajr (self .sunrise) (self .dhuhr) (self .asr) (self .maghrib) (self .isha)) ⌝ }
     {
         self.fajr = fajr;
         self
     }
 
     pub fn sunrise(mut self, sunrise: i32) -> Adjustment
-        ensures { λ r. ⌜ r ≡ builderOf (minutesOf (self .fajr) sunrise (self .dhuhr) (self .asr) (self .maghrib) (self .isha)) ⌝ }
+        ensures { λ r. ⌜ r ≡ builderOf (sixMinutesOf (self .fajr) sunrise (self .dhuhr) (self .asr) (self .maghrib) (self .isha)) ⌝ }
     {
         self.sunrise = sunrise;
         self
     }
 
     pub fn dhuhr(mut self, dhuhr: i32) -> Adjustment
-        ensures { λ r. ⌜ r ≡ builderOf (minutesOf (self .fajr) (self .sunrise) dhuhr (self .asr) (self .maghrib) (self .isha)) ⌝ }
+        ensures { λ r. ⌜ r ≡ builderOf (sixMinutesOf (self .fajr) (self .sunrise) dhuhr (self .asr) (self .maghrib) (self .isha)) ⌝ }
     {
         self.dhuhr = dhuhr;
         self
     }
 
     pub fn asr(mut self, asr: i32) -> Adjustment
-        ensures { λ r. ⌜ r ≡ builderOf (minutesOf (self .fajr) (self .sunrise) (self .dhuhr) asr (self .maghrib) (self .isha)) ⌝ }
+        ensures { λ r. ⌜ r ≡ builderOf (sixMinutesOf (self .fajr) (self .sunrise) (self .dhuhr) asr (self .maghrib) (self .isha)) ⌝ }
     {
         self.asr = asr;
         self
     }
 
     pub fn maghrib(mut self, maghrib: i32) -> Adjustment
-        ensures { λ r. ⌜ r ≡ builderOf (minutesOf (self .fajr) (self .sunrise) (self .dhuhr) (self .asr) maghrib (self .isha)) ⌝ }
+        ensures { λ r. ⌜ r ≡ builderOf (sixMinutesOf (self .fajr) (self .sunrise) (self .dhuhr) (self .asr) maghrib (self .isha)) ⌝ }
     {
         self.maghrib = maghrib;
         self
     }
 
     pub fn isha(mut self, isha: i32) -> Adjustment
-        ensures { λ r. ⌜ r ≡ builderOf (minutesOf (self .fajr) (self .sunrise) (self .dhuhr) (self .asr) (self .maghrib) isha) ⌝ }
+        ensures { λ r. ⌜ r ≡ builderOf (sixMinutesOf (self .fajr) (self .sunrise) (self .dhuhr) (self .asr) (self .maghrib) isha) ⌝ }
     {
         self.isha = isha;
         self
     }
 
     pub fn done(self) -> TimeAdjustment
-        ensures { λ r. ⌜ r ≡ doneOf self ⌝ }
+        ensures { λ r. ⌜ r ≡ builtOf self ⌝ }
     {
         TimeAdjustment {
             fajr: self.fajr,

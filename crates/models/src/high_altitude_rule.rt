@@ -35,14 +35,20 @@ impl HighLatitudeRule {
         }
     }
 
-    // And back; any other number is the last one's.
+    // The cases by number but the last, which any other number gives.
+    pub const BY_NUMBER: [HighLatitudeRule; 2] = [
+        HighLatitudeRule::MiddleOfTheNight,
+        HighLatitudeRule::SeventhOfTheNight,
+    ];
+
+    // And back.
     pub fn of_number(n: u32) -> HighLatitudeRule
         ensures { λ r. ⌜ r ≡ ruleOf n ⌝ }
     {
-        match n {
-            0 => HighLatitudeRule::MiddleOfTheNight,
-            1 => HighLatitudeRule::SeventhOfTheNight,
-            _ => HighLatitudeRule::TwilightAngle,
+        if n < 2 {
+            HighLatitudeRule::BY_NUMBER[n as usize]
+        } else {
+            HighLatitudeRule::TwilightAngle
         }
     }
 }

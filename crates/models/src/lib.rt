@@ -5,6 +5,5 @@ pub mod madhab;
 pub mod method;
 pub mod parameters;
 pub mod prayer;
-pub mod refusal;
 pub mod rounding;
 pub mod shafaq;

@@ -13,10 +13,7 @@ impl Madhab {
     pub fn shadow(self) -> i32
         ensures { λ r. ⌜ r ≡ pos (madhabNumberOf self) ⌝ }
     {
-        match self {
-            Madhab::Shafi => 1,
-            Madhab::Hanafi => 2,
-        }
+        self.number() as i32
     }
 
     // The number by which an order names it.

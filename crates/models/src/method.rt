@@ -1,29 +1,15 @@
 // method.rs: the presets of the authorities.
 ghost use mathlib.Core.Path.{_≡_};
+ghost use lib.ListN.{getD};
+ghost use lib.Ieee.{nan};
 ghost use Rattle.models.specs.Numbers.{methodNumberOf, methodOf};
-ghost use lib.IntN.{pos};
 ghost use Rattle.models.specs.Builder.{configurationOf, setMethod, setMethodAdjustments};
-ghost use Rattle.models.specs.Minutes.{minutesOf};
 ghost use Rattle.models.specs.Settings.{parametersNewOf};
 ghost use Rattle.models.specs.Presets.{presetOf};
 use super::adjustments::TimeAdjustment;
 use super::parameters::Configuration;
 use super::parameters::Parameters;
 use super::rounding::Rounding;
-
-// Minutes of the four times that a method moves.
-fn offset(sunrise: i32, dhuhr: i32, asr: i32, maghrib: i32) -> TimeAdjustment
-    ensures { λ r. ⌜ r ≡ minutesOf (pos 0) sunrise dhuhr asr maghrib (pos 0) ⌝ }
-{
-    TimeAdjustment {
-        fajr: 0,
-        sunrise: sunrise,
-        dhuhr: dhuhr,
-        asr: asr,
-        maghrib: maghrib,
-        isha: 0,
-    }
-}
 
 pub enum Method {
     // Muslim World League.
@@ -54,6 +40,80 @@ pub enum Method {
 }
 
 impl Method {
+    // Degrees of the sun below the horizon at Fajr and at Isha.
+    pub const MUSLIM_WORLD_LEAGUE_ANGLES: [f64; 2] = [18.0, 17.0];
+
+    pub const EGYPTIAN_ANGLES: [f64; 2] = [19.5, 17.5];
+
+    pub const KARACHI_ANGLES: [f64; 2] = [18.0, 18.0];
+
+    pub const UMM_AL_QURA_ANGLES: [f64; 2] = [18.5, 0.0];
+
+    pub const DUBAI_ANGLES: [f64; 2] = [18.2, 18.2];
+
+    pub const MOONSIGHTING_ANGLES: [f64; 2] = [18.0, 18.0];
+
+    pub const NORTH_AMERICA_ANGLES: [f64; 2] = [15.0, 15.0];
+
+    pub const KUWAIT_ANGLES: [f64; 2] = [18.0, 17.5];
+
+    pub const QATAR_ANGLES: [f64; 2] = [18.0, 0.0];
+
+    pub const SINGAPORE_ANGLES: [f64; 2] = [20.0, 18.0];
+
+    pub const TEHRAN_ANGLES: [f64; 2] = [17.7, 14.0];
+
+    pub const TURKEY_ANGLES: [f64; 2] = [18.0, 17.0];
+
+    pub const OTHER_ANGLES: [f64; 2] = [0.0, 0.0];
+
+    // The same at Maghrib.
+    pub const TEHRAN_MAGHRIB: f64 = 4.5;
+
+    // Minutes from Maghrib to Isha, in place of Isha's angle.
+    pub const UMM_AL_QURA_INTERVAL: i32 = 90;
+
+    pub const QATAR_INTERVAL: i32 = 90;
+
+    pub const SINGAPORE_ROUNDING: Rounding = Rounding::Up;
+
+    // Five methods move Dhuhr alone, by a minute.
+    pub const DHUHR_MINUTES: TimeAdjustment = TimeAdjustment {
+        fajr: 0,
+        sunrise: 0,
+        dhuhr: 1,
+        asr: 0,
+        maghrib: 0,
+        isha: 0,
+    };
+
+    pub const DUBAI_MINUTES: TimeAdjustment = TimeAdjustment {
+        fajr: 0,
+        sunrise: -3,
+        dhuhr: 3,
+        asr: 3,
+        maghrib: 3,
+        isha: 0,
+    };
+
+    pub const MOONSIGHTING_MINUTES: TimeAdjustment = TimeAdjustment {
+        fajr: 0,
+        sunrise: 0,
+        dhuhr: 5,
+        asr: 0,
+        maghrib: 3,
+        isha: 0,
+    };
+
+    pub const TURKEY_MINUTES: TimeAdjustment = TimeAdjustment {
+        fajr: 0,
+        sunrise: -7,
+        dhuhr: 5,
+        asr: 4,
+        maghrib: 7,
+        isha: 0,
+    };
+
     // The number by which an order names it.
     pub fn number(self) -> u32
         ensures { λ r. ⌜ r ≡ methodNumberOf self ⌝ }
@@ -75,55 +135,72 @@ impl Method {
         }
     }
 
-    // And back; any other number is the last one's.
+    // The cases by number but the last, which any other number gives.
+    pub const BY_NUMBER: [Method; 12] = [
+        Method::MuslimWorldLeague,
+        Method::Egyptian,
+        Method::Karachi,
+        Method::UmmAlQura,
+        Method::Dubai,
+        Method::MoonsightingCommittee,
+        Method::NorthAmerica,
+        Method::Kuwait,
+        Method::Qatar,
+        Method::Singapore,
+        Method::Tehran,
+        Method::Turkey,
+    ];
+
+    // And back.
     pub fn of_number(n: u32) -> Method
         ensures { λ r. ⌜ r ≡ methodOf n ⌝ }
     {
-        match n {
-            0 => Method::MuslimWorldLeague,
-            1 => Method::Egyptian,
-            2 => Method::Karachi,
-            3 => Method::UmmAlQura,
-            4 => Method::Dubai,
-            5 => Method::MoonsightingCommittee,
-            6 => Method::NorthAmerica,
-            7 => Method::Kuwait,
-            8 => Method::Qatar,
-            9 => Method::Singapore,
-            10 => Method::Tehran,
-            11 => Method::Turkey,
-            _ => Method::Other,
+        if n < 12 {
+            Method::BY_NUMBER[n as usize]
+        } else {
+            Method::Other
         }
     }
 
-    fn preset(self, fajr_angle: f64, isha_angle: f64, minutes: TimeAdjustment) -> Configuration
-        ensures { λ r. ⌜ r ≡ setMethodAdjustments (setMethod (configurationOf (parametersNewOf «fajr_angle» «isha_angle»)) self) minutes ⌝ }
+    fn preset(self, angles: [f64; 2], minutes: TimeAdjustment) -> Configuration
+        ensures { λ r. ⌜ r ≡ setMethodAdjustments (setMethod (configurationOf (parametersNewOf (getD angles 0 nan) (getD angles 1 nan))) self) minutes ⌝ }
     {
-        Configuration::new(fajr_angle, isha_angle)
+        Configuration::new(angles[0], angles[1])
             .method(self)
             .method_adjustments(minutes)
     }
 
-    // The angles of Fajr and Isha, and the minutes of sunrise, Dhuhr, Asr and Maghrib.
+    // The method's constants put together; what it does not set is as in Parameters::new.
     fn configuration(self) -> Configuration
         ensures { λ r. ⌜ r ≡ configurationOf (presetOf self) ⌝ }
     {
         match self {
-            Method::MuslimWorldLeague => self.preset(18.0, 17.0, offset(0, 1, 0, 0)),
-            Method::Egyptian => self.preset(19.5, 17.5, offset(0, 1, 0, 0)),
-            Method::Karachi => self.preset(18.0, 18.0, offset(0, 1, 0, 0)),
-            Method::UmmAlQura => self.preset(18.5, 0.0, offset(0, 0, 0, 0)).isha_interval(90),
-            Method::Dubai => self.preset(18.2, 18.2, offset(-3, 3, 3, 3)),
-            Method::MoonsightingCommittee => self.preset(18.0, 18.0, offset(0, 5, 0, 3)),
-            Method::NorthAmerica => self.preset(15.0, 15.0, offset(0, 1, 0, 0)),
-            Method::Kuwait => self.preset(18.0, 17.5, offset(0, 0, 0, 0)),
-            Method::Qatar => self.preset(18.0, 0.0, offset(0, 0, 0, 0)).isha_interval(90),
-            Method::Singapore => self.preset(20.0, 18.0, offset(0, 1, 0, 0))
-                .rounding(Rounding::Up),
-            Method::Tehran => self.preset(17.7, 14.0, offset(0, 0, 0, 0))
-                .maghrib_angle(4.5),
-            Method::Turkey => self.preset(18.0, 17.0, offset(-7, 5, 4, 7)),
-            Method::Other => self.preset(0.0, 0.0, offset(0, 0, 0, 0)),
+            Method::MuslimWorldLeague => self.preset(
+                Method::MUSLIM_WORLD_LEAGUE_ANGLES,
+                Method::DHUHR_MINUTES,
+            ),
+            Method::Egyptian => self.preset(Method::EGYPTIAN_ANGLES, Method::DHUHR_MINUTES),
+            Method::Karachi => self.preset(Method::KARACHI_ANGLES, Method::DHUHR_MINUTES),
+            Method::UmmAlQura => self.preset(Method::UMM_AL_QURA_ANGLES, TimeAdjustment::NONE)
+                .isha_interval(Method::UMM_AL_QURA_INTERVAL),
+            Method::Dubai => self.preset(Method::DUBAI_ANGLES, Method::DUBAI_MINUTES),
+            Method::MoonsightingCommittee => self.preset(
+                Method::MOONSIGHTING_ANGLES,
+                Method::MOONSIGHTING_MINUTES,
+            ),
+            Method::NorthAmerica => self.preset(
+                Method::NORTH_AMERICA_ANGLES,
+                Method::DHUHR_MINUTES,
+            ),
+            Method::Kuwait => self.preset(Method::KUWAIT_ANGLES, TimeAdjustment::NONE),
+            Method::Qatar => self.preset(Method::QATAR_ANGLES, TimeAdjustment::NONE)
+                .isha_interval(Method::QATAR_INTERVAL),
+            Method::Singapore => self.preset(Method::SINGAPORE_ANGLES, Method::DHUHR_MINUTES)
+                .rounding(Method::SINGAPORE_ROUNDING),
+            Method::Tehran => self.preset(Method::TEHRAN_ANGLES, TimeAdjustment::NONE)
+                .maghrib_angle(Method::TEHRAN_MAGHRIB),
+            Method::Turkey => self.preset(Method::TURKEY_ANGLES, Method::TURKEY_MINUTES),
+            Method::Other => self.preset(Method::OTHER_ANGLES, TimeAdjustment::NONE),
         }
     }
 

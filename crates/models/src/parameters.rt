@@ -57,21 +57,38 @@ pub struct NightPortions {
 }
 
 impl Parameters {
+    // What holds where nothing is said.
+    pub const METHOD: Method = Method::Other;
+
+    pub const MAGHRIB_ANGLE: f64 = 0.0;
+
+    pub const ISHA_INTERVAL: i32 = 0;
+
+    pub const MADHAB: Madhab = Madhab::Shafi;
+
+    pub const HIGH_LATITUDE_RULE: HighLatitudeRule = HighLatitudeRule::MiddleOfTheNight;
+
+    pub const ADJUSTMENTS: TimeAdjustment = TimeAdjustment::NONE;
+
+    pub const ROUNDING: Rounding = Rounding::Nearest;
+
+    pub const SHAFAQ: Shafaq = Shafaq::General;
+
     pub fn new(fajr_angle: f64, isha_angle: f64) -> Parameters
         ensures { λ r. ⌜ r ≡ parametersNewOf «fajr_angle» «isha_angle» ⌝ }
     {
         Parameters {
             fajr_angle: fajr_angle,
-            maghrib_angle: 0.0,
+            maghrib_angle: Self::MAGHRIB_ANGLE,
             isha_angle: isha_angle,
-            method: Method::Other,
-            isha_interval: 0,
-            madhab: Madhab::Shafi,
-            high_latitude_rule: HighLatitudeRule::MiddleOfTheNight,
-            adjustments: TimeAdjustment::default(),
-            method_adjustments: TimeAdjustment::default(),
-            rounding: Rounding::Nearest,
-            shafaq: Shafaq::General,
+            method: Self::METHOD,
+            isha_interval: Self::ISHA_INTERVAL,
+            madhab: Self::MADHAB,
+            high_latitude_rule: Self::HIGH_LATITUDE_RULE,
+            adjustments: Self::ADJUSTMENTS,
+            method_adjustments: Self::ADJUSTMENTS,
+            rounding: Self::ROUNDING,
+            shafaq: Self::SHAFAQ,
         }
     }
 
@@ -127,16 +144,16 @@ impl Configuration {
     {
         Configuration {
             fajr_angle: fajr_angle,
-            maghrib_angle: 0.0,
+            maghrib_angle: Parameters::MAGHRIB_ANGLE,
             isha_angle: isha_angle,
-            method: Method::Other,
-            isha_interval: 0,
-            madhab: Madhab::Shafi,
-            high_latitude_rule: HighLatitudeRule::MiddleOfTheNight,
-            adjustments: TimeAdjustment::default(),
-            method_adjustments: TimeAdjustment::default(),
-            rounding: Rounding::Nearest,
-            shafaq: Shafaq::General,
+            method: Parameters::METHOD,
+            isha_interval: Parameters::ISHA_INTERVAL,
+            madhab: Parameters::MADHAB,
+            high_latitude_rule: Parameters::HIGH_LATITUDE_RULE,
+            adjustments: Parameters::ADJUSTMENTS,
+            method_adjustments: Parameters::ADJUSTMENTS,
+            rounding: Parameters::ROUNDING,
+            shafaq: Parameters::SHAFAQ,
         }
     }
 
@@ -168,14 +185,14 @@ impl Configuration {
         }
     }
 
-    pub fn method(self, method: Method) -> Configuration
-        ensures { λ r. ⌜ r ≡ setMethod self method ⌝ }
+    pub fn method(self, value: Method) -> Configuration
+        ensures { λ r. ⌜ r ≡ setMethod self value ⌝ }
     {
         let madhab = self.madhab;
         let high_latitude_rule = self.high_latitude_rule;
         let rounding = self.rounding;
         let shafaq = self.shafaq;
-        self.choosing(method, madhab, high_latitude_rule, rounding, shafaq)
+        self.choosing(value, madhab, high_latitude_rule, rounding, shafaq)
     }
 
     pub fn method_adjustments(mut self, method_adjustments: TimeAdjustment) -> Configuration
@@ -185,24 +202,24 @@ impl Configuration {
         self
     }
 
-    pub fn high_latitude_rule(self, high_latitude_rule: HighLatitudeRule) -> Configuration
-        ensures { λ r. ⌜ r ≡ setHighLatitudeRule self «high_latitude_rule» ⌝ }
+    pub fn high_latitude_rule(self, value: HighLatitudeRule) -> Configuration
+        ensures { λ r. ⌜ r ≡ setHighLatitudeRule self value ⌝ }
     {
         let method = self.method;
         let madhab = self.madhab;
         let rounding = self.rounding;
         let shafaq = self.shafaq;
-        self.choosing(method, madhab, high_latitude_rule, rounding, shafaq)
+        self.choosing(method, madhab, value, rounding, shafaq)
     }
 
-    pub fn madhab(self, madhab: Madhab) -> Configuration
-        ensures { λ r. ⌜ r ≡ setMadhab self madhab ⌝ }
+    pub fn madhab(self, value: Madhab) -> Configuration
+        ensures { λ r. ⌜ r ≡ setMadhab self value ⌝ }
     {
         let method = self.method;
         let high_latitude_rule = self.high_latitude_rule;
         let rounding = self.rounding;
         let shafaq = self.shafaq;
-        self.choosing(method, madhab, high_latitude_rule, rounding, shafaq)
+        self.choosing(method, value, high_latitude_rule, rounding, shafaq)
     }
 
     // An interval takes the place of the Isha angle.
@@ -249,8 +266,8 @@ impl Configuration {
         let high_latitude_rule = self.high_latitude_rule;
         let rounding = self.rounding;
         let shafaq = self.shafaq;
-        let adjustments = self.adjustments;
-        let method_adjustments = self.method_adjustments;
+        let own = self.adjustments;
+        let preset = self.method_adjustments;
         Parameters {
             method: method,
             fajr_angle: self.fajr_angle,
@@ -259,8 +276,8 @@ impl Configuration {
             isha_interval: self.isha_interval,
             madhab: madhab,
             high_latitude_rule: high_latitude_rule,
-            adjustments: adjustments,
-            method_adjustments: method_adjustments,
+            adjustments: own,
+            method_adjustments: preset,
             rounding: rounding,
             shafaq: shafaq,
         }

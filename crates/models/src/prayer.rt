@@ -92,19 +92,26 @@ impl Prayer {
         }
     }
 
-    // And back; any other number is the last one's.
+    // The cases by number but the last, which any other number gives.
+    pub const BY_NUMBER: [Prayer; 8] = [
+        Prayer::FajrTomorrow,
+        Prayer::Fajr,
+        Prayer::Sunrise,
+        Prayer::Dhuhr,
+        Prayer::Asr,
+        Prayer::Maghrib,
+        Prayer::Isha,
+        Prayer::Qiyam,
+    ];
+
+    // And back.
     pub fn of_number(n: u32) -> Prayer
         ensures { λ r. ⌜ r ≡ prayerOf n ⌝ }
     {
-        match n {
-            1 => Prayer::Fajr,
-            2 => Prayer::Sunrise,
-            3 => Prayer::Dhuhr,
-            4 => Prayer::Asr,
-            5 => Prayer::Maghrib,
-            6 => Prayer::Isha,
-            7 => Prayer::Qiyam,
-            _ => Prayer::FajrTomorrow,
+        if n < 8 {
+            Prayer::BY_NUMBER[n as usize]
+        } else {
+            Prayer::FajrTomorrow
         }
     }
 }

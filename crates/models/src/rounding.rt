@@ -20,14 +20,17 @@ impl Rounding {
         }
     }
 
-    // And back; any other number is the last one's.
+    // The cases by number but the last, which any other number gives.
+    pub const BY_NUMBER: [Rounding; 2] = [Rounding::Nearest, Rounding::Up];
+
+    // And back.
     pub fn of_number(n: u32) -> Rounding
         ensures { λ r. ⌜ r ≡ roundingOf n ⌝ }
     {
-        match n {
-            0 => Rounding::Nearest,
-            1 => Rounding::Up,
-            _ => Rounding::None,
+        if n < 2 {
+            Rounding::BY_NUMBER[n as usize]
+        } else {
+            Rounding::None
         }
     }
 }

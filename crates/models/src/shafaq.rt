@@ -23,14 +23,17 @@ impl Shafaq {
         }
     }
 
-    // And back; any other number is the last one's.
+    // The cases by number but the last, which any other number gives.
+    pub const BY_NUMBER: [Shafaq; 2] = [Shafaq::General, Shafaq::Ahmer];
+
+    // And back.
     pub fn of_number(n: u32) -> Shafaq
         ensures { λ r. ⌜ r ≡ shafaqOf n ⌝ }
     {
-        match n {
-            0 => Shafaq::General,
-            1 => Shafaq::Ahmer,
-            _ => Shafaq::Abyad,
+        if n < 2 {
+            Shafaq::BY_NUMBER[n as usize]
+        } else {
+            Shafaq::Abyad
         }
     }
 }

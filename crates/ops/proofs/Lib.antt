@@ -1,1 +1,4 @@
+pub mod SeasonLaws
+pub mod SeasonSizes
+pub mod SharedLaws
 pub mod Wrapped

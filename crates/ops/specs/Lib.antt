@@ -1,6 +1,4 @@
 pub mod Season
-pub mod SeasonSizes
-pub mod SeasonLaws
+pub mod Shared
 pub mod Sun
 pub mod Transit
-pub mod Shared

@@ -30,35 +30,26 @@ daysSinceSolsticeOf day year latitude =
     let lapsed = (day + 10) % 2 ^ 32 in
     cond (le (dec 0 0) latitude) (cond (leb days lapsed) (lapsed - days) lapsed) ((day + days - southernOffsetOf year) % 2 ^ 32)
 
--- minutes at the equator, and more or fewer of them for each 55 degrees of latitude
-unfoldable pub raisedOf : Float → Float → Float → Float
+-- minutes at the equator, and more or fewer of them for each 55 degrees of latitude: in thousandths
+unfoldable pub moreMinutes : ℕ → Float → ℕ → Float
 unfolding dec
-raisedOf base slope size = base +ᶠ slope /ᶠ dec 55 0 *ᶠ size
+moreMinutes base latitude n = dec base 0 +ᶠ dec n 3 /ᶠ dec 55 0 *ᶠ absOf latitude
 
-unfoldable pub loweredOf : Float → Float → Float → Float
+unfoldable pub fewerMinutes : ℕ → Float → ℕ → Float
 unfolding dec
-loweredOf base slope size = base -ᶠ slope /ᶠ dec 55 0 *ᶠ size
-
--- a base in minutes, and a slope in thousandths
-abbrev moreOf : ℕ → Float → ℕ → Float
-moreOf base latitude n = raisedOf (dec base 0) (dec n 3) (absOf latitude)
-
-abbrev fewerOf : ℕ → Float → ℕ → Float
-fewerOf base latitude n = loweredOf (dec base 0) (dec n 3) (absOf latitude)
+fewerMinutes base latitude n = dec base 0 -ᶠ dec n 3 /ᶠ dec 55 0 *ᶠ absOf latitude
 
 abbrev valuesOf : Float → Float → Float → Float → TwilightAdjustmentValues
 valuesOf a b c d = record { a = a; b = b; c = c; d = d }
 
 -- the observed minutes at four points of the year
 unfoldable pub eveningValuesOf : Float → Shafaq → TwilightAdjustmentValues
-unfolding dec
-eveningValuesOf x General = valuesOf (moreOf 75 x 25600) (moreOf 75 x 2050) (fewerOf 75 x 9210) (moreOf 75 x 6140)
-eveningValuesOf x Ahmer = valuesOf (moreOf 62 x 17400) (fewerOf 62 x 7160) (moreOf 62 x 5120) (moreOf 62 x 19440)
-eveningValuesOf x Abyad = valuesOf (moreOf 75 x 25600) (moreOf 75 x 7160) (moreOf 75 x 36840) (moreOf 75 x 81840)
+eveningValuesOf x General = valuesOf (moreMinutes 75 x 25600) (moreMinutes 75 x 2050) (fewerMinutes 75 x 9210) (moreMinutes 75 x 6140)
+eveningValuesOf x Ahmer = valuesOf (moreMinutes 62 x 17400) (fewerMinutes 62 x 7160) (moreMinutes 62 x 5120) (moreMinutes 62 x 19440)
+eveningValuesOf x Abyad = valuesOf (moreMinutes 75 x 25600) (moreMinutes 75 x 7160) (moreMinutes 75 x 36840) (moreMinutes 75 x 81840)
 
 unfoldable pub twilightAdjustmentValuesOf : AdjustmentDaytime → Float → Shafaq → TwilightAdjustmentValues
-unfolding dec
-twilightAdjustmentValuesOf Morning x shafaq = valuesOf (moreOf 75 x 28650) (moreOf 75 x 19440) (moreOf 75 x 32740) (moreOf 75 x 48100)
+twilightAdjustmentValuesOf Morning x shafaq = valuesOf (moreMinutes 75 x 28650) (moreMinutes 75 x 19440) (moreMinutes 75 x 32740) (moreMinutes 75 x 48100)
 twilightAdjustmentValuesOf Evening x shafaq = eveningValuesOf x shafaq
 
 -- so many of the days on the way from one value to the next
@@ -80,19 +71,19 @@ twilightAdjustmentsOf v days =
     (onTheWayOf (v .b) (v .a) (dec 91 0) (days -ᶠ dec 275 0))))))
 
 -- the minutes on a day of a year, of which the Morning's are the same for every shafaq
-abbrev pub minutesOf : AdjustmentDaytime → Float → ℕ → ℕ → Shafaq → Float
-minutesOf daytime latitude day year shafaq =
+abbrev pub seasonMinutesOf : AdjustmentDaytime → Float → ℕ → ℕ → Shafaq → Float
+seasonMinutesOf daytime latitude day year shafaq =
     twilightAdjustmentsOf (twilightAdjustmentValuesOf daytime latitude shafaq) (ofInt binary64 (pos (daysSinceSolsticeOf day year latitude)))
 
 -- Whole seconds before sunrise and after sunset, half a second away from zero. The source casts to an i64; no latitude of a place comes
--- near the end of an i32 (SeasonLaws).
+-- near the end of an i32 (proofs/SeasonLaws).
 unfoldable pub morningSecondsOf : Float → ℕ → ℕ → ℤ
 unfolding dec
-morningSecondsOf latitude day year = toSigned 31 (roundOf (minutesOf Morning latitude day year General *ᶠ neg (dec 60 0)))
+morningSecondsOf latitude day year = toSigned 31 (roundOf (seasonMinutesOf Morning latitude day year General *ᶠ neg (dec 60 0)))
 
 unfoldable pub eveningSecondsOf : Float → ℕ → ℕ → Shafaq → ℤ
 unfolding dec
-eveningSecondsOf latitude day year shafaq = toSigned 31 (roundOf (minutesOf Evening latitude day year shafaq *ᶠ dec 60 0))
+eveningSecondsOf latitude day year shafaq = toSigned 31 (roundOf (seasonMinutesOf Evening latitude day year shafaq *ᶠ dec 60 0))
 
 abbrev pub seasonAdjustedMorningTwilightOf : Float → ℕ → ℕ → ℤ → ℤ
 seasonAdjustedMorningTwilightOf latitude day year sunrise = satOf (sunrise +ℤ morningSecondsOf latitude day year)

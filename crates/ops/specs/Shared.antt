@@ -1,6 +1,5 @@
--- The same formulas over what several calls share, worked once: the place's sine and cosine, the differences of an interpolation, the
--- products of sines and of cosines. The laws say that they are the formulas of Transit.
-use mathlib.Core.Path.{_≡_, refl}
+-- This file need not be believed: proofs/SharedLaws.antt says that it is Transit's formulas, over what several calls share and is worked
+-- once: the place's sine and cosine, the differences of an interpolation, the products of sines and of cosines.
 use mathlib.Core.Bool.{Bool, cond}
 use lib.Ieee.{Float, neg}
 use Rattle.float64.specs.Ops.{_+ᶠ_, _-ᶠ_, _*ᶠ_, _/ᶠ_, dec}
@@ -13,7 +12,7 @@ use Rattle.unit.specs.Unit.{angleOf, fromRadiansOf, radiansOf, unwoundOf, quadr
 use Rattle.ops.specs.declared.interpolation.Interpolation.{Interpolation}
 use Rattle.ops.specs.declared.transit.Observer.{Observer}
 use Rattle.ops.specs.declared.transit.Course.{Course}
-use Rattle.ops.specs.Transit.{interpolateOf, interpolateAnglesOf, altitudeOfCelestialBodyOf, westOf, hourAngleAtOf, correctedTransitOf, correctedHourAngleOf}
+use Rattle.ops.specs.Transit.{westOf}
 
 -- the differences of an interpolation: a + b and c
 abbrev pub differencesOf : Float → Float → Float → Interpolation
@@ -59,9 +58,9 @@ hourAngleOf c m =
     minusOf (minusOf plane (c .observer .west)) (unwoundOf (angleOf (interpolatedOf (c .«right_ascension») m)))
 
 -- the hour number of the transit
-unfoldable pub transitNumberOf : Course → Float
+unfoldable pub courseTransitNumberOf : Course → Float
 unfolding dec
-transitNumberOf c =
+courseTransitNumberOf c =
     let delta = overOf (quadrantShiftedOf (hourAngleOf c (c .transit))) (angleOf (neg (dec 360 0))) in
     (c .transit +ᶠ delta .degrees) *ᶠ dec 24 0
 
@@ -87,17 +86,3 @@ hourNumberOf c angle arc after =
     let term3 = (minusOf (fromRadiansOf (asinOf (term1 +ᶠ term2))) angle) .degrees in
     let term4 = dec 360 0 *ᶠ cosine *ᶠ c .observer .cosine *ᶠ sinOf hour in
     (m +ᶠ term3 /ᶠ term4) *ᶠ dec 24 0
-
--- what is shared changes no bit
-module _ (transit : Float) (place : Coordinates) (sidereal ascension previous next declination previous-declination next-declination : Angle) where
-  pub transit-shared : transitNumberOf (courseOf transit (observerOf place) sidereal ascension previous next declination previous-declination next-declination)
-      ≡ correctedTransitOf transit (longitudeAngleOf place) sidereal ascension previous next
-  unfolding transitNumberOf correctedTransitOf hourAngleOf hourAngleAtOf interpolatedOf interpolateAnglesOf
-  transit-shared = refl
-
-  pub hour-number-shared : (angle : Angle) (after : Bool) →
-      let c = courseOf transit (observerOf place) sidereal ascension previous next declination previous-declination next-declination in
-      hourNumberOf c angle (halfArcOf c angle) after
-      ≡ correctedHourAngleOf transit angle place after sidereal ascension previous next declination previous-declination next-declination
-  unfolding hourNumberOf movedTransitOf halfArcOf correctedHourAngleOf hourAngleOf hourAngleAtOf interpolatedOf interpolateAnglesOf interpolateOf altitudeOfCelestialBodyOf
-  hour-number-shared angle after = refl

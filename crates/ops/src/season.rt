@@ -1,6 +1,6 @@
 // ops.rs: the season, by which the MoonsightingCommittee method bounds Fajr and Isha.
 ghost use mathlib.Core.Path.{_≡_};
-ghost use Rattle.ops.specs.Season.{southernOffsetOf, daysSinceSolsticeOf, raisedOf, loweredOf, eveningValuesOf, twilightAdjustmentValuesOf, onTheWayOf, withinOf, twilightAdjustmentsOf, minutesOf, morningSecondsOf, eveningSecondsOf, seasonAdjustedMorningTwilightOf, seasonAdjustedEveningTwilightOf};
+ghost use Rattle.ops.specs.Season.{southernOffsetOf, daysSinceSolsticeOf, eveningValuesOf, twilightAdjustmentValuesOf, onTheWayOf, withinOf, twilightAdjustmentsOf, seasonMinutesOf, morningSecondsOf, eveningSecondsOf, seasonAdjustedMorningTwilightOf, seasonAdjustedEveningTwilightOf};
 use calendar::years::days_in_year;
 use calendar::years::is_leap_year;
 use float64::casts::to_i32;
@@ -49,42 +49,29 @@ pub fn days_since_solstice(day_of_year: u32, year: u32, latitude: f64) -> u32
     }
 }
 
-// Minutes at the equator, with `slope` more for each 55 degrees of latitude.
-fn raised(base: f64, slope: f64, size: f64) -> f64
-    ensures { λ r. ⌜ r ≡ raisedOf base slope size ⌝ }
-{
-    base + ((slope / 55.0) * size)
-}
-
-// With `slope` fewer.
-fn lowered(base: f64, slope: f64, size: f64) -> f64
-    ensures { λ r. ⌜ r ≡ loweredOf base slope size ⌝ }
-{
-    base - ((slope / 55.0) * size)
-}
-
+// Minutes at the equator, and more or fewer of them for each 55 degrees of latitude.
 fn evening_values(latitude: f64, shafaq: Shafaq) -> TwilightAdjustmentValues
     ensures { λ r. ⌜ r ≡ eveningValuesOf latitude shafaq ⌝ }
 {
     let x = abs(latitude);
     match shafaq {
         Shafaq::General => TwilightAdjustmentValues {
-            a: raised(75.0, 25.60, x),
-            b: raised(75.0, 2.050, x),
-            c: lowered(75.0, 9.210, x),
-            d: raised(75.0, 6.140, x),
+            a: 75.0 + ((25.60 / 55.0) * x),
+            b: 75.0 + ((2.050 / 55.0) * x),
+            c: 75.0 - ((9.210 / 55.0) * x),
+            d: 75.0 + ((6.140 / 55.0) * x),
         },
         Shafaq::Ahmer => TwilightAdjustmentValues {
-            a: raised(62.0, 17.40, x),
-            b: lowered(62.0, 7.160, x),
-            c: raised(62.0, 5.120, x),
-            d: raised(62.0, 19.44, x),
+            a: 62.0 + ((17.40 / 55.0) * x),
+            b: 62.0 - ((7.160 / 55.0) * x),
+            c: 62.0 + ((5.120 / 55.0) * x),
+            d: 62.0 + ((19.44 / 55.0) * x),
         },
         Shafaq::Abyad => TwilightAdjustmentValues {
-            a: raised(75.0, 25.60, x),
-            b: raised(75.0, 7.160, x),
-            c: raised(75.0, 36.84, x),
-            d: raised(75.0, 81.84, x),
+            a: 75.0 + ((25.60 / 55.0) * x),
+            b: 75.0 + ((7.160 / 55.0) * x),
+            c: 75.0 + ((36.84 / 55.0) * x),
+            d: 75.0 + ((81.84 / 55.0) * x),
         },
     }
 }
@@ -100,10 +87,10 @@ fn twilight_adjustment_values(
         AdjustmentDaytime::Morning => {
             let x = abs(latitude);
             TwilightAdjustmentValues {
-                a: raised(75.0, 28.65, x),
-                b: raised(75.0, 19.44, x),
-                c: raised(75.0, 32.74, x),
-                d: raised(75.0, 48.10, x),
+                a: 75.0 + ((28.65 / 55.0) * x),
+                b: 75.0 + ((19.44 / 55.0) * x),
+                c: 75.0 + ((32.74 / 55.0) * x),
+                d: 75.0 + ((48.10 / 55.0) * x),
             }
         }
         AdjustmentDaytime::Evening => evening_values(latitude, shafaq),
@@ -151,7 +138,7 @@ fn season_minutes(
     year: u32,
     shafaq: Shafaq,
 ) -> f64
-    ensures { λ r. ⌜ r ≡ minutesOf daytime latitude day year shafaq ⌝ }
+    ensures { λ r. ⌜ r ≡ seasonMinutesOf daytime latitude day year shafaq ⌝ }
 {
     let dyy = days_since_solstice(day, year, latitude) as f64;
     twilight_adjustments(twilight_adjustment_values(daytime, latitude, shafaq), dyy)

@@ -3,7 +3,7 @@
 // of the interpolations and the products of the sines and of the cosines (Course).
 ghost use mathlib.Core.Path.{_≡_};
 ghost use Rattle.ops.specs.Transit.{altitudeOfCelestialBodyOf, westOf, approximateTransitOf, hourAngleAtOf, correctedTransitOf, correctedHourAngleOf};
-ghost use Rattle.ops.specs.Shared.{observerOf, courseOf, hourAngleOf, movedTransitOf, transitNumberOf, halfArcOf, hourNumberOf};
+ghost use Rattle.ops.specs.Shared.{observerOf, courseOf, hourAngleOf, movedTransitOf, courseTransitNumberOf, halfArcOf, hourNumberOf};
 use super::interpolation::Interpolation;
 use super::interpolation::interpolate_angles;
 use fdlibm_arc::e_acos::acos;
@@ -124,7 +124,7 @@ impl Course {
 
     // The hour number of the transit.
     pub fn transit_number(self) -> f64
-        ensures { λ r. ⌜ r ≡ transitNumberOf self ⌝ }
+        ensures { λ r. ⌜ r ≡ courseTransitNumberOf self ⌝ }
     {
         let transit = self.transit;
         let angles = self.hour_angle(transit).quadrant_shifted();

@@ -1,3 +1,5 @@
 pub mod Tags
 pub mod Text
-pub mod Table
+pub mod ReadingLaws
+pub mod RowDates
+pub mod AcceptedLaws

@@ -1,22 +1,61 @@
 -- The first of some tags that does not pass, tag by tag: what the reader's two loops go by. Assumes nothing.
 use native.Mathlib.Omega.{arith}
-use Prim.Native.Nat.{ℕ, zero, suc, _+_, _<_}
-use mathlib.Core.Path.{_≡_, refl}
-use mathlib.Core.Bool.{Bool, true, false}
-use Rattle.order.specs.Reading.{firstFailing}
+use native.Mathlib.Numerals.{add-one}
+use Prim.Native.Nat.{ℕ, zero, suc, _+_, _≤_, _<_}
+use mathlib.Core.Path.{_≡_, refl, ap, _∙_}
+use mathlib.Core.Bool.{Bool, true, false, cond}
+use mathlib.Core.List.{List, [], _∷_}
+use lib.ListN.{length, getD, drop, drop-of-length-le}
+use lib.Seq.{drop-cons}
+use Rattle.refusals.specs.Refusals.{refusal, noRefusal}
+use Rattle.order.specs.Reading.{firstFailing, tagsFrom}
 
-pub fails : (passes : ℕ → Bool) (k tag : ℕ) → 0 < k → passes tag ≡ false → firstFailing passes k tag ≡ tag
-unfolding firstFailing
-fails passes zero tag l h = absurd (omega arith)
-fails passes (suc k) tag l h = simp h
+module _ (number : ℕ) (passes : ℕ → Bool) (tags : List ℕ) (i : ℕ) where
+  module _ (l : i < length tags) (tag : ℕ) (is-tag : getD tags i 0 ≡ tag) where
+    pub fails : passes tag ≡ false → firstFailing number passes (drop i tags) ≡ refusal number tag
+    unfolding firstFailing
+    fails h = rw (drop-cons tags i 0, is-tag) (simp h)
 
-pub on : (passes : ℕ → Bool) (k tag : ℕ) → 0 < k → passes tag ≡ true
-    → (j : ℕ) × (k ≡ suc j) × (firstFailing passes k tag ≡ firstFailing passes j (tag + 1))
-unfolding firstFailing
-on passes zero tag l h = absurd (omega arith)
-on passes (suc k) tag l h = (k, refl, simp h)
+    pub on : passes tag ≡ true → firstFailing number passes (drop i tags) ≡ firstFailing number passes (drop (i + 1) tags)
+    unfolding firstFailing
+    on h = rw (add-one, drop-cons tags i 0, is-tag) (simp h)
 
-pub none : (passes : ℕ → Bool) (k tag : ℕ) → k ≡ 0 → firstFailing passes k tag ≡ 0
+  pub none : length tags ≤ i → firstFailing number passes (drop i tags) ≡ noRefusal
+  unfolding firstFailing
+  none h = rw (drop-of-length-le tags h)
+
+-- where none is refused, each passes
+pub all-pass : (number : ℕ) (passes : ℕ → Bool) (tags : List ℕ) → 1 ≤ number → firstFailing number passes tags .number ≡ 0
+    → (i : ℕ) → i < length tags → passes (getD tags i 0) ≡ true
 unfolding firstFailing
-none passes zero tag e = refl
-none passes (suc k) tag e = absurd (omega arith)
+all-pass number passes [] l e i h = absurd (omega arith)
+all-pass number passes (tag ∷ rest) l e i h = go (passes tag) refl e i h (λ f j k. all-pass number passes rest l f j k)
+  where
+    go : (b : Bool) → passes tag ≡ b → cond b (firstFailing number passes rest) (refusal number tag) .number ≡ 0 → (i : ℕ) → i < suc (length rest)
+        → (firstFailing number passes rest .number ≡ 0 → (j : ℕ) → j < length rest → passes (getD rest j 0) ≡ true)
+        → passes (getD (tag ∷ rest) i 0) ≡ true
+    go false p e i h rest-passes = absurd (omega arith)
+    go true p e zero h rest-passes = p
+    go true p e (suc i) h rest-passes = rest-passes e i (omega arith)
+
+-- and a refusal has the number
+pub failing-number : (number : ℕ) (passes : ℕ → Bool) (tags : List ℕ) → firstFailing number passes tags .number ≤ number
+unfolding firstFailing
+failing-number number passes [] = omega arith
+failing-number number passes (tag ∷ rest) = go (passes tag) (failing-number number passes rest)
+  where
+    go : (b : Bool) → firstFailing number passes rest .number ≤ number → cond b (firstFailing number passes rest) (refusal number tag) .number ≤ number
+    go true h = h
+    go false h = omega arith
+
+-- ---- the tags from one on
+pub tags-from : (k from i : ℕ) → i < k → getD (tagsFrom k from) i 0 ≡ i + from
+unfolding tagsFrom
+tags-from zero from i h = absurd (omega arith)
+tags-from (suc k) from zero h = omega arith
+tags-from (suc k) from (suc i) h = tags-from k (from + 1) i (omega arith) ∙ omega arith
+
+pub tags-length : (k from : ℕ) → length (tagsFrom k from) ≡ k
+unfolding tagsFrom
+tags-length zero from = refl
+tags-length (suc k) from = ap suc (tags-length k (from + 1))

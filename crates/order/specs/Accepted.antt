@@ -1,5 +1,5 @@
--- What the record of an order that is read can hold: each value in the range that its tag allows. AcceptedLaws.antt proves it of every
--- order that is read.
+-- What the record of an order that is read can hold: each value in the range that its tag allows. proofs/AcceptedLaws.antt proves it of
+-- every order that is read.
 use Prim.Native.Nat.{ℕ, _≤_, _<_}
 use mathlib.Core.Path.{_≡_}
 use mathlib.Core.Bool.{true}
@@ -14,13 +14,15 @@ use Rattle.models.specs.declared.prayer.Prayer.{Prayer}
 use Rattle.models.specs.Presets.{presetOf}
 use Rattle.models.specs.Settings.{minutesFor}
 use Rattle.order.specs.declared.reading.Order.{Order}
+use Rattle.order.specs.Ranges.{mostRows}
 
 -- z is from 0 to n
 abbrev pub UpTo : ℕ → ℤ → Type 0
 UpTo n z = (P z ≤ n) × (N z ≡ 0)
 
-abbrev pub Between : Float → Float → Float → Type 0
-Between low high x = (le low x ≡ true) × (le x high ≡ true)
+-- x is from low to high
+abbrev pub Inside : Float → Float → Float → Type 0
+Inside low high x = (le low x ≡ true) × (le x high ≡ true)
 
 -- a date of the calendar, from 1900-01-01 to 2199-12-31
 pub record DateInOrder (date : Date) : Type 0 where
@@ -30,14 +32,14 @@ pub record DateInOrder (date : Date) : Type 0 where
 
 pub record Accepted (order : Order) : Type 0 where
   pub date : DateInOrder (order .date)
-  pub rows : (1 ≤ order .rows) × (order .rows ≤ 250)
+  pub rows : (1 ≤ order .rows) × (order .rows ≤ mostRows)
   -- the date of each row, the first and the last among them
   pub row : (row : ℕ) → row < order .rows → DateInOrder (rowDateOf (order .date) row)
-  pub latitude : Between (neg (dec 90 0)) (dec 90 0) (order .coordinates .latitude)
-  pub longitude : Between (neg (dec 180 0)) (dec 180 0) (order .coordinates .longitude)
+  pub latitude : Inside (neg (dec 90 0)) (dec 90 0) (order .coordinates .latitude)
+  pub longitude : Inside (neg (dec 180 0)) (dec 180 0) (order .coordinates .longitude)
   -- an order's own, or the method's
-  pub «fajr_angle» : Between (dec 0 0) (dec 30 0) (order .parameters .«fajr_angle»)
-  pub «isha_angle» : Between (dec 0 0) (dec 30 0) (order .parameters .«isha_angle»)
+  pub «fajr_angle» : Inside (dec 0 0) (dec 30 0) (order .parameters .«fajr_angle»)
+  pub «isha_angle» : Inside (dec 0 0) (dec 30 0) (order .parameters .«isha_angle»)
   pub «isha_interval» : UpTo 1440 (order .parameters .«isha_interval»)
   pub own : (prayer : Prayer) → Near 720 (minutesFor prayer (order .parameters .adjustments))
   pub preset : order .parameters .«method_adjustments» ≡ presetOf (order .parameters .method) .«method_adjustments»

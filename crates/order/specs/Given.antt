@@ -1,5 +1,4 @@
--- Document 01, "The order": what each tag's value gives, and its column "missing". An order is a list of bytes s, a tag's value the part
--- valueOf s tag of it, which is empty where the tag is missing.
+-- Document 01, "The order": what each tag's value gives, and its column "missing", over what an order gives by tag.
 use Prim.Native.Nat.{ℕ}
 use mathlib.Core.Bool.{cond}
 use mathlib.Core.List.{List}
@@ -9,11 +8,11 @@ use Rattle.float64.specs.Ops.{dec}
 use Rattle.calendar.specs.declared.dates.Date.{Date}
 use Rattle.calendar.specs.Gregorian.{dateOf}
 use Rattle.fields.specs.Numbers.{byteOf, unsignedOf, signedOf, floatOf}
-use Rattle.fields.specs.Values.{hasOf, valueOf}
+use Rattle.fields.specs.Values.{Values}
 use Rattle.models.specs.declared.adjustments.TimeAdjustment.{TimeAdjustment}
 use Rattle.models.specs.declared.parameters.Parameters.{Parameters}
 use Rattle.models.specs.declared.rounding.Rounding.{Rounding}
-use Rattle.models.specs.Minutes.{minutesOf, noMinutes}
+use Rattle.models.specs.Minutes.{sixMinutesOf, noMinutes}
 use Rattle.models.specs.Numbers.{methodOf, madhabOf, ruleOf, roundingOf, shafaqOf}
 use Rattle.models.specs.Presets.{presetOf}
 
@@ -32,39 +31,39 @@ degreesIn v = cond (eq (floatOf v) (dec 0 0)) (dec 0 0) (floatOf v)
 
 -- "six minutes, Fajr to Isha"
 unfoldable pub minutesIn : List ℕ → TimeAdjustment
-minutesIn v = minutesOf (signedOf v 0) (signedOf v 2) (signedOf v 4) (signedOf v 6) (signedOf v 8) (signedOf v 10)
+minutesIn v = sixMinutesOf (signedOf v 0) (signedOf v 2) (signedOf v 4) (signedOf v 6) (signedOf v 8) (signedOf v 10)
 
 -- ---- what a tag gives, and else what stands for a missing one
-unfoldable pub byteOr : List ℕ → ℕ → ℕ → ℕ
-byteOr s tag missing = cond (hasOf s tag) (byteOf (valueOf s tag) 0) missing
+unfoldable pub byteOr : Values → ℕ → ℕ → ℕ
+byteOr v tag missing = cond (v .has tag) (byteOf (v .value tag) 0) missing
 
-unfoldable pub degreesOr : List ℕ → ℕ → Float → Float
-degreesOr s tag missing = cond (hasOf s tag) (degreesIn (valueOf s tag)) missing
+unfoldable pub degreesOr : Values → ℕ → Float → Float
+degreesOr v tag missing = cond (v .has tag) (degreesIn (v .value tag)) missing
 
-unfoldable pub roundingOr : List ℕ → Rounding → Rounding
-roundingOr s missing = cond (hasOf s 9) (roundingOf (byteOf (valueOf s 9) 0)) missing
+unfoldable pub roundingOr : Values → Rounding → Rounding
+roundingOr v missing = cond (v .has 9) (roundingOf (byteOf (v .value 9) 0)) missing
 
-unfoldable pub minutesOr : List ℕ → TimeAdjustment → TimeAdjustment
-minutesOr s missing = cond (hasOf s 11) (minutesIn (valueOf s 11)) missing
+unfoldable pub minutesOr : Values → TimeAdjustment → TimeAdjustment
+minutesOr v missing = cond (v .has 11) (minutesIn (v .value 11)) missing
 
-unfoldable pub intervalOr : List ℕ → ℤ → ℤ
-intervalOr s missing = cond (hasOf s 14) (pos (unsignedOf (valueOf s 14) 0)) missing
+unfoldable pub intervalOr : Values → ℤ → ℤ
+intervalOr v missing = cond (v .has 14) (pos (unsignedOf (v .value 14) 0)) missing
 
 -- "By `Method::parameters`, each method brings its own angles, minutes and rounding; tags 7 to 14 then set their one field each, so tag 14
 -- leaves the Isha angle, and tag 11 sets `adjustments`, not `method_adjustments`."
-unfoldable pub parametersIn : List ℕ → Parameters
-parametersIn s =
-    let preset = presetOf (methodOf (byteOf (valueOf s 6) 0)) in
+unfoldable pub parametersIn : Values → Parameters
+parametersIn v =
+    let preset = presetOf (methodOf (byteOf (v .value 6) 0)) in
     record {
       method = preset .method;
-      «fajr_angle» = degreesOr s 12 (preset .«fajr_angle»);
+      «fajr_angle» = degreesOr v 12 (preset .«fajr_angle»);
       «maghrib_angle» = preset .«maghrib_angle»;
-      «isha_angle» = degreesOr s 13 (preset .«isha_angle»);
-      «isha_interval» = intervalOr s (preset .«isha_interval»);
-      madhab = madhabOf (byteOr s 7 1);
-      «high_latitude_rule» = ruleOf (byteOr s 8 0);
-      adjustments = minutesOr s noMinutes;
+      «isha_angle» = degreesOr v 13 (preset .«isha_angle»);
+      «isha_interval» = intervalOr v (preset .«isha_interval»);
+      madhab = madhabOf (byteOr v 7 1);
+      «high_latitude_rule» = ruleOf (byteOr v 8 0);
+      adjustments = minutesOr v noMinutes;
       «method_adjustments» = preset .«method_adjustments»;
-      rounding = roundingOr s (preset .rounding);
-      shafaq = shafaqOf (byteOr s 10 0);
+      rounding = roundingOr v (preset .rounding);
+      shafaq = shafaqOf (byteOr v 10 0);
     }

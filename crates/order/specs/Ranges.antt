@@ -2,17 +2,17 @@
 use Prim.Native.Nat.{ℕ, _-_}
 use mathlib.Core.Bool.{Bool, true, cond, _&&_}
 use mathlib.Core.List.{List, [], _∷_}
-use lib.Dec.{leb}
+use lib.Dec.{leb, eqb}
 use lib.Ieee.{Float, neg, le}
 use lib.IntN.{ℤ, pos, negsuc}
-use lib.ListN.{getD}
 use lib.Signed.{leZ}
 use Rattle.float64.specs.Ops.{dec}
 use Rattle.calendar.specs.declared.dates.Date.{Date}
 use Rattle.calendar.specs.Gregorian.{existsOf}
 use Rattle.calendar.specs.Answers.{rowDateOf}
 use Rattle.fields.specs.Numbers.{byteOf, unsignedOf}
-use Rattle.fields.specs.Values.{hasOf, valueOf}
+use Rattle.fields.specs.Tags.{choiceFits}
+use Rattle.fields.specs.Values.{Values}
 use Rattle.models.specs.declared.adjustments.TimeAdjustment.{TimeAdjustment}
 use Rattle.order.specs.Given.{dateIn, rowsIn, degreesIn, minutesIn}
 
@@ -25,18 +25,18 @@ textFits [] = true
 textFits (b ∷ bs) = between 32 126 b && textFits bs
 
 -- "1900-01-01 to 2199-12-31"; "a day the month lacks" is out of range too, and so is a month that there is not
-unfoldable pub dateFits : Date → Bool
+abbrev pub dateFits : Date → Bool
 dateFits date = between 1900 2199 (date .year) && existsOf date
 
 -- "1 to 250, last row by 2199-12-31"; rows count from 0, so the last is the one before the number of rows
-unfoldable pub rowsFit : Date → ℕ → Bool
-rowsFit date rows = between 1 250 rows && leb (rowDateOf date (rows - 1) .year) 2199
+abbrev pub mostRows : ℕ
+mostRows = 250
 
-unfoldable pub byteFits : ℕ → ℕ → List ℕ → Bool
-byteFits low high v = between low high (byteOf v 0)
+unfoldable pub rowsFit : Date → ℕ → Bool
+rowsFit date rows = between 1 mostRows rows && leb (rowDateOf date (rows - 1) .year) 2199
 
 -- no comparison with a NaN holds
-unfoldable pub degreesFit : Float → Float → List ℕ → Bool
+abbrev pub degreesFit : Float → Float → List ℕ → Bool
 degreesFit low high v = le low (degreesIn v) && le (degreesIn v) high
 
 -- "each -720 to 720"
@@ -45,43 +45,39 @@ minuteFits minute = leZ (negsuc 719) minute && leZ minute (pos 720)
 
 unfoldable pub minutesFit : TimeAdjustment → Bool
 minutesFit m =
-    minuteFits (m .fajr) && (minuteFits (m .sunrise) && (minuteFits (m .dhuhr) && (minuteFits (m .asr) && (minuteFits (m .maghrib) && minuteFits (m .isha)))))
+    minuteFits (m .fajr) && minuteFits (m .sunrise) && minuteFits (m .dhuhr) && minuteFits (m .asr) && minuteFits (m .maghrib)
+    && minuteFits (m .isha)
 
 -- "2 bytes, 0 to 1,440"
 unfoldable pub intervalFits : List ℕ → Bool
 intervalFits v = between 0 1440 (unsignedOf v 0)
 
--- the table of ranges, a row for each tag from 0 on: whether v, as the tag's value in the order s, is in range. There is no tag 0.
-abbrev pub ranges : List ℕ → List ℕ → List Bool
-ranges s v =
-    true
-    -- town
-    ∷ textFits v
-    -- date
-    ∷ dateFits (dateIn v)
-    -- rows, from the date on
-    ∷ rowsFit (dateIn (valueOf s 2)) (rowsIn v)
+-- the ranges by tag of what an order gives, beside those of a choice's number, which stand in the table of tags
+abbrev pub ranges : Values → List (ℕ × Bool)
+ranges v =
+    -- town, date, and rows from the date on
+    (1, textFits (v .value 1))
+    ∷ (2, dateFits (dateIn (v .value 2)))
+    ∷ (3, rowsFit (dateIn (v .value 2)) (rowsIn (v .value 3)))
     -- latitude, longitude
-    ∷ degreesFit (neg (dec 90 0)) (dec 90 0) v
-    ∷ degreesFit (neg (dec 180 0)) (dec 180 0) v
-    -- method, madhab, high latitude rule, rounding, shafaq
-    ∷ byteFits 0 12 v
-    ∷ byteFits 1 2 v
-    ∷ byteFits 0 2 v
-    ∷ byteFits 0 2 v
-    ∷ byteFits 0 2 v
+    ∷ (4, degreesFit (neg (dec 90 0)) (dec 90 0) (v .value 4))
+    ∷ (5, degreesFit (neg (dec 180 0)) (dec 180 0) (v .value 5))
     -- own minutes
-    ∷ minutesFit (minutesIn v)
-    -- Fajr angle, Isha angle
-    ∷ degreesFit (dec 0 0) (dec 30 0) v
-    ∷ degreesFit (dec 0 0) (dec 30 0) v
-    -- Isha interval
-    ∷ intervalFits v
+    ∷ (11, minutesFit (minutesIn (v .value 11)))
+    -- Fajr angle, Isha angle, Isha interval
+    ∷ (12, degreesFit (dec 0 0) (dec 30 0) (v .value 12))
+    ∷ (13, degreesFit (dec 0 0) (dec 30 0) (v .value 13))
+    ∷ (14, intervalFits (v .value 14))
     ∷ []
 
-unfoldable pub fitsOf : List ℕ → ℕ → Bool
-fitsOf s tag = getD (ranges s (valueOf s tag)) tag true
+-- what a list by tag has for a tag, and else another answer
+unfoldable pub lookUp : ℕ → List (ℕ × Bool) → Bool → Bool
+lookUp tag [] otherwise = otherwise
+lookUp tag (entry ∷ rest) otherwise = cond (eqb tag (entry .0)) (entry .1) (lookUp tag rest otherwise)
+
+unfoldable pub fitsOf : Values → ℕ → Bool
+fitsOf v tag = lookUp tag (ranges v) (choiceFits tag (byteOf (v .value tag) 0))
 
 -- a tag that the order lacks has nothing out of range
-unfoldable pub inRangeOf : List ℕ → ℕ → Bool
-inRangeOf s tag = cond (hasOf s tag) (fitsOf s tag) true
+unfoldable pub inRangeOf : Values → ℕ → Bool
+inRangeOf v tag = cond (v .has tag) (fitsOf v tag) true

@@ -1,12 +1,14 @@
 -- Document 01, "The order": what reading any bytes answers. "Order of checks: length over 1,024; then field by field ..; then missing tags,
 -- then ranges, both by rising tag".
 use Prim.Native.Nat.{ℕ, zero, suc, _+_}
-use mathlib.Core.Bool.{Bool, cond, not}
-use mathlib.Core.List.{List, []}
+use mathlib.Core.Bool.{Bool, cond}
+use mathlib.Core.List.{List, [], _∷_}
 use lib.Dec.{eqb}
-use Rattle.fields.specs.Fields.{lastTag, checkOf}
-use Rattle.models.specs.Refusals.{refusal}
-use Rattle.fields.specs.Values.{hasOf, valueOf}
+use Rattle.fields.specs.Fields.{checkOf}
+use Rattle.fields.specs.Tags.{lastTag}
+use Rattle.fields.specs.Values.{valueOf, Values, valuesOf}
+use Rattle.refusals.specs.Refusals.{refusal, noRefusal, tagMissing, outOfRange}
+use Rattle.refusals.specs.declared.Refusal.{Refusal}
 use Rattle.unit.specs.Unit.{coordinatesOf}
 use Rattle.order.specs.declared.reading.Order.{Order}
 use Rattle.order.specs.declared.reading.Reading.{Reading}
@@ -14,37 +16,47 @@ use Rattle.order.specs.declared.reading.Reading.the-variants.{Read, Refu
 use Rattle.order.specs.Given.{dateIn, rowsIn, degreesIn, parametersIn}
 use Rattle.order.specs.Ranges.{inRangeOf}
 
--- the first of k tags, from one on by rising tag, that does not pass; 0 where all do
-unfoldable pub firstFailing : (ℕ → Bool) → ℕ → ℕ → ℕ
-firstFailing passes zero tag = 0
-firstFailing passes (suc k) tag = cond (passes tag) (firstFailing passes k (tag + 1)) tag
+-- the refusal of the first of some tags that does not pass, by a number and the tag
+unfoldable pub firstFailing : ℕ → (ℕ → Bool) → List ℕ → Refusal
+firstFailing number passes [] = noRefusal
+firstFailing number passes (tag ∷ rest) = cond (passes tag) (firstFailing number passes rest) (refusal number tag)
 
--- tags 1 to 6 may not be missing
-unfoldable pub missingOf : List ℕ → ℕ
-missingOf s = firstFailing (hasOf s) 6 1
+-- 4 is "tag missing": the tags that have "refused" in the column "missing"
+abbrev pub required : List ℕ
+required = 1 ∷ 2 ∷ 3 ∷ 4 ∷ 5 ∷ 6 ∷ []
 
-unfoldable pub outOfRangeOf : List ℕ → ℕ
-outOfRangeOf s = firstFailing (inRangeOf s) lastTag 1
+unfoldable pub missingOf : (ℕ → Bool) → Refusal
+missingOf has = firstFailing tagMissing has required
+
+-- 5 is "value out of range, or a day the month lacks": every tag is asked
+unfoldable pub tagsFrom : ℕ → ℕ → List ℕ
+tagsFrom zero tag = []
+tagsFrom (suc k) tag = tag ∷ tagsFrom k (tag + 1)
+
+unfoldable pub outOfRangeOf : Values → Refusal
+outOfRangeOf v = firstFailing outOfRange (inRangeOf v) (tagsFrom lastTag 1)
 
 -- the record of an order that nothing refuses
-unfoldable pub orderOf : List ℕ → Order
-orderOf s =
+unfoldable pub orderOf : Values → Order
+orderOf v =
     record {
-      date = dateIn (valueOf s 2);
-      rows = rowsIn (valueOf s 3);
-      coordinates = coordinatesOf (degreesIn (valueOf s 4)) (degreesIn (valueOf s 5));
-      parameters = parametersIn s;
+      town = v .part 1;
+      date = dateIn (v .value 2);
+      rows = rowsIn (v .value 3);
+      coordinates = coordinatesOf (degreesIn (v .value 4)) (degreesIn (v .value 5));
+      parameters = parametersIn v;
     }
 
+-- the first of some refusals that refuses; where none does, what is read
+unfoldable pub firstOf : List Refusal → Order → Reading
+firstOf [] order = Read order
+firstOf (r ∷ rest) order = cond (eqb (r .number) 0) (firstOf rest order) (Refused r)
+
+-- the form of the fields (1, 2, 3), missing tags (4), ranges (5)
 unfoldable pub readingOf : List ℕ → Reading
 readingOf s =
-    -- 1, 2, 3: the form of the fields
-    cond (not (eqb (checkOf s .number) 0)) (Refused (checkOf s))
-    -- 4: "tag missing", place the tag
-    (cond (not (eqb (missingOf s) 0)) (Refused (refusal 4 (missingOf s)))
-    -- 5: "value out of range, or a day the month lacks", place the tag
-    (cond (not (eqb (outOfRangeOf s) 0)) (Refused (refusal 5 (outOfRangeOf s)))
-    (Read (orderOf s))))
+    let v = valuesOf s in
+    firstOf (checkOf s ∷ missingOf (v .has) ∷ outOfRangeOf v ∷ []) (orderOf v)
 
 -- "The town's name is handed back as that part of the order itself, an empty part where the order is refused."
 abbrev pub townIn : List ℕ → Reading → List ℕ

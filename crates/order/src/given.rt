@@ -1,12 +1,13 @@
 // What each tag gives where its value is in range, and what stands for a missing one.
 ghost use mathlib.Core.Path.{_≡_};
+ghost use Rattle.fields.specs.Values.{valuesIn};
 ghost use Rattle.order.specs.Given.{dateIn, rowsIn, degreesIn, minutesIn, byteOr, degreesOr, roundingOr, minutesOr, intervalOr, parametersIn};
 use calendar::dates::Date;
 use fields::numbers::byte;
 use fields::numbers::float;
 use fields::numbers::signed;
 use fields::numbers::unsigned;
-use fields::values::has;
+use fields::values::Fields;
 use fields::values::value;
 use models::adjustments::TimeAdjustment;
 use models::high_altitude_rule::HighLatitudeRule;
@@ -49,75 +50,75 @@ pub fn minutes_in(bytes: &[u8]) -> TimeAdjustment
     )
 }
 
-fn byte_or(order: &[u8], tag: u32, missing: u32) -> u32
-    ensures { λ r. ⌜ r ≡ byteOr (now (order .entry)) tag missing ⌝ }
+fn byte_or(order: &[u8], fields: Fields, tag: u32, missing: u32) -> u32
+    ensures { λ r. ⌜ r ≡ byteOr (valuesIn (now (order .entry)) fields) tag missing ⌝ }
 {
-    if has(order, tag) {
-        byte(value(order, tag), 0)
+    if fields.has(tag) {
+        byte(value(order, fields, tag), 0)
     } else {
         missing
     }
 }
 
-fn degrees_or(order: &[u8], tag: u32, missing: f64) -> f64
-    ensures { λ r. ⌜ r ≡ degreesOr (now (order .entry)) tag missing ⌝ }
+fn degrees_or(order: &[u8], fields: Fields, tag: u32, missing: f64) -> f64
+    ensures { λ r. ⌜ r ≡ degreesOr (valuesIn (now (order .entry)) fields) tag missing ⌝ }
 {
-    if has(order, tag) {
-        degrees_in(value(order, tag))
+    if fields.has(tag) {
+        degrees_in(value(order, fields, tag))
     } else {
         missing
     }
 }
 
-fn rounding_or(order: &[u8], missing: Rounding) -> Rounding
-    ensures { λ r. ⌜ r ≡ roundingOr (now (order .entry)) missing ⌝ }
+fn rounding_or(order: &[u8], fields: Fields, missing: Rounding) -> Rounding
+    ensures { λ r. ⌜ r ≡ roundingOr (valuesIn (now (order .entry)) fields) missing ⌝ }
 {
-    if has(order, 9) {
-        Rounding::of_number(byte(value(order, 9), 0))
+    if fields.has(9) {
+        Rounding::of_number(byte(value(order, fields, 9), 0))
     } else {
         missing
     }
 }
 
-fn minutes_or(order: &[u8], missing: TimeAdjustment) -> TimeAdjustment
-    ensures { λ r. ⌜ r ≡ minutesOr (now (order .entry)) missing ⌝ }
+fn minutes_or(order: &[u8], fields: Fields, missing: TimeAdjustment) -> TimeAdjustment
+    ensures { λ r. ⌜ r ≡ minutesOr (valuesIn (now (order .entry)) fields) missing ⌝ }
 {
-    if has(order, 11) {
-        minutes_in(value(order, 11))
+    if fields.has(11) {
+        minutes_in(value(order, fields, 11))
     } else {
         missing
     }
 }
 
-fn interval_or(order: &[u8], missing: i32) -> i32
-    ensures { λ r. ⌜ r ≡ intervalOr (now (order .entry)) missing ⌝ }
+fn interval_or(order: &[u8], fields: Fields, missing: i32) -> i32
+    ensures { λ r. ⌜ r ≡ intervalOr (valuesIn (now (order .entry)) fields) missing ⌝ }
 {
-    if has(order, 14) {
-        unsigned(value(order, 14), 0) as i32
+    if fields.has(14) {
+        unsigned(value(order, fields, 14), 0) as i32
     } else {
         missing
     }
 }
 
 // The method's, and tags 7 to 14 set their one field each: the interval leaves the Isha angle.
-pub fn parameters_in(order: &[u8]) -> Parameters
-    ensures { λ r. ⌜ r ≡ parametersIn (now (order .entry)) ⌝ }
+pub fn parameters_in(order: &[u8], fields: Fields) -> Parameters
+    ensures { λ r. ⌜ r ≡ parametersIn (valuesIn (now (order .entry)) fields) ⌝ }
 {
-    let preset = Method::of_number(byte(value(order, 6), 0)).parameters();
+    let preset = Method::of_number(byte(value(order, fields, 6), 0)).parameters();
     let method = preset.method;
     let rounding = preset.rounding;
     let method_adjustments = preset.method_adjustments;
     Parameters {
         method: method,
-        fajr_angle: degrees_or(order, 12, preset.fajr_angle),
+        fajr_angle: degrees_or(order, fields, 12, preset.fajr_angle),
         maghrib_angle: preset.maghrib_angle,
-        isha_angle: degrees_or(order, 13, preset.isha_angle),
-        isha_interval: interval_or(order, preset.isha_interval),
-        madhab: Madhab::of_number(byte_or(order, 7, 1)),
-        high_latitude_rule: HighLatitudeRule::of_number(byte_or(order, 8, 0)),
-        adjustments: minutes_or(order, TimeAdjustment::default()),
+        isha_angle: degrees_or(order, fields, 13, preset.isha_angle),
+        isha_interval: interval_or(order, fields, preset.isha_interval),
+        madhab: Madhab::of_number(byte_or(order, fields, 7, 1)),
+        high_latitude_rule: HighLatitudeRule::of_number(byte_or(order, fields, 8, 0)),
+        adjustments: minutes_or(order, fields, TimeAdjustment::default()),
         method_adjustments: method_adjustments,
-        rounding: rounding_or(order, rounding),
-        shafaq: Shafaq::of_number(byte_or(order, 10, 0)),
+        rounding: rounding_or(order, fields, rounding),
+        shafaq: Shafaq::of_number(byte_or(order, fields, 10, 0)),
     }
 }

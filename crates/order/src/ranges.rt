@@ -1,22 +1,23 @@
 // What stands inside a right length: the range of each tag's value. Range ends are allowed.
 ghost use mathlib.Core.Path.{_≡_};
-ghost use Rattle.order.specs.Ranges.{textFits, dateFits, rowsFit, byteFits, degreesFit, minuteFits, minutesFit, intervalFits, fitsOf, inRangeOf};
+ghost use Rattle.fields.specs.Values.{valuesIn};
+ghost use Rattle.order.specs.Ranges.{textFits, dateFits, rowsFit, degreesFit, minuteFits, minutesFit, intervalFits, fitsOf, inRangeOf};
 use super::given::date_in;
 use super::given::degrees_in;
 use super::given::minutes_in;
 use super::given::rows_in;
+use super::reading::MOST_ROWS;
 use calendar::dates::Date;
 use fields::numbers::byte;
 use fields::numbers::unsigned;
-use fields::values::has;
+use fields::tags::choice_fits;
+use fields::values::Fields;
 use fields::values::value;
 use models::adjustments::TimeAdjustment;
 
 const FIRST_YEAR: u32 = 1900;
 
 const LAST_YEAR: u32 = 2199;
-
-const MOST_ROWS: u32 = 250;
 
 // Printable ASCII.
 fn text_fits(bytes: &[u8]) -> bool
@@ -38,13 +39,7 @@ fn text_fits(bytes: &[u8]) -> bool
 fn date_fits(date: Date) -> bool
     ensures { λ r. ⌜ r ≡ dateFits date ⌝ }
 {
-    if date.year < FIRST_YEAR {
-        return false;
-    }
-    if LAST_YEAR < date.year {
-        return false;
-    }
-    date.exists()
+    (FIRST_YEAR <= date.year) & (date.year <= LAST_YEAR) & date.exists()
 }
 
 // The last row is the one with one less row before it than there are; its year decides, since the last year is allowed to its end.
@@ -54,21 +49,8 @@ fn rows_fit(date: Date, rows: u32) -> bool
     if rows < 1 {
         return false;
     }
-    if MOST_ROWS < rows {
-        return false;
-    }
     let last = date.row(rows - 1);
-    last.year <= LAST_YEAR
-}
-
-fn byte_fits(bytes: &[u8], low: u32, high: u32) -> bool
-    ensures { λ r. ⌜ r ≡ byteFits low high (now (bytes .entry)) ⌝ }
-{
-    let x = byte(bytes, 0);
-    if x < low {
-        return false;
-    }
-    x <= high
+    (rows <= MOST_ROWS) & (last.year <= LAST_YEAR)
 }
 
 // A NaN passes no comparison.
@@ -76,37 +58,20 @@ fn degrees_fit(bytes: &[u8], low: f64, high: f64) -> bool
     ensures { λ r. ⌜ r ≡ degreesFit low high (now (bytes .entry)) ⌝ }
 {
     let x = degrees_in(bytes);
-    if low <= x { x <= high } else { false }
+    (low <= x) & (x <= high)
 }
 
 fn minute_fits(minute: i32) -> bool
     ensures { λ r. ⌜ r ≡ minuteFits minute ⌝ }
 {
-    if minute < -720 {
-        return false;
-    }
-    minute <= 720
+    (-720 <= minute) & (minute <= 720)
 }
 
 fn minutes_fit(m: TimeAdjustment) -> bool
     ensures { λ r. ⌜ r ≡ minutesFit m ⌝ }
 {
-    if !minute_fits(m.fajr) {
-        return false;
-    }
-    if !minute_fits(m.sunrise) {
-        return false;
-    }
-    if !minute_fits(m.dhuhr) {
-        return false;
-    }
-    if !minute_fits(m.asr) {
-        return false;
-    }
-    if !minute_fits(m.maghrib) {
-        return false;
-    }
-    minute_fits(m.isha)
+    let morning = minute_fits(m.fajr) & minute_fits(m.sunrise) & minute_fits(m.dhuhr);
+    morning & minute_fits(m.asr) & minute_fits(m.maghrib) & minute_fits(m.isha)
 }
 
 fn interval_fits(bytes: &[u8]) -> bool
@@ -115,36 +80,31 @@ fn interval_fits(bytes: &[u8]) -> bool
     unsigned(bytes, 0) <= 1440
 }
 
-// A row for each tag.
-fn fits(order: &[u8], tag: u32) -> bool
-    ensures { λ r. ⌜ r ≡ fitsOf (now (order .entry)) tag ⌝ }
+// A row for each tag whose value is no choice's number: those stand in the table of tags.
+fn fits(order: &[u8], fields: Fields, tag: u32) -> bool
+    ensures { λ r. ⌜ r ≡ fitsOf (valuesIn (now (order .entry)) fields) tag ⌝ }
 {
-    let bytes = value(order, tag);
+    let bytes = value(order, fields, tag);
     match tag {
         1 => text_fits(bytes),
         2 => date_fits(date_in(bytes)),
-        3 => rows_fit(date_in(value(order, 2)), rows_in(bytes)),
+        3 => rows_fit(date_in(value(order, fields, 2)), rows_in(bytes)),
         4 => degrees_fit(bytes, -90.0, 90.0),
         5 => degrees_fit(bytes, -180.0, 180.0),
-        6 => byte_fits(bytes, 0, 12),
-        7 => byte_fits(bytes, 1, 2),
-        8 => byte_fits(bytes, 0, 2),
-        9 => byte_fits(bytes, 0, 2),
-        10 => byte_fits(bytes, 0, 2),
         11 => minutes_fit(minutes_in(bytes)),
         12 => degrees_fit(bytes, 0.0, 30.0),
         13 => degrees_fit(bytes, 0.0, 30.0),
         14 => interval_fits(bytes),
-        _ => true,
+        _ => choice_fits(tag, byte(bytes, 0)),
     }
 }
 
 // A tag that the order lacks has nothing out of range.
-pub fn in_range(order: &[u8], tag: u32) -> bool
-    ensures { λ r. ⌜ r ≡ inRangeOf (now (order .entry)) tag ⌝ }
+pub fn in_range(order: &[u8], fields: Fields, tag: u32) -> bool
+    ensures { λ r. ⌜ r ≡ inRangeOf (valuesIn (now (order .entry)) fields) tag ⌝ }
 {
-    if has(order, tag) {
-        fits(order, tag)
+    if fields.has(tag) {
+        fits(order, fields, tag)
     } else {
         true
     }

@@ -1,5 +1,6 @@
 // Reading an order: the form of its fields, then missing tags, then ranges, and then the record.
 ghost use mathlib.Core.Path.{_≡_};
+ghost use Rattle.fields.specs.Values.{hasIn, valuesIn};
 ghost use Rattle.order.specs.Reading.{missingOf, outOfRangeOf, orderOf, readingOf, townOf};
 use super::given::date_in;
 use super::given::degrees_in;
@@ -7,20 +8,27 @@ use super::given::parameters_in;
 use super::given::rows_in;
 use super::ranges::in_range;
 use calendar::dates::Date;
-use fields::values::has;
+use fields::tags::LAST_TAG;
+use fields::values::Fields;
+use fields::values::Part;
+use fields::values::bytes;
+use fields::values::fields_of;
 use fields::values::value;
-use fields::walk::check;
 use models::parameters::Parameters;
-use models::refusal::Refusal;
+use refusals::OUT_OF_RANGE;
+use refusals::Refusal;
+use refusals::TAG_MISSING;
 use unit::Coordinates;
 
-// The tags from 1 on that an order may not lack, and the last tag of all.
-const LAST_REQUIRED: u32 = 6;
+// The most rows that an order has.
+pub const MOST_ROWS: u32 = 250;
 
-const LAST_TAG: u32 = 14;
+// The tags that an order may not lack.
+const REQUIRED: [u32; 6] = [1, 2, 3, 4, 5, 6];
 
 // What an order asks for: timetables of so many rows from a date on, for a place. The town stays in the order's own bytes.
 pub struct Order {
+    pub town: Part,
     pub date: Date,
     pub rows: u32,
     pub coordinates: Coordinates,
@@ -32,67 +40,69 @@ pub enum Reading {
     Refused(Refusal),
 }
 
-// The lowest tag that is missing and may not be, or 0.
-fn missing(order: &[u8]) -> u32
-    ensures { λ r. ⌜ r ≡ missingOf (now (order .entry)) ⌝ }
+// By the lowest tag that is missing and may not be.
+fn missing(fields: Fields) -> Refusal
+    ensures { λ r. ⌜ r ≡ missingOf (hasIn fields) ⌝ }
 {
-    let mut tag = 1;
-    while tag <= LAST_REQUIRED {
-        if !has(order, tag) {
-            return tag;
+    let mut i = 0;
+    while i < 6 {
+        let tag = REQUIRED[i];
+        if !fields.has(tag) {
+            return Refusal::new(TAG_MISSING, tag);
         }
-        tag = tag + 1;
+        i = i + 1;
     }
-    0
+    Refusal::none()
 }
 
-// The lowest tag whose value is out of range, or 0.
-fn out_of_range(order: &[u8]) -> u32
-    ensures { λ r. ⌜ r ≡ outOfRangeOf (now (order .entry)) ⌝ }
+// By the lowest tag whose value is out of range.
+fn out_of_range(order: &[u8], fields: Fields) -> Refusal
+    ensures { λ r. ⌜ r ≡ outOfRangeOf (valuesIn (now (order .entry)) fields) ⌝ }
 {
-    let mut tag = 1;
-    while tag <= LAST_TAG {
-        if !in_range(order, tag) {
-            return tag;
+    let mut passed = 0;
+    while passed < LAST_TAG {
+        let tag = passed + 1;
+        if !in_range(order, fields, tag) {
+            return Refusal::new(OUT_OF_RANGE, tag);
         }
-        tag = tag + 1;
+        passed = tag;
     }
-    0
+    Refusal::none()
 }
 
-fn record_in(order: &[u8]) -> Order
-    ensures { λ r. ⌜ r ≡ orderOf (now (order .entry)) ⌝ }
+fn record_in(order: &[u8], fields: Fields) -> Order
+    ensures { λ r. ⌜ r ≡ orderOf (valuesIn (now (order .entry)) fields) ⌝ }
 {
     Order {
-        date: date_in(value(order, 2)),
-        rows: rows_in(value(order, 3)),
-        coordinates: Coordinates::new(degrees_in(value(order, 4)), degrees_in(value(order, 5))),
-        parameters: parameters_in(order),
+        town: fields.part(1),
+        date: date_in(value(order, fields, 2)),
+        rows: rows_in(value(order, fields, 3)),
+        coordinates: Coordinates::new(
+            degrees_in(value(order, fields, 4)),
+            degrees_in(value(order, fields, 5)),
+        ),
+        parameters: parameters_in(order, fields),
     }
 }
 
 pub fn read(order: &[u8]) -> Reading
     ensures { λ r. ⌜ r ≡ readingOf (now (order .entry)) ⌝ }
 {
-    let broken = check(order);
+    let checked = fields_of(order);
+    let broken = checked.refusal;
     if broken.number != 0 {
         return Reading::Refused(broken);
     }
-    let lacking = missing(order);
-    if lacking != 0 {
-        return Reading::Refused(Refusal {
-            number: 4,
-            place: lacking,
-        });
+    let fields = checked.fields;
+    let lacking = missing(fields);
+    let outside = out_of_range(order, fields);
+    if lacking.number != 0 {
+        return Reading::Refused(lacking);
     }
-    let outside = out_of_range(order);
-    if outside != 0 {
-        return Reading::Refused(Refusal {
-            number: 5,
-            place: outside,
-        });
+    if outside.number != 0 {
+        return Reading::Refused(outside);
     }
-    Reading::Read(record_in(order))
+    Reading::Read(record_in(order, fields))
 }
 
 // The town's name, as the part of the order that it is; an empty part where the order is refused.
@@ -100,7 +110,7 @@ pub fn town(order: &[u8]) -> &[u8]
     ensures { λ r. ⌜ now r ≡ townOf (now (order .entry)) ⌝ }
 {
     match read(order) {
-        Reading::Read(_) => value(order, 1),
+        Reading::Read(record) => bytes(order, record.town),
         Reading::Refused(_) => &order[0..0],
     }
 }

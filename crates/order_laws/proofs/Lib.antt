@@ -1,2 +1,4 @@
 pub mod AcceptedParameters
+pub mod Witness
+pub mod MinutesLaws
 pub mod PrintedLaws

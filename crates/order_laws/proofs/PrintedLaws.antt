@@ -7,13 +7,14 @@ use lib.Dec.{T, ltb, lit<}
 use lib.IntN.{ℤ, pos, negsuc, _-ℤ_, _*ℤ_}
 use lib.ListN.{getD}
 use Rattle.integers.specs.Parts.{P, N}
-use Rattle.integers.specs.Quotients.{floorQuot, floored}
-use Rattle.integers.specs.Sums.{difference, times}
+use Rattle.integers.specs.Quotients.{floorQuot}
+use Rattle.integers.proofs.QuotientLaws.{floored}
+use Rattle.integers.proofs.Sums.{difference, times}
 use Rattle.calendar.specs.Answers.{rowDateOf}
 use Rattle.calendar.specs.Days.{dayNumberOf}
 use Rattle.calendar.specs.declared.dates.Date.{Date}
 use Rattle.calls.specs.Calls.{workRowOf}
-use Rattle.models.specs.Refusals.{refusal}
+use Rattle.refusals.specs.Refusals.{refusal}
 use Rattle.lines.specs.Lines.{daysOf, sizeOf, nineOf}
 use Rattle.order.specs.Accepted.{Accepted}
 use Rattle.order.specs.declared.reading.Order.{Order}

@@ -5,43 +5,56 @@ use mathlib.Core.List.{List}
 use lib.ListN.{length}
 use borrow.Author.Tests.{lt-ltb, le-ltb}
 use Rattle.calendar.specs.Answers.{rowDateOf}
-use Rattle.calls.specs.Calls.{workRowOf, workReadingOf, workDayOf}
-use Rattle.models.specs.Refusals.{refusal}
-use Rattle.lines.specs.Lines.{refusedOrderText}
-use Rattle.models.specs.declared.refusal.Refusal.{Refusal}
+use Rattle.calendar.specs.declared.dates.Date.{Date}
+use Rattle.calls.specs.Calls.{workDateOf, lacksRow, workRowOf, workReadingOf, workDayOf}
+use Rattle.refusals.specs.Refusals.{refusal}
+use Rattle.lines.specs.Lines.{fullRow, refusedOrderText}
+use Rattle.refusals.specs.declared.Refusal.{Refusal}
 use Rattle.order.specs.declared.reading.Order.{Order}
 use Rattle.order.specs.declared.reading.Reading.the-variants.{Read, Refused}
 use Rattle.order.specs.Reading.{readingOf, townOf}
+use Rattle.schedule.specs.declared.prayer_times.Worked.{Worked}
 use Rattle.text.specs.Text.{frontOf}
-use Rattle.rows.specs.Rows.{answerOf, rowFrontOf, rowAnswerOf, rowBufferOf, textIn, acceptedText, sheetLengthOf, sheetBufferOf}
+use Rattle.rows.specs.Rows.{answerOf, rowFrontOf, rowAnswerOf, rowBufferOf, textIn, acceptedText, longestSheet, sheetLengthOf, sheetBufferOf}
+
+module _ (o : Order) (row : ℕ) (buffer : List ℕ) where
+  -- a row that the order has, by its date
+  pub row-there : (date : Date) (worked : Worked) → row < o .rows → date ≡ rowDateOf (o .date) row → worked ≡ workDateOf o date
+      → (answerOf worked ≡ answerOf (workRowOf o row)) × (rowFrontOf date worked buffer ≡ rowFrontOf (rowDateOf (o .date) row) (workRowOf o row) buffer)
+  unfolding workRowOf
+  row-there date worked h d e = (simp (e, d, lt-ltb row (o .rows) h), simp (e, d, lt-ltb row (o .rows) h))
+
+  pub row-lacking : o .rows ≤ row → (lacksRow ≡ answerOf (workRowOf o row)) × (buffer ≡ rowFrontOf (rowDateOf (o .date) row) (workRowOf o row) buffer)
+  unfolding workRowOf answerOf rowFrontOf
+  row-lacking h = (simp (le-ltb row (o .rows) h), simp (le-ltb row (o .rows) h))
 
 module _ (s buffer : List ℕ) (row : ℕ) where
-  pub row-short : length buffer < 119 → (refusal 9 0 ≡ rowAnswerOf s row buffer) × (buffer ≡ rowBufferOf s row buffer)
+  pub row-short : length buffer < fullRow → (refusal 9 0 ≡ rowAnswerOf s row buffer) × (buffer ≡ rowBufferOf s row buffer)
   unfolding rowAnswerOf rowBufferOf
-  row-short h = (simp (lt-ltb (length buffer) 119 h), simp (lt-ltb (length buffer) 119 h))
+  row-short h = (simp (lt-ltb (length buffer) fullRow h), simp (lt-ltb (length buffer) fullRow h))
 
-  module _ (h : 119 ≤ length buffer) where
+  module _ (h : fullRow ≤ length buffer) where
     pub row-read : (o : Order) → readingOf s ≡ Read o
         → (answerOf (workRowOf o row) ≡ rowAnswerOf s row buffer) × (rowFrontOf (rowDateOf (o .date) row) (workRowOf o row) buffer ≡ rowBufferOf s row buffer)
     unfolding rowAnswerOf rowBufferOf workDayOf workReadingOf
-    row-read o e = (simp (le-ltb (length buffer) 119 h, e), simp (le-ltb (length buffer) 119 h, e))
+    row-read o e = (simp (le-ltb (length buffer) fullRow h, e), simp (le-ltb (length buffer) fullRow h, e))
 
     pub row-refused : (r : Refusal) → readingOf s ≡ Refused r → (r ≡ rowAnswerOf s row buffer) × (buffer ≡ rowBufferOf s row buffer)
     unfolding rowAnswerOf rowBufferOf workDayOf workReadingOf answerOf
-    row-refused r e = (simp (le-ltb (length buffer) 119 h, e), simp (le-ltb (length buffer) 119 h, e))
+    row-refused r e = (simp (le-ltb (length buffer) fullRow h, e), simp (le-ltb (length buffer) fullRow h, e))
 
 module _ (s buffer : List ℕ) where
-  pub sheet-short : length buffer < 29854 → (0 ≡ sheetLengthOf s buffer) × (buffer ≡ sheetBufferOf s buffer)
+  pub sheet-short : length buffer < longestSheet → (0 ≡ sheetLengthOf s buffer) × (buffer ≡ sheetBufferOf s buffer)
   unfolding sheetLengthOf sheetBufferOf
-  sheet-short h = (simp (lt-ltb (length buffer) 29854 h), simp (lt-ltb (length buffer) 29854 h))
+  sheet-short h = (simp (lt-ltb (length buffer) longestSheet h), simp (lt-ltb (length buffer) longestSheet h))
 
-  module _ (h : 29854 ≤ length buffer) where
+  module _ (h : longestSheet ≤ length buffer) where
     pub sheet-read : (o : Order) → readingOf s ≡ Read o
         → (length (acceptedText (townOf s) o) ≡ sheetLengthOf s buffer) × (frontOf (acceptedText (townOf s) o) buffer ≡ sheetBufferOf s buffer)
     unfolding sheetLengthOf sheetBufferOf textIn
-    sheet-read o e = (simp (le-ltb (length buffer) 29854 h, e), simp (le-ltb (length buffer) 29854 h, e))
+    sheet-read o e = (simp (le-ltb (length buffer) longestSheet h, e), simp (le-ltb (length buffer) longestSheet h, e))
 
     pub sheet-refused : (r : Refusal) → readingOf s ≡ Refused r
         → (length (refusedOrderText r) ≡ sheetLengthOf s buffer) × (frontOf (refusedOrderText r) buffer ≡ sheetBufferOf s buffer)
     unfolding sheetLengthOf sheetBufferOf textIn
-    sheet-refused r e = (simp (le-ltb (length buffer) 29854 h, e), simp (le-ltb (length buffer) 29854 h, e))
+    sheet-refused r e = (simp (le-ltb (length buffer) longestSheet h, e), simp (le-ltb (length buffer) longestSheet h, e))

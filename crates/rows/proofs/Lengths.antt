@@ -7,11 +7,11 @@ use mathlib.Core.List.{List, [], _++_}
 use lib.ListN.{length, length-append}
 use Rattle.calendar.specs.Answers.{rowDateOf}
 use Rattle.calls.specs.Calls.{workRowOf}
-use Rattle.lines.specs.Lines.{lineText}
-use Rattle.lines.specs.LinesLaws.{line-length}
+use Rattle.lines.specs.Lines.{fullRow, lineText}
+use Rattle.lines.proofs.LinesLaws.{line-length}
 use Rattle.order.specs.declared.reading.Order.{Order}
 use Rattle.text.specs.Text.{ascii, putOf, frontOf}
-use Rattle.text.specs.TextLaws.{put-front, put-behind, put-next, put-nothing}
+use Rattle.text.proofs.TextLaws.{put-front, put-behind, put-next, put-nothing}
 use Rattle.rows.specs.Rows.{headText, linesText, acceptedText}
 
 abbrev header : List ℕ
@@ -34,7 +34,7 @@ pub lines-next : (o : Order) (k : ℕ) → linesText o (k + 1) ≡ linesText o k
 unfolding linesText
 lines-next o k = rw (add-one k)
 
-pub lines-length : (o : Order) (k : ℕ) → length (linesText o k) ≤ 119 * k
+pub lines-length : (o : Order) (k : ℕ) → length (linesText o k) ≤ fullRow * k
 unfolding linesText
 lines-length o zero = omega arith
 lines-length o (suc k) =
@@ -49,7 +49,7 @@ unfolding linesText
 lines-none o buffer at room = (sym (put-nothing buffer at room), omega arith)
 
 -- one line more
-pub line-made : (o : Order) (k : ℕ) (buffer before after line : List ℕ) (at end n : ℕ) → at + 119 * (k + 1) ≤ length buffer
+pub line-made : (o : Order) (k : ℕ) (buffer before after line : List ℕ) (at end n : ℕ) → at + fullRow * (k + 1) ≤ length buffer
     → before ≡ putOf buffer at (linesText o k) → end ≡ at + length (linesText o k)
     → line ≡ lineOf o k → n ≡ length line → after ≡ putOf before end line
     → (after ≡ putOf buffer at (linesText o (k + 1))) × (end + n ≡ at + length (linesText o (k + 1)))
@@ -69,7 +69,7 @@ line-made o k buffer before after line at end n room b e l m p =
       omega arith,
     )
 
-pub sheet-made : (town buffer head after : List ℕ) (o : Order) (n r : ℕ) → length town + 64 + 119 * o .rows ≤ length buffer
+pub sheet-made : (town buffer head after : List ℕ) (o : Order) (n r : ℕ) → length town + 64 + fullRow * o .rows ≤ length buffer
     → n ≡ length (headText town) → head ≡ frontOf (headText town) buffer
     → r ≡ n + length (linesText o (o .rows)) → after ≡ putOf head n (linesText o (o .rows))
     → (r ≡ length (acceptedText town o)) × (after ≡ frontOf (acceptedText town o) buffer)

@@ -11,12 +11,13 @@ use Rattle.calendar.proofs.CalendarLaws.{row-first}
 use Rattle.calendar.proofs.Successors.{row-is, row-tomorrow}
 use Rattle.calls.specs.Calls.{workRowOf}
 use Rattle.order.specs.Accepted.{Accepted}
-use Rattle.order.specs.RowDates.{row-year}
+use Rattle.order.specs.Ranges.{mostRows}
+use Rattle.order.proofs.RowDates.{row-year}
 use Rattle.order.specs.declared.reading.Order.{Order}
-use Rattle.lines.specs.Lines.{lineText}
-use Rattle.rolling.specs.Rolling.{rollingOf, nextRollingOf, rollingHoursOf}
-use Rattle.rolling.specs.RollingLaws.{rolled-hours, rolls}
-use Rattle.rolling.specs.declared.Rolling.{Rolling}
+use Rattle.lines.specs.Lines.{fullRow, lineText}
+use Rattle.row_suns.specs.RowSuns.{rowSunsOf, nextRowSunsOf, rowSunsHoursOf}
+use Rattle.row_suns.proofs.RowSunsLaws.{rolled-hours, rolls}
+use Rattle.row_suns.specs.declared.RowSuns.{RowSuns}
 use Rattle.schedule.specs.Times.{workedOf}
 use Rattle.schedule.specs.declared.hours.RowHours.{RowHours}
 use Rattle.text.specs.Text.{putOf}
@@ -24,19 +25,19 @@ use Rattle.rows.specs.Rows.{linesText}
 use Rattle.rows.proofs.Lengths.{lineOf, lines-length, line-made}
 
 -- the state of a row
-abbrev pub stateOf : Order → ℕ → Rolling
-stateOf o k = rollingOf (rowDateOf (o .date) k) (o .coordinates) (o .parameters)
+abbrev pub stateOf : Order → ℕ → RowSuns
+stateOf o k = rowSunsOf (rowDateOf (o .date) k) (o .coordinates) (o .parameters)
 
 module _ (o : Order) (a : Accepted o) where
-  pub first-state : rollingOf (o .date) (o .coordinates) (o .parameters) ≡ stateOf o 0
+  pub first-state : rowSunsOf (o .date) (o .coordinates) (o .parameters) ≡ stateOf o 0
   first-state =
       let d = o .date in
       let there = a .date .there in
       let y = row-year d there 0 (a .row 0 (a .rows .0) .to) in
-      ap (λ (x : Date). rollingOf x (o .coordinates) (o .parameters)) (sym (row-is d there 0 (omega arith) ∙ row-first d there))
+      ap (λ (x : Date). rowSunsOf x (o .coordinates) (o .parameters)) (sym (row-is d there 0 (omega arith) ∙ row-first d there))
 
   module _ (k : ℕ) (h : k < o .rows) where
-    pub next-state : nextRollingOf (o .coordinates) (o .parameters) (stateOf o k) ≡ stateOf o (k + 1)
+    pub next-state : nextRowSunsOf (o .coordinates) (o .parameters) (stateOf o k) ≡ stateOf o (k + 1)
     next-state =
         let d = o .date in
         let there = a .date .there in
@@ -44,33 +45,33 @@ module _ (o : Order) (a : Accepted o) where
         let to = r .to in
         let y = row-year d there k to in
         rolls (rowDateOf d k) (o .coordinates) (o .parameters) (r .there) (omega arith)
-        ∙ ap (λ (x : Date). rollingOf x (o .coordinates) (o .parameters)) (sym (row-tomorrow d there k (omega arith)))
+        ∙ ap (λ (x : Date). rowSunsOf x (o .coordinates) (o .parameters)) (sym (row-tomorrow d there k (omega arith)))
 
-    pub state-line : lineText (stateOf o k .date) (workedOf (rollingHoursOf (o .coordinates .latitude) (o .parameters) (stateOf o k)) (stateOf o k .date) (o .coordinates .latitude) (o .parameters))
+    pub state-line : lineText (stateOf o k .date) (workedOf (rowSunsHoursOf (o .coordinates .latitude) (o .parameters) (stateOf o k)) (stateOf o k .date) (o .coordinates .latitude) (o .parameters))
         ≡ lineOf o k
-    unfolding workRowOf rollingOf
+    unfolding workRowOf rowSunsOf
     state-line =
         simp (lt-ltb k (o .rows) h)
         (ap (λ (x : RowHours). lineText (rowDateOf (o .date) k) (workedOf x (rowDateOf (o .date) k) (o .coordinates .latitude) (o .parameters)))
         (rolled-hours (rowDateOf (o .date) k) (o .coordinates) (o .parameters)))
 
 -- Before a row its suns are there, and the lines of those before it.
-pub record Run (o : Order) (buffer : List ℕ) (at : ℕ) (now : List ℕ) (rolling : Rolling) (row end : ℕ) : Type 0 where
+pub record Run (o : Order) (buffer : List ℕ) (at : ℕ) (now : List ℕ) (suns : RowSuns) (row end : ℕ) : Type 0 where
   pub within : row < o .rows
-  pub state : rolling ≡ stateOf o row
+  pub state : suns ≡ stateOf o row
   pub text : now ≡ putOf buffer at (linesText o row)
   pub place : end ≡ at + length (linesText o row)
   pub same : length now ≡ length buffer
 
 -- the line that a row's suns give
-abbrev pub madeLine : Order → Rolling → List ℕ
-madeLine o r = lineText (r .date) (workedOf (rollingHoursOf (o .coordinates .latitude) (o .parameters) r) (r .date) (o .coordinates .latitude) (o .parameters))
+abbrev pub madeLine : Order → RowSuns → List ℕ
+madeLine o r = lineText (r .date) (workedOf (rowSunsHoursOf (o .coordinates .latitude) (o .parameters) r) (r .date) (o .coordinates .latitude) (o .parameters))
 
-module _ (o : Order) (a : Accepted o) (buffer : List ℕ) (at : ℕ) (room : at + 119 * 250 ≤ length buffer) where
-  pub run-line : (now : List ℕ) (rolling : Rolling) (row end : ℕ) → Run o buffer at now rolling row end
-      → (line after : List ℕ) (n : ℕ) → line ≡ madeLine o rolling → n ≡ length line → after ≡ putOf now end line
+module _ (o : Order) (a : Accepted o) (buffer : List ℕ) (at : ℕ) (room : at + fullRow * mostRows ≤ length buffer) where
+  pub run-line : (now : List ℕ) (suns : RowSuns) (row end : ℕ) → Run o buffer at now suns row end
+      → (line after : List ℕ) (n : ℕ) → line ≡ madeLine o suns → n ≡ length line → after ≡ putOf now end line
       → (after ≡ putOf buffer at (linesText o (row + 1))) × (end + n ≡ at + length (linesText o (row + 1)))
-  run-line now rolling row end s line after n l m p =
+  run-line now suns row end s line after n l m p =
       let w = s .within in
       let most = a .rows .1 in
       line-made o row buffer now after line at end n (omega arith) (s .text) (s .place) (l ∙ ap (madeLine o) (s .state) ∙ state-line o a row w) m p

@@ -1,4 +1,4 @@
--- No sheet is longer than 29,854 bytes, and what is written fits the buffer. Assumes nothing.
+-- No sheet is longer than `longestSheet`, and what is written fits the buffer. Assumes nothing.
 use native.Mathlib.Omega.{arith}
 use Prim.Native.Nat.{ℕ, _≤_, _<_}
 use mathlib.Core.Bool.{Bool, true, false, cond}
@@ -7,21 +7,21 @@ use mathlib.Core.List.{List}
 use lib.Dec.{ltb}
 use lib.ListN.{length, length-append}
 use borrow.Author.Tests.{ltb-false}
-use Rattle.lines.specs.LinesLaws.{refused-length}
-use Rattle.order.specs.AcceptedLaws.{read-accepted}
-use Rattle.order.specs.ReadingLaws.{read-town}
+use Rattle.lines.proofs.LinesLaws.{refused-length}
+use Rattle.order.proofs.AcceptedLaws.{read-accepted}
+use Rattle.order.proofs.ReadingLaws.{read-town}
 use Rattle.order.specs.Reading.{readingOf, townOf}
 use Rattle.order.specs.declared.reading.Reading.{Reading}
 use Rattle.order.specs.declared.reading.Reading.the-variants.{Read, Refused}
 use Rattle.text.specs.Text.{ascii}
-use Rattle.rows.specs.Rows.{headText, linesText, acceptedText, textIn, sheetText, sheetLengthOf}
+use Rattle.rows.specs.Rows.{headText, linesText, acceptedText, textIn, sheetText, longestSheet, sheetLengthOf}
 use Rattle.rows.proofs.Lengths.{head-length, lines-length}
 
-pub sheet-length : (s : List ℕ) → length (sheetText s) ≤ 29854
+pub sheet-length : (s : List ℕ) → length (sheetText s) ≤ longestSheet
 unfolding textIn acceptedText
 sheet-length s = by-reading (readingOf s) refl
   where
-    by-reading : (r : Reading) → readingOf s ≡ r → length (textIn s r) ≤ 29854
+    by-reading : (r : Reading) → readingOf s ≡ r → length (textIn s r) ≤ longestSheet
     by-reading (Read o) e =
         let t = read-town s o e in
         let a = read-accepted s o e in
@@ -35,11 +35,11 @@ sheet-length s = by-reading (readingOf s) refl
 
 pub sheet-fits : (s buffer : List ℕ) → sheetLengthOf s buffer ≤ length buffer
 unfolding sheetLengthOf
-sheet-fits s buffer = by-room (ltb (length buffer) 29854) refl
+sheet-fits s buffer = by-room (ltb (length buffer) longestSheet) refl
   where
-    by-room : (b : Bool) → ltb (length buffer) 29854 ≡ b → cond b 0 (length (sheetText s)) ≤ length buffer
+    by-room : (b : Bool) → ltb (length buffer) longestSheet ≡ b → cond b 0 (length (sheetText s)) ≤ length buffer
     by-room true e = omega arith
-    by-room false e = let r : 29854 ≤ length buffer = ltb-false (length buffer) 29854 e in let l = sheet-length s in omega arith
+    by-room false e = let r : longestSheet ≤ length buffer = ltb-false (length buffer) longestSheet e in let l = sheet-length s in omega arith
 
 pub answer-fits : (s buffer after : List ℕ) (n : ℕ) → n ≡ sheetLengthOf s buffer → length after ≡ length buffer → n ≤ length after
 answer-fits s buffer after n e l = let f = sheet-fits s buffer in omega arith

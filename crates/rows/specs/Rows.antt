@@ -1,5 +1,5 @@
 -- Document 01, "The sheet": what writing a row answers and leaves in the buffer, and the whole text of an order's sheet.
-use Prim.Native.Nat.{ℕ, zero, suc}
+use Prim.Native.Nat.{ℕ, zero, suc, _+_, _*_}
 use mathlib.Core.Bool.{cond}
 use mathlib.Core.List.{List, [], _++_}
 use lib.Dec.{ltb}
@@ -7,12 +7,13 @@ use lib.ListN.{length}
 use Rattle.calendar.specs.Answers.{rowDateOf}
 use Rattle.calendar.specs.declared.dates.Date.{Date}
 use Rattle.calls.specs.Calls.{workRowOf, workDayOf}
-use Rattle.models.specs.Refusals.{refusal}
-use Rattle.lines.specs.Lines.{rowText, lineText, refusedOrderText}
-use Rattle.models.specs.declared.refusal.Refusal.{Refusal}
+use Rattle.refusals.specs.Refusals.{refusal, noRefusal, bufferShort}
+use Rattle.lines.specs.Lines.{nineOf, rowText, fullRow, lineText, refusedOrderText}
+use Rattle.refusals.specs.declared.Refusal.{Refusal}
 use Rattle.order.specs.declared.reading.Order.{Order}
 use Rattle.order.specs.declared.reading.Reading.{Reading}
 use Rattle.order.specs.declared.reading.Reading.the-variants as reading
+use Rattle.order.specs.Ranges.{mostRows}
 use Rattle.order.specs.Reading.{readingOf, townOf}
 use Rattle.schedule.specs.declared.prayer_times.Worked.{Worked}
 use Rattle.schedule.specs.declared.prayer_times.Worked.the-variants as worked
@@ -20,12 +21,12 @@ use Rattle.text.specs.Text.{ascii, frontOf}
 
 -- ---- a row: "a full row has 119 bytes with its newline, at the front of the row buffer; the bytes after them stay"
 unfoldable pub answerOf : Worked → Refusal
-answerOf (worked.Times t) = refusal 0 0
+answerOf (worked.Times t) = noRefusal
 answerOf (worked.Refused r) = r
 
 -- "A refusal .. changes no lent byte."
 unfoldable pub rowFrontOf : Date → Worked → List ℕ → List ℕ
-rowFrontOf date (worked.Times t) buffer = frontOf (rowText date t) buffer
+rowFrontOf date (worked.Times t) buffer = frontOf (rowText date (nineOf t)) buffer
 rowFrontOf date (worked.Refused r) buffer = buffer
 
 abbrev rowIn : Reading → ℕ → List ℕ → List ℕ
@@ -34,10 +35,10 @@ rowIn (reading.Refused r) row buffer = buffer
 
 -- 9 is "row buffer under 119 bytes"; "buffer and instant are checked before anything else in their calls"
 unfoldable pub rowAnswerOf : List ℕ → ℕ → List ℕ → Refusal
-rowAnswerOf s row buffer = cond (ltb (length buffer) 119) (refusal 9 0) (answerOf (workDayOf s row))
+rowAnswerOf s row buffer = cond (ltb (length buffer) fullRow) (refusal bufferShort 0) (answerOf (workDayOf s row))
 
 unfoldable pub rowBufferOf : List ℕ → ℕ → List ℕ → List ℕ
-rowBufferOf s row buffer = cond (ltb (length buffer) 119) buffer (rowIn (readingOf s) row buffer)
+rowBufferOf s row buffer = cond (ltb (length buffer) fullRow) buffer (rowIn (readingOf s) row buffer)
 
 -- ---- the sheet: "the town, the header, one line a row"
 unfoldable pub headText : List ℕ → List ℕ
@@ -59,9 +60,13 @@ textIn s (reading.Refused r) = refusedOrderText r
 abbrev pub sheetText : List ℕ → List ℕ
 sheetText s = textIn s (readingOf s)
 
--- a buffer under 29,854 bytes, which the longest sheet takes, is left as it was, and the answer is 0
+-- the longest sheet: a town of 40 bytes, the header with its two newlines, and all full rows that an order can have
+abbrev pub longestSheet : ℕ
+longestSheet = 40 + 64 + fullRow * mostRows
+
+-- a buffer that it might not fit is left as it was, and the answer is 0
 unfoldable pub sheetLengthOf : List ℕ → List ℕ → ℕ
-sheetLengthOf s buffer = cond (ltb (length buffer) 29854) 0 (length (sheetText s))
+sheetLengthOf s buffer = cond (ltb (length buffer) longestSheet) 0 (length (sheetText s))
 
 unfoldable pub sheetBufferOf : List ℕ → List ℕ → List ℕ
-sheetBufferOf s buffer = cond (ltb (length buffer) 29854) buffer (frontOf (sheetText s) buffer)
+sheetBufferOf s buffer = cond (ltb (length buffer) longestSheet) buffer (frontOf (sheetText s) buffer)

@@ -2,58 +2,60 @@
 ghost use mathlib.Core.Path.{_≡_};
 ghost use Prim.Native.Nat.{_≤_};
 ghost use lib.ListN.{length};
+ghost use Rattle.lines.specs.Lines.{fullRow};
 ghost use Rattle.rows.specs.Rows.{answerOf, rowFrontOf, rowAnswerOf, rowBufferOf};
 ghost use Rattle.calls.specs.Calls.{workRowOf};
 ghost use Rattle.calendar.specs.Answers.{rowDateOf};
 use calendar::dates::Date;
-use calls::day::work_row;
+use calls::day::lacks_row;
+use calls::day::work_date;
+use lines::row::ROW_BYTES;
 use lines::row::put_row;
-use models::refusal::Refusal;
 use order::reading::Order;
 use order::reading::Reading;
 use order::reading::read;
+use refusals::BUFFER_SHORT;
+use refusals::Refusal;
 use schedule::prayer_times::Worked;
 
 // Number 0 where the row is written.
 fn write_worked(date: Date, worked: Worked, buffer: &mut [u8]) -> Refusal
-    requires { ⌜ 119 ≤ length (now buffer) ⌝ }
+    requires { ⌜ fullRow ≤ length (now buffer) ⌝ }
     ensures { λ r. ⌜ r ≡ answerOf worked ⌝ }
     ensures { λ _. ⌜ now (buffer .exit) ≡ rowFrontOf date worked (now (buffer .entry)) ⌝ }
 {
     match worked {
         Worked::Times(times) => {
             put_row(&mut buffer[..], 0, date, times);
-            Refusal {
-                number: 0,
-                place: 0,
-            }
+            Refusal::none()
         }
         Worked::Refused(refusal) => refusal,
     }
 }
 
-fn write_date(order: Order, row: u32, buffer: &mut [u8]) -> Refusal
-    requires { ⌜ 119 ≤ length (now buffer) ⌝ }
+fn write_read(order: Order, row: u32, buffer: &mut [u8]) -> Refusal
+    requires { ⌜ fullRow ≤ length (now buffer) ⌝ }
     ensures { λ r. ⌜ r ≡ answerOf (workRowOf order row) ⌝ }
     ensures { λ _. ⌜ now (buffer .exit) ≡ rowFrontOf (rowDateOf (order .date) row) (workRowOf order row) (now (buffer .entry)) ⌝ }
 {
-    let first = order.date;
-    write_worked(first.row(row), work_row(order, row), &mut buffer[..])
+    if row < order.rows {
+        let first = order.date;
+        let date = first.row(row);
+        return write_worked(date, work_date(order, date), &mut buffer[..]);
+    }
+    lacks_row()
 }
 
-// A buffer under 119 bytes is 9, before anything else.
+// A buffer that a full row does not fit is 9, before anything else.
 pub fn write_row(order: &[u8], row: u32, buffer: &mut [u8]) -> Refusal
     ensures { λ r. ⌜ r ≡ rowAnswerOf (now (order .entry)) row (now (buffer .entry)) ⌝ }
     ensures { λ _. ⌜ now (buffer .exit) ≡ rowBufferOf (now (order .entry)) row (now (buffer .entry)) ⌝ }
 {
-    if buffer.len() < 119 {
-        return Refusal {
-            number: 9,
-            place: 0,
-        };
+    if buffer.len() < ROW_BYTES {
+        return Refusal::new(BUFFER_SHORT, 0);
     }
     match read(order) {
-        Reading::Read(order) => write_date(order, row, &mut buffer[..]),
+        Reading::Read(order) => write_read(order, row, &mut buffer[..]),
         Reading::Refused(refusal) => refusal,
     }
 }

@@ -2,24 +2,32 @@
 ghost use mathlib.Core.Path.{_≡_};
 ghost use Prim.Native.Nat.{_+_, _*_, _≤_};
 ghost use lib.ListN.{length};
-ghost use Rattle.lines.specs.Lines.{lineText};
+ghost use Rattle.lines.specs.Lines.{fullRow, lineText};
 ghost use Rattle.order.specs.Accepted.{Accepted};
+ghost use Rattle.order.specs.Ranges.{mostRows};
 ghost use Rattle.text.specs.Text.{putOf, frontOf};
-ghost use Rattle.rows.specs.Rows.{headText, linesText, acceptedText, sheetLengthOf, sheetBufferOf};
+ghost use Rattle.rows.specs.Rows.{headText, linesText, acceptedText, longestSheet, sheetLengthOf, sheetBufferOf};
 use calendar::dates::Date;
-use fields::values::value;
+use fields::values::bytes;
 use lines::refused::put_refused_day;
 use lines::refused::put_refused_order;
+use lines::row::ROW_BYTES;
 use lines::row::put_row;
+use order::reading::MOST_ROWS;
 use order::reading::Order;
 use order::reading::Reading;
 use order::reading::read;
-use rolling::Rolling;
+use row_suns::RowSuns;
 use schedule::prayer_times::Worked;
 use text::put::put;
 
-// What the longest sheet takes: a town of 40 bytes, its newline, the header and 250 full rows.
-pub const SHEET_BYTES: usize = 29854;
+const LONGEST_TOWN: usize = 40;
+
+// The header and a newline before and behind it.
+const HEADER_BYTES: usize = 64;
+
+// What the longest sheet takes.
+pub const SHEET_BYTES: usize = LONGEST_TOWN + HEADER_BYTES + ROW_BYTES * MOST_ROWS as usize;
 
 // A row's line, or its refusal's.
 fn put_line(buffer: &mut [u8], at: usize, date: Date, worked: Worked) -> usize
@@ -34,7 +42,7 @@ fn put_line(buffer: &mut [u8], at: usize, date: Date, worked: Worked) -> usize
 
 // The town and the header.
 fn put_head(buffer: &mut [u8], town: &[u8]) -> usize
-    requires { ⌜ (length (now town) ≤ 40) × (29854 ≤ length (now buffer)) ⌝ }
+    requires { ⌜ (length (now town) ≤ 40) × (longestSheet ≤ length (now buffer)) ⌝ }
     ensures { λ r. ⌜ r ≡ length (headText (now (town .entry))) ⌝ }
     ensures { λ _. ⌜ now (buffer .exit) ≡ frontOf (headText (now (town .entry))) (now (buffer .entry)) ⌝ }
 {
@@ -45,34 +53,34 @@ fn put_head(buffer: &mut [u8], town: &[u8]) -> usize
         end,
         b"\ndate fajr sunrise dhuhr asr maghrib isha middle qiyam tomorrow\n",
     );
-    end + 64
+    end + HEADER_BYTES
 }
 
 // The lines of all rows from an offset on; answers where they end. Each row takes over what it can from the one before it.
 fn put_rows(buffer: &mut [u8], at: usize, order: Order) -> usize
-    requires { ⌜ Accepted order × (at + 119 * 250 ≤ length (now buffer)) ⌝ }
+    requires { ⌜ Accepted order × (at + fullRow * mostRows ≤ length (now buffer)) ⌝ }
     ensures { λ r. ⌜ r ≡ at + length (linesText order (order .rows)) ⌝ }
     ensures { λ _. ⌜ now (buffer .exit) ≡ putOf (now (buffer .entry)) at (linesText order (order .rows)) ⌝ }
 {
     let coordinates = order.coordinates;
     let parameters = order.parameters;
     let latitude = coordinates.latitude;
-    let mut rolling = Rolling::new(order.date, coordinates, parameters);
+    let mut suns = RowSuns::new(order.date, coordinates, parameters);
     let mut row = 0;
     let mut end = at;
     loop {
-        let worked = rolling.work(latitude, parameters);
-        end = end + put_line(&mut buffer[..], end, rolling.date, worked);
+        let worked = suns.work(latitude, parameters);
+        end = end + put_line(&mut buffer[..], end, suns.date, worked);
         row = row + 1;
         if row >= order.rows {
             return end;
         }
-        rolling = rolling.next(coordinates, parameters);
+        suns = suns.next(coordinates, parameters);
     }
 }
 
 fn put_accepted(buffer: &mut [u8], town: &[u8], order: Order) -> usize
-    requires { ⌜ Accepted order × (length (now town) ≤ 40) × (29854 ≤ length (now buffer)) ⌝ }
+    requires { ⌜ Accepted order × (length (now town) ≤ 40) × (longestSheet ≤ length (now buffer)) ⌝ }
     ensures { λ r. ⌜ r ≡ length (acceptedText (now (town .entry)) order) ⌝ }
     ensures { λ _. ⌜ now (buffer .exit) ≡ frontOf (acceptedText (now (town .entry)) order) (now (buffer .entry)) ⌝ }
 {
@@ -89,7 +97,7 @@ pub fn write_sheet(order: &[u8], buffer: &mut [u8]) -> usize
         return 0;
     }
     match read(order) {
-        Reading::Read(record) => put_accepted(&mut buffer[..], value(order, 1), record),
+        Reading::Read(record) => put_accepted(&mut buffer[..], bytes(order, record.town), record),
         Reading::Refused(refusal) => put_refused_order(&mut buffer[..], 0, refusal),
     }
 }

@@ -6,13 +6,14 @@ use native.Mathlib.Omega.{arith}
 use lib.Dec.{T, eqb}
 use borrow.Author.Tests.{eq-eqb, ne-eqb}
 use lib.IntN.{ℤ, pos, negsuc, natAbs, _+ℤ_, _-ℤ_, _*ℤ_}
-use Rattle.integers.specs.Parts.{P, N, same}
+use Rattle.integers.specs.Parts.{P, N}
+use Rattle.integers.proofs.PartsLaws.{same}
 use mir.Syntax.{w64}
 use mir.Val.{SFits, Fits}
 use lib.Signed.{ltZ, nonNeg}
-use Rattle.integers.specs.Sums.{sum, difference, times}
-use Rattle.integers.specs.Order.{lt-yes, lt-no}
-use Rattle.integers.specs.Ranges.{range, fits, readBack, read}
+use Rattle.integers.proofs.Sums.{sum, difference, times}
+use Rattle.integers.proofs.OrderLaws.{lt-yes, lt-no}
+use Rattle.integers.proofs.Ranges.{range, fits, readBack, read}
 use Rattle.models.specs.Numbers.{prayerOf}
 use Rattle.schedule.specs.InForce.{second, nanosecondsOf, aheadOf, timeOf, lastOf}
 use Rattle.schedule.specs.declared.in_force.Instant.{Instant}

@@ -4,7 +4,7 @@ use Prim.Native.Nat.{ℕ, _+_, _*_, _^_, _≤_, _<_}
 use native.Mathlib.Omega.{arith}
 use lib.IntN.{ℤ, pos, _-ℤ_, _*ℤ_}
 use Rattle.integers.specs.Parts.{Near}
-use Rattle.integers.specs.Sums.{difference, times}
+use Rattle.integers.proofs.Sums.{difference, times}
 use Rattle.calendar.specs.Days.{daysBeforeYearOf, ordinalOf, dayNumberOf}
 use Rattle.calendar.specs.declared.dates.Date.{Date}
 use Rattle.calendar.proofs.Existing.{ordinal-short}
@@ -20,4 +20,4 @@ start-near d h =
     let o = ordinal-short d in
     let b = difference (pos (daysBeforeYearOf (d .year) + ordinalOf d)) (pos 719529) in
     let t = times (pos (daysBeforeYearOf (d .year) + ordinalOf d) -ℤ pos 719529) 86400 in
-    (omega (arith, b .0, b .1), omega (arith, b .0, b .1))
+    record { from = omega (arith, b .0, b .1); to = omega (arith, b .0, b .1) }

@@ -1,17 +1,38 @@
 -- The sun's times that a row is worked from, each in seconds from 0h of its own date.
-use Rattle.solar.specs.Setting.{settingHourOf}
-use Rattle.solar.specs.Times.{solarTimeOf}
+use lib.Ieee.{Float}
+use Rattle.refusals.specs.Refusals.{refusal}
+use Rattle.solar.specs.declared.hours.HourNumbers.{HourNumbers}
+use Rattle.solar.specs.declared.times.SolarDay.{SolarDay}
+use Rattle.solar.specs.declared.times.SolarDay.the-variants as day
+use Rattle.solar.specs.Times.{solarHourOf, solarTimeOf}
 use Rattle.schedule.specs.declared.hours.RowNumbers.{RowNumbers}
+use Rattle.schedule.specs.declared.hours.DayHours.{DayHours}
+use Rattle.schedule.specs.declared.hours.ThreeSuns.{ThreeSuns}
+use Rattle.schedule.specs.declared.hours.Suns.{Suns}
+use Rattle.schedule.specs.declared.hours.Suns.the-variants.{Whole, Lacks}
 use Rattle.schedule.specs.declared.hours.RowHours.{RowHours}
 
-unfoldable pub hoursOf : RowNumbers → RowHours
-hoursOf n =
+-- days 0, 1 and 2, tried in that order: the first that lacks a time refuses the row
+unfoldable pub sunsOf : SolarDay → SolarDay → SolarDay → Suns
+sunsOf (day.Lacks n) b c = Lacks (refusal n 0)
+sunsOf (day.Whole x) (day.Lacks n) c = Lacks (refusal n 1)
+sunsOf (day.Whole x) (day.Whole y) (day.Lacks n) = Lacks (refusal n 2)
+sunsOf (day.Whole x) (day.Whole y) (day.Whole z) = Whole (record { today = x; tomorrow = y; after = z })
+
+-- a day's sun and its Fajr
+unfoldable pub dayHoursOf : HourNumbers → Float → DayHours
+dayHoursOf n fajr = record { sun = solarTimeOf n; fajr = solarHourOf fajr }
+
+-- the date's day, the next one and the sun of the one after that; and the numbers of the date's Asr and Isha
+unfoldable pub rowHoursOf : DayHours → DayHours → SolarDay → Float → Float → RowHours
+rowHoursOf today tomorrow after asr isha =
     record {
-      today = solarTimeOf (n .today);
-      tomorrow = solarTimeOf (n .tomorrow);
-      after = solarTimeOf (n .after);
-      fajr = settingHourOf (n .fajr);
-      asr = settingHourOf (n .asr);
-      isha = settingHourOf (n .isha);
-      «fajr_tomorrow» = settingHourOf (n .«fajr_tomorrow»);
+      suns = sunsOf (today .sun) (tomorrow .sun) after;
+      fajr = today .fajr;
+      asr = solarHourOf asr;
+      isha = solarHourOf isha;
+      «fajr_tomorrow» = tomorrow .fajr;
     }
+
+unfoldable pub hoursOf : RowNumbers → RowHours
+hoursOf n = rowHoursOf (dayHoursOf (n .today) (n .fajr)) (dayHoursOf (n .tomorrow) (n .«fajr_tomorrow»)) (solarTimeOf (n .after)) (n .asr) (n .isha)

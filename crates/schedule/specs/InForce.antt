@@ -1,15 +1,18 @@
 -- schedule.rs: the prayer in force at an instant, the next one, and the time until it.
-use Prim.Native.Nat.{ℕ, zero, suc, _/_}
+use mathlib.Core.Path.{_≡_}
+use mathlib.Core.Logic.{_⊎_}
+use Prim.Native.Nat.{ℕ, zero, suc, _/_, _≤_}
 use mathlib.Core.Bool.{cond}
 use lib.Dec.{eqb}
 use lib.IntN.{ℤ, pos, _+ℤ_, _-ℤ_, _*ℤ_}
 use lib.Ieee.{Float, binary64, ofInt, toUnsigned}
 use Rattle.integers.specs.Parts.{P}
+use Rattle.integers.specs.Order.{_≼_}
 use Rattle.float64.specs.Ops.{_-ᶠ_, _*ᶠ_, _/ᶠ_, dec}
 use Rattle.float64.specs.Whole.{truncOf, roundOf}
 use Rattle.models.specs.declared.prayer.Prayer.{Prayer}
 use Rattle.models.specs.declared.prayer.Prayer.the-variants.{Fajr, Sunrise, Dhuhr, Asr, Maghrib, Isha, Qiyam, FajrTomorrow}
-use Rattle.models.specs.Numbers.{prayerOf}
+use Rattle.models.specs.Numbers.{prayerNumberOf, prayerOf}
 use Rattle.schedule.specs.declared.in_force.Instant.{Instant}
 use Rattle.schedule.specs.declared.in_force.Current.{Current}
 use Rattle.schedule.specs.declared.in_force.Current.the-variants.{Some, None}
@@ -35,6 +38,10 @@ second = pos 1000000000
 unfoldable pub nanosecondsOf : Instant → ℤ
 nanosecondsOf i = i .seconds *ℤ second +ℤ pos (i .nanoseconds)
 
+-- an instant is not after another, "ordered by whole seconds, then nanoseconds": its seconds are fewer, or the same and its nanoseconds no more
+abbrev pub NotAfter : Instant → Instant → Type 0
+NotAfter j i = (j .seconds +ℤ pos 1 ≼ i .seconds) ⊎ ((j .seconds ≡ i .seconds) × (j .nanoseconds ≤ i .nanoseconds))
+
 -- whole seconds from an instant to a time; 0 where less than one is left, or the time has passed
 unfoldable pub aheadOf : ℤ → Instant → ℕ
 aheadOf t i = P (t *ℤ second -ℤ nanosecondsOf i) / 1000000000
@@ -46,6 +53,11 @@ lastOf t i (suc n) = cond (eqb (aheadOf (timeOf t (prayerOf (suc n))) i) 0) (Som
 
 abbrev pub currentTimeOf : PrayerTimes → Instant → Current
 currentTimeOf t i = lastOf t i 8
+
+-- its number in the list of eight, Fajr's 1; 0 where there is none, which stands before Fajr
+unfoldable pub currentNumberOf : Current → ℕ
+currentNumberOf (Some prayer) = prayerNumberOf prayer
+currentNumberOf None = 0
 
 -- after FajrTomorrow, FajrTomorrow
 unfoldable pub followingOf : Prayer → Prayer

@@ -1,7 +1,5 @@
 pub mod Hours
 pub mod Twilight
-pub mod Rooms
-pub mod TwilightLaws
 pub mod Times
 pub mod InForce
 pub mod Numbers

@@ -1,5 +1,5 @@
--- schedule.rs: Fajr and Isha. Each is the time of an angle, bounded by a portion of the night or by the season. Times are seconds from 0h of
--- the date.
+-- schedule.rs: Fajr and Isha, before their minutes are added. Each is the time of an angle, bounded by a portion of the night or by the season.
+-- Times are seconds from 0h of the date.
 use mathlib.Core.Bool.{Bool, _&&_, cond}
 use lib.Dec.{eqb}
 use lib.IntN.{ℤ, pos, _+ℤ_, _-ℤ_, _*ℤ_}
@@ -11,12 +11,11 @@ use Rattle.calendar.specs.declared.dates.Date.{Date}
 use Rattle.models.specs.declared.method.Method.{Method}
 use Rattle.models.specs.declared.method.Method.the-variants.{MoonsightingCommittee}
 use Rattle.models.specs.declared.parameters.Parameters.{Parameters}
-use Rattle.models.specs.declared.prayer.Prayer.the-variants.{Fajr, Isha}
 use Rattle.models.specs.declared.rounding.Rounding.the-variants.{Nearest}
 use Rattle.models.specs.Numbers.{methodNumberOf}
-use Rattle.models.specs.Settings.{nightPortionsOf, timeAdjustmentsOf}
-use Rattle.stride.specs.Times.{roundedOf, adjustedOf}
-use Rattle.night.specs.Portions.{portionBeforeOf, portionAfterOf, seventhOf}
+use Rattle.models.specs.Settings.{nightPortionsOf}
+use Rattle.stride.specs.Times.{roundedOf}
+use Rattle.night_portions.specs.Portions.{portionBeforeOf, portionAfterOf, seventhOf}
 use Rattle.ops.specs.Season.{morningSecondsOf, eveningSecondsOf}
 use Rattle.solar.specs.declared.setting.SolarHour.{SolarHour}
 use Rattle.solar.specs.declared.setting.SolarHour.the-variants.{At, None}
@@ -50,6 +49,10 @@ unfoldable pub bySeventhOf : Method → Float → Bool
 unfolding dec
 bySeventhOf method latitude = le (dec 55 0) latitude && bySeasonOf method
 
+-- the time that its bound is held against: that a seventh of the night gives, or the angle's; without a time of its own the bound serves
+unfoldable pub ownOf : Method → Float → ℤ → SolarHour → ℤ → ℤ
+ownOf method latitude seventh hour bound = cond (bySeventhOf method latitude) seventh (orOf hour bound)
+
 -- ---- Fajr
 -- from sunrise to its bound
 unfoldable pub beforeSunriseOf : Parameters → Float → Date → ℤ → ℤ
@@ -60,14 +63,11 @@ abbrev pub fajrBoundOf : Parameters → Float → Date → SolarTime → ℤ →
 fajrBoundOf p latitude date today night = today .sunrise +ℤ beforeSunriseOf p latitude date night
 
 -- the later of its angle's time and the bound
-unfoldable pub unadjustedFajrOf : Parameters → Float → Date → SolarTime → ℤ → SolarHour → ℤ
-unadjustedFajrOf p latitude date today night hour =
+unfoldable pub unadjustedFajrOf : Parameters → Float → Date → SolarTime → SolarTime → SolarHour → ℤ
+unadjustedFajrOf p latitude date today next hour =
+    let night = nightOf today next in
     let bound = fajrBoundOf p latitude date today night in
-    laterOf (cond (bySeventhOf (p .method) latitude) (today .sunrise -ℤ seventhOf night) (orOf hour bound)) bound
-
-unfoldable pub calculateFajrOf : Parameters → Float → Date → SolarTime → SolarTime → SolarHour → ℤ
-calculateFajrOf p latitude date today next hour =
-    adjustedOf (unadjustedFajrOf p latitude date today (nightOf today next) hour) (timeAdjustmentsOf p Fajr)
+    laterOf (ownOf (p .method) latitude (today .sunrise -ℤ seventhOf night) hour bound) bound
 
 -- ---- Isha
 -- only this bound is itself rounded
@@ -77,16 +77,13 @@ ishaBoundOf p latitude date today night =
     (today .sunset +ℤ portionAfterOf (nightPortionsOf p .isha) night)
 
 -- the earlier of its angle's time and the bound
-unfoldable pub boundedIshaOf : Parameters → Float → Date → SolarTime → ℤ → SolarHour → ℤ
-boundedIshaOf p latitude date today night hour =
+unfoldable pub boundedIshaOf : Parameters → Float → Date → SolarTime → SolarTime → SolarHour → ℤ
+boundedIshaOf p latitude date today next hour =
+    let night = nightOf today next in
     let bound = ishaBoundOf p latitude date today night in
-    earlierOf (cond (bySeventhOf (p .method) latitude) (today .sunset +ℤ seventhOf night) (orOf hour bound)) bound
+    earlierOf (ownOf (p .method) latitude (today .sunset +ℤ seventhOf night) hour bound) bound
 
 -- an interval above 0 replaces the rule
-unfoldable pub unadjustedIshaOf : Parameters → Float → Date → SolarTime → ℤ → SolarHour → ℤ
-unadjustedIshaOf p latitude date today night hour =
-    cond (ltZ (pos 0) (p .«isha_interval»)) (today .sunset +ℤ p .«isha_interval» *ℤ pos 60) (boundedIshaOf p latitude date today night hour)
-
-unfoldable pub calculateIshaOf : Parameters → Float → Date → SolarTime → SolarTime → SolarHour → ℤ
-calculateIshaOf p latitude date today next hour =
-    adjustedOf (unadjustedIshaOf p latitude date today (nightOf today next) hour) (timeAdjustmentsOf p Isha)
+unfoldable pub unadjustedIshaOf : Parameters → Float → Date → SolarTime → SolarTime → SolarHour → ℤ
+unadjustedIshaOf p latitude date today next hour =
+    cond (ltZ (pos 0) (p .«isha_interval»)) (today .sunset +ℤ p .«isha_interval» *ℤ pos 60) (boundedIshaOf p latitude date today next hour)

@@ -1,6 +1,7 @@
 // The hour numbers of a row from its date and place. Five positions serve the three days, and what depends on the place alone is worked once.
 ghost use mathlib.Core.Path.{_≡_};
 ghost use Rattle.schedule.specs.Numbers.{fajrNumberOf, ishaNumberOf, asrNumberOf, numbersOf};
+ghost use Rattle.solar.specs.Shared.{courseAngleNumberOf, courseAfternoonNumberOf};
 use super::hours::RowNumbers;
 use super::twilight::by_seventh;
 use calendar::dates::Date;
@@ -18,7 +19,7 @@ use unit::Coordinates;
 
 // 0.0, which has no time, where a seventh of the night takes the angle's place.
 pub fn fajr_number(parameters: Parameters, latitude: f64, sun: Course) -> f64
-    ensures { λ r. ⌜ r ≡ fajrNumberOf parameters latitude sun ⌝ }
+    ensures { λ r. ⌜ r ≡ fajrNumberOf parameters latitude (courseAngleNumberOf sun) ⌝ }
 {
     let method = parameters.method;
     if by_seventh(method, latitude) {
@@ -29,7 +30,7 @@ pub fn fajr_number(parameters: Parameters, latitude: f64, sun: Course) -> f64
 
 // 0.0 where an interval or a seventh of the night takes the angle's place.
 pub fn isha_number(parameters: Parameters, latitude: f64, sun: Course) -> f64
-    ensures { λ r. ⌜ r ≡ ishaNumberOf parameters latitude sun ⌝ }
+    ensures { λ r. ⌜ r ≡ ishaNumberOf parameters latitude (courseAngleNumberOf sun) ⌝ }
 {
     let method = parameters.method;
     if parameters.isha_interval > 0 {
@@ -42,7 +43,7 @@ pub fn isha_number(parameters: Parameters, latitude: f64, sun: Course) -> f64
 }
 
 pub fn asr_number(parameters: Parameters, latitude: f64, sun: Course) -> f64
-    ensures { λ r. ⌜ r ≡ asrNumberOf parameters latitude sun ⌝ }
+    ensures { λ r. ⌜ r ≡ asrNumberOf parameters (courseAfternoonNumberOf sun latitude) ⌝ }
 {
     let madhab = parameters.madhab;
     afternoon_number(sun, latitude, madhab.shadow() as f64)

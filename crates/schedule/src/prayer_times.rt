@@ -3,26 +3,28 @@ ghost use mathlib.Core.Path.{_≡_};
 ghost use Prim.Native.Nat.{_^_};
 ghost use lib.IntN.{_+ℤ_};
 ghost use Rattle.integers.specs.Parts.{Near};
-ghost use Rattle.models.specs.declared.prayer.Prayer.the-variants.{Sunrise, Dhuhr, Asr, Maghrib};
+ghost use Rattle.models.specs.declared.rounding.Rounding.the-variants.{Nearest};
+ghost use Rattle.models.specs.Settings.{timeAdjustmentsOf};
+ghost use Rattle.stride.specs.Times.{roundedOf, adjustedOf};
 ghost use Rattle.schedule.specs.Hours.{hoursOf};
-ghost use Rattle.schedule.specs.Twilight.{orOf};
-ghost use Rattle.schedule.specs.Times.{startOf, finalOf, finalFajrOf, finalIshaOf, fajrTomorrowOf, middleOfTheNightOf, qiyamOf, timesOf, workedFrom, workedOf};
+ghost use Rattle.schedule.specs.Times.{startOf, fajrTomorrowOf, middleOfTheNightOf, qiyamOf, fromMidnightOf, startedOf, workedOf, Each};
 use super::hours::RowHours;
 use super::hours::RowNumbers;
-use super::twilight::adjusted;
-use super::twilight::calculate_fajr;
-use super::twilight::calculate_isha;
+use super::hours::Suns;
+use super::hours::ThreeSuns;
+use super::twilight::or;
+use super::twilight::unadjusted_fajr;
+use super::twilight::unadjusted_isha;
 use calendar::dates::Date;
 use models::parameters::Parameters;
 use models::prayer::Prayer;
-use models::refusal::Refusal;
 use models::rounding::Rounding;
-use night::portions::last_third;
-use night::portions::middle;
+use night_portions::portions::last_third;
+use night_portions::portions::middle;
+use refusals::Refusal;
 use solar::setting::SolarHour;
-use solar::times::SolarDay;
 use solar::times::SolarTime;
-use solar::times::first_lack;
+use stride::times::adjust_time;
 use stride::times::rounded_minute;
 
 // In seconds from 1970-01-01 0h UTC. They stand in this order and are not sorted.
@@ -44,94 +46,21 @@ pub enum Worked {
     Refused(Refusal),
 }
 
-// 0h of a date, from 1970 on.
-fn start(date: Date) -> i64
-    ensures { λ r. ⌜ (r ≡ startOf date) × Near (2 ^ 58) r ⌝ }
-{
-    date.day_number() * 86400
+// What is counted from maghrib to tomorrow's Fajr.
+struct Night {
+    middle: i64,
+    last_third: i64,
 }
 
-// A time of the date that begins at `start`, from 1970 on.
-fn on(start: i64, time: i64) -> i64
-    requires { ⌜ Near (2 ^ 58) start × Near (2 ^ 43) time ⌝ }
-    ensures { λ r. ⌜ (r ≡ start +ℤ time) × Near (2 ^ 59) r ⌝ }
+// A prayer's own minutes and the method's are added, then the time is rounded.
+fn final_time(parameters: Parameters, prayer: Prayer, time: i64, rounding: Rounding) -> i64
+    requires { ⌜ Near (2 ^ 38) time ⌝ }
+    ensures { λ r. ⌜ (r ≡ roundedOf rounding (adjustedOf time (timeAdjustmentsOf parameters prayer))) × Near (2 ^ 40) r ⌝ }
 {
-    start + time
-}
-
-fn final_time(parameters: Parameters, prayer: Prayer, time: i32) -> i64
-    ensures { λ r. ⌜ (r ≡ finalOf parameters prayer time) × Near (2 ^ 40) r ⌝ }
-{
-    let rounding = parameters.rounding;
-    rounded_minute(adjusted(parameters, prayer, time as i64), rounding)
-}
-
-fn final_fajr(
-    parameters: Parameters,
-    latitude: f64,
-    date: Date,
-    today: SolarTime,
-    next: SolarTime,
-    hour: SolarHour,
-) -> i64
-    ensures { λ r. ⌜ (r ≡ finalFajrOf parameters latitude date today next hour) × Near (2 ^ 40) r ⌝ }
-{
-    let rounding = parameters.rounding;
     rounded_minute(
-        calculate_fajr(parameters, latitude, date, today, next, hour),
+        adjust_time(time, parameters.time_adjustments(prayer)),
         rounding,
     )
-}
-
-fn final_isha(
-    parameters: Parameters,
-    latitude: f64,
-    date: Date,
-    today: SolarTime,
-    next: SolarTime,
-    hour: SolarHour,
-) -> i64
-    ensures { λ r. ⌜ (r ≡ finalIshaOf parameters latitude date today next hour) × Near (2 ^ 40) r ⌝ }
-{
-    let rounding = parameters.rounding;
-    rounded_minute(
-        calculate_isha(parameters, latitude, date, today, next, hour),
-        rounding,
-    )
-}
-
-// Asr without a time is the transit.
-fn or_transit(asr: SolarHour, transit: i32) -> i32
-    ensures { λ r. ⌜ r ≡ orOf asr transit ⌝ }
-{
-    match asr {
-        SolarHour::At(time) => time,
-        SolarHour::None => transit,
-    }
-}
-
-fn final_sunrise(parameters: Parameters, today: SolarTime) -> i64
-    ensures { λ r. ⌜ (r ≡ finalOf parameters Sunrise (today .sunrise)) × Near (2 ^ 40) r ⌝ }
-{
-    final_time(parameters, Prayer::Sunrise, today.sunrise)
-}
-
-fn final_dhuhr(parameters: Parameters, today: SolarTime) -> i64
-    ensures { λ r. ⌜ (r ≡ finalOf parameters Dhuhr (today .transit)) × Near (2 ^ 40) r ⌝ }
-{
-    final_time(parameters, Prayer::Dhuhr, today.transit)
-}
-
-fn final_asr(parameters: Parameters, today: SolarTime, hour: SolarHour) -> i64
-    ensures { λ r. ⌜ (r ≡ finalOf parameters Asr (orOf hour (today .transit))) × Near (2 ^ 40) r ⌝ }
-{
-    final_time(parameters, Prayer::Asr, or_transit(hour, today.transit))
-}
-
-fn final_maghrib(parameters: Parameters, today: SolarTime) -> i64
-    ensures { λ r. ⌜ (r ≡ finalOf parameters Maghrib (today .sunset)) × Near (2 ^ 40) r ⌝ }
-{
-    final_time(parameters, Prayer::Maghrib, today.sunset)
 }
 
 // Adjusted and not rounded.
@@ -143,58 +72,117 @@ fn next_fajr(
     after: SolarTime,
     hour: SolarHour,
 ) -> i64
-    ensures { λ r. ⌜ (r ≡ fajrTomorrowOf parameters latitude date tomorrow after hour) × Near (2 ^ 40) r ⌝ }
+    ensures { λ r. ⌜ (r ≡ fajrTomorrowOf parameters latitude date tomorrow after hour) × Near (2 ^ 41) r ⌝ }
 {
-    calculate_fajr(parameters, latitude, date.tomorrow(), tomorrow, after, hour) + 86400
+    let fajr = unadjusted_fajr(parameters, latitude, date.tomorrow(), tomorrow, after, hour);
+    final_time(parameters, Prayer::Fajr, fajr, Rounding::None) + 86400
 }
 
-fn middle_of_the_night(maghrib: i64, tomorrow: i64) -> i64
-    requires { ⌜ Near (2 ^ 40) maghrib × Near (2 ^ 40) tomorrow ⌝ }
-    ensures { λ r. ⌜ (r ≡ middleOfTheNightOf maghrib tomorrow) × Near (2 ^ 43) r ⌝ }
+// So many seconds after maghrib, to the nearest minute.
+fn into_the_night(maghrib: i64, seconds: i64) -> i64
+    requires { ⌜ Near (2 ^ 40) maghrib × Near (2 ^ 42) seconds ⌝ }
+    ensures { λ r. ⌜ (r ≡ roundedOf Nearest (maghrib +ℤ seconds)) × Near (2 ^ 43) r ⌝ }
 {
-    rounded_minute(maghrib + middle(tomorrow - maghrib), Rounding::Nearest)
+    rounded_minute(maghrib + seconds, Rounding::Nearest)
 }
 
-fn last_third_of_the_night(maghrib: i64, tomorrow: i64) -> i64
-    requires { ⌜ Near (2 ^ 40) maghrib × Near (2 ^ 40) tomorrow ⌝ }
-    ensures { λ r. ⌜ (r ≡ qiyamOf maghrib tomorrow) × Near (2 ^ 43) r ⌝ }
+fn calculate_qiyam(maghrib: i64, fajr: i64) -> Night
+    requires { ⌜ Near (2 ^ 40) maghrib × Near (2 ^ 41) fajr ⌝ }
+    ensures { λ r. ⌜ ((r .middle ≡ middleOfTheNightOf maghrib fajr) × Near (2 ^ 43) (r .middle)) × ((r .«last_third» ≡ qiyamOf maghrib fajr) × Near (2 ^ 43) (r .«last_third»)) ⌝ }
 {
-    rounded_minute(maghrib + last_third(tomorrow - maghrib), Rounding::Nearest)
+    let night = fajr - maghrib;
+    Night {
+        middle: into_the_night(maghrib, middle(night)),
+        last_third: into_the_night(maghrib, last_third(night)),
+    }
 }
 
-fn times(
+// The nine in seconds from 0h of the date.
+fn from_midnight(
     parameters: Parameters,
     latitude: f64,
     date: Date,
-    today: SolarTime,
-    tomorrow: SolarTime,
-    after: SolarTime,
-    fajr: SolarHour,
-    asr: SolarHour,
-    isha: SolarHour,
-    fajr_tomorrow: SolarHour,
+    suns: ThreeSuns,
+    hours: RowHours,
 ) -> PrayerTimes
-    ensures { λ r. ⌜ r ≡ timesOf parameters latitude date today tomorrow after fajr asr isha «fajr_tomorrow» ⌝ }
+    ensures { λ r. ⌜ (r ≡ fromMidnightOf parameters latitude date suns hours) × Each (Near (2 ^ 43)) r ⌝ }
+{
+    let rounding = parameters.rounding;
+    let hour = hours.fajr;
+    let afternoon = hours.asr;
+    let evening = hours.isha;
+    let hour_tomorrow = hours.fajr_tomorrow;
+    let fajr = unadjusted_fajr(parameters, latitude, date, suns.today, suns.tomorrow, hour);
+    let asr = or(afternoon, suns.today.transit as i64);
+    let isha = unadjusted_isha(
+        parameters,
+        latitude,
+        date,
+        suns.today,
+        suns.tomorrow,
+        evening,
+    );
+    let maghrib = final_time(
+        parameters,
+        Prayer::Maghrib,
+        suns.today.sunset as i64,
+        rounding,
+    );
+    let fajr_tomorrow = next_fajr(
+        parameters,
+        latitude,
+        date,
+        suns.tomorrow,
+        suns.after,
+        hour_tomorrow,
+    );
+    let night = calculate_qiyam(maghrib, fajr_tomorrow);
+    PrayerTimes {
+        fajr: final_time(parameters, Prayer::Fajr, fajr, rounding),
+        sunrise: final_time(
+            parameters,
+            Prayer::Sunrise,
+            suns.today.sunrise as i64,
+            rounding,
+        ),
+        dhuhr: final_time(
+            parameters,
+            Prayer::Dhuhr,
+            suns.today.transit as i64,
+            rounding,
+        ),
+        asr: final_time(parameters, Prayer::Asr, asr, rounding),
+        maghrib: maghrib,
+        isha: final_time(parameters, Prayer::Isha, isha, rounding),
+        middle_of_the_night: night.middle,
+        qiyam: night.last_third,
+        fajr_tomorrow: fajr_tomorrow,
+    }
+}
+
+// 0h of a date, from 1970 on.
+fn start(date: Date) -> i64
+    ensures { λ r. ⌜ (r ≡ startOf date) × Near (2 ^ 58) r ⌝ }
+{
+    date.day_number() * 86400
+}
+
+// The nine from 1970 on.
+fn started(date: Date, times: PrayerTimes) -> PrayerTimes
+    requires { ⌜ Each (Near (2 ^ 43)) times ⌝ }
+    ensures { λ r. ⌜ r ≡ startedOf (startOf date) times ⌝ }
 {
     let start = start(date);
-    let maghrib = final_maghrib(parameters, today);
-    let next_fajr = next_fajr(parameters, latitude, date, tomorrow, after, fajr_tomorrow);
     PrayerTimes {
-        fajr: on(
-            start,
-            final_fajr(parameters, latitude, date, today, tomorrow, fajr),
-        ),
-        sunrise: on(start, final_sunrise(parameters, today)),
-        dhuhr: on(start, final_dhuhr(parameters, today)),
-        asr: on(start, final_asr(parameters, today, asr)),
-        maghrib: on(start, maghrib),
-        isha: on(
-            start,
-            final_isha(parameters, latitude, date, today, tomorrow, isha),
-        ),
-        middle_of_the_night: on(start, middle_of_the_night(maghrib, next_fajr)),
-        qiyam: on(start, last_third_of_the_night(maghrib, next_fajr)),
-        fajr_tomorrow: on(start, next_fajr),
+        fajr: start + times.fajr,
+        sunrise: start + times.sunrise,
+        dhuhr: start + times.dhuhr,
+        asr: start + times.asr,
+        maghrib: start + times.maghrib,
+        isha: start + times.isha,
+        middle_of_the_night: start + times.middle_of_the_night,
+        qiyam: start + times.qiyam,
+        fajr_tomorrow: start + times.fajr_tomorrow,
     }
 }
 
@@ -203,34 +191,14 @@ impl RowHours {
     pub fn work(self, date: Date, latitude: f64, parameters: Parameters) -> Worked
         ensures { λ r. ⌜ r ≡ workedOf self date latitude parameters ⌝ }
     {
-        let today = self.today;
-        let tomorrow = self.tomorrow;
-        let after = self.after;
-        let fajr = self.fajr;
-        let asr = self.asr;
-        let isha = self.isha;
-        let fajr_tomorrow = self.fajr_tomorrow;
-        let SolarDay::Whole(first) = today else {
-            return Worked::Refused(first_lack(today, tomorrow, after));
-        };
-        let SolarDay::Whole(second) = tomorrow else {
-            return Worked::Refused(first_lack(today, tomorrow, after));
-        };
-        let SolarDay::Whole(third) = after else {
-            return Worked::Refused(first_lack(today, tomorrow, after));
-        };
-        Worked::Times(times(
-            parameters,
-            latitude,
-            date,
-            first,
-            second,
-            third,
-            fajr,
-            asr,
-            isha,
-            fajr_tomorrow,
-        ))
+        let suns = self.suns;
+        match suns {
+            Suns::Whole(three) => Worked::Times(started(
+                date,
+                from_midnight(parameters, latitude, date, three, self),
+            )),
+            Suns::Lacks(refusal) => Worked::Refused(refusal),
+        }
     }
 }
 

@@ -1,29 +1,25 @@
-// schedule.rs: Fajr and Isha. Each is the time of an angle, bounded by a portion of the night or by the season. Times are seconds from 0h of the
-// date. The sun's are i32, so that an i64 holds every sum here, whatever the parameters.
+// schedule.rs: Fajr and Isha, before their minutes are added. Each is the time of an angle, bounded by a portion of the night or by the season. Times
+// are seconds from 0h of the date. The sun's are i32, so that an i64 holds every sum here, whatever the parameters.
 ghost use mathlib.Core.Path.{_≡_};
 ghost use Prim.Native.Nat.{_^_};
 ghost use lib.IntN.{_+ℤ_};
 ghost use Rattle.integers.specs.Parts.{Near};
-ghost use Rattle.stride.specs.Times.{adjustedOf};
-ghost use Rattle.models.specs.Settings.{timeAdjustmentsOf};
-ghost use Rattle.schedule.specs.Twilight.{nightOf, laterOf, earlierOf, orOf, bySeasonOf, bySeventhOf, beforeSunriseOf, fajrBoundOf, unadjustedFajrOf, calculateFajrOf, ishaBoundOf, boundedIshaOf, unadjustedIshaOf, calculateIshaOf};
+ghost use Rattle.schedule.specs.Twilight.{nightOf, laterOf, earlierOf, orOf, bySeasonOf, bySeventhOf, ownOf, fajrBoundOf, unadjustedFajrOf, ishaBoundOf, boundedIshaOf, unadjustedIshaOf};
 use calendar::dates::Date;
 use models::method::Method;
 use models::parameters::Parameters;
-use models::prayer::Prayer;
 use models::rounding::Rounding;
-use night::portions::portion_after;
-use night::portions::portion_before;
-use night::portions::seventh;
+use night_portions::portions::portion_after;
+use night_portions::portions::portion_before;
+use night_portions::portions::seventh;
 use ops::season::evening_twilight_seconds;
 use ops::season::morning_twilight_seconds;
 use solar::setting::SolarHour;
 use solar::times::SolarTime;
-use stride::times::adjust_time;
 use stride::times::rounded_minute;
 
 fn sum(a: i32, b: i32) -> i64
-    ensures { λ r. ⌜ r ≡ a +ℤ b ⌝ }
+    ensures { λ r. ⌜ (r ≡ a +ℤ b) × Near (2 ^ 32) r ⌝ }
 {
     a as i64 + b as i64
 }
@@ -36,7 +32,8 @@ fn night(today: SolarTime, next: SolarTime) -> i64
 }
 
 fn later(a: i64, b: i64) -> i64
-    ensures { λ r. ⌜ r ≡ laterOf a b ⌝ }
+    requires { ⌜ Near (2 ^ 38) a × Near (2 ^ 38) b ⌝ }
+    ensures { λ r. ⌜ (r ≡ laterOf a b) × Near (2 ^ 38) r ⌝ }
 {
     if a < b {
         return b;
@@ -45,7 +42,8 @@ fn later(a: i64, b: i64) -> i64
 }
 
 fn earlier(a: i64, b: i64) -> i64
-    ensures { λ r. ⌜ r ≡ earlierOf a b ⌝ }
+    requires { ⌜ Near (2 ^ 38) a × Near (2 ^ 38) b ⌝ }
+    ensures { λ r. ⌜ (r ≡ earlierOf a b) × Near (2 ^ 38) r ⌝ }
 {
     if b < a {
         return b;
@@ -54,9 +52,9 @@ fn earlier(a: i64, b: i64) -> i64
 }
 
 // An hour's time; without one, the other serves.
-fn or(hour: SolarHour, other: i64) -> i64
-    requires { ⌜ Near (2 ^ 34) other ⌝ }
-    ensures { λ r. ⌜ (r ≡ orOf hour other) × Near (2 ^ 34) r ⌝ }
+pub fn or(hour: SolarHour, other: i64) -> i64
+    requires { ⌜ Near (2 ^ 38) other ⌝ }
+    ensures { λ r. ⌜ (r ≡ orOf hour other) × Near (2 ^ 38) r ⌝ }
 {
     match hour {
         SolarHour::At(time) => time as i64,
@@ -81,27 +79,36 @@ pub fn by_seventh(method: Method, latitude: f64) -> bool
     false
 }
 
-// A time with a prayer's own minutes and the method's.
-pub fn adjusted(parameters: Parameters, prayer: Prayer, time: i64) -> i64
-    requires { ⌜ Near (2 ^ 38) time ⌝ }
-    ensures { λ r. ⌜ (r ≡ adjustedOf time (timeAdjustmentsOf parameters prayer)) × Near (2 ^ 39) r ⌝ }
+// The time that a bound is held against: what a seventh of the night gives, or the angle's.
+fn own(method: Method, latitude: f64, seventh: i64, hour: SolarHour, bound: i64) -> i64
+    requires { ⌜ Near (2 ^ 38) seventh × Near (2 ^ 38) bound ⌝ }
+    ensures { λ r. ⌜ (r ≡ ownOf method latitude seventh hour bound) × Near (2 ^ 38) r ⌝ }
 {
-    adjust_time(time, parameters.time_adjustments(prayer))
+    if by_seventh(method, latitude) {
+        return seventh;
+    }
+    or(hour, bound)
 }
 
-// From sunrise to the bound of Fajr.
-fn before_sunrise(parameters: Parameters, latitude: f64, date: Date, night: i64) -> i32
-    ensures { λ r. ⌜ r ≡ beforeSunriseOf parameters latitude date night ⌝ }
+fn fajr_bound(
+    parameters: Parameters,
+    latitude: f64,
+    date: Date,
+    today: SolarTime,
+    night: i64,
+) -> i64
+    ensures { λ r. ⌜ (r ≡ fajrBoundOf parameters latitude date today night) × Near (2 ^ 38) r ⌝ }
 {
     let method = parameters.method;
     if by_season(method) {
-        return morning_twilight_seconds(latitude, date.ordinal(), date.year);
+        let seconds = morning_twilight_seconds(latitude, date.ordinal(), date.year);
+        return sum(today.sunrise, seconds);
     }
     let portions = parameters.night_portions();
-    portion_before(portions.fajr, night)
+    sum(today.sunrise, portion_before(portions.fajr, night))
 }
 
-fn unadjusted_fajr(
+pub fn unadjusted_fajr(
     parameters: Parameters,
     latitude: f64,
     date: Date,
@@ -109,36 +116,13 @@ fn unadjusted_fajr(
     next: SolarTime,
     hour: SolarHour,
 ) -> i64
-    ensures { λ r. ⌜ (r ≡ unadjustedFajrOf parameters latitude date today (nightOf today next) hour) × Near (2 ^ 34) r ⌝ }
+    ensures { λ r. ⌜ (r ≡ unadjustedFajrOf parameters latitude date today next hour) × Near (2 ^ 38) r ⌝ }
 {
     let method = parameters.method;
     let night = night(today, next);
-    let bound = sum(
-        today.sunrise,
-        before_sunrise(parameters, latitude, date, night),
-    );
-    if by_seventh(method, latitude) {
-        let fajr = today.sunrise as i64 - seventh(night);
-        return later(fajr, bound);
-    }
-    later(or(hour, bound), bound)
-}
-
-pub fn calculate_fajr(
-    parameters: Parameters,
-    latitude: f64,
-    date: Date,
-    today: SolarTime,
-    next: SolarTime,
-    hour: SolarHour,
-) -> i64
-    ensures { λ r. ⌜ (r ≡ calculateFajrOf parameters latitude date today next hour) × Near (2 ^ 39) r ⌝ }
-{
-    adjusted(
-        parameters,
-        Prayer::Fajr,
-        unadjusted_fajr(parameters, latitude, date, today, next, hour),
-    )
+    let bound = fajr_bound(parameters, latitude, date, today, night);
+    let by_night = today.sunrise as i64 - seventh(night);
+    later(own(method, latitude, by_night, hour, bound), bound)
 }
 
 fn isha_bound(
@@ -148,7 +132,7 @@ fn isha_bound(
     today: SolarTime,
     night: i64,
 ) -> i64
-    ensures { λ r. ⌜ (r ≡ ishaBoundOf parameters latitude date today night) × Near (2 ^ 34) r ⌝ }
+    ensures { λ r. ⌜ (r ≡ ishaBoundOf parameters latitude date today night) × Near (2 ^ 38) r ⌝ }
 {
     let method = parameters.method;
     if by_season(method) {
@@ -169,19 +153,16 @@ fn bounded_isha(
     next: SolarTime,
     hour: SolarHour,
 ) -> i64
-    ensures { λ r. ⌜ (r ≡ boundedIshaOf parameters latitude date today (nightOf today next) hour) × Near (2 ^ 34) r ⌝ }
+    ensures { λ r. ⌜ (r ≡ boundedIshaOf parameters latitude date today next hour) × Near (2 ^ 38) r ⌝ }
 {
     let method = parameters.method;
     let night = night(today, next);
     let bound = isha_bound(parameters, latitude, date, today, night);
-    if by_seventh(method, latitude) {
-        let isha = today.sunset as i64 + seventh(night);
-        return earlier(isha, bound);
-    }
-    earlier(or(hour, bound), bound)
+    let by_night = today.sunset as i64 + seventh(night);
+    earlier(own(method, latitude, by_night, hour, bound), bound)
 }
 
-fn unadjusted_isha(
+pub fn unadjusted_isha(
     parameters: Parameters,
     latitude: f64,
     date: Date,
@@ -189,27 +170,10 @@ fn unadjusted_isha(
     next: SolarTime,
     hour: SolarHour,
 ) -> i64
-    ensures { λ r. ⌜ (r ≡ unadjustedIshaOf parameters latitude date today (nightOf today next) hour) × Near (2 ^ 38) r ⌝ }
+    ensures { λ r. ⌜ (r ≡ unadjustedIshaOf parameters latitude date today next hour) × Near (2 ^ 38) r ⌝ }
 {
     if parameters.isha_interval > 0 {
         return today.sunset as i64 + parameters.isha_interval as i64 * 60;
     }
     bounded_isha(parameters, latitude, date, today, next, hour)
-}
-
-pub fn calculate_isha(
-    parameters: Parameters,
-    latitude: f64,
-    date: Date,
-    today: SolarTime,
-    next: SolarTime,
-    hour: SolarHour,
-) -> i64
-    ensures { λ r. ⌜ (r ≡ calculateIshaOf parameters latitude date today next hour) × Near (2 ^ 39) r ⌝ }
-{
-    adjusted(
-        parameters,
-        Prayer::Isha,
-        unadjusted_isha(parameters, latitude, date, today, next, hour),
-    )
 }

@@ -6,8 +6,9 @@ use native.Mathlib.Omega.{arith}
 use lib.Dec.{lit≤}
 use lib.IntN.{pos}
 use lib.Ieee.{round, le}
-use Rattle.integers.specs.Parts.{Near}
-use Rattle.integers.specs.Sums.{flip}
+use Rattle.integers.specs.Parts.{Between, Near}
+use Rattle.integers.proofs.Sums.{flip}
+use Rattle.integers.proofs.Intervals.{wider, sum-between}
 use Rattle.float64.specs.Ops.{dec}
 use Rattle.models.specs.declared.adjustments.TimeAdjustment.{TimeAdjustment}
 use Rattle.models.specs.declared.method.Method.{Method}
@@ -20,8 +21,6 @@ use Rattle.models.specs.declared.rounding.Rounding.the-variants.{Nearest, Up}
 use Rattle.models.specs.Minutes.{noMinutes}
 use Rattle.models.specs.Presets.{preset, presetOf, offset}
 use Rattle.models.specs.Settings.{minutesFor, timeAdjustmentsOf}
-use Rattle.schedule.specs.Rooms.{near-more}
-use Rattle.schedule.specs.TwilightLaws.{sum-near}
 use Rattle.schedule_laws.specs.Carried.{AngleInOrder, Carried}
 
 -- six minutes in range
@@ -34,24 +33,24 @@ minutes-near n m f s d a g i Dhuhr = d
 minutes-near n m f s d a g i Asr = a
 minutes-near n m f s d a g i Maghrib = g
 minutes-near n m f s d a g i Isha = i
-minutes-near n m f s d a g i Qiyam = (omega arith, omega arith)
-minutes-near n m f s d a g i FajrTomorrow = (omega arith, omega arith)
+minutes-near n m f s d a g i Qiyam = record { from = omega arith; to = omega arith }
+minutes-near n m f s d a g i FajrTomorrow = record { from = omega arith; to = omega arith }
 
 nothing : Near 720 (pos 0)
-nothing = (lit≤ tt, lit≤ tt)
+nothing = record { from = lit≤ tt; to = lit≤ tt }
 
 preset-carried : (method : Method) (fajr isha maghrib interval sunrise dhuhr asr sunset : ℕ) (rounding : Rounding) → AngleInOrder (dec fajr 1) → AngleInOrder (dec isha 1) → interval ≤ 1440
     → sunrise ≤ 7 → dhuhr ≤ 7 → asr ≤ 7 → sunset ≤ 7 → Carried (preset method fajr isha maghrib interval (offset sunrise dhuhr asr sunset) rounding)
 unfolding preset
 preset-carried method fajr isha maghrib interval sunrise dhuhr asr sunset rounding f i v s d a m =
     let g = flip (pos sunrise) in
-    let none : Near 7 (pos 0) = (lit≤ tt, lit≤ tt) in
+    let none : Near 7 (pos 0) = record { from = lit≤ tt; to = lit≤ tt } in
     record {
       «fajr_angle» = f;
       «isha_angle» = i;
-      «isha_interval» = (v, lit≤ tt);
+      «isha_interval» = record { from = lit≤ tt; to = v };
       own = minutes-near 720 noMinutes nothing nothing nothing nothing nothing nothing;
-      preset = minutes-near 7 (offset sunrise dhuhr asr sunset) none (omega arith, omega arith) (d, lit≤ tt) (a, lit≤ tt) (m, lit≤ tt) none;
+      preset = minutes-near 7 (offset sunrise dhuhr asr sunset) none (record { from = omega arith; to = omega arith }) (record { from = lit≤ tt; to = d }) (record { from = lit≤ tt; to = a }) (record { from = lit≤ tt; to = m }) none;
     }
 
 pub presets-carried : (method : Method) → Carried (presetOf method)
@@ -72,7 +71,7 @@ presets-carried Other = preset-carried Other 0 0 0 0 0 0 0 0 Nearest (refl, refl
 
 -- what the tags set is in range, and the method's minutes are those of parameters that an order carries
 pub still-carried : (p q : Parameters) → Carried p → q .«method_adjustments» ≡ p .«method_adjustments» → AngleInOrder (q .«fajr_angle») → AngleInOrder (q .«isha_angle»)
-    → Near 1440 (q .«isha_interval») → ((prayer : Prayer) → Near 720 (minutesFor prayer (q .adjustments))) → Carried q
+    → Between 0 1440 (q .«isha_interval») → ((prayer : Prayer) → Near 720 (minutesFor prayer (q .adjustments))) → Carried q
 still-carried p q c e f i v own =
     record {
       «fajr_angle» = f;
@@ -82,6 +81,10 @@ still-carried p q c e f i v own =
       preset = λ (prayer : Prayer). subst (λ (m : TimeAdjustment). Near 7 (minutesFor prayer m)) (sym e) (c .preset prayer);
     }
 
--- their sums are such that the laws of later minutes hold of them
+-- their sums, and that they are such that the laws of later minutes hold of them
+pub carried-minutes : (p : Parameters) → Carried p → (prayer : Prayer) → Near 727 (timeAdjustmentsOf p prayer)
+unfolding timeAdjustmentsOf
+carried-minutes p c prayer = sum-between (c .own prayer) (c .preset prayer)
+
 pub carried-held : (p : Parameters) → Carried p → (prayer : Prayer) → Near (2 ^ 32) (timeAdjustmentsOf p prayer)
-carried-held p c prayer = near-more 727 (2 ^ 32) (timeAdjustmentsOf p prayer) (lit≤ tt) (sum-near 720 7 p prayer (c .own prayer) (c .preset prayer))
+carried-held p c prayer = wider (carried-minutes p c prayer) (lit≤ tt) (lit≤ tt)

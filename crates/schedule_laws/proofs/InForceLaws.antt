@@ -1,14 +1,17 @@
 -- The prayer in force where no time is earlier and the instant is not after: what is due under the second is due under the first. Assumes nothing.
 use mathlib.Core.Path.{_≡_, refl, ap}
 use mathlib.Core.Bool.{Bool, true, false, cond}
-use mathlib.Core.Logic.{_⊎_, ⊎-elim}
-use Prim.Native.Nat.{ℕ, zero, suc, _+_, _*_, _≤_}
+use mathlib.Core.Logic.{_⊎_, inl, inr, ⊎-elim}
+use Prim.Native.Nat.{ℕ, zero, suc, _+_, _*_, _≤_, _<_}
 use native.Mathlib.Omega.{arith}
 use lib.Dec.{eqb, eqb→eq, lit≤}
 use lib.IntN.{ℤ, pos, negsuc, _+ℤ_, _-ℤ_, _*ℤ_}
+use lib.Signed.{ltZ}
 use borrow.Author.Tests.{eqb-true, eqb-false}
 use Rattle.integers.specs.Parts.{P, N}
-use Rattle.integers.specs.Sums.{sum, difference, times}
+use Rattle.integers.proofs.PartsLaws.{same}
+use Rattle.integers.proofs.Sums.{sum, difference, times}
+use Rattle.integers.proofs.OrderLaws.{lt-yes, lt-no}
 use Rattle.integers.specs.Order.{_≼_}
 use Rattle.calendar.proofs.Computed.{at}
 use Rattle.models.specs.declared.prayer.Prayer.{Prayer}
@@ -17,20 +20,47 @@ use Rattle.models.specs.Numbers.{prayerNumberOf, prayerOf}
 use Rattle.schedule.specs.declared.in_force.Instant.{Instant}
 use Rattle.schedule.specs.declared.in_force.Current.the-variants.{Some}
 use Rattle.schedule.specs.declared.prayer_times.PrayerTimes.{PrayerTimes}
-use Rattle.schedule.specs.InForce.{timeOf, second, nanosecondsOf, aheadOf, lastOf, currentTimeOf}
-use Rattle.schedule_laws.specs.Later.{NoneEarlier, placeOf, NotAfter, NotAfterByParts}
+use Rattle.schedule.specs.InForce.{timeOf, second, nanosecondsOf, NotAfter, aheadOf, lastOf, currentTimeOf, currentNumberOf}
+use Rattle.schedule_laws.specs.Later.{NoneEarlier, NotAfterByNanoseconds}
 
-pub not-after-by-parts : NotAfterByParts
-unfolding nanosecondsOf
-not-after-by-parts j i h o =
-    let a = times (j .seconds) 1000000000 in
-    let b = times (i .seconds) 1000000000 in
-    let c = sum (j .seconds *ℤ second) (pos (j .nanoseconds)) in
-    let d = sum (i .seconds *ℤ second) (pos (i .nanoseconds)) in
-    let e = sum (j .seconds) (pos 1) in
-    ⊎-elim (λ (l : j .seconds +ℤ pos 1 ≼ i .seconds). omega arith)
-    (λ (l : (j .seconds ≡ i .seconds) × (j .nanoseconds ≤ i .nanoseconds)). let x = ap P (l .0) in let y = ap N (l .0) in omega (arith, l .1))
-    o
+-- ---- "not after", by parts and by nanoseconds
+module _ (j i : Instant) where
+  pub to-nanoseconds : j .nanoseconds < 1000000000 → NotAfter j i → nanosecondsOf j ≼ nanosecondsOf i
+  unfolding nanosecondsOf
+  to-nanoseconds h o =
+      let a = times (j .seconds) 1000000000 in
+      let b = times (i .seconds) 1000000000 in
+      let c = sum (j .seconds *ℤ second) (pos (j .nanoseconds)) in
+      let d = sum (i .seconds *ℤ second) (pos (i .nanoseconds)) in
+      let e = sum (j .seconds) (pos 1) in
+      ⊎-elim (λ (l : j .seconds +ℤ pos 1 ≼ i .seconds). omega arith)
+      (λ (l : (j .seconds ≡ i .seconds) × (j .nanoseconds ≤ i .nanoseconds)). let x = ap P (l .0) in let y = ap N (l .0) in omega (arith, l .1))
+      o
+
+  from-nanoseconds : i .nanoseconds < 1000000000 → nanosecondsOf j ≼ nanosecondsOf i → NotAfter j i
+  unfolding nanosecondsOf
+  from-nanoseconds h o = by-tests (ltZ (j .seconds) (i .seconds)) (ltZ (i .seconds) (j .seconds)) refl refl
+    where
+      by-tests : (b c : Bool) → ltZ (j .seconds) (i .seconds) ≡ b → ltZ (i .seconds) (j .seconds) ≡ c → NotAfter j i
+      by-tests true c p q = let l = lt-yes (j .seconds) (i .seconds) p in let e = sum (j .seconds) (pos 1) in inl (omega arith)
+      by-tests false true p q =
+          let l = lt-yes (i .seconds) (j .seconds) q in
+          let a = times (j .seconds) 1000000000 in
+          let b = times (i .seconds) 1000000000 in
+          let c = sum (j .seconds *ℤ second) (pos (j .nanoseconds)) in
+          let d = sum (i .seconds *ℤ second) (pos (i .nanoseconds)) in
+          absurd (omega arith)
+      by-tests false false p q =
+          let l = lt-no (j .seconds) (i .seconds) p in
+          let m = lt-no (i .seconds) (j .seconds) q in
+          let a = times (j .seconds) 1000000000 in
+          let b = times (i .seconds) 1000000000 in
+          let c = sum (j .seconds *ℤ second) (pos (j .nanoseconds)) in
+          let d = sum (i .seconds *ℤ second) (pos (i .nanoseconds)) in
+          inr (same (j .seconds) (i .seconds) (omega arith), omega arith)
+
+pub not-after-by-nanoseconds : NotAfterByNanoseconds
+not-after-by-nanoseconds j i h k = (to-nanoseconds j i h, from-nanoseconds j i k)
 
 -- ---- the whole seconds that lie ahead
 positive-grows : (x y : ℤ) → x ≼ y → P x ≤ P y
@@ -38,7 +68,7 @@ positive-grows (pos a) (pos b) h = omega arith
 positive-grows (pos a) (negsuc b) h = omega arith
 positive-grows (negsuc a) y h = omega arith
 
-ahead-grows : (s t : ℤ) (i j : Instant) → s ≼ t → NotAfter j i → aheadOf s i ≤ aheadOf t j
+ahead-grows : (s t : ℤ) (i j : Instant) → s ≼ t → nanosecondsOf j ≼ nanosecondsOf i → aheadOf s i ≤ aheadOf t j
 unfolding aheadOf
 ahead-grows s t i j h k =
     let a = times s 1000000000 in
@@ -68,23 +98,23 @@ unfolding placeTest prayerNumberOf prayerOf
 place-is n h = eqb→eq _ _ (at placeTest 8 tt n h)
 
 -- no prayer of the first n stands after the n-th place
-first-places : (t : PrayerTimes) (i : Instant) (n : ℕ) → n ≤ 8 → placeOf (lastOf t i n) ≤ n
-unfolding lastOf
+first-places : (t : PrayerTimes) (i : Instant) (n : ℕ) → n ≤ 8 → currentNumberOf (lastOf t i n) ≤ n
+unfolding lastOf currentNumberOf
 first-places t i zero h = lit≤ tt
 first-places t i (suc n) h = by-test (eqb (aheadOf (timeOf t (prayerOf (suc n))) i) 0) (first-places t i n (omega arith))
   where
-    by-test : (b : Bool) → placeOf (lastOf t i n) ≤ n → placeOf (cond b (Some (prayerOf (suc n))) (lastOf t i n)) ≤ suc n
+    by-test : (b : Bool) → currentNumberOf (lastOf t i n) ≤ n → currentNumberOf (cond b (Some (prayerOf (suc n))) (lastOf t i n)) ≤ suc n
     by-test true before = omega (arith, place-is n h)
     by-test false before = omega arith
 
-module _ (t u : PrayerTimes) (i j : Instant) (h : NoneEarlier t u) (k : NotAfter j i) where
-  places : (n : ℕ) → n ≤ 8 → placeOf (lastOf u j n) ≤ placeOf (lastOf t i n)
-  unfolding lastOf
+module _ (t u : PrayerTimes) (i j : Instant) (h : NoneEarlier t u) (k : nanosecondsOf j ≼ nanosecondsOf i) where
+  places : (n : ℕ) → n ≤ 8 → currentNumberOf (lastOf u j n) ≤ currentNumberOf (lastOf t i n)
+  unfolding lastOf currentNumberOf
   places zero l = lit≤ tt
   places (suc n) l = by-tests (eqb (aheadOf (timeOf u (prayerOf (suc n))) j) 0) (eqb (aheadOf (timeOf t (prayerOf (suc n))) i) 0) refl refl (places n (omega arith))
     where
-      by-tests : (b c : Bool) → eqb (aheadOf (timeOf u (prayerOf (suc n))) j) 0 ≡ b → eqb (aheadOf (timeOf t (prayerOf (suc n))) i) 0 ≡ c → placeOf (lastOf u j n) ≤ placeOf (lastOf t i n)
-          → placeOf (cond b (Some (prayerOf (suc n))) (lastOf u j n)) ≤ placeOf (cond c (Some (prayerOf (suc n))) (lastOf t i n))
+      by-tests : (b c : Bool) → eqb (aheadOf (timeOf u (prayerOf (suc n))) j) 0 ≡ b → eqb (aheadOf (timeOf t (prayerOf (suc n))) i) 0 ≡ c → currentNumberOf (lastOf u j n) ≤ currentNumberOf (lastOf t i n)
+          → currentNumberOf (cond b (Some (prayerOf (suc n))) (lastOf u j n)) ≤ currentNumberOf (cond c (Some (prayerOf (suc n))) (lastOf t i n))
       by-tests true true p q before = omega arith
       by-tests true false p q before =
           let g = ahead-grows (timeOf t (prayerOf (suc n))) (timeOf u (prayerOf (suc n))) i j (time-grows t u h (prayerOf (suc n))) k in
@@ -93,5 +123,5 @@ module _ (t u : PrayerTimes) (i j : Instant) (h : NoneEarlier t u) (k : NotAfter
       by-tests false true p q before = omega (arith, first-places u j n (omega arith), place-is n l)
       by-tests false false p q before = before
 
-pub in-force-no-later : (t u : PrayerTimes) (i j : Instant) → NoneEarlier t u → NotAfter j i → placeOf (currentTimeOf u j) ≤ placeOf (currentTimeOf t i)
+pub in-force-no-later : (t u : PrayerTimes) (i j : Instant) → NoneEarlier t u → nanosecondsOf j ≼ nanosecondsOf i → currentNumberOf (currentTimeOf u j) ≤ currentNumberOf (currentTimeOf t i)
 in-force-no-later t u i j h k = places t u i j h k 8 (lit≤ tt)

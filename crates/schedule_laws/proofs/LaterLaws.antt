@@ -1,6 +1,6 @@
 -- What a school's later minutes do to a day: the statement of specs/Later. Assumes nothing.
 use mathlib.Core.Path.{_≡_, refl, sym, ap, subst, _∙_}
-use Prim.Native.Nat.{ℕ, _^_}
+use Prim.Native.Nat.{ℕ, _^_, _<_}
 use native.Mathlib.Omega.{arith}
 use lib.Ieee.{Float}
 use Rattle.integers.specs.Parts.{Near}
@@ -9,25 +9,24 @@ use Rattle.calendar.specs.declared.dates.Date.{Date}
 use Rattle.models.specs.declared.adjustments.TimeAdjustment.{TimeAdjustment}
 use Rattle.models.specs.declared.parameters.Parameters.{Parameters}
 use Rattle.models.specs.declared.prayer.Prayer.{Prayer}
-use Rattle.models.specs.declared.refusal.Refusal.{Refusal}
+use Rattle.refusals.specs.declared.Refusal.{Refusal}
 use Rattle.models.specs.Settings.{timeAdjustmentsOf}
-use Rattle.solar.specs.declared.times.SolarDay.{SolarDay}
-use Rattle.solar.specs.declared.times.SolarDay.the-variants.{Whole, Lacks}
-use Rattle.solar.specs.Times.{solarTimeOf}
 use Rattle.unit.specs.declared.Coordinates.{Coordinates}
+use Rattle.schedule.specs.declared.hours.Suns.{Suns}
+use Rattle.schedule.specs.declared.hours.Suns.the-variants.{Whole, Lacks}
 use Rattle.schedule.specs.declared.hours.RowHours.{RowHours}
 use Rattle.schedule.specs.declared.hours.RowNumbers.{RowNumbers}
 use Rattle.schedule.specs.declared.prayer_times.PrayerTimes.{PrayerTimes}
 use Rattle.schedule.specs.declared.prayer_times.Worked.the-variants.{Times, Refused}
 use Rattle.schedule.specs.Hours.{hoursOf}
+use Rattle.schedule.specs.InForce.{NotAfter}
 use Rattle.schedule.specs.Numbers.{fajrNumberOf, ishaNumberOf, asrNumberOf, numbersOf}
 use Rattle.schedule.specs.Times.{workedFrom, workedOf}
-use Rattle.schedule_laws.specs.Later.{withMinutes, NoneEarlier, ExactlyLater, NotAfter, Moved, LaterMinutesMoveTheDay, LaterMinutesMoveTheRow}
-use Rattle.schedule_laws.proofs.Spans.{BetweenHour}
-use Rattle.schedule_laws.proofs.SunSpans.{DaySpan, hour-span, day-span}
+use Rattle.schedule_laws.specs.Later.{withMinutes, NoneEarlier, ExactlyLater, Moved, LaterMinutesMoveTheDay, LaterMinutesMoveTheRow}
+use Rattle.schedule_laws.proofs.SunSpans.{SunHour, Row, hours}
 use Rattle.schedule.specs.declared.in_force.Instant.{Instant}
 use Rattle.schedule_laws.proofs.Moves.{exactly, none-earlier}
-use Rattle.schedule_laws.proofs.InForceLaws.{in-force-no-later}
+use Rattle.schedule_laws.proofs.InForceLaws.{to-nanoseconds, in-force-no-later}
 
 -- ---- the day, refused or worked
 refused-alike : (p q : Parameters) (x : Refusal) → Moved p q (Refused x) (Refused x)
@@ -49,29 +48,24 @@ worked-alike p q x y none exact =
           let a : x ≡ t = cc in let b : y ≡ u = cc in subst (λ (k : PrayerTimes). NoneEarlier t k) b (subst (λ (k : PrayerTimes). NoneEarlier k y) a none);
       «exactly_later» = λ (t u : PrayerTimes) (e : Times x ≡ Times t) (f : Times y ≡ Times u).
           let a : x ≡ t = cc in let b : y ≡ u = cc in subst (λ (k : PrayerTimes). ExactlyLater p q t k) b (subst (λ (k : PrayerTimes). ExactlyLater p q k y) a exact);
-      «in_force» = λ (t u : PrayerTimes) (e : Times x ≡ Times t) (f : Times y ≡ Times u) (i j : Instant) (l : NotAfter j i).
+      «in_force» = λ (t u : PrayerTimes) (e : Times x ≡ Times t) (f : Times y ≡ Times u) (i j : Instant) (h : j .nanoseconds < 1000000000) (l : NotAfter j i).
           let a : x ≡ t = cc in
           let b : y ≡ u = cc in
-          in-force-no-later t u i j (subst (λ (k : PrayerTimes). NoneEarlier t k) b (subst (λ (k : PrayerTimes). NoneEarlier k y) a none)) l;
+          in-force-no-later t u i j (subst (λ (k : PrayerTimes). NoneEarlier t k) b (subst (λ (k : PrayerTimes). NoneEarlier k y) a none)) (to-nanoseconds j i h l);
     }
 
 module _ (p : Parameters) (minutes : TimeAdjustment) (more : (prayer : Prayer) → timeAdjustmentsOf p prayer ≼ timeAdjustmentsOf (withMinutes p minutes) prayer)
     (held : (prayer : Prayer) → Near (2 ^ 32) (timeAdjustmentsOf p prayer)) (held-q : (prayer : Prayer) → Near (2 ^ 32) (timeAdjustmentsOf (withMinutes p minutes) prayer))
     (latitude : Float) (date : Date) where
-  by-suns : (a b c : SolarDay) (h : RowHours) → DaySpan a → DaySpan b → DaySpan c → BetweenHour 86400 172799 (h .«fajr_tomorrow»)
-      → Moved p (withMinutes p minutes) (workedFrom a b c h date latitude p) (workedFrom a b c h date latitude (withMinutes p minutes))
+  by-suns : (s : Suns) (h : RowHours) → Row s → SunHour (h .«fajr_tomorrow») → Moved p (withMinutes p minutes) (workedFrom s h date latitude p) (workedFrom s h date latitude (withMinutes p minutes))
   unfolding workedFrom
-  by-suns (Lacks n) b c h x y z k = refused-alike p (withMinutes p minutes) _
-  by-suns (Whole a) (Lacks n) c h x y z k = refused-alike p (withMinutes p minutes) _
-  by-suns (Whole a) (Whole b) (Lacks n) h x y z k = refused-alike p (withMinutes p minutes) _
-  by-suns (Whole a) (Whole b) (Whole c) h x y z k =
-      worked-alike p (withMinutes p minutes) _ _ (none-earlier p minutes latitude date a b c (h .fajr) (h .asr) (h .isha) (h .«fajr_tomorrow») more held held-q x y z k)
-      (exactly p minutes latitude date a b c (h .fajr) (h .asr) (h .isha) (h .«fajr_tomorrow»))
+  by-suns (Lacks r) h x k = refused-alike p (withMinutes p minutes) r
+  by-suns (Whole suns) h x k =
+      worked-alike p (withMinutes p minutes) _ _ (none-earlier p minutes latitude date suns h more held held-q x k) (exactly p minutes latitude date suns h)
 
   by-numbers : (n : RowNumbers) → Moved p (withMinutes p minutes) (workedOf (hoursOf n) date latitude p) (workedOf (hoursOf n) date latitude (withMinutes p minutes))
-  unfolding workedOf hoursOf
-  by-numbers n =
-      by-suns (solarTimeOf (n .today)) (solarTimeOf (n .tomorrow)) (solarTimeOf (n .after)) (hoursOf n) (day-span (n .today)) (day-span (n .tomorrow)) (day-span (n .after)) (hour-span (n .«fajr_tomorrow»))
+  unfolding workedOf
+  by-numbers n = let h = hours n in by-suns (hoursOf n .suns) (hoursOf n) (h .suns) (h .«fajr_tomorrow»)
 
 pub later-minutes-move-the-day : LaterMinutesMoveTheDay
 later-minutes-move-the-day n date latitude p q h =

@@ -1,9 +1,8 @@
 pub mod Spans
 pub mod SunSpans
-pub mod RangeLaws
 pub mod CarriedLaws
+pub mod RangeLaws
 pub mod InForceLaws
 pub mod Moves
 pub mod LaterLaws
 pub mod StartLaws
-pub mod RowSunsLaws

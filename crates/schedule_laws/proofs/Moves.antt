@@ -1,14 +1,18 @@
 -- Where a school's minutes are later and nothing else changes: each time is later by exactly their seconds, and none of the nine is earlier. Assumes
 -- nothing.
 use mathlib.Core.Path.{_≡_, refl, sym, ap, subst, _∙_}
-use Prim.Native.Nat.{_+_, _*_, _^_, _≤_}
+use Prim.Native.Nat.{_+_, _*_, _^_, _≤_, _<_}
 use native.Mathlib.Omega.{arith}
 use lib.Dec.{lit≤}
-use lib.IntN.{ℤ, pos, _+ℤ_, _-ℤ_, _*ℤ_, +ℤ-assoc}
-use lib.Ieee.{Float}
-use Rattle.integers.specs.Parts.{same, Near}
-use Rattle.integers.specs.Sums.{sum, difference, times}
+use lib.IntN.{ℤ, pos, negsuc, _+ℤ_, _-ℤ_, _*ℤ_, +ℤ-assoc}
+use lib.Signed.{mag}
+use lib.Ieee.{Float, toSigned}
+use lib.Ieee.Casts.{toSigned-in}
+use Rattle.integers.specs.Parts.{Near}
 use Rattle.integers.specs.Order.{_≼_}
+use Rattle.integers.proofs.PartsLaws.{same}
+use Rattle.integers.proofs.Sums.{sum, difference, times}
+use Rattle.integers.proofs.Intervals.{wider, natural-between, sum-between, difference-between, either-between}
 use Rattle.calendar.specs.Answers.{tomorrowOf}
 use Rattle.calendar.specs.declared.dates.Date.{Date}
 use Rattle.models.specs.declared.adjustments.TimeAdjustment.{TimeAdjustment}
@@ -19,21 +23,21 @@ use Rattle.models.specs.declared.rounding.Rounding.{Rounding}
 use Rattle.models.specs.declared.rounding.Rounding.the-variants.{Nearest}
 use Rattle.models.specs.Settings.{timeAdjustmentsOf}
 use Rattle.stride.specs.Times.{roundedOf, adjustedOf}
-use Rattle.stride.specs.TimesLaws.{rounded-adjusted, rounded-mono}
-use Rattle.night.specs.Portions.{middleOf, lastThirdOf}
-use Rattle.night.specs.Steady.{Small}
-use Rattle.night.specs.PortionsLaws.{middle-later, last-third-later}
+use Rattle.stride.proofs.TimesLaws.{rounded-adjusted, rounded-mono, adjusted-between}
+use Rattle.night_portions.specs.Portions.{portionBeforeOf, middleOf, lastThirdOf}
+use Rattle.night_portions.proofs.Steady.{Small}
+use Rattle.night_portions.proofs.PortionsLaws.{middle-later, last-third-later}
+use Rattle.ops.specs.Season.{morningSecondsOf}
 use Rattle.solar.specs.declared.setting.SolarHour.{SolarHour}
-use Rattle.solar.specs.declared.setting.SolarHour.the-variants.{At, None}
 use Rattle.solar.specs.declared.times.SolarTime.{SolarTime}
+use Rattle.schedule.specs.declared.hours.ThreeSuns.{ThreeSuns}
+use Rattle.schedule.specs.declared.hours.RowHours.{RowHours}
 use Rattle.schedule.specs.declared.prayer_times.PrayerTimes.{PrayerTimes}
-use Rattle.schedule.specs.Rooms.{NearHour, near-more, near-sum, near-difference, near-rounded, near-adjusted, near-seventh}
-use Rattle.schedule.specs.Times.{startOf, finalOf, finalFajrOf, finalIshaOf, fajrTomorrowOf, middleOfTheNightOf, qiyamOf, timesOf}
-use Rattle.schedule.specs.Twilight.{nightOf, nextDayOf, orOf, beforeSunriseOf, unadjustedFajrOf, calculateFajrOf, ishaBoundOf, boundedIshaOf, unadjustedIshaOf, calculateIshaOf}
-use Rattle.schedule.specs.TwilightLaws.{night-near, before-sunrise-near, fajr-near}
+use Rattle.schedule.specs.Times.{startOf, finalOf, fajrTomorrowOf, middleOfTheNightOf, qiyamOf, fromMidnightOf, startedOf, timesOf}
+use Rattle.schedule.specs.Twilight.{nightOf, nextDayOf, orOf, bySeasonOf, beforeSunriseOf, unadjustedFajrOf, ishaBoundOf, boundedIshaOf, unadjustedIshaOf}
 use Rattle.schedule_laws.specs.Later.{withMinutes, NoneEarlier, laterBy, ExactlyLater}
-use Rattle.schedule_laws.proofs.Spans.{Between, BetweenHour}
-use Rattle.schedule_laws.proofs.SunSpans.{SunSpan}
+use Rattle.schedule_laws.proofs.Spans.{fajr-between, final-between}
+use Rattle.schedule_laws.proofs.SunSpans.{Days, SunHour, Sun, Three, night-days, seventh-days}
 
 -- ---- adjusting by one number of minutes and by another
 adjusted-again : (t a b : ℤ) → adjustedOf t b ≡ adjustedOf t a +ℤ (b -ℤ a) *ℤ pos 60
@@ -67,39 +71,33 @@ not-earlier x y a b h e =
     let s = sum x ((b -ℤ a) *ℤ pos 60) in
     subst (λ (w : ℤ). x ≼ w) (sym e) (omega (arith, d .0, d .1))
 
--- ---- the sun's times, near enough that every night is short
-near-sun : (z : ℤ) → Between 86400 172799 z → Near 172800 z
-near-sun z h = (omega (arith, h .1), omega (arith, h .0))
+-- ---- maghrib and tomorrow's Fajr are near enough that every night is short, whatever the parameters
+-- what is cut to an i32 is one
+in-i32 : (z : ℤ) → mag z < 2 ^ 31 → Near (2 ^ 31) z
+in-i32 (pos n) h = record { from = omega arith; to = omega arith }
+in-i32 (negsuc n) h = record { from = omega arith; to = omega arith }
 
-near-hour : (hour : SolarHour) → BetweenHour 86400 172799 hour → NearHour 172800 hour
-near-hour (At t) h = near-sun t h
-near-hour None h = lit≤ tt
+cast-near : (x : Float) → Near (2 ^ 31) (toSigned 31 x)
+cast-near x = in-i32 (toSigned 31 x) (toSigned-in 31 x)
 
-small-night : (m f : ℤ) → Near (2 ^ 39) m → Near (2 ^ 39) f → Small (f -ℤ m)
-small-night m f h k =
-    let d = near-difference (2 ^ 39) (2 ^ 39) f m k h in
-    (omega (arith, d .0), omega (arith, d .1))
+before-near : (p : Parameters) (latitude : Float) (date : Date) (night : ℤ) → Near (2 ^ 31) (beforeSunriseOf p latitude date night)
+unfolding beforeSunriseOf morningSecondsOf portionBeforeOf
+before-near p latitude date night = either-between (bySeasonOf (p .method)) (cast-near _) (cast-near _)
 
 module _ (p : Parameters) (held : (prayer : Prayer) → Near (2 ^ 32) (timeAdjustmentsOf p prayer)) where
-  maghrib-near : (x : ℤ) → Between 86400 172799 x → Near (2 ^ 39) (finalOf p Maghrib x)
-  unfolding finalOf
-  maghrib-near x h =
-      near-more (172800 + 60 * 2 ^ 32 + 60) (2 ^ 39) (finalOf p Maghrib x) (omega arith)
-      (near-rounded (172800 + 60 * 2 ^ 32) (p .rounding) (adjustedOf x (timeAdjustmentsOf p Maghrib))
-      (near-adjusted 172800 (2 ^ 32) x (timeAdjustmentsOf p Maghrib) (near-sun x h) (held Maghrib)))
+  maghrib-near : {x : ℤ} → Days 1 2 x → Near (2 ^ 39) (finalOf p Maghrib x)
+  maghrib-near h = wider (final-between p Maghrib h (held Maghrib)) (lit≤ tt) (lit≤ tt)
 
-  tomorrow-near : (latitude : Float) (date : Date) (tomorrow after : SolarTime) (hour : SolarHour) → SunSpan tomorrow → SunSpan after → BetweenHour 86400 172799 hour
+  tomorrow-near : (latitude : Float) (date : Date) (tomorrow after : SolarTime) (hour : SolarHour) → Sun tomorrow → Sun after → SunHour hour
       → Near (2 ^ 39) (fajrTomorrowOf p latitude date tomorrow after hour)
-  unfolding fajrTomorrowOf calculateFajrOf
+  unfolding fajrTomorrowOf
   tomorrow-near latitude date tomorrow after hour a b h =
-      let night = nightOf tomorrow after in
-      let l = night-near 172800 tomorrow after (near-sun (tomorrow .sunset) (a .sunset)) (near-sun (after .sunrise) (b .sunrise)) in
-      let v = near-seventh (2 ^ 31) night (near-more (172800 + 86400 + 172800) (2 ^ 31) night (omega arith) l) in
-      let x = unadjustedFajrOf p latitude (tomorrowOf date) tomorrow night hour in
-      let f = fajr-near p latitude (tomorrowOf date) tomorrow night hour 172800 (2 ^ 31) (near-hour hour h) v (near-sun (tomorrow .sunrise) (a .sunrise)) (before-sunrise-near p latitude (tomorrowOf date) night) in
-      let g = near-adjusted (172800 + 2 ^ 31) (2 ^ 32) x (timeAdjustmentsOf p Fajr) f (held Fajr) in
-      near-more (172800 + 2 ^ 31 + 60 * 2 ^ 32 + 86400) (2 ^ 39) (nextDayOf (adjustedOf x (timeAdjustmentsOf p Fajr))) (omega arith)
-      (near-sum (172800 + 2 ^ 31 + 60 * 2 ^ 32) 86400 (adjustedOf x (timeAdjustmentsOf p Fajr)) (pos 86400) g (lit≤ tt, lit≤ tt))
+      let seventh = seventh-days (nightOf tomorrow after) (night-days tomorrow after a b) in
+      let fajr = fajr-between p latitude (tomorrowOf date) tomorrow after hour h (a .sunrise) (wider seventh (lit≤ tt) (lit≤ tt)) (before-near p latitude (tomorrowOf date) (nightOf tomorrow after)) in
+      wider (sum-between (adjusted-between fajr (held Fajr)) (natural-between 86400)) (lit≤ tt) (lit≤ tt)
+
+short-night : {m f : ℤ} → Near (2 ^ 39) m → Near (2 ^ 39) f → Small (f -ℤ m)
+short-night h k = wider (difference-between k h) (lit≤ tt) (lit≤ tt)
 
 -- ---- the middle of the night and its last third
 module _ (m f m' f' : ℤ) (later : m ≼ m') (later-fajr : f ≼ f') (h : Small (f -ℤ m)) (h' : Small (f' -ℤ m')) where
@@ -121,40 +119,28 @@ module _ (p : Parameters) (minutes : TimeAdjustment) where
   final-moved prayer x = rounded-again (p .rounding) x (timeAdjustmentsOf p prayer) (timeAdjustmentsOf q prayer)
 
   module _ (latitude : Float) (date : Date) (today next : SolarTime) (hour : SolarHour) where
-    unadjusted-fajr : unadjustedFajrOf q latitude date today (nightOf today next) hour ≡ unadjustedFajrOf p latitude date today (nightOf today next) hour
+    unadjusted-fajr : unadjustedFajrOf q latitude date today next hour ≡ unadjustedFajrOf p latitude date today next hour
     unfolding unadjustedFajrOf beforeSunriseOf
     unadjusted-fajr = refl
 
-    unadjusted-isha : unadjustedIshaOf q latitude date today (nightOf today next) hour ≡ unadjustedIshaOf p latitude date today (nightOf today next) hour
+    unadjusted-isha : unadjustedIshaOf q latitude date today next hour ≡ unadjustedIshaOf p latitude date today next hour
     unfolding unadjustedIshaOf boundedIshaOf ishaBoundOf
     unadjusted-isha = refl
 
-    fajr-adjusted : calculateFajrOf q latitude date today next hour ≡ calculateFajrOf p latitude date today next hour +ℤ laterBy p q Fajr
-    unfolding calculateFajrOf
-    fajr-adjusted =
-        ap (λ (x : ℤ). adjustedOf x (timeAdjustmentsOf q Fajr)) unadjusted-fajr
-        ∙ adjusted-again (unadjustedFajrOf p latitude date today (nightOf today next) hour) (timeAdjustmentsOf p Fajr) (timeAdjustmentsOf q Fajr)
+    fajr-moved : finalOf q Fajr (unadjustedFajrOf q latitude date today next hour) ≡ finalOf p Fajr (unadjustedFajrOf p latitude date today next hour) +ℤ laterBy p q Fajr
+    fajr-moved = ap (finalOf q Fajr) unadjusted-fajr ∙ final-moved Fajr (unadjustedFajrOf p latitude date today next hour)
 
-    fajr-moved : finalFajrOf q latitude date today next hour ≡ finalFajrOf p latitude date today next hour +ℤ laterBy p q Fajr
-    unfolding finalFajrOf calculateFajrOf
-    fajr-moved =
-        ap (λ (x : ℤ). roundedOf (p .rounding) (adjustedOf x (timeAdjustmentsOf q Fajr))) unadjusted-fajr
-        ∙ rounded-again (p .rounding) (unadjustedFajrOf p latitude date today (nightOf today next) hour) (timeAdjustmentsOf p Fajr) (timeAdjustmentsOf q Fajr)
-
-    isha-moved : finalIshaOf q latitude date today next hour ≡ finalIshaOf p latitude date today next hour +ℤ laterBy p q Isha
-    unfolding finalIshaOf calculateIshaOf
-    isha-moved =
-        ap (λ (x : ℤ). roundedOf (p .rounding) (adjustedOf x (timeAdjustmentsOf q Isha))) unadjusted-isha
-        ∙ rounded-again (p .rounding) (unadjustedIshaOf p latitude date today (nightOf today next) hour) (timeAdjustmentsOf p Isha) (timeAdjustmentsOf q Isha)
+    isha-moved : finalOf q Isha (unadjustedIshaOf q latitude date today next hour) ≡ finalOf p Isha (unadjustedIshaOf p latitude date today next hour) +ℤ laterBy p q Isha
+    isha-moved = ap (finalOf q Isha) unadjusted-isha ∙ final-moved Isha (unadjustedIshaOf p latitude date today next hour)
 
   tomorrow-moved : (latitude : Float) (date : Date) (tomorrow after : SolarTime) (hour : SolarHour)
       → fajrTomorrowOf q latitude date tomorrow after hour ≡ fajrTomorrowOf p latitude date tomorrow after hour +ℤ laterBy p q Fajr
   unfolding fajrTomorrowOf
   tomorrow-moved latitude date tomorrow after hour =
-      let x = calculateFajrOf p latitude (tomorrowOf date) tomorrow after hour in
-      let y = calculateFajrOf q latitude (tomorrowOf date) tomorrow after hour in
+      let u = unadjustedFajrOf p latitude (tomorrowOf date) tomorrow after hour in
+      let x = adjustedOf u (timeAdjustmentsOf p Fajr) in
       let d = laterBy p q Fajr in
-      let e = fajr-adjusted latitude (tomorrowOf date) tomorrow after hour in
+      let e = ap (λ (z : ℤ). adjustedOf z (timeAdjustmentsOf q Fajr)) (unadjusted-fajr latitude (tomorrowOf date) tomorrow after hour) ∙ adjusted-again u (timeAdjustmentsOf p Fajr) (timeAdjustmentsOf q Fajr) in
       let a = sum x d in
       let b = sum (x +ℤ d) (pos 86400) in
       let c = sum x (pos 86400) in
@@ -162,45 +148,50 @@ module _ (p : Parameters) (minutes : TimeAdjustment) where
       ap nextDayOf e ∙ same (x +ℤ d +ℤ pos 86400) (x +ℤ pos 86400 +ℤ d) (omega arith)
 
   -- ---- the day
-  module _ (latitude : Float) (date : Date) (today tomorrow after : SolarTime) (fajr asr isha fajr-tomorrow : SolarHour) where
+  module _ (latitude : Float) (date : Date) (suns : ThreeSuns) (h : RowHours) where
     abbrev pub first : PrayerTimes
-    first = timesOf p latitude date today tomorrow after fajr asr isha fajr-tomorrow
+    first = timesOf p latitude date suns h
 
     abbrev pub second : PrayerTimes
-    second = timesOf q latitude date today tomorrow after fajr asr isha fajr-tomorrow
+    second = timesOf q latitude date suns h
+
+    abbrev sun : SolarTime
+    sun = suns .today
 
     pub exactly : ExactlyLater p q first second
-    unfolding timesOf
+    unfolding fromMidnightOf startedOf
     exactly =
         let start = startOf date in
         record {
-          fajr = moved-on start _ _ (laterBy p q Fajr) (fajr-moved latitude date today tomorrow fajr);
-          sunrise = moved-on start _ _ (laterBy p q Sunrise) (final-moved Sunrise (today .sunrise));
-          dhuhr = moved-on start _ _ (laterBy p q Dhuhr) (final-moved Dhuhr (today .transit));
-          asr = moved-on start _ _ (laterBy p q Asr) (final-moved Asr (orOf asr (today .transit)));
-          maghrib = moved-on start _ _ (laterBy p q Maghrib) (final-moved Maghrib (today .sunset));
-          isha = moved-on start _ _ (laterBy p q Isha) (isha-moved latitude date today tomorrow isha);
-          «fajr_tomorrow» = moved-on start _ _ (laterBy p q Fajr) (tomorrow-moved latitude date tomorrow after fajr-tomorrow);
+          fajr = moved-on start _ _ (laterBy p q Fajr) (fajr-moved latitude date sun (suns .tomorrow) (h .fajr));
+          sunrise = moved-on start _ _ (laterBy p q Sunrise) (final-moved Sunrise (sun .sunrise));
+          dhuhr = moved-on start _ _ (laterBy p q Dhuhr) (final-moved Dhuhr (sun .transit));
+          asr = moved-on start _ _ (laterBy p q Asr) (final-moved Asr (orOf (h .asr) (sun .transit)));
+          maghrib = moved-on start _ _ (laterBy p q Maghrib) (final-moved Maghrib (sun .sunset));
+          isha = moved-on start _ _ (laterBy p q Isha) (isha-moved latitude date sun (suns .tomorrow) (h .isha));
+          «fajr_tomorrow» = moved-on start _ _ (laterBy p q Fajr) (tomorrow-moved latitude date (suns .tomorrow) (suns .after) (h .«fajr_tomorrow»));
         }
 
     module _ (more : (prayer : Prayer) → timeAdjustmentsOf p prayer ≼ timeAdjustmentsOf q prayer)
         (held : (prayer : Prayer) → Near (2 ^ 32) (timeAdjustmentsOf p prayer)) (held-q : (prayer : Prayer) → Near (2 ^ 32) (timeAdjustmentsOf q prayer))
-        (a : SunSpan today) (b : SunSpan tomorrow) (c : SunSpan after) (h : BetweenHour 86400 172799 fajr-tomorrow) where
+        (three : Three suns) (placed : SunHour (h .«fajr_tomorrow»)) where
       by-more : (prayer : Prayer) (x y : ℤ) → y ≡ x +ℤ laterBy p q prayer → x ≼ y
       by-more prayer x y e = not-earlier x y (timeAdjustmentsOf p prayer) (timeAdjustmentsOf q prayer) (more prayer) e
 
+      short : (r : Parameters) → ((prayer : Prayer) → Near (2 ^ 32) (timeAdjustmentsOf r prayer))
+          → Small (fajrTomorrowOf r latitude date (suns .tomorrow) (suns .after) (h .«fajr_tomorrow») -ℤ finalOf r Maghrib (sun .sunset))
+      short r held = short-night (maghrib-near r held (three .today .sunset)) (tomorrow-near r held latitude date (suns .tomorrow) (suns .after) (h .«fajr_tomorrow») (three .tomorrow) (three .after) placed)
+
       pub none-earlier : NoneEarlier first second
-      unfolding timesOf
+      unfolding fromMidnightOf startedOf
       none-earlier =
           let start = startOf date in
-          let m = finalOf p Maghrib (today .sunset) in
-          let m' = finalOf q Maghrib (today .sunset) in
-          let f = fajrTomorrowOf p latitude date tomorrow after fajr-tomorrow in
-          let f' = fajrTomorrowOf q latitude date tomorrow after fajr-tomorrow in
-          let later = by-more Maghrib m m' (final-moved Maghrib (today .sunset)) in
-          let later-fajr = by-more Fajr f f' (tomorrow-moved latitude date tomorrow after fajr-tomorrow) in
-          let small = small-night m f (maghrib-near p held (today .sunset) (a .sunset)) (tomorrow-near p held latitude date tomorrow after fajr-tomorrow b c h) in
-          let small' = small-night m' f' (maghrib-near q held-q (today .sunset) (a .sunset)) (tomorrow-near q held-q latitude date tomorrow after fajr-tomorrow b c h) in
+          let m = finalOf p Maghrib (sun .sunset) in
+          let m' = finalOf q Maghrib (sun .sunset) in
+          let f = fajrTomorrowOf p latitude date (suns .tomorrow) (suns .after) (h .«fajr_tomorrow») in
+          let f' = fajrTomorrowOf q latitude date (suns .tomorrow) (suns .after) (h .«fajr_tomorrow») in
+          let later = by-more Maghrib m m' (final-moved Maghrib (sun .sunset)) in
+          let later-fajr = by-more Fajr f f' (tomorrow-moved latitude date (suns .tomorrow) (suns .after) (h .«fajr_tomorrow»)) in
           record {
             fajr = by-more Fajr (first .fajr) (second .fajr) (exactly .fajr);
             sunrise = by-more Sunrise (first .sunrise) (second .sunrise) (exactly .sunrise);
@@ -208,7 +199,7 @@ module _ (p : Parameters) (minutes : TimeAdjustment) where
             asr = by-more Asr (first .asr) (second .asr) (exactly .asr);
             maghrib = by-more Maghrib (first .maghrib) (second .maghrib) (exactly .maghrib);
             isha = by-more Isha (first .isha) (second .isha) (exactly .isha);
-            «middle_of_the_night» = later-on start (middleOfTheNightOf m f) (middleOfTheNightOf m' f') (middle-moved m f m' f' later later-fajr small small');
-            qiyam = later-on start (qiyamOf m f) (qiyamOf m' f') (qiyam-moved m f m' f' later later-fajr small small');
+            «middle_of_the_night» = later-on start (middleOfTheNightOf m f) (middleOfTheNightOf m' f') (middle-moved m f m' f' later later-fajr (short p held) (short q held-q));
+            qiyam = later-on start (qiyamOf m f) (qiyamOf m' f') (qiyam-moved m f m' f' later later-fajr (short p held) (short q held-q));
             «fajr_tomorrow» = by-more Fajr (first .«fajr_tomorrow») (second .«fajr_tomorrow») (exactly .«fajr_tomorrow»);
           }

@@ -1,77 +1,64 @@
--- Integers from -a to b, through the operations that a time is worked by. Assumes nothing.
-use mathlib.Core.Path.{_≡_}
-use mathlib.Core.Bool.{Bool, true, false, cond}
+-- How far Fajr and Isha lie from 0h of their date, by how far the sun's times lie and what is added to them. Assumes nothing.
+use mathlib.Core.Path.{_≡_, refl}
 use Prim.Native.Nat.{ℕ, _+_, _*_, _≤_}
 use native.Mathlib.Omega.{arith}
-use lib.IntN.{ℤ, pos, negsuc, _+ℤ_, _-ℤ_, _*ℤ_}
+use lib.IntN.{ℤ, pos, _+ℤ_}
 use lib.Signed.{ltZ}
-use Rattle.integers.specs.Parts.{P, N, Near}
-use Rattle.integers.specs.Sums.{sum, difference, times}
-use Rattle.models.specs.declared.rounding.Rounding.{Rounding}
-use Rattle.stride.specs.Times.{roundedOf, adjustedOf}
-use Rattle.stride.specs.TimesLaws.{rounded-high, rounded-low}
+use lib.Ieee.{Float}
+use Rattle.integers.specs.Parts.{P, N, Between, Near}
+use Rattle.integers.proofs.Sums.{sum}
+use Rattle.integers.proofs.Intervals.{by-balance, wider, sum-between, difference-between, either-between}
+use Rattle.calendar.specs.declared.dates.Date.{Date}
+use Rattle.models.specs.declared.method.Method.{Method}
+use Rattle.models.specs.declared.parameters.Parameters.{Parameters}
+use Rattle.models.specs.declared.prayer.Prayer.{Prayer}
+use Rattle.models.specs.Settings.{timeAdjustmentsOf}
+use Rattle.stride.specs.Times.{adjustedOf}
+use Rattle.stride.proofs.TimesLaws.{rounded-between, adjusted-between}
+use Rattle.night_portions.specs.Portions.{seventhOf}
 use Rattle.solar.specs.declared.setting.SolarHour.{SolarHour}
 use Rattle.solar.specs.declared.setting.SolarHour.the-variants.{At, None}
-use Rattle.schedule.specs.Twilight.{laterOf, earlierOf, orOf}
+use Rattle.solar.specs.declared.times.SolarTime.{SolarTime}
+use Rattle.schedule.specs.Times.{finalOf}
+use Rattle.schedule.specs.Twilight.{nextDayOf, nightOf, laterOf, earlierOf, orOf, bySeventhOf, ownOf, beforeSunriseOf, unadjustedFajrOf}
 
-abbrev pub Between : ℕ → ℕ → ℤ → Type 0
-Between a b z = (N z ≤ a) × (P z ≤ b)
+-- an hour's time, where it has one
+pub record HourBetween (a b : ℕ) (hour : SolarHour) : Type 0 where
+  pub at : (t : ℤ) → hour ≡ At t → Between a b t
 
--- by the balance of z's parts alone
-pub span : (a b : ℕ) (z : ℤ) → N z ≤ P z + a → P z ≤ N z + b → Between a b z
-span a b (pos n) l h = (omega arith, omega arith)
-span a b (negsuc n) l h = (omega arith, omega arith)
+pub hour-wider : {a b c d : ℕ} {hour : SolarHour} → HourBetween a b hour → a ≤ c → b ≤ d → HourBetween c d hour
+hour-wider h l m = record { at = λ t e. wider (h .at t e) l m }
 
-pub span-more : (a b c d : ℕ) (z : ℤ) → a ≤ c → b ≤ d → Between a b z → Between c d z
-span-more a b c d z l m h = (omega (arith, h .0), omega (arith, h .1))
-
-pub span-sum : (a b c d : ℕ) (x y : ℤ) → Between a b x → Between c d y → Between (a + c) (b + d) (x +ℤ y)
-span-sum a b c d x y h k = let s = sum x y in (omega (arith, h .0, k .0), omega (arith, h .1, k .1))
-
-pub span-difference : (a b c d : ℕ) (x y : ℤ) → Between a b x → Between c d y → Between (a + d) (b + c) (x -ℤ y)
-span-difference a b c d x y h k = let s = difference x y in (omega (arith, h .0, k .1, s .0, s .1), omega (arith, h .1, k .0, s .0, s .1))
-
-pub span-either : (a b : ℕ) (t : Bool) (x y : ℤ) → Between a b x → Between a b y → Between a b (cond t x y)
-span-either a b true x y h k = h
-span-either a b false x y h k = k
-
-pub span-later : (a b : ℕ) (x y : ℤ) → Between a b x → Between a b y → Between a b (laterOf x y)
-unfolding laterOf
-span-later a b x y h k = span-either a b (ltZ x y) y x k h
-
-pub span-earlier : (a b : ℕ) (x y : ℤ) → Between a b x → Between a b y → Between a b (earlierOf x y)
-unfolding earlierOf
-span-earlier a b x y h k = span-either a b (ltZ y x) y x k h
-
-abbrev pub BetweenHour : ℕ → ℕ → SolarHour → Type 0
-BetweenHour a b (At t) = Between a b t
-BetweenHour a b None = 0 ≤ a
-
-pub span-hour-more : (a b c d : ℕ) (hour : SolarHour) → a ≤ c → b ≤ d → BetweenHour a b hour → BetweenHour c d hour
-span-hour-more a b c d (At t) l m h = span-more a b c d t l m h
-span-hour-more a b c d None l m h = omega arith
-
-pub span-or : (a b : ℕ) (hour : SolarHour) (y : ℤ) → BetweenHour a b hour → Between a b y → Between a b (orOf hour y)
+pub or-between : {a b : ℕ} {y : ℤ} (hour : SolarHour) → HourBetween a b hour → Between a b y → Between a b (orOf hour y)
 unfolding orOf
-span-or a b (At t) y h k = h
-span-or a b None y h k = k
+or-between (At t) h k = h .at t refl
+or-between None h k = k
 
-pub span-rounded : (a b : ℕ) (r : Rounding) (t : ℤ) → Between a b t → Between (a + 60) (b + 60) (roundedOf r t)
-span-rounded a b r t h =
-    let u = rounded-high r t in
-    let v = rounded-low r t in
-    let x = sum t (pos 60) in
-    let y = sum (roundedOf r t) (pos 60) in
-    span (a + 60) (b + 60) (roundedOf r t) (omega (arith, h .0, h .1)) (omega (arith, h .0, h .1))
+pub own-between : {a b : ℕ} {x y : ℤ} (method : Method) (latitude : Float) (hour : SolarHour) → HourBetween a b hour → Between a b x → Between a b y → Between a b (ownOf method latitude x hour y)
+unfolding ownOf
+own-between method latitude hour h k l = either-between (bySeventhOf method latitude) k (or-between hour h l)
 
-pub span-adjusted : (a b k : ℕ) (t m : ℤ) → Between a b t → Near k m → Between (a + 60 * k) (b + 60 * k) (adjustedOf t m)
-unfolding adjustedOf
-span-adjusted a b k t m h l = let p = times m 60 in let s = sum t (m *ℤ pos 60) in (omega (arith, h .0, l .1), omega (arith, h .1, l .0))
+later-between : {a b : ℕ} {x y : ℤ} → Between a b x → Between a b y → Between a b (laterOf x y)
+unfolding laterOf
+later-between {a} {b} {x} {y} h k = either-between (ltZ x y) k h
 
--- what goes from m toward f, and no further, lies between them
-pub span-inside : (a b : ℕ) (m f w : ℤ) → Between a b m → Between a b f → (P w ≤ P (f -ℤ m)) × (N w ≤ N (f -ℤ m)) → Between a b (m +ℤ w)
-span-inside a b m f w h k i = let d = difference f m in by-sign (f -ℤ m) (omega (arith, d .0, d .1)) (i .0) (i .1)
-  where
-    by-sign : (d : ℤ) → P d + (N f + P m) ≡ N d + (P f + N m) → P w ≤ P d → N w ≤ N d → Between a b (m +ℤ w)
-    by-sign (pos n) e l u = let s = sum m w in span a b (m +ℤ w) (omega (arith, h .0, h .1, k .0, k .1)) (omega (arith, h .0, h .1, k .0, k .1))
-    by-sign (negsuc n) e l u = let s = sum m w in span a b (m +ℤ w) (omega (arith, h .0, h .1, k .0, k .1)) (omega (arith, h .0, h .1, k .0, k .1))
+pub earlier-between : {a b : ℕ} {x y : ℤ} → Between a b x → Between a b y → Between a b (earlierOf x y)
+unfolding earlierOf
+earlier-between {a} {b} {x} {y} h k = either-between (ltZ y x) k h
+
+-- a time of the next date, from 0h of this one
+pub next-day-between : (a : ℕ) {b : ℕ} {x : ℤ} → Between (86400 + a) b x → Between a (b + 86400) (nextDayOf x)
+next-day-between a {b} {x} h = let s = sum x (pos 86400) in by-balance a (b + 86400) (x +ℤ pos 86400) (omega arith) (omega arith)
+
+-- what is added to sunrise lies from -c to d, and so does what a seventh of the night adds
+pub fajr-between : {a b c d : ℕ} (p : Parameters) (latitude : Float) (date : Date) (today next : SolarTime) (hour : SolarHour) → HourBetween a b hour → Between a b (today .sunrise)
+    → Between d c (seventhOf (nightOf today next)) → Between c d (beforeSunriseOf p latitude date (nightOf today next)) → Between (a + c) (b + d) (unadjustedFajrOf p latitude date today next hour)
+unfolding unadjustedFajrOf
+fajr-between p latitude date today next hour h r v m =
+    let bound = sum-between r m in
+    later-between (own-between (p .method) latitude hour (hour-wider h (omega arith) (omega arith)) (difference-between r v) bound) bound
+
+-- adjusted and rounded
+pub final-between : {a b k : ℕ} {x : ℤ} (p : Parameters) (prayer : Prayer) → Between a b x → Near k (timeAdjustmentsOf p prayer) → Between (a + k * 60 + 60) (b + k * 60 + 60) (finalOf p prayer x)
+unfolding finalOf
+final-between p prayer h k = rounded-between (p .rounding) (adjusted-between h k)

@@ -4,13 +4,13 @@ use mathlib.Core.Path.{_≡_, sym, ap, _∙_}
 use Prim.Native.Nat.{_+_, _*_}
 use native.Mathlib.Omega.{arith}
 use lib.IntN.{ℤ, pos, _+ℤ_, _*ℤ_, +ℤ-comm}
-use Rattle.integers.specs.Parts.{same}
-use Rattle.integers.specs.Sums.{times}
+use Rattle.integers.proofs.PartsLaws.{same}
+use Rattle.integers.proofs.Sums.{times}
 use Rattle.calendar.specs.Days.{dayNumberOf}
 use Rattle.calendar.specs.declared.dates.Date.{Date}
 use Rattle.models.specs.declared.rounding.Rounding.{Rounding}
 use Rattle.stride.specs.Times.{roundedOf, adjustedOf}
-use Rattle.stride.specs.TimesLaws.{rounded-adjusted}
+use Rattle.stride.proofs.TimesLaws.{rounded-adjusted}
 use Rattle.schedule.specs.Times.{startOf}
 
 -- 0h of a date is so many whole minutes from 1970

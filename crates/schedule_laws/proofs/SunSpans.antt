@@ -1,13 +1,14 @@
--- How far the sun's times, the night and what bounds Fajr and Isha lie from 0h of their date, for what an order can carry. Assumes nothing.
-use mathlib.Core.Bool.{cond}
-use Prim.Native.Nat.{_+_, _*_, _≤_, _<_}
+-- How far the sun's times, Fajr and Isha lie from 0h of their date, for what an order can carry. All in whole days: the sun's times go no further than a
+-- day back and two days on. Assumes nothing.
+use Prim.Native.Nat.{ℕ, _+_, _*_, _≤_}
 use native.Mathlib.Omega.{arith}
 use lib.Dec.{lit<, lit≤}
-use lib.IntN.{ℤ, pos, _+ℤ_, _-ℤ_, _*ℤ_}
+use lib.IntN.{ℤ, pos}
 use lib.Signed.{ltZ}
 use lib.Ieee.{Float}
-use Rattle.integers.specs.Sums.{sum, difference, times}
-use Rattle.integers.specs.Quotients.{divided}
+use Rattle.integers.specs.Parts.{Between}
+use Rattle.integers.proofs.QuotientLaws.{divided}
+use Rattle.integers.proofs.Intervals.{wider, sum-between, difference-between, product-between, either-between}
 use Rattle.calendar.specs.Days.{ordinalOf}
 use Rattle.calendar.specs.declared.dates.Date.{Date}
 use Rattle.calendar.proofs.Existing.{ordinal-short}
@@ -16,67 +17,91 @@ use Rattle.models.specs.declared.high_altitude_rule.HighLatitudeRule.the-varian
 use Rattle.models.specs.declared.parameters.Parameters.{Parameters}
 use Rattle.models.specs.declared.rounding.Rounding.the-variants.{Nearest}
 use Rattle.models.specs.Settings.{portionsOf, nightPortionsOf}
-use Rattle.stride.specs.Times.{roundedOf}
-use Rattle.night.specs.Portions.{portionBeforeOf, portionAfterOf, seventhOf}
-use Rattle.night.specs.BoundsLaws.{Portion, after-half, before-half}
-use Rattle.night.specs.OrderPortions.{half-portion, seventh-portion, angle-portion}
-use Rattle.ops.specs.Season.{morningSecondsOf, eveningSecondsOf}
-use Rattle.ops.specs.SeasonLaws.{morning-small, evening-small}
+use Rattle.stride.proofs.TimesLaws.{rounded-between}
+use Rattle.night_portions.specs.Portions.{portionAfterOf, seventhOf}
+use Rattle.night_portions.proofs.BoundsLaws.{Portion, after-half, before-half}
+use Rattle.night_portions.proofs.OrderPortions.{half-portion, seventh-portion, angle-portion}
+use Rattle.ops.specs.Season.{eveningSecondsOf}
+use Rattle.ops.proofs.SeasonLaws.{morning-small, evening-small}
 use Rattle.solar.specs.declared.setting.SolarHour.{SolarHour}
-use Rattle.solar.specs.declared.setting.SolarHour.the-variants.{At, None}
 use Rattle.solar.specs.declared.times.SolarTime.{SolarTime}
 use Rattle.solar.specs.declared.times.SolarDay.{SolarDay}
-use Rattle.solar.specs.declared.times.SolarDay.the-variants.{Whole, Lacks}
-use Rattle.solar.specs.declared.hours.HourNumbers.{HourNumbers}
-use Rattle.solar.specs.Setting.{settingHourOf}
-use Rattle.solar.specs.SettingLaws.{HourOfThreeDays, setting-held}
-use Rattle.solar.specs.Times.{dayOf, solarTimeOf}
-use Rattle.schedule.specs.Twilight.{nightOf, nextDayOf, bySeasonOf, bySeventhOf, orOf, beforeSunriseOf, fajrBoundOf, unadjustedFajrOf, ishaBoundOf, boundedIshaOf, unadjustedIshaOf}
+use Rattle.solar.specs.declared.times.SolarDay.the-variants as day
+use Rattle.solar.specs.Times.{solarHourOf, solarTimeOf}
+use Rattle.solar.proofs.SettingLaws.{OfThreeDays, SunOfThreeDays, DayOfThreeDays, setting-range, day-held}
+use Rattle.schedule.specs.declared.hours.ThreeSuns.{ThreeSuns}
+use Rattle.schedule.specs.declared.hours.Suns.{Suns}
+use Rattle.schedule.specs.declared.hours.Suns.the-variants.{Whole, Lacks}
+use Rattle.schedule.specs.declared.hours.RowHours.{RowHours}
+use Rattle.schedule.specs.declared.hours.RowNumbers.{RowNumbers}
+use Rattle.schedule.specs.Hours.{sunsOf, dayHoursOf, rowHoursOf, hoursOf}
+use Rattle.schedule.specs.Twilight.{nightOf, bySeasonOf, beforeSunriseOf, unadjustedFajrOf, ishaBoundOf, boundedIshaOf, unadjustedIshaOf}
 use Rattle.schedule_laws.specs.Carried.{AngleInOrder, LatitudeInOrder, Carried}
-use Rattle.schedule_laws.proofs.Spans.{Between, BetweenHour, span, span-more, span-sum, span-difference, span-either, span-later, span-earlier, span-or, span-hour-more, span-rounded}
+use Rattle.schedule_laws.proofs.Spans.{HourBetween, hour-wider, own-between, earlier-between, next-day-between, fajr-between}
+
+-- from so many days before 0h of a date to so many after it
+abbrev pub Days : ℕ → ℕ → ℤ → Type 0
+Days a b z = Between (a * 86400) (b * 86400) z
 
 -- ---- the sun's times
-pub hour-span : (value : Float) → BetweenHour 86400 172799 (settingHourOf value)
-hour-span value = by-hour (settingHourOf value) (setting-held value)
-  where
-    by-hour : (hour : SolarHour) → HourOfThreeDays hour → BetweenHour 86400 172799 hour
-    by-hour (At t) h = (h .0, omega (arith, h .1))
-    by-hour None h = lit≤ tt
+abbrev pub SunHour : SolarHour → Type 0
+SunHour hour = HourBetween 86400 (2 * 86400) hour
 
-pub record SunSpan (sun : SolarTime) : Type 0 where
-  pub transit : Between 86400 172799 (sun .transit)
-  pub sunrise : Between 86400 172799 (sun .sunrise)
-  pub sunset : Between 86400 172799 (sun .sunset)
+sun-hour : (value : Float) → SunHour (solarHourOf value)
+sun-hour value = record { at = λ t e. wider (setting-range value t e) (lit≤ tt) (lit≤ tt) }
 
-abbrev pub DaySpan : SolarDay → Type 0
-DaySpan (Whole sun) = SunSpan sun
-DaySpan (Lacks n) = 0 ≤ n
+pub record Sun (sun : SolarTime) : Type 0 where
+  pub transit : Days 1 2 (sun .transit)
+  pub sunrise : Days 1 2 (sun .sunrise)
+  pub sunset : Days 1 2 (sun .sunset)
 
-pub day-span : (n : HourNumbers) → DaySpan (solarTimeOf n)
-unfolding solarTimeOf dayOf
-day-span n = by-hours (settingHourOf (n .transit)) (settingHourOf (n .sunrise)) (settingHourOf (n .sunset)) (hour-span (n .transit)) (hour-span (n .sunrise)) (hour-span (n .sunset))
-  where
-    by-hours : (t r s : SolarHour) → BetweenHour 86400 172799 t → BetweenHour 86400 172799 r → BetweenHour 86400 172799 s → DaySpan (dayOf t r s)
-    by-hours None r s h k l = lit≤ tt
-    by-hours (At t) None s h k l = lit≤ tt
-    by-hours (At t) (At r) None h k l = lit≤ tt
-    by-hours (At t) (At r) (At s) h k l = record { transit = h; sunrise = k; sunset = l }
+sun-days : (sun : SolarTime) → SunOfThreeDays sun → Sun sun
+sun-days sun h = record { transit = wider (h .transit) (lit≤ tt) (lit≤ tt); sunrise = wider (h .sunrise) (lit≤ tt) (lit≤ tt); sunset = wider (h .sunset) (lit≤ tt) (lit≤ tt) }
 
--- ---- the night: from two days less to four days
-pub night-span : (today next : SolarTime) → SunSpan today → SunSpan next → Between 172799 345599 (nightOf today next)
+pub record Three (suns : ThreeSuns) : Type 0 where
+  pub today : Sun (suns .today)
+  pub tomorrow : Sun (suns .tomorrow)
+  pub after : Sun (suns .after)
+
+-- where the row is not refused
+abbrev pub Row : Suns → Type 0
+Row (Whole suns) = Three suns
+Row (Lacks r) = 0 ≤ 0
+
+row : (a b c : SolarDay) → DayOfThreeDays a → DayOfThreeDays b → DayOfThreeDays c → Row (sunsOf a b c)
+unfolding sunsOf
+row (day.Lacks n) b c h k l = lit≤ tt
+row (day.Whole x) (day.Lacks n) c h k l = lit≤ tt
+row (day.Whole x) (day.Whole y) (day.Lacks n) h k l = lit≤ tt
+row (day.Whole x) (day.Whole y) (day.Whole z) h k l = record { today = sun-days x h; tomorrow = sun-days y k; after = sun-days z l }
+
+pub record Hours (h : RowHours) : Type 0 where
+  pub suns : Row (h .suns)
+  pub fajr : SunHour (h .fajr)
+  pub asr : SunHour (h .asr)
+  pub isha : SunHour (h .isha)
+  pub «fajr_tomorrow» : SunHour (h .«fajr_tomorrow»)
+
+pub hours : (n : RowNumbers) → Hours (hoursOf n)
+unfolding hoursOf rowHoursOf dayHoursOf
+hours n =
+    record {
+      suns = row (solarTimeOf (n .today)) (solarTimeOf (n .tomorrow)) (solarTimeOf (n .after)) (day-held (n .today)) (day-held (n .tomorrow)) (day-held (n .after));
+      fajr = sun-hour (n .fajr);
+      asr = sun-hour (n .asr);
+      isha = sun-hour (n .isha);
+      «fajr_tomorrow» = sun-hour (n .«fajr_tomorrow»);
+    }
+
+-- ---- the night and its portions
+pub night-days : (today next : SolarTime) → Sun today → Sun next → Days 2 4 (nightOf today next)
 unfolding nightOf
-night-span today next h k =
-    let a = h .sunset in
-    let b = k .sunrise in
-    let s = sum (next .sunrise) (pos 86400) in
-    let d = difference (nextDayOf (next .sunrise)) (today .sunset) in
-    span 172799 345599 (nextDayOf (next .sunrise) -ℤ today .sunset) (omega (arith, a .0, a .1, b .0, b .1, d .0, d .1)) (omega (arith, a .0, a .1, b .0, b .1, d .0, d .1))
+night-days today next h k = difference-between (next-day-between 0 (k .sunrise)) (h .sunset)
 
-seventh-span : (night : ℤ) → Between 172799 345599 night → Between 24685 49371 (seventhOf night)
+pub seventh-days : (night : ℤ) → Days 2 4 night → Days 1 1 (seventhOf night)
 unfolding seventhOf
-seventh-span night h = let d = divided night 7 (lit< tt) in (omega (arith, h .0), omega (arith, h .1))
+seventh-days night h = let d = divided night 7 (lit< tt) in record { from = omega arith; to = omega arith }
 
--- ---- the portions of an order
 fajr-portion : (rule : HighLatitudeRule) (fajr isha : Float) → AngleInOrder fajr → Portion (portionsOf rule fajr isha .fajr)
 unfolding portionsOf
 fajr-portion MiddleOfTheNight fajr isha h = half-portion
@@ -90,64 +115,46 @@ isha-portion SeventhOfTheNight fajr isha h = seventh-portion
 isha-portion TwilightAngle fajr isha h = angle-portion isha (h .0) (h .1)
 
 -- ---- Fajr and Isha, not adjusted yet
-module _ (p : Parameters) (latitude : Float) (date : Date) (carried : Carried p) (there : LatitudeInOrder latitude) (today : SolarTime) (sun : SunSpan today)
-    (night : ℤ) (long : Between 172799 345599 night) (hour : SolarHour) (placed : BetweenHour 86400 172799 hour) where
-  before-span : Between 172799 86400 (beforeSunriseOf p latitude date night)
+module _ (p : Parameters) (latitude : Float) (carried : Carried p) (there : LatitudeInOrder latitude) (date : Date) (today next : SolarTime) (sun : Sun today) (sun-next : Sun next)
+    (hour : SolarHour) (placed : SunHour hour) where
+  abbrev night : ℤ
+  night = nightOf today next
+
+  long : Days 2 4 night
+  long = night-days today next sun sun-next
+
+  before : Days 2 1 (beforeSunriseOf p latitude date night)
   unfolding beforeSunriseOf
-  before-span =
-      let portion = nightPortionsOf p .fajr in
+  before =
+      let l = long in
       let m = morning-small latitude (ordinalOf date) (date .year) (there .south) (there .north) (ordinal-short date) in
-      let b = before-half portion night (fajr-portion (p .«high_latitude_rule») (p .«fajr_angle») (p .«isha_angle») (carried .«fajr_angle»)) (omega (arith, long .1), omega (arith, long .0)) in
-      span-either 172799 86400 (bySeasonOf (p .method)) (morningSecondsOf latitude (ordinalOf date) (date .year)) (portionBeforeOf portion night)
-      (omega (arith, m .1), m .0)
-      (omega (arith, b .1, long .1), omega (arith, b .0, long .0))
+      let b = before-half (nightPortionsOf p .fajr) night (fajr-portion (p .«high_latitude_rule») (p .«fajr_angle») (p .«isha_angle») (carried .«fajr_angle»)) (wider l (lit≤ tt) (lit≤ tt)) in
+      either-between (bySeasonOf (p .method)) (record { from = omega (arith, m .1); to = m .0 }) (record { from = omega (arith, b .1); to = omega (arith, b .0) })
 
-  pub fajr-span : Between 259199 259199 (unadjustedFajrOf p latitude date today night hour)
-  unfolding unadjustedFajrOf
-  fajr-span =
-      let y = fajrBoundOf p latitude date today night in
-      let bound : Between 259199 259199 y = span-sum 86400 172799 172799 86400 (today .sunrise) (beforeSunriseOf p latitude date night) (sun .sunrise) before-span in
-      let x = today .sunrise -ℤ seventhOf night in
-      let seventh : Between 259199 259199 x =
-      span-more 135771 197484 259199 259199 x (lit≤ tt) (lit≤ tt) (span-difference 86400 172799 24685 49371 (today .sunrise) (seventhOf night) (sun .sunrise) (seventh-span night long))
-      in
-      let angle = span-or 259199 259199 hour y (span-hour-more 86400 172799 259199 259199 hour (lit≤ tt) (lit≤ tt) placed) bound in
-      span-later 259199 259199 (cond (bySeventhOf (p .method) latitude) x (orOf hour y)) y (span-either 259199 259199 (bySeventhOf (p .method) latitude) x (orOf hour y) seventh angle) bound
+  after : Days 1 2 (portionAfterOf (nightPortionsOf p .isha) night)
+  after =
+      let l = long in
+      let b = after-half (nightPortionsOf p .isha) night (isha-portion (p .«high_latitude_rule») (p .«fajr_angle») (p .«isha_angle») (carried .«isha_angle»)) (wider l (lit≤ tt) (lit≤ tt)) in
+      record { from = omega (arith, b .1); to = omega (arith, b .0) }
 
-  isha-bound-span : Between 172860 345598 (ishaBoundOf p latitude date today night)
+  pub fajr-days : Days 3 3 (unadjustedFajrOf p latitude date today next hour)
+  fajr-days = fajr-between p latitude date today next hour placed (sun .sunrise) (wider (seventh-days night long) (lit≤ tt) (lit≤ tt)) before
+
+  abbrev IshaSpan : ℤ → Type 0
+  IshaSpan z = Between (2 * 86400 + 60) (4 * 86400) z
+
+  bound : IshaSpan (ishaBoundOf p latitude date today night)
   unfolding ishaBoundOf
-  isha-bound-span =
-      let portion = nightPortionsOf p .isha in
-      let seconds = eveningSecondsOf latitude (ordinalOf date) (date .year) (p .shafaq) in
+  bound =
       let e = evening-small latitude (ordinalOf date) (date .year) (there .south) (there .north) (ordinal-short date) (p .shafaq) in
-      let b = after-half portion night (isha-portion (p .«high_latitude_rule») (p .«fajr_angle») (p .«isha_angle») (carried .«isha_angle»)) (omega (arith, long .1), omega (arith, long .0)) in
-      let season = span-rounded 172800 259199 Nearest (today .sunset +ℤ seconds) (span-sum 86400 172799 86400 86400 (today .sunset) seconds (sun .sunset) (e .1, e .0)) in
-      let x = roundedOf Nearest (today .sunset +ℤ seconds) in
-      let y = today .sunset +ℤ portionAfterOf portion night in
-      let after : Between 86399 172799 (portionAfterOf portion night) = (omega (arith, b .1, long .0), omega (arith, b .0, long .1)) in
-      span-either 172860 345598 (bySeasonOf (p .method)) x y
-      (span-more 172860 259259 172860 345598 x (lit≤ tt) (lit≤ tt) season)
-      (span-more 172799 345598 172860 345598 y (lit≤ tt) (lit≤ tt) (span-sum 86400 172799 86399 172799 (today .sunset) (portionAfterOf portion night) (sun .sunset) after))
+      let evening : Days 1 1 (eveningSecondsOf latitude (ordinalOf date) (date .year) (p .shafaq)) = record { from = e .1; to = e .0 } in
+      either-between (bySeasonOf (p .method)) (wider (rounded-between Nearest (sum-between (sun .sunset) evening)) (lit≤ tt) (lit≤ tt)) (wider (sum-between (sun .sunset) after) (lit≤ tt) (lit≤ tt))
 
-  bounded-isha-span : Between 172860 345598 (boundedIshaOf p latitude date today night hour)
+  bounded : IshaSpan (boundedIshaOf p latitude date today next hour)
   unfolding boundedIshaOf
-  bounded-isha-span =
-      let y = ishaBoundOf p latitude date today night in
-      let x = today .sunset +ℤ seventhOf night in
-      let seventh : Between 172860 345598 x =
-      span-more 111085 222170 172860 345598 x (lit≤ tt) (lit≤ tt) (span-sum 86400 172799 24685 49371 (today .sunset) (seventhOf night) (sun .sunset) (seventh-span night long))
-      in
-      let angle = span-or 172860 345598 hour y (span-hour-more 86400 172799 172860 345598 hour (lit≤ tt) (lit≤ tt) placed) isha-bound-span in
-      span-earlier 172860 345598 (cond (bySeventhOf (p .method) latitude) x (orOf hour y)) y (span-either 172860 345598 (bySeventhOf (p .method) latitude) x (orOf hour y) seventh angle) isha-bound-span
+  bounded =
+      earlier-between (own-between (p .method) latitude hour (hour-wider placed (lit≤ tt) (lit≤ tt)) (wider (sum-between (sun .sunset) (seventh-days night long)) (lit≤ tt) (lit≤ tt)) bound) bound
 
-  pub isha-span : Between 172860 345598 (unadjustedIshaOf p latitude date today night hour)
+  pub isha-days : IshaSpan (unadjustedIshaOf p latitude date today next hour)
   unfolding unadjustedIshaOf
-  isha-span =
-      let i = p .«isha_interval» in
-      let t = times i 60 in
-      let k = carried .«isha_interval» in
-      let x = today .sunset +ℤ i *ℤ pos 60 in
-      let interval : Between 86400 86400 (i *ℤ pos 60) = (omega (arith, k .1), omega (arith, k .0)) in
-      span-either 172860 345598 (ltZ (pos 0) i) x (boundedIshaOf p latitude date today night hour)
-      (span-more 172800 259199 172860 345598 x (lit≤ tt) (lit≤ tt) (span-sum 86400 172799 86400 86400 (today .sunset) (i *ℤ pos 60) (sun .sunset) interval))
-      bounded-isha-span
+  isha-days = either-between (ltZ (pos 0) (p .«isha_interval»)) (wider (sum-between (sun .sunset) (product-between (carried .«isha_interval») 60)) (lit≤ tt) (lit≤ tt)) bounded

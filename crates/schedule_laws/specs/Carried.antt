@@ -2,7 +2,7 @@
 use mathlib.Core.Path.{_≡_}
 use mathlib.Core.Bool.{true}
 use lib.Ieee.{Float, neg, le}
-use Rattle.integers.specs.Parts.{Near}
+use Rattle.integers.specs.Parts.{Between, Near}
 use Rattle.float64.specs.Ops.{dec}
 use Rattle.models.specs.declared.parameters.Parameters.{Parameters}
 use Rattle.models.specs.declared.prayer.Prayer.{Prayer}
@@ -20,8 +20,8 @@ pub record LatitudeInOrder (latitude : Float) : Type 0 where
 pub record Carried (p : Parameters) : Type 0 where
   pub «fajr_angle» : AngleInOrder (p .«fajr_angle»)
   pub «isha_angle» : AngleInOrder (p .«isha_angle»)
-  -- tag 14
-  pub «isha_interval» : Near 1440 (p .«isha_interval»)
+  -- tag 14: from 0 to 1,440 minutes
+  pub «isha_interval» : Between 0 1440 (p .«isha_interval»)
   -- tag 11
   pub own : (prayer : Prayer) → Near 720 (minutesFor prayer (p .adjustments))
   -- no method brings more than 7 minutes

@@ -1,8 +1,7 @@
 -- Two sets of parameters that differ only in a school's own minutes (demand 3): what the second's larger sums do to the days that are refused, to
 -- the nine times and to the prayer in force. For all hour numbers, every date and every latitude. Proved in proofs/LaterLaws.
 use mathlib.Core.Path.{_≡_}
-use mathlib.Core.Logic.{_⊎_}
-use Prim.Native.Nat.{ℕ, _^_, _≤_, _<_}
+use Prim.Native.Nat.{_^_, _≤_, _<_}
 use lib.IntN.{ℤ, pos, _+ℤ_, _-ℤ_, _*ℤ_}
 use lib.Ieee.{Float}
 use Rattle.integers.specs.Parts.{Near}
@@ -12,19 +11,16 @@ use Rattle.models.specs.declared.adjustments.TimeAdjustment.{TimeAdjustment}
 use Rattle.models.specs.declared.parameters.Parameters.{Parameters}
 use Rattle.models.specs.declared.prayer.Prayer.{Prayer}
 use Rattle.models.specs.declared.prayer.Prayer.the-variants.{Fajr, Sunrise, Dhuhr, Asr, Maghrib, Isha}
-use Rattle.models.specs.declared.refusal.Refusal.{Refusal}
-use Rattle.models.specs.Numbers.{prayerNumberOf}
+use Rattle.refusals.specs.declared.Refusal.{Refusal}
 use Rattle.models.specs.Settings.{timeAdjustmentsOf}
 use Rattle.unit.specs.declared.Coordinates.{Coordinates}
 use Rattle.schedule.specs.declared.hours.RowNumbers.{RowNumbers}
 use Rattle.schedule.specs.declared.in_force.Instant.{Instant}
-use Rattle.schedule.specs.declared.in_force.Current.{Current}
-use Rattle.schedule.specs.declared.in_force.Current.the-variants.{Some, None}
 use Rattle.schedule.specs.declared.prayer_times.PrayerTimes.{PrayerTimes}
 use Rattle.schedule.specs.declared.prayer_times.Worked.{Worked}
 use Rattle.schedule.specs.declared.prayer_times.Worked.the-variants.{Times, Refused}
 use Rattle.schedule.specs.Hours.{hoursOf}
-use Rattle.schedule.specs.InForce.{nanosecondsOf, currentTimeOf}
+use Rattle.schedule.specs.InForce.{nanosecondsOf, NotAfter, currentTimeOf, currentNumberOf}
 use Rattle.schedule.specs.Times.{workedOf, workedAt}
 
 -- ---- "differ only in schools' own minutes, and the second's sum (own plus method's) for each of the six prayers is at least the first's"
@@ -77,20 +73,11 @@ pub record ExactlyLater (p q : Parameters) (t u : PrayerTimes) : Type 0 where
   pub isha : u .isha ≡ t .isha +ℤ laterBy p q Isha
   pub «fajr_tomorrow» : u .«fajr_tomorrow» ≡ t .«fajr_tomorrow» +ℤ laterBy p q Fajr
 
--- ---- "the prayer in force .. stands no later in the list of eight .. ("none" standing before Fajr)"
-abbrev pub placeOf : Current → ℕ
-placeOf None = 0
-placeOf (Some prayer) = prayerNumberOf prayer
-
--- an instant is not after another, by the nanoseconds to both
-abbrev pub NotAfter : Instant → Instant → Type 0
-NotAfter j i = nanosecondsOf j ≼ nanosecondsOf i
-
--- which is the order by whole seconds, then nanoseconds, since an instant's nanoseconds are less than a second: j's whole seconds are fewer, or the same
--- and its nanoseconds no more
-abbrev pub NotAfterByParts : Type 0
-NotAfterByParts =
-    (j i : Instant) → j .nanoseconds < 1000000000 → (j .seconds +ℤ pos 1 ≼ i .seconds) ⊎ ((j .seconds ≡ i .seconds) × (j .nanoseconds ≤ i .nanoseconds)) → NotAfter j i
+-- ---- "an instant .. ordered by whole seconds, then nanoseconds": which is the order by the nanoseconds from 1970 on, since an instant's are less than a second
+abbrev pub NotAfterByNanoseconds : Type 0
+NotAfterByNanoseconds =
+    (j i : Instant) → j .nanoseconds < 1000000000 → i .nanoseconds < 1000000000
+    → (NotAfter j i → nanosecondsOf j ≼ nanosecondsOf i) × (nanosecondsOf j ≼ nanosecondsOf i → NotAfter j i)
 
 -- ---- demand 3 of one day, w under the first and v under the second
 pub record Moved (p q : Parameters) (w v : Worked) : Type 0 where
@@ -100,7 +87,9 @@ pub record Moved (p q : Parameters) (w v : Worked) : Type 0 where
   -- on every other day
   pub «none_earlier» : (t u : PrayerTimes) → w ≡ Times t → v ≡ Times u → NoneEarlier t u
   pub «exactly_later» : (t u : PrayerTimes) → w ≡ Times t → v ≡ Times u → ExactlyLater p q t u
-  pub «in_force» : (t u : PrayerTimes) → w ≡ Times t → v ≡ Times u → (i j : Instant) → NotAfter j i → placeOf (currentTimeOf u j) ≤ placeOf (currentTimeOf t i)
+  -- "the prayer in force .. stands no later in the list of eight .. ("none" standing before Fajr)"
+  pub «in_force» : (t u : PrayerTimes) → w ≡ Times t → v ≡ Times u → (i j : Instant) → j .nanoseconds < 1000000000 → NotAfter j i
+      → currentNumberOf (currentTimeOf u j) ≤ currentNumberOf (currentTimeOf t i)
 
 abbrev pub LaterMinutesMoveTheDay : Type 0
 LaterMinutesMoveTheDay =

@@ -1,4 +1,3 @@
 pub mod Carried
 pub mod Range
 pub mod Later
-pub mod RowSuns

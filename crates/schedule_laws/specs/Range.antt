@@ -12,7 +12,7 @@ use Rattle.schedule.specs.declared.hours.RowNumbers.{RowNumbers}
 use Rattle.schedule.specs.declared.prayer_times.PrayerTimes.{PrayerTimes}
 use Rattle.schedule.specs.declared.prayer_times.Worked.the-variants.{Times}
 use Rattle.schedule.specs.Hours.{hoursOf}
-use Rattle.schedule.specs.Times.{startOf, workedOf}
+use Rattle.schedule.specs.Times.{startOf, workedOf, Each}
 use Rattle.schedule_laws.specs.Carried.{LatitudeInOrder, Carried}
 
 -- from 4 days before 0h of the date to before 5 days after it
@@ -20,16 +20,8 @@ pub record OfDate (date : Date) (time : ℤ) : Type 0 where
   pub from : N (time -ℤ startOf date) ≤ 4 * 86400
   pub before : P (time -ℤ startOf date) < 5 * 86400
 
-pub record AllOfDate (date : Date) (t : PrayerTimes) : Type 0 where
-  pub fajr : OfDate date (t .fajr)
-  pub sunrise : OfDate date (t .sunrise)
-  pub dhuhr : OfDate date (t .dhuhr)
-  pub asr : OfDate date (t .asr)
-  pub maghrib : OfDate date (t .maghrib)
-  pub isha : OfDate date (t .isha)
-  pub «middle_of_the_night» : OfDate date (t .«middle_of_the_night»)
-  pub qiyam : OfDate date (t .qiyam)
-  pub «fajr_tomorrow» : OfDate date (t .«fajr_tomorrow»)
+abbrev pub AllOfDate : Date → PrayerTimes → Type 0
+AllOfDate date t = Each (OfDate date) t
 
 abbrev pub TimesLieByTheirDate : Type 0
 TimesLieByTheirDate =

@@ -7,8 +7,8 @@ use lib.Dec.{ltb}
 use borrow.Author.Tests.{lt-ltb, le-ltb}
 use mir.Syntax.{w32}
 use mir.Val.{SFits, toZ, ofZ}
-use Rattle.integers.specs.Sums.{sum}
-use Rattle.integers.specs.Ranges.{fits, read}
+use Rattle.integers.proofs.Sums.{sum}
+use Rattle.integers.proofs.Ranges.{fits, read}
 use Rattle.solar.specs.Setting.{hourOf}
 use Rattle.solar.specs.declared.setting.SolarHour.the-variants.{At}
 use Rattle.solar.specs.declared.setting.Placed.{Placed}

@@ -1,1 +1,3 @@
+pub mod SettingLaws
 pub mod Cases
+pub mod SharedLaws

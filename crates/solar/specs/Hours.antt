@@ -1,78 +1,65 @@
--- solar.rs: the sun's hour numbers over a place on a day, from its position on the day, the day before and the day after.
--- The laws say that they are the source's calls of corrected_transit and corrected_hour_angle.
-use mathlib.Core.Path.{_≡_, refl}
+-- solar.rs: the hour numbers of a day over a place, by the source's calls of corrected_transit and corrected_hour_angle on the sun's position on
+-- the day, the day before and the day after.
 use mathlib.Core.Bool.{Bool, true, false}
 use lib.Ieee.{Float, neg}
 use Rattle.float64.specs.Ops.{_+ᶠ_, _-ᶠ_, _/ᶠ_, dec}
 use Rattle.float64.specs.Sizes.{absOf}
 use Rattle.fdlibm_trig.specs.Trig.{tanOf}
 use Rattle.fdlibm_arc.specs.Atan.{atanOf}
-use Rattle.calendar.specs.Answers.{yesterdayOf, tomorrowOf}
 use Rattle.calendar.specs.declared.dates.Date.{Date}
 use Rattle.unit.specs.declared.Angle.{Angle}
 use Rattle.unit.specs.declared.Coordinates.{Coordinates}
 use Rattle.unit.specs.Unit.{angleOf, fromRadiansOf, radiansOf, longitudeAngleOf}
-use Rattle.ops.specs.declared.transit.Course.{Course}
-use Rattle.ops.specs.declared.transit.Observer.{Observer}
 use Rattle.ops.specs.Transit.{approximateTransitOf, correctedTransitOf, correctedHourAngleOf}
-use Rattle.ops.specs.Shared.{observerOf, courseOf, transitNumberOf, halfArcOf, hourNumberOf, transit-shared, hour-number-shared}
 use Rattle.solar.specs.declared.coordinates.SolarCoordinates.{SolarCoordinates}
 use Rattle.solar.specs.declared.hours.HourNumbers.{HourNumbers}
 use Rattle.solar.specs.Coordinates.{positionOf}
+
+-- the sun of a day over a place
+pub record Sun : Type 0 where
+  pub place : Coordinates
+  pub previous : SolarCoordinates
+  pub today : SolarCoordinates
+  pub next : SolarCoordinates
+
+-- at 0h of the day before, of the date and of the day after
+abbrev pub sunOver : Coordinates → Date → Date → Date → Sun
+sunOver place before date after = record { place = place; previous = positionOf before; today = positionOf date; next = positionOf after }
 
 -- the altitude of the sun's center at sunrise and sunset: 50 minutes of arc below the horizon
 unfoldable pub solarAltitude : Angle
 unfolding dec
 solarAltitude = angleOf (neg (dec 50 0) /ᶠ dec 60 0)
 
-abbrev pub transitOf : Coordinates → SolarCoordinates → Float
-transitOf place today = approximateTransitOf (longitudeAngleOf place) (today .«apparent_sidereal_time») (today .«right_ascension»)
+abbrev pub approxTransitOf : Sun → Float
+approxTransitOf s = approximateTransitOf (longitudeAngleOf (s .place)) (s .today .«apparent_sidereal_time») (s .today .«right_ascension»)
 
--- the sun's course over a place, from three positions
-abbrev pub sunOf : Coordinates → Observer → SolarCoordinates → SolarCoordinates → SolarCoordinates → Course
-sunOf place observer previous today next =
-    courseOf (transitOf place today) observer (today .«apparent_sidereal_time»)
-    (today .«right_ascension») (previous .«right_ascension») (next .«right_ascension»)
-    (today .declination) (previous .declination) (next .declination)
+unfoldable pub transitNumberOf : Sun → Float
+transitNumberOf s =
+    correctedTransitOf (approxTransitOf s) (longitudeAngleOf (s .place)) (s .today .«apparent_sidereal_time»)
+    (s .today .«right_ascension») (s .previous .«right_ascension») (s .next .«right_ascension»)
 
--- on a date, by itself
-abbrev pub dateSunOf : Date → Coordinates → Course
-dateSunOf d place = sunOf place (observerOf place) (positionOf (yesterdayOf d)) (positionOf d) (positionOf (tomorrowOf d))
+-- the hour number at which the sun stands at an angle, before or after its transit
+unfoldable pub angleNumberOf : Sun → Angle → Bool → Float
+angleNumberOf s angle after =
+    correctedHourAngleOf (approxTransitOf s) angle (s .place) after (s .today .«apparent_sidereal_time»)
+    (s .today .«right_ascension») (s .previous .«right_ascension») (s .next .«right_ascension»)
+    (s .today .declination) (s .previous .declination) (s .next .declination)
 
--- the hour number at which the sun stands at an angle
-unfoldable pub angleNumberOf : Course → Angle → Bool → Float
-angleNumberOf c angle after = hourNumberOf c angle (halfArcOf c angle) after
-
-unfoldable pub hourNumbersOf : Course → HourNumbers
-hourNumbersOf c =
+unfoldable pub hourNumbersOf : Sun → HourNumbers
+hourNumbersOf s =
     record {
-      transit = transitNumberOf c;
-      sunrise = angleNumberOf c solarAltitude false;
-      sunset = angleNumberOf c solarAltitude true;
+      transit = transitNumberOf s;
+      sunrise = angleNumberOf s solarAltitude false;
+      sunset = angleNumberOf s solarAltitude true;
     }
 
--- the angle at which a shadow has grown by so many lengths
-unfoldable pub shadowAngleOf : Course → Float → Float → Angle
+-- the angle at which a shadow has grown by so many lengths, at a latitude and under a declination
+unfoldable pub shadowAngleOf : Float → Float → Float → Angle
 unfolding dec
-shadowAngleOf c latitude shadow =
-    let size = absOf (latitude -ᶠ c .declination .value) in
-    fromRadiansOf (atanOf (dec 1 0 /ᶠ (shadow +ᶠ tanOf (radiansOf (angleOf size)))))
+shadowAngleOf latitude declination shadow =
+    fromRadiansOf (atanOf (dec 1 0 /ᶠ (shadow +ᶠ tanOf (radiansOf (angleOf (absOf (latitude -ᶠ declination)))))))
 
 -- Asr's
-abbrev pub afternoonNumberOf : Course → Float → Float → Float
-afternoonNumberOf c latitude shadow = angleNumberOf c (shadowAngleOf c latitude shadow) true
-
-module _ (place : Coordinates) (previous today next : SolarCoordinates) where
-  pub transit-number : transitNumberOf (sunOf place (observerOf place) previous today next)
-      ≡ correctedTransitOf (transitOf place today) (longitudeAngleOf place) (today .«apparent_sidereal_time») (today .«right_ascension») (previous .«right_ascension») (next .«right_ascension»)
-  transit-number =
-      transit-shared (transitOf place today) place (today .«apparent_sidereal_time») (today .«right_ascension») (previous .«right_ascension») (next .«right_ascension»)
-      (today .declination) (previous .declination) (next .declination)
-
-  pub angle-number : (angle : Angle) (after : Bool) → angleNumberOf (sunOf place (observerOf place) previous today next) angle after
-      ≡ correctedHourAngleOf (transitOf place today) angle place after (today .«apparent_sidereal_time») (today .«right_ascension») (previous .«right_ascension») (next .«right_ascension»)
-      (today .declination) (previous .declination) (next .declination)
-  unfolding angleNumberOf
-  angle-number angle after =
-      hour-number-shared (transitOf place today) place (today .«apparent_sidereal_time») (today .«right_ascension») (previous .«right_ascension») (next .«right_ascension»)
-      (today .declination) (previous .declination) (next .declination) angle after
+unfoldable pub afternoonNumberOf : Sun → Float → Float
+afternoonNumberOf s shadow = angleNumberOf s (shadowAngleOf (s .place .latitude) (s .today .declination .degrees) shadow) true

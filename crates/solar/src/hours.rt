@@ -1,6 +1,7 @@
 // solar.rs: the sun's hour numbers over a place on a day. The three positions are handed in, so that neighbouring days share them.
 ghost use mathlib.Core.Path.{_≡_};
-ghost use Rattle.solar.specs.Hours.{solarAltitude, sunOf, dateSunOf, angleNumberOf, hourNumbersOf, shadowAngleOf, afternoonNumberOf};
+ghost use Rattle.solar.specs.Hours.{solarAltitude, shadowAngleOf};
+ghost use Rattle.solar.specs.Shared.{courseOver, dateCourseOf, courseAngleNumberOf, courseNumbersOf, courseAfternoonNumberOf};
 use super::coordinates::SolarCoordinates;
 use super::coordinates::position;
 use calendar::dates::Date;
@@ -35,7 +36,7 @@ pub fn sun(
     today: SolarCoordinates,
     next: SolarCoordinates,
 ) -> Course
-    ensures { λ r. ⌜ r ≡ sunOf coordinates observer previous today next ⌝ }
+    ensures { λ r. ⌜ r ≡ courseOver coordinates observer previous today next ⌝ }
 {
     let sidereal_time = today.apparent_sidereal_time;
     let right_ascension = today.right_ascension;
@@ -64,27 +65,30 @@ pub fn sun(
 
 // The sun's course over a place on a date, by itself: rows that follow one another hand their positions on instead.
 pub fn date_sun(date: Date, coordinates: Coordinates) -> Course
-    ensures { λ r. ⌜ r ≡ dateSunOf date coordinates ⌝ }
+    ensures { λ r. ⌜ r ≡ dateCourseOf date coordinates ⌝ }
 {
+    let previous = position(date.yesterday());
+    let today = position(date);
+    let next = position(date.tomorrow());
     sun(
         coordinates,
         Observer::new(coordinates),
-        position(date.yesterday()),
-        position(date),
-        position(date.tomorrow()),
+        previous,
+        today,
+        next,
     )
 }
 
 // The hour number at which the sun stands at an angle.
 pub fn angle_number(course: Course, angle: Angle, after_transit: bool) -> f64
-    ensures { λ r. ⌜ r ≡ angleNumberOf course angle «after_transit» ⌝ }
+    ensures { λ r. ⌜ r ≡ courseAngleNumberOf course angle «after_transit» ⌝ }
 {
     course.hour_number(angle, course.half_arc(angle), after_transit)
 }
 
 // Sunrise and sunset lie half of one arc before and after the transit.
 pub fn hour_numbers(course: Course) -> HourNumbers
-    ensures { λ r. ⌜ r ≡ hourNumbersOf course ⌝ }
+    ensures { λ r. ⌜ r ≡ courseNumbersOf course ⌝ }
 {
     let altitude = solar_altitude();
     let arc = course.half_arc(altitude);
@@ -96,18 +100,19 @@ pub fn hour_numbers(course: Course) -> HourNumbers
 }
 
 // The angle at which a shadow has grown by so many lengths.
-fn shadow_angle(course: Course, latitude: f64, shadow_length: f64) -> Angle
-    ensures { λ r. ⌜ r ≡ shadowAngleOf course latitude «shadow_length» ⌝ }
+fn shadow_angle(latitude: f64, declination: f64, shadow_length: f64) -> Angle
+    ensures { λ r. ⌜ r ≡ shadowAngleOf latitude declination «shadow_length» ⌝ }
 {
-    let declination = course.declination;
-    let tangent = Angle::new(abs(latitude - declination.value));
+    let tangent = Angle::new(abs(latitude - declination));
     let inverse = shadow_length + tan(tangent.radians());
     Angle::from_radians(atan(1.0 / inverse))
 }
 
 // The hour number of Asr.
 pub fn afternoon_number(course: Course, latitude: f64, shadow_length: f64) -> f64
-    ensures { λ r. ⌜ r ≡ afternoonNumberOf course latitude «shadow_length» ⌝ }
+    ensures { λ r. ⌜ r ≡ courseAfternoonNumberOf course latitude «shadow_length» ⌝ }
 {
-    angle_number(course, shadow_angle(course, latitude, shadow_length), true)
+    let declination = course.declination;
+    let angle = shadow_angle(latitude, declination.value, shadow_length);
+    angle_number(course, angle, true)
 }

@@ -1,15 +1,24 @@
 // solar.rs: the times of the sun on a day, each in seconds from 0h of its date. Where SolarTime::new panics, the day lacks a time and is
 // refused by a number.
 ghost use mathlib.Core.Path.{_≡_};
-ghost use Rattle.solar.specs.Times.{dayOf, solarTimeOf, firstLackOf, timeForSolarAngleOf, afternoonOf};
+ghost use Rattle.solar.specs.Times.{solarHourOf, dayOf, solarTimeOf, timeForSolarAngleOf, afternoonOf};
 use super::hours::HourNumbers;
 use super::hours::afternoon_number;
 use super::hours::angle_number;
 use super::setting::SolarHour;
 use super::setting::setting_hour;
-use models::refusal::Refusal;
 use ops::transit::Course;
+use refusals::NO_SUNRISE;
+use refusals::NO_SUNSET;
+use refusals::NO_TRANSIT;
 use unit::Angle;
+
+// The time of an hour number, where it has one. No other place asks for the rule.
+pub fn solar_hour(number: f64) -> SolarHour
+    ensures { λ r. ⌜ r ≡ solarHourOf number ⌝ }
+{
+    setting_hour(number)
+}
 
 pub struct SolarTime {
     pub transit: i32,
@@ -28,13 +37,13 @@ fn day(transit: SolarHour, sunrise: SolarHour, sunset: SolarHour) -> SolarDay
     ensures { λ r. ⌜ r ≡ dayOf transit sunrise sunset ⌝ }
 {
     let SolarHour::At(transit) = transit else {
-        return SolarDay::Lacks(6);
+        return SolarDay::Lacks(NO_TRANSIT);
     };
     let SolarHour::At(sunrise) = sunrise else {
-        return SolarDay::Lacks(7);
+        return SolarDay::Lacks(NO_SUNRISE);
     };
     let SolarHour::At(sunset) = sunset else {
-        return SolarDay::Lacks(8);
+        return SolarDay::Lacks(NO_SUNSET);
     };
     SolarDay::Whole(SolarTime {
         transit: transit,
@@ -48,9 +57,9 @@ impl SolarTime {
         ensures { λ r. ⌜ r ≡ solarTimeOf numbers ⌝ }
     {
         day(
-            setting_hour(numbers.transit),
-            setting_hour(numbers.sunrise),
-            setting_hour(numbers.sunset),
+            solar_hour(numbers.transit),
+            solar_hour(numbers.sunrise),
+            solar_hour(numbers.sunset),
         )
     }
 }
@@ -59,40 +68,12 @@ impl SolarTime {
 pub fn time_for_solar_angle(course: Course, angle: Angle, after_transit: bool) -> SolarHour
     ensures { λ r. ⌜ r ≡ timeForSolarAngleOf course angle «after_transit» ⌝ }
 {
-    setting_hour(angle_number(course, angle, after_transit))
+    solar_hour(angle_number(course, angle, after_transit))
 }
 
 // Asr's time.
 pub fn afternoon(course: Course, latitude: f64, shadow_length: f64) -> SolarHour
     ensures { λ r. ⌜ r ≡ afternoonOf course latitude «shadow_length» ⌝ }
 {
-    setting_hour(afternoon_number(course, latitude, shadow_length))
-}
-
-// The refusal of a row, by its date and the two days after it: the first day that lacks a time. Number 0 where none does.
-pub fn first_lack(first: SolarDay, second: SolarDay, third: SolarDay) -> Refusal
-    ensures { λ r. ⌜ r ≡ firstLackOf first second third ⌝ }
-{
-    match first {
-        SolarDay::Lacks(number) => Refusal {
-            number: number,
-            place: 0,
-        },
-        SolarDay::Whole(_) => match second {
-            SolarDay::Lacks(number) => Refusal {
-                number: number,
-                place: 1,
-            },
-            SolarDay::Whole(_) => match third {
-                SolarDay::Lacks(number) => Refusal {
-                    number: number,
-                    place: 2,
-                },
-                SolarDay::Whole(_) => Refusal {
-                    number: 0,
-                    place: 0,
-                },
-            },
-        },
-    }
+    solar_hour(afternoon_number(course, latitude, shadow_length))
 }

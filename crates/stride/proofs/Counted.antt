@@ -6,8 +6,8 @@ use native.Mathlib.Omega.{arith}
 use lib.Dec.{eqb, ltb, eqb→eq, lt→ltb}
 use lib.IntN.{ℤ, pos, _+ℤ_, _-ℤ_, _*ℤ_}
 use borrow.Author.Tests.{ltb-true, ltb-false}
-use Rattle.integers.specs.Parts.{same}
-use Rattle.integers.specs.Sums.{sum, difference, times}
+use Rattle.integers.proofs.PartsLaws.{same}
+use Rattle.integers.proofs.Sums.{sum, difference, times}
 use Rattle.calendar.specs.Gregorian.{leapOf, existsOf}
 use Rattle.calendar.specs.Days.{daysBeforeOf, daysInYearOf, daysBeforeYearOf, dayNumberOf}
 use Rattle.calendar.specs.declared.dates.Date.{Date}

@@ -8,8 +8,9 @@ use lib.Dec.{ltb, lit<, lit≤}
 use lib.IntN.{ℤ, pos, negsuc, _+ℤ_, _-ℤ_, _*ℤ_}
 use lib.Ieee.{Float, binary64, ofInt, ofBits, round, sub, div}
 use borrow.Author.Tests.{ltb-true, ltb-false, lt-ltb}
-use Rattle.integers.specs.Parts.{P, same}
-use Rattle.integers.specs.Sums.{sum, difference}
+use Rattle.integers.specs.Parts.{P}
+use Rattle.integers.proofs.PartsLaws.{same}
+use Rattle.integers.proofs.Sums.{sum, difference}
 use Rattle.float64.specs.Ops.{_+ᶠ_, _-ᶠ_, _/ᶠ_, bits}
 use Rattle.float64.proofs.Exact.{dyadic, int-dyadic, add-dyadic, sub-dyadic}
 use Rattle.float64.proofs.Steps.{neg-at}

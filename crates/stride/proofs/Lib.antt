@@ -1,3 +1,4 @@
+pub mod TimesLaws
 pub mod Counted
 pub mod JulianLaws
 pub mod Minutes

@@ -8,13 +8,13 @@ use lib.Signed.{ltZ, quotZ, remZ, nonNeg}
 use lib.Dec.{T, lit<}
 use mir.Syntax.{w32, w64}
 use mir.Val.{SFits, Fits, toZ}
-use Rattle.integers.specs.Parts.{same}
-use Rattle.integers.specs.Sums.{sum, difference, times, flip}
-use Rattle.integers.specs.Quotients.{divided, floored}
-use Rattle.integers.specs.Order.{lt-yes, lt-no}
-use Rattle.integers.specs.Ranges.{readBack, read, range, fits}
+use Rattle.integers.proofs.PartsLaws.{same}
+use Rattle.integers.proofs.Sums.{sum, difference, times, flip}
+use Rattle.integers.proofs.QuotientLaws.{divided, floored}
+use Rattle.integers.proofs.OrderLaws.{lt-yes, lt-no}
+use Rattle.integers.proofs.Ranges.{readBack, read, range, fits}
 use Rattle.stride.specs.Times.{most, least, satOf, secondOf, adjustedOf}
-use Rattle.stride.specs.TimesLaws.{between}
+use Rattle.stride.proofs.TimesLaws.{between}
 use Rattle.stride.proofs.Saturation.{sat-high, sat-low, sat-twice}
 
 -- ---- the second

@@ -7,12 +7,13 @@ use lib.IntN.{ℤ, pos, _+ℤ_, _-ℤ_}
 use lib.Signed.{leZ, ltZ}
 use mir.Syntax.{w64}
 use mir.Val.{SFits}
-use Rattle.integers.specs.Parts.{P, N, not-negative, not-positive}
-use Rattle.integers.specs.Sums.{sum, difference}
-use Rattle.integers.specs.Order.{le-yes, le-no, lt-yes, lt-no, to-lt, to-not-lt}
-use Rattle.integers.specs.Ranges.{readBack, read, range}
+use Rattle.integers.specs.Parts.{P, N}
+use Rattle.integers.proofs.PartsLaws.{not-negative, not-positive}
+use Rattle.integers.proofs.Sums.{sum, difference}
+use Rattle.integers.proofs.OrderLaws.{le-yes, le-no, lt-yes, lt-no, to-lt, to-not-lt}
+use Rattle.integers.proofs.Ranges.{readBack, read, range}
 use Rattle.stride.specs.Times.{most, least, satOf}
-use Rattle.stride.specs.TimesLaws.{between, sat-in}
+use Rattle.stride.proofs.TimesLaws.{between, sat-in}
 
 pub sat-high : (z : ℤ) → P most + N z < P z → most ≡ satOf z
 unfolding satOf

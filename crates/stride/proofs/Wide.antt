@@ -5,11 +5,11 @@ use native.Mathlib.Omega.{arith}
 use lib.Dec.{lit<}
 use lib.IntN.{ℤ, pos, _+ℤ_, _-ℤ_}
 use lib.Signed.{quotZ}
-use mir.Syntax.{w64, w32}
+use mir.Syntax.{w64}
 use mir.Val.{SFits}
-use Rattle.integers.specs.Sums.{sum, difference}
-use Rattle.integers.specs.Quotients.{divided}
-use Rattle.integers.specs.Ranges.{range, fits, readBack, read}
+use Rattle.integers.proofs.Sums.{sum, difference}
+use Rattle.integers.proofs.QuotientLaws.{divided}
+use Rattle.integers.proofs.Ranges.{range, fits, readBack, read}
 use Rattle.stride.specs.Julian.{correctionOf}
 
 -- ---- 2 - a + a / 4, where a is year / 100
@@ -69,32 +69,3 @@ module _ (year : ℤ) (f : SFits w64 year) where
   pub correction-read : readBack w64 (readBack w64 (pos 2 -ℤ aRead) +ℤ readBack w64 (quotZ aRead (pos 4))) ≡ correctionOf year
   unfolding a correctionOf
   correction-read = rw (terms, read w64 ((pos 2 -ℤ a) +ℤ quotZ a (pos 4)) whole-fits)
-
--- ---- an i32 as an i64, the year before and the month of the year before
-module _ (z : ℤ) (f : SFits w32 z) where
-  wide : SFits w64 z
-  wide = let r = range w32 z f in fits w64 z (omega arith) (omega arith)
-
-  pub wide-fits : SFits w64 (readBack w32 z)
-  wide-fits = rw (read w32 z f) wide
-
-  pub wide-read : readBack w64 (readBack w32 z) ≡ z
-  wide-read = rw (read w32 z f) (read w64 z wide)
-
-  less-one : SFits w64 (z -ℤ pos 1)
-  less-one = let r = range w32 z f in let s = difference z (pos 1) in fits w64 (z -ℤ pos 1) (omega (arith, s .0, s .1)) (omega (arith, s .0, s .1))
-
-  pub less-one-fits : SFits w64 (readBack w64 (readBack w32 z) -ℤ pos 1)
-  less-one-fits = rw wide-read less-one
-
-  pub less-one-read : readBack w64 (readBack w64 (readBack w32 z) -ℤ pos 1) ≡ z -ℤ pos 1
-  less-one-read = rw wide-read (read w64 (z -ℤ pos 1) less-one)
-
-  more-twelve : SFits w64 (z +ℤ pos 12)
-  more-twelve = let r = range w32 z f in let s = sum z (pos 12) in fits w64 (z +ℤ pos 12) (omega arith) (omega arith)
-
-  pub more-twelve-fits : SFits w64 (readBack w64 (readBack w32 z) +ℤ pos 12)
-  more-twelve-fits = rw wide-read more-twelve
-
-  pub more-twelve-read : readBack w64 (readBack w64 (readBack w32 z) +ℤ pos 12) ≡ z +ℤ pos 12
-  more-twelve-read = rw wide-read (read w64 (z +ℤ pos 12) more-twelve)

@@ -1,4 +1,3 @@
 pub mod Julian
 pub mod Meeus
 pub mod Times
-pub mod TimesLaws

@@ -3,14 +3,12 @@ use Rattle.calendar.proofs.Floors.{quotient-fits, one-less-fits, rounde
 use Rattle.calendar.proofs.instants.day_of.Statement.{statement}
 use Rattle.calendar.proofs.instants.day_of.Tie as tie
 
-div-day : tie.Need-div-day
-div-day c = (lit< tt, quotient-fits (c .args .seconds) (c .fits .seconds))
-
-rem-if1 : tie.Need-rem-if1
-rem-if1 c = (lit< tt, quotient-fits (c .args .seconds) (c .fits .seconds))
-
-sub-result : tie.Need-sub-result
-sub-result c = one-less-fits (c .before .args .seconds) (c .before .fits .seconds)
+needs-met : tie.Need-div-day × tie.Need-rem-if1 × tie.Need-sub-result
+needs-met = (
+  λ c. (lit< tt, quotient-fits (c .args .seconds) (c .fits .seconds)),
+  λ c. (lit< tt, quotient-fits (c .args .seconds) (c .fits .seconds)),
+  λ c. one-less-fits (c .before .args .seconds) (c .before .fits .seconds),
+)
 
 returns : tie.Need-returns
 returns c = rounded-down (c .before .args .seconds) (c .before .fits .seconds) (c .if1 .taken)
@@ -19,4 +17,4 @@ returns-2 : tie.Need-returns-2
 returns-2 c = kept (c .before .args .seconds) (c .before .fits .seconds) (c .if1 .left)
 
 pub day-of-spec : {M : Type 1} → statement M
-day-of-spec = tie.close (tie.spec div-day rem-if1 sub-result returns returns-2)
+day-of-spec = tie.close (tie.spec (needs-met .0) (needs-met .1) (needs-met .2) returns returns-2)

@@ -8,19 +8,14 @@ use Rattle.calendar.proofs.months.month_days.Tie as tie
 sub-result : tie.Need-sub-result
 sub-result c = omega (arith, before-next (c .before .before .before .args .leap) (c .before .before .before .args .month) (c .before .before .if1 .taken))
 
-returns : tie.Need-returns
-returns c = omega (arith, before-next (c .before .before .before .args .leap) (c .before .before .before .args .month) (c .before .before .if1 .taken))
-
-returns-2 : tie.Need-returns-2
-returns-2 c = sym (length-past (c .before .before .args .leap) (c .before .before .args .month) (c .if2 .taken))
-
-returns-3 : tie.Need-returns-3
-returns-3 c =
-    let s = c .before .before in
-    let m : s .args .month ≡ 12 = omega arith in
-    rw m (sym (length-december (s .args .leap)))
+returns : tie.Need-returns × tie.Need-returns-2 × tie.Need-returns-3
+returns = (
+  λ c. omega (arith, before-next (c .before .before .before .args .leap) (c .before .before .before .args .month) (c .before .before .if1 .taken)),
+  λ c. sym (length-past (c .before .before .args .leap) (c .before .before .args .month) (c .if2 .taken)),
+  λ c. let s = c .before .before in let m : s .args .month ≡ 12 = omega arith in rw m (sym (length-december (s .args .leap))),
+)
 
 pub month-days-spec : {M : Type 1} → statement M
 month-days-spec =
     tie.close
-    (tie.spec (λ c. search needs) (λ c κs. tt) (λ c κs. tt) sub-result returns returns-2 returns-3)
+    (tie.spec (λ c. search needs) (λ c κs. tt) (λ c κs. tt) sub-result (returns .0) (returns .1) (returns .2))

@@ -9,9 +9,8 @@ use Rattle.calendar.proofs.months.month_of.Tie as tie
 returns : tie.Need-returns
 returns c =
     let s = c .before .before .before in
-    let e = c .before .days-before .ensures in
     rw (← month-searched (s .args .leap) (s .args .ordinal) (s .pre .0) (s .pre .1))
-    (simp (lt-ltb _ _ (c .before .before .if1 .taken), sym e, c .if2 .taken))
+    (simp (lt-ltb _ _ (c .before .before .if1 .taken), sym (c .before .days-before .ensures), c .if2 .taken))
 
 returns-2 : tie.Need-returns-2
 returns-2 c =

@@ -6,19 +6,13 @@ use Rattle.calendar.specs.Gregorian.{leapOf}
 use Rattle.calendar.proofs.years.is_leap_year.Statement.{statement}
 use Rattle.calendar.proofs.years.is_leap_year.Tie as tie
 
-returns : tie.Need-returns
+returns : tie.Need-returns × tie.Need-returns-2 × tie.Need-returns-3
 unfolding leapOf
-returns c = simp (ne-eqb _ _ (c .if1 .taken))
-
-returns-2 : tie.Need-returns-2
-unfolding leapOf
-returns-2 c = simp (eq-eqb _ _ (c .before .before .if1 .left), eq-eqb _ _ (c .before .if2 .taken), not-true (eqb (c .before .before .before .args .year % 400) 0) (c .if3 .taken))
-
-returns-3 : tie.Need-returns-3
-unfolding leapOf
-returns-3 c =
-    let e = c .before .if1 .left in
-    ⊎-elim (λ w. simp (eq-eqb _ _ e, eq-eqb _ _ (w .0 .taken), not-false (eqb (c .before .before .args .year % 400) 0) (w .1 .left))) (λ w. simp (eq-eqb _ _ e, ne-eqb _ _ (w .left))) (c .if2 .came)
+returns = (
+  λ c. simp (ne-eqb _ _ (c .if1 .taken)),
+  λ c. simp (eq-eqb _ _ (c .before .before .if1 .left), eq-eqb _ _ (c .before .if2 .taken), not-true (eqb (c .before .before .before .args .year % 400) 0) (c .if3 .taken)),
+  λ c. let e = c .before .if1 .left in ⊎-elim (λ w. simp (eq-eqb _ _ e, eq-eqb _ _ (w .0 .taken), not-false (eqb (c .before .before .args .year % 400) 0) (w .1 .left))) (λ w. simp (eq-eqb _ _ e, ne-eqb _ _ (w .left))) (c .if2 .came),
+)
 
 pub is-leap-year-spec : {M : Type 1} → statement M
-is-leap-year-spec = tie.close (tie.spec returns returns-2 returns-3)
+is-leap-year-spec = tie.close (tie.spec (returns .0) (returns .1) (returns .2))

@@ -7,14 +7,16 @@ use Rattle.calls.proofs.day.work_row.Tie as tie
 returns : tie.Need-returns
 unfolding workRowOf
 returns c =
-    let e0 = c .new2 .ensures in
-    let e1 = c .before .new .ensures in
-    let e2 = c .before .before .row .ensures in
-    simp (sym e0, sym e1, sym e2, lt-ltb _ _ (c .before .before .before .if1 .taken))
+    let e0 = c .work-date .ensures in
+    let e1 = c .before .row .ensures in
+    simp (sym e0, sym e1, lt-ltb _ _ (c .before .before .before .if1 .taken))
 
 returns-2 : tie.Need-returns-2
 unfolding workRowOf
-returns-2 c = simp (le-ltb _ _ (c .if1 .left))
+returns-2 c =
+    let e0 = c .lacks-row .ensures in
+    simp (sym e0, le-ltb _ _ (c .before .if1 .left))
 
 pub work-row-spec : {M : Type 1} → statement M
-work-row-spec = tie.close (tie.spec (λ c κs. tt) (λ c κs. tt) (λ c κs. tt) returns returns-2)
+work-row-spec =
+    tie.close (tie.spec (λ c κs. tt) (λ c κs. tt) returns (λ c κs. tt) returns-2)

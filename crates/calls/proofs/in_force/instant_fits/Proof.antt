@@ -2,8 +2,8 @@ use mathlib.Core.Path.{sym, ap, _∙_}
 use lib.IntN.{ℤ, pos, negsuc}
 use lib.Signed.{ltZ}
 use mir.Syntax.{w64}
-use Rattle.integers.specs.Order.{lt-yes, lt-no, to-le, to-not-le}
-use Rattle.integers.specs.Ranges.{read}
+use Rattle.integers.proofs.OrderLaws.{lt-yes, lt-no, to-le, to-not-le}
+use Rattle.integers.proofs.Ranges.{read}
 use Rattle.calls.specs.Calls.{instantFits}
 use Rattle.calls.proofs.in_force.instant_fits.Statement.{statement}
 use Rattle.calls.proofs.in_force.instant_fits.Tie as tie

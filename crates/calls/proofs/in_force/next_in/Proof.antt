@@ -1,15 +1,15 @@
 use mathlib.Core.Path.{sym}
-use Rattle.calls.specs.Calls.{followingIn}
+use Rattle.calls.specs.Calls.{nextPrayerIn}
 use borrow.Author.Needs.{needs}
 use Rattle.calls.proofs.in_force.next_in.Statement.{statement}
 use Rattle.calls.proofs.in_force.next_in.Tie as tie
 
 returns : tie.Need-returns
-unfolding followingIn
+unfolding nextPrayerIn
 returns c = simp (c .before .next .given .1)
 
 returns-2 : tie.Need-returns-2
-unfolding followingIn
+unfolding nextPrayerIn
 returns-2 c =
     let e0 = c .none-in-force .ensures in
     simp (sym e0, c .before .enum-told .given .1)

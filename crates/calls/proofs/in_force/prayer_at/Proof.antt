@@ -1,30 +1,24 @@
 use mathlib.Core.Path.{sym, ap, _∙_}
-use lib.IntN.{ℤ}
-use mir.Syntax.{w64}
-use Rattle.integers.specs.Ranges.{read}
-use Rattle.calls.specs.Calls.{instantFits, prayerAtOf}
+use Rattle.schedule.specs.declared.prayer_times.Worked.{Worked}
+use Rattle.calls.specs.declared.in_force.InForce.the-variants as force
+use Rattle.calls.specs.Calls.{inForceOf, prayerAtOf}
+use borrow.Author.Needs.{needs}
 use Rattle.calls.proofs.in_force.prayer_at.Statement.{statement}
 use Rattle.calls.proofs.in_force.prayer_at.Tie as tie
 
 returns : tie.Need-returns
-unfolding prayerAtOf
+unfolding prayerAtOf inForceOf
 returns c =
-    let t = c .before .before .before .before .before in
-    let s = t .args .seconds in
-    let r = read w64 s (t .fits .seconds) in
-    let f = sym (c .before .before .before .instant-fits .ensures ∙ ap (λ (z : ℤ). instantFits z (t .args .nanoseconds)) r) ∙ c .before .before .if1 .taken in
-    c .name-of .ensures ∙ simp (c .before .work-day .ensures, r, f)
+    let w = c .before .before .times .given .1 in
+    let e = c .before .before .before .before .work-at .ensures in
+    ap force.Prayer (c .current-time .ensures) ∙ ap (λ (x : Worked). inForceOf x (c .before .before .before .before .before .before .args .instant)) (sym w ∙ e)
 
 returns-2 : tie.Need-returns-2
-unfolding prayerAtOf
+unfolding prayerAtOf inForceOf
 returns-2 c =
-    let t = c .before .before .before .before in
-    let s = t .args .seconds in
-    let r = read w64 s (t .fits .seconds) in
-    let f = sym (c .before .before .instant-fits .ensures ∙ ap (λ (z : ℤ). instantFits z (t .args .nanoseconds)) r) ∙ c .before .if1 .left in
-    simp (c .beyond .ensures, f)
+    let w = c .before .refusal .given .1 in
+    let e = c .before .before .before .work-at .ensures in
+    ap (λ (x : Worked). inForceOf x (c .before .before .before .before .before .args .instant)) (sym w ∙ e)
 
 pub prayer-at-spec : {M : Type 1} → statement M
-prayer-at-spec =
-    tie.close
-    (tie.spec (λ c κs. tt) (λ c κs. tt) (λ c κs. tt) returns (λ c κs. tt) returns-2)
+prayer-at-spec = tie.close (tie.spec (λ c κs. tt) (λ c. search needs) (λ c κs. tt) (λ c. search needs) returns returns-2)

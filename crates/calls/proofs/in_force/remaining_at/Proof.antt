@@ -1,30 +1,23 @@
 use mathlib.Core.Path.{sym, ap, _∙_}
-use lib.IntN.{ℤ}
-use mir.Syntax.{w64}
-use Rattle.integers.specs.Ranges.{read}
-use Rattle.calls.specs.Calls.{instantFits, remainingAtOf}
+use Rattle.schedule.specs.declared.prayer_times.Worked.{Worked}
+use Rattle.calls.specs.Calls.{timeUntilOf, remainingAtOf, timeUntilIn}
+use borrow.Author.Needs.{needs}
 use Rattle.calls.proofs.in_force.remaining_at.Statement.{statement}
 use Rattle.calls.proofs.in_force.remaining_at.Tie as tie
 
 returns : tie.Need-returns
-unfolding remainingAtOf
+unfolding remainingAtOf timeUntilOf
 returns c =
-    let t = c .before .before .before .before .before in
-    let s = t .args .seconds in
-    let r = read w64 s (t .fits .seconds) in
-    let f = sym (c .before .before .before .instant-fits .ensures ∙ ap (λ (z : ℤ). instantFits z (t .args .nanoseconds)) r) ∙ c .before .before .if1 .taken in
-    c .left-of .ensures ∙ simp (c .before .work-day .ensures, r, f)
+    let w = c .before .before .before .times .given .1 in
+    let e = c .before .before .before .before .before .work-at .ensures in
+    c .until-in .ensures ∙ ap timeUntilIn (c .before .time-remaining .ensures) ∙ ap (λ (x : Worked). timeUntilOf x (c .before .before .before .before .before .before .before .args .instant)) (sym w ∙ e)
 
 returns-2 : tie.Need-returns-2
-unfolding remainingAtOf
+unfolding remainingAtOf timeUntilOf
 returns-2 c =
-    let t = c .before .before .before .before in
-    let s = t .args .seconds in
-    let r = read w64 s (t .fits .seconds) in
-    let f = sym (c .before .before .instant-fits .ensures ∙ ap (λ (z : ℤ). instantFits z (t .args .nanoseconds)) r) ∙ c .before .if1 .left in
-    simp (c .beyond .ensures, f)
+    let w = c .before .refusal .given .1 in
+    let e = c .before .before .before .work-at .ensures in
+    ap (λ (x : Worked). timeUntilOf x (c .before .before .before .before .before .args .instant)) (sym w ∙ e)
 
 pub remaining-at-spec : {M : Type 1} → statement M
-remaining-at-spec =
-    tie.close
-    (tie.spec (λ c κs. tt) (λ c κs. tt) (λ c κs. tt) returns (λ c κs. tt) returns-2)
+remaining-at-spec = tie.close (tie.spec (λ c κs. tt) (λ c. search needs) (λ c κs. tt) (λ c κs. tt) (λ c. search needs) returns returns-2)

@@ -6,129 +6,50 @@ use Rattle.fdlibm_arc.proofs.e_atan2.atan2.Tie as tie
 
 returns : tie.Need-returns
 unfolding atan2Of
-returns c =
-    let e0 = c .not-a-number .ensures in
-    simp (sym e0, c .before .if1 .taken)
+returns c = simp (sym (c .not-a-number .ensures), c .before .if1 .taken)
 
 returns-2 : tie.Need-returns-2
 unfolding atan2Of
-returns-2 c =
-    let e0 = c .not-a-number2 .ensures in
-    simp (sym e0, c .before .if2 .taken, c .before .before .if1 .left)
+returns-2 c = simp (sym (c .not-a-number2 .ensures), c .before .if2 .taken, c .before .before .if1 .left)
 
 returns-3 : tie.Need-returns-3
 unfolding atan2Of
-returns-3 c =
-    let e0 = c .atan .ensures in
-    simp (
-      sym e0,
-      c .before .if3 .taken,
-      c .before .before .if2 .left,
-      c .before .before .before .if1 .left,
-    )
+returns-3 c = simp (sym (c .atan .ensures), c .before .if3 .taken, c .before .before .if2 .left, c .before .before .before .if1 .left)
 
 returns-4 : tie.Need-returns-4
 unfolding atan2Of
 returns-4 c =
-    let e0 = c .level .ensures in
-    let e1 = c .before .before .is-negative2 .ensures in
-    let e2 = c .before .before .before .is-negative .ensures in
-    simp (
-      sym e0,
-      sym e1,
-      sym e2,
-      c .before .if4 .taken,
-      c .before .before .before .before .if3 .left,
-      c .before .before .before .before .before .if2 .left,
-      c .before .before .before .before .before .before .if1 .left,
-    )
+    let d = c .before .before .before .before in
+    simp (sym (c .level .ensures), sym (c .before .before .is-negative2 .ensures), sym (c .before .before .before .is-negative .ensures))
+    (simp (c .before .if4 .taken, d .if3 .left, d .before .if2 .left, d .before .before .if1 .left))
 
 returns-5 : tie.Need-returns-5
 unfolding atan2Of
 returns-5 c =
-    let e0 = c .upright .ensures in
-    let e1 = c .before .before .before .is-negative2 .ensures in
-    let e2 = c .before .before .before .before .is-negative .ensures in
-    simp (
-      sym e0,
-      sym e1,
-      sym e2,
-      c .before .if5 .taken,
-      c .before .before .if4 .left,
-      c .before .before .before .before .before .if3 .left,
-      c .before .before .before .before .before .before .if2 .left,
-      c .before .before .before .before .before .before .before .if1 .left,
-    )
+    let d = c .before .before .before .before in
+    simp (sym (c .upright .ensures), sym (c .before .before .before .is-negative2 .ensures), sym (d .is-negative .ensures))
+    (simp (c .before .if5 .taken, c .before .before .if4 .left, d .before .if3 .left, d .before .before .if2 .left, d .before .before .before .if1 .left))
 
 returns-6 : tie.Need-returns-6
 unfolding atan2Of
 returns-6 c =
-    let e0 = c .infinite .ensures in
-    let e1 = c .before .before .high-word2 .ensures in
-    let e2 = c .before .before .before .high-word .ensures in
-    let e3 = c .before .before .before .before .before .before .is-negative2 .ensures in
-    let e4 = c .before .before .before .before .before .before .before .is-negative .ensures in
-    simp (
-      sym e0,
-      sym e1,
-      sym e2,
-      sym e3,
-      sym e4,
-      eq-eqb _ _ (c .before .if6 .taken),
-      c .before .before .before .before .if5 .left,
-      c .before .before .before .before .before .if4 .left,
-      c .before .before .before .before .before .before .before .before .if3 .left,
-      c .before .before .before .before .before .before .before .before .before .if2 .left,
-      c .before .before .before .before .before .before .before .before .before .before .if1 .left,
-    )
+    let d = c .before .before .before .before in let h = d .before .before .before .before in
+    simp (sym (c .infinite .ensures), sym (c .before .before .high-word2 .ensures), sym (c .before .before .before .high-word .ensures), sym (d .before .before .is-negative2 .ensures), sym (d .before .before .before .is-negative .ensures))
+    (simp (eq-eqb _ _ (c .before .if6 .taken), d .if5 .left, d .before .if4 .left, h .if3 .left, h .before .if2 .left, h .before .before .if1 .left))
 
 returns-7 : tie.Need-returns-7
 unfolding atan2Of
 returns-7 c =
-    let e0 = c .infinite2 .ensures in
-    let e1 = c .before .before .before .high-word2 .ensures in
-    let e2 = c .before .before .before .before .high-word .ensures in
-    let e3 = c .before .before .before .before .before .before .before .is-negative2 .ensures in
-    let e4 = c .before .before .before .before .before .before .before .before .is-negative .ensures in
-    simp (
-      sym e0,
-      sym e1,
-      sym e2,
-      sym e3,
-      sym e4,
-      eq-eqb _ _ (c .before .if7 .taken),
-      ne-eqb _ _ (c .before .before .if6 .left),
-      c .before .before .before .before .before .if5 .left,
-      c .before .before .before .before .before .before .if4 .left,
-      c .before .before .before .before .before .before .before .before .before .if3 .left,
-      c .before .before .before .before .before .before .before .before .before .before .if2 .left,
-      c .before .before .before .before .before .before .before .before .before .before .before .if1 .left,
-    )
+    let d = c .before .before .before .before in let h = d .before .before .before .before in
+    simp (sym (c .infinite2 .ensures), sym (c .before .before .before .high-word2 .ensures), sym (d .high-word .ensures), sym (d .before .before .before .is-negative2 .ensures), sym (h .is-negative .ensures))
+    (simp (eq-eqb _ _ (c .before .if7 .taken), ne-eqb _ _ (c .before .before .if6 .left), d .before .if5 .left, d .before .before .if4 .left, h .before .if3 .left, h .before .before .if2 .left, h .before .before .before .if1 .left))
 
 returns-8 : tie.Need-returns-8
 unfolding atan2Of
 returns-8 c =
-    let e0 = c .finite .ensures in
-    let e1 = c .before .quotient .ensures in
-    let e2 = c .before .before .before .before .high-word2 .ensures in
-    let e3 = c .before .before .before .before .before .high-word .ensures in
-    let e4 = c .before .before .before .before .before .before .before .before .is-negative2 .ensures in
-    let e5 = c .before .before .before .before .before .before .before .before .before .is-negative .ensures in
-    simp (
-      sym e0,
-      sym e1,
-      sym e2,
-      sym e3,
-      sym e4,
-      sym e5,
-      ne-eqb _ _ (c .before .before .if7 .left),
-      ne-eqb _ _ (c .before .before .before .if6 .left),
-      c .before .before .before .before .before .before .if5 .left,
-      c .before .before .before .before .before .before .before .if4 .left,
-      c .before .before .before .before .before .before .before .before .before .before .if3 .left,
-      c .before .before .before .before .before .before .before .before .before .before .before .if2 .left,
-      c .before .before .before .before .before .before .before .before .before .before .before .before .if1 .left,
-    )
+    let d = c .before .before .before .before in let h = d .before .before .before .before in
+    simp (sym (c .finite .ensures), sym (c .before .quotient .ensures), sym (d .high-word2 .ensures), sym (d .before .high-word .ensures), sym (h .is-negative2 .ensures), sym (h .before .is-negative .ensures))
+    (simp (ne-eqb _ _ (c .before .before .if7 .left), ne-eqb _ _ (c .before .before .before .if6 .left), d .before .before .if5 .left, d .before .before .before .if4 .left, h .before .before .if3 .left, h .before .before .before .if2 .left, h .before .before .before .before .if1 .left))
 
 pub atan2-spec : {M : Type 1} → statement M
 atan2-spec =

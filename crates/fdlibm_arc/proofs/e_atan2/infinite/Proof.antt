@@ -4,25 +4,15 @@ use Rattle.fdlibm_arc.specs.Atan2.{infiniteOf}
 use Rattle.fdlibm_arc.proofs.e_atan2.infinite.Statement.{statement}
 use Rattle.fdlibm_arc.proofs.e_atan2.infinite.Tie as tie
 
-returns : tie.Need-returns
+returns : tie.Need-returns × tie.Need-returns-2 × tie.Need-returns-3
 unfolding infiniteOf
-returns c =
-    let e0 = c .quadrant .ensures in
-    simp (sym e0, eq-eqb _ _ (c .before .if2 .taken), eq-eqb _ _ (c .before .before .if1 .taken))
-
-returns-2 : tie.Need-returns-2
-unfolding infiniteOf
-returns-2 c =
-    let e0 = c .quadrant2 .ensures in
-    simp (sym e0, ne-eqb _ _ (c .before .if2 .left), eq-eqb _ _ (c .before .before .if1 .taken))
-
-returns-3 : tie.Need-returns-3
-unfolding infiniteOf
-returns-3 c =
-    let e0 = c .upright .ensures in
-    simp (sym e0, ne-eqb _ _ (c .before .if1 .left))
+returns = (
+  λ c. simp (sym (c .quadrant .ensures), eq-eqb _ _ (c .before .if2 .taken), eq-eqb _ _ (c .before .before .if1 .taken)),
+  λ c. simp (sym (c .quadrant2 .ensures), ne-eqb _ _ (c .before .if2 .left), eq-eqb _ _ (c .before .before .if1 .taken)),
+  λ c. simp (sym (c .upright .ensures), ne-eqb _ _ (c .before .if1 .left)),
+)
 
 pub infinite-spec : {M : Type 1} → statement M
 infinite-spec =
     tie.close
-    (tie.spec (λ c κs. tt) (λ c κs. tt) (λ c κs. tt) returns returns-2 returns-3)
+    (tie.spec (λ c κs. tt) (λ c κs. tt) (λ c κs. tt) (returns .0) (returns .1) (returns .2))

@@ -4,31 +4,16 @@ use Rattle.fdlibm_arc.specs.Atan.{atanLargeOf}
 use Rattle.fdlibm_arc.proofs.s_atan.atan_large.Statement.{statement}
 use Rattle.fdlibm_arc.proofs.s_atan.atan_large.Tie as tie
 
-returns : tie.Need-returns
+returns : tie.Need-returns × tie.Need-returns-2 × tie.Need-returns-3 × tie.Need-returns-4
 unfolding atanLargeOf
-returns c =
-    let e0 = c .atan-from .ensures in
-    simp (sym e0, lt-ltb _ _ (c .before .if2 .taken), lt-ltb _ _ (c .before .before .if1 .taken))
-
-returns-2 : tie.Need-returns-2
-unfolding atanLargeOf
-returns-2 c =
-    let e0 = c .atan-from2 .ensures in
-    simp (sym e0, le-ltb _ _ (c .before .if2 .left), lt-ltb _ _ (c .before .before .if1 .taken))
-
-returns-3 : tie.Need-returns-3
-unfolding atanLargeOf
-returns-3 c =
-    let e0 = c .atan-from3 .ensures in
-    simp (sym e0, lt-ltb _ _ (c .before .if3 .taken), le-ltb _ _ (c .before .before .if1 .left))
-
-returns-4 : tie.Need-returns-4
-unfolding atanLargeOf
-returns-4 c =
-    let e0 = c .atan-from4 .ensures in
-    simp (sym e0, le-ltb _ _ (c .before .if3 .left), le-ltb _ _ (c .before .before .if1 .left))
+returns = (
+  λ c. simp (sym (c .atan-from .ensures), lt-ltb _ _ (c .before .if2 .taken), lt-ltb _ _ (c .before .before .if1 .taken)),
+  λ c. simp (sym (c .atan-from2 .ensures), le-ltb _ _ (c .before .if2 .left), lt-ltb _ _ (c .before .before .if1 .taken)),
+  λ c. simp (sym (c .atan-from3 .ensures), lt-ltb _ _ (c .before .if3 .taken), le-ltb _ _ (c .before .before .if1 .left)),
+  λ c. simp (sym (c .atan-from4 .ensures), le-ltb _ _ (c .before .if3 .left), le-ltb _ _ (c .before .before .if1 .left)),
+)
 
 pub atan-large-spec : {M : Type 1} → statement M
 atan-large-spec =
     tie.close
-    (tie.spec (λ c κs. tt) (λ c κs. tt) (λ c κs. tt) (λ c κs. tt) returns returns-2 returns-3 returns-4)
+    (tie.spec (λ c κs. tt) (λ c κs. tt) (λ c κs. tt) (λ c κs. tt) (returns .0) (returns .1) (returns .2) (returns .3))

@@ -10,13 +10,11 @@ add-result-2 : tie.Need-add-result-2
 add-result-2 c = record { fits = up-fits (c .before .before .before .args .s) (c .before .before .residue .result) (c .before .before .before .pre .1) }
 
 sub-result : tie.Need-sub-result
-sub-result c =
-    down-fits (c .before .before .before .args .s) (c .before .before .residue .result) (omega arith) (omega (arith, leb-true))
+sub-result c = down-fits (c .before .before .before .args .s) (c .before .before .residue .result) (omega arith) (omega (arith, leb-true))
 
 returns : tie.Need-returns
 returns c =
-    let z = c .before .before .residue in
-    let start = c .before .before .before in
+    let z = c .before .before .residue in let start = c .before .before .before in
     λ h. chosen (start .args .m) (start .args .s) (z .result) (z .ensures .1 (omega arith)) (omega arith) (omega (arith, leb-true))
 
 pub corrected-spec : {M : Type 1} → statement M

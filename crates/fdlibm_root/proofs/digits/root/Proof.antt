@@ -20,9 +20,7 @@ loop-holds c = record { turns = lit≤ tt; digits = lit< tt; small = lit< tt; wh
 
 loop-again : tie.Need-loop-again Inv-loop μ-loop
 loop-again c =
-    let m = c .before .before .before .args .m in
-    let l = c .before .before .loop in
-    let t = c .before .loop-test .taken in
+    let m = c .before .before .before .args .m in let l = c .before .before .loop in let t = c .before .loop-test .taken in
     ⊎-elim (λ w. rw (w .1, w .2) (next-one m (l .q) (l .left) (l .rest) (l .i) _ (l .inv) t refl (w .0 .taken)))
     (λ w. rw (w .1, w .2) (next-none m (l .q) (l .left) (l .rest) (l .i) _ (l .inv) t refl (w .0 .left)))
     (c .if1 .came)

@@ -5,31 +5,15 @@ use borrow.Author.Needs.{needs}
 use Rattle.fdlibm_trig.proofs.e_rem_pio2.difference.Statement.{statement}
 use Rattle.fdlibm_trig.proofs.e_rem_pio2.difference.Tie as tie
 
-returns : tie.Need-returns
+returns : tie.Need-returns × tie.Need-returns-2 × tie.Need-returns-3
 unfolding differenceOf
-returns c =
-    let e0 = c .refine .ensures in
-    let e1 = c .before .before .npio2 .ensures in
-    simp (
-      sym e0,
-      sym e1,
-      eq-eqb _ _ (c .before .if2 .taken),
-      lt-ltb _ _ (c .before .before .before .if1 .taken),
-    )
-
-returns-2 : tie.Need-returns-2
-unfolding differenceOf
-returns-2 c =
-    let e0 = c .before .npio2 .ensures in
-    simp (sym e0, ne-eqb _ _ (c .if2 .left), lt-ltb _ _ (c .before .before .if1 .taken))
-
-returns-3 : tie.Need-returns-3
-unfolding differenceOf
-returns-3 c =
-    let e0 = c .refine2 .ensures in
-    simp (sym e0, le-ltb _ _ (c .before .if1 .left))
+returns = (
+  λ c. simp (sym (c .refine .ensures), sym (c .before .before .npio2 .ensures), eq-eqb _ _ (c .before .if2 .taken), lt-ltb _ _ (c .before .before .before .if1 .taken)),
+  λ c. simp (sym (c .before .npio2 .ensures), ne-eqb _ _ (c .if2 .left), lt-ltb _ _ (c .before .before .if1 .taken)),
+  λ c. simp (sym (c .refine2 .ensures), le-ltb _ _ (c .before .if1 .left)),
+)
 
 pub difference-spec : {M : Type 1} → statement M
 difference-spec =
     tie.close
-    (tie.spec (λ c. search needs) (λ c κs. tt) (λ c κs. tt) (λ c κs. tt) returns returns-2 returns-3)
+    (tie.spec (λ c. search needs) (λ c κs. tt) (λ c κs. tt) (λ c κs. tt) (returns .0) (returns .1) (returns .2))

@@ -15,8 +15,7 @@ returns c =
 returns-2 : tie.Need-returns-2
 unfolding refineOf
 returns-2 c =
-    let s1 = c .before .before .before .turn .ensures in
-    let f1 = c .before .before .before .before .before .exponent .ensures .0 in
+    let s1 = c .before .before .before .turn .ensures in let f1 = c .before .before .before .before .before .exponent .ensures .0 in
     let f2 = c .before .exponent2 .ensures .0 in
     simp (s1, lt-ltb _ _ (rw f1 at (c .before .before .before .before .if1 .taken)), le-ltb _ _ (simp (f2, s1) at (c .if2 .left)))
 

@@ -6,71 +6,34 @@ use Rattle.fdlibm_trig.proofs.e_rem_pio2.rem_pio2.Tie as tie
 
 returns : tie.Need-returns
 unfolding remPio2Of
-returns c =
-    let e0 = c .before .high-word .ensures in
-    simp (sym e0, le-leb _ _ (c .if1 .taken))
+returns c = simp (sym (c .before .high-word .ensures), le-leb _ _ (c .if1 .taken))
 
 returns-2 : tie.Need-returns-2
 unfolding remPio2Of
 returns-2 c =
-    let e0 = c .more .ensures in
-    let e1 = c .before .near-negative .ensures in
-    let e2 = c .before .before .before .before .before .high-word .ensures in
-    simp (
-      sym e0,
-      sym e1,
-      sym e2,
-      c .before .before .if3 .taken,
-      lt-ltb _ _ (c .before .before .before .if2 .taken),
-      lt-leb _ _ (c .before .before .before .before .if1 .left),
-    )
+    let d = c .before .before .before .before in
+    simp (sym (c .more .ensures), sym (c .before .near-negative .ensures), sym (d .before .high-word .ensures))
+    (simp (c .before .before .if3 .taken, lt-ltb _ _ (c .before .before .before .if2 .taken), lt-leb _ _ (d .if1 .left)))
 
 returns-3 : tie.Need-returns-3
 unfolding remPio2Of
 returns-3 c =
-    let e0 = c .less .ensures in
-    let e1 = c .before .near .ensures in
-    let e2 = c .before .before .before .before .before .high-word .ensures in
-    simp (
-      sym e0,
-      sym e1,
-      sym e2,
-      c .before .before .if3 .left,
-      lt-ltb _ _ (c .before .before .before .if2 .taken),
-      lt-leb _ _ (c .before .before .before .before .if1 .left),
-    )
+    let d = c .before .before .before .before in
+    simp (sym (c .less .ensures), sym (c .before .near .ensures), sym (d .before .high-word .ensures))
+    (simp (c .before .before .if3 .left, lt-ltb _ _ (c .before .before .before .if2 .taken), lt-leb _ _ (d .if1 .left)))
 
 returns-4 : tie.Need-returns-4
 unfolding remPio2Of
 returns-4 c =
-    let e0 = c .turned .ensures in
-    let e1 = c .before .medium .ensures in
-    let e2 = c .before .before .abs .ensures in
-    let e3 = c .before .before .before .before .before .before .high-word .ensures in
-    simp (
-      e0,
-      e1,
-      e2,
-      e3,
-      (c .before .before .before .if4 .taken),
-      le-ltb _ _ (simp (e3) at (c .before .before .before .before .if2 .left)),
-      lt-leb _ _ (simp (e3) at (c .before .before .before .before .before .if1 .left)),
-    )
+    let d = c .before .before .before .before in let e3 = d .before .before .high-word .ensures in
+    simp (c .turned .ensures, c .before .medium .ensures, c .before .before .abs .ensures, e3, (c .before .before .before .if4 .taken), le-ltb _ _ (simp (e3) at (d .if2 .left)), lt-leb _ _ (simp (e3) at (d .before .if1 .left)))
 
 returns-5 : tie.Need-returns-5
 unfolding remPio2Of
 returns-5 c =
-    let e0 = c .medium2 .ensures in
-    let e1 = c .before .abs2 .ensures in
-    let e2 = c .before .before .before .before .before .high-word .ensures in
-    simp (
-      sym e0,
-      sym e1,
-      sym e2,
-      c .before .before .if4 .left,
-      le-ltb _ _ (c .before .before .before .if2 .left),
-      lt-leb _ _ (c .before .before .before .before .if1 .left),
-    )
+    let d = c .before .before .before .before in
+    simp (sym (c .medium2 .ensures), sym (c .before .abs2 .ensures), sym (d .before .high-word .ensures))
+    (simp (c .before .before .if4 .left, le-ltb _ _ (c .before .before .before .if2 .left), lt-leb _ _ (d .if1 .left)))
 
 pub rem-pio2-spec : {M : Type 1} → statement M
 rem-pio2-spec =

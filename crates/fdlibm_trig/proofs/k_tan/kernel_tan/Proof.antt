@@ -4,51 +4,16 @@ use Rattle.fdlibm_trig.specs.KTan.{kernelTanOf}
 use Rattle.fdlibm_trig.proofs.k_tan.kernel_tan.Statement.{statement}
 use Rattle.fdlibm_trig.proofs.k_tan.kernel_tan.Tie as tie
 
-returns : tie.Need-returns
+returns : tie.Need-returns × tie.Need-returns-2 × tie.Need-returns-3 × tie.Need-returns-4
 unfolding kernelTanOf
-returns c =
-    let e0 = c .tan-small .ensures in
-    let e1 = c .before .before .high-word .ensures in
-    simp (sym e0, sym e1, lt-ltb _ _ (c .before .if1 .taken))
-
-returns-2 : tie.Need-returns-2
-unfolding kernelTanOf
-returns-2 c =
-    let e0 = c .tan-large .ensures in
-    let e1 = c .before .before .side .ensures in
-    let e2 = c .before .before .before .before .before .high-word .ensures in
-    simp (
-      sym e0,
-      sym e1,
-      sym e2,
-      c .before .if3 .taken,
-      le-leb _ _ (c .before .before .before .if2 .taken),
-      le-ltb _ _ (c .before .before .before .before .if1 .left),
-    )
-
-returns-3 : tie.Need-returns-3
-unfolding kernelTanOf
-returns-3 c =
-    let e0 = c .tan-large2 .ensures in
-    let e1 = c .before .before .side .ensures in
-    let e2 = c .before .before .before .before .before .high-word .ensures in
-    simp (
-      sym e0,
-      sym e1,
-      sym e2,
-      c .before .if3 .left,
-      le-leb _ _ (c .before .before .before .if2 .taken),
-      le-ltb _ _ (c .before .before .before .before .if1 .left),
-    )
-
-returns-4 : tie.Need-returns-4
-unfolding kernelTanOf
-returns-4 c =
-    let e0 = c .tan-middle .ensures in
-    let e1 = c .before .before .before .high-word .ensures in
-    simp (sym e0, sym e1, lt-leb _ _ (c .before .if2 .left), le-ltb _ _ (c .before .before .if1 .left))
+returns = (
+  λ c. simp (sym (c .tan-small .ensures), sym (c .before .before .high-word .ensures), lt-ltb _ _ (c .before .if1 .taken)),
+  λ c. let d = c .before .before .before .before in simp (sym (c .tan-large .ensures), sym (c .before .before .side .ensures), sym (d .before .high-word .ensures)) (simp (c .before .if3 .taken, le-leb _ _ (c .before .before .before .if2 .taken), le-ltb _ _ (d .if1 .left))),
+  λ c. let d = c .before .before .before .before in simp (sym (c .tan-large2 .ensures), sym (c .before .before .side .ensures), sym (d .before .high-word .ensures)) (simp (c .before .if3 .left, le-leb _ _ (c .before .before .before .if2 .taken), le-ltb _ _ (d .if1 .left))),
+  λ c. simp (sym (c .tan-middle .ensures), sym (c .before .before .before .high-word .ensures), lt-leb _ _ (c .before .if2 .left), le-ltb _ _ (c .before .before .if1 .left)),
+)
 
 pub kernel-tan-spec : {M : Type 1} → statement M
 kernel-tan-spec =
     tie.close
-    (tie.spec (λ c κs. tt) (λ c κs. tt) returns (λ c κs. tt) (λ c κs. tt) (λ c κs. tt) (λ c κs. tt) returns-2 returns-3 returns-4)
+    (tie.spec (λ c κs. tt) (λ c κs. tt) (returns .0) (λ c κs. tt) (λ c κs. tt) (λ c κs. tt) (λ c κs. tt) (returns .1) (returns .2) (returns .3))

@@ -5,16 +5,11 @@ use Rattle.fdlibm_trig.proofs.k_tan.tan_middle.Tie as tie
 
 returns : tie.Need-returns
 unfolding tanMiddleOf
-returns c =
-    let e0 = c .reciprocal .ensures in
-    let e1 = c .before .before .tan-rest .ensures in
-    simp (sym e0, sym e1, c .before .if1 .taken)
+returns c = simp (sym (c .reciprocal .ensures), sym (c .before .before .tan-rest .ensures), c .before .if1 .taken)
 
 returns-2 : tie.Need-returns-2
 unfolding tanMiddleOf
-returns-2 c =
-    let e0 = c .before .tan-rest .ensures in
-    simp (sym e0, c .if1 .left)
+returns-2 c = simp (sym (c .before .tan-rest .ensures), c .if1 .left)
 
 pub tan-middle-spec : {M : Type 1} → statement M
 tan-middle-spec = tie.close (tie.spec (λ c κs. tt) (λ c κs. tt) returns returns-2)

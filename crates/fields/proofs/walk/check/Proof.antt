@@ -8,13 +8,11 @@ use Rattle.fields.proofs.walk.check.Tie as tie
 
 returns : tie.Need-returns
 unfolding checkOf
-returns c = simp (lt-ltb _ _ (c .if1 .taken))
+returns c = simp (c .new .ensures, lt-ltb _ _ (c .before .if1 .taken))
 
 returns-2 : tie.Need-returns-2
 unfolding checkOf
-returns-2 c =
-    let e0 = c .walk .ensures in
-    simp (sym e0, le-ltb _ _ (c .before .if1 .left))
+returns-2 c = simp (sym (c .walk .ensures), le-ltb _ _ (c .before .if1 .left))
 
 pub check-spec : {M : Type 1} → statement M
-check-spec = tie.close (tie.spec returns (λ c κs. search needs) returns-2)
+check-spec = tie.close (tie.spec (λ c κs. search needs) returns (λ c κs. search needs) returns-2)

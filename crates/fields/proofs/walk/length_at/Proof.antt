@@ -9,4 +9,4 @@ unfolding lengthAt
 returns c = search needs
 
 pub length-at-spec : {M : Type 1} → statement M
-length-at-spec = tie.close (tie.spec (λ c. search needs) (λ c κs. tt) (λ c. search needs) returns)
+length-at-spec = tie.close (tie.spec (λ c. search needs) (λ c κs. tt) returns)

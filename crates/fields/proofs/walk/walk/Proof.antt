@@ -22,9 +22,10 @@ loop-holds c = (length (c .before .args .order .now), omega arith, refl)
 
 returns : tie.Need-returns Inv-loop μ-loop
 returns c =
-    let h = c .before .before .before .loop .inv in
-    let s = c .before .before .before .before .before .args .order .now in
-    sym (walk-stop (h .0) s (c .before .before .before .loop .at) (c .before .fault .result) (h .1) (c .before .before .loop-test .taken) (c .before .fault .ensures) (c .if1 .taken)) ∙ h .2
+    let b = c .before in
+    let l = b .before .before .before .loop in
+    let s = b .before .before .before .before .before .args .order .now in
+    c .new .ensures ∙ sym (walk-stop (l .inv .0) s (l .at) (b .before .fault .result) (l .inv .1) (b .before .before .loop-test .taken) (b .before .fault .ensures) (b .if1 .taken)) ∙ l .inv .2
 
 loop-again : tie.Need-loop-again Inv-loop μ-loop
 loop-again c =
@@ -35,10 +36,11 @@ loop-again c =
 
 returns-2 : tie.Need-returns-2 Inv-loop μ-loop
 returns-2 c =
-    let h = c .before .loop .inv in
-    sym (walk-end (h .0) (c .before .before .before .args .order .now) (c .before .loop .at) (c .loop-test .left)) ∙ h .2
+    let b = c .before in
+    let l = b .before .loop in
+    c .none .ensures ∙ sym (walk-end (l .inv .0) (b .before .before .before .args .order .now) (l .at) (b .loop-test .left)) ∙ l .inv .2
 
 pub walk-spec : {M : Type 1} → statement M
 walk-spec =
     tie.close
-    (tie.spec Inv-loop μ-loop loop-holds (λ c κs. search needs) (λ c. search needs) returns (λ c. search needs) (λ c κs. search needs) (λ c. search needs) (λ c. search needs) loop-again returns-2)
+    (tie.spec Inv-loop μ-loop loop-holds (λ c κs. search needs) (λ c. search needs) (λ c κs. search needs) returns (λ c. search needs) (λ c κs. search needs) (λ c. search needs) (λ c. search needs) (λ c. search needs) loop-again (λ c κs. search needs) returns-2)

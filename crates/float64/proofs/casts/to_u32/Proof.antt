@@ -24,21 +24,15 @@ small r x e f = cast-below 32 4294967296 end end-value (lit≤ tt) (lit≤ tt) r
 
 float-to-int-result : tie.Need-float-to-int-result
 float-to-int-result c =
-    let t = c .before in
-    let b = t .before .before in
+    let t = c .before in let b = t .before .before in
     small (t .trunc .result) (b .before .args .x) (t .trunc .ensures) (b .before .good .0 .1) (b .if1 .taken) (t .before .if2 .taken) .0
 
-returns : tie.Need-returns
-returns c =
-    let t = c .before in
-    let b = t .before .before in
-    small (t .trunc .result) (b .before .args .x) (t .trunc .ensures) (b .before .good .0 .1) (b .if1 .taken) (t .before .if2 .taken) .1
-
-returns-2 : tie.Need-returns-2
-returns-2 c = cast-end 32 end end-value (c .before .before .args .x) (c .before .if1 .taken) (c .if2 .left)
-
-returns-3 : tie.Need-returns-3
-returns-3 c = cast-zero 32 (c .before .args .x) (c .if1 .left)
+returns : tie.Need-returns × tie.Need-returns-2 × tie.Need-returns-3
+returns = (
+  λ c. let t = c .before in let b = t .before .before in small (t .trunc .result) (b .before .args .x) (t .trunc .ensures) (b .before .good .0 .1) (b .if1 .taken) (t .before .if2 .taken) .1,
+  λ c. cast-end 32 end end-value (c .before .before .args .x) (c .before .if1 .taken) (c .if2 .left),
+  λ c. cast-zero 32 (c .before .args .x) (c .if1 .left),
+)
 
 pub to-u32-spec : {M : Type 1} → statement M
-to-u32-spec = tie.close (tie.spec (λ c κs. tt) float-to-int-result returns returns-2 returns-3)
+to-u32-spec = tie.close (tie.spec (λ c κs. tt) float-to-int-result (returns .0) (returns .1) (returns .2))

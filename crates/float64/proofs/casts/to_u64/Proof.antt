@@ -25,34 +25,21 @@ small r x e f = cast-below 64 W whole64 (whole64-value 1) (lit≤ tt) (lit≤ tt
 
 float-to-int-result : tie.Need-float-to-int-result
 float-to-int-result c =
-    let t = c .before in
-    let b = t .before .before in
+    let t = c .before in let b = t .before .before in
     small (t .trunc .result) (b .before .args .x) (t .trunc .ensures) (b .before .good .0 .1) (b .if1 .taken) (t .before .if2 .taken) .0
 
-returns : tie.Need-returns
-returns c =
-    let t = c .before in
-    let b = t .before .before in
-    small (t .trunc .result) (b .before .args .x) (t .trunc .ensures) (b .before .good .0 .1) (b .if1 .taken) (t .before .if2 .taken) .1
+returns : tie.Need-returns × tie.Need-returns-3 × tie.Need-returns-4
+returns = (
+  λ c. let t = c .before in let b = t .before .before in small (t .trunc .result) (b .before .args .x) (t .trunc .ensures) (b .before .good .0 .1) (b .if1 .taken) (t .before .if2 .taken) .1,
+  λ c. cast-end 64 end end-value (c .before .before .before .args .x) (c .before .before .if1 .taken) (c .if3 .left),
+  λ c. cast-zero 64 (c .before .args .x) (c .if1 .left),
+)
 
 truncating-f64-to-u64-requires : tie.Need-truncating-f64-to-u64-requires
 unfolding ofBits
 truncating-f64-to-u64-requires c κs = (above-minus-one (c .before .before .before .args .x) (c .before .before .if1 .taken), subst T (sym (c .if3 .taken)) tt)
 
-returns-3 : tie.Need-returns-3
-returns-3 c = cast-end 64 end end-value (c .before .before .before .args .x) (c .before .before .if1 .taken) (c .if3 .left)
-
-returns-4 : tie.Need-returns-4
-returns-4 c = cast-zero 64 (c .before .args .x) (c .if1 .left)
-
 pub to-u64-spec : {M : Type 1} → statement M
 to-u64-spec =
     tie.close
-    (tie.spec
-    (λ c κs. tt)
-    float-to-int-result
-    returns
-    truncating-f64-to-u64-requires
-    (λ c. c .truncating-f64-to-u64 .ensures)
-    returns-3
-    returns-4)
+    (tie.spec (λ c κs. tt) float-to-int-result (returns .0) truncating-f64-to-u64-requires (λ c. c .truncating-f64-to-u64 .ensures) (returns .1) (returns .2))

@@ -8,14 +8,12 @@ use Rattle.float64.proofs.whole.lower.Tie as tie
 
 returns : tie.Need-returns
 returns c =
-    let b = c .before .before in
-    let x = b .args .x in
+    let b = c .before .before in let x = b .args .x in
     lower-at x (passes (fits binary64 x) (b .good .0 .1)) (b .pre) (c .before .if1 .taken)
 
 returns-2 : tie.Need-returns-2
 returns-2 c =
-    let b = c .before in
-    let x = b .args .x in
+    let b = c .before in let x = b .args .x in
     still-far x (passes (fits binary64 x) (b .good .0 .1)) (b .pre) (c .if1 .left) .0 .1
 
 pub lower-spec : {M : Type 1} → statement M

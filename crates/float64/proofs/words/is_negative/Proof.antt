@@ -1,7 +1,7 @@
 use mathlib.Core.Path.{sym, ap}
 use lib.Ieee.{fits, binary64}
 use denote.Floats.{passes}
-use Rattle.float64.specs.Words.{signOf}
+use Rattle.float64.specs.Words.{isNegativeOf}
 use Rattle.float64.proofs.Patterns.{is-nan, no-nan, sign-bit}
 use Rattle.float64.proofs.words.is_negative.Statement.{statement}
 use Rattle.float64.proofs.words.is_negative.Tie as tie
@@ -10,8 +10,8 @@ float-to-bits-result : tie.Need-float-to-bits-result
 float-to-bits-result c = no-nan (c .before .args .x) (c .if1 .left)
 
 returns : tie.Need-returns
-unfolding signOf
-returns c = sym (ap signOf (is-nan (c .before .args .x) (c .if1 .taken)))
+unfolding isNegativeOf
+returns c = sym (ap isNegativeOf (is-nan (c .before .args .x) (c .if1 .taken)))
 
 returns-2 : tie.Need-returns-2
 returns-2 c =

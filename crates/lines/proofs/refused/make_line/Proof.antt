@@ -3,24 +3,11 @@ use mathlib.Core.Path.{_≡_}
 use lib.ListN.{length}
 use denote.Ref.{now}
 use Rattle.text.specs.Text.{ascii}
-use Rattle.lines.specs.LinesLaws.{number-length}
+use Rattle.lines.proofs.LinesLaws.{number-length}
 use Rattle.lines.proofs.Making.{line-made}
 use borrow.Author.Needs.{needs}
 use Rattle.lines.proofs.refused.make_line.Statement.{statement}
 use Rattle.lines.proofs.refused.make_line.Tie as tie
-use Rattle.lines.proofs.refused.make_line.Reads as reads
-use Rattle.lines.proofs.refused.make_line.Lts as lts
-use Rattle.lines.proofs.refused.put_number.Reads as put-number-reads
-use Rattle.text.proofs.put.put.Reads as put-reads
-
-put-requires : tie.Need-put-requires
-put-requires c κs = search needs
-
-slice-aggregate-put-number : tie.Need-slice-aggregate-put-number
-slice-aggregate-put-number c = search needs
-
-put-number-requires : tie.Need-put-number-requires
-put-number-requires c κs = search needs
 
 put-number-requires-2 : tie.Need-put-number-requires-2
 put-number-requires-2 c κs =
@@ -33,12 +20,6 @@ put-number-requires-2 c κs =
     let j : length (c .before .before .before .before .before .before .before .before .put .last .0) ≡ length (now (a .line)) = c .before .before .before .before .before .before .before .before .put .kept .0 in
     (p .1, omega (arith, p .0, p .1, p .2), omega (arith, p .2))
 
-slice-aggregate-put : tie.Need-slice-aggregate-put
-slice-aggregate-put c = search needs
-
-put-requires-2 : tie.Need-put-requires-2
-put-requires-2 c κs = search needs
-
 add-result : tie.Need-add-result
 add-result c =
     let a = c .before .before .before .before .before .before .before .before .before .before .before .before .before .before .before .before .before .before .before .before .before .args in
@@ -48,9 +29,6 @@ add-result c =
     let m = c .before .before .before .before .before .before .before .before .before .before .before .put-number .ensures .0 in
     let n = c .before .before .before .before .before .before .before .put-number2 .ensures .0 in
     record { fits = omega (arith, p .0, p .1) }
-
-same-length : tie.Need-same-length
-same-length c = search needs
 
 returns : tie.Need-returns
 returns c =
@@ -64,13 +42,4 @@ returns c =
 pub make-line-spec : {M : Type 1} → statement M
 make-line-spec =
     tie.close
-    (tie.spec
-    put-requires
-    slice-aggregate-put-number
-    put-number-requires
-    put-number-requires-2
-    slice-aggregate-put
-    put-requires-2
-    add-result
-    same-length
-    returns)
+    (tie.spec (λ c κs. search needs) (λ c. search needs) (λ c κs. search needs) put-number-requires-2 (λ c. search needs) (λ c κs. search needs) add-result (λ c. search needs) returns)

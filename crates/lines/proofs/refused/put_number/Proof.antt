@@ -1,23 +1,10 @@
 use native.Mathlib.Omega.{arith}
 use denote.Ref.{now}
-use Rattle.text.specs.TextLaws.{digits-short}
+use Rattle.text.proofs.TextLaws.{digits-short}
 use Rattle.lines.proofs.Making.{number-made, number-end}
 use borrow.Author.Needs.{needs}
 use Rattle.lines.proofs.refused.put_number.Statement.{statement}
 use Rattle.lines.proofs.refused.put_number.Tie as tie
-use Rattle.lines.proofs.refused.put_number.Reads as reads
-use Rattle.lines.proofs.refused.put_number.Lts as lts
-use Rattle.text.proofs.decimal.put_decimal.Reads as put-decimal-reads
-use Rattle.text.proofs.put.put.Reads as put-reads
-
-put-requires : tie.Need-put-requires
-put-requires c κs = search needs
-
-add-end : tie.Need-add-end
-add-end c = search needs
-
-put-decimal-requires : tie.Need-put-decimal-requires
-put-decimal-requires c κs = search needs
 
 add-result : tie.Need-add-result
 add-result c =
@@ -25,9 +12,6 @@ add-result c =
     let e = c .before .before .put-decimal .ensures .0 in
     let p = c .before .before .before .before .before .before .before .before .before .before .pre in
     record { fits = omega (arith, p .0, p .1, p .2) }
-
-same-length : tie.Need-same-length
-same-length c = search needs
 
 returns : tie.Need-returns
 returns c =
@@ -38,4 +22,4 @@ returns c =
 
 pub put-number-spec : {M : Type 1} → statement M
 put-number-spec =
-    tie.close (tie.spec put-requires add-end put-decimal-requires add-result same-length returns)
+    tie.close (tie.spec (λ c κs. search needs) (λ c. search needs) (λ c κs. search needs) add-result (λ c. search needs) returns)

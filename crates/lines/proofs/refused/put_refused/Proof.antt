@@ -2,22 +2,12 @@ use native.Mathlib.Omega.{arith}
 use mathlib.Core.Path.{_≡_, sym, ap, _∙_}
 use lib.ListN.{length}
 use denote.Ref.{now}
-use Rattle.text.specs.TextLaws.{cut-front}
+use Rattle.text.proofs.TextLaws.{cut-front}
 use Rattle.lines.specs.Lines.{refusedText}
-use Rattle.lines.specs.LinesLaws.{refused-length}
+use Rattle.lines.proofs.LinesLaws.{refused-length}
 use borrow.Author.Needs.{needs}
 use Rattle.lines.proofs.refused.put_refused.Statement.{statement}
 use Rattle.lines.proofs.refused.put_refused.Tie as tie
-use Rattle.lines.proofs.refused.put_refused.Reads as reads
-use Rattle.lines.proofs.refused.put_refused.Lts as lts
-use Rattle.lines.proofs.refused.make_line.Reads as make-line-reads
-use Rattle.text.proofs.put.put.Reads as put-reads
-
-slice-aggregate-make-line : tie.Need-slice-aggregate-make-line
-slice-aggregate-make-line c = search needs
-
-make-line-requires : tie.Need-make-line-requires
-make-line-requires c κs = search needs
 
 array-share-prefix-line : tie.Need-array-share-prefix-line
 array-share-prefix-line c =
@@ -35,12 +25,6 @@ slice-aggregate-put c =
     let m = c .before .before .before .make-line in
     m .ensures .0 ∙ sym (ap length (cut-front (refusedText (now (a .whose)) (now (a .word)) (a .refusal)) _ (m .last .0) (m .result) (m .ensures .0) (m .ensures .1)))
 
-put-requires : tie.Need-put-requires
-put-requires c κs = search needs
-
-same-length : tie.Need-same-length
-same-length c = search needs
-
 returns : tie.Need-returns
 returns c =
     let a = c .before .before .before .before .before .before .before .before .before .before .before .args in
@@ -51,11 +35,4 @@ returns c =
 pub put-refused-spec : {M : Type 1} → statement M
 put-refused-spec =
     tie.close
-    (tie.spec
-    slice-aggregate-make-line
-    make-line-requires
-    array-share-prefix-line
-    slice-aggregate-put
-    put-requires
-    same-length
-    returns)
+    (tie.spec (λ c. search needs) (λ c κs. search needs) array-share-prefix-line slice-aggregate-put (λ c κs. search needs) (λ c. search needs) returns)

@@ -4,7 +4,7 @@ use lib.Dec.{eqb}
 use lib.IntN.{ℤ}
 use mir.Syntax.{w64}
 use Rattle.integers.specs.Quotients.{floorQuot}
-use Rattle.integers.specs.Ranges.{readBack, read}
+use Rattle.integers.proofs.Ranges.{readBack, read}
 use Rattle.calendar.specs.Days.{weekdayOf}
 use Rattle.models.specs.Names.{isFridayOf}
 use borrow.Author.Needs.{needs}
@@ -14,8 +14,7 @@ use Rattle.models.proofs.prayer.is_friday.Tie as tie
 returns : tie.Need-returns
 unfolding isFridayOf
 returns c =
-    let t = c .before .before in
-    let k : readBack w64 (c .before .day-of .result) ≡ c .before .day-of .result = search needs in
+    let t = c .before .before in let k : readBack w64 (c .before .day-of .result) ≡ c .before .day-of .result = search needs in
     let s = ap (λ (z : ℤ). floorQuot z 86400) (read w64 (t .args .seconds) (t .fits .seconds)) in
     ap (λ (n : ℕ). eqb n 5) (c .weekday .ensures ∙ ap weekdayOf (k ∙ c .before .day-of .ensures ∙ s))
 

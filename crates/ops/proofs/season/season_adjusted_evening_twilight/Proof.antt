@@ -1,8 +1,8 @@
 use mathlib.Core.Path.{_≡_, ap, _∙_}
 use mir.Syntax.{w32, w64}
 use mir.Val.{SFits}
-use Rattle.integers.specs.Ranges.{readBack, read, wide, read-wide}
-use Rattle.integers.specs.Sums.{summands}
+use Rattle.integers.proofs.Ranges.{readBack, read, wide, read-wide}
+use Rattle.integers.proofs.Sums.{summands}
 use Rattle.stride.specs.Times.{satOf, roundedOf}
 use lib.IntN.{ℤ}
 use Rattle.models.specs.declared.rounding.Rounding.the-variants.{Nearest}
@@ -26,6 +26,4 @@ returns c =
     k ∙ c .rounded-minute .ensures ∙ ap (λ (x : ℤ). satOf (roundedOf Nearest x)) (p ∙ c .before .plus .ensures ∙ ap satOf s)
 
 pub season-adjusted-evening-twilight-spec : {M : Type 1} → statement M
-season-adjusted-evening-twilight-spec =
-    tie.close
-    (tie.spec (λ c κs. tt) cast-plus (λ c κs. tt) (λ c κs. tt) returns)
+season-adjusted-evening-twilight-spec = tie.close (tie.spec (λ c κs. tt) cast-plus (λ c κs. tt) (λ c κs. tt) returns)

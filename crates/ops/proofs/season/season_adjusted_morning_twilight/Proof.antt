@@ -1,8 +1,8 @@
 use mathlib.Core.Path.{_≡_, ap, _∙_}
 use mir.Syntax.{w32, w64}
 use mir.Val.{SFits}
-use Rattle.integers.specs.Ranges.{readBack, read, wide, read-wide}
-use Rattle.integers.specs.Sums.{summands}
+use Rattle.integers.proofs.Ranges.{readBack, read, wide, read-wide}
+use Rattle.integers.proofs.Sums.{summands}
 use Rattle.stride.specs.Times.{satOf}
 use borrow.Author.Needs.{needs}
 use Rattle.ops.proofs.season.season_adjusted_morning_twilight.Statement.{statement}
@@ -22,5 +22,4 @@ returns c =
     k ∙ c .plus .ensures ∙ ap satOf (summands (read w64 (t .args .sunrise) (t .fits .sunrise)) (read-wide z f ∙ c .before .morning-twilight-seconds .ensures))
 
 pub season-adjusted-morning-twilight-spec : {M : Type 1} → statement M
-season-adjusted-morning-twilight-spec =
-    tie.close (tie.spec (λ c κs. tt) cast-plus (λ c κs. tt) returns)
+season-adjusted-morning-twilight-spec = tie.close (tie.spec (λ c κs. tt) cast-plus (λ c κs. tt) returns)

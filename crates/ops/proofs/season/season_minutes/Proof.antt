@@ -6,6 +6,4 @@ returns : tie.Need-returns
 returns c = simp (c .twilight-adjustments .ensures, c .before .twilight-adjustment-values .ensures, c .before .before .before .days-since-solstice .ensures)
 
 pub season-minutes-spec : {M : Type 1} → statement M
-season-minutes-spec =
-    tie.close
-    (tie.spec (λ c κs. search needs) (λ c. search needs) (λ c κs. search needs) (λ c κs. search needs) returns)
+season-minutes-spec = tie.close (tie.spec (λ c κs. tt) (λ c. search needs) (λ c κs. tt) (λ c κs. tt) returns)

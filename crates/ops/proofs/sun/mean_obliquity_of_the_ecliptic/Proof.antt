@@ -1,7 +1,6 @@
 use lib.Ieee.{round, ofBits}
 use Rattle.float64.specs.Ops.{dec}
 use Rattle.ops.specs.Sun.{meanObliquityOfTheEclipticOf}
-use borrow.Author.Needs.{needs}
 use Rattle.ops.proofs.sun.mean_obliquity_of_the_ecliptic.Statement.{statement}
 use Rattle.ops.proofs.sun.mean_obliquity_of_the_ecliptic.Tie as tie
 
@@ -10,5 +9,4 @@ unfolding meanObliquityOfTheEclipticOf dec round ofBits
 returns c = simp (c .new .ensures, c .before .cubed .ensures, c .before .before .squared .ensures)
 
 pub mean-obliquity-of-the-ecliptic-spec : {M : Type 1} → statement M
-mean-obliquity-of-the-ecliptic-spec =
-    tie.close (tie.spec (λ c κs. search needs) (λ c κs. search needs) (λ c κs. search needs) returns)
+mean-obliquity-of-the-ecliptic-spec = tie.close (tie.spec (λ c κs. tt) (λ c κs. tt) (λ c κs. tt) returns)

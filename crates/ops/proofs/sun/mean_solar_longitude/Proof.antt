@@ -1,7 +1,6 @@
 use lib.Ieee.{round, ofBits}
 use Rattle.float64.specs.Ops.{dec}
 use Rattle.ops.specs.Sun.{meanSolarLongitudeOf}
-use borrow.Author.Needs.{needs}
 use Rattle.ops.proofs.sun.mean_solar_longitude.Statement.{statement}
 use Rattle.ops.proofs.sun.mean_solar_longitude.Tie as tie
 
@@ -10,5 +9,4 @@ unfolding meanSolarLongitudeOf dec round ofBits
 returns c = simp (c .unwound .ensures, c .before .new .ensures, c .before .before .squared .ensures)
 
 pub mean-solar-longitude-spec : {M : Type 1} → statement M
-mean-solar-longitude-spec =
-    tie.close (tie.spec (λ c κs. search needs) (λ c κs. search needs) (λ c κs. search needs) returns)
+mean-solar-longitude-spec = tie.close (tie.spec (λ c κs. tt) (λ c κs. tt) (λ c κs. tt) returns)

@@ -1,5 +1,4 @@
-use Rattle.ops.specs.Shared.{hour-number-shared}
-use borrow.Author.Needs.{needs}
+use Rattle.ops.proofs.SharedLaws.{hour-number-shared}
 use Rattle.ops.proofs.transit.corrected_hour_angle.Statement.{statement}
 use Rattle.ops.proofs.transit.corrected_hour_angle.Tie as tie
 
@@ -10,5 +9,4 @@ returns c =
     (hour-number-shared (a .approximate-transit) (a .coordinates) (a .sidereal-time) (a .right-ascension) (a .previous-right-ascension) (a .next-right-ascension) (a .declination) (a .previous-declination) (a .next-declination) (a .angle) (a .after-transit))
 
 pub corrected-hour-angle-spec : {M : Type 1} → statement M
-corrected-hour-angle-spec =
-    tie.close (tie.spec (λ c κs. search needs) (λ c κs. search needs) (λ c κs. search needs) (λ c κs. search needs) returns)
+corrected-hour-angle-spec = tie.close (tie.spec (λ c κs. tt) (λ c κs. tt) (λ c κs. tt) (λ c κs. tt) returns)

@@ -1,16 +1,14 @@
 use lib.Ieee.{round, ofBits}
 use Rattle.float64.specs.Ops.{dec}
-use Rattle.ops.specs.Transit.{correctedTransitOf}
-use Rattle.ops.specs.Transit.{hourAngleAtOf}
-use borrow.Author.Needs.{needs}
+use Rattle.ops.specs.Transit.{correctedTransitOf, hourAngleAtOf}
 use Rattle.ops.proofs.transit.corrected_transit.Statement.{statement}
 use Rattle.ops.proofs.transit.corrected_transit.Tie as tie
 
 returns : tie.Need-returns
 unfolding correctedTransitOf hourAngleAtOf dec round ofBits
-returns c = simp (c .before .div .ensures, c .before .before .new2 .ensures, c .before .before .before .quadrant-shifted .ensures, c .before .before .before .before .sub2 .ensures, c .before .before .before .before .before .sub .ensures, c .before .before .before .before .before .before .west .ensures, c .before .before .before .before .before .before .before .unwound2 .ensures, c .before .before .before .before .before .before .before .before .interpolate-angles .ensures, c .before .before .before .before .before .before .before .before .before .unwound .ensures, c .before .before .before .before .before .before .before .before .before .before .new .ensures)
+returns c =
+    let b = c .before .before .before .before .before .before in
+    simp (c .before .div .ensures, c .before .before .new2 .ensures, c .before .before .before .quadrant-shifted .ensures, c .before .before .before .before .sub2 .ensures, c .before .before .before .before .before .sub .ensures, b .west .ensures, b .before .unwound2 .ensures, b .before .before .interpolate-angles .ensures, b .before .before .before .unwound .ensures, b .before .before .before .before .new .ensures)
 
 pub corrected-transit-spec : {M : Type 1} → statement M
-corrected-transit-spec =
-    tie.close
-    (tie.spec (λ c κs. search needs) (λ c κs. search needs) (λ c κs. search needs) (λ c κs. search needs) (λ c κs. search needs) (λ c κs. search needs) (λ c κs. search needs) (λ c κs. search needs) (λ c κs. search needs) (λ c κs. search needs) returns)
+corrected-transit-spec = tie.close (tie.spec (λ c κs. tt) (λ c κs. tt) (λ c κs. tt) (λ c κs. tt) (λ c κs. tt) (λ c κs. tt) (λ c κs. tt) (λ c κs. tt) (λ c κs. tt) (λ c κs. tt) returns)

@@ -1,22 +1,17 @@
 -- `order::given::byte_or` meets its contract.
 use mathlib.Core.Path.{sym}
+use Rattle.fields.specs.Values.{valuesIn}
 use Rattle.order.specs.Given.{byteOr}
 use Rattle.order.proofs.given.byte_or.Statement.{statement}
 use Rattle.order.proofs.given.byte_or.Tie as tie
 
 returns : tie.Need-returns
-unfolding byteOr
-returns c =
-    let e0 = c .byte .ensures .0 in
-    let e1 = c .before .value .ensures in
-    let e2 = c .before .before .before .has .ensures in
-    simp (sym e0, sym e1, sym e2, c .before .before .if1 .taken)
+unfolding byteOr valuesIn
+returns c = simp (sym (c .byte .ensures .0), sym (c .before .value .ensures), sym (c .before .before .before .has .ensures), c .before .before .if1 .taken)
 
 returns-2 : tie.Need-returns-2
-unfolding byteOr
-returns-2 c =
-    let e0 = c .before .has .ensures in
-    simp (sym e0, c .if1 .left)
+unfolding byteOr valuesIn
+returns-2 c = simp (sym (c .before .has .ensures), c .if1 .left)
 
 pub byte-or-spec : {M : Type 1} → statement M
 byte-or-spec = tie.close (tie.spec (λ c κs. tt) (λ c κs. tt) (λ c κs. tt) returns returns-2)

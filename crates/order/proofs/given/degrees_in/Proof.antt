@@ -8,15 +8,11 @@ use Rattle.order.proofs.given.degrees_in.Tie as tie
 
 returns : tie.Need-returns
 unfolding degreesIn dec round ofBits
-returns c =
-    let e0 = c .before .float .ensures in
-    simp (simp e0 at (c .if1 .taken))
+returns c = simp (simp (c .before .float .ensures) at (c .if1 .taken))
 
 returns-2 : tie.Need-returns-2
 unfolding degreesIn dec round ofBits
-returns-2 c =
-    let e0 = c .before .float .ensures in
-    simp (sym e0, c .if1 .left)
+returns-2 c = simp (sym (c .before .float .ensures), c .if1 .left)
 
 pub degrees-in-spec : {M : Type 1} → statement M
 degrees-in-spec = tie.close (tie.spec (λ c κs. tt) returns returns-2)

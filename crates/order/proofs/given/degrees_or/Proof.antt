@@ -1,22 +1,17 @@
 -- `order::given::degrees_or` meets its contract.
 use mathlib.Core.Path.{sym}
+use Rattle.fields.specs.Values.{valuesIn}
 use Rattle.order.specs.Given.{degreesOr}
 use Rattle.order.proofs.given.degrees_or.Statement.{statement}
 use Rattle.order.proofs.given.degrees_or.Tie as tie
 
 returns : tie.Need-returns
-unfolding degreesOr
-returns c =
-    let e0 = c .degrees-in .ensures in
-    let e1 = c .before .value .ensures in
-    let e2 = c .before .before .before .has .ensures in
-    simp (sym e0, sym e1, sym e2, c .before .before .if1 .taken)
+unfolding degreesOr valuesIn
+returns c = simp (sym (c .degrees-in .ensures), sym (c .before .value .ensures), sym (c .before .before .before .has .ensures), c .before .before .if1 .taken)
 
 returns-2 : tie.Need-returns-2
-unfolding degreesOr
-returns-2 c =
-    let e0 = c .before .has .ensures in
-    simp (sym e0, c .if1 .left)
+unfolding degreesOr valuesIn
+returns-2 c = simp (sym (c .before .has .ensures), c .if1 .left)
 
 pub degrees-or-spec : {M : Type 1} → statement M
 degrees-or-spec =

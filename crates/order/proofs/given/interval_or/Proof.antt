@@ -6,6 +6,7 @@ use lib.IntN.{pos}
 use mir.Syntax.{w32}
 use mir.Val.{SFits, toZ}
 use mir.Facts.{toZ-ofZ, toZ-pos}
+use Rattle.fields.specs.Values.{valuesIn}
 use Rattle.order.specs.Given.{intervalOr}
 use borrow.Author.Needs.{needs}
 use Rattle.order.proofs.given.interval_or.Statement.{statement}
@@ -15,14 +16,14 @@ two-bytes : (x : ℕ) → x < 65536 → toZ w32 x ≡ pos x
 two-bytes x h = toZ-pos w32 {n = x} (omega arith)
 
 returns : tie.Need-returns
-unfolding intervalOr
+unfolding intervalOr valuesIn
 returns c =
     let u = c .unsigned in
     let e = two-bytes (u .result) (u .ensures .1) in
     e ∙ simp (u .ensures .0, c .before .value .ensures, sym (c .before .before .before .has .ensures), c .before .before .if1 .taken)
 
 returns-2 : tie.Need-returns-2
-unfolding intervalOr
+unfolding intervalOr valuesIn
 returns-2 c =
     let f0 : SFits w32 (c .before .before .before .args .missing) = search needs in
     let e0 = c .before .has .ensures in

@@ -1,22 +1,17 @@
 -- `order::given::minutes_or` meets its contract.
 use mathlib.Core.Path.{sym}
+use Rattle.fields.specs.Values.{valuesIn}
 use Rattle.order.specs.Given.{minutesOr}
 use Rattle.order.proofs.given.minutes_or.Statement.{statement}
 use Rattle.order.proofs.given.minutes_or.Tie as tie
 
 returns : tie.Need-returns
-unfolding minutesOr
-returns c =
-    let e0 = c .minutes-in .ensures in
-    let e1 = c .before .value .ensures in
-    let e2 = c .before .before .before .has .ensures in
-    simp (sym e0, sym e1, sym e2, c .before .before .if1 .taken)
+unfolding minutesOr valuesIn
+returns c = simp (sym (c .minutes-in .ensures), sym (c .before .value .ensures), sym (c .before .before .before .has .ensures), c .before .before .if1 .taken)
 
 returns-2 : tie.Need-returns-2
-unfolding minutesOr
-returns-2 c =
-    let e0 = c .before .has .ensures in
-    simp (sym e0, c .if1 .left)
+unfolding minutesOr valuesIn
+returns-2 c = simp (sym (c .before .has .ensures), c .if1 .left)
 
 pub minutes-or-spec : {M : Type 1} → statement M
 minutes-or-spec =

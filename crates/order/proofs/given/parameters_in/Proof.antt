@@ -4,6 +4,7 @@ use denote.Ref.{now}
 use mir.Syntax.{w32}
 use mir.Val.{SFits}
 use mir.Facts.{toZ-ofZ}
+use Rattle.fields.specs.Values.{valuesIn}
 use Rattle.order.specs.Given.{intervalOr, parametersIn}
 use borrow.Author.Needs.{needs}
 use Rattle.order.proofs.given.parameters_in.Statement.{statement}
@@ -15,12 +16,12 @@ returns c =
     let c5 = c .before .before .before .before .before in
     let c9 = c5 .before .before .before .before in
     let c14 = c9 .before .before .before .before .before in
-    let s = now (c14 .before .before .before .before .before .args .order) in
+    let a = c14 .before .before .before .before .before .args in
     let f0 : SFits w32 (c9 .interval-or .result) = search needs in
     let known = c9 .before .struct-told .given in
     let whole = c9 .before .before .before .before .method-adjustments .given in
     let f1 : SFits w32 (c14 .parameters .result .«isha_interval») = search needs in
-    let interval = c9 .interval-or .ensures ∙ ap (intervalOr s) (toZ-ofZ f1) in
+    let interval = c9 .interval-or .ensures ∙ ap (intervalOr (valuesIn (now (a .order)) (a .fields))) (toZ-ofZ f1) in
     simp (
       toZ-ofZ f0,
       sym interval,

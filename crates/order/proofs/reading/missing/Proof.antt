@@ -1,45 +1,44 @@
 -- `order::reading::missing` meets its contract. The invariant: the first that fails from here on is the first of all.
 use borrow.Author.Needs.{needs}
 use native.Mathlib.Omega.{arith}
-use Prim.Native.Nat.{ℕ, _+_, _-_}
+use Prim.Native.Nat.{ℕ, _+_, _-_, _≤_}
 use mathlib.Core.Path.{_≡_, refl, sym, _∙_}
 use borrow.Author.Tests.{not-true, not-false}
-use Rattle.fields.specs.Values.{hasOf}
-use Rattle.order.specs.Reading.{firstFailing, missingOf}
+use lib.ListN.{drop}
+use Rattle.fields.specs.Values.{hasIn}
+use Rattle.order.specs.Reading.{firstFailing, required, missingOf}
 use Rattle.order.proofs.Tags.{fails, on, none}
 use Rattle.order.proofs.reading.missing.Statement.{statement}
 use Rattle.order.proofs.reading.missing.Tie as tie
 
 abbrev Inv-loop : tie.InvT-loop
-Inv-loop order tag₀ tag = (k : ℕ) × (k + tag ≡ 7) × (firstFailing (hasOf order) k tag ≡ missingOf order)
+Inv-loop fields i₀ i = (i ≤ 6) × (firstFailing 4 (hasIn fields) (drop i required) ≡ missingOf (hasIn fields))
 
 abbrev μ-loop : tie.MeasureT-loop
-μ-loop order tag₀ tag = 7 - tag
+μ-loop fields i₀ i = 6 - i
 
 loop-holds : tie.Need-loop-holds Inv-loop μ-loop
 unfolding missingOf
-loop-holds c = (6, refl, refl)
+loop-holds c = (omega arith, refl)
 
 returns : tie.Need-returns Inv-loop μ-loop
 returns c =
-    let l = c .before .before .before .loop in
-    let s = c .before .before .before .before .before .args .order .now in
-    sym (fails (hasOf s) (l .inv .0) (l .tag) (omega (arith, l .inv .1, c .before .before .loop-test .taken)) (sym (c .before .has .ensures) ∙ not-true _ (c .if1 .taken))) ∙ l .inv .2
+    let h = c .before .before in
+    let l = h .before .before in
+    c .new .ensures ∙ sym (fails 4 (hasIn (l .before .args .fields)) required (l .loop .i) (h .before .loop-test .taken) _ refl (sym (h .has .ensures) ∙ not-true _ (c .before .if1 .taken))) ∙ l .loop .inv .1
 
 loop-again : tie.Need-loop-again Inv-loop μ-loop
 loop-again c =
-    let l = c .before .before .before .loop in
-    let s = c .before .before .before .before .before .args .order .now in
-    let n = on (hasOf s) (l .inv .0) (l .tag) (omega (arith, l .inv .1, c .before .before .loop-test .taken)) (sym (c .before .has .ensures) ∙ not-false _ (c .if1 .left)) in
-    (n .0, omega (arith, n .1, l .inv .1), sym (n .2) ∙ l .inv .2)
+    let h = c .before in
+    let l = h .before .before in
+    (search needs, sym (on 4 (hasIn (l .before .args .fields)) required (l .loop .i) (h .before .loop-test .taken) _ refl (sym (h .has .ensures) ∙ not-false _ (c .if1 .left))) ∙ l .loop .inv .1)
 
 returns-2 : tie.Need-returns-2 Inv-loop μ-loop
 returns-2 c =
-    let l = c .before .loop in
-    let s = c .before .before .before .args .order .now in
-    sym (none (hasOf s) (l .inv .0) (l .tag) (omega (arith, l .inv .1, c .loop-test .left))) ∙ l .inv .2
+    let l = c .before .before in
+    c .none .ensures ∙ sym (none 4 (hasIn (l .before .args .fields)) required (l .loop .i) (c .before .loop-test .left)) ∙ l .loop .inv .1
 
 pub missing-spec : {M : Type 1} → statement M
 missing-spec =
     tie.close
-    (tie.spec Inv-loop μ-loop loop-holds (λ c κs. tt) returns (λ c. search needs) (λ c. search needs) loop-again returns-2)
+    (tie.spec Inv-loop μ-loop loop-holds (λ c. search needs) (λ c. search needs) (λ c κs. tt) (λ c κs. tt) returns (λ c. search needs) (λ c. search needs) loop-again (λ c κs. tt) returns-2)

@@ -1,56 +1,82 @@
--- `order::reading::read` meets its contract: a line for each check, with those before it passed.
+-- `order::reading::read` meets its contract: a law for each check, with those before it passed.
 use borrow.Author.Tests.{eq-eqb, ne-eqb}
-use mathlib.Core.Path.{sym}
-use Rattle.order.specs.Reading.{readingOf}
+use Prim.Native.Nat.{ℕ}
+use mathlib.Core.Path.{_≡_, sym, ap, _∙_}
+use mathlib.Core.List.{List}
+use denote.Ref.{now}
+use Rattle.fields.specs.declared.values.Checked.{Checked}
+use Rattle.fields.specs.Fields.{checkOf}
+use Rattle.fields.specs.Values.{hasOf, hasIn, Values, valuesOf, valuesIn, checkedOf}
+use Rattle.fields.proofs.Collecting.{checked-refusal, checked-values, has-in}
+use Rattle.refusals.specs.declared.Refusal.{Refusal}
+use Rattle.order.specs.declared.reading.Order.{Order}
+use Rattle.order.specs.declared.reading.Reading.the-variants.{Read, Refused}
+use Rattle.order.specs.Reading.{missingOf, outOfRangeOf, orderOf, firstOf, readingOf}
 use Rattle.order.proofs.reading.read.Statement.{statement}
 use Rattle.order.proofs.reading.read.Tie as tie
 
+module _ (s : List ℕ) (checked : Checked) (is-checked : checked ≡ checkedOf s) where
+  broken : checkOf s ≡ checked .refusal
+  broken = sym (checked-refusal s checked is-checked)
+
+  by-fields : (checked .refusal .number ≡ 0 → ⊥) → Refused (checked .refusal) ≡ readingOf s
+  unfolding readingOf firstOf
+  by-fields n = simp (broken, ne-eqb _ _ n)
+
+  module _ (p : checked .refusal .number ≡ 0) (lacking : Refusal) (is-lacking : lacking ≡ missingOf (hasIn (checked .fields))) where
+    values : valuesIn s (checked .fields) ≡ valuesOf s
+    values = checked-values s checked is-checked p
+
+    missed : missingOf (hasOf s) ≡ lacking
+    missed = sym (is-lacking ∙ ap missingOf (has-in s (checked .fields)) ∙ ap (λ (v : Values). missingOf (v .has)) values)
+
+    by-missing : (lacking .number ≡ 0 → ⊥) → Refused lacking ≡ readingOf s
+    unfolding readingOf firstOf
+    by-missing n = simp (broken, eq-eqb _ _ p, missed, ne-eqb _ _ n)
+
+    module _ (q : lacking .number ≡ 0) (outside : Refusal) (is-outside : outside ≡ outOfRangeOf (valuesIn s (checked .fields))) where
+      out : outOfRangeOf (valuesOf s) ≡ outside
+      out = sym (is-outside ∙ ap outOfRangeOf values)
+
+      by-range : (outside .number ≡ 0 → ⊥) → Refused outside ≡ readingOf s
+      unfolding readingOf firstOf
+      by-range n = simp (broken, eq-eqb _ _ p, missed, eq-eqb _ _ q, out, ne-eqb _ _ n)
+
+      by-none : outside .number ≡ 0 → (order : Order) → order ≡ orderOf (valuesIn s (checked .fields)) → Read order ≡ readingOf s
+      unfolding readingOf firstOf
+      by-none r order is-order = simp (broken, eq-eqb _ _ p, missed, eq-eqb _ _ q, out, eq-eqb _ _ r) (ap Read (is-order ∙ ap orderOf values))
+
 returns : tie.Need-returns
-unfolding readingOf
 returns c =
-    let e0 = c .before .before .check .ensures in
-    simp (sym e0, ne-eqb _ _ (c .if1 .taken))
+    let f = c .before .before .before in
+    by-fields (now (f .before .before .args .order)) (f .fields-of .result) (f .fields-of .ensures) (c .if1 .taken)
 
 returns-2 : tie.Need-returns-2
-unfolding readingOf
 returns-2 c =
-    let e0 = c .before .missing .ensures in
-    let e1 = c .before .before .before .before .check .ensures in
-    simp (sym e0, sym e1, ne-eqb _ _ (c .if2 .taken), eq-eqb _ _ (c .before .before .if1 .left))
+    let m = c .before .before .before in
+    let p = m .before .before in
+    let f = p .before .before .before in
+    by-missing (now (f .before .before .args .order)) (f .fields-of .result) (f .fields-of .ensures) (p .if1 .left) (m .missing .result) (m .missing .ensures) (c .if2 .taken)
 
 returns-3 : tie.Need-returns-3
-unfolding readingOf
 returns-3 c =
-    let e0 = c .before .out-of-range .ensures in
-    let e1 = c .before .before .before .missing .ensures in
-    let e2 = c .before .before .before .before .before .before .check .ensures in
-    simp (
-      sym e0,
-      sym e1,
-      sym e2,
-      ne-eqb _ _ (c .if3 .taken),
-      eq-eqb _ _ (c .before .before .if2 .left),
-      eq-eqb _ _ (c .before .before .before .before .if1 .left),
-    )
+    let q = c .before .before in
+    let r = q .before .before in
+    let m = r .before in
+    let p = m .before .before in
+    let f = p .before .before .before in
+    by-range (now (f .before .before .args .order)) (f .fields-of .result) (f .fields-of .ensures) (p .if1 .left) (m .missing .result) (m .missing .ensures) (q .if2 .left) (r .out-of-range .result) (r .out-of-range .ensures) (c .if3 .taken)
 
 returns-4 : tie.Need-returns-4
-unfolding readingOf
 returns-4 c =
-    let e0 = c .record-in .ensures in
-    let e1 = c .before .before .out-of-range .ensures in
-    let e2 = c .before .before .before .before .missing .ensures in
-    let e3 = c .before .before .before .before .before .before .before .check .ensures in
-    simp (
-      sym e0,
-      sym e1,
-      sym e2,
-      sym e3,
-      eq-eqb _ _ (c .before .if3 .left),
-      eq-eqb _ _ (c .before .before .before .if2 .left),
-      eq-eqb _ _ (c .before .before .before .before .before .if1 .left),
-    )
+    let q = c .before .before .before in
+    let r = q .before .before in
+    let m = r .before in
+    let p = m .before .before in
+    let f = p .before .before .before in
+    by-none (now (f .before .before .args .order)) (f .fields-of .result) (f .fields-of .ensures) (p .if1 .left) (m .missing .result) (m .missing .ensures) (q .if2 .left) (r .out-of-range .result) (r .out-of-range .ensures) (c .before .if3 .left) (c .record-in .result) (c .record-in .ensures)
 
 pub read-spec : {M : Type 1} → statement M
 read-spec =
     tie.close
-    (tie.spec (λ c κs. tt) returns (λ c κs. tt) returns-2 (λ c κs. tt) returns-3 (λ c κs. tt) returns-4)
+    (tie.spec (λ c κs. tt) returns (λ c κs. tt) (λ c κs. tt) returns-2 returns-3 (λ c κs. tt) returns-4)

@@ -1,4 +1,7 @@
 -- `order::reading::record_in` meets its contract: each field by its call.
+use mathlib.Core.Path.{_≡_, _∙_}
+use denote.Ref.{now}
+use Rattle.fields.proofs.Collecting.{part-for}
 use Rattle.order.specs.Reading.{orderOf}
 use Rattle.order.proofs.reading.record_in.Statement.{statement}
 use Rattle.order.proofs.reading.record_in.Tie as tie
@@ -6,20 +9,26 @@ use Rattle.order.proofs.reading.record_in.Tie as tie
 returns : tie.Need-returns
 unfolding orderOf
 returns c =
+    let c4 = c .before .before .before .before in
+    let c8 = c4 .before .before .before .before in
+    let p = c8 .before .before in
+    let a = p .before .before .args in
+    let town = p .part .ensures ∙ part-for (now (a .order)) (a .fields) 1 in
     simp (
       c .parameters-in .ensures,
       c .before .new .ensures,
       c .before .before .degrees-in2 .ensures,
       c .before .before .before .value4 .ensures,
-      c .before .before .before .before .degrees-in .ensures,
-      c .before .before .before .before .before .value3 .ensures,
-      c .before .before .before .before .before .before .rows-in .ensures,
-      c .before .before .before .before .before .before .before .value2 .ensures,
-      c .before .before .before .before .before .before .before .before .date-in .ensures,
-      c .before .before .before .before .before .before .before .before .before .value .ensures,
+      c4 .degrees-in .ensures,
+      c4 .before .value3 .ensures,
+      c4 .before .before .rows-in .ensures,
+      c4 .before .before .before .value2 .ensures,
+      c8 .date-in .ensures,
+      c8 .before .value .ensures,
+      town,
     )
 
 pub record-in-spec : {M : Type 1} → statement M
 record-in-spec =
     tie.close
-    (tie.spec (λ c κs. tt) (λ c κs. tt) (λ c κs. tt) (λ c κs. tt) (λ c κs. tt) (λ c κs. tt) (λ c κs. tt) (λ c κs. tt) (λ c κs. tt) (λ c κs. tt) returns)
+    (tie.spec (λ c κs. tt) (λ c κs. tt) (λ c κs. tt) (λ c κs. tt) (λ c κs. tt) (λ c κs. tt) (λ c κs. tt) (λ c κs. tt) (λ c κs. tt) (λ c κs. tt) (λ c κs. tt) returns)

@@ -1,22 +1,22 @@
 -- `order::reading::town` meets its contract: a match on what reading answers.
-use mathlib.Core.Path.{sym}
-use Rattle.order.specs.Reading.{townOf}
+use mathlib.Core.Path.{sym, _∙_}
+use denote.Ref.{now}
 use borrow.Author.Needs.{needs}
+use Rattle.order.specs.Reading.{townOf}
+use Rattle.order.proofs.ReadingLaws.{read-town, refused-town}
 use Rattle.order.proofs.reading.town.Statement.{statement}
 use Rattle.order.proofs.reading.town.Tie as tie
 
 returns : tie.Need-returns
-unfolding townOf
 returns c =
-    let e0 = c .value .ensures in
-    let e1 = c .before .before .before .read .ensures in
-    simp (sym e0, sym e1, c .before .enum-told .given .1)
+    let r = c .before .before .before .before in
+    let s = now (r .before .before .args .order) in
+    c .bytes .ensures ∙ sym (read-town s _ (sym (r .read .ensures) ∙ c .before .before .«record» .given .1) .part)
 
 returns-2 : tie.Need-returns-2
-unfolding townOf
 returns-2 c =
-    let e0 = c .before .before .before .read .ensures in
-    simp (sym e0, c .before .enum-told2 .given .1)
+    let r = c .before .before .before in
+    sym (refused-town (now (r .before .before .args .order)) _ (sym (r .read .ensures) ∙ c .before .enum-told .given .1))
 
 pub town-spec : {M : Type 1} → statement M
 town-spec =

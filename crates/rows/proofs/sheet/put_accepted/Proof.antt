@@ -6,13 +6,6 @@ use Rattle.rows.proofs.Lengths.{head-length, sheet-made}
 use borrow.Author.Needs.{needs}
 use Rattle.rows.proofs.sheet.put_accepted.Statement.{statement}
 use Rattle.rows.proofs.sheet.put_accepted.Tie as tie
-use Rattle.rows.proofs.sheet.put_accepted.Reads as reads
-use Rattle.rows.proofs.sheet.put_accepted.Lts as lts
-use Rattle.rows.proofs.sheet.put_head.Reads as put-head-reads
-use Rattle.rows.proofs.sheet.put_rows.Reads as put-rows-reads
-
-put-head-requires : tie.Need-put-head-requires
-put-head-requires c κs = search needs
 
 put-rows-requires : tie.Need-put-rows-requires
 put-rows-requires c κs =
@@ -24,9 +17,6 @@ put-rows-requires c κs =
     let k : length (h .last .0) ≡ length (now (a .buffer)) = h .kept .0 in
     (p .0, omega (arith, p .1, p .2))
 
-same-length : tie.Need-same-length
-same-length c = search needs
-
 returns : tie.Need-returns
 returns c =
     let a = c .before .before .before .before .before .before .before .before .before .before .args in
@@ -37,4 +27,4 @@ returns c =
     sheet-made (now (a .town)) (now (a .buffer)) _ _ (a .order) _ _ (omega (arith, p .1, p .2)) (h .0) (h .1) (r .0) (r .1)
 
 pub put-accepted-spec : {M : Type 1} → statement M
-put-accepted-spec = tie.close (tie.spec put-head-requires put-rows-requires same-length returns)
+put-accepted-spec = tie.close (tie.spec (λ c κs. search needs) put-rows-requires (λ c. search needs) returns)

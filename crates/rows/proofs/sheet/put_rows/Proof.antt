@@ -5,26 +5,17 @@ use mathlib.Core.Path.{_≡_, refl, ap, _∙_}
 use lib.ListN.{length}
 use denote.Ref.{now}
 use Rattle.lines.specs.Lines.{lineText}
-use Rattle.rolling.specs.Rolling.{nextRollingOf}
+use Rattle.row_suns.specs.RowSuns.{nextRowSunsOf}
 use Rattle.rows.proofs.Lengths.{lines-none}
 use Rattle.rows.proofs.Rolled.{Run, first-state, next-state, run-line, run-room}
 use Rattle.rows.proofs.sheet.put_rows.Statement.{statement}
 use Rattle.rows.proofs.sheet.put_rows.Tie as tie
-use Rattle.rows.proofs.sheet.put_rows.Reads as reads
-use Rattle.rows.proofs.sheet.put_rows.Lts as lts
-use Rattle.rolling.proofs.Rolling.new.Reads as new-reads
-use Rattle.rolling.proofs.Rolling.next.Reads as next-reads
-use Rattle.rolling.proofs.Rolling.work.Reads as work-reads
-use Rattle.rows.proofs.sheet.put_line.Reads as put-line-reads
 
 abbrev Inv-loop : tie.InvT-loop
-Inv-loop buffer₀ at order coordinates parameters latitude rolling₀ row₀ end₀ buffer rolling row end = Run order buffer₀ at buffer rolling row end
+Inv-loop buffer₀ at order coordinates parameters latitude rolling₀ row₀ end₀ buffer suns row end = Run order buffer₀ at buffer suns row end
 
 abbrev μ-loop : tie.MeasureT-loop
-μ-loop buffer₀ at order coordinates parameters latitude rolling₀ row₀ end₀ buffer rolling row end = order .rows - row
-
-new-requires : tie.Need-new-requires Inv-loop μ-loop
-new-requires c κs = search needs
+μ-loop buffer₀ at order coordinates parameters latitude rolling₀ row₀ end₀ buffer suns row end = order .rows - row
 
 loop-holds : tie.Need-loop-holds Inv-loop μ-loop
 loop-holds c =
@@ -34,12 +25,6 @@ loop-holds c =
     let n = lines-none o (now (t .args .buffer)) (t .args .at) (omega (arith, p .1)) in
     record { within = p .0 .rows .0; state = c .new .ensures ∙ first-state o (p .0); text = n .0; place = n .1; same = refl }
 
-work-requires : tie.Need-work-requires Inv-loop μ-loop
-work-requires c κs = search needs
-
-put-line-requires : tie.Need-put-line-requires Inv-loop μ-loop
-put-line-requires c κs = search needs
-
 add-end : tie.Need-add-end Inv-loop μ-loop
 add-end c =
     let t = c .before .before .before .before .before .before .before .before .before .before in
@@ -47,8 +32,8 @@ add-end c =
     let p = t .pre in
     let l = c .before .before .before .before .before .loop in
     let put = c .before .before .put-line in
-    let line = run-line o (p .0) (now (t .args .buffer)) (t .args .at) (p .1) (l .buffer) (l .rolling) (l .row) (l .end) (l .inv) _ (put .last .0) (put .result)
-    (ap (lineText (l .rolling .date)) (c .before .before .before .before .work .ensures)) (put .ensures .0) (put .ensures .1) in
+    let line = run-line o (p .0) (now (t .args .buffer)) (t .args .at) (p .1) (l .buffer) (l .suns) (l .row) (l .end) (l .inv) _ (put .last .0) (put .result)
+    (ap (lineText (l .suns .date)) (c .before .before .before .before .work .ensures)) (put .ensures .0) (put .ensures .1) in
     let room = run-room o (p .0) (now (t .args .buffer)) (t .args .at) (p .1) (l .row) (l .inv .within) in
     let f : length (now (t .args .buffer)) < 2 ^ 64 = search needs in
     record { fits = omega (arith, line .1) }
@@ -69,15 +54,12 @@ returns c =
     let p = t .pre in
     let l = c .before .before .before .before .before .before .before .loop in
     let put = c .before .before .before .before .put-line in
-    let line = run-line o (p .0) (now (t .args .buffer)) (t .args .at) (p .1) (l .buffer) (l .rolling) (l .row) (l .end) (l .inv) _ (put .last .0) (put .result)
-    (ap (lineText (l .rolling .date)) (c .before .before .before .before .before .before .work .ensures)) (put .ensures .0) (put .ensures .1) in
+    let line = run-line o (p .0) (now (t .args .buffer)) (t .args .at) (p .1) (l .buffer) (l .suns) (l .row) (l .end) (l .inv) _ (put .last .0) (put .result)
+    (ap (lineText (l .suns .date)) (c .before .before .before .before .before .before .work .ensures)) (put .ensures .0) (put .ensures .1) in
     let room = run-room o (p .0) (now (t .args .buffer)) (t .args .at) (p .1) (l .row) (l .inv .within) in
     let w = l .inv .within in
     let e : l .row + 1 ≡ o .rows = omega (arith, c .if1 .taken) in
     (rw e at (line .1), rw e at (line .0))
-
-next-requires : tie.Need-next-requires Inv-loop μ-loop
-next-requires c κs = search needs
 
 loop-less : tie.Need-loop-less Inv-loop μ-loop
 loop-less c = let w = c .before .before .before .before .before .before .before .before .loop .inv .within in omega arith
@@ -89,12 +71,12 @@ loop-again c =
     let p = t .pre in
     let l = c .before .before .before .before .before .before .before .before .loop in
     let put = c .before .before .before .before .before .put-line in
-    let line = run-line o (p .0) (now (t .args .buffer)) (t .args .at) (p .1) (l .buffer) (l .rolling) (l .row) (l .end) (l .inv) _ (put .last .0) (put .result)
-    (ap (lineText (l .rolling .date)) (c .before .before .before .before .before .before .before .work .ensures)) (put .ensures .0) (put .ensures .1) in
+    let line = run-line o (p .0) (now (t .args .buffer)) (t .args .at) (p .1) (l .buffer) (l .suns) (l .row) (l .end) (l .inv) _ (put .last .0) (put .result)
+    (ap (lineText (l .suns .date)) (c .before .before .before .before .before .before .before .work .ensures)) (put .ensures .0) (put .ensures .1) in
     let room = run-room o (p .0) (now (t .args .buffer)) (t .args .at) (p .1) (l .row) (l .inv .within) in
     record {
       within = c .before .if1 .left;
-      state = c .next .ensures ∙ ap (nextRollingOf (o .coordinates) (o .parameters)) (l .inv .state) ∙ next-state o (p .0) (l .row) (l .inv .within);
+      state = c .next .ensures ∙ ap (nextRowSunsOf (o .coordinates) (o .parameters)) (l .inv .state) ∙ next-state o (p .0) (l .row) (l .inv .within);
       text = line .0;
       place = line .1;
       same = put .kept .0 ∙ l .inv .same;
@@ -103,17 +85,4 @@ loop-again c =
 pub put-rows-spec : {M : Type 1} → statement M
 put-rows-spec =
     tie.close
-    (tie.spec
-    Inv-loop
-    μ-loop
-    new-requires
-    loop-holds
-    work-requires
-    put-line-requires
-    add-end
-    add-row
-    same-length
-    returns
-    next-requires
-    loop-less
-    loop-again)
+    (tie.spec Inv-loop μ-loop (λ c κs. search needs) loop-holds (λ c κs. search needs) (λ c κs. search needs) add-end add-row same-length returns (λ c κs. search needs) loop-less loop-again)

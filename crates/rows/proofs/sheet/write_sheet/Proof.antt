@@ -3,49 +3,25 @@ use mathlib.Core.Path.{refl, sym, _∙_}
 use mathlib.Core.List.{[]}
 use denote.Ref.{now}
 use Rattle.lines.specs.Lines.{refusedOrderText}
-use Rattle.lines.specs.LinesLaws.{refused-length}
-use Rattle.order.specs.AcceptedLaws.{read-accepted}
-use Rattle.order.specs.ReadingLaws.{read-town}
+use Rattle.lines.proofs.LinesLaws.{refused-length}
+use Rattle.order.proofs.AcceptedLaws.{read-accepted}
+use Rattle.order.proofs.ReadingLaws.{read-town}
 use Rattle.text.specs.Text.{ascii}
-use Rattle.text.specs.TextLaws.{put-next}
+use Rattle.text.proofs.TextLaws.{put-next}
 use Rattle.rows.proofs.Answers.{sheet-short, sheet-read, sheet-refused}
 use borrow.Author.Needs.{needs}
 use Rattle.rows.proofs.sheet.write_sheet.Statement.{statement}
 use Rattle.rows.proofs.sheet.write_sheet.Tie as tie
-use Rattle.rows.proofs.sheet.write_sheet.Reads as reads
-use Rattle.rows.proofs.sheet.write_sheet.Lts as lts
-use Rattle.fields.proofs.values.value.Reads as value-reads
-use Rattle.lines.proofs.refused.put_refused_order.Reads as put-refused-order-reads
-use Rattle.order.proofs.reading.read.Reads as read-reads
-use Rattle.rows.proofs.sheet.put_accepted.Reads as put-accepted-reads
 
 returns : tie.Need-returns
 returns c = let a = c .before .before .before .args in sheet-short (now (a .order)) (now (a .buffer)) (c .if1 .taken)
-
-read-requires : tie.Need-read-requires
-read-requires c κs = search needs
-
-enum-known-record : tie.Need-enum-known-record
-enum-known-record c = search needs
-
-value-requires : tie.Need-value-requires
-value-requires c κs = search needs
 
 put-accepted-requires : tie.Need-put-accepted-requires
 put-accepted-requires c κs =
     let a = c .before .before .before .before .before .before .before .before .before .args in
     let e = sym (c .before .before .before .before .before .read .ensures) ∙ c .before .before .before .«record» .given .1 in
     let t = read-town (now (a .order)) _ e in
-    (read-accepted (now (a .order)) _ e, rw (c .value .ensures ∙ sym (t .part)) (t .size .1), c .before .before .before .before .before .before .if1 .left)
-
-enum-known-refusal : tie.Need-enum-known-refusal
-enum-known-refusal c = search needs
-
-put-refused-order-requires : tie.Need-put-refused-order-requires
-put-refused-order-requires c κs = search needs
-
-same-length : tie.Need-same-length
-same-length c = search needs
+    (read-accepted (now (a .order)) _ e, rw (c .bytes .ensures ∙ sym (t .part)) (t .size .1), c .before .before .before .before .before .before .if1 .left)
 
 returns-2 : tie.Need-returns-2
 returns-2 c =
@@ -53,11 +29,8 @@ returns-2 c =
     let e = sym (c .before .before .before .before .before .before .before .before .read .ensures) ∙ c .before .before .before .before .before .before .«record» .given .1 in
     let t = read-town (now (a .order)) _ e in
     let l = sheet-read (now (a .order)) (now (a .buffer)) (c .before .before .before .before .before .before .before .before .before .if1 .left) _ e in
-    let p = simp (c .before .before .before .value .ensures ∙ sym (t .part)) at (c .before .before .put-accepted .ensures) in
+    let p = simp (c .before .before .before .bytes .ensures ∙ sym (t .part)) at (c .before .before .put-accepted .ensures) in
     (p .0 ∙ l .0, p .1 ∙ l .1)
-
-same-length-2 : tie.Need-same-length-2
-same-length-2 c = search needs
 
 returns-3 : tie.Need-returns-3
 returns-3 c =
@@ -73,15 +46,4 @@ returns-3 c =
 pub write-sheet-spec : {M : Type 1} → statement M
 write-sheet-spec =
     tie.close
-    (tie.spec
-    returns
-    read-requires
-    enum-known-record
-    value-requires
-    put-accepted-requires
-    enum-known-refusal
-    put-refused-order-requires
-    same-length
-    returns-2
-    same-length-2
-    returns-3)
+    (tie.spec returns (λ c κs. search needs) (λ c. search needs) (λ c κs. search needs) put-accepted-requires (λ c. search needs) (λ c κs. search needs) (λ c. search needs) returns-2 (λ c. search needs) returns-3)

@@ -1,8 +1,8 @@
-use Rattle.schedule.specs.Rooms as rooms
 use mathlib.Core.Path.{ap, _∙_}
 use mir.Syntax.{w64}
 use native.Mathlib.Omega.{arith}
-use Rattle.integers.specs.Ranges.{read}
+use Rattle.integers.proofs.Sums.{differences}
+use Rattle.integers.proofs.Ranges.{read}
 use Rattle.schedule.proofs.Due as due
 use mir.Val.{SFits}
 use Rattle.integers.specs.Parts.{P}
@@ -15,7 +15,7 @@ returns c =
     let t = c .before .before .before .before in
     let s = t .args .instant .seconds in
     let f : SFits w64 s = search needs in
-    let e = c .before .before .between .ensures ∙ ap P (rooms.differences (read w64 (t .args .time) (t .fits .time)) (read w64 s f)) in
+    let e = c .before .before .between .ensures ∙ ap P (differences (read w64 (t .args .time) (t .fits .time)) (read w64 s f)) in
     let d = due.ahead-is (t .args .time) (t .args .instant) in
     let l = c .if1 .taken in
     omega arith
@@ -25,7 +25,7 @@ returns-2 c =
     let t = c .before .before .before .before in
     let s = t .args .instant .seconds in
     let f : SFits w64 s = search needs in
-    let e = c .before .before .between .ensures ∙ ap P (rooms.differences (read w64 (t .args .time) (t .fits .time)) (read w64 s f)) in
+    let e = c .before .before .between .ensures ∙ ap P (differences (read w64 (t .args .time) (t .fits .time)) (read w64 s f)) in
     let d = due.ahead-is (t .args .time) (t .args .instant) in
     omega arith
 

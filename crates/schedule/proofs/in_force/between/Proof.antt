@@ -1,7 +1,7 @@
 use mathlib.Core.Path.{ap, _∙_}
 use mir.Syntax.{w64}
 use native.Mathlib.Omega.{arith}
-use Rattle.integers.specs.Ranges.{read}
+use Rattle.integers.proofs.Ranges.{read}
 use Rattle.schedule.proofs.Due as due
 use Rattle.integers.specs.Parts.{P, N}
 use Rattle.schedule.proofs.in_force.between.Statement.{statement}

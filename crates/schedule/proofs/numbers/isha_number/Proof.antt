@@ -2,7 +2,7 @@ use mathlib.Core.Path.{sym}
 use mir.Syntax.{w32}
 use mir.Val.{SFits}
 use lib.Ieee.{round, ofBits}
-use Rattle.integers.specs.Ranges.{read}
+use Rattle.integers.proofs.Ranges.{read}
 use Rattle.float64.specs.Ops.{dec}
 use Rattle.schedule.specs.Numbers.{ishaNumberOf}
 use borrow.Author.Needs.{needs}

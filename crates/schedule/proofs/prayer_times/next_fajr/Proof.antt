@@ -1,38 +1,31 @@
-use mathlib.Core.Path.{_≡_, ap, _∙_}
-use mir.Syntax.{w64}
-use lib.IntN.{ℤ, pos, _+ℤ_}
-use Prim.Native.Nat.{_+_, _^_}
-use native.Mathlib.Omega.{arith}
-use Rattle.integers.specs.Ranges.{readBack}
-use Rattle.schedule.specs.Rooms as rooms
-use Rattle.schedule.specs.Times.{fajrTomorrowOf}
-use Rattle.schedule.specs.Twilight.{calculateFajrOf}
+use mathlib.Core.Path.{ap, _∙_}
+use lib.Dec.{lit≤}
+use lib.IntN.{ℤ}
+use Rattle.integers.proofs.Held.{constant, held-sum, held-as, held-fits, stored, promised}
 use Rattle.calendar.specs.declared.dates.Date.{Date}
+use Rattle.models.specs.declared.prayer.Prayer.the-variants.{Fajr}
+use Rattle.models.specs.Settings.{timeAdjustmentsOf}
+use Rattle.stride.specs.Times.{adjustedOf}
+use Rattle.stride.proofs.TimesLaws.{none-stays}
+use Rattle.schedule.specs.Times.{fajrTomorrowOf}
+use Rattle.schedule.specs.Twilight.{nextDayOf, unadjustedFajrOf}
+use Rattle.schedule.proofs.Promises.{of-near}
 use borrow.Author.Needs.{needs}
 use Rattle.schedule.proofs.prayer_times.next_fajr.Statement.{statement}
 use Rattle.schedule.proofs.prayer_times.next_fajr.Tie as tie
 
 add-result : tie.Need-add-result
-add-result c =
-    let kf : readBack w64 (c .calculate-fajr .result) ≡ c .calculate-fajr .result = search needs in
-    let x = c .calculate-fajr .result in
-    let e = ap (λ (z : ℤ). z +ℤ pos 86400) kf in
-    let h = rooms.near-sum (2 ^ 39) 86400 x (pos 86400) (c .calculate-fajr .ensures .1) (omega arith, omega arith) in
-    let n = rooms.near-more (2 ^ 39 + 86400) (2 ^ 62) (x +ℤ pos 86400) (omega arith) h in
-    rooms.held _ (x +ℤ pos 86400) e n
+add-result c = held-fits (held-sum (of-near (c .final-time .ensures) (lit≤ tt)) (constant 86400)) (lit≤ tt)
 
 returns : tie.Need-returns
 unfolding fajrTomorrowOf
 returns c =
-    let kf : readBack w64 (c .calculate-fajr .result) ≡ c .calculate-fajr .result = search needs in
-    let x = c .calculate-fajr .result in
-    let e = ap (λ (z : ℤ). z +ℤ pos 86400) kf in
-    let h = rooms.near-sum (2 ^ 39) 86400 x (pos 86400) (c .calculate-fajr .ensures .1) (omega arith, omega arith) in
-    let n = rooms.near-more (2 ^ 39 + 86400) (2 ^ 62) (x +ℤ pos 86400) (omega arith) h in
-    let t = c .before .before in
-    let q = rooms.read-held _ (x +ℤ pos 86400) e n in
-    let a = c .calculate-fajr .ensures .0 ∙ ap (λ (d : Date). calculateFajrOf (t .args .parameters) (t .args .latitude) d (t .args .tomorrow) (t .args .after) (t .args .hour)) (c .before .tomorrow .ensures) in
-    (q ∙ ap (λ (z : ℤ). z +ℤ pos 86400) a, rooms.near-as (2 ^ 40) _ (x +ℤ pos 86400) q (rooms.near-more (2 ^ 39 + 86400) (2 ^ 40) (x +ℤ pos 86400) (omega arith) h))
+    let t = c .before .before .before in
+    let p = t .args .parameters in
+    let u = of-near (c .before .unadjusted-fajr .ensures) (lit≤ tt) in
+    let fajr = u .is ∙ ap (λ (d : Date). unadjustedFajrOf p (t .args .latitude) d (t .args .tomorrow) (t .args .after) (t .args .hour)) (c .before .before .tomorrow .ensures) in
+    let adjusted = none-stays _ ∙ ap (λ (z : ℤ). adjustedOf z (timeAdjustmentsOf p Fajr)) fajr in
+    promised (held-as (stored (held-sum (of-near (c .final-time .ensures) (lit≤ tt)) (constant 86400)) (lit≤ tt)) (ap nextDayOf adjusted)) (lit≤ tt)
 
 pub next-fajr-spec : {M : Type 1} → statement M
-next-fajr-spec = tie.close (tie.spec (λ c κs. search needs) (λ c κs. search needs) add-result returns)
+next-fajr-spec = tie.close (tie.spec (λ c κs. search needs) (λ c κs. search needs) (λ c κs. search needs) add-result returns)

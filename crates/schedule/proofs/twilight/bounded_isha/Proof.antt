@@ -1,104 +1,53 @@
-use mathlib.Core.Path.{_≡_, ap, sym, subst, _∙_}
+use mathlib.Core.Path.{_≡_, ap, _∙_}
+use lib.Dec.{lit≤}
+use lib.IntN.{ℤ}
 use mir.Syntax.{w32, w64}
 use mir.Val.{SFits}
-use lib.IntN.{ℤ, _+ℤ_}
-use Prim.Native.Nat.{_+_, _^_}
-use native.Mathlib.Omega.{arith}
-use Rattle.integers.specs.Parts.{Near}
-use Rattle.integers.specs.Sums.{summands}
-use Rattle.integers.specs.Ranges.{readBack, wide, read-wide}
-use Rattle.schedule.specs.Rooms as rooms
-use Rattle.schedule.specs.Twilight.{nightOf, earlierOf, orOf, ishaBoundOf, boundedIshaOf}
-use Rattle.night.specs.Portions.{seventhOf}
+use Rattle.integers.proofs.Ranges.{readBack, wide}
+use Rattle.integers.proofs.Held.{of-wide, held-sum, held-by, held-as, held-fits, stored, asked, promised}
+use Rattle.schedule.specs.Twilight.{earlierOf, ownOf, ishaBoundOf, boundedIshaOf}
+use Rattle.schedule.proofs.Promises.{both, of-near, held-seventh}
 use borrow.Author.Needs.{needs}
 use Rattle.schedule.proofs.twilight.bounded_isha.Statement.{statement}
 use Rattle.schedule.proofs.twilight.bounded_isha.Tie as tie
 
-cast-isha : tie.Need-cast-isha
-cast-isha c =
-    let t = c .before .before .before .before .before .before in
-    let f : SFits w32 (t .args .today .sunset) = search needs in
-    wide (t .args .today .sunset) f
+cast-by-night : tie.Need-cast-by-night
+cast-by-night c =
+    let f : SFits w32 (c .before .before .before .before .args .today .sunset) = search needs in
+    wide _ f
 
-add-isha : tie.Need-add-isha
-add-isha c =
-    let t = c .before .before .before .before .before .before .before in
-    let p = t .args .parameters in
-    let today = t .args .today in
-    let night = nightOf today (t .args .next) in
-    let kn : readBack w64 (c .before .before .before .before .before .before .night .result) ≡ c .before .before .before .before .before .before .night .result = search needs in
-    let n = kn ∙ c .before .before .before .before .before .before .night .ensures .0 in
-    let f : SFits w32 (today .sunset) = search needs in
-    let r = rooms.near-i32 (today .sunset) f in
-    let kv : readBack w64 (c .seventh .result) ≡ c .seventh .result = search needs in
-    let v = kv ∙ c .seventh .ensures ∙ ap seventhOf n in
-    let x = today .sunset +ℤ seventhOf night in
-    let e = summands (read-wide (today .sunset) f) v in
-    let m : Near (2 ^ 33) night = subst (Near (2 ^ 33)) (c .before .before .before .before .before .before .night .ensures .0) (c .before .before .before .before .before .before .night .ensures .1) in
-    let near-x = rooms.near-sum (2 ^ 31) (2 ^ 33) (today .sunset) (seventhOf night) r (rooms.near-seventh (2 ^ 33) night m) in
-    let near : Near (2 ^ 62) x = rooms.near-more (2 ^ 31 + 2 ^ 33) (2 ^ 62) x (omega arith) near-x in
-    rooms.held _ x e near
+add-by-night : tie.Need-add-by-night
+add-by-night c =
+    let t = c .before .before .before .before .before in
+    let f : SFits w32 (t .args .today .sunset) = search needs in
+    let k : readBack w64 (c .seventh .result) ≡ c .seventh .result = search needs in
+    let n = of-near (c .before .before .before .before .night .ensures) (lit≤ tt) in
+    let x = held-sum (of-wide _ f) (held-by (k ∙ c .seventh .ensures) (held-seventh n)) in
+    held-fits x (lit≤ tt)
+
+own-requires : tie.Need-own-requires
+own-requires c κs =
+    let t = c .before .before .before .before .before in
+    let f : SFits w32 (t .args .today .sunset) = search needs in
+    let k : readBack w64 (c .seventh .result) ≡ c .seventh .result = search needs in
+    let n = of-near (c .before .before .before .before .night .ensures) (lit≤ tt) in
+    let x = held-sum (of-wide _ f) (held-by (k ∙ c .seventh .ensures) (held-seventh n)) in
+    (asked (stored x (lit≤ tt)) (lit≤ tt), asked (of-near (c .before .before .before .isha-bound .ensures) (lit≤ tt)) (lit≤ tt))
 
 returns : tie.Need-returns
 unfolding boundedIshaOf
 returns c =
-    let t = c .before .before .before .before .before .before .before .before in
-    let p = t .args .parameters in
-    let today = t .args .today in
-    let night = nightOf today (t .args .next) in
-    let kn : readBack w64 (c .before .before .before .before .before .before .before .night .result) ≡ c .before .before .before .before .before .before .before .night .result = search needs in
-    let n = kn ∙ c .before .before .before .before .before .before .before .night .ensures .0 in
-    let kb : readBack w64 (c .before .before .before .before .before .before .isha-bound .result) ≡ c .before .before .before .before .before .before .isha-bound .result = search needs in
-    let bound = kb ∙ c .before .before .before .before .before .before .isha-bound .ensures .0 ∙ ap (ishaBoundOf p (t .args .latitude) (t .args .date) today) n in
-    let y = ishaBoundOf p (t .args .latitude) (t .args .date) today night in
-    let near-bound : Near (2 ^ 34) y = subst (Near (2 ^ 34)) (sym kb ∙ bound) (c .before .before .before .before .before .before .isha-bound .ensures .1) in
-    let f : SFits w32 (today .sunset) = search needs in
-    let r = rooms.near-i32 (today .sunset) f in
-    let kv : readBack w64 (c .before .seventh .result) ≡ c .before .seventh .result = search needs in
-    let v = kv ∙ c .before .seventh .ensures ∙ ap seventhOf n in
-    let x = today .sunset +ℤ seventhOf night in
-    let e = summands (read-wide (today .sunset) f) v in
-    let m : Near (2 ^ 33) night = subst (Near (2 ^ 33)) (c .before .before .before .before .before .before .before .night .ensures .0) (c .before .before .before .before .before .before .before .night .ensures .1) in
-    let near-x = rooms.near-sum (2 ^ 31) (2 ^ 33) (today .sunset) (seventhOf night) r (rooms.near-seventh (2 ^ 33) night m) in
-    let near : Near (2 ^ 62) x = rooms.near-more (2 ^ 31 + 2 ^ 33) (2 ^ 62) x (omega arith) near-x in
-    let k : readBack w64 (c .earlier .result) ≡ c .earlier .result = search needs in
-    let q = k ∙ c .earlier .ensures ∙ rooms.both earlierOf (rooms.read-held _ x e near) bound in
-    (q ∙ simp (sym (c .before .before .before .before .before .by-seventh .ensures), c .before .before .before .before .if1 .taken), rooms.near-as (2 ^ 34) _ (earlierOf x y) q (rooms.near-earlier (2 ^ 34) x y (rooms.near-more (2 ^ 31 + 2 ^ 33) (2 ^ 34) x (omega arith) near-x) near-bound))
-
-or-requires : tie.Need-or-requires
-or-requires c κs =
-    let t = c .before .before .before .before in
-    let p = t .args .parameters in
-    let today = t .args .today in
-    let night = nightOf today (t .args .next) in
-    let kn : readBack w64 (c .before .before .before .night .result) ≡ c .before .before .before .night .result = search needs in
-    let n = kn ∙ c .before .before .before .night .ensures .0 in
-    let kb : readBack w64 (c .before .before .isha-bound .result) ≡ c .before .before .isha-bound .result = search needs in
-    let bound = kb ∙ c .before .before .isha-bound .ensures .0 ∙ ap (ishaBoundOf p (t .args .latitude) (t .args .date) today) n in
-    let y = ishaBoundOf p (t .args .latitude) (t .args .date) today night in
-    let near-bound : Near (2 ^ 34) y = subst (Near (2 ^ 34)) (sym kb ∙ bound) (c .before .before .isha-bound .ensures .1) in
-    rooms.near-as (2 ^ 34) _ y bound near-bound
-
-returns-2 : tie.Need-returns-2
-unfolding boundedIshaOf
-returns-2 c =
-    let t = c .before .before .before .before .before .before in
-    let p = t .args .parameters in
-    let today = t .args .today in
-    let night = nightOf today (t .args .next) in
-    let kn : readBack w64 (c .before .before .before .before .before .night .result) ≡ c .before .before .before .before .before .night .result = search needs in
-    let n = kn ∙ c .before .before .before .before .before .night .ensures .0 in
-    let kb : readBack w64 (c .before .before .before .before .isha-bound .result) ≡ c .before .before .before .before .isha-bound .result = search needs in
-    let bound = kb ∙ c .before .before .before .before .isha-bound .ensures .0 ∙ ap (ishaBoundOf p (t .args .latitude) (t .args .date) today) n in
-    let y = ishaBoundOf p (t .args .latitude) (t .args .date) today night in
-    let near-bound : Near (2 ^ 34) y = subst (Near (2 ^ 34)) (sym kb ∙ bound) (c .before .before .before .before .isha-bound .ensures .1) in
-    let k : readBack w64 (c .earlier2 .result) ≡ c .earlier2 .result = search needs in
-    let ko : readBack w64 (c .before .or .result) ≡ c .before .or .result = search needs in
-    let q = k ∙ c .earlier2 .ensures ∙ rooms.both earlierOf ko bound in
-    let o = c .before .or .ensures .0 ∙ ap (orOf (t .args .hour)) bound in
-    (q ∙ ap (λ (z : ℤ). earlierOf z y) o ∙ simp (sym (c .before .before .before .by-seventh .ensures), c .before .before .if1 .left), rooms.near-as (2 ^ 34) _ (earlierOf (c .before .or .result) y) q (rooms.near-earlier (2 ^ 34) (c .before .or .result) y (c .before .or .ensures .1) near-bound))
+    let v = c .before .before in
+    let t = v .before .before .before .before .before in
+    let f : SFits w32 (t .args .today .sunset) = search needs in
+    let k : readBack w64 (v .seventh .result) ≡ v .seventh .result = search needs in
+    let n = of-near (v .before .before .before .before .night .ensures) (lit≤ tt) in
+    let x = held-sum (of-wide _ f) (held-by (k ∙ v .seventh .ensures) (held-seventh n)) in
+    let b = of-near (v .before .before .before .isha-bound .ensures) (lit≤ tt) in
+    let bound = b .is ∙ ap (ishaBoundOf (t .args .parameters) (t .args .latitude) (t .args .date) (t .args .today)) (n .is) in
+    let o = of-near (c .before .own .ensures) (lit≤ tt) in
+    let own = o .is ∙ both (λ (s y : ℤ). ownOf (t .args .parameters .method) (t .args .latitude) s (t .args .hour) y) (stored x (lit≤ tt) .is) bound in
+    promised (held-as (of-near (c .earlier .ensures) (lit≤ tt)) (both earlierOf own bound)) (lit≤ tt)
 
 pub bounded-isha-spec : {M : Type 1} → statement M
-bounded-isha-spec =
-    tie.close
-    (tie.spec (λ c κs. search needs) (λ c κs. search needs) (λ c κs. search needs) cast-isha (λ c κs. search needs) add-isha (λ c κs. search needs) returns or-requires (λ c κs. search needs) returns-2)
+bounded-isha-spec = tie.close (tie.spec (λ c κs. search needs) (λ c κs. search needs) cast-by-night (λ c κs. search needs) add-by-night own-requires (λ c κs. search needs) returns)

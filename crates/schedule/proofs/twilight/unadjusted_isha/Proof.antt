@@ -1,92 +1,50 @@
-use mathlib.Core.Path.{_≡_, ap, _∙_}
-use mir.Syntax.{w32, w64}
+use lib.Dec.{lit≤}
+use mir.Syntax.{w32}
 use mir.Val.{SFits}
-use lib.IntN.{ℤ, pos, _+ℤ_, _*ℤ_}
-use Prim.Native.Nat.{_+_, _^_}
-use native.Mathlib.Omega.{arith}
-use Rattle.integers.specs.Parts.{Near}
-use Rattle.integers.specs.Sums.{summands}
-use Rattle.integers.specs.Ranges.{readBack, read, wide, read-wide}
-use Rattle.schedule.specs.Rooms as rooms
+use Rattle.integers.proofs.Ranges.{read, wide}
+use Rattle.integers.proofs.Held.{of-wide, held-sum, held-product, held-as, held-fits, stored, promised}
 use Rattle.schedule.specs.Twilight.{unadjustedIshaOf}
-use Rattle.integers.specs.Sums.{times}
-use Prim.Native.Nat.{_*_}
+use Rattle.schedule.proofs.Promises.{of-near}
 use borrow.Author.Needs.{needs}
 use Rattle.schedule.proofs.twilight.unadjusted_isha.Statement.{statement}
 use Rattle.schedule.proofs.twilight.unadjusted_isha.Tie as tie
 
 cast-result : tie.Need-cast-result
 cast-result c =
-    let t = c .before .before .before .before .before in
-    let f : SFits w32 (t .args .today .sunset) = search needs in
-    wide (t .args .today .sunset) f
+    let f : SFits w32 (c .before .before .before .before .before .args .today .sunset) = search needs in
+    wide _ f
 
 cast-result-2 : tie.Need-cast-result-2
 cast-result-2 c =
-    let t = c .before .before .before .before .before .before .before in
-    let f : SFits w32 (t .args .parameters .«isha_interval») = search needs in
-    wide (t .args .parameters .«isha_interval») f
+    let f : SFits w32 (c .before .before .before .before .before .before .before .args .parameters .«isha_interval») = search needs in
+    wide _ f
 
 mul-result : tie.Need-mul-result
 mul-result c =
-    let t = c .before .before .before .before .before .before .before in
-    let i = t .args .parameters .«isha_interval» in
-    let s = t .args .today .sunset in
-    let f : SFits w32 i = search needs in
-    let g : SFits w32 s = search needs in
-    let q = times i 60 in
-    let r = rooms.near-i32 i f in
-    let e = ap (λ (z : ℤ). z *ℤ pos 60) (read-wide i f) in
-    let l : Near (60 * 2 ^ 31) (i *ℤ pos 60) = (omega (arith, r .0), omega (arith, r .1)) in
-    let near = rooms.near-more (60 * 2 ^ 31) (2 ^ 62) (i *ℤ pos 60) (omega arith) l in
-    rooms.held _ (i *ℤ pos 60) e near
+    let f : SFits w32 (c .before .before .before .before .before .before .before .args .parameters .«isha_interval») = search needs in
+    held-fits (held-product (of-wide _ f) 60) (lit≤ tt)
 
 add-result : tie.Need-add-result
 add-result c =
     let t = c .before .before .before .before .before .before .before in
-    let i = t .args .parameters .«isha_interval» in
-    let s = t .args .today .sunset in
-    let f : SFits w32 i = search needs in
-    let g : SFits w32 s = search needs in
-    let q = times i 60 in
-    let r = rooms.near-i32 i f in
-    let e = ap (λ (z : ℤ). z *ℤ pos 60) (read-wide i f) in
-    let l : Near (60 * 2 ^ 31) (i *ℤ pos 60) = (omega (arith, r .0), omega (arith, r .1)) in
-    let near = rooms.near-more (60 * 2 ^ 31) (2 ^ 62) (i *ℤ pos 60) (omega arith) l in
-    let d = summands (read-wide s g) (rooms.read-held _ (i *ℤ pos 60) e near) in
-    let sum-near = rooms.near-more (2 ^ 31 + 60 * 2 ^ 31) (2 ^ 62) (s +ℤ i *ℤ pos 60) (omega arith) (rooms.near-sum (2 ^ 31) (60 * 2 ^ 31) s (i *ℤ pos 60) (rooms.near-i32 s g) l) in
-    rooms.held _ (s +ℤ i *ℤ pos 60) d sum-near
+    let f : SFits w32 (t .args .parameters .«isha_interval») = search needs in
+    let g : SFits w32 (t .args .today .sunset) = search needs in
+    held-fits (held-sum (of-wide _ g) (stored (held-product (of-wide _ f) 60) (lit≤ tt))) (lit≤ tt)
 
 returns : tie.Need-returns
 unfolding unadjustedIshaOf
 returns c =
     let t = c .before .before .before .before .before .before .before in
-    let i = t .args .parameters .«isha_interval» in
-    let s = t .args .today .sunset in
-    let f : SFits w32 i = search needs in
-    let g : SFits w32 s = search needs in
-    let q = times i 60 in
-    let r = rooms.near-i32 i f in
-    let e = ap (λ (z : ℤ). z *ℤ pos 60) (read-wide i f) in
-    let l : Near (60 * 2 ^ 31) (i *ℤ pos 60) = (omega (arith, r .0), omega (arith, r .1)) in
-    let near = rooms.near-more (60 * 2 ^ 31) (2 ^ 62) (i *ℤ pos 60) (omega arith) l in
-    let d = summands (read-wide s g) (rooms.read-held _ (i *ℤ pos 60) e near) in
-    let sum-near = rooms.near-more (2 ^ 31 + 60 * 2 ^ 31) (2 ^ 62) (s +ℤ i *ℤ pos 60) (omega arith) (rooms.near-sum (2 ^ 31) (60 * 2 ^ 31) s (i *ℤ pos 60) (rooms.near-i32 s g) l) in
-    let x = s +ℤ i *ℤ pos 60 in
-    let q = rooms.read-held _ x d sum-near in
-    let m = rooms.near-more (2 ^ 31 + 60 * 2 ^ 31) (2 ^ 38) x (omega arith) (rooms.near-sum (2 ^ 31) (60 * 2 ^ 31) s (i *ℤ pos 60) (rooms.near-i32 s g) l) in
-    (q ∙ simp (rw (read w32 i f) at (c .before .before .before .before .if1 .taken)), rooms.near-as (2 ^ 38) _ x q m)
+    let f : SFits w32 (t .args .parameters .«isha_interval») = search needs in
+    let g : SFits w32 (t .args .today .sunset) = search needs in
+    let x = held-sum (of-wide _ g) (stored (held-product (of-wide _ f) 60) (lit≤ tt)) in
+    promised (held-as (stored x (lit≤ tt)) (simp (rw (read w32 _ f) at (c .before .before .before .before .if1 .taken)))) (lit≤ tt)
 
 returns-2 : tie.Need-returns-2
 unfolding unadjustedIshaOf
 returns-2 c =
-    let t = c .before .before .before .before in
-    let i = t .args .parameters .«isha_interval» in
-    let f : SFits w32 i = search needs in
-    let k : readBack w64 (c .bounded-isha .result) ≡ c .bounded-isha .result = search needs in
-    (k ∙ c .bounded-isha .ensures .0 ∙ simp (rw (read w32 i f) at (c .before .if1 .left)), rooms.near-as (2 ^ 38) _ (c .bounded-isha .result) k (rooms.near-more (2 ^ 34) (2 ^ 38) (c .bounded-isha .result) (omega arith) (c .bounded-isha .ensures .1)))
+    let f : SFits w32 (c .before .before .before .before .args .parameters .«isha_interval») = search needs in
+    promised (held-as (of-near (c .bounded-isha .ensures) (lit≤ tt)) (simp (rw (read w32 _ f) at (c .before .if1 .left)))) (lit≤ tt)
 
 pub unadjusted-isha-spec : {M : Type 1} → statement M
-unadjusted-isha-spec =
-    tie.close
-    (tie.spec cast-result cast-result-2 mul-result add-result returns (λ c κs. search needs) returns-2)
+unadjusted-isha-spec = tie.close (tie.spec cast-result cast-result-2 mul-result add-result returns (λ c κs. search needs) returns-2)

@@ -1,11 +1,10 @@
-use Rattle.solar.specs.Hours.{angleNumberOf}
-use borrow.Author.Needs.{needs}
+use Rattle.solar.specs.Shared.{courseAngleNumberOf}
 use Rattle.solar.proofs.hours.angle_number.Statement.{statement}
 use Rattle.solar.proofs.hours.angle_number.Tie as tie
 
 returns : tie.Need-returns
-unfolding angleNumberOf
+unfolding courseAngleNumberOf
 returns c = simp (c .hour-number .ensures, c .before .half-arc .ensures)
 
 pub angle-number-spec : {M : Type 1} → statement M
-angle-number-spec = tie.close (tie.spec (λ c κs. search needs) (λ c κs. search needs) returns)
+angle-number-spec = tie.close (tie.spec (λ c κs. tt) (λ c κs. tt) returns)

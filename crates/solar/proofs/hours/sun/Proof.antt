@@ -1,4 +1,3 @@
-use borrow.Author.Needs.{needs}
 use Rattle.solar.proofs.hours.sun.Statement.{statement}
 use Rattle.solar.proofs.hours.sun.Tie as tie
 
@@ -6,5 +5,4 @@ returns : tie.Need-returns
 returns c = simp (c .new .ensures, c .before .before .before .before .before .before .approximate-transit .ensures, c .before .before .before .before .before .before .before .longitude-angle .ensures)
 
 pub sun-spec : {M : Type 1} → statement M
-sun-spec =
-    tie.close (tie.spec (λ c κs. search needs) (λ c κs. search needs) (λ c κs. search needs) returns)
+sun-spec = tie.close (tie.spec (λ c κs. tt) (λ c κs. tt) (λ c κs. tt) returns)

@@ -1,6 +1,6 @@
 use mir.Syntax.{w32, w64}
 use mir.Val.{SFits}
-use Rattle.integers.specs.Ranges.{read}
+use Rattle.integers.proofs.Ranges.{read}
 use Rattle.stride.specs.Julian.{fromMarchOf, yearProductOf, monthProductOf}
 use borrow.Author.Needs.{needs}
 use Rattle.stride.proofs.julian.from_march.Statement.{statement}

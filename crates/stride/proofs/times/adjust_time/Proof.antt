@@ -1,7 +1,7 @@
 use borrow.Author.Needs.{needs}
 use mathlib.Core.Path.{_≡_}
 use mir.Syntax.{w64}
-use Rattle.integers.specs.Ranges.{readBack}
+use Rattle.integers.proofs.Ranges.{readBack}
 use Rattle.stride.proofs.Minutes as minutes
 use Rattle.stride.proofs.times.adjust_time.Statement.{statement}
 use Rattle.stride.proofs.times.adjust_time.Tie as tie

@@ -1,7 +1,7 @@
 use borrow.Author.Needs.{needs}
 use mathlib.Core.Path.{_≡_, _∙_}
 use mir.Syntax.{w64}
-use Rattle.integers.specs.Ranges.{readBack, read}
+use Rattle.integers.proofs.Ranges.{readBack, read}
 use Rattle.stride.specs.Times.{roundedOf}
 use Rattle.stride.proofs.times.rounded_minute.Statement.{statement}
 use Rattle.stride.proofs.times.rounded_minute.Tie as tie

@@ -8,12 +8,6 @@ use Rattle.stride.proofs.Minutes as minutes
 use Rattle.stride.proofs.times.shift.Statement.{statement}
 use Rattle.stride.proofs.times.shift.Tie as tie
 
-cast-n : tie.Need-cast-n
-cast-n c = search needs
-
-enum-told : tie.Need-enum-told
-enum-told c = search needs
-
 sub-result : tie.Need-sub-result
 sub-result c = let s = c .before .before .before in minutes.less-fits _ (s .args .s) (lit≤ tt) (s .fits .s)
 
@@ -26,14 +20,8 @@ returns c =
 sub-result-2 : tie.Need-sub-result-2
 sub-result-2 c = let s = c .before .before .before in minutes.less-fits _ (s .args .s) (lit≤ tt) (s .fits .s)
 
-enum-told-2 : tie.Need-enum-told-2
-enum-told-2 c = search needs
-
 sub-result-3 : tie.Need-sub-result-3
 sub-result-3 c = let s = c .before .before in minutes.less-fits _ (s .args .s) (lit≤ tt) (s .fits .s)
-
-enum-told-3 : tie.Need-enum-told-3
-enum-told-3 c = search needs
 
 returns-2 : tie.Need-returns-2
 unfolding shiftOf
@@ -52,15 +40,4 @@ returns-4 c = rw (c .enum-told3 .given .1)
 pub shift-spec : {M : Type 1} → statement M
 shift-spec =
     tie.close
-    (tie.spec
-    cast-n
-    enum-told
-    sub-result
-    returns
-    sub-result-2
-    enum-told-2
-    sub-result-3
-    enum-told-3
-    returns-2
-    returns-3
-    returns-4)
+    (tie.spec (λ c. search needs) (λ c. search needs) sub-result returns sub-result-2 (λ c. search needs) sub-result-3 (λ c. search needs) returns-2 returns-3 returns-4)

@@ -7,35 +7,27 @@ use Rattle.calendar.proofs.dates.Date.day_number.Tie as tie
 
 add-days : tie.Need-add-days
 add-days c =
-    let d = c .before .before .before .args .self in
-    let k : d .year ≤ 4294967295 = search needs in
-    let e = c .before .days-before-year .ensures in
-    let o = c .ordinal .ensures in
+    let d = c .before .before .before .args .self in let k : d .year ≤ 4294967295 = search needs in
+    let e = c .before .days-before-year .ensures in let o = c .ordinal .ensures in
     let r = count-fits d k (c .before .days-before-year .result + c .ordinal .result) (omega arith) in
     omega arith
 
 cast-result : tie.Need-cast-result
 cast-result c =
-    let d = c .before .before .before .args .self in
-    let k : d .year ≤ 4294967295 = search needs in
-    let e = c .before .days-before-year .ensures in
-    let o = c .ordinal .ensures in
+    let d = c .before .before .before .args .self in let k : d .year ≤ 4294967295 = search needs in
+    let e = c .before .days-before-year .ensures in let o = c .ordinal .ensures in
     record { sfits = count-fits d k (c .before .days-before-year .result + c .ordinal .result) (omega arith) }
 
 sub-result : tie.Need-sub-result
 sub-result c =
-    let d = c .before .before .before .args .self in
-    let k : d .year ≤ 4294967295 = search needs in
-    let e = c .before .days-before-year .ensures in
-    let o = c .ordinal .ensures in
+    let d = c .before .before .before .args .self in let k : d .year ≤ 4294967295 = search needs in
+    let e = c .before .days-before-year .ensures in let o = c .ordinal .ensures in
     less-fits d k (c .before .days-before-year .result + c .ordinal .result) (omega arith)
 
 returns : tie.Need-returns
 returns c =
-    let d = c .before .before .before .args .self in
-    let k : d .year ≤ 4294967295 = search needs in
-    let e = c .before .days-before-year .ensures in
-    let o = c .ordinal .ensures in
+    let d = c .before .before .before .args .self in let k : d .year ≤ 4294967295 = search needs in
+    let e = c .before .days-before-year .ensures in let o = c .ordinal .ensures in
     number-read d k (c .before .days-before-year .result + c .ordinal .result) (omega arith)
 
 pub day-number-spec : {M : Type 1} → statement M

@@ -20,16 +20,11 @@ add-result c =
 returns : tie.Need-returns
 unfolding ordinalOf
 returns c =
-    let e0 = c .before .days-before .ensures in
-    let e1 = c .before .before .is-leap-year .ensures in
-    let e2 = c .before .before .before .before .exists .ensures in
-    simp (sym e0, sym e1, sym e2, c .before .before .before .if1 .taken)
+    simp (sym (c .before .days-before .ensures), sym (c .before .before .is-leap-year .ensures), sym (c .before .before .before .before .exists .ensures), c .before .before .before .if1 .taken)
 
 returns-2 : tie.Need-returns-2
 unfolding ordinalOf
-returns-2 c =
-    let e0 = c .before .exists .ensures in
-    simp (sym e0, c .if1 .left)
+returns-2 c = simp (sym (c .before .exists .ensures), c .if1 .left)
 
 pub ordinal-spec : {M : Type 1} → statement M
 ordinal-spec =

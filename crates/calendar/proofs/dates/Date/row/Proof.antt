@@ -10,16 +10,13 @@ use Rattle.calendar.proofs.dates.Date.row.Tie as tie
 
 add-of-day : tie.Need-add-of-day
 add-of-day c =
-    let d = c .before .before .before .args .self in
-    let k : d .year ≤ 4294967295 = search needs in
+    let d = c .before .before .before .args .self in let k : d .year ≤ 4294967295 = search needs in
     row-fits d k (c .day-number .result) (search needs) (c .day-number .ensures) (c .before .before .before .args .row) (search needs)
 
 returns : tie.Need-returns
 unfolding fromOf
 returns c =
-    let s = c .before .before .before .before in
-    let d = s .args .self in
-    let z = c .before .day-number .result in
+    let s = c .before .before .before .before in let d = s .args .self in let z = c .before .day-number .result in
     let f : SFits w64 z = search needs in
     let h = sym (c .before .before .before .exists .ensures) ∙ c .before .before .if1 .taken in
     let k : d .year ≤ 4294967295 = search needs in
@@ -27,9 +24,7 @@ returns c =
 
 returns-2 : tie.Need-returns-2
 unfolding fromOf
-returns-2 c =
-    let e0 = c .before .exists .ensures in
-    simp (sym e0, c .if1 .left)
+returns-2 c = simp (sym (c .before .exists .ensures), c .if1 .left)
 
 pub row-spec : {M : Type 1} → statement M
 row-spec =

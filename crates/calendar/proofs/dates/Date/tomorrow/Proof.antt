@@ -16,30 +16,25 @@ returns c =
 
 of-ordinal-requires : tie.Need-of-ordinal-requires
 of-ordinal-requires c κs =
-    let e = c .before .days-in-year .ensures in
-    let y = year-short (leapOf (c .before .before .before .before .args .self .year)) in
+    let e = c .before .days-in-year .ensures in let y = year-short (leapOf (c .before .before .before .before .args .self .year)) in
     unfold daysInYearOf in (omega arith, omega arith)
 
 returns-2 : tie.Need-returns-2
 returns-2 c =
-    let s = c .before .before .before .before .before in
-    let d = s .args .self in
-    let o = c .before .before .before .before .ordinal .ensures in
-    let k : d .year ≤ 4294967295 = search needs in
+    let s = c .before .before .before .before .before in let d = s .args .self in
+    let o = c .before .before .before .before .ordinal .ensures in let k : d .year ≤ 4294967295 = search needs in
     c .of-ordinal .ensures ∙ ap (λ (n : ℕ). ofOrdinalOf (d .year) (n + 1)) o
     ∙ tomorrow-within d (λ z. c .before .before .before .if1 .left (o ∙ z)) k (omega arith)
 
 returns-3 : tie.Need-returns-3
 returns-3 c =
-    let d = c .before .before .before .before .before .args .self in
-    let o = c .before .before .before .before .ordinal .ensures in
+    let d = c .before .before .before .before .before .args .self in let o = c .before .before .before .before .ordinal .ensures in
     let k : d .year ≤ 4294967295 = search needs in
     tomorrow-last d (λ z. c .before .before .before .if1 .left (o ∙ z)) k (omega arith) (c .if3 .taken)
 
 returns-4 : tie.Need-returns-4
 returns-4 c =
-    let d = c .before .before .before .before .before .args .self in
-    let o = c .before .before .before .before .ordinal .ensures in
+    let d = c .before .before .before .before .before .args .self in let o = c .before .before .before .before .ordinal .ensures in
     let k : d .year ≤ 4294967295 = search needs in
     tomorrow-new-year d (λ z. c .before .before .before .if1 .left (o ∙ z)) k (omega arith) (c .if3 .left)
 

@@ -16,31 +16,25 @@ returns c =
 
 of-ordinal-requires : tie.Need-of-ordinal-requires
 of-ordinal-requires c κs =
-    let d = c .before .before .before .args .self in
-    let o = c .before .before .ordinal .ensures in
-    let n = ordinal-short d in
+    let d = c .before .before .before .args .self in let o = c .before .before .ordinal .ensures in let n = ordinal-short d in
     (omega arith, omega arith)
 
 returns-2 : tie.Need-returns-2
 returns-2 c =
-    let s = c .before .before .before .before in
-    let d = s .args .self in
-    let o = c .before .before .before .ordinal .ensures in
+    let s = c .before .before .before .before in let d = s .args .self in let o = c .before .before .before .ordinal .ensures in
     let k : d .year ≤ 4294967295 = search needs in
     c .of-ordinal .ensures ∙ ap (λ (n : ℕ). ofOrdinalOf (d .year) (n - 1)) o
     ∙ yesterday-within d (λ z. c .before .before .if1 .left (o ∙ z)) k (omega arith)
 
 returns-3 : tie.Need-returns-3
 returns-3 c =
-    let d = c .before .before .before .before .args .self in
-    let o = c .before .before .before .ordinal .ensures in
+    let d = c .before .before .before .before .args .self in let o = c .before .before .before .ordinal .ensures in
     let k : d .year ≤ 4294967295 = search needs in
     yesterday-first d (λ z. c .before .before .if1 .left (o ∙ z)) k (omega arith) (c .if3 .taken)
 
 returns-4 : tie.Need-returns-4
 returns-4 c =
-    let d = c .before .before .before .before .args .self in
-    let o = c .before .before .before .ordinal .ensures in
+    let d = c .before .before .before .before .args .self in let o = c .before .before .before .ordinal .ensures in
     let k : d .year ≤ 4294967295 = search needs in
     yesterday-old-year d (λ z. c .before .before .if1 .left (o ∙ z)) k (omega arith) (c .if3 .left)
 

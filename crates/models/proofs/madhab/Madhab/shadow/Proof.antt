@@ -1,15 +1,24 @@
+use lib.Dec.{lit<}
+use lib.IntN.{pos}
+use mir.Syntax.{w32}
+use mir.Val.{SFits}
+use Rattle.integers.proofs.Ranges.{read}
+use Rattle.models.specs.declared.madhab.Madhab.{Madhab}
+use Rattle.models.specs.declared.madhab.Madhab.the-variants.{Shafi, Hanafi}
 use Rattle.models.specs.Numbers.{madhabNumberOf}
-use borrow.Author.Needs.{needs}
 use Rattle.models.proofs.madhab.Madhab.shadow.Statement.{statement}
 use Rattle.models.proofs.madhab.Madhab.shadow.Tie as tie
 
-returns : tie.Need-returns
+small : (m : Madhab) → SFits w32 (pos (madhabNumberOf m))
 unfolding madhabNumberOf
-returns c = simp (c .enum-told .given .1)
+small Shafi = record { sfits = lit< tt }
+small Hanafi = record { sfits = lit< tt }
 
-returns-2 : tie.Need-returns-2
-unfolding madhabNumberOf
-returns-2 c = simp (c .enum-told2 .given .1)
+cast-result : tie.Need-cast-result
+cast-result c = rw (c .number .ensures) (small (c .before .args .self))
+
+returns : tie.Need-returns
+returns c = rw (c .number .ensures) (read w32 _ (small (c .before .args .self)))
 
 pub shadow-spec : {M : Type 1} → statement M
-shadow-spec = tie.close (tie.spec (λ c. search needs) (λ c. search needs) returns returns-2)
+shadow-spec = tie.close (tie.spec (λ c κs. tt) cast-result returns)

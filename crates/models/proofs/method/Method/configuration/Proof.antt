@@ -7,59 +7,25 @@ use borrow.Author.Needs.{needs}
 use Rattle.models.proofs.method.Method.configuration.Statement.{statement}
 use Rattle.models.proofs.method.Method.configuration.Tie as tie
 
-returns : tie.Need-returns
+returns : tie.Need-returns × tie.Need-returns-2 × tie.Need-returns-3 × tie.Need-returns-4 × tie.Need-returns-5 × tie.Need-returns-6 × tie.Need-returns-7 × tie.Need-returns-8 × tie.Need-returns-9 × tie.Need-returns-10 × tie.Need-returns-11 × tie.Need-returns-12 × tie.Need-returns-13
 unfolding presetOf preset dec round ofBits parametersNewOf setIshaInterval
-returns c = simp (c .preset .ensures, c .before .offset .ensures, c .before .before .enum-told .given .1)
-
-returns-2 : tie.Need-returns-2
-unfolding presetOf preset dec round ofBits parametersNewOf setIshaInterval
-returns-2 c = simp (c .preset2 .ensures, c .before .offset2 .ensures, c .before .before .enum-told2 .given .1)
-
-returns-3 : tie.Need-returns-3
-unfolding presetOf preset dec round ofBits parametersNewOf setIshaInterval
-returns-3 c = simp (c .preset3 .ensures, c .before .offset3 .ensures, c .before .before .enum-told3 .given .1)
-
-returns-4 : tie.Need-returns-4
-unfolding presetOf preset dec round ofBits parametersNewOf setIshaInterval
-returns-4 c = simp (c .isha-interval .ensures, c .before .preset4 .ensures, c .before .before .offset4 .ensures, c .before .before .before .enum-told4 .given .1)
-
-returns-5 : tie.Need-returns-5
-unfolding presetOf preset dec round ofBits parametersNewOf setIshaInterval
-returns-5 c = simp (c .preset5 .ensures, c .before .offset5 .ensures, c .before .before .enum-told5 .given .1)
-
-returns-6 : tie.Need-returns-6
-unfolding presetOf preset dec round ofBits parametersNewOf setIshaInterval
-returns-6 c = simp (c .preset6 .ensures, c .before .offset6 .ensures, c .before .before .enum-told6 .given .1)
-
-returns-7 : tie.Need-returns-7
-unfolding presetOf preset dec round ofBits parametersNewOf setIshaInterval
-returns-7 c = simp (c .preset7 .ensures, c .before .offset7 .ensures, c .before .before .enum-told7 .given .1)
-
-returns-8 : tie.Need-returns-8
-unfolding presetOf preset dec round ofBits parametersNewOf setIshaInterval
-returns-8 c = simp (c .preset8 .ensures, c .before .offset8 .ensures, c .before .before .enum-told8 .given .1)
-
-returns-9 : tie.Need-returns-9
-unfolding presetOf preset dec round ofBits parametersNewOf setIshaInterval
-returns-9 c = simp (c .isha-interval2 .ensures, c .before .preset9 .ensures, c .before .before .offset9 .ensures, c .before .before .before .enum-told9 .given .1)
-
-returns-10 : tie.Need-returns-10
-unfolding presetOf preset dec round ofBits parametersNewOf setIshaInterval
-returns-10 c = simp (c .rounding .ensures, c .before .preset10 .ensures, c .before .before .offset10 .ensures, c .before .before .before .enum-told10 .given .1)
-
-returns-11 : tie.Need-returns-11
-unfolding presetOf preset dec round ofBits parametersNewOf setIshaInterval
-returns-11 c = simp (c .maghrib-angle .ensures, c .before .preset11 .ensures, c .before .before .offset11 .ensures, c .before .before .before .enum-told11 .given .1)
-
-returns-12 : tie.Need-returns-12
-unfolding presetOf preset dec round ofBits parametersNewOf setIshaInterval
-returns-12 c = simp (c .preset12 .ensures, c .before .offset12 .ensures, c .before .before .enum-told12 .given .1)
-
-returns-13 : tie.Need-returns-13
-unfolding presetOf preset dec round ofBits parametersNewOf setIshaInterval
-returns-13 c = simp (c .preset13 .ensures, c .before .offset13 .ensures, c .before .before .enum-told13 .given .1)
+returns = (
+  λ c. simp (c .preset .ensures, c .before .enum-told .given .1),
+  λ c. simp (c .preset2 .ensures, c .before .enum-told2 .given .1),
+  λ c. simp (c .preset3 .ensures, c .before .enum-told3 .given .1),
+  λ c. simp (c .isha-interval .ensures, c .before .preset4 .ensures, c .before .before .enum-told4 .given .1),
+  λ c. simp (c .preset5 .ensures, c .before .enum-told5 .given .1),
+  λ c. simp (c .preset6 .ensures, c .before .enum-told6 .given .1),
+  λ c. simp (c .preset7 .ensures, c .before .enum-told7 .given .1),
+  λ c. simp (c .preset8 .ensures, c .before .enum-told8 .given .1),
+  λ c. simp (c .isha-interval2 .ensures, c .before .preset9 .ensures, c .before .before .enum-told9 .given .1),
+  λ c. simp (c .rounding .ensures, c .before .preset10 .ensures, c .before .before .enum-told10 .given .1),
+  λ c. simp (c .maghrib-angle .ensures, c .before .preset11 .ensures, c .before .before .enum-told11 .given .1),
+  λ c. simp (c .preset12 .ensures, c .before .enum-told12 .given .1),
+  λ c. simp (c .preset13 .ensures, c .before .enum-told13 .given .1),
+)
 
 pub configuration-spec : {M : Type 1} → statement M
 configuration-spec =
     tie.close
-    (tie.spec (λ c. search needs) (λ c κs. search needs) (λ c κs. search needs) (λ c. search needs) (λ c κs. search needs) (λ c κs. search needs) (λ c. search needs) (λ c κs. search needs) (λ c κs. search needs) (λ c. search needs) (λ c κs. search needs) (λ c κs. search needs) (λ c κs. search needs) (λ c. search needs) (λ c κs. search needs) (λ c κs. search needs) (λ c. search needs) (λ c κs. search needs) (λ c κs. search needs) (λ c. search needs) (λ c κs. search needs) (λ c κs. search needs) (λ c. search needs) (λ c κs. search needs) (λ c κs. search needs) (λ c. search needs) (λ c κs. search needs) (λ c κs. search needs) (λ c κs. search needs) (λ c. search needs) (λ c κs. search needs) (λ c κs. search needs) (λ c κs. search needs) (λ c. search needs) (λ c κs. search needs) (λ c κs. search needs) (λ c κs. search needs) (λ c. search needs) (λ c κs. search needs) (λ c κs. search needs) (λ c. search needs) (λ c κs. search needs) (λ c κs. search needs) returns returns-2 returns-3 returns-4 returns-5 returns-6 returns-7 returns-8 returns-9 returns-10 returns-11 returns-12 returns-13)
+    (tie.spec (λ c. search needs) (λ c κs. search needs) (λ c. search needs) (λ c κs. search needs) (λ c. search needs) (λ c κs. search needs) (λ c. search needs) (λ c κs. search needs) (λ c κs. search needs) (λ c. search needs) (λ c κs. search needs) (λ c. search needs) (λ c κs. search needs) (λ c. search needs) (λ c κs. search needs) (λ c. search needs) (λ c κs. search needs) (λ c. search needs) (λ c κs. search needs) (λ c κs. search needs) (λ c. search needs) (λ c κs. search needs) (λ c κs. search needs) (λ c. search needs) (λ c κs. search needs) (λ c κs. search needs) (λ c. search needs) (λ c κs. search needs) (λ c. search needs) (λ c κs. search needs) (returns .0) (returns .1) (returns .2) (returns .3) (returns .4) (returns .5) (returns .6) (returns .7) (returns .8) (returns .9) (returns .10) (returns .11) (returns .12))

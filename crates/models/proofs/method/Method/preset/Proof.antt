@@ -1,11 +1,11 @@
+use borrow.Author.Needs.{needs}
 use Rattle.models.specs.Settings.{parametersNewOf}
 use Rattle.models.proofs.method.Method.preset.Statement.{statement}
 use Rattle.models.proofs.method.Method.preset.Tie as tie
 
 returns : tie.Need-returns
 unfolding parametersNewOf
-returns c =
-    simp (c .method-adjustments .ensures, c .before .method .ensures, c .before .before .new .ensures)
+returns c = simp (c .method-adjustments .ensures, c .before .method .ensures, c .before .before .new .ensures)
 
 pub preset-spec : {M : Type 1} → statement M
-preset-spec = tie.close (tie.spec (λ c κs. tt) (λ c κs. tt) (λ c κs. tt) returns)
+preset-spec = tie.close (tie.spec (λ c. search needs) (λ c. search needs) (λ c κs. tt) (λ c κs. tt) (λ c κs. tt) returns)

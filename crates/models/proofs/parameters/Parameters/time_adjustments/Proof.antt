@@ -1,9 +1,9 @@
 use native.Mathlib.Omega.{arith}
-use Rattle.integers.specs.Sums.{sum, summands}
+use Rattle.integers.proofs.Sums.{sum, summands}
 use mathlib.Core.Path.{_≡_, _∙_}
 use mir.Syntax.{w32, w64}
 use mir.Val.{SFits}
-use Rattle.integers.specs.Ranges.{range, readBack, read}
+use Rattle.integers.proofs.Ranges.{range, readBack, read}
 use Rattle.models.specs.Settings.{timeAdjustmentsOf}
 use borrow.Author.Needs.{needs}
 use Rattle.models.proofs.parameters.Parameters.time_adjustments.Statement.{statement}
@@ -12,15 +12,10 @@ use Rattle.models.proofs.parameters.Parameters.time_adjustments.Tie as 
 returns : tie.Need-returns
 unfolding timeAdjustmentsOf
 returns c =
-    let x = c .before .before .minutes-for .result in
-    let y = c .before .minutes-for2 .result in
-    let k : readBack w64 (c .sum .result) ≡ c .sum .result = search needs in
-    let a : SFits w32 x = search needs in
-    let b : SFits w32 y = search needs in
-    let e = k ∙ c .sum .ensures ∙ summands (read w32 x a) (read w32 y b) in
-    let s = sum x y in
-    let m = range w32 x a in
-    let n = range w32 y b in
+    let x = c .before .before .minutes-for .result in let y = c .before .minutes-for2 .result in
+    let k : readBack w64 (c .sum .result) ≡ c .sum .result = search needs in let a : SFits w32 x = search needs in
+    let b : SFits w32 y = search needs in let e = k ∙ c .sum .ensures ∙ summands (read w32 x a) (read w32 y b) in let s = sum x y in
+    let m = range w32 x a in let n = range w32 y b in
     (e ∙ summands (c .before .before .minutes-for .ensures) (c .before .minutes-for2 .ensures), (rw e (omega arith), rw e (omega arith)))
 
 pub time-adjustments-spec : {M : Type 1} → statement M

@@ -3,39 +3,20 @@ use borrow.Author.Needs.{needs}
 use Rattle.models.proofs.prayer.Name.letters.Statement.{statement}
 use Rattle.models.proofs.prayer.Name.letters.Tie as tie
 
-returns : tie.Need-returns
+returns : tie.Need-returns × tie.Need-returns-2 × tie.Need-returns-3 × tie.Need-returns-4 × tie.Need-returns-5 × tie.Need-returns-6 × tie.Need-returns-7 × tie.Need-returns-8
 unfolding lettersOf
-returns c = simp (c .before .before .enum-told .given .1)
-
-returns-2 : tie.Need-returns-2
-unfolding lettersOf
-returns-2 c = simp (c .before .before .enum-told2 .given .1)
-
-returns-3 : tie.Need-returns-3
-unfolding lettersOf
-returns-3 c = simp (c .before .before .enum-told3 .given .1)
-
-returns-4 : tie.Need-returns-4
-unfolding lettersOf
-returns-4 c = simp (c .before .before .enum-told4 .given .1)
-
-returns-5 : tie.Need-returns-5
-unfolding lettersOf
-returns-5 c = simp (c .before .before .enum-told5 .given .1)
-
-returns-6 : tie.Need-returns-6
-unfolding lettersOf
-returns-6 c = simp (c .before .before .enum-told6 .given .1)
-
-returns-7 : tie.Need-returns-7
-unfolding lettersOf
-returns-7 c = simp (c .before .before .enum-told7 .given .1)
-
-returns-8 : tie.Need-returns-8
-unfolding lettersOf
-returns-8 c = simp (c .before .before .enum-told8 .given .1)
+returns = (
+  λ c. simp (c .before .before .enum-told .given .1),
+  λ c. simp (c .before .before .enum-told2 .given .1),
+  λ c. simp (c .before .before .enum-told3 .given .1),
+  λ c. simp (c .before .before .enum-told4 .given .1),
+  λ c. simp (c .before .before .enum-told5 .given .1),
+  λ c. simp (c .before .before .enum-told6 .given .1),
+  λ c. simp (c .before .before .enum-told7 .given .1),
+  λ c. simp (c .before .before .enum-told8 .given .1),
+)
 
 pub letters-spec : {M : Type 1} → statement M
 letters-spec =
     tie.close
-    (tie.spec (λ c. search needs) (λ c. search needs) (λ c. search needs) (λ c. search needs) (λ c. search needs) (λ c. search needs) (λ c. search needs) (λ c. search needs) returns returns-2 returns-3 returns-4 returns-5 returns-6 returns-7 returns-8)
+    (tie.spec (λ c. search needs) (λ c. search needs) (λ c. search needs) (λ c. search needs) (λ c. search needs) (λ c. search needs) (λ c. search needs) (λ c. search needs) (returns .0) (returns .1) (returns .2) (returns .3) (returns .4) (returns .5) (returns .6) (returns .7))

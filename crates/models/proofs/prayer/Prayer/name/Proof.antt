@@ -1,55 +1,27 @@
 use mathlib.Core.Path.{sym, ap, _∙_}
 use mir.Syntax.{w64}
-use Rattle.integers.specs.Ranges.{read}
+use Rattle.integers.proofs.Ranges.{read}
 use Rattle.models.specs.Names.{isFridayOf}
 use Rattle.models.specs.Names.{nameOf}
 use borrow.Author.Needs.{needs}
 use Rattle.models.proofs.prayer.Prayer.name.Statement.{statement}
 use Rattle.models.proofs.prayer.Prayer.name.Tie as tie
 
-returns : tie.Need-returns
+returns : tie.Need-returns × tie.Need-returns-2 × tie.Need-returns-3 × tie.Need-returns-4 × tie.Need-returns-5 × tie.Need-returns-6 × tie.Need-returns-7 × tie.Need-returns-8 × tie.Need-returns-9
 unfolding nameOf
-returns c = simp (c .enum-told .given .1)
-
-returns-2 : tie.Need-returns-2
-unfolding nameOf
-returns-2 c = simp (c .enum-told2 .given .1)
-
-returns-3 : tie.Need-returns-3
-unfolding nameOf
-returns-3 c =
-    let t = c .before .before .before .before in
-    let e = c .before .is-friday .ensures ∙ ap isFridayOf (read w64 (t .args .seconds) (t .fits .seconds)) in
-    simp (c .before .before .enum-told3 .given .1, sym e, c .if1 .taken)
-
-returns-4 : tie.Need-returns-4
-unfolding nameOf
-returns-4 c =
-    let t = c .before .before .before .before in
-    let e = c .before .is-friday .ensures ∙ ap isFridayOf (read w64 (t .args .seconds) (t .fits .seconds)) in
-    simp (c .before .before .enum-told3 .given .1, sym e, c .if1 .left)
-
-returns-5 : tie.Need-returns-5
-unfolding nameOf
-returns-5 c = simp (c .enum-told4 .given .1)
-
-returns-6 : tie.Need-returns-6
-unfolding nameOf
-returns-6 c = simp (c .enum-told5 .given .1)
-
-returns-7 : tie.Need-returns-7
-unfolding nameOf
-returns-7 c = simp (c .enum-told6 .given .1)
-
-returns-8 : tie.Need-returns-8
-unfolding nameOf
-returns-8 c = simp (c .enum-told7 .given .1)
-
-returns-9 : tie.Need-returns-9
-unfolding nameOf
-returns-9 c = simp (c .enum-told8 .given .1)
+returns = (
+  λ c. simp (c .enum-told .given .1),
+  λ c. simp (c .enum-told2 .given .1),
+  λ c. let t = c .before .before .before .before in let e = c .before .is-friday .ensures ∙ ap isFridayOf (read w64 (t .args .seconds) (t .fits .seconds)) in simp (c .before .before .enum-told3 .given .1, sym e, c .if1 .taken),
+  λ c. let t = c .before .before .before .before in let e = c .before .is-friday .ensures ∙ ap isFridayOf (read w64 (t .args .seconds) (t .fits .seconds)) in simp (c .before .before .enum-told3 .given .1, sym e, c .if1 .left),
+  λ c. simp (c .enum-told4 .given .1),
+  λ c. simp (c .enum-told5 .given .1),
+  λ c. simp (c .enum-told6 .given .1),
+  λ c. simp (c .enum-told7 .given .1),
+  λ c. simp (c .enum-told8 .given .1),
+)
 
 pub name-spec : {M : Type 1} → statement M
 name-spec =
     tie.close
-    (tie.spec (λ c. search needs) (λ c. search needs) (λ c. search needs) (λ c κs. tt) (λ c. search needs) (λ c. search needs) (λ c. search needs) (λ c. search needs) (λ c. search needs) returns returns-2 returns-3 returns-4 returns-5 returns-6 returns-7 returns-8 returns-9)
+    (tie.spec (λ c. search needs) (λ c. search needs) (λ c. search needs) (λ c κs. tt) (λ c. search needs) (λ c. search needs) (λ c. search needs) (λ c. search needs) (λ c. search needs) (returns .0) (returns .1) (returns .2) (returns .3) (returns .4) (returns .5) (returns .6) (returns .7) (returns .8))

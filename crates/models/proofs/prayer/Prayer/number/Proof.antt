@@ -3,39 +3,20 @@ use borrow.Author.Needs.{needs}
 use Rattle.models.proofs.prayer.Prayer.number.Statement.{statement}
 use Rattle.models.proofs.prayer.Prayer.number.Tie as tie
 
-returns : tie.Need-returns
+returns : tie.Need-returns × tie.Need-returns-2 × tie.Need-returns-3 × tie.Need-returns-4 × tie.Need-returns-5 × tie.Need-returns-6 × tie.Need-returns-7 × tie.Need-returns-8
 unfolding prayerNumberOf
-returns c = simp (c .enum-told .given .1)
-
-returns-2 : tie.Need-returns-2
-unfolding prayerNumberOf
-returns-2 c = simp (c .enum-told2 .given .1)
-
-returns-3 : tie.Need-returns-3
-unfolding prayerNumberOf
-returns-3 c = simp (c .enum-told3 .given .1)
-
-returns-4 : tie.Need-returns-4
-unfolding prayerNumberOf
-returns-4 c = simp (c .enum-told4 .given .1)
-
-returns-5 : tie.Need-returns-5
-unfolding prayerNumberOf
-returns-5 c = simp (c .enum-told5 .given .1)
-
-returns-6 : tie.Need-returns-6
-unfolding prayerNumberOf
-returns-6 c = simp (c .enum-told6 .given .1)
-
-returns-7 : tie.Need-returns-7
-unfolding prayerNumberOf
-returns-7 c = simp (c .enum-told7 .given .1)
-
-returns-8 : tie.Need-returns-8
-unfolding prayerNumberOf
-returns-8 c = simp (c .enum-told8 .given .1)
+returns = (
+  λ c. simp (c .enum-told .given .1),
+  λ c. simp (c .enum-told2 .given .1),
+  λ c. simp (c .enum-told3 .given .1),
+  λ c. simp (c .enum-told4 .given .1),
+  λ c. simp (c .enum-told5 .given .1),
+  λ c. simp (c .enum-told6 .given .1),
+  λ c. simp (c .enum-told7 .given .1),
+  λ c. simp (c .enum-told8 .given .1),
+)
 
 pub number-spec : {M : Type 1} → statement M
 number-spec =
     tie.close
-    (tie.spec (λ c. search needs) (λ c. search needs) (λ c. search needs) (λ c. search needs) (λ c. search needs) (λ c. search needs) (λ c. search needs) (λ c. search needs) returns returns-2 returns-3 returns-4 returns-5 returns-6 returns-7 returns-8)
+    (tie.spec (λ c. search needs) (λ c. search needs) (λ c. search needs) (λ c. search needs) (λ c. search needs) (λ c. search needs) (λ c. search needs) (λ c. search needs) (returns .0) (returns .1) (returns .2) (returns .3) (returns .4) (returns .5) (returns .6) (returns .7))

@@ -1,29 +1,17 @@
-use Rattle.models.specs.declared.shafaq.Shafaq.the-variants.{General, Ahmer, Abyad}
-use Prim.Native.Nat.{zero-le}
-use mathlib.Core.Path.{sym}
-use mathlib.Core.List.{[], _∷_}
-use lib.ListN.{List·getD-eq-default}
-use Rattle.models.proofs.Beyond.{beyond}
-use Rattle.models.specs.Numbers.{shafaqOf}
+use borrow.Author.Needs.{needs}
+use Rattle.models.specs.declared.shafaq.Shafaq.the-variants.{General, Abyad}
+use Rattle.models.specs.Numbers.{shafaqs, shafaqOf}
+use Rattle.models.proofs.Rows.{inside, beyond}
 use Rattle.models.proofs.shafaq.Shafaq.of_number.Statement.{statement}
 use Rattle.models.proofs.shafaq.Shafaq.of_number.Tie as tie
 
 returns : tie.Need-returns
 unfolding shafaqOf
-returns c = simp (c .match .keys1)
+returns c = inside shafaqs General Abyad (c .before .before .args .n) (c .before .if1 .taken)
 
 returns-2 : tie.Need-returns-2
 unfolding shafaqOf
-returns-2 c = simp (c .match .keys2)
-
-returns-3 : tie.Need-returns-3
-unfolding shafaqOf
-returns-3 c =
-    let n = c .before .args .n in
-    let r = c .match .rest in
-    let h1 = beyond n 0 zero-le (r .0 .1) in
-    let h2 = beyond n 1 h1 (r .1) in
-    sym (List·getD-eq-default (General ∷ Ahmer ∷ []) Abyad {n = n} h2)
+returns-2 c = beyond shafaqs Abyad (c .before .args .n) (c .if1 .left)
 
 pub of-number-spec : {M : Type 1} → statement M
-of-number-spec = tie.close (tie.spec returns returns-2 returns-3)
+of-number-spec = tie.close (tie.spec (λ c. search needs) returns returns-2)

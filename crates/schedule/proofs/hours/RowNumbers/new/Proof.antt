@@ -1,10 +1,13 @@
-use Rattle.schedule.specs.Numbers.{numbersOf}
+use Rattle.schedule.proofs.SharedLaws.{row-shared}
 use Rattle.schedule.proofs.hours.RowNumbers.new.Statement.{statement}
 use Rattle.schedule.proofs.hours.RowNumbers.new.Tie as tie
 
 returns : tie.Need-returns
-unfolding numbersOf
 returns c =
+    let suns = c .before .before .before .before .before .before .before in
+    let positions = suns .before .before .before .before .before in
+    let dates = positions .before .before .before .before .before in
+    let t = dates .before .before .before .args in
     simp (
       c .fajr-number2 .ensures,
       c .before .isha-number .ensures,
@@ -13,22 +16,21 @@ returns c =
       c .before .before .before .before .hour-numbers3 .ensures,
       c .before .before .before .before .before .hour-numbers2 .ensures,
       c .before .before .before .before .before .before .hour-numbers .ensures,
-      c .before .before .before .before .before .before .before .sun3 .ensures,
-      c .before .before .before .before .before .before .before .before .position5 .ensures,
-      c .before .before .before .before .before .before .before .before .before .tomorrow3 .ensures,
-      c .before .before .before .before .before .before .before .before .before .before .sun2 .ensures,
-      c .before .before .before .before .before .before .before .before .before .before .before .sun .ensures,
-      c .before .before .before .before .before .before .before .before .before .before .before .before .position4 .ensures,
-      c .before .before .before .before .before .before .before .before .before .before .before .before .before .yesterday .ensures,
-      c .before .before .before .before .before .before .before .before .before .before .before .before .before .before .position3 .ensures,
-      c .before .before .before .before .before .before .before .before .before .before .before .before .before .before .before .position2 .ensures,
-      c .before .before .before .before .before .before .before .before .before .before .before .before .before .before .before .before .position .ensures,
-      c .before .before .before .before .before .before .before .before .before .before .before .before .before .before .before .before .before .tomorrow2 .ensures,
-      c .before .before .before .before .before .before .before .before .before .before .before .before .before .before .before .before .before .before .tomorrow .ensures,
-      c .before .before .before .before .before .before .before .before .before .before .before .before .before .before .before .before .before .before .before .new .ensures,
+      suns .sun3 .ensures,
+      suns .before .position5 .ensures,
+      suns .before .before .tomorrow3 .ensures,
+      suns .before .before .before .sun2 .ensures,
+      suns .before .before .before .before .sun .ensures,
+      positions .position4 .ensures,
+      positions .before .yesterday .ensures,
+      positions .before .before .position3 .ensures,
+      positions .before .before .before .position2 .ensures,
+      positions .before .before .before .before .position .ensures,
+      dates .tomorrow2 .ensures,
+      dates .before .tomorrow .ensures,
+      dates .before .before .new .ensures,
     )
+    (row-shared (t .date) (t .coordinates) (t .parameters))
 
 pub new-spec : {M : Type 1} → statement M
-new-spec =
-    tie.close
-    (tie.spec (λ c κs. tt) (λ c κs. tt) (λ c κs. tt) (λ c κs. tt) (λ c κs. tt) (λ c κs. tt) (λ c κs. tt) (λ c κs. tt) (λ c κs. tt) (λ c κs. tt) (λ c κs. tt) (λ c κs. tt) (λ c κs. tt) (λ c κs. tt) (λ c κs. tt) (λ c κs. tt) (λ c κs. tt) (λ c κs. tt) (λ c κs. tt) (λ c κs. tt) returns)
+new-spec = tie.close (tie.spec (λ c κs. tt) (λ c κs. tt) (λ c κs. tt) (λ c κs. tt) (λ c κs. tt) (λ c κs. tt) (λ c κs. tt) (λ c κs. tt) (λ c κs. tt) (λ c κs. tt) (λ c κs. tt) (λ c κs. tt) (λ c κs. tt) (λ c κs. tt) (λ c κs. tt) (λ c κs. tt) (λ c κs. tt) (λ c κs. tt) (λ c κs. tt) (λ c κs. tt) returns)

@@ -1,6 +1,6 @@
 use lib.IntN.{ℤ}
 use mir.Syntax.{w64}
-use Rattle.integers.specs.Ranges.{readBack}
+use Rattle.integers.proofs.Ranges.{readBack}
 use Rattle.schedule.specs.declared.in_force.Current.the-variants.{Some}
 use Rattle.schedule.proofs.Due as due
 use mathlib.Core.Path.{_≡_, refl, sym, ap, _∙_}

@@ -1,7 +1,7 @@
 use mathlib.Core.Path.{_≡_, sym, ap, _∙_}
 use lib.IntN.{ℤ}
 use mir.Syntax.{w64}
-use Rattle.integers.specs.Ranges.{readBack}
+use Rattle.integers.proofs.Ranges.{readBack}
 use Rattle.schedule.specs.InForce.{aheadOf, hoursMinutesOf, untilOf}
 use Rattle.schedule.specs.declared.in_force.Remaining.the-variants.{In}
 use borrow.Author.Needs.{needs}

@@ -1,0 +1,252 @@
+-- What one walk over the fields of a checked order collects is what the definitions find tag by tag. Assumes nothing.
+use native.Mathlib.Omega.{arith}
+use native.Mathlib.Numerals.{add-one}
+use Prim.Native.Nat.{ℕ, zero, suc, _≤_, _<_, _+_}
+use mathlib.Core.Path.{_≡_, refl, sym, ap, _∙_}
+use mathlib.Core.Bool.{Bool, true, false, cond}
+use mathlib.Core.List.{List, []}
+use lib.ListN.{length, take, drop, getD, set, replicate, getD-replicate, length-set, List·getD-eq-default, take-append-drop}
+use lib.Seq.{ext-getD, getD-set-same, getD-set-other, take-append-seam}
+use lib.Dec.{ltb, eqb}
+use borrow.Author.Tests.{lt-ltb, le-ltb, eq-eqb, ne-eqb, ltb-true, ltb-false, eqb-true, eqb-false}
+use Rattle.refusals.specs.declared.Refusal.{Refusal}
+use Rattle.fields.specs.declared.values.Checked.{Checked}
+use Rattle.fields.specs.declared.values.Fields.{Fields}
+use Rattle.fields.specs.Numbers.{byteOf}
+use Rattle.fields.specs.Tags.{tags, lastTag}
+use Rattle.fields.specs.Fields.{lengthAt, after, firstBefore, faultOf, walkOf, checkOf}
+use Rattle.fields.specs.Values.{offsetOf, hasOf, valueOf, startOf, valuesOf, partFor, hasIn, valuesIn, byTag, fieldsOf, checkedOf}
+use Rattle.fields.proofs.FieldsLaws.{Good, fault-none, walk-good, check-none, has-good, known-last, whole-length, value-missing}
+use Rattle.fields.proofs.Walking.{find-here, find-on, find-none}
+
+-- ---- where a tag is found
+-- not before what neither the search's begin nor its end lies before
+find-from : (k : ℕ) (s : List ℕ) (tag at stop low : ℕ) → low ≤ at → low ≤ stop → low ≤ firstBefore k s tag at stop
+unfolding firstBefore
+find-from zero s tag at stop low h l = l
+find-from (suc k) s tag at stop low h l = go (ltb at stop) (eqb (byteOf s at) tag) (find-from k s tag (after s at) stop low (omega arith) l)
+  where
+    go : (a c : Bool) → low ≤ firstBefore k s tag (after s at) stop → low ≤ cond a (cond c at (firstBefore k s tag (after s at) stop)) stop
+    go false c f = l
+    go true true f = h
+    go true false f = f
+
+-- with less to search, it is found where it is with more
+find-sooner : (k : ℕ) (s : List ℕ) (tag at stop far : ℕ) → stop ≤ far → firstBefore k s tag at far < stop
+    → firstBefore k s tag at stop ≡ firstBefore k s tag at far
+unfolding firstBefore
+find-sooner zero s tag at stop far l h = absurd (omega arith)
+find-sooner (suc k) s tag at stop far l h =
+    go (ltb at far) (eqb (byteOf s at) tag) (ltb at stop) refl (λ g. find-sooner k s tag (after s at) stop far l g) h
+  where
+    go : (a c b : Bool) → ltb at stop ≡ b
+        → (firstBefore k s tag (after s at) far < stop → firstBefore k s tag (after s at) stop ≡ firstBefore k s tag (after s at) far)
+        → cond a (cond c at (firstBefore k s tag (after s at) far)) far < stop
+        → cond b (cond c at (firstBefore k s tag (after s at) stop)) stop ≡ cond a (cond c at (firstBefore k s tag (after s at) far)) far
+    go false c b e on h = absurd (omega arith)
+    go true true true e on h = refl
+    go true true false e on h = absurd (omega (arith, ltb-false at stop e))
+    go true false true e on h = on h
+    go true false false e on h =
+        absurd (omega (arith, find-from k s tag (after s at) far stop (omega (arith, ltb-false at stop e)) l))
+
+by-tag : (g : ℕ → ℕ) (k from i : ℕ) → i < k → getD (byTag g k from) i 0 ≡ g (from + i)
+unfolding byTag
+by-tag g zero from i h = absurd (omega arith)
+by-tag g (suc k) from zero h = ap g (omega arith)
+by-tag g (suc k) from (suc i) h = by-tag g k (from + 1) i (omega arith) ∙ ap g (omega arith)
+
+tagged : (g : ℕ → ℕ) (tag : ℕ) → tag < length tags → getD (byTag g (length tags) 0) tag 0 ≡ g tag
+tagged g tag l = let z : 0 + tag ≡ tag = omega arith in by-tag g (length tags) 0 tag l ∙ ap g z
+
+by-tag-length : (g : ℕ → ℕ) (k from : ℕ) → length (byTag g k from) ≡ k
+unfolding byTag
+by-tag-length g zero from = refl
+by-tag-length g (suc k) from = ap suc (by-tag-length g k (from + 1))
+
+-- ---- the walk that collects: a tag that it has not come to yet is found from here on, and one that it has come to is kept
+pub data Kept (s : List ℕ) (left at tag start size : ℕ) : Type 0 where
+  ahead : start ≡ 0 → size ≡ 0 → firstBefore left s tag at (length s) ≡ offsetOf s tag → Kept s left at tag start size
+  behind : offsetOf s tag < at → start ≡ offsetOf s tag + 3 → size ≡ length (valueOf s tag) → Kept s left at tag start size
+
+pub record Collected (s : List ℕ) (at : ℕ) (starts lengths : List ℕ) : Type 0 where
+  pub short : length s ≤ 1024
+  pub inside : at ≤ length s
+  pub left : ℕ
+  pub enough : length s ≤ at + left
+  pub good : walkOf left s at .number ≡ 0
+  pub sizes : (length starts ≡ length tags) × (length lengths ≡ length tags)
+  pub kept : (tag : ℕ) → tag < length tags → Kept s left at tag (getD starts tag 0) (getD lengths tag 0)
+
+pub collect-first : (s : List ℕ) → checkOf s .number ≡ 0 → Collected s 0 (replicate (length tags) 0) (replicate (length tags) 0)
+unfolding offsetOf
+collect-first s e =
+    let sound = check-none s e in
+    record {
+      short = sound .short;
+      inside = omega arith;
+      left = length s;
+      enough = omega arith;
+      good = sound .walk;
+      sizes = (refl, refl);
+      kept = λ tag l. ahead (getD-replicate (length tags) tag 0 0 l) (getD-replicate (length tags) tag 0 0 l) refl;
+    }
+
+module _ (s : List ℕ) (at : ℕ) (starts lengths : List ℕ) (c : Collected s at starts lengths) where
+  module _ (l : at < length s) where
+    -- a field begins here, and it is good
+    first-of : (k : ℕ) → length s ≤ at + k → walkOf k s at .number ≡ 0 → (j : ℕ) × (k ≡ suc j) × Good s at × (walkOf j s (after s at) .number ≡ 0)
+    first-of zero h e = absurd (omega arith)
+    first-of (suc j) h e = let w = walk-good j s at l e in (j, refl, fault-none s at (w .0), w .1)
+
+    here : (j : ℕ) × (c .left ≡ suc j) × Good s at × (walkOf j s (after s at) .number ≡ 0)
+    here = first-of (c .left) (c .enough) (c .good)
+
+    -- no tag has two fields
+    pub tag-once : (start size : ℕ) → Kept s (c .left) at (byteOf s at) start size → offsetOf s (byteOf s at) ≡ at
+    unfolding offsetOf
+    tag-once start size (ahead p q r) = sym r ∙ find-here (c .left) s (byteOf s at) at (length s) (c .enough) l refl
+    tag-once start size (behind o p q) =
+        absurd (omega (arith, here .2 .new, find-sooner (length s) s (byteOf s at) 0 at (length s) (c .inside) o))
+
+    pub collect-room : byteOf s at < length tags
+    collect-room = let h = known-last (byteOf s at) (here .2 .known) in omega arith
+
+    -- what is kept once it is passed: its own tag, and another
+    abbrev Next : ℕ → Type 0
+    Next tag = Kept s (here .0) (after s at) tag (getD (set starts (byteOf s at) (at + 3)) tag 0) (getD (set lengths (byteOf s at) (lengthAt s at)) tag 0)
+
+    own : offsetOf s (byteOf s at) ≡ at → Next (byteOf s at)
+    unfolding valueOf
+    own o =
+        let room = collect-room in
+        let n = whole-length s at (here .2 .whole) in
+        behind (omega arith) (getD-set-same starts (byteOf s at) (at + 3) 0 (omega (arith, c .sizes .0)) ∙ omega arith)
+        (getD-set-same lengths (byteOf s at) (lengthAt s at) 0 (omega (arith, c .sizes .1)) ∙ rw o (sym n))
+
+    same : (kept : List ℕ) (x tag : ℕ) → (byteOf s at ≡ tag → ⊥) → getD (set kept (byteOf s at) x) tag 0 ≡ getD kept tag 0
+    same kept x tag differ = getD-set-other kept (byteOf s at) tag x 0 (λ e. differ (sym e))
+
+    other : (tag : ℕ) → (byteOf s at ≡ tag → ⊥) → Kept s (c .left) at tag (getD starts tag 0) (getD lengths tag 0) → Next tag
+    other tag differ (ahead p q r) =
+        let on = find-on (c .left) s tag at (length s) (c .enough) l differ in
+        let e : here .0 ≡ on .0 = omega (arith, here .1, on .1) in
+        ahead (same starts (at + 3) tag differ ∙ p) (same lengths (lengthAt s at) tag differ ∙ q) (rw e (sym (on .2) ∙ r))
+    other tag differ (behind o p q) = behind (omega arith) (same starts (at + 3) tag differ ∙ p) (same lengths (lengthAt s at) tag differ ∙ q)
+
+    next : (tag : ℕ) → tag < length tags → Next tag
+    next tag t = go (eqb (byteOf s at) tag) refl
+      where
+        go : (b : Bool) → eqb (byteOf s at) tag ≡ b → Next tag
+        go true e = rw (sym (eqb-true (byteOf s at) tag e)) (own (tag-once _ _ (c .kept (byteOf s at) collect-room)))
+        go false e = other tag (eqb-false (byteOf s at) tag e) (c .kept tag t)
+
+    pub collect-on : (tag size : ℕ) → tag ≡ byteOf s at → size ≡ lengthAt s at → Collected s (at + 3 + size) (set starts tag (at + 3)) (set lengths tag size)
+    collect-on tag size is-tag is-size =
+        rw (is-tag, is-size) (record {
+          short = c .short;
+          inside = here .2 .whole;
+          left = here .0;
+          enough = omega (arith, here .1, c .enough);
+          good = here .3;
+          sizes = (length-set starts (byteOf s at) (at + 3) ∙ c .sizes .0, length-set lengths (byteOf s at) (lengthAt s at) ∙ c .sizes .1);
+          kept = next;
+        })
+
+  -- at the end it is what the order gives by tag
+  ended : length s ≤ at → (tag start size : ℕ) → Kept s (c .left) at tag start size → (start ≡ startOf s tag) × (size ≡ length (valueOf s tag))
+  unfolding startOf hasOf
+  ended end tag start size (ahead p q r) =
+      let n = find-none (c .left) s tag at (length s) end in
+      let no : ltb (offsetOf s tag) (length s) ≡ false = le-ltb (offsetOf s tag) (length s) (omega arith) in
+      (p ∙ sym (simp no), q ∙ sym (ap (length {A = ℕ}) (value-missing s tag no)))
+  ended end tag start size (behind o p q) =
+      let yes : ltb (offsetOf s tag) (length s) ≡ true = lt-ltb (offsetOf s tag) (length s) (omega (arith, c .inside)) in
+      (p ∙ sym (simp yes), q)
+
+  pub collect-all : length s ≤ at → _≡_ {A = Fields} (record { at = starts; length = lengths }) (fieldsOf s)
+  collect-all end =
+      let a = ext-getD 0 starts (byTag (startOf s) (length tags) 0) (c .sizes .0 ∙ sym (by-tag-length (startOf s) (length tags) 0)) (λ tag l. given tag l .0) in
+      let b = ext-getD 0 lengths (byTag (λ t. length (valueOf s t)) (length tags) 0) (c .sizes .1 ∙ sym (by-tag-length (λ t. length (valueOf s t)) (length tags) 0)) (λ tag l. given tag (omega (arith, c .sizes .0, c .sizes .1)) .1) in
+      λ i. record { at = a i; length = b i }
+    where
+      given : (tag : ℕ) → tag < length starts → (getD starts tag 0 ≡ getD (fieldsOf s .at) tag 0) × (getD lengths tag 0 ≡ getD (fieldsOf s .length) tag 0)
+      given tag l =
+          let t : tag < length tags = omega (arith, c .sizes .0) in
+          let e = ended end tag (getD starts tag 0) (getD lengths tag 0) (c .kept tag t) in
+          (e .0 ∙ sym (tagged (startOf s) tag t), e .1 ∙ sym (tagged (λ x. length (valueOf s x)) tag t))
+
+-- ---- so what the code holds of a checked order's fields gives what the order gives
+-- a list by tag at any number, where g is 0 of a number that is no tag
+at-tag : (g : ℕ → ℕ) → ((tag : ℕ) → length tags ≤ tag → g tag ≡ 0) → (tag : ℕ) → getD (byTag g (length tags) 0) tag 0 ≡ g tag
+at-tag g none tag = go (ltb tag (length tags)) refl
+  where
+    go : (b : Bool) → ltb tag (length tags) ≡ b → getD (byTag g (length tags) 0) tag 0 ≡ g tag
+    go true e = tagged g tag (ltb-true tag (length tags) e)
+    go false e =
+        let l = ltb-false tag (length tags) e in
+        let n = by-tag-length g (length tags) 0 in
+        List·getD-eq-default (byTag g (length tags) 0) 0 (omega arith) ∙ sym (none tag l)
+
+take-taken : (n : ℕ) (s : List ℕ) → take (length (take n s)) s ≡ take n s
+take-taken n s = ap (take (length (take n s))) (sym (take-append-drop n s)) ∙ take-append-seam (take n s) (drop n s)
+
+-- a tag's value is what its start and its length mark
+pub part-same : (s : List ℕ) (tag : ℕ) → take (length (valueOf s tag)) (drop (startOf s tag) s) ≡ valueOf s tag
+unfolding startOf valueOf
+part-same s tag = go (hasOf s tag) refl
+  where
+    go : (b : Bool) → hasOf s tag ≡ b → take (length (valueOf s tag)) (drop (cond b (offsetOf s tag + 3) 0) s) ≡ valueOf s tag
+    go true q = take-taken (lengthAt s (offsetOf s tag)) (drop (offsetOf s tag + 3) s)
+    go false q = let v = value-missing s tag q in rw v refl
+
+module _ (s : List ℕ) (e : checkOf s .number ≡ 0) where
+  -- a number that the table lacks is no tag of a field
+  beyond : (tag : ℕ) → length tags ≤ tag → hasOf s tag ≡ false
+  beyond tag h = go (hasOf s tag) refl
+    where
+      go : (b : Bool) → hasOf s tag ≡ b → b ≡ false
+      go true q = let g = has-good s tag e q in absurd (omega (arith, known-last (byteOf s (offsetOf s tag)) (g .0 .known), g .1))
+      go false q = refl
+
+  starts : (tag : ℕ) → getD (fieldsOf s .at) tag 0 ≡ startOf s tag
+  unfolding startOf
+  starts = at-tag (startOf s) (λ tag h. simp (beyond tag h))
+
+  lengths : (tag : ℕ) → getD (fieldsOf s .length) tag 0 ≡ length (valueOf s tag)
+  lengths = at-tag (λ tag. length (valueOf s tag)) (λ tag h. ap (length {A = ℕ}) (value-missing s tag (beyond tag h)))
+
+  has-same : (tag : ℕ) → ltb 0 (startOf s tag) ≡ hasOf s tag
+  unfolding startOf
+  has-same tag = go (hasOf s tag)
+    where
+      go : (b : Bool) → ltb 0 (cond b (offsetOf s tag + 3) 0) ≡ b
+      go true = lt-ltb 0 (offsetOf s tag + 3) (omega arith)
+      go false = refl
+
+  pub collected : valuesIn s (fieldsOf s) ≡ valuesOf s
+  unfolding valuesIn
+  collected =
+      let has : (tag : ℕ) → valuesIn s (fieldsOf s) .has tag ≡ hasOf s tag = λ tag. ap (ltb 0) (starts tag) ∙ has-same tag in
+      let value : (tag : ℕ) → valuesIn s (fieldsOf s) .value tag ≡ valueOf s tag = λ tag. rw (starts tag, lengths tag) (part-same s tag) in
+      λ i. record { has = λ tag. has tag i; value = λ tag. value tag i; part = λ tag. record { at = starts tag i; length = lengths tag i } }
+
+-- ---- what checking and collecting give together
+module _ (s : List ℕ) (checked : Checked) (e : checked ≡ checkedOf s) where
+  pub checked-refusal : checked .refusal ≡ checkOf s
+  unfolding checkedOf
+  checked-refusal = ap (λ (c : Checked). c .refusal) e
+
+  pub checked-values : checked .refusal .number ≡ 0 → valuesIn s (checked .fields) ≡ valuesOf s
+  unfolding checkedOf
+  checked-values p =
+      let n : checkOf s .number ≡ 0 = sym (ap (λ (r : Refusal). r .number) checked-refusal) ∙ p in
+      rw e (simp (eq-eqb (checkOf s .number) 0 n) (collected s n))
+
+pub part-for : (s : List ℕ) (fields : Fields) (tag : ℕ) → partFor fields tag ≡ valuesIn s fields .part tag
+unfolding valuesIn
+part-for s fields tag = refl
+
+pub has-in : (s : List ℕ) (fields : Fields) → hasIn fields ≡ valuesIn s fields .has
+unfolding valuesIn
+has-in s fields = refl

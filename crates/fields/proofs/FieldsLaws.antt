@@ -1,0 +1,153 @@
+-- What a reader may rely on once the fields of an order are checked: each field is whole, and a tag's value has a length that the table
+-- allows. Assumes nothing.
+use native.Mathlib.Omega.{arith}
+use Prim.Native.Nat.{ℕ, zero, suc, _≤_, _<_, _+_, _-_}
+use mathlib.Core.Path.{_≡_, refl, sym, ap, _∙_}
+use mathlib.Core.Bool.{Bool, true, false, cond, not, _&&_, and-eq-true-iff}
+use mathlib.Core.List.{List, []}
+use lib.ListN.{length, take, drop, length-take, length-drop, drop-of-length-le}
+use lib.Seq.{take-nil}
+use lib.Dec.{ltb, leb, eqb, lit≤}
+use borrow.Author.Tests.{lt-ltb, ltb-true, ltb-false, leb-true, eqb-true, eqb-false, not-false}
+use Rattle.refusals.specs.Refusals.{refusal, noRefusal}
+use Rattle.refusals.specs.declared.Refusal.{Refusal}
+use Rattle.fields.specs.Numbers.{byteOf}
+use Rattle.fields.specs.Tags.{lastTag, column, knownTag, lengthFits}
+use Rattle.fields.specs.Fields.{lengthAt, after, firstBefore, valueFaultOf, faultOf, walkOf, checkOf}
+use Rattle.fields.specs.Values.{offsetOf, hasOf, valueOf}
+
+-- ---- the table's limits
+pub known-last : (tag : ℕ) → knownTag tag ≡ true → tag ≤ lastTag
+known-last tag e = leb-true tag lastTag (and-eq-true-iff (leb 1 tag) (leb tag lastTag) .0 e .1)
+
+pub fits-between : (tag n : ℕ) → lengthFits tag n ≡ true → (column tag 0 ≤ n) × (n ≤ column tag 1)
+unfolding lengthFits
+fits-between tag n e =
+    let limits = leb (column tag 0) n && leb n (column tag 1) in
+    let h = and-eq-true-iff (leb (column tag 0) n) (leb n (column tag 1)) .0 (and-eq-true-iff (leb tag lastTag) limits .0 e .1) in
+    (leb-true (column tag 0) n (h .0), leb-true n (column tag 1) (h .1))
+
+-- ---- a check that refuses nothing is passed, and a number that each check may give is not exceeded
+passed : (b : Bool) (x y : ℕ) → 1 ≤ x → cond b x y ≡ 0 → (b ≡ false) × (y ≡ 0)
+passed true x y l e = absurd (omega arith)
+passed false x y l e = (refl, e)
+
+most : (b : Bool) (x y n : ℕ) → x ≤ n → y ≤ n → cond b x y ≤ n
+most true x y n h l = h
+most false x y n h l = l
+
+most-number : (b : Bool) (x y : Refusal) (n : ℕ) → x .number ≤ n → y .number ≤ n → cond b x y .number ≤ n
+most-number true x y n h l = h
+most-number false x y n h l = l
+
+-- ---- a field that is not refused
+pub record Good (s : List ℕ) (at : ℕ) : Type 0 where
+  pub known : knownTag (byteOf s at) ≡ true
+  pub new : at ≤ firstBefore (length s) s (byteOf s at) 0 at
+  pub fits : lengthFits (byteOf s at) (lengthAt s at) ≡ true
+  pub whole : after s at ≤ length s
+
+pub fault-none : (s : List ℕ) (at : ℕ) → faultOf s at ≡ 0 → Good s at
+unfolding faultOf valueFaultOf
+fault-none s at e =
+    let tag = byteOf s at in
+    let first = firstBefore (length s) s tag 0 at in
+    let header = passed (ltb (length s - at) 3) 1 _ (lit≤ tt) e in
+    let known = passed (not (knownTag tag)) 2 _ (lit≤ tt) (header .1) in
+    let new = passed (ltb first at) 3 _ (lit≤ tt) (known .1) in
+    let fits = passed (not (lengthFits tag (lengthAt s at))) 2 _ (lit≤ tt) (new .1) in
+    let value = passed (ltb (length s - at - 3) (lengthAt s at)) 1 0 (lit≤ tt) (fits .1) in
+    let three = ltb-false (length s - at) 3 (header .0) in
+    let rest = ltb-false (length s - at - 3) (lengthAt s at) (value .0) in
+    record { known = not-false _ (known .0); new = ltb-false first at (new .0); fits = not-false _ (fits .0); whole = omega arith }
+
+-- a walk that refuses nothing: its first field is good, and so is the walk from the next on
+pub walk-good : (k : ℕ) (s : List ℕ) (at : ℕ) → at < length s → walkOf (suc k) s at .number ≡ 0
+    → (faultOf s at ≡ 0) × (walkOf k s (after s at) .number ≡ 0)
+unfolding walkOf
+walk-good k s at l e = go (eqb (faultOf s at) 0) refl (simp (lt-ltb at (length s) l) at e)
+  where
+    go : (b : Bool) → eqb (faultOf s at) 0 ≡ b → cond b (walkOf k s (after s at)) (refusal (faultOf s at) at) .number ≡ 0
+        → (faultOf s at ≡ 0) × (walkOf k s (after s at) .number ≡ 0)
+    go true h e = (eqb-true (faultOf s at) 0 h, e)
+    go false h e = absurd (eqb-false (faultOf s at) 0 h e)
+
+-- ---- an order that is not refused: it is short, and its walk refuses nothing
+pub record Sound (s : List ℕ) : Type 0 where
+  pub short : length s ≤ 1024
+  pub walk : walkOf (length s) s 0 .number ≡ 0
+
+pub check-none : (s : List ℕ) → checkOf s .number ≡ 0 → Sound s
+unfolding checkOf
+check-none s e = go (ltb 1024 (length s)) refl e
+  where
+    go : (b : Bool) → ltb 1024 (length s) ≡ b → cond b (refusal 1 0) (walkOf (length s) s 0) .number ≡ 0 → Sound s
+    go true h e = absurd (omega arith)
+    go false h e = record { short = ltb-false 1024 (length s) h; walk = e }
+
+-- ---- the field of a tag that such an order has
+find-good : (k : ℕ) (s : List ℕ) (tag at : ℕ) → walkOf k s at .number ≡ 0 → firstBefore k s tag at (length s) < length s
+    → (faultOf s (firstBefore k s tag at (length s)) ≡ 0) × (byteOf s (firstBefore k s tag at (length s)) ≡ tag)
+unfolding firstBefore
+find-good zero s tag at e h = absurd (omega arith)
+find-good (suc k) s tag at e h = go (ltb at (length s)) refl (eqb (byteOf s at) tag) refl (λ w l. find-good k s tag (after s at) w l) h
+  where
+    go : (a : Bool) → ltb at (length s) ≡ a → (b : Bool) → eqb (byteOf s at) tag ≡ b
+        → (walkOf k s (after s at) .number ≡ 0 → firstBefore k s tag (after s at) (length s) < length s
+        → (faultOf s (firstBefore k s tag (after s at) (length s)) ≡ 0) × (byteOf s (firstBefore k s tag (after s at) (length s)) ≡ tag))
+        → cond a (cond b at (firstBefore k s tag (after s at) (length s))) (length s) < length s
+        → (faultOf s (cond a (cond b at (firstBefore k s tag (after s at) (length s))) (length s)) ≡ 0)
+        × (byteOf s (cond a (cond b at (firstBefore k s tag (after s at) (length s))) (length s)) ≡ tag)
+    go false ha b hb on h = absurd (omega arith)
+    go true ha true hb on h = (walk-good k s at (ltb-true at (length s) ha) e .0, eqb-true (byteOf s at) tag hb)
+    go true ha false hb on h = on (walk-good k s at (ltb-true at (length s) ha) e .1) h
+
+pub has-good : (s : List ℕ) (tag : ℕ) → checkOf s .number ≡ 0 → hasOf s tag ≡ true
+    → Good s (offsetOf s tag) × (byteOf s (offsetOf s tag) ≡ tag)
+unfolding hasOf offsetOf
+has-good s tag e h =
+    let f = find-good (length s) s tag 0 (check-none s e .walk) (ltb-true (firstBefore (length s) s tag 0 (length s)) (length s) h) in
+    (fault-none s (firstBefore (length s) s tag 0 (length s)) (f .0), f .1)
+
+-- the value of a whole field has the length that the field says
+pub whole-length : (s : List ℕ) (at : ℕ) → after s at ≤ length s → length (take (lengthAt s at) (drop (at + 3) s)) ≡ lengthAt s at
+whole-length s at h =
+    let d = length-drop (at + 3) s in
+    length-take (lengthAt s at) (drop (at + 3) s) ∙ omega arith
+
+pub value-fits : (s : List ℕ) (tag : ℕ) → checkOf s .number ≡ 0 → hasOf s tag ≡ true → lengthFits tag (length (valueOf s tag)) ≡ true
+unfolding valueOf
+value-fits s tag e h =
+    let g = has-good s tag e h in
+    rw (whole-length s (offsetOf s tag) (g .0 .whole)) (ap (λ (t : ℕ). lengthFits t (lengthAt s (offsetOf s tag))) (sym (g .1)) ∙ g .0 .fits)
+
+-- and a tag that it lacks has no bytes, in any order
+pub value-missing : (s : List ℕ) (tag : ℕ) → hasOf s tag ≡ false → valueOf s tag ≡ []
+unfolding hasOf valueOf
+value-missing s tag h =
+    let l : length s ≤ offsetOf s tag = ltb-false (offsetOf s tag) (length s) h in
+    let m : length s ≤ offsetOf s tag + 3 = omega arith in
+    simp (drop-of-length-le s m, take-nil)
+
+-- ---- the fields give no number over 3
+fault-small : (s : List ℕ) (at : ℕ) → faultOf s at ≤ 3
+unfolding faultOf valueFaultOf
+fault-small s at =
+    most (ltb (length s - at) 3) 1 _ 3 (lit≤ tt)
+    (most (not (knownTag (byteOf s at))) 2 _ 3 (lit≤ tt)
+    (most (ltb (firstBefore (length s) s (byteOf s at) 0 at) at) 3 _ 3 (lit≤ tt)
+    (most (not (lengthFits (byteOf s at) (lengthAt s at))) 2 _ 3 (lit≤ tt)
+    (most (ltb (length s - at - 3) (lengthAt s at)) 1 0 3 (lit≤ tt) (lit≤ tt)))))
+
+walk-small : (k : ℕ) (s : List ℕ) (at : ℕ) → walkOf k s at .number ≤ 3
+unfolding walkOf
+walk-small zero s at = lit≤ tt
+walk-small (suc k) s at =
+    let next = walkOf k s (after s at) in
+    let one = refusal (faultOf s at) at in
+    most-number (ltb at (length s)) (cond (eqb (faultOf s at) 0) next one) noRefusal 3
+    (most-number (eqb (faultOf s at) 0) next one 3 (walk-small k s (after s at)) (fault-small s at)) (lit≤ tt)
+
+pub check-small : (s : List ℕ) → checkOf s .number ≤ 3
+unfolding checkOf
+check-small s = most-number (ltb 1024 (length s)) (refusal 1 0) (walkOf (length s) s 0) 3 (lit≤ tt) (walk-small (length s) s 0)

@@ -1,0 +1,32 @@
+-- Of an order that is read, town_at and town_length are the town's own offset and length, and the Isha interval is the record's. Assumes nothing.
+use native.Mathlib.Omega.{arith}
+use Prim.Native.Nat.{ℕ, _+_}
+use mathlib.Core.Path.{_≡_, sym}
+use mathlib.Core.List.{List}
+use lib.IntN.{pos}
+use lib.ListN.{length}
+use Rattle.integers.proofs.PartsLaws.{natural}
+use Rattle.fields.specs.Values.{offsetOf}
+use Rattle.order.specs.declared.reading.Order.{Order}
+use Rattle.order.specs.declared.reading.Reading.the-variants.{Read}
+use Rattle.order.specs.Reading.{readingOf, townOf}
+use Rattle.order.proofs.AcceptedLaws.{read-accepted}
+use Rattle.order.proofs.ReadingLaws.{read-town}
+use Rattle.katchidul.specs.Exports.{orderRead, orderIn, orderAnswerOf}
+
+module _ (s : List ℕ) (order : Order) (e : readingOf s ≡ Read order) where
+  pub town-at : orderAnswerOf s .«town_at» ≡ offsetOf s 1 + 3
+  unfolding orderAnswerOf orderIn orderRead
+  town-at = rw e (read-town s order e .begins)
+
+  pub town-length : orderAnswerOf s .«town_length» ≡ length (townOf s)
+  unfolding orderAnswerOf orderIn orderRead
+  town-length = rw e (read-town s order e .long)
+
+  -- an interval that is read is never below 0
+  pub interval : pos (orderAnswerOf s .«isha_interval») ≡ order .parameters .«isha_interval»
+  unfolding orderAnswerOf orderIn orderRead
+  interval =
+      let z = order .parameters .«isha_interval» in
+      let from = read-accepted s order e .«isha_interval» .1 in
+      rw e (sym (natural z (omega arith)))

@@ -1,0 +1,15 @@
+use Rattle.katchidul.specs.Exports.{orderRefused}
+use mathlib.Core.Path.{sym}
+use lib.Ieee.{round, ofBits}
+use Rattle.float64.specs.Ops.{dec}
+use Rattle.katchidul.proofs.read_order.order_refused.Statement.{statement}
+use Rattle.katchidul.proofs.read_order.order_refused.Tie as tie
+
+returns : tie.Need-returns
+unfolding orderRefused dec round ofBits
+returns c =
+    let e0 = c .no-minutes .ensures in
+    simp (sym e0)
+
+pub order-refused-spec : {M : Type 1} → statement M
+order-refused-spec = tie.close (tie.spec (λ c κs. tt) returns)

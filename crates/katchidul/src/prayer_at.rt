@@ -1,0 +1,94 @@
+// The prayer in force at an instant, and the next one.
+ghost use mathlib.Core.Path.{_≡_};
+ghost use Rattle.calls.specs.Calls.{instantOf, prayerAtOf, nextAtOf};
+ghost use Rattle.katchidul.specs.Exports.{prayerAnswerOf, nextAnswerOf};
+ghost use Rattle.schedule.specs.InForce.{currentNumberOf};
+use calls::in_force::InForce;
+use calls::in_force::NextPrayer;
+use calls::in_force::next_at;
+use calls::in_force::prayer_at;
+use schedule::in_force::Current;
+use schedule::in_force::Instant;
+
+#[repr(C)]
+pub struct KatchidulPrayer {
+    pub number: u32,
+    pub place: u32,
+    pub prayer: u32,
+}
+
+pub(crate) fn instant(seconds: i64, nanoseconds: u32) -> Instant
+    ensures { λ r. ⌜ r ≡ instantOf seconds nanoseconds ⌝ }
+{
+    Instant {
+        seconds: seconds,
+        nanoseconds: nanoseconds,
+    }
+}
+
+fn current_number(current: Current) -> u32
+    ensures { λ r. ⌜ r ≡ currentNumberOf current ⌝ }
+{
+    match current {
+        Current::Some(prayer) => prayer.number(),
+        Current::None => 0,
+    }
+}
+
+fn prayer_answer(answer: InForce) -> KatchidulPrayer
+    ensures { λ r. ⌜ r ≡ prayerAnswerOf answer ⌝ }
+{
+    match answer {
+        InForce::Prayer(current) => KatchidulPrayer {
+            number: 0,
+            place: 0,
+            prayer: current_number(current),
+        },
+        InForce::Refused(refusal) => KatchidulPrayer {
+            number: refusal.number,
+            place: refusal.place,
+            prayer: 0,
+        },
+    }
+}
+
+#[no_mangle]
+pub extern "C" fn katchidul_prayer_at(
+    order: &[u8],
+    row: u32,
+    seconds: i64,
+    nanoseconds: u32,
+) -> KatchidulPrayer
+    ensures { λ r. ⌜ r ≡ prayerAnswerOf (prayerAtOf (now (order .entry)) row (instantOf seconds nanoseconds)) ⌝ }
+{
+    prayer_answer(prayer_at(order, row, instant(seconds, nanoseconds)))
+}
+
+fn next_answer(answer: NextPrayer) -> KatchidulPrayer
+    ensures { λ r. ⌜ r ≡ nextAnswerOf answer ⌝ }
+{
+    match answer {
+        NextPrayer::Prayer(prayer) => KatchidulPrayer {
+            number: 0,
+            place: 0,
+            prayer: prayer.number(),
+        },
+        NextPrayer::Refused(refusal) => KatchidulPrayer {
+            number: refusal.number,
+            place: refusal.place,
+            prayer: 0,
+        },
+    }
+}
+
+#[no_mangle]
+pub extern "C" fn katchidul_next_at(
+    order: &[u8],
+    row: u32,
+    seconds: i64,
+    nanoseconds: u32,
+) -> KatchidulPrayer
+    ensures { λ r. ⌜ r ≡ nextAnswerOf (nextAtOf (now (order .entry)) row (instantOf seconds nanoseconds)) ⌝ }
+{
+    next_answer(next_at(order, row, instant(seconds, nanoseconds)))
+}

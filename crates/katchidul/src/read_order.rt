@@ -1,0 +1,151 @@
+// Reading an order.
+ghost use mathlib.Core.Path.{_≡_};
+ghost use Rattle.integers.specs.Parts.{P};
+ghost use Rattle.katchidul.specs.Exports.{minutesAnswerOf, noMinutesAnswer, orderRead, orderRefused, orderAnswerOf};
+use models::adjustments::TimeAdjustment;
+use order::reading::Order;
+use order::reading::Reading;
+use order::reading::read;
+use refusals::Refusal;
+
+// In C an array of six.
+#[repr(C)]
+pub struct KatchidulMinutes {
+    pub fajr: i32,
+    pub sunrise: i32,
+    pub dhuhr: i32,
+    pub asr: i32,
+    pub maghrib: i32,
+    pub isha: i32,
+}
+
+#[repr(C)]
+pub struct KatchidulOrder {
+    pub number: u32,
+    pub place: u32,
+    pub town_at: u32,
+    pub town_length: u32,
+    pub year: u32,
+    pub month: u32,
+    pub day: u32,
+    pub rows: u32,
+    pub latitude: f64,
+    pub longitude: f64,
+    pub fajr_angle: f64,
+    pub isha_angle: f64,
+    pub method: u32,
+    pub madhab: u32,
+    pub high_latitude_rule: u32,
+    pub rounding: u32,
+    pub shafaq: u32,
+    pub isha_interval: u32,
+    pub minutes: KatchidulMinutes,
+}
+
+// An interval that is read is never below 0 (the law `interval` of proofs/ExportsLaws.antt): the test shows that the cast loses nothing.
+fn interval(minutes: i32) -> u32
+    ensures { λ r. ⌜ r ≡ P minutes ⌝ }
+{
+    if minutes < 0 {
+        return 0;
+    }
+    minutes as u32
+}
+
+fn minutes_read(m: TimeAdjustment) -> KatchidulMinutes
+    ensures { λ r. ⌜ r ≡ minutesAnswerOf m ⌝ }
+{
+    KatchidulMinutes {
+        fajr: m.fajr,
+        sunrise: m.sunrise,
+        dhuhr: m.dhuhr,
+        asr: m.asr,
+        maghrib: m.maghrib,
+        isha: m.isha,
+    }
+}
+
+fn no_minutes() -> KatchidulMinutes
+    ensures { λ r. ⌜ r ≡ noMinutesAnswer ⌝ }
+{
+    KatchidulMinutes {
+        fajr: 0,
+        sunrise: 0,
+        dhuhr: 0,
+        asr: 0,
+        maghrib: 0,
+        isha: 0,
+    }
+}
+
+fn order_read(order: Order) -> KatchidulOrder
+    ensures { λ r. ⌜ r ≡ orderRead order ⌝ }
+{
+    let town = order.town;
+    let date = order.date;
+    let coordinates = order.coordinates;
+    let parameters = order.parameters;
+    let method = parameters.method;
+    let madhab = parameters.madhab;
+    let high_latitude_rule = parameters.high_latitude_rule;
+    let rounding = parameters.rounding;
+    let shafaq = parameters.shafaq;
+    let own = parameters.adjustments;
+    KatchidulOrder {
+        number: 0,
+        place: 0,
+        town_at: town.at,
+        town_length: town.length,
+        year: date.year,
+        month: date.month,
+        day: date.day,
+        rows: order.rows,
+        latitude: coordinates.latitude,
+        longitude: coordinates.longitude,
+        fajr_angle: parameters.fajr_angle,
+        isha_angle: parameters.isha_angle,
+        method: method.number(),
+        madhab: madhab.number(),
+        high_latitude_rule: high_latitude_rule.number(),
+        rounding: rounding.number(),
+        shafaq: shafaq.number(),
+        isha_interval: interval(parameters.isha_interval),
+        minutes: minutes_read(own),
+    }
+}
+
+fn order_refused(refusal: Refusal) -> KatchidulOrder
+    ensures { λ r. ⌜ r ≡ orderRefused refusal ⌝ }
+{
+    KatchidulOrder {
+        number: refusal.number,
+        place: refusal.place,
+        town_at: 0,
+        town_length: 0,
+        year: 0,
+        month: 0,
+        day: 0,
+        rows: 0,
+        latitude: 0.0,
+        longitude: 0.0,
+        fajr_angle: 0.0,
+        isha_angle: 0.0,
+        method: 0,
+        madhab: 0,
+        high_latitude_rule: 0,
+        rounding: 0,
+        shafaq: 0,
+        isha_interval: 0,
+        minutes: no_minutes(),
+    }
+}
+
+#[no_mangle]
+pub extern "C" fn katchidul_read_order(order: &[u8]) -> KatchidulOrder
+    ensures { λ r. ⌜ r ≡ orderAnswerOf (now (order .entry)) ⌝ }
+{
+    match read(order) {
+        Reading::Read(record) => order_read(record),
+        Reading::Refused(refusal) => order_refused(refusal),
+    }
+}

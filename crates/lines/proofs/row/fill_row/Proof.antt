@@ -1,0 +1,52 @@
+use borrow.Author.Needs.{needs}
+use native.Mathlib.Omega.{arith}
+use Prim.Native.Nat.{ℕ, _-_, _≤_}
+use mathlib.Core.Path.{_≡_, ap, _∙_}
+use mathlib.Core.List.{List}
+use lib.IntN.{pos}
+use lib.ListN.{length, getD}
+use mir.Syntax.{w64}
+use Rattle.integers.proofs.Ranges.{readBack}
+use Rattle.text.specs.Text.{frontOf}
+use Rattle.lines.specs.Lines.{timeText, rowBytes}
+use Rattle.lines.proofs.Parts.{partText, date-put, time-put, newline-put}
+use Rattle.lines.proofs.row.fill_row.Statement.{statement}
+use Rattle.lines.proofs.row.fill_row.Tie as tie
+
+abbrev Inv-loop : tie.InvT-loop
+Inv-loop line₀ date times i₀ t5 line i =
+    (i ≤ length times) × (length line ≡ rowBytes (length times)) × (base : List ℕ) × (length base ≡ rowBytes (length times)) × (line ≡ frontOf (partText date times i) base)
+
+abbrev μ-loop : tie.MeasureT-loop
+μ-loop line₀ date times i₀ t5 line i = length times - i
+
+loop-holds : tie.Need-loop-holds Inv-loop μ-loop
+loop-holds c =
+    let start = c .before .before .before .before .before .before .before in
+    let a = start .args in
+    let text = c .before .before .before .before .date-text in
+    let put = c .before .before .put in
+    (omega arith, put .kept .0 ∙ start .pre .1, a .line .now, start .pre .1, date-put (a .date) (a .times .now) (a .line .now) (put .last .0) (text .result) (start .pre .1) (text .ensures) (put .ensures))
+
+loop-again : tie.Need-loop-again Inv-loop μ-loop
+loop-again c =
+    let a = c .before .before .before .before .before .before .before .before .before .before .before .before .before .before .before .before .args in
+    let l = c .before .before .before .before .before .before .before .before .loop in
+    let h = c .before .before .before .before .before .before .before .loop-test .taken in
+    let text = c .before .before .before .before .time-text in
+    let put = c .before .before .put2 in
+    let k : readBack w64 (getD (a .times .now) (l .i) (pos 0)) ≡ getD (a .times .now) (l .i) (pos 0) = search needs in
+    (omega (arith, h), put .kept .0 ∙ l .inv .1, l .inv .2, l .inv .3, time-put (a .date) (a .times .now) (l .i) (pos 0) (l .inv .2) (l .line) (put .last .0) (text .result) h (l .inv .3) (l .inv .4) (text .ensures ∙ ap (timeText (a .date)) k) (put .ensures))
+
+returns : tie.Need-returns Inv-loop μ-loop
+returns c =
+    let a = c .before .before .before .before .before .before .before .before .before .before .before .before .before .before .args in
+    let l = c .before .before .before .before .before .before .loop in
+    let put = c .before .before .put3 in
+    let end : l .i ≡ length (a .times .now) = omega (arith, l .inv .0, c .before .before .before .before .before .loop-test .left) in
+    newline-put (a .date) (a .times .now) (l .i) (l .inv .2) (l .line) (put .last .0) end (l .inv .3) (l .inv .4) (put .ensures)
+
+pub fill-row-spec : {M : Type 1} → statement M
+fill-row-spec =
+    tie.close
+    (tie.spec Inv-loop μ-loop (λ c κs. search needs) (λ c. search needs) (λ c κs. search needs) loop-holds (λ c. search needs) (λ c. search needs) (λ c. search needs) (λ c. search needs) (λ c κs. search needs) (λ c. search needs) (λ c κs. search needs) (λ c. search needs) (λ c. search needs) loop-again (λ c. search needs) (λ c. search needs) (λ c. search needs) (λ c κs. search needs) (λ c. search needs) returns)

@@ -1,0 +1,86 @@
+// The parts of a row's line: its date and nine times.
+ghost use mathlib.Core.Path.{_≡_};
+ghost use Prim.Native.Nat.{_<_};
+ghost use lib.IntN.{_-ℤ_};
+ghost use Rattle.integers.specs.Quotients.{floorQuot, floorRem};
+ghost use Rattle.calendar.specs.Days.{dayNumberOf};
+ghost use Rattle.lines.specs.Lines.{dateText, signOf, sizeOf, daysOf, clockText, timeText};
+use calendar::dates::Date;
+use calendar::instants::day_of;
+use integers::parts::above;
+use integers::parts::below;
+use text::decimal::digit;
+
+pub fn date_text(date: Date) -> [u8; 10]
+    ensures { λ r. ⌜ r ≡ dateText date ⌝ }
+{
+    let year = date.year as u64;
+    let month = date.month as u64;
+    let day = date.day as u64;
+    [
+        digit(year / 1000),
+        digit(year / 100),
+        digit(year / 10),
+        digit(year),
+        b'-',
+        digit(month / 10),
+        digit(month),
+        b'-',
+        digit(day / 10),
+        digit(day),
+    ]
+}
+
+// Days from the date to the day of an instant.
+fn days_from(date: Date, time: i64) -> i64
+    ensures { λ r. ⌜ r ≡ daysOf date time ⌝ }
+{
+    day_of(time) - date.day_number()
+}
+
+// The second of the day, also before 1970.
+fn second_of_day(time: i64) -> u64
+    ensures { λ r. ⌜ r ≡ floorRem time 86400 ⌝ }
+{
+    if time < 0 {
+        return 86399 - (below(time) - 1) % 86400;
+    }
+    above(time) % 86400
+}
+
+fn sign(days: i64) -> u8
+    ensures { λ r. ⌜ r ≡ signOf days ⌝ }
+{
+    if days < 0 { b'-' } else { b'+' }
+}
+
+fn size(days: i64) -> u64
+    ensures { λ r. ⌜ r ≡ sizeOf days ⌝ }
+{
+    above(days) + below(days)
+}
+
+// A blank, then as +0T05:12:00.
+pub fn time_text(date: Date, time: i64) -> [u8; 12]
+    ensures { λ r. ⌜ r ≡ timeText date time ⌝ }
+{
+    let days = days_from(date, time);
+    let second = second_of_day(time);
+    let hour = second / 3600;
+    let minute = second / 60 % 60;
+    let rest = second % 60;
+    [
+        b' ',
+        sign(days),
+        digit(size(days)),
+        b'T',
+        digit(hour / 10),
+        digit(hour),
+        b':',
+        digit(minute / 10),
+        digit(minute),
+        b':',
+        digit(rest / 10),
+        digit(rest),
+    ]
+}

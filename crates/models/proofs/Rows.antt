@@ -1,0 +1,14 @@
+-- A row of cases by their numbers, and one case for every number beyond it. Assumes nothing.
+use Prim.Native.Nat.{ℕ, zero, suc, _≤_, _<_}
+use mathlib.Core.Path.{_≡_, refl, sym}
+use mathlib.Core.List.{List, [], _∷_}
+use native.Mathlib.Nat.{le-of-suc-le-suc, not-suc-le-zero}
+use lib.ListN.{getD, length, List·getD-eq-default}
+
+pub inside : {A : Type 0} (row : List A) (d e : A) (n : ℕ) → n < length row → getD row n d ≡ getD row n e
+inside [] d e n h = absurd (not-suc-le-zero h)
+inside (x ∷ row) d e zero h = refl
+inside (x ∷ row) d e (suc n) h = inside row d e n (le-of-suc-le-suc h)
+
+pub beyond : {A : Type 0} (row : List A) (d : A) (n : ℕ) → length row ≤ n → d ≡ getD row n d
+beyond row d n h = sym (List·getD-eq-default row d h)

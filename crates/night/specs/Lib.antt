@@ -1,7 +1,0 @@
-pub mod Portions
-pub mod Steady
-pub mod Thirds
-pub mod Halves
-pub mod PortionsLaws
-pub mod BoundsLaws
-pub mod OrderPortions

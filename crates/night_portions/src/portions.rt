@@ -1,0 +1,50 @@
+// schedule.rs: portions of a night, cut toward zero to whole seconds, also where the night is negative.
+// The source casts the portions of Fajr and Isha to i64. From an i32 every later sum fits with nothing to refuse, and the two casts give the same for
+// what an order's parameters give, no more than half of a night, of up to 2^31 seconds (after-source and before-source of specs/BoundsLaws).
+ghost use mathlib.Core.Path.{_≡_};
+ghost use Rattle.night_portions.specs.Portions.{portionAfterOf, portionBeforeOf, seventhOf, middleOf, lastThirdOf};
+use float64::casts::to_i32;
+use float64::casts::to_i64;
+use std::num::nearest_i64_to_f64;
+
+// Two thirds, worked once.
+const TWO_THIRDS: f64 = 2.0 / 3.0;
+
+// What Isha's bound adds to sunset.
+pub fn portion_after(portion: f64, night: i64) -> i32
+    ensures { λ r. ⌜ r ≡ portionAfterOf portion night ⌝ }
+{
+    let night_fraction = portion * nearest_i64_to_f64(night);
+    to_i32(night_fraction)
+}
+
+// What Fajr's bound adds to sunrise: the negated portion is cut.
+pub fn portion_before(portion: f64, night: i64) -> i32
+    ensures { λ r. ⌜ r ≡ portionBeforeOf portion night ⌝ }
+{
+    let night_fraction = portion * nearest_i64_to_f64(night);
+    to_i32(-night_fraction)
+}
+
+// A seventh, which the MoonsightingCommittee method takes from latitude 55 on; in whole numbers.
+pub fn seventh(night: i64) -> i64
+    ensures { λ r. ⌜ r ≡ seventhOf night ⌝ }
+{
+    night / 7
+}
+
+// From maghrib to the middle of the night, which ends at tomorrow's Fajr.
+pub fn middle(night: i64) -> i64
+    ensures { λ r. ⌜ r ≡ middleOf night ⌝ }
+{
+    let night_duration = nearest_i64_to_f64(night);
+    to_i64(night_duration / 2.0)
+}
+
+// From maghrib to the last third of the same night.
+pub fn last_third(night: i64) -> i64
+    ensures { λ r. ⌜ r ≡ lastThirdOf night ⌝ }
+{
+    let night_duration = nearest_i64_to_f64(night);
+    to_i64(night_duration * TWO_THIRDS)
+}

@@ -1,0 +1,79 @@
+-- The season's seconds are less than a day, at every latitude and on every day of a year, so an i32 holds what the source's i64 does. Over the definitions
+-- of `Season`. Assumes nothing.
+use mathlib.Core.Path.{_≡_, sym, _∙_}
+use mathlib.Core.Bool.{Bool, true, false}
+use Prim.Native.Nat.{ℕ, _^_, _≤_, _<_}
+use native.Mathlib.Omega.{arith}
+use lib.Dec.{lit<, lit≤}
+use lib.IntN.{pos}
+use lib.Ieee.{Float, neg, le, toSigned}
+use Rattle.integers.specs.Parts.{P, N}
+use Rattle.integers.proofs.Sums.{flip}
+use Rattle.float64.specs.Ops.{_*ᶠ_, dec}
+use Rattle.float64.specs.Whole.{roundOf}
+use Rattle.float64.specs.Words.{isNegativeOf}
+use Rattle.float64.proofs.Within.{Within, within-signed, neg-within, mul-within}
+use Rattle.float64.proofs.Limits.{within-limits}
+use Rattle.float64.proofs.WholeSizes.{wholeSize, signed, whole-most, cast-is, nearest-within}
+use Rattle.models.specs.declared.shafaq.Shafaq.{Shafaq}
+use Rattle.models.specs.declared.shafaq.Shafaq.the-variants.{General}
+use Rattle.ops.specs.declared.season.AdjustmentDaytime.{AdjustmentDaytime}
+use Rattle.ops.specs.declared.season.AdjustmentDaytime.the-variants.{Morning, Evening}
+use Rattle.ops.specs.Season.{daysSinceSolsticeOf, twilightAdjustmentValuesOf, seasonMinutesOf, morningSecondsOf, eveningSecondsOf}
+use Rattle.ops.proofs.SeasonSizes.{whole-value, whole-within, values-bounded, days-most, minutes-within}
+
+-- ---- the seconds: a factor of 60, whichever its sign, and the nearest whole number
+module _ (minutes factor : Float) (h : Within minutes 1301 1) (k : Within factor 60 1) where
+  rounded : Float
+  rounded = roundOf (minutes *ᶠ factor)
+
+  rounded-within : Within rounded 78060 1
+  unfolding rounded
+  rounded-within = nearest-within (minutes *ᶠ factor) 78060 (lit< tt) (mul-within minutes factor 1301 60 1 1 78060 0 (lit< tt) (lit< tt) h k (lit< tt) (lit≤ tt) (lit≤ tt))
+
+  cast : (b : ℕ) → 78060 < 2 ^ b → toSigned b (roundOf (minutes *ᶠ factor)) ≡ signed (isNegativeOf rounded) (wholeSize rounded)
+  unfolding rounded
+  cast b l = let m = whole-most rounded 78060 1 rounded-within in cast-is b (isNegativeOf rounded) rounded (within-signed rounded 78060 1 rounded-within) 78060 1 rounded-within (omega arith)
+
+  parts : (s : Bool) → (P (signed s (wholeSize rounded)) ≤ 86400) × (N (signed s (wholeSize rounded)) ≤ 86400)
+  parts true = let m = whole-most rounded 78060 1 rounded-within in let f = flip (pos (wholeSize rounded)) in (omega arith, omega arith)
+  parts false = let m = whole-most rounded 78060 1 rounded-within in (omega arith, lit≤ tt)
+
+  seconds-small : (P (toSigned 31 (roundOf (minutes *ᶠ factor))) ≤ 86400) × (N (toSigned 31 (roundOf (minutes *ᶠ factor))) ≤ 86400)
+  seconds-small = rw (cast 31 (lit< tt)) (parts (isNegativeOf rounded))
+
+  seconds-source : toSigned 31 (roundOf (minutes *ᶠ factor)) ≡ toSigned 63 (roundOf (minutes *ᶠ factor))
+  seconds-source = cast 31 (lit< tt) ∙ sym (cast 63 (lit< tt))
+
+-- ---- the laws
+sixty-within : Within (dec 60 0) 60 1
+sixty-within = whole-within 60 60 (lit≤ tt) (lit≤ tt)
+
+minus-sixty-within : Within (neg (dec 60 0)) 60 1
+minus-sixty-within = neg-within (dec 60 0) 60 1 sixty-within
+
+module _ (latitude : Float) (day year : ℕ) (south : le (neg (dec 90 0)) latitude ≡ true) (north : le latitude (dec 90 0) ≡ true) (d : day ≤ 366) where
+  all-within : (t : AdjustmentDaytime) (shafaq : Shafaq) → Within (seasonMinutesOf t latitude day year shafaq) 1301 1
+  all-within t shafaq =
+      minutes-within (twilightAdjustmentValuesOf t latitude shafaq)
+      (values-bounded latitude (within-limits latitude (dec 90 0) 90 1 (lit< tt) (whole-value 90 (lit≤ tt)) south north) t shafaq)
+      (daysSinceSolsticeOf day year latitude)
+      (days-most day year latitude d)
+
+  -- less than a day either way
+  pub morning-small : (P (morningSecondsOf latitude day year) ≤ 86400) × (N (morningSecondsOf latitude day year) ≤ 86400)
+  unfolding morningSecondsOf
+  morning-small = seconds-small (seasonMinutesOf Morning latitude day year General) (neg (dec 60 0)) (all-within Morning General) minus-sixty-within
+
+  pub evening-small : (shafaq : Shafaq) → (P (eveningSecondsOf latitude day year shafaq) ≤ 86400) × (N (eveningSecondsOf latitude day year shafaq) ≤ 86400)
+  unfolding eveningSecondsOf
+  evening-small shafaq = seconds-small (seasonMinutesOf Evening latitude day year shafaq) (dec 60 0) (all-within Evening shafaq) sixty-within
+
+  -- the source's cast gives the same
+  pub morning-source : morningSecondsOf latitude day year ≡ toSigned 63 (roundOf (seasonMinutesOf Morning latitude day year General *ᶠ neg (dec 60 0)))
+  unfolding morningSecondsOf
+  morning-source = seconds-source (seasonMinutesOf Morning latitude day year General) (neg (dec 60 0)) (all-within Morning General) minus-sixty-within
+
+  pub evening-source : (shafaq : Shafaq) → eveningSecondsOf latitude day year shafaq ≡ toSigned 63 (roundOf (seasonMinutesOf Evening latitude day year shafaq *ᶠ dec 60 0))
+  unfolding eveningSecondsOf
+  evening-source shafaq = seconds-source (seasonMinutesOf Evening latitude day year shafaq) (dec 60 0) (all-within Evening shafaq) sixty-within

@@ -1,0 +1,175 @@
+-- What a caller may rely on once an order is read: its record is one of Accepted.antt. Assumes nothing.
+use native.Mathlib.Omega.{arith}
+use Prim.Native.Nat.{ℕ, _+_, _-_, _≤_, _<_}
+use mathlib.Core.Path.{_≡_, refl, sym, ap, subst}
+use mathlib.Core.Bool.{Bool, true, false, cond, _&&_, and-eq-true-iff}
+use mathlib.Core.List.{List}
+use lib.Dec.{leb, lit≤}
+use lib.ListN.{getD}
+use lib.Ieee.{Float, neg, le, round}
+use lib.IntN.{ℤ, pos, negsuc}
+use lib.Signed.{leZ}
+use borrow.Author.Tests.{leb-true}
+use Rattle.integers.specs.Parts.{P, N, Near}
+use Rattle.integers.proofs.OrderLaws.{le-yes}
+use Rattle.float64.specs.Ops.{dec}
+use Rattle.calendar.specs.declared.dates.Date.{Date}
+use Rattle.calendar.specs.Gregorian.{existsOf}
+use Rattle.calendar.specs.Answers.{rowDateOf}
+use Rattle.fields.specs.Numbers.{byteOf, unsignedOf}
+use Rattle.fields.specs.Values.{Values, valuesOf}
+use Rattle.fields.specs.Tags.{lastTag}
+use Rattle.models.specs.declared.adjustments.TimeAdjustment.{TimeAdjustment}
+use Rattle.models.specs.declared.method.Method.{Method}
+use Rattle.models.specs.declared.method.Method.the-variants.{MuslimWorldLeague, Egyptian, Karachi, UmmAlQura, Dubai, MoonsightingCommittee, NorthAmerica, Kuwait, Qatar, Singapore, Tehran, Turkey, Other}
+use Rattle.models.specs.declared.prayer.Prayer.{Prayer}
+use Rattle.models.specs.declared.prayer.Prayer.the-variants.{Fajr, Sunrise, Dhuhr, Asr, Maghrib, Isha, Qiyam, FajrTomorrow}
+use Rattle.models.specs.Minutes.{noMinutes}
+use Rattle.models.specs.Numbers.{methodOf}
+use Rattle.models.specs.Presets.{preset, presetOf}
+use Rattle.models.specs.Settings.{minutesFor}
+use Rattle.order.specs.declared.reading.Order.{Order}
+use Rattle.order.specs.declared.reading.Reading.the-variants.{Read}
+use Rattle.order.specs.Given.{dateIn, rowsIn, degreesIn, minutesIn, degreesOr, minutesOr, intervalOr, parametersIn}
+use Rattle.order.specs.Ranges.{mostRows, dateFits, rowsFit, degreesFit, minuteFits, minutesFit, intervalFits, lookUp, fitsOf}
+use Rattle.order.specs.Reading.{required, missingOf, outOfRangeOf, orderOf, readingOf}
+use Rattle.order.specs.Accepted.{UpTo, Inside, DateInOrder, Accepted}
+use Rattle.order.proofs.RowDates.{row-in-order}
+use Rattle.order.proofs.ReadingLaws.{read-passed, has-required, fits-given}
+
+-- ---- what each test says
+both : (a b : Bool) → (a && b) ≡ true → (a ≡ true) × (b ≡ true)
+both a b e = and-eq-true-iff a b .0 e
+
+degrees-inside : (low high : Float) (v : List ℕ) → degreesFit low high v ≡ true → Inside low high (degreesIn v)
+degrees-inside low high v e = both (le low (degreesIn v)) (le (degreesIn v) high) e
+
+date-in : (d : Date) → dateFits d ≡ true → DateInOrder d
+date-in d e =
+    let a = both (leb 1900 (d .year) && leb (d .year) 2199) (existsOf d) e in
+    let b = both (leb 1900 (d .year)) (leb (d .year) 2199) (a .0) in
+    record { there = a .1; from = leb-true 1900 (d .year) (b .0); to = leb-true (d .year) 2199 (b .1) }
+
+rows-in : (d : Date) (n : ℕ) → rowsFit d n ≡ true → ((1 ≤ n) × (n ≤ mostRows)) × (rowDateOf d (n - 1) .year ≤ 2199)
+unfolding rowsFit
+rows-in d n e =
+    let a = both (leb 1 n && leb n mostRows) (leb (rowDateOf d (n - 1) .year) 2199) e in
+    let b = both (leb 1 n) (leb n mostRows) (a .0) in
+    ((leb-true 1 n (b .0), leb-true n mostRows (b .1)), leb-true (rowDateOf d (n - 1) .year) 2199 (a .1))
+
+minute-within : (m : ℤ) → minuteFits m ≡ true → Near 720 m
+unfolding minuteFits
+minute-within m e =
+    let a = both (leZ (negsuc 719) m) (leZ m (pos 720)) e in
+    go m (le-yes (negsuc 719) m (a .0)) (le-yes m (pos 720) (a .1))
+  where
+    go : (z : ℤ) → P (negsuc 719) + N z ≤ P z + N (negsuc 719) → P z + N (pos 720) ≤ P (pos 720) + N z → Near 720 z
+    go (pos n) l h = record { from = omega arith; to = omega arith }
+    go (negsuc n) l h = record { from = omega arith; to = omega arith }
+
+minutes-within : (m : TimeAdjustment) → minutesFit m ≡ true → (prayer : Prayer) → Near 720 (minutesFor prayer m)
+unfolding minutesFit minutesFor
+minutes-within m e prayer =
+    let isha = both (minuteFits (m .fajr) && minuteFits (m .sunrise) && minuteFits (m .dhuhr) && minuteFits (m .asr) && minuteFits (m .maghrib)) (minuteFits (m .isha)) e in
+    let maghrib = both (minuteFits (m .fajr) && minuteFits (m .sunrise) && minuteFits (m .dhuhr) && minuteFits (m .asr)) (minuteFits (m .maghrib)) (isha .0) in
+    let asr = both (minuteFits (m .fajr) && minuteFits (m .sunrise) && minuteFits (m .dhuhr)) (minuteFits (m .asr)) (maghrib .0) in
+    let dhuhr = both (minuteFits (m .fajr) && minuteFits (m .sunrise)) (minuteFits (m .dhuhr)) (asr .0) in
+    let first = both (minuteFits (m .fajr)) (minuteFits (m .sunrise)) (dhuhr .0) in
+    go prayer (first .0) (first .1) (dhuhr .1) (asr .1) (maghrib .1) (isha .1)
+  where
+    go : (prayer : Prayer) → minuteFits (m .fajr) ≡ true → minuteFits (m .sunrise) ≡ true → minuteFits (m .dhuhr) ≡ true
+        → minuteFits (m .asr) ≡ true → minuteFits (m .maghrib) ≡ true → minuteFits (m .isha) ≡ true → Near 720 (minutesFor prayer m)
+    go Fajr a b c d e f = minute-within (m .fajr) a
+    go Sunrise a b c d e f = minute-within (m .sunrise) b
+    go Dhuhr a b c d e f = minute-within (m .dhuhr) c
+    go Asr a b c d e f = minute-within (m .asr) d
+    go Maghrib a b c d e f = minute-within (m .maghrib) e
+    go Isha a b c d e f = minute-within (m .isha) f
+    go Qiyam a b c d e f = record { from = lit≤ tt; to = lit≤ tt }
+    go FajrTomorrow a b c d e f = record { from = lit≤ tt; to = lit≤ tt }
+
+-- ---- what a tag gives, or stands for it, is in range
+module _ (v : Values) where
+  angle-or : (tag : ℕ) (missing : Float) → (v .has tag ≡ true → degreesFit (dec 0 0) (dec 30 0) (v .value tag) ≡ true)
+      → Inside (dec 0 0) (dec 30 0) missing → Inside (dec 0 0) (dec 30 0) (degreesOr v tag missing)
+  unfolding degreesOr
+  angle-or tag missing fits otherwise = go (v .has tag) fits
+    where
+      go : (b : Bool) → (b ≡ true → degreesFit (dec 0 0) (dec 30 0) (v .value tag) ≡ true)
+          → Inside (dec 0 0) (dec 30 0) (cond b (degreesIn (v .value tag)) missing)
+      go true f = degrees-inside (dec 0 0) (dec 30 0) (v .value tag) (f refl)
+      go false f = otherwise
+
+  interval-or : (missing : ℤ) → (v .has 14 ≡ true → intervalFits (v .value 14) ≡ true) → UpTo 1440 missing → UpTo 1440 (intervalOr v missing)
+  unfolding intervalOr intervalFits
+  interval-or missing fits otherwise = go (v .has 14) fits
+    where
+      n : ℕ
+      n = unsignedOf (v .value 14) 0
+
+      go : (b : Bool) → (b ≡ true → (leb 0 n && leb n 1440) ≡ true) → UpTo 1440 (cond b (pos n) missing)
+      go true f = (leb-true n 1440 (both (leb 0 n) (leb n 1440) (f refl) .1), refl)
+      go false f = otherwise
+
+  minutes-or : (v .has 11 ≡ true → minutesFit (minutesIn (v .value 11)) ≡ true) → (prayer : Prayer) → Near 720 (minutesFor prayer (minutesOr v noMinutes))
+  unfolding minutesOr minutesFit minuteFits
+  minutes-or fits prayer = go (v .has 11) fits
+    where
+      go : (b : Bool) → (b ≡ true → minutesFit (minutesIn (v .value 11)) ≡ true) → Near 720 (minutesFor prayer (cond b (minutesIn (v .value 11)) noMinutes))
+      go true f = minutes-within (minutesIn (v .value 11)) (f refl) prayer
+      go false f = minutes-within noMinutes refl prayer
+
+-- the method's angles and interval, and its name
+pub record Brought (method : Method) : Type 0 where
+  pub named : presetOf method .method ≡ method
+  pub fajr : Inside (dec 0 0) (dec 30 0) (presetOf method .«fajr_angle»)
+  pub isha : Inside (dec 0 0) (dec 30 0) (presetOf method .«isha_angle»)
+  pub interval : UpTo 1440 (presetOf method .«isha_interval»)
+
+pub brought : (method : Method) → Brought method
+unfolding presetOf preset dec round le
+brought MuslimWorldLeague = record { named = refl; fajr = (refl, refl); isha = (refl, refl); interval = (lit≤ tt, refl) }
+brought Egyptian = record { named = refl; fajr = (refl, refl); isha = (refl, refl); interval = (lit≤ tt, refl) }
+brought Karachi = record { named = refl; fajr = (refl, refl); isha = (refl, refl); interval = (lit≤ tt, refl) }
+brought UmmAlQura = record { named = refl; fajr = (refl, refl); isha = (refl, refl); interval = (lit≤ tt, refl) }
+brought Dubai = record { named = refl; fajr = (refl, refl); isha = (refl, refl); interval = (lit≤ tt, refl) }
+brought MoonsightingCommittee = record { named = refl; fajr = (refl, refl); isha = (refl, refl); interval = (lit≤ tt, refl) }
+brought NorthAmerica = record { named = refl; fajr = (refl, refl); isha = (refl, refl); interval = (lit≤ tt, refl) }
+brought Kuwait = record { named = refl; fajr = (refl, refl); isha = (refl, refl); interval = (lit≤ tt, refl) }
+brought Qatar = record { named = refl; fajr = (refl, refl); isha = (refl, refl); interval = (lit≤ tt, refl) }
+brought Singapore = record { named = refl; fajr = (refl, refl); isha = (refl, refl); interval = (lit≤ tt, refl) }
+brought Tehran = record { named = refl; fajr = (refl, refl); isha = (refl, refl); interval = (lit≤ tt, refl) }
+brought Turkey = record { named = refl; fajr = (refl, refl); isha = (refl, refl); interval = (lit≤ tt, refl) }
+brought Other = record { named = refl; fajr = (refl, refl); isha = (refl, refl); interval = (lit≤ tt, refl) }
+
+-- ---- the record
+accepted : (v : Values) → missingOf (v .has) .number ≡ 0 → outOfRangeOf v .number ≡ 0 → Accepted (orderOf v)
+unfolding orderOf parametersIn fitsOf lookUp
+accepted v given ranges =
+    let method = methodOf (byteOf (v .value 6) 0) in
+    let from = brought method in
+    let rows = rows-in (dateIn (v .value 2)) (rowsIn (v .value 3)) (fits 3 (lit≤ tt) (lit≤ tt) (has 2 (lit≤ tt))) in
+    let date = date-in (dateIn (v .value 2)) (fits 2 (lit≤ tt) (lit≤ tt) (has 1 (lit≤ tt))) in
+    record {
+      date = date;
+      rows = rows .0;
+      row = λ (row : ℕ) (l : row < rowsIn (v .value 3)). row-in-order (dateIn (v .value 2)) (date .there) (date .from) (rowsIn (v .value 3) - 1) row (rows .1) (omega arith);
+      latitude = degrees-inside (neg (dec 90 0)) (dec 90 0) (v .value 4) (fits 4 (lit≤ tt) (lit≤ tt) (has 3 (lit≤ tt)));
+      longitude = degrees-inside (neg (dec 180 0)) (dec 180 0) (v .value 5) (fits 5 (lit≤ tt) (lit≤ tt) (has 4 (lit≤ tt)));
+      «fajr_angle» = angle-or v 12 (presetOf method .«fajr_angle») (fits 12 (lit≤ tt) (lit≤ tt)) (from .fajr);
+      «isha_angle» = angle-or v 13 (presetOf method .«isha_angle») (fits 13 (lit≤ tt) (lit≤ tt)) (from .isha);
+      «isha_interval» = interval-or v (presetOf method .«isha_interval») (fits 14 (lit≤ tt) (lit≤ tt)) (from .interval);
+      own = minutes-or v (fits 11 (lit≤ tt) (lit≤ tt));
+      preset = ap (λ (m : Method). presetOf m .«method_adjustments») (sym (from .named));
+    }
+  where
+    has : (i : ℕ) → i < 6 → v .has (getD required i 0) ≡ true
+    has = has-required (v .has) given
+
+    fits : (tag : ℕ) → 1 ≤ tag → tag ≤ lastTag → v .has tag ≡ true → fitsOf v tag ≡ true
+    fits = fits-given v ranges
+
+pub read-accepted : (s : List ℕ) (order : Order) → readingOf s ≡ Read order → Accepted order
+read-accepted s order e =
+    let passed = read-passed s order e in
+    subst Accepted (passed .same) (accepted (valuesOf s) (passed .given) (passed .ranges))

@@ -1,0 +1,116 @@
+-- What reading an order and refusing one say of the checks, and of the town. Assumes nothing.
+use native.Mathlib.Omega.{arith}
+use Prim.Native.Nat.{ℕ, _+_, _-_, _≤_, _<_}
+use mathlib.Core.Path.{_≡_, refl, sym, ap, _∙_}
+use mathlib.Core.Bool.{Bool, true, false, cond}
+use mathlib.Core.List.{List, [], _∷_}
+use lib.Dec.{eqb, lit≤}
+use lib.ListN.{length, getD}
+use borrow.Author.Tests.{eqb-true, eqb-false}
+use Rattle.fields.specs.Fields.{checkOf}
+use Rattle.fields.specs.Tags.{lastTag}
+use Rattle.fields.specs.Values.{offsetOf, hasOf, valueOf, startOf, partIn, Values, valuesOf}
+use Rattle.fields.proofs.FieldsLaws.{check-small, value-fits, fits-between}
+use Rattle.fields.proofs.Collecting.{part-same}
+use Rattle.refusals.specs.declared.Refusal.{Refusal}
+use Rattle.order.specs.declared.reading.Order.{Order}
+use Rattle.order.specs.declared.reading.Reading.the-variants.{Read, Refused}
+use Rattle.order.specs.Ranges.{textFits, lookUp, fitsOf, inRangeOf}
+use Rattle.order.specs.Reading.{required, missingOf, outOfRangeOf, tagsFrom, orderOf, firstOf, readingOf, townOf}
+use Rattle.order.proofs.Tags.{all-pass, failing-number, tags-from, tags-length}
+
+-- ---- one of the refusals after another
+module _ (r : Refusal) (rest : List Refusal) (o : Order) where
+  passed-on : (order : Order) → firstOf (r ∷ rest) o ≡ Read order → (r .number ≡ 0) × (firstOf rest o ≡ Read order)
+  unfolding firstOf
+  passed-on order e = go (eqb (r .number) 0) refl e
+    where
+      go : (b : Bool) → eqb (r .number) 0 ≡ b → cond b (firstOf rest o) (Refused r) ≡ Read order → (r .number ≡ 0) × (firstOf rest o ≡ Read order)
+      go true h e = (eqb-true (r .number) 0 h, e)
+      go false h e = let z : _≡_ {A = ℕ} 0 1 = cc in absurd (omega arith)
+
+  -- a refusal is one of them that has a number
+  refused-one : (x : Refusal) (most : ℕ) → r .number ≤ most → (firstOf rest o ≡ Refused x → (1 ≤ x .number) × (x .number ≤ most))
+      → firstOf (r ∷ rest) o ≡ Refused x → (1 ≤ x .number) × (x .number ≤ most)
+  unfolding firstOf
+  refused-one x most l later e = go (eqb (r .number) 0) refl e
+    where
+      go : (b : Bool) → eqb (r .number) 0 ≡ b → cond b (firstOf rest o) (Refused r) ≡ Refused x → (1 ≤ x .number) × (x .number ≤ most)
+      go true h e = later e
+      go false h e =
+          let z : r ≡ x = cc in
+          let n = ap (λ (y : Refusal). y .number) z in
+          let m = eqb-false (r .number) 0 h in
+          (omega arith, omega arith)
+
+-- ---- an order that is read has passed every check
+pub record Passed (s : List ℕ) (order : Order) : Type 0 where
+  pub fields : checkOf s .number ≡ 0
+  pub given : missingOf (hasOf s) .number ≡ 0
+  pub ranges : outOfRangeOf (valuesOf s) .number ≡ 0
+  pub same : orderOf (valuesOf s) ≡ order
+
+pub read-passed : (s : List ℕ) (order : Order) → readingOf s ≡ Read order → Passed s order
+unfolding readingOf firstOf
+read-passed s order e =
+    let v = valuesOf s in
+    let a = passed-on (checkOf s) (missingOf (hasOf s) ∷ outOfRangeOf v ∷ []) (orderOf v) order e in
+    let b = passed-on (missingOf (hasOf s)) (outOfRangeOf v ∷ []) (orderOf v) order (a .1) in
+    let c = passed-on (outOfRangeOf v) [] (orderOf v) order (b .1) in
+    let o : Read (orderOf v) ≡ Read order = c .1 in
+    record { fields = a .0; given = b .0; ranges = c .0; same = cc }
+
+-- a refusal's number is from 1 to 5
+pub refused-by : (s : List ℕ) (r : Refusal) → readingOf s ≡ Refused r → (1 ≤ r .number) × (r .number ≤ 5)
+unfolding readingOf firstOf missingOf outOfRangeOf
+refused-by s r e =
+    let v = valuesOf s in
+    let f = check-small s in
+    refused-one (checkOf s) (missingOf (hasOf s) ∷ outOfRangeOf v ∷ []) (orderOf v) r 5 (omega arith)
+    (refused-one (missingOf (hasOf s)) (outOfRangeOf v ∷ []) (orderOf v) r 5 (let m = failing-number 4 (hasOf s) required in omega arith)
+    (refused-one (outOfRangeOf v) [] (orderOf v) r 5 (failing-number 5 (inRangeOf v) (tagsFrom lastTag 1)) no))
+    e
+  where
+    no : Read (orderOf (valuesOf s)) ≡ Refused r → (1 ≤ r .number) × (r .number ≤ 5)
+    no e = let z : _≡_ {A = ℕ} 0 1 = cc in absurd (omega arith)
+
+-- ---- where no tag fails, each passes
+pub has-required : (has : ℕ → Bool) → missingOf has .number ≡ 0 → (i : ℕ) → i < 6 → has (getD required i 0) ≡ true
+unfolding missingOf
+has-required has e i l = all-pass 4 has required (lit≤ tt) e i l
+
+pub fits-given : (v : Values) → outOfRangeOf v .number ≡ 0 → (tag : ℕ) → 1 ≤ tag → tag ≤ lastTag → v .has tag ≡ true → fitsOf v tag ≡ true
+unfolding outOfRangeOf inRangeOf
+fits-given v e tag l h has =
+    let n = tags-length lastTag 1 in
+    let p = all-pass 5 (inRangeOf v) (tagsFrom lastTag 1) (lit≤ tt) e (tag - 1) (omega arith) in
+    let t : getD (tagsFrom lastTag 1) (tag - 1) 0 ≡ tag = tags-from lastTag 1 (tag - 1) (omega arith) ∙ omega arith in
+    simp has at (rw t at p)
+
+-- ---- its town: 1 to 40 bytes of printable ASCII, which are a part of the order
+pub record Town (s town : List ℕ) (order : Order) : Type 0 where
+  pub part : town ≡ partIn s (order .town)
+  pub begins : order .town .at ≡ offsetOf s 1 + 3
+  pub long : order .town .length ≡ length town
+  pub size : (1 ≤ length town) × (length town ≤ 40)
+  pub text : textFits town ≡ true
+
+town-of : (s : List ℕ) (order : Order) → Passed s order → Town s (valueOf s 1) order
+unfolding fitsOf lookUp orderOf startOf
+town-of s order passed =
+    let has = has-required (hasOf s) (passed .given) 0 (lit≤ tt) in
+    record {
+      part = sym (ap (λ (o : Order). partIn s (o .town)) (sym (passed .same)) ∙ part-same s 1);
+      begins = ap (λ (o : Order). o .town .at) (sym (passed .same)) ∙ simp has;
+      long = ap (λ (o : Order). o .town .length) (sym (passed .same));
+      size = fits-between 1 (length (valueOf s 1)) (value-fits s 1 (passed .fields) has);
+      text = fits-given (valuesOf s) (passed .ranges) 1 (lit≤ tt) (lit≤ tt) has;
+    }
+
+pub read-town : (s : List ℕ) (order : Order) → readingOf s ≡ Read order → Town s (townOf s) order
+unfolding townOf
+read-town s order e = simp e (town-of s order (read-passed s order e))
+
+pub refused-town : (s : List ℕ) (r : Refusal) → readingOf s ≡ Refused r → townOf s ≡ []
+unfolding townOf
+refused-town s r e = simp e

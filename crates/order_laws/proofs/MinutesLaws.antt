@@ -1,0 +1,190 @@
+-- Demand 3: from the bytes of two orders to the parameters of one row's day, where crates/schedule_laws has proved it. Assumes nothing.
+use mathlib.Core.Path.{_≡_, refl, sym, ap, subst, _∙_}
+use mathlib.Core.Bool.{Bool, true, false, cond, not, _&&_}
+use mathlib.Core.List.{List}
+use Prim.Native.Nat.{ℕ, _+_, _≤_, _<_, _^_}
+use native.Mathlib.Omega.{arith}
+use lib.Dec.{T, ltb, leb}
+use borrow.Author.Tests.{leb-true}
+use lib.IntN.{pos, negsuc}
+use lib.Signed.{leZ}
+use Rattle.integers.specs.Parts.{Near}
+use Rattle.integers.specs.Order.{_≼_}
+use Rattle.calendar.specs.Answers.{rowDateOf}
+use Rattle.refusals.specs.Refusals.{noRefusal}
+use Rattle.fields.specs.declared.values.Part.{Part}
+use Rattle.models.specs.declared.adjustments.TimeAdjustment.{TimeAdjustment}
+use Rattle.models.specs.declared.parameters.Parameters.{Parameters}
+use Rattle.models.specs.declared.prayer.Prayer.{Prayer}
+use Rattle.refusals.specs.declared.Refusal.{Refusal}
+use Rattle.models.specs.Presets.{presetOf}
+use Rattle.models.specs.Settings.{timeAdjustmentsOf}
+use Rattle.order.specs.declared.reading.Order.{Order}
+use Rattle.order.specs.declared.reading.Reading.{Reading}
+use Rattle.order.specs.declared.reading.Reading.the-variants.{Read}
+use Rattle.order.specs.Reading.{readingOf}
+use Rattle.order.specs.Accepted.{Accepted}
+use Rattle.order.proofs.AcceptedLaws.{read-accepted}
+use Rattle.schedule.specs.declared.in_force.Current.{Current}
+use Rattle.schedule.specs.declared.in_force.Current.the-variants as none
+use Rattle.schedule.specs.declared.in_force.Instant.{Instant}
+use Rattle.schedule.specs.declared.prayer_times.PrayerTimes.{PrayerTimes}
+use Rattle.schedule.specs.declared.prayer_times.Worked.{Worked}
+use Rattle.schedule.specs.declared.prayer_times.Worked.the-variants as worked
+use Rattle.schedule.specs.InForce.{currentTimeOf, currentNumberOf}
+use Rattle.schedule.specs.Times.{workedAt}
+use Rattle.schedule_laws.specs.Later.{withMinutes, LaterMinutes, Moved}
+use Rattle.schedule_laws.proofs.CarriedLaws.{carried-held}
+use Rattle.order_laws.proofs.AcceptedParameters.{accepted-carried}
+use Rattle.schedule_laws.proofs.LaterLaws.{later-minutes-move-the-row}
+use Rattle.calls.specs.declared.in_force.InForce.{InForce}
+use Rattle.calls.specs.declared.in_force.InForce.the-variants as force
+use Rattle.calls.specs.Calls.{lacksRow, workRowOf, workReadingOf, workDayOf, instantFits, workAtOf, inForceOf, prayerAtOf}
+use Rattle.order_laws.specs.Minutes.{withOwnMinutes, LaterOrder, MovedRow, LaterOrdersMoveTheirRows}
+
+-- ---- what an accepted order's sums can be
+held : (order : Order) → Accepted order → (prayer : Prayer) → Near (2 ^ 32) (timeAdjustmentsOf (order .parameters) prayer)
+held order h = carried-held (order .parameters) (accepted-carried order h)
+
+-- ---- a row that the order lacks
+alike-refused : (p q : Parameters) (r : Refusal) → Moved p q (worked.Refused r) (worked.Refused r)
+alike-refused p q r =
+    record {
+      refused = λ x e. e;
+      «refused_too» = λ x e. e;
+      «none_earlier» = λ t u e f. no e;
+      «exactly_later» = λ t u e f. no e;
+      «in_force» = λ t u e f. no e;
+    }
+  where
+    isTimes : Worked → Type 0
+    isTimes (worked.Times t) = T true
+    isTimes (worked.Refused x) = T false
+
+    no : {X : Type 0} {t : PrayerTimes} → worked.Refused r ≡ worked.Times t → X
+    no e = absurd (subst isTimes (sym e) tt)
+
+-- ---- a day
+module _ (first : Order) (town : Part) (minutes : TimeAdjustment) (row : ℕ) where
+  second : Order
+  second = withOwnMinutes first town minutes
+
+  row-moved : Accepted first → Accepted second → ((prayer : Prayer) → timeAdjustmentsOf (first .parameters) prayer ≼ timeAdjustmentsOf (second .parameters) prayer)
+      → Moved (first .parameters) (second .parameters) (workRowOf first row) (workRowOf second row)
+  unfolding workRowOf second
+  row-moved h k more = by-test (ltb row (first .rows))
+    where
+      p : Parameters
+      p = first .parameters
+
+      q : Parameters
+      q = withMinutes p minutes
+
+      later : LaterMinutes p q
+      later = record { alike = refl; more = more; «first_held» = held first h; «second_held» = held (withOwnMinutes first town minutes) k }
+
+      by-test : (b : Bool) → Moved p q (cond b (workedAt (rowDateOf (first .date) row) (first .coordinates) p) (worked.Refused lacksRow))
+          (cond b (workedAt (rowDateOf (first .date) row) (first .coordinates) q) (worked.Refused lacksRow))
+      by-test true = later-minutes-move-the-row (rowDateOf (first .date) row) (first .coordinates) p q later
+      by-test false = alike-refused p q lacksRow
+
+-- ---- what naming the prayer answers
+-- the prayer of an answer, which a refusal has not
+prayerIn : InForce → Current
+prayerIn (force.Prayer x) = x
+prayerIn (force.Refused r) = none.None
+
+refusalIn : InForce → Refusal
+refusalIn (force.Prayer x) = noRefusal
+refusalIn (force.Refused r) = r
+
+isPrayer : InForce → Type 0
+isPrayer (force.Prayer x) = T true
+isPrayer (force.Refused r) = T false
+
+isRefused : InForce → Type 0
+isRefused (force.Prayer x) = T false
+isRefused (force.Refused r) = T true
+
+record OfTimes (w : Worked) (i : Instant) (x : Current) : Type 0 where
+  times : PrayerTimes
+  worked-are : w ≡ worked.Times times
+  current-is : currentTimeOf times i ≡ x
+
+prayer-times : (w : Worked) (i : Instant) (x : Current) → inForceOf w i ≡ force.Prayer x → OfTimes w i x
+unfolding inForceOf prayerIn isPrayer
+prayer-times (worked.Times t) i x e = record { times = t; worked-are = refl; current-is = ap prayerIn e }
+prayer-times (worked.Refused r) i x e = absurd (subst isPrayer (sym e) tt)
+
+refused-day : (w : Worked) (i : Instant) (r : Refusal) → inForceOf w i ≡ force.Refused r → w ≡ worked.Refused r
+unfolding inForceOf refusalIn isRefused
+refused-day (worked.Times t) i r e = absurd (subst isRefused (sym e) tt)
+refused-day (worked.Refused x) i r e = ap worked.Refused (ap refusalIn e)
+
+day-refused : (w : Worked) (i : Instant) (r : Refusal) → w ≡ worked.Refused r → inForceOf w i ≡ force.Refused r
+unfolding inForceOf
+day-refused w i r e = ap (λ (x : Worked). inForceOf x i) e
+
+asked : (s : List ℕ) (row : ℕ) (i : Instant) → instantFits i ≡ true → prayerAtOf s row i ≡ inForceOf (workDayOf s row) i
+unfolding prayerAtOf workAtOf
+asked s row i h = rw h
+
+-- a day that is refused at one instant is refused at every other
+refused-alike : (s z : List ℕ) (row : ℕ) (i j : Instant) (r : Refusal) → instantFits i ≡ true → instantFits j ≡ true
+    → (workDayOf s row ≡ worked.Refused r → workDayOf z row ≡ worked.Refused r) → prayerAtOf s row i ≡ force.Refused r → prayerAtOf z row j ≡ force.Refused r
+refused-alike s z row i j r hi hj alike e =
+    asked z row j hj ∙ day-refused (workDayOf z row) j r (alike (refused-day (workDayOf s row) i r (sym (asked s row i hi) ∙ e)))
+
+last : (a b c : Bool) → a && b && c ≡ true → c ≡ true
+last true true c h = h
+last true false c h = absurd (subst (λ (x : Bool). T (not x)) h tt)
+last false b c h = absurd (subst (λ (x : Bool). T (not x)) h tt)
+
+less-than-a-second : (i : Instant) → instantFits i ≡ true → i .nanoseconds < 1000000000
+unfolding instantFits
+less-than-a-second i h =
+    let l = leb-true (i .nanoseconds) 999999999 (last (leZ (negsuc 999999999999) (i .seconds)) (leZ (i .seconds) (pos 1000000000000)) (leb (i .nanoseconds) 999999999) h) in
+    omega arith
+
+-- ---- the theorem
+module _ (a b : List ℕ) (orders : LaterOrder a b) (row : ℕ) where
+  p : Parameters
+  p = orders .first .parameters
+
+  q : Parameters
+  q = orders .second .parameters
+
+  day-of-first : workDayOf a row ≡ workRowOf (orders .first) row
+  unfolding workDayOf workReadingOf
+  day-of-first = ap (λ (x : Reading). workReadingOf x row) (orders .«first_read»)
+
+  day-of-second : workDayOf b row ≡ workRowOf (orders .second) row
+  unfolding workDayOf workReadingOf
+  day-of-second = ap (λ (x : Reading). workReadingOf x row) (orders .«second_read»)
+
+  day : Moved p q (workDayOf a row) (workDayOf b row)
+  unfolding p q second
+  day =
+      let e = orders .alike in
+      let h = read-accepted a (orders .first) (orders .«first_read») in
+      let k = subst Accepted (sym e) (read-accepted b (orders .second) (orders .«second_read»)) in
+      let more : (prayer : Prayer) → timeAdjustmentsOf (orders .first .parameters) prayer ≼ timeAdjustmentsOf (withOwnMinutes (orders .first) (orders .second .town) (orders .second .parameters .adjustments) .parameters) prayer = λ (prayer : Prayer). subst (λ (x : Order). timeAdjustmentsOf (orders .first .parameters) prayer ≼ timeAdjustmentsOf (x .parameters) prayer) (sym e) (orders .more prayer) in
+      let m = row-moved (orders .first) (orders .second .town) (orders .second .parameters .adjustments) row h k more in
+      let n = subst (λ (x : Order). Moved (orders .first .parameters) (x .parameters) (workRowOf (orders .first) row) (workRowOf x row)) e m in
+      subst (λ (w : Worked). Moved (orders .first .parameters) (orders .second .parameters) w (workDayOf b row)) (sym day-of-first)
+      (subst (λ (w : Worked). Moved (orders .first .parameters) (orders .second .parameters) (workRowOf (orders .first) row) w) (sym day-of-second) n)
+
+pub later-orders-move-their-rows : LaterOrdersMoveTheirRows
+unfolding p q
+later-orders-move-their-rows a b orders row =
+    let moved = day a b orders row in
+    record {
+      day = moved;
+      «in_force» = λ t u ht hu after x y ex ey.
+          let f = prayer-times (workDayOf a row) t x (sym (asked a row t ht) ∙ ex) in
+          let g = prayer-times (workDayOf b row) u y (sym (asked b row u hu) ∙ ey) in
+          let l = moved .«in_force» (f .times) (g .times) (f .worked-are) (g .worked-are) t u (less-than-a-second u hu) after in
+          subst (λ (z : Current). currentNumberOf y ≤ currentNumberOf z) (f .current-is) (subst (λ (z : Current). currentNumberOf z ≤ currentNumberOf (currentTimeOf (f .times) t)) (g .current-is) l);
+      «in_force_refused» = λ t u ht hu r e. refused-alike a b row t u r ht hu (moved .refused r) e;
+      «in_force_refused_too» = λ t u ht hu r e. refused-alike b a row u t r hu ht (moved .«refused_too» r) e;
+    }

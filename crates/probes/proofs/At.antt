@@ -1,0 +1,17 @@
+-- What is asked of times at an instant, where both come as an export's arguments. Assumes nothing.
+use mathlib.Core.Path.{_≡_, ap, _∙_}
+use Prim.Native.Nat.{ℕ}
+use lib.IntN.{ℤ}
+use mir.Syntax.{w64}
+use mir.Val.{SFits}
+use Rattle.integers.proofs.Ranges.{readBack, read}
+use Rattle.schedule.specs.declared.in_force.Instant.{Instant}
+use Rattle.schedule.specs.declared.prayer_times.PrayerTimes.{PrayerTimes}
+use Rattle.probes.specs.Days.{timesFrom, instantFrom}
+use Rattle.probes.specs.declared.days.ProbeTimes.{ProbeTimes}
+
+pub at : {A : Type 0} (f : PrayerTimes → Instant → A) (times : ProbeTimes) (seconds : ℤ) (nanoseconds : ℕ) (t : PrayerTimes) (i : Instant)
+    → SFits w64 seconds → t ≡ timesFrom times → i ≡ instantFrom (readBack w64 seconds) nanoseconds → f t i ≡ f (timesFrom times) (instantFrom seconds nanoseconds)
+at f times seconds nanoseconds t i h p q =
+    ap (λ (x : PrayerTimes). f x i) p
+    ∙ ap (f (timesFrom times)) (q ∙ ap (λ (z : ℤ). instantFrom z nanoseconds) (read w64 seconds h))

@@ -1,0 +1,22 @@
+use mathlib.Core.Path.{sym}
+use Rattle.probes.specs.Days.{probeDayOf}
+use borrow.Author.Needs.{needs}
+use Rattle.probes.proofs.days.answered.Statement.{statement}
+use Rattle.probes.proofs.days.answered.Tie as tie
+
+returns : tie.Need-returns
+unfolding probeDayOf
+returns c =
+    let e0 = c .probe-times .ensures in
+    simp (sym e0, c .before .before .worked .given .1)
+
+returns-2 : tie.Need-returns-2
+unfolding probeDayOf
+returns-2 c =
+    let e0 = c .no-times .ensures in
+    simp (sym e0, c .before .before .worked2 .given .1)
+
+pub answered-spec : {M : Type 1} → statement M
+answered-spec =
+    tie.close
+    (tie.spec (λ c. search needs) (λ c κs. tt) (λ c. search needs) (λ c κs. tt) returns returns-2)

@@ -1,0 +1,20 @@
+use mathlib.Core.Path.{_≡_, ap, _∙_}
+use Rattle.schedule.specs.InForce.{nextOf}
+use Rattle.schedule.specs.InForce.{currentNumberOf}
+use Rattle.probes.proofs.At.{at}
+use Rattle.probes.proofs.days.probe_next.Statement.{statement}
+use Rattle.probes.proofs.days.probe_next.Tie as tie
+
+returns : tie.Need-returns
+returns c =
+    let start = c .before .before .before .before in
+    let a = start .args in
+    let t = c .before .before .before .prayer-times in
+    let i = c .before .before .instant in
+    let e0 : c .number .result ≡ currentNumberOf (c .before .next .result) = c .number .ensures in
+    let e1 : c .before .next .result ≡ nextOf (t .result) (i .result) = c .before .next .ensures in
+    e0 ∙ ap currentNumberOf (e1 ∙ at nextOf (a .times) (a .seconds) (a .nanoseconds) (t .result) (i .result) (start .fits .seconds) (t .ensures) (i .ensures))
+
+pub probe-next-spec : {M : Type 1} → statement M
+probe-next-spec =
+    tie.close (tie.spec (λ c κs. tt) (λ c κs. tt) (λ c κs. tt) (λ c κs. tt) returns)

@@ -1,0 +1,20 @@
+use mathlib.Core.Path.{_≡_, ap, _∙_}
+use Rattle.schedule.specs.InForce.{timeRemainingOf}
+use Rattle.probes.specs.Days.{probeRemainingOf}
+use Rattle.probes.proofs.At.{at}
+use Rattle.probes.proofs.days.probe_remaining.Statement.{statement}
+use Rattle.probes.proofs.days.probe_remaining.Tie as tie
+
+returns : tie.Need-returns
+returns c =
+    let start = c .before .before .before .before in
+    let a = start .args in
+    let t = c .before .before .before .prayer-times in
+    let i = c .before .before .instant in
+    let e0 : c .probe-hours-minutes .result ≡ probeRemainingOf (c .before .time-remaining .result) = c .probe-hours-minutes .ensures in
+    let e1 : c .before .time-remaining .result ≡ timeRemainingOf (t .result) (i .result) = c .before .time-remaining .ensures in
+    e0 ∙ ap probeRemainingOf (e1 ∙ at timeRemainingOf (a .times) (a .seconds) (a .nanoseconds) (t .result) (i .result) (start .fits .seconds) (t .ensures) (i .ensures))
+
+pub probe-remaining-spec : {M : Type 1} → statement M
+probe-remaining-spec =
+    tie.close (tie.spec (λ c κs. tt) (λ c κs. tt) (λ c κs. tt) (λ c κs. tt) returns)

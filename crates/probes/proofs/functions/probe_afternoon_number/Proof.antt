@@ -1,0 +1,15 @@
+use mathlib.Core.Path.{ap}
+use lib.Ieee.{Float}
+use Rattle.solar.proofs.SharedLaws.{afternoon-shared}
+use Rattle.probes.specs.Functions.{probeSunOf}
+use Rattle.probes.proofs.functions.probe_afternoon_number.Statement.{statement}
+use Rattle.probes.proofs.functions.probe_afternoon_number.Tie as tie
+
+returns : tie.Need-returns
+returns c =
+    let a = c .before .before .args in
+    simp (c .afternoon-number .ensures, c .before .course .ensures)
+    (ap (λ (number : Float → Float). number (a .shadow-length)) (afternoon-shared (probeSunOf (a .year) (a .month) (a .day) (a .latitude) (a .longitude))))
+
+pub probe-afternoon-number-spec : {M : Type 1} → statement M
+probe-afternoon-number-spec = tie.close (tie.spec (λ c κs. tt) (λ c κs. tt) returns)

@@ -1,0 +1,12 @@
+use Rattle.solar.proofs.SharedLaws.{numbers-shared}
+use Rattle.probes.specs.Functions.{probeSunOf}
+use Rattle.probes.proofs.functions.probe_hour_numbers.Statement.{statement}
+use Rattle.probes.proofs.functions.probe_hour_numbers.Tie as tie
+
+returns : tie.Need-returns
+returns c =
+    let a = c .before .before .args in
+    simp (c .hour-numbers .ensures, c .before .course .ensures, numbers-shared (probeSunOf (a .year) (a .month) (a .day) (a .latitude) (a .longitude)))
+
+pub probe-hour-numbers-spec : {M : Type 1} → statement M
+probe-hour-numbers-spec = tie.close (tie.spec (λ c κs. tt) (λ c κs. tt) returns)

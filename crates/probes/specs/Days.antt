@@ -1,0 +1,93 @@
+-- A day's numbers, settings and answers as the exports take and hand them out.
+use Prim.Native.Nat.{ℕ}
+use mathlib.Core.Bool.{true, false}
+use lib.IntN.{ℤ, pos}
+use Rattle.models.specs.Minutes.{sixMinutesOf}
+use Rattle.models.specs.Numbers.{methodOf, methodNumberOf, madhabOf, madhabNumberOf, ruleOf, ruleNumberOf, roundingOf, roundingNumberOf, shafaqOf, shafaqNumberOf}
+use Rattle.models.specs.Presets.{presetOf}
+use Rattle.calendar.specs.declared.dates.Date.{Date}
+use Rattle.unit.specs.declared.Coordinates.{Coordinates}
+use Rattle.models.specs.declared.adjustments.TimeAdjustment.{TimeAdjustment}
+use Rattle.models.specs.declared.parameters.Parameters.{Parameters}
+use Rattle.solar.specs.declared.hours.HourNumbers.{HourNumbers}
+use Rattle.schedule.specs.declared.hours.RowNumbers.{RowNumbers}
+use Rattle.schedule.specs.declared.prayer_times.PrayerTimes.{PrayerTimes}
+use Rattle.schedule.specs.declared.prayer_times.Worked.{Worked}
+use Rattle.schedule.specs.declared.prayer_times.Worked.the-variants.{Times, Refused}
+use Rattle.schedule.specs.declared.in_force.Instant.{Instant}
+use Rattle.schedule.specs.declared.in_force.Remaining.{Remaining}
+use Rattle.schedule.specs.declared.in_force.Remaining.the-variants.{In, Nothing}
+use Rattle.probes.specs.declared.days.ProbeSun.{ProbeSun}
+use Rattle.probes.specs.declared.days.ProbeNumbers.{ProbeNumbers}
+use Rattle.probes.specs.declared.days.ProbeSettings.{ProbeSettings}
+use Rattle.probes.specs.declared.days.ProbeTimes.{ProbeTimes}
+use Rattle.probes.specs.declared.days.ProbeDay.{ProbeDay}
+use Rattle.probes.specs.declared.days.ProbeRemaining.{ProbeRemaining}
+
+abbrev pub sunOf : ProbeSun → HourNumbers
+sunOf s = record { transit = s .transit; sunrise = s .sunrise; sunset = s .sunset }
+
+abbrev pub rowOf : ProbeNumbers → RowNumbers
+rowOf n = record { today = sunOf (n .today); tomorrow = sunOf (n .tomorrow); after = sunOf (n .after); fajr = n .fajr; asr = n .asr; isha = n .isha; «fajr_tomorrow» = n .«fajr_tomorrow» }
+
+abbrev pub minutesFrom : ProbeSettings → TimeAdjustment
+minutesFrom s = sixMinutesOf (s .fajr) (s .sunrise) (s .dhuhr) (s .asr) (s .maghrib) (s .isha)
+
+-- the preset with each field set that an order can set
+unfoldable pub parametersFrom : ProbeSettings → Parameters
+parametersFrom s =
+    let p = presetOf (methodOf (s .method)) in
+    record {
+      method = p .method;
+      «fajr_angle» = s .«fajr_angle»;
+      «maghrib_angle» = p .«maghrib_angle»;
+      «isha_angle» = s .«isha_angle»;
+      «isha_interval» = s .«isha_interval»;
+      madhab = madhabOf (s .madhab);
+      «high_latitude_rule» = ruleOf (s .«high_latitude_rule»);
+      adjustments = minutesFrom s;
+      «method_adjustments» = p .«method_adjustments»;
+      rounding = roundingOf (s .rounding);
+      shafaq = shafaqOf (s .shafaq);
+    }
+
+unfoldable pub settingsOf : Parameters → ProbeSettings
+settingsOf p =
+    let m = p .adjustments in
+    record {
+      method = methodNumberOf (p .method);
+      madhab = madhabNumberOf (p .madhab);
+      «high_latitude_rule» = ruleNumberOf (p .«high_latitude_rule»);
+      rounding = roundingNumberOf (p .rounding);
+      shafaq = shafaqNumberOf (p .shafaq);
+      fajr = m .fajr;
+      sunrise = m .sunrise;
+      dhuhr = m .dhuhr;
+      asr = m .asr;
+      maghrib = m .maghrib;
+      isha = m .isha;
+      «isha_interval» = p .«isha_interval»;
+      «fajr_angle» = p .«fajr_angle»;
+      «isha_angle» = p .«isha_angle»;
+    }
+
+abbrev pub probeTimesOf : PrayerTimes → ProbeTimes
+probeTimesOf t = record { fajr = t .fajr; sunrise = t .sunrise; dhuhr = t .dhuhr; asr = t .asr; maghrib = t .maghrib; isha = t .isha; «middle_of_the_night» = t .«middle_of_the_night»; qiyam = t .qiyam; «fajr_tomorrow» = t .«fajr_tomorrow» }
+
+-- and back
+abbrev pub timesFrom : ProbeTimes → PrayerTimes
+timesFrom t = record { fajr = t .fajr; sunrise = t .sunrise; dhuhr = t .dhuhr; asr = t .asr; maghrib = t .maghrib; isha = t .isha; «middle_of_the_night» = t .«middle_of_the_night»; qiyam = t .qiyam; «fajr_tomorrow» = t .«fajr_tomorrow» }
+
+abbrev pub noTimes : ProbeTimes
+noTimes = record { fajr = pos 0; sunrise = pos 0; dhuhr = pos 0; asr = pos 0; maghrib = pos 0; isha = pos 0; «middle_of_the_night» = pos 0; qiyam = pos 0; «fajr_tomorrow» = pos 0 }
+
+unfoldable pub probeDayOf : Worked → ProbeDay
+probeDayOf (Times t) = record { number = 0; place = 0; times = probeTimesOf t }
+probeDayOf (Refused r) = record { number = r .number; place = r .place; times = noTimes }
+
+abbrev pub instantFrom : ℤ → ℕ → Instant
+instantFrom seconds nanoseconds = record { seconds = seconds; nanoseconds = nanoseconds }
+
+unfoldable pub probeRemainingOf : Remaining → ProbeRemaining
+probeRemainingOf (In t) = record { found = true; hours = t .hours; minutes = t .minutes }
+probeRemainingOf Nothing = record { found = false; hours = 0; minutes = 0 }

@@ -1,0 +1,348 @@
+// A day and the prayer in force as exports, for runs against the crate that is ported: no part of what a host links.
+ghost use mathlib.Core.Path.{_≡_};
+ghost use Rattle.calendar.specs.Gregorian.{dateOf};
+ghost use Rattle.models.specs.Numbers.{methodOf};
+ghost use Rattle.models.specs.Presets.{presetOf};
+ghost use Rattle.unit.specs.Unit.{coordinatesOf};
+ghost use Rattle.schedule.specs.Hours.{hoursOf};
+ghost use Rattle.schedule.specs.Times.{workedOf, workedAt};
+ghost use Rattle.schedule.specs.InForce.{currentTimeOf, currentNumberOf, nextOf, timeRemainingOf};
+ghost use Rattle.probes.specs.Days.{sunOf, rowOf, minutesFrom, parametersFrom, settingsOf, probeTimesOf, noTimes, probeDayOf, timesFrom, instantFrom, probeRemainingOf};
+use calendar::dates::Date;
+use models::adjustments::TimeAdjustment;
+use models::high_altitude_rule::HighLatitudeRule;
+use models::madhab::Madhab;
+use models::method::Method;
+use models::parameters::Parameters;
+use models::rounding::Rounding;
+use models::shafaq::Shafaq;
+use schedule::hours::RowNumbers;
+use schedule::in_force::Current;
+use schedule::in_force::Instant;
+use schedule::in_force::Remaining;
+use schedule::prayer_times::PrayerTimes;
+use schedule::prayer_times::Worked;
+use solar::hours::HourNumbers;
+use unit::Coordinates;
+
+#[repr(C)]
+pub struct ProbeSun {
+    pub transit: f64,
+    pub sunrise: f64,
+    pub sunset: f64,
+}
+
+#[repr(C)]
+pub struct ProbeNumbers {
+    pub today: ProbeSun,
+    pub tomorrow: ProbeSun,
+    pub after: ProbeSun,
+    pub fajr: f64,
+    pub asr: f64,
+    pub isha: f64,
+    pub fajr_tomorrow: f64,
+}
+
+// What an order can set, by its numbers. Nothing is left to the method but its own minutes.
+#[repr(C)]
+pub struct ProbeSettings {
+    pub method: u32,
+    pub madhab: u32,
+    pub high_latitude_rule: u32,
+    pub rounding: u32,
+    pub shafaq: u32,
+    pub fajr: i32,
+    pub sunrise: i32,
+    pub dhuhr: i32,
+    pub asr: i32,
+    pub maghrib: i32,
+    pub isha: i32,
+    pub isha_interval: i32,
+    pub fajr_angle: f64,
+    pub isha_angle: f64,
+}
+
+#[repr(C)]
+pub struct ProbeTimes {
+    pub fajr: i64,
+    pub sunrise: i64,
+    pub dhuhr: i64,
+    pub asr: i64,
+    pub maghrib: i64,
+    pub isha: i64,
+    pub middle_of_the_night: i64,
+    pub qiyam: i64,
+    pub fajr_tomorrow: i64,
+}
+
+// A refusal's number and place, and no times; or 0, 0 and the times.
+#[repr(C)]
+pub struct ProbeDay {
+    pub number: u32,
+    pub place: u32,
+    pub times: ProbeTimes,
+}
+
+fn sun(s: ProbeSun) -> HourNumbers
+    ensures { λ r. ⌜ r ≡ sunOf s ⌝ }
+{
+    HourNumbers {
+        transit: s.transit,
+        sunrise: s.sunrise,
+        sunset: s.sunset,
+    }
+}
+
+fn row(n: ProbeNumbers) -> RowNumbers
+    ensures { λ r. ⌜ r ≡ rowOf n ⌝ }
+{
+    let today = n.today;
+    let tomorrow = n.tomorrow;
+    let after = n.after;
+    RowNumbers {
+        today: sun(today),
+        tomorrow: sun(tomorrow),
+        after: sun(after),
+        fajr: n.fajr,
+        asr: n.asr,
+        isha: n.isha,
+        fajr_tomorrow: n.fajr_tomorrow,
+    }
+}
+
+fn minutes(s: ProbeSettings) -> TimeAdjustment
+    ensures { λ r. ⌜ r ≡ minutesFrom s ⌝ }
+{
+    TimeAdjustment {
+        fajr: s.fajr,
+        sunrise: s.sunrise,
+        dhuhr: s.dhuhr,
+        asr: s.asr,
+        maghrib: s.maghrib,
+        isha: s.isha,
+    }
+}
+
+fn parameters(s: ProbeSettings) -> Parameters
+    ensures { λ r. ⌜ r ≡ parametersFrom s ⌝ }
+{
+    let preset = Method::of_number(s.method).parameters();
+    let method = preset.method;
+    let method_adjustments = preset.method_adjustments;
+    Parameters {
+        method: method,
+        fajr_angle: s.fajr_angle,
+        maghrib_angle: preset.maghrib_angle,
+        isha_angle: s.isha_angle,
+        isha_interval: s.isha_interval,
+        madhab: Madhab::of_number(s.madhab),
+        high_latitude_rule: HighLatitudeRule::of_number(s.high_latitude_rule),
+        adjustments: minutes(s),
+        method_adjustments: method_adjustments,
+        rounding: Rounding::of_number(s.rounding),
+        shafaq: Shafaq::of_number(s.shafaq),
+    }
+}
+
+// A method's own settings.
+#[no_mangle]
+pub extern "C" fn probe_preset(method: u32) -> ProbeSettings
+    ensures { λ r. ⌜ r ≡ settingsOf (presetOf (methodOf method)) ⌝ }
+{
+    let preset = Method::of_number(method).parameters();
+    let method = preset.method;
+    let madhab = preset.madhab;
+    let high_latitude_rule = preset.high_latitude_rule;
+    let rounding = preset.rounding;
+    let shafaq = preset.shafaq;
+    let own = preset.adjustments;
+    ProbeSettings {
+        method: method.number(),
+        madhab: madhab.number(),
+        high_latitude_rule: high_latitude_rule.number(),
+        rounding: rounding.number(),
+        shafaq: shafaq.number(),
+        fajr: own.fajr,
+        sunrise: own.sunrise,
+        dhuhr: own.dhuhr,
+        asr: own.asr,
+        maghrib: own.maghrib,
+        isha: own.isha,
+        isha_interval: preset.isha_interval,
+        fajr_angle: preset.fajr_angle,
+        isha_angle: preset.isha_angle,
+    }
+}
+
+fn probe_times(t: PrayerTimes) -> ProbeTimes
+    ensures { λ r. ⌜ r ≡ probeTimesOf t ⌝ }
+{
+    ProbeTimes {
+        fajr: t.fajr,
+        sunrise: t.sunrise,
+        dhuhr: t.dhuhr,
+        asr: t.asr,
+        maghrib: t.maghrib,
+        isha: t.isha,
+        middle_of_the_night: t.middle_of_the_night,
+        qiyam: t.qiyam,
+        fajr_tomorrow: t.fajr_tomorrow,
+    }
+}
+
+fn no_times() -> ProbeTimes
+    ensures { λ r. ⌜ r ≡ noTimes ⌝ }
+{
+    ProbeTimes {
+        fajr: 0,
+        sunrise: 0,
+        dhuhr: 0,
+        asr: 0,
+        maghrib: 0,
+        isha: 0,
+        middle_of_the_night: 0,
+        qiyam: 0,
+        fajr_tomorrow: 0,
+    }
+}
+
+fn answered(worked: Worked) -> ProbeDay
+    ensures { λ r. ⌜ r ≡ probeDayOf worked ⌝ }
+{
+    match worked {
+        Worked::Times(times) => ProbeDay {
+            number: 0,
+            place: 0,
+            times: probe_times(times),
+        },
+        Worked::Refused(refusal) => ProbeDay {
+            number: refusal.number,
+            place: refusal.place,
+            times: no_times(),
+        },
+    }
+}
+
+// The day of a date, from the hour numbers.
+#[no_mangle]
+pub extern "C" fn probe_day(
+    numbers: ProbeNumbers,
+    year: u32,
+    month: u32,
+    day: u32,
+    latitude: f64,
+    settings: ProbeSettings,
+) -> ProbeDay
+    ensures { λ r. ⌜ r ≡ probeDayOf (workedOf (hoursOf (rowOf numbers)) (dateOf year month day) latitude (parametersFrom settings)) ⌝ }
+{
+    answered(PrayerTimes::new(
+        row(numbers),
+        Date::new(year, month, day),
+        latitude,
+        parameters(settings),
+    ))
+}
+
+// The day of a date at a place.
+#[no_mangle]
+pub extern "C" fn probe_row(
+    year: u32,
+    month: u32,
+    day: u32,
+    latitude: f64,
+    longitude: f64,
+    settings: ProbeSettings,
+) -> ProbeDay
+    ensures { λ r. ⌜ r ≡ probeDayOf (workedAt (dateOf year month day) (coordinatesOf latitude longitude) (parametersFrom settings)) ⌝ }
+{
+    let date = Date::new(year, month, day);
+    let parameters = parameters(settings);
+    let numbers = RowNumbers::new(date, Coordinates::new(latitude, longitude), parameters);
+    answered(PrayerTimes::new(numbers, date, latitude, parameters))
+}
+
+fn prayer_times(t: ProbeTimes) -> PrayerTimes
+    ensures { λ r. ⌜ r ≡ timesFrom t ⌝ }
+{
+    PrayerTimes {
+        fajr: t.fajr,
+        sunrise: t.sunrise,
+        dhuhr: t.dhuhr,
+        asr: t.asr,
+        maghrib: t.maghrib,
+        isha: t.isha,
+        middle_of_the_night: t.middle_of_the_night,
+        qiyam: t.qiyam,
+        fajr_tomorrow: t.fajr_tomorrow,
+    }
+}
+
+fn instant(seconds: i64, nanoseconds: u32) -> Instant
+    ensures { λ r. ⌜ r ≡ instantFrom seconds nanoseconds ⌝ }
+{
+    Instant {
+        seconds: seconds,
+        nanoseconds: nanoseconds,
+    }
+}
+
+fn number(current: Current) -> u32
+    ensures { λ r. ⌜ r ≡ currentNumberOf current ⌝ }
+{
+    match current {
+        Current::Some(prayer) => prayer.number(),
+        Current::None => 0,
+    }
+}
+
+// The number of the prayer in force, 0 where there is none.
+#[no_mangle]
+pub extern "C" fn probe_current(times: ProbeTimes, seconds: i64, nanoseconds: u32) -> u32
+    ensures { λ r. ⌜ r ≡ currentNumberOf (currentTimeOf (timesFrom times) (instantFrom seconds nanoseconds)) ⌝ }
+{
+    number(prayer_times(times).current_time(instant(seconds, nanoseconds)))
+}
+
+// And of the next one.
+#[no_mangle]
+pub extern "C" fn probe_next(times: ProbeTimes, seconds: i64, nanoseconds: u32) -> u32
+    ensures { λ r. ⌜ r ≡ currentNumberOf (nextOf (timesFrom times) (instantFrom seconds nanoseconds)) ⌝ }
+{
+    number(prayer_times(times).next(instant(seconds, nanoseconds)))
+}
+
+// The time until the next prayer; zeros where none is in force.
+#[repr(C)]
+pub struct ProbeRemaining {
+    pub found: bool,
+    pub hours: u32,
+    pub minutes: u32,
+}
+
+fn probe_hours_minutes(remaining: Remaining) -> ProbeRemaining
+    ensures { λ r. ⌜ r ≡ probeRemainingOf remaining ⌝ }
+{
+    match remaining {
+        Remaining::In(time) => ProbeRemaining {
+            found: true,
+            hours: time.hours,
+            minutes: time.minutes,
+        },
+        Remaining::Nothing => ProbeRemaining {
+            found: false,
+            hours: 0,
+            minutes: 0,
+        },
+    }
+}
+
+#[no_mangle]
+pub extern "C" fn probe_remaining(
+    times: ProbeTimes,
+    seconds: i64,
+    nanoseconds: u32,
+) -> ProbeRemaining
+    ensures { λ r. ⌜ r ≡ probeRemainingOf (timeRemainingOf (timesFrom times) (instantFrom seconds nanoseconds)) ⌝ }
+{
+    probe_hours_minutes(prayer_times(times).time_remaining(instant(seconds, nanoseconds)))
+}

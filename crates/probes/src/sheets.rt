@@ -1,0 +1,12 @@
+// The whole sheet as an export, for the runs against the crate and the benchmark.
+ghost use mathlib.Core.Path.{_≡_};
+ghost use Rattle.rows.specs.Rows.{sheetLengthOf, sheetBufferOf};
+use rows::sheet::write_sheet;
+
+#[no_mangle]
+pub extern "C" fn probe_sheet(order: &[u8], buffer: &mut [u8]) -> usize
+    ensures { λ r. ⌜ r ≡ sheetLengthOf (now (order .entry)) (now (buffer .entry)) ⌝ }
+    ensures { λ _. ⌜ now (buffer .exit) ≡ sheetBufferOf (now (order .entry)) (now (buffer .entry)) ⌝ }
+{
+    write_sheet(order, &mut buffer[..])
+}

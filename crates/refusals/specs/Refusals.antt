@@ -1,0 +1,52 @@
+-- Document 01's table of refusals: a number and a place. The numbers under the names that the code gives them.
+use Prim.Native.Nat.{ℕ}
+use Rattle.refusals.specs.declared.Refusal.{Refusal}
+
+abbrev pub refusal : ℕ → ℕ → Refusal
+refusal number place = record { number = number; place = place }
+
+-- nothing is refused
+abbrev pub noRefusal : Refusal
+noRefusal = refusal 0 0
+
+-- "over 1,024 bytes, or a field cut"; "its offset, or 0"
+abbrev pub fieldCut : ℕ
+fieldCut = 1
+
+-- "unknown tag, wrong length"; "its offset"
+abbrev pub fieldUnknown : ℕ
+fieldUnknown = 2
+
+-- "tag a second time"; "its offset"
+abbrev pub fieldAgain : ℕ
+fieldAgain = 3
+
+-- "tag missing"; the tag
+abbrev pub tagMissing : ℕ
+tagMissing = 4
+
+-- "value out of range, or a day the month lacks"; the tag. "A row that the order lacks is 5, place 3"
+abbrev pub outOfRange : ℕ
+outOfRange = 5
+
+-- "no transit", "no sunrise", "no sunset"; the day, 0, 1 or 2
+abbrev pub noTransit : ℕ
+noTransit = 6
+
+abbrev pub noSunrise : ℕ
+noSunrise = 7
+
+abbrev pub noSunset : ℕ
+noSunset = 8
+
+-- "row buffer under 119 bytes"; 0
+abbrev pub bufferShort : ℕ
+bufferShort = 9
+
+-- "an instant's whole seconds beyond ±10^12, or its nanoseconds over 999,999,999"; 0
+abbrev pub instantBeyond : ℕ
+instantBeyond = 10
+
+-- "next or remaining asked while no prayer is in force"; 0
+abbrev pub noneInForce : ℕ
+noneInForce = 11

@@ -1,0 +1,60 @@
+// Refusals (added): a number, 0 where nothing is refused, and a place. This is the one table of the numbers; the header's is held to it.
+ghost use mathlib.Core.Path.{_≡_};
+ghost use Rattle.refusals.specs.Refusals.{refusal, noRefusal};
+
+// The order has over 1,024 bytes (place 0), or a field is cut (its offset).
+pub const FIELD_CUT: u32 = 1;
+
+// A tag that is not in the table, or a length that the tag's value can't have: the field's offset.
+pub const FIELD_UNKNOWN: u32 = 2;
+
+// A tag a second time: the second field's offset.
+pub const FIELD_AGAIN: u32 = 3;
+
+// A tag is missing: the tag.
+pub const TAG_MISSING: u32 = 4;
+
+// A value is out of range, or a day that the month lacks: the tag. A row that the order lacks: 3, the tag of the rows.
+pub const OUT_OF_RANGE: u32 = 5;
+
+// A day lacks its transit, its sunrise or its sunset: the day, 0 for the row's date and 1 and 2 for the two after it.
+pub const NO_TRANSIT: u32 = 6;
+
+pub const NO_SUNRISE: u32 = 7;
+
+pub const NO_SUNSET: u32 = 8;
+
+// A lent buffer is too short: 0.
+pub const BUFFER_SHORT: u32 = 9;
+
+// An instant's whole seconds are beyond 10^12 either way, or its nanoseconds over 999,999,999: 0.
+pub const INSTANT_BEYOND: u32 = 10;
+
+// Next or remaining is asked while no prayer is in force: 0.
+pub const NONE_IN_FORCE: u32 = 11;
+
+pub struct Refusal {
+    pub number: u32,
+    pub place: u32,
+}
+
+impl Refusal {
+    pub fn new(number: u32, place: u32) -> Refusal
+        ensures { λ r. ⌜ r ≡ refusal number place ⌝ }
+    {
+        Refusal {
+            number: number,
+            place: place,
+        }
+    }
+
+    // Nothing is refused.
+    pub fn none() -> Refusal
+        ensures { λ r. ⌜ r ≡ noRefusal ⌝ }
+    {
+        Refusal {
+            number: 0,
+            place: 0,
+        }
+    }
+}

@@ -1,2 +1,0 @@
-pub mod Rolling
-pub mod RollingLaws

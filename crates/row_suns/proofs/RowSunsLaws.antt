@@ -1,0 +1,43 @@
+-- What rolls is what each row would work by itself. Assumes nothing.
+use mathlib.Core.Path.{_≡_, sym, ap}
+use mathlib.Core.Bool.{true}
+use Prim.Native.Nat.{_+_, _≤_}
+use Rattle.calendar.specs.Answers.{tomorrowOf}
+use Rattle.calendar.specs.Gregorian.{existsOf}
+use Rattle.calendar.specs.declared.dates.Date.{Date}
+use Rattle.calendar.proofs.Successors.{back}
+use Rattle.models.specs.declared.parameters.Parameters.{Parameters}
+use Rattle.ops.specs.Shared.{observerOf}
+use Rattle.solar.specs.Coordinates.{positionOf}
+use Rattle.schedule.specs.Hours.{dayHoursOf, rowHoursOf, hoursOf}
+use Rattle.schedule.specs.Numbers.{numbersOf}
+use Rattle.schedule.proofs.SharedLaws.{courseAt, row-shared}
+use Rattle.unit.specs.declared.Coordinates.{Coordinates}
+use Rattle.row_suns.specs.declared.DaySun.{DaySun}
+use Rattle.row_suns.specs.declared.RowSuns.{RowSuns}
+use Rattle.row_suns.specs.RowSuns.{daySunOf, rowSunsOf, nextRowSunsOf, rowSunsHoursOf}
+
+pub rolled-hours : (date : Date) (place : Coordinates) (p : Parameters)
+    → rowSunsHoursOf (place .latitude) p (rowSunsOf date place p) ≡ hoursOf (numbersOf date place p)
+unfolding rowSunsHoursOf rowSunsOf daySunOf hoursOf dayHoursOf rowHoursOf
+rolled-hours date place p = ap hoursOf (row-shared date place p)
+
+-- the next row's suns are those of the next date
+pub rolls : (date : Date) (place : Coordinates) (p : Parameters) → existsOf date ≡ true → date .year + 1 ≤ 4294967295
+    → nextRowSunsOf place p (rowSunsOf date place p) ≡ rowSunsOf (tomorrowOf date) place p
+unfolding nextRowSunsOf rowSunsOf
+rolls date place p h l =
+    let next = tomorrowOf date in
+    let second = tomorrowOf next in
+    let third = tomorrowOf second in
+    let fourth = tomorrowOf third in
+    ap (λ (d : Date). record {
+      date = next;
+      third = fourth;
+      observer = observerOf place;
+      «at_second» = positionOf third;
+      «at_third» = positionOf fourth;
+      today = daySunOf place p (courseAt place d next second);
+      tomorrow = daySunOf place p (courseAt place next second third);
+      after = daySunOf place p (courseAt place second third fourth);
+    }) (sym (back date h l))

@@ -1,0 +1,58 @@
+-- This file need not be believed: what rolls is a working value, and proofs/RowSunsLaws.antt says that it is what each row's own date gives.
+use lib.Ieee.{Float}
+use Rattle.calendar.specs.Answers.{yesterdayOf, tomorrowOf}
+use Rattle.calendar.specs.declared.dates.Date.{Date}
+use Rattle.models.specs.declared.parameters.Parameters.{Parameters}
+use Rattle.ops.specs.declared.transit.Course.{Course}
+use Rattle.ops.specs.Shared.{observerOf}
+use Rattle.solar.specs.Coordinates.{positionOf}
+use Rattle.solar.specs.Shared.{courseOver, courseAngleNumberOf, courseNumbersOf, courseAfternoonNumberOf}
+use Rattle.schedule.specs.declared.hours.RowHours.{RowHours}
+use Rattle.schedule.specs.Hours.{dayHoursOf, rowHoursOf}
+use Rattle.schedule.specs.Numbers.{fajrNumberOf, asrNumberOf, ishaNumberOf}
+use Rattle.unit.specs.declared.Coordinates.{Coordinates}
+use Rattle.row_suns.specs.declared.DaySun.{DaySun}
+use Rattle.row_suns.specs.declared.RowSuns.{RowSuns}
+
+unfoldable pub daySunOf : Coordinates → Parameters → Course → DaySun
+daySunOf place p course =
+    record { course = course; hours = dayHoursOf (courseNumbersOf course) (fajrNumberOf p (place .latitude) (courseAngleNumberOf course)) }
+
+-- a row's, from its date
+unfoldable pub rowSunsOf : Date → Coordinates → Parameters → RowSuns
+rowSunsOf date place p =
+    let observer = observerOf place in
+    let next = tomorrowOf date in
+    let second = tomorrowOf next in
+    let third = tomorrowOf second in
+    record {
+      date = date;
+      third = third;
+      observer = observer;
+      «at_second» = positionOf second;
+      «at_third» = positionOf third;
+      today = daySunOf place p (courseOver place observer (positionOf (yesterdayOf date)) (positionOf date) (positionOf next));
+      tomorrow = daySunOf place p (courseOver place observer (positionOf date) (positionOf next) (positionOf second));
+      after = daySunOf place p (courseOver place observer (positionOf next) (positionOf second) (positionOf third));
+    }
+
+-- the next row's, from this one's: one new position and one new sun
+unfoldable pub nextRowSunsOf : Coordinates → Parameters → RowSuns → RowSuns
+nextRowSunsOf place p r =
+    let fourth = tomorrowOf (r .third) in
+    record {
+      date = tomorrowOf (r .date);
+      third = fourth;
+      observer = r .observer;
+      «at_second» = r .«at_third»;
+      «at_third» = positionOf fourth;
+      today = r .tomorrow;
+      tomorrow = r .after;
+      after = daySunOf place p (courseOver place (r .observer) (r .«at_second») (r .«at_third») (positionOf fourth));
+    }
+
+-- the sun's times that the row is worked from
+unfoldable pub rowSunsHoursOf : Float → Parameters → RowSuns → RowHours
+rowSunsHoursOf latitude p r =
+    rowHoursOf (r .today .hours) (r .tomorrow .hours) (r .after .hours .sun)
+    (asrNumberOf p (courseAfternoonNumberOf (r .today .course) latitude)) (ishaNumberOf p latitude (courseAngleNumberOf (r .today .course)))

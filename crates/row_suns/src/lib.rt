@@ -1,0 +1,128 @@
+// Rows that follow one another (added). The date of the next row is worked from the next sun's position alone: two of its three suns, and its Fajr's
+// angle, are the row's own.
+ghost use mathlib.Core.Path.{_≡_};
+ghost use Rattle.row_suns.specs.RowSuns.{daySunOf, rowSunsOf, nextRowSunsOf, rowSunsHoursOf};
+ghost use Rattle.schedule.specs.Times.{workedOf};
+use calendar::dates::Date;
+use models::parameters::Parameters;
+use ops::transit::Course;
+use ops::transit::Observer;
+use schedule::hours::DayHours;
+use schedule::hours::RowHours;
+use schedule::numbers::asr_number;
+use schedule::numbers::fajr_number;
+use schedule::numbers::isha_number;
+use schedule::prayer_times::Worked;
+use solar::coordinates::SolarCoordinates;
+use solar::coordinates::position;
+use solar::hours::hour_numbers;
+use solar::hours::sun;
+use unit::Coordinates;
+
+// The sun of a day over the place, and what it gives to every row that it serves.
+pub struct DaySun {
+    pub course: Course,
+    pub hours: DayHours,
+}
+
+// The suns of a row: its date's and those of the two days after it. The positions at 0h of the second and the third day after the date are kept for the
+// next row.
+pub struct RowSuns {
+    pub date: Date,
+    pub third: Date,
+    pub observer: Observer,
+    pub at_second: SolarCoordinates,
+    pub at_third: SolarCoordinates,
+    pub today: DaySun,
+    pub tomorrow: DaySun,
+    pub after: DaySun,
+}
+
+fn day_sun(coordinates: Coordinates, parameters: Parameters, course: Course) -> DaySun
+    ensures { λ r. ⌜ r ≡ daySunOf coordinates parameters course ⌝ }
+{
+    DaySun {
+        course: course,
+        hours: DayHours::new(
+            hour_numbers(course),
+            fajr_number(parameters, coordinates.latitude, course),
+        ),
+    }
+}
+
+impl RowSuns {
+    // The first row's.
+    pub fn new(date: Date, coordinates: Coordinates, parameters: Parameters) -> RowSuns
+        ensures { λ r. ⌜ r ≡ rowSunsOf date coordinates parameters ⌝ }
+    {
+        let observer = Observer::new(coordinates);
+        let next = date.tomorrow();
+        let second = next.tomorrow();
+        let third = second.tomorrow();
+        let at_date = position(date);
+        let at_next = position(next);
+        let at_second = position(second);
+        let at_third = position(third);
+        let before = position(date.yesterday());
+        let today = sun(coordinates, observer, before, at_date, at_next);
+        let tomorrow = sun(coordinates, observer, at_date, at_next, at_second);
+        let after = sun(coordinates, observer, at_next, at_second, at_third);
+        RowSuns {
+            date: date,
+            third: third,
+            observer: observer,
+            at_second: at_second,
+            at_third: at_third,
+            today: day_sun(coordinates, parameters, today),
+            tomorrow: day_sun(coordinates, parameters, tomorrow),
+            after: day_sun(coordinates, parameters, after),
+        }
+    }
+
+    // The next row's, for the same place and parameters.
+    pub fn next(self, coordinates: Coordinates, parameters: Parameters) -> RowSuns
+        ensures { λ r. ⌜ r ≡ nextRowSunsOf coordinates parameters self ⌝ }
+    {
+        let date = self.date;
+        let observer = self.observer;
+        let at_second = self.at_second;
+        let at_third = self.at_third;
+        let today = self.tomorrow;
+        let tomorrow = self.after;
+        let third = self.third;
+        let fourth = third.tomorrow();
+        let at_fourth = position(fourth);
+        let course = sun(coordinates, observer, at_second, at_third, at_fourth);
+        RowSuns {
+            date: date.tomorrow(),
+            third: fourth,
+            observer: observer,
+            at_second: at_third,
+            at_third: at_fourth,
+            today: today,
+            tomorrow: tomorrow,
+            after: day_sun(coordinates, parameters, course),
+        }
+    }
+
+    // The row's times, or its refusal.
+    pub fn work(self, latitude: f64, parameters: Parameters) -> Worked
+        ensures { λ r. ⌜ r ≡ workedOf (rowSunsHoursOf latitude parameters self) (self .date) latitude parameters ⌝ }
+    {
+        let date = self.date;
+        let today = self.today;
+        let tomorrow = self.tomorrow;
+        let after = self.after;
+        let course = today.course;
+        let last = after.hours;
+        let sun = last.sun;
+        let hours = RowHours::of_days(
+            today.hours,
+            tomorrow.hours,
+            sun,
+            asr_number(parameters, latitude, course),
+            isha_number(parameters, latitude, course),
+        );
+        hours.work(date, latitude, parameters)
+    }
+}

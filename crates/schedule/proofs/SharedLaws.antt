@@ -1,0 +1,44 @@
+-- The hour numbers of a row, from the courses of three suns that share five positions. Assumes nothing.
+use mathlib.Core.Path.{_≡_}
+use Rattle.calendar.specs.Answers.{yesterdayOf, tomorrowOf}
+use Rattle.calendar.specs.declared.dates.Date.{Date}
+use Rattle.models.specs.declared.parameters.Parameters.{Parameters}
+use Rattle.ops.specs.declared.transit.Course.{Course}
+use Rattle.ops.specs.Shared.{observerOf}
+use Rattle.solar.specs.Coordinates.{positionOf}
+use Rattle.solar.specs.Hours.{Sun, sunOver}
+use Rattle.solar.specs.Shared.{courseOver, courseAngleNumberOf, courseNumbersOf, courseAfternoonNumberOf}
+use Rattle.solar.proofs.SharedLaws.{angle-shared, numbers-shared, afternoon-shared}
+use Rattle.unit.specs.declared.Coordinates.{Coordinates}
+use Rattle.schedule.specs.declared.hours.RowNumbers.{RowNumbers}
+use Rattle.schedule.specs.Numbers.{fajrNumberOf, ishaNumberOf, asrNumberOf, numbersOf}
+
+abbrev pub courseRowOf : Coordinates → Parameters → Course → Course → Course → RowNumbers
+courseRowOf place p today tomorrow after =
+    record {
+      today = courseNumbersOf today;
+      tomorrow = courseNumbersOf tomorrow;
+      after = courseNumbersOf after;
+      fajr = fajrNumberOf p (place .latitude) (courseAngleNumberOf today);
+      asr = asrNumberOf p (courseAfternoonNumberOf today (place .latitude));
+      isha = ishaNumberOf p (place .latitude) (courseAngleNumberOf today);
+      «fajr_tomorrow» = fajrNumberOf p (place .latitude) (courseAngleNumberOf tomorrow);
+    }
+
+-- the course over a place whose positions are at 0h of three dates
+abbrev pub courseAt : Coordinates → Date → Date → Date → Course
+courseAt place before date after = courseOver place (observerOf place) (positionOf before) (positionOf date) (positionOf after)
+
+pub row-shared : (date : Date) (place : Coordinates) (p : Parameters) →
+    let next = tomorrowOf date in
+    let second = tomorrowOf next in
+    courseRowOf place p (courseAt place (yesterdayOf date) date next) (courseAt place date next second) (courseAt place next second (tomorrowOf second))
+    ≡ numbersOf date place p
+unfolding numbersOf
+row-shared date place p =
+    let next = tomorrowOf date in
+    let second = tomorrowOf next in
+    let today = sunOver place (yesterdayOf date) date next in
+    let tomorrow = sunOver place date next second in
+    let after = sunOver place next second (tomorrowOf second) in
+    simp (numbers-shared today, numbers-shared tomorrow, numbers-shared after, angle-shared today, angle-shared tomorrow, afternoon-shared today)

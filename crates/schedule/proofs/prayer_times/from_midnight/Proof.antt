@@ -1,0 +1,108 @@
+use mathlib.Core.Path.{ap, _∙_}
+use lib.Dec.{lit≤}
+use mir.Syntax.{w32}
+use mir.Val.{SFits}
+use Rattle.integers.proofs.Ranges.{wide, read-wide}
+use Rattle.integers.proofs.Held.{of-wide, held-as, asked}
+use Rattle.models.specs.declared.prayer.Prayer.the-variants.{Fajr, Sunrise, Dhuhr, Asr, Maghrib, Isha}
+use Rattle.schedule.specs.Times.{finalOf, middleOfTheNightOf, qiyamOf, fromMidnightOf}
+use Rattle.schedule.specs.Twilight.{orOf}
+use Rattle.schedule.proofs.Promises.{both, of-near}
+use borrow.Author.Needs.{needs}
+use Rattle.schedule.proofs.prayer_times.from_midnight.Statement.{statement}
+use Rattle.schedule.proofs.prayer_times.from_midnight.Tie as tie
+
+transit : (t : tie.Start) → SFits w32 (t .args .suns .today .transit)
+transit t = search needs
+
+sunrise : (t : tie.Start) → SFits w32 (t .args .suns .today .sunrise)
+sunrise t = search needs
+
+sunset : (t : tie.Start) → SFits w32 (t .args .suns .today .sunset)
+sunset t = search needs
+
+cast-or : tie.Need-cast-or
+cast-or c = wide _ (transit (c .before .before .before))
+
+or-requires : tie.Need-or-requires
+or-requires c κs = asked (of-wide _ (transit (c .before .before .before))) (lit≤ tt)
+
+cast-final-time : tie.Need-cast-final-time
+cast-final-time c = wide _ (sunset (c .before .before .before .before .before .before .before))
+
+final-time-requires : tie.Need-final-time-requires
+final-time-requires c κs = asked (of-wide _ (sunset (c .before .before .before .before .before .before .before))) (lit≤ tt)
+
+final-time-requires-2 : tie.Need-final-time-requires-2
+final-time-requires-2 c κs =
+    let u = c .before .before .before .before .before .before .before .before .before in
+    asked (of-near (u .unadjusted-fajr .ensures) (lit≤ tt)) (lit≤ tt)
+
+cast-final-time-2 : tie.Need-cast-final-time-2
+cast-final-time-2 c = wide _ (sunrise (c .before .before .before .before .before .before .before .before .before .before .before .before .before))
+
+final-time-requires-3 : tie.Need-final-time-requires-3
+final-time-requires-3 c κs = asked (of-wide _ (sunrise (c .before .before .before .before .before .before .before .before .before .before .before .before .before))) (lit≤ tt)
+
+cast-final-time-3 : tie.Need-cast-final-time-3
+cast-final-time-3 c = wide _ (transit (c .before .before .before .before .before .before .before .before .before .before .before .before .before .before .before .before))
+
+final-time-requires-4 : tie.Need-final-time-requires-4
+final-time-requires-4 c κs = asked (of-wide _ (transit (c .before .before .before .before .before .before .before .before .before .before .before .before .before .before .before .before))) (lit≤ tt)
+
+final-time-requires-5 : tie.Need-final-time-requires-5
+final-time-requires-5 c κs =
+    let o = c .before .before .before .before .before .before .before .before .before .before .before .before .before in
+    asked (of-near (o .or .ensures) (lit≤ tt)) (lit≤ tt)
+
+final-time-requires-6 : tie.Need-final-time-requires-6
+final-time-requires-6 c κs =
+    let e = c .before .before .before .before .before .before .before .before .before .before .before .before .before in
+    asked (of-near (e .unadjusted-isha .ensures) (lit≤ tt)) (lit≤ tt)
+
+returns : tie.Need-returns
+unfolding fromMidnightOf finalOf
+returns c =
+    let c1 = c .before in
+    let c2 = c1 .before in
+    let c3 = c2 .before in
+    let c4 = c3 .before .before .before in
+    let c5 = c4 .before .before .before in
+    let c6 = c5 .before in
+    let c7 = c6 .before in
+    let c8 = c7 .before in
+    let c9 = c8 .before .before .before in
+    let c10 = c9 .before in
+    let c11 = c10 .before .before .before in
+    let t = c11 .before in
+    let p = t .args .parameters in
+    let u = of-near (c11 .unadjusted-fajr .ensures) (lit≤ tt) in
+    let o = of-near (c10 .or .ensures) (lit≤ tt) in
+    let e = of-near (c9 .unadjusted-isha .ensures) (lit≤ tt) in
+    let fajr = held-as (of-near (c5 .final-time2 .ensures) (lit≤ tt)) (ap (finalOf p Fajr) (u .is)) in
+    let rise = held-as (of-near (c4 .final-time3 .ensures) (lit≤ tt)) (ap (finalOf p Sunrise) (read-wide _ (sunrise t))) in
+    let dhuhr = held-as (of-near (c3 .final-time4 .ensures) (lit≤ tt)) (ap (finalOf p Dhuhr) (read-wide _ (transit t))) in
+    let asr = held-as (of-near (c2 .final-time5 .ensures) (lit≤ tt)) (ap (finalOf p Asr) (o .is ∙ ap (orOf (t .args .hours .asr)) (read-wide _ (transit t)))) in
+    let maghrib = held-as (of-near (c8 .final-time .ensures) (lit≤ tt)) (ap (finalOf p Maghrib) (read-wide _ (sunset t))) in
+    let isha = held-as (of-near (c1 .final-time6 .ensures) (lit≤ tt)) (ap (finalOf p Isha) (e .is)) in
+    let next = of-near (c7 .next-fajr .ensures) (lit≤ tt) in
+    let middle = held-as (of-near (c6 .calculate-qiyam .ensures .0) (lit≤ tt)) (both middleOfTheNightOf (maghrib .is) (next .is)) in
+    let qiyam = held-as (of-near (c6 .calculate-qiyam .ensures .1) (lit≤ tt)) (both qiyamOf (maghrib .is) (next .is)) in (
+      simp (fajr .is, rise .is, dhuhr .is, asr .is, maghrib .is, isha .is, middle .is, qiyam .is, next .is),
+      record {
+        fajr = asked fajr (lit≤ tt);
+        sunrise = asked rise (lit≤ tt);
+        dhuhr = asked dhuhr (lit≤ tt);
+        asr = asked asr (lit≤ tt);
+        maghrib = asked maghrib (lit≤ tt);
+        isha = asked isha (lit≤ tt);
+        «middle_of_the_night» = asked middle (lit≤ tt);
+        qiyam = asked qiyam (lit≤ tt);
+        «fajr_tomorrow» = asked next (lit≤ tt);
+      },
+    )
+
+pub from-midnight-spec : {M : Type 1} → statement M
+from-midnight-spec =
+    tie.close
+    (tie.spec (λ c κs. search needs) cast-or or-requires (λ c κs. search needs) cast-final-time final-time-requires (λ c κs. search needs) (λ c κs. search needs) final-time-requires-2 cast-final-time-2 final-time-requires-3 cast-final-time-3 final-time-requires-4 final-time-requires-5 final-time-requires-6 returns)

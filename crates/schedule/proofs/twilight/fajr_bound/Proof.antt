@@ -1,0 +1,36 @@
+use mathlib.Core.Path.{_≡_, sym, _∙_}
+use lib.Dec.{lit≤}
+use mir.Syntax.{w32, w64}
+use mir.Val.{SFits}
+use Rattle.integers.proofs.Sums.{summands}
+use Rattle.integers.proofs.Ranges.{readBack, read}
+use Rattle.integers.proofs.Held.{held-as, promised}
+use Rattle.schedule.specs.Twilight.{beforeSunriseOf}
+use Rattle.schedule.proofs.Promises.{of-near}
+use borrow.Author.Needs.{needs}
+use Rattle.schedule.proofs.twilight.fajr_bound.Statement.{statement}
+use Rattle.schedule.proofs.twilight.fajr_bound.Tie as tie
+
+returns : tie.Need-returns
+unfolding beforeSunriseOf
+returns c =
+    let m = c .before .before in
+    let t = m .before .before .before .before in
+    let f : SFits w32 (t .args .today .sunrise) = search needs in
+    let k : readBack w32 (m .morning-twilight-seconds .result) ≡ m .morning-twilight-seconds .result = search needs in
+    let e : readBack w32 (m .morning-twilight-seconds .result) ≡ beforeSunriseOf (t .args .parameters) (t .args .latitude) (t .args .date) (t .args .night) = k ∙ m .morning-twilight-seconds .ensures ∙ simp (m .before .ordinal .ensures, sym (m .before .before .before .by-season .ensures), m .before .before .if1 .taken) in
+    promised (held-as (of-near (c .sum .ensures) (lit≤ tt)) (summands (read w32 _ f) e)) (lit≤ tt)
+
+returns-2 : tie.Need-returns-2
+unfolding beforeSunriseOf
+returns-2 c =
+    let m = c .before .before in
+    let t = m .before .before .before .before in
+    let f : SFits w32 (t .args .today .sunrise) = search needs in
+    let k : readBack w32 (m .portion-before .result) ≡ m .portion-before .result = search needs in
+    let n = read w64 (t .args .night) (t .fits .night) in
+    let e : readBack w32 (m .portion-before .result) ≡ beforeSunriseOf (t .args .parameters) (t .args .latitude) (t .args .date) (t .args .night) = k ∙ m .portion-before .ensures ∙ simp (n, m .before .night-portions .ensures, sym (m .before .before .before .by-season .ensures), m .before .before .if1 .left) in
+    promised (held-as (of-near (c .sum2 .ensures) (lit≤ tt)) (summands (read w32 _ f) e)) (lit≤ tt)
+
+pub fajr-bound-spec : {M : Type 1} → statement M
+fajr-bound-spec = tie.close (tie.spec (λ c κs. search needs) (λ c κs. search needs) (λ c κs. search needs) (λ c κs. search needs) returns (λ c κs. search needs) (λ c κs. search needs) (λ c κs. search needs) returns-2)

@@ -1,0 +1,41 @@
+-- The hour numbers of a course are those of the source's calls on its three positions. Assumes nothing.
+use mathlib.Core.Path.{_≡_, fun-ext}
+use mathlib.Core.Bool.{Bool, true, false}
+use lib.Ieee.{Float}
+use Rattle.unit.specs.declared.Angle.{Angle}
+use Rattle.unit.specs.declared.Coordinates.{Coordinates}
+use Rattle.ops.specs.declared.transit.Course.{Course}
+use Rattle.ops.specs.Shared.{observerOf, courseTransitNumberOf}
+use Rattle.ops.proofs.SharedLaws.{transit-shared, hour-number-shared}
+use Rattle.solar.specs.declared.coordinates.SolarCoordinates.{SolarCoordinates}
+use Rattle.solar.specs.declared.hours.HourNumbers.{HourNumbers}
+use Rattle.solar.specs.Hours.{Sun, approxTransitOf, solarAltitude, transitNumberOf, angleNumberOf, hourNumbersOf, shadowAngleOf, afternoonNumberOf}
+use Rattle.solar.specs.Shared.{courseOver, courseAngleNumberOf, courseNumbersOf, courseAfternoonNumberOf}
+
+-- a sun's course
+abbrev pub courseOfSun : Sun → Course
+courseOfSun s = courseOver (s .place) (observerOf (s .place)) (s .previous) (s .today) (s .next)
+
+module _ (s : Sun) where
+  transit-number-shared : courseTransitNumberOf (courseOfSun s) ≡ transitNumberOf s
+  unfolding transitNumberOf
+  transit-number-shared =
+      transit-shared (approxTransitOf s) (s .place) (s .today .«apparent_sidereal_time») (s .today .«right_ascension») (s .previous .«right_ascension») (s .next .«right_ascension»)
+      (s .today .declination) (s .previous .declination) (s .next .declination)
+
+  angle-number-shared : (angle : Angle) (after : Bool) → courseAngleNumberOf (courseOfSun s) angle after ≡ angleNumberOf s angle after
+  unfolding courseAngleNumberOf angleNumberOf
+  angle-number-shared angle after =
+      hour-number-shared (approxTransitOf s) (s .place) (s .today .«apparent_sidereal_time») (s .today .«right_ascension») (s .previous .«right_ascension») (s .next .«right_ascension»)
+      (s .today .declination) (s .previous .declination) (s .next .declination) angle after
+
+  pub angle-shared : courseAngleNumberOf (courseOfSun s) ≡ angleNumberOf s
+  angle-shared = fun-ext (λ angle. fun-ext (angle-number-shared angle))
+
+  pub numbers-shared : courseNumbersOf (courseOfSun s) ≡ hourNumbersOf s
+  unfolding courseNumbersOf hourNumbersOf
+  numbers-shared = simp (transit-number-shared, angle-number-shared solarAltitude false, angle-number-shared solarAltitude true)
+
+  pub afternoon-shared : courseAfternoonNumberOf (courseOfSun s) (s .place .latitude) ≡ afternoonNumberOf s
+  unfolding courseAfternoonNumberOf afternoonNumberOf
+  afternoon-shared = fun-ext (λ shadow. angle-number-shared (shadowAngleOf (s .place .latitude) (s .today .declination .degrees) shadow) true)

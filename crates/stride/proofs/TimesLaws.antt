@@ -1,0 +1,184 @@
+-- What rounding and adjusting keep, and where nothing saturates. Over the definitions of `Times`. Assumes nothing.
+use mathlib.Core.Path.{_≡_, refl, sym, ap, _∙_}
+use mathlib.Core.Bool.{Bool, true, false, cond}
+use Prim.Native.Nat.{ℕ, _+_, _*_, _^_, _≤_, _<_}
+use native.Mathlib.Omega.{arith}
+use lib.IntN.{ℤ, pos, negsuc, _+ℤ_, _-ℤ_, _*ℤ_, +ℤ-idr, +ℤ-assoc, +ℤ-comm}
+use lib.Dec.{ltb, lit<}
+use borrow.Author.Tests.{ltb-true, ltb-false}
+use mir.Syntax.{w64}
+use mir.Val.{SFits}
+use Rattle.integers.specs.Parts.{P, N, Between, Near}
+use Rattle.integers.proofs.Sums.{sum, difference, times}
+use Rattle.integers.specs.Quotients.{floorQuot}
+use Rattle.integers.proofs.QuotientLaws.{Floored, floored}
+use Rattle.integers.specs.Order.{_≼_}
+use Rattle.integers.proofs.OrderLaws.{to-not-lt}
+use Rattle.integers.proofs.Ranges.{range}
+use Rattle.integers.proofs.Intervals.{sum-between, product-between, shifted-between}
+use Rattle.integers.proofs.Held.{Held, held-fits}
+use Rattle.models.specs.declared.rounding.Rounding.{Rounding}
+use Rattle.models.specs.declared.rounding.Rounding.the-variants.{Nearest, Up, None}
+use Rattle.stride.specs.Times.{most, least, satOf, secondOf, shiftOf, roundedOf, adjustedOf}
+
+-- an i64 holds what lies between the ends of its range
+pub between : (z : ℤ) → least ≼ z → z ≼ most → SFits w64 z
+between (pos n) l h = record { sfits = omega arith }
+between (negsuc n) l h = record { sfits = omega arith }
+
+-- nothing saturates in an i64's range
+pub sat-in : (z : ℤ) → SFits w64 z → satOf z ≡ z
+unfolding satOf
+sat-in z h = let r = range w64 z h in rw (to-not-lt most z (omega arith), to-not-lt z least (omega arith))
+
+minute : (t : ℤ) → Floored t 60 (floorQuot t 60) (secondOf t)
+minute t = floored t 60 (lit< tt)
+
+-- the second is the one s below 60 for which t = 60 * m + s
+second-unique : (t m : ℤ) (s : ℕ) → Floored t 60 m s → secondOf t ≡ s
+second-unique t m s h = let k = minute t in omega arith
+
+second-adjusted : (t k : ℤ) → secondOf (adjustedOf t k) ≡ secondOf t
+unfolding adjustedOf
+second-adjusted t k =
+    let a = minute t in
+    let p = times k 60 in
+    let q = sum t (k *ℤ pos 60) in
+    let r = sum (floorQuot t 60) k in
+    second-unique (t +ℤ k *ℤ pos 60) (floorQuot t 60 +ℤ k) (secondOf t) (record { balance = omega arith; below = omega arith })
+
+-- rounding commutes with whole minutes: roundedOf r (t + 60 * k) is roundedOf r t + 60 * k
+pub rounded-adjusted : (r : Rounding) (t k : ℤ) → roundedOf r (adjustedOf t k) ≡ adjustedOf (roundedOf r t) k
+unfolding roundedOf adjustedOf
+rounded-adjusted r t k =
+    let m = k *ℤ pos 60 in
+    let d = shiftOf r (secondOf t) in
+    ap (λ (s : ℕ). t +ℤ m +ℤ shiftOf r s) (second-adjusted t k) ∙ +ℤ-assoc t m d ∙ ap (λ (z : ℤ). t +ℤ z) (+ℤ-comm m d) ∙ sym (+ℤ-assoc t d m)
+
+-- how far above the start of its minute a time at second s is rounded to
+heightOf : Rounding → ℕ → ℕ
+heightOf Nearest s = cond (ltb s 30) 0 60
+heightOf Up s = 60
+heightOf None s = s
+
+height : (r : Rounding) (s : ℕ) → P (shiftOf r s) + s ≡ N (shiftOf r s) + heightOf r s
+unfolding shiftOf heightOf
+height Nearest s = by-test (ltb s 30)
+  where
+    by-test : (b : Bool) → P (cond b (pos 0 -ℤ pos s) (pos 60 -ℤ pos s)) + s ≡ N (cond b (pos 0 -ℤ pos s) (pos 60 -ℤ pos s)) + cond b 0 60
+    by-test true = let d = difference (pos 0) (pos s) in omega (arith, d .0, d .1)
+    by-test false = let d = difference (pos 60) (pos s) in omega (arith, d .0, d .1)
+height Up s = let d = difference (pos 60) (pos s) in omega (arith, d .0, d .1)
+height None s = omega arith
+
+height-mono : (r : Rounding) (s u : ℕ) → s ≤ u → heightOf r s ≤ heightOf r u
+unfolding heightOf
+height-mono Nearest s u h = by-tests (ltb s 30) (ltb u 30) refl refl
+  where
+    by-tests : (b c : Bool) → ltb s 30 ≡ b → ltb u 30 ≡ c → cond b 0 60 ≤ cond c 0 60
+    by-tests true c p q = omega arith
+    by-tests false true p q = absurd (omega (arith, ltb-false s 30 p, ltb-true u 30 q))
+    by-tests false false p q = omega arith
+height-mono Up s u h = omega arith
+height-mono None s u h = h
+
+height-most : (r : Rounding) (s : ℕ) → s < 60 → heightOf r s ≤ 60
+unfolding heightOf
+height-most Nearest s h = by-test (ltb s 30)
+  where
+    by-test : (b : Bool) → cond b 0 60 ≤ 60
+    by-test true = omega arith
+    by-test false = omega arith
+height-most Up s h = omega arith
+height-most None s h = omega arith
+
+-- x stands h seconds above the start of t's minute
+abbrev Above : ℤ → ℤ → ℕ → Type 0
+Above t x h = P x + N (floorQuot t 60) * 60 ≡ N x + (P (floorQuot t 60) * 60 + h)
+
+rounded : (r : Rounding) (t : ℤ) → Above t (roundedOf r t) (heightOf r (secondOf t))
+unfolding roundedOf
+rounded r t =
+    let a = minute t in
+    let d = sum t (shiftOf r (secondOf t)) in
+    let h = height r (secondOf t) in
+    omega arith
+
+-- rounding keeps the order
+pub rounded-mono : (r : Rounding) (t u : ℤ) → t ≼ u → roundedOf r t ≼ roundedOf r u
+rounded-mono r t u h = by-test (ltb (secondOf u) (secondOf t)) refl
+  where
+    by-test : (b : Bool) → ltb (secondOf u) (secondOf t) ≡ b → roundedOf r t ≼ roundedOf r u
+    by-test true p =
+        let a = minute t in
+        let b = minute u in
+        let d = rounded r t in
+        let e = rounded r u in
+        let m = height-most r (secondOf t) (a .below) in
+        omega (arith, ltb-true (secondOf u) (secondOf t) p)
+    by-test false p =
+        let a = minute t in
+        let b = minute u in
+        let d = rounded r t in
+        let e = rounded r u in
+        let m = height-mono r (secondOf t) (secondOf u) (ltb-false (secondOf u) (secondOf t) p) in
+        omega arith
+
+-- a rounded time lies no more than a minute from the time
+pub rounded-high : (r : Rounding) (t : ℤ) → roundedOf r t ≼ t +ℤ pos 60
+rounded-high r t =
+    let a = minute t in
+    let d = rounded r t in
+    let s = sum t (pos 60) in
+    let m = height-most r (secondOf t) (a .below) in
+    omega arith
+
+pub rounded-low : (r : Rounding) (t : ℤ) → t ≼ roundedOf r t +ℤ pos 60
+rounded-low r t =
+    let a = minute t in
+    let d = rounded r t in
+    let s = sum (roundedOf r t) (pos 60) in
+    omega arith
+
+second-nearest : (t : ℤ) → secondOf (roundedOf Nearest t) ≡ 0
+unfolding heightOf
+second-nearest t = by-test (ltb (secondOf t) 30) (rounded Nearest t)
+  where
+    by-test : (b : Bool) → Above t (roundedOf Nearest t) (cond b 0 60) → secondOf (roundedOf Nearest t) ≡ 0
+    by-test true h = second-unique (roundedOf Nearest t) (floorQuot t 60) 0 (record { balance = omega arith; below = lit< tt })
+    by-test false h =
+        let s = sum (floorQuot t 60) (pos 1) in
+        second-unique (roundedOf Nearest t) (floorQuot t 60 +ℤ pos 1) 0 (record { balance = omega arith; below = lit< tt })
+
+-- Nearest and None, done again, change nothing
+stays : (t : ℤ) → secondOf t ≡ 0 → roundedOf Nearest t ≡ t
+unfolding roundedOf shiftOf
+stays t h = ap (λ (s : ℕ). t +ℤ shiftOf Nearest s) h ∙ +ℤ-idr t
+
+pub nearest-again : (t : ℤ) → roundedOf Nearest (roundedOf Nearest t) ≡ roundedOf Nearest t
+nearest-again t = stays (roundedOf Nearest t) (second-nearest t)
+
+pub none-stays : (t : ℤ) → roundedOf None t ≡ t
+unfolding roundedOf shiftOf
+none-stays t = +ℤ-idr t
+
+-- ---- how far they lie, and that nothing saturates within 2 ^ 62 seconds
+pub rounded-between : {a b : ℕ} {t : ℤ} (r : Rounding) → Between a b t → Between (a + 60) (b + 60) (roundedOf r t)
+rounded-between {a} {b} {t} r h = shifted-between 60 (roundedOf r t) h (rounded-high r t) (rounded-low r t)
+
+pub adjusted-between : {a b k : ℕ} {t m : ℤ} → Between a b t → Near k m → Between (a + k * 60) (b + k * 60) (adjustedOf t m)
+unfolding adjustedOf
+adjusted-between h l = sum-between h (product-between l 60)
+
+near-fits : {n : ℕ} {z : ℤ} → Near n z → n ≤ 2 ^ 62 → SFits w64 z
+near-fits h l = held-fits (record { is = refl; near = h }) l
+
+pub held-rounded : {n : ℕ} {z t : ℤ} (r : Rounding) → Held n z t → n + 60 ≤ 2 ^ 62 → Held (n + 60) (satOf (roundedOf r z)) (roundedOf r t)
+held-rounded {n} {z} {t} r h l =
+    let k = rounded-between r (h .near) in
+    record { is = ap (λ (x : ℤ). satOf (roundedOf r x)) (h .is) ∙ sat-in (roundedOf r t) (near-fits k l); near = k }
+
+pub held-adjusted : {m n : ℕ} {x y t k : ℤ} → Held m x t → Held n y k → m + n * 60 ≤ 2 ^ 62 → Held (m + n * 60) (satOf (adjustedOf x y)) (adjustedOf t k)
+held-adjusted {m} {n} {x} {y} {t} {k} h g l =
+    let b = adjusted-between (h .near) (g .near) in
+    record { is = ap (λ (z : ℤ). satOf (adjustedOf z y)) (h .is) ∙ ap (λ (z : ℤ). satOf (adjustedOf t z)) (g .is) ∙ sat-in (adjustedOf t k) (near-fits b l); near = b }

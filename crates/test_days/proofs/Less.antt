@@ -1,0 +1,14 @@
+-- What a list gives more than it is, taken off again: an i32 and an i64 hold it. Assumes nothing.
+use Prim.Native.Nat.{ℕ, _^_, _≤_, _<_}
+use native.Mathlib.Omega.{arith}
+use lib.IntN.{ℤ, pos, _-ℤ_}
+use mir.Syntax.{Width}
+use mir.Val.{SFits, toZ, hbits}
+use Rattle.integers.proofs.Sums.{difference}
+use Rattle.integers.proofs.Ranges.{fits, read}
+
+pub less-fits : (w : Width) (n k : ℕ) → n < 2 ^ hbits w → k ≤ 2 ^ hbits w → SFits w (toZ w n -ℤ pos k)
+less-fits w n k h l =
+    let s = difference (pos n) (pos k) in
+    let f : SFits w (pos n -ℤ pos k) = fits w (pos n -ℤ pos k) (omega (arith, s .0, s .1)) (omega (arith, s .0, s .1)) in
+    rw (read w (pos n) (record { sfits = h })) f

@@ -1,0 +1,71 @@
+//! What the port answers, by the exports of crates/probes.
+use crate::day_crate::Refusal;
+use crate::day_draw::{DayCase, Instant, Settings, NONE};
+use crate::draw::Case;
+use crate::in_force::InForce;
+use chrono::Datelike;
+use salah_given::given::Numbers;
+
+#[derive(Clone, Copy)]
+#[repr(C)]
+struct ProbeNumbers(Numbers);
+
+#[derive(Clone, Copy)]
+#[repr(C)]
+pub struct ProbeTimes(pub [i64; 9]);
+
+#[repr(C)]
+struct ProbeDay {
+    number: u32,
+    place: u32,
+    times: ProbeTimes,
+}
+
+#[repr(C)]
+struct ProbeRemaining {
+    found: bool,
+    hours: u32,
+    minutes: u32,
+}
+
+#[rustfmt::skip]
+#[link(name = "probes", kind = "static")]
+extern "C" {
+    fn probe_preset(method: u32) -> Settings;
+    fn probe_day(numbers: ProbeNumbers, year: u32, month: u32, day: u32, latitude: f64, settings: Settings) -> ProbeDay;
+    fn probe_row(year: u32, month: u32, day: u32, latitude: f64, longitude: f64, settings: Settings) -> ProbeDay;
+    fn probe_current(times: ProbeTimes, seconds: i64, nanoseconds: u32) -> u32;
+    fn probe_next(times: ProbeTimes, seconds: i64, nanoseconds: u32) -> u32;
+    fn probe_remaining(times: ProbeTimes, seconds: i64, nanoseconds: u32) -> ProbeRemaining;
+}
+
+/// A method's own parameters; own minutes are 0.
+pub fn preset(method: u32) -> Settings {
+    unsafe { probe_preset(method) }
+}
+
+pub fn day(c: &DayCase) -> Result<ProbeTimes, Refusal> {
+    let (year, month, day) = (c.date.year() as u32, c.date.month(), c.date.day());
+    answered(unsafe { probe_day(ProbeNumbers(c.numbers), year, month, day, c.latitude, c.settings) })
+}
+
+pub fn row(c: &Case, settings: &Settings) -> Result<ProbeTimes, Refusal> {
+    answered(unsafe { probe_row(c.year, c.month, c.day, c.latitude, c.longitude, *settings) })
+}
+
+fn answered(worked: ProbeDay) -> Result<ProbeTimes, Refusal> {
+    match worked.number {
+        0 => Ok(worked.times),
+        number => Err(Refusal { number, place: worked.place }),
+    }
+}
+
+pub fn in_force(times: ProbeTimes, at: Instant) -> InForce {
+    let prayer = |number: u32| if number == NONE { None } else { Some(number) };
+    let remaining = unsafe { probe_remaining(times, at.seconds, at.nanoseconds) };
+    InForce {
+        current: prayer(unsafe { probe_current(times, at.seconds, at.nanoseconds) }),
+        next: prayer(unsafe { probe_next(times, at.seconds, at.nanoseconds) }),
+        remaining: if remaining.found { Some((remaining.hours, remaining.minutes)) } else { None },
+    }
+}

@@ -1,0 +1,17 @@
+// The header from C++: its structs declared ahead, its constants, and every call linked under its C name.
+struct katchidul_day;
+static bool is_refused(const struct katchidul_day &day);
+
+#include "katchidul.h"
+
+static bool is_refused(const katchidul_day &day) { return day.number == KATCHIDUL_TAG_MISSING && day.place == 1; }
+
+int main() {
+  uint8_t line[KATCHIDUL_ROW_BYTES];
+  bool right = katchidul_read_order(nullptr, 0).number == KATCHIDUL_TAG_MISSING && is_refused(katchidul_work_day(nullptr, 0, 0)) &&
+               katchidul_prayer_at(nullptr, 0, 0, 0, 0).number == KATCHIDUL_TAG_MISSING &&
+               katchidul_next_at(nullptr, 0, 0, KATCHIDUL_SECONDS_MAX + 1, 0).number == KATCHIDUL_INSTANT_BEYOND &&
+               katchidul_remaining_at(nullptr, 0, 0, 0, 0).number == KATCHIDUL_TAG_MISSING &&
+               katchidul_write_row(nullptr, 0, 0, line, sizeof line).number == KATCHIDUL_TAG_MISSING;
+  return right && katchidul_environment_is_default() == 1 ? 0 : 1;
+}

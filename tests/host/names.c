@@ -1,0 +1,100 @@
+/* The header's constants, each held to what the library does. */
+#include <string.h>
+
+#include "host.h"
+
+/* A host may declare an answer's struct without the header. */
+struct katchidul_order;
+struct katchidul_day;
+struct katchidul_prayer;
+struct katchidul_remaining;
+struct katchidul_reply;
+
+static uint32_t refused(const order_bytes *order) { return katchidul_read_order(order->bytes, order->length).number; }
+
+static void check_limits(void) {
+  order_bytes order = {0}, full = full_order();
+  char town[KATCHIDUL_TOWN_MAX + 1] = {0};
+  uint8_t line[KATCHIDUL_ROW_BYTES];
+  while (order.length < KATCHIDUL_ORDER_MAX) put_byte(&order, 99);
+  check(refused(&order) == KATCHIDUL_FIELD_UNKNOWN, "KATCHIDUL_ORDER_MAX bytes are read");
+  put_byte(&order, 99);
+  check(refused(&order) == KATCHIDUL_FIELD_CUT, "one more than KATCHIDUL_ORDER_MAX is too many");
+  memset(town, 'a', KATCHIDUL_TOWN_MAX);
+  order = place_order(town, 2026, 1, 1, KATCHIDUL_ROWS_MAX, 0, 0, 0);
+  check(refused(&order) == 0, "KATCHIDUL_TOWN_MAX and KATCHIDUL_ROWS_MAX are allowed");
+  order = place_order("A", 2026, 1, 1, KATCHIDUL_ROWS_MAX + 1, 0, 0, 0);
+  check(refused(&order) == KATCHIDUL_OUT_OF_RANGE, "one more than KATCHIDUL_ROWS_MAX is out of range");
+  check(katchidul_write_row(full.bytes, full.length, 0, line, sizeof line).number == 0 && line[sizeof line - 1] == '\n',
+        "KATCHIDUL_ROW_BYTES hold a row");
+  check(katchidul_write_row(full.bytes, full.length, 0, line, sizeof line - 1).number == KATCHIDUL_BUFFER_SHORT,
+        "one less than KATCHIDUL_ROW_BYTES is too short");
+}
+
+static uint32_t refused_at(int64_t seconds, uint32_t nanoseconds) {
+  order_bytes good = good_order();
+  return katchidul_prayer_at(good.bytes, good.length, 0, seconds, nanoseconds).number;
+}
+
+static void check_instants_named(void) {
+  check(refused_at(KATCHIDUL_SECONDS_MAX, KATCHIDUL_NANOSECONDS_MAX) == 0, "KATCHIDUL_SECONDS_MAX, KATCHIDUL_NANOSECONDS_MAX");
+  check(refused_at(-KATCHIDUL_SECONDS_MAX, 0) == 0, "KATCHIDUL_SECONDS_MAX before 1970");
+  check(refused_at(KATCHIDUL_SECONDS_MAX + 1, 0) == KATCHIDUL_INSTANT_BEYOND, "a second over KATCHIDUL_SECONDS_MAX");
+  check(refused_at(0, KATCHIDUL_NANOSECONDS_MAX + 1u) == KATCHIDUL_INSTANT_BEYOND, "a nanosecond over KATCHIDUL_NANOSECONDS_MAX");
+}
+
+static void check_numbers(void) {
+  order_bytes good = good_order(), again = good, empty = {0}, pole = place_order("Pole", 2026, 6, 21, 1, 90, 0, 0);
+  order_bytes sea = place_order("Sea", 2026, 6, 21, 1, 40, -66.7, 0), line = place_order("Line", 2026, 4, 16, 1, 0, 180, 0);
+  put_town(&again, "A");
+  check(refused(&again) == KATCHIDUL_FIELD_AGAIN && refused(&empty) == KATCHIDUL_TAG_MISSING, "3 and 4 by name");
+  check(katchidul_work_day(line.bytes, line.length, 0).number == KATCHIDUL_NO_TRANSIT, "6 by name");
+  check(katchidul_work_day(pole.bytes, pole.length, 0).number == KATCHIDUL_NO_SUNRISE, "7 by name");
+  check(katchidul_work_day(sea.bytes, sea.length, 0).number == KATCHIDUL_NO_SUNSET, "8 by name");
+  check(katchidul_next_at(good.bytes, good.length, 0, 0, 0).number == KATCHIDUL_NONE_IN_FORCE, "11 by name");
+  check(katchidul_prayer_at(good.bytes, good.length, 0, 0, 0).prayer == KATCHIDUL_PRAYER_NONE, "no prayer by name");
+}
+
+/* At its time each prayer is in force, on a day whose times rise. */
+static void check_times_named(void) {
+  static const struct { int time; uint32_t prayer; } named[] = {
+      {KATCHIDUL_TIME_FAJR, KATCHIDUL_PRAYER_FAJR},       {KATCHIDUL_TIME_SUNRISE, KATCHIDUL_PRAYER_SUNRISE},
+      {KATCHIDUL_TIME_DHUHR, KATCHIDUL_PRAYER_DHUHR},     {KATCHIDUL_TIME_ASR, KATCHIDUL_PRAYER_ASR},
+      {KATCHIDUL_TIME_MAGHRIB, KATCHIDUL_PRAYER_MAGHRIB}, {KATCHIDUL_TIME_ISHA, KATCHIDUL_PRAYER_ISHA},
+      {KATCHIDUL_TIME_QIYAM, KATCHIDUL_PRAYER_QIYAM},     {KATCHIDUL_TIME_TOMORROW, KATCHIDUL_PRAYER_FAJR_TOMORROW}};
+  order_bytes good = good_order();
+  katchidul_day day = katchidul_work_day(good.bytes, good.length, 0);
+  for (size_t i = 0; i < sizeof named / sizeof *named; i++) {
+    katchidul_prayer at = katchidul_prayer_at(good.bytes, good.length, 0, day.times[named[i].time], 0);
+    check(at.number == 0 && at.prayer == named[i].prayer, "a time's index and its prayer's number");
+  }
+  check(day.times[KATCHIDUL_TIME_MIDDLE] > day.times[KATCHIDUL_TIME_ISHA] && day.times[KATCHIDUL_TIME_MIDDLE] < day.times[KATCHIDUL_TIME_QIYAM],
+        "the middle of the night by its index");
+}
+
+/* A minute more for one prayer moves its time by a minute. */
+static void check_minutes_named(void) {
+  static const int named[KATCHIDUL_MINUTES_COUNT][2] = {
+      {KATCHIDUL_MINUTES_FAJR, KATCHIDUL_TIME_FAJR},       {KATCHIDUL_MINUTES_SUNRISE, KATCHIDUL_TIME_SUNRISE},
+      {KATCHIDUL_MINUTES_DHUHR, KATCHIDUL_TIME_DHUHR},     {KATCHIDUL_MINUTES_ASR, KATCHIDUL_TIME_ASR},
+      {KATCHIDUL_MINUTES_MAGHRIB, KATCHIDUL_TIME_MAGHRIB}, {KATCHIDUL_MINUTES_ISHA, KATCHIDUL_TIME_ISHA}};
+  order_bytes good = good_order();
+  katchidul_day day = katchidul_work_day(good.bytes, good.length, 0);
+  for (size_t i = 0; i < KATCHIDUL_MINUTES_COUNT; i++) {
+    int16_t minutes[6] = {0};
+    order_bytes order = good;
+    minutes[named[i][0]] = 1;
+    put_minutes(&order, minutes);
+    katchidul_day later = katchidul_work_day(order.bytes, order.length, 0);
+    check(katchidul_read_order(order.bytes, order.length).minutes[named[i][0]] == 1, "own minutes by their index");
+    check(later.times[named[i][1]] == day.times[named[i][1]] + 60, "own minutes move the time of their name");
+  }
+}
+
+void check_names(void) {
+  check_limits();
+  check_instants_named();
+  check_numbers();
+  check_times_named();
+  check_minutes_named();
+}
