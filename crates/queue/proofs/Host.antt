@@ -11,10 +11,10 @@ use lib.Seq.{split-at, length-take-le}
 use borrow.Author.Tests.{ne-eqb}
 use Rattle.queue.specs.declared.Joined.{Joined}
 use Rattle.queue.specs.declared.Turned.{Turned}
-use Rattle.queue.specs.Jobs.{Job, job, less, Event, admitted, refused, sent, Step, joinOf, turnOf}
+use Rattle.queue.specs.Jobs.{Job, job, less, admitted, refused, sent, Step, joinOf, turnOf}
 use Rattle.queue.specs.History.{Call, join, turn, stepOf, after, events, turns, everyId, pagesLeft, Sound}
 use Rattle.queue.specs.Arrays.{padded, idOf, pagesOf, queueOf, sentIn, joinedBy, joinedOf, turnedBy, turnedOf}
-use Rattle.queue.specs.Host.{empty, heldAfterOne, heldAfterAll, told, toldAll, total}
+use Rattle.queue.specs.Host.{heldAfterOne, heldAfterAll, told, toldAll, total}
 use Rattle.queue.specs.Promises.{HostsHoldTheQueue, HostsKeepPages, HostsTurnFairly}
 use Rattle.queue.proofs.Steps.{join-cases}
 use Rattle.queue.proofs.Invariant.{step-sound, sound-from, empty-sound, queues-are-sound}

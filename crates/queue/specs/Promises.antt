@@ -6,7 +6,7 @@ use Prim.Native.Nat.{ℕ, _+_, _-_, _<_}
 use lib.Dec.{ltb}
 use lib.ListN.{length, getD}
 use Rattle.queue.specs.Jobs.{Job, job, admitted, sent, less, waits, joinOf, turnOf}
-use Rattle.queue.specs.History.{Call, join, turn, after, events, turns, Ids, everyId, onlyId, pagesAdmitted, pagesSent, pagesLeft, WaitsThrough, Sound}
+use Rattle.queue.specs.History.{Call, after, events, turns, Ids, everyId, onlyId, pagesAdmitted, pagesSent, pagesLeft, WaitsThrough, Sound}
 use Rattle.queue.specs.Arrays.{queueOf, turnedOf}
 use Rattle.queue.specs.Host.{empty, heldAfterAll, toldAll, total}
 

@@ -1,11 +1,9 @@
-use mathlib.Core.Path.{_≡_, sym, ap, _∙_}
-use Prim.Native.Nat.{ℕ, _<_}
+use mathlib.Core.Path.{sym, ap, _∙_}
+use Prim.Native.Nat.{ℕ}
 use native.Mathlib.Omega.{arith}
 use Rattle.refusals.specs.declared.Refusal.{Refusal}
 use Rattle.queue.proofs.Abstraction.{Whole}
 use Rattle.queue.proofs.Answers.{room, join-admitted, join-refused}
-use Rattle.queue.specs.Jobs.{joinOf}
-use Rattle.queue.specs.Arrays.{jobsOf, refusalIn}
 use borrow.Author.Needs.{needs}
 use Rattle.queue.proofs.join.Statement.{statement}
 use Rattle.queue.proofs.join.Tie as tie
