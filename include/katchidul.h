@@ -2,7 +2,7 @@
    x86-64 Linux. docs/ORDERS.md says how the bytes of an order are written.
 
    Each answer is a struct by value. `number` is 0 where the call succeeds; else it is the refusal's, `place` says where, and every
-   other field is 0. Any bytes are answered, and every call returns.
+   other field is 0 (a print queue is handed back as it was). Any bytes are answered, and every call returns.
 
    number  name                      when                                                        place
    0                                 nothing is refused                                          0
@@ -20,9 +20,12 @@
    10      KATCHIDUL_INSTANT_BEYOND  an instant's seconds are beyond 10^12 either way, or its
                                      nanoseconds over 999,999,999                                0
    11      KATCHIDUL_NONE_IN_FORCE   next or remaining is asked while no prayer is in force      0
+   16      KATCHIDUL_QUEUE_FULL      16 jobs wait in the print queue                             the id of the job
+   17      KATCHIDUL_JOB_UNFIT       a job's id is 0, over 65,535 or still waiting, or its pages
+                                     are not 1 to 16                                             the id of the job
 
    A buffer (9) and an instant (10) are checked before anything else in their calls; then the order (1 to 5), the row (5, place 3), the
-   day (6 to 8), and 11.
+   day (6 to 8), and 11. Of a job 17 is tried before 16.
 
    What a call does with the host's memory. It changes no byte of the order, keeps nothing of what it is lent, allocates nothing and has no
    state: calls may run on several threads at once, also on the same order, as long as nobody writes to the bytes lent meanwhile. A null
@@ -44,7 +47,7 @@ extern "C" {
 #endif
 
 /* Of this header: one more with every change of a call, a struct or a number. Take header and library from the same build. */
-#define KATCHIDUL_VERSION 1
+#define KATCHIDUL_VERSION 2
 
 #define KATCHIDUL_ORDER_MAX 1024 /* bytes of an order */
 #define KATCHIDUL_TOWN_MAX 40    /* bytes of a town's name */
@@ -54,6 +57,9 @@ extern "C" {
 #define KATCHIDUL_MINUTES_COUNT 6
 #define KATCHIDUL_SECONDS_MAX INT64_C(1000000000000) /* of an instant, either way */
 #define KATCHIDUL_NANOSECONDS_MAX 999999999
+#define KATCHIDUL_JOBS_MAX 16    /* jobs of a print queue */
+#define KATCHIDUL_ID_MAX 65535   /* of a job */
+#define KATCHIDUL_PAGES_MAX 16   /* pages of a job */
 
 /* What `number` says. */
 enum katchidul_refusal {
@@ -67,7 +73,9 @@ enum katchidul_refusal {
   KATCHIDUL_NO_SUNSET = 8,
   KATCHIDUL_BUFFER_SHORT = 9,
   KATCHIDUL_INSTANT_BEYOND = 10,
-  KATCHIDUL_NONE_IN_FORCE = 11
+  KATCHIDUL_NONE_IN_FORCE = 11,
+  KATCHIDUL_QUEUE_FULL = 16,
+  KATCHIDUL_JOB_UNFIT = 17
 };
 
 /* What `prayer` says. */
@@ -198,6 +206,41 @@ katchidul_remaining katchidul_remaining_at(const uint8_t *order, size_t length, 
    row has 119 bytes with its newline and no zero byte after it; the buffer's bytes after them stay. Where the call is refused no byte
    of the buffer changes. The buffer and the order must not overlap. Refusals 1 to 9. */
 katchidul_reply katchidul_write_row(const uint8_t *order, size_t length, uint32_t row, uint8_t *buffer, size_t size);
+
+/* The print queue. Jobs wait for the embosser, each with an id and its pages left, and each turn sends one page of the job at the front,
+   so that a long job does not hold up the rest. The host keeps the queue, hands it over by value and goes on with the one that it gets
+   back; the library has none. An empty queue is all zeros: katchidul_queue queue = {0}.
+
+   From an empty queue on, whatever calls follow, each on the queue that the last one gave: a job with k jobs ahead of it has its page
+   sent at turn k + 1 counted from then, whoever joins meanwhile; it leaves when all its pages are sent; and pages sent plus pages left
+   are the pages admitted. There are never more than 16 jobs, no id twice, and each has 1 to 16 pages left. */
+typedef struct katchidul_queue {
+  uint32_t jobs;                      /* how many wait */
+  uint32_t ids[KATCHIDUL_JOBS_MAX];   /* the front first; what lies behind the jobs is 0 */
+  uint32_t pages[KATCHIDUL_JOBS_MAX]; /* the pages left of each */
+} katchidul_queue;
+
+/* A refused job leaves the queue as it was. */
+typedef struct katchidul_joined {
+  uint32_t number, place;
+  katchidul_queue queue;
+} katchidul_joined;
+
+/* The job whose page is to be sent, and its pages left after that one; 0 and 0 where no job waits, and the queue is as it was. */
+typedef struct katchidul_turned {
+  uint32_t id, pages;
+  katchidul_queue queue;
+} katchidul_turned;
+
+/* Puts a job at the back: an id from 1 to KATCHIDUL_ID_MAX that no waiting job has, and 1 to KATCHIDUL_PAGES_MAX pages. An id is free again
+   when its job has left. Refusals 16 and 17. */
+katchidul_joined katchidul_join(katchidul_queue queue, uint32_t id, uint32_t pages);
+
+/* Takes a page from the job at the front, which goes to the back if it has pages left and leaves otherwise. Nothing is refused.
+
+   A queue that no calls give is answered too: of more than 16 jobs the first 16 count, a job with 0 pages left sends one and leaves, and
+   one with id 0 answers that id, as if no job waited; `queue` has changed. */
+katchidul_turned katchidul_turn(katchidul_queue queue);
 
 /* Whether the calling thread's floating-point environment is the one that the answers are proved for: 1 or 0. It reads the processor's
    MXCSR: no subnormal number taken or made zero, rounding to nearest, every exception masked. The six lowest bits say what happened and

@@ -103,5 +103,6 @@ void check_threads(void);
 void check_stack(void);
 void check_stored(const char *path);
 void check_damaged(uint32_t orders);
+void check_queue(uint32_t calls);
 
 #endif

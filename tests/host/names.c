@@ -9,6 +9,9 @@ struct katchidul_day;
 struct katchidul_prayer;
 struct katchidul_remaining;
 struct katchidul_reply;
+struct katchidul_queue;
+struct katchidul_joined;
+struct katchidul_turned;
 
 static uint32_t refused(const order_bytes *order) { return katchidul_read_order(order->bytes, order->length).number; }
 
@@ -91,7 +94,19 @@ static void check_minutes_named(void) {
   }
 }
 
+/* The ends of a job's ranges, and of the queue's. */
+static void check_jobs_named(void) {
+  katchidul_queue queue = {0};
+  check(katchidul_join(queue, KATCHIDUL_ID_MAX, KATCHIDUL_PAGES_MAX).number == 0, "KATCHIDUL_ID_MAX, KATCHIDUL_PAGES_MAX");
+  check(katchidul_join(queue, KATCHIDUL_ID_MAX + 1, 1).number == KATCHIDUL_JOB_UNFIT, "one more than KATCHIDUL_ID_MAX");
+  check(katchidul_join(queue, 1, KATCHIDUL_PAGES_MAX + 1).number == KATCHIDUL_JOB_UNFIT, "one more than KATCHIDUL_PAGES_MAX");
+  for (uint32_t id = 1; id <= KATCHIDUL_JOBS_MAX; id++) queue = katchidul_join(queue, id, 1).queue;
+  check(queue.jobs == KATCHIDUL_JOBS_MAX, "KATCHIDUL_JOBS_MAX jobs wait");
+  check(katchidul_join(queue, KATCHIDUL_ID_MAX, 1).number == KATCHIDUL_QUEUE_FULL, "one more than KATCHIDUL_JOBS_MAX");
+}
+
 void check_names(void) {
+  check_jobs_named();
   check_limits();
   check_instants_named();
   check_numbers();

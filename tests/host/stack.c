@@ -9,9 +9,10 @@
 #define OWN_FRAME 512 /* more than the painting function's own part */
 #define PAINT 0xA5
 #define STACK_MOST 4096 /* the header's promise */
-#define CALLS 6
+#define CALLS 8
 
 static volatile uint8_t *caller;
+static const katchidul_queue queues[2] = {{0}, {15, {20, 21, 22, 23, 24, 25, 26, 27, 28, 29, 30, 31, 32, 33, 34}, {2}}};
 
 /* One call by its place in the header, counted from this function's frame on. */
 __attribute__((noinline)) static void call(int which, const order_bytes *order, uint32_t row, int64_t seconds, uint8_t *line) {
@@ -24,7 +25,9 @@ __attribute__((noinline)) static void call(int which, const order_bytes *order, 
     case 2: katchidul_prayer_at(bytes, length, row, seconds, 0); break;
     case 3: katchidul_next_at(bytes, length, row, seconds, 0); break;
     case 4: katchidul_remaining_at(bytes, length, row, seconds, 0); break;
-    default: katchidul_write_row(bytes, length, row, line, ROW_LENGTH);
+    case 5: katchidul_write_row(bytes, length, row, line, ROW_LENGTH); break;
+    case 6: katchidul_join(queues[row % 2], row, 1 + row % 2); break;
+    default: katchidul_turn(queues[row % 2]);
   }
 }
 

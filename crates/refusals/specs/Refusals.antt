@@ -1,4 +1,4 @@
--- Document 01's table of refusals: a number and a place. The numbers under the names that the code gives them.
+-- Document 01's table of refusals, and the numbers that document 02 adds: a number and a place. The numbers under the names that the code gives them.
 use Prim.Native.Nat.{ℕ}
 use Rattle.refusals.specs.declared.Refusal.{Refusal}
 
@@ -50,3 +50,11 @@ instantBeyond = 10
 -- "next or remaining asked while no prayer is in force"; 0
 abbrev pub noneInForce : ℕ
 noneInForce = 11
+
+-- request 10: "by 16 when 16 jobs wait"; the id
+abbrev pub queueFull : ℕ
+queueFull = 16
+
+-- request 10: "by 17 for id 0, an id still waiting or pages outside 1 to 16"; the id
+abbrev pub jobUnfit : ℕ
+jobUnfit = 17

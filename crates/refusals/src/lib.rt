@@ -33,6 +33,12 @@ pub const INSTANT_BEYOND: u32 = 10;
 // Next or remaining is asked while no prayer is in force: 0.
 pub const NONE_IN_FORCE: u32 = 11;
 
+// 16 jobs wait in the print queue: the id of the job that would join.
+pub const QUEUE_FULL: u32 = 16;
+
+// A job with id 0, an id over 65,535 or one that still waits, or with pages outside 1 to 16: its id.
+pub const JOB_UNFIT: u32 = 17;
+
 pub struct Refusal {
     pub number: u32,
     pub place: u32,

@@ -1,0 +1,94 @@
+-- Each answer of the code is the definition's, in the case that its tests show. Assumes nothing.
+use mathlib.Core.Path.{_≡_, refl, sym, _∙_}
+use mathlib.Core.Bool.{true, false}
+use mathlib.Core.List.{List, _∷_}
+use Prim.Native.Nat.{ℕ, _-_, _≤_, _<_}
+use native.Mathlib.Omega.{arith}
+use lib.ListN.{length, getD}
+use lib.Seq.{slice}
+use borrow.Author.Tests.{lt-ltb, le-ltb}
+use Rattle.queue.specs.declared.Queue.{Queue}
+use Rattle.queue.specs.declared.Joined.{Joined}
+use Rattle.queue.specs.declared.Turned.{Turned}
+use Rattle.queue.specs.Jobs.{Job, job, Step, most, proper, admits, joinOf, turnOf}
+use Rattle.queue.specs.Arrays.{counted, jobsIn, jobsOf, queueOf, refusalIn, heldAfter, joinedOf, turnedOf}
+use Rattle.queue.specs.Parts.{among, withLast}
+use Rattle.refusals.specs.Refusals.{refusal, noRefusal, queueFull, jobUnfit}
+use Rattle.queue.proofs.Steps.{join-cases}
+use Rattle.queue.proofs.Abstraction.{Whole, counted-most, jobs-length, jobs-waits, jobs-first, last-jobs}
+
+-- ---- joins of a list of jobs
+admitted-when : (l : List Job) (id pages : ℕ) → refusalIn (joinOf l id pages .event) .number ≡ 0 → (length l < most) × (joinOf l id pages ≡ admits l id pages)
+admitted-when l id pages =
+    join-cases (λ (s : Step). refusalIn (s .event) .number ≡ 0 → (length l < most) × (s ≡ admits l id pages)) l id pages (λ n o h. absurd (omega arith)) (λ r v k h. (k, refl))
+
+kept-when : (q : Queue) (l : List Job) (id pages : ℕ) → (refusalIn (joinOf l id pages .event) .number ≡ 0 → ⊥) → heldAfter q (joinOf l id pages .event) (joinOf l id pages .queue) ≡ q
+kept-when q l id pages =
+    join-cases (λ (s : Step). (refusalIn (s .event) .number ≡ 0 → ⊥) → heldAfter q (s .event) (s .queue) ≡ q) l id pages (λ n o h. refl) (λ r v k h. absurd (h refl))
+
+pub join-refused : (q : Queue) (id pages : ℕ) → (refusalIn (joinOf (jobsOf q) id pages .event) .number ≡ 0 → ⊥)
+    → _≡_ {A = Joined} (record { refusal = refusalIn (joinOf (jobsOf q) id pages .event); queue = q }) (joinedOf q id pages)
+unfolding joinedOf
+join-refused q id pages h = rw (kept-when q (jobsOf q) id pages h)
+
+pub join-admitted : (q : Queue) (n : ℕ) → n ≡ counted (q .jobs) → (id pages : ℕ) → refusalIn (joinOf (jobsOf q) id pages .event) .number ≡ 0
+    → _≡_ {A = Joined}
+    (record { refusal = refusalIn (joinOf (jobsOf q) id pages .event); queue = withLast (queueOf (jobsIn q 0 n)) id pages })
+    (joinedOf q id pages)
+unfolding joinedOf
+join-admitted q n e id pages free =
+    let a = admitted-when (jobsOf q) id pages free in
+    rw (e, last-jobs (jobsOf q) id pages (a .0), a .1)
+
+-- ---- n is how many jobs count
+module _ (q : Queue) (w : Whole q) (n : ℕ) (e : n ≡ counted (q .jobs)) where
+  small : n ≤ 16
+  small = rw e (counted-most (q .jobs))
+
+  jobs-count : length (jobsIn q 0 n) ≡ n
+  jobs-count = jobs-length q w 0 n small ∙ omega arith
+
+  -- ---- the refusal of an id and pages in range
+  module _ (id pages : ℕ) (p : proper id pages ≡ true) where
+    pub judged-waiting : among id (slice 0 n (q .ids)) ≡ true → refusal jobUnfit id ≡ refusalIn (joinOf (jobsOf q) id pages .event)
+    unfolding joinOf
+    judged-waiting a = rw (sym e, p, jobs-waits q w 0 n small id, a)
+
+    pub judged-full : among id (slice 0 n (q .ids)) ≡ false → 16 ≤ n → refusal queueFull id ≡ refusalIn (joinOf (jobsOf q) id pages .event)
+    unfolding joinOf
+    judged-full a h = rw (sym e, p, jobs-waits q w 0 n small id, a, jobs-count, le-ltb _ _ h)
+
+    pub judged-free : among id (slice 0 n (q .ids)) ≡ false → n < 16 → noRefusal ≡ refusalIn (joinOf (jobsOf q) id pages .event)
+    unfolding joinOf
+    judged-free a h = rw (sym e, p, jobs-waits q w 0 n small id, a, jobs-count, lt-ltb _ _ h)
+
+  -- a job that is not refused has room
+  pub room : (id pages : ℕ) → refusalIn (joinOf (jobsOf q) id pages .event) .number ≡ 0 → n < 16
+  room id pages free =
+      let k : length (jobsIn q 0 n) < 16 = rw e (admitted-when (jobsOf q) id pages free .0) in
+      omega (arith, jobs-count)
+
+  -- ---- turn
+  pub turn-empty : n ≡ 0 → _≡_ {A = Turned} (record { id = 0; pages = 0; queue = q }) (turnedOf q)
+  unfolding turnedOf turnOf
+  turn-empty z = rw (sym e, z)
+
+  module _ (one : 0 < n) where
+    first : jobsOf q ≡ job (getD (q .ids) 0 0) (getD (q .pages) 0 0) ∷ jobsIn q 1 n
+    first = rw (sym e) (jobs-first q w 0 n small one)
+
+    pub turn-leaves : getD (q .pages) 0 0 ≤ 1 → _≡_ {A = Turned} (record { id = getD (q .ids) 0 0; pages = 0; queue = queueOf (jobsIn q 1 n) }) (turnedOf q)
+    unfolding turnedOf turnOf
+    turn-leaves h =
+        let z : getD (q .pages) 0 0 - 1 ≡ 0 = omega arith in
+        rw (first, z)
+
+    pub turn-back : 1 < getD (q .pages) 0 0
+        → _≡_ {A = Turned}
+        (record { id = getD (q .ids) 0 0; pages = getD (q .pages) 0 0 - 1; queue = withLast (queueOf (jobsIn q 1 n)) (getD (q .ids) 0 0) (getD (q .pages) 0 0 - 1) })
+        (turnedOf q)
+    unfolding turnedOf turnOf
+    turn-back h =
+        let l = jobs-length q w 1 n small in
+        let k = small in
+        rw (first, lt-ltb 0 (getD (q .pages) 0 0 - 1) (omega arith), last-jobs (jobsIn q 1 n) (getD (q .ids) 0 0) (getD (q .pages) 0 0 - 1) (omega arith))

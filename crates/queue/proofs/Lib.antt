@@ -1,0 +1,9 @@
+pub mod Steps
+pub mod Invariant
+pub mod Pages
+pub mod Fairness
+pub mod Stay
+pub mod Lists
+pub mod Abstraction
+pub mod Answers
+pub mod Host

@@ -1,0 +1,47 @@
+-- `pages-are-kept`, by a law of one step. Assumes nothing.
+use mathlib.Core.Path.{_≡_, refl, sym, ap, _∙_}
+use mathlib.Core.Bool.{Bool, true, false}
+use mathlib.Core.List.{List, [], _∷_}
+use Prim.Native.Nat.{ℕ, _+_, _-_, _≤_}
+use native.Mathlib.Omega.{arith}
+use Rattle.queue.specs.Jobs.{Job, job, less, Step, atBack, turnOf}
+use Rattle.queue.specs.History.{Call, join, turn, stepOf, after, events, Ids, when, admittedBy, sentBy, pagesAdmitted, pagesSent, pagesLeft, Sound}
+use Rattle.queue.specs.Promises.{PagesAreKept}
+use Rattle.queue.proofs.Steps.{join-cases, turn-cases}
+use Rattle.queue.proofs.Invariant.{step-sound, empty-sound}
+
+when-more : (t : Bool) (m n : ℕ) → when t (m + n) ≡ when t m + when t n
+when-more true m n = refl
+when-more false m n = refl
+
+-- the page that a turn takes off
+one-less : (t : Bool) (n : ℕ) → 1 ≤ n → when t 1 + when t (n - 1) ≡ when t n
+one-less t n h = let e : 1 + (n - 1) ≡ n = omega arith in sym (when-more t 1 (n - 1)) ∙ ap (when t) e
+
+pub left-more : (of : Ids) (q : List Job) (j : Job) → pagesLeft of (atBack q j) ≡ pagesLeft of q + when (of (j .id)) (j .pages)
+left-more of [] j = omega arith
+left-more of (x ∷ q) j = let e = left-more of q j in omega arith
+
+-- what a step sends and leaves is what was left and what it admits
+abbrev Kept : Ids → List Job → Step → Type 0
+Kept of q s = sentBy of (s .event) + pagesLeft of (s .queue) ≡ pagesLeft of q + admittedBy of (s .event)
+
+step-kept : (of : Ids) (q : List Job) (c : Call) → Sound q → Kept of q (stepOf q c)
+unfolding turnOf
+step-kept of q (join id pages) s = join-cases (Kept of q) q id pages (λ n o. omega arith) (λ r w l. omega (arith, left-more of q (job id pages)))
+step-kept of [] turn s = refl
+step-kept of (j ∷ q) turn s =
+    let e = one-less (of (j .id)) (j .pages) (s .proper .2) in
+    turn-cases (Kept of (j ∷ q)) j q
+    (λ l. let one : 1 ≡ j .pages = omega (arith, s .proper .2) in omega (arith, ap (when (of (j .id))) one))
+    (λ l. omega (arith, left-more of q (less j)))
+
+pub kept-from : (of : Ids) (q : List Job) (h : List Call) → Sound q → pagesSent of (events q h) + pagesLeft of (after q h) ≡ pagesLeft of q + pagesAdmitted of (events q h)
+kept-from of q [] s = omega arith
+kept-from of q (c ∷ h) s =
+    let e = step-kept of q c s in
+    let f = kept-from of (stepOf q c .queue) h (step-sound q c s) in
+    omega arith
+
+pub pages-are-kept : PagesAreKept
+pages-are-kept of h = let e = kept-from of [] h empty-sound in omega arith

@@ -1,0 +1,47 @@
+use borrow.Author.Needs.{needs}
+use mathlib.Core.Path.{_≡_, sym, _∙_}
+use Prim.Native.Nat.{_≤_, _-_}
+use native.Mathlib.Omega.{arith}
+use lib.ListN.{length}
+use lib.Seq.{slice, slice-empty}
+use borrow.Author.Tests.{eq-eqb, ne-eqb}
+use Rattle.queue.proofs.Lists.{among-first}
+use Rattle.queue.specs.Parts.{among}
+use Rattle.queue.proofs.is_among.Statement.{statement}
+use Rattle.queue.proofs.is_among.Tie as tie
+
+abbrev Inv-loop : tie.InvT-loop
+Inv-loop n id ids i₀ i = (i ≤ n) × (among id (slice 0 n ids) ≡ among id (slice i n ids))
+
+abbrev μ-loop : tie.MeasureT-loop
+μ-loop n id ids i₀ i = n - i
+
+returns : tie.Need-returns Inv-loop μ-loop
+returns c =
+    let start = c .before .before .before in
+    let i = c .before .before .loop .i in
+    let a = start .args .t1 in
+    let e : length a ≡ 16 = search needs in
+    let f = among-first (start .args .id) a i (start .args .n) e (c .before .loop-test .taken) (start .pre) in
+    sym (c .before .before .loop .inv .1 ∙ rw (f, eq-eqb _ _ (c .if1 .taken)))
+
+loop-again : tie.Need-loop-again Inv-loop μ-loop
+loop-again c =
+    let start = c .before .before .before in
+    let i = c .before .before .loop .i in
+    let a = start .args .t1 in
+    let e : length a ≡ 16 = search needs in
+    let f = among-first (start .args .id) a i (start .args .n) e (c .before .loop-test .taken) (start .pre) in
+    (omega arith, c .before .before .loop .inv .1 ∙ f ∙ rw (ne-eqb _ _ (c .if1 .left)))
+
+returns-2 : tie.Need-returns-2 Inv-loop μ-loop
+returns-2 c =
+    let start = c .before .before in
+    let i = c .before .loop .i in
+    let e : i ≡ start .args .n = omega arith in
+    sym (c .before .loop .inv .1 ∙ rw (e, slice-empty))
+
+pub is-among-spec : {M : Type 1} → statement M
+is-among-spec =
+    tie.close
+    (tie.spec Inv-loop μ-loop (λ c. search needs) (λ c. search needs) (λ c. search needs) returns (λ c. search needs) (λ c. search needs) loop-again returns-2)

@@ -1,0 +1,77 @@
+-- The queue as a host keeps it, a list of jobs in two arrays, and what the two calls answer. Any numbers in it are answered.
+use mathlib.Core.Bool.{cond}
+use mathlib.Core.List.{List, [], _∷_, _++_, map}
+use Prim.Native.Nat.{ℕ, _-_}
+use lib.Dec.{ltb}
+use lib.ListN.{length, replicate}
+use lib.Seq.{slice}
+use Rattle.refusals.specs.Refusals.{noRefusal}
+use Rattle.refusals.specs.declared.Refusal.{Refusal}
+use Rattle.queue.specs.declared.Queue.{Queue}
+use Rattle.queue.specs.declared.Joined.{Joined}
+use Rattle.queue.specs.declared.Turned.{Turned}
+use Rattle.queue.specs.Jobs.{Job, job, Event, admitted, refused, sent, nothing, Step, most, joinOf, turnOf}
+
+-- ---- from the arrays to the list
+-- of more than 16 jobs, as no calls leave them, the first 16 count
+abbrev pub counted : ℕ → ℕ
+counted jobs = cond (ltb jobs most) jobs most
+
+abbrev pub paired : List ℕ → List ℕ → List Job
+paired [] pages = []
+paired (i ∷ ids) [] = []
+paired (i ∷ ids) (p ∷ pages) = job i p ∷ paired ids pages
+
+-- the jobs from one place to another
+abbrev pub jobsIn : Queue → ℕ → ℕ → List Job
+jobsIn q from to = paired (slice from to (q .ids)) (slice from to (q .pages))
+
+abbrev pub jobsOf : Queue → List Job
+jobsOf q = jobsIn q 0 (counted (q .jobs))
+
+-- ---- from the list to the arrays
+-- zeros stand behind
+abbrev pub padded : List ℕ → List ℕ
+padded l = l ++ replicate (most - length l) 0
+
+abbrev pub idOf : Job → ℕ
+idOf j = j .id
+
+abbrev pub pagesOf : Job → ℕ
+pagesOf j = j .pages
+
+abbrev pub queueOf : List Job → Queue
+queueOf l = record { jobs = length l; ids = padded (map idOf l); pages = padded (map pagesOf l) }
+
+-- ---- what a step answers
+abbrev pub refusalIn : Event → Refusal
+refusalIn (admitted j) = noRefusal
+refusalIn (refused r) = r
+refusalIn (sent j) = noRefusal
+refusalIn nothing = noRefusal
+
+-- id 0 and 0 pages where nothing is sent
+abbrev pub sentIn : Event → Job
+sentIn (admitted j) = job 0 0
+sentIn (refused r) = job 0 0
+sentIn (sent j) = j
+sentIn nothing = job 0 0
+
+-- a refused job, and a turn with no job, hand the queue back as it was, every number of it
+abbrev pub heldAfter : Queue → Event → List Job → Queue
+heldAfter q (admitted j) l = queueOf l
+heldAfter q (refused r) l = q
+heldAfter q (sent j) l = queueOf l
+heldAfter q nothing l = q
+
+abbrev pub joinedBy : Queue → Step → Joined
+joinedBy q s = record { refusal = refusalIn (s .event); queue = heldAfter q (s .event) (s .queue) }
+
+abbrev pub turnedBy : Queue → Step → Turned
+turnedBy q s = record { id = sentIn (s .event) .id; pages = sentIn (s .event) .pages; queue = heldAfter q (s .event) (s .queue) }
+
+unfoldable pub joinedOf : Queue → ℕ → ℕ → Joined
+joinedOf q id pages = joinedBy q (joinOf (jobsOf q) id pages)
+
+unfoldable pub turnedOf : Queue → Turned
+turnedOf q = turnedBy q (turnOf (jobsOf q))

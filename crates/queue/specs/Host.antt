@@ -1,0 +1,35 @@
+-- Histories of a host's calls: each on the arrays that the last one left, and what the answers tell it.
+use mathlib.Core.Bool.{cond}
+use mathlib.Core.List.{List, [], _∷_}
+use Prim.Native.Nat.{ℕ, _+_}
+use lib.Dec.{eqb}
+use Rattle.queue.specs.declared.Queue.{Queue}
+use Rattle.queue.specs.Jobs.{job, Event, admitted, refused, sent, nothing}
+use Rattle.queue.specs.History.{Call, join, turn}
+use Rattle.queue.specs.Arrays.{queueOf, joinedOf, turnedOf}
+
+-- no job, and zeros in the arrays
+abbrev pub empty : Queue
+empty = queueOf []
+
+abbrev pub heldAfterOne : Queue → Call → Queue
+heldAfterOne q (join id pages) = joinedOf q id pages .queue
+heldAfterOne q turn = turnedOf q .queue
+
+abbrev pub heldAfterAll : Queue → List Call → Queue
+heldAfterAll q [] = q
+heldAfterAll q (c ∷ h) = heldAfterAll (heldAfterOne q c) h
+
+-- a job is admitted where the number is 0, and a page is sent where the id is not
+abbrev pub told : Queue → Call → Event
+told q (join id pages) = cond (eqb (joinedOf q id pages .refusal .number) 0) (admitted (job id pages)) (refused (joinedOf q id pages .refusal))
+told q turn = cond (eqb (turnedOf q .id) 0) nothing (sent (job (turnedOf q .id) (turnedOf q .pages)))
+
+abbrev pub toldAll : Queue → List Call → List Event
+toldAll q [] = []
+toldAll q (c ∷ h) = told q c ∷ toldAll (heldAfterOne q c) h
+
+-- an array added up
+abbrev pub total : List ℕ → ℕ
+total [] = 0
+total (p ∷ pages) = p + total pages
