@@ -1,4 +1,4 @@
-/* A host in C: calls the library on good, refused, stored, random and damaged orders. Arguments: the file of stored answers, and how
+/* A host in C: calls the library on good, refused, stored, random and damaged orders, and on sentences. Arguments: the file of stored answers, and how
    many random and damaged orders. */
 #include <stdio.h>
 #include <stdlib.h>
@@ -30,6 +30,7 @@ int main(int count, char **arguments) {
   check_days();
   check_instants();
   check_lines();
+  check_sentences();
   check_environment();
   check_threads();
   check_stack();

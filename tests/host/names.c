@@ -9,6 +9,8 @@ struct katchidul_day;
 struct katchidul_prayer;
 struct katchidul_remaining;
 struct katchidul_reply;
+struct katchidul_written;
+struct katchidul_meaning;
 
 static uint32_t refused(const order_bytes *order) { return katchidul_read_order(order->bytes, order->length).number; }
 

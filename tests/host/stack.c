@@ -9,7 +9,7 @@
 #define OWN_FRAME 512 /* more than the painting function's own part */
 #define PAINT 0xA5
 #define STACK_MOST 4096 /* the header's promise */
-#define CALLS 6
+#define CALLS 8
 
 static volatile uint8_t *caller;
 
@@ -24,7 +24,9 @@ __attribute__((noinline)) static void call(int which, const order_bytes *order, 
     case 2: katchidul_prayer_at(bytes, length, row, seconds, 0); break;
     case 3: katchidul_next_at(bytes, length, row, seconds, 0); break;
     case 4: katchidul_remaining_at(bytes, length, row, seconds, 0); break;
-    default: katchidul_write_row(bytes, length, row, line, ROW_LENGTH);
+    case 5: katchidul_write_row(bytes, length, row, line, ROW_LENGTH); break;
+    case 6: katchidul_write_sentence(1 + row, (uint32_t)seconds, line, ROW_LENGTH); break;
+    default: katchidul_read_sentence(line, ROW_LENGTH);
   }
 }
 

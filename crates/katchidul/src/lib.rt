@@ -23,6 +23,8 @@ use schedule::in_force::Current;
 use schedule::prayer_times::PrayerTimes;
 use schedule::prayer_times::Worked;
 
+pub mod sentence;
+
 // In C an array of six.
 #[repr(C)]
 pub struct KatchidulMinutes {

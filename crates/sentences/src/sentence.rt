@@ -29,18 +29,18 @@ pub fn write_sentence(number: u32, place: u32, buffer: &mut [u8]) -> Written
     ensures { λ _. ⌜ now (buffer .exit) ≡ bufferAfter number place (now (buffer .entry)) ⌝ }
 {
     let mut line = [0u8; 100];
-    let end = put_sentence(&mut line, number, place);
-    if end == 0 {
+    let length = put_sentence(&mut line, number, place);
+    if length == 0 {
         return refuse(OUT_OF_RANGE);
     }
-    if end > buffer.len() {
+    if length > buffer.len() {
         return refuse(BUFFER_SHORT);
     }
-    put(&mut buffer[..], 0, &line[..end]);
+    put(&mut buffer[..], 0, &line[..length]);
     Written {
         number: 0,
         place: 0,
-        length: end as u32,
+        length: length as u32,
     }
 }
 

@@ -1,4 +1,5 @@
 use mathlib.Core.Path.{sym, ap}
+use mathlib.Core.List.{[]}
 use lib.ListN.{List·getD-eq-default}
 use Rattle.text.specs.Text.{ascii}
 use Rattle.sentences.specs.Table.{names, nameOf, widest}
@@ -10,7 +11,7 @@ use Rattle.sentences.proofs.table.name_row.Tie as tie
 
 returns : tie.Need-returns
 unfolding names nameOf filled
-returns c = mapped (filled widest) names (c .before .before .args .tag) _ (ascii " tag") (c .before .if1 .taken)
+returns c = let e = mapped (filled widest) names (c .before .before .args .tag) [] (ascii " tag") (c .before .if1 .taken) in search e
 
 returns-2 : tie.Need-returns-2
 unfolding names nameOf filled

@@ -10,7 +10,7 @@ use Rattle.sentences.proofs.table.text_row.Tie as tie
 
 returns : tie.Need-returns
 unfolding texts textOf filled
-returns c = mapped (filled widest) texts (c .before .before .args .number) _ [] (c .before .if1 .taken)
+returns c = let e = mapped (filled widest) texts (c .before .before .args .number) [] [] (c .before .if1 .taken) in search e
 
 returns-2 : tie.Need-returns-2
 unfolding texts textOf filled
