@@ -18,9 +18,9 @@
    10      KATCHIDUL_INSTANT_BEYOND  an instant is out of range, place                      0
    11      KATCHIDUL_NONE_IN_FORCE   no prayer is in force, place                           0
 
-   A row that the order lacks is 5, place 3, the tag of the rows. A row buffer is too short below 119 bytes. An instant is out of range where its
-   seconds are beyond 10^12 either way, or its nanoseconds over 999,999,999. 11 is for next and remaining alone: that no prayer is in force is an
-   answer of katchidul_prayer_at. katchidul_write_sentence puts a refusal in words.
+   A row that the order lacks is 5, place 3, the tag of the rows. A row buffer is too short below 119 bytes. An instant is out of range
+   where its seconds are beyond 10^12 either way, or its nanoseconds over 999,999,999. 11 is told by next and remaining alone: that no
+   prayer is in force is an answer of katchidul_prayer_at. katchidul_write_sentence puts a refusal in words.
 
    A buffer (9) and an instant (10) are checked before anything else in their calls; then the order (1 to 5), the row (5, place 3), the
    day (6 to 8), and 11.
@@ -212,14 +212,14 @@ katchidul_remaining katchidul_remaining_at(const uint8_t *order, size_t length, 
    of the buffer changes. The buffer and the order must not overlap. Refusals 1 to 9. */
 katchidul_reply katchidul_write_row(const uint8_t *order, size_t length, uint32_t row, uint8_t *buffer, size_t size);
 
-/* Writes a refusal's sentence for the desk at the front of a buffer of `size` bytes: `Refusal 4: the order lacks a field: method, tag 6`. The
-   number and the place are those of an answer; every number of the table above and every place have a sentence, no two the same. It is
+/* Writes a refusal's sentence for the desk at the front of a buffer of `size` bytes: `Refusal 4: the order lacks a field: method, tag
+   6`. Number and place are those of an answer; every number of the table above has a sentence for every place, no two the same. It is
    printable ASCII, KATCHIDUL_SENTENCE_MAX bytes at most, with no newline and no zero byte after it; the buffer's bytes after it stay. A
-   number that is not in the table, 0 among them, is 5, place 0, whatever the buffer; a buffer that is shorter than the sentence is 9, and none
-   of its bytes changes. */
+   number that is not in the table, 0 among them, is 5, place 0, whatever the buffer; a buffer shorter than the sentence is 9, place 0,
+   and none of its bytes changes. */
 katchidul_written katchidul_write_sentence(uint32_t number, uint32_t place, uint8_t *buffer, size_t size);
 
-/* Reads a sentence back: `of_number` and `of_place` are what it was written of. All bytes that no refusal has as its sentence are 5, place 0. */
+/* Reads a sentence back: `of_number` and `of_place` are what it was written of. Bytes that are no refusal's sentence are 5, place 0. */
 katchidul_meaning katchidul_read_sentence(const uint8_t *sentence, size_t length);
 
 /* Whether the calling thread's floating-point environment is the one that the answers are proved for: 1 or 0. It reads the processor's

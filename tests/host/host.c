@@ -1,5 +1,5 @@
-/* A host in C: calls the library on good, refused, stored, random and damaged orders, and on sentences. Arguments: the file of stored answers, and how
-   many random and damaged orders. */
+/* A host in C: calls the library on good, refused, stored, random and damaged orders, and on sentences. Arguments: the file of stored
+   answers, and how many random and damaged orders. */
 #include <stdio.h>
 #include <stdlib.h>
 

@@ -53,8 +53,8 @@ static sentence sentence_of(uint32_t number, uint32_t place) {
   return made;
 }
 
-/* Writes into a buffer with bytes on both sides, all of them other from call to call. The answer must be this one, and every byte as it was but
-   for those of the sentence, if there is one. */
+/* Writes into a buffer with bytes on both sides, all of them other from call to call. The answer must be this one, and every byte as it was
+   but for those of the sentence, if there is one. */
 static void writes(uint32_t number, uint32_t place, size_t size, uint32_t refused, const sentence *made, const char *what) {
   static uint32_t call;
   uint8_t room[ROOM], wanted[ROOM];
@@ -63,7 +63,8 @@ static void writes(uint32_t number, uint32_t place, size_t size, uint32_t refuse
   memcpy(wanted, room, ROOM);
   if (made) memcpy(wanted + BEFORE, made->bytes, made->length);
   katchidul_written answer = katchidul_write_sentence(number, place, room + BEFORE, size);
-  check(answer.number == refused && answer.place == 0 && answer.length == (made ? made->length : 0) && memcmp(room, wanted, ROOM) == 0, what);
+  bool answered = answer.number == refused && answer.place == 0 && answer.length == (made ? made->length : 0);
+  check(answered && memcmp(room, wanted, ROOM) == 0, what);
 }
 
 static bool means(const uint8_t *bytes, size_t length, uint32_t number, uint32_t place) {
@@ -96,7 +97,8 @@ static void check_pair(uint32_t number, uint32_t place) {
 
 static void check_buffers(uint32_t number, uint32_t place) {
   sentence made = sentence_of(number, place);
-  for (size_t size = 0; size < made.length; size++) writes(number, place, size, KATCHIDUL_BUFFER_SHORT, NULL, "a buffer shorter than the sentence");
+  for (size_t size = 0; size < made.length; size++)
+    writes(number, place, size, KATCHIDUL_BUFFER_SHORT, NULL, "a buffer shorter than the sentence");
   writes(number, place, made.length, 0, &made, "a buffer as long as the sentence");
   writes(number, place, made.length + 1, 0, &made, "a buffer longer by one");
 }
@@ -151,7 +153,8 @@ static void check_worked(void) {
   check(means((const uint8_t *)method, strlen(method), 4, 6), method);
   check(means((const uint8_t *)other, strlen(other), 4, 15), other);
   check(means((const uint8_t *)last, strlen(last), 11, UINT32_MAX), last);
-  for (size_t i = 0; i < sizeof nothing / sizeof *nothing; i++) check(says_nothing((const uint8_t *)nothing[i], strlen(nothing[i])), nothing[i]);
+  for (size_t i = 0; i < sizeof nothing / sizeof *nothing; i++)
+    check(says_nothing((const uint8_t *)nothing[i], strlen(nothing[i])), nothing[i]);
 }
 
 /* An unknown number is told before the buffer, and a null pointer with size 0 is an empty one. */

@@ -1,4 +1,4 @@
--- Where a sentence has its number and its place. Of other bytes these say nothing: reading compares the whole sentence. Definitions only.
+-- Where a sentence has its number and its place. Of other bytes this says nothing: reading compares the whole sentence.
 use Prim.Native.Nat.{ℕ, _+_, _*_, _-_, _^_}
 use mathlib.Core.Bool.{Bool, cond, _&&_}
 use mathlib.Core.List.{List, [], _∷_}

@@ -40,7 +40,7 @@ pub data Right (bytes : List ℕ) : Meaning → Type 0 where
 abbrev pub ReadsOnlySentences : Type 0
 ReadsOnlySentences = (bytes : List ℕ) → Right bytes (meaningOf bytes)
 
--- "is written at the front of a lent buffer": a buffer with room has the sentence there and else its own bytes, and what was written is read back
+-- "is written at the front of a lent buffer": a buffer with room has the sentence there and else its own bytes, and it is read back
 abbrev pub WrittenAndRead : Type 0
 WrittenAndRead = (buffer : List ℕ) (n p : ℕ) → known n ≡ true → p < 2 ^ 32 → length (sentenceOf n p) ≤ length buffer
     → (bufferAfter n p buffer ≡ frontOf (sentenceOf n p) buffer)

@@ -1,4 +1,4 @@
--- A text filled up with blanks to a fixed length, and where it ends: how the code keeps its tables. They need not be believed. Definitions only.
+-- A text filled up with blanks to a fixed length, and where it ends: how the code keeps its tables. Nothing here need be believed.
 use Prim.Native.Nat.{ℕ, zero, suc}
 use mathlib.Core.Bool.{cond}
 use mathlib.Core.List.{List, [], _∷_}

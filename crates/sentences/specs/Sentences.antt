@@ -1,4 +1,4 @@
--- Request 8, "Refusals in words": a refusal's sentence, what writing answers and leaves in the buffer, and what reading answers. Definitions only.
+-- Request 8, "Refusals in words": a refusal's sentence, what writing answers and leaves in the buffer, and what reading answers.
 use Prim.Native.Nat.{ℕ, _-_}
 use mathlib.Core.Bool.{Bool, true, false, cond, _&&_}
 use mathlib.Core.List.{List, [], _∷_, _++_}

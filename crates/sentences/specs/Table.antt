@@ -1,4 +1,4 @@
--- The words of the refusals: a line a number, and a line a tag, both from 0 on. Definitions only.
+-- The words of the refusals: a line a number, and a line a tag, both from 0 on. A new one is a line here and the same in src/table.rt.
 use Prim.Native.Nat.{ℕ, _-_}
 use mathlib.Core.Bool.{Bool, cond}
 use mathlib.Core.List.{List, [], _∷_, _++_}
@@ -6,7 +6,7 @@ use lib.Dec.{eqb, ltb}
 use lib.ListN.{length, getD}
 use Rattle.text.specs.Text.{ascii}
 
--- Each begins with its number, and behind it comes the place. One that ends in a colon has a tag as its place, and the tag's name comes between.
+-- Each begins with its number, and behind it comes the place. One that ends in a colon has a tag as its place, whose name comes between.
 -- A number that is not known has an empty line.
 unfoldable pub texts : List (List ℕ)
 texts =

@@ -23,7 +23,8 @@ fn refuse(number: u32) -> Written
     }
 }
 
-// The sentence is made by itself first: a number that is not known is told before the buffer is looked at, and a buffer without room keeps every byte.
+// The sentence is made by itself first: so a number that is not known is told before the buffer is looked at, and a buffer without room
+// keeps every byte.
 pub fn write_sentence(number: u32, place: u32, buffer: &mut [u8]) -> Written
     ensures { λ r. ⌜ r ≡ writtenOf number place (length (now (buffer .entry))) ⌝ }
     ensures { λ _. ⌜ now (buffer .exit) ≡ bufferAfter number place (now (buffer .entry)) ⌝ }
@@ -55,7 +56,8 @@ fn no_sentence() -> Meaning
     }
 }
 
-// The bytes say what stands in them where they are its sentence, byte for byte: so no leading zero and no byte too many is let in by a rule of its own.
+// The number and the place are taken from where a sentence has them, and their sentence is compared whole: so no byte can be wrong, and
+// leading zeros, signs and what stands behind need no rule of their own.
 pub fn read_sentence(bytes: &[u8]) -> Meaning
     ensures { λ r. ⌜ r ≡ meaningOf (now (bytes .entry)) ⌝ }
 {
