@@ -1,8 +1,8 @@
 -- The words of the refusals: a line a number, and a line a tag, both from 0 on. A new one is a line here and the same in src/table.rt.
-use Prim.Native.Nat.{ℕ, _-_}
-use mathlib.Core.Bool.{Bool, cond}
-use mathlib.Core.List.{List, [], _∷_, _++_}
-use lib.Dec.{eqb, ltb}
+use Prim.Native.Nat.{ℕ}
+use mathlib.Core.Bool.{Bool}
+use mathlib.Core.List.{List, [], _∷_}
+use lib.Dec.{ltb}
 use lib.ListN.{length, getD}
 use Rattle.text.specs.Text.{ascii}
 

@@ -5,7 +5,6 @@ use mathlib.Core.Bool.{true, false}
 use mathlib.Core.Path.{_≡_, sym, ap, _∙_}
 use lib.ListN.{length}
 use denote.Ref.{now}
-use Rattle.text.specs.Text.{frontOf}
 use Rattle.sentences.specs.Table.{textOf}
 use Rattle.sentences.specs.Sentences.{endsInColon}
 use Rattle.sentences.proofs.Lines.{text-fine}
