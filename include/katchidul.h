@@ -4,25 +4,27 @@
    Each answer is a struct by value. `number` is 0 where the call succeeds; else it is the refusal's, `place` says where, and every
    other field is 0 (a print queue is handed back as it was). Any bytes are answered, and every call returns.
 
-   number  name                      when                                                        place
-   0                                 nothing is refused                                          0
-   1       KATCHIDUL_FIELD_CUT       the order is over 1,024 bytes, or a field is cut            the field's offset, or 0
-   2       KATCHIDUL_FIELD_UNKNOWN   an unknown tag, or a length that its value can't have       the field's offset
-   3       KATCHIDUL_FIELD_AGAIN     a tag a second time                                         the field's offset
-   4       KATCHIDUL_TAG_MISSING     a tag is missing                                            the tag
-   5       KATCHIDUL_OUT_OF_RANGE    a value is out of range, or a day that the month lacks      the tag
-                                     a row that the order lacks                                  3, the tag of the rows
-   6       KATCHIDUL_NO_TRANSIT      a day has no transit                                        the day: 0 the row's date, 1 and 2
-                                                                                                 the two after it
-   7       KATCHIDUL_NO_SUNRISE      a day has no sunrise                                        the day
-   8       KATCHIDUL_NO_SUNSET       a day has no sunset                                         the day
-   9       KATCHIDUL_BUFFER_SHORT    a row buffer is under 119 bytes                             0
-   10      KATCHIDUL_INSTANT_BEYOND  an instant's seconds are beyond 10^12 either way, or its
-                                     nanoseconds over 999,999,999                                0
-   11      KATCHIDUL_NONE_IN_FORCE   next or remaining is asked while no prayer is in force      0
-   16      KATCHIDUL_QUEUE_FULL      16 jobs wait in the print queue                             the id of the job
-   17      KATCHIDUL_JOB_UNFIT       a job's id is 0, over 65,535 or still waiting, or its pages
-                                     are not 1 to 16                                             the id of the job
+   number  name                      in the words of its sentence                           place
+   0                                 nothing is refused                                     0
+   1       KATCHIDUL_FIELD_CUT       over 1,024 bytes, or cut in the field at byte          the field's offset, or 0
+   2       KATCHIDUL_FIELD_UNKNOWN   unknown tag or wrong length in the field at byte       the field's offset
+   3       KATCHIDUL_FIELD_AGAIN     a tag stands a second time in the field at byte        the field's offset
+   4       KATCHIDUL_TAG_MISSING     the order lacks a field:                               the tag
+   5       KATCHIDUL_OUT_OF_RANGE    a value is out of range, or the month lacks the day:   the tag
+   6       KATCHIDUL_NO_TRANSIT      the sun has no transit (day 0 is the row's date), day  the day: 0, 1 or 2
+   7       KATCHIDUL_NO_SUNRISE      the sun does not rise (day 0 is the row's date), day   the day
+   8       KATCHIDUL_NO_SUNSET       the sun does not set (day 0 is the row's date), day    the day
+   9       KATCHIDUL_BUFFER_SHORT    a lent buffer is too short, place                      0
+   10      KATCHIDUL_INSTANT_BEYOND  an instant is out of range, place                      0
+   11      KATCHIDUL_NONE_IN_FORCE   no prayer is in force, place                           0
+   16      KATCHIDUL_QUEUE_FULL      the print queue is full, job id                        the job's id
+   17      KATCHIDUL_JOB_UNFIT       the job's id or its pages are not allowed, job id      the job's id
+
+   A row that the order lacks is 5, place 3, the tag of the rows. A row buffer is too short below 119 bytes. An instant is out of range
+   where its seconds are beyond 10^12 either way, or its nanoseconds over 999,999,999. 11 is told by next and remaining alone: that no
+   prayer is in force is an answer of katchidul_prayer_at. The print
+   queue is full with 16 jobs; a job's id is not allowed where it is 0, over 65,535 or still waiting, its pages where they are not 1 to 16.
+   katchidul_write_sentence puts a refusal in words.
 
    A buffer (9) and an instant (10) are checked before anything else in their calls; then the order (1 to 5), the row (5, place 3), the
    day (6 to 8), and 11. Of a job 17 is tried before 16.
@@ -47,12 +49,13 @@ extern "C" {
 #endif
 
 /* Of this header: one more with every change of a call, a struct or a number. Take header and library from the same build. */
-#define KATCHIDUL_VERSION 2
+#define KATCHIDUL_VERSION 3
 
 #define KATCHIDUL_ORDER_MAX 1024 /* bytes of an order */
 #define KATCHIDUL_TOWN_MAX 40    /* bytes of a town's name */
 #define KATCHIDUL_ROWS_MAX 250   /* rows of an order */
 #define KATCHIDUL_ROW_BYTES 119  /* of a row's line with its newline, and the least that a row buffer may have */
+#define KATCHIDUL_SENTENCE_MAX 100 /* bytes of a sentence */
 #define KATCHIDUL_TIME_COUNT 9
 #define KATCHIDUL_MINUTES_COUNT 6
 #define KATCHIDUL_SECONDS_MAX INT64_C(1000000000000) /* of an instant, either way */
@@ -182,6 +185,17 @@ typedef struct katchidul_reply {
   uint32_t number, place;
 } katchidul_reply;
 
+/* What writing a sentence says: the sentence's bytes. */
+typedef struct katchidul_written {
+  uint32_t number, place, length;
+} katchidul_written;
+
+/* What a sentence says: the refusal's number and place. */
+typedef struct katchidul_meaning {
+  uint32_t number, place;
+  uint32_t of_number, of_place;
+} katchidul_meaning;
+
 /* Reads an order. Refusals 1 to 5. */
 katchidul_order katchidul_read_order(const uint8_t *order, size_t length);
 
@@ -241,6 +255,16 @@ katchidul_joined katchidul_join(katchidul_queue queue, uint32_t id, uint32_t pag
    A queue that no calls give is answered too: of more than 16 jobs the first 16 count, a job with 0 pages left sends one and leaves, and
    one with id 0 answers that id, as if no job waited; `queue` has changed. */
 katchidul_turned katchidul_turn(katchidul_queue queue);
+
+/* Writes a refusal's sentence for the desk at the front of a buffer of `size` bytes: `Refusal 4: the order lacks a field: method, tag
+   6`. Number and place are those of an answer; every number of the table above has a sentence for every place, no two the same. It is
+   printable ASCII, KATCHIDUL_SENTENCE_MAX bytes at most, with no newline and no zero byte after it; the buffer's bytes after it stay. A
+   number that is not in the table, 0 among them, is 5, place 0, whatever the buffer; a buffer shorter than the sentence is 9, place 0,
+   and none of its bytes changes. */
+katchidul_written katchidul_write_sentence(uint32_t number, uint32_t place, uint8_t *buffer, size_t size);
+
+/* Reads a sentence back: `of_number` and `of_place` are what it was written of. Bytes that are no refusal's sentence are 5, place 0. */
+katchidul_meaning katchidul_read_sentence(const uint8_t *sentence, size_t length);
 
 /* Whether the calling thread's floating-point environment is the one that the answers are proved for: 1 or 0. It reads the processor's
    MXCSR: no subnormal number taken or made zero, rounding to nearest, every exception masked. The six lowest bits say what happened and

@@ -1,5 +1,5 @@
-/* A host in C: calls the library on good, refused, stored, random and damaged orders, and on print queues. Arguments: the file of stored
-   answers, and how many random and damaged orders, and calls on queues. */
+/* A host in C: calls the library on good, refused, stored, random and damaged orders, on print queues and on sentences. Arguments: the file of
+   stored answers, and how many random and damaged orders, and calls on queues. */
 #include <stdio.h>
 #include <stdlib.h>
 
@@ -30,6 +30,7 @@ int main(int count, char **arguments) {
   check_days();
   check_instants();
   check_lines();
+  check_sentences();
   check_environment();
   check_threads();
   check_stack();

@@ -98,6 +98,7 @@ void check_records(void);
 void check_days(void);
 void check_instants(void);
 void check_lines(void);
+void check_sentences(void);
 void check_environment(void);
 void check_threads(void);
 void check_stack(void);

@@ -12,6 +12,8 @@ struct katchidul_reply;
 struct katchidul_queue;
 struct katchidul_joined;
 struct katchidul_turned;
+struct katchidul_written;
+struct katchidul_meaning;
 
 static uint32_t refused(const order_bytes *order) { return katchidul_read_order(order->bytes, order->length).number; }
 

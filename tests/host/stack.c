@@ -9,7 +9,7 @@
 #define OWN_FRAME 512 /* more than the painting function's own part */
 #define PAINT 0xA5
 #define STACK_MOST 4096 /* the header's promise */
-#define CALLS 8
+#define CALLS 10
 
 static volatile uint8_t *caller;
 static const katchidul_queue queues[2] = {{0}, {15, {20, 21, 22, 23, 24, 25, 26, 27, 28, 29, 30, 31, 32, 33, 34}, {2}}};
@@ -27,7 +27,9 @@ __attribute__((noinline)) static void call(int which, const order_bytes *order, 
     case 4: katchidul_remaining_at(bytes, length, row, seconds, 0); break;
     case 5: katchidul_write_row(bytes, length, row, line, ROW_LENGTH); break;
     case 6: katchidul_join(queues[row % 2], row, 1 + row % 2); break;
-    default: katchidul_turn(queues[row % 2]);
+    case 7: katchidul_turn(queues[row % 2]); break;
+    case 8: katchidul_write_sentence(1 + row, (uint32_t)seconds, line, ROW_LENGTH); break;
+    default: katchidul_read_sentence(line, ROW_LENGTH);
   }
 }
 

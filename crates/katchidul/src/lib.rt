@@ -3,5 +3,6 @@ pub mod prayer_at;
 pub mod print_queue;
 pub mod read_order;
 pub mod remaining_at;
+pub mod sentence;
 pub mod work_day;
 pub mod write_row;

@@ -1,0 +1,54 @@
+use borrow.Author.Needs.{needs}
+use native.Mathlib.Omega.{arith}
+use Prim.Native.Nat.{ℕ, _+_, _<_}
+use mathlib.Core.Path.{_≡_, sym, ap, _∙_}
+use mathlib.Core.List.{List}
+use lib.ListN.{length}
+use denote.Ref.{now}
+use Rattle.text.specs.Text.{ascii, decimalOf, putOf, frontOf}
+use Rattle.text.proofs.TextLaws.{digits-short}
+use Rattle.sentences.specs.Guess.{none}
+use Rattle.sentences.specs.Sentences.{wordsOf}
+use Rattle.sentences.proofs.Promises.{words-short, sentence-unknown, sentence-length}
+use Rattle.sentences.proofs.Making.{unknown-by-words, known-by-words, empty, sentence-made, as-long}
+use Rattle.sentences.proofs.line.put_sentence.Statement.{statement}
+use Rattle.sentences.proofs.line.put_sentence.Tie as tie
+
+returns : tie.Need-returns
+returns c =
+    let a = c .before .before .before .args in let w = c .before .put-words .ensures in let z = sym (w .0) ∙ c .if1 .taken in
+    let e = sentence-unknown (a .number) (a .place) (unknown-by-words (a .number) (a .place) z) in
+    (sym (ap length e), w .1 ∙ ap (λ (t : List ℕ). frontOf t (now (a .line))) (empty (wordsOf (a .number) (a .place)) z ∙ sym e))
+
+add-result : tie.Need-add-result
+add-result c =
+    let a = c .before .before .before .before .before .before .args in let s = words-short (a .number) (a .place) in
+    record { fits = omega (arith, c .before .before .before .before .put-words .ensures .0) }
+
+add-put-decimal : tie.Need-add-put-decimal
+add-put-decimal c =
+    let a = c .before .before .before .before .before .before .before .args in let s = words-short (a .number) (a .place) in
+    record { fits = omega (arith, c .before .before .before .before .before .put-words .ensures .0) }
+
+add-result-2 : tie.Need-add-result-2
+add-result-2 c =
+    let a = c .before .before .before .before .before .before .before .before .args in let s = words-short (a .number) (a .place) in let d = digits-short 20 (a .place) in
+    record { fits = omega (arith, c .before .before .before .before .before .before .put-words .ensures .0, c .put-decimal .ensures .0) }
+
+returns-2 : tie.Need-returns-2
+returns-2 c =
+    let a = c .before .before .before .before .before .before .before .before .args in let w = c .before .before .before .before .before .before .put-words in let b = c .before .before .put in let d = c .put-decimal in
+    let h : a .place < none = search needs in let long : length (w .last .0) ≡ 100 = search needs in
+    let line = as-long (wordsOf (a .number) (a .place)) (now (a .line)) (w .last .0) (w .ensures .1) long (words-short (a .number) (a .place)) in
+    let k = known-by-words (a .number) (a .place) (λ z. c .before .before .before .before .before .if1 .left (w .ensures .0 ∙ z)) in
+    let e = sentence-length (a .number) (a .place) k in
+    let q = b .ensures ∙ ap (λ (m : ℕ). putOf (w .last .0) m (ascii " ")) (w .ensures .0) in
+    let r = d .ensures .1 ∙ ap (λ (m : ℕ). putOf (b .last .0) (m + 1) (decimalOf (a .place))) (w .ensures .0) in (
+      omega (arith, w .ensures .0, d .ensures .0),
+      sentence-made (now (a .line)) (w .last .0) (b .last .0) (d .last .0) (a .number) (a .place) line k h (w .ensures .1) q r,
+    )
+
+pub put-sentence-spec : {M : Type 1} → statement M
+put-sentence-spec =
+    tie.close
+    (tie.spec (λ c κs. search needs) returns (λ c. search needs) (λ c κs. search needs) add-result add-put-decimal (λ c κs. search needs) add-result-2 returns-2)

@@ -1,0 +1,47 @@
+-- What request 8 promises, as statements; proofs/Promises.antt proves them.
+use Prim.Native.Nat.{ℕ, _≤_, _<_, _^_}
+use mathlib.Core.Path.{_≡_}
+use mathlib.Core.Bool.{Bool, true, _&&_}
+use mathlib.Core.List.{List, [], _∷_}
+use lib.Dec.{leb}
+use lib.ListN.{length, take}
+use Rattle.text.specs.Text.{frontOf}
+use Rattle.sentences.specs.declared.Meaning.{Meaning}
+use Rattle.sentences.specs.Table.{known}
+use Rattle.sentences.specs.Sentences.{sentenceOf, bufferAfter, meant, noSentence, meaningOf}
+
+-- the bytes are the sentence of a known number and a place
+pub record Says (bytes : List ℕ) (n p : ℕ) : Type 0 where
+  pub number : known n ≡ true
+  pub place : p < 2 ^ 32
+  pub sentence : bytes ≡ sentenceOf n p
+
+-- "any two refusals that differ in number or place have different sentences": one sentence is one refusal's
+abbrev pub Different : Type 0
+Different = (bytes : List ℕ) (n m p q : ℕ) → Says bytes n p → Says bytes m q → (n ≡ m) × (p ≡ q)
+
+unfoldable pub printable : List ℕ → Bool
+printable [] = true
+printable (b ∷ bs) = leb 32 b && leb b 126 && printable bs
+
+-- "at most 100 bytes of printable ASCII"
+abbrev pub Printed : Type 0
+Printed = (n p : ℕ) → p < 2 ^ 32 → (length (sentenceOf n p) ≤ 100) × (printable (sentenceOf n p) ≡ true)
+
+-- "a reader of the sentence recovers both"
+abbrev pub ReadBack : Type 0
+ReadBack = (bytes : List ℕ) (n p : ℕ) → Says bytes n p → meaningOf bytes ≡ meant n p
+
+-- "and refuses all other bytes by 5, place 0"
+pub data Right (bytes : List ℕ) : Meaning → Type 0 where
+  says : (n p : ℕ) → Says bytes n p → Right bytes (meant n p)
+  other : ((n p : ℕ) → Says bytes n p → ⊥) → Right bytes noSentence
+
+abbrev pub ReadsOnlySentences : Type 0
+ReadsOnlySentences = (bytes : List ℕ) → Right bytes (meaningOf bytes)
+
+-- "is written at the front of a lent buffer": a buffer with room has the sentence there and else its own bytes, and it is read back
+abbrev pub WrittenAndRead : Type 0
+WrittenAndRead = (buffer : List ℕ) (n p : ℕ) → known n ≡ true → p < 2 ^ 32 → length (sentenceOf n p) ≤ length buffer
+    → (bufferAfter n p buffer ≡ frontOf (sentenceOf n p) buffer)
+    × (meaningOf (take (length (sentenceOf n p)) (bufferAfter n p buffer)) ≡ meant n p)

@@ -1,0 +1,16 @@
+-- A text filled up with blanks to a fixed length, and where it ends: how the code keeps its tables. Nothing here need be believed.
+use Prim.Native.Nat.{ℕ, zero, suc}
+use mathlib.Core.Bool.{cond}
+use mathlib.Core.List.{List, [], _∷_}
+use lib.Dec.{eqb}
+use lib.ListN.{getD}
+
+unfoldable pub filled : ℕ → List ℕ → List ℕ
+filled zero text = []
+filled (suc k) [] = 32 ∷ filled k []
+filled (suc k) (b ∷ bs) = b ∷ filled k bs
+
+-- behind the last byte of the first k that is not a blank
+unfoldable pub endOf : List ℕ → ℕ → ℕ
+endOf row zero = 0
+endOf row (suc k) = cond (eqb (getD row k 0) 32) (endOf row k) (suc k)

@@ -1,0 +1,20 @@
+// Refusals in words (added): a sentence for each refusal, and the refusal that a sentence says.
+mod line;
+mod reading;
+pub mod sentence;
+mod table;
+
+// What writing answers.
+pub struct Written {
+    pub number: u32,
+    pub place: u32,
+    pub length: u32,
+}
+
+// What reading answers: the number and the place that the sentence says, or why it says none.
+pub struct Meaning {
+    pub number: u32,
+    pub place: u32,
+    pub of_number: u32,
+    pub of_place: u32,
+}

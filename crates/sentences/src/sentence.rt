@@ -1,0 +1,83 @@
+// The two calls: a refusal's sentence into a lent buffer, and the refusal that bytes say.
+ghost use mathlib.Core.Path.{_≡_};
+ghost use lib.ListN.{length};
+ghost use Rattle.sentences.specs.Sentences.{unwritten, writtenOf, bufferAfter, noSentence, meaningOf};
+use super::Meaning;
+use super::Written;
+use super::line::put_sentence;
+use super::reading::NONE;
+use super::reading::is_same;
+use super::reading::number_in;
+use super::reading::place_in;
+use refusals::BUFFER_SHORT;
+use refusals::OUT_OF_RANGE;
+use text::put::put;
+
+fn refuse(number: u32) -> Written
+    ensures { λ r. ⌜ r ≡ unwritten number ⌝ }
+{
+    Written {
+        number: number,
+        place: 0,
+        length: 0,
+    }
+}
+
+// The sentence is made by itself first: so a number that is not known is told before the buffer is looked at, and a buffer without room
+// keeps every byte.
+pub fn write_sentence(number: u32, place: u32, buffer: &mut [u8]) -> Written
+    ensures { λ r. ⌜ r ≡ writtenOf number place (length (now (buffer .entry))) ⌝ }
+    ensures { λ _. ⌜ now (buffer .exit) ≡ bufferAfter number place (now (buffer .entry)) ⌝ }
+{
+    let mut line = [0u8; 100];
+    let length = put_sentence(&mut line, number, place);
+    if length == 0 {
+        return refuse(OUT_OF_RANGE);
+    }
+    if length > buffer.len() {
+        return refuse(BUFFER_SHORT);
+    }
+    put(&mut buffer[..], 0, &line[..length]);
+    Written {
+        number: 0,
+        place: 0,
+        length: length as u32,
+    }
+}
+
+fn no_sentence() -> Meaning
+    ensures { λ r. ⌜ r ≡ noSentence ⌝ }
+{
+    Meaning {
+        number: OUT_OF_RANGE,
+        place: 0,
+        of_number: 0,
+        of_place: 0,
+    }
+}
+
+// The number and the place are taken from where a sentence has them, and their sentence is compared whole: so no byte can be wrong, and
+// leading zeros, signs and what stands behind need no rule of their own.
+pub fn read_sentence(bytes: &[u8]) -> Meaning
+    ensures { λ r. ⌜ r ≡ meaningOf (now (bytes .entry)) ⌝ }
+{
+    let number = number_in(bytes);
+    let place = place_in(bytes);
+    if place >= NONE {
+        return no_sentence();
+    }
+    let mut line = [0u8; 100];
+    let end = put_sentence(&mut line, number, place as u32);
+    if end == 0 {
+        return no_sentence();
+    }
+    if !is_same(&line[..end], bytes) {
+        return no_sentence();
+    }
+    Meaning {
+        number: 0,
+        place: 0,
+        of_number: number,
+        of_place: place as u32,
+    }
+}
