@@ -101,7 +101,8 @@ module _ (i : Inputs) where
   unfolding ofBits neg
   exact-near =
       let g = exact (of i) (horner z C1 higher) in
-      let d : Close (exact (of i) plain) (unity ⊞ ⊟ (per half ⊠ square ⊞ ⊟ (square ⊠ (square ⊠ g)))) 0 = sum (itself unity) (flip (sum (itself (per half ⊠ square)) (flip (same-close (dropped (value (i .argument)) (square ⊠ (square ⊠ g))))))) in
+      let e = flip (same-close (dropped (value (i .argument)) (square ⊠ (square ⊠ g)))) in
+      let d : Close (exact (of i) plain) (unity ⊞ ⊟ (per half ⊠ square ⊞ ⊟ (square ⊠ (square ⊠ g)))) 0 = sum (itself unity) (flip (sum (itself (per half ⊠ square)) e)) in
       through (written d (factored (per half) (per minus-half) square (square ⊠ g) refl refl refl)) (ten-near i kernel)
 
   plain-near : Near (run (floats i) plain) (ten kernel square) (2 ^ 13)

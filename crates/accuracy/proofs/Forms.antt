@@ -57,9 +57,9 @@ abbrev under : {n : ℕ} → Form n → Form n → Bool
 under none none = true
 under (b ▸ f) (c ▸ g) = leb b c && under f g
 
--- f's polynomial nowhere exceeds g's by more than d
-abbrev pub exceeds-by : {A : Type 0} → (f g : A → ℕ) → ℕ → List A → Bool
-exceeds-by f g d l = under (mix 0 (power9w (length l)) (form f l)) (mix (9 * d) (power9w (length l)) (form g l))
+-- f's polynomial is nowhere above g's and d
+abbrev pub notAbove : {A : Type 0} → (f g : A → ℕ) → ℕ → List A → Bool
+notAbove f g d l = under (mix 0 (power9w (length l)) (form f l)) (mix (9 * d) (power9w (length l)) (form g l))
 
 -- ---- their values
 module _ (y u : ℕ) where
@@ -107,7 +107,7 @@ module _ {A : Type 0} (y w u : ℕ) (e : u + 16 * y ≡ 9 * w) where
       regroup : (N W P : ℕ) → f a * (9 * N * W) + 9 * (y * (N * P)) ≡ 9 * N * (f a * W + y * P)
       regroup N W P = simp ring (omega arith)
 
-  pub poly-le : (f g : A → ℕ) (d : ℕ) (l : List A) → T (exceeds-by f g d l) → poly y w f l ≤ poly y w g l + d * w ^ length l
+  pub poly-le : (f g : A → ℕ) (d : ℕ) (l : List A) → T (notAbove f g d l) → poly y w f l ≤ poly y w g l + d * w ^ length l
   poly-le f g d l t =
       let n = length l in
       let h = rw (mix-at y u 0 (power9w n) (form f l), mix-at y u (9 * d) (power9w n) (form g l), power9w-at y u n, form-at f l, form-at g l, e, mul-pow 9 w n) at

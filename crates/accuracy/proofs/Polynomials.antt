@@ -14,7 +14,7 @@ use Rattle.accuracy.proofs.Algebra.{ring, flat}
 use Rattle.accuracy.proofs.Fractions.{Fraction, _⊞_, _⊠_, unit, Close, itself, same-close, through, Same, scaled, written, sum, times, Sized}
 use Rattle.accuracy.proofs.Rounding.{value}
 use Rattle.accuracy.proofs.Expressions.{Expr, const, _⊕_, _⊗_, exact}
-use Rattle.accuracy.proofs.Forms.{poly, poly-sum, exceeds-by, poly-le}
+use Rattle.accuracy.proofs.Forms.{poly, poly-sum, notAbove, poly-le}
 use Rattle.accuracy.proofs.Series.{Term, plus, rise, fall}
 
 -- ---- a polynomial in z, with the coefficients u - d in parts of 1 / c
@@ -99,19 +99,17 @@ horner-is f z s even k (j ∷ l) ts =
     let t : Close (exact f z ⊠ exact f (horner z j l)) (exact f z ⊠ kernel (exact f z) r) 0 = times s (horner-is f z s even j l (rest ts)) (omega arith) in
     written (sum (itself (per k)) t) (in-front (exact f z) even up down scale (pow-pos 90) (per k) (row (per k .more) (per k .less) (first ts)) r refl refl)
 
--- ---- how far it is from the series: what the one adds and the other takes off is on one side
+-- ---- how far it is from the series
 scale-is : scale ≡ unit * 2 ^ 26
 unfolding unit
 scale-is = refl
 
-abbrev left : ℕ → Row → ℕ
-left n r = up r * n + taken r * scale
-
-abbrev right : ℕ → Row → ℕ
-right n r = down r * n + added r * scale
+-- u / scale + t / n is nowhere more than E units above d / scale + a / n
+abbrev oneSide : ℕ → (u t d a : Row → ℕ) → List Row → ℕ → Bool
+oneSide n u t d a l E = notAbove (λ r. u r * n + t r * scale) (λ r. d r * n + a r * scale) (E * 2 ^ 26 * n) l
 
 abbrev pub near : ℕ → List Row → ℕ → Bool
-near n l E = exceeds-by (left n) (right n) (E * 2 ^ 26 * n) l && exceeds-by (right n) (left n) (E * 2 ^ 26 * n) l
+near n l E = oneSide n up taken down added l E && oneSide n down added up taken l E
 
 weighed : (A B C D E U K N M P : ℕ) → K ≡ U * M → A * N + B * K ≤ C * N + D * K + E * M * N * P
     → U * (A * (N * P) + B * (K * P)) ≤ U * (C * (N * P) + D * (K * P)) + E * (K * P * (N * P))
@@ -120,19 +118,26 @@ weighed A B C D E U K N M P k h = simp ring (omega (arith, simp ring at (mul-le-
 other-way : (U a b c d e f E : ℕ) → U * (a + b) ≤ U * (c + d) + E * (e * f) → U * (b + a) ≤ U * (d + c) + E * (f * e)
 other-way U a b c d e f E h = omega arith
 
-kernel-near : (z : Fraction) → 16 * z .more ≤ 9 * z .parts → (n : ℕ) (p : 0 < n) (l : List Row) (E : ℕ) → T (near n l E) → Close (kernel z l) (polynomial z added taken n p l) E
-kernel-near z small n p l E t =
-    let y = z .more in
-    let w = z .parts in
-    let d = E * 2 ^ 26 * n in
-    let a = exceeds-by (left n) (right n) d l in
-    let b = exceeds-by (right n) (left n) d l in
-    let e = sub-add-cancel small in
-    let i = rw (poly-sum y w up taken n scale l, poly-sum y w down added n scale l) at (poly-le y w (9 * w - 16 * y) e (left n) (right n) d l (and-l a b t)) in
-    let j = rw (poly-sum y w up taken n scale l, poly-sum y w down added n scale l) at (poly-le y w (9 * w - 16 * y) e (right n) (left n) d l (and-r a b t)) in
-    let g = weighed (poly y w up l) (poly y w taken l) (poly y w down l) (poly y w added l) E unit scale n (2 ^ 26) (w ^ length l) scale-is i in
-    let h = weighed (poly y w down l) (poly y w added l) (poly y w up l) (poly y w taken l) E unit scale n (2 ^ 26) (w ^ length l) scale-is j in
-    record { upper = g; lower = other-way unit _ _ _ _ _ _ E h }
+module _ (z : Fraction) (small : 16 * z .more ≤ 9 * z .parts) (n : ℕ) (p : 0 < n) (l : List Row) (E : ℕ) where
+  abbrev at : (Row → ℕ) → ℕ
+  at f = poly (z .more) (z .parts) f l
+
+  abbrev power : ℕ
+  power = z .parts ^ length l
+
+  one-way : (u t d a : Row → ℕ) → T (oneSide n u t d a l E)
+      → unit * (at u * (n * power) + at t * (scale * power)) ≤ unit * (at d * (n * power) + at a * (scale * power)) + E * (scale * power * (n * power))
+  one-way u t d a h =
+      let y = z .more in
+      let w = z .parts in
+      weighed (at u) (at t) (at d) (at a) E unit scale n (2 ^ 26) power scale-is
+      (rw (poly-sum y w u t n scale l, poly-sum y w d a n scale l) at (poly-le y w (9 * w - 16 * y) (sub-add-cancel small) _ _ (E * 2 ^ 26 * n) l h))
+
+  kernel-near : T (near n l E) → Close (kernel z l) (polynomial z added taken n p l) E
+  kernel-near t =
+      let b = oneSide n up taken down added l E in
+      let c = oneSide n down added up taken l E in
+      record { upper = one-way up taken down added (and-l b c t); lower = other-way unit _ _ _ _ _ _ E (one-way down added up taken (and-r b c t)) }
 
 pub horner-near : {A : Type 0} (f : A → Fraction) (z : Expr A) {S : ℕ} → Sized (exact f z) S → exact f z .less ≡ 0 → 16 * exact f z .more ≤ 9 * exact f z .parts
     → (k : Float) (l : List Float) (ts : List Term) (n : ℕ) (p : 0 < n) (E : ℕ) → T (near n (rows (k ∷ l) ts) E)

@@ -1,8 +1,9 @@
 -- How near the sine and the cosine lie to their series, request 13 of document 02:
 -- "For each f64 argument from -0.75 to 0.75, the sine that we added lies within 2^-40 of the sum of the first ten terms of its series, up to the
 -- nineteenth power over 19 factorial with alternating signs. The statement is over whole numbers: the argument and answer are whole numbers scaled by
--- powers of two, with every denominator multiplied out. The same is wanted of the cosine with its first ten terms."
--- Proved in proofs/AccuracyLaws.
+-- powers of two, with every denominator multiplied out. The same is wanted of the cosine with its first ten terms. The two bounds share one account of
+-- the rounding."
+-- Proved in proofs/AccuracyLaws; the account of the rounding is proofs/Expressions.
 use mathlib.Core.Path.{_≡_}
 use mathlib.Core.Bool.{true, false}
 use mathlib.Core.List.{List, [], _∷_}
