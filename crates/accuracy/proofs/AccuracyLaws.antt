@@ -1,0 +1,23 @@
+-- The two bounds, as specs/Accuracy states them. Assumes nothing. How they come about, file by file:
+--   Fractions     signed fractions over natural numbers, and how far apart two of them are
+--   Rounding      a fraction goes to a float that is at most half of a last place off
+--   Operations    so does the exact result of each operation
+--   Expressions   the one account of the rounding: how far an expression's answer is from what it is exactly, from its operations
+--   Forms         polynomials that are compared by their coefficients
+--   Series        the statement's sums as polynomials in the square of the argument
+--   Polynomials   a kernel's polynomial, done exactly, beside that of the series
+--   Integers      from fractions to the statement's integers
+--   Words         which way the code takes, by the argument's high word
+--   Kernels       what sine and cosine share of all that
+--   Sine, Cosine  the two
+use lib.Dec.{lit≤}
+use Rattle.accuracy.specs.Accuracy.{SineAndCosineAreNear, SineAndCosineAreNearer}
+use Rattle.accuracy.proofs.Integers.{wider}
+use Rattle.accuracy.proofs.Sine.{sine-within}
+use Rattle.accuracy.proofs.Cosine.{cosine-within}
+
+pub sine-and-cosine-are-nearer : SineAndCosineAreNearer
+sine-and-cosine-are-nearer = (sine-within, cosine-within)
+
+pub sine-and-cosine-are-near : SineAndCosineAreNear
+sine-and-cosine-are-near = (λ x h. wider (lit≤ tt) (sine-within x h), λ x h. wider (lit≤ tt) (cosine-within x h))

@@ -1,0 +1,14 @@
+pub mod Algebra
+pub mod Fractions
+pub mod Rounding
+pub mod Operations
+pub mod Expressions
+pub mod Forms
+pub mod Series
+pub mod Polynomials
+pub mod Words
+pub mod Integers
+pub mod Kernels
+pub mod Sine
+pub mod Cosine
+pub mod AccuracyLaws

@@ -1,0 +1,2 @@
+pub mod Accuracy
+pub mod Examples
