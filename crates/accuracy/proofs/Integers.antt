@@ -9,7 +9,7 @@ use lib.IntN.{ℤ, pos, negsuc, negℤ, natAbs, pow, one, _-ℤ_, _*ℤ_}
 use lib.Pow.{pow-mono}
 use lib.Ieee.{Float, nan, inf, fin, up}
 use Rattle.integers.specs.Parts.{P, N}
-use Rattle.integers.specs.Sums as integers
+use Rattle.integers.proofs.Sums as integers
 use Rattle.accuracy.specs.Accuracy.{top, bottom, _!, term, alternating, Within}
 use Rattle.accuracy.proofs.Fractions.{Fraction, unit, unit-pos}
 use Rattle.accuracy.proofs.Rounding.{value, Near}

@@ -1,2 +1,1 @@
 pub mod Accuracy
-pub mod Examples
