@@ -1,6 +1,6 @@
 // schedule.rs: portions of a night, cut toward zero to whole seconds, also where the night is negative.
 // The source casts the portions of Fajr and Isha to i64. From an i32 every later sum fits with nothing to refuse, and the two casts give the same for
-// what an order's parameters give, no more than half of a night, of up to 2^31 seconds (after-source and before-source of specs/BoundsLaws).
+// what an order's parameters give, no more than half of a night, of up to 2^31 seconds (after-source and before-source of proofs/BoundsLaws).
 ghost use mathlib.Core.Path.{_≡_};
 ghost use Rattle.night_portions.specs.Portions.{portionAfterOf, portionBeforeOf, seventhOf, middleOf, lastThirdOf};
 use float64::casts::to_i32;
