@@ -2,7 +2,8 @@
    x86-64 Linux. docs/ORDERS.md says how the bytes of an order are written.
 
    Each answer is a struct by value. `number` is 0 where the call succeeds; else it is the refusal's, `place` says where, and every
-   other field is 0 (a print queue is handed back as it was). Any bytes are answered, and every call returns.
+   other field is 0 (a print queue is handed back as it was; a turn refuses nothing and has no number). Any bytes are answered, and every
+   call returns.
 
    number  name                      in the words of its sentence                           place
    0                                 nothing is refused                                     0
@@ -20,18 +21,18 @@
    16      KATCHIDUL_QUEUE_FULL      the print queue is full, job id                        the job's id
    17      KATCHIDUL_JOB_UNFIT       the job's id or its pages are not allowed, job id      the job's id
 
-   A row that the order lacks is 5, place 3, the tag of the rows. A row buffer is too short below 119 bytes. An instant is out of range
-   where its seconds are beyond 10^12 either way, or its nanoseconds over 999,999,999. 11 is told by next and remaining alone: that no
-   prayer is in force is an answer of katchidul_prayer_at. The print
-   queue is full with 16 jobs; a job's id is not allowed where it is 0, over 65,535 or still waiting, its pages where they are not 1 to 16.
-   katchidul_write_sentence puts a refusal in words.
+   A row that the order lacks is 5, place 3, the tag of the rows; a number that has no sentence, and bytes that are none, are 5, place 0. A row
+   buffer is too short below 119 bytes, a sentence's below its length. An instant is out of range where its seconds are beyond 10^12 either
+   way, or its nanoseconds over 999,999,999. 11 is told by next and remaining alone: that no prayer is in force is an answer of
+   katchidul_prayer_at. The print queue is full with 16 jobs; a job's id is not allowed where it is 0, over 65,535 or still waiting, its
+   pages where they are not 1 to 16. katchidul_write_sentence puts a refusal in words.
 
-   A buffer (9) and an instant (10) are checked before anything else in their calls; then the order (1 to 5), the row (5, place 3), the
-   day (6 to 8), and 11. Of a job 17 is tried before 16.
+   A row buffer (9) and an instant (10) are checked before anything else in their calls; then the order (1 to 5), the row (5, place 3), the
+   day (6 to 8), and 11. Of a job 17 is tried before 16, of a sentence to be written 5 before 9.
 
    What a call does with the host's memory. It changes no byte of the order, keeps nothing of what it is lent, allocates nothing and has no
    state: calls may run on several threads at once, also on the same order, as long as nobody writes to the bytes lent meanwhile. A null
-   pointer is taken with length 0 alone, as an empty order (4, place 1) or an empty buffer (9). A call takes less than 4,096 bytes of
+   pointer is taken with length 0 alone, as an empty order (4, place 1), an empty buffer (9) or an empty sentence (5, place 0). A call takes less than 4,096 bytes of
    stack (tests/host/run prints how many).
 
    The floating-point environment. The answers are proved for the environment that a C program starts with: rounding to nearest,
@@ -253,7 +254,7 @@ katchidul_joined katchidul_join(katchidul_queue queue, uint32_t id, uint32_t pag
 /* Takes a page from the job at the front, which goes to the back if it has pages left and leaves otherwise. Nothing is refused.
 
    A queue that no calls give is answered too: of more than 16 jobs the first 16 count, a job with 0 pages left sends one and leaves, and
-   one with id 0 answers that id, as if no job waited; `queue` has changed. */
+   one with id 0 answers id 0 and its pages left: by `queue` alone it is told from no job. */
 katchidul_turned katchidul_turn(katchidul_queue queue);
 
 /* Writes a refusal's sentence for the desk at the front of a buffer of `size` bytes: `Refusal 4: the order lacks a field: method, tag

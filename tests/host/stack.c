@@ -54,7 +54,7 @@ static order_bytes some_order(uint32_t i) {
 
 static void *measure(void *given) {
   size_t *most = given;
-  uint8_t line[ROW_LENGTH];
+  uint8_t line[ROW_LENGTH] = {0};
   for (uint32_t i = 0; i < 400; i++) {
     order_bytes order = some_order(i);
     int64_t seconds = katchidul_work_day(order.bytes, order.length, i % 11).times[i % 9];

@@ -1,4 +1,4 @@
--- What parts of the code make of the arrays. Nothing here need be believed: the two calls are held to Arrays alone.
+-- This file need not be believed: what parts of the code make of the arrays. The two calls are held to Arrays alone.
 use mathlib.Core.Bool.{Bool, false, _||_}
 use mathlib.Core.List.{List, [], _∷_}
 use Prim.Native.Nat.{ℕ, _+_}

@@ -1,5 +1,6 @@
 -- Document 01's table of refusals, and the numbers that document 02 adds: a number and a place. The numbers under the names that the code gives them.
 use Prim.Native.Nat.{ℕ}
+use mathlib.Core.List.{List, [], _∷_}
 use Rattle.refusals.specs.declared.Refusal.{Refusal}
 
 abbrev pub refusal : ℕ → ℕ → Refusal
@@ -58,3 +59,9 @@ queueFull = 16
 -- request 10: "by 17 for id 0, an id still waiting or pages outside 1 to 16"; the id
 abbrev pub jobUnfit : ℕ
 jobUnfit = 17
+
+-- all of them
+abbrev pub numbers : List ℕ
+numbers =
+    fieldCut ∷ fieldUnknown ∷ fieldAgain ∷ tagMissing ∷ outOfRange ∷ noTransit ∷ noSunrise
+    ∷ noSunset ∷ bufferShort ∷ instantBeyond ∷ noneInForce ∷ queueFull ∷ jobUnfit ∷ []

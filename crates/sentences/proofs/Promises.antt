@@ -1,4 +1,4 @@
--- The promises of request 8: `printed`, `read-back`, `different`, `reads-only-sentences`, `written-and-read`. Assumes nothing.
+-- The promises of request 8: `each-has-a-sentence`, `printed`, `read-back`, `different`, `reads-only-sentences`, `written-and-read`. Assumes nothing.
 use native.Mathlib.Omega.{arith}
 use Prim.Native.Nat.{ℕ, zero, suc, _+_, _/_, _≤_, _<_}
 use mathlib.Core.Bool.{Bool, true, false, cond, _&&_, false≢true}
@@ -10,10 +10,10 @@ use borrow.Author.Tests.{le-leb, lt-ltb, ltb-true}
 use Rattle.text.specs.Text.{ascii, digitOf, digitsOf, decimalOf, frontOf}
 use Rattle.text.proofs.TextLaws.{put-next, cut-front}
 use Rattle.sentences.specs.declared.Meaning.{Meaning}
-use Rattle.sentences.specs.Table.{textOf, nameOf, known, widest, widestName}
+use Rattle.sentences.specs.Table.{texts, textOf, nameOf, known, widest, widestName}
 use Rattle.sentences.specs.Guess.{none, numberIn, placeIn}
 use Rattle.sentences.specs.Sentences.{endsInColon, wordsOf, sentenceOf, bufferAfter, meant, noSentence, same, meaningOf}
-use Rattle.sentences.specs.Promises.{printable, Says, Different, Printed, ReadBack, Right, ReadsOnlySentences, WrittenAndRead}
+use Rattle.sentences.specs.Promises.{allKnown, EachHasASentence, printable, Says, Different, Printed, ReadBack, Right, ReadsOnlySentences, WrittenAndRead}
 use Rattle.sentences.specs.Promises.Right.{says, other}
 use Rattle.sentences.proofs.Lines.{text-fine, name-fine, text-says}
 use Rattle.sentences.proofs.Guessing.{number-append, ten-digits, place-back}
@@ -22,6 +22,10 @@ use Rattle.sentences.proofs.Comparing.{same-itself, same-only}
 and-true : (a b : Bool) → a && b ≡ true → (a ≡ true) × (b ≡ true)
 and-true true b e = (refl, e)
 and-true false b e = absurd (false≢true e)
+
+pub each-has-a-sentence : EachHasASentence
+unfolding allKnown textOf texts
+each-has-a-sentence = (refl, refl)
 
 -- ---- printable bytes
 printable-append : (s t : List ℕ) → printable s ≡ true → printable t ≡ true → printable (s ++ t) ≡ true

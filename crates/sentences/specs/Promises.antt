@@ -1,10 +1,11 @@
 -- What request 8 promises, as statements; proofs/Promises.antt proves them.
 use Prim.Native.Nat.{ℕ, _≤_, _<_, _^_}
 use mathlib.Core.Path.{_≡_}
-use mathlib.Core.Bool.{Bool, true, _&&_}
+use mathlib.Core.Bool.{Bool, true, false, _&&_}
 use mathlib.Core.List.{List, [], _∷_}
 use lib.Dec.{leb}
 use lib.ListN.{length, take}
+use Rattle.refusals.specs.Refusals.{numbers}
 use Rattle.text.specs.Text.{frontOf}
 use Rattle.sentences.specs.declared.Meaning.{Meaning}
 use Rattle.sentences.specs.Table.{known}
@@ -15,6 +16,14 @@ pub record Says (bytes : List ℕ) (n p : ℕ) : Type 0 where
   pub number : known n ≡ true
   pub place : p < 2 ^ 32
   pub sentence : bytes ≡ sentenceOf n p
+
+unfoldable pub allKnown : List ℕ → Bool
+allKnown [] = true
+allKnown (n ∷ ns) = known n && allKnown ns
+
+-- "a sentence for each refusal": every number of the table of refusals is known, and 0, which refuses nothing, is not
+abbrev pub EachHasASentence : Type 0
+EachHasASentence = (allKnown numbers ≡ true) × (known 0 ≡ false)
 
 -- "any two refusals that differ in number or place have different sentences": one sentence is one refusal's
 abbrev pub Different : Type 0

@@ -1,4 +1,4 @@
--- A text filled up with blanks to a fixed length, and where it ends: how the code keeps its tables. Nothing here need be believed.
+-- This file need not be believed: a text filled up with blanks to a fixed length, and where it ends, as the code keeps its tables.
 use Prim.Native.Nat.{ℕ, zero, suc}
 use mathlib.Core.Bool.{cond}
 use mathlib.Core.List.{List, [], _∷_}
