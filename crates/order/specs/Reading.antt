@@ -4,6 +4,7 @@ use Prim.Native.Nat.{ℕ, zero, suc, _+_}
 use mathlib.Core.Bool.{Bool, cond}
 use mathlib.Core.List.{List, [], _∷_}
 use lib.Dec.{eqb}
+use lib.IntN.{pos}
 use Rattle.fields.specs.Fields.{checkOf}
 use Rattle.fields.specs.Tags.{lastTag}
 use Rattle.fields.specs.Values.{valueOf, Values, valuesOf}
@@ -45,6 +46,7 @@ orderOf v =
       rows = rowsIn (v .value 3);
       coordinates = coordinatesOf (degreesIn (v .value 4)) (degreesIn (v .value 5));
       parameters = parametersIn v;
+      clock = pos 0;
     }
 
 -- the first of some refusals that refuses; where none does, what is read

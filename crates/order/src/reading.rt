@@ -33,6 +33,8 @@ pub struct Order {
     pub rows: u32,
     pub coordinates: Coordinates,
     pub parameters: Parameters,
+    // Minutes from UTC to the clock that the cells show.
+    pub clock: i32,
 }
 
 pub enum Reading {
@@ -82,6 +84,7 @@ fn record_in(order: &[u8], fields: Fields) -> Order
             degrees_in(value(order, fields, 5)),
         ),
         parameters: parameters_in(order, fields),
+        clock: 0,
     }
 }
 
