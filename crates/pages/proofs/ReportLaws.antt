@@ -1,6 +1,6 @@
 -- What the reports print, and that it fits. Assumes nothing.
 use native.Mathlib.Omega.{arith}
-use Prim.Native.Nat.{ℕ, _+_, _*_, _≤_, _<_}
+use Prim.Native.Nat.{ℕ, _+_, _-_, _*_, _≤_, _<_}
 use mathlib.Core.Bool.{Bool, true, false, cond}
 use mathlib.Core.Path.{_≡_, refl, sym, ap, _∙_}
 use mathlib.Core.List.{List, [], _++_}
@@ -19,7 +19,7 @@ use Rattle.order.specs.Reading.{readingOf}
 use Rattle.refusals.specs.declared.Refusal.{Refusal}
 use Rattle.text.proofs.TextLaws.{put-next, digits-short}
 use Rattle.text.specs.Text.{ascii, decimalOf, putOf, frontOf}
-use Rattle.pages.specs.Pages.{allCells}
+use Rattle.pages.specs.Pages.{rowsFrom, cellsOf, allCells}
 use Rattle.pages.specs.Reports.{totalText, wearIn, wearText, cellsIn, cellsText, longestWear, longestCells, printedLength, printedBuffer}
 use Rattle.pages.proofs.PageLaws.{all-cells}
 use Rattle.pages.proofs.RowsLaws.{cells-length}
@@ -44,6 +44,11 @@ total-made buffer one two three dots k room p e q r =
     put-next buffer (ascii "dots " ++ decimalOf dots) (ascii "\n") two three (5 + k) second (omega arith) r (omega arith)
 
 -- ---- all cells
+pub all-written : (o : Order) → cellsOf (rowsFrom o 0 (o .rows - 0)) ≡ allCells o
+all-written o =
+    let e : o .rows - 0 ≡ o .rows = omega arith in
+    ap (λ (n : ℕ). cellsOf (rowsFrom o 0 n)) e ∙ sym (all-cells o)
+
 pub all-length : (o : Order) → length (allCells o) ≡ rowLength * o .rows
 all-length o = ap length (all-cells o) ∙ cells-length o 0 (o .rows)
 
@@ -99,3 +104,21 @@ pub refused-made : (r : Refusal) (buffer after : List ℕ) → longestWear ≤ l
 refused-made r buffer after room p =
     let n = refused-length (ascii "order") (ascii " place ") r in
     put-next buffer [] (refusedOrderText r) buffer after 0 refl refl p (omega arith)
+
+-- ---- what is printed, by the order's reading
+module _ (s : List ℕ) where
+  pub wear-read : (o : Order) → readingOf s ≡ Read o → wearText s ≡ totalText (dotsOf (allCells o))
+  unfolding wearIn
+  wear-read o e = rw e refl
+
+  pub wear-refused : (r : Refusal) → readingOf s ≡ Refused r → wearText s ≡ refusedOrderText r
+  unfolding wearIn
+  wear-refused r e = rw e refl
+
+  pub cells-read : (o : Order) → readingOf s ≡ Read o → cellsText s ≡ allCells o
+  unfolding cellsIn
+  cells-read o e = rw e refl
+
+  pub cells-refused : (r : Refusal) → readingOf s ≡ Refused r → cellsText s ≡ refusedOrderText r
+  unfolding cellsIn
+  cells-refused r e = rw e refl
