@@ -54,6 +54,11 @@ void put_interval(order_bytes *order, uint16_t minutes) {
   put_number(order, minutes, 2);
 }
 
+void put_clock(order_bytes *order, int16_t minutes) {
+  put_header(order, 16, 2);
+  put_number(order, (uint16_t)minutes, 2);
+}
+
 order_bytes place_order(const char *town, uint16_t year, uint8_t month, uint8_t day, uint8_t rows, double latitude,
                         double longitude, uint8_t method) {
   order_bytes order = {0};

@@ -9,9 +9,10 @@
 #define OWN_FRAME 512 /* more than the painting function's own part */
 #define PAINT 0xA5
 #define STACK_MOST 4096 /* the header's promise */
-#define CALLS 10
+#define CALLS 12
 
 static volatile uint8_t *caller;
+static uint8_t page[PAGE_LENGTH];
 static const katchidul_queue queues[2] = {{0}, {15, {20, 21, 22, 23, 24, 25, 26, 27, 28, 29, 30, 31, 32, 33, 34}, {2}}};
 
 /* One call by its place in the header, counted from this function's frame on. */
@@ -29,7 +30,9 @@ __attribute__((noinline)) static void call(int which, const order_bytes *order, 
     case 6: katchidul_join(queues[row % 2], row, 1 + row % 2); break;
     case 7: katchidul_turn(queues[row % 2]); break;
     case 8: katchidul_write_sentence(1 + row, (uint32_t)seconds, line, ROW_LENGTH); break;
-    default: katchidul_read_sentence(line, ROW_LENGTH);
+    case 9: katchidul_read_sentence(line, ROW_LENGTH); break;
+    case 10: katchidul_write_cells(bytes, length, row, line, ROW_LENGTH); break;
+    default: katchidul_write_page(bytes, length, 1, page, sizeof page);
   }
 }
 
