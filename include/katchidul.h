@@ -50,11 +50,11 @@ extern "C" {
 #endif
 
 /* Of this header: one more with every change of a call, a struct or a number. Take header and library from the same build. */
-#define KATCHIDUL_VERSION 3
+#define KATCHIDUL_VERSION 4
 
 #define KATCHIDUL_ORDER_MAX 1024 /* bytes of an order */
 #define KATCHIDUL_TOWN_MAX 40    /* bytes of a town's name */
-#define KATCHIDUL_ROWS_MAX 250   /* rows of an order */
+#define KATCHIDUL_ROWS_MAX 400   /* rows of an order */
 #define KATCHIDUL_ROW_CELLS 39   /* of a row, a byte each, and the least that a cell buffer may have */
 #define KATCHIDUL_PAGE_ROWS 25   /* of a full page */
 #define KATCHIDUL_PAGE_CELLS 975 /* of a full page, and the least that a page's scratch may have */
@@ -155,7 +155,7 @@ typedef struct katchidul_order {
   uint32_t number, place;
   uint32_t town_at, town_length; /* the part of the order that is the town's name: offset and length in bytes */
   uint32_t year, month, day;     /* the date of row 0 */
-  uint32_t rows;                 /* 1 to 250 */
+  uint32_t rows;                 /* 1 to 400 */
   double latitude, longitude;    /* degrees */
   double fajr_angle, isha_angle; /* degrees */
   uint32_t method, madhab, high_latitude_rule, rounding, shafaq; /* by their numbers */

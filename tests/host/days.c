@@ -7,7 +7,7 @@ static void day_is_refused(const order_bytes *order, uint32_t number, uint32_t d
 }
 
 static void check_rows(void) {
-  static const uint32_t beyond[] = {10, 11, 250, 255, 256, 266, 65536, 0x80000000u, 0xffffffffu};
+  static const uint32_t beyond[] = {10, 11, 250, 255, 256, 266, 399, 400, 65536, 0x80000000u, 0xffffffffu};
   order_bytes order = good_order(), refused = good_order();
   for (uint32_t row = 0; row < 10; row++) {
     answers all = ask(&order, row, 0, 0);
@@ -23,6 +23,20 @@ static void check_rows(void) {
   order_bytes pole = place_order("Pole", 2026, 6, 21, 1, 90, 0, 0);
   all = ask(&pole, 1, 0, 0);
   check(row_refused(&all, 5, 3), "the row before the day");
+}
+
+/* The longest order has rows 0 to 399, each a day after the one before it, over the end of a leap year's February. */
+static void check_longest(void) {
+  order_bytes order = place_order("A", 2027, 9, 1, KATCHIDUL_ROWS_MAX, 10, 20, 0);
+  int64_t before = 0;
+  for (uint32_t row = 0; row < KATCHIDUL_ROWS_MAX; row++) {
+    answers all = ask(&order, row, 0, 0);
+    int64_t step = all.day.times[2] - before;
+    check(all.day.number == 0 && answers_agree(&all, row, 0, 0) && (row == 0 || (step >= 86340 && step <= 86460)), "a row of 400");
+    before = all.day.times[2];
+  }
+  answers all = ask(&order, KATCHIDUL_ROWS_MAX, 0, 0);
+  check(all.lent_kept && row_refused(&all, 5, 3), "row 400 of 400");
 }
 
 /* Row r of an order is row 0 of the order that begins r days later. */
@@ -66,6 +80,7 @@ void check_days(void) {
   day_is_refused(&pole, 7, 0, "the Pole has no sunrise on day 0");
   day_is_refused(&sunset, 8, 2, "no sunset on day 2");
   check_rows();
+  check_longest();
   check_dates_move();
   check_every_day();
 }

@@ -28,7 +28,7 @@ static bool number_fits(const katchidul_order *order) {
 
 static bool record_fits(const katchidul_order *order) {
   bool fits = order->year >= 1900 && order->year <= 2199 && order->month >= 1 && order->month <= 12 && order->day >= 1 &&
-              order->day <= 31 && order->rows >= 1 && order->rows <= 250 && order->latitude >= -90 &&
+              order->day <= 31 && order->rows >= 1 && order->rows <= KATCHIDUL_ROWS_MAX && order->latitude >= -90 &&
               order->latitude <= 90 && order->longitude >= -180 && order->longitude <= 180 && order->fajr_angle >= 0 &&
               order->fajr_angle <= 30 && order->isha_angle >= 0 && order->isha_angle <= 30 && order->method <= 12 &&
               order->madhab >= 1 && order->madhab <= 2 && order->high_latitude_rule <= 2 && order->rounding <= 2 &&

@@ -2,8 +2,10 @@
 use Prim.Native.Nat.{ℕ}
 use mathlib.Core.Bool.{cond}
 use mathlib.Core.List.{List}
+use lib.Dec.{eqb}
 use lib.Ieee.{Float, eq}
 use lib.IntN.{ℤ, pos}
+use lib.ListN.{length}
 use Rattle.float64.specs.Ops.{dec}
 use Rattle.calendar.specs.declared.dates.Date.{Date}
 use Rattle.calendar.specs.Gregorian.{dateOf}
@@ -21,9 +23,9 @@ use Rattle.models.specs.Presets.{presetOf}
 unfoldable pub dateIn : List ℕ → Date
 dateIn v = dateOf (unsignedOf v 0) (byteOf v 2) (byteOf v 3)
 
--- "rows, 1 byte"
+-- "rows, 1 byte", and of two bytes the number that they write, high byte first
 unfoldable pub rowsIn : List ℕ → ℕ
-rowsIn v = byteOf v 0
+rowsIn v = cond (eqb (length v) 2) (unsignedOf v 0) (byteOf v 0)
 
 -- a float; "-0.0 is read as 0.0"
 unfoldable pub degreesIn : List ℕ → Float

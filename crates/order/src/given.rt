@@ -26,6 +26,9 @@ pub fn date_in(bytes: &[u8]) -> Date
 pub fn rows_in(bytes: &[u8]) -> u32
     ensures { λ r. ⌜ r ≡ rowsIn (now (bytes .entry)) ⌝ }
 {
+    if bytes.len() == 2 {
+        return unsigned(bytes, 0);
+    }
     byte(bytes, 0)
 }
 

@@ -21,7 +21,7 @@ use refusals::TAG_MISSING;
 use unit::Coordinates;
 
 // The most rows that an order has.
-pub const MOST_ROWS: u32 = 250;
+pub const MOST_ROWS: u32 = 400;
 
 // The tags that an order may not lack.
 const REQUIRED: [u32; 6] = [1, 2, 3, 4, 5, 6];

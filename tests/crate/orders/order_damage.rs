@@ -90,7 +90,8 @@ impl Draw {
         let tag = [1, 3, 4, 5, 6, 7, 8, 9, 10, 11, 12, 13, 14][self.index(13)];
         let field = match tag {
             1 => Field::new(tag, &self.town_out()),
-            3 => Field::new(tag, &[[0, 251, 255][self.index(3)]]),
+            3 if self.coin() => Field::new(tag, &[[0, 251, 255][self.index(3)]]),
+            3 => Field::new(tag, &[0u16, 401, 512, 65_535][self.index(4)].to_be_bytes()),
             4 => Field::new(tag, &(self.sign() * beyond(90.0)).to_be_bytes()),
             5 => Field::new(tag, &(self.sign() * beyond(180.0)).to_be_bytes()),
             6 => Field::new(tag, &[13 + self.below(3) as u8]),
@@ -146,10 +147,10 @@ impl Draw {
     }
 
     fn past_the_end(&mut self, fields: &mut Vec<Field>) {
-        let rows = 2 + self.below(249) as i64;
+        let rows = 2 + self.below(399) as i64;
         let date = last_date() - Duration::days([rows - 2, 0, self.below(rows as u64 - 1) as i64][self.index(3)]);
         put(fields, Field::new(2, &date_value(date.year(), date.month(), date.day())));
-        put(fields, Field::new(3, &[rows as u8]));
+        put(fields, Field::new(3, &self.rows_value(rows)));
     }
 
     fn damage_fields(&mut self, kind: usize, fields: &mut Vec<Field>) {

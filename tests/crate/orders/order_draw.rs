@@ -53,7 +53,7 @@ impl Draw {
 
     /// Row 0's date and the rows: both ends of the calendar, leap days, the last row on the last date, and any.
     fn dates(&mut self) -> (NaiveDate, i64) {
-        let rows = [1, 250, 2, 1 + self.below(250) as i64][self.index(4)];
+        let rows = [1, 250, 400, 2, 1 + self.below(400) as i64][self.index(5)];
         let latest = last_date() - Duration::days(rows - 1);
         let date = match self.below(12) {
             0 => latest,
@@ -63,6 +63,12 @@ impl Draw {
             _ => self.date(),
         };
         (date.min(latest), rows)
+    }
+
+    /// Up to 250 rows in one byte or in two, more in two.
+    pub fn rows_value(&mut self, rows: i64) -> Vec<u8> {
+        let two = (rows as u16).to_be_bytes();
+        if rows <= 250 && self.coin() { two[1..].to_vec() } else { two.to_vec() }
     }
 
     /// The end of a February, and the days around it.
@@ -82,7 +88,7 @@ impl Draw {
         vec![
             Field::new(1, &town),
             Field::new(2, &date_value(date.year(), date.month(), date.day())),
-            Field::new(3, &[rows as u8]),
+            Field::new(3, &self.rows_value(rows)),
             Field::new(4, &place.latitude.to_be_bytes()),
             Field::new(5, &place.longitude.to_be_bytes()),
             Field::new(6, &[method as u8]),

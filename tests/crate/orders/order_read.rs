@@ -60,7 +60,8 @@ pub fn lengths(tag: u8) -> Option<RangeInclusive<usize>> {
     match tag {
         1 => Some(1..=40),
         2 => Some(4..=4),
-        3 | 6..=10 => Some(1..=1),
+        3 => Some(1..=2),
+        6..=10 => Some(1..=1),
         4 | 5 | 12 | 13 => Some(8..=8),
         11 => Some(12..=12),
         14 => Some(2..=2),
@@ -144,7 +145,11 @@ impl Whole<'_> {
     }
 
     fn rows(&self, date: NaiveDate) -> Result<u32, Refusal> {
-        let rows = self.byte(3, 1..=250)?.unwrap();
+        let value = self.bytes(3).unwrap();
+        let rows = value.iter().fold(0, |rows, byte| rows * 256 + *byte as u32);
+        if !(1..=if value.len() == 1 { 250 } else { 400 }).contains(&rows) {
+            return refused(5, 3);
+        }
         let last_row = date + Duration::days(rows as i64 - 1);
         if last_row > NaiveDate::from_ymd_opt(2199, 12, 31).unwrap() {
             return refused(5, 3);
