@@ -149,7 +149,7 @@ static void check_sizes(const order_bytes *order, const char *what) {
 /* All pages of orders with every number of rows on the last one, on days that are refused and not, and at both ends of the clock. */
 static void check_pages(void) {
   for (uint32_t rows = 1; rows <= 51; rows++) {
-    order_bytes order = place_order("A", 2026, 5, 20, (uint8_t)rows, rows % 2 ? 66.5 : -33.25, rows % 3 ? -66.7 : 151.0, (uint8_t)(rows % 13));
+    order_bytes order = place_order("A", 2026, 5, 20, (uint16_t)rows, rows % 2 ? 66.5 : -33.25, rows % 3 ? -66.7 : 151.0, (uint8_t)(rows % 13));
     if (rows % 5 != 0) put_clock(&order, (int16_t)(rows % 5 == 1 ? -840 : rows % 5 == 2 ? 840 : 7 * (int)rows - 180));
     uint32_t pages = (rows + 24) / 25;
     for (uint32_t page = 1; page <= pages; page++) one_page(&order, page, PAGE_LENGTH, 0, 0, "an order by its rows");

@@ -58,9 +58,9 @@ fn full_row(date: Date, times: PrayerTimes, clock: i32) -> [u8; ROW_CELLS]
 fn day_alone(date: Date) -> [u8; ROW_CELLS]
     ensures { λ r. ⌜ r ≡ refusedCells date ⌝ }
 {
-    let mut cells = [0u8; ROW_CELLS];
-    put(&mut cells, 0, &day_cells(date));
-    cells
+    let mut blanks = [0u8; ROW_CELLS];
+    put(&mut blanks, 0, &day_cells(date));
+    blanks
 }
 
 fn row_cells(date: Date, worked: Worked, clock: i32) -> [u8; ROW_CELLS]
