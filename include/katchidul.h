@@ -21,10 +21,10 @@
    16      KATCHIDUL_QUEUE_FULL      the print queue is full, job id                        the job's id
    17      KATCHIDUL_JOB_UNFIT       the job's id or its pages are not allowed, job id      the job's id
 
-   A row or a page that the order lacks is 5, place 3, the tag of the rows; a number that has no sentence, and bytes that are none, are 5, place 0. A row
-   buffer is too short below 119 bytes, a cell buffer below 39, a page's scratch below 975, a sentence's below its length. An instant is out of range where its seconds are beyond 10^12 either
-   way, or its nanoseconds over 999,999,999. 11 is told by next and remaining alone: that no prayer is in force is an answer of
-   katchidul_prayer_at. The print queue is full with 16 jobs; a job's id is not allowed where it is 0, over 65,535 or still waiting, its
+   A row or a page that the order lacks is 5, place 3, the tag of the rows; a number that has no sentence, and bytes that are none, are 5,
+   place 0. A row buffer is too short below 119 bytes, a cell buffer below 39, a page's scratch below 975, a sentence's below its length. An
+   instant is out of range where its seconds are beyond 10^12 either way, or its nanoseconds over 999,999,999. 11 is told by next and
+   remaining alone: that no prayer is in force is an answer of katchidul_prayer_at. The print queue is full with 16 jobs; a job's id is not allowed where it is 0, over 65,535 or still waiting, its
    pages where they are not 1 to 16. katchidul_write_sentence puts a refusal in words.
 
    A lent buffer (9) and an instant (10) are checked before anything else in their calls; then the order (1 to 5), the row or the page (5,
