@@ -12,10 +12,10 @@ use Rattle.rows.proofs.sheet.put_rows.Statement.{statement}
 use Rattle.rows.proofs.sheet.put_rows.Tie as tie
 
 abbrev Inv-loop : tie.InvT-loop
-Inv-loop buffer₀ at order coordinates parameters latitude rolling₀ row₀ end₀ buffer suns row end = Run order buffer₀ at buffer suns row end
+Inv-loop buffer₀ at order coordinates parameters rules latitude rolling₀ row₀ end₀ buffer suns row end = Run order buffer₀ at buffer suns row end
 
 abbrev μ-loop : tie.MeasureT-loop
-μ-loop buffer₀ at order coordinates parameters latitude rolling₀ row₀ end₀ buffer suns row end = order .rows - row
+μ-loop buffer₀ at order coordinates parameters rules latitude rolling₀ row₀ end₀ buffer suns row end = order .rows - row
 
 loop-holds : tie.Need-loop-holds Inv-loop μ-loop
 loop-holds c =
@@ -76,7 +76,7 @@ loop-again c =
     let room = run-room o (p .0) (now (t .args .buffer)) (t .args .at) (p .1) (l .row) (l .inv .within) in
     record {
       within = c .before .if1 .left;
-      state = c .next .ensures ∙ ap (nextRowSunsOf (o .coordinates) (o .parameters)) (l .inv .state) ∙ next-state o (p .0) (l .row) (l .inv .within);
+      state = c .next .ensures ∙ ap (nextRowSunsOf (o .coordinates) (o .parameters) (o .rules)) (l .inv .state) ∙ next-state o (p .0) (l .row) (l .inv .within);
       text = line .0;
       place = line .1;
       same = put .kept .0 ∙ l .inv .same;
