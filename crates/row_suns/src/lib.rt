@@ -39,12 +39,7 @@ pub struct RowSuns {
     pub after: DaySun,
 }
 
-fn day_sun(
-    coordinates: Coordinates,
-    parameters: Parameters,
-    rules: Rules,
-    course: Course,
-) -> DaySun
+fn day_sun(coordinates: Coordinates, parameters: Parameters, rules: Rules, course: Course) -> DaySun
     ensures { λ r. ⌜ r ≡ daySunOf coordinates parameters rules course ⌝ }
 {
     let midnight = rules.midnight;

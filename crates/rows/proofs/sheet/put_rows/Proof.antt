@@ -19,7 +19,7 @@ abbrev μ-loop : tie.MeasureT-loop
 
 loop-holds : tie.Need-loop-holds Inv-loop μ-loop
 loop-holds c =
-    let t = c .before .before .before .before in
+    let t = c .before .before .before .before .before in
     let o = t .args .order in
     let p = t .pre in
     let n = lines-none o (now (t .args .buffer)) (t .args .at) (omega (arith, p .1)) in
@@ -27,7 +27,7 @@ loop-holds c =
 
 add-end : tie.Need-add-end Inv-loop μ-loop
 add-end c =
-    let t = c .before .before .before .before .before .before .before .before .before .before in
+    let t = c .before .before .before .before .before .before .before .before .before .before .before in
     let o = t .args .order in
     let p = t .pre in
     let l = c .before .before .before .before .before .loop in
@@ -41,7 +41,7 @@ add-end c =
 add-row : tie.Need-add-row Inv-loop μ-loop
 add-row c =
     let w = c .before .before .before .before .before .loop .inv .within in
-    let m = c .before .before .before .before .before .before .before .before .before .before .pre .0 .rows .1 in
+    let m = c .before .before .before .before .before .before .before .before .before .before .before .pre .0 .rows .1 in
     record { fits = omega arith }
 
 same-length : tie.Need-same-length Inv-loop μ-loop
@@ -49,7 +49,7 @@ same-length c = c .before .before .before .before .put-line .kept .0 ∙ c .befo
 
 returns : tie.Need-returns Inv-loop μ-loop
 returns c =
-    let t = c .before .before .before .before .before .before .before .before .before .before .before .before in
+    let t = c .before .before .before .before .before .before .before .before .before .before .before .before .before in
     let o = t .args .order in
     let p = t .pre in
     let l = c .before .before .before .before .before .before .before .loop in
@@ -66,7 +66,7 @@ loop-less c = let w = c .before .before .before .before .before .before .before 
 
 loop-again : tie.Need-loop-again Inv-loop μ-loop
 loop-again c =
-    let t = c .before .before .before .before .before .before .before .before .before .before .before .before .before in
+    let t = c .before .before .before .before .before .before .before .before .before .before .before .before .before .before in
     let o = t .args .order in
     let p = t .pre in
     let l = c .before .before .before .before .before .before .before .before .loop in
