@@ -20,35 +20,35 @@ use Rattle.calls.specs.Calls.{workRowOf}
 
 -- the suns of a row
 abbrev pub stateOf : Order → ℕ → RowSuns
-stateOf o k = rowSunsOf (rowDateOf (o .date) k) (o .coordinates) (o .parameters)
+stateOf o k = rowSunsOf (rowDateOf (o .date) k) (o .coordinates) (o .parameters) (o .rules)
 
 -- the day that suns give
 abbrev pub workedFrom : Order → RowSuns → Worked
 workedFrom o suns =
-    workedOf (rowSunsHoursOf (o .coordinates .latitude) (o .parameters) suns) (suns .date) (o .coordinates .latitude) (o .parameters)
+    workedOf (rowSunsHoursOf (o .coordinates .latitude) (o .parameters) (o .rules) suns) (suns .date) (o .coordinates .latitude) (o .parameters)
 
 module _ (o : Order) (a : Accepted o) where
-  pub first-state : rowSunsOf (o .date) (o .coordinates) (o .parameters) ≡ stateOf o 0
+  pub first-state : rowSunsOf (o .date) (o .coordinates) (o .parameters) (o .rules) ≡ stateOf o 0
   first-state =
       let d = o .date in
       let there = a .date .there in
       let y = row-year d there 0 (a .row 0 (a .rows .0) .to) in
-      ap (λ (x : Date). rowSunsOf x (o .coordinates) (o .parameters)) (sym (row-is d there 0 (omega arith) ∙ row-first d there))
+      ap (λ (x : Date). rowSunsOf x (o .coordinates) (o .parameters) (o .rules)) (sym (row-is d there 0 (omega arith) ∙ row-first d there))
 
   module _ (k : ℕ) (h : k < o .rows) where
-    pub next-state : nextRowSunsOf (o .coordinates) (o .parameters) (stateOf o k) ≡ stateOf o (k + 1)
+    pub next-state : nextRowSunsOf (o .coordinates) (o .parameters) (o .rules) (stateOf o k) ≡ stateOf o (k + 1)
     next-state =
         let d = o .date in
         let there = a .date .there in
         let r = a .row k h in
         let to = r .to in
         let y = row-year d there k to in
-        rolls (rowDateOf d k) (o .coordinates) (o .parameters) (r .there) (omega arith)
-        ∙ ap (λ (x : Date). rowSunsOf x (o .coordinates) (o .parameters)) (sym (row-tomorrow d there k (omega arith)))
+        rolls (rowDateOf d k) (o .coordinates) (o .parameters) (o .rules) (r .there) (omega arith)
+        ∙ ap (λ (x : Date). rowSunsOf x (o .coordinates) (o .parameters) (o .rules)) (sym (row-tomorrow d there k (omega arith)))
 
     pub state-worked : workedFrom o (stateOf o k) ≡ workRowOf o k
     unfolding workRowOf rowSunsOf
     state-worked =
         simp (lt-ltb k (o .rows) h)
         (ap (λ (x : RowHours). workedOf x (rowDateOf (o .date) k) (o .coordinates .latitude) (o .parameters))
-        (rolled-hours (rowDateOf (o .date) k) (o .coordinates) (o .parameters)))
+        (rolled-hours (rowDateOf (o .date) k) (o .coordinates) (o .parameters) (o .rules)))

@@ -4,7 +4,6 @@ use Prim.Native.Nat.{ℕ, zero, suc, _+_}
 use mathlib.Core.Bool.{Bool, cond}
 use mathlib.Core.List.{List, [], _∷_}
 use lib.Dec.{eqb}
-use lib.IntN.{pos}
 use Rattle.fields.specs.Fields.{checkOf}
 use Rattle.fields.specs.Tags.{lastTag}
 use Rattle.fields.specs.Values.{valueOf, Values, valuesOf}
@@ -14,7 +13,7 @@ use Rattle.unit.specs.Unit.{coordinatesOf}
 use Rattle.order.specs.declared.reading.Order.{Order}
 use Rattle.order.specs.declared.reading.Reading.{Reading}
 use Rattle.order.specs.declared.reading.Reading.the-variants.{Read, Refused}
-use Rattle.order.specs.Given.{dateIn, rowsIn, degreesIn, parametersIn}
+use Rattle.order.specs.Given.{dateIn, rowsIn, degreesIn, parametersIn, rulesIn, clockIn}
 use Rattle.order.specs.Ranges.{inRangeOf}
 
 -- the refusal of the first of some tags that does not pass, by a number and the tag
@@ -46,7 +45,8 @@ orderOf v =
       rows = rowsIn (v .value 3);
       coordinates = coordinatesOf (degreesIn (v .value 4)) (degreesIn (v .value 5));
       parameters = parametersIn v;
-      clock = pos 0;
+      rules = rulesIn v;
+      clock = clockIn v;
     }
 
 -- the first of some refusals that refuses; where none does, what is read

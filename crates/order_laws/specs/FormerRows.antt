@@ -36,6 +36,7 @@ withRows order rows =
       rows = rows;
       coordinates = order .coordinates;
       parameters = order .parameters;
+      rules = order .rules;
       clock = order .clock;
     }
 

@@ -34,6 +34,7 @@ withOwnMinutes order town minutes =
       rows = order .rows;
       coordinates = order .coordinates;
       parameters = withMinutes (order .parameters) minutes;
+      rules = order .rules;
       clock = order .clock;
     }
 

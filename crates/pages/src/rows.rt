@@ -24,19 +24,20 @@ pub fn put_rows(buffer: &mut [u8], order: Order, row: u32, end: u32) -> u32
     let first = order.date;
     let coordinates = order.coordinates;
     let parameters = order.parameters;
+    let rules = order.rules;
     let latitude = coordinates.latitude;
-    let mut suns = RowSuns::new(first.row(row), coordinates, parameters);
+    let mut suns = RowSuns::new(first.row(row), coordinates, parameters, rules);
     let mut next = row;
     let mut dots = 0;
     loop {
-        let worked = suns.work(latitude, parameters);
+        let worked = suns.work(latitude, parameters, rules);
         let at = ROW_CELLS * (next - row) as usize;
         dots = dots + put_cells(&mut buffer[..], at, suns.date, worked, order.clock);
         next = next + 1;
         if next >= end {
             return dots;
         }
-        suns = suns.next(coordinates, parameters);
+        suns = suns.next(coordinates, parameters, rules);
     }
 }
 

@@ -48,6 +48,8 @@ names =
     ∷ ascii " fajr angle, tag"
     ∷ ascii " isha angle, tag"
     ∷ ascii " isha interval, tag"
+    ∷ ascii " carry, tag"
+    ∷ ascii " clock, tag"
     ∷ []
 
 unfoldable pub textOf : ℕ → List ℕ
