@@ -50,7 +50,7 @@ extern "C" {
 #endif
 
 /* Of this header: one more with every change of a call, a struct or a number. Take header and library from the same build. */
-#define KATCHIDUL_VERSION 5
+#define KATCHIDUL_VERSION 6
 
 #define KATCHIDUL_ORDER_MAX 1024 /* bytes of an order */
 #define KATCHIDUL_TOWN_MAX 40    /* bytes of a town's name */
@@ -164,8 +164,8 @@ typedef struct katchidul_order {
   uint32_t isha_interval;        /* minutes */
   int32_t minutes[KATCHIDUL_MINUTES_COUNT]; /* own minutes: fajr, sunrise, dhuhr, asr, maghrib, isha */
   uint32_t carry;                /* an hour number that rounds to hour 24: KATCHIDUL_CARRY_STOPS or KATCHIDUL_CARRY_CARRIES */
-  int32_t clock;                 /* 0, as the four below: for tags that are still to come */
-  uint32_t southern;
+  int32_t clock;                 /* minutes from UTC to the clock that the cells show, -840 to 840 */
+  uint32_t southern;             /* 0, as those below: for tags that are still to come */
   uint32_t ramadan, imsak;
   int32_t shift;
 } katchidul_order;

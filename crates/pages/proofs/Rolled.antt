@@ -4,6 +4,8 @@ use Prim.Native.Nat.{ℕ, _+_, _-_, _*_, _≤_, _<_}
 use mathlib.Core.Path.{_≡_, refl, sym, ap, _∙_}
 use mathlib.Core.List.{List, [], _∷_, _++_, append-nil}
 use lib.ListN.{length}
+use mir.Syntax.{w32}
+use mir.Val.{SFits}
 use Rattle.braille.proofs.Bits.{dots-bound}
 use Rattle.braille.proofs.Parts.{row-length}
 use Rattle.braille.specs.Braille.{dotsOf}
@@ -11,6 +13,7 @@ use Rattle.braille.specs.Cells.{rowLength, rowCells}
 use Rattle.calendar.specs.Answers.{rowDateOf}
 use Rattle.calls.proofs.RowStates.{stateOf, workedFrom, state-worked}
 use Rattle.calls.specs.Calls.{workRowOf}
+use Rattle.integers.proofs.Ranges.{fits}
 use Rattle.order.specs.Accepted.{Accepted}
 use Rattle.order.specs.declared.reading.Order.{Order}
 use Rattle.row_suns.specs.RowSuns.{rowSunsOf}
@@ -20,6 +23,10 @@ use Rattle.text.specs.Text.{putOf, frontOf}
 use Rattle.text.proofs.TextLaws.{put-next}
 use Rattle.pages.specs.Pages.{rowOf, rowsFrom, cellsOf}
 use Rattle.pages.proofs.RowsLaws.{dots-append, cells-append, cells-length, rows-next}
+
+-- the clock of an order that is read fits its i32
+pub clock-fits : (o : Order) → Accepted o → SFits w32 (o .clock)
+clock-fits o a = let n = a .clock in fits w32 (o .clock) (omega (arith, n .from, n .to)) (omega (arith, n .from, n .to))
 
 -- the cells that a row's suns give
 abbrev pub madeRow : Order → RowSuns → List ℕ

@@ -103,6 +103,7 @@ fn print_rules(order: Order) {
     let rules = order.rules;
     let midnight = rules.midnight;
     print(wide(midnight.number()));
+    print_signed(order.clock);
 }
 
 fn print_record(order: Order) {
