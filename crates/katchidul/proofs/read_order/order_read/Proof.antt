@@ -11,7 +11,9 @@ unfolding orderRead
 returns c =
     let m = c .before in
     let n = m .before .before .before in
-    let f : SFits w32 (n .before .before .before .before .before .before .before .before .before .before .args .order .parameters .«isha_interval») = search needs in
+    let t = n .before .before .before .before .before .before .before .before .before .before in
+    let told = m .before .before .struct-told .given in
+    let f : SFits w32 (t .args .order .parameters .«isha_interval») = search needs in
     simp (
       toZ-ofZ f,
       c .choices-read .ensures,
