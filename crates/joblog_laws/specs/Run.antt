@@ -1,0 +1,130 @@
+-- Request 6, a run: a host with its log, and an embosser. What the calls write and answer is crates/joblog's definitions, which its code equals.
+--
+-- What the request's promise rests on, beside the log (each is a choice of this model, to hold against the request):
+--   the link    pages reach the embosser in the order in which they go out. What is lost is lost from the end, and then nothing more gets through
+--               until a restart (the step `crash`, also where only the link or the embosser failed).
+--   embosser    it finishes its pages in the order in which they reached it, also while the host is down, and no crash takes a finished page back.
+--   a count     it is true where it is the number of pages finished, and the embosser drops what it has not finished when it reports it: the open
+--               pages go out again, and one still in its tray would be finished twice (`keeps-its-tray` in proofs/WrongRules).
+--   the host    after any crash it restarts before it appends or sends: `up` says so.
+--   a done      is recorded only of a page that the embosser has finished. An acknowledgement that is lost is a done that never comes.
+--   the buffer  an append's bytes become lasting from the first on, and `used` never counts a byte that is not lasting; the move to the second
+--               buffer is lasting at once, when the call has returned and before a page goes out.
+use Prim.Native.Nat.{ℕ, _+_}
+use mathlib.Core.Bool.{Bool, true, false, cond, _&&_, _||_}
+use mathlib.Core.List.{List, [], _∷_, _++_}
+use lib.Dec.{leb, eqb}
+use lib.ListN.{length, take}
+use Rattle.text.specs.Text.{putOf}
+use Rattle.joblog.specs.Records.{bytesOf, wholeOf}
+use Rattle.joblog.specs.Calls.{Call, readLogOf, appendOf, restartOf}
+
+pub record World : Type 0 where
+  -- lasting, the host's: the buffer that is the log now, and how many of its bytes are the log
+  pub log : List ℕ
+  pub used : ℕ
+  -- the host's memory: whether it runs and has restarted since the last crash, and the last page that went out
+  pub up : Bool
+  pub out : ℕ
+  -- the embosser's: the pages that reached it and are not finished, and those that it has finished, the oldest first
+  pub tray : List ℕ
+  pub finished : List ℕ
+
+-- a job begins: any buffer, and an empty log in it
+abbrev pub begun : List ℕ → World
+begun buffer = record { log = buffer; used = 0; up = true; out = 0; tray = []; finished = [] }
+
+pub data Step : Type 0 where
+  -- the host appends a record (tag, page, the second buffer that it lends), and the call returns
+  append : ℕ → ℕ → List ℕ → Step
+  -- the same, and the host crashes before the call returns: `k` of the record's bytes are lasting, and `used` says `u` then
+  cut : ℕ → ℕ → List ℕ → ℕ → ℕ → Step
+  -- the page after the last one goes out, and reaches the embosser
+  goes : Step
+  -- the embosser finishes the first page of its tray
+  finishes : Step
+  -- host, link or embosser fail: of the tray the first pages are left, that many
+  crash : ℕ → Step
+  -- the embosser reports its count, and the host restarts with it (the second buffer that it lends)
+  restart : List ℕ → Step
+
+unfoldable pub has : List ℕ → ℕ → Bool
+has [] page = false
+has (p ∷ pages) page = eqb p page || has pages page
+
+-- ---- the rules of host and embosser. The request's are below; proofs/WrongRules has others, under which the promise fails.
+pub record Rules : Type 0 where
+  -- the finished pages, a page: may the host record it as done?
+  pub told : List ℕ → ℕ → Bool
+  -- a page, the pages that the log says are sent: may it go out?
+  pub ready : ℕ → ℕ → Bool
+  -- the log's finished pages, the embosser's count: the open pages after which page go out again?
+  pub resume : ℕ → ℕ → ℕ
+  -- what is left of the embosser's tray once it has reported its count
+  pub kept : List ℕ → List ℕ
+
+-- "a page goes out only after its sent record is whole"; "the log is compacted with the count as finished, its open pages go out again"
+abbrev pub asRequested : Rules
+asRequested = record { told = has; ready = leb; resume = λ done count. count; kept = λ tray. [] }
+
+-- ---- steps. One that the rules do not allow at that moment does not happen.
+-- "the first buffer stays as it was and is the log until the call returns"
+abbrev pub logAfter : Call → List ℕ
+logAfter c = cond (eqb (c .answer .moved) 1) (c .second) (c .log)
+
+abbrev pub usedAfter : Call → ℕ → ℕ
+usedAfter c used = cond (eqb (c .answer .number) 0) (c .answer .used) used
+
+abbrev pub inPlace : Call → Bool
+inPlace c = eqb (c .answer .number) 0 && eqb (c .answer .moved) 0
+
+abbrev pub mayAppend : Rules → World → ℕ → ℕ → Bool
+mayAppend rules w tag page = w .up && cond (eqb tag 2) (rules .told (w .finished) page) true
+
+-- a crash in an append: the bytes of the buffer, and what `used` may be then
+abbrev pub cutLog : List ℕ → ℕ → Call → ℕ → ℕ → ℕ → List ℕ
+cutLog log used c tag page k = cond (inPlace c) (putOf log (wholeOf used) (take k (bytesOf tag page))) log
+
+abbrev pub cutUsed : ℕ → Call → ℕ → ℕ
+cutUsed used c u = cond (inPlace c) u used
+
+abbrev pub mayBeUsed : ℕ → ℕ → ℕ → Bool
+mayBeUsed used k u = leb k 5 && leb (wholeOf used) u && (leb u used || leb u (wholeOf used + k))
+
+unfoldable pub finishing : World → List ℕ → World
+finishing w [] = w
+finishing w (page ∷ rest) =
+    record { log = w .log; used = w .used; up = w .up; out = w .out; tray = rest; finished = w .finished ++ (page ∷ []) }
+
+unfoldable pub next : Rules → World → Step → World
+next rules w (append tag page second) =
+    let c = appendOf (w .log) (w .used) tag page second in
+    cond (mayAppend rules w tag page)
+    (record { log = logAfter c; used = usedAfter c (w .used); up = true; out = w .out; tray = w .tray; finished = w .finished })
+    w
+next rules w (cut tag page second k u) =
+    let c = appendOf (w .log) (w .used) tag page second in
+    cond (mayAppend rules w tag page && mayBeUsed (w .used) k u)
+    (record { log = cutLog (w .log) (w .used) c tag page k; used = cutUsed (w .used) c u; up = false; out = 0; tray = w .tray; finished = w .finished })
+    w
+next rules w goes =
+    cond (w .up && rules .ready (w .out + 1) (readLogOf (w .log) (w .used) .sent))
+    (record { log = w .log; used = w .used; up = true; out = w .out + 1; tray = w .tray ++ ((w .out + 1) ∷ []); finished = w .finished })
+    w
+next rules w finishes = finishing w (w .tray)
+next rules w (crash left) = record { log = w .log; used = w .used; up = false; out = 0; tray = take left (w .tray); finished = w .finished }
+next rules w (restart second) =
+    let count = length (w .finished) in
+    let c = restartOf (w .log) (w .used) count second in
+    record {
+      log = logAfter c;
+      used = usedAfter c (w .used);
+      up = eqb (c .answer .number) 0;
+      out = rules .resume (readLogOf (w .log) (w .used) .finished) count;
+      tray = rules .kept (w .tray);
+      finished = w .finished;
+    }
+
+unfoldable pub run : Rules → World → List Step → World
+run rules w [] = w
+run rules w (step ∷ steps) = run rules (next rules w step) steps
