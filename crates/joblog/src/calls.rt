@@ -8,19 +8,19 @@ ghost use lib.ListN.{length};
 ghost use Rattle.text.specs.Text.{putOf};
 ghost use Rattle.joblog.specs.Records.{recordAs, bytesOf, wholeOf, afterOf, compactedOf, Bounded};
 ghost use Rattle.joblog.specs.Calls.{refused, answered, readAnswer, readLogOf, compactAnswer, newInTurn, writtenOf, appendedOf, appendOf, restartedOf, restartOf};
-use refusals::BUFFER_SHORT;
-use refusals::LOG_COUNT_OUTSIDE;
-use refusals::LOG_OUT_OF_TURN;
-use refusals::LOG_SECOND_SHORT;
 use super::records::Reading;
-use super::records::Record;
 use super::records::State;
 use super::records::after;
 use super::records::in_turn;
+use super::records::new_record;
 use super::records::scan;
 use super::writing::open_pages;
 use super::writing::put_compacted;
 use super::writing::put_record;
+use refusals::BUFFER_SHORT;
+use refusals::LOG_COUNT_OUTSIDE;
+use refusals::LOG_OUT_OF_TURN;
+use refusals::LOG_SECOND_SHORT;
 
 // What each call answers: number 0, or a refusal with its place and every other field 0. `moved` is 1 where the log is now in the second buffer.
 #[repr(C)]
@@ -108,12 +108,7 @@ fn compact_with(s: State, tag: u32, page: u32, second: &mut [u8]) -> Log
     }
     let at = put_compacted(&mut second[..], s);
     put_record(&mut second[..], at, tag, page);
-    let new = Record {
-        tag: tag,
-        length: 2,
-        page: page,
-    };
-    answer(1, after(s, new), at + 5)
+    answer(1, after(s, new_record(tag, page)), at + 5)
 }
 
 // The new record in its place, or into the second buffer where the log is full.
@@ -126,12 +121,7 @@ fn write(s: State, log: &mut [u8], used: usize, tag: u32, page: u32, second: &mu
     let at = whole(used);
     if log.len() - at >= 5 {
         put_record(&mut log[..], at, tag, page);
-        let new = Record {
-            tag: tag,
-            length: 2,
-            page: page,
-        };
-        return answer(0, after(s, new), at + 5);
+        return answer(0, after(s, new_record(tag, page)), at + 5);
     }
     compact_with(s, tag, page, &mut second[..])
 }
@@ -142,12 +132,7 @@ fn new_in_turn(s: State, tag: u32, page: u32) -> bool
     if page > 65535 {
         return false;
     }
-    let new = Record {
-        tag: tag,
-        length: 2,
-        page: page,
-    };
-    in_turn(false, s, new)
+    in_turn(false, s, new_record(tag, page))
 }
 
 fn append_read(
@@ -191,10 +176,7 @@ pub fn append(log: &mut [u8], used: usize, tag: u32, page: u32, second: &mut [u8
 fn between(low: u32, count: u32, high: u32) -> bool
     ensures { λ r. ⌜ r ≡ (leb low count && leb count high) ⌝ }
 {
-    if low <= count {
-        return count <= high;
-    }
-    false
+    (low <= count) & (count <= high)
 }
 
 fn restart_read(reading: Reading, count: u32, second: &mut [u8]) -> Log
