@@ -40,7 +40,7 @@ put-front-read text buffer h =
     let l = length-append text (drop (0 + length text) buffer) in
     (ap (take (length text)) e ∙ take-at text (drop (0 + length text) buffer) (length text) refl, rw e (omega arith))
 
-put-read : (buffer text : List ℕ) (at : ℕ) → at + length text ≤ length buffer → (take (at + length text) (putOf buffer at text) ≡ take at buffer ++ text)
+pub put-read : (buffer text : List ℕ) (at : ℕ) → at + length text ≤ length buffer → (take (at + length text) (putOf buffer at text) ≡ take at buffer ++ text)
     × (length (putOf buffer at text) ≡ length buffer) × (take at (putOf buffer at text) ≡ take at buffer)
 unfolding putOf
 put-read buffer text at h =
