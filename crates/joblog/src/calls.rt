@@ -46,15 +46,15 @@ fn refuse(number: u32, place: u32) -> Log
     }
 }
 
-fn answer(moved: u32, s: State, used: usize) -> Log
-    ensures { λ r. ⌜ r ≡ answered moved s used ⌝ }
+fn answer(moved: u32, says: State, used: usize) -> Log
+    ensures { λ r. ⌜ r ≡ answered moved says used ⌝ }
 {
     Log {
         number: 0,
         place: 0,
         moved: moved,
-        finished: s.finished,
-        sent: s.sent,
+        finished: says.finished,
+        sent: says.sent,
         used: used,
     }
 }
