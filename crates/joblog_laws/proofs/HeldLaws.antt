@@ -15,7 +15,7 @@ use Rattle.joblog.specs.declared.records.Record.{Record}
 use Rattle.joblog.specs.declared.records.Reading.the-variants.{Says}
 use Rattle.joblog.specs.Records.{state, recordAs, bytesOf, recordsOf, wholeOf, inTurn, afterOf, readOf, readingOf, compactedOf}
 use Rattle.joblog.specs.Calls.{Call, refused, refusing, answered, readLogOf, readAnswer, newInTurn, compactAnswer, compactingOf, writtenOf, appendedOf, appendOf, restartedOf, restartOf}
-use Rattle.joblog_laws.specs.Run.{logAfter, usedAfter, cutLog, cutUsed, mayBeUsed}
+use Rattle.joblog_laws.specs.Run.{logAfter, usedAfter, inPlace, mayBeUsed}
 use Rattle.joblog_laws.proofs.ReadingLaws.{both, whole-records, cut-records, record-back, read-more, compacted-read}
 
 second-of : (a b : Bool) → a ≡ false → a || b ≡ true → b ≡ true
@@ -131,7 +131,7 @@ restart-held s second ordered room =
       ordered = ordered;
     }
 
--- ---- D: a cut at any byte of an append that fits. `k` of the record's five bytes are there.
+-- ---- a cut at any byte of an append that fits. `k` of the record's five bytes are there.
 -- Where `used` says less than the whole record, the log is as it was before.
 pub cut-before : (log : List ℕ) (used : ℕ) (s : State) → Held log used s → (tag page k u : ℕ) → k ≤ 5 → wholeOf used ≤ u → u < wholeOf used + 5
     → wholeOf used + 5 ≤ length log → Held (putOf log (wholeOf used) (take k (bytesOf tag page))) u s
@@ -147,6 +147,10 @@ cut-before log used s h tag page k u short low high room =
           ∙ whole-reads log used s h;
       ordered = h .ordered;
     }
+
+-- the log's buffer while an append is under way, with k of the record's bytes there
+abbrev pub cutLog : List ℕ → ℕ → Call → ℕ → ℕ → ℕ → List ℕ
+cutLog log used c tag page k = cond (inPlace c) (putOf log (wholeOf used) (take k (bytesOf tag page))) log
 
 -- ---- the calls
 pub record After (s : State) (tag page : ℕ) (log : List ℕ) (used : ℕ) : Type 0 where
@@ -197,28 +201,35 @@ module _ (log : List ℕ) (used : ℕ) (s : State) (tag page : ℕ) (second : Li
   append-after h (placed turn room) = record { to = afterOf s (recordAs tag page); held = put-held log used s h tag page turn room; how = in-turn-change s tag page turn }
   append-after h (moved turn room) = record { to = afterOf s (recordAs tag page); held = moved-held log used s h tag page turn second room; how = in-turn-change s tag page turn }
 
-  -- one that a crash cuts
-  pub cut-after : Held log used s → {c : Call} → Outcome c → (k u : ℕ) → mayBeUsed used k u ≡ true → After s tag page (cutLog log used c tag page k) (cutUsed used c u)
-  unfolding bytesOf
-  cut-after h (refusal number after e) k u m = rw e (unchanged h)
-  cut-after h (moved turn room) k u m = unchanged h
-  cut-after h (placed turn room) k u m = by-length (ltb u (wholeOf used + 5)) refl
-    where
-      parts : (leb k 5 && leb (wholeOf used) u ≡ true) × (leb u used || leb u (wholeOf used + k) ≡ true)
-      parts = both (leb k 5 && leb (wholeOf used) u) _ m
+  -- one that is under way, with k of the record's bytes there
+  pub cut-now : Held log used s → {c : Call} → Outcome c → (k : ℕ) → k ≤ 5 → Held (cutLog log used c tag page k) used s
+  cut-now h (refusal number after e) k five = rw e h
+  cut-now h (moved turn room) k five = h
+  cut-now h (placed turn room) k five = cut-before log used s h tag page k used five (omega arith) (omega arith) room
 
-      by-length : (b : Bool) → ltb u (wholeOf used + 5) ≡ b → After s tag page (putOf log (wholeOf used) (take k (bytesOf tag page))) u
-      by-length true e =
-          let p = both (leb k 5) (leb (wholeOf used) u) (parts .0) in
-          unchanged (cut-before log used s h tag page k u (leb-true _ _ (p .0)) (leb-true _ _ (p .1)) (ltb-true _ _ e) room)
-      by-length false e =
-          let p = both (leb k 5) (leb (wholeOf used) u) (parts .0) in
+  -- one that a crash cuts
+  pub cut-after : Held log used s → {c : Call} → Outcome c → (k u : ℕ) → k ≤ 5
+      → After s tag page (cutLog log used c tag page k) (cond (inPlace c && mayBeUsed used k u) u used)
+  unfolding bytesOf
+  cut-after h (refusal number after e) k u five = rw e (unchanged h)
+  cut-after h (moved turn room) k u five = unchanged h
+  cut-after h (placed turn room) k u five = by-used (mayBeUsed used k u) refl
+    where
+      by-length : mayBeUsed used k u ≡ true → (b : Bool) → ltb u (wholeOf used + 5) ≡ b → After s tag page (putOf log (wholeOf used) (take k (bytesOf tag page))) u
+      by-length m true e =
+          let p = both (leb (wholeOf used) u) (leb u used || leb u (wholeOf used + k)) m in
+          unchanged (cut-before log used s h tag page k u five (leb-true _ _ (p .0)) (ltb-true _ _ e) room)
+      by-length m false e =
+          let p = both (leb (wholeOf used) u) (leb u used || leb u (wholeOf used + k)) m in
           let low = ltb-false u (wholeOf used + 5) e in
-          let five = leb-true k 5 (p .0) in
-          let more = leb-true u (wholeOf used + k) (second-of (leb u used) (leb u (wholeOf used + k)) (lt-leb u used (omega arith)) (parts .1)) in
+          let more = leb-true u (wholeOf used + k) (second-of (leb u used) (leb u (wholeOf used + k)) (lt-leb u used (omega arith)) (p .1)) in
           let k5 : k ≡ 5 = omega arith in
           let u5 : u ≡ wholeOf used + 5 = omega arith in
           rw (k5, u5) (record { to = afterOf s (recordAs tag page); held = put-held log used s h tag page turn room; how = in-turn-change s tag page turn })
+
+      by-used : (b : Bool) → mayBeUsed used k u ≡ b → After s tag page (putOf log (wholeOf used) (take k (bytesOf tag page))) (cond b u used)
+      by-used true m = by-length m (ltb u (wholeOf used + 5)) refl
+      by-used false m = unchanged (cut-before log used s h tag page k used five (omega arith) (omega arith) room)
 
 -- ---- restart, with a count between the log's finished and sent pages
 pub restart-outcome : (log : List ℕ) (used : ℕ) (s : State) → Held log used s → (count : ℕ) (second : List ℕ) → s .finished ≤ count → count ≤ s .sent

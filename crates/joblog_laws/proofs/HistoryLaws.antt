@@ -13,12 +13,12 @@ use Rattle.joblog.specs.declared.records.State.{State}
 use Rattle.joblog.specs.Records.{state, compactedOf}
 use Rattle.joblog.specs.declared.calls.Log.{Log}
 use Rattle.joblog.specs.Calls.{answered, refused, readLogOf, compactAnswer, compactingOf}
-use Rattle.joblog_laws.specs.Run.{World, begun, goes, finishes, restart, has, asRequested, finishing, next, run}
+use Rattle.joblog_laws.specs.Run.{idle, World, begun, goes, finishes, restart, has, asRequested, isIdle, finishing, next, run}
 use Rattle.joblog_laws.specs.Histories.{pagesOf, Kept, HistoriesAreKept, sendAll, OpenPagesCome}
 use Rattle.joblog.proofs.CompactLaws.{compacted-length}
 use Rattle.joblog_laws.proofs.HeldLaws.{held-read, sent, restart-held}
 use Rattle.joblog_laws.proofs.PageLaws.{pages-front, has-pages}
-use Rattle.joblog_laws.proofs.StepLaws.{Inv, counted, count-between, restarted, restart-kept, run-kept, begun-kept}
+use Rattle.joblog_laws.proofs.StepLaws.{Inv, counted, held-now, count-between, restarted, restart-kept, run-kept, begun-kept}
 
 -- ---- what the request promises follows
 not-has : (b : Bool) → (b ≡ true → ⊥) → b ≡ false
@@ -37,7 +37,7 @@ room-answer t place log second = rw (compacted-length t) (by-test (leb (5 + 5 * 
 kept : (w : World) → Inv w → Kept w
 kept w i =
     let n = length (w .finished) in
-    let r = held-read (w .log) (w .used) (i .says) (i .held) in
+    let r = held-read (w .log) (w .used) (i .says) (held-now w i) in
     let l = length-append (w .finished) (w .tray) in
     let c = counted w i in
     let order = pages-front (w .finished) (w .tray) (i .last) (i .here) in
@@ -62,13 +62,13 @@ histories-are-kept buffer steps = kept (run asRequested (begun buffer) steps) (r
 
 -- ---- the open pages come
 one-out : (log : List ℕ) (used out : ℕ) (finished : List ℕ) → out + 1 ≤ readLogOf log used .sent
-    → next asRequested (record { log = log; used = used; up = true; out = out; tray = []; finished = finished }) goes
-    ≡ record { log = log; used = used; up = true; out = out + 1; tray = (out + 1) ∷ []; finished = finished }
-unfolding next
+    → next asRequested (record { log = log; used = used; up = true; out = out; writing = idle; tray = []; finished = finished }) goes
+    ≡ record { log = log; used = used; up = true; out = out + 1; writing = idle; tray = (out + 1) ∷ []; finished = finished }
+unfolding next isIdle
 one-out log used out finished h = rw (le-leb (out + 1) (readLogOf log used .sent) h)
 
 sent-out : (k : ℕ) (log : List ℕ) (used out : ℕ) (finished : List ℕ) → out + k ≤ readLogOf log used .sent
-    → length (run asRequested (record { log = log; used = used; up = true; out = out; tray = []; finished = finished }) (sendAll k) .finished) ≡ length finished + k
+    → length (run asRequested (record { log = log; used = used; up = true; out = out; writing = idle; tray = []; finished = finished }) (sendAll k) .finished) ≡ length finished + k
 unfolding run sendAll next finishing
 sent-out zero log used out finished h = omega arith
 sent-out (suc k) log used out finished h =
@@ -85,6 +85,7 @@ restart-world : (w : World) (i : Inv w) (second : List ℕ) → length (compacte
       used = length (compactedOf (state (length (w .finished)) (i .says .sent)));
       up = true;
       out = length (w .finished);
+      writing = idle;
       tray = [];
       finished = w .finished;
     }
@@ -111,5 +112,5 @@ unfolding run
 open-pages-come buffer steps second room =
     let w = run asRequested (begun buffer) steps in
     let i = run-kept (begun buffer) (begun-kept buffer) steps in
-    let r = ap (λ (a : Log). a .sent) (held-read (w .log) (w .used) (i .says) (i .held)) in
+    let r = ap (λ (a : Log). a .sent) (held-read (w .log) (w .used) (i .says) (held-now w i)) in
     rw r (come w i second (rw r at room))

@@ -3,29 +3,37 @@
 use Prim.Native.Nat.{ℕ}
 use mathlib.Core.Path.{_≡_, refl, ap}
 use mathlib.Core.Bool.{true}
-use mathlib.Core.List.{List, [], _∷_}
+use mathlib.Core.List.{List, [], _∷_, _++_}
 use native.Mathlib.Omega.{arith}
 use lib.Dec.{leb}
 use lib.ListN.{getD, replicate}
 use Rattle.text.specs.Text.{putOf}
 use Rattle.joblog.specs.Records.{bytesOf, recordsOf, inTurn, afterOf, readOf, openOf, compactedOf}
 use Rattle.joblog.specs.Calls.{readLogOf, readAnswer, newInTurn, compactAnswer, writtenOf, appendedOf, appendOf, restartedOf, restartOf}
-use Rattle.joblog_laws.specs.Run.{World, begun, Step, append, cut, goes, finishes, crash, restart, has, Rules, asRequested, finishing, next, run}
+use Rattle.joblog_laws.specs.Run.{World, begun, Step, begins, byte, completes, goes, finishes, crash, restart, has, Rules, asRequested, beginning, writingByte, completing, finishing, crashUsed, isIdle, next, run}
 use Rattle.joblog_laws.specs.Histories.{pagesOf, KeptBy}
 
 abbrev buffer : List ℕ
 buffer = replicate 20 238
 
+-- an append from its beginning on, byte by byte
+abbrev started : ℕ → ℕ → List Step
+started tag page = begins tag page [] ∷ byte ∷ byte ∷ byte ∷ byte ∷ []
+
+abbrev appended : ℕ → ℕ → List Step
+appended tag page = started tag page ++ (byte ∷ completes ∷ [])
+
 -- where a history ends; to unfold this is to unfold all that a run computes
 ends : Rules → List Step → World
-unfolding run next finishing has putOf bytesOf recordsOf inTurn afterOf readOf openOf compactedOf readLogOf readAnswer newInTurn compactAnswer writtenOf appendedOf appendOf restartedOf restartOf pagesOf
+unfolding run next beginning writingByte completing finishing crashUsed isIdle has putOf bytesOf recordsOf inTurn afterOf readOf openOf compactedOf readLogOf readAnswer newInTurn compactAnswer writtenOf appendedOf appendOf restartedOf restartOf pagesOf
 ends rules steps = run rules (begun buffer) steps
 
 -- ---- by the request: pages 1 and 2 go out and are finished, page 1's done is recorded, page 2's acknowledgement is lost, the host crashes in the append
 -- of page 3's sent record, and after the restart page 3 goes out
 lost : List Step
 lost =
-    append 1 1 [] ∷ goes ∷ append 1 2 [] ∷ goes ∷ finishes ∷ finishes ∷ append 2 1 [] ∷ cut 1 3 [] 4 19 ∷ restart buffer ∷ append 1 3 [] ∷ goes ∷ finishes ∷ []
+    appended 1 1 ++ (goes ∷ []) ++ appended 1 2 ++ (goes ∷ finishes ∷ finishes ∷ []) ++ appended 2 1 ++ started 1 3
+    ++ (crash 0 19 ∷ restart buffer ∷ []) ++ appended 1 3 ++ (goes ∷ finishes ∷ [])
 
 as-requested : ends asRequested lost .finished ≡ 1 ∷ 2 ∷ 3 ∷ []
 unfolding ends lost
@@ -36,7 +44,7 @@ abbrev pub from-the-last-done : Rules
 from-the-last-done = record { told = has; ready = leb; resume = λ done count. done; kept = λ tray. [] }
 
 sent-again : List Step
-sent-again = append 1 1 [] ∷ goes ∷ finishes ∷ crash 0 ∷ restart buffer ∷ goes ∷ finishes ∷ []
+sent-again = appended 1 1 ++ (goes ∷ finishes ∷ crash 0 0 ∷ restart buffer ∷ goes ∷ finishes ∷ [])
 
 twice : ends from-the-last-done sent-again .finished ≡ 1 ∷ 1 ∷ []
 unfolding ends sent-again
@@ -53,7 +61,7 @@ abbrev pub keeps-its-tray : Rules
 keeps-its-tray = record { told = has; ready = leb; resume = λ done count. count; kept = λ tray. tray }
 
 in-the-tray : List Step
-in-the-tray = append 1 1 [] ∷ goes ∷ crash 1 ∷ restart buffer ∷ goes ∷ finishes ∷ finishes ∷ []
+in-the-tray = appended 1 1 ++ (goes ∷ crash 1 0 ∷ restart buffer ∷ goes ∷ finishes ∷ finishes ∷ [])
 
 twice-too : ends keeps-its-tray in-the-tray .finished ≡ 1 ∷ 1 ∷ []
 unfolding ends in-the-tray
@@ -70,7 +78,7 @@ abbrev pub done-before-finished : Rules
 done-before-finished = record { told = λ finished page. true; ready = leb; resume = λ done count. count; kept = λ tray. [] }
 
 too-early : List Step
-too-early = append 1 1 [] ∷ goes ∷ append 2 1 [] ∷ crash 0 ∷ []
+too-early = appended 1 1 ++ (goes ∷ []) ++ appended 2 1 ++ (crash 0 0 ∷ [])
 
 refused-then : restartOf (ends done-before-finished too-early .log) (ends done-before-finished too-early .used) 0 buffer .answer .number ≡ 14
 unfolding ends too-early
@@ -85,7 +93,7 @@ abbrev pub goes-before-its-record : Rules
 goes-before-its-record = record { told = has; ready = λ page sent. true; resume = λ done count. count; kept = λ tray. [] }
 
 no-record : List Step
-no-record = goes ∷ finishes ∷ crash 0 ∷ []
+no-record = goes ∷ finishes ∷ crash 0 0 ∷ []
 
 pub not-before-its-record : KeptBy goes-before-its-record → ⊥
 unfolding ends no-record
