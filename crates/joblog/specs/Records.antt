@@ -1,10 +1,9 @@
 -- Request 6, the log: bytes, the records that they hold, and what the records say. "A job has a log of five-byte records .., each formed as an order's
 -- field: tag 1 sent, 2 done, 3 finished through (compaction's first record only); length 2; page number."
-use Prim.Native.Nat.{ℕ, zero, suc, _+_, _-_, _*_, _/_, _%_, _≤_}
+use Prim.Native.Nat.{ℕ, zero, suc, _+_, _-_, _*_, _/_, _%_}
 use mathlib.Core.Bool.{Bool, true, false, cond, _&&_}
 use mathlib.Core.List.{List, [], _∷_, _++_}
 use lib.Dec.{leb, eqb}
-use lib.ListN.{getD}
 use Rattle.joblog.specs.declared.records.State.{State}
 use Rattle.joblog.specs.declared.records.Record.{Record}
 use Rattle.joblog.specs.declared.records.Reading.{Reading}
@@ -30,10 +29,6 @@ recordsOf (a ∷ b ∷ []) = []
 recordsOf (a ∷ b ∷ c ∷ []) = []
 recordsOf (a ∷ b ∷ c ∷ d ∷ []) = []
 recordsOf (a ∷ b ∷ c ∷ d ∷ e ∷ rest) = record { tag = a; length = b * 256 + c; page = d * 256 + e } ∷ recordsOf rest
-
--- the record at an offset
-abbrev pub recordAt : List ℕ → ℕ → Record
-recordAt log at = record { tag = getD log at 0; length = getD log (at + 1) 0 * 256 + getD log (at + 2) 0; page = getD log (at + 3) 0 * 256 + getD log (at + 4) 0 }
 
 -- the bytes of the whole records among the first `used`: where the next record begins
 abbrev pub wholeOf : ℕ → ℕ
@@ -69,8 +64,3 @@ openOf page (suc n) = bytesOf 1 (page + 1) ++ openOf (page + 1) n
 -- "one finished record (page 0 if none is done), then the open pages"
 unfoldable pub compactedOf : State → List ℕ
 compactedOf s = bytesOf 3 (s .finished) ++ openOf (s .finished) (s .sent - s .finished)
-
--- two bytes hold each page of a log of bytes
-abbrev pub Bounded : Reading → Type 0
-Bounded (Says s) = (s .finished ≤ 65535) × (s .sent ≤ 65535)
-Bounded (OutOfTurn page) = page ≤ 65535

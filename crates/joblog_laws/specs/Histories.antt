@@ -1,11 +1,12 @@
 -- Request 6's promise, over every history: "So, if the embosser's count is true, no finished page is sent again and none is skipped."
--- Proved in proofs/HistoryLaws.
+-- Proved in proofs/HistoryLaws. A step that the rules do not allow does not happen, so no history is left out.
 use Prim.Native.Nat.{ℕ, zero, suc, _+_, _-_, _*_, _≤_}
 use mathlib.Core.Path.{_≡_}
 use mathlib.Core.Bool.{true, false, cond}
 use mathlib.Core.List.{List, [], _∷_, _++_}
 use lib.Dec.{leb}
 use lib.ListN.{length}
+use Rattle.refusals.specs.Refusals.{logSecondShort}
 use Rattle.joblog.specs.Calls.{readLogOf, restartOf}
 use Rattle.joblog_laws.specs.Run.{World, begun, Step, goes, finishes, restart, has, Rules, asRequested, run}
 
@@ -23,14 +24,14 @@ pub record Kept (w : World) : Type 0 where
   pub «next_out» : w .up ≡ true → w .out ≡ length (w .finished ++ w .tray)
   -- and is no finished one
   pub «none_again» : w .up ≡ true → has (w .finished) (w .out + 1) ≡ false
-  -- the log can be read, by 9 and 13, and has the count and the tray between its finished and its sent pages
+  -- the log can be read, and has the count and the tray between its finished and its sent pages
   pub readable : readLogOf (w .log) (w .used) .number ≡ 0
   pub behind : readLogOf (w .log) (w .used) .finished ≤ length (w .finished)
   pub ahead : length (w .finished ++ w .tray) ≤ readLogOf (w .log) (w .used) .sent
   -- a restart with the true count is accepted, or refused by 12 where the second buffer has no room for one record and the open pages
   pub accepted : (second : List ℕ)
       → restartOf (w .log) (w .used) (length (w .finished)) second .answer .number
-      ≡ cond (leb (5 + 5 * (readLogOf (w .log) (w .used) .sent - length (w .finished))) (length second)) 0 12
+      ≡ cond (leb (5 + 5 * (readLogOf (w .log) (w .used) .sent - length (w .finished))) (length second)) 0 logSecondShort
 
 abbrev pub KeptBy : Rules → Type 0
 KeptBy rules = (buffer : List ℕ) (steps : List Step) → Kept (run rules (begun buffer) steps)
