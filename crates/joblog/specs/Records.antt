@@ -13,6 +13,7 @@ use Rattle.joblog.specs.declared.records.Reading.the-variants.{Says, Out
 abbrev pub state : ℕ → ℕ → State
 state finished sent = record { finished = finished; sent = sent }
 
+-- a record as an append writes it
 abbrev pub recordAs : ℕ → ℕ → Record
 recordAs tag page = record { tag = tag; length = 2; page = page }
 
@@ -21,7 +22,7 @@ recordAs tag page = record { tag = tag; length = 2; page = page }
 unfoldable pub bytesOf : ℕ → ℕ → List ℕ
 bytesOf tag page = tag ∷ 0 ∷ 2 ∷ page / 256 ∷ page % 256 ∷ []
 
--- "Records stand every five bytes"; "a record cut at the end of the log is ignored"
+-- records stand every five bytes; "a record cut at the end of the log is ignored"
 unfoldable pub recordsOf : List ℕ → List Record
 recordsOf [] = []
 recordsOf (a ∷ []) = []
@@ -43,6 +44,7 @@ inTurn first s r =
     && cond (eqb (r .tag) 1) (eqb (r .page) (s .sent + 1))
     (cond (eqb (r .tag) 2) (eqb (r .page) (s .finished + 1) && leb (r .page) (s .sent)) (eqb (r .tag) 3 && first))
 
+-- what a log says with one record more
 unfoldable pub afterOf : State → Record → State
 afterOf s r =
     cond (eqb (r .tag) 1) (state (s .finished) (r .page)) (cond (eqb (r .tag) 2) (state (r .page) (s .sent)) (state (r .page) (r .page)))

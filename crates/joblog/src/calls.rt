@@ -76,6 +76,7 @@ fn read_answer(reading: Reading, used: usize) -> Log
     }
 }
 
+// What the log says: its finished and sent pages, and where its next record begins.
 pub fn read_log(log: &[u8], used: usize) -> Log
     ensures { λ r. ⌜ r ≡ readLogOf (now (log .entry)) used ⌝ }
 {
@@ -127,6 +128,7 @@ fn write(s: State, log: &mut [u8], used: usize, tag: u32, page: u32, second: &mu
     compact_with(s, tag, page, &mut second[..])
 }
 
+// A page over two bytes would be another one in its record.
 fn new_in_turn(s: State, tag: u32, page: u32) -> bool
     ensures { λ r. ⌜ r ≡ newInTurn s tag page ⌝ }
 {
@@ -136,6 +138,7 @@ fn new_in_turn(s: State, tag: u32, page: u32) -> bool
     in_turn(false, s, new_record(tag, page))
 }
 
+// What an append does with a log that says this.
 fn append_read(
     reading: Reading,
     log: &mut [u8],
@@ -162,6 +165,7 @@ fn append_read(
     }
 }
 
+// The log with one record more. Its own records are tried before the new one.
 pub fn append(log: &mut [u8], used: usize, tag: u32, page: u32, second: &mut [u8]) -> Log
     ensures { λ r. ⌜ r ≡ appendOf (now (log .entry)) used tag page (now (second .entry)) .answer ⌝ }
     ensures { λ _. ⌜ now (log .exit) ≡ appendOf (now (log .entry)) used tag page (now (second .entry)) .log ⌝ }
@@ -180,6 +184,7 @@ fn between(low: u32, count: u32, high: u32) -> bool
     (low <= count) & (count <= high)
 }
 
+// What a restart writes hangs on what the log says alone, so the contract has no bytes of the first buffer.
 fn restart_read(reading: Reading, count: u32, second: &mut [u8]) -> Log
     requires { ⌜ Bounded reading ⌝ }
     ensures { λ r. ⌜ r ≡ restartedOf reading [] count (now (second .entry)) .answer ⌝ }
@@ -202,6 +207,7 @@ fn restart_read(reading: Reading, count: u32, second: &mut [u8]) -> Log
     }
 }
 
+// The log compacted with the number of pages that the embosser has finished; the open pages after it go out again.
 pub fn restart(log: &[u8], used: usize, count: u32, second: &mut [u8]) -> Log
     ensures { λ r. ⌜ r ≡ restartOf (now (log .entry)) used count (now (second .entry)) .answer ⌝ }
     ensures { λ _. ⌜ now (second .exit) ≡ restartOf (now (log .entry)) used count (now (second .entry)) .second ⌝ }
