@@ -9,6 +9,16 @@ use Rattle.joblog.specs.declared.records.Record.{Record}
 use Rattle.joblog.specs.declared.records.Reading.{Reading}
 use Rattle.joblog.specs.declared.records.Reading.the-variants.{Says, OutOfTurn}
 
+-- "tag 1 sent, 2 done, 3 finished through"
+abbrev pub sentTag : ℕ
+sentTag = 1
+
+abbrev pub doneTag : ℕ
+doneTag = 2
+
+abbrev pub finishedTag : ℕ
+finishedTag = 3
+
 -- a State: pages 1 to `finished` are done, pages 1 to `sent` are sent; those between are open
 abbrev pub state : ℕ → ℕ → State
 state finished sent = record { finished = finished; sent = sent }
@@ -41,13 +51,13 @@ wholeOf used = used / 5 * 5
 unfoldable pub inTurn : Bool → State → Record → Bool
 inTurn first s r =
     eqb (r .length) 2
-    && cond (eqb (r .tag) 1) (eqb (r .page) (s .sent + 1))
-    (cond (eqb (r .tag) 2) (eqb (r .page) (s .finished + 1) && leb (r .page) (s .sent)) (eqb (r .tag) 3 && first))
+    && cond (eqb (r .tag) sentTag) (eqb (r .page) (s .sent + 1))
+    (cond (eqb (r .tag) doneTag) (eqb (r .page) (s .finished + 1) && leb (r .page) (s .sent)) (eqb (r .tag) finishedTag && first))
 
 -- what a log says with one record more
 unfoldable pub afterOf : State → Record → State
 afterOf s r =
-    cond (eqb (r .tag) 1) (state (s .finished) (r .page)) (cond (eqb (r .tag) 2) (state (r .page) (s .sent)) (state (r .page) (r .page)))
+    cond (eqb (r .tag) sentTag) (state (s .finished) (r .page)) (cond (eqb (r .tag) doneTag) (state (r .page) (s .sent)) (state (r .page) (r .page)))
 
 -- the records from the first on, each after those before it; the page of the first that is out of turn
 unfoldable pub readOf : Bool → State → List Record → Reading
@@ -61,8 +71,8 @@ readingOf log = readOf true (state 0 0) (recordsOf log)
 -- the sent records of the n pages after `page`
 unfoldable pub openOf : ℕ → ℕ → List ℕ
 openOf page zero = []
-openOf page (suc n) = bytesOf 1 (page + 1) ++ openOf (page + 1) n
+openOf page (suc n) = bytesOf sentTag (page + 1) ++ openOf (page + 1) n
 
 -- "one finished record (page 0 if none is done), then the open pages"
 unfoldable pub compactedOf : State → List ℕ
-compactedOf s = bytesOf 3 (s .finished) ++ openOf (s .finished) (s .sent - s .finished)
+compactedOf s = bytesOf finishedTag (s .finished) ++ openOf (s .finished) (s .sent - s .finished)

@@ -16,7 +16,7 @@ use mathlib.Core.List.{List, [], _∷_, _++_}
 use lib.Dec.{leb, ltb, eqb}
 use lib.ListN.{length, take, drop}
 use Rattle.text.specs.Text.{putOf}
-use Rattle.joblog.specs.Records.{bytesOf, wholeOf}
+use Rattle.joblog.specs.Records.{doneTag, bytesOf, wholeOf}
 use Rattle.joblog.specs.Calls.{Call, readLogOf, appendOf, restartOf}
 
 -- ---- what there is at a moment
@@ -90,7 +90,7 @@ abbrev pub inPlace : Call → Bool
 inPlace c = eqb (c .answer .number) 0 && eqb (c .answer .moved) 0
 
 abbrev pub mayAppend : Rules → World → ℕ → ℕ → Bool
-mayAppend rules w tag page = w .up && cond (eqb tag 2) (rules .told (w .finished) page) true
+mayAppend rules w tag page = w .up && cond (eqb tag doneTag) (rules .told (w .finished) page) true
 
 unfoldable pub beginning : Rules → World → Writing → ℕ → ℕ → List ℕ → World
 beginning rules w (within t p c k) tag page second = w
