@@ -54,12 +54,17 @@ void put_interval(order_bytes *order, uint16_t minutes) {
   put_number(order, minutes, 2);
 }
 
-order_bytes place_order(const char *town, uint16_t year, uint8_t month, uint8_t day, uint8_t rows, double latitude,
+void put_rows(order_bytes *order, uint16_t rows, uint16_t size) {
+  put_header(order, 3, size);
+  put_number(order, rows, size);
+}
+
+order_bytes place_order(const char *town, uint16_t year, uint8_t month, uint8_t day, uint16_t rows, double latitude,
                         double longitude, uint8_t method) {
   order_bytes order = {0};
   put_town(&order, town);
   put_date(&order, year, month, day);
-  put_small(&order, 3, rows);
+  put_rows(&order, rows, rows < 256 ? 1 : 2);
   put_float(&order, 4, latitude);
   put_float(&order, 5, longitude);
   put_small(&order, 6, method);
@@ -79,6 +84,7 @@ order_bytes full_order(void) {
   put_float(&order, 12, 19.5);
   put_float(&order, 13, 16.25);
   put_interval(&order, 75);
+  put_small(&order, 15, 1);
   return order;
 }
 

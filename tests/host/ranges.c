@@ -11,7 +11,7 @@ static void range(const order_bytes *order, uint32_t place, const char *what) {
   check(all.lent_kept && (place == 0 ? all.order.number == 0 && answers_agree(&all, 0, 0, 0) : refused), what);
 }
 
-static void date(uint16_t year, uint8_t month, uint8_t day, uint8_t rows, uint32_t place) {
+static void date(uint16_t year, uint8_t month, uint8_t day, uint16_t rows, uint32_t place) {
   order_bytes order = place_order("Makkah", year, month, day, rows, 21.4225, 39.8262, 0);
   char what[64];
   snprintf(what, sizeof what, "%u-%02u-%02u, %u rows, place %u", year, month, day, rows, place);
@@ -32,6 +32,23 @@ static void check_dates(void) {
   date(2026, 4, 31, 0, 2), date(2026, 4, 30, 0, 3);
   date(2026, 4, 30, 250, 0), date(2026, 4, 30, 251, 3), date(2026, 4, 30, 255, 3);
   date(2199, 12, 31, 2, 3), date(2199, 4, 26, 250, 0), date(2199, 4, 27, 250, 3), date(2199, 4, 27, 249, 0);
+}
+
+/* Rows in two bytes: 1 to 400, also those that one byte could say, the high byte first. One byte says no more than 250. */
+static void check_rows_in_two_bytes(void) {
+  order_bytes good = good_order(), rest = without(&good, 3);
+  for (uint32_t rows = 0; rows < 65536; rows += rows < 600 ? 1 : 251) {
+    order_bytes order = rest;
+    put_rows(&order, (uint16_t)rows, 2);
+    katchidul_order read = katchidul_read_order(order.bytes, order.length);
+    bool fits = 1 <= rows && rows <= KATCHIDUL_ROWS_MAX;
+    check(fits ? read.number == 0 && read.rows == rows : order_refused(&read, 5, 3), "rows in two bytes");
+  }
+  order_bytes three = rest;
+  put_rows(&three, 1, 3);
+  katchidul_order read = katchidul_read_order(three.bytes, three.length);
+  check(order_refused(&read, 2, (uint32_t)rest.length), "rows in three bytes");
+  date(2198, 11, 27, 400, 0), date(2198, 11, 28, 400, 3), date(2198, 11, 28, 399, 0), date(2026, 1, 1, 401, 3);
 }
 
 /* The full order with one tag's float in place of its own. */
@@ -122,6 +139,7 @@ static void check_rising(void) {
 
 void check_ranges(void) {
   check_dates();
+  check_rows_in_two_bytes();
   check_floats();
   check_small();
   check_minutes();

@@ -58,14 +58,15 @@ static void check_sizes(void) {
 }
 
 static void check_lengths(void) {
-  static const uint8_t length[15] = {0, 0, 4, 1, 8, 8, 1, 1, 1, 1, 1, 12, 8, 8, 2};
+  static const struct { uint8_t shortest, longest; } lengths[16] = {{0, 0}, {1, 40}, {4, 4}, {1, 2}, {8, 8}, {8, 8}, {1, 1}, {1, 1},
+                                                                    {1, 1}, {1, 1}, {1, 1}, {12, 12}, {8, 8}, {8, 8}, {2, 2}, {1, 1}};
   order_bytes full = full_order();
   char what[64];
-  for (uint8_t tag = 1; tag <= 14; tag++) {
+  for (uint8_t tag = 1; tag <= LAST_TAG; tag++) {
     for (int way = 0; way < 3; way++) {
       order_bytes order = without(&full, tag);
       uint32_t at = (uint32_t)order.length;
-      unsigned wrong = way == 0 ? 256u + length[tag] : tag == 1 ? (way == 1 ? 0 : 41) : length[tag] + (way == 1 ? -1u : 1u);
+      unsigned shortest = lengths[tag].shortest, wrong = way == 0 ? 256 + shortest : way == 1 ? shortest - 1 : lengths[tag].longest + 1u;
       put_header(&order, tag, (uint16_t)wrong);
       for (unsigned i = 0; i < wrong; i++) put_byte(&order, 65);
       snprintf(what, sizeof what, "tag %u of %u bytes", tag, wrong);
@@ -78,7 +79,7 @@ static void check_repeats_and_missing(void) {
   order_bytes full = full_order(), empty = {0};
   char what[64];
   refused(&empty, 4, 1, "an empty order");
-  for (uint8_t tag = 1; tag <= 14; tag++) {
+  for (uint8_t tag = 1; tag <= LAST_TAG; tag++) {
     order_bytes order = full;
     put_header(&order, tag, 9);
     snprintf(what, sizeof what, "tag %u again, with a wrong length and cut", tag);

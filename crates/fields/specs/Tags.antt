@@ -10,13 +10,14 @@ row shortest longest lowest highest = shortest ∷ longest ∷ lowest ∷ highes
 
 -- a row for each tag from 0 on: the shortest and the longest value, and, for a value of one byte that is the number of a choice, the lowest and
 -- the highest. There is no tag 0, and nothing fits it. "Month and day are one byte each, tags 6 to 10 one byte, tags 4, 5, 12 and 13 a float."
+-- Of rows: "its value may now also have two bytes".
 abbrev pub tags : List (List ℕ)
 tags =
     row 1 0 1 0
     -- 1, 2, 3: town, date, rows
     ∷ row 1 40 0 0
     ∷ row 4 4 0 0
-    ∷ row 1 1 0 0
+    ∷ row 1 2 0 0
     -- 4, 5: latitude, longitude
     ∷ row 8 8 0 0
     ∷ row 8 8 0 0
@@ -33,6 +34,8 @@ tags =
     ∷ row 8 8 0 0
     -- 14: Isha interval
     ∷ row 2 2 0 0
+    -- 15: at midnight
+    ∷ row 1 1 0 1
     ∷ []
 
 abbrev pub lastTag : ℕ

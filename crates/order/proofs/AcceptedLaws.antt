@@ -4,8 +4,8 @@ use Prim.Native.Nat.{ℕ, _+_, _-_, _≤_, _<_}
 use mathlib.Core.Path.{_≡_, refl, sym, ap, subst}
 use mathlib.Core.Bool.{Bool, true, false, cond, _&&_, and-eq-true-iff}
 use mathlib.Core.List.{List}
-use lib.Dec.{leb, lit≤}
-use lib.ListN.{getD}
+use lib.Dec.{leb, eqb, lit≤}
+use lib.ListN.{length, getD}
 use lib.Ieee.{Float, neg, le, round}
 use lib.IntN.{ℤ, pos, negsuc}
 use lib.Signed.{leZ}
@@ -31,7 +31,7 @@ use Rattle.models.specs.Settings.{minutesFor}
 use Rattle.order.specs.declared.reading.Order.{Order}
 use Rattle.order.specs.declared.reading.Reading.the-variants.{Read}
 use Rattle.order.specs.Given.{dateIn, rowsIn, degreesIn, minutesIn, degreesOr, minutesOr, intervalOr, parametersIn}
-use Rattle.order.specs.Ranges.{mostRows, dateFits, rowsFit, degreesFit, minuteFits, minutesFit, intervalFits, lookUp, fitsOf}
+use Rattle.order.specs.Ranges.{mostRows, mostIn, dateFits, rowsFit, degreesFit, minuteFits, minutesFit, intervalFits, lookUp, fitsOf}
 use Rattle.order.specs.Reading.{required, missingOf, outOfRangeOf, orderOf, readingOf}
 use Rattle.order.specs.Accepted.{UpTo, Inside, DateInOrder, Accepted}
 use Rattle.order.proofs.RowDates.{row-in-order}
@@ -50,12 +50,23 @@ date-in d e =
     let b = both (leb 1900 (d .year)) (leb (d .year) 2199) (a .0) in
     record { there = a .1; from = leb-true 1900 (d .year) (b .0); to = leb-true (d .year) 2199 (b .1) }
 
-rows-in : (d : Date) (n : ℕ) → rowsFit d n ≡ true → ((1 ≤ n) × (n ≤ mostRows)) × (rowDateOf d (n - 1) .year ≤ 2199)
+most-in : (v : List ℕ) → mostIn v ≤ mostRows
+most-in v = go (eqb (length v) 2)
+  where
+    go : (b : Bool) → cond b mostRows 250 ≤ mostRows
+    go true = lit≤ tt
+    go false = lit≤ tt
+
+rows-in : (d : Date) (v : List ℕ) → rowsFit d v ≡ true
+    → ((1 ≤ rowsIn v) × (rowsIn v ≤ mostRows)) × (rowDateOf d (rowsIn v - 1) .year ≤ 2199)
 unfolding rowsFit
-rows-in d n e =
-    let a = both (leb 1 n && leb n mostRows) (leb (rowDateOf d (n - 1) .year) 2199) e in
-    let b = both (leb 1 n) (leb n mostRows) (a .0) in
-    ((leb-true 1 n (b .0), leb-true n mostRows (b .1)), leb-true (rowDateOf d (n - 1) .year) 2199 (a .1))
+rows-in d v e =
+    let n = rowsIn v in
+    let a = both (leb 1 n && leb n (mostIn v)) (leb (rowDateOf d (n - 1) .year) 2199) e in
+    let b = both (leb 1 n) (leb n (mostIn v)) (a .0) in
+    let l = leb-true n (mostIn v) (b .1) in
+    let m = most-in v in
+    ((leb-true 1 n (b .0), omega arith), leb-true (rowDateOf d (n - 1) .year) 2199 (a .1))
 
 minute-within : (m : ℤ) → minuteFits m ≡ true → Near 720 m
 unfolding minuteFits
@@ -148,7 +159,7 @@ unfolding orderOf parametersIn fitsOf lookUp
 accepted v given ranges =
     let method = methodOf (byteOf (v .value 6) 0) in
     let from = brought method in
-    let rows = rows-in (dateIn (v .value 2)) (rowsIn (v .value 3)) (fits 3 (lit≤ tt) (lit≤ tt) (has 2 (lit≤ tt))) in
+    let rows = rows-in (dateIn (v .value 2)) (v .value 3) (fits 3 (lit≤ tt) (lit≤ tt) (has 2 (lit≤ tt))) in
     let date = date-in (dateIn (v .value 2)) (fits 2 (lit≤ tt) (lit≤ tt) (has 1 (lit≤ tt))) in
     record {
       date = date;

@@ -21,7 +21,7 @@ use Rattle.order.proofs.Tags.{all-pass, failing-number, tags-from, tags
 
 -- ---- one of the refusals after another
 module _ (r : Refusal) (rest : List Refusal) (o : Order) where
-  passed-on : (order : Order) → firstOf (r ∷ rest) o ≡ Read order → (r .number ≡ 0) × (firstOf rest o ≡ Read order)
+  pub passed-on : (order : Order) → firstOf (r ∷ rest) o ≡ Read order → (r .number ≡ 0) × (firstOf rest o ≡ Read order)
   unfolding firstOf
   passed-on order e = go (eqb (r .number) 0) refl e
     where

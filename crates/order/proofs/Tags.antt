@@ -38,6 +38,19 @@ all-pass number passes (tag ∷ rest) l e i h = go (passes tag) refl e i h (λ f
     go true p e zero h rest-passes = p
     go true p e (suc i) h rest-passes = rest-passes e i (omega arith)
 
+-- and none is refused by a rule that is passed wherever that one is
+pub passing-more : (number : ℕ) (passes more : ℕ → Bool) → 1 ≤ number → ((tag : ℕ) → passes tag ≡ true → more tag ≡ true)
+    → (tags : List ℕ) → firstFailing number passes tags .number ≡ 0 → firstFailing number more tags .number ≡ 0
+unfolding firstFailing
+passing-more number passes more l m [] e = refl
+passing-more number passes more l m (tag ∷ rest) e = go (passes tag) refl e (λ f. passing-more number passes more l m rest f)
+  where
+    go : (b : Bool) → passes tag ≡ b → cond b (firstFailing number passes rest) (refusal number tag) .number ≡ 0
+        → (firstFailing number passes rest .number ≡ 0 → firstFailing number more rest .number ≡ 0)
+        → cond (more tag) (firstFailing number more rest) (refusal number tag) .number ≡ 0
+    go false p e on = absurd (omega arith)
+    go true p e on = simp (m tag p) (on e)
+
 -- and a refusal has the number
 pub failing-number : (number : ℕ) (passes : ℕ → Bool) (tags : List ℕ) → firstFailing number passes tags .number ≤ number
 unfolding firstFailing

@@ -2,8 +2,10 @@
 use Prim.Native.Nat.{ℕ}
 use mathlib.Core.Bool.{cond}
 use mathlib.Core.List.{List}
+use lib.Dec.{eqb}
 use lib.Ieee.{Float, eq}
 use lib.IntN.{ℤ, pos}
+use lib.ListN.{length}
 use Rattle.float64.specs.Ops.{dec}
 use Rattle.calendar.specs.declared.dates.Date.{Date}
 use Rattle.calendar.specs.Gregorian.{dateOf}
@@ -12,8 +14,9 @@ use Rattle.fields.specs.Values.{Values}
 use Rattle.models.specs.declared.adjustments.TimeAdjustment.{TimeAdjustment}
 use Rattle.models.specs.declared.parameters.Parameters.{Parameters}
 use Rattle.models.specs.declared.rounding.Rounding.{Rounding}
+use Rattle.models.specs.declared.rules.Rules.{Rules}
 use Rattle.models.specs.Minutes.{sixMinutesOf, noMinutes}
-use Rattle.models.specs.Numbers.{methodOf, madhabOf, ruleOf, roundingOf, shafaqOf}
+use Rattle.models.specs.Numbers.{methodOf, madhabOf, ruleOf, roundingOf, shafaqOf, midnightOf}
 use Rattle.models.specs.Presets.{presetOf}
 
 -- ---- what the bytes of a value give
@@ -21,9 +24,9 @@ use Rattle.models.specs.Presets.{presetOf}
 unfoldable pub dateIn : List ℕ → Date
 dateIn v = dateOf (unsignedOf v 0) (byteOf v 2) (byteOf v 3)
 
--- "rows, 1 byte"
+-- "rows, 1 byte", and of two bytes the number that they write, high byte first
 unfoldable pub rowsIn : List ℕ → ℕ
-rowsIn v = byteOf v 0
+rowsIn v = cond (eqb (length v) 2) (unsignedOf v 0) (byteOf v 0)
 
 -- a float; "-0.0 is read as 0.0"
 unfoldable pub degreesIn : List ℕ → Float
@@ -67,3 +70,7 @@ parametersIn v =
       rounding = roundingOr v (preset .rounding);
       shafaq = shafaqOf (byteOr v 10 0);
     }
+
+-- Request 1: "Tag 15 (one byte, 0 or 1, missing is 0) chooses: 0 is today's rule, 1 carries."
+unfoldable pub rulesIn : Values → Rules
+rulesIn v = record { midnight = midnightOf (byteOr v 15 0) }

@@ -5,6 +5,7 @@ use mathlib.Core.List.{List, [], _∷_}
 use lib.Dec.{leb, eqb}
 use lib.Ieee.{Float, neg, le}
 use lib.IntN.{ℤ, pos, negsuc}
+use lib.ListN.{length}
 use lib.Signed.{leZ}
 use Rattle.float64.specs.Ops.{dec}
 use Rattle.calendar.specs.declared.dates.Date.{Date}
@@ -28,12 +29,15 @@ textFits (b ∷ bs) = between 32 126 b && textFits bs
 abbrev pub dateFits : Date → Bool
 dateFits date = between 1900 2199 (date .year) && existsOf date
 
--- "1 to 250, last row by 2199-12-31"; rows count from 0, so the last is the one before the number of rows
+-- "1 to 250, last row by 2199-12-31", and "also .. two bytes, 1 to 400"; rows count from 0, so the last is the one before the number of rows
 abbrev pub mostRows : ℕ
-mostRows = 250
+mostRows = 400
 
-unfoldable pub rowsFit : Date → ℕ → Bool
-rowsFit date rows = between 1 mostRows rows && leb (rowDateOf date (rows - 1) .year) 2199
+abbrev pub mostIn : List ℕ → ℕ
+mostIn v = cond (eqb (length v) 2) mostRows 250
+
+unfoldable pub rowsFit : Date → List ℕ → Bool
+rowsFit date v = between 1 (mostIn v) (rowsIn v) && leb (rowDateOf date (rowsIn v - 1) .year) 2199
 
 -- no comparison with a NaN holds
 abbrev pub degreesFit : Float → Float → List ℕ → Bool
@@ -58,7 +62,7 @@ ranges v =
     -- town, date, and rows from the date on
     (1, textFits (v .value 1))
     ∷ (2, dateFits (dateIn (v .value 2)))
-    ∷ (3, rowsFit (dateIn (v .value 2)) (rowsIn (v .value 3)))
+    ∷ (3, rowsFit (dateIn (v .value 2)) (v .value 3))
     -- latitude, longitude
     ∷ (4, degreesFit (neg (dec 90 0)) (dec 90 0) (v .value 4))
     ∷ (5, degreesFit (neg (dec 180 0)) (dec 180 0) (v .value 5))

@@ -1,7 +1,7 @@
 // What stands inside a right length: the range of each tag's value. Range ends are allowed.
 ghost use mathlib.Core.Path.{_≡_};
 ghost use Rattle.fields.specs.Values.{valuesIn};
-ghost use Rattle.order.specs.Ranges.{textFits, dateFits, rowsFit, degreesFit, minuteFits, minutesFit, intervalFits, fitsOf, inRangeOf};
+ghost use Rattle.order.specs.Ranges.{textFits, dateFits, mostIn, rowsFit, degreesFit, minuteFits, minutesFit, intervalFits, fitsOf, inRangeOf};
 use super::given::date_in;
 use super::given::degrees_in;
 use super::given::minutes_in;
@@ -18,6 +18,9 @@ use models::adjustments::TimeAdjustment;
 const FIRST_YEAR: u32 = 1900;
 
 const LAST_YEAR: u32 = 2199;
+
+// Rows whose number has one byte, as every order had them once.
+const MOST_IN_ONE_BYTE: u32 = 250;
 
 // Printable ASCII.
 fn text_fits(bytes: &[u8]) -> bool
@@ -42,15 +45,27 @@ fn date_fits(date: Date) -> bool
     (FIRST_YEAR <= date.year) & (date.year <= LAST_YEAR) & date.exists()
 }
 
-// The last row is the one with one less row before it than there are; its year decides, since the last year is allowed to its end.
-fn rows_fit(date: Date, rows: u32) -> bool
-    ensures { λ r. ⌜ r ≡ rowsFit date rows ⌝ }
+// The most rows that the bytes of their number may say.
+fn most_in(bytes: &[u8]) -> u32
+    ensures { λ r. ⌜ r ≡ mostIn (now (bytes .entry)) ⌝ }
 {
+    if bytes.len() == 2 {
+        return MOST_ROWS;
+    }
+    MOST_IN_ONE_BYTE
+}
+
+// The last row is the one with one less row before it than there are; its year decides, since the last year is allowed to its end.
+fn rows_fit(date: Date, bytes: &[u8]) -> bool
+    ensures { λ r. ⌜ r ≡ rowsFit date (now (bytes .entry)) ⌝ }
+{
+    let rows = rows_in(bytes);
+    let most = most_in(bytes);
     if rows < 1 {
         return false;
     }
     let last = date.row(rows - 1);
-    (rows <= MOST_ROWS) & (last.year <= LAST_YEAR)
+    (rows <= most) & (last.year <= LAST_YEAR)
 }
 
 // A NaN passes no comparison.
@@ -88,7 +103,7 @@ fn fits(order: &[u8], fields: Fields, tag: u32) -> bool
     match tag {
         1 => text_fits(bytes),
         2 => date_fits(date_in(bytes)),
-        3 => rows_fit(date_in(value(order, fields, 2)), rows_in(bytes)),
+        3 => rows_fit(date_in(value(order, fields, 2)), bytes),
         4 => degrees_fit(bytes, -90.0, 90.0),
         5 => degrees_fit(bytes, -180.0, 180.0),
         11 => minutes_fit(minutes_in(bytes)),

@@ -2,3 +2,4 @@ pub mod AcceptedParameters
 pub mod Witness
 pub mod MinutesLaws
 pub mod PrintedLaws
+pub mod FormerRowsLaws

@@ -93,7 +93,8 @@ fn main() {
     let first = NaiveDate::from_ymd_opt(signed(first) as i32, first[2] as u32, first[3] as u32).unwrap();
     println!("{}", std::str::from_utf8(&fields[&1]).unwrap());
     println!("date fajr sunrise dhuhr asr maghrib isha middle qiyam tomorrow");
-    for row in 0..fields[&3][0] as i64 {
+    let rows = fields[&3].iter().fold(0, |rows, byte| rows * 256 + *byte as i64);
+    for row in 0..rows {
         let date = first + Duration::days(row);
         if let Some((number, day)) = refused(date, place) {
             println!("{date} refused {number} day {day}");

@@ -1,6 +1,7 @@
 //! The orders that are compared: good ones here, damaged ones in order_damage.rs; the same for the same seed.
 use crate::day_draw::{NaiveDate, METHODS};
 use crate::draw::Draw;
+use crate::order_read::LAST_TAG;
 use chrono::{Datelike, Duration};
 
 /// A field as it is written; the length is free of the value's, so that a damaged order can lie.
@@ -53,7 +54,7 @@ impl Draw {
 
     /// Row 0's date and the rows: both ends of the calendar, leap days, the last row on the last date, and any.
     fn dates(&mut self) -> (NaiveDate, i64) {
-        let rows = [1, 250, 2, 1 + self.below(250) as i64][self.index(4)];
+        let rows = [1, 250, 400, 2, 1 + self.below(400) as i64][self.index(5)];
         let latest = last_date() - Duration::days(rows - 1);
         let date = match self.below(12) {
             0 => latest,
@@ -63,6 +64,12 @@ impl Draw {
             _ => self.date(),
         };
         (date.min(latest), rows)
+    }
+
+    /// Up to 250 rows in one byte or in two, more in two.
+    pub fn rows_value(&mut self, rows: i64) -> Vec<u8> {
+        let two = (rows as u16).to_be_bytes();
+        if rows <= 250 && self.coin() { two[1..].to_vec() } else { two.to_vec() }
     }
 
     /// The end of a February, and the days around it.
@@ -82,14 +89,14 @@ impl Draw {
         vec![
             Field::new(1, &town),
             Field::new(2, &date_value(date.year(), date.month(), date.day())),
-            Field::new(3, &[rows as u8]),
+            Field::new(3, &self.rows_value(rows)),
             Field::new(4, &place.latitude.to_be_bytes()),
             Field::new(5, &place.longitude.to_be_bytes()),
             Field::new(6, &[method as u8]),
         ]
     }
 
-    /// A good field of a tag that an order may leave out, 7 to 14.
+    /// A good field of a tag that an order may leave out, from 7 on. Those that choose another rule than the crate's choose the crate's.
     pub fn may_have(&mut self, tag: u8, method: usize) -> Field {
         let brought = METHODS[method].parameters();
         match tag {
@@ -98,7 +105,8 @@ impl Draw {
             11 => Field::new(tag, &[0; 6].map(|_| (self.minutes() as i16).to_be_bytes()).concat()),
             12 => Field::new(tag, &self.order_angle(brought.fajr_angle).to_be_bytes()),
             13 => Field::new(tag, &self.order_angle(brought.isha_angle).to_be_bytes()),
-            _ => Field::new(tag, &([0, 1, 90, 1_440, self.below(1_441)][self.index(5)] as u16).to_be_bytes()),
+            14 => Field::new(tag, &([0, 1, 90, 1_440, self.below(1_441)][self.index(5)] as u16).to_be_bytes()),
+            _ => Field::new(tag, &[0]),
         }
     }
 
@@ -114,7 +122,7 @@ impl Draw {
         let mut fields = self.must_have(method);
         // none of them, all of them, or each by a coin
         let (some, all) = (self.below(8) > 0, self.below(8) == 0);
-        for tag in 7..=14 {
+        for tag in 7..=LAST_TAG {
             let field = self.may_have(tag, method);
             if all || some && self.coin() {
                 fields.push(field);

@@ -186,8 +186,8 @@ impl Orders {
 impl Draw {
     /// Rows to work: the first, the last, one between and one that the order lacks. Of a refused order one: all are refused alike.
     fn rows_of(&mut self, order: &Order) -> Vec<u32> {
-        let Ok(asked) = &order.reading else { return vec![[0, 249, u32::MAX][self.index(3)]] };
-        let beyond = [asked.rows, asked.rows + 1, 255, 256, u32::MAX][self.index(5)];
+        let Ok(asked) = &order.reading else { return vec![[0, 399, u32::MAX][self.index(3)]] };
+        let beyond = [asked.rows, asked.rows + 1, 400, 65_536, u32::MAX][self.index(5)];
         let mut rows = vec![0, self.below(asked.rows as u64) as u32, asked.rows - 1, beyond];
         rows.dedup();
         rows

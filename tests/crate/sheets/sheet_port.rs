@@ -2,8 +2,8 @@
 use std::io::Write;
 use std::process::{Command, Stdio};
 
-/// What the longest sheet takes, a town of 40 bytes, the header and 250 full rows; a smaller buffer gets nothing.
-pub const LONGEST: usize = 41 + 63 + 250 * 119;
+/// What the longest sheet takes, a town of 40 bytes, the header and 400 full rows; a smaller buffer gets nothing.
+pub const LONGEST: usize = 41 + 63 + 400 * 119;
 
 /// From the root of this repository, where tests/crate/run and bench/run work.
 pub const PROGRAM: &str = "target/bin/sheet";

@@ -17,8 +17,8 @@ returns-2 c = simp (c .date-fits .ensures, c .before .date-in .ensures, c .befor
 returns-3 : tie.Need-returns-3
 unfolding fitsOf lookUp
 returns-3 c =
-    let d = c .before .before .before in
-    simp (c .rows-fit .ensures, c .before .rows-in .ensures, c .before .before .date-in2 .ensures, d .value2 .ensures, d .before .before .value .ensures, d .before .match .keys3)
+    let d = c .before .before in
+    simp (c .rows-fit .ensures, c .before .date-in2 .ensures, d .value2 .ensures, d .before .before .value .ensures, d .before .match .keys3)
 
 returns-4 : tie.Need-returns-4
 unfolding fitsOf lookUp dec round ofBits neg
@@ -67,4 +67,4 @@ returns-10 c =
 pub fits-spec : {M : Type 1} → statement M
 fits-spec =
     tie.close
-    (tie.spec (λ c κs. tt) (λ c κs. tt) (λ c κs. tt) (λ c κs. tt) (λ c κs. tt) (λ c κs. tt) (λ c κs. tt) (λ c κs. tt) (λ c κs. tt) (λ c κs. tt) (λ c κs. tt) (λ c κs. tt) (λ c κs. tt) (λ c κs. tt) (λ c κs. tt) (λ c κs. tt) (λ c κs. tt) returns returns-2 returns-3 returns-4 returns-5 returns-6 returns-7 returns-8 returns-9 returns-10)
+    (tie.spec (λ c κs. tt) (λ c κs. tt) (λ c κs. tt) (λ c κs. tt) (λ c κs. tt) (λ c κs. tt) (λ c κs. tt) (λ c κs. tt) (λ c κs. tt) (λ c κs. tt) (λ c κs. tt) (λ c κs. tt) (λ c κs. tt) (λ c κs. tt) (λ c κs. tt) (λ c κs. tt) returns returns-2 returns-3 returns-4 returns-5 returns-6 returns-7 returns-8 returns-9 returns-10)
