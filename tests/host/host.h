@@ -111,5 +111,6 @@ void check_stack(void);
 void check_stored(const char *path);
 void check_damaged(uint32_t orders);
 void check_queue(uint32_t calls);
+void check_job_log(uint32_t calls);
 
 #endif

@@ -22,9 +22,9 @@ texts =
     ∷ ascii "Refusal 9: a lent buffer is too short, place"
     ∷ ascii "Refusal 10: an instant is out of range, place"
     ∷ ascii "Refusal 11: no prayer is in force, place"
-    ∷ []
-    ∷ []
-    ∷ []
+    ∷ ascii "Refusal 12: the log's second buffer is too short, page or count"
+    ∷ ascii "Refusal 13: a record of the log is out of turn, page"
+    ∷ ascii "Refusal 14: the embosser's count does not fit the log, count"
     ∷ []
     ∷ ascii "Refusal 16: the print queue is full, job id"
     ∷ ascii "Refusal 17: the job's id or its pages are not allowed, job id"
