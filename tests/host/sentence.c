@@ -42,7 +42,9 @@ static const char *const names[] = {NO_NAME,
                                     " fajr angle, tag",
                                     " isha angle, tag",
                                     " isha interval, tag",
-                                    " carry, tag"};
+                                    " carry, tag",
+                                    NO_NAME,
+                                    " southern, tag"};
 #define NUMBERS (sizeof words / sizeof *words)
 #define TAGS (sizeof names / sizeof *names)
 static const uint32_t some_places[] = {0, 6, 10, 14, 65536, UINT32_MAX};

@@ -30,7 +30,7 @@ texts =
     ∷ ascii "Refusal 17: the job's id or its pages are not allowed, job id"
     ∷ []
 
--- the first stands for every tag that has no name here
+-- the first stands for every tag that has no name here; one between that has not come yet has the same
 unfoldable pub names : List (List ℕ)
 names =
     ascii " tag"
@@ -49,6 +49,8 @@ names =
     ∷ ascii " isha angle, tag"
     ∷ ascii " isha interval, tag"
     ∷ ascii " carry, tag"
+    ∷ ascii " tag"
+    ∷ ascii " southern, tag"
     ∷ []
 
 unfoldable pub textOf : ℕ → List ℕ

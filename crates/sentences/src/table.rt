@@ -6,7 +6,7 @@ ghost use Rattle.sentences.specs.Rows.{filled, endOf};
 // One more than the last number, and than the last tag.
 const NUMBERS: usize = 18;
 
-const TAGS: usize = 16;
+const TAGS: usize = 18;
 
 const TEXTS: [[u8; 64]; NUMBERS] = [
     *b"                                                                ",
@@ -46,6 +46,8 @@ const NAMES: [[u8; 64]; TAGS] = [
     *b" isha angle, tag                                                ",
     *b" isha interval, tag                                             ",
     *b" carry, tag                                                     ",
+    *b" tag                                                            ",
+    *b" southern, tag                                                  ",
 ];
 
 // A number's text; blanks alone for a number that is not known.
