@@ -91,6 +91,7 @@ order_bytes full_order(void) {
   put_interval(&order, 75);
   put_small(&order, 15, 1);
   put_clock(&order, -345);
+  put_small(&order, 17, 1);
   return order;
 }
 

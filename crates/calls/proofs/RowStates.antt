@@ -13,7 +13,7 @@ use Rattle.order.specs.declared.reading.Order.{Order}
 use Rattle.row_suns.specs.RowSuns.{rowSunsOf, nextRowSunsOf, rowSunsHoursOf}
 use Rattle.row_suns.proofs.RowSunsLaws.{rolled-hours, rolls}
 use Rattle.row_suns.specs.declared.RowSuns.{RowSuns}
-use Rattle.schedule.specs.Times.{workedOf}
+use Rattle.schedule.specs.Times.{seasonOf, workedOf}
 use Rattle.schedule.specs.declared.hours.RowHours.{RowHours}
 use Rattle.schedule.specs.declared.prayer_times.Worked.{Worked}
 use Rattle.calls.specs.Calls.{workRowOf}
@@ -25,7 +25,7 @@ stateOf o k = rowSunsOf (rowDateOf (o .date) k) (o .coordinates) (o .parameters)
 -- the day that suns give
 abbrev pub workedFrom : Order → RowSuns → Worked
 workedFrom o suns =
-    workedOf (rowSunsHoursOf (o .coordinates .latitude) (o .parameters) (o .rules) suns) (suns .date) (o .coordinates .latitude) (o .parameters)
+    workedOf (rowSunsHoursOf (o .coordinates .latitude) (o .parameters) (o .rules) suns) (suns .date) (seasonOf (o .coordinates .latitude) (o .rules)) (o .parameters)
 
 module _ (o : Order) (a : Accepted o) where
   pub first-state : rowSunsOf (o .date) (o .coordinates) (o .parameters) (o .rules) ≡ stateOf o 0
@@ -50,5 +50,5 @@ module _ (o : Order) (a : Accepted o) where
     unfolding workRowOf rowSunsOf
     state-worked =
         simp (lt-ltb k (o .rows) h)
-        (ap (λ (x : RowHours). workedOf x (rowDateOf (o .date) k) (o .coordinates .latitude) (o .parameters))
+        (ap (λ (x : RowHours). workedOf x (rowDateOf (o .date) k) (seasonOf (o .coordinates .latitude) (o .rules)) (o .parameters))
         (rolled-hours (rowDateOf (o .date) k) (o .coordinates) (o .parameters) (o .rules)))

@@ -38,6 +38,8 @@ tags =
     ∷ row 1 1 0 1
     -- 16: clock
     ∷ row 2 2 0 0
+    -- 17: the southern season
+    ∷ row 1 1 0 1
     ∷ []
 
 abbrev pub lastTag : ℕ

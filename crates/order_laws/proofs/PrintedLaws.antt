@@ -19,7 +19,7 @@ use Rattle.lines.specs.Lines.{daysOf, sizeOf, nineOf}
 use Rattle.order.specs.Accepted.{Accepted}
 use Rattle.order.specs.declared.reading.Order.{Order}
 use Rattle.schedule.specs.Numbers.{numbersOf}
-use Rattle.schedule.specs.Times.{startOf, workedAt}
+use Rattle.schedule.specs.Times.{startOf, seasonOf, workedAt}
 use Rattle.schedule.specs.declared.prayer_times.PrayerTimes.{PrayerTimes}
 use Rattle.schedule.specs.declared.prayer_times.Worked.{Worked}
 use Rattle.schedule.specs.declared.prayer_times.Worked.the-variants.{Times, Refused}
@@ -70,5 +70,5 @@ days-are-printed-whole order row t i h e l = by-row (ltb row (order .rows)) e
         → sizeOf (daysOf date (getD (nineOf t) i (pos 0))) ≤ 4
     by-row true w =
         nine-digits date t
-        (times-lie-by-their-date (order .rules .midnight) (numbersOf date (order .coordinates) (order .parameters)) date (order .coordinates .latitude) (order .parameters) t (accepted-latitude order h) (accepted-carried order h) w) i l
+        (times-lie-by-their-date (order .rules .midnight) (numbersOf date (order .coordinates) (order .parameters)) date (seasonOf (order .coordinates .latitude) (order .rules)) (order .parameters) t (accepted-latitude order h) (accepted-carried order h) w) i l
     by-row false w = absurd (subst isTimes (sym w) tt)

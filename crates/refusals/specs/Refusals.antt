@@ -52,6 +52,18 @@ instantBeyond = 10
 abbrev pub noneInForce : ℕ
 noneInForce = 11
 
+-- request 6: "with 12 if the second buffer is too short for what compaction writes"; "the record's page", "at restart, the count"
+abbrev pub logSecondShort : ℕ
+logSecondShort = 12
+
+-- request 6: "with 13 for a record out of turn"; "the record's page"
+abbrev pub logOutOfTurn : ℕ
+logOutOfTurn = 13
+
+-- request 6: "with 14 for a count outside those bounds"; "the count"
+abbrev pub logCountOutside : ℕ
+logCountOutside = 14
+
 -- request 10: "by 16 when 16 jobs wait"; the id
 abbrev pub queueFull : ℕ
 queueFull = 16
@@ -64,4 +76,5 @@ jobUnfit = 17
 abbrev pub numbers : List ℕ
 numbers =
     fieldCut ∷ fieldUnknown ∷ fieldAgain ∷ tagMissing ∷ outOfRange ∷ noTransit ∷ noSunrise
-    ∷ noSunset ∷ bufferShort ∷ instantBeyond ∷ noneInForce ∷ queueFull ∷ jobUnfit ∷ []
+    ∷ noSunset ∷ bufferShort ∷ instantBeyond ∷ noneInForce ∷ logSecondShort
+    ∷ logOutOfTurn ∷ logCountOutside ∷ queueFull ∷ jobUnfit ∷ []

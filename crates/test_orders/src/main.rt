@@ -102,8 +102,10 @@ fn print_signed(m: i32) {
 fn print_rules(order: Order) {
     let rules = order.rules;
     let midnight = rules.midnight;
+    let southern = rules.southern;
     print(wide(midnight.number()));
     print_signed(order.clock);
+    print(wide(southern.number()));
 }
 
 fn print_record(order: Order) {
