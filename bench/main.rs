@@ -18,6 +18,7 @@ mod order_port;
 #[path = "../order_read.rs"]
 mod order_read;
 mod orders;
+mod pages;
 mod rounds;
 #[path = "../settings.rs"]
 mod settings;
@@ -30,6 +31,7 @@ use std::process::{exit, Command};
 
 const ROWS: &str = "| what | port, a second | crate, a second | port, ns | crate, ns | ratio of the rates | its spread |";
 const MEMORY: &str = "| a sheet of 250 rows | port's program, KB | crate's, KB | ratio |";
+const CELLS: &str = "| cells, by the row | ns | the sheet's ns | ratio | its spread |";
 const FUNCTIONS: &str = "| function | ns | platform's ns | ratio | its spread |";
 
 fn head(columns: &str) {
@@ -63,6 +65,11 @@ fn work(side: &str, count: &str) {
     }
 }
 
+fn cells() {
+    head(CELLS);
+    pages::pages();
+}
+
 fn tables() {
     head(ROWS);
     days::days();
@@ -72,6 +79,8 @@ fn tables() {
     println!();
     head(MEMORY);
     memory();
+    println!();
+    cells();
     println!();
     head(FUNCTIONS);
     functions::functions();
@@ -87,6 +96,7 @@ fn main() {
         }
         [] => tables(),
         ["sheet"] => print_sheet(),
+        ["cells"] => cells(),
         [side, count] => work(side, count),
         _ => exit(2),
     }

@@ -24,15 +24,15 @@
    16      KATCHIDUL_QUEUE_FULL         the print queue is full, job id                        the job's id
    17      KATCHIDUL_JOB_UNFIT          the job's id or its pages are not allowed, job id      the job's id
 
-   A row that the order lacks is 5, place 3, the tag of the rows; a number that has no sentence, and bytes that are none, are 5, place
-   0. A row buffer is too short below 119 bytes, a sentence's below its length, a job log's below the bytes that it is said to hold. An
-   instant is out of range where its seconds are beyond 10^12 either way, or its nanoseconds over 999,999,999. 11 is told by next and
+   A row or a page that the order lacks is 5, place 3, the tag of the rows; a number that has no sentence, and bytes that are none, are 5,
+   place 0. A row buffer is too short below 119 bytes, a cell buffer below 39, a page's scratch below 975, a sentence's below its length, a
+   job log's below the bytes that it is said to hold. An instant is out of range where its seconds are beyond 10^12 either way, or its nanoseconds over 999,999,999. 11 is told by next and
    remaining alone: that no prayer is in force is an answer of katchidul_prayer_at. What is out of turn in a job log, and which count
    fits it, stands with its calls below. The print queue is full with 16 jobs; a job's id is not allowed where it is 0, over 65,535 or
    still waiting, its pages where they are not 1 to 16. katchidul_write_sentence puts a refusal in words.
 
-   A row buffer (9) and an instant (10) are checked before anything else in their calls; then the order (1 to 5), the row (5, place 3),
-   the day (6 to 8), and 11. Of a job log 9 is tried first, then 13, 14 and 12. Of a job 17 is tried before 16, of a sentence to be
+   A lent buffer (9) and an instant (10) are checked before anything else in their calls; then the order (1 to 5), the row or the page (5,
+   place 3), the day (6 to 8), and 11. Of a job log 9 is tried first, then 13, 14 and 12. Of a job 17 is tried before 16, of a sentence to be
    written 5 before 9.
 
    What a call does with the host's memory. It changes no byte of the order, keeps nothing of what it is lent, allocates nothing and has
@@ -55,11 +55,14 @@ extern "C" {
 #endif
 
 /* Of this header: one more with every change of a call, a struct or a number. Take header and library from the same build. */
-#define KATCHIDUL_VERSION 7
+#define KATCHIDUL_VERSION 8
 
 #define KATCHIDUL_ORDER_MAX 1024 /* bytes of an order */
 #define KATCHIDUL_TOWN_MAX 40    /* bytes of a town's name */
 #define KATCHIDUL_ROWS_MAX 400   /* rows of an order */
+#define KATCHIDUL_ROW_CELLS 39   /* of a row, a byte each, and the least that a cell buffer may have */
+#define KATCHIDUL_PAGE_ROWS 25   /* of a full page */
+#define KATCHIDUL_PAGE_CELLS 975 /* of a full page, and the least that a page's scratch may have */
 #define KATCHIDUL_ROW_BYTES 119  /* of a row's line with its newline, and the least that a row buffer may have */
 #define KATCHIDUL_SENTENCE_MAX 100 /* bytes of a sentence */
 #define KATCHIDUL_TIME_COUNT 9
@@ -182,7 +185,7 @@ typedef struct katchidul_order {
   uint32_t isha_interval;        /* minutes */
   int32_t minutes[KATCHIDUL_MINUTES_COUNT]; /* own minutes: fajr, sunrise, dhuhr, asr, maghrib, isha */
   uint32_t carry;                /* an hour number that rounds to hour 24: KATCHIDUL_CARRY_STOPS or KATCHIDUL_CARRY_CARRIES */
-  int32_t clock;                 /* 0, as `ramadan`, `imsak` and `shift`: for tags that are still to come */
+  int32_t clock;                 /* minutes from UTC to the clock that the cells show, -840 to 840 */
   uint32_t southern;             /* the season's count in the south: KATCHIDUL_SOUTHERN_UNREDUCED or KATCHIDUL_SOUTHERN_STARTS_AGAIN */
   uint32_t ramadan, imsak;
   int32_t shift;
@@ -249,6 +252,25 @@ katchidul_remaining katchidul_remaining_at(const uint8_t *order, size_t length, 
    row has 119 bytes with its newline and no zero byte after it; the buffer's bytes after them stay. Where the call is refused no byte
    of the buffer changes. The buffer and the order must not overlap. Refusals 1 to 9. */
 katchidul_reply katchidul_write_row(const uint8_t *order, size_t length, uint32_t row, uint8_t *buffer, size_t size);
+
+/* What a call says that writes cells: how many rows it wrote, and the dots that they punch. */
+typedef struct katchidul_cells {
+  uint32_t number, place, rows, dots;
+} katchidul_cells;
+
+/* Writes a row in braille at the front of a buffer of `size` bytes, at least KATCHIDUL_ROW_CELLS (9 below that), a byte a cell as the
+   embosser takes it: bit 0 is dot 1, bit 5 is dot 6, and the other two bits are 0. A row is 39 cells: the number sign (dots 3456) and two
+   digits of the day; then the six times from Fajr to Isha, each a blank, the number sign, and hour and minute as four digits. Digits are
+   the letters a to j of the literary code. The day is the row's own date's. The times are by the order's clock: its `clock` minutes are
+   added to the UTC instant, and the seconds are dropped. A day that is refused (6 to 8) shows its day and 36 blanks, and the call is not
+   refused for it. `rows` is 1. The buffer's bytes after the cells stay; where the call is refused all of them do. The buffer and the order
+   must not overlap. Refusals 1 to 5 and 9. */
+katchidul_cells katchidul_write_cells(const uint8_t *order, size_t length, uint32_t row, uint8_t *buffer, size_t size);
+
+/* Writes a page in braille, its rows one behind another, at the front of a scratch of `size` bytes, at least KATCHIDUL_PAGE_CELLS (9 below
+   that, also for a page of fewer rows). Pages count from 1 and have KATCHIDUL_PAGE_ROWS rows, the last one those left: an order has
+   (rows + 24) / 25. A page that the order lacks, and page 0, is 5, place 3. Else as katchidul_write_cells. */
+katchidul_cells katchidul_write_page(const uint8_t *order, size_t length, uint32_t page, uint8_t *scratch, size_t size);
 
 /* The print queue. Jobs wait for the embosser, each with an id and its pages left, and each turn sends one page of the job at the front,
    so that a long job does not hold up the rest. The host keeps the queue, hands it over by value and goes on with the one that it gets

@@ -18,6 +18,7 @@ _Static_assert(sizeof(katchidul_order) == 8 * 4 + 4 * 8 + 18 * 4, "katchidul_ord
 _Static_assert(sizeof(katchidul_day) == 2 * 4 + 9 * 8, "katchidul_day has padding");
 _Static_assert(sizeof(katchidul_prayer) == 3 * 4, "katchidul_prayer has padding");
 _Static_assert(sizeof(katchidul_remaining) == 4 * 4, "katchidul_remaining has padding");
+_Static_assert(sizeof(katchidul_cells) == 4 * 4, "katchidul_cells has padding");
 _Static_assert(sizeof(katchidul_reply) == 2 * 4, "katchidul_reply has padding");
 
 bool ask_start(void) {
@@ -62,6 +63,20 @@ static void ask_row(answers *all, const order_bytes *order, const uint8_t *lent,
   }
 }
 
+static void ask_cells(answers *all, const order_bytes *order, const uint8_t *lent, uint32_t row) {
+  static const size_t sizes[] = {39, 40, 100, BUFFER_MOST};
+  static uint32_t call;
+  size_t size = sizes[call++ % 4];
+  all->cells = katchidul_write_cells(lent, order->length, row, lend_buffer(size), size);
+  all->lent_kept = all->lent_kept && order_kept(order, lent);
+  if (all->cells.number != 0) {
+    all->cells_right = cells_refused(&all->cells, all->cells.number, all->cells.place) && buffer_kept();
+    return;
+  }
+  row_cells cells = cells_of(&all->order, row, &all->day);
+  all->cells_right = all->cells.place == 0 && all->cells.rows == 1 && all->cells.dots == dots_in(cells.cells, 39) && buffer_holds(cells.cells, 39);
+}
+
 answers ask(const order_bytes *order, uint32_t row, int64_t seconds, uint32_t nanoseconds) {
   answers all;
   size_t length = order->length;
@@ -77,6 +92,7 @@ answers ask(const order_bytes *order, uint32_t row, int64_t seconds, uint32_t na
   all.remaining = katchidul_remaining_at(lent, length, row, seconds, nanoseconds);
   all.lent_kept = all.lent_kept && order_kept(order, lent);
   ask_row(&all, order, lent, row);
+  ask_cells(&all, order, lent, row);
   return all;
 }
 
@@ -108,6 +124,10 @@ bool instant_refused(const answers *all, uint32_t number, uint32_t place) {
 
 bool line_answered(const answers *all, uint32_t number, uint32_t place) {
   return all->written.number == number && all->written.place == place && all->line_right;
+}
+
+bool cells_answered(const answers *all, uint32_t number, uint32_t place) {
+  return all->cells.number == number && all->cells.place == place && all->cells_right;
 }
 
 bool row_refused(const answers *all, uint32_t number, uint32_t place) {

@@ -1,4 +1,4 @@
-/* A row asked into a lent buffer. The buffer stands in pages with a forbidden page on each side: at their start, between bytes that
+/* Buffers to lend, and a row asked into one. A buffer stands in pages with a forbidden page on each side: at their start, between bytes that
    are not lent, or at their end, in turn. All those bytes, lent or not, differ from place to place and from call to call, and after
    the call each is held against what it must be. */
 #define _DEFAULT_SOURCE
@@ -23,7 +23,7 @@ bool buffer_start(void) {
   return mprotect(room, room_size, PROT_READ | PROT_WRITE) == 0 && mprotect(expected, room_size, PROT_READ | PROT_WRITE) == 0;
 }
 
-static uint8_t *lend_buffer(size_t size) {
+uint8_t *lend_buffer(size_t size) {
   static uint32_t call;
   const size_t places[3] = {0, 64, room_size - size};
   call++;
@@ -39,11 +39,12 @@ katchidul_reply write_lent(const uint8_t *order, size_t length, uint32_t row, si
 
 bool buffer_kept(void) { return memcmp(room, expected, room_size) == 0; }
 
-bool buffer_has(const row_line *line) {
-  if (line->length != ROW_LENGTH) return false;
-  memcpy(expected + buffer_at, line->text, ROW_LENGTH);
+bool buffer_holds(const uint8_t *bytes, size_t count) {
+  memcpy(expected + buffer_at, bytes, count);
   return memcmp(room, expected, room_size) == 0;
 }
+
+bool buffer_has(const row_line *line) { return line->length == ROW_LENGTH && buffer_holds((const uint8_t *)line->text, ROW_LENGTH); }
 
 bool row_written(const order_bytes *order, uint32_t row, size_t size, const row_line *line) {
   const uint8_t *lent = lend(order);

@@ -27,8 +27,12 @@ static void put_options(order_bytes *order) {
   for (uint8_t tag = 12; tag <= 13; tag++)
     if (below(2)) put_float(order, tag, between(0, 30));
   if (below(2)) put_interval(order, (uint16_t)below(1441));
+<<<<<<< HEAD
+  if (below(2)) put_clock(order, (int16_t)((int)below(1681) - 840));
+=======
   for (uint8_t tag = 15; tag <= 17; tag += 2)
     if (below(2)) put_small(order, tag, (uint8_t)below(2));
+>>>>>>> main
 }
 
 static order_bytes sound_order(void) {
@@ -111,6 +115,7 @@ void check_damaged(uint32_t orders) {
       numbers[9]++;
       check(row_unwritten(&order, row, below(ROW_LENGTH), 9, 0), what);
     }
+    if (below(16) == 0) check(page_agrees(&order, row / 25 + 1, PAGE_LENGTH + below(100)), what);
     if (all.day.number < 12) numbers[all.day.number]++;
     if (all.next.number >= 10 && all.next.number < 12) numbers[all.next.number]++;
   }

@@ -30,6 +30,7 @@ int main(int count, char **arguments) {
   check_days();
   check_instants();
   check_lines();
+  check_cells();
   check_sentences();
   check_environment();
   check_threads();

@@ -10,6 +10,7 @@
 
 #define ORDER_ROOM 2048
 #define ROW_LENGTH 119
+#define PAGE_LENGTH 975
 #define BUFFER_MOST 4096
 
 typedef struct {
@@ -27,6 +28,7 @@ void put_bits(order_bytes *order, uint8_t tag, uint64_t bits);
 void put_float(order_bytes *order, uint8_t tag, double value);
 void put_minutes(order_bytes *order, const int16_t minutes[6]);
 void put_interval(order_bytes *order, uint16_t minutes);
+void put_clock(order_bytes *order, int16_t minutes);
 /* The number of rows in so many bytes. */
 void put_rows(order_bytes *order, uint16_t rows, uint16_t size);
 /* The last tag of the table. */
@@ -50,6 +52,8 @@ typedef struct {
   katchidul_remaining remaining;
   katchidul_reply written;
   bool line_right; /* the buffer begins with the row's line, or the row is refused; every other byte of it and around it is as before */
+  katchidul_cells cells;
+  bool cells_right; /* the same of the row's cells, which are not refused for its day */
   bool lent_kept;  /* every byte of the order and every byte around it is as before, after each call */
 } answers;
 
@@ -64,7 +68,8 @@ bool prayer_refused(const katchidul_prayer *answer, uint32_t number, uint32_t pl
 bool remaining_refused(const katchidul_remaining *answer, uint32_t number, uint32_t place);
 /* Writing the row gives this number and place, and the buffer is as they say. */
 bool line_answered(const answers *all, uint32_t number, uint32_t place);
-/* All five calls on a row give this number and place and nothing else. */
+bool cells_answered(const answers *all, uint32_t number, uint32_t place);
+/* The five calls on a row and its times give this number and place and nothing else. */
 bool row_refused(const answers *all, uint32_t number, uint32_t place);
 /* The three calls on an instant give this number and place and nothing else. */
 bool instant_refused(const answers *all, uint32_t number, uint32_t place);
@@ -77,6 +82,12 @@ typedef struct {
 
 row_line line_of(const katchidul_order *order, uint32_t row, const katchidul_day *day);
 
+typedef struct {
+  uint32_t year, month, day;
+} row_date;
+
+row_date date_of(const katchidul_order *order, uint32_t row);
+
 /* buffer.c: a row asked into a lent buffer of up to BUFFER_MOST bytes. */
 bool buffer_start(void);
 katchidul_reply write_lent(const uint8_t *order, size_t length, uint32_t row, size_t size);
@@ -86,6 +97,21 @@ bool buffer_has(const row_line *line);
 /* The whole of a call: its answer, its buffer, its order. */
 bool row_written(const order_bytes *order, uint32_t row, size_t size, const row_line *line);
 bool row_unwritten(const order_bytes *order, uint32_t row, size_t size, uint32_t number, uint32_t place);
+
+/* buffer.c: a buffer of up to BUFFER_MOST bytes, lent until the next one is; and that these bytes stand at its front and no other has changed. */
+uint8_t *lend_buffer(size_t size);
+bool buffer_holds(const uint8_t *bytes, size_t count);
+
+/* cells.c: the cells of a row that the order has, from what the other calls answer. */
+typedef struct {
+  uint8_t cells[39];
+} row_cells;
+
+row_cells cells_of(const katchidul_order *order, uint32_t row, const katchidul_day *day);
+uint32_t dots_in(const uint8_t *cells, size_t count);
+bool cells_refused(const katchidul_cells *answer, uint32_t number, uint32_t place);
+/* A whole call on a page, whatever the order. */
+bool page_agrees(const order_bytes *order, uint32_t page, size_t size);
 
 /* sense.c: what holds of every answer, whatever the order. */
 bool answers_agree(const answers *all, uint32_t row, int64_t seconds, uint32_t nanoseconds);
@@ -103,6 +129,7 @@ void check_records(void);
 void check_days(void);
 void check_instants(void);
 void check_lines(void);
+void check_cells(void);
 void check_sentences(void);
 void check_environment(void);
 void check_threads(void);

@@ -19,16 +19,21 @@ static int put_time(char *text, int64_t time, int64_t date) {
                  (int)(second / 60 % 60), (int)(second % 60));
 }
 
+row_date date_of(const katchidul_order *order, uint32_t row) {
+  row_date date = {order->year, order->month, order->day};
+  for (uint32_t i = 0; i < row; i++) {
+    if (++date.day <= month_days(date.year, date.month)) continue;
+    date.day = 1;
+    if (++date.month > 12) date.year++, date.month = 1;
+  }
+  return date;
+}
+
 row_line line_of(const katchidul_order *order, uint32_t row, const katchidul_day *day) {
   row_line line;
-  uint32_t year = order->year, month = order->month, date = order->day;
-  for (uint32_t i = 0; i < row; i++) {
-    if (++date <= month_days(year, month)) continue;
-    date = 1;
-    if (++month > 12) year++, month = 1;
-  }
-  int at = sprintf(line.text, "%04u-%02u-%02u", year, month, date);
-  for (int i = 0; i < 9; i++) at += put_time(line.text + at, day->times[i], days_to(year, month, date));
+  row_date date = date_of(order, row);
+  int at = sprintf(line.text, "%04u-%02u-%02u", date.year, date.month, date.day);
+  for (int i = 0; i < 9; i++) at += put_time(line.text + at, day->times[i], days_to(date.year, date.month, date.day));
   line.length = (size_t)(at + sprintf(line.text + at, "\n"));
   return line;
 }

@@ -9,6 +9,7 @@ struct katchidul_day;
 struct katchidul_prayer;
 struct katchidul_remaining;
 struct katchidul_reply;
+struct katchidul_cells;
 struct katchidul_queue;
 struct katchidul_joined;
 struct katchidul_turned;
@@ -21,7 +22,8 @@ static uint32_t refused(const order_bytes *order) { return katchidul_read_order(
 static void check_limits(void) {
   order_bytes order = {0}, full = full_order();
   char town[KATCHIDUL_TOWN_MAX + 1] = {0};
-  uint8_t line[KATCHIDUL_ROW_BYTES];
+  uint8_t line[KATCHIDUL_ROW_BYTES], page[KATCHIDUL_PAGE_CELLS];
+  katchidul_order full_read = katchidul_read_order(full.bytes, full.length);
   while (order.length < KATCHIDUL_ORDER_MAX) put_byte(&order, 99);
   check(refused(&order) == KATCHIDUL_FIELD_UNKNOWN, "KATCHIDUL_ORDER_MAX bytes are read");
   put_byte(&order, 99);
@@ -35,6 +37,12 @@ static void check_limits(void) {
         "KATCHIDUL_ROW_BYTES hold a row");
   check(katchidul_write_row(full.bytes, full.length, 0, line, sizeof line - 1).number == KATCHIDUL_BUFFER_SHORT,
         "one less than KATCHIDUL_ROW_BYTES is too short");
+  check(katchidul_write_cells(full.bytes, full.length, 0, page, KATCHIDUL_ROW_CELLS).rows == 1, "KATCHIDUL_ROW_CELLS hold a row");
+  check(katchidul_write_cells(full.bytes, full.length, 0, page, KATCHIDUL_ROW_CELLS - 1).number == KATCHIDUL_BUFFER_SHORT,
+        "one less than KATCHIDUL_ROW_CELLS is too short");
+  check(katchidul_write_page(full.bytes, full.length, 1, page, sizeof page).rows == full_read.rows, "KATCHIDUL_PAGE_CELLS hold a page");
+  check(katchidul_write_page(full.bytes, full.length, 1, page, sizeof page - 1).number == KATCHIDUL_BUFFER_SHORT,
+        "one less than KATCHIDUL_PAGE_CELLS is too short");
 }
 
 static uint32_t refused_at(int64_t seconds, uint32_t nanoseconds) {

@@ -54,6 +54,11 @@ void put_interval(order_bytes *order, uint16_t minutes) {
   put_number(order, minutes, 2);
 }
 
+void put_clock(order_bytes *order, int16_t minutes) {
+  put_header(order, 16, 2);
+  put_number(order, (uint16_t)minutes, 2);
+}
+
 void put_rows(order_bytes *order, uint16_t rows, uint16_t size) {
   put_header(order, 3, size);
   put_number(order, rows, size);
@@ -85,6 +90,7 @@ order_bytes full_order(void) {
   put_float(&order, 13, 16.25);
   put_interval(&order, 75);
   put_small(&order, 15, 1);
+  put_clock(&order, -345);
   put_small(&order, 17, 1);
   return order;
 }

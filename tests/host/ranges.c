@@ -121,6 +121,22 @@ static void check_towns(void) {
   }
 }
 
+static void check_clock(void) {
+  for (int minutes = -1000; minutes <= 1000; minutes++) {
+    order_bytes order = good_order();
+    char what[64];
+    put_clock(&order, (int16_t)minutes);
+    snprintf(what, sizeof what, "a clock of %d minutes", minutes);
+    range(&order, minutes >= -840 && minutes <= 840 ? 0 : 16, what);
+    if (minutes >= -840 && minutes <= 840) check(katchidul_read_order(order.bytes, order.length).clock == minutes, what);
+  }
+  for (int bit = 0; bit < 2; bit++) {
+    order_bytes order = good_order();
+    put_clock(&order, bit ? INT16_MAX : INT16_MIN);
+    range(&order, 16, "an end of 16 bits");
+  }
+}
+
 /* Of two values out of range the lower tag is named, wherever its field stands. */
 static void check_rising(void) {
   order_bytes order = {0}, rest = place_order("Makkah", 2026, 13, 1, 0, 91, 181, 13);
@@ -143,6 +159,7 @@ void check_ranges(void) {
   check_floats();
   check_small();
   check_minutes();
+  check_clock();
   check_towns();
   check_rising();
 }

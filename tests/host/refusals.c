@@ -59,7 +59,8 @@ static void check_sizes(void) {
 
 static void check_lengths(void) {
   static const struct { uint8_t shortest, longest; } lengths[LAST_TAG + 1] = {{0, 0}, {1, 40}, {4, 4}, {1, 2}, {8, 8}, {8, 8}, {1, 1}, {1, 1},
-                                                                    {1, 1}, {1, 1}, {1, 1}, {12, 12}, {8, 8}, {8, 8}, {2, 2}, {1, 1}, {0, 0}, {1, 1}};
+                                                                    {1, 1}, {1, 1}, {1, 1}, {12, 12}, {8, 8}, {8, 8}, {2, 2}, {1, 1}, {2, 2},
+                                                                    {1, 1}};
   order_bytes full = full_order();
   char what[64];
   for (uint8_t tag = 1; tag <= LAST_TAG; tag++) {

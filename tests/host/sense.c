@@ -1,4 +1,4 @@
-/* What holds of the six answers on any bytes at all, from document 01's rules for the calls: no second reader of orders and no
+/* What holds of the seven answers on any bytes at all, from document 01's rules for the calls: no second reader of orders and no
    second sun is needed for it. */
 #include "host.h"
 
@@ -32,7 +32,8 @@ static bool record_fits(const katchidul_order *order) {
               order->latitude <= 90 && order->longitude >= -180 && order->longitude <= 180 && order->fajr_angle >= 0 &&
               order->fajr_angle <= 30 && order->isha_angle >= 0 && order->isha_angle <= 30 && order->method <= 12 &&
               order->madhab >= 1 && order->madhab <= 2 && order->high_latitude_rule <= 2 && order->rounding <= 2 &&
-              order->shafaq <= 2 && order->carry <= 1 && order->southern <= 1 && order->isha_interval <= 1440 && order->town_at >= 3 && order->town_length >= 1 &&
+              order->shafaq <= 2 && order->carry <= 1 && order->clock >= -840 && order->clock <= 840 && order->southern <= 1 &&
+              order->isha_interval <= 1440 && order->town_at >= 3 && order->town_length >= 1 &&
               order->town_length <= 40;
   for (int i = 0; i < 6; i++) fits = fits && order->minutes[i] >= -720 && order->minutes[i] <= 720;
   return fits;
@@ -81,6 +82,9 @@ bool answers_agree(const answers *all, uint32_t row, int64_t seconds, uint32_t n
   if (!all->lent_kept || !number_fits(&all->order)) return false;
   /* A buffer of 119 bytes or more: the row is refused as the day is, and written where it is not. */
   if (!line_answered(all, day->number, day->place)) return false;
+  /* Cells are not refused for the day. */
+  bool day_alone = day->number >= 6 && day->number <= 8;
+  if (!cells_answered(all, day_alone ? 0 : day->number, day_alone ? 0 : day->place)) return false;
   if (!instant && !instant_refused(all, 10, 0)) return false;
   if (all->order.number != 0) {
     return day_refused(day, all->order.number, all->order.place) &&

@@ -43,7 +43,8 @@ static const char *const names[] = {NO_NAME,
                                     " isha angle, tag",
                                     " isha interval, tag",
                                     " carry, tag",
-                                    NO_NAME,
+                                    " clock, tag",
+
                                     " southern, tag"};
 #define NUMBERS (sizeof words / sizeof *words)
 #define TAGS (sizeof names / sizeof *names)

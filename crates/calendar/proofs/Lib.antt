@@ -7,5 +7,6 @@ pub mod Floors
 pub mod Machine
 pub mod MonthTables
 pub mod Neighbours
+pub mod Remainders
 pub mod Successors
 pub mod YearSteps

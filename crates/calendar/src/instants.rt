@@ -1,6 +1,8 @@
-// The day of an instant, which is given in whole seconds from 1970-01-01 0h UTC.
+// The day of an instant, which is given in whole seconds from 1970-01-01 0h UTC, and its second of that day.
 ghost use mathlib.Core.Path.{_≡_};
-ghost use Rattle.integers.specs.Quotients.{floorQuot};
+ghost use Rattle.integers.specs.Quotients.{floorQuot, floorRem};
+use integers::parts::above;
+use integers::parts::below;
 
 // The number of its day: rounded down, also before 1970.
 pub fn day_of(seconds: i64) -> i64
@@ -8,4 +10,14 @@ pub fn day_of(seconds: i64) -> i64
 {
     let day = seconds / 86400;
     if seconds % 86400 < 0 { day - 1 } else { day }
+}
+
+// The second of its day, from 0 to 86,399, also before 1970.
+pub fn second_of_day(seconds: i64) -> u64
+    ensures { λ r. ⌜ r ≡ floorRem seconds 86400 ⌝ }
+{
+    if seconds < 0 {
+        return 86399 - (below(seconds) - 1) % 86400;
+    }
+    above(seconds) % 86400
 }

@@ -6,4 +6,5 @@ pub mod read_order;
 pub mod remaining_at;
 pub mod sentence;
 pub mod work_day;
+pub mod write_cells;
 pub mod write_row;

@@ -98,7 +98,7 @@ fn choices_read(order: Order) -> KatchidulChoices
     let southern = rules.southern;
     KatchidulChoices {
         carry: midnight.number(),
-        clock: 0,
+        clock: order.clock,
         southern: southern.number(),
         ramadan: 0,
         imsak: 0,

@@ -1,4 +1,4 @@
--- The days from a date to an instant, and its second of the day, in the machine's numbers. Assumes nothing.
+-- The days from a date to an instant, in the machine's numbers. Assumes nothing.
 use mathlib.Core.Path.{_≡_, refl, sym, ap, _∙_}
 use mathlib.Core.Bool.{true, false}
 use Prim.Native.Nat.{ℕ, _+_, _-_, _*_, _/_, _%_, _^_, _<_}
@@ -10,7 +10,7 @@ use mir.Val.{SFits, Fits}
 use Rattle.integers.specs.Parts.{P, N}
 use Rattle.integers.proofs.Sums.{difference, times}
 use Rattle.integers.proofs.OrderLaws.{lt-yes, lt-no}
-use Rattle.integers.specs.Quotients.{floorQuot, floorRem}
+use Rattle.integers.specs.Quotients.{floorQuot}
 use Rattle.integers.proofs.Ranges.{range, fits}
 use Rattle.calendar.specs.Days.{dayNumberOf}
 use Rattle.calendar.specs.declared.dates.Date.{Date}
@@ -30,14 +30,6 @@ days-fit (negsuc n) d h y =
     let m = times (dayNumberOf d) 86400 in
     let b = difference (negsuc (n / 86400)) (dayNumberOf d) in
     fits w64 _ (omega (arith, b .0, b .1, m, s .from, s .to)) (omega (arith, b .0, b .1, m, s .from, s .to))
-
-pub before-zero : (t : ℤ) → ltZ t (pos 0) ≡ true → (1 + (N t - 1) ≡ N t) × (86399 - (N t - 1) % 86400 ≡ floorRem t 86400)
-before-zero (pos n) h = absurd (omega (arith, lt-yes (pos n) (pos 0) h))
-before-zero (negsuc n) h = (omega arith, omega arith)
-
-pub from-zero : (t : ℤ) → ltZ t (pos 0) ≡ false → P t % 86400 ≡ floorRem t 86400
-from-zero (pos n) h = refl
-from-zero (negsuc n) h = absurd (omega (arith, lt-no (negsuc n) (pos 0) h))
 
 pub minus : (z : ℤ) → ltZ z (pos 0) ≡ true → 45 ≡ signOf z
 minus (pos n) h = absurd (omega (arith, lt-yes (pos n) (pos 0) h))

@@ -1,12 +1,9 @@
 // The parts of a row's line: its date and nine times.
 ghost use mathlib.Core.Path.{_≡_};
-ghost use Prim.Native.Nat.{_<_};
-ghost use lib.IntN.{_-ℤ_};
-ghost use Rattle.integers.specs.Quotients.{floorQuot, floorRem};
-ghost use Rattle.calendar.specs.Days.{dayNumberOf};
-ghost use Rattle.lines.specs.Lines.{dateText, signOf, sizeOf, daysOf, clockText, timeText};
+ghost use Rattle.lines.specs.Lines.{dateText, signOf, sizeOf, daysOf, timeText};
 use calendar::dates::Date;
 use calendar::instants::day_of;
+use calendar::instants::second_of_day;
 use integers::parts::above;
 use integers::parts::below;
 use text::decimal::digit;
@@ -36,16 +33,6 @@ fn days_from(date: Date, time: i64) -> i64
     ensures { λ r. ⌜ r ≡ daysOf date time ⌝ }
 {
     day_of(time) - date.day_number()
-}
-
-// The second of the day, also before 1970.
-fn second_of_day(time: i64) -> u64
-    ensures { λ r. ⌜ r ≡ floorRem time 86400 ⌝ }
-{
-    if time < 0 {
-        return 86399 - (below(time) - 1) % 86400;
-    }
-    above(time) % 86400
 }
 
 fn sign(days: i64) -> u8

@@ -16,7 +16,7 @@ use Rattle.float64.specs.Ops.{dec}
 use Rattle.calendar.specs.declared.dates.Date.{Date}
 use Rattle.calendar.specs.Gregorian.{existsOf}
 use Rattle.calendar.specs.Answers.{rowDateOf}
-use Rattle.fields.specs.Numbers.{byteOf, unsignedOf}
+use Rattle.fields.specs.Numbers.{byteOf, unsignedOf, signedOf}
 use Rattle.fields.specs.Values.{Values, valuesOf}
 use Rattle.fields.specs.Tags.{lastTag}
 use Rattle.models.specs.declared.adjustments.TimeAdjustment.{TimeAdjustment}
@@ -30,8 +30,8 @@ use Rattle.models.specs.Presets.{preset, presetOf}
 use Rattle.models.specs.Settings.{minutesFor}
 use Rattle.order.specs.declared.reading.Order.{Order}
 use Rattle.order.specs.declared.reading.Reading.the-variants.{Read}
-use Rattle.order.specs.Given.{dateIn, rowsIn, degreesIn, minutesIn, degreesOr, minutesOr, intervalOr, parametersIn}
-use Rattle.order.specs.Ranges.{mostRows, mostIn, dateFits, rowsFit, degreesFit, minuteFits, minutesFit, intervalFits, lookUp, fitsOf}
+use Rattle.order.specs.Given.{dateIn, rowsIn, degreesIn, minutesIn, degreesOr, minutesOr, intervalOr, parametersIn, clockIn}
+use Rattle.order.specs.Ranges.{mostRows, mostIn, dateFits, rowsFit, degreesFit, minuteFits, minutesFit, intervalFits, clockFits, lookUp, fitsOf}
 use Rattle.order.specs.Reading.{required, missingOf, outOfRangeOf, orderOf, readingOf}
 use Rattle.order.specs.Accepted.{UpTo, Inside, DateInOrder, Accepted}
 use Rattle.order.proofs.RowDates.{row-in-order}
@@ -68,15 +68,19 @@ rows-in d v e =
     let m = most-in v in
     ((leb-true 1 n (b .0), omega arith), leb-true (rowDateOf d (n - 1) .year) 2199 (a .1))
 
-minute-within : (m : ℤ) → minuteFits m ≡ true → Near 720 m
-unfolding minuteFits
-minute-within m e =
-    let a = both (leZ (negsuc 719) m) (leZ m (pos 720)) e in
-    go m (le-yes (negsuc 719) m (a .0)) (le-yes m (pos 720) (a .1))
+-- from -(k + 1) to k + 1
+signed-within : (k : ℕ) (m : ℤ) → (leZ (negsuc k) m && leZ m (pos (k + 1))) ≡ true → Near (k + 1) m
+signed-within k m e =
+    let a = both (leZ (negsuc k) m) (leZ m (pos (k + 1))) e in
+    go m (le-yes (negsuc k) m (a .0)) (le-yes m (pos (k + 1)) (a .1))
   where
-    go : (z : ℤ) → P (negsuc 719) + N z ≤ P z + N (negsuc 719) → P z + N (pos 720) ≤ P (pos 720) + N z → Near 720 z
+    go : (z : ℤ) → P (negsuc k) + N z ≤ P z + N (negsuc k) → P z + N (pos (k + 1)) ≤ P (pos (k + 1)) + N z → Near (k + 1) z
     go (pos n) l h = record { from = omega arith; to = omega arith }
     go (negsuc n) l h = record { from = omega arith; to = omega arith }
+
+minute-within : (m : ℤ) → minuteFits m ≡ true → Near 720 m
+unfolding minuteFits
+minute-within m e = signed-within 719 m e
 
 minutes-within : (m : TimeAdjustment) → minutesFit m ≡ true → (prayer : Prayer) → Near 720 (minutesFor prayer m)
 unfolding minutesFit minutesFor
@@ -121,6 +125,17 @@ module _ (v : Values) where
       go : (b : Bool) → (b ≡ true → (leb 0 n && leb n 1440) ≡ true) → UpTo 1440 (cond b (pos n) missing)
       go true f = (leb-true n 1440 (both (leb 0 n) (leb n 1440) (f refl) .1), refl)
       go false f = otherwise
+
+  clock-in : (v .has 16 ≡ true → clockFits (v .value 16) ≡ true) → Near 840 (clockIn v)
+  unfolding clockIn clockFits
+  clock-in fits = go (v .has 16) fits
+    where
+      m : ℤ
+      m = signedOf (v .value 16) 0
+
+      go : (b : Bool) → (b ≡ true → (leZ (negsuc 839) m && leZ m (pos 840)) ≡ true) → Near 840 (cond b m (pos 0))
+      go true f = signed-within 839 m (f refl)
+      go false f = record { from = lit≤ tt; to = lit≤ tt }
 
   minutes-or : (v .has 11 ≡ true → minutesFit (minutesIn (v .value 11)) ≡ true) → (prayer : Prayer) → Near 720 (minutesFor prayer (minutesOr v noMinutes))
   unfolding minutesOr minutesFit minuteFits
@@ -171,6 +186,7 @@ accepted v given ranges =
       «isha_angle» = angle-or v 13 (presetOf method .«isha_angle») (fits 13 (lit≤ tt) (lit≤ tt)) (from .isha);
       «isha_interval» = interval-or v (presetOf method .«isha_interval») (fits 14 (lit≤ tt) (lit≤ tt)) (from .interval);
       own = minutes-or v (fits 11 (lit≤ tt) (lit≤ tt));
+      clock = clock-in v (fits 16 (lit≤ tt) (lit≤ tt));
       preset = ap (λ (m : Method). presetOf m .«method_adjustments») (sym (from .named));
     }
   where

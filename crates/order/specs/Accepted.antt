@@ -42,4 +42,5 @@ pub record Accepted (order : Order) : Type 0 where
   pub «isha_angle» : Inside (dec 0 0) (dec 30 0) (order .parameters .«isha_angle»)
   pub «isha_interval» : UpTo 1440 (order .parameters .«isha_interval»)
   pub own : (prayer : Prayer) → Near 720 (minutesFor prayer (order .parameters .adjustments))
+  pub clock : Near 840 (order .clock)
   pub preset : order .parameters .«method_adjustments» ≡ presetOf (order .parameters .method) .«method_adjustments»

@@ -75,3 +75,7 @@ parametersIn v =
 -- chooses their rule with 1."
 unfoldable pub rulesIn : Values → Rules
 rulesIn v = record { midnight = midnightOf (byteOr v 15 0); southern = southernOf (byteOr v 17 0) }
+
+-- Request 2: "Tag 16 (signed 16-bit minutes, -840 to 840, missing is 0) is added to the UTC instant", by the cells alone.
+unfoldable pub clockIn : Values → ℤ
+clockIn v = cond (v .has 16) (signedOf (v .value 16) 0) (pos 0)

@@ -11,7 +11,7 @@ use Rattle.float64.specs.Ops.{dec}
 use Rattle.calendar.specs.declared.dates.Date.{Date}
 use Rattle.calendar.specs.Gregorian.{existsOf}
 use Rattle.calendar.specs.Answers.{rowDateOf}
-use Rattle.fields.specs.Numbers.{byteOf, unsignedOf}
+use Rattle.fields.specs.Numbers.{byteOf, unsignedOf, signedOf}
 use Rattle.fields.specs.Tags.{choiceFits}
 use Rattle.fields.specs.Values.{Values}
 use Rattle.models.specs.declared.adjustments.TimeAdjustment.{TimeAdjustment}
@@ -56,6 +56,10 @@ minutesFit m =
 unfoldable pub intervalFits : List ℕ → Bool
 intervalFits v = between 0 1440 (unsignedOf v 0)
 
+-- request 2: "signed 16-bit minutes, -840 to 840"
+unfoldable pub clockFits : List ℕ → Bool
+clockFits v = leZ (negsuc 839) (signedOf v 0) && leZ (signedOf v 0) (pos 840)
+
 -- the ranges by tag of what an order gives, beside those of a choice's number, which stand in the table of tags
 abbrev pub ranges : Values → List (ℕ × Bool)
 ranges v =
@@ -72,6 +76,8 @@ ranges v =
     ∷ (12, degreesFit (dec 0 0) (dec 30 0) (v .value 12))
     ∷ (13, degreesFit (dec 0 0) (dec 30 0) (v .value 13))
     ∷ (14, intervalFits (v .value 14))
+    -- clock
+    ∷ (16, clockFits (v .value 16))
     ∷ []
 
 -- what a list by tag has for a tag, and else another answer

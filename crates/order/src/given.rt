@@ -1,7 +1,7 @@
 // What each tag gives where its value is in range, and what stands for a missing one.
 ghost use mathlib.Core.Path.{_≡_};
 ghost use Rattle.fields.specs.Values.{valuesIn};
-ghost use Rattle.order.specs.Given.{dateIn, rowsIn, degreesIn, minutesIn, byteOr, degreesOr, roundingOr, minutesOr, intervalOr, parametersIn, rulesIn};
+ghost use Rattle.order.specs.Given.{dateIn, rowsIn, degreesIn, minutesIn, byteOr, degreesOr, roundingOr, minutesOr, intervalOr, parametersIn, rulesIn, clockIn};
 use calendar::dates::Date;
 use fields::numbers::byte;
 use fields::numbers::float;
@@ -136,5 +136,16 @@ pub fn rules_in(order: &[u8], fields: Fields) -> Rules
     Rules {
         midnight: Midnight::of_number(byte_or(order, fields, 15, 0)),
         southern: Southern::of_number(byte_or(order, fields, 17, 0)),
+    }
+}
+
+// Tag 16: minutes from UTC to the clock that the cells show.
+pub fn clock_in(order: &[u8], fields: Fields) -> i32
+    ensures { λ r. ⌜ r ≡ clockIn (valuesIn (now (order .entry)) fields) ⌝ }
+{
+    if fields.has(16) {
+        signed(value(order, fields, 16), 0)
+    } else {
+        0
     }
 }

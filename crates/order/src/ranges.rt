@@ -1,7 +1,7 @@
 // What stands inside a right length: the range of each tag's value. Range ends are allowed.
 ghost use mathlib.Core.Path.{_≡_};
 ghost use Rattle.fields.specs.Values.{valuesIn};
-ghost use Rattle.order.specs.Ranges.{textFits, dateFits, mostIn, rowsFit, degreesFit, minuteFits, minutesFit, intervalFits, fitsOf, inRangeOf};
+ghost use Rattle.order.specs.Ranges.{textFits, dateFits, mostIn, rowsFit, degreesFit, minuteFits, minutesFit, intervalFits, clockFits, fitsOf, inRangeOf};
 use super::given::date_in;
 use super::given::degrees_in;
 use super::given::minutes_in;
@@ -9,6 +9,7 @@ use super::given::rows_in;
 use super::reading::MOST_ROWS;
 use calendar::dates::Date;
 use fields::numbers::byte;
+use fields::numbers::signed;
 use fields::numbers::unsigned;
 use fields::tags::choice_fits;
 use fields::values::Fields;
@@ -95,6 +96,13 @@ fn interval_fits(bytes: &[u8]) -> bool
     unsigned(bytes, 0) <= 1440
 }
 
+fn clock_fits(bytes: &[u8]) -> bool
+    ensures { λ r. ⌜ r ≡ clockFits (now (bytes .entry)) ⌝ }
+{
+    let minutes = signed(bytes, 0);
+    (-840 <= minutes) & (minutes <= 840)
+}
+
 // A row for each tag whose value is no choice's number: those stand in the table of tags.
 fn fits(order: &[u8], fields: Fields, tag: u32) -> bool
     ensures { λ r. ⌜ r ≡ fitsOf (valuesIn (now (order .entry)) fields) tag ⌝ }
@@ -110,6 +118,7 @@ fn fits(order: &[u8], fields: Fields, tag: u32) -> bool
         12 => degrees_fit(bytes, 0.0, 30.0),
         13 => degrees_fit(bytes, 0.0, 30.0),
         14 => interval_fits(bytes),
+        16 => clock_fits(bytes),
         _ => choice_fits(tag, byte(bytes, 0)),
     }
 }

@@ -2,6 +2,7 @@
 ghost use mathlib.Core.Path.{_≡_};
 ghost use Rattle.fields.specs.Values.{hasIn, valuesIn};
 ghost use Rattle.order.specs.Reading.{missingOf, outOfRangeOf, orderOf, readingOf, townOf};
+use super::given::clock_in;
 use super::given::date_in;
 use super::given::degrees_in;
 use super::given::parameters_in;
@@ -36,6 +37,8 @@ pub struct Order {
     pub coordinates: Coordinates,
     pub parameters: Parameters,
     pub rules: Rules,
+    // Minutes from UTC to the clock that the cells show.
+    pub clock: i32,
 }
 
 pub enum Reading {
@@ -86,6 +89,7 @@ fn record_in(order: &[u8], fields: Fields) -> Order
         ),
         parameters: parameters_in(order, fields),
         rules: rules_in(order, fields),
+        clock: clock_in(order, fields),
     }
 }
 

@@ -35,6 +35,7 @@ withOwnMinutes order town minutes =
       coordinates = order .coordinates;
       parameters = withMinutes (order .parameters) minutes;
       rules = order .rules;
+      clock = order .clock;
     }
 
 -- "accepted when its bytes pass every check before the day"; "differ only in schools' own minutes when all that the tags other than 11 give, a

@@ -1,6 +1,8 @@
-// The whole sheet as an export, for the runs against the crate and the benchmark.
+// The whole sheet and the wear report as exports, for the runs against the crate and the benchmark.
 ghost use mathlib.Core.Path.{_≡_};
+ghost use Rattle.pages.specs.Reports.{wearText, longestWear, printedLength, printedBuffer};
 ghost use Rattle.rows.specs.Rows.{sheetLengthOf, sheetBufferOf};
+use pages::report::write_wear;
 use rows::sheet::write_sheet;
 
 #[no_mangle]
@@ -9,4 +11,12 @@ pub extern "C" fn probe_sheet(order: &[u8], buffer: &mut [u8]) -> usize
     ensures { λ _. ⌜ now (buffer .exit) ≡ sheetBufferOf (now (order .entry)) (now (buffer .entry)) ⌝ }
 {
     write_sheet(order, &mut buffer[..])
+}
+
+#[no_mangle]
+pub extern "C" fn probe_wear(order: &[u8], buffer: &mut [u8]) -> usize
+    ensures { λ r. ⌜ r ≡ printedLength longestWear (wearText (now (order .entry))) (now (buffer .entry)) ⌝ }
+    ensures { λ _. ⌜ now (buffer .exit) ≡ printedBuffer longestWear (wearText (now (order .entry))) (now (buffer .entry)) ⌝ }
+{
+    write_wear(order, &mut buffer[..])
 }

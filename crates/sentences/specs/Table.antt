@@ -49,7 +49,7 @@ names =
     ∷ ascii " isha angle, tag"
     ∷ ascii " isha interval, tag"
     ∷ ascii " carry, tag"
-    ∷ ascii " tag"
+    ∷ ascii " clock, tag"
     ∷ ascii " southern, tag"
     ∷ []
 

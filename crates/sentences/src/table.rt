@@ -46,7 +46,7 @@ const NAMES: [[u8; 64]; TAGS] = [
     *b" isha angle, tag                                                ",
     *b" isha interval, tag                                             ",
     *b" carry, tag                                                     ",
-    *b" tag                                                            ",
+    *b" clock, tag                                                     ",
     *b" southern, tag                                                  ",
 ];
 

@@ -104,6 +104,7 @@ fn print_rules(order: Order) {
     let midnight = rules.midnight;
     let southern = rules.southern;
     print(wide(midnight.number()));
+    print_signed(order.clock);
     print(wide(southern.number()));
 }
 

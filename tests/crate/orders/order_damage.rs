@@ -87,7 +87,7 @@ impl Draw {
 
     /// What lies just out of each range; the ends themselves are in good orders.
     fn just_out(&mut self, fields: &mut Vec<Field>) {
-        let tag = [1, 3, 4, 5, 6, 7, 8, 9, 10, 11, 12, 13, 14, 15, 17][self.index(15)];
+        let tag = [1, 3, 4, 5, 6, 7, 8, 9, 10, 11, 12, 13, 14, 15, 16, 17][self.index(16)];
         let field = match tag {
             1 => Field::new(tag, &self.town_out()),
             3 if self.coin() => Field::new(tag, &[[0, 251, 255][self.index(3)]]),
@@ -99,6 +99,7 @@ impl Draw {
             8..=10 => Field::new(tag, &[[3, 4, 255][self.index(3)]]),
             11 => Field::new(tag, &self.minutes_out()),
             15 | 17 => Field::new(tag, &[[2, 255][self.index(2)]]),
+            16 => Field::new(tag, &[841i16, -841, i16::MAX, i16::MIN][self.index(4)].to_be_bytes()),
             14 => Field::new(tag, &[1_441u16, 1_440 + 256, 65_535][self.index(3)].to_be_bytes()),
             _ => Field::new(tag, &[beyond(30.0), -5e-324, 30.1][self.index(3)].to_be_bytes()),
         };

@@ -106,6 +106,7 @@ impl Draw {
             12 => Field::new(tag, &self.order_angle(brought.fajr_angle).to_be_bytes()),
             13 => Field::new(tag, &self.order_angle(brought.isha_angle).to_be_bytes()),
             14 => Field::new(tag, &([0, 1, 90, 1_440, self.below(1_441)][self.index(5)] as u16).to_be_bytes()),
+            16 => Field::new(tag, &([0, 840, 1_680, self.below(1_681)][self.index(4)] as i16 - 840).to_be_bytes()),
             _ => Field::new(tag, &[0]),
         }
     }

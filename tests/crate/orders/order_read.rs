@@ -26,6 +26,7 @@ pub struct Asked {
     pub isha_angle: Option<f64>,
     pub isha_interval: Option<i32>,
     pub carry: u32,
+    pub clock: i32,
     pub southern: u32,
 }
 
@@ -71,7 +72,7 @@ pub fn lengths(tag: u8) -> Option<RangeInclusive<usize>> {
         6..=10 | 15 | 17 => Some(1..=1),
         4 | 5 | 12 | 13 => Some(8..=8),
         11 => Some(12..=12),
-        14 => Some(2..=2),
+        14 | 16 => Some(2..=2),
         _ => None,
     }
 }
@@ -181,6 +182,14 @@ impl Whole<'_> {
         Ok(interval)
     }
 
+    fn clock(&self) -> Result<i32, Refusal> {
+        let clock = self.bytes(16).map_or(0, |value| i16::from_be_bytes([value[0], value[1]]) as i32);
+        if !(-840..=840).contains(&clock) {
+            return refused(5, 16);
+        }
+        Ok(clock)
+    }
+
     /// The ranges by rising tag, which is the order in which a struct's fields are worked out.
     fn ranges(&self) -> Result<Asked, Refusal> {
         let (town, date) = (self.town()?, self.date()?);
@@ -200,6 +209,7 @@ impl Whole<'_> {
             isha_angle: self.float(13, 0.0..=30.0)?,
             isha_interval: self.isha_interval()?,
             carry: self.byte(15, 0..=1)?.unwrap_or(0),
+            clock: self.clock()?,
             southern: self.byte(17, 0..=1)?.unwrap_or(0),
         })
     }

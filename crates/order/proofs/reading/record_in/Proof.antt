@@ -1,6 +1,10 @@
 -- `order::reading::record_in` meets its contract: each field by its call.
-use mathlib.Core.Path.{_≡_, _∙_}
+use mathlib.Core.Path.{_≡_, sym, _∙_}
+use mir.Syntax.{w32}
+use mir.Val.{SFits}
+use mir.Facts.{toZ-ofZ}
 use denote.Ref.{now}
+use borrow.Author.Needs.{needs}
 use Rattle.fields.proofs.Collecting.{part-for}
 use Rattle.order.specs.Reading.{orderOf}
 use Rattle.order.proofs.reading.record_in.Statement.{statement}
@@ -9,14 +13,18 @@ use Rattle.order.proofs.reading.record_in.Tie as tie
 returns : tie.Need-returns
 unfolding orderOf
 returns c =
-    let q = c .before in
+    let r = c .before in
+    let q = r .before in
+    let clock : SFits w32 (c .clock-in .result) = search needs in
     let c4 = q .before .before .before .before in
     let c8 = c4 .before .before .before .before in
     let p = c8 .before .before in
     let a = p .before .before .args in
     let town = p .part .ensures ∙ part-for (now (a .order)) (a .fields) 1 in
     simp (
-      c .rules-in .ensures,
+      toZ-ofZ clock,
+      sym (c .clock-in .ensures),
+      r .rules-in .ensures,
       q .parameters-in .ensures,
       q .before .new .ensures,
       q .before .before .degrees-in2 .ensures,
@@ -33,4 +41,4 @@ returns c =
 pub record-in-spec : {M : Type 1} → statement M
 record-in-spec =
     tie.close
-    (tie.spec (λ c κs. tt) (λ c κs. tt) (λ c κs. tt) (λ c κs. tt) (λ c κs. tt) (λ c κs. tt) (λ c κs. tt) (λ c κs. tt) (λ c κs. tt) (λ c κs. tt) (λ c κs. tt) (λ c κs. tt) returns)
+    (tie.spec (λ c κs. tt) (λ c κs. tt) (λ c κs. tt) (λ c κs. tt) (λ c κs. tt) (λ c κs. tt) (λ c κs. tt) (λ c κs. tt) (λ c κs. tt) (λ c κs. tt) (λ c κs. tt) (λ c κs. tt) (λ c κs. tt) returns)

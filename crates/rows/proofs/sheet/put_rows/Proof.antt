@@ -4,10 +4,11 @@ use Prim.Native.Nat.{_+_, _-_, _^_, _<_}
 use mathlib.Core.Path.{_≡_, refl, ap, _∙_}
 use lib.ListN.{length}
 use denote.Ref.{now}
+use Rattle.calls.proofs.RowStates.{first-state, next-state}
 use Rattle.lines.specs.Lines.{lineText}
 use Rattle.row_suns.specs.RowSuns.{nextRowSunsOf}
 use Rattle.rows.proofs.Lengths.{lines-none}
-use Rattle.rows.proofs.Rolled.{Run, first-state, next-state, run-line, run-room}
+use Rattle.rows.proofs.Rolled.{Run, run-line, run-room}
 use Rattle.rows.proofs.sheet.put_rows.Statement.{statement}
 use Rattle.rows.proofs.sheet.put_rows.Tie as tie
 

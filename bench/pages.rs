@@ -1,0 +1,62 @@
+//! Cells beside the sheet's rows, both by the port: what a page costs, and the dots of an order.
+use crate::orders::{orders, Order};
+use crate::rounds::beside;
+use crate::sheet_port::{write_sheet, LONGEST};
+use std::hint::black_box;
+
+const PAGE_CELLS: usize = 975;
+const WEAR: usize = 62;
+const ROUNDS: usize = 101;
+
+#[repr(C)]
+struct KatchidulCells {
+    number: u32,
+    place: u32,
+    rows: u32,
+    dots: u32,
+}
+
+#[link(name = "katchidul", kind = "static")]
+extern "C" {
+    fn katchidul_write_page(order: *const u8, length: usize, page: u32, scratch: *mut u8, size: usize) -> KatchidulCells;
+}
+
+#[link(name = "probes", kind = "static")]
+extern "C" {
+    fn probe_wear(order: *const u8, length: usize, buffer: *mut u8, size: usize) -> usize;
+}
+
+/// Writes the first page at the front of the scratch; its dots.
+fn write_page(order: &[u8], scratch: &mut [u8]) -> u32 {
+    let answer = unsafe { katchidul_write_page(order.as_ptr(), order.len(), 1, scratch.as_mut_ptr(), scratch.len()) };
+    assert!(answer.number == 0 && answer.place == 0 && answer.rows > 0);
+    answer.dots
+}
+
+fn write_wear(order: &[u8], buffer: &mut [u8]) -> usize {
+    unsafe { probe_wear(order.as_ptr(), order.len(), buffer.as_mut_ptr(), buffer.len()) }
+}
+
+/// The same orders by some work of ours and by the sheet, in rounds of some milliseconds.
+fn beside_sheet(what: &str, orders: &[Order], ours: &mut dyn FnMut(&[u8])) {
+    let rows = orders[0].rows as usize;
+    let count = 2000usize.div_ceil(orders.len() * rows) * orders.len();
+    let mut sheet = vec![0; LONGEST];
+    let mut cells = || orders.iter().cycle().take(count).for_each(|order| ours(black_box(&order.bytes)));
+    let mut sheets = || {
+        for order in orders.iter().cycle().take(count) {
+            black_box(write_sheet(black_box(&order.bytes), &mut sheet));
+        }
+    };
+    beside(ROUNDS, &mut cells, &mut sheets).print_calls(what, count * rows);
+}
+
+pub fn pages() {
+    let (mut scratch, mut report) = (vec![0; PAGE_CELLS], vec![0; WEAR]);
+    beside_sheet("a row of a page of 25", &orders(8, 25), &mut |order| {
+        black_box(write_page(order, &mut scratch));
+    });
+    beside_sheet("a row of the dots of 250", &orders(8, 250), &mut |order| {
+        black_box(write_wear(order, &mut report));
+    });
+}

@@ -1,0 +1,39 @@
+-- The minute of the day by the clock, from what is left of both within the day. Assumes nothing.
+use native.Mathlib.Omega.{arith}
+use Prim.Native.Nat.{ℕ, _+_, _*_, _/_, _%_}
+use mathlib.Core.Path.{_≡_, sym, ap, subst, _∙_}
+use lib.IntN.{ℤ, pos, _+ℤ_, _*ℤ_}
+use mir.Syntax.{w32, w64}
+use mir.Val.{SFits}
+use Rattle.integers.proofs.QuotientLaws.{floored}
+use Rattle.integers.proofs.Ranges.{range, fits, readBack, read, read-wide}
+use Rattle.integers.proofs.Sums.{sum, times}
+use Rattle.integers.specs.Quotients.{floorQuot, floorRem}
+use Rattle.braille.specs.Cells.{minuteOf}
+
+-- the clock in seconds, as the machine reads it
+seconds-fit : (clock : ℤ) → SFits w32 clock → SFits w64 (clock *ℤ pos 60)
+seconds-fit clock h =
+    let r = range w32 clock h in
+    let k = times clock 60 in
+    fits w64 (clock *ℤ pos 60) (omega (arith, r .high, r .low, k .over, k .under)) (omega (arith, r .high, r .low, k .over, k .under))
+
+module _ (clock : ℤ) (h : SFits w32 clock) where
+  pub clock-fits : SFits w64 (readBack w64 (readBack w32 clock) *ℤ pos 60)
+  clock-fits = subst (λ (z : ℤ). SFits w64 (z *ℤ pos 60)) (sym (read-wide clock h)) (seconds-fit clock h)
+
+  pub clock-read : readBack w64 (readBack w64 (readBack w32 clock) *ℤ pos 60) ≡ clock *ℤ pos 60
+  clock-read = read w64 (readBack w64 (readBack w32 clock) *ℤ pos 60) clock-fits ∙ ap (λ (z : ℤ). z *ℤ pos 60) (read-wide clock h)
+
+pub minute-within : (clock time : ℤ) → (floorRem time 86400 + floorRem (clock *ℤ pos 60) 86400) / 60 % 1440 ≡ minuteOf clock time
+unfolding minuteOf
+minute-within clock time =
+    let x = time +ℤ clock *ℤ pos 60 in
+    let q = floorQuot x 60 in
+    let k = times clock 60 in
+    let s = sum time (clock *ℤ pos 60) in
+    let a = floored x 60 (omega arith) in
+    let b = floored q 1440 (omega arith) in
+    let t = floored time 86400 (omega arith) in
+    let c = floored (clock *ℤ pos 60) 86400 (omega arith) in
+    omega (arith, k .over, k .under, s .balance, a .balance, a .below, b .balance, b .below, t .balance, t .below, c .balance, c .below)

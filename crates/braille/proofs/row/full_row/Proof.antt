@@ -1,0 +1,64 @@
+use borrow.Author.Needs.{needs}
+use native.Mathlib.Omega.{arith}
+use Prim.Native.Nat.{_-_, _≤_}
+use mathlib.Core.Path.{_≡_, refl, ap, _∙_}
+use lib.IntN.{pos}
+use lib.ListN.{length, getD, take, replicate}
+use mir.Syntax.{w32, w64}
+use mir.Val.{toZ}
+use Rattle.integers.proofs.Ranges.{readBack, read}
+use Rattle.text.specs.Text.{putOf}
+use Rattle.braille.specs.Cells.{timeCells, timesCells, rowCells}
+use Rattle.schedule.specs.declared.prayer_times.Worked.the-variants.{Times}
+use Rattle.braille.proofs.Parts.{times-none, time-put, day-put, row-done}
+use Rattle.braille.proofs.row.full_row.Statement.{statement}
+use Rattle.braille.proofs.row.full_row.Tie as tie
+
+abbrev Inv-loop : tie.InvT-loop
+Inv-loop clock cells₀ six i₀ cells i =
+    (i ≤ 6) × (length cells ≡ 39) × (length cells₀ ≡ 39) × (cells ≡ putOf cells₀ 3 (timesCells (toZ w32 clock) (take i six)))
+
+abbrev μ-loop : tie.MeasureT-loop
+μ-loop clock cells₀ six i₀ cells i = 6 - i
+
+loop-holds : tie.Need-loop-holds Inv-loop μ-loop
+loop-holds c =
+    let t = c .before .before .before .before .before .before in
+    let p = c .before .before .put in
+    (search needs, p .kept .0, p .kept .0, times-none (readBack w32 (t .args .clock)) (c .six .result) (p .last .0) (p .kept .0))
+
+loop-again : tie.Need-loop-again Inv-loop μ-loop
+loop-again c =
+    let t = c .before .before .before .before .before .before .before .before .before .before .before .before .before .before in
+    let clock = readBack w32 (t .args .clock) in
+    let l = c .before .before .before .before .before .before .before .loop in
+    let six = c .before .before .before .before .before .before .before .before .six .result in
+    let n : length six ≡ 6 = search needs in
+    let h = c .before .before .before .before .before .before .loop-test .taken in
+    let k : readBack w64 (getD six (l .i) (pos 0)) ≡ getD six (l .i) (pos 0) = search needs in
+    let time = c .before .before .before .time-cells in
+    let put = c .before .put2 in
+    let day = c .before .before .before .before .before .before .before .before .before .before .put .last .0 in (
+      omega arith,
+      put .kept .0 ∙ l .inv .1,
+      l .inv .2,
+      time-put clock six (l .i) (pos 0) day (l .cells) (put .last .0) (time .result) h n (l .inv .2) (l .inv .3) (time .ensures ∙ ap (timeCells clock) k) (put .ensures),
+    )
+
+returns : tie.Need-returns Inv-loop μ-loop
+returns c =
+    let t = c .before .before .before .before .before .before .before .before in
+    let a = t .args in
+    let l = c .before .loop in
+    let six = c .before .before .six in
+    let put = c .before .before .before .before .put in
+    let day = c .before .before .before .before .before .before .day-cells in
+    let end : l .i ≡ 6 = omega (arith, l .inv .0, c .loop-test .left) in
+    let front = day-put (a .date) (replicate 39 0) (put .last .0) (day .result) refl (day .ensures) (put .ensures) in
+    row-done (a .date) (a .times) (readBack w32 (a .clock)) (six .result) (l .i) (put .last .0) (l .cells) (six .ensures) end front (l .inv .3)
+    ∙ ap (rowCells (a .date) (Times (a .times))) (read w32 (a .clock) (t .fits .clock))
+
+pub full-row-spec : {M : Type 1} → statement M
+full-row-spec =
+    tie.close
+    (tie.spec Inv-loop μ-loop (λ c. search needs) (λ c κs. search needs) (λ c. search needs) (λ c κs. search needs) (λ c κs. search needs) loop-holds (λ c. search needs) (λ c. search needs) (λ c. search needs) (λ c. search needs) (λ c. search needs) (λ c κs. search needs) (λ c. search needs) (λ c κs. search needs) (λ c. search needs) (λ c. search needs) loop-again returns)

@@ -1,0 +1,2 @@
+pub mod Braille
+pub mod Cells

@@ -1,0 +1,54 @@
+-- The suns that roll over the rows of an order are those of each row's date, and give each row's day. Assumes nothing.
+use native.Mathlib.Omega.{arith}
+use Prim.Native.Nat.{ℕ, _+_, _<_}
+use mathlib.Core.Path.{_≡_, sym, ap, _∙_}
+use borrow.Author.Tests.{lt-ltb}
+use Rattle.calendar.specs.Answers.{rowDateOf}
+use Rattle.calendar.specs.declared.dates.Date.{Date}
+use Rattle.calendar.proofs.CalendarLaws.{row-first}
+use Rattle.calendar.proofs.Successors.{row-is, row-tomorrow}
+use Rattle.order.specs.Accepted.{Accepted}
+use Rattle.order.proofs.RowDates.{row-year}
+use Rattle.order.specs.declared.reading.Order.{Order}
+use Rattle.row_suns.specs.RowSuns.{rowSunsOf, nextRowSunsOf, rowSunsHoursOf}
+use Rattle.row_suns.proofs.RowSunsLaws.{rolled-hours, rolls}
+use Rattle.row_suns.specs.declared.RowSuns.{RowSuns}
+use Rattle.schedule.specs.Times.{seasonOf, workedOf}
+use Rattle.schedule.specs.declared.hours.RowHours.{RowHours}
+use Rattle.schedule.specs.declared.prayer_times.Worked.{Worked}
+use Rattle.calls.specs.Calls.{workRowOf}
+
+-- the suns of a row
+abbrev pub stateOf : Order → ℕ → RowSuns
+stateOf o k = rowSunsOf (rowDateOf (o .date) k) (o .coordinates) (o .parameters) (o .rules)
+
+-- the day that suns give
+abbrev pub workedFrom : Order → RowSuns → Worked
+workedFrom o suns =
+    workedOf (rowSunsHoursOf (o .coordinates .latitude) (o .parameters) (o .rules) suns) (suns .date) (seasonOf (o .coordinates .latitude) (o .rules)) (o .parameters)
+
+module _ (o : Order) (a : Accepted o) where
+  pub first-state : rowSunsOf (o .date) (o .coordinates) (o .parameters) (o .rules) ≡ stateOf o 0
+  first-state =
+      let d = o .date in
+      let there = a .date .there in
+      let y = row-year d there 0 (a .row 0 (a .rows .0) .to) in
+      ap (λ (x : Date). rowSunsOf x (o .coordinates) (o .parameters) (o .rules)) (sym (row-is d there 0 (omega arith) ∙ row-first d there))
+
+  module _ (k : ℕ) (h : k < o .rows) where
+    pub next-state : nextRowSunsOf (o .coordinates) (o .parameters) (o .rules) (stateOf o k) ≡ stateOf o (k + 1)
+    next-state =
+        let d = o .date in
+        let there = a .date .there in
+        let r = a .row k h in
+        let to = r .to in
+        let y = row-year d there k to in
+        rolls (rowDateOf d k) (o .coordinates) (o .parameters) (o .rules) (r .there) (omega arith)
+        ∙ ap (λ (x : Date). rowSunsOf x (o .coordinates) (o .parameters) (o .rules)) (sym (row-tomorrow d there k (omega arith)))
+
+    pub state-worked : workedFrom o (stateOf o k) ≡ workRowOf o k
+    unfolding workRowOf rowSunsOf
+    state-worked =
+        simp (lt-ltb k (o .rows) h)
+        (ap (λ (x : RowHours). workedOf x (rowDateOf (o .date) k) (seasonOf (o .coordinates .latitude) (o .rules)) (o .parameters))
+        (rolled-hours (rowDateOf (o .date) k) (o .coordinates) (o .parameters) (o .rules)))

@@ -1,0 +1,73 @@
+-- What a call that asks for rows answers, case by case. Assumes nothing.
+use native.Mathlib.Omega.{arith}
+use Prim.Native.Nat.{ℕ, _+_, _-_, _≤_, _<_}
+use mathlib.Core.Path.{_≡_, refl, sym, ap, _∙_}
+use mathlib.Core.List.{List, [], _∷_}
+use lib.ListN.{length}
+use borrow.Author.Tests.{lt-ltb, le-ltb}
+use Rattle.braille.specs.Braille.{dotsOf}
+use Rattle.calls.specs.Calls.{lacksRow}
+use Rattle.order.specs.declared.reading.Order.{Order}
+use Rattle.order.specs.declared.reading.Reading.the-variants.{Read, Refused}
+use Rattle.order.specs.Reading.{readingOf}
+use Rattle.refusals.specs.Refusals.{refusal, noRefusal}
+use Rattle.refusals.specs.declared.Refusal.{Refusal}
+use Rattle.text.specs.Text.{frontOf}
+use Rattle.pages.specs.Answers.{punchedOf, refusedOf, answerOf, answerIn, frontIn, writtenOf, bufferOf, oneRow}
+use Rattle.pages.specs.Pages.{Rows, rowOf, rowsFrom, cellsOf}
+use Rattle.pages.specs.declared.answer.Punched.{Punched}
+use Rattle.pages.proofs.RowsLaws.{rows-length}
+
+-- some rows, and none
+pub rows-some : (rows : Rows) → 1 ≤ length rows → punchedOf rows ≡ answerOf rows
+unfolding answerOf
+rows-some [] h = absurd (omega arith)
+rows-some (row ∷ rows) h = refl
+
+pub rows-none : (rows : Rows) (buffer : List ℕ) → length rows ≡ 0 → (refusedOf lacksRow ≡ answerOf rows) × (buffer ≡ frontOf (cellsOf rows) buffer)
+unfolding answerOf cellsOf
+rows-none [] buffer e = (refl, refl)
+rows-none (row ∷ rows) buffer e = absurd (omega arith)
+
+-- rows that were written are those that were asked for
+pub rows-answered : (rows asked : Rows) (result : Punched) (buffer after : List ℕ) → 1 ≤ length asked → rows ≡ asked → result ≡ punchedOf rows
+    → after ≡ frontOf (cellsOf rows) buffer → (result ≡ answerOf asked) × (after ≡ frontOf (cellsOf asked) buffer)
+rows-answered rows asked result buffer after h e r f =
+    (r ∙ ap punchedOf e ∙ rows-some asked h, f ∙ ap (λ (l : Rows). frontOf (cellsOf l) buffer) e)
+
+-- rows by their first and the one behind their last
+pub rows-counted : (o : Order) (row count dots : ℕ) (none : Refusal) (buffer after : List ℕ) → none ≡ noRefusal
+    → dots ≡ dotsOf (cellsOf (rowsFrom o row (row + count - row))) → after ≡ frontOf (cellsOf (rowsFrom o row (row + count - row))) buffer
+    → (record { refusal = none; rows = count; dots = dots } ≡ punchedOf (rowsFrom o row count)) × (after ≡ frontOf (cellsOf (rowsFrom o row count)) buffer)
+rows-counted o row count dots none buffer after n d f =
+    let e : row + count - row ≡ count = omega arith in
+    let l = rows-length o row count in
+    (simp (n, l, rw e at d), rw e at f)
+
+pub row-there : (o : Order) (row : ℕ) → row < o .rows → rowsFrom o row 1 ≡ oneRow row o
+unfolding oneRow rowsFrom
+row-there o row h = simp (lt-ltb row (o .rows) h)
+
+pub row-one : (o : Order) (row : ℕ) → row < o .rows → 1 ≤ length (oneRow row o)
+unfolding oneRow
+row-one o row h = rw (lt-ltb row (o .rows) h) (omega arith)
+
+pub row-lacking : (o : Order) (row : ℕ) → o .rows ≤ row → length (oneRow row o) ≡ 0
+unfolding oneRow
+row-lacking o row h = simp (le-ltb row (o .rows) h)
+
+module _ (asked : Order → Rows) (least : ℕ) (s buffer : List ℕ) where
+  pub buffer-short : length buffer < least → (refusedOf (refusal 9 0) ≡ writtenOf asked least s buffer) × (buffer ≡ bufferOf asked least s buffer)
+  unfolding writtenOf bufferOf
+  buffer-short h = (simp (lt-ltb (length buffer) least h), simp (lt-ltb (length buffer) least h))
+
+  module _ (h : least ≤ length buffer) where
+    pub order-read : (o : Order) → readingOf s ≡ Read o
+        → (answerOf (asked o) ≡ writtenOf asked least s buffer) × (frontOf (cellsOf (asked o)) buffer ≡ bufferOf asked least s buffer)
+    unfolding writtenOf bufferOf answerIn frontIn
+    order-read o e = (simp (le-ltb (length buffer) least h, e), simp (le-ltb (length buffer) least h, e))
+
+    pub order-refused : (r : Refusal) → readingOf s ≡ Refused r
+        → (refusedOf r ≡ writtenOf asked least s buffer) × (buffer ≡ bufferOf asked least s buffer)
+    unfolding writtenOf bufferOf answerIn frontIn
+    order-refused r e = (simp (le-ltb (length buffer) least h, e), simp (le-ltb (length buffer) least h, e))

@@ -1,0 +1,5 @@
+pub mod RowsLaws
+pub mod PageLaws
+pub mod Rolled
+pub mod AnswerLaws
+pub mod ReportLaws

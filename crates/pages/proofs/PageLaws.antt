@@ -1,0 +1,77 @@
+-- The rows of a page, and those of all pages. Assumes nothing.
+use native.Mathlib.Omega.{arith}
+use Prim.Native.Nat.{ℕ, zero, suc, _+_, _-_, _*_, _/_, _≤_, _<_, min}
+use mathlib.Core.Path.{_≡_, refl, sym, ap, subst, _∙_}
+use mathlib.Core.List.{List, [], _∷_, _++_}
+use lib.ListN.{length, take, drop}
+use lib.Seq.{take-all, take-add}
+use Rattle.braille.specs.Braille.{SixDots}
+use Rattle.order.specs.declared.reading.Order.{Order}
+use Rattle.pages.specs.Pages.{Rows, rowsFrom, rowsOf, cellsOf, pageOf, pageCount, pagesCells, allCells}
+use Rattle.pages.specs.Promises.{PagesHoldTheRows}
+use Rattle.pages.proofs.RowsLaws.{cells-append, rows-length, cells-six, take-rows, drop-rows}
+
+module _ (o : Order) where
+  -- a page's rows are the order's
+  page-suc : (p : ℕ) → pageOf o (suc p) ≡ rowsFrom o (25 * p) (min 25 (o .rows - 25 * p))
+  unfolding pageOf
+  page-suc p =
+      let e : 0 + 25 * p ≡ 25 * p = omega arith in
+      ap (take 25) (drop-rows o (25 * p) 0 (o .rows))
+      ∙ take-rows o 25 (0 + 25 * p) (o .rows - 25 * p)
+      ∙ ap (λ (k : ℕ). rowsFrom o k (min 25 (o .rows - 25 * p))) e
+
+  suc-length : (p : ℕ) → length (pageOf o (suc p)) ≡ min 25 (o .rows - 25 * p)
+  suc-length p = ap length (page-suc p) ∙ rows-length o (25 * p) (min 25 (o .rows - 25 * p))
+
+  pub page-none : (page : ℕ) → page ≡ 0 → 0 ≡ length (pageOf o page)
+  unfolding pageOf
+  page-none page e = rw e refl
+
+  pub page-length : (page : ℕ) → 1 ≤ page → length (pageOf o page) ≡ min 25 (o .rows - 25 * (page - 1))
+  page-length zero h = absurd (omega arith)
+  page-length (suc p) h = let e = suc-length p in omega arith
+
+  pub page-rows : (page : ℕ) → 1 ≤ page → pageOf o page ≡ rowsFrom o (25 * (page - 1)) (length (pageOf o page))
+  page-rows zero h = absurd (omega arith)
+  page-rows (suc p) h =
+      let e : 25 * p ≡ 25 * (suc p - 1) = omega arith in
+      page-suc p
+      ∙ ap (rowsFrom o (25 * p)) (sym (suc-length p))
+      ∙ ap (λ (k : ℕ). rowsFrom o k (length (pageOf o (suc p)))) e
+
+  -- where a page has rows it is a page of the order, and they are the order's
+  pub page-within : (page : ℕ) → 1 ≤ length (pageOf o page) → (1 ≤ page) × (25 * (page - 1) + length (pageOf o page) ≤ o .rows) × (length (pageOf o page) ≤ 25)
+  unfolding pageOf
+  page-within zero h = absurd (omega arith)
+  page-within (suc p) h = let e = suc-length p in (omega arith, omega arith, omega arith)
+
+  pages-taken : (n : ℕ) → pagesCells o n ≡ cellsOf (take (25 * n) (rowsOf o))
+  unfolding pagesCells pageOf cellsOf
+  pages-taken zero = refl
+  pages-taken (suc n) =
+      let rows = rowsOf o in
+      let e : 25 * n + 25 ≡ 25 * suc n = omega arith in
+      ap (λ (l : List ℕ). l ++ cellsOf (take 25 (drop (25 * n) rows))) (pages-taken n)
+      ∙ sym (cells-append (take (25 * n) rows) (take 25 (drop (25 * n) rows)))
+      ∙ ap cellsOf (sym (take-add (25 * n) 25 rows))
+      ∙ ap (λ (k : ℕ). cellsOf (take k rows)) e
+
+  pub all-cells : allCells o ≡ cellsOf (rowsOf o)
+  all-cells =
+      let l = rows-length o 0 (o .rows) in
+      let n = pageCount o in
+      pages-taken n ∙ ap cellsOf (take-all (25 * n) (rowsOf o) (omega arith))
+
+  no-rows : (rows : Rows) → length rows ≡ 0 → rows ≡ []
+  no-rows [] e = refl
+  no-rows (row ∷ rows) e = absurd (omega arith)
+
+  pub pages-hold-the-rows : PagesHoldTheRows o
+  pages-hold-the-rows =
+      record {
+        counted = λ page from to. let e = page-length page from in (omega arith, omega arith);
+        lacking = λ page h. let e = page-length page (omega arith) in no-rows (pageOf o page) (omega arith);
+        held = all-cells;
+        six = subst SixDots (sym all-cells) (cells-six o 0 (o .rows));
+      }

@@ -1,0 +1,41 @@
+use mathlib.Core.Path.{sym, ap, _∙_}
+use denote.Ref.{now}
+use Rattle.order.proofs.AcceptedLaws.{read-accepted}
+use Rattle.pages.proofs.AnswerLaws.{buffer-short, order-read, order-refused}
+use Rattle.pages.specs.Answers.{refusedOf, pageLength}
+use Rattle.pages.specs.Pages.{pageOf}
+use borrow.Author.Needs.{needs}
+use Rattle.pages.proofs.page.write_page.Statement.{statement}
+use Rattle.pages.proofs.page.write_page.Tie as tie
+
+returns : tie.Need-returns
+returns c =
+    let a = c .before .before .before .before .before .args in
+    let n = buffer-short (λ o. pageOf o (a .page)) pageLength (now (a .order)) (now (a .scratch)) (c .before .before .if1 .taken) in
+    (c .refused .ensures ∙ ap refusedOf (c .before .new .ensures) ∙ n .0, n .1)
+
+write-read-requires : tie.Need-write-read-requires
+write-read-requires c κs =
+    let a = c .before .before .before .before .before .before .before .before .args in
+    let e = sym (c .before .before .before .before .read .ensures) ∙ c .before .before .order .given .1 in
+    (read-accepted (now (a .order)) _ e, c .before .before .before .before .before .if1 .left)
+
+returns-2 : tie.Need-returns-2
+returns-2 c =
+    let a = c .before .before .before .before .before .before .before .before .before .before .before .args in
+    let e = sym (c .before .before .before .before .before .before .before .read .ensures) ∙ c .before .before .before .before .before .order .given .1 in
+    let n = order-read (λ o. pageOf o (a .page)) pageLength (now (a .order)) (now (a .scratch)) (c .before .before .before .before .before .before .before .before .if1 .left) _ e in
+    let p = c .before .before .write-read .ensures in
+    (p .0 ∙ n .0, p .1 ∙ n .1)
+
+returns-3 : tie.Need-returns-3
+returns-3 c =
+    let a = c .before .before .before .before .before .before .before .before .args in
+    let e = sym (c .before .before .before .before .read .ensures) ∙ c .before .before .refusal .given .1 in
+    let n = order-refused (λ o. pageOf o (a .page)) pageLength (now (a .order)) (now (a .scratch)) (c .before .before .before .before .before .if1 .left) _ e in
+    (c .refused2 .ensures ∙ n .0, n .1)
+
+pub write-page-spec : {M : Type 1} → statement M
+write-page-spec =
+    tie.close
+    (tie.spec (λ c κs. search needs) (λ c κs. search needs) returns (λ c κs. search needs) (λ c. search needs) write-read-requires (λ c. search needs) (λ c κs. search needs) (λ c. search needs) returns-2 returns-3)

@@ -1,0 +1,49 @@
+use native.Mathlib.Omega.{arith}
+use Prim.Native.Nat.{ℕ}
+use mathlib.Core.Path.{sym, ap, _∙_}
+use mathlib.Core.List.{List}
+use lib.ListN.{length}
+use denote.Ref.{now}
+use Rattle.order.proofs.AcceptedLaws.{read-accepted}
+use Rattle.text.specs.Text.{frontOf}
+use Rattle.pages.specs.Reports.{cellsText, longestCells}
+use Rattle.pages.proofs.ReportLaws.{printed-short, printed, refused-made, cells-read, cells-refused}
+use borrow.Author.Needs.{needs}
+use Rattle.pages.proofs.report.write_pages.Statement.{statement}
+use Rattle.pages.proofs.report.write_pages.Tie as tie
+
+returns : tie.Need-returns
+returns c =
+    let a = c .before .before .before .args in
+    printed-short longestCells (cellsText (now (a .order))) (now (a .buffer)) (c .if1 .taken)
+
+put-pages-requires : tie.Need-put-pages-requires
+put-pages-requires c κs =
+    let a = c .before .before .before .before .before .before .before .before .args in
+    let e = sym (c .before .before .before .before .read .ensures) ∙ c .before .before .order .given .1 in
+    (read-accepted (now (a .order)) _ e, c .before .before .before .before .before .if1 .left)
+
+returns-2 : tie.Need-returns-2
+returns-2 c =
+    let a = c .before .before .before .before .before .before .before .before .before .before .before .args in
+    let e = sym (c .before .before .before .before .before .before .before .read .ensures) ∙ c .before .before .before .before .before .order .given .1 in
+    let room = c .before .before .before .before .before .before .before .before .if1 .left in
+    let p = c .before .before .put-pages .ensures in
+    let t = cells-read (now (a .order)) _ e in
+    printed longestCells (cellsText (now (a .order))) (now (a .buffer)) room _ _ (p .0 ∙ ap length (sym t)) (p .1 ∙ ap (λ (x : List ℕ). frontOf x (now (a .buffer))) (sym t))
+
+returns-3 : tie.Need-returns-3
+returns-3 c =
+    let a = c .before .before .before .before .before .before .before .before .before .before .before .args in
+    let r = c .before .before .before .before .before .refusal .given .0 .0 in
+    let e = sym (c .before .before .before .before .before .before .before .read .ensures) ∙ c .before .before .before .before .before .refusal .given .1 in
+    let room = c .before .before .before .before .before .before .before .before .if1 .left in
+    let p = c .before .before .put-refused-order .ensures in
+    let f = refused-made r (now (a .buffer)) _ (omega (arith, room)) (p .1) in
+    let t = cells-refused (now (a .order)) r e in
+    printed longestCells (cellsText (now (a .order))) (now (a .buffer)) room _ _ (p .0 ∙ ap length (sym t)) (f ∙ ap (λ (x : List ℕ). frontOf x (now (a .buffer))) (sym t))
+
+pub write-pages-spec : {M : Type 1} → statement M
+write-pages-spec =
+    tie.close
+    (tie.spec returns (λ c κs. search needs) (λ c. search needs) put-pages-requires (λ c. search needs) (λ c κs. search needs) (λ c. search needs) returns-2 (λ c. search needs) returns-3)

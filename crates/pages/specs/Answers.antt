@@ -1,0 +1,66 @@
+-- Document 02, request 2: what the calls on a row and on a page of cells answer, and every byte of the lent buffer after them.
+use Prim.Native.Nat.{ℕ, _*_}
+use mathlib.Core.Bool.{cond}
+use mathlib.Core.List.{List, [], _∷_}
+use lib.Dec.{ltb}
+use lib.ListN.{length}
+use Rattle.braille.specs.Braille.{dotsOf}
+use Rattle.braille.specs.Cells.{rowLength}
+use Rattle.calls.specs.Calls.{lacksRow}
+use Rattle.order.specs.declared.reading.Order.{Order}
+use Rattle.order.specs.declared.reading.Reading.{Reading}
+use Rattle.order.specs.declared.reading.Reading.the-variants as reading
+use Rattle.order.specs.Reading.{readingOf}
+use Rattle.refusals.specs.Refusals.{refusal, noRefusal, bufferShort}
+use Rattle.refusals.specs.declared.Refusal.{Refusal}
+use Rattle.text.specs.Text.{frontOf}
+use Rattle.pages.specs.Pages.{Rows, rowOf, cellsOf, pageRows, pageOf}
+use Rattle.pages.specs.declared.answer.Punched.{Punched}
+
+-- rows that were written, and their dots
+abbrev pub punchedOf : Rows → Punched
+punchedOf rows = record { refusal = noRefusal; rows = length rows; dots = dotsOf (cellsOf rows) }
+
+abbrev pub refusedOf : Refusal → Punched
+refusedOf r = record { refusal = r; rows = 0; dots = 0 }
+
+-- "a page that the order lacks gets 5 with place 3", and so does a row
+unfoldable pub answerOf : Rows → Punched
+answerOf [] = refusedOf lacksRow
+answerOf (row ∷ rows) = punchedOf (row ∷ rows)
+
+unfoldable pub answerIn : (Order → Rows) → Reading → Punched
+answerIn asked (reading.Read o) = answerOf (asked o)
+answerIn asked (reading.Refused r) = refusedOf r
+
+-- "Here and later, bytes of a lent buffer after what is written stay"; where the call is refused, all of them do
+unfoldable pub frontIn : (Order → Rows) → Reading → List ℕ → List ℕ
+frontIn asked (reading.Read o) buffer = frontOf (cellsOf (asked o)) buffer
+frontIn asked (reading.Refused r) buffer = buffer
+
+-- a call on an order's bytes that asks for some of its rows, and takes a buffer of some length at least: 9 before anything else
+unfoldable pub writtenOf : (Order → Rows) → ℕ → List ℕ → List ℕ → Punched
+writtenOf asked least s buffer = cond (ltb (length buffer) least) (refusedOf (refusal bufferShort 0)) (answerIn asked (readingOf s))
+
+unfoldable pub bufferOf : (Order → Rows) → ℕ → List ℕ → List ℕ → List ℕ
+bufferOf asked least s buffer = cond (ltb (length buffer) least) buffer (frontIn asked (readingOf s) buffer)
+
+-- ---- a row: "A cell buffer under 39 bytes .. gets 9"
+unfoldable pub oneRow : ℕ → Order → Rows
+oneRow row o = cond (ltb row (o .rows)) (rowOf o row ∷ []) []
+
+abbrev pub rowWritten : ℕ → List ℕ → List ℕ → Punched
+rowWritten row = writtenOf (oneRow row) rowLength
+
+abbrev pub rowBuffer : ℕ → List ℕ → List ℕ → List ℕ
+rowBuffer row = bufferOf (oneRow row) rowLength
+
+-- ---- a page: "a page's cells are put at the front of a scratch buffer of 975 bytes"; "a scratch under 975 gets 9"
+abbrev pub pageLength : ℕ
+pageLength = rowLength * pageRows
+
+abbrev pub pageWritten : ℕ → List ℕ → List ℕ → Punched
+pageWritten page = writtenOf (λ o. pageOf o page) pageLength
+
+abbrev pub pageBuffer : ℕ → List ℕ → List ℕ → List ℕ
+pageBuffer page = bufferOf (λ o. pageOf o page) pageLength

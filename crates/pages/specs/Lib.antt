@@ -1,0 +1,4 @@
+pub mod Pages
+pub mod Answers
+pub mod Reports
+pub mod Promises

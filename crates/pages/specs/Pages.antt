@@ -1,0 +1,50 @@
+-- Document 02, request 2: the rows of cells of an order, its pages, and their dots.
+use Prim.Native.Nat.{ℕ, zero, suc, _+_, _*_, _/_}
+use mathlib.Core.List.{List, [], _∷_, _++_}
+use lib.ListN.{take, drop}
+use Rattle.braille.specs.Cells.{rowCells}
+use Rattle.calendar.specs.Answers.{rowDateOf}
+use Rattle.calls.specs.Calls.{workRowOf}
+use Rattle.order.specs.declared.reading.Order.{Order}
+
+-- the cells of a row: of its own date and its day's times, or of its date alone where the day is refused
+abbrev pub rowOf : Order → ℕ → List ℕ
+rowOf o row = rowCells (rowDateOf (o .date) row) (workRowOf o row) (o .clock)
+
+-- rows, each by its cells
+abbrev pub Rows : Type 0
+Rows = List (List ℕ)
+
+-- n rows from row k on
+unfoldable pub rowsFrom : Order → ℕ → ℕ → Rows
+rowsFrom o k zero = []
+rowsFrom o k (suc n) = rowOf o k ∷ rowsFrom o (k + 1) n
+
+abbrev pub rowsOf : Order → Rows
+rowsOf o = rowsFrom o 0 (o .rows)
+
+-- the cells of rows, one row behind another
+unfoldable pub cellsOf : Rows → List ℕ
+cellsOf [] = []
+cellsOf (row ∷ rows) = row ++ cellsOf rows
+
+abbrev pub pageRows : ℕ
+pageRows = 25
+
+-- "A page is 25 rows, the last one those left; pages count from 1". A page that the order lacks, and page 0, has no rows.
+unfoldable pub pageOf : Order → ℕ → Rows
+pageOf o zero = []
+pageOf o (suc p) = take pageRows (drop (pageRows * p) (rowsOf o))
+
+-- how many pages an order has
+abbrev pub pageCount : Order → ℕ
+pageCount o = (o .rows + 24) / pageRows
+
+-- the cells of the first n pages, one page behind another
+unfoldable pub pagesCells : Order → ℕ → List ℕ
+pagesCells o zero = []
+pagesCells o (suc p) = pagesCells o p ++ cellsOf (pageOf o (suc p))
+
+-- the cells of all its pages
+abbrev pub allCells : Order → List ℕ
+allCells o = pagesCells o (pageCount o)

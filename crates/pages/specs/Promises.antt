@@ -1,0 +1,16 @@
+-- Document 02, request 2: what is stated of the pages of an order beyond what each call answers.
+use Prim.Native.Nat.{ℕ, _≤_, _<_}
+use mathlib.Core.Path.{_≡_}
+use mathlib.Core.List.{List, []}
+use lib.ListN.{length}
+use Rattle.braille.specs.Braille.{SixDots}
+use Rattle.order.specs.declared.reading.Order.{Order}
+use Rattle.pages.specs.Pages.{rowsOf, cellsOf, pageRows, pageOf, pageCount, allCells}
+
+-- The pages of an order, from 1 to the last, hold its rows, each once and in turn; no other page has a row.
+pub record PagesHoldTheRows (o : Order) : Type 0 where
+  pub counted : (page : ℕ) → 1 ≤ page → page ≤ pageCount o → (1 ≤ length (pageOf o page)) × (length (pageOf o page) ≤ pageRows)
+  pub lacking : (page : ℕ) → pageCount o < page → pageOf o page ≡ []
+  pub held : allCells o ≡ cellsOf (rowsOf o)
+  -- "the other two bits are 0"
+  pub six : SixDots (allCells o)

@@ -1,0 +1,23 @@
+// What a call that writes cells answers.
+ghost use mathlib.Core.Path.{_≡_};
+ghost use Rattle.pages.specs.Answers.{refusedOf};
+use refusals::Refusal;
+
+// How many rows were written, and their dots; none where the call is refused.
+pub struct Punched {
+    pub refusal: Refusal,
+    pub rows: u32,
+    pub dots: u32,
+}
+
+impl Punched {
+    pub fn refused(refusal: Refusal) -> Punched
+        ensures { λ r. ⌜ r ≡ refusedOf refusal ⌝ }
+    {
+        Punched {
+            refusal: refusal,
+            rows: 0,
+            dots: 0,
+        }
+    }
+}

@@ -1,0 +1,43 @@
+// The cells of a row at the front of a lent buffer.
+ghost use mathlib.Core.Path.{_≡_};
+ghost use Prim.Native.Nat.{_≤_};
+ghost use lib.ListN.{length};
+ghost use Rattle.braille.specs.Cells.{rowLength};
+ghost use Rattle.order.specs.Accepted.{Accepted};
+ghost use Rattle.text.specs.Text.{frontOf};
+ghost use Rattle.pages.specs.Pages.{cellsOf};
+ghost use Rattle.pages.specs.Answers.{oneRow, answerOf, rowWritten, rowBuffer};
+use super::answer::Punched;
+use super::rows::write_rows;
+use braille::row::ROW_CELLS;
+use calls::day::lacks_row;
+use order::reading::Order;
+use order::reading::Reading;
+use order::reading::read;
+use refusals::BUFFER_SHORT;
+use refusals::Refusal;
+
+fn write_read(buffer: &mut [u8], order: Order, row: u32) -> Punched
+    requires { ⌜ Accepted order × (rowLength ≤ length (now buffer)) ⌝ }
+    ensures { λ r. ⌜ r ≡ answerOf (oneRow row order) ⌝ }
+    ensures { λ _. ⌜ now (buffer .exit) ≡ frontOf (cellsOf (oneRow row order)) (now (buffer .entry)) ⌝ }
+{
+    if row < order.rows {
+        return write_rows(&mut buffer[..], order, row, 1);
+    }
+    Punched::refused(lacks_row())
+}
+
+// A buffer that a row does not fit is 9, before anything else. A row is not refused for its day.
+pub fn write_cells(order: &[u8], row: u32, buffer: &mut [u8]) -> Punched
+    ensures { λ r. ⌜ r ≡ rowWritten row (now (order .entry)) (now (buffer .entry)) ⌝ }
+    ensures { λ _. ⌜ now (buffer .exit) ≡ rowBuffer row (now (order .entry)) (now (buffer .entry)) ⌝ }
+{
+    if buffer.len() < ROW_CELLS {
+        return Punched::refused(Refusal::new(BUFFER_SHORT, 0));
+    }
+    match read(order) {
+        Reading::Read(order) => write_read(&mut buffer[..], order, row),
+        Reading::Refused(refusal) => Punched::refused(refusal),
+    }
+}

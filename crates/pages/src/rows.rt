@@ -1,0 +1,56 @@
+// Rows of an order that follow one another, at the front of a lent buffer.
+ghost use mathlib.Core.Path.{_≡_};
+ghost use Prim.Native.Nat.{_+_, _-_, _*_, _≤_, _<_};
+ghost use lib.ListN.{length};
+ghost use Rattle.braille.specs.Braille.{dotsOf};
+ghost use Rattle.braille.specs.Cells.{rowLength};
+ghost use Rattle.order.specs.Accepted.{Accepted};
+ghost use Rattle.text.specs.Text.{frontOf};
+ghost use Rattle.pages.specs.Pages.{rowsFrom, cellsOf};
+ghost use Rattle.pages.specs.Answers.{punchedOf};
+use super::answer::Punched;
+use braille::row::ROW_CELLS;
+use braille::row::put_cells;
+use order::reading::Order;
+use refusals::Refusal;
+use row_suns::RowSuns;
+
+// The rows from `row` to before `end`; answers their dots. Each row takes over what it can from the one before it.
+pub fn put_rows(buffer: &mut [u8], order: Order, row: u32, end: u32) -> u32
+    requires { ⌜ Accepted order × (row < end) × (end ≤ order .rows) × (rowLength * (end - row) ≤ length (now buffer)) ⌝ }
+    ensures { λ r. ⌜ r ≡ dotsOf (cellsOf (rowsFrom order row (end - row))) ⌝ }
+    ensures { λ _. ⌜ now (buffer .exit) ≡ frontOf (cellsOf (rowsFrom order row (end - row))) (now (buffer .entry)) ⌝ }
+{
+    let first = order.date;
+    let coordinates = order.coordinates;
+    let parameters = order.parameters;
+    let rules = order.rules;
+    let latitude = coordinates.latitude;
+    let mut suns = RowSuns::new(first.row(row), coordinates, parameters, rules);
+    let mut next = row;
+    let mut dots = 0;
+    loop {
+        let worked = suns.work(latitude, parameters, rules);
+        let at = ROW_CELLS * (next - row) as usize;
+        dots = dots + put_cells(&mut buffer[..], at, suns.date, worked, order.clock);
+        next = next + 1;
+        if next >= end {
+            return dots;
+        }
+        suns = suns.next(coordinates, parameters, rules);
+    }
+}
+
+// So many rows from one on, and how many dots they have.
+pub fn write_rows(buffer: &mut [u8], order: Order, row: u32, count: u32) -> Punched
+    requires { ⌜ Accepted order × (0 < count) × (row + count ≤ order .rows) × (rowLength * count ≤ length (now buffer)) ⌝ }
+    ensures { λ r. ⌜ r ≡ punchedOf (rowsFrom order row count) ⌝ }
+    ensures { λ _. ⌜ now (buffer .exit) ≡ frontOf (cellsOf (rowsFrom order row count)) (now (buffer .entry)) ⌝ }
+{
+    let dots = put_rows(&mut buffer[..], order, row, row + count);
+    Punched {
+        refusal: Refusal::none(),
+        rows: count,
+        dots: dots,
+    }
+}
