@@ -1,3 +1,4 @@
 pub mod Exports
 pub mod PrintQueue
 pub mod Sentence
+pub mod Map
