@@ -50,7 +50,7 @@ extern "C" {
 #endif
 
 /* Of this header: one more with every change of a call, a struct or a number. Take header and library from the same build. */
-#define KATCHIDUL_VERSION 4
+#define KATCHIDUL_VERSION 5
 
 #define KATCHIDUL_ORDER_MAX 1024 /* bytes of an order */
 #define KATCHIDUL_TOWN_MAX 40    /* bytes of a town's name */
@@ -118,7 +118,7 @@ enum katchidul_minutes_index {
   KATCHIDUL_MINUTES_ISHA = 5
 };
 
-/* What the numbers of `method`, `madhab`, `high_latitude_rule`, `rounding` and `shafaq` say; an order has the same. */
+/* What the numbers of `method`, `madhab`, `high_latitude_rule`, `rounding`, `shafaq` and `carry` say; an order has the same. */
 enum katchidul_method {
   KATCHIDUL_METHOD_MUSLIM_WORLD_LEAGUE = 0,
   KATCHIDUL_METHOD_EGYPTIAN = 1,
@@ -147,6 +147,8 @@ enum katchidul_rounding { KATCHIDUL_ROUNDING_NEAREST = 0, KATCHIDUL_ROUNDING_UP 
 
 enum katchidul_shafaq { KATCHIDUL_SHAFAQ_GENERAL = 0, KATCHIDUL_SHAFAQ_AHMER = 1, KATCHIDUL_SHAFAQ_ABYAD = 2 };
 
+enum katchidul_carry { KATCHIDUL_CARRY_STOPS = 0, KATCHIDUL_CARRY_CARRIES = 1 };
+
 /* What an order asks for. What the order leaves out is as its method, or the table of tags in docs/ORDERS.md, has it. */
 typedef struct katchidul_order {
   uint32_t number, place;
@@ -158,6 +160,11 @@ typedef struct katchidul_order {
   uint32_t method, madhab, high_latitude_rule, rounding, shafaq; /* by their numbers */
   uint32_t isha_interval;        /* minutes */
   int32_t minutes[KATCHIDUL_MINUTES_COUNT]; /* own minutes: fajr, sunrise, dhuhr, asr, maghrib, isha */
+  uint32_t carry;                /* an hour number that rounds to hour 24: KATCHIDUL_CARRY_STOPS or KATCHIDUL_CARRY_CARRIES */
+  int32_t clock;                 /* 0, as the four below: for tags that are still to come */
+  uint32_t southern;
+  uint32_t ramadan, imsak;
+  int32_t shift;
 } katchidul_order;
 
 /* Seconds from 1970-01-01T00:00:00 UTC on: fajr, sunrise, dhuhr, asr, maghrib, isha, middle of the night, qiyam, tomorrow's fajr. They

@@ -14,7 +14,7 @@ static size_t room_size;
 static bool at_the_end;
 
 /* Refused answers are compared whole, byte by byte: no struct may have padding. */
-_Static_assert(sizeof(katchidul_order) == 8 * 4 + 4 * 8 + 12 * 4, "katchidul_order has padding");
+_Static_assert(sizeof(katchidul_order) == 8 * 4 + 4 * 8 + 18 * 4, "katchidul_order has padding");
 _Static_assert(sizeof(katchidul_day) == 2 * 4 + 9 * 8, "katchidul_day has padding");
 _Static_assert(sizeof(katchidul_prayer) == 3 * 4, "katchidul_prayer has padding");
 _Static_assert(sizeof(katchidul_remaining) == 4 * 4, "katchidul_remaining has padding");

@@ -39,6 +39,28 @@ static void check_longest(void) {
   check(all.lent_kept && row_refused(&all, 5, 3), "row 400 of 400");
 }
 
+/* Tag 15 at the places that it was asked for: an Asr number that rounds to hour 24, a Fajr number that rounds to it from below 0, and
+   sunsets of June that are lost without it. */
+static void check_carry(void) {
+  static const struct { uint16_t month, day; double longitude; int time; int64_t stops, carries; } cases[] = {
+      {9, 16, -135, KATCHIDUL_TIME_ASR, 75300, 86400}, {6, 2, 70, KATCHIDUL_TIME_FAJR, -16920, 0}};
+  for (size_t i = 0; i < sizeof cases / sizeof *cases; i++) {
+    order_bytes stops = place_order("A", 2026, (uint8_t)cases[i].month, (uint8_t)cases[i].day, 1, 0, cases[i].longitude, 0), carries = stops;
+    put_small(&stops, 15, KATCHIDUL_CARRY_STOPS), put_small(&carries, 15, KATCHIDUL_CARRY_CARRIES);
+    int64_t start = days_to(2026, cases[i].month, cases[i].day) * 86400;
+    check(katchidul_work_day(stops.bytes, stops.length, 0).times[cases[i].time] == start + cases[i].stops, "an hour number that stops");
+    check(katchidul_work_day(carries.bytes, carries.length, 0).times[cases[i].time] == start + cases[i].carries, "one that carries");
+  }
+  order_bytes west = place_order("A", 2026, 6, 1, 60, 40, -66.7, 0), carried = west;
+  put_small(&carried, 15, KATCHIDUL_CARRY_CARRIES);
+  uint32_t lost = 0, kept = 0;
+  for (uint32_t row = 0; row < 60; row++) {
+    lost += katchidul_work_day(west.bytes, west.length, row).number == KATCHIDUL_NO_SUNSET;
+    kept += katchidul_work_day(carried.bytes, carried.length, row).number == 0;
+  }
+  check(lost > 0 && kept == 60, "no day is lost where midnight carries");
+}
+
 /* Row r of an order is row 0 of the order that begins r days later. */
 static void check_dates_move(void) {
   order_bytes order = place_order("A", 2027, 12, 25, 10, 51.5, -0.125, 5);
@@ -81,6 +103,7 @@ void check_days(void) {
   day_is_refused(&sunset, 8, 2, "no sunset on day 2");
   check_rows();
   check_longest();
+  check_carry();
   check_dates_move();
   check_every_day();
 }

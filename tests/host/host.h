@@ -30,6 +30,9 @@ void put_interval(order_bytes *order, uint16_t minutes);
 /* The number of rows in so many bytes. */
 void put_rows(order_bytes *order, uint16_t rows, uint16_t size);
 /* The six fields that an order must have, in order of their tags. */
+/* The last tag of the table. */
+#define LAST_TAG 15
+
 /* Rows in one byte up to 255, in two above it. */
 order_bytes place_order(const char *town, uint16_t year, uint8_t month, uint8_t day, uint16_t rows, double latitude,
                         double longitude, uint8_t method);

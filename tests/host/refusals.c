@@ -58,11 +58,11 @@ static void check_sizes(void) {
 }
 
 static void check_lengths(void) {
-  static const struct { uint8_t shortest, longest; } lengths[15] = {{0, 0}, {1, 40}, {4, 4}, {1, 2}, {8, 8}, {8, 8}, {1, 1}, {1, 1},
-                                                                    {1, 1}, {1, 1}, {1, 1}, {12, 12}, {8, 8}, {8, 8}, {2, 2}};
+  static const struct { uint8_t shortest, longest; } lengths[16] = {{0, 0}, {1, 40}, {4, 4}, {1, 2}, {8, 8}, {8, 8}, {1, 1}, {1, 1},
+                                                                    {1, 1}, {1, 1}, {1, 1}, {12, 12}, {8, 8}, {8, 8}, {2, 2}, {1, 1}};
   order_bytes full = full_order();
   char what[64];
-  for (uint8_t tag = 1; tag <= 14; tag++) {
+  for (uint8_t tag = 1; tag <= LAST_TAG; tag++) {
     for (int way = 0; way < 3; way++) {
       order_bytes order = without(&full, tag);
       uint32_t at = (uint32_t)order.length;
@@ -79,7 +79,7 @@ static void check_repeats_and_missing(void) {
   order_bytes full = full_order(), empty = {0};
   char what[64];
   refused(&empty, 4, 1, "an empty order");
-  for (uint8_t tag = 1; tag <= 14; tag++) {
+  for (uint8_t tag = 1; tag <= LAST_TAG; tag++) {
     order_bytes order = full;
     put_header(&order, tag, 9);
     snprintf(what, sizeof what, "tag %u again, with a wrong length and cut", tag);

@@ -21,7 +21,7 @@ static bool number_fits(const katchidul_order *order) {
   switch (order->number) {
     case 1: case 2: case 3: return order->place < 1025;
     case 4: return order->place >= 1 && order->place <= 6;
-    case 5: return order->place >= 1 && order->place <= 14;
+    case 5: return order->place >= 1 && order->place <= LAST_TAG;
     default: return false;
   }
 }
@@ -32,7 +32,7 @@ static bool record_fits(const katchidul_order *order) {
               order->latitude <= 90 && order->longitude >= -180 && order->longitude <= 180 && order->fajr_angle >= 0 &&
               order->fajr_angle <= 30 && order->isha_angle >= 0 && order->isha_angle <= 30 && order->method <= 12 &&
               order->madhab >= 1 && order->madhab <= 2 && order->high_latitude_rule <= 2 && order->rounding <= 2 &&
-              order->shafaq <= 2 && order->isha_interval <= 1440 && order->town_at >= 3 && order->town_length >= 1 &&
+              order->shafaq <= 2 && order->carry <= 1 && order->isha_interval <= 1440 && order->town_at >= 3 && order->town_length >= 1 &&
               order->town_length <= 40;
   for (int i = 0; i < 6; i++) fits = fits && order->minutes[i] >= -720 && order->minutes[i] <= 720;
   return fits;

@@ -41,7 +41,8 @@ static const char *const names[] = {NO_NAME,
                                     " minutes, tag",
                                     " fajr angle, tag",
                                     " isha angle, tag",
-                                    " isha interval, tag"};
+                                    " isha interval, tag",
+                                    " carry, tag"};
 #define NUMBERS (sizeof words / sizeof *words)
 #define TAGS (sizeof names / sizeof *names)
 static const uint32_t some_places[] = {0, 6, 10, 14, 65536, UINT32_MAX};
@@ -157,10 +158,10 @@ static void check_worked(void) {
                                         "Refusal 11: no prayer is in force, place -1",
                                         "Refusal 0: place 0"};
   static const char method[] = "Refusal 4: the order lacks a field: method, tag 6";
-  static const char other[] = "Refusal 4: the order lacks a field: tag 15";
+  static const char other[] = "Refusal 4: the order lacks a field: tag 99";
   static const char last[] = "Refusal 11: no prayer is in force, place 4294967295";
   check(means((const uint8_t *)method, strlen(method), 4, 6), method);
-  check(means((const uint8_t *)other, strlen(other), 4, 15), other);
+  check(means((const uint8_t *)other, strlen(other), 4, 99), other);
   check(means((const uint8_t *)last, strlen(last), 11, UINT32_MAX), last);
   for (size_t i = 0; i < sizeof nothing / sizeof *nothing; i++)
     check(says_nothing((const uint8_t *)nothing[i], strlen(nothing[i])), nothing[i]);

@@ -14,14 +14,15 @@ use schedule::prayer_times::Worked;
 // The tag of an order's rows: the place of a row that it lacks.
 const ROWS_TAG: u32 = 3;
 
-// A date by the order's place and parameters.
+// A date by the order's place, parameters and rules.
 pub fn work_date(order: Order, date: Date) -> Worked
     ensures { λ r. ⌜ r ≡ workDateOf order date ⌝ }
 {
     let coordinates = order.coordinates;
     let parameters = order.parameters;
+    let rules = order.rules;
     let numbers = RowNumbers::new(date, coordinates, parameters);
-    PrayerTimes::new(numbers, date, coordinates.latitude, parameters)
+    PrayerTimes::new(numbers, date, coordinates.latitude, parameters, rules)
 }
 
 pub fn lacks_row() -> Refusal

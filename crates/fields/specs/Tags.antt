@@ -34,6 +34,8 @@ tags =
     ∷ row 8 8 0 0
     -- 14: Isha interval
     ∷ row 2 2 0 0
+    -- 15: at midnight
+    ∷ row 1 1 0 1
     ∷ []
 
 abbrev pub lastTag : ℕ

@@ -2,7 +2,7 @@
 ghost use mathlib.Core.Path.{_≡_};
 ghost use Rattle.fields.specs.Tags.{knownTag, lengthFits, choiceFits};
 
-pub const LAST_TAG: u32 = 14;
+pub const LAST_TAG: u32 = 15;
 
 // There is no tag 0, but a row stands for it.
 pub const TAGS: usize = LAST_TAG as usize + 1;
@@ -24,6 +24,7 @@ const TABLE: [[u32; 4]; TAGS] = [
     [8, 8, 0, 0],
     [8, 8, 0, 0],
     [2, 2, 0, 0],
+    [1, 1, 0, 1],
 ];
 
 pub(crate) fn known(tag: u32) -> bool

@@ -4,7 +4,7 @@ use mathlib.Core.List.{List}
 use lib.IntN.{ℤ, pos}
 use Rattle.integers.specs.Parts.{P}
 use Rattle.float64.specs.Ops.{dec}
-use Rattle.models.specs.Numbers.{methodNumberOf, madhabNumberOf, ruleNumberOf, roundingNumberOf, shafaqNumberOf, prayerNumberOf}
+use Rattle.models.specs.Numbers.{methodNumberOf, madhabNumberOf, ruleNumberOf, roundingNumberOf, shafaqNumberOf, midnightNumberOf, prayerNumberOf}
 use Rattle.models.specs.declared.adjustments.TimeAdjustment.{TimeAdjustment}
 use Rattle.refusals.specs.declared.Refusal.{Refusal}
 use Rattle.order.specs.declared.reading.Order.{Order}
@@ -22,6 +22,7 @@ use Rattle.calls.specs.declared.in_force.NextPrayer.the-variants as next
 use Rattle.calls.specs.declared.in_force.TimeUntil.{TimeUntil}
 use Rattle.calls.specs.declared.in_force.TimeUntil.the-variants as until
 use Rattle.katchidul.specs.declared.read_order.KatchidulMinutes.{KatchidulMinutes}
+use Rattle.katchidul.specs.declared.read_order.KatchidulChoices.{KatchidulChoices}
 use Rattle.katchidul.specs.declared.read_order.KatchidulOrder.{KatchidulOrder}
 use Rattle.katchidul.specs.declared.work_day.KatchidulTimes.{KatchidulTimes}
 use Rattle.katchidul.specs.declared.work_day.KatchidulDay.{KatchidulDay}
@@ -35,6 +36,13 @@ minutesAnswerOf m = record { fajr = m .fajr; sunrise = m .sunrise; dhuhr = m .dh
 
 abbrev pub noMinutesAnswer : KatchidulMinutes
 noMinutesAnswer = record { fajr = pos 0; sunrise = pos 0; dhuhr = pos 0; asr = pos 0; maghrib = pos 0; isha = pos 0 }
+
+-- what tags 15 to 20 choose, 0 where no tag gives a field yet
+abbrev pub choicesAnswerOf : Order → KatchidulChoices
+choicesAnswerOf o = record { carry = midnightNumberOf (o .rules .midnight); clock = pos 0; southern = 0; ramadan = 0; imsak = 0; shift = pos 0 }
+
+abbrev pub noChoicesAnswer : KatchidulChoices
+noChoicesAnswer = record { carry = 0; clock = pos 0; southern = 0; ramadan = 0; imsak = 0; shift = pos 0 }
 
 unfoldable pub orderRead : Order → KatchidulOrder
 orderRead o =
@@ -59,6 +67,7 @@ orderRead o =
       shafaq = shafaqNumberOf (p .shafaq);
       «isha_interval» = P (p .«isha_interval»);
       minutes = minutesAnswerOf (p .adjustments);
+      choices = choicesAnswerOf o;
     }
 
 unfoldable pub orderRefused : Refusal → KatchidulOrder
@@ -83,6 +92,7 @@ orderRefused r =
       shafaq = 0;
       «isha_interval» = 0;
       minutes = noMinutesAnswer;
+      choices = noChoicesAnswer;
     }
 
 unfoldable pub orderIn : Reading → KatchidulOrder

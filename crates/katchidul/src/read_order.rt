@@ -1,7 +1,7 @@
 // Reading an order.
 ghost use mathlib.Core.Path.{_≡_};
 ghost use Rattle.integers.specs.Parts.{P};
-ghost use Rattle.katchidul.specs.Exports.{minutesAnswerOf, noMinutesAnswer, orderRead, orderRefused, orderAnswerOf};
+ghost use Rattle.katchidul.specs.Exports.{minutesAnswerOf, noMinutesAnswer, choicesAnswerOf, noChoicesAnswer, orderRead, orderRefused, orderAnswerOf};
 use models::adjustments::TimeAdjustment;
 use order::reading::Order;
 use order::reading::Reading;
@@ -17,6 +17,17 @@ pub struct KatchidulMinutes {
     pub asr: i32,
     pub maghrib: i32,
     pub isha: i32,
+}
+
+// What tags 15 to 20 choose; in C six fields of the order. 0 where no tag gives a field yet.
+#[repr(C)]
+pub struct KatchidulChoices {
+    pub carry: u32,
+    pub clock: i32,
+    pub southern: u32,
+    pub ramadan: u32,
+    pub imsak: u32,
+    pub shift: i32,
 }
 
 #[repr(C)]
@@ -40,6 +51,7 @@ pub struct KatchidulOrder {
     pub shafaq: u32,
     pub isha_interval: u32,
     pub minutes: KatchidulMinutes,
+    pub choices: KatchidulChoices,
 }
 
 // An interval that is read is never below 0 (the law `interval` of proofs/ExportsLaws.antt): the test shows that the cast loses nothing.
@@ -78,6 +90,34 @@ fn no_minutes() -> KatchidulMinutes
     }
 }
 
+fn choices_read(order: Order) -> KatchidulChoices
+    ensures { λ r. ⌜ r ≡ choicesAnswerOf order ⌝ }
+{
+    let rules = order.rules;
+    let midnight = rules.midnight;
+    KatchidulChoices {
+        carry: midnight.number(),
+        clock: 0,
+        southern: 0,
+        ramadan: 0,
+        imsak: 0,
+        shift: 0,
+    }
+}
+
+fn no_choices() -> KatchidulChoices
+    ensures { λ r. ⌜ r ≡ noChoicesAnswer ⌝ }
+{
+    KatchidulChoices {
+        carry: 0,
+        clock: 0,
+        southern: 0,
+        ramadan: 0,
+        imsak: 0,
+        shift: 0,
+    }
+}
+
 fn order_read(order: Order) -> KatchidulOrder
     ensures { λ r. ⌜ r ≡ orderRead order ⌝ }
 {
@@ -111,6 +151,7 @@ fn order_read(order: Order) -> KatchidulOrder
         shafaq: shafaq.number(),
         isha_interval: interval(parameters.isha_interval),
         minutes: minutes_read(own),
+        choices: choices_read(order),
     }
 }
 
@@ -137,6 +178,7 @@ fn order_refused(refusal: Refusal) -> KatchidulOrder
         shafaq: 0,
         isha_interval: 0,
         minutes: no_minutes(),
+        choices: no_choices(),
     }
 }
 

@@ -5,7 +5,7 @@ use lib.Dec.{T, eqb}
 use lib.IntN.{ℤ, pos, negsuc}
 use Prim.Native.Nat.{ℕ}
 use lib.Signed.{leZ}
-use lib.Ieee.{Float, eq, le, lt, add, sub, mul, div, neg, round, ofInt, ofBits, toSigned, toUnsigned}
+use lib.Ieee.{Float, nan, binary64, eq, le, lt, add, sub, mul, div, neg, round, ofInt, ofBits, toSigned, toUnsigned}
 use Rattle.float64.specs.Ops.{dec}
 use Rattle.calendar.specs.Gregorian.{dateOf, leapOf}
 use Rattle.calendar.specs.Days.{daysInYearOf}
@@ -23,6 +23,7 @@ use Rattle.ops.specs.Season.{daysSinceSolsticeOf, southernOffsetOf}
 use Rattle.solar.specs.declared.setting.SolarHour.{SolarHour}
 use Rattle.solar.specs.declared.setting.SolarHour.the-variants.{At, None}
 use Rattle.solar.specs.Setting.{settingHourOf, hourOf, hourAdjustmentOf, minuteOf}
+use Rattle.solar.specs.PastMidnight.{hasTimeOf, carriedOf, carriedHourOf}
 
 -- the latitudes of a place on the equator, which counts as northern, and of one south of it
 abbrev north : Float
@@ -45,6 +46,12 @@ at x t = gives (settingHourOf x) t
 
 abbrev none : Float → Bool
 none x = misses (settingHourOf x)
+
+abbrev carried : Float → ℤ → Bool
+carried x t = gives (carriedHourOf x) t
+
+abbrev lost : Float → Bool
+lost x = misses (carriedHourOf x)
 
 -- nine times, a thousand seconds apart from 1000 on, but for the middle of the night, which is no prayer
 abbrev times : PrayerTimes
@@ -91,6 +98,20 @@ marked =
     none (dec 0 0) ∷
     none (dec 23995 3) ∷
     none (dec 48 0) ∷
+    -- carried past midnight: 00:00 of tomorrow, of the date after a floored hour below 0, of the day after tomorrow after hour 47
+    carried (dec 23995 3) (pos 86400) ∷
+    carried (neg (dec 1 4)) (pos 0) ∷
+    carried (dec 47995 3) (pos 172800) ∷
+    -- both zeros and the smallest subnormal are 00:00 of the date; yesterday's 00:00 is the first time, and what lies beyond, or is no number, has none
+    carried (dec 0 0) (pos 0) ∷
+    carried (neg (dec 0 0)) (pos 0) ∷
+    carried (ofBits binary64 1) (pos 0) ∷
+    carried (neg (dec 24 0)) (negsuc 86399) ∷
+    lost (neg (dec 25 0)) ∷
+    lost (dec 48 0) ∷
+    lost nan ∷
+    -- and what needs no carrying stays
+    carried (dec 55 1) (pos 19800) ∷
     -- half a second before Fajr it is in force, a full second before it is not
     names (currentTimeOf times (instant 999 500000000)) 1 ∷
     names (currentTimeOf times (instant 999 0)) 0 ∷
@@ -106,5 +127,5 @@ all [] = true
 all (t ∷ ts) = t && all ts
 
 pub all-hold : T (all marked)
-unfolding marked all timeOf nanosecondsOf aheadOf lastOf followingOf followingCurrentOf hoursMinutesOf prayerNumberOf prayerOf truncOf settingHourOf hourOf hourAdjustmentOf minuteOf isNormalOf floorOf roundOf toUnsigned dec round ofBits eq le lt add sub mul div neg ofInt toSigned dateJulianDayOf julianDayOf fromMarchOf yearProductOf monthProductOf correctionOf toI32Of daysSinceSolsticeOf southernOffsetOf daysInYearOf leapOf
+unfolding marked all timeOf nanosecondsOf aheadOf lastOf followingOf followingCurrentOf hoursMinutesOf prayerNumberOf prayerOf truncOf settingHourOf hourOf hourAdjustmentOf minuteOf hasTimeOf carriedOf carriedHourOf isNormalOf floorOf roundOf toUnsigned dec round ofBits eq le lt add sub mul div neg ofInt toSigned dateJulianDayOf julianDayOf fromMarchOf yearProductOf monthProductOf correctionOf toI32Of daysSinceSolsticeOf southernOffsetOf daysInYearOf leapOf
 all-hold = tt

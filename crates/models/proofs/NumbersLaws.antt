@@ -10,9 +10,11 @@ use Rattle.models.specs.declared.high_altitude_rule.HighLatitudeRule.{Hi
 use Rattle.models.specs.declared.high_altitude_rule.HighLatitudeRule.the-variants.{MiddleOfTheNight, SeventhOfTheNight, TwilightAngle}
 use Rattle.models.specs.declared.method.Method.{Method}
 use Rattle.models.specs.declared.method.Method.the-variants.{MuslimWorldLeague, Egyptian, Karachi, UmmAlQura, Dubai, MoonsightingCommittee, NorthAmerica, Kuwait, Qatar, Singapore, Tehran, Turkey, Other}
+use Rattle.models.specs.declared.rules.Midnight.{Midnight}
+use Rattle.models.specs.declared.rules.Midnight.the-variants.{Stops, Carries}
 use Rattle.models.specs.declared.prayer.Prayer.{Prayer}
 use Rattle.models.specs.declared.prayer.Prayer.the-variants.{Fajr, Sunrise, Dhuhr, Asr, Maghrib, Isha, Qiyam, FajrTomorrow}
-use Rattle.models.specs.Numbers.{roundingNumberOf, roundingOf, shafaqNumberOf, shafaqOf, madhabNumberOf, madhabOf, ruleNumberOf, ruleOf, methodNumberOf, methodOf, prayerNumberOf, prayerOf}
+use Rattle.models.specs.Numbers.{roundingNumberOf, roundingOf, shafaqNumberOf, shafaqOf, madhabNumberOf, madhabOf, ruleNumberOf, ruleOf, midnightNumberOf, midnightOf, methodNumberOf, methodOf, prayerNumberOf, prayerOf}
 
 pub rounding-back : (c : Rounding) → roundingOf (roundingNumberOf c) ≡ c
 unfolding roundingNumberOf roundingOf
@@ -36,6 +38,11 @@ unfolding ruleNumberOf ruleOf
 rule-back MiddleOfTheNight = refl
 rule-back SeventhOfTheNight = refl
 rule-back TwilightAngle = refl
+
+pub midnight-back : (c : Midnight) → midnightOf (midnightNumberOf c) ≡ c
+unfolding midnightNumberOf midnightOf
+midnight-back Stops = refl
+midnight-back Carries = refl
 
 pub method-back : (c : Method) → methodOf (methodNumberOf c) ≡ c
 unfolding methodNumberOf methodOf

@@ -5,3 +5,4 @@ pub mod Rules
 pub mod Settings
 pub mod Builder
 pub mod Presets
+pub mod Chosen

@@ -13,6 +13,8 @@ use Rattle.models.specs.declared.high_altitude_rule.HighLatitudeRule.{Hi
 use Rattle.models.specs.declared.high_altitude_rule.HighLatitudeRule.the-variants.{MiddleOfTheNight, SeventhOfTheNight, TwilightAngle}
 use Rattle.models.specs.declared.method.Method.{Method}
 use Rattle.models.specs.declared.method.Method.the-variants.{MuslimWorldLeague, Egyptian, Karachi, UmmAlQura, Dubai, MoonsightingCommittee, NorthAmerica, Kuwait, Qatar, Singapore, Tehran, Turkey, Other}
+use Rattle.models.specs.declared.rules.Midnight.{Midnight}
+use Rattle.models.specs.declared.rules.Midnight.the-variants.{Stops, Carries}
 use Rattle.models.specs.declared.prayer.Prayer.{Prayer}
 use Rattle.models.specs.declared.prayer.Prayer.the-variants.{Fajr, Sunrise, Dhuhr, Asr, Maghrib, Isha, Qiyam, FajrTomorrow}
 
@@ -55,6 +57,14 @@ rules = MiddleOfTheNight ∷ SeventhOfTheNight ∷ []
 
 unfoldable pub ruleOf : ℕ → HighLatitudeRule
 ruleOf n = getD rules n TwilightAngle
+
+-- tag 15
+unfoldable pub midnightNumberOf : Midnight → ℕ
+midnightNumberOf Stops = 0
+midnightNumberOf Carries = 1
+
+unfoldable pub midnightOf : ℕ → Midnight
+midnightOf n = getD (Stops ∷ []) n Carries
 
 unfoldable pub methodNumberOf : Method → ℕ
 methodNumberOf MuslimWorldLeague = 0

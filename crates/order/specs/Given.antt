@@ -14,8 +14,9 @@ use Rattle.fields.specs.Values.{Values}
 use Rattle.models.specs.declared.adjustments.TimeAdjustment.{TimeAdjustment}
 use Rattle.models.specs.declared.parameters.Parameters.{Parameters}
 use Rattle.models.specs.declared.rounding.Rounding.{Rounding}
+use Rattle.models.specs.declared.rules.Rules.{Rules}
 use Rattle.models.specs.Minutes.{sixMinutesOf, noMinutes}
-use Rattle.models.specs.Numbers.{methodOf, madhabOf, ruleOf, roundingOf, shafaqOf}
+use Rattle.models.specs.Numbers.{methodOf, madhabOf, ruleOf, roundingOf, shafaqOf, midnightOf}
 use Rattle.models.specs.Presets.{presetOf}
 
 -- ---- what the bytes of a value give
@@ -69,3 +70,7 @@ parametersIn v =
       rounding = roundingOr v (preset .rounding);
       shafaq = shafaqOf (byteOr v 10 0);
     }
+
+-- Request 1: "Tag 15 (one byte, 0 or 1, missing is 0) chooses: 0 is today's rule, 1 carries."
+unfoldable pub rulesIn : Values → Rules
+rulesIn v = record { midnight = midnightOf (byteOr v 15 0) }

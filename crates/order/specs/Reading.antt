@@ -13,7 +13,7 @@ use Rattle.unit.specs.Unit.{coordinatesOf}
 use Rattle.order.specs.declared.reading.Order.{Order}
 use Rattle.order.specs.declared.reading.Reading.{Reading}
 use Rattle.order.specs.declared.reading.Reading.the-variants.{Read, Refused}
-use Rattle.order.specs.Given.{dateIn, rowsIn, degreesIn, parametersIn}
+use Rattle.order.specs.Given.{dateIn, rowsIn, degreesIn, parametersIn, rulesIn}
 use Rattle.order.specs.Ranges.{inRangeOf}
 
 -- the refusal of the first of some tags that does not pass, by a number and the tag
@@ -45,6 +45,7 @@ orderOf v =
       rows = rowsIn (v .value 3);
       coordinates = coordinatesOf (degreesIn (v .value 4)) (degreesIn (v .value 5));
       parameters = parametersIn v;
+      rules = rulesIn v;
     }
 
 -- the first of some refusals that refuses; where none does, what is read

@@ -1,7 +1,7 @@
 // What each tag gives where its value is in range, and what stands for a missing one.
 ghost use mathlib.Core.Path.{_≡_};
 ghost use Rattle.fields.specs.Values.{valuesIn};
-ghost use Rattle.order.specs.Given.{dateIn, rowsIn, degreesIn, minutesIn, byteOr, degreesOr, roundingOr, minutesOr, intervalOr, parametersIn};
+ghost use Rattle.order.specs.Given.{dateIn, rowsIn, degreesIn, minutesIn, byteOr, degreesOr, roundingOr, minutesOr, intervalOr, parametersIn, rulesIn};
 use calendar::dates::Date;
 use fields::numbers::byte;
 use fields::numbers::float;
@@ -15,6 +15,8 @@ use models::madhab::Madhab;
 use models::method::Method;
 use models::parameters::Parameters;
 use models::rounding::Rounding;
+use models::rules::Midnight;
+use models::rules::Rules;
 use models::shafaq::Shafaq;
 
 pub fn date_in(bytes: &[u8]) -> Date
@@ -123,5 +125,14 @@ pub fn parameters_in(order: &[u8], fields: Fields) -> Parameters
         method_adjustments: method_adjustments,
         rounding: rounding_or(order, fields, rounding),
         shafaq: Shafaq::of_number(byte_or(order, fields, 10, 0)),
+    }
+}
+
+// Tag 15: 0 where it is missing, the source's rule.
+pub fn rules_in(order: &[u8], fields: Fields) -> Rules
+    ensures { λ r. ⌜ r ≡ rulesIn (valuesIn (now (order .entry)) fields) ⌝ }
+{
+    Rules {
+        midnight: Midnight::of_number(byte_or(order, fields, 15, 0)),
     }
 }

@@ -6,6 +6,7 @@ use super::given::date_in;
 use super::given::degrees_in;
 use super::given::parameters_in;
 use super::given::rows_in;
+use super::given::rules_in;
 use super::ranges::in_range;
 use calendar::dates::Date;
 use fields::tags::LAST_TAG;
@@ -15,6 +16,7 @@ use fields::values::bytes;
 use fields::values::fields_of;
 use fields::values::value;
 use models::parameters::Parameters;
+use models::rules::Rules;
 use refusals::OUT_OF_RANGE;
 use refusals::Refusal;
 use refusals::TAG_MISSING;
@@ -33,6 +35,7 @@ pub struct Order {
     pub rows: u32,
     pub coordinates: Coordinates,
     pub parameters: Parameters,
+    pub rules: Rules,
 }
 
 pub enum Reading {
@@ -82,6 +85,7 @@ fn record_in(order: &[u8], fields: Fields) -> Order
             degrees_in(value(order, fields, 5)),
         ),
         parameters: parameters_in(order, fields),
+        rules: rules_in(order, fields),
     }
 }
 

@@ -83,9 +83,9 @@ module _ (first : Order) (town : Part) (minutes : TimeAdjustment) (row : ℕ) wh
       later : LaterMinutes p q
       later = record { alike = refl; more = more; «first_held» = held first h; «second_held» = held (withOwnMinutes first town minutes) k }
 
-      by-test : (b : Bool) → Moved p q (cond b (workedAt (rowDateOf (first .date) row) (first .coordinates) p) (worked.Refused lacksRow))
-          (cond b (workedAt (rowDateOf (first .date) row) (first .coordinates) q) (worked.Refused lacksRow))
-      by-test true = later-minutes-move-the-row (rowDateOf (first .date) row) (first .coordinates) p q later
+      by-test : (b : Bool) → Moved p q (cond b (workedAt (rowDateOf (first .date) row) (first .coordinates) p (first .rules)) (worked.Refused lacksRow))
+          (cond b (workedAt (rowDateOf (first .date) row) (first .coordinates) q (first .rules)) (worked.Refused lacksRow))
+      by-test true = later-minutes-move-the-row (rowDateOf (first .date) row) (first .coordinates) (first .rules) p q later
       by-test false = alike-refused p q lacksRow
 
 -- ---- what naming the prayer answers

@@ -66,9 +66,9 @@ days-are-printed-whole order row t i h e l = by-row (ltb row (order .rows)) e
     date = rowDateOf (order .date) row
 
     by-row : (b : Bool)
-        → cond b (workedAt date (order .coordinates) (order .parameters)) (Refused (refusal 5 3)) ≡ Times t
+        → cond b (workedAt date (order .coordinates) (order .parameters) (order .rules)) (Refused (refusal 5 3)) ≡ Times t
         → sizeOf (daysOf date (getD (nineOf t) i (pos 0))) ≤ 4
     by-row true w =
         nine-digits date t
-        (times-lie-by-their-date (numbersOf date (order .coordinates) (order .parameters)) date (order .coordinates .latitude) (order .parameters) t (accepted-latitude order h) (accepted-carried order h) w) i l
+        (times-lie-by-their-date (order .rules .midnight) (numbersOf date (order .coordinates) (order .parameters)) date (order .coordinates .latitude) (order .parameters) t (accepted-latitude order h) (accepted-carried order h) w) i l
     by-row false w = absurd (subst isTimes (sym w) tt)

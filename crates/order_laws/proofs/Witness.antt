@@ -20,7 +20,7 @@ use Rattle.models.specs.declared.prayer.Prayer.the-variants.{Fajr, Sunrise, Dhu
 use Rattle.models.specs.Numbers.{methodOf}
 use Rattle.models.specs.Presets.{preset, presetOf}
 use Rattle.models.specs.Settings.{minutesFor, timeAdjustmentsOf}
-use Rattle.order.specs.Given.{dateIn, rowsIn, degreesIn, minutesIn, byteOr, degreesOr, roundingOr, minutesOr, intervalOr, parametersIn}
+use Rattle.order.specs.Given.{dateIn, rowsIn, degreesIn, minutesIn, byteOr, degreesOr, roundingOr, minutesOr, intervalOr, parametersIn, rulesIn}
 use Rattle.order.specs.Ranges.{textFits, rowsFit, minuteFits, minutesFit, intervalFits, lookUp, fitsOf, inRangeOf}
 use Rattle.order.specs.Reading.{firstFailing, missingOf, tagsFrom, outOfRangeOf, orderOf, firstOf, readingOf, townOf}
 use Rattle.order_laws.specs.Minutes.{LaterOrder}
@@ -45,7 +45,7 @@ more-minutes Qiyam = lit≤ tt
 more-minutes FajrTomorrow = lit≤ tt
 
 pub can-be-met : LaterOrder earlier later
-unfolding readingOf firstOf checkOf walkOf faultOf valueFaultOf firstBefore lengthAt unsignedOf lengthFits choiceFits offsetOf hasOf valueOf startOf missingOf firstFailing tagsFrom outOfRangeOf inRangeOf fitsOf lookUp textFits rowsFit minuteFits minutesFit intervalFits dateIn rowsIn degreesIn minutesIn byteOr degreesOr roundingOr minutesOr intervalOr parametersIn orderOf townOf signedOf joinedOf bitsOf floatOf timeAdjustmentsOf existsOf leapOf lengthOf daysBeforeOf ordinalOf countBelow monthOf ofOrdinalOf daysBeforeYearOf dayNumberOf lastBy yearOf dateAtOf dateOfDayOf heldOf fromOf le neg ofBits round dec
+unfolding readingOf firstOf checkOf walkOf faultOf valueFaultOf firstBefore lengthAt unsignedOf lengthFits choiceFits offsetOf hasOf valueOf startOf missingOf firstFailing tagsFrom outOfRangeOf inRangeOf fitsOf lookUp textFits rowsFit minuteFits minutesFit intervalFits dateIn rowsIn degreesIn minutesIn byteOr degreesOr roundingOr minutesOr intervalOr parametersIn rulesIn orderOf townOf signedOf joinedOf bitsOf floatOf timeAdjustmentsOf existsOf leapOf lengthOf daysBeforeOf ordinalOf countBelow monthOf ofOrdinalOf daysBeforeYearOf dayNumberOf lastBy yearOf dateAtOf dateOfDayOf heldOf fromOf le neg ofBits round dec
 can-be-met =
     record {
       first = orderOf (valuesOf earlier);

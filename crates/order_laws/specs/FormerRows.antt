@@ -30,7 +30,7 @@ formerRowsFit date v = eqb (length v) 1 && (between 1 250 (formerRowsIn v) && le
 -- the record with the rows that tag 3 gave, all else as it is read today
 unfoldable pub withRows : Order → ℕ → Order
 withRows order rows =
-    record { town = order .town; date = order .date; rows = rows; coordinates = order .coordinates; parameters = order .parameters }
+    record { town = order .town; date = order .date; rows = rows; coordinates = order .coordinates; parameters = order .parameters; rules = order .rules }
 
 -- today's checks with tag 3's as it was. A value of another length was refused by the form of the fields; which number refused it is not asked here,
 -- only what was accepted.

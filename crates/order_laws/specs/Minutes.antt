@@ -34,6 +34,7 @@ withOwnMinutes order town minutes =
       rows = order .rows;
       coordinates = order .coordinates;
       parameters = withMinutes (order .parameters) minutes;
+      rules = order .rules;
     }
 
 -- "accepted when its bytes pass every check before the day"; "differ only in schools' own minutes when all that the tags other than 11 give, a

@@ -3,12 +3,13 @@ use Prim.Native.Nat.{ℕ}
 use mathlib.Core.Bool.{true, false}
 use lib.IntN.{ℤ, pos}
 use Rattle.models.specs.Minutes.{sixMinutesOf}
-use Rattle.models.specs.Numbers.{methodOf, methodNumberOf, madhabOf, madhabNumberOf, ruleOf, ruleNumberOf, roundingOf, roundingNumberOf, shafaqOf, shafaqNumberOf}
+use Rattle.models.specs.Numbers.{methodOf, methodNumberOf, madhabOf, madhabNumberOf, ruleOf, ruleNumberOf, roundingOf, roundingNumberOf, shafaqOf, shafaqNumberOf, midnightOf}
 use Rattle.models.specs.Presets.{presetOf}
 use Rattle.calendar.specs.declared.dates.Date.{Date}
 use Rattle.unit.specs.declared.Coordinates.{Coordinates}
 use Rattle.models.specs.declared.adjustments.TimeAdjustment.{TimeAdjustment}
 use Rattle.models.specs.declared.parameters.Parameters.{Parameters}
+use Rattle.models.specs.declared.rules.Rules.{Rules}
 use Rattle.solar.specs.declared.hours.HourNumbers.{HourNumbers}
 use Rattle.schedule.specs.declared.hours.RowNumbers.{RowNumbers}
 use Rattle.schedule.specs.declared.prayer_times.PrayerTimes.{PrayerTimes}
@@ -20,6 +21,7 @@ use Rattle.schedule.specs.declared.in_force.Remaining.the-variants.{In, Nothing
 use Rattle.probes.specs.declared.days.ProbeSun.{ProbeSun}
 use Rattle.probes.specs.declared.days.ProbeNumbers.{ProbeNumbers}
 use Rattle.probes.specs.declared.days.ProbeSettings.{ProbeSettings}
+use Rattle.probes.specs.declared.days.ProbeRules.{ProbeRules}
 use Rattle.probes.specs.declared.days.ProbeTimes.{ProbeTimes}
 use Rattle.probes.specs.declared.days.ProbeDay.{ProbeDay}
 use Rattle.probes.specs.declared.days.ProbeRemaining.{ProbeRemaining}
@@ -50,6 +52,9 @@ parametersFrom s =
       rounding = roundingOf (s .rounding);
       shafaq = shafaqOf (s .shafaq);
     }
+
+abbrev pub rulesFrom : ProbeRules → Rules
+rulesFrom r = record { midnight = midnightOf (r .carry) }
 
 unfoldable pub settingsOf : Parameters → ProbeSettings
 settingsOf p =

@@ -7,7 +7,7 @@ ghost use Rattle.unit.specs.Unit.{coordinatesOf};
 ghost use Rattle.schedule.specs.Hours.{hoursOf};
 ghost use Rattle.schedule.specs.Times.{workedOf, workedAt};
 ghost use Rattle.schedule.specs.InForce.{currentTimeOf, currentNumberOf, nextOf, timeRemainingOf};
-ghost use Rattle.probes.specs.Days.{sunOf, rowOf, minutesFrom, parametersFrom, settingsOf, probeTimesOf, noTimes, probeDayOf, timesFrom, instantFrom, probeRemainingOf};
+ghost use Rattle.probes.specs.Days.{sunOf, rowOf, minutesFrom, parametersFrom, rulesFrom, settingsOf, probeTimesOf, noTimes, probeDayOf, timesFrom, instantFrom, probeRemainingOf};
 use calendar::dates::Date;
 use models::adjustments::TimeAdjustment;
 use models::high_altitude_rule::HighLatitudeRule;
@@ -15,6 +15,8 @@ use models::madhab::Madhab;
 use models::method::Method;
 use models::parameters::Parameters;
 use models::rounding::Rounding;
+use models::rules::Midnight;
+use models::rules::Rules;
 use models::shafaq::Shafaq;
 use schedule::hours::RowNumbers;
 use schedule::in_force::Current;
@@ -73,6 +75,12 @@ pub struct ProbeTimes {
     pub middle_of_the_night: i64,
     pub qiyam: i64,
     pub fajr_tomorrow: i64,
+}
+
+// The rules by their numbers.
+#[repr(C)]
+pub struct ProbeRules {
+    pub carry: u32,
 }
 
 // A refusal's number and place, and no times; or 0, 0 and the times.
@@ -141,6 +149,14 @@ fn parameters(s: ProbeSettings) -> Parameters
         method_adjustments: method_adjustments,
         rounding: Rounding::of_number(s.rounding),
         shafaq: Shafaq::of_number(s.shafaq),
+    }
+}
+
+fn rules(r: ProbeRules) -> Rules
+    ensures { λ result. ⌜ result ≡ rulesFrom r ⌝ }
+{
+    Rules {
+        midnight: Midnight::of_number(r.carry),
     }
 }
 
@@ -232,14 +248,16 @@ pub extern "C" fn probe_day(
     day: u32,
     latitude: f64,
     settings: ProbeSettings,
+    chosen: ProbeRules,
 ) -> ProbeDay
-    ensures { λ r. ⌜ r ≡ probeDayOf (workedOf (hoursOf (rowOf numbers)) (dateOf year month day) latitude (parametersFrom settings)) ⌝ }
+    ensures { λ r. ⌜ r ≡ probeDayOf (workedOf (hoursOf (rulesFrom chosen .midnight) (rowOf numbers)) (dateOf year month day) latitude (parametersFrom settings)) ⌝ }
 {
     answered(PrayerTimes::new(
         row(numbers),
         Date::new(year, month, day),
         latitude,
         parameters(settings),
+        rules(chosen),
     ))
 }
 
@@ -252,13 +270,14 @@ pub extern "C" fn probe_row(
     latitude: f64,
     longitude: f64,
     settings: ProbeSettings,
+    chosen: ProbeRules,
 ) -> ProbeDay
-    ensures { λ r. ⌜ r ≡ probeDayOf (workedAt (dateOf year month day) (coordinatesOf latitude longitude) (parametersFrom settings)) ⌝ }
+    ensures { λ r. ⌜ r ≡ probeDayOf (workedAt (dateOf year month day) (coordinatesOf latitude longitude) (parametersFrom settings) (rulesFrom chosen)) ⌝ }
 {
     let date = Date::new(year, month, day);
     let parameters = parameters(settings);
     let numbers = RowNumbers::new(date, Coordinates::new(latitude, longitude), parameters);
-    answered(PrayerTimes::new(numbers, date, latitude, parameters))
+    answered(PrayerTimes::new(numbers, date, latitude, parameters, rules(chosen)))
 }
 
 fn prayer_times(t: ProbeTimes) -> PrayerTimes

@@ -13,11 +13,13 @@ ghost use Rattle.calendar.specs.Gregorian.{dateOf};
 ghost use Rattle.unit.specs.Unit.{angleOf, coordinatesOf};
 ghost use Rattle.solar.specs.Hours.{angleNumberOf, afternoonNumberOf};
 ghost use Rattle.solar.specs.Shared.{dateCourseOf};
-ghost use Rattle.models.specs.Numbers.{shafaqOf};
+ghost use Rattle.models.specs.Numbers.{shafaqOf, midnightOf};
 ghost use Rattle.ops.specs.Season.{daysSinceSolsticeOf, seasonAdjustedMorningTwilightOf, seasonAdjustedEveningTwilightOf};
 ghost use Rattle.solar.specs.Setting.{settingHourOf};
+ghost use Rattle.solar.specs.Times.{solarHourOf};
 ghost use Rattle.probes.specs.Functions.{probeSunOf, probeHoursOf, probeTimeOf};
 use calendar::dates::Date;
+use models::rules::Midnight;
 use models::shafaq::Shafaq;
 use ops::season::days_since_solstice;
 use ops::season::season_adjusted_evening_twilight;
@@ -29,6 +31,7 @@ use solar::hours::date_sun;
 use solar::hours::hour_numbers;
 use solar::setting::SolarHour;
 use solar::setting::setting_hour;
+use solar::times::solar_hour;
 use unit::Angle;
 use unit::Coordinates;
 
@@ -253,6 +256,14 @@ pub extern "C" fn probe_setting_hour(value: f64) -> ProbeTime
     ensures { λ r. ⌜ r ≡ probeTimeOf (settingHourOf value) ⌝ }
 {
     time(setting_hour(value))
+}
+
+// By the rule of a number.
+#[no_mangle]
+pub extern "C" fn probe_solar_hour(carry: u32, value: f64) -> ProbeTime
+    ensures { λ r. ⌜ r ≡ probeTimeOf (solarHourOf (midnightOf carry) value) ⌝ }
+{
+    time(solar_hour(Midnight::of_number(carry), value))
 }
 
 #[no_mangle]

@@ -7,6 +7,7 @@ use Rattle.calendar.specs.Gregorian.{existsOf}
 use Rattle.calendar.specs.declared.dates.Date.{Date}
 use Rattle.calendar.proofs.Successors.{back}
 use Rattle.models.specs.declared.parameters.Parameters.{Parameters}
+use Rattle.models.specs.declared.rules.Rules.{Rules}
 use Rattle.ops.specs.Shared.{observerOf}
 use Rattle.solar.specs.Coordinates.{positionOf}
 use Rattle.schedule.specs.Hours.{dayHoursOf, rowHoursOf, hoursOf}
@@ -17,16 +18,16 @@ use Rattle.row_suns.specs.declared.DaySun.{DaySun}
 use Rattle.row_suns.specs.declared.RowSuns.{RowSuns}
 use Rattle.row_suns.specs.RowSuns.{daySunOf, rowSunsOf, nextRowSunsOf, rowSunsHoursOf}
 
-pub rolled-hours : (date : Date) (place : Coordinates) (p : Parameters)
-    → rowSunsHoursOf (place .latitude) p (rowSunsOf date place p) ≡ hoursOf (numbersOf date place p)
+pub rolled-hours : (date : Date) (place : Coordinates) (p : Parameters) (rules : Rules)
+    → rowSunsHoursOf (place .latitude) p rules (rowSunsOf date place p rules) ≡ hoursOf (rules .midnight) (numbersOf date place p)
 unfolding rowSunsHoursOf rowSunsOf daySunOf hoursOf dayHoursOf rowHoursOf
-rolled-hours date place p = ap hoursOf (row-shared date place p)
+rolled-hours date place p rules = ap (hoursOf (rules .midnight)) (row-shared date place p)
 
 -- the next row's suns are those of the next date
-pub rolls : (date : Date) (place : Coordinates) (p : Parameters) → existsOf date ≡ true → date .year + 1 ≤ 4294967295
-    → nextRowSunsOf place p (rowSunsOf date place p) ≡ rowSunsOf (tomorrowOf date) place p
+pub rolls : (date : Date) (place : Coordinates) (p : Parameters) (rules : Rules) → existsOf date ≡ true → date .year + 1 ≤ 4294967295
+    → nextRowSunsOf place p rules (rowSunsOf date place p rules) ≡ rowSunsOf (tomorrowOf date) place p rules
 unfolding nextRowSunsOf rowSunsOf
-rolls date place p h l =
+rolls date place p rules h l =
     let next = tomorrowOf date in
     let second = tomorrowOf next in
     let third = tomorrowOf second in
@@ -37,7 +38,7 @@ rolls date place p h l =
       observer = observerOf place;
       «at_second» = positionOf third;
       «at_third» = positionOf fourth;
-      today = daySunOf place p (courseAt place d next second);
-      tomorrow = daySunOf place p (courseAt place next second third);
-      after = daySunOf place p (courseAt place second third fourth);
+      today = daySunOf place p rules (courseAt place d next second);
+      tomorrow = daySunOf place p rules (courseAt place next second third);
+      after = daySunOf place p rules (courseAt place second third fourth);
     }) (sym (back date h l))

@@ -3,6 +3,7 @@ use lib.Ieee.{Float}
 use Rattle.calendar.specs.Answers.{yesterdayOf, tomorrowOf}
 use Rattle.calendar.specs.declared.dates.Date.{Date}
 use Rattle.models.specs.declared.parameters.Parameters.{Parameters}
+use Rattle.models.specs.declared.rules.Rules.{Rules}
 use Rattle.ops.specs.declared.transit.Course.{Course}
 use Rattle.ops.specs.Shared.{observerOf}
 use Rattle.solar.specs.Coordinates.{positionOf}
@@ -14,13 +15,13 @@ use Rattle.unit.specs.declared.Coordinates.{Coordinates}
 use Rattle.row_suns.specs.declared.DaySun.{DaySun}
 use Rattle.row_suns.specs.declared.RowSuns.{RowSuns}
 
-unfoldable pub daySunOf : Coordinates → Parameters → Course → DaySun
-daySunOf place p course =
-    record { course = course; hours = dayHoursOf (courseNumbersOf course) (fajrNumberOf p (place .latitude) (courseAngleNumberOf course)) }
+unfoldable pub daySunOf : Coordinates → Parameters → Rules → Course → DaySun
+daySunOf place p rules course =
+    record { course = course; hours = dayHoursOf (rules .midnight) (courseNumbersOf course) (fajrNumberOf p (place .latitude) (courseAngleNumberOf course)) }
 
 -- a row's, from its date
-unfoldable pub rowSunsOf : Date → Coordinates → Parameters → RowSuns
-rowSunsOf date place p =
+unfoldable pub rowSunsOf : Date → Coordinates → Parameters → Rules → RowSuns
+rowSunsOf date place p rules =
     let observer = observerOf place in
     let next = tomorrowOf date in
     let second = tomorrowOf next in
@@ -31,14 +32,14 @@ rowSunsOf date place p =
       observer = observer;
       «at_second» = positionOf second;
       «at_third» = positionOf third;
-      today = daySunOf place p (courseOver place observer (positionOf (yesterdayOf date)) (positionOf date) (positionOf next));
-      tomorrow = daySunOf place p (courseOver place observer (positionOf date) (positionOf next) (positionOf second));
-      after = daySunOf place p (courseOver place observer (positionOf next) (positionOf second) (positionOf third));
+      today = daySunOf place p rules (courseOver place observer (positionOf (yesterdayOf date)) (positionOf date) (positionOf next));
+      tomorrow = daySunOf place p rules (courseOver place observer (positionOf date) (positionOf next) (positionOf second));
+      after = daySunOf place p rules (courseOver place observer (positionOf next) (positionOf second) (positionOf third));
     }
 
 -- the next row's, from this one's: one new position and one new sun
-unfoldable pub nextRowSunsOf : Coordinates → Parameters → RowSuns → RowSuns
-nextRowSunsOf place p r =
+unfoldable pub nextRowSunsOf : Coordinates → Parameters → Rules → RowSuns → RowSuns
+nextRowSunsOf place p rules r =
     let fourth = tomorrowOf (r .third) in
     record {
       date = tomorrowOf (r .date);
@@ -48,11 +49,11 @@ nextRowSunsOf place p r =
       «at_third» = positionOf fourth;
       today = r .tomorrow;
       tomorrow = r .after;
-      after = daySunOf place p (courseOver place (r .observer) (r .«at_second») (r .«at_third») (positionOf fourth));
+      after = daySunOf place p rules (courseOver place (r .observer) (r .«at_second») (r .«at_third») (positionOf fourth));
     }
 
 -- the sun's times that the row is worked from
-unfoldable pub rowSunsHoursOf : Float → Parameters → RowSuns → RowHours
-rowSunsHoursOf latitude p r =
-    rowHoursOf (r .today .hours) (r .tomorrow .hours) (r .after .hours .sun)
+unfoldable pub rowSunsHoursOf : Float → Parameters → Rules → RowSuns → RowHours
+rowSunsHoursOf latitude p rules r =
+    rowHoursOf (rules .midnight) (r .today .hours) (r .tomorrow .hours) (r .after .hours .sun)
     (asrNumberOf p (courseAfternoonNumberOf (r .today .course) latitude)) (ishaNumberOf p latitude (courseAngleNumberOf (r .today .course)))

@@ -5,6 +5,7 @@ ghost use Rattle.row_suns.specs.RowSuns.{daySunOf, rowSunsOf, nextRowSun
 ghost use Rattle.schedule.specs.Times.{workedOf};
 use calendar::dates::Date;
 use models::parameters::Parameters;
+use models::rules::Rules;
 use ops::transit::Course;
 use ops::transit::Observer;
 use schedule::hours::DayHours;
@@ -38,12 +39,14 @@ pub struct RowSuns {
     pub after: DaySun,
 }
 
-fn day_sun(coordinates: Coordinates, parameters: Parameters, course: Course) -> DaySun
-    ensures { λ r. ⌜ r ≡ daySunOf coordinates parameters course ⌝ }
+fn day_sun(coordinates: Coordinates, parameters: Parameters, rules: Rules, course: Course) -> DaySun
+    ensures { λ r. ⌜ r ≡ daySunOf coordinates parameters rules course ⌝ }
 {
+    let midnight = rules.midnight;
     DaySun {
         course: course,
         hours: DayHours::new(
+            midnight,
             hour_numbers(course),
             fajr_number(parameters, coordinates.latitude, course),
         ),
@@ -52,8 +55,13 @@ fn day_sun(coordinates: Coordinates, parameters: Parameters, course: Course) -> 
 
 impl RowSuns {
     // The first row's.
-    pub fn new(date: Date, coordinates: Coordinates, parameters: Parameters) -> RowSuns
-        ensures { λ r. ⌜ r ≡ rowSunsOf date coordinates parameters ⌝ }
+    pub fn new(
+        date: Date,
+        coordinates: Coordinates,
+        parameters: Parameters,
+        rules: Rules,
+    ) -> RowSuns
+        ensures { λ r. ⌜ r ≡ rowSunsOf date coordinates parameters rules ⌝ }
     {
         let observer = Observer::new(coordinates);
         let next = date.tomorrow();
@@ -73,15 +81,15 @@ impl RowSuns {
             observer: observer,
             at_second: at_second,
             at_third: at_third,
-            today: day_sun(coordinates, parameters, today),
-            tomorrow: day_sun(coordinates, parameters, tomorrow),
-            after: day_sun(coordinates, parameters, after),
+            today: day_sun(coordinates, parameters, rules, today),
+            tomorrow: day_sun(coordinates, parameters, rules, tomorrow),
+            after: day_sun(coordinates, parameters, rules, after),
         }
     }
 
-    // The next row's, for the same place and parameters.
-    pub fn next(self, coordinates: Coordinates, parameters: Parameters) -> RowSuns
-        ensures { λ r. ⌜ r ≡ nextRowSunsOf coordinates parameters self ⌝ }
+    // The next row's, for the same place, parameters and rules.
+    pub fn next(self, coordinates: Coordinates, parameters: Parameters, rules: Rules) -> RowSuns
+        ensures { λ r. ⌜ r ≡ nextRowSunsOf coordinates parameters rules self ⌝ }
     {
         let date = self.date;
         let observer = self.observer;
@@ -101,14 +109,15 @@ impl RowSuns {
             at_third: at_fourth,
             today: today,
             tomorrow: tomorrow,
-            after: day_sun(coordinates, parameters, course),
+            after: day_sun(coordinates, parameters, rules, course),
         }
     }
 
     // The row's times, or its refusal.
-    pub fn work(self, latitude: f64, parameters: Parameters) -> Worked
-        ensures { λ r. ⌜ r ≡ workedOf (rowSunsHoursOf latitude parameters self) (self .date) latitude parameters ⌝ }
+    pub fn work(self, latitude: f64, parameters: Parameters, rules: Rules) -> Worked
+        ensures { λ r. ⌜ r ≡ workedOf (rowSunsHoursOf latitude parameters rules self) (self .date) latitude parameters ⌝ }
     {
+        let midnight = rules.midnight;
         let date = self.date;
         let today = self.today;
         let tomorrow = self.tomorrow;
@@ -117,6 +126,7 @@ impl RowSuns {
         let last = after.hours;
         let sun = last.sun;
         let hours = RowHours::of_days(
+            midnight,
             today.hours,
             tomorrow.hours,
             sun,

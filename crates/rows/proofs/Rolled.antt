@@ -26,34 +26,34 @@ use Rattle.rows.proofs.Lengths.{lineOf, lines-length, line-made}
 
 -- the state of a row
 abbrev pub stateOf : Order → ℕ → RowSuns
-stateOf o k = rowSunsOf (rowDateOf (o .date) k) (o .coordinates) (o .parameters)
+stateOf o k = rowSunsOf (rowDateOf (o .date) k) (o .coordinates) (o .parameters) (o .rules)
 
 module _ (o : Order) (a : Accepted o) where
-  pub first-state : rowSunsOf (o .date) (o .coordinates) (o .parameters) ≡ stateOf o 0
+  pub first-state : rowSunsOf (o .date) (o .coordinates) (o .parameters) (o .rules) ≡ stateOf o 0
   first-state =
       let d = o .date in
       let there = a .date .there in
       let y = row-year d there 0 (a .row 0 (a .rows .0) .to) in
-      ap (λ (x : Date). rowSunsOf x (o .coordinates) (o .parameters)) (sym (row-is d there 0 (omega arith) ∙ row-first d there))
+      ap (λ (x : Date). rowSunsOf x (o .coordinates) (o .parameters) (o .rules)) (sym (row-is d there 0 (omega arith) ∙ row-first d there))
 
   module _ (k : ℕ) (h : k < o .rows) where
-    pub next-state : nextRowSunsOf (o .coordinates) (o .parameters) (stateOf o k) ≡ stateOf o (k + 1)
+    pub next-state : nextRowSunsOf (o .coordinates) (o .parameters) (o .rules) (stateOf o k) ≡ stateOf o (k + 1)
     next-state =
         let d = o .date in
         let there = a .date .there in
         let r = a .row k h in
         let to = r .to in
         let y = row-year d there k to in
-        rolls (rowDateOf d k) (o .coordinates) (o .parameters) (r .there) (omega arith)
-        ∙ ap (λ (x : Date). rowSunsOf x (o .coordinates) (o .parameters)) (sym (row-tomorrow d there k (omega arith)))
+        rolls (rowDateOf d k) (o .coordinates) (o .parameters) (o .rules) (r .there) (omega arith)
+        ∙ ap (λ (x : Date). rowSunsOf x (o .coordinates) (o .parameters) (o .rules)) (sym (row-tomorrow d there k (omega arith)))
 
-    pub state-line : lineText (stateOf o k .date) (workedOf (rowSunsHoursOf (o .coordinates .latitude) (o .parameters) (stateOf o k)) (stateOf o k .date) (o .coordinates .latitude) (o .parameters))
+    pub state-line : lineText (stateOf o k .date) (workedOf (rowSunsHoursOf (o .coordinates .latitude) (o .parameters) (o .rules) (stateOf o k)) (stateOf o k .date) (o .coordinates .latitude) (o .parameters))
         ≡ lineOf o k
     unfolding workRowOf rowSunsOf
     state-line =
         simp (lt-ltb k (o .rows) h)
         (ap (λ (x : RowHours). lineText (rowDateOf (o .date) k) (workedOf x (rowDateOf (o .date) k) (o .coordinates .latitude) (o .parameters)))
-        (rolled-hours (rowDateOf (o .date) k) (o .coordinates) (o .parameters)))
+        (rolled-hours (rowDateOf (o .date) k) (o .coordinates) (o .parameters) (o .rules)))
 
 -- Before a row its suns are there, and the lines of those before it.
 pub record Run (o : Order) (buffer : List ℕ) (at : ℕ) (now : List ℕ) (suns : RowSuns) (row end : ℕ) : Type 0 where
@@ -65,7 +65,7 @@ pub record Run (o : Order) (buffer : List ℕ) (at : ℕ) (now : List ℕ) (suns
 
 -- the line that a row's suns give
 abbrev pub madeLine : Order → RowSuns → List ℕ
-madeLine o r = lineText (r .date) (workedOf (rowSunsHoursOf (o .coordinates .latitude) (o .parameters) r) (r .date) (o .coordinates .latitude) (o .parameters))
+madeLine o r = lineText (r .date) (workedOf (rowSunsHoursOf (o .coordinates .latitude) (o .parameters) (o .rules) r) (r .date) (o .coordinates .latitude) (o .parameters))
 
 module _ (o : Order) (a : Accepted o) (buffer : List ℕ) (at : ℕ) (room : at + fullRow * mostRows ≤ length buffer) where
   pub run-line : (now : List ℕ) (suns : RowSuns) (row end : ℕ) → Run o buffer at now suns row end

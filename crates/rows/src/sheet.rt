@@ -64,18 +64,19 @@ fn put_rows(buffer: &mut [u8], at: usize, order: Order) -> usize
 {
     let coordinates = order.coordinates;
     let parameters = order.parameters;
+    let rules = order.rules;
     let latitude = coordinates.latitude;
-    let mut suns = RowSuns::new(order.date, coordinates, parameters);
+    let mut suns = RowSuns::new(order.date, coordinates, parameters, rules);
     let mut row = 0;
     let mut end = at;
     loop {
-        let worked = suns.work(latitude, parameters);
+        let worked = suns.work(latitude, parameters, rules);
         end = end + put_line(&mut buffer[..], end, suns.date, worked);
         row = row + 1;
         if row >= order.rows {
             return end;
         }
-        suns = suns.next(coordinates, parameters);
+        suns = suns.next(coordinates, parameters, rules);
     }
 }
 

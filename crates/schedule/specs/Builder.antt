@@ -4,6 +4,7 @@ use Rattle.calendar.specs.Gregorian.{dateOf}
 use Rattle.calendar.specs.declared.dates.Date.{Date}
 use Rattle.float64.specs.Ops.{dec}
 use Rattle.models.specs.declared.parameters.Parameters.{Parameters}
+use Rattle.models.specs.Chosen.{sourceRules}
 use Rattle.models.specs.Settings.{parametersNewOf}
 use Rattle.unit.specs.declared.Coordinates.{Coordinates}
 use Rattle.unit.specs.Unit.{coordinatesOf}
@@ -37,4 +38,4 @@ withConfigurationOf s p = record { dated = s .dated; date = s .date; located = s
 unfoldable pub calculateOf : PrayerSchedule → Calculated
 calculateOf s =
     cond (s .dated && s .located && s .configured)
-    (Worked (workedAt (s .date) (s .coordinates) (s .params))) Missing
+    (Worked (workedAt (s .date) (s .coordinates) (s .params) sourceRules)) Missing

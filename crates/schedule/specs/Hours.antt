@@ -1,5 +1,6 @@
--- The sun's times that a row is worked from, each in seconds from 0h of its own date.
+-- The sun's times that a row is worked from, by the rule that its order chooses at midnight, each in seconds from 0h of its own date.
 use lib.Ieee.{Float}
+use Rattle.models.specs.declared.rules.Midnight.{Midnight}
 use Rattle.refusals.specs.Refusals.{refusal}
 use Rattle.solar.specs.declared.hours.HourNumbers.{HourNumbers}
 use Rattle.solar.specs.declared.times.SolarDay.{SolarDay}
@@ -20,19 +21,20 @@ sunsOf (day.Whole x) (day.Whole y) (day.Lacks n) = Lacks (refusal n 2)
 sunsOf (day.Whole x) (day.Whole y) (day.Whole z) = Whole (record { today = x; tomorrow = y; after = z })
 
 -- a day's sun and its Fajr
-unfoldable pub dayHoursOf : HourNumbers → Float → DayHours
-dayHoursOf n fajr = record { sun = solarTimeOf n; fajr = solarHourOf fajr }
+unfoldable pub dayHoursOf : Midnight → HourNumbers → Float → DayHours
+dayHoursOf rule n fajr = record { sun = solarTimeOf rule n; fajr = solarHourOf rule fajr }
 
 -- the date's day, the next one and the sun of the one after that; and the numbers of the date's Asr and Isha
-unfoldable pub rowHoursOf : DayHours → DayHours → SolarDay → Float → Float → RowHours
-rowHoursOf today tomorrow after asr isha =
+unfoldable pub rowHoursOf : Midnight → DayHours → DayHours → SolarDay → Float → Float → RowHours
+rowHoursOf rule today tomorrow after asr isha =
     record {
       suns = sunsOf (today .sun) (tomorrow .sun) after;
       fajr = today .fajr;
-      asr = solarHourOf asr;
-      isha = solarHourOf isha;
+      asr = solarHourOf rule asr;
+      isha = solarHourOf rule isha;
       «fajr_tomorrow» = tomorrow .fajr;
     }
 
-unfoldable pub hoursOf : RowNumbers → RowHours
-hoursOf n = rowHoursOf (dayHoursOf (n .today) (n .fajr)) (dayHoursOf (n .tomorrow) (n .«fajr_tomorrow»)) (solarTimeOf (n .after)) (n .asr) (n .isha)
+unfoldable pub hoursOf : Midnight → RowNumbers → RowHours
+hoursOf rule n =
+    rowHoursOf rule (dayHoursOf rule (n .today) (n .fajr)) (dayHoursOf rule (n .tomorrow) (n .«fajr_tomorrow»)) (solarTimeOf rule (n .after)) (n .asr) (n .isha)

@@ -3,7 +3,7 @@
 use mathlib.Core.Bool.{Bool, true, false, cond}
 use lib.IntN.{pos}
 use lib.Signed.{ltZ}
-use lib.Ieee.{Float, binary64, neg, ofInt}
+use lib.Ieee.{Float, nan, binary64, neg, ofInt}
 use Rattle.float64.specs.Ops.{dec}
 use Rattle.calendar.specs.Answers.{yesterdayOf, tomorrowOf}
 use Rattle.calendar.specs.declared.dates.Date.{Date}
@@ -16,9 +16,9 @@ use Rattle.unit.specs.Unit.{angleOf}
 use Rattle.schedule.specs.declared.hours.RowNumbers.{RowNumbers}
 use Rattle.schedule.specs.Twilight.{bySeventhOf}
 
--- where nothing asks for an angle's number, 0.0 stands, which has no time
+-- where nothing asks for an angle's number, a NaN stands, which has no time by either rule
 abbrev noNumber : Float
-noNumber = dec 0 0
+noNumber = nan
 
 -- by the numbers that a day's sun gives to angles, before and after the transit
 unfoldable pub fajrNumberOf : Parameters → Float → (Angle → Bool → Float) → Float

@@ -8,6 +8,7 @@ use Rattle.models.specs.declared.parameters.Parameters.{Parameters}
 use Rattle.models.specs.declared.prayer.Prayer.{Prayer}
 use Rattle.models.specs.declared.prayer.Prayer.the-variants.{Fajr, Sunrise, Dhuhr, Asr, Maghrib, Isha}
 use Rattle.models.specs.declared.rounding.Rounding.the-variants.{Nearest}
+use Rattle.models.specs.declared.rules.Rules.{Rules}
 use Rattle.models.specs.Settings.{timeAdjustmentsOf}
 use Rattle.stride.specs.Times.{roundedOf, adjustedOf}
 use Rattle.night_portions.specs.Portions.{middleOf, lastThirdOf}
@@ -88,9 +89,9 @@ workedFrom (Whole suns) h date latitude p = Times (timesOf p latitude date suns 
 unfoldable pub workedOf : RowHours → Date → Float → Parameters → Worked
 workedOf h date latitude p = workedFrom (h .suns) h date latitude p
 
--- the whole way: from date, place and parameters
-abbrev pub workedAt : Date → Coordinates → Parameters → Worked
-workedAt date place p = workedOf (hoursOf (numbersOf date place p)) date (place .latitude) p
+-- the whole way: from date, place, parameters and rules
+abbrev pub workedAt : Date → Coordinates → Parameters → Rules → Worked
+workedAt date place p rules = workedOf (hoursOf (rules .midnight) (numbersOf date place p)) date (place .latitude) p
 
 -- what holds of each of the nine
 pub record Each (C : ℤ → Type 0) (t : PrayerTimes) : Type 0 where

@@ -2,6 +2,7 @@
 // them here.
 ghost use mathlib.Core.Path.{_≡_};
 ghost use Rattle.schedule.specs.Hours.{sunsOf, dayHoursOf, rowHoursOf, hoursOf};
+use models::rules::Midnight;
 use refusals::Refusal;
 use solar::hours::HourNumbers;
 use solar::setting::SolarHour;
@@ -70,12 +71,12 @@ impl Suns {
 }
 
 impl DayHours {
-    pub fn new(numbers: HourNumbers, fajr: f64) -> DayHours
-        ensures { λ r. ⌜ r ≡ dayHoursOf numbers fajr ⌝ }
+    pub fn new(rule: Midnight, numbers: HourNumbers, fajr: f64) -> DayHours
+        ensures { λ r. ⌜ r ≡ dayHoursOf rule numbers fajr ⌝ }
     {
         DayHours {
-            sun: SolarTime::new(numbers),
-            fajr: solar_hour(fajr),
+            sun: SolarTime::new(rule, numbers),
+            fajr: solar_hour(rule, fajr),
         }
     }
 }
@@ -83,13 +84,14 @@ impl DayHours {
 impl RowHours {
     // From the date's day, the next one and the sun of the one after that, and the numbers of the date's Asr and Isha.
     pub fn of_days(
+        rule: Midnight,
         today: DayHours,
         tomorrow: DayHours,
         after: SolarDay,
         asr: f64,
         isha: f64,
     ) -> RowHours
-        ensures { λ r. ⌜ r ≡ rowHoursOf today tomorrow after asr isha ⌝ }
+        ensures { λ r. ⌜ r ≡ rowHoursOf rule today tomorrow after asr isha ⌝ }
     {
         let sun = today.sun;
         let next = tomorrow.sun;
@@ -98,19 +100,20 @@ impl RowHours {
         RowHours {
             suns: Suns::new(sun, next, after),
             fajr: fajr,
-            asr: solar_hour(asr),
-            isha: solar_hour(isha),
+            asr: solar_hour(rule, asr),
+            isha: solar_hour(rule, isha),
             fajr_tomorrow: fajr_tomorrow,
         }
     }
 
-    pub fn new(numbers: RowNumbers) -> RowHours
-        ensures { λ r. ⌜ r ≡ hoursOf numbers ⌝ }
+    pub fn new(rule: Midnight, numbers: RowNumbers) -> RowHours
+        ensures { λ r. ⌜ r ≡ hoursOf rule numbers ⌝ }
     {
         RowHours::of_days(
-            DayHours::new(numbers.today, numbers.fajr),
-            DayHours::new(numbers.tomorrow, numbers.fajr_tomorrow),
-            SolarTime::new(numbers.after),
+            rule,
+            DayHours::new(rule, numbers.today, numbers.fajr),
+            DayHours::new(rule, numbers.tomorrow, numbers.fajr_tomorrow),
+            SolarTime::new(rule, numbers.after),
             numbers.asr,
             numbers.isha,
         )

@@ -5,6 +5,7 @@ ghost use Rattle.solar.specs.Shared.{courseAngleNumberOf, courseAfternoonNumber
 use super::hours::RowNumbers;
 use super::twilight::by_seventh;
 use calendar::dates::Date;
+use float64::words::not_a_number;
 use models::madhab::Madhab;
 use models::parameters::Parameters;
 use ops::transit::Course;
@@ -17,27 +18,27 @@ use solar::hours::sun;
 use unit::Angle;
 use unit::Coordinates;
 
-// 0.0, which has no time, where a seventh of the night takes the angle's place.
+// A NaN, which has no time by either rule, where a seventh of the night takes the angle's place.
 pub fn fajr_number(parameters: Parameters, latitude: f64, sun: Course) -> f64
     ensures { λ r. ⌜ r ≡ fajrNumberOf parameters latitude (courseAngleNumberOf sun) ⌝ }
 {
     let method = parameters.method;
     if by_seventh(method, latitude) {
-        return 0.0;
+        return not_a_number();
     }
     angle_number(sun, Angle::new(-parameters.fajr_angle), false)
 }
 
-// 0.0 where an interval or a seventh of the night takes the angle's place.
+// A NaN where an interval or a seventh of the night takes the angle's place.
 pub fn isha_number(parameters: Parameters, latitude: f64, sun: Course) -> f64
     ensures { λ r. ⌜ r ≡ ishaNumberOf parameters latitude (courseAngleNumberOf sun) ⌝ }
 {
     let method = parameters.method;
     if parameters.isha_interval > 0 {
-        return 0.0;
+        return not_a_number();
     }
     if by_seventh(method, latitude) {
-        return 0.0;
+        return not_a_number();
     }
     angle_number(sun, Angle::new(-parameters.isha_angle), true)
 }

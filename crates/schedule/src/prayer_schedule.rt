@@ -6,6 +6,7 @@ use super::prayer_times::PrayerTimes;
 use super::prayer_times::Worked;
 use calendar::dates::Date;
 use models::parameters::Parameters;
+use models::rules::Rules;
 use unit::Coordinates;
 
 pub struct PrayerSchedule {
@@ -78,7 +79,14 @@ impl PrayerSchedule {
             if self.located {
                 if self.configured {
                     let numbers = RowNumbers::new(date, coordinates, params);
-                    let worked = PrayerTimes::new(numbers, date, coordinates.latitude, params);
+                    let rules = Rules::source();
+                    let worked = PrayerTimes::new(
+                        numbers,
+                        date,
+                        coordinates.latitude,
+                        params,
+                        rules,
+                    );
                     return Calculated::Worked(worked);
                 }
             }

@@ -19,6 +19,7 @@ use calendar::dates::Date;
 use models::parameters::Parameters;
 use models::prayer::Prayer;
 use models::rounding::Rounding;
+use models::rules::Rules;
 use night_portions::portions::last_third;
 use night_portions::portions::middle;
 use refusals::Refusal;
@@ -203,9 +204,16 @@ impl RowHours {
 }
 
 impl PrayerTimes {
-    pub fn new(numbers: RowNumbers, date: Date, latitude: f64, parameters: Parameters) -> Worked
-        ensures { λ r. ⌜ r ≡ workedOf (hoursOf numbers) date latitude parameters ⌝ }
+    pub fn new(
+        numbers: RowNumbers,
+        date: Date,
+        latitude: f64,
+        parameters: Parameters,
+        rules: Rules,
+    ) -> Worked
+        ensures { λ r. ⌜ r ≡ workedOf (hoursOf (rules .midnight) numbers) date latitude parameters ⌝ }
     {
-        RowHours::new(numbers).work(date, latitude, parameters)
+        let midnight = rules.midnight;
+        RowHours::new(midnight, numbers).work(date, latitude, parameters)
     }
 }

@@ -9,6 +9,7 @@ use Rattle.calendar.specs.declared.dates.Date.{Date}
 use Rattle.models.specs.declared.adjustments.TimeAdjustment.{TimeAdjustment}
 use Rattle.models.specs.declared.parameters.Parameters.{Parameters}
 use Rattle.models.specs.declared.prayer.Prayer.{Prayer}
+use Rattle.models.specs.declared.rules.Midnight.{Midnight}
 use Rattle.refusals.specs.declared.Refusal.{Refusal}
 use Rattle.models.specs.Settings.{timeAdjustmentsOf}
 use Rattle.unit.specs.declared.Coordinates.{Coordinates}
@@ -63,18 +64,19 @@ module _ (p : Parameters) (minutes : TimeAdjustment) (more : (prayer : Prayer) �
   by-suns (Whole suns) h x k =
       worked-alike p (withMinutes p minutes) _ _ (none-earlier p minutes latitude date suns h more held held-q x k) (exactly p minutes latitude date suns h)
 
-  by-numbers : (n : RowNumbers) → Moved p (withMinutes p minutes) (workedOf (hoursOf n) date latitude p) (workedOf (hoursOf n) date latitude (withMinutes p minutes))
+  by-numbers : (rule : Midnight) (n : RowNumbers) → Moved p (withMinutes p minutes) (workedOf (hoursOf rule n) date latitude p) (workedOf (hoursOf rule n) date latitude (withMinutes p minutes))
   unfolding workedOf
-  by-numbers n = let h = hours n in by-suns (hoursOf n .suns) (hoursOf n) (h .suns) (h .«fajr_tomorrow»)
+  by-numbers rule n = let h = hours rule n in by-suns (hoursOf rule n .suns) (hoursOf rule n) (h .suns) (h .«fajr_tomorrow»)
 
 pub later-minutes-move-the-day : LaterMinutesMoveTheDay
-later-minutes-move-the-day n date latitude p q h =
+later-minutes-move-the-day rule n date latitude p q h =
     let e = h .alike in
-    subst (λ (x : Parameters). Moved p x (workedOf (hoursOf n) date latitude p) (workedOf (hoursOf n) date latitude x)) e
+    subst (λ (x : Parameters). Moved p x (workedOf (hoursOf rule n) date latitude p) (workedOf (hoursOf rule n) date latitude x)) e
     (by-numbers p (q .adjustments) (λ (prayer : Prayer). subst (λ (x : Parameters). timeAdjustmentsOf p prayer ≼ timeAdjustmentsOf x prayer) (sym e) (h .more prayer)) (h .«first_held»)
     (λ (prayer : Prayer). subst (λ (x : Parameters). Near (2 ^ 32) (timeAdjustmentsOf x prayer)) (sym e) (h .«second_held» prayer))
     latitude
     date
+    rule
     n)
 
 -- ---- from date and place on
@@ -83,8 +85,9 @@ unfolding numbersOf fajrNumberOf asrNumberOf ishaNumberOf
 numbers-alike date place p minutes = refl
 
 pub later-minutes-move-the-row : LaterMinutesMoveTheRow
-later-minutes-move-the-row date place p q h =
+later-minutes-move-the-row date place rules p q h =
+    let rule = rules .midnight in
     let n = numbersOf date place p in
     let e : numbersOf date place q ≡ n = ap (numbersOf date place) (sym (h .alike)) ∙ numbers-alike date place p (q .adjustments) in
-    subst (λ (m : RowNumbers). Moved p q (workedOf (hoursOf n) date (place .latitude) p) (workedOf (hoursOf m) date (place .latitude) q)) (sym e)
-    (later-minutes-move-the-day n date (place .latitude) p q h)
+    subst (λ (m : RowNumbers). Moved p q (workedOf (hoursOf rule n) date (place .latitude) p) (workedOf (hoursOf rule m) date (place .latitude) q)) (sym e)
+    (later-minutes-move-the-day rule n date (place .latitude) p q h)

@@ -123,7 +123,9 @@ module _ (p : Parameters) (carried : Carried p) (latitude : Float) (there : Lati
 
 pub times-lie-by-their-date : TimesLieByTheirDate
 unfolding workedOf
-times-lie-by-their-date n date latitude p t there carried e = let h = hours n in worked p carried latitude there date (hoursOf n .suns) (hoursOf n) t (h .suns) h e
+times-lie-by-their-date rule n date latitude p t there carried e =
+    let h = hours rule n in
+    worked p carried latitude there date (hoursOf rule n .suns) (hoursOf rule n) t (h .suns) h e
 
 pub days-are-one-digit : DaysAreOneDigit
 days-are-one-digit date time h = by-sign (time -ℤ startOf date) (h .from) (h .before)

@@ -16,6 +16,7 @@ use Rattle.models.specs.declared.high_altitude_rule.HighLatitudeRule.{HighLatit
 use Rattle.models.specs.declared.high_altitude_rule.HighLatitudeRule.the-variants.{MiddleOfTheNight, SeventhOfTheNight, TwilightAngle}
 use Rattle.models.specs.declared.parameters.Parameters.{Parameters}
 use Rattle.models.specs.declared.rounding.Rounding.the-variants.{Nearest}
+use Rattle.models.specs.declared.rules.Midnight.{Midnight}
 use Rattle.models.specs.Settings.{portionsOf, nightPortionsOf}
 use Rattle.stride.proofs.TimesLaws.{rounded-between}
 use Rattle.night_portions.specs.Portions.{portionAfterOf, seventhOf}
@@ -28,7 +29,7 @@ use Rattle.solar.specs.declared.times.SolarTime.{SolarTime}
 use Rattle.solar.specs.declared.times.SolarDay.{SolarDay}
 use Rattle.solar.specs.declared.times.SolarDay.the-variants as day
 use Rattle.solar.specs.Times.{solarHourOf, solarTimeOf}
-use Rattle.solar.proofs.SettingLaws.{OfThreeDays, SunOfThreeDays, DayOfThreeDays, setting-range, day-held}
+use Rattle.solar.proofs.TimesLaws.{SunOfThreeDays, DayOfThreeDays, hour-range, day-held}
 use Rattle.schedule.specs.declared.hours.ThreeSuns.{ThreeSuns}
 use Rattle.schedule.specs.declared.hours.Suns.{Suns}
 use Rattle.schedule.specs.declared.hours.Suns.the-variants.{Whole, Lacks}
@@ -47,8 +48,8 @@ Days a b z = Between (a * 86400) (b * 86400) z
 abbrev pub SunHour : SolarHour → Type 0
 SunHour hour = HourBetween 86400 (2 * 86400) hour
 
-sun-hour : (value : Float) → SunHour (solarHourOf value)
-sun-hour value = record { at = λ t e. wider (setting-range value t e) (lit≤ tt) (lit≤ tt) }
+sun-hour : (rule : Midnight) (value : Float) → SunHour (solarHourOf rule value)
+sun-hour rule value = record { at = λ t e. wider (hour-range rule value t e) (lit≤ tt) (lit≤ tt) }
 
 pub record Sun (sun : SolarTime) : Type 0 where
   pub transit : Days 1 2 (sun .transit)
@@ -82,15 +83,15 @@ pub record Hours (h : RowHours) : Type 0 where
   pub isha : SunHour (h .isha)
   pub «fajr_tomorrow» : SunHour (h .«fajr_tomorrow»)
 
-pub hours : (n : RowNumbers) → Hours (hoursOf n)
+pub hours : (rule : Midnight) (n : RowNumbers) → Hours (hoursOf rule n)
 unfolding hoursOf rowHoursOf dayHoursOf
-hours n =
+hours rule n =
     record {
-      suns = row (solarTimeOf (n .today)) (solarTimeOf (n .tomorrow)) (solarTimeOf (n .after)) (day-held (n .today)) (day-held (n .tomorrow)) (day-held (n .after));
-      fajr = sun-hour (n .fajr);
-      asr = sun-hour (n .asr);
-      isha = sun-hour (n .isha);
-      «fajr_tomorrow» = sun-hour (n .«fajr_tomorrow»);
+      suns = row (solarTimeOf rule (n .today)) (solarTimeOf rule (n .tomorrow)) (solarTimeOf rule (n .after)) (day-held rule (n .today)) (day-held rule (n .tomorrow)) (day-held rule (n .after));
+      fajr = sun-hour rule (n .fajr);
+      asr = sun-hour rule (n .asr);
+      isha = sun-hour rule (n .isha);
+      «fajr_tomorrow» = sun-hour rule (n .«fajr_tomorrow»);
     }
 
 -- ---- the night and its portions

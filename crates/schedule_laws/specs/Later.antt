@@ -1,5 +1,5 @@
 -- Two sets of parameters that differ only in a school's own minutes (demand 3): what the second's larger sums do to the days that are refused, to
--- the nine times and to the prayer in force. For all hour numbers, every date and every latitude. Proved in proofs/LaterLaws.
+-- the nine times and to the prayer in force. For all hour numbers, either rule at midnight, every date and every latitude. Proved in proofs/LaterLaws.
 use mathlib.Core.Path.{_≡_}
 use Prim.Native.Nat.{_^_, _≤_, _<_}
 use lib.IntN.{ℤ, pos, _+ℤ_, _-ℤ_, _*ℤ_}
@@ -11,6 +11,8 @@ use Rattle.models.specs.declared.adjustments.TimeAdjustment.{TimeAdjustment}
 use Rattle.models.specs.declared.parameters.Parameters.{Parameters}
 use Rattle.models.specs.declared.prayer.Prayer.{Prayer}
 use Rattle.models.specs.declared.prayer.Prayer.the-variants.{Fajr, Sunrise, Dhuhr, Asr, Maghrib, Isha}
+use Rattle.models.specs.declared.rules.Midnight.{Midnight}
+use Rattle.models.specs.declared.rules.Rules.{Rules}
 use Rattle.refusals.specs.declared.Refusal.{Refusal}
 use Rattle.models.specs.Settings.{timeAdjustmentsOf}
 use Rattle.unit.specs.declared.Coordinates.{Coordinates}
@@ -93,9 +95,11 @@ pub record Moved (p q : Parameters) (w v : Worked) : Type 0 where
 
 abbrev pub LaterMinutesMoveTheDay : Type 0
 LaterMinutesMoveTheDay =
-    (n : RowNumbers) (date : Date) (latitude : Float) (p q : Parameters) → LaterMinutes p q
-    → Moved p q (workedOf (hoursOf n) date latitude p) (workedOf (hoursOf n) date latitude q)
+    (rule : Midnight) (n : RowNumbers) (date : Date) (latitude : Float) (p q : Parameters) → LaterMinutes p q
+    → Moved p q (workedOf (hoursOf rule n) date latitude p) (workedOf (hoursOf rule n) date latitude q)
 
 -- from date and place on: the minutes change no hour number
 abbrev pub LaterMinutesMoveTheRow : Type 0
-LaterMinutesMoveTheRow = (date : Date) (place : Coordinates) (p q : Parameters) → LaterMinutes p q → Moved p q (workedAt date place p) (workedAt date place q)
+LaterMinutesMoveTheRow =
+    (date : Date) (place : Coordinates) (rules : Rules) (p q : Parameters) → LaterMinutes p q
+    → Moved p q (workedAt date place p rules) (workedAt date place q rules)

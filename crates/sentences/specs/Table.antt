@@ -48,6 +48,7 @@ names =
     ∷ ascii " fajr angle, tag"
     ∷ ascii " isha angle, tag"
     ∷ ascii " isha interval, tag"
+    ∷ ascii " carry, tag"
     ∷ []
 
 unfoldable pub textOf : ℕ → List ℕ

@@ -6,7 +6,7 @@ ghost use Rattle.sentences.specs.Rows.{filled, endOf};
 // One more than the last number, and than the last tag.
 const NUMBERS: usize = 18;
 
-const TAGS: usize = 15;
+const TAGS: usize = 16;
 
 const TEXTS: [[u8; 64]; NUMBERS] = [
     *b"                                                                ",
@@ -45,6 +45,7 @@ const NAMES: [[u8; 64]; TAGS] = [
     *b" fajr angle, tag                                                ",
     *b" isha angle, tag                                                ",
     *b" isha interval, tag                                             ",
+    *b" carry, tag                                                     ",
 ];
 
 // A number's text; blanks alone for a number that is not known.

@@ -1,4 +1,4 @@
--- The arithmetic of `hour` at what the machine reads, and its two times. Assumes nothing.
+-- The arithmetic of `hour` and `next_midnight` at what the machine reads, and their times. Assumes nothing.
 use mathlib.Core.Path.{_≡_, sym, ap, subst, _∙_}
 use Prim.Native.Nat.{ℕ, _+_, _*_, _≤_, _<_}
 use native.Mathlib.Omega.{arith}
@@ -7,15 +7,17 @@ use lib.Dec.{ltb}
 use borrow.Author.Tests.{lt-ltb, le-ltb}
 use mir.Syntax.{w32}
 use mir.Val.{SFits, toZ, ofZ}
-use Rattle.integers.proofs.Sums.{sum}
+use Rattle.integers.proofs.PartsLaws.{same}
+use Rattle.integers.proofs.Sums.{sum, difference}
 use Rattle.integers.proofs.Ranges.{fits, read}
 use Rattle.solar.specs.Setting.{hourOf}
+use Rattle.solar.specs.PastMidnight.{nextMidnightOf}
 use Rattle.solar.specs.declared.setting.SolarHour.the-variants.{At}
 use Rattle.solar.specs.declared.setting.Placed.{Placed}
 
 -- a day before the second n
 module _ (n : ℕ) (h : n < 2147483648) where
-  n-is : toZ w32 n ≡ pos n
+  pub n-is : toZ w32 n ≡ pos n
   n-is = read w32 (pos n) (record { sfits = omega arith })
 
   pub back-fits : SFits w32 (toZ w32 n -ℤ pos 86400)
@@ -34,3 +36,11 @@ module _ (p : Placed) (minute : ℕ) where
   pub next-hour : 60 ≤ minute → p .hour < 23 → At (pos (p .ahead * 86400 + (p .hour + 1) * 3600) -ℤ pos 86400) ≡ hourOf p minute
   unfolding hourOf
   next-hour h k = rw (le-ltb minute 60 h, lt-ltb (p .hour) 23 k)
+
+-- 0h of the date after the one taken
+pub midnight : (ahead : ℕ) → ahead * 86400 < 2147483648 → At (toZ w32 (ahead * 86400)) ≡ nextMidnightOf ahead
+midnight ahead h =
+    let n = ahead * 86400 in
+    let m = (ahead + 1) * 86400 + 0 * 3600 + 0 * 60 in
+    let d = difference (pos m) (pos 86400) in
+    ap At (n-is n h ∙ same (pos n) (pos m -ℤ pos 86400) (omega (arith, d .0, d .1)))

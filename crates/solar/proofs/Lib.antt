@@ -1,3 +1,7 @@
 pub mod SettingLaws
 pub mod Cases
 pub mod SharedLaws
+pub mod PastMidnightLaws
+pub mod Taken
+pub mod PastMidnightSentences
+pub mod TimesLaws

@@ -1,5 +1,5 @@
--- Where the times of `setting_hour` lie: from 0h of yesterday to before 24h of tomorrow, for every hour number that has a time. Assumes nothing.
-use mathlib.Core.Path.{_≡_, refl, subst}
+-- Where the times of `setting_hour` lie: from 0h of yesterday to 24h of tomorrow, for every hour number that has a time. Assumes nothing.
+use mathlib.Core.Path.{_≡_, refl}
 use mathlib.Core.Bool.{Bool, true, false, cond}
 use Prim.Native.Nat.{ℕ, _+_, _*_, _≤_, _<_}
 use native.Mathlib.Omega.{arith}
@@ -16,19 +16,14 @@ use Rattle.float64.specs.Whole.{floorOf}
 use Rattle.solar.specs.declared.setting.SolarHour.{SolarHour}
 use Rattle.solar.specs.declared.setting.SolarHour.the-variants.{At, None}
 use Rattle.solar.specs.declared.setting.Placed.{Placed}
-use Rattle.solar.specs.declared.times.SolarTime.{SolarTime}
-use Rattle.solar.specs.declared.times.SolarDay.{SolarDay}
-use Rattle.solar.specs.declared.times.SolarDay.the-variants.{Whole, Lacks}
-use Rattle.solar.specs.declared.hours.HourNumbers.{HourNumbers}
 use Rattle.solar.specs.Setting.{hourAdjustmentOf, minuteOf, hourOf, settingHourOf}
-use Rattle.solar.specs.Times.{solarHourOf, dayOf, solarTimeOf}
 
--- the earliest time of the sun, in seconds before 0h of its date, and the latest
+-- the earliest time of the sun, in seconds before 0h of its date, and the latest, which only a number that is carried past midnight comes to
 abbrev pub earliestSun : ℕ
 earliestSun = 86400
 
 abbrev pub latestSun : ℕ
-latestSun = 172799
+latestSun = 172800
 
 abbrev pub OfThreeDays : ℤ → Type 0
 OfThreeDays t = Between earliestSun latestSun t
@@ -39,7 +34,7 @@ HourOfThreeDays (At t) = OfThreeDays t
 HourOfThreeDays None = 0 ≤ 0
 
 -- so many seconds from 0h of yesterday
-counted : (n : ℕ) → n ≤ earliestSun + latestSun → OfThreeDays (pos n -ℤ pos 86400)
+pub counted : (n : ℕ) → n ≤ earliestSun + latestSun → OfThreeDays (pos n -ℤ pos 86400)
 counted n h = let d = difference (pos n) (pos 86400) in by-balance earliestSun latestSun (pos n -ℤ pos 86400) (omega (arith, d .0, d .1)) (omega (arith, d .0, d .1))
 
 where-so : (b : Bool) (t : ℤ) → (b ≡ true → OfThreeDays t) → HourOfThreeDays (cond b (At t) None)
@@ -60,7 +55,7 @@ hour-held p minute h = by-test (ltb minute 60) refl
         where-so (ltb (p .hour) 23) (pos (p .ahead * 86400 + (p .hour + 1) * 3600) -ℤ pos 86400)
         (λ k. counted (p .ahead * 86400 + (p .hour + 1) * 3600) (omega (arith, ltb-true (p .hour) 23 k)))
 
-ahead-held : (hours : Float) → hourAdjustmentOf hours .ahead ≤ 2
+pub ahead-held : (hours : Float) → hourAdjustmentOf hours .ahead ≤ 2
 unfolding hourAdjustmentOf
 ahead-held hours = by-tests (lt hours (dec 0 0)) (lt hours (dec 24 0)) _ _ _
   where
@@ -76,26 +71,3 @@ setting-held value = by-test (isNormalOf value)
     by-test : (b : Bool) → HourOfThreeDays (cond b (hourOf (hourAdjustmentOf (floorOf value)) (minuteOf value (floorOf value))) None)
     by-test true = hour-held (hourAdjustmentOf (floorOf value)) (minuteOf value (floorOf value)) (ahead-held (floorOf value))
     by-test false = lit≤ tt
-
-pub setting-range : (value : Float) (t : ℤ) → settingHourOf value ≡ At t → OfThreeDays t
-setting-range value t e = subst HourOfThreeDays e (setting-held value)
-
--- ---- and so of a day's sun, where it is whole
-pub record SunOfThreeDays (sun : SolarTime) : Type 0 where
-  pub transit : OfThreeDays (sun .transit)
-  pub sunrise : OfThreeDays (sun .sunrise)
-  pub sunset : OfThreeDays (sun .sunset)
-
-abbrev pub DayOfThreeDays : SolarDay → Type 0
-DayOfThreeDays (Whole sun) = SunOfThreeDays sun
-DayOfThreeDays (Lacks n) = 0 ≤ n
-
-pub day-held : (n : HourNumbers) → DayOfThreeDays (solarTimeOf n)
-unfolding solarTimeOf dayOf
-day-held n = by-hours (solarHourOf (n .transit)) (solarHourOf (n .sunrise)) (solarHourOf (n .sunset)) (setting-held (n .transit)) (setting-held (n .sunrise)) (setting-held (n .sunset))
-  where
-    by-hours : (t r s : SolarHour) → HourOfThreeDays t → HourOfThreeDays r → HourOfThreeDays s → DayOfThreeDays (dayOf t r s)
-    by-hours None r s h k l = lit≤ tt
-    by-hours (At t) None s h k l = lit≤ tt
-    by-hours (At t) (At r) None h k l = lit≤ tt
-    by-hours (At t) (At r) (At s) h k l = record { transit = h; sunrise = k; sunset = l }

@@ -2,4 +2,5 @@ pub mod Coordinates
 pub mod Hours
 pub mod Setting
 pub mod Shared
+pub mod PastMidnight
 pub mod Times

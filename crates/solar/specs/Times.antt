@@ -3,6 +3,8 @@
 use mathlib.Core.Bool.{Bool}
 use lib.Ieee.{Float}
 use Rattle.refusals.specs.Refusals.{noTransit, noSunrise, noSunset}
+use Rattle.models.specs.declared.rules.Midnight.{Midnight}
+use Rattle.models.specs.declared.rules.Midnight.the-variants.{Stops, Carries}
 use Rattle.ops.specs.declared.transit.Course.{Course}
 use Rattle.unit.specs.declared.Angle.{Angle}
 use Rattle.solar.specs.declared.hours.HourNumbers.{HourNumbers}
@@ -13,10 +15,12 @@ use Rattle.solar.specs.declared.times.SolarDay.{SolarDay}
 use Rattle.solar.specs.declared.times.SolarDay.the-variants.{Whole, Lacks}
 use Rattle.solar.specs.Shared.{courseAngleNumberOf, courseAfternoonNumberOf}
 use Rattle.solar.specs.Setting.{settingHourOf}
+use Rattle.solar.specs.PastMidnight.{carriedHourOf}
 
--- the time of an hour number, by the crate's rule
-abbrev pub solarHourOf : Float → SolarHour
-solarHourOf number = settingHourOf number
+-- the time of an hour number: by the source's rule, or carried past midnight
+unfoldable pub solarHourOf : Midnight → Float → SolarHour
+solarHourOf Stops number = settingHourOf number
+solarHourOf Carries number = carriedHourOf number
 
 -- no transit is 6, no sunrise 7, no sunset 8, tried in that order
 unfoldable pub dayOf : SolarHour → SolarHour → SolarHour → SolarDay
@@ -25,11 +29,11 @@ dayOf (At t) None sunset = Lacks noSunrise
 dayOf (At t) (At r) None = Lacks noSunset
 dayOf (At t) (At r) (At s) = Whole (record { transit = t; sunrise = r; sunset = s })
 
-unfoldable pub solarTimeOf : HourNumbers → SolarDay
-solarTimeOf n = dayOf (solarHourOf (n .transit)) (solarHourOf (n .sunrise)) (solarHourOf (n .sunset))
+unfoldable pub solarTimeOf : Midnight → HourNumbers → SolarDay
+solarTimeOf rule n = dayOf (solarHourOf rule (n .transit)) (solarHourOf rule (n .sunrise)) (solarHourOf rule (n .sunset))
 
-abbrev pub timeForSolarAngleOf : Course → Angle → Bool → SolarHour
-timeForSolarAngleOf course angle after = solarHourOf (courseAngleNumberOf course angle after)
+abbrev pub timeForSolarAngleOf : Midnight → Course → Angle → Bool → SolarHour
+timeForSolarAngleOf rule course angle after = solarHourOf rule (courseAngleNumberOf course angle after)
 
-abbrev pub afternoonOf : Course → Float → Float → SolarHour
-afternoonOf course latitude shadow = solarHourOf (courseAfternoonNumberOf course latitude shadow)
+abbrev pub afternoonOf : Midnight → Course → Float → Float → SolarHour
+afternoonOf rule course latitude shadow = solarHourOf rule (courseAfternoonNumberOf course latitude shadow)

@@ -41,7 +41,7 @@ pub fn hour_adjustment(calculated_hours: f64) -> Placed
 }
 
 // The nearest minute. The floored seconds can be -1, so all of this stays in floats.
-fn minute(value: f64, calculated_hours: f64) -> u32
+pub(crate) fn minute(value: f64, calculated_hours: f64) -> u32
     ensures { λ r. ⌜ r ≡ minuteOf value «calculated_hours» ⌝ }
 {
     let calculated_minutes = floor((value - calculated_hours) * 60.0);
@@ -51,7 +51,7 @@ fn minute(value: f64, calculated_hours: f64) -> u32
     to_u32(round(calculated_minutes + calculated_seconds / 60.0))
 }
 
-fn hour(p: Placed, minute: u32) -> SolarHour
+pub(crate) fn hour(p: Placed, minute: u32) -> SolarHour
     ensures { λ r. ⌜ r ≡ hourOf p minute ⌝ }
 {
     let ahead = p.ahead;

@@ -5,19 +5,24 @@ ghost use Rattle.solar.specs.Times.{solarHourOf, dayOf, solarTimeOf, tim
 use super::hours::HourNumbers;
 use super::hours::afternoon_number;
 use super::hours::angle_number;
+use super::past_midnight::carried_hour;
 use super::setting::SolarHour;
 use super::setting::setting_hour;
+use models::rules::Midnight;
 use ops::transit::Course;
 use refusals::NO_SUNRISE;
 use refusals::NO_SUNSET;
 use refusals::NO_TRANSIT;
 use unit::Angle;
 
-// The time of an hour number, where it has one. No other place asks for the rule.
-pub fn solar_hour(number: f64) -> SolarHour
-    ensures { λ r. ⌜ r ≡ solarHourOf number ⌝ }
+// The time of an hour number by a rule, where it has one. No other place asks for the rule.
+pub fn solar_hour(rule: Midnight, number: f64) -> SolarHour
+    ensures { λ r. ⌜ r ≡ solarHourOf rule number ⌝ }
 {
-    setting_hour(number)
+    match rule {
+        Midnight::Stops => setting_hour(number),
+        Midnight::Carries => carried_hour(number),
+    }
 }
 
 pub struct SolarTime {
@@ -53,27 +58,32 @@ fn day(transit: SolarHour, sunrise: SolarHour, sunset: SolarHour) -> SolarDay
 }
 
 impl SolarTime {
-    pub fn new(numbers: HourNumbers) -> SolarDay
-        ensures { λ r. ⌜ r ≡ solarTimeOf numbers ⌝ }
+    pub fn new(rule: Midnight, numbers: HourNumbers) -> SolarDay
+        ensures { λ r. ⌜ r ≡ solarTimeOf rule numbers ⌝ }
     {
         day(
-            solar_hour(numbers.transit),
-            solar_hour(numbers.sunrise),
-            solar_hour(numbers.sunset),
+            solar_hour(rule, numbers.transit),
+            solar_hour(rule, numbers.sunrise),
+            solar_hour(rule, numbers.sunset),
         )
     }
 }
 
 // The time at which the sun stands at an angle.
-pub fn time_for_solar_angle(course: Course, angle: Angle, after_transit: bool) -> SolarHour
-    ensures { λ r. ⌜ r ≡ timeForSolarAngleOf course angle «after_transit» ⌝ }
+pub fn time_for_solar_angle(
+    rule: Midnight,
+    course: Course,
+    angle: Angle,
+    after_transit: bool,
+) -> SolarHour
+    ensures { λ r. ⌜ r ≡ timeForSolarAngleOf rule course angle «after_transit» ⌝ }
 {
-    solar_hour(angle_number(course, angle, after_transit))
+    solar_hour(rule, angle_number(course, angle, after_transit))
 }
 
 // Asr's time.
-pub fn afternoon(course: Course, latitude: f64, shadow_length: f64) -> SolarHour
-    ensures { λ r. ⌜ r ≡ afternoonOf course latitude «shadow_length» ⌝ }
+pub fn afternoon(rule: Midnight, course: Course, latitude: f64, shadow_length: f64) -> SolarHour
+    ensures { λ r. ⌜ r ≡ afternoonOf rule course latitude «shadow_length» ⌝ }
 {
-    solar_hour(afternoon_number(course, latitude, shadow_length))
+    solar_hour(rule, afternoon_number(course, latitude, shadow_length))
 }

@@ -6,6 +6,7 @@ use float64::bits::from_bits;
 use libc::STDIN_FILENO;
 use libc::STDOUT_FILENO;
 use probes::days::ProbeNumbers;
+use probes::days::ProbeRules;
 use probes::days::ProbeSettings;
 use probes::days::ProbeSun;
 use probes::days::ProbeTimes;
@@ -143,6 +144,7 @@ fn replayed(before: Counts, line: &[u8]) -> Counts {
         day_of_month,
         real(line, 230),
         settings(line),
+        ProbeRules { carry: 0 },
     );
     let times = day.times;
     let mut c = counted(before, day.number == part(refusal / 10));

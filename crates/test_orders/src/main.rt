@@ -99,6 +99,12 @@ fn print_signed(m: i32) {
     print(size(m));
 }
 
+fn print_rules(order: Order) {
+    let rules = order.rules;
+    let midnight = rules.midnight;
+    print(wide(midnight.number()));
+}
+
 fn print_record(order: Order) {
     let numbers = unsigned_numbers(order);
     for i in 0..16 {
@@ -108,6 +114,7 @@ fn print_record(order: Order) {
     for i in 0..13 {
         print_signed(minutes[i]);
     }
+    print_rules(order);
 }
 
 fn answer(order: &[u8]) {

@@ -3,6 +3,7 @@ use crate::day_crate::Refusal;
 use crate::day_draw::{DayCase, Instant, Settings, NONE};
 use crate::draw::Case;
 use crate::in_force::InForce;
+use crate::steps::port_setting_hour;
 use chrono::Datelike;
 use salah_given::given::Numbers;
 
@@ -21,6 +22,13 @@ struct ProbeDay {
     times: ProbeTimes,
 }
 
+/// The rules by their numbers; 0 is the crate's.
+#[derive(Debug, Clone, Copy, Default)]
+#[repr(C)]
+pub struct Rules {
+    pub carry: u32,
+}
+
 #[repr(C)]
 struct ProbeRemaining {
     found: bool,
@@ -32,8 +40,8 @@ struct ProbeRemaining {
 #[link(name = "probes", kind = "static")]
 extern "C" {
     fn probe_preset(method: u32) -> Settings;
-    fn probe_day(numbers: ProbeNumbers, year: u32, month: u32, day: u32, latitude: f64, settings: Settings) -> ProbeDay;
-    fn probe_row(year: u32, month: u32, day: u32, latitude: f64, longitude: f64, settings: Settings) -> ProbeDay;
+    fn probe_day(numbers: ProbeNumbers, year: u32, month: u32, day: u32, latitude: f64, settings: Settings, rules: Rules) -> ProbeDay;
+    fn probe_row(year: u32, month: u32, day: u32, latitude: f64, longitude: f64, settings: Settings, rules: Rules) -> ProbeDay;
     fn probe_current(times: ProbeTimes, seconds: i64, nanoseconds: u32) -> u32;
     fn probe_next(times: ProbeTimes, seconds: i64, nanoseconds: u32) -> u32;
     fn probe_remaining(times: ProbeTimes, seconds: i64, nanoseconds: u32) -> ProbeRemaining;
@@ -44,13 +52,18 @@ pub fn preset(method: u32) -> Settings {
     unsafe { probe_preset(method) }
 }
 
-pub fn day(c: &DayCase) -> Result<ProbeTimes, Refusal> {
+pub fn day(c: &DayCase, rules: Rules) -> Result<ProbeTimes, Refusal> {
     let (year, month, day) = (c.date.year() as u32, c.date.month(), c.date.day());
-    answered(unsafe { probe_day(ProbeNumbers(c.numbers), year, month, day, c.latitude, c.settings) })
+    answered(unsafe { probe_day(ProbeNumbers(c.numbers), year, month, day, c.latitude, c.settings, rules) })
+}
+
+/// Whether an hour number's time is the same by both rules at midnight: it has one by the crate's, and is not below -24.
+pub fn needs_no_carrying(number: f64) -> bool {
+    number >= -24.0 && port_setting_hour(number).is_some()
 }
 
 pub fn row(c: &Case, settings: &Settings) -> Result<ProbeTimes, Refusal> {
-    answered(unsafe { probe_row(c.year, c.month, c.day, c.latitude, c.longitude, *settings) })
+    answered(unsafe { probe_row(c.year, c.month, c.day, c.latitude, c.longitude, *settings, Rules::default()) })
 }
 
 fn answered(worked: ProbeDay) -> Result<ProbeTimes, Refusal> {

@@ -1,7 +1,7 @@
 //! Days and the prayer in force: from equal hour numbers the crate's answers and the port's must be equal.
 use crate::day_crate::{self, Refusal};
 use crate::day_draw::{midnight, DayCase, Instant, METHODS, NONE};
-use crate::day_port::{self, ProbeTimes};
+use crate::day_port::{self, ProbeTimes, Rules};
 use crate::draw::Draw;
 use crate::in_force::InForce;
 use crate::summary::Line;
@@ -10,9 +10,10 @@ use salah_given::given;
 use salah_given::schedule::{access, PrayerTimes};
 
 /// What is compared, a row of the table each. The nine times come first.
-const ROWS: [&str; 16] = [
+const ROWS: [&str; 17] = [
     "Fajr", "sunrise", "dhuhr", "Asr", "Maghrib", "Isha", "middle of the night", "qiyam", "tomorrow's Fajr", "refused or not",
     "refusal's number", "refusal's day", "prayer in force", "next prayer", "time remaining", "a method's parameters",
+    "carried",
 ];
 const REFUSED_OR_NOT: usize = 9;
 const NUMBER: usize = 10;
@@ -21,6 +22,7 @@ const CURRENT: usize = 12;
 const NEXT: usize = 13;
 const REMAINING: usize = 14;
 const PRESET: usize = 15;
+const CARRIED: usize = 16;
 
 /// From here on the crate's u32 hour can wrap: the one difference that document 01 lists.
 const LISTED_FROM: f64 = 4294967296.0;
@@ -34,7 +36,7 @@ struct Count {
 
 #[derive(Default)]
 pub struct Days {
-    counts: [Count; 16],
+    counts: [Count; 17],
     printed: u64,
     unknown_panics: u64,
     with_times: u64,
@@ -82,7 +84,7 @@ impl Days {
     /// Counts a day's answers, and returns the times where both have all nine alike.
     fn day(&mut self, c: &DayCase) -> Option<(PrayerTimes, ProbeTimes)> {
         let without = without_wrapping(c);
-        let (ours, theirs) = (day_port::day(c), day_crate::day(c));
+        let (ours, theirs) = (day_port::day(c, Rules::default()), day_crate::day(c));
         let (our_day, their_day) = (ours.map(|times| times.0), theirs.map(|times| access::nine(&times)));
         let (port, by_crate) = (answer(our_day), answer(their_day));
         match theirs {
@@ -97,6 +99,11 @@ impl Days {
                     format!("port {our_day:?}, crate {their_day:?}, 0h {}, {c:?}", midnight(c.date))
                 });
             }
+        }
+        // where no number needs carrying, the rule that carries answers as the crate does
+        if c.numbers.iter().all(|number| day_port::needs_no_carrying(*number)) {
+            let carried = answer(day_port::day(c, Rules { carry: 1 }).map(|times| times.0));
+            self.count(CARRIED, carried == by_crate, listed, || format!("port {carried:?}, crate {their_day:?}, {c:?}"));
         }
         match (ours, theirs) {
             (Ok(ours), Ok(theirs)) if port == by_crate => Some((theirs, ours)),
@@ -150,7 +157,8 @@ impl Days {
             self.line("from equal hour numbers: refusals", REFUSED_OR_NOT..CURRENT),
             self.line("from equal times: prayer in force, next", CURRENT..REMAINING),
             self.line("from equal times: time remaining", REMAINING..PRESET),
-            self.line("a method's parameters", PRESET..ROWS.len()),
+            self.line("a method's parameters", PRESET..CARRIED),
+            self.line("from equal hour numbers: the rule that carries, where nothing needs it", CARRIED..ROWS.len()),
         ];
         if strayed > 0 {
             lines.push(Line::exact("from equal hour numbers: calls that stray", strayed, strayed));

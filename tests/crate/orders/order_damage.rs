@@ -2,7 +2,7 @@
 //! reading decides, not the damage.
 use crate::draw::Draw;
 use crate::order_draw::{date_value, last_date, written, Field};
-use crate::order_read::{lengths, LAST_TAG, LONGEST};
+use crate::order_read::{lengths, read, LAST_TAG, LONGEST};
 use chrono::{Datelike, Duration};
 
 /// The kinds of orders, a line of the table each.
@@ -87,7 +87,7 @@ impl Draw {
 
     /// What lies just out of each range; the ends themselves are in good orders.
     fn just_out(&mut self, fields: &mut Vec<Field>) {
-        let tag = [1, 3, 4, 5, 6, 7, 8, 9, 10, 11, 12, 13, 14][self.index(13)];
+        let tag = [1, 3, 4, 5, 6, 7, 8, 9, 10, 11, 12, 13, 14, 15][self.index(14)];
         let field = match tag {
             1 => Field::new(tag, &self.town_out()),
             3 if self.coin() => Field::new(tag, &[[0, 251, 255][self.index(3)]]),
@@ -98,6 +98,7 @@ impl Draw {
             7 => Field::new(tag, &[[0, 3, 255][self.index(3)]]),
             8..=10 => Field::new(tag, &[[3, 4, 255][self.index(3)]]),
             11 => Field::new(tag, &self.minutes_out()),
+            15 => Field::new(tag, &[[2, 255][self.index(2)]]),
             14 => Field::new(tag, &[1_441u16, 1_440 + 256, 65_535][self.index(3)].to_be_bytes()),
             _ => Field::new(tag, &[beyond(30.0), -5e-324, 30.1][self.index(3)].to_be_bytes()),
         };
@@ -225,8 +226,17 @@ impl Draw {
         }
     }
 
-    /// An order and its kind; half of them are good.
+    /// An order and its kind; half of them are good. None chooses another rule than the crate's.
     pub fn order(&mut self) -> (usize, Vec<u8>) {
+        loop {
+            let (kind, order) = self.any_order();
+            if read(&order).map_or(true, |asked| asked.is_the_crates()) {
+                return (kind, order);
+            }
+        }
+    }
+
+    fn any_order(&mut self) -> (usize, Vec<u8>) {
         let mut fields = self.good_fields();
         let kind = if self.coin() { 0 } else { 1 + self.index(KINDS.len() - 1) };
         let order = match kind {

@@ -1,6 +1,7 @@
 //! The orders that are compared: good ones here, damaged ones in order_damage.rs; the same for the same seed.
 use crate::day_draw::{NaiveDate, METHODS};
 use crate::draw::Draw;
+use crate::order_read::LAST_TAG;
 use chrono::{Datelike, Duration};
 
 /// A field as it is written; the length is free of the value's, so that a damaged order can lie.
@@ -95,7 +96,7 @@ impl Draw {
         ]
     }
 
-    /// A good field of a tag that an order may leave out, 7 to 14.
+    /// A good field of a tag that an order may leave out, from 7 on. Those that choose another rule than the crate's choose the crate's.
     pub fn may_have(&mut self, tag: u8, method: usize) -> Field {
         let brought = METHODS[method].parameters();
         match tag {
@@ -104,7 +105,8 @@ impl Draw {
             11 => Field::new(tag, &[0; 6].map(|_| (self.minutes() as i16).to_be_bytes()).concat()),
             12 => Field::new(tag, &self.order_angle(brought.fajr_angle).to_be_bytes()),
             13 => Field::new(tag, &self.order_angle(brought.isha_angle).to_be_bytes()),
-            _ => Field::new(tag, &([0, 1, 90, 1_440, self.below(1_441)][self.index(5)] as u16).to_be_bytes()),
+            14 => Field::new(tag, &([0, 1, 90, 1_440, self.below(1_441)][self.index(5)] as u16).to_be_bytes()),
+            _ => Field::new(tag, &[0]),
         }
     }
 
@@ -120,7 +122,7 @@ impl Draw {
         let mut fields = self.must_have(method);
         // none of them, all of them, or each by a coin
         let (some, all) = (self.below(8) > 0, self.below(8) == 0);
-        for tag in 7..=14 {
+        for tag in 7..=LAST_TAG {
             let field = self.may_have(tag, method);
             if all || some && self.coin() {
                 fields.push(field);

@@ -24,6 +24,8 @@ pub struct KatchidulOrder {
     pub shafaq: u32,
     pub isha_interval: u32,
     pub minutes: [i32; 6],
+    /// carry, clock, southern, ramadan, imsak, shift
+    pub choices: [i32; 6],
 }
 
 #[derive(Debug, Clone, Copy, Default, PartialEq)]
@@ -116,10 +118,10 @@ pub fn write_row(order: &[u8], row: u32, buffer: &mut [u8]) -> KatchidulReply {
 }
 
 /// The answer's fields in its order, a float by its bits, so that -0.0 is not 0.0.
-pub const ORDER_FIELDS: [&str; 24] = [
+pub const ORDER_FIELDS: [&str; 30] = [
     "number", "place", "town_at", "town_length", "year", "month", "day", "rows", "latitude", "longitude", "fajr_angle", "isha_angle",
     "method", "madhab", "high_latitude_rule", "rounding", "shafaq", "isha_interval", "minutes, Fajr", "minutes, sunrise",
-    "minutes, dhuhr", "minutes, Asr", "minutes, Maghrib", "minutes, Isha",
+    "minutes, dhuhr", "minutes, Asr", "minutes, Maghrib", "minutes, Isha", "carry", "clock", "southern", "ramadan", "imsak", "shift",
 ];
 
 impl KatchidulOrder {
@@ -131,7 +133,8 @@ impl KatchidulOrder {
         fields[8..12].copy_from_slice(&[self.latitude, self.longitude, self.fajr_angle, self.isha_angle].map(f64::to_bits));
         let choices = [method, madhab, high_latitude_rule, rounding, shafaq, isha_interval];
         fields[12..18].copy_from_slice(&choices.map(u64::from));
-        fields[18..].copy_from_slice(&self.minutes.map(|minutes| minutes as u64));
+        fields[18..24].copy_from_slice(&self.minutes.map(|minutes| minutes as u64));
+        fields[24..].copy_from_slice(&self.choices.map(|choice| choice as u64));
         fields
     }
 }

@@ -3,7 +3,7 @@
 //! of document 01, or so near its fellow that nothing but the last bits parts them, with an edge of setting_hour between the two.
 use crate::day_crate::Refusal;
 use crate::day_draw::{DayCase, Settings};
-use crate::day_port;
+use crate::day_port::{self, Rules};
 use crate::draw::{Case, Draw};
 use crate::row_crate::plain;
 use crate::row_numbers::{by_plain, by_port, used, NAMES};
@@ -42,7 +42,7 @@ pub struct Plain {
 /// What the port's second stage makes of hour numbers.
 fn from_numbers(c: &Case, settings: &Settings, numbers: Numbers) -> Row {
     let case = DayCase { numbers, date: date(c), latitude: c.latitude, settings: *settings };
-    day_port::day(&case).map(|times| times.0)
+    day_port::day(&case, Rules::default()).map(|times| times.0)
 }
 
 /// The half minute nearest to an hour number.

@@ -11,10 +11,10 @@ abbrev μ-loop : tie.MeasureT-loop
 μ-loop order numbers i₀ i = 16 - i
 
 abbrev Inv-loop2 : tie.InvT-loop2
-Inv-loop2 minutes i₀ i = i ≤ 13
+Inv-loop2 order minutes i₀ i = i ≤ 13
 
 abbrev μ-loop2 : tie.MeasureT-loop2
-μ-loop2 minutes i₀ i = 13 - i
+μ-loop2 order minutes i₀ i = 13 - i
 
 array-copy-out-print-signed :
     tie.Need-array-copy-out-print-signed Inv-loop μ-loop Inv-loop2 μ-loop2
@@ -23,4 +23,4 @@ array-copy-out-print-signed c = omega arith
 pub print-record-spec : {M : Type 1} → statement M
 print-record-spec =
     tie.close
-    (tie.spec Inv-loop μ-loop Inv-loop2 μ-loop2 (λ c κs. tt) (λ c. search needs) (λ c. search needs) (λ c. search needs) (λ c κs. tt) (λ c. search needs) (λ c. search needs) (λ c. search needs) (λ c κs. tt) (λ c. search needs) (λ c. search needs) array-copy-out-print-signed (λ c κs. tt) (λ c. search needs) (λ c. search needs) (λ c. search needs) (λ c. tt))
+    (tie.spec Inv-loop μ-loop Inv-loop2 μ-loop2 (λ c κs. tt) (λ c. search needs) (λ c. search needs) (λ c. search needs) (λ c κs. tt) (λ c. search needs) (λ c. search needs) (λ c. search needs) (λ c κs. tt) (λ c. search needs) (λ c. search needs) array-copy-out-print-signed (λ c κs. tt) (λ c. search needs) (λ c. search needs) (λ c. search needs) (λ c κs. tt) (λ c. tt))

@@ -8,8 +8,7 @@ use Rattle.katchidul.proofs.read_order.order_refused.Tie as tie
 returns : tie.Need-returns
 unfolding orderRefused dec round ofBits
 returns c =
-    let e0 = c .no-minutes .ensures in
-    simp (sym e0)
+    simp (sym (c .no-choices .ensures), sym (c .before .no-minutes .ensures))
 
 pub order-refused-spec : {M : Type 1} → statement M
-order-refused-spec = tie.close (tie.spec (λ c κs. tt) returns)
+order-refused-spec = tie.close (tie.spec (λ c κs. tt) (λ c κs. tt) returns)

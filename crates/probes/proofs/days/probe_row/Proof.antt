@@ -1,12 +1,19 @@
-use Rattle.probes.specs.Days.{probeDayOf, parametersFrom}
 use Rattle.probes.proofs.days.probe_row.Statement.{statement}
 use Rattle.probes.proofs.days.probe_row.Tie as tie
 
 returns : tie.Need-returns
-unfolding probeDayOf parametersFrom
-returns c = cc
+returns c =
+    simp (
+      c .answered .ensures,
+      c .before .new4 .ensures,
+      c .before .before .rules .ensures,
+      c .before .before .before .new3 .ensures,
+      c .before .before .before .before .new2 .ensures,
+      c .before .before .before .before .before .parameters .ensures,
+      c .before .before .before .before .before .before .new .ensures,
+    )
 
 pub probe-row-spec : {M : Type 1} → statement M
 probe-row-spec =
     tie.close
-    (tie.spec (λ c κs. tt) (λ c κs. tt) (λ c κs. tt) (λ c κs. tt) (λ c κs. tt) (λ c κs. tt) returns)
+    (tie.spec (λ c κs. tt) (λ c κs. tt) (λ c κs. tt) (λ c κs. tt) (λ c κs. tt) (λ c κs. tt) (λ c κs. tt) returns)

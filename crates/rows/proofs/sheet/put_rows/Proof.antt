@@ -12,14 +12,14 @@ use Rattle.rows.proofs.sheet.put_rows.Statement.{statement}
 use Rattle.rows.proofs.sheet.put_rows.Tie as tie
 
 abbrev Inv-loop : tie.InvT-loop
-Inv-loop buffer₀ at order coordinates parameters latitude rolling₀ row₀ end₀ buffer suns row end = Run order buffer₀ at buffer suns row end
+Inv-loop buffer₀ at order coordinates parameters rules latitude rolling₀ row₀ end₀ buffer suns row end = Run order buffer₀ at buffer suns row end
 
 abbrev μ-loop : tie.MeasureT-loop
-μ-loop buffer₀ at order coordinates parameters latitude rolling₀ row₀ end₀ buffer suns row end = order .rows - row
+μ-loop buffer₀ at order coordinates parameters rules latitude rolling₀ row₀ end₀ buffer suns row end = order .rows - row
 
 loop-holds : tie.Need-loop-holds Inv-loop μ-loop
 loop-holds c =
-    let t = c .before .before .before .before in
+    let t = c .before .before .before .before .before in
     let o = t .args .order in
     let p = t .pre in
     let n = lines-none o (now (t .args .buffer)) (t .args .at) (omega (arith, p .1)) in
@@ -27,7 +27,7 @@ loop-holds c =
 
 add-end : tie.Need-add-end Inv-loop μ-loop
 add-end c =
-    let t = c .before .before .before .before .before .before .before .before .before .before in
+    let t = c .before .before .before .before .before .before .before .before .before .before .before in
     let o = t .args .order in
     let p = t .pre in
     let l = c .before .before .before .before .before .loop in
@@ -41,7 +41,7 @@ add-end c =
 add-row : tie.Need-add-row Inv-loop μ-loop
 add-row c =
     let w = c .before .before .before .before .before .loop .inv .within in
-    let m = c .before .before .before .before .before .before .before .before .before .before .pre .0 .rows .1 in
+    let m = c .before .before .before .before .before .before .before .before .before .before .before .pre .0 .rows .1 in
     record { fits = omega arith }
 
 same-length : tie.Need-same-length Inv-loop μ-loop
@@ -49,7 +49,7 @@ same-length c = c .before .before .before .before .put-line .kept .0 ∙ c .befo
 
 returns : tie.Need-returns Inv-loop μ-loop
 returns c =
-    let t = c .before .before .before .before .before .before .before .before .before .before .before .before in
+    let t = c .before .before .before .before .before .before .before .before .before .before .before .before .before in
     let o = t .args .order in
     let p = t .pre in
     let l = c .before .before .before .before .before .before .before .loop in
@@ -66,7 +66,7 @@ loop-less c = let w = c .before .before .before .before .before .before .before 
 
 loop-again : tie.Need-loop-again Inv-loop μ-loop
 loop-again c =
-    let t = c .before .before .before .before .before .before .before .before .before .before .before .before .before in
+    let t = c .before .before .before .before .before .before .before .before .before .before .before .before .before .before in
     let o = t .args .order in
     let p = t .pre in
     let l = c .before .before .before .before .before .before .before .before .loop in
@@ -76,7 +76,7 @@ loop-again c =
     let room = run-room o (p .0) (now (t .args .buffer)) (t .args .at) (p .1) (l .row) (l .inv .within) in
     record {
       within = c .before .if1 .left;
-      state = c .next .ensures ∙ ap (nextRowSunsOf (o .coordinates) (o .parameters)) (l .inv .state) ∙ next-state o (p .0) (l .row) (l .inv .within);
+      state = c .next .ensures ∙ ap (nextRowSunsOf (o .coordinates) (o .parameters) (o .rules)) (l .inv .state) ∙ next-state o (p .0) (l .row) (l .inv .within);
       text = line .0;
       place = line .1;
       same = put .kept .0 ∙ l .inv .same;

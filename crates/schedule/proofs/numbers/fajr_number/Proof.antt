@@ -1,13 +1,13 @@
-use lib.Ieee.{round, ofBits}
-use Rattle.float64.specs.Ops.{dec}
 use mathlib.Core.Path.{sym}
 use Rattle.schedule.specs.Numbers.{fajrNumberOf}
 use Rattle.schedule.proofs.numbers.fajr_number.Statement.{statement}
 use Rattle.schedule.proofs.numbers.fajr_number.Tie as tie
 
 returns : tie.Need-returns
-unfolding fajrNumberOf dec round ofBits
-returns c = simp (sym (c .before .by-seventh .ensures), c .if1 .taken)
+unfolding fajrNumberOf
+returns c =
+    let test = c .before in
+    simp (c .not-a-number .ensures, sym (test .before .by-seventh .ensures), test .if1 .taken)
 
 returns-2 : tie.Need-returns-2
 unfolding fajrNumberOf
@@ -17,4 +17,4 @@ returns-2 c =
 
 pub fajr-number-spec : {M : Type 1} → statement M
 fajr-number-spec =
-    tie.close (tie.spec (λ c κs. tt) returns (λ c κs. tt) (λ c κs. tt) returns-2)
+    tie.close (tie.spec (λ c κs. tt) (λ c κs. tt) returns (λ c κs. tt) (λ c κs. tt) returns-2)

@@ -1,34 +1,32 @@
 use mathlib.Core.Path.{sym}
 use mir.Syntax.{w32}
 use mir.Val.{SFits}
-use lib.Ieee.{round, ofBits}
 use Rattle.integers.proofs.Ranges.{read}
-use Rattle.float64.specs.Ops.{dec}
 use Rattle.schedule.specs.Numbers.{ishaNumberOf}
 use borrow.Author.Needs.{needs}
 use Rattle.schedule.proofs.numbers.isha_number.Statement.{statement}
 use Rattle.schedule.proofs.numbers.isha_number.Tie as tie
 
 returns : tie.Need-returns
-unfolding ishaNumberOf dec round ofBits
+unfolding ishaNumberOf
 returns c =
-    let t = c .before .before .before in
+    let t = c .before .before .before .before in
     let i = t .args .parameters .«isha_interval» in
     let f : SFits w32 i = search needs in
-    let e = rw (read w32 i f) at (c .if1 .taken) in
-    simp e
+    let e = rw (read w32 i f) at (c .before .if1 .taken) in
+    simp (c .not-a-number .ensures, e)
 
 returns-2 : tie.Need-returns-2
-unfolding ishaNumberOf dec round ofBits
+unfolding ishaNumberOf
 returns-2 c =
-    let t = c .before .before .before .before .before in
+    let t = c .before .before .before .before .before .before in
     let i = t .args .parameters .«isha_interval» in
     let f : SFits w32 i = search needs in
-    let e = rw (read w32 i f) at (c .before .before .if1 .left) in
-    simp (e, sym (c .before .by-seventh .ensures), c .if2 .taken)
+    let e = rw (read w32 i f) at (c .before .before .before .if1 .left) in
+    simp (c .not-a-number2 .ensures, e, sym (c .before .before .by-seventh .ensures), c .before .if2 .taken)
 
 returns-3 : tie.Need-returns-3
-unfolding ishaNumberOf dec round ofBits
+unfolding ishaNumberOf
 returns-3 c =
     let t = c .before .before .before .before .before .before .before .before in
     let i = t .args .parameters .«isha_interval» in
@@ -39,4 +37,4 @@ returns-3 c =
 pub isha-number-spec : {M : Type 1} → statement M
 isha-number-spec =
     tie.close
-    (tie.spec returns (λ c κs. tt) returns-2 (λ c κs. tt) (λ c κs. tt) returns-3)
+    (tie.spec (λ c κs. tt) returns (λ c κs. tt) (λ c κs. tt) returns-2 (λ c κs. tt) (λ c κs. tt) returns-3)

@@ -1,4 +1,3 @@
-use mathlib.Core.Path.{sym}
 use Rattle.schedule.specs.Builder.{calculateOf}
 use Rattle.schedule.proofs.prayer_schedule.PrayerSchedule.calculate.Statement.{statement}
 use Rattle.schedule.proofs.prayer_schedule.PrayerSchedule.calculate.Tie as tie
@@ -6,14 +5,14 @@ use Rattle.schedule.proofs.prayer_schedule.PrayerSchedule.calculate.Tie
 returns : tie.Need-returns
 unfolding calculateOf
 returns c =
-    let e0 = c .new2 .ensures in
-    let e1 = c .before .new .ensures in
+    let n = c .before .before in
     simp (
-      sym e0,
-      sym e1,
-      c .before .before .if3 .taken,
-      c .before .before .before .if2 .taken,
-      c .before .before .before .before .if1 .taken,
+      c .new2 .ensures,
+      c .before .source .ensures,
+      n .new .ensures,
+      n .before .if3 .taken,
+      n .before .before .if2 .taken,
+      n .before .before .before .if1 .taken,
     )
 
 returns-2 : tie.Need-returns-2
@@ -31,4 +30,4 @@ returns-4 c = simp (c .if1 .left)
 
 pub calculate-spec : {M : Type 1} → statement M
 calculate-spec =
-    tie.close (tie.spec (λ c κs. tt) (λ c κs. tt) returns returns-2 returns-3 returns-4)
+    tie.close (tie.spec (λ c κs. tt) (λ c κs. tt) (λ c κs. tt) returns returns-2 returns-3 returns-4)

@@ -1,0 +1,8 @@
+use Rattle.probes.proofs.days.rules.Statement.{statement}
+use Rattle.probes.proofs.days.rules.Tie as tie
+
+returns : tie.Need-returns
+returns c = simp (c .of-number .ensures)
+
+pub rules-spec : {M : Type 1} → statement M
+rules-spec = tie.close (tie.spec (λ c κs. tt) returns)

@@ -1,0 +1,123 @@
+-- What the carried times are: where they lie, where they are document 01's, and what they are where it has none. Assumes nothing.
+use mathlib.Core.Path.{_≡_, refl, sym, ap, subst, _∙_}
+use mathlib.Core.Bool.{Bool, true, false, cond}
+use Prim.Native.Nat.{ℕ, _+_, _*_, _≤_, _<_}
+use native.Mathlib.Omega.{arith}
+use lib.Dec.{ltb, lit≤}
+use lib.IntN.{ℤ, pos, _-ℤ_}
+use lib.Ieee.{Float}
+use borrow.Author.Tests.{ltb-true, ltb-false, lt-ltb, le-ltb}
+use Rattle.float64.specs.Sizes.{isNormalOf}
+use Rattle.float64.specs.Whole.{floorOf}
+use Rattle.solar.specs.declared.setting.SolarHour.{SolarHour}
+use Rattle.solar.specs.declared.setting.SolarHour.the-variants.{At, None}
+use Rattle.solar.specs.declared.setting.Placed.{Placed}
+use Rattle.solar.specs.Setting.{hourAdjustmentOf, minuteOf, hourOf, settingHourOf}
+use Rattle.solar.proofs.SettingLaws.{HourOfThreeDays, counted, ahead-held}
+use Rattle.solar.specs.PastMidnight.{hasTimeOf, secondOf, sumOf, restOf, nextMidnightOf, carriedOf, carriedHourOf}
+
+-- ---- the range
+rest-held : (minute : ℕ) → restOf minute < 60
+rest-held minute = by-test (ltb minute 60) refl
+  where
+    by-test : (b : Bool) → ltb minute 60 ≡ b → cond b minute 0 < 60
+    by-test true e = ltb-true minute 60 e
+    by-test false e = omega arith
+
+carry-held : (p : Placed) (minute : ℕ) → p .ahead ≤ 2 → HourOfThreeDays (carriedOf p minute)
+unfolding carriedOf
+carry-held p minute h = by-test (ltb hour 24) refl
+  where
+    hour : ℕ
+    hour = sumOf (p .hour) minute
+
+    by-test : (b : Bool) → ltb hour 24 ≡ b → HourOfThreeDays (cond b (At (secondOf (p .ahead) hour (restOf minute))) (nextMidnightOf (p .ahead)))
+    by-test true e =
+        counted (p .ahead * 86400 + hour * 3600 + restOf minute * 60) (omega (arith, ltb-true hour 24 e, rest-held minute))
+    by-test false e = counted ((p .ahead + 1) * 86400 + 0 * 3600 + 0 * 60) (omega arith)
+
+pub carried-held : (value : Float) → HourOfThreeDays (carriedHourOf value)
+unfolding carriedHourOf
+carried-held value = by-tests (hasTimeOf value) (isNormalOf value)
+  where
+    by-tests : (a b : Bool) → HourOfThreeDays (cond a (cond b (carriedOf (hourAdjustmentOf (floorOf value)) (minuteOf value (floorOf value))) (At (pos 0))) None)
+    by-tests true true = carry-held (hourAdjustmentOf (floorOf value)) (minuteOf value (floorOf value)) (ahead-held (floorOf value))
+    by-tests true false = record { from = lit≤ tt; to = lit≤ tt }
+    by-tests false b = lit≤ tt
+
+-- ---- beside document 01's rule
+-- what carrying makes of document 01's hour: a time stays, and none is 0h of the date after the one taken
+abbrev pub carriedFrom : SolarHour → ℕ → SolarHour
+carriedFrom (At t) ahead = At t
+carriedFrom None ahead = nextMidnightOf ahead
+
+same-time : (m n : ℕ) → m ≡ n → At (pos m -ℤ pos 86400) ≡ At (pos n -ℤ pos 86400)
+same-time m n e = ap (λ (k : ℕ). At (pos k -ℤ pos 86400)) e
+
+pub carry-from : (p : Placed) (minute : ℕ) → carriedOf p minute ≡ carriedFrom (hourOf p minute) (p .ahead)
+unfolding carriedOf hourOf
+carry-from p minute = by-test (ltb minute 60) refl
+  where
+    on : ℤ
+    on = pos (p .ahead * 86400 + p .hour * 3600 + minute * 60) -ℤ pos 86400
+
+    next : ℤ
+    next = pos (p .ahead * 86400 + (p .hour + 1) * 3600) -ℤ pos 86400
+
+    after : SolarHour
+    after = nextMidnightOf (p .ahead)
+
+    same-test : (b : Bool) → cond b (At on) after ≡ carriedFrom (cond b (At on) None) (p .ahead)
+    same-test true = refl
+    same-test false = refl
+
+    next-test : (b : Bool) → ltb (p .hour) 23 ≡ b → cond (ltb (p .hour + 1) 24) (At (secondOf (p .ahead) (p .hour + 1) 0)) after ≡ carriedFrom (cond b (At next) None) (p .ahead)
+    next-test true e = rw (lt-ltb (p .hour + 1) 24 (omega (arith, ltb-true (p .hour) 23 e))) (same-time (p .ahead * 86400 + (p .hour + 1) * 3600 + 0 * 60) (p .ahead * 86400 + (p .hour + 1) * 3600) (omega arith))
+    next-test false e = rw (le-ltb (p .hour + 1) 24 (omega (arith, ltb-false (p .hour) 23 e)))
+
+    by-test : (b : Bool) → ltb minute 60 ≡ b →
+        cond (ltb (cond b (p .hour) (p .hour + 1)) 24) (At (secondOf (p .ahead) (cond b (p .hour) (p .hour + 1)) (cond b minute 0))) after
+        ≡ carriedFrom (cond b (cond (ltb (p .hour) 24) (At on) None) (cond (ltb (p .hour) 23) (At next) None)) (p .ahead)
+    by-test true e = same-test (ltb (p .hour) 24)
+    by-test false e = next-test (ltb (p .hour) 23) refl
+
+-- the date taken: 0 is yesterday, 1 the date, 2 tomorrow
+abbrev pub takenOf : Float → ℕ
+takenOf value = hourAdjustmentOf (floorOf value) .ahead
+
+-- a normal number from -24 to below 48 has document 01's time, and where that rule has none, 0h of the date after the one taken
+pub carried-from : (value : Float) → hasTimeOf value ≡ true → isNormalOf value ≡ true → carriedHourOf value ≡ carriedFrom (settingHourOf value) (takenOf value)
+unfolding carriedHourOf settingHourOf
+carried-from value h n = rw (h, n) (carry-from (hourAdjustmentOf (floorOf value)) (minuteOf value (floorOf value)))
+
+no-time-not-normal : (value : Float) → isNormalOf value ≡ false → settingHourOf value ≡ None
+unfolding settingHourOf
+no-time-not-normal value n = rw n
+
+-- where document 01 has a time, and the number is from -24 to below 48, both times are the same
+pub carried-agrees : (value : Float) (t : ℤ) → hasTimeOf value ≡ true → settingHourOf value ≡ At t → carriedHourOf value ≡ At t
+carried-agrees value t h e = by-test (isNormalOf value) refl
+  where
+    by-test : (b : Bool) → isNormalOf value ≡ b → carriedHourOf value ≡ At t
+    by-test true n = carried-from value h n ∙ ap (λ (r : SolarHour). carriedFrom r (takenOf value)) e
+    by-test false n = absurd (none-not-at t (sym (no-time-not-normal value n) ∙ e))
+      where
+        Timed : SolarHour → Type 0
+        Timed (At u) = ⊥
+        Timed None = 0 ≤ 0
+
+        none-not-at : (u : ℤ) → None ≡ At u → ⊥
+        none-not-at u q = subst Timed q (lit≤ tt)
+
+-- where document 01 has none for a normal number from -24 to below 48, it is 0h of the date after the one taken
+pub carried-past : (value : Float) → hasTimeOf value ≡ true → isNormalOf value ≡ true → settingHourOf value ≡ None → carriedHourOf value ≡ nextMidnightOf (takenOf value)
+carried-past value h n e = carried-from value h n ∙ ap (λ (r : SolarHour). carriedFrom r (takenOf value)) e
+
+-- any other number that has a time has 0h of the date, and what has none has none
+pub carried-small : (value : Float) → hasTimeOf value ≡ true → isNormalOf value ≡ false → carriedHourOf value ≡ At (pos 0)
+unfolding carriedHourOf
+carried-small value h n = rw (h, n)
+
+pub carried-none : (value : Float) → hasTimeOf value ≡ false → carriedHourOf value ≡ None
+unfolding carriedHourOf
+carried-none value h = rw h

@@ -1,0 +1,42 @@
+use mathlib.Core.Path.{sym}
+use Rattle.solar.specs.PastMidnight.{carriedHourOf}
+use Rattle.solar.proofs.past_midnight.carried_hour.Statement.{statement}
+use Rattle.solar.proofs.past_midnight.carried_hour.Tie as tie
+
+returns : tie.Need-returns
+unfolding carriedHourOf
+returns c =
+    let e0 = c .carried .ensures in
+    let e1 = c .before .minute .ensures in
+    let e2 = c .before .before .hour-adjustment .ensures in
+    let e3 = c .before .before .before .floor .ensures in
+    let e4 = c .before .before .before .before .before .is-normal .ensures in
+    let e5 = c .before .before .before .before .before .before .before .has-time .ensures in
+    simp (
+      sym e0,
+      sym e1,
+      sym e2,
+      sym e3,
+      sym e4,
+      sym e5,
+      c .before .before .before .before .if2 .taken,
+      c .before .before .before .before .before .before .if1 .taken,
+    )
+
+returns-2 : tie.Need-returns-2
+unfolding carriedHourOf
+returns-2 c =
+    let e0 = c .before .is-normal .ensures in
+    let e1 = c .before .before .before .has-time .ensures in
+    simp (sym e0, sym e1, c .if2 .left, c .before .before .if1 .taken)
+
+returns-3 : tie.Need-returns-3
+unfolding carriedHourOf
+returns-3 c =
+    let e0 = c .before .has-time .ensures in
+    simp (sym e0, c .if1 .left)
+
+pub carried-hour-spec : {M : Type 1} → statement M
+carried-hour-spec =
+    tie.close
+    (tie.spec (λ c κs. tt) (λ c κs. tt) (λ c κs. tt) (λ c κs. tt) (λ c κs. tt) (λ c κs. tt) returns returns-2 returns-3)
