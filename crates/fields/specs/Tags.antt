@@ -36,6 +36,10 @@ tags =
     ∷ row 2 2 0 0
     -- 15: at midnight
     ∷ row 1 1 0 1
+    -- 16: no tag yet, and nothing fits it
+    ∷ row 1 0 1 0
+    -- 17: the southern season
+    ∷ row 1 1 0 1
     ∷ []
 
 abbrev pub lastTag : ℕ

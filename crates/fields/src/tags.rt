@@ -1,8 +1,8 @@
-// The table of tags: a new tag is a new row and a new last tag.
+// The table of tags: a new tag is a new row and a new last tag. A tag between that has not come yet has a row that nothing fits.
 ghost use mathlib.Core.Path.{_≡_};
 ghost use Rattle.fields.specs.Tags.{knownTag, lengthFits, choiceFits};
 
-pub const LAST_TAG: u32 = 15;
+pub const LAST_TAG: u32 = 17;
 
 // There is no tag 0, but a row stands for it.
 pub const TAGS: usize = LAST_TAG as usize + 1;
@@ -24,6 +24,8 @@ const TABLE: [[u32; 4]; TAGS] = [
     [8, 8, 0, 0],
     [8, 8, 0, 0],
     [2, 2, 0, 0],
+    [1, 1, 0, 1],
+    [1, 0, 1, 0],
     [1, 1, 0, 1],
 ];
 

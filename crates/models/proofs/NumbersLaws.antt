@@ -12,9 +12,11 @@ use Rattle.models.specs.declared.method.Method.{Method}
 use Rattle.models.specs.declared.method.Method.the-variants.{MuslimWorldLeague, Egyptian, Karachi, UmmAlQura, Dubai, MoonsightingCommittee, NorthAmerica, Kuwait, Qatar, Singapore, Tehran, Turkey, Other}
 use Rattle.models.specs.declared.rules.Midnight.{Midnight}
 use Rattle.models.specs.declared.rules.Midnight.the-variants.{Stops, Carries}
+use Rattle.models.specs.declared.rules.Southern.{Southern}
+use Rattle.models.specs.declared.rules.Southern.the-variants.{Unreduced, StartsAgain}
 use Rattle.models.specs.declared.prayer.Prayer.{Prayer}
 use Rattle.models.specs.declared.prayer.Prayer.the-variants.{Fajr, Sunrise, Dhuhr, Asr, Maghrib, Isha, Qiyam, FajrTomorrow}
-use Rattle.models.specs.Numbers.{roundingNumberOf, roundingOf, shafaqNumberOf, shafaqOf, madhabNumberOf, madhabOf, ruleNumberOf, ruleOf, midnightNumberOf, midnightOf, methodNumberOf, methodOf, prayerNumberOf, prayerOf}
+use Rattle.models.specs.Numbers.{roundingNumberOf, roundingOf, shafaqNumberOf, shafaqOf, madhabNumberOf, madhabOf, ruleNumberOf, ruleOf, midnightNumberOf, midnightOf, southernNumberOf, southernOf, methodNumberOf, methodOf, prayerNumberOf, prayerOf}
 
 pub rounding-back : (c : Rounding) → roundingOf (roundingNumberOf c) ≡ c
 unfolding roundingNumberOf roundingOf
@@ -43,6 +45,11 @@ pub midnight-back : (c : Midnight) → midnightOf (midnightNumberOf c) ≡ c
 unfolding midnightNumberOf midnightOf
 midnight-back Stops = refl
 midnight-back Carries = refl
+
+pub southern-back : (c : Southern) → southernOf (southernNumberOf c) ≡ c
+unfolding southernNumberOf southernOf
+southern-back Unreduced = refl
+southern-back StartsAgain = refl
 
 pub method-back : (c : Method) → methodOf (methodNumberOf c) ≡ c
 unfolding methodNumberOf methodOf

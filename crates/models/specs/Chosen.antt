@@ -1,6 +1,7 @@
 -- The rules that an order chooses in place of the source's: what stands where it chooses none.
 use Rattle.models.specs.declared.rules.Midnight.the-variants.{Stops}
+use Rattle.models.specs.declared.rules.Southern.the-variants.{Unreduced}
 use Rattle.models.specs.declared.rules.Rules.{Rules}
 
 abbrev pub sourceRules : Rules
-sourceRules = record { midnight = Stops }
+sourceRules = record { midnight = Stops; southern = Unreduced }

@@ -15,6 +15,8 @@ use Rattle.models.specs.declared.method.Method.{Method}
 use Rattle.models.specs.declared.method.Method.the-variants.{MuslimWorldLeague, Egyptian, Karachi, UmmAlQura, Dubai, MoonsightingCommittee, NorthAmerica, Kuwait, Qatar, Singapore, Tehran, Turkey, Other}
 use Rattle.models.specs.declared.rules.Midnight.{Midnight}
 use Rattle.models.specs.declared.rules.Midnight.the-variants.{Stops, Carries}
+use Rattle.models.specs.declared.rules.Southern.{Southern}
+use Rattle.models.specs.declared.rules.Southern.the-variants.{Unreduced, StartsAgain}
 use Rattle.models.specs.declared.prayer.Prayer.{Prayer}
 use Rattle.models.specs.declared.prayer.Prayer.the-variants.{Fajr, Sunrise, Dhuhr, Asr, Maghrib, Isha, Qiyam, FajrTomorrow}
 
@@ -65,6 +67,14 @@ midnightNumberOf Carries = 1
 
 unfoldable pub midnightOf : ℕ → Midnight
 midnightOf n = getD (Stops ∷ []) n Carries
+
+-- tag 17
+unfoldable pub southernNumberOf : Southern → ℕ
+southernNumberOf Unreduced = 0
+southernNumberOf StartsAgain = 1
+
+unfoldable pub southernOf : ℕ → Southern
+southernOf n = getD (Unreduced ∷ []) n StartsAgain
 
 unfoldable pub methodNumberOf : Method → ℕ
 methodNumberOf MuslimWorldLeague = 0

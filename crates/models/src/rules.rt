@@ -1,6 +1,6 @@
 // The rules that an order chooses in place of the source's (added). They stand beside Parameters, which stay the source's own.
 ghost use mathlib.Core.Path.{_≡_};
-ghost use Rattle.models.specs.Numbers.{midnightNumberOf, midnightOf};
+ghost use Rattle.models.specs.Numbers.{midnightNumberOf, midnightOf, southernNumberOf, southernOf};
 ghost use Rattle.models.specs.Chosen.{sourceRules};
 
 // What becomes of an hour number that rounds to hour 24.
@@ -33,8 +33,45 @@ impl Midnight {
     }
 }
 
+// How the days of the season are counted south of the equator.
+pub enum Southern {
+    // From the June solstice, and not reduced: the source's count.
+    Unreduced,
+    // From the June solstice, where it starts again at 0.
+    StartsAgain,
+}
+
+impl Southern {
+    // The number by which an order names it.
+    pub fn number(self) -> u32
+        ensures { λ r. ⌜ r ≡ southernNumberOf self ⌝ }
+    {
+        match self {
+            Southern::Unreduced => 0,
+            Southern::StartsAgain => 1,
+        }
+    }
+
+    // And back.
+    pub fn of_number(n: u32) -> Southern
+        ensures { λ r. ⌜ r ≡ southernOf n ⌝ }
+    {
+        match n {
+            0 => Southern::Unreduced,
+            _ => Southern::StartsAgain,
+        }
+    }
+}
+
 pub struct Rules {
     pub midnight: Midnight,
+    pub southern: Southern,
+}
+
+// What the season goes by beside the date.
+pub struct Season {
+    pub latitude: f64,
+    pub southern: Southern,
 }
 
 impl Rules {
@@ -44,6 +81,7 @@ impl Rules {
     {
         Rules {
             midnight: Midnight::Stops,
+            southern: Southern::Unreduced,
         }
     }
 }

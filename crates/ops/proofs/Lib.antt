@@ -1,4 +1,5 @@
 pub mod SeasonLaws
 pub mod SeasonSizes
+pub mod SouthernLaws
 pub mod SharedLaws
 pub mod Wrapped

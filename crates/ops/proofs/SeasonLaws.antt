@@ -15,12 +15,14 @@ use Rattle.float64.specs.Words.{isNegativeOf}
 use Rattle.float64.proofs.Within.{Within, within-signed, neg-within, mul-within}
 use Rattle.float64.proofs.Limits.{within-limits}
 use Rattle.float64.proofs.WholeSizes.{wholeSize, signed, whole-most, cast-is, nearest-within}
+use Rattle.models.specs.declared.rules.Season.{Season}
 use Rattle.models.specs.declared.shafaq.Shafaq.{Shafaq}
 use Rattle.models.specs.declared.shafaq.Shafaq.the-variants.{General}
 use Rattle.ops.specs.declared.season.AdjustmentDaytime.{AdjustmentDaytime}
 use Rattle.ops.specs.declared.season.AdjustmentDaytime.the-variants.{Morning, Evening}
-use Rattle.ops.specs.Season.{daysSinceSolsticeOf, twilightAdjustmentValuesOf, seasonMinutesOf, morningSecondsOf, eveningSecondsOf}
-use Rattle.ops.proofs.SeasonSizes.{whole-value, whole-within, values-bounded, days-most, minutes-within}
+use Rattle.ops.specs.Season.{seasonDaysOf, twilightAdjustmentValuesOf, seasonMinutesOf, morningSecondsOf, eveningSecondsOf}
+use Rattle.ops.proofs.SeasonSizes.{whole-value, whole-within, values-bounded, minutes-within}
+use Rattle.ops.proofs.SouthernLaws.{season-days-most}
 
 -- ---- the seconds: a factor of 60, whichever its sign, and the nearest whole number
 module _ (minutes factor : Float) (h : Within minutes 1301 1) (k : Within factor 60 1) where
@@ -52,28 +54,28 @@ sixty-within = whole-within 60 60 (lit≤ tt) (lit≤ tt)
 minus-sixty-within : Within (neg (dec 60 0)) 60 1
 minus-sixty-within = neg-within (dec 60 0) 60 1 sixty-within
 
-module _ (latitude : Float) (day year : ℕ) (south : le (neg (dec 90 0)) latitude ≡ true) (north : le latitude (dec 90 0) ≡ true) (d : day ≤ 366) where
-  all-within : (t : AdjustmentDaytime) (shafaq : Shafaq) → Within (seasonMinutesOf t latitude day year shafaq) 1301 1
+module _ (season : Season) (day year : ℕ) (south : le (neg (dec 90 0)) (season .latitude) ≡ true) (north : le (season .latitude) (dec 90 0) ≡ true) (d : day ≤ 366) where
+  all-within : (t : AdjustmentDaytime) (shafaq : Shafaq) → Within (seasonMinutesOf t season day year shafaq) 1301 1
   all-within t shafaq =
-      minutes-within (twilightAdjustmentValuesOf t latitude shafaq)
-      (values-bounded latitude (within-limits latitude (dec 90 0) 90 1 (lit< tt) (whole-value 90 (lit≤ tt)) south north) t shafaq)
-      (daysSinceSolsticeOf day year latitude)
-      (days-most day year latitude d)
+      minutes-within (twilightAdjustmentValuesOf t (season .latitude) shafaq)
+      (values-bounded (season .latitude) (within-limits (season .latitude) (dec 90 0) 90 1 (lit< tt) (whole-value 90 (lit≤ tt)) south north) t shafaq)
+      (seasonDaysOf season day year)
+      (season-days-most (season .southern) day year (season .latitude) d)
 
   -- less than a day either way
-  pub morning-small : (P (morningSecondsOf latitude day year) ≤ 86400) × (N (morningSecondsOf latitude day year) ≤ 86400)
+  pub morning-small : (P (morningSecondsOf season day year) ≤ 86400) × (N (morningSecondsOf season day year) ≤ 86400)
   unfolding morningSecondsOf
-  morning-small = seconds-small (seasonMinutesOf Morning latitude day year General) (neg (dec 60 0)) (all-within Morning General) minus-sixty-within
+  morning-small = seconds-small (seasonMinutesOf Morning season day year General) (neg (dec 60 0)) (all-within Morning General) minus-sixty-within
 
-  pub evening-small : (shafaq : Shafaq) → (P (eveningSecondsOf latitude day year shafaq) ≤ 86400) × (N (eveningSecondsOf latitude day year shafaq) ≤ 86400)
+  pub evening-small : (shafaq : Shafaq) → (P (eveningSecondsOf season day year shafaq) ≤ 86400) × (N (eveningSecondsOf season day year shafaq) ≤ 86400)
   unfolding eveningSecondsOf
-  evening-small shafaq = seconds-small (seasonMinutesOf Evening latitude day year shafaq) (dec 60 0) (all-within Evening shafaq) sixty-within
+  evening-small shafaq = seconds-small (seasonMinutesOf Evening season day year shafaq) (dec 60 0) (all-within Evening shafaq) sixty-within
 
   -- the source's cast gives the same
-  pub morning-source : morningSecondsOf latitude day year ≡ toSigned 63 (roundOf (seasonMinutesOf Morning latitude day year General *ᶠ neg (dec 60 0)))
+  pub morning-source : morningSecondsOf season day year ≡ toSigned 63 (roundOf (seasonMinutesOf Morning season day year General *ᶠ neg (dec 60 0)))
   unfolding morningSecondsOf
-  morning-source = seconds-source (seasonMinutesOf Morning latitude day year General) (neg (dec 60 0)) (all-within Morning General) minus-sixty-within
+  morning-source = seconds-source (seasonMinutesOf Morning season day year General) (neg (dec 60 0)) (all-within Morning General) minus-sixty-within
 
-  pub evening-source : (shafaq : Shafaq) → eveningSecondsOf latitude day year shafaq ≡ toSigned 63 (roundOf (seasonMinutesOf Evening latitude day year shafaq *ᶠ dec 60 0))
+  pub evening-source : (shafaq : Shafaq) → eveningSecondsOf season day year shafaq ≡ toSigned 63 (roundOf (seasonMinutesOf Evening season day year shafaq *ᶠ dec 60 0))
   unfolding eveningSecondsOf
-  evening-source shafaq = seconds-source (seasonMinutesOf Evening latitude day year shafaq) (dec 60 0) (all-within Evening shafaq) sixty-within
+  evening-source shafaq = seconds-source (seasonMinutesOf Evening season day year shafaq) (dec 60 0) (all-within Evening shafaq) sixty-within

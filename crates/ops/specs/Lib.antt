@@ -1,4 +1,5 @@
 pub mod Season
+pub mod Southern
 pub mod Shared
 pub mod Sun
 pub mod Transit

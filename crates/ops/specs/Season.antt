@@ -10,6 +10,9 @@ use Rattle.float64.specs.Whole.{roundOf}
 use Rattle.calendar.specs.Gregorian.{leapOf}
 use Rattle.calendar.specs.Days.{daysInYearOf}
 use Rattle.models.specs.declared.rounding.Rounding.the-variants.{Nearest}
+use Rattle.models.specs.declared.rules.Season.{Season}
+use Rattle.models.specs.declared.rules.Southern.{Southern}
+use Rattle.models.specs.declared.rules.Southern.the-variants.{Unreduced, StartsAgain}
 use Rattle.models.specs.declared.shafaq.Shafaq.{Shafaq}
 use Rattle.models.specs.declared.shafaq.Shafaq.the-variants.{General, Ahmer, Abyad}
 use Rattle.stride.specs.Times.{satOf, roundedOf}
@@ -29,6 +32,20 @@ daysSinceSolsticeOf day year latitude =
     let days = daysInYearOf year in
     let lapsed = (day + 10) % 2 ^ 32 in
     cond (le (dec 0 0) latitude) (cond (leb days lapsed) (lapsed - days) lapsed) ((day + days - southernOffsetOf year) % 2 ^ 32)
+
+-- Request 3: "The southern count is then the day of the year less 172 (173 in a leap year), plus the days in the year only when that is negative."
+unfoldable pub southernCountOf : ℕ → ℕ → ℕ
+southernCountOf day year =
+    cond (leb (southernOffsetOf year) day) (day - southernOffsetOf year) (day + daysInYearOf year - southernOffsetOf year)
+
+-- by the rule that is chosen for the south; the equator is northern by either
+unfoldable pub daysByRule : Southern → Float → ℕ → ℕ → ℕ
+unfolding dec
+daysByRule Unreduced latitude day year = daysSinceSolsticeOf day year latitude
+daysByRule StartsAgain latitude day year = cond (le (dec 0 0) latitude) (daysSinceSolsticeOf day year latitude) (southernCountOf day year)
+
+abbrev pub seasonDaysOf : Season → ℕ → ℕ → ℕ
+seasonDaysOf season day year = daysByRule (season .southern) (season .latitude) day year
 
 -- minutes at the equator, and more or fewer of them for each 55 degrees of latitude: in thousandths
 unfoldable pub moreMinutes : ℕ → Float → ℕ → Float
@@ -71,23 +88,27 @@ twilightAdjustmentsOf v days =
     (onTheWayOf (v .b) (v .a) (dec 91 0) (days -ᶠ dec 275 0))))))
 
 -- the minutes on a day of a year, of which the Morning's are the same for every shafaq
-abbrev pub seasonMinutesOf : AdjustmentDaytime → Float → ℕ → ℕ → Shafaq → Float
-seasonMinutesOf daytime latitude day year shafaq =
-    twilightAdjustmentsOf (twilightAdjustmentValuesOf daytime latitude shafaq) (ofInt binary64 (pos (daysSinceSolsticeOf day year latitude)))
+abbrev pub seasonMinutesOf : AdjustmentDaytime → Season → ℕ → ℕ → Shafaq → Float
+seasonMinutesOf daytime season day year shafaq =
+    twilightAdjustmentsOf (twilightAdjustmentValuesOf daytime (season .latitude) shafaq) (ofInt binary64 (pos (seasonDaysOf season day year)))
 
 -- Whole seconds before sunrise and after sunset, half a second away from zero. The source casts to an i64; no latitude of a place comes
 -- near the end of an i32 (proofs/SeasonLaws).
-unfoldable pub morningSecondsOf : Float → ℕ → ℕ → ℤ
+unfoldable pub morningSecondsOf : Season → ℕ → ℕ → ℤ
 unfolding dec
-morningSecondsOf latitude day year = toSigned 31 (roundOf (seasonMinutesOf Morning latitude day year General *ᶠ neg (dec 60 0)))
+morningSecondsOf season day year = toSigned 31 (roundOf (seasonMinutesOf Morning season day year General *ᶠ neg (dec 60 0)))
 
-unfoldable pub eveningSecondsOf : Float → ℕ → ℕ → Shafaq → ℤ
+unfoldable pub eveningSecondsOf : Season → ℕ → ℕ → Shafaq → ℤ
 unfolding dec
-eveningSecondsOf latitude day year shafaq = toSigned 31 (roundOf (seasonMinutesOf Evening latitude day year shafaq *ᶠ dec 60 0))
+eveningSecondsOf season day year shafaq = toSigned 31 (roundOf (seasonMinutesOf Evening season day year shafaq *ᶠ dec 60 0))
+
+-- the source's own functions have the source's count
+abbrev pub sourceSeason : Float → Season
+sourceSeason latitude = record { latitude = latitude; southern = Unreduced }
 
 abbrev pub seasonAdjustedMorningTwilightOf : Float → ℕ → ℕ → ℤ → ℤ
-seasonAdjustedMorningTwilightOf latitude day year sunrise = satOf (sunrise +ℤ morningSecondsOf latitude day year)
+seasonAdjustedMorningTwilightOf latitude day year sunrise = satOf (sunrise +ℤ morningSecondsOf (sourceSeason latitude) day year)
 
 -- the evening's is itself rounded to the nearest minute
 abbrev pub seasonAdjustedEveningTwilightOf : Float → ℕ → ℕ → ℤ → Shafaq → ℤ
-seasonAdjustedEveningTwilightOf latitude day year sunset shafaq = satOf (roundedOf Nearest (satOf (sunset +ℤ eveningSecondsOf latitude day year shafaq)))
+seasonAdjustedEveningTwilightOf latitude day year sunset shafaq = satOf (roundedOf Nearest (satOf (sunset +ℤ eveningSecondsOf (sourceSeason latitude) day year shafaq)))

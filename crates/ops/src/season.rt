@@ -1,12 +1,14 @@
 // ops.rs: the season, by which the MoonsightingCommittee method bounds Fajr and Isha.
 ghost use mathlib.Core.Path.{_≡_};
-ghost use Rattle.ops.specs.Season.{southernOffsetOf, daysSinceSolsticeOf, eveningValuesOf, twilightAdjustmentValuesOf, onTheWayOf, withinOf, twilightAdjustmentsOf, seasonMinutesOf, morningSecondsOf, eveningSecondsOf, seasonAdjustedMorningTwilightOf, seasonAdjustedEveningTwilightOf};
+ghost use Rattle.ops.specs.Season.{southernOffsetOf, daysSinceSolsticeOf, southernCountOf, seasonDaysOf, sourceSeason, eveningValuesOf, twilightAdjustmentValuesOf, onTheWayOf, withinOf, twilightAdjustmentsOf, seasonMinutesOf, morningSecondsOf, eveningSecondsOf, seasonAdjustedMorningTwilightOf, seasonAdjustedEveningTwilightOf};
 use calendar::years::days_in_year;
 use calendar::years::is_leap_year;
 use float64::casts::to_i32;
 use float64::sizes::abs;
 use float64::whole::round;
 use models::rounding::Rounding;
+use models::rules::Season;
+use models::rules::Southern;
 use models::shafaq::Shafaq;
 use stride::times::plus;
 use stride::times::rounded_minute;
@@ -46,6 +48,35 @@ pub fn days_since_solstice(day_of_year: u32, year: u32, latitude: f64) -> u32
     } else {
         let lapsed_days = std::num::wrapping_sub_u32(day_of_year, southern_offset(year));
         std::num::wrapping_add_u32(lapsed_days, days_in_year)
+    }
+}
+
+// Days since the solstice of winter in the south, where the count starts again at 0 (added).
+fn southern_count(day_of_year: u32, year: u32) -> u32
+    ensures { λ r. ⌜ r ≡ southernCountOf «day_of_year» year ⌝ }
+{
+    let solstice = southern_offset(year);
+    let days = days_in_year(year);
+    if solstice <= day_of_year {
+        return day_of_year - solstice;
+    }
+    day_of_year + days - solstice
+}
+
+// By the rule that is chosen for the south. No other place asks for the rule.
+pub fn season_days(season: Season, day_of_year: u32, year: u32) -> u32
+    ensures { λ r. ⌜ r ≡ seasonDaysOf season «day_of_year» year ⌝ }
+{
+    let southern = season.southern;
+    let by_source = days_since_solstice(day_of_year, year, season.latitude);
+    match southern {
+        Southern::Unreduced => by_source,
+        Southern::StartsAgain => {
+            if season.latitude >= 0.0 {
+                return by_source;
+            }
+            southern_count(day_of_year, year)
+        }
     }
 }
 
@@ -133,24 +164,27 @@ fn twilight_adjustments(values: TwilightAdjustmentValues, dyy: f64) -> f64
 // The minutes on a day of a year.
 fn season_minutes(
     daytime: AdjustmentDaytime,
-    latitude: f64,
+    season: Season,
     day: u32,
     year: u32,
     shafaq: Shafaq,
 ) -> f64
-    ensures { λ r. ⌜ r ≡ seasonMinutesOf daytime latitude day year shafaq ⌝ }
+    ensures { λ r. ⌜ r ≡ seasonMinutesOf daytime season day year shafaq ⌝ }
 {
-    let dyy = days_since_solstice(day, year, latitude) as f64;
-    twilight_adjustments(twilight_adjustment_values(daytime, latitude, shafaq), dyy)
+    let dyy = season_days(season, day, year) as f64;
+    twilight_adjustments(
+        twilight_adjustment_values(daytime, season.latitude, shafaq),
+        dyy,
+    )
 }
 
 // Whole seconds from sunrise to the bound of Fajr, which are negative.
-pub fn morning_twilight_seconds(latitude: f64, day: u32, year: u32) -> i32
-    ensures { λ r. ⌜ r ≡ morningSecondsOf latitude day year ⌝ }
+pub fn morning_twilight_seconds(season: Season, day: u32, year: u32) -> i32
+    ensures { λ r. ⌜ r ≡ morningSecondsOf season day year ⌝ }
 {
     let adjustment = season_minutes(
         AdjustmentDaytime::Morning,
-        latitude,
+        season,
         day,
         year,
         Shafaq::General,
@@ -159,11 +193,21 @@ pub fn morning_twilight_seconds(latitude: f64, day: u32, year: u32) -> i32
 }
 
 // Whole seconds from sunset to the bound of Isha.
-pub fn evening_twilight_seconds(latitude: f64, day: u32, year: u32, shafaq: Shafaq) -> i32
-    ensures { λ r. ⌜ r ≡ eveningSecondsOf latitude day year shafaq ⌝ }
+pub fn evening_twilight_seconds(season: Season, day: u32, year: u32, shafaq: Shafaq) -> i32
+    ensures { λ r. ⌜ r ≡ eveningSecondsOf season day year shafaq ⌝ }
 {
-    let adjustment = season_minutes(AdjustmentDaytime::Evening, latitude, day, year, shafaq);
+    let adjustment = season_minutes(AdjustmentDaytime::Evening, season, day, year, shafaq);
     to_i32(round(adjustment * 60.0))
+}
+
+// The source's own.
+fn source_season(latitude: f64) -> Season
+    ensures { λ r. ⌜ r ≡ sourceSeason latitude ⌝ }
+{
+    Season {
+        latitude: latitude,
+        southern: Southern::Unreduced,
+    }
 }
 
 pub fn season_adjusted_morning_twilight(latitude: f64, day: u32, year: u32, sunrise: i64) -> i64
@@ -171,7 +215,7 @@ pub fn season_adjusted_morning_twilight(latitude: f64, day: u32, year: u32, sunr
 {
     plus(
         sunrise,
-        morning_twilight_seconds(latitude, day, year) as i64,
+        morning_twilight_seconds(source_season(latitude), day, year) as i64,
     )
 }
 
@@ -187,7 +231,7 @@ pub fn season_adjusted_evening_twilight(
 {
     let adjusted = plus(
         sunset,
-        evening_twilight_seconds(latitude, day, year, shafaq) as i64,
+        evening_twilight_seconds(source_season(latitude), day, year, shafaq) as i64,
     );
     rounded_minute(adjusted, Rounding::Nearest)
 }

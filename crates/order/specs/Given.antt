@@ -16,7 +16,7 @@ use Rattle.models.specs.declared.parameters.Parameters.{Parameters}
 use Rattle.models.specs.declared.rounding.Rounding.{Rounding}
 use Rattle.models.specs.declared.rules.Rules.{Rules}
 use Rattle.models.specs.Minutes.{sixMinutesOf, noMinutes}
-use Rattle.models.specs.Numbers.{methodOf, madhabOf, ruleOf, roundingOf, shafaqOf, midnightOf}
+use Rattle.models.specs.Numbers.{methodOf, madhabOf, ruleOf, roundingOf, shafaqOf, midnightOf, southernOf}
 use Rattle.models.specs.Presets.{presetOf}
 
 -- ---- what the bytes of a value give
@@ -71,6 +71,7 @@ parametersIn v =
       shafaq = shafaqOf (byteOr v 10 0);
     }
 
--- Request 1: "Tag 15 (one byte, 0 or 1, missing is 0) chooses: 0 is today's rule, 1 carries."
+-- Request 1: "Tag 15 (one byte, 0 or 1, missing is 0) chooses: 0 is today's rule, 1 carries." Request 3: "Tag 17 (one byte, 0 or 1, missing is 0)
+-- chooses their rule with 1."
 unfoldable pub rulesIn : Values → Rules
-rulesIn v = record { midnight = midnightOf (byteOr v 15 0) }
+rulesIn v = record { midnight = midnightOf (byteOr v 15 0); southern = southernOf (byteOr v 17 0) }

@@ -17,6 +17,7 @@ use models::parameters::Parameters;
 use models::rounding::Rounding;
 use models::rules::Midnight;
 use models::rules::Rules;
+use models::rules::Southern;
 use models::shafaq::Shafaq;
 
 pub fn date_in(bytes: &[u8]) -> Date
@@ -128,11 +129,12 @@ pub fn parameters_in(order: &[u8], fields: Fields) -> Parameters
     }
 }
 
-// Tag 15: 0 where it is missing, the source's rule.
+// Tags 15 and 17: 0 where one is missing, the source's rule.
 pub fn rules_in(order: &[u8], fields: Fields) -> Rules
     ensures { λ r. ⌜ r ≡ rulesIn (valuesIn (now (order .entry)) fields) ⌝ }
 {
     Rules {
         midnight: Midnight::of_number(byte_or(order, fields, 15, 0)),
+        southern: Southern::of_number(byte_or(order, fields, 17, 0)),
     }
 }

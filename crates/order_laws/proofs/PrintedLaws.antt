@@ -70,5 +70,5 @@ days-are-printed-whole order row t i h e l = by-row (ltb row (order .rows)) e
         → sizeOf (daysOf date (getD (nineOf t) i (pos 0))) ≤ 4
     by-row true w =
         nine-digits date t
-        (times-lie-by-their-date (order .rules .midnight) (numbersOf date (order .coordinates) (order .parameters)) date (order .coordinates .latitude) (order .parameters) t (accepted-latitude order h) (accepted-carried order h) w) i l
+        (times-lie-by-their-date (order .rules .midnight) (numbersOf date (order .coordinates) (order .parameters)) date (seasonOf (order .coordinates .latitude) (order .rules)) (order .parameters) t (accepted-latitude order h) (accepted-carried order h) w) i l
     by-row false w = absurd (subst isTimes (sym w) tt)

@@ -2,10 +2,11 @@
 // angle, are the row's own.
 ghost use mathlib.Core.Path.{_≡_};
 ghost use Rattle.row_suns.specs.RowSuns.{daySunOf, rowSunsOf, nextRowSunsOf, rowSunsHoursOf};
-ghost use Rattle.schedule.specs.Times.{workedOf};
+ghost use Rattle.schedule.specs.Times.{seasonOf, workedOf};
 use calendar::dates::Date;
 use models::parameters::Parameters;
 use models::rules::Rules;
+use models::rules::Season;
 use ops::transit::Course;
 use ops::transit::Observer;
 use schedule::hours::DayHours;
@@ -115,9 +116,14 @@ impl RowSuns {
 
     // The row's times, or its refusal.
     pub fn work(self, latitude: f64, parameters: Parameters, rules: Rules) -> Worked
-        ensures { λ r. ⌜ r ≡ workedOf (rowSunsHoursOf latitude parameters rules self) (self .date) latitude parameters ⌝ }
+        ensures { λ r. ⌜ r ≡ workedOf (rowSunsHoursOf latitude parameters rules self) (self .date) (seasonOf latitude rules) parameters ⌝ }
     {
         let midnight = rules.midnight;
+        let southern = rules.southern;
+        let season = Season {
+            latitude: latitude,
+            southern: southern,
+        };
         let date = self.date;
         let today = self.today;
         let tomorrow = self.tomorrow;
@@ -133,6 +139,6 @@ impl RowSuns {
             asr_number(parameters, latitude, course),
             isha_number(parameters, latitude, course),
         );
-        hours.work(date, latitude, parameters)
+        hours.work(date, season, parameters)
     }
 }

@@ -18,7 +18,7 @@ use Rattle.lines.specs.Lines.{fullRow, lineText}
 use Rattle.row_suns.specs.RowSuns.{rowSunsOf, nextRowSunsOf, rowSunsHoursOf}
 use Rattle.row_suns.proofs.RowSunsLaws.{rolled-hours, rolls}
 use Rattle.row_suns.specs.declared.RowSuns.{RowSuns}
-use Rattle.schedule.specs.Times.{workedOf}
+use Rattle.schedule.specs.Times.{seasonOf, workedOf}
 use Rattle.schedule.specs.declared.hours.RowHours.{RowHours}
 use Rattle.text.specs.Text.{putOf}
 use Rattle.rows.specs.Rows.{linesText}
@@ -47,12 +47,12 @@ module _ (o : Order) (a : Accepted o) where
         rolls (rowDateOf d k) (o .coordinates) (o .parameters) (o .rules) (r .there) (omega arith)
         ∙ ap (λ (x : Date). rowSunsOf x (o .coordinates) (o .parameters) (o .rules)) (sym (row-tomorrow d there k (omega arith)))
 
-    pub state-line : lineText (stateOf o k .date) (workedOf (rowSunsHoursOf (o .coordinates .latitude) (o .parameters) (o .rules) (stateOf o k)) (stateOf o k .date) (o .coordinates .latitude) (o .parameters))
+    pub state-line : lineText (stateOf o k .date) (workedOf (rowSunsHoursOf (o .coordinates .latitude) (o .parameters) (o .rules) (stateOf o k)) (stateOf o k .date) (seasonOf (o .coordinates .latitude) (o .rules)) (o .parameters))
         ≡ lineOf o k
     unfolding workRowOf rowSunsOf
     state-line =
         simp (lt-ltb k (o .rows) h)
-        (ap (λ (x : RowHours). lineText (rowDateOf (o .date) k) (workedOf x (rowDateOf (o .date) k) (o .coordinates .latitude) (o .parameters)))
+        (ap (λ (x : RowHours). lineText (rowDateOf (o .date) k) (workedOf x (rowDateOf (o .date) k) (seasonOf (o .coordinates .latitude) (o .rules)) (o .parameters)))
         (rolled-hours (rowDateOf (o .date) k) (o .coordinates) (o .parameters) (o .rules)))
 
 -- Before a row its suns are there, and the lines of those before it.
@@ -65,7 +65,7 @@ pub record Run (o : Order) (buffer : List ℕ) (at : ℕ) (now : List ℕ) (suns
 
 -- the line that a row's suns give
 abbrev pub madeLine : Order → RowSuns → List ℕ
-madeLine o r = lineText (r .date) (workedOf (rowSunsHoursOf (o .coordinates .latitude) (o .parameters) (o .rules) r) (r .date) (o .coordinates .latitude) (o .parameters))
+madeLine o r = lineText (r .date) (workedOf (rowSunsHoursOf (o .coordinates .latitude) (o .parameters) (o .rules) r) (r .date) (seasonOf (o .coordinates .latitude) (o .rules)) (o .parameters))
 
 module _ (o : Order) (a : Accepted o) (buffer : List ℕ) (at : ℕ) (room : at + fullRow * mostRows ≤ length buffer) where
   pub run-line : (now : List ℕ) (suns : RowSuns) (row end : ℕ) → Run o buffer at now suns row end

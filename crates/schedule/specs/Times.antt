@@ -9,6 +9,7 @@ use Rattle.models.specs.declared.prayer.Prayer.{Prayer}
 use Rattle.models.specs.declared.prayer.Prayer.the-variants.{Fajr, Sunrise, Dhuhr, Asr, Maghrib, Isha}
 use Rattle.models.specs.declared.rounding.Rounding.the-variants.{Nearest}
 use Rattle.models.specs.declared.rules.Rules.{Rules}
+use Rattle.models.specs.declared.rules.Season.{Season}
 use Rattle.models.specs.Settings.{timeAdjustmentsOf}
 use Rattle.stride.specs.Times.{roundedOf, adjustedOf}
 use Rattle.night_portions.specs.Portions.{middleOf, lastThirdOf}
@@ -35,8 +36,8 @@ unfoldable pub finalOf : Parameters → Prayer → ℤ → ℤ
 finalOf p prayer t = roundedOf (p .rounding) (adjustedOf t (timeAdjustmentsOf p prayer))
 
 -- the next date's, from that date's sun and the night after it: adjusted, not rounded
-unfoldable pub fajrTomorrowOf : Parameters → Float → Date → SolarTime → SolarTime → SolarHour → ℤ
-fajrTomorrowOf p latitude date tomorrow after hour = nextDayOf (adjustedOf (unadjustedFajrOf p latitude (tomorrowOf date) tomorrow after hour) (timeAdjustmentsOf p Fajr))
+unfoldable pub fajrTomorrowOf : Parameters → Season → Date → SolarTime → SolarTime → SolarHour → ℤ
+fajrTomorrowOf p season date tomorrow after hour = nextDayOf (adjustedOf (unadjustedFajrOf p season (tomorrowOf date) tomorrow after hour) (timeAdjustmentsOf p Fajr))
 
 -- from rounded maghrib, a half and two thirds of the seconds to tomorrow's Fajr
 unfoldable pub middleOfTheNightOf : ℤ → ℤ → ℤ
@@ -46,18 +47,18 @@ unfoldable pub qiyamOf : ℤ → ℤ → ℤ
 qiyamOf maghrib tomorrow = roundedOf Nearest (maghrib +ℤ lastThirdOf (tomorrow -ℤ maghrib))
 
 -- the nine times in seconds from 0h of the date
-unfoldable pub fromMidnightOf : Parameters → Float → Date → ThreeSuns → RowHours → PrayerTimes
-fromMidnightOf p latitude date suns h =
+unfoldable pub fromMidnightOf : Parameters → Season → Date → ThreeSuns → RowHours → PrayerTimes
+fromMidnightOf p season date suns h =
     let sun = suns .today in
     let maghrib = finalOf p Maghrib (sun .sunset) in
-    let next-fajr = fajrTomorrowOf p latitude date (suns .tomorrow) (suns .after) (h .«fajr_tomorrow») in
+    let next-fajr = fajrTomorrowOf p season date (suns .tomorrow) (suns .after) (h .«fajr_tomorrow») in
     record {
-      fajr = finalOf p Fajr (unadjustedFajrOf p latitude date sun (suns .tomorrow) (h .fajr));
+      fajr = finalOf p Fajr (unadjustedFajrOf p season date sun (suns .tomorrow) (h .fajr));
       sunrise = finalOf p Sunrise (sun .sunrise);
       dhuhr = finalOf p Dhuhr (sun .transit);
       asr = finalOf p Asr (orOf (h .asr) (sun .transit));
       maghrib = maghrib;
-      isha = finalOf p Isha (unadjustedIshaOf p latitude date sun (suns .tomorrow) (h .isha));
+      isha = finalOf p Isha (unadjustedIshaOf p season date sun (suns .tomorrow) (h .isha));
       «middle_of_the_night» = middleOfTheNightOf maghrib next-fajr;
       qiyam = qiyamOf maghrib next-fajr;
       «fajr_tomorrow» = next-fajr;
@@ -78,20 +79,24 @@ startedOf start t =
       «fajr_tomorrow» = start +ℤ t .«fajr_tomorrow»;
     }
 
-abbrev pub timesOf : Parameters → Float → Date → ThreeSuns → RowHours → PrayerTimes
-timesOf p latitude date suns h = startedOf (startOf date) (fromMidnightOf p latitude date suns h)
+abbrev pub timesOf : Parameters → Season → Date → ThreeSuns → RowHours → PrayerTimes
+timesOf p season date suns h = startedOf (startOf date) (fromMidnightOf p season date suns h)
 
 -- a date is refused where one of the three days lacks a time
-unfoldable pub workedFrom : Suns → RowHours → Date → Float → Parameters → Worked
-workedFrom (Lacks r) h date latitude p = Refused r
-workedFrom (Whole suns) h date latitude p = Times (timesOf p latitude date suns h)
+unfoldable pub workedFrom : Suns → RowHours → Date → Season → Parameters → Worked
+workedFrom (Lacks r) h date season p = Refused r
+workedFrom (Whole suns) h date season p = Times (timesOf p season date suns h)
 
-unfoldable pub workedOf : RowHours → Date → Float → Parameters → Worked
-workedOf h date latitude p = workedFrom (h .suns) h date latitude p
+unfoldable pub workedOf : RowHours → Date → Season → Parameters → Worked
+workedOf h date season p = workedFrom (h .suns) h date season p
+
+-- by what the season goes beside the date
+abbrev pub seasonOf : Float → Rules → Season
+seasonOf latitude rules = record { latitude = latitude; southern = rules .southern }
 
 -- the whole way: from date, place, parameters and rules
 abbrev pub workedAt : Date → Coordinates → Parameters → Rules → Worked
-workedAt date place p rules = workedOf (hoursOf (rules .midnight) (numbersOf date place p)) date (place .latitude) p
+workedAt date place p rules = workedOf (hoursOf (rules .midnight) (numbersOf date place p)) date (seasonOf (place .latitude) rules) p
 
 -- what holds of each of the nine
 pub record Each (C : ℤ → Type 0) (t : PrayerTimes) : Type 0 where

@@ -12,6 +12,7 @@ use Rattle.models.specs.declared.method.Method.{Method}
 use Rattle.models.specs.declared.method.Method.the-variants.{MoonsightingCommittee}
 use Rattle.models.specs.declared.parameters.Parameters.{Parameters}
 use Rattle.models.specs.declared.rounding.Rounding.the-variants.{Nearest}
+use Rattle.models.specs.declared.rules.Season.{Season}
 use Rattle.models.specs.Numbers.{methodNumberOf}
 use Rattle.models.specs.Settings.{nightPortionsOf}
 use Rattle.stride.specs.Times.{roundedOf}
@@ -55,35 +56,35 @@ ownOf method latitude seventh hour bound = cond (bySeventhOf method latitude) se
 
 -- ---- Fajr
 -- from sunrise to its bound
-unfoldable pub beforeSunriseOf : Parameters → Float → Date → ℤ → ℤ
-beforeSunriseOf p latitude date night =
-    cond (bySeasonOf (p .method)) (morningSecondsOf latitude (ordinalOf date) (date .year)) (portionBeforeOf (nightPortionsOf p .fajr) night)
+unfoldable pub beforeSunriseOf : Parameters → Season → Date → ℤ → ℤ
+beforeSunriseOf p season date night =
+    cond (bySeasonOf (p .method)) (morningSecondsOf season (ordinalOf date) (date .year)) (portionBeforeOf (nightPortionsOf p .fajr) night)
 
-abbrev pub fajrBoundOf : Parameters → Float → Date → SolarTime → ℤ → ℤ
-fajrBoundOf p latitude date today night = today .sunrise +ℤ beforeSunriseOf p latitude date night
+abbrev pub fajrBoundOf : Parameters → Season → Date → SolarTime → ℤ → ℤ
+fajrBoundOf p season date today night = today .sunrise +ℤ beforeSunriseOf p season date night
 
 -- the later of its angle's time and the bound
-unfoldable pub unadjustedFajrOf : Parameters → Float → Date → SolarTime → SolarTime → SolarHour → ℤ
-unadjustedFajrOf p latitude date today next hour =
+unfoldable pub unadjustedFajrOf : Parameters → Season → Date → SolarTime → SolarTime → SolarHour → ℤ
+unadjustedFajrOf p season date today next hour =
     let night = nightOf today next in
-    let bound = fajrBoundOf p latitude date today night in
-    laterOf (ownOf (p .method) latitude (today .sunrise -ℤ seventhOf night) hour bound) bound
+    let bound = fajrBoundOf p season date today night in
+    laterOf (ownOf (p .method) (season .latitude) (today .sunrise -ℤ seventhOf night) hour bound) bound
 
 -- ---- Isha
 -- only this bound is itself rounded
-unfoldable pub ishaBoundOf : Parameters → Float → Date → SolarTime → ℤ → ℤ
-ishaBoundOf p latitude date today night =
-    cond (bySeasonOf (p .method)) (roundedOf Nearest (today .sunset +ℤ eveningSecondsOf latitude (ordinalOf date) (date .year) (p .shafaq)))
+unfoldable pub ishaBoundOf : Parameters → Season → Date → SolarTime → ℤ → ℤ
+ishaBoundOf p season date today night =
+    cond (bySeasonOf (p .method)) (roundedOf Nearest (today .sunset +ℤ eveningSecondsOf season (ordinalOf date) (date .year) (p .shafaq)))
     (today .sunset +ℤ portionAfterOf (nightPortionsOf p .isha) night)
 
 -- the earlier of its angle's time and the bound
-unfoldable pub boundedIshaOf : Parameters → Float → Date → SolarTime → SolarTime → SolarHour → ℤ
-boundedIshaOf p latitude date today next hour =
+unfoldable pub boundedIshaOf : Parameters → Season → Date → SolarTime → SolarTime → SolarHour → ℤ
+boundedIshaOf p season date today next hour =
     let night = nightOf today next in
-    let bound = ishaBoundOf p latitude date today night in
-    earlierOf (ownOf (p .method) latitude (today .sunset +ℤ seventhOf night) hour bound) bound
+    let bound = ishaBoundOf p season date today night in
+    earlierOf (ownOf (p .method) (season .latitude) (today .sunset +ℤ seventhOf night) hour bound) bound
 
 -- an interval above 0 replaces the rule
-unfoldable pub unadjustedIshaOf : Parameters → Float → Date → SolarTime → SolarTime → SolarHour → ℤ
-unadjustedIshaOf p latitude date today next hour =
-    cond (ltZ (pos 0) (p .«isha_interval»)) (today .sunset +ℤ p .«isha_interval» *ℤ pos 60) (boundedIshaOf p latitude date today next hour)
+unfoldable pub unadjustedIshaOf : Parameters → Season → Date → SolarTime → SolarTime → SolarHour → ℤ
+unadjustedIshaOf p season date today next hour =
+    cond (ltZ (pos 0) (p .«isha_interval»)) (today .sunset +ℤ p .«isha_interval» *ℤ pos 60) (boundedIshaOf p season date today next hour)

@@ -7,7 +7,7 @@ ghost use Rattle.models.specs.declared.rounding.Rounding.the-variants.{Nearest}
 ghost use Rattle.models.specs.Settings.{timeAdjustmentsOf};
 ghost use Rattle.stride.specs.Times.{roundedOf, adjustedOf};
 ghost use Rattle.schedule.specs.Hours.{hoursOf};
-ghost use Rattle.schedule.specs.Times.{startOf, fajrTomorrowOf, middleOfTheNightOf, qiyamOf, fromMidnightOf, startedOf, workedOf, Each};
+ghost use Rattle.schedule.specs.Times.{startOf, fajrTomorrowOf, middleOfTheNightOf, qiyamOf, fromMidnightOf, startedOf, seasonOf, workedOf, Each};
 use super::hours::RowHours;
 use super::hours::RowNumbers;
 use super::hours::Suns;
@@ -20,6 +20,7 @@ use models::parameters::Parameters;
 use models::prayer::Prayer;
 use models::rounding::Rounding;
 use models::rules::Rules;
+use models::rules::Season;
 use night_portions::portions::last_third;
 use night_portions::portions::middle;
 use refusals::Refusal;
@@ -67,15 +68,15 @@ fn final_time(parameters: Parameters, prayer: Prayer, time: i64, rounding: Round
 // Adjusted and not rounded.
 fn next_fajr(
     parameters: Parameters,
-    latitude: f64,
+    season: Season,
     date: Date,
     tomorrow: SolarTime,
     after: SolarTime,
     hour: SolarHour,
 ) -> i64
-    ensures { λ r. ⌜ (r ≡ fajrTomorrowOf parameters latitude date tomorrow after hour) × Near (2 ^ 41) r ⌝ }
+    ensures { λ r. ⌜ (r ≡ fajrTomorrowOf parameters season date tomorrow after hour) × Near (2 ^ 41) r ⌝ }
 {
-    let fajr = unadjusted_fajr(parameters, latitude, date.tomorrow(), tomorrow, after, hour);
+    let fajr = unadjusted_fajr(parameters, season, date.tomorrow(), tomorrow, after, hour);
     final_time(parameters, Prayer::Fajr, fajr, Rounding::None) + 86400
 }
 
@@ -101,23 +102,23 @@ fn calculate_qiyam(maghrib: i64, fajr: i64) -> Night
 // The nine in seconds from 0h of the date.
 fn from_midnight(
     parameters: Parameters,
-    latitude: f64,
+    season: Season,
     date: Date,
     suns: ThreeSuns,
     hours: RowHours,
 ) -> PrayerTimes
-    ensures { λ r. ⌜ (r ≡ fromMidnightOf parameters latitude date suns hours) × Each (Near (2 ^ 43)) r ⌝ }
+    ensures { λ r. ⌜ (r ≡ fromMidnightOf parameters season date suns hours) × Each (Near (2 ^ 43)) r ⌝ }
 {
     let rounding = parameters.rounding;
     let hour = hours.fajr;
     let afternoon = hours.asr;
     let evening = hours.isha;
     let hour_tomorrow = hours.fajr_tomorrow;
-    let fajr = unadjusted_fajr(parameters, latitude, date, suns.today, suns.tomorrow, hour);
+    let fajr = unadjusted_fajr(parameters, season, date, suns.today, suns.tomorrow, hour);
     let asr = or(afternoon, suns.today.transit as i64);
     let isha = unadjusted_isha(
         parameters,
-        latitude,
+        season,
         date,
         suns.today,
         suns.tomorrow,
@@ -131,7 +132,7 @@ fn from_midnight(
     );
     let fajr_tomorrow = next_fajr(
         parameters,
-        latitude,
+        season,
         date,
         suns.tomorrow,
         suns.after,
@@ -189,14 +190,14 @@ fn started(date: Date, times: PrayerTimes) -> PrayerTimes
 
 impl RowHours {
     // The nine times of a date, or its refusal.
-    pub fn work(self, date: Date, latitude: f64, parameters: Parameters) -> Worked
-        ensures { λ r. ⌜ r ≡ workedOf self date latitude parameters ⌝ }
+    pub fn work(self, date: Date, season: Season, parameters: Parameters) -> Worked
+        ensures { λ r. ⌜ r ≡ workedOf self date season parameters ⌝ }
     {
         let suns = self.suns;
         match suns {
             Suns::Whole(three) => Worked::Times(started(
                 date,
-                from_midnight(parameters, latitude, date, three, self),
+                from_midnight(parameters, season, date, three, self),
             )),
             Suns::Lacks(refusal) => Worked::Refused(refusal),
         }
@@ -211,9 +212,14 @@ impl PrayerTimes {
         parameters: Parameters,
         rules: Rules,
     ) -> Worked
-        ensures { λ r. ⌜ r ≡ workedOf (hoursOf (rules .midnight) numbers) date latitude parameters ⌝ }
+        ensures { λ r. ⌜ r ≡ workedOf (hoursOf (rules .midnight) numbers) date (seasonOf latitude rules) parameters ⌝ }
     {
         let midnight = rules.midnight;
-        RowHours::new(midnight, numbers).work(date, latitude, parameters)
+        let southern = rules.southern;
+        let season = Season {
+            latitude: latitude,
+            southern: southern,
+        };
+        RowHours::new(midnight, numbers).work(date, season, parameters)
     }
 }

@@ -9,6 +9,7 @@ use calendar::dates::Date;
 use models::method::Method;
 use models::parameters::Parameters;
 use models::rounding::Rounding;
+use models::rules::Season;
 use night_portions::portions::portion_after;
 use night_portions::portions::portion_before;
 use night_portions::portions::seventh;
@@ -92,16 +93,16 @@ fn own(method: Method, latitude: f64, seventh: i64, hour: SolarHour, bound: i64)
 
 fn fajr_bound(
     parameters: Parameters,
-    latitude: f64,
+    season: Season,
     date: Date,
     today: SolarTime,
     night: i64,
 ) -> i64
-    ensures { λ r. ⌜ (r ≡ fajrBoundOf parameters latitude date today night) × Near (2 ^ 38) r ⌝ }
+    ensures { λ r. ⌜ (r ≡ fajrBoundOf parameters season date today night) × Near (2 ^ 38) r ⌝ }
 {
     let method = parameters.method;
     if by_season(method) {
-        let seconds = morning_twilight_seconds(latitude, date.ordinal(), date.year);
+        let seconds = morning_twilight_seconds(season, date.ordinal(), date.year);
         return sum(today.sunrise, seconds);
     }
     let portions = parameters.night_portions();
@@ -110,34 +111,34 @@ fn fajr_bound(
 
 pub fn unadjusted_fajr(
     parameters: Parameters,
-    latitude: f64,
+    season: Season,
     date: Date,
     today: SolarTime,
     next: SolarTime,
     hour: SolarHour,
 ) -> i64
-    ensures { λ r. ⌜ (r ≡ unadjustedFajrOf parameters latitude date today next hour) × Near (2 ^ 38) r ⌝ }
+    ensures { λ r. ⌜ (r ≡ unadjustedFajrOf parameters season date today next hour) × Near (2 ^ 38) r ⌝ }
 {
     let method = parameters.method;
     let night = night(today, next);
-    let bound = fajr_bound(parameters, latitude, date, today, night);
+    let bound = fajr_bound(parameters, season, date, today, night);
     let by_night = today.sunrise as i64 - seventh(night);
-    later(own(method, latitude, by_night, hour, bound), bound)
+    later(own(method, season.latitude, by_night, hour, bound), bound)
 }
 
 fn isha_bound(
     parameters: Parameters,
-    latitude: f64,
+    season: Season,
     date: Date,
     today: SolarTime,
     night: i64,
 ) -> i64
-    ensures { λ r. ⌜ (r ≡ ishaBoundOf parameters latitude date today night) × Near (2 ^ 38) r ⌝ }
+    ensures { λ r. ⌜ (r ≡ ishaBoundOf parameters season date today night) × Near (2 ^ 38) r ⌝ }
 {
     let method = parameters.method;
     if by_season(method) {
         let shafaq = parameters.shafaq;
-        let seconds = evening_twilight_seconds(latitude, date.ordinal(), date.year, shafaq);
+        let seconds = evening_twilight_seconds(season, date.ordinal(), date.year, shafaq);
         return rounded_minute(sum(today.sunset, seconds), Rounding::Nearest);
     }
     let portions = parameters.night_portions();
@@ -147,33 +148,33 @@ fn isha_bound(
 // Where no interval replaces the rule.
 fn bounded_isha(
     parameters: Parameters,
-    latitude: f64,
+    season: Season,
     date: Date,
     today: SolarTime,
     next: SolarTime,
     hour: SolarHour,
 ) -> i64
-    ensures { λ r. ⌜ (r ≡ boundedIshaOf parameters latitude date today next hour) × Near (2 ^ 38) r ⌝ }
+    ensures { λ r. ⌜ (r ≡ boundedIshaOf parameters season date today next hour) × Near (2 ^ 38) r ⌝ }
 {
     let method = parameters.method;
     let night = night(today, next);
-    let bound = isha_bound(parameters, latitude, date, today, night);
+    let bound = isha_bound(parameters, season, date, today, night);
     let by_night = today.sunset as i64 + seventh(night);
-    earlier(own(method, latitude, by_night, hour, bound), bound)
+    earlier(own(method, season.latitude, by_night, hour, bound), bound)
 }
 
 pub fn unadjusted_isha(
     parameters: Parameters,
-    latitude: f64,
+    season: Season,
     date: Date,
     today: SolarTime,
     next: SolarTime,
     hour: SolarHour,
 ) -> i64
-    ensures { λ r. ⌜ (r ≡ unadjustedIshaOf parameters latitude date today next hour) × Near (2 ^ 38) r ⌝ }
+    ensures { λ r. ⌜ (r ≡ unadjustedIshaOf parameters season date today next hour) × Near (2 ^ 38) r ⌝ }
 {
     if parameters.isha_interval > 0 {
         return today.sunset as i64 + parameters.isha_interval as i64 * 60;
     }
-    bounded_isha(parameters, latitude, date, today, next, hour)
+    bounded_isha(parameters, season, date, today, next, hour)
 }

@@ -8,6 +8,7 @@ use Rattle.integers.specs.Order.{_≼_}
 use Rattle.calendar.specs.declared.dates.Date.{Date}
 use Rattle.models.specs.declared.adjustments.TimeAdjustment.{TimeAdjustment}
 use Rattle.models.specs.declared.parameters.Parameters.{Parameters}
+use Rattle.models.specs.declared.rules.Season.{Season}
 use Rattle.models.specs.declared.prayer.Prayer.{Prayer}
 use Rattle.models.specs.declared.rules.Midnight.{Midnight}
 use Rattle.refusals.specs.declared.Refusal.{Refusal}
@@ -22,7 +23,7 @@ use Rattle.schedule.specs.declared.prayer_times.Worked.the-variants.{Times, Ref
 use Rattle.schedule.specs.Hours.{hoursOf}
 use Rattle.schedule.specs.InForce.{NotAfter}
 use Rattle.schedule.specs.Numbers.{fajrNumberOf, ishaNumberOf, asrNumberOf, numbersOf}
-use Rattle.schedule.specs.Times.{workedFrom, workedOf}
+use Rattle.schedule.specs.Times.{workedFrom, seasonOf, workedOf}
 use Rattle.schedule_laws.specs.Later.{withMinutes, NoneEarlier, ExactlyLater, Moved, LaterMinutesMoveTheDay, LaterMinutesMoveTheRow}
 use Rattle.schedule_laws.proofs.SunSpans.{SunHour, Row, hours}
 use Rattle.schedule.specs.declared.in_force.Instant.{Instant}
@@ -57,24 +58,24 @@ worked-alike p q x y none exact =
 
 module _ (p : Parameters) (minutes : TimeAdjustment) (more : (prayer : Prayer) → timeAdjustmentsOf p prayer ≼ timeAdjustmentsOf (withMinutes p minutes) prayer)
     (held : (prayer : Prayer) → Near (2 ^ 32) (timeAdjustmentsOf p prayer)) (held-q : (prayer : Prayer) → Near (2 ^ 32) (timeAdjustmentsOf (withMinutes p minutes) prayer))
-    (latitude : Float) (date : Date) where
-  by-suns : (s : Suns) (h : RowHours) → Row s → SunHour (h .«fajr_tomorrow») → Moved p (withMinutes p minutes) (workedFrom s h date latitude p) (workedFrom s h date latitude (withMinutes p minutes))
+    (season : Season) (date : Date) where
+  by-suns : (s : Suns) (h : RowHours) → Row s → SunHour (h .«fajr_tomorrow») → Moved p (withMinutes p minutes) (workedFrom s h date season p) (workedFrom s h date season (withMinutes p minutes))
   unfolding workedFrom
   by-suns (Lacks r) h x k = refused-alike p (withMinutes p minutes) r
   by-suns (Whole suns) h x k =
-      worked-alike p (withMinutes p minutes) _ _ (none-earlier p minutes latitude date suns h more held held-q x k) (exactly p minutes latitude date suns h)
+      worked-alike p (withMinutes p minutes) _ _ (none-earlier p minutes season date suns h more held held-q x k) (exactly p minutes season date suns h)
 
-  by-numbers : (rule : Midnight) (n : RowNumbers) → Moved p (withMinutes p minutes) (workedOf (hoursOf rule n) date latitude p) (workedOf (hoursOf rule n) date latitude (withMinutes p minutes))
+  by-numbers : (rule : Midnight) (n : RowNumbers) → Moved p (withMinutes p minutes) (workedOf (hoursOf rule n) date season p) (workedOf (hoursOf rule n) date season (withMinutes p minutes))
   unfolding workedOf
   by-numbers rule n = let h = hours rule n in by-suns (hoursOf rule n .suns) (hoursOf rule n) (h .suns) (h .«fajr_tomorrow»)
 
 pub later-minutes-move-the-day : LaterMinutesMoveTheDay
-later-minutes-move-the-day rule n date latitude p q h =
+later-minutes-move-the-day rule n date season p q h =
     let e = h .alike in
-    subst (λ (x : Parameters). Moved p x (workedOf (hoursOf rule n) date latitude p) (workedOf (hoursOf rule n) date latitude x)) e
+    subst (λ (x : Parameters). Moved p x (workedOf (hoursOf rule n) date season p) (workedOf (hoursOf rule n) date season x)) e
     (by-numbers p (q .adjustments) (λ (prayer : Prayer). subst (λ (x : Parameters). timeAdjustmentsOf p prayer ≼ timeAdjustmentsOf x prayer) (sym e) (h .more prayer)) (h .«first_held»)
     (λ (prayer : Prayer). subst (λ (x : Parameters). Near (2 ^ 32) (timeAdjustmentsOf x prayer)) (sym e) (h .«second_held» prayer))
-    latitude
+    season
     date
     rule
     n)
@@ -89,5 +90,5 @@ later-minutes-move-the-row date place rules p q h =
     let rule = rules .midnight in
     let n = numbersOf date place p in
     let e : numbersOf date place q ≡ n = ap (numbersOf date place) (sym (h .alike)) ∙ numbers-alike date place p (q .adjustments) in
-    subst (λ (m : RowNumbers). Moved p q (workedOf (hoursOf rule n) date (place .latitude) p) (workedOf (hoursOf rule m) date (place .latitude) q)) (sym e)
-    (later-minutes-move-the-day rule n date (place .latitude) p q h)
+    subst (λ (m : RowNumbers). Moved p q (workedOf (hoursOf rule n) date (seasonOf (place .latitude) rules) p) (workedOf (hoursOf rule m) date (seasonOf (place .latitude) rules) q)) (sym e)
+    (later-minutes-move-the-day rule n date (seasonOf (place .latitude) rules) p q h)

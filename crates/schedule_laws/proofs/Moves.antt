@@ -17,6 +17,7 @@ use Rattle.calendar.specs.Answers.{tomorrowOf}
 use Rattle.calendar.specs.declared.dates.Date.{Date}
 use Rattle.models.specs.declared.adjustments.TimeAdjustment.{TimeAdjustment}
 use Rattle.models.specs.declared.parameters.Parameters.{Parameters}
+use Rattle.models.specs.declared.rules.Season.{Season}
 use Rattle.models.specs.declared.prayer.Prayer.{Prayer}
 use Rattle.models.specs.declared.prayer.Prayer.the-variants.{Fajr, Sunrise, Dhuhr, Asr, Maghrib, Isha}
 use Rattle.models.specs.declared.rounding.Rounding.{Rounding}
@@ -80,20 +81,20 @@ in-i32 (negsuc n) h = record { from = omega arith; to = omega arith }
 cast-near : (x : Float) → Near (2 ^ 31) (toSigned 31 x)
 cast-near x = in-i32 (toSigned 31 x) (toSigned-in 31 x)
 
-before-near : (p : Parameters) (latitude : Float) (date : Date) (night : ℤ) → Near (2 ^ 31) (beforeSunriseOf p latitude date night)
+before-near : (p : Parameters) (season : Season) (date : Date) (night : ℤ) → Near (2 ^ 31) (beforeSunriseOf p season date night)
 unfolding beforeSunriseOf morningSecondsOf portionBeforeOf
-before-near p latitude date night = either-between (bySeasonOf (p .method)) (cast-near _) (cast-near _)
+before-near p season date night = either-between (bySeasonOf (p .method)) (cast-near _) (cast-near _)
 
 module _ (p : Parameters) (held : (prayer : Prayer) → Near (2 ^ 32) (timeAdjustmentsOf p prayer)) where
   maghrib-near : {x : ℤ} → Days 1 2 x → Near (2 ^ 39) (finalOf p Maghrib x)
   maghrib-near h = wider (final-between p Maghrib h (held Maghrib)) (lit≤ tt) (lit≤ tt)
 
-  tomorrow-near : (latitude : Float) (date : Date) (tomorrow after : SolarTime) (hour : SolarHour) → Sun tomorrow → Sun after → SunHour hour
-      → Near (2 ^ 39) (fajrTomorrowOf p latitude date tomorrow after hour)
+  tomorrow-near : (season : Season) (date : Date) (tomorrow after : SolarTime) (hour : SolarHour) → Sun tomorrow → Sun after → SunHour hour
+      → Near (2 ^ 39) (fajrTomorrowOf p season date tomorrow after hour)
   unfolding fajrTomorrowOf
-  tomorrow-near latitude date tomorrow after hour a b h =
+  tomorrow-near season date tomorrow after hour a b h =
       let seventh = seventh-days (nightOf tomorrow after) (night-days tomorrow after a b) in
-      let fajr = fajr-between p latitude (tomorrowOf date) tomorrow after hour h (a .sunrise) (wider seventh (lit≤ tt) (lit≤ tt)) (before-near p latitude (tomorrowOf date) (nightOf tomorrow after)) in
+      let fajr = fajr-between p season (tomorrowOf date) tomorrow after hour h (a .sunrise) (wider seventh (lit≤ tt) (lit≤ tt)) (before-near p season (tomorrowOf date) (nightOf tomorrow after)) in
       wider (sum-between (adjusted-between fajr (held Fajr)) (natural-between 86400)) (lit≤ tt) (lit≤ tt)
 
 short-night : {m f : ℤ} → Near (2 ^ 39) m → Near (2 ^ 39) f → Small (f -ℤ m)
@@ -118,29 +119,29 @@ module _ (p : Parameters) (minutes : TimeAdjustment) where
   unfolding finalOf
   final-moved prayer x = rounded-again (p .rounding) x (timeAdjustmentsOf p prayer) (timeAdjustmentsOf q prayer)
 
-  module _ (latitude : Float) (date : Date) (today next : SolarTime) (hour : SolarHour) where
-    unadjusted-fajr : unadjustedFajrOf q latitude date today next hour ≡ unadjustedFajrOf p latitude date today next hour
+  module _ (season : Season) (date : Date) (today next : SolarTime) (hour : SolarHour) where
+    unadjusted-fajr : unadjustedFajrOf q season date today next hour ≡ unadjustedFajrOf p season date today next hour
     unfolding unadjustedFajrOf beforeSunriseOf
     unadjusted-fajr = refl
 
-    unadjusted-isha : unadjustedIshaOf q latitude date today next hour ≡ unadjustedIshaOf p latitude date today next hour
+    unadjusted-isha : unadjustedIshaOf q season date today next hour ≡ unadjustedIshaOf p season date today next hour
     unfolding unadjustedIshaOf boundedIshaOf ishaBoundOf
     unadjusted-isha = refl
 
-    fajr-moved : finalOf q Fajr (unadjustedFajrOf q latitude date today next hour) ≡ finalOf p Fajr (unadjustedFajrOf p latitude date today next hour) +ℤ laterBy p q Fajr
-    fajr-moved = ap (finalOf q Fajr) unadjusted-fajr ∙ final-moved Fajr (unadjustedFajrOf p latitude date today next hour)
+    fajr-moved : finalOf q Fajr (unadjustedFajrOf q season date today next hour) ≡ finalOf p Fajr (unadjustedFajrOf p season date today next hour) +ℤ laterBy p q Fajr
+    fajr-moved = ap (finalOf q Fajr) unadjusted-fajr ∙ final-moved Fajr (unadjustedFajrOf p season date today next hour)
 
-    isha-moved : finalOf q Isha (unadjustedIshaOf q latitude date today next hour) ≡ finalOf p Isha (unadjustedIshaOf p latitude date today next hour) +ℤ laterBy p q Isha
-    isha-moved = ap (finalOf q Isha) unadjusted-isha ∙ final-moved Isha (unadjustedIshaOf p latitude date today next hour)
+    isha-moved : finalOf q Isha (unadjustedIshaOf q season date today next hour) ≡ finalOf p Isha (unadjustedIshaOf p season date today next hour) +ℤ laterBy p q Isha
+    isha-moved = ap (finalOf q Isha) unadjusted-isha ∙ final-moved Isha (unadjustedIshaOf p season date today next hour)
 
-  tomorrow-moved : (latitude : Float) (date : Date) (tomorrow after : SolarTime) (hour : SolarHour)
-      → fajrTomorrowOf q latitude date tomorrow after hour ≡ fajrTomorrowOf p latitude date tomorrow after hour +ℤ laterBy p q Fajr
+  tomorrow-moved : (season : Season) (date : Date) (tomorrow after : SolarTime) (hour : SolarHour)
+      → fajrTomorrowOf q season date tomorrow after hour ≡ fajrTomorrowOf p season date tomorrow after hour +ℤ laterBy p q Fajr
   unfolding fajrTomorrowOf
-  tomorrow-moved latitude date tomorrow after hour =
-      let u = unadjustedFajrOf p latitude (tomorrowOf date) tomorrow after hour in
+  tomorrow-moved season date tomorrow after hour =
+      let u = unadjustedFajrOf p season (tomorrowOf date) tomorrow after hour in
       let x = adjustedOf u (timeAdjustmentsOf p Fajr) in
       let d = laterBy p q Fajr in
-      let e = ap (λ (z : ℤ). adjustedOf z (timeAdjustmentsOf q Fajr)) (unadjusted-fajr latitude (tomorrowOf date) tomorrow after hour) ∙ adjusted-again u (timeAdjustmentsOf p Fajr) (timeAdjustmentsOf q Fajr) in
+      let e = ap (λ (z : ℤ). adjustedOf z (timeAdjustmentsOf q Fajr)) (unadjusted-fajr season (tomorrowOf date) tomorrow after hour) ∙ adjusted-again u (timeAdjustmentsOf p Fajr) (timeAdjustmentsOf q Fajr) in
       let a = sum x d in
       let b = sum (x +ℤ d) (pos 86400) in
       let c = sum x (pos 86400) in
@@ -148,12 +149,12 @@ module _ (p : Parameters) (minutes : TimeAdjustment) where
       ap nextDayOf e ∙ same (x +ℤ d +ℤ pos 86400) (x +ℤ pos 86400 +ℤ d) (omega arith)
 
   -- ---- the day
-  module _ (latitude : Float) (date : Date) (suns : ThreeSuns) (h : RowHours) where
+  module _ (season : Season) (date : Date) (suns : ThreeSuns) (h : RowHours) where
     abbrev pub first : PrayerTimes
-    first = timesOf p latitude date suns h
+    first = timesOf p season date suns h
 
     abbrev pub second : PrayerTimes
-    second = timesOf q latitude date suns h
+    second = timesOf q season date suns h
 
     abbrev sun : SolarTime
     sun = suns .today
@@ -163,13 +164,13 @@ module _ (p : Parameters) (minutes : TimeAdjustment) where
     exactly =
         let start = startOf date in
         record {
-          fajr = moved-on start _ _ (laterBy p q Fajr) (fajr-moved latitude date sun (suns .tomorrow) (h .fajr));
+          fajr = moved-on start _ _ (laterBy p q Fajr) (fajr-moved season date sun (suns .tomorrow) (h .fajr));
           sunrise = moved-on start _ _ (laterBy p q Sunrise) (final-moved Sunrise (sun .sunrise));
           dhuhr = moved-on start _ _ (laterBy p q Dhuhr) (final-moved Dhuhr (sun .transit));
           asr = moved-on start _ _ (laterBy p q Asr) (final-moved Asr (orOf (h .asr) (sun .transit)));
           maghrib = moved-on start _ _ (laterBy p q Maghrib) (final-moved Maghrib (sun .sunset));
-          isha = moved-on start _ _ (laterBy p q Isha) (isha-moved latitude date sun (suns .tomorrow) (h .isha));
-          «fajr_tomorrow» = moved-on start _ _ (laterBy p q Fajr) (tomorrow-moved latitude date (suns .tomorrow) (suns .after) (h .«fajr_tomorrow»));
+          isha = moved-on start _ _ (laterBy p q Isha) (isha-moved season date sun (suns .tomorrow) (h .isha));
+          «fajr_tomorrow» = moved-on start _ _ (laterBy p q Fajr) (tomorrow-moved season date (suns .tomorrow) (suns .after) (h .«fajr_tomorrow»));
         }
 
     module _ (more : (prayer : Prayer) → timeAdjustmentsOf p prayer ≼ timeAdjustmentsOf q prayer)
@@ -179,8 +180,8 @@ module _ (p : Parameters) (minutes : TimeAdjustment) where
       by-more prayer x y e = not-earlier x y (timeAdjustmentsOf p prayer) (timeAdjustmentsOf q prayer) (more prayer) e
 
       short : (r : Parameters) → ((prayer : Prayer) → Near (2 ^ 32) (timeAdjustmentsOf r prayer))
-          → Small (fajrTomorrowOf r latitude date (suns .tomorrow) (suns .after) (h .«fajr_tomorrow») -ℤ finalOf r Maghrib (sun .sunset))
-      short r held = short-night (maghrib-near r held (three .today .sunset)) (tomorrow-near r held latitude date (suns .tomorrow) (suns .after) (h .«fajr_tomorrow») (three .tomorrow) (three .after) placed)
+          → Small (fajrTomorrowOf r season date (suns .tomorrow) (suns .after) (h .«fajr_tomorrow») -ℤ finalOf r Maghrib (sun .sunset))
+      short r held = short-night (maghrib-near r held (three .today .sunset)) (tomorrow-near r held season date (suns .tomorrow) (suns .after) (h .«fajr_tomorrow») (three .tomorrow) (three .after) placed)
 
       pub none-earlier : NoneEarlier first second
       unfolding fromMidnightOf startedOf
@@ -188,10 +189,10 @@ module _ (p : Parameters) (minutes : TimeAdjustment) where
           let start = startOf date in
           let m = finalOf p Maghrib (sun .sunset) in
           let m' = finalOf q Maghrib (sun .sunset) in
-          let f = fajrTomorrowOf p latitude date (suns .tomorrow) (suns .after) (h .«fajr_tomorrow») in
-          let f' = fajrTomorrowOf q latitude date (suns .tomorrow) (suns .after) (h .«fajr_tomorrow») in
+          let f = fajrTomorrowOf p season date (suns .tomorrow) (suns .after) (h .«fajr_tomorrow») in
+          let f' = fajrTomorrowOf q season date (suns .tomorrow) (suns .after) (h .«fajr_tomorrow») in
           let later = by-more Maghrib m m' (final-moved Maghrib (sun .sunset)) in
-          let later-fajr = by-more Fajr f f' (tomorrow-moved latitude date (suns .tomorrow) (suns .after) (h .«fajr_tomorrow»)) in
+          let later-fajr = by-more Fajr f f' (tomorrow-moved season date (suns .tomorrow) (suns .after) (h .«fajr_tomorrow»)) in
           record {
             fajr = by-more Fajr (first .fajr) (second .fajr) (exactly .fajr);
             sunrise = by-more Sunrise (first .sunrise) (second .sunrise) (exactly .sunrise);

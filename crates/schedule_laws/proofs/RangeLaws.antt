@@ -13,6 +13,7 @@ use Rattle.integers.proofs.Intervals.{wider, sum-between, difference-between, n
 use Rattle.calendar.specs.Answers.{tomorrowOf}
 use Rattle.calendar.specs.declared.dates.Date.{Date}
 use Rattle.models.specs.declared.parameters.Parameters.{Parameters}
+use Rattle.models.specs.declared.rules.Season.{Season}
 use Rattle.models.specs.declared.prayer.Prayer.{Prayer}
 use Rattle.models.specs.declared.prayer.Prayer.the-variants.{Fajr, Sunrise, Dhuhr, Asr, Maghrib, Isha}
 use Rattle.models.specs.declared.rounding.Rounding.the-variants.{Nearest}
@@ -81,7 +82,7 @@ module _ {maghrib fajr : ℤ} (m : Closer maghrib) (f : Closer fajr) where
       rounded-between Nearest (toward-between maghrib fajr (lastThirdOf (fajr -ℤ maghrib)) m f (last-third-inside (fajr -ℤ maghrib) small))
 
 -- ---- the nine
-module _ (p : Parameters) (carried : Carried p) (latitude : Float) (there : LatitudeInOrder latitude) (date : Date) where
+module _ (p : Parameters) (carried : Carried p) (season : Season) (there : LatitudeInOrder (season .latitude)) (date : Date) where
   minutes : (prayer : Prayer) → Near 727 (timeAdjustmentsOf p prayer)
   minutes prayer = carried-minutes p carried prayer
 
@@ -90,12 +91,12 @@ module _ (p : Parameters) (carried : Carried p) (latitude : Float) (there : Lati
   final prayer h = wider (final-between p prayer h (minutes prayer)) (lit≤ tt) (lit≤ tt)
 
   -- of the next date, from 0h of this one
-  tomorrow : (today next : SolarTime) (hour : SolarHour) → Sun today → Sun next → SunHour hour → Closer (fajrTomorrowOf p latitude date today next hour)
+  tomorrow : (today next : SolarTime) (hour : SolarHour) → Sun today → Sun next → SunHour hour → Closer (fajrTomorrowOf p season date today next hour)
   unfolding fajrTomorrowOf
   tomorrow today next hour a b h =
-      wider (sum-between (adjusted-between (fajr-days p latitude carried there (tomorrowOf date) today next a b hour h) (minutes Fajr)) (natural-between 86400)) (lit≤ tt) (lit≤ tt)
+      wider (sum-between (adjusted-between (fajr-days p season carried there (tomorrowOf date) today next a b hour h) (minutes Fajr)) (natural-between 86400)) (lit≤ tt) (lit≤ tt)
 
-  nine : (suns : ThreeSuns) (h : RowHours) → Three suns → Hours h → Each Close (fromMidnightOf p latitude date suns h)
+  nine : (suns : ThreeSuns) (h : RowHours) → Three suns → Hours h → Each Close (fromMidnightOf p season date suns h)
   unfolding fromMidnightOf
   nine suns h three k =
       let sun = three .today in
@@ -103,29 +104,29 @@ module _ (p : Parameters) (carried : Carried p) (latitude : Float) (there : Lati
       let m = final Maghrib (sun .sunset) in
       let f = tomorrow (suns .tomorrow) (suns .after) (h .«fajr_tomorrow») next (three .after) (k .«fajr_tomorrow») in
       record {
-        fajr = wider (final-between p Fajr (fajr-days p latitude carried there date (suns .today) (suns .tomorrow) sun next (h .fajr) (k .fajr)) (minutes Fajr)) (lit≤ tt) (lit≤ tt);
+        fajr = wider (final-between p Fajr (fajr-days p season carried there date (suns .today) (suns .tomorrow) sun next (h .fajr) (k .fajr)) (minutes Fajr)) (lit≤ tt) (lit≤ tt);
         sunrise = wider (final Sunrise (sun .sunrise)) (lit≤ tt) (lit≤ tt);
         dhuhr = wider (final Dhuhr (sun .transit)) (lit≤ tt) (lit≤ tt);
         asr = wider (final Asr (or-between (h .asr) (k .asr) (sun .transit))) (lit≤ tt) (lit≤ tt);
         maghrib = wider m (lit≤ tt) (lit≤ tt);
-        isha = wider (final-between p Isha (isha-days p latitude carried there date (suns .today) (suns .tomorrow) sun next (h .isha) (k .isha)) (minutes Isha)) (lit≤ tt) (lit≤ tt);
+        isha = wider (final-between p Isha (isha-days p season carried there date (suns .today) (suns .tomorrow) sun next (h .isha) (k .isha)) (minutes Isha)) (lit≤ tt) (lit≤ tt);
         «middle_of_the_night» = middle-close m f;
         qiyam = qiyam-close m f;
         «fajr_tomorrow» = wider f (lit≤ tt) (lit≤ tt);
       }
 
-  worked : (s : Suns) (h : RowHours) (t : PrayerTimes) → Row s → Hours h → workedFrom s h date latitude p ≡ Times t → AllOfDate date t
+  worked : (s : Suns) (h : RowHours) (t : PrayerTimes) → Row s → Hours h → workedFrom s h date season p ≡ Times t → AllOfDate date t
   unfolding workedFrom
   worked (Lacks r) h t x k e = let w : _≡_ {A = ℕ} 0 1 = cc in absurd (omega arith)
   worked (Whole suns) h t x k e =
-      let same-times : timesOf p latitude date suns h ≡ t = cc in
-      subst (AllOfDate date) same-times (started-close date (fromMidnightOf p latitude date suns h) (nine suns h x k))
+      let same-times : timesOf p season date suns h ≡ t = cc in
+      subst (AllOfDate date) same-times (started-close date (fromMidnightOf p season date suns h) (nine suns h x k))
 
 pub times-lie-by-their-date : TimesLieByTheirDate
 unfolding workedOf
-times-lie-by-their-date rule n date latitude p t there carried e =
+times-lie-by-their-date rule n date season p t there carried e =
     let h = hours rule n in
-    worked p carried latitude there date (hoursOf rule n .suns) (hoursOf rule n) t (h .suns) h e
+    worked p carried season there date (hoursOf rule n .suns) (hoursOf rule n) t (h .suns) h e
 
 pub days-are-one-digit : DaysAreOneDigit
 days-are-one-digit date time h = by-sign (time -ℤ startOf date) (h .from) (h .before)

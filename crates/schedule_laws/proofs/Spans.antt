@@ -11,6 +11,7 @@ use Rattle.integers.proofs.Intervals.{by-balance, wider, sum-between, differenc
 use Rattle.calendar.specs.declared.dates.Date.{Date}
 use Rattle.models.specs.declared.method.Method.{Method}
 use Rattle.models.specs.declared.parameters.Parameters.{Parameters}
+use Rattle.models.specs.declared.rules.Season.{Season}
 use Rattle.models.specs.declared.prayer.Prayer.{Prayer}
 use Rattle.models.specs.Settings.{timeAdjustmentsOf}
 use Rattle.stride.specs.Times.{adjustedOf}
@@ -51,12 +52,12 @@ pub next-day-between : (a : ℕ) {b : ℕ} {x : ℤ} → Between (86400 + a) b x
 next-day-between a {b} {x} h = let s = sum x (pos 86400) in by-balance a (b + 86400) (x +ℤ pos 86400) (omega arith) (omega arith)
 
 -- what is added to sunrise lies from -c to d, and so does what a seventh of the night adds
-pub fajr-between : {a b c d : ℕ} (p : Parameters) (latitude : Float) (date : Date) (today next : SolarTime) (hour : SolarHour) → HourBetween a b hour → Between a b (today .sunrise)
-    → Between d c (seventhOf (nightOf today next)) → Between c d (beforeSunriseOf p latitude date (nightOf today next)) → Between (a + c) (b + d) (unadjustedFajrOf p latitude date today next hour)
+pub fajr-between : {a b c d : ℕ} (p : Parameters) (season : Season) (date : Date) (today next : SolarTime) (hour : SolarHour) → HourBetween a b hour → Between a b (today .sunrise)
+    → Between d c (seventhOf (nightOf today next)) → Between c d (beforeSunriseOf p season date (nightOf today next)) → Between (a + c) (b + d) (unadjustedFajrOf p season date today next hour)
 unfolding unadjustedFajrOf
-fajr-between p latitude date today next hour h r v m =
+fajr-between p season date today next hour h r v m =
     let bound = sum-between r m in
-    later-between (own-between (p .method) latitude hour (hour-wider h (omega arith) (omega arith)) (difference-between r v) bound) bound
+    later-between (own-between (p .method) (season .latitude) hour (hour-wider h (omega arith) (omega arith)) (difference-between r v) bound) bound
 
 -- adjusted and rounded
 pub final-between : {a b k : ℕ} {x : ℤ} (p : Parameters) (prayer : Prayer) → Between a b x → Near k (timeAdjustmentsOf p prayer) → Between (a + k * 60 + 60) (b + k * 60 + 60) (finalOf p prayer x)

@@ -15,6 +15,7 @@ use Rattle.calendar.proofs.Existing.{ordinal-short}
 use Rattle.models.specs.declared.high_altitude_rule.HighLatitudeRule.{HighLatitudeRule}
 use Rattle.models.specs.declared.high_altitude_rule.HighLatitudeRule.the-variants.{MiddleOfTheNight, SeventhOfTheNight, TwilightAngle}
 use Rattle.models.specs.declared.parameters.Parameters.{Parameters}
+use Rattle.models.specs.declared.rules.Season.{Season}
 use Rattle.models.specs.declared.rounding.Rounding.the-variants.{Nearest}
 use Rattle.models.specs.declared.rules.Midnight.{Midnight}
 use Rattle.models.specs.Settings.{portionsOf, nightPortionsOf}
@@ -116,7 +117,7 @@ isha-portion SeventhOfTheNight fajr isha h = seventh-portion
 isha-portion TwilightAngle fajr isha h = angle-portion isha (h .0) (h .1)
 
 -- ---- Fajr and Isha, not adjusted yet
-module _ (p : Parameters) (latitude : Float) (carried : Carried p) (there : LatitudeInOrder latitude) (date : Date) (today next : SolarTime) (sun : Sun today) (sun-next : Sun next)
+module _ (p : Parameters) (season : Season) (carried : Carried p) (there : LatitudeInOrder (season .latitude)) (date : Date) (today next : SolarTime) (sun : Sun today) (sun-next : Sun next)
     (hour : SolarHour) (placed : SunHour hour) where
   abbrev night : ℤ
   night = nightOf today next
@@ -124,11 +125,11 @@ module _ (p : Parameters) (latitude : Float) (carried : Carried p) (there : Lati
   long : Days 2 4 night
   long = night-days today next sun sun-next
 
-  before : Days 2 1 (beforeSunriseOf p latitude date night)
+  before : Days 2 1 (beforeSunriseOf p season date night)
   unfolding beforeSunriseOf
   before =
       let l = long in
-      let m = morning-small latitude (ordinalOf date) (date .year) (there .south) (there .north) (ordinal-short date) in
+      let m = morning-small season (ordinalOf date) (date .year) (there .south) (there .north) (ordinal-short date) in
       let b = before-half (nightPortionsOf p .fajr) night (fajr-portion (p .«high_latitude_rule») (p .«fajr_angle») (p .«isha_angle») (carried .«fajr_angle»)) (wider l (lit≤ tt) (lit≤ tt)) in
       either-between (bySeasonOf (p .method)) (record { from = omega (arith, m .1); to = m .0 }) (record { from = omega (arith, b .1); to = omega (arith, b .0) })
 
@@ -138,24 +139,24 @@ module _ (p : Parameters) (latitude : Float) (carried : Carried p) (there : Lati
       let b = after-half (nightPortionsOf p .isha) night (isha-portion (p .«high_latitude_rule») (p .«fajr_angle») (p .«isha_angle») (carried .«isha_angle»)) (wider l (lit≤ tt) (lit≤ tt)) in
       record { from = omega (arith, b .1); to = omega (arith, b .0) }
 
-  pub fajr-days : Days 3 3 (unadjustedFajrOf p latitude date today next hour)
-  fajr-days = fajr-between p latitude date today next hour placed (sun .sunrise) (wider (seventh-days night long) (lit≤ tt) (lit≤ tt)) before
+  pub fajr-days : Days 3 3 (unadjustedFajrOf p season date today next hour)
+  fajr-days = fajr-between p season date today next hour placed (sun .sunrise) (wider (seventh-days night long) (lit≤ tt) (lit≤ tt)) before
 
   abbrev IshaSpan : ℤ → Type 0
   IshaSpan z = Between (2 * 86400 + 60) (4 * 86400) z
 
-  bound : IshaSpan (ishaBoundOf p latitude date today night)
+  bound : IshaSpan (ishaBoundOf p season date today night)
   unfolding ishaBoundOf
   bound =
-      let e = evening-small latitude (ordinalOf date) (date .year) (there .south) (there .north) (ordinal-short date) (p .shafaq) in
-      let evening : Days 1 1 (eveningSecondsOf latitude (ordinalOf date) (date .year) (p .shafaq)) = record { from = e .1; to = e .0 } in
+      let e = evening-small season (ordinalOf date) (date .year) (there .south) (there .north) (ordinal-short date) (p .shafaq) in
+      let evening : Days 1 1 (eveningSecondsOf season (ordinalOf date) (date .year) (p .shafaq)) = record { from = e .1; to = e .0 } in
       either-between (bySeasonOf (p .method)) (wider (rounded-between Nearest (sum-between (sun .sunset) evening)) (lit≤ tt) (lit≤ tt)) (wider (sum-between (sun .sunset) after) (lit≤ tt) (lit≤ tt))
 
-  bounded : IshaSpan (boundedIshaOf p latitude date today next hour)
+  bounded : IshaSpan (boundedIshaOf p season date today next hour)
   unfolding boundedIshaOf
   bounded =
-      earlier-between (own-between (p .method) latitude hour (hour-wider placed (lit≤ tt) (lit≤ tt)) (wider (sum-between (sun .sunset) (seventh-days night long)) (lit≤ tt) (lit≤ tt)) bound) bound
+      earlier-between (own-between (p .method) (season .latitude) hour (hour-wider placed (lit≤ tt) (lit≤ tt)) (wider (sum-between (sun .sunset) (seventh-days night long)) (lit≤ tt) (lit≤ tt)) bound) bound
 
-  pub isha-days : IshaSpan (unadjustedIshaOf p latitude date today next hour)
+  pub isha-days : IshaSpan (unadjustedIshaOf p season date today next hour)
   unfolding unadjustedIshaOf
   isha-days = either-between (ltZ (pos 0) (p .«isha_interval»)) (wider (sum-between (sun .sunset) (product-between (carried .«isha_interval») 60)) (lit≤ tt) (lit≤ tt)) bounded

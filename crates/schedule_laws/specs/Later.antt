@@ -1,9 +1,8 @@
 -- Two sets of parameters that differ only in a school's own minutes (demand 3): what the second's larger sums do to the days that are refused, to
--- the nine times and to the prayer in force. For all hour numbers, either rule at midnight, every date and every latitude. Proved in proofs/LaterLaws.
+-- the nine times and to the prayer in force. For all hour numbers, either rule at midnight and in the south, every date and every latitude. Proved in proofs/LaterLaws.
 use mathlib.Core.Path.{_≡_}
 use Prim.Native.Nat.{_^_, _≤_, _<_}
 use lib.IntN.{ℤ, pos, _+ℤ_, _-ℤ_, _*ℤ_}
-use lib.Ieee.{Float}
 use Rattle.integers.specs.Parts.{Near}
 use Rattle.integers.specs.Order.{_≼_}
 use Rattle.calendar.specs.declared.dates.Date.{Date}
@@ -13,6 +12,7 @@ use Rattle.models.specs.declared.prayer.Prayer.{Prayer}
 use Rattle.models.specs.declared.prayer.Prayer.the-variants.{Fajr, Sunrise, Dhuhr, Asr, Maghrib, Isha}
 use Rattle.models.specs.declared.rules.Midnight.{Midnight}
 use Rattle.models.specs.declared.rules.Rules.{Rules}
+use Rattle.models.specs.declared.rules.Season.{Season}
 use Rattle.refusals.specs.declared.Refusal.{Refusal}
 use Rattle.models.specs.Settings.{timeAdjustmentsOf}
 use Rattle.unit.specs.declared.Coordinates.{Coordinates}
@@ -95,8 +95,8 @@ pub record Moved (p q : Parameters) (w v : Worked) : Type 0 where
 
 abbrev pub LaterMinutesMoveTheDay : Type 0
 LaterMinutesMoveTheDay =
-    (rule : Midnight) (n : RowNumbers) (date : Date) (latitude : Float) (p q : Parameters) → LaterMinutes p q
-    → Moved p q (workedOf (hoursOf rule n) date latitude p) (workedOf (hoursOf rule n) date latitude q)
+    (rule : Midnight) (n : RowNumbers) (date : Date) (season : Season) (p q : Parameters) → LaterMinutes p q
+    → Moved p q (workedOf (hoursOf rule n) date season p) (workedOf (hoursOf rule n) date season q)
 
 -- from date and place on: the minutes change no hour number
 abbrev pub LaterMinutesMoveTheRow : Type 0

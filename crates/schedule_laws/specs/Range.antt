@@ -1,14 +1,14 @@
--- Where the nine times of a date lie, and that a sheet can print each one's days as one signed digit: for all hour numbers, either rule at midnight, every
--- date, and every latitude and parameters that an order can carry. Proved in proofs/RangeLaws.
+-- Where the nine times of a date lie, and that a sheet can print each one's days as one signed digit: for all hour numbers, either rule at midnight and in the
+-- south, every date, and every latitude and parameters that an order can carry. Proved in proofs/RangeLaws.
 use mathlib.Core.Path.{_≡_}
 use Prim.Native.Nat.{_*_, _≤_, _<_}
 use lib.IntN.{ℤ, _-ℤ_}
-use lib.Ieee.{Float}
 use Rattle.integers.specs.Parts.{P, N}
 use Rattle.integers.specs.Quotients.{floorQuot}
 use Rattle.calendar.specs.declared.dates.Date.{Date}
 use Rattle.models.specs.declared.parameters.Parameters.{Parameters}
 use Rattle.models.specs.declared.rules.Midnight.{Midnight}
+use Rattle.models.specs.declared.rules.Season.{Season}
 use Rattle.schedule.specs.declared.hours.RowNumbers.{RowNumbers}
 use Rattle.schedule.specs.declared.prayer_times.PrayerTimes.{PrayerTimes}
 use Rattle.schedule.specs.declared.prayer_times.Worked.the-variants.{Times}
@@ -26,8 +26,8 @@ AllOfDate date t = Each (OfDate date) t
 
 abbrev pub TimesLieByTheirDate : Type 0
 TimesLieByTheirDate =
-    (rule : Midnight) (n : RowNumbers) (date : Date) (latitude : Float) (p : Parameters) (t : PrayerTimes)
-    → LatitudeInOrder latitude → Carried p → workedOf (hoursOf rule n) date latitude p ≡ Times t → AllOfDate date t
+    (rule : Midnight) (n : RowNumbers) (date : Date) (season : Season) (p : Parameters) (t : PrayerTimes)
+    → LatitudeInOrder (season .latitude) → Carried p → workedOf (hoursOf rule n) date season p ≡ Times t → AllOfDate date t
 
 -- the days that the sheet prints, rounded down, are from -4 to 4
 abbrev pub DaysAreOneDigit : Type 0

@@ -3,7 +3,9 @@ use mir.Syntax.{w32, w64}
 use mir.Val.{SFits}
 use Rattle.integers.proofs.Ranges.{readBack, read, wide, read-wide}
 use Rattle.integers.proofs.Sums.{summands}
+use Rattle.models.specs.declared.rules.Season.{Season}
 use Rattle.stride.specs.Times.{satOf, roundedOf}
+use Rattle.ops.specs.Season.{eveningSecondsOf}
 use lib.IntN.{ℤ}
 use Rattle.models.specs.declared.rounding.Rounding.the-variants.{Nearest}
 use borrow.Author.Needs.{needs}
@@ -17,13 +19,13 @@ cast-plus c =
 
 returns : tie.Need-returns
 returns c =
-    let t = c .before .before .before in
+    let t = c .before .before .before .before in
     let z = c .before .before .evening-twilight-seconds .result in
     let f : SFits w32 z = search needs in
     let k : readBack w64 (c .rounded-minute .result) ≡ c .rounded-minute .result = search needs in
     let p : readBack w64 (c .before .plus .result) ≡ c .before .plus .result = search needs in
-    let s = summands (read w64 (t .args .sunset) (t .fits .sunset)) (read-wide z f ∙ c .before .before .evening-twilight-seconds .ensures) in
+    let s = summands (read w64 (t .args .sunset) (t .fits .sunset)) (read-wide z f ∙ c .before .before .evening-twilight-seconds .ensures ∙ ap (λ (x : Season). eveningSecondsOf x (t .args .day) (t .args .year) (t .args .shafaq)) (c .before .before .before .source-season .ensures)) in
     k ∙ c .rounded-minute .ensures ∙ ap (λ (x : ℤ). satOf (roundedOf Nearest x)) (p ∙ c .before .plus .ensures ∙ ap satOf s)
 
 pub season-adjusted-evening-twilight-spec : {M : Type 1} → statement M
-season-adjusted-evening-twilight-spec = tie.close (tie.spec (λ c κs. tt) cast-plus (λ c κs. tt) (λ c κs. tt) returns)
+season-adjusted-evening-twilight-spec = tie.close (tie.spec (λ c κs. tt) (λ c κs. tt) cast-plus (λ c κs. tt) (λ c κs. tt) returns)

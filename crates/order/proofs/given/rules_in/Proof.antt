@@ -5,7 +5,9 @@ use Rattle.order.proofs.given.rules_in.Tie as tie
 
 returns : tie.Need-returns
 unfolding rulesIn
-returns c = simp (c .of-number .ensures, c .before .byte-or .ensures)
+returns c =
+    let m = c .before .before in
+    simp (c .of-number2 .ensures, c .before .byte-or2 .ensures, m .of-number .ensures, m .before .byte-or .ensures)
 
 pub rules-in-spec : {M : Type 1} → statement M
-rules-in-spec = tie.close (tie.spec (λ c κs. tt) (λ c κs. tt) returns)
+rules-in-spec = tie.close (tie.spec (λ c κs. tt) (λ c κs. tt) (λ c κs. tt) (λ c κs. tt) returns)

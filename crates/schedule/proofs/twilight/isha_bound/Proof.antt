@@ -25,7 +25,7 @@ returns c =
     let f : SFits w32 (t .args .today .sunset) = search needs in
     let k : readBack w64 (c .rounded-minute .result) ≡ c .rounded-minute .result = search needs in
     let ke : readBack w32 (m .evening-twilight-seconds .result) ≡ m .evening-twilight-seconds .result = search needs in
-    let e = ke ∙ m .evening-twilight-seconds .ensures ∙ ap (λ (n : ℕ). eveningSecondsOf (t .args .latitude) n (t .args .date .year) (t .args .parameters .shafaq)) (m .before .ordinal .ensures) in
+    let e = ke ∙ m .evening-twilight-seconds .ensures ∙ ap (λ (n : ℕ). eveningSecondsOf (t .args .season) n (t .args .date .year) (t .args .parameters .shafaq)) (m .before .ordinal .ensures) in
     let x = held-as (of-near (c .before .sum .ensures) (lit≤ tt)) (summands (read w32 _ f) e) in
     promised (held-as (held-by (k ∙ c .rounded-minute .ensures) (held-rounded Nearest x (lit≤ tt))) (simp (sym (m .before .before .before .by-season .ensures), m .before .before .if1 .taken))) (lit≤ tt)
 

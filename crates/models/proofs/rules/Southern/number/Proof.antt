@@ -1,0 +1,11 @@
+use Rattle.models.specs.Numbers.{southernNumberOf}
+use borrow.Author.Needs.{needs}
+use Rattle.models.proofs.rules.Southern.number.Statement.{statement}
+use Rattle.models.proofs.rules.Southern.number.Tie as tie
+
+returns : tie.Need-returns × tie.Need-returns-2
+unfolding southernNumberOf
+returns = (λ c. simp (c .enum-told .given .1), λ c. simp (c .enum-told2 .given .1))
+
+pub number-spec : {M : Type 1} → statement M
+number-spec = tie.close (tie.spec (λ c. search needs) (λ c. search needs) (returns .0) (returns .1))
