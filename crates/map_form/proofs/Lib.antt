@@ -1,4 +1,5 @@
 pub mod Fields
+pub mod Limits
 pub mod NearestLaws
 pub mod Quotient
 pub mod Range

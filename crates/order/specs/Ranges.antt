@@ -14,8 +14,9 @@ use Rattle.calendar.specs.Answers.{rowDateOf}
 use Rattle.fields.specs.Numbers.{byteOf, unsignedOf}
 use Rattle.fields.specs.Tags.{choiceFits}
 use Rattle.fields.specs.Values.{Values}
+use Rattle.map_form.specs.Hundredths.{mostLatitude, mostLongitude, formFits}
 use Rattle.models.specs.declared.adjustments.TimeAdjustment.{TimeAdjustment}
-use Rattle.order.specs.Given.{dateIn, rowsIn, degreesIn, minutesIn}
+use Rattle.order.specs.Given.{dateIn, rowsIn, degreesIn, formIn, minutesIn}
 
 abbrev pub between : ℕ → ℕ → ℕ → Bool
 between low high n = leb low n && leb n high
@@ -72,6 +73,9 @@ ranges v =
     ∷ (12, degreesFit (dec 0 0) (dec 30 0) (v .value 12))
     ∷ (13, degreesFit (dec 0 0) (dec 30 0) (v .value 13))
     ∷ (14, intervalFits (v .value 14))
+    -- latitude, longitude as on the map
+    ∷ (18, formFits mostLatitude (formIn (v .value 18)))
+    ∷ (19, formFits mostLongitude (formIn (v .value 19)))
     ∷ []
 
 -- what a list by tag has for a tag, and else another answer

@@ -52,6 +52,10 @@ instantBeyond = 10
 abbrev pub noneInForce : ℕ
 noneInForce = 11
 
+-- request 7: "Both forms for one coordinate"; "18 or 19"
+abbrev pub bothForms : ℕ
+bothForms = 15
+
 -- request 10: "by 16 when 16 jobs wait"; the id
 abbrev pub queueFull : ℕ
 queueFull = 16
@@ -64,4 +68,4 @@ jobUnfit = 17
 abbrev pub numbers : List ℕ
 numbers =
     fieldCut ∷ fieldUnknown ∷ fieldAgain ∷ tagMissing ∷ outOfRange ∷ noTransit ∷ noSunrise
-    ∷ noSunset ∷ bufferShort ∷ instantBeyond ∷ noneInForce ∷ queueFull ∷ jobUnfit ∷ []
+    ∷ noSunset ∷ bufferShort ∷ instantBeyond ∷ noneInForce ∷ bothForms ∷ queueFull ∷ jobUnfit ∷ []

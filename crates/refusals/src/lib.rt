@@ -33,6 +33,9 @@ pub const INSTANT_BEYOND: u32 = 10;
 // Next or remaining is asked while no prayer is in force: 0.
 pub const NONE_IN_FORCE: u32 = 11;
 
+// A coordinate is given both in degrees and as on the map: the tag of the second.
+pub const BOTH_FORMS: u32 = 15;
+
 // 16 jobs wait in the print queue: the id of the job that would join.
 pub const QUEUE_FULL: u32 = 16;
 

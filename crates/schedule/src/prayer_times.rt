@@ -116,14 +116,7 @@ fn from_midnight(
     let hour_tomorrow = hours.fajr_tomorrow;
     let fajr = unadjusted_fajr(parameters, season, date, suns.today, suns.tomorrow, hour);
     let asr = or(afternoon, suns.today.transit as i64);
-    let isha = unadjusted_isha(
-        parameters,
-        season,
-        date,
-        suns.today,
-        suns.tomorrow,
-        evening,
-    );
+    let isha = unadjusted_isha(parameters, season, date, suns.today, suns.tomorrow, evening);
     let maghrib = final_time(
         parameters,
         Prayer::Maghrib,

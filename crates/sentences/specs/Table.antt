@@ -25,7 +25,7 @@ texts =
     ∷ []
     ∷ []
     ∷ []
-    ∷ []
+    ∷ ascii "Refusal 15: a coordinate is given in both forms:"
     ∷ ascii "Refusal 16: the print queue is full, job id"
     ∷ ascii "Refusal 17: the job's id or its pages are not allowed, job id"
     ∷ []

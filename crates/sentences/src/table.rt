@@ -24,7 +24,7 @@ const TEXTS: [[u8; 64]; NUMBERS] = [
     *b"                                                                ",
     *b"                                                                ",
     *b"                                                                ",
-    *b"                                                                ",
+    *b"Refusal 15: a coordinate is given in both forms:                ",
     *b"Refusal 16: the print queue is full, job id                     ",
     *b"Refusal 17: the job's id or its pages are not allowed, job id   ",
 ];
