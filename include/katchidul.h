@@ -5,35 +5,40 @@
    other field is 0 (a print queue is handed back as it was; a turn refuses nothing and has no number). Any bytes are answered, and every
    call returns.
 
-   number  name                      in the words of its sentence                           place
-   0                                 nothing is refused                                     0
-   1       KATCHIDUL_FIELD_CUT       over 1,024 bytes, or cut in the field at byte          the field's offset, or 0
-   2       KATCHIDUL_FIELD_UNKNOWN   unknown tag or wrong length in the field at byte       the field's offset
-   3       KATCHIDUL_FIELD_AGAIN     a tag stands a second time in the field at byte        the field's offset
-   4       KATCHIDUL_TAG_MISSING     the order lacks a field:                               the tag
-   5       KATCHIDUL_OUT_OF_RANGE    a value is out of range, or the month lacks the day:   the tag
-   6       KATCHIDUL_NO_TRANSIT      the sun has no transit (day 0 is the row's date), day  the day: 0, 1 or 2
-   7       KATCHIDUL_NO_SUNRISE      the sun does not rise (day 0 is the row's date), day   the day
-   8       KATCHIDUL_NO_SUNSET       the sun does not set (day 0 is the row's date), day    the day
-   9       KATCHIDUL_BUFFER_SHORT    a lent buffer is too short, place                      0
-   10      KATCHIDUL_INSTANT_BEYOND  an instant is out of range, place                      0
-   11      KATCHIDUL_NONE_IN_FORCE   no prayer is in force, place                           0
-   16      KATCHIDUL_QUEUE_FULL      the print queue is full, job id                        the job's id
-   17      KATCHIDUL_JOB_UNFIT       the job's id or its pages are not allowed, job id      the job's id
+   number  name                         in the words of its sentence                           place
+   0                                    nothing is refused                                     0
+   1       KATCHIDUL_FIELD_CUT          over 1,024 bytes, or cut in the field at byte          the field's offset, or 0
+   2       KATCHIDUL_FIELD_UNKNOWN      unknown tag or wrong length in the field at byte       the field's offset
+   3       KATCHIDUL_FIELD_AGAIN        a tag stands a second time in the field at byte        the field's offset
+   4       KATCHIDUL_TAG_MISSING        the order lacks a field:                               the tag
+   5       KATCHIDUL_OUT_OF_RANGE       a value is out of range, or the month lacks the day:   the tag
+   6       KATCHIDUL_NO_TRANSIT         the sun has no transit (day 0 is the row's date), day  the day: 0, 1 or 2
+   7       KATCHIDUL_NO_SUNRISE         the sun does not rise (day 0 is the row's date), day   the day
+   8       KATCHIDUL_NO_SUNSET          the sun does not set (day 0 is the row's date), day    the day
+   9       KATCHIDUL_BUFFER_SHORT       a lent buffer is too short, place                      0
+   10      KATCHIDUL_INSTANT_BEYOND     an instant is out of range, place                      0
+   11      KATCHIDUL_NONE_IN_FORCE      no prayer is in force, place                           0
+   12      KATCHIDUL_LOG_SECOND_SHORT   the log's second buffer is too short, page or count    the record's page; at a restart the count
+   13      KATCHIDUL_LOG_OUT_OF_TURN    a record of the log is out of turn, page               the record's page
+   14      KATCHIDUL_LOG_COUNT_OUTSIDE  the embosser's count does not fit the log, count       the count
+   16      KATCHIDUL_QUEUE_FULL         the print queue is full, job id                        the job's id
+   17      KATCHIDUL_JOB_UNFIT          the job's id or its pages are not allowed, job id      the job's id
 
-   A row that the order lacks is 5, place 3, the tag of the rows; a number that has no sentence, and bytes that are none, are 5, place 0. A row
-   buffer is too short below 119 bytes, a sentence's below its length. An instant is out of range where its seconds are beyond 10^12 either
-   way, or its nanoseconds over 999,999,999. 11 is told by next and remaining alone: that no prayer is in force is an answer of
-   katchidul_prayer_at. The print queue is full with 16 jobs; a job's id is not allowed where it is 0, over 65,535 or still waiting, its
-   pages where they are not 1 to 16. katchidul_write_sentence puts a refusal in words.
+   A row that the order lacks is 5, place 3, the tag of the rows; a number that has no sentence, and bytes that are none, are 5, place
+   0. A row buffer is too short below 119 bytes, a sentence's below its length, a job log's below the bytes that it is said to hold. An
+   instant is out of range where its seconds are beyond 10^12 either way, or its nanoseconds over 999,999,999. 11 is told by next and
+   remaining alone: that no prayer is in force is an answer of katchidul_prayer_at. What is out of turn in a job log, and which count
+   fits it, stands with its calls below. The print queue is full with 16 jobs; a job's id is not allowed where it is 0, over 65,535 or
+   still waiting, its pages where they are not 1 to 16. katchidul_write_sentence puts a refusal in words.
 
-   A row buffer (9) and an instant (10) are checked before anything else in their calls; then the order (1 to 5), the row (5, place 3), the
-   day (6 to 8), and 11. Of a job 17 is tried before 16, of a sentence to be written 5 before 9.
+   A row buffer (9) and an instant (10) are checked before anything else in their calls; then the order (1 to 5), the row (5, place 3),
+   the day (6 to 8), and 11. Of a job log 9 is tried first, then 13, 14 and 12. Of a job 17 is tried before 16, of a sentence to be
+   written 5 before 9.
 
-   What a call does with the host's memory. It changes no byte of the order, keeps nothing of what it is lent, allocates nothing and has no
-   state: calls may run on several threads at once, also on the same order, as long as nobody writes to the bytes lent meanwhile. A null
-   pointer is taken with length 0 alone, as an empty order (4, place 1), an empty buffer (9) or an empty sentence (5, place 0). A call takes less than 4,096 bytes of
-   stack (tests/host/run prints how many).
+   What a call does with the host's memory. It changes no byte of the order, keeps nothing of what it is lent, allocates nothing and has
+   no state: calls may run on several threads at once, also on the same order, as long as nobody writes to the bytes lent meanwhile. A
+   null pointer is taken with length 0 alone, as an empty order (4, place 1), an empty buffer (9), an empty log or an empty sentence (5,
+   place 0). A call takes less than 4,096 bytes of stack (tests/host/run prints how many).
 
    The floating-point environment. The answers are proved for the environment that a C program starts with: rounding to nearest,
    subnormal numbers kept, no exception trapped. In another one they can be wrong: a host that is linked with -ffast-math starts with
@@ -50,7 +55,7 @@ extern "C" {
 #endif
 
 /* Of this header: one more with every change of a call, a struct or a number. Take header and library from the same build. */
-#define KATCHIDUL_VERSION 5
+#define KATCHIDUL_VERSION 7
 
 #define KATCHIDUL_ORDER_MAX 1024 /* bytes of an order */
 #define KATCHIDUL_TOWN_MAX 40    /* bytes of a town's name */
@@ -64,6 +69,10 @@ extern "C" {
 #define KATCHIDUL_JOBS_MAX 16    /* jobs of a print queue */
 #define KATCHIDUL_ID_MAX 65535   /* of a job */
 #define KATCHIDUL_PAGES_MAX 16   /* pages of a job */
+#define KATCHIDUL_RECORD_BYTES 5 /* of a job log's record */
+#define KATCHIDUL_PAGE_MAX 65535 /* the last page that a record can name */
+/* Bytes of a buffer that is long enough for a job log's compaction while no more than `open` pages are sent and not done. */
+#define KATCHIDUL_LOG_ROOM(open) (KATCHIDUL_RECORD_BYTES * ((size_t)(open) + 2))
 
 /* What `number` says. */
 enum katchidul_refusal {
@@ -78,8 +87,18 @@ enum katchidul_refusal {
   KATCHIDUL_BUFFER_SHORT = 9,
   KATCHIDUL_INSTANT_BEYOND = 10,
   KATCHIDUL_NONE_IN_FORCE = 11,
+  KATCHIDUL_LOG_SECOND_SHORT = 12,
+  KATCHIDUL_LOG_OUT_OF_TURN = 13,
+  KATCHIDUL_LOG_COUNT_OUTSIDE = 14,
   KATCHIDUL_QUEUE_FULL = 16,
   KATCHIDUL_JOB_UNFIT = 17
+};
+
+/* What the first byte of a job log's record says; an append takes the first two. */
+enum katchidul_record {
+  KATCHIDUL_RECORD_SENT = 1,
+  KATCHIDUL_RECORD_DONE = 2,
+  KATCHIDUL_RECORD_FINISHED = 3 /* finished through: compaction's first record */
 };
 
 /* What `prayer` says. */
@@ -118,7 +137,7 @@ enum katchidul_minutes_index {
   KATCHIDUL_MINUTES_ISHA = 5
 };
 
-/* What the numbers of `method`, `madhab`, `high_latitude_rule`, `rounding`, `shafaq` and `carry` say; an order has the same. */
+/* What the numbers of `method`, `madhab`, `high_latitude_rule`, `rounding`, `shafaq`, `carry` and `southern` say; an order has the same. */
 enum katchidul_method {
   KATCHIDUL_METHOD_MUSLIM_WORLD_LEAGUE = 0,
   KATCHIDUL_METHOD_EGYPTIAN = 1,
@@ -147,6 +166,8 @@ enum katchidul_rounding { KATCHIDUL_ROUNDING_NEAREST = 0, KATCHIDUL_ROUNDING_UP 
 
 enum katchidul_shafaq { KATCHIDUL_SHAFAQ_GENERAL = 0, KATCHIDUL_SHAFAQ_AHMER = 1, KATCHIDUL_SHAFAQ_ABYAD = 2 };
 
+enum katchidul_southern { KATCHIDUL_SOUTHERN_UNREDUCED = 0, KATCHIDUL_SOUTHERN_STARTS_AGAIN = 1 };
+
 enum katchidul_carry { KATCHIDUL_CARRY_STOPS = 0, KATCHIDUL_CARRY_CARRIES = 1 };
 
 /* What an order asks for. What the order leaves out is as its method, or the table of tags in docs/ORDERS.md, has it. */
@@ -161,8 +182,8 @@ typedef struct katchidul_order {
   uint32_t isha_interval;        /* minutes */
   int32_t minutes[KATCHIDUL_MINUTES_COUNT]; /* own minutes: fajr, sunrise, dhuhr, asr, maghrib, isha */
   uint32_t carry;                /* an hour number that rounds to hour 24: KATCHIDUL_CARRY_STOPS or KATCHIDUL_CARRY_CARRIES */
-  int32_t clock;                 /* 0, as the four below: for tags that are still to come */
-  uint32_t southern;
+  int32_t clock;                 /* 0, as `ramadan`, `imsak` and `shift`: for tags that are still to come */
+  uint32_t southern;             /* the season's count in the south: KATCHIDUL_SOUTHERN_UNREDUCED or KATCHIDUL_SOUTHERN_STARTS_AGAIN */
   uint32_t ramadan, imsak;
   int32_t shift;
 } katchidul_order;
@@ -263,6 +284,53 @@ katchidul_joined katchidul_join(katchidul_queue queue, uint32_t id, uint32_t pag
    A queue that no calls give is answered too: of more than 16 jobs the first 16 count, a job with 0 pages left sends one and leaves, and
    one with id 0 answers id 0 and its pages left: by `queue` alone it is told from no job. */
 katchidul_turned katchidul_turn(katchidul_queue queue);
+
+/* The job log: which pages of a job are sent and which are done, so that a page goes out a single time also where an acknowledgement is
+   lost or the host crashes. A log is the first `used` bytes of a buffer that the host lends, at first none: records of five bytes, a
+   tag (KATCHIDUL_RECORD_SENT, ..), the length 0, 2 and the page, high byte first. Pages are sent in rising order from 1; a done names
+   the lowest page that is sent and not done. A record that is cut at the end is not looked at, and the next append begins in its place.
+
+   A full log (fewer than five bytes behind its last whole record), and every log at a restart, is compacted into the second buffer: one
+   finished record, page 0 if none is done, the open pages, which are sent and not done, and the new record. The first buffer stays as
+   it was and is the log until the call returns; then `moved` is 1, and the second buffer is the log. Two buffers of
+   KATCHIDUL_LOG_ROOM(n) bytes are never too short while no more than n pages are open.
+
+   What the host makes lasting on its disk: the log's bytes first, then, as one, which buffer is the log and `used` (a rename, or a
+   write that lasts whole or not at all), and the page last. `used` cannot be read off the bytes: old records may stand behind the log.
+
+       katchidul_log a = katchidul_append(buffer[at], SIZE, used, KATCHIDUL_RECORD_SENT, page, buffer[!at], SIZE);
+       if (a.number != 0) return a.number;                         // no byte has changed, and the page does not go out
+       write_bytes(buffer[at ^= a.moved], used = a.used), flush(); // the log's bytes,
+       write_place(at, used), flush();                             // then which buffer is the log, and how many of its bytes,
+       send(page);                                                 // and only then the page
+
+   After any failure of host, link or embosser the host asks how many pages the embosser has finished, and restarts with that count
+   before it appends or sends: the embosser drops what it has not finished, and the pages finished + 1 to sent of the answer go out
+   again, in rising order and without a record. A done is appended only of a page that the embosser has finished. Then, if every count
+   is true, and pages are lost from the end of what was sent alone, no finished page is sent again and none is skipped: the embosser
+   finishes 1, 2, 3, .., each once. */
+typedef struct katchidul_log {
+  uint32_t number, place;
+  uint32_t moved;          /* 1 where the log is now in the second buffer: after every restart, and after an append that compacted */
+  uint32_t finished, sent; /* pages 1 to finished are done, pages 1 to sent are sent, after the call */
+  size_t used;             /* the bytes of the log's whole records, wherever it is: where the next one begins */
+} katchidul_log;
+
+/* Reads the log that is the first `used` bytes of a buffer of `size` bytes; it changes none, and `moved` is 0. A `used` over `size` is
+   9, place 0. A record out of turn is 13, place its page: a sent that does not name the page after the last sent, a done that does not
+   name the lowest page sent and not done, a finished one that is not the first record, an unknown tag, another length. */
+katchidul_log katchidul_read_log(const uint8_t *log, size_t size, size_t used);
+
+/* Appends a record, KATCHIDUL_RECORD_SENT or KATCHIDUL_RECORD_DONE. In a log that is not full it changes the five bytes behind the last
+   whole record, and no byte of the second buffer; else see above. The log's own records are tried before the new one. 13, place the
+   page, for a record out of turn, another tag or a page over KATCHIDUL_PAGE_MAX; 12, place the page, where the second buffer is too
+   short. The buffers must not overlap. A refused call changes no byte of either. Refusals 9, 12 and 13. */
+katchidul_log katchidul_append(uint8_t *log, size_t size, size_t used, uint32_t tag, uint32_t page, uint8_t *second, size_t second_size);
+
+/* Restarts with the number of pages that the embosser has finished: compacts the log, with that count as finished, into the second
+   buffer. A count below the log's finished pages or above its sent ones is 14, and a second buffer that is too short 12, each with the
+   count as place. The first buffer stays as it is; a refused call changes no byte of the second either. Refusals 9 and 12 to 14. */
+katchidul_log katchidul_restart(const uint8_t *log, size_t size, size_t used, uint32_t count, uint8_t *second, size_t second_size);
 
 /* Writes a refusal's sentence for the desk at the front of a buffer of `size` bytes: `Refusal 4: the order lacks a field: method, tag
    6`. Number and place are those of an answer; every number of the table above has a sentence for every place, no two the same. It is

@@ -1,5 +1,5 @@
-/* A host in C: calls the library on good, refused, stored, random and damaged orders, on print queues and on sentences. Arguments: the file of
-   stored answers, and how many random and damaged orders, and calls on queues. */
+/* A host in C: calls the library on good, refused, stored, random and damaged orders, on print queues, job logs and sentences. Arguments: the
+   file of stored answers, and how many random and damaged orders, and calls on queues and logs. */
 #include <stdio.h>
 #include <stdlib.h>
 
@@ -37,6 +37,7 @@ int main(int count, char **arguments) {
   check_stored(arguments[1]);
   check_damaged((uint32_t)strtoul(arguments[2], NULL, 10));
   check_queue((uint32_t)strtoul(arguments[2], NULL, 10));
+  check_job_log((uint32_t)strtoul(arguments[2], NULL, 10));
   printf("host: %lu checks, %lu failed\n", checks, failed);
   return failed == 0 ? 0 : 1;
 }

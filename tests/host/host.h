@@ -31,7 +31,7 @@ void put_interval(order_bytes *order, uint16_t minutes);
 void put_rows(order_bytes *order, uint16_t rows, uint16_t size);
 /* The six fields that an order must have, in order of their tags. */
 /* The last tag of the table. */
-#define LAST_TAG 15
+#define LAST_TAG 17
 
 /* Rows in one byte up to 255, in two above it. */
 order_bytes place_order(const char *town, uint16_t year, uint8_t month, uint8_t day, uint16_t rows, double latitude,
@@ -111,5 +111,6 @@ void check_stack(void);
 void check_stored(const char *path);
 void check_damaged(uint32_t orders);
 void check_queue(uint32_t calls);
+void check_job_log(uint32_t calls);
 
 #endif

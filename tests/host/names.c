@@ -12,6 +12,7 @@ struct katchidul_reply;
 struct katchidul_queue;
 struct katchidul_joined;
 struct katchidul_turned;
+struct katchidul_log;
 struct katchidul_written;
 struct katchidul_meaning;
 
@@ -107,8 +108,23 @@ static void check_jobs_named(void) {
   check(katchidul_join(queue, KATCHIDUL_ID_MAX, 1).number == KATCHIDUL_QUEUE_FULL, "one more than KATCHIDUL_JOBS_MAX");
 }
 
+/* A log with each record, and a buffer that is just long enough for its compaction. */
+static void check_records_named(void) {
+  uint8_t log[KATCHIDUL_RECORD_BYTES] = {KATCHIDUL_RECORD_FINISHED, 0, 2, 255, 254}, second[KATCHIDUL_LOG_ROOM(1)] = {0};
+  katchidul_log sent = katchidul_append(log, sizeof log, sizeof log, KATCHIDUL_RECORD_SENT, KATCHIDUL_PAGE_MAX, second, sizeof second);
+  check(sent.number == 0 && sent.sent == KATCHIDUL_PAGE_MAX && sent.used == 2 * KATCHIDUL_RECORD_BYTES, "KATCHIDUL_PAGE_MAX is sent");
+  katchidul_log done = katchidul_append(second, sizeof second, sent.used, KATCHIDUL_RECORD_DONE, KATCHIDUL_PAGE_MAX, NULL, 0);
+  check(done.number == 0 && done.finished == KATCHIDUL_PAGE_MAX && done.used == KATCHIDUL_LOG_ROOM(1), "KATCHIDUL_LOG_ROOM(1) has room");
+  katchidul_log more = katchidul_append(second, sizeof second, done.used, KATCHIDUL_RECORD_SENT, KATCHIDUL_PAGE_MAX + 1, log, sizeof log);
+  check(more.number == KATCHIDUL_LOG_OUT_OF_TURN, "one more than KATCHIDUL_PAGE_MAX");
+  katchidul_log fewer = katchidul_restart(second, sizeof second, done.used, KATCHIDUL_PAGE_MAX - 1, log, 0);
+  katchidul_log shorter = katchidul_restart(second, sizeof second, done.used, KATCHIDUL_PAGE_MAX, log, sizeof log - 1);
+  check(fewer.number == KATCHIDUL_LOG_COUNT_OUTSIDE && shorter.number == KATCHIDUL_LOG_SECOND_SHORT, "12 and 14 by name");
+}
+
 void check_names(void) {
   check_jobs_named();
+  check_records_named();
   check_limits();
   check_instants_named();
   check_numbers();

@@ -85,6 +85,7 @@ order_bytes full_order(void) {
   put_float(&order, 13, 16.25);
   put_interval(&order, 75);
   put_small(&order, 15, 1);
+  put_small(&order, 17, 1);
   return order;
 }
 

@@ -32,7 +32,7 @@ static bool record_fits(const katchidul_order *order) {
               order->latitude <= 90 && order->longitude >= -180 && order->longitude <= 180 && order->fajr_angle >= 0 &&
               order->fajr_angle <= 30 && order->isha_angle >= 0 && order->isha_angle <= 30 && order->method <= 12 &&
               order->madhab >= 1 && order->madhab <= 2 && order->high_latitude_rule <= 2 && order->rounding <= 2 &&
-              order->shafaq <= 2 && order->carry <= 1 && order->isha_interval <= 1440 && order->town_at >= 3 && order->town_length >= 1 &&
+              order->shafaq <= 2 && order->carry <= 1 && order->southern <= 1 && order->isha_interval <= 1440 && order->town_at >= 3 && order->town_length >= 1 &&
               order->town_length <= 40;
   for (int i = 0; i < 6; i++) fits = fits && order->minutes[i] >= -720 && order->minutes[i] <= 720;
   return fits;

@@ -21,9 +21,9 @@ static const char *const words[] = {NULL,
                                     "Refusal 9: a lent buffer is too short, place",
                                     "Refusal 10: an instant is out of range, place",
                                     "Refusal 11: no prayer is in force, place",
-                                    NULL,
-                                    NULL,
-                                    NULL,
+                                    "Refusal 12: the log's second buffer is too short, page or count",
+                                    "Refusal 13: a record of the log is out of turn, page",
+                                    "Refusal 14: the embosser's count does not fit the log, count",
                                     NULL,
                                     "Refusal 16: the print queue is full, job id",
                                     "Refusal 17: the job's id or its pages are not allowed, job id"};
@@ -42,7 +42,9 @@ static const char *const names[] = {NO_NAME,
                                     " fajr angle, tag",
                                     " isha angle, tag",
                                     " isha interval, tag",
-                                    " carry, tag"};
+                                    " carry, tag",
+                                    NO_NAME,
+                                    " southern, tag"};
 #define NUMBERS (sizeof words / sizeof *words)
 #define TAGS (sizeof names / sizeof *names)
 static const uint32_t some_places[] = {0, 6, 10, 14, 65536, UINT32_MAX};

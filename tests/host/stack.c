@@ -9,9 +9,10 @@
 #define OWN_FRAME 512 /* more than the painting function's own part */
 #define PAINT 0xA5
 #define STACK_MOST 4096 /* the header's promise */
-#define CALLS 10
+#define CALLS 13
 
 static volatile uint8_t *caller;
+static uint8_t logs[2][10] = {{1, 0, 2, 0, 1, 1, 0, 2, 0, 2}};
 static const katchidul_queue queues[2] = {{0}, {15, {20, 21, 22, 23, 24, 25, 26, 27, 28, 29, 30, 31, 32, 33, 34}, {2}}};
 
 /* One call by its place in the header, counted from this function's frame on. */
@@ -29,6 +30,9 @@ __attribute__((noinline)) static void call(int which, const order_bytes *order, 
     case 6: katchidul_join(queues[row % 2], row, 1 + row % 2); break;
     case 7: katchidul_turn(queues[row % 2]); break;
     case 8: katchidul_write_sentence(1 + row, (uint32_t)seconds, line, ROW_LENGTH); break;
+    case 9: katchidul_read_log(logs[0], sizeof *logs, row); break;
+    case 10: katchidul_append(logs[0], sizeof *logs, 5 * (row % 3), 1 + row % 2, row, logs[1], sizeof *logs); break;
+    case 11: katchidul_restart(logs[0], sizeof *logs, 5 * (row % 3), row % 4, logs[1], sizeof *logs); break;
     default: katchidul_read_sentence(line, ROW_LENGTH);
   }
 }

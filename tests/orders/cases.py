@@ -7,7 +7,7 @@ import random
 import struct
 import sys
 
-LENGTHS = {1: range(1, 41), 2: [4], 3: [1, 2], 4: [8], 5: [8], 6: [1], 7: [1], 8: [1], 9: [1], 10: [1], 11: [12], 12: [8], 13: [8], 14: [2], 15: [1]}
+LENGTHS = {1: range(1, 41), 2: [4], 3: [1, 2], 4: [8], 5: [8], 6: [1], 7: [1], 8: [1], 9: [1], 10: [1], 11: [12], 12: [8], 13: [8], 14: [2], 15: [1], 17: [1]}
 # By method: Fajr, Isha and Maghrib angle, interval, rounding, and the minutes for sunrise, Dhuhr, Asr and Maghrib.
 METHODS = [(18.0, 17.0, 0.0, 0, 0, (0, 1, 0, 0)), (19.5, 17.5, 0.0, 0, 0, (0, 1, 0, 0)), (18.0, 18.0, 0.0, 0, 0, (0, 1, 0, 0)), (18.5, 0.0, 0.0, 90, 0, (0, 0, 0, 0)),
            (18.2, 18.2, 0.0, 0, 0, (-3, 3, 3, 3)), (18.0, 18.0, 0.0, 0, 0, (0, 5, 0, 3)), (15.0, 15.0, 0.0, 0, 0, (0, 1, 0, 0)), (18.0, 17.5, 0.0, 0, 0, (0, 0, 0, 0)),
@@ -83,7 +83,7 @@ def in_range(values, tag):
         return all(-720 <= minutes <= 720 for minutes in struct.unpack(">6h", value))
     if tag == 14:
         return struct.unpack(">H", value)[0] <= 1440
-    low, high = {6: (0, 12), 7: (1, 2), 8: (0, 2), 9: (0, 2), 10: (0, 2), 15: (0, 1)}[tag]
+    low, high = {6: (0, 12), 7: (1, 2), 8: (0, 2), 9: (0, 2), 10: (0, 2), 15: (0, 1), 17: (0, 1)}[tag]
     return low <= value[0] <= high
 
 
@@ -104,7 +104,7 @@ def line(order):
     minutes = struct.unpack(">H", values[14])[0] if 14 in values else interval
     town = next(at for at, tag in offsets(order) if tag == 1) + 3
     numbers = [0, 0, town, len(values[1]), date.year, date.month, date.day, int.from_bytes(values[3], "big"), bits(real(values[4])), bits(real(values[5])), method, one(7, 1), one(8, 0),
-               one(9, rounding), one(10, 0), bits(angle(12, fajr)), bits(angle(13, isha)), bits(maghrib), minutes, *own, 0, *brought, 0, one(15, 0)]
+               one(9, rounding), one(10, 0), bits(angle(12, fajr)), bits(angle(13, isha)), bits(maghrib), minutes, *own, 0, *brought, 0, one(15, 0), one(17, 0)]
     return b"".join(b"%d " % n for n in numbers) + values[1] + b"\n"
 
 
@@ -121,7 +121,7 @@ def good(draw):
     more = [(7, bytes([draw.randint(1, 2)])), (8, bytes([draw.randrange(3)])), (9, bytes([draw.randrange(3)])), (10, bytes([draw.randrange(3)])),
             (11, struct.pack(">6h", *[draw.choice([-720, 720, 0, draw.randint(-720, 720)]) for _ in range(6)])), (12, double(0.0, 30.0)),
             (13, double(0.0, 30.0)), (14, struct.pack(">H", draw.choice([0, 1440, draw.randint(0, 1440)]))),
-            (15, bytes([draw.randrange(2)]))]
+            (15, bytes([draw.randrange(2)])), (17, bytes([draw.randrange(2)]))]
     fields += [f for f in more if draw.random() < 0.5]
     draw.shuffle(fields)
     return fields
@@ -144,7 +144,7 @@ def damaged(draw):
     elif kind == 1:
         fields.insert(draw.randrange(len(fields) + 1), (tag, draw.choice([value, b""])))
     elif kind == 2:
-        fields[place] = (draw.choice([0, 16, 99, 255]), value)
+        fields[place] = (draw.choice([0, 16, 18, 99, 255]), value)
     elif kind == 3:
         fields[place] = (tag, draw.choice([value + b" ", value[:-1], b""]))
     elif kind <= 5:
@@ -178,7 +178,7 @@ def marked():
     # 1: a field cut, in its header or its value; over 1,024 bytes, whatever they are
     orders += [b"\1\0", b"\x63", b"\1\0\2A", whole + b"\7\0", whole + b"\7\0\1", bytes(1025), long, long + b"\0"]
     # 2: a tag that is none, and a length that the tag's value can't have
-    orders += [field(99, b""), field(0, b""), field(16, b"\0"), field(15, b""), field(15, b"\0\0"), field(1, b""), field(1, b"A" * 41), field(1, b"A" * 40)]
+    orders += [field(99, b""), field(0, b""), field(16, b"\0"), field(15, b""), field(15, b"\0\0"), field(18, b"\0"), field(17, b""), field(1, b""), field(1, b"A" * 41), field(1, b"A" * 40)]
     # 3: a tag again, before its wrong length; a wrong length before a cut value
     orders += [town + town, whole + town, whole + b"\1\0\0", whole + b"\7\0\2"]
     # 4: each tag that may not be missing; before a value out of range, and after a broken field
@@ -203,7 +203,7 @@ def marked():
     orders += [but({tag: real(nan)}) for tag in (4, 5, 12, 13)]
     # choices: both ends and their neighbours
     orders += [but({6: bytes([number])}) for number in (12, 13)]
-    orders += [but({tag: bytes([number])}) for tag in (7, 8, 9, 10, 15) for number in range(4)] + [but({15: b"\xff"})]
+    orders += [but({tag: bytes([number])}) for tag in (7, 8, 9, 10, 15, 17) for number in range(4)] + [but({tag: b"\xff"}) for tag in (15, 17)]
     # own minutes, signed 16-bit, which leave the method's; the interval, which leaves the Isha angle
     orders += [but({11: minutes(*pair)}) for pair in ((-720, 720), (-721, 0), (0, 721), (32767, 0), (0, -32768), (-1, 2))]
     orders += [but({14: struct.pack(">H", n)}) for n in (0, 1440, 1441)]

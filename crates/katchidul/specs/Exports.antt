@@ -4,7 +4,7 @@ use mathlib.Core.List.{List}
 use lib.IntN.{ℤ, pos}
 use Rattle.integers.specs.Parts.{P}
 use Rattle.float64.specs.Ops.{dec}
-use Rattle.models.specs.Numbers.{methodNumberOf, madhabNumberOf, ruleNumberOf, roundingNumberOf, shafaqNumberOf, midnightNumberOf, prayerNumberOf}
+use Rattle.models.specs.Numbers.{methodNumberOf, madhabNumberOf, ruleNumberOf, roundingNumberOf, shafaqNumberOf, midnightNumberOf, southernNumberOf, prayerNumberOf}
 use Rattle.models.specs.declared.adjustments.TimeAdjustment.{TimeAdjustment}
 use Rattle.refusals.specs.declared.Refusal.{Refusal}
 use Rattle.order.specs.declared.reading.Order.{Order}
@@ -39,7 +39,7 @@ noMinutesAnswer = record { fajr = pos 0; sunrise = pos 0; dhuhr = pos 0; asr = p
 
 -- what tags 15 to 20 choose, 0 where no tag gives a field yet
 abbrev pub choicesAnswerOf : Order → KatchidulChoices
-choicesAnswerOf o = record { carry = midnightNumberOf (o .rules .midnight); clock = pos 0; southern = 0; ramadan = 0; imsak = 0; shift = pos 0 }
+choicesAnswerOf o = record { carry = midnightNumberOf (o .rules .midnight); clock = pos 0; southern = southernNumberOf (o .rules .southern); ramadan = 0; imsak = 0; shift = pos 0 }
 
 abbrev pub noChoicesAnswer : KatchidulChoices
 noChoicesAnswer = record { carry = 0; clock = pos 0; southern = 0; ramadan = 0; imsak = 0; shift = pos 0 }

@@ -1,4 +1,5 @@
 // What a host calls from C (added): a module for each answer, a struct by value as include/katchidul.h declares it.
+pub mod job_log;
 pub mod map;
 pub mod prayer_at;
 pub mod print_queue;

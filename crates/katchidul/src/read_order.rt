@@ -95,10 +95,11 @@ fn choices_read(order: Order) -> KatchidulChoices
 {
     let rules = order.rules;
     let midnight = rules.midnight;
+    let southern = rules.southern;
     KatchidulChoices {
         carry: midnight.number(),
         clock: 0,
-        southern: 0,
+        southern: southern.number(),
         ramadan: 0,
         imsak: 0,
         shift: 0,

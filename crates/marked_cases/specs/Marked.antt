@@ -19,7 +19,8 @@ use Rattle.schedule.specs.declared.in_force.HoursMinutes.{HoursMinutes}
 use Rattle.schedule.specs.declared.in_force.Instant.{Instant}
 use Rattle.schedule.specs.declared.prayer_times.PrayerTimes.{PrayerTimes}
 use Rattle.schedule.specs.InForce.{timeOf, nanosecondsOf, aheadOf, lastOf, currentTimeOf, followingOf, followingCurrentOf, nextOf, hoursMinutesOf}
-use Rattle.ops.specs.Season.{daysSinceSolsticeOf, southernOffsetOf}
+use Rattle.models.specs.declared.rules.Southern.the-variants.{StartsAgain}
+use Rattle.ops.specs.Season.{daysSinceSolsticeOf, southernOffsetOf, southernCountOf, daysByRule}
 use Rattle.solar.specs.declared.setting.SolarHour.{SolarHour}
 use Rattle.solar.specs.declared.setting.SolarHour.the-variants.{At, None}
 use Rattle.solar.specs.Setting.{settingHourOf, hourOf, hourAdjustmentOf, minuteOf}
@@ -31,6 +32,10 @@ north = dec 0 0
 
 abbrev south : Float
 south = neg (dec 1 0)
+
+-- the count south of the equator where it starts again
+abbrev again : ℕ → ℕ → ℕ → Bool
+again day year count = eqb (daysByRule StartsAgain south day year) count
 
 -- an hour number that gives a time, in seconds from 0h of the date, and one that gives none
 abbrev gives : SolarHour → ℤ → Bool
@@ -90,6 +95,18 @@ marked =
     eqb (daysSinceSolsticeOf 171 2025 south) 364 ∷
     eqb (daysSinceSolsticeOf 172 2025 south) 365 ∷
     eqb (daysSinceSolsticeOf 365 2025 south) 558 ∷
+    -- the southern count that starts again: on the solstice, the day before it, the first day and the last, of a common year and of a leap year
+    again 172 2025 0 ∷
+    again 171 2025 364 ∷
+    again 1 2025 194 ∷
+    again 365 2025 193 ∷
+    again 173 2024 0 ∷
+    again 172 2024 365 ∷
+    again 1 2024 194 ∷
+    again 366 2024 193 ∷
+    -- and the equator stays northern
+    eqb (daysByRule StartsAgain north 172 2025) 182 ∷
+    eqb (daysByRule StartsAgain (neg north) 172 2025) 182 ∷
     -- setting_hour: 05:30, yesterday 23:30, tomorrow 00:15, yesterday 00:00, and three that have no time
     at (dec 55 1) (pos 19800) ∷
     at (neg (dec 5 1)) (negsuc 1799) ∷
@@ -127,5 +144,5 @@ all [] = true
 all (t ∷ ts) = t && all ts
 
 pub all-hold : T (all marked)
-unfolding marked all timeOf nanosecondsOf aheadOf lastOf followingOf followingCurrentOf hoursMinutesOf prayerNumberOf prayerOf truncOf settingHourOf hourOf hourAdjustmentOf minuteOf hasTimeOf carriedOf carriedHourOf isNormalOf floorOf roundOf toUnsigned dec round ofBits eq le lt add sub mul div neg ofInt toSigned dateJulianDayOf julianDayOf fromMarchOf yearProductOf monthProductOf correctionOf toI32Of daysSinceSolsticeOf southernOffsetOf daysInYearOf leapOf
+unfolding marked all timeOf nanosecondsOf aheadOf lastOf followingOf followingCurrentOf hoursMinutesOf prayerNumberOf prayerOf truncOf settingHourOf hourOf hourAdjustmentOf minuteOf hasTimeOf carriedOf carriedHourOf isNormalOf floorOf roundOf toUnsigned dec round ofBits eq le lt add sub mul div neg ofInt toSigned dateJulianDayOf julianDayOf fromMarchOf yearProductOf monthProductOf correctionOf toI32Of daysSinceSolsticeOf southernOffsetOf southernCountOf daysByRule daysInYearOf leapOf
 all-hold = tt

@@ -19,7 +19,7 @@ use Rattle.lines.specs.Lines.{daysOf, sizeOf, nineOf}
 use Rattle.order.specs.Accepted.{Accepted}
 use Rattle.order.specs.declared.reading.Order.{Order}
 use Rattle.schedule.specs.Numbers.{numbersOf}
-use Rattle.schedule.specs.Times.{startOf, workedAt}
+use Rattle.schedule.specs.Times.{startOf, seasonOf, workedAt}
 use Rattle.schedule.specs.declared.prayer_times.PrayerTimes.{PrayerTimes}
 use Rattle.schedule.specs.declared.prayer_times.Worked.{Worked}
 use Rattle.schedule.specs.declared.prayer_times.Worked.the-variants.{Times, Refused}

@@ -3,7 +3,7 @@ use Prim.Native.Nat.{ℕ}
 use mathlib.Core.Bool.{true, false}
 use lib.IntN.{ℤ, pos}
 use Rattle.models.specs.Minutes.{sixMinutesOf}
-use Rattle.models.specs.Numbers.{methodOf, methodNumberOf, madhabOf, madhabNumberOf, ruleOf, ruleNumberOf, roundingOf, roundingNumberOf, shafaqOf, shafaqNumberOf, midnightOf}
+use Rattle.models.specs.Numbers.{methodOf, methodNumberOf, madhabOf, madhabNumberOf, ruleOf, ruleNumberOf, roundingOf, roundingNumberOf, shafaqOf, shafaqNumberOf, midnightOf, southernOf}
 use Rattle.models.specs.Presets.{presetOf}
 use Rattle.calendar.specs.declared.dates.Date.{Date}
 use Rattle.unit.specs.declared.Coordinates.{Coordinates}
@@ -54,7 +54,7 @@ parametersFrom s =
     }
 
 abbrev pub rulesFrom : ProbeRules → Rules
-rulesFrom r = record { midnight = midnightOf (r .carry) }
+rulesFrom r = record { midnight = midnightOf (r .carry); southern = southernOf (r .southern) }
 
 unfoldable pub settingsOf : Parameters → ProbeSettings
 settingsOf p =

@@ -5,7 +5,7 @@ ghost use Rattle.models.specs.Numbers.{methodOf};
 ghost use Rattle.models.specs.Presets.{presetOf};
 ghost use Rattle.unit.specs.Unit.{coordinatesOf};
 ghost use Rattle.schedule.specs.Hours.{hoursOf};
-ghost use Rattle.schedule.specs.Times.{workedOf, workedAt};
+ghost use Rattle.schedule.specs.Times.{seasonOf, workedOf, workedAt};
 ghost use Rattle.schedule.specs.InForce.{currentTimeOf, currentNumberOf, nextOf, timeRemainingOf};
 ghost use Rattle.probes.specs.Days.{sunOf, rowOf, minutesFrom, parametersFrom, rulesFrom, settingsOf, probeTimesOf, noTimes, probeDayOf, timesFrom, instantFrom, probeRemainingOf};
 use calendar::dates::Date;
@@ -17,6 +17,7 @@ use models::parameters::Parameters;
 use models::rounding::Rounding;
 use models::rules::Midnight;
 use models::rules::Rules;
+use models::rules::Southern;
 use models::shafaq::Shafaq;
 use schedule::hours::RowNumbers;
 use schedule::in_force::Current;
@@ -81,6 +82,7 @@ pub struct ProbeTimes {
 #[repr(C)]
 pub struct ProbeRules {
     pub carry: u32,
+    pub southern: u32,
 }
 
 // A refusal's number and place, and no times; or 0, 0 and the times.
@@ -157,6 +159,7 @@ fn rules(r: ProbeRules) -> Rules
 {
     Rules {
         midnight: Midnight::of_number(r.carry),
+        southern: Southern::of_number(r.southern),
     }
 }
 
@@ -250,7 +253,7 @@ pub extern "C" fn probe_day(
     settings: ProbeSettings,
     chosen: ProbeRules,
 ) -> ProbeDay
-    ensures { λ r. ⌜ r ≡ probeDayOf (workedOf (hoursOf (rulesFrom chosen .midnight) (rowOf numbers)) (dateOf year month day) latitude (parametersFrom settings)) ⌝ }
+    ensures { λ r. ⌜ r ≡ probeDayOf (workedOf (hoursOf (rulesFrom chosen .midnight) (rowOf numbers)) (dateOf year month day) (seasonOf latitude (rulesFrom chosen)) (parametersFrom settings)) ⌝ }
 {
     answered(PrayerTimes::new(
         row(numbers),

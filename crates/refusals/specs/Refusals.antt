@@ -52,6 +52,18 @@ instantBeyond = 10
 abbrev pub noneInForce : ℕ
 noneInForce = 11
 
+-- request 6: "with 12 if the second buffer is too short for what compaction writes"; "the record's page", "at restart, the count"
+abbrev pub logSecondShort : ℕ
+logSecondShort = 12
+
+-- request 6: "with 13 for a record out of turn"; "the record's page"
+abbrev pub logOutOfTurn : ℕ
+logOutOfTurn = 13
+
+-- request 6: "with 14 for a count outside those bounds"; "the count"
+abbrev pub logCountOutside : ℕ
+logCountOutside = 14
+
 -- request 7: "Both forms for one coordinate"; "18 or 19"
 abbrev pub bothForms : ℕ
 bothForms = 15
@@ -68,4 +80,5 @@ jobUnfit = 17
 abbrev pub numbers : List ℕ
 numbers =
     fieldCut ∷ fieldUnknown ∷ fieldAgain ∷ tagMissing ∷ outOfRange ∷ noTransit ∷ noSunrise
-    ∷ noSunset ∷ bufferShort ∷ instantBeyond ∷ noneInForce ∷ bothForms ∷ queueFull ∷ jobUnfit ∷ []
+    ∷ noSunset ∷ bufferShort ∷ instantBeyond ∷ noneInForce ∷ logSecondShort
+    ∷ logOutOfTurn ∷ logCountOutside ∷ bothForms ∷ queueFull ∷ jobUnfit ∷ []

@@ -33,6 +33,15 @@ pub const INSTANT_BEYOND: u32 = 10;
 // Next or remaining is asked while no prayer is in force: 0.
 pub const NONE_IN_FORCE: u32 = 11;
 
+// The second buffer is too short for what a job log's compaction writes: the new record's page, or the count at a restart.
+pub const LOG_SECOND_SHORT: u32 = 12;
+
+// A record of a job log, or the one to append, is out of turn, or has an unknown tag or another length: its page.
+pub const LOG_OUT_OF_TURN: u32 = 13;
+
+// The embosser's count at a restart is not between the log's finished and sent pages: the count.
+pub const LOG_COUNT_OUTSIDE: u32 = 14;
+
 // A coordinate is given both in degrees and as on the map: the tag of the second.
 pub const BOTH_FORMS: u32 = 15;
 

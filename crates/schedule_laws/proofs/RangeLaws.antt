@@ -4,7 +4,6 @@ use Prim.Native.Nat.{ℕ, _+_, _-_, _*_, _≤_, _<_}
 use native.Mathlib.Omega.{arith}
 use lib.Dec.{lit≤}
 use lib.IntN.{ℤ, pos, negsuc, _+ℤ_, _-ℤ_}
-use lib.Ieee.{Float}
 use Rattle.integers.specs.Parts.{P, N, Between, Near}
 use Rattle.integers.specs.Quotients.{floorQuot}
 use Rattle.integers.proofs.PartsLaws.{same}

@@ -22,15 +22,15 @@ texts =
     ∷ ascii "Refusal 9: a lent buffer is too short, place"
     ∷ ascii "Refusal 10: an instant is out of range, place"
     ∷ ascii "Refusal 11: no prayer is in force, place"
-    ∷ []
-    ∷ []
-    ∷ []
+    ∷ ascii "Refusal 12: the log's second buffer is too short, page or count"
+    ∷ ascii "Refusal 13: a record of the log is out of turn, page"
+    ∷ ascii "Refusal 14: the embosser's count does not fit the log, count"
     ∷ ascii "Refusal 15: a coordinate is given in both forms:"
     ∷ ascii "Refusal 16: the print queue is full, job id"
     ∷ ascii "Refusal 17: the job's id or its pages are not allowed, job id"
     ∷ []
 
--- the first stands for every tag that has no name here
+-- the first stands for every tag that has no name here; one between that has not come yet has the same
 unfoldable pub names : List (List ℕ)
 names =
     ascii " tag"
@@ -49,6 +49,10 @@ names =
     ∷ ascii " isha angle, tag"
     ∷ ascii " isha interval, tag"
     ∷ ascii " carry, tag"
+    ∷ ascii " tag"
+    ∷ ascii " southern, tag"
+    ∷ ascii " map latitude, tag"
+    ∷ ascii " map longitude, tag"
     ∷ []
 
 unfoldable pub textOf : ℕ → List ℕ

@@ -6,7 +6,7 @@ ghost use Rattle.sentences.specs.Rows.{filled, endOf};
 // One more than the last number, and than the last tag.
 const NUMBERS: usize = 18;
 
-const TAGS: usize = 16;
+const TAGS: usize = 20;
 
 const TEXTS: [[u8; 64]; NUMBERS] = [
     *b"                                                                ",
@@ -21,9 +21,9 @@ const TEXTS: [[u8; 64]; NUMBERS] = [
     *b"Refusal 9: a lent buffer is too short, place                    ",
     *b"Refusal 10: an instant is out of range, place                   ",
     *b"Refusal 11: no prayer is in force, place                        ",
-    *b"                                                                ",
-    *b"                                                                ",
-    *b"                                                                ",
+    *b"Refusal 12: the log's second buffer is too short, page or count ",
+    *b"Refusal 13: a record of the log is out of turn, page            ",
+    *b"Refusal 14: the embosser's count does not fit the log, count    ",
     *b"Refusal 15: a coordinate is given in both forms:                ",
     *b"Refusal 16: the print queue is full, job id                     ",
     *b"Refusal 17: the job's id or its pages are not allowed, job id   ",
@@ -46,6 +46,10 @@ const NAMES: [[u8; 64]; TAGS] = [
     *b" isha angle, tag                                                ",
     *b" isha interval, tag                                             ",
     *b" carry, tag                                                     ",
+    *b" tag                                                            ",
+    *b" southern, tag                                                  ",
+    *b" map latitude, tag                                              ",
+    *b" map longitude, tag                                             ",
 ];
 
 // A number's text; blanks alone for a number that is not known.

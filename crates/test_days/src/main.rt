@@ -144,7 +144,10 @@ fn replayed(before: Counts, line: &[u8]) -> Counts {
         day_of_month,
         real(line, 230),
         settings(line),
-        ProbeRules { carry: 0 },
+        ProbeRules {
+            carry: 0,
+            southern: 0,
+        },
     );
     let times = day.times;
     let mut c = counted(before, day.number == part(refusal / 10));

@@ -102,7 +102,9 @@ fn print_signed(m: i32) {
 fn print_rules(order: Order) {
     let rules = order.rules;
     let midnight = rules.midnight;
+    let southern = rules.southern;
     print(wide(midnight.number()));
+    print(wide(southern.number()));
 }
 
 fn print_record(order: Order) {

@@ -27,6 +27,7 @@ struct ProbeDay {
 #[repr(C)]
 pub struct Rules {
     pub carry: u32,
+    pub southern: u32,
 }
 
 #[repr(C)]
@@ -62,8 +63,8 @@ pub fn needs_no_carrying(number: f64) -> bool {
     number >= -24.0 && port_setting_hour(number).is_some()
 }
 
-pub fn row(c: &Case, settings: &Settings) -> Result<ProbeTimes, Refusal> {
-    answered(unsafe { probe_row(c.year, c.month, c.day, c.latitude, c.longitude, *settings, Rules::default()) })
+pub fn row(c: &Case, settings: &Settings, rules: Rules) -> Result<ProbeTimes, Refusal> {
+    answered(unsafe { probe_row(c.year, c.month, c.day, c.latitude, c.longitude, *settings, rules) })
 }
 
 fn answered(worked: ProbeDay) -> Result<ProbeTimes, Refusal> {

@@ -102,7 +102,7 @@ impl Days {
         }
         // where no number needs carrying, the rule that carries answers as the crate does
         if c.numbers.iter().all(|number| day_port::needs_no_carrying(*number)) {
-            let carried = answer(day_port::day(c, Rules { carry: 1 }).map(|times| times.0));
+            let carried = answer(day_port::day(c, Rules { carry: 1, ..Rules::default() }).map(|times| times.0));
             self.count(CARRIED, carried == by_crate, listed, || format!("port {carried:?}, crate {their_day:?}, {c:?}"));
         }
         match (ours, theirs) {

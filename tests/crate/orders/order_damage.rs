@@ -55,7 +55,7 @@ impl Draw {
     /// A length that its tag's value can't have, the value as long or not.
     fn wrong_length(&mut self, fields: &mut Vec<Field>) {
         let tag = 1 + self.below(LAST_TAG as u64) as u8;
-        let right = lengths(tag).unwrap();
+        let Some(right) = lengths(tag) else { return self.unknown_tag(fields) };
         let length = [0, right.start() - 1, right.end() + 1, 255, 256 + right.start(), 65_535, self.index(65_536)][self.index(7)];
         let mut field = Field { tag, length: length as u16, value: vec![65; *right.start()] };
         if self.coin() && length < 60 {
@@ -87,7 +87,7 @@ impl Draw {
 
     /// What lies just out of each range; the ends themselves are in good orders.
     fn just_out(&mut self, fields: &mut Vec<Field>) {
-        let tag = [1, 3, 4, 5, 6, 7, 8, 9, 10, 11, 12, 13, 14, 15][self.index(14)];
+        let tag = [1, 3, 4, 5, 6, 7, 8, 9, 10, 11, 12, 13, 14, 15, 17][self.index(15)];
         let field = match tag {
             1 => Field::new(tag, &self.town_out()),
             3 if self.coin() => Field::new(tag, &[[0, 251, 255][self.index(3)]]),
@@ -98,7 +98,7 @@ impl Draw {
             7 => Field::new(tag, &[[0, 3, 255][self.index(3)]]),
             8..=10 => Field::new(tag, &[[3, 4, 255][self.index(3)]]),
             11 => Field::new(tag, &self.minutes_out()),
-            15 => Field::new(tag, &[[2, 255][self.index(2)]]),
+            15 | 17 => Field::new(tag, &[[2, 255][self.index(2)]]),
             14 => Field::new(tag, &[1_441u16, 1_440 + 256, 65_535][self.index(3)].to_be_bytes()),
             _ => Field::new(tag, &[beyond(30.0), -5e-324, 30.1][self.index(3)].to_be_bytes()),
         };

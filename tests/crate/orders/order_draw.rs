@@ -1,7 +1,7 @@
 //! The orders that are compared: good ones here, damaged ones in order_damage.rs; the same for the same seed.
 use crate::day_draw::{NaiveDate, METHODS};
 use crate::draw::Draw;
-use crate::order_read::LAST_TAG;
+use crate::order_read::{lengths, LAST_TAG};
 use chrono::{Datelike, Duration};
 
 /// A field as it is written; the length is free of the value's, so that a damaged order can lie.
@@ -122,7 +122,7 @@ impl Draw {
         let mut fields = self.must_have(method);
         // none of them, all of them, or each by a coin
         let (some, all) = (self.below(8) > 0, self.below(8) == 0);
-        for tag in 7..=LAST_TAG {
+        for tag in (7..=LAST_TAG).filter(|tag| lengths(*tag).is_some()) {
             let field = self.may_have(tag, method);
             if all || some && self.coin() {
                 fields.push(field);

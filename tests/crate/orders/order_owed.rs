@@ -62,7 +62,7 @@ impl From<&Asked> for KatchidulOrder {
             shafaq: asked.shafaq,
             isha_interval: settings.isha_interval as u32,
             minutes: asked.minutes,
-            choices: [asked.carry as i32, 0, 0, 0, 0, 0],
+            choices: [asked.carry as i32, 0, asked.southern as i32, 0, 0, 0],
         }
     }
 }

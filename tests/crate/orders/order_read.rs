@@ -6,7 +6,7 @@ use std::ops::{Range, RangeInclusive};
 
 /// Over this an order is refused unread.
 pub const LONGEST: usize = 1_024;
-pub const LAST_TAG: u8 = 15;
+pub const LAST_TAG: u8 = 17;
 
 /// What an order asks for. The tags that a method answers for where they are missing are none then.
 #[derive(Debug)]
@@ -26,12 +26,13 @@ pub struct Asked {
     pub isha_angle: Option<f64>,
     pub isha_interval: Option<i32>,
     pub carry: u32,
+    pub southern: u32,
 }
 
 impl Asked {
-    /// The crate has no part in what tag 15 changes.
+    /// The crate has no part in what tags 15 and 17 change.
     pub fn is_the_crates(&self) -> bool {
-        self.carry == 0
+        self.carry == 0 && self.southern == 0
     }
 
     /// The crate's own `Method::parameters`, and on them what the tags set.
@@ -67,7 +68,7 @@ pub fn lengths(tag: u8) -> Option<RangeInclusive<usize>> {
         1 => Some(1..=40),
         2 => Some(4..=4),
         3 => Some(1..=2),
-        6..=10 | 15 => Some(1..=1),
+        6..=10 | 15 | 17 => Some(1..=1),
         4 | 5 | 12 | 13 => Some(8..=8),
         11 => Some(12..=12),
         14 => Some(2..=2),
@@ -199,6 +200,7 @@ impl Whole<'_> {
             isha_angle: self.float(13, 0.0..=30.0)?,
             isha_interval: self.isha_interval()?,
             carry: self.byte(15, 0..=1)?.unwrap_or(0),
+            southern: self.byte(17, 0..=1)?.unwrap_or(0),
         })
     }
 }

@@ -71,7 +71,7 @@ struct Differing {
 
 impl Plain {
     pub fn row(&mut self, c: &Case, settings: &Settings) -> Verdict {
-        let ours = rows::by_port(c, settings);
+        let ours = rows::by_port(c, settings, Rules::default());
         let theirs = plain::row(date(c), c.latitude, c.longitude, settings).map(|times| access::nine(&times));
         self.rows += 1;
         if ours == theirs {

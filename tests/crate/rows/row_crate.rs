@@ -42,6 +42,11 @@ pub mod on_probes {
     crate::in_force::in_force_of!(salah_probes);
 }
 
+/// On our functions too, with the southern count that starts again.
+pub mod southern {
+    rows_of!(salah_southern);
+}
+
 /// As it is.
 pub mod plain {
     rows_of!(salah_plain);

@@ -1,0 +1,219 @@
+// What a host asks of a log: the first `used` bytes of its buffer.
+ghost use mathlib.Core.Path.{_≡_};
+ghost use mathlib.Core.Bool.{_&&_};
+ghost use mathlib.Core.List.{[], _++_};
+ghost use Prim.Native.Nat.{_≤_};
+ghost use lib.Dec.{leb};
+ghost use lib.ListN.{length};
+ghost use Rattle.text.specs.Text.{putOf};
+ghost use Rattle.joblog.specs.Records.{recordAs, bytesOf, wholeOf, afterOf, compactedOf};
+ghost use Rattle.joblog.specs.Parts.{Bounded};
+ghost use Rattle.joblog.specs.Calls.{refused, answered, readAnswer, readLogOf, compactAnswer, newInTurn, writtenOf, appendedOf, appendOf, restartedOf, restartOf};
+use super::records::Reading;
+use super::records::State;
+use super::records::after;
+use super::records::in_turn;
+use super::records::new_record;
+use super::records::scan;
+use super::writing::open_pages;
+use super::writing::put_compacted;
+use super::writing::put_record;
+use refusals::BUFFER_SHORT;
+use refusals::LOG_COUNT_OUTSIDE;
+use refusals::LOG_OUT_OF_TURN;
+use refusals::LOG_SECOND_SHORT;
+
+// What each call answers: number 0, or a refusal with its place and every other field 0. `moved` is 1 where the log is now in the second buffer.
+#[repr(C)]
+pub struct Log {
+    pub number: u32,
+    pub place: u32,
+    pub moved: u32,
+    pub finished: u32,
+    pub sent: u32,
+    pub used: usize,
+}
+
+fn refuse(number: u32, place: u32) -> Log
+    ensures { λ r. ⌜ r ≡ refused number place ⌝ }
+{
+    Log {
+        number: number,
+        place: place,
+        moved: 0,
+        finished: 0,
+        sent: 0,
+        used: 0,
+    }
+}
+
+fn answer(moved: u32, says: State, used: usize) -> Log
+    ensures { λ r. ⌜ r ≡ answered moved says used ⌝ }
+{
+    Log {
+        number: 0,
+        place: 0,
+        moved: moved,
+        finished: says.finished,
+        sent: says.sent,
+        used: used,
+    }
+}
+
+// The bytes of the whole records: where the next one begins.
+fn whole(used: usize) -> usize
+    ensures { λ r. ⌜ r ≡ wholeOf used ⌝ }
+{
+    used / 5 * 5
+}
+
+fn read_answer(reading: Reading, used: usize) -> Log
+    ensures { λ r. ⌜ r ≡ readAnswer used reading ⌝ }
+{
+    match reading {
+        Reading::Says(s) => answer(0, s, whole(used)),
+        Reading::OutOfTurn(page) => refuse(LOG_OUT_OF_TURN, page),
+    }
+}
+
+// What the log says: its finished and sent pages, and where its next record begins.
+pub fn read_log(log: &[u8], used: usize) -> Log
+    ensures { λ r. ⌜ r ≡ readLogOf (now (log .entry)) used ⌝ }
+{
+    if used > log.len() {
+        return refuse(BUFFER_SHORT, 0);
+    }
+    read_answer(scan(&log[..used]), used)
+}
+
+// Compaction into the second buffer, or 12.
+fn compact(s: State, place: u32, second: &mut [u8]) -> Log
+    requires { ⌜ (s .finished ≤ 65535) × (s .sent ≤ 65535) ⌝ }
+    ensures { λ r. ⌜ r ≡ compactAnswer s (compactedOf s) place (now (second .entry)) ⌝ }
+    ensures { λ _. ⌜ now (second .exit) ≡ putOf (now (second .entry)) 0 (compactedOf s) ⌝ }
+{
+    if 5 + 5 * open_pages(s) > second.len() {
+        return refuse(LOG_SECOND_SHORT, place);
+    }
+    let used = put_compacted(&mut second[..], s);
+    answer(1, s, used)
+}
+
+// The same, and the new record behind the open pages.
+fn compact_with(s: State, tag: u32, page: u32, second: &mut [u8]) -> Log
+    requires { ⌜ (s .finished ≤ 65535) × (s .sent ≤ 65535) × (tag ≤ 255) × (page ≤ 65535) ⌝ }
+    ensures { λ r. ⌜ r ≡ compactAnswer (afterOf s (recordAs tag page)) (compactedOf s ++ bytesOf tag page) page (now (second .entry)) ⌝ }
+    ensures { λ _. ⌜ now (second .exit) ≡ putOf (now (second .entry)) 0 (compactedOf s ++ bytesOf tag page) ⌝ }
+{
+    if 10 + 5 * open_pages(s) > second.len() {
+        return refuse(LOG_SECOND_SHORT, page);
+    }
+    let at = put_compacted(&mut second[..], s);
+    put_record(&mut second[..], at, tag, page);
+    answer(1, after(s, new_record(tag, page)), at + 5)
+}
+
+// The new record in its place, or into the second buffer where the log is full.
+fn write(s: State, log: &mut [u8], used: usize, tag: u32, page: u32, second: &mut [u8]) -> Log
+    requires { ⌜ (s .finished ≤ 65535) × (s .sent ≤ 65535) × (tag ≤ 255) × (page ≤ 65535) × (used ≤ length (now log)) ⌝ }
+    ensures { λ r. ⌜ r ≡ writtenOf s (now (log .entry)) used tag page (now (second .entry)) .answer ⌝ }
+    ensures { λ _. ⌜ now (log .exit) ≡ writtenOf s (now (log .entry)) used tag page (now (second .entry)) .log ⌝ }
+    ensures { λ _. ⌜ now (second .exit) ≡ writtenOf s (now (log .entry)) used tag page (now (second .entry)) .second ⌝ }
+{
+    let at = whole(used);
+    if log.len() - at >= 5 {
+        put_record(&mut log[..], at, tag, page);
+        return answer(0, after(s, new_record(tag, page)), at + 5);
+    }
+    compact_with(s, tag, page, &mut second[..])
+}
+
+// A page over two bytes would be another one in its record.
+fn new_in_turn(s: State, tag: u32, page: u32) -> bool
+    ensures { λ r. ⌜ r ≡ newInTurn s tag page ⌝ }
+{
+    if page > 65535 {
+        return false;
+    }
+    in_turn(false, s, new_record(tag, page))
+}
+
+// What an append does with a log that says this.
+fn append_read(
+    reading: Reading,
+    log: &mut [u8],
+    used: usize,
+    tag: u32,
+    page: u32,
+    second: &mut [u8],
+) -> Log
+    requires { ⌜ Bounded reading × (used ≤ length (now log)) ⌝ }
+    ensures { λ r. ⌜ r ≡ appendedOf reading (now (log .entry)) used tag page (now (second .entry)) .answer ⌝ }
+    ensures { λ _. ⌜ now (log .exit) ≡ appendedOf reading (now (log .entry)) used tag page (now (second .entry)) .log ⌝ }
+    ensures { λ _. ⌜ now (second .exit) ≡ appendedOf reading (now (log .entry)) used tag page (now (second .entry)) .second ⌝ }
+{
+    match reading {
+        Reading::Says(s) => {
+            if new_in_turn(s, tag, page) {
+                return write(s, &mut log[..], used, tag, page, &mut second[..]);
+            }
+            return refuse(LOG_OUT_OF_TURN, page);
+        }
+        Reading::OutOfTurn(first) => {
+            return refuse(LOG_OUT_OF_TURN, first);
+        }
+    }
+}
+
+// The log with one record more. Its own records are tried before the new one.
+pub fn append(log: &mut [u8], used: usize, tag: u32, page: u32, second: &mut [u8]) -> Log
+    ensures { λ r. ⌜ r ≡ appendOf (now (log .entry)) used tag page (now (second .entry)) .answer ⌝ }
+    ensures { λ _. ⌜ now (log .exit) ≡ appendOf (now (log .entry)) used tag page (now (second .entry)) .log ⌝ }
+    ensures { λ _. ⌜ now (second .exit) ≡ appendOf (now (log .entry)) used tag page (now (second .entry)) .second ⌝ }
+{
+    if used > log.len() {
+        return refuse(BUFFER_SHORT, 0);
+    }
+    let reading = scan(&log[..used]);
+    append_read(reading, &mut log[..], used, tag, page, &mut second[..])
+}
+
+fn between(low: u32, count: u32, high: u32) -> bool
+    ensures { λ r. ⌜ r ≡ (leb low count && leb count high) ⌝ }
+{
+    (low <= count) & (count <= high)
+}
+
+// What a restart writes hangs on what the log says alone, so the contract has no bytes of the first buffer.
+fn restart_read(reading: Reading, count: u32, second: &mut [u8]) -> Log
+    requires { ⌜ Bounded reading ⌝ }
+    ensures { λ r. ⌜ r ≡ restartedOf reading [] count (now (second .entry)) .answer ⌝ }
+    ensures { λ _. ⌜ now (second .exit) ≡ restartedOf reading [] count (now (second .entry)) .second ⌝ }
+{
+    match reading {
+        Reading::Says(s) => {
+            if between(s.finished, count, s.sent) {
+                let t = State {
+                    finished: count,
+                    sent: s.sent,
+                };
+                return compact(t, count, &mut second[..]);
+            }
+            return refuse(LOG_COUNT_OUTSIDE, count);
+        }
+        Reading::OutOfTurn(first) => {
+            return refuse(LOG_OUT_OF_TURN, first);
+        }
+    }
+}
+
+// The log compacted with the number of pages that the embosser has finished; the open pages after it go out again.
+pub fn restart(log: &[u8], used: usize, count: u32, second: &mut [u8]) -> Log
+    ensures { λ r. ⌜ r ≡ restartOf (now (log .entry)) used count (now (second .entry)) .answer ⌝ }
+    ensures { λ _. ⌜ now (second .exit) ≡ restartOf (now (log .entry)) used count (now (second .entry)) .second ⌝ }
+{
+    if used > log.len() {
+        return refuse(BUFFER_SHORT, 0);
+    }
+    restart_read(scan(&log[..used]), count, second)
+}

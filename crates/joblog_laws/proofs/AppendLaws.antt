@@ -1,0 +1,251 @@
+-- What a single call leaves of both buffers, and a cut at any byte of an append. Assumes nothing.
+use native.Mathlib.Omega.{arith}
+use Prim.Native.Nat.{ℕ, _+_, _-_, _*_, _≤_, _<_}
+use mathlib.Core.Path.{_≡_, refl, sym, ap, _∙_}
+use mathlib.Core.Bool.{Bool, true, false, cond, _&&_}
+use mathlib.Core.List.{List, _++_}
+use lib.Dec.{leb, ltb, eqb}
+use lib.ListN.{length, take, drop, length-append}
+use lib.Seq.{drop-append-add, drop-drop, length-take-le}
+use borrow.Author.Tests.{le-leb, leb-true, leb-false, ltb-true, ltb-false}
+use Rattle.refusals.specs.Refusals.{bufferShort, logSecondShort, logOutOfTurn, logCountOutside}
+use Rattle.text.specs.Text.{putOf}
+use Rattle.joblog.specs.declared.records.State.{State}
+use Rattle.joblog.specs.declared.records.Reading.{Reading}
+use Rattle.joblog.specs.declared.records.Reading.the-variants.{Says, OutOfTurn}
+use Rattle.joblog.specs.Records.{state, recordAs, bytesOf, recordsOf, wholeOf, inTurn, afterOf, readingOf, compactedOf}
+use Rattle.joblog.specs.Calls.{Call, refused, refusing, answered, readAnswer, readLogOf, newInTurn, compactAnswer, compactingOf, writtenOf, appendedOf, appendOf, restartedOf, restartOf}
+use Rattle.joblog.proofs.CompactLaws.{bytes-length, put-none}
+use Rattle.joblog.proofs.CallLaws.{with-length}
+use Rattle.joblog_laws.specs.Run.{inPlace}
+use Rattle.joblog_laws.specs.Appends.{Unchanged, RefusedChangesNothing, FirstBufferStays, FiveBytesChange, cutAt, CutAtAnyByte, NextTakesItsPlace, RoomIsEnough}
+use Rattle.joblog_laws.proofs.ReadingLaws.{read-ordered}
+use Rattle.joblog_laws.proofs.HeldLaws.{Held, held-read, put-read, put-held, cut-before, Outcome, refusal, placed, moved, append-outcome}
+
+-- ---- which bytes change
+Keeps : Call → List ℕ → List ℕ → Type 0
+Keeps c log second = (eqb (c .answer .number) 0 ≡ false → Unchanged c log second) × (inPlace c ≡ false → c .log ≡ log)
+
+compacting-keeps : (t : State) (text : List ℕ) (place : ℕ) (log second : List ℕ) → Keeps (compactingOf t text place log second) log second
+unfolding Keeps compactAnswer
+compacting-keeps t text place log second = (by-room (leb (length text) (length second)) refl, λ i. refl)
+  where
+    by-room : (b : Bool) → leb (length text) (length second) ≡ b → eqb (cond b (answered 1 t (length text)) (refused logSecondShort place) .number) 0 ≡ false
+        → (log ≡ log) × (putOf second 0 text ≡ second)
+    by-room true e n = let z : _≡_ {A = ℕ} 0 1 = cc in absurd (omega arith)
+    by-room false e n = (refl, put-none second text (leb-false (length text) (length second) e))
+
+append-keeps : (log : List ℕ) (used tag page : ℕ) (second : List ℕ) → Keeps (appendOf log used tag page second) log second
+unfolding Keeps appendOf appendedOf writtenOf
+append-keeps log used tag page second = by-size (leb used (length log)) (readingOf (take used log))
+  where
+    by-place : (s : State) (b : Bool)
+        → Keeps
+        (cond b
+        (record { answer = answered 0 (afterOf s (recordAs tag page)) (wholeOf used + 5); log = putOf log (wholeOf used) (bytesOf tag page); second = second })
+        (compactingOf (afterOf s (recordAs tag page)) (compactedOf s ++ bytesOf tag page) page log second))
+        log
+        second
+    by-place s true = (λ n. let z : _≡_ {A = ℕ} 0 1 = cc in absurd (omega arith), λ i. let z : _≡_ {A = ℕ} 0 1 = cc in absurd (omega arith))
+    by-place s false = compacting-keeps (afterOf s (recordAs tag page)) (compactedOf s ++ bytesOf tag page) page log second
+
+    by-turn : (s : State) (b : Bool) → Keeps (cond b (writtenOf s log used tag page second) (refusing logOutOfTurn page log second)) log second
+    by-turn s true = by-place s (leb (wholeOf used + 5) (length log))
+    by-turn s false = (λ n. (refl, refl), λ i. refl)
+
+    by-size : (b : Bool) (x : Reading) → Keeps (cond b (appendedOf x log used tag page second) (refusing bufferShort 0 log second)) log second
+    by-size false x = (λ n. (refl, refl), λ i. refl)
+    by-size true (OutOfTurn p) = (λ n. (refl, refl), λ i. refl)
+    by-size true (Says s) = by-turn s (newInTurn s tag page)
+
+restart-keeps : (log : List ℕ) (used count : ℕ) (second : List ℕ)
+    → (eqb (restartOf log used count second .answer .number) 0 ≡ false → Unchanged (restartOf log used count second) log second) × (restartOf log used count second .log ≡ log)
+unfolding Keeps restartOf restartedOf
+restart-keeps log used count second = by-size (leb used (length log)) (readingOf (take used log))
+  where
+    Left : Call → Type 0
+    Left c = (eqb (c .answer .number) 0 ≡ false → Unchanged c log second) × (c .log ≡ log)
+
+    by-count : (s : State) (b : Bool)
+        → Left (cond b (compactingOf (state count (s .sent)) (compactedOf (state count (s .sent))) count log second) (refusing logCountOutside count log second))
+    by-count s true = (compacting-keeps (state count (s .sent)) (compactedOf (state count (s .sent))) count log second .0, refl)
+    by-count s false = (λ n. (refl, refl), refl)
+
+    by-size : (b : Bool) (x : Reading) → Left (cond b (restartedOf x log count second) (refusing bufferShort 0 log second))
+    by-size false x = (λ n. (refl, refl), refl)
+    by-size true (OutOfTurn p) = (λ n. (refl, refl), refl)
+    by-size true (Says s) = by-count s (leb (s .finished) count && leb count (s .sent))
+
+pub refused-changes-nothing : RefusedChangesNothing
+unfolding Keeps
+refused-changes-nothing log used second =
+    (λ tag page. append-keeps log used tag page second .0, λ count. restart-keeps log used count second .0)
+
+pub first-buffer-stays : FirstBufferStays
+unfolding Keeps
+first-buffer-stays log used second =
+    (λ tag page. append-keeps log used tag page second .1, λ count. restart-keeps log used count second .1)
+
+-- ---- an append in the log's own place
+module _ (log : List ℕ) (used tag page : ℕ) (second : List ℕ) where
+  placedCall : State → Call
+  placedCall s = record { answer = answered 0 (afterOf s (recordAs tag page)) (wholeOf used + 5); log = putOf log (wholeOf used) (bytesOf tag page); second = second }
+
+  record Placed : Type 0 where
+    pub says : State
+    pub held : Held log used says
+    pub turn : inTurn false says (recordAs tag page) ≡ true
+    pub room : wholeOf used + 5 ≤ length log
+    pub is : appendOf log used tag page second ≡ placedCall says
+
+  by-outcome : (s : State) (c : Call) → Outcome log used s tag page second c → inPlace c ≡ true
+      → (inTurn false s (recordAs tag page) ≡ true) × (wholeOf used + 5 ≤ length log) × (c ≡ placedCall s)
+  unfolding placedCall
+  by-outcome s c (refusal number after e) i = let z : _≡_ {A = ℕ} 0 1 = cc in absurd (omega arith)
+  by-outcome s c (moved turn room) i = let z : _≡_ {A = ℕ} 0 1 = cc in absurd (omega arith)
+  by-outcome s c (placed turn room) i = (turn, room, refl)
+
+  by-reading : inPlace (appendOf log used tag page second) ≡ true → (b : Bool) → leb used (length log) ≡ b → (x : Reading) → readingOf (take used log) ≡ x
+      → inPlace (cond b (appendedOf x log used tag page second) (refusing bufferShort 0 log second)) ≡ true → Placed
+  unfolding appendedOf
+  by-reading j false f x e i = let z : _≡_ {A = ℕ} 0 1 = cc in absurd (omega arith)
+  by-reading j true f (OutOfTurn p) e i = let z : _≡_ {A = ℕ} 0 1 = cc in absurd (omega arith)
+  by-reading j true f (Says s) e i =
+      let h : Held log used s = record { fits = leb-true used (length log) f; reads = e; ordered = read-ordered true (state 0 0) s (recordsOf (take used log)) e (omega arith) } in
+      let o = by-outcome s (appendOf log used tag page second) (append-outcome log used s tag page second h) j in
+      record { says = s; held = h; turn = o .0; room = o .1; is = o .2 }
+
+  in-place : inPlace (appendOf log used tag page second) ≡ true → Placed
+  unfolding appendOf
+  in-place i = by-reading i (leb used (length log)) refl (readingOf (take used log)) refl i
+
+pub five-bytes-change : FiveBytesChange
+unfolding placedCall putOf
+five-bytes-change log used tag page second i =
+    let p = in-place log used tag page second i in
+    let n = bytes-length tag page in
+    let l : wholeOf used + length (bytesOf tag page) ≡ wholeOf used + 5 = omega arith in
+    let put : putOf log (wholeOf used) (bytesOf tag page) ≡ take (wholeOf used) log ++ bytesOf tag page ++ drop (wholeOf used + 5) log =
+    rw (l, le-leb (wholeOf used + 5) (length log) (p .room)) in
+    (ap (λ (c : Call). c .log) (p .is) ∙ put, ap (λ (c : Call). c .second) (p .is))
+
+-- ---- a cut at any byte
+cut-held : (log : List ℕ) (used tag page : ℕ) (second : List ℕ) (p : Placed log used tag page second) (k : ℕ) → k < 5
+    → Held (cutAt log used tag page k) (wholeOf used + k) (p .says)
+cut-held log used tag page second p k short =
+    cut-before log used (p .says) (p .held) tag page k (wholeOf used + k) (omega arith) (omega arith) (omega arith) (p .room)
+
+cut-read : (log : List ℕ) (used tag page : ℕ) (second : List ℕ) (p : Placed log used tag page second) (k : ℕ) → k ≤ 5 → (b : Bool) → ltb k 5 ≡ b
+    → readLogOf (cutAt log used tag page k) (wholeOf used + k) ≡ cond b (readLogOf log used) (appendOf log used tag page second .answer)
+unfolding bytesOf placedCall
+cut-read log used tag page second p k five true e =
+    let l = ltb-true k 5 e in
+    let w : wholeOf (wholeOf used + k) ≡ wholeOf used = omega arith in
+    held-read _ _ (p .says) (cut-held log used tag page second p k l) ∙ ap (answered 0 (p .says)) w ∙ sym (held-read log used (p .says) (p .held))
+cut-read log used tag page second p k five false e =
+    let l = ltb-false k 5 e in
+    let w : wholeOf (wholeOf used + 5) ≡ wholeOf used + 5 = omega arith in
+    let k5 : k ≡ 5 = omega arith in
+    let s = afterOf (p .says) (recordAs tag page) in
+    rw k5 (held-read _ _ s (put-held log used (p .says) (p .held) tag page (p .turn) (p .room)) ∙ ap (answered 0 s) w)
+    ∙ sym (ap (λ (c : Call). c .answer) (p .is))
+
+pub cut-at-any-byte : CutAtAnyByte
+cut-at-any-byte log used tag page second k i five = cut-read log used tag page second (in-place log used tag page second i) k five (ltb k 5) refl
+
+-- bytes that are put over others in the same place
+put-over : (buffer x y : List ℕ) (at : ℕ) → length x ≤ length y → at + length y ≤ length buffer → putOf (putOf buffer at x) at y ≡ putOf buffer at y
+unfolding putOf
+put-over buffer x y at short room =
+    let e : putOf buffer at x ≡ take at buffer ++ x ++ drop (at + length x) buffer = rw (le-leb (at + length x) (length buffer) (omega arith)) in
+    let p = put-read buffer x at (omega arith) in
+    let n = length-append (take at buffer) x in
+    let a = length-take-le at buffer (omega arith) in
+    let j : at + length y ≡ length (take at buffer ++ x) + (length y - length x) = omega arith in
+    let m : at + length x + (length y - length x) ≡ at + length y = omega arith in
+    let d : drop (at + length y) (putOf buffer at x) ≡ drop (at + length y) buffer =
+    ap (drop (at + length y)) e
+    ∙ ap (λ (n : ℕ). drop n (take at buffer ++ x ++ drop (at + length x) buffer)) j
+    ∙ drop-append-add (take at buffer ++ x) (drop (at + length x) buffer) (length y - length x)
+    ∙ drop-drop (length y - length x) (at + length x) buffer
+    ∙ ap (λ (n : ℕ). drop n buffer) m in
+    let l : leb (at + length y) (length (putOf buffer at x)) ≡ true = le-leb (at + length y) (length (putOf buffer at x)) (omega (arith, p .1)) in
+    rw (l, le-leb (at + length y) (length buffer) room, p .2, d)
+
+-- an append on a log that can be read and is not full
+append-on : (log : List ℕ) (used : ℕ) (s : State) → Held log used s → wholeOf used + 5 ≤ length log → (tag page : ℕ) (second : List ℕ)
+    → appendOf log used tag page second ≡ cond (newInTurn s tag page) (placedCall log used tag page second s) (refusing logOutOfTurn page log second)
+unfolding appendOf appendedOf writtenOf placedCall
+append-on log used s h room tag page second = rw (le-leb used (length log) (h .fits), h .reads, le-leb (wholeOf used + 5) (length log) room)
+
+module _ (log : List ℕ) (used tag page : ℕ) (second : List ℕ) (p : Placed log used tag page second) (k : ℕ) (short : k < 5) (tag' page' : ℕ) (second' : List ℕ) where
+  Same : Call → Call → Type 0
+  Same next plain = (next .answer ≡ plain .answer) × (eqb (next .answer .number) 0 ≡ true → next .log ≡ plain .log)
+
+  same-after : (b : Bool)
+      → Same
+      (cond b (placedCall (cutAt log used tag page k) (wholeOf used + k) tag' page' second' (p .says)) (refusing logOutOfTurn page' (cutAt log used tag page k) second'))
+      (cond b (placedCall log used tag' page' second' (p .says)) (refusing logOutOfTurn page' log second'))
+  unfolding Same placedCall
+  same-after true =
+      let w : wholeOf (wholeOf used + k) ≡ wholeOf used = omega arith in
+      let n = bytes-length tag page in
+      let m = bytes-length tag' page' in
+      let l = length-take-le k (bytesOf tag page) (omega arith) in
+      let room = p .room in
+      let o = put-over log (take k (bytesOf tag page)) (bytesOf tag' page') (wholeOf used) (omega arith) (omega arith) in (
+        ap (λ (at : ℕ). answered 0 (afterOf (p .says) (recordAs tag' page')) (at + 5)) w,
+        λ accepted. ap (λ (at : ℕ). putOf (cutAt log used tag page k) at (bytesOf tag' page')) w ∙ o,
+      )
+  same-after false = (refl, λ accepted. let z : _≡_ {A = ℕ} 0 1 = cc in absurd (omega arith))
+
+  next-same : Same (appendOf (cutAt log used tag page k) (wholeOf used + k) tag' page' second') (appendOf log used tag' page' second')
+  next-same =
+      let n = bytes-length tag page in
+      let l = length-take-le k (bytesOf tag page) (omega arith) in
+      let room = p .room in
+      let same-length = put-read log (take k (bytesOf tag page)) (wholeOf used) (omega arith) .1 in
+      let w : wholeOf (wholeOf used + k) + 5 ≤ length (cutAt log used tag page k) = omega arith in
+      rw (
+        append-on (cutAt log used tag page k) (wholeOf used + k) (p .says) (cut-held log used tag page second p k short) w tag' page' second',
+        append-on log used (p .says) (p .held) (p .room) tag' page' second',
+      ) (same-after (newInTurn (p .says) tag' page'))
+
+pub next-takes-its-place : NextTakesItsPlace
+unfolding Same
+next-takes-its-place log used tag page second k i short tag' page' second' =
+    next-same log used tag page second (in-place log used tag page second i) k short tag' page' second'
+
+-- ---- room for the open pages
+NotShort : Call → Type 0
+NotShort c = eqb (c .answer .number) logSecondShort ≡ false
+
+enough : (log : List ℕ) (used tag page : ℕ) (second : List ℕ) (b : Bool) (x : Reading) → leb used (length log) ≡ b → readingOf (take used log) ≡ x
+    → 10 + 5 * (readLogOf log used .sent - readLogOf log used .finished) ≤ length second
+    → NotShort (cond b (appendedOf x log used tag page second) (refusing bufferShort 0 log second))
+unfolding NotShort appendedOf readLogOf readAnswer writtenOf compactAnswer
+enough log used tag page second false x f e room = refl
+enough log used tag page second true (OutOfTurn p) f e room = refl
+enough log used tag page second true (Says s) f e room = by-turn (newInTurn s tag page)
+  where
+    enough-room : 10 + 5 * (s .sent - s .finished) ≤ length second
+    enough-room = rw (f, e) at room
+
+    fits : leb (length (compactedOf s ++ bytesOf tag page)) (length second) ≡ true
+    fits = let l = with-length s tag page in le-leb (length (compactedOf s ++ bytesOf tag page)) (length second) (omega (arith, enough-room))
+
+    by-place : (b : Bool)
+        → NotShort
+        (cond b
+        (record { answer = answered 0 (afterOf s (recordAs tag page)) (wholeOf used + 5); log = putOf log (wholeOf used) (bytesOf tag page); second = second })
+        (compactingOf (afterOf s (recordAs tag page)) (compactedOf s ++ bytesOf tag page) page log second))
+    by-place true = refl
+    by-place false = rw fits refl
+
+    by-turn : (b : Bool) → NotShort (cond b (writtenOf s log used tag page second) (refusing logOutOfTurn page log second))
+    by-turn true = by-place (leb (wholeOf used + 5) (length log))
+    by-turn false = refl
+
+pub room-is-enough : RoomIsEnough
+unfolding NotShort appendOf
+room-is-enough log used tag page second room = enough log used tag page second (leb used (length log)) (readingOf (take used log)) refl refl room

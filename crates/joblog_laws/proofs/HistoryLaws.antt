@@ -1,0 +1,116 @@
+-- Request 6's promise, over every history. Assumes nothing.
+use native.Mathlib.Omega.{arith}
+use Prim.Native.Nat.{ℕ, zero, suc, _+_, _-_, _*_, _≤_}
+use mathlib.Core.Path.{_≡_, refl, sym, ap, subst, _∙_}
+use mathlib.Core.Bool.{Bool, true, false, cond}
+use mathlib.Core.List.{List, [], _∷_, _++_}
+use lib.Dec.{leb}
+use lib.ListN.{length, length-append}
+use borrow.Author.Tests.{le-leb}
+use Rattle.refusals.specs.Refusals.{logSecondShort}
+use Rattle.text.specs.Text.{putOf}
+use Rattle.joblog.specs.declared.records.State.{State}
+use Rattle.joblog.specs.Records.{state, compactedOf}
+use Rattle.joblog.specs.declared.calls.Log.{Log}
+use Rattle.joblog.specs.Calls.{answered, refused, readLogOf, compactAnswer, compactingOf}
+use Rattle.joblog_laws.specs.Run.{idle, World, begun, goes, finishes, restart, has, asRequested, isIdle, finishing, next, run}
+use Rattle.joblog_laws.specs.Histories.{pagesOf, Kept, HistoriesAreKept, sendAll, OpenPagesCome}
+use Rattle.joblog.proofs.CompactLaws.{compacted-length}
+use Rattle.joblog_laws.proofs.HeldLaws.{held-read, sent, restart-held}
+use Rattle.joblog_laws.proofs.PageLaws.{pages-front, has-pages}
+use Rattle.joblog_laws.proofs.StepLaws.{Inv, counted, held-now, count-between, restarted, restart-kept, run-kept, begun-kept}
+
+-- ---- what the request promises follows
+not-has : (b : Bool) → (b ≡ true → ⊥) → b ≡ false
+not-has true h = absurd (h refl)
+not-has false h = refl
+
+room-answer : (t : State) (place : ℕ) (log second : List ℕ)
+    → compactingOf t (compactedOf t) place log second .answer .number ≡ cond (leb (5 + 5 * (t .sent - t .finished)) (length second)) 0 12
+unfolding compactAnswer
+room-answer t place log second = rw (compacted-length t) (by-test (leb (5 + 5 * (t .sent - t .finished)) (length second)))
+  where
+    by-test : (b : Bool) → cond b (answered 1 t (5 + 5 * (t .sent - t .finished))) (refused logSecondShort place) .number ≡ cond b 0 12
+    by-test true = refl
+    by-test false = refl
+
+kept : (w : World) → Inv w → Kept w
+kept w i =
+    let n = length (w .finished) in
+    let r = held-read (w .log) (w .used) (i .says) (held-now w i) in
+    let l = length-append (w .finished) (w .tray) in
+    let c = counted w i in
+    let order = pages-front (w .finished) (w .tray) (i .last) (i .here) in
+    let whole : length (w .finished ++ w .tray) ≡ i .last = omega arith in
+    let ahead = i .ahead in
+    record {
+      «in_order» = order;
+      «none_skipped» = i .here ∙ ap pagesOf (sym whole);
+      «next_out» = λ up. i .out up ∙ sym whole;
+      «none_again» = λ up.
+          let o = i .out up in
+          not-has (has (w .finished) (w .out + 1))
+          (λ h. let m = has-pages n (w .out + 1) (subst (λ (pages : List ℕ). has pages (w .out + 1) ≡ true) order h) in omega arith);
+      readable = ap (λ (a : Log). a .number) r;
+      behind = rw r (i .behind);
+      ahead = rw r (omega arith);
+      accepted = λ second. rw (r, restarted w i second) (room-answer (state n (i .says .sent)) n (w .log) second);
+    }
+
+pub histories-are-kept : HistoriesAreKept
+histories-are-kept buffer steps = kept (run asRequested (begun buffer) steps) (run-kept (begun buffer) (begun-kept buffer) steps)
+
+-- ---- the open pages come
+one-out : (log : List ℕ) (used out : ℕ) (finished : List ℕ) → out + 1 ≤ readLogOf log used .sent
+    → next asRequested (record { log = log; used = used; up = true; out = out; writing = idle; tray = []; finished = finished }) goes
+    ≡ record { log = log; used = used; up = true; out = out + 1; writing = idle; tray = (out + 1) ∷ []; finished = finished }
+unfolding next isIdle
+one-out log used out finished h = rw (le-leb (out + 1) (readLogOf log used .sent) h)
+
+sent-out : (k : ℕ) (log : List ℕ) (used out : ℕ) (finished : List ℕ) → out + k ≤ readLogOf log used .sent
+    → length (run asRequested (record { log = log; used = used; up = true; out = out; writing = idle; tray = []; finished = finished }) (sendAll k) .finished) ≡ length finished + k
+unfolding run sendAll next finishing
+sent-out zero log used out finished h = omega arith
+sent-out (suc k) log used out finished h =
+    let a = length-append finished ((out + 1) ∷ []) in
+    let l : length (finished ++ ((out + 1) ∷ [])) + k ≡ length finished + suc k = omega arith in
+    ap (λ (w : World). length (run asRequested (next asRequested w finishes) (sendAll k) .finished)) (one-out log used out finished (omega arith))
+    ∙ sent-out k log used (out + 1) (finished ++ ((out + 1) ∷ [])) (omega arith)
+    ∙ l
+
+restart-world : (w : World) (i : Inv w) (second : List ℕ) → length (compactedOf (state (length (w .finished)) (i .says .sent))) ≤ length second
+    → next asRequested w (restart second)
+    ≡ record {
+      log = putOf second 0 (compactedOf (state (length (w .finished)) (i .says .sent)));
+      used = length (compactedOf (state (length (w .finished)) (i .says .sent)));
+      up = true;
+      out = length (w .finished);
+      writing = idle;
+      tray = [];
+      finished = w .finished;
+    }
+unfolding next compactAnswer
+restart-world w i second room = rw (restarted w i second, le-leb _ _ room)
+
+come : (w : World) (i : Inv w) (second : List ℕ) → 5 + 5 * (i .says .sent - length (w .finished)) ≤ length second
+    → run asRequested (next asRequested w (restart second)) (sendAll (i .says .sent - length (w .finished))) .finished ≡ pagesOf (i .says .sent)
+come w i second room =
+    let n = length (w .finished) in
+    let s = i .says .sent in
+    let t = state n s in
+    let b = count-between w i in
+    let l = compacted-length t in
+    let h = restart-held t second (b .1) (omega arith) in
+    let r = ap (λ (a : Log). a .sent) (held-read (putOf second 0 (compactedOf t)) (length (compactedOf t)) t h) in
+    let e = restart-world w i second (omega arith) in
+    let z = sent-out (s - n) (putOf second 0 (compactedOf t)) (length (compactedOf t)) n (w .finished) (omega arith) in
+    let m : length (run asRequested (next asRequested w (restart second)) (sendAll (s - n)) .finished) ≡ s = rw e (omega arith) in
+    kept (run asRequested (next asRequested w (restart second)) (sendAll (s - n))) (run-kept (next asRequested w (restart second)) (restart-kept w i second) (sendAll (s - n))) .«in_order» ∙ ap pagesOf m
+
+pub open-pages-come : OpenPagesCome
+unfolding run
+open-pages-come buffer steps second room =
+    let w = run asRequested (begun buffer) steps in
+    let i = run-kept (begun buffer) (begun-kept buffer) steps in
+    let r = ap (λ (a : Log). a .sent) (held-read (w .log) (w .used) (i .says) (held-now w i)) in
+    rw r (come w i second (rw r at room))

@@ -1,0 +1,360 @@
+-- What every step of a run keeps. Assumes nothing.
+use native.Mathlib.Omega.{arith}
+use Prim.Native.Nat.{ℕ, suc, _+_, _≤_, _<_}
+use mathlib.Core.Path.{_≡_, refl, sym, ap, subst, _∙_}
+use mathlib.Core.Bool.{Bool, true, false, cond, _&&_}
+use mathlib.Core.List.{List, [], _∷_, _++_, append-assoc, append-nil}
+use lib.Dec.{leb, ltb, eqb}
+use lib.ListN.{length, take, drop, length-append, length-drop, take-append-drop}
+use lib.Seq.{take-add, length-take-le}
+use borrow.Author.Tests.{leb-true, ltb-true}
+use Rattle.refusals.specs.Refusals.{logSecondShort}
+use Rattle.text.specs.Text.{putOf}
+use Rattle.text.proofs.TextLaws.{put-behind, put-nothing}
+use Rattle.joblog.specs.declared.records.State.{State}
+use Rattle.joblog.specs.Records.{state, bytesOf, wholeOf, recordsOf, readOf, compactedOf}
+use Rattle.joblog.proofs.CompactLaws.{bytes-length}
+use Rattle.joblog.specs.Calls.{Call, answered, refused, readLogOf, compactAnswer, compactingOf, appendOf, restartOf}
+use Rattle.joblog_laws.specs.Run.{Writing, idle, within, World, begun, Step, begins, byte, completes, goes, finishes, crash, restart, has, asRequested, logAfter, usedAfter, inPlace, mayAppend, beginning, withByte, writingByte, completing, mayBeUsed, crashUsed, isIdle, finishing, next, run}
+use Rattle.joblog_laws.specs.Histories.{pagesOf}
+use Rattle.joblog_laws.proofs.ReadingLaws.{both}
+use Rattle.joblog_laws.proofs.HeldLaws.{Held, held-read, cutLog, Change, same, sent, done, After, Outcome, refusal, placed, moved, append-outcome, append-after, cut-now, cut-after, restart-outcome, restart-held}
+use Rattle.joblog_laws.proofs.PageLaws.{pages-length, pages-front, has-pages}
+
+-- ---- an append that is under way: `base` is the buffer when it began
+pub record Within (base log : List ℕ) (used : ℕ) (s : State) (count tag page : ℕ) (c : Call) (k : ℕ) : Type 0 where
+  pub second : List ℕ
+  pub outcome : Outcome base used s tag page second c
+  pub there : log ≡ cutLog base used c tag page k
+  pub few : k ≤ 5
+  pub told : tag ≡ 2 → page ≤ count
+
+abbrev pub Flight : (base log : List ℕ) (used : ℕ) (s : State) (count : ℕ) → Writing → Type 0
+Flight base log used s count idle = log ≡ base
+Flight base log used s count (within tag page c k) = Within base log used s count tag page c k
+
+flight-held : (base log : List ℕ) (used : ℕ) (s : State) (count : ℕ) (x : Writing) → Held base used s → Flight base log used s count x → Held log used s
+flight-held base log used s count idle h f = subst (λ (l : List ℕ). Held l used s) (sym f) h
+flight-held base log used s count (within tag page c k) h f =
+    subst (λ (l : List ℕ). Held l used s) (sym (f .there)) (cut-now base used s tag page (f .second) h (f .outcome) k (f .few))
+
+flight-more : (base log : List ℕ) (used : ℕ) (s : State) (n m : ℕ) (x : Writing) → n ≤ m → Flight base log used s n x → Flight base log used s m x
+flight-more base log used s n m idle h f = f
+flight-more base log used s n m (within tag page c k) h f =
+    record { second = f .second; outcome = f .outcome; there = f .there; few = f .few; told = λ two. let t = f .told two in omega arith }
+
+-- ---- what every step keeps
+pub record Inv (w : World) : Type 0 where
+  pub says : State
+  pub base : List ℕ
+  pub held : Held base (w .used) says
+  pub flight : Flight base (w .log) (w .used) says (length (w .finished)) (w .writing)
+  pub last : ℕ
+  pub here : w .finished ++ w .tray ≡ pagesOf last
+  pub behind : says .finished ≤ length (w .finished)
+  pub ahead : last ≤ says .sent
+  pub out : w .up ≡ true → w .out ≡ last
+
+pub counted : (w : World) (i : Inv w) → length (w .finished) + length (w .tray) ≡ i .last
+counted w i = let l = pages-length (i .last) in let n = length-append (w .finished) (w .tray) in let e = ap length (i .here) in omega arith
+
+pub held-now : (w : World) (i : Inv w) → Held (w .log) (w .used) (i .says)
+held-now w i = flight-held (i .base) (w .log) (w .used) (i .says) (length (w .finished)) (w .writing) (i .held) (i .flight)
+
+-- a done is of a finished page, so that the count stays between
+change-between : {s t : State} {tag page : ℕ} → Change s tag page t → (n : ℕ) → s .finished ≤ n → (tag ≡ 2 → page ≤ n) → (t .finished ≤ n) × (s .sent ≤ t .sent)
+change-between same n h d = (h, omega arith)
+change-between sent n h d = (h, omega arith)
+change-between (done a b c) n h d = let k = d a in (omega arith, omega arith)
+
+-- ---- an append begins
+may-append : (w : World) (i : Inv w) (tag page : ℕ) → mayAppend asRequested w tag page ≡ true → tag ≡ 2 → page ≤ length (w .finished)
+may-append w i tag page h two =
+    let k = both (w .up) (cond (eqb tag 2) (has (w .finished) page) true) h in
+    has-pages (length (w .finished)) page (rw (← pages-front (w .finished) (w .tray) (i .last) (i .here)) (rw two at (k .1)))
+
+no-bytes : (log : List ℕ) (used : ℕ) (c : Call) (tag page : ℕ) → used ≤ length log → log ≡ cutLog log used c tag page 0
+no-bytes log used c tag page fits = by-place (inPlace c)
+  where
+    by-place : (b : Bool) → log ≡ cond b (putOf log (wholeOf used) []) log
+    by-place true = sym (put-nothing log (wholeOf used) (omega arith))
+    by-place false = refl
+
+begins-kept : (w : World) → Inv w → (x : Writing) → w .writing ≡ x → (tag page : ℕ) (second : List ℕ) → Inv (beginning asRequested w x tag page second)
+unfolding beginning
+begins-kept w i (within t p c k) e tag page second = i
+begins-kept w i idle e tag page second = by-test (mayAppend asRequested w tag page) refl
+  where
+    c : Call
+    c = appendOf (w .log) (w .used) tag page second
+
+    by-test : (b : Bool) → mayAppend asRequested w tag page ≡ b
+        → Inv (cond b (record { log = w .log; used = w .used; up = w .up; out = w .out; writing = within tag page c 0; tray = w .tray; finished = w .finished }) w)
+    by-test false m = i
+    by-test true m =
+        let h = held-now w i in
+        record {
+          says = i .says;
+          base = w .log;
+          held = h;
+          flight = record {
+            second = second;
+            outcome = append-outcome (w .log) (w .used) (i .says) tag page second h;
+            there = no-bytes (w .log) (w .used) (appendOf (w .log) (w .used) tag page second) tag page (h .fits);
+            few = omega arith;
+            told = may-append w i tag page m;
+          };
+          last = i .last;
+          here = i .here;
+          behind = i .behind;
+          ahead = i .ahead;
+          out = i .out;
+        }
+
+-- ---- one byte more
+byte-there : (base log : List ℕ) (used : ℕ) (s : State) (tag page : ℕ) (second : List ℕ) (c : Call) (k : ℕ) → Outcome base used s tag page second c
+    → log ≡ cutLog base used c tag page k → k < 5 → inPlace c ≡ true → withByte log used tag page k ≡ cutLog base used c tag page (k + 1)
+byte-there base log used s tag page second c k (refusal number after e) f short i = let z : _≡_ {A = ℕ} 0 1 = cc in absurd (omega arith)
+byte-there base log used s tag page second c k (moved turn room) f short i = let z : _≡_ {A = ℕ} 0 1 = cc in absurd (omega arith)
+byte-there base log used s tag page second c k (placed turn room) f short i =
+    let bytes = bytesOf tag page in
+    let n = bytes-length tag page in
+    let l : length (take k bytes) ≡ k = length-take-le k bytes (omega arith) in
+    let d = length-drop k bytes in
+    let m : length (take 1 (drop k bytes)) ≡ 1 = length-take-le 1 (drop k bytes) (omega arith) in
+    let at : wholeOf used + k ≡ wholeOf used + length (take k bytes) = omega arith in
+    ap (λ (x : List ℕ). putOf x (wholeOf used + k) (take 1 (drop k bytes))) f
+    ∙ ap (λ (p : ℕ). putOf (putOf base (wholeOf used) (take k bytes)) p (take 1 (drop k bytes))) at
+    ∙ put-behind base (take k bytes) (take 1 (drop k bytes)) (wholeOf used) (omega arith)
+    ∙ ap (putOf base (wholeOf used)) (sym (take-add k 1 bytes))
+
+byte-kept : (w : World) → Inv w → (x : Writing) → w .writing ≡ x → Inv (writingByte w x)
+unfolding writingByte
+byte-kept w i idle e = i
+byte-kept w i (within tag page c k) e = by-test (inPlace c && ltb k 5) refl
+  where
+    f : Within (i .base) (w .log) (w .used) (i .says) (length (w .finished)) tag page c k
+    f = subst (Flight (i .base) (w .log) (w .used) (i .says) (length (w .finished))) e (i .flight)
+
+    by-test : (b : Bool) → inPlace c && ltb k 5 ≡ b
+        → Inv (cond b (record { log = withByte (w .log) (w .used) tag page k; used = w .used; up = w .up; out = w .out; writing = within tag page c (k + 1); tray = w .tray; finished = w .finished }) w)
+    by-test false t = i
+    by-test true t =
+        let p = both (inPlace c) (ltb k 5) t in
+        let short = ltb-true k 5 (p .1) in
+        record {
+          says = i .says;
+          base = i .base;
+          held = i .held;
+          flight = record {
+            second = f .second;
+            outcome = f .outcome;
+            there = byte-there (i .base) (w .log) (w .used) (i .says) tag page (f .second) c k (f .outcome) (f .there) short (p .0);
+            few = omega arith;
+            told = f .told;
+          };
+          last = i .last;
+          here = i .here;
+          behind = i .behind;
+          ahead = i .ahead;
+          out = i .out;
+        }
+
+-- ---- the append completes
+completes-kept : (w : World) → Inv w → (x : Writing) → w .writing ≡ x → Inv (completing w x)
+unfolding completing
+completes-kept w i idle e = i
+completes-kept w i (within tag page c k) e = by-test (inPlace c && ltb k 5)
+  where
+    f : Within (i .base) (w .log) (w .used) (i .says) (length (w .finished)) tag page c k
+    f = subst (Flight (i .base) (w .log) (w .used) (i .says) (length (w .finished))) e (i .flight)
+
+    by-test : (b : Bool)
+        → Inv (cond b w (record { log = logAfter c; used = usedAfter c (w .used); up = w .up; out = w .out; writing = idle; tray = w .tray; finished = w .finished }))
+    by-test true = i
+    by-test false =
+        let a = append-after (i .base) (w .used) (i .says) tag page (f .second) (i .held) (f .outcome) in
+        let b = change-between (a .how) (length (w .finished)) (i .behind) (f .told) in
+        let h = i .ahead in
+        record {
+          says = a .to;
+          base = logAfter c;
+          held = a .held;
+          flight = refl;
+          last = i .last;
+          here = i .here;
+          behind = b .0;
+          ahead = omega arith;
+          out = i .out;
+        }
+
+-- ---- a restart: the log says the count, and the tray is empty
+pub count-between : (w : World) (i : Inv w) → (i .says .finished ≤ length (w .finished)) × (length (w .finished) ≤ i .says .sent)
+count-between w i = let c = counted w i in let h = i .ahead in (i .behind, omega arith)
+
+pub restarted : (w : World) (i : Inv w) (second : List ℕ)
+    → restartOf (w .log) (w .used) (length (w .finished)) second
+    ≡ compactingOf (state (length (w .finished)) (i .says .sent)) (compactedOf (state (length (w .finished)) (i .says .sent))) (length (w .finished)) (w .log) second
+restarted w i second =
+    let b = count-between w i in
+    restart-outcome (w .log) (w .used) (i .says) (held-now w i) (length (w .finished)) second (b .0) (b .1)
+
+pub restart-kept : (w : World) (i : Inv w) (second : List ℕ) → Inv (next asRequested w (restart second))
+unfolding next compactAnswer
+restart-kept w i second = rw (restarted w i second) (by-room (leb (length text) (length second)) refl)
+  where
+    n : ℕ
+    n = length (w .finished)
+
+    t : State
+    t = state n (i .says .sent)
+
+    text : List ℕ
+    text = compactedOf t
+
+    here : w .finished ++ [] ≡ pagesOf n
+    here = append-nil (w .finished) ∙ pages-front (w .finished) (w .tray) (i .last) (i .here)
+
+    after : Call → World
+    after c = record { log = logAfter c; used = usedAfter c (w .used); up = eqb (c .answer .number) 0; out = n; writing = idle; tray = []; finished = w .finished }
+
+    by-room : (b : Bool) → leb (length text) (length second) ≡ b
+        → Inv (after (record { answer = cond b (answered 1 t (length text)) (refused logSecondShort n); log = w .log; second = putOf second 0 text }))
+    by-room true e =
+        let b = count-between w i in
+        record {
+          says = t;
+          base = putOf second 0 text;
+          held = restart-held t second (b .1) (leb-true (length text) (length second) e);
+          flight = refl;
+          last = n;
+          here = here;
+          behind = omega arith;
+          ahead = b .1;
+          out = λ u. refl;
+        }
+    by-room false e =
+        let b = count-between w i in
+        record { says = i .says; base = w .log; held = held-now w i; flight = refl; last = n; here = here; behind = b .0; ahead = b .1; out = λ u. refl }
+
+-- ---- the embosser finishes a page, and a page goes out
+finish-kept : (w : World) (tray : List ℕ) → w .tray ≡ tray → Inv w → Inv (finishing w tray)
+unfolding finishing
+finish-kept w [] e i = i
+finish-kept w (page ∷ rest) e i =
+    let n = length-append (w .finished) (page ∷ []) in
+    let b = i .behind in
+    record {
+      says = i .says;
+      base = i .base;
+      held = i .held;
+      flight = flight-more (i .base) (w .log) (w .used) (i .says) (length (w .finished)) (length (w .finished ++ (page ∷ []))) (w .writing) (omega arith) (i .flight);
+      last = i .last;
+      here = append-assoc (w .finished) (page ∷ []) rest ∙ ap (λ (l : List ℕ). w .finished ++ l) (sym e) ∙ i .here;
+      behind = omega arith;
+      ahead = i .ahead;
+      out = i .out;
+    }
+
+one-more : (l : List ℕ) (m page : ℕ) → l ≡ pagesOf m → page ≡ suc m → l ++ (page ∷ []) ≡ pagesOf (suc m)
+unfolding pagesOf
+one-more l m page e p = rw (e, p)
+
+goes-kept : (w : World) → Inv w → Inv (next asRequested w goes)
+unfolding next
+goes-kept w i = by-test (w .up && isIdle (w .writing) && leb (w .out + 1) (readLogOf (w .log) (w .used) .sent)) refl
+  where
+    by-test : (b : Bool) → w .up && isIdle (w .writing) && leb (w .out + 1) (readLogOf (w .log) (w .used) .sent) ≡ b
+        → Inv (cond b (record { log = w .log; used = w .used; up = true; out = w .out + 1; writing = idle; tray = w .tray ++ ((w .out + 1) ∷ []); finished = w .finished }) w)
+    by-test false e = i
+    by-test true e =
+        let j = both (w .up && isIdle (w .writing)) (leb (w .out + 1) (readLogOf (w .log) (w .used) .sent)) e in
+        let o : w .out ≡ i .last = i .out (both (w .up) (isIdle (w .writing)) (j .0) .0) in
+        let l : leb (w .out + 1) (i .says .sent) ≡ true = rw (held-read (w .log) (w .used) (i .says) (held-now w i)) at (j .1) in
+        let m = leb-true (w .out + 1) (i .says .sent) l in
+        let p : w .out + 1 ≡ suc (i .last) = omega arith in
+        record {
+          says = i .says;
+          base = w .log;
+          held = held-now w i;
+          flight = refl;
+          last = suc (i .last);
+          here = sym (append-assoc (w .finished) (w .tray) ((w .out + 1) ∷ [])) ∙ one-more (w .finished ++ w .tray) (i .last) (w .out + 1) (i .here) p;
+          behind = i .behind;
+          ahead = omega arith;
+          out = λ u. p;
+        }
+
+-- ---- a crash
+-- what the log says then
+record Left (w : World) (s : State) (used : ℕ) : Type 0 where
+  pub to : State
+  pub held : Held (w .log) used to
+  pub behind : to .finished ≤ length (w .finished)
+  pub ahead : s .sent ≤ to .sent
+
+crash-left : (w : World) (i : Inv w) (u : ℕ) (x : Writing) → w .writing ≡ x → Left w (i .says) (crashUsed (w .used) x u)
+unfolding crashUsed
+crash-left w i u idle e = record { to = i .says; held = held-now w i; behind = i .behind; ahead = omega arith }
+crash-left w i u (within tag page c k) e =
+    let f : Within (i .base) (w .log) (w .used) (i .says) (length (w .finished)) tag page c k =
+    subst (Flight (i .base) (w .log) (w .used) (i .says) (length (w .finished))) e (i .flight) in
+    let used = cond (inPlace c && mayBeUsed (w .used) k u) u (w .used) in
+    let a = cut-after (i .base) (w .used) (i .says) tag page (f .second) (i .held) (f .outcome) k u (f .few) in
+    let b = change-between (a .how) (length (w .finished)) (i .behind) (f .told) in
+    record { to = a .to; held = subst (λ (l : List ℕ). Held l used (a .to)) (sym (f .there)) (a .held); behind = b .0; ahead = b .1 }
+
+crash-kept : (w : World) → Inv w → (left u : ℕ) → Inv (next asRequested w (crash left u))
+unfolding next
+crash-kept w i left u =
+    let front = w .finished ++ take left (w .tray) in
+    let whole : front ++ drop left (w .tray) ≡ pagesOf (i .last) =
+    append-assoc (w .finished) (take left (w .tray)) (drop left (w .tray)) ∙ ap (λ (l : List ℕ). w .finished ++ l) (take-append-drop left (w .tray)) ∙ i .here in
+    let l = pages-length (i .last) in
+    let n = length-append front (drop left (w .tray)) in
+    let e = ap length whole in
+    let a = i .ahead in
+    let s = crash-left w i u (w .writing) refl in
+    let b = s .ahead in
+    record {
+      says = s .to;
+      base = w .log;
+      held = s .held;
+      flight = refl;
+      last = length front;
+      here = pages-front front (drop left (w .tray)) (i .last) whole;
+      behind = s .behind;
+      ahead = omega arith;
+      out = λ up. let z : _≡_ {A = ℕ} 0 1 = cc in absurd (omega arith);
+    }
+
+-- ---- every step
+next-kept : (w : World) → Inv w → (step : Step) → Inv (next asRequested w step)
+unfolding next
+next-kept w i (begins tag page second) = begins-kept w i (w .writing) refl tag page second
+next-kept w i byte = byte-kept w i (w .writing) refl
+next-kept w i completes = completes-kept w i (w .writing) refl
+next-kept w i goes = goes-kept w i
+next-kept w i finishes = finish-kept w (w .tray) refl i
+next-kept w i (crash left u) = crash-kept w i left u
+next-kept w i (restart second) = restart-kept w i second
+
+pub run-kept : (w : World) → Inv w → (steps : List Step) → Inv (run asRequested w steps)
+unfolding run
+run-kept w i [] = i
+run-kept w i (step ∷ steps) = run-kept (next asRequested w step) (next-kept w i step) steps
+
+pub begun-kept : (buffer : List ℕ) → Inv (begun buffer)
+unfolding pagesOf recordsOf readOf
+begun-kept buffer =
+    record {
+      says = state 0 0;
+      base = buffer;
+      held = record { fits = omega arith; reads = refl; ordered = omega arith };
+      flight = refl;
+      last = 0;
+      here = refl;
+      behind = omega arith;
+      ahead = omega arith;
+      out = λ u. refl;
+    }

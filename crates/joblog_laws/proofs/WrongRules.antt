@@ -1,0 +1,100 @@
+-- Other rules than the request's, under which the promise fails: for each a short history that breaks it. So `Kept` says something, and each rule of
+-- `asRequested` is needed. Assumes nothing.
+use Prim.Native.Nat.{ℕ}
+use mathlib.Core.Path.{_≡_, refl, ap}
+use mathlib.Core.Bool.{true}
+use mathlib.Core.List.{List, [], _∷_, _++_}
+use native.Mathlib.Omega.{arith}
+use lib.Dec.{leb}
+use lib.ListN.{getD, replicate}
+use Rattle.text.specs.Text.{putOf}
+use Rattle.joblog.specs.Records.{bytesOf, recordsOf, inTurn, afterOf, readOf, openOf, compactedOf}
+use Rattle.joblog.specs.Calls.{readLogOf, readAnswer, newInTurn, compactAnswer, writtenOf, appendedOf, appendOf, restartedOf, restartOf}
+use Rattle.joblog_laws.specs.Run.{World, begun, Step, begins, byte, completes, goes, finishes, crash, restart, has, Rules, asRequested, beginning, writingByte, completing, finishing, crashUsed, isIdle, next, run}
+use Rattle.joblog_laws.specs.Histories.{pagesOf, KeptBy}
+
+abbrev buffer : List ℕ
+buffer = replicate 20 238
+
+-- an append from its beginning on, byte by byte
+abbrev started : ℕ → ℕ → List Step
+started tag page = begins tag page [] ∷ byte ∷ byte ∷ byte ∷ byte ∷ []
+
+abbrev appended : ℕ → ℕ → List Step
+appended tag page = started tag page ++ (byte ∷ completes ∷ [])
+
+-- where a history ends; to unfold this is to unfold all that a run computes
+ends : Rules → List Step → World
+unfolding run next beginning writingByte completing finishing crashUsed isIdle has putOf bytesOf recordsOf inTurn afterOf readOf openOf compactedOf readLogOf readAnswer newInTurn compactAnswer writtenOf appendedOf appendOf restartedOf restartOf pagesOf
+ends rules steps = run rules (begun buffer) steps
+
+-- ---- by the request: pages 1 and 2 go out and are finished, page 1's done is recorded, page 2's acknowledgement is lost, the host crashes in the append
+-- of page 3's sent record, and after the restart page 3 goes out
+lost : List Step
+lost =
+    appended 1 1 ++ (goes ∷ []) ++ appended 1 2 ++ (goes ∷ finishes ∷ finishes ∷ []) ++ appended 2 1 ++ started 1 3
+    ++ (crash 0 19 ∷ restart buffer ∷ []) ++ appended 1 3 ++ (goes ∷ finishes ∷ [])
+
+as-requested : ends asRequested lost .finished ≡ 1 ∷ 2 ∷ 3 ∷ []
+unfolding ends lost
+as-requested = refl
+
+-- ---- the open pages after the last done go out again, whatever the count: page 1, finished and not recorded as done, is finished twice
+abbrev pub from-the-last-done : Rules
+from-the-last-done = record { told = has; ready = leb; resume = λ done count. done; kept = λ tray. [] }
+
+sent-again : List Step
+sent-again = appended 1 1 ++ (goes ∷ finishes ∷ crash 0 0 ∷ restart buffer ∷ goes ∷ finishes ∷ [])
+
+twice : ends from-the-last-done sent-again .finished ≡ 1 ∷ 1 ∷ []
+unfolding ends sent-again
+twice = refl
+
+pub not-from-the-last-done : KeptBy from-the-last-done → ⊥
+unfolding ends sent-again
+not-from-the-last-done h =
+    let e : _≡_ {A = ℕ} 1 2 = ap (λ (l : List ℕ). getD l 1 0) (h buffer sent-again .«in_order») in
+    omega arith
+
+-- ---- the embosser keeps its tray when it reports its count: page 1, in the tray and sent again, is finished twice
+abbrev pub keeps-its-tray : Rules
+keeps-its-tray = record { told = has; ready = leb; resume = λ done count. count; kept = λ tray. tray }
+
+in-the-tray : List Step
+in-the-tray = appended 1 1 ++ (goes ∷ crash 1 0 ∷ restart buffer ∷ goes ∷ finishes ∷ finishes ∷ [])
+
+twice-too : ends keeps-its-tray in-the-tray .finished ≡ 1 ∷ 1 ∷ []
+unfolding ends in-the-tray
+twice-too = refl
+
+pub not-with-its-tray : KeptBy keeps-its-tray → ⊥
+unfolding ends in-the-tray
+not-with-its-tray h =
+    let e : _≡_ {A = ℕ} 1 2 = ap (λ (l : List ℕ). getD l 1 0) (h buffer in-the-tray .«in_order») in
+    omega arith
+
+-- ---- a done is recorded before its page is finished: the true count is then refused by 14
+abbrev pub done-before-finished : Rules
+done-before-finished = record { told = λ finished page. true; ready = leb; resume = λ done count. count; kept = λ tray. [] }
+
+too-early : List Step
+too-early = appended 1 1 ++ (goes ∷ []) ++ appended 2 1 ++ (crash 0 0 ∷ [])
+
+refused-then : restartOf (ends done-before-finished too-early .log) (ends done-before-finished too-early .used) 0 buffer .answer .number ≡ 14
+unfolding ends too-early
+refused-then = refl
+
+pub not-done-before-finished : KeptBy done-before-finished → ⊥
+unfolding ends too-early
+not-done-before-finished h = let e : _≡_ {A = ℕ} 14 0 = h buffer too-early .accepted buffer in omega arith
+
+-- ---- a page goes out before its sent record is whole: it is finished, the count is over the log's sent pages, and refused by 14
+abbrev pub goes-before-its-record : Rules
+goes-before-its-record = record { told = has; ready = λ page sent. true; resume = λ done count. count; kept = λ tray. [] }
+
+no-record : List Step
+no-record = goes ∷ finishes ∷ crash 0 0 ∷ []
+
+pub not-before-its-record : KeptBy goes-before-its-record → ⊥
+unfolding ends no-record
+not-before-its-record h = let e : _≡_ {A = ℕ} 14 0 = h buffer no-record .accepted buffer in omega arith

@@ -1,0 +1,63 @@
+-- Request 6, what a single call leaves of both buffers, and a cut at any byte of an append. Proved in proofs/AppendLaws.
+use Prim.Native.Nat.{ℕ, _+_, _-_, _*_, _≤_, _<_}
+use mathlib.Core.Path.{_≡_}
+use mathlib.Core.Bool.{true, false, cond}
+use mathlib.Core.List.{List, _++_}
+use lib.Dec.{ltb, eqb}
+use lib.ListN.{length, take, drop}
+use Rattle.refusals.specs.Refusals.{logSecondShort}
+use Rattle.text.specs.Text.{putOf}
+use Rattle.joblog.specs.Records.{bytesOf, wholeOf}
+use Rattle.joblog.specs.Calls.{Call, readLogOf, appendOf, restartOf}
+use Rattle.joblog_laws.specs.Run.{inPlace}
+
+-- ---- which bytes change
+abbrev pub Unchanged : Call → List ℕ → List ℕ → Type 0
+Unchanged c log second = (c .log ≡ log) × (c .second ≡ second)
+
+-- a refused call changes no byte of either buffer
+abbrev pub RefusedChangesNothing : Type 0
+RefusedChangesNothing =
+    (log : List ℕ) (used : ℕ) (second : List ℕ)
+    → ((tag page : ℕ) → eqb (appendOf log used tag page second .answer .number) 0 ≡ false → Unchanged (appendOf log used tag page second) log second)
+    × ((count : ℕ) → eqb (restartOf log used count second .answer .number) 0 ≡ false → Unchanged (restartOf log used count second) log second)
+
+-- "the first buffer stays as it was", where an append compacts and at every restart
+abbrev pub FirstBufferStays : Type 0
+FirstBufferStays =
+    (log : List ℕ) (used : ℕ) (second : List ℕ)
+    → ((tag page : ℕ) → inPlace (appendOf log used tag page second) ≡ false → appendOf log used tag page second .log ≡ log)
+    × ((count : ℕ) → restartOf log used count second .log ≡ log)
+
+-- an append in the log's own place changes the five bytes behind the last whole record, and no other
+abbrev pub FiveBytesChange : Type 0
+FiveBytesChange =
+    (log : List ℕ) (used tag page : ℕ) (second : List ℕ) → inPlace (appendOf log used tag page second) ≡ true
+    → (appendOf log used tag page second .log ≡ take (wholeOf used) log ++ bytesOf tag page ++ drop (wholeOf used + 5) log)
+    × (appendOf log used tag page second .second ≡ second)
+
+-- ---- "A record cut at the end of the log is ignored and the next append begins in its place, so a cut at any byte of an append leaves the log before
+-- or after that record."
+-- k of the new record's bytes in the buffer
+abbrev pub cutAt : List ℕ → ℕ → ℕ → ℕ → ℕ → List ℕ
+cutAt log used tag page k = putOf log (wholeOf used) (take k (bytesOf tag page))
+
+-- reading then answers what it answered before, or what the append answers
+abbrev pub CutAtAnyByte : Type 0
+CutAtAnyByte =
+    (log : List ℕ) (used tag page : ℕ) (second : List ℕ) (k : ℕ) → inPlace (appendOf log used tag page second) ≡ true → k ≤ 5
+    → readLogOf (cutAt log used tag page k) (wholeOf used + k) ≡ cond (ltb k 5) (readLogOf log used) (appendOf log used tag page second .answer)
+
+-- and the next append, of whatever record, answers as if nothing had been cut, and where it is not refused leaves the same bytes
+abbrev pub NextTakesItsPlace : Type 0
+NextTakesItsPlace =
+    (log : List ℕ) (used tag page : ℕ) (second : List ℕ) (k : ℕ) → inPlace (appendOf log used tag page second) ≡ true → k < 5
+    → (tag' page' : ℕ) (second' : List ℕ)
+    → let next = appendOf (cutAt log used tag page k) (wholeOf used + k) tag' page' second' in
+    (next .answer ≡ appendOf log used tag' page' second' .answer) × (eqb (next .answer .number) 0 ≡ true → next .log ≡ appendOf log used tag' page' second' .log)
+
+-- ---- a second buffer with room for the open pages and two records more is never too short
+abbrev pub RoomIsEnough : Type 0
+RoomIsEnough =
+    (log : List ℕ) (used tag page : ℕ) (second : List ℕ) → 10 + 5 * (readLogOf log used .sent - readLogOf log used .finished) ≤ length second
+    → eqb (appendOf log used tag page second .answer .number) logSecondShort ≡ false

@@ -1,0 +1,53 @@
+-- Request 6's promise, over every history: "So, if the embosser's count is true, no finished page is sent again and none is skipped."
+-- Proved in proofs/HistoryLaws. A step that the rules do not allow does not happen, so no history is left out.
+use Prim.Native.Nat.{ℕ, zero, suc, _+_, _-_, _*_, _≤_}
+use mathlib.Core.Path.{_≡_}
+use mathlib.Core.Bool.{true, false, cond}
+use mathlib.Core.List.{List, [], _∷_, _++_}
+use lib.Dec.{leb}
+use lib.ListN.{length}
+use Rattle.refusals.specs.Refusals.{logSecondShort}
+use Rattle.joblog.specs.Calls.{readLogOf, restartOf}
+use Rattle.joblog_laws.specs.Run.{World, begun, Step, goes, finishes, restart, has, Rules, asRequested, run}
+
+-- 1, 2, .. n
+unfoldable pub pagesOf : ℕ → List ℕ
+pagesOf zero = []
+pagesOf (suc n) = pagesOf n ++ (suc n ∷ [])
+
+pub record Kept (w : World) : Type 0 where
+  -- the embosser has finished the pages 1, 2, 3, .., in order and each once
+  pub «in_order» : w .finished ≡ pagesOf (length (w .finished))
+  -- and will, with those in its tray: none is skipped and none is there twice
+  pub «none_skipped» : w .finished ++ w .tray ≡ pagesOf (length (w .finished ++ w .tray))
+  -- the page that goes out next is the one after all those
+  pub «next_out» : w .up ≡ true → w .out ≡ length (w .finished ++ w .tray)
+  -- and is no finished one
+  pub «none_again» : w .up ≡ true → has (w .finished) (w .out + 1) ≡ false
+  -- the log can be read, and has the count and the tray between its finished and its sent pages
+  pub readable : readLogOf (w .log) (w .used) .number ≡ 0
+  pub behind : readLogOf (w .log) (w .used) .finished ≤ length (w .finished)
+  pub ahead : length (w .finished ++ w .tray) ≤ readLogOf (w .log) (w .used) .sent
+  -- a restart with the true count is accepted, or refused by 12 where the second buffer has no room for one record and the open pages
+  pub accepted : (second : List ℕ)
+      → restartOf (w .log) (w .used) (length (w .finished)) second .answer .number
+      ≡ cond (leb (5 + 5 * (readLogOf (w .log) (w .used) .sent - length (w .finished))) (length second)) 0 logSecondShort
+
+abbrev pub KeptBy : Rules → Type 0
+KeptBy rules = (buffer : List ℕ) (steps : List Step) → Kept (run rules (begun buffer) steps)
+
+abbrev pub HistoriesAreKept : Type 0
+HistoriesAreKept = KeptBy asRequested
+
+-- ---- and none is skipped for good: after any history, a restart with room and then each open page out and finished leaves every page finished of
+-- which the log has a sent record
+unfoldable pub sendAll : ℕ → List Step
+sendAll zero = []
+sendAll (suc n) = goes ∷ finishes ∷ sendAll n
+
+abbrev pub OpenPagesCome : Type 0
+OpenPagesCome = (buffer : List ℕ) (steps : List Step) (second : List ℕ)
+    → let w = run asRequested (begun buffer) steps in
+    let sent = readLogOf (w .log) (w .used) .sent in
+    let count = length (w .finished) in
+    5 + 5 * (sent - count) ≤ length second → run asRequested w (restart second ∷ sendAll (sent - count)) .finished ≡ pagesOf sent
