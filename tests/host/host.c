@@ -31,6 +31,7 @@ int main(int count, char **arguments) {
   check_instants();
   check_lines();
   check_sentences();
+  check_map();
   check_environment();
   check_threads();
   check_stack();

@@ -27,6 +27,8 @@ void put_bits(order_bytes *order, uint8_t tag, uint64_t bits);
 void put_float(order_bytes *order, uint8_t tag, double value);
 void put_minutes(order_bytes *order, const int16_t minutes[6]);
 void put_interval(order_bytes *order, uint16_t minutes);
+/* Sign, degrees, minutes, seconds and hundredths. */
+void put_map(order_bytes *order, uint8_t tag, const uint8_t parts[5]);
 /* The number of rows in so many bytes. */
 void put_rows(order_bytes *order, uint16_t rows, uint16_t size);
 /* The six fields that an order must have, in order of their tags. */
@@ -105,6 +107,7 @@ void check_days(void);
 void check_instants(void);
 void check_lines(void);
 void check_sentences(void);
+void check_map(void);
 void check_environment(void);
 void check_threads(void);
 void check_stack(void);

@@ -9,7 +9,7 @@
 #define OWN_FRAME 512 /* more than the painting function's own part */
 #define PAINT 0xA5
 #define STACK_MOST 4096 /* the header's promise */
-#define CALLS 13
+#define CALLS 15
 
 static volatile uint8_t *caller;
 static uint8_t logs[2][10] = {{1, 0, 2, 0, 1, 1, 0, 2, 0, 2}};
@@ -33,6 +33,8 @@ __attribute__((noinline)) static void call(int which, const order_bytes *order, 
     case 9: katchidul_read_log(logs[0], sizeof *logs, row); break;
     case 10: katchidul_append(logs[0], sizeof *logs, 5 * (row % 3), 1 + row % 2, row, logs[1], sizeof *logs); break;
     case 11: katchidul_restart(logs[0], sizeof *logs, 5 * (row % 3), row % 4, logs[1], sizeof *logs); break;
+    case 12: katchidul_map_latitude((double)row); break;
+    case 13: katchidul_map_longitude((double)seconds); break;
     default: katchidul_read_sentence(line, ROW_LENGTH);
   }
 }
