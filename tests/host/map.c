@@ -1,54 +1,19 @@
 /* Coordinates as on the map: the writer held to whole numbers of 128 bits, orders in either form to one another, and 15. */
-#include <math.h>
 #include <stdio.h>
-#include <string.h>
 
+#include "../map_form/exact.h"
 #include "host.h"
 
-#define IN_DEGREE 360000
-
-typedef struct {
-  uint8_t tag;
-  uint32_t most;
-  katchidul_map (*write)(double degrees);
-} coordinate;
-
 static const coordinate latitude = {18, 90, katchidul_map_latitude}, longitude = {19, 180, katchidul_map_longitude};
-
-/* The nearest count of hundredths, a half going up: with x = digits / 2^places it is the whole part of (2 * digits * 360,000 + 2^places) /
-   2^(places + 1). A digit has its place at 2^-74 or above, or the count is 0. */
-static uint64_t nearest(double x) {
-  int exponent;
-  uint64_t digits = (uint64_t)ldexp(frexp(fabs(x), &exponent), 53);
-  int places = 53 - exponent;
-  if (places > 74) return 0;
-  return (uint64_t)(((unsigned __int128)digits * IN_DEGREE * 2 + ((unsigned __int128)1 << places)) >> (places + 1));
-}
-
-static katchidul_map form_of(int64_t count) {
-  uint32_t size = (uint32_t)(count < 0 ? -count : count);
-  return (katchidul_map){0, 0, count < 0, size / IN_DEGREE, size / 6000 % 60, size / 100 % 60, size % 100};
-}
-
-static bool same(katchidul_map got, katchidul_map wanted) { return memcmp(&got, &wanted, sizeof got) == 0; }
 
 static void written(const coordinate *which, double x) {
   char what[64];
   snprintf(what, sizeof what, "tag %u, the writer at %a", which->tag, x);
-  katchidul_map refused = {KATCHIDUL_OUT_OF_RANGE, which->tag, 0, 0, 0, 0, 0};
-  bool fits = fabs(x) <= which->most;
-  check(same(which->write(x), fits ? form_of(x < 0 ? -(int64_t)nearest(x) : (int64_t)nearest(x)) : refused), what);
+  check(written_right(which, x), what);
 }
 
 static void around(const coordinate *which, double x) {
   written(which, nextafter(x, -INFINITY)), written(which, x), written(which, nextafter(x, INFINITY));
-}
-
-static uint64_t state = 20260621;
-
-static uint64_t random_bits(void) {
-  state ^= state << 13, state ^= state >> 7, state ^= state << 17;
-  return state;
 }
 
 static double any_float(void) {
@@ -90,7 +55,7 @@ static void there_and_back(const coordinate *which, uint8_t sign, uint32_t size)
   double x = read_by(which, &read), wanted = (double)size / IN_DEGREE;
   form.sign = size > 0 && sign;
   check(read.number == 0 && x == (form.sign ? -wanted : wanted) && !(size == 0 && signbit(x)), "a coordinate as on the map is read");
-  check(same(which->write(x), form), "and written back");
+  check(same_form(which->write(x), form), "and written back");
 }
 
 static void refused_parts(const coordinate *which, const uint8_t parts[5]) {
