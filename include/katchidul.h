@@ -303,8 +303,10 @@ katchidul_turned katchidul_turn(katchidul_queue queue);
    it was and is the log until the call returns; then `moved` is 1, and the second buffer is the log. Two buffers of
    KATCHIDUL_LOG_ROOM(n) bytes are never too short while no more than n pages are open.
 
-   What the host makes lasting on its disk: the log's bytes first, then, as one, which buffer is the log and `used` (a rename, or a
-   write that lasts whole or not at all), and the page last. `used` cannot be read off the bytes: old records may stand behind the log.
+   What the host makes lasting on its disk: the log's bytes first, then, as one, which buffer is the log and `used` (a new file that is
+   flushed, then renamed, then its folder flushed; or a write that lasts whole or not at all), and the page last. Below, a write or a flush
+   that fails does not return: a host that went on would send a page that its log does not have. `used` cannot be read off the bytes: old
+   records may stand behind the log. A call goes once over the log's records, so a buffer much larger than KATCHIDUL_LOG_ROOM costs time.
 
        katchidul_log a = katchidul_append(buffer[at], SIZE, used, KATCHIDUL_RECORD_SENT, page, buffer[!at], SIZE);
        if (a.number != 0) return a.number;                         // no byte has changed, and the page does not go out
@@ -312,11 +314,13 @@ katchidul_turned katchidul_turn(katchidul_queue queue);
        write_place(at, used), flush();                             // then which buffer is the log, and how many of its bytes,
        send(page);                                                 // and only then the page
 
-   After any failure of host, link or embosser the host asks how many pages the embosser has finished, and restarts with that count
-   before it appends or sends: the embosser drops what it has not finished, and the pages finished + 1 to sent of the answer go out
-   again, in rising order and without a record. A done is appended only of a page that the embosser has finished. Then, if every count
-   is true, and pages are lost from the end of what was sent alone, no finished page is sent again and none is skipped: the embosser
-   finishes 1, 2, 3, .., each once. */
+   After any failure of host, link or embosser the host asks how many pages of this job the embosser has finished, from 0, and restarts
+   with that count before it appends or sends: the embosser drops what it has not finished, also what is still on its way (a page that
+   waits in a spooler and arrives after the count was told would be finished twice), and the pages finished + 1 to sent of the answer go
+   out again, in rising order and without a record. Where the embosser serves several jobs, each of them restarts. A done is appended only
+   of a page that the embosser has finished. Then, if every count is true, and pages are lost from the end of what was sent alone, no
+   finished page is sent again and none is skipped: the embosser finishes 1, 2, 3, .., each once. A crash within a call or within what
+   follows it is one of these failures: until the place is lasting, the log is what it was. */
 typedef struct katchidul_log {
   uint32_t number, place;
   uint32_t moved;          /* 1 where the log is now in the second buffer: after every restart, and after an append that compacted */
@@ -326,7 +330,8 @@ typedef struct katchidul_log {
 
 /* Reads the log that is the first `used` bytes of a buffer of `size` bytes; it changes none, and `moved` is 0. A `used` over `size` is
    9, place 0. A record out of turn is 13, place its page: a sent that does not name the page after the last sent, a done that does not
-   name the lowest page sent and not done, a finished one that is not the first record, an unknown tag, another length. */
+   name the lowest page sent and not done, a finished one that is not the first record, an unknown tag, another length. Refusals 9 and
+   13. */
 katchidul_log katchidul_read_log(const uint8_t *log, size_t size, size_t used);
 
 /* Appends a record, KATCHIDUL_RECORD_SENT or KATCHIDUL_RECORD_DONE. In a log that is not full it changes the five bytes behind the last
@@ -337,7 +342,8 @@ katchidul_log katchidul_append(uint8_t *log, size_t size, size_t used, uint32_t 
 
 /* Restarts with the number of pages that the embosser has finished: compacts the log, with that count as finished, into the second
    buffer. A count below the log's finished pages or above its sent ones is 14, and a second buffer that is too short 12, each with the
-   count as place. The first buffer stays as it is; a refused call changes no byte of the second either. Refusals 9 and 12 to 14. */
+   count as place. The first buffer stays as it is; a refused call changes no byte of the second either. The buffers must not overlap.
+   Refusals 9 and 12 to 14. */
 katchidul_log katchidul_restart(const uint8_t *log, size_t size, size_t used, uint32_t count, uint8_t *second, size_t second_size);
 
 /* Writes a refusal's sentence for the desk at the front of a buffer of `size` bytes: `Refusal 4: the order lacks a field: method, tag

@@ -349,6 +349,7 @@ static void check_jobs(uint32_t steps) {
     }
   }
   check(right, "jobs with a crash after every byte");
+  check(crashes > 0 && moves > 0 && restarts > 0, "crashes, appends that compact and restarts are all met");
   printf("host: job logs in buffers of 0 to %d bytes: %lu crashes, %lu appends that compacted, %lu restarts\n", SIZE_MOST, crashes, moves, restarts);
 }
 

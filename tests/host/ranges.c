@@ -75,7 +75,7 @@ static void check_floats(void) {
 }
 
 static void check_small(void) {
-  static const struct { uint8_t tag, low, high; } ends[] = {{6, 0, 12}, {7, 1, 2}, {8, 0, 2}, {9, 0, 2}, {10, 0, 2}};
+  static const struct { uint8_t tag, low, high; } ends[] = {{6, 0, 12}, {7, 1, 2}, {8, 0, 2}, {9, 0, 2}, {10, 0, 2}, {15, 0, 1}, {17, 0, 1}};
   order_bytes full = full_order();
   char what[64];
   for (size_t i = 0; i < sizeof ends / sizeof *ends; i++) {

@@ -15,7 +15,7 @@ static volatile uint8_t *caller;
 static uint8_t logs[2][10] = {{1, 0, 2, 0, 1, 1, 0, 2, 0, 2}};
 static const katchidul_queue queues[2] = {{0}, {15, {20, 21, 22, 23, 24, 25, 26, 27, 28, 29, 30, 31, 32, 33, 34}, {2}}};
 
-/* One call by its place in the header, counted from this function's frame on, which has no more in it than C asks for. */
+/* One call by its place in the header, counted from this function's frame on, which the sanitizers would make larger. */
 __attribute__((noinline, no_sanitize_address)) static void call(int which, const order_bytes *order, uint32_t row, int64_t seconds, uint8_t *line) {
   const uint8_t *bytes = order->bytes;
   size_t length = order->length;

@@ -26,7 +26,7 @@ unfolding dec round size
 three-quarters = (refl, refl)
 
 moderate : (x : Float) → Moderate x → Within x 3 4
-moderate x h = within-limits x (dec 75 2) 3 4 (lit< tt) three-quarters (h .low) (h .high)
+moderate x h = within-limits x (dec 75 2) 3 4 (lit< tt) three-quarters (h .0) (h .1)
 
 -- what holds of each finite one of at most 3 / 4 in size, holds of each
 pub for-moderate : (P : Float → Type 0) → ((s : Bool) (m : ℕ) (e : ℤ) → Within (fin s m e) 3 4 → P (fin s m e)) → (x : Float) → Moderate x → P x

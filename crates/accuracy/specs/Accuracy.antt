@@ -4,15 +4,15 @@
 -- powers of two, with every denominator multiplied out. The same is wanted of the cosine with its first ten terms. The two bounds share one account of
 -- the rounding."
 -- Proved in proofs/AccuracyLaws; the account of the rounding is proofs/Expressions.
-use mathlib.Core.Path.{_≡_}
 use mathlib.Core.Bool.{true, false}
 use mathlib.Core.List.{List, [], _∷_}
 use Prim.Native.Nat.{ℕ, zero, suc, _-_, _*_, _/_, _^_, _≤_}
 use lib.Dec.{T}
-use lib.Ieee.{Float, nan, inf, fin, up, down, neg, le}
+use lib.Ieee.{Float, nan, inf, fin, up, down, neg}
 use lib.Ieee.Scale.{finite}
 use lib.IntN.{ℤ, pos, negℤ, natAbs, pow, _-ℤ_, _*ℤ_}
 use Rattle.float64.specs.Ops.{dec}
+use Rattle.float64.specs.Ranges.{Inside}
 use Rattle.fdlibm_trig.specs.Trig.{sinOf, cosOf}
 
 -- ---- argument and answer
@@ -29,9 +29,8 @@ bottom (inf s) = 1
 bottom (fin s m e) = down e
 
 -- from -0.75 to 0.75: both ends, both zeros and every subnormal are among them, and no NaN is
-pub record Moderate (x : Float) : Type 0 where
-  pub low : le (neg (dec 75 2)) x ≡ true
-  pub high : le x (dec 75 2) ≡ true
+abbrev pub Moderate : Float → Type 0
+Moderate x = Inside (neg (dec 75 2)) (dec 75 2) x
 
 -- ---- the series, at the fraction a / d
 infixl 90 _!

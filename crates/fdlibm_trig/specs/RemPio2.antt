@@ -65,8 +65,8 @@ moreOf n p =
     record { n = n; y0 = y0; y1 = p .r -ᶠ y0 +ᶠ p .w }
 
 -- one iteration more, with the next 33 bits of π/2, a, and its tail b
-abbrev pub turnOf : Float → Float → Float → Float → Parts
-turnOf t k a b =
+abbrev pub iterationOf : Float → Float → Float → Float → Parts
+iterationOf t k a b =
     let w = k *ᶠ a in
     let r = t -ᶠ w in
     record { r = r; w = k *ᶠ b -ᶠ (t -ᶠ r -ᶠ w) }
@@ -76,13 +76,13 @@ turnOf t k a b =
 unfoldable pub refineOf : Float → ℕ → Float → Parts
 refineOf k j t =
     let first : Parts = record { r = t -ᶠ k *ᶠ pio2-1; w = k *ᶠ pio2-1t } in
-    let second = turnOf (first .r) k pio2-2 pio2-2t in
-    let third = turnOf (second .r) k pio2-3 pio2-3t in
+    let second = iterationOf (first .r) k pio2-2 pio2-2t in
+    let third = iterationOf (second .r) k pio2-3 pio2-3t in
     cond (ltb (exponentOf (first .r -ᶠ first .w) + 16) j)
     (cond (ltb (exponentOf (second .r -ᶠ second .w) + 49) j) third second)
     first
 
--- the further turns are looked at from n = 32 on, and below that only where t's high word is that of n * π/2
+-- the further iterations are looked at from n = 32 on, and below that only where t's high word is that of n * π/2
 unfoldable pub differenceOf : Float → ℕ → ℕ → Parts
 differenceOf t ix n =
     let k = ofInt binary64 (pos n) in
@@ -97,8 +97,8 @@ mediumOf t ix =
     lessOf (n % 4) (differenceOf t ix n)
 
 -- the same for -t: -n quarter turns
-abbrev pub turnedOf : Reduced → Reduced
-turnedOf p = record { n = p .n % 4 * 3 % 4; y0 = neg (p .y0); y1 = neg (p .y1) }
+abbrev pub oppositeOf : Reduced → Reduced
+oppositeOf p = record { n = p .n % 4 * 3 % 4; y0 = neg (p .y0); y1 = neg (p .y1) }
 
 -- |x| < 3π/4, x positive: x - π/2, with more bits of π where x is near it
 unfoldable pub nearOf : Float → ℕ → Parts
@@ -120,4 +120,4 @@ remPio2Of x =
     cond (leb ix 0x3fe9_21fb) (record { n = 0; y0 = x; y1 = zero })
     (cond (ltb ix 0x4002_d97c)
     (cond negative (moreOf 3 (nearNegativeOf x ix)) (lessOf 1 (nearOf x ix)))
-    (cond negative (turnedOf (mediumOf (absOf x) ix)) (mediumOf (absOf x) ix)))
+    (cond negative (oppositeOf (mediumOf (absOf x) ix)) (mediumOf (absOf x) ix)))

@@ -4,7 +4,7 @@
 // fdlibm's medium case goes on to 2^19 π/2. Its large case is not here: sin, cos and tan ask for no x beyond 70.
 ghost use mathlib.Core.Path.{_≡_};
 ghost use Prim.Native.Nat.{_<_};
-ghost use Rattle.fdlibm_trig.specs.RemPio2.{npio2Of, exponentOf, lessOf, moreOf, turnOf, refineOf, differenceOf, mediumOf, turnedOf, nearOf, nearNegativeOf, remPio2Of};
+ghost use Rattle.fdlibm_trig.specs.RemPio2.{npio2Of, exponentOf, lessOf, moreOf, iterationOf, refineOf, differenceOf, mediumOf, oppositeOf, nearOf, nearNegativeOf, remPio2Of};
 use float64::casts::to_u32;
 use float64::sizes::abs;
 use float64::words::high_word;
@@ -121,7 +121,7 @@ fn more(n: u32, p: Parts) -> Reduced
 
 // One turn more, with the next part of π/2, a, and its tail b.
 fn turn(t: f64, k: f64, a: f64, b: f64) -> Parts
-    ensures { λ r. ⌜ r ≡ turnOf t k a b ⌝ }
+    ensures { λ r. ⌜ r ≡ iterationOf t k a b ⌝ }
 {
     let w = k * a;
     let r = t - w;
@@ -176,7 +176,7 @@ fn medium(t: f64, ix: u32) -> Reduced
 }
 
 fn turned(p: Reduced) -> Reduced
-    ensures { λ r. ⌜ r ≡ turnedOf p ⌝ }
+    ensures { λ r. ⌜ r ≡ oppositeOf p ⌝ }
 {
     Reduced {
         n: p.n % 4 * 3 % 4,

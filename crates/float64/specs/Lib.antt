@@ -2,3 +2,4 @@ pub mod Ops
 pub mod Sizes
 pub mod Whole
 pub mod Words
+pub mod Ranges

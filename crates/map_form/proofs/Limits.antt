@@ -11,6 +11,7 @@ use lib.Ieee.Back.{round-whole}
 use lib.Ieee.Fits.{down-pos}
 use lib.Ieee.Order.{transfer}
 use Rattle.float64.specs.Ops.{dec}
+use Rattle.float64.specs.Ranges.{Inside}
 use Rattle.map_form.specs.Hundredths.{atMost}
 
 -- -a ≤ b
@@ -29,7 +30,7 @@ upright a b h = go (ltb a b) refl
     go true l = (refl, refl)
     go false l = let k = ltb-false a b l in (rw (eq-eqb a b (omega arith)), rw (eq-eqb b a (omega arith)))
 
-by-value : (x h : Float) (n : ℕ) → HasValue h false n 1 → atMost n x ≡ true → (le (neg h) x ≡ true) × (le x h ≡ true)
+by-value : (x h : Float) (n : ℕ) → HasValue h false n 1 → atMost n x ≡ true → Inside (neg h) h x
 unfolding le neg atMost
 by-value nan h n v r = absurd (false≢true r)
 by-value (inf s) h n v r = absurd (false≢true r)
@@ -46,6 +47,6 @@ by-value (fin true m e) (fin false k d) n v r = (
 )
 
 -- from -n to n
-pub in-limits : (x : Float) (n : ℕ) → n ≤ 180 → atMost n x ≡ true → (le (neg (dec n 0)) x ≡ true) × (le x (dec n 0) ≡ true)
+pub in-limits : (x : Float) (n : ℕ) → n ≤ 180 → atMost n x ≡ true → Inside (neg (dec n 0)) (dec n 0) x
 unfolding dec
 in-limits x n small r = by-value x (round binary64 false n 1) n (round-whole binary64 false n (omega arith)) r

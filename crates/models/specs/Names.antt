@@ -15,15 +15,15 @@ use Rattle.models.specs.declared.prayer.Name.the-variants as name
 unfoldable pub isFridayOf : ℤ → Bool
 isFridayOf seconds = eqb (weekdayOf (floorQuot seconds 86400)) 5
 
-unfoldable pub nameOf : Prayer → ℤ → Name
-nameOf prayer.Fajr seconds = name.Fajr
-nameOf prayer.Sunrise seconds = name.Sunrise
-nameOf prayer.Dhuhr seconds = cond (isFridayOf seconds) name.Jumua name.Dhuhr
-nameOf prayer.Asr seconds = name.Asr
-nameOf prayer.Maghrib seconds = name.Maghrib
-nameOf prayer.Isha seconds = name.Isha
-nameOf prayer.Qiyam seconds = name.Qiyam
-nameOf prayer.FajrTomorrow seconds = name.Fajr
+unfoldable pub prayerNameOf : Prayer → ℤ → Name
+prayerNameOf prayer.Fajr seconds = name.Fajr
+prayerNameOf prayer.Sunrise seconds = name.Sunrise
+prayerNameOf prayer.Dhuhr seconds = cond (isFridayOf seconds) name.Jumua name.Dhuhr
+prayerNameOf prayer.Asr seconds = name.Asr
+prayerNameOf prayer.Maghrib seconds = name.Maghrib
+prayerNameOf prayer.Isha seconds = name.Isha
+prayerNameOf prayer.Qiyam seconds = name.Qiyam
+prayerNameOf prayer.FajrTomorrow seconds = name.Fajr
 
 -- seven letters, with blanks behind a shorter name
 unfoldable pub lettersOf : Name → List ℕ

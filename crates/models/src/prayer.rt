@@ -1,7 +1,7 @@
 // prayer.rs: the prayers in their order through the day, sunrise and Qiyam among them.
 ghost use mathlib.Core.Path.{_≡_};
 ghost use Rattle.models.specs.Numbers.{prayerNumberOf, prayerOf};
-ghost use Rattle.models.specs.Names.{isFridayOf, nameOf, lettersOf};
+ghost use Rattle.models.specs.Names.{isFridayOf, prayerNameOf, lettersOf};
 use calendar::dates::weekday;
 use calendar::instants::day_of;
 
@@ -56,7 +56,7 @@ fn is_friday(seconds: i64) -> bool
 impl Prayer {
     // Its name at an instant: where the crate reads the clock, the instant is given.
     pub fn name(self, seconds: i64) -> Name
-        ensures { λ r. ⌜ r ≡ nameOf self seconds ⌝ }
+        ensures { λ r. ⌜ r ≡ prayerNameOf self seconds ⌝ }
     {
         match self {
             Prayer::Fajr => Name::Fajr,

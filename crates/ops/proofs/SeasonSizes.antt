@@ -10,6 +10,7 @@ use lib.IntN.{pos}
 use lib.Ieee.{Float, binary64, le, ofInt}
 use lib.Ieee.Exact.{HasValue}
 use lib.Ieee.Back.{round-whole}
+use Rattle.float64.specs.Ranges.{insideOf}
 use Rattle.float64.specs.Ops.{_-ᶠ_, _*ᶠ_, _/ᶠ_, dec}
 use Rattle.float64.specs.Sizes.{absOf}
 use Rattle.float64.proofs.Values.{big}
@@ -22,7 +23,7 @@ use Rattle.models.specs.declared.shafaq.Shafaq.the-variants.{General, Ahmer, Ab
 use Rattle.ops.specs.declared.season.AdjustmentDaytime.{AdjustmentDaytime}
 use Rattle.ops.specs.declared.season.AdjustmentDaytime.the-variants.{Morning, Evening}
 use Rattle.ops.specs.declared.season.TwilightAdjustmentValues.{TwilightAdjustmentValues}
-use Rattle.ops.specs.Season.{southernOffsetOf, daysSinceSolsticeOf, moreMinutes, fewerMinutes, eveningValuesOf, twilightAdjustmentValuesOf, onTheWayOf, withinOf, twilightAdjustmentsOf}
+use Rattle.ops.specs.Season.{southernOffsetOf, daysSinceSolsticeOf, moreMinutes, fewerMinutes, eveningValuesOf, twilightAdjustmentValuesOf, onTheWayOf, twilightAdjustmentsOf}
 
 pub whole-value : (n : ℕ) → n ≤ big → HasValue (dec n 0) false n 1
 unfolding dec
@@ -64,7 +65,7 @@ module _ (x : Float) (h : Within x 90 1) where
 
 -- ---- the days
 -- of whole numbers, the test says what it seems to
-test-within : (low high n : ℕ) → low ≤ big → high ≤ big → n ≤ big → withinOf (dec low 0) (dec high 0) (ofInt binary64 (pos n)) ≡ true → (low ≤ n) × (n ≤ high)
+test-within : (low high n : ℕ) → low ≤ big → high ≤ big → n ≤ big → insideOf (dec low 0) (dec high 0) (ofInt binary64 (pos n)) ≡ true → (low ≤ n) × (n ≤ high)
 unfolding dec ofInt
 test-within low high n i j k e =
     let t = and-eq-true-iff (le (dec low 0) (ofInt binary64 (pos n))) (le (ofInt binary64 (pos n)) (dec high 0)) .0 e in
@@ -117,7 +118,7 @@ module _ (v : TwilightAdjustmentValues) (w : Bounded v) (n : ℕ) (h : n ≤ 559
   lapsed-within start l p i j k = apart-within days (dec start 0) n start l days-value (whole-value start (omega arith)) i j (omega arith)
 
   -- the first part of the year, from winter's solstice
-  first-part : withinOf (dec 0 0) (dec 90 0) days ≡ true → Within (onTheWayOf (v .a) (v .b) (dec 91 0) days) 1301 1
+  first-part : insideOf (dec 0 0) (dec 90 0) days ≡ true → Within (onTheWayOf (v .a) (v .b) (dec 91 0) days) 1301 1
   unfolding days
   first-part e =
       let t = test-within 0 90 n (lit≤ tt) (lit≤ tt) (omega arith) e in
@@ -125,7 +126,7 @@ module _ (v : TwilightAdjustmentValues) (w : Bounded v) (n : ℕ) (h : n ≤ 559
 
   -- the four of 46 days
   part : (from to : Float) (f t q start : ℕ) → start ≤ 275 → q ≤ 12 → t ≤ 255 → t + f ≤ q * 46 → f + q * 45 ≤ 1301 → Within from f 1 → Within to t 1
-      → withinOf (dec start 0) (dec (start + 45) 0) days ≡ true → Within (onTheWayOf from to (dec 46 0) (days -ᶠ dec start 0)) 1301 1
+      → insideOf (dec start 0) (dec (start + 45) 0) days ≡ true → Within (onTheWayOf from to (dec 46 0) (days -ᶠ dec start 0)) 1301 1
   unfolding days
   part from to f t q start p i j k g hf ht e =
       let u = test-within start (start + 45) n (omega arith) (omega arith) (omega arith) e in
@@ -140,8 +141,8 @@ module _ (v : TwilightAdjustmentValues) (w : Bounded v) (n : ℕ) (h : n ≤ 559
   pub minutes-within : Within (twilightAdjustmentsOf v (ofInt binary64 (pos n))) 1301 1
   unfolding twilightAdjustmentsOf days
   minutes-within =
-      choice (withinOf (dec 0 0) (dec 90 0) days) _ _ 1301 first-part
-      (choice (withinOf (dec 91 0) (dec 136 0) days) _ _ 1301 (part (v .b) (v .c) 165 255 10 91 (lit≤ tt) (lit≤ tt) (lit≤ tt) (lit≤ tt) (lit≤ tt) (w .second) (w .third))
-      (choice (withinOf (dec 137 0) (dec 182 0) days) _ _ 1301 (part (v .c) (v .d) 255 255 12 137 (lit≤ tt) (lit≤ tt) (lit≤ tt) (lit≤ tt) (lit≤ tt) (w .third) (w .fourth))
-      (choice (withinOf (dec 183 0) (dec 228 0) days) _ _ 1301 (part (v .d) (v .c) 255 255 12 183 (lit≤ tt) (lit≤ tt) (lit≤ tt) (lit≤ tt) (lit≤ tt) (w .fourth) (w .third))
-      (choice (withinOf (dec 229 0) (dec 274 0) days) _ _ 1301 (part (v .c) (v .b) 255 165 10 229 (lit≤ tt) (lit≤ tt) (lit≤ tt) (lit≤ tt) (lit≤ tt) (w .third) (w .second)) last-part))))
+      choice (insideOf (dec 0 0) (dec 90 0) days) _ _ 1301 first-part
+      (choice (insideOf (dec 91 0) (dec 136 0) days) _ _ 1301 (part (v .b) (v .c) 165 255 10 91 (lit≤ tt) (lit≤ tt) (lit≤ tt) (lit≤ tt) (lit≤ tt) (w .second) (w .third))
+      (choice (insideOf (dec 137 0) (dec 182 0) days) _ _ 1301 (part (v .c) (v .d) 255 255 12 137 (lit≤ tt) (lit≤ tt) (lit≤ tt) (lit≤ tt) (lit≤ tt) (w .third) (w .fourth))
+      (choice (insideOf (dec 183 0) (dec 228 0) days) _ _ 1301 (part (v .d) (v .c) 255 255 12 183 (lit≤ tt) (lit≤ tt) (lit≤ tt) (lit≤ tt) (lit≤ tt) (w .fourth) (w .third))
+      (choice (insideOf (dec 229 0) (dec 274 0) days) _ _ 1301 (part (v .c) (v .b) 255 165 10 229 (lit≤ tt) (lit≤ tt) (lit≤ tt) (lit≤ tt) (lit≤ tt) (w .third) (w .second)) last-part))))

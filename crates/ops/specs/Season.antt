@@ -1,10 +1,11 @@
 -- ops.rs: the season, by which the MoonsightingCommittee method bounds Fajr and Isha: minutes before sunrise and after sunset.
 use Prim.Native.Nat.{ℕ, _+_, _-_, _%_, _^_}
-use mathlib.Core.Bool.{Bool, _&&_, cond}
+use mathlib.Core.Bool.{cond}
 use lib.Dec.{leb}
 use lib.IntN.{ℤ, pos, _+ℤ_}
 use lib.Ieee.{Float, binary64, neg, le, ofInt, toSigned}
 use Rattle.float64.specs.Ops.{_+ᶠ_, _-ᶠ_, _*ᶠ_, _/ᶠ_, dec}
+use Rattle.float64.specs.Ranges.{insideOf}
 use Rattle.float64.specs.Sizes.{absOf}
 use Rattle.float64.specs.Whole.{roundOf}
 use Rattle.calendar.specs.Gregorian.{leapOf}
@@ -73,18 +74,15 @@ twilightAdjustmentValuesOf Evening x shafaq = eveningValuesOf x shafaq
 abbrev pub onTheWayOf : Float → Float → Float → Float → Float
 onTheWayOf from to days lapsed = from +ᶠ (to -ᶠ from) /ᶠ days *ᶠ lapsed
 
-abbrev pub withinOf : Float → Float → Float → Bool
-withinOf low high x = le low x && le x high
-
 -- the minutes on a day, by the six parts of the year
 unfoldable pub twilightAdjustmentsOf : TwilightAdjustmentValues → Float → Float
 unfolding dec
 twilightAdjustmentsOf v days =
-    cond (withinOf (dec 0 0) (dec 90 0) days) (onTheWayOf (v .a) (v .b) (dec 91 0) days)
-    (cond (withinOf (dec 91 0) (dec 136 0) days) (onTheWayOf (v .b) (v .c) (dec 46 0) (days -ᶠ dec 91 0))
-    (cond (withinOf (dec 137 0) (dec 182 0) days) (onTheWayOf (v .c) (v .d) (dec 46 0) (days -ᶠ dec 137 0))
-    (cond (withinOf (dec 183 0) (dec 228 0) days) (onTheWayOf (v .d) (v .c) (dec 46 0) (days -ᶠ dec 183 0))
-    (cond (withinOf (dec 229 0) (dec 274 0) days) (onTheWayOf (v .c) (v .b) (dec 46 0) (days -ᶠ dec 229 0))
+    cond (insideOf (dec 0 0) (dec 90 0) days) (onTheWayOf (v .a) (v .b) (dec 91 0) days)
+    (cond (insideOf (dec 91 0) (dec 136 0) days) (onTheWayOf (v .b) (v .c) (dec 46 0) (days -ᶠ dec 91 0))
+    (cond (insideOf (dec 137 0) (dec 182 0) days) (onTheWayOf (v .c) (v .d) (dec 46 0) (days -ᶠ dec 137 0))
+    (cond (insideOf (dec 183 0) (dec 228 0) days) (onTheWayOf (v .d) (v .c) (dec 46 0) (days -ᶠ dec 183 0))
+    (cond (insideOf (dec 229 0) (dec 274 0) days) (onTheWayOf (v .c) (v .b) (dec 46 0) (days -ᶠ dec 229 0))
     (onTheWayOf (v .b) (v .a) (dec 91 0) (days -ᶠ dec 275 0))))))
 
 -- the minutes on a day of a year, of which the Morning's are the same for every shafaq

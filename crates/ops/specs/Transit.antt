@@ -8,7 +8,7 @@ use Rattle.fdlibm_arc.specs.Asin.{asinOf}
 use Rattle.fdlibm_arc.specs.Acos.{acosOf}
 use Rattle.unit.specs.declared.Angle.{Angle}
 use Rattle.unit.specs.declared.Coordinates.{Coordinates}
-use Rattle.unit.specs.Unit.{angleOf, fromRadiansOf, radiansOf, unwoundOf, quadrantShiftedOf, plusOf, minusOf, timesOf, overOf, latitudeAngleOf, longitudeAngleOf, normalizedToScaleOf}
+use Rattle.unit.specs.Unit.{angleOf, fromRadiansOf, radiansOf, unwoundOf, quadrantShiftedOf, plusOf, minusOf, productOf, overOf, latitudeAngleOf, longitudeAngleOf, normalizedToScaleOf}
 
 -- page 24: between three equidistant values
 unfoldable pub interpolateOf : Float → Float → Float → Float → Float
@@ -38,7 +38,7 @@ altitudeOfCelestialBodyOf latitude declination hour =
 -- the longitude counted to the west
 unfoldable pub westOf : Angle → Angle
 unfolding dec
-westOf longitude = timesOf longitude (angleOf (neg (dec 1 0)))
+westOf longitude = productOf longitude (angleOf (neg (dec 1 0)))
 
 -- page 102: the fraction of the day at which the sun is near the meridian
 unfoldable pub approximateTransitOf : Angle → Angle → Angle → Float

@@ -1,6 +1,7 @@
 // ops.rs: the season, by which the MoonsightingCommittee method bounds Fajr and Isha.
 ghost use mathlib.Core.Path.{_≡_};
-ghost use Rattle.ops.specs.Season.{southernOffsetOf, daysSinceSolsticeOf, southernCountOf, seasonDaysOf, sourceSeason, eveningValuesOf, twilightAdjustmentValuesOf, onTheWayOf, withinOf, twilightAdjustmentsOf, seasonMinutesOf, morningSecondsOf, eveningSecondsOf, seasonAdjustedMorningTwilightOf, seasonAdjustedEveningTwilightOf};
+ghost use Rattle.float64.specs.Ranges.{insideOf};
+ghost use Rattle.ops.specs.Season.{southernOffsetOf, daysSinceSolsticeOf, southernCountOf, seasonDaysOf, sourceSeason, eveningValuesOf, twilightAdjustmentValuesOf, onTheWayOf, twilightAdjustmentsOf, seasonMinutesOf, morningSecondsOf, eveningSecondsOf, seasonAdjustedMorningTwilightOf, seasonAdjustedEveningTwilightOf};
 use calendar::years::days_in_year;
 use calendar::years::is_leap_year;
 use float64::casts::to_i32;
@@ -137,7 +138,7 @@ fn on_the_way(from: f64, to: f64, days: f64, lapsed: f64) -> f64
 
 // Rust's (low..=high).contains(&x).
 fn within(low: f64, high: f64, x: f64) -> bool
-    ensures { λ r. ⌜ r ≡ withinOf low high x ⌝ }
+    ensures { λ r. ⌜ r ≡ insideOf low high x ⌝ }
 {
     if low <= x { x <= high } else { false }
 }

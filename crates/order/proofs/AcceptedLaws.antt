@@ -13,6 +13,7 @@ use borrow.Author.Tests.{leb-true}
 use Rattle.integers.specs.Parts.{P, N, Near}
 use Rattle.integers.proofs.OrderLaws.{le-yes}
 use Rattle.float64.specs.Ops.{dec}
+use Rattle.float64.specs.Ranges.{Inside}
 use Rattle.calendar.specs.declared.dates.Date.{Date}
 use Rattle.calendar.specs.Gregorian.{existsOf}
 use Rattle.calendar.specs.Answers.{rowDateOf}
@@ -36,7 +37,7 @@ use Rattle.order.specs.declared.reading.Reading.the-variants.{Read}
 use Rattle.order.specs.Given.{dateIn, rowsIn, degreesIn, formIn, coordinateIn, minutesIn, degreesOr, minutesOr, intervalOr, parametersIn}
 use Rattle.order.specs.Ranges.{mostRows, mostIn, dateFits, rowsFit, degreesFit, minuteFits, minutesFit, intervalFits, lookUp, fitsOf}
 use Rattle.order.specs.Reading.{required, isGivenOf, missingOf, outOfRangeOf, orderOf, readingOf}
-use Rattle.order.specs.Accepted.{UpTo, Inside, DateInOrder, Accepted}
+use Rattle.order.specs.Accepted.{UpTo, DateInOrder, Accepted}
 use Rattle.order.proofs.RowDates.{row-in-order}
 use Rattle.order.proofs.ReadingLaws.{read-passed, has-required, one-form, fits-given}
 

@@ -3,11 +3,12 @@ use Prim.Native.Nat.{ℕ, _-_}
 use mathlib.Core.Bool.{Bool, true, cond, _&&_}
 use mathlib.Core.List.{List, [], _∷_}
 use lib.Dec.{leb, eqb}
-use lib.Ieee.{Float, neg, le}
+use lib.Ieee.{Float, neg}
 use lib.IntN.{ℤ, pos, negsuc}
 use lib.ListN.{length}
 use lib.Signed.{leZ}
 use Rattle.float64.specs.Ops.{dec}
+use Rattle.float64.specs.Ranges.{insideOf}
 use Rattle.calendar.specs.declared.dates.Date.{Date}
 use Rattle.calendar.specs.Gregorian.{existsOf}
 use Rattle.calendar.specs.Answers.{rowDateOf}
@@ -42,7 +43,7 @@ rowsFit date v = between 1 (mostIn v) (rowsIn v) && leb (rowDateOf date (rowsIn 
 
 -- no comparison with a NaN holds
 abbrev pub degreesFit : Float → Float → List ℕ → Bool
-degreesFit low high v = le low (degreesIn v) && le (degreesIn v) high
+degreesFit low high v = insideOf low high (degreesIn v)
 
 -- "each -720 to 720"
 unfoldable pub minuteFits : ℤ → Bool

@@ -14,4 +14,4 @@ accepted-carried order h =
     still-carried (presetOf (p .method)) p (presets-carried (p .method)) (h .preset) (h .«fajr_angle») (h .«isha_angle») interval (h .own)
 
 pub accepted-latitude : (order : Order) → Accepted order → LatitudeInOrder (order .coordinates .latitude)
-accepted-latitude order h = record { south = h .latitude .0; north = h .latitude .1 }
+accepted-latitude order h = h .latitude

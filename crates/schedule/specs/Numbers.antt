@@ -4,7 +4,6 @@ use mathlib.Core.Bool.{Bool, true, false, cond}
 use lib.IntN.{pos}
 use lib.Signed.{ltZ}
 use lib.Ieee.{Float, nan, binary64, neg, ofInt}
-use Rattle.float64.specs.Ops.{dec}
 use Rattle.calendar.specs.Answers.{yesterdayOf, tomorrowOf}
 use Rattle.calendar.specs.declared.dates.Date.{Date}
 use Rattle.models.specs.declared.parameters.Parameters.{Parameters}
@@ -22,11 +21,9 @@ noNumber = nan
 
 -- by the numbers that a day's sun gives to angles, before and after the transit
 unfoldable pub fajrNumberOf : Parameters → Float → (Angle → Bool → Float) → Float
-unfolding dec
 fajrNumberOf p latitude number = cond (bySeventhOf (p .method) latitude) noNumber (number (angleOf (neg (p .«fajr_angle»))) false)
 
 unfoldable pub ishaNumberOf : Parameters → Float → (Angle → Bool → Float) → Float
-unfolding dec
 ishaNumberOf p latitude number =
     cond (ltZ (pos 0) (p .«isha_interval»)) noNumber
     (cond (bySeventhOf (p .method) latitude) noNumber (number (angleOf (neg (p .«isha_angle»))) true))

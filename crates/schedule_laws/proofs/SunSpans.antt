@@ -129,7 +129,7 @@ module _ (p : Parameters) (season : Season) (carried : Carried p) (there : Latit
   unfolding beforeSunriseOf
   before =
       let l = long in
-      let m = morning-small season (ordinalOf date) (date .year) (there .south) (there .north) (ordinal-short date) in
+      let m = morning-small season (ordinalOf date) (date .year) (there .0) (there .1) (ordinal-short date) in
       let b = before-half (nightPortionsOf p .fajr) night (fajr-portion (p .«high_latitude_rule») (p .«fajr_angle») (p .«isha_angle») (carried .«fajr_angle»)) (wider l (lit≤ tt) (lit≤ tt)) in
       either-between (bySeasonOf (p .method)) (record { from = omega (arith, m .1); to = m .0 }) (record { from = omega (arith, b .1); to = omega (arith, b .0) })
 
@@ -148,7 +148,7 @@ module _ (p : Parameters) (season : Season) (carried : Carried p) (there : Latit
   bound : IshaSpan (ishaBoundOf p season date today night)
   unfolding ishaBoundOf
   bound =
-      let e = evening-small season (ordinalOf date) (date .year) (there .south) (there .north) (ordinal-short date) (p .shafaq) in
+      let e = evening-small season (ordinalOf date) (date .year) (there .0) (there .1) (ordinal-short date) (p .shafaq) in
       let evening : Days 1 1 (eveningSecondsOf season (ordinalOf date) (date .year) (p .shafaq)) = record { from = e .1; to = e .0 } in
       either-between (bySeasonOf (p .method)) (wider (rounded-between Nearest (sum-between (sun .sunset) evening)) (lit≤ tt) (lit≤ tt)) (wider (sum-between (sun .sunset) after) (lit≤ tt) (lit≤ tt))
 

@@ -1,21 +1,19 @@
 -- What an order's parameters can be: each number in the range that its tag allows, and the method's minutes as the methods bring them.
-use mathlib.Core.Path.{_≡_}
-use mathlib.Core.Bool.{true}
-use lib.Ieee.{Float, neg, le}
+use lib.Ieee.{Float, neg}
 use Rattle.integers.specs.Parts.{Between, Near}
 use Rattle.float64.specs.Ops.{dec}
+use Rattle.float64.specs.Ranges.{Inside}
 use Rattle.models.specs.declared.parameters.Parameters.{Parameters}
 use Rattle.models.specs.declared.prayer.Prayer.{Prayer}
 use Rattle.models.specs.Settings.{minutesFor}
 
 -- tags 12 and 13: from 0 to 30 degrees
 abbrev pub AngleInOrder : Float → Type 0
-AngleInOrder angle = (le (dec 0 0) angle ≡ true) × (le angle (dec 30 0) ≡ true)
+AngleInOrder angle = Inside (dec 0 0) (dec 30 0) angle
 
 -- tag 4: from -90 to 90
-pub record LatitudeInOrder (latitude : Float) : Type 0 where
-  pub south : le (neg (dec 90 0)) latitude ≡ true
-  pub north : le latitude (dec 90 0) ≡ true
+abbrev pub LatitudeInOrder : Float → Type 0
+LatitudeInOrder latitude = Inside (neg (dec 90 0)) (dec 90 0) latitude
 
 pub record Carried (p : Parameters) : Type 0 where
   pub «fajr_angle» : AngleInOrder (p .«fajr_angle»)

@@ -1,4 +1,4 @@
--- The card's sentences, each as a law over every number. Assumes nothing.
+-- Request 1's sentences, each as a law over every number. Assumes nothing.
 use mathlib.Core.Path.{_≡_, refl, ap, _∙_}
 use mathlib.Core.Bool.{Bool, true, false, cond, _&&_, _||_, false≢true}
 use Prim.Native.Nat.{ℕ, _+_, _*_, _^_, _≤_, _<_}

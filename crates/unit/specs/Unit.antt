@@ -1,6 +1,7 @@
 -- unit.rs: angles in degrees and places on the earth, operation by operation in f64.
-use mathlib.Core.Bool.{_&&_, cond}
-use lib.Ieee.{Float, neg, le}
+use mathlib.Core.Bool.{cond}
+use lib.Ieee.{Float, neg}
+use Rattle.float64.specs.Ranges.{insideOf}
 use Rattle.float64.specs.Ops.{_+ᶠ_, _-ᶠ_, _*ᶠ_, _/ᶠ_, bits}
 use Rattle.float64.specs.Whole.{floorOf, roundOf}
 use Rattle.unit.specs.declared.Angle.{Angle}
@@ -36,7 +37,7 @@ unwoundOf a = angleOf (normalizedToScaleOf (a .degrees) full-turn)
 unfoldable pub quadrantShiftedOf : Angle → Angle
 quadrantShiftedOf a =
     let x = a .degrees in
-    cond (le (neg half-turn) x && le x half-turn) a (angleOf (x -ᶠ full-turn *ᶠ roundOf (x /ᶠ full-turn)))
+    cond (insideOf (neg half-turn) half-turn x) a (angleOf (x -ᶠ full-turn *ᶠ roundOf (x /ᶠ full-turn)))
 
 abbrev pub plusOf : Angle → Angle → Angle
 plusOf a b = angleOf (a .degrees +ᶠ b .degrees)
@@ -44,8 +45,8 @@ plusOf a b = angleOf (a .degrees +ᶠ b .degrees)
 abbrev pub minusOf : Angle → Angle → Angle
 minusOf a b = angleOf (a .degrees -ᶠ b .degrees)
 
-abbrev pub timesOf : Angle → Angle → Angle
-timesOf a b = angleOf (a .degrees *ᶠ b .degrees)
+abbrev pub productOf : Angle → Angle → Angle
+productOf a b = angleOf (a .degrees *ᶠ b .degrees)
 
 -- by 0 an infinity or NaN, as f64 has it
 abbrev pub overOf : Angle → Angle → Angle

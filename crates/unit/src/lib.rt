@@ -1,7 +1,7 @@
 // unit.rs: angles in degrees and places on the earth. The operators on Angle are functions of the type; dates and
 // times (Stride) are the crate stride's.
 ghost use mathlib.Core.Path.{_≡_};
-ghost use Rattle.unit.specs.Unit.{normalizedToScaleOf, angleOf, fromRadiansOf, radiansOf, unwoundOf, quadrantShiftedOf, plusOf, minusOf, timesOf, overOf, coordinatesOf, latitudeAngleOf, longitudeAngleOf};
+ghost use Rattle.unit.specs.Unit.{normalizedToScaleOf, angleOf, fromRadiansOf, radiansOf, unwoundOf, quadrantShiftedOf, plusOf, minusOf, productOf, overOf, coordinatesOf, latitudeAngleOf, longitudeAngleOf};
 use float64::whole::floor;
 use float64::whole::round;
 
@@ -79,7 +79,7 @@ impl Angle {
     }
 
     pub fn mul(self, rhs: Angle) -> Angle
-        ensures { λ r. ⌜ r ≡ timesOf self rhs ⌝ }
+        ensures { λ r. ⌜ r ≡ productOf self rhs ⌝ }
     {
         Angle {
             degrees: self.degrees * rhs.degrees,

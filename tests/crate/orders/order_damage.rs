@@ -41,7 +41,7 @@ impl Draw {
     }
 
     fn unknown_tag(&mut self, fields: &mut Vec<Field>) {
-        let tag = [0, LAST_TAG + 1, 99, 255, LAST_TAG + 1 + self.below(241) as u8][self.index(5)];
+        let tag = [0, LAST_TAG + 1, 99, 255, LAST_TAG + 1 + self.below(255 - LAST_TAG as u64) as u8][self.index(5)];
         if self.coin() && !fields.is_empty() {
             let at = self.index(fields.len());
             fields[at].tag = tag;

@@ -12,8 +12,8 @@ use crate::threads::shared;
 use salah_probes::schedule::{access, PrayerTimes};
 
 /// What is compared, a line of the table each. The fields of the order that was read come first.
-const LINES: [&str; 32] = {
-    let mut lines = [""; 32];
+const LINES: [&str; BUFFER + 1] = {
+    let mut lines = [""; BUFFER + 1];
     let mut line = 0;
     while line < ORDER_FIELDS.len() {
         lines[line] = ORDER_FIELDS[line];
@@ -24,14 +24,14 @@ const LINES: [&str; 32] = {
     (lines[REPLY], lines[BUFFER]) = ("written row's reply", "written row's buffer");
     lines
 };
-const NUMBER: usize = 24;
-const PLACE: usize = 25;
-const TIMES: usize = 26;
-const PRAYER: usize = 27;
-const NEXT: usize = 28;
-const REMAINING: usize = 29;
-const REPLY: usize = 30;
-const BUFFER: usize = 31;
+const NUMBER: usize = ORDER_FIELDS.len();
+const PLACE: usize = ORDER_FIELDS.len() + 1;
+const TIMES: usize = ORDER_FIELDS.len() + 2;
+const PRAYER: usize = ORDER_FIELDS.len() + 3;
+const NEXT: usize = ORDER_FIELDS.len() + 4;
+const REMAINING: usize = ORDER_FIELDS.len() + 5;
+const REPLY: usize = ORDER_FIELDS.len() + 6;
+const BUFFER: usize = ORDER_FIELDS.len() + 7;
 
 pub struct Orders {
     counts: Counts<{ LINES.len() }>,

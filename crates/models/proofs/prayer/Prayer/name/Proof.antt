@@ -2,13 +2,13 @@ use mathlib.Core.Path.{sym, ap, _∙_}
 use mir.Syntax.{w64}
 use Rattle.integers.proofs.Ranges.{read}
 use Rattle.models.specs.Names.{isFridayOf}
-use Rattle.models.specs.Names.{nameOf}
+use Rattle.models.specs.Names.{prayerNameOf}
 use borrow.Author.Needs.{needs}
 use Rattle.models.proofs.prayer.Prayer.name.Statement.{statement}
 use Rattle.models.proofs.prayer.Prayer.name.Tie as tie
 
 returns : tie.Need-returns × tie.Need-returns-2 × tie.Need-returns-3 × tie.Need-returns-4 × tie.Need-returns-5 × tie.Need-returns-6 × tie.Need-returns-7 × tie.Need-returns-8 × tie.Need-returns-9
-unfolding nameOf
+unfolding prayerNameOf
 returns = (
   λ c. simp (c .enum-told .given .1),
   λ c. simp (c .enum-told2 .given .1),
