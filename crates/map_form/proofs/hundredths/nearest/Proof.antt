@@ -1,3 +1,4 @@
+-- `map_form::hundredths::nearest` meets its contract: laws of the bit pattern, for what is under the smallest count and for the rest.
 use Prim.Native.Nat.{_-_, _/_, _%_, _^_}
 use native.Mathlib.Nat.{div-le-self}
 use native.Mathlib.Omega.{arith}

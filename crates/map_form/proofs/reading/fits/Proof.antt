@@ -1,3 +1,4 @@
+-- `map_form::reading::fits` meets its contract.
 use Rattle.map_form.specs.Hundredths.{formFits}
 use borrow.Author.Needs.{needs}
 use Rattle.map_form.proofs.reading.fits.Statement.{statement}
