@@ -21,6 +21,7 @@
    12      KATCHIDUL_LOG_SECOND_SHORT   the log's second buffer is too short, page or count    the record's page; at a restart the count
    13      KATCHIDUL_LOG_OUT_OF_TURN    a record of the log is out of turn, page               the record's page
    14      KATCHIDUL_LOG_COUNT_OUTSIDE  the embosser's count does not fit the log, count       the count
+   15      KATCHIDUL_BOTH_FORMS         a coordinate is given in both forms:                   the tag: 18 or 19
    16      KATCHIDUL_QUEUE_FULL         the print queue is full, job id                        the job's id
    17      KATCHIDUL_JOB_UNFIT          the job's id or its pages are not allowed, job id      the job's id
 
@@ -31,9 +32,9 @@
    fits it, stands with its calls below. The print queue is full with 16 jobs; a job's id is not allowed where it is 0, over 65,535 or
    still waiting, its pages where they are not 1 to 16. katchidul_write_sentence puts a refusal in words.
 
-   A lent buffer (9) and an instant (10) are checked before anything else in their calls; then the order (1 to 5), the row or the page (5,
-   place 3), the day (6 to 8), and 11. Of a job log 9 is tried first, then 13, 14 and 12. Of a job 17 is tried before 16, of a sentence to be
-   written 5 before 9.
+   A lent buffer (9) and an instant (10) are checked before anything else in their calls; then the order (1 to 4, 15, and then 5), the row
+   or the page (5, place 3), the day (6 to 8), and 11. Of a job log 9 is tried first, then 13, 14 and 12. Of a job 17 is tried before 16,
+   of a sentence to be written 5 before 9.
 
    What a call does with the host's memory. It changes no byte of the order, keeps nothing of what it is lent, allocates nothing and has
    no state: calls may run on several threads at once, also on the same order, as long as nobody writes to the bytes lent meanwhile. A
@@ -55,7 +56,7 @@ extern "C" {
 #endif
 
 /* Of this header: one more with every change of a call, a struct or a number. Take header and library from the same build. */
-#define KATCHIDUL_VERSION 8
+#define KATCHIDUL_VERSION 9
 
 #define KATCHIDUL_ORDER_MAX 1024 /* bytes of an order */
 #define KATCHIDUL_TOWN_MAX 40    /* bytes of a town's name */
@@ -93,6 +94,7 @@ enum katchidul_refusal {
   KATCHIDUL_LOG_SECOND_SHORT = 12,
   KATCHIDUL_LOG_OUT_OF_TURN = 13,
   KATCHIDUL_LOG_COUNT_OUTSIDE = 14,
+  KATCHIDUL_BOTH_FORMS = 15,
   KATCHIDUL_QUEUE_FULL = 16,
   KATCHIDUL_JOB_UNFIT = 17
 };
@@ -179,7 +181,7 @@ typedef struct katchidul_order {
   uint32_t town_at, town_length; /* the part of the order that is the town's name: offset and length in bytes */
   uint32_t year, month, day;     /* the date of row 0 */
   uint32_t rows;                 /* 1 to 400 */
-  double latitude, longitude;    /* degrees */
+  double latitude, longitude;    /* degrees, whichever form the order has them in */
   double fajr_angle, isha_angle; /* degrees */
   uint32_t method, madhab, high_latitude_rule, rounding, shafaq; /* by their numbers */
   uint32_t isha_interval;        /* minutes */
@@ -228,29 +230,35 @@ typedef struct katchidul_meaning {
   uint32_t of_number, of_place;
 } katchidul_meaning;
 
-/* Reads an order. Refusals 1 to 5. */
+/* A coordinate as on the map; sign 1 is south or west. */
+typedef struct katchidul_map {
+  uint32_t number, place, sign, degrees, minutes, seconds, hundredths;
+} katchidul_map;
+
+/* Reads an order. Refusals 1 to 5 and 15. */
 katchidul_order katchidul_read_order(const uint8_t *order, size_t length);
 
-/* Works the nine times of a row's date; rows count from 0. Refusals 1 to 8. */
+/* Works the nine times of a row's date; rows count from 0. Refusals 1 to 8 and 15. */
 katchidul_day katchidul_work_day(const uint8_t *order, size_t length, uint32_t row);
 
 /* An instant is whole seconds from 1970-01-01T00:00:00 UTC on, rounded down, and nanoseconds, which count forward from there, also before
    1970: half a second before 1970 is -1 and 500,000,000.
 
    Names the prayer in force at an instant, from the times of the row's day alone: the last in the list from Fajr to FajrTomorrow whose
-   time is less than a second ahead. None (0) is an answer. Refusals 1 to 8 and 10. */
+   time is less than a second ahead. None (0) is an answer. Refusals 1 to 8, 10 and 15. */
 katchidul_prayer katchidul_prayer_at(const uint8_t *order, size_t length, uint32_t row, int64_t seconds, uint32_t nanoseconds);
 
-/* Names the next prayer in that list; after FajrTomorrow it is FajrTomorrow itself. Refusals 1 to 8, 10 and 11. */
+/* Names the next prayer in that list; after FajrTomorrow it is FajrTomorrow itself. Refusals 1 to 8, 10, 11 and 15. */
 katchidul_prayer katchidul_next_at(const uint8_t *order, size_t length, uint32_t row, int64_t seconds, uint32_t nanoseconds);
 
-/* Tells the time until the next prayer: 0 and 0 where that has passed, and so after FajrTomorrow. Refusals 1 to 8, 10 and 11. */
+/* Tells the time until the next prayer: 0 and 0 where that has passed, and so after FajrTomorrow. Refusals 1 to 8, 10, 11 and
+   15. */
 katchidul_remaining katchidul_remaining_at(const uint8_t *order, size_t length, uint32_t row, int64_t seconds, uint32_t nanoseconds);
 
 /* Writes a row's line at the front of a buffer of `size` bytes, at least KATCHIDUL_ROW_BYTES (9 below that): the row's date, then the nine
    times, each as signed days from that date, T and the UTC time (`+0T05:12:00`), with a blank before each and a newline at the end. A full
    row has 119 bytes with its newline and no zero byte after it; the buffer's bytes after them stay. Where the call is refused no byte
-   of the buffer changes. The buffer and the order must not overlap. Refusals 1 to 9. */
+   of the buffer changes. The buffer and the order must not overlap. Refusals 1 to 9 and 15. */
 katchidul_reply katchidul_write_row(const uint8_t *order, size_t length, uint32_t row, uint8_t *buffer, size_t size);
 
 /* What a call says that writes cells: how many rows it wrote, and the dots that they punch. */
@@ -369,6 +377,13 @@ katchidul_written katchidul_write_sentence(uint32_t number, uint32_t place, uint
 
 /* Reads a sentence back: `of_number` and `of_place` are what it was written of. Bytes that are no refusal's sentence are 5, place 0. */
 katchidul_meaning katchidul_read_sentence(const uint8_t *sentence, size_t length);
+
+/* Writes a coordinate as on the map: the hundredth of a second that is nearest to the number's exact value, a half going away from zero.
+   Zero has sign 0, also where a number below zero is nearest to it. A number that is beyond 90 or 180 degrees either way before it is
+   rounded, and a NaN, are 5, with place 18 for a latitude and 19 for a longitude. The five numbers are those of an order's tag 18 or 19,
+   and what was read from such a tag is written back as it was, a zero with sign 0. */
+katchidul_map katchidul_map_latitude(double degrees);
+katchidul_map katchidul_map_longitude(double degrees);
 
 /* Whether the calling thread's floating-point environment is the one that the answers are proved for: 1 or 0. It reads the processor's
    MXCSR: no subnormal number taken or made zero, rounding to nearest, every exception masked. The six lowest bits say what happened and

@@ -27,12 +27,16 @@ static void put_options(order_bytes *order) {
   for (uint8_t tag = 12; tag <= 13; tag++)
     if (below(2)) put_float(order, tag, between(0, 30));
   if (below(2)) put_interval(order, (uint16_t)below(1441));
-<<<<<<< HEAD
   if (below(2)) put_clock(order, (int16_t)((int)below(1681) - 840));
-=======
   for (uint8_t tag = 15; tag <= 17; tag += 2)
     if (below(2)) put_small(order, tag, (uint8_t)below(2));
->>>>>>> main
+}
+
+/* A coordinate of an order as on the map, somewhere there, in place of its float; now and then beside it. */
+static void put_on_map(order_bytes *order, uint8_t tag, uint64_t most) {
+  if (below(3)) return;
+  if (below(16)) *order = without(order, (uint8_t)(tag - 14));
+  put_map(order, tag, (uint8_t[]){(uint8_t)below(2), (uint8_t)below(most), (uint8_t)below(60), (uint8_t)below(60), (uint8_t)below(100)});
 }
 
 static order_bytes sound_order(void) {
@@ -44,6 +48,7 @@ static order_bytes sound_order(void) {
   order_bytes order = place_order(town, (uint16_t)(1900 + below(300)), (uint8_t)(1 + below(12)), (uint8_t)(1 + below(28)),
                                   (uint8_t)(1 + below(31)), latitude, longitude, (uint8_t)below(13));
   put_options(&order);
+  put_on_map(&order, 18, 66), put_on_map(&order, 19, 180);
   return order;
 }
 
@@ -99,7 +104,7 @@ static int64_t any_instant(const katchidul_order *order, uint32_t row) {
 }
 
 void check_damaged(uint32_t orders) {
-  uint32_t numbers[12] = {0};
+  uint32_t numbers[16] = {0};
   char what[64];
   state = UINT64_C(0x9e3779b97f4a7c15);
   for (uint32_t i = 0; i < orders; i++) {
@@ -116,11 +121,12 @@ void check_damaged(uint32_t orders) {
       check(row_unwritten(&order, row, below(ROW_LENGTH), 9, 0), what);
     }
     if (below(16) == 0) check(page_agrees(&order, row / 25 + 1, PAGE_LENGTH + below(100)), what);
-    if (all.day.number < 12) numbers[all.day.number]++;
+    if (all.day.number < 16) numbers[all.day.number]++;
     if (all.next.number >= 10 && all.next.number < 12) numbers[all.next.number]++;
   }
   printf("host: random and damaged orders by number:");
-  for (uint32_t number = 0; number < 12; number++) {
+  for (uint32_t number = 0; number < 16; number++) {
+    if (number >= 12 && number < 15) continue; /* no order's */
     printf(" %u: %u", number, numbers[number]);
     /* 6 and 8 are rare: a few thousand orders may miss them. */
     check(numbers[number] > 0 || orders < 40000, "the random and damaged orders meet every number");

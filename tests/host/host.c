@@ -32,6 +32,7 @@ int main(int count, char **arguments) {
   check_lines();
   check_cells();
   check_sentences();
+  check_map();
   check_environment();
   check_threads();
   check_stack();

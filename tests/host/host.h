@@ -29,17 +29,19 @@ void put_float(order_bytes *order, uint8_t tag, double value);
 void put_minutes(order_bytes *order, const int16_t minutes[6]);
 void put_interval(order_bytes *order, uint16_t minutes);
 void put_clock(order_bytes *order, int16_t minutes);
+/* Sign, degrees, minutes, seconds and hundredths. */
+void put_map(order_bytes *order, uint8_t tag, const uint8_t parts[5]);
 /* The number of rows in so many bytes. */
 void put_rows(order_bytes *order, uint16_t rows, uint16_t size);
 /* The last tag of the table. */
-#define LAST_TAG 17
+#define LAST_TAG 19
 
 /* The six fields that an order must have, in order of their tags. Rows in one byte up to 255, in two above it. */
 order_bytes place_order(const char *town, uint16_t year, uint8_t month, uint8_t day, uint16_t rows, double latitude,
                         double longitude, uint8_t method);
 /* Makkah, 2026-06-21, 10 rows, method 0: 46 bytes, the town at 3. */
 order_bytes good_order(void);
-/* The good order with a field of every tag. */
+/* The good order with a field of every tag, its place as floats. */
 order_bytes full_order(void);
 /* An order without the field of one tag. */
 order_bytes without(const order_bytes *order, uint8_t tag);
@@ -131,6 +133,7 @@ void check_instants(void);
 void check_lines(void);
 void check_cells(void);
 void check_sentences(void);
+void check_map(void);
 void check_environment(void);
 void check_threads(void);
 void check_stack(void);

@@ -16,6 +16,7 @@ struct katchidul_turned;
 struct katchidul_log;
 struct katchidul_written;
 struct katchidul_meaning;
+struct katchidul_map;
 
 static uint32_t refused(const order_bytes *order) { return katchidul_read_order(order->bytes, order->length).number; }
 

@@ -59,6 +59,11 @@ void put_clock(order_bytes *order, int16_t minutes) {
   put_number(order, (uint16_t)minutes, 2);
 }
 
+void put_map(order_bytes *order, uint8_t tag, const uint8_t parts[5]) {
+  put_header(order, tag, 5);
+  for (int i = 0; i < 5; i++) put_byte(order, parts[i]);
+}
+
 void put_rows(order_bytes *order, uint16_t rows, uint16_t size) {
   put_header(order, 3, size);
   put_number(order, rows, size);

@@ -22,6 +22,7 @@ static bool number_fits(const katchidul_order *order) {
     case 1: case 2: case 3: return order->place < 1025;
     case 4: return order->place >= 1 && order->place <= 6;
     case 5: return order->place >= 1 && order->place <= LAST_TAG;
+    case 15: return order->place == 18 || order->place == 19;
     default: return false;
   }
 }

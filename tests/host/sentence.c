@@ -24,7 +24,7 @@ static const char *const words[] = {NULL,
                                     "Refusal 12: the log's second buffer is too short, page or count",
                                     "Refusal 13: a record of the log is out of turn, page",
                                     "Refusal 14: the embosser's count does not fit the log, count",
-                                    NULL,
+                                    "Refusal 15: a coordinate is given in both forms:",
                                     "Refusal 16: the print queue is full, job id",
                                     "Refusal 17: the job's id or its pages are not allowed, job id"};
 static const char *const names[] = {NO_NAME,
@@ -44,8 +44,9 @@ static const char *const names[] = {NO_NAME,
                                     " isha interval, tag",
                                     " carry, tag",
                                     " clock, tag",
-
-                                    " southern, tag"};
+                                    " southern, tag",
+                                    " map latitude, tag",
+                                    " map longitude, tag"};
 #define NUMBERS (sizeof words / sizeof *words)
 #define TAGS (sizeof names / sizeof *names)
 static const uint32_t some_places[] = {0, 6, 10, 14, 65536, UINT32_MAX};

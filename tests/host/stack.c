@@ -9,7 +9,7 @@
 #define OWN_FRAME 512 /* more than the painting function's own part */
 #define PAINT 0xA5
 #define STACK_MOST 4096 /* the header's promise */
-#define CALLS 15
+#define CALLS 17
 /* With the sanitizers no two calls' answers share their place, so that the caller's frame, which is counted too, is as large as a call's. */
 #ifdef __SANITIZE_ADDRESS__
 #define SANITIZED true
@@ -42,6 +42,8 @@ __attribute__((noinline)) static void call(int which, const order_bytes *order, 
     case 11: katchidul_restart(logs[0], sizeof *logs, 5 * (row % 3), row % 4, logs[1], sizeof *logs); break;
     case 12: katchidul_read_sentence(line, ROW_LENGTH); break;
     case 13: katchidul_write_cells(bytes, length, row, line, ROW_LENGTH); break;
+    case 14: katchidul_map_latitude((double)row); break;
+    case 15: katchidul_map_longitude((double)seconds); break;
     default: katchidul_write_page(bytes, length, 1, page, sizeof page);
   }
 }

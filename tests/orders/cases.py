@@ -8,13 +8,15 @@ import struct
 import sys
 
 LENGTHS = {1: range(1, 41), 2: [4], 3: [1, 2], 4: [8], 5: [8], 6: [1], 7: [1], 8: [1], 9: [1], 10: [1], 11: [12], 12: [8], 13: [8], 14: [2], 15: [1],
-           16: [2], 17: [1]}
+           16: [2], 17: [1], 18: [5], 19: [5]}
 # By method: Fajr, Isha and Maghrib angle, interval, rounding, and the minutes for sunrise, Dhuhr, Asr and Maghrib.
 METHODS = [(18.0, 17.0, 0.0, 0, 0, (0, 1, 0, 0)), (19.5, 17.5, 0.0, 0, 0, (0, 1, 0, 0)), (18.0, 18.0, 0.0, 0, 0, (0, 1, 0, 0)), (18.5, 0.0, 0.0, 90, 0, (0, 0, 0, 0)),
            (18.2, 18.2, 0.0, 0, 0, (-3, 3, 3, 3)), (18.0, 18.0, 0.0, 0, 0, (0, 5, 0, 3)), (15.0, 15.0, 0.0, 0, 0, (0, 1, 0, 0)), (18.0, 17.5, 0.0, 0, 0, (0, 0, 0, 0)),
            (18.0, 0.0, 0.0, 90, 0, (0, 0, 0, 0)), (20.0, 18.0, 0.0, 0, 1, (0, 1, 0, 0)), (17.7, 14.0, 4.5, 0, 0, (0, 0, 0, 0)), (18.0, 17.0, 0.0, 0, 0, (-7, 5, 4, 7)),
            (0.0, 0.0, 0.0, 0, 0, (0, 0, 0, 0))]
 LAST = datetime.date(2199, 12, 31)
+# The tags of a coordinate as a float and as on the map.
+FORMS = ((4, 18), (5, 19))
 
 
 def field(tag, value):
@@ -28,6 +30,19 @@ def join(fields):
 def real(value):
     x = struct.unpack(">d", value)[0]
     return 0.0 if x == 0.0 else x
+
+
+def hundredths(value):
+    """Of a coordinate as on the map, without its sign."""
+    _, degrees, minutes, seconds, parts = value
+    return degrees * 360000 + minutes * 6000 + seconds * 100 + parts
+
+
+def coordinate(values, tag, other):
+    """In either form. A quotient of whole numbers is rounded once, and a zero has no sign."""
+    if tag in values:
+        return real(values[tag])
+    return (-1 if values[other][0] == 1 else 1) * hundredths(values[other]) / 360000
 
 
 def fields_of(order):
@@ -86,6 +101,9 @@ def in_range(values, tag):
         return struct.unpack(">H", value)[0] <= 1440
     if tag == 16:
         return -840 <= struct.unpack(">h", value)[0] <= 840
+    if tag in (18, 19):
+        sign, _, minutes, seconds, parts = value
+        return sign <= 1 and minutes <= 59 and seconds <= 59 and parts <= 99 and hundredths(value) <= {18: 90, 19: 180}[tag] * 360000
     low, high = {6: (0, 12), 7: (1, 2), 8: (0, 2), 9: (0, 2), 10: (0, 2), 15: (0, 1), 17: (0, 1)}[tag]
     return low <= value[0] <= high
 
@@ -93,7 +111,9 @@ def in_range(values, tag):
 def line(order):
     values, refusal = fields_of(order)
     if refusal is None:
-        refusal = next(((4, tag) for tag in range(1, 7) if tag not in values), None)
+        refusal = next(((4, tag) for tag in range(1, 7) if tag not in values and dict(FORMS).get(tag) not in values), None)
+    if refusal is None:
+        refusal = next(((15, other) for tag, other in FORMS if tag in values and other in values), None)
     if refusal is None:
         refusal = next(((5, tag) for tag in sorted(values) if not in_range(values, tag)), None)
     if refusal is not None:
@@ -106,9 +126,9 @@ def line(order):
     own = struct.unpack(">6h", values.get(11, bytes(12)))
     minutes = struct.unpack(">H", values[14])[0] if 14 in values else interval
     town = next(at for at, tag in offsets(order) if tag == 1) + 3
-    numbers = [0, 0, town, len(values[1]), date.year, date.month, date.day, int.from_bytes(values[3], "big"), bits(real(values[4])), bits(real(values[5])), method, one(7, 1), one(8, 0),
-               one(9, rounding), one(10, 0), bits(angle(12, fajr)), bits(angle(13, isha)), bits(maghrib), minutes, *own, 0, *brought, 0, one(15, 0),
-               *struct.unpack(">h", values.get(16, bytes(2))), one(17, 0)]
+    numbers = [0, 0, town, len(values[1]), date.year, date.month, date.day, int.from_bytes(values[3], "big"), bits(coordinate(values, 4, 18)),
+               bits(coordinate(values, 5, 19)), method, one(7, 1), one(8, 0), one(9, rounding), one(10, 0), bits(angle(12, fajr)), bits(angle(13, isha)),
+               bits(maghrib), minutes, *own, 0, *brought, 0, one(15, 0), *struct.unpack(">h", values.get(16, bytes(2))), one(17, 0)]
     return b"".join(b"%d " % n for n in numbers) + values[1] + b"\n"
 
 
@@ -118,9 +138,12 @@ def good(draw):
     size, most = draw.choice([(1, 250), (2, 400)])
     rows = draw.choice([1, draw.randint(1, most), most])
     rows = min(rows, (LAST - date).days + 1)
+    on_map = lambda most: bytes([draw.randrange(2), *draw.choice([(most, 0, 0, 0), (0, 0, 0, 0), (draw.randrange(most), 59, 59, 99),
+                                 (draw.randrange(most), draw.randrange(60), draw.randrange(60), draw.randrange(100))])])
     double = lambda low, high: struct.pack(">d", draw.choice([low, high, -0.0, 0.0, draw.uniform(low, high)]))
     fields = [(1, bytes(draw.choice([32, 126, draw.randint(32, 126)]) for _ in range(draw.choice([1, 40, draw.randint(1, 40)])))),
-              (2, struct.pack(">HBB", date.year, date.month, date.day)), (3, rows.to_bytes(size, "big")), (4, double(-90.0, 90.0)), (5, double(-180.0, 180.0)),
+              (2, struct.pack(">HBB", date.year, date.month, date.day)), (3, rows.to_bytes(size, "big")),
+              draw.choice([(4, double(-90.0, 90.0)), (18, on_map(90))]), draw.choice([(5, double(-180.0, 180.0)), (19, on_map(180))]),
               (6, bytes([draw.randrange(13)]))]
     more = [(7, bytes([draw.randint(1, 2)])), (8, bytes([draw.randrange(3)])), (9, bytes([draw.randrange(3)])), (10, bytes([draw.randrange(3)])),
             (11, struct.pack(">6h", *[draw.choice([-720, 720, 0, draw.randint(-720, 720)]) for _ in range(6)])), (12, double(0.0, 30.0)),
@@ -141,7 +164,7 @@ def out_of_range(draw, tag, value):
 
 def damaged(draw):
     fields = good(draw)
-    kind = draw.randrange(9)
+    kind = draw.randrange(10)
     place = draw.randrange(len(fields))
     tag, value = fields[place]
     if kind == 0:
@@ -149,11 +172,13 @@ def damaged(draw):
     elif kind == 1:
         fields.insert(draw.randrange(len(fields) + 1), (tag, draw.choice([value, b""])))
     elif kind == 2:
-        fields[place] = (draw.choice([0, 18, 99, 255]), value)
+        fields[place] = (draw.choice([0, 20, 99, 255]), value)
     elif kind == 3:
         fields[place] = (tag, draw.choice([value + b" ", value[:-1], b""]))
     elif kind <= 5:
         fields[place] = (tag, out_of_range(draw, tag, value))
+    elif kind == 9:
+        fields.insert(draw.randrange(len(fields) + 1), draw.choice([(4, bytes(8)), (5, bytes(8)), (18, bytes(5)), (19, b"\xff" * 5)]))
     order = join(fields)
     if kind == 6:
         order = order[:draw.randrange(len(order))]
@@ -217,6 +242,19 @@ def marked():
     # what stands for a missing tag comes from the method, and a tag sets its one field
     orders += [but({6: bytes([method])}) for method in range(12)]
     orders += [but({6: b"\11", 9: b"\2"}), but({6: b"\13", 11: minutes(-1, 2)})]
+    # a coordinate as on the map: each part's limit and the whole's, either sign, a zero with either; a length that it can't have
+    on_map = lambda *parts: join([(tag, value) for tag, value in pole.items() if tag not in (4, 5)] + [(tag, bytes(part)) for tag, part in parts])
+    orders += [on_map((18, (sign, 21, 25, 21, 3)), (19, (1 - sign, 39, 49, 34, 32))) for sign in (0, 1)]
+    orders += [on_map((18, part), (19, (0, 0, 0, 0, 0))) for part in ((0, 90, 0, 0, 0), (1, 90, 0, 0, 0), (0, 90, 0, 0, 1), (0, 89, 59, 59, 99),
+               (1, 0, 0, 0, 0), (1, 0, 0, 0, 1), (2, 0, 0, 0, 0), (0, 0, 60, 0, 0), (0, 0, 0, 60, 0), (0, 0, 0, 0, 100), (0, 255, 255, 255, 255), (0, 91, 0, 0, 0))]
+    orders += [on_map((18, (0, 0, 0, 0, 0)), (19, part)) for part in ((0, 180, 0, 0, 0), (1, 180, 0, 0, 1), (1, 179, 59, 59, 99), (0, 181, 0, 0, 0), (1, 0, 60, 0, 0))]
+    orders += [whole + field(18, bytes(length)) for length in (0, 4, 6)]
+    # one coordinate in each form; both forms, which is 15 whatever stands in them, behind missing tags and before ranges, latitude first
+    north, east = field(18, bytes(5)), field(19, bytes(5))
+    orders += [without(4) + north, without(5) + east, whole + north, whole + east, whole + east + north, whole + field(18, b"\2\x63\x63\x63\x63")]
+    orders += [but({1: b"\37"}) + north, but({4: real(nan)}) + field(18, b"\2\x63\x63\x63\x63"), without(6) + north, without(5) + north, without(4) + east]
+    # the map form's range is judged in its own tag's turn, behind tag 5's
+    orders += [join([*((t, v) for t, v in pole.items() if t not in (4, 5)), (5, real(181.0)), (18, bytes([0, 91, 0, 0, 0]))])]
     return orders
 
 

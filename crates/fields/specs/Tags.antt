@@ -40,6 +40,9 @@ tags =
     ∷ row 2 2 0 0
     -- 17: the southern season
     ∷ row 1 1 0 1
+    -- 18, 19: latitude and longitude as on the map
+    ∷ row 5 5 0 0
+    ∷ row 5 5 0 0
     ∷ []
 
 abbrev pub lastTag : ℕ

@@ -1,5 +1,6 @@
 // What a host calls from C (added): a module for each answer, a struct by value as include/katchidul.h declares it.
 pub mod job_log;
+pub mod map;
 pub mod prayer_at;
 pub mod print_queue;
 pub mod read_order;

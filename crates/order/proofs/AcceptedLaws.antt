@@ -2,7 +2,7 @@
 use native.Mathlib.Omega.{arith}
 use Prim.Native.Nat.{ℕ, _+_, _-_, _≤_, _<_}
 use mathlib.Core.Path.{_≡_, refl, sym, ap, subst}
-use mathlib.Core.Bool.{Bool, true, false, cond, _&&_, and-eq-true-iff}
+use mathlib.Core.Bool.{Bool, true, false, cond, _&&_, _||_, and-eq-true-iff}
 use mathlib.Core.List.{List}
 use lib.Dec.{leb, eqb, lit≤}
 use lib.ListN.{length, getD}
@@ -13,12 +13,16 @@ use borrow.Author.Tests.{leb-true}
 use Rattle.integers.specs.Parts.{P, N, Near}
 use Rattle.integers.proofs.OrderLaws.{le-yes}
 use Rattle.float64.specs.Ops.{dec}
+use Rattle.float64.specs.Ranges.{Inside}
 use Rattle.calendar.specs.declared.dates.Date.{Date}
 use Rattle.calendar.specs.Gregorian.{existsOf}
 use Rattle.calendar.specs.Answers.{rowDateOf}
 use Rattle.fields.specs.Numbers.{byteOf, unsignedOf, signedOf}
 use Rattle.fields.specs.Values.{Values, valuesOf}
 use Rattle.fields.specs.Tags.{lastTag}
+use Rattle.map_form.specs.Hundredths.{countOf, degreesOf, formFits}
+use Rattle.map_form.proofs.Limits.{in-limits}
+use Rattle.map_form.proofs.RoundTrip.{read-in-range}
 use Rattle.models.specs.declared.adjustments.TimeAdjustment.{TimeAdjustment}
 use Rattle.models.specs.declared.method.Method.{Method}
 use Rattle.models.specs.declared.method.Method.the-variants.{MuslimWorldLeague, Egyptian, Karachi, UmmAlQura, Dubai, MoonsightingCommittee, NorthAmerica, Kuwait, Qatar, Singapore, Tehran, Turkey, Other}
@@ -30,12 +34,12 @@ use Rattle.models.specs.Presets.{preset, presetOf}
 use Rattle.models.specs.Settings.{minutesFor}
 use Rattle.order.specs.declared.reading.Order.{Order}
 use Rattle.order.specs.declared.reading.Reading.the-variants.{Read}
-use Rattle.order.specs.Given.{dateIn, rowsIn, degreesIn, minutesIn, degreesOr, minutesOr, intervalOr, parametersIn, clockIn}
+use Rattle.order.specs.Given.{dateIn, rowsIn, degreesIn, formIn, coordinateIn, minutesIn, degreesOr, minutesOr, intervalOr, parametersIn, clockIn}
 use Rattle.order.specs.Ranges.{mostRows, mostIn, dateFits, rowsFit, degreesFit, minuteFits, minutesFit, intervalFits, clockFits, lookUp, fitsOf}
-use Rattle.order.specs.Reading.{required, missingOf, outOfRangeOf, orderOf, readingOf}
-use Rattle.order.specs.Accepted.{UpTo, Inside, DateInOrder, Accepted}
+use Rattle.order.specs.Reading.{required, isGivenOf, missingOf, outOfRangeOf, orderOf, readingOf}
+use Rattle.order.specs.Accepted.{UpTo, DateInOrder, Accepted}
 use Rattle.order.proofs.RowDates.{row-in-order}
-use Rattle.order.proofs.ReadingLaws.{read-passed, has-required, fits-given}
+use Rattle.order.proofs.ReadingLaws.{read-passed, has-required, one-form, fits-given}
 
 -- ---- what each test says
 both : (a b : Bool) → (a && b) ≡ true → (a ≡ true) × (b ≡ true)
@@ -115,6 +119,21 @@ module _ (v : Values) where
       go true f = degrees-inside (dec 0 0) (dec 30 0) (v .value tag) (f refl)
       go false f = otherwise
 
+  -- a coordinate in either form
+  coordinate : (float map most : ℕ) → most ≤ 180 → (v .has float || v .has map) ≡ true
+      → (v .has float ≡ true → degreesFit (neg (dec most 0)) (dec most 0) (v .value float) ≡ true)
+      → (v .has map ≡ true → formFits most (formIn (v .value map)) ≡ true)
+      → Inside (neg (dec most 0)) (dec most 0) (coordinateIn v float map)
+  unfolding coordinateIn
+  coordinate float map most small either as-float as-map = go (v .has map) refl
+    where
+      x : Float
+      x = degreesOf (countOf (formIn (v .value map)))
+
+      go : (b : Bool) → v .has map ≡ b → Inside (neg (dec most 0)) (dec most 0) (cond b x (degreesIn (v .value float)))
+      go true m = in-limits x most small (read-in-range most small (formIn (v .value map)) (as-map m))
+      go false m = degrees-inside (neg (dec most 0)) (dec most 0) (v .value float) (as-float (one-form (v .has) float map either m))
+
   interval-or : (missing : ℤ) → (v .has 14 ≡ true → intervalFits (v .value 14) ≡ true) → UpTo 1440 missing → UpTo 1440 (intervalOr v missing)
   unfolding intervalOr intervalFits
   interval-or missing fits otherwise = go (v .has 14) fits
@@ -170,7 +189,7 @@ brought Other = record { named = refl; fajr = (refl, refl); isha = (refl, refl);
 
 -- ---- the record
 accepted : (v : Values) → missingOf (v .has) .number ≡ 0 → outOfRangeOf v .number ≡ 0 → Accepted (orderOf v)
-unfolding orderOf parametersIn fitsOf lookUp
+unfolding orderOf parametersIn fitsOf lookUp isGivenOf
 accepted v given ranges =
     let method = methodOf (byteOf (v .value 6) 0) in
     let from = brought method in
@@ -180,8 +199,8 @@ accepted v given ranges =
       date = date;
       rows = rows .0;
       row = λ (row : ℕ) (l : row < rowsIn (v .value 3)). row-in-order (dateIn (v .value 2)) (date .there) (date .from) (rowsIn (v .value 3) - 1) row (rows .1) (omega arith);
-      latitude = degrees-inside (neg (dec 90 0)) (dec 90 0) (v .value 4) (fits 4 (lit≤ tt) (lit≤ tt) (has 3 (lit≤ tt)));
-      longitude = degrees-inside (neg (dec 180 0)) (dec 180 0) (v .value 5) (fits 5 (lit≤ tt) (lit≤ tt) (has 4 (lit≤ tt)));
+      latitude = coordinate v 4 18 90 (lit≤ tt) (has 3 (lit≤ tt)) (fits 4 (lit≤ tt) (lit≤ tt)) (fits 18 (lit≤ tt) (lit≤ tt));
+      longitude = coordinate v 5 19 180 (lit≤ tt) (has 4 (lit≤ tt)) (fits 5 (lit≤ tt) (lit≤ tt)) (fits 19 (lit≤ tt) (lit≤ tt));
       «fajr_angle» = angle-or v 12 (presetOf method .«fajr_angle») (fits 12 (lit≤ tt) (lit≤ tt)) (from .fajr);
       «isha_angle» = angle-or v 13 (presetOf method .«isha_angle») (fits 13 (lit≤ tt) (lit≤ tt)) (from .isha);
       «isha_interval» = interval-or v (presetOf method .«isha_interval») (fits 14 (lit≤ tt) (lit≤ tt)) (from .interval);
@@ -190,7 +209,7 @@ accepted v given ranges =
       preset = ap (λ (m : Method). presetOf m .«method_adjustments») (sym (from .named));
     }
   where
-    has : (i : ℕ) → i < 6 → v .has (getD required i 0) ≡ true
+    has : (i : ℕ) → i < 6 → isGivenOf (v .has) (getD required i 0) ≡ true
     has = has-required (v .has) given
 
     fits : (tag : ℕ) → 1 ≤ tag → tag ≤ lastTag → v .has tag ≡ true → fitsOf v tag ≡ true

@@ -2,7 +2,7 @@
 use native.Mathlib.Omega.{arith}
 use Prim.Native.Nat.{ℕ, _+_, _-_, _≤_, _<_}
 use mathlib.Core.Path.{_≡_, refl, sym, ap, _∙_}
-use mathlib.Core.Bool.{Bool, true, false, cond}
+use mathlib.Core.Bool.{Bool, true, false, cond, _&&_, _||_, true≢false}
 use mathlib.Core.List.{List, [], _∷_}
 use lib.Dec.{eqb, lit≤}
 use lib.ListN.{length, getD}
@@ -12,12 +12,25 @@ use Rattle.fields.specs.Tags.{lastTag}
 use Rattle.fields.specs.Values.{offsetOf, hasOf, valueOf, startOf, partIn, Values, valuesOf}
 use Rattle.fields.proofs.FieldsLaws.{check-small, value-fits, fits-between}
 use Rattle.fields.proofs.Collecting.{part-same}
+use Rattle.refusals.specs.Refusals.{refusal, noRefusal}
 use Rattle.refusals.specs.declared.Refusal.{Refusal}
 use Rattle.order.specs.declared.reading.Order.{Order}
 use Rattle.order.specs.declared.reading.Reading.the-variants.{Read, Refused}
 use Rattle.order.specs.Ranges.{textFits, lookUp, fitsOf, inRangeOf}
-use Rattle.order.specs.Reading.{required, missingOf, outOfRangeOf, tagsFrom, orderOf, firstOf, readingOf, townOf}
+use Rattle.order.specs.Reading.{required, isGivenOf, missingOf, bothFormsOf, outOfRangeOf, tagsFrom, orderOf, firstOf, readingOf, townOf}
 use Rattle.order.proofs.Tags.{all-pass, failing-number, tags-from, tags-length}
+
+-- a number from 0 to 5, or 15
+abbrev Small : ℕ → Type 0
+Small n = 6 ≤ n → n ≡ 15
+
+-- from 1 to 5, or 15
+pub record Refusing (n : ℕ) : Type 0 where
+  pub some : 1 ≤ n
+  pub which : Small n
+
+up-to-five : (n : ℕ) → n ≤ 5 → Small n
+up-to-five n l h = absurd (omega arith)
 
 -- ---- one of the refusals after another
 module _ (r : Refusal) (rest : List Refusal) (o : Order) where
@@ -30,23 +43,24 @@ module _ (r : Refusal) (rest : List Refusal) (o : Order) where
       go false h e = let z : _≡_ {A = ℕ} 0 1 = cc in absurd (omega arith)
 
   -- a refusal is one of them that has a number
-  refused-one : (x : Refusal) (most : ℕ) → r .number ≤ most → (firstOf rest o ≡ Refused x → (1 ≤ x .number) × (x .number ≤ most))
-      → firstOf (r ∷ rest) o ≡ Refused x → (1 ≤ x .number) × (x .number ≤ most)
+  refused-one : (x : Refusal) → Small (r .number) → (firstOf rest o ≡ Refused x → Refusing (x .number))
+      → firstOf (r ∷ rest) o ≡ Refused x → Refusing (x .number)
   unfolding firstOf
-  refused-one x most l later e = go (eqb (r .number) 0) refl e
+  refused-one x small later e = go (eqb (r .number) 0) refl e
     where
-      go : (b : Bool) → eqb (r .number) 0 ≡ b → cond b (firstOf rest o) (Refused r) ≡ Refused x → (1 ≤ x .number) × (x .number ≤ most)
+      go : (b : Bool) → eqb (r .number) 0 ≡ b → cond b (firstOf rest o) (Refused r) ≡ Refused x → Refusing (x .number)
       go true h e = later e
       go false h e =
           let z : r ≡ x = cc in
           let n = ap (λ (y : Refusal). y .number) z in
           let m = eqb-false (r .number) 0 h in
-          (omega arith, omega arith)
+          record { some = omega arith; which = λ l. sym n ∙ small (omega arith) }
 
 -- ---- an order that is read has passed every check
 pub record Passed (s : List ℕ) (order : Order) : Type 0 where
   pub fields : checkOf s .number ≡ 0
   pub given : missingOf (hasOf s) .number ≡ 0
+  pub single : bothFormsOf (hasOf s) .number ≡ 0
   pub ranges : outOfRangeOf (valuesOf s) .number ≡ 0
   pub same : orderOf (valuesOf s) ≡ order
 
@@ -54,30 +68,50 @@ pub read-passed : (s : List ℕ) (order : Order) → readingOf s ≡ Read order 
 unfolding readingOf firstOf
 read-passed s order e =
     let v = valuesOf s in
-    let a = passed-on (checkOf s) (missingOf (hasOf s) ∷ outOfRangeOf v ∷ []) (orderOf v) order e in
-    let b = passed-on (missingOf (hasOf s)) (outOfRangeOf v ∷ []) (orderOf v) order (a .1) in
-    let c = passed-on (outOfRangeOf v) [] (orderOf v) order (b .1) in
-    let o : Read (orderOf v) ≡ Read order = c .1 in
-    record { fields = a .0; given = b .0; ranges = c .0; same = cc }
+    let a = passed-on (checkOf s) (missingOf (hasOf s) ∷ bothFormsOf (hasOf s) ∷ outOfRangeOf v ∷ []) (orderOf v) order e in
+    let b = passed-on (missingOf (hasOf s)) (bothFormsOf (hasOf s) ∷ outOfRangeOf v ∷ []) (orderOf v) order (a .1) in
+    let c = passed-on (bothFormsOf (hasOf s)) (outOfRangeOf v ∷ []) (orderOf v) order (b .1) in
+    let d = passed-on (outOfRangeOf v) [] (orderOf v) order (c .1) in
+    let o : Read (orderOf v) ≡ Read order = d .1 in
+    record { fields = a .0; given = b .0; single = c .0; ranges = d .0; same = cc }
 
--- a refusal's number is from 1 to 5
-pub refused-by : (s : List ℕ) (r : Refusal) → readingOf s ≡ Refused r → (1 ≤ r .number) × (r .number ≤ 5)
+both-forms-number : (has : ℕ → Bool) → Small (bothFormsOf has .number)
+unfolding bothFormsOf
+both-forms-number has = go (has 4 && has 18) (has 5 && has 19)
+  where
+    go : (a b : Bool) → Small (cond a (refusal 15 18) (cond b (refusal 15 19) noRefusal) .number)
+    go true b l = refl
+    go false true l = refl
+    go false false l = absurd (omega arith)
+
+-- a refusal's number is from 1 to 5, or 15
+pub refused-by : (s : List ℕ) (r : Refusal) → readingOf s ≡ Refused r → Refusing (r .number)
 unfolding readingOf firstOf missingOf outOfRangeOf
 refused-by s r e =
     let v = valuesOf s in
     let f = check-small s in
-    refused-one (checkOf s) (missingOf (hasOf s) ∷ outOfRangeOf v ∷ []) (orderOf v) r 5 (omega arith)
-    (refused-one (missingOf (hasOf s)) (outOfRangeOf v ∷ []) (orderOf v) r 5 (let m = failing-number 4 (hasOf s) required in omega arith)
-    (refused-one (outOfRangeOf v) [] (orderOf v) r 5 (failing-number 5 (inRangeOf v) (tagsFrom lastTag 1)) no))
+    let m = failing-number 4 (isGivenOf (hasOf s)) required in
+    refused-one (checkOf s) (missingOf (hasOf s) ∷ bothFormsOf (hasOf s) ∷ outOfRangeOf v ∷ []) (orderOf v) r (up-to-five (checkOf s .number) (omega arith))
+    (refused-one (missingOf (hasOf s)) (bothFormsOf (hasOf s) ∷ outOfRangeOf v ∷ []) (orderOf v) r (up-to-five (missingOf (hasOf s) .number) (omega arith))
+    (refused-one (bothFormsOf (hasOf s)) (outOfRangeOf v ∷ []) (orderOf v) r (both-forms-number (hasOf s))
+    (refused-one (outOfRangeOf v) [] (orderOf v) r (up-to-five (outOfRangeOf v .number) (failing-number 5 (inRangeOf v) (tagsFrom lastTag 1))) no)))
     e
   where
-    no : Read (orderOf (valuesOf s)) ≡ Refused r → (1 ≤ r .number) × (r .number ≤ 5)
+    no : Read (orderOf (valuesOf s)) ≡ Refused r → Refusing (r .number)
     no e = let z : _≡_ {A = ℕ} 0 1 = cc in absurd (omega arith)
 
 -- ---- where no tag fails, each passes
-pub has-required : (has : ℕ → Bool) → missingOf has .number ≡ 0 → (i : ℕ) → i < 6 → has (getD required i 0) ≡ true
+pub has-required : (has : ℕ → Bool) → missingOf has .number ≡ 0 → (i : ℕ) → i < 6 → isGivenOf has (getD required i 0) ≡ true
 unfolding missingOf
-has-required has e i l = all-pass 4 has required (lit≤ tt) e i l
+has-required has e i l = all-pass 4 (isGivenOf has) required (lit≤ tt) e i l
+
+-- a coordinate that is not missing and stands in no more than one form stands in one of the two
+pub one-form : (has : ℕ → Bool) (float map : ℕ) → (has float || has map) ≡ true → has map ≡ false → has float ≡ true
+one-form has float map either other = go (has float) (has map) either other
+  where
+    go : (a b : Bool) → (a || b) ≡ true → b ≡ false → a ≡ true
+    go true b e f = refl
+    go false b e f = absurd (true≢false (sym e ∙ f))
 
 pub fits-given : (v : Values) → outOfRangeOf v .number ≡ 0 → (tag : ℕ) → 1 ≤ tag → tag ≤ lastTag → v .has tag ≡ true → fitsOf v tag ≡ true
 unfolding outOfRangeOf inRangeOf
@@ -96,7 +130,7 @@ pub record Town (s town : List ℕ) (order : Order) : Type 0 where
   pub text : textFits town ≡ true
 
 town-of : (s : List ℕ) (order : Order) → Passed s order → Town s (valueOf s 1) order
-unfolding fitsOf lookUp orderOf startOf
+unfolding fitsOf lookUp isGivenOf orderOf startOf
 town-of s order passed =
     let has = has-required (hasOf s) (passed .given) 0 (lit≤ tt) in
     record {

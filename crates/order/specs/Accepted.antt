@@ -3,10 +3,11 @@
 use Prim.Native.Nat.{ℕ, _≤_, _<_}
 use mathlib.Core.Path.{_≡_}
 use mathlib.Core.Bool.{true}
-use lib.Ieee.{Float, neg, le}
+use lib.Ieee.{neg}
 use lib.IntN.{ℤ}
 use Rattle.integers.specs.Parts.{P, N, Near}
 use Rattle.float64.specs.Ops.{dec}
+use Rattle.float64.specs.Ranges.{Inside}
 use Rattle.calendar.specs.declared.dates.Date.{Date}
 use Rattle.calendar.specs.Gregorian.{existsOf}
 use Rattle.calendar.specs.Answers.{rowDateOf}
@@ -19,10 +20,6 @@ use Rattle.order.specs.Ranges.{mostRows}
 -- z is from 0 to n
 abbrev pub UpTo : ℕ → ℤ → Type 0
 UpTo n z = (P z ≤ n) × (N z ≡ 0)
-
--- x is from low to high
-abbrev pub Inside : Float → Float → Float → Type 0
-Inside low high x = (le low x ≡ true) × (le x high ≡ true)
 
 -- a date of the calendar, from 1900-01-01 to 2199-12-31
 pub record DateInOrder (date : Date) : Type 0 where

@@ -11,6 +11,8 @@ use Rattle.calendar.specs.declared.dates.Date.{Date}
 use Rattle.calendar.specs.Gregorian.{dateOf}
 use Rattle.fields.specs.Numbers.{byteOf, unsignedOf, signedOf, floatOf}
 use Rattle.fields.specs.Values.{Values}
+use Rattle.map_form.specs.declared.MapForm.{MapForm}
+use Rattle.map_form.specs.Hundredths.{countOf, degreesOf}
 use Rattle.models.specs.declared.adjustments.TimeAdjustment.{TimeAdjustment}
 use Rattle.models.specs.declared.parameters.Parameters.{Parameters}
 use Rattle.models.specs.declared.rounding.Rounding.{Rounding}
@@ -32,6 +34,10 @@ rowsIn v = cond (eqb (length v) 2) (unsignedOf v 0) (byteOf v 0)
 unfoldable pub degreesIn : List ℕ → Float
 degreesIn v = cond (eq (floatOf v) (dec 0 0)) (dec 0 0) (floatOf v)
 
+-- request 7: "five bytes, sign (0 or 1, 1 is south or west) and those four", which are "degrees, minutes, seconds and hundredths"
+unfoldable pub formIn : List ℕ → MapForm
+formIn v = record { sign = byteOf v 0; degrees = byteOf v 1; minutes = byteOf v 2; seconds = byteOf v 3; hundredths = byteOf v 4 }
+
 -- "six minutes, Fajr to Isha"
 unfoldable pub minutesIn : List ℕ → TimeAdjustment
 minutesIn v = sixMinutesOf (signedOf v 0) (signedOf v 2) (signedOf v 4) (signedOf v 6) (signedOf v 8) (signedOf v 10)
@@ -51,6 +57,10 @@ minutesOr v missing = cond (v .has 11) (minutesIn (v .value 11)) missing
 
 unfoldable pub intervalOr : Values → ℤ → ℤ
 intervalOr v missing = cond (v .has 14) (pos (unsignedOf (v .value 14) 0)) missing
+
+-- request 7: "Tags 18 and 19 stand for latitude and longitude": a coordinate by the tag of its float, and else by the one of its form on the map
+unfoldable pub coordinateIn : Values → (float map : ℕ) → Float
+coordinateIn v float map = cond (v .has map) (degreesOf (countOf (formIn (v .value map)))) (degreesIn (v .value float))
 
 -- "By `Method::parameters`, each method brings its own angles, minutes and rounding; tags 7 to 14 then set their one field each, so tag 14
 -- leaves the Isha angle, and tag 11 sets `adjustments`, not `method_adjustments`."

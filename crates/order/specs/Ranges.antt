@@ -3,19 +3,21 @@ use Prim.Native.Nat.{ℕ, _-_}
 use mathlib.Core.Bool.{Bool, true, cond, _&&_}
 use mathlib.Core.List.{List, [], _∷_}
 use lib.Dec.{leb, eqb}
-use lib.Ieee.{Float, neg, le}
+use lib.Ieee.{Float, neg}
 use lib.IntN.{ℤ, pos, negsuc}
 use lib.ListN.{length}
 use lib.Signed.{leZ}
 use Rattle.float64.specs.Ops.{dec}
+use Rattle.float64.specs.Ranges.{insideOf}
 use Rattle.calendar.specs.declared.dates.Date.{Date}
 use Rattle.calendar.specs.Gregorian.{existsOf}
 use Rattle.calendar.specs.Answers.{rowDateOf}
 use Rattle.fields.specs.Numbers.{byteOf, unsignedOf, signedOf}
 use Rattle.fields.specs.Tags.{choiceFits}
 use Rattle.fields.specs.Values.{Values}
+use Rattle.map_form.specs.Hundredths.{mostLatitude, mostLongitude, formFits}
 use Rattle.models.specs.declared.adjustments.TimeAdjustment.{TimeAdjustment}
-use Rattle.order.specs.Given.{dateIn, rowsIn, degreesIn, minutesIn}
+use Rattle.order.specs.Given.{dateIn, rowsIn, degreesIn, formIn, minutesIn}
 
 abbrev pub between : ℕ → ℕ → ℕ → Bool
 between low high n = leb low n && leb n high
@@ -41,7 +43,7 @@ rowsFit date v = between 1 (mostIn v) (rowsIn v) && leb (rowDateOf date (rowsIn 
 
 -- no comparison with a NaN holds
 abbrev pub degreesFit : Float → Float → List ℕ → Bool
-degreesFit low high v = le low (degreesIn v) && le (degreesIn v) high
+degreesFit low high v = insideOf low high (degreesIn v)
 
 -- "each -720 to 720"
 unfoldable pub minuteFits : ℤ → Bool
@@ -78,6 +80,9 @@ ranges v =
     ∷ (14, intervalFits (v .value 14))
     -- clock
     ∷ (16, clockFits (v .value 16))
+    -- latitude, longitude as on the map
+    ∷ (18, formFits mostLatitude (formIn (v .value 18)))
+    ∷ (19, formFits mostLongitude (formIn (v .value 19)))
     ∷ []
 
 -- what a list by tag has for a tag, and else another answer

@@ -1,20 +1,21 @@
 -- Document 01, "The order": what reading any bytes answers. "Order of checks: length over 1,024; then field by field ..; then missing tags,
 -- then ranges, both by rising tag".
 use Prim.Native.Nat.{ℕ, zero, suc, _+_}
-use mathlib.Core.Bool.{Bool, cond}
+use mathlib.Core.Bool.{Bool, cond, _&&_, _||_}
 use mathlib.Core.List.{List, [], _∷_}
 use lib.Dec.{eqb}
 use Rattle.fields.specs.Fields.{checkOf}
 use Rattle.fields.specs.Tags.{lastTag}
 use Rattle.fields.specs.Values.{valueOf, Values, valuesOf}
-use Rattle.refusals.specs.Refusals.{refusal, noRefusal, tagMissing, outOfRange}
+use Rattle.map_form.specs.Written.{latitudeTag, longitudeTag}
+use Rattle.refusals.specs.Refusals.{refusal, noRefusal, tagMissing, outOfRange, bothForms}
 use Rattle.refusals.specs.declared.Refusal.{Refusal}
 use Rattle.unit.specs.Unit.{coordinatesOf}
 use Rattle.order.specs.declared.reading.Order.{Order}
 use Rattle.order.specs.declared.reading.Reading.{Reading}
 use Rattle.order.specs.declared.reading.Reading.the-variants.{Read, Refused}
-use Rattle.order.specs.Given.{dateIn, rowsIn, degreesIn, parametersIn, rulesIn, clockIn}
-use Rattle.order.specs.Ranges.{inRangeOf}
+use Rattle.order.specs.Given.{dateIn, rowsIn, coordinateIn, parametersIn, rulesIn, clockIn}
+use Rattle.order.specs.Ranges.{lookUp, inRangeOf}
 
 -- the refusal of the first of some tags that does not pass, by a number and the tag
 unfoldable pub firstFailing : ℕ → (ℕ → Bool) → List ℕ → Refusal
@@ -25,8 +26,18 @@ firstFailing number passes (tag ∷ rest) = cond (passes tag) (firstFailing numb
 abbrev pub required : List ℕ
 required = 1 ∷ 2 ∷ 3 ∷ 4 ∷ 5 ∷ 6 ∷ []
 
+-- request 7: "Either form keeps a coordinate from being missing"
+unfoldable pub isGivenOf : (ℕ → Bool) → ℕ → Bool
+isGivenOf has tag = lookUp tag ((4, has 4 || has latitudeTag) ∷ (5, has 5 || has longitudeTag) ∷ []) (has tag)
+
 unfoldable pub missingOf : (ℕ → Bool) → Refusal
-missingOf has = firstFailing tagMissing has required
+missingOf has = firstFailing tagMissing (isGivenOf has) required
+
+-- request 7: "Both forms for one coordinate are refused by 15, with 18 or 19 as place, latitude first"
+unfoldable pub bothFormsOf : (ℕ → Bool) → Refusal
+bothFormsOf has =
+    cond (has 4 && has latitudeTag) (refusal bothForms latitudeTag)
+    (cond (has 5 && has longitudeTag) (refusal bothForms longitudeTag) noRefusal)
 
 -- 5 is "value out of range, or a day the month lacks": every tag is asked
 unfoldable pub tagsFrom : ℕ → ℕ → List ℕ
@@ -43,7 +54,7 @@ orderOf v =
       town = v .part 1;
       date = dateIn (v .value 2);
       rows = rowsIn (v .value 3);
-      coordinates = coordinatesOf (degreesIn (v .value 4)) (degreesIn (v .value 5));
+      coordinates = coordinatesOf (coordinateIn v 4 latitudeTag) (coordinateIn v 5 longitudeTag);
       parameters = parametersIn v;
       rules = rulesIn v;
       clock = clockIn v;
@@ -54,11 +65,11 @@ unfoldable pub firstOf : List Refusal → Order → Reading
 firstOf [] order = Read order
 firstOf (r ∷ rest) order = cond (eqb (r .number) 0) (firstOf rest order) (Refused r)
 
--- the form of the fields (1, 2, 3), missing tags (4), ranges (5)
+-- the form of the fields (1, 2, 3), missing tags (4), both forms of a coordinate (15), "after missing tags and before ranges", ranges (5)
 unfoldable pub readingOf : List ℕ → Reading
 readingOf s =
     let v = valuesOf s in
-    firstOf (checkOf s ∷ missingOf (v .has) ∷ outOfRangeOf v ∷ []) (orderOf v)
+    firstOf (checkOf s ∷ missingOf (v .has) ∷ bothFormsOf (v .has) ∷ outOfRangeOf v ∷ []) (orderOf v)
 
 -- "The town's name is handed back as that part of the order itself, an empty part where the order is refused."
 abbrev pub townIn : List ℕ → Reading → List ℕ

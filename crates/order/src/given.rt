@@ -1,7 +1,7 @@
 // What each tag gives where its value is in range, and what stands for a missing one.
 ghost use mathlib.Core.Path.{_≡_};
 ghost use Rattle.fields.specs.Values.{valuesIn};
-ghost use Rattle.order.specs.Given.{dateIn, rowsIn, degreesIn, minutesIn, byteOr, degreesOr, roundingOr, minutesOr, intervalOr, parametersIn, rulesIn, clockIn};
+ghost use Rattle.order.specs.Given.{dateIn, rowsIn, degreesIn, formIn, coordinateIn, minutesIn, byteOr, degreesOr, roundingOr, minutesOr, intervalOr, parametersIn, rulesIn, clockIn};
 use calendar::dates::Date;
 use fields::numbers::byte;
 use fields::numbers::float;
@@ -9,6 +9,8 @@ use fields::numbers::signed;
 use fields::numbers::unsigned;
 use fields::values::Fields;
 use fields::values::value;
+use map_form::MapForm;
+use map_form::reading::degrees_of;
 use models::adjustments::TimeAdjustment;
 use models::high_altitude_rule::HighLatitudeRule;
 use models::madhab::Madhab;
@@ -41,6 +43,30 @@ pub fn degrees_in(bytes: &[u8]) -> f64
 {
     let x = float(bytes);
     if x == 0.0 { 0.0 } else { x }
+}
+
+// Sign, degrees, minutes, seconds and hundredths, as on the map.
+pub fn form_in(bytes: &[u8]) -> MapForm
+    ensures { λ r. ⌜ r ≡ formIn (now (bytes .entry)) ⌝ }
+{
+    MapForm {
+        sign: byte(bytes, 0),
+        degrees: byte(bytes, 1),
+        minutes: byte(bytes, 2),
+        seconds: byte(bytes, 3),
+        hundredths: byte(bytes, 4),
+    }
+}
+
+// What either form of a coordinate gives: the float of the one tag, or the form on the map of the other.
+pub fn coordinate_in(order: &[u8], fields: Fields, float: u32, map: u32) -> f64
+    ensures { λ r. ⌜ r ≡ coordinateIn (valuesIn (now (order .entry)) fields) float map ⌝ }
+{
+    if fields.has(map) {
+        degrees_of(form_in(value(order, fields, map)))
+    } else {
+        degrees_in(value(order, fields, float))
+    }
 }
 
 pub fn minutes_in(bytes: &[u8]) -> TimeAdjustment

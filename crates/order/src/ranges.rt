@@ -4,6 +4,7 @@ ghost use Rattle.fields.specs.Values.{valuesIn};
 ghost use Rattle.order.specs.Ranges.{textFits, dateFits, mostIn, rowsFit, degreesFit, minuteFits, minutesFit, intervalFits, clockFits, fitsOf, inRangeOf};
 use super::given::date_in;
 use super::given::degrees_in;
+use super::given::form_in;
 use super::given::minutes_in;
 use super::given::rows_in;
 use super::reading::MOST_ROWS;
@@ -14,6 +15,8 @@ use fields::numbers::unsigned;
 use fields::tags::choice_fits;
 use fields::values::Fields;
 use fields::values::value;
+use map_form::reading::latitude_fits;
+use map_form::reading::longitude_fits;
 use models::adjustments::TimeAdjustment;
 
 const FIRST_YEAR: u32 = 1900;
@@ -119,6 +122,8 @@ fn fits(order: &[u8], fields: Fields, tag: u32) -> bool
         13 => degrees_fit(bytes, 0.0, 30.0),
         14 => interval_fits(bytes),
         16 => clock_fits(bytes),
+        18 => latitude_fits(form_in(bytes)),
+        19 => longitude_fits(form_in(bytes)),
         _ => choice_fits(tag, byte(bytes, 0)),
     }
 }

@@ -1,10 +1,10 @@
-// Reading an order: the form of its fields, then missing tags, then ranges, and then the record.
+// Reading an order: the form of its fields, then missing tags, then coordinates in both forms, then ranges, and then the record.
 ghost use mathlib.Core.Path.{_≡_};
 ghost use Rattle.fields.specs.Values.{hasIn, valuesIn};
-ghost use Rattle.order.specs.Reading.{missingOf, outOfRangeOf, orderOf, readingOf, townOf};
+ghost use Rattle.order.specs.Reading.{isGivenOf, missingOf, bothFormsOf, outOfRangeOf, orderOf, readingOf, townOf};
 use super::given::clock_in;
+use super::given::coordinate_in;
 use super::given::date_in;
-use super::given::degrees_in;
 use super::given::parameters_in;
 use super::given::rows_in;
 use super::given::rules_in;
@@ -16,8 +16,11 @@ use fields::values::Part;
 use fields::values::bytes;
 use fields::values::fields_of;
 use fields::values::value;
+use map_form::LATITUDE;
+use map_form::LONGITUDE;
 use models::parameters::Parameters;
 use models::rules::Rules;
+use refusals::BOTH_FORMS;
 use refusals::OUT_OF_RANGE;
 use refusals::Refusal;
 use refusals::TAG_MISSING;
@@ -46,6 +49,17 @@ pub enum Reading {
     Refused(Refusal),
 }
 
+// Either form keeps a coordinate from being missing.
+fn is_given(fields: Fields, tag: u32) -> bool
+    ensures { λ r. ⌜ r ≡ isGivenOf (hasIn fields) tag ⌝ }
+{
+    match tag {
+        4 => fields.has(4) | fields.has(LATITUDE),
+        5 => fields.has(5) | fields.has(LONGITUDE),
+        _ => fields.has(tag),
+    }
+}
+
 // By the lowest tag that is missing and may not be.
 fn missing(fields: Fields) -> Refusal
     ensures { λ r. ⌜ r ≡ missingOf (hasIn fields) ⌝ }
@@ -53,10 +67,23 @@ fn missing(fields: Fields) -> Refusal
     let mut i = 0;
     while i < 6 {
         let tag = REQUIRED[i];
-        if !fields.has(tag) {
+        if !is_given(fields, tag) {
             return Refusal::new(TAG_MISSING, tag);
         }
         i = i + 1;
+    }
+    Refusal::none()
+}
+
+// By the first coordinate that stands in both forms, whatever they say.
+fn both_forms(fields: Fields) -> Refusal
+    ensures { λ r. ⌜ r ≡ bothFormsOf (hasIn fields) ⌝ }
+{
+    if fields.has(4) & fields.has(LATITUDE) {
+        return Refusal::new(BOTH_FORMS, LATITUDE);
+    }
+    if fields.has(5) & fields.has(LONGITUDE) {
+        return Refusal::new(BOTH_FORMS, LONGITUDE);
     }
     Refusal::none()
 }
@@ -84,8 +111,8 @@ fn record_in(order: &[u8], fields: Fields) -> Order
         date: date_in(value(order, fields, 2)),
         rows: rows_in(value(order, fields, 3)),
         coordinates: Coordinates::new(
-            degrees_in(value(order, fields, 4)),
-            degrees_in(value(order, fields, 5)),
+            coordinate_in(order, fields, 4, LATITUDE),
+            coordinate_in(order, fields, 5, LONGITUDE),
         ),
         parameters: parameters_in(order, fields),
         rules: rules_in(order, fields),
@@ -103,9 +130,13 @@ pub fn read(order: &[u8]) -> Reading
     }
     let fields = checked.fields;
     let lacking = missing(fields);
+    let doubled = both_forms(fields);
     let outside = out_of_range(order, fields);
     if lacking.number != 0 {
         return Reading::Refused(lacking);
+    }
+    if doubled.number != 0 {
+        return Reading::Refused(doubled);
     }
     if outside.number != 0 {
         return Reading::Refused(outside);

@@ -12,7 +12,7 @@ use Rattle.fields.specs.Tags.{lastTag}
 use Rattle.fields.specs.Values.{Values, valuesOf}
 use Rattle.order.specs.Given.{dateIn, rowsIn}
 use Rattle.order.specs.Ranges.{rowsFit, lookUp, fitsOf, inRangeOf}
-use Rattle.order.specs.Reading.{firstFailing, missingOf, tagsFrom, outOfRangeOf, orderOf, firstOf, readingOf, townOf}
+use Rattle.order.specs.Reading.{firstFailing, missingOf, bothFormsOf, tagsFrom, outOfRangeOf, orderOf, firstOf, readingOf, townOf}
 use Rattle.order.specs.declared.reading.Order.{Order}
 use Rattle.order.specs.declared.reading.Reading.the-variants.{Read}
 use Rattle.order.proofs.ReadingLaws.{passed-on}
@@ -70,11 +70,12 @@ read-as-before s order e =
     let v = valuesOf s in
     let ranges = firstFailing 5 (formerInRange v) (tagsFrom lastTag 1) in
     let former = withRows (orderOf v) (formerRowsIn (v .value 3)) in
-    let a = passed-on (checkOf s) (missingOf (v .has) ∷ ranges ∷ []) former order e in
-    let b = passed-on (missingOf (v .has)) (ranges ∷ []) former order (a .1) in
-    let c = passed-on ranges [] former order (b .1) in
+    let a = passed-on (checkOf s) (missingOf (v .has) ∷ bothFormsOf (v .has) ∷ ranges ∷ []) former order e in
+    let b = passed-on (missingOf (v .has)) (bothFormsOf (v .has) ∷ ranges ∷ []) former order (a .1) in
+    let d = passed-on (bothFormsOf (v .has)) (ranges ∷ []) former order (b .1) in
+    let c = passed-on ranges [] former order (d .1) in
     let same : Read former ≡ Read order = c .1 in
-    simp (eq-eqb _ _ (a .0), eq-eqb _ _ (b .0), eq-eqb _ _ (none-fails v (c .0)))
+    simp (eq-eqb _ _ (a .0), eq-eqb _ _ (b .0), eq-eqb _ _ (d .0), eq-eqb _ _ (none-fails v (c .0)))
     (ap Read (sym (with-its-own v) ∙ ap (withRows (orderOf v)) (same-rows v (c .0))) ∙ same)
 
 pub accepted-before-is-read-as-before : AcceptedBeforeIsReadAsBefore

@@ -3,3 +3,4 @@ pub mod Witness
 pub mod MinutesLaws
 pub mod PrintedLaws
 pub mod FormerRowsLaws
+pub mod EitherFormLaws

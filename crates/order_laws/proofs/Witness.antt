@@ -1,5 +1,5 @@
 -- Two orders of which demand 3 speaks, so that its hypothesis can be met: town P, 2026-06-21, one row, 10.0, 20.0, method 0; the second with a
--- minute more for Fajr.
+-- minute more for Fajr, and with its place as on the map, 10 degrees north and 20 degrees east.
 use mathlib.Core.Path.{refl}
 use mathlib.Core.List.{List, [], _∷_, _++_}
 use Prim.Native.Nat.{ℕ}
@@ -15,23 +15,28 @@ use Rattle.fields.specs.Numbers.{unsignedOf, signedOf, joinedOf, bitsOf, floatO
 use Rattle.fields.specs.Tags.{lengthFits, choiceFits}
 use Rattle.fields.specs.Fields.{lengthAt, firstBefore, valueFaultOf, faultOf, walkOf, checkOf}
 use Rattle.fields.specs.Values.{offsetOf, hasOf, valueOf, startOf, valuesOf}
+use Rattle.map_form.specs.Hundredths.{degreesOf, formFits}
 use Rattle.models.specs.declared.prayer.Prayer.{Prayer}
 use Rattle.models.specs.declared.prayer.Prayer.the-variants.{Fajr, Sunrise, Dhuhr, Asr, Maghrib, Isha, Qiyam, FajrTomorrow}
 use Rattle.models.specs.Numbers.{methodOf}
 use Rattle.models.specs.Presets.{preset, presetOf}
 use Rattle.models.specs.Settings.{minutesFor, timeAdjustmentsOf}
-use Rattle.order.specs.Given.{dateIn, rowsIn, degreesIn, minutesIn, byteOr, degreesOr, roundingOr, minutesOr, intervalOr, parametersIn, rulesIn, clockIn}
+use Rattle.order.specs.Given.{dateIn, rowsIn, degreesIn, formIn, coordinateIn, minutesIn, byteOr, degreesOr, roundingOr, minutesOr, intervalOr, parametersIn, rulesIn, clockIn}
 use Rattle.order.specs.Ranges.{textFits, rowsFit, minuteFits, minutesFit, intervalFits, lookUp, fitsOf, inRangeOf}
-use Rattle.order.specs.Reading.{firstFailing, missingOf, tagsFrom, outOfRangeOf, orderOf, firstOf, readingOf, townOf}
+use Rattle.order.specs.Reading.{firstFailing, isGivenOf, missingOf, bothFormsOf, tagsFrom, outOfRangeOf, orderOf, firstOf, readingOf, townOf}
 use Rattle.order_laws.specs.Minutes.{LaterOrder}
+
+abbrev begun : List ℕ
+begun = (1 ∷ 0 ∷ 1 ∷ 80 ∷ []) ++ (2 ∷ 0 ∷ 4 ∷ 7 ∷ 234 ∷ 6 ∷ 21 ∷ []) ++ (3 ∷ 0 ∷ 1 ∷ 1 ∷ [])
 
 abbrev earlier : List ℕ
 earlier =
-    (1 ∷ 0 ∷ 1 ∷ 80 ∷ []) ++ (2 ∷ 0 ∷ 4 ∷ 7 ∷ 234 ∷ 6 ∷ 21 ∷ []) ++ (3 ∷ 0 ∷ 1 ∷ 1 ∷ [])
-    ++ (4 ∷ 0 ∷ 8 ∷ 64 ∷ 36 ∷ replicate 6 0) ++ (5 ∷ 0 ∷ 8 ∷ 64 ∷ 52 ∷ replicate 6 0) ++ (6 ∷ 0 ∷ 1 ∷ 0 ∷ [])
+    begun ++ (4 ∷ 0 ∷ 8 ∷ 64 ∷ 36 ∷ replicate 6 0) ++ (5 ∷ 0 ∷ 8 ∷ 64 ∷ 52 ∷ replicate 6 0) ++ (6 ∷ 0 ∷ 1 ∷ 0 ∷ [])
 
 abbrev later : List ℕ
-later = earlier ++ (11 ∷ 0 ∷ 12 ∷ 0 ∷ 1 ∷ replicate 10 0)
+later =
+    begun ++ (18 ∷ 0 ∷ 5 ∷ 0 ∷ 10 ∷ replicate 3 0) ++ (19 ∷ 0 ∷ 5 ∷ 0 ∷ 20 ∷ replicate 3 0) ++ (6 ∷ 0 ∷ 1 ∷ 0 ∷ [])
+    ++ (11 ∷ 0 ∷ 12 ∷ 0 ∷ 1 ∷ replicate 10 0)
 
 more-minutes : (prayer : Prayer) → timeAdjustmentsOf (orderOf (valuesOf earlier) .parameters) prayer ≼ timeAdjustmentsOf (orderOf (valuesOf later) .parameters) prayer
 unfolding hasOf offsetOf firstBefore lengthAt unsignedOf valueOf signedOf minutesIn minutesOr byteOr degreesOr roundingOr intervalOr parametersIn orderOf timeAdjustmentsOf preset presetOf methodOf minutesFor
@@ -45,7 +50,7 @@ more-minutes Qiyam = lit≤ tt
 more-minutes FajrTomorrow = lit≤ tt
 
 pub can-be-met : LaterOrder earlier later
-unfolding readingOf firstOf checkOf walkOf faultOf valueFaultOf firstBefore lengthAt unsignedOf lengthFits choiceFits offsetOf hasOf valueOf startOf missingOf firstFailing tagsFrom outOfRangeOf inRangeOf fitsOf lookUp textFits rowsFit minuteFits minutesFit intervalFits dateIn rowsIn degreesIn minutesIn byteOr degreesOr roundingOr minutesOr intervalOr parametersIn rulesIn clockIn orderOf townOf signedOf joinedOf bitsOf floatOf timeAdjustmentsOf existsOf leapOf lengthOf daysBeforeOf ordinalOf countBelow monthOf ofOrdinalOf daysBeforeYearOf dayNumberOf lastBy yearOf dateAtOf dateOfDayOf heldOf fromOf le neg ofBits round dec
+unfolding readingOf firstOf isGivenOf bothFormsOf formIn coordinateIn formFits degreesOf checkOf walkOf faultOf valueFaultOf firstBefore lengthAt unsignedOf lengthFits choiceFits offsetOf hasOf valueOf startOf missingOf firstFailing tagsFrom outOfRangeOf inRangeOf fitsOf lookUp textFits rowsFit minuteFits minutesFit intervalFits dateIn rowsIn degreesIn minutesIn byteOr degreesOr roundingOr minutesOr intervalOr parametersIn rulesIn clockIn orderOf townOf signedOf joinedOf bitsOf floatOf timeAdjustmentsOf existsOf leapOf lengthOf daysBeforeOf ordinalOf countBelow monthOf ofOrdinalOf daysBeforeYearOf dayNumberOf lastBy yearOf dateAtOf dateOfDayOf heldOf fromOf le neg ofBits round dec
 can-be-met =
     record {
       first = orderOf (valuesOf earlier);

@@ -15,7 +15,7 @@ use Rattle.fields.specs.Tags.{lastTag}
 use Rattle.fields.specs.Values.{valueOf, Values, valuesOf}
 use Rattle.order.specs.Given.{dateIn}
 use Rattle.order.specs.Ranges.{between, inRangeOf}
-use Rattle.order.specs.Reading.{firstFailing, missingOf, tagsFrom, orderOf, firstOf, readingOf}
+use Rattle.order.specs.Reading.{firstFailing, missingOf, bothFormsOf, tagsFrom, orderOf, firstOf, readingOf}
 use Rattle.order.specs.declared.reading.Order.{Order}
 use Rattle.order.specs.declared.reading.Reading.{Reading}
 use Rattle.order.specs.declared.reading.Reading.the-variants.{Read}
@@ -49,7 +49,7 @@ unfoldable pub formerReadingOf : List ℕ → Reading
 formerReadingOf s =
     let v = valuesOf s in
     firstOf
-    (checkOf s ∷ missingOf (v .has) ∷ firstFailing outOfRange (formerInRange v) (tagsFrom lastTag 1) ∷ [])
+    (checkOf s ∷ missingOf (v .has) ∷ bothFormsOf (v .has) ∷ firstFailing outOfRange (formerInRange v) (tagsFrom lastTag 1) ∷ [])
     (withRows (orderOf v) (formerRowsIn (v .value 3)))
 
 pub record ReadAsBefore (s : List ℕ) (order : Order) : Type 0 where

@@ -1,3 +1,4 @@
 pub mod Printed
 pub mod Minutes
 pub mod FormerRows
+pub mod EitherForm

@@ -64,6 +64,10 @@ logOutOfTurn = 13
 abbrev pub logCountOutside : ℕ
 logCountOutside = 14
 
+-- request 7: "Both forms for one coordinate"; "18 or 19"
+abbrev pub bothForms : ℕ
+bothForms = 15
+
 -- request 10: "by 16 when 16 jobs wait"; the id
 abbrev pub queueFull : ℕ
 queueFull = 16
@@ -77,4 +81,4 @@ abbrev pub numbers : List ℕ
 numbers =
     fieldCut ∷ fieldUnknown ∷ fieldAgain ∷ tagMissing ∷ outOfRange ∷ noTransit ∷ noSunrise
     ∷ noSunset ∷ bufferShort ∷ instantBeyond ∷ noneInForce ∷ logSecondShort
-    ∷ logOutOfTurn ∷ logCountOutside ∷ queueFull ∷ jobUnfit ∷ []
+    ∷ logOutOfTurn ∷ logCountOutside ∷ bothForms ∷ queueFull ∷ jobUnfit ∷ []

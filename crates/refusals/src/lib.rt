@@ -42,6 +42,9 @@ pub const LOG_OUT_OF_TURN: u32 = 13;
 // The embosser's count at a restart is not between the log's finished and sent pages: the count.
 pub const LOG_COUNT_OUTSIDE: u32 = 14;
 
+// A coordinate is given both in degrees and as on the map: the tag of the second.
+pub const BOTH_FORMS: u32 = 15;
+
 // 16 jobs wait in the print queue: the id of the job that would join.
 pub const QUEUE_FULL: u32 = 16;
 

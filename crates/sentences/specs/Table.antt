@@ -25,7 +25,7 @@ texts =
     ∷ ascii "Refusal 12: the log's second buffer is too short, page or count"
     ∷ ascii "Refusal 13: a record of the log is out of turn, page"
     ∷ ascii "Refusal 14: the embosser's count does not fit the log, count"
-    ∷ []
+    ∷ ascii "Refusal 15: a coordinate is given in both forms:"
     ∷ ascii "Refusal 16: the print queue is full, job id"
     ∷ ascii "Refusal 17: the job's id or its pages are not allowed, job id"
     ∷ []
@@ -51,6 +51,8 @@ names =
     ∷ ascii " carry, tag"
     ∷ ascii " clock, tag"
     ∷ ascii " southern, tag"
+    ∷ ascii " map latitude, tag"
+    ∷ ascii " map longitude, tag"
     ∷ []
 
 unfoldable pub textOf : ℕ → List ℕ

@@ -6,7 +6,7 @@ ghost use Rattle.sentences.specs.Rows.{filled, endOf};
 // One more than the last number, and than the last tag.
 const NUMBERS: usize = 18;
 
-const TAGS: usize = 18;
+const TAGS: usize = 20;
 
 const TEXTS: [[u8; 64]; NUMBERS] = [
     *b"                                                                ",
@@ -24,7 +24,7 @@ const TEXTS: [[u8; 64]; NUMBERS] = [
     *b"Refusal 12: the log's second buffer is too short, page or count ",
     *b"Refusal 13: a record of the log is out of turn, page            ",
     *b"Refusal 14: the embosser's count does not fit the log, count    ",
-    *b"                                                                ",
+    *b"Refusal 15: a coordinate is given in both forms:                ",
     *b"Refusal 16: the print queue is full, job id                     ",
     *b"Refusal 17: the job's id or its pages are not allowed, job id   ",
 ];
@@ -48,6 +48,8 @@ const NAMES: [[u8; 64]; TAGS] = [
     *b" carry, tag                                                     ",
     *b" clock, tag                                                     ",
     *b" southern, tag                                                  ",
+    *b" map latitude, tag                                              ",
+    *b" map longitude, tag                                             ",
 ];
 
 // A number's text; blanks alone for a number that is not known.

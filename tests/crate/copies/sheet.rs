@@ -30,6 +30,14 @@ fn float(value: &Vec<u8>) -> f64 {
     f64::from_be_bytes(value[..].try_into().unwrap())
 }
 
+/// A coordinate as a float, or as on the map.
+fn coordinate(fields: &Fields, tag: u8, map: u8) -> f64 {
+    let Some(value) = fields.get(&map) else { return float(&fields[&tag]) };
+    let [sign, degrees, minutes, seconds, hundredths] = value[..].try_into().map(|parts: [u8; 5]| parts.map(i32::from)).unwrap();
+    let count = degrees * 360_000 + minutes * 6_000 + seconds * 100 + hundredths;
+    (if sign == 1 { -count } else { count }) as f64 / 360_000.0
+}
+
 fn signed(value: &[u8]) -> i64 {
     i16::from_be_bytes([value[0], value[1]]) as i64
 }
@@ -88,7 +96,7 @@ fn main() {
     let mut order = Vec::new();
     std::io::stdin().read_to_end(&mut order).unwrap();
     let fields = fields(&order);
-    let (place, parameters) = (Coordinates::new(float(&fields[&4]), float(&fields[&5])), parameters(&fields));
+    let (place, parameters) = (Coordinates::new(coordinate(&fields, 4, 18), coordinate(&fields, 5, 19)), parameters(&fields));
     let first = &fields[&2];
     let first = NaiveDate::from_ymd_opt(signed(first) as i32, first[2] as u32, first[3] as u32).unwrap();
     println!("{}", std::str::from_utf8(&fields[&1]).unwrap());

@@ -2,18 +2,18 @@
 //! reading decides, not the damage.
 use crate::draw::Draw;
 use crate::order_draw::{date_value, last_date, written, Field};
-use crate::order_read::{lengths, read, LAST_TAG, LONGEST};
+use crate::order_read::{lengths, read, FORMS, LAST_TAG, LONGEST};
 use chrono::{Datelike, Duration};
 
 /// The kinds of orders, a line of the table each.
-pub const KINDS: [&str; 14] = [
+pub const KINDS: [&str; 15] = [
     "good", "unknown tag", "wrong length", "tag twice", "tag missing", "just out of range", "NaN or infinite", "no such date",
-    "last row past the end", "cut", "1,024 bytes or over", "random bytes", "one byte changed", "two defects",
+    "last row past the end", "both forms", "cut", "1,024 bytes or over", "random bytes", "one byte changed", "two defects",
 ];
 
 /// From this kind on the bytes are damaged, before it the fields.
-const OF_BYTES: usize = 9;
-const TWO_DEFECTS: usize = 13;
+const OF_BYTES: usize = 10;
+const TWO_DEFECTS: usize = 14;
 
 const FLOATS: [u8; 4] = [4, 5, 12, 13];
 
@@ -81,13 +81,17 @@ impl Draw {
     fn tag_missing(&mut self, fields: &mut Vec<Field>) {
         for _ in 0..1 + self.below(2) {
             let tag = 1 + self.below(6) as u8;
-            fields.retain(|field| field.tag != tag);
+            let other = FORMS.iter().find(|form| form.0 == tag).map_or(tag, |form| form.1);
+            fields.retain(|field| field.tag != tag && field.tag != other);
         }
     }
 
     /// What lies just out of each range; the ends themselves are in good orders.
     fn just_out(&mut self, fields: &mut Vec<Field>) {
-        let tag = [1, 3, 4, 5, 6, 7, 8, 9, 10, 11, 12, 13, 14, 15, 16, 17][self.index(16)];
+        let tag = [1, 3, 4, 5, 6, 7, 8, 9, 10, 11, 12, 13, 14, 15, 16, 17, 18, 19][self.index(18)];
+        // a coordinate in this form alone
+        let other = FORMS.iter().find_map(|form| if form.0 == tag { Some(form.1) } else if form.1 == tag { Some(form.0) } else { None });
+        fields.retain(|field| Some(field.tag) != other);
         let field = match tag {
             1 => Field::new(tag, &self.town_out()),
             3 if self.coin() => Field::new(tag, &[[0, 251, 255][self.index(3)]]),
@@ -100,6 +104,7 @@ impl Draw {
             11 => Field::new(tag, &self.minutes_out()),
             15 | 17 => Field::new(tag, &[[2, 255][self.index(2)]]),
             16 => Field::new(tag, &[841i16, -841, i16::MAX, i16::MIN][self.index(4)].to_be_bytes()),
+            18 | 19 => Field::new(tag, &self.map_out(if tag == 18 { 90 } else { 180 })),
             14 => Field::new(tag, &[1_441u16, 1_440 + 256, 65_535][self.index(3)].to_be_bytes()),
             _ => Field::new(tag, &[beyond(30.0), -5e-324, 30.1][self.index(3)].to_be_bytes()),
         };
@@ -111,6 +116,10 @@ impl Draw {
         let at = self.index(town.len());
         town[at] = [31, 127, 0, 255, 128, 10][self.index(6)];
         town
+    }
+
+    fn map_out(&mut self, most: u8) -> [u8; 5] {
+        [[2, 0, 0, 0, 0], [0, most, 0, 0, 1], [1, most + 1, 0, 0, 0], [0, 0, 60, 0, 0], [1, 0, 0, 60, 0], [0, 0, 0, 0, 100], [255; 5]][self.index(7)]
     }
 
     fn minutes_out(&mut self) -> Vec<u8> {
@@ -155,6 +164,18 @@ impl Draw {
         put(fields, Field::new(3, &self.rows_value(rows)));
     }
 
+    /// A coordinate in its other form too, whatever stands there.
+    fn both_forms(&mut self, fields: &mut Vec<Field>) {
+        for (float, map) in FORMS {
+            if self.coin() {
+                let tag = if fields.iter().any(|field| field.tag == map) { float } else { map };
+                let length = *lengths(tag).unwrap().start();
+                let field = Field::new(tag, &self.some_bytes(length));
+                insert(self, fields, field);
+            }
+        }
+    }
+
     fn damage_fields(&mut self, kind: usize, fields: &mut Vec<Field>) {
         match kind {
             1 => self.unknown_tag(fields),
@@ -164,7 +185,8 @@ impl Draw {
             5 => self.just_out(fields),
             6 => self.no_number(fields),
             7 => self.no_date(fields),
-            _ => self.past_the_end(fields),
+            8 => self.past_the_end(fields),
+            _ => self.both_forms(fields),
         }
     }
 
@@ -220,9 +242,9 @@ impl Draw {
 
     fn damage_bytes(&mut self, kind: usize, fields: &[Field]) -> Vec<u8> {
         match kind {
-            9 => self.cut(fields),
-            10 => self.long(written(fields)),
-            11 => self.random(),
+            10 => self.cut(fields),
+            11 => self.long(written(fields)),
+            12 => self.random(),
             _ => self.one_byte(written(fields)),
         }
     }

@@ -1,7 +1,7 @@
 //! The orders that are compared: good ones here, damaged ones in order_damage.rs; the same for the same seed.
 use crate::day_draw::{NaiveDate, METHODS};
 use crate::draw::Draw;
-use crate::order_read::{lengths, LAST_TAG};
+use crate::order_read::{lengths, FORMS};
 use chrono::{Datelike, Duration};
 
 /// A field as it is written; the length is free of the value's, so that a damaged order can lie.
@@ -82,7 +82,17 @@ impl Draw {
         if self.below(8) == 0 { -0.0 } else { self.angle(&[brought]) }
     }
 
-    /// The fields that an order must have, by rising tag.
+    /// A coordinate as a float, or as the hundredth next to it on the map.
+    fn coordinate(&mut self, (float, map): (u8, u8), degrees: f64) -> Field {
+        if self.coin() {
+            return Field::new(float, &degrees.to_be_bytes());
+        }
+        let count = (degrees.abs() * 360_000.0).round() as u32;
+        let parts = [degrees.is_sign_negative() as u32, count / 360_000, count / 6_000 % 60, count / 100 % 60, count % 100];
+        Field::new(map, &parts.map(|part| part as u8))
+    }
+
+    /// The fields that an order must have, a coordinate in either form.
     fn must_have(&mut self, method: usize) -> Vec<Field> {
         let (town, (date, rows)) = (self.town(), self.dates());
         let place = self.case_on(date);
@@ -90,13 +100,13 @@ impl Draw {
             Field::new(1, &town),
             Field::new(2, &date_value(date.year(), date.month(), date.day())),
             Field::new(3, &self.rows_value(rows)),
-            Field::new(4, &place.latitude.to_be_bytes()),
-            Field::new(5, &place.longitude.to_be_bytes()),
+            self.coordinate(FORMS[0], place.latitude),
+            self.coordinate(FORMS[1], place.longitude),
             Field::new(6, &[method as u8]),
         ]
     }
 
-    /// A good field of a tag that an order may leave out, from 7 on. Those that choose another rule than the crate's choose the crate's.
+    /// A good field of a tag that an order may leave out, from 7 to 17. Those that choose another rule than the crate's choose the crate's.
     pub fn may_have(&mut self, tag: u8, method: usize) -> Field {
         let brought = METHODS[method].parameters();
         match tag {
@@ -123,7 +133,7 @@ impl Draw {
         let mut fields = self.must_have(method);
         // none of them, all of them, or each by a coin
         let (some, all) = (self.below(8) > 0, self.below(8) == 0);
-        for tag in (7..=LAST_TAG).filter(|tag| lengths(*tag).is_some()) {
+        for tag in (7..=17).filter(|tag| lengths(*tag).is_some()) {
             let field = self.may_have(tag, method);
             if all || some && self.coin() {
                 fields.push(field);

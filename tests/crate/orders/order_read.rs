@@ -4,9 +4,12 @@ use crate::day_draw::{NaiveDate, Settings, METHODS};
 use chrono::{Datelike, Duration};
 use std::ops::{Range, RangeInclusive};
 
+/// The tags of a coordinate as a float and as on the map.
+pub const FORMS: [(u8, u8); 2] = [(4, 18), (5, 19)];
+
 /// Over this an order is refused unread.
 pub const LONGEST: usize = 1_024;
-pub const LAST_TAG: u8 = 17;
+pub const LAST_TAG: u8 = 19;
 
 /// What an order asks for. The tags that a method answers for where they are missing are none then.
 #[derive(Debug)]
@@ -73,6 +76,7 @@ pub fn lengths(tag: u8) -> Option<RangeInclusive<usize>> {
         4 | 5 | 12 | 13 => Some(8..=8),
         11 => Some(12..=12),
         14 | 16 => Some(2..=2),
+        18 | 19 => Some(5..=5),
         _ => None,
     }
 }
@@ -190,15 +194,26 @@ impl Whole<'_> {
         Ok(clock)
     }
 
-    /// The ranges by rising tag, which is the order in which a struct's fields are worked out.
+    /// Sign, degrees, minutes, seconds and hundredths. Both whole numbers are exact as floats, so that the quotient is rounded once.
+    fn on_map(&self, tag: u8, most: u32) -> Result<Option<f64>, Refusal> {
+        let Some(&[sign, degrees, minutes, seconds, hundredths]) = self.bytes(tag) else { return Ok(None) };
+        let count = degrees as u32 * 360_000 + minutes as u32 * 6_000 + seconds as u32 * 100 + hundredths as u32;
+        if sign > 1 || minutes > 59 || seconds > 59 || hundredths > 99 || count > most * 360_000 {
+            return refused(5, tag as usize);
+        }
+        let size = count as f64 / 360_000.0;
+        Ok(Some(if sign == 1 && count > 0 { -size } else { size }))
+    }
+
+    /// The ranges by rising tag, which is the order in which a struct's fields are worked out; a coordinate as on the map stands last.
     fn ranges(&self) -> Result<Asked, Refusal> {
         let (town, date) = (self.town()?, self.date()?);
-        Ok(Asked {
+        let asked = Asked {
             town,
             date,
             rows: self.rows(date)?,
-            latitude: self.float(4, -90.0..=90.0)?.unwrap(),
-            longitude: self.float(5, -180.0..=180.0)?.unwrap(),
+            latitude: self.float(4, -90.0..=90.0)?.unwrap_or_default(),
+            longitude: self.float(5, -180.0..=180.0)?.unwrap_or_default(),
             method: self.byte(6, 0..=12)?.unwrap(),
             madhab: self.byte(7, 1..=2)?.unwrap_or(1),
             high_latitude_rule: self.byte(8, 0..=2)?.unwrap_or(0),
@@ -211,7 +226,10 @@ impl Whole<'_> {
             carry: self.byte(15, 0..=1)?.unwrap_or(0),
             clock: self.clock()?,
             southern: self.byte(17, 0..=1)?.unwrap_or(0),
-        })
+        };
+        let latitude = self.on_map(18, 90)?.unwrap_or(asked.latitude);
+        let longitude = self.on_map(19, 180)?.unwrap_or(asked.longitude);
+        Ok(Asked { latitude, longitude, ..asked })
     }
 }
 
@@ -220,9 +238,16 @@ pub fn read(order: &[u8]) -> Result<Asked, Refusal> {
         return refused(1, 0);
     }
     let values = fields(order)?;
+    let has = |tag: u8| values[tag as usize].is_some();
     for tag in 1..=6 {
-        if values[tag].is_none() {
-            return refused(4, tag);
+        let either = FORMS.iter().any(|&(float, map)| float == tag && has(map));
+        if !has(tag) && !either {
+            return refused(4, tag as usize);
+        }
+    }
+    for (float, map) in FORMS {
+        if has(float) && has(map) {
+            return refused(15, map as usize);
         }
     }
     Whole { order, values }.ranges()

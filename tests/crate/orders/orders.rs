@@ -24,6 +24,8 @@ const LINES: [&str; BUFFER + 1] = {
     (lines[REPLY], lines[BUFFER]) = ("written row's reply", "written row's buffer");
     lines
 };
+/// What reading an order can be refused by, and 0.
+const REFUSALS: [u32; 7] = [0, 1, 2, 3, 4, 5, 15];
 const NUMBER: usize = ORDER_FIELDS.len();
 const PLACE: usize = ORDER_FIELDS.len() + 1;
 const TIMES: usize = ORDER_FIELDS.len() + 2;
@@ -36,7 +38,7 @@ const BUFFER: usize = ORDER_FIELDS.len() + 7;
 pub struct Orders {
     counts: Counts<{ LINES.len() }>,
     /// Orders by kind and by the number that refuses them, 0 first.
-    kinds: [[u64; 6]; KINDS.len()],
+    kinds: [[u64; REFUSALS.len()]; KINDS.len()],
     /// Rows with nine times, rows that the order refuses or lacks, and days refused, by number and day.
     with_times: u64,
     no_row: u64,
@@ -54,7 +56,7 @@ impl Orders {
     fn new() -> Orders {
         Orders {
             counts: Counts::new(LINES),
-            kinds: [[0; 6]; KINDS.len()],
+            kinds: [[0; REFUSALS.len()]; KINDS.len()],
             with_times: 0,
             no_row: 0,
             refused: [[0; 3]; 3],
@@ -67,7 +69,7 @@ impl Orders {
         let (kind, bytes) = draw.order();
         let order = Order::new(&bytes);
         let owed = order.read_owed();
-        self.kinds[kind][owed.number as usize] += 1;
+        self.kinds[kind][REFUSALS.iter().position(|number| *number == owed.number).unwrap()] += 1;
         self.read(&order, owed);
         for row in draw.rows_of(&order) {
             let day = order.day(row);
@@ -156,10 +158,11 @@ impl Orders {
     }
 
     pub fn print(&self) {
-        println!("{:<24} {:>9}{:>9}{:>9}{:>9}{:>9}{:>9}", "orders by refusal", "read", 1, 2, 3, 4, 5);
-        let all = [0, 1, 2, 3, 4, 5].map(|number| self.kinds.iter().map(|kind| kind[number]).sum());
-        for (name, [read, one, two, three, four, five]) in KINDS.iter().zip(&self.kinds).chain([(&"all", &all)]) {
-            println!("{name:<24} {read:>9}{one:>9}{two:>9}{three:>9}{four:>9}{five:>9}");
+        println!("{:<24} {}  (0 is read)", "orders by refusal", REFUSALS.map(|number| format!("{number:>9}")).concat());
+        let mut all = [0; REFUSALS.len()];
+        self.kinds.iter().for_each(|kind| all.iter_mut().zip(kind).for_each(|(sum, count)| *sum += count));
+        for (name, counts) in KINDS.iter().zip(&self.kinds).chain([(&"all", &all)]) {
+            println!("{name:<24} {}", counts.map(|count| format!("{count:>9}")).concat());
         }
         let [six, seven, eight] = self.refused;
         println!("\nrows: {} with nine times, {} that the order refuses or lacks", self.with_times, self.no_row);

@@ -16,7 +16,7 @@ int main() {
                katchidul_write_cells(nullptr, 0, 0, line, sizeof line).number == KATCHIDUL_TAG_MISSING &&
                katchidul_write_page(nullptr, 0, 1, line, sizeof line).number == KATCHIDUL_BUFFER_SHORT &&
                katchidul_join(katchidul_queue(), 0, 1).number == KATCHIDUL_JOB_UNFIT && katchidul_turn(katchidul_queue()).id == 0 &&
-               katchidul_read_log(nullptr, 0, 0).number == 0 &&
+               katchidul_read_log(nullptr, 0, 0).number == 0 && katchidul_map_latitude(91.0).place == 18 && katchidul_map_longitude(91.0).degrees == 91 &&
                katchidul_restart(nullptr, 0, 0, 1, line, sizeof line).number == KATCHIDUL_LOG_COUNT_OUTSIDE &&
                katchidul_append(nullptr, 0, 0, KATCHIDUL_RECORD_SENT, 1, line, sizeof line).used == 2 * KATCHIDUL_RECORD_BYTES &&
                katchidul_write_sentence(KATCHIDUL_NO_SUNSET, 1, line, KATCHIDUL_SENTENCE_MAX).number == 0 &&

@@ -50,26 +50,36 @@ returns-10 c = simp (c .clock-fits .ensures, c .before .before .value .ensures, 
 
 returns-11 : tie.Need-returns-11
 unfolding fitsOf lookUp
-returns-11 c =
+returns-11 c = simp (c .latitude-fits .ensures, c .before .form-in .ensures, c .before .before .before .value .ensures, c .before .before .match .keys11)
+
+returns-12 : tie.Need-returns-12
+unfolding fitsOf lookUp
+returns-12 c = simp (c .longitude-fits .ensures, c .before .form-in2 .ensures, c .before .before .before .value .ensures, c .before .before .match .keys12)
+
+returns-13 : tie.Need-returns-13
+unfolding fitsOf lookUp
+returns-13 c =
     let m = c .before .before in
     let r = m .match .rest in
     simp (
       c .choice-fits .ensures,
       c .before .byte .ensures .0,
       m .before .value .ensures,
-      ne-eqb _ 1 (r .0 .0 .0 .0 .0 .0 .0 .0 .0 .1),
-      ne-eqb _ 2 (r .0 .0 .0 .0 .0 .0 .0 .0 .1),
-      ne-eqb _ 3 (r .0 .0 .0 .0 .0 .0 .0 .1),
-      ne-eqb _ 4 (r .0 .0 .0 .0 .0 .0 .1),
-      ne-eqb _ 5 (r .0 .0 .0 .0 .0 .1),
-      ne-eqb _ 11 (r .0 .0 .0 .0 .1),
-      ne-eqb _ 12 (r .0 .0 .0 .1),
-      ne-eqb _ 13 (r .0 .0 .1),
-      ne-eqb _ 14 (r .0 .1),
-      ne-eqb _ 16 (r .1),
+      ne-eqb _ 1 (r .0 .0 .0 .0 .0 .0 .0 .0 .0 .0 .0 .1),
+      ne-eqb _ 2 (r .0 .0 .0 .0 .0 .0 .0 .0 .0 .0 .1),
+      ne-eqb _ 3 (r .0 .0 .0 .0 .0 .0 .0 .0 .0 .1),
+      ne-eqb _ 4 (r .0 .0 .0 .0 .0 .0 .0 .0 .1),
+      ne-eqb _ 5 (r .0 .0 .0 .0 .0 .0 .0 .1),
+      ne-eqb _ 11 (r .0 .0 .0 .0 .0 .0 .1),
+      ne-eqb _ 12 (r .0 .0 .0 .0 .0 .1),
+      ne-eqb _ 13 (r .0 .0 .0 .0 .1),
+      ne-eqb _ 14 (r .0 .0 .0 .1),
+      ne-eqb _ 16 (r .0 .0 .1),
+      ne-eqb _ 18 (r .0 .1),
+      ne-eqb _ 19 (r .1),
     )
 
 pub fits-spec : {M : Type 1} → statement M
 fits-spec =
     tie.close
-    (tie.spec (λ c κs. tt) (λ c κs. tt) (λ c κs. tt) (λ c κs. tt) (λ c κs. tt) (λ c κs. tt) (λ c κs. tt) (λ c κs. tt) (λ c κs. tt) (λ c κs. tt) (λ c κs. tt) (λ c κs. tt) (λ c κs. tt) (λ c κs. tt) (λ c κs. tt) (λ c κs. tt) (λ c κs. tt) returns returns-2 returns-3 returns-4 returns-5 returns-6 returns-7 returns-8 returns-9 returns-10 returns-11)
+    (tie.spec (λ c κs. tt) (λ c κs. tt) (λ c κs. tt) (λ c κs. tt) (λ c κs. tt) (λ c κs. tt) (λ c κs. tt) (λ c κs. tt) (λ c κs. tt) (λ c κs. tt) (λ c κs. tt) (λ c κs. tt) (λ c κs. tt) (λ c κs. tt) (λ c κs. tt) (λ c κs. tt) (λ c κs. tt) (λ c κs. tt) (λ c κs. tt) (λ c κs. tt) (λ c κs. tt) returns returns-2 returns-3 returns-4 returns-5 returns-6 returns-7 returns-8 returns-9 returns-10 returns-11 returns-12 returns-13)

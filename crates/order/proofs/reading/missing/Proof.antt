@@ -6,13 +6,13 @@ use mathlib.Core.Path.{_≡_, refl, sym, _∙_}
 use borrow.Author.Tests.{not-true, not-false}
 use lib.ListN.{drop}
 use Rattle.fields.specs.Values.{hasIn}
-use Rattle.order.specs.Reading.{firstFailing, required, missingOf}
+use Rattle.order.specs.Reading.{firstFailing, required, isGivenOf, missingOf}
 use Rattle.order.proofs.Tags.{fails, on, none}
 use Rattle.order.proofs.reading.missing.Statement.{statement}
 use Rattle.order.proofs.reading.missing.Tie as tie
 
 abbrev Inv-loop : tie.InvT-loop
-Inv-loop fields i₀ i = (i ≤ 6) × (firstFailing 4 (hasIn fields) (drop i required) ≡ missingOf (hasIn fields))
+Inv-loop fields i₀ i = (i ≤ 6) × (firstFailing 4 (isGivenOf (hasIn fields)) (drop i required) ≡ missingOf (hasIn fields))
 
 abbrev μ-loop : tie.MeasureT-loop
 μ-loop fields i₀ i = 6 - i
@@ -25,18 +25,18 @@ returns : tie.Need-returns Inv-loop μ-loop
 returns c =
     let h = c .before .before in
     let l = h .before .before in
-    c .new .ensures ∙ sym (fails 4 (hasIn (l .before .args .fields)) required (l .loop .i) (h .before .loop-test .taken) _ refl (sym (h .has .ensures) ∙ not-true _ (c .before .if1 .taken))) ∙ l .loop .inv .1
+    c .new .ensures ∙ sym (fails 4 (isGivenOf (hasIn (l .before .args .fields))) required (l .loop .i) (h .before .loop-test .taken) _ refl (sym (h .is-given .ensures) ∙ not-true _ (c .before .if1 .taken))) ∙ l .loop .inv .1
 
 loop-again : tie.Need-loop-again Inv-loop μ-loop
 loop-again c =
     let h = c .before in
     let l = h .before .before in
-    (search needs, sym (on 4 (hasIn (l .before .args .fields)) required (l .loop .i) (h .before .loop-test .taken) _ refl (sym (h .has .ensures) ∙ not-false _ (c .if1 .left))) ∙ l .loop .inv .1)
+    (search needs, sym (on 4 (isGivenOf (hasIn (l .before .args .fields))) required (l .loop .i) (h .before .loop-test .taken) _ refl (sym (h .is-given .ensures) ∙ not-false _ (c .if1 .left))) ∙ l .loop .inv .1)
 
 returns-2 : tie.Need-returns-2 Inv-loop μ-loop
 returns-2 c =
     let l = c .before .before in
-    c .none .ensures ∙ sym (none 4 (hasIn (l .before .args .fields)) required (l .loop .i) (c .before .loop-test .left)) ∙ l .loop .inv .1
+    c .none .ensures ∙ sym (none 4 (isGivenOf (hasIn (l .before .args .fields))) required (l .loop .i) (c .before .loop-test .left)) ∙ l .loop .inv .1
 
 pub missing-spec : {M : Type 1} → statement M
 missing-spec =

@@ -11,7 +11,7 @@ use Rattle.fields.proofs.Collecting.{checked-refusal, checked-values, has-in}
 use Rattle.refusals.specs.declared.Refusal.{Refusal}
 use Rattle.order.specs.declared.reading.Order.{Order}
 use Rattle.order.specs.declared.reading.Reading.the-variants.{Read, Refused}
-use Rattle.order.specs.Reading.{missingOf, outOfRangeOf, orderOf, firstOf, readingOf}
+use Rattle.order.specs.Reading.{missingOf, bothFormsOf, outOfRangeOf, orderOf, firstOf, readingOf}
 use Rattle.order.proofs.reading.read.Statement.{statement}
 use Rattle.order.proofs.reading.read.Tie as tie
 
@@ -34,17 +34,26 @@ module _ (s : List ℕ) (checked : Checked) (is-checked : checked ≡ checkedOf 
     unfolding readingOf firstOf
     by-missing n = simp (broken, eq-eqb _ _ p, missed, ne-eqb _ _ n)
 
-    module _ (q : lacking .number ≡ 0) (outside : Refusal) (is-outside : outside ≡ outOfRangeOf (valuesIn s (checked .fields))) where
-      out : outOfRangeOf (valuesOf s) ≡ outside
-      out = sym (is-outside ∙ ap outOfRangeOf values)
+    module _ (q : lacking .number ≡ 0) (doubled : Refusal) (is-doubled : doubled ≡ bothFormsOf (hasIn (checked .fields))) where
+      both : bothFormsOf (hasOf s) ≡ doubled
+      both = sym (is-doubled ∙ ap bothFormsOf (has-in s (checked .fields)) ∙ ap (λ (v : Values). bothFormsOf (v .has)) values)
 
-      by-range : (outside .number ≡ 0 → ⊥) → Refused outside ≡ readingOf s
+      by-both : (doubled .number ≡ 0 → ⊥) → Refused doubled ≡ readingOf s
       unfolding readingOf firstOf
-      by-range n = simp (broken, eq-eqb _ _ p, missed, eq-eqb _ _ q, out, ne-eqb _ _ n)
+      by-both n = simp (broken, eq-eqb _ _ p, missed, eq-eqb _ _ q, both, ne-eqb _ _ n)
 
-      by-none : outside .number ≡ 0 → (order : Order) → order ≡ orderOf (valuesIn s (checked .fields)) → Read order ≡ readingOf s
-      unfolding readingOf firstOf
-      by-none r order is-order = simp (broken, eq-eqb _ _ p, missed, eq-eqb _ _ q, out, eq-eqb _ _ r) (ap Read (is-order ∙ ap orderOf values))
+      module _ (t : doubled .number ≡ 0) (outside : Refusal) (is-outside : outside ≡ outOfRangeOf (valuesIn s (checked .fields))) where
+        out : outOfRangeOf (valuesOf s) ≡ outside
+        out = sym (is-outside ∙ ap outOfRangeOf values)
+
+        by-range : (outside .number ≡ 0 → ⊥) → Refused outside ≡ readingOf s
+        unfolding readingOf firstOf
+        by-range n = simp (broken, eq-eqb _ _ p, missed, eq-eqb _ _ q, both, eq-eqb _ _ t, out, ne-eqb _ _ n)
+
+        by-none : outside .number ≡ 0 → (order : Order) → order ≡ orderOf (valuesIn s (checked .fields)) → Read order ≡ readingOf s
+        unfolding readingOf firstOf
+        by-none r order is-order =
+            simp (broken, eq-eqb _ _ p, missed, eq-eqb _ _ q, both, eq-eqb _ _ t, out, eq-eqb _ _ r) (ap Read (is-order ∙ ap orderOf values))
 
 returns : tie.Need-returns
 returns c =
@@ -53,7 +62,7 @@ returns c =
 
 returns-2 : tie.Need-returns-2
 returns-2 c =
-    let m = c .before .before .before in
+    let m = c .before .before .before .before in
     let p = m .before .before in
     let f = p .before .before .before in
     by-missing (now (f .before .before .args .order)) (f .fields-of .result) (f .fields-of .ensures) (p .if1 .left) (m .missing .result) (m .missing .ensures) (c .if2 .taken)
@@ -61,22 +70,35 @@ returns-2 c =
 returns-3 : tie.Need-returns-3
 returns-3 c =
     let q = c .before .before in
-    let r = q .before .before in
-    let m = r .before in
+    let d = q .before .before .before in
+    let m = d .before in
     let p = m .before .before in
     let f = p .before .before .before in
-    by-range (now (f .before .before .args .order)) (f .fields-of .result) (f .fields-of .ensures) (p .if1 .left) (m .missing .result) (m .missing .ensures) (q .if2 .left) (r .out-of-range .result) (r .out-of-range .ensures) (c .if3 .taken)
+    by-both (now (f .before .before .args .order)) (f .fields-of .result) (f .fields-of .ensures) (p .if1 .left) (m .missing .result) (m .missing .ensures) (q .if2 .left) (d .both-forms .result) (d .both-forms .ensures) (c .if3 .taken)
 
 returns-4 : tie.Need-returns-4
 returns-4 c =
-    let q = c .before .before .before in
+    let t = c .before .before in
+    let q = t .before .before in
     let r = q .before .before in
-    let m = r .before in
+    let d = r .before in
+    let m = d .before in
     let p = m .before .before in
     let f = p .before .before .before in
-    by-none (now (f .before .before .args .order)) (f .fields-of .result) (f .fields-of .ensures) (p .if1 .left) (m .missing .result) (m .missing .ensures) (q .if2 .left) (r .out-of-range .result) (r .out-of-range .ensures) (c .before .if3 .left) (c .record-in .result) (c .record-in .ensures)
+    by-range (now (f .before .before .args .order)) (f .fields-of .result) (f .fields-of .ensures) (p .if1 .left) (m .missing .result) (m .missing .ensures) (q .if2 .left) (d .both-forms .result) (d .both-forms .ensures) (t .if3 .left) (r .out-of-range .result) (r .out-of-range .ensures) (c .if4 .taken)
+
+returns-5 : tie.Need-returns-5
+returns-5 c =
+    let t = c .before .before .before in
+    let q = t .before .before in
+    let r = q .before .before in
+    let d = r .before in
+    let m = d .before in
+    let p = m .before .before in
+    let f = p .before .before .before in
+    by-none (now (f .before .before .args .order)) (f .fields-of .result) (f .fields-of .ensures) (p .if1 .left) (m .missing .result) (m .missing .ensures) (q .if2 .left) (d .both-forms .result) (d .both-forms .ensures) (t .if3 .left) (r .out-of-range .result) (r .out-of-range .ensures) (c .before .if4 .left) (c .record-in .result) (c .record-in .ensures)
 
 pub read-spec : {M : Type 1} → statement M
 read-spec =
     tie.close
-    (tie.spec (λ c κs. tt) returns (λ c κs. tt) (λ c κs. tt) returns-2 returns-3 (λ c κs. tt) returns-4)
+    (tie.spec (λ c κs. tt) returns (λ c κs. tt) (λ c κs. tt) (λ c κs. tt) returns-2 returns-3 returns-4 (λ c κs. tt) returns-5)

@@ -14,31 +14,29 @@ returns : tie.Need-returns
 unfolding orderOf
 returns c =
     let r = c .before in
-    let q = r .before in
-    let clock : SFits w32 (c .clock-in .result) = search needs in
-    let c4 = q .before .before .before .before in
-    let c8 = c4 .before .before .before .before in
-    let p = c8 .before .before in
+    let q = r .before .before in
+    let rows = q .before .before .before in
+    let d = rows .before .before in
+    let p = d .before .before in
     let a = p .before .before .args in
+    let clock : SFits w32 (c .clock-in .result) = search needs in
     let town = p .part .ensures ∙ part-for (now (a .order)) (a .fields) 1 in
     simp (
       toZ-ofZ clock,
       sym (c .clock-in .ensures),
       r .rules-in .ensures,
-      q .parameters-in .ensures,
-      q .before .new .ensures,
-      q .before .before .degrees-in2 .ensures,
-      q .before .before .before .value4 .ensures,
-      c4 .degrees-in .ensures,
-      c4 .before .value3 .ensures,
-      c4 .before .before .rows-in .ensures,
-      c4 .before .before .before .value2 .ensures,
-      c8 .date-in .ensures,
-      c8 .before .value .ensures,
+      r .before .parameters-in .ensures,
+      q .new .ensures,
+      q .before .coordinate-in2 .ensures,
+      q .before .before .coordinate-in .ensures,
+      rows .rows-in .ensures,
+      rows .before .value2 .ensures,
+      d .date-in .ensures,
+      d .before .value .ensures,
       town,
     )
 
 pub record-in-spec : {M : Type 1} → statement M
 record-in-spec =
     tie.close
-    (tie.spec (λ c κs. tt) (λ c κs. tt) (λ c κs. tt) (λ c κs. tt) (λ c κs. tt) (λ c κs. tt) (λ c κs. tt) (λ c κs. tt) (λ c κs. tt) (λ c κs. tt) (λ c κs. tt) (λ c κs. tt) (λ c κs. tt) returns)
+    (tie.spec (λ c κs. tt) (λ c κs. tt) (λ c κs. tt) (λ c κs. tt) (λ c κs. tt) (λ c κs. tt) (λ c κs. tt) (λ c κs. tt) (λ c κs. tt) (λ c κs. tt) (λ c κs. tt) returns)

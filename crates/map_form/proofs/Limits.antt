@@ -1,0 +1,52 @@
+-- What a range of exact values says by comparisons with its two ends. Assumes nothing.
+use mathlib.Core.Path.{_≡_, refl, sym, ap, _∙_}
+use mathlib.Core.Bool.{Bool, true, false, _&&_, _||_, true≢false, false≢true}
+use Prim.Native.Nat.{ℕ, _+_, _*_, _≤_, _<_}
+use native.Mathlib.Omega.{arith}
+use lib.Dec.{ltb, eqb, lit<}
+use borrow.Author.Tests.{leb-true, ltb-false, eq-eqb}
+use lib.Ieee.{Float, nan, inf, fin, binary64, up, down, neg, le, round}
+use lib.Ieee.Exact.{HasValue}
+use lib.Ieee.Back.{round-whole}
+use lib.Ieee.Fits.{down-pos}
+use lib.Ieee.Order.{transfer}
+use Rattle.float64.specs.Ops.{dec}
+use Rattle.float64.specs.Ranges.{Inside}
+use Rattle.map_form.specs.Hundredths.{atMost}
+
+-- -a ≤ b
+opposite : (a b : ℕ) → (ltb 0 (a + b) || (eqb a b && eqb a 0)) ≡ true
+opposite a b = go (ltb 0 (a + b)) refl
+  where
+    go : (t : Bool) → ltb 0 (a + b) ≡ t → (t || (eqb a b && eqb a 0)) ≡ true
+    go true l = refl
+    go false l = let k = ltb-false 0 (a + b) l in rw (eq-eqb a b (omega arith), eq-eqb a 0 (omega arith))
+
+-- a ≤ b, and -b ≤ -a
+upright : (a b : ℕ) → a ≤ b → ((ltb a b || (eqb a b && true)) ≡ true) × ((ltb a b || (eqb b a && true)) ≡ true)
+upright a b h = go (ltb a b) refl
+  where
+    go : (t : Bool) → ltb a b ≡ t → ((t || (eqb a b && true)) ≡ true) × ((t || (eqb b a && true)) ≡ true)
+    go true l = (refl, refl)
+    go false l = let k = ltb-false a b l in (rw (eq-eqb a b (omega arith)), rw (eq-eqb b a (omega arith)))
+
+by-value : (x h : Float) (n : ℕ) → HasValue h false n 1 → atMost n x ≡ true → Inside (neg h) h x
+unfolding le neg atMost
+by-value nan h n v r = absurd (false≢true r)
+by-value (inf s) h n v r = absurd (false≢true r)
+by-value (fin s m e) nan n v r = absurd v
+by-value (fin s m e) (inf t) n v r = absurd v
+by-value (fin s m e) (fin true k d) n v r = absurd (true≢false (v .0))
+by-value (fin false m e) (fin false k d) n v r = (
+  opposite (k * up d * down e) (m * up e * down d),
+  upright (m * up e * down d) (k * up d * down e) (transfer (m * up e) (k * up d) (down e) (down d) (m * up e) n (down e) 1 (down-pos e) (lit< tt) refl (v .1) (omega (arith, leb-true (m * up e) (n * down e) r))) .0,
+)
+by-value (fin true m e) (fin false k d) n v r = (
+  upright (m * up e * down d) (k * up d * down e) (transfer (m * up e) (k * up d) (down e) (down d) (m * up e) n (down e) 1 (down-pos e) (lit< tt) refl (v .1) (omega (arith, leb-true (m * up e) (n * down e) r))) .1,
+  opposite (m * up e * down d) (k * up d * down e),
+)
+
+-- from -n to n
+pub in-limits : (x : Float) (n : ℕ) → n ≤ 180 → atMost n x ≡ true → Inside (neg (dec n 0)) (dec n 0) x
+unfolding dec
+in-limits x n small r = by-value x (round binary64 false n 1) n (round-whole binary64 false n (omega arith)) r

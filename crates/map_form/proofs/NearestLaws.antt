@@ -1,0 +1,98 @@
+-- The law of the writer: the answer's parts are the hundredths nearest to x, a half away from zero, with x's sign. Assumes nothing.
+use mathlib.Core.Path.{_≡_, refl, sym, ap, _∙_, subst}
+use Prim.Native.Nat.{ℕ, zero, suc, _+_, _*_, _/_, _%_, _≤_, _<_}
+use native.Mathlib.Nat.{div-mul-le-self, lt-div-mul-add, lt-of-mul-lt-mul-right}
+use native.Mathlib.Omega.{arith}
+use mathlib.Core.Bool.{Bool, true, false, cond, false≢true}
+use borrow.Author.Tests.{le-leb}
+use lib.Ieee.{Float, nan, inf, fin, up, down}
+use lib.Ieee.Fits.{down-pos}
+use Rattle.float64.specs.Words.{isNegativeOf}
+use Rattle.refusals.specs.Refusals.{noRefusal, refusal}
+use Rattle.refusals.specs.declared.Refusal.{Refusal}
+use Rattle.map_form.specs.declared.MapForm.{MapForm}
+use Rattle.map_form.specs.declared.writing.Written.{Written}
+use Rattle.map_form.specs.Hundredths.{inDegree, signed, sizeOf, nearestTo, hundredthsOf, atMost, formFits}
+use Rattle.map_form.specs.Written.{signFor, partsOf, formOf, noParts, nearestCount, writtenOf}
+use Rattle.map_form.specs.Promises.{Nearest, Right, WriterIsRight, WrittenFits, OneIsNearest}
+use Rattle.map_form.proofs.Range.{count-le}
+
+-- ---- `nearestTo` is the nearest, and there is only one
+nearest-is : (a d : ℕ) → 0 < d → Nearest a d (nearestTo a d)
+nearest-is a d p =
+    let q = nearestTo a d in
+    let twice : 0 < 2 * d = omega arith in
+    let low : q * (2 * d) ≤ 2 * a + d = div-mul-le-self (2 * a + d) (2 * d) in
+    let high : 2 * a + d < q * (2 * d) + 2 * d = lt-div-mul-add twice in
+    record { «not_above» = omega arith; «not_below» = omega arith; «half_up» = λ e. omega arith }
+
+pub one-is-nearest : OneIsNearest
+one-is-nearest a d b c h k =
+    let x : b * d < (c + 1) * d = omega (arith, below h k) in
+    let y : c * d < (b + 1) * d = omega (arith, below k h) in
+    let x' : b < c + 1 = lt-of-mul-lt-mul-right d x in
+    let y' : c < b + 1 = lt-of-mul-lt-mul-right d y in
+    omega arith
+  where
+    below : {b c : ℕ} → Nearest a d b → Nearest a d c → 2 * (b * d) < 2 * (c * d) + 2 * d
+    below {b} {c} h k = omega (arith, h .«not_above», k .«not_below», k .«half_up»)
+
+-- ---- the parts of n make n again
+whole : (sign n : ℕ) → sizeOf (partsOf sign n) ≡ n
+whole sign n = omega arith
+
+-- ---- the parts for a count
+record Made (s : Bool) (n : ℕ) (f : MapForm) : Type 0 where
+  size : sizeOf f ≡ n
+  sign : f .sign ≡ signFor n (cond s 1 0)
+
+made : (s : Bool) (n : ℕ) → Made s n (formOf (signed s n))
+made true zero = record { size = refl; sign = refl }
+made true (suc n) = record { size = whole 1 (suc n); sign = refl }
+made false zero = record { size = refl; sign = refl }
+made false (suc n) = record { size = whole 0 (suc n); sign = refl }
+
+right : (x : Float) (most : ℕ) → atMost most x ≡ true → Right x (formOf (nearestCount x))
+unfolding atMost isNegativeOf hundredthsOf
+right nan most h = false≢true h
+right (inf s) most h = false≢true h
+right (fin s m e) most h =
+    let c = nearestTo (m * up e * 360000) (down e) in
+    let r = made s c in (
+      subst (λ (z : ℕ). Nearest (m * up e * 360000) (down e) z) (sym (r .size)) (nearest-is (m * up e * 360000) (down e) (down-pos e)),
+      r .sign ∙ ap (λ (z : ℕ). signFor z (cond s 1 0)) (sym (r .size)),
+    )
+
+parts-fit : (most sign n : ℕ) → sign ≤ 1 → n ≤ most * inDegree → formFits most (partsOf sign n) ≡ true
+unfolding formFits
+parts-fit most sign n s h =
+    let m : n / 6000 % 60 ≤ 59 = omega arith in
+    let t : n / 100 % 60 ≤ 59 = omega arith in
+    let c : n % 100 ≤ 99 = omega arith in
+    let w : sizeOf (partsOf sign n) ≤ most * 360000 = omega (arith, whole sign n) in
+    simp (le-leb sign 1 s, le-leb (n / 6000 % 60) 59 m, le-leb (n / 100 % 60) 59 t, le-leb (n % 100) 99 c, le-leb (sizeOf (partsOf sign n)) (most * 360000) w)
+
+form-fits : (most : ℕ) (s : Bool) (n : ℕ) → n ≤ most * inDegree → formFits most (formOf (signed s n)) ≡ true
+form-fits most true zero h = parts-fit most 0 0 (omega arith) h
+form-fits most true (suc n) h = parts-fit most 1 (suc n) (omega arith) h
+form-fits most false n h = parts-fit most 0 n (omega arith) h
+
+-- ---- What is not refused is in range; what is refused is out of range by the definition.
+by-range : (P : MapForm → Type 0) (tag most : ℕ) (x : Float) → (atMost most x ≡ true → P (formOf (nearestCount x)))
+    → writtenOf tag most x .refusal ≡ noRefusal → P (writtenOf tag most x .form)
+unfolding writtenOf
+by-range P tag most x in-range h = go (atMost most x) refl h
+  where
+    answer : Bool → Written
+    answer t = cond t (record { refusal = noRefusal; form = formOf (nearestCount x) }) (record { refusal = refusal 5 tag; form = noParts })
+
+    go : (t : Bool) → atMost most x ≡ t → answer t .refusal ≡ noRefusal → P (answer t .form)
+    go true e h = in-range e
+    go false e h = let z : _≡_ {A = ℕ} 5 0 = ap (λ (r : Refusal). r .number) h in absurd (omega arith)
+
+pub writer-is-right : WriterIsRight
+writer-is-right tag most x h = by-range (Right x) tag most x (right x most) h
+
+pub written-fits : WrittenFits
+written-fits tag most x h =
+    by-range (λ (f : MapForm). formFits most f ≡ true) tag most x (λ r. form-fits most (isNegativeOf x) (hundredthsOf x) (count-le x most r)) h

@@ -1,0 +1,3 @@
+pub mod Hundredths
+pub mod Written
+pub mod Promises

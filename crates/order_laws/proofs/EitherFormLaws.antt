@@ -1,0 +1,169 @@
+-- A place sent either way: the record but for where the town stands, and from it all that is answered. Assumes nothing.
+use Prim.Native.Nat.{ℕ, zero, suc, _≤_}
+use mathlib.Core.Path.{_≡_, refl, sym, ap, _∙_, subst}
+use mathlib.Core.Bool.{false}
+use mathlib.Core.List.{List, _++_}
+use lib.Dec.{lit≤}
+use Rattle.integers.specs.Order.{_≼_}
+use Rattle.calendar.specs.Answers.{rowDateOf}
+use Rattle.calls.specs.Calls.{workRowOf, workReadingOf, workDayOf, workAtOf, prayerAtOf, nextAtOf, remainingAtOf}
+use Rattle.fields.specs.Tags.{lastTag}
+use Rattle.fields.specs.Values.{hasOf, valueOf, Values, valuesOf}
+use Rattle.fields.specs.declared.values.Part.{Part}
+use Rattle.lines.specs.Lines.{lineText}
+use Rattle.models.specs.declared.parameters.Parameters.{Parameters}
+use Rattle.models.specs.declared.prayer.Prayer.{Prayer}
+use Rattle.models.specs.declared.rules.Rules.{Rules}
+use Rattle.models.specs.Settings.{timeAdjustmentsOf}
+use Rattle.order.specs.Given.{dateIn, rowsIn, coordinateIn, byteOr, degreesOr, roundingOr, minutesOr, intervalOr, parametersIn, rulesIn}
+use Rattle.order.specs.Reading.{orderOf, readingOf, townOf}
+use Rattle.order.specs.declared.reading.Order.{Order}
+use Rattle.order.specs.declared.reading.Reading.{Reading}
+use Rattle.order.specs.declared.reading.Reading.the-variants.{Read}
+use Rattle.order.proofs.ReadingLaws.{read-passed}
+use Rattle.rows.specs.Rows.{linesText, acceptedText, textIn, sheetText, rowAnswerOf, rowBufferOf}
+use Rattle.schedule.specs.declared.in_force.Instant.{Instant}
+use Rattle.order_laws.specs.Minutes.{withOwnMinutes, LaterOrder}
+use Rattle.order_laws.specs.EitherForm.{saysPlace, SamePlace, withTown, SameAnswers, EitherFormAnswersAlike, EitherFormMovesAlike}
+
+-- ---- where the town stands changes nothing
+lines-same : (o : Order) (town : Part) (n : ℕ) → linesText (withTown o town) n ≡ linesText o n
+unfolding linesText workRowOf
+lines-same o town zero = refl
+lines-same o town (suc n) = ap (λ (t : List ℕ). t ++ lineText (rowDateOf (o .date) n) (workRowOf o n)) (lines-same o town n)
+
+text-same : (name : List ℕ) (o : Order) (town : Part) → acceptedText name (withTown o town) ≡ acceptedText name o
+unfolding acceptedText
+text-same name o town = rw (lines-same o town (o .rows))
+
+-- ---- what the tags give
+module _ (a b : List ℕ) (orders : SamePlace a b) where
+  has : (tag : ℕ) → tag ≤ lastTag → saysPlace tag ≡ false → hasOf a tag ≡ hasOf b tag
+  has tag l e = orders .others tag l e .0
+
+  value : (tag : ℕ) → tag ≤ lastTag → saysPlace tag ≡ false → valueOf a tag ≡ valueOf b tag
+  value tag l e = orders .others tag l e .1
+
+  parameters-same : parametersIn (valuesOf a) ≡ parametersIn (valuesOf b)
+  unfolding parametersIn degreesOr byteOr roundingOr minutesOr intervalOr
+  parameters-same =
+      simp (
+        value 6 (lit≤ tt) refl,
+        has 7 (lit≤ tt) refl,
+        value 7 (lit≤ tt) refl,
+        has 8 (lit≤ tt) refl,
+        value 8 (lit≤ tt) refl,
+        has 9 (lit≤ tt) refl,
+        value 9 (lit≤ tt) refl,
+        has 10 (lit≤ tt) refl,
+        value 10 (lit≤ tt) refl,
+        has 11 (lit≤ tt) refl,
+        value 11 (lit≤ tt) refl,
+        has 12 (lit≤ tt) refl,
+        value 12 (lit≤ tt) refl,
+        has 13 (lit≤ tt) refl,
+        value 13 (lit≤ tt) refl,
+        has 14 (lit≤ tt) refl,
+        value 14 (lit≤ tt) refl,
+      )
+
+  rules-same : rulesIn (valuesOf a) ≡ rulesIn (valuesOf b)
+  unfolding rulesIn byteOr
+  rules-same = simp (has 15 (lit≤ tt) refl, value 15 (lit≤ tt) refl, has 17 (lit≤ tt) refl, value 17 (lit≤ tt) refl)
+
+  first-same : orderOf (valuesOf a) ≡ orders .first
+  first-same = read-passed a (orders .first) (orders .«first_read») .same
+
+  second-same : orderOf (valuesOf b) ≡ orders .second
+  second-same = read-passed b (orders .second) (orders .«second_read») .same
+
+  latitude-same : coordinateIn (valuesOf a) 4 18 ≡ coordinateIn (valuesOf b) 4 18
+  unfolding orderOf
+  latitude-same =
+      ap (λ (o : Order). o .coordinates .latitude) first-same
+      ∙ orders .latitude
+      ∙ sym (ap (λ (o : Order). o .coordinates .latitude) second-same)
+
+  longitude-same : coordinateIn (valuesOf a) 5 19 ≡ coordinateIn (valuesOf b) 5 19
+  unfolding orderOf
+  longitude-same =
+      ap (λ (o : Order). o .coordinates .longitude) first-same
+      ∙ orders .longitude
+      ∙ sym (ap (λ (o : Order). o .coordinates .longitude) second-same)
+
+  given-same : withTown (orderOf (valuesOf a)) (orderOf (valuesOf b) .town) ≡ orderOf (valuesOf b)
+  unfolding orderOf
+  given-same =
+      rw (value 2 (lit≤ tt) refl, value 3 (lit≤ tt) refl, latitude-same, longitude-same, parameters-same, rules-same)
+
+  given : withTown (orders .first) (orders .second .town) ≡ orders .second
+  given =
+      subst (λ (o : Order). withTown o (orders .second .town) ≡ orders .second) first-same
+      (subst (λ (o : Order). withTown (orderOf (valuesOf a)) (o .town) ≡ o) second-same given-same)
+
+  -- ---- and what is answered
+  town-same : townOf a ≡ townOf b
+  unfolding townOf
+  town-same = rw (orders .«first_read», orders .«second_read») (value 1 (lit≤ tt) refl)
+
+  sheet-same : sheetText a ≡ sheetText b
+  unfolding textIn
+  sheet-same =
+      rw (orders .«first_read», orders .«second_read»)
+      (ap (λ (t : List ℕ). acceptedText t (orders .first)) town-same
+      ∙ sym (text-same (townOf b) (orders .first) (orders .second .town))
+      ∙ ap (acceptedText (townOf b)) given)
+
+  day-same : (row : ℕ) → workDayOf a row ≡ workDayOf b row
+  unfolding workDayOf workReadingOf workRowOf
+  day-same row = rw (orders .«first_read», orders .«second_read», ← given)
+
+  at-same : (row : ℕ) (i : Instant) → workAtOf a row i ≡ workAtOf b row i
+  unfolding workAtOf
+  at-same row i = rw (day-same row)
+
+  buffer-same : (row : ℕ) (buffer : List ℕ) → rowBufferOf a row buffer ≡ rowBufferOf b row buffer
+  unfolding rowBufferOf workRowOf
+  buffer-same row buffer = rw (orders .«first_read», orders .«second_read», ← given)
+
+pub either-form-answers-alike : EitherFormAnswersAlike
+unfolding prayerAtOf nextAtOf remainingAtOf rowAnswerOf
+either-form-answers-alike a b orders =
+    record {
+      given = given a b orders;
+      town = town-same a b orders;
+      sheet = sheet-same a b orders;
+      day = day-same a b orders;
+      prayer = λ row i. rw (at-same a b orders row i);
+      next = λ row i. rw (at-same a b orders row i);
+      remaining = λ row i. rw (at-same a b orders row i);
+      answer = λ row buffer. rw (day-same a b orders row);
+      buffer = buffer-same a b orders;
+    }
+
+-- ---- demand 3
+moved-town : (f g : Order) (p q : Part) → withOwnMinutes f (g .town) (g .parameters .adjustments) ≡ g
+    → withOwnMinutes (withTown f p) q (withTown g q .parameters .adjustments) ≡ withTown g q
+moved-town f g p q e = ap (λ (o : Order). withTown o q) e
+
+pub either-form-moves-alike : EitherFormMovesAlike
+either-form-moves-alike a b c d p q later =
+    let f : p .first ≡ later .first = cc in
+    let g : q .first ≡ later .second = cc in
+    let x = ap (λ (o : Order). withTown o (p .second .town)) (sym f) ∙ given a c p in
+    let y = ap (λ (o : Order). withTown o (q .second .town)) (sym g) ∙ given b d q in
+    record {
+      first = p .second;
+      second = q .second;
+      «first_read» = p .«second_read»;
+      «second_read» = q .«second_read»;
+      town = sym (town-same a c p) ∙ later .town ∙ town-same b d q;
+      alike =
+          subst (λ (o : Order). withOwnMinutes o (q .second .town) (q .second .parameters .adjustments) ≡ q .second) x
+          (subst (λ (o : Order). withOwnMinutes (withTown (later .first) (p .second .town)) (q .second .town) (o .parameters .adjustments) ≡ o) y
+          (moved-town (later .first) (later .second) (p .second .town) (q .second .town) (later .alike)));
+      more =
+          λ (prayer : Prayer).
+          subst (λ (o : Order). timeAdjustmentsOf (o .parameters) prayer ≼ timeAdjustmentsOf (q .second .parameters) prayer) x
+          (subst (λ (o : Order). timeAdjustmentsOf (later .first .parameters) prayer ≼ timeAdjustmentsOf (o .parameters) prayer) y (later .more prayer));
+    }

@@ -1,0 +1,64 @@
+-- Request 7: "a place sent either way with the same f64 gets the same sheet, shifts by minutes included." About the bytes of any two orders, over the
+-- record, the sheet and what the calls answer; and demand 3's two orders may differ in the form. Proved in proofs/EitherFormLaws.
+use Prim.Native.Nat.{ℕ, _≤_}
+use mathlib.Core.Path.{_≡_}
+use mathlib.Core.Bool.{Bool, false, _||_}
+use mathlib.Core.List.{List}
+use lib.Dec.{eqb}
+use Rattle.calls.specs.Calls.{workDayOf, prayerAtOf, nextAtOf, remainingAtOf}
+use Rattle.fields.specs.Tags.{lastTag}
+use Rattle.fields.specs.Values.{hasOf, valueOf}
+use Rattle.fields.specs.declared.values.Part.{Part}
+use Rattle.map_form.specs.Written.{latitudeTag, longitudeTag}
+use Rattle.order.specs.declared.reading.Order.{Order}
+use Rattle.order.specs.declared.reading.Reading.the-variants.{Read}
+use Rattle.order.specs.Reading.{readingOf, townOf}
+use Rattle.rows.specs.Rows.{rowAnswerOf, rowBufferOf, sheetText}
+use Rattle.schedule.specs.declared.in_force.Instant.{Instant}
+use Rattle.order_laws.specs.Minutes.{LaterOrder}
+
+-- the tags that say the place, in either form
+abbrev pub saysPlace : ℕ → Bool
+saysPlace tag = eqb tag 4 || eqb tag 5 || eqb tag latitudeTag || eqb tag longitudeTag
+
+-- the two orders are read, with the same f64 for each coordinate, in whichever form; every other tag gives the same
+pub record SamePlace (a b : List ℕ) : Type 0 where
+  pub first : Order
+  pub second : Order
+  pub «first_read» : readingOf a ≡ Read first
+  pub «second_read» : readingOf b ≡ Read second
+  pub latitude : first .coordinates .latitude ≡ second .coordinates .latitude
+  pub longitude : first .coordinates .longitude ≡ second .coordinates .longitude
+  pub others : (tag : ℕ) → tag ≤ lastTag → saysPlace tag ≡ false → (hasOf a tag ≡ hasOf b tag) × (valueOf a tag ≡ valueOf b tag)
+
+-- an order whose town stands elsewhere in its bytes
+abbrev pub withTown : Order → Part → Order
+withTown order town =
+    record {
+      town = town;
+      date = order .date;
+      rows = order .rows;
+      coordinates = order .coordinates;
+      parameters = order .parameters;
+      rules = order .rules;
+    }
+
+pub record SameAnswers (a b : List ℕ) (orders : SamePlace a b) : Type 0 where
+  -- the record, but for where the town stands, and the town
+  pub given : withTown (orders .first) (orders .second .town) ≡ orders .second
+  pub town : townOf a ≡ townOf b
+  pub sheet : sheetText a ≡ sheetText b
+  -- the calls on a row, on an instant, and on a row buffer
+  pub day : (row : ℕ) → workDayOf a row ≡ workDayOf b row
+  pub prayer : (row : ℕ) (i : Instant) → prayerAtOf a row i ≡ prayerAtOf b row i
+  pub next : (row : ℕ) (i : Instant) → nextAtOf a row i ≡ nextAtOf b row i
+  pub remaining : (row : ℕ) (i : Instant) → remainingAtOf a row i ≡ remainingAtOf b row i
+  pub answer : (row : ℕ) (buffer : List ℕ) → rowAnswerOf a row buffer ≡ rowAnswerOf b row buffer
+  pub buffer : (row : ℕ) (buffer : List ℕ) → rowBufferOf a row buffer ≡ rowBufferOf b row buffer
+
+abbrev pub EitherFormAnswersAlike : Type 0
+EitherFormAnswersAlike = (a b : List ℕ) (orders : SamePlace a b) → SameAnswers a b orders
+
+-- "shifts by minutes included": where demand 3 speaks of two orders, it speaks of them with the place sent the other way too
+abbrev pub EitherFormMovesAlike : Type 0
+EitherFormMovesAlike = (a b c d : List ℕ) → SamePlace a c → SamePlace b d → LaterOrder a b → LaterOrder c d
