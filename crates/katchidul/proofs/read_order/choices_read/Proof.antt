@@ -7,9 +7,9 @@ use Rattle.katchidul.proofs.read_order.choices_read.Tie as tie
 
 returns : tie.Need-returns
 returns c =
-    let known = c .before .struct-told .given in
-    let f : SFits w32 (c .before .before .before .args .order .clock) = search needs in
-    simp (toZ-ofZ f, c .number2 .ensures, c .before .before .number .ensures)
+    let known = c .struct-told .given in
+    let f : SFits w32 (c .before .before .before .before .args .order .clock) = search needs in
+    simp (toZ-ofZ f, c .before .number2 .ensures, c .before .before .number .ensures)
 
 pub choices-read-spec : {M : Type 1} → statement M
 choices-read-spec = tie.close (tie.spec (λ c κs. tt) (λ c κs. tt) returns)
