@@ -27,12 +27,9 @@ static void put_options(order_bytes *order) {
   for (uint8_t tag = 12; tag <= 13; tag++)
     if (below(2)) put_float(order, tag, between(0, 30));
   if (below(2)) put_interval(order, (uint16_t)below(1441));
-<<<<<<< HEAD
   if (below(2)) put_clock(order, (int16_t)((int)below(1681) - 840));
-=======
   for (uint8_t tag = 15; tag <= 17; tag += 2)
     if (below(2)) put_small(order, tag, (uint8_t)below(2));
->>>>>>> main
 }
 
 static order_bytes sound_order(void) {
