@@ -1,9 +1,12 @@
 -- Two orders of which demand 3 speaks, so that its hypothesis can be met: town P, 2026-06-21, one row, 10.0, 20.0, method 0; the second with a
--- minute more for Fajr, and with its place as on the map, 10 degrees north and 20 degrees east.
-use mathlib.Core.Path.{refl}
+-- minute more for Fajr, and with its place as on the map, 10 degrees north and 20 degrees east. And the first with its place so, all else the same.
+use native.Mathlib.Omega.{arith}
+use mathlib.Core.Path.{_≡_, refl, subst}
+use mathlib.Core.Bool.{Bool, true, false, true≢false}
 use mathlib.Core.List.{List, [], _∷_, _++_}
-use Prim.Native.Nat.{ℕ}
-use lib.Dec.{lit≤}
+use Prim.Native.Nat.{ℕ, zero, suc, _≤_}
+use lib.Dec.{leb, lit≤}
+use borrow.Author.Tests.{leb-true, leb-false}
 use lib.Ieee.{le, neg, ofBits, round}
 use lib.ListN.{replicate}
 use Rattle.integers.specs.Order.{_≼_}
@@ -25,6 +28,7 @@ use Rattle.order.specs.Given.{dateIn, rowsIn, degreesIn, formIn, coordinateIn, 
 use Rattle.order.specs.Ranges.{textFits, rowsFit, minuteFits, minutesFit, intervalFits, lookUp, fitsOf, inRangeOf}
 use Rattle.order.specs.Reading.{firstFailing, isGivenOf, missingOf, bothFormsOf, tagsFrom, outOfRangeOf, orderOf, firstOf, readingOf, townOf}
 use Rattle.order_laws.specs.Minutes.{LaterOrder}
+use Rattle.order_laws.specs.EitherForm.{saysPlace, SamePlace}
 
 abbrev begun : List ℕ
 begun = (1 ∷ 0 ∷ 1 ∷ 80 ∷ []) ++ (2 ∷ 0 ∷ 4 ∷ 7 ∷ 234 ∷ 6 ∷ 21 ∷ []) ++ (3 ∷ 0 ∷ 1 ∷ 1 ∷ [])
@@ -33,10 +37,11 @@ abbrev earlier : List ℕ
 earlier =
     begun ++ (4 ∷ 0 ∷ 8 ∷ 64 ∷ 36 ∷ replicate 6 0) ++ (5 ∷ 0 ∷ 8 ∷ 64 ∷ 52 ∷ replicate 6 0) ++ (6 ∷ 0 ∷ 1 ∷ 0 ∷ [])
 
+abbrev onTheMap : List ℕ
+onTheMap = begun ++ (18 ∷ 0 ∷ 5 ∷ 0 ∷ 10 ∷ replicate 3 0) ++ (19 ∷ 0 ∷ 5 ∷ 0 ∷ 20 ∷ replicate 3 0) ++ (6 ∷ 0 ∷ 1 ∷ 0 ∷ [])
+
 abbrev later : List ℕ
-later =
-    begun ++ (18 ∷ 0 ∷ 5 ∷ 0 ∷ 10 ∷ replicate 3 0) ++ (19 ∷ 0 ∷ 5 ∷ 0 ∷ 20 ∷ replicate 3 0) ++ (6 ∷ 0 ∷ 1 ∷ 0 ∷ [])
-    ++ (11 ∷ 0 ∷ 12 ∷ 0 ∷ 1 ∷ replicate 10 0)
+later = onTheMap ++ (11 ∷ 0 ∷ 12 ∷ 0 ∷ 1 ∷ replicate 10 0)
 
 more-minutes : (prayer : Prayer) → timeAdjustmentsOf (orderOf (valuesOf earlier) .parameters) prayer ≼ timeAdjustmentsOf (orderOf (valuesOf later) .parameters) prayer
 unfolding hasOf offsetOf firstBefore lengthAt unsignedOf valueOf signedOf minutesIn minutesOr byteOr degreesOr roundingOr intervalOr parametersIn orderOf timeAdjustmentsOf preset presetOf methodOf minutesFor
@@ -60,4 +65,39 @@ can-be-met =
       town = refl;
       alike = refl;
       more = more-minutes;
+    }
+
+-- ---- tag by tag
+abbrev UpTo : ℕ → (ℕ → Type 0) → Type 0
+UpTo zero P = P 0
+UpTo (suc n) P = P (suc n) × UpTo n P
+
+of-each : (P : ℕ → Type 0) (n : ℕ) → UpTo n P → (tag : ℕ) → tag ≤ n → P tag
+of-each P zero each tag l = let e : 0 ≡ tag = omega arith in subst P e each
+of-each P (suc n) each tag l = go (leb tag n) refl (λ h. of-each P n (each .1) tag h)
+  where
+    go : (b : Bool) → leb tag n ≡ b → (tag ≤ n → P tag) → P tag
+    go true h below = below (leb-true tag n h)
+    go false h below = let k = leb-false tag n h in let e : suc n ≡ tag = omega arith in subst P e (each .0)
+
+abbrev Same : ℕ → Type 0
+Same tag = saysPlace tag ≡ false → (hasOf earlier tag ≡ hasOf onTheMap tag) × (valueOf earlier tag ≡ valueOf onTheMap tag)
+
+-- from tag 19 down
+each-same : UpTo 19 Same
+unfolding hasOf offsetOf firstBefore lengthAt unsignedOf valueOf
+each-same =
+    (λ e. absurd (true≢false e), (λ e. absurd (true≢false e), (λ e. (refl, refl), (λ e. (refl, refl), (λ e. (refl, refl), (λ e. (refl, refl), (λ e. (refl, refl), (λ e. (refl, refl), (λ e. (refl, refl), (λ e. (refl, refl), (λ e. (refl, refl), (λ e. (refl, refl), (λ e. (refl, refl), (λ e. (refl, refl), (λ e. absurd (true≢false e), (λ e. absurd (true≢false e), (λ e. (refl, refl), (λ e. (refl, refl), (λ e. (refl, refl), λ e. (refl, refl))))))))))))))))))))
+
+pub can-be-sent-either-way : SamePlace earlier onTheMap
+unfolding readingOf firstOf isGivenOf bothFormsOf formIn coordinateIn formFits degreesOf checkOf walkOf faultOf valueFaultOf firstBefore lengthAt unsignedOf lengthFits choiceFits offsetOf hasOf valueOf startOf missingOf firstFailing tagsFrom outOfRangeOf inRangeOf fitsOf lookUp textFits rowsFit minuteFits minutesFit intervalFits dateIn rowsIn degreesIn minutesIn byteOr degreesOr roundingOr minutesOr intervalOr parametersIn rulesIn orderOf townOf signedOf joinedOf bitsOf floatOf timeAdjustmentsOf existsOf leapOf lengthOf daysBeforeOf ordinalOf countBelow monthOf ofOrdinalOf daysBeforeYearOf dayNumberOf lastBy yearOf dateAtOf dateOfDayOf heldOf fromOf le neg ofBits round dec
+can-be-sent-either-way =
+    record {
+      first = orderOf (valuesOf earlier);
+      second = orderOf (valuesOf onTheMap);
+      «first_read» = refl;
+      «second_read» = refl;
+      latitude = refl;
+      longitude = refl;
+      others = of-each Same 19 each-same;
     }
