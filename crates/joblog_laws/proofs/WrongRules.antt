@@ -35,7 +35,7 @@ lost =
     appended 1 1 ++ (goes ∷ []) ++ appended 1 2 ++ (goes ∷ finishes ∷ finishes ∷ []) ++ appended 2 1 ++ started 1 3
     ++ (crash 0 19 ∷ restart buffer ∷ []) ++ appended 1 3 ++ (goes ∷ finishes ∷ [])
 
-pub as-requested : ends asRequested lost .finished ≡ 1 ∷ 2 ∷ 3 ∷ []
+as-requested : ends asRequested lost .finished ≡ 1 ∷ 2 ∷ 3 ∷ []
 unfolding ends lost
 as-requested = refl
 
