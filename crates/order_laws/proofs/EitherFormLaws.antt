@@ -15,7 +15,7 @@ use Rattle.models.specs.declared.parameters.Parameters.{Parameters}
 use Rattle.models.specs.declared.prayer.Prayer.{Prayer}
 use Rattle.models.specs.declared.rules.Rules.{Rules}
 use Rattle.models.specs.Settings.{timeAdjustmentsOf}
-use Rattle.order.specs.Given.{dateIn, rowsIn, coordinateIn, byteOr, degreesOr, roundingOr, minutesOr, intervalOr, parametersIn, rulesIn}
+use Rattle.order.specs.Given.{dateIn, rowsIn, coordinateIn, byteOr, degreesOr, roundingOr, minutesOr, intervalOr, parametersIn, rulesIn, clockIn}
 use Rattle.order.specs.Reading.{orderOf, readingOf, townOf}
 use Rattle.order.specs.declared.reading.Order.{Order}
 use Rattle.order.specs.declared.reading.Reading.{Reading}
@@ -71,6 +71,10 @@ module _ (a b : List ℕ) (orders : SamePlace a b) where
   unfolding rulesIn byteOr
   rules-same = simp (has 15 (lit≤ tt) refl, value 15 (lit≤ tt) refl, has 17 (lit≤ tt) refl, value 17 (lit≤ tt) refl)
 
+  clock-same : clockIn (valuesOf a) ≡ clockIn (valuesOf b)
+  unfolding clockIn
+  clock-same = simp (has 16 (lit≤ tt) refl, value 16 (lit≤ tt) refl)
+
   first-same : orderOf (valuesOf a) ≡ orders .first
   first-same = read-passed a (orders .first) (orders .«first_read») .same
 
@@ -94,7 +98,7 @@ module _ (a b : List ℕ) (orders : SamePlace a b) where
   given-same : withTown (orderOf (valuesOf a)) (orderOf (valuesOf b) .town) ≡ orderOf (valuesOf b)
   unfolding orderOf
   given-same =
-      rw (value 2 (lit≤ tt) refl, value 3 (lit≤ tt) refl, latitude-same, longitude-same, parameters-same, rules-same)
+      rw (value 2 (lit≤ tt) refl, value 3 (lit≤ tt) refl, latitude-same, longitude-same, parameters-same, rules-same, clock-same)
 
   given : withTown (orders .first) (orders .second .town) ≡ orders .second
   given =

@@ -41,6 +41,7 @@ withTown order town =
       coordinates = order .coordinates;
       parameters = order .parameters;
       rules = order .rules;
+      clock = order .clock;
     }
 
 pub record SameAnswers (a b : List ℕ) (orders : SamePlace a b) : Type 0 where
