@@ -309,10 +309,11 @@ static katchidul_log append_lasting(job *j, uint32_t tag, uint32_t page) {
   return after;
 }
 
-/* Every count from 0, or from two below where many pages are finished, to two above; and records of any tag. */
-static void try_others(const job *j) {
+/* Every count to two above the sent pages: from 0 on, but where over 1,000 pages are finished, or over 70 at a step that is not a job's last, from two
+   below those. And records of any tag. */
+static void try_others(const job *j, bool last) {
   katchidul_log now = read_log(&((job *)j)->disk.buffers[j->disk.at], j->disk.used);
-  uint32_t low = now.finished > 70 ? now.finished - 2 : 0;
+  uint32_t low = now.finished > (last ? 1000 : 70) ? now.finished - 2 : 0;
   for (uint32_t count = low; count <= now.sent + 2; count++) {
     disk d = j->disk;
     restart(&d.buffers[d.at], d.used, count, &d.buffers[!d.at]);
@@ -323,7 +324,7 @@ static void try_others(const job *j) {
   }
 }
 
-static void step(job *j) {
+static void step(job *j, bool last) {
   disk *d = &j->disk;
   katchidul_log now = read_log(&d->buffers[d->at], d->used);
   uint32_t kind = below(20);
@@ -333,7 +334,7 @@ static void step(job *j) {
   else finish_page(j);
   now = read_log(&d->buffers[d->at], d->used);
   if (below(4) && j->out < now.sent && j->out == j->reached) send_page(j, j->out + 1);
-  try_others(j);
+  try_others(j, last);
 }
 
 static void check_jobs(uint32_t steps) {
@@ -345,7 +346,7 @@ static void check_jobs(uint32_t steps) {
         j.out = j.count = j.reached = below(3) ? below(600) : 65500 + below(30);
         j.disk.used = put_record(bytes(&j.disk.buffers[0]), 0, KATCHIDUL_RECORD_FINISHED, j.count);
       }
-      for (uint32_t i = 0; i < steps; i++) step(&j);
+      for (uint32_t i = 0; i < steps; i++) step(&j, i + 1 == steps);
     }
   }
   check(right, "jobs with a crash after every byte");

@@ -29,11 +29,11 @@ static void check_writer(const coordinate *which) {
   for (size_t i = 0; i < sizeof some / sizeof *some; i++) written(which, some[i]);
   around(which, which->most), around(which, -(double)which->most);
   for (int i = 0; i < 20000; i++) {
-    double size = (double)(random_bits() >> 11) * 0x1p-53 * which->most;
+    double size = (double)(random_bits() >> 11) * 0x1p-53 * which->most, side = i % 2 ? -1 : 1;
     written(which, any_float());
-    around(which, ldexp(size, -(int)(random_bits() % 40)));
-    around(which, -(floor(size * 128) + 0.5) / 64); /* j / 128 is a half where j is odd */
-    around(which, (floor(size * IN_DEGREE) + 0.5) / IN_DEGREE);
+    around(which, side * ldexp(size, -(int)(random_bits() % 40)));
+    around(which, side * (floor(size * 64) + 0.5) / 64); /* j / 128 is a half where j is odd */
+    around(which, side * (floor(size * IN_DEGREE) + 0.5) / IN_DEGREE);
   }
 }
 

@@ -45,7 +45,8 @@ static double some_double(const coordinate *which, uint64_t i) {
     case 2: x = (floor(size * 64) + 0.5) / 64; break;
     default: x = (floor(size * IN_DEGREE) + 0.5) / IN_DEGREE;
   }
-  return bits & 4 ? x : nextafter(x, bits & 8 ? 0.0 : 1e3);
+  x = bits & 2 ? -x : x;
+  return bits & 4 ? x : nextafter(x, bits & 8 ? 0.0 : copysign(1e3, x));
 }
 
 static uint64_t random_ones(uint64_t count) {

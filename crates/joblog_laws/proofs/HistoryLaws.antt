@@ -61,21 +61,21 @@ pub histories-are-kept : HistoriesAreKept
 histories-are-kept buffer steps = kept (run asRequested (begun buffer) steps) (run-kept (begun buffer) (begun-kept buffer) steps)
 
 -- ---- the open pages come
-one-out : (log : List ℕ) (used out : ℕ) (finished : List ℕ) → out + 1 ≤ readLogOf log used .sent
-    → next asRequested (record { log = log; used = used; up = true; out = out; writing = idle; tray = []; finished = finished }) goes
-    ≡ record { log = log; used = used; up = true; out = out + 1; writing = idle; tray = (out + 1) ∷ []; finished = finished }
+one-out : (log : List ℕ) (used out : ℕ) (heard finished coming : List ℕ) → out + 1 ≤ readLogOf log used .sent
+    → next asRequested (record { log = log; used = used; up = true; out = out; writing = idle; heard = heard; tray = []; finished = finished; coming = coming }) goes
+    ≡ record { log = log; used = used; up = true; out = out + 1; writing = idle; heard = heard; tray = (out + 1) ∷ []; finished = finished; coming = coming }
 unfolding next isIdle
-one-out log used out finished h = rw (le-leb (out + 1) (readLogOf log used .sent) h)
+one-out log used out heard finished coming h = rw (le-leb (out + 1) (readLogOf log used .sent) h)
 
-sent-out : (k : ℕ) (log : List ℕ) (used out : ℕ) (finished : List ℕ) → out + k ≤ readLogOf log used .sent
-    → length (run asRequested (record { log = log; used = used; up = true; out = out; writing = idle; tray = []; finished = finished }) (sendAll k) .finished) ≡ length finished + k
+sent-out : (k : ℕ) (log : List ℕ) (used out : ℕ) (heard finished coming : List ℕ) → out + k ≤ readLogOf log used .sent
+    → length (run asRequested (record { log = log; used = used; up = true; out = out; writing = idle; heard = heard; tray = []; finished = finished; coming = coming }) (sendAll k) .finished) ≡ length finished + k
 unfolding run sendAll next finishing
-sent-out zero log used out finished h = omega arith
-sent-out (suc k) log used out finished h =
+sent-out zero log used out heard finished coming h = omega arith
+sent-out (suc k) log used out heard finished coming h =
     let a = length-append finished ((out + 1) ∷ []) in
     let l : length (finished ++ ((out + 1) ∷ [])) + k ≡ length finished + suc k = omega arith in
-    ap (λ (w : World). length (run asRequested (next asRequested w finishes) (sendAll k) .finished)) (one-out log used out finished (omega arith))
-    ∙ sent-out k log used (out + 1) (finished ++ ((out + 1) ∷ [])) (omega arith)
+    ap (λ (w : World). length (run asRequested (next asRequested w finishes) (sendAll k) .finished)) (one-out log used out heard finished coming (omega arith))
+    ∙ sent-out k log used (out + 1) heard (finished ++ ((out + 1) ∷ [])) (coming ++ ((out + 1) ∷ [])) (omega arith)
     ∙ l
 
 restart-world : (w : World) (i : Inv w) (second : List ℕ) → length (compactedOf (state (length (w .finished)) (i .says .sent))) ≤ length second
@@ -86,8 +86,10 @@ restart-world : (w : World) (i : Inv w) (second : List ℕ) → length (compacte
       up = true;
       out = length (w .finished);
       writing = idle;
+      heard = w .heard;
       tray = [];
       finished = w .finished;
+      coming = w .coming;
     }
 unfolding next compactAnswer
 restart-world w i second room = rw (restarted w i second, le-leb _ _ room)
@@ -103,7 +105,7 @@ come w i second room =
     let h = restart-held t second (b .1) (omega arith) in
     let r = ap (λ (a : Log). a .sent) (held-read (putOf second 0 (compactedOf t)) (length (compactedOf t)) t h) in
     let e = restart-world w i second (omega arith) in
-    let z = sent-out (s - n) (putOf second 0 (compactedOf t)) (length (compactedOf t)) n (w .finished) (omega arith) in
+    let z = sent-out (s - n) (putOf second 0 (compactedOf t)) (length (compactedOf t)) n (w .heard) (w .finished) (w .coming) (omega arith) in
     let m : length (run asRequested (next asRequested w (restart second)) (sendAll (s - n)) .finished) ≡ s = rw e (omega arith) in
     kept (run asRequested (next asRequested w (restart second)) (sendAll (s - n))) (run-kept (next asRequested w (restart second)) (restart-kept w i second) (sendAll (s - n))) .«in_order» ∙ ap pagesOf m
 

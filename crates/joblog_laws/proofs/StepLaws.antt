@@ -2,12 +2,12 @@
 use native.Mathlib.Omega.{arith}
 use Prim.Native.Nat.{ℕ, suc, _+_, _≤_, _<_}
 use mathlib.Core.Path.{_≡_, refl, sym, ap, subst, _∙_}
-use mathlib.Core.Bool.{Bool, true, false, cond, _&&_}
+use mathlib.Core.Bool.{Bool, true, false, cond, _&&_, _||_, false≢true}
 use mathlib.Core.List.{List, [], _∷_, _++_, append-assoc, append-nil}
 use lib.Dec.{leb, ltb, eqb}
 use lib.ListN.{length, take, drop, length-append, length-drop, take-append-drop}
 use lib.Seq.{take-add, length-take-le}
-use borrow.Author.Tests.{leb-true, ltb-true}
+use borrow.Author.Tests.{leb-true, ltb-true, eqb-true}
 use Rattle.refusals.specs.Refusals.{logSecondShort}
 use Rattle.text.specs.Text.{putOf}
 use Rattle.text.proofs.TextLaws.{put-behind, put-nothing}
@@ -15,11 +15,11 @@ use Rattle.joblog.specs.declared.records.State.{State}
 use Rattle.joblog.specs.Records.{state, bytesOf, wholeOf, recordsOf, readOf, compactedOf}
 use Rattle.joblog.proofs.CompactLaws.{bytes-length}
 use Rattle.joblog.specs.Calls.{Call, answered, refused, readLogOf, compactAnswer, compactingOf, appendOf, restartOf}
-use Rattle.joblog_laws.specs.Run.{Writing, idle, within, World, begun, Step, begins, byte, completes, goes, finishes, crash, restart, has, asRequested, logAfter, usedAfter, inPlace, mayAppend, beginning, withByte, writingByte, completing, mayBeUsed, crashUsed, isIdle, finishing, next, run}
+use Rattle.joblog_laws.specs.Run.{Writing, idle, within, World, begun, Step, begins, byte, completes, goes, finishes, hears, lost, crash, restart, has, asRequested, logAfter, usedAfter, inPlace, mayAppend, beginning, withByte, writingByte, completing, mayBeUsed, crashUsed, isIdle, finishing, arriving, next, run}
 use Rattle.joblog_laws.specs.Histories.{pagesOf}
 use Rattle.joblog_laws.proofs.ReadingLaws.{both}
 use Rattle.joblog_laws.proofs.HeldLaws.{Held, held-read, cutLog, Change, same, sent, done, After, Outcome, refusal, placed, moved, append-outcome, append-after, cut-now, cut-after, restart-outcome, restart-held}
-use Rattle.joblog_laws.proofs.PageLaws.{pages-length, pages-front, has-pages}
+use Rattle.joblog_laws.proofs.PageLaws.{pages-length, pages-front, first-page}
 
 -- ---- an append that is under way: `base` is the buffer when it began
 pub record Within (base log : List ℕ) (used : ℕ) (s : State) (count tag page : ℕ) (c : Call) (k : ℕ) : Type 0 where
@@ -43,6 +43,28 @@ flight-more base log used s n m idle h f = f
 flight-more base log used s n m (within tag page c k) h f =
     record { second = f .second; outcome = f .outcome; there = f .there; few = f .few; told = λ two. let t = f .told two in omega arith }
 
+-- ---- pages that are no later than one
+abbrev pub Below : ℕ → List ℕ → Type 0
+Below n [] = Unit
+Below n (page ∷ pages) = (page ≤ n) × Below n pages
+
+below-has : (n : ℕ) (pages : List ℕ) (page : ℕ) → Below n pages → has pages page ≡ true → page ≤ n
+unfolding has
+below-has n [] page b h = absurd (false≢true h)
+below-has n (p ∷ pages) page b h = go (eqb p page) refl (below-has n pages page (b .1)) h
+  where
+    go : (t : Bool) → eqb p page ≡ t → (has pages page ≡ true → page ≤ n) → t || has pages page ≡ true → page ≤ n
+    go true e rest h = let q = eqb-true p page e in let l = b .0 in omega arith
+    go false e rest h = rest h
+
+below-more : (n m : ℕ) (pages : List ℕ) → n ≤ m → Below n pages → Below m pages
+below-more n m [] l b = tt
+below-more n m (page ∷ pages) l b = let h = b .0 in (omega arith, below-more n m pages l (b .1))
+
+below-behind : (n page : ℕ) (pages : List ℕ) → Below n pages → page ≤ n → Below n (pages ++ (page ∷ []))
+below-behind n page [] b h = (h, tt)
+below-behind n page (p ∷ pages) b h = (b .0, below-behind n page pages (b .1) h)
+
 -- ---- what every step keeps
 pub record Inv (w : World) : Type 0 where
   pub says : State
@@ -54,6 +76,9 @@ pub record Inv (w : World) : Type 0 where
   pub behind : says .finished ≤ length (w .finished)
   pub ahead : last ≤ says .sent
   pub out : w .up ≡ true → w .out ≡ last
+  -- an acknowledgement is of a finished page
+  pub heard : Below (length (w .finished)) (w .heard)
+  pub coming : Below (length (w .finished)) (w .coming)
 
 pub counted : (w : World) (i : Inv w) → length (w .finished) + length (w .tray) ≡ i .last
 counted w i = let l = pages-length (i .last) in let n = length-append (w .finished) (w .tray) in let e = ap length (i .here) in omega arith
@@ -70,8 +95,8 @@ change-between (done a b c) n h d = let k = d a in (omega arith, omega arith)
 -- ---- an append begins
 may-append : (w : World) (i : Inv w) (tag page : ℕ) → mayAppend asRequested w tag page ≡ true → tag ≡ 2 → page ≤ length (w .finished)
 may-append w i tag page h two =
-    let k = both (w .up) (cond (eqb tag 2) (has (w .finished) page) true) h in
-    has-pages (length (w .finished)) page (rw (← pages-front (w .finished) (w .tray) (i .last) (i .here)) (rw two at (k .1)))
+    let k = both (w .up) (cond (eqb tag 2) (has (w .heard) page) true) h in
+    below-has (length (w .finished)) (w .heard) page (i .heard) (rw two at (k .1))
 
 no-bytes : (log : List ℕ) (used : ℕ) (c : Call) (tag page : ℕ) → used ≤ length log → log ≡ cutLog log used c tag page 0
 no-bytes log used c tag page fits = by-place (inPlace c)
@@ -89,7 +114,7 @@ begins-kept w i idle e tag page second = by-test (mayAppend asRequested w tag pa
     c = appendOf (w .log) (w .used) tag page second
 
     by-test : (b : Bool) → mayAppend asRequested w tag page ≡ b
-        → Inv (cond b (record { log = w .log; used = w .used; up = w .up; out = w .out; writing = within tag page c 0; tray = w .tray; finished = w .finished }) w)
+        → Inv (cond b (record { log = w .log; used = w .used; up = w .up; out = w .out; writing = within tag page c 0; heard = w .heard; tray = w .tray; finished = w .finished; coming = w .coming }) w)
     by-test false m = i
     by-test true m =
         let h = held-now w i in
@@ -109,6 +134,8 @@ begins-kept w i idle e tag page second = by-test (mayAppend asRequested w tag pa
           behind = i .behind;
           ahead = i .ahead;
           out = i .out;
+          heard = i .heard;
+          coming = i .coming;
         }
 
 -- ---- one byte more
@@ -137,7 +164,7 @@ byte-kept w i (within tag page c k) e = by-test (inPlace c && ltb k 5) refl
     f = subst (Flight (i .base) (w .log) (w .used) (i .says) (length (w .finished))) e (i .flight)
 
     by-test : (b : Bool) → inPlace c && ltb k 5 ≡ b
-        → Inv (cond b (record { log = withByte (w .log) (w .used) tag page k; used = w .used; up = w .up; out = w .out; writing = within tag page c (k + 1); tray = w .tray; finished = w .finished }) w)
+        → Inv (cond b (record { log = withByte (w .log) (w .used) tag page k; used = w .used; up = w .up; out = w .out; writing = within tag page c (k + 1); heard = w .heard; tray = w .tray; finished = w .finished; coming = w .coming }) w)
     by-test false t = i
     by-test true t =
         let p = both (inPlace c) (ltb k 5) t in
@@ -158,6 +185,8 @@ byte-kept w i (within tag page c k) e = by-test (inPlace c && ltb k 5) refl
           behind = i .behind;
           ahead = i .ahead;
           out = i .out;
+          heard = i .heard;
+          coming = i .coming;
         }
 
 -- ---- the append completes
@@ -170,7 +199,7 @@ completes-kept w i (within tag page c k) e = by-test (inPlace c && ltb k 5)
     f = subst (Flight (i .base) (w .log) (w .used) (i .says) (length (w .finished))) e (i .flight)
 
     by-test : (b : Bool)
-        → Inv (cond b w (record { log = logAfter c; used = usedAfter c (w .used); up = w .up; out = w .out; writing = idle; tray = w .tray; finished = w .finished }))
+        → Inv (cond b w (record { log = logAfter c; used = usedAfter c (w .used); up = w .up; out = w .out; writing = idle; heard = w .heard; tray = w .tray; finished = w .finished; coming = w .coming }))
     by-test true = i
     by-test false =
         let a = append-after (i .base) (w .used) (i .says) tag page (f .second) (i .held) (f .outcome) in
@@ -186,6 +215,8 @@ completes-kept w i (within tag page c k) e = by-test (inPlace c && ltb k 5)
           behind = b .0;
           ahead = omega arith;
           out = i .out;
+          heard = i .heard;
+          coming = i .coming;
         }
 
 -- ---- a restart: the log says the count, and the tray is empty
@@ -216,7 +247,7 @@ restart-kept w i second = rw (restarted w i second) (by-room (leb (length text) 
     here = append-nil (w .finished) ∙ pages-front (w .finished) (w .tray) (i .last) (i .here)
 
     after : Call → World
-    after c = record { log = logAfter c; used = usedAfter c (w .used); up = eqb (c .answer .number) 0; out = n; writing = idle; tray = []; finished = w .finished }
+    after c = record { log = logAfter c; used = usedAfter c (w .used); up = eqb (c .answer .number) 0; out = n; writing = idle; heard = w .heard; tray = []; finished = w .finished; coming = w .coming }
 
     by-room : (b : Bool) → leb (length text) (length second) ≡ b
         → Inv (after (record { answer = cond b (answered 1 t (length text)) (refused logSecondShort n); log = w .log; second = putOf second 0 text }))
@@ -232,10 +263,12 @@ restart-kept w i second = rw (restarted w i second) (by-room (leb (length text) 
           behind = omega arith;
           ahead = b .1;
           out = λ u. refl;
+          heard = i .heard;
+          coming = i .coming;
         }
     by-room false e =
         let b = count-between w i in
-        record { says = i .says; base = w .log; held = held-now w i; flight = refl; last = n; here = here; behind = b .0; ahead = b .1; out = λ u. refl }
+        record { says = i .says; base = w .log; held = held-now w i; flight = refl; last = n; here = here; behind = b .0; ahead = b .1; out = λ u. refl; heard = i .heard; coming = i .coming }
 
 -- ---- the embosser finishes a page, and a page goes out
 finish-kept : (w : World) (tray : List ℕ) → w .tray ≡ tray → Inv w → Inv (finishing w tray)
@@ -254,6 +287,32 @@ finish-kept w (page ∷ rest) e i =
       behind = omega arith;
       ahead = i .ahead;
       out = i .out;
+      heard = below-more (length (w .finished)) (length (w .finished ++ (page ∷ []))) (w .heard) (omega arith) (i .heard);
+      coming = below-behind (length (w .finished ++ (page ∷ []))) page (w .coming)
+          (below-more (length (w .finished)) (length (w .finished ++ (page ∷ []))) (w .coming) (omega arith) (i .coming))
+          (first-page (w .finished) page rest (i .last) (ap (λ (l : List ℕ). w .finished ++ l) (sym e) ∙ i .here));
+    }
+
+-- ---- an acknowledgement is heard, or lost
+arriving-kept : (w : World) (heard : List ℕ → ℕ → List ℕ)
+    → ((n page : ℕ) (pages : List ℕ) → Below n pages → page ≤ n → Below n (heard pages page))
+    → (coming : List ℕ) → w .coming ≡ coming → Inv w → Inv (arriving w heard coming)
+unfolding arriving
+arriving-kept w heard keeps [] e i = i
+arriving-kept w heard keeps (page ∷ rest) e i =
+    let b = subst (Below (length (w .finished))) e (i .coming) in
+    record {
+      says = i .says;
+      base = i .base;
+      held = i .held;
+      flight = i .flight;
+      last = i .last;
+      here = i .here;
+      behind = i .behind;
+      ahead = i .ahead;
+      out = i .out;
+      heard = keeps (length (w .finished)) page (w .heard) (i .heard) (b .0);
+      coming = b .1;
     }
 
 one-more : (l : List ℕ) (m page : ℕ) → l ≡ pagesOf m → page ≡ suc m → l ++ (page ∷ []) ≡ pagesOf (suc m)
@@ -265,7 +324,7 @@ unfolding next
 goes-kept w i = by-test (w .up && isIdle (w .writing) && leb (w .out + 1) (readLogOf (w .log) (w .used) .sent)) refl
   where
     by-test : (b : Bool) → w .up && isIdle (w .writing) && leb (w .out + 1) (readLogOf (w .log) (w .used) .sent) ≡ b
-        → Inv (cond b (record { log = w .log; used = w .used; up = true; out = w .out + 1; writing = idle; tray = w .tray ++ ((w .out + 1) ∷ []); finished = w .finished }) w)
+        → Inv (cond b (record { log = w .log; used = w .used; up = true; out = w .out + 1; writing = idle; heard = w .heard; tray = w .tray ++ ((w .out + 1) ∷ []); finished = w .finished; coming = w .coming }) w)
     by-test false e = i
     by-test true e =
         let j = both (w .up && isIdle (w .writing)) (leb (w .out + 1) (readLogOf (w .log) (w .used) .sent)) e in
@@ -283,6 +342,8 @@ goes-kept w i = by-test (w .up && isIdle (w .writing) && leb (w .out + 1) (readL
           behind = i .behind;
           ahead = omega arith;
           out = λ u. p;
+          heard = i .heard;
+          coming = i .coming;
         }
 
 -- ---- a crash
@@ -326,6 +387,8 @@ crash-kept w i left u =
       behind = s .behind;
       ahead = omega arith;
       out = λ up. let z : _≡_ {A = ℕ} 0 1 = cc in absurd (omega arith);
+      heard = tt;
+      coming = i .coming;
     }
 
 -- ---- every step
@@ -336,6 +399,8 @@ next-kept w i byte = byte-kept w i (w .writing) refl
 next-kept w i completes = completes-kept w i (w .writing) refl
 next-kept w i goes = goes-kept w i
 next-kept w i finishes = finish-kept w (w .tray) refl i
+next-kept w i hears = arriving-kept w (λ heard page. page ∷ heard) (λ n page pages b h. (h, b)) (w .coming) refl i
+next-kept w i lost = arriving-kept w (λ heard page. heard) (λ n page pages b h. b) (w .coming) refl i
 next-kept w i (crash left u) = crash-kept w i left u
 next-kept w i (restart second) = restart-kept w i second
 
@@ -357,4 +422,6 @@ begun-kept buffer =
       behind = omega arith;
       ahead = omega arith;
       out = λ u. refl;
+      heard = tt;
+      coming = tt;
     }

@@ -10,7 +10,7 @@ use lib.ListN.{getD, replicate}
 use Rattle.text.specs.Text.{putOf}
 use Rattle.joblog.specs.Records.{bytesOf, recordsOf, inTurn, afterOf, readOf, openOf, compactedOf}
 use Rattle.joblog.specs.Calls.{readLogOf, readAnswer, newInTurn, compactAnswer, writtenOf, appendedOf, appendOf, restartedOf, restartOf}
-use Rattle.joblog_laws.specs.Run.{World, begun, Step, begins, byte, completes, goes, finishes, crash, restart, has, Rules, asRequested, beginning, writingByte, completing, finishing, crashUsed, isIdle, next, run}
+use Rattle.joblog_laws.specs.Run.{World, begun, Step, begins, byte, completes, goes, finishes, hears, lost, crash, restart, has, Rules, asRequested, beginning, writingByte, completing, finishing, arriving, crashUsed, isIdle, next, run}
 use Rattle.joblog_laws.specs.Histories.{pagesOf, KeptBy}
 
 abbrev buffer : List ℕ
@@ -25,18 +25,18 @@ appended tag page = started tag page ++ (byte ∷ completes ∷ [])
 
 -- where a history ends; to unfold this is to unfold all that a run computes
 ends : Rules → List Step → World
-unfolding run next beginning writingByte completing finishing crashUsed isIdle has putOf bytesOf recordsOf inTurn afterOf readOf openOf compactedOf readLogOf readAnswer newInTurn compactAnswer writtenOf appendedOf appendOf restartedOf restartOf pagesOf
+unfolding run next beginning writingByte completing finishing arriving crashUsed isIdle has putOf bytesOf recordsOf inTurn afterOf readOf openOf compactedOf readLogOf readAnswer newInTurn compactAnswer writtenOf appendedOf appendOf restartedOf restartOf pagesOf
 ends rules steps = run rules (begun buffer) steps
 
 -- ---- by the request: pages 1 and 2 go out and are finished, page 1's done is recorded, page 2's acknowledgement is lost, the host crashes in the append
 -- of page 3's sent record, and after the restart page 3 goes out
-lost : List Step
-lost =
-    appended 1 1 ++ (goes ∷ []) ++ appended 1 2 ++ (goes ∷ finishes ∷ finishes ∷ []) ++ appended 2 1 ++ started 1 3
+one-lost : List Step
+one-lost =
+    appended 1 1 ++ (goes ∷ []) ++ appended 1 2 ++ (goes ∷ finishes ∷ finishes ∷ hears ∷ lost ∷ []) ++ appended 2 1 ++ started 1 3
     ++ (crash 0 19 ∷ restart buffer ∷ []) ++ appended 1 3 ++ (goes ∷ finishes ∷ [])
 
-as-requested : ends asRequested lost .finished ≡ 1 ∷ 2 ∷ 3 ∷ []
-unfolding ends lost
+as-requested : ends asRequested one-lost .finished ≡ 1 ∷ 2 ∷ 3 ∷ []
+unfolding ends one-lost
 as-requested = refl
 
 -- ---- the open pages after the last done go out again, whatever the count: page 1, finished and not recorded as done, is finished twice
@@ -75,7 +75,7 @@ not-with-its-tray h =
 
 -- ---- a done is recorded before its page is finished: the true count is then refused by 14
 abbrev pub done-before-finished : Rules
-done-before-finished = record { told = λ finished page. true; ready = leb; resume = λ done count. count; kept = λ tray. [] }
+done-before-finished = record { told = λ heard page. true; ready = leb; resume = λ done count. count; kept = λ tray. [] }
 
 too-early : List Step
 too-early = appended 1 1 ++ (goes ∷ []) ++ appended 2 1 ++ (crash 0 0 ∷ [])

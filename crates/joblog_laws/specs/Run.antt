@@ -7,7 +7,8 @@
 --   a count     it is true where it is the number of pages finished, and the embosser drops what it has not finished when it reports it: the open
 --               pages go out again, and one still in its tray would be finished twice (`keeps-its-tray` in proofs/WrongRules).
 --   the host    after any crash it restarts before it appends or sends: `up` says so. It sends no page while it is in an append.
---   a done      is recorded only of a page that the embosser has finished. An acknowledgement that is lost is a done that never comes.
+--   a done      is recorded only of a page whose acknowledgement the host has heard. The embosser gives one when it has finished a page; it may be
+--               lost on its way, or come late, after a crash and a restart too (the steps `hears` and `lost`).
 --   the buffer  an append's bytes become lasting one by one, from the first on, and `used` never counts a byte that is not lasting; the move to the
 --               second buffer is lasting at once, when the call has returned and before a page goes out.
 use Prim.Native.Nat.{ℕ, _+_}
@@ -29,17 +30,21 @@ pub record World : Type 0 where
   -- lasting, the host's: the buffer that is the log now, and how many of its bytes are the log
   pub log : List ℕ
   pub used : ℕ
-  -- the host's memory: whether it runs and has restarted since the last crash, the last page that went out, and the append that it is in
+  -- the host's memory: whether it runs and has restarted since the last crash, the last page that went out, the append that it is in, and the pages
+  -- whose acknowledgement it has heard
   pub up : Bool
   pub out : ℕ
   pub writing : Writing
+  pub heard : List ℕ
   -- the embosser's: the pages that reached it and are not finished, and those that it has finished, the oldest first
   pub tray : List ℕ
   pub finished : List ℕ
+  -- the acknowledgements on their way to the host, the oldest first
+  pub coming : List ℕ
 
 -- a job begins: any buffer, and an empty log in it
 abbrev pub begun : List ℕ → World
-begun buffer = record { log = buffer; used = 0; up = true; out = 0; writing = idle; tray = []; finished = [] }
+begun buffer = record { log = buffer; used = 0; up = true; out = 0; writing = idle; heard = []; tray = []; finished = []; coming = [] }
 
 pub data Step : Type 0 where
   -- the host calls append with a record, its tag and page, and lends a second buffer
@@ -50,8 +55,11 @@ pub data Step : Type 0 where
   completes : Step
   -- the page after the last one goes out, and reaches the embosser
   goes : Step
-  -- the embosser finishes the first page of its tray
+  -- the embosser finishes the first page of its tray, and acknowledges it
   finishes : Step
+  -- the first acknowledgement on its way reaches the host; it is lost
+  hears : Step
+  lost : Step
   -- host, link or embosser fail: of the tray the first pages are left, that many; where the host was in an append, `used` may be any number of the
   -- bytes that are there
   crash : ℕ → ℕ → Step
@@ -64,7 +72,7 @@ has (p ∷ pages) page = eqb p page || has pages page
 
 -- ---- the rules of host and embosser. Those of the request are below; proofs/WrongRules has others, under which the promise fails.
 pub record Rules : Type 0 where
-  -- the finished pages, a page: may the host record it as done?
+  -- the pages whose acknowledgement was heard, a page: may the host record it as done?
   pub told : List ℕ → ℕ → Bool
   -- a page, the pages that the log says are sent: may it go out?
   pub ready : ℕ → ℕ → Bool
@@ -90,14 +98,14 @@ abbrev pub inPlace : Call → Bool
 inPlace c = eqb (c .answer .number) 0 && eqb (c .answer .moved) 0
 
 abbrev pub mayAppend : Rules → World → ℕ → ℕ → Bool
-mayAppend rules w tag page = w .up && cond (eqb tag doneTag) (rules .told (w .finished) page) true
+mayAppend rules w tag page = w .up && cond (eqb tag doneTag) (rules .told (w .heard) page) true
 
 unfoldable pub beginning : Rules → World → Writing → ℕ → ℕ → List ℕ → World
 beginning rules w (within t p c k) tag page second = w
 beginning rules w idle tag page second =
     let c = appendOf (w .log) (w .used) tag page second in
     cond (mayAppend rules w tag page)
-    (record { log = w .log; used = w .used; up = w .up; out = w .out; writing = within tag page c 0; tray = w .tray; finished = w .finished })
+    (record { log = w .log; used = w .used; up = w .up; out = w .out; writing = within tag page c 0; heard = w .heard; tray = w .tray; finished = w .finished; coming = w .coming })
     w
 
 -- the next one of the record's five bytes, behind the last whole record and those that are there
@@ -114,8 +122,10 @@ writingByte w (within tag page c k) =
       up = w .up;
       out = w .out;
       writing = within tag page c (k + 1);
+      heard = w .heard;
       tray = w .tray;
       finished = w .finished;
+      coming = w .coming;
     })
     w
 
@@ -124,12 +134,38 @@ completing w idle = w
 completing w (within tag page c k) =
     cond (inPlace c && ltb k 5)
     w
-    (record { log = logAfter c; used = usedAfter c (w .used); up = w .up; out = w .out; writing = idle; tray = w .tray; finished = w .finished })
+    (record { log = logAfter c; used = usedAfter c (w .used); up = w .up; out = w .out; writing = idle; heard = w .heard; tray = w .tray; finished = w .finished; coming = w .coming })
 
 unfoldable pub finishing : World → List ℕ → World
 finishing w [] = w
 finishing w (page ∷ rest) =
-    record { log = w .log; used = w .used; up = w .up; out = w .out; writing = w .writing; tray = rest; finished = w .finished ++ (page ∷ []) }
+    record {
+      log = w .log;
+      used = w .used;
+      up = w .up;
+      out = w .out;
+      writing = w .writing;
+      heard = w .heard;
+      tray = rest;
+      finished = w .finished ++ (page ∷ []);
+      coming = w .coming ++ (page ∷ []);
+    }
+
+-- the first acknowledgement on its way: the pages that the host has then heard of, and where it is lost those of before
+unfoldable pub arriving : World → (List ℕ → ℕ → List ℕ) → List ℕ → World
+arriving w heard [] = w
+arriving w heard (page ∷ rest) =
+    record {
+      log = w .log;
+      used = w .used;
+      up = w .up;
+      out = w .out;
+      writing = w .writing;
+      heard = heard (w .heard) page;
+      tray = w .tray;
+      finished = w .finished;
+      coming = rest;
+    }
 
 -- what `used` may be after a crash in an append with k of the record's bytes lasting
 abbrev pub mayBeUsed : ℕ → ℕ → ℕ → Bool
@@ -155,11 +191,15 @@ next rules w goes =
       up = true;
       out = w .out + 1;
       writing = idle;
+      heard = w .heard;
       tray = w .tray ++ ((w .out + 1) ∷ []);
       finished = w .finished;
+      coming = w .coming;
     })
     w
 next rules w finishes = finishing w (w .tray)
+next rules w hears = arriving w (λ heard page. page ∷ heard) (w .coming)
+next rules w lost = arriving w (λ heard page. heard) (w .coming)
 next rules w (crash left u) =
     record {
       log = w .log;
@@ -167,8 +207,10 @@ next rules w (crash left u) =
       up = false;
       out = 0;
       writing = idle;
+      heard = [];
       tray = take left (w .tray);
       finished = w .finished;
+      coming = w .coming;
     }
 next rules w (restart second) =
     let count = length (w .finished) in
@@ -179,8 +221,10 @@ next rules w (restart second) =
       up = eqb (c .answer .number) 0;
       out = rules .resume (readLogOf (w .log) (w .used) .finished) count;
       writing = idle;
+      heard = w .heard;
       tray = rules .kept (w .tray);
       finished = w .finished;
+      coming = w .coming;
     }
 
 unfoldable pub run : Rules → World → List Step → World

@@ -12,7 +12,8 @@ use lib.Ieee.Fits.{down-pos}
 use lib.Ieee.Exact.{HasValue, odd-sign}
 use lib.Ieee.Nearest.{div-same}
 use lib.Ieee.Bits.{ofBits-toBits}
-use Rattle.map_form.specs.Hundredths.{nearestTo, hundredthsOf, atMost}
+use Rattle.map_form.specs.Hundredths.{atMost}
+use Rattle.map_form.specs.Written.{nearestTo, hundredthsOf}
 
 ruleset ring = (mul-assoc, mul-comm, mul-left-comm, mul-add, add-mul)
 

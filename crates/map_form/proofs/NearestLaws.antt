@@ -12,10 +12,12 @@ use Rattle.refusals.specs.Refusals.{noRefusal, refusal}
 use Rattle.refusals.specs.declared.Refusal.{Refusal}
 use Rattle.map_form.specs.declared.MapForm.{MapForm}
 use Rattle.map_form.specs.declared.writing.Written.{Written}
-use Rattle.map_form.specs.Hundredths.{inDegree, signed, sizeOf, nearestTo, hundredthsOf, atMost, formFits}
-use Rattle.map_form.specs.Written.{signFor, partsOf, formOf, noParts, nearestCount, writtenOf}
-use Rattle.map_form.specs.Promises.{Nearest, Right, WriterIsRight, WrittenFits, OneIsNearest}
+use Rattle.map_form.specs.Hundredths.{inDegree, signed, sizeOf, atMost, formFits}
+use Rattle.map_form.specs.Written.{partsOf, formOf, nearestCount, writtenOf, nearestTo, hundredthsOf}
+use Rattle.map_form.specs.Promises.{OneIsNearest, OneIsOwed}
+use Rattle.map_form.specs.Owed.{signFor, noParts, Nearest, Right, Owed}
 use Rattle.map_form.proofs.Range.{count-le}
+use Rattle.map_form.proofs.RoundTrip.{fits}
 
 -- ---- `nearestTo` is the nearest, and there is only one
 nearest-is : (a d : ℕ) → 0 < d → Nearest a d (nearestTo a d)
@@ -77,22 +79,41 @@ form-fits most true zero h = parts-fit most 0 0 (omega arith) h
 form-fits most true (suc n) h = parts-fit most 1 (suc n) (omega arith) h
 form-fits most false n h = parts-fit most 0 n (omega arith) h
 
--- ---- What is not refused is in range; what is refused is out of range by the definition.
-by-range : (P : MapForm → Type 0) (tag most : ℕ) (x : Float) → (atMost most x ≡ true → P (formOf (nearestCount x)))
-    → writtenOf tag most x .refusal ≡ noRefusal → P (writtenOf tag most x .form)
+-- ---- what the writer works out is what it owes, and nothing else is
+pub owed : (tag most : ℕ) (x : Float) → Owed tag most x (writtenOf tag most x)
 unfolding writtenOf
-by-range P tag most x in-range h = go (atMost most x) refl h
+owed tag most x =
+    record {
+      inside = λ h. rw h (refl, form-fits most (isNegativeOf x) (hundredthsOf x) (count-le x most h), right x most h);
+      outside = λ h. rw h refl;
+    }
+
+-- four parts in their limits are those of their count
+parts-of : (most : ℕ) (f g : MapForm) → formFits most f ≡ true → formFits most g ≡ true → f .sign ≡ g .sign → sizeOf f ≡ sizeOf g → f ≡ g
+parts-of most f g p q s e =
+    let a = fits most f p in
+    let b = fits most g q in
+    let m : f .minutes ≡ g .minutes = omega (arith, e, a .minutes-in, b .minutes-in, a .seconds-in, b .seconds-in, a .hundredths-in, b .hundredths-in) in
+    let t : f .seconds ≡ g .seconds = omega (arith, e, a .minutes-in, b .minutes-in, a .seconds-in, b .seconds-in, a .hundredths-in, b .hundredths-in) in
+    let h : f .hundredths ≡ g .hundredths = omega (arith, e, a .minutes-in, b .minutes-in, a .seconds-in, b .seconds-in, a .hundredths-in, b .hundredths-in) in
+    let d : f .degrees ≡ g .degrees = omega (arith, e, m, t, h) in
+    λ i. record { sign = s i; degrees = d i; minutes = m i; seconds = t i; hundredths = h i }
+
+right-once : (x : Float) (most : ℕ) (f g : MapForm) → formFits most f ≡ true → formFits most g ≡ true → Right x f → Right x g → f ≡ g
+right-once nan most f g p q a b = absurd a
+right-once (inf s) most f g p q a b = absurd a
+right-once (fin s m e) most f g p q a b =
+    let n = one-is-nearest (m * up e * inDegree) (down e) (sizeOf f) (sizeOf g) (a .0) (b .0) in
+    parts-of most f g p q (a .1 ∙ ap (λ (z : ℕ). signFor z (cond s 1 0)) n ∙ sym (b .1)) n
+
+pub one-is-owed : OneIsOwed
+one-is-owed tag most x v w h k = go (atMost most x) refl
   where
-    answer : Bool → Written
-    answer t = cond t (record { refusal = noRefusal; form = formOf (nearestCount x) }) (record { refusal = refusal 5 tag; form = noParts })
-
-    go : (t : Bool) → atMost most x ≡ t → answer t .refusal ≡ noRefusal → P (answer t .form)
-    go true e h = in-range e
-    go false e h = let z : _≡_ {A = ℕ} 5 0 = ap (λ (r : Refusal). r .number) h in absurd (omega arith)
-
-pub writer-is-right : WriterIsRight
-writer-is-right tag most x h = by-range (Right x) tag most x (right x most) h
-
-pub written-fits : WrittenFits
-written-fits tag most x h =
-    by-range (λ (f : MapForm). formFits most f ≡ true) tag most x (λ r. form-fits most (isNegativeOf x) (hundredthsOf x) (count-le x most r)) h
+    go : (t : Bool) → atMost most x ≡ t → v ≡ w
+    go true e =
+        let a = h .inside e in
+        let b = k .inside e in
+        let r : v .refusal ≡ w .refusal = a .0 ∙ sym (b .0) in
+        let f : v .form ≡ w .form = right-once x most (v .form) (w .form) (a .1) (b .1) (a .2) (b .2) in
+        λ i. record { refusal = r i; form = f i }
+    go false e = h .outside e ∙ sym (k .outside e)

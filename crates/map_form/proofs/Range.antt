@@ -14,7 +14,8 @@ use lib.Ieee.Back.{round-whole}
 use lib.Ieee.Order.{le-of-values}
 use Rattle.float64.specs.Sizes.{absOf}
 use Rattle.float64.proofs.Within.{under-value}
-use Rattle.map_form.specs.Hundredths.{nearestTo, hundredthsOf, atMost}
+use Rattle.map_form.specs.Hundredths.{atMost}
+use Rattle.map_form.specs.Written.{nearestTo, hundredthsOf}
 
 same : (a b : Bool) → (T a → T b) → (T b → T a) → a ≡ b
 same true true f g = refl

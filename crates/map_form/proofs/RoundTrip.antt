@@ -13,8 +13,9 @@ use Rattle.refusals.specs.Refusals.{noRefusal}
 use Rattle.map_form.specs.declared.MapForm.{MapForm}
 use Rattle.map_form.specs.declared.writing.Written.{Written}
 use Rattle.map_form.specs.Hundredths.{inDegree, signed, sizeOf, countOf, degreesOf, atMost, formFits}
-use Rattle.map_form.specs.Written.{signFor, partsOf, formOf, writtenOf}
+use Rattle.map_form.specs.Written.{partsOf, formOf, writtenOf}
 use Rattle.map_form.specs.Promises.{back, WritingGivesBack}
+use Rattle.map_form.specs.Owed.{signFor}
 use Rattle.map_form.proofs.Rounding.{round-back}
 
 -- ---- the rounding is in range where the count is, and has its sign

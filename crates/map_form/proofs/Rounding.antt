@@ -14,7 +14,8 @@ use lib.Ieee.Nearest.{closest, nearest-ge}
 use lib.Ieee.Order.{drop, kept}
 use lib.Ieee.Exact.{HasValue, units-val}
 use lib.Ieee.Scale.{grid, overflow}
-use Rattle.map_form.specs.Hundredths.{inDegree, nearestTo, hundredthsOf}
+use Rattle.map_form.specs.Hundredths.{inDegree}
+use Rattle.map_form.specs.Written.{nearestTo, hundredthsOf}
 
 -- `omega` multiplies out up to four factors. Past that both sides are brought to one form by these first.
 ruleset ring = (mul-assoc, mul-comm, mul-left-comm, mul-add, add-mul)

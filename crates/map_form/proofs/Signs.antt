@@ -7,8 +7,9 @@ use lib.Ieee.{Float}
 use Rattle.float64.specs.Words.{isNegativeOf}
 use Rattle.refusals.specs.Refusals.{refusal, noRefusal}
 use Rattle.map_form.specs.declared.writing.Written.{Written}
-use Rattle.map_form.specs.Hundredths.{signed, hundredthsOf, atMost}
-use Rattle.map_form.specs.Written.{signFor, partsOf, formOf, noParts, writtenOf}
+use Rattle.map_form.specs.Hundredths.{signed, atMost}
+use Rattle.map_form.specs.Written.{partsOf, formOf, writtenOf, hundredthsOf}
+use Rattle.map_form.specs.Owed.{signFor, noParts}
 
 pub naught : (s : Bool) (n : ℕ) → n ≡ 0 → 0 ≡ signFor n (cond s 1 0)
 naught s zero e = refl

@@ -1,6 +1,6 @@
 -- Request 7: "five bytes, sign (0 or 1, 1 is south or west) and those four, the last three at most 59, 59 and 99. The f64 is the signed count of
 -- hundredths divided by 360,000, rounded once." A coordinate as on the map, as a count of hundredths and as an f64.
-use Prim.Native.Nat.{ℕ, suc, _+_, _*_, _/_}
+use Prim.Native.Nat.{ℕ, suc, _+_, _*_}
 use mathlib.Core.Bool.{Bool, true, false, cond, _&&_}
 use lib.Dec.{leb, eqb}
 use lib.Ieee.{Float, nan, inf, fin, binary64, up, down, round}
@@ -47,13 +47,3 @@ unfoldable pub atMost : ℕ → Float → Bool
 atMost n nan = false
 atMost n (inf s) = false
 atMost n (fin s m e) = leb (m * up e) (n * down e)
-
--- "the nearest hundredth, a half going away from zero": of a / d the whole part of a / d + 1 / 2 (specs/Promises says what nearest is)
-abbrev pub nearestTo : ℕ → ℕ → ℕ
-nearestTo a d = (2 * a + d) / (2 * d)
-
--- of the size of x's exact value
-unfoldable pub hundredthsOf : Float → ℕ
-hundredthsOf nan = 0
-hundredthsOf (inf s) = 0
-hundredthsOf (fin s m e) = nearestTo (m * up e * inDegree) (down e)

@@ -1,3 +1,4 @@
 pub mod Hundredths
+pub mod Owed
 pub mod Written
 pub mod Promises

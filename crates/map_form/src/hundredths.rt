@@ -2,7 +2,8 @@
 ghost use mathlib.Core.Path.{_≡_};
 ghost use mathlib.Core.Bool.{true};
 ghost use Prim.Native.Nat.{_*_, _/_, _^_, _≤_, _<_};
-ghost use Rattle.map_form.specs.Hundredths.{hundredthsOf, atMost};
+ghost use Rattle.map_form.specs.Hundredths.{atMost};
+ghost use Rattle.map_form.specs.Written.{hundredthsOf};
 
 // The weights of the sign and of the exponent's field in a bit pattern; the second is also the leading digit that the pattern leaves out.
 const SIGN: u64 = 0x8000_0000_0000_0000;

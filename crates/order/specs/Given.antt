@@ -58,7 +58,7 @@ minutesOr v missing = cond (v .has 11) (minutesIn (v .value 11)) missing
 unfoldable pub intervalOr : Values → ℤ → ℤ
 intervalOr v missing = cond (v .has 14) (pos (unsignedOf (v .value 14) 0)) missing
 
--- request 7: "Tags 18 and 19 stand for latitude and longitude": a coordinate by the tag of its float, and else by the one of its form on the map
+-- request 7: "Tags 18 and 19 stand for latitude and longitude": a coordinate by its form on the map where that stands, and else by its float
 unfoldable pub coordinateIn : Values → (float map : ℕ) → Float
 coordinateIn v float map = cond (v .has map) (degreesOf (countOf (formIn (v .value map)))) (degreesIn (v .value float))
 

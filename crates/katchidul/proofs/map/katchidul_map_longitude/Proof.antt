@@ -4,7 +4,7 @@ use Rattle.katchidul.proofs.map.katchidul_map_longitude.Statement.{stat
 use Rattle.katchidul.proofs.map.katchidul_map_longitude.Tie as tie
 
 returns : tie.Need-returns
-returns c = c .map-answer .ensures ∙ ap mapAnswerOf (c .before .write-longitude .ensures)
+returns c = c .map-answer .ensures ∙ ap mapAnswerOf (c .before .write-longitude .ensures .0)
 
 pub katchidul-map-longitude-spec : {M : Type 1} → statement M
 katchidul-map-longitude-spec = tie.close (tie.spec (λ c κs. tt) (λ c κs. tt) returns)
