@@ -272,7 +272,7 @@ typedef struct katchidul_cells {
    the letters a to j of the literary code. The day is the row's own date's. The times are by the order's clock: its `clock` minutes are
    added to the UTC instant, and the seconds are dropped. A day that is refused (6 to 8) shows its day and 36 blanks, and the call is not
    refused for it. `rows` is 1. The buffer's bytes after the cells stay; where the call is refused all of them do. The buffer and the order
-   must not overlap. Refusals 1 to 5 and 9. */
+   must not overlap. Refusals 1 to 5, 9 and 15. */
 katchidul_cells katchidul_write_cells(const uint8_t *order, size_t length, uint32_t row, uint8_t *buffer, size_t size);
 
 /* Writes a page in braille, its rows one behind another, at the front of a scratch of `size` bytes, at least KATCHIDUL_PAGE_CELLS (9 below

@@ -135,6 +135,13 @@ static void check_order_of_checks(void) {
   one_page(&cut, 0, PAGE_LENGTH, 1, 46, "the order before the page");
   one_row(&empty, 0, 39, 4, 1, "an empty order");
   one_page(&empty, 1, PAGE_LENGTH, 4, 1, "an empty order");
+  static const struct { uint8_t without, tag, parts[5], number; } maps[] = {{0, 18, {0}, 15}, {0, 19, {0}, 15}, {4, 18, {0, 91}, 5}, {5, 19, {2}, 5}};
+  for (size_t i = 0; i < sizeof maps / sizeof *maps; i++) {
+    order_bytes order = without(&good, maps[i].without);
+    put_map(&order, maps[i].tag, maps[i].parts);
+    one_row(&order, 10, 39, maps[i].number, maps[i].tag, "a refused coordinate as on the map");
+    one_page(&order, 0, PAGE_LENGTH, maps[i].number, maps[i].tag, "a refused coordinate as on the map");
+  }
   katchidul_cells row = katchidul_write_cells(NULL, 0, 0, NULL, 0), page = katchidul_write_page(NULL, 0, 1, NULL, 0);
   check(cells_refused(&row, 9, 0) && cells_refused(&page, 9, 0), "null pointers of no length");
 }

@@ -70,8 +70,9 @@ bool prayer_refused(const katchidul_prayer *answer, uint32_t number, uint32_t pl
 bool remaining_refused(const katchidul_remaining *answer, uint32_t number, uint32_t place);
 /* Writing the row gives this number and place, and the buffer is as they say. */
 bool line_answered(const answers *all, uint32_t number, uint32_t place);
+/* The same of its cells, which are given where this number is a day's. */
 bool cells_answered(const answers *all, uint32_t number, uint32_t place);
-/* The five calls on a row and its times give this number and place and nothing else. */
+/* The six calls on a row and its times give this number and place and nothing else; its cells' call where it is not the day's. */
 bool row_refused(const answers *all, uint32_t number, uint32_t place);
 /* The three calls on an instant give this number and place and nothing else. */
 bool instant_refused(const answers *all, uint32_t number, uint32_t place);
