@@ -113,8 +113,8 @@ typedef struct {
 row_cells cells_of(const katchidul_order *order, uint32_t row, const katchidul_day *day);
 uint32_t dots_in(const uint8_t *cells, size_t count);
 bool cells_refused(const katchidul_cells *answer, uint32_t number, uint32_t place);
-/* A whole call on a page, whatever the order. */
-bool page_agrees(const order_bytes *order, uint32_t page, size_t size);
+/* A whole call on a page, whatever the order, the row to begin at and the scratch. */
+bool page_agrees(const order_bytes *order, uint32_t page, uint32_t first, size_t size);
 
 /* sense.c: what holds of every answer, whatever the order. */
 bool answers_agree(const answers *all, uint32_t row, int64_t seconds, uint32_t nanoseconds);
@@ -133,6 +133,7 @@ void check_days(void);
 void check_instants(void);
 void check_lines(void);
 void check_cells(void);
+void check_pieces(const char *folder);
 void check_sentences(void);
 void check_map(void);
 void check_environment(void);
