@@ -1,4 +1,5 @@
-/* The file of punched pages, and how many of each job there are. A page stands there as it came: a line, page ID PAGE ROWS, and its cells. */
+/* The file of punched pages, and how many of each job there are. A page stands there as it came: a line, page ID PAGE ROWS, and its
+   cells. */
 #ifndef PUNCHED_H
 #define PUNCHED_H
 

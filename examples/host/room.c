@@ -31,16 +31,22 @@ static bool send_page(room *r, const job *j, uint32_t page) {
   return link_send_page(&r->embosser, j->id, page, cells, made.rows);
 }
 
+/* A record is in turn by the log that it is made for, so one that is refused is this host's own mistake, and the last thing it does. */
+static katchidul_log append(room *r, job *j, uint32_t tag, uint32_t page) {
+  katchidul_log now = job_append(r->spool, j, tag, page);
+  if (now.number != 0) {
+    say_of_job(r, j->id, "goes no further", now.number, now.place);
+    stop("its log", "as it was");
+  }
+  return now;
+}
+
 /* The next page by the queue's turn, its record first. */
 static bool send_next(room *r) {
   katchidul_turned turn = katchidul_turn(r->queue);
   job *j = find(r, turn.id);
   uint32_t page = job_log(j).sent + 1;
-  katchidul_log now = job_append(r->spool, j, KATCHIDUL_RECORD_SENT, page);
-  if (now.number != 0) {
-    say_of_job(r, j->id, "stands still", now.number, now.place);
-    stop("the job's log", "it is not as it was read");
-  }
+  append(r, j, KATCHIDUL_RECORD_SENT, page);
   r->queue = turn.queue;
   return send_page(r, j, page);
 }
@@ -72,7 +78,7 @@ static bool note_done(room *r, uint32_t id, uint32_t page) {
   if (j == NULL) return true;
   katchidul_log log = job_log(j);
   if (page > log.sent) return false;
-  while (log.number == 0 && log.finished < page) log = job_append(r->spool, j, KATCHIDUL_RECORD_DONE, log.finished + 1);
+  while (log.finished < page) log = append(r, j, KATCHIDUL_RECORD_DONE, log.finished + 1);
   say_progress(j, log.finished);
   if (log.finished == pages_of(&j->order)) leave(r, j);
   return true;
