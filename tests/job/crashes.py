@@ -42,15 +42,15 @@ def draw_of(*words):
     return random.Random(" ".join(map(str, words)))
 
 
-def habits(draw):
-    return draw.choice(HABITS) + ["-r", draw.randrange(10**6)]
+def habits(draw, kind=None):
+    return (kind or draw.choice(HABITS)) + ["-r", draw.randrange(10**6)]
 
 
-def in_turn(built, seed, how="kill", host=None, step=1, first_fault=False, embosser=None, seconds=30):
+def in_turn(built, seed, how="kill", host=None, step=1, first_fault=False, kind=None, seconds=30):
     """Killed after every call that writes, in turn; begun again, and then to the end."""
 
     def one(at):
-        with Trial(built, ORDERS, host, embosser or habits(draw_of(seed, at)), seconds) as trial:
+        with Trial(built, ORDERS, host, habits(draw_of(seed, at), kind), seconds) as trial:
             trial.run(after=at, how=how)
             killed = trial.was_killed()
             if killed:
