@@ -1,9 +1,10 @@
-//! Cells beside the sheet's rows, both by the port: what a page costs, and the dots of an order.
+//! Cells beside the sheet's rows, both by the port: what a page costs, at once and row by row, and the dots of an order.
 use crate::orders::{orders, Order};
 use crate::rounds::beside;
 use crate::sheet_port::{write_sheet, LONGEST};
 use std::hint::black_box;
 
+const ROW_CELLS: usize = 39;
 const PAGE_CELLS: usize = 975;
 const WEAR: usize = 62;
 const ROUNDS: usize = 101;
@@ -18,7 +19,7 @@ struct KatchidulCells {
 
 #[link(name = "katchidul", kind = "static")]
 extern "C" {
-    fn katchidul_write_page(order: *const u8, length: usize, page: u32, scratch: *mut u8, size: usize) -> KatchidulCells;
+    fn katchidul_write_page(order: *const u8, length: usize, page: u32, first: u32, scratch: *mut u8, size: usize) -> KatchidulCells;
 }
 
 #[link(name = "probes", kind = "static")]
@@ -26,11 +27,16 @@ extern "C" {
     fn probe_wear(order: *const u8, length: usize, buffer: *mut u8, size: usize) -> usize;
 }
 
-/// Writes the first page at the front of the scratch; its dots.
-fn write_page(order: &[u8], scratch: &mut [u8]) -> u32 {
-    let answer = unsafe { katchidul_write_page(order.as_ptr(), order.len(), 1, scratch.as_mut_ptr(), scratch.len()) };
-    assert!(answer.number == 0 && answer.place == 0 && answer.rows > 0);
-    answer.dots
+/// Writes the first page, piece by piece, at the front of the scratch; its dots.
+fn write_page(order: &[u8], rows: u32, scratch: &mut [u8]) -> u32 {
+    let (mut first, mut dots) = (0, 0);
+    while first < rows {
+        let piece = unsafe { katchidul_write_page(order.as_ptr(), order.len(), 1, first, scratch.as_mut_ptr(), scratch.len()) };
+        assert!(piece.number == 0 && piece.place == 0 && piece.rows > 0);
+        first += piece.rows;
+        dots += piece.dots;
+    }
+    dots
 }
 
 fn write_wear(order: &[u8], buffer: &mut [u8]) -> usize {
@@ -52,10 +58,13 @@ fn beside_sheet(what: &str, orders: &[Order], ours: &mut dyn FnMut(&[u8])) {
 }
 
 pub fn pages() {
-    let (mut scratch, mut report) = (vec![0; PAGE_CELLS], vec![0; WEAR]);
-    beside_sheet("a row of a page of 25", &orders(8, 25), &mut |order| {
-        black_box(write_page(order, &mut scratch));
-    });
+    let mut report = vec![0; WEAR];
+    for (what, size) in [("a row of a page of 25", PAGE_CELLS), ("a row of such a page, row by row", ROW_CELLS)] {
+        let mut scratch = vec![0; size];
+        beside_sheet(what, &orders(8, 25), &mut |order| {
+            black_box(write_page(order, 25, &mut scratch));
+        });
+    }
     beside_sheet("a row of the dots of 250", &orders(8, 250), &mut |order| {
         black_box(write_wear(order, &mut report));
     });

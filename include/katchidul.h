@@ -25,12 +25,13 @@
    16      KATCHIDUL_QUEUE_FULL         the print queue is full, job id                        the job's id
    17      KATCHIDUL_JOB_UNFIT          the job's id or its pages are not allowed, job id      the job's id
 
-   A row or a page that the order lacks is 5, place 3, the tag of the rows; a number that has no sentence, and bytes that are none, are 5,
-   place 0. A row buffer is too short below 119 bytes, a cell buffer below 39, a page's scratch below 975, a sentence's below its length, a
-   job log's below the bytes that it is said to hold. An instant is out of range where its seconds are beyond 10^12 either way, or its nanoseconds over 999,999,999. 11 is told by next and
-   remaining alone: that no prayer is in force is an answer of katchidul_prayer_at. What is out of turn in a job log, and which count
-   fits it, stands with its calls below. The print queue is full with 16 jobs; a job's id is not allowed where it is 0, over 65,535 or
-   still waiting, its pages where they are not 1 to 16. katchidul_write_sentence puts a refusal in words.
+   A row or a page that the order lacks, and a row that the page lacks, is 5, place 3, the tag of the rows; a number that has no
+   sentence, and bytes that are none, are 5, place 0. A row buffer is too short below 119 bytes, a cell buffer and a page's scratch
+   below 39, a sentence's below its length, a job log's below the bytes that it is said to hold. An instant is out of range where its
+   seconds are beyond 10^12 either way, or its nanoseconds over 999,999,999. 11 is told by next and remaining alone: that no prayer is
+   in force is an answer of katchidul_prayer_at. What is out of turn in a job log, and which count fits it, stands with its calls below.
+   The print queue is full with 16 jobs; a job's id is not allowed where it is 0, over 65,535 or still waiting, its pages where they are
+   not 1 to 16. katchidul_write_sentence puts a refusal in words.
 
    A lent buffer (9) and an instant (10) are checked before anything else in their calls; then the order (1 to 4, 15, and then 5), the row
    or the page (5, place 3), the day (6 to 8), and 11. Of a job log 9 is tried first, then 13, 14 and 12. Of a job 17 is tried before 16,
@@ -56,14 +57,14 @@ extern "C" {
 #endif
 
 /* Of this header: one more with every change of a call, a struct or a number. Take header and library from the same build. */
-#define KATCHIDUL_VERSION 9
+#define KATCHIDUL_VERSION 10
 
 #define KATCHIDUL_ORDER_MAX 1024 /* bytes of an order */
 #define KATCHIDUL_TOWN_MAX 40    /* bytes of a town's name */
 #define KATCHIDUL_ROWS_MAX 400   /* rows of an order */
-#define KATCHIDUL_ROW_CELLS 39   /* of a row, a byte each, and the least that a cell buffer may have */
+#define KATCHIDUL_ROW_CELLS 39   /* of a row, a byte each, and the least that a cell buffer or a page's scratch may have */
 #define KATCHIDUL_PAGE_ROWS 25   /* of a full page */
-#define KATCHIDUL_PAGE_CELLS 975 /* of a full page, and the least that a page's scratch may have */
+#define KATCHIDUL_PAGE_CELLS 975 /* of a full page */
 #define KATCHIDUL_ROW_BYTES 119  /* of a row's line with its newline, and the least that a row buffer may have */
 #define KATCHIDUL_SENTENCE_MAX 100 /* bytes of a sentence */
 #define KATCHIDUL_TIME_COUNT 9
@@ -272,13 +273,21 @@ typedef struct katchidul_cells {
    the letters a to j of the literary code. The day is the row's own date's. The times are by the order's clock: its `clock` minutes are
    added to the UTC instant, and the seconds are dropped. A day that is refused (6 to 8) shows its day and 36 blanks, and the call is not
    refused for it. `rows` is 1. The buffer's bytes after the cells stay; where the call is refused all of them do. The buffer and the order
-   must not overlap. Refusals 1 to 5 and 9. */
+   must not overlap. Refusals 1 to 5, 9 and 15. */
 katchidul_cells katchidul_write_cells(const uint8_t *order, size_t length, uint32_t row, uint8_t *buffer, size_t size);
 
-/* Writes a page in braille, its rows one behind another, at the front of a scratch of `size` bytes, at least KATCHIDUL_PAGE_CELLS (9 below
-   that, also for a page of fewer rows). Pages count from 1 and have KATCHIDUL_PAGE_ROWS rows, the last one those left: an order has
-   (rows + 24) / 25. A page that the order lacks, and page 0, is 5, place 3. Else as katchidul_write_cells. */
-katchidul_cells katchidul_write_page(const uint8_t *order, size_t length, uint32_t page, uint8_t *scratch, size_t size);
+/* Writes rows of a page in braille, one behind another, at the front of a scratch of `size` bytes, at least KATCHIDUL_ROW_CELLS (9
+   below that): from the page's row `first` on, which counts from 0, as many whole rows as the scratch has room for and the page has
+   left. `rows` says how many, `dots` those of these rows alone. Pages count from 1 and have KATCHIDUL_PAGE_ROWS rows, the last one
+   those left: an order has (rows + 24) / 25. A page that the order lacks, page 0 too, and a row that the page lacks, the one behind its
+   last too, is 5, place 3. Else as katchidul_write_cells.
+
+   A page may be taken at once, with KATCHIDUL_PAGE_CELLS bytes, or by pieces of any lengths: each call goes on at `first` plus the
+   `rows` of the one before, until 5, place 3. Whatever the lengths, the cells are the same in the same order, and the dots add up to
+   the same.
+   Pieces cost time: the first row of a call works three suns and each row behind it one, so a page taken row by row costs some 2.8
+   times what it costs at once (docs/SPEED.md). */
+katchidul_cells katchidul_write_page(const uint8_t *order, size_t length, uint32_t page, uint32_t first, uint8_t *scratch, size_t size);
 
 /* The print queue. Jobs wait for the embosser, each with an id and its pages left, and each turn sends one page of the job at the front,
    so that a long job does not hold up the rest. The host keeps the queue, hands it over by value and goes on with the one that it gets

@@ -127,9 +127,11 @@ bool line_answered(const answers *all, uint32_t number, uint32_t place) {
 }
 
 bool cells_answered(const answers *all, uint32_t number, uint32_t place) {
+  if (number >= 6 && number <= 8) number = place = 0;
   return all->cells.number == number && all->cells.place == place && all->cells_right;
 }
 
 bool row_refused(const answers *all, uint32_t number, uint32_t place) {
-  return day_refused(&all->day, number, place) && line_answered(all, number, place) && instant_refused(all, number, place);
+  return day_refused(&all->day, number, place) && line_answered(all, number, place) && instant_refused(all, number, place) &&
+         cells_answered(all, number, place);
 }

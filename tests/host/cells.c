@@ -1,4 +1,4 @@
-/* A row's cells, and a page's, in a lent buffer. What they must be is written from request 2 of document 02 alone: a cell by its raised dots, the
+/* A row's cells, and a page's, whole and by pieces, in a lent buffer. What they must be is written from requests 2 and 9 of document 02 alone: a cell by its raised dots, the
    times by what katchidul_work_day answers. */
 #include <stdio.h>
 #include <string.h>
@@ -91,27 +91,39 @@ static void one_row(const order_bytes *order, uint32_t row, size_t size, uint32_
   check(right, whole);
 }
 
-static void one_page(const order_bytes *order, uint32_t page, size_t size, uint32_t number, uint32_t place, const char *what) {
+/* The rows of a page from one on, as many as the scratch has room for and are left of so many. */
+static bool piece_given(const katchidul_cells *answer, uint32_t first, size_t size, uint32_t rows, const uint8_t *cells) {
+  uint32_t left = rows - first, room = (uint32_t)(size / 39);
+  return first < rows && cells_given(answer, room < left ? room : left, cells + 39 * first);
+}
+
+static void one_piece(const order_bytes *order, uint32_t page, uint32_t first, size_t size, uint32_t number, uint32_t place, const char *what) {
   char whole[128];
   uint8_t cells[PAGE_LENGTH];
   const uint8_t *lent = lend(order);
-  katchidul_cells answer = katchidul_write_page(lent, order->length, page, lend_buffer(size), size);
+  katchidul_cells answer = katchidul_write_page(lent, order->length, page, first, lend_buffer(size), size);
   bool right = order_kept(order, lent);
   if (number != 0) right = right && cells_refused(&answer, number, place) && buffer_kept();
-  else right = right && cells_given(&answer, page_of(order, page, cells), cells);
-  snprintf(whole, sizeof whole, "cells of %s: page %u, %zu bytes", what, page, size);
+  else right = right && piece_given(&answer, first, size, page_of(order, page, cells), cells);
+  snprintf(whole, sizeof whole, "cells of %s: page %u from row %u, %zu bytes", what, page, first, size);
   check(right, whole);
 }
 
-bool page_agrees(const order_bytes *order, uint32_t page, size_t size) {
+static void one_page(const order_bytes *order, uint32_t page, size_t size, uint32_t number, uint32_t place, const char *what) {
+  one_piece(order, page, 0, size, number, place, what);
+}
+
+bool page_agrees(const order_bytes *order, uint32_t page, uint32_t first, size_t size) {
   uint8_t cells[PAGE_LENGTH];
   katchidul_order read = katchidul_read_order(order->bytes, order->length);
   const uint8_t *lent = lend(order);
-  katchidul_cells answer = katchidul_write_page(lent, order->length, page, lend_buffer(size), size);
+  katchidul_cells answer = katchidul_write_page(lent, order->length, page, first, lend_buffer(size), size);
   if (!order_kept(order, lent)) return false;
+  if (size < 39) return cells_refused(&answer, 9, 0) && buffer_kept();
   if (read.number != 0) return cells_refused(&answer, read.number, read.place) && buffer_kept();
-  if (page == 0 || page > (read.rows + 24) / 25) return cells_refused(&answer, 5, 3) && buffer_kept();
-  return cells_given(&answer, page_of(order, page, cells), cells);
+  uint32_t rows = page == 0 || page > 16 ? 0 : page_of(order, page, cells);
+  if (first >= rows) return cells_refused(&answer, 5, 3) && buffer_kept();
+  return piece_given(&answer, first, size, rows, cells);
 }
 
 /* Every size that is too short, before anything else; then the order, and then the row or the page. */
@@ -122,8 +134,9 @@ static void check_order_of_checks(void) {
     one_row(&good, 0, size, 9, 0, "a good order");
     one_row(&cut, 10, size, 9, 0, "a cut order");
   }
-  for (size_t size = 0; size < PAGE_LENGTH; size++) {
+  for (size_t size = 0; size < 39; size++) {
     one_page(&good, 1, size, 9, 0, "a good order");
+    one_piece(&good, 1, 10, size, 9, 0, "a row that the page lacks");
     one_page(&cut, 0, size, 9, 0, "a cut order");
   }
   static const uint32_t beyond[] = {10, 11, 255, 256, 65536, 0x80000000u, UINT32_MAX};
@@ -131,16 +144,24 @@ static void check_order_of_checks(void) {
   /* 25 * (page - 1) passes 2^32 at page 171,798,693. */
   static const uint32_t lacking[] = {0, 2, 3, 256, 171798692, 171798693, 171798694, 0x80000001u, UINT32_MAX};
   for (size_t i = 0; i < sizeof lacking / sizeof *lacking; i++) one_page(&good, lacking[i], PAGE_LENGTH, 5, 3, "a page that the order lacks");
+  for (size_t i = 0; i < sizeof beyond / sizeof *beyond; i++) one_piece(&good, 1, beyond[i], 39, 5, 3, "a row that the page lacks");
   one_row(&cut, 10, 39, 1, 46, "the order before the row");
   one_page(&cut, 0, PAGE_LENGTH, 1, 46, "the order before the page");
   one_row(&empty, 0, 39, 4, 1, "an empty order");
   one_page(&empty, 1, PAGE_LENGTH, 4, 1, "an empty order");
-  katchidul_cells row = katchidul_write_cells(NULL, 0, 0, NULL, 0), page = katchidul_write_page(NULL, 0, 1, NULL, 0);
+  static const struct { uint8_t without, tag, parts[5], number; } maps[] = {{0, 18, {0}, 15}, {0, 19, {0}, 15}, {4, 18, {0, 91}, 5}, {5, 19, {2}, 5}};
+  for (size_t i = 0; i < sizeof maps / sizeof *maps; i++) {
+    order_bytes order = without(&good, maps[i].without);
+    put_map(&order, maps[i].tag, maps[i].parts);
+    one_row(&order, 10, 39, maps[i].number, maps[i].tag, "a refused coordinate as on the map");
+    one_page(&order, 0, PAGE_LENGTH, maps[i].number, maps[i].tag, "a refused coordinate as on the map");
+  }
+  katchidul_cells row = katchidul_write_cells(NULL, 0, 0, NULL, 0), page = katchidul_write_page(NULL, 0, 1, 0, NULL, 0);
   check(cells_refused(&row, 9, 0) && cells_refused(&page, 9, 0), "null pointers of no length");
 }
 
 static void check_sizes(const order_bytes *order, const char *what) {
-  static const size_t sizes[] = {39, 40, 77, 78, 119, 1000, BUFFER_MOST}, scratches[] = {975, 976, 1000, 1013, 1014, BUFFER_MOST};
+  static const size_t sizes[] = {39, 40, 77, 78, 119, 1000, BUFFER_MOST}, scratches[] = {39, 77, 78, 974, 975, 976, 1000, 1013, 1014, BUFFER_MOST};
   for (uint32_t row = 0; row < 10; row++)
     for (size_t i = 0; i < sizeof sizes / sizeof *sizes; i++) one_row(order, row, sizes[i], 0, 0, what);
   for (size_t i = 0; i < sizeof scratches / sizeof *scratches; i++) one_page(order, 1, scratches[i], 0, 0, what);
@@ -154,6 +175,10 @@ static void check_pages(void) {
     uint32_t pages = (rows + 24) / 25;
     for (uint32_t page = 1; page <= pages; page++) one_page(&order, page, PAGE_LENGTH, 0, 0, "an order by its rows");
     one_page(&order, pages + 1, PAGE_LENGTH, 5, 3, "the page behind the last");
+    uint32_t last = rows - 25 * (pages - 1);
+    for (uint32_t first = 0; first < last; first++) one_piece(&order, pages, first, 39 + 13 * first, 0, 0, "the last page from each row");
+    one_piece(&order, pages, last, 39, 5, 3, "the row behind the page's last");
+    if (pages > 1) one_piece(&order, 1, 25, PAGE_LENGTH, 5, 3, "row 25 of a page with a page behind it");
   }
 }
 

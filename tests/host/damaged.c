@@ -120,7 +120,7 @@ void check_damaged(uint32_t orders) {
       numbers[9]++;
       check(row_unwritten(&order, row, below(ROW_LENGTH), 9, 0), what);
     }
-    if (below(16) == 0) check(page_agrees(&order, row / 25 + 1, PAGE_LENGTH + below(100)), what);
+    if (below(16) == 0) check(page_agrees(&order, row / 25 + 1, (uint32_t)below(below(4) ? 1 : 27), below(4) ? PAGE_LENGTH + below(100) : below(1100)), what);
     if (all.day.number < 16) numbers[all.day.number]++;
     if (all.next.number >= 10 && all.next.number < 12) numbers[all.next.number]++;
   }

@@ -70,8 +70,9 @@ bool prayer_refused(const katchidul_prayer *answer, uint32_t number, uint32_t pl
 bool remaining_refused(const katchidul_remaining *answer, uint32_t number, uint32_t place);
 /* Writing the row gives this number and place, and the buffer is as they say. */
 bool line_answered(const answers *all, uint32_t number, uint32_t place);
+/* The same of its cells, which are given where this number is a day's. */
 bool cells_answered(const answers *all, uint32_t number, uint32_t place);
-/* The five calls on a row and its times give this number and place and nothing else. */
+/* The six calls on a row and its times give this number and place and nothing else; its cells' call where it is not the day's. */
 bool row_refused(const answers *all, uint32_t number, uint32_t place);
 /* The three calls on an instant give this number and place and nothing else. */
 bool instant_refused(const answers *all, uint32_t number, uint32_t place);
@@ -112,8 +113,8 @@ typedef struct {
 row_cells cells_of(const katchidul_order *order, uint32_t row, const katchidul_day *day);
 uint32_t dots_in(const uint8_t *cells, size_t count);
 bool cells_refused(const katchidul_cells *answer, uint32_t number, uint32_t place);
-/* A whole call on a page, whatever the order. */
-bool page_agrees(const order_bytes *order, uint32_t page, size_t size);
+/* A whole call on a page, whatever the order, the row to begin at and the scratch. */
+bool page_agrees(const order_bytes *order, uint32_t page, uint32_t first, size_t size);
 
 /* sense.c: what holds of every answer, whatever the order. */
 bool answers_agree(const answers *all, uint32_t row, int64_t seconds, uint32_t nanoseconds);
@@ -132,6 +133,7 @@ void check_days(void);
 void check_instants(void);
 void check_lines(void);
 void check_cells(void);
+void check_pieces(const char *folder);
 void check_sentences(void);
 void check_map(void);
 void check_environment(void);

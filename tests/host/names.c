@@ -24,7 +24,6 @@ static void check_limits(void) {
   order_bytes order = {0}, full = full_order();
   char town[KATCHIDUL_TOWN_MAX + 1] = {0};
   uint8_t line[KATCHIDUL_ROW_BYTES], page[KATCHIDUL_PAGE_CELLS];
-  katchidul_order full_read = katchidul_read_order(full.bytes, full.length);
   while (order.length < KATCHIDUL_ORDER_MAX) put_byte(&order, 99);
   check(refused(&order) == KATCHIDUL_FIELD_UNKNOWN, "KATCHIDUL_ORDER_MAX bytes are read");
   put_byte(&order, 99);
@@ -41,9 +40,12 @@ static void check_limits(void) {
   check(katchidul_write_cells(full.bytes, full.length, 0, page, KATCHIDUL_ROW_CELLS).rows == 1, "KATCHIDUL_ROW_CELLS hold a row");
   check(katchidul_write_cells(full.bytes, full.length, 0, page, KATCHIDUL_ROW_CELLS - 1).number == KATCHIDUL_BUFFER_SHORT,
         "one less than KATCHIDUL_ROW_CELLS is too short");
-  check(katchidul_write_page(full.bytes, full.length, 1, page, sizeof page).rows == full_read.rows, "KATCHIDUL_PAGE_CELLS hold a page");
-  check(katchidul_write_page(full.bytes, full.length, 1, page, sizeof page - 1).number == KATCHIDUL_BUFFER_SHORT,
-        "one less than KATCHIDUL_PAGE_CELLS is too short");
+  order = place_order("A", 2026, 1, 1, KATCHIDUL_PAGE_ROWS + 1, 0, 0, 0);
+  check(katchidul_write_page(order.bytes, order.length, 1, 0, page, sizeof page).rows == KATCHIDUL_PAGE_ROWS, "KATCHIDUL_PAGE_CELLS hold a page");
+  check(katchidul_write_page(order.bytes, order.length, 1, 0, page, sizeof page - 1).rows == KATCHIDUL_PAGE_ROWS - 1,
+        "one less than KATCHIDUL_PAGE_CELLS hold a row less");
+  check(katchidul_write_page(order.bytes, order.length, 1, 0, page, KATCHIDUL_ROW_CELLS - 1).number == KATCHIDUL_BUFFER_SHORT,
+        "one less than KATCHIDUL_ROW_CELLS is too short for a page");
 }
 
 static uint32_t refused_at(int64_t seconds, uint32_t nanoseconds) {

@@ -115,13 +115,14 @@ static void check_precedence(void) {
 static void check_null(void) {
   const order_bytes good = good_order();
   uint8_t line[ROW_LENGTH];
-  answers all = {.lent_kept = true, .line_right = true};
+  answers all = {.lent_kept = true, .line_right = true, .cells_right = true};
   all.order = katchidul_read_order(NULL, 0);
   all.day = katchidul_work_day(NULL, 0, 0);
   all.prayer = katchidul_prayer_at(NULL, 0, 0, 0, 0);
   all.next = katchidul_next_at(NULL, 0, 0, 0, 0);
   all.remaining = katchidul_remaining_at(NULL, 0, 0, 0, 0);
   all.written = katchidul_write_row(NULL, 0, 0, line, sizeof line);
+  all.cells = katchidul_write_cells(NULL, 0, 0, line, sizeof line);
   check(order_refused(&all.order, 4, 1) && row_refused(&all, 4, 1), "a null pointer with length 0 is an empty order");
   check(katchidul_write_row(good.bytes, good.length, 0, NULL, 0).number == 9, "a null pointer with size 0 is an empty buffer");
   check(katchidul_write_row(NULL, 0, 0, NULL, 0).number == 9, "two null pointers");

@@ -83,9 +83,7 @@ bool answers_agree(const answers *all, uint32_t row, int64_t seconds, uint32_t n
   if (!all->lent_kept || !number_fits(&all->order)) return false;
   /* A buffer of 119 bytes or more: the row is refused as the day is, and written where it is not. */
   if (!line_answered(all, day->number, day->place)) return false;
-  /* Cells are not refused for the day. */
-  bool day_alone = day->number >= 6 && day->number <= 8;
-  if (!cells_answered(all, day_alone ? 0 : day->number, day_alone ? 0 : day->place)) return false;
+  if (!cells_answered(all, day->number, day->place)) return false;
   if (!instant && !instant_refused(all, 10, 0)) return false;
   if (all->order.number != 0) {
     return day_refused(day, all->order.number, all->order.place) &&

@@ -44,7 +44,7 @@ __attribute__((noinline)) static void call(int which, const order_bytes *order, 
     case 13: katchidul_write_cells(bytes, length, row, line, ROW_LENGTH); break;
     case 14: katchidul_map_latitude((double)row); break;
     case 15: katchidul_map_longitude((double)seconds); break;
-    default: katchidul_write_page(bytes, length, 1, page, sizeof page);
+    default: katchidul_write_page(bytes, length, 1, 0, page, sizeof page);
   }
 }
 

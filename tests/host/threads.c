@@ -36,7 +36,7 @@ static void call_all(const order_bytes *order, uint32_t row, called *all) {
   all->remaining = katchidul_remaining_at(bytes, length, row, noon, row);
   all->written = katchidul_write_row(bytes, length, row, all->line, sizeof all->line);
   all->cells = katchidul_write_cells(bytes, length, row, all->row_cells, sizeof all->row_cells);
-  all->page = katchidul_write_page(bytes, length, 1, all->page_cells, sizeof all->page_cells);
+  all->page = katchidul_write_page(bytes, length, 1, 0, all->page_cells, sizeof all->page_cells);
 }
 
 /* Each thread begins elsewhere in the list, so that different orders are worked at the same moment. Returns NULL where all was the same. */

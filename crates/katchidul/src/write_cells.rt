@@ -1,4 +1,4 @@
-// A row's cells, and a page's, in a lent buffer.
+// A row's cells, and those of a page or a piece of it, in a lent buffer.
 ghost use mathlib.Core.Path.{_≡_};
 ghost use Rattle.pages.specs.Answers.{rowWritten, rowBuffer, pageWritten, pageBuffer};
 ghost use Rattle.katchidul.specs.Punched.{cellsAnswerOf};
@@ -38,10 +38,11 @@ pub extern "C" fn katchidul_write_cells(order: &[u8], row: u32, buffer: &mut [u8
 pub extern "C" fn katchidul_write_page(
     order: &[u8],
     page: u32,
+    first: u32,
     scratch: &mut [u8],
 ) -> KatchidulCells
-    ensures { λ r. ⌜ r ≡ cellsAnswerOf (pageWritten page (now (order .entry)) (now (scratch .entry))) ⌝ }
-    ensures { λ _. ⌜ now (scratch .exit) ≡ pageBuffer page (now (order .entry)) (now (scratch .entry)) ⌝ }
+    ensures { λ r. ⌜ r ≡ cellsAnswerOf (pageWritten page first (now (order .entry)) (now (scratch .entry))) ⌝ }
+    ensures { λ _. ⌜ now (scratch .exit) ≡ pageBuffer page first (now (order .entry)) (now (scratch .entry)) ⌝ }
 {
-    cells_answer(write_page(order, page, &mut scratch[..]))
+    cells_answer(write_page(order, page, first, &mut scratch[..]))
 }

@@ -1,13 +1,13 @@
 -- The rows of a page, and those of all pages. Assumes nothing.
 use native.Mathlib.Omega.{arith}
-use Prim.Native.Nat.{ℕ, zero, suc, _+_, _-_, _*_, _/_, _≤_, _<_, min}
+use Prim.Native.Nat.{ℕ, zero, suc, _+_, _-_, _*_, _≤_, _<_, min}
 use mathlib.Core.Path.{_≡_, refl, sym, ap, subst, _∙_}
 use mathlib.Core.List.{List, [], _∷_, _++_}
-use lib.ListN.{length, take, drop}
-use lib.Seq.{take-all, take-add}
+use lib.ListN.{length, take, drop, drop-of-length-le}
+use lib.Seq.{take-all, take-add, take-nil}
 use Rattle.braille.specs.Braille.{SixDots}
 use Rattle.order.specs.declared.reading.Order.{Order}
-use Rattle.pages.specs.Pages.{Rows, rowsFrom, rowsOf, cellsOf, pageOf, pageCount, pagesCells, allCells}
+use Rattle.pages.specs.Pages.{Rows, rowsFrom, rowsOf, cellsOf, pageOf, pieceOf, pageCount, pagesCells, allCells}
 use Rattle.pages.specs.Promises.{PagesHoldTheRows}
 use Rattle.pages.proofs.RowsLaws.{cells-append, rows-length, cells-six, take-rows, drop-rows}
 
@@ -45,6 +45,44 @@ module _ (o : Order) where
   unfolding pageOf
   page-within zero h = absurd (omega arith)
   page-within (suc p) h = let e = suc-length p in (omega arith, omega arith, omega arith)
+
+  pub page-most : (page : ℕ) → length (pageOf o page) ≤ 25
+  unfolding pageOf
+  page-most zero = omega arith
+  page-most (suc p) = let e = suc-length p in omega arith
+
+  -- a piece of a page: rows of the order, and none behind the page's end
+  piece-rows : (page first room : ℕ) → 1 ≤ page
+      → pieceOf (pageOf o page) first room ≡ rowsFrom o (25 * (page - 1) + first) (min room (length (pageOf o page) - first))
+  piece-rows page first room h =
+      ap (λ (l : Rows). take room (drop first l)) (page-rows page h)
+      ∙ ap (take room) (drop-rows o first (25 * (page - 1)) (length (pageOf o page)))
+      ∙ take-rows o room (25 * (page - 1) + first) (length (pageOf o page) - first)
+
+  pub piece-none : (page first room : ℕ) → length (pageOf o page) ≤ first → length (pieceOf (pageOf o page) first room) ≡ 0
+  piece-none page first room h =
+      let e : drop first (pageOf o page) ≡ [] = drop-of-length-le (pageOf o page) h in
+      ap (λ (l : Rows). length (take room l)) e ∙ ap length (take-nil {A = List ℕ} room)
+
+  -- what is written of a page that has the row: as many rows as have room and are left, and they are the order's
+  pub record Written (page first room taken : ℕ) : Type 0 where
+    pub from : 1 ≤ page
+    pub some : 1 ≤ taken
+    pub fit : taken ≤ room
+    pub within : 25 * (page - 1) + first + taken ≤ o .rows
+    pub rows : rowsFrom o (25 * (page - 1) + first) taken ≡ pieceOf (pageOf o page) first room
+
+  pub piece-written : (page first room count taken : ℕ) → count ≡ length (pageOf o page) → first < count → 1 ≤ room → taken ≡ min room (count - first)
+      → Written page first room taken
+  piece-written page first room count taken e has one t =
+      let w = page-within page (omega arith) in
+      record {
+        from = w .0;
+        some = omega arith;
+        fit = omega arith;
+        within = omega (arith, w .1);
+        rows = ap (rowsFrom o (25 * (page - 1) + first)) (t ∙ ap (λ (n : ℕ). min room (n - first)) e) ∙ sym (piece-rows page first room (w .0));
+      }
 
   pages-taken : (n : ℕ) → pagesCells o n ≡ cellsOf (take (25 * n) (rowsOf o))
   unfolding pagesCells pageOf cellsOf

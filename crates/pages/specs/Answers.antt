@@ -1,5 +1,5 @@
--- Document 02, request 2: what the calls on a row and on a page of cells answer, and every byte of the lent buffer after them.
-use Prim.Native.Nat.{ℕ, _*_}
+-- Document 02, requests 2 and 9: what the calls on a row and on a page of cells answer, and every byte of the lent buffer after them.
+use Prim.Native.Nat.{ℕ, _/_}
 use mathlib.Core.Bool.{cond}
 use mathlib.Core.List.{List, [], _∷_}
 use lib.Dec.{ltb}
@@ -14,7 +14,7 @@ use Rattle.order.specs.Reading.{readingOf}
 use Rattle.refusals.specs.Refusals.{refusal, noRefusal, bufferShort}
 use Rattle.refusals.specs.declared.Refusal.{Refusal}
 use Rattle.text.specs.Text.{frontOf}
-use Rattle.pages.specs.Pages.{Rows, rowOf, cellsOf, pageRows, pageOf}
+use Rattle.pages.specs.Pages.{Rows, rowOf, cellsOf, pageOf, pieceOf}
 use Rattle.pages.specs.declared.answer.Punched.{Punched}
 
 -- rows that were written, and their dots
@@ -55,12 +55,13 @@ rowWritten row = writtenOf (oneRow row) rowLength
 abbrev pub rowBuffer : ℕ → List ℕ → List ℕ → List ℕ
 rowBuffer row = bufferOf (oneRow row) rowLength
 
--- ---- a page: "a page's cells are put at the front of a scratch buffer of 975 bytes"; "a scratch under 975 gets 9"
-abbrev pub pageLength : ℕ
-pageLength = rowLength * pageRows
+-- ---- a page, or a piece of it. Request 9: "The page call now also takes the page's row to begin at, from 0, puts in as many whole rows as have
+-- room and are left, and answers how many and their dots. .. Of scratches only one under 39 gets 9; a row that the page lacks gets 5 with place 3."
+abbrev pub pieceIn : ℕ → ℕ → List ℕ → Order → Rows
+pieceIn page first scratch o = pieceOf (pageOf o page) first (length scratch / rowLength)
 
-abbrev pub pageWritten : ℕ → List ℕ → List ℕ → Punched
-pageWritten page = writtenOf (λ o. pageOf o page) pageLength
+abbrev pub pageWritten : ℕ → ℕ → List ℕ → List ℕ → Punched
+pageWritten page first s scratch = writtenOf (pieceIn page first scratch) rowLength s scratch
 
-abbrev pub pageBuffer : ℕ → List ℕ → List ℕ → List ℕ
-pageBuffer page = bufferOf (λ o. pageOf o page) pageLength
+abbrev pub pageBuffer : ℕ → ℕ → List ℕ → List ℕ → List ℕ
+pageBuffer page first s scratch = bufferOf (pieceIn page first scratch) rowLength s scratch

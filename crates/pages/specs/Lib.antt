@@ -1,4 +1,5 @@
 pub mod Pages
 pub mod Answers
+pub mod Host
 pub mod Reports
 pub mod Promises

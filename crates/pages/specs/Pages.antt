@@ -1,4 +1,4 @@
--- Document 02, request 2: the rows of cells of an order, its pages, and their dots.
+-- Document 02, requests 2 and 9: the rows of cells of an order, its pages and pieces of them.
 use Prim.Native.Nat.{ℕ, zero, suc, _+_, _*_, _/_}
 use mathlib.Core.List.{List, [], _∷_, _++_}
 use lib.ListN.{take, drop}
@@ -35,6 +35,10 @@ pageRows = 25
 unfoldable pub pageOf : Order → ℕ → Rows
 pageOf o zero = []
 pageOf o (suc p) = take pageRows (drop (pageRows * p) (rowsOf o))
+
+-- request 9: "as many whole rows as have room and are left", from a row on
+abbrev pub pieceOf : Rows → ℕ → ℕ → Rows
+pieceOf rows first room = take room (drop first rows)
 
 -- how many pages an order has
 abbrev pub pageCount : Order → ℕ

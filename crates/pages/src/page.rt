@@ -1,11 +1,12 @@
-// The cells of a page at the front of a lent scratch.
+// The cells of a page, or of a piece of it, at the front of a lent scratch.
 ghost use mathlib.Core.Path.{_≡_};
-ghost use Prim.Native.Nat.{_≤_};
+ghost use Prim.Native.Nat.{_≤_, min};
 ghost use lib.ListN.{length};
+ghost use Rattle.braille.specs.Cells.{rowLength};
 ghost use Rattle.order.specs.Accepted.{Accepted};
 ghost use Rattle.text.specs.Text.{frontOf};
 ghost use Rattle.pages.specs.Pages.{cellsOf, pageOf};
-ghost use Rattle.pages.specs.Answers.{answerOf, pageLength, pageWritten, pageBuffer};
+ghost use Rattle.pages.specs.Answers.{answerOf, pieceIn, pageWritten, pageBuffer};
 use super::answer::Punched;
 use super::rows::write_rows;
 use braille::row::ROW_CELLS;
@@ -17,8 +18,6 @@ use refusals::BUFFER_SHORT;
 use refusals::Refusal;
 
 const PAGE_ROWS: u32 = 25;
-
-pub const PAGE_CELLS: usize = ROW_CELLS * PAGE_ROWS as usize;
 
 // How many rows a page has. Pages count from 1; one that the order lacks has none.
 fn rows_on(order: Order, page: u32) -> u32
@@ -35,28 +34,46 @@ fn rows_on(order: Order, page: u32) -> u32
     if left < PAGE_ROWS { left } else { PAGE_ROWS }
 }
 
-fn write_read(scratch: &mut [u8], order: Order, page: u32) -> Punched
-    requires { ⌜ Accepted order × (pageLength ≤ length (now scratch)) ⌝ }
-    ensures { λ r. ⌜ r ≡ answerOf (pageOf order page) ⌝ }
-    ensures { λ _. ⌜ now (scratch .exit) ≡ frontOf (cellsOf (pageOf order page)) (now (scratch .entry)) ⌝ }
+// As many rows as have room and are left.
+fn least(room: usize, left: u32) -> u32
+    ensures { λ r. ⌜ r ≡ min room left ⌝ }
 {
-    let count = rows_on(order, page);
-    if count == 0 {
-        return Punched::refused(lacks_row());
+    if room < left as usize {
+        room as u32
+    } else {
+        left
     }
-    write_rows(&mut scratch[..], order, PAGE_ROWS * (page - 1), count)
 }
 
-// A scratch that a full page does not fit is 9, before anything else, also for a page of fewer rows.
-pub fn write_page(order: &[u8], page: u32, scratch: &mut [u8]) -> Punched
-    ensures { λ r. ⌜ r ≡ pageWritten page (now (order .entry)) (now (scratch .entry)) ⌝ }
-    ensures { λ _. ⌜ now (scratch .exit) ≡ pageBuffer page (now (order .entry)) (now (scratch .entry)) ⌝ }
+fn write_read(scratch: &mut [u8], order: Order, page: u32, first: u32) -> Punched
+    requires { ⌜ Accepted order × (rowLength ≤ length (now scratch)) ⌝ }
+    ensures { λ r. ⌜ r ≡ answerOf (pieceIn page first (now (scratch .entry)) order) ⌝ }
+    ensures { λ _. ⌜ now (scratch .exit) ≡ frontOf (cellsOf (pieceIn page first (now (scratch .entry)) order)) (now (scratch .entry)) ⌝ }
 {
-    if scratch.len() < PAGE_CELLS {
+    let count = rows_on(order, page);
+    if first >= count {
+        return Punched::refused(lacks_row());
+    }
+    let taken = least(scratch.len() / ROW_CELLS, count - first);
+    write_rows(
+        &mut scratch[..],
+        order,
+        PAGE_ROWS * (page - 1) + first,
+        taken,
+    )
+}
+
+// The rows of a page from its row `first` on, as many as the scratch has room for and are left. A scratch that a row does not fit is 9, before
+// anything else.
+pub fn write_page(order: &[u8], page: u32, first: u32, scratch: &mut [u8]) -> Punched
+    ensures { λ r. ⌜ r ≡ pageWritten page first (now (order .entry)) (now (scratch .entry)) ⌝ }
+    ensures { λ _. ⌜ now (scratch .exit) ≡ pageBuffer page first (now (order .entry)) (now (scratch .entry)) ⌝ }
+{
+    if scratch.len() < ROW_CELLS {
         return Punched::refused(Refusal::new(BUFFER_SHORT, 0));
     }
     match read(order) {
-        Reading::Read(order) => write_read(&mut scratch[..], order, page),
+        Reading::Read(order) => write_read(&mut scratch[..], order, page, first),
         Reading::Refused(refusal) => Punched::refused(refusal),
     }
 }

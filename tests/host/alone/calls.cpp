@@ -14,7 +14,7 @@ int main() {
                katchidul_remaining_at(nullptr, 0, 0, 0, 0).number == KATCHIDUL_TAG_MISSING &&
                katchidul_write_row(nullptr, 0, 0, line, sizeof line).number == KATCHIDUL_TAG_MISSING &&
                katchidul_write_cells(nullptr, 0, 0, line, sizeof line).number == KATCHIDUL_TAG_MISSING &&
-               katchidul_write_page(nullptr, 0, 1, line, sizeof line).number == KATCHIDUL_BUFFER_SHORT &&
+               katchidul_write_page(nullptr, 0, 1, 0, line, sizeof line).number == KATCHIDUL_TAG_MISSING &&
                katchidul_join(katchidul_queue(), 0, 1).number == KATCHIDUL_JOB_UNFIT && katchidul_turn(katchidul_queue()).id == 0 &&
                katchidul_read_log(nullptr, 0, 0).number == 0 && katchidul_map_latitude(91.0).place == 18 && katchidul_map_longitude(91.0).degrees == 91 &&
                katchidul_restart(nullptr, 0, 0, 1, line, sizeof line).number == KATCHIDUL_LOG_COUNT_OUTSIDE &&

@@ -2,8 +2,8 @@ use mathlib.Core.Path.{sym, ap, _∙_}
 use denote.Ref.{now}
 use Rattle.order.proofs.AcceptedLaws.{read-accepted}
 use Rattle.pages.proofs.AnswerLaws.{buffer-short, order-read, order-refused}
-use Rattle.pages.specs.Answers.{refusedOf, pageLength}
-use Rattle.pages.specs.Pages.{pageOf}
+use Rattle.pages.specs.Answers.{refusedOf, pieceIn}
+use Rattle.braille.specs.Cells.{rowLength}
 use borrow.Author.Needs.{needs}
 use Rattle.pages.proofs.page.write_page.Statement.{statement}
 use Rattle.pages.proofs.page.write_page.Tie as tie
@@ -11,7 +11,7 @@ use Rattle.pages.proofs.page.write_page.Tie as tie
 returns : tie.Need-returns
 returns c =
     let a = c .before .before .before .before .before .args in
-    let n = buffer-short (λ o. pageOf o (a .page)) pageLength (now (a .order)) (now (a .scratch)) (c .before .before .if1 .taken) in
+    let n = buffer-short (pieceIn (a .page) (a .first) (now (a .scratch))) rowLength (now (a .order)) (now (a .scratch)) (c .before .before .if1 .taken) in
     (c .refused .ensures ∙ ap refusedOf (c .before .new .ensures) ∙ n .0, n .1)
 
 write-read-requires : tie.Need-write-read-requires
@@ -24,7 +24,7 @@ returns-2 : tie.Need-returns-2
 returns-2 c =
     let a = c .before .before .before .before .before .before .before .before .before .before .before .args in
     let e = sym (c .before .before .before .before .before .before .before .read .ensures) ∙ c .before .before .before .before .before .order .given .1 in
-    let n = order-read (λ o. pageOf o (a .page)) pageLength (now (a .order)) (now (a .scratch)) (c .before .before .before .before .before .before .before .before .if1 .left) _ e in
+    let n = order-read (pieceIn (a .page) (a .first) (now (a .scratch))) rowLength (now (a .order)) (now (a .scratch)) (c .before .before .before .before .before .before .before .before .if1 .left) _ e in
     let p = c .before .before .write-read .ensures in
     (p .0 ∙ n .0, p .1 ∙ n .1)
 
@@ -32,7 +32,7 @@ returns-3 : tie.Need-returns-3
 returns-3 c =
     let a = c .before .before .before .before .before .before .before .before .args in
     let e = sym (c .before .before .before .before .read .ensures) ∙ c .before .before .refusal .given .1 in
-    let n = order-refused (λ o. pageOf o (a .page)) pageLength (now (a .order)) (now (a .scratch)) (c .before .before .before .before .before .if1 .left) _ e in
+    let n = order-refused (pieceIn (a .page) (a .first) (now (a .scratch))) rowLength (now (a .order)) (now (a .scratch)) (c .before .before .before .before .before .if1 .left) _ e in
     (c .refused2 .ensures ∙ n .0, n .1)
 
 pub write-page-spec : {M : Type 1} → statement M

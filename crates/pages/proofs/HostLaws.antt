@@ -1,0 +1,229 @@
+-- A host's calls on a page, whatever scratches it lends, give the page. Assumes nothing.
+use native.Mathlib.Omega.{arith}
+use Prim.Native.Nat.{ℕ, zero, suc, _+_, _-_, _*_, _/_, _≤_, _<_, min}
+use mathlib.Core.Bool.{Bool, true, false}
+use mathlib.Core.Path.{_≡_, refl, sym, ap, _∙_}
+use mathlib.Core.List.{List, [], _∷_, _++_}
+use lib.Dec.{ltb}
+use lib.ListN.{length, take, drop, drop-of-length-le}
+use lib.Seq.{take-all, take-at, drop-drop}
+use borrow.Author.Tests.{ltb-true, ltb-false}
+use Rattle.braille.specs.Braille.{dotsOf}
+use Rattle.calls.specs.Calls.{lacksRow}
+use Rattle.order.specs.declared.reading.Order.{Order}
+use Rattle.order.specs.declared.reading.Reading.{Reading}
+use Rattle.order.specs.declared.reading.Reading.the-variants.{Read, Refused}
+use Rattle.order.specs.Reading.{readingOf}
+use Rattle.refusals.specs.Refusals.{noRefusal}
+use Rattle.refusals.specs.declared.Refusal.{Refusal}
+use Rattle.text.specs.Text.{frontOf}
+use Rattle.pages.specs.Answers.{punchedOf, refusedOf, answerOf, pieceIn, pageWritten, pageBuffer}
+use Rattle.pages.specs.Host.{cellsGot, Calls, ended, called, PiecesAreThePage, AtOnceAsBefore}
+use Rattle.pages.specs.Pages.{Rows, cellsOf, pageOf, pieceOf}
+use Rattle.pages.specs.declared.answer.Punched.{Punched}
+use Rattle.pages.proofs.AnswerLaws.{rows-some, rows-none, order-read, order-refused}
+use Rattle.pages.proofs.PageLaws.{page-most, piece-none, piece-written}
+use Rattle.pages.proofs.RowsLaws.{dots-append, cells-append, rows-length, cells-length}
+
+-- what is taken, and the rest from its length on
+took : (k : ℕ) (rows : Rows) → take k rows ++ drop (length (take k rows)) rows ≡ rows
+took zero rows = refl
+took (suc k) [] = refl
+took (suc k) (row ∷ rows) = ap (λ (l : Rows). row ∷ l) (took k rows)
+
+-- a piece, and the rest from the row behind it
+rest : (rows : Rows) (first room : ℕ) → cellsOf (pieceOf rows first room) ++ cellsOf (drop (first + length (pieceOf rows first room)) rows) ≡ cellsOf (drop first rows)
+rest rows first room =
+    let piece = pieceOf rows first room in
+    ap (λ (l : Rows). cellsOf piece ++ cellsOf l) (sym (drop-drop (length piece) first rows))
+    ∙ sym (cells-append piece (drop (length piece) (drop first rows)))
+    ∙ ap cellsOf (took room (drop first rows))
+
+-- an order that is read
+module _ (s : List ℕ) (page : ℕ) (o : Order) (e : readingOf s ≡ Read o) where
+  -- What a call answers that has its row: the piece's rows, not none, their dots and their cells.
+  record Piece (first : ℕ) (scratch : List ℕ) : Type 0 where
+    none : pageWritten page first s scratch .refusal ≡ noRefusal
+    some : 1 ≤ pageWritten page first s scratch .rows
+    rows : pageWritten page first s scratch .rows ≡ length (pieceIn page first scratch o)
+    dots : pageWritten page first s scratch .dots ≡ dotsOf (cellsOf (pieceIn page first scratch o))
+    cells : cellsGot page first s scratch ≡ cellsOf (pieceIn page first scratch o)
+
+  has-row : (first : ℕ) (scratch : List ℕ) → 39 ≤ length scratch → first < length (pageOf o page) → Piece first scratch
+  has-row first scratch long h =
+      let room = length scratch / 39 in
+      let taken = min room (length (pageOf o page) - first) in
+      let row = 25 * (page - 1) + first in
+      let piece = pieceIn page first scratch o in
+      let w = piece-written o page first room (length (pageOf o page)) taken refl h (omega arith) refl in
+      let l : taken ≡ length piece = sym (rows-length o row taken) ∙ ap length (w .rows) in
+      let r = order-read (pieceIn page first scratch) 39 s scratch long o e in
+      let a : pageWritten page first s scratch ≡ punchedOf piece = sym (r .0) ∙ sym (rows-some piece (omega (arith, w .some))) in
+      let k : pageWritten page first s scratch .rows ≡ length piece = ap (λ (p : Punched). p .rows) a in
+      let c : length (cellsOf piece) ≡ 39 * length piece = ap (λ (x : Rows). length (cellsOf x)) (sym (w .rows)) ∙ cells-length o row taken ∙ ap (λ (n : ℕ). 39 * n) l in
+      record {
+        none = ap (λ (p : Punched). p .refusal) a;
+        some = omega (arith, w .some);
+        rows = k;
+        dots = ap (λ (p : Punched). p .dots) a;
+        cells = ap (λ (n : ℕ). take (39 * n) (pageBuffer page first s scratch)) k
+            ∙ ap (take (39 * length piece)) (sym (r .1))
+            ∙ take-at (cellsOf piece) (drop (length (cellsOf piece)) scratch) (39 * length piece) c;
+      }
+
+  lacks-row : (first : ℕ) (scratch : List ℕ) → 39 ≤ length scratch → length (pageOf o page) ≤ first → pageWritten page first s scratch ≡ refusedOf lacksRow
+  lacks-row first scratch long h =
+      let r = order-read (pieceIn page first scratch) 39 s scratch long o e in
+      sym (r .0) ∙ sym (rows-none (pieceIn page first scratch o) scratch (piece-none o page first (length scratch / 39) h) .0)
+
+  -- the cells and the dots of the page's rows from one on
+  abbrev Rest : ℕ → List ℕ → ℕ → Type 0
+  Rest first cells dots = (cells ≡ cellsOf (drop first (pageOf o page))) × (dots ≡ dotsOf (cellsOf (drop first (pageOf o page))))
+
+  module _ (lent : ℕ → List ℕ) (long : (n : ℕ) → 39 ≤ length (lent n)) where
+    at-end : (n first : ℕ) → pageWritten page first s (lent n) .refusal ≡ lacksRow → Rest first [] 0
+    unfolding cellsOf dotsOf
+    at-end n first z = by-test (ltb first (length (pageOf o page))) refl
+      where
+        by-test : (b : Bool) → ltb first (length (pageOf o page)) ≡ b → Rest first [] 0
+        by-test true t =
+            let p = has-row first (lent n) (long n) (ltb-true first (length (pageOf o page)) t) in
+            let five : _≡_ {A = ℕ} 5 0 = ap (λ (r : Refusal). r .number) (sym z ∙ p .none) in
+            absurd (omega arith)
+        by-test false t =
+            let d : drop first (pageOf o page) ≡ [] = drop-of-length-le (pageOf o page) (ltb-false first (length (pageOf o page)) t) in
+            (sym (ap cellsOf d), sym (ap (λ (l : Rows). dotsOf (cellsOf l)) d))
+
+    one-more : (n first : ℕ) (cells : List ℕ) (dots : ℕ) → pageWritten page first s (lent n) .refusal ≡ noRefusal
+        → Rest (first + pageWritten page first s (lent n) .rows) cells dots
+        → Rest first (cellsGot page first s (lent n) ++ cells) (pageWritten page first s (lent n) .dots + dots)
+    one-more n first cells dots z i = by-test (ltb first (length (pageOf o page))) refl
+      where
+        by-test : (b : Bool) → ltb first (length (pageOf o page)) ≡ b
+            → Rest first (cellsGot page first s (lent n) ++ cells) (pageWritten page first s (lent n) .dots + dots)
+        by-test true t =
+            let p = has-row first (lent n) (long n) (ltb-true first (length (pageOf o page)) t) in
+            let piece = pieceIn page first (lent n) o in
+            let left = cellsOf (drop (first + length piece) (pageOf o page)) in
+            let c : cells ≡ left = i .0 ∙ ap (λ (k : ℕ). cellsOf (drop (first + k) (pageOf o page))) (p .rows) in
+            let d : dots ≡ dotsOf left = i .1 ∙ ap (λ (k : ℕ). dotsOf (cellsOf (drop (first + k) (pageOf o page)))) (p .rows) in
+            let r = rest (pageOf o page) first (length (lent n) / 39) in
+            let sum = dots-append (cellsOf piece) left in
+            let f : dotsOf (cellsOf piece ++ left) ≡ dotsOf (cellsOf (drop first (pageOf o page))) = ap dotsOf r in
+            let q = p .dots in
+            (ap (λ (l : List ℕ). l ++ cells) (p .cells) ∙ ap (λ (l : List ℕ). cellsOf piece ++ l) c ∙ r, omega arith)
+        by-test false t =
+            let l = lacks-row first (lent n) (long n) (ltb-false first (length (pageOf o page)) t) in
+            let five : _≡_ {A = ℕ} 0 5 = ap (λ (r : Refusal). r .number) (sym z ∙ ap (λ (p : Punched). p .refusal) l) in
+            absurd (omega arith)
+
+    -- calls from any row on have got the rest of the page
+    got : {n first dots : ℕ} {cells : List ℕ} → Calls s page lent n first cells dots → Rest first cells dots
+    got (ended {n} {first} z) = at-end n first z
+    got (called {n} {first} {dots} {cells} z r) = one-more n first cells dots z (got r)
+
+    ends-here : (n first : ℕ) → length (pageOf o page) ≤ first → (cells : List ℕ) × (dots : ℕ) × Calls s page lent n first cells dots
+    ends-here n first h = ([], 0, ended (ap (λ (p : Punched). p .refusal) (lacks-row first (lent n) (long n) h)))
+
+    -- with k rows to go they end
+    ends-after : (k n first : ℕ) → length (pageOf o page) ≤ first + k → (cells : List ℕ) × (dots : ℕ) × Calls s page lent n first cells dots
+    ends-after zero n first h = ends-here n first (omega arith)
+    ends-after (suc k) n first h = by-test (ltb first (length (pageOf o page))) refl (λ next l. ends-after k (n + 1) next l)
+      where
+        by-test : (b : Bool) → ltb first (length (pageOf o page)) ≡ b
+            → ((next : ℕ) → length (pageOf o page) ≤ next + k → (cells : List ℕ) × (dots : ℕ) × Calls s page lent (n + 1) next cells dots)
+            → (cells : List ℕ) × (dots : ℕ) × Calls s page lent n first cells dots
+        by-test false t go = ends-here n first (ltb-false first (length (pageOf o page)) t)
+        by-test true t go =
+            let p = has-row first (lent n) (long n) (ltb-true first (length (pageOf o page)) t) in
+            let r = go (first + pageWritten page first s (lent n) .rows) (omega (arith, p .some)) in
+            (cellsGot page first s (lent n) ++ r .0, pageWritten page first s (lent n) .dots + r .1, called (p .none) (r .2))
+
+    pub read-ends : (cells : List ℕ) × (dots : ℕ) × Calls s page lent 0 0 cells dots
+    read-ends = ends-after (length (pageOf o page)) 0 0 (omega arith)
+
+  -- a whole page fits 975 bytes
+  pub whole-piece : (whole : List ℕ) → 975 ≤ length whole → pieceIn page 0 whole o ≡ pageOf o page
+  whole-piece whole room =
+      let most = page-most o page in
+      take-all (length whole / 39) (pageOf o page) (omega arith)
+
+  whole-got : (whole : List ℕ) → 975 ≤ length whole → Rest 0 (cellsGot page 0 s whole) (pageWritten page 0 s whole .dots)
+  unfolding cellsOf dotsOf
+  whole-got whole room = by-test (ltb 0 (length (pageOf o page))) refl
+    where
+      by-test : (b : Bool) → ltb 0 (length (pageOf o page)) ≡ b → Rest 0 (cellsGot page 0 s whole) (pageWritten page 0 s whole .dots)
+      by-test true t =
+          let p = has-row 0 whole (omega arith) (ltb-true 0 (length (pageOf o page)) t) in
+          let w = whole-piece whole room in
+          (p .cells ∙ ap cellsOf w, p .dots ∙ ap (λ (l : Rows). dotsOf (cellsOf l)) w)
+      by-test false t =
+          let h = ltb-false 0 (length (pageOf o page)) t in
+          let l = lacks-row 0 whole (omega arith) h in
+          let d : pageOf o page ≡ [] = drop-of-length-le (pageOf o page) h in (
+            ap (λ (p : Punched). take (39 * p .rows) (pageBuffer page 0 s whole)) l ∙ sym (ap cellsOf d),
+            ap (λ (p : Punched). p .dots) l ∙ sym (ap (λ (l : Rows). dotsOf (cellsOf l)) d),
+          )
+
+  pub read-same : (lent : ℕ → List ℕ) → ((n : ℕ) → 39 ≤ length (lent n)) → (whole : List ℕ) → 975 ≤ length whole
+      → {cells : List ℕ} {dots : ℕ} → Calls s page lent 0 0 cells dots → (cells ≡ cellsGot page 0 s whole) × (dots ≡ pageWritten page 0 s whole .dots)
+  read-same lent long whole room calls =
+      let g = got lent long calls in
+      let w = whole-got whole room in
+      (g .0 ∙ sym (w .0), g .1 ∙ sym (w .1))
+
+-- a refused order: no call gives a cell
+module _ (s : List ℕ) (page : ℕ) (r : Refusal) (e : readingOf s ≡ Refused r) where
+  refused-answer : (first : ℕ) (scratch : List ℕ) → 39 ≤ length scratch → pageWritten page first s scratch ≡ refusedOf r
+  refused-answer first scratch long = sym (order-refused (pieceIn page first scratch) 39 s scratch long r e .0)
+
+  nothing-got : (first : ℕ) (scratch : List ℕ) → 39 ≤ length scratch → (cellsGot page first s scratch ≡ []) × (pageWritten page first s scratch .dots ≡ 0)
+  nothing-got first scratch long =
+      let a = refused-answer first scratch long in
+      (ap (λ (p : Punched). take (39 * p .rows) (pageBuffer page first s scratch)) a, ap (λ (p : Punched). p .dots) a)
+
+  nothing-in-all : (lent : ℕ → List ℕ) → ((n : ℕ) → 39 ≤ length (lent n)) → {n first dots : ℕ} {cells : List ℕ} → Calls s page lent n first cells dots
+      → (cells ≡ []) × (dots ≡ 0)
+  nothing-in-all lent long (ended z) = (refl, refl)
+  nothing-in-all lent long (called {n} {first} {dots} {cells} z calls) =
+      let i = nothing-in-all lent long calls in
+      let a = nothing-got first (lent n) (long n) in
+      (ap (λ (l : List ℕ). l ++ cells) (a .0) ∙ i .0, omega (arith, a .1, i .1))
+
+  pub refused-same : (lent : ℕ → List ℕ) → ((n : ℕ) → 39 ≤ length (lent n)) → (whole : List ℕ) → 975 ≤ length whole
+      → {cells : List ℕ} {dots : ℕ} → Calls s page lent 0 0 cells dots → (cells ≡ cellsGot page 0 s whole) × (dots ≡ pageWritten page 0 s whole .dots)
+  refused-same lent long whole room calls =
+      let g = nothing-in-all lent long calls in
+      let w = nothing-got 0 whole (omega arith) in
+      (g .0 ∙ sym (w .0), g .1 ∙ sym (w .1))
+
+-- request 9
+pub pieces-are-the-page : (s : List ℕ) (page : ℕ) (lent : ℕ → List ℕ) (whole : List ℕ) → ((n : ℕ) → 39 ≤ length (lent n)) → 975 ≤ length whole
+    → PiecesAreThePage s page lent whole
+pieces-are-the-page s page lent whole long room =
+    record {
+      ends = λ o e. read-ends s page o e lent long;
+      same = λ cells dots calls. by-reading (readingOf s) refl calls;
+    }
+  where
+    by-reading : (r : Reading) → readingOf s ≡ r → {cells : List ℕ} {dots : ℕ} → Calls s page lent 0 0 cells dots
+        → (cells ≡ cellsGot page 0 s whole) × (dots ≡ pageWritten page 0 s whole .dots)
+    by-reading (Read o) e calls = read-same s page o e lent long whole room calls
+    by-reading (Refused r) e calls = refused-same s page r e lent long whole room calls
+
+pub at-once-as-before : (s : List ℕ) (page : ℕ) (scratch : List ℕ) → 975 ≤ length scratch → AtOnceAsBefore s page scratch
+at-once-as-before s page scratch room = by-reading (readingOf s) refl
+  where
+    by-reading : (r : Reading) → readingOf s ≡ r → AtOnceAsBefore s page scratch
+    by-reading (Read o) e =
+        let now = order-read (pieceIn page 0 scratch) 39 s scratch (omega arith) o e in
+        let before = order-read (λ o. pageOf o page) 975 s scratch room o e in
+        let w = whole-piece s page o e scratch room in
+        record {
+          answer = sym (now .0) ∙ ap answerOf w ∙ before .0;
+          buffer = sym (now .1) ∙ ap (λ (l : Rows). frontOf (cellsOf l) scratch) w ∙ before .1;
+        }
+    by-reading (Refused r) e =
+        let now = order-refused (pieceIn page 0 scratch) 39 s scratch (omega arith) r e in
+        let before = order-refused (λ o. pageOf o page) 975 s scratch room r e in
+        record { answer = sym (now .0) ∙ before .0; buffer = sym (now .1) ∙ before .1 }

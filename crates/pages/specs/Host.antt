@@ -1,0 +1,43 @@
+-- Document 02, request 9, over the page call as a host makes it: "Calls on from row 0 to the page's end must give, for every scratch length
+-- from 39 up, the same cells in the same order and the same dot total as 975 does."
+use Prim.Native.Nat.{ℕ, _+_, _*_, _≤_}
+use mathlib.Core.Path.{_≡_}
+use mathlib.Core.List.{List, [], _++_}
+use lib.ListN.{length, take}
+use Rattle.braille.specs.Cells.{rowLength}
+use Rattle.calls.specs.Calls.{lacksRow}
+use Rattle.order.specs.declared.reading.Order.{Order}
+use Rattle.order.specs.declared.reading.Reading.the-variants.{Read}
+use Rattle.order.specs.Reading.{readingOf}
+use Rattle.refusals.specs.Refusals.{noRefusal}
+use Rattle.pages.specs.Answers.{writtenOf, bufferOf, pageWritten, pageBuffer}
+use Rattle.pages.specs.Pages.{pageRows, pageOf}
+
+-- a scratch that a whole page fits
+abbrev pub pageLength : ℕ
+pageLength = rowLength * pageRows
+
+-- the cells that a call has put at the scratch's front, by the rows that it answers
+abbrev pub cellsGot : ℕ → ℕ → List ℕ → List ℕ → List ℕ
+cellsGot page first s scratch = take (rowLength * pageWritten page first s scratch .rows) (pageBuffer page first s scratch)
+
+-- A host's calls on a page: call n is lent the scratch `lent n`, each begins at the row where the last one ended, and they end at 5, place 3.
+-- From row `first` on they have got these cells, one call's behind another's, and this total of dots.
+pub data Calls (s : List ℕ) (page : ℕ) (lent : ℕ → List ℕ) : ℕ → ℕ → List ℕ → ℕ → Type 0 where
+  ended : {n first : ℕ} → pageWritten page first s (lent n) .refusal ≡ lacksRow → Calls s page lent n first [] 0
+  called : {n first dots : ℕ} {cells : List ℕ} → pageWritten page first s (lent n) .refusal ≡ noRefusal
+      → Calls s page lent (n + 1) (first + pageWritten page first s (lent n) .rows) cells dots
+      → Calls s page lent n first (cellsGot page first s (lent n) ++ cells) (pageWritten page first s (lent n) .dots + dots)
+
+-- With scratches of 39 bytes or more, of any length at each call: of every order that is read, and any page, the calls from row 0 on end; and on any
+-- bytes, however they went, they have got what one call with a scratch of 975 bytes or more gives.
+pub record PiecesAreThePage (s : List ℕ) (page : ℕ) (lent : ℕ → List ℕ) (whole : List ℕ) : Type 0 where
+  pub ends : (o : Order) → readingOf s ≡ Read o → (cells : List ℕ) × (dots : ℕ) × Calls s page lent 0 0 cells dots
+  pub same : (cells : List ℕ) (dots : ℕ) → Calls s page lent 0 0 cells dots
+      → (cells ≡ cellsGot page 0 s whole) × (dots ≡ pageWritten page 0 s whole .dots)
+
+-- A call from row 0 on with a scratch of 975 bytes or more is what the page call was before request 9: the whole page, every byte of the scratch, and
+-- every refusal.
+pub record AtOnceAsBefore (s : List ℕ) (page : ℕ) (scratch : List ℕ) : Type 0 where
+  pub answer : pageWritten page 0 s scratch ≡ writtenOf (λ o. pageOf o page) pageLength s scratch
+  pub buffer : pageBuffer page 0 s scratch ≡ bufferOf (λ o. pageOf o page) pageLength s scratch
