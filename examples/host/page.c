@@ -6,7 +6,7 @@ uint32_t pages_of(const order *o) {
 }
 
 katchidul_cells page_cells(const order *o, uint32_t page, uint8_t cells[KATCHIDUL_PAGE_CELLS]) {
-  return katchidul_write_page(o->bytes, o->length, page, cells, KATCHIDUL_PAGE_CELLS);
+  return katchidul_write_page(o->bytes, o->length, page, 0, cells, KATCHIDUL_PAGE_CELLS);
 }
 
 uint32_t dots_through(const order *o, uint32_t page) {

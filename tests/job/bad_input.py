@@ -118,7 +118,8 @@ def damaged_logs(checks, built, seed, long):
     by_number = {}
     for refused, times in numbers.items():
         by_number[refused[0] if refused else 0] = by_number.get(refused[0] if refused else 0, 0) + times
-    print(f"damaged logs: {cut} cut, of which {cut_held} jobs held; random bytes by refusal {dict(sorted(by_number.items()))}; {len(wrong)} faults")
+    print(f"damaged logs: {cut} cut, of which {cut_held} jobs held; random bytes by refusal {dict(sorted(by_number.items()))}; "
+          f"{len(wrong)} faults", flush=True)
     checks.check("damaged logs", wrong if by_number.get(13) else ["no random log was refused by 13"])
 
 

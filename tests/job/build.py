@@ -29,7 +29,7 @@ class Library:
         buffer, size, word = ctypes.c_char_p, ctypes.c_size_t, ctypes.c_uint32
         self.calls = {}
         for name, answer, words in [
-                ("write_page", Cells, [buffer, size, word, buffer, size]),
+                ("write_page", Cells, [buffer, size, word, word, buffer, size]),
                 ("read_log", Log, [buffer, size, size]),
                 ("restart", Log, [buffer, size, size, word, buffer, size]),
                 ("write_sentence", Written, [word, word, buffer, size])]:
@@ -39,7 +39,7 @@ class Library:
         self.known = {}
 
     def write_page(self, order, page, scratch):
-        return self.calls["write_page"](order, len(order), page, scratch, len(scratch))
+        return self.calls["write_page"](order, len(order), page, 0, scratch, len(scratch))
 
     def page(self, order, page):
         scratch = ctypes.create_string_buffer(975)
@@ -54,9 +54,10 @@ class Library:
     def pages(self, order):
         """All pages in one go: page, rows and cells of each."""
         if order not in self.known:
-            self.known[order] = []
-            while (made := self.page(order, len(self.known[order]) + 1)) is not None:
-                self.known[order].append((len(self.known[order]) + 1, *made))
+            pages = []
+            while (made := self.page(order, len(pages) + 1)) is not None:
+                pages.append((len(pages) + 1, *made))
+            self.known[order] = pages  # only now: other threads may ask
         return self.known[order]
 
     def log(self, log, size):

@@ -1,6 +1,5 @@
 # The host's system calls as strace sees them, in the lines of the stopper's trace: so the order of the calls is judged without the stopper,
 # and the stopper is held to strace.
-import os
 import re
 import shutil
 import subprocess
@@ -62,8 +61,8 @@ def run(built, host=None, with_stopper=True):
         own.touch()
         words = {"LD_PRELOAD": built.stopper, "STOPPER_TRACE": str(own), "STOPPER_SPOOL": str(trial.spool.resolve())}
         settings = [word for name, value in words.items() if with_stopper for word in ("-E", f"{name}={value}")]
-        subprocess.run(["strace", "-y", "-xx", "-s", "4096", "-o", str(seen), *settings, trial.host, "-p", str(10 * PATIENCE), str(trial.spool),
-                        trial.socket], stdout=subprocess.DEVNULL, check=True, env=os.environ)
+        words = [trial.host, "-p", str(10 * PATIENCE), str(trial.spool), trial.socket]
+        subprocess.run(["strace", "-y", "-xx", "-s", "4096", "-o", str(seen), *settings, *words], stdout=subprocess.DEVNULL, check=True)
         calls = Calls(trial.spool, own)
         for line in seen.read_text().splitlines():
             calls.follow(line)

@@ -118,8 +118,9 @@ class Trial:
             wrong.append(f"{len(done)} jobs, not the {len(self.orders)} orders")
         jobs = self.pages_by_job()
         for name, text in zip(self.names("done"), done):
-            if jobs.pop(int(name), []) != self.built.library.pages(text):
-                wrong.append(f"job {name} is not punched page by page")
+            punched, owed = jobs.pop(int(name), []), self.built.library.pages(text)
+            if punched != owed:
+                wrong.append(f"job {name}: punched {[page for page, *_ in punched]} of {len(owed)} pages")
         return wrong + [f"pages of job {job}, which is not there" for job in jobs]
 
     def out_of_order(self):

@@ -5,7 +5,8 @@ SEND_NEXT = """  append(r, j, KATCHIDUL_RECORD_SENT, page);
 """
 
 WRONG_HOSTS = [
-    ("a page before its record", {"kills", "calls"}, "room.c", SEND_NEXT, """  bool gone = send_page(r, j, page);
+    ("a page before its record", {"kills", "calls"}, "room.c", SEND_NEXT, """\
+  bool gone = send_page(r, j, page);
   append(r, j, KATCHIDUL_RECORD_SENT, page);
   r->queue = turn.queue;
   return gone;
@@ -17,8 +18,9 @@ WRONG_HOSTS = [
      "  make_folder(spool, folder);\n"),
     ("the log written in its place", {"kills"}, "lasting.c", '"%s/%s.new", folder, name', '"%s/%s", folder, name'),
     ("the embosser not asked", {"kills"}, "room.c", "job_restart(r->spool, &j, count)", "job_restart(r->spool, &j, job_log(&j).finished)"),
-    ("open pages not sent again", {"kills"}, "room.c", "page = now.finished + 1; page <= now.sent; page++", "page = now.sent + 1; page <= now.sent; page++"),
-    ("an order copied, not moved", {"kills"}, "spool.c", '  move_lasting(spool, "in", name, folder, "order");\n', """  uint8_t bytes[KATCHIDUL_ORDER_MAX];
+    ("open pages not sent again", {"kills"}, "room.c", "uint32_t page = now.finished + 1;", "uint32_t page = now.sent + 1;"),
+    ("an order copied, not moved", {"kills"}, "spool.c", '  move_lasting(spool, "in", name, folder, "order");\n', """\
+  uint8_t bytes[KATCHIDUL_ORDER_MAX];
   size_t length;
   read_file(spool, file, bytes, sizeof bytes, &length);
   write_lasting(spool, folder, "order", bytes, length);
