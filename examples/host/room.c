@@ -154,6 +154,7 @@ static bool take(room *r, const char *name) {
   if (joined.number != 0) {
     if (strcmp(r->told, name) != 0) say_refusal(about, joined.number, joined.place);
     strcpy(r->told, name);
+    r->refused = r->refused || joined.number != KATCHIDUL_QUEUE_FULL; /* all ids are used up */
     return false;
   }
   say("order %s: job %u, %.*s, pages: %u", name, id, (int)asks.town_length, (const char *)o.bytes + asks.town_at, pages_of(&o));

@@ -42,6 +42,14 @@ def full_queue(checks, built):
     checks.check("more orders than the queue takes", wrong)
 
 
+def no_id_left(checks, built):
+    with Trial(built, [GOOD]) as trial:
+        (trial.spool / "done" / "65535").mkdir(parents=True)
+        trial.run()
+        told = trial.status == 1 and f"order 000: {built.library.sentence(17, 65536)}\n" in trial.said and trial.names("in") == ["000"]
+    checks.check("all ids are used up", [] if told else [trial.said])
+
+
 # ---- damaged logs
 
 
@@ -162,7 +170,7 @@ def missing_embosser(checks, built):
 def embosser_dies(checks, built, seed, long):
     draw, wrong, lost = random.Random(seed), [], 0
     for number in range(60 if long else 6):
-        with Trial(built, ORDERS, None, ["-t", 2]) as trial:
+        with Trial(built, ORDERS, None, ["-t", 5]) as trial:
             host = trial.begin()
             time.sleep(draw.uniform(0.002, 0.03))
             trial.stop_embosser()
@@ -202,6 +210,7 @@ def two_hosts(checks, built):
 def run(checks, built, seed, long):
     refused_orders(checks, built)
     full_queue(checks, built)
+    no_id_left(checks, built)
     damaged_logs(checks, built, seed, long)
     full_disk(checks, built)
     missing_embosser(checks, built)
