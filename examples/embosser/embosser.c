@@ -162,5 +162,7 @@ int main(int count, char **words) {
     perror("embosser");
     return 1;
   }
+  puts("embosser: ready");
+  fflush(stdout);
   serve();
 }

@@ -153,7 +153,6 @@ def full_disk(checks, built):
 def missing_embosser(checks, built):
     with Trial(built, ORDERS) as trial:
         for why in ("Connection refused", "No such file or directory"):
-            until(lambda: os.path.exists(trial.socket))
             trial.stop_embosser()
             if why.startswith("No"):
                 os.unlink(trial.socket)

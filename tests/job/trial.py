@@ -54,12 +54,13 @@ class Trial:
         shutil.rmtree(self.folder)
 
     def start_embosser(self):
-        self.embosser = subprocess.Popen([self.built.embosser, *self.habits, self.socket, str(self.punched)])
+        self.embosser = subprocess.Popen([self.built.embosser, *self.habits, self.socket, str(self.punched)], stdout=subprocess.PIPE)
+        self.embosser.stdout.readline()  # it is ready
 
     def stop_embosser(self):
         if self.embosser:
             self.embosser.kill()
-            self.embosser.wait()
+            self.embosser.communicate()
         self.embosser = None
 
     def begin(self, after=0, how="kill", trace=None, most_bytes=None):
