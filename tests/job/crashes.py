@@ -84,12 +84,12 @@ def killed_again(built, seed, trials, orders=ORDERS):
     return all_of(one, range(trials))
 
 
-def without_power(built, seed, trials):
+def without_power(built, seed, trials, host=None, seconds=30):
     """Killed after some call, and of the spool there is what lasted; begun again, until a host comes to its end."""
 
     def one(number):
         draw, kills = draw_of(seed, number), 0
-        with Trial(built, ORDERS, None, habits(draw)) as trial:
+        with Trial(built, ORDERS, host, habits(draw), seconds) as trial:
             for turn in range(CHAIN):
                 disk, trace = trial.disk(), trial.folder / f"trace.{turn}"
                 trial.run(after=draw.randint(1, 70), how=draw.choice(["kill", "torn"]), trace=trace)

@@ -100,6 +100,10 @@ class Trial:
     def names(self, folder):
         return sorted(os.listdir(self.spool / folder), key=lambda name: (len(name), name))
 
+    def order_of(self, job):
+        file = self.spool / job / "order"
+        return file.read_bytes() if file.exists() else None
+
     def pages_by_job(self):
         jobs = {}
         for job, *page in punched_pages(self.punched):
@@ -114,12 +118,12 @@ class Trial:
         for folder in ("in", "jobs", "held", "refused"):
             if self.names(folder):
                 wrong.append(f"{folder} has {self.names(folder)}")
-        done = [(self.spool / "done" / name / "order").read_bytes() for name in self.names("done")]
+        done = [self.order_of(f"done/{name}") for name in self.names("done")]
         if done != self.orders:
             wrong.append(f"{len(done)} jobs, not the {len(self.orders)} orders")
         jobs = self.pages_by_job()
         for name, text in zip(self.names("done"), done):
-            punched, owed = jobs.pop(int(name), []), self.built.library.pages(text)
+            punched, owed = jobs.pop(int(name), []), self.built.library.pages(text or b"")
             if punched != owed:
                 wrong.append(f"job {name}: punched {[page for page, *_ in punched]} of {len(owed)} pages")
         return wrong + [f"pages of job {job}, which is not there" for job in jobs]
@@ -129,10 +133,9 @@ class Trial:
         wrong = []
         for job, pages in self.pages_by_job().items():
             for folder in ("jobs", "held", "done"):
-                if (self.spool / folder / str(job) / "order").exists():
-                    text = (self.spool / folder / str(job) / "order").read_bytes()
-                    if pages != self.built.library.pages(text)[:len(pages)]:
-                        wrong.append(f"job {job} has pages twice or out of order")
+                text = self.order_of(f"{folder}/{job}")
+                if text is not None and pages != self.built.library.pages(text)[:len(pages)]:
+                    wrong.append(f"job {job} has pages twice or out of order")
         return wrong
 
     # ---- the order of the calls

@@ -1,4 +1,5 @@
-# Hosts with one thing wrong, each an edit of the host's text, and which run must notice: `kills`, or the order of the calls (`calls`).
+# Hosts with one thing wrong, each an edit of the host's text, and which runs must notice: `kills`, lost
+# `power`, or the order of the calls (`calls`).
 SEND_NEXT = """  append(r, j, KATCHIDUL_RECORD_SENT, page);
   r->queue = turn.queue;
   return send_page(r, j, page);
@@ -11,9 +12,10 @@ WRONG_HOSTS = [
   r->queue = turn.queue;
   return gone;
 """),
-    ("nothing flushed", {"calls"}, "lasting.c", "file < 0 || fsync(file) != 0 || close(file) != 0", "file < 0 || close(file) != 0"),
-    ("the log not flushed", {"calls"}, "lasting.c", "  flush_and_close(file, made);\n", "  close(file);\n"),
-    ("the log's folder not flushed", {"calls"}, "lasting.c", "stop_at(meant);\n  flush_file(spool, folder);\n", "stop_at(meant);\n"),
+    ("nothing flushed", {"power", "calls"}, "lasting.c", "fsync(file) != 0 || close(file) != 0", "close(file) != 0"),
+    ("the log not flushed", {"power", "calls"}, "lasting.c", "  flush_and_close(file, made);\n", "  close(file);\n"),
+    ("the log's folder not flushed", {"power", "calls"}, "lasting.c", "stop_at(meant);\n  flush_file(spool, folder);\n",
+     "stop_at(meant);\n"),
     ("the order's folder not flushed", {"calls"}, "spool.c", '  make_folder(spool, folder);\n  flush_file(spool, "jobs");\n',
      "  make_folder(spool, folder);\n"),
     ("the log written in its place", {"kills"}, "lasting.c", '"%s/%s.new", folder, name', '"%s/%s", folder, name'),
