@@ -1,0 +1,111 @@
+# Builds what the runs need, in a folder of their own: the host, the embosser, the stopper, and the library for Python.
+import ctypes
+import os
+import pathlib
+import shutil
+import subprocess
+
+ROOT = pathlib.Path(__file__).resolve().parent.parent.parent
+FLAGS = ["gcc", "-std=c11", "-Wall", "-Wextra", "-Wpedantic", "-Werror", "-O2"]
+
+
+class Cells(ctypes.Structure):
+    _fields_ = [(name, ctypes.c_uint32) for name in ("number", "place", "rows", "dots")]
+
+
+class Log(ctypes.Structure):
+    _fields_ = [(name, ctypes.c_uint32) for name in ("number", "place", "moved", "finished", "sent")] + [("used", ctypes.c_size_t)]
+
+
+class Written(ctypes.Structure):
+    _fields_ = [(name, ctypes.c_uint32) for name in ("number", "place", "length")]
+
+
+class Library:
+    """The calls that the runs judge by."""
+
+    def __init__(self, shared):
+        loaded = ctypes.CDLL(shared)
+        buffer, size, word = ctypes.c_char_p, ctypes.c_size_t, ctypes.c_uint32
+        self.calls = {}
+        for name, answer, words in [
+                ("write_page", Cells, [buffer, size, word, word, buffer, size]),
+                ("read_log", Log, [buffer, size, size]),
+                ("restart", Log, [buffer, size, size, word, buffer, size]),
+                ("write_sentence", Written, [word, word, buffer, size])]:
+            call = getattr(loaded, "katchidul_" + name)
+            call.restype, call.argtypes = answer, words
+            self.calls[name] = call
+        self.known = {}
+
+    def write_page(self, order, page, scratch):
+        return self.calls["write_page"](order, len(order), page, 0, scratch, len(scratch))
+
+    def page(self, order, page):
+        scratch = ctypes.create_string_buffer(975)
+        made = self.write_page(order, page, scratch)
+        return (made.rows, scratch.raw[:39 * made.rows]) if made.number == 0 else None
+
+    def refusal(self, order):
+        """An order's refusal in words; of a right one there is none."""
+        made = self.write_page(order, 1, ctypes.create_string_buffer(975))
+        return self.sentence(made.number, made.place) if made.number else None
+
+    def pages(self, order):
+        """All pages in one go: page, rows and cells of each."""
+        if order not in self.known:
+            pages = []
+            while (made := self.page(order, len(pages) + 1)) is not None:
+                pages.append((len(pages) + 1, *made))
+            self.known[order] = pages  # only now: other threads may ask
+        return self.known[order]
+
+    def log(self, log, size):
+        return self.calls["read_log"](log.ljust(size, b"\0")[:size], size, len(log))
+
+    def restart(self, log, size, count):
+        return self.calls["restart"](log.ljust(size, b"\0")[:size], size, len(log), count, ctypes.create_string_buffer(size), size)
+
+    def sentence(self, number, place):
+        words = ctypes.create_string_buffer(100)
+        length = self.calls["write_sentence"](number, place, words, 100).length
+        return words.raw[:length].decode()
+
+
+class Built:
+    def __init__(self, folder):
+        self.folder = pathlib.Path(folder)
+        archive = os.environ.get("LIBRARY")
+        if not archive:
+            subprocess.run(["rt", "staticlib", "katchidul"], cwd=ROOT, check=True)
+            archive = "target/staticlib/libkatchidul.a"
+        self.archive = str(ROOT / archive)
+        shared = str(self.folder / "library.so")
+        self.run(["gcc", "-shared", "-o", shared, "-Wl,--whole-archive", self.archive, "-Wl,--no-whole-archive"])
+        self.library = Library(shared)
+        self.embosser = self.made("embosser", sorted(ROOT.glob("examples/embosser/*.c")))
+        self.stopper = self.made("stopper.so", [ROOT / "tests/job/stopper.c"], "-shared", "-fPIC")
+        self.host = self.build_host("emboss", ROOT / "examples/host")
+
+    def run(self, words):
+        subprocess.run(words, cwd=ROOT, check=True)
+
+    def made(self, name, sources, *words):
+        program = str(self.folder / name)
+        self.run([*FLAGS, *words, *map(str, sources), "-o", program])
+        return program
+
+    def build_host(self, name, sources, *words):
+        program = str(self.folder / name)
+        self.run([*FLAGS, *words, "-I", str(ROOT / "include"), *map(str, sorted(sources.glob("*.c"))), self.archive, "-o", program])
+        return program
+
+    def edited_host(self, name, file, old, new):
+        """A host with one place of its text changed; the place must be there once."""
+        copy = self.folder / (name.replace(" ", "-") + ".host")
+        shutil.copytree(ROOT / "examples/host", copy)
+        text = (copy / file).read_text()
+        if text.count(old) != 1:
+            raise ValueError(f"{name}: the text to change stands {text.count(old)} times in {file}")
+        (copy / file).write_text(text.replace(old, new))
+        return self.build_host(name.replace(" ", "-"), copy, "-Wno-error")

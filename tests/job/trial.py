@@ -1,0 +1,170 @@
+# One spool with its host and its embosser, from the first order to the last page, and what is wrong with it at the end.
+import os
+import pathlib
+import resource
+import shutil
+import subprocess
+import tempfile
+import time
+
+from disk import Disk
+
+LOG_SIZE = 25  # of the host's log, KATCHIDUL_LOG_ROOM of three pages
+PATIENCE = 30  # milliseconds
+
+
+def order(town, rows, clock=0):
+    """An order for some rows: Durham's, from 2026-01-01 on."""
+    fields = [(1, town.encode()), (2, bytes.fromhex("07ea0101")), (3, rows.to_bytes(2, "big")), (4, bytes.fromhex("404b633d07c84b5e")),
+              (5, bytes.fromhex("bff95bc01a36e2eb")), (6, b"\0"), (16, clock.to_bytes(2, "big"))]
+    return b"".join(bytes([tag]) + len(value).to_bytes(2, "big") + value for tag, value in fields)
+
+
+def punched_pages(file):
+    """The pages that the embosser finished, in order: job, page, rows and cells."""
+    text, at, pages = pathlib.Path(file).read_bytes(), 0, []
+    while at < len(text):
+        end = text.index(b"\n", at)
+        job, page, rows = map(int, text[at:end].split()[1:])
+        pages.append((job, page, rows, text[end + 1:end + 1 + 39 * rows]))
+        at = end + 1 + 39 * rows
+    return pages
+
+
+class Trial:
+    """A folder with a spool; orders are put in by name, a, b, c, .."""
+
+    def __init__(self, built, orders, host=None, embosser=(), seconds=30):
+        self.built, self.orders, self.host, self.seconds = built, orders, host or built.host, seconds
+        self.folder = pathlib.Path(tempfile.mkdtemp(dir=built.folder))
+        self.spool, self.socket, self.punched = self.folder / "spool", str(self.folder / "socket"), self.folder / "punched"
+        self.punched.touch()
+        (self.spool / "in").mkdir(parents=True)
+        for at, text in enumerate(orders):
+            (self.spool / "in" / f"{at:03}").write_bytes(text)
+        self.embosser, self.habits = None, [str(word) for word in embosser]
+        self.said, self.status = "", None
+
+    def __enter__(self):
+        self.start_embosser()
+        return self
+
+    def __exit__(self, *_):
+        self.stop_embosser()
+        shutil.rmtree(self.folder)
+
+    def start_embosser(self):
+        self.embosser = subprocess.Popen([self.built.embosser, *self.habits, self.socket, str(self.punched)], stdout=subprocess.PIPE)
+        self.embosser.stdout.readline()  # it is ready
+
+    def stop_embosser(self):
+        if self.embosser:
+            self.embosser.kill()
+            self.embosser.communicate()
+        self.embosser = None
+
+    def begin(self, after=0, how="kill", trace=None, most_bytes=None):
+        """Starts a host; after: the call that writes at which the stopper does what `how` says."""
+        words = {**os.environ}
+        if after or trace:
+            words.update(LD_PRELOAD=self.built.stopper, STOPPER_AFTER=str(after), STOPPER_HOW=how, STOPPER_SPOOL=str(self.spool.resolve()))
+        if trace:
+            words["STOPPER_TRACE"] = str(trace)
+        limit = (lambda: resource.setrlimit(resource.RLIMIT_FSIZE, (most_bytes, most_bytes))) if most_bytes is not None else None
+        return subprocess.Popen([self.host, "-p", str(PATIENCE), str(self.spool), self.socket], env=words, preexec_fn=limit,
+                                stdout=subprocess.PIPE, stderr=subprocess.STDOUT)
+
+    def end(self, host, delay=None):
+        """Waits for a host, or ends it by its id after a delay; a host that does not come to its end counts as status 99."""
+        try:
+            if delay is not None:
+                time.sleep(delay)
+                host.kill()
+            said, _ = host.communicate(timeout=self.seconds)
+            self.status = host.returncode
+        except subprocess.TimeoutExpired:
+            host.kill()
+            said, _ = host.communicate()
+            self.status = 99
+        self.said = said.decode()
+        return self.status
+
+    def run(self, **words):
+        return self.end(self.begin(**words))
+
+    def was_killed(self):
+        return self.status == -9
+
+    # ---- what is wrong
+
+    def names(self, folder):
+        return sorted(os.listdir(self.spool / folder), key=lambda name: (len(name), name))
+
+    def order_of(self, job):
+        file = self.spool / job / "order"
+        return file.read_bytes() if file.exists() else None
+
+    def pages_by_job(self):
+        jobs = {}
+        for job, *page in punched_pages(self.punched):
+            jobs.setdefault(job, []).append(tuple(page))
+        return jobs
+
+    def faults(self, status=0):
+        """After the last host: each order is one job, all of it punched once, in order, byte for byte as the library gives it in one go."""
+        wrong = []
+        if self.status != status:
+            wrong.append(f"status {self.status}, not {status}: {self.said.strip().splitlines()[-1:]}")
+        for folder in ("in", "jobs", "held", "refused"):
+            if self.names(folder):
+                wrong.append(f"{folder} has {self.names(folder)}")
+        done = [self.order_of(f"done/{name}") for name in self.names("done")]
+        if done != self.orders:
+            wrong.append(f"{len(done)} jobs, not the {len(self.orders)} orders")
+        jobs = self.pages_by_job()
+        for name, text in zip(self.names("done"), done):
+            punched, owed = jobs.pop(int(name), []), self.built.library.pages(text or b"")
+            if punched != owed:
+                wrong.append(f"job {name}: punched {[page for page, *_ in punched]} of {len(owed)} pages")
+        return wrong + [f"pages of job {job}, which is not there" for job in jobs]
+
+    def out_of_order(self):
+        """Of jobs that may have stopped halfway: pages that are not the first ones of their order, each once."""
+        wrong = []
+        for job, pages in self.pages_by_job().items():
+            for folder in ("jobs", "held", "done"):
+                text = self.order_of(f"{folder}/{job}")
+                if text is not None and pages != self.built.library.pages(text)[:len(pages)]:
+                    wrong.append(f"job {job} has pages twice or out of order")
+        return wrong
+
+    # ---- the order of the calls
+
+    def unrecorded(self, disk, trace):
+        """Pages that went out while a failure of power could take their record or their order away."""
+        wrong, sent = [], 0
+        for line in trace.read_text().splitlines():
+            call, *words = line.split(" ")
+            text = bytes.fromhex(words[1]) if call == "send" else b""
+            if text.startswith(b"page "):
+                job, page = map(int, text.split(b"\n")[0].split()[1:3])
+                log, kept = disk.lasting(f"jobs/{job}/log"), disk.lasting(f"jobs/{job}/order")
+                sent += 1
+                if log is None or self.built.library.log(log, LOG_SIZE).sent < page:
+                    wrong.append(f"page {page} of job {job} went out before its record lasted")
+                if kept is None or self.built.library.page(kept, page) is None:
+                    wrong.append(f"page {page} of job {job} went out before its order lasted")
+            disk.follow(line)
+        return wrong, sent
+
+    def lose_power(self, disk, trace, draw):
+        """The host is gone, and of the spool there is what lasted, and what is drawn of the rest."""
+        for line in trace.read_text().splitlines():
+            disk.follow(line)
+        shutil.rmtree(self.spool)
+        disk.lay_down(str(self.spool), draw)
+        for folder in ("in", "jobs", "done", "held", "refused"):
+            (self.spool / folder).mkdir(exist_ok=True)
+
+    def disk(self):
+        return Disk(str(self.spool))
