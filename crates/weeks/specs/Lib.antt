@@ -1,0 +1,5 @@
+pub mod Windows
+pub mod Meaning
+pub mod Lines
+pub mod Report
+pub mod State
