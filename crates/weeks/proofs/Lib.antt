@@ -6,3 +6,4 @@ pub mod ReportLaws
 pub mod MinuteLaws
 pub mod Rolled
 pub mod PrintedLaws
+pub mod PromisesLaws

@@ -2,4 +2,5 @@ pub mod Windows
 pub mod Meaning
 pub mod Lines
 pub mod Report
+pub mod Promises
 pub mod State
