@@ -1,4 +1,5 @@
-//! Cells beside the sheet's rows, both by the port: what a page costs, at once and row by row, and the dots of an order.
+//! Cells and the week's report beside the sheet's rows, all by the port: what a page costs, at once and row by row, the dots of an order, and the
+//! report of its weeks.
 use crate::orders::{orders, Order};
 use crate::rounds::beside;
 use crate::sheet_port::{write_sheet, LONGEST};
@@ -7,6 +8,7 @@ use std::hint::black_box;
 const ROW_CELLS: usize = 39;
 const PAGE_CELLS: usize = 975;
 const WEAR: usize = 62;
+const WEEK: usize = 51200;
 const ROUNDS: usize = 101;
 
 #[repr(C)]
@@ -25,6 +27,7 @@ extern "C" {
 #[link(name = "probes", kind = "static")]
 extern "C" {
     fn probe_wear(order: *const u8, length: usize, buffer: *mut u8, size: usize) -> usize;
+    fn probe_week(order: *const u8, length: usize, buffer: *mut u8, size: usize) -> usize;
 }
 
 /// Writes the first page, piece by piece, at the front of the scratch; its dots.
@@ -41,6 +44,10 @@ fn write_page(order: &[u8], rows: u32, scratch: &mut [u8]) -> u32 {
 
 fn write_wear(order: &[u8], buffer: &mut [u8]) -> usize {
     unsafe { probe_wear(order.as_ptr(), order.len(), buffer.as_mut_ptr(), buffer.len()) }
+}
+
+fn write_week(order: &[u8], buffer: &mut [u8]) -> usize {
+    unsafe { probe_week(order.as_ptr(), order.len(), buffer.as_mut_ptr(), buffer.len()) }
 }
 
 /// The same orders by some work of ours and by the sheet, in rounds of some milliseconds.
@@ -67,5 +74,9 @@ pub fn pages() {
     }
     beside_sheet("a row of the dots of 250", &orders(8, 250), &mut |order| {
         black_box(write_wear(order, &mut report));
+    });
+    let mut weeks = vec![0; WEEK];
+    beside_sheet("a row of the weeks of 250", &orders(8, 250), &mut |order| {
+        assert!(black_box(write_week(order, &mut weeks)) > 0);
     });
 }

@@ -285,7 +285,7 @@ katchidul_cells katchidul_write_cells(const uint8_t *order, size_t length, uint3
    A page may be taken at once, with KATCHIDUL_PAGE_CELLS bytes, or by pieces of any lengths: each call goes on at `first` plus the
    `rows` of the one before, until 5, place 3. Whatever the lengths, the cells are the same in the same order, and the dots add up to
    the same.
-   Pieces cost time: the first row of a call works three suns and each row behind it one, so a page taken row by row costs some 2.8
+   Pieces cost time: the first row of a call works three suns and each row behind it one, so a page taken row by row costs some 2.7
    times what it costs at once (docs/SPEED.md). */
 katchidul_cells katchidul_write_page(const uint8_t *order, size_t length, uint32_t page, uint32_t first, uint8_t *scratch, size_t size);
 

@@ -1,15 +1,12 @@
 -- What the reports print, and that it fits. Assumes nothing.
 use native.Mathlib.Omega.{arith}
-use Prim.Native.Nat.{ℕ, _+_, _-_, _*_, _≤_, _<_}
-use mathlib.Core.Bool.{Bool, true, false, cond}
+use Prim.Native.Nat.{ℕ, _+_, _-_, _*_, _≤_}
 use mathlib.Core.Path.{_≡_, refl, sym, ap, _∙_}
 use mathlib.Core.List.{List, [], _++_}
-use lib.Dec.{ltb}
 use lib.ListN.{length, length-append}
-use borrow.Author.Tests.{ltb-false, lt-ltb, le-ltb}
 use Rattle.braille.specs.Braille.{dotsOf}
 use Rattle.braille.specs.Cells.{rowLength}
-use Rattle.lines.proofs.LinesLaws.{number-length, refused-length}
+use Rattle.lines.proofs.LinesLaws.{refused-length}
 use Rattle.lines.specs.Lines.{numberText, refusedOrderText}
 use Rattle.order.proofs.AcceptedLaws.{read-accepted}
 use Rattle.order.specs.declared.reading.Order.{Order}
@@ -17,10 +14,12 @@ use Rattle.order.specs.declared.reading.Reading.{Reading}
 use Rattle.order.specs.declared.reading.Reading.the-variants.{Read, Refused}
 use Rattle.order.specs.Reading.{readingOf}
 use Rattle.refusals.specs.declared.Refusal.{Refusal}
+use Rattle.text.proofs.PrintedLaws.{printed-fits}
 use Rattle.text.proofs.TextLaws.{put-next, digits-short}
+use Rattle.text.specs.Printed.{printedLength}
 use Rattle.text.specs.Text.{ascii, decimalOf, putOf, frontOf}
 use Rattle.pages.specs.Pages.{rowsFrom, cellsOf, allCells}
-use Rattle.pages.specs.Reports.{totalText, wearIn, wearText, cellsIn, cellsText, longestWear, longestCells, printedLength, printedBuffer}
+use Rattle.pages.specs.Reports.{totalText, wearIn, wearText, cellsIn, cellsText, longestWear, longestCells}
 use Rattle.pages.proofs.PageLaws.{all-cells}
 use Rattle.pages.proofs.RowsLaws.{cells-length}
 
@@ -51,25 +50,6 @@ all-written o =
 
 pub all-length : (o : Order) → length (allCells o) ≡ rowLength * o .rows
 all-length o = ap length (all-cells o) ∙ cells-length o 0 (o .rows)
-
--- ---- a text at the front of a buffer
-module _ (longest : ℕ) (text buffer : List ℕ) where
-  pub printed-short : length buffer < longest → (0 ≡ printedLength longest text buffer) × (buffer ≡ printedBuffer longest text buffer)
-  unfolding printedLength printedBuffer
-  printed-short h = (simp (lt-ltb (length buffer) longest h), simp (lt-ltb (length buffer) longest h))
-
-  pub printed : longest ≤ length buffer → (n : ℕ) (after : List ℕ) → n ≡ length text → after ≡ frontOf text buffer
-      → (n ≡ printedLength longest text buffer) × (after ≡ printedBuffer longest text buffer)
-  unfolding printedLength printedBuffer
-  printed h n after e f = (simp (le-ltb (length buffer) longest h) e, simp (le-ltb (length buffer) longest h) f)
-
-  pub printed-fits : length text ≤ longest → printedLength longest text buffer ≤ length buffer
-  unfolding printedLength
-  printed-fits h = by-room (ltb (length buffer) longest) refl
-    where
-      by-room : (b : Bool) → ltb (length buffer) longest ≡ b → cond b 0 (length text) ≤ length buffer
-      by-room true e = omega arith
-      by-room false e = let r = ltb-false (length buffer) longest e in omega arith
 
 pub wear-length : (s : List ℕ) → length (wearText s) ≤ longestWear
 unfolding wearIn

@@ -1,9 +1,6 @@
 -- Document 02, request 2: what the programs wear and cells print of any bytes.
 use Prim.Native.Nat.{ℕ, _*_}
-use mathlib.Core.Bool.{cond}
 use mathlib.Core.List.{List, _++_}
-use lib.Dec.{ltb}
-use lib.ListN.{length}
 use Rattle.braille.specs.Braille.{dotsOf}
 use Rattle.braille.specs.Cells.{rowLength}
 use Rattle.lines.specs.Lines.{numberText, refusedOrderText}
@@ -11,7 +8,7 @@ use Rattle.order.specs.declared.reading.Reading.{Reading}
 use Rattle.order.specs.declared.reading.Reading.the-variants as reading
 use Rattle.order.specs.Ranges.{mostRows}
 use Rattle.order.specs.Reading.{readingOf}
-use Rattle.text.specs.Text.{ascii, frontOf}
+use Rattle.text.specs.Text.{ascii}
 use Rattle.pages.specs.Pages.{allCells}
 
 -- "The wear report reads an order as the sheet program does, prints a refused one alike, and else prints `dots`, a blank and the dots punched: ..
@@ -40,10 +37,3 @@ longestWear = 62
 
 abbrev pub longestCells : ℕ
 longestCells = rowLength * mostRows
-
--- a text at the front of a buffer; one that is shorter than the longest text is left as it was, and the answer is 0
-unfoldable pub printedLength : ℕ → List ℕ → List ℕ → ℕ
-printedLength longest text buffer = cond (ltb (length buffer) longest) 0 (length text)
-
-unfoldable pub printedBuffer : ℕ → List ℕ → List ℕ → List ℕ
-printedBuffer longest text buffer = cond (ltb (length buffer) longest) buffer (frontOf text buffer)

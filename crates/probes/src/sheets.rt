@@ -1,9 +1,12 @@
-// The whole sheet and the wear report as exports, for the runs against the crate and the benchmark.
+// The whole sheet, the wear report and the week's as exports, for the runs against the crate and the benchmark.
 ghost use mathlib.Core.Path.{_≡_};
-ghost use Rattle.pages.specs.Reports.{wearText, longestWear, printedLength, printedBuffer};
+ghost use Rattle.pages.specs.Reports.{wearText, longestWear};
 ghost use Rattle.rows.specs.Rows.{sheetLengthOf, sheetBufferOf};
+ghost use Rattle.text.specs.Printed.{printedLength, printedBuffer};
+ghost use Rattle.weeks.specs.Report.{weekText, longestWeek};
 use pages::report::write_wear;
 use rows::sheet::write_sheet;
+use weeks::report::write_week;
 
 #[no_mangle]
 pub extern "C" fn probe_sheet(order: &[u8], buffer: &mut [u8]) -> usize
@@ -19,4 +22,12 @@ pub extern "C" fn probe_wear(order: &[u8], buffer: &mut [u8]) -> usize
     ensures { λ _. ⌜ now (buffer .exit) ≡ printedBuffer longestWear (wearText (now (order .entry))) (now (buffer .entry)) ⌝ }
 {
     write_wear(order, &mut buffer[..])
+}
+
+#[no_mangle]
+pub extern "C" fn probe_week(order: &[u8], buffer: &mut [u8]) -> usize
+    ensures { λ r. ⌜ r ≡ printedLength longestWeek (weekText (now (order .entry))) (now (buffer .entry)) ⌝ }
+    ensures { λ _. ⌜ now (buffer .exit) ≡ printedBuffer longestWeek (weekText (now (order .entry))) (now (buffer .entry)) ⌝ }
+{
+    write_week(order, &mut buffer[..])
 }

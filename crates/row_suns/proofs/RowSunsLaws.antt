@@ -2,6 +2,7 @@
 use mathlib.Core.Path.{_≡_, sym, ap}
 use mathlib.Core.Bool.{true}
 use Prim.Native.Nat.{_+_, _≤_}
+use lib.Ieee.{Float}
 use Rattle.calendar.specs.Answers.{tomorrowOf}
 use Rattle.calendar.specs.Gregorian.{existsOf}
 use Rattle.calendar.specs.declared.dates.Date.{Date}
@@ -10,18 +11,27 @@ use Rattle.models.specs.declared.parameters.Parameters.{Parameters}
 use Rattle.models.specs.declared.rules.Rules.{Rules}
 use Rattle.ops.specs.Shared.{observerOf}
 use Rattle.solar.specs.Coordinates.{positionOf}
+use Rattle.schedule.proofs.FajrLaws.{fajr-alone}
+use Rattle.schedule.specs.Fajr.{fajrIn}
 use Rattle.schedule.specs.Hours.{dayHoursOf, rowHoursOf, hoursOf}
 use Rattle.schedule.specs.Numbers.{numbersOf}
+use Rattle.schedule.specs.Times.{seasonOf, workedOf}
 use Rattle.schedule.proofs.SharedLaws.{courseAt, row-shared}
 use Rattle.unit.specs.declared.Coordinates.{Coordinates}
 use Rattle.row_suns.specs.declared.DaySun.{DaySun}
 use Rattle.row_suns.specs.declared.RowSuns.{RowSuns}
-use Rattle.row_suns.specs.RowSuns.{daySunOf, rowSunsOf, nextRowSunsOf, rowSunsHoursOf}
+use Rattle.row_suns.specs.RowSuns.{daySunOf, rowSunsOf, nextRowSunsOf, rowSunsHoursOf, rowSunsFajrOf}
 
 pub rolled-hours : (date : Date) (place : Coordinates) (p : Parameters) (rules : Rules)
     → rowSunsHoursOf (place .latitude) p rules (rowSunsOf date place p rules) ≡ hoursOf (rules .midnight) (numbersOf date place p)
 unfolding rowSunsHoursOf rowSunsOf daySunOf hoursOf dayHoursOf rowHoursOf
 rolled-hours date place p rules = ap (hoursOf (rules .midnight)) (row-shared date place p)
+
+-- the Fajr that suns give by itself is that of the times that they give
+pub suns-fajr : (latitude : Float) (p : Parameters) (rules : Rules) (r : RowSuns)
+    → rowSunsFajrOf latitude p rules r ≡ fajrIn (r .date) (workedOf (rowSunsHoursOf latitude p rules r) (r .date) (seasonOf latitude rules) p)
+unfolding rowSunsFajrOf rowSunsHoursOf rowHoursOf
+suns-fajr latitude p rules r = fajr-alone (rowSunsHoursOf latitude p rules r) (r .date) (seasonOf latitude rules) p
 
 -- the next row's suns are those of the next date
 pub rolls : (date : Date) (place : Coordinates) (p : Parameters) (rules : Rules) → existsOf date ≡ true → date .year + 1 ≤ 4294967295

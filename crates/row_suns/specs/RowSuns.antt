@@ -9,8 +9,11 @@ use Rattle.ops.specs.Shared.{observerOf}
 use Rattle.solar.specs.Coordinates.{positionOf}
 use Rattle.solar.specs.Shared.{courseOver, courseAngleNumberOf, courseNumbersOf, courseAfternoonNumberOf}
 use Rattle.schedule.specs.declared.hours.RowHours.{RowHours}
-use Rattle.schedule.specs.Hours.{dayHoursOf, rowHoursOf}
+use Rattle.schedule.specs.declared.prayer_times.FajrAlone.{FajrAlone}
+use Rattle.schedule.specs.Fajr.{fajrAloneOf}
+use Rattle.schedule.specs.Hours.{sunsOf, dayHoursOf, rowHoursOf}
 use Rattle.schedule.specs.Numbers.{fajrNumberOf, asrNumberOf, ishaNumberOf}
+use Rattle.schedule.specs.Times.{seasonOf}
 use Rattle.unit.specs.declared.Coordinates.{Coordinates}
 use Rattle.row_suns.specs.declared.DaySun.{DaySun}
 use Rattle.row_suns.specs.declared.RowSuns.{RowSuns}
@@ -57,3 +60,8 @@ unfoldable pub rowSunsHoursOf : Float → Parameters → Rules → RowSuns → R
 rowSunsHoursOf latitude p rules r =
     rowHoursOf (rules .midnight) (r .today .hours) (r .tomorrow .hours) (r .after .hours .sun)
     (asrNumberOf p (courseAfternoonNumberOf (r .today .course) latitude)) (ishaNumberOf p latitude (courseAngleNumberOf (r .today .course)))
+
+-- the row's Fajr by itself
+unfoldable pub rowSunsFajrOf : Float → Parameters → Rules → RowSuns → FajrAlone
+rowSunsFajrOf latitude p rules r =
+    fajrAloneOf (sunsOf (r .today .hours .sun) (r .tomorrow .hours .sun) (r .after .hours .sun)) (r .date) (seasonOf latitude rules) p (r .today .hours .fajr)

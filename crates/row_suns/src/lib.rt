@@ -1,7 +1,7 @@
 // Rows that follow one another (added). The date of the next row is worked from the next sun's position alone: two of its three suns, and its Fajr's
 // angle, are the row's own.
 ghost use mathlib.Core.Path.{_≡_};
-ghost use Rattle.row_suns.specs.RowSuns.{daySunOf, rowSunsOf, nextRowSunsOf, rowSunsHoursOf};
+ghost use Rattle.row_suns.specs.RowSuns.{daySunOf, rowSunsOf, nextRowSunsOf, rowSunsHoursOf, rowSunsFajrOf};
 ghost use Rattle.schedule.specs.Times.{seasonOf, workedOf};
 use calendar::dates::Date;
 use models::parameters::Parameters;
@@ -11,9 +11,11 @@ use ops::transit::Course;
 use ops::transit::Observer;
 use schedule::hours::DayHours;
 use schedule::hours::RowHours;
+use schedule::hours::Suns;
 use schedule::numbers::asr_number;
 use schedule::numbers::fajr_number;
 use schedule::numbers::isha_number;
+use schedule::prayer_times::FajrAlone;
 use schedule::prayer_times::Worked;
 use solar::coordinates::SolarCoordinates;
 use solar::coordinates::position;
@@ -112,6 +114,29 @@ impl RowSuns {
             tomorrow: tomorrow,
             after: day_sun(coordinates, parameters, rules, course),
         }
+    }
+
+    // The row's Fajr by itself: of the row's own numbers neither Asr's nor Isha's is worked.
+    pub fn fajr(self, latitude: f64, parameters: Parameters, rules: Rules) -> FajrAlone
+        ensures { λ r. ⌜ r ≡ rowSunsFajrOf latitude parameters rules self ⌝ }
+    {
+        let southern = rules.southern;
+        let season = Season {
+            latitude: latitude,
+            southern: southern,
+        };
+        let date = self.date;
+        let today = self.today;
+        let tomorrow = self.tomorrow;
+        let after = self.after;
+        let first = today.hours;
+        let second = tomorrow.hours;
+        let third = after.hours;
+        let sun = first.sun;
+        let next = second.sun;
+        let last = third.sun;
+        let hour = first.fajr;
+        Suns::new(sun, next, last).fajr(date, season, parameters, hour)
     }
 
     // The row's times, or its refusal.

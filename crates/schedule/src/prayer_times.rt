@@ -3,11 +3,14 @@ ghost use mathlib.Core.Path.{_≡_};
 ghost use Prim.Native.Nat.{_^_};
 ghost use lib.IntN.{_+ℤ_};
 ghost use Rattle.integers.specs.Parts.{Near};
+ghost use Rattle.models.specs.declared.prayer.Prayer.the-variants.{Fajr};
 ghost use Rattle.models.specs.declared.rounding.Rounding.the-variants.{Nearest};
 ghost use Rattle.models.specs.Settings.{timeAdjustmentsOf};
 ghost use Rattle.stride.specs.Times.{roundedOf, adjustedOf};
 ghost use Rattle.schedule.specs.Hours.{hoursOf};
-ghost use Rattle.schedule.specs.Times.{startOf, fajrTomorrowOf, middleOfTheNightOf, qiyamOf, fromMidnightOf, startedOf, seasonOf, workedOf, Each};
+ghost use Rattle.schedule.specs.Fajr.{fajrAloneOf};
+ghost use Rattle.schedule.specs.Times.{startOf, finalOf, fajrTomorrowOf, middleOfTheNightOf, qiyamOf, fromMidnightOf, startedOf, seasonOf, workedOf, Each};
+ghost use Rattle.schedule.specs.Twilight.{unadjustedFajrOf};
 use super::hours::RowHours;
 use super::hours::RowNumbers;
 use super::hours::Suns;
@@ -46,6 +49,13 @@ pub enum Worked {
     Times(PrayerTimes),
     // 6, 7 or 8 with the day.
     Refused(Refusal),
+}
+
+// A date's Fajr by itself, in seconds from 0h of the date.
+pub enum FajrAlone {
+    At(i64),
+    // The date's times are refused.
+    Refused,
 }
 
 // What is counted from maghrib to tomorrow's Fajr.
@@ -155,6 +165,21 @@ fn from_midnight(
     }
 }
 
+// Fajr as the nine have it.
+fn final_fajr(
+    parameters: Parameters,
+    season: Season,
+    date: Date,
+    suns: ThreeSuns,
+    hour: SolarHour,
+) -> i64
+    ensures { λ r. ⌜ r ≡ finalOf parameters Fajr (unadjustedFajrOf parameters season date (suns .today) (suns .tomorrow) hour) ⌝ }
+{
+    let rule = parameters.rounding;
+    let fajr = unadjusted_fajr(parameters, season, date, suns.today, suns.tomorrow, hour);
+    final_time(parameters, Prayer::Fajr, fajr, rule)
+}
+
 // 0h of a date, from 1970 on.
 fn start(date: Date) -> i64
     ensures { λ r. ⌜ (r ≡ startOf date) × Near (2 ^ 58) r ⌝ }
@@ -193,6 +218,24 @@ impl RowHours {
                 from_midnight(parameters, season, date, three, self),
             )),
             Suns::Lacks(refusal) => Worked::Refused(refusal),
+        }
+    }
+}
+
+impl Suns {
+    // The Fajr of the date that these suns are of, and none of its other times.
+    pub fn fajr(
+        self,
+        date: Date,
+        season: Season,
+        parameters: Parameters,
+        hour: SolarHour,
+    ) -> FajrAlone
+        ensures { λ r. ⌜ r ≡ fajrAloneOf self date season parameters hour ⌝ }
+    {
+        match self {
+            Suns::Whole(three) => FajrAlone::At(final_fajr(parameters, season, date, three, hour)),
+            Suns::Lacks(_) => FajrAlone::Refused,
         }
     }
 }

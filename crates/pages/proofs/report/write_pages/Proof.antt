@@ -7,7 +7,8 @@ use denote.Ref.{now}
 use Rattle.order.proofs.AcceptedLaws.{read-accepted}
 use Rattle.text.specs.Text.{frontOf}
 use Rattle.pages.specs.Reports.{cellsText, longestCells}
-use Rattle.pages.proofs.ReportLaws.{printed-short, printed, refused-made, cells-read, cells-refused}
+use Rattle.text.proofs.PrintedLaws.{printed-short, printed}
+use Rattle.pages.proofs.ReportLaws.{refused-made, cells-read, cells-refused}
 use borrow.Author.Needs.{needs}
 use Rattle.pages.proofs.report.write_pages.Statement.{statement}
 use Rattle.pages.proofs.report.write_pages.Tie as tie

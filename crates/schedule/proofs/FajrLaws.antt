@@ -1,0 +1,34 @@
+-- Fajr by itself is the Fajr of the nine. Assumes nothing.
+use native.Mathlib.Omega.{arith}
+use mathlib.Core.Path.{_≡_, refl, sym, ap}
+use lib.IntN.{ℤ, _+ℤ_, _-ℤ_}
+use Rattle.calendar.specs.declared.dates.Date.{Date}
+use Rattle.integers.proofs.PartsLaws.{same}
+use Rattle.integers.proofs.Sums.{sum, difference}
+use Rattle.models.specs.declared.parameters.Parameters.{Parameters}
+use Rattle.models.specs.declared.prayer.Prayer.the-variants.{Fajr}
+use Rattle.models.specs.declared.rules.Season.{Season}
+use Rattle.schedule.specs.declared.hours.RowHours.{RowHours}
+use Rattle.schedule.specs.declared.hours.Suns.{Suns}
+use Rattle.schedule.specs.declared.hours.Suns.the-variants.{Whole, Lacks}
+use Rattle.schedule.specs.declared.prayer_times.FajrAlone.the-variants.{At}
+use Rattle.schedule.specs.Fajr.{fajrIn, fajrAloneOf}
+use Rattle.schedule.specs.Times.{startOf, finalOf, fromMidnightOf, startedOf, workedFrom, workedOf}
+use Rattle.schedule.specs.Twilight.{unadjustedFajrOf}
+
+-- what is added is taken off again
+back-off : (a z : ℤ) → (a +ℤ z) -ℤ a ≡ z
+back-off a z =
+    let s = sum a z in
+    let d = difference (a +ℤ z) a in
+    same ((a +ℤ z) -ℤ a) z (omega (arith, s .balance, d .0 .balance, d .1 .over, d .1 .under))
+
+module _ (h : RowHours) (date : Date) (season : Season) (p : Parameters) where
+  by-suns : (suns : Suns) → fajrAloneOf suns date season p (h .fajr) ≡ fajrIn date (workedFrom suns h date season p)
+  unfolding fajrAloneOf fajrIn workedFrom startedOf fromMidnightOf
+  by-suns (Lacks r) = refl
+  by-suns (Whole suns) = ap At (sym (back-off (startOf date) (finalOf p Fajr (unadjustedFajrOf p season date (suns .today) (suns .tomorrow) (h .fajr)))))
+
+  pub fajr-alone : fajrAloneOf (h .suns) date season p (h .fajr) ≡ fajrIn date (workedOf h date season p)
+  unfolding workedOf
+  fajr-alone = by-suns (h .suns)

@@ -1,0 +1,26 @@
+-- A date's Fajr by itself, in seconds from 0h of the date. What the code works need not be believed: proofs/FajrLaws.antt says that it is the Fajr of
+-- the nine.
+use lib.IntN.{_-ℤ_}
+use Rattle.calendar.specs.declared.dates.Date.{Date}
+use Rattle.models.specs.declared.parameters.Parameters.{Parameters}
+use Rattle.models.specs.declared.prayer.Prayer.the-variants as prayer
+use Rattle.models.specs.declared.rules.Season.{Season}
+use Rattle.solar.specs.declared.setting.SolarHour.{SolarHour}
+use Rattle.schedule.specs.declared.hours.Suns.{Suns}
+use Rattle.schedule.specs.declared.hours.Suns.the-variants.{Whole, Lacks}
+use Rattle.schedule.specs.declared.prayer_times.FajrAlone.{FajrAlone}
+use Rattle.schedule.specs.declared.prayer_times.FajrAlone.the-variants as alone
+use Rattle.schedule.specs.declared.prayer_times.Worked.{Worked}
+use Rattle.schedule.specs.declared.prayer_times.Worked.the-variants as worked
+use Rattle.schedule.specs.Times.{startOf, finalOf}
+use Rattle.schedule.specs.Twilight.{unadjustedFajrOf}
+
+-- of a date's times
+unfoldable pub fajrIn : Date → Worked → FajrAlone
+fajrIn date (worked.Times t) = alone.At (t .fajr -ℤ startOf date)
+fajrIn date (worked.Refused r) = alone.Refused
+
+-- as it is worked
+unfoldable pub fajrAloneOf : Suns → Date → Season → Parameters → SolarHour → FajrAlone
+fajrAloneOf (Lacks r) date season p hour = alone.Refused
+fajrAloneOf (Whole suns) date season p hour = alone.At (finalOf p prayer.Fajr (unadjustedFajrOf p season date (suns .today) (suns .tomorrow) hour))

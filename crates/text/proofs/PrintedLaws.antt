@@ -1,0 +1,29 @@
+-- A text at the front of a buffer, and that it fits. Assumes nothing.
+use native.Mathlib.Omega.{arith}
+use Prim.Native.Nat.{ℕ, _≤_, _<_}
+use mathlib.Core.Bool.{Bool, true, false, cond}
+use mathlib.Core.Path.{_≡_, refl}
+use mathlib.Core.List.{List}
+use lib.Dec.{ltb}
+use lib.ListN.{length}
+use borrow.Author.Tests.{ltb-false, lt-ltb, le-ltb}
+use Rattle.text.specs.Text.{frontOf}
+use Rattle.text.specs.Printed.{printedLength, printedBuffer}
+
+module _ (longest : ℕ) (text buffer : List ℕ) where
+  pub printed-short : length buffer < longest → (0 ≡ printedLength longest text buffer) × (buffer ≡ printedBuffer longest text buffer)
+  unfolding printedLength printedBuffer
+  printed-short h = (simp (lt-ltb (length buffer) longest h), simp (lt-ltb (length buffer) longest h))
+
+  pub printed : longest ≤ length buffer → (n : ℕ) (after : List ℕ) → n ≡ length text → after ≡ frontOf text buffer
+      → (n ≡ printedLength longest text buffer) × (after ≡ printedBuffer longest text buffer)
+  unfolding printedLength printedBuffer
+  printed h n after e f = (simp (le-ltb (length buffer) longest h) e, simp (le-ltb (length buffer) longest h) f)
+
+  pub printed-fits : length text ≤ longest → printedLength longest text buffer ≤ length buffer
+  unfolding printedLength
+  printed-fits h = by-room (ltb (length buffer) longest) refl
+    where
+      by-room : (b : Bool) → ltb (length buffer) longest ≡ b → cond b 0 (length text) ≤ length buffer
+      by-room true e = omega arith
+      by-room false e = let r = ltb-false (length buffer) longest e in omega arith

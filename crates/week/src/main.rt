@@ -1,0 +1,11 @@
+// Reads an order on standard input and prints the earliest and the latest Fajr of every seven successive rows. One byte more than an order may have
+// is enough to know that it is too long.
+use weeks::report::write_week;
+
+fn main() {
+    let mut order = [0u8; 1025];
+    let count = io::read_full(0, &mut order);
+    let mut report = io::large_buffer();
+    let length = write_week(&order[..count], &mut report);
+    io::write_all(1, &report[..length]);
+}

@@ -1,0 +1,32 @@
+use native.Mathlib.Omega.{arith}
+use mir.Syntax.{w64}
+use mathlib.Core.Path.{_≡_}
+use lib.ListN.{length}
+use denote.Ref.{now}
+use Rattle.integers.proofs.Ranges.{read}
+use Rattle.weeks.proofs.LineLaws.{minute-length, pair-made}
+use borrow.Author.Needs.{needs}
+use Rattle.weeks.proofs.line.put_pair.Statement.{statement}
+use Rattle.weeks.proofs.line.put_pair.Tie as tie
+
+put-row-requires : tie.Need-put-row-requires
+put-row-requires c κs =
+    let s = c .before .before .before .before .before .before in
+    let n = c .before .before .before .put-minute in
+    let x = minute-length (s .args .minute) in
+    let e = rw (read w64 (s .args .minute) (s .fits .minute)) at (n .ensures .0) in
+    let k : length (n .last .0) ≡ length (now (s .args .line)) = n .kept .0 in
+    (omega (arith, s .pre .0), omega (arith, s .pre .1))
+
+returns : tie.Need-returns
+returns c =
+    let s = c .before .before .before .before .before .before .before .before .before in
+    let n = c .before .before .before .before .before .before .put-minute .ensures in
+    let e = c .before .before .put-row .ensures in
+    let x = read w64 (s .args .minute) (s .fits .minute) in
+    pair-made (now (s .args .line)) _ _ (s .args .at) _ _ (s .args .row) (s .args .minute) (s .pre .0) (rw x at (n .0)) (rw x at (n .1)) (e .0) (e .1)
+
+pub put-pair-spec : {M : Type 1} → statement M
+put-pair-spec =
+    tie.close
+    (tie.spec (λ c κs. search needs) put-row-requires (λ c. search needs) returns)

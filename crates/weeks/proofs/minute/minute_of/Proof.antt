@@ -1,0 +1,26 @@
+use mathlib.Core.Path.{_≡_, ap, _∙_}
+use lib.IntN.{ℤ}
+use mir.Syntax.{w64}
+use mir.Val.{SFits}
+use Rattle.integers.proofs.Ranges.{readBack, read}
+use Rattle.integers.specs.Quotients.{floorQuot}
+use Rattle.weeks.specs.declared.minute.Minute.the-variants.{At}
+use Rattle.weeks.specs.State.{minuteFrom}
+use borrow.Author.Needs.{needs}
+use Rattle.weeks.proofs.minute.minute_of.Statement.{statement}
+use Rattle.weeks.proofs.minute.minute_of.Tie as tie
+
+returns : tie.Need-returns
+unfolding minuteFrom
+returns c =
+    let g = c .before .before .fajr .given in
+    let f : SFits w64 (g .0 .0) = search needs in
+    let k : readBack w64 (c .whole-minutes .result) ≡ c .whole-minutes .result = search needs in
+    simp (g .1) (ap At (k ∙ c .whole-minutes .ensures ∙ ap (λ (z : ℤ). floorQuot z 60) (read w64 (g .0 .0) f)))
+
+returns-2 : tie.Need-returns-2
+unfolding minuteFrom
+returns-2 c = simp (c .enum-told .given .1)
+
+pub minute-of-spec : {M : Type 1} → statement M
+minute-of-spec = tie.close (tie.spec (λ c. search needs) (λ c κs. search needs) (λ c. search needs) returns returns-2)

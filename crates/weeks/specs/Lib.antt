@@ -1,0 +1,6 @@
+pub mod Windows
+pub mod Meaning
+pub mod Lines
+pub mod Report
+pub mod Promises
+pub mod State

@@ -1,0 +1,48 @@
+-- Document 02, request 11: the report of an order, on any bytes.
+use Prim.Native.Nat.{ℕ, zero, suc, _*_}
+use mathlib.Core.List.{List, [], _∷_, _++_}
+use lib.IntN.{_-ℤ_}
+use Rattle.calendar.specs.Answers.{rowDateOf}
+use Rattle.calls.specs.Calls.{workRowOf}
+use Rattle.integers.specs.Quotients.{floorQuot}
+use Rattle.lines.specs.Lines.{refusedOrderText}
+use Rattle.order.specs.declared.reading.Order.{Order}
+use Rattle.order.specs.declared.reading.Reading.{Reading}
+use Rattle.order.specs.declared.reading.Reading.the-variants as reading
+use Rattle.order.specs.Ranges.{mostRows}
+use Rattle.order.specs.Reading.{readingOf}
+use Rattle.schedule.specs.declared.prayer_times.Worked.{Worked}
+use Rattle.schedule.specs.declared.prayer_times.Worked.the-variants as worked
+use Rattle.schedule.specs.Times.{startOf}
+use Rattle.weeks.specs.declared.minute.Minute.{Minute}
+use Rattle.weeks.specs.declared.minute.Minute.the-variants.{At, Refused}
+use Rattle.weeks.specs.Lines.{reportOf}
+
+-- "Fajr by the clock, in minutes after the row's own 0h UTC .. The minute is the second count divided by 60 and rounded down, also below zero." Tag 16
+-- has no part in it.
+unfoldable pub minuteIn : Order → ℕ → Worked → Minute
+minuteIn o row (worked.Times t) = At (floorQuot (t .fajr -ℤ startOf (rowDateOf (o .date) row)) 60)
+minuteIn o row (worked.Refused r) = Refused
+
+abbrev pub rowMinute : Order → ℕ → Minute
+rowMinute o row = minuteIn o row (workRowOf o row)
+
+-- those of the first n rows
+unfoldable pub minutesOf : Order → ℕ → List Minute
+minutesOf o zero = []
+minutesOf o (suc n) = minutesOf o n ++ (rowMinute o n ∷ [])
+
+abbrev pub ordersReport : Order → List ℕ
+ordersReport o = reportOf (minutesOf o (o .rows))
+
+-- "It reads an order as the wear report does"
+unfoldable pub weekIn : Reading → List ℕ
+weekIn (reading.Read o) = ordersReport o
+weekIn (reading.Refused r) = refusedOrderText r
+
+abbrev pub weekText : List ℕ → List ℕ
+weekText s = weekIn (readingOf s)
+
+-- no line is longer than 128 bytes
+abbrev pub longestWeek : ℕ
+longestWeek = 128 * mostRows

@@ -1,0 +1,64 @@
+-- Document 02, request 11: a window of seven rows, looked through afresh.
+use Prim.Native.Nat.{ℕ, zero, suc, _+_}
+use mathlib.Core.Bool.{Bool, true, false, cond}
+use mathlib.Core.List.{List, [], _∷_}
+use lib.Dec.{leb}
+use lib.IntN.{ℤ, pos}
+use lib.Signed.{ltZ}
+use lib.ListN.{length}
+use Rattle.weeks.specs.declared.minute.Minute.{Minute}
+use Rattle.weeks.specs.declared.minute.Minute.the-variants.{At, Refused}
+use Rattle.weeks.specs.declared.window.Window.{Window}
+
+-- the row at a place, from 0
+abbrev pub rowAt : List Minute → ℕ → Minute
+rowAt [] n = Refused
+rowAt (m ∷ l) zero = m
+rowAt (m ∷ l) (suc n) = rowAt l n
+
+abbrev pub noWindow : Window
+noWindow = record { ready = false; refused = false; first = 0; earliest = pos 0; «earliest_row» = 0; latest = pos 0; «latest_row» = 0 }
+
+abbrev pub refusedWindow : ℕ → Window
+refusedWindow first = record { ready = true; refused = true; first = first; earliest = pos 0; «earliest_row» = 0; latest = pos 0; «latest_row» = 0 }
+
+abbrev pub foundWindow : ℕ → ℤ → ℕ → ℤ → ℕ → Window
+foundWindow first early earlyRow late lateRow =
+    record { ready = true; refused = false; first = first; earliest = early; «earliest_row» = earlyRow; latest = late; «latest_row» = lateRow }
+
+-- its first row by itself
+abbrev pub beginOf : ℕ → Minute → Window
+beginOf first Refused = refusedWindow first
+beginOf first (At m) = foundWindow first m first m first
+
+-- a row more: a minute before the earliest is the earliest, one after the latest the latest
+abbrev pub withEarliest : Window → ℕ → ℤ → Window
+withEarliest w row m =
+    record { ready = w .ready; refused = w .refused; first = w .first; earliest = m; «earliest_row» = row; latest = w .latest; «latest_row» = w .«latest_row» }
+
+abbrev pub withLatest : Window → ℕ → ℤ → Window
+withLatest w row m =
+    record { ready = w .ready; refused = w .refused; first = w .first; earliest = w .earliest; «earliest_row» = w .«earliest_row»; latest = m; «latest_row» = row }
+
+unfoldable pub earlierOf : Window → ℕ → ℤ → Window
+earlierOf w row m = cond (ltZ m (w .earliest)) (withEarliest w row m) w
+
+unfoldable pub laterOf : Window → ℕ → ℤ → Window
+laterOf w row m = cond (ltZ (w .latest) m) (withLatest w row m) w
+
+unfoldable pub seenOf : Window → ℕ → Minute → Window
+seenOf w row Refused = refusedWindow (w .first)
+seenOf w row (At m) = cond (w .refused) (refusedWindow (w .first)) (laterOf (earlierOf w row m) row m)
+
+-- k rows more, from row first + i on
+abbrev pub lookOf : (ℕ → Minute) → ℕ → Window → ℕ → ℕ → Window
+lookOf f first w i zero = w
+lookOf f first w i (suc k) = lookOf f first (seenOf w (first + i) (f (first + i))) (i + 1) k
+
+-- the seven rows from `first` on
+unfoldable pub lookedOf : (ℕ → Minute) → ℕ → Window
+lookedOf f first = lookOf f first (beginOf first (f first)) 1 6
+
+-- the window, where the list has all of its rows
+unfoldable pub windowOf : List Minute → ℕ → Window
+windowOf l first = cond (leb (first + 7) (length l)) (lookedOf (rowAt l) first) noWindow
