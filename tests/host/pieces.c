@@ -35,9 +35,12 @@ static void one_page(const order_bytes *order, uint32_t page, const char *name) 
   page_cells whole, got;
   katchidul_cells answer = katchidul_write_page(order->bytes, order->length, page, 0, whole.cells, sizeof whole.cells);
   whole.rows = answer.rows;
+  uint32_t rows = katchidul_read_order(order->bytes, order->length).rows, left = rows - 25 * (page - 1);
+  check(answer.number == 0 && answer.rows == (left < 25 ? left : 25), "a page at once has its rows");
   for (size_t size = SIZE_LEAST - 1; size <= SIZE_MOST; size++) {
     char what[320];
-    snprintf(what, sizeof what, "%s: page %u by scratches of %zu bytes", name, page, size < SIZE_LEAST ? 0 : size);
+    if (size < SIZE_LEAST) snprintf(what, sizeof what, "%s: page %u by scratches of many lengths", name, page);
+    else snprintf(what, sizeof what, "%s: page %u by scratches of %zu bytes", name, page, size);
     bool right = by_pieces(order, page, size < SIZE_LEAST ? 0 : size, &got);
     check(right && got.rows == whole.rows && got.dots == answer.dots && memcmp(got.cells, whole.cells, 39 * (size_t)whole.rows) == 0, what);
   }

@@ -1,6 +1,7 @@
 -- Request 6, a run: a host with its log, and an embosser. What the calls write and answer is crates/joblog's definitions, which its code equals.
 --
--- What the request's promise rests on, beside the log (each is a choice of this model, to hold against the request):
+-- What the request's promise rests on, beside the log (each is a choice of this model, to hold against the request). What the host may record and send,
+-- what it sends again and what the embosser drops are a value, `Rules`; the others are how the steps go:
 --   the link    pages reach the embosser in the order in which they go out. What is lost is lost from the end, and then nothing more gets through
 --               until a restart (the step `crash`, also where only the link or the embosser failed).
 --   embosser    it finishes its pages in the order in which they reached it, also while the host is down, and no crash takes a finished page back.

@@ -14,7 +14,7 @@ use Rattle.map_form.specs.declared.MapForm.{MapForm}
 use Rattle.map_form.specs.declared.writing.Written.{Written}
 use Rattle.map_form.specs.Hundredths.{inDegree, signed, sizeOf, atMost, formFits}
 use Rattle.map_form.specs.Written.{partsOf, formOf, nearestCount, writtenOf, nearestTo, hundredthsOf}
-use Rattle.map_form.specs.Promises.{OneIsNearest, OneIsOwed}
+use Rattle.map_form.specs.Promises.{WrittenIsOwed, OneIsNearest, OneIsOwed}
 use Rattle.map_form.specs.Owed.{signFor, noParts, Nearest, Right, Owed}
 use Rattle.map_form.proofs.Range.{count-le}
 use Rattle.map_form.proofs.RoundTrip.{fits}
@@ -80,7 +80,7 @@ form-fits most true (suc n) h = parts-fit most 1 (suc n) (omega arith) h
 form-fits most false n h = parts-fit most 0 n (omega arith) h
 
 -- ---- what the writer works out is what it owes, and nothing else is
-pub owed : (tag most : ℕ) (x : Float) → Owed tag most x (writtenOf tag most x)
+pub owed : WrittenIsOwed
 unfolding writtenOf
 owed tag most x =
     record {

@@ -11,6 +11,10 @@ use Rattle.map_form.specs.Owed.{signFor, Nearest, Owed}
 use Rattle.map_form.specs.Written.{writtenOf}
 
 -- ---- the writer
+-- what is worked out is what is owed
+abbrev pub WrittenIsOwed : Type 0
+WrittenIsOwed = (tag most : ℕ) (x : Float) → Owed tag most x (writtenOf tag most x)
+
 -- no other count is the nearest
 abbrev pub OneIsNearest : Type 0
 OneIsNearest = (a d b c : ℕ) → Nearest a d b → Nearest a d c → b ≡ c

@@ -18,7 +18,7 @@ use Rattle.refusals.specs.Refusals.{noRefusal}
 use Rattle.refusals.specs.declared.Refusal.{Refusal}
 use Rattle.text.specs.Text.{frontOf}
 use Rattle.pages.specs.Answers.{punchedOf, refusedOf, answerOf, pieceIn, pageWritten, pageBuffer}
-use Rattle.pages.specs.Host.{cellsGot, Calls, ended, called, PiecesAreThePage, AtOnceAsBefore}
+use Rattle.pages.specs.Host.{cellsGot, Calls, ended, called, PiecesAreThePage, AtOnceAsBefore, AsBefore}
 use Rattle.pages.specs.Pages.{Rows, cellsOf, pageOf, pieceOf}
 use Rattle.pages.specs.declared.answer.Punched.{Punched}
 use Rattle.pages.proofs.AnswerLaws.{rows-some, rows-none, order-read, order-refused}
@@ -198,8 +198,7 @@ module _ (s : List ℕ) (page : ℕ) (r : Refusal) (e : readingOf s ≡ Refused 
       (g .0 ∙ sym (w .0), g .1 ∙ sym (w .1))
 
 -- request 9
-pub pieces-are-the-page : (s : List ℕ) (page : ℕ) (lent : ℕ → List ℕ) (whole : List ℕ) → ((n : ℕ) → 39 ≤ length (lent n)) → 975 ≤ length whole
-    → PiecesAreThePage s page lent whole
+pub pieces-are-the-page : PiecesAreThePage
 pieces-are-the-page s page lent whole long room =
     record {
       ends = λ o e. read-ends s page o e lent long;
@@ -211,10 +210,10 @@ pieces-are-the-page s page lent whole long room =
     by-reading (Read o) e calls = read-same s page o e lent long whole room calls
     by-reading (Refused r) e calls = refused-same s page r e lent long whole room calls
 
-pub at-once-as-before : (s : List ℕ) (page : ℕ) (scratch : List ℕ) → 975 ≤ length scratch → AtOnceAsBefore s page scratch
+pub at-once-as-before : AtOnceAsBefore
 at-once-as-before s page scratch room = by-reading (readingOf s) refl
   where
-    by-reading : (r : Reading) → readingOf s ≡ r → AtOnceAsBefore s page scratch
+    by-reading : (r : Reading) → readingOf s ≡ r → AsBefore s page scratch
     by-reading (Read o) e =
         let now = order-read (pieceIn page 0 scratch) 39 s scratch (omega arith) o e in
         let before = order-read (λ o. pageOf o page) 975 s scratch room o e in

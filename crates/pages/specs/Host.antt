@@ -29,15 +29,23 @@ pub data Calls (s : List ℕ) (page : ℕ) (lent : ℕ → List ℕ) : ℕ → �
       → Calls s page lent (n + 1) (first + pageWritten page first s (lent n) .rows) cells dots
       → Calls s page lent n first (cellsGot page first s (lent n) ++ cells) (pageWritten page first s (lent n) .dots + dots)
 
--- With scratches of 39 bytes or more, of any length at each call: of every order that is read, and any page, the calls from row 0 on end; and on any
--- bytes, however they went, they have got what one call with a scratch of 975 bytes or more gives.
-pub record PiecesAreThePage (s : List ℕ) (page : ℕ) (lent : ℕ → List ℕ) (whole : List ℕ) : Type 0 where
+-- of every order that is read the calls from row 0 on end; and on any bytes, however they went, they have got what one call with the whole scratch gives
+pub record GiveThePage (s : List ℕ) (page : ℕ) (lent : ℕ → List ℕ) (whole : List ℕ) : Type 0 where
   pub ends : (o : Order) → readingOf s ≡ Read o → (cells : List ℕ) × (dots : ℕ) × Calls s page lent 0 0 cells dots
   pub same : (cells : List ℕ) (dots : ℕ) → Calls s page lent 0 0 cells dots
       → (cells ≡ cellsGot page 0 s whole) × (dots ≡ pageWritten page 0 s whole .dots)
 
--- A call from row 0 on with a scratch of 975 bytes or more is what the page call was before request 9: the whole page, every byte of the scratch, and
--- every refusal.
-pub record AtOnceAsBefore (s : List ℕ) (page : ℕ) (scratch : List ℕ) : Type 0 where
+-- for any page, with scratches of 39 bytes or more, of any length at each call, and a whole one of 975 or more
+abbrev pub PiecesAreThePage : Type 0
+PiecesAreThePage =
+    (s : List ℕ) (page : ℕ) (lent : ℕ → List ℕ) (whole : List ℕ) → ((n : ℕ) → rowLength ≤ length (lent n)) → pageLength ≤ length whole
+    → GiveThePage s page lent whole
+
+-- a call from row 0 on is what the page call was before request 9: the whole page, every byte of the scratch, and every refusal
+pub record AsBefore (s : List ℕ) (page : ℕ) (scratch : List ℕ) : Type 0 where
   pub answer : pageWritten page 0 s scratch ≡ writtenOf (λ o. pageOf o page) pageLength s scratch
   pub buffer : pageBuffer page 0 s scratch ≡ bufferOf (λ o. pageOf o page) pageLength s scratch
+
+-- with a scratch of 975 bytes or more
+abbrev pub AtOnceAsBefore : Type 0
+AtOnceAsBefore = (s : List ℕ) (page : ℕ) (scratch : List ℕ) → pageLength ≤ length scratch → AsBefore s page scratch

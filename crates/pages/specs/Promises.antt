@@ -1,7 +1,7 @@
 -- Document 02, request 2: what is stated of the pages of an order beyond what each call answers.
 use Prim.Native.Nat.{ℕ, _≤_, _<_}
 use mathlib.Core.Path.{_≡_}
-use mathlib.Core.List.{List, []}
+use mathlib.Core.List.{[]}
 use lib.ListN.{length}
 use Rattle.braille.specs.Braille.{SixDots}
 use Rattle.order.specs.declared.reading.Order.{Order}
