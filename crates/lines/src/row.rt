@@ -119,7 +119,13 @@ fn put_ten(buffer: &mut [u8], at: usize, date: Date, minutes: u32, times: Prayer
 }
 
 // As `put` does; answers the line's length.
-pub fn put_row(buffer: &mut [u8], at: usize, ramadan: Ramadan, date: Date, times: PrayerTimes) -> usize
+pub fn put_row(
+    buffer: &mut [u8],
+    at: usize,
+    ramadan: Ramadan,
+    date: Date,
+    times: PrayerTimes,
+) -> usize
     ensures { λ r. ⌜ r ≡ length (rowText date (columnsOf ramadan times)) ⌝ }
     ensures { λ _. ⌜ now (buffer .exit) ≡ putOf (now (buffer .entry)) at (rowText date (columnsOf ramadan times)) ⌝ }
 {
