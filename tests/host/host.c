@@ -33,6 +33,7 @@ int main(int count, char **arguments) {
   check_cells();
   check_sentences();
   check_map();
+  check_ramadan();
   check_environment();
   check_threads();
   check_stack();
