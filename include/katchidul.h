@@ -26,16 +26,17 @@
    17      KATCHIDUL_JOB_UNFIT          the job's id or its pages are not allowed, job id      the job's id
    18      KATCHIDUL_NOT_FIRST_OF_RAMADAN  the sheet does not begin on the 1st of Ramadan:     2, the tag of the date
 
-   A row or a page that the order lacks is 5, place 3, the tag of the rows; a number that has no sentence, and bytes that are none, are 5,
-   place 0. A row buffer is too short below 119 bytes, or 131 for a Ramadan sheet, a cell buffer below 39, a page's scratch below 975, a sentence's below its length, a
-   job log's below the bytes that it is said to hold. An instant is out of range where its seconds are beyond 10^12 either way, or its nanoseconds over 999,999,999. 11 is told by next and
-   remaining alone: that no prayer is in force is an answer of katchidul_prayer_at. What is out of turn in a job log, and which count
-   fits it, stands with its calls below. The print queue is full with 16 jobs; a job's id is not allowed where it is 0, over 65,535 or
-   still waiting, its pages where they are not 1 to 16. katchidul_write_sentence puts a refusal in words.
+   A row or a page that the order lacks is 5, place 3, the tag of the rows; a number that has no sentence, and bytes that are none, are
+   5, place 0. A row buffer is too short below 119 bytes, or 131 for a Ramadan sheet, a cell buffer below 39, a page's scratch below
+   975, a sentence's below its length, a job log's below the bytes that it is said to hold. An instant is out of range where its seconds
+   are beyond 10^12 either way, or its nanoseconds over 999,999,999. 11 is told by next and remaining alone: that no prayer is in force
+   is an answer of katchidul_prayer_at. What is out of turn in a job log, and which count fits it, stands with its calls below. The
+   print queue is full with 16 jobs; a job's id is not allowed where it is 0, over 65,535 or still waiting, its pages where they are not
+   1 to 16. katchidul_write_sentence puts a refusal in words.
 
-   A lent buffer (9) and an instant (10) are checked before anything else in their calls; then the order (1 to 4, 15, then 5, then 18), a Ramadan
-   sheet's row buffer of 119 to 130 bytes (9), the row or the page (5, place 3), the day (6 to 8), and 11. Of a job log 9 is tried first, then 13, 14 and 12. Of a job 17 is tried before 16,
-   of a sentence to be written 5 before 9.
+   A lent buffer (9) and an instant (10) are checked before anything else in their calls; then the order (1 to 4, 15, then 5, then 18),
+   a Ramadan sheet's row buffer of 119 to 130 bytes (9), the row or the page (5, place 3), the day (6 to 8), and 11. Of a job log 9 is
+   tried first, then 13, 14 and 12. Of a job 17 is tried before 16, of a sentence to be written 5 before 9.
 
    What a call does with the host's memory. It changes no byte of the order, keeps nothing of what it is lent, allocates nothing and has
    no state: calls may run on several threads at once, also on the same order, as long as nobody writes to the bytes lent meanwhile. A
