@@ -24,18 +24,19 @@
    15      KATCHIDUL_BOTH_FORMS         a coordinate is given in both forms:                   the tag: 18 or 19
    16      KATCHIDUL_QUEUE_FULL         the print queue is full, job id                        the job's id
    17      KATCHIDUL_JOB_UNFIT          the job's id or its pages are not allowed, job id      the job's id
+   18      KATCHIDUL_NOT_FIRST_OF_RAMADAN  the sheet does not begin on the 1st of Ramadan:     2, the tag of the date
 
    A row or a page that the order lacks, and a row that the page lacks, is 5, place 3, the tag of the rows; a number that has no
-   sentence, and bytes that are none, are 5, place 0. A row buffer is too short below 119 bytes, a cell buffer and a page's scratch
-   below 39, a sentence's below its length, a job log's below the bytes that it is said to hold. An instant is out of range where its
-   seconds are beyond 10^12 either way, or its nanoseconds over 999,999,999. 11 is told by next and remaining alone: that no prayer is
-   in force is an answer of katchidul_prayer_at. What is out of turn in a job log, and which count fits it, stands with its calls below.
-   The print queue is full with 16 jobs; a job's id is not allowed where it is 0, over 65,535 or still waiting, its pages where they are
-   not 1 to 16. katchidul_write_sentence puts a refusal in words.
+   sentence, and bytes that are none, are 5, place 0. A row buffer is too short below 119 bytes, or 131 for a Ramadan sheet, a cell
+   buffer and a page's scratch below 39, a sentence's below its length, a job log's below the bytes that it is said to hold. An instant
+   is out of range where its seconds are beyond 10^12 either way, or its nanoseconds over 999,999,999. 11 is told by next and remaining
+   alone: that no prayer is in force is an answer of katchidul_prayer_at. What is out of turn in a job log, and which count fits it,
+   stands with its calls below. The print queue is full with 16 jobs; a job's id is not allowed where it is 0, over 65,535 or still
+   waiting, its pages where they are not 1 to 16. katchidul_write_sentence puts a refusal in words.
 
-   A lent buffer (9) and an instant (10) are checked before anything else in their calls; then the order (1 to 4, 15, and then 5), the row
-   or the page (5, place 3), the day (6 to 8), and 11. Of a job log 9 is tried first, then 13, 14 and 12. Of a job 17 is tried before 16,
-   of a sentence to be written 5 before 9.
+   A lent buffer (9) and an instant (10) are checked before anything else in their calls; then the order (1 to 4, 15, then 5, then 18),
+   a Ramadan sheet's row buffer of 119 to 130 bytes (9), the row or the page (5, place 3), the day (6 to 8), and 11. Of a job log 9 is
+   tried first, then 13, 14 and 12. Of a job 17 is tried before 16, of a sentence to be written 5 before 9.
 
    What a call does with the host's memory. It changes no byte of the order, keeps nothing of what it is lent, allocates nothing and has
    no state: calls may run on several threads at once, also on the same order, as long as nobody writes to the bytes lent meanwhile. A
@@ -57,7 +58,7 @@ extern "C" {
 #endif
 
 /* Of this header: one more with every change of a call, a struct or a number. Take header and library from the same build. */
-#define KATCHIDUL_VERSION 10
+#define KATCHIDUL_VERSION 11
 
 #define KATCHIDUL_ORDER_MAX 1024 /* bytes of an order */
 #define KATCHIDUL_TOWN_MAX 40    /* bytes of a town's name */
@@ -66,6 +67,9 @@ extern "C" {
 #define KATCHIDUL_PAGE_ROWS 25   /* of a full page */
 #define KATCHIDUL_PAGE_CELLS 975 /* of a full page */
 #define KATCHIDUL_ROW_BYTES 119  /* of a row's line with its newline, and the least that a row buffer may have */
+#define KATCHIDUL_RAMADAN_ROW_BYTES 131 /* of a Ramadan sheet's row, which has imsak: a row buffer that serves every order */
+#define KATCHIDUL_RAMADAN_ROWS 30 /* of a Ramadan sheet */
+#define KATCHIDUL_IMSAK_MAX 30   /* minutes from imsak to Fajr */
 #define KATCHIDUL_SENTENCE_MAX 100 /* bytes of a sentence */
 #define KATCHIDUL_TIME_COUNT 9
 #define KATCHIDUL_MINUTES_COUNT 6
@@ -97,7 +101,8 @@ enum katchidul_refusal {
   KATCHIDUL_LOG_COUNT_OUTSIDE = 14,
   KATCHIDUL_BOTH_FORMS = 15,
   KATCHIDUL_QUEUE_FULL = 16,
-  KATCHIDUL_JOB_UNFIT = 17
+  KATCHIDUL_JOB_UNFIT = 17,
+  KATCHIDUL_NOT_FIRST_OF_RAMADAN = 18
 };
 
 /* What the first byte of a job log's record says; an append takes the first two. */
@@ -190,8 +195,9 @@ typedef struct katchidul_order {
   uint32_t carry;                /* an hour number that rounds to hour 24: KATCHIDUL_CARRY_STOPS or KATCHIDUL_CARRY_CARRIES */
   int32_t clock;                 /* minutes from UTC to the clock that the cells show, -840 to 840 */
   uint32_t southern;             /* the season's count in the south: KATCHIDUL_SOUTHERN_UNREDUCED or KATCHIDUL_SOUTHERN_STARTS_AGAIN */
-  uint32_t ramadan, imsak;
-  int32_t shift;
+  uint32_t ramadan;              /* 1 where the sheet is Ramadan's, which has imsak; else this and the next two are 0 */
+  uint32_t imsak;                /* minutes from imsak to Fajr, 0 to 30: imsak is `times[KATCHIDUL_TIME_FAJR] - 60 * imsak` */
+  int32_t shift;                 /* days from the tabular 1 Ramadan to the first day, -1 to 1 */
 } katchidul_order;
 
 /* Seconds from 1970-01-01T00:00:00 UTC on: fajr, sunrise, dhuhr, asr, maghrib, isha, middle of the night, qiyam, tomorrow's fajr. They
@@ -236,30 +242,32 @@ typedef struct katchidul_map {
   uint32_t number, place, sign, degrees, minutes, seconds, hundredths;
 } katchidul_map;
 
-/* Reads an order. Refusals 1 to 5 and 15. */
+/* Reads an order. Refusals 1 to 5, 15 and 18. */
 katchidul_order katchidul_read_order(const uint8_t *order, size_t length);
 
-/* Works the nine times of a row's date; rows count from 0. Refusals 1 to 8 and 15. */
+/* Works the nine times of a row's date; rows count from 0. Refusals 1 to 8, 15 and 18. */
 katchidul_day katchidul_work_day(const uint8_t *order, size_t length, uint32_t row);
 
 /* An instant is whole seconds from 1970-01-01T00:00:00 UTC on, rounded down, and nanoseconds, which count forward from there, also before
    1970: half a second before 1970 is -1 and 500,000,000.
 
    Names the prayer in force at an instant, from the times of the row's day alone: the last in the list from Fajr to FajrTomorrow whose
-   time is less than a second ahead. None (0) is an answer. Refusals 1 to 8, 10 and 15. */
+   time is less than a second ahead. None (0) is an answer. Refusals 1 to 8, 10, 15 and 18. */
 katchidul_prayer katchidul_prayer_at(const uint8_t *order, size_t length, uint32_t row, int64_t seconds, uint32_t nanoseconds);
 
-/* Names the next prayer in that list; after FajrTomorrow it is FajrTomorrow itself. Refusals 1 to 8, 10, 11 and 15. */
+/* Names the next prayer in that list; after FajrTomorrow it is FajrTomorrow itself. Refusals 1 to 8, 10, 11, 15 and
+   18. */
 katchidul_prayer katchidul_next_at(const uint8_t *order, size_t length, uint32_t row, int64_t seconds, uint32_t nanoseconds);
 
-/* Tells the time until the next prayer: 0 and 0 where that has passed, and so after FajrTomorrow. Refusals 1 to 8, 10, 11 and
-   15. */
+/* Tells the time until the next prayer: 0 and 0 where that has passed, and so after FajrTomorrow. Refusals 1 to 8, 10, 11,
+   15 and 18. */
 katchidul_remaining katchidul_remaining_at(const uint8_t *order, size_t length, uint32_t row, int64_t seconds, uint32_t nanoseconds);
 
 /* Writes a row's line at the front of a buffer of `size` bytes, at least KATCHIDUL_ROW_BYTES (9 below that): the row's date, then the nine
    times, each as signed days from that date, T and the UTC time (`+0T05:12:00`), with a blank before each and a newline at the end. A full
    row has 119 bytes with its newline and no zero byte after it; the buffer's bytes after them stay. Where the call is refused no byte
-   of the buffer changes. The buffer and the order must not overlap. Refusals 1 to 9 and 15. */
+   of the buffer changes. A Ramadan sheet's row has imsak between the date and Fajr, written as a time, and so 131 bytes: a buffer that
+   has fewer is 9 for it. The buffer and the order must not overlap. Refusals 1 to 9, 15 and 18. */
 katchidul_reply katchidul_write_row(const uint8_t *order, size_t length, uint32_t row, uint8_t *buffer, size_t size);
 
 /* What a call says that writes cells: how many rows it wrote, and the dots that they punch. */
@@ -273,7 +281,7 @@ typedef struct katchidul_cells {
    the letters a to j of the literary code. The day is the row's own date's. The times are by the order's clock: its `clock` minutes are
    added to the UTC instant, and the seconds are dropped. A day that is refused (6 to 8) shows its day and 36 blanks, and the call is not
    refused for it. `rows` is 1. The buffer's bytes after the cells stay; where the call is refused all of them do. The buffer and the order
-   must not overlap. Refusals 1 to 5, 9 and 15. */
+   must not overlap. Refusals 1 to 5, 9, 15 and 18. */
 katchidul_cells katchidul_write_cells(const uint8_t *order, size_t length, uint32_t row, uint8_t *buffer, size_t size);
 
 /* Writes rows of a page in braille, one behind another, at the front of a scratch of `size` bytes, at least KATCHIDUL_ROW_CELLS (9

@@ -53,7 +53,8 @@ bool order_kept(const order_bytes *order, const uint8_t *lent) {
 static void ask_row(answers *all, const order_bytes *order, const uint8_t *lent, uint32_t row) {
   static const size_t sizes[] = {ROW_LENGTH, ROW_LENGTH + 1, 200, BUFFER_MOST};
   static uint32_t call;
-  all->written = write_lent(lent, order->length, row, sizes[call++ % 4]);
+  size_t more = all->order.ramadan ? RAMADAN_LENGTH - ROW_LENGTH : 0, size = sizes[call++ % 4] + more;
+  all->written = write_lent(lent, order->length, row, size < BUFFER_MOST ? size : BUFFER_MOST);
   all->lent_kept = all->lent_kept && order_kept(order, lent);
   all->line_right = false;
   if (all->written.number != 0) all->line_right = buffer_kept();

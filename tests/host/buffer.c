@@ -44,7 +44,9 @@ bool buffer_holds(const uint8_t *bytes, size_t count) {
   return memcmp(room, expected, room_size) == 0;
 }
 
-bool buffer_has(const row_line *line) { return line->length == ROW_LENGTH && buffer_holds((const uint8_t *)line->text, ROW_LENGTH); }
+bool buffer_has(const row_line *line) {
+  return (line->length == ROW_LENGTH || line->length == RAMADAN_LENGTH) && buffer_holds((const uint8_t *)line->text, line->length);
+}
 
 bool row_written(const order_bytes *order, uint32_t row, size_t size, const row_line *line) {
   const uint8_t *lent = lend(order);

@@ -4,6 +4,8 @@
 
 #include "host.h"
 
+#define NUMBERS 19 /* one more than the last refusal */
+
 static uint64_t state;
 
 static uint64_t draw(void) {
@@ -49,7 +51,8 @@ static order_bytes sound_order(void) {
                                   (uint8_t)(1 + below(31)), latitude, longitude, (uint8_t)below(13));
   put_options(&order);
   put_on_map(&order, 18, 66), put_on_map(&order, 19, 180);
-  return order;
+  if (below(8)) return order;
+  return ramadan_sheet(&order, (uint32_t)(1317 + below(310)), (uint8_t)below(31), (uint8_t)below(3));
 }
 
 /* Makes place for bytes at an offset; what would pass the room's end is lost. */
@@ -104,7 +107,7 @@ static int64_t any_instant(const katchidul_order *order, uint32_t row) {
 }
 
 void check_damaged(uint32_t orders) {
-  uint32_t numbers[16] = {0};
+  uint32_t numbers[NUMBERS] = {0};
   char what[64];
   state = UINT64_C(0x9e3779b97f4a7c15);
   for (uint32_t i = 0; i < orders; i++) {
@@ -121,12 +124,12 @@ void check_damaged(uint32_t orders) {
       check(row_unwritten(&order, row, below(ROW_LENGTH), 9, 0), what);
     }
     if (below(16) == 0) check(page_agrees(&order, row / 25 + 1, (uint32_t)below(below(4) ? 1 : 27), below(4) ? PAGE_LENGTH + below(100) : below(1100)), what);
-    if (all.day.number < 16) numbers[all.day.number]++;
+    if (all.day.number < NUMBERS) numbers[all.day.number]++;
     if (all.next.number >= 10 && all.next.number < 12) numbers[all.next.number]++;
   }
   printf("host: random and damaged orders by number:");
-  for (uint32_t number = 0; number < 16; number++) {
-    if (number >= 12 && number < 15) continue; /* no order's */
+  for (uint32_t number = 0; number < NUMBERS; number++) {
+    if ((number >= 12 && number < 15) || number == 16 || number == 17) continue; /* no order's */
     printf(" %u: %u", number, numbers[number]);
     /* 6 and 8 are rare: a few thousand orders may miss them. */
     check(numbers[number] > 0 || orders < 40000, "the random and damaged orders meet every number");

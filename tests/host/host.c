@@ -34,6 +34,7 @@ int main(int count, char **arguments) {
   check_pieces(arguments[2]);
   check_sentences();
   check_map();
+  check_ramadan();
   check_environment();
   check_threads();
   check_stack();

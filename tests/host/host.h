@@ -10,6 +10,7 @@
 
 #define ORDER_ROOM 2048
 #define ROW_LENGTH 119
+#define RAMADAN_LENGTH 131
 #define PAGE_LENGTH 975
 #define BUFFER_MOST 4096
 
@@ -33,8 +34,10 @@ void put_clock(order_bytes *order, int16_t minutes);
 void put_map(order_bytes *order, uint8_t tag, const uint8_t parts[5]);
 /* The number of rows in so many bytes. */
 void put_rows(order_bytes *order, uint16_t rows, uint16_t size);
+/* Minutes from imsak to Fajr, and the shift as it is stored. */
+void put_ramadan(order_bytes *order, uint8_t imsak, uint8_t stored);
 /* The last tag of the table. */
-#define LAST_TAG 19
+#define LAST_TAG 20
 
 /* The six fields that an order must have, in order of their tags. Rows in one byte up to 255, in two above it. */
 order_bytes place_order(const char *town, uint16_t year, uint8_t month, uint8_t day, uint16_t rows, double latitude,
@@ -76,6 +79,10 @@ bool cells_answered(const answers *all, uint32_t number, uint32_t place);
 bool row_refused(const answers *all, uint32_t number, uint32_t place);
 /* The three calls on an instant give this number and place and nothing else. */
 bool instant_refused(const answers *all, uint32_t number, uint32_t place);
+
+/* ramadan.c: the day from 1970-01-01 on of an Islamic year's tabular 1 Ramadan; and an order with its date and rows made a Ramadan sheet's. */
+int64_t first_of_ramadan(uint32_t year);
+order_bytes ramadan_sheet(const order_bytes *order, uint32_t year, uint8_t imsak, uint8_t stored);
 
 /* line.c: the line of a row that the order has, from what the other calls answer. Times that no order has make a longer one. */
 typedef struct {
@@ -136,6 +143,7 @@ void check_cells(void);
 void check_pieces(const char *folder);
 void check_sentences(void);
 void check_map(void);
+void check_ramadan(void);
 void check_environment(void);
 void check_threads(void);
 void check_stack(void);

@@ -1,5 +1,5 @@
 /* A row's line from the answers of the other calls, written from document 01's section on the sheet alone: the row's date, then each
-   time as signed days from that date, T and the time of day. */
+   time as signed days from that date, T and the time of day; on a Ramadan sheet imsak before them, which is Fajr less its minutes. */
 #include <stdio.h>
 
 #include "host.h"
@@ -33,7 +33,9 @@ row_line line_of(const katchidul_order *order, uint32_t row, const katchidul_day
   row_line line;
   row_date date = date_of(order, row);
   int at = sprintf(line.text, "%04u-%02u-%02u", date.year, date.month, date.day);
-  for (int i = 0; i < 9; i++) at += put_time(line.text + at, day->times[i], days_to(date.year, date.month, date.day));
+  int64_t days = days_to(date.year, date.month, date.day);
+  if (order->ramadan) at += put_time(line.text + at, day->times[0] - 60 * (int64_t)order->imsak, days);
+  for (int i = 0; i < 9; i++) at += put_time(line.text + at, day->times[i], days);
   line.length = (size_t)(at + sprintf(line.text + at, "\n"));
   return line;
 }

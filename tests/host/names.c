@@ -37,6 +37,11 @@ static void check_limits(void) {
         "KATCHIDUL_ROW_BYTES hold a row");
   check(katchidul_write_row(full.bytes, full.length, 0, line, sizeof line - 1).number == KATCHIDUL_BUFFER_SHORT,
         "one less than KATCHIDUL_ROW_BYTES is too short");
+  order_bytes fast = ramadan_sheet(&full, 1447, KATCHIDUL_IMSAK_MAX, 1);
+  check(katchidul_read_order(fast.bytes, fast.length).rows == KATCHIDUL_RAMADAN_ROWS, "KATCHIDUL_RAMADAN_ROWS and KATCHIDUL_IMSAK_MAX are allowed");
+  check(katchidul_write_row(fast.bytes, fast.length, 0, page, KATCHIDUL_RAMADAN_ROW_BYTES).number == 0, "KATCHIDUL_RAMADAN_ROW_BYTES hold a row");
+  check(katchidul_write_row(fast.bytes, fast.length, 0, page, KATCHIDUL_RAMADAN_ROW_BYTES - 1).number == KATCHIDUL_BUFFER_SHORT,
+        "one less than KATCHIDUL_RAMADAN_ROW_BYTES is too short");
   check(katchidul_write_cells(full.bytes, full.length, 0, page, KATCHIDUL_ROW_CELLS).rows == 1, "KATCHIDUL_ROW_CELLS hold a row");
   check(katchidul_write_cells(full.bytes, full.length, 0, page, KATCHIDUL_ROW_CELLS - 1).number == KATCHIDUL_BUFFER_SHORT,
         "one less than KATCHIDUL_ROW_CELLS is too short");

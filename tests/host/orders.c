@@ -69,6 +69,12 @@ void put_rows(order_bytes *order, uint16_t rows, uint16_t size) {
   put_number(order, rows, size);
 }
 
+void put_ramadan(order_bytes *order, uint8_t imsak, uint8_t stored) {
+  put_header(order, 20, 2);
+  put_byte(order, imsak);
+  put_byte(order, stored);
+}
+
 order_bytes place_order(const char *town, uint16_t year, uint8_t month, uint8_t day, uint16_t rows, double latitude,
                         double longitude, uint8_t method) {
   order_bytes order = {0};

@@ -25,7 +25,7 @@ static void check_full(void) {
   check(memcmp(read.minutes, minutes, sizeof minutes) == 0, "the full order's minutes");
   check(read.carry == KATCHIDUL_CARRY_CARRIES && read.southern == KATCHIDUL_SOUTHERN_STARTS_AGAIN, "the full order's rules");
   check(read.clock == -345, "the full order's clock");
-  check(read.ramadan == 0 && read.imsak == 0 && read.shift == 0, "what no tag gives yet is 0");
+  check(read.ramadan == 0 && read.imsak == 0 && read.shift == 0, "no Ramadan sheet");
 }
 
 /* By Method::parameters; tags 7 to 17 are missing. */

@@ -60,7 +60,7 @@ static void check_sizes(void) {
 static void check_lengths(void) {
   static const struct { uint8_t shortest, longest; } lengths[LAST_TAG + 1] = {{0, 0}, {1, 40}, {4, 4}, {1, 2}, {8, 8}, {8, 8}, {1, 1}, {1, 1},
                                                                     {1, 1}, {1, 1}, {1, 1}, {12, 12}, {8, 8}, {8, 8}, {2, 2}, {1, 1}, {2, 2},
-                                                                    {1, 1}, {5, 5}, {5, 5}};
+                                                                    {1, 1}, {5, 5}, {5, 5}, {2, 2}};
   order_bytes full = full_order();
   char what[64];
   for (uint8_t tag = 1; tag <= LAST_TAG; tag++) {
@@ -83,7 +83,7 @@ static void check_repeats_and_missing(void) {
   for (uint8_t tag = 1; tag <= LAST_TAG; tag++) {
     order_bytes order = full;
     put_header(&order, tag, 9);
-    if (without(&full, tag).length == full.length) continue; /* no tag yet, or a coordinate's other form */
+    if (without(&full, tag).length == full.length) continue; /* a coordinate's other form, or a Ramadan sheet's */
     snprintf(what, sizeof what, "tag %u again, with a wrong length and cut", tag);
     refused(&order, 3, (uint32_t)full.length, what);
     if (tag > 6) continue;

@@ -23,6 +23,7 @@ static bool number_fits(const katchidul_order *order) {
     case 4: return order->place >= 1 && order->place <= 6;
     case 5: return order->place >= 1 && order->place <= LAST_TAG;
     case 15: return order->place == 18 || order->place == 19;
+    case 18: return order->place == 2;
     default: return false;
   }
 }
@@ -36,6 +37,8 @@ static bool record_fits(const katchidul_order *order) {
               order->shafaq <= 2 && order->carry <= 1 && order->clock >= -840 && order->clock <= 840 && order->southern <= 1 &&
               order->isha_interval <= 1440 && order->town_at >= 3 && order->town_length >= 1 &&
               order->town_length <= 40;
+  fits = fits && order->ramadan <= 1 && order->imsak <= 30 && order->shift >= -1 && order->shift <= 1;
+  fits = fits && (order->ramadan ? order->rows == 30 : order->imsak == 0 && order->shift == 0);
   for (int i = 0; i < 6; i++) fits = fits && order->minutes[i] >= -720 && order->minutes[i] <= 720;
   return fits;
 }
@@ -81,7 +84,7 @@ bool answers_agree(const answers *all, uint32_t row, int64_t seconds, uint32_t n
   bool instant = seconds >= -SECONDS_END && seconds <= SECONDS_END && nanoseconds <= 999999999;
   const katchidul_day *day = &all->day;
   if (!all->lent_kept || !number_fits(&all->order)) return false;
-  /* A buffer of 119 bytes or more: the row is refused as the day is, and written where it is not. */
+  /* A buffer that a full row of the order fits: the row is refused as the day is, and written where it is not. */
   if (!line_answered(all, day->number, day->place)) return false;
   if (!cells_answered(all, day->number, day->place)) return false;
   if (!instant && !instant_refused(all, 10, 0)) return false;

@@ -26,7 +26,8 @@ static const char *const words[] = {NULL,
                                     "Refusal 14: the embosser's count does not fit the log, count",
                                     "Refusal 15: a coordinate is given in both forms:",
                                     "Refusal 16: the print queue is full, job id",
-                                    "Refusal 17: the job's id or its pages are not allowed, job id"};
+                                    "Refusal 17: the job's id or its pages are not allowed, job id",
+                                    "Refusal 18: the sheet does not begin on the 1st of Ramadan:"};
 static const char *const names[] = {NO_NAME,
                                     " town, tag",
                                     " first day, tag",
@@ -46,7 +47,8 @@ static const char *const names[] = {NO_NAME,
                                     " clock, tag",
                                     " southern, tag",
                                     " map latitude, tag",
-                                    " map longitude, tag"};
+                                    " map longitude, tag",
+                                    " ramadan, tag"};
 #define NUMBERS (sizeof words / sizeof *words)
 #define TAGS (sizeof names / sizeof *names)
 static const uint32_t some_places[] = {0, 6, 10, 14, 65536, UINT32_MAX};

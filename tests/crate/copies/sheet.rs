@@ -100,7 +100,9 @@ fn main() {
     let first = &fields[&2];
     let first = NaiveDate::from_ymd_opt(signed(first) as i32, first[2] as u32, first[3] as u32).unwrap();
     println!("{}", std::str::from_utf8(&fields[&1]).unwrap());
-    println!("date fajr sunrise dhuhr asr maghrib isha middle qiyam tomorrow");
+    // A Ramadan sheet has imsak before Fajr, worked here from the crate's own Fajr.
+    let imsak = fields.get(&20).map(|value| 60 * value[0] as i64);
+    println!("date{} fajr sunrise dhuhr asr maghrib isha middle qiyam tomorrow", if imsak.is_some() { " imsak" } else { "" });
     let rows = fields[&3].iter().fold(0, |rows, byte| rows * 256 + *byte as i64);
     for row in 0..rows {
         let date = first + Duration::days(row);
@@ -110,6 +112,7 @@ fn main() {
         }
         let midnight = date.and_hms_opt(0, 0, 0).unwrap().timestamp();
         let times = access::nine(&PrayerTimes::new(date, place, parameters));
-        println!("{date}{}", times.map(|time| written(time, midnight)).concat());
+        let before = imsak.map_or(String::new(), |seconds| written(times[0] - seconds, midnight));
+        println!("{date}{before}{}", times.map(|time| written(time, midnight)).concat());
     }
 }

@@ -62,7 +62,14 @@ impl From<&Asked> for KatchidulOrder {
             shafaq: asked.shafaq,
             isha_interval: settings.isha_interval as u32,
             minutes: asked.minutes,
-            choices: [asked.carry as i32, asked.clock, asked.southern as i32, 0, 0, 0],
+            choices: [
+                asked.carry as i32,
+                asked.clock,
+                asked.southern as i32,
+                asked.ramadan.is_some() as i32,
+                asked.ramadan.map_or(0, |(imsak, _)| imsak),
+                asked.ramadan.map_or(0, |(_, shift)| shift),
+            ],
         }
     }
 }

@@ -9,7 +9,7 @@ pub const FORMS: [(u8, u8); 2] = [(4, 18), (5, 19)];
 
 /// Over this an order is refused unread.
 pub const LONGEST: usize = 1_024;
-pub const LAST_TAG: u8 = 19;
+pub const LAST_TAG: u8 = 20;
 
 /// What an order asks for. The tags that a method answers for where they are missing are none then.
 #[derive(Debug)]
@@ -31,6 +31,8 @@ pub struct Asked {
     pub carry: u32,
     pub clock: i32,
     pub southern: u32,
+    /// Minutes of imsak and shift, where the sheet is Ramadan's.
+    pub ramadan: Option<(i32, i32)>,
 }
 
 impl Asked {
@@ -75,7 +77,7 @@ pub fn lengths(tag: u8) -> Option<RangeInclusive<usize>> {
         6..=10 | 15 | 17 => Some(1..=1),
         4 | 5 | 12 | 13 => Some(8..=8),
         11 => Some(12..=12),
-        14 | 16 => Some(2..=2),
+        14 | 16 | 20 => Some(2..=2),
         18 | 19 => Some(5..=5),
         _ => None,
     }
@@ -109,6 +111,17 @@ fn fields(order: &[u8]) -> Result<Values, Refusal> {
         at += 3 + length;
     }
     Ok(values)
+}
+
+/// Month 9, day 1 of the tabular calendar, by its rule: year by year from day 1 of year 1, Julian Day 1948439.5, which chrono counts as day 227015.
+fn opens_ramadan(date: NaiveDate) -> bool {
+    let is_leap = |year: i32| [2, 5, 7, 10, 13, 16, 18, 21, 24, 26, 29].contains(&(year % 30));
+    let (mut day, mut year) = (date.num_days_from_ce() - 227_015, 1);
+    while day >= 354 + is_leap(year) as i32 {
+        day -= 354 + is_leap(year) as i32;
+        year += 1;
+    }
+    day == 4 * (30 + 29)
 }
 
 /// An order whose fields are whole; a tag's value is none where it is missing.
@@ -162,6 +175,9 @@ impl Whole<'_> {
         if !(1..=if value.len() == 1 { 250 } else { 400 }).contains(&rows) {
             return refused(5, 3);
         }
+        if self.bytes(20).is_some() && rows != 30 {
+            return refused(5, 3);
+        }
         let last_row = date + Duration::days(rows as i64 - 1);
         if last_row > NaiveDate::from_ymd_opt(2199, 12, 31).unwrap() {
             return refused(5, 3);
@@ -205,7 +221,16 @@ impl Whole<'_> {
         Ok(Some(if sign == 1 && count > 0 { -size } else { size }))
     }
 
-    /// The ranges by rising tag, which is the order in which a struct's fields are worked out; a coordinate as on the map stands last.
+    fn ramadan(&self) -> Result<Option<(i32, i32)>, Refusal> {
+        let Some(&[imsak, stored]) = self.bytes(20) else { return Ok(None) };
+        if imsak > 30 || stored > 2 {
+            return refused(5, 20);
+        }
+        Ok(Some((imsak as i32, stored as i32 - 1)))
+    }
+
+    /// The ranges by rising tag, which is the order in which a struct's fields are worked out; a coordinate as on the map and
+    /// what makes a Ramadan sheet stand last, and behind them its start.
     fn ranges(&self) -> Result<Asked, Refusal> {
         let (town, date) = (self.town()?, self.date()?);
         let asked = Asked {
@@ -226,10 +251,15 @@ impl Whole<'_> {
             carry: self.byte(15, 0..=1)?.unwrap_or(0),
             clock: self.clock()?,
             southern: self.byte(17, 0..=1)?.unwrap_or(0),
+            ramadan: None,
         };
         let latitude = self.on_map(18, 90)?.unwrap_or(asked.latitude);
         let longitude = self.on_map(19, 180)?.unwrap_or(asked.longitude);
-        Ok(Asked { latitude, longitude, ..asked })
+        let ramadan = self.ramadan()?;
+        if ramadan.is_some_and(|(_, shift)| !opens_ramadan(date - Duration::days(shift as i64))) {
+            return refused(18, 2);
+        }
+        Ok(Asked { latitude, longitude, ramadan, ..asked })
     }
 }
 
