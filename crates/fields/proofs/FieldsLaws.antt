@@ -13,7 +13,7 @@ use Rattle.refusals.specs.Refusals.{refusal, noRefusal}
 use Rattle.refusals.specs.declared.Refusal.{Refusal}
 use Rattle.fields.specs.Numbers.{byteOf}
 use Rattle.fields.specs.Tags.{lastTag, column, knownTag, lengthFits}
-use Rattle.fields.specs.Fields.{lengthAt, after, firstBefore, valueFaultOf, faultOf, walkOf, checkOf}
+use Rattle.fields.specs.Fields.{lengthAt, after, firstBefore, valueFaultOf, faultIn, faultOf, walkOf, checkOf}
 use Rattle.fields.specs.Values.{offsetOf, hasOf, valueOf}
 
 -- ---- the table's limits
@@ -48,7 +48,7 @@ pub record Good (s : List ℕ) (at : ℕ) : Type 0 where
   pub whole : after s at ≤ length s
 
 pub fault-none : (s : List ℕ) (at : ℕ) → faultOf s at ≡ 0 → Good s at
-unfolding faultOf valueFaultOf
+unfolding faultOf faultIn valueFaultOf
 fault-none s at e =
     let tag = byteOf s at in
     let first = firstBefore (length s) s tag 0 at in
@@ -131,7 +131,7 @@ value-missing s tag h =
 
 -- ---- the fields give no number over 3
 fault-small : (s : List ℕ) (at : ℕ) → faultOf s at ≤ 3
-unfolding faultOf valueFaultOf
+unfolding faultOf faultIn valueFaultOf
 fault-small s at =
     most (ltb (length s - at) 3) 1 _ 3 (lit≤ tt)
     (most (not (knownTag (byteOf s at))) 2 _ 3 (lit≤ tt)
