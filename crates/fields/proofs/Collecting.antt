@@ -18,7 +18,7 @@ use Rattle.fields.specs.Numbers.{byteOf, unsignedOf}
 use Rattle.fields.specs.Tags.{tags, lastTag, knownTag}
 use Rattle.fields.specs.Fields.{lengthAt, after, firstBefore, faultIn, faultOf, walkOf, checkOf}
 use Rattle.fields.specs.Values.{offsetOf, hasOf, valueOf, startOf, valuesOf, partFor, hasIn, valuesIn, byTag, fieldsOf, noFields, checkedOf}
-use Rattle.fields.proofs.FieldsLaws.{Good, fault-none, walk-good, has-good, known-last, whole-length, value-missing}
+use Rattle.fields.proofs.FieldsLaws.{Good, fault-none, walk-good, has-good, known-last, length-short, whole-length, value-missing}
 use Rattle.fields.proofs.Walking.{find-here, find-on, find-none, walk-stop, walk-on, walk-end}
 
 -- ---- where a tag is found
@@ -159,6 +159,9 @@ module _ (s : List ℕ) (at : ℕ) (starts lengths : List ℕ) (c : Collected s 
     tag-once start size (ahead p q r) = sym r ∙ find-here (c .left) s (byteOf s at) at (length s) (c .enough) l refl
     tag-once start size (behind o p q) =
         absurd (omega (arith, good .new, find-sooner (length s) s (byteOf s at) 0 at (length s) (c .inside) o))
+
+    pub collect-short : lengthAt s at ≤ 255
+    collect-short = length-short (byteOf s at) (lengthAt s at) (good .fits)
 
     pub collect-room : byteOf s at < length tags
     collect-room = let h = known-last (byteOf s at) (good .known) in omega arith

@@ -26,7 +26,7 @@ fn refused(number: u32, place: u32) -> Checked
 }
 
 // Whether the tag was collected; no value begins before 3.
-fn stands(starts: &[u32], tag: u32) -> bool
+fn stands(starts: &[u16], tag: u32) -> bool
     ensures { λ r. ⌜ r ≡ ltb 0 (getD (now (starts .entry)) tag 0) ⌝ }
 {
     let row = tag as usize;
@@ -40,8 +40,8 @@ fn pass(order: &[u8]) -> Checked
     requires { ⌜ length (now order) ≤ 1024 ⌝ }
     ensures { λ r. ⌜ r ≡ checkedOf (now (order .entry)) ⌝ }
 {
-    let mut starts = [0u32; TAGS];
-    let mut lengths = [0u32; TAGS];
+    let mut starts = [0u16; TAGS];
+    let mut lengths = [0u8; TAGS];
     let mut at = 0;
     while at < order.len() {
         let tag = byte(order, at);
@@ -50,8 +50,8 @@ fn pass(order: &[u8]) -> Checked
         if number != 0 {
             return refused(number, at as u32);
         }
-        starts[tag as usize] = at as u32 + 3;
-        lengths[tag as usize] = length;
+        starts[tag as usize] = at as u16 + 3;
+        lengths[tag as usize] = length as u8;
         at = at + 3 + length as usize;
     }
     Checked {

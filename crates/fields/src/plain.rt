@@ -79,14 +79,14 @@ fn collect(order: &[u8]) -> Fields
     requires { ⌜ checkOf (now order) .number ≡ 0 ⌝ }
     ensures { λ r. ⌜ r ≡ fieldsOf (now (order .entry)) ⌝ }
 {
-    let mut starts = [0u32; TAGS];
-    let mut lengths = [0u32; TAGS];
+    let mut starts = [0u16; TAGS];
+    let mut lengths = [0u8; TAGS];
     let mut at = 0;
     while at < order.len() {
         let tag = byte(order, at) as usize;
         let length = length_at(order, at);
-        starts[tag] = at as u32 + 3;
-        lengths[tag] = length;
+        starts[tag] = at as u16 + 3;
+        lengths[tag] = length as u8;
         at = at + 3 + length as usize;
     }
     Fields {

@@ -61,7 +61,8 @@ fn most_in(bytes: &[u8]) -> u32
     MOST_IN_ONE_BYTE
 }
 
-// The last row is the one with one less row before it than there are; its year decides, since the last year is allowed to its end.
+// The last row is the one with one less row before it than there are; its year decides, since the last year is allowed to its end. No order
+// that begins two years or more before the last has rows enough to pass it.
 fn rows_fit(date: Date, bytes: &[u8]) -> bool
     ensures { λ r. ⌜ r ≡ rowsFit date (now (bytes .entry)) ⌝ }
 {
@@ -70,8 +71,14 @@ fn rows_fit(date: Date, bytes: &[u8]) -> bool
     if rows < 1 {
         return false;
     }
+    if most < rows {
+        return false;
+    }
+    if date.year < LAST_YEAR - 1 {
+        return true;
+    }
     let last = date.row(rows - 1);
-    (rows <= most) & (last.year <= LAST_YEAR)
+    last.year <= LAST_YEAR
 }
 
 // A NaN passes no comparison.

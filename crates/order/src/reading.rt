@@ -11,11 +11,11 @@ use super::given::rows_in;
 use super::given::rules_in;
 use super::ranges::in_range;
 use calendar::dates::Date;
+use fields::one_pass::fields_of;
 use fields::tags::LAST_TAG;
 use fields::values::Fields;
 use fields::values::Part;
 use fields::values::bytes;
-use fields::values::fields_of;
 use fields::values::value;
 use hijri::ramadan::Ramadan;
 use hijri::ramadan::is_ramadan_start;
@@ -130,8 +130,10 @@ fn record_in(order: &[u8], fields: Fields) -> Order
 fn wrong_start(ramadan: Ramadan, date: Date) -> Refusal
     ensures { λ r. ⌜ r ≡ wrongStartOf ramadan date ⌝ }
 {
-    if ramadan.set & !is_ramadan_start(date.day_number(), ramadan.shift) {
-        return Refusal::new(NOT_FIRST_OF_RAMADAN, 2);
+    if ramadan.set {
+        if !is_ramadan_start(date.day_number(), ramadan.shift) {
+            return Refusal::new(NOT_FIRST_OF_RAMADAN, 2);
+        }
     }
     Refusal::none()
 }

@@ -1,12 +1,13 @@
 -- `fields::one_pass::pass` meets its contract. The invariant: the walk has come to `at`, nothing is refused before it, and both arrays hold
 -- what lies before it.
 use borrow.Author.Needs.{needs}
+use native.Mathlib.Omega.{arith}
 use Prim.Native.Nat.{_-_}
-use mathlib.Core.Path.{sym, _∙_}
+use mathlib.Core.Path.{_≡_, sym, _∙_}
 use denote.Ref.{now}
 use lib.ListN.{length}
 use Rattle.fields.specs.Fields.{lengthAt}
-use Rattle.fields.proofs.Collecting.{Collected, collect-first, fault-here, refused-here, nothing-refused, collect-room, collect-on, collect-all, checked-not, checked-all}
+use Rattle.fields.proofs.Collecting.{Collected, collect-first, fault-here, refused-here, nothing-refused, collect-room, collect-short, collect-on, collect-all, checked-not, checked-all}
 use Rattle.fields.proofs.one_pass.pass.Statement.{statement}
 use Rattle.fields.proofs.one_pass.pass.Tie as tie
 
@@ -46,6 +47,20 @@ room c =
     let good = sym (fault-here s (l .loop .at) (l .loop .starts) (l .loop .lengths) (l .loop .inv) (b .byte .result) (u .unsigned .result) (f .fault .result) (t .stands .result) (b .byte .ensures .0) (u .unsigned .ensures .0) (t .stands .ensures) (f .fault .ensures)) ∙ c .if1 .left in
     rw (b .byte .ensures .0) (collect-room s (l .loop .at) (l .loop .starts) (l .loop .lengths) (l .loop .inv) (b .before .loop-test .taken) good)
 
+short : tie.Need-cast-lengths Inv-loop μ-loop
+unfolding lengthAt
+short c =
+    let f = c .before in
+    let t = f .before in
+    let u = t .before .before in
+    let b = u .before in
+    let l = b .before .before in
+    let s = now (l .before .before .args .order) in
+    let good = sym (fault-here s (l .loop .at) (l .loop .starts) (l .loop .lengths) (l .loop .inv) (b .byte .result) (u .unsigned .result) (f .fault .result) (t .stands .result) (b .byte .ensures .0) (u .unsigned .ensures .0) (t .stands .ensures) (f .fault .ensures)) ∙ c .if1 .left in
+    let n = collect-short s (l .loop .at) (l .loop .starts) (l .loop .lengths) (l .loop .inv) (b .before .loop-test .taken) good in
+    let z : u .unsigned .result ≡ lengthAt s (l .loop .at) = u .unsigned .ensures .0 in
+    omega arith
+
 loop-again : tie.Need-loop-again Inv-loop μ-loop
 unfolding lengthAt
 loop-again c =
@@ -69,4 +84,4 @@ returns-2 c =
 pub pass-spec : {M : Type 1} → statement M
 pass-spec =
     tie.close
-    (tie.spec Inv-loop μ-loop loop-holds (λ c κs. search needs) (λ c. search needs) (λ c κs. search needs) slice (λ c κs. search needs) (λ c. search needs) (λ c κs. search needs) (λ c. search needs) (λ c κs. search needs) returns (λ c. search needs) (λ c. search needs) (λ c. search needs) (λ c. search needs) room (λ c. search needs) (λ c. search needs) room (λ c. search needs) (λ c. search needs) (λ c. search needs) (λ c. search needs) loop-again (λ c κs. search needs) returns-2)
+    (tie.spec Inv-loop μ-loop loop-holds (λ c κs. search needs) (λ c. search needs) (λ c κs. search needs) slice (λ c κs. search needs) (λ c. search needs) (λ c κs. search needs) (λ c. search needs) (λ c κs. search needs) returns (λ c. search needs) (λ c. search needs) (λ c. search needs) (λ c. search needs) room short (λ c. search needs) room (λ c. search needs) (λ c. search needs) (λ c. search needs) (λ c. search needs) loop-again (λ c κs. search needs) returns-2)

@@ -1,12 +1,13 @@
 -- `fields::plain::collect` meets its contract. The invariant: the walk has come to `at`, and both arrays hold what lies before it.
 use borrow.Author.Needs.{needs}
+use native.Mathlib.Omega.{arith}
 use Prim.Native.Nat.{_-_}
 use mathlib.Core.Path.{_≡_}
 use denote.Ref.{now}
 use lib.ListN.{length}
 use Rattle.fields.specs.Fields.{checkOf}
 use Rattle.fields.proofs.FieldsLaws.{check-none}
-use Rattle.fields.proofs.Collecting.{Collected, collect-first, sound-here, collect-room, collect-on, collect-all}
+use Rattle.fields.proofs.Collecting.{Collected, collect-first, sound-here, collect-room, collect-short, collect-on, collect-all}
 use Rattle.fields.proofs.plain.collect.Statement.{statement}
 use Rattle.fields.proofs.plain.collect.Tie as tie
 
@@ -30,6 +31,15 @@ room c =
     rw (c .before .byte .ensures .0)
     (collect-room s (l .loop .at) (l .loop .starts) (l .loop .lengths) (i .0) t (sound-here s (l .loop .at) (l .loop .starts) (l .loop .lengths) (i .0) (i .1) t))
 
+short : tie.Need-cast-lengths Inv-loop μ-loop
+short c =
+    let l = c .before .before .before in
+    let s = now (l .before .before .args .order) in
+    let i = l .loop .inv in
+    let t = c .before .before .loop-test .taken in
+    let n = collect-short s (l .loop .at) (l .loop .starts) (l .loop .lengths) (i .0) t (sound-here s (l .loop .at) (l .loop .starts) (l .loop .lengths) (i .0) (i .1) t) in
+    omega (arith, n, c .length-at .ensures .0)
+
 loop-again : tie.Need-loop-again Inv-loop μ-loop
 loop-again c =
     let l = c .before .before .before in
@@ -46,4 +56,4 @@ returns c =
 pub collect-spec : {M : Type 1} → statement M
 collect-spec =
     tie.close
-    (tie.spec Inv-loop μ-loop loop-holds (λ c κs. tt) (λ c. search needs) (λ c κs. search needs) (λ c. search needs) (λ c. search needs) (λ c. search needs) room (λ c. search needs) room (λ c. search needs) (λ c. search needs) (λ c. search needs) (λ c. search needs) loop-again returns)
+    (tie.spec Inv-loop μ-loop loop-holds (λ c κs. tt) (λ c. search needs) (λ c κs. search needs) (λ c. search needs) (λ c. search needs) (λ c. search needs) room short room (λ c. search needs) (λ c. search needs) (λ c. search needs) (λ c. search needs) loop-again returns)
