@@ -1,9 +1,11 @@
 -- The dates of an order's rows: where the first and the last lie in an order's years, all do. Assumes nothing.
 use native.Mathlib.Omega.{arith}
-use Prim.Native.Nat.{ℕ, zero, suc, _+_, _-_, _≤_}
+use Prim.Native.Nat.{ℕ, zero, suc, _+_, _-_, _≤_, _<_}
 use mathlib.Core.Path.{_≡_, refl, sym, ap, subst}
 use mathlib.Core.Bool.{Bool, true, false, cond}
-use lib.Dec.{leb, ltb}
+use mathlib.Core.List.{List}
+use lib.Dec.{leb, ltb, eqb}
+use lib.ListN.{length}
 use lib.IntN.{pos, negsuc, _+ℤ_}
 use borrow.Author.Tests.{le-leb, ltb-true, ltb-false}
 use Rattle.integers.specs.Parts.{P, N}
@@ -17,6 +19,8 @@ use Rattle.calendar.proofs.CalendarLaws.{row-first, row-next, number-of-date, d
 use Rattle.calendar.proofs.Existing.{count, ordinal-within, ordinal-short}
 use Rattle.calendar.proofs.YearSteps.{year-mono}
 use Rattle.calendar.proofs.Successors.{year-after, row-is}
+use Rattle.order.specs.Given.{rowsIn}
+use Rattle.order.specs.Ranges.{mostIn, rowsFit}
 use Rattle.order.specs.Accepted.{DateInOrder}
 
 -- the date so many days after another
@@ -82,7 +86,7 @@ ends-early d there early k few = go (ltb 2199 (daysAfter d k .year)) refl
         let g = ordinal-short d in
         absurd (omega arith)
 
-pub row-early : (d : Date) → d .year ≤ 2197 → (k : ℕ) → k ≤ 399 → leb (rowDateOf d k .year) 2199 ≡ true
+row-early : (d : Date) → d .year ≤ 2197 → (k : ℕ) → k ≤ 399 → leb (rowDateOf d k .year) 2199 ≡ true
 unfolding fromOf heldOf
 row-early d early k few = go (existsOf d) refl
   where
@@ -91,3 +95,17 @@ row-early d early k few = go (existsOf d) refl
     go true e =
         let y = ends-early d e early k few in
         rw (le-leb (daysAfter d k .year) 4294967295 (omega arith)) (le-leb (daysAfter d k .year) 2199 y)
+
+most-few : (v : List ℕ) → mostIn v ≤ 400
+most-few v = go (eqb (length v) 2)
+  where
+    go : (b : Bool) → cond b 400 250 ≤ 400
+    go true = omega arith
+    go false = omega arith
+
+pub rows-early : (d : Date) (v : List ℕ) (rows most : ℕ) → rows ≡ rowsIn v → most ≡ mostIn v → d .year < 2198 → 1 ≤ rows → rows ≤ most → rowsFit d v ≡ true
+unfolding rowsFit
+rows-early d v rows most is-rows is-most early some few =
+    let m = most-few v in
+    let l = row-early d (omega arith) (rows - 1) (omega arith) in
+    simp (sym is-rows, sym is-most, le-leb 1 rows some, le-leb rows most few, l)

@@ -131,9 +131,10 @@ fn wrong_start(ramadan: Ramadan, date: Date) -> Refusal
     ensures { λ r. ⌜ r ≡ wrongStartOf ramadan date ⌝ }
 {
     if ramadan.set {
-        if !is_ramadan_start(date.day_number(), ramadan.shift) {
-            return Refusal::new(NOT_FIRST_OF_RAMADAN, 2);
+        if is_ramadan_start(date.day_number(), ramadan.shift) {
+            return Refusal::none();
         }
+        return Refusal::new(NOT_FIRST_OF_RAMADAN, 2);
     }
     Refusal::none()
 }
