@@ -97,10 +97,19 @@ fn both_forms(fields: Fields) -> Refusal
 fn out_of_range(order: &[u8], fields: Fields) -> Refusal
     ensures { λ r. ⌜ r ≡ outOfRangeOf (valuesIn (now (order .entry)) fields) ⌝ }
 {
+    let starts = fields.at;
+    let lengths = fields.length;
+    let date = date_in(value(order, fields, 2));
+    let ramadan = fields.has(20);
     let mut passed = 0;
     while passed < LAST_TAG {
         let tag = passed + 1;
-        if !in_range(order, fields, tag) {
+        let row = tag as usize;
+        let part = Part {
+            at: starts[row] as u32,
+            length: lengths[row] as u32,
+        };
+        if !in_range(tag, order, part, date, ramadan) {
             return Refusal::new(OUT_OF_RANGE, tag);
         }
         passed = tag;
