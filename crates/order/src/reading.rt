@@ -1,7 +1,7 @@
 // Reading an order: the form of its fields, then missing tags, then coordinates in both forms, then ranges, then the first day of a Ramadan sheet.
 ghost use mathlib.Core.Path.{_≡_};
 ghost use Rattle.fields.specs.Values.{hasIn, valuesIn};
-ghost use Rattle.order.specs.Reading.{isGivenOf, missingOf, bothFormsOf, outOfRangeOf, orderOf, wrongStartOf, readingOf, townOf};
+ghost use Rattle.order.specs.Reading.{isGivenOf, missingOf, bothFormsOf, outOfRangeOf, orderOf, wrongStartOf, firstOf, checksOf, readingOf, townOf};
 use super::given::clock_in;
 use super::given::coordinate_in;
 use super::given::date_in;
@@ -148,15 +148,10 @@ fn wrong_start(ramadan: Ramadan, date: Date) -> Refusal
     Refusal::none()
 }
 
-pub fn read(order: &[u8]) -> Reading
-    ensures { λ r. ⌜ r ≡ readingOf (now (order .entry)) ⌝ }
+// What is answered of the fields once their form is right, whichever reader collected them: no walk over the bytes is left.
+pub(crate) fn answer(order: &[u8], fields: Fields) -> Reading
+    ensures { λ r. ⌜ r ≡ firstOf (checksOf (valuesIn (now (order .entry)) fields)) (orderOf (valuesIn (now (order .entry)) fields)) ⌝ }
 {
-    let checked = fields_of(order);
-    let broken = checked.refusal;
-    if broken.number != 0 {
-        return Reading::Refused(broken);
-    }
-    let fields = checked.fields;
     let lacking = missing(fields);
     let doubled = both_forms(fields);
     let outside = out_of_range(order, fields);
@@ -175,6 +170,17 @@ pub fn read(order: &[u8]) -> Reading
         return Reading::Refused(astray);
     }
     Reading::Read(record)
+}
+
+pub fn read(order: &[u8]) -> Reading
+    ensures { λ r. ⌜ r ≡ readingOf (now (order .entry)) ⌝ }
+{
+    let checked = fields_of(order);
+    let broken = checked.refusal;
+    if broken.number != 0 {
+        return Reading::Refused(broken);
+    }
+    answer(order, checked.fields)
 }
 
 // The town's name, as the part of the order that it is; an empty part where the order is refused.
