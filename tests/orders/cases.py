@@ -324,7 +324,8 @@ def main():
     with open(sys.argv[1], "wb") as out:
         out.write(b"".join(struct.pack(">H", len(order)) + order for order in orders))
     with open(sys.argv[2], "wb") as out:
-        out.write(b"".join(map(line, orders)))
+        # by the reader, and by the plain one
+        out.write(b"".join(2 * line(order) for order in orders))
 
 
 if __name__ == "__main__":

@@ -1,7 +1,8 @@
--- What one walk over the fields of a checked order collects is what the definitions find tag by tag. Assumes nothing.
+-- What one walk over the fields of an order collects is what the definitions find tag by tag, and what it has collected says which tags stand
+-- before the field that it has come to. Assumes nothing.
 use native.Mathlib.Omega.{arith}
 use native.Mathlib.Numerals.{add-one}
-use Prim.Native.Nat.{ℕ, zero, suc, _≤_, _<_, _+_}
+use Prim.Native.Nat.{ℕ, zero, suc, _≤_, _<_, _+_, _-_}
 use mathlib.Core.Path.{_≡_, refl, sym, ap, _∙_}
 use mathlib.Core.Bool.{Bool, true, false, cond}
 use mathlib.Core.List.{List, []}
@@ -9,15 +10,16 @@ use lib.ListN.{length, take, drop, getD, set, replicate, getD-replicate, length-
 use lib.Seq.{ext-getD, getD-set-same, getD-set-other, take-append-seam}
 use lib.Dec.{ltb, eqb}
 use borrow.Author.Tests.{lt-ltb, le-ltb, eq-eqb, ne-eqb, ltb-true, ltb-false, eqb-true, eqb-false}
+use Rattle.refusals.specs.Refusals.{refusal, noRefusal}
 use Rattle.refusals.specs.declared.Refusal.{Refusal}
 use Rattle.fields.specs.declared.values.Checked.{Checked}
 use Rattle.fields.specs.declared.values.Fields.{Fields}
-use Rattle.fields.specs.Numbers.{byteOf}
-use Rattle.fields.specs.Tags.{tags, lastTag}
-use Rattle.fields.specs.Fields.{lengthAt, after, firstBefore, faultOf, walkOf, checkOf}
-use Rattle.fields.specs.Values.{offsetOf, hasOf, valueOf, startOf, valuesOf, partFor, hasIn, valuesIn, byTag, fieldsOf, checkedOf}
-use Rattle.fields.proofs.FieldsLaws.{Good, fault-none, walk-good, check-none, has-good, known-last, whole-length, value-missing}
-use Rattle.fields.proofs.Walking.{find-here, find-on, find-none}
+use Rattle.fields.specs.Numbers.{byteOf, unsignedOf}
+use Rattle.fields.specs.Tags.{tags, lastTag, knownTag}
+use Rattle.fields.specs.Fields.{lengthAt, after, firstBefore, faultIn, faultOf, walkOf, checkOf}
+use Rattle.fields.specs.Values.{offsetOf, hasOf, valueOf, startOf, valuesOf, partFor, hasIn, valuesIn, byTag, fieldsOf, noFields, checkedOf}
+use Rattle.fields.proofs.FieldsLaws.{Good, fault-none, walk-good, has-good, known-last, length-short, whole-length, value-missing}
+use Rattle.fields.proofs.Walking.{find-here, find-on, find-none, walk-stop, walk-on, walk-end}
 
 -- ---- where a tag is found
 -- not before what neither the search's begin nor its end lies before
@@ -50,6 +52,22 @@ find-sooner (suc k) s tag at stop far l h =
     go true false false e on h =
         absurd (omega (arith, find-from k s tag (after s at) far stop (omega (arith, ltb-false at stop e)) l))
 
+-- with more to search, it is found where it is with less
+find-farther : (k : ℕ) (s : List ℕ) (tag at stop far : ℕ) → stop ≤ far → firstBefore k s tag at stop < stop
+    → firstBefore k s tag at far ≡ firstBefore k s tag at stop
+unfolding firstBefore
+find-farther zero s tag at stop far l h = absurd (omega arith)
+find-farther (suc k) s tag at stop far l h =
+    go (ltb at stop) refl (eqb (byteOf s at) tag) (λ g. find-farther k s tag (after s at) stop far l g) h
+  where
+    go : (b : Bool) → ltb at stop ≡ b → (c : Bool)
+        → (firstBefore k s tag (after s at) stop < stop → firstBefore k s tag (after s at) far ≡ firstBefore k s tag (after s at) stop)
+        → cond b (cond c at (firstBefore k s tag (after s at) stop)) stop < stop
+        → cond (ltb at far) (cond c at (firstBefore k s tag (after s at) far)) far ≡ cond b (cond c at (firstBefore k s tag (after s at) stop)) stop
+    go false e c on h = absurd (omega arith)
+    go true e true on h = simp (lt-ltb at far (omega (arith, ltb-true at stop e)))
+    go true e false on h = simp (lt-ltb at far (omega (arith, ltb-true at stop e)), on h)
+
 by-tag : (g : ℕ → ℕ) (k from i : ℕ) → i < k → getD (byTag g k from) i 0 ≡ g (from + i)
 unfolding byTag
 by-tag g zero from i h = absurd (omega arith)
@@ -69,48 +87,84 @@ pub data Kept (s : List ℕ) (left at tag start size : ℕ) : Type 0 where
   ahead : start ≡ 0 → size ≡ 0 → firstBefore left s tag at (length s) ≡ offsetOf s tag → Kept s left at tag start size
   behind : offsetOf s tag < at → start ≡ offsetOf s tag + 3 → size ≡ length (valueOf s tag) → Kept s left at tag start size
 
+-- at `at`, and nothing is refused before it
 pub record Collected (s : List ℕ) (at : ℕ) (starts lengths : List ℕ) : Type 0 where
   pub short : length s ≤ 1024
   pub inside : at ≤ length s
   pub left : ℕ
   pub enough : length s ≤ at + left
-  pub good : walkOf left s at .number ≡ 0
+  pub rest : walkOf left s at ≡ checkOf s
   pub sizes : (length starts ≡ length tags) × (length lengths ≡ length tags)
   pub kept : (tag : ℕ) → tag < length tags → Kept s left at tag (getD starts tag 0) (getD lengths tag 0)
 
-pub collect-first : (s : List ℕ) → checkOf s .number ≡ 0 → Collected s 0 (replicate (length tags) 0) (replicate (length tags) 0)
-unfolding offsetOf
-collect-first s e =
-    let sound = check-none s e in
+pub collect-first : (s : List ℕ) → length s ≤ 1024 → Collected s 0 (replicate (length tags) 0) (replicate (length tags) 0)
+unfolding offsetOf checkOf
+collect-first s short =
     record {
-      short = sound .short;
+      short = short;
       inside = omega arith;
       left = length s;
       enough = omega arith;
-      good = sound .walk;
+      rest = simp (le-ltb 1024 (length s) short);
       sizes = (refl, refl);
       kept = λ tag l. ahead (getD-replicate (length tags) tag 0 0 l) (getD-replicate (length tags) tag 0 0 l) refl;
     }
 
 module _ (s : List ℕ) (at : ℕ) (starts lengths : List ℕ) (c : Collected s at starts lengths) where
-  module _ (l : at < length s) where
-    -- a field begins here, and it is good
-    first-of : (k : ℕ) → length s ≤ at + k → walkOf k s at .number ≡ 0 → (j : ℕ) × (k ≡ suc j) × Good s at × (walkOf j s (after s at) .number ≡ 0)
-    first-of zero h e = absurd (omega arith)
-    first-of (suc j) h e = let w = walk-good j s at l e in (j, refl, fault-none s at (w .0), w .1)
+  -- a tag stands before the field here where it was collected
+  seen : (tag start size : ℕ) → Kept s (c .left) at tag start size → ltb 0 start ≡ ltb (firstBefore (length s) s tag 0 at) at
+  unfolding offsetOf
+  seen tag start size (ahead p q r) =
+      let later = find-from (c .left) s tag at (length s) at (omega arith) (c .inside) in
+      rw p (sym (le-ltb (firstBefore (length s) s tag 0 at) at (go (ltb (firstBefore (length s) s tag 0 at) at) refl)))
+    where
+      go : (b : Bool) → ltb (firstBefore (length s) s tag 0 at) at ≡ b → at ≤ firstBefore (length s) s tag 0 at
+      go true e =
+          let h = ltb-true (firstBefore (length s) s tag 0 at) at e in
+          let far = find-farther (length s) s tag 0 at (length s) (c .inside) h in
+          let later = find-from (c .left) s tag at (length s) at (omega arith) (c .inside) in
+          omega arith
+      go false e = ltb-false (firstBefore (length s) s tag 0 at) at e
+  seen tag start size (behind o p q) =
+      let e = find-sooner (length s) s tag 0 at (length s) (c .inside) o in
+      rw p (lt-ltb 0 (offsetOf s tag + 3) (omega arith) ∙ sym (lt-ltb (firstBefore (length s) s tag 0 at) at (omega arith)))
 
-    here : (j : ℕ) × (c .left ≡ suc j) × Good s at × (walkOf j s (after s at) .number ≡ 0)
-    here = first-of (c .left) (c .enough) (c .good)
+  -- so the field here is refused by what was collected as it is by looking back
+  pub fault-collected : faultIn (byteOf s at) (lengthAt s at) (ltb 0 (getD starts (byteOf s at) 0)) (length s - at) ≡ faultOf s at
+  unfolding faultOf faultIn
+  fault-collected = go (knownTag (byteOf s at)) refl
+    where
+      go : (b : Bool) → knownTag (byteOf s at) ≡ b
+          → faultIn (byteOf s at) (lengthAt s at) (ltb 0 (getD starts (byteOf s at) 0)) (length s - at) ≡ faultOf s at
+      go true e =
+          let l = known-last (byteOf s at) e in
+          ap (λ (again : Bool). faultIn (byteOf s at) (lengthAt s at) again (length s - at)) (seen (byteOf s at) _ _ (c .kept (byteOf s at) (omega arith)))
+      go false e = simp e
+
+  pub fault-here : (tag size n : ℕ) (again : Bool) → tag ≡ byteOf s at → size ≡ unsignedOf s (at + 1) → again ≡ ltb 0 (getD starts tag 0)
+      → n ≡ faultIn tag size again (length s - at) → n ≡ faultOf s at
+  unfolding lengthAt
+  fault-here tag size n again t z a e = e ∙ rw (a, t, z) fault-collected
+
+  module _ (l : at < length s) (f : faultOf s at ≡ 0) where
+    here : (j : ℕ) × (c .left ≡ suc j) × (walkOf (c .left) s at ≡ walkOf j s (after s at))
+    here = walk-on (c .left) s at (faultOf s at) (c .enough) l refl f
+
+    good : Good s at
+    good = fault-none s at f
 
     -- no tag has two fields
     pub tag-once : (start size : ℕ) → Kept s (c .left) at (byteOf s at) start size → offsetOf s (byteOf s at) ≡ at
     unfolding offsetOf
     tag-once start size (ahead p q r) = sym r ∙ find-here (c .left) s (byteOf s at) at (length s) (c .enough) l refl
     tag-once start size (behind o p q) =
-        absurd (omega (arith, here .2 .new, find-sooner (length s) s (byteOf s at) 0 at (length s) (c .inside) o))
+        absurd (omega (arith, good .new, find-sooner (length s) s (byteOf s at) 0 at (length s) (c .inside) o))
+
+    pub collect-short : lengthAt s at ≤ 255
+    collect-short = length-short (byteOf s at) (lengthAt s at) (good .fits)
 
     pub collect-room : byteOf s at < length tags
-    collect-room = let h = known-last (byteOf s at) (here .2 .known) in omega arith
+    collect-room = let h = known-last (byteOf s at) (good .known) in omega arith
 
     -- what is kept once it is passed: its own tag, and another
     abbrev Next : ℕ → Type 0
@@ -120,7 +174,7 @@ module _ (s : List ℕ) (at : ℕ) (starts lengths : List ℕ) (c : Collected s 
     unfolding valueOf
     own o =
         let room = collect-room in
-        let n = whole-length s at (here .2 .whole) in
+        let n = whole-length s at (good .whole) in
         behind (omega arith) (getD-set-same starts (byteOf s at) (at + 3) 0 (omega (arith, c .sizes .0)) ∙ omega arith)
         (getD-set-same lengths (byteOf s at) (lengthAt s at) 0 (omega (arith, c .sizes .1)) ∙ rw o (sym n))
 
@@ -145,10 +199,10 @@ module _ (s : List ℕ) (at : ℕ) (starts lengths : List ℕ) (c : Collected s 
     collect-on tag size is-tag is-size =
         rw (is-tag, is-size) (record {
           short = c .short;
-          inside = here .2 .whole;
+          inside = good .whole;
           left = here .0;
           enough = omega (arith, here .1, c .enough);
-          good = here .3;
+          rest = sym (here .2) ∙ c .rest;
           sizes = (length-set starts (byteOf s at) (at + 3) ∙ c .sizes .0, length-set lengths (byteOf s at) (lengthAt s at) ∙ c .sizes .1);
           kept = next;
         })
@@ -175,6 +229,20 @@ module _ (s : List ℕ) (at : ℕ) (starts lengths : List ℕ) (c : Collected s 
           let t : tag < length tags = omega (arith, c .sizes .0) in
           let e = ended end tag (getD starts tag 0) (getD lengths tag 0) (c .kept tag t) in
           (e .0 ∙ sym (tagged (startOf s) tag t), e .1 ∙ sym (tagged (λ x. length (valueOf s x)) tag t))
+
+  -- what refuses the field here refuses the order; at the end nothing does; and where nothing refuses the order, nothing refuses the field here
+  pub refused-here : (n : ℕ) → at < length s → n ≡ faultOf s at → (n ≡ 0 → ⊥) → checkOf s ≡ refusal n at
+  refused-here n l e f = sym (c .rest) ∙ walk-stop (c .left) s at n (c .enough) l e f
+
+  pub nothing-refused : length s ≤ at → checkOf s ≡ noRefusal
+  nothing-refused end = sym (c .rest) ∙ walk-end (c .left) s at end
+
+  pub sound-here : checkOf s .number ≡ 0 → at < length s → faultOf s at ≡ 0
+  sound-here e l = go (c .left) (c .enough) (ap (λ (r : Refusal). r .number) (c .rest) ∙ e)
+    where
+      go : (k : ℕ) → length s ≤ at + k → walkOf k s at .number ≡ 0 → faultOf s at ≡ 0
+      go zero h z = absurd (omega arith)
+      go (suc k) h z = walk-good k s at l z .0
 
 -- ---- so what the code holds of a checked order's fields gives what the order gives
 -- a list by tag at any number, where g is 0 of a number that is no tag
@@ -232,6 +300,20 @@ module _ (s : List ℕ) (e : checkOf s .number ≡ 0) where
       λ i. record { has = λ tag. has tag i; value = λ tag. value tag i; part = λ tag. record { at = starts tag i; length = lengths tag i } }
 
 -- ---- what checking and collecting give together
+pub checked-not : (s : List ℕ) (n at : ℕ) → checkOf s ≡ refusal n at → (n ≡ 0 → ⊥)
+    → _≡_ {A = Checked} (record { refusal = refusal n at; fields = noFields }) (checkedOf s)
+unfolding checkedOf
+checked-not s n at e f = rw e (simp (ne-eqb n 0 f))
+
+pub too-long : (s : List ℕ) → 1024 < length s → checkOf s ≡ refusal 1 0
+unfolding checkOf
+too-long s h = simp (lt-ltb 1024 (length s) h)
+
+pub checked-all : (s : List ℕ) (fields : Fields) → checkOf s ≡ noRefusal → fields ≡ fieldsOf s
+    → _≡_ {A = Checked} (record { refusal = noRefusal; fields = fields }) (checkedOf s)
+unfolding checkedOf
+checked-all s fields e same = rw (e, same) refl
+
 module _ (s : List ℕ) (checked : Checked) (e : checked ≡ checkedOf s) where
   pub checked-refusal : checked .refusal ≡ checkOf s
   unfolding checkedOf

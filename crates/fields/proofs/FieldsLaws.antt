@@ -4,16 +4,17 @@ use native.Mathlib.Omega.{arith}
 use Prim.Native.Nat.{ℕ, zero, suc, _≤_, _<_, _+_, _-_}
 use mathlib.Core.Path.{_≡_, refl, sym, ap, _∙_}
 use mathlib.Core.Bool.{Bool, true, false, cond, not, _&&_, and-eq-true-iff}
-use mathlib.Core.List.{List, []}
-use lib.ListN.{length, take, drop, length-take, length-drop, drop-of-length-le}
+use mathlib.Core.List.{List, [], _∷_}
+use lib.ListN.{length, getD, List·getD-eq-default, take, drop, length-take, length-drop, drop-of-length-le}
 use lib.Seq.{take-nil}
 use lib.Dec.{ltb, leb, eqb, lit≤}
 use borrow.Author.Tests.{lt-ltb, ltb-true, ltb-false, leb-true, eqb-true, eqb-false, not-false}
 use Rattle.refusals.specs.Refusals.{refusal, noRefusal}
 use Rattle.refusals.specs.declared.Refusal.{Refusal}
+use Rattle.fields.specs.declared.tags.Row.{Row}
 use Rattle.fields.specs.Numbers.{byteOf}
-use Rattle.fields.specs.Tags.{lastTag, column, knownTag, lengthFits}
-use Rattle.fields.specs.Fields.{lengthAt, after, firstBefore, valueFaultOf, faultOf, walkOf, checkOf}
+use Rattle.fields.specs.Tags.{tags, lastTag, column, knownTag, lengthFits}
+use Rattle.fields.specs.Fields.{lengthAt, after, firstBefore, valueFaultOf, faultIn, faultOf, walkOf, checkOf}
 use Rattle.fields.specs.Values.{offsetOf, hasOf, valueOf}
 
 -- ---- the table's limits
@@ -26,6 +27,33 @@ fits-between tag n e =
     let limits = leb (column tag 0) n && leb n (column tag 1) in
     let h = and-eq-true-iff (leb (column tag 0) n) (leb n (column tag 1)) .0 (and-eq-true-iff (leb tag lastTag) limits .0 e .1) in
     (leb-true (column tag 0) n (h .0), leb-true n (column tag 1) (h .1))
+
+-- no value has more bytes than a byte counts
+rows-short : List (List ℕ) → Bool
+rows-short [] = true
+rows-short (r ∷ rows) = leb (getD r 1 0) 255 && rows-short rows
+
+row-short : (rows : List (List ℕ)) → rows-short rows ≡ true → (tag : ℕ) → getD (getD rows tag []) 1 0 ≤ 255
+unfolding rows-short
+row-short [] e tag = lit≤ tt
+row-short (r ∷ rows) e zero = leb-true (getD r 1 0) 255 (and-eq-true-iff (leb (getD r 1 0) 255) (rows-short rows) .0 e .0)
+row-short (r ∷ rows) e (suc tag) = row-short rows (and-eq-true-iff (leb (getD r 1 0) 255) (rows-short rows) .0 e .1) tag
+
+pub length-short : (tag n : ℕ) → lengthFits tag n ≡ true → n ≤ 255
+unfolding rows-short
+length-short tag n e = let f = fits-between tag n e in let l = row-short tags refl tag in omega (arith, f .1, l)
+
+-- a tag that is none of the table's lies beyond it
+pub past : (k tag : ℕ) → k ≤ tag → (tag ≡ k → ⊥) → k + 1 ≤ tag
+past k tag l n = go (ltb k tag) refl
+  where
+    go : (b : Bool) → ltb k tag ≡ b → k + 1 ≤ tag
+    go true e = let h = ltb-true k tag e in omega arith
+    go false e = let h = ltb-false k tag e in absurd (n (omega arith))
+
+pub beyond-table : (tag : ℕ) → length tags ≤ tag
+    → _≡_ {A = Row} (record { shortest = 0; longest = 0; lowest = 0; highest = 0 }) (record { shortest = column tag 0; longest = column tag 1; lowest = column tag 2; highest = column tag 3 })
+beyond-table tag l = let e : getD tags tag [] ≡ [] = List·getD-eq-default tags [] l in simp e
 
 -- ---- a check that refuses nothing is passed, and a number that each check may give is not exceeded
 passed : (b : Bool) (x y : ℕ) → 1 ≤ x → cond b x y ≡ 0 → (b ≡ false) × (y ≡ 0)
@@ -48,7 +76,7 @@ pub record Good (s : List ℕ) (at : ℕ) : Type 0 where
   pub whole : after s at ≤ length s
 
 pub fault-none : (s : List ℕ) (at : ℕ) → faultOf s at ≡ 0 → Good s at
-unfolding faultOf valueFaultOf
+unfolding faultOf faultIn valueFaultOf
 fault-none s at e =
     let tag = byteOf s at in
     let first = firstBefore (length s) s tag 0 at in
@@ -131,7 +159,7 @@ value-missing s tag h =
 
 -- ---- the fields give no number over 3
 fault-small : (s : List ℕ) (at : ℕ) → faultOf s at ≤ 3
-unfolding faultOf valueFaultOf
+unfolding faultOf faultIn valueFaultOf
 fault-small s at =
     most (ltb (length s - at) 3) 1 _ 3 (lit≤ tt)
     (most (not (knownTag (byteOf s at))) 2 _ 3 (lit≤ tt)

@@ -2,7 +2,7 @@
 -- "Fields: one-byte tag, two-byte length (high byte first), value."
 use Prim.Native.Nat.{ℕ, zero, suc, _+_, _-_}
 use mathlib.Core.List.{List}
-use mathlib.Core.Bool.{cond, not}
+use mathlib.Core.Bool.{Bool, cond, not}
 use lib.ListN.{length}
 use lib.Dec.{ltb, eqb}
 use Rattle.refusals.specs.Refusals.{refusal, noRefusal, fieldCut, fieldUnknown, fieldAgain}
@@ -27,8 +27,8 @@ firstBefore zero s tag at stop = stop
 firstBefore (suc k) s tag at stop =
     cond (ltb at stop) (cond (eqb (byteOf s at) tag) at (firstBefore k s tag (after s at) stop)) stop
 
--- "field by field: header cut, unknown tag, tag again, wrong length, value cut": what the field at an offset is refused by, or 0; of its
--- value first, whose length is said to be n where so many bytes are left
+-- "field by field: header cut, unknown tag, tag again, wrong length, value cut": what a field is refused by, or 0; of its value
+-- first, whose length is said to be n where so many bytes are left
 unfoldable pub valueFaultOf : ℕ → ℕ → ℕ → ℕ
 valueFaultOf tag n left =
     -- wrong length
@@ -36,15 +36,21 @@ valueFaultOf tag n left =
     -- value cut
     (cond (ltb left n) fieldCut 0)
 
+-- `again` where a field with its tag stands before it, `left` the bytes from its tag byte on
+unfoldable pub faultIn : (tag n : ℕ) → (again : Bool) → (left : ℕ) → ℕ
+faultIn tag n again left =
+    -- header cut
+    cond (ltb left 3) fieldCut
+    -- unknown tag
+    (cond (not (knownTag tag)) fieldUnknown
+    -- tag again
+    (cond again fieldAgain
+    (valueFaultOf tag n (left - 3))))
+
 unfoldable pub faultOf : List ℕ → ℕ → ℕ
 faultOf s at =
-    -- header cut
-    cond (ltb (length s - at) 3) fieldCut
-    -- unknown tag
-    (cond (not (knownTag (byteOf s at))) fieldUnknown
-    -- tag again
-    (cond (ltb (firstBefore (length s) s (byteOf s at) 0 at) at) fieldAgain
-    (valueFaultOf (byteOf s at) (lengthAt s at) (length s - at - 3))))
+    let tag = byteOf s at in
+    faultIn tag (lengthAt s at) (ltb (firstBefore (length s) s tag 0 at) at) (length s - at)
 
 -- the first field that is refused, from an offset on. "Offsets are those of a field's tag byte."
 unfoldable pub walkOf : ℕ → List ℕ → ℕ → Refusal

@@ -1,12 +1,8 @@
-// What an order's fields give: by tag, the part of the order that is the tag's value. The fields are checked and collected once, and all that is
-// asked of them later is asked of what was collected.
+// What an order's fields give: by tag, the part of the order that is the tag's value. All that is asked of the fields once they are collected is
+// asked of that.
 ghost use mathlib.Core.Path.{_≡_};
-ghost use Rattle.fields.specs.Fields.{checkOf};
-ghost use Rattle.fields.specs.Values.{noFields, fieldsOf, checkedOf, hasIn, partFor, partIn, valuesIn};
-use super::numbers::byte;
+ghost use Rattle.fields.specs.Values.{noFields, hasIn, partFor, partIn, valuesIn};
 use super::tags::TAGS;
-use super::walk::check;
-use super::walk::length_at;
 use refusals::Refusal;
 
 // Where a value stands in its order. Both are 0 where there is none: no value begins before 3.
@@ -15,10 +11,10 @@ pub struct Part {
     pub length: u32,
 }
 
-// The part of each tag, by tag.
+// The part of each tag, by tag. An order has no more than 1,024 bytes, and a value no more than 40: the less there is to hand on, the faster.
 pub struct Fields {
-    pub at: [u32; TAGS],
-    pub length: [u32; TAGS],
+    pub at: [u16; TAGS],
+    pub length: [u8; TAGS],
 }
 
 // What refuses the form of the fields, and the fields where nothing does.
@@ -28,7 +24,7 @@ pub struct Checked {
 }
 
 impl Fields {
-    fn none() -> Fields
+    pub(crate) fn none() -> Fields
         ensures { λ r. ⌜ r ≡ noFields ⌝ }
     {
         Fields {
@@ -43,8 +39,8 @@ impl Fields {
         let row = tag as usize;
         if row < TAGS {
             return Part {
-                at: self.at[row],
-                length: self.length[row],
+                at: self.at[row] as u32,
+                length: self.length[row] as u32,
             };
         }
         Part { at: 0, length: 0 }
@@ -79,41 +75,4 @@ pub fn value(order: &[u8], fields: Fields, tag: u32) -> &[u8]
     ensures { λ r. ⌜ now r ≡ valuesIn (now (order .entry)) fields .value tag ⌝ }
 {
     bytes(order, fields.part(tag))
-}
-
-// One walk over the fields of an order that `check` passes.
-fn collect(order: &[u8]) -> Fields
-    requires { ⌜ checkOf (now order) .number ≡ 0 ⌝ }
-    ensures { λ r. ⌜ r ≡ fieldsOf (now (order .entry)) ⌝ }
-{
-    let mut starts = [0u32; TAGS];
-    let mut lengths = [0u32; TAGS];
-    let mut at = 0;
-    while at < order.len() {
-        let tag = byte(order, at) as usize;
-        let length = length_at(order, at);
-        starts[tag] = at as u32 + 3;
-        lengths[tag] = length;
-        at = at + 3 + length as usize;
-    }
-    Fields {
-        at: starts,
-        length: lengths,
-    }
-}
-
-pub fn fields_of(order: &[u8]) -> Checked
-    ensures { λ r. ⌜ r ≡ checkedOf (now (order .entry)) ⌝ }
-{
-    let refusal = check(order);
-    if refusal.number != 0 {
-        return Checked {
-            refusal: refusal,
-            fields: Fields::none(),
-        };
-    }
-    Checked {
-        refusal: refusal,
-        fields: collect(order),
-    }
 }

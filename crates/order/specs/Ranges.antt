@@ -70,29 +70,30 @@ ramadanFits v = leb (byteOf v 0) 30 && leb (byteOf v 1) 2
 unfoldable pub ramadanRows : Bool → List ℕ → Bool
 ramadanRows set v = cond set (eqb (rowsIn v) 30) true
 
--- the ranges by tag of what an order gives, beside those of a choice's number, which stand in the table of tags
-abbrev pub ranges : Values → List (ℕ × Bool)
-ranges v =
+-- the ranges by tag of a value, beside those of a choice's number, which stand in the table of tags: rows go by the order's date too, and by whether
+-- it has tag 20
+abbrev pub ranges : List ℕ → (date : Date) → (ramadan : Bool) → List (ℕ × Bool)
+ranges v date ramadan =
     -- town, date, and rows from the date on
-    (1, textFits (v .value 1))
-    ∷ (2, dateFits (dateIn (v .value 2)))
-    ∷ (3, rowsFit (dateIn (v .value 2)) (v .value 3) && ramadanRows (v .has 20) (v .value 3))
+    (1, textFits v)
+    ∷ (2, dateFits (dateIn v))
+    ∷ (3, rowsFit date v && ramadanRows ramadan v)
     -- latitude, longitude
-    ∷ (4, degreesFit (neg (dec 90 0)) (dec 90 0) (v .value 4))
-    ∷ (5, degreesFit (neg (dec 180 0)) (dec 180 0) (v .value 5))
+    ∷ (4, degreesFit (neg (dec 90 0)) (dec 90 0) v)
+    ∷ (5, degreesFit (neg (dec 180 0)) (dec 180 0) v)
     -- own minutes
-    ∷ (11, minutesFit (minutesIn (v .value 11)))
+    ∷ (11, minutesFit (minutesIn v))
     -- Fajr angle, Isha angle, Isha interval
-    ∷ (12, degreesFit (dec 0 0) (dec 30 0) (v .value 12))
-    ∷ (13, degreesFit (dec 0 0) (dec 30 0) (v .value 13))
-    ∷ (14, intervalFits (v .value 14))
+    ∷ (12, degreesFit (dec 0 0) (dec 30 0) v)
+    ∷ (13, degreesFit (dec 0 0) (dec 30 0) v)
+    ∷ (14, intervalFits v)
     -- clock
-    ∷ (16, clockFits (v .value 16))
+    ∷ (16, clockFits v)
     -- latitude, longitude as on the map
-    ∷ (18, formFits mostLatitude (formIn (v .value 18)))
-    ∷ (19, formFits mostLongitude (formIn (v .value 19)))
+    ∷ (18, formFits mostLatitude (formIn v))
+    ∷ (19, formFits mostLongitude (formIn v))
     -- Ramadan
-    ∷ (20, ramadanFits (v .value 20))
+    ∷ (20, ramadanFits v)
     ∷ []
 
 -- what a list by tag has for a tag, and else another answer
@@ -100,8 +101,11 @@ unfoldable pub lookUp : ℕ → List (ℕ × Bool) → Bool → Bool
 lookUp tag [] otherwise = otherwise
 lookUp tag (entry ∷ rest) otherwise = cond (eqb tag (entry .0)) (entry .1) (lookUp tag rest otherwise)
 
-unfoldable pub fitsOf : Values → ℕ → Bool
-fitsOf v tag = lookUp tag (ranges v) (choiceFits tag (byteOf (v .value tag) 0))
+unfoldable pub fitsIn : ℕ → List ℕ → (date : Date) → (ramadan : Bool) → Bool
+fitsIn tag v date ramadan = lookUp tag (ranges v date ramadan) (choiceFits tag (byteOf v 0))
+
+abbrev pub fitsOf : Values → ℕ → Bool
+fitsOf v tag = fitsIn tag (v .value tag) (dateIn (v .value 2)) (v .has 20)
 
 -- a tag that the order lacks has nothing out of range
 unfoldable pub inRangeOf : Values → ℕ → Bool

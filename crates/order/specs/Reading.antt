@@ -75,15 +75,14 @@ unfoldable pub firstOf : List Refusal → Order → Reading
 firstOf [] order = Read order
 firstOf (r ∷ rest) order = cond (eqb (r .number) 0) (firstOf rest order) (Refused r)
 
--- the form of the fields (1, 2, 3), missing tags (4), both forms of a coordinate (15), "after missing tags and before ranges", ranges (5), and the
--- start of a Ramadan sheet (18), "after all ranges and before the day"
+-- of what an order gives: missing tags (4), both forms of a coordinate (15), "after missing tags and before ranges", ranges (5), and the start of a
+-- Ramadan sheet (18), "after all ranges and before the day"
+abbrev pub checksOf : Values → List Refusal
+checksOf v = missingOf (v .has) ∷ bothFormsOf (v .has) ∷ outOfRangeOf v ∷ wrongStartOf (orderOf v .ramadan) (orderOf v .date) ∷ []
+
+-- and before them the form of the fields (1, 2, 3)
 unfoldable pub readingOf : List ℕ → Reading
-readingOf s =
-    let v = valuesOf s in
-    let order = orderOf v in
-    firstOf
-    (checkOf s ∷ missingOf (v .has) ∷ bothFormsOf (v .has) ∷ outOfRangeOf v ∷ wrongStartOf (order .ramadan) (order .date) ∷ [])
-    order
+readingOf s = firstOf (checkOf s ∷ checksOf (valuesOf s)) (orderOf (valuesOf s))
 
 -- "The town's name is handed back as that part of the order itself, an empty part where the order is refused."
 abbrev pub townIn : List ℕ → Reading → List ℕ

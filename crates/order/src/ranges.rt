@@ -1,7 +1,9 @@
 // What stands inside a right length: the range of each tag's value. Range ends are allowed.
 ghost use mathlib.Core.Path.{_≡_};
-ghost use Rattle.fields.specs.Values.{valuesIn};
-ghost use Rattle.order.specs.Ranges.{textFits, dateFits, mostIn, rowsFit, degreesFit, minuteFits, minutesFit, intervalFits, clockFits, ramadanFits, ramadanRows, fitsOf, inRangeOf};
+ghost use mathlib.Core.Bool.{true, cond};
+ghost use lib.Dec.{ltb};
+ghost use Rattle.fields.specs.Values.{partIn};
+ghost use Rattle.order.specs.Ranges.{textFits, dateFits, mostIn, rowsFit, degreesFit, minuteFits, minutesFit, intervalFits, clockFits, ramadanFits, ramadanRows, fitsIn};
 use super::given::date_in;
 use super::given::degrees_in;
 use super::given::form_in;
@@ -13,8 +15,8 @@ use fields::numbers::byte;
 use fields::numbers::signed;
 use fields::numbers::unsigned;
 use fields::tags::choice_fits;
-use fields::values::Fields;
-use fields::values::value;
+use fields::values::Part;
+use fields::values::bytes;
 use map_form::reading::latitude_fits;
 use map_form::reading::longitude_fits;
 use models::adjustments::TimeAdjustment;
@@ -61,7 +63,8 @@ fn most_in(bytes: &[u8]) -> u32
     MOST_IN_ONE_BYTE
 }
 
-// The last row is the one with one less row before it than there are; its year decides, since the last year is allowed to its end.
+// The last row is the one with one less row before it than there are; its year decides, since the last year is allowed to its end. No order
+// that begins two years or more before the last has rows enough to pass it.
 fn rows_fit(date: Date, bytes: &[u8]) -> bool
     ensures { λ r. ⌜ r ≡ rowsFit date (now (bytes .entry)) ⌝ }
 {
@@ -70,8 +73,14 @@ fn rows_fit(date: Date, bytes: &[u8]) -> bool
     if rows < 1 {
         return false;
     }
+    if most < rows {
+        return false;
+    }
+    if date.year < LAST_YEAR - 1 {
+        return true;
+    }
     let last = date.row(rows - 1);
-    (rows <= most) & (last.year <= LAST_YEAR)
+    last.year <= LAST_YEAR
 }
 
 // A NaN passes no comparison.
@@ -125,17 +134,15 @@ fn ramadan_rows(set: bool, bytes: &[u8]) -> bool
     true
 }
 
-// A row for each tag whose value is no choice's number: those stand in the table of tags.
-fn fits(order: &[u8], fields: Fields, tag: u32) -> bool
-    ensures { λ r. ⌜ r ≡ fitsOf (valuesIn (now (order .entry)) fields) tag ⌝ }
+// A row for each tag whose value is no choice's number: those stand in the table of tags. Rows go by the order's date too, and by whether it has
+// tag 20.
+fn fits(tag: u32, bytes: &[u8], date: Date, ramadan: bool) -> bool
+    ensures { λ r. ⌜ r ≡ fitsIn tag (now (bytes .entry)) date ramadan ⌝ }
 {
-    let bytes = value(order, fields, tag);
     match tag {
         1 => text_fits(bytes),
         2 => date_fits(date_in(bytes)),
-        3 => {
-            rows_fit(date_in(value(order, fields, 2)), bytes) & ramadan_rows(fields.has(20), bytes)
-        }
+        3 => rows_fit(date, bytes) & ramadan_rows(ramadan, bytes),
         4 => degrees_fit(bytes, -90.0, 90.0),
         5 => degrees_fit(bytes, -180.0, 180.0),
         11 => minutes_fit(minutes_in(bytes)),
@@ -151,11 +158,11 @@ fn fits(order: &[u8], fields: Fields, tag: u32) -> bool
 }
 
 // A tag that the order lacks has nothing out of range.
-pub fn in_range(order: &[u8], fields: Fields, tag: u32) -> bool
-    ensures { λ r. ⌜ r ≡ inRangeOf (valuesIn (now (order .entry)) fields) tag ⌝ }
+pub fn in_range(tag: u32, order: &[u8], part: Part, date: Date, ramadan: bool) -> bool
+    ensures { λ r. ⌜ r ≡ cond (ltb 0 (part .at)) (fitsIn tag (partIn (now (order .entry)) part) date ramadan) true ⌝ }
 {
-    if fields.has(tag) {
-        fits(order, fields, tag)
+    if part.at > 0 {
+        fits(tag, bytes(order, part), date, ramadan)
     } else {
         true
     }

@@ -1,7 +1,7 @@
 // Reading an order: the form of its fields, then missing tags, then coordinates in both forms, then ranges, then the first day of a Ramadan sheet.
 ghost use mathlib.Core.Path.{_≡_};
 ghost use Rattle.fields.specs.Values.{hasIn, valuesIn};
-ghost use Rattle.order.specs.Reading.{isGivenOf, missingOf, bothFormsOf, outOfRangeOf, orderOf, wrongStartOf, readingOf, townOf};
+ghost use Rattle.order.specs.Reading.{isGivenOf, missingOf, bothFormsOf, outOfRangeOf, orderOf, wrongStartOf, firstOf, checksOf, readingOf, townOf};
 use super::given::clock_in;
 use super::given::coordinate_in;
 use super::given::date_in;
@@ -11,11 +11,11 @@ use super::given::rows_in;
 use super::given::rules_in;
 use super::ranges::in_range;
 use calendar::dates::Date;
+use fields::one_pass::fields_of;
 use fields::tags::LAST_TAG;
 use fields::values::Fields;
 use fields::values::Part;
 use fields::values::bytes;
-use fields::values::fields_of;
 use fields::values::value;
 use hijri::ramadan::Ramadan;
 use hijri::ramadan::is_ramadan_start;
@@ -97,10 +97,19 @@ fn both_forms(fields: Fields) -> Refusal
 fn out_of_range(order: &[u8], fields: Fields) -> Refusal
     ensures { λ r. ⌜ r ≡ outOfRangeOf (valuesIn (now (order .entry)) fields) ⌝ }
 {
+    let starts = fields.at;
+    let lengths = fields.length;
+    let date = date_in(value(order, fields, 2));
+    let ramadan = fields.has(20);
     let mut passed = 0;
     while passed < LAST_TAG {
         let tag = passed + 1;
-        if !in_range(order, fields, tag) {
+        let row = tag as usize;
+        let part = Part {
+            at: starts[row] as u32,
+            length: lengths[row] as u32,
+        };
+        if !in_range(tag, order, part, date, ramadan) {
             return Refusal::new(OUT_OF_RANGE, tag);
         }
         passed = tag;
@@ -130,21 +139,19 @@ fn record_in(order: &[u8], fields: Fields) -> Order
 fn wrong_start(ramadan: Ramadan, date: Date) -> Refusal
     ensures { λ r. ⌜ r ≡ wrongStartOf ramadan date ⌝ }
 {
-    if ramadan.set & !is_ramadan_start(date.day_number(), ramadan.shift) {
+    if ramadan.set {
+        if is_ramadan_start(date.day_number(), ramadan.shift) {
+            return Refusal::none();
+        }
         return Refusal::new(NOT_FIRST_OF_RAMADAN, 2);
     }
     Refusal::none()
 }
 
-pub fn read(order: &[u8]) -> Reading
-    ensures { λ r. ⌜ r ≡ readingOf (now (order .entry)) ⌝ }
+// What is answered of the fields once their form is right, whichever reader collected them: no walk over the bytes is left.
+pub(crate) fn answer(order: &[u8], fields: Fields) -> Reading
+    ensures { λ r. ⌜ r ≡ firstOf (checksOf (valuesIn (now (order .entry)) fields)) (orderOf (valuesIn (now (order .entry)) fields)) ⌝ }
 {
-    let checked = fields_of(order);
-    let broken = checked.refusal;
-    if broken.number != 0 {
-        return Reading::Refused(broken);
-    }
-    let fields = checked.fields;
     let lacking = missing(fields);
     let doubled = both_forms(fields);
     let outside = out_of_range(order, fields);
@@ -163,6 +170,17 @@ pub fn read(order: &[u8]) -> Reading
         return Reading::Refused(astray);
     }
     Reading::Read(record)
+}
+
+pub fn read(order: &[u8]) -> Reading
+    ensures { λ r. ⌜ r ≡ readingOf (now (order .entry)) ⌝ }
+{
+    let checked = fields_of(order);
+    let broken = checked.refusal;
+    if broken.number != 0 {
+        return Reading::Refused(broken);
+    }
+    answer(order, checked.fields)
 }
 
 // The town's name, as the part of the order that it is; an empty part where the order is refused.

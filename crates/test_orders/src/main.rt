@@ -1,6 +1,7 @@
 // Reads orders, good and damaged, each behind two bytes of its length, made by
 //     tests/orders/cases.py stdin stdout
-// and writes a line for each: number and place of its refusal; or 0, 0 and what it gives. A float stands by its bits.
+// and writes two lines for each, what the reader answers and what the plain reader does: number and place of its refusal; or 0, 0 and what it
+// gives. A float stands by its bits.
 ghost use mathlib.Core.Path.{_≡_};
 ghost use lib.IntN.{natAbs};
 ghost use Rattle.test_orders.specs.Numbers.{unsignedNumbersOf, signedNumbersOf};
@@ -8,10 +9,10 @@ use fields::numbers::unsigned;
 use float64::bits::to_bits;
 use libc::STDIN_FILENO;
 use libc::STDOUT_FILENO;
+use order::plain;
+use order::reading;
 use order::reading::Order;
 use order::reading::Reading;
-use order::reading::read;
-use order::reading::town;
 
 fn wide(n: u32) -> u64
     ensures { λ r. ⌜ r ≡ n ⌝ }
@@ -132,8 +133,8 @@ fn print_record(order: Order) {
     print_ramadan(order);
 }
 
-fn answer(order: &[u8]) {
-    match read(order) {
+fn print_answer(reading: Reading, town: &[u8]) {
+    match reading {
         Reading::Read(given) => {
             print(0);
             print(0);
@@ -144,8 +145,13 @@ fn answer(order: &[u8]) {
             print(wide(refusal.place));
         }
     }
-    io::write_all(STDOUT_FILENO, town(order));
+    io::write_all(STDOUT_FILENO, town);
     io::write_all(STDOUT_FILENO, b"\n");
+}
+
+fn answer(order: &[u8]) {
+    print_answer(reading::read(order), reading::town(order));
+    print_answer(plain::read(order), plain::town(order));
 }
 
 // The next order, of so many bytes, and its line. One that is longer than the space, which the list has none of, is left unread.

@@ -93,6 +93,33 @@ extern "C" {
     fn katchidul_write_row(order: *const u8, length: usize, row: u32, buffer: *mut u8, size: usize) -> KatchidulReply;
 }
 
+/// What the plain reader answers: the first of a host's fields.
+#[repr(C)]
+pub struct ProbePlain {
+    numbers: [u32; 8],
+    place: [f64; 2],
+}
+
+impl ProbePlain {
+    pub fn fields(&self) -> [u64; PLAIN_FIELDS] {
+        let mut fields = [0; PLAIN_FIELDS];
+        fields[..8].copy_from_slice(&self.numbers.map(u64::from));
+        fields[8..].copy_from_slice(&self.place.map(f64::to_bits));
+        fields
+    }
+}
+
+pub const PLAIN_FIELDS: usize = 10;
+
+#[link(name = "probes", kind = "static")]
+extern "C" {
+    fn probe_plain(order: *const u8, length: usize) -> ProbePlain;
+}
+
+pub fn read_plainly(order: &[u8]) -> ProbePlain {
+    unsafe { probe_plain(order.as_ptr(), order.len()) }
+}
+
 pub fn read_order(order: &[u8]) -> KatchidulOrder {
     unsafe { katchidul_read_order(order.as_ptr(), order.len()) }
 }

@@ -5,15 +5,15 @@ use crate::day_draw::Instant;
 use crate::draw::Draw;
 use crate::order_damage::KINDS;
 use crate::order_owed::{InstantAnswers, Order, FARTHEST};
-use crate::order_port::{self, KatchidulDay, KatchidulOrder, ORDER_FIELDS};
+use crate::order_port::{self, KatchidulDay, KatchidulOrder, ORDER_FIELDS, PLAIN_FIELDS};
 use crate::row_written::Written;
 use crate::summary::Line;
 use crate::threads::shared;
 use salah_probes::schedule::{access, PrayerTimes};
 
 /// What is compared, a line of the table each. The fields of the order that was read come first.
-const LINES: [&str; BUFFER + 1] = {
-    let mut lines = [""; BUFFER + 1];
+const LINES: [&str; PLAIN + 1] = {
+    let mut lines = [""; PLAIN + 1];
     let mut line = 0;
     while line < ORDER_FIELDS.len() {
         lines[line] = ORDER_FIELDS[line];
@@ -22,6 +22,7 @@ const LINES: [&str; BUFFER + 1] = {
     (lines[NUMBER], lines[PLACE], lines[TIMES]) = ("day's number", "day's place", "nine times");
     (lines[PRAYER], lines[NEXT], lines[REMAINING]) = ("prayer in force", "next prayer", "time remaining");
     (lines[REPLY], lines[BUFFER]) = ("written row's reply", "written row's buffer");
+    lines[PLAIN] = "plain reader";
     lines
 };
 /// What reading an order can be refused by, and 0.
@@ -34,6 +35,7 @@ const NEXT: usize = ORDER_FIELDS.len() + 4;
 const REMAINING: usize = ORDER_FIELDS.len() + 5;
 const REPLY: usize = ORDER_FIELDS.len() + 6;
 const BUFFER: usize = ORDER_FIELDS.len() + 7;
+const PLAIN: usize = ORDER_FIELDS.len() + 8;
 
 pub struct Orders {
     counts: Counts<{ LINES.len() }>,
@@ -87,6 +89,8 @@ impl Orders {
                 format!("port {ours:?}, owed {owed:?}, order {}", hexadecimal(order.bytes))
             });
         }
+        let plain = order_port::read_plainly(order.bytes).fields();
+        self.counts.add(PLAIN, plain == owed_fields[..PLAIN_FIELDS], || format!("owed {owed:?}, order {}", hexadecimal(order.bytes)));
     }
 
     fn day(&mut self, order: &Order, row: u32, day: &Result<PrayerTimes, Refusal>) {
@@ -181,7 +185,8 @@ impl Orders {
             self.counts.line("orders: fields read, or the refusal", 0..NUMBER),
             self.counts.line("orders: nine times of a row, or the refusal", NUMBER..PRAYER),
             self.counts.line("orders: prayer, next and remaining at an instant", PRAYER..REPLY),
-            self.counts.line("orders: a row written, and every byte of the buffer", REPLY..LINES.len()),
+            self.counts.line("orders: a row written, and every byte of the buffer", REPLY..PLAIN),
+            self.counts.line("orders: the plain reader's first fields, or its refusal", PLAIN..LINES.len()),
         ]
     }
 }

@@ -1,19 +1,11 @@
--- `fields::tags::length_fits` meets its contract: the table is the definition's.
-use borrow.Author.Needs.{needs}
-use borrow.Author.Tests.{le-leb, lt-leb}
+-- `fields::tags::length_fits` meets its contract.
 use Rattle.fields.specs.Tags.{lengthFits}
 use Rattle.fields.proofs.tags.length_fits.Statement.{statement}
 use Rattle.fields.proofs.tags.length_fits.Tie as tie
 
 returns : tie.Need-returns
 unfolding lengthFits
-returns c = simp (lt-leb _ _ (c .if1 .taken))
-
-returns-2 : tie.Need-returns-2
-unfolding lengthFits
-returns-2 c = simp (le-leb _ _ (c .before .if1 .left))
+returns c = simp (c .before .before .row-of .ensures)
 
 pub length-fits-spec : {M : Type 1} → statement M
-length-fits-spec =
-    tie.close
-    (tie.spec returns (λ c. search needs) (λ c. search needs) (λ c. search needs) (λ c. search needs) returns-2)
+length-fits-spec = tie.close (tie.spec (λ c κs. tt) returns)

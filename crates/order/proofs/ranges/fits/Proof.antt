@@ -2,83 +2,70 @@
 use borrow.Author.Tests.{ne-eqb}
 use lib.Ieee.{neg, ofBits, round}
 use Rattle.float64.specs.Ops.{dec}
-use Rattle.fields.specs.Values.{valuesIn}
-use Rattle.order.specs.Ranges.{lookUp, fitsOf}
+use Rattle.order.specs.Ranges.{lookUp, fitsIn}
 use Rattle.order.proofs.ranges.fits.Statement.{statement}
 use Rattle.order.proofs.ranges.fits.Tie as tie
 
 returns : tie.Need-returns
-unfolding fitsOf lookUp
-returns c = simp (c .text-fits .ensures, c .before .before .value .ensures, c .before .match .keys1)
+unfolding fitsIn lookUp
+returns c = simp (c .text-fits .ensures, c .before .match .keys1)
 
 returns-2 : tie.Need-returns-2
-unfolding fitsOf lookUp
-returns-2 c = simp (c .date-fits .ensures, c .before .date-in .ensures, c .before .before .before .value .ensures, c .before .before .match .keys2)
+unfolding fitsIn lookUp
+returns-2 c = simp (c .date-fits .ensures, c .before .date-in .ensures, c .before .before .match .keys2)
 
 returns-3 : tie.Need-returns-3
-unfolding fitsOf lookUp valuesIn
-returns-3 c =
-    let f = c .before .before in
-    let d = f .before .before in
-    simp (
-      c .ramadan-rows .ensures,
-      c .before .has .ensures,
-      f .rows-fit .ensures,
-      f .before .date-in2 .ensures,
-      d .value2 .ensures,
-      d .before .before .value .ensures,
-      d .before .match .keys3,
-    )
+unfolding fitsIn lookUp
+returns-3 c = simp (c .ramadan-rows .ensures, c .before .rows-fit .ensures, c .before .before .match .keys3)
 
 returns-4 : tie.Need-returns-4
-unfolding fitsOf lookUp dec round ofBits neg
-returns-4 c = simp (c .degrees-fit .ensures, c .before .before .value .ensures, c .before .match .keys4)
+unfolding fitsIn lookUp dec round ofBits neg
+returns-4 c = simp (c .degrees-fit .ensures, c .before .match .keys4)
 
 returns-5 : tie.Need-returns-5
-unfolding fitsOf lookUp dec round ofBits neg
-returns-5 c = simp (c .degrees-fit2 .ensures, c .before .before .value .ensures, c .before .match .keys5)
+unfolding fitsIn lookUp dec round ofBits neg
+returns-5 c = simp (c .degrees-fit2 .ensures, c .before .match .keys5)
 
 returns-6 : tie.Need-returns-6
-unfolding fitsOf lookUp
-returns-6 c = simp (c .minutes-fit .ensures, c .before .minutes-in .ensures, c .before .before .before .value .ensures, c .before .before .match .keys6)
+unfolding fitsIn lookUp
+returns-6 c = simp (c .minutes-fit .ensures, c .before .minutes-in .ensures, c .before .before .match .keys6)
 
 returns-7 : tie.Need-returns-7
-unfolding fitsOf lookUp dec round ofBits neg
-returns-7 c = simp (c .degrees-fit3 .ensures, c .before .before .value .ensures, c .before .match .keys7)
+unfolding fitsIn lookUp dec round ofBits neg
+returns-7 c = simp (c .degrees-fit3 .ensures, c .before .match .keys7)
 
 returns-8 : tie.Need-returns-8
-unfolding fitsOf lookUp dec round ofBits neg
-returns-8 c = simp (c .degrees-fit4 .ensures, c .before .before .value .ensures, c .before .match .keys8)
+unfolding fitsIn lookUp dec round ofBits neg
+returns-8 c = simp (c .degrees-fit4 .ensures, c .before .match .keys8)
 
 returns-9 : tie.Need-returns-9
-unfolding fitsOf lookUp
-returns-9 c = simp (c .interval-fits .ensures, c .before .before .value .ensures, c .before .match .keys9)
+unfolding fitsIn lookUp
+returns-9 c = simp (c .interval-fits .ensures, c .before .match .keys9)
 
 returns-10 : tie.Need-returns-10
-unfolding fitsOf lookUp
-returns-10 c = simp (c .clock-fits .ensures, c .before .before .value .ensures, c .before .match .keys10)
+unfolding fitsIn lookUp
+returns-10 c = simp (c .clock-fits .ensures, c .before .match .keys10)
 
 returns-11 : tie.Need-returns-11
-unfolding fitsOf lookUp
-returns-11 c = simp (c .latitude-fits .ensures, c .before .form-in .ensures, c .before .before .before .value .ensures, c .before .before .match .keys11)
+unfolding fitsIn lookUp
+returns-11 c = simp (c .latitude-fits .ensures, c .before .form-in .ensures, c .before .before .match .keys11)
 
 returns-12 : tie.Need-returns-12
-unfolding fitsOf lookUp
-returns-12 c = simp (c .longitude-fits .ensures, c .before .form-in2 .ensures, c .before .before .before .value .ensures, c .before .before .match .keys12)
+unfolding fitsIn lookUp
+returns-12 c = simp (c .longitude-fits .ensures, c .before .form-in2 .ensures, c .before .before .match .keys12)
 
 returns-13 : tie.Need-returns-13
-unfolding fitsOf lookUp
-returns-13 c = simp (c .ramadan-fits .ensures, c .before .before .value .ensures, c .before .match .keys13)
+unfolding fitsIn lookUp
+returns-13 c = simp (c .ramadan-fits .ensures, c .before .match .keys13)
 
 returns-14 : tie.Need-returns-14
-unfolding fitsOf lookUp
+unfolding fitsIn lookUp
 returns-14 c =
     let m = c .before .before in
     let r = m .match .rest in
     simp (
       c .choice-fits .ensures,
       c .before .byte .ensures .0,
-      m .before .value .ensures,
       ne-eqb _ 1 (r .0 .0 .0 .0 .0 .0 .0 .0 .0 .0 .0 .0 .1),
       ne-eqb _ 2 (r .0 .0 .0 .0 .0 .0 .0 .0 .0 .0 .0 .1),
       ne-eqb _ 3 (r .0 .0 .0 .0 .0 .0 .0 .0 .0 .0 .1),
@@ -97,4 +84,4 @@ returns-14 c =
 pub fits-spec : {M : Type 1} → statement M
 fits-spec =
     tie.close
-    (tie.spec (λ c κs. tt) (λ c κs. tt) (λ c κs. tt) (λ c κs. tt) (λ c κs. tt) (λ c κs. tt) (λ c κs. tt) (λ c κs. tt) (λ c κs. tt) (λ c κs. tt) (λ c κs. tt) (λ c κs. tt) (λ c κs. tt) (λ c κs. tt) (λ c κs. tt) (λ c κs. tt) (λ c κs. tt) (λ c κs. tt) (λ c κs. tt) (λ c κs. tt) (λ c κs. tt) (λ c κs. tt) (λ c κs. tt) (λ c κs. tt) returns returns-2 returns-3 returns-4 returns-5 returns-6 returns-7 returns-8 returns-9 returns-10 returns-11 returns-12 returns-13 returns-14)
+    (tie.spec (λ c κs. tt) (λ c κs. tt) (λ c κs. tt) (λ c κs. tt) (λ c κs. tt) (λ c κs. tt) (λ c κs. tt) (λ c κs. tt) (λ c κs. tt) (λ c κs. tt) (λ c κs. tt) (λ c κs. tt) (λ c κs. tt) (λ c κs. tt) (λ c κs. tt) (λ c κs. tt) (λ c κs. tt) (λ c κs. tt) (λ c κs. tt) (λ c κs. tt) returns returns-2 returns-3 returns-4 returns-5 returns-6 returns-7 returns-8 returns-9 returns-10 returns-11 returns-12 returns-13 returns-14)

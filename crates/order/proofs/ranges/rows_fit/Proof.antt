@@ -1,7 +1,10 @@
--- `order::ranges::rows_fit` meets its contract.
-use mathlib.Core.Path.{sym}
+-- `order::ranges::rows_fit` meets its contract: a line for each test, with those before it passed.
+use mathlib.Core.Path.{sym, _∙_}
 use borrow.Author.Tests.{le-leb, lt-leb}
+use denote.Ref.{now}
 use Rattle.order.specs.Ranges.{rowsFit}
+use Rattle.order.proofs.RowDates.{rows-early}
+use borrow.Author.Needs.{needs}
 use Rattle.order.proofs.ranges.rows_fit.Statement.{statement}
 use Rattle.order.proofs.ranges.rows_fit.Tie as tie
 
@@ -12,8 +15,28 @@ returns c = simp (sym (c .before .before .rows-in .ensures), lt-leb _ _ (c .if1 
 returns-2 : tie.Need-returns-2
 unfolding rowsFit
 returns-2 c =
-    let q = c .before .before .before in
-    simp (c .before .row .ensures, sym (q .most-in .ensures), sym (q .before .rows-in .ensures), le-leb _ _ (c .before .before .if1 .left))
+    let m = c .before .before in
+    simp (sym (m .most-in .ensures), sym (m .before .rows-in .ensures), le-leb _ _ (c .before .if1 .left), lt-leb _ _ (c .if2 .taken))
+
+returns-3 : tie.Need-returns-3
+returns-3 c =
+    let m = c .before .before .before .before in
+    let a = m .before .before .before .args in
+    sym (rows-early (a .date) (now (a .bytes)) (m .before .rows-in .result) (m .most-in .result) (m .before .rows-in .ensures) (m .most-in .ensures) (c .if3 .taken) (c .before .before .before .if1 .left) (c .before .before .if2 .left))
+
+returns-4 : tie.Need-returns-4
+unfolding rowsFit
+returns-4 c =
+    let n = c .before .before .before .before in
+    let m = n .before .before in
+    simp (
+      c .before .row .ensures,
+      sym (m .most-in .ensures),
+      sym (m .before .rows-in .ensures),
+      le-leb _ _ (n .before .if1 .left),
+      le-leb _ _ (n .if2 .left),
+    )
 
 pub rows-fit-spec : {M : Type 1} → statement M
-rows-fit-spec = tie.close (tie.spec (λ c κs. tt) (λ c κs. tt) returns (λ c κs. tt) returns-2)
+rows-fit-spec =
+    tie.close (tie.spec (λ c κs. tt) (λ c κs. tt) returns returns-2 (λ c. search needs) returns-3 (λ c κs. tt) returns-4)

@@ -1,14 +1,20 @@
 -- `order::reading::out_of_range` meets its contract. The invariant: the first that fails from here on is the first of all.
 use borrow.Author.Needs.{needs}
 use native.Mathlib.Omega.{arith}
-use Prim.Native.Nat.{_-_, _≤_}
+use Prim.Native.Nat.{ℕ, _-_, _≤_}
 use mathlib.Core.Path.{_≡_, refl, sym, _∙_}
+use mathlib.Core.Bool.{Bool, true, cond}
+use mathlib.Core.List.{List}
 use borrow.Author.Tests.{not-true, not-false}
 use denote.Ref.{now}
-use lib.ListN.{length, drop}
+use lib.Dec.{ltb}
+use lib.ListN.{length, drop, getD}
+use Rattle.calendar.specs.declared.dates.Date.{Date}
 use Rattle.fields.specs.Tags.{lastTag}
-use Rattle.fields.specs.Values.{valuesIn}
-use Rattle.order.specs.Ranges.{inRangeOf}
+use Rattle.fields.specs.declared.values.Fields.{Fields}
+use Rattle.fields.specs.Values.{partIn, partFor, hasIn, valuesIn}
+use Rattle.order.specs.Given.{dateIn}
+use Rattle.order.specs.Ranges.{fitsIn, inRangeOf}
 use Rattle.order.specs.Reading.{firstFailing, tagsFrom, outOfRangeOf}
 use Rattle.order.proofs.Tags.{fails, on, none, tags-from, tags-length}
 use Rattle.order.proofs.reading.out_of_range.Statement.{statement}
@@ -18,40 +24,72 @@ use Rattle.order.proofs.reading.out_of_range.Tie as tie
 all : length (tagsFrom lastTag 1) ≡ lastTag
 all = tags-length lastTag 1
 
+-- whether a tag passes, by what the code holds in the loop
+abbrev passes : List ℕ → List ℕ → List ℕ → Date → Bool → ℕ → Bool
+passes s starts lengths date ramadan tag =
+    cond (ltb 0 (getD starts tag 0)) (fitsIn tag (partIn s (record { at = getD starts tag 0; length = getD lengths tag 0 })) date ramadan) true
+
+held : (s : List ℕ) (f : Fields) (date : Date) (ramadan : Bool) → date ≡ dateIn (partIn s (partFor f 2)) → ramadan ≡ hasIn f 20
+    → firstFailing 5 (passes s (f .at) (f .length) date ramadan) (tagsFrom lastTag 1) ≡ outOfRangeOf (valuesIn s f)
+unfolding outOfRangeOf inRangeOf valuesIn
+held s f date ramadan d r = rw (d, r) refl
+
 abbrev Inv-loop : tie.InvT-loop
-Inv-loop order fields passed₀ passed =
-    (passed ≤ lastTag) × (firstFailing 5 (inRangeOf (valuesIn order fields)) (drop passed (tagsFrom lastTag 1)) ≡ outOfRangeOf (valuesIn order fields))
+Inv-loop order starts lengths date ramadan passed₀ passed =
+    (passed ≤ lastTag)
+    × (firstFailing 5 (passes order starts lengths date ramadan) (drop passed (tagsFrom lastTag 1)) ≡ firstFailing 5 (passes order starts lengths date ramadan) (tagsFrom lastTag 1))
 
 abbrev μ-loop : tie.MeasureT-loop
-μ-loop order fields passed₀ passed = lastTag - passed
+μ-loop order starts lengths date ramadan passed₀ passed = lastTag - passed
 
 loop-holds : tie.Need-loop-holds Inv-loop μ-loop
-unfolding outOfRangeOf
 loop-holds c = (omega arith, refl)
 
 returns : tie.Need-returns Inv-loop μ-loop
+unfolding valuesIn
 returns c =
     let h = c .before .before in
     let l = h .before .before in
-    let a = l .before .before .args in
+    let k = l .before in
+    let d = k .before in
+    let a = d .before .before .before .before .before .args in
+    let s = now (a .order) in
+    let f = a .fields in
+    let p = passes s (f .at) (f .length) (d .date-in .result) (k .has .result) in
     let t = h .before .loop-test .taken in
-    c .new .ensures ∙ sym (fails 5 (inRangeOf (valuesIn (now (a .order)) (a .fields))) (tagsFrom lastTag 1) (l .loop .passed) (omega (arith, all)) _ (tags-from lastTag 1 (l .loop .passed) t) (sym (h .in-range .ensures) ∙ not-true _ (c .before .if1 .taken))) ∙ l .loop .inv .1
+    c .new .ensures
+    ∙ sym (fails 5 p (tagsFrom lastTag 1) (l .loop .passed) (omega (arith, all)) _ (tags-from lastTag 1 (l .loop .passed) t) (sym (h .in-range .ensures) ∙ not-true _ (c .before .if1 .taken)))
+    ∙ l .loop .inv .1
+    ∙ held s f (d .date-in .result) (k .has .result) (rw (← d .before .value .ensures) (d .date-in .ensures)) (k .has .ensures)
 
 loop-again : tie.Need-loop-again Inv-loop μ-loop
 loop-again c =
     let h = c .before in
     let l = h .before .before in
-    let a = l .before .before .args in
+    let k = l .before in
+    let d = k .before in
+    let a = d .before .before .before .before .before .args in
+    let f = a .fields in
+    let p = passes (now (a .order)) (f .at) (f .length) (d .date-in .result) (k .has .result) in
     let t = h .before .loop-test .taken in
-    (search needs, sym (on 5 (inRangeOf (valuesIn (now (a .order)) (a .fields))) (tagsFrom lastTag 1) (l .loop .passed) (omega (arith, all)) _ (tags-from lastTag 1 (l .loop .passed) t) (sym (h .in-range .ensures) ∙ not-false _ (c .if1 .left))) ∙ l .loop .inv .1)
+    (search needs, sym (on 5 p (tagsFrom lastTag 1) (l .loop .passed) (omega (arith, all)) _ (tags-from lastTag 1 (l .loop .passed) t) (sym (h .in-range .ensures) ∙ not-false _ (c .if1 .left))) ∙ l .loop .inv .1)
 
 returns-2 : tie.Need-returns-2 Inv-loop μ-loop
+unfolding valuesIn
 returns-2 c =
     let l = c .before .before in
-    let a = l .before .before .args in
-    c .none .ensures ∙ sym (none 5 (inRangeOf (valuesIn (now (a .order)) (a .fields))) (tagsFrom lastTag 1) (l .loop .passed) (omega (arith, all, c .before .loop-test .left))) ∙ l .loop .inv .1
+    let k = l .before in
+    let d = k .before in
+    let a = d .before .before .before .before .before .args in
+    let s = now (a .order) in
+    let f = a .fields in
+    let p = passes s (f .at) (f .length) (d .date-in .result) (k .has .result) in
+    c .none .ensures
+    ∙ sym (none 5 p (tagsFrom lastTag 1) (l .loop .passed) (omega (arith, all, c .before .loop-test .left)))
+    ∙ l .loop .inv .1
+    ∙ held s f (d .date-in .result) (k .has .result) (rw (← d .before .value .ensures) (d .date-in .ensures)) (k .has .ensures)
 
 pub out-of-range-spec : {M : Type 1} → statement M
 out-of-range-spec =
     tie.close
-    (tie.spec Inv-loop μ-loop loop-holds (λ c. search needs) (λ c κs. tt) (λ c κs. tt) returns (λ c. search needs) loop-again (λ c κs. tt) returns-2)
+    (tie.spec Inv-loop μ-loop (λ c κs. tt) (λ c κs. tt) (λ c κs. tt) loop-holds (λ c. search needs) (λ c. search needs) (λ c. search needs) (λ c. search needs) (λ c. search needs) (λ c. search needs) (λ c. search needs) (λ c κs. tt) (λ c κs. tt) returns (λ c. search needs) loop-again (λ c κs. tt) returns-2)

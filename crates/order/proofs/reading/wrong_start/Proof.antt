@@ -15,29 +15,36 @@ use Rattle.order.proofs.reading.wrong_start.Tie as tie
 returns : tie.Need-returns
 unfolding wrongStartOf
 returns c =
-    let s = c .before .before .before in
+    let s = c .before .before in
     let day = s .before .before .day-number in
-    let a = s .before .before .before .args in
+    let set = s .before .before .before .if1 .taken in
+    let a = s .before .before .before .before .args in
     let known = s .before .struct-told .given in
     let k : readBack w64 (day .result) ≡ day .result = search needs in
     let f : SFits w32 (a .ramadan .shift) = search needs in
     let r = a .ramadan .shift in
     let e = s .is-ramadan-start .ensures ∙ ap (λ (z : ℤ). ramadanStartOf z (readBack w32 r)) (k ∙ day .ensures) ∙ ap (ramadanStartOf (dayNumberOf (a .date))) (toZ-ofZ f) in
-    simp (c .new .ensures, sym e, c .before .if1 .taken)
+    simp (c .none .ensures, set, sym e, c .before .if2 .taken)
 
 returns-2 : tie.Need-returns-2
 unfolding wrongStartOf
 returns-2 c =
-    let s = c .before .before .before in
+    let s = c .before .before in
     let day = s .before .before .day-number in
-    let a = s .before .before .before .args in
+    let set = s .before .before .before .if1 .taken in
+    let a = s .before .before .before .before .args in
     let known = s .before .struct-told .given in
     let k : readBack w64 (day .result) ≡ day .result = search needs in
     let f : SFits w32 (a .ramadan .shift) = search needs in
     let r = a .ramadan .shift in
     let e = s .is-ramadan-start .ensures ∙ ap (λ (z : ℤ). ramadanStartOf z (readBack w32 r)) (k ∙ day .ensures) ∙ ap (ramadanStartOf (dayNumberOf (a .date))) (toZ-ofZ f) in
-    simp (c .none .ensures, sym e, c .before .if1 .left)
+    simp (c .new .ensures, set, sym e, c .before .if2 .left)
+
+returns-3 : tie.Need-returns-3
+unfolding wrongStartOf
+returns-3 c = simp (c .none2 .ensures, c .before .if1 .left)
 
 pub wrong-start-spec : {M : Type 1} → statement M
 wrong-start-spec =
-    tie.close (tie.spec (λ c κs. search needs) (λ c κs. search needs) (λ c κs. tt) returns (λ c κs. tt) returns-2)
+    tie.close
+    (tie.spec (λ c κs. search needs) (λ c κs. search needs) (λ c κs. tt) returns (λ c κs. tt) returns-2 (λ c κs. tt) returns-3)

@@ -1,4 +1,4 @@
--- `fields::walk::walk` meets its contract. The invariant: what the definition answers from here on, with enough fields left to
+-- `fields::plain::walk` meets its contract. The invariant: what the definition answers from here on, with enough fields left to
 -- pass, is what it answers from the start.
 use borrow.Author.Needs.{needs}
 use native.Mathlib.Omega.{arith}
@@ -7,8 +7,8 @@ use mathlib.Core.Path.{_≡_, refl, sym, _∙_}
 use lib.ListN.{length}
 use Rattle.fields.specs.Fields.{walkOf}
 use Rattle.fields.proofs.Walking.{walk-stop, walk-on, walk-end}
-use Rattle.fields.proofs.walk.walk.Statement.{statement}
-use Rattle.fields.proofs.walk.walk.Tie as tie
+use Rattle.fields.proofs.plain.walk.Statement.{statement}
+use Rattle.fields.proofs.plain.walk.Tie as tie
 
 abbrev Inv-loop : tie.InvT-loop
 Inv-loop order at₀ at =
@@ -25,13 +25,13 @@ returns c =
     let b = c .before in
     let l = b .before .before .before .loop in
     let s = b .before .before .before .before .before .args .order .now in
-    c .new .ensures ∙ sym (walk-stop (l .inv .0) s (l .at) (b .before .fault .result) (l .inv .1) (b .before .before .loop-test .taken) (b .before .fault .ensures) (b .if1 .taken)) ∙ l .inv .2
+    c .new .ensures ∙ sym (walk-stop (l .inv .0) s (l .at) (b .before .fault-at .result) (l .inv .1) (b .before .before .loop-test .taken) (b .before .fault-at .ensures) (b .if1 .taken)) ∙ l .inv .2
 
 loop-again : tie.Need-loop-again Inv-loop μ-loop
 loop-again c =
     let h = c .before .before .before .before .loop .inv in
     let s = c .before .before .before .before .before .before .args .order .now in
-    let on = walk-on (h .0) s (c .before .before .before .before .loop .at) (c .before .before .fault .result) (h .1) (c .before .before .before .loop-test .taken) (c .before .before .fault .ensures) (c .before .if1 .left) in
+    let on = walk-on (h .0) s (c .before .before .before .before .loop .at) (c .before .before .fault-at .result) (h .1) (c .before .before .before .loop-test .taken) (c .before .before .fault-at .ensures) (c .before .if1 .left) in
     (on .0, omega (arith, on .1, h .1), rw (c .length-at .ensures .0) (sym (on .2) ∙ h .2))
 
 returns-2 : tie.Need-returns-2 Inv-loop μ-loop

@@ -1,4 +1,4 @@
--- `fields::walk::first_before` meets its contract. The invariant: what the definition finds from here on, with enough fields left to
+-- `fields::plain::first_before` meets its contract. The invariant: what the definition finds from here on, with enough fields left to
 -- pass, is what it finds from the start.
 use borrow.Author.Needs.{needs}
 use native.Mathlib.Omega.{arith}
@@ -8,8 +8,8 @@ use lib.ListN.{length}
 use denote.Ref.{now}
 use Rattle.fields.specs.Fields.{firstBefore}
 use Rattle.fields.proofs.Walking.{find-here, find-on, find-none}
-use Rattle.fields.proofs.walk.first_before.Statement.{statement}
-use Rattle.fields.proofs.walk.first_before.Tie as tie
+use Rattle.fields.proofs.plain.first_before.Statement.{statement}
+use Rattle.fields.proofs.plain.first_before.Tie as tie
 
 abbrev Inv-loop : tie.InvT-loop
 Inv-loop order tag stop at₀ at =

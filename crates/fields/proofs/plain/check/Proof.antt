@@ -1,10 +1,10 @@
--- `fields::walk::check` meets its contract: the walk asks that the order is no longer than 1,024 bytes.
+-- `fields::plain::check` meets its contract: the walk asks that the order is no longer than 1,024 bytes.
 use borrow.Author.Tests.{lt-ltb, le-ltb}
 use mathlib.Core.Path.{sym}
 use Rattle.fields.specs.Fields.{checkOf}
 use borrow.Author.Needs.{needs}
-use Rattle.fields.proofs.walk.check.Statement.{statement}
-use Rattle.fields.proofs.walk.check.Tie as tie
+use Rattle.fields.proofs.plain.check.Statement.{statement}
+use Rattle.fields.proofs.plain.check.Tie as tie
 
 returns : tie.Need-returns
 unfolding checkOf

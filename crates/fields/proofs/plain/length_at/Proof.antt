@@ -1,8 +1,8 @@
--- `fields::walk::length_at` meets its contract.
+-- `fields::plain::length_at` meets its contract.
 use Rattle.fields.specs.Fields.{lengthAt}
 use borrow.Author.Needs.{needs}
-use Rattle.fields.proofs.walk.length_at.Statement.{statement}
-use Rattle.fields.proofs.walk.length_at.Tie as tie
+use Rattle.fields.proofs.plain.length_at.Statement.{statement}
+use Rattle.fields.proofs.plain.length_at.Tie as tie
 
 returns : tie.Need-returns
 unfolding lengthAt

@@ -1,9 +1,9 @@
--- `fields::walk::value_fault` meets its contract.
+-- `fields::faults::value_fault` meets its contract.
 use borrow.Author.Tests.{lt-ltb, le-ltb}
 use mathlib.Core.Path.{sym}
 use Rattle.fields.specs.Fields.{valueFaultOf}
-use Rattle.fields.proofs.walk.value_fault.Statement.{statement}
-use Rattle.fields.proofs.walk.value_fault.Tie as tie
+use Rattle.fields.proofs.faults.value_fault.Statement.{statement}
+use Rattle.fields.proofs.faults.value_fault.Tie as tie
 
 returns : tie.Need-returns
 unfolding valueFaultOf

@@ -1,9 +1,9 @@
--- `fields::values::fields_of` meets its contract.
+-- `fields::plain::fields_of` meets its contract.
 use borrow.Author.Tests.{eq-eqb, ne-eqb}
 use mathlib.Core.Path.{sym}
 use Rattle.fields.specs.Values.{checkedOf}
-use Rattle.fields.proofs.values.fields_of.Statement.{statement}
-use Rattle.fields.proofs.values.fields_of.Tie as tie
+use Rattle.fields.proofs.plain.fields_of.Statement.{statement}
+use Rattle.fields.proofs.plain.fields_of.Tie as tie
 
 returns : tie.Need-returns
 unfolding checkedOf

@@ -1,0 +1,73 @@
+// The reader of the fields (request 5): it goes over them once and collects as it checks. A tag that was collected before is found in what was
+// collected, and not by looking back.
+ghost use mathlib.Core.Path.{_≡_};
+ghost use Prim.Native.Nat.{_≤_};
+ghost use lib.Dec.{ltb};
+ghost use lib.ListN.{length, getD};
+ghost use Rattle.refusals.specs.Refusals.{refusal};
+ghost use Rattle.fields.specs.Values.{noFields, checkedOf};
+use super::faults::LONGEST_ORDER;
+use super::faults::fault;
+use super::numbers::byte;
+use super::numbers::unsigned;
+use super::tags::TAGS;
+use super::values::Checked;
+use super::values::Fields;
+use refusals::FIELD_CUT;
+use refusals::Refusal;
+
+fn refused(number: u32, place: u32) -> Checked
+    ensures { λ r. ⌜ r ≡ record { refusal = refusal number place; fields = noFields } ⌝ }
+{
+    Checked {
+        refusal: Refusal::new(number, place),
+        fields: Fields::none(),
+    }
+}
+
+// Whether the tag was collected; no value begins before 3.
+fn stands(starts: &[u16], tag: u32) -> bool
+    ensures { λ r. ⌜ r ≡ ltb 0 (getD (now (starts .entry)) tag 0) ⌝ }
+{
+    let row = tag as usize;
+    if row < starts.len() {
+        return starts[row] > 0;
+    }
+    false
+}
+
+fn pass(order: &[u8]) -> Checked
+    requires { ⌜ length (now order) ≤ 1024 ⌝ }
+    ensures { λ r. ⌜ r ≡ checkedOf (now (order .entry)) ⌝ }
+{
+    let mut starts = [0u16; TAGS];
+    let mut lengths = [0u8; TAGS];
+    let mut at = 0;
+    while at < order.len() {
+        let tag = byte(order, at);
+        let length = unsigned(order, at + 1);
+        let number = fault(tag, length, stands(&starts, tag), order.len() - at);
+        if number != 0 {
+            return refused(number, at as u32);
+        }
+        starts[tag as usize] = at as u16 + 3;
+        lengths[tag as usize] = length as u8;
+        at = at + 3 + length as usize;
+    }
+    Checked {
+        refusal: Refusal::none(),
+        fields: Fields {
+            at: starts,
+            length: lengths,
+        },
+    }
+}
+
+pub fn fields_of(order: &[u8]) -> Checked
+    ensures { λ r. ⌜ r ≡ checkedOf (now (order .entry)) ⌝ }
+{
+    if LONGEST_ORDER < order.len() {
+        return refused(FIELD_CUT, 0);
+    }
+    pass(order)
+}
