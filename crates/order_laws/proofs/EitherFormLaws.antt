@@ -1,8 +1,8 @@
 -- A place sent either way: the record but for where the town stands, and from it all that is answered. Assumes nothing.
-use Prim.Native.Nat.{ℕ, zero, suc, _≤_}
+use Prim.Native.Nat.{ℕ, zero, suc, _+_, _≤_}
 use mathlib.Core.Path.{_≡_, refl, sym, ap, _∙_, subst}
 use mathlib.Core.Bool.{false}
-use mathlib.Core.List.{List, _++_}
+use mathlib.Core.List.{List, _∷_, _++_}
 use lib.Dec.{lit≤}
 use Rattle.integers.specs.Order.{_≼_}
 use Rattle.calendar.specs.Answers.{rowDateOf}
@@ -21,6 +21,10 @@ use Rattle.order.specs.declared.reading.Order.{Order}
 use Rattle.order.specs.declared.reading.Reading.{Reading}
 use Rattle.order.specs.declared.reading.Reading.the-variants.{Read}
 use Rattle.order.proofs.ReadingLaws.{read-passed}
+use Rattle.braille.specs.Cells.{rowLength}
+use Rattle.pages.specs.Pages.{Rows, rowOf, rowsFrom, pageOf, pageCount, pagesCells, allCells}
+use Rattle.pages.specs.Answers.{writtenOf, answerIn, bufferOf, frontIn, oneRow, pieceIn}
+use Rattle.pages.specs.Reports.{wearIn, wearText, cellsIn, cellsText}
 use Rattle.rows.specs.Rows.{linesText, acceptedText, textIn, sheetText, readAnswerOf, readBufferOf, rowAnswerOf, rowBufferOf}
 use Rattle.schedule.specs.declared.in_force.Instant.{Instant}
 use Rattle.order_laws.specs.Minutes.{withOwnMinutes, LaterOrder}
@@ -35,6 +39,40 @@ lines-same o town (suc n) = ap (λ (t : List ℕ). t ++ lineText (o .ramadan) (r
 text-same : (name : List ℕ) (o : Order) (town : Part) → acceptedText name (withTown o town) ≡ acceptedText name o
 unfolding acceptedText
 text-same name o town = rw (lines-same o town (o .rows))
+
+rows-same : (o : Order) (town : Part) (k n : ℕ) → rowsFrom (withTown o town) k n ≡ rowsFrom o k n
+unfolding rowsFrom workRowOf
+rows-same o town k zero = refl
+rows-same o town k (suc n) = ap (λ (rest : Rows). rowOf o k ∷ rest) (rows-same o town (k + 1) n)
+
+page-same : (o : Order) (town : Part) (page : ℕ) → pageOf (withTown o town) page ≡ pageOf o page
+unfolding pageOf
+page-same o town zero = refl
+page-same o town (suc p) = rw (rows-same o town 0 (o .rows))
+
+pages-same : (o : Order) (town : Part) (n : ℕ) → pagesCells (withTown o town) n ≡ pagesCells o n
+unfolding pagesCells
+pages-same o town zero = refl
+pages-same o town (suc p) = rw (pages-same o town p, page-same o town (suc p))
+
+-- a call on some rows of an order that do not hang on its town
+module _ (asked : Order → Rows) (town-free : (o : Order) (town : Part) → asked (withTown o town) ≡ asked o) (least : ℕ) where
+  written-same : (a b : List ℕ) (o p : Order) → readingOf a ≡ Read o → readingOf b ≡ Read p → withTown o (p .town) ≡ p → (buffer : List ℕ)
+      → writtenOf asked least a buffer ≡ writtenOf asked least b buffer
+  unfolding writtenOf answerIn
+  written-same a b o p x y g buffer = rw (x, y, ← town-free o (p .town), g)
+
+  front-same : (a b : List ℕ) (o p : Order) → readingOf a ≡ Read o → readingOf b ≡ Read p → withTown o (p .town) ≡ p → (buffer : List ℕ)
+      → bufferOf asked least a buffer ≡ bufferOf asked least b buffer
+  unfolding bufferOf frontIn
+  front-same a b o p x y g buffer = rw (x, y, ← town-free o (p .town), g)
+
+one-same : (row : ℕ) (o : Order) (town : Part) → oneRow row (withTown o town) ≡ oneRow row o
+unfolding oneRow workRowOf
+one-same row o town = refl
+
+piece-same : (page first : ℕ) (scratch : List ℕ) (o : Order) (town : Part) → pieceIn page first scratch (withTown o town) ≡ pieceIn page first scratch o
+piece-same page first scratch o town = rw (page-same o town page)
 
 -- ---- what the tags give
 module _ (a b : List ℕ) (orders : SamePlace a b) where
@@ -138,6 +176,24 @@ module _ (a b : List ℕ) (orders : SamePlace a b) where
   unfolding rowAnswerOf readAnswerOf workRowOf
   answer-same row buffer = rw (orders .«first_read», orders .«second_read», ← given)
 
+  all-same : allCells (orders .first) ≡ allCells (orders .second)
+  all-same = sym (pages-same (orders .first) (orders .second .town) (pageCount (orders .first))) ∙ ap allCells given
+
+  wear-same : wearText a ≡ wearText b
+  unfolding wearIn
+  wear-same = rw (orders .«first_read», orders .«second_read», all-same)
+
+  cells-same : cellsText a ≡ cellsText b
+  unfolding cellsIn
+  cells-same = rw (orders .«first_read», orders .«second_read») all-same
+
+  module _ (asked : Order → Rows) (town-free : (o : Order) (town : Part) → asked (withTown o town) ≡ asked o) (buffer : List ℕ) where
+    asked-same : writtenOf asked rowLength a buffer ≡ writtenOf asked rowLength b buffer
+    asked-same = written-same asked town-free rowLength a b (orders .first) (orders .second) (orders .«first_read») (orders .«second_read») given buffer
+
+    put-same : bufferOf asked rowLength a buffer ≡ bufferOf asked rowLength b buffer
+    put-same = front-same asked town-free rowLength a b (orders .first) (orders .second) (orders .«first_read») (orders .«second_read») given buffer
+
 pub either-form-answers-alike : EitherFormAnswersAlike
 unfolding prayerAtOf nextAtOf remainingAtOf
 either-form-answers-alike a b orders =
@@ -151,6 +207,12 @@ either-form-answers-alike a b orders =
       remaining = λ row i. rw (at-same a b orders row i);
       answer = answer-same a b orders;
       buffer = buffer-same a b orders;
+      «cells_answer» = λ row buffer. asked-same a b orders (oneRow row) (one-same row) buffer;
+      «cells_buffer» = λ row buffer. put-same a b orders (oneRow row) (one-same row) buffer;
+      «page_answer» = λ page first scratch. asked-same a b orders (pieceIn page first scratch) (piece-same page first scratch) scratch;
+      «page_buffer» = λ page first scratch. put-same a b orders (pieceIn page first scratch) (piece-same page first scratch) scratch;
+      wear = wear-same a b orders;
+      cells = cells-same a b orders;
     }
 
 -- ---- demand 3

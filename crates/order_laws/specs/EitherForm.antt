@@ -13,6 +13,8 @@ use Rattle.map_form.specs.Written.{latitudeTag, longitudeTag}
 use Rattle.order.specs.declared.reading.Order.{Order}
 use Rattle.order.specs.declared.reading.Reading.the-variants.{Read}
 use Rattle.order.specs.Reading.{readingOf, townOf}
+use Rattle.pages.specs.Answers.{rowWritten, rowBuffer, pageWritten, pageBuffer}
+use Rattle.pages.specs.Reports.{wearText, cellsText}
 use Rattle.rows.specs.Rows.{rowAnswerOf, rowBufferOf, sheetText}
 use Rattle.schedule.specs.declared.in_force.Instant.{Instant}
 use Rattle.order_laws.specs.Minutes.{LaterOrder}
@@ -57,6 +59,13 @@ pub record SameAnswers (a b : List ℕ) (orders : SamePlace a b) : Type 0 where
   pub remaining : (row : ℕ) (i : Instant) → remainingAtOf a row i ≡ remainingAtOf b row i
   pub answer : (row : ℕ) (buffer : List ℕ) → rowAnswerOf a row buffer ≡ rowAnswerOf b row buffer
   pub buffer : (row : ℕ) (buffer : List ℕ) → rowBufferOf a row buffer ≡ rowBufferOf b row buffer
+  -- cells: of a row, of a page or a piece of it, of all pages, and their dots
+  pub «cells_answer» : (row : ℕ) (buffer : List ℕ) → rowWritten row a buffer ≡ rowWritten row b buffer
+  pub «cells_buffer» : (row : ℕ) (buffer : List ℕ) → rowBuffer row a buffer ≡ rowBuffer row b buffer
+  pub «page_answer» : (page first : ℕ) (scratch : List ℕ) → pageWritten page first a scratch ≡ pageWritten page first b scratch
+  pub «page_buffer» : (page first : ℕ) (scratch : List ℕ) → pageBuffer page first a scratch ≡ pageBuffer page first b scratch
+  pub wear : wearText a ≡ wearText b
+  pub cells : cellsText a ≡ cellsText b
 
 abbrev pub EitherFormAnswersAlike : Type 0
 EitherFormAnswersAlike = (a b : List ℕ) (orders : SamePlace a b) → SameAnswers a b orders
