@@ -353,13 +353,13 @@ katchidul_turned katchidul_turn(katchidul_queue queue);
        write_place(at, used), flush();                             // then which buffer is the log, and how many of its bytes,
        send(page);                                                 // and only then the page
 
-   No page is sent while an append is under way. After any failure of host, link or embosser the host asks how many pages of this job
-   the embosser has finished, from 0, and restarts with that count before it appends or sends: the embosser drops what it has not
-   finished, also what is still on its way (a page that waits in a spooler and arrives after the count was told would be finished
-   twice), and the pages finished + 1 to sent of the answer go out again, in rising order and without a record. Where the embosser serves several jobs, each of them restarts. A done is appended only
-   of a page that the embosser has finished. Then, if every count is true, and pages are lost from the end of what was sent alone, no
-   finished page is sent again and none is skipped: the embosser finishes 1, 2, 3, .., each once. A crash within a call or within what
-   follows it is one of these failures: until the place is lasting, the log is what it was. */
+   No page is sent while an append is under way. After any failure of host, link or embosser the host asks how many pages of this job the
+   embosser has finished, from 0, and restarts with that count before it appends or sends: the embosser drops what it has not finished,
+   also what is still on its way (a page that waits in a spooler and arrives after the count was told would be finished twice), and the
+   pages finished + 1 to sent of the answer go out again, in rising order and without a record. Where the embosser serves several jobs,
+   each of them restarts. A done is appended only of a page that the embosser has finished. Then, if every count is true, and pages are
+   lost from the end of what was sent alone, no finished page is sent again and none is skipped: the embosser finishes 1, 2, 3, .., each
+   once. A crash within a call or within what follows it is one of these failures: until the place is lasting, the log is what it was. */
 typedef struct katchidul_log {
   uint32_t number, place;
   uint32_t moved;          /* 1 where the log is now in the second buffer: after every restart, and after an append that compacted */
