@@ -1,8 +1,8 @@
 -- What the report's call answers, by the order's reading, and that it fits. Assumes nothing.
 use native.Mathlib.Omega.{arith}
-use Prim.Native.Nat.{ℕ, _≤_}
+use Prim.Native.Nat.{ℕ, _-_, _≤_, _<_}
 use mathlib.Core.Path.{_≡_, refl}
-use mathlib.Core.List.{List}
+use mathlib.Core.List.{List, []}
 use lib.ListN.{length}
 use Rattle.lines.proofs.LinesLaws.{refused-length}
 use Rattle.lines.specs.Lines.{refusedOrderText}
@@ -15,6 +15,7 @@ use Rattle.refusals.specs.declared.Refusal.{Refusal}
 use Rattle.text.proofs.PrintedLaws.{printed-fits}
 use Rattle.text.specs.Printed.{printedLength}
 use Rattle.text.specs.Text.{ascii}
+use Rattle.weeks.specs.Lines.{linesFrom}
 use Rattle.weeks.specs.Report.{minutesOf, ordersReport, weekIn, weekText, longestWeek}
 use Rattle.weeks.proofs.ReportLaws.{report-length}
 use Rattle.weeks.proofs.Rolled.{minutes-length}
@@ -43,3 +44,11 @@ module _ (s : List ℕ) where
 
   pub week-fits : (buffer after : List ℕ) (n : ℕ) → n ≡ printedLength longestWeek (weekText s) buffer → length after ≡ length buffer → n ≤ length after
   week-fits buffer after n e l = let f = printed-fits longestWeek (weekText s) buffer week-length in omega arith
+
+-- under seven rows there is no window
+pub few-rows : (o : Order) → o .rows < 7 → ordersReport o ≡ []
+unfolding linesFrom
+few-rows o h =
+    let n = minutes-length o (o .rows) in
+    let none : length (minutesOf o (o .rows)) - 6 ≡ 0 = omega arith in
+    rw none refl

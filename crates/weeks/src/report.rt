@@ -46,6 +46,18 @@ fn put_windows(buffer: &mut [u8], order: Order) -> usize
     }
 }
 
+// Under seven rows no row is worked.
+fn put_report(buffer: &mut [u8], order: Order) -> usize
+    requires { ⌜ Accepted order × (longestWeek ≤ length (now buffer)) ⌝ }
+    ensures { λ r. ⌜ r ≡ length (ordersReport order) ⌝ }
+    ensures { λ _. ⌜ now (buffer .exit) ≡ frontOf (ordersReport order) (now (buffer .entry)) ⌝ }
+{
+    if order.rows < 7 {
+        return 0;
+    }
+    put_windows(&mut buffer[..], order)
+}
+
 // Answers the length of the text, which may be 0. A buffer that might not hold it, under WEEK_BYTES, is left as it was, and the answer is 0.
 pub fn write_week(order: &[u8], buffer: &mut [u8]) -> usize
     ensures { λ r. ⌜ r ≡ printedLength longestWeek (weekText (now (order .entry))) (now (buffer .entry)) ⌝ }
@@ -55,7 +67,7 @@ pub fn write_week(order: &[u8], buffer: &mut [u8]) -> usize
         return 0;
     }
     match read(order) {
-        Reading::Read(order) => put_windows(&mut buffer[..], order),
+        Reading::Read(order) => put_report(&mut buffer[..], order),
         Reading::Refused(refusal) => put_refused_order(&mut buffer[..], 0, refusal),
     }
 }

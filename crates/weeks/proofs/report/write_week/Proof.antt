@@ -21,8 +21,8 @@ returns c =
     let a = c .before .before .before .args in
     printed-short longestWeek (weekText (now (a .order))) (now (a .buffer)) (c .if1 .taken)
 
-put-windows-requires : tie.Need-put-windows-requires
-put-windows-requires c κs =
+put-report-requires : tie.Need-put-report-requires
+put-report-requires c κs =
     let a = c .before .before .before .before .before .before .before .before .args in
     let e = sym (c .before .before .before .before .read .ensures) ∙ c .before .before .order .given .1 in
     (read-accepted (now (a .order)) _ e, c .before .before .before .before .before .if1 .left)
@@ -32,7 +32,7 @@ returns-2 c =
     let a = c .before .before .before .before .before .before .before .before .before .before .before .args in
     let e = sym (c .before .before .before .before .before .before .before .read .ensures) ∙ c .before .before .before .before .before .order .given .1 in
     let room = c .before .before .before .before .before .before .before .before .if1 .left in
-    let p = c .before .before .put-windows .ensures in
+    let p = c .before .before .put-report .ensures in
     let t = week-read (now (a .order)) _ e in
     printed longestWeek (weekText (now (a .order))) (now (a .buffer)) room _ _ (p .0 ∙ ap length (sym t)) (p .1 ∙ ap (λ (x : List ℕ). frontOf x (now (a .buffer))) (sym t))
 
@@ -51,4 +51,4 @@ returns-3 c =
 pub write-week-spec : {M : Type 1} → statement M
 write-week-spec =
     tie.close
-    (tie.spec returns (λ c κs. search needs) (λ c. search needs) put-windows-requires (λ c. search needs) (λ c κs. search needs) (λ c. search needs) returns-2 (λ c. search needs) returns-3)
+    (tie.spec returns (λ c κs. search needs) (λ c. search needs) put-report-requires (λ c. search needs) (λ c κs. search needs) (λ c. search needs) returns-2 (λ c. search needs) returns-3)
