@@ -41,7 +41,7 @@ use Rattle.refusals.specs.Refusals.{refusal, noRefusal}
 use Rattle.order.specs.declared.reading.Order.{Order}
 use Rattle.order.specs.declared.reading.Reading.the-variants.{Read}
 use Rattle.order.specs.Given.{dateIn, rowsIn, degreesIn, formIn, coordinateIn, minutesIn, degreesOr, minutesOr, intervalOr, parametersIn, clockIn, ramadanGiven, ramadanIn}
-use Rattle.order.specs.Ranges.{mostRows, mostIn, dateFits, rowsFit, degreesFit, minuteFits, minutesFit, intervalFits, clockFits, ramadanFits, ramadanRows, lookUp, fitsIn, fitsOf}
+use Rattle.order.specs.Ranges.{mostRows, mostIn, dateFits, rowsFit, degreesFit, minuteFits, minutesFit, intervalFits, clockFits, ramadanFits, ramadanRows, lookUp, fitsOf}
 use Rattle.order.specs.Reading.{required, isGivenOf, missingOf, outOfRangeOf, orderOf, wrongStartOf, readingOf}
 use Rattle.order.specs.Accepted.{UpTo, DateInOrder, Accepted}
 use Rattle.order.proofs.RowDates.{row-in-order}
@@ -239,7 +239,7 @@ brought Other = record { named = refl; fajr = (refl, refl); isha = (refl, refl);
 -- ---- the record
 accepted : (v : Values) → missingOf (v .has) .number ≡ 0 → outOfRangeOf v .number ≡ 0
     → wrongStartOf (orderOf v .ramadan) (orderOf v .date) .number ≡ 0 → Accepted (orderOf v)
-unfolding orderOf parametersIn fitsIn lookUp isGivenOf
+unfolding orderOf parametersIn fitsOf lookUp isGivenOf
 accepted v given ranges start =
     let method = methodOf (byteOf (v .value 6) 0) in
     let from = brought method in

@@ -20,7 +20,7 @@ use Rattle.refusals.specs.Refusals.{refusal, noRefusal}
 use Rattle.refusals.specs.declared.Refusal.{Refusal}
 use Rattle.order.specs.declared.reading.Order.{Order}
 use Rattle.order.specs.declared.reading.Reading.the-variants.{Read, Refused}
-use Rattle.order.specs.Ranges.{textFits, lookUp, fitsIn, fitsOf, inRangeOf}
+use Rattle.order.specs.Ranges.{textFits, lookUp, fitsOf, inRangeOf}
 use Rattle.order.specs.Reading.{required, isGivenOf, missingOf, bothFormsOf, outOfRangeOf, tagsFrom, orderOf, wrongStartOf, firstOf, readingOf, townOf}
 use Rattle.order.proofs.Tags.{all-pass, failing-number, tags-from, tags-length}
 
@@ -152,7 +152,7 @@ pub record Town (s town : List ℕ) (order : Order) : Type 0 where
   pub text : textFits town ≡ true
 
 town-of : (s : List ℕ) (order : Order) → Passed s order → Town s (valueOf s 1) order
-unfolding fitsIn lookUp isGivenOf orderOf startOf
+unfolding fitsOf lookUp isGivenOf orderOf startOf
 town-of s order passed =
     let has = has-required (hasOf s) (passed .given) 0 (lit≤ tt) in
     record {

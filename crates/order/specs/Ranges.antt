@@ -101,10 +101,10 @@ unfoldable pub lookUp : ℕ → List (ℕ × Bool) → Bool → Bool
 lookUp tag [] otherwise = otherwise
 lookUp tag (entry ∷ rest) otherwise = cond (eqb tag (entry .0)) (entry .1) (lookUp tag rest otherwise)
 
-unfoldable pub fitsIn : ℕ → List ℕ → (date : Date) → (ramadan : Bool) → Bool
+abbrev pub fitsIn : ℕ → List ℕ → (date : Date) → (ramadan : Bool) → Bool
 fitsIn tag v date ramadan = lookUp tag (ranges v date ramadan) (choiceFits tag (byteOf v 0))
 
-abbrev pub fitsOf : Values → ℕ → Bool
+unfoldable pub fitsOf : Values → ℕ → Bool
 fitsOf v tag = fitsIn tag (v .value tag) (dateIn (v .value 2)) (v .has 20)
 
 -- a tag that the order lacks has nothing out of range

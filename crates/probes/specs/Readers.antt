@@ -22,7 +22,6 @@ plainRead o =
     }
 
 unfoldable pub plainRefused : Refusal → ProbePlain
-
 plainRefused r =
     record {
       number = r .number;

@@ -2,64 +2,64 @@
 use borrow.Author.Tests.{ne-eqb}
 use lib.Ieee.{neg, ofBits, round}
 use Rattle.float64.specs.Ops.{dec}
-use Rattle.order.specs.Ranges.{lookUp, fitsIn}
+use Rattle.order.specs.Ranges.{lookUp}
 use Rattle.order.proofs.ranges.fits.Statement.{statement}
 use Rattle.order.proofs.ranges.fits.Tie as tie
 
 returns : tie.Need-returns
-unfolding fitsIn lookUp
+unfolding lookUp
 returns c = simp (c .text-fits .ensures, c .before .match .keys1)
 
 returns-2 : tie.Need-returns-2
-unfolding fitsIn lookUp
+unfolding lookUp
 returns-2 c = simp (c .date-fits .ensures, c .before .date-in .ensures, c .before .before .match .keys2)
 
 returns-3 : tie.Need-returns-3
-unfolding fitsIn lookUp
+unfolding lookUp
 returns-3 c = simp (c .ramadan-rows .ensures, c .before .rows-fit .ensures, c .before .before .match .keys3)
 
 returns-4 : tie.Need-returns-4
-unfolding fitsIn lookUp dec round ofBits neg
+unfolding lookUp dec round ofBits neg
 returns-4 c = simp (c .degrees-fit .ensures, c .before .match .keys4)
 
 returns-5 : tie.Need-returns-5
-unfolding fitsIn lookUp dec round ofBits neg
+unfolding lookUp dec round ofBits neg
 returns-5 c = simp (c .degrees-fit2 .ensures, c .before .match .keys5)
 
 returns-6 : tie.Need-returns-6
-unfolding fitsIn lookUp
+unfolding lookUp
 returns-6 c = simp (c .minutes-fit .ensures, c .before .minutes-in .ensures, c .before .before .match .keys6)
 
 returns-7 : tie.Need-returns-7
-unfolding fitsIn lookUp dec round ofBits neg
+unfolding lookUp dec round ofBits neg
 returns-7 c = simp (c .degrees-fit3 .ensures, c .before .match .keys7)
 
 returns-8 : tie.Need-returns-8
-unfolding fitsIn lookUp dec round ofBits neg
+unfolding lookUp dec round ofBits neg
 returns-8 c = simp (c .degrees-fit4 .ensures, c .before .match .keys8)
 
 returns-9 : tie.Need-returns-9
-unfolding fitsIn lookUp
+unfolding lookUp
 returns-9 c = simp (c .interval-fits .ensures, c .before .match .keys9)
 
 returns-10 : tie.Need-returns-10
-unfolding fitsIn lookUp
+unfolding lookUp
 returns-10 c = simp (c .clock-fits .ensures, c .before .match .keys10)
 
 returns-11 : tie.Need-returns-11
-unfolding fitsIn lookUp
+unfolding lookUp
 returns-11 c = simp (c .latitude-fits .ensures, c .before .form-in .ensures, c .before .before .match .keys11)
 
 returns-12 : tie.Need-returns-12
-unfolding fitsIn lookUp
+unfolding lookUp
 returns-12 c = simp (c .longitude-fits .ensures, c .before .form-in2 .ensures, c .before .before .match .keys12)
 
 returns-13 : tie.Need-returns-13
-unfolding fitsIn lookUp
+unfolding lookUp
 returns-13 c = simp (c .ramadan-fits .ensures, c .before .match .keys13)
 
 returns-14 : tie.Need-returns-14
-unfolding fitsIn lookUp
+unfolding lookUp
 returns-14 c =
     let m = c .before .before in
     let r = m .match .rest in

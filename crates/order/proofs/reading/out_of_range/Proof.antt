@@ -14,7 +14,7 @@ use Rattle.fields.specs.Tags.{lastTag}
 use Rattle.fields.specs.declared.values.Fields.{Fields}
 use Rattle.fields.specs.Values.{partIn, partFor, hasIn, valuesIn}
 use Rattle.order.specs.Given.{dateIn}
-use Rattle.order.specs.Ranges.{fitsIn, inRangeOf}
+use Rattle.order.specs.Ranges.{fitsIn, fitsOf, inRangeOf}
 use Rattle.order.specs.Reading.{firstFailing, tagsFrom, outOfRangeOf}
 use Rattle.order.proofs.Tags.{fails, on, none, tags-from, tags-length}
 use Rattle.order.proofs.reading.out_of_range.Statement.{statement}
@@ -31,7 +31,7 @@ passes s starts lengths date ramadan tag =
 
 held : (s : List ℕ) (f : Fields) (date : Date) (ramadan : Bool) → date ≡ dateIn (partIn s (partFor f 2)) → ramadan ≡ hasIn f 20
     → firstFailing 5 (passes s (f .at) (f .length) date ramadan) (tagsFrom lastTag 1) ≡ outOfRangeOf (valuesIn s f)
-unfolding outOfRangeOf inRangeOf valuesIn
+unfolding outOfRangeOf inRangeOf fitsOf valuesIn
 held s f date ramadan d r = rw (d, r) refl
 
 abbrev Inv-loop : tie.InvT-loop
