@@ -88,7 +88,7 @@ impl Draw {
 
     /// What lies just out of each range; the ends themselves are in good orders.
     fn just_out(&mut self, fields: &mut Vec<Field>) {
-        let tag = [1, 3, 4, 5, 6, 7, 8, 9, 10, 11, 12, 13, 14, 15, 16, 17, 18, 19][self.index(18)];
+        let tag = [1, 3, 4, 5, 6, 7, 8, 9, 10, 11, 12, 13, 14, 15, 16, 17, 18, 19, 20][self.index(19)];
         // a coordinate in this form alone
         let other = FORMS.iter().find_map(|form| if form.0 == tag { Some(form.1) } else if form.1 == tag { Some(form.0) } else { None });
         fields.retain(|field| Some(field.tag) != other);
@@ -105,6 +105,7 @@ impl Draw {
             15 | 17 => Field::new(tag, &[[2, 255][self.index(2)]]),
             16 => Field::new(tag, &[841i16, -841, i16::MAX, i16::MIN][self.index(4)].to_be_bytes()),
             18 | 19 => Field::new(tag, &self.map_out(if tag == 18 { 90 } else { 180 })),
+            20 => Field::new(tag, &[[31, 1], [255, 0], [0, 3], [30, 255], [0, 1]][self.index(5)]),
             14 => Field::new(tag, &[1_441u16, 1_440 + 256, 65_535][self.index(3)].to_be_bytes()),
             _ => Field::new(tag, &[beyond(30.0), -5e-324, 30.1][self.index(3)].to_be_bytes()),
         };

@@ -1,7 +1,7 @@
 //! The orders that are compared: good ones here, damaged ones in order_damage.rs; the same for the same seed.
 use crate::day_draw::{NaiveDate, METHODS};
 use crate::draw::Draw;
-use crate::order_read::{lengths, FORMS};
+use crate::order_read::{lengths, ramadan_starts, FORMS};
 use chrono::{Datelike, Duration};
 
 /// A field as it is written; the length is free of the value's, so that a damaged order can lie.
@@ -92,9 +92,16 @@ impl Draw {
         Field::new(map, &parts.map(|part| part as u8))
     }
 
-    /// The fields that an order must have, a coordinate in either form.
-    fn must_have(&mut self, method: usize) -> Vec<Field> {
-        let (town, (date, rows)) = (self.town(), self.dates());
+    /// A first day of Ramadan, moved by a shift that is stored plus 1, and its rows.
+    fn ramadan(&mut self, stored: u8) -> (NaiveDate, i64) {
+        let starts: Vec<_> = ramadan_starts().iter().filter(|start| (1900..2200).contains(&start.year())).collect();
+        (*starts[self.index(starts.len())] + Duration::days(stored as i64 - 1), 30)
+    }
+
+    /// The fields that an order must have, a coordinate in either form; those of a Ramadan sheet where its tag is there.
+    fn must_have(&mut self, method: usize, ramadan: Option<[u8; 2]>) -> Vec<Field> {
+        let (town, dates) = (self.town(), self.dates());
+        let (date, rows) = ramadan.map_or(dates, |[_, stored]| self.ramadan(stored));
         let place = self.case_on(date);
         vec![
             Field::new(1, &town),
@@ -130,7 +137,9 @@ impl Draw {
     /// A good order: all methods, optional fields there or missing, half of them in another order than that of the tags.
     pub fn good_fields(&mut self) -> Vec<Field> {
         let method = self.index(METHODS.len());
-        let mut fields = self.must_have(method);
+        let tag_20 = [self.below(31) as u8, self.below(3) as u8];
+        let ramadan = if self.below(8) == 0 { Some(tag_20) } else { None };
+        let mut fields = self.must_have(method, ramadan);
         // none of them, all of them, or each by a coin
         let (some, all) = (self.below(8) > 0, self.below(8) == 0);
         for tag in (7..=17).filter(|tag| lengths(*tag).is_some()) {
@@ -139,6 +148,7 @@ impl Draw {
                 fields.push(field);
             }
         }
+        fields.extend(ramadan.map(|value| Field::new(20, &value)));
         if self.coin() {
             self.shuffle(&mut fields);
         }

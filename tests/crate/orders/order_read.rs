@@ -3,6 +3,7 @@ use crate::day_crate::Refusal;
 use crate::day_draw::{NaiveDate, Settings, METHODS};
 use chrono::{Datelike, Duration};
 use std::ops::{Range, RangeInclusive};
+use std::sync::OnceLock;
 
 /// The tags of a coordinate as a float and as on the map.
 pub const FORMS: [(u8, u8); 2] = [(4, 18), (5, 19)];
@@ -36,6 +37,11 @@ pub struct Asked {
 }
 
 impl Asked {
+    /// The minutes from imsak to Fajr, where the sheet is Ramadan's.
+    pub fn imsak(&self) -> Option<i32> {
+        self.ramadan.map(|(imsak, _)| imsak)
+    }
+
     /// The crate has no part in what tags 15 and 17 change.
     pub fn is_the_crates(&self) -> bool {
         self.carry == 0 && self.southern == 0
@@ -114,14 +120,18 @@ fn fields(order: &[u8]) -> Result<Values, Refusal> {
 }
 
 /// Month 9, day 1 of the tabular calendar, by its rule: year by year from day 1 of year 1, Julian Day 1948439.5, which chrono counts as day 227015.
-fn opens_ramadan(date: NaiveDate) -> bool {
-    let is_leap = |year: i32| [2, 5, 7, 10, 13, 16, 18, 21, 24, 26, 29].contains(&(year % 30));
-    let (mut day, mut year) = (date.num_days_from_ce() - 227_015, 1);
-    while day >= 354 + is_leap(year) as i32 {
-        day -= 354 + is_leap(year) as i32;
-        year += 1;
-    }
-    day == 4 * (30 + 29)
+/// Those of the years that an order may have, and of some around them.
+pub fn ramadan_starts() -> &'static [NaiveDate] {
+    static STARTS: OnceLock<Vec<NaiveDate>> = OnceLock::new();
+    STARTS.get_or_init(|| {
+        let is_leap = |year: i32| [2, 5, 7, 10, 13, 16, 18, 21, 24, 26, 29].contains(&(year % 30));
+        let (mut day, mut starts) = (227_015, vec![]);
+        for year in 1..1_700 {
+            starts.push(NaiveDate::from_num_days_from_ce_opt(day + 4 * (30 + 29)).unwrap());
+            day += 354 + is_leap(year) as i32;
+        }
+        starts
+    })
 }
 
 /// An order whose fields are whole; a tag's value is none where it is missing.
@@ -256,7 +266,7 @@ impl Whole<'_> {
         let latitude = self.on_map(18, 90)?.unwrap_or(asked.latitude);
         let longitude = self.on_map(19, 180)?.unwrap_or(asked.longitude);
         let ramadan = self.ramadan()?;
-        if ramadan.is_some_and(|(_, shift)| !opens_ramadan(date - Duration::days(shift as i64))) {
+        if ramadan.is_some_and(|(_, shift)| !ramadan_starts().contains(&(date - Duration::days(shift as i64)))) {
             return refused(18, 2);
         }
         Ok(Asked { latitude, longitude, ramadan, ..asked })

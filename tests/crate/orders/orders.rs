@@ -26,7 +26,7 @@ const LINES: [&str; PLAIN + 1] = {
     lines
 };
 /// What reading an order can be refused by, and 0.
-const REFUSALS: [u32; 7] = [0, 1, 2, 3, 4, 5, 15];
+const REFUSALS: [u32; 8] = [0, 1, 2, 3, 4, 5, 15, 18];
 const NUMBER: usize = ORDER_FIELDS.len();
 const PLACE: usize = ORDER_FIELDS.len() + 1;
 const TIMES: usize = ORDER_FIELDS.len() + 2;

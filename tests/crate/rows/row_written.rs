@@ -7,8 +7,9 @@ use crate::sheet_owed::row_text;
 use chrono::Duration;
 use salah_probes::schedule::{access, PrayerTimes};
 
-/// A full row, with its newline.
+/// A full row, with its newline, and one of a Ramadan sheet.
 const ROW: usize = 119;
+const RAMADAN_ROW: usize = 131;
 
 #[derive(Debug, PartialEq)]
 pub struct Written {
@@ -23,16 +24,17 @@ impl Written {
         Written { reply, buffer }
     }
 
-    /// The buffer is checked before anything else; a refused call changes no byte of it.
+    /// The buffer is checked before anything else, and again once a Ramadan sheet's order is read; a refused call changes no byte of it.
     pub fn owed(order: &Order, row: u32, day: &Result<PrayerTimes, Refusal>, before: &[u8]) -> Written {
         let refused = |refusal: Refusal| Written { reply: refusal.into(), buffer: before.to_vec() };
-        if before.len() < ROW {
+        let imsak = order.reading.as_ref().ok().and_then(|asked| asked.imsak());
+        if before.len() < ROW || imsak.is_some() && before.len() < RAMADAN_ROW {
             return refused(Refusal { number: 9, place: 0 });
         }
         match (day, &order.reading) {
             (Ok(times), Ok(asked)) => {
-                let text = row_text(asked.date + Duration::days(row as i64), &Ok(access::nine(times)));
-                Written { reply: KatchidulReply::default(), buffer: [text.as_bytes(), &before[ROW..]].concat() }
+                let text = row_text(asked.date + Duration::days(row as i64), &Ok(access::nine(times)), imsak);
+                Written { reply: KatchidulReply::default(), buffer: [text.as_bytes(), &before[text.len()..]].concat() }
             }
             (Err(refusal), _) | (_, Err(refusal)) => refused(*refusal),
         }
@@ -42,7 +44,7 @@ impl Written {
 impl Draw {
     /// A buffer to write into: just too small, just large enough, larger, empty, filled with anything.
     pub fn row_buffer(&mut self) -> Vec<u8> {
-        let size = [0, 1, ROW - 1, ROW, ROW + 1, self.index(400)][self.index(6)];
+        let size = [0, 1, ROW - 1, ROW, ROW + 1, RAMADAN_ROW - 1, RAMADAN_ROW, self.index(400)][self.index(8)];
         (0..size).map(|_| self.bits() as u8).collect()
     }
 }

@@ -6,7 +6,7 @@ use crate::rows::Row;
 use chrono::{Duration, NaiveDate};
 use salah_probes::schedule::access;
 
-pub const HEADER: &str = "date fajr sunrise dhuhr asr maghrib isha middle qiyam tomorrow";
+const TIMES: &str = "fajr sunrise dhuhr asr maghrib isha middle qiyam tomorrow";
 
 /// Signed days from the row's date, floored, and the time of that day.
 fn time_text(seconds: i64) -> String {
@@ -14,13 +14,14 @@ fn time_text(seconds: i64) -> String {
     format!("{days:+}T{:02}:{:02}:{:02}", seconds / 3600, seconds / 60 % 60, seconds % 60)
 }
 
-/// A row's line, with its newline.
-pub fn row_text(date: NaiveDate, row: &Row) -> String {
+/// A row's line, with its newline; before Fajr stands imsak, so many minutes earlier, where the sheet is Ramadan's.
+pub fn row_text(date: NaiveDate, row: &Row, imsak: Option<i32>) -> String {
     let day = date.format("%Y-%m-%d");
     match row {
         Ok(times) => {
-            let times = times.map(|time| format!(" {}", time_text(time - midnight(date))));
-            format!("{day}{}\n", times.concat())
+            let imsak = imsak.map(|minutes| times[0] - 60 * minutes as i64);
+            let times = imsak.iter().chain(times).map(|time| format!(" {}", time_text(time - midnight(date))));
+            format!("{day}{}\n", times.collect::<String>())
         }
         Err(Refusal { number, place }) => format!("{day} refused {number} day {place}\n"),
     }
@@ -32,10 +33,11 @@ pub fn sheet(order: &Order) -> Vec<u8> {
         Err(Refusal { number, place }) => return format!("order refused {number} place {place}\n").into_bytes(),
     };
     let mut sheet = order.bytes[asked.town.clone()].to_vec();
-    sheet.extend(format!("\n{HEADER}\n").bytes());
+    let imsak = asked.imsak();
+    sheet.extend(format!("\ndate {}{TIMES}\n", if imsak.is_some() { "imsak " } else { "" }).bytes());
     for row in 0..asked.rows {
         let times = order.day(row).map(|times| access::nine(&times));
-        sheet.extend(row_text(asked.date + Duration::days(row as i64), &times).bytes());
+        sheet.extend(row_text(asked.date + Duration::days(row as i64), &times, imsak).bytes());
     }
     sheet
 }
