@@ -9,7 +9,8 @@ from trial import PATIENCE, Trial
 
 # System calls of the host that change nothing on a disk or a link.
 NO_WRITES = set("""access arch_prctl brk clock_nanosleep close connect execve exit_group faccessat faccessat2 fcntl getdents64 getegid
-geteuid getgid getrandom getuid mmap mprotect munmap newfstatat poll pread64 prlimit64 read readlink recvfrom rseq rt_sigaction set_robust_list set_tid_address socket""".split())
+geteuid getgid getrandom getuid mmap mprotect munmap newfstatat poll pread64 prlimit64 read readlink recvfrom rseq rt_sigaction
+set_robust_list set_tid_address socket""".split())
 
 
 def found():
