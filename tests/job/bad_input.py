@@ -137,14 +137,14 @@ class Stopped:
     def held_faults(self, trial, name, log, refused):
         wrong = trial.out_of_order()
         if trial.status != 1 or f"job {name} is held: {self.built.library.sentence(*refused)}\n" not in trial.said:
-            wrong.append(f"job {name}: status {trial.status}, not held by {refused}")
+            wrong.append(f"job {name}: status {trial.status}, not held by {refused}: {trial.said}")
         if trial.names("held") != [name] or (trial.spool / "held" / name / "log").read_bytes() != log:
             wrong.append(f"job {name} is not kept as it was")
         if len(trial.names("done")) != len(ORDERS) - 1:
             wrong.append("another job is not done")
         if len(trial.pages_by_job().get(int(name), [])) != self.counts.get(int(name), 0):
             wrong.append(f"a page of job {name} went out")
-        return wrong + self.release_faults(trial, name)
+        return wrong or self.release_faults(trial, name)
 
     def release_faults(self, trial, name):
         """With its own log again and moved back, the held job comes to its end."""
