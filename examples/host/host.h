@@ -7,10 +7,17 @@
        jobs/ID/log         its job log, as long as the file is; a log that is not there is empty
        done/ID             a job whose pages are all finished
        held/ID             a job that the library refuses to go on with; moved back to jobs, it is tried again
-       refused/NAME        an order that the library refuses
+       refused/NAME        an order that the library refuses, or that cannot be read; NAME.2, NAME.3, .. where the name is taken
 
    How far a job is stands in its log and nowhere else. The print queue is made anew from the logs at every start, and so it is where the
-   link is lost: both go the same way. */
+   link is lost: both go the same way.
+
+   An order is in one folder, never in two and never in none, on a file system where a rename lasts in both of its folders or in neither:
+   so it is on those that have a journal.
+
+   An embosser serves one spool: the ids of two would be the same. It counts an id's pages for good, and a new job gets an id above those in
+   jobs, done and held of which it has counted none: so done and held may be cleared, but a job that was taken out of the spool does not
+   come back into it, since its id may be another's. */
 #ifndef HOST_H
 #define HOST_H
 
@@ -52,6 +59,7 @@ int open_spool(const char *name);
 uint32_t id_after(int spool, const char *folder, uint32_t after);
 uint32_t unused_id(int spool);
 bool first_order(int spool, char name[NAME_MAX + 1]);
+void refuse_order(int spool, const char *name);
 void claim_order(int spool, const char *name, uint32_t id);
 bool drop_unclaimed(int spool, uint32_t id);
 void move_job(int spool, uint32_t id, const char *to);

@@ -70,7 +70,7 @@ bool link_hear(embosser *e, answer *a) {
   char *end;
   while ((end = memchr(e->text, '\n', e->held)) == NULL)
     if (!read_more(e)) return false;
-  char word[8], more;
+  char word[8] = "", more;
   *end = '\0';
   bool understood = sscanf(e->text, "%7s %u %u %c", word, &a->id, &a->number, &more) == 3;
   a->is_count = strcmp(word, "count") == 0;

@@ -1,8 +1,11 @@
 /* The jobs in work: which page goes out next, and what becomes of an acknowledgement. How far a job is, is asked of its log each time. */
 #include "host.h"
 
+#include <errno.h>
+#include <fcntl.h>
 #include <stdio.h>
 #include <string.h>
+#include <unistd.h>
 
 static job *find(room *r, uint32_t id) {
   for (uint32_t i = 0; i < r->count; i++)
@@ -134,22 +137,39 @@ static bool begin(room *r, uint32_t id) {
   return true;
 }
 
-/* Makes a job of an order, or refuses it; false where the order has to wait for the queue. */
-static bool take(room *r, const char *name) {
-  order o;
+/* An id for a new job. Folders may have been cleared, so one of which the embosser has finished pages is passed over. False where the link
+   is lost. */
+static bool new_id(room *r, uint32_t *id) {
+  uint32_t count = 0;
+  for (*id = unused_id(r->spool); hear_count(r, *id, &count); ++*id)
+    if (count == 0) return true;
+  return false;
+}
+
+/* Reads an order that waits, and refuses it where the library does, or the system; false then. */
+static bool read_order(room *r, const char *name, order *o, katchidul_order *asks) {
   char file[PATH_BYTES], about[PATH_BYTES];
   snprintf(file, sizeof file, "in/%s", name);
   snprintf(about, sizeof about, "order %s", name);
-  read_file(r->spool, file, o.bytes, sizeof o.bytes, &o.length);
-  if (o.length > sizeof o.bytes) o.length = sizeof o.bytes;
-  katchidul_order asks = katchidul_read_order(o.bytes, o.length);
-  if (asks.number != 0) {
-    say_refusal(about, asks.number, asks.place);
-    r->refused = true;
-    move_lasting(r->spool, "in", name, "refused", name);
-    return true;
-  }
-  uint32_t id = unused_id(r->spool);
+  if (faccessat(r->spool, file, R_OK, AT_EACCESS) == 0) {
+    read_file(r->spool, file, o->bytes, sizeof o->bytes, &o->length);
+    if (o->length > sizeof o->bytes) o->length = sizeof o->bytes;
+    *asks = katchidul_read_order(o->bytes, o->length);
+    if (asks->number == 0) return true;
+    say_refusal(about, asks->number, asks->place);
+  } else say("%s: %s", about, strerror(errno));
+  r->refused = true;
+  refuse_order(r->spool, name);
+  return false;
+}
+
+/* Makes a job of an order, or refuses it; false where the order has to wait for the queue. */
+static bool take(room *r, const char *name, uint32_t id) {
+  order o;
+  katchidul_order asks;
+  char about[PATH_BYTES];
+  snprintf(about, sizeof about, "order %s", name);
+  if (!read_order(r, name, &o, &asks)) return true;
   katchidul_joined joined = katchidul_join(r->queue, id, pages_of(&o));
   if (joined.number != 0) {
     if (strcmp(r->told, name) != 0) say_refusal(about, joined.number, joined.place);
@@ -165,11 +185,14 @@ static bool take(room *r, const char *name) {
 /* Jobs that stand in the spool first, by their ids, then orders, by their names, as long as the queue has room. */
 static bool admit(room *r) {
   char name[NAME_MAX + 1];
-  do {
-    for (uint32_t id = 0; (id = id_after(r->spool, "jobs", id)) != 0;)
+  for (;;) {
+    uint32_t id = 0;
+    while ((id = id_after(r->spool, "jobs", id)) != 0)
       if (find(r, id) == NULL && !begin(r, id)) return false;
-  } while (first_order(r->spool, name) && take(r, name));
-  return true;
+    if (!first_order(r->spool, name)) return true;
+    if (!new_id(r, &id)) return false;
+    if (!take(r, name, id)) return true;
+  }
 }
 
 bool work(room *r) {

@@ -51,7 +51,7 @@ uint32_t id_after(int spool, const char *folder, uint32_t after) {
   return least;
 }
 
-/* One above every id that a job has or had: the embosser counts an id's pages for good. */
+/* One above every id in the folders. */
 uint32_t unused_id(int spool) {
   uint32_t largest = 0;
   for (size_t i = 0; i < sizeof job_folders / sizeof *job_folders; i++) {
@@ -65,20 +65,34 @@ uint32_t unused_id(int spool) {
   return largest + 1;
 }
 
-/* The first order that waits, by name. A name that begins with a dot is an order that is still being written. */
+/* The first order that waits, by name. A name that begins with a dot is an order that is still being written; a link is none. */
 bool first_order(int spool, char name[NAME_MAX + 1]) {
   DIR *names = list(spool, "in");
   struct stat is;
   name[0] = '\0';
   for (struct dirent *entry; (entry = readdir(names)) != NULL;) {
-    if (entry->d_name[0] == '.' || fstatat(dirfd(names), entry->d_name, &is, 0) != 0 || !S_ISREG(is.st_mode)) continue;
+    if (entry->d_name[0] == '.' || fstatat(dirfd(names), entry->d_name, &is, AT_SYMLINK_NOFOLLOW) != 0) continue;
+    if (!S_ISREG(is.st_mode)) continue;
     if (name[0] == '\0' || strcmp(entry->d_name, name) < 0) snprintf(name, NAME_MAX + 1, "%s", entry->d_name);
   }
   closedir(names);
   return name[0] != '\0';
 }
 
-/* One rename makes the order a job: it is never both, and never neither. */
+/* A refused order keeps its name, with a number behind it where an earlier one has that. */
+void refuse_order(int spool, const char *name) {
+  char kept[NAME_MAX + 1], file[PATH_BYTES];
+  struct stat is;
+  snprintf(kept, sizeof kept, "%s", name);
+  for (uint32_t number = 2;; number++) {
+    snprintf(file, sizeof file, "refused/%s", kept);
+    if (fstatat(spool, file, &is, AT_SYMLINK_NOFOLLOW) != 0) break;
+    snprintf(kept, sizeof kept, "%.*s.%u", NAME_MAX - 11, name, number); /* a dot and ten digits */
+  }
+  move_lasting(spool, "in", name, "refused", kept);
+}
+
+/* One rename makes the order a job: it is never both, and never neither, where a rename lasts in both folders or in neither. */
 void claim_order(int spool, const char *name, uint32_t id) {
   char folder[PATH_BYTES], file[PATH_BYTES];
   snprintf(folder, sizeof folder, "jobs/%u", id);

@@ -6,7 +6,8 @@
     library.work_day(order, 0).times[0]
 
 A call has the header's name without `katchidul_`, and the header's words without the lengths: bytes, or a buffer by room(), stand for a
-pointer and its length. Its answer is the header's struct. A refusal is raised, as Refused, in the library's words."""
+pointer and its length. What a call writes to is a buffer by room(): bytes, which Python shares, are a ctypes.ArgumentError there. A call's
+answer is the header's struct. A refusal is raised, as Refused, in the library's words."""
 import ctypes
 from ctypes import c_double, c_int32, c_int64, c_size_t, c_uint32
 
@@ -47,7 +48,17 @@ class Turned(ctypes.Structure):
     _fields_ = [("id", c_uint32), ("pages", c_uint32), ("queue", Queue)]
 
 
-BYTES = [ctypes.c_char_p, c_size_t]
+class Lent:
+    """What a call writes to."""
+
+    @staticmethod
+    def from_param(given):
+        if not isinstance(given, ctypes.Array):
+            raise TypeError("a call writes here, so lend it a buffer by room(), and no bytes")
+        return given
+
+
+BYTES, LENT = [ctypes.c_char_p, c_size_t], [Lent, c_size_t]
 AT_ROW, AT_INSTANT = BYTES + [c_uint32], BYTES + [c_uint32, c_int64, c_uint32]
 CALLS = {
     "read_order": (Order, BYTES),
@@ -55,15 +66,15 @@ CALLS = {
     "prayer_at": (Prayer, AT_INSTANT),
     "next_at": (Prayer, AT_INSTANT),
     "remaining_at": (Remaining, AT_INSTANT),
-    "write_row": (Reply, AT_ROW + BYTES),
-    "write_cells": (Cells, AT_ROW + BYTES),
-    "write_page": (Cells, AT_ROW + [c_uint32] + BYTES),
+    "write_row": (Reply, AT_ROW + LENT),
+    "write_cells": (Cells, AT_ROW + LENT),
+    "write_page": (Cells, AT_ROW + [c_uint32] + LENT),
     "join": (Joined, [Queue, c_uint32, c_uint32]),
     "turn": (Turned, [Queue]),
     "read_log": (Log, BYTES + [c_size_t]),
-    "append": (Log, BYTES + [c_size_t, c_uint32, c_uint32] + BYTES),
-    "restart": (Log, BYTES + [c_size_t, c_uint32] + BYTES),
-    "write_sentence": (Written, [c_uint32, c_uint32] + BYTES),
+    "append": (Log, LENT + [c_size_t, c_uint32, c_uint32] + LENT),
+    "restart": (Log, BYTES + [c_size_t, c_uint32] + LENT),
+    "write_sentence": (Written, [c_uint32, c_uint32] + LENT),
     "read_sentence": (Meaning, BYTES),
     "map_latitude": (Map, [c_double]),
     "map_longitude": (Map, [c_double]),

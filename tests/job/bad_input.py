@@ -1,7 +1,9 @@
 # Bad input: refused orders, damaged logs, a full disk, a missing embosser. Each is told in the library's words or the system's, nothing is
 # sent twice, and what can't go on is held and not lost.
+import ctypes
 import os
 import random
+import resource
 import shutil
 import subprocess
 import time
@@ -31,6 +33,50 @@ def refused_orders(checks, built):
         if trial.names("in") != ["a folder", ".unfinished"]:
             wrong.append(f"in has {trial.names('in')}")
     checks.check("refused orders", wrong)
+
+
+def refused_again(checks, built):
+    with Trial(built, BAD[:1]) as trial:
+        name = "n" * os.pathconf(trial.spool, "PC_NAME_MAX")
+        for text in BAD[:3]:
+            (trial.spool / "in" / "000").write_bytes(text)
+            (trial.spool / "in" / name).write_bytes(text)
+            trial.run()
+        kept = {there: (trial.spool / "refused" / there).read_bytes() for there in trial.names("refused")}
+        owed = dict(zip(["000", "000.2", "000.3", name, name[:-11] + ".2", name[:-11] + ".3"], BAD[:3] * 2))
+    checks.check("refused orders of one name", [] if kept == owed else [f"kept {sorted(kept)}"])
+
+
+def drop_rights():
+    """A root that may read and write by the files' modes alone, as a user may: CAP_DAC_OVERRIDE and CAP_DAC_READ_SEARCH are gone."""
+    for right in (1, 2):
+        ctypes.CDLL(None).prctl(24, right, 0, 0, 0)  # PR_CAPBSET_DROP
+
+
+def unreadable_orders(checks, built):
+    with Trial(built, [GOOD, GOOD, ORDERS[1]]) as trial:
+        into = trial.spool / "in"
+        (into / "000").chmod(0)
+        (into / "a").symlink_to("nowhere")
+        (into / "b").symlink_to("002")
+        trial.run(before=drop_rights)
+        wrong = [] if trial.status == 1 and "order 000: Permission denied\n" in trial.said else [f"status {trial.status}: {trial.said}"]
+        if (trial.names("in"), trial.names("refused"), trial.names("done")) != (["a", "b"], ["000"], ["1", "2"]):
+            wrong.append(f"in has {trial.names('in')}, refused {trial.names('refused')}, done {trial.names('done')}")
+    checks.check("orders that cannot be read, and links", wrong)
+
+
+def cleared_folders(checks, built):
+    """Jobs whose folders are gone: their ids are not given again."""
+    with Trial(built, ORDERS) as trial:
+        trial.run()
+        wrong = trial.faults()
+        shutil.rmtree(trial.spool / "done")
+        (trial.spool / "in" / "again").write_bytes(GOOD)
+        trial.run()
+        if trial.status != 0 or trial.names("done") != ["5"] or trial.pages_by_job().get(5) != built.library.pages(GOOD):
+            wrong.append(f"status {trial.status}: {trial.said}")
+    checks.check("cleared folders", wrong)
 
 
 def full_queue(checks, built):
@@ -91,14 +137,14 @@ class Stopped:
     def held_faults(self, trial, name, log, refused):
         wrong = trial.out_of_order()
         if trial.status != 1 or f"job {name} is held: {self.built.library.sentence(*refused)}\n" not in trial.said:
-            wrong.append(f"job {name}: status {trial.status}, not held by {refused}")
+            wrong.append(f"job {name}: status {trial.status}, not held by {refused}: {trial.said}")
         if trial.names("held") != [name] or (trial.spool / "held" / name / "log").read_bytes() != log:
             wrong.append(f"job {name} is not kept as it was")
         if len(trial.names("done")) != len(ORDERS) - 1:
             wrong.append("another job is not done")
         if len(trial.pages_by_job().get(int(name), [])) != self.counts.get(int(name), 0):
             wrong.append(f"a page of job {name} went out")
-        return wrong + self.release_faults(trial, name)
+        return wrong or self.release_faults(trial, name)
 
     def release_faults(self, trial, name):
         """With its own log again and moved back, the held job comes to its end."""
@@ -138,7 +184,7 @@ def full_disk(checks, built):
     wrong, told = [], 0
     for most in range(0, 31):
         with Trial(built, ORDERS) as trial:
-            trial.run(most_bytes=most)
+            trial.run(before=lambda: resource.setrlimit(resource.RLIMIT_FSIZE, (most, most)))
             if trial.status == 2 and "File too large; nothing more is sent" in trial.said:
                 told += 1
             elif trial.status != 0:
@@ -208,6 +254,9 @@ def two_hosts(checks, built):
 
 def run(checks, built, seed, long):
     refused_orders(checks, built)
+    refused_again(checks, built)
+    unreadable_orders(checks, built)
+    cleared_folders(checks, built)
     full_queue(checks, built)
     no_id_left(checks, built)
     damaged_logs(checks, built, seed, long)

@@ -17,6 +17,18 @@ class Log(ctypes.Structure):
     _fields_ = [(name, ctypes.c_uint32) for name in ("number", "place", "moved", "finished", "sent")] + [("used", ctypes.c_size_t)]
 
 
+class Queue(ctypes.Structure):
+    _fields_ = [("jobs", ctypes.c_uint32), ("ids", ctypes.c_uint32 * 16), ("pages", ctypes.c_uint32 * 16)]
+
+
+class Joined(ctypes.Structure):
+    _fields_ = [("number", ctypes.c_uint32), ("place", ctypes.c_uint32), ("queue", Queue)]
+
+
+class Turned(ctypes.Structure):
+    _fields_ = [("id", ctypes.c_uint32), ("pages", ctypes.c_uint32), ("queue", Queue)]
+
+
 class Written(ctypes.Structure):
     _fields_ = [(name, ctypes.c_uint32) for name in ("number", "place", "length")]
 
@@ -30,6 +42,8 @@ class Library:
         self.calls = {}
         for name, answer, words in [
                 ("write_page", Cells, [buffer, size, word, word, buffer, size]),
+                ("join", Joined, [Queue, word, word]),
+                ("turn", Turned, [Queue]),
                 ("read_log", Log, [buffer, size, size]),
                 ("restart", Log, [buffer, size, size, word, buffer, size]),
                 ("write_sentence", Written, [word, word, buffer, size])]:
@@ -59,6 +73,21 @@ class Library:
                 pages.append((len(pages) + 1, *made))
             self.known[order] = pages  # only now: other threads may ask
         return self.known[order]
+
+    def dots(self, order, page):
+        """The dots of the pages up to this one."""
+        scratch = ctypes.create_string_buffer(975)
+        return sum(self.write_page(order, at, scratch).dots for at in range(1, page + 1))
+
+    def turns(self, pages):
+        """Job and page of each turn, where the jobs 1, 2, 3, .. have so many pages and all wait from the beginning."""
+        queue, turns = Queue(), []
+        for job, count in enumerate(pages, 1):
+            queue = self.calls["join"](queue, job, count).queue
+        while (turn := self.calls["turn"](queue)).id != 0:
+            turns.append((turn.id, pages[turn.id - 1] - turn.pages))
+            queue = turn.queue
+        return turns
 
     def log(self, log, size):
         return self.calls["read_log"](log.ljust(size, b"\0")[:size], size, len(log))

@@ -102,6 +102,13 @@ def without_power(built, seed, trials, host=None, seconds=30):
     return all_of(one, range(trials))
 
 
+def without_accidents(built, orders=ORDERS, host=None):
+    """Nothing happens: all is punched, in the queue's turns, and the host says how far each job is."""
+    with Trial(built, orders, host, ["-t", 1]) as trial:
+        trial.run(patience=5000)
+        return trial.faults() + trial.turn_faults() + trial.progress_faults()
+
+
 def calls_of_a_run(built):
     with Trial(built, ORDERS) as trial:
         trace = trial.folder / "trace"
@@ -126,11 +133,12 @@ def failing(built, seed, step=1):
 
 
 def order_of_calls(built, seed, trials, host=None):
-    """No page goes out before its record and its order last. Gives the faults, and how many pages were looked at."""
+    """No page goes out before its record and its order last, though whoever put the order in did not flush it. Gives the faults, and how
+    many pages were looked at."""
 
     def one(number):
         with Trial(built, ORDERS, host, habits(draw_of(seed, number)), 5) as trial:
-            disk, trace = trial.disk(), trial.folder / "trace"
+            disk, trace = trial.disk(unflushed="in"), trial.folder / "trace"
             trial.run(trace=trace)
             faults, pages = trial.unrecorded(disk, trace)
             return Count(pages=pages, faults=faults)

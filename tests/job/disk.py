@@ -26,9 +26,12 @@ class Change:
 
 
 class Disk:
-    def __init__(self, spool):
+    def __init__(self, spool, unflushed=None):
+        """unflushed: a folder whose files have their names, and none of their bytes lasts."""
         self.root, self.changes = Folder(), []
         self.begin(self.root, spool)
+        for file in self.node(unflushed).seen.values() if unflushed else ():
+            file.lasts = b""
 
     def begin(self, folder, path):
         """All that stands there at the beginning lasts."""

@@ -8,8 +8,9 @@ from crashes import ORDERS
 from trial import PATIENCE, Trial
 
 # System calls of the host that change nothing on a disk or a link.
-NO_WRITES = set("""access arch_prctl brk clock_nanosleep close connect execve exit_group fcntl getdents64 getrandom mmap mprotect munmap
-newfstatat poll pread64 prlimit64 read readlink recvfrom rseq rt_sigaction set_robust_list set_tid_address socket""".split())
+NO_WRITES = set("""access arch_prctl brk clock_nanosleep close connect execve exit_group faccessat faccessat2 fcntl getdents64 getegid
+geteuid getgid getrandom getuid mmap mprotect munmap newfstatat poll pread64 prlimit64 read readlink recvfrom rseq rt_sigaction
+set_robust_list set_tid_address socket""".split())
 
 
 def found():
@@ -57,7 +58,7 @@ class Calls:
 def run(built, host=None, with_stopper=True):
     """Faults of the order of the calls, pages that went out, and what strace saw that the stopper did not, or is unknown."""
     with Trial(built, ORDERS, host, ["-t", 1]) as trial:
-        disk, own, seen = trial.disk(), trial.folder / "own", trial.folder / "seen"
+        disk, own, seen = trial.disk(unflushed="in"), trial.folder / "own", trial.folder / "seen"
         own.touch()
         words = {"LD_PRELOAD": built.stopper, "STOPPER_TRACE": str(own), "STOPPER_SPOOL": str(trial.spool.resolve())}
         settings = [word for name, value in words.items() if with_stopper for word in ("-E", f"{name}={value}")]

@@ -1,7 +1,7 @@
 # One spool with its host and its embosser, from the first order to the last page, and what is wrong with it at the end.
+import itertools
 import os
 import pathlib
-import resource
 import shutil
 import subprocess
 import tempfile
@@ -63,15 +63,14 @@ class Trial:
             self.embosser.communicate()
         self.embosser = None
 
-    def begin(self, after=0, how="kill", trace=None, most_bytes=None):
-        """Starts a host; after: the call that writes at which the stopper does what `how` says."""
+    def begin(self, after=0, how="kill", trace=None, before=None, patience=PATIENCE):
+        """Starts a host; after: the call that writes at which the stopper does what `how` says; before: what its process does first."""
         words = {**os.environ}
         if after or trace:
             words.update(LD_PRELOAD=self.built.stopper, STOPPER_AFTER=str(after), STOPPER_HOW=how, STOPPER_SPOOL=str(self.spool.resolve()))
         if trace:
             words["STOPPER_TRACE"] = str(trace)
-        limit = (lambda: resource.setrlimit(resource.RLIMIT_FSIZE, (most_bytes, most_bytes))) if most_bytes is not None else None
-        return subprocess.Popen([self.host, "-p", str(PATIENCE), str(self.spool), self.socket], env=words, preexec_fn=limit,
+        return subprocess.Popen([self.host, "-p", str(patience), str(self.spool), self.socket], env=words, preexec_fn=before,
                                 stdout=subprocess.PIPE, stderr=subprocess.STDOUT)
 
     def end(self, host, delay=None):
@@ -128,6 +127,21 @@ class Trial:
                 wrong.append(f"job {name}: punched {[page for page, *_ in punched]} of {len(owed)} pages")
         return wrong + [f"pages of job {job}, which is not there" for job in jobs]
 
+    def turn_faults(self):
+        """Of a run without accidents: the jobs' pages do not come in the turns of the library's queue."""
+        owed = self.built.library.turns([len(self.built.library.pages(text)) for text in self.orders])
+        punched = [(job, page) for job, page, *_ in punched_pages(self.punched)]
+        return [] if punched == owed else [f"punched in the order {punched}, not {owed}"]
+
+    def progress_faults(self):
+        """Of a run without accidents: the host does not say of each page that is punched how far its job is."""
+        library, owed = self.built.library, []
+        for job, page, *_ in punched_pages(self.punched):
+            text = self.orders[job - 1]
+            owed.append(f"job {job}: page {page} of {len(library.pages(text))}, {library.dots(text, page)} dots punched")
+        told = [line for line in self.said.splitlines() if line.endswith(" punched")]
+        return [f"told {line}, not {right}" for line, right in itertools.zip_longest(told, owed) if line != right]
+
     def out_of_order(self):
         """Of jobs that may have stopped halfway: pages that are not the first ones of their order, each once."""
         wrong = []
@@ -166,5 +180,5 @@ class Trial:
         for folder in ("in", "jobs", "done", "held", "refused"):
             (self.spool / folder).mkdir(exist_ok=True)
 
-    def disk(self):
-        return Disk(str(self.spool))
+    def disk(self, unflushed=None):
+        return Disk(str(self.spool), unflushed)

@@ -1,5 +1,5 @@
 # Hosts with one thing wrong, each an edit of the host's text, and which runs must notice: `kills`, lost
-# `power`, or the order of the calls (`calls`).
+# `power`, the order of the calls (`calls`), or a run without accidents (`plain`).
 SEND_NEXT = """  append(r, j, KATCHIDUL_RECORD_SENT, page);
   r->queue = turn.queue;
   return send_page(r, j, page);
@@ -18,6 +18,13 @@ WRONG_HOSTS = [
      "stop_at(meant);\n"),
     ("the order's folder not flushed", {"calls"}, "spool.c", '  make_folder(spool, folder);\n  flush_file(spool, "jobs");\n',
      "  make_folder(spool, folder);\n"),
+    ("the order not flushed", {"calls"}, "spool.c", "  flush_file(spool, file);\n", ""),
+    ("each job whole", {"plain"}, "room.c", "  job *j = find(r, turn.id);\n", """\
+  job *j = NULL;
+  for (uint32_t id = 1; j == NULL || job_log(j).sent == pages_of(&j->order); id++) j = find(r, id);
+"""),
+    ("the whole job's dots told", {"plain"}, "room.c", "dots_through(&j->order, finished)", "dots_through(&j->order, pages_of(&j->order))"),
+    ("pages told before they are punched", {"plain"}, "room.c", "say_progress(j, log.finished);", "say_progress(j, log.sent);"),
     ("the log written in its place", {"kills"}, "lasting.c", '"%s/%s.new", folder, name', '"%s/%s", folder, name'),
     ("the embosser not asked", {"kills"}, "room.c", "job_restart(r->spool, &j, count)", "job_restart(r->spool, &j, job_log(&j).finished)"),
     ("open pages not sent again", {"kills"}, "room.c", "uint32_t page = now.finished + 1;", "uint32_t page = now.sent + 1;"),
