@@ -8,7 +8,7 @@ import struct
 import sys
 
 LENGTHS = {1: range(1, 41), 2: [4], 3: [1, 2], 4: [8], 5: [8], 6: [1], 7: [1], 8: [1], 9: [1], 10: [1], 11: [12], 12: [8], 13: [8], 14: [2], 15: [1],
-           16: [2], 17: [1], 18: [5], 19: [5]}
+           16: [2], 17: [1], 18: [5], 19: [5], 20: [2]}
 # By method: Fajr, Isha and Maghrib angle, interval, rounding, and the minutes for sunrise, Dhuhr, Asr and Maghrib.
 METHODS = [(18.0, 17.0, 0.0, 0, 0, (0, 1, 0, 0)), (19.5, 17.5, 0.0, 0, 0, (0, 1, 0, 0)), (18.0, 18.0, 0.0, 0, 0, (0, 1, 0, 0)), (18.5, 0.0, 0.0, 90, 0, (0, 0, 0, 0)),
            (18.2, 18.2, 0.0, 0, 0, (-3, 3, 3, 3)), (18.0, 18.0, 0.0, 0, 0, (0, 5, 0, 3)), (15.0, 15.0, 0.0, 0, 0, (0, 1, 0, 0)), (18.0, 17.5, 0.0, 0, 0, (0, 0, 0, 0)),
@@ -82,6 +82,23 @@ def date_of(value):
         return None
 
 
+def tabular(day):
+    """Year, month and day of the tabular Islamic calendar by its rule, counted on from 1-1-1, which is Julian Day 1948439.5."""
+    left, year = day.toordinal() - 227015, 1
+    leap = lambda: year % 30 in (2, 5, 7, 10, 13, 16, 18, 21, 24, 26, 29)
+    while left >= 354 + leap():
+        left, year = left - 354 - leap(), year + 1
+    month = 1
+    while left >= (days := 30 if month % 2 or month == 12 and leap() else 29):
+        left, month = left - days, month + 1
+    return year, month, left + 1
+
+
+def opens_ramadan(values):
+    """Is the first day, less the shift, the first of month 9?"""
+    return tabular(date_of(values[2]) - datetime.timedelta(values[20][1] - 1))[1:] == (9, 1)
+
+
 def in_range(values, tag):
     value = values[tag]
     if tag == 1:
@@ -91,6 +108,8 @@ def in_range(values, tag):
         return date is not None and 1900 <= date.year <= 2199
     if tag == 3:
         rows = int.from_bytes(value, "big")
+        if 20 in values and rows != 30:
+            return False
         return 1 <= rows <= (250 if len(value) == 1 else 400) and (LAST - date_of(values[2])).days >= rows - 1
     if tag in (4, 5, 12, 13):
         low, high = {4: (-90, 90), 5: (-180, 180), 12: (0, 30), 13: (0, 30)}[tag]
@@ -104,6 +123,8 @@ def in_range(values, tag):
     if tag in (18, 19):
         sign, _, minutes, seconds, parts = value
         return sign <= 1 and minutes <= 59 and seconds <= 59 and parts <= 99 and hundredths(value) <= {18: 90, 19: 180}[tag] * 360000
+    if tag == 20:
+        return value[0] <= 30 and value[1] <= 2
     low, high = {6: (0, 12), 7: (1, 2), 8: (0, 2), 9: (0, 2), 10: (0, 2), 15: (0, 1), 17: (0, 1)}[tag]
     return low <= value[0] <= high
 
@@ -116,6 +137,8 @@ def line(order):
         refusal = next(((15, other) for tag, other in FORMS if tag in values and other in values), None)
     if refusal is None:
         refusal = next(((5, tag) for tag in sorted(values) if not in_range(values, tag)), None)
+    if refusal is None and 20 in values and not opens_ramadan(values):
+        refusal = 18, 2
     if refusal is not None:
         return b"%d %d \n" % refusal
     date, method = date_of(values[2]), values[6][0]
@@ -128,7 +151,8 @@ def line(order):
     town = next(at for at, tag in offsets(order) if tag == 1) + 3
     numbers = [0, 0, town, len(values[1]), date.year, date.month, date.day, int.from_bytes(values[3], "big"), bits(coordinate(values, 4, 18)),
                bits(coordinate(values, 5, 19)), method, one(7, 1), one(8, 0), one(9, rounding), one(10, 0), bits(angle(12, fajr)), bits(angle(13, isha)),
-               bits(maghrib), minutes, *own, 0, *brought, 0, one(15, 0), *struct.unpack(">h", values.get(16, bytes(2))), one(17, 0)]
+               bits(maghrib), minutes, *own, 0, *brought, 0, one(15, 0), *struct.unpack(">h", values.get(16, bytes(2))), one(17, 0),
+               *([1, values[20][0], values[20][1] - 1] if 20 in values else [0, 0, 0])]
     return b"".join(b"%d " % n for n in numbers) + values[1] + b"\n"
 
 
@@ -151,8 +175,33 @@ def good(draw):
             (15, bytes([draw.randrange(2)])), (16, struct.pack(">h", draw.choice([-840, 840, 0, draw.randint(-840, 840)]))),
             (17, bytes([draw.randrange(2)]))]
     fields += [f for f in more if draw.random() < 0.5]
+    if draw.random() < 0.2:
+        fields = ramadan(draw, fields)
     draw.shuffle(fields)
     return fields
+
+
+def first_days():
+    """The 310 first days of Ramadan from 1900 to 2199, by the rule."""
+    day = datetime.date(1900, 1, 1)
+    while day <= LAST:
+        year, month, number = tabular(day)
+        if (month, number) == (9, 1):
+            yield day
+            day += datetime.timedelta(350)
+        day += datetime.timedelta(1)
+
+
+FIRST_DAYS = list(first_days())
+
+
+def ramadan(draw, fields):
+    """The same as a Ramadan sheet."""
+    shift = draw.randrange(3)
+    day = draw.choice(FIRST_DAYS) + datetime.timedelta(shift - 1)
+    kept = [(tag, value) for tag, value in fields if tag not in (2, 3)]
+    return kept + [(2, struct.pack(">HBB", day.year, day.month, day.day)), (3, draw.choice([b"\x1e", b"\0\x1e"])),
+                   (20, bytes([draw.choice([0, 30, draw.randint(0, 30)]), shift]))]
 
 
 def out_of_range(draw, tag, value):
@@ -172,7 +221,7 @@ def damaged(draw):
     elif kind == 1:
         fields.insert(draw.randrange(len(fields) + 1), (tag, draw.choice([value, b""])))
     elif kind == 2:
-        fields[place] = (draw.choice([0, 20, 99, 255]), value)
+        fields[place] = (draw.choice([0, 20, 21, 99, 255]), value)
     elif kind == 3:
         fields[place] = (tag, draw.choice([value + b" ", value[:-1], b""]))
     elif kind <= 5:
@@ -255,6 +304,17 @@ def marked():
     orders += [but({1: b"\37"}) + north, but({4: real(nan)}) + field(18, b"\2\x63\x63\x63\x63"), without(6) + north, without(5) + north, without(4) + east]
     # the map form's range is judged in its own tag's turn, behind tag 5's
     orders += [join([*((t, v) for t, v in pole.items() if t not in (4, 5)), (5, real(181.0)), (18, bytes([0, 91, 0, 0, 0]))])]
+    # a Ramadan sheet: 30 rows in one byte or two, from the shifted 1 Ramadan on; every first day and its neighbours
+    fast = lambda day, rows=b"\x1e", told=b"\x0a\1": but({2: date(*day), 3: rows, 20: told})
+    orders += [fast((2026, 2, day), told=bytes([10, shift])) for day in range(16, 21) for shift in range(3)]
+    orders += [fast(day.timetuple()[:3]) for first in FIRST_DAYS for day in (first - datetime.timedelta(1), first, first + datetime.timedelta(1)) if day <= LAST]
+    orders += [fast((1900, 1, day), told=bytes([0, shift])) for day in (1, 2, 3, 4) for shift in range(3)]
+    orders += [fast((2026, 2, 18), rows) for rows in (b"\x1d", b"\x1f", b"\0\x1e", b"\0\x1d", b"\1\x1e", b"\1", b"\0")]
+    orders += [fast((2026, 2, 18), told=bytes(told)) for told in ((0, 1), (30, 1), (31, 1), (255, 1), (0, 3), (30, 255), (31, 3))]
+    # rows other than 30 in tag 3's turn, before tags 4 to 20; ranges before the start; both forms before it
+    orders += [fast((2026, 2, 17), b"\x1d", b"\x1f\3"), fast((2026, 2, 17), told=b"\x1f\3"), fast((2026, 2, 17)) + field(7, b"\0"),
+               fast((2026, 2, 17)) + field(18, bytes(5)), fast((2026, 2, 30)), fast((2026, 2, 17)) + field(12, real(31.0))]
+    orders += [whole + field(20, bytes(length)) for length in (0, 1, 3)] + [fast((2026, 2, 18)) + field(20, b"\x0a\1")]
     return orders
 
 

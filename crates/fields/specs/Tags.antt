@@ -43,6 +43,8 @@ tags =
     -- 18, 19: latitude and longitude as on the map
     ∷ row 5 5 0 0
     ∷ row 5 5 0 0
+    -- 20: Ramadan
+    ∷ row 2 2 0 0
     ∷ []
 
 abbrev pub lastTag : ℕ

@@ -2,7 +2,7 @@
 ghost use mathlib.Core.Path.{_≡_};
 ghost use Rattle.fields.specs.Tags.{knownTag, lengthFits, choiceFits};
 
-pub const LAST_TAG: u32 = 19;
+pub const LAST_TAG: u32 = 20;
 
 // There is no tag 0, but a row stands for it.
 pub const TAGS: usize = LAST_TAG as usize + 1;
@@ -29,6 +29,7 @@ const TABLE: [[u32; 4]; TAGS] = [
     [1, 1, 0, 1],
     [5, 5, 0, 0],
     [5, 5, 0, 0],
+    [2, 2, 0, 0],
 ];
 
 pub(crate) fn known(tag: u32) -> bool

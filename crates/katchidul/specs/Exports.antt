@@ -1,5 +1,6 @@
 -- What a host gets from each call: number and place, 0 and 0 where nothing is refused, and each other field, 0 where the call is refused.
 use Prim.Native.Nat.{ℕ}
+use mathlib.Core.Bool.{Bool, cond}
 use mathlib.Core.List.{List}
 use lib.IntN.{ℤ, pos}
 use Rattle.integers.specs.Parts.{P}
@@ -37,9 +38,13 @@ minutesAnswerOf m = record { fajr = m .fajr; sunrise = m .sunrise; dhuhr = m .dh
 abbrev pub noMinutesAnswer : KatchidulMinutes
 noMinutesAnswer = record { fajr = pos 0; sunrise = pos 0; dhuhr = pos 0; asr = pos 0; maghrib = pos 0; isha = pos 0 }
 
--- what tags 15 to 20 choose, 0 where no tag gives a field yet
+-- 1 where tag 20 stands
+unfoldable pub setNumberOf : Bool → ℕ
+setNumberOf set = cond set 1 0
+
+-- what tags 15 to 17 and 20 choose
 abbrev pub choicesAnswerOf : Order → KatchidulChoices
-choicesAnswerOf o = record { carry = midnightNumberOf (o .rules .midnight); clock = o .clock; southern = southernNumberOf (o .rules .southern); ramadan = 0; imsak = 0; shift = pos 0 }
+choicesAnswerOf o = record { carry = midnightNumberOf (o .rules .midnight); clock = o .clock; southern = southernNumberOf (o .rules .southern); ramadan = setNumberOf (o .ramadan .set); imsak = o .ramadan .imsak; shift = o .ramadan .shift }
 
 abbrev pub noChoicesAnswer : KatchidulChoices
 noChoicesAnswer = record { carry = 0; clock = pos 0; southern = 0; ramadan = 0; imsak = 0; shift = pos 0 }

@@ -1,7 +1,7 @@
 // Reading an order.
 ghost use mathlib.Core.Path.{_≡_};
 ghost use Rattle.integers.specs.Parts.{P};
-ghost use Rattle.katchidul.specs.Exports.{minutesAnswerOf, noMinutesAnswer, choicesAnswerOf, noChoicesAnswer, orderRead, orderRefused, orderAnswerOf};
+ghost use Rattle.katchidul.specs.Exports.{minutesAnswerOf, noMinutesAnswer, setNumberOf, choicesAnswerOf, noChoicesAnswer, orderRead, orderRefused, orderAnswerOf};
 use models::adjustments::TimeAdjustment;
 use order::reading::Order;
 use order::reading::Reading;
@@ -19,7 +19,7 @@ pub struct KatchidulMinutes {
     pub isha: i32,
 }
 
-// What tags 15 to 20 choose; in C six fields of the order. 0 where no tag gives a field yet.
+// What tags 15 to 17 and 20 choose; in C six fields of the order.
 #[repr(C)]
 pub struct KatchidulChoices {
     pub carry: u32,
@@ -90,19 +90,29 @@ fn no_minutes() -> KatchidulMinutes
     }
 }
 
+fn is_set(set: bool) -> u32
+    ensures { λ r. ⌜ r ≡ setNumberOf set ⌝ }
+{
+    if set {
+        return 1;
+    }
+    0
+}
+
 fn choices_read(order: Order) -> KatchidulChoices
     ensures { λ r. ⌜ r ≡ choicesAnswerOf order ⌝ }
 {
     let rules = order.rules;
     let midnight = rules.midnight;
     let southern = rules.southern;
+    let ramadan = order.ramadan;
     KatchidulChoices {
         carry: midnight.number(),
         clock: order.clock,
         southern: southern.number(),
-        ramadan: 0,
-        imsak: 0,
-        shift: 0,
+        ramadan: is_set(ramadan.set),
+        imsak: ramadan.imsak,
+        shift: ramadan.shift,
     }
 }
 

@@ -2,3 +2,4 @@ pub mod LinesLaws
 pub mod Instants
 pub mod Making
 pub mod Parts
+pub mod Imsak

@@ -2,16 +2,20 @@
 use native.Mathlib.Omega.{arith}
 use Prim.Native.Nat.{ℕ, _+_, _*_, _≤_}
 use mathlib.Core.Path.{_≡_, refl}
+use mathlib.Core.Bool.{Bool, true, false, cond}
 use mathlib.Core.List.{List, [], _∷_, _++_}
+use lib.Dec.{lit≤}
 use lib.IntN.{ℤ}
 use lib.ListN.{length, length-append}
 use Rattle.calendar.specs.declared.dates.Date.{Date}
+use Rattle.hijri.specs.declared.ramadan.Ramadan.{Ramadan}
+use Rattle.schedule.specs.declared.prayer_times.PrayerTimes.{PrayerTimes}
 use Rattle.refusals.specs.declared.Refusal.{Refusal}
 use Rattle.schedule.specs.declared.prayer_times.Worked.{Worked}
 use Rattle.schedule.specs.declared.prayer_times.Worked.the-variants.{Times, Refused}
 use Rattle.text.specs.Text.{ascii, decimalOf}
 use Rattle.text.proofs.TextLaws.{digits-short}
-use Rattle.lines.specs.Lines.{dateText, timeText, timesText, nineOf, rowText, rowBytes, fullRow, numberText, refusedText, lineText}
+use Rattle.lines.specs.Lines.{dateText, timeText, timesText, imsakOf, nineOf, columnsOf, rowText, rowBytes, fullRow, rowRoom, numberText, refusedText, lineText}
 
 pub date-length : (date : Date) → length (dateText date) ≡ 10
 unfolding dateText
@@ -58,10 +62,27 @@ refused-length whose word r =
     let p = number-length word (r .place) in
     omega arith
 
-pub line-length : (date : Date) (worked : Worked) → length (lineText date worked) ≤ fullRow
+pub columns-length : (ramadan : Ramadan) (date : Date) (t : PrayerTimes) → length (rowText date (columnsOf ramadan t)) ≡ rowRoom ramadan
+unfolding columnsOf rowRoom
+columns-length ramadan date t = go (ramadan .set)
+  where
+    go : (b : Bool) → length (rowText date (cond b (imsakOf (ramadan .imsak) (t .fajr) ∷ nineOf t) (nineOf t))) ≡ rowBytes (cond b 10 9)
+    go true = row-length date (imsakOf (ramadan .imsak) (t .fajr) ∷ nineOf t)
+    go false = row-length date (nineOf t)
+
+-- 119 or 131
+pub full-row : (ramadan : Ramadan) → (fullRow ≤ rowRoom ramadan) × (rowRoom ramadan ≤ 131)
+unfolding rowRoom
+full-row ramadan = go (ramadan .set)
+  where
+    go : (b : Bool) → (fullRow ≤ rowBytes (cond b 10 9)) × (rowBytes (cond b 10 9) ≤ 131)
+    go true = (lit≤ tt, lit≤ tt)
+    go false = (lit≤ tt, lit≤ tt)
+
+pub line-length : (ramadan : Ramadan) (date : Date) (worked : Worked) → length (lineText ramadan date worked) ≤ rowRoom ramadan
 unfolding lineText
-line-length date (Times t) = let n = row-length date (nineOf t) in omega arith
-line-length date (Refused r) =
+line-length ramadan date (Times t) = let n = columns-length ramadan date t in omega arith
+line-length ramadan date (Refused r) =
     let d = date-length date in
     let n = refused-length (dateText date) (ascii " day ") r in
-    omega arith
+    omega (arith, full-row ramadan .0)

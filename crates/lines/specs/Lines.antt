@@ -1,11 +1,14 @@
 -- Document 01, "The sheet": the lines of a sheet, as bytes of ASCII.
 use Prim.Native.Nat.{ℕ, _+_, _*_, _/_, _%_}
+use mathlib.Core.Bool.{cond}
 use mathlib.Core.List.{List, [], _∷_, _++_}
 use lib.IntN.{ℤ, pos, negsuc, _-ℤ_}
+use lib.Signed.{leZ}
 use Rattle.integers.specs.Parts.{P, N}
 use Rattle.integers.specs.Quotients.{floorQuot, floorRem}
 use Rattle.calendar.specs.declared.dates.Date.{Date}
 use Rattle.calendar.specs.Days.{dayNumberOf}
+use Rattle.hijri.specs.declared.ramadan.Ramadan.{Ramadan}
 use Rattle.refusals.specs.declared.Refusal.{Refusal}
 use Rattle.schedule.specs.declared.prayer_times.PrayerTimes.{PrayerTimes}
 use Rattle.schedule.specs.declared.prayer_times.Worked.{Worked}
@@ -46,6 +49,18 @@ abbrev pub nineOf : PrayerTimes → List ℤ
 nineOf t =
     t .fajr ∷ t .sunrise ∷ t .dhuhr ∷ t .asr ∷ t .maghrib ∷ t .isha ∷ t .«middle_of_the_night» ∷ t .qiyam ∷ t .«fajr_tomorrow» ∷ []
 
+-- request 12: "Imsak is the printed Fajr less those minutes". An instant that 64 bits do not hold gives way to the earliest that they do; no order's
+-- imsak is one (crates/order_laws/specs/Imsak.antt)
+abbrev pub earliest : ℤ
+earliest = negsuc 9223372036854775807
+
+unfoldable pub imsakOf : ℕ → ℤ → ℤ
+imsakOf minutes fajr = let time = fajr -ℤ pos (60 * minutes) in cond (leZ earliest time) time earliest
+
+-- "and stands between the date and Fajr"
+unfoldable pub columnsOf : Ramadan → PrayerTimes → List ℤ
+columnsOf ramadan t = cond (ramadan .set) (imsakOf (ramadan .imsak) (t .fajr) ∷ nineOf t) (nineOf t)
+
 unfoldable pub timesText : Date → List ℤ → List ℕ
 timesText date [] = []
 timesText date (time ∷ times) = timeText date time ++ timesText date times
@@ -60,6 +75,10 @@ rowBytes columns = 10 + 12 * columns + 1
 -- "a full row has 119 bytes with its newline"
 abbrev pub fullRow : ℕ
 fullRow = rowBytes 9
+
+-- request 12: "so a full row has 131 bytes", where tag 20 is set
+unfoldable pub rowRoom : Ramadan → ℕ
+rowRoom ramadan = rowBytes (cond (ramadan .set) 10 9)
 
 -- ---- a refusal's line: whose it is, its number, and its place by a word
 unfoldable pub numberText : List ℕ → ℕ → List ℕ
@@ -77,6 +96,6 @@ abbrev pub refusedOrderText : Refusal → List ℕ
 refusedOrderText r = refusedText (ascii "order") (ascii " place ") r
 
 -- ---- "a refused day prints as below and the run goes on"
-unfoldable pub lineText : Date → Worked → List ℕ
-lineText date (Times t) = rowText date (nineOf t)
-lineText date (Refused r) = refusedDayText date r
+unfoldable pub lineText : Ramadan → Date → Worked → List ℕ
+lineText ramadan date (Times t) = rowText date (columnsOf ramadan t)
+lineText ramadan date (Refused r) = refusedDayText date r

@@ -2,24 +2,29 @@
 use native.Mathlib.Omega.{arith}
 use Prim.Native.Nat.{ℕ, _+_, _-_, _≤_, _<_}
 use mathlib.Core.Path.{_≡_, refl, sym, ap, subst}
-use mathlib.Core.Bool.{Bool, true, false, cond, _&&_, _||_, and-eq-true-iff}
+use mathlib.Core.Bool.{Bool, true, false, cond, not, _&&_, _||_, and-eq-true-iff, true≢false}
 use mathlib.Core.List.{List}
 use lib.Dec.{leb, eqb, lit≤}
 use lib.ListN.{length, getD}
 use lib.Ieee.{Float, neg, le, round}
-use lib.IntN.{ℤ, pos, negsuc}
+use lib.IntN.{ℤ, pos, negsuc, _-ℤ_}
 use lib.Signed.{leZ}
-use borrow.Author.Tests.{leb-true}
+use borrow.Author.Tests.{leb-true, eqb-true}
 use Rattle.integers.specs.Parts.{P, N, Near}
+use Rattle.integers.proofs.Intervals.{by-balance}
 use Rattle.integers.proofs.OrderLaws.{le-yes}
+use Rattle.integers.proofs.Sums.{difference}
 use Rattle.float64.specs.Ops.{dec}
 use Rattle.float64.specs.Ranges.{Inside}
 use Rattle.calendar.specs.declared.dates.Date.{Date}
 use Rattle.calendar.specs.Gregorian.{existsOf}
 use Rattle.calendar.specs.Answers.{rowDateOf}
+use Rattle.calendar.specs.Days.{dayNumberOf}
 use Rattle.fields.specs.Numbers.{byteOf, unsignedOf, signedOf}
 use Rattle.fields.specs.Values.{Values, valuesOf}
 use Rattle.fields.specs.Tags.{lastTag}
+use Rattle.hijri.specs.Ramadan.{ramadanStartOf}
+use Rattle.hijri.specs.declared.ramadan.Ramadan.{Ramadan}
 use Rattle.map_form.specs.Hundredths.{countOf, degreesOf, formFits}
 use Rattle.map_form.proofs.Limits.{in-limits}
 use Rattle.map_form.proofs.RoundTrip.{read-in-range}
@@ -32,11 +37,12 @@ use Rattle.models.specs.Minutes.{noMinutes}
 use Rattle.models.specs.Numbers.{methodOf}
 use Rattle.models.specs.Presets.{preset, presetOf}
 use Rattle.models.specs.Settings.{minutesFor}
+use Rattle.refusals.specs.Refusals.{refusal, noRefusal}
 use Rattle.order.specs.declared.reading.Order.{Order}
 use Rattle.order.specs.declared.reading.Reading.the-variants.{Read}
-use Rattle.order.specs.Given.{dateIn, rowsIn, degreesIn, formIn, coordinateIn, minutesIn, degreesOr, minutesOr, intervalOr, parametersIn, clockIn}
-use Rattle.order.specs.Ranges.{mostRows, mostIn, dateFits, rowsFit, degreesFit, minuteFits, minutesFit, intervalFits, clockFits, lookUp, fitsOf}
-use Rattle.order.specs.Reading.{required, isGivenOf, missingOf, outOfRangeOf, orderOf, readingOf}
+use Rattle.order.specs.Given.{dateIn, rowsIn, degreesIn, formIn, coordinateIn, minutesIn, degreesOr, minutesOr, intervalOr, parametersIn, clockIn, ramadanGiven, ramadanIn}
+use Rattle.order.specs.Ranges.{mostRows, mostIn, dateFits, rowsFit, degreesFit, minuteFits, minutesFit, intervalFits, clockFits, ramadanFits, ramadanRows, lookUp, fitsOf}
+use Rattle.order.specs.Reading.{required, isGivenOf, missingOf, outOfRangeOf, orderOf, wrongStartOf, readingOf}
 use Rattle.order.specs.Accepted.{UpTo, DateInOrder, Accepted}
 use Rattle.order.proofs.RowDates.{row-in-order}
 use Rattle.order.proofs.ReadingLaws.{read-passed, has-required, one-form, fits-given}
@@ -164,6 +170,49 @@ module _ (v : Values) where
       go true f = minutes-within (minutesIn (v .value 11)) (f refl) prayer
       go false f = minutes-within noMinutes refl prayer
 
+  ramadan-in : (v .has 20 ≡ true → ramadanFits (v .value 20) ≡ true) → (ramadanIn v .imsak ≤ 30) × Near 1 (ramadanIn v .shift)
+  unfolding ramadanIn ramadanGiven ramadanFits
+  ramadan-in fits = go (v .has 20) fits
+    where
+      m : ℕ
+      m = byteOf (v .value 20) 0
+
+      k : ℕ
+      k = byteOf (v .value 20) 1
+
+      go : (b : Bool) → (b ≡ true → (leb m 30 && leb k 2) ≡ true)
+          → (cond b (ramadanGiven (v .value 20)) (record { set = false; imsak = 0; shift = pos 0 }) .imsak ≤ 30)
+          × Near 1 (cond b (ramadanGiven (v .value 20)) (record { set = false; imsak = 0; shift = pos 0 }) .shift)
+      go true f =
+          let e = both (leb m 30) (leb k 2) (f refl) in
+          let l = leb-true k 2 (e .1) in
+          let d = difference (pos k) (pos 1) in
+          (leb-true m 30 (e .0), by-balance 1 1 (pos k -ℤ pos 1) (omega (arith, d .0, d .1)) (omega (arith, d .0, d .1)))
+      go false f = (lit≤ tt, record { from = lit≤ tt; to = lit≤ tt })
+
+  -- tag 20 is set where it stands
+  ramadan-set : ramadanIn v .set ≡ true → v .has 20 ≡ true
+  unfolding ramadanIn ramadanGiven
+  ramadan-set e = go (v .has 20) e
+    where
+      go : (b : Bool) → cond b (ramadanGiven (v .value 20)) (record { set = false; imsak = 0; shift = pos 0 }) .set ≡ true → b ≡ true
+      go true e = refl
+      go false e = e
+
+  thirty : ramadanRows (v .has 20) (v .value 3) ≡ true → v .has 20 ≡ true → rowsIn (v .value 3) ≡ 30
+  unfolding ramadanRows
+  thirty e has = eqb-true (rowsIn (v .value 3)) 30 (simp has at e)
+
+started : (ramadan : Ramadan) (date : Date) → wrongStartOf ramadan date .number ≡ 0 → ramadan .set ≡ true
+    → ramadanStartOf (dayNumberOf date) (ramadan .shift) ≡ true
+unfolding wrongStartOf
+started ramadan date e set = go (ramadan .set) (ramadanStartOf (dayNumberOf date) (ramadan .shift)) e set
+  where
+    go : (a b : Bool) → cond (a && not b) (refusal 18 2) noRefusal .number ≡ 0 → a ≡ true → b ≡ true
+    go true true e s = refl
+    go true false e s = absurd (omega arith)
+    go false b e s = absurd (true≢false (sym s))
+
 -- the method's angles and interval, and its name
 pub record Brought (method : Method) : Type 0 where
   pub named : presetOf method .method ≡ method
@@ -188,12 +237,15 @@ brought Turkey = record { named = refl; fajr = (refl, refl); isha = (refl, refl)
 brought Other = record { named = refl; fajr = (refl, refl); isha = (refl, refl); interval = (lit≤ tt, refl) }
 
 -- ---- the record
-accepted : (v : Values) → missingOf (v .has) .number ≡ 0 → outOfRangeOf v .number ≡ 0 → Accepted (orderOf v)
+accepted : (v : Values) → missingOf (v .has) .number ≡ 0 → outOfRangeOf v .number ≡ 0
+    → wrongStartOf (orderOf v .ramadan) (orderOf v .date) .number ≡ 0 → Accepted (orderOf v)
 unfolding orderOf parametersIn fitsOf lookUp isGivenOf
-accepted v given ranges =
+accepted v given ranges start =
     let method = methodOf (byteOf (v .value 6) 0) in
     let from = brought method in
-    let rows = rows-in (dateIn (v .value 2)) (v .value 3) (fits 3 (lit≤ tt) (lit≤ tt) (has 2 (lit≤ tt))) in
+    let three = both (rowsFit (dateIn (v .value 2)) (v .value 3)) (ramadanRows (v .has 20) (v .value 3)) (fits 3 (lit≤ tt) (lit≤ tt) (has 2 (lit≤ tt))) in
+    let rows = rows-in (dateIn (v .value 2)) (v .value 3) (three .0) in
+    let ramadan = ramadan-in v (fits 20 (lit≤ tt) (lit≤ tt)) in
     let date = date-in (dateIn (v .value 2)) (fits 2 (lit≤ tt) (lit≤ tt) (has 1 (lit≤ tt))) in
     record {
       date = date;
@@ -206,6 +258,11 @@ accepted v given ranges =
       «isha_interval» = interval-or v (presetOf method .«isha_interval») (fits 14 (lit≤ tt) (lit≤ tt)) (from .interval);
       own = minutes-or v (fits 11 (lit≤ tt) (lit≤ tt));
       clock = clock-in v (fits 16 (lit≤ tt) (lit≤ tt));
+      imsak = ramadan .0;
+      shift = ramadan .1;
+      ramadan =
+          λ (set : ramadanIn v .set ≡ true).
+          record { rows = thirty v (three .1) (ramadan-set v set); start = started (ramadanIn v) (dateIn (v .value 2)) start set };
       preset = ap (λ (m : Method). presetOf m .«method_adjustments») (sym (from .named));
     }
   where
@@ -218,4 +275,4 @@ accepted v given ranges =
 pub read-accepted : (s : List ℕ) (order : Order) → readingOf s ≡ Read order → Accepted order
 read-accepted s order e =
     let passed = read-passed s order e in
-    subst Accepted (passed .same) (accepted (valuesOf s) (passed .given) (passed .ranges))
+    subst Accepted (passed .same) (accepted (valuesOf s) (passed .given) (passed .ranges) (passed .start))

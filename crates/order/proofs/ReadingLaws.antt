@@ -1,30 +1,39 @@
 -- What reading an order and refusing one say of the checks, and of the town. Assumes nothing.
 use native.Mathlib.Omega.{arith}
 use Prim.Native.Nat.{ℕ, _+_, _-_, _≤_, _<_}
-use mathlib.Core.Path.{_≡_, refl, sym, ap, _∙_}
-use mathlib.Core.Bool.{Bool, true, false, cond, _&&_, _||_, true≢false}
+use mathlib.Core.Path.{_≡_, refl, sym, ap, subst, _∙_}
+use mathlib.Core.Bool.{Bool, true, false, cond, not, _&&_, _||_, true≢false}
 use mathlib.Core.List.{List, [], _∷_}
 use lib.Dec.{eqb, lit≤}
 use lib.ListN.{length, getD}
 use borrow.Author.Tests.{eqb-true, eqb-false}
+use Rattle.calendar.specs.Days.{dayNumberOf}
+use Rattle.calendar.specs.declared.dates.Date.{Date}
 use Rattle.fields.specs.Fields.{checkOf}
 use Rattle.fields.specs.Tags.{lastTag}
 use Rattle.fields.specs.Values.{offsetOf, hasOf, valueOf, startOf, partIn, Values, valuesOf}
 use Rattle.fields.proofs.FieldsLaws.{check-small, value-fits, fits-between}
 use Rattle.fields.proofs.Collecting.{part-same}
+use Rattle.hijri.specs.Ramadan.{ramadanStartOf}
+use Rattle.hijri.specs.declared.ramadan.Ramadan.{Ramadan}
 use Rattle.refusals.specs.Refusals.{refusal, noRefusal}
 use Rattle.refusals.specs.declared.Refusal.{Refusal}
 use Rattle.order.specs.declared.reading.Order.{Order}
 use Rattle.order.specs.declared.reading.Reading.the-variants.{Read, Refused}
 use Rattle.order.specs.Ranges.{textFits, lookUp, fitsOf, inRangeOf}
-use Rattle.order.specs.Reading.{required, isGivenOf, missingOf, bothFormsOf, outOfRangeOf, tagsFrom, orderOf, firstOf, readingOf, townOf}
+use Rattle.order.specs.Reading.{required, isGivenOf, missingOf, bothFormsOf, outOfRangeOf, tagsFrom, orderOf, wrongStartOf, firstOf, readingOf, townOf}
 use Rattle.order.proofs.Tags.{all-pass, failing-number, tags-from, tags-length}
 
--- a number from 0 to 5, or 15
-abbrev Small : ℕ → Type 0
-Small n = 6 ≤ n → n ≡ 15
+-- 15 or 18
+pub record Later (n : ℕ) : Type 0 where
+  pub most : n ≤ 18
+  pub otherwise : n < 18 → n ≡ 15
 
--- from 1 to 5, or 15
+-- a number from 0 to 5, or 15 or 18
+abbrev Small : ℕ → Type 0
+Small n = 6 ≤ n → Later n
+
+-- from 1 to 5, or 15 or 18
 pub record Refusing (n : ℕ) : Type 0 where
   pub some : 1 ≤ n
   pub which : Small n
@@ -54,7 +63,7 @@ module _ (r : Refusal) (rest : List Refusal) (o : Order) where
           let z : r ≡ x = cc in
           let n = ap (λ (y : Refusal). y .number) z in
           let m = eqb-false (r .number) 0 h in
-          record { some = omega arith; which = λ l. sym n ∙ small (omega arith) }
+          record { some = omega arith; which = λ l. subst Later n (small (omega arith)) }
 
 -- ---- an order that is read has passed every check
 pub record Passed (s : List ℕ) (order : Order) : Type 0 where
@@ -62,39 +71,52 @@ pub record Passed (s : List ℕ) (order : Order) : Type 0 where
   pub given : missingOf (hasOf s) .number ≡ 0
   pub single : bothFormsOf (hasOf s) .number ≡ 0
   pub ranges : outOfRangeOf (valuesOf s) .number ≡ 0
+  pub start : wrongStartOf (orderOf (valuesOf s) .ramadan) (orderOf (valuesOf s) .date) .number ≡ 0
   pub same : orderOf (valuesOf s) ≡ order
 
 pub read-passed : (s : List ℕ) (order : Order) → readingOf s ≡ Read order → Passed s order
 unfolding readingOf firstOf
 read-passed s order e =
     let v = valuesOf s in
-    let a = passed-on (checkOf s) (missingOf (hasOf s) ∷ bothFormsOf (hasOf s) ∷ outOfRangeOf v ∷ []) (orderOf v) order e in
-    let b = passed-on (missingOf (hasOf s)) (bothFormsOf (hasOf s) ∷ outOfRangeOf v ∷ []) (orderOf v) order (a .1) in
-    let c = passed-on (bothFormsOf (hasOf s)) (outOfRangeOf v ∷ []) (orderOf v) order (b .1) in
-    let d = passed-on (outOfRangeOf v) [] (orderOf v) order (c .1) in
-    let o : Read (orderOf v) ≡ Read order = d .1 in
-    record { fields = a .0; given = b .0; single = c .0; ranges = d .0; same = cc }
+    let start = wrongStartOf (orderOf v .ramadan) (orderOf v .date) in
+    let a = passed-on (checkOf s) (missingOf (hasOf s) ∷ bothFormsOf (hasOf s) ∷ outOfRangeOf v ∷ start ∷ []) (orderOf v) order e in
+    let b = passed-on (missingOf (hasOf s)) (bothFormsOf (hasOf s) ∷ outOfRangeOf v ∷ start ∷ []) (orderOf v) order (a .1) in
+    let c = passed-on (bothFormsOf (hasOf s)) (outOfRangeOf v ∷ start ∷ []) (orderOf v) order (b .1) in
+    let d = passed-on (outOfRangeOf v) (start ∷ []) (orderOf v) order (c .1) in
+    let f = passed-on start [] (orderOf v) order (d .1) in
+    let o : Read (orderOf v) ≡ Read order = f .1 in
+    record { fields = a .0; given = b .0; single = c .0; ranges = d .0; start = f .0; same = cc }
 
 both-forms-number : (has : ℕ → Bool) → Small (bothFormsOf has .number)
 unfolding bothFormsOf
 both-forms-number has = go (has 4 && has 18) (has 5 && has 19)
   where
     go : (a b : Bool) → Small (cond a (refusal 15 18) (cond b (refusal 15 19) noRefusal) .number)
-    go true b l = refl
-    go false true l = refl
+    go true b l = record { most = lit≤ tt; otherwise = λ h. refl }
+    go false true l = record { most = lit≤ tt; otherwise = λ h. refl }
     go false false l = absurd (omega arith)
 
--- a refusal's number is from 1 to 5, or 15
+start-number : (ramadan : Ramadan) (date : Date) → Small (wrongStartOf ramadan date .number)
+unfolding wrongStartOf
+start-number ramadan date = go (ramadan .set && not (ramadanStartOf (dayNumberOf date) (ramadan .shift)))
+  where
+    go : (b : Bool) → Small (cond b (refusal 18 2) noRefusal .number)
+    go true l = record { most = lit≤ tt; otherwise = λ h. absurd (omega arith) }
+    go false l = absurd (omega arith)
+
+-- a refusal's number is from 1 to 5, or 15 or 18
 pub refused-by : (s : List ℕ) (r : Refusal) → readingOf s ≡ Refused r → Refusing (r .number)
 unfolding readingOf firstOf missingOf outOfRangeOf
 refused-by s r e =
     let v = valuesOf s in
     let f = check-small s in
     let m = failing-number 4 (isGivenOf (hasOf s)) required in
-    refused-one (checkOf s) (missingOf (hasOf s) ∷ bothFormsOf (hasOf s) ∷ outOfRangeOf v ∷ []) (orderOf v) r (up-to-five (checkOf s .number) (omega arith))
-    (refused-one (missingOf (hasOf s)) (bothFormsOf (hasOf s) ∷ outOfRangeOf v ∷ []) (orderOf v) r (up-to-five (missingOf (hasOf s) .number) (omega arith))
-    (refused-one (bothFormsOf (hasOf s)) (outOfRangeOf v ∷ []) (orderOf v) r (both-forms-number (hasOf s))
-    (refused-one (outOfRangeOf v) [] (orderOf v) r (up-to-five (outOfRangeOf v .number) (failing-number 5 (inRangeOf v) (tagsFrom lastTag 1))) no)))
+    let start = wrongStartOf (orderOf v .ramadan) (orderOf v .date) in
+    refused-one (checkOf s) (missingOf (hasOf s) ∷ bothFormsOf (hasOf s) ∷ outOfRangeOf v ∷ start ∷ []) (orderOf v) r (up-to-five (checkOf s .number) (omega arith))
+    (refused-one (missingOf (hasOf s)) (bothFormsOf (hasOf s) ∷ outOfRangeOf v ∷ start ∷ []) (orderOf v) r (up-to-five (missingOf (hasOf s) .number) (omega arith))
+    (refused-one (bothFormsOf (hasOf s)) (outOfRangeOf v ∷ start ∷ []) (orderOf v) r (both-forms-number (hasOf s))
+    (refused-one (outOfRangeOf v) (start ∷ []) (orderOf v) r (up-to-five (outOfRangeOf v .number) (failing-number 5 (inRangeOf v) (tagsFrom lastTag 1)))
+    (refused-one start [] (orderOf v) r (start-number (orderOf v .ramadan) (orderOf v .date)) no))))
     e
   where
     no : Read (orderOf (valuesOf s)) ≡ Refused r → Refusing (r .number)

@@ -11,6 +11,8 @@ use Rattle.float64.specs.Ranges.{Inside}
 use Rattle.calendar.specs.declared.dates.Date.{Date}
 use Rattle.calendar.specs.Gregorian.{existsOf}
 use Rattle.calendar.specs.Answers.{rowDateOf}
+use Rattle.calendar.specs.Days.{dayNumberOf}
+use Rattle.hijri.specs.Ramadan.{ramadanStartOf}
 use Rattle.models.specs.declared.prayer.Prayer.{Prayer}
 use Rattle.models.specs.Presets.{presetOf}
 use Rattle.models.specs.Settings.{minutesFor}
@@ -27,6 +29,11 @@ pub record DateInOrder (date : Date) : Type 0 where
   pub from : 1900 ≤ date .year
   pub to : date .year ≤ 2199
 
+-- what "tag 20 set" asks of an order: "thirty rows", from "the shifted 1 Ramadan" on
+pub record RamadanSheet (order : Order) : Type 0 where
+  pub rows : order .rows ≡ 30
+  pub start : ramadanStartOf (dayNumberOf (order .date)) (order .ramadan .shift) ≡ true
+
 pub record Accepted (order : Order) : Type 0 where
   pub date : DateInOrder (order .date)
   pub rows : (1 ≤ order .rows) × (order .rows ≤ mostRows)
@@ -40,4 +47,8 @@ pub record Accepted (order : Order) : Type 0 where
   pub «isha_interval» : UpTo 1440 (order .parameters .«isha_interval»)
   pub own : (prayer : Prayer) → Near 720 (minutesFor prayer (order .parameters .adjustments))
   pub clock : Near 840 (order .clock)
+  -- 0 and 0 where the sheet is not Ramadan's
+  pub imsak : order .ramadan .imsak ≤ 30
+  pub shift : Near 1 (order .ramadan .shift)
+  pub ramadan : order .ramadan .set ≡ true → RamadanSheet order
   pub preset : order .parameters .«method_adjustments» ≡ presetOf (order .parameters .method) .«method_adjustments»

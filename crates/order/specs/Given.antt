@@ -1,16 +1,17 @@
 -- Document 01, "The order": what each tag's value gives, and its column "missing", over what an order gives by tag.
 use Prim.Native.Nat.{ℕ}
-use mathlib.Core.Bool.{cond}
+use mathlib.Core.Bool.{true, false, cond}
 use mathlib.Core.List.{List}
 use lib.Dec.{eqb}
 use lib.Ieee.{Float, eq}
-use lib.IntN.{ℤ, pos}
+use lib.IntN.{ℤ, pos, _-ℤ_}
 use lib.ListN.{length}
 use Rattle.float64.specs.Ops.{dec}
 use Rattle.calendar.specs.declared.dates.Date.{Date}
 use Rattle.calendar.specs.Gregorian.{dateOf}
 use Rattle.fields.specs.Numbers.{byteOf, unsignedOf, signedOf, floatOf}
 use Rattle.fields.specs.Values.{Values}
+use Rattle.hijri.specs.declared.ramadan.Ramadan.{Ramadan}
 use Rattle.map_form.specs.declared.MapForm.{MapForm}
 use Rattle.map_form.specs.Hundredths.{countOf, degreesOf}
 use Rattle.models.specs.declared.adjustments.TimeAdjustment.{TimeAdjustment}
@@ -89,3 +90,10 @@ rulesIn v = record { midnight = midnightOf (byteOr v 15 0); southern = southernO
 -- Request 2: "Tag 16 (signed 16-bit minutes, -840 to 840, missing is 0) is added to the UTC instant", by the cells alone.
 unfoldable pub clockIn : Values → ℤ
 clockIn v = cond (v .has 16) (signedOf (v .value 16) 0) (pos 0)
+
+-- Request 12: "Tag 20 holds imsak minutes and shift, one byte each, the shift stored plus 1."
+unfoldable pub ramadanGiven : List ℕ → Ramadan
+ramadanGiven v = record { set = true; imsak = byteOf v 0; shift = pos (byteOf v 1) -ℤ pos 1 }
+
+unfoldable pub ramadanIn : Values → Ramadan
+ramadanIn v = cond (v .has 20) (ramadanGiven (v .value 20)) (record { set = false; imsak = 0; shift = pos 0 })

@@ -62,13 +62,21 @@ intervalFits v = between 0 1440 (unsignedOf v 0)
 unfoldable pub clockFits : List ℕ → Bool
 clockFits v = leZ (negsuc 839) (signedOf v 0) && leZ (signedOf v 0) (pos 840)
 
+-- request 12: "imsak minutes over 30, a stored shift over 2" are out of range
+unfoldable pub ramadanFits : List ℕ → Bool
+ramadanFits v = leb (byteOf v 0) 30 && leb (byteOf v 1) 2
+
+-- and so are "rows other than 30 (with tag 3's range, place 3)", where tag 20 is set
+unfoldable pub ramadanRows : Bool → List ℕ → Bool
+ramadanRows set v = cond set (eqb (rowsIn v) 30) true
+
 -- the ranges by tag of what an order gives, beside those of a choice's number, which stand in the table of tags
 abbrev pub ranges : Values → List (ℕ × Bool)
 ranges v =
     -- town, date, and rows from the date on
     (1, textFits (v .value 1))
     ∷ (2, dateFits (dateIn (v .value 2)))
-    ∷ (3, rowsFit (dateIn (v .value 2)) (v .value 3))
+    ∷ (3, rowsFit (dateIn (v .value 2)) (v .value 3) && ramadanRows (v .has 20) (v .value 3))
     -- latitude, longitude
     ∷ (4, degreesFit (neg (dec 90 0)) (dec 90 0) (v .value 4))
     ∷ (5, degreesFit (neg (dec 180 0)) (dec 180 0) (v .value 5))
@@ -83,6 +91,8 @@ ranges v =
     -- latitude, longitude as on the map
     ∷ (18, formFits mostLatitude (formIn (v .value 18)))
     ∷ (19, formFits mostLongitude (formIn (v .value 19)))
+    -- Ramadan
+    ∷ (20, ramadanFits (v .value 20))
     ∷ []
 
 -- what a list by tag has for a tag, and else another answer

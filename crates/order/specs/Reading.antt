@@ -1,20 +1,24 @@
 -- Document 01, "The order": what reading any bytes answers. "Order of checks: length over 1,024; then field by field ..; then missing tags,
 -- then ranges, both by rising tag".
 use Prim.Native.Nat.{ℕ, zero, suc, _+_}
-use mathlib.Core.Bool.{Bool, cond, _&&_, _||_}
+use mathlib.Core.Bool.{Bool, cond, not, _&&_, _||_}
 use mathlib.Core.List.{List, [], _∷_}
 use lib.Dec.{eqb}
+use Rattle.calendar.specs.Days.{dayNumberOf}
+use Rattle.calendar.specs.declared.dates.Date.{Date}
 use Rattle.fields.specs.Fields.{checkOf}
 use Rattle.fields.specs.Tags.{lastTag}
 use Rattle.fields.specs.Values.{valueOf, Values, valuesOf}
+use Rattle.hijri.specs.Ramadan.{ramadanStartOf}
+use Rattle.hijri.specs.declared.ramadan.Ramadan.{Ramadan}
 use Rattle.map_form.specs.Written.{latitudeTag, longitudeTag}
-use Rattle.refusals.specs.Refusals.{refusal, noRefusal, tagMissing, outOfRange, bothForms}
+use Rattle.refusals.specs.Refusals.{refusal, noRefusal, tagMissing, outOfRange, bothForms, notFirstOfRamadan}
 use Rattle.refusals.specs.declared.Refusal.{Refusal}
 use Rattle.unit.specs.Unit.{coordinatesOf}
 use Rattle.order.specs.declared.reading.Order.{Order}
 use Rattle.order.specs.declared.reading.Reading.{Reading}
 use Rattle.order.specs.declared.reading.Reading.the-variants.{Read, Refused}
-use Rattle.order.specs.Given.{dateIn, rowsIn, coordinateIn, parametersIn, rulesIn, clockIn}
+use Rattle.order.specs.Given.{dateIn, rowsIn, coordinateIn, parametersIn, rulesIn, clockIn, ramadanIn}
 use Rattle.order.specs.Ranges.{lookUp, inRangeOf}
 
 -- the refusal of the first of some tags that does not pass, by a number and the tag
@@ -58,18 +62,28 @@ orderOf v =
       parameters = parametersIn v;
       rules = rulesIn v;
       clock = clockIn v;
+      ramadan = ramadanIn v;
     }
+
+-- request 12: "A start other than the shifted 1 Ramadan (month 9) is refused by 18, place 2", where tag 20 is set
+unfoldable pub wrongStartOf : Ramadan → Date → Refusal
+wrongStartOf ramadan date =
+    cond (ramadan .set && not (ramadanStartOf (dayNumberOf date) (ramadan .shift))) (refusal notFirstOfRamadan 2) noRefusal
 
 -- the first of some refusals that refuses; where none does, what is read
 unfoldable pub firstOf : List Refusal → Order → Reading
 firstOf [] order = Read order
 firstOf (r ∷ rest) order = cond (eqb (r .number) 0) (firstOf rest order) (Refused r)
 
--- the form of the fields (1, 2, 3), missing tags (4), both forms of a coordinate (15), "after missing tags and before ranges", ranges (5)
+-- the form of the fields (1, 2, 3), missing tags (4), both forms of a coordinate (15), "after missing tags and before ranges", ranges (5), and the
+-- start of a Ramadan sheet (18), "after all ranges and before the day"
 unfoldable pub readingOf : List ℕ → Reading
 readingOf s =
     let v = valuesOf s in
-    firstOf (checkOf s ∷ missingOf (v .has) ∷ bothFormsOf (v .has) ∷ outOfRangeOf v ∷ []) (orderOf v)
+    let order = orderOf v in
+    firstOf
+    (checkOf s ∷ missingOf (v .has) ∷ bothFormsOf (v .has) ∷ outOfRangeOf v ∷ wrongStartOf (order .ramadan) (order .date) ∷ [])
+    order
 
 -- "The town's name is handed back as that part of the order itself, an empty part where the order is refused."
 abbrev pub townIn : List ℕ → Reading → List ℕ

@@ -1,7 +1,7 @@
 // What each tag gives where its value is in range, and what stands for a missing one.
 ghost use mathlib.Core.Path.{_≡_};
 ghost use Rattle.fields.specs.Values.{valuesIn};
-ghost use Rattle.order.specs.Given.{dateIn, rowsIn, degreesIn, formIn, coordinateIn, minutesIn, byteOr, degreesOr, roundingOr, minutesOr, intervalOr, parametersIn, rulesIn, clockIn};
+ghost use Rattle.order.specs.Given.{dateIn, rowsIn, degreesIn, formIn, coordinateIn, minutesIn, byteOr, degreesOr, roundingOr, minutesOr, intervalOr, parametersIn, rulesIn, clockIn, ramadanIn};
 use calendar::dates::Date;
 use fields::numbers::byte;
 use fields::numbers::float;
@@ -9,6 +9,7 @@ use fields::numbers::signed;
 use fields::numbers::unsigned;
 use fields::values::Fields;
 use fields::values::value;
+use hijri::ramadan::Ramadan;
 use map_form::MapForm;
 use map_form::reading::degrees_of;
 use models::adjustments::TimeAdjustment;
@@ -173,5 +174,24 @@ pub fn clock_in(order: &[u8], fields: Fields) -> i32
         signed(value(order, fields, 16), 0)
     } else {
         0
+    }
+}
+
+// Tag 20: the minutes from imsak to Fajr, and the shift, which is stored plus 1.
+pub fn ramadan_in(order: &[u8], fields: Fields) -> Ramadan
+    ensures { λ r. ⌜ r ≡ ramadanIn (valuesIn (now (order .entry)) fields) ⌝ }
+{
+    if fields.has(20) {
+        let bytes = value(order, fields, 20);
+        return Ramadan {
+            set: true,
+            imsak: byte(bytes, 0),
+            shift: byte(bytes, 1) as i32 - 1,
+        };
+    }
+    Ramadan {
+        set: false,
+        imsak: 0,
+        shift: 0,
     }
 }

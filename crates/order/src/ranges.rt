@@ -1,7 +1,7 @@
 // What stands inside a right length: the range of each tag's value. Range ends are allowed.
 ghost use mathlib.Core.Path.{_≡_};
 ghost use Rattle.fields.specs.Values.{valuesIn};
-ghost use Rattle.order.specs.Ranges.{textFits, dateFits, mostIn, rowsFit, degreesFit, minuteFits, minutesFit, intervalFits, clockFits, fitsOf, inRangeOf};
+ghost use Rattle.order.specs.Ranges.{textFits, dateFits, mostIn, rowsFit, degreesFit, minuteFits, minutesFit, intervalFits, clockFits, ramadanFits, ramadanRows, fitsOf, inRangeOf};
 use super::given::date_in;
 use super::given::degrees_in;
 use super::given::form_in;
@@ -25,6 +25,8 @@ const LAST_YEAR: u32 = 2199;
 
 // Rows whose number has one byte, as every order had them once.
 const MOST_IN_ONE_BYTE: u32 = 250;
+
+const RAMADAN_ROWS: u32 = 30;
 
 // Printable ASCII.
 fn text_fits(bytes: &[u8]) -> bool
@@ -106,6 +108,23 @@ fn clock_fits(bytes: &[u8]) -> bool
     (-840 <= minutes) & (minutes <= 840)
 }
 
+// Minutes from imsak to Fajr, and a shift that is stored plus 1.
+fn ramadan_fits(bytes: &[u8]) -> bool
+    ensures { λ r. ⌜ r ≡ ramadanFits (now (bytes .entry)) ⌝ }
+{
+    (byte(bytes, 0) <= 30) & (byte(bytes, 1) <= 2)
+}
+
+// A Ramadan sheet has the rows of its month and no others.
+fn ramadan_rows(set: bool, bytes: &[u8]) -> bool
+    ensures { λ r. ⌜ r ≡ ramadanRows set (now (bytes .entry)) ⌝ }
+{
+    if set {
+        return rows_in(bytes) == RAMADAN_ROWS;
+    }
+    true
+}
+
 // A row for each tag whose value is no choice's number: those stand in the table of tags.
 fn fits(order: &[u8], fields: Fields, tag: u32) -> bool
     ensures { λ r. ⌜ r ≡ fitsOf (valuesIn (now (order .entry)) fields) tag ⌝ }
@@ -114,7 +133,9 @@ fn fits(order: &[u8], fields: Fields, tag: u32) -> bool
     match tag {
         1 => text_fits(bytes),
         2 => date_fits(date_in(bytes)),
-        3 => rows_fit(date_in(value(order, fields, 2)), bytes),
+        3 => {
+            rows_fit(date_in(value(order, fields, 2)), bytes) & ramadan_rows(fields.has(20), bytes)
+        }
         4 => degrees_fit(bytes, -90.0, 90.0),
         5 => degrees_fit(bytes, -180.0, 180.0),
         11 => minutes_fit(minutes_in(bytes)),
@@ -124,6 +145,7 @@ fn fits(order: &[u8], fields: Fields, tag: u32) -> bool
         16 => clock_fits(bytes),
         18 => latitude_fits(form_in(bytes)),
         19 => longitude_fits(form_in(bytes)),
+        20 => ramadan_fits(bytes),
         _ => choice_fits(tag, byte(bytes, 0)),
     }
 }

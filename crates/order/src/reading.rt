@@ -1,11 +1,12 @@
-// Reading an order: the form of its fields, then missing tags, then coordinates in both forms, then ranges, and then the record.
+// Reading an order: the form of its fields, then missing tags, then coordinates in both forms, then ranges, then the first day of a Ramadan sheet.
 ghost use mathlib.Core.Path.{_≡_};
 ghost use Rattle.fields.specs.Values.{hasIn, valuesIn};
-ghost use Rattle.order.specs.Reading.{isGivenOf, missingOf, bothFormsOf, outOfRangeOf, orderOf, readingOf, townOf};
+ghost use Rattle.order.specs.Reading.{isGivenOf, missingOf, bothFormsOf, outOfRangeOf, orderOf, wrongStartOf, readingOf, townOf};
 use super::given::clock_in;
 use super::given::coordinate_in;
 use super::given::date_in;
 use super::given::parameters_in;
+use super::given::ramadan_in;
 use super::given::rows_in;
 use super::given::rules_in;
 use super::ranges::in_range;
@@ -16,11 +17,14 @@ use fields::values::Part;
 use fields::values::bytes;
 use fields::values::fields_of;
 use fields::values::value;
+use hijri::ramadan::Ramadan;
+use hijri::ramadan::is_ramadan_start;
 use map_form::LATITUDE;
 use map_form::LONGITUDE;
 use models::parameters::Parameters;
 use models::rules::Rules;
 use refusals::BOTH_FORMS;
+use refusals::NOT_FIRST_OF_RAMADAN;
 use refusals::OUT_OF_RANGE;
 use refusals::Refusal;
 use refusals::TAG_MISSING;
@@ -42,6 +46,7 @@ pub struct Order {
     pub rules: Rules,
     // Minutes from UTC to the clock that the cells show.
     pub clock: i32,
+    pub ramadan: Ramadan,
 }
 
 pub enum Reading {
@@ -117,7 +122,18 @@ fn record_in(order: &[u8], fields: Fields) -> Order
         parameters: parameters_in(order, fields),
         rules: rules_in(order, fields),
         clock: clock_in(order, fields),
+        ramadan: ramadan_in(order, fields),
     }
+}
+
+// A Ramadan sheet begins on the 1st of Ramadan, moved by its shift; its place is the tag of the date.
+fn wrong_start(ramadan: Ramadan, date: Date) -> Refusal
+    ensures { λ r. ⌜ r ≡ wrongStartOf ramadan date ⌝ }
+{
+    if ramadan.set & !is_ramadan_start(date.day_number(), ramadan.shift) {
+        return Refusal::new(NOT_FIRST_OF_RAMADAN, 2);
+    }
+    Refusal::none()
 }
 
 pub fn read(order: &[u8]) -> Reading
@@ -132,6 +148,8 @@ pub fn read(order: &[u8]) -> Reading
     let lacking = missing(fields);
     let doubled = both_forms(fields);
     let outside = out_of_range(order, fields);
+    let record = record_in(order, fields);
+    let astray = wrong_start(record.ramadan, record.date);
     if lacking.number != 0 {
         return Reading::Refused(lacking);
     }
@@ -141,7 +159,10 @@ pub fn read(order: &[u8]) -> Reading
     if outside.number != 0 {
         return Reading::Refused(outside);
     }
-    Reading::Read(record_in(order, fields))
+    if astray.number != 0 {
+        return Reading::Refused(astray);
+    }
+    Reading::Read(record)
 }
 
 // The town's name, as the part of the order that it is; an empty part where the order is refused.

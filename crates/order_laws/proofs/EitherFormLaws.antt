@@ -15,13 +15,13 @@ use Rattle.models.specs.declared.parameters.Parameters.{Parameters}
 use Rattle.models.specs.declared.prayer.Prayer.{Prayer}
 use Rattle.models.specs.declared.rules.Rules.{Rules}
 use Rattle.models.specs.Settings.{timeAdjustmentsOf}
-use Rattle.order.specs.Given.{dateIn, rowsIn, coordinateIn, byteOr, degreesOr, roundingOr, minutesOr, intervalOr, parametersIn, rulesIn, clockIn}
+use Rattle.order.specs.Given.{dateIn, rowsIn, coordinateIn, byteOr, degreesOr, roundingOr, minutesOr, intervalOr, parametersIn, rulesIn, clockIn, ramadanIn}
 use Rattle.order.specs.Reading.{orderOf, readingOf, townOf}
 use Rattle.order.specs.declared.reading.Order.{Order}
 use Rattle.order.specs.declared.reading.Reading.{Reading}
 use Rattle.order.specs.declared.reading.Reading.the-variants.{Read}
 use Rattle.order.proofs.ReadingLaws.{read-passed}
-use Rattle.rows.specs.Rows.{linesText, acceptedText, textIn, sheetText, rowAnswerOf, rowBufferOf}
+use Rattle.rows.specs.Rows.{linesText, acceptedText, textIn, sheetText, readAnswerOf, readBufferOf, rowAnswerOf, rowBufferOf}
 use Rattle.schedule.specs.declared.in_force.Instant.{Instant}
 use Rattle.order_laws.specs.Minutes.{withOwnMinutes, LaterOrder}
 use Rattle.order_laws.specs.EitherForm.{saysPlace, SamePlace, withTown, SameAnswers, EitherFormAnswersAlike, EitherFormMovesAlike}
@@ -30,7 +30,7 @@ use Rattle.order_laws.specs.EitherForm.{saysPlace, SamePlace, withTown, 
 lines-same : (o : Order) (town : Part) (n : ℕ) → linesText (withTown o town) n ≡ linesText o n
 unfolding linesText workRowOf
 lines-same o town zero = refl
-lines-same o town (suc n) = ap (λ (t : List ℕ). t ++ lineText (rowDateOf (o .date) n) (workRowOf o n)) (lines-same o town n)
+lines-same o town (suc n) = ap (λ (t : List ℕ). t ++ lineText (o .ramadan) (rowDateOf (o .date) n) (workRowOf o n)) (lines-same o town n)
 
 text-same : (name : List ℕ) (o : Order) (town : Part) → acceptedText name (withTown o town) ≡ acceptedText name o
 unfolding acceptedText
@@ -75,6 +75,10 @@ module _ (a b : List ℕ) (orders : SamePlace a b) where
   unfolding clockIn
   clock-same = simp (has 16 (lit≤ tt) refl, value 16 (lit≤ tt) refl)
 
+  ramadan-same : ramadanIn (valuesOf a) ≡ ramadanIn (valuesOf b)
+  unfolding ramadanIn
+  ramadan-same = simp (has 20 (lit≤ tt) refl, value 20 (lit≤ tt) refl)
+
   first-same : orderOf (valuesOf a) ≡ orders .first
   first-same = read-passed a (orders .first) (orders .«first_read») .same
 
@@ -98,7 +102,7 @@ module _ (a b : List ℕ) (orders : SamePlace a b) where
   given-same : withTown (orderOf (valuesOf a)) (orderOf (valuesOf b) .town) ≡ orderOf (valuesOf b)
   unfolding orderOf
   given-same =
-      rw (value 2 (lit≤ tt) refl, value 3 (lit≤ tt) refl, latitude-same, longitude-same, parameters-same, rules-same, clock-same)
+      rw (value 2 (lit≤ tt) refl, value 3 (lit≤ tt) refl, latitude-same, longitude-same, parameters-same, rules-same, clock-same, ramadan-same)
 
   given : withTown (orders .first) (orders .second .town) ≡ orders .second
   given =
@@ -127,11 +131,15 @@ module _ (a b : List ℕ) (orders : SamePlace a b) where
   at-same row i = rw (day-same row)
 
   buffer-same : (row : ℕ) (buffer : List ℕ) → rowBufferOf a row buffer ≡ rowBufferOf b row buffer
-  unfolding rowBufferOf workRowOf
+  unfolding rowBufferOf readBufferOf workRowOf
   buffer-same row buffer = rw (orders .«first_read», orders .«second_read», ← given)
 
+  answer-same : (row : ℕ) (buffer : List ℕ) → rowAnswerOf a row buffer ≡ rowAnswerOf b row buffer
+  unfolding rowAnswerOf readAnswerOf workRowOf
+  answer-same row buffer = rw (orders .«first_read», orders .«second_read», ← given)
+
 pub either-form-answers-alike : EitherFormAnswersAlike
-unfolding prayerAtOf nextAtOf remainingAtOf rowAnswerOf
+unfolding prayerAtOf nextAtOf remainingAtOf
 either-form-answers-alike a b orders =
     record {
       given = given a b orders;
@@ -141,7 +149,7 @@ either-form-answers-alike a b orders =
       prayer = λ row i. rw (at-same a b orders row i);
       next = λ row i. rw (at-same a b orders row i);
       remaining = λ row i. rw (at-same a b orders row i);
-      answer = λ row buffer. rw (day-same a b orders row);
+      answer = answer-same a b orders;
       buffer = buffer-same a b orders;
     }
 

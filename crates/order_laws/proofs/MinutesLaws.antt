@@ -2,20 +2,25 @@
 use mathlib.Core.Path.{_≡_, refl, sym, ap, subst, _∙_}
 use mathlib.Core.Bool.{Bool, true, false, cond, not, _&&_}
 use mathlib.Core.List.{List}
-use Prim.Native.Nat.{ℕ, _+_, _≤_, _<_, _^_}
+use Prim.Native.Nat.{ℕ, _+_, _*_, _≤_, _<_, _^_}
 use native.Mathlib.Omega.{arith}
 use lib.Dec.{T, ltb, leb}
 use borrow.Author.Tests.{leb-true}
-use lib.IntN.{pos, negsuc}
+use lib.IntN.{ℤ, pos, negsuc, _+ℤ_, _-ℤ_}
 use lib.Signed.{leZ}
-use Rattle.integers.specs.Parts.{Near}
+use Rattle.integers.specs.Parts.{P, N, Near}
+use Rattle.integers.proofs.PartsLaws.{same}
+use Rattle.integers.proofs.Sums.{sum, difference}
 use Rattle.integers.specs.Order.{_≼_}
 use Rattle.calendar.specs.Answers.{rowDateOf}
 use Rattle.refusals.specs.Refusals.{noRefusal}
 use Rattle.fields.specs.declared.values.Part.{Part}
 use Rattle.models.specs.declared.adjustments.TimeAdjustment.{TimeAdjustment}
 use Rattle.models.specs.declared.parameters.Parameters.{Parameters}
+use Rattle.hijri.specs.declared.ramadan.Ramadan.{Ramadan}
+use Rattle.lines.specs.Lines.{imsakOf}
 use Rattle.models.specs.declared.prayer.Prayer.{Prayer}
+use Rattle.models.specs.declared.prayer.Prayer.the-variants.{Fajr}
 use Rattle.refusals.specs.declared.Refusal.{Refusal}
 use Rattle.models.specs.Presets.{presetOf}
 use Rattle.models.specs.Settings.{timeAdjustmentsOf}
@@ -33,14 +38,15 @@ use Rattle.schedule.specs.declared.prayer_times.Worked.{Worked}
 use Rattle.schedule.specs.declared.prayer_times.Worked.the-variants as worked
 use Rattle.schedule.specs.InForce.{currentTimeOf, currentNumberOf}
 use Rattle.schedule.specs.Times.{workedAt}
-use Rattle.schedule_laws.specs.Later.{withMinutes, LaterMinutes, Moved}
+use Rattle.schedule_laws.specs.Later.{withMinutes, laterBy, LaterMinutes, Moved}
 use Rattle.schedule_laws.proofs.CarriedLaws.{carried-held}
 use Rattle.order_laws.proofs.AcceptedParameters.{accepted-carried}
+use Rattle.order_laws.proofs.PrintedLaws.{imsak-is-printed-whole}
 use Rattle.schedule_laws.proofs.LaterLaws.{later-minutes-move-the-row}
 use Rattle.calls.specs.declared.in_force.InForce.{InForce}
 use Rattle.calls.specs.declared.in_force.InForce.the-variants as force
 use Rattle.calls.specs.Calls.{lacksRow, workRowOf, workReadingOf, workDayOf, instantFits, workAtOf, inForceOf, prayerAtOf}
-use Rattle.order_laws.specs.Minutes.{withOwnMinutes, LaterOrder, MovedRow, LaterOrdersMoveTheirRows}
+use Rattle.order_laws.specs.Minutes.{withOwnMinutes, LaterOrder, ImsakMoved, MovedRow, LaterOrdersMoveTheirRows}
 
 -- ---- what an accepted order's sums can be
 held : (order : Order) → Accepted order → (prayer : Prayer) → Near (2 ^ 32) (timeAdjustmentsOf (order .parameters) prayer)
@@ -174,12 +180,61 @@ module _ (a b : List ℕ) (orders : LaterOrder a b) (row : ℕ) where
       subst (λ (w : Worked). Moved (orders .first .parameters) (orders .second .parameters) w (workDayOf b row)) (sym day-of-first)
       (subst (λ (w : Worked). Moved (orders .first .parameters) (orders .second .parameters) (workRowOf (orders .first) row) w) (sym day-of-second) n)
 
+-- imsak is Fajr less the same minutes on both sheets
+shifted : (f g d : ℤ) (m : ℕ) → g ≡ f +ℤ d → g -ℤ pos m ≡ (f -ℤ pos m) +ℤ d
+shifted f g d m e =
+    let a = difference g (pos m) in
+    let b = difference f (pos m) in
+    let s = sum f d in
+    let r = sum (f -ℤ pos m) d in
+    same (g -ℤ pos m) ((f -ℤ pos m) +ℤ d) (omega (arith, a .0, a .1, b .0, b .1, ap P e, ap N e))
+
+kept : (f g : ℤ) (m : ℕ) → f ≼ g → f -ℤ pos m ≼ g -ℤ pos m
+kept f g m l = let a = difference g (pos m) in let b = difference f (pos m) in omega (arith, a .0, a .1, b .0, b .1)
+
+module _ (a b : List ℕ) (orders : LaterOrder a b) (row : ℕ) (t u : PrayerTimes)
+    (at : workDayOf a row ≡ worked.Times t) (bu : workDayOf b row ≡ worked.Times u) where
+  ramadan-same : orders .second .ramadan ≡ orders .first .ramadan
+  ramadan-same = sym (ap (λ (o : Order). o .ramadan) (orders .alike))
+
+  m : ℕ
+  m = 60 * orders .first .ramadan .imsak
+
+  first-imsak : imsakOf (orders .first .ramadan .imsak) (t .fajr) ≡ t .fajr -ℤ pos m
+  unfolding m
+  first-imsak =
+      imsak-is-printed-whole (orders .first) row t (read-accepted a (orders .first) (orders .«first_read»)) (sym (day-of-first a b orders row) ∙ at) .exact
+
+  second-imsak : imsakOf (orders .second .ramadan .imsak) (u .fajr) ≡ u .fajr -ℤ pos m
+  unfolding m
+  second-imsak =
+      imsak-is-printed-whole (orders .second) row u (read-accepted b (orders .second) (orders .«second_read»)) (sym (day-of-second a b orders row) ∙ bu) .exact
+      ∙ ap (λ (r : Ramadan). u .fajr -ℤ pos (60 * r .imsak)) ramadan-same
+
+  imsak-moved : ImsakMoved (orders .first) (orders .second) t u
+  unfolding p q
+  imsak-moved =
+      let moved = day a b orders row in
+      let exact = moved .«exactly_later» t u at bu .fajr in
+      let none = moved .«none_earlier» t u at bu .fajr in
+      record {
+        same = ramadan-same;
+        «not_earlier» =
+            subst (λ (z : ℤ). z ≼ imsakOf (orders .second .ramadan .imsak) (u .fajr)) (sym first-imsak)
+            (subst (λ (z : ℤ). t .fajr -ℤ pos m ≼ z) (sym second-imsak) (kept (t .fajr) (u .fajr) m none));
+        exactly =
+            second-imsak
+            ∙ shifted (t .fajr) (u .fajr) (laterBy (orders .first .parameters) (orders .second .parameters) Fajr) m exact
+            ∙ ap (λ (z : ℤ). z +ℤ laterBy (orders .first .parameters) (orders .second .parameters) Fajr) (sym first-imsak);
+      }
+
 pub later-orders-move-their-rows : LaterOrdersMoveTheirRows
 unfolding p q
 later-orders-move-their-rows a b orders row =
     let moved = day a b orders row in
     record {
       day = moved;
+      imsak = imsak-moved a b orders row;
       «in_force» = λ t u ht hu after x y ex ey.
           let f = prayer-times (workDayOf a row) t x (sym (asked a row t ht) ∙ ex) in
           let g = prayer-times (workDayOf b row) u y (sym (asked b row u hu) ∙ ey) in

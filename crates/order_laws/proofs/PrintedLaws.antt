@@ -1,13 +1,15 @@
--- Times that lie by their date have days of one digit. Assumes nothing.
+-- Times that lie by their date have days of one digit, and so has imsak. Assumes nothing.
 use native.Mathlib.Omega.{arith}
 use mathlib.Core.Path.{_≡_, refl, sym, subst, _∙_}
 use mathlib.Core.Bool.{Bool, true, false, cond}
-use Prim.Native.Nat.{ℕ, zero, suc, _+_, _*_, _≤_, _<_}
+use Prim.Native.Nat.{ℕ, zero, suc, _+_, _*_, _^_, _≤_, _<_}
 use lib.Dec.{T, ltb, lit<}
+use borrow.Author.Tests.{ltb-true}
 use lib.IntN.{ℤ, pos, negsuc, _-ℤ_, _*ℤ_}
 use lib.ListN.{getD}
 use Rattle.integers.specs.Parts.{P, N}
 use Rattle.integers.specs.Quotients.{floorQuot}
+use Rattle.integers.proofs.OrderLaws.{to-le}
 use Rattle.integers.proofs.QuotientLaws.{floored}
 use Rattle.integers.proofs.Sums.{difference, times}
 use Rattle.calendar.specs.Answers.{rowDateOf}
@@ -15,9 +17,10 @@ use Rattle.calendar.specs.Days.{dayNumberOf}
 use Rattle.calendar.specs.declared.dates.Date.{Date}
 use Rattle.calls.specs.Calls.{workRowOf}
 use Rattle.refusals.specs.Refusals.{refusal}
-use Rattle.lines.specs.Lines.{daysOf, sizeOf, nineOf}
+use Rattle.lines.specs.Lines.{daysOf, sizeOf, nineOf, earliest, imsakOf}
 use Rattle.order.specs.Accepted.{Accepted}
 use Rattle.order.specs.declared.reading.Order.{Order}
+use Rattle.schedule.proofs.Starts.{start-near}
 use Rattle.schedule.specs.Numbers.{numbersOf}
 use Rattle.schedule.specs.Times.{startOf, seasonOf, workedAt}
 use Rattle.schedule.specs.declared.prayer_times.PrayerTimes.{PrayerTimes}
@@ -25,13 +28,14 @@ use Rattle.schedule.specs.declared.prayer_times.Worked.{Worked}
 use Rattle.schedule.specs.declared.prayer_times.Worked.the-variants.{Times, Refused}
 use Rattle.schedule_laws.specs.Range.{OfDate, AllOfDate}
 use Rattle.schedule_laws.proofs.RangeLaws.{times-lie-by-their-date}
+use Rattle.order_laws.specs.Imsak.{ImsakIsPrintedWhole}
 use Rattle.order_laws.specs.Printed.{DaysArePrintedWhole}
 use Rattle.order_laws.proofs.AcceptedParameters.{accepted-carried, accepted-latitude}
 
 -- one of the two parts is 0
-small : (z : ℤ) → P z ≤ N z + 4 → N z ≤ P z + 4 → sizeOf z ≤ 4
-small (pos n) a b = omega arith
-small (negsuc n) a b = omega arith
+small : (k : ℕ) (z : ℤ) → P z ≤ N z + k → N z ≤ P z + k → sizeOf z ≤ k
+small k (pos n) a b = omega arith
+small k (negsuc n) a b = omega arith
 
 one-digit : (date : Date) (time : ℤ) → OfDate date time → sizeOf (daysOf date time) ≤ 4
 unfolding startOf
@@ -40,7 +44,7 @@ one-digit date time h =
     let d = difference (floorQuot time 86400) (dayNumberOf date) in
     let m = times (dayNumberOf date) 86400 in
     let s = difference time (dayNumberOf date *ℤ pos 86400) in
-    small (daysOf date time) (omega (arith, f .balance, f .below, d .0, d .1, m, s .0, s .1, h .from, h .before)) (omega (arith, f .balance, f .below, d .0, d .1, m, s .0, s .1, h .from, h .before))
+    small 4 (daysOf date time) (omega (arith, f .balance, f .below, d .0, d .1, m, s .0, s .1, h .from, h .before)) (omega (arith, f .balance, f .below, d .0, d .1, m, s .0, s .1, h .from, h .before))
 
 nine-digits : (date : Date) (t : PrayerTimes) → AllOfDate date t → (i : ℕ) → i < 9 → sizeOf (daysOf date (getD (nineOf t) i (pos 0))) ≤ 4
 nine-digits date t a zero l = one-digit date (t .fajr) (a .fajr)
@@ -58,17 +62,61 @@ abbrev isTimes : Worked → Type 0
 isTimes (Times t) = T true
 isTimes (Refused r) = T false
 
-pub days-are-printed-whole : DaysArePrintedWhole
+-- the times of a row lie by its date
+pub by-its-date : (order : Order) (row : ℕ) (t : PrayerTimes) → Accepted order → workRowOf order row ≡ Times t → AllOfDate (rowDateOf (order .date) row) t
 unfolding workRowOf
-days-are-printed-whole order row t i h e l = by-row (ltb row (order .rows)) e
+by-its-date order row t h e = by-row (ltb row (order .rows)) e
   where
     date : Date
     date = rowDateOf (order .date) row
 
     by-row : (b : Bool)
         → cond b (workedAt date (order .coordinates) (order .parameters) (order .rules)) (Refused (refusal 5 3)) ≡ Times t
-        → sizeOf (daysOf date (getD (nineOf t) i (pos 0))) ≤ 4
+        → AllOfDate date t
     by-row true w =
-        nine-digits date t
-        (times-lie-by-their-date (order .rules .midnight) (numbersOf date (order .coordinates) (order .parameters)) date (seasonOf (order .coordinates .latitude) (order .rules)) (order .parameters) t (accepted-latitude order h) (accepted-carried order h) w) i l
+        times-lie-by-their-date (order .rules .midnight) (numbersOf date (order .coordinates) (order .parameters)) date (seasonOf (order .coordinates .latitude) (order .rules)) (order .parameters) t (accepted-latitude order h) (accepted-carried order h) w
     by-row false w = absurd (subst isTimes (sym w) tt)
+
+pub days-are-printed-whole : DaysArePrintedWhole
+days-are-printed-whole order row t i h e l = nine-digits (rowDateOf (order .date) row) t (by-its-date order row t h e) i l
+
+-- ---- imsak
+-- within so many seconds of Fajr
+imsak-exact : (date : Date) (fajr : ℤ) (m : ℕ) → date .year < 2 ^ 32 → m ≤ 30 → OfDate date fajr → imsakOf m fajr ≡ fajr -ℤ pos (60 * m)
+unfolding imsakOf startOf
+imsak-exact date fajr m y l h =
+    let n = start-near date y in
+    let s = difference fajr (dayNumberOf date *ℤ pos 86400) in
+    let d = difference fajr (pos (60 * m)) in
+    rw (to-le earliest (fajr -ℤ pos (60 * m)) (omega (arith, n .from, n .to, s .0, s .1, d .0, d .1, h .from, h .before)))
+
+imsak-digit : (date : Date) (fajr : ℤ) (m : ℕ) → m ≤ 30 → OfDate date fajr → sizeOf (daysOf date (fajr -ℤ pos (60 * m))) ≤ 5
+unfolding startOf
+imsak-digit date fajr m l h =
+    let time = fajr -ℤ pos (60 * m) in
+    let f = floored time 86400 (lit< tt) in
+    let d = difference (floorQuot time 86400) (dayNumberOf date) in
+    let k = times (dayNumberOf date) 86400 in
+    let s = difference fajr (dayNumberOf date *ℤ pos 86400) in
+    let e = difference fajr (pos (60 * m)) in
+    small 5 (daysOf date time) (omega (arith, f .balance, f .below, d .0, d .1, k, s .0, s .1, e .0, e .1, h .from, h .before)) (omega (arith, f .balance, f .below, d .0, d .1, k, s .0, s .1, e .0, e .1, h .from, h .before))
+
+-- a row with times is one that the order has
+row-there : (order : Order) (row : ℕ) (t : PrayerTimes) → workRowOf order row ≡ Times t → row < order .rows
+unfolding workRowOf
+row-there order row t e = go (ltb row (order .rows)) refl e
+  where
+    go : (b : Bool) → ltb row (order .rows) ≡ b
+        → cond b (workedAt (rowDateOf (order .date) row) (order .coordinates) (order .parameters) (order .rules)) (Refused (refusal 5 3)) ≡ Times t
+        → row < order .rows
+    go true h w = ltb-true row (order .rows) h
+    go false h w = absurd (subst isTimes (sym w) tt)
+
+pub imsak-is-printed-whole : ImsakIsPrintedWhole
+imsak-is-printed-whole order row t h e =
+    let date = rowDateOf (order .date) row in
+    let m = order .ramadan .imsak in
+    let a = by-its-date order row t h e in
+    let y = h .row row (row-there order row t e) .to in
+    let exact = imsak-exact date (t .fajr) m (omega arith) (h .imsak) (a .fajr) in
+    record { exact = exact; days = subst (λ (z : ℤ). sizeOf (daysOf date z) ≤ 5) (sym exact) (imsak-digit date (t .fajr) m (h .imsak) (a .fajr)) }

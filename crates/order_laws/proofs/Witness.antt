@@ -24,9 +24,9 @@ use Rattle.models.specs.declared.prayer.Prayer.the-variants.{Fajr, Sunrise, Dhu
 use Rattle.models.specs.Numbers.{methodOf}
 use Rattle.models.specs.Presets.{preset, presetOf}
 use Rattle.models.specs.Settings.{minutesFor, timeAdjustmentsOf}
-use Rattle.order.specs.Given.{dateIn, rowsIn, degreesIn, formIn, coordinateIn, minutesIn, byteOr, degreesOr, roundingOr, minutesOr, intervalOr, parametersIn, rulesIn, clockIn}
-use Rattle.order.specs.Ranges.{textFits, rowsFit, minuteFits, minutesFit, intervalFits, lookUp, fitsOf, inRangeOf}
-use Rattle.order.specs.Reading.{firstFailing, isGivenOf, missingOf, bothFormsOf, tagsFrom, outOfRangeOf, orderOf, firstOf, readingOf, townOf}
+use Rattle.order.specs.Given.{dateIn, rowsIn, degreesIn, formIn, coordinateIn, minutesIn, byteOr, degreesOr, roundingOr, minutesOr, intervalOr, parametersIn, rulesIn, clockIn, ramadanIn}
+use Rattle.order.specs.Ranges.{textFits, rowsFit, ramadanRows, minuteFits, minutesFit, intervalFits, lookUp, fitsOf, inRangeOf}
+use Rattle.order.specs.Reading.{firstFailing, isGivenOf, missingOf, bothFormsOf, tagsFrom, outOfRangeOf, orderOf, wrongStartOf, firstOf, readingOf, townOf}
 use Rattle.order_laws.specs.Minutes.{LaterOrder}
 use Rattle.order_laws.specs.EitherForm.{saysPlace, SamePlace}
 
@@ -55,7 +55,7 @@ more-minutes Qiyam = lit≤ tt
 more-minutes FajrTomorrow = lit≤ tt
 
 pub can-be-met : LaterOrder earlier later
-unfolding readingOf firstOf isGivenOf bothFormsOf formIn coordinateIn formFits degreesOf checkOf walkOf faultOf valueFaultOf firstBefore lengthAt unsignedOf lengthFits choiceFits offsetOf hasOf valueOf startOf missingOf firstFailing tagsFrom outOfRangeOf inRangeOf fitsOf lookUp textFits rowsFit minuteFits minutesFit intervalFits dateIn rowsIn degreesIn minutesIn byteOr degreesOr roundingOr minutesOr intervalOr parametersIn rulesIn clockIn orderOf townOf signedOf joinedOf bitsOf floatOf timeAdjustmentsOf existsOf leapOf lengthOf daysBeforeOf ordinalOf countBelow monthOf ofOrdinalOf daysBeforeYearOf dayNumberOf lastBy yearOf dateAtOf dateOfDayOf heldOf fromOf le neg ofBits round dec
+unfolding readingOf firstOf isGivenOf bothFormsOf formIn coordinateIn formFits degreesOf checkOf walkOf faultOf valueFaultOf firstBefore lengthAt unsignedOf lengthFits choiceFits offsetOf hasOf valueOf startOf missingOf firstFailing tagsFrom outOfRangeOf inRangeOf fitsOf lookUp textFits rowsFit ramadanRows minuteFits minutesFit intervalFits dateIn rowsIn degreesIn minutesIn byteOr degreesOr roundingOr minutesOr intervalOr parametersIn rulesIn clockIn ramadanIn orderOf wrongStartOf townOf signedOf joinedOf bitsOf floatOf timeAdjustmentsOf existsOf leapOf lengthOf daysBeforeOf ordinalOf countBelow monthOf ofOrdinalOf daysBeforeYearOf dayNumberOf lastBy yearOf dateAtOf dateOfDayOf heldOf fromOf le neg ofBits round dec
 can-be-met =
     record {
       first = orderOf (valuesOf earlier);
@@ -83,14 +83,14 @@ of-each P (suc n) each tag l = go (leb tag n) refl (λ h. of-each P n (each .1) 
 abbrev Same : ℕ → Type 0
 Same tag = saysPlace tag ≡ false → (hasOf earlier tag ≡ hasOf onTheMap tag) × (valueOf earlier tag ≡ valueOf onTheMap tag)
 
--- from tag 19 down
-each-same : UpTo 19 Same
+-- from tag 20 down
+each-same : UpTo 20 Same
 unfolding hasOf offsetOf firstBefore lengthAt unsignedOf valueOf
 each-same =
-    (λ e. absurd (true≢false e), (λ e. absurd (true≢false e), (λ e. (refl, refl), (λ e. (refl, refl), (λ e. (refl, refl), (λ e. (refl, refl), (λ e. (refl, refl), (λ e. (refl, refl), (λ e. (refl, refl), (λ e. (refl, refl), (λ e. (refl, refl), (λ e. (refl, refl), (λ e. (refl, refl), (λ e. (refl, refl), (λ e. absurd (true≢false e), (λ e. absurd (true≢false e), (λ e. (refl, refl), (λ e. (refl, refl), (λ e. (refl, refl), λ e. (refl, refl))))))))))))))))))))
+    (λ e. (refl, refl), (λ e. absurd (true≢false e), (λ e. absurd (true≢false e), (λ e. (refl, refl), (λ e. (refl, refl), (λ e. (refl, refl), (λ e. (refl, refl), (λ e. (refl, refl), (λ e. (refl, refl), (λ e. (refl, refl), (λ e. (refl, refl), (λ e. (refl, refl), (λ e. (refl, refl), (λ e. (refl, refl), (λ e. (refl, refl), (λ e. absurd (true≢false e), (λ e. absurd (true≢false e), (λ e. (refl, refl), (λ e. (refl, refl), (λ e. (refl, refl), λ e. (refl, refl)))))))))))))))))))))
 
 pub can-be-sent-either-way : SamePlace earlier onTheMap
-unfolding readingOf firstOf isGivenOf bothFormsOf formIn coordinateIn formFits degreesOf checkOf walkOf faultOf valueFaultOf firstBefore lengthAt unsignedOf lengthFits choiceFits offsetOf hasOf valueOf startOf missingOf firstFailing tagsFrom outOfRangeOf inRangeOf fitsOf lookUp textFits rowsFit minuteFits minutesFit intervalFits dateIn rowsIn degreesIn minutesIn byteOr degreesOr roundingOr minutesOr intervalOr parametersIn rulesIn orderOf townOf signedOf joinedOf bitsOf floatOf timeAdjustmentsOf existsOf leapOf lengthOf daysBeforeOf ordinalOf countBelow monthOf ofOrdinalOf daysBeforeYearOf dayNumberOf lastBy yearOf dateAtOf dateOfDayOf heldOf fromOf le neg ofBits round dec
+unfolding readingOf firstOf isGivenOf bothFormsOf formIn coordinateIn formFits degreesOf checkOf walkOf faultOf valueFaultOf firstBefore lengthAt unsignedOf lengthFits choiceFits offsetOf hasOf valueOf startOf missingOf firstFailing tagsFrom outOfRangeOf inRangeOf fitsOf lookUp textFits rowsFit ramadanRows minuteFits minutesFit intervalFits dateIn rowsIn degreesIn minutesIn byteOr degreesOr roundingOr minutesOr intervalOr parametersIn rulesIn clockIn ramadanIn orderOf wrongStartOf townOf signedOf joinedOf bitsOf floatOf timeAdjustmentsOf existsOf leapOf lengthOf daysBeforeOf ordinalOf countBelow monthOf ofOrdinalOf daysBeforeYearOf dayNumberOf lastBy yearOf dateAtOf dateOfDayOf heldOf fromOf le neg ofBits round dec
 can-be-sent-either-way =
     record {
       first = orderOf (valuesOf earlier);
@@ -99,5 +99,5 @@ can-be-sent-either-way =
       «second_read» = refl;
       latitude = refl;
       longitude = refl;
-      others = of-each Same 19 each-same;
+      others = of-each Same 20 each-same;
     }

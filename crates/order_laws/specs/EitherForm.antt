@@ -42,6 +42,7 @@ withTown order town =
       parameters = order .parameters;
       rules = order .rules;
       clock = order .clock;
+      ramadan = order .ramadan;
     }
 
 pub record SameAnswers (a b : List ℕ) (orders : SamePlace a b) : Type 0 where

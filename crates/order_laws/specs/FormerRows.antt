@@ -14,8 +14,8 @@ use Rattle.fields.specs.Numbers.{byteOf}
 use Rattle.fields.specs.Tags.{lastTag}
 use Rattle.fields.specs.Values.{valueOf, Values, valuesOf}
 use Rattle.order.specs.Given.{dateIn}
-use Rattle.order.specs.Ranges.{between, inRangeOf}
-use Rattle.order.specs.Reading.{firstFailing, missingOf, bothFormsOf, tagsFrom, orderOf, firstOf, readingOf}
+use Rattle.order.specs.Ranges.{between, ramadanRows, inRangeOf}
+use Rattle.order.specs.Reading.{firstFailing, missingOf, bothFormsOf, tagsFrom, orderOf, wrongStartOf, firstOf, readingOf}
 use Rattle.order.specs.declared.reading.Order.{Order}
 use Rattle.order.specs.declared.reading.Reading.{Reading}
 use Rattle.order.specs.declared.reading.Reading.the-variants.{Read}
@@ -38,18 +38,24 @@ withRows order rows =
       parameters = order .parameters;
       rules = order .rules;
       clock = order .clock;
+      ramadan = order .ramadan;
     }
 
--- today's checks with tag 3's as it was. A value of another length was refused by the form of the fields; which number refused it is not asked here,
+-- today's checks with tag 3's as it was, and what a Ramadan sheet asks of its rows as it is today. A value of another length was refused by the form of the fields; which number refused it is not asked here,
 -- only what was accepted.
 unfoldable pub formerInRange : Values → ℕ → Bool
-formerInRange v tag = cond (eqb tag 3) (formerRowsFit (dateIn (v .value 2)) (v .value 3)) (inRangeOf v tag)
+formerInRange v tag = cond (eqb tag 3) (formerRowsFit (dateIn (v .value 2)) (v .value 3) && ramadanRows (v .has 20) (v .value 3)) (inRangeOf v tag)
 
 unfoldable pub formerReadingOf : List ℕ → Reading
 formerReadingOf s =
     let v = valuesOf s in
     firstOf
-    (checkOf s ∷ missingOf (v .has) ∷ bothFormsOf (v .has) ∷ firstFailing outOfRange (formerInRange v) (tagsFrom lastTag 1) ∷ [])
+    (checkOf s
+    ∷ missingOf (v .has)
+    ∷ bothFormsOf (v .has)
+    ∷ firstFailing outOfRange (formerInRange v) (tagsFrom lastTag 1)
+    ∷ wrongStartOf (orderOf v .ramadan) (orderOf v .date)
+    ∷ [])
     (withRows (orderOf v) (formerRowsIn (v .value 3)))
 
 pub record ReadAsBefore (s : List ℕ) (order : Order) : Type 0 where

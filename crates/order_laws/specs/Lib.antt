@@ -1,4 +1,5 @@
 pub mod Printed
+pub mod Imsak
 pub mod Minutes
 pub mod FormerRows
 pub mod EitherForm

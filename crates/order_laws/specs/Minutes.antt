@@ -9,10 +9,13 @@ use mathlib.Core.Path.{_≡_}
 use mathlib.Core.Bool.{true}
 use mathlib.Core.List.{List}
 use Prim.Native.Nat.{ℕ, _≤_}
+use lib.IntN.{_+ℤ_}
 use Rattle.integers.specs.Order.{_≼_}
 use Rattle.fields.specs.declared.values.Part.{Part}
 use Rattle.models.specs.declared.adjustments.TimeAdjustment.{TimeAdjustment}
 use Rattle.models.specs.declared.prayer.Prayer.{Prayer}
+use Rattle.models.specs.declared.prayer.Prayer.the-variants.{Fajr}
+use Rattle.lines.specs.Lines.{imsakOf}
 use Rattle.refusals.specs.declared.Refusal.{Refusal}
 use Rattle.models.specs.Settings.{timeAdjustmentsOf}
 use Rattle.order.specs.declared.reading.Order.{Order}
@@ -20,8 +23,10 @@ use Rattle.order.specs.declared.reading.Reading.the-variants.{Read}
 use Rattle.order.specs.Reading.{readingOf, townOf}
 use Rattle.schedule.specs.declared.in_force.Current.{Current}
 use Rattle.schedule.specs.declared.in_force.Instant.{Instant}
+use Rattle.schedule.specs.declared.prayer_times.PrayerTimes.{PrayerTimes}
+use Rattle.schedule.specs.declared.prayer_times.Worked.the-variants.{Times}
 use Rattle.schedule.specs.InForce.{NotAfter, currentNumberOf}
-use Rattle.schedule_laws.specs.Later.{withMinutes, Moved}
+use Rattle.schedule_laws.specs.Later.{withMinutes, laterBy, Moved}
 use Rattle.calls.specs.declared.in_force.InForce.the-variants as force
 use Rattle.calls.specs.Calls.{workDayOf, instantFits, prayerAtOf}
 
@@ -36,6 +41,7 @@ withOwnMinutes order town minutes =
       parameters = withMinutes (order .parameters) minutes;
       rules = order .rules;
       clock = order .clock;
+      ramadan = order .ramadan;
     }
 
 -- "accepted when its bytes pass every check before the day"; "differ only in schools' own minutes when all that the tags other than 11 give, a
@@ -50,9 +56,19 @@ pub record LaterOrder (a b : List ℕ) : Type 0 where
   -- "the six prayers are tag 11's"; Qiyam and tomorrow's Fajr have no minutes, so that their sums are equal
   pub more : (prayer : Prayer) → timeAdjustmentsOf (first .parameters) prayer ≼ timeAdjustmentsOf (second .parameters) prayer
 
+-- imsak of each, as the sheet has it
+pub record ImsakMoved (first second : Order) (t u : PrayerTimes) : Type 0 where
+  pub same : second .ramadan ≡ first .ramadan
+  pub «not_earlier» : imsakOf (first .ramadan .imsak) (t .fajr) ≼ imsakOf (second .ramadan .imsak) (u .fajr)
+  pub exactly : imsakOf (second .ramadan .imsak) (u .fajr)
+      ≡ imsakOf (first .ramadan .imsak) (t .fajr) +ℤ laterBy (first .parameters) (second .parameters) Fajr
+
 pub record MovedRow (a b : List ℕ) (orders : LaterOrder a b) (row : ℕ) : Type 0 where
   -- what working the row answers: refused alike, none earlier, six times and tomorrow's Fajr by exactly the difference (crates/schedule_laws/specs/Later)
   pub day : Moved (orders .first .parameters) (orders .second .parameters) (workDayOf a row) (workDayOf b row)
+  -- request 12: "Raising Fajr's minutes moves imsak by as much": imsak, which is no earlier, by exactly Fajr's difference
+  pub imsak : (t u : PrayerTimes) → workDayOf a row ≡ Times t → workDayOf b row ≡ Times u
+      → ImsakMoved (orders .first) (orders .second) t u
   -- what naming the prayer answers, at t for the first and at u for the second
   pub «in_force» : (t u : Instant) → instantFits t ≡ true → instantFits u ≡ true → NotAfter u t → (x y : Current)
       → prayerAtOf a row t ≡ force.Prayer x → prayerAtOf b row u ≡ force.Prayer y → currentNumberOf y ≤ currentNumberOf x

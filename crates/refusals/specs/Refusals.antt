@@ -76,9 +76,13 @@ queueFull = 16
 abbrev pub jobUnfit : ℕ
 jobUnfit = 17
 
+-- request 12: "A start other than the shifted 1 Ramadan (month 9)"; 2
+abbrev pub notFirstOfRamadan : ℕ
+notFirstOfRamadan = 18
+
 -- all of them
 abbrev pub numbers : List ℕ
 numbers =
     fieldCut ∷ fieldUnknown ∷ fieldAgain ∷ tagMissing ∷ outOfRange ∷ noTransit ∷ noSunrise
     ∷ noSunset ∷ bufferShort ∷ instantBeyond ∷ noneInForce ∷ logSecondShort
-    ∷ logOutOfTurn ∷ logCountOutside ∷ bothForms ∷ queueFull ∷ jobUnfit ∷ []
+    ∷ logOutOfTurn ∷ logCountOutside ∷ bothForms ∷ queueFull ∷ jobUnfit ∷ notFirstOfRamadan ∷ []

@@ -51,6 +51,9 @@ pub const QUEUE_FULL: u32 = 16;
 // A job with id 0, an id over 65,535 or one that still waits, or with pages outside 1 to 16: its id.
 pub const JOB_UNFIT: u32 = 17;
 
+// A Ramadan sheet begins on another day than the 1st of Ramadan, moved by its shift: 2, the tag of the date.
+pub const NOT_FIRST_OF_RAMADAN: u32 = 18;
+
 pub struct Refusal {
     pub number: u32,
     pub place: u32,

@@ -3,43 +3,64 @@ use native.Mathlib.Omega.{arith}
 use native.Mathlib.Numerals.{add-one}
 use Prim.Native.Nat.{ℕ, zero, suc, _+_, _*_, _≤_}
 use mathlib.Core.Path.{_≡_, refl, sym, ap, _∙_}
+use mathlib.Core.Bool.{Bool, true, false, cond}
 use mathlib.Core.List.{List, [], _++_}
+use lib.Dec.{lit≤}
 use lib.ListN.{length, length-append}
 use Rattle.calendar.specs.Answers.{rowDateOf}
 use Rattle.calls.specs.Calls.{workRowOf}
-use Rattle.lines.specs.Lines.{fullRow, lineText}
+use Rattle.hijri.specs.declared.ramadan.Ramadan.{Ramadan}
+use Rattle.lines.specs.Lines.{fullRow, rowBytes, rowRoom, lineText}
 use Rattle.lines.proofs.LinesLaws.{line-length}
+use Rattle.order.specs.Accepted.{Accepted}
+use Rattle.order.specs.Ranges.{mostRows}
 use Rattle.order.specs.declared.reading.Order.{Order}
 use Rattle.text.specs.Text.{ascii, putOf, frontOf}
 use Rattle.text.proofs.TextLaws.{put-front, put-behind, put-next, put-nothing}
-use Rattle.rows.specs.Rows.{headText, linesText, acceptedText}
+use Rattle.rows.specs.Rows.{headerText, headText, linesText, acceptedText}
 
-abbrev header : List ℕ
-header = ascii "\ndate fajr sunrise dhuhr asr maghrib isha middle qiyam tomorrow\n"
+-- 64 bytes without imsak, 70 with it; and with all rows of the order no more than the longest sheet has room for
+pub room-enough : (o : Order) → Accepted o → length (headerText (o .ramadan)) + o .rows * rowRoom (o .ramadan) ≤ 64 + fullRow * mostRows
+unfolding headerText rowRoom
+room-enough o a = go (o .ramadan .set) refl
+  where
+    go : (b : Bool) → o .ramadan .set ≡ b
+        → length (cond b (ascii "\ndate imsak fajr sunrise dhuhr asr maghrib isha middle qiyam tomorrow\n") (ascii "\ndate fajr sunrise dhuhr asr maghrib isha middle qiyam tomorrow\n")) + o .rows * rowBytes (cond b 10 9)
+        ≤ 64 + fullRow * mostRows
+    go true e = let n = a .ramadan e .rows in omega arith
+    go false e = let n = a .rows .1 in omega arith
 
-pub head-length : (town : List ℕ) → length (headText town) ≡ length town + 64
+pub header-short : (ramadan : Ramadan) → length (headerText ramadan) ≤ 70
+unfolding headerText
+header-short ramadan = go (ramadan .set)
+  where
+    go : (b : Bool) → length (cond b (ascii "\ndate imsak fajr sunrise dhuhr asr maghrib isha middle qiyam tomorrow\n") (ascii "\ndate fajr sunrise dhuhr asr maghrib isha middle qiyam tomorrow\n")) ≤ 70
+    go true = lit≤ tt
+    go false = lit≤ tt
+
+pub head-length : (ramadan : Ramadan) (town : List ℕ) → length (headText ramadan town) ≡ length town + length (headerText ramadan)
 unfolding headText
-head-length town = length-append town header
+head-length ramadan town = length-append town (headerText ramadan)
 
-pub head-made : (town buffer one two : List ℕ) → length town + 64 ≤ length buffer → one ≡ putOf buffer 0 town → two ≡ putOf one (length town) header
-    → two ≡ frontOf (headText town) buffer
+pub head-made : (ramadan : Ramadan) (town buffer one two : List ℕ) → length town + length (headerText ramadan) ≤ length buffer → one ≡ putOf buffer 0 town
+    → two ≡ putOf one (length town) (headerText ramadan) → two ≡ frontOf (headText ramadan town) buffer
 unfolding headText
-head-made town buffer one two room a b =
-    put-next buffer town header one two (length town) (put-next buffer [] town buffer one 0 refl refl a (omega arith)) refl b room
+head-made ramadan town buffer one two room a b =
+    put-next buffer town (headerText ramadan) one two (length town) (put-next buffer [] town buffer one 0 refl refl a (omega arith)) refl b room
 
 abbrev pub lineOf : Order → ℕ → List ℕ
-lineOf o k = lineText (rowDateOf (o .date) k) (workRowOf o k)
+lineOf o k = lineText (o .ramadan) (rowDateOf (o .date) k) (workRowOf o k)
 
 pub lines-next : (o : Order) (k : ℕ) → linesText o (k + 1) ≡ linesText o k ++ lineOf o k
 unfolding linesText
 lines-next o k = rw (add-one k)
 
-pub lines-length : (o : Order) (k : ℕ) → length (linesText o k) ≤ fullRow * k
+pub lines-length : (o : Order) (k : ℕ) → length (linesText o k) ≤ k * rowRoom (o .ramadan)
 unfolding linesText
 lines-length o zero = omega arith
 lines-length o (suc k) =
     let i = lines-length o k in
-    let n = line-length (rowDateOf (o .date) k) (workRowOf o k) in
+    let n = line-length (o .ramadan) (rowDateOf (o .date) k) (workRowOf o k) in
     let a = length-append (linesText o k) (lineOf o k) in
     omega arith
 
@@ -49,13 +70,13 @@ unfolding linesText
 lines-none o buffer at room = (sym (put-nothing buffer at room), omega arith)
 
 -- one line more
-pub line-made : (o : Order) (k : ℕ) (buffer before after line : List ℕ) (at end n : ℕ) → at + fullRow * (k + 1) ≤ length buffer
+pub line-made : (o : Order) (k : ℕ) (buffer before after line : List ℕ) (at end n : ℕ) → at + (k + 1) * rowRoom (o .ramadan) ≤ length buffer
     → before ≡ putOf buffer at (linesText o k) → end ≡ at + length (linesText o k)
     → line ≡ lineOf o k → n ≡ length line → after ≡ putOf before end line
     → (after ≡ putOf buffer at (linesText o (k + 1))) × (end + n ≡ at + length (linesText o (k + 1)))
 line-made o k buffer before after line at end n room b e l m p =
     let i = lines-length o k in
-    let w = line-length (rowDateOf (o .date) k) (workRowOf o k) in
+    let w = line-length (o .ramadan) (rowDateOf (o .date) k) (workRowOf o k) in
     let a = length-append (linesText o k) (lineOf o k) in
     let x = lines-next o k in
     let f : n ≡ length (lineOf o k) = m ∙ ap length l in
@@ -69,13 +90,13 @@ line-made o k buffer before after line at end n room b e l m p =
       omega arith,
     )
 
-pub sheet-made : (town buffer head after : List ℕ) (o : Order) (n r : ℕ) → length town + 64 + fullRow * o .rows ≤ length buffer
-    → n ≡ length (headText town) → head ≡ frontOf (headText town) buffer
+pub sheet-made : (town buffer head after : List ℕ) (o : Order) (n r : ℕ) → length town + (length (headerText (o .ramadan)) + o .rows * rowRoom (o .ramadan)) ≤ length buffer
+    → n ≡ length (headText (o .ramadan) town) → head ≡ frontOf (headText (o .ramadan) town) buffer
     → r ≡ n + length (linesText o (o .rows)) → after ≡ putOf head n (linesText o (o .rows))
     → (r ≡ length (acceptedText town o)) × (after ≡ frontOf (acceptedText town o) buffer)
 unfolding acceptedText
 sheet-made town buffer head after o n r room e h m p =
     let l = lines-length o (o .rows) in
-    let t = head-length town in
-    let a = length-append (headText town) (linesText o (o .rows)) in
-    (omega arith, put-next buffer (headText town) (linesText o (o .rows)) head after n h e p (omega arith))
+    let t = head-length (o .ramadan) town in
+    let a = length-append (headText (o .ramadan) town) (linesText o (o .rows)) in
+    (omega arith, put-next buffer (headText (o .ramadan) town) (linesText o (o .rows)) head after n h e p (omega arith))

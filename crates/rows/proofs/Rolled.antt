@@ -1,4 +1,5 @@
 -- Rows that roll, and the lines behind one another. Assumes nothing.
+use native.Mathlib.Nat.{mul-le-mul-right}
 use native.Mathlib.Omega.{arith}
 use Prim.Native.Nat.{ℕ, _+_, _*_, _≤_, _<_}
 use mathlib.Core.Path.{_≡_, ap, _∙_}
@@ -7,9 +8,8 @@ use lib.ListN.{length}
 use Rattle.calendar.specs.Answers.{rowDateOf}
 use Rattle.calls.proofs.RowStates.{stateOf, workedFrom, state-worked}
 use Rattle.order.specs.Accepted.{Accepted}
-use Rattle.order.specs.Ranges.{mostRows}
 use Rattle.order.specs.declared.reading.Order.{Order}
-use Rattle.lines.specs.Lines.{fullRow, lineText}
+use Rattle.lines.specs.Lines.{rowRoom, lineText}
 use Rattle.row_suns.specs.RowSuns.{rowSunsOf}
 use Rattle.row_suns.specs.declared.RowSuns.{RowSuns}
 use Rattle.text.specs.Text.{putOf}
@@ -18,11 +18,14 @@ use Rattle.rows.proofs.Lengths.{lineOf, lines-length, line-made}
 
 -- the line that a row's suns give
 abbrev pub madeLine : Order → RowSuns → List ℕ
-madeLine o suns = lineText (suns .date) (workedFrom o suns)
+madeLine o suns = lineText (o .ramadan) (suns .date) (workedFrom o suns)
 
 state-line : (o : Order) → Accepted o → (k : ℕ) → k < o .rows → madeLine o (stateOf o k) ≡ lineOf o k
 unfolding rowSunsOf
-state-line o a k h = ap (lineText (rowDateOf (o .date) k)) (state-worked o a k h)
+state-line o a k h = ap (lineText (o .ramadan) (rowDateOf (o .date) k)) (state-worked o a k h)
+
+add-one-le : {k n : ℕ} → k < n → k + 1 ≤ n
+add-one-le h = omega arith
 
 -- Before a row its suns are there, and the lines of those before it.
 pub record Run (o : Order) (buffer : List ℕ) (at : ℕ) (now : List ℕ) (suns : RowSuns) (row end : ℕ) : Type 0 where
@@ -32,14 +35,14 @@ pub record Run (o : Order) (buffer : List ℕ) (at : ℕ) (now : List ℕ) (suns
   pub place : end ≡ at + length (linesText o row)
   pub same : length now ≡ length buffer
 
-module _ (o : Order) (a : Accepted o) (buffer : List ℕ) (at : ℕ) (room : at + fullRow * mostRows ≤ length buffer) where
+module _ (o : Order) (a : Accepted o) (buffer : List ℕ) (at : ℕ) (room : at + o .rows * rowRoom (o .ramadan) ≤ length buffer) where
   pub run-line : (now : List ℕ) (suns : RowSuns) (row end : ℕ) → Run o buffer at now suns row end
       → (line after : List ℕ) (n : ℕ) → line ≡ madeLine o suns → n ≡ length line → after ≡ putOf now end line
       → (after ≡ putOf buffer at (linesText o (row + 1))) × (end + n ≡ at + length (linesText o (row + 1)))
   run-line now suns row end s line after n l m p =
       let w = s .within in
-      let most = a .rows .1 in
+      let most = mul-le-mul-right (rowRoom (o .ramadan)) (add-one-le w) in
       line-made o row buffer now after line at end n (omega arith) (s .text) (s .place) (l ∙ ap (madeLine o) (s .state) ∙ state-line o a row w) m p
 
   pub run-room : (row : ℕ) → row < o .rows → at + length (linesText o (row + 1)) ≤ length buffer
-  run-room row h = let most = a .rows .1 in let l = lines-length o (row + 1) in omega arith
+  run-room row h = let most = mul-le-mul-right (rowRoom (o .ramadan)) (add-one-le h) in let l = lines-length o (row + 1) in omega arith

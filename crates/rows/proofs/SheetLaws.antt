@@ -15,7 +15,7 @@ use Rattle.order.specs.declared.reading.Reading.{Reading}
 use Rattle.order.specs.declared.reading.Reading.the-variants.{Read, Refused}
 use Rattle.text.specs.Text.{ascii}
 use Rattle.rows.specs.Rows.{headText, linesText, acceptedText, textIn, sheetText, longestSheet, sheetLengthOf}
-use Rattle.rows.proofs.Lengths.{head-length, lines-length}
+use Rattle.rows.proofs.Lengths.{room-enough, head-length, lines-length}
 
 pub sheet-length : (s : List ℕ) → length (sheetText s) ≤ longestSheet
 unfolding textIn acceptedText
@@ -26,10 +26,10 @@ sheet-length s = by-reading (readingOf s) refl
         let t = read-town s o e in
         let a = read-accepted s o e in
         let town = t .size .1 in
-        let rows = a .rows .1 in
-        let h = head-length (townOf s) in
+        let room = room-enough o a in
+        let h = head-length (o .ramadan) (townOf s) in
         let l = lines-length o (o .rows) in
-        let n = length-append (headText (townOf s)) (linesText o (o .rows)) in
+        let n = length-append (headText (o .ramadan) (townOf s)) (linesText o (o .rows)) in
         omega arith
     by-reading (Refused r) e = let n = refused-length (ascii "order") (ascii " place ") r in omega arith
 

@@ -6,9 +6,10 @@ use lib.Dec.{ltb}
 use lib.ListN.{length}
 use Rattle.calendar.specs.Answers.{rowDateOf}
 use Rattle.calendar.specs.declared.dates.Date.{Date}
-use Rattle.calls.specs.Calls.{workRowOf, workDayOf}
+use Rattle.calls.specs.Calls.{workRowOf}
+use Rattle.hijri.specs.declared.ramadan.Ramadan.{Ramadan}
 use Rattle.refusals.specs.Refusals.{refusal, noRefusal, bufferShort}
-use Rattle.lines.specs.Lines.{nineOf, rowText, fullRow, lineText, refusedOrderText}
+use Rattle.lines.specs.Lines.{columnsOf, rowText, fullRow, rowRoom, lineText, refusedOrderText}
 use Rattle.refusals.specs.declared.Refusal.{Refusal}
 use Rattle.order.specs.declared.reading.Order.{Order}
 use Rattle.order.specs.declared.reading.Reading.{Reading}
@@ -25,32 +26,50 @@ answerOf (worked.Times t) = noRefusal
 answerOf (worked.Refused r) = r
 
 -- "A refusal .. changes no lent byte."
-unfoldable pub rowFrontOf : Date → Worked → List ℕ → List ℕ
-rowFrontOf date (worked.Times t) buffer = frontOf (rowText date (nineOf t)) buffer
-rowFrontOf date (worked.Refused r) buffer = buffer
+unfoldable pub rowFrontOf : Ramadan → Date → Worked → List ℕ → List ℕ
+rowFrontOf ramadan date (worked.Times t) buffer = frontOf (rowText date (columnsOf ramadan t)) buffer
+rowFrontOf ramadan date (worked.Refused r) buffer = buffer
 
-abbrev rowIn : Reading → ℕ → List ℕ → List ℕ
-rowIn (reading.Read o) row buffer = rowFrontOf (rowDateOf (o .date) row) (workRowOf o row) buffer
-rowIn (reading.Refused r) row buffer = buffer
+-- of an order that is read. Request 12: a buffer "of 119 to 130" bytes is 9 "once the order is accepted with tag 20, before the row"
+unfoldable pub readAnswerOf : Order → ℕ → List ℕ → Refusal
+readAnswerOf o row buffer = cond (ltb (length buffer) (rowRoom (o .ramadan))) (refusal bufferShort 0) (answerOf (workRowOf o row))
+
+unfoldable pub readBufferOf : Order → ℕ → List ℕ → List ℕ
+readBufferOf o row buffer =
+    cond (ltb (length buffer) (rowRoom (o .ramadan))) buffer (rowFrontOf (o .ramadan) (rowDateOf (o .date) row) (workRowOf o row) buffer)
+
+abbrev answerIn : Reading → ℕ → List ℕ → Refusal
+answerIn (reading.Read o) row buffer = readAnswerOf o row buffer
+answerIn (reading.Refused r) row buffer = r
+
+abbrev bufferIn : Reading → ℕ → List ℕ → List ℕ
+bufferIn (reading.Read o) row buffer = readBufferOf o row buffer
+bufferIn (reading.Refused r) row buffer = buffer
 
 -- 9 is "row buffer under 119 bytes"; "buffer and instant are checked before anything else in their calls"
 unfoldable pub rowAnswerOf : List ℕ → ℕ → List ℕ → Refusal
-rowAnswerOf s row buffer = cond (ltb (length buffer) fullRow) (refusal bufferShort 0) (answerOf (workDayOf s row))
+rowAnswerOf s row buffer = cond (ltb (length buffer) fullRow) (refusal bufferShort 0) (answerIn (readingOf s) row buffer)
 
 unfoldable pub rowBufferOf : List ℕ → ℕ → List ℕ → List ℕ
-rowBufferOf s row buffer = cond (ltb (length buffer) fullRow) buffer (rowIn (readingOf s) row buffer)
+rowBufferOf s row buffer = cond (ltb (length buffer) fullRow) buffer (bufferIn (readingOf s) row buffer)
 
 -- ---- the sheet: "the town, the header, one line a row"
-unfoldable pub headText : List ℕ → List ℕ
-headText town = town ++ ascii "\ndate fajr sunrise dhuhr asr maghrib isha middle qiyam tomorrow\n"
+-- request 12: imsak "stands between the date and Fajr, under the header word imsak"
+unfoldable pub headerText : Ramadan → List ℕ
+headerText ramadan =
+    cond (ramadan .set) (ascii "\ndate imsak fajr sunrise dhuhr asr maghrib isha middle qiyam tomorrow\n")
+    (ascii "\ndate fajr sunrise dhuhr asr maghrib isha middle qiyam tomorrow\n")
+
+unfoldable pub headText : Ramadan → List ℕ → List ℕ
+headText ramadan town = town ++ headerText ramadan
 
 -- the lines of the first n rows
 unfoldable pub linesText : Order → ℕ → List ℕ
 linesText o zero = []
-linesText o (suc n) = linesText o n ++ lineText (rowDateOf (o .date) n) (workRowOf o n)
+linesText o (suc n) = linesText o n ++ lineText (o .ramadan) (rowDateOf (o .date) n) (workRowOf o n)
 
 unfoldable pub acceptedText : List ℕ → Order → List ℕ
-acceptedText town o = headText town ++ linesText o (o .rows)
+acceptedText town o = headText (o .ramadan) town ++ linesText o (o .rows)
 
 -- "a refused order prints `order refused 5 place 2` alone"
 unfoldable pub textIn : List ℕ → Reading → List ℕ
@@ -60,7 +79,7 @@ textIn s (reading.Refused r) = refusedOrderText r
 abbrev pub sheetText : List ℕ → List ℕ
 sheetText s = textIn s (readingOf s)
 
--- the longest sheet: a town of 40 bytes, the header with its two newlines, and all full rows that an order can have
+-- the longest sheet: a town of 40 bytes, the header with its two newlines, and all full rows that an order can have; a Ramadan sheet has thirty
 abbrev pub longestSheet : ℕ
 longestSheet = 40 + 64 + fullRow * mostRows
 

@@ -2,15 +2,17 @@
 ghost use mathlib.Core.Path.{_≡_};
 ghost use Prim.Native.Nat.{_≤_};
 ghost use lib.ListN.{length};
-ghost use Rattle.lines.specs.Lines.{fullRow};
-ghost use Rattle.rows.specs.Rows.{answerOf, rowFrontOf, rowAnswerOf, rowBufferOf};
+ghost use Rattle.lines.specs.Lines.{rowRoom};
+ghost use Rattle.rows.specs.Rows.{answerOf, rowFrontOf, readAnswerOf, readBufferOf, rowAnswerOf, rowBufferOf};
 ghost use Rattle.calls.specs.Calls.{workRowOf};
 ghost use Rattle.calendar.specs.Answers.{rowDateOf};
 use calendar::dates::Date;
 use calls::day::lacks_row;
 use calls::day::work_date;
+use hijri::ramadan::Ramadan;
 use lines::row::ROW_BYTES;
 use lines::row::put_row;
+use lines::row::row_bytes;
 use order::reading::Order;
 use order::reading::Reading;
 use order::reading::read;
@@ -19,34 +21,46 @@ use refusals::Refusal;
 use schedule::prayer_times::Worked;
 
 // Number 0 where the row is written.
-fn write_worked(date: Date, worked: Worked, buffer: &mut [u8]) -> Refusal
-    requires { ⌜ fullRow ≤ length (now buffer) ⌝ }
+fn write_worked(ramadan: Ramadan, date: Date, worked: Worked, buffer: &mut [u8]) -> Refusal
+    requires { ⌜ rowRoom ramadan ≤ length (now buffer) ⌝ }
     ensures { λ r. ⌜ r ≡ answerOf worked ⌝ }
-    ensures { λ _. ⌜ now (buffer .exit) ≡ rowFrontOf date worked (now (buffer .entry)) ⌝ }
+    ensures { λ _. ⌜ now (buffer .exit) ≡ rowFrontOf ramadan date worked (now (buffer .entry)) ⌝ }
 {
     match worked {
         Worked::Times(times) => {
-            put_row(&mut buffer[..], 0, date, times);
+            put_row(&mut buffer[..], 0, ramadan, date, times);
             Refusal::none()
         }
         Worked::Refused(refusal) => refusal,
     }
 }
 
-fn write_read(order: Order, row: u32, buffer: &mut [u8]) -> Refusal
-    requires { ⌜ fullRow ≤ length (now buffer) ⌝ }
+fn write_there(order: Order, row: u32, buffer: &mut [u8]) -> Refusal
+    requires { ⌜ rowRoom (order .ramadan) ≤ length (now buffer) ⌝ }
     ensures { λ r. ⌜ r ≡ answerOf (workRowOf order row) ⌝ }
-    ensures { λ _. ⌜ now (buffer .exit) ≡ rowFrontOf (rowDateOf (order .date) row) (workRowOf order row) (now (buffer .entry)) ⌝ }
+    ensures { λ _. ⌜ now (buffer .exit) ≡ rowFrontOf (order .ramadan) (rowDateOf (order .date) row) (workRowOf order row) (now (buffer .entry)) ⌝ }
 {
     if row < order.rows {
         let first = order.date;
         let date = first.row(row);
-        return write_worked(date, work_date(order, date), &mut buffer[..]);
+        return write_worked(order.ramadan, date, work_date(order, date), &mut buffer[..]);
     }
     lacks_row()
 }
 
-// A buffer that a full row does not fit is 9, before anything else.
+// A row of a Ramadan sheet is longer: a buffer that it does not fit is 9, before the row.
+fn write_read(order: Order, row: u32, buffer: &mut [u8]) -> Refusal
+    ensures { λ r. ⌜ r ≡ readAnswerOf order row (now (buffer .entry)) ⌝ }
+    ensures { λ _. ⌜ now (buffer .exit) ≡ readBufferOf order row (now (buffer .entry)) ⌝ }
+{
+    let bytes = row_bytes(order.ramadan);
+    if buffer.len() < bytes {
+        return Refusal::new(BUFFER_SHORT, 0);
+    }
+    write_there(order, row, &mut buffer[..])
+}
+
+// A buffer that a full row without imsak does not fit is 9, before anything else.
 pub fn write_row(order: &[u8], row: u32, buffer: &mut [u8]) -> Refusal
     ensures { λ r. ⌜ r ≡ rowAnswerOf (now (order .entry)) row (now (buffer .entry)) ⌝ }
     ensures { λ _. ⌜ now (buffer .exit) ≡ rowBufferOf (now (order .entry)) row (now (buffer .entry)) ⌝ }

@@ -2,13 +2,13 @@
 ghost use mathlib.Core.Path.{_≡_};
 ghost use Prim.Native.Nat.{_+_, _*_, _≤_};
 ghost use lib.ListN.{length};
-ghost use Rattle.lines.specs.Lines.{fullRow, lineText};
+ghost use Rattle.lines.specs.Lines.{rowRoom, lineText};
 ghost use Rattle.order.specs.Accepted.{Accepted};
-ghost use Rattle.order.specs.Ranges.{mostRows};
 ghost use Rattle.text.specs.Text.{putOf, frontOf};
-ghost use Rattle.rows.specs.Rows.{headText, linesText, acceptedText, longestSheet, sheetLengthOf, sheetBufferOf};
+ghost use Rattle.rows.specs.Rows.{headerText, headText, linesText, acceptedText, longestSheet, sheetLengthOf, sheetBufferOf};
 use calendar::dates::Date;
 use fields::values::bytes;
+use hijri::ramadan::Ramadan;
 use lines::refused::put_refused_day;
 use lines::refused::put_refused_order;
 use lines::row::ROW_BYTES;
@@ -26,52 +26,70 @@ const LONGEST_TOWN: usize = 40;
 // The header and a newline before and behind it.
 const HEADER_BYTES: usize = 64;
 
-// What the longest sheet takes.
+const RAMADAN_HEADER_BYTES: usize = 70;
+
+// What the longest sheet takes; a Ramadan sheet has thirty rows and is shorter.
 pub const SHEET_BYTES: usize = LONGEST_TOWN + HEADER_BYTES + ROW_BYTES * MOST_ROWS as usize;
 
 // A row's line, or its refusal's.
-fn put_line(buffer: &mut [u8], at: usize, date: Date, worked: Worked) -> usize
-    ensures { λ r. ⌜ r ≡ length (lineText date worked) ⌝ }
-    ensures { λ _. ⌜ now (buffer .exit) ≡ putOf (now (buffer .entry)) at (lineText date worked) ⌝ }
+fn put_line(buffer: &mut [u8], at: usize, ramadan: Ramadan, date: Date, worked: Worked) -> usize
+    ensures { λ r. ⌜ r ≡ length (lineText ramadan date worked) ⌝ }
+    ensures { λ _. ⌜ now (buffer .exit) ≡ putOf (now (buffer .entry)) at (lineText ramadan date worked) ⌝ }
 {
     match worked {
-        Worked::Times(times) => put_row(&mut buffer[..], at, date, times),
+        Worked::Times(times) => put_row(&mut buffer[..], at, ramadan, date, times),
         Worked::Refused(refusal) => put_refused_day(&mut buffer[..], at, date, refusal),
     }
 }
 
+fn put_header(buffer: &mut [u8], at: usize, ramadan: Ramadan) -> usize
+    ensures { λ r. ⌜ r ≡ length (headerText ramadan) ⌝ }
+    ensures { λ _. ⌜ now (buffer .exit) ≡ putOf (now (buffer .entry)) at (headerText ramadan) ⌝ }
+{
+    if ramadan.set {
+        put(
+            &mut buffer[..],
+            at,
+            b"\ndate imsak fajr sunrise dhuhr asr maghrib isha middle qiyam tomorrow\n",
+        );
+        return RAMADAN_HEADER_BYTES;
+    }
+    put(
+        &mut buffer[..],
+        at,
+        b"\ndate fajr sunrise dhuhr asr maghrib isha middle qiyam tomorrow\n",
+    );
+    HEADER_BYTES
+}
+
 // The town and the header.
-fn put_head(buffer: &mut [u8], town: &[u8]) -> usize
+fn put_head(buffer: &mut [u8], ramadan: Ramadan, town: &[u8]) -> usize
     requires { ⌜ (length (now town) ≤ 40) × (longestSheet ≤ length (now buffer)) ⌝ }
-    ensures { λ r. ⌜ r ≡ length (headText (now (town .entry))) ⌝ }
-    ensures { λ _. ⌜ now (buffer .exit) ≡ frontOf (headText (now (town .entry))) (now (buffer .entry)) ⌝ }
+    ensures { λ r. ⌜ r ≡ length (headText ramadan (now (town .entry))) ⌝ }
+    ensures { λ _. ⌜ now (buffer .exit) ≡ frontOf (headText ramadan (now (town .entry))) (now (buffer .entry)) ⌝ }
 {
     let end = town.len();
     put(&mut buffer[..], 0, town);
-    put(
-        &mut buffer[..],
-        end,
-        b"\ndate fajr sunrise dhuhr asr maghrib isha middle qiyam tomorrow\n",
-    );
-    end + HEADER_BYTES
+    end + put_header(&mut buffer[..], end, ramadan)
 }
 
 // The lines of all rows from an offset on; answers where they end. Each row takes over what it can from the one before it.
 fn put_rows(buffer: &mut [u8], at: usize, order: Order) -> usize
-    requires { ⌜ Accepted order × (at + fullRow * mostRows ≤ length (now buffer)) ⌝ }
+    requires { ⌜ Accepted order × (at + order .rows * rowRoom (order .ramadan) ≤ length (now buffer)) ⌝ }
     ensures { λ r. ⌜ r ≡ at + length (linesText order (order .rows)) ⌝ }
     ensures { λ _. ⌜ now (buffer .exit) ≡ putOf (now (buffer .entry)) at (linesText order (order .rows)) ⌝ }
 {
     let coordinates = order.coordinates;
     let parameters = order.parameters;
     let rules = order.rules;
+    let ramadan = order.ramadan;
     let latitude = coordinates.latitude;
     let mut suns = RowSuns::new(order.date, coordinates, parameters, rules);
     let mut row = 0;
     let mut end = at;
     loop {
         let worked = suns.work(latitude, parameters, rules);
-        end = end + put_line(&mut buffer[..], end, suns.date, worked);
+        end = end + put_line(&mut buffer[..], end, ramadan, suns.date, worked);
         row = row + 1;
         if row >= order.rows {
             return end;
@@ -85,7 +103,7 @@ fn put_accepted(buffer: &mut [u8], town: &[u8], order: Order) -> usize
     ensures { λ r. ⌜ r ≡ length (acceptedText (now (town .entry)) order) ⌝ }
     ensures { λ _. ⌜ now (buffer .exit) ≡ frontOf (acceptedText (now (town .entry)) order) (now (buffer .entry)) ⌝ }
 {
-    let head = put_head(&mut buffer[..], town);
+    let head = put_head(&mut buffer[..], order.ramadan, town);
     put_rows(&mut buffer[..], head, order)
 }
 

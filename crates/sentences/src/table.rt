@@ -4,9 +4,9 @@ ghost use Rattle.sentences.specs.Table.{textOf, nameOf, widest};
 ghost use Rattle.sentences.specs.Rows.{filled, endOf};
 
 // One more than the last number, and than the last tag.
-const NUMBERS: usize = 18;
+const NUMBERS: usize = 19;
 
-const TAGS: usize = 20;
+const TAGS: usize = 21;
 
 const TEXTS: [[u8; 64]; NUMBERS] = [
     *b"                                                                ",
@@ -27,6 +27,7 @@ const TEXTS: [[u8; 64]; NUMBERS] = [
     *b"Refusal 15: a coordinate is given in both forms:                ",
     *b"Refusal 16: the print queue is full, job id                     ",
     *b"Refusal 17: the job's id or its pages are not allowed, job id   ",
+    *b"Refusal 18: the sheet does not begin on the 1st of Ramadan:     ",
 ];
 
 const NAMES: [[u8; 64]; TAGS] = [
@@ -50,6 +51,7 @@ const NAMES: [[u8; 64]; TAGS] = [
     *b" southern, tag                                                  ",
     *b" map latitude, tag                                              ",
     *b" map longitude, tag                                             ",
+    *b" ramadan, tag                                                   ",
 ];
 
 // A number's text; blanks alone for a number that is not known.

@@ -108,6 +108,17 @@ fn print_rules(order: Order) {
     print(wide(southern.number()));
 }
 
+fn print_ramadan(order: Order) {
+    let ramadan = order.ramadan;
+    if ramadan.set {
+        print(1);
+    } else {
+        print(0);
+    }
+    print(wide(ramadan.imsak));
+    print_signed(ramadan.shift);
+}
+
 fn print_record(order: Order) {
     let numbers = unsigned_numbers(order);
     for i in 0..16 {
@@ -118,6 +129,7 @@ fn print_record(order: Order) {
         print_signed(minutes[i]);
     }
     print_rules(order);
+    print_ramadan(order);
 }
 
 fn answer(order: &[u8]) {

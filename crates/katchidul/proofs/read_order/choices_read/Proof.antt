@@ -7,9 +7,13 @@ use Rattle.katchidul.proofs.read_order.choices_read.Tie as tie
 
 returns : tie.Need-returns
 returns c =
-    let known = c .struct-told .given in
-    let f : SFits w32 (c .before .before .before .before .args .order .clock) = search needs in
-    simp (toZ-ofZ f, c .before .number2 .ensures, c .before .before .number .ensures)
+    let known = c .before .struct-told .given in
+    let also = c .struct-told2 .given in
+    let s = c .before .before in
+    let o = s .before .before .before .before .before .args .order in
+    let f : SFits w32 (o .clock) = search needs in
+    let g : SFits w32 (o .ramadan .shift) = search needs in
+    simp (toZ-ofZ f, toZ-ofZ g, s .is-set .ensures, s .before .number2 .ensures, s .before .before .number .ensures)
 
 pub choices-read-spec : {M : Type 1} → statement M
-choices-read-spec = tie.close (tie.spec (λ c κs. tt) (λ c κs. tt) returns)
+choices-read-spec = tie.close (tie.spec (λ c κs. tt) (λ c κs. tt) (λ c κs. tt) returns)

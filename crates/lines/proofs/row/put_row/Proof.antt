@@ -1,19 +1,17 @@
-use mathlib.Core.Path.{sym, ap, _∙_}
-use denote.Ref.{now}
-use Rattle.text.specs.Text.{putOf}
-use Rattle.lines.specs.Lines.{nineOf, rowText}
-use Rattle.lines.proofs.LinesLaws.{row-length}
+use Rattle.lines.specs.Lines.{columnsOf}
 use borrow.Author.Needs.{needs}
 use Rattle.lines.proofs.row.put_row.Statement.{statement}
 use Rattle.lines.proofs.row.put_row.Tie as tie
 
 returns : tie.Need-returns
-returns c =
-    let a = c .before .before .before .before .before .before .before .before .before .before .before .args in
-    let filled = c .before .before .before .before .before .before .fill-row .ensures ∙ ap (rowText (a .date)) (c .before .before .before .before .before .before .before .before .nine .ensures) in
-    (sym (row-length (a .date) (nineOf (a .times))), c .before .before .put .ensures ∙ ap (putOf (now (a .buffer)) (a .at)) filled)
+unfolding columnsOf
+returns c = simp (c .before .before .before .before .if1 .taken) (c .before .before .put-ten .ensures)
+
+returns-2 : tie.Need-returns-2
+unfolding columnsOf
+returns-2 c = simp (c .before .before .before .before .if1 .left) (c .before .before .put-nine .ensures)
 
 pub put-row-spec : {M : Type 1} → statement M
 put-row-spec =
     tie.close
-    (tie.spec (λ c. search needs) (λ c κs. search needs) (λ c. search needs) (λ c κs. search needs) (λ c. search needs) (λ c κs. search needs) (λ c. search needs) returns)
+    (tie.spec (λ c κs. search needs) (λ c. search needs) returns (λ c κs. search needs) (λ c. search needs) returns-2)

@@ -2,6 +2,7 @@
 use borrow.Author.Tests.{ne-eqb}
 use lib.Ieee.{neg, ofBits, round}
 use Rattle.float64.specs.Ops.{dec}
+use Rattle.fields.specs.Values.{valuesIn}
 use Rattle.order.specs.Ranges.{lookUp, fitsOf}
 use Rattle.order.proofs.ranges.fits.Statement.{statement}
 use Rattle.order.proofs.ranges.fits.Tie as tie
@@ -15,10 +16,19 @@ unfolding fitsOf lookUp
 returns-2 c = simp (c .date-fits .ensures, c .before .date-in .ensures, c .before .before .before .value .ensures, c .before .before .match .keys2)
 
 returns-3 : tie.Need-returns-3
-unfolding fitsOf lookUp
+unfolding fitsOf lookUp valuesIn
 returns-3 c =
-    let d = c .before .before in
-    simp (c .rows-fit .ensures, c .before .date-in2 .ensures, d .value2 .ensures, d .before .before .value .ensures, d .before .match .keys3)
+    let f = c .before .before in
+    let d = f .before .before in
+    simp (
+      c .ramadan-rows .ensures,
+      c .before .has .ensures,
+      f .rows-fit .ensures,
+      f .before .date-in2 .ensures,
+      d .value2 .ensures,
+      d .before .before .value .ensures,
+      d .before .match .keys3,
+    )
 
 returns-4 : tie.Need-returns-4
 unfolding fitsOf lookUp dec round ofBits neg
@@ -58,28 +68,33 @@ returns-12 c = simp (c .longitude-fits .ensures, c .before .form-in2 .ensures, c
 
 returns-13 : tie.Need-returns-13
 unfolding fitsOf lookUp
-returns-13 c =
+returns-13 c = simp (c .ramadan-fits .ensures, c .before .before .value .ensures, c .before .match .keys13)
+
+returns-14 : tie.Need-returns-14
+unfolding fitsOf lookUp
+returns-14 c =
     let m = c .before .before in
     let r = m .match .rest in
     simp (
       c .choice-fits .ensures,
       c .before .byte .ensures .0,
       m .before .value .ensures,
-      ne-eqb _ 1 (r .0 .0 .0 .0 .0 .0 .0 .0 .0 .0 .0 .1),
-      ne-eqb _ 2 (r .0 .0 .0 .0 .0 .0 .0 .0 .0 .0 .1),
-      ne-eqb _ 3 (r .0 .0 .0 .0 .0 .0 .0 .0 .0 .1),
-      ne-eqb _ 4 (r .0 .0 .0 .0 .0 .0 .0 .0 .1),
-      ne-eqb _ 5 (r .0 .0 .0 .0 .0 .0 .0 .1),
-      ne-eqb _ 11 (r .0 .0 .0 .0 .0 .0 .1),
-      ne-eqb _ 12 (r .0 .0 .0 .0 .0 .1),
-      ne-eqb _ 13 (r .0 .0 .0 .0 .1),
-      ne-eqb _ 14 (r .0 .0 .0 .1),
-      ne-eqb _ 16 (r .0 .0 .1),
-      ne-eqb _ 18 (r .0 .1),
-      ne-eqb _ 19 (r .1),
+      ne-eqb _ 1 (r .0 .0 .0 .0 .0 .0 .0 .0 .0 .0 .0 .0 .1),
+      ne-eqb _ 2 (r .0 .0 .0 .0 .0 .0 .0 .0 .0 .0 .0 .1),
+      ne-eqb _ 3 (r .0 .0 .0 .0 .0 .0 .0 .0 .0 .0 .1),
+      ne-eqb _ 4 (r .0 .0 .0 .0 .0 .0 .0 .0 .0 .1),
+      ne-eqb _ 5 (r .0 .0 .0 .0 .0 .0 .0 .0 .1),
+      ne-eqb _ 11 (r .0 .0 .0 .0 .0 .0 .0 .1),
+      ne-eqb _ 12 (r .0 .0 .0 .0 .0 .0 .1),
+      ne-eqb _ 13 (r .0 .0 .0 .0 .0 .1),
+      ne-eqb _ 14 (r .0 .0 .0 .0 .1),
+      ne-eqb _ 16 (r .0 .0 .0 .1),
+      ne-eqb _ 18 (r .0 .0 .1),
+      ne-eqb _ 19 (r .0 .1),
+      ne-eqb _ 20 (r .1),
     )
 
 pub fits-spec : {M : Type 1} → statement M
 fits-spec =
     tie.close
-    (tie.spec (λ c κs. tt) (λ c κs. tt) (λ c κs. tt) (λ c κs. tt) (λ c κs. tt) (λ c κs. tt) (λ c κs. tt) (λ c κs. tt) (λ c κs. tt) (λ c κs. tt) (λ c κs. tt) (λ c κs. tt) (λ c κs. tt) (λ c κs. tt) (λ c κs. tt) (λ c κs. tt) (λ c κs. tt) (λ c κs. tt) (λ c κs. tt) (λ c κs. tt) (λ c κs. tt) returns returns-2 returns-3 returns-4 returns-5 returns-6 returns-7 returns-8 returns-9 returns-10 returns-11 returns-12 returns-13)
+    (tie.spec (λ c κs. tt) (λ c κs. tt) (λ c κs. tt) (λ c κs. tt) (λ c κs. tt) (λ c κs. tt) (λ c κs. tt) (λ c κs. tt) (λ c κs. tt) (λ c κs. tt) (λ c κs. tt) (λ c κs. tt) (λ c κs. tt) (λ c κs. tt) (λ c κs. tt) (λ c κs. tt) (λ c κs. tt) (λ c κs. tt) (λ c κs. tt) (λ c κs. tt) (λ c κs. tt) (λ c κs. tt) (λ c κs. tt) (λ c κs. tt) returns returns-2 returns-3 returns-4 returns-5 returns-6 returns-7 returns-8 returns-9 returns-10 returns-11 returns-12 returns-13 returns-14)

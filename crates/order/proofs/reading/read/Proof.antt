@@ -11,7 +11,7 @@ use Rattle.fields.proofs.Collecting.{checked-refusal, checked-values, has-in}
 use Rattle.refusals.specs.declared.Refusal.{Refusal}
 use Rattle.order.specs.declared.reading.Order.{Order}
 use Rattle.order.specs.declared.reading.Reading.the-variants.{Read, Refused}
-use Rattle.order.specs.Reading.{missingOf, bothFormsOf, outOfRangeOf, orderOf, firstOf, readingOf}
+use Rattle.order.specs.Reading.{missingOf, bothFormsOf, outOfRangeOf, orderOf, wrongStartOf, firstOf, readingOf}
 use Rattle.order.proofs.reading.read.Statement.{statement}
 use Rattle.order.proofs.reading.read.Tie as tie
 
@@ -50,10 +50,20 @@ module _ (s : List ℕ) (checked : Checked) (is-checked : checked ≡ checkedOf 
         unfolding readingOf firstOf
         by-range n = simp (broken, eq-eqb _ _ p, missed, eq-eqb _ _ q, both, eq-eqb _ _ t, out, ne-eqb _ _ n)
 
-        by-none : outside .number ≡ 0 → (order : Order) → order ≡ orderOf (valuesIn s (checked .fields)) → Read order ≡ readingOf s
-        unfolding readingOf firstOf
-        by-none r order is-order =
-            simp (broken, eq-eqb _ _ p, missed, eq-eqb _ _ q, both, eq-eqb _ _ t, out, eq-eqb _ _ r) (ap Read (is-order ∙ ap orderOf values))
+        module _ (r : outside .number ≡ 0) (order : Order) (is-order : order ≡ orderOf (valuesIn s (checked .fields)))
+            (astray : Refusal) (is-astray : astray ≡ wrongStartOf (order .ramadan) (order .date)) where
+          record-is : orderOf (valuesOf s) ≡ order
+          record-is = sym (is-order ∙ ap orderOf values)
+
+          by-start : (astray .number ≡ 0 → ⊥) → Refused astray ≡ readingOf s
+          unfolding readingOf firstOf
+          by-start n =
+              simp (broken, eq-eqb _ _ p, missed, eq-eqb _ _ q, both, eq-eqb _ _ t, out, eq-eqb _ _ r, record-is, sym is-astray, ne-eqb _ _ n)
+
+          by-none : astray .number ≡ 0 → Read order ≡ readingOf s
+          unfolding readingOf firstOf
+          by-none n =
+              simp (broken, eq-eqb _ _ p, missed, eq-eqb _ _ q, both, eq-eqb _ _ t, out, eq-eqb _ _ r, record-is, sym is-astray, eq-eqb _ _ n)
 
 returns : tie.Need-returns
 returns c =
@@ -62,7 +72,7 @@ returns c =
 
 returns-2 : tie.Need-returns-2
 returns-2 c =
-    let m = c .before .before .before .before in
+    let m = c .before .before .before .before .before .before in
     let p = m .before .before in
     let f = p .before .before .before in
     by-missing (now (f .before .before .args .order)) (f .fields-of .result) (f .fields-of .ensures) (p .if1 .left) (m .missing .result) (m .missing .ensures) (c .if2 .taken)
@@ -70,7 +80,7 @@ returns-2 c =
 returns-3 : tie.Need-returns-3
 returns-3 c =
     let q = c .before .before in
-    let d = q .before .before .before in
+    let d = q .before .before .before .before .before in
     let m = d .before in
     let p = m .before .before in
     let f = p .before .before .before in
@@ -80,7 +90,7 @@ returns-4 : tie.Need-returns-4
 returns-4 c =
     let t = c .before .before in
     let q = t .before .before in
-    let r = q .before .before in
+    let r = q .before .before .before .before in
     let d = r .before in
     let m = d .before in
     let p = m .before .before in
@@ -89,16 +99,33 @@ returns-4 c =
 
 returns-5 : tie.Need-returns-5
 returns-5 c =
-    let t = c .before .before .before in
+    let u = c .before .before in
+    let t = u .before .before in
     let q = t .before .before in
-    let r = q .before .before in
+    let w = q .before .before in
+    let o = w .before in
+    let r = o .before in
     let d = r .before in
     let m = d .before in
     let p = m .before .before in
     let f = p .before .before .before in
-    by-none (now (f .before .before .args .order)) (f .fields-of .result) (f .fields-of .ensures) (p .if1 .left) (m .missing .result) (m .missing .ensures) (q .if2 .left) (d .both-forms .result) (d .both-forms .ensures) (t .if3 .left) (r .out-of-range .result) (r .out-of-range .ensures) (c .before .if4 .left) (c .record-in .result) (c .record-in .ensures)
+    by-start (now (f .before .before .args .order)) (f .fields-of .result) (f .fields-of .ensures) (p .if1 .left) (m .missing .result) (m .missing .ensures) (q .if2 .left) (d .both-forms .result) (d .both-forms .ensures) (t .if3 .left) (r .out-of-range .result) (r .out-of-range .ensures) (u .if4 .left) (o .record-in .result) (o .record-in .ensures) (w .wrong-start .result) (w .wrong-start .ensures) (c .if5 .taken)
+
+returns-6 : tie.Need-returns-6
+returns-6 c =
+    let u = c .before .before in
+    let t = u .before .before in
+    let q = t .before .before in
+    let w = q .before .before in
+    let o = w .before in
+    let r = o .before in
+    let d = r .before in
+    let m = d .before in
+    let p = m .before .before in
+    let f = p .before .before .before in
+    by-none (now (f .before .before .args .order)) (f .fields-of .result) (f .fields-of .ensures) (p .if1 .left) (m .missing .result) (m .missing .ensures) (q .if2 .left) (d .both-forms .result) (d .both-forms .ensures) (t .if3 .left) (r .out-of-range .result) (r .out-of-range .ensures) (u .if4 .left) (o .record-in .result) (o .record-in .ensures) (w .wrong-start .result) (w .wrong-start .ensures) (c .if5 .left)
 
 pub read-spec : {M : Type 1} → statement M
 read-spec =
     tie.close
-    (tie.spec (λ c κs. tt) returns (λ c κs. tt) (λ c κs. tt) (λ c κs. tt) returns-2 returns-3 returns-4 (λ c κs. tt) returns-5)
+    (tie.spec (λ c κs. tt) returns (λ c κs. tt) (λ c κs. tt) (λ c κs. tt) (λ c κs. tt) (λ c κs. tt) returns-2 returns-3 returns-4 returns-5 returns-6)

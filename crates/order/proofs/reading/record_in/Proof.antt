@@ -13,17 +13,19 @@ use Rattle.order.proofs.reading.record_in.Tie as tie
 returns : tie.Need-returns
 unfolding orderOf
 returns c =
-    let r = c .before in
+    let k = c .before in
+    let r = k .before in
     let q = r .before .before in
     let rows = q .before .before .before in
     let d = rows .before .before in
     let p = d .before .before in
     let a = p .before .before .args in
-    let clock : SFits w32 (c .clock-in .result) = search needs in
+    let clock : SFits w32 (k .clock-in .result) = search needs in
     let town = p .part .ensures ∙ part-for (now (a .order)) (a .fields) 1 in
     simp (
+      c .ramadan-in .ensures,
       toZ-ofZ clock,
-      sym (c .clock-in .ensures),
+      sym (k .clock-in .ensures),
       r .rules-in .ensures,
       r .before .parameters-in .ensures,
       q .new .ensures,
@@ -39,4 +41,4 @@ returns c =
 pub record-in-spec : {M : Type 1} → statement M
 record-in-spec =
     tie.close
-    (tie.spec (λ c κs. tt) (λ c κs. tt) (λ c κs. tt) (λ c κs. tt) (λ c κs. tt) (λ c κs. tt) (λ c κs. tt) (λ c κs. tt) (λ c κs. tt) (λ c κs. tt) (λ c κs. tt) returns)
+    (tie.spec (λ c κs. tt) (λ c κs. tt) (λ c κs. tt) (λ c κs. tt) (λ c κs. tt) (λ c κs. tt) (λ c κs. tt) (λ c κs. tt) (λ c κs. tt) (λ c κs. tt) (λ c κs. tt) (λ c κs. tt) returns)

@@ -1,23 +1,27 @@
 use mathlib.Core.Path.{_∙_}
 use denote.Ref.{now}
-use Rattle.rows.proofs.Answers.{row-there, row-lacking}
+use Rattle.rows.proofs.Answers.{room-short, room-there}
 use borrow.Author.Needs.{needs}
 use Rattle.rows.proofs.row.write_read.Statement.{statement}
 use Rattle.rows.proofs.row.write_read.Tie as tie
 
 returns : tie.Need-returns
 returns c =
-    let a = c .before .before .before .before .before .before .before .before .before .before .args in
-    let w = c .before .before .write-worked .ensures in
-    let l = row-there (a .order) (a .row) (now (a .buffer)) _ _ (c .before .before .before .before .before .before .before .if1 .taken) (c .before .before .before .before .before .row .ensures) (c .before .before .before .before .work-date .ensures) in
-    (w .0 ∙ l .0, w .1 ∙ l .1)
+    let a = c .before .before .before .before .args in
+    let l = room-short (a .order) (a .row) (now (a .buffer)) (rw (c .before .before .row-bytes .ensures) at (c .before .if1 .taken)) in
+    (c .new .ensures ∙ l .0, l .1)
+
+write-there-requires : tie.Need-write-there-requires
+write-there-requires c κs = rw (c .before .before .row-bytes .ensures) at (c .before .if1 .left)
 
 returns-2 : tie.Need-returns-2
 returns-2 c =
-    let a = c .before .before .before .before .args in
-    let l = row-lacking (a .order) (a .row) (now (a .buffer)) (c .before .if1 .left) in
-    (c .lacks-row .ensures ∙ l .0, l .1)
+    let b = c .before .before .before .before .before in
+    let a = b .before .before .args in
+    let w = c .before .before .write-there .ensures in
+    let l = room-there (a .order) (a .row) (now (a .buffer)) (rw (b .row-bytes .ensures) at (c .before .before .before .before .if1 .left)) in
+    (w .0 ∙ l .0, w .1 ∙ l .1)
 
 pub write-read-spec : {M : Type 1} → statement M
 write-read-spec =
-    tie.close (tie.spec (λ c κs. search needs) (λ c κs. search needs) (λ c κs. search needs) (λ c. search needs) returns (λ c κs. search needs) returns-2)
+    tie.close (tie.spec (λ c κs. search needs) (λ c κs. tt) returns write-there-requires (λ c. search needs) returns-2)

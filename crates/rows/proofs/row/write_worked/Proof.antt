@@ -2,8 +2,8 @@ use native.Mathlib.Omega.{arith}
 use mathlib.Core.Path.{refl, _∙_}
 use mathlib.Core.List.{[]}
 use denote.Ref.{now}
-use Rattle.lines.specs.Lines.{nineOf, rowText}
-use Rattle.lines.proofs.LinesLaws.{row-length}
+use Rattle.lines.specs.Lines.{columnsOf, rowText}
+use Rattle.lines.proofs.LinesLaws.{columns-length}
 use Rattle.text.proofs.TextLaws.{put-next}
 use Rattle.rows.specs.Rows.{answerOf, rowFrontOf}
 use borrow.Author.Needs.{needs}
@@ -17,8 +17,8 @@ returns c =
     let w = c .before .before .before .before .before .before .worked .given in
     let start = c .before .before .before .before .before .before .before .before .before in
     let a = start .args in
-    let n = row-length (a .date) (nineOf (w .0 .0)) in
-    let p = put-next (now (a .buffer)) [] (rowText (a .date) (nineOf (w .0 .0))) (now (a .buffer)) _ 0 refl refl (put .ensures .1) (omega (arith, start .pre)) in
+    let n = columns-length (a .ramadan) (a .date) (w .0 .0) in
+    let p = put-next (now (a .buffer)) [] (rowText (a .date) (columnsOf (a .ramadan) (w .0 .0))) (now (a .buffer)) _ 0 refl refl (put .ensures .1) (omega (arith, start .pre)) in
     (c .none .ensures ∙ simp (w .1), simp (w .1) p)
 
 returns-2 : tie.Need-returns-2

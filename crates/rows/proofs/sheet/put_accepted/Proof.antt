@@ -2,7 +2,7 @@ use native.Mathlib.Omega.{arith}
 use mathlib.Core.Path.{_≡_}
 use lib.ListN.{length}
 use denote.Ref.{now}
-use Rattle.rows.proofs.Lengths.{head-length, sheet-made}
+use Rattle.rows.proofs.Lengths.{room-enough, head-length, sheet-made}
 use borrow.Author.Needs.{needs}
 use Rattle.rows.proofs.sheet.put_accepted.Statement.{statement}
 use Rattle.rows.proofs.sheet.put_accepted.Tie as tie
@@ -13,7 +13,8 @@ put-rows-requires c κs =
     let p = c .before .before .before .before .before .before .before .pre in
     let h = c .before .before .before .put-head in
     let n = h .ensures .0 in
-    let t = head-length (now (a .town)) in
+    let t = head-length (a .order .ramadan) (now (a .town)) in
+    let room = room-enough (a .order) (p .0) in
     let k : length (h .last .0) ≡ length (now (a .buffer)) = h .kept .0 in
     (p .0, omega (arith, p .1, p .2))
 
@@ -23,7 +24,7 @@ returns c =
     let p = c .before .before .before .before .before .before .before .before .before .before .pre in
     let h = c .before .before .before .before .before .before .put-head .ensures in
     let r = c .before .before .put-rows .ensures in
-    let n = p .0 .rows .1 in
+    let room = room-enough (a .order) (p .0) in
     sheet-made (now (a .town)) (now (a .buffer)) _ _ (a .order) _ _ (omega (arith, p .1, p .2)) (h .0) (h .1) (r .0) (r .1)
 
 pub put-accepted-spec : {M : Type 1} → statement M

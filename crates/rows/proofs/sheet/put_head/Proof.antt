@@ -1,18 +1,31 @@
 use native.Mathlib.Omega.{arith}
-use mathlib.Core.Path.{sym}
+use mathlib.Core.Path.{_≡_, sym, ap, _∙_}
+use lib.ListN.{length}
 use denote.Ref.{now}
-use Rattle.rows.proofs.Lengths.{head-length, head-made}
+use Rattle.rows.proofs.Lengths.{header-short, head-length, head-made}
 use borrow.Author.Needs.{needs}
 use Rattle.rows.proofs.sheet.put_head.Statement.{statement}
 use Rattle.rows.proofs.sheet.put_head.Tie as tie
 
+add-result : tie.Need-add-result
+add-result c =
+    let t = c .before .before .before .before .before .before .before .before .before .before in
+    let h = c .before .before .put-header .ensures .0 in
+    let n = header-short (t .args .ramadan) in
+    record { fits = omega (arith, t .pre .0) }
+
 returns : tie.Need-returns
 returns c =
-    let a = c .before .before .before .before .before .before .before .before .before .before .before .args in
-    let p = c .before .before .before .before .before .before .before .before .before .before .before .pre in
-    (sym (head-length (now (a .town))), head-made (now (a .town)) (now (a .buffer)) _ _ (omega (arith, p .0, p .1)) (c .before .before .before .before .before .before .before .put .ensures) (c .before .before .put2 .ensures))
+    let t = c .before .before .before .before .before .before .before .before .before .before in
+    let a = t .args in
+    let h = c .before .before .put-header .ensures in
+    let n = header-short (a .ramadan) in
+    let l = head-length (a .ramadan) (now (a .town)) in (
+      omega (arith, h .0),
+      head-made (a .ramadan) (now (a .town)) (now (a .buffer)) _ _ (omega (arith, t .pre .0, t .pre .1)) (c .before .before .before .before .before .before .put .ensures) (h .1),
+    )
 
 pub put-head-spec : {M : Type 1} → statement M
 put-head-spec =
     tie.close
-    (tie.spec (λ c κs. search needs) (λ c. search needs) (λ c κs. search needs) (λ c. search needs) (λ c. search needs) returns)
+    (tie.spec (λ c κs. search needs) (λ c κs. search needs) add-result (λ c. search needs) returns)

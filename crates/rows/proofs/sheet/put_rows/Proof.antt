@@ -13,14 +13,14 @@ use Rattle.rows.proofs.sheet.put_rows.Statement.{statement}
 use Rattle.rows.proofs.sheet.put_rows.Tie as tie
 
 abbrev Inv-loop : tie.InvT-loop
-Inv-loop buffer₀ at order coordinates parameters rules latitude rolling₀ row₀ end₀ buffer suns row end = Run order buffer₀ at buffer suns row end
+Inv-loop buffer₀ at order coordinates parameters rules ramadan latitude rolling₀ row₀ end₀ buffer suns row end = Run order buffer₀ at buffer suns row end
 
 abbrev μ-loop : tie.MeasureT-loop
-μ-loop buffer₀ at order coordinates parameters rules latitude rolling₀ row₀ end₀ buffer suns row end = order .rows - row
+μ-loop buffer₀ at order coordinates parameters rules ramadan latitude rolling₀ row₀ end₀ buffer suns row end = order .rows - row
 
 loop-holds : tie.Need-loop-holds Inv-loop μ-loop
 loop-holds c =
-    let t = c .before .before .before .before .before in
+    let t = c .before .before .before .before .before .before in
     let o = t .args .order in
     let p = t .pre in
     let n = lines-none o (now (t .args .buffer)) (t .args .at) (omega (arith, p .1)) in
@@ -28,13 +28,13 @@ loop-holds c =
 
 add-end : tie.Need-add-end Inv-loop μ-loop
 add-end c =
-    let t = c .before .before .before .before .before .before .before .before .before .before .before in
+    let t = c .before .before .before .before .before .before .before .before .before .before .before .before in
     let o = t .args .order in
     let p = t .pre in
     let l = c .before .before .before .before .before .loop in
     let put = c .before .before .put-line in
     let line = run-line o (p .0) (now (t .args .buffer)) (t .args .at) (p .1) (l .buffer) (l .suns) (l .row) (l .end) (l .inv) _ (put .last .0) (put .result)
-    (ap (lineText (l .suns .date)) (c .before .before .before .before .work .ensures)) (put .ensures .0) (put .ensures .1) in
+    (ap (lineText (o .ramadan) (l .suns .date)) (c .before .before .before .before .work .ensures)) (put .ensures .0) (put .ensures .1) in
     let room = run-room o (p .0) (now (t .args .buffer)) (t .args .at) (p .1) (l .row) (l .inv .within) in
     let f : length (now (t .args .buffer)) < 2 ^ 64 = search needs in
     record { fits = omega (arith, line .1) }
@@ -42,7 +42,7 @@ add-end c =
 add-row : tie.Need-add-row Inv-loop μ-loop
 add-row c =
     let w = c .before .before .before .before .before .loop .inv .within in
-    let m = c .before .before .before .before .before .before .before .before .before .before .before .pre .0 .rows .1 in
+    let m = c .before .before .before .before .before .before .before .before .before .before .before .before .pre .0 .rows .1 in
     record { fits = omega arith }
 
 same-length : tie.Need-same-length Inv-loop μ-loop
@@ -50,13 +50,13 @@ same-length c = c .before .before .before .before .put-line .kept .0 ∙ c .befo
 
 returns : tie.Need-returns Inv-loop μ-loop
 returns c =
-    let t = c .before .before .before .before .before .before .before .before .before .before .before .before .before in
+    let t = c .before .before .before .before .before .before .before .before .before .before .before .before .before .before in
     let o = t .args .order in
     let p = t .pre in
     let l = c .before .before .before .before .before .before .before .loop in
     let put = c .before .before .before .before .put-line in
     let line = run-line o (p .0) (now (t .args .buffer)) (t .args .at) (p .1) (l .buffer) (l .suns) (l .row) (l .end) (l .inv) _ (put .last .0) (put .result)
-    (ap (lineText (l .suns .date)) (c .before .before .before .before .before .before .work .ensures)) (put .ensures .0) (put .ensures .1) in
+    (ap (lineText (o .ramadan) (l .suns .date)) (c .before .before .before .before .before .before .work .ensures)) (put .ensures .0) (put .ensures .1) in
     let room = run-room o (p .0) (now (t .args .buffer)) (t .args .at) (p .1) (l .row) (l .inv .within) in
     let w = l .inv .within in
     let e : l .row + 1 ≡ o .rows = omega (arith, c .if1 .taken) in
@@ -67,13 +67,13 @@ loop-less c = let w = c .before .before .before .before .before .before .before 
 
 loop-again : tie.Need-loop-again Inv-loop μ-loop
 loop-again c =
-    let t = c .before .before .before .before .before .before .before .before .before .before .before .before .before .before in
+    let t = c .before .before .before .before .before .before .before .before .before .before .before .before .before .before .before in
     let o = t .args .order in
     let p = t .pre in
     let l = c .before .before .before .before .before .before .before .before .loop in
     let put = c .before .before .before .before .before .put-line in
     let line = run-line o (p .0) (now (t .args .buffer)) (t .args .at) (p .1) (l .buffer) (l .suns) (l .row) (l .end) (l .inv) _ (put .last .0) (put .result)
-    (ap (lineText (l .suns .date)) (c .before .before .before .before .before .before .before .work .ensures)) (put .ensures .0) (put .ensures .1) in
+    (ap (lineText (o .ramadan) (l .suns .date)) (c .before .before .before .before .before .before .before .work .ensures)) (put .ensures .0) (put .ensures .1) in
     let room = run-room o (p .0) (now (t .args .buffer)) (t .args .at) (p .1) (l .row) (l .inv .within) in
     record {
       within = c .before .if1 .left;

@@ -1,0 +1,74 @@
+-- Imsak in the machine's numbers: 60 times a u32, and what is left of an instant. Assumes nothing.
+use mathlib.Core.Path.{_≡_, sym, ap, _∙_}
+use mathlib.Core.Bool.{true, false}
+use Prim.Native.Nat.{ℕ, _*_, _^_, _<_}
+use native.Mathlib.Omega.{arith}
+use lib.IntN.{ℤ, pos, _+ℤ_, _-ℤ_, _*ℤ_}
+use lib.Signed.{ltZ}
+use mir.Syntax.{w64}
+use mir.Val.{SFits, toZ}
+use Rattle.integers.proofs.Intervals.{by-balance}
+use Rattle.integers.proofs.OrderLaws.{lt-yes, lt-no, to-le, to-not-le}
+use Rattle.integers.proofs.PartsLaws.{same}
+use Rattle.integers.proofs.Ranges.{range, fits, readBack, read}
+use Rattle.integers.proofs.Sums.{sum, difference, differences, times}
+use Rattle.lines.specs.Lines.{earliest, imsakOf}
+
+module _ (m : ℕ) (small : m < 2 ^ 32) where
+  -- the minutes in seconds, as the machine works them
+  abbrev worked : ℤ
+  worked = toZ w64 m *ℤ pos 60
+
+  worked-is : worked ≡ pos (60 * m)
+  worked-is =
+      let t = times (pos m) 60 in
+      rw (read w64 (pos m) (record { sfits = omega arith })) (same (pos m *ℤ pos 60) (pos (60 * m)) (omega (arith, t .over, t .under)))
+
+  pub seconds-fit : SFits w64 worked
+  seconds-fit = rw worked-is (record { sfits = omega arith })
+
+  seconds : readBack w64 worked ≡ pos (60 * m)
+  seconds = read w64 worked seconds-fit ∙ worked-is
+
+  -- the earliest Fajr that leaves an imsak
+  abbrev bound : ℤ
+  bound = earliest +ℤ readBack w64 worked
+
+  pub bound-fits : SFits w64 bound
+  bound-fits = let s = sum earliest (pos (60 * m)) in rw seconds (fits w64 (earliest +ℤ pos (60 * m)) (omega arith) (omega arith))
+
+  bound-is : readBack w64 bound ≡ earliest +ℤ pos (60 * m)
+  bound-is = read w64 bound bound-fits ∙ ap (λ (z : ℤ). earliest +ℤ z) seconds
+
+  module _ (fajr : ℤ) (f : SFits w64 fajr) where
+    tested : ltZ (readBack w64 fajr) (readBack w64 bound) ≡ ltZ fajr (earliest +ℤ pos (60 * m))
+    tested = ap (λ (z : ℤ). ltZ z (readBack w64 bound)) (read w64 fajr f) ∙ ap (ltZ fajr) bound-is
+
+    pub none-left : ltZ (readBack w64 fajr) (readBack w64 bound) ≡ true → earliest ≡ imsakOf m fajr
+    unfolding imsakOf
+    none-left t =
+        let l = lt-yes fajr (earliest +ℤ pos (60 * m)) (sym tested ∙ t) in
+        let s = sum earliest (pos (60 * m)) in
+        let d = difference fajr (pos (60 * m)) in
+        rw (to-not-le earliest (fajr -ℤ pos (60 * m)) (omega (arith, d .0, d .1)))
+
+    module _ (t : ltZ (readBack w64 fajr) (readBack w64 bound) ≡ false) where
+      left-is : readBack w64 fajr -ℤ readBack w64 worked ≡ fajr -ℤ pos (60 * m)
+      left-is = differences (read w64 fajr f) seconds
+
+      pub left-fits : SFits w64 (readBack w64 fajr -ℤ readBack w64 worked)
+      left-fits =
+          let l = lt-no fajr (earliest +ℤ pos (60 * m)) (sym tested ∙ t) in
+          let s = sum earliest (pos (60 * m)) in
+          let d = difference fajr (pos (60 * m)) in
+          let r = range w64 fajr f in
+          let b = by-balance 9223372036854775808 9223372036854775807 (fajr -ℤ pos (60 * m)) (omega (arith, d .0, d .1, r .low)) (omega (arith, d .0, d .1, r .high)) in
+          rw left-is (fits w64 (fajr -ℤ pos (60 * m)) (omega (arith, b .to)) (omega (arith, b .from)))
+
+      pub left : readBack w64 (readBack w64 fajr -ℤ readBack w64 worked) ≡ imsakOf m fajr
+      unfolding imsakOf
+      left =
+          let l = lt-no fajr (earliest +ℤ pos (60 * m)) (sym tested ∙ t) in
+          let s = sum earliest (pos (60 * m)) in
+          let d = difference fajr (pos (60 * m)) in
+          rw (to-le earliest (fajr -ℤ pos (60 * m)) (omega (arith, d .0, d .1))) (read w64 _ left-fits ∙ left-is)

@@ -1,0 +1,52 @@
+-- `order::given::ramadan_in` meets its contract: a stored shift is a byte, so that it fits less 1.
+use native.Mathlib.Omega.{arith}
+use Prim.Native.Nat.{ℕ, _<_}
+use mathlib.Core.Path.{_≡_, sym}
+use lib.IntN.{pos, _-ℤ_}
+use mir.Syntax.{w32}
+use mir.Val.{SFits, toZ}
+use Rattle.fields.specs.Values.{valuesIn}
+use Rattle.integers.proofs.Ranges.{fits, readBack, read}
+use Rattle.integers.proofs.Sums.{difference}
+use Rattle.order.specs.Given.{ramadanGiven, ramadanIn}
+use borrow.Author.Needs.{needs}
+use Rattle.order.proofs.given.ramadan_in.Statement.{statement}
+use Rattle.order.proofs.given.ramadan_in.Tie as tie
+
+module _ (n : ℕ) (h : n < 256) where
+  seen : toZ w32 n ≡ pos n
+  seen = read w32 (pos n) (record { sfits = omega arith })
+
+  less : SFits w32 (pos n -ℤ pos 1)
+  less = let d = difference (pos n) (pos 1) in fits w32 (pos n -ℤ pos 1) (omega (arith, d .0, d .1)) (omega (arith, d .0, d .1))
+
+  less-fits : SFits w32 (toZ w32 n -ℤ pos 1)
+  less-fits = rw seen less
+
+  less-read : readBack w32 (toZ w32 n -ℤ pos 1) ≡ pos n -ℤ pos 1
+  less-read = rw seen (read w32 (pos n -ℤ pos 1) less)
+
+sub-t8 : tie.Need-sub-t8
+sub-t8 c = less-fits (c .byte2 .result) (c .byte2 .ensures .1)
+
+returns : tie.Need-returns
+unfolding ramadanIn ramadanGiven valuesIn
+returns c =
+    let v = c .before .before in
+    simp (
+      less-read (c .byte2 .result) (c .byte2 .ensures .1),
+      sym (c .byte2 .ensures .0),
+      sym (c .before .byte .ensures .0),
+      sym (v .value .ensures),
+      sym (v .before .before .has .ensures),
+      v .before .if1 .taken,
+    )
+
+returns-2 : tie.Need-returns-2
+unfolding ramadanIn valuesIn
+returns-2 c = simp (sym (c .before .has .ensures), c .if1 .left)
+
+pub ramadan-in-spec : {M : Type 1} → statement M
+ramadan-in-spec =
+    tie.close
+    (tie.spec (λ c κs. tt) (λ c κs. tt) (λ c κs. tt) (λ c κs. tt) (λ c. search needs) sub-t8 returns returns-2)

@@ -1,0 +1,43 @@
+-- `order::reading::wrong_start` meets its contract: the day's number and the shift are handed on as they are read back from their bits.
+use mathlib.Core.Path.{_≡_, sym, ap, _∙_}
+use lib.IntN.{ℤ}
+use mir.Syntax.{w32, w64}
+use mir.Val.{SFits}
+use mir.Facts.{toZ-ofZ}
+use Rattle.calendar.specs.Days.{dayNumberOf}
+use Rattle.hijri.specs.Ramadan.{ramadanStartOf}
+use Rattle.integers.proofs.Ranges.{readBack}
+use Rattle.order.specs.Reading.{wrongStartOf}
+use borrow.Author.Needs.{needs}
+use Rattle.order.proofs.reading.wrong_start.Statement.{statement}
+use Rattle.order.proofs.reading.wrong_start.Tie as tie
+
+returns : tie.Need-returns
+unfolding wrongStartOf
+returns c =
+    let s = c .before .before .before in
+    let day = s .before .before .day-number in
+    let a = s .before .before .before .args in
+    let known = s .before .struct-told .given in
+    let k : readBack w64 (day .result) ≡ day .result = search needs in
+    let f : SFits w32 (a .ramadan .shift) = search needs in
+    let r = a .ramadan .shift in
+    let e = s .is-ramadan-start .ensures ∙ ap (λ (z : ℤ). ramadanStartOf z (readBack w32 r)) (k ∙ day .ensures) ∙ ap (ramadanStartOf (dayNumberOf (a .date))) (toZ-ofZ f) in
+    simp (c .new .ensures, sym e, c .before .if1 .taken)
+
+returns-2 : tie.Need-returns-2
+unfolding wrongStartOf
+returns-2 c =
+    let s = c .before .before .before in
+    let day = s .before .before .day-number in
+    let a = s .before .before .before .args in
+    let known = s .before .struct-told .given in
+    let k : readBack w64 (day .result) ≡ day .result = search needs in
+    let f : SFits w32 (a .ramadan .shift) = search needs in
+    let r = a .ramadan .shift in
+    let e = s .is-ramadan-start .ensures ∙ ap (λ (z : ℤ). ramadanStartOf z (readBack w32 r)) (k ∙ day .ensures) ∙ ap (ramadanStartOf (dayNumberOf (a .date))) (toZ-ofZ f) in
+    simp (c .none .ensures, sym e, c .before .if1 .left)
+
+pub wrong-start-spec : {M : Type 1} → statement M
+wrong-start-spec =
+    tie.close (tie.spec (λ c κs. search needs) (λ c κs. search needs) (λ c κs. tt) returns (λ c κs. tt) returns-2)
