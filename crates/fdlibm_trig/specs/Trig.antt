@@ -7,6 +7,7 @@ use Rattle.float64.specs.Ops.{bits}
 use Rattle.float64.specs.Sizes.{absOf}
 use Rattle.float64.specs.Words.{highOf}
 use Rattle.fdlibm_trig.specs.declared.e_rem_pio2.Reduced.{Reduced}
+use Rattle.fdlibm_trig.specs.declared.s_sincos.Both.{Both}
 use Rattle.fdlibm_trig.specs.KSin.{kernelSinOf}
 use Rattle.fdlibm_trig.specs.KCos.{kernelCosOf}
 use Rattle.fdlibm_trig.specs.KTan.{kernelTanOf, zero}
@@ -40,3 +41,10 @@ tanOf x =
     let p = remPio2Of x in
     cond (leb (highOf x) 0x3fe9_21fb) (kernelTanOf x zero false)
     (cond (le (absOf x) seventy) (kernelTanOf (p .y0) (p .y1) (eqb (p .n % 2) 1)) nan)
+
+-- the sine and the cosine together
+abbrev pub bothTurnsOf : ℕ → Float → Float → Both
+bothTurnsOf n y0 y1 = record { sin = quarterTurnsOf n y0 y1; cos = quarterTurnsOf ((n % 4 + 1) % 4) y0 y1 }
+
+abbrev pub sincosOf : Float → Both
+sincosOf x = record { sin = sinOf x; cos = cosOf x }

@@ -85,13 +85,14 @@ fn fill_row(line: &mut [u8], date: Date, times: &[i64])
     requires { ⌜ (length (now times) ≤ 10) × (length (now line) ≡ rowBytes (length (now times))) ⌝ }
     ensures { λ _. ⌜ now (line .exit) ≡ rowText date (now (times .entry)) ⌝ }
 {
+    let day = date.day_number();
     put(&mut line[..], 0, &date_text(date));
     let mut i = 0;
     while i < times.len() {
         put(
             &mut line[..],
             DATE_BYTES + TIME_BYTES * i,
-            &time_text(date, times[i]),
+            &time_text(day, times[i]),
         );
         i = i + 1;
     }

@@ -1,6 +1,6 @@
 // The parts of a row's line: its date and nine times.
 ghost use mathlib.Core.Path.{_≡_};
-ghost use Rattle.lines.specs.Lines.{dateText, signOf, sizeOf, daysOf, timeText};
+ghost use Rattle.lines.specs.Lines.{dateText, signOf, sizeOf, Dated, daysFrom, timeFrom};
 use calendar::dates::Date;
 use calendar::instants::day_of;
 use calendar::instants::second_of_day;
@@ -28,11 +28,12 @@ pub fn date_text(date: Date) -> [u8; 10]
     ]
 }
 
-// Days from the date to the day of an instant.
-fn days_from(date: Date, time: i64) -> i64
-    ensures { λ r. ⌜ r ≡ daysOf date time ⌝ }
+// Days from a date's day, by its number, to the day of an instant.
+fn days_from(day: i64, time: i64) -> i64
+    requires { ⌜ Dated day ⌝ }
+    ensures { λ r. ⌜ r ≡ daysFrom day time ⌝ }
 {
-    day_of(time) - date.day_number()
+    day_of(time) - day
 }
 
 fn sign(days: i64) -> u8
@@ -47,11 +48,12 @@ fn size(days: i64) -> u64
     above(days) + below(days)
 }
 
-// A blank, then as +0T05:12:00.
-pub fn time_text(date: Date, time: i64) -> [u8; 12]
-    ensures { λ r. ⌜ r ≡ timeText date time ⌝ }
+// A blank, then as +0T05:12:00. The date's day is worked once for all times of a row.
+pub fn time_text(day: i64, time: i64) -> [u8; 12]
+    requires { ⌜ Dated day ⌝ }
+    ensures { λ r. ⌜ r ≡ timeFrom day time ⌝ }
 {
-    let days = days_from(date, time);
+    let days = days_from(day, time);
     let second = second_of_day(time);
     let hour = second / 3600;
     let minute = second / 60 % 60;

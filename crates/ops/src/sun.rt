@@ -1,8 +1,9 @@
 // ops.rs: where the sun is, by the formulas of Meeus, Astronomical Algorithms.
 ghost use mathlib.Core.Path.{_≡_};
-ghost use Rattle.ops.specs.Sun.{square, cube, julianCenturyOf, meanSolarLongitudeOf, meanLunarLongitudeOf, ascendingLunarNodeLongitudeOf, meanSolarAnomalyOf, solarEquationOfTheCenterOf, omegaOf, apparentSolarLongitudeOf, meanObliquityOfTheEclipticOf, apparentObliquityOfTheEclipticOf, meanSiderealTimeOf, nutationInLongitudeOf, nutationInObliquityOf};
+ghost use Rattle.ops.specs.Sun.{square, cube, julianCenturyOf, meanSolarLongitudeOf, meanLunarLongitudeOf, ascendingLunarNodeLongitudeOf, meanSolarAnomalyOf, solarEquationOfTheCenterOf, omegaOf, apparentSolarLongitudeOf, meanObliquityOfTheEclipticOf, apparentObliquityOfTheEclipticOf, meanSiderealTimeOf, nutationInLongitudeOf, nutationInObliquityOf, nutationsOf};
 use fdlibm_trig::s_cos::cos;
 use fdlibm_trig::s_sin::sin;
+use fdlibm_trig::s_sincos::sincos;
 use unit::Angle;
 
 // powf(2.0).
@@ -130,6 +131,35 @@ pub fn mean_sidereal_time(julian_century: f64) -> Angle
     Angle::new(term1 + term2 + term3 - term4).unwound()
 }
 
+// In degrees.
+pub struct Nutation {
+    pub longitude: f64,
+    pub obliquity: f64,
+}
+
+// In longitude by the sines of four angles and in obliquity by their cosines (added): worked together.
+pub fn nutations(solar_longitude: Angle, lunar_longitude: Angle, ascending_node: Angle) -> Nutation
+    ensures { λ r. ⌜ r ≡ nutationsOf «solar_longitude» «lunar_longitude» «ascending_node» ⌝ }
+{
+    let node = ascending_node.radians();
+    let first = sincos(node);
+    let second = sincos(2.0 * solar_longitude.radians());
+    let third = sincos(2.0 * lunar_longitude.radians());
+    let fourth = sincos(2.0 * node);
+    let longitude = (-17.2 / 3600.0) * first.sin
+        - (1.32 / 3600.0) * second.sin
+        - (0.23 / 3600.0) * third.sin
+        + (0.21 / 3600.0) * fourth.sin;
+    let obliquity = (9.2 / 3600.0) * first.cos
+        + (0.57 / 3600.0) * second.cos
+        + (0.10 / 3600.0) * third.cos
+        - (0.09 / 3600.0) * fourth.cos;
+    Nutation {
+        longitude: longitude,
+        obliquity: obliquity,
+    }
+}
+
 pub fn nutation_in_longitude(
     solar_longitude: Angle,
     lunar_longitude: Angle,
@@ -137,11 +167,7 @@ pub fn nutation_in_longitude(
 ) -> f64
     ensures { λ r. ⌜ r ≡ nutationInLongitudeOf «solar_longitude» «lunar_longitude» «ascending_node» ⌝ }
 {
-    let term1 = (-17.2 / 3600.0) * sin(ascending_node.radians());
-    let term2 = (1.32 / 3600.0) * sin(2.0 * solar_longitude.radians());
-    let term3 = (0.23 / 3600.0) * sin(2.0 * lunar_longitude.radians());
-    let term4 = (0.21 / 3600.0) * sin(2.0 * ascending_node.radians());
-    term1 - term2 - term3 + term4
+    nutations(solar_longitude, lunar_longitude, ascending_node).longitude
 }
 
 pub fn nutation_in_obliquity(
@@ -151,9 +177,5 @@ pub fn nutation_in_obliquity(
 ) -> f64
     ensures { λ r. ⌜ r ≡ nutationInObliquityOf «solar_longitude» «lunar_longitude» «ascending_node» ⌝ }
 {
-    let term1 = (9.2 / 3600.0) * cos(ascending_node.radians());
-    let term2 = (0.57 / 3600.0) * cos(2.0 * solar_longitude.radians());
-    let term3 = (0.10 / 3600.0) * cos(2.0 * lunar_longitude.radians());
-    let term4 = (0.09 / 3600.0) * cos(2.0 * ascending_node.radians());
-    term1 + term2 + term3 - term4
+    nutations(solar_longitude, lunar_longitude, ascending_node).obliquity
 }
