@@ -5,6 +5,7 @@ use Rattle.float64.specs.Ops.{_+ᶠ_, _-ᶠ_, _*ᶠ_, _/ᶠ_, dec}
 use Rattle.fdlibm_trig.specs.Trig.{sinOf, cosOf}
 use Rattle.unit.specs.declared.Angle.{Angle}
 use Rattle.ops.specs.declared.sun.Nutation.{Nutation}
+use Rattle.ops.specs.declared.sun.Apparent.{Apparent}
 use Rattle.unit.specs.Unit.{angleOf, unwoundOf, radiansOf, plusOf}
 
 abbrev pub square : Float → Float
@@ -103,3 +104,7 @@ nutationInObliquityOf solar lunar node =
 
 abbrev pub nutationsOf : Angle → Angle → Angle → Nutation
 nutationsOf solar lunar node = record { longitude = nutationInLongitudeOf solar lunar node; obliquity = nutationInObliquityOf solar lunar node }
+
+abbrev pub apparentPositionOf : Float → Angle → Angle → Apparent
+apparentPositionOf t longitude obliquity =
+    record { longitude = apparentSolarLongitudeOf t longitude; obliquity = apparentObliquityOfTheEclipticOf t obliquity }

@@ -6,8 +6,7 @@ use fdlibm_arc::e_asin::asin;
 use fdlibm_arc::e_atan2::atan2;
 use fdlibm_trig::s_cos::cos;
 use fdlibm_trig::s_sincos::sincos;
-use ops::sun::apparent_obliquity_of_the_ecliptic;
-use ops::sun::apparent_solar_longitude;
+use ops::sun::apparent_position;
 use ops::sun::ascending_lunar_node_longitude;
 use ops::sun::julian_century;
 use ops::sun::mean_lunar_longitude;
@@ -68,9 +67,10 @@ impl SolarCoordinates {
         let century = julian_century(julian_day);
         let mean_longitude = mean_solar_longitude(century);
         let mean_obliquity = mean_obliquity_of_the_ecliptic(century);
-        let longitude = apparent_solar_longitude(century, mean_longitude).radians();
-        let obliquity = apparent_obliquity_of_the_ecliptic(century, mean_obliquity).radians();
-        let position = on_the_sphere(obliquity, longitude);
+        let apparent = apparent_position(century, mean_longitude, mean_obliquity);
+        let longitude = apparent.longitude;
+        let obliquity = apparent.obliquity;
+        let position = on_the_sphere(obliquity.radians(), longitude.radians());
         let declination = position.declination;
         let right_ascension = position.right_ascension;
         SolarCoordinates {
