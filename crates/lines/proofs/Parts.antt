@@ -8,21 +8,15 @@ use lib.IntN.{ℤ}
 use lib.ListN.{length, getD, take, length-append, drop-of-length-le}
 use lib.Seq.{take-suc, take-length, length-take-le}
 use Rattle.calendar.specs.declared.dates.Date.{Date}
-use Rattle.calendar.specs.Days.{dayNumberOf}
 use Rattle.text.specs.Text.{ascii, putOf, frontOf}
 use Rattle.text.proofs.TextLaws.{put-next}
-use Rattle.lines.specs.Lines.{dateText, timeText, timeFrom, timesText, rowText, rowBytes}
+use Rattle.lines.specs.Lines.{dateText, timeText, timesText, rowText, rowBytes}
 use Rattle.lines.proofs.LinesLaws.{date-length, time-length, times-length, row-length}
 
 times-append : (date : Date) (xs ys : List ℤ) → timesText date (xs ++ ys) ≡ timesText date xs ++ timesText date ys
 unfolding timesText
 times-append date [] ys = refl
 times-append date (x ∷ xs) ys = rw (times-append date xs ys) (sym (append-assoc (timeText date x) (timesText date xs) (timesText date ys)))
-
--- a time from its date's day
-pub time-from : (date : Date) (time : ℤ) → timeFrom (dayNumberOf date) time ≡ timeText date time
-unfolding timeText
-time-from date time = refl
 
 -- the text of the date and of i times
 abbrev pub partText : Date → List ℤ → ℕ → List ℕ

@@ -1,6 +1,5 @@
 -- Document 01, "The sheet": the lines of a sheet, as bytes of ASCII.
-use Prim.Native.Nat.{ℕ, _+_, _*_, _/_, _%_, _^_, _<_}
-use mathlib.Core.Path.{_≡_}
+use Prim.Native.Nat.{ℕ, _+_, _*_, _/_, _%_}
 use mathlib.Core.Bool.{cond}
 use mathlib.Core.List.{List, [], _∷_, _++_}
 use lib.IntN.{ℤ, pos, negsuc, _-ℤ_}
@@ -43,18 +42,6 @@ clockText second = twoDigits (second / 3600) ++ (58 ∷ twoDigits (second / 60 %
 unfoldable pub timeText : Date → ℤ → List ℕ
 timeText date time =
     let days = daysOf date time in
-    (32 ∷ signOf days ∷ digitOf (sizeOf days) ∷ 84 ∷ []) ++ clockText (floorRem time 86400)
-
--- the same from the number of the date's day, which is worked once for a row
-abbrev pub Dated : ℤ → Type 0
-Dated day = (date : Date) × (date .year < 2 ^ 32) × (day ≡ dayNumberOf date)
-
-abbrev pub daysFrom : ℤ → ℤ → ℤ
-daysFrom day time = floorQuot time 86400 -ℤ day
-
-abbrev pub timeFrom : ℤ → ℤ → List ℕ
-timeFrom day time =
-    let days = daysFrom day time in
     (32 ∷ signOf days ∷ digitOf (sizeOf days) ∷ 84 ∷ []) ++ clockText (floorRem time 86400)
 
 -- ---- "one line a row: date, then nine times in the header's order"

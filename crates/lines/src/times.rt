@@ -1,6 +1,7 @@
 // The parts of a row's line: its date and nine times.
 ghost use mathlib.Core.Path.{_≡_};
-ghost use Rattle.lines.specs.Lines.{dateText, signOf, sizeOf, Dated, daysFrom, timeFrom};
+ghost use Rattle.calendar.specs.Days.{dayNumberOf};
+ghost use Rattle.lines.specs.Lines.{dateText, signOf, sizeOf, daysOf, timeText};
 use calendar::dates::Date;
 use calendar::instants::day_of;
 use calendar::instants::second_of_day;
@@ -28,12 +29,18 @@ pub fn date_text(date: Date) -> [u8; 10]
     ]
 }
 
-// Days from a date's day, by its number, to the day of an instant.
-fn days_from(day: i64, time: i64) -> i64
-    requires { ⌜ Dated day ⌝ }
-    ensures { λ r. ⌜ r ≡ daysFrom day time ⌝ }
+// A row's date with the number of its day, which is worked once for all its times.
+pub struct Dated {
+    pub date: Date,
+    pub day: i64,
+}
+
+// Days from the date to the day of an instant.
+fn days_from(dated: Dated, time: i64) -> i64
+    requires { ⌜ dated .day ≡ dayNumberOf (dated .date) ⌝ }
+    ensures { λ r. ⌜ r ≡ daysOf (dated .date) time ⌝ }
 {
-    day_of(time) - day
+    day_of(time) - dated.day
 }
 
 fn sign(days: i64) -> u8
@@ -48,12 +55,12 @@ fn size(days: i64) -> u64
     above(days) + below(days)
 }
 
-// A blank, then as +0T05:12:00. The date's day is worked once for all times of a row.
-pub fn time_text(day: i64, time: i64) -> [u8; 12]
-    requires { ⌜ Dated day ⌝ }
-    ensures { λ r. ⌜ r ≡ timeFrom day time ⌝ }
+// A blank, then as +0T05:12:00.
+pub fn time_text(dated: Dated, time: i64) -> [u8; 12]
+    requires { ⌜ dated .day ≡ dayNumberOf (dated .date) ⌝ }
+    ensures { λ r. ⌜ r ≡ timeText (dated .date) time ⌝ }
 {
-    let days = days_from(day, time);
+    let days = days_from(dated, time);
     let second = second_of_day(time);
     let hour = second / 3600;
     let minute = second / 60 % 60;

@@ -2,6 +2,7 @@ use mathlib.Core.Path.{_≡_, sym, ap, subst, _∙_}
 use mir.Syntax.{w64}
 use Rattle.integers.proofs.Ranges.{readBack, read}
 use Rattle.lines.proofs.Instants as instants
+use Prim.Native.Nat.{_^_, _<_}
 use lib.IntN.{ℤ, _-ℤ_}
 use mir.Val.{SFits}
 use Rattle.integers.specs.Quotients.{floorQuot}
@@ -11,20 +12,21 @@ use Rattle.lines.proofs.times.days_from.Tie as tie
 
 sub-result : tie.Need-sub-result
 sub-result c =
-    let t = c .before in
-    let q : readBack w64 (c .day-of .result) ≡ c .day-of .result = search needs in
-    let n = read w64 (t .args .day) (t .fits .day) in
-    let day = q ∙ c .day-of .ensures ∙ ap (λ (z : ℤ). floorQuot z 86400) (read w64 (t .args .time) (t .fits .time)) in
-    let e = ap (λ (z : ℤ). z -ℤ readBack w64 (t .args .day)) day ∙ ap (λ (z : ℤ). floorQuot (t .args .time) 86400 -ℤ z) (n ∙ t .pre .2) in
-    subst (SFits w64) (sym e) (instants.days-fit (t .args .time) (t .pre .0) (t .fits .time) (t .pre .1))
+    let t = c .before .before .before in
+    let q : readBack w64 (c .before .before .day-of .result) ≡ c .before .before .day-of .result = search needs in
+    let n : readBack w64 (t .args .dated .day) ≡ t .args .dated .day = search needs in
+    let day = q ∙ c .before .before .day-of .ensures ∙ ap (λ (z : ℤ). floorQuot z 86400) (read w64 (t .args .time) (t .fits .time)) in
+    let e = ap (λ (z : ℤ). z -ℤ readBack w64 (t .args .dated .day)) day ∙ ap (λ (z : ℤ). floorQuot (t .args .time) 86400 -ℤ z) (n ∙ t .pre) in
+    let y : t .args .dated .date .year < 2 ^ 32 = search needs in
+    subst (SFits w64) (sym e) (instants.days-fit (t .args .time) (t .args .dated .date) (t .fits .time) y)
 
 returns : tie.Need-returns
 returns c =
-    let t = c .before in
-    let q : readBack w64 (c .day-of .result) ≡ c .day-of .result = search needs in
-    let n = read w64 (t .args .day) (t .fits .day) in
-    let day = q ∙ c .day-of .ensures ∙ ap (λ (z : ℤ). floorQuot z 86400) (read w64 (t .args .time) (t .fits .time)) in
-    let e = ap (λ (z : ℤ). z -ℤ readBack w64 (t .args .day)) day ∙ ap (λ (z : ℤ). floorQuot (t .args .time) 86400 -ℤ z) n in
+    let t = c .before .before .before in
+    let q : readBack w64 (c .before .before .day-of .result) ≡ c .before .before .day-of .result = search needs in
+    let n : readBack w64 (t .args .dated .day) ≡ t .args .dated .day = search needs in
+    let day = q ∙ c .before .before .day-of .ensures ∙ ap (λ (z : ℤ). floorQuot z 86400) (read w64 (t .args .time) (t .fits .time)) in
+    let e = ap (λ (z : ℤ). z -ℤ readBack w64 (t .args .dated .day)) day ∙ ap (λ (z : ℤ). floorQuot (t .args .time) 86400 -ℤ z) (n ∙ t .pre) in
     read w64 _ (sub-result c) ∙ e
 
 pub days-from-spec : {M : Type 1} → statement M

@@ -1,24 +1,21 @@
-use mathlib.Core.Path.{_≡_, sym, ap, subst, _∙_}
+use mathlib.Core.Path.{_≡_, ap, _∙_}
 use lib.IntN.{ℤ}
 use mir.Syntax.{w64}
 use Rattle.integers.specs.Quotients.{floorRem}
 use Rattle.integers.proofs.Ranges.{readBack, read}
-use Rattle.lines.specs.Lines.{Dated, daysFrom, signOf, sizeOf}
+use Rattle.lines.specs.Lines.{daysOf, signOf, sizeOf, timeText}
 use borrow.Author.Needs.{needs}
 use Rattle.lines.proofs.times.time_text.Statement.{statement}
 use Rattle.lines.proofs.times.time_text.Tie as tie
 
-days-from-requires : tie.Need-days-from-requires
-days-from-requires c κs = subst Dated (sym (read w64 (c .args .day) (c .fits .day))) (c .pre)
-
 returns : tie.Need-returns
+unfolding timeText
 returns c =
     let t = c .before .before .before .before .before .before .before .before .before .before .before in
     let days = c .before .before .before .before .before .before .before .before .before .before .days-from in
     let r = read w64 (t .args .time) (t .fits .time) in
     let k : readBack w64 (days .result) ≡ days .result = search needs in
-    let n = read w64 (t .args .day) (t .fits .day) in
-    let d = k ∙ days .ensures ∙ ap (daysFrom (readBack w64 (t .args .day))) r ∙ ap (λ (z : ℤ). daysFrom z (t .args .time)) n in
+    let d = k ∙ days .ensures ∙ ap (λ (z : ℤ). daysOf (t .args .dated .date) z) r in
     let s = c .before .before .before .before .before .before .before .before .before .second-of-day .ensures ∙ ap (λ (z : ℤ). floorRem z 86400) r in
     let sign = c .before .before .before .before .before .before .before .before .sign .ensures ∙ ap signOf d in
     let size = c .before .before .before .before .before .before .before .size .ensures ∙ ap sizeOf d in
@@ -27,4 +24,4 @@ returns c =
 pub time-text-spec : {M : Type 1} → statement M
 time-text-spec =
     tie.close
-    (tie.spec days-from-requires (λ c κs. search needs) (λ c κs. search needs) (λ c κs. search needs) (λ c κs. search needs) (λ c κs. search needs) (λ c κs. search needs) (λ c κs. search needs) (λ c κs. search needs) (λ c κs. search needs) (λ c κs. search needs) returns)
+    (tie.spec (λ c κs. c .pre) (λ c κs. search needs) (λ c κs. search needs) (λ c κs. search needs) (λ c κs. search needs) (λ c κs. search needs) (λ c κs. search needs) (λ c κs. search needs) (λ c κs. search needs) (λ c κs. search needs) (λ c κs. search needs) returns)
