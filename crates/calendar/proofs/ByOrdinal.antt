@@ -43,32 +43,6 @@ module _ (d : Date) (some : ordinalOf d ≡ 0 → ⊥) (small : d .year ≤ 4294
   here : existsOf d ≡ true
   here = there d some
 
-  -- ---- tomorrow
-  pub tomorrow-within : ordinalOf d < daysInYearOf (d .year) → ofOrdinalOf (d .year) (ordinalOf d + 1) ≡ tomorrowOf d
-  tomorrow-within l =
-      let n = ordinalOf d + 1 in let e = ofOrdinalOf (d .year) n in
-      let f = ordinal-forth (d .year) n (record { from = omega arith; to = omega arith }) in let a = after d here in
-      let y = ap daysBeforeYearOf (f .year) in
-      let i : e ≡ dayAfterOf d = count-injective e (dayAfterOf d) (f .there) (a .there) (omega arith) in
-      i ∙ from-there d (dayAfterOf d) here (subst (λ (x : Date). x .year ≤ 4294967295) i (omega (arith, f .year)))
-
-  year-over : daysInYearOf (d .year) ≤ ordinalOf d → dateOf (d .year + 1) 1 1 ≡ dayAfterOf d
-  year-over l =
-      let a = after d here in let o = ordinal-within d here in let s = year-step (d .year) in
-      count-injective (dateOf (d .year + 1) 1 1) (dayAfterOf d) (new-year (d .year + 1)) (a .there) (omega (arith, ordinal-first (d .year + 1)))
-
-  pub tomorrow-new-year : daysInYearOf (d .year) ≤ ordinalOf d → (d .year ≡ 4294967295 → ⊥) → dateOf (d .year + 1) 1 1 ≡ tomorrowOf d
-  tomorrow-new-year l n = subst (λ (x : Date). dateOf (d .year + 1) 1 1 ≡ fromOf d x) (year-over l) (from-there d (dateOf (d .year + 1) 1 1) here (omega arith))
-
-  -- the last date of the last year
-  pub tomorrow-last : daysInYearOf (d .year) ≤ ordinalOf d → d .year ≡ 4294967295 → d ≡ tomorrowOf d
-  unfolding fromOf heldOf
-  tomorrow-last i n =
-      let o = ordinal-within d here in let l = ap daysBeforeYearOf n in let k = ap daysInYearOf n in
-      let e : d ≡ dateOf 4294967295 12 31 =
-      count-injective d (dateOf 4294967295 12 31) here (year-end 4294967295) (omega (arith, ordinal-last 4294967295)) in
-      rw (here, ← year-over i, lt-leb (d .year + 1) 4294967295 (omega arith)) e
-
   -- ---- yesterday
   pub yesterday-within : 1 < ordinalOf d → ofOrdinalOf (d .year) (ordinalOf d - 1) ≡ yesterdayOf d
   yesterday-within l =

@@ -1,4 +1,5 @@
 pub mod ByCount
+pub mod ByMonth
 pub mod ByOrdinal
 pub mod CalendarLaws
 pub mod Computed

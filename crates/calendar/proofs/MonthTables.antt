@@ -1,5 +1,5 @@
 -- The rows of days before each month, held to the months' lengths by tests that antt computes. Assumes nothing.
-use mathlib.Core.Path.{_≡_, refl}
+use mathlib.Core.Path.{_≡_, refl, sym}
 use mathlib.Core.Bool.{Bool, true, false, cond, not, _&&_, _||_}
 use Prim.Native.Nat.{ℕ, zero, suc, _+_, _-_, _/_, _≤_, _<_}
 use native.Mathlib.Omega.{arith}
@@ -55,6 +55,21 @@ pub before-past : (leap : Bool) (m : ℕ) → 12 < m → daysBeforeOf leap m ≡
 unfolding daysBeforeOf
 before-past true m h = let k : 12 ≤ m - 1 = omega arith in List·getD-eq-default (monthStartsOf true) 0 k
 before-past false m h = let k : 12 ≤ m - 1 = omega arith in List·getD-eq-default (monthStartsOf false) 0 k
+
+above : (m k : ℕ) → k ≤ m → (m ≡ k → ⊥) → k < m
+above m k h n = omega arith
+
+-- a month that is none of the twelve
+pub before-other : (leap : Bool) (m : ℕ) → (m ≡ 1 → ⊥) → (m ≡ 2 → ⊥) → (m ≡ 3 → ⊥) → (m ≡ 4 → ⊥) → (m ≡ 5 → ⊥) → (m ≡ 6 → ⊥) → (m ≡ 7 → ⊥) → (m ≡ 8 → ⊥) → (m ≡ 9 → ⊥) → (m ≡ 10 → ⊥) → (m ≡ 11 → ⊥) → (m ≡ 12 → ⊥) →
+    0 ≡ daysBeforeOf leap m
+before-other leap m n1 n2 n3 n4 n5 n6 n7 n8 n9 n10 n11 n12 = by-test (ltb 12 m) refl (ltb 0 m) refl
+  where
+    by-test : (a : Bool) → ltb 12 m ≡ a → (b : Bool) → ltb 0 m ≡ b → 0 ≡ daysBeforeOf leap m
+    by-test true p b q = sym (before-past leap m (ltb-true 12 m p))
+    by-test false p false q = let z : m ≡ 0 = omega (arith, ltb-false 0 m q) in rw z (sym (before-none leap))
+    by-test false p true q =
+        let h : 12 < m = above m 12 (above m 11 (above m 10 (above m 9 (above m 8 (above m 7 (above m 6 (above m 5 (above m 4 (above m 3 (above m 2 (above m 1 (ltb-true 0 m q) n1) n2) n3) n4) n5) n6) n7) n8) n9) n10) n11) n12 in
+        absurd (omega (arith, ltb-false 12 m p))
 
 someTest : Bool → ℕ → Bool
 someTest leap k = ltb 0 (lengthOf leap (k + 1))

@@ -10,7 +10,6 @@ use super::counts::year_of;
 use super::months::days_before;
 use super::months::month_days;
 use super::months::month_of;
-use super::years::days_in_year;
 use super::years::is_leap_year;
 
 pub struct Date {
@@ -63,26 +62,30 @@ impl Date {
         }
     }
 
-    // The next ordinal of the year, or the next year's first.
+    // The next day of the month, or the first of the next month or year.
     pub fn tomorrow(self) -> Date
         ensures { λ r. ⌜ r ≡ tomorrowOf self ⌝ }
     {
         let year = self.year;
-        let ordinal = self.ordinal();
-        if ordinal == 0 {
+        let month = self.month;
+        let day = self.day;
+        let days = month_days(is_leap_year(year), month);
+        if day < 1 {
             return self;
         }
-        if ordinal < days_in_year(year) {
-            return of_ordinal(year, ordinal + 1);
+        if day > days {
+            return self;
+        }
+        if day < days {
+            return Date::new(year, month, day + 1);
+        }
+        if month < 12 {
+            return Date::new(year, month + 1, 1);
         }
         if year == 4294967295 {
             return self;
         }
-        Date {
-            year: year + 1,
-            month: 1,
-            day: 1,
-        }
+        Date::new(year + 1, 1, 1)
     }
 
     // The ordinal before, or the last of the year before.

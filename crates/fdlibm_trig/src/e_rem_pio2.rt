@@ -27,42 +27,6 @@ const PIO2_3: f64 = 2.02226624871116645580e-21; // 0x3ba3198a 2e000000
 
 const PIO2_3T: f64 = 8.47842766036889956997e-32; // 0x397b839a 252049c1
 
-// The high words of n * π/2, n from 1 to 32.
-const NPIO2: [u32; 32] = [
-    0x3ff9_21fb,
-    0x4009_21fb,
-    0x4012_d97c,
-    0x4019_21fb,
-    0x401f_6a7a,
-    0x4022_d97c,
-    0x4025_fdbb,
-    0x4029_21fb,
-    0x402c_463a,
-    0x402f_6a7a,
-    0x4031_475c,
-    0x4032_d97c,
-    0x4034_6b9c,
-    0x4035_fdbb,
-    0x4037_8fdb,
-    0x4039_21fb,
-    0x403a_b41b,
-    0x403c_463a,
-    0x403d_d85a,
-    0x403f_6a7a,
-    0x4040_7e4c,
-    0x4041_475c,
-    0x4042_106c,
-    0x4042_d97c,
-    0x4043_a28c,
-    0x4044_6b9c,
-    0x4045_34ac,
-    0x4045_fdbb,
-    0x4046_c6cb,
-    0x4047_8fdb,
-    0x4048_58eb,
-    0x4049_21fb,
-];
-
 // A difference or a sum that is still in two parts.
 pub struct Parts {
     pub r: f64,
@@ -76,17 +40,46 @@ pub struct Reduced {
     pub y1: f64,
 }
 
-// NPIO2[n - 1]; past the table 0.
+// The high word of n * π/2, n from 1 to 32: fdlibm's npio2_hw[n - 1]. As the arms of a `match` the row is read where it stands; an array's elements
+// would be stored anew at each use.
 fn npio2(n: u32) -> u32
     ensures { λ r. ⌜ r ≡ npio2Of n ⌝ }
 {
-    if n < 1 {
-        NPIO2[0]
-    } else if n < 33 {
-        let i = (n - 1) as usize;
-        NPIO2[i]
-    } else {
-        0
+    match n {
+        0 => 0x3ff9_21fb,
+        1 => 0x3ff9_21fb,
+        2 => 0x4009_21fb,
+        3 => 0x4012_d97c,
+        4 => 0x4019_21fb,
+        5 => 0x401f_6a7a,
+        6 => 0x4022_d97c,
+        7 => 0x4025_fdbb,
+        8 => 0x4029_21fb,
+        9 => 0x402c_463a,
+        10 => 0x402f_6a7a,
+        11 => 0x4031_475c,
+        12 => 0x4032_d97c,
+        13 => 0x4034_6b9c,
+        14 => 0x4035_fdbb,
+        15 => 0x4037_8fdb,
+        16 => 0x4039_21fb,
+        17 => 0x403a_b41b,
+        18 => 0x403c_463a,
+        19 => 0x403d_d85a,
+        20 => 0x403f_6a7a,
+        21 => 0x4040_7e4c,
+        22 => 0x4041_475c,
+        23 => 0x4042_106c,
+        24 => 0x4042_d97c,
+        25 => 0x4043_a28c,
+        26 => 0x4044_6b9c,
+        27 => 0x4045_34ac,
+        28 => 0x4045_fdbb,
+        29 => 0x4046_c6cb,
+        30 => 0x4047_8fdb,
+        31 => 0x4048_58eb,
+        32 => 0x4049_21fb,
+        _ => 0,
     }
 }
 

@@ -4,6 +4,8 @@
 //     (1 - qx) - ((x^2 / 2 - qx) - r).
 ghost use mathlib.Core.Path.{_≡_};
 ghost use Prim.Native.Nat.{_≤_};
+ghost use Rattle.float64.specs.Ops.{_*ᶠ_};
+ghost use Rattle.float64.specs.Words.{highOf};
 ghost use Rattle.fdlibm_trig.specs.KCos.{kernelCosOf, quarterOf};
 use float64::words::high_word;
 
@@ -37,15 +39,11 @@ fn quarter(ix: u32) -> f64
     }
 }
 
-// The cosine of x + y.
-pub fn kernel_cos(x: f64, y: f64) -> f64
+// The cosine of x + y where x is not tiny, from z = x^2 and the high word of |x|.
+pub(crate) fn cos_polynomial(x: f64, y: f64, z: f64, ix: u32) -> f64
+    requires { ⌜ (0x3e40_0000 ≤ highOf x) × (z ≡ x *ᶠ x) × (ix ≡ highOf x) ⌝ }
     ensures { λ r. ⌜ r ≡ kernelCosOf x y ⌝ }
 {
-    let ix = high_word(x);
-    if ix < 0x3e40_0000 {
-        return ONE;
-    }
-    let z = x * x;
     let r = z * (C1 + z * (C2 + z * (C3 + z * (C4 + z * (C5 + z * C6)))));
     if ix < 0x3fd3_3333 {
         ONE - (HALF * z - (z * r - x * y))
@@ -55,4 +53,15 @@ pub fn kernel_cos(x: f64, y: f64) -> f64
         let a = ONE - qx;
         a - (hz - (z * r - x * y))
     }
+}
+
+// The cosine of x + y.
+pub fn kernel_cos(x: f64, y: f64) -> f64
+    ensures { λ r. ⌜ r ≡ kernelCosOf x y ⌝ }
+{
+    let ix = high_word(x);
+    if ix < 0x3e40_0000 {
+        return ONE;
+    }
+    cos_polynomial(x, y, x * x, ix)
 }

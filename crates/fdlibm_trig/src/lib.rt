@@ -6,4 +6,5 @@ pub mod k_sin;
 pub mod k_tan;
 pub mod s_cos;
 pub mod s_sin;
+pub mod s_sincos;
 pub mod s_tan;

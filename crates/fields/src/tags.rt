@@ -1,4 +1,4 @@
-// The table of tags: a new tag is a new row and a new last tag. A tag between that has not come yet has a row that nothing fits.
+// The table of tags: a new tag is a new row and a new last tag.
 ghost use mathlib.Core.Path.{_≡_};
 ghost use Rattle.fields.specs.Tags.{column, knownTag, lengthFits, choiceFits};
 

@@ -5,6 +5,7 @@ ghost use Prim.Native.Nat.{_≤_};
 ghost use lib.ListN.{length};
 ghost use Rattle.text.specs.Text.{putOf};
 ghost use Rattle.lines.specs.Lines.{imsakOf, nineOf, columnsOf, rowText, rowBytes, rowRoom};
+use super::times::Dated;
 use super::times::date_text;
 use super::times::time_text;
 use calendar::dates::Date;
@@ -85,13 +86,17 @@ fn fill_row(line: &mut [u8], date: Date, times: &[i64])
     requires { ⌜ (length (now times) ≤ 10) × (length (now line) ≡ rowBytes (length (now times))) ⌝ }
     ensures { λ _. ⌜ now (line .exit) ≡ rowText date (now (times .entry)) ⌝ }
 {
+    let dated = Dated {
+        date: date,
+        day: date.day_number(),
+    };
     put(&mut line[..], 0, &date_text(date));
     let mut i = 0;
     while i < times.len() {
         put(
             &mut line[..],
             DATE_BYTES + TIME_BYTES * i,
-            &time_text(date, times[i]),
+            &time_text(dated, times[i]),
         );
         i = i + 1;
     }

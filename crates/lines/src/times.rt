@@ -1,5 +1,6 @@
-// The parts of a row's line: its date and nine times.
+// The parts of a row's line: its date and its times.
 ghost use mathlib.Core.Path.{_≡_};
+ghost use Rattle.calendar.specs.Days.{dayNumberOf};
 ghost use Rattle.lines.specs.Lines.{dateText, signOf, sizeOf, daysOf, timeText};
 use calendar::dates::Date;
 use calendar::instants::day_of;
@@ -28,11 +29,18 @@ pub fn date_text(date: Date) -> [u8; 10]
     ]
 }
 
+// A row's date with the number of its day, which is worked once for all its times.
+pub struct Dated {
+    pub date: Date,
+    pub day: i64,
+}
+
 // Days from the date to the day of an instant.
-fn days_from(date: Date, time: i64) -> i64
-    ensures { λ r. ⌜ r ≡ daysOf date time ⌝ }
+fn days_from(dated: Dated, time: i64) -> i64
+    requires { ⌜ dated .day ≡ dayNumberOf (dated .date) ⌝ }
+    ensures { λ r. ⌜ r ≡ daysOf (dated .date) time ⌝ }
 {
-    day_of(time) - date.day_number()
+    day_of(time) - dated.day
 }
 
 fn sign(days: i64) -> u8
@@ -48,10 +56,11 @@ fn size(days: i64) -> u64
 }
 
 // A blank, then as +0T05:12:00.
-pub fn time_text(date: Date, time: i64) -> [u8; 12]
-    ensures { λ r. ⌜ r ≡ timeText date time ⌝ }
+pub fn time_text(dated: Dated, time: i64) -> [u8; 12]
+    requires { ⌜ dated .day ≡ dayNumberOf (dated .date) ⌝ }
+    ensures { λ r. ⌜ r ≡ timeText (dated .date) time ⌝ }
 {
-    let days = days_from(date, time);
+    let days = days_from(dated, time);
     let second = second_of_day(time);
     let hour = second / 3600;
     let minute = second / 60 % 60;

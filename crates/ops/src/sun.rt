@@ -1,8 +1,11 @@
 // ops.rs: where the sun is, by the formulas of Meeus, Astronomical Algorithms.
 ghost use mathlib.Core.Path.{_≡_};
-ghost use Rattle.ops.specs.Sun.{square, cube, julianCenturyOf, meanSolarLongitudeOf, meanLunarLongitudeOf, ascendingLunarNodeLongitudeOf, meanSolarAnomalyOf, solarEquationOfTheCenterOf, omegaOf, apparentSolarLongitudeOf, meanObliquityOfTheEclipticOf, apparentObliquityOfTheEclipticOf, meanSiderealTimeOf, nutationInLongitudeOf, nutationInObliquityOf};
+ghost use Rattle.ops.specs.Sun.{square, cube, julianCenturyOf, meanSolarLongitudeOf, meanLunarLongitudeOf, ascendingLunarNodeLongitudeOf, meanSolarAnomalyOf, solarEquationOfTheCenterOf, omegaOf, apparentSolarLongitudeOf, meanObliquityOfTheEclipticOf, apparentObliquityOfTheEclipticOf, meanSiderealTimeOf, nutationInLongitudeOf, nutationInObliquityOf, nutationsOf, apparentPositionOf};
+ghost use Rattle.fdlibm_trig.specs.Trig.{sinOf, cosOf};
+ghost use Rattle.unit.specs.Unit.{radiansOf};
 use fdlibm_trig::s_cos::cos;
 use fdlibm_trig::s_sin::sin;
+use fdlibm_trig::s_sincos::sincos;
 use unit::Angle;
 
 // powf(2.0).
@@ -84,16 +87,24 @@ fn omega(julian_century: f64) -> Angle
     Angle::new(125.04 - (1934.136 * julian_century))
 }
 
-// The apparent longitude of the sun, referred to the true equinox of the date.
-pub fn apparent_solar_longitude(julian_century: f64, mean_longitude: Angle) -> Angle
+// The sun's true longitude, corrected by the sine of the moon's ascending node.
+fn corrected_longitude(julian_century: f64, mean_longitude: Angle, node: f64) -> Angle
+    requires { ⌜ node ≡ sinOf (radiansOf (omegaOf «julian_century»)) ⌝ }
     ensures { λ r. ⌜ r ≡ apparentSolarLongitudeOf «julian_century» «mean_longitude» ⌝ }
 {
     let longitude = mean_longitude.add(solar_equation_of_the_center(
         julian_century,
         mean_solar_anomaly(julian_century),
     ));
-    let node = sin(omega(julian_century).radians());
     Angle::new(longitude.degrees - 0.00569 - (0.00478 * node)).unwound()
+}
+
+// The apparent longitude of the sun, referred to the true equinox of the date.
+pub fn apparent_solar_longitude(julian_century: f64, mean_longitude: Angle) -> Angle
+    ensures { λ r. ⌜ r ≡ apparentSolarLongitudeOf «julian_century» «mean_longitude» ⌝ }
+{
+    let node = sin(omega(julian_century).radians());
+    corrected_longitude(julian_century, mean_longitude, node)
 }
 
 // The mean obliquity of the ecliptic, as adopted by the International Astronomical Union.
@@ -107,6 +118,14 @@ pub fn mean_obliquity_of_the_ecliptic(julian_century: f64) -> Angle
     Angle::new(term1 - term2 - term3 + term4)
 }
 
+// The mean obliquity, corrected by the cosine of the moon's ascending node.
+fn corrected_obliquity(julian_century: f64, mean_obliquity: Angle, node: f64) -> Angle
+    requires { ⌜ node ≡ cosOf (radiansOf (omegaOf «julian_century»)) ⌝ }
+    ensures { λ r. ⌜ r ≡ apparentObliquityOfTheEclipticOf «julian_century» «mean_obliquity» ⌝ }
+{
+    Angle::new(mean_obliquity.degrees + (0.00256 * node))
+}
+
 // The mean obliquity, corrected for the apparent position of the sun.
 pub fn apparent_obliquity_of_the_ecliptic(
     julian_century: f64,
@@ -115,7 +134,29 @@ pub fn apparent_obliquity_of_the_ecliptic(
     ensures { λ r. ⌜ r ≡ apparentObliquityOfTheEclipticOf «julian_century» «mean_obliquity_of_the_ecliptic» ⌝ }
 {
     let node = cos(omega(julian_century).radians());
-    Angle::new(mean_obliquity_of_the_ecliptic.degrees + (0.00256 * node))
+    corrected_obliquity(julian_century, mean_obliquity_of_the_ecliptic, node)
+}
+
+pub struct Apparent {
+    pub longitude: Angle,
+    pub obliquity: Angle,
+}
+
+// The apparent longitude and obliquity together (added): one angle's sine and cosine correct them.
+pub fn apparent_position(
+    julian_century: f64,
+    mean_longitude: Angle,
+    mean_obliquity: Angle,
+) -> Apparent
+    ensures { λ r. ⌜ r ≡ apparentPositionOf «julian_century» «mean_longitude» «mean_obliquity» ⌝ }
+{
+    let node = sincos(omega(julian_century).radians());
+    let sine = node.sin;
+    let cosine = node.cos;
+    Apparent {
+        longitude: corrected_longitude(julian_century, mean_longitude, sine),
+        obliquity: corrected_obliquity(julian_century, mean_obliquity, cosine),
+    }
 }
 
 // Mean sidereal time, the hour angle of the vernal equinox.
@@ -130,6 +171,35 @@ pub fn mean_sidereal_time(julian_century: f64) -> Angle
     Angle::new(term1 + term2 + term3 - term4).unwound()
 }
 
+// In degrees.
+pub struct Nutation {
+    pub longitude: f64,
+    pub obliquity: f64,
+}
+
+// In longitude by the sines of four angles and in obliquity by their cosines (added): worked together.
+pub fn nutations(solar_longitude: Angle, lunar_longitude: Angle, ascending_node: Angle) -> Nutation
+    ensures { λ r. ⌜ r ≡ nutationsOf «solar_longitude» «lunar_longitude» «ascending_node» ⌝ }
+{
+    let node = ascending_node.radians();
+    let first = sincos(node);
+    let second = sincos(2.0 * solar_longitude.radians());
+    let third = sincos(2.0 * lunar_longitude.radians());
+    let fourth = sincos(2.0 * node);
+    let longitude = (-17.2 / 3600.0) * first.sin
+        - (1.32 / 3600.0) * second.sin
+        - (0.23 / 3600.0) * third.sin
+        + (0.21 / 3600.0) * fourth.sin;
+    let obliquity = (9.2 / 3600.0) * first.cos
+        + (0.57 / 3600.0) * second.cos
+        + (0.10 / 3600.0) * third.cos
+        - (0.09 / 3600.0) * fourth.cos;
+    Nutation {
+        longitude: longitude,
+        obliquity: obliquity,
+    }
+}
+
 pub fn nutation_in_longitude(
     solar_longitude: Angle,
     lunar_longitude: Angle,
@@ -137,11 +207,7 @@ pub fn nutation_in_longitude(
 ) -> f64
     ensures { λ r. ⌜ r ≡ nutationInLongitudeOf «solar_longitude» «lunar_longitude» «ascending_node» ⌝ }
 {
-    let term1 = (-17.2 / 3600.0) * sin(ascending_node.radians());
-    let term2 = (1.32 / 3600.0) * sin(2.0 * solar_longitude.radians());
-    let term3 = (0.23 / 3600.0) * sin(2.0 * lunar_longitude.radians());
-    let term4 = (0.21 / 3600.0) * sin(2.0 * ascending_node.radians());
-    term1 - term2 - term3 + term4
+    nutations(solar_longitude, lunar_longitude, ascending_node).longitude
 }
 
 pub fn nutation_in_obliquity(
@@ -151,9 +217,5 @@ pub fn nutation_in_obliquity(
 ) -> f64
     ensures { λ r. ⌜ r ≡ nutationInObliquityOf «solar_longitude» «lunar_longitude» «ascending_node» ⌝ }
 {
-    let term1 = (9.2 / 3600.0) * cos(ascending_node.radians());
-    let term2 = (0.57 / 3600.0) * cos(2.0 * solar_longitude.radians());
-    let term3 = (0.10 / 3600.0) * cos(2.0 * lunar_longitude.radians());
-    let term4 = (0.09 / 3600.0) * cos(2.0 * ascending_node.radians());
-    term1 + term2 + term3 - term4
+    nutations(solar_longitude, lunar_longitude, ascending_node).obliquity
 }

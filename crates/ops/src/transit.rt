@@ -10,6 +10,7 @@ use fdlibm_arc::e_acos::acos;
 use fdlibm_arc::e_asin::asin;
 use fdlibm_trig::s_cos::cos;
 use fdlibm_trig::s_sin::sin;
+use fdlibm_trig::s_sincos::sincos;
 use unit::Angle;
 use unit::Coordinates;
 use unit::normalized_to_scale;
@@ -53,12 +54,12 @@ impl Observer {
     pub fn new(coordinates: Coordinates) -> Observer
         ensures { λ r. ⌜ r ≡ observerOf coordinates ⌝ }
     {
-        let latitude = coordinates.latitude_angle().radians();
+        let latitude = sincos(coordinates.latitude_angle().radians());
         let longitude = west(coordinates.longitude_angle());
         Observer {
             west: longitude,
-            sine: sin(latitude),
-            cosine: cos(latitude),
+            sine: latitude.sin,
+            cosine: latitude.cos,
         }
     }
 }
@@ -89,7 +90,7 @@ impl Course {
     ) -> Course
         ensures { λ r. ⌜ r ≡ courseOf transit observer «sidereal_time» «right_ascension» «previous_right_ascension» «next_right_ascension» declination «previous_declination» «next_declination» ⌝ }
     {
-        let inclination = declination.radians();
+        let inclination = sincos(declination.radians());
         Course {
             observer: observer,
             transit: transit,
@@ -104,8 +105,8 @@ impl Course {
                 previous_declination.degrees,
                 next_declination.degrees,
             ),
-            sines: observer.sine * sin(inclination),
-            cosines: observer.cosine * cos(inclination),
+            sines: observer.sine * inclination.sin,
+            cosines: observer.cosine * inclination.cos,
         }
     }
 
@@ -147,13 +148,13 @@ impl Course {
         let at = moved_transit(self.transit, arc, after_transit);
         let observer = self.observer;
         let interpolation = self.declination;
-        let hour = self.hour_angle(at).radians();
-        let declination = Angle::new(interpolation.at(at)).radians();
-        let cosine = cos(declination);
-        let term1 = observer.sine * sin(declination);
-        let term2 = observer.cosine * cosine * cos(hour);
+        let hour = sincos(self.hour_angle(at).radians());
+        let declination = sincos(Angle::new(interpolation.at(at)).radians());
+        let cosine = declination.cos;
+        let term1 = observer.sine * declination.sin;
+        let term2 = observer.cosine * cosine * hour.cos;
         let term3 = Angle::from_radians(asin(term1 + term2)).sub(angle).degrees;
-        let term4 = 360.0 * cosine * observer.cosine * sin(hour);
+        let term4 = 360.0 * cosine * observer.cosine * hour.sin;
         (at + term3 / term4) * 24.0
     }
 }

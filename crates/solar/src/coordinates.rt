@@ -5,17 +5,15 @@ use calendar::dates::Date;
 use fdlibm_arc::e_asin::asin;
 use fdlibm_arc::e_atan2::atan2;
 use fdlibm_trig::s_cos::cos;
-use fdlibm_trig::s_sin::sin;
-use ops::sun::apparent_obliquity_of_the_ecliptic;
-use ops::sun::apparent_solar_longitude;
+use fdlibm_trig::s_sincos::sincos;
+use ops::sun::apparent_position;
 use ops::sun::ascending_lunar_node_longitude;
 use ops::sun::julian_century;
 use ops::sun::mean_lunar_longitude;
 use ops::sun::mean_obliquity_of_the_ecliptic;
 use ops::sun::mean_sidereal_time;
 use ops::sun::mean_solar_longitude;
-use ops::sun::nutation_in_longitude;
-use ops::sun::nutation_in_obliquity;
+use ops::sun::nutations;
 use stride::julian::date_julian_day;
 use unit::Angle;
 
@@ -33,13 +31,14 @@ pub struct Equatorial {
     pub right_ascension: Angle,
 }
 
-// The position on the celestial sphere, from the apparent obliquity and longitude in radians: both need the longitude's sine.
+// The position on the celestial sphere, from the apparent obliquity and longitude in radians.
 fn on_the_sphere(obliquity: f64, longitude: f64) -> Equatorial
     ensures { λ r. ⌜ r ≡ equatorialOf obliquity longitude ⌝ }
 {
-    let sine = sin(longitude);
-    let declination = Angle::from_radians(asin(sin(obliquity) * sine));
-    let right_ascension = Angle::from_radians(atan2(cos(obliquity) * sine, cos(longitude)));
+    let tilt = sincos(obliquity);
+    let along = sincos(longitude);
+    let declination = Angle::from_radians(asin(tilt.sin * along.sin));
+    let right_ascension = Angle::from_radians(atan2(tilt.cos * along.sin, along.cos));
     Equatorial {
         declination: declination,
         right_ascension: right_ascension.unwound(),
@@ -55,11 +54,10 @@ fn apparent_sidereal_time(
 {
     let lunar = mean_lunar_longitude(julian_century);
     let node = ascending_lunar_node_longitude(julian_century);
-    let nutation = nutation_in_longitude(mean_solar_longitude, lunar, node);
-    let tilt = nutation_in_obliquity(mean_solar_longitude, lunar, node);
-    let cosine = cos(Angle::new(mean_obliquity.degrees + tilt).radians());
+    let nutation = nutations(mean_solar_longitude, lunar, node);
+    let cosine = cos(Angle::new(mean_obliquity.degrees + nutation.obliquity).radians());
     let sidereal = mean_sidereal_time(julian_century);
-    Angle::new(sidereal.degrees + ((nutation * 3600.0) * cosine) / 3600.0)
+    Angle::new(sidereal.degrees + ((nutation.longitude * 3600.0) * cosine) / 3600.0)
 }
 
 impl SolarCoordinates {
@@ -69,9 +67,10 @@ impl SolarCoordinates {
         let century = julian_century(julian_day);
         let mean_longitude = mean_solar_longitude(century);
         let mean_obliquity = mean_obliquity_of_the_ecliptic(century);
-        let longitude = apparent_solar_longitude(century, mean_longitude).radians();
-        let obliquity = apparent_obliquity_of_the_ecliptic(century, mean_obliquity).radians();
-        let position = on_the_sphere(obliquity, longitude);
+        let apparent = apparent_position(century, mean_longitude, mean_obliquity);
+        let longitude = apparent.longitude;
+        let obliquity = apparent.obliquity;
+        let position = on_the_sphere(obliquity.radians(), longitude.radians());
         let declination = position.declination;
         let right_ascension = position.right_ascension;
         SolarCoordinates {

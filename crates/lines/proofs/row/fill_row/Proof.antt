@@ -14,23 +14,29 @@ use Rattle.lines.proofs.row.fill_row.Statement.{statement}
 use Rattle.lines.proofs.row.fill_row.Tie as tie
 
 abbrev Inv-loop : tie.InvT-loop
-Inv-loop line₀ date times i₀ t5 line i =
-    (i ≤ length times) × (length line ≡ rowBytes (length times)) × (base : List ℕ) × (length base ≡ rowBytes (length times)) × (line ≡ frontOf (partText date times i) base)
+Inv-loop line₀ times dated i₀ t6 line i =
+    (i ≤ length times) × (length line ≡ rowBytes (length times)) × (base : List ℕ) × (length base ≡ rowBytes (length times)) × (line ≡ frontOf (partText (dated .date) times i) base)
 
 abbrev μ-loop : tie.MeasureT-loop
-μ-loop line₀ date times i₀ t5 line i = length times - i
+μ-loop line₀ times dated i₀ t6 line i = length times - i
 
 loop-holds : tie.Need-loop-holds Inv-loop μ-loop
 loop-holds c =
-    let start = c .before .before .before .before .before .before .before in
+    let start = c .before .before .before .before .before .before .before .before in
     let a = start .args in
     let text = c .before .before .before .before .date-text in
     let put = c .before .before .put in
     (omega arith, put .kept .0 ∙ start .pre .1, a .line .now, start .pre .1, date-put (a .date) (a .times .now) (a .line .now) (put .last .0) (text .result) (start .pre .1) (text .ensures) (put .ensures))
 
+time-text-requires : tie.Need-time-text-requires Inv-loop μ-loop
+time-text-requires c κs =
+    let n = c .before .before .before .before .before .before .before .before .before .before .day-number in
+    let k : readBack w64 (n .result) ≡ n .result = search needs in
+    k ∙ n .ensures
+
 loop-again : tie.Need-loop-again Inv-loop μ-loop
 loop-again c =
-    let a = c .before .before .before .before .before .before .before .before .before .before .before .before .before .before .before .before .args in
+    let a = c .before .before .before .before .before .before .before .before .before .before .before .before .before .before .before .before .before .args in
     let l = c .before .before .before .before .before .before .before .before .loop in
     let h = c .before .before .before .before .before .before .before .loop-test .taken in
     let text = c .before .before .before .before .time-text in
@@ -40,7 +46,7 @@ loop-again c =
 
 returns : tie.Need-returns Inv-loop μ-loop
 returns c =
-    let a = c .before .before .before .before .before .before .before .before .before .before .before .before .before .before .args in
+    let a = c .before .before .before .before .before .before .before .before .before .before .before .before .before .before .before .args in
     let l = c .before .before .before .before .before .before .loop in
     let put = c .before .before .put3 in
     let end : l .i ≡ length (a .times .now) = omega (arith, l .inv .0, c .before .before .before .before .before .loop-test .left) in
@@ -49,4 +55,4 @@ returns c =
 pub fill-row-spec : {M : Type 1} → statement M
 fill-row-spec =
     tie.close
-    (tie.spec Inv-loop μ-loop (λ c κs. search needs) (λ c. search needs) (λ c κs. search needs) loop-holds (λ c. search needs) (λ c. search needs) (λ c. search needs) (λ c. search needs) (λ c κs. search needs) (λ c. search needs) (λ c κs. search needs) (λ c. search needs) (λ c. search needs) loop-again (λ c. search needs) (λ c. search needs) (λ c. search needs) (λ c κs. search needs) (λ c. search needs) returns)
+    (tie.spec Inv-loop μ-loop (λ c κs. search needs) (λ c κs. search needs) (λ c. search needs) (λ c κs. search needs) loop-holds (λ c. search needs) (λ c. search needs) (λ c. search needs) (λ c. search needs) time-text-requires (λ c. search needs) (λ c κs. search needs) (λ c. search needs) (λ c. search needs) loop-again (λ c. search needs) (λ c. search needs) (λ c. search needs) (λ c κs. search needs) (λ c. search needs) returns)

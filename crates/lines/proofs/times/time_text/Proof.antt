@@ -15,7 +15,7 @@ returns c =
     let days = c .before .before .before .before .before .before .before .before .before .before .days-from in
     let r = read w64 (t .args .time) (t .fits .time) in
     let k : readBack w64 (days .result) ≡ days .result = search needs in
-    let d = k ∙ days .ensures ∙ ap (λ (z : ℤ). daysOf (t .args .date) z) r in
+    let d = k ∙ days .ensures ∙ ap (λ (z : ℤ). daysOf (t .args .dated .date) z) r in
     let s = c .before .before .before .before .before .before .before .before .before .second-of-day .ensures ∙ ap (λ (z : ℤ). floorRem z 86400) r in
     let sign = c .before .before .before .before .before .before .before .before .sign .ensures ∙ ap signOf d in
     let size = c .before .before .before .before .before .before .before .size .ensures ∙ ap sizeOf d in
@@ -24,4 +24,4 @@ returns c =
 pub time-text-spec : {M : Type 1} → statement M
 time-text-spec =
     tie.close
-    (tie.spec (λ c κs. search needs) (λ c κs. search needs) (λ c κs. search needs) (λ c κs. search needs) (λ c κs. search needs) (λ c κs. search needs) (λ c κs. search needs) (λ c κs. search needs) (λ c κs. search needs) (λ c κs. search needs) (λ c κs. search needs) returns)
+    (tie.spec (λ c κs. c .pre) (λ c κs. search needs) (λ c κs. search needs) (λ c κs. search needs) (λ c κs. search needs) (λ c κs. search needs) (λ c κs. search needs) (λ c κs. search needs) (λ c κs. search needs) (λ c κs. search needs) (λ c κs. search needs) returns)

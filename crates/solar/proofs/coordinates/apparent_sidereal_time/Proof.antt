@@ -7,8 +7,8 @@ use Rattle.solar.proofs.coordinates.apparent_sidereal_time.Tie as tie
 returns : tie.Need-returns
 unfolding apparentSiderealTimeOf dec round ofBits
 returns c =
-    let b = c .before .before .before .before .before .before in
-    simp (c .new2 .ensures, c .before .before .mean-sidereal-time .ensures, c .before .before .before .cos .ensures, c .before .before .before .before .radians .ensures, c .before .before .before .before .before .new .ensures, b .before .nutation-in-obliquity .ensures, b .before .before .nutation-in-longitude .ensures, b .before .before .before .ascending-lunar-node-longitude .ensures, b .before .before .before .before .mean-lunar-longitude .ensures)
+    let b = c .before .before .before .before .before .before .before .before .before in
+    simp (c .new2 .ensures, c .before .before .before .mean-sidereal-time .ensures, c .before .before .before .before .cos .ensures, c .before .before .before .before .before .radians .ensures, c .before .before .before .before .before .before .new .ensures, b .nutations .ensures, b .before .ascending-lunar-node-longitude .ensures, b .before .before .mean-lunar-longitude .ensures)
 
 pub apparent-sidereal-time-spec : {M : Type 1} → statement M
-apparent-sidereal-time-spec = tie.close (tie.spec (λ c κs. tt) (λ c κs. tt) (λ c κs. tt) (λ c κs. tt) (λ c κs. tt) (λ c κs. tt) (λ c κs. tt) (λ c κs. tt) (λ c κs. tt) returns)
+apparent-sidereal-time-spec = tie.close (tie.spec (λ c κs. tt) (λ c κs. tt) (λ c κs. tt) (λ c κs. tt) (λ c κs. tt) (λ c κs. tt) (λ c κs. tt) (λ c κs. tt) returns)

@@ -1,44 +1,51 @@
-use mathlib.Core.Path.{sym, ap, _∙_}
-use Prim.Native.Nat.{ℕ, _+_, _-_, _≤_}
+use mathlib.Core.Path.{_≡_, ap, _∙_}
+use mathlib.Core.Bool.{Bool}
+use Prim.Native.Nat.{_≤_}
 use native.Mathlib.Omega.{arith}
-use Rattle.calendar.specs.Gregorian.{leapOf, dayAfterOf}
-use Rattle.calendar.specs.Days.{daysInYearOf, ofOrdinalOf}
-use Rattle.calendar.proofs.MonthTables.{year-short}
-use Rattle.calendar.proofs.ByOrdinal.{from-none, tomorrow-within, tomorrow-new-year, tomorrow-last}
+use Rattle.calendar.specs.Gregorian.{lengthOf, daysInMonthOf}
+use Rattle.calendar.proofs.ByMonth.{before-first, past-last, within, next-month, next-year, last-of-all}
 use borrow.Author.Needs.{needs}
 use Rattle.calendar.proofs.dates.Date.tomorrow.Statement.{statement}
 use Rattle.calendar.proofs.dates.Date.tomorrow.Tie as tie
 
 returns : tie.Need-returns
-returns c =
-    let d = c .before .before .args .self in
-    from-none d (dayAfterOf d) (sym (c .before .ordinal .ensures) ∙ c .if1 .taken)
-
-of-ordinal-requires : tie.Need-of-ordinal-requires
-of-ordinal-requires c κs =
-    let e = c .before .days-in-year .ensures in let y = year-short (leapOf (c .before .before .before .before .args .self .year)) in
-    unfold daysInYearOf in (omega arith, omega arith)
+returns c = before-first (c .before .before .before .args .self) (c .if1 .taken)
 
 returns-2 : tie.Need-returns-2
 returns-2 c =
-    let s = c .before .before .before .before .before in let d = s .args .self in
-    let o = c .before .before .before .before .ordinal .ensures in let k : d .year ≤ 4294967295 = search needs in
-    c .of-ordinal .ensures ∙ ap (λ (n : ℕ). ofOrdinalOf (d .year) (n + 1)) o
-    ∙ tomorrow-within d (λ z. c .before .before .before .if1 .left (o ∙ z)) k (omega arith)
+    let d = c .before .before .before .before .args .self in
+    let l : c .before .before .month-days .result ≡ daysInMonthOf (d .year) (d .month) = c .before .before .month-days .ensures ∙ ap (λ (b : Bool). lengthOf b (d .month)) (c .before .before .before .is-leap-year .ensures) in
+    past-last d (omega arith)
 
 returns-3 : tie.Need-returns-3
 returns-3 c =
-    let d = c .before .before .before .before .before .args .self in let o = c .before .before .before .before .ordinal .ensures in
+    let d = c .before .before .before .before .before .before .args .self in
+    let l : c .before .before .before .before .month-days .result ≡ daysInMonthOf (d .year) (d .month) = c .before .before .before .before .month-days .ensures ∙ ap (λ (b : Bool). lengthOf b (d .month)) (c .before .before .before .before .before .is-leap-year .ensures) in
     let k : d .year ≤ 4294967295 = search needs in
-    tomorrow-last d (λ z. c .before .before .before .if1 .left (o ∙ z)) k (omega arith) (c .if3 .taken)
+    c .new .ensures ∙ within d (c .before .before .before .if1 .left) k (omega arith)
 
 returns-4 : tie.Need-returns-4
 returns-4 c =
-    let d = c .before .before .before .before .before .args .self in let o = c .before .before .before .before .ordinal .ensures in
+    let d = c .before .before .before .before .before .before .before .args .self in
+    let l : c .before .before .before .before .before .month-days .result ≡ daysInMonthOf (d .year) (d .month) = c .before .before .before .before .before .month-days .ensures ∙ ap (λ (b : Bool). lengthOf b (d .month)) (c .before .before .before .before .before .before .is-leap-year .ensures) in
     let k : d .year ≤ 4294967295 = search needs in
-    tomorrow-new-year d (λ z. c .before .before .before .if1 .left (o ∙ z)) k (omega arith) (c .if3 .left)
+    c .new2 .ensures ∙ next-month d (c .before .before .before .before .if1 .left) k (omega arith) (c .before .if4 .taken)
+
+returns-5 : tie.Need-returns-5
+returns-5 c =
+    let d = c .before .before .before .before .before .before .before .args .self in
+    let l : c .before .before .before .before .before .month-days .result ≡ daysInMonthOf (d .year) (d .month) = c .before .before .before .before .before .month-days .ensures ∙ ap (λ (b : Bool). lengthOf b (d .month)) (c .before .before .before .before .before .before .is-leap-year .ensures) in
+    let k : d .year ≤ 4294967295 = search needs in
+    last-of-all d (c .before .before .before .before .if1 .left) k (omega arith) (c .before .if4 .left) (c .if5 .taken)
+
+returns-6 : tie.Need-returns-6
+returns-6 c =
+    let d = c .before .before .before .before .before .before .before .before .args .self in
+    let l : c .before .before .before .before .before .before .month-days .result ≡ daysInMonthOf (d .year) (d .month) = c .before .before .before .before .before .before .month-days .ensures ∙ ap (λ (b : Bool). lengthOf b (d .month)) (c .before .before .before .before .before .before .before .is-leap-year .ensures) in
+    let k : d .year ≤ 4294967295 = search needs in
+    c .new3 .ensures ∙ next-year d (c .before .before .before .before .before .if1 .left) k (omega arith) (c .before .before .if4 .left) (c .before .if5 .left)
 
 pub tomorrow-spec : {M : Type 1} → statement M
 tomorrow-spec =
     tie.close
-    (tie.spec (λ c κs. tt) returns (λ c κs. tt) (λ c. search needs) of-ordinal-requires returns-2 returns-3 (λ c. search needs) returns-4)
+    (tie.spec (λ c κs. tt) (λ c κs. tt) returns returns-2 (λ c. search needs) (λ c κs. tt) returns-3 (λ c. search needs) (λ c κs. tt) returns-4 returns-5 (λ c. search needs) (λ c κs. tt) returns-6)

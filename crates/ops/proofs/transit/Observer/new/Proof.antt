@@ -2,7 +2,7 @@ use Rattle.ops.proofs.transit.Observer.new.Statement.{statement}
 use Rattle.ops.proofs.transit.Observer.new.Tie as tie
 
 returns : tie.Need-returns
-returns c = simp (c .cos .ensures, c .before .sin .ensures, c .before .before .west .ensures, c .before .before .before .longitude-angle .ensures, c .before .before .before .before .radians .ensures, c .before .before .before .before .before .latitude-angle .ensures)
+returns c = simp (c .west .ensures, c .before .longitude-angle .ensures, c .before .before .sincos .ensures, c .before .before .before .radians .ensures, c .before .before .before .before .latitude-angle .ensures)
 
 pub new-spec : {M : Type 1} → statement M
-new-spec = tie.close (tie.spec (λ c κs. tt) (λ c κs. tt) (λ c κs. tt) (λ c κs. tt) (λ c κs. tt) (λ c κs. tt) returns)
+new-spec = tie.close (tie.spec (λ c κs. tt) (λ c κs. tt) (λ c κs. tt) (λ c κs. tt) (λ c κs. tt) returns)
