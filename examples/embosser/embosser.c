@@ -93,6 +93,7 @@ static void take_all(void) {
       part();
       return;
     }
+    if (host < 0) return; /* it was gone before its answer, and so is what it said */
     held -= (size_t)length;
     memmove(text, text + length, held);
   }

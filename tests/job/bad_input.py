@@ -5,6 +5,8 @@ import os
 import random
 import resource
 import shutil
+import signal
+import socket
 import subprocess
 import time
 
@@ -228,6 +230,32 @@ def embosser_dies(checks, built, seed, long):
     checks.check("the embosser dies", wrong if lost else ["never in time"])
 
 
+def asked(trial, stopped=False):
+    """What the embosser answers to a host that asks for job 1; nothing where it is stopped, and the host gone before it goes on."""
+    with socket.socket(socket.AF_UNIX) as host:
+        host.settimeout(5)
+        host.connect(trial.socket)
+        host.sendall(b"restart 1\n")
+        try:
+            return None if stopped else host.recv(64)
+        except OSError as lost:
+            return lost
+
+
+def gone_hosts(checks, built):
+    """A host that asks and is gone before the embosser looks: it answers the next one, and has the pages that it had. Built so that the
+    compiler's checks end it where it goes beyond its buffer."""
+    with Trial(built, [GOOD]) as trial:
+        trial.run()
+        trial.stop_embosser()
+        trial.start_embosser(built.checked_embosser())
+        os.kill(trial.embosser.pid, signal.SIGSTOP)
+        asked(trial, stopped=True)
+        os.kill(trial.embosser.pid, signal.SIGCONT)
+        said = asked(trial)
+    checks.check("a host that is gone before its answer", [] if said == b"count 1 2\n" else [f"the embosser says {said!r}"])
+
+
 def until(holds, seconds=10):
     end = time.monotonic() + seconds
     while not holds() and time.monotonic() < end:
@@ -263,4 +291,5 @@ def run(checks, built, seed, long):
     full_disk(checks, built)
     missing_embosser(checks, built)
     embosser_dies(checks, built, seed, long)
+    gone_hosts(checks, built)
     two_hosts(checks, built)

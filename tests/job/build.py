@@ -112,7 +112,7 @@ class Built:
         shared = str(self.folder / "library.so")
         self.run(["gcc", "-shared", "-o", shared, "-Wl,--whole-archive", self.archive, "-Wl,--no-whole-archive"])
         self.library = Library(shared)
-        self.embosser = self.made("embosser", sorted(ROOT.glob("examples/embosser/*.c")))
+        self.embosser = self.build_embosser("embosser")
         self.stopper = self.made("stopper.so", [ROOT / "tests/job/stopper.c"], "-shared", "-fPIC")
         self.host = self.build_host("emboss", ROOT / "examples/host")
 
@@ -123,6 +123,12 @@ class Built:
         program = str(self.folder / name)
         self.run([*FLAGS, *words, *map(str, sources), "-o", program])
         return program
+
+    def build_embosser(self, name, *words):
+        return self.made(name, sorted(ROOT.glob("examples/embosser/*.c")), *words)
+
+    def checked_embosser(self):
+        return self.build_embosser("checked-embosser", "-fsanitize=address,undefined")
 
     def build_host(self, name, sources, *words):
         program = str(self.folder / name)

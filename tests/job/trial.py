@@ -53,8 +53,9 @@ class Trial:
         self.stop_embosser()
         shutil.rmtree(self.folder)
 
-    def start_embosser(self):
-        self.embosser = subprocess.Popen([self.built.embosser, *self.habits, self.socket, str(self.punched)], stdout=subprocess.PIPE)
+    def start_embosser(self, program=None):
+        words = [program or self.built.embosser, *self.habits, self.socket, str(self.punched)]
+        self.embosser = subprocess.Popen(words, stdout=subprocess.PIPE)
         self.embosser.stdout.readline()  # it is ready
 
     def stop_embosser(self):
