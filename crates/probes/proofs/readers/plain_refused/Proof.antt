@@ -1,0 +1,14 @@
+-- `probes::readers::plain_refused` meets its contract.
+use mathlib.Core.Path.{refl}
+use lib.Ieee.{round, ofBits}
+use Rattle.float64.specs.Ops.{dec}
+use Rattle.probes.specs.Readers.{plainRefused}
+use Rattle.probes.proofs.readers.plain_refused.Statement.{statement}
+use Rattle.probes.proofs.readers.plain_refused.Tie as tie
+
+returns : tie.Need-returns
+unfolding plainRefused dec round ofBits
+returns c = refl
+
+pub plain-refused-spec : {M : Type 1} → statement M
+plain-refused-spec = tie.close (tie.spec returns)
