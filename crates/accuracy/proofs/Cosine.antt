@@ -22,7 +22,7 @@ use Rattle.accuracy.specs.Accuracy.{top, _!, cosineSum, CosineWithin}
 use Rattle.accuracy.specs.Accuracy as Accuracy
 use Rattle.accuracy.proofs.Algebra.{ring, sorted, square-power}
 use Rattle.accuracy.proofs.Fractions.{Fraction, _⊞_, _⊠_, ⊟_, nought, unity, unit, Close, itself, through, Same, scaled, same-close, written, sum, flip}
-use Rattle.accuracy.proofs.Rounding.{signed, value, Near}
+use Rattle.accuracy.proofs.Rounding.{signed, value, NearFraction}
 use Rattle.accuracy.proofs.Expressions.{Expr, var, const, _⊖_, _⊗_, run, exact, bound, error, fine}
 use Rattle.accuracy.proofs.Series.{from, terms, fall-is, side, side-is}
 use Rattle.accuracy.proofs.Polynomials.{per, horner, rows, near}
@@ -105,15 +105,15 @@ module _ (i : Inputs) where
       let d : Close (exact (of i) plain) (unity ⊞ ⊟ (per half ⊠ square ⊞ ⊟ (square ⊠ (square ⊠ g)))) 0 = sum (itself unity) (flip (sum (itself (per half ⊠ square)) e)) in
       through (written d (factored (per half) (per minus-half) square (square ⊠ g) refl refl refl)) (ten-near i kernel)
 
-  plain-near : Near (run (floats i) plain) (ten kernel square) (2 ^ 13)
+  plain-near : NearFraction (run (floats i) plain) (ten kernel square) (2 ^ 13)
   unfolding bound error unit ofBits size
   plain-near = run-near i plain plain-fine exact-near (lit≤ tt)
 
-  split-near : Near (run (floats i) split) (ten kernel square) (2 ^ 13)
+  split-near : NearFraction (run (floats i) split) (ten kernel square) (2 ^ 13)
   unfolding bound error unit ofBits size
   split-near = run-near i split split-fine (through (same-close (split-same unity (exact (of i) hz) (exact (of i) r) (value (i .second)))) exact-near) (lit≤ tt)
 
-  tiny-near : Within (i .argument) 1 (2 ^ 26) → Near one (ten kernel square) (2 ^ 13)
+  tiny-near : Within (i .argument) 1 (2 ^ 26) → NearFraction one (ten kernel square) (2 ^ 13)
   unfolding fine bound error unit ofBits size
   tiny-near t = run-near i (const one unity) tt (ten-tiny i kernel t) (lit≤ tt)
 
@@ -141,16 +141,16 @@ module _ (s : Bool) (m : ℕ) (e : ℤ) (h : Within (fin s m e) 3 4) where
   abbrev inputs : Inputs
   inputs = record { argument = fin s m e; second = quarterOf (highOf (fin s m e)); moderately = h; slightly = quarter-within (highOf (fin s m e)) (high-le s m e h) }
 
-  kernel-near : Near (kernelCosOf (fin s m e) KTan.zero) (ten kernel (square inputs)) (2 ^ 13)
+  kernel-near : NearFraction (kernelCosOf (fin s m e) KTan.zero) (ten kernel (square inputs)) (2 ^ 13)
   unfolding kernelCosOf
   kernel-near = by-word (ltb (highOf (fin s m e)) 0x3e40_0000) (high-tiny s m e h) (ltb (highOf (fin s m e)) 0x3fd3_3333)
     where
-      by-word : (b : Bool) → (T b → Within (fin s m e) 1 (2 ^ 26)) → (c : Bool) → Near (cond b one (cond c (run (floats inputs) plain) (run (floats inputs) split))) (ten kernel (square inputs)) (2 ^ 13)
+      by-word : (b : Bool) → (T b → Within (fin s m e) 1 (2 ^ 26)) → (c : Bool) → NearFraction (cond b one (cond c (run (floats inputs) plain) (run (floats inputs) split))) (ten kernel (square inputs)) (2 ^ 13)
       by-word true t c = tiny-near inputs (t tt)
       by-word false t true = plain-near inputs
       by-word false t false = split-near inputs
 
-  cosine-near : Near (cosOf (fin s m e)) (stated (m * up e) (down e) (down-pos e)) (2 ^ 13)
+  cosine-near : NearFraction (cosOf (fin s m e)) (stated (m * up e) (down e) (down-pos e)) (2 ^ 13)
   unfolding cosOf
   cosine-near =
       let n = kernel-near in

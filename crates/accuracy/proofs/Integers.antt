@@ -10,9 +10,9 @@ use lib.Pow.{pow-mono}
 use lib.Ieee.{Float, nan, inf, fin, up}
 use Rattle.integers.specs.Parts.{P, N}
 use Rattle.integers.proofs.Sums as integers
-use Rattle.accuracy.specs.Accuracy.{top, bottom, _!, term, alternating, Within}
+use Rattle.accuracy.specs.Accuracy.{top, bottom, _!, term, alternating, WithinSum}
 use Rattle.accuracy.proofs.Fractions.{Fraction, unit, unit-pos}
-use Rattle.accuracy.proofs.Rounding.{value, Near}
+use Rattle.accuracy.proofs.Rounding.{value, NearFraction}
 use Rattle.accuracy.proofs.Series.{amount}
 
 -- z is p - n
@@ -94,12 +94,12 @@ small (negsuc v) p n m h i j = omega (arith, ap (λ (z : ℕ). unit * z) (h .bal
 counted : (K v E m : ℕ) → unit * v ≤ E * m → E * K ≤ unit → K * v ≤ m
 counted K v E m h l = le-of-mul-le-mul-right {k = unit} (omega (arith, mul-le-mul-right K h, mul-le-mul-right m l)) unit-pos
 
-pub within : (k : ℕ) {y : Float} {f : Fraction} {z : ℤ} {E : ℕ} → Is z (f .more) (f .less) → Near y f E → E * 2 ^ k ≤ unit → Within k y z (f .parts)
+pub within : (k : ℕ) {y : Float} {f : Fraction} {z : ℤ} {E : ℕ} → Is z (f .more) (f .less) → NearFraction y f E → E * 2 ^ k ≤ unit → WithinSum k y z (f .parts)
 within k {y} {f} {z} {E} h n l =
     let v = value y in
     let d = is-less (is-times (f .parts) (is-top y)) (is-times (v .parts) h) in
     let s = small _ (v .more * f .parts + f .less * v .parts) (v .less * f .parts + f .more * v .parts) (E * (f .parts * v .parts)) d (omega (arith, n .close .upper)) (omega (arith, n .close .lower)) in
     record { real = n .real; near = rw (bottom-is y) (counted (2 ^ k) _ E (f .parts * v .parts) s l) }
 
-pub wider : {j k : ℕ} {y : Float} {z : ℤ} {w : ℕ} → j ≤ k → Within k y z w → Within j y z w
+pub wider : {j k : ℕ} {y : Float} {z : ℤ} {w : ℕ} → j ≤ k → WithinSum k y z w → WithinSum j y z w
 wider l h = record { real = h .real; near = le-trans (mul-le-mul-right _ (pow-mono l)) (h .near) }

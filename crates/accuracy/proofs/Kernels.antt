@@ -15,7 +15,7 @@ use Rattle.float64.proofs.Limits.{within-limits}
 use Rattle.float64.proofs.Within.{Within}
 use Rattle.accuracy.specs.Accuracy.{Moderate}
 use Rattle.accuracy.proofs.Fractions.{Fraction, _⊞_, _⊠_, unity, unit, Close, itself, looser, turned, through, Same, written, sum, times, beside, Sized, sized-times}
-use Rattle.accuracy.proofs.Rounding.{value, Near}
+use Rattle.accuracy.proofs.Rounding.{value, NearFraction}
 use Rattle.accuracy.proofs.Expressions.{Expr, var, _⊗_, Known, run, exact, units, units-enough, bound, error, fine, known}
 use Rattle.accuracy.proofs.Series.{Term, plus}
 use Rattle.accuracy.proofs.Polynomials.{polynomial, in-front, horner, row, rows, added, taken, near, horner-near}
@@ -112,7 +112,7 @@ module _ (i : Inputs) where
   knows : (e : Expr Input) → T (fine sizes e) → Known (run floats e) (exact of e) (bound sizes e) (error sizes e)
   knows e t = known floats of sizes given e t
 
-  pub run-near : (e : Expr Input) → T (fine sizes e) → {f : Fraction} {E G : ℕ} → Close (exact of e) f E → error sizes e + E ≤ G → Near (run floats e) f G
+  pub run-near : (e : Expr Input) → T (fine sizes e) → {f : Fraction} {E G : ℕ} → Close (exact of e) f E → error sizes e + E ≤ G → NearFraction (run floats e) f G
   run-near e t c l = let k = knows e t in record { real = k .near .real; close = looser l (through (k .near .close) c) }
 
   z-sized : Sized (exact of z) (bound sizes z)

@@ -21,7 +21,7 @@ use Rattle.accuracy.specs.Accuracy.{top, _!, sineSum, SineWithin}
 use Rattle.accuracy.specs.Accuracy as Accuracy
 use Rattle.accuracy.proofs.Algebra.{flat, ring, sorted, square-power}
 use Rattle.accuracy.proofs.Fractions.{Fraction, _⊞_, _⊠_, unity, unit, Close, looser, through, Same, scaled, written, times, same-close}
-use Rattle.accuracy.proofs.Rounding.{signed, value, Near}
+use Rattle.accuracy.proofs.Rounding.{signed, value, NearFraction}
 use Rattle.accuracy.proofs.Expressions.{Expr, var, _⊕_, _⊗_, run, exact, units, units-enough, bound, error, fine}
 use Rattle.accuracy.proofs.Forms.{poly}
 use Rattle.accuracy.proofs.Series.{rise, fall, from, terms, fall-is, side, side-is}
@@ -70,11 +70,11 @@ module _ (a : Float) (h : Within a 3 4) where
   exact-near : Close (exact (of i) code) (series (value a)) (0 + units (sizes x * tenOff kernel))
   exact-near = through (same-close (taken-out (value a) (exact (of i) (horner z S1 higher)))) (times (given i x .sized) (ten-near i kernel) (units-enough (sizes x * tenOff kernel)))
 
-  code-near : Near (run (floats i) code) (series (value a)) (2 ^ 13)
+  code-near : NearFraction (run (floats i) code) (series (value a)) (2 ^ 13)
   unfolding bound error unit ofBits size
   code-near = run-near i code code-fine exact-near (lit≤ tt)
 
-  tiny-near : Within a 1 (2 ^ 26) → Near a (series (value a)) (2 ^ 13)
+  tiny-near : Within a 1 (2 ^ 26) → NearFraction a (series (value a)) (2 ^ 13)
   unfolding unit
   tiny-near t =
       let k = exactly a 1 (2 ^ 26) (2 ^ 38) (lit< tt) (lit≤ tt) t in
@@ -112,15 +112,15 @@ series-stated true A D p =
 
 -- ---- which way sin takes
 module _ (s : Bool) (m : ℕ) (e : ℤ) (h : Within (fin s m e) 3 4) where
-  kernel-near : Near (kernelSinOf (fin s m e) KTan.zero false) (series (value (fin s m e))) (2 ^ 13)
+  kernel-near : NearFraction (kernelSinOf (fin s m e) KTan.zero false) (series (value (fin s m e))) (2 ^ 13)
   unfolding kernelSinOf
   kernel-near = by-word (ltb (highOf (fin s m e)) 0x3e40_0000) (high-tiny s m e h)
     where
-      by-word : (b : Bool) → (T b → Within (fin s m e) 1 (2 ^ 26)) → Near (cond b (fin s m e) (run (floats (i (fin s m e) h)) code)) (series (value (fin s m e))) (2 ^ 13)
+      by-word : (b : Bool) → (T b → Within (fin s m e) 1 (2 ^ 26)) → NearFraction (cond b (fin s m e) (run (floats (i (fin s m e) h)) code)) (series (value (fin s m e))) (2 ^ 13)
       by-word true t = tiny-near (fin s m e) h (t tt)
       by-word false t = code-near (fin s m e) h
 
-  sine-near : Near (sinOf (fin s m e)) (stated s (m * up e) (down e) (down-pos e)) (2 ^ 13)
+  sine-near : NearFraction (sinOf (fin s m e)) (stated s (m * up e) (down e) (down-pos e)) (2 ^ 13)
   unfolding sinOf
   sine-near =
       let n = kernel-near in

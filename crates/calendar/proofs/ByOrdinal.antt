@@ -3,14 +3,14 @@ use mathlib.Core.Path.{_≡_, refl, ap, _∙_, subst}
 use mathlib.Core.Bool.{Bool, true, false, cond}
 use Prim.Native.Nat.{_+_, _-_, _≤_, _<_}
 use native.Mathlib.Omega.{arith}
-use borrow.Author.Tests.{le-leb, lt-leb}
-use Rattle.calendar.specs.Gregorian.{dateOf, existsOf, dayAfterOf, dayBeforeOf}
-use Rattle.calendar.specs.Days.{daysInYearOf, daysBeforeYearOf, ordinalOf, ofOrdinalOf}
-use Rattle.calendar.specs.Answers.{heldOf, fromOf, tomorrowOf, yesterdayOf}
+use borrow.Author.Tests.{le-leb}
+use Rattle.calendar.specs.Gregorian.{dateOf, existsOf, dayBeforeOf}
+use Rattle.calendar.specs.Days.{daysBeforeYearOf, ordinalOf, ofOrdinalOf}
+use Rattle.calendar.specs.Answers.{heldOf, fromOf, yesterdayOf}
 use Rattle.calendar.specs.declared.dates.Date.{Date}
 use Rattle.calendar.proofs.YearSteps.{year-step}
 use Rattle.calendar.proofs.Existing.{ordinal-within, ordinal-forth, count-injective}
-use Rattle.calendar.proofs.Neighbours.{after, before, new-year, year-end}
+use Rattle.calendar.proofs.Neighbours.{before, new-year, year-end}
 use Rattle.calendar.proofs.CalendarLaws.{ordinal-first, ordinal-last}
 
 -- ---- what is answered of a date, and of its neighbours

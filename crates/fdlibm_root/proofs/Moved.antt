@@ -6,12 +6,12 @@ use native.Mathlib.Numerals.{add-one}
 use native.Mathlib.Omega.{arith}
 use lib.Pow.{pow-add, pow-mono}
 
-pub record Moved (t d k : ℕ) : Type 0 where
+pub record Shifted53 (t d k : ℕ) : Type 0 where
   pub is : d ≡ t * 2 ^ k
   pub small : d < 2 ^ 53
   pub places : k ≤ 52
 
-pub move : (t d k : ℕ) → 0 < t → Moved t d k → d < 2 ^ 52 → Moved t (d * 2) (k + 1)
+pub move : (t d k : ℕ) → 0 < t → Shifted53 t d k → d < 2 ^ 52 → Shifted53 t (d * 2) (k + 1)
 move t d k h moved more =
     let least : 1 * 2 ^ k ≤ t * 2 ^ k = mul-le-mul-right (2 ^ k) h in let far : 52 ≤ k → ⊥ = λ g. lost (2 ^ k) (pow-mono g) least in
     record {
@@ -23,7 +23,7 @@ move t d k h moved more =
     lost : (w : ℕ) → 2 ^ 52 ≤ w → 1 * w ≤ t * 2 ^ k → ⊥
     lost w g least = omega (arith, moved .is)
 
-pub moved-same : (t d k : ℕ) → Moved t d k → d * 2 ^ (1024 - k - 898) ≡ t * 2 ^ 126
+pub moved-same : (t d k : ℕ) → Shifted53 t d k → d * 2 ^ (1024 - k - 898) ≡ t * 2 ^ 126
 moved-same t d k moved =
     let exponent : k + (1024 - k - 898) ≡ 126 = omega (arith, moved .places) in
     ap (λ (z : ℕ). z * 2 ^ (1024 - k - 898)) (moved .is)

@@ -9,7 +9,7 @@ use lib.Arith.{lt-of-le-ne}
 use lib.Pow.{pow-add, pow-pos, pow-mono, shl-lt}
 use lib.Ieee.{Float, fin, binary64, up, down, size, nearest, units, round, fits, toBits, ofBits}
 use lib.Ieee.Digits.{size-lt, size-le}
-use lib.Ieee.Fits.{round-is, round-fits, down-pos}
+use lib.Ieee.Fits.{round-is, down-pos}
 use lib.Ieee.Nearest.{closest, closest-same}
 use lib.Ieee.Exact.{HasValue, units-val}
 use lib.Ieee.Bits.{ofBits-toBits}

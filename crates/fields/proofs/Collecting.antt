@@ -1,11 +1,10 @@
 -- What one walk over the fields of an order collects is what the definitions find tag by tag, and what it has collected says which tags stand
 -- before the field that it has come to. Assumes nothing.
 use native.Mathlib.Omega.{arith}
-use native.Mathlib.Numerals.{add-one}
 use Prim.Native.Nat.{ℕ, zero, suc, _≤_, _<_, _+_, _-_}
 use mathlib.Core.Path.{_≡_, refl, sym, ap, _∙_}
 use mathlib.Core.Bool.{Bool, true, false, cond}
-use mathlib.Core.List.{List, []}
+use mathlib.Core.List.{List}
 use lib.ListN.{length, take, drop, getD, set, replicate, getD-replicate, length-set, List·getD-eq-default, take-append-drop}
 use lib.Seq.{ext-getD, getD-set-same, getD-set-other, take-append-seam}
 use lib.Dec.{ltb, eqb}
@@ -15,9 +14,9 @@ use Rattle.refusals.specs.declared.Refusal.{Refusal}
 use Rattle.fields.specs.declared.values.Checked.{Checked}
 use Rattle.fields.specs.declared.values.Fields.{Fields}
 use Rattle.fields.specs.Numbers.{byteOf, unsignedOf}
-use Rattle.fields.specs.Tags.{tags, lastTag, knownTag}
-use Rattle.fields.specs.Fields.{lengthAt, after, firstBefore, faultIn, faultOf, walkOf, checkOf}
-use Rattle.fields.specs.Values.{offsetOf, hasOf, valueOf, startOf, valuesOf, partFor, hasIn, valuesIn, byTag, fieldsOf, noFields, checkedOf}
+use Rattle.fields.specs.Tags.{tags, knownTag}
+use Rattle.fields.specs.Fields.{lengthAt, nextFieldAt, firstBefore, faultIn, faultOf, walkOf, checkOf}
+use Rattle.fields.specs.Values.{offsetOf, hasOf, valueOf, valueStartOf, valuesOf, partFor, hasIn, valuesIn, byTag, fieldsOf, noFields, checkedOf}
 use Rattle.fields.proofs.FieldsLaws.{Good, fault-none, walk-good, has-good, known-last, length-short, whole-length, value-missing}
 use Rattle.fields.proofs.Walking.{find-here, find-on, find-none, walk-stop, walk-on, walk-end}
 
@@ -26,9 +25,9 @@ use Rattle.fields.proofs.Walking.{find-here, find-on, find-none, walk-s
 find-from : (k : ℕ) (s : List ℕ) (tag at stop low : ℕ) → low ≤ at → low ≤ stop → low ≤ firstBefore k s tag at stop
 unfolding firstBefore
 find-from zero s tag at stop low h l = l
-find-from (suc k) s tag at stop low h l = go (ltb at stop) (eqb (byteOf s at) tag) (find-from k s tag (after s at) stop low (omega arith) l)
+find-from (suc k) s tag at stop low h l = go (ltb at stop) (eqb (byteOf s at) tag) (find-from k s tag (nextFieldAt s at) stop low (omega arith) l)
   where
-    go : (a c : Bool) → low ≤ firstBefore k s tag (after s at) stop → low ≤ cond a (cond c at (firstBefore k s tag (after s at) stop)) stop
+    go : (a c : Bool) → low ≤ firstBefore k s tag (nextFieldAt s at) stop → low ≤ cond a (cond c at (firstBefore k s tag (nextFieldAt s at) stop)) stop
     go false c f = l
     go true true f = h
     go true false f = f
@@ -39,18 +38,18 @@ find-sooner : (k : ℕ) (s : List ℕ) (tag at stop far : ℕ) → stop ≤ far 
 unfolding firstBefore
 find-sooner zero s tag at stop far l h = absurd (omega arith)
 find-sooner (suc k) s tag at stop far l h =
-    go (ltb at far) (eqb (byteOf s at) tag) (ltb at stop) refl (λ g. find-sooner k s tag (after s at) stop far l g) h
+    go (ltb at far) (eqb (byteOf s at) tag) (ltb at stop) refl (λ g. find-sooner k s tag (nextFieldAt s at) stop far l g) h
   where
     go : (a c b : Bool) → ltb at stop ≡ b
-        → (firstBefore k s tag (after s at) far < stop → firstBefore k s tag (after s at) stop ≡ firstBefore k s tag (after s at) far)
-        → cond a (cond c at (firstBefore k s tag (after s at) far)) far < stop
-        → cond b (cond c at (firstBefore k s tag (after s at) stop)) stop ≡ cond a (cond c at (firstBefore k s tag (after s at) far)) far
+        → (firstBefore k s tag (nextFieldAt s at) far < stop → firstBefore k s tag (nextFieldAt s at) stop ≡ firstBefore k s tag (nextFieldAt s at) far)
+        → cond a (cond c at (firstBefore k s tag (nextFieldAt s at) far)) far < stop
+        → cond b (cond c at (firstBefore k s tag (nextFieldAt s at) stop)) stop ≡ cond a (cond c at (firstBefore k s tag (nextFieldAt s at) far)) far
     go false c b e on h = absurd (omega arith)
     go true true true e on h = refl
     go true true false e on h = absurd (omega (arith, ltb-false at stop e))
     go true false true e on h = on h
     go true false false e on h =
-        absurd (omega (arith, find-from k s tag (after s at) far stop (omega (arith, ltb-false at stop e)) l))
+        absurd (omega (arith, find-from k s tag (nextFieldAt s at) far stop (omega (arith, ltb-false at stop e)) l))
 
 -- with more to search, it is found where it is with less
 find-farther : (k : ℕ) (s : List ℕ) (tag at stop far : ℕ) → stop ≤ far → firstBefore k s tag at stop < stop
@@ -58,12 +57,12 @@ find-farther : (k : ℕ) (s : List ℕ) (tag at stop far : ℕ) → stop ≤ far
 unfolding firstBefore
 find-farther zero s tag at stop far l h = absurd (omega arith)
 find-farther (suc k) s tag at stop far l h =
-    go (ltb at stop) refl (eqb (byteOf s at) tag) (λ g. find-farther k s tag (after s at) stop far l g) h
+    go (ltb at stop) refl (eqb (byteOf s at) tag) (λ g. find-farther k s tag (nextFieldAt s at) stop far l g) h
   where
     go : (b : Bool) → ltb at stop ≡ b → (c : Bool)
-        → (firstBefore k s tag (after s at) stop < stop → firstBefore k s tag (after s at) far ≡ firstBefore k s tag (after s at) stop)
-        → cond b (cond c at (firstBefore k s tag (after s at) stop)) stop < stop
-        → cond (ltb at far) (cond c at (firstBefore k s tag (after s at) far)) far ≡ cond b (cond c at (firstBefore k s tag (after s at) stop)) stop
+        → (firstBefore k s tag (nextFieldAt s at) stop < stop → firstBefore k s tag (nextFieldAt s at) far ≡ firstBefore k s tag (nextFieldAt s at) stop)
+        → cond b (cond c at (firstBefore k s tag (nextFieldAt s at) stop)) stop < stop
+        → cond (ltb at far) (cond c at (firstBefore k s tag (nextFieldAt s at) far)) far ≡ cond b (cond c at (firstBefore k s tag (nextFieldAt s at) stop)) stop
     go false e c on h = absurd (omega arith)
     go true e true on h = simp (lt-ltb at far (omega (arith, ltb-true at stop e)))
     go true e false on h = simp (lt-ltb at far (omega (arith, ltb-true at stop e)), on h)
@@ -147,7 +146,7 @@ module _ (s : List ℕ) (at : ℕ) (starts lengths : List ℕ) (c : Collected s 
   fault-here tag size n again t z a e = e ∙ rw (a, t, z) fault-collected
 
   module _ (l : at < length s) (f : faultOf s at ≡ 0) where
-    here : (j : ℕ) × (c .left ≡ suc j) × (walkOf (c .left) s at ≡ walkOf j s (after s at))
+    here : (j : ℕ) × (c .left ≡ suc j) × (walkOf (c .left) s at ≡ walkOf j s (nextFieldAt s at))
     here = walk-on (c .left) s at (faultOf s at) (c .enough) l refl f
 
     good : Good s at
@@ -168,7 +167,7 @@ module _ (s : List ℕ) (at : ℕ) (starts lengths : List ℕ) (c : Collected s 
 
     -- what is kept once it is passed: its own tag, and another
     abbrev Next : ℕ → Type 0
-    Next tag = Kept s (here .0) (after s at) tag (getD (set starts (byteOf s at) (at + 3)) tag 0) (getD (set lengths (byteOf s at) (lengthAt s at)) tag 0)
+    Next tag = Kept s (here .0) (nextFieldAt s at) tag (getD (set starts (byteOf s at) (at + 3)) tag 0) (getD (set lengths (byteOf s at) (lengthAt s at)) tag 0)
 
     own : offsetOf s (byteOf s at) ≡ at → Next (byteOf s at)
     unfolding valueOf
@@ -208,8 +207,8 @@ module _ (s : List ℕ) (at : ℕ) (starts lengths : List ℕ) (c : Collected s 
         })
 
   -- at the end it is what the order gives by tag
-  ended : length s ≤ at → (tag start size : ℕ) → Kept s (c .left) at tag start size → (start ≡ startOf s tag) × (size ≡ length (valueOf s tag))
-  unfolding startOf hasOf
+  ended : length s ≤ at → (tag start size : ℕ) → Kept s (c .left) at tag start size → (start ≡ valueStartOf s tag) × (size ≡ length (valueOf s tag))
+  unfolding valueStartOf hasOf
   ended end tag start size (ahead p q r) =
       let n = find-none (c .left) s tag at (length s) end in
       let no : ltb (offsetOf s tag) (length s) ≡ false = le-ltb (offsetOf s tag) (length s) (omega arith) in
@@ -220,7 +219,7 @@ module _ (s : List ℕ) (at : ℕ) (starts lengths : List ℕ) (c : Collected s 
 
   pub collect-all : length s ≤ at → _≡_ {A = Fields} (record { at = starts; length = lengths }) (fieldsOf s)
   collect-all end =
-      let a = ext-getD 0 starts (byTag (startOf s) (length tags) 0) (c .sizes .0 ∙ sym (by-tag-length (startOf s) (length tags) 0)) (λ tag l. given tag l .0) in
+      let a = ext-getD 0 starts (byTag (valueStartOf s) (length tags) 0) (c .sizes .0 ∙ sym (by-tag-length (valueStartOf s) (length tags) 0)) (λ tag l. given tag l .0) in
       let b = ext-getD 0 lengths (byTag (λ t. length (valueOf s t)) (length tags) 0) (c .sizes .1 ∙ sym (by-tag-length (λ t. length (valueOf s t)) (length tags) 0)) (λ tag l. given tag (omega (arith, c .sizes .0, c .sizes .1)) .1) in
       λ i. record { at = a i; length = b i }
     where
@@ -228,7 +227,7 @@ module _ (s : List ℕ) (at : ℕ) (starts lengths : List ℕ) (c : Collected s 
       given tag l =
           let t : tag < length tags = omega (arith, c .sizes .0) in
           let e = ended end tag (getD starts tag 0) (getD lengths tag 0) (c .kept tag t) in
-          (e .0 ∙ sym (tagged (startOf s) tag t), e .1 ∙ sym (tagged (λ x. length (valueOf s x)) tag t))
+          (e .0 ∙ sym (tagged (valueStartOf s) tag t), e .1 ∙ sym (tagged (λ x. length (valueOf s x)) tag t))
 
   -- what refuses the field here refuses the order; at the end nothing does; and where nothing refuses the order, nothing refuses the field here
   pub refused-here : (n : ℕ) → at < length s → n ≡ faultOf s at → (n ≡ 0 → ⊥) → checkOf s ≡ refusal n at
@@ -260,8 +259,8 @@ take-taken : (n : ℕ) (s : List ℕ) → take (length (take n s)) s ≡ take n 
 take-taken n s = ap (take (length (take n s))) (sym (take-append-drop n s)) ∙ take-append-seam (take n s) (drop n s)
 
 -- a tag's value is what its start and its length mark
-pub part-same : (s : List ℕ) (tag : ℕ) → take (length (valueOf s tag)) (drop (startOf s tag) s) ≡ valueOf s tag
-unfolding startOf valueOf
+pub part-same : (s : List ℕ) (tag : ℕ) → take (length (valueOf s tag)) (drop (valueStartOf s tag) s) ≡ valueOf s tag
+unfolding valueStartOf valueOf
 part-same s tag = go (hasOf s tag) refl
   where
     go : (b : Bool) → hasOf s tag ≡ b → take (length (valueOf s tag)) (drop (cond b (offsetOf s tag + 3) 0) s) ≡ valueOf s tag
@@ -277,15 +276,15 @@ module _ (s : List ℕ) (e : checkOf s .number ≡ 0) where
       go true q = let g = has-good s tag e q in absurd (omega (arith, known-last (byteOf s (offsetOf s tag)) (g .0 .known), g .1))
       go false q = refl
 
-  starts : (tag : ℕ) → getD (fieldsOf s .at) tag 0 ≡ startOf s tag
-  unfolding startOf
-  starts = at-tag (startOf s) (λ tag h. simp (beyond tag h))
+  starts : (tag : ℕ) → getD (fieldsOf s .at) tag 0 ≡ valueStartOf s tag
+  unfolding valueStartOf
+  starts = at-tag (valueStartOf s) (λ tag h. simp (beyond tag h))
 
   lengths : (tag : ℕ) → getD (fieldsOf s .length) tag 0 ≡ length (valueOf s tag)
   lengths = at-tag (λ tag. length (valueOf s tag)) (λ tag h. ap (length {A = ℕ}) (value-missing s tag (beyond tag h)))
 
-  has-same : (tag : ℕ) → ltb 0 (startOf s tag) ≡ hasOf s tag
-  unfolding startOf
+  has-same : (tag : ℕ) → ltb 0 (valueStartOf s tag) ≡ hasOf s tag
+  unfolding valueStartOf
   has-same tag = go (hasOf s tag)
     where
       go : (b : Bool) → ltb 0 (cond b (offsetOf s tag + 3) 0) ≡ b

@@ -14,7 +14,7 @@ use Rattle.refusals.specs.declared.Refusal.{Refusal}
 use Rattle.fields.specs.declared.tags.Row.{Row}
 use Rattle.fields.specs.Numbers.{byteOf}
 use Rattle.fields.specs.Tags.{tags, lastTag, column, knownTag, lengthFits}
-use Rattle.fields.specs.Fields.{lengthAt, after, firstBefore, valueFaultOf, faultIn, faultOf, walkOf, checkOf}
+use Rattle.fields.specs.Fields.{lengthAt, nextFieldAt, firstBefore, valueFaultOf, faultIn, faultOf, walkOf, checkOf}
 use Rattle.fields.specs.Values.{offsetOf, hasOf, valueOf}
 
 -- ---- the table's limits
@@ -73,7 +73,7 @@ pub record Good (s : List ℕ) (at : ℕ) : Type 0 where
   pub known : knownTag (byteOf s at) ≡ true
   pub new : at ≤ firstBefore (length s) s (byteOf s at) 0 at
   pub fits : lengthFits (byteOf s at) (lengthAt s at) ≡ true
-  pub whole : after s at ≤ length s
+  pub whole : nextFieldAt s at ≤ length s
 
 pub fault-none : (s : List ℕ) (at : ℕ) → faultOf s at ≡ 0 → Good s at
 unfolding faultOf faultIn valueFaultOf
@@ -91,12 +91,12 @@ fault-none s at e =
 
 -- a walk that refuses nothing: its first field is good, and so is the walk from the next on
 pub walk-good : (k : ℕ) (s : List ℕ) (at : ℕ) → at < length s → walkOf (suc k) s at .number ≡ 0
-    → (faultOf s at ≡ 0) × (walkOf k s (after s at) .number ≡ 0)
+    → (faultOf s at ≡ 0) × (walkOf k s (nextFieldAt s at) .number ≡ 0)
 unfolding walkOf
 walk-good k s at l e = go (eqb (faultOf s at) 0) refl (simp (lt-ltb at (length s) l) at e)
   where
-    go : (b : Bool) → eqb (faultOf s at) 0 ≡ b → cond b (walkOf k s (after s at)) (refusal (faultOf s at) at) .number ≡ 0
-        → (faultOf s at ≡ 0) × (walkOf k s (after s at) .number ≡ 0)
+    go : (b : Bool) → eqb (faultOf s at) 0 ≡ b → cond b (walkOf k s (nextFieldAt s at)) (refusal (faultOf s at) at) .number ≡ 0
+        → (faultOf s at ≡ 0) × (walkOf k s (nextFieldAt s at) .number ≡ 0)
     go true h e = (eqb-true (faultOf s at) 0 h, e)
     go false h e = absurd (eqb-false (faultOf s at) 0 h e)
 
@@ -118,14 +118,14 @@ find-good : (k : ℕ) (s : List ℕ) (tag at : ℕ) → walkOf k s at .number �
     → (faultOf s (firstBefore k s tag at (length s)) ≡ 0) × (byteOf s (firstBefore k s tag at (length s)) ≡ tag)
 unfolding firstBefore
 find-good zero s tag at e h = absurd (omega arith)
-find-good (suc k) s tag at e h = go (ltb at (length s)) refl (eqb (byteOf s at) tag) refl (λ w l. find-good k s tag (after s at) w l) h
+find-good (suc k) s tag at e h = go (ltb at (length s)) refl (eqb (byteOf s at) tag) refl (λ w l. find-good k s tag (nextFieldAt s at) w l) h
   where
     go : (a : Bool) → ltb at (length s) ≡ a → (b : Bool) → eqb (byteOf s at) tag ≡ b
-        → (walkOf k s (after s at) .number ≡ 0 → firstBefore k s tag (after s at) (length s) < length s
-        → (faultOf s (firstBefore k s tag (after s at) (length s)) ≡ 0) × (byteOf s (firstBefore k s tag (after s at) (length s)) ≡ tag))
-        → cond a (cond b at (firstBefore k s tag (after s at) (length s))) (length s) < length s
-        → (faultOf s (cond a (cond b at (firstBefore k s tag (after s at) (length s))) (length s)) ≡ 0)
-        × (byteOf s (cond a (cond b at (firstBefore k s tag (after s at) (length s))) (length s)) ≡ tag)
+        → (walkOf k s (nextFieldAt s at) .number ≡ 0 → firstBefore k s tag (nextFieldAt s at) (length s) < length s
+        → (faultOf s (firstBefore k s tag (nextFieldAt s at) (length s)) ≡ 0) × (byteOf s (firstBefore k s tag (nextFieldAt s at) (length s)) ≡ tag))
+        → cond a (cond b at (firstBefore k s tag (nextFieldAt s at) (length s))) (length s) < length s
+        → (faultOf s (cond a (cond b at (firstBefore k s tag (nextFieldAt s at) (length s))) (length s)) ≡ 0)
+        × (byteOf s (cond a (cond b at (firstBefore k s tag (nextFieldAt s at) (length s))) (length s)) ≡ tag)
     go false ha b hb on h = absurd (omega arith)
     go true ha true hb on h = (walk-good k s at (ltb-true at (length s) ha) e .0, eqb-true (byteOf s at) tag hb)
     go true ha false hb on h = on (walk-good k s at (ltb-true at (length s) ha) e .1) h
@@ -138,7 +138,7 @@ has-good s tag e h =
     (fault-none s (firstBefore (length s) s tag 0 (length s)) (f .0), f .1)
 
 -- the value of a whole field has the length that the field says
-pub whole-length : (s : List ℕ) (at : ℕ) → after s at ≤ length s → length (take (lengthAt s at) (drop (at + 3) s)) ≡ lengthAt s at
+pub whole-length : (s : List ℕ) (at : ℕ) → nextFieldAt s at ≤ length s → length (take (lengthAt s at) (drop (at + 3) s)) ≡ lengthAt s at
 whole-length s at h =
     let d = length-drop (at + 3) s in
     length-take (lengthAt s at) (drop (at + 3) s) ∙ omega arith
@@ -171,10 +171,10 @@ walk-small : (k : ℕ) (s : List ℕ) (at : ℕ) → walkOf k s at .number ≤ 3
 unfolding walkOf
 walk-small zero s at = lit≤ tt
 walk-small (suc k) s at =
-    let next = walkOf k s (after s at) in
+    let next = walkOf k s (nextFieldAt s at) in
     let one = refusal (faultOf s at) at in
     most-number (ltb at (length s)) (cond (eqb (faultOf s at) 0) next one) noRefusal 3
-    (most-number (eqb (faultOf s at) 0) next one 3 (walk-small k s (after s at)) (fault-small s at)) (lit≤ tt)
+    (most-number (eqb (faultOf s at) 0) next one 3 (walk-small k s (nextFieldAt s at)) (fault-small s at)) (lit≤ tt)
 
 pub check-small : (s : List ℕ) → checkOf s .number ≤ 3
 unfolding checkOf

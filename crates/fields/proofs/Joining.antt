@@ -12,10 +12,10 @@ use borrow.Author.Tests.{lt-ltb, le-ltb}
 use mir.Syntax.{w32}
 use mir.Val.{toZ, ofZ, SFits}
 use mir.Facts.{toZ-pos, toZ-ofZ}
-use Rattle.fields.specs.Numbers.{byteOf, unsignedOf, signedOf, joinedOf}
+use Rattle.fields.specs.Numbers.{byteOf, unsignedOf, signedAtOf, bytesNumberOf}
 
-pub join-on : (v : List ℕ) (i : ℕ) → joinedOf (i + 1) v ≡ joinedOf i v * 256 + byteOf v i
-unfolding joinedOf
+pub join-on : (v : List ℕ) (i : ℕ) → bytesNumberOf (i + 1) v ≡ bytesNumberOf i v * 256 + byteOf v i
+unfolding bytesNumberOf
 join-on v i = rw add-one
 
 -- a shift by a byte and an or put a byte behind fewer than eight
@@ -35,10 +35,10 @@ pub less-fits : (x : ℕ) → x < 65536 → SFits w32 (toZ w32 x -ℤ pos 65536)
 less-fits x h = rw (toZ-pos w32 {n = x} (omega arith)) (rw (lt-ltb x 65536 h) (record { sfits = omega arith }))
 
 module _ (v : List ℕ) (at x : ℕ) (is-x : x ≡ unsignedOf v at) where
-  pub signed-low : x < 32768 → toZ w32 x ≡ signedOf v at
-  unfolding signedOf
+  pub signed-low : x < 32768 → toZ w32 x ≡ signedAtOf v at
+  unfolding signedAtOf
   signed-low h = toZ-pos w32 {n = x} (omega arith) ∙ simp (sym is-x, lt-ltb _ _ h)
 
-  pub signed-high : x < 65536 → 32768 ≤ x → toZ w32 (ofZ w32 (toZ w32 x -ℤ pos 65536)) ≡ signedOf v at
-  unfolding signedOf
+  pub signed-high : x < 65536 → 32768 ≤ x → toZ w32 (ofZ w32 (toZ w32 x -ℤ pos 65536)) ≡ signedAtOf v at
+  unfolding signedAtOf
   signed-high u h = toZ-ofZ (less-fits x u) ∙ rw (toZ-pos w32 {n = x} (omega arith)) (simp (sym is-x, le-ltb _ _ h))

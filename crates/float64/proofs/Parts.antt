@@ -1,6 +1,6 @@
 -- What the three definitions of specs/Whole.antt have in common: a number with no fraction is its own result, and two of them are odd. Assumes nothing.
 use mathlib.Core.Path.{_≡_, refl, sym, ap, _∙_}
-use Prim.Native.Nat.{ℕ, suc, _+_, _*_, _%_, _^_, _≤_, _<_}
+use Prim.Native.Nat.{ℕ, suc, _+_, _*_, _%_, _^_, _≤_}
 use native.Mathlib.Nat.{zero-mod, mod-one, div-add-mod'}
 use native.Mathlib.Omega.{arith}
 use mathlib.Core.Bool.{Bool, true, false, cond, false≢true}

@@ -1,6 +1,6 @@
 -- The laws of the calendar: the formulas of Days give the calendar of Rule, in every year from 1 on. Assumes nothing.
 -- first-day and day-after give every date's number by the rule alone; the last two say that dates and day numbers give each other.
-use mathlib.Core.Path.{_≡_, refl, ap, subst}
+use mathlib.Core.Path.{_≡_, refl, ap}
 use mathlib.Core.Bool.{Bool, true, false, cond}
 use Prim.Native.Nat.{_+_}
 use native.Mathlib.Omega.{arith}

@@ -13,8 +13,8 @@ use Rattle.text.proofs.TextLaws.{put-behind}
 use Rattle.joblog.specs.declared.records.State.{State}
 use Rattle.joblog.specs.declared.records.Reading.{Reading}
 use Rattle.joblog.specs.declared.records.Reading.the-variants.{Says, OutOfTurn}
-use Rattle.joblog.specs.Records.{state, recordAs, bytesOf, wholeOf, inTurn, afterOf, readingOf, compactedOf}
-use Rattle.joblog.specs.Calls.{refused, answered, Call, refusing, readAnswer, readLogOf, compactAnswer, compactingOf, newInTurn, writtenOf, appendedOf, appendOf, restartedOf, restartOf}
+use Rattle.joblog.specs.Records.{state, recordAs, bytesOf, wholeOf, inTurn, afterOf, logReadingOf, compactedOf}
+use Rattle.joblog.specs.Calls.{refused, answered, LogCall, refusing, readAnswer, readLogOf, compactAnswer, compactingOf, newInTurn, loggedOf, appendedOf, appendOf, restartedOf, restartOf}
 use Rattle.joblog.proofs.CompactLaws.{bytes-length, compacted-length}
 
 -- ---- compaction
@@ -44,17 +44,17 @@ put-with s tag page at second one two e a f room =
 
 -- ---- append
 module _ (s : State) (log : List ℕ) (used tag page : ℕ) (second : List ℕ) where
-  pub written-placed : wholeOf used + 5 ≤ length log → writtenOf s log used tag page second
+  pub written-placed : wholeOf used + 5 ≤ length log → loggedOf s log used tag page second
       ≡ record { answer = answered 0 (afterOf s (recordAs tag page)) (wholeOf used + 5); log = putOf log (wholeOf used) (bytesOf tag page); second = second }
-  unfolding writtenOf
+  unfolding loggedOf
   written-placed h = rw (le-leb (wholeOf used + 5) (length log) h)
 
   pub written-moved : length log < wholeOf used + 5
-      → writtenOf s log used tag page second ≡ compactingOf (afterOf s (recordAs tag page)) (compactedOf s ++ bytesOf tag page) page log second
-  unfolding writtenOf
+      → loggedOf s log used tag page second ≡ compactingOf (afterOf s (recordAs tag page)) (compactedOf s ++ bytesOf tag page) page log second
+  unfolding loggedOf
   written-moved h = rw (lt-leb (wholeOf used + 5) (length log) h)
 
-  pub appended-good : (x : Reading) → x ≡ Says s → newInTurn s tag page ≡ true → appendedOf x log used tag page second ≡ writtenOf s log used tag page second
+  pub appended-good : (x : Reading) → x ≡ Says s → newInTurn s tag page ≡ true → appendedOf x log used tag page second ≡ loggedOf s log used tag page second
   unfolding appendedOf
   appended-good x e h = rw (e, h)
 
@@ -68,7 +68,7 @@ unfolding appendedOf
 appended-not x p log used tag page second e = rw e
 
 pub append-fits : (log : List ℕ) (used tag page : ℕ) (second : List ℕ) → used ≤ length log
-    → appendOf log used tag page second ≡ appendedOf (readingOf (take used log)) log used tag page second
+    → appendOf log used tag page second ≡ appendedOf (logReadingOf (take used log)) log used tag page second
 unfolding appendOf
 append-fits log used tag page second h = rw (le-leb used (length log) h)
 
@@ -100,17 +100,17 @@ unfolding restartedOf
 restarted-any (OutOfTurn p) log count second = (refl, refl)
 restarted-any (Says s) log count second = by-test (leb (s .finished) count && leb count (s .sent))
   where
-    to : Bool → List ℕ → Call
+    to : Bool → List ℕ → LogCall
     to b l = cond b (compactingOf (state count (s .sent)) (compactedOf (state count (s .sent))) count l second) (refusing logCountOutside count l second)
 
     by-test : (b : Bool) → (to b [] .answer ≡ to b log .answer) × (to b [] .second ≡ to b log .second)
     by-test true = (refl, refl)
     by-test false = (refl, refl)
 
-pub restart-fits : (log : List ℕ) (used count : ℕ) (second : List ℕ) → used ≤ length log → restartOf log used count second ≡ restartedOf (readingOf (take used log)) log count second
+pub restart-fits : (log : List ℕ) (used count : ℕ) (second : List ℕ) → used ≤ length log → restartOf log used count second ≡ restartedOf (logReadingOf (take used log)) log count second
 unfolding restartOf
 restart-fits log used count second h = rw (le-leb used (length log) h)
 
-pub read-fits : (log : List ℕ) (used : ℕ) → used ≤ length log → readLogOf log used ≡ readAnswer used (readingOf (take used log))
+pub read-fits : (log : List ℕ) (used : ℕ) → used ≤ length log → readLogOf log used ≡ readAnswer used (logReadingOf (take used log))
 unfolding readLogOf
 read-fits log used h = rw (le-leb used (length log) h)

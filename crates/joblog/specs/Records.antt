@@ -64,8 +64,8 @@ unfoldable pub readOf : Bool → State → List Record → Reading
 readOf first s [] = Says s
 readOf first s (r ∷ rest) = cond (inTurn first s r) (readOf false (afterOf s r) rest) (OutOfTurn (r .page))
 
-abbrev pub readingOf : List ℕ → Reading
-readingOf log = readOf true (state 0 0) (recordsOf log)
+abbrev pub logReadingOf : List ℕ → Reading
+logReadingOf log = readOf true (state 0 0) (recordsOf log)
 
 -- ---- what compaction writes
 -- the sent records of the n pages after `page`

@@ -8,7 +8,7 @@ ghost use lib.ListN.{length};
 ghost use Rattle.text.specs.Text.{putOf};
 ghost use Rattle.joblog.specs.Records.{recordAs, bytesOf, wholeOf, afterOf, compactedOf};
 ghost use Rattle.joblog.specs.Parts.{Bounded};
-ghost use Rattle.joblog.specs.Calls.{refused, answered, readAnswer, readLogOf, compactAnswer, newInTurn, writtenOf, appendedOf, appendOf, restartedOf, restartOf};
+ghost use Rattle.joblog.specs.Calls.{refused, answered, readAnswer, readLogOf, compactAnswer, newInTurn, loggedOf, appendedOf, appendOf, restartedOf, restartOf};
 use super::records::Reading;
 use super::records::State;
 use super::records::after;
@@ -116,9 +116,9 @@ fn compact_with(s: State, tag: u32, page: u32, second: &mut [u8]) -> Log
 // The new record in its place, or into the second buffer where the log is full.
 fn write(s: State, log: &mut [u8], used: usize, tag: u32, page: u32, second: &mut [u8]) -> Log
     requires { ⌜ (s .finished ≤ 65535) × (s .sent ≤ 65535) × (tag ≤ 255) × (page ≤ 65535) × (used ≤ length (now log)) ⌝ }
-    ensures { λ r. ⌜ r ≡ writtenOf s (now (log .entry)) used tag page (now (second .entry)) .answer ⌝ }
-    ensures { λ _. ⌜ now (log .exit) ≡ writtenOf s (now (log .entry)) used tag page (now (second .entry)) .log ⌝ }
-    ensures { λ _. ⌜ now (second .exit) ≡ writtenOf s (now (log .entry)) used tag page (now (second .entry)) .second ⌝ }
+    ensures { λ r. ⌜ r ≡ loggedOf s (now (log .entry)) used tag page (now (second .entry)) .answer ⌝ }
+    ensures { λ _. ⌜ now (log .exit) ≡ loggedOf s (now (log .entry)) used tag page (now (second .entry)) .log ⌝ }
+    ensures { λ _. ⌜ now (second .exit) ≡ loggedOf s (now (log .entry)) used tag page (now (second .entry)) .second ⌝ }
 {
     let at = whole(used);
     if log.len() - at >= 5 {

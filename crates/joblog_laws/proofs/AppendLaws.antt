@@ -13,8 +13,8 @@ use Rattle.text.specs.Text.{putOf}
 use Rattle.joblog.specs.declared.records.State.{State}
 use Rattle.joblog.specs.declared.records.Reading.{Reading}
 use Rattle.joblog.specs.declared.records.Reading.the-variants.{Says, OutOfTurn}
-use Rattle.joblog.specs.Records.{state, recordAs, bytesOf, recordsOf, wholeOf, inTurn, afterOf, readingOf, compactedOf}
-use Rattle.joblog.specs.Calls.{Call, refused, refusing, answered, readAnswer, readLogOf, newInTurn, compactAnswer, compactingOf, writtenOf, appendedOf, appendOf, restartedOf, restartOf}
+use Rattle.joblog.specs.Records.{state, recordAs, bytesOf, recordsOf, wholeOf, inTurn, afterOf, logReadingOf, compactedOf}
+use Rattle.joblog.specs.Calls.{LogCall, refused, refusing, answered, readAnswer, readLogOf, newInTurn, compactAnswer, compactingOf, loggedOf, appendedOf, appendOf, restartedOf, restartOf}
 use Rattle.joblog.proofs.CompactLaws.{bytes-length, put-none}
 use Rattle.joblog.proofs.CallLaws.{with-length}
 use Rattle.joblog_laws.specs.Run.{inPlace}
@@ -23,7 +23,7 @@ use Rattle.joblog_laws.proofs.ReadingLaws.{read-ordered}
 use Rattle.joblog_laws.proofs.HeldLaws.{Held, held-read, put-read, put-held, cut-before, Outcome, refusal, placed, moved, append-outcome}
 
 -- ---- which bytes change
-Keeps : Call → List ℕ → List ℕ → Type 0
+Keeps : LogCall → List ℕ → List ℕ → Type 0
 Keeps c log second = (eqb (c .answer .number) 0 ≡ false → Unchanged c log second) × (inPlace c ≡ false → c .log ≡ log)
 
 compacting-keeps : (t : State) (text : List ℕ) (place : ℕ) (log second : List ℕ) → Keeps (compactingOf t text place log second) log second
@@ -36,8 +36,8 @@ compacting-keeps t text place log second = (by-room (leb (length text) (length s
     by-room false e n = (refl, put-none second text (leb-false (length text) (length second) e))
 
 append-keeps : (log : List ℕ) (used tag page : ℕ) (second : List ℕ) → Keeps (appendOf log used tag page second) log second
-unfolding Keeps appendOf appendedOf writtenOf
-append-keeps log used tag page second = by-size (leb used (length log)) (readingOf (take used log))
+unfolding Keeps appendOf appendedOf loggedOf
+append-keeps log used tag page second = by-size (leb used (length log)) (logReadingOf (take used log))
   where
     by-place : (s : State) (b : Bool)
         → Keeps
@@ -49,7 +49,7 @@ append-keeps log used tag page second = by-size (leb used (length log)) (reading
     by-place s true = (λ n. let z : _≡_ {A = ℕ} 0 1 = cc in absurd (omega arith), λ i. let z : _≡_ {A = ℕ} 0 1 = cc in absurd (omega arith))
     by-place s false = compacting-keeps (afterOf s (recordAs tag page)) (compactedOf s ++ bytesOf tag page) page log second
 
-    by-turn : (s : State) (b : Bool) → Keeps (cond b (writtenOf s log used tag page second) (refusing logOutOfTurn page log second)) log second
+    by-turn : (s : State) (b : Bool) → Keeps (cond b (loggedOf s log used tag page second) (refusing logOutOfTurn page log second)) log second
     by-turn s true = by-place s (leb (wholeOf used + 5) (length log))
     by-turn s false = (λ n. (refl, refl), λ i. refl)
 
@@ -61,9 +61,9 @@ append-keeps log used tag page second = by-size (leb used (length log)) (reading
 restart-keeps : (log : List ℕ) (used count : ℕ) (second : List ℕ)
     → (eqb (restartOf log used count second .answer .number) 0 ≡ false → Unchanged (restartOf log used count second) log second) × (restartOf log used count second .log ≡ log)
 unfolding Keeps restartOf restartedOf
-restart-keeps log used count second = by-size (leb used (length log)) (readingOf (take used log))
+restart-keeps log used count second = by-size (leb used (length log)) (logReadingOf (take used log))
   where
-    Left : Call → Type 0
+    Left : LogCall → Type 0
     Left c = (eqb (c .answer .number) 0 ≡ false → Unchanged c log second) × (c .log ≡ log)
 
     by-count : (s : State) (b : Bool)
@@ -88,7 +88,7 @@ first-buffer-stays log used second =
 
 -- ---- an append in the log's own place
 module _ (log : List ℕ) (used tag page : ℕ) (second : List ℕ) where
-  placedCall : State → Call
+  placedCall : State → LogCall
   placedCall s = record { answer = answered 0 (afterOf s (recordAs tag page)) (wholeOf used + 5); log = putOf log (wholeOf used) (bytesOf tag page); second = second }
 
   record Placed : Type 0 where
@@ -98,14 +98,14 @@ module _ (log : List ℕ) (used tag page : ℕ) (second : List ℕ) where
     pub room : wholeOf used + 5 ≤ length log
     pub is : appendOf log used tag page second ≡ placedCall says
 
-  by-outcome : (s : State) (c : Call) → Outcome log used s tag page second c → inPlace c ≡ true
+  by-outcome : (s : State) (c : LogCall) → Outcome log used s tag page second c → inPlace c ≡ true
       → (inTurn false s (recordAs tag page) ≡ true) × (wholeOf used + 5 ≤ length log) × (c ≡ placedCall s)
   unfolding placedCall
   by-outcome s c (refusal number after e) i = let z : _≡_ {A = ℕ} 0 1 = cc in absurd (omega arith)
   by-outcome s c (moved turn room) i = let z : _≡_ {A = ℕ} 0 1 = cc in absurd (omega arith)
   by-outcome s c (placed turn room) i = (turn, room, refl)
 
-  by-reading : inPlace (appendOf log used tag page second) ≡ true → (b : Bool) → leb used (length log) ≡ b → (x : Reading) → readingOf (take used log) ≡ x
+  by-reading : inPlace (appendOf log used tag page second) ≡ true → (b : Bool) → leb used (length log) ≡ b → (x : Reading) → logReadingOf (take used log) ≡ x
       → inPlace (cond b (appendedOf x log used tag page second) (refusing bufferShort 0 log second)) ≡ true → Placed
   unfolding appendedOf
   by-reading j false f x e i = let z : _≡_ {A = ℕ} 0 1 = cc in absurd (omega arith)
@@ -117,7 +117,7 @@ module _ (log : List ℕ) (used tag page : ℕ) (second : List ℕ) where
 
   in-place : inPlace (appendOf log used tag page second) ≡ true → Placed
   unfolding appendOf
-  in-place i = by-reading i (leb used (length log)) refl (readingOf (take used log)) refl i
+  in-place i = by-reading i (leb used (length log)) refl (logReadingOf (take used log)) refl i
 
 pub five-bytes-change : FiveBytesChange
 unfolding placedCall putOf
@@ -127,7 +127,7 @@ five-bytes-change log used tag page second i =
     let l : wholeOf used + length (bytesOf tag page) ≡ wholeOf used + 5 = omega arith in
     let put : putOf log (wholeOf used) (bytesOf tag page) ≡ take (wholeOf used) log ++ bytesOf tag page ++ drop (wholeOf used + 5) log =
     rw (l, le-leb (wholeOf used + 5) (length log) (p .room)) in
-    (ap (λ (c : Call). c .log) (p .is) ∙ put, ap (λ (c : Call). c .second) (p .is))
+    (ap (λ (c : LogCall). c .log) (p .is) ∙ put, ap (λ (c : LogCall). c .second) (p .is))
 
 -- ---- a cut at any byte
 cut-held : (log : List ℕ) (used tag page : ℕ) (second : List ℕ) (p : Placed log used tag page second) (k : ℕ) → k < 5
@@ -148,7 +148,7 @@ cut-read log used tag page second p k five false e =
     let k5 : k ≡ 5 = omega arith in
     let s = afterOf (p .says) (recordAs tag page) in
     rw k5 (held-read _ _ s (put-held log used (p .says) (p .held) tag page (p .turn) (p .room)) ∙ ap (answered 0 s) w)
-    ∙ sym (ap (λ (c : Call). c .answer) (p .is))
+    ∙ sym (ap (λ (c : LogCall). c .answer) (p .is))
 
 pub cut-at-any-byte : CutAtAnyByte
 cut-at-any-byte log used tag page second k i five = cut-read log used tag page second (in-place log used tag page second i) k five (ltb k 5) refl
@@ -175,11 +175,11 @@ put-over buffer x y at short room =
 -- an append on a log that can be read and is not full
 append-on : (log : List ℕ) (used : ℕ) (s : State) → Held log used s → wholeOf used + 5 ≤ length log → (tag page : ℕ) (second : List ℕ)
     → appendOf log used tag page second ≡ cond (newInTurn s tag page) (placedCall log used tag page second s) (refusing logOutOfTurn page log second)
-unfolding appendOf appendedOf writtenOf placedCall
+unfolding appendOf appendedOf loggedOf placedCall
 append-on log used s h room tag page second = rw (le-leb used (length log) (h .fits), h .reads, le-leb (wholeOf used + 5) (length log) room)
 
 module _ (log : List ℕ) (used tag page : ℕ) (second : List ℕ) (p : Placed log used tag page second) (k : ℕ) (short : k < 5) (tag' page' : ℕ) (second' : List ℕ) where
-  Same : Call → Call → Type 0
+  Same : LogCall → LogCall → Type 0
   Same next plain = (next .answer ≡ plain .answer) × (eqb (next .answer .number) 0 ≡ true → next .log ≡ plain .log)
 
   same-after : (b : Bool)
@@ -217,13 +217,13 @@ next-takes-its-place log used tag page second k i short tag' page' second' =
     next-same log used tag page second (in-place log used tag page second i) k short tag' page' second'
 
 -- ---- room for the open pages
-NotShort : Call → Type 0
+NotShort : LogCall → Type 0
 NotShort c = eqb (c .answer .number) logSecondShort ≡ false
 
-enough : (log : List ℕ) (used tag page : ℕ) (second : List ℕ) (b : Bool) (x : Reading) → leb used (length log) ≡ b → readingOf (take used log) ≡ x
+enough : (log : List ℕ) (used tag page : ℕ) (second : List ℕ) (b : Bool) (x : Reading) → leb used (length log) ≡ b → logReadingOf (take used log) ≡ x
     → 10 + 5 * (readLogOf log used .sent - readLogOf log used .finished) ≤ length second
     → NotShort (cond b (appendedOf x log used tag page second) (refusing bufferShort 0 log second))
-unfolding NotShort appendedOf readLogOf readAnswer writtenOf compactAnswer
+unfolding NotShort appendedOf readLogOf readAnswer loggedOf compactAnswer
 enough log used tag page second false x f e room = refl
 enough log used tag page second true (OutOfTurn p) f e room = refl
 enough log used tag page second true (Says s) f e room = by-turn (newInTurn s tag page)
@@ -242,10 +242,10 @@ enough log used tag page second true (Says s) f e room = by-turn (newInTurn s ta
     by-place true = refl
     by-place false = rw fits refl
 
-    by-turn : (b : Bool) → NotShort (cond b (writtenOf s log used tag page second) (refusing logOutOfTurn page log second))
+    by-turn : (b : Bool) → NotShort (cond b (loggedOf s log used tag page second) (refusing logOutOfTurn page log second))
     by-turn true = by-place (leb (wholeOf used + 5) (length log))
     by-turn false = refl
 
 pub room-is-enough : RoomIsEnough
 unfolding NotShort appendOf
-room-is-enough log used tag page second room = enough log used tag page second (leb used (length log)) (readingOf (take used log)) refl refl room
+room-is-enough log used tag page second room = enough log used tag page second (leb used (length log)) (logReadingOf (take used log)) refl refl room

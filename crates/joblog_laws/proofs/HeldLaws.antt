@@ -13,8 +13,8 @@ use Rattle.text.specs.Text.{putOf}
 use Rattle.joblog.specs.declared.records.State.{State}
 use Rattle.joblog.specs.declared.records.Record.{Record}
 use Rattle.joblog.specs.declared.records.Reading.the-variants.{Says}
-use Rattle.joblog.specs.Records.{state, recordAs, bytesOf, recordsOf, wholeOf, inTurn, afterOf, readOf, readingOf, compactedOf}
-use Rattle.joblog.specs.Calls.{Call, refused, refusing, answered, readLogOf, readAnswer, newInTurn, compactAnswer, compactingOf, writtenOf, appendedOf, appendOf, restartedOf, restartOf}
+use Rattle.joblog.specs.Records.{state, recordAs, bytesOf, recordsOf, wholeOf, inTurn, afterOf, readOf, logReadingOf, compactedOf}
+use Rattle.joblog.specs.Calls.{LogCall, refused, refusing, answered, readLogOf, readAnswer, newInTurn, compactAnswer, compactingOf, loggedOf, appendedOf, appendOf, restartedOf, restartOf}
 use Rattle.joblog_laws.specs.Run.{logAfter, usedAfter, inPlace, mayBeUsed}
 use Rattle.joblog_laws.proofs.ReadingLaws.{both, whole-records, cut-records, record-back, read-more, compacted-read}
 
@@ -25,7 +25,7 @@ second-of false b f h = h
 -- ---- the first `used` bytes of a buffer are a log that says this
 pub record Held (log : List ℕ) (used : ℕ) (s : State) : Type 0 where
   pub fits : used ≤ length log
-  pub reads : readingOf (take used log) ≡ Says s
+  pub reads : logReadingOf (take used log) ≡ Says s
   pub ordered : s .finished ≤ s .sent
 
 pub held-read : (log : List ℕ) (used : ℕ) (s : State) → Held log used s → readLogOf log used ≡ answered 0 s (wholeOf used)
@@ -84,7 +84,7 @@ change-ordered (done a b c) h = c
 
 -- ---- append
 -- the whole records of a log are all that it says
-whole-reads : (log : List ℕ) (used : ℕ) (s : State) → Held log used s → readingOf (take (wholeOf used) log) ≡ Says s
+whole-reads : (log : List ℕ) (used : ℕ) (s : State) → Held log used s → logReadingOf (take (wholeOf used) log) ≡ Says s
 whole-reads log used s h =
     let f = h .fits in
     ap (readOf true (state 0 0)) (sym (cut-records (used / 5) log used (omega arith) (omega arith) (omega arith))) ∙ h .reads
@@ -100,7 +100,7 @@ module _ (log : List ℕ) (used : ℕ) (s : State) (h : Held log used s) (tag pa
       record {
         fits = omega arith;
         reads =
-            ap readingOf (p .0)
+            ap logReadingOf (p .0)
             ∙ ap (readOf true (state 0 0)) (whole-records (used / 5) (take (wholeOf used) log) (bytesOf tag page) n ∙ ap (λ (rs : List Record). recordsOf (take (wholeOf used) log) ++ rs) (record-back tag page))
             ∙ read-more true (state 0 0) s (recordsOf (take (wholeOf used) log)) (recordAs tag page) (whole-reads log used s h) turn;
         ordered = change-ordered (in-turn-change s tag page turn) (h .ordered);
@@ -115,7 +115,7 @@ module _ (log : List ℕ) (used : ℕ) (s : State) (h : Held log used s) (tag pa
       let one : readOf false s (recordAs tag page ∷ []) ≡ Says (afterOf s (recordAs tag page)) = rw turn in
       record {
         fits = p .1;
-        reads = ap readingOf (p .0) ∙ compacted-read s (bytesOf tag page) (h .ordered) ∙ ap (readOf false s) (record-back tag page) ∙ one;
+        reads = ap logReadingOf (p .0) ∙ compacted-read s (bytesOf tag page) (h .ordered) ∙ ap (readOf false s) (record-back tag page) ∙ one;
         ordered = change-ordered (in-turn-change s tag page turn) (h .ordered);
       }
 
@@ -127,7 +127,7 @@ restart-held s second ordered room =
     let p = put-front-read (compactedOf s) second room in
     record {
       fits = p .1;
-      reads = ap readingOf (p .0 ∙ sym (append-nil (compactedOf s))) ∙ compacted-read s [] ordered;
+      reads = ap logReadingOf (p .0 ∙ sym (append-nil (compactedOf s))) ∙ compacted-read s [] ordered;
       ordered = ordered;
     }
 
@@ -149,7 +149,7 @@ cut-before log used s h tag page k u short low high room =
     }
 
 -- the log's buffer while an append is under way, with k of the record's bytes there
-abbrev pub cutLog : List ℕ → ℕ → Call → ℕ → ℕ → ℕ → List ℕ
+abbrev pub cutLog : List ℕ → ℕ → LogCall → ℕ → ℕ → ℕ → List ℕ
 cutLog log used c tag page k = cond (inPlace c) (putOf log (wholeOf used) (take k (bytesOf tag page))) log
 
 -- ---- the calls
@@ -163,7 +163,7 @@ unchanged {s} h = record { to = s; held = h; how = same }
 
 module _ (log : List ℕ) (used : ℕ) (s : State) (tag page : ℕ) (second : List ℕ) where
   -- the three ways of an append on a log that can be read
-  pub data Outcome : Call → Type 0 where
+  pub data Outcome : LogCall → Type 0 where
     refusal : (number : ℕ) (after : List ℕ) → eqb number 0 ≡ false → Outcome (refusing number page log after)
     placed : inTurn false s (recordAs tag page) ≡ true → wholeOf used + 5 ≤ length log
         → Outcome (record { answer = answered 0 (afterOf s (recordAs tag page)) (wholeOf used + 5); log = putOf log (wholeOf used) (bytesOf tag page); second = second })
@@ -171,7 +171,7 @@ module _ (log : List ℕ) (used : ℕ) (s : State) (tag page : ℕ) (second : Li
         → Outcome (record { answer = answered 1 (afterOf s (recordAs tag page)) (length (compactedOf s ++ bytesOf tag page)); log = log; second = putOf second 0 (compactedOf s ++ bytesOf tag page) })
 
   pub append-outcome : Held log used s → Outcome (appendOf log used tag page second)
-  unfolding appendOf appendedOf newInTurn writtenOf compactAnswer
+  unfolding appendOf appendedOf newInTurn loggedOf compactAnswer
   append-outcome h = rw (le-leb used (length log) (h .fits), h .reads) (by-turn (leb page 65535 && inTurn false s (recordAs tag page)) refl)
     where
       by-room : inTurn false s (recordAs tag page) ≡ true → (b : Bool) → leb (length (compactedOf s ++ bytesOf tag page)) (length second) ≡ b
@@ -191,24 +191,24 @@ module _ (log : List ℕ) (used : ℕ) (s : State) (tag page : ℕ) (second : Li
       by-place turn false e = by-room turn (leb (length (compactedOf s ++ bytesOf tag page)) (length second)) refl
 
       by-turn : (b : Bool) → leb page 65535 && inTurn false s (recordAs tag page) ≡ b
-          → Outcome (cond b (writtenOf s log used tag page second) (refusing logOutOfTurn page log second))
+          → Outcome (cond b (loggedOf s log used tag page second) (refusing logOutOfTurn page log second))
       by-turn true e = by-place (both (leb page 65535) _ e .1) (leb (wholeOf used + 5) (length log)) refl
       by-turn false e = refusal logOutOfTurn second refl
 
   -- an append that returns
-  pub append-after : Held log used s → {c : Call} → Outcome c → After s tag page (logAfter c) (usedAfter c used)
+  pub append-after : Held log used s → {c : LogCall} → Outcome c → After s tag page (logAfter c) (usedAfter c used)
   append-after h (refusal number after e) = rw e (unchanged h)
   append-after h (placed turn room) = record { to = afterOf s (recordAs tag page); held = put-held log used s h tag page turn room; how = in-turn-change s tag page turn }
   append-after h (moved turn room) = record { to = afterOf s (recordAs tag page); held = moved-held log used s h tag page turn second room; how = in-turn-change s tag page turn }
 
   -- one that is under way, with k of the record's bytes there
-  pub cut-now : Held log used s → {c : Call} → Outcome c → (k : ℕ) → k ≤ 5 → Held (cutLog log used c tag page k) used s
+  pub cut-now : Held log used s → {c : LogCall} → Outcome c → (k : ℕ) → k ≤ 5 → Held (cutLog log used c tag page k) used s
   cut-now h (refusal number after e) k five = rw e h
   cut-now h (moved turn room) k five = h
   cut-now h (placed turn room) k five = cut-before log used s h tag page k used five (omega arith) (omega arith) room
 
   -- one that a crash cuts
-  pub cut-after : Held log used s → {c : Call} → Outcome c → (k u : ℕ) → k ≤ 5
+  pub cut-after : Held log used s → {c : LogCall} → Outcome c → (k u : ℕ) → k ≤ 5
       → After s tag page (cutLog log used c tag page k) (cond (inPlace c && mayBeUsed used k u) u used)
   unfolding bytesOf
   cut-after h (refusal number after e) k u five = rw e (unchanged h)

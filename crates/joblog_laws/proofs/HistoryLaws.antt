@@ -14,7 +14,7 @@ use Rattle.joblog.specs.Records.{state, compactedOf}
 use Rattle.joblog.specs.declared.calls.Log.{Log}
 use Rattle.joblog.specs.Calls.{answered, refused, readLogOf, compactAnswer, compactingOf}
 use Rattle.joblog_laws.specs.Run.{idle, World, begun, goes, finishes, restart, has, asRequested, isIdle, finishing, next, run}
-use Rattle.joblog_laws.specs.Histories.{pagesOf, Kept, HistoriesAreKept, sendAll, OpenPagesCome}
+use Rattle.joblog_laws.specs.Histories.{pagesTo, Kept, HistoriesAreKept, sendAll, OpenPagesCome}
 use Rattle.joblog.proofs.CompactLaws.{compacted-length}
 use Rattle.joblog_laws.proofs.HeldLaws.{held-read, sent, restart-held}
 use Rattle.joblog_laws.proofs.PageLaws.{pages-front, has-pages}
@@ -45,7 +45,7 @@ kept w i =
     let ahead = i .ahead in
     record {
       «in_order» = order;
-      «none_skipped» = i .here ∙ ap pagesOf (sym whole);
+      «none_skipped» = i .here ∙ ap pagesTo (sym whole);
       «next_out» = λ up. i .out up ∙ sym whole;
       «none_again» = λ up.
           let o = i .out up in
@@ -95,7 +95,7 @@ unfolding next compactAnswer
 restart-world w i second room = rw (restarted w i second, le-leb _ _ room)
 
 come : (w : World) (i : Inv w) (second : List ℕ) → 5 + 5 * (i .says .sent - length (w .finished)) ≤ length second
-    → run asRequested (next asRequested w (restart second)) (sendAll (i .says .sent - length (w .finished))) .finished ≡ pagesOf (i .says .sent)
+    → run asRequested (next asRequested w (restart second)) (sendAll (i .says .sent - length (w .finished))) .finished ≡ pagesTo (i .says .sent)
 come w i second room =
     let n = length (w .finished) in
     let s = i .says .sent in
@@ -107,7 +107,7 @@ come w i second room =
     let e = restart-world w i second (omega arith) in
     let z = sent-out (s - n) (putOf second 0 (compactedOf t)) (length (compactedOf t)) n (w .heard) (w .finished) (w .coming) (omega arith) in
     let m : length (run asRequested (next asRequested w (restart second)) (sendAll (s - n)) .finished) ≡ s = rw e (omega arith) in
-    kept (run asRequested (next asRequested w (restart second)) (sendAll (s - n))) (run-kept (next asRequested w (restart second)) (restart-kept w i second) (sendAll (s - n))) .«in_order» ∙ ap pagesOf m
+    kept (run asRequested (next asRequested w (restart second)) (sendAll (s - n))) (run-kept (next asRequested w (restart second)) (restart-kept w i second) (sendAll (s - n))) .«in_order» ∙ ap pagesTo m
 
 pub open-pages-come : OpenPagesCome
 unfolding run

@@ -14,15 +14,15 @@ use Rattle.text.proofs.TextLaws.{put-behind, put-nothing}
 use Rattle.joblog.specs.declared.records.State.{State}
 use Rattle.joblog.specs.Records.{state, bytesOf, wholeOf, recordsOf, readOf, compactedOf}
 use Rattle.joblog.proofs.CompactLaws.{bytes-length}
-use Rattle.joblog.specs.Calls.{Call, answered, refused, readLogOf, compactAnswer, compactingOf, appendOf, restartOf}
+use Rattle.joblog.specs.Calls.{LogCall, answered, refused, readLogOf, compactAnswer, compactingOf, appendOf, restartOf}
 use Rattle.joblog_laws.specs.Run.{Writing, idle, within, World, begun, Step, begins, byte, completes, goes, finishes, hears, lost, crash, restart, has, asRequested, logAfter, usedAfter, inPlace, mayAppend, beginning, withByte, writingByte, completing, mayBeUsed, crashUsed, isIdle, finishing, arriving, next, run}
-use Rattle.joblog_laws.specs.Histories.{pagesOf}
+use Rattle.joblog_laws.specs.Histories.{pagesTo}
 use Rattle.joblog_laws.proofs.ReadingLaws.{both}
-use Rattle.joblog_laws.proofs.HeldLaws.{Held, held-read, cutLog, Change, same, sent, done, After, Outcome, refusal, placed, moved, append-outcome, append-after, cut-now, cut-after, restart-outcome, restart-held}
+use Rattle.joblog_laws.proofs.HeldLaws.{Held, held-read, cutLog, Change, same, sent, done, Outcome, refusal, placed, moved, append-outcome, append-after, cut-now, cut-after, restart-outcome, restart-held}
 use Rattle.joblog_laws.proofs.PageLaws.{pages-length, pages-front, first-page}
 
 -- ---- an append that is under way: `base` is the buffer when it began
-pub record Within (base log : List ℕ) (used : ℕ) (s : State) (count tag page : ℕ) (c : Call) (k : ℕ) : Type 0 where
+pub record Within (base log : List ℕ) (used : ℕ) (s : State) (count tag page : ℕ) (c : LogCall) (k : ℕ) : Type 0 where
   pub second : List ℕ
   pub outcome : Outcome base used s tag page second c
   pub there : log ≡ cutLog base used c tag page k
@@ -72,7 +72,7 @@ pub record Inv (w : World) : Type 0 where
   pub held : Held base (w .used) says
   pub flight : Flight base (w .log) (w .used) says (length (w .finished)) (w .writing)
   pub last : ℕ
-  pub here : w .finished ++ w .tray ≡ pagesOf last
+  pub here : w .finished ++ w .tray ≡ pagesTo last
   pub behind : says .finished ≤ length (w .finished)
   pub ahead : last ≤ says .sent
   pub out : w .up ≡ true → w .out ≡ last
@@ -98,7 +98,7 @@ may-append w i tag page h two =
     let k = both (w .up) (cond (eqb tag 2) (has (w .heard) page) true) h in
     below-has (length (w .finished)) (w .heard) page (i .heard) (rw two at (k .1))
 
-no-bytes : (log : List ℕ) (used : ℕ) (c : Call) (tag page : ℕ) → used ≤ length log → log ≡ cutLog log used c tag page 0
+no-bytes : (log : List ℕ) (used : ℕ) (c : LogCall) (tag page : ℕ) → used ≤ length log → log ≡ cutLog log used c tag page 0
 no-bytes log used c tag page fits = by-place (inPlace c)
   where
     by-place : (b : Bool) → log ≡ cond b (putOf log (wholeOf used) []) log
@@ -110,7 +110,7 @@ unfolding beginning
 begins-kept w i (within t p c k) e tag page second = i
 begins-kept w i idle e tag page second = by-test (mayAppend asRequested w tag page) refl
   where
-    c : Call
+    c : LogCall
     c = appendOf (w .log) (w .used) tag page second
 
     by-test : (b : Bool) → mayAppend asRequested w tag page ≡ b
@@ -139,7 +139,7 @@ begins-kept w i idle e tag page second = by-test (mayAppend asRequested w tag pa
         }
 
 -- ---- one byte more
-byte-there : (base log : List ℕ) (used : ℕ) (s : State) (tag page : ℕ) (second : List ℕ) (c : Call) (k : ℕ) → Outcome base used s tag page second c
+byte-there : (base log : List ℕ) (used : ℕ) (s : State) (tag page : ℕ) (second : List ℕ) (c : LogCall) (k : ℕ) → Outcome base used s tag page second c
     → log ≡ cutLog base used c tag page k → k < 5 → inPlace c ≡ true → withByte log used tag page k ≡ cutLog base used c tag page (k + 1)
 byte-there base log used s tag page second c k (refusal number after e) f short i = let z : _≡_ {A = ℕ} 0 1 = cc in absurd (omega arith)
 byte-there base log used s tag page second c k (moved turn room) f short i = let z : _≡_ {A = ℕ} 0 1 = cc in absurd (omega arith)
@@ -243,10 +243,10 @@ restart-kept w i second = rw (restarted w i second) (by-room (leb (length text) 
     text : List ℕ
     text = compactedOf t
 
-    here : w .finished ++ [] ≡ pagesOf n
+    here : w .finished ++ [] ≡ pagesTo n
     here = append-nil (w .finished) ∙ pages-front (w .finished) (w .tray) (i .last) (i .here)
 
-    after : Call → World
+    after : LogCall → World
     after c = record { log = logAfter c; used = usedAfter c (w .used); up = eqb (c .answer .number) 0; out = n; writing = idle; heard = w .heard; tray = []; finished = w .finished; coming = w .coming }
 
     by-room : (b : Bool) → leb (length text) (length second) ≡ b
@@ -315,8 +315,8 @@ arriving-kept w heard keeps (page ∷ rest) e i =
       coming = b .1;
     }
 
-one-more : (l : List ℕ) (m page : ℕ) → l ≡ pagesOf m → page ≡ suc m → l ++ (page ∷ []) ≡ pagesOf (suc m)
-unfolding pagesOf
+one-more : (l : List ℕ) (m page : ℕ) → l ≡ pagesTo m → page ≡ suc m → l ++ (page ∷ []) ≡ pagesTo (suc m)
+unfolding pagesTo
 one-more l m page e p = rw (e, p)
 
 goes-kept : (w : World) → Inv w → Inv (next asRequested w goes)
@@ -369,7 +369,7 @@ crash-kept : (w : World) → Inv w → (left u : ℕ) → Inv (next asRequested 
 unfolding next
 crash-kept w i left u =
     let front = w .finished ++ take left (w .tray) in
-    let whole : front ++ drop left (w .tray) ≡ pagesOf (i .last) =
+    let whole : front ++ drop left (w .tray) ≡ pagesTo (i .last) =
     append-assoc (w .finished) (take left (w .tray)) (drop left (w .tray)) ∙ ap (λ (l : List ℕ). w .finished ++ l) (take-append-drop left (w .tray)) ∙ i .here in
     let l = pages-length (i .last) in
     let n = length-append front (drop left (w .tray)) in
@@ -410,7 +410,7 @@ run-kept w i [] = i
 run-kept w i (step ∷ steps) = run-kept (next asRequested w step) (next-kept w i step) steps
 
 pub begun-kept : (buffer : List ℕ) → Inv (begun buffer)
-unfolding pagesOf recordsOf readOf
+unfolding pagesTo recordsOf readOf
 begun-kept buffer =
     record {
       says = state 0 0;

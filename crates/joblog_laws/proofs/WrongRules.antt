@@ -9,9 +9,9 @@ use lib.Dec.{leb}
 use lib.ListN.{getD, replicate}
 use Rattle.text.specs.Text.{putOf}
 use Rattle.joblog.specs.Records.{bytesOf, recordsOf, inTurn, afterOf, readOf, openOf, compactedOf}
-use Rattle.joblog.specs.Calls.{readLogOf, readAnswer, newInTurn, compactAnswer, writtenOf, appendedOf, appendOf, restartedOf, restartOf}
+use Rattle.joblog.specs.Calls.{readLogOf, readAnswer, newInTurn, compactAnswer, loggedOf, appendedOf, appendOf, restartedOf, restartOf}
 use Rattle.joblog_laws.specs.Run.{World, begun, Step, begins, byte, completes, goes, finishes, hears, lost, crash, restart, has, Rules, asRequested, beginning, writingByte, completing, finishing, arriving, crashUsed, isIdle, next, run}
-use Rattle.joblog_laws.specs.Histories.{pagesOf, KeptBy}
+use Rattle.joblog_laws.specs.Histories.{pagesTo, KeptBy}
 
 abbrev buffer : List ℕ
 buffer = replicate 20 238
@@ -25,7 +25,7 @@ appended tag page = started tag page ++ (byte ∷ completes ∷ [])
 
 -- where a history ends; to unfold this is to unfold all that a run computes
 ends : Rules → List Step → World
-unfolding run next beginning writingByte completing finishing arriving crashUsed isIdle has putOf bytesOf recordsOf inTurn afterOf readOf openOf compactedOf readLogOf readAnswer newInTurn compactAnswer writtenOf appendedOf appendOf restartedOf restartOf pagesOf
+unfolding run next beginning writingByte completing finishing arriving crashUsed isIdle has putOf bytesOf recordsOf inTurn afterOf readOf openOf compactedOf readLogOf readAnswer newInTurn compactAnswer loggedOf appendedOf appendOf restartedOf restartOf pagesTo
 ends rules steps = run rules (begun buffer) steps
 
 -- ---- by the request: pages 1 and 2 go out and are finished, page 1's done is recorded, page 2's acknowledgement is lost, the host crashes in the append

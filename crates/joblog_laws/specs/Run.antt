@@ -19,13 +19,13 @@ use lib.Dec.{leb, ltb, eqb}
 use lib.ListN.{length, take, drop}
 use Rattle.text.specs.Text.{putOf}
 use Rattle.joblog.specs.Records.{doneTag, bytesOf, wholeOf}
-use Rattle.joblog.specs.Calls.{Call, readLogOf, appendOf, restartOf}
+use Rattle.joblog.specs.Calls.{LogCall, readLogOf, appendOf, restartOf}
 
 -- ---- what there is at a moment
 -- whether the host is in an append: its record's tag and page, what the call answers and leaves, and how many of the record's bytes are lasting
 pub data Writing : Type 0 where
   idle : Writing
-  within : ℕ → ℕ → Call → ℕ → Writing
+  within : ℕ → ℕ → LogCall → ℕ → Writing
 
 pub record World : Type 0 where
   -- lasting, the host's: the buffer that is the log now, and how many of its bytes are the log
@@ -88,14 +88,14 @@ asRequested = record { told = has; ready = leb; resume = λ done count. count; k
 
 -- ---- steps. One that the rules do not allow at that moment does not happen.
 -- "the first buffer stays as it was and is the log until the call returns"
-abbrev pub logAfter : Call → List ℕ
+abbrev pub logAfter : LogCall → List ℕ
 logAfter c = cond (eqb (c .answer .moved) 1) (c .second) (c .log)
 
-abbrev pub usedAfter : Call → ℕ → ℕ
+abbrev pub usedAfter : LogCall → ℕ → ℕ
 usedAfter c used = cond (eqb (c .answer .number) 0) (c .answer .used) used
 
 -- an append that writes into the log's own buffer
-abbrev pub inPlace : Call → Bool
+abbrev pub inPlace : LogCall → Bool
 inPlace c = eqb (c .answer .number) 0 && eqb (c .answer .moved) 0
 
 abbrev pub mayAppend : Rules → World → ℕ → ℕ → Bool

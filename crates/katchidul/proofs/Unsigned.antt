@@ -7,7 +7,7 @@ use lib.IntN.{ℤ, pos, natAbs}
 use lib.Signed.{ltZ, nonNeg}
 use mir.Syntax.{w32}
 use mir.Val.{SFits, Fits}
-use Rattle.integers.specs.Parts.{P, N}
+use Rattle.integers.specs.Parts.{P}
 use Rattle.integers.proofs.PartsLaws.{natural, not-positive}
 use Rattle.integers.proofs.OrderLaws.{lt-yes, lt-no}
 use Rattle.integers.proofs.Ranges.{range, readBack, read}

@@ -1,7 +1,7 @@
 // The parts of a row's line: its date and its times.
 ghost use mathlib.Core.Path.{_≡_};
 ghost use Rattle.calendar.specs.Days.{dayNumberOf};
-ghost use Rattle.lines.specs.Lines.{dateText, signOf, sizeOf, daysOf, timeText};
+ghost use Rattle.lines.specs.Lines.{dateText, signOf, magnitudeOf, daysOf, timeText};
 use calendar::dates::Date;
 use calendar::instants::day_of;
 use calendar::instants::second_of_day;
@@ -50,7 +50,7 @@ fn sign(days: i64) -> u8
 }
 
 fn size(days: i64) -> u64
-    ensures { λ r. ⌜ r ≡ sizeOf days ⌝ }
+    ensures { λ r. ⌜ r ≡ magnitudeOf days ⌝ }
 {
     above(days) + below(days)
 }

@@ -8,14 +8,12 @@ use borrow.Author.Tests.{le-leb}
 use lib.Ieee.{Float, nan, inf, fin, up, down}
 use lib.Ieee.Fits.{down-pos}
 use Rattle.float64.specs.Words.{isNegativeOf}
-use Rattle.refusals.specs.Refusals.{noRefusal, refusal}
-use Rattle.refusals.specs.declared.Refusal.{Refusal}
+use Rattle.refusals.specs.Refusals.{refusal}
 use Rattle.map_form.specs.declared.MapForm.{MapForm}
-use Rattle.map_form.specs.declared.writing.Written.{Written}
 use Rattle.map_form.specs.Hundredths.{inDegree, signed, sizeOf, atMost, formFits}
 use Rattle.map_form.specs.Written.{partsOf, formOf, nearestCount, writtenOf, nearestTo, hundredthsOf}
 use Rattle.map_form.specs.Promises.{WrittenIsOwed, OneIsNearest, OneIsOwed}
-use Rattle.map_form.specs.Owed.{signFor, noParts, Nearest, Right, Owed}
+use Rattle.map_form.specs.Owed.{signFor, Nearest, NearestParts}
 use Rattle.map_form.proofs.Range.{count-le}
 use Rattle.map_form.proofs.RoundTrip.{fits}
 
@@ -54,7 +52,7 @@ made true (suc n) = record { size = whole 1 (suc n); sign = refl }
 made false zero = record { size = refl; sign = refl }
 made false (suc n) = record { size = whole 0 (suc n); sign = refl }
 
-right : (x : Float) (most : ℕ) → atMost most x ≡ true → Right x (formOf (nearestCount x))
+right : (x : Float) (most : ℕ) → atMost most x ≡ true → NearestParts x (formOf (nearestCount x))
 unfolding atMost isNegativeOf hundredthsOf
 right nan most h = false≢true h
 right (inf s) most h = false≢true h
@@ -99,7 +97,7 @@ parts-of most f g p q s e =
     let d : f .degrees ≡ g .degrees = omega (arith, e, m, t, h) in
     λ i. record { sign = s i; degrees = d i; minutes = m i; seconds = t i; hundredths = h i }
 
-right-once : (x : Float) (most : ℕ) (f g : MapForm) → formFits most f ≡ true → formFits most g ≡ true → Right x f → Right x g → f ≡ g
+right-once : (x : Float) (most : ℕ) (f g : MapForm) → formFits most f ≡ true → formFits most g ≡ true → NearestParts x f → NearestParts x g → f ≡ g
 right-once nan most f g p q a b = absurd a
 right-once (inf s) most f g p q a b = absurd a
 right-once (fin s m e) most f g p q a b =

@@ -6,7 +6,6 @@ use mathlib.Core.Bool.{Bool, true, false, cond}
 use lib.Ieee.{Float}
 use Rattle.float64.specs.Words.{isNegativeOf}
 use Rattle.refusals.specs.Refusals.{refusal, noRefusal}
-use Rattle.map_form.specs.declared.writing.Written.{Written}
 use Rattle.map_form.specs.Hundredths.{signed, atMost}
 use Rattle.map_form.specs.Written.{partsOf, formOf, writtenOf, hundredthsOf}
 use Rattle.map_form.specs.Owed.{signFor, noParts}

@@ -17,7 +17,6 @@ use Rattle.float64.proofs.Values.{dyadic-value}
 use Rattle.float64.proofs.Exact.{mul-same}
 use Rattle.float64.proofs.Within.{Within, round-signed, round-neg, value-within}
 use Rattle.float64.proofs.WholeSizes.{wholeSize, signed, whole-most, whole-value, whole-neg, cast-is}
-use Rattle.integers.specs.Parts.{P, N}
 use Rattle.integers.proofs.QuotientLaws.{divided}
 use Rattle.integers.proofs.Intervals.{Inside}
 use Rattle.integers.specs.Order.{_≼_}

@@ -12,7 +12,7 @@ use Rattle.calendar.specs.Days.{daysInYearOf}
 use Rattle.models.specs.declared.rules.Southern.{Southern}
 use Rattle.models.specs.declared.rules.Southern.the-variants.{Unreduced, StartsAgain}
 use Rattle.ops.specs.Season.{southernOffsetOf, daysSinceSolsticeOf, southernCountOf, daysByRule}
-use Rattle.ops.specs.Southern.{DayOfYear, SouthernYear, SouthernCount}
+use Rattle.ops.specs.Southern.{DayOfYear, SouthernCount}
 use Rattle.ops.proofs.SeasonSizes.{days-most}
 
 -- ---- a year of d days whose solstice is on day o: in every year 193 days follow it

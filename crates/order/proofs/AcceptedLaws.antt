@@ -20,12 +20,12 @@ use Rattle.calendar.specs.declared.dates.Date.{Date}
 use Rattle.calendar.specs.Gregorian.{existsOf}
 use Rattle.calendar.specs.Answers.{rowDateOf}
 use Rattle.calendar.specs.Days.{dayNumberOf}
-use Rattle.fields.specs.Numbers.{byteOf, unsignedOf, signedOf}
+use Rattle.fields.specs.Numbers.{byteOf, unsignedOf, signedAtOf}
 use Rattle.fields.specs.Values.{Values, valuesOf}
 use Rattle.fields.specs.Tags.{lastTag}
 use Rattle.hijri.specs.Ramadan.{ramadanStartOf}
 use Rattle.hijri.specs.declared.ramadan.Ramadan.{Ramadan}
-use Rattle.map_form.specs.Hundredths.{countOf, degreesOf, formFits}
+use Rattle.map_form.specs.Hundredths.{signedHundredthsOf, degreesOf, formFits}
 use Rattle.map_form.proofs.Limits.{in-limits}
 use Rattle.map_form.proofs.RoundTrip.{read-in-range}
 use Rattle.models.specs.declared.adjustments.TimeAdjustment.{TimeAdjustment}
@@ -134,7 +134,7 @@ module _ (v : Values) where
   coordinate float map most small either as-float as-map = go (v .has map) refl
     where
       x : Float
-      x = degreesOf (countOf (formIn (v .value map)))
+      x = degreesOf (signedHundredthsOf (formIn (v .value map)))
 
       go : (b : Bool) → v .has map ≡ b → Inside (neg (dec most 0)) (dec most 0) (cond b x (degreesIn (v .value float)))
       go true m = in-limits x most small (read-in-range most small (formIn (v .value map)) (as-map m))
@@ -156,7 +156,7 @@ module _ (v : Values) where
   clock-in fits = go (v .has 16) fits
     where
       m : ℤ
-      m = signedOf (v .value 16) 0
+      m = signedAtOf (v .value 16) 0
 
       go : (b : Bool) → (b ≡ true → (leZ (negsuc 839) m && leZ m (pos 840)) ≡ true) → Near 840 (cond b m (pos 0))
       go true f = signed-within 839 m (f refl)

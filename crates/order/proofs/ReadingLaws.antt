@@ -11,7 +11,7 @@ use Rattle.calendar.specs.Days.{dayNumberOf}
 use Rattle.calendar.specs.declared.dates.Date.{Date}
 use Rattle.fields.specs.Fields.{checkOf}
 use Rattle.fields.specs.Tags.{lastTag}
-use Rattle.fields.specs.Values.{offsetOf, hasOf, valueOf, startOf, partIn, Values, valuesOf}
+use Rattle.fields.specs.Values.{offsetOf, hasOf, valueOf, valueStartOf, partIn, Values, valuesOf}
 use Rattle.fields.proofs.FieldsLaws.{check-small, value-fits, fits-between}
 use Rattle.fields.proofs.Collecting.{part-same}
 use Rattle.hijri.specs.Ramadan.{ramadanStartOf}
@@ -152,7 +152,7 @@ pub record Town (s town : List ℕ) (order : Order) : Type 0 where
   pub text : textFits town ≡ true
 
 town-of : (s : List ℕ) (order : Order) → Passed s order → Town s (valueOf s 1) order
-unfolding fitsOf lookUp isGivenOf orderOf startOf
+unfolding fitsOf lookUp isGivenOf orderOf valueStartOf
 town-of s order passed =
     let has = has-required (hasOf s) (passed .given) 0 (lit≤ tt) in
     record {

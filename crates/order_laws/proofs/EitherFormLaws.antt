@@ -8,27 +8,24 @@ use Rattle.integers.specs.Order.{_≼_}
 use Rattle.calendar.specs.Answers.{rowDateOf}
 use Rattle.calls.specs.Calls.{workRowOf, workReadingOf, workDayOf, workAtOf, prayerAtOf, nextAtOf, remainingAtOf}
 use Rattle.fields.specs.Tags.{lastTag}
-use Rattle.fields.specs.Values.{hasOf, valueOf, Values, valuesOf}
+use Rattle.fields.specs.Values.{hasOf, valueOf, valuesOf}
 use Rattle.fields.specs.declared.values.Part.{Part}
 use Rattle.lines.specs.Lines.{lineText}
-use Rattle.models.specs.declared.parameters.Parameters.{Parameters}
 use Rattle.models.specs.declared.prayer.Prayer.{Prayer}
-use Rattle.models.specs.declared.rules.Rules.{Rules}
 use Rattle.models.specs.Settings.{timeAdjustmentsOf}
-use Rattle.order.specs.Given.{dateIn, rowsIn, coordinateIn, byteOr, degreesOr, roundingOr, minutesOr, intervalOr, parametersIn, rulesIn, clockIn, ramadanIn}
+use Rattle.order.specs.Given.{coordinateIn, byteOr, degreesOr, roundingOr, minutesOr, intervalOr, parametersIn, rulesIn, clockIn, ramadanIn}
 use Rattle.order.specs.Reading.{orderOf, readingOf, townOf}
 use Rattle.order.specs.declared.reading.Order.{Order}
-use Rattle.order.specs.declared.reading.Reading.{Reading}
 use Rattle.order.specs.declared.reading.Reading.the-variants.{Read}
 use Rattle.order.proofs.ReadingLaws.{read-passed}
 use Rattle.braille.specs.Cells.{rowLength}
 use Rattle.pages.specs.Pages.{Rows, rowOf, rowsFrom, pageOf, pageCount, pagesCells, allCells}
-use Rattle.pages.specs.Answers.{writtenOf, answerIn, bufferOf, frontIn, oneRow, pieceIn}
+use Rattle.pages.specs.Answers.{punchedInOf, answerIn, bufferOf, frontIn, oneRow, pieceIn}
 use Rattle.pages.specs.Reports.{wearIn, wearText, cellsIn, cellsText}
 use Rattle.rows.specs.Rows.{linesText, acceptedText, textIn, sheetText, readAnswerOf, readBufferOf, rowAnswerOf, rowBufferOf}
 use Rattle.schedule.specs.declared.in_force.Instant.{Instant}
-use Rattle.order_laws.specs.Minutes.{withOwnMinutes, LaterOrder}
-use Rattle.order_laws.specs.EitherForm.{saysPlace, SamePlace, withTown, SameAnswers, EitherFormAnswersAlike, EitherFormMovesAlike}
+use Rattle.order_laws.specs.Minutes.{withOwnMinutes}
+use Rattle.order_laws.specs.EitherForm.{saysPlace, SamePlace, withTown, EitherFormAnswersAlike, EitherFormMovesAlike}
 
 -- ---- where the town stands changes nothing
 lines-same : (o : Order) (town : Part) (n : ℕ) → linesText (withTown o town) n ≡ linesText o n
@@ -58,8 +55,8 @@ pages-same o town (suc p) = rw (pages-same o town p, page-same o town (suc p))
 -- a call on some rows of an order that do not hang on its town
 module _ (asked : Order → Rows) (town-free : (o : Order) (town : Part) → asked (withTown o town) ≡ asked o) (least : ℕ) where
   written-same : (a b : List ℕ) (o p : Order) → readingOf a ≡ Read o → readingOf b ≡ Read p → withTown o (p .town) ≡ p → (buffer : List ℕ)
-      → writtenOf asked least a buffer ≡ writtenOf asked least b buffer
-  unfolding writtenOf answerIn
+      → punchedInOf asked least a buffer ≡ punchedInOf asked least b buffer
+  unfolding punchedInOf answerIn
   written-same a b o p x y g buffer = rw (x, y, ← town-free o (p .town), g)
 
   front-same : (a b : List ℕ) (o p : Order) → readingOf a ≡ Read o → readingOf b ≡ Read p → withTown o (p .town) ≡ p → (buffer : List ℕ)
@@ -188,7 +185,7 @@ module _ (a b : List ℕ) (orders : SamePlace a b) where
   cells-same = rw (orders .«first_read», orders .«second_read») all-same
 
   module _ (asked : Order → Rows) (town-free : (o : Order) (town : Part) → asked (withTown o town) ≡ asked o) (buffer : List ℕ) where
-    asked-same : writtenOf asked rowLength a buffer ≡ writtenOf asked rowLength b buffer
+    asked-same : punchedInOf asked rowLength a buffer ≡ punchedInOf asked rowLength b buffer
     asked-same = written-same asked town-free rowLength a b (orders .first) (orders .second) (orders .«first_read») (orders .«second_read») given buffer
 
     put-same : bufferOf asked rowLength a buffer ≡ bufferOf asked rowLength b buffer

@@ -2,7 +2,7 @@
 use mathlib.Core.Path.{_≡_, refl, sym, ap, subst, _∙_}
 use mathlib.Core.Bool.{Bool, true, false, cond, not, _&&_}
 use mathlib.Core.List.{List}
-use Prim.Native.Nat.{ℕ, _+_, _*_, _≤_, _<_, _^_}
+use Prim.Native.Nat.{ℕ, _*_, _≤_, _<_, _^_}
 use native.Mathlib.Omega.{arith}
 use lib.Dec.{T, ltb, leb}
 use borrow.Author.Tests.{leb-true}
@@ -22,12 +22,9 @@ use Rattle.lines.specs.Lines.{imsakOf}
 use Rattle.models.specs.declared.prayer.Prayer.{Prayer}
 use Rattle.models.specs.declared.prayer.Prayer.the-variants.{Fajr}
 use Rattle.refusals.specs.declared.Refusal.{Refusal}
-use Rattle.models.specs.Presets.{presetOf}
 use Rattle.models.specs.Settings.{timeAdjustmentsOf}
 use Rattle.order.specs.declared.reading.Order.{Order}
 use Rattle.order.specs.declared.reading.Reading.{Reading}
-use Rattle.order.specs.declared.reading.Reading.the-variants.{Read}
-use Rattle.order.specs.Reading.{readingOf}
 use Rattle.order.specs.Accepted.{Accepted}
 use Rattle.order.proofs.AcceptedLaws.{read-accepted}
 use Rattle.schedule.specs.declared.in_force.Current.{Current}
@@ -39,18 +36,18 @@ use Rattle.schedule.specs.declared.prayer_times.Worked.the-variants as worked
 use Rattle.schedule.specs.InForce.{currentTimeOf, currentNumberOf}
 use Rattle.schedule.specs.Times.{workedAt}
 use Rattle.schedule_laws.specs.Later.{withMinutes, laterBy, LaterMinutes, Moved}
-use Rattle.schedule_laws.proofs.CarriedLaws.{carried-held}
+use Rattle.schedule_laws.proofs.CarriedLaws.{carried-sums}
 use Rattle.order_laws.proofs.AcceptedParameters.{accepted-carried}
 use Rattle.order_laws.proofs.PrintedLaws.{imsak-is-printed-whole}
 use Rattle.schedule_laws.proofs.LaterLaws.{later-minutes-move-the-row}
 use Rattle.calls.specs.declared.in_force.InForce.{InForce}
 use Rattle.calls.specs.declared.in_force.InForce.the-variants as force
 use Rattle.calls.specs.Calls.{lacksRow, workRowOf, workReadingOf, workDayOf, instantFits, workAtOf, inForceOf, prayerAtOf}
-use Rattle.order_laws.specs.Minutes.{withOwnMinutes, LaterOrder, ImsakMoved, MovedRow, LaterOrdersMoveTheirRows}
+use Rattle.order_laws.specs.Minutes.{withOwnMinutes, LaterOrder, ImsakMoved, LaterOrdersMoveTheirRows}
 
 -- ---- what an accepted order's sums can be
 held : (order : Order) → Accepted order → (prayer : Prayer) → Near (2 ^ 32) (timeAdjustmentsOf (order .parameters) prayer)
-held order h = carried-held (order .parameters) (accepted-carried order h)
+held order h = carried-sums (order .parameters) (accepted-carried order h)
 
 -- ---- a row that the order lacks
 alike-refused : (p q : Parameters) (r : Refusal) → Moved p q (worked.Refused r) (worked.Refused r)

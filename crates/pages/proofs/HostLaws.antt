@@ -17,7 +17,7 @@ use Rattle.order.specs.Reading.{readingOf}
 use Rattle.refusals.specs.Refusals.{noRefusal}
 use Rattle.refusals.specs.declared.Refusal.{Refusal}
 use Rattle.text.specs.Text.{frontOf}
-use Rattle.pages.specs.Answers.{punchedOf, refusedOf, answerOf, pieceIn, pageWritten, pageBuffer}
+use Rattle.pages.specs.Answers.{punchedOf, refusedOf, rowsAnswerOf, pieceIn, pageWritten, pageBuffer}
 use Rattle.pages.specs.Host.{cellsGot, Calls, ended, called, PiecesAreThePage, AtOnceAsBefore, AsBefore}
 use Rattle.pages.specs.Pages.{Rows, cellsOf, pageOf, pieceOf}
 use Rattle.pages.specs.declared.answer.Punched.{Punched}
@@ -219,7 +219,7 @@ at-once-as-before s page scratch room = by-reading (readingOf s) refl
         let before = order-read (λ o. pageOf o page) 975 s scratch room o e in
         let w = whole-piece s page o e scratch room in
         record {
-          answer = sym (now .0) ∙ ap answerOf w ∙ before .0;
+          answer = sym (now .0) ∙ ap rowsAnswerOf w ∙ before .0;
           buffer = sym (now .1) ∙ ap (λ (l : Rows). frontOf (cellsOf l) scratch) w ∙ before .1;
         }
     by-reading (Refused r) e =

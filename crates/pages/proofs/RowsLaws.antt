@@ -7,7 +7,7 @@ use mathlib.Core.List.{List, [], _∷_, _++_, append-assoc}
 use lib.ListN.{length, take, drop, length-append}
 use Rattle.braille.proofs.Bits.{six-append, row-six}
 use Rattle.braille.proofs.Parts.{row-length}
-use Rattle.braille.specs.Braille.{dotsIn, dotsOf, SixDots}
+use Rattle.braille.specs.Braille.{dotsOf, SixDots}
 use Rattle.braille.specs.Cells.{rowLength}
 use Rattle.calendar.specs.Answers.{rowDateOf}
 use Rattle.calls.specs.Calls.{workRowOf}

@@ -9,7 +9,7 @@ use lib.ListN.{length, getD, set, replicate, length-append, length-map}
 use lib.Seq.{slice, slice-cons, length-slice, take-at}
 use borrow.Author.Tests.{ltb-true, ltb-false}
 use Rattle.queue.specs.declared.Queue.{Queue}
-use Rattle.queue.specs.Jobs.{Job, job, waits, atBack, most}
+use Rattle.queue.specs.Jobs.{Job, job, waits, atBack, mostJobs}
 use Rattle.queue.specs.Arrays.{counted, paired, jobsIn, jobsOf, padded, idOf, pagesOf, queueOf}
 use Rattle.queue.specs.Parts.{among, withLast}
 use Rattle.queue.proofs.Steps.{arms}
@@ -89,10 +89,10 @@ last-jobs l id pages h = rw (last-of idOf l (job id pages), last-of pagesOf l (j
 
 -- ---- a list comes back from its arrays
 pub counted-small : (n : ℕ) → n ≤ 16 → counted n ≡ n
-counted-small n h = arms (λ (x : ℕ). x ≡ n) (ltb n most) n most (λ t. refl) (λ t. omega (arith, ltb-false n most t))
+counted-small n h = arms (λ (x : ℕ). x ≡ n) (ltb n mostJobs) n mostJobs (λ t. refl) (λ t. omega (arith, ltb-false n mostJobs t))
 
 pub counted-most : (n : ℕ) → counted n ≤ 16
-counted-most n = arms (λ (x : ℕ). x ≤ 16) (ltb n most) n most (λ t. omega (arith, ltb-true n most t)) (λ t. lit≤ tt)
+counted-most n = arms (λ (x : ℕ). x ≤ 16) (ltb n mostJobs) n mostJobs (λ t. omega (arith, ltb-true n mostJobs t)) (λ t. lit≤ tt)
 
 padded-take : (l : List ℕ) (n : ℕ) → length l ≡ n → slice 0 n (padded l) ≡ l
 padded-take l n e = take-at l (replicate (16 - length l) 0) n e

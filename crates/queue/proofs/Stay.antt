@@ -6,7 +6,7 @@ use Prim.Native.Nat.{ℕ, _+_, _≤_}
 use native.Mathlib.Omega.{arith}
 use lib.Dec.{eqb, ltb}
 use borrow.Author.Tests.{eqb-true, eq-eqb, lt-ltb, le-ltb}
-use Rattle.queue.specs.Jobs.{Job, job, Event, admitted, refused, sent, nothing, Step, waits, joinOf, turnOf}
+use Rattle.queue.specs.Jobs.{Job, job, Event, admitted, refused, sent, nothing, QueueStep, waits, joinOf, turnOf}
 use Rattle.queue.specs.History.{Call, join, turn, stepOf, after, events, onlyId, when, admittedBy, pagesAdmitted, pagesSent, pagesLeft, WaitsThrough, AllProper, Sound}
 use Rattle.queue.specs.Promises.{JobsLeaveWhenSent}
 use Rattle.queue.proofs.Steps.{arms, join-cases}
@@ -39,7 +39,7 @@ waiting-out i id q n w v =
 none-admitted : (i : ℕ) (q : List Job) (c : Call) → waits i q ≡ true → admittedBy (onlyId i) (stepOf q c .event) ≡ 0
 unfolding turnOf
 none-admitted i q (join id pages) w =
-    join-cases (λ (s : Step). admittedBy (onlyId i) (s .event) ≡ 0) q id pages (λ n o. refl) (λ r v l. waiting-out i id q pages w v)
+    join-cases (λ (s : QueueStep). admittedBy (onlyId i) (s .event) ≡ 0) q id pages (λ n o. refl) (λ r v l. waiting-out i id q pages w v)
 none-admitted i [] turn w = refl
 none-admitted i (j ∷ q) turn w = refl
 
@@ -58,7 +58,7 @@ isAdmitted (sent j) = false
 isAdmitted nothing = false
 
 admitted-left : (q : List Job) (id pages : ℕ) → isAdmitted (joinOf q id pages .event) ≡ true → pagesLeft (onlyId id) (joinOf q id pages .queue) ≡ pages
-admitted-left q id pages = join-cases (λ (s : Step). isAdmitted (s .event) ≡ true → pagesLeft (onlyId id) (s .queue) ≡ pages) q id pages
+admitted-left q id pages = join-cases (λ (s : QueueStep). isAdmitted (s .event) ≡ true → pagesLeft (onlyId id) (s .queue) ≡ pages) q id pages
     (λ n o e. absurd (false≢true e))
     (λ r w l e. let a = left-more (onlyId id) q (job id pages) in let b = none-left id q w in let c : when (onlyId id id) pages ≡ pages = rw (eq-eqb id id refl) in omega arith)
 

@@ -7,7 +7,7 @@ use native.Mathlib.Omega.{arith}
 use lib.Dec.{ltb, lit<}
 use lib.ListN.{length}
 use borrow.Author.Tests.{ltb-true, ltb-false, leb-true, not-true}
-use Rattle.queue.specs.Jobs.{Job, sent, Step, most, waits, proper, atBack, admits, refuses, less, joinOf, turnOf}
+use Rattle.queue.specs.Jobs.{Job, sent, QueueStep, mostJobs, waits, proper, atBack, admits, refuses, less, joinOf, turnOf}
 
 -- either arm of a test
 pub arms : {A : Type 0} (P : A → Type 0) (t : Bool) (x y : A) → (t ≡ true → P x) → (t ≡ false → P y) → P (cond t x y)
@@ -29,20 +29,20 @@ in-range id pages h =
     let z = both _ _ (y .0) in
     (leb-true 1 id (z .0), leb-true id 65535 (z .1), leb-true 1 pages (y .1), leb-true pages 16 (x .1))
 
-pub join-cases : (P : Step → Type 0) (q : List Job) (id pages : ℕ) → ((n : ℕ) → 0 < n → P (refuses q n id))
-    → (InRange id pages → waits id q ≡ false → length q < most → P (admits q id pages)) → P (joinOf q id pages)
+pub join-cases : (P : QueueStep → Type 0) (q : List Job) (id pages : ℕ) → ((n : ℕ) → 0 < n → P (refuses q n id))
+    → (InRange id pages → waits id q ≡ false → length q < mostJobs → P (admits q id pages)) → P (joinOf q id pages)
 unfolding joinOf
 join-cases P q id pages r a =
     arms P (proper id pages && not (waits id q)) _ _
     (λ t. let b = both (proper id pages) (not (waits id q)) t in
-    arms P (ltb (length q) most) _ _ (λ u. a (in-range id pages (b .0)) (not-true _ (b .1)) (ltb-true _ _ u)) (λ u. r 16 (lit< tt)))
+    arms P (ltb (length q) mostJobs) _ _ (λ u. a (in-range id pages (b .0)) (not-true _ (b .1)) (ltb-true _ _ u)) (λ u. r 16 (lit< tt)))
     (λ t. r 17 (lit< tt))
 
 -- the front job's page is sent and the queue is then q
-abbrev pub sends : Job → List Job → Step
+abbrev pub sends : Job → List Job → QueueStep
 sends j q = record { event = sent (less j); queue = q }
 
-pub turn-cases : (P : Step → Type 0) (j : Job) (q : List Job) → (j .pages ≤ 1 → P (sends j q)) → (1 < j .pages → P (sends j (atBack q (less j)))) → P (turnOf (j ∷ q))
+pub turn-cases : (P : QueueStep → Type 0) (j : Job) (q : List Job) → (j .pages ≤ 1 → P (sends j q)) → (1 < j .pages → P (sends j (atBack q (less j)))) → P (turnOf (j ∷ q))
 unfolding turnOf
 turn-cases P j q l b =
     arms (λ (x : List Job). P (sends j x)) (ltb 0 (j .pages - 1)) _ _

@@ -18,7 +18,6 @@ use Rattle.schedule.specs.Numbers.{numbersOf}
 use Rattle.schedule.specs.Times.{seasonOf, workedOf}
 use Rattle.schedule.proofs.SharedLaws.{courseAt, row-shared}
 use Rattle.unit.specs.declared.Coordinates.{Coordinates}
-use Rattle.row_suns.specs.declared.DaySun.{DaySun}
 use Rattle.row_suns.specs.declared.RowSuns.{RowSuns}
 use Rattle.row_suns.specs.RowSuns.{daySunOf, rowSunsOf, nextRowSunsOf, rowSunsHoursOf, rowSunsFajrOf}
 

@@ -16,7 +16,7 @@ use Rattle.order.specs.Accepted.{Accepted}
 use Rattle.order.specs.Ranges.{mostRows}
 use Rattle.order.specs.declared.reading.Order.{Order}
 use Rattle.text.specs.Text.{ascii, putOf, frontOf}
-use Rattle.text.proofs.TextLaws.{put-front, put-behind, put-next, put-nothing}
+use Rattle.text.proofs.TextLaws.{put-behind, put-next, put-nothing}
 use Rattle.rows.specs.Rows.{headerText, headText, linesText, acceptedText}
 
 -- 64 bytes without imsak, 70 with it; and with all rows of the order no more than the longest sheet has room for

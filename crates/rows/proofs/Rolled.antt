@@ -6,7 +6,7 @@ use mathlib.Core.Path.{_≡_, ap, _∙_}
 use mathlib.Core.List.{List}
 use lib.ListN.{length}
 use Rattle.calendar.specs.Answers.{rowDateOf}
-use Rattle.calls.proofs.RowStates.{stateOf, workedFrom, state-worked}
+use Rattle.calls.proofs.RowStates.{stateOf, workedBySuns, state-worked}
 use Rattle.order.specs.Accepted.{Accepted}
 use Rattle.order.specs.declared.reading.Order.{Order}
 use Rattle.lines.specs.Lines.{rowRoom, lineText}
@@ -18,7 +18,7 @@ use Rattle.rows.proofs.Lengths.{lineOf, lines-length, line-made}
 
 -- the line that a row's suns give
 abbrev pub madeLine : Order → RowSuns → List ℕ
-madeLine o suns = lineText (o .ramadan) (suns .date) (workedFrom o suns)
+madeLine o suns = lineText (o .ramadan) (suns .date) (workedBySuns o suns)
 
 state-line : (o : Order) → Accepted o → (k : ℕ) → k < o .rows → madeLine o (stateOf o k) ≡ lineOf o k
 unfolding rowSunsOf

@@ -6,7 +6,7 @@ use Rattle.models.specs.declared.parameters.Parameters.{Parameters}
 use Rattle.ops.specs.declared.transit.Course.{Course}
 use Rattle.ops.specs.Shared.{observerOf}
 use Rattle.solar.specs.Coordinates.{positionOf}
-use Rattle.solar.specs.Hours.{Sun, sunOver}
+use Rattle.solar.specs.Hours.{sunOver}
 use Rattle.solar.specs.Shared.{courseOver, courseAngleNumberOf, courseNumbersOf, courseAfternoonNumberOf}
 use Rattle.solar.proofs.SharedLaws.{angle-shared, numbers-shared, afternoon-shared}
 use Rattle.unit.specs.declared.Coordinates.{Coordinates}

@@ -86,5 +86,5 @@ pub carried-minutes : (p : Parameters) → Carried p → (prayer : Prayer) → N
 unfolding timeAdjustmentsOf
 carried-minutes p c prayer = sum-between (c .own prayer) (c .preset prayer)
 
-pub carried-held : (p : Parameters) → Carried p → (prayer : Prayer) → Near (2 ^ 32) (timeAdjustmentsOf p prayer)
-carried-held p c prayer = wider (carried-minutes p c prayer) (lit≤ tt) (lit≤ tt)
+pub carried-sums : (p : Parameters) → Carried p → (prayer : Prayer) → Near (2 ^ 32) (timeAdjustmentsOf p prayer)
+carried-sums p c prayer = wider (carried-minutes p c prayer) (lit≤ tt) (lit≤ tt)

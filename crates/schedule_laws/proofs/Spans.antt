@@ -5,7 +5,7 @@ use native.Mathlib.Omega.{arith}
 use lib.IntN.{ℤ, pos, _+ℤ_}
 use lib.Signed.{ltZ}
 use lib.Ieee.{Float}
-use Rattle.integers.specs.Parts.{P, N, Between, Near}
+use Rattle.integers.specs.Parts.{Between, Near}
 use Rattle.integers.proofs.Sums.{sum}
 use Rattle.integers.proofs.Intervals.{by-balance, wider, sum-between, difference-between, either-between}
 use Rattle.calendar.specs.declared.dates.Date.{Date}
@@ -14,7 +14,6 @@ use Rattle.models.specs.declared.parameters.Parameters.{Parameters}
 use Rattle.models.specs.declared.rules.Season.{Season}
 use Rattle.models.specs.declared.prayer.Prayer.{Prayer}
 use Rattle.models.specs.Settings.{timeAdjustmentsOf}
-use Rattle.stride.specs.Times.{adjustedOf}
 use Rattle.stride.proofs.TimesLaws.{rounded-between, adjusted-between}
 use Rattle.night_portions.specs.Portions.{seventhOf}
 use Rattle.solar.specs.declared.setting.SolarHour.{SolarHour}

@@ -1,6 +1,6 @@
 -- The line that is made of the words, a blank and the place's digits, and the answers of the two calls. Assumes nothing.
 use native.Mathlib.Omega.{arith}
-use Prim.Native.Nat.{ℕ, _+_, _-_, _≤_, _<_}
+use Prim.Native.Nat.{ℕ, _+_, _≤_, _<_}
 use mathlib.Core.Bool.{Bool, true, false, cond, _&&_}
 use mathlib.Core.Path.{_≡_, refl, sym, ap, _∙_}
 use mathlib.Core.List.{List, [], _∷_, _++_}
@@ -14,7 +14,7 @@ use Rattle.refusals.specs.Refusals.{outOfRange, bufferShort}
 use Rattle.sentences.specs.Table.{textOf, nameOf, known, widest, widestName}
 use Rattle.sentences.specs.Rows.{filled, endOf}
 use Rattle.sentences.specs.Guess.{none, numberIn, placeIn}
-use Rattle.sentences.specs.Sentences.{endsInColon, wordsOf, sentenceOf, unwritten, written, writtenOf, bufferAfter, meant, noSentence, same, meaningOf}
+use Rattle.sentences.specs.Sentences.{endsInColon, wordsOf, sentenceOf, unwritten, written, sentenceWrittenOf, bufferAfter, meant, noSentence, same, meaningOf}
 use Rattle.sentences.proofs.Lines.{Fine, text-fine, name-fine, filled-length, take-filled}
 use Rattle.sentences.proofs.Guessing.{ten-digits}
 use Rattle.sentences.proofs.Promises.{words-named, words-alone, words-short, words-long, sentence-known, sentence-unknown, sentence-length, printed}
@@ -130,20 +130,20 @@ line-of line made n p end e m l h =
 
 -- ---- what writing answers
 pub writes-unknown : (n p : ℕ) (buffer : List ℕ) → known n ≡ false
-    → (unwritten outOfRange ≡ writtenOf n p (length buffer)) × (buffer ≡ bufferAfter n p buffer)
-unfolding writtenOf
+    → (unwritten outOfRange ≡ sentenceWrittenOf n p (length buffer)) × (buffer ≡ bufferAfter n p buffer)
+unfolding sentenceWrittenOf
 writes-unknown n p buffer k = (rw k, sym (ap (putOf buffer 0) (sentence-unknown n p k) ∙ put-nothing buffer 0 (omega arith)))
 
 pub writes-no-room : (n p : ℕ) (buffer : List ℕ) → known n ≡ true → length buffer < length (sentenceOf n p)
-    → (unwritten bufferShort ≡ writtenOf n p (length buffer)) × (buffer ≡ bufferAfter n p buffer)
-unfolding writtenOf putOf
+    → (unwritten bufferShort ≡ sentenceWrittenOf n p (length buffer)) × (buffer ≡ bufferAfter n p buffer)
+unfolding sentenceWrittenOf putOf
 writes-no-room n p buffer k h =
     let e = lt-leb (length (sentenceOf n p)) (length buffer) h in let f = lt-leb (0 + length (sentenceOf n p)) (length buffer) (omega arith) in
     (rw (k, e), rw f)
 
 pub writes : (n p end : ℕ) (buffer : List ℕ) → known n ≡ true → end ≡ length (sentenceOf n p) → end ≤ length buffer
-    → written end ≡ writtenOf n p (length buffer)
-unfolding writtenOf
+    → written end ≡ sentenceWrittenOf n p (length buffer)
+unfolding sentenceWrittenOf
 writes n p end buffer k e h = let f = le-leb (length (sentenceOf n p)) (length buffer) (omega arith) in rw (k, f, e)
 
 -- ---- what reading answers

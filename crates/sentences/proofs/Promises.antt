@@ -13,7 +13,7 @@ use Rattle.sentences.specs.declared.Meaning.{Meaning}
 use Rattle.sentences.specs.Table.{texts, textOf, nameOf, known, widest, widestName}
 use Rattle.sentences.specs.Guess.{none, numberIn, placeIn}
 use Rattle.sentences.specs.Sentences.{endsInColon, wordsOf, sentenceOf, bufferAfter, meant, noSentence, same, meaningOf}
-use Rattle.sentences.specs.Promises.{allKnown, EachHasASentence, printable, Says, Different, Printed, ReadBack, Right, ReadsOnlySentences, WrittenAndRead}
+use Rattle.sentences.specs.Promises.{allKnown, EachHasASentence, printable, Says, Different, Printed, ReadBack, ReadAs, ReadsOnlySentences, WrittenAndRead}
 use Rattle.sentences.specs.Promises.Right.{says, other}
 use Rattle.sentences.proofs.Lines.{text-fine, name-fine, text-says}
 use Rattle.sentences.proofs.Guessing.{number-append, ten-digits, place-back}
@@ -171,11 +171,11 @@ reads-only-sentences bytes = by-test (test bytes) refl
         let z : _≡_ {A = ℕ} 5 0 = ap (λ (r : Meaning). r .number) (sym (refused-bytes bytes e) ∙ read-back bytes m q s) in
         omega arith
 
-    by-test : (t : Bool) → test bytes ≡ t → Right bytes (meaningOf bytes)
+    by-test : (t : Bool) → test bytes ≡ t → ReadAs bytes (meaningOf bytes)
     by-test true e =
         let s = accepted-bytes bytes e in
-        subst (Right bytes) (sym (read-back bytes (n bytes) (p bytes) s)) (says (n bytes) (p bytes) s)
-    by-test false e = subst (Right bytes) (sym (refused-bytes bytes e)) (other (λ m q s. never m q e s))
+        subst (ReadAs bytes) (sym (read-back bytes (n bytes) (p bytes) s)) (says (n bytes) (p bytes) s)
+    by-test false e = subst (ReadAs bytes) (sym (refused-bytes bytes e)) (other (λ m q s. never m q e s))
 
 -- ---- what was written is read back
 pub written-and-read : WrittenAndRead

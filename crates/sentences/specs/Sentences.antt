@@ -31,8 +31,8 @@ abbrev pub written : ℕ → Written
 written length = record { number = 0; place = 0; length = length }
 
 -- "An unknown number gets 5, place 0, before the buffer is checked. A buffer shorter than the sentence gets 9"
-unfoldable pub writtenOf : ℕ → ℕ → ℕ → Written
-writtenOf n p room =
+unfoldable pub sentenceWrittenOf : ℕ → ℕ → ℕ → Written
+sentenceWrittenOf n p room =
     cond (known n)
     (cond (leb (length (sentenceOf n p)) room) (written (length (sentenceOf n p))) (unwritten bufferShort))
     (unwritten outOfRange)

@@ -1,7 +1,7 @@
 // The two calls: a refusal's sentence into a lent buffer, and the refusal that bytes say.
 ghost use mathlib.Core.Path.{_≡_};
 ghost use lib.ListN.{length};
-ghost use Rattle.sentences.specs.Sentences.{unwritten, writtenOf, bufferAfter, noSentence, meaningOf};
+ghost use Rattle.sentences.specs.Sentences.{unwritten, sentenceWrittenOf, bufferAfter, noSentence, meaningOf};
 use super::Meaning;
 use super::Written;
 use super::line::put_sentence;
@@ -26,7 +26,7 @@ fn refuse(number: u32) -> Written
 // The sentence is made by itself first: so a number that is not known is told before the buffer is looked at, and a buffer without room
 // keeps every byte.
 pub fn write_sentence(number: u32, place: u32, buffer: &mut [u8]) -> Written
-    ensures { λ r. ⌜ r ≡ writtenOf number place (length (now (buffer .entry))) ⌝ }
+    ensures { λ r. ⌜ r ≡ sentenceWrittenOf number place (length (now (buffer .entry))) ⌝ }
     ensures { λ _. ⌜ now (buffer .exit) ≡ bufferAfter number place (now (buffer .entry)) ⌝ }
 {
     let mut line = [0u8; 100];

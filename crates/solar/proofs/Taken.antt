@@ -193,11 +193,11 @@ place-zero (fin true m e) v =
 
 -- ---- numbers that have a time
 -- the date that an hour number takes: yesterday below 0, tomorrow from 24 on
-abbrev pub dateOf : Float → ℕ
-dateOf value = cond (lt value (dec 0 0)) 0 (cond (lt value (dec 24 0)) 1 2)
+abbrev pub dateTaken : Float → ℕ
+dateTaken value = cond (lt value (dec 0 0)) 0 (cond (lt value (dec 24 0)) 1 2)
 
 Right : Float → Type 0
-Right value = (takenOf value ≡ dateOf value) × (hourAdjustmentOf (floorOf value) .hour < 24)
+Right value = (takenOf value ≡ dateTaken value) × (hourAdjustmentOf (floorOf value) .hour < 24)
 
 right-up : (m : ℕ) (e : ℤ) → hasTimeOf (fin false m e) ≡ true → Right (fin false m e)
 unfolding Right
@@ -273,7 +273,7 @@ right (fin true m e) h = right-down m e h
 right (fin false m e) h = right-up m e h
 
 -- LAW the date taken is yesterday below 0, tomorrow from 24 on, and else the date
-pub taken-is : (value : Float) → hasTimeOf value ≡ true → takenOf value ≡ dateOf value
+pub taken-is : (value : Float) → hasTimeOf value ≡ true → takenOf value ≡ dateTaken value
 unfolding Right
 taken-is value h = right value h .0
 

@@ -4,7 +4,7 @@ use mathlib.Core.Bool.{Bool, true, false, cond, not, _||_}
 use Prim.Native.Nat.{ℕ, _+_, _-_, _*_, _/_, _≤_, _<_}
 use native.Mathlib.Omega.{arith}
 use lib.Dec.{eqb, ltb, eqb→eq, lt→ltb}
-use lib.IntN.{ℤ, pos, _+ℤ_, _-ℤ_, _*ℤ_}
+use lib.IntN.{pos, _+ℤ_, _-ℤ_, _*ℤ_}
 use borrow.Author.Tests.{ltb-true, ltb-false}
 use Rattle.integers.proofs.PartsLaws.{same}
 use Rattle.integers.proofs.Sums.{sum, difference, times}
@@ -14,7 +14,7 @@ use Rattle.calendar.specs.declared.dates.Date.{Date}
 use Rattle.calendar.proofs.Computed.{tested, when}
 use Rattle.calendar.proofs.YearSteps.{year-step}
 use Rattle.calendar.proofs.Existing.{exists-yes, month-of-date, ordinal-is, count}
-use Rattle.stride.specs.Meeus.{yearDaysOf, monthDaysOf, meeusOf}
+use Rattle.stride.specs.Meeus.{yearDaysOf, monthTermOf, meeusOf}
 
 -- ---- the years: Y's term with B, from the days before the next year
 years : (y : ℕ) → yearDaysOf y + 2 + y / 100 / 4 - y / 100 ≡ daysBeforeYearOf (y + 1) + 1722155
@@ -33,16 +33,16 @@ years y =
 
 -- ---- the months: M's term, from the days before the month
 lateTest : Bool → ℕ → Bool
-lateTest leap m = not (ltb 2 m) || eqb (monthDaysOf m + cond leap 1 0) (daysBeforeOf leap m + 63)
+lateTest leap m = not (ltb 2 m) || eqb (monthTermOf m + cond leap 1 0) (daysBeforeOf leap m + 63)
 
 earlyTest : Bool → ℕ → Bool
-earlyTest leap m = not (ltb 0 m) || eqb (monthDaysOf (m + 12)) (daysBeforeOf leap m + 428)
+earlyTest leap m = not (ltb 0 m) || eqb (monthTermOf (m + 12)) (daysBeforeOf leap m + 428)
 
-late : (leap : Bool) (m : ℕ) → 2 < m → m < 13 → monthDaysOf m + cond leap 1 0 ≡ daysBeforeOf leap m + 63
+late : (leap : Bool) (m : ℕ) → 2 < m → m < 13 → monthTermOf m + cond leap 1 0 ≡ daysBeforeOf leap m + 63
 unfolding lateTest daysBeforeOf
 late leap m p q = eqb→eq _ _ (when (ltb 2 m) _ (tested lateTest 13 tt leap m q) (lt→ltb 2 m p))
 
-early : (leap : Bool) (m : ℕ) → 0 < m → m < 3 → monthDaysOf (m + 12) ≡ daysBeforeOf leap m + 428
+early : (leap : Bool) (m : ℕ) → 0 < m → m < 3 → monthTermOf (m + 12) ≡ daysBeforeOf leap m + 428
 unfolding earlyTest daysBeforeOf
 early leap m p q = eqb→eq _ _ (when (ltb 0 m) _ (tested earlyTest 3 tt leap m q) (lt→ltb 0 m p))
 
@@ -61,14 +61,14 @@ counted d h l = by-test (ltb 2 (d .month)) refl
   where
     by-test : (b : Bool) → ltb 2 (d .month) ≡ b →
         (let y = cond b (d .year) (d .year - 1) in let m = cond b (d .month) (d .month + 12) in
-        2 * (yearDaysOf y + monthDaysOf m + d .day + 2 + y / 100 / 4 - y / 100) - 3049 ≡ 2 * count d + 3442117)
+        2 * (yearDaysOf y + monthTermOf m + d .day + 2 + y / 100 / 4 - y / 100) - 3049 ≡ 2 * count d + 3442117)
     by-test true e =
         let y = d .year in
         let i = exists-yes d h in
         let m = month-of-date d i in
         let k = late (leapOf y) (d .month) (ltb-true 2 (d .month) e) (omega arith) in
-        gathered (yearDaysOf y) (monthDaysOf (d .month)) (y / 100) (y / 100 / 4) (d .day) (daysBeforeYearOf (y + 1)) (count d) (years y)
-        (with-days (monthDaysOf (d .month)) k)
+        gathered (yearDaysOf y) (monthTermOf (d .month)) (y / 100) (y / 100 / 4) (d .day) (daysBeforeYearOf (y + 1)) (count d) (years y)
+        (with-days (monthTermOf (d .month)) k)
       where
         with-days : (v : ℕ) → v + cond (leapOf (d .year)) 1 0 ≡ daysBeforeOf (leapOf (d .year)) (d .month) + 63 → daysBeforeYearOf (d .year + 1) + v + d .day ≡ count d + 428
         with-days v k = let s = year-step (d .year) in let o = ordinal-is d h in unfold daysInYearOf in omega (arith, year-days (leapOf (d .year)))
@@ -77,8 +77,8 @@ counted d h l = by-test (ltb 2 (d .month)) refl
         let i = exists-yes d h in
         let m = month-of-date d i in
         let k = early (leapOf (d .year)) (d .month) (m .first) (let f = ltb-false 2 (d .month) e in omega arith) in
-        gathered (yearDaysOf y) (monthDaysOf (d .month + 12)) (y / 100) (y / 100 / 4) (d .day) (daysBeforeYearOf (y + 1)) (count d) (years y)
-        (with-days (monthDaysOf (d .month + 12)) k)
+        gathered (yearDaysOf y) (monthTermOf (d .month + 12)) (y / 100) (y / 100 / 4) (d .day) (daysBeforeYearOf (y + 1)) (count d) (years y)
+        (with-days (monthTermOf (d .month + 12)) k)
       where
         with-days : (v : ℕ) → v ≡ daysBeforeOf (leapOf (d .year)) (d .month) + 428 → daysBeforeYearOf (d .year - 1 + 1) + v + d .day ≡ count d + 428
         with-days v k =

@@ -14,12 +14,12 @@ use Rattle.integers.proofs.Sums.{sum, difference}
 use Rattle.float64.specs.Ops.{_+ᶠ_, _-ᶠ_, _/ᶠ_, bits}
 use Rattle.float64.proofs.Exact.{dyadic, int-dyadic, add-dyadic, sub-dyadic}
 use Rattle.float64.proofs.Steps.{neg-at}
-use Rattle.calendar.specs.Gregorian.{dateOf, leapOf, lengthOf, existsOf}
+use Rattle.calendar.specs.Gregorian.{existsOf}
 use Rattle.calendar.specs.Days.{dayNumberOf}
 use Rattle.calendar.specs.declared.dates.Date.{Date}
 use Rattle.calendar.proofs.Existing.{exists-yes, month-of-date}
 use Rattle.stride.specs.Julian.{real, correctionOf, fromMarchOf, julianDayOf, toI32Of, dateJulianDayOf}
-use Rattle.stride.specs.Meeus.{yearDaysOf, monthDaysOf, meeusOf}
+use Rattle.stride.specs.Meeus.{yearDaysOf, monthTermOf, meeusOf}
 use Rattle.stride.proofs.Products.{year-cut, month-cut}
 use Rattle.stride.proofs.Counted.{meeus-number}
 
@@ -74,15 +74,15 @@ correction y p q =
 
 from-march : (y m day : ℕ) → 1898 ≤ y → y ≤ 2200 → 3 ≤ m → m ≤ 14 → day ≤ 31 →
     fromMarchOf (pos y) (pos m) (at-midnight day)
-    ≡ halves (2 * (yearDaysOf y + monthDaysOf m + day + 2 + y / 100 / 4 - y / 100) - 3049)
+    ≡ halves (2 * (yearDaysOf y + monthTermOf m + day + 2 + y / 100 / 4 - y / 100) - 3049)
 unfolding fromMarchOf
 from-march y m day p q i j k =
     let u : yearDaysOf y ≤ 2600000 = omega arith in
     let v : 1525 + 100 ≤ yearDaysOf y = omega arith in
-    let w : monthDaysOf m ≤ 500 = omega arith in
+    let w : monthTermOf m ≤ 500 = omega arith in
     let a : 18 ≤ y / 100 = omega arith in
     let b : y / 100 ≤ 22 = omega arith in
-    rw (year-cut y p q, month-cut m i j, correction y p q) (sum-of (yearDaysOf y) (monthDaysOf m) (y / 100) u v w a b)
+    rw (year-cut y p q, month-cut m i j, correction y p q) (sum-of (yearDaysOf y) (monthTermOf m) (y / 100) u v w a b)
   where
     sum-of : (u v a : ℕ) → u ≤ 2600000 → 1625 ≤ u → v ≤ 500 → 18 ≤ a → a ≤ 22 →
         real (pos u) +ᶠ real (pos v) +ᶠ at-midnight day +ᶠ real (negsuc (a - 2 - a / 4 - 1)) -ᶠ bits 0x4097_d200_0000_0000
@@ -110,7 +110,7 @@ julian-meeus d h p q =
         cond b (fromMarchOf (pos (d .year)) (pos (d .month)) (at-midnight (d .day))) (fromMarchOf (pos (d .year) -ℤ pos 1) (pos (d .month + 12)) (at-midnight (d .day)))
         ≡ halves
         (let y = cond b (d .year) (d .year - 1) in let m = cond b (d .month) (d .month + 12) in
-        2 * (yearDaysOf y + monthDaysOf m + d .day + 2 + y / 100 / 4 - y / 100) - 3049)
+        2 * (yearDaysOf y + monthTermOf m + d .day + 2 + y / 100 / 4 - y / 100) - 3049)
     by-test true e =
         let x = exists-yes d h in
         let m = month-of-date d x in

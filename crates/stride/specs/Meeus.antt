@@ -16,9 +16,9 @@ abbrev pub yearDaysOf : ℕ → ℕ
 yearDaysOf y = 1461 * (y + 4716) / 4
 
 -- INT(30.6001 (M + 1))
-abbrev pub monthDaysOf : ℕ → ℕ
-monthDaysOf m = 306001 * (m + 1) / 10000
+abbrev pub monthTermOf : ℕ → ℕ
+monthTermOf m = 306001 * (m + 1) / 10000
 
 -- twice JD = INT(365.25 (Y + 4716)) + INT(30.6001 (M + 1)) + D + B - 1524.5, where B = 2 - A + INT(A / 4) and A = INT(Y / 100)
 unfoldable pub meeusOf : Date → ℕ
-meeusOf d = let a = yOf d / 100 in 2 * (yearDaysOf (yOf d) + monthDaysOf (mOf d) + d .day + 2 + a / 4 - a) - 3049
+meeusOf d = let a = yOf d / 100 in 2 * (yearDaysOf (yOf d) + monthTermOf (mOf d) + d .day + 2 + a / 4 - a) - 3049

@@ -1,7 +1,7 @@
 -- What a list gives more than it is, taken off again: an i32 and an i64 hold it. Assumes nothing.
 use Prim.Native.Nat.{ℕ, _^_, _≤_, _<_}
 use native.Mathlib.Omega.{arith}
-use lib.IntN.{ℤ, pos, _-ℤ_}
+use lib.IntN.{pos, _-ℤ_}
 use mir.Syntax.{Width}
 use mir.Val.{SFits, toZ, hbits}
 use Rattle.integers.proofs.Sums.{difference}

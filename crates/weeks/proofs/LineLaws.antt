@@ -11,7 +11,7 @@ use Rattle.text.proofs.TextLaws.{put-behind, put-next, digits-short}
 use Rattle.text.specs.Signed.{signedOf}
 use Rattle.text.specs.Text.{ascii, decimalOf, putOf, frontOf}
 use Rattle.weeks.specs.declared.window.Window.{Window}
-use Rattle.weeks.specs.Lines.{minuteText, rowText, pairText, foundLine, refusedLine, lineOf}
+use Rattle.weeks.specs.Lines.{minuteText, rowNumberText, pairText, foundLine, refusedLine, lineOf}
 
 -- a number behind a blank
 blank-made : (line one two text : List ℕ) (at k : ℕ) → at + 1 + length text ≤ length line → one ≡ putOf line at (ascii " ") → k ≡ length text
@@ -26,16 +26,16 @@ unfolding minuteText
 minute-made line one two at k z room p e q = let s = signed-length z in blank-made line one two (signedOf z) at k (omega arith) p e q
 
 pub row-made : (line one two : List ℕ) (at k row : ℕ) → at + 21 ≤ length line → one ≡ putOf line at (ascii " ") → k ≡ length (decimalOf row)
-    → two ≡ putOf one (at + 1) (decimalOf row) → (at + 1 + k ≡ at + length (rowText row)) × (two ≡ putOf line at (rowText row))
-unfolding rowText
+    → two ≡ putOf one (at + 1) (decimalOf row) → (at + 1 + k ≡ at + length (rowNumberText row)) × (two ≡ putOf line at (rowNumberText row))
+unfolding rowNumberText
 row-made line one two at k row room p e q = let d = digits-short 20 row in blank-made line one two (decimalOf row) at k (omega arith) p e q
 
 pub minute-length : (z : ℤ) → length (minuteText z) ≤ 22
 unfolding minuteText
 minute-length z = let s = signed-length z in let a = length-append (ascii " ") (signedOf z) in omega arith
 
-row-length : (row : ℕ) → length (rowText row) ≤ 21
-unfolding rowText
+row-length : (row : ℕ) → length (rowNumberText row) ≤ 21
+unfolding rowNumberText
 row-length row = let d = digits-short 20 row in let a = length-append (ascii " ") (decimalOf row) in omega arith
 
 pub pair-length : (z : ℤ) (row : ℕ) → length (pairText z row) ≤ 43
@@ -43,22 +43,22 @@ unfolding pairText
 pair-length z row =
     let m = minute-length z in
     let r = row-length row in
-    let l = length-append (minuteText z) (rowText row) in
+    let l = length-append (minuteText z) (rowNumberText row) in
     omega arith
 
 pub pair-made : (line one two : List ℕ) (at i r row : ℕ) (z : ℤ) → at + 43 ≤ length line
     → i ≡ at + length (minuteText z) → one ≡ putOf line at (minuteText z)
-    → r ≡ i + length (rowText row) → two ≡ putOf one i (rowText row)
+    → r ≡ i + length (rowNumberText row) → two ≡ putOf one i (rowNumberText row)
     → (r ≡ at + length (pairText z row)) × (two ≡ putOf line at (pairText z row))
 unfolding pairText
 pair-made line one two at i r row z room a a' b b' =
     let m = minute-length z in
     let n = row-length row in
-    let l = length-append (minuteText z) (rowText row) in (
+    let l = length-append (minuteText z) (rowNumberText row) in (
       omega arith,
-      b' ∙ ap (λ (x : List ℕ). putOf x i (rowText row)) a'
-          ∙ ap (λ (k : ℕ). putOf (putOf line at (minuteText z)) k (rowText row)) a
-          ∙ put-behind line (minuteText z) (rowText row) at (omega arith),
+      b' ∙ ap (λ (x : List ℕ). putOf x i (rowNumberText row)) a'
+          ∙ ap (λ (k : ℕ). putOf (putOf line at (minuteText z)) k (rowNumberText row)) a
+          ∙ put-behind line (minuteText z) (rowNumberText row) at (omega arith),
     )
 
 module _ (line : List ℕ) (w : Window) (l : length line ≡ 128) where

@@ -11,7 +11,7 @@ use Rattle.weeks.specs.declared.minute.Minute.{Minute}
 use Rattle.weeks.specs.declared.minute.Minute.the-variants.{Refused}
 use Rattle.weeks.specs.declared.week.Week.{Week}
 use Rattle.weeks.specs.Windows.{rowAt, noWindow, lookedOf, windowOf}
-use Rattle.weeks.specs.State.{back, weekOf, pushedOf, lastOf, windowIn}
+use Rattle.weeks.specs.State.{back, weekOf, pushedOf, lastWindowOf, windowIn}
 
 -- ---- rows of a longer list
 pub row-before : (l k : List Minute) (n : ℕ) → n < length l → rowAt (l ++ k) n ≡ rowAt l n
@@ -77,10 +77,10 @@ push-holds l m h =
 -- ---- the window
 -- two ways to name the seven rows
 pub looked-is : (f : ℕ → Minute) (first n : ℕ) (a b c d e h g : Minute) → a ≡ f first → b ≡ f (first + 1) → c ≡ f (first + 2) → d ≡ f (first + 3)
-    → e ≡ f (first + 4) → h ≡ f (first + 5) → g ≡ f (first + 6) → lastOf first (mk n a b c d e h g) ≡ lookedOf f first
-unfolding lookedOf lastOf
+    → e ≡ f (first + 4) → h ≡ f (first + 5) → g ≡ f (first + 6) → lastWindowOf first (mk n a b c d e h g) ≡ lookedOf f first
+unfolding lookedOf lastWindowOf
 looked-is f first n a b c d e h g p q r s t u v =
-    ap (lastOf first) (same-week n n _ _ _ _ _ _ _ _ _ _ _ _ _ _ refl p q r s t u v)
+    ap (lastWindowOf first) (same-week n n _ _ _ _ _ _ _ _ _ _ _ _ _ _ refl p q r s t u v)
 
 pub window-right : (l : List Minute) → windowIn (weekOf l) ≡ windowOf l (length l - 7)
 unfolding windowIn windowOf weekOf
@@ -90,14 +90,14 @@ window-right l = by (ltb (length l) 7) refl
     at k i h a e = back-is l k (omega arith) ∙ ap (rowAt l) (sym e)
 
     by : (b : Bool) → ltb (length l) 7 ≡ b
-        → cond (ltb (length l) 7) noWindow (lastOf (length l - 7) (mk (length l) (back l 7) (back l 6) (back l 5) (back l 4) (back l 3) (back l 2) (back l 1)))
+        → cond (ltb (length l) 7) noWindow (lastWindowOf (length l - 7) (mk (length l) (back l 7) (back l 6) (back l 5) (back l 4) (back l 3) (back l 2) (back l 1)))
         ≡ cond (leb (length l - 7 + 7) (length l)) (lookedOf (rowAt l) (length l - 7)) noWindow
     by true t =
         let a = ltb-true (length l) 7 t in
-        ap (λ (b : Bool). cond b noWindow (lastOf (length l - 7) (mk (length l) (back l 7) (back l 6) (back l 5) (back l 4) (back l 3) (back l 2) (back l 1)))) t ∙ sym (ap (λ (b : Bool). cond b (lookedOf (rowAt l) (length l - 7)) noWindow) (lt-leb (length l - 7 + 7) (length l) (omega arith)))
+        ap (λ (b : Bool). cond b noWindow (lastWindowOf (length l - 7) (mk (length l) (back l 7) (back l 6) (back l 5) (back l 4) (back l 3) (back l 2) (back l 1)))) t ∙ sym (ap (λ (b : Bool). cond b (lookedOf (rowAt l) (length l - 7)) noWindow) (lt-leb (length l - 7 + 7) (length l) (omega arith)))
     by false t =
         let a : 7 ≤ length l = ltb-false (length l) 7 t in
-        ap (λ (b : Bool). cond b noWindow (lastOf (length l - 7) (mk (length l) (back l 7) (back l 6) (back l 5) (back l 4) (back l 3) (back l 2) (back l 1)))) t
+        ap (λ (b : Bool). cond b noWindow (lastWindowOf (length l - 7) (mk (length l) (back l 7) (back l 6) (back l 5) (back l 4) (back l 3) (back l 2) (back l 1)))) t
         ∙ looked-is (rowAt l) (length l - 7) (length l) _ _ _ _ _ _ _ (at 7 _ (omega arith) a refl)
         (at 6 _ (omega arith) a (omega arith))
         (at 5 _ (omega arith) a (omega arith))

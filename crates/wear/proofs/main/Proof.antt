@@ -4,12 +4,6 @@ use Rattle.pages.proofs.ReportLaws.{wear-fits}
 use borrow.Author.Needs.{needs}
 use Rattle.wear.proofs.main.Statement.{statement}
 use Rattle.wear.proofs.main.Tie as tie
-use Rattle.wear.proofs.main.Reads as reads
-use Rattle.wear.proofs.main.Lts as lts
-use Rattle.io.proofs.large_buffer.Reads as large-buffer-reads
-use Rattle.io.proofs.read_full.Reads as read-full-reads
-use Rattle.io.proofs.write_all.Reads as write-all-reads
-use Rattle.pages.proofs.report.write_wear.Reads as write-wear-reads
 
 slice-aggregate-read-full : tie.Need-slice-aggregate-read-full
 slice-aggregate-read-full c = search needs

@@ -4,12 +4,6 @@ use Rattle.weeks.proofs.PrintedLaws.{week-fits}
 use borrow.Author.Needs.{needs}
 use Rattle.week.proofs.main.Statement.{statement}
 use Rattle.week.proofs.main.Tie as tie
-use Rattle.week.proofs.main.Reads as reads
-use Rattle.week.proofs.main.Lts as lts
-use Rattle.io.proofs.large_buffer.Reads as large-buffer-reads
-use Rattle.io.proofs.read_full.Reads as read-full-reads
-use Rattle.io.proofs.write_all.Reads as write-all-reads
-use Rattle.weeks.proofs.report.write_week.Reads as write-week-reads
 
 slice-aggregate-read-full : tie.Need-slice-aggregate-read-full
 slice-aggregate-read-full c = search needs

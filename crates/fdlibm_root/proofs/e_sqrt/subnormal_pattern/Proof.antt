@@ -5,12 +5,12 @@ use native.Mathlib.Omega.{arith}
 use lib.Dec.{lit≤}
 use borrow.Author.Needs.{needs}
 use Rattle.fdlibm_root.specs.Root.{roundedRoot}
-use Rattle.fdlibm_root.proofs.Moved.{Moved, move, moved-same}
+use Rattle.fdlibm_root.proofs.Moved.{Shifted53, move, moved-same}
 use Rattle.fdlibm_root.proofs.e_sqrt.subnormal_pattern.Statement.{statement}
 use Rattle.fdlibm_root.proofs.e_sqrt.subnormal_pattern.Tie as tie
 
 abbrev Inv-loop : tie.InvT-loop
-Inv-loop t significand₀ places₀ significand places = Moved t significand places
+Inv-loop t significand₀ places₀ significand places = Shifted53 t significand places
 
 abbrev μ-loop : tie.MeasureT-loop
 μ-loop t significand₀ places₀ significand places = 60 - places

@@ -4,19 +4,19 @@ use native.Mathlib.Omega.{arith}
 use Prim.Native.Nat.{ℕ, _≤_, _<_, _-_, _*_, _^_}
 use mathlib.Core.Path.{_≡_, ap, _∙_}
 use denote.Ref.{now}
-use Rattle.fields.specs.Numbers.{joinedOf, bitsOf}
+use Rattle.fields.specs.Numbers.{bytesNumberOf, bitsOf}
 use Rattle.fields.proofs.Joining.{join-on, shift-in, shift-room}
 use Rattle.fields.proofs.numbers.bits.Statement.{statement}
 use Rattle.fields.proofs.numbers.bits.Tie as tie
 
 abbrev Inv-loop : tie.InvT-loop
-Inv-loop bytes x₀ i₀ x i = (i ≤ 8) × (x ≡ joinedOf i bytes) × (x < 2 ^ (8 * i))
+Inv-loop bytes x₀ i₀ x i = (i ≤ 8) × (x ≡ bytesNumberOf i bytes) × (x < 2 ^ (8 * i))
 
 abbrev μ-loop : tie.MeasureT-loop
 μ-loop bytes x₀ i₀ x i = 8 - i
 
 loop-holds : tie.Need-loop-holds Inv-loop μ-loop
-unfolding joinedOf
+unfolding bytesNumberOf
 loop-holds c = search needs
 
 loop-again : tie.Need-loop-again Inv-loop μ-loop
@@ -35,7 +35,7 @@ returns c =
     let l = c .before .loop in
     let v = now (c .before .before .before .args .bytes) in
     let e : l .i ≡ 8 = omega arith in
-    l .inv .1 ∙ ap (λ (n : ℕ). joinedOf n v) e
+    l .inv .1 ∙ ap (λ (n : ℕ). bytesNumberOf n v) e
 
 pub bits-spec : {M : Type 1} → statement M
 bits-spec =

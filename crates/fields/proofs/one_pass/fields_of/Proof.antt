@@ -1,6 +1,5 @@
 -- `fields::one_pass::fields_of` meets its contract: the pass asks that the order is no longer than 1,024 bytes.
 use borrow.Author.Needs.{needs}
-use Prim.Native.Nat.{suc}
 use mathlib.Core.Path.{_∙_}
 use Rattle.fields.proofs.Collecting.{checked-not, too-long}
 use Rattle.fields.proofs.one_pass.fields_of.Statement.{statement}

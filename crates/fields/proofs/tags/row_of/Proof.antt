@@ -1,8 +1,7 @@
 -- `fields::tags::row_of` meets its contract: an arm for each row of the table, and beyond it nothing.
 use native.Mathlib.Omega.{arith}
-use Prim.Native.Nat.{ℕ, _≤_, _+_}
-use mathlib.Core.Path.{_≡_, ap, _∙_}
-use Rattle.fields.specs.Tags.{tags}
+use Prim.Native.Nat.{_≤_}
+use mathlib.Core.Path.{_∙_}
 use Rattle.fields.proofs.FieldsLaws.{past, beyond-table}
 use Rattle.fields.proofs.tags.row_of.Statement.{statement}
 use Rattle.fields.proofs.tags.row_of.Tie as tie

@@ -3,7 +3,7 @@ use lib.IntN.{ℤ}
 use mir.Syntax.{w64}
 use Rattle.integers.specs.Quotients.{floorRem}
 use Rattle.integers.proofs.Ranges.{readBack, read}
-use Rattle.lines.specs.Lines.{daysOf, signOf, sizeOf, timeText}
+use Rattle.lines.specs.Lines.{daysOf, signOf, magnitudeOf, timeText}
 use borrow.Author.Needs.{needs}
 use Rattle.lines.proofs.times.time_text.Statement.{statement}
 use Rattle.lines.proofs.times.time_text.Tie as tie
@@ -18,7 +18,7 @@ returns c =
     let d = k ∙ days .ensures ∙ ap (λ (z : ℤ). daysOf (t .args .dated .date) z) r in
     let s = c .before .before .before .before .before .before .before .before .before .second-of-day .ensures ∙ ap (λ (z : ℤ). floorRem z 86400) r in
     let sign = c .before .before .before .before .before .before .before .before .sign .ensures ∙ ap signOf d in
-    let size = c .before .before .before .before .before .before .before .size .ensures ∙ ap sizeOf d in
+    let size = c .before .before .before .before .before .before .before .size .ensures ∙ ap magnitudeOf d in
     simp (c .digit7 .ensures, c .before .digit6 .ensures, c .before .before .digit5 .ensures, c .before .before .before .digit4 .ensures, c .before .before .before .before .digit3 .ensures, c .before .before .before .before .before .digit2 .ensures, c .before .before .before .before .before .before .digit .ensures, sign, size, s)
 
 pub time-text-spec : {M : Type 1} → statement M

@@ -1,5 +1,4 @@
 -- `map_form::writing::in_range` meets its contract: one comparison of sizes.
-use mathlib.Core.Path.{_∙_}
 use Prim.Native.Nat.{_^_}
 use native.Mathlib.Omega.{arith}
 use lib.Dec.{le→leb}

@@ -1,7 +1,6 @@
 -- `map_form::writing::sign_of` meets its contract: a law for a zero and one for all else.
-use mathlib.Core.Path.{_≡_, sym, ap, _∙_}
+use mathlib.Core.Path.{sym, ap, _∙_}
 use mathlib.Core.Bool.{Bool, cond}
-use Prim.Native.Nat.{ℕ}
 use Rattle.float64.specs.Words.{isNegativeOf}
 use Rattle.map_form.proofs.Signs.{naught, some}
 use borrow.Author.Needs.{needs}

@@ -1,5 +1,5 @@
 -- `map_form::writing::write` meets its contract: in range and out of it.
-use mathlib.Core.Path.{_≡_, sym, _∙_}
+use mathlib.Core.Path.{sym, _∙_}
 use Rattle.map_form.proofs.Range.{wider}
 use Rattle.map_form.proofs.Signs.{inside, outside}
 use borrow.Author.Needs.{needs}

@@ -2,7 +2,6 @@
 use mathlib.Core.Path.{sym, _∙_}
 use denote.Ref.{now}
 use borrow.Author.Needs.{needs}
-use Rattle.order.specs.Reading.{townOf}
 use Rattle.order.proofs.ReadingLaws.{read-town, refused-town}
 use Rattle.order.proofs.plain.town.Statement.{statement}
 use Rattle.order.proofs.plain.town.Tie as tie

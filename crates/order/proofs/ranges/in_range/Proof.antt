@@ -1,5 +1,4 @@
 -- `order::ranges::in_range` meets its contract.
-use mathlib.Core.Path.{sym}
 use borrow.Author.Tests.{lt-ltb, le-ltb}
 use Rattle.order.proofs.ranges.in_range.Statement.{statement}
 use Rattle.order.proofs.ranges.in_range.Tie as tie

@@ -1,5 +1,5 @@
 -- `order::ranges::rows_fit` meets its contract: a line for each test, with those before it passed.
-use mathlib.Core.Path.{sym, _∙_}
+use mathlib.Core.Path.{sym}
 use borrow.Author.Tests.{le-leb, lt-leb}
 use denote.Ref.{now}
 use Rattle.order.specs.Ranges.{rowsFit}

@@ -1,6 +1,4 @@
 use native.Mathlib.Omega.{arith}
-use mathlib.Core.Path.{_≡_, sym, ap, _∙_}
-use lib.ListN.{length}
 use denote.Ref.{now}
 use Rattle.rows.proofs.Lengths.{header-short, head-length, head-made}
 use borrow.Author.Needs.{needs}

@@ -1,10 +1,10 @@
-use Rattle.weeks.specs.State.{lastOf}
+use Rattle.weeks.specs.State.{lastWindowOf}
 use borrow.Author.Needs.{needs}
 use Rattle.weeks.proofs.week.last.Statement.{statement}
 use Rattle.weeks.proofs.week.last.Tie as tie
 
 returns : tie.Need-returns
-unfolding lastOf
+unfolding lastWindowOf
 returns c =
     simp (
       c .seen6 .ensures,

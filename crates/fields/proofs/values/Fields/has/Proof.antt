@@ -1,5 +1,4 @@
 -- `fields::values::Fields::has` meets its contract.
-use borrow.Author.Needs.{needs}
 use Rattle.fields.proofs.values.Fields.has.Statement.{statement}
 use Rattle.fields.proofs.values.Fields.has.Tie as tie
 

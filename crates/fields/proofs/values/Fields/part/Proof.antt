@@ -1,6 +1,5 @@
 -- `fields::values::Fields::part` meets its contract: past the table's end `getD` gives 0.
 use native.Mathlib.Omega.{arith}
-use Prim.Native.Nat.{ℕ}
 use mathlib.Core.Path.{_≡_}
 use lib.ListN.{length, getD, List·getD-eq-default}
 use borrow.Author.Needs.{needs}

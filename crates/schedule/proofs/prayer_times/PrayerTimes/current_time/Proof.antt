@@ -4,7 +4,7 @@ use Rattle.integers.proofs.Ranges.{readBack}
 use Rattle.schedule.specs.declared.in_force.Current.the-variants.{Some}
 use Rattle.schedule.proofs.Due as due
 use mathlib.Core.Path.{_≡_, refl, sym, ap, _∙_}
-use Prim.Native.Nat.{_≤_, _-_}
+use Prim.Native.Nat.{_≤_}
 use native.Mathlib.Omega.{arith}
 use borrow.Author.Needs.{needs}
 use Rattle.schedule.specs.InForce.{lastOf, aheadOf, timeOf}
