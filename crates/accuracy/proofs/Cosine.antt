@@ -1,15 +1,7 @@
 -- The bound of the cosine, in units of 2 ^ -64. k_cos.c gives 1 - (z / 2 - z z (C1 + z (C2 + ..))) with z = x x, from 0.3 on by way of q, about x / 4.
 -- Roundings put it at most 7,297 units off, below 0.3 at most 3,713. Done exactly it is 1 + z p, and p lies within 2 ^ 10 units of nine terms of the
 -- series, which makes at most 577 units more. Together they are less than 2 ^ 13 units, 2 ^ -51. Assumes nothing.
-use mathlib.Core.Path.{_≡_, refl, sym, _∙_}
-use mathlib.Core.Bool.{Bool, true, false, cond}
-use mathlib.Core.List.{List, [], _∷_}
-use Prim.Native.Nat.{ℕ, _+_, _*_, _^_, _≤_, _<_}
-use native.Mathlib.Nat.{le-trans, mul-pos, one-mul, one-le-pow, pow-zero, pow-succ'}
-use native.Mathlib.Omega.{arith}
-use borrow.Author.Tests.{le-leb}
-use lib.IntN.{ℤ}
-use lib.Dec.{T, ltb, lit<, lit≤}
+use Rattle.prelude.proofs.Logic.{_≡_, refl, sym, _∙_, Bool, true, false, cond, List, [], _∷_, ℕ, _+_, _*_, _^_, _≤_, _<_, le-trans, mul-pos, one-mul, one-le-pow, pow-zero, pow-succ', arith, T, ltb, lit<, lit≤, ℤ, le-leb}
 use lib.Ieee.{Float, fin, up, down, size, ofBits, neg}
 use lib.Ieee.Fits.{down-pos}
 use Rattle.float64.specs.Words.{highOf}

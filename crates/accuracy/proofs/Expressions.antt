@@ -1,10 +1,6 @@
 -- How roundings add up: expressions, what they give where each operation is rounded, what they are exactly, and how far the one can be from the
 -- other. Assumes nothing.
-use Prim.Native.Nat.{ℕ, _+_, _*_, _/_, _≤_}
-use native.Mathlib.Nat.{add-comm, lt-div-mul-add}
-use native.Mathlib.Omega.{arith}
-use mathlib.Core.Bool.{Bool, true, _&&_}
-use lib.Dec.{T, leb, leb→le, eqb, eqb→eq}
+use Rattle.prelude.proofs.Logic.{Bool, true, _&&_, ℕ, _+_, _*_, _/_, _≤_, add-comm, lt-div-mul-add, arith, T, leb, leb→le, eqb, eqb→eq}
 use lib.Ieee.{Float, binary64, add, sub, mul}
 use lib.Ieee.Fits.{and-l, and-r}
 use lib.Ieee.Scale.{finite}

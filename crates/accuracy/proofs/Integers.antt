@@ -1,12 +1,6 @@
 -- From fractions to the statement: the sides of an alternating sum of integers, and what a float near a fraction is within. Assumes nothing.
-use mathlib.Core.Path.{_≡_, refl, ap}
-use mathlib.Core.Bool.{Bool, true, false, not, _&&_, cond}
-use mathlib.Core.List.{List, [], _∷_}
-use Prim.Native.Nat.{ℕ, zero, suc, _+_, _-_, _*_, _/_, _^_, _≤_}
-use native.Mathlib.Nat.{le-trans, zero-mul, mul-zero, mul-le-mul-right, le-of-mul-le-mul-right, pow-zero, pow-suc}
-use native.Mathlib.Omega.{arith}
-use lib.IntN.{ℤ, pos, negsuc, negℤ, natAbs, pow, one, _-ℤ_, _*ℤ_}
-use lib.Pow.{pow-mono}
+use Rattle.prelude.proofs.Logic.{_≡_, refl, ap, Bool, true, false, not, _&&_, cond, List, [], _∷_, ℕ, zero, suc, _+_, _-_, _*_, _/_, _^_, _≤_, le-trans, zero-mul, mul-zero, mul-le-mul-right, le-of-mul-le-mul-right, pow-zero, pow-suc, arith, ℤ, pos, negsuc, negℤ, natAbs, _-ℤ_, _*ℤ_, pow-mono}
+use lib.IntN.{pow, one}
 use lib.Ieee.{Float, nan, inf, fin, up}
 use Rattle.integers.specs.Parts.{P, N}
 use Rattle.integers.proofs.Sums as integers

@@ -1,13 +1,6 @@
 -- What the two kernels share: an argument x of at most 3 / 4 in size, a second float q of at most 1 / 4, the square z of x, and a polynomial
 -- 1 + z * (k + z * ..) beside the first ten terms of a series. Assumes nothing.
-use mathlib.Core.Path.{_≡_, refl, sym, _∙_}
-use mathlib.Core.Bool.{Bool, true, false}
-use mathlib.Core.List.{List, _∷_}
-use Prim.Native.Nat.{ℕ, _+_, _*_, _^_, _≤_, _<_}
-use native.Mathlib.Nat.{zero-add, one-mul, mul-one, zero-mul, mul-le-mul, mul-le-mul-right, mul-le-mul-left, le-of-mul-le-mul-right}
-use native.Mathlib.Omega.{arith}
-use lib.IntN.{ℤ}
-use lib.Dec.{T, lit<, lit≤}
+use Rattle.prelude.proofs.Logic.{_≡_, refl, sym, _∙_, Bool, true, false, List, _∷_, ℕ, _+_, _*_, _^_, _≤_, _<_, zero-add, one-mul, mul-one, zero-mul, mul-le-mul, mul-le-mul-right, mul-le-mul-left, le-of-mul-le-mul-right, arith, T, lit<, lit≤, ℤ}
 use lib.Ieee.{Float, nan, inf, fin, up, down, size, round}
 use lib.Ieee.Exact.{HasValue}
 use Rattle.float64.specs.Ops.{dec}

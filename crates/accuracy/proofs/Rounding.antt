@@ -1,13 +1,6 @@
 -- One rounding: a fraction of up to S units, at most 2 in size, goes to a finite float that is no further off than half of S's last place.
 -- Assumes nothing.
-use mathlib.Core.Path.{_≡_, refl, sym, ap, _∙_, subst}
-use mathlib.Core.Bool.{Bool, true, false, not}
-use Prim.Native.Nat.{ℕ, _+_, _-_, _*_, _/_, _%_, _^_, _≤_, _<_, compare, Ordering, Ordering·lt, Ordering·eq, Ordering·gt}
-use native.Mathlib.Nat.{le-trans, le-of-eq, lt-of-le-of-lt, add-le-add, mul-assoc, mul-pos, mul-le-mul-right, mul-le-mul-left, le-of-mul-le-mul-right, div-add-mod', mod-lt, div-lt-iff-lt-mul}
-use native.Mathlib.Omega.{arith}
-use lib.IntN.{ℤ}
-use lib.Dec.{T, isLe, isEq, leb→le, nleb→lt, eqb→eq, lit<}
-use lib.Pow.{pow-pos, pow-mono, pow-add}
+use Rattle.prelude.proofs.Logic.{_≡_, refl, sym, ap, _∙_, subst, Bool, true, false, not, ℕ, _+_, _-_, _*_, _/_, _%_, _^_, _≤_, _<_, compare, Ordering, Ordering·lt, Ordering·eq, Ordering·gt, le-trans, le-of-eq, lt-of-le-of-lt, add-le-add, mul-assoc, mul-pos, mul-le-mul-right, mul-le-mul-left, le-of-mul-le-mul-right, div-add-mod', mod-lt, div-lt-iff-lt-mul, arith, T, isLe, isEq, leb→le, nleb→lt, eqb→eq, lit<, ℤ, pow-pos, pow-mono, pow-add}
 use lib.Ieee.{Float, nan, inf, fin, binary64, up, down, size, nearest, round}
 use lib.Ieee.Digits.{size-lt, size-le}
 use lib.Ieee.Exact.{HasValue, units-val}

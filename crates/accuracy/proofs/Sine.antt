@@ -1,15 +1,7 @@
 -- The bound of the sine, in units of 2 ^ -64. k_sin.c gives x + z x (S1 + z (S2 + ..)) with z = x x, which roundings put at most 1,493 units off.
 -- Done exactly it is x (1 + z p), and p lies within 2 ^ 13 units of nine terms of the series, which makes at most 3,457 units more. Together they are
 -- less than 2 ^ 13 units, 2 ^ -51. Assumes nothing.
-use mathlib.Core.Path.{_≡_, refl, _∙_}
-use mathlib.Core.Bool.{Bool, true, false, not, cond}
-use mathlib.Core.List.{List, [], _∷_}
-use Prim.Native.Nat.{ℕ, _+_, _*_, _^_, _≤_, _<_}
-use native.Mathlib.Nat.{le-trans, add-comm, mul-pos, one-le-pow, pow-zero, pow-succ'}
-use native.Mathlib.Omega.{arith}
-use borrow.Author.Tests.{le-leb}
-use lib.IntN.{ℤ, pos}
-use lib.Dec.{T, ltb, lit<, lit≤}
+use Rattle.prelude.proofs.Logic.{_≡_, refl, _∙_, Bool, true, false, not, cond, List, [], _∷_, ℕ, _+_, _*_, _^_, _≤_, _<_, le-trans, add-comm, mul-pos, one-le-pow, pow-zero, pow-succ', arith, T, ltb, lit<, lit≤, ℤ, pos, le-leb}
 use lib.Ieee.{Float, fin, up, down, size, ofBits}
 use lib.Ieee.Fits.{down-pos}
 use Rattle.float64.specs.Words.{highOf}

@@ -1,12 +1,6 @@
 -- The set bits of a cell are its raised dots, and a row's cells have no other bits. Assumes nothing.
-use native.Mathlib.Omega.{arith}
-use native.Mathlib.Numerals.{add-one}
-use Prim.Native.Nat.{ℕ, zero, suc, _+_, _*_, _/_, _%_, _<_, _≤_}
-use mathlib.Core.Path.{_≡_, ap, _∙_}
-use mathlib.Core.List.{List, [], _∷_, _++_}
+use Rattle.prelude.proofs.Logic.{_≡_, ap, _∙_, List, [], _∷_, _++_, ℕ, zero, suc, _+_, _*_, _/_, _%_, _<_, _≤_, add-one, arith, ℤ, length, getD, take, replicate}
 use lib.Count.{ones, ones-step}
-use lib.IntN.{ℤ}
-use lib.ListN.{length, getD, take, replicate}
 use Rattle.calendar.specs.declared.dates.Date.{Date}
 use Rattle.schedule.specs.declared.prayer_times.Worked.{Worked}
 use Rattle.schedule.specs.declared.prayer_times.Worked.the-variants.{Times, Refused}

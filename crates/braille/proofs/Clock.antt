@@ -1,10 +1,5 @@
 -- The minute of the day by the clock, from what is left of both within the day. Assumes nothing.
-use native.Mathlib.Omega.{arith}
-use Prim.Native.Nat.{_+_, _/_, _%_}
-use mathlib.Core.Path.{_≡_, sym, ap, subst, _∙_}
-use lib.IntN.{ℤ, pos, _+ℤ_, _*ℤ_}
-use mir.Syntax.{w32, w64}
-use mir.Val.{SFits}
+use Rattle.prelude.proofs.Logic.{_≡_, sym, ap, subst, _∙_, _+_, _/_, _%_, arith, ℤ, pos, _+ℤ_, _*ℤ_, w32, w64, SFits}
 use Rattle.integers.proofs.QuotientLaws.{floored}
 use Rattle.integers.proofs.Ranges.{range, fits, readBack, read, read-wide}
 use Rattle.integers.proofs.Sums.{sum, times}

@@ -1,9 +1,5 @@
 -- The neighbours of a date by its day of the year: the way that the code takes is the calendar's rule. Assumes nothing.
-use mathlib.Core.Path.{_≡_, refl, ap, _∙_, subst}
-use mathlib.Core.Bool.{Bool, true, false, cond}
-use Prim.Native.Nat.{_+_, _-_, _≤_, _<_}
-use native.Mathlib.Omega.{arith}
-use borrow.Author.Tests.{le-leb}
+use Rattle.prelude.proofs.Logic.{_≡_, refl, ap, _∙_, subst, Bool, true, false, cond, _+_, _-_, _≤_, _<_, arith, le-leb}
 use Rattle.calendar.specs.Gregorian.{dateOf, existsOf, dayBeforeOf}
 use Rattle.calendar.specs.Days.{daysBeforeYearOf, ordinalOf, ofOrdinalOf}
 use Rattle.calendar.specs.Answers.{heldOf, fromOf, yesterdayOf}

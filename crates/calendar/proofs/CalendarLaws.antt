@@ -1,12 +1,6 @@
 -- The laws of the calendar: the formulas of Days give the calendar of Gregorian, in every year. Assumes nothing.
 -- That the rows are the running sums of the months' lengths is before-january, before-next and before-december of MonthTables.
-use mathlib.Core.Path.{_≡_, refl, sym, ap, _∙_}
-use mathlib.Core.Bool.{true}
-use Prim.Native.Nat.{ℕ, _+_, _%_, _≤_}
-use native.Mathlib.Omega.{arith}
-use lib.IntN.{ℤ, pos, negsuc, _+ℤ_, +ℤ-idr}
-use lib.Dec.{lit<}
-use lib.Signed.{leZ}
+use Rattle.prelude.proofs.Logic.{_≡_, refl, sym, ap, _∙_, true, ℕ, _+_, _%_, _≤_, arith, lit<, ℤ, pos, negsuc, _+ℤ_, +ℤ-idr, leZ}
 use Rattle.integers.specs.Parts.{P, N}
 use Rattle.integers.proofs.PartsLaws.{same, not-negative}
 use Rattle.integers.proofs.Sums.{sum, difference}

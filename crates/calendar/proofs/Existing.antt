@@ -1,10 +1,5 @@
 -- Dates that exist: their place in the year and in the count of days, and the way back from there. Assumes nothing.
-use mathlib.Core.Path.{_≡_, refl, sym, ap, _∙_, subst}
-use mathlib.Core.Bool.{Bool, true, false, cond, _&&_, true≢false}
-use Prim.Native.Nat.{ℕ, _+_, _-_, _≤_, _<_}
-use native.Mathlib.Omega.{arith}
-use lib.Dec.{leb, lit≤}
-use borrow.Author.Tests.{leb-true, le-leb}
+use Rattle.prelude.proofs.Logic.{_≡_, refl, sym, ap, _∙_, subst, Bool, true, false, cond, _&&_, true≢false, ℕ, _+_, _-_, _≤_, _<_, arith, leb, lit≤, leb-true, le-leb}
 use Rattle.calendar.specs.Gregorian.{dateOf, leapOf, daysInMonthOf, existsOf}
 use Rattle.calendar.specs.Days.{daysBeforeOf, daysInYearOf, ordinalOf, ofOrdinalOf, monthOf, daysBeforeYearOf, dateAtOf, yearOf}
 use Rattle.calendar.specs.declared.dates.Date.{Date}

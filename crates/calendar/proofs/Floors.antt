@@ -1,13 +1,5 @@
 -- A quotient toward zero, less one where the remainder is negative, is the quotient rounded down; and it fits. Assumes nothing.
-use mathlib.Core.Path.{_≡_, refl, sym, ap, subst, _∙_}
-use Prim.Native.Nat.{suc, _/_, _%_}
-use mathlib.Core.Bool.{true, false}
-use native.Mathlib.Omega.{arith}
-use lib.Dec.{lit<}
-use lib.IntN.{ℤ, pos, negsuc, negℤ, _-ℤ_}
-use lib.Signed.{ltZ, quotZ, remZ}
-use mir.Syntax.{w64}
-use mir.Val.{SFits}
+use Rattle.prelude.proofs.Logic.{_≡_, refl, sym, ap, subst, _∙_, true, false, suc, _/_, _%_, arith, lit<, ℤ, pos, negsuc, negℤ, _-ℤ_, ltZ, quotZ, remZ, w64, SFits}
 use Rattle.integers.proofs.PartsLaws.{same}
 use Rattle.integers.proofs.Sums.{flip, difference}
 use Rattle.integers.specs.Quotients.{floorQuot}

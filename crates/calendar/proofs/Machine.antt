@@ -1,14 +1,5 @@
 -- Day numbers as i64: no step of the code loses anything. Assumes nothing.
-use mathlib.Core.Path.{_≡_, sym, ap, _∙_}
-use mathlib.Core.Bool.{true, false}
-use Prim.Native.Nat.{ℕ, _+_, _%_, _^_, _≤_, _<_}
-use native.Mathlib.Omega.{arith}
-use lib.Dec.{T, lit<}
-use lib.IntN.{ℤ, pos, negsuc, natAbs, _+ℤ_, _-ℤ_}
-use lib.Signed.{ltZ, quotZ, remZ, nonNeg}
-use mir.Syntax.{w64, w32}
-use mir.Val.{SFits, Fits, toZ}
-use borrow.Author.Tests.{le-leb, lt-leb}
+use Rattle.prelude.proofs.Logic.{_≡_, sym, ap, _∙_, true, false, ℕ, _+_, _%_, _^_, _≤_, _<_, arith, T, lit<, ℤ, pos, negsuc, natAbs, _+ℤ_, _-ℤ_, ltZ, quotZ, remZ, nonNeg, le-leb, lt-leb, w64, w32, SFits, Fits, toZ}
 use Rattle.integers.specs.Parts.{P, N}
 use Rattle.integers.proofs.PartsLaws.{natural, not-negative, not-positive}
 use Rattle.integers.proofs.Sums.{sum, difference}

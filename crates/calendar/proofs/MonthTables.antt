@@ -1,11 +1,5 @@
 -- The rows of days before each month, held to the months' lengths by tests that antt computes. Assumes nothing.
-use mathlib.Core.Path.{_≡_, refl, sym}
-use mathlib.Core.Bool.{Bool, true, false, cond, not, _&&_, _||_}
-use Prim.Native.Nat.{ℕ, zero, suc, _+_, _-_, _/_, _≤_, _<_}
-use native.Mathlib.Omega.{arith}
-use borrow.Author.Tests.{ltb-true, ltb-false}
-use lib.Dec.{T, eqb, ltb, leb, eqb→eq, leb→le, ltb→lt, le→leb, lit≤}
-use lib.ListN.{List·getD-eq-default}
+use Rattle.prelude.proofs.Logic.{_≡_, refl, sym, Bool, true, false, cond, not, _&&_, _||_, ℕ, zero, suc, _+_, _-_, _/_, _≤_, _<_, arith, T, eqb, ltb, leb, eqb→eq, leb→le, ltb→lt, le→leb, lit≤, List·getD-eq-default, ltb-true, ltb-false}
 use lib.Ieee.Fits.{and-l, and-r}
 use Rattle.calendar.specs.Gregorian.{lengthsOf, lengthOf}
 use Rattle.calendar.specs.Days.{monthStartsOf, daysBeforeOf, countBelow, monthOf}

@@ -1,10 +1,5 @@
 -- The day after a date that exists, by the calendar's rule, exists and counts one more; the day before it one less. Assumes nothing.
-use mathlib.Core.Path.{_≡_, refl, ap, _∙_, subst}
-use mathlib.Core.Bool.{Bool, true, false, cond}
-use Prim.Native.Nat.{ℕ, _+_, _-_, _<_}
-use native.Mathlib.Omega.{arith}
-use lib.Dec.{ltb}
-use borrow.Author.Tests.{ltb-true, ltb-false}
+use Rattle.prelude.proofs.Logic.{_≡_, refl, ap, _∙_, subst, Bool, true, false, cond, ℕ, _+_, _-_, _<_, arith, ltb, ltb-true, ltb-false}
 use Rattle.calendar.specs.Gregorian.{dateOf, leapOf, lengthOf, daysInMonthOf, existsOf, dayAfterOf, dayBeforeOf}
 use Rattle.calendar.specs.Days.{daysInYearOf}
 use Rattle.calendar.specs.declared.dates.Date.{Date}

@@ -1,10 +1,5 @@
 -- A second of the day by an instant's parts. Assumes nothing.
-use mathlib.Core.Path.{_≡_, refl}
-use mathlib.Core.Bool.{true, false}
-use Prim.Native.Nat.{_+_, _-_, _%_}
-use native.Mathlib.Omega.{arith}
-use lib.IntN.{ℤ, pos, negsuc}
-use lib.Signed.{ltZ}
+use Rattle.prelude.proofs.Logic.{_≡_, refl, true, false, _+_, _-_, _%_, arith, ℤ, pos, negsuc, ltZ}
 use Rattle.integers.specs.Parts.{P, N}
 use Rattle.integers.specs.Quotients.{floorRem}
 use Rattle.integers.proofs.OrderLaws.{lt-yes, lt-no}

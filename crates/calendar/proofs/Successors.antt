@@ -1,11 +1,5 @@
 -- The days before and after a date, and the dates of rows, where every year fits a u32. Assumes nothing.
-use mathlib.Core.Path.{_≡_, sym, ap, subst, _∙_}
-use mathlib.Core.Bool.{Bool, true, false, cond}
-use Prim.Native.Nat.{ℕ, _+_, _≤_}
-use native.Mathlib.Omega.{arith}
-use lib.Dec.{ltb}
-use lib.IntN.{pos, _+ℤ_}
-use borrow.Author.Tests.{le-leb}
+use Rattle.prelude.proofs.Logic.{_≡_, sym, ap, subst, _∙_, Bool, true, false, cond, ℕ, _+_, _≤_, arith, ltb, pos, _+ℤ_, le-leb}
 use Rattle.calendar.specs.Answers.{heldOf, fromOf, tomorrowOf, yesterdayOf, rowDateOf}
 use Rattle.calendar.specs.Days.{dayNumberOf, dateOfDayOf}
 use Rattle.calendar.specs.Gregorian.{dateOf, existsOf, daysInMonthOf, dayAfterOf, dayBeforeOf}

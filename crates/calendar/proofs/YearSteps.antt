@@ -1,12 +1,5 @@
 -- Years follow each other without a gap in the count of days, and the quotient finds the year of each day. Assumes nothing.
-use mathlib.Core.Path.{_≡_, refl, sym, subst}
-use mathlib.Core.Bool.{Bool, true, false, cond, not, _&&_, _||_}
-use Prim.Native.Nat.{ℕ, zero, suc, _+_, _-_, _*_, _/_, _%_, _≤_, _<_}
-use native.Mathlib.Nat.{zero-add, le-refl, le-antisymm}
-use native.Mathlib.Numerals.{add-one}
-use native.Mathlib.Omega.{arith}
-use lib.Dec.{T, ltb, leb}
-use borrow.Author.Tests.{eqb-true, eqb-false, ltb-true, ltb-false, leb-true, leb-false}
+use Rattle.prelude.proofs.Logic.{_≡_, refl, sym, subst, Bool, true, false, cond, not, _&&_, _||_, ℕ, zero, suc, _+_, _-_, _*_, _/_, _%_, _≤_, _<_, zero-add, le-refl, le-antisymm, add-one, arith, T, ltb, leb, eqb-true, eqb-false, ltb-true, ltb-false, leb-true, leb-false}
 use Rattle.calendar.specs.Gregorian.{divides, leapOf}
 use Rattle.calendar.specs.Days.{daysInYearOf, daysBeforeYearOf, lastBy, yearOf}
 

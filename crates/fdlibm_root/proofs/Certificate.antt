@@ -1,12 +1,5 @@
 -- The whole-number arithmetic that decides on a candidate s.
-use Prim.Native.Nat.{ℕ, _+_, _-_, _*_, _/_, _%_, _^_, _≤_, _<_}
-use mathlib.Core.Path.{_≡_, refl, ap}
-use mathlib.Core.Bool.{Bool, true, false}
-use native.Mathlib.Nat.{div-add-mod', mul-le-mul}
-use native.Mathlib.Omega.{arith}
-use lib.Dec.{leb, ltb, lit≤}
-use borrow.Author.Tests.{leb-true, leb-false, ltb-true, ltb-false}
-use mir.Val.{boolByte}
+use Rattle.prelude.proofs.Logic.{_≡_, refl, ap, Bool, true, false, ℕ, _+_, _-_, _*_, _/_, _%_, _^_, _≤_, _<_, div-add-mod', mul-le-mul, arith, leb, ltb, lit≤, leb-true, leb-false, ltb-true, ltb-false, boolByte}
 use Rattle.fdlibm_root.specs.Near.{NearRoot}
 
 -- ---- the products of the two halves of an s of 53 digits fit

@@ -1,11 +1,5 @@
 -- What a turn of the digit loop keeps, what it gives at the end, and how its last digit rounds.
-use Prim.Native.Nat.{ℕ, zero, suc, _+_, _-_, _*_, _/_, _%_, _^_, _≤_, _<_}
-use mathlib.Core.Path.{_≡_, refl, ap}
-use mathlib.Core.Logic.{_⊎_, inl, inr}
-use native.Mathlib.Nat.{lt-of-lt-of-le, pow-le-pow-right, pow-suc}
-use native.Mathlib.Numerals.{add-one}
-use native.Mathlib.Omega.{arith}
-use lib.Dec.{lit<}
+use Rattle.prelude.proofs.Logic.{_≡_, refl, ap, _⊎_, inl, inr, ℕ, zero, suc, _+_, _-_, _*_, _/_, _%_, _^_, _≤_, _<_, lt-of-lt-of-le, pow-le-pow-right, pow-suc, add-one, arith, lit<}
 use Rattle.fdlibm_root.specs.Root.{Root}
 use Rattle.fdlibm_root.specs.Near.{NearRoot}
 

@@ -1,8 +1,5 @@
 -- The reduction gives the quarter turns by their remainder by 4. Assumes nothing.
-use mathlib.Core.Bool.{Bool, true, false, cond}
-use Prim.Native.Nat.{_<_}
-use native.Mathlib.Omega.{arith}
-use lib.Dec.{ltb, leb}
+use Rattle.prelude.proofs.Logic.{Bool, true, false, cond, _<_, arith, ltb, leb}
 use lib.Ieee.{Float, lt}
 use Rattle.float64.specs.Sizes.{absOf}
 use Rattle.float64.specs.Words.{highOf}

@@ -1,14 +1,6 @@
 -- What one walk over the fields of an order collects is what the definitions find tag by tag, and what it has collected says which tags stand
 -- before the field that it has come to. Assumes nothing.
-use native.Mathlib.Omega.{arith}
-use Prim.Native.Nat.{ℕ, zero, suc, _≤_, _<_, _+_, _-_}
-use mathlib.Core.Path.{_≡_, refl, sym, ap, _∙_}
-use mathlib.Core.Bool.{Bool, true, false, cond}
-use mathlib.Core.List.{List}
-use lib.ListN.{length, take, drop, getD, set, replicate, getD-replicate, length-set, List·getD-eq-default, take-append-drop}
-use lib.Seq.{ext-getD, getD-set-same, getD-set-other, take-append-seam}
-use lib.Dec.{ltb, eqb}
-use borrow.Author.Tests.{lt-ltb, le-ltb, eq-eqb, ne-eqb, ltb-true, ltb-false, eqb-true, eqb-false}
+use Rattle.prelude.proofs.Logic.{_≡_, refl, sym, ap, _∙_, Bool, true, false, cond, List, ℕ, zero, suc, _≤_, _<_, _+_, _-_, arith, ltb, eqb, length, take, drop, getD, set, replicate, getD-replicate, length-set, List·getD-eq-default, take-append-drop, ext-getD, getD-set-same, getD-set-other, take-append-seam, lt-ltb, le-ltb, eq-eqb, ne-eqb, ltb-true, ltb-false, eqb-true, eqb-false}
 use Rattle.refusals.specs.Refusals.{refusal, noRefusal}
 use Rattle.refusals.specs.declared.Refusal.{Refusal}
 use Rattle.fields.specs.declared.values.Checked.{Checked}

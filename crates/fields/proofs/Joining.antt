@@ -1,17 +1,6 @@
 -- Laws of the numbers that bytes write: a byte put behind others by a shift, and sixteen bits with a sign in an i32.
-use native.Mathlib.Omega.{arith}
-use Prim.Native.Nat.{ℕ, _≤_, _<_, _+_, _*_, _^_, _%_}
-use native.Mathlib.Nat.{mod-eq-of-lt, lt-of-lt-of-le}
-use native.Mathlib.Numerals.{add-one}
-use mathlib.Core.Path.{_≡_, sym, ap, _∙_}
-use mathlib.Core.List.{List}
-use lib.Pow.{pow-mono, pow-add}
+use Rattle.prelude.proofs.Logic.{_≡_, sym, ap, _∙_, List, ℕ, _≤_, _<_, _+_, _*_, _^_, _%_, mod-eq-of-lt, lt-of-lt-of-le, add-one, arith, pos, _-ℤ_, pow-mono, pow-add, lt-ltb, le-ltb, w32, toZ, ofZ, SFits, toZ-pos, toZ-ofZ}
 use lib.Bits.{bitOr, or-shifted}
-use lib.IntN.{pos, _-ℤ_}
-use borrow.Author.Tests.{lt-ltb, le-ltb}
-use mir.Syntax.{w32}
-use mir.Val.{toZ, ofZ, SFits}
-use mir.Facts.{toZ-pos, toZ-ofZ}
 use Rattle.fields.specs.Numbers.{byteOf, unsignedOf, signedAtOf, bytesNumberOf}
 
 pub join-on : (v : List ℕ) (i : ℕ) → bytesNumberOf (i + 1) v ≡ bytesNumberOf i v * 256 + byteOf v i

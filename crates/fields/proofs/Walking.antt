@@ -1,10 +1,5 @@
 -- One step of each definition that goes over the fields.
-use native.Mathlib.Omega.{arith}
-use Prim.Native.Nat.{ℕ, zero, suc, _≤_, _<_, _+_}
-use mathlib.Core.Path.{_≡_, refl}
-use mathlib.Core.List.{List}
-use lib.ListN.{length}
-use borrow.Author.Tests.{lt-ltb, le-ltb, eq-eqb, ne-eqb}
+use Rattle.prelude.proofs.Logic.{_≡_, refl, List, ℕ, zero, suc, _≤_, _<_, _+_, arith, length, lt-ltb, le-ltb, eq-eqb, ne-eqb}
 use Rattle.fields.specs.Numbers.{byteOf}
 use Rattle.fields.specs.Fields.{firstBefore, nextFieldAt, faultOf, walkOf}
 use Rattle.refusals.specs.Refusals.{refusal}

@@ -1,12 +1,5 @@
 -- What the three definitions of specs/Whole.antt have in common: a number with no fraction is its own result, and two of them are odd. Assumes nothing.
-use mathlib.Core.Path.{_≡_, refl, sym, ap, _∙_}
-use Prim.Native.Nat.{ℕ, suc, _+_, _*_, _%_, _^_, _≤_}
-use native.Mathlib.Nat.{zero-mod, mod-one, div-add-mod'}
-use native.Mathlib.Omega.{arith}
-use mathlib.Core.Bool.{Bool, true, false, cond, false≢true}
-use lib.IntN.{ℤ, pos, negsuc}
-use lib.Dec.{T, eqb, lit<}
-use borrow.Author.Tests.{ltb-true, ltb-false, lt-ltb, eq-eqb}
+use Rattle.prelude.proofs.Logic.{_≡_, refl, sym, ap, _∙_, Bool, true, false, cond, false≢true, ℕ, suc, _+_, _*_, _%_, _^_, _≤_, zero-mod, mod-one, div-add-mod', arith, T, eqb, lit<, ℤ, pos, negsuc, ltb-true, ltb-false, lt-ltb, eq-eqb}
 use lib.Ieee.{Float, nan, inf, fin, binary64, up, down, fits, ofBits, ofInt, neg, lt}
 use lib.Ieee.Fits.{round-fits}
 use Rattle.float64.specs.Whole.{floorOf, truncOf, roundOf, wholePart, fraction, halfUp}

@@ -1,13 +1,5 @@
 -- From the whole number near x to the one below, the one above and the nearest, for 0 < x < 2 ^ 52. A test is added as 0 or 1. Assumes nothing.
-use mathlib.Core.Path.{_≡_, refl, sym, ap, _∙_}
-use Prim.Native.Nat.{ℕ, suc, _+_, _-_, _*_, _%_, _^_, _≤_, _<_}
-use native.Mathlib.Nat.{one-mul, mul-comm, mod-one, mod-le, div-add-mod', div-mul-le-self, le-div-iff-mul-le, div-lt-iff-lt-mul, mul-le-mul-right, lt-of-mul-lt-mul-right, pos-of-ne-zero, add-zero}
-use native.Mathlib.Omega.{arith}
-use mathlib.Core.Bool.{Bool, true, false, not, cond, false≢true}
-use lib.IntN.{ℤ, pos, negsuc}
-use lib.Dec.{T, ltb, eqb, lit<, lit≤}
-use borrow.Author.Tests.{ltb-true, ltb-false, eqb-true, eqb-false, le-ltb}
-use mir.Val.{boolByte}
+use Rattle.prelude.proofs.Logic.{_≡_, refl, sym, ap, _∙_, Bool, true, false, not, cond, false≢true, ℕ, suc, _+_, _-_, _*_, _%_, _^_, _≤_, _<_, one-mul, mul-comm, mod-one, mod-le, div-add-mod', div-mul-le-self, le-div-iff-mul-le, div-lt-iff-lt-mul, mul-le-mul-right, lt-of-mul-lt-mul-right, pos-of-ne-zero, add-zero, arith, T, ltb, eqb, lit<, lit≤, ℤ, pos, negsuc, ltb-true, ltb-false, eqb-true, eqb-false, le-ltb, boolByte}
 use lib.Ieee.{Float, nan, inf, fin, binary64, up, down, fits, ofBits, ofInt, round, neg, lt, add, sub}
 use lib.Ieee.Exact.{HasValue}
 use lib.Ieee.Back.{round-whole}

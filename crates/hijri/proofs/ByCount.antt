@@ -1,11 +1,5 @@
 -- The date of a day by its number, within the years that a u32 holds. Assumes nothing.
-use mathlib.Core.Path.{_≡_, refl, ap}
-use mathlib.Core.Bool.{Bool, true, false, cond}
-use Prim.Native.Nat.{ℕ, _+_, _-_, _≤_, _<_}
-use native.Mathlib.Omega.{arith}
-use lib.Dec.{leb}
-use lib.IntN.{ℤ, pos, _+ℤ_}
-use borrow.Author.Tests.{leb-true, le-leb, lt-leb}
+use Rattle.prelude.proofs.Logic.{_≡_, refl, ap, Bool, true, false, cond, ℕ, _+_, _-_, _≤_, _<_, arith, leb, ℤ, pos, _+ℤ_, leb-true, le-leb, lt-leb}
 use Rattle.integers.specs.Parts.{P, N}
 use Rattle.integers.proofs.PartsLaws.{not-positive}
 use Rattle.integers.proofs.Sums.{sum}

@@ -1,14 +1,5 @@
 -- Day numbers as i64: no step of the code loses anything. Assumes nothing.
-use mathlib.Core.Path.{_≡_, sym, ap, _∙_}
-use mathlib.Core.Bool.{true, false}
-use Prim.Native.Nat.{ℕ, _+_, _^_, _≤_, _<_}
-use native.Mathlib.Omega.{arith}
-use lib.Dec.{T}
-use lib.IntN.{ℤ, pos, negsuc, natAbs, _+ℤ_, _-ℤ_}
-use lib.Signed.{ltZ, nonNeg}
-use mir.Syntax.{w64}
-use mir.Val.{SFits, Fits, toZ}
-use borrow.Author.Tests.{le-leb}
+use Rattle.prelude.proofs.Logic.{_≡_, sym, ap, _∙_, true, false, ℕ, _+_, _^_, _≤_, _<_, arith, T, ℤ, pos, negsuc, natAbs, _+ℤ_, _-ℤ_, ltZ, nonNeg, le-leb, w64, SFits, Fits, toZ}
 use Rattle.integers.specs.Parts.{P, N}
 use Rattle.integers.proofs.PartsLaws.{natural, not-negative}
 use Rattle.integers.proofs.Sums.{sum, difference}

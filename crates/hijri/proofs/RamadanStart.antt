@@ -1,12 +1,5 @@
 -- The day less the shift as i64, and the days so far away that no shift brings them into the calendar. Assumes nothing.
-use mathlib.Core.Path.{_≡_, refl, sym, ap, _∙_}
-use mathlib.Core.Bool.{true, false}
-use Prim.Native.Nat.{ℕ, _+_, _≤_}
-use native.Mathlib.Omega.{arith}
-use lib.IntN.{ℤ, pos, negsuc, _-ℤ_}
-use lib.Signed.{ltZ}
-use mir.Syntax.{w64, w32}
-use mir.Val.{SFits}
+use Rattle.prelude.proofs.Logic.{_≡_, refl, sym, ap, _∙_, true, false, ℕ, _+_, _≤_, arith, ℤ, pos, negsuc, _-ℤ_, ltZ, w64, w32, SFits}
 use Rattle.integers.specs.Parts.{P, N}
 use Rattle.integers.proofs.Sums.{difference}
 use Rattle.integers.proofs.OrderLaws.{lt-yes, lt-no}

@@ -1,13 +1,6 @@
 -- The laws of the calendar: the formulas of Days give the calendar of Rule, in every year from 1 on. Assumes nothing.
 -- first-day and day-after give every date's number by the rule alone; the last two say that dates and day numbers give each other.
-use mathlib.Core.Path.{_≡_, refl, ap}
-use mathlib.Core.Bool.{Bool, true, false, cond}
-use Prim.Native.Nat.{_+_}
-use native.Mathlib.Omega.{arith}
-use lib.Dec.{ltb}
-use lib.IntN.{ℤ, pos, negsuc, _+ℤ_}
-use lib.Signed.{leZ}
-use borrow.Author.Tests.{ltb-true, ltb-false}
+use Rattle.prelude.proofs.Logic.{_≡_, refl, ap, Bool, true, false, cond, _+_, arith, ltb, ℤ, pos, negsuc, _+ℤ_, leZ, ltb-true, ltb-false}
 use Rattle.integers.specs.Parts.{P, N}
 use Rattle.integers.proofs.PartsLaws.{same, not-negative}
 use Rattle.integers.proofs.Sums.{sum, difference}

@@ -1,12 +1,5 @@
 -- What the calls' definitions are under the tests that the code makes. Assumes nothing.
-use native.Mathlib.Omega.{arith}
-use Prim.Native.Nat.{ℕ, _+_, _-_, _*_, _≤_, _<_}
-use mathlib.Core.Path.{_≡_, refl, ap, _∙_}
-use mathlib.Core.Bool.{Bool, true, false, cond, _&&_}
-use mathlib.Core.List.{List, [], _++_}
-use lib.Dec.{eqb, leb}
-use lib.ListN.{length, take, length-append}
-use borrow.Author.Tests.{le-leb, lt-leb, leb-true, eqb-true}
+use Rattle.prelude.proofs.Logic.{_≡_, refl, ap, _∙_, Bool, true, false, cond, _&&_, List, [], _++_, ℕ, _+_, _-_, _*_, _≤_, _<_, arith, eqb, leb, length, take, length-append, le-leb, lt-leb, leb-true, eqb-true}
 use Rattle.refusals.specs.Refusals.{bufferShort, logSecondShort, logOutOfTurn, logCountOutside}
 use Rattle.text.specs.Text.{putOf}
 use Rattle.text.proofs.TextLaws.{put-behind}

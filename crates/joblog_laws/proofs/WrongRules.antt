@@ -1,12 +1,6 @@
 -- Other rules than the request's, under which the promise fails: for each a short history that breaks it. So `Kept` says something, and each rule of
 -- `asRequested` is needed. Assumes nothing.
-use Prim.Native.Nat.{ℕ}
-use mathlib.Core.Path.{_≡_, refl, ap}
-use mathlib.Core.Bool.{true}
-use mathlib.Core.List.{List, [], _∷_, _++_}
-use native.Mathlib.Omega.{arith}
-use lib.Dec.{leb}
-use lib.ListN.{getD, replicate}
+use Rattle.prelude.proofs.Logic.{_≡_, refl, ap, true, List, [], _∷_, _++_, ℕ, arith, leb, getD, replicate}
 use Rattle.text.specs.Text.{putOf}
 use Rattle.joblog.specs.Records.{bytesOf, recordsOf, inTurn, afterOf, readOf, openOf, compactedOf}
 use Rattle.joblog.specs.Calls.{readLogOf, readAnswer, newInTurn, compactAnswer, loggedOf, appendedOf, appendOf, restartedOf, restartOf}

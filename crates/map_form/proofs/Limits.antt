@@ -1,10 +1,5 @@
 -- What a range of exact values says by comparisons with its two ends. Assumes nothing.
-use mathlib.Core.Path.{_≡_, refl}
-use mathlib.Core.Bool.{Bool, true, false, _&&_, _||_, true≢false, false≢true}
-use Prim.Native.Nat.{ℕ, _+_, _*_, _≤_}
-use native.Mathlib.Omega.{arith}
-use lib.Dec.{ltb, eqb, lit<}
-use borrow.Author.Tests.{leb-true, ltb-false, eq-eqb}
+use Rattle.prelude.proofs.Logic.{_≡_, refl, Bool, true, false, _&&_, _||_, true≢false, false≢true, ℕ, _+_, _*_, _≤_, arith, ltb, eqb, lit<, leb-true, ltb-false, eq-eqb}
 use lib.Ieee.{Float, nan, inf, fin, binary64, up, down, neg, le, round}
 use lib.Ieee.Exact.{HasValue}
 use lib.Ieee.Back.{round-whole}

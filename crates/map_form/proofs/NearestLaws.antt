@@ -1,10 +1,5 @@
 -- The law of the writer: the answer's parts are the hundredths nearest to x, a half away from zero, with x's sign. Assumes nothing.
-use mathlib.Core.Path.{_≡_, refl, sym, ap, _∙_, subst}
-use Prim.Native.Nat.{ℕ, zero, suc, _+_, _*_, _/_, _%_, _≤_, _<_}
-use native.Mathlib.Nat.{div-mul-le-self, lt-div-mul-add, lt-of-mul-lt-mul-right}
-use native.Mathlib.Omega.{arith}
-use mathlib.Core.Bool.{Bool, true, false, cond, false≢true}
-use borrow.Author.Tests.{le-leb}
+use Rattle.prelude.proofs.Logic.{_≡_, refl, sym, ap, _∙_, subst, Bool, true, false, cond, false≢true, ℕ, zero, suc, _+_, _*_, _/_, _%_, _≤_, _<_, div-mul-le-self, lt-div-mul-add, lt-of-mul-lt-mul-right, arith, le-leb}
 use lib.Ieee.{Float, nan, inf, fin, up, down}
 use lib.Ieee.Fits.{down-pos}
 use Rattle.float64.specs.Words.{isNegativeOf}

@@ -1,11 +1,5 @@
 -- Reading and then writing gives the five parts back. Assumes nothing.
-use mathlib.Core.Path.{_≡_, refl, _∙_, ap}
-use Prim.Native.Nat.{ℕ, zero, suc, _*_, _/_, _%_, _≤_}
-use native.Mathlib.Omega.{arith}
-use mathlib.Core.Bool.{Bool, true, false, _&&_, and-eq-true-iff}
-use lib.IntN.{ℤ, pos, negsuc}
-use lib.Dec.{leb, eqb, lit<, lit≤}
-use borrow.Author.Tests.{le-leb, leb-true}
+use Rattle.prelude.proofs.Logic.{_≡_, refl, _∙_, ap, Bool, true, false, _&&_, and-eq-true-iff, ℕ, zero, suc, _*_, _/_, _%_, _≤_, arith, leb, eqb, lit<, lit≤, ℤ, pos, negsuc, le-leb, leb-true}
 use lib.Ieee.{Float, nan, inf, fin, binary64, up, down, round}
 use Rattle.float64.specs.Words.{isNegativeOf}
 use Rattle.float64.proofs.Within.{Within, Signed, round-within, round-signed}

@@ -1,8 +1,5 @@
 -- The writer's answers: in range, with the sign of a count that is not zero, and out of range. Assumes nothing.
-use mathlib.Core.Path.{_≡_, refl}
-use Prim.Native.Nat.{ℕ, zero, suc}
-use native.Mathlib.Omega.{arith}
-use mathlib.Core.Bool.{Bool, true, false, cond}
+use Rattle.prelude.proofs.Logic.{_≡_, refl, Bool, true, false, cond, ℕ, zero, suc, arith}
 use lib.Ieee.{Float}
 use Rattle.float64.specs.Words.{isNegativeOf}
 use Rattle.refusals.specs.Refusals.{refusal, noRefusal}

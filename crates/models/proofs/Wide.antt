@@ -1,9 +1,5 @@
 -- The sum of two i32 numbers as i64. Assumes nothing.
-use mathlib.Core.Path.{_≡_, sym, subst, _∙_}
-use native.Mathlib.Omega.{arith}
-use lib.IntN.{ℤ, _+ℤ_}
-use mir.Syntax.{w32, w64}
-use mir.Val.{SFits}
+use Rattle.prelude.proofs.Logic.{_≡_, sym, subst, _∙_, arith, ℤ, _+ℤ_, w32, w64, SFits}
 use Rattle.integers.proofs.Sums.{sum, summands}
 use Rattle.integers.proofs.Ranges.{range, fits, readBack, read, read-wide}
 

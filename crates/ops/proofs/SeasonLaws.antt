@@ -1,11 +1,6 @@
 -- The season's seconds are less than a day, at every latitude and on every day of a year, so an i32 holds what the source's i64 does. Over the definitions
 -- of `Season`. Assumes nothing.
-use mathlib.Core.Path.{_≡_, sym, _∙_}
-use mathlib.Core.Bool.{Bool, true, false}
-use Prim.Native.Nat.{ℕ, _^_, _≤_, _<_}
-use native.Mathlib.Omega.{arith}
-use lib.Dec.{lit<, lit≤}
-use lib.IntN.{pos}
+use Rattle.prelude.proofs.Logic.{_≡_, sym, _∙_, Bool, true, false, ℕ, _^_, _≤_, _<_, arith, lit<, lit≤, pos}
 use lib.Ieee.{Float, neg, le, toSigned}
 use Rattle.integers.specs.Parts.{P, N}
 use Rattle.integers.proofs.Sums.{flip}

@@ -1,12 +1,6 @@
 -- How many minutes the season gives at most, at every latitude and on every day of a year: each value of `Season`, from the four of the year to the minutes
 -- on a day, by whole bounds that are wider than need be. Assumes nothing.
-use mathlib.Core.Path.{_≡_, refl}
-use mathlib.Core.Bool.{Bool, true, false, cond, and-eq-true-iff}
-use Prim.Native.Nat.{ℕ, _+_, _-_, _*_, _%_, _^_, _≤_, _<_}
-use native.Mathlib.Nat.{mod-le, le-trans}
-use native.Mathlib.Omega.{arith}
-use lib.Dec.{leb, T, leb→le, lit<, lit≤}
-use lib.IntN.{pos}
+use Rattle.prelude.proofs.Logic.{_≡_, refl, Bool, true, false, cond, and-eq-true-iff, ℕ, _+_, _-_, _*_, _%_, _^_, _≤_, _<_, mod-le, le-trans, arith, leb, T, leb→le, lit<, lit≤, pos}
 use lib.Ieee.{Float, binary64, le, ofInt}
 use lib.Ieee.Exact.{HasValue}
 use lib.Ieee.Back.{round-whole}

@@ -1,11 +1,6 @@
 -- The southern count that starts again at the solstice, over the days of every year; and how far either count goes. Assumes nothing.
-use native.Mathlib.Omega.{arith}
-use Prim.Native.Nat.{ℕ, _+_, _-_, _≤_, _<_}
-use mathlib.Core.Path.{_≡_, refl, sym, ap, _∙_}
-use mathlib.Core.Bool.{Bool, true, false, cond}
-use lib.Dec.{leb, lit≤}
+use Rattle.prelude.proofs.Logic.{_≡_, refl, sym, ap, _∙_, Bool, true, false, cond, ℕ, _+_, _-_, _≤_, _<_, arith, leb, lit≤, leb-true, leb-false, le-leb}
 use lib.Ieee.{Float, le}
-use borrow.Author.Tests.{leb-true, leb-false, le-leb}
 use Rattle.float64.specs.Ops.{dec}
 use Rattle.calendar.specs.Gregorian.{leapOf}
 use Rattle.calendar.specs.Days.{daysInYearOf}

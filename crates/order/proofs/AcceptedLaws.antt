@@ -1,15 +1,6 @@
 -- What a caller may rely on once an order is read: its record is one of Accepted.antt. Assumes nothing.
-use native.Mathlib.Omega.{arith}
-use Prim.Native.Nat.{ℕ, _+_, _-_, _≤_, _<_}
-use mathlib.Core.Path.{_≡_, refl, sym, ap, subst}
-use mathlib.Core.Bool.{Bool, true, false, cond, not, _&&_, _||_, and-eq-true-iff, true≢false}
-use mathlib.Core.List.{List}
-use lib.Dec.{leb, eqb, lit≤}
-use lib.ListN.{length, getD}
+use Rattle.prelude.proofs.Logic.{_≡_, refl, sym, ap, subst, Bool, true, false, cond, not, _&&_, _||_, and-eq-true-iff, true≢false, List, ℕ, _+_, _-_, _≤_, _<_, arith, leb, eqb, lit≤, ℤ, pos, negsuc, _-ℤ_, length, getD, leZ, leb-true, eqb-true}
 use lib.Ieee.{Float, neg, le, round}
-use lib.IntN.{ℤ, pos, negsuc, _-ℤ_}
-use lib.Signed.{leZ}
-use borrow.Author.Tests.{leb-true, eqb-true}
 use Rattle.integers.specs.Parts.{P, N, Near}
 use Rattle.integers.proofs.Intervals.{by-balance}
 use Rattle.integers.proofs.OrderLaws.{le-yes}

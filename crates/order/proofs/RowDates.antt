@@ -1,13 +1,5 @@
 -- The dates of an order's rows: where the first and the last lie in an order's years, all do. Assumes nothing.
-use native.Mathlib.Omega.{arith}
-use Prim.Native.Nat.{ℕ, zero, suc, _+_, _-_, _≤_, _<_}
-use mathlib.Core.Path.{_≡_, refl, sym, ap, subst}
-use mathlib.Core.Bool.{Bool, true, false, cond}
-use mathlib.Core.List.{List}
-use lib.Dec.{leb, ltb, eqb}
-use lib.ListN.{length}
-use lib.IntN.{pos, negsuc, _+ℤ_}
-use borrow.Author.Tests.{le-leb, ltb-true, ltb-false}
+use Rattle.prelude.proofs.Logic.{_≡_, refl, sym, ap, subst, Bool, true, false, cond, List, ℕ, zero, suc, _+_, _-_, _≤_, _<_, arith, leb, ltb, eqb, pos, negsuc, _+ℤ_, length, le-leb, ltb-true, ltb-false}
 use Rattle.integers.specs.Parts.{P, N}
 use Rattle.integers.proofs.Sums.{sum, difference}
 use Rattle.integers.proofs.OrderLaws.{to-le}

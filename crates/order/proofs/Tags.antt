@@ -1,12 +1,5 @@
 -- The first of some tags that does not pass, tag by tag: what the reader's two loops go by. Assumes nothing.
-use native.Mathlib.Omega.{arith}
-use native.Mathlib.Numerals.{add-one}
-use Prim.Native.Nat.{ℕ, zero, suc, _+_, _≤_, _<_}
-use mathlib.Core.Path.{_≡_, refl, ap, _∙_}
-use mathlib.Core.Bool.{Bool, true, false, cond}
-use mathlib.Core.List.{List, [], _∷_}
-use lib.ListN.{length, getD, drop, drop-of-length-le}
-use lib.Seq.{drop-cons}
+use Rattle.prelude.proofs.Logic.{_≡_, refl, ap, _∙_, Bool, true, false, cond, List, [], _∷_, ℕ, zero, suc, _+_, _≤_, _<_, add-one, arith, length, getD, drop, drop-of-length-le, drop-cons}
 use Rattle.refusals.specs.Refusals.{refusal, noRefusal}
 use Rattle.order.specs.Reading.{firstFailing, tagsFrom}
 

@@ -1,13 +1,5 @@
 -- Demand 3: from the bytes of two orders to the parameters of one row's day, where crates/schedule_laws has proved it. Assumes nothing.
-use mathlib.Core.Path.{_≡_, refl, sym, ap, subst, _∙_}
-use mathlib.Core.Bool.{Bool, true, false, cond, not, _&&_}
-use mathlib.Core.List.{List}
-use Prim.Native.Nat.{ℕ, _*_, _≤_, _<_, _^_}
-use native.Mathlib.Omega.{arith}
-use lib.Dec.{T, ltb, leb}
-use borrow.Author.Tests.{leb-true}
-use lib.IntN.{ℤ, pos, negsuc, _+ℤ_, _-ℤ_}
-use lib.Signed.{leZ}
+use Rattle.prelude.proofs.Logic.{_≡_, refl, sym, ap, subst, _∙_, Bool, true, false, cond, not, _&&_, List, ℕ, _*_, _≤_, _<_, _^_, arith, T, ltb, leb, ℤ, pos, negsuc, _+ℤ_, _-ℤ_, leZ, leb-true}
 use Rattle.integers.specs.Parts.{P, N, Near}
 use Rattle.integers.proofs.PartsLaws.{same}
 use Rattle.integers.proofs.Sums.{sum, difference}

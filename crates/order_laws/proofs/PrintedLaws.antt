@@ -1,12 +1,5 @@
 -- Times that lie by their date have days of one digit, and so has imsak. Assumes nothing.
-use native.Mathlib.Omega.{arith}
-use mathlib.Core.Path.{_≡_, refl, sym, subst}
-use mathlib.Core.Bool.{Bool, true, false, cond}
-use Prim.Native.Nat.{ℕ, zero, suc, _+_, _*_, _^_, _≤_, _<_}
-use lib.Dec.{T, ltb, lit<}
-use borrow.Author.Tests.{ltb-true}
-use lib.IntN.{ℤ, pos, negsuc, _-ℤ_, _*ℤ_}
-use lib.ListN.{getD}
+use Rattle.prelude.proofs.Logic.{_≡_, refl, sym, subst, Bool, true, false, cond, ℕ, zero, suc, _+_, _*_, _^_, _≤_, _<_, arith, T, ltb, lit<, ℤ, pos, negsuc, _-ℤ_, _*ℤ_, getD, ltb-true}
 use Rattle.integers.specs.Parts.{P, N}
 use Rattle.integers.specs.Quotients.{floorQuot}
 use Rattle.integers.proofs.OrderLaws.{to-le}

@@ -1,14 +1,7 @@
 -- Two orders of which demand 3 speaks, so that its hypothesis can be met: town P, 2026-06-21, one row, 10.0, 20.0, method 0; the second with a
 -- minute more for Fajr, and with its place as on the map, 10 degrees north and 20 degrees east. And the first with its place so, all else the same.
-use native.Mathlib.Omega.{arith}
-use mathlib.Core.Path.{_≡_, refl, subst}
-use mathlib.Core.Bool.{Bool, true, false, true≢false}
-use mathlib.Core.List.{List, [], _∷_, _++_}
-use Prim.Native.Nat.{ℕ, zero, suc, _≤_}
-use lib.Dec.{leb, lit≤}
-use borrow.Author.Tests.{leb-true, leb-false}
+use Rattle.prelude.proofs.Logic.{_≡_, refl, subst, Bool, true, false, true≢false, List, [], _∷_, _++_, ℕ, zero, suc, _≤_, arith, leb, lit≤, replicate, leb-true, leb-false}
 use lib.Ieee.{le, neg, ofBits, round}
-use lib.ListN.{replicate}
 use Rattle.integers.specs.Order.{_≼_}
 use Rattle.float64.specs.Ops.{dec}
 use Rattle.calendar.specs.Gregorian.{leapOf, lengthOf, existsOf}

@@ -1,10 +1,5 @@
 -- What a call that asks for rows answers, case by case. Assumes nothing.
-use native.Mathlib.Omega.{arith}
-use Prim.Native.Nat.{ℕ, _+_, _-_, _≤_, _<_}
-use mathlib.Core.Path.{_≡_, refl, ap, _∙_}
-use mathlib.Core.List.{List, [], _∷_}
-use lib.ListN.{length}
-use borrow.Author.Tests.{lt-ltb, le-ltb}
+use Rattle.prelude.proofs.Logic.{_≡_, refl, ap, _∙_, List, [], _∷_, ℕ, _+_, _-_, _≤_, _<_, arith, length, lt-ltb, le-ltb}
 use Rattle.braille.specs.Braille.{dotsOf}
 use Rattle.calls.specs.Calls.{lacksRow}
 use Rattle.order.specs.declared.reading.Order.{Order}

@@ -1,13 +1,5 @@
 -- A host's calls on a page, whatever scratches it lends, give the page. Assumes nothing.
-use native.Mathlib.Omega.{arith}
-use Prim.Native.Nat.{ℕ, zero, suc, _+_, _-_, _*_, _/_, _≤_, _<_, min}
-use mathlib.Core.Bool.{Bool, true, false}
-use mathlib.Core.Path.{_≡_, refl, sym, ap, _∙_}
-use mathlib.Core.List.{List, [], _∷_, _++_}
-use lib.Dec.{ltb}
-use lib.ListN.{length, take, drop, drop-of-length-le}
-use lib.Seq.{take-all, take-at, drop-drop}
-use borrow.Author.Tests.{ltb-true, ltb-false}
+use Rattle.prelude.proofs.Logic.{_≡_, refl, sym, ap, _∙_, Bool, true, false, List, [], _∷_, _++_, ℕ, zero, suc, _+_, _-_, _*_, _/_, _≤_, _<_, min, arith, ltb, length, take, drop, drop-of-length-le, take-all, take-at, drop-drop, ltb-true, ltb-false}
 use Rattle.braille.specs.Braille.{dotsOf}
 use Rattle.calls.specs.Calls.{lacksRow}
 use Rattle.order.specs.declared.reading.Order.{Order}

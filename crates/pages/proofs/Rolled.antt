@@ -1,11 +1,5 @@
 -- Rows that roll, and their cells behind one another. Assumes nothing.
-use native.Mathlib.Omega.{arith}
-use Prim.Native.Nat.{ℕ, _+_, _-_, _*_, _≤_, _<_}
-use mathlib.Core.Path.{_≡_, refl, sym, ap, _∙_}
-use mathlib.Core.List.{List, [], _∷_, _++_, append-nil}
-use lib.ListN.{length}
-use mir.Syntax.{w32}
-use mir.Val.{SFits}
+use Rattle.prelude.proofs.Logic.{_≡_, refl, sym, ap, _∙_, List, [], _∷_, _++_, append-nil, ℕ, _+_, _-_, _*_, _≤_, _<_, arith, length, w32, SFits}
 use Rattle.braille.proofs.Bits.{dots-bound}
 use Rattle.braille.proofs.Parts.{row-length}
 use Rattle.braille.specs.Braille.{dotsOf}

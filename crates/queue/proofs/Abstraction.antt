@@ -1,13 +1,5 @@
 -- The arrays and the list of jobs: `shown`, a list comes back from its arrays; what the parts of the code make, as lists. Assumes nothing.
-use mathlib.Core.Path.{_≡_, refl, sym, ap, _∙_}
-use mathlib.Core.Bool.{Bool, _||_}
-use mathlib.Core.List.{List, [], _∷_, _++_, map}
-use Prim.Native.Nat.{ℕ, suc, _-_, _≤_, _<_}
-use native.Mathlib.Omega.{arith}
-use lib.Dec.{ltb, eqb, lit≤}
-use lib.ListN.{length, getD, set, replicate, length-append, length-map}
-use lib.Seq.{slice, slice-cons, length-slice, take-at}
-use borrow.Author.Tests.{ltb-true, ltb-false}
+use Rattle.prelude.proofs.Logic.{_≡_, refl, sym, ap, _∙_, Bool, _||_, List, [], _∷_, _++_, map, ℕ, suc, _-_, _≤_, _<_, arith, ltb, eqb, lit≤, length, getD, set, replicate, length-append, length-map, slice, slice-cons, length-slice, take-at, ltb-true, ltb-false}
 use Rattle.queue.specs.declared.Queue.{Queue}
 use Rattle.queue.specs.Jobs.{Job, job, waits, atBack, mostJobs}
 use Rattle.queue.specs.Arrays.{counted, paired, jobsIn, jobsOf, padded, idOf, pagesOf, queueOf}

@@ -1,12 +1,5 @@
 -- Each answer of the code is the definition's, in the case that its tests show. Assumes nothing.
-use mathlib.Core.Path.{_≡_, refl, sym, _∙_}
-use mathlib.Core.Bool.{true, false}
-use mathlib.Core.List.{List, _∷_}
-use Prim.Native.Nat.{ℕ, _-_, _≤_, _<_}
-use native.Mathlib.Omega.{arith}
-use lib.ListN.{length, getD}
-use lib.Seq.{slice}
-use borrow.Author.Tests.{lt-ltb, le-ltb}
+use Rattle.prelude.proofs.Logic.{_≡_, refl, sym, _∙_, true, false, List, _∷_, ℕ, _-_, _≤_, _<_, arith, length, getD, slice, lt-ltb, le-ltb}
 use Rattle.queue.specs.declared.Queue.{Queue}
 use Rattle.queue.specs.declared.Joined.{Joined}
 use Rattle.queue.specs.declared.Turned.{Turned}

@@ -1,9 +1,5 @@
 -- `turns-are-fair`: whoever joins stands behind, and a turn takes one job from ahead. Assumes nothing.
-use mathlib.Core.Path.{_≡_, refl}
-use mathlib.Core.List.{List, [], _∷_, _++_, append-assoc}
-use Prim.Native.Nat.{ℕ, suc}
-use native.Mathlib.Omega.{arith}
-use lib.ListN.{length}
+use Rattle.prelude.proofs.Logic.{_≡_, refl, List, [], _∷_, _++_, append-assoc, ℕ, suc, arith, length}
 use Rattle.queue.specs.Jobs.{Job, job, less, sent, QueueStep, atBack, joinOf, turnOf}
 use Rattle.queue.specs.History.{Call, join, turn, after, turns}
 use Rattle.queue.specs.Promises.{TurnsAreFair}

@@ -1,14 +1,6 @@
 -- A host's calls do to its arrays what the steps do to the list, so what holds of every history holds of what a host keeps and is told: `hosts-hold-the-queue`,
 -- `hosts-keep-pages`, `hosts-turn-fairly`. Assumes nothing.
-use mathlib.Core.Path.{_≡_, refl, sym, ap, _∙_}
-use mathlib.Core.Bool.{cond}
-use mathlib.Core.List.{List, [], _∷_, _++_, map}
-use Prim.Native.Nat.{ℕ, zero, suc, _+_, _-_, _<_}
-use native.Mathlib.Omega.{arith}
-use lib.Dec.{eqb}
-use lib.ListN.{length, getD, take, drop, replicate, length-map, List·getD-append, List·getD-map}
-use lib.Seq.{split-at, length-take-le}
-use borrow.Author.Tests.{ne-eqb}
+use Rattle.prelude.proofs.Logic.{_≡_, refl, sym, ap, _∙_, cond, List, [], _∷_, _++_, map, ℕ, zero, suc, _+_, _-_, _<_, arith, eqb, length, getD, take, drop, replicate, length-map, List·getD-append, List·getD-map, split-at, length-take-le, ne-eqb}
 use Rattle.queue.specs.declared.Joined.{Joined}
 use Rattle.queue.specs.declared.Turned.{Turned}
 use Rattle.queue.specs.Jobs.{Job, job, less, admitted, refused, sent, QueueStep, joinOf, turnOf}

@@ -1,12 +1,5 @@
 -- `queues-are-sound`, since each step keeps it. Assumes nothing.
-use mathlib.Core.Path.{_≡_, refl, sym}
-use mathlib.Core.Bool.{Bool, true, false, true≢false, _||_}
-use mathlib.Core.List.{List, [], _∷_}
-use Prim.Native.Nat.{ℕ, _<_}
-use native.Mathlib.Omega.{arith}
-use lib.Dec.{eqb, lit≤}
-use lib.ListN.{length, length-append}
-use borrow.Author.Tests.{eqb-false, ne-eqb}
+use Rattle.prelude.proofs.Logic.{_≡_, refl, sym, Bool, true, false, true≢false, _||_, List, [], _∷_, ℕ, _<_, arith, eqb, lit≤, length, length-append, eqb-false, ne-eqb}
 use Rattle.queue.specs.Jobs.{Job, job, less, QueueStep, waits, atBack, turnOf, mostJobs}
 use Rattle.queue.specs.History.{Call, join, turn, stepOf, after, NoIdTwice, AllProper, Sound}
 use Rattle.queue.specs.Promises.{QueuesAreSound}

@@ -1,9 +1,5 @@
 -- `pages-are-kept`, by a law of one step. Assumes nothing.
-use mathlib.Core.Path.{_≡_, refl, sym, ap, _∙_}
-use mathlib.Core.Bool.{Bool, true, false}
-use mathlib.Core.List.{List, [], _∷_}
-use Prim.Native.Nat.{ℕ, _+_, _-_, _≤_}
-use native.Mathlib.Omega.{arith}
+use Rattle.prelude.proofs.Logic.{_≡_, refl, sym, ap, _∙_, Bool, true, false, List, [], _∷_, ℕ, _+_, _-_, _≤_, arith}
 use Rattle.queue.specs.Jobs.{Job, job, less, QueueStep, atBack, turnOf}
 use Rattle.queue.specs.History.{Call, join, turn, stepOf, after, events, Ids, when, admittedBy, sentBy, pagesAdmitted, pagesSent, pagesLeft, Sound}
 use Rattle.queue.specs.Promises.{PagesAreKept}

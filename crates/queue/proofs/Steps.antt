@@ -1,12 +1,5 @@
 -- The cases of a step: what holds of each outcome of a join, and of a turn, holds of the step. Assumes nothing.
-use mathlib.Core.Path.{_≡_, refl}
-use mathlib.Core.Bool.{Bool, true, false, false≢true, cond, not, _&&_}
-use mathlib.Core.List.{List, _∷_}
-use Prim.Native.Nat.{ℕ, _-_, _≤_, _<_}
-use native.Mathlib.Omega.{arith}
-use lib.Dec.{ltb, lit<}
-use lib.ListN.{length}
-use borrow.Author.Tests.{ltb-true, ltb-false, leb-true, not-true}
+use Rattle.prelude.proofs.Logic.{_≡_, refl, Bool, true, false, false≢true, cond, not, _&&_, List, _∷_, ℕ, _-_, _≤_, _<_, arith, ltb, lit<, length, ltb-true, ltb-false, leb-true, not-true}
 use Rattle.queue.specs.Jobs.{Job, sent, QueueStep, mostJobs, waits, proper, atBack, admits, refuses, less, joinOf, turnOf}
 
 -- either arm of a test

@@ -1,7 +1,5 @@
 -- What rolls is what each row would work by itself. Assumes nothing.
-use mathlib.Core.Path.{_≡_, sym, ap}
-use mathlib.Core.Bool.{true}
-use Prim.Native.Nat.{_+_, _≤_}
+use Rattle.prelude.proofs.Logic.{_≡_, sym, ap, true, _+_, _≤_}
 use lib.Ieee.{Float}
 use Rattle.calendar.specs.Answers.{tomorrowOf}
 use Rattle.calendar.specs.Gregorian.{existsOf}

@@ -1,10 +1,5 @@
 -- Rows that roll, and the lines behind one another. Assumes nothing.
-use native.Mathlib.Nat.{mul-le-mul-right}
-use native.Mathlib.Omega.{arith}
-use Prim.Native.Nat.{ℕ, _+_, _*_, _≤_, _<_}
-use mathlib.Core.Path.{_≡_, ap, _∙_}
-use mathlib.Core.List.{List}
-use lib.ListN.{length}
+use Rattle.prelude.proofs.Logic.{_≡_, ap, _∙_, List, ℕ, _+_, _*_, _≤_, _<_, mul-le-mul-right, arith, length}
 use Rattle.calendar.specs.Answers.{rowDateOf}
 use Rattle.calls.proofs.RowStates.{stateOf, workedBySuns, state-worked}
 use Rattle.order.specs.Accepted.{Accepted}

@@ -1,12 +1,5 @@
 -- No sheet is longer than `longestSheet`, and what is written fits the buffer. Assumes nothing.
-use native.Mathlib.Omega.{arith}
-use Prim.Native.Nat.{ℕ, _≤_}
-use mathlib.Core.Bool.{Bool, true, false, cond}
-use mathlib.Core.Path.{_≡_, refl}
-use mathlib.Core.List.{List}
-use lib.Dec.{ltb}
-use lib.ListN.{length, length-append}
-use borrow.Author.Tests.{ltb-false}
+use Rattle.prelude.proofs.Logic.{_≡_, refl, Bool, true, false, cond, List, ℕ, _≤_, arith, ltb, length, length-append, ltb-false}
 use Rattle.lines.proofs.LinesLaws.{refused-length}
 use Rattle.order.proofs.AcceptedLaws.{read-accepted}
 use Rattle.order.proofs.ReadingLaws.{read-town}

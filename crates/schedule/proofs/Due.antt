@@ -1,14 +1,6 @@
 -- Whole seconds ahead of an instant, and one step of the search for the prayer in force. Assumes nothing.
-use mathlib.Core.Path.{_≡_, refl, sym, ap, _∙_}
-use mathlib.Core.Bool.{Bool, cond}
-use Prim.Native.Nat.{ℕ, zero, suc, _+_, _-_, _*_, _/_, _≤_, _<_}
-use native.Mathlib.Omega.{arith}
-use lib.Dec.{eqb}
-use borrow.Author.Tests.{eq-eqb, ne-eqb}
-use lib.IntN.{ℤ, pos, negsuc, _+ℤ_, _-ℤ_, _*ℤ_}
+use Rattle.prelude.proofs.Logic.{_≡_, refl, sym, ap, _∙_, Bool, cond, ℕ, zero, suc, _+_, _-_, _*_, _/_, _≤_, _<_, arith, eqb, ℤ, pos, negsuc, _+ℤ_, _-ℤ_, _*ℤ_, eq-eqb, ne-eqb, w64, SFits, Fits}
 use Rattle.integers.specs.Parts.{P, N}
-use mir.Syntax.{w64}
-use mir.Val.{SFits, Fits}
 use Rattle.integers.proofs.Sums.{sum, difference, times}
 use Rattle.integers.proofs.Ranges.{range, fits}
 use Rattle.models.specs.Numbers.{prayerOf}

@@ -1,5 +1,5 @@
 -- The hour numbers of a row, from the courses of three suns that share five positions. Assumes nothing.
-use mathlib.Core.Path.{_≡_}
+use Rattle.prelude.proofs.Logic.{_≡_}
 use Rattle.calendar.specs.Answers.{yesterdayOf, tomorrowOf}
 use Rattle.calendar.specs.declared.dates.Date.{Date}
 use Rattle.models.specs.declared.parameters.Parameters.{Parameters}

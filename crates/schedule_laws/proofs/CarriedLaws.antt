@@ -1,10 +1,6 @@
 -- The parameters that an order carries are those of specs/Carried: each method's preset is one, and stays one where the tags set their fields in
 -- range. Assumes nothing.
-use mathlib.Core.Path.{_≡_, refl, sym, subst}
-use Prim.Native.Nat.{ℕ, _^_, _≤_}
-use native.Mathlib.Omega.{arith}
-use lib.Dec.{lit≤}
-use lib.IntN.{pos}
+use Rattle.prelude.proofs.Logic.{_≡_, refl, sym, subst, ℕ, _^_, _≤_, arith, lit≤, pos}
 use lib.Ieee.{round, le}
 use Rattle.integers.specs.Parts.{Between, Near}
 use Rattle.integers.proofs.Sums.{flip}

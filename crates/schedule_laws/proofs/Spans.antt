@@ -1,9 +1,5 @@
 -- How far Fajr and Isha lie from 0h of their date, by how far the sun's times lie and what is added to them. Assumes nothing.
-use mathlib.Core.Path.{_≡_, refl}
-use Prim.Native.Nat.{ℕ, _+_, _*_, _≤_}
-use native.Mathlib.Omega.{arith}
-use lib.IntN.{ℤ, pos, _+ℤ_}
-use lib.Signed.{ltZ}
+use Rattle.prelude.proofs.Logic.{_≡_, refl, ℕ, _+_, _*_, _≤_, arith, ℤ, pos, _+ℤ_, ltZ}
 use lib.Ieee.{Float}
 use Rattle.integers.specs.Parts.{Between, Near}
 use Rattle.integers.proofs.Sums.{sum}

@@ -1,13 +1,5 @@
 -- Two byte strings that are the same. Assumes nothing.
-use native.Mathlib.Numerals.{add-one}
-use Prim.Native.Nat.{ℕ, _+_, _<_}
-use mathlib.Core.Bool.{Bool, true, false, cond, false≢true}
-use mathlib.Core.Path.{_≡_, refl, sym, ap, _∙_}
-use mathlib.Core.List.{List, [], _∷_}
-use lib.Dec.{eqb}
-use lib.ListN.{length, getD, drop}
-use lib.Seq.{drop-cons, drop-length}
-use borrow.Author.Tests.{eq-eqb, ne-eqb, eqb-true}
+use Rattle.prelude.proofs.Logic.{_≡_, refl, sym, ap, _∙_, Bool, true, false, cond, false≢true, List, [], _∷_, ℕ, _+_, _<_, add-one, eqb, length, getD, drop, drop-cons, drop-length, eq-eqb, ne-eqb, eqb-true}
 use Rattle.sentences.specs.Sentences.{same}
 
 pub same-itself : (t : List ℕ) → same t t ≡ true

@@ -1,13 +1,5 @@
 -- A sentence has its number and its place where they are looked for; a place has ten digits at most. Assumes nothing.
-use native.Mathlib.Omega.{arith}
-use native.Mathlib.Nat.{pow-suc, div-lt-iff-lt-mul}
-use Prim.Native.Nat.{ℕ, zero, suc, _+_, _-_, _*_, _/_, _^_, _≤_, _<_}
-use mathlib.Core.Bool.{Bool, true, false, cond}
-use mathlib.Core.Path.{_≡_, refl, ap, subst, _∙_}
-use mathlib.Core.List.{List, [], _∷_, _++_}
-use lib.Dec.{ltb}
-use lib.ListN.{length, List·getD-append}
-use borrow.Author.Tests.{lt-ltb, le-leb, ltb-true}
+use Rattle.prelude.proofs.Logic.{_≡_, refl, ap, subst, _∙_, Bool, true, false, cond, List, [], _∷_, _++_, ℕ, zero, suc, _+_, _-_, _*_, _/_, _^_, _≤_, _<_, pow-suc, div-lt-iff-lt-mul, arith, ltb, length, List·getD-append, lt-ltb, le-leb, ltb-true}
 use Rattle.text.specs.Text.{ascii, digitOf, digitsOf, decimalOf}
 use Rattle.text.proofs.TextLaws.{digits-short}
 use Rattle.sentences.specs.Guess.{isDigit, numberIn, none, longer, placeIn}

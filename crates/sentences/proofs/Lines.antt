@@ -1,13 +1,5 @@
 -- What holds of each line of the two tables, by tests that antt computes over them: a new line needs no new proof. Assumes nothing.
-use native.Mathlib.Omega.{arith}
-use native.Mathlib.Nat.{zero-add, add-zero, suc-add, add-suc}
-use Prim.Native.Nat.{ℕ, zero, suc, _+_, _≤_, _<_}
-use mathlib.Core.Bool.{Bool, true, false, _&&_}
-use mathlib.Core.Path.{_≡_, refl, sym, ap, subst, _∙_}
-use mathlib.Core.List.{List, [], _∷_}
-use lib.Dec.{T, leb, eqb, leb→le, eqb→eq}
-use lib.ListN.{length, getD, take}
-use borrow.Author.Tests.{ltb-true}
+use Rattle.prelude.proofs.Logic.{_≡_, refl, sym, ap, subst, _∙_, Bool, true, false, _&&_, List, [], _∷_, ℕ, zero, suc, _+_, _≤_, _<_, zero-add, add-zero, suc-add, add-suc, arith, T, leb, eqb, leb→le, eqb→eq, length, getD, take, ltb-true}
 use Rattle.text.specs.Text.{ascii}
 use Rattle.sentences.specs.Table.{texts, names, textOf, nameOf, known, widest, widestName}
 use Rattle.sentences.specs.Rows.{filled, endOf}

@@ -1,12 +1,5 @@
 -- The line that is made of the words, a blank and the place's digits, and the answers of the two calls. Assumes nothing.
-use native.Mathlib.Omega.{arith}
-use Prim.Native.Nat.{ℕ, _+_, _≤_, _<_}
-use mathlib.Core.Bool.{Bool, true, false, cond, _&&_}
-use mathlib.Core.Path.{_≡_, refl, sym, ap, _∙_}
-use mathlib.Core.List.{List, [], _∷_, _++_}
-use lib.Dec.{ltb}
-use lib.ListN.{length, take, drop, length-append, length-drop}
-use borrow.Author.Tests.{lt-ltb, le-ltb, le-leb, lt-leb, ltb-false}
+use Rattle.prelude.proofs.Logic.{_≡_, refl, sym, ap, _∙_, Bool, true, false, cond, _&&_, List, [], _∷_, _++_, ℕ, _+_, _≤_, _<_, arith, ltb, length, take, drop, length-append, length-drop, lt-ltb, le-ltb, le-leb, lt-leb, ltb-false}
 use Rattle.text.specs.Text.{ascii, decimalOf, putOf, frontOf}
 use Rattle.text.proofs.TextLaws.{put-next, put-nothing, cut-front}
 use Rattle.text.proofs.TextLaws as laws

@@ -1,12 +1,5 @@
 -- The promises of request 8: `each-has-a-sentence`, `printed`, `read-back`, `different`, `reads-only-sentences`, `written-and-read`. Assumes nothing.
-use native.Mathlib.Omega.{arith}
-use Prim.Native.Nat.{ℕ, zero, suc, _+_, _/_, _≤_, _<_}
-use mathlib.Core.Bool.{Bool, true, false, cond, _&&_, false≢true}
-use mathlib.Core.Path.{_≡_, refl, sym, ap, subst, _∙_}
-use mathlib.Core.List.{List, [], _∷_, _++_, append-assoc}
-use lib.Dec.{leb, ltb}
-use lib.ListN.{length, take, length-append}
-use borrow.Author.Tests.{le-leb, lt-ltb, ltb-true}
+use Rattle.prelude.proofs.Logic.{_≡_, refl, sym, ap, subst, _∙_, Bool, true, false, cond, _&&_, false≢true, List, [], _∷_, _++_, append-assoc, ℕ, zero, suc, _+_, _/_, _≤_, _<_, arith, leb, ltb, length, take, length-append, le-leb, lt-ltb, ltb-true}
 use Rattle.text.specs.Text.{ascii, digitOf, digitsOf, decimalOf, frontOf}
 use Rattle.text.proofs.TextLaws.{put-next, cut-front}
 use Rattle.sentences.specs.declared.Meaning.{Meaning}

@@ -1,12 +1,6 @@
 -- What the carried times are: where they lie, where they are document 01's, and what they are where it has none. Assumes nothing.
-use mathlib.Core.Path.{_≡_, refl, sym, ap, subst, _∙_}
-use mathlib.Core.Bool.{Bool, true, false, cond}
-use Prim.Native.Nat.{ℕ, _+_, _*_, _≤_, _<_}
-use native.Mathlib.Omega.{arith}
-use lib.Dec.{ltb, lit≤}
-use lib.IntN.{ℤ, pos, _-ℤ_}
+use Rattle.prelude.proofs.Logic.{_≡_, refl, sym, ap, subst, _∙_, Bool, true, false, cond, ℕ, _+_, _*_, _≤_, _<_, arith, ltb, lit≤, ℤ, pos, _-ℤ_, ltb-true, ltb-false, lt-ltb, le-ltb}
 use lib.Ieee.{Float}
-use borrow.Author.Tests.{ltb-true, ltb-false, lt-ltb, le-ltb}
 use Rattle.float64.specs.Sizes.{isNormalOf}
 use Rattle.float64.specs.Whole.{floorOf}
 use Rattle.solar.specs.declared.setting.SolarHour.{SolarHour}

@@ -1,15 +1,7 @@
 -- Request 1's sentences, each as a law over every number. Assumes nothing.
-use mathlib.Core.Path.{_≡_, refl, ap, _∙_}
-use mathlib.Core.Bool.{Bool, true, false, cond, _&&_, _||_, false≢true}
-use Prim.Native.Nat.{ℕ, _+_, _*_, _^_, _≤_, _<_}
-use native.Mathlib.Nat.{mul-le-mul-left}
-use native.Mathlib.Omega.{arith}
-use lib.Dec.{ltb, eqb}
-use lib.IntN.{ℤ, pos}
-use lib.Pow.{pow-pos}
+use Rattle.prelude.proofs.Logic.{_≡_, refl, ap, _∙_, Bool, true, false, cond, _&&_, _||_, false≢true, ℕ, _+_, _*_, _^_, _≤_, _<_, mul-le-mul-left, arith, ltb, eqb, ℤ, pos, pow-pos, ltb-true, lt-ltb, le-ltb, leb-false, eqb-true, ne-eqb}
 use lib.Ieee.{Float, nan, inf, fin, up, down, round, neg, le, lt, eq}
 use lib.Ieee.Fits.{down-pos}
-use borrow.Author.Tests.{ltb-true, lt-ltb, le-ltb, leb-false, eqb-true, ne-eqb}
 use Rattle.float64.specs.Ops.{dec}
 use Rattle.float64.specs.Sizes.{isNormalOf}
 use Rattle.float64.specs.Whole.{floorOf}

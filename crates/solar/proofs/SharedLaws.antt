@@ -1,6 +1,5 @@
 -- The hour numbers of a course are those of the source's calls on its three positions. Assumes nothing.
-use mathlib.Core.Path.{_≡_, fun-ext}
-use mathlib.Core.Bool.{Bool, true, false}
+use Rattle.prelude.proofs.Logic.{_≡_, fun-ext, Bool, true, false}
 use Rattle.unit.specs.declared.Angle.{Angle}
 use Rattle.ops.specs.declared.transit.Course.{Course}
 use Rattle.ops.specs.Shared.{observerOf, courseTransitNumberOf}

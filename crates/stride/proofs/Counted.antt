@@ -1,11 +1,5 @@
 -- Meeus's formula counts the days of the calendar, in every year from 1 on. Assumes nothing.
-use mathlib.Core.Path.{_≡_, refl, ap}
-use mathlib.Core.Bool.{Bool, true, false, cond, not, _||_}
-use Prim.Native.Nat.{ℕ, _+_, _-_, _*_, _/_, _≤_, _<_}
-use native.Mathlib.Omega.{arith}
-use lib.Dec.{eqb, ltb, eqb→eq, lt→ltb}
-use lib.IntN.{pos, _+ℤ_, _-ℤ_, _*ℤ_}
-use borrow.Author.Tests.{ltb-true, ltb-false}
+use Rattle.prelude.proofs.Logic.{_≡_, refl, ap, Bool, true, false, cond, not, _||_, ℕ, _+_, _-_, _*_, _/_, _≤_, _<_, arith, eqb, ltb, eqb→eq, lt→ltb, pos, _+ℤ_, _-ℤ_, _*ℤ_, ltb-true, ltb-false}
 use Rattle.integers.proofs.PartsLaws.{same}
 use Rattle.integers.proofs.Sums.{sum, difference, times}
 use Rattle.calendar.specs.Gregorian.{leapOf, existsOf}

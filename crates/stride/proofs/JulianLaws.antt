@@ -1,13 +1,7 @@
 -- The Julian Day of the f64 formula is the one of Meeus's whole numbers and of the calendar's count of days, for every date of the years 1899
 -- to 2200: its sums of whole numbers and halves lose nothing. Assumes nothing.
-use mathlib.Core.Path.{_≡_, refl, ap, _∙_}
-use mathlib.Core.Bool.{Bool, true, false, cond}
-use Prim.Native.Nat.{ℕ, suc, _+_, _-_, _*_, _/_, _≤_, _<_}
-use native.Mathlib.Omega.{arith}
-use lib.Dec.{ltb, lit<, lit≤}
-use lib.IntN.{ℤ, pos, negsuc, _+ℤ_, _-ℤ_, _*ℤ_}
+use Rattle.prelude.proofs.Logic.{_≡_, refl, ap, _∙_, Bool, true, false, cond, ℕ, suc, _+_, _-_, _*_, _/_, _≤_, _<_, arith, ltb, lit<, lit≤, ℤ, pos, negsuc, _+ℤ_, _-ℤ_, _*ℤ_, ltb-true, ltb-false, lt-ltb}
 use lib.Ieee.{Float, binary64, ofInt, ofBits, round, sub, div}
-use borrow.Author.Tests.{ltb-true, ltb-false, lt-ltb}
 use Rattle.integers.specs.Parts.{P}
 use Rattle.integers.proofs.PartsLaws.{same}
 use Rattle.integers.proofs.Sums.{sum, difference}

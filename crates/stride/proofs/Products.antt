@@ -1,12 +1,6 @@
 -- The f64 products of the Julian Day, cut to whole numbers, are quotients of whole numbers at every year and month in use: two tests that antt
 -- computes. Assumes nothing.
-use mathlib.Core.Path.{_≡_, sym, ap, _∙_}
-use mathlib.Core.Bool.{Bool, _&&_}
-use Prim.Native.Nat.{ℕ, _+_, _-_, _≤_}
-use native.Mathlib.Omega.{arith}
-use lib.Dec.{T, eqb, eqb→eq}
-use lib.IntN.{ℤ, pos, natAbs}
-use lib.Signed.{nonNeg, pos-natAbs}
+use Rattle.prelude.proofs.Logic.{_≡_, sym, ap, _∙_, Bool, _&&_, ℕ, _+_, _-_, _≤_, arith, T, eqb, eqb→eq, ℤ, pos, natAbs, nonNeg, pos-natAbs}
 use lib.Ieee.{add, mul, ofInt, ofBits, toSigned, round}
 use lib.Ieee.Fits.{and-l, and-r}
 use Rattle.calendar.proofs.Computed.{at}

@@ -1,12 +1,5 @@
 -- Where a sum of two i64 saturates, and where it fits. Assumes nothing.
-use mathlib.Core.Path.{_≡_, refl, sym, _∙_}
-use Prim.Native.Nat.{_+_, _<_}
-use native.Mathlib.Omega.{arith}
-use mathlib.Core.Bool.{Bool, true, false}
-use lib.IntN.{ℤ, pos, _+ℤ_, _-ℤ_}
-use lib.Signed.{leZ, ltZ}
-use mir.Syntax.{w64}
-use mir.Val.{SFits}
+use Rattle.prelude.proofs.Logic.{_≡_, refl, sym, _∙_, Bool, true, false, _+_, _<_, arith, ℤ, pos, _+ℤ_, _-ℤ_, leZ, ltZ, w64, SFits}
 use Rattle.integers.specs.Parts.{P, N}
 use Rattle.integers.proofs.PartsLaws.{not-negative, not-positive}
 use Rattle.integers.proofs.Sums.{sum, difference}

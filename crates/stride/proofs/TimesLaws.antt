@@ -1,13 +1,5 @@
 -- What rounding and adjusting keep, and where nothing saturates. Over the definitions of `Times`. Assumes nothing.
-use mathlib.Core.Path.{_≡_, refl, sym, ap, _∙_}
-use mathlib.Core.Bool.{Bool, true, false, cond}
-use Prim.Native.Nat.{ℕ, _+_, _*_, _^_, _≤_, _<_}
-use native.Mathlib.Omega.{arith}
-use lib.IntN.{ℤ, pos, negsuc, _+ℤ_, _-ℤ_, _*ℤ_, +ℤ-idr, +ℤ-assoc, +ℤ-comm}
-use lib.Dec.{ltb, lit<}
-use borrow.Author.Tests.{ltb-true, ltb-false}
-use mir.Syntax.{w64}
-use mir.Val.{SFits}
+use Rattle.prelude.proofs.Logic.{_≡_, refl, sym, ap, _∙_, Bool, true, false, cond, ℕ, _+_, _*_, _^_, _≤_, _<_, arith, ltb, lit<, ℤ, pos, negsuc, _+ℤ_, _-ℤ_, _*ℤ_, +ℤ-idr, +ℤ-assoc, +ℤ-comm, ltb-true, ltb-false, w64, SFits}
 use Rattle.integers.specs.Parts.{P, N, Between, Near}
 use Rattle.integers.proofs.Sums.{sum, difference, times}
 use Rattle.integers.specs.Quotients.{floorQuot}

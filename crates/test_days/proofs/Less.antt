@@ -1,9 +1,5 @@
 -- What a list gives more than it is, taken off again: an i32 and an i64 hold it. Assumes nothing.
-use Prim.Native.Nat.{ℕ, _^_, _≤_, _<_}
-use native.Mathlib.Omega.{arith}
-use lib.IntN.{pos, _-ℤ_}
-use mir.Syntax.{Width}
-use mir.Val.{SFits, toZ, hbits}
+use Rattle.prelude.proofs.Logic.{ℕ, _^_, _≤_, _<_, arith, pos, _-ℤ_, Width, SFits, toZ, hbits}
 use Rattle.integers.proofs.Sums.{difference}
 use Rattle.integers.proofs.Ranges.{fits, read}
 

@@ -1,13 +1,5 @@
 -- The size of an i32, worked as an i64, as a u64. Assumes nothing.
-use mathlib.Core.Path.{_≡_, sym, ap, _∙_}
-use mathlib.Core.Bool.{true, false}
-use Prim.Native.Nat.{_+_, _<_}
-use native.Mathlib.Omega.{arith}
-use lib.Dec.{T}
-use lib.IntN.{ℤ, pos, negsuc, natAbs, _-ℤ_}
-use lib.Signed.{ltZ, nonNeg}
-use mir.Syntax.{w32, w64}
-use mir.Val.{SFits, Fits}
+use Rattle.prelude.proofs.Logic.{_≡_, sym, ap, _∙_, true, false, _+_, _<_, arith, T, ℤ, pos, negsuc, natAbs, _-ℤ_, ltZ, nonNeg, w32, w64, SFits, Fits}
 use Rattle.integers.specs.Parts.{P, N}
 use Rattle.integers.proofs.PartsLaws.{same, natural, not-positive}
 use Rattle.integers.proofs.OrderLaws.{lt-yes, lt-no}

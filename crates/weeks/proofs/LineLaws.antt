@@ -1,11 +1,5 @@
 -- A window's line, made part by part. Assumes nothing.
-use native.Mathlib.Omega.{arith}
-use Prim.Native.Nat.{ℕ, _+_, _≤_}
-use mathlib.Core.Path.{_≡_, refl, sym, ap, _∙_}
-use mathlib.Core.Bool.{Bool, true, false, cond}
-use mathlib.Core.List.{List, [], _++_}
-use lib.IntN.{ℤ}
-use lib.ListN.{length, length-append}
+use Rattle.prelude.proofs.Logic.{_≡_, refl, sym, ap, _∙_, Bool, true, false, cond, List, [], _++_, ℕ, _+_, _≤_, arith, ℤ, length, length-append}
 use Rattle.text.proofs.SignedLaws.{signed-length}
 use Rattle.text.proofs.TextLaws.{put-behind, put-next, digits-short}
 use Rattle.text.specs.Signed.{signedOf}

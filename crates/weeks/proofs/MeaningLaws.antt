@@ -1,16 +1,6 @@
 -- A window that is looked through row by row answers what the rows say. Assumes nothing.
-use native.Mathlib.Omega.{arith}
-use Prim.Native.Nat.{ℕ, zero, suc, _+_, _≤_}
-use mathlib.Core.Path.{_≡_, refl, sym, ap, subst, _∙_}
-use mathlib.Core.Bool.{Bool, true, false, cond}
-use mathlib.Core.Logic.{inl, inr}
-use mathlib.Core.List.{List}
-use lib.IntN.{ℤ, pos}
-use lib.Signed.{ltZ}
-use lib.Dec.{T}
-use lib.ListN.{length}
+use Rattle.prelude.proofs.Logic.{_≡_, refl, sym, ap, subst, _∙_, Bool, true, false, cond, List, inl, inr, ℕ, zero, suc, _+_, _≤_, arith, T, ℤ, pos, length, ltZ, le-leb}
 use borrow.Author.Count.{below-more}
-use borrow.Author.Tests.{le-leb}
 use Rattle.integers.proofs.OrderLaws.{lt-yes, lt-no, to-lt, to-not-lt}
 use Rattle.weeks.specs.declared.minute.Minute.{Minute}
 use Rattle.weeks.specs.declared.minute.Minute.the-variants.{At, Refused}

@@ -1,12 +1,5 @@
 -- A row more is a line more, the one that the last seven rows give. Assumes nothing.
-use native.Mathlib.Omega.{arith}
-use Prim.Native.Nat.{ℕ, zero, suc, _+_, _-_, _*_, _≤_, _<_}
-use mathlib.Core.Path.{_≡_, refl, sym, ap, _∙_}
-use mathlib.Core.Bool.{Bool, true, false, cond}
-use mathlib.Core.List.{List, [], _∷_, _++_, append-assoc, append-nil}
-use lib.Dec.{ltb}
-use lib.ListN.{length, length-append}
-use borrow.Author.Tests.{ltb-true, ltb-false, le-leb, lt-leb}
+use Rattle.prelude.proofs.Logic.{_≡_, refl, sym, ap, _∙_, Bool, true, false, cond, List, [], _∷_, _++_, append-assoc, append-nil, ℕ, zero, suc, _+_, _-_, _*_, _≤_, _<_, arith, ltb, length, length-append, ltb-true, ltb-false, le-leb, lt-leb}
 use Rattle.weeks.specs.declared.minute.Minute.{Minute}
 use Rattle.weeks.specs.declared.week.Week.{Week}
 use Rattle.weeks.specs.declared.window.Window.{Window}

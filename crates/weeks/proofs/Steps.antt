@@ -1,9 +1,5 @@
 -- The steps of the search, by the test that was taken. Assumes nothing.
-use Prim.Native.Nat.{ℕ}
-use mathlib.Core.Path.{_≡_, sym, ap, _∙_}
-use mathlib.Core.Bool.{true, false}
-use lib.IntN.{ℤ}
-use lib.Signed.{ltZ}
+use Rattle.prelude.proofs.Logic.{_≡_, sym, ap, _∙_, true, false, ℕ, ℤ, ltZ}
 use Rattle.weeks.specs.declared.minute.Minute.{Minute}
 use Rattle.weeks.specs.declared.minute.Minute.the-variants.{At}
 use Rattle.weeks.specs.declared.window.Window.{Window}

@@ -1,10 +1,4 @@
-use borrow.Author.Needs.{needs}
-use mathlib.Core.Path.{_≡_, sym, _∙_}
-use Prim.Native.Nat.{_≤_, _-_}
-use native.Mathlib.Omega.{arith}
-use lib.ListN.{length}
-use lib.Seq.{slice, slice-empty}
-use borrow.Author.Tests.{eq-eqb, ne-eqb}
+use Rattle.prelude.proofs.Logic.{_≡_, sym, _∙_, _≤_, _-_, arith, length, slice, slice-empty, needs, eq-eqb, ne-eqb}
 use Rattle.queue.proofs.Lists.{among-first}
 use Rattle.queue.specs.Parts.{among}
 use Rattle.queue.proofs.is_among.Statement.{statement}

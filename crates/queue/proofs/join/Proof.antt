@@ -1,10 +1,7 @@
-use mathlib.Core.Path.{sym, ap, _∙_}
-use Prim.Native.Nat.{ℕ}
-use native.Mathlib.Omega.{arith}
+use Rattle.prelude.proofs.Logic.{sym, ap, _∙_, ℕ, arith, needs}
 use Rattle.refusals.specs.declared.Refusal.{Refusal}
 use Rattle.queue.proofs.Abstraction.{Whole}
 use Rattle.queue.proofs.Answers.{room, join-admitted, join-refused}
-use borrow.Author.Needs.{needs}
 use Rattle.queue.proofs.join.Statement.{statement}
 use Rattle.queue.proofs.join.Tie as tie
 

@@ -1,8 +1,7 @@
-use mathlib.Core.Path.{sym, _∙_}
+use Rattle.prelude.proofs.Logic.{sym, _∙_, needs}
 use Rattle.queue.proofs.Abstraction.{Whole}
 use Rattle.queue.proofs.Answers.{judged-waiting, judged-full, judged-free}
 use Rattle.queue.specs.Jobs.{joinOf}
-use borrow.Author.Needs.{needs}
 use Rattle.queue.proofs.judge.Statement.{statement}
 use Rattle.queue.proofs.judge.Tie as tie
 

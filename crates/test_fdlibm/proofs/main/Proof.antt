@@ -1,7 +1,4 @@
-use mathlib.Core.Logic.{⊎-elim}
-use borrow.Author.Needs.{needs}
-use native.Mathlib.Omega.{arith}
-use Prim.Native.Nat.{_≤_, _-_}
+use Rattle.prelude.proofs.Logic.{⊎-elim, _≤_, _-_, arith, needs}
 use Rattle.test_fdlibm.proofs.main.Statement.{statement}
 use Rattle.test_fdlibm.proofs.main.Tie as tie
 

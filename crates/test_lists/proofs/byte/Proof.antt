@@ -1,8 +1,4 @@
-use borrow.Author.Needs.{needs}
-use native.Mathlib.Omega.{arith}
-use Prim.Native.Nat.{_+_}
-use mathlib.Core.Path.{sym}
-use lib.ListN.{List·getD-eq-default}
+use Rattle.prelude.proofs.Logic.{sym, _+_, arith, List·getD-eq-default, needs}
 use Rattle.test_lists.proofs.byte.Statement.{statement}
 use Rattle.test_lists.proofs.byte.Tie as tie
 

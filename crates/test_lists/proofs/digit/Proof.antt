@@ -1,6 +1,5 @@
-use borrow.Author.Tests.{lt-ltb, le-ltb}
+use Rattle.prelude.proofs.Logic.{needs, lt-ltb, le-ltb}
 use Rattle.test_lists.specs.Listed.{digitValueOf}
-use borrow.Author.Needs.{needs}
 use Rattle.test_lists.proofs.digit.Statement.{statement}
 use Rattle.test_lists.proofs.digit.Tie as tie
 

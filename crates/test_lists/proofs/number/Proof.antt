@@ -1,7 +1,4 @@
-use borrow.Author.Needs.{needs}
-use native.Mathlib.Omega.{arith}
-use Prim.Native.Nat.{_-_, _^_, _≤_, _<_}
-use mathlib.Core.Path.{_≡_, sym}
+use Rattle.prelude.proofs.Logic.{_≡_, sym, _-_, _^_, _≤_, _<_, arith, needs}
 use Rattle.test_lists.specs.Listed.{numberOf}
 use Rattle.test_lists.proofs.Digits.{number-on, digit-small, room, fits}
 use Rattle.test_lists.proofs.number.Statement.{statement}

@@ -1,6 +1,4 @@
-use native.Mathlib.Omega.{arith}
-use borrow.Author.Needs.{needs}
-use Prim.Native.Nat.{_≤_, _-_}
+use Rattle.prelude.proofs.Logic.{_≤_, _-_, arith, needs}
 use Rattle.test_orders.proofs.print_record.Statement.{statement}
 use Rattle.test_orders.proofs.print_record.Tie as tie
 

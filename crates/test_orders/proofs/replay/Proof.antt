@@ -1,8 +1,4 @@
-use mathlib.Core.Path.{sym}
-use native.Mathlib.Omega.{arith}
-use lib.ListN.{length-append, length-take}
-use lib.Seq.{length-take-le}
-use borrow.Author.Needs.{needs}
+use Rattle.prelude.proofs.Logic.{sym, arith, length-append, length-take, length-take-le, needs}
 use Rattle.test_orders.proofs.replay.Statement.{statement}
 use Rattle.test_orders.proofs.replay.Tie as tie
 

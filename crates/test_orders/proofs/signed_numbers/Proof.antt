@@ -1,7 +1,4 @@
-use mir.Syntax.{w32}
-use mir.Val.{SFits}
-use mir.Facts.{toZ-ofZ}
-use borrow.Author.Needs.{needs}
+use Rattle.prelude.proofs.Logic.{needs, w32, SFits, toZ-ofZ}
 use Rattle.test_orders.specs.Numbers.{signedNumbersOf}
 use Rattle.test_orders.proofs.signed_numbers.Statement.{statement}
 use Rattle.test_orders.proofs.signed_numbers.Tie as tie

@@ -1,20 +1,10 @@
-use native.Mathlib.Omega.{arith}
-use mathlib.Core.Path.{ap, _∙_}
-use lib.IntN.{ℤ, pos, _*ℤ_}
-use mir.Syntax.{w32, w64}
+use Rattle.prelude.proofs.Logic.{ap, _∙_, arith, ℤ, pos, _*ℤ_, needs, w32, w64}
 use Rattle.integers.specs.Quotients.{floorRem}
 use Rattle.integers.proofs.QuotientLaws.{floored}
 use Rattle.integers.proofs.Ranges.{readBack, read, wide}
 use Rattle.braille.proofs.Clock.{clock-fits, clock-read, minute-within}
-use borrow.Author.Needs.{needs}
 use Rattle.braille.proofs.cells.minute_of_day.Statement.{statement}
 use Rattle.braille.proofs.cells.minute_of_day.Tie as tie
-
-cast-second-of-day : tie.Need-cast-second-of-day
-cast-second-of-day c = wide (c .before .args .clock) (c .before .fits .clock)
-
-mul-second-of-day : tie.Need-mul-second-of-day
-mul-second-of-day c = clock-fits (c .before .args .clock) (c .before .fits .clock)
 
 add-result : tie.Need-add-result
 add-result c =
@@ -32,4 +22,4 @@ returns c =
 
 pub minute-of-day-spec : {M : Type 1} → statement M
 minute-of-day-spec =
-    tie.close (tie.spec (λ c κs. search needs) cast-second-of-day mul-second-of-day (λ c κs. search needs) add-result returns)
+    tie.close (tie.spec (λ c κs. search needs) (λ c. wide (c .before .args .clock) (c .before .fits .clock)) (λ c. clock-fits (c .before .args .clock) (c .before .fits .clock)) (λ c κs. search needs) add-result returns)

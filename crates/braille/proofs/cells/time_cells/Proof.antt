@@ -1,9 +1,6 @@
-use mathlib.Core.Path.{ap, _∙_}
-use lib.IntN.{ℤ}
-use mir.Syntax.{w32, w64}
+use Rattle.prelude.proofs.Logic.{ap, _∙_, ℤ, needs, w32, w64}
 use Rattle.integers.proofs.Ranges.{readBack, read}
 use Rattle.braille.specs.Cells.{clockMinuteOf, timeCells}
-use borrow.Author.Needs.{needs}
 use Rattle.braille.proofs.cells.time_cells.Statement.{statement}
 use Rattle.braille.proofs.cells.time_cells.Tie as tie
 

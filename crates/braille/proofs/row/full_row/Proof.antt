@@ -1,11 +1,4 @@
-use borrow.Author.Needs.{needs}
-use native.Mathlib.Omega.{arith}
-use Prim.Native.Nat.{_-_, _≤_}
-use mathlib.Core.Path.{_≡_, refl, ap, _∙_}
-use lib.IntN.{pos}
-use lib.ListN.{length, getD, take, replicate}
-use mir.Syntax.{w32, w64}
-use mir.Val.{toZ}
+use Rattle.prelude.proofs.Logic.{_≡_, refl, ap, _∙_, _-_, _≤_, arith, pos, length, getD, take, replicate, needs, w32, w64, toZ}
 use Rattle.integers.proofs.Ranges.{readBack, read}
 use Rattle.text.specs.Text.{putOf}
 use Rattle.braille.specs.Cells.{timeCells, timesCells, rowCells}

@@ -1,13 +1,9 @@
-use native.Mathlib.Omega.{arith}
-use mathlib.Core.Path.{sym, ap, subst, _∙_}
-use lib.ListN.{length}
-use mir.Syntax.{w32}
+use Rattle.prelude.proofs.Logic.{sym, ap, subst, _∙_, arith, length, needs, w32}
 use Rattle.integers.proofs.Ranges.{read, readBack}
 use Rattle.braille.specs.Braille.{dotsOf, SixDots}
 use Rattle.braille.specs.Cells.{rowCells}
 use Rattle.braille.proofs.Bits.{row-six}
 use Rattle.braille.proofs.Parts.{row-length}
-use borrow.Author.Needs.{needs}
 use Rattle.braille.proofs.row.put_cells.Statement.{statement}
 use Rattle.braille.proofs.row.put_cells.Tie as tie
 

@@ -1,7 +1,6 @@
-use mir.Syntax.{w32}
+use Rattle.prelude.proofs.Logic.{needs, w32}
 use Rattle.integers.proofs.Ranges.{read}
 use Rattle.braille.specs.Cells.{rowCells}
-use borrow.Author.Needs.{needs}
 use Rattle.braille.proofs.row.row_cells.Statement.{statement}
 use Rattle.braille.proofs.row.row_cells.Tie as tie
 

@@ -1,6 +1,5 @@
-use mathlib.Core.Path.{refl}
+use Rattle.prelude.proofs.Logic.{refl, needs}
 use Rattle.calendar.specs.Days.{daysBeforeYearOf}
-use borrow.Author.Needs.{needs}
 use Rattle.calendar.proofs.counts.days_before_year.Statement.{statement}
 use Rattle.calendar.proofs.counts.days_before_year.Tie as tie
 

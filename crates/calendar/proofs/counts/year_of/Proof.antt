@@ -1,6 +1,5 @@
-use mathlib.Core.Path.{refl}
+use Rattle.prelude.proofs.Logic.{refl, needs}
 use Rattle.calendar.proofs.YearSteps.{year-above, guess-right, guess-over}
-use borrow.Author.Needs.{needs}
 use Rattle.calendar.proofs.counts.year_of.Statement.{statement}
 use Rattle.calendar.proofs.counts.year_of.Tie as tie
 

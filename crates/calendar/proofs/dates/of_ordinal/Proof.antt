@@ -1,8 +1,6 @@
-use mathlib.Core.Path.{sym, ap, subst, _∙_}
-use Prim.Native.Nat.{ℕ, _≤_}
+use Rattle.prelude.proofs.Logic.{sym, ap, subst, _∙_, ℕ, _≤_, needs}
 use Rattle.calendar.proofs.MonthTables.{month-after}
 use Rattle.calendar.specs.Days.{daysBeforeOf, ofOrdinalOf}
-use borrow.Author.Needs.{needs}
 use Rattle.calendar.proofs.dates.of_ordinal.Statement.{statement}
 use Rattle.calendar.proofs.dates.of_ordinal.Tie as tie
 

@@ -1,4 +1,4 @@
-use lib.Dec.{lit<}
+use Rattle.prelude.proofs.Logic.{lit<}
 use Rattle.calendar.proofs.Machine.{week-quotient, week-sum, week-quotient-2, week-cast, week-day}
 use Rattle.calendar.proofs.dates.weekday.Statement.{statement}
 use Rattle.calendar.proofs.dates.weekday.Tie as tie
@@ -11,8 +11,5 @@ needs-met = (
   λ c. week-cast (c .args .day) (c .fits .day),
 )
 
-returns : tie.Need-returns
-returns c = week-day (c .args .day) (c .fits .day)
-
 pub weekday-spec : {M : Type 1} → statement M
-weekday-spec = tie.close (tie.spec (needs-met .0) (needs-met .1) (needs-met .2) (needs-met .3) returns)
+weekday-spec = tie.close (tie.spec (needs-met .0) (needs-met .1) (needs-met .2) (needs-met .3) (λ c. week-day (c .args .day) (c .fits .day)))

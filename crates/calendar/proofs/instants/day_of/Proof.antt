@@ -1,4 +1,4 @@
-use lib.Dec.{lit<}
+use Rattle.prelude.proofs.Logic.{lit<}
 use Rattle.calendar.proofs.Floors.{quotient-fits, one-less-fits, rounded-down, kept}
 use Rattle.calendar.proofs.instants.day_of.Statement.{statement}
 use Rattle.calendar.proofs.instants.day_of.Tie as tie

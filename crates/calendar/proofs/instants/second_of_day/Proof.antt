@@ -1,8 +1,6 @@
-use mir.Syntax.{w64}
+use Rattle.prelude.proofs.Logic.{arith, needs, w64}
 use Rattle.integers.proofs.Ranges.{read}
 use Rattle.calendar.proofs.Remainders as remainders
-use native.Mathlib.Omega.{arith}
-use borrow.Author.Needs.{needs}
 use Rattle.calendar.proofs.instants.second_of_day.Statement.{statement}
 use Rattle.calendar.proofs.instants.second_of_day.Tie as tie
 

@@ -1,4 +1,4 @@
-use mathlib.Core.Bool.{false}
+use Rattle.prelude.proofs.Logic.{false}
 use Rattle.calendar.specs.Days.{daysBeforeOf}
 use Rattle.calendar.proofs.MonthTables.{before-other}
 use Rattle.calendar.proofs.months.common.Statement.{statement}

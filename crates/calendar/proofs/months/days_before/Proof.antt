@@ -1,4 +1,4 @@
-use mathlib.Core.Path.{sym}
+use Rattle.prelude.proofs.Logic.{sym}
 use Rattle.calendar.proofs.months.days_before.Statement.{statement}
 use Rattle.calendar.proofs.months.days_before.Tie as tie
 

@@ -1,4 +1,4 @@
-use mathlib.Core.Bool.{true}
+use Rattle.prelude.proofs.Logic.{true}
 use Rattle.calendar.specs.Days.{daysBeforeOf}
 use Rattle.calendar.proofs.MonthTables.{before-other}
 use Rattle.calendar.proofs.months.leap_year.Statement.{statement}

@@ -1,7 +1,5 @@
-use mathlib.Core.Path.{_≡_, sym}
-use native.Mathlib.Omega.{arith}
+use Rattle.prelude.proofs.Logic.{_≡_, sym, arith, needs}
 use Rattle.calendar.proofs.MonthTables.{before-next, length-past, length-december}
-use borrow.Author.Needs.{needs}
 use Rattle.calendar.proofs.months.month_days.Statement.{statement}
 use Rattle.calendar.proofs.months.month_days.Tie as tie
 

@@ -1,8 +1,5 @@
-use mathlib.Core.Path.{sym}
-use mathlib.Core.Logic.{⊎-elim}
-use borrow.Author.Tests.{lt-ltb, le-ltb}
+use Rattle.prelude.proofs.Logic.{sym, ⊎-elim, needs, lt-ltb, le-ltb}
 use Rattle.calendar.proofs.MonthTables.{month-searched}
-use borrow.Author.Needs.{needs}
 use Rattle.calendar.proofs.months.month_of.Statement.{statement}
 use Rattle.calendar.proofs.months.month_of.Tie as tie
 

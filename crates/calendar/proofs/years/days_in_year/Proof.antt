@@ -1,4 +1,4 @@
-use mathlib.Core.Path.{sym}
+use Rattle.prelude.proofs.Logic.{sym}
 use Rattle.calendar.specs.Days.{daysInYearOf}
 use Rattle.calendar.proofs.years.days_in_year.Statement.{statement}
 use Rattle.calendar.proofs.years.days_in_year.Tie as tie

@@ -1,7 +1,4 @@
-use Prim.Native.Nat.{_%_}
-use lib.Dec.{eqb}
-use mathlib.Core.Logic.{⊎-elim}
-use borrow.Author.Tests.{eq-eqb, ne-eqb, not-true, not-false}
+use Rattle.prelude.proofs.Logic.{⊎-elim, _%_, eqb, eq-eqb, ne-eqb, not-true, not-false}
 use Rattle.calendar.specs.Gregorian.{leapOf}
 use Rattle.calendar.proofs.years.is_leap_year.Statement.{statement}
 use Rattle.calendar.proofs.years.is_leap_year.Tie as tie

@@ -1,7 +1,6 @@
-use mathlib.Core.Path.{sym, ap, _∙_}
+use Rattle.prelude.proofs.Logic.{sym, ap, _∙_, needs}
 use Rattle.order.specs.declared.reading.Reading.{Reading}
 use Rattle.calls.specs.Calls.{workReadingOf, workDayOf}
-use borrow.Author.Needs.{needs}
 use Rattle.calls.proofs.day.work_day.Statement.{statement}
 use Rattle.calls.proofs.day.work_day.Tie as tie
 

@@ -1,5 +1,4 @@
-use borrow.Author.Tests.{lt-ltb, le-ltb}
-use mathlib.Core.Path.{sym}
+use Rattle.prelude.proofs.Logic.{sym, lt-ltb, le-ltb}
 use Rattle.calls.specs.Calls.{workRowOf}
 use Rattle.calls.proofs.day.work_row.Statement.{statement}
 use Rattle.calls.proofs.day.work_row.Tie as tie

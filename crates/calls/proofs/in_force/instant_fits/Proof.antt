@@ -1,7 +1,4 @@
-use mathlib.Core.Path.{sym, ap, _∙_}
-use lib.IntN.{ℤ, pos, negsuc}
-use lib.Signed.{ltZ}
-use mir.Syntax.{w64}
+use Rattle.prelude.proofs.Logic.{sym, ap, _∙_, ℤ, pos, negsuc, ltZ, w64}
 use Rattle.integers.proofs.OrderLaws.{lt-yes, lt-no, to-le, to-not-le}
 use Rattle.integers.proofs.Ranges.{read}
 use Rattle.calls.specs.Calls.{instantFits}

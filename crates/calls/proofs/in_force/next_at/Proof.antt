@@ -1,7 +1,6 @@
-use mathlib.Core.Path.{sym, ap, _∙_}
+use Rattle.prelude.proofs.Logic.{sym, ap, _∙_, needs}
 use Rattle.schedule.specs.declared.prayer_times.Worked.{Worked}
 use Rattle.calls.specs.Calls.{nextPrayerOf, nextAtOf, nextPrayerIn}
-use borrow.Author.Needs.{needs}
 use Rattle.calls.proofs.in_force.next_at.Statement.{statement}
 use Rattle.calls.proofs.in_force.next_at.Tie as tie
 

@@ -1,6 +1,5 @@
-use mathlib.Core.Path.{sym}
+use Rattle.prelude.proofs.Logic.{sym, needs}
 use Rattle.calls.specs.Calls.{nextPrayerIn}
-use borrow.Author.Needs.{needs}
 use Rattle.calls.proofs.in_force.next_in.Statement.{statement}
 use Rattle.calls.proofs.in_force.next_in.Tie as tie
 

@@ -1,8 +1,7 @@
-use mathlib.Core.Path.{sym, ap, _∙_}
+use Rattle.prelude.proofs.Logic.{sym, ap, _∙_, needs}
 use Rattle.schedule.specs.declared.prayer_times.Worked.{Worked}
 use Rattle.calls.specs.declared.in_force.InForce.the-variants as force
 use Rattle.calls.specs.Calls.{inForceOf, prayerAtOf}
-use borrow.Author.Needs.{needs}
 use Rattle.calls.proofs.in_force.prayer_at.Statement.{statement}
 use Rattle.calls.proofs.in_force.prayer_at.Tie as tie
 

@@ -1,6 +1,5 @@
-use mathlib.Core.Path.{sym}
+use Rattle.prelude.proofs.Logic.{sym, needs}
 use Rattle.calls.specs.Calls.{timeUntilIn}
-use borrow.Author.Needs.{needs}
 use Rattle.calls.proofs.in_force.until_in.Statement.{statement}
 use Rattle.calls.proofs.in_force.until_in.Tie as tie
 

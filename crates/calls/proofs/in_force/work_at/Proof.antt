@@ -1,9 +1,4 @@
-use mathlib.Core.Path.{_≡_, sym, ap, _∙_}
-use mathlib.Core.Bool.{true, false}
-use lib.IntN.{ℤ}
-use mir.Syntax.{w64}
-use mir.Val.{SFits}
-use borrow.Author.Needs.{needs}
+use Rattle.prelude.proofs.Logic.{_≡_, sym, ap, _∙_, true, false, ℤ, needs, w64, SFits}
 use Rattle.integers.proofs.Ranges.{read}
 use Rattle.schedule.specs.declared.prayer_times.Worked.the-variants as worked
 use Rattle.calls.specs.Calls.{instantOf, instantFits, workAtOf}

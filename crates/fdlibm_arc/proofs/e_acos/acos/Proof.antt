@@ -1,5 +1,4 @@
-use borrow.Author.Tests.{lt-ltb, le-ltb, le-leb, lt-leb}
-use mathlib.Core.Path.{sym}
+use Rattle.prelude.proofs.Logic.{sym, lt-ltb, le-ltb, le-leb, lt-leb}
 use Rattle.fdlibm_arc.specs.Acos.{acosOf}
 use Rattle.fdlibm_arc.proofs.e_acos.acos.Statement.{statement}
 use Rattle.fdlibm_arc.proofs.e_acos.acos.Tie as tie

@@ -1,5 +1,4 @@
-use borrow.Author.Tests.{le-leb, lt-leb}
-use mathlib.Core.Path.{sym}
+use Rattle.prelude.proofs.Logic.{sym, le-leb, lt-leb}
 use Rattle.fdlibm_arc.specs.Asin.{asinLargeOf}
 use Rattle.fdlibm_arc.proofs.e_asin.asin_large.Statement.{statement}
 use Rattle.fdlibm_arc.proofs.e_asin.asin_large.Tie as tie

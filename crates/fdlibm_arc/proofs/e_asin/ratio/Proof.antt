@@ -1,4 +1,4 @@
-use mathlib.Core.Path.{refl}
+use Rattle.prelude.proofs.Logic.{refl}
 use Rattle.fdlibm_arc.specs.Asin.{ratioOf}
 use Rattle.fdlibm_arc.proofs.e_asin.ratio.Statement.{statement}
 use Rattle.fdlibm_arc.proofs.e_asin.ratio.Tie as tie

@@ -1,5 +1,4 @@
-use borrow.Author.Tests.{eq-eqb, ne-eqb}
-use mathlib.Core.Path.{sym}
+use Rattle.prelude.proofs.Logic.{sym, eq-eqb, ne-eqb}
 use Rattle.fdlibm_arc.specs.Atan2.{atan2Of}
 use Rattle.fdlibm_arc.proofs.e_atan2.atan2.Statement.{statement}
 use Rattle.fdlibm_arc.proofs.e_atan2.atan2.Tie as tie

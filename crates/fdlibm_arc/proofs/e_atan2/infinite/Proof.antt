@@ -1,5 +1,4 @@
-use borrow.Author.Tests.{eq-eqb, ne-eqb}
-use mathlib.Core.Path.{sym}
+use Rattle.prelude.proofs.Logic.{sym, eq-eqb, ne-eqb}
 use Rattle.fdlibm_arc.specs.Atan2.{infiniteOf}
 use Rattle.fdlibm_arc.proofs.e_atan2.infinite.Statement.{statement}
 use Rattle.fdlibm_arc.proofs.e_atan2.infinite.Tie as tie

@@ -1,7 +1,5 @@
-use mathlib.Core.Logic.{⊎-elim}
-use borrow.Author.Tests.{le-leb, lt-leb}
+use Rattle.prelude.proofs.Logic.{⊎-elim, needs, le-leb, lt-leb}
 use Rattle.fdlibm_arc.specs.Atan2.{quotientOf}
-use borrow.Author.Needs.{needs}
 use Rattle.fdlibm_arc.proofs.e_atan2.quotient.Statement.{statement}
 use Rattle.fdlibm_arc.proofs.e_atan2.quotient.Tie as tie
 

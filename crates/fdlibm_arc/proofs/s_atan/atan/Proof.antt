@@ -1,5 +1,4 @@
-use borrow.Author.Tests.{lt-ltb, le-ltb, le-leb, lt-leb}
-use mathlib.Core.Path.{sym}
+use Rattle.prelude.proofs.Logic.{sym, lt-ltb, le-ltb, le-leb, lt-leb}
 use Rattle.fdlibm_arc.specs.Atan.{atanOf}
 use Rattle.fdlibm_arc.proofs.s_atan.atan.Statement.{statement}
 use Rattle.fdlibm_arc.proofs.s_atan.atan.Tie as tie

@@ -1,5 +1,4 @@
-use borrow.Author.Tests.{lt-ltb, le-ltb}
-use mathlib.Core.Path.{sym}
+use Rattle.prelude.proofs.Logic.{sym, lt-ltb, le-ltb}
 use Rattle.fdlibm_arc.specs.Atan.{atanLargeOf}
 use Rattle.fdlibm_arc.proofs.s_atan.atan_large.Statement.{statement}
 use Rattle.fdlibm_arc.proofs.s_atan.atan_large.Tie as tie

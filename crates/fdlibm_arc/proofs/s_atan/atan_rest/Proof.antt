@@ -1,4 +1,4 @@
-use mathlib.Core.Path.{refl}
+use Rattle.prelude.proofs.Logic.{refl}
 use Rattle.fdlibm_arc.specs.Atan.{atanRestOf}
 use Rattle.fdlibm_arc.proofs.s_atan.atan_rest.Statement.{statement}
 use Rattle.fdlibm_arc.proofs.s_atan.atan_rest.Tie as tie

@@ -1,7 +1,5 @@
 -- Where the tests pass, the residue is one, and it lies where s or a neighbour is the nearest.
-use native.Mathlib.Omega.{arith}
-use borrow.Author.Needs.{needs}
-use borrow.Author.Tests.{leb-true}
+use Rattle.prelude.proofs.Logic.{arith, needs, leb-true}
 use Rattle.fdlibm_root.proofs.Certificate.{up-fits, down-fits, chosen}
 use Rattle.fdlibm_root.proofs.certify.corrected.Statement.{statement}
 use Rattle.fdlibm_root.proofs.certify.corrected.Tie as tie

@@ -1,6 +1,5 @@
 -- No pattern here is a NaN's, and what is no NaN has a pattern.
-use native.Mathlib.Omega.{arith}
-use borrow.Author.Needs.{needs}
+use Rattle.prelude.proofs.Logic.{arith, needs}
 use Rattle.fdlibm_root.proofs.NoNan.{no-nan-bits, self-equal}
 use Rattle.fdlibm_root.proofs.certify.estimate.Statement.{statement}
 use Rattle.fdlibm_root.proofs.certify.estimate.Tie as tie

@@ -1,6 +1,5 @@
 -- Every product fits, and the difference is the one that the comment derives.
-use native.Mathlib.Omega.{arith}
-use borrow.Author.Needs.{needs}
+use Rattle.prelude.proofs.Logic.{arith, needs}
 use Rattle.fdlibm_root.proofs.Certificate.{halves, residue-is}
 use Rattle.fdlibm_root.proofs.certify.residue.Statement.{statement}
 use Rattle.fdlibm_root.proofs.certify.residue.Tie as tie

@@ -1,6 +1,5 @@
 -- The root's last digit rounds it.
-use native.Mathlib.Omega.{arith}
-use borrow.Author.Needs.{needs}
+use Rattle.prelude.proofs.Logic.{arith, needs}
 use Rattle.fdlibm_root.proofs.Squares.{rounded}
 use Rattle.fdlibm_root.proofs.digits.by_digits.Statement.{statement}
 use Rattle.fdlibm_root.proofs.digits.by_digits.Tie as tie

@@ -1,10 +1,5 @@
 -- The loop keeps `Kept`, which at its 54th turn is that q is the root.
-use Prim.Native.Nat.{_-_}
-use mathlib.Core.Path.{refl}
-use mathlib.Core.Logic.{⊎-elim}
-use native.Mathlib.Omega.{arith}
-use lib.Dec.{lit<, lit≤}
-use borrow.Author.Needs.{needs}
+use Rattle.prelude.proofs.Logic.{refl, ⊎-elim, _-_, arith, lit<, lit≤, needs}
 use Rattle.fdlibm_root.proofs.Squares.{Kept, next-one, next-none, last}
 use Rattle.fdlibm_root.proofs.digits.root.Statement.{statement}
 use Rattle.fdlibm_root.proofs.digits.root.Tie as tie

@@ -1,7 +1,5 @@
 -- Half the exponent and the nearest root make the pattern of the rounded root.
-use mathlib.Core.Path.{sym}
-use native.Mathlib.Omega.{arith}
-use borrow.Author.Needs.{needs}
+use Rattle.prelude.proofs.Logic.{sym, arith, needs}
 use Rattle.fdlibm_root.proofs.Scaled.{scaled-root, scaled-fits}
 use Rattle.fdlibm_root.proofs.e_sqrt.root_pattern.Statement.{statement}
 use Rattle.fdlibm_root.proofs.e_sqrt.root_pattern.Tie as tie

@@ -1,7 +1,6 @@
 -- Each branch's result is the root by the definition's clause for its floats.
-use mathlib.Core.Path.{_∙_, sym}
+use Rattle.prelude.proofs.Logic.{_∙_, sym, needs}
 use lib.Ieee.{ofBits, div}
-use borrow.Author.Needs.{needs}
 use Rattle.fdlibm_root.proofs.NoNan.{no-nan, no-nan-bits}
 use Rattle.fdlibm_root.proofs.Patterns.{not-zero, subnormal-root, normal-root, infinite-root}
 use Rattle.fdlibm_root.proofs.Special.{zero-root, no-root}
@@ -15,12 +14,6 @@ float-to-bits-b c = no-nan (c .before .args .x) (c .if1 .taken)
 subnormal-pattern-requires : tie.Need-subnormal-pattern-requires
 unfolding ofBits
 subnormal-pattern-requires c κs = (not-zero (c .before .before .args .x) (c .before .before .good .0 .1) (c .before .if1 .taken), c .if2 .taken)
-
-float-from-bits-result : tie.Need-float-from-bits-result
-float-from-bits-result c = no-nan-bits _ (c .subnormal-pattern .ensures .1)
-
-float-from-bits-result-2 : tie.Need-float-from-bits-result-2
-float-from-bits-result-2 c = no-nan-bits _ (c .root-pattern .ensures .1)
 
 returns : tie.Need-returns
 unfolding ofBits
@@ -51,4 +44,4 @@ returns-5 c = no-root (c .before .before .args .x) (c .before .if1 .left) (c .if
 pub sqrt-spec : {M : Type 1} → statement M
 sqrt-spec =
     tie.close
-    (tie.spec float-to-bits-b subnormal-pattern-requires float-from-bits-result (λ c. search needs) (λ c. search needs) (λ c κs. search needs) float-from-bits-result-2 returns returns-2 returns-3 returns-4 returns-5)
+    (tie.spec float-to-bits-b subnormal-pattern-requires (λ c. no-nan-bits _ (c .subnormal-pattern .ensures .1)) (λ c. search needs) (λ c. search needs) (λ c κs. search needs) (λ c. no-nan-bits _ (c .root-pattern .ensures .1)) returns returns-2 returns-3 returns-4 returns-5)

@@ -1,9 +1,5 @@
 -- The significand doubles up to its 53rd digit, and the number of places that it was moved counts down the exponent.
-use Prim.Native.Nat.{_-_}
-use mathlib.Core.Path.{_∙_, ap}
-use native.Mathlib.Omega.{arith}
-use lib.Dec.{lit≤}
-use borrow.Author.Needs.{needs}
+use Rattle.prelude.proofs.Logic.{_∙_, ap, _-_, arith, lit≤, needs}
 use Rattle.fdlibm_root.specs.Root.{roundedRoot}
 use Rattle.fdlibm_root.proofs.Moved.{Shifted53, move, moved-same}
 use Rattle.fdlibm_root.proofs.e_sqrt.subnormal_pattern.Statement.{statement}
@@ -14,9 +10,6 @@ Inv-loop t significand₀ places₀ significand places = Shifted53 t significand
 
 abbrev μ-loop : tie.MeasureT-loop
 μ-loop t significand₀ places₀ significand places = 60 - places
-
-loop-holds : tie.Need-loop-holds Inv-loop μ-loop
-loop-holds c = record { is = omega arith; small = omega arith; places = lit≤ tt }
 
 loop-again : tie.Need-loop-again Inv-loop μ-loop
 loop-again c =
@@ -31,4 +24,4 @@ returns c =
 pub subnormal-pattern-spec : {M : Type 1} → statement M
 subnormal-pattern-spec =
     tie.close
-    (tie.spec Inv-loop μ-loop loop-holds (λ c. search needs) (λ c. search needs) (λ c. search needs) loop-again (λ c. search needs) (λ c κs. search needs) returns)
+    (tie.spec Inv-loop μ-loop (λ c. record { is = omega arith; small = omega arith; places = lit≤ tt }) (λ c. search needs) (λ c. search needs) (λ c. search needs) loop-again (λ c. search needs) (λ c κs. search needs) returns)

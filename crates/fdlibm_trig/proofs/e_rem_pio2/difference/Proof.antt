@@ -1,7 +1,5 @@
-use borrow.Author.Tests.{lt-ltb, le-ltb, eq-eqb, ne-eqb}
-use mathlib.Core.Path.{sym}
+use Rattle.prelude.proofs.Logic.{sym, needs, lt-ltb, le-ltb, eq-eqb, ne-eqb}
 use Rattle.fdlibm_trig.specs.RemPio2.{differenceOf}
-use borrow.Author.Needs.{needs}
 use Rattle.fdlibm_trig.proofs.e_rem_pio2.difference.Statement.{statement}
 use Rattle.fdlibm_trig.proofs.e_rem_pio2.difference.Tie as tie
 

@@ -1,4 +1,4 @@
-use borrow.Author.Tests.{eq-eqb, ne-eqb}
+use Rattle.prelude.proofs.Logic.{eq-eqb, ne-eqb}
 use Rattle.fdlibm_trig.specs.RemPio2.{nearOf}
 use Rattle.fdlibm_trig.proofs.e_rem_pio2.near.Statement.{statement}
 use Rattle.fdlibm_trig.proofs.e_rem_pio2.near.Tie as tie

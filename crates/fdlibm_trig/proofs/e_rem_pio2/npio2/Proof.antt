@@ -1,7 +1,4 @@
-use mathlib.Core.Path.{_≡_, sym}
-use Prim.Native.Nat.{ℕ, _-_, _≤_, _<_}
-use native.Mathlib.Omega.{arith}
-use lib.ListN.{List·getD-eq-default}
+use Rattle.prelude.proofs.Logic.{_≡_, sym, ℕ, _-_, _≤_, _<_, arith, List·getD-eq-default}
 use Rattle.fdlibm_trig.specs.RemPio2.{npio2Of, npio2}
 use Rattle.fdlibm_trig.proofs.e_rem_pio2.npio2.Statement.{statement}
 use Rattle.fdlibm_trig.proofs.e_rem_pio2.npio2.Tie as tie

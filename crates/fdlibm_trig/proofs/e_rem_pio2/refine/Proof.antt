@@ -1,6 +1,5 @@
-use borrow.Author.Tests.{lt-ltb, le-ltb}
+use Rattle.prelude.proofs.Logic.{needs, lt-ltb, le-ltb}
 use Rattle.fdlibm_trig.specs.RemPio2.{refineOf}
-use borrow.Author.Needs.{needs}
 use Rattle.fdlibm_trig.proofs.e_rem_pio2.refine.Statement.{statement}
 use Rattle.fdlibm_trig.proofs.e_rem_pio2.refine.Tie as tie
 

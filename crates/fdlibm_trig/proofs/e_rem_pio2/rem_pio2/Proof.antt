@@ -1,5 +1,4 @@
-use borrow.Author.Tests.{lt-ltb, le-ltb, le-leb, lt-leb}
-use mathlib.Core.Path.{sym}
+use Rattle.prelude.proofs.Logic.{sym, lt-ltb, le-ltb, le-leb, lt-leb}
 use Rattle.fdlibm_trig.specs.RemPio2.{remPio2Of}
 use Rattle.fdlibm_trig.proofs.e_rem_pio2.rem_pio2.Statement.{statement}
 use Rattle.fdlibm_trig.proofs.e_rem_pio2.rem_pio2.Tie as tie

@@ -1,7 +1,5 @@
-use borrow.Author.Tests.{lt-ltb, le-ltb}
-use mathlib.Core.Path.{sym}
+use Rattle.prelude.proofs.Logic.{sym, needs, lt-ltb, le-ltb}
 use Rattle.fdlibm_trig.specs.KCos.{kernelCosOf}
-use borrow.Author.Needs.{needs}
 use Rattle.fdlibm_trig.proofs.k_cos.cos_polynomial.Statement.{statement}
 use Rattle.fdlibm_trig.proofs.k_cos.cos_polynomial.Tie as tie
 

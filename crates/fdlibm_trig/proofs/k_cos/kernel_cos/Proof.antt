@@ -1,5 +1,4 @@
-use borrow.Author.Tests.{lt-ltb}
-use mathlib.Core.Path.{refl, sym}
+use Rattle.prelude.proofs.Logic.{refl, sym, lt-ltb}
 use Rattle.fdlibm_trig.specs.KCos.{kernelCosOf}
 use Rattle.fdlibm_trig.proofs.k_cos.kernel_cos.Statement.{statement}
 use Rattle.fdlibm_trig.proofs.k_cos.kernel_cos.Tie as tie

@@ -1,9 +1,6 @@
-use borrow.Author.Tests.{lt-ltb, le-ltb}
-use Prim.Native.Nat.{_-_, _<_}
-use native.Mathlib.Omega.{arith}
+use Rattle.prelude.proofs.Logic.{_-_, _<_, arith, needs, lt-ltb, le-ltb}
 use Rattle.fdlibm_trig.proofs.Shifts.{below-inf, shifted}
 use Rattle.fdlibm_trig.specs.KCos.{quarterOf}
-use borrow.Author.Needs.{needs}
 use Rattle.fdlibm_trig.proofs.k_cos.quarter.Statement.{statement}
 use Rattle.fdlibm_trig.proofs.k_cos.quarter.Tie as tie
 

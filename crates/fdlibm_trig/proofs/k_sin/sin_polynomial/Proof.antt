@@ -1,4 +1,4 @@
-use borrow.Author.Tests.{le-ltb}
+use Rattle.prelude.proofs.Logic.{le-ltb}
 use Rattle.fdlibm_trig.specs.KSin.{kernelSinOf}
 use Rattle.fdlibm_trig.proofs.k_sin.sin_polynomial.Statement.{statement}
 use Rattle.fdlibm_trig.proofs.k_sin.sin_polynomial.Tie as tie

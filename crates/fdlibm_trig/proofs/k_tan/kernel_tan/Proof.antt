@@ -1,5 +1,4 @@
-use borrow.Author.Tests.{lt-ltb, le-ltb, le-leb, lt-leb}
-use mathlib.Core.Path.{sym}
+use Rattle.prelude.proofs.Logic.{sym, lt-ltb, le-ltb, le-leb, lt-leb}
 use Rattle.fdlibm_trig.specs.KTan.{kernelTanOf}
 use Rattle.fdlibm_trig.proofs.k_tan.kernel_tan.Statement.{statement}
 use Rattle.fdlibm_trig.proofs.k_tan.kernel_tan.Tie as tie

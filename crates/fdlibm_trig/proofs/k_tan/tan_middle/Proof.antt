@@ -1,4 +1,4 @@
-use mathlib.Core.Path.{sym}
+use Rattle.prelude.proofs.Logic.{sym}
 use Rattle.fdlibm_trig.specs.KTan.{tanMiddleOf}
 use Rattle.fdlibm_trig.proofs.k_tan.tan_middle.Statement.{statement}
 use Rattle.fdlibm_trig.proofs.k_tan.tan_middle.Tie as tie

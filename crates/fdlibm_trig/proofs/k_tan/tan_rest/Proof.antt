@@ -1,4 +1,4 @@
-use mathlib.Core.Path.{refl}
+use Rattle.prelude.proofs.Logic.{refl}
 use Rattle.fdlibm_trig.specs.KTan.{tanRestOf}
 use Rattle.fdlibm_trig.proofs.k_tan.tan_rest.Statement.{statement}
 use Rattle.fdlibm_trig.proofs.k_tan.tan_rest.Tie as tie

@@ -1,4 +1,4 @@
-use mathlib.Core.Path.{sym}
+use Rattle.prelude.proofs.Logic.{sym}
 use Rattle.fdlibm_trig.specs.KTan.{tanSmallOf}
 use Rattle.fdlibm_trig.proofs.k_tan.tan_small.Statement.{statement}
 use Rattle.fdlibm_trig.proofs.k_tan.tan_small.Tie as tie

@@ -1,7 +1,5 @@
-use borrow.Author.Tests.{le-leb, lt-leb}
-use mathlib.Core.Path.{sym}
+use Rattle.prelude.proofs.Logic.{sym, needs, le-leb, lt-leb}
 use Rattle.fdlibm_trig.specs.Trig.{cosOf}
-use borrow.Author.Needs.{needs}
 use Rattle.fdlibm_trig.proofs.s_cos.cos.Statement.{statement}
 use Rattle.fdlibm_trig.proofs.s_cos.cos.Tie as tie
 

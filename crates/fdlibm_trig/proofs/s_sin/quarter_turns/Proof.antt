@@ -1,5 +1,4 @@
-use borrow.Author.Tests.{eq-eqb, ne-eqb}
-use mathlib.Core.Path.{sym}
+use Rattle.prelude.proofs.Logic.{sym, eq-eqb, ne-eqb}
 use Rattle.fdlibm_trig.specs.Trig.{quarterTurnsOf}
 use Rattle.fdlibm_trig.proofs.s_sin.quarter_turns.Statement.{statement}
 use Rattle.fdlibm_trig.proofs.s_sin.quarter_turns.Tie as tie

@@ -1,5 +1,4 @@
-use mathlib.Core.Path.{_≡_}
-use native.Mathlib.Omega.{arith}
+use Rattle.prelude.proofs.Logic.{_≡_, arith}
 use Rattle.fdlibm_trig.specs.Trig.{quarterTurnsOf}
 use Rattle.fdlibm_trig.proofs.s_sincos.both_turns.Statement.{statement}
 use Rattle.fdlibm_trig.proofs.s_sincos.both_turns.Tie as tie

@@ -1,6 +1,4 @@
-use borrow.Author.Tests.{le-leb, lt-leb}
-use mathlib.Core.Path.{sym, subst}
-use Prim.Native.Nat.{_<_}
+use Rattle.prelude.proofs.Logic.{sym, subst, _<_, le-leb, lt-leb}
 use Rattle.fdlibm_trig.specs.declared.e_rem_pio2.Reduced.{Reduced}
 use Rattle.fdlibm_trig.specs.Trig.{sinOf, cosOf}
 use Rattle.fdlibm_trig.proofs.Quarters.{quarters}

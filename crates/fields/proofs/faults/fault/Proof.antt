@@ -1,7 +1,5 @@
 -- `fields::faults::fault` meets its contract: a line for each check, with those before it passed.
-use borrow.Author.Tests.{lt-ltb, le-ltb}
-use mathlib.Core.Path.{sym}
-use borrow.Author.Needs.{needs}
+use Rattle.prelude.proofs.Logic.{sym, needs, lt-ltb, le-ltb}
 use Rattle.fields.specs.Fields.{faultIn}
 use Rattle.fields.proofs.faults.fault.Statement.{statement}
 use Rattle.fields.proofs.faults.fault.Tie as tie

@@ -1,6 +1,5 @@
 -- `fields::faults::value_fault` meets its contract.
-use borrow.Author.Tests.{lt-ltb, le-ltb}
-use mathlib.Core.Path.{sym}
+use Rattle.prelude.proofs.Logic.{sym, lt-ltb, le-ltb}
 use Rattle.fields.specs.Fields.{valueFaultOf}
 use Rattle.fields.proofs.faults.value_fault.Statement.{statement}
 use Rattle.fields.proofs.faults.value_fault.Tie as tie

@@ -1,9 +1,5 @@
 -- `fields::numbers::bits` meets its contract. The invariant: x is the number of the bytes passed, and has no more bits than they.
-use borrow.Author.Needs.{needs}
-use native.Mathlib.Omega.{arith}
-use Prim.Native.Nat.{ℕ, _≤_, _<_, _-_, _*_, _^_}
-use mathlib.Core.Path.{_≡_, ap, _∙_}
-use denote.Ref.{now}
+use Rattle.prelude.proofs.Logic.{_≡_, ap, _∙_, ℕ, _≤_, _<_, _-_, _*_, _^_, arith, needs, now}
 use Rattle.fields.specs.Numbers.{bytesNumberOf, bitsOf}
 use Rattle.fields.proofs.Joining.{join-on, shift-in, shift-room}
 use Rattle.fields.proofs.numbers.bits.Statement.{statement}

@@ -1,8 +1,5 @@
 -- `fields::numbers::byte` meets its contract: past the end `getD` gives 0.
-use native.Mathlib.Omega.{arith}
-use mathlib.Core.Path.{sym}
-use lib.ListN.{List·getD-eq-default}
-use borrow.Author.Needs.{needs}
+use Rattle.prelude.proofs.Logic.{sym, arith, List·getD-eq-default, needs}
 use Rattle.fields.proofs.numbers.byte.Statement.{statement}
 use Rattle.fields.proofs.numbers.byte.Tie as tie
 

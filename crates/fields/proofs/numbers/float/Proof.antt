@@ -1,6 +1,6 @@
 -- `fields::numbers::float` meets its contract.
 use Rattle.fields.specs.Numbers.{floatOf}
-use borrow.Author.Needs.{needs}
+use Rattle.prelude.proofs.Logic.{needs}
 use Rattle.fields.proofs.numbers.float.Statement.{statement}
 use Rattle.fields.proofs.numbers.float.Tie as tie
 

@@ -1,7 +1,6 @@
 -- `fields::numbers::signed` meets its contract.
-use denote.Ref.{now}
+use Rattle.prelude.proofs.Logic.{needs, now}
 use Rattle.fields.proofs.Joining.{less-fits, signed-low, signed-high}
-use borrow.Author.Needs.{needs}
 use Rattle.fields.proofs.numbers.signed.Statement.{statement}
 use Rattle.fields.proofs.numbers.signed.Tie as tie
 

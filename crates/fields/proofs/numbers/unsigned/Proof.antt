@@ -1,10 +1,6 @@
 -- `fields::numbers::unsigned` meets its contract: past the end both bytes are 0.
-use native.Mathlib.Omega.{arith}
-use Prim.Native.Nat.{_+_}
-use mathlib.Core.Path.{_≡_}
-use lib.ListN.{getD, List·getD-eq-default}
+use Rattle.prelude.proofs.Logic.{_≡_, _+_, arith, getD, List·getD-eq-default, needs}
 use Rattle.fields.specs.Numbers.{unsignedOf}
-use borrow.Author.Needs.{needs}
 use Rattle.fields.proofs.numbers.unsigned.Statement.{statement}
 use Rattle.fields.proofs.numbers.unsigned.Tie as tie
 

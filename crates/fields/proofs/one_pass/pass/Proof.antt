@@ -1,11 +1,6 @@
 -- `fields::one_pass::pass` meets its contract. The invariant: the walk has come to `at`, nothing is refused before it, and both arrays hold
 -- what lies before it.
-use borrow.Author.Needs.{needs}
-use native.Mathlib.Omega.{arith}
-use Prim.Native.Nat.{_-_}
-use mathlib.Core.Path.{_≡_, sym, _∙_}
-use denote.Ref.{now}
-use lib.ListN.{length}
+use Rattle.prelude.proofs.Logic.{_≡_, sym, _∙_, _-_, arith, length, needs, now}
 use Rattle.fields.specs.Fields.{lengthAt}
 use Rattle.fields.proofs.Collecting.{Collected, collect-first, fault-here, refused-here, nothing-refused, collect-room, collect-short, collect-on, collect-all, checked-not, checked-all}
 use Rattle.fields.proofs.one_pass.pass.Statement.{statement}
@@ -16,9 +11,6 @@ Inv-loop order starts₀ lengths₀ at₀ starts lengths at = Collected order at
 
 abbrev μ-loop : tie.MeasureT-loop
 μ-loop order starts₀ lengths₀ at₀ starts lengths at = length order - at
-
-loop-holds : tie.Need-loop-holds Inv-loop μ-loop
-loop-holds c = collect-first (now (c .before .args .order)) (c .before .pre)
 
 returns : tie.Need-returns Inv-loop μ-loop
 returns c =
@@ -32,9 +24,6 @@ returns c =
     ∙ checked-not s (f .fault .result) (l .loop .at)
     (refused-here s (l .loop .at) (l .loop .starts) (l .loop .lengths) (l .loop .inv) (f .fault .result) (b .before .loop-test .taken) e (c .before .if1 .taken))
     (c .before .if1 .taken)
-
-slice : tie.Need-slice-aggregate-stands Inv-loop μ-loop
-slice c = sym (c .before .before .before .before .loop .inv .sizes .0)
 
 room : tie.Need-array-write-starts Inv-loop μ-loop
 room c =
@@ -84,4 +73,4 @@ returns-2 c =
 pub pass-spec : {M : Type 1} → statement M
 pass-spec =
     tie.close
-    (tie.spec Inv-loop μ-loop loop-holds (λ c κs. search needs) (λ c. search needs) (λ c κs. search needs) slice (λ c κs. search needs) (λ c. search needs) (λ c κs. search needs) (λ c. search needs) (λ c κs. search needs) returns (λ c. search needs) (λ c. search needs) (λ c. search needs) (λ c. search needs) room short (λ c. search needs) room (λ c. search needs) (λ c. search needs) (λ c. search needs) (λ c. search needs) loop-again (λ c κs. search needs) returns-2)
+    (tie.spec Inv-loop μ-loop (λ c. collect-first (now (c .before .args .order)) (c .before .pre)) (λ c κs. search needs) (λ c. search needs) (λ c κs. search needs) (λ c. sym (c .before .before .before .before .loop .inv .sizes .0)) (λ c κs. search needs) (λ c. search needs) (λ c κs. search needs) (λ c. search needs) (λ c κs. search needs) returns (λ c. search needs) (λ c. search needs) (λ c. search needs) (λ c. search needs) room short (λ c. search needs) room (λ c. search needs) (λ c. search needs) (λ c. search needs) (λ c. search needs) loop-again (λ c κs. search needs) returns-2)

@@ -1,8 +1,5 @@
 -- `fields::one_pass::stands` meets its contract: past the end `getD` gives 0.
-use mathlib.Core.Path.{_≡_}
-use denote.Ref.{now}
-use lib.ListN.{getD, List·getD-eq-default}
-use borrow.Author.Needs.{needs}
+use Rattle.prelude.proofs.Logic.{_≡_, getD, List·getD-eq-default, needs, now}
 use Rattle.fields.proofs.one_pass.stands.Statement.{statement}
 use Rattle.fields.proofs.one_pass.stands.Tie as tie
 

@@ -1,8 +1,6 @@
 -- `fields::plain::check` meets its contract: the walk asks that the order is no longer than 1,024 bytes.
-use borrow.Author.Tests.{lt-ltb, le-ltb}
-use mathlib.Core.Path.{sym}
+use Rattle.prelude.proofs.Logic.{sym, needs, lt-ltb, le-ltb}
 use Rattle.fields.specs.Fields.{checkOf}
-use borrow.Author.Needs.{needs}
 use Rattle.fields.proofs.plain.check.Statement.{statement}
 use Rattle.fields.proofs.plain.check.Tie as tie
 

@@ -1,10 +1,5 @@
 -- `fields::plain::collect` meets its contract. The invariant: the walk has come to `at`, and both arrays hold what lies before it.
-use borrow.Author.Needs.{needs}
-use native.Mathlib.Omega.{arith}
-use Prim.Native.Nat.{_-_}
-use mathlib.Core.Path.{_≡_}
-use denote.Ref.{now}
-use lib.ListN.{length}
+use Rattle.prelude.proofs.Logic.{_≡_, _-_, arith, length, needs, now}
 use Rattle.fields.specs.Fields.{checkOf}
 use Rattle.fields.proofs.FieldsLaws.{check-none}
 use Rattle.fields.proofs.Collecting.{Collected, collect-first, sound-here, collect-room, collect-short, collect-on, collect-all}

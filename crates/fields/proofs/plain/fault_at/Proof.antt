@@ -1,5 +1,5 @@
 -- `fields::plain::fault_at` meets its contract.
-use borrow.Author.Needs.{needs}
+use Rattle.prelude.proofs.Logic.{needs}
 use Rattle.fields.specs.Fields.{faultOf}
 use Rattle.fields.proofs.plain.fault_at.Statement.{statement}
 use Rattle.fields.proofs.plain.fault_at.Tie as tie

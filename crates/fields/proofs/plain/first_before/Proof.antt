@@ -1,11 +1,6 @@
 -- `fields::plain::first_before` meets its contract. The invariant: what the definition finds from here on, with enough fields left to
 -- pass, is what it finds from the start.
-use borrow.Author.Needs.{needs}
-use native.Mathlib.Omega.{arith}
-use Prim.Native.Nat.{ℕ, _≤_, _+_, _-_}
-use mathlib.Core.Path.{_≡_, refl, sym, _∙_}
-use lib.ListN.{length}
-use denote.Ref.{now}
+use Rattle.prelude.proofs.Logic.{_≡_, refl, sym, _∙_, ℕ, _≤_, _+_, _-_, arith, length, needs, now}
 use Rattle.fields.specs.Fields.{firstBefore}
 use Rattle.fields.proofs.Walking.{find-here, find-on, find-none}
 use Rattle.fields.proofs.plain.first_before.Statement.{statement}
@@ -17,9 +12,6 @@ Inv-loop order tag stop at₀ at =
 
 abbrev μ-loop : tie.MeasureT-loop
 μ-loop order tag stop at₀ at = stop - at
-
-loop-holds : tie.Need-loop-holds Inv-loop μ-loop
-loop-holds c = (length (c .before .args .order .now), omega arith, refl)
 
 returns : tie.Need-returns Inv-loop μ-loop
 returns c =
@@ -43,4 +35,4 @@ returns-2 c =
 pub first-before-spec : {M : Type 1} → statement M
 first-before-spec =
     tie.close
-    (tie.spec Inv-loop μ-loop loop-holds (λ c κs. search needs) returns (λ c. search needs) (λ c κs. search needs) (λ c. search needs) (λ c. search needs) (λ c. search needs) loop-again returns-2)
+    (tie.spec Inv-loop μ-loop (λ c. (length (c .before .args .order .now), omega arith, refl)) (λ c κs. search needs) returns (λ c. search needs) (λ c κs. search needs) (λ c. search needs) (λ c. search needs) (λ c. search needs) loop-again returns-2)

@@ -1,6 +1,6 @@
 -- `fields::plain::length_at` meets its contract.
 use Rattle.fields.specs.Fields.{lengthAt}
-use borrow.Author.Needs.{needs}
+use Rattle.prelude.proofs.Logic.{needs}
 use Rattle.fields.proofs.plain.length_at.Statement.{statement}
 use Rattle.fields.proofs.plain.length_at.Tie as tie
 

@@ -1,10 +1,6 @@
 -- `fields::plain::walk` meets its contract. The invariant: what the definition answers from here on, with enough fields left to
 -- pass, is what it answers from the start.
-use borrow.Author.Needs.{needs}
-use native.Mathlib.Omega.{arith}
-use Prim.Native.Nat.{ℕ, _≤_, _+_, _-_}
-use mathlib.Core.Path.{_≡_, refl, sym, _∙_}
-use lib.ListN.{length}
+use Rattle.prelude.proofs.Logic.{_≡_, refl, sym, _∙_, ℕ, _≤_, _+_, _-_, arith, length, needs}
 use Rattle.fields.specs.Fields.{walkOf}
 use Rattle.fields.proofs.Walking.{walk-stop, walk-on, walk-end}
 use Rattle.fields.proofs.plain.walk.Statement.{statement}
@@ -16,9 +12,6 @@ Inv-loop order at₀ at =
 
 abbrev μ-loop : tie.MeasureT-loop
 μ-loop order at₀ at = length order - at
-
-loop-holds : tie.Need-loop-holds Inv-loop μ-loop
-loop-holds c = (length (c .before .args .order .now), omega arith, refl)
 
 returns : tie.Need-returns Inv-loop μ-loop
 returns c =
@@ -43,4 +36,4 @@ returns-2 c =
 pub walk-spec : {M : Type 1} → statement M
 walk-spec =
     tie.close
-    (tie.spec Inv-loop μ-loop loop-holds (λ c κs. search needs) (λ c. search needs) (λ c κs. search needs) returns (λ c. search needs) (λ c κs. search needs) (λ c. search needs) (λ c. search needs) (λ c. search needs) loop-again (λ c κs. search needs) returns-2)
+    (tie.spec Inv-loop μ-loop (λ c. (length (c .before .args .order .now), omega arith, refl)) (λ c κs. search needs) (λ c. search needs) (λ c κs. search needs) returns (λ c. search needs) (λ c κs. search needs) (λ c. search needs) (λ c. search needs) (λ c. search needs) loop-again (λ c κs. search needs) returns-2)

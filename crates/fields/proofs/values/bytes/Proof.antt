@@ -1,6 +1,5 @@
 -- `fields::values::bytes` meets its contract: each slice that it may hand out is the part.
-use borrow.Author.Needs.{needs}
-use denote.Ref.{now}
+use Rattle.prelude.proofs.Logic.{needs, now}
 use Rattle.fields.proofs.Parts.{part-none, part-rest, part-whole}
 use Rattle.fields.proofs.values.bytes.Statement.{statement}
 use Rattle.fields.proofs.values.bytes.Tie as tie

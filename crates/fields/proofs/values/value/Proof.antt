@@ -1,6 +1,5 @@
 -- `fields::values::value` meets its contract.
-use mathlib.Core.Path.{ap, _∙_}
-use denote.Ref.{now}
+use Rattle.prelude.proofs.Logic.{ap, _∙_, now}
 use Rattle.fields.specs.Values.{partIn, valuesIn}
 use Rattle.fields.proofs.values.value.Statement.{statement}
 use Rattle.fields.proofs.values.value.Tie as tie

@@ -1,11 +1,6 @@
-use Prim.Native.Nat.{_%_}
-use mathlib.Core.Path.{_≡_, refl, sym, subst, _∙_}
-use mathlib.Core.Bool.{Bool, true, not}
-use lib.Dec.{T}
+use Rattle.prelude.proofs.Logic.{_≡_, refl, sym, subst, _∙_, Bool, true, not, _%_, T, needs, le-ltb, lt-ltb}
 use lib.Ieee.{Float, nan, inf, fin, binary64, ofBits, isNan}
 use lib.Ieee.Bits.{nanBits-above, nanBits-is}
-use borrow.Author.Tests.{le-ltb, lt-ltb}
-use borrow.Author.Needs.{needs}
 use Rattle.float64.proofs.bits.from_bits.Statement.{statement}
 use Rattle.float64.proofs.bits.from_bits.Tie as tie
 

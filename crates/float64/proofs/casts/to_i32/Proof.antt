@@ -1,5 +1,4 @@
-use borrow.Author.Needs.{needs}
-use mir.Syntax.{w32}
+use Rattle.prelude.proofs.Logic.{needs, w32}
 use Rattle.float64.proofs.Saturate.{above, top, below, bottom, minus-fits}
 use Rattle.float64.proofs.casts.to_i32.Statement.{statement}
 use Rattle.float64.proofs.casts.to_i32.Tie as tie

@@ -1,5 +1,4 @@
-use borrow.Author.Needs.{needs}
-use mir.Syntax.{w64}
+use Rattle.prelude.proofs.Logic.{needs, w64}
 use Rattle.float64.proofs.Saturate.{above, top, below, bottom, minus-fits}
 use Rattle.float64.proofs.casts.to_i64.Statement.{statement}
 use Rattle.float64.proofs.casts.to_i64.Tie as tie

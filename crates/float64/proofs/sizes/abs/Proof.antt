@@ -1,15 +1,10 @@
-use mathlib.Core.Path.{sym, ap, _∙_}
-use Prim.Native.Nat.{_%_}
-use native.Mathlib.Omega.{arith}
+use Rattle.prelude.proofs.Logic.{sym, ap, _∙_, _%_, arith}
 use lib.Ieee.{fits, binary64, toBits}
 use denote.Floats.{passes}
 use Rattle.float64.specs.Sizes.{absOf}
 use Rattle.float64.proofs.Patterns.{is-nan, no-nan, no-larger, size-bits}
 use Rattle.float64.proofs.sizes.abs.Statement.{statement}
 use Rattle.float64.proofs.sizes.abs.Tie as tie
-
-float-to-bits-result : tie.Need-float-to-bits-result
-float-to-bits-result c = no-nan (c .before .args .x) (c .if1 .left)
 
 float-from-bits-result : tie.Need-float-from-bits-result
 float-from-bits-result c =
@@ -26,4 +21,4 @@ returns-2 c =
     size-bits x (passes (fits binary64 x) (c .before .good .0 .1))
 
 pub abs-spec : {M : Type 1} → statement M
-abs-spec = tie.close (tie.spec float-to-bits-result float-from-bits-result returns returns-2)
+abs-spec = tie.close (tie.spec (λ c. no-nan (c .before .args .x) (c .if1 .left)) float-from-bits-result returns returns-2)

@@ -1,4 +1,4 @@
-use mathlib.Core.Path.{ap, _∙_}
+use Rattle.prelude.proofs.Logic.{ap, _∙_}
 use Rattle.float64.specs.Whole.{floorOf}
 use Rattle.float64.proofs.Parts.{neg-neg, neg-positive, floor-positive, still-zero}
 use Rattle.float64.proofs.whole.floor.Statement.{statement}
@@ -11,8 +11,5 @@ returns = (
   λ c. still-zero (c .before .before .args .x) (c .before .if1 .left) (c .if2 .left) .0,
 )
 
-upper-requires : tie.Need-upper-requires
-upper-requires c κs = neg-positive (c .before .before .args .x) (c .if2 .taken)
-
 pub floor-spec : {M : Type 1} → statement M
-floor-spec = tie.close (tie.spec (λ c κs. c .if1 .taken) (returns .0) upper-requires (returns .1) (returns .2))
+floor-spec = tie.close (tie.spec (λ c κs. c .if1 .taken) (returns .0) (λ c κs. neg-positive (c .before .before .args .x) (c .if2 .taken)) (returns .1) (returns .2))

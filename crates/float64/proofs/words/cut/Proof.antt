@@ -1,6 +1,4 @@
-use mathlib.Core.Path.{refl, sym, ap, _∙_}
-use native.Mathlib.Omega.{arith}
-use Prim.Native.Nat.{_/_, _*_}
+use Rattle.prelude.proofs.Logic.{refl, sym, ap, _∙_, _/_, _*_, arith}
 use lib.Ieee.{fits, binary64, toBits, ofBits}
 use lib.Ieee.Bits.{toBits-lt}
 use denote.Floats.{passes}

@@ -1,13 +1,10 @@
-use mathlib.Core.Path.{sym, ap}
+use Rattle.prelude.proofs.Logic.{sym, ap}
 use lib.Ieee.{fits, binary64}
 use denote.Floats.{passes}
 use Rattle.float64.specs.Words.{isNegativeOf}
 use Rattle.float64.proofs.Patterns.{is-nan, no-nan, sign-bit}
 use Rattle.float64.proofs.words.is_negative.Statement.{statement}
 use Rattle.float64.proofs.words.is_negative.Tie as tie
-
-float-to-bits-result : tie.Need-float-to-bits-result
-float-to-bits-result c = no-nan (c .before .args .x) (c .if1 .left)
 
 returns : tie.Need-returns
 unfolding isNegativeOf
@@ -19,4 +16,4 @@ returns-2 c =
     sign-bit x (passes (fits binary64 x) (c .before .good .0 .1)) (no-nan x (c .if1 .left))
 
 pub is-negative-spec : {M : Type 1} → statement M
-is-negative-spec = tie.close (tie.spec float-to-bits-result returns returns-2)
+is-negative-spec = tie.close (tie.spec (λ c. no-nan (c .before .args .x) (c .if1 .left)) returns returns-2)

@@ -1,4 +1,4 @@
-use mathlib.Core.Path.{refl}
+use Rattle.prelude.proofs.Logic.{refl}
 use lib.Ieee.{div, ofBits}
 use Rattle.float64.proofs.words.not_a_number.Statement.{statement}
 use Rattle.float64.proofs.words.not_a_number.Tie as tie

@@ -1,6 +1,4 @@
-use mathlib.Core.Path.{_≡_, sym, ap, _∙_}
-use borrow.Author.Tests.{eq-eqb, ne-eqb}
-use lib.IntN.{_-ℤ_}
+use Rattle.prelude.proofs.Logic.{_≡_, sym, ap, _∙_, _-ℤ_, eq-eqb, ne-eqb}
 use Rattle.integers.proofs.Ranges.{wide}
 use Rattle.hijri.specs.Days.{ofDayOf}
 use Rattle.hijri.specs.Ramadan.{ramadanStartOf}
@@ -13,9 +11,6 @@ returns c = let s = c .before in far-below (s .args .day) (s .fits .day) (s .arg
 
 returns-2 : tie.Need-returns-2
 returns-2 c = let s = c .before .before in far-above (s .args .day) (s .fits .day) (s .args .shift) (s .fits .shift) (c .if2 .taken)
-
-cast-of-day : tie.Need-cast-of-day
-cast-of-day c = wide (c .before .before .args .shift) (c .before .before .fits .shift)
 
 returns-3 : tie.Need-returns-3
 unfolding ramadanStartOf
@@ -39,7 +34,7 @@ returns-4 c =
 pub is-ramadan-start-spec : {M : Type 1} → statement M
 is-ramadan-start-spec =
     tie.close
-    (tie.spec returns returns-2 cast-of-day
+    (tie.spec returns returns-2 (λ c. wide (c .before .before .args .shift) (c .before .before .fits .shift))
     (λ c.
     let s = c .before .before in
     less-fits (s .args .day) (s .fits .day) (s .args .shift) (s .fits .shift) (c .before .if1 .left) (c .if2 .left))

@@ -1,4 +1,4 @@
-use mir.Syntax.{w64}
+use Rattle.prelude.proofs.Logic.{w64}
 use Rattle.integers.proofs.Ranges.{read}
 use Rattle.integers.proofs.Unsigned as unsigned
 use Rattle.integers.proofs.parts.below.Statement.{statement}

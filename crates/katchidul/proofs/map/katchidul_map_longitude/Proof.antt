@@ -1,4 +1,4 @@
-use mathlib.Core.Path.{ap, _∙_}
+use Rattle.prelude.proofs.Logic.{ap, _∙_}
 use Rattle.katchidul.specs.Map.{mapAnswerOf}
 use Rattle.katchidul.proofs.map.katchidul_map_longitude.Statement.{statement}
 use Rattle.katchidul.proofs.map.katchidul_map_longitude.Tie as tie

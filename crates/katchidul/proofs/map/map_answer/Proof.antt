@@ -1,4 +1,4 @@
-use mathlib.Core.Path.{refl}
+use Rattle.prelude.proofs.Logic.{refl}
 use Rattle.katchidul.specs.Map.{mapAnswerOf}
 use Rattle.katchidul.proofs.map.map_answer.Statement.{statement}
 use Rattle.katchidul.proofs.map.map_answer.Tie as tie

@@ -1,6 +1,5 @@
-use mathlib.Core.Path.{sym}
+use Rattle.prelude.proofs.Logic.{sym, needs}
 use Rattle.schedule.specs.InForce.{currentNumberOf}
-use borrow.Author.Needs.{needs}
 use Rattle.katchidul.proofs.prayer_at.current_number.Statement.{statement}
 use Rattle.katchidul.proofs.prayer_at.current_number.Tie as tie
 

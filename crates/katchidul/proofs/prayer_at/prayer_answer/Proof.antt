@@ -1,6 +1,5 @@
-use mathlib.Core.Path.{sym}
+use Rattle.prelude.proofs.Logic.{sym, needs}
 use Rattle.katchidul.specs.Exports.{prayerAnswerOf}
-use borrow.Author.Needs.{needs}
 use Rattle.katchidul.proofs.prayer_at.prayer_answer.Statement.{statement}
 use Rattle.katchidul.proofs.prayer_at.prayer_answer.Tie as tie
 

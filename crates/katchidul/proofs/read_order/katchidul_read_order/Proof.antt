@@ -1,6 +1,5 @@
-use mathlib.Core.Path.{sym}
+use Rattle.prelude.proofs.Logic.{sym, needs}
 use Rattle.katchidul.specs.Exports.{orderAnswerOf, orderIn}
-use borrow.Author.Needs.{needs}
 use Rattle.katchidul.proofs.read_order.katchidul_read_order.Statement.{statement}
 use Rattle.katchidul.proofs.read_order.katchidul_read_order.Tie as tie
 

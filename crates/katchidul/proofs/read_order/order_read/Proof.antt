@@ -1,8 +1,5 @@
 use Rattle.katchidul.specs.Exports.{orderRead}
-use mir.Syntax.{w32}
-use mir.Val.{SFits}
-use mir.Facts.{toZ-ofZ}
-use borrow.Author.Needs.{needs}
+use Rattle.prelude.proofs.Logic.{needs, w32, SFits, toZ-ofZ}
 use Rattle.katchidul.proofs.read_order.order_read.Statement.{statement}
 use Rattle.katchidul.proofs.read_order.order_read.Tie as tie
 

@@ -1,5 +1,5 @@
 use Rattle.katchidul.specs.Exports.{orderRefused}
-use mathlib.Core.Path.{sym}
+use Rattle.prelude.proofs.Logic.{sym}
 use lib.Ieee.{round, ofBits}
 use Rattle.float64.specs.Ops.{dec}
 use Rattle.katchidul.proofs.read_order.order_refused.Statement.{statement}

@@ -1,5 +1,4 @@
-use mathlib.Core.Path.{ap, _∙_}
-use mir.Syntax.{w64}
+use Rattle.prelude.proofs.Logic.{ap, _∙_, w64}
 use Rattle.integers.proofs.Ranges.{read}
 use Rattle.katchidul.specs.Exports.{remainingAnswerOf}
 use Rattle.katchidul.proofs.remaining_at.katchidul_remaining_at.Statement.{statement}

@@ -1,5 +1,5 @@
 use Rattle.katchidul.specs.Exports.{remainingAnswerOf}
-use borrow.Author.Needs.{needs}
+use Rattle.prelude.proofs.Logic.{needs}
 use Rattle.katchidul.proofs.remaining_at.remaining_answer.Statement.{statement}
 use Rattle.katchidul.proofs.remaining_at.remaining_answer.Tie as tie
 

@@ -1,4 +1,4 @@
-use mathlib.Core.Path.{ap, _∙_}
+use Rattle.prelude.proofs.Logic.{ap, _∙_}
 use Rattle.katchidul.specs.Sentence.{meaningAnswerOf}
 use Rattle.katchidul.proofs.sentence.katchidul_read_sentence.Statement.{statement}
 use Rattle.katchidul.proofs.sentence.katchidul_read_sentence.Tie as tie

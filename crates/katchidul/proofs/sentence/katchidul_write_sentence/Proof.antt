@@ -1,5 +1,4 @@
-use borrow.Author.Needs.{needs}
-use mathlib.Core.Path.{ap, _∙_}
+use Rattle.prelude.proofs.Logic.{ap, _∙_, needs}
 use Rattle.katchidul.specs.Sentence.{writtenAnswerOf}
 use Rattle.katchidul.proofs.sentence.katchidul_write_sentence.Statement.{statement}
 use Rattle.katchidul.proofs.sentence.katchidul_write_sentence.Tie as tie

@@ -1,6 +1,5 @@
-use mathlib.Core.Path.{sym}
+use Rattle.prelude.proofs.Logic.{sym, needs}
 use Rattle.katchidul.specs.Exports.{dayAnswerOf}
-use borrow.Author.Needs.{needs}
 use Rattle.katchidul.proofs.work_day.day_answer.Statement.{statement}
 use Rattle.katchidul.proofs.work_day.day_answer.Tie as tie
 

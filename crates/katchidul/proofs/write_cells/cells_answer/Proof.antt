@@ -1,4 +1,4 @@
-use mathlib.Core.Path.{refl}
+use Rattle.prelude.proofs.Logic.{refl}
 use Rattle.katchidul.specs.Punched.{cellsAnswerOf}
 use Rattle.katchidul.proofs.write_cells.cells_answer.Statement.{statement}
 use Rattle.katchidul.proofs.write_cells.cells_answer.Tie as tie

@@ -1,5 +1,5 @@
 use Rattle.katchidul.specs.Exports.{replyOf}
-use borrow.Author.Needs.{needs}
+use Rattle.prelude.proofs.Logic.{needs}
 use Rattle.katchidul.proofs.write_row.katchidul_write_row.Statement.{statement}
 use Rattle.katchidul.proofs.write_row.katchidul_write_row.Tie as tie
 

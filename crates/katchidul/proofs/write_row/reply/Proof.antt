@@ -1,4 +1,4 @@
-use mathlib.Core.Path.{refl}
+use Rattle.prelude.proofs.Logic.{refl}
 use Rattle.katchidul.specs.Exports.{replyOf}
 use Rattle.katchidul.proofs.write_row.reply.Statement.{statement}
 use Rattle.katchidul.proofs.write_row.reply.Tie as tie

@@ -1,11 +1,7 @@
-use native.Mathlib.Omega.{arith}
-use mathlib.Core.Path.{_≡_}
-use lib.ListN.{length}
-use denote.Ref.{now}
+use Rattle.prelude.proofs.Logic.{_≡_, arith, length, needs, now}
 use Rattle.text.specs.Text.{ascii}
 use Rattle.lines.proofs.LinesLaws.{number-length}
 use Rattle.lines.proofs.Making.{line-made}
-use borrow.Author.Needs.{needs}
 use Rattle.lines.proofs.refused.make_line.Statement.{statement}
 use Rattle.lines.proofs.refused.make_line.Tie as tie
 

@@ -1,8 +1,6 @@
-use native.Mathlib.Omega.{arith}
-use denote.Ref.{now}
+use Rattle.prelude.proofs.Logic.{arith, needs, now}
 use Rattle.text.proofs.TextLaws.{digits-short}
 use Rattle.lines.proofs.Making.{number-made, number-end}
-use borrow.Author.Needs.{needs}
 use Rattle.lines.proofs.refused.put_number.Statement.{statement}
 use Rattle.lines.proofs.refused.put_number.Tie as tie
 

@@ -1,11 +1,7 @@
-use native.Mathlib.Omega.{arith}
-use mathlib.Core.Path.{_≡_, sym, ap, _∙_}
-use lib.ListN.{length}
-use denote.Ref.{now}
+use Rattle.prelude.proofs.Logic.{_≡_, sym, ap, _∙_, arith, length, needs, now}
 use Rattle.text.proofs.TextLaws.{cut-front}
 use Rattle.lines.specs.Lines.{refusedText}
 use Rattle.lines.proofs.LinesLaws.{refused-length}
-use borrow.Author.Needs.{needs}
 use Rattle.lines.proofs.refused.put_refused.Statement.{statement}
 use Rattle.lines.proofs.refused.put_refused.Tie as tie
 

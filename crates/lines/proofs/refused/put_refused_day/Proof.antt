@@ -1,4 +1,4 @@
-use borrow.Author.Needs.{needs}
+use Rattle.prelude.proofs.Logic.{needs}
 use Rattle.lines.proofs.refused.put_refused_day.Statement.{statement}
 use Rattle.lines.proofs.refused.put_refused_day.Tie as tie
 

@@ -1,11 +1,4 @@
-use borrow.Author.Needs.{needs}
-use native.Mathlib.Omega.{arith}
-use Prim.Native.Nat.{ℕ, _-_, _≤_}
-use mathlib.Core.Path.{_≡_, ap, _∙_}
-use mathlib.Core.List.{List}
-use lib.IntN.{pos}
-use lib.ListN.{length, getD}
-use mir.Syntax.{w64}
+use Rattle.prelude.proofs.Logic.{_≡_, ap, _∙_, List, ℕ, _-_, _≤_, arith, pos, length, getD, needs, w64}
 use Rattle.integers.proofs.Ranges.{readBack}
 use Rattle.text.specs.Text.{frontOf}
 use Rattle.lines.specs.Lines.{timeText, rowBytes}

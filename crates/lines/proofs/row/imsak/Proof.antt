@@ -1,6 +1,5 @@
-use Prim.Native.Nat.{_^_, _<_}
+use Rattle.prelude.proofs.Logic.{_^_, _<_, needs}
 use Rattle.lines.proofs.Imsak as law
-use borrow.Author.Needs.{needs}
 use Rattle.lines.proofs.row.imsak.Statement.{statement}
 use Rattle.lines.proofs.row.imsak.Tie as tie
 

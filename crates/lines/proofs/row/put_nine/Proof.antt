@@ -1,9 +1,7 @@
-use mathlib.Core.Path.{sym, ap, _∙_}
-use denote.Ref.{now}
+use Rattle.prelude.proofs.Logic.{sym, ap, _∙_, needs, now}
 use Rattle.text.specs.Text.{putOf}
 use Rattle.lines.specs.Lines.{nineOf, rowText}
 use Rattle.lines.proofs.LinesLaws.{row-length}
-use borrow.Author.Needs.{needs}
 use Rattle.lines.proofs.row.put_nine.Statement.{statement}
 use Rattle.lines.proofs.row.put_nine.Tie as tie
 

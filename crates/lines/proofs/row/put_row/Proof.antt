@@ -1,5 +1,5 @@
 use Rattle.lines.specs.Lines.{columnsOf}
-use borrow.Author.Needs.{needs}
+use Rattle.prelude.proofs.Logic.{needs}
 use Rattle.lines.proofs.row.put_row.Statement.{statement}
 use Rattle.lines.proofs.row.put_row.Tie as tie
 

@@ -1,15 +1,8 @@
-use mathlib.Core.Path.{_≡_, sym, ap, _∙_}
-use mathlib.Core.List.{_∷_}
-use lib.IntN.{ℤ}
-use mir.Syntax.{w64}
-use mir.Val.{SFits}
-use mir.Facts.{toZ-ofZ}
-use denote.Ref.{now}
+use Rattle.prelude.proofs.Logic.{_≡_, sym, ap, _∙_, _∷_, ℤ, needs, w64, SFits, toZ-ofZ, now}
 use Rattle.integers.proofs.Ranges.{readBack}
 use Rattle.text.specs.Text.{putOf}
 use Rattle.lines.specs.Lines.{imsakOf, nineOf, rowText}
 use Rattle.lines.proofs.LinesLaws.{row-length}
-use borrow.Author.Needs.{needs}
 use Rattle.lines.proofs.row.put_ten.Statement.{statement}
 use Rattle.lines.proofs.row.put_ten.Tie as tie
 

@@ -1,5 +1,5 @@
 use Rattle.lines.specs.Lines.{dateText}
-use borrow.Author.Needs.{needs}
+use Rattle.prelude.proofs.Logic.{needs}
 use Rattle.lines.proofs.times.date_text.Statement.{statement}
 use Rattle.lines.proofs.times.date_text.Tie as tie
 

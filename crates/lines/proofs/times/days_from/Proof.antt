@@ -1,12 +1,7 @@
-use mathlib.Core.Path.{_≡_, sym, ap, subst, _∙_}
-use mir.Syntax.{w64}
+use Rattle.prelude.proofs.Logic.{_≡_, sym, ap, subst, _∙_, _^_, _<_, ℤ, _-ℤ_, needs, w64, SFits}
 use Rattle.integers.proofs.Ranges.{readBack, read}
 use Rattle.lines.proofs.Instants as instants
-use Prim.Native.Nat.{_^_, _<_}
-use lib.IntN.{ℤ, _-ℤ_}
-use mir.Val.{SFits}
 use Rattle.integers.specs.Quotients.{floorQuot}
-use borrow.Author.Needs.{needs}
 use Rattle.lines.proofs.times.days_from.Statement.{statement}
 use Rattle.lines.proofs.times.days_from.Tie as tie
 

@@ -1,4 +1,4 @@
-use mir.Syntax.{w64}
+use Rattle.prelude.proofs.Logic.{w64}
 use Rattle.integers.proofs.Ranges.{read}
 use Rattle.lines.proofs.Instants as instants
 use Rattle.lines.proofs.times.sign.Statement.{statement}

@@ -1,11 +1,7 @@
-use mathlib.Core.Path.{sym, ap, subst, _∙_}
-use mir.Syntax.{w64}
+use Rattle.prelude.proofs.Logic.{sym, ap, subst, _∙_, ℕ, _+_, needs, w64, Fits}
 use Rattle.integers.proofs.Ranges.{read}
 use Rattle.lines.proofs.Instants as instants
-use Prim.Native.Nat.{ℕ, _+_}
-use mir.Val.{Fits}
 use Rattle.integers.specs.Parts.{P, N}
-use borrow.Author.Needs.{needs}
 use Rattle.lines.proofs.times.size.Statement.{statement}
 use Rattle.lines.proofs.times.size.Tie as tie
 

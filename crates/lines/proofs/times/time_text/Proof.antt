@@ -1,10 +1,7 @@
-use mathlib.Core.Path.{_≡_, ap, _∙_}
-use lib.IntN.{ℤ}
-use mir.Syntax.{w64}
+use Rattle.prelude.proofs.Logic.{_≡_, ap, _∙_, ℤ, needs, w64}
 use Rattle.integers.specs.Quotients.{floorRem}
 use Rattle.integers.proofs.Ranges.{readBack, read}
 use Rattle.lines.specs.Lines.{daysOf, signOf, magnitudeOf, timeText}
-use borrow.Author.Needs.{needs}
 use Rattle.lines.proofs.times.time_text.Statement.{statement}
 use Rattle.lines.proofs.times.time_text.Tie as tie
 

@@ -1,17 +1,10 @@
 -- `map_form::hundredths::nearest` meets its contract: laws of the bit pattern, for what is under the smallest count and for the rest.
-use Prim.Native.Nat.{_-_, _/_, _%_, _^_}
-use native.Mathlib.Nat.{div-le-self}
-use native.Mathlib.Omega.{arith}
-use lib.Dec.{lit≤}
+use Rattle.prelude.proofs.Logic.{_-_, _/_, _%_, _^_, div-le-self, arith, lit≤, needs}
 use lib.Ieee.{binary64, toBits}
 use Rattle.map_form.proofs.Fields.{none, some, highest-field}
 use Rattle.map_form.proofs.Range.{no-nan, count-le}
-use borrow.Author.Needs.{needs}
 use Rattle.map_form.proofs.hundredths.nearest.Statement.{statement}
 use Rattle.map_form.proofs.hundredths.nearest.Tie as tie
-
-float-to-bits-b : tie.Need-float-to-bits-b
-float-to-bits-b c = no-nan (c .args .x) 180 (c .pre)
 
 returns : tie.Need-returns
 returns c =
@@ -37,4 +30,4 @@ returns-2 c =
 pub nearest-spec : {M : Type 1} → statement M
 nearest-spec =
     tie.close
-    (tie.spec float-to-bits-b returns (λ c. search needs) (λ c κs. search needs) sub-result (λ c. search needs) add-result returns-2)
+    (tie.spec (λ c. no-nan (c .args .x) 180 (c .pre)) returns (λ c. search needs) (λ c κs. search needs) sub-result (λ c. search needs) add-result returns-2)

@@ -1,11 +1,8 @@
 -- `map_form::reading::degrees_of` meets its contract: a law for each branch.
-use Prim.Native.Nat.{_^_}
-use native.Mathlib.Omega.{arith}
-use lib.Dec.{le→leb}
+use Rattle.prelude.proofs.Logic.{_^_, arith, le→leb, needs}
 use lib.Ieee.{inFloat}
 use Rattle.map_form.specs.Hundredths.{sizeOf}
 use Rattle.map_form.proofs.Quotient.{negative, naught, plain}
-use borrow.Author.Needs.{needs}
 use Rattle.map_form.proofs.reading.degrees_of.Statement.{statement}
 use Rattle.map_form.proofs.reading.degrees_of.Tie as tie
 

@@ -1,6 +1,6 @@
 -- `map_form::reading::fits` meets its contract.
 use Rattle.map_form.specs.Hundredths.{formFits}
-use borrow.Author.Needs.{needs}
+use Rattle.prelude.proofs.Logic.{needs}
 use Rattle.map_form.proofs.reading.fits.Statement.{statement}
 use Rattle.map_form.proofs.reading.fits.Tie as tie
 

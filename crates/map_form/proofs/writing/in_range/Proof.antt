@@ -1,10 +1,7 @@
 -- `map_form::writing::in_range` meets its contract: one comparison of sizes.
-use Prim.Native.Nat.{_^_}
-use native.Mathlib.Omega.{arith}
-use lib.Dec.{le→leb}
+use Rattle.prelude.proofs.Logic.{_^_, arith, le→leb, needs}
 use lib.Ieee.{inFloat}
 use Rattle.map_form.proofs.Range.{at-most, whole-value}
-use borrow.Author.Needs.{needs}
 use Rattle.map_form.proofs.writing.in_range.Statement.{statement}
 use Rattle.map_form.proofs.writing.in_range.Tie as tie
 

@@ -1,9 +1,7 @@
 -- `map_form::writing::sign_of` meets its contract: a law for a zero and one for all else.
-use mathlib.Core.Path.{sym, ap, _∙_}
-use mathlib.Core.Bool.{Bool, cond}
+use Rattle.prelude.proofs.Logic.{sym, ap, _∙_, Bool, cond, needs}
 use Rattle.float64.specs.Words.{isNegativeOf}
 use Rattle.map_form.proofs.Signs.{naught, some}
-use borrow.Author.Needs.{needs}
 use Rattle.map_form.proofs.writing.sign_of.Statement.{statement}
 use Rattle.map_form.proofs.writing.sign_of.Tie as tie
 

@@ -1,8 +1,7 @@
 -- `map_form::writing::write` meets its contract: in range and out of it.
-use mathlib.Core.Path.{sym, _∙_}
+use Rattle.prelude.proofs.Logic.{sym, _∙_, needs}
 use Rattle.map_form.proofs.Range.{wider}
 use Rattle.map_form.proofs.Signs.{inside, outside}
-use borrow.Author.Needs.{needs}
 use Rattle.map_form.proofs.writing.write.Statement.{statement}
 use Rattle.map_form.proofs.writing.write.Tie as tie
 

@@ -1,8 +1,5 @@
-use mir.Syntax.{w32}
-use mir.Val.{SFits}
-use mir.Facts.{toZ-ofZ}
+use Rattle.prelude.proofs.Logic.{needs, w32, SFits, toZ-ofZ}
 use Rattle.models.specs.Settings.{minutesFor}
-use borrow.Author.Needs.{needs}
 use Rattle.models.proofs.parameters.minutes_for.Statement.{statement}
 use Rattle.models.proofs.parameters.minutes_for.Tie as tie
 

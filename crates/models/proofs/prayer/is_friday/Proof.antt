@@ -1,13 +1,8 @@
-use Prim.Native.Nat.{ℕ}
-use mathlib.Core.Path.{_≡_, ap, _∙_}
-use lib.Dec.{eqb}
-use lib.IntN.{ℤ}
-use mir.Syntax.{w64}
+use Rattle.prelude.proofs.Logic.{_≡_, ap, _∙_, ℕ, eqb, ℤ, needs, w64}
 use Rattle.integers.specs.Quotients.{floorQuot}
 use Rattle.integers.proofs.Ranges.{readBack, read}
 use Rattle.calendar.specs.Days.{weekdayOf}
 use Rattle.models.specs.Names.{isFridayOf}
-use borrow.Author.Needs.{needs}
 use Rattle.models.proofs.prayer.is_friday.Statement.{statement}
 use Rattle.models.proofs.prayer.is_friday.Tie as tie
 

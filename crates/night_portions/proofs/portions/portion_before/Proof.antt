@@ -1,8 +1,6 @@
-use mir.Syntax.{w32, w64}
-use mir.Val.{SFits}
+use Rattle.prelude.proofs.Logic.{needs, w32, w64, SFits}
 use Rattle.integers.proofs.Ranges.{read}
 use Rattle.night_portions.specs.Portions.{portionBeforeOf}
-use borrow.Author.Needs.{needs}
 use Rattle.night_portions.proofs.portions.portion_before.Statement.{statement}
 use Rattle.night_portions.proofs.portions.portion_before.Tie as tie
 

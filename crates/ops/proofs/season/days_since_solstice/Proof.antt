@@ -1,11 +1,8 @@
-use Prim.Native.Nat.{ℕ, _+_, _%_, _<_}
-use mathlib.Core.Path.{sym, ap, _∙_}
+use Rattle.prelude.proofs.Logic.{sym, ap, _∙_, ℕ, _+_, _%_, _<_, needs, le-leb, lt-leb}
 use lib.Ieee.{round, ofBits}
-use borrow.Author.Tests.{le-leb, lt-leb}
 use Rattle.float64.specs.Ops.{dec}
 use Rattle.ops.specs.Season.{daysSinceSolsticeOf}
 use Rattle.ops.proofs.Wrapped.{wrapped}
-use borrow.Author.Needs.{needs}
 use Rattle.ops.proofs.season.days_since_solstice.Statement.{statement}
 use Rattle.ops.proofs.season.days_since_solstice.Tie as tie
 

@@ -1,14 +1,10 @@
-use mathlib.Core.Path.{_≡_, ap, _∙_}
-use mir.Syntax.{w32, w64}
-use mir.Val.{SFits}
+use Rattle.prelude.proofs.Logic.{_≡_, ap, _∙_, ℤ, needs, w32, w64, SFits}
 use Rattle.integers.proofs.Ranges.{readBack, read, wide, read-wide}
 use Rattle.integers.proofs.Sums.{summands}
 use Rattle.models.specs.declared.rules.Season.{Season}
 use Rattle.stride.specs.Times.{satOf, roundedOf}
 use Rattle.ops.specs.Season.{eveningSecondsOf}
-use lib.IntN.{ℤ}
 use Rattle.models.specs.declared.rounding.Rounding.the-variants.{Nearest}
-use borrow.Author.Needs.{needs}
 use Rattle.ops.proofs.season.season_adjusted_evening_twilight.Statement.{statement}
 use Rattle.ops.proofs.season.season_adjusted_evening_twilight.Tie as tie
 

@@ -1,12 +1,9 @@
-use mathlib.Core.Path.{_≡_, ap, _∙_}
-use mir.Syntax.{w32, w64}
-use mir.Val.{SFits}
+use Rattle.prelude.proofs.Logic.{_≡_, ap, _∙_, needs, w32, w64, SFits}
 use Rattle.integers.proofs.Ranges.{readBack, read, wide, read-wide}
 use Rattle.integers.proofs.Sums.{summands}
 use Rattle.models.specs.declared.rules.Season.{Season}
 use Rattle.stride.specs.Times.{satOf}
 use Rattle.ops.specs.Season.{morningSecondsOf}
-use borrow.Author.Needs.{needs}
 use Rattle.ops.proofs.season.season_adjusted_morning_twilight.Statement.{statement}
 use Rattle.ops.proofs.season.season_adjusted_morning_twilight.Tie as tie
 

@@ -1,6 +1,5 @@
-use mathlib.Core.Path.{sym}
+use Rattle.prelude.proofs.Logic.{sym, needs}
 use lib.Ieee.{round, ofBits}
-use borrow.Author.Needs.{needs}
 use Rattle.float64.specs.Ops.{dec}
 use Rattle.ops.specs.Season.{daysByRule}
 use Rattle.ops.proofs.season.season_days.Statement.{statement}

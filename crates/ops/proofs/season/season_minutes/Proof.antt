@@ -1,4 +1,4 @@
-use borrow.Author.Needs.{needs}
+use Rattle.prelude.proofs.Logic.{needs}
 use Rattle.ops.proofs.season.season_minutes.Statement.{statement}
 use Rattle.ops.proofs.season.season_minutes.Tie as tie
 

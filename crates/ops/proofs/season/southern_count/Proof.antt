@@ -1,6 +1,4 @@
-use native.Mathlib.Omega.{arith}
-use mathlib.Core.Path.{sym}
-use borrow.Author.Tests.{le-leb, lt-leb}
+use Rattle.prelude.proofs.Logic.{sym, arith, le-leb, lt-leb}
 use Rattle.ops.specs.Season.{southernCountOf}
 use Rattle.ops.proofs.SouthernLaws.{year-gap, long}
 use Rattle.ops.proofs.season.southern_count.Statement.{statement}

@@ -1,4 +1,4 @@
-use mathlib.Core.Path.{sym}
+use Rattle.prelude.proofs.Logic.{sym}
 use Rattle.ops.specs.Season.{southernOffsetOf}
 use Rattle.ops.proofs.season.southern_offset.Statement.{statement}
 use Rattle.ops.proofs.season.southern_offset.Tie as tie

@@ -1,4 +1,4 @@
-use mathlib.Core.Path.{sym, _∙_}
+use Rattle.prelude.proofs.Logic.{sym, _∙_}
 use lib.Ieee.{round, ofBits}
 use Rattle.float64.specs.Ops.{dec}
 use Rattle.ops.specs.Season.{twilightAdjustmentsOf}

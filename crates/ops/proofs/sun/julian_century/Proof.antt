@@ -1,6 +1,6 @@
 use lib.Ieee.{round, ofBits}
 use Rattle.float64.specs.Ops.{dec}
-use mathlib.Core.Path.{refl}
+use Rattle.prelude.proofs.Logic.{refl}
 use Rattle.ops.specs.Sun.{julianCenturyOf}
 use Rattle.ops.proofs.sun.julian_century.Statement.{statement}
 use Rattle.ops.proofs.sun.julian_century.Tie as tie

@@ -1,11 +1,7 @@
 -- `order::given::clock_in` meets its contract.
-use mathlib.Core.Path.{sym}
-use mir.Syntax.{w32}
-use mir.Val.{SFits}
-use mir.Facts.{toZ-ofZ}
+use Rattle.prelude.proofs.Logic.{sym, needs, w32, SFits, toZ-ofZ}
 use Rattle.fields.specs.Values.{valuesIn}
 use Rattle.order.specs.Given.{clockIn}
-use borrow.Author.Needs.{needs}
 use Rattle.order.proofs.given.clock_in.Statement.{statement}
 use Rattle.order.proofs.given.clock_in.Tie as tie
 

@@ -1,5 +1,5 @@
 -- `order::given::coordinate_in` meets its contract: one form or the other.
-use mathlib.Core.Path.{sym}
+use Rattle.prelude.proofs.Logic.{sym}
 use Rattle.fields.specs.Values.{valuesIn}
 use Rattle.order.specs.Given.{coordinateIn}
 use Rattle.order.proofs.given.coordinate_in.Statement.{statement}

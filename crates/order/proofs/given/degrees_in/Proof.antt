@@ -1,7 +1,7 @@
 -- `order::given::degrees_in` meets its contract.
 use lib.Ieee.{round, ofBits}
 use Rattle.float64.specs.Ops.{dec}
-use mathlib.Core.Path.{sym}
+use Rattle.prelude.proofs.Logic.{sym}
 use Rattle.order.specs.Given.{degreesIn}
 use Rattle.order.proofs.given.degrees_in.Statement.{statement}
 use Rattle.order.proofs.given.degrees_in.Tie as tie

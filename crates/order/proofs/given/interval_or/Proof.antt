@@ -1,14 +1,7 @@
 -- `order::given::interval_or` meets its contract: two bytes are no less as an i32.
-use native.Mathlib.Omega.{arith}
-use Prim.Native.Nat.{ℕ, _<_}
-use mathlib.Core.Path.{_≡_, sym, _∙_}
-use lib.IntN.{pos}
-use mir.Syntax.{w32}
-use mir.Val.{SFits, toZ}
-use mir.Facts.{toZ-ofZ, toZ-pos}
+use Rattle.prelude.proofs.Logic.{_≡_, sym, _∙_, ℕ, _<_, arith, pos, needs, w32, SFits, toZ, toZ-ofZ, toZ-pos}
 use Rattle.fields.specs.Values.{valuesIn}
 use Rattle.order.specs.Given.{intervalOr}
-use borrow.Author.Needs.{needs}
 use Rattle.order.proofs.given.interval_or.Statement.{statement}
 use Rattle.order.proofs.given.interval_or.Tie as tie
 

@@ -1,10 +1,6 @@
 -- `order::given::minutes_in` meets its contract.
-use mathlib.Core.Path.{sym}
-use mir.Syntax.{w32}
-use mir.Val.{SFits}
-use mir.Facts.{toZ-ofZ}
+use Rattle.prelude.proofs.Logic.{sym, needs, w32, SFits, toZ-ofZ}
 use Rattle.order.specs.Given.{minutesIn}
-use borrow.Author.Needs.{needs}
 use Rattle.order.proofs.given.minutes_in.Statement.{statement}
 use Rattle.order.proofs.given.minutes_in.Tie as tie
 

@@ -1,5 +1,5 @@
 -- `order::given::minutes_or` meets its contract.
-use mathlib.Core.Path.{sym}
+use Rattle.prelude.proofs.Logic.{sym}
 use Rattle.fields.specs.Values.{valuesIn}
 use Rattle.order.specs.Given.{minutesOr}
 use Rattle.order.proofs.given.minutes_or.Statement.{statement}

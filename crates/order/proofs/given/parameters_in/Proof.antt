@@ -1,12 +1,7 @@
 -- `order::given::parameters_in` meets its contract: each field by its call.
-use mathlib.Core.Path.{sym, ap, _∙_}
-use denote.Ref.{now}
-use mir.Syntax.{w32}
-use mir.Val.{SFits}
-use mir.Facts.{toZ-ofZ}
+use Rattle.prelude.proofs.Logic.{sym, ap, _∙_, needs, w32, SFits, toZ-ofZ, now}
 use Rattle.fields.specs.Values.{valuesIn}
 use Rattle.order.specs.Given.{intervalOr, parametersIn}
-use borrow.Author.Needs.{needs}
 use Rattle.order.proofs.given.parameters_in.Statement.{statement}
 use Rattle.order.proofs.given.parameters_in.Tie as tie
 

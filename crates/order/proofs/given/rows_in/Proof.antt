@@ -1,5 +1,5 @@
 -- `order::given::rows_in` meets its contract.
-use borrow.Author.Tests.{eq-eqb, ne-eqb}
+use Rattle.prelude.proofs.Logic.{eq-eqb, ne-eqb}
 use Rattle.order.specs.Given.{rowsIn}
 use Rattle.order.proofs.given.rows_in.Statement.{statement}
 use Rattle.order.proofs.given.rows_in.Tie as tie

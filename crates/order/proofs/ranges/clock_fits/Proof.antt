@@ -1,10 +1,6 @@
 -- `order::ranges::clock_fits` meets its contract: a signed number is compared as it is read back from its bits.
-use mathlib.Core.Path.{sym}
-use mir.Syntax.{w32}
-use mir.Val.{SFits}
-use mir.Facts.{toZ-ofZ}
+use Rattle.prelude.proofs.Logic.{sym, needs, w32, SFits, toZ-ofZ}
 use Rattle.order.specs.Ranges.{clockFits}
-use borrow.Author.Needs.{needs}
 use Rattle.order.proofs.ranges.clock_fits.Statement.{statement}
 use Rattle.order.proofs.ranges.clock_fits.Tie as tie
 

@@ -1,5 +1,5 @@
 -- `order::ranges::fits` meets its contract: a line for each row of the table.
-use borrow.Author.Tests.{ne-eqb}
+use Rattle.prelude.proofs.Logic.{ne-eqb}
 use lib.Ieee.{neg, ofBits, round}
 use Rattle.float64.specs.Ops.{dec}
 use Rattle.order.specs.Ranges.{lookUp}

@@ -1,7 +1,5 @@
 -- `order::ranges::interval_fits` meets its contract: no number is below 0.
-use Prim.Native.Nat.{zero-le}
-use mathlib.Core.Path.{sym}
-use borrow.Author.Tests.{le-leb}
+use Rattle.prelude.proofs.Logic.{sym, zero-le, le-leb}
 use Rattle.order.specs.Ranges.{intervalFits}
 use Rattle.order.proofs.ranges.interval_fits.Statement.{statement}
 use Rattle.order.proofs.ranges.interval_fits.Tie as tie

@@ -1,5 +1,5 @@
 -- `order::ranges::minute_fits` meets its contract: a signed number is compared as it is read back from its bits.
-use mir.Facts.{toZ-ofZ}
+use Rattle.prelude.proofs.Logic.{toZ-ofZ}
 use Rattle.order.specs.Ranges.{minuteFits}
 use Rattle.order.proofs.ranges.minute_fits.Statement.{statement}
 use Rattle.order.proofs.ranges.minute_fits.Tie as tie

@@ -1,11 +1,5 @@
 -- `order::ranges::minutes_fit` meets its contract.
-use mathlib.Core.Path.{_≡_, ap, _∙_}
-use mathlib.Core.Bool.{Bool}
-use lib.IntN.{ℤ}
-use mir.Syntax.{w32}
-use mir.Val.{SFits, toZ, ofZ}
-use mir.Facts.{toZ-ofZ}
-use borrow.Author.Needs.{needs}
+use Rattle.prelude.proofs.Logic.{_≡_, ap, _∙_, Bool, ℤ, needs, w32, SFits, toZ, ofZ, toZ-ofZ}
 use Rattle.order.specs.Ranges.{minuteFits, minutesFit}
 use Rattle.order.proofs.ranges.minutes_fit.Statement.{statement}
 use Rattle.order.proofs.ranges.minutes_fit.Tie as tie

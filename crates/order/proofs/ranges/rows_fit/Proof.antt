@@ -1,10 +1,7 @@
 -- `order::ranges::rows_fit` meets its contract: a line for each test, with those before it passed.
-use mathlib.Core.Path.{sym}
-use borrow.Author.Tests.{le-leb, lt-leb}
-use denote.Ref.{now}
+use Rattle.prelude.proofs.Logic.{sym, needs, le-leb, lt-leb, now}
 use Rattle.order.specs.Ranges.{rowsFit}
 use Rattle.order.proofs.RowDates.{rows-early}
-use borrow.Author.Needs.{needs}
 use Rattle.order.proofs.ranges.rows_fit.Statement.{statement}
 use Rattle.order.proofs.ranges.rows_fit.Tie as tie
 

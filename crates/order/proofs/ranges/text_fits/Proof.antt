@@ -1,9 +1,5 @@
 -- `order::ranges::text_fits` meets its contract. The invariant: what is left of the text decides as the whole does.
-use borrow.Author.Needs.{needs}
-use Prim.Native.Nat.{_≤_, _-_}
-use mathlib.Core.Path.{_≡_, sym, _∙_}
-use denote.Ref.{now}
-use lib.ListN.{length, drop}
+use Rattle.prelude.proofs.Logic.{_≡_, sym, _∙_, _≤_, _-_, length, drop, needs, now}
 use Rattle.order.specs.Ranges.{textFits}
 use Rattle.order.proofs.Text.{byte-low, byte-high, byte-on, text-end}
 use Rattle.order.proofs.ranges.text_fits.Statement.{statement}

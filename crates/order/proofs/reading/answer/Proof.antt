@@ -1,6 +1,5 @@
 -- `order::reading::answer` meets its contract: a line for each check, with those before it passed.
-use borrow.Author.Tests.{eq-eqb, ne-eqb}
-use mathlib.Core.Path.{sym}
+use Rattle.prelude.proofs.Logic.{sym, eq-eqb, ne-eqb}
 use Rattle.fields.specs.Values.{valuesIn}
 use Rattle.order.specs.Reading.{firstOf}
 use Rattle.order.proofs.reading.answer.Statement.{statement}

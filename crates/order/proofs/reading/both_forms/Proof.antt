@@ -1,5 +1,5 @@
 -- `order::reading::both_forms` meets its contract: the latitude first.
-use mathlib.Core.Path.{sym}
+use Rattle.prelude.proofs.Logic.{sym}
 use Rattle.order.specs.Reading.{bothFormsOf}
 use Rattle.order.proofs.reading.both_forms.Statement.{statement}
 use Rattle.order.proofs.reading.both_forms.Tie as tie

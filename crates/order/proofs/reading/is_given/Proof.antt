@@ -1,5 +1,5 @@
 -- `order::reading::is_given` meets its contract: a line for each coordinate, and one for every other tag.
-use borrow.Author.Tests.{ne-eqb}
+use Rattle.prelude.proofs.Logic.{ne-eqb}
 use Rattle.order.specs.Ranges.{lookUp}
 use Rattle.order.specs.Reading.{isGivenOf}
 use Rattle.order.proofs.reading.is_given.Statement.{statement}

@@ -1,10 +1,5 @@
 -- `order::reading::missing` meets its contract. The invariant: the first that fails from here on is the first of all.
-use borrow.Author.Needs.{needs}
-use native.Mathlib.Omega.{arith}
-use Prim.Native.Nat.{_-_, _≤_}
-use mathlib.Core.Path.{_≡_, refl, sym, _∙_}
-use borrow.Author.Tests.{not-true, not-false}
-use lib.ListN.{drop}
+use Rattle.prelude.proofs.Logic.{_≡_, refl, sym, _∙_, _-_, _≤_, arith, drop, needs, not-true, not-false}
 use Rattle.fields.specs.Values.{hasIn}
 use Rattle.order.specs.Reading.{firstFailing, required, isGivenOf, missingOf}
 use Rattle.order.proofs.Tags.{fails, on, none}

@@ -1,14 +1,5 @@
 -- `order::reading::out_of_range` meets its contract. The invariant: the first that fails from here on is the first of all.
-use borrow.Author.Needs.{needs}
-use native.Mathlib.Omega.{arith}
-use Prim.Native.Nat.{ℕ, _-_, _≤_}
-use mathlib.Core.Path.{_≡_, refl, sym, _∙_}
-use mathlib.Core.Bool.{Bool, true, cond}
-use mathlib.Core.List.{List}
-use borrow.Author.Tests.{not-true, not-false}
-use denote.Ref.{now}
-use lib.Dec.{ltb}
-use lib.ListN.{length, drop, getD}
+use Rattle.prelude.proofs.Logic.{_≡_, refl, sym, _∙_, Bool, true, cond, List, ℕ, _-_, _≤_, arith, ltb, length, drop, getD, needs, not-true, not-false, now}
 use Rattle.calendar.specs.declared.dates.Date.{Date}
 use Rattle.fields.specs.Tags.{lastTag}
 use Rattle.fields.specs.declared.values.Fields.{Fields}
@@ -41,9 +32,6 @@ Inv-loop order starts lengths date ramadan passed₀ passed =
 
 abbrev μ-loop : tie.MeasureT-loop
 μ-loop order starts lengths date ramadan passed₀ passed = lastTag - passed
-
-loop-holds : tie.Need-loop-holds Inv-loop μ-loop
-loop-holds c = (omega arith, refl)
 
 returns : tie.Need-returns Inv-loop μ-loop
 unfolding valuesIn
@@ -92,4 +80,4 @@ returns-2 c =
 pub out-of-range-spec : {M : Type 1} → statement M
 out-of-range-spec =
     tie.close
-    (tie.spec Inv-loop μ-loop (λ c κs. tt) (λ c κs. tt) (λ c κs. tt) loop-holds (λ c. search needs) (λ c. search needs) (λ c. search needs) (λ c. search needs) (λ c. search needs) (λ c. search needs) (λ c. search needs) (λ c κs. tt) (λ c κs. tt) returns (λ c. search needs) loop-again (λ c κs. tt) returns-2)
+    (tie.spec Inv-loop μ-loop (λ c κs. tt) (λ c κs. tt) (λ c κs. tt) (λ c. (omega arith, refl)) (λ c. search needs) (λ c. search needs) (λ c. search needs) (λ c. search needs) (λ c. search needs) (λ c. search needs) (λ c. search needs) (λ c κs. tt) (λ c κs. tt) returns (λ c. search needs) loop-again (λ c κs. tt) returns-2)

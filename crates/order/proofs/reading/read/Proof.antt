@@ -1,6 +1,5 @@
 -- `order::reading::read` meets its contract: the form of the fields first, then what they give.
-use mathlib.Core.Path.{_∙_}
-use denote.Ref.{now}
+use Rattle.prelude.proofs.Logic.{_∙_, now}
 use Rattle.order.proofs.Answers.{by-fields, by-values}
 use Rattle.order.proofs.reading.read.Statement.{statement}
 use Rattle.order.proofs.reading.read.Tie as tie

@@ -1,10 +1,5 @@
 -- `order::reading::record_in` meets its contract: each field by its call.
-use mathlib.Core.Path.{sym, _∙_}
-use mir.Syntax.{w32}
-use mir.Val.{SFits}
-use mir.Facts.{toZ-ofZ}
-use denote.Ref.{now}
-use borrow.Author.Needs.{needs}
+use Rattle.prelude.proofs.Logic.{sym, _∙_, needs, w32, SFits, toZ-ofZ, now}
 use Rattle.fields.proofs.Collecting.{part-for}
 use Rattle.order.specs.Reading.{orderOf}
 use Rattle.order.proofs.reading.record_in.Statement.{statement}

@@ -1,7 +1,5 @@
 -- `order::reading::town` meets its contract: a match on what reading answers.
-use mathlib.Core.Path.{sym, _∙_}
-use denote.Ref.{now}
-use borrow.Author.Needs.{needs}
+use Rattle.prelude.proofs.Logic.{sym, _∙_, needs, now}
 use Rattle.order.proofs.ReadingLaws.{read-town, refused-town}
 use Rattle.order.proofs.reading.town.Statement.{statement}
 use Rattle.order.proofs.reading.town.Tie as tie

@@ -1,14 +1,9 @@
 -- `order::reading::wrong_start` meets its contract: the day's number and the shift are handed on as they are read back from their bits.
-use mathlib.Core.Path.{_≡_, sym, ap, _∙_}
-use lib.IntN.{ℤ}
-use mir.Syntax.{w32, w64}
-use mir.Val.{SFits}
-use mir.Facts.{toZ-ofZ}
+use Rattle.prelude.proofs.Logic.{_≡_, sym, ap, _∙_, ℤ, needs, w32, w64, SFits, toZ-ofZ}
 use Rattle.calendar.specs.Days.{dayNumberOf}
 use Rattle.hijri.specs.Ramadan.{ramadanStartOf}
 use Rattle.integers.proofs.Ranges.{readBack}
 use Rattle.order.specs.Reading.{wrongStartOf}
-use borrow.Author.Needs.{needs}
 use Rattle.order.proofs.reading.wrong_start.Statement.{statement}
 use Rattle.order.proofs.reading.wrong_start.Tie as tie
 

@@ -1,6 +1,5 @@
-use native.Mathlib.Omega.{arith}
+use Rattle.prelude.proofs.Logic.{arith, needs}
 use Rattle.pages.proofs.PageLaws.{page-none, page-length}
-use borrow.Author.Needs.{needs}
 use Rattle.pages.proofs.page.rows_on.Statement.{statement}
 use Rattle.pages.proofs.page.rows_on.Tie as tie
 

@@ -1,13 +1,8 @@
-use native.Mathlib.Omega.{arith}
-use Prim.Native.Nat.{_+_, _-_, _*_, _/_}
-use mathlib.Core.Path.{_≡_, sym, ap, _∙_}
-use lib.ListN.{length}
-use denote.Ref.{now}
+use Rattle.prelude.proofs.Logic.{_≡_, sym, ap, _∙_, _+_, _-_, _*_, _/_, arith, length, needs, now}
 use Rattle.pages.specs.Answers.{refusedOf, pieceIn}
 use Rattle.pages.proofs.AnswerLaws.{rows-none, rows-answered}
 use Rattle.pages.proofs.PageLaws.{piece-none, piece-written}
 use Rattle.pages.proofs.RowsLaws.{rows-length}
-use borrow.Author.Needs.{needs}
 use Rattle.pages.proofs.page.write_read.Statement.{statement}
 use Rattle.pages.proofs.page.write_read.Tie as tie
 

@@ -1,7 +1,6 @@
-use mathlib.Core.Path.{ap, _∙_}
+use Rattle.prelude.proofs.Logic.{ap, _∙_, needs}
 use Rattle.braille.specs.Braille.{dotsOf}
 use Rattle.pages.proofs.ReportLaws.{all-written}
-use borrow.Author.Needs.{needs}
 use Rattle.pages.proofs.report.all_dots.Statement.{statement}
 use Rattle.pages.proofs.report.all_dots.Tie as tie
 

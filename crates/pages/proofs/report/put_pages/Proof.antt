@@ -1,10 +1,6 @@
-use mathlib.Core.Path.{sym, ap, _∙_}
-use mathlib.Core.List.{List}
-use Prim.Native.Nat.{ℕ}
-use denote.Ref.{now}
+use Rattle.prelude.proofs.Logic.{sym, ap, _∙_, List, ℕ, needs, now}
 use Rattle.text.specs.Text.{frontOf}
 use Rattle.pages.proofs.ReportLaws.{all-written, all-length}
-use borrow.Author.Needs.{needs}
 use Rattle.pages.proofs.report.put_pages.Statement.{statement}
 use Rattle.pages.proofs.report.put_pages.Tie as tie
 

@@ -1,8 +1,6 @@
-use native.Mathlib.Omega.{arith}
-use denote.Ref.{now}
+use Rattle.prelude.proofs.Logic.{arith, needs, now}
 use Rattle.text.proofs.TextLaws.{digits-short}
 use Rattle.pages.proofs.ReportLaws.{total-length, total-made}
-use borrow.Author.Needs.{needs}
 use Rattle.pages.proofs.report.put_total.Statement.{statement}
 use Rattle.pages.proofs.report.put_total.Tie as tie
 

@@ -1,15 +1,9 @@
-use native.Mathlib.Omega.{arith}
-use Prim.Native.Nat.{ℕ}
-use mathlib.Core.Path.{sym, ap, _∙_}
-use mathlib.Core.List.{List}
-use lib.ListN.{length}
-use denote.Ref.{now}
+use Rattle.prelude.proofs.Logic.{sym, ap, _∙_, List, ℕ, arith, length, needs, now}
 use Rattle.order.proofs.AcceptedLaws.{read-accepted}
 use Rattle.text.specs.Text.{frontOf}
 use Rattle.pages.specs.Reports.{wearText, longestWear, totalText}
 use Rattle.text.proofs.PrintedLaws.{printed-short, printed}
 use Rattle.pages.proofs.ReportLaws.{refused-made, wear-read, wear-refused}
-use borrow.Author.Needs.{needs}
 use Rattle.pages.proofs.report.write_wear.Statement.{statement}
 use Rattle.pages.proofs.report.write_wear.Tie as tie
 

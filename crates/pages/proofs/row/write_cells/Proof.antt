@@ -1,10 +1,8 @@
-use mathlib.Core.Path.{sym, ap, _∙_}
-use denote.Ref.{now}
+use Rattle.prelude.proofs.Logic.{sym, ap, _∙_, needs, now}
 use Rattle.order.proofs.AcceptedLaws.{read-accepted}
 use Rattle.pages.proofs.AnswerLaws.{buffer-short, order-read, order-refused}
 use Rattle.braille.specs.Cells.{rowLength}
 use Rattle.pages.specs.Answers.{refusedOf, oneRow}
-use borrow.Author.Needs.{needs}
 use Rattle.pages.proofs.row.write_cells.Statement.{statement}
 use Rattle.pages.proofs.row.write_cells.Tie as tie
 

@@ -1,8 +1,6 @@
-use mathlib.Core.Path.{ap, _∙_}
-use denote.Ref.{now}
+use Rattle.prelude.proofs.Logic.{ap, _∙_, needs, now}
 use Rattle.pages.specs.Answers.{refusedOf, oneRow}
 use Rattle.pages.proofs.AnswerLaws.{rows-none, rows-answered, row-there, row-lacking, row-one}
-use borrow.Author.Needs.{needs}
 use Rattle.pages.proofs.row.write_read.Statement.{statement}
 use Rattle.pages.proofs.row.write_read.Tie as tie
 

@@ -1,9 +1,4 @@
-use borrow.Author.Needs.{needs}
-use native.Mathlib.Omega.{arith}
-use Prim.Native.Nat.{_+_, _-_}
-use mathlib.Core.Path.{_≡_, refl, ap, _∙_}
-use mir.Syntax.{w32}
-use denote.Ref.{now}
+use Rattle.prelude.proofs.Logic.{_≡_, refl, ap, _∙_, _+_, _-_, arith, needs, w32, now}
 use Rattle.braille.specs.Cells.{rowCells}
 use Rattle.calendar.specs.declared.dates.Date.{Date}
 use Rattle.calls.proofs.RowStates.{next-state}
@@ -36,9 +31,6 @@ loop-holds c =
       punched = n .1;
       same = refl;
     }
-
-sub-at : tie.Need-sub-at Inv-loop μ-loop
-sub-at c = c .before .loop .inv .from
 
 cast-at : tie.Need-cast-at Inv-loop μ-loop
 cast-at c =
@@ -150,4 +142,4 @@ loop-again c =
 pub put-rows-spec : {M : Type 1} → statement M
 put-rows-spec =
     tie.close
-    (tie.spec Inv-loop μ-loop (λ c κs. search needs) (λ c κs. search needs) loop-holds (λ c κs. search needs) sub-at cast-at mul-at (λ c κs. search needs) add-dots add-next same-length returns (λ c κs. search needs) loop-less loop-again)
+    (tie.spec Inv-loop μ-loop (λ c κs. search needs) (λ c κs. search needs) loop-holds (λ c κs. search needs) (λ c. c .before .loop .inv .from) cast-at mul-at (λ c κs. search needs) add-dots add-next same-length returns (λ c κs. search needs) loop-less loop-again)

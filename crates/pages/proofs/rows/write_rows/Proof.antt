@@ -1,6 +1,5 @@
-use denote.Ref.{now}
+use Rattle.prelude.proofs.Logic.{needs, now}
 use Rattle.pages.proofs.AnswerLaws.{rows-counted}
-use borrow.Author.Needs.{needs}
 use Rattle.pages.proofs.rows.write_rows.Statement.{statement}
 use Rattle.pages.proofs.rows.write_rows.Tie as tie
 

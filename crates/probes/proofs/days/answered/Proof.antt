@@ -1,6 +1,5 @@
-use mathlib.Core.Path.{sym}
+use Rattle.prelude.proofs.Logic.{sym, needs}
 use Rattle.probes.specs.Days.{probeDayOf}
-use borrow.Author.Needs.{needs}
 use Rattle.probes.proofs.days.answered.Statement.{statement}
 use Rattle.probes.proofs.days.answered.Tie as tie
 

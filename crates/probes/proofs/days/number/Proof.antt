@@ -1,6 +1,5 @@
-use mathlib.Core.Path.{sym}
+use Rattle.prelude.proofs.Logic.{sym, needs}
 use Rattle.schedule.specs.InForce.{currentNumberOf}
-use borrow.Author.Needs.{needs}
 use Rattle.probes.proofs.days.number.Statement.{statement}
 use Rattle.probes.proofs.days.number.Tie as tie
 

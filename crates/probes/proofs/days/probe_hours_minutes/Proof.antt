@@ -1,5 +1,5 @@
 use Rattle.probes.specs.Days.{probeRemainingOf}
-use borrow.Author.Needs.{needs}
+use Rattle.prelude.proofs.Logic.{needs}
 use Rattle.probes.proofs.days.probe_hours_minutes.Statement.{statement}
 use Rattle.probes.proofs.days.probe_hours_minutes.Tie as tie
 

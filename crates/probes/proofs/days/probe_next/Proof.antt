@@ -1,4 +1,4 @@
-use mathlib.Core.Path.{_≡_, ap, _∙_}
+use Rattle.prelude.proofs.Logic.{_≡_, ap, _∙_}
 use Rattle.schedule.specs.InForce.{nextOf}
 use Rattle.schedule.specs.InForce.{currentNumberOf}
 use Rattle.probes.proofs.At.{at}

@@ -1,9 +1,5 @@
-use mir.Syntax.{w32}
-use mir.Val.{SFits}
-use mir.Facts.{toZ-ofZ}
-use mathlib.Core.Path.{sym}
+use Rattle.prelude.proofs.Logic.{sym, needs, w32, SFits, toZ-ofZ}
 use Rattle.probes.specs.Days.{settingsOf}
-use borrow.Author.Needs.{needs}
 use Rattle.probes.proofs.days.probe_preset.Statement.{statement}
 use Rattle.probes.proofs.days.probe_preset.Tie as tie
 

@@ -1,4 +1,4 @@
-use mathlib.Core.Path.{_≡_, ap, _∙_}
+use Rattle.prelude.proofs.Logic.{_≡_, ap, _∙_}
 use Rattle.schedule.specs.InForce.{timeRemainingOf}
 use Rattle.probes.specs.Days.{probeRemainingOf}
 use Rattle.probes.proofs.At.{at}

@@ -1,4 +1,4 @@
-use mathlib.Core.Path.{ap}
+use Rattle.prelude.proofs.Logic.{ap}
 use lib.Ieee.{Float}
 use Rattle.solar.proofs.SharedLaws.{afternoon-shared}
 use Rattle.probes.specs.Functions.{probeSunOf}

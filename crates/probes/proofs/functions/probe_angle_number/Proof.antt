@@ -1,5 +1,4 @@
-use mathlib.Core.Path.{ap}
-use mathlib.Core.Bool.{Bool}
+use Rattle.prelude.proofs.Logic.{ap, Bool}
 use lib.Ieee.{Float}
 use Rattle.solar.proofs.SharedLaws.{angle-shared}
 use Rattle.unit.specs.declared.Angle.{Angle}

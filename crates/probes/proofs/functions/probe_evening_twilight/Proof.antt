@@ -1,9 +1,6 @@
-use mathlib.Core.Path.{_≡_, ap, _∙_}
-use mir.Syntax.{w64}
+use Rattle.prelude.proofs.Logic.{_≡_, ap, _∙_, ℤ, needs, w64}
 use Rattle.integers.proofs.Ranges.{readBack, read}
-use lib.IntN.{ℤ}
 use Rattle.ops.specs.Season.{seasonAdjustedEveningTwilightOf}
-use borrow.Author.Needs.{needs}
 use Rattle.probes.proofs.functions.probe_evening_twilight.Statement.{statement}
 use Rattle.probes.proofs.functions.probe_evening_twilight.Tie as tie
 

@@ -1,8 +1,6 @@
-use mathlib.Core.Path.{_≡_, ap, _∙_}
-use mir.Syntax.{w64}
+use Rattle.prelude.proofs.Logic.{_≡_, ap, _∙_, needs, w64}
 use Rattle.integers.proofs.Ranges.{readBack, read}
 use Rattle.ops.specs.Season.{seasonAdjustedMorningTwilightOf}
-use borrow.Author.Needs.{needs}
 use Rattle.probes.proofs.functions.probe_morning_twilight.Statement.{statement}
 use Rattle.probes.proofs.functions.probe_morning_twilight.Tie as tie
 

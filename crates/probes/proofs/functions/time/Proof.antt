@@ -1,8 +1,5 @@
-use mir.Syntax.{w32}
-use mir.Val.{SFits}
-use mir.Facts.{toZ-ofZ}
+use Rattle.prelude.proofs.Logic.{needs, w32, SFits, toZ-ofZ}
 use Rattle.probes.specs.Functions.{probeTimeOf}
-use borrow.Author.Needs.{needs}
 use Rattle.probes.proofs.functions.time.Statement.{statement}
 use Rattle.probes.proofs.functions.time.Tie as tie
 

@@ -1,5 +1,5 @@
 -- `probes::readers::plain_read` meets its contract.
-use mathlib.Core.Path.{refl}
+use Rattle.prelude.proofs.Logic.{refl}
 use Rattle.probes.specs.Readers.{plainRead}
 use Rattle.probes.proofs.readers.plain_read.Statement.{statement}
 use Rattle.probes.proofs.readers.plain_read.Tie as tie

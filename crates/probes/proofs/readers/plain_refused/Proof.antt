@@ -1,5 +1,5 @@
 -- `probes::readers::plain_refused` meets its contract.
-use mathlib.Core.Path.{refl}
+use Rattle.prelude.proofs.Logic.{refl}
 use lib.Ieee.{round, ofBits}
 use Rattle.float64.specs.Ops.{dec}
 use Rattle.probes.specs.Readers.{plainRefused}

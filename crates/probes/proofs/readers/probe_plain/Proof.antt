@@ -1,7 +1,6 @@
 -- `probes::readers::probe_plain` meets its contract: a match on what reading answers.
-use mathlib.Core.Path.{sym}
+use Rattle.prelude.proofs.Logic.{sym, needs}
 use Rattle.probes.specs.Readers.{plainIn}
-use borrow.Author.Needs.{needs}
 use Rattle.probes.proofs.readers.probe_plain.Statement.{statement}
 use Rattle.probes.proofs.readers.probe_plain.Tie as tie
 

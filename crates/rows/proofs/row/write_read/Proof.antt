@@ -1,7 +1,5 @@
-use mathlib.Core.Path.{_∙_}
-use denote.Ref.{now}
+use Rattle.prelude.proofs.Logic.{_∙_, needs, now}
 use Rattle.rows.proofs.Answers.{room-short, room-there}
-use borrow.Author.Needs.{needs}
 use Rattle.rows.proofs.row.write_read.Statement.{statement}
 use Rattle.rows.proofs.row.write_read.Tie as tie
 
@@ -10,9 +8,6 @@ returns c =
     let a = c .before .before .before .before .args in
     let l = room-short (a .order) (a .row) (now (a .buffer)) (rw (c .before .before .row-bytes .ensures) at (c .before .if1 .taken)) in
     (c .new .ensures ∙ l .0, l .1)
-
-write-there-requires : tie.Need-write-there-requires
-write-there-requires c κs = rw (c .before .before .row-bytes .ensures) at (c .before .if1 .left)
 
 returns-2 : tie.Need-returns-2
 returns-2 c =
@@ -24,4 +19,4 @@ returns-2 c =
 
 pub write-read-spec : {M : Type 1} → statement M
 write-read-spec =
-    tie.close (tie.spec (λ c κs. search needs) (λ c κs. tt) returns write-there-requires (λ c. search needs) returns-2)
+    tie.close (tie.spec (λ c κs. search needs) (λ c κs. tt) returns (λ c κs. rw (c .before .before .row-bytes .ensures) at (c .before .if1 .left)) (λ c. search needs) returns-2)

@@ -1,7 +1,5 @@
-use mathlib.Core.Path.{sym, _∙_}
-use denote.Ref.{now}
+use Rattle.prelude.proofs.Logic.{sym, _∙_, needs, now}
 use Rattle.rows.proofs.Answers.{row-short, row-read, row-refused}
-use borrow.Author.Needs.{needs}
 use Rattle.rows.proofs.row.write_row.Statement.{statement}
 use Rattle.rows.proofs.row.write_row.Tie as tie
 

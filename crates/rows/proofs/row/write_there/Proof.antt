@@ -1,7 +1,5 @@
-use mathlib.Core.Path.{_∙_}
-use denote.Ref.{now}
+use Rattle.prelude.proofs.Logic.{_∙_, needs, now}
 use Rattle.rows.proofs.Answers.{row-there, row-lacking}
-use borrow.Author.Needs.{needs}
 use Rattle.rows.proofs.row.write_there.Statement.{statement}
 use Rattle.rows.proofs.row.write_there.Tie as tie
 

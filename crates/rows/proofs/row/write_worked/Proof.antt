@@ -1,12 +1,8 @@
-use native.Mathlib.Omega.{arith}
-use mathlib.Core.Path.{refl, _∙_}
-use mathlib.Core.List.{[]}
-use denote.Ref.{now}
+use Rattle.prelude.proofs.Logic.{refl, _∙_, [], arith, needs, now}
 use Rattle.lines.specs.Lines.{columnsOf, rowText}
 use Rattle.lines.proofs.LinesLaws.{columns-length}
 use Rattle.text.proofs.TextLaws.{put-next}
 use Rattle.rows.specs.Rows.{answerOf, rowFrontOf}
-use borrow.Author.Needs.{needs}
 use Rattle.rows.proofs.row.write_worked.Statement.{statement}
 use Rattle.rows.proofs.row.write_worked.Tie as tie
 

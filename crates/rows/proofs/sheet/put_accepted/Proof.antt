@@ -1,9 +1,5 @@
-use native.Mathlib.Omega.{arith}
-use mathlib.Core.Path.{_≡_}
-use lib.ListN.{length}
-use denote.Ref.{now}
+use Rattle.prelude.proofs.Logic.{_≡_, arith, length, needs, now}
 use Rattle.rows.proofs.Lengths.{room-enough, head-length, sheet-made}
-use borrow.Author.Needs.{needs}
 use Rattle.rows.proofs.sheet.put_accepted.Statement.{statement}
 use Rattle.rows.proofs.sheet.put_accepted.Tie as tie
 

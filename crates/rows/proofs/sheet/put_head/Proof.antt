@@ -1,7 +1,5 @@
-use native.Mathlib.Omega.{arith}
-use denote.Ref.{now}
+use Rattle.prelude.proofs.Logic.{arith, needs, now}
 use Rattle.rows.proofs.Lengths.{header-short, head-length, head-made}
-use borrow.Author.Needs.{needs}
 use Rattle.rows.proofs.sheet.put_head.Statement.{statement}
 use Rattle.rows.proofs.sheet.put_head.Tie as tie
 

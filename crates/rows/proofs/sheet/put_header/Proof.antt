@@ -1,5 +1,5 @@
 use Rattle.rows.specs.Rows.{headerText}
-use borrow.Author.Needs.{needs}
+use Rattle.prelude.proofs.Logic.{needs}
 use Rattle.rows.proofs.sheet.put_header.Statement.{statement}
 use Rattle.rows.proofs.sheet.put_header.Tie as tie
 

@@ -1,5 +1,5 @@
 use Rattle.lines.specs.Lines.{lineText}
-use borrow.Author.Needs.{needs}
+use Rattle.prelude.proofs.Logic.{needs}
 use Rattle.rows.proofs.sheet.put_line.Statement.{statement}
 use Rattle.rows.proofs.sheet.put_line.Tie as tie
 

@@ -1,9 +1,4 @@
-use borrow.Author.Needs.{needs}
-use native.Mathlib.Omega.{arith}
-use Prim.Native.Nat.{_+_, _-_, _^_, _<_}
-use mathlib.Core.Path.{_≡_, refl, ap, _∙_}
-use lib.ListN.{length}
-use denote.Ref.{now}
+use Rattle.prelude.proofs.Logic.{_≡_, refl, ap, _∙_, _+_, _-_, _^_, _<_, arith, length, needs, now}
 use Rattle.calls.proofs.RowStates.{first-state, next-state}
 use Rattle.lines.specs.Lines.{lineText}
 use Rattle.row_suns.specs.RowSuns.{nextRowSunsOf}

@@ -1,7 +1,4 @@
-use native.Mathlib.Omega.{arith}
-use mathlib.Core.Path.{refl, sym, _∙_}
-use mathlib.Core.List.{[]}
-use denote.Ref.{now}
+use Rattle.prelude.proofs.Logic.{refl, sym, _∙_, [], arith, needs, now}
 use Rattle.lines.specs.Lines.{refusedOrderText}
 use Rattle.lines.proofs.LinesLaws.{refused-length}
 use Rattle.order.proofs.AcceptedLaws.{read-accepted}
@@ -9,7 +6,6 @@ use Rattle.order.proofs.ReadingLaws.{read-town}
 use Rattle.text.specs.Text.{ascii}
 use Rattle.text.proofs.TextLaws.{put-next}
 use Rattle.rows.proofs.Answers.{sheet-short, sheet-read, sheet-refused}
-use borrow.Author.Needs.{needs}
 use Rattle.rows.proofs.sheet.write_sheet.Statement.{statement}
 use Rattle.rows.proofs.sheet.write_sheet.Tie as tie
 

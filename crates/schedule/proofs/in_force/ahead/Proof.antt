@@ -1,12 +1,8 @@
-use mathlib.Core.Path.{ap, _∙_}
-use mir.Syntax.{w64}
-use native.Mathlib.Omega.{arith}
+use Rattle.prelude.proofs.Logic.{ap, _∙_, arith, needs, w64, SFits}
 use Rattle.integers.proofs.Sums.{differences}
 use Rattle.integers.proofs.Ranges.{read}
 use Rattle.schedule.proofs.Due as due
-use mir.Val.{SFits}
 use Rattle.integers.specs.Parts.{P}
-use borrow.Author.Needs.{needs}
 use Rattle.schedule.proofs.in_force.ahead.Statement.{statement}
 use Rattle.schedule.proofs.in_force.ahead.Tie as tie
 

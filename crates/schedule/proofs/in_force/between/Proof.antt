@@ -1,6 +1,4 @@
-use mathlib.Core.Path.{ap, _∙_}
-use mir.Syntax.{w64}
-use native.Mathlib.Omega.{arith}
+use Rattle.prelude.proofs.Logic.{ap, _∙_, arith, w64}
 use Rattle.integers.proofs.Ranges.{read}
 use Rattle.schedule.proofs.Due as due
 use Rattle.integers.specs.Parts.{P, N}

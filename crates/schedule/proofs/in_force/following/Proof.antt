@@ -1,5 +1,5 @@
 use Rattle.schedule.specs.InForce.{followingOf}
-use borrow.Author.Needs.{needs}
+use Rattle.prelude.proofs.Logic.{needs}
 use Rattle.schedule.proofs.in_force.following.Statement.{statement}
 use Rattle.schedule.proofs.in_force.following.Tie as tie
 

@@ -1,7 +1,7 @@
 use lib.Ieee.{round, ofBits}
 use Rattle.float64.specs.Ops.{dec}
 use Rattle.schedule.specs.InForce.{hoursMinutesOf}
-use borrow.Author.Needs.{needs}
+use Rattle.prelude.proofs.Logic.{needs}
 use Rattle.schedule.proofs.in_force.hours_minutes.Statement.{statement}
 use Rattle.schedule.proofs.in_force.hours_minutes.Tie as tie
 

@@ -1,11 +1,8 @@
-use mathlib.Core.Path.{_≡_, ap, _∙_}
-use mir.Syntax.{w32}
+use Rattle.prelude.proofs.Logic.{_≡_, ap, _∙_, ℤ, needs, w32}
 use lib.Ieee.{binary64, ofInt}
 use Rattle.integers.proofs.Ranges.{readBack}
 use Rattle.schedule.specs.Numbers.{asrNumberOf}
-use lib.IntN.{ℤ}
 use Rattle.solar.specs.Shared.{courseAfternoonNumberOf}
-use borrow.Author.Needs.{needs}
 use Rattle.schedule.proofs.numbers.asr_number.Statement.{statement}
 use Rattle.schedule.proofs.numbers.asr_number.Tie as tie
 

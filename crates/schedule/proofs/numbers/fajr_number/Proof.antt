@@ -1,4 +1,4 @@
-use mathlib.Core.Path.{sym}
+use Rattle.prelude.proofs.Logic.{sym}
 use Rattle.schedule.specs.Numbers.{fajrNumberOf}
 use Rattle.schedule.proofs.numbers.fajr_number.Statement.{statement}
 use Rattle.schedule.proofs.numbers.fajr_number.Tie as tie

@@ -1,9 +1,6 @@
-use mathlib.Core.Path.{sym}
-use mir.Syntax.{w32}
-use mir.Val.{SFits}
+use Rattle.prelude.proofs.Logic.{sym, needs, w32, SFits}
 use Rattle.integers.proofs.Ranges.{read}
 use Rattle.schedule.specs.Numbers.{ishaNumberOf}
-use borrow.Author.Needs.{needs}
 use Rattle.schedule.proofs.numbers.isha_number.Statement.{statement}
 use Rattle.schedule.proofs.numbers.isha_number.Tie as tie
 

@@ -1,6 +1,4 @@
-use mathlib.Core.Path.{_≡_, ap, _∙_}
-use lib.Dec.{lit≤}
-use mir.Syntax.{w64}
+use Rattle.prelude.proofs.Logic.{_≡_, ap, _∙_, lit≤, needs, w64}
 use Rattle.integers.proofs.Sums.{summands}
 use Rattle.integers.proofs.Ranges.{readBack}
 use Rattle.integers.proofs.Held.{of-i64, held-difference, held-by, held-as, held-fits, stored, asked, promised}
@@ -8,7 +6,6 @@ use Rattle.models.specs.declared.rounding.Rounding.the-variants.{Nearest}
 use Rattle.stride.specs.Times.{roundedOf}
 use Rattle.schedule.specs.Times.{middleOfTheNightOf, qiyamOf}
 use Rattle.schedule.proofs.Promises.{of-near, held-middle, held-last-third}
-use borrow.Author.Needs.{needs}
 use Rattle.schedule.proofs.prayer_times.calculate_qiyam.Statement.{statement}
 use Rattle.schedule.proofs.prayer_times.calculate_qiyam.Tie as tie
 

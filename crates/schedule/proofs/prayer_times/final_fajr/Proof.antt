@@ -1,9 +1,7 @@
-use mathlib.Core.Path.{ap, _∙_}
-use lib.Dec.{lit≤}
+use Rattle.prelude.proofs.Logic.{ap, _∙_, lit≤, needs}
 use Rattle.models.specs.declared.prayer.Prayer.the-variants.{Fajr}
 use Rattle.schedule.specs.Times.{finalOf}
 use Rattle.schedule.proofs.Promises.{of-near}
-use borrow.Author.Needs.{needs}
 use Rattle.schedule.proofs.prayer_times.final_fajr.Statement.{statement}
 use Rattle.schedule.proofs.prayer_times.final_fajr.Tie as tie
 

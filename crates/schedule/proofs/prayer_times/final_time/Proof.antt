@@ -1,11 +1,8 @@
-use mathlib.Core.Path.{_≡_, _∙_}
-use lib.Dec.{lit≤}
-use mir.Syntax.{w64}
+use Rattle.prelude.proofs.Logic.{_≡_, _∙_, lit≤, needs, w64}
 use Rattle.integers.proofs.Ranges.{readBack}
 use Rattle.integers.proofs.Held.{of-i64, held-by, promised}
 use Rattle.stride.proofs.TimesLaws.{held-rounded, held-adjusted}
 use Rattle.schedule.proofs.Promises.{of-near}
-use borrow.Author.Needs.{needs}
 use Rattle.schedule.proofs.prayer_times.final_time.Statement.{statement}
 use Rattle.schedule.proofs.prayer_times.final_time.Tie as tie
 

@@ -1,14 +1,10 @@
-use mathlib.Core.Path.{ap, _∙_}
-use lib.Dec.{lit≤}
-use mir.Syntax.{w32}
-use mir.Val.{SFits}
+use Rattle.prelude.proofs.Logic.{ap, _∙_, lit≤, needs, w32, SFits}
 use Rattle.integers.proofs.Ranges.{wide, read-wide}
 use Rattle.integers.proofs.Held.{of-wide, held-as, asked}
 use Rattle.models.specs.declared.prayer.Prayer.the-variants.{Fajr, Sunrise, Dhuhr, Asr, Maghrib, Isha}
 use Rattle.schedule.specs.Times.{finalOf, middleOfTheNightOf, qiyamOf, fromMidnightOf}
 use Rattle.schedule.specs.Twilight.{orOf}
 use Rattle.schedule.proofs.Promises.{both, of-near}
-use borrow.Author.Needs.{needs}
 use Rattle.schedule.proofs.prayer_times.from_midnight.Statement.{statement}
 use Rattle.schedule.proofs.prayer_times.from_midnight.Tie as tie
 
@@ -20,12 +16,6 @@ sunrise t = search needs
 
 sunset : (t : tie.Start) → SFits w32 (t .args .suns .today .sunset)
 sunset t = search needs
-
-cast-or : tie.Need-cast-or
-cast-or c = wide _ (transit (c .before .before .before))
-
-or-requires : tie.Need-or-requires
-or-requires c κs = asked (of-wide _ (transit (c .before .before .before))) (lit≤ tt)
 
 cast-final-time : tie.Need-cast-final-time
 cast-final-time c = wide _ (sunset (c .before .before .before .before .before .before .before))
@@ -105,4 +95,4 @@ returns c =
 pub from-midnight-spec : {M : Type 1} → statement M
 from-midnight-spec =
     tie.close
-    (tie.spec (λ c κs. search needs) cast-or or-requires (λ c κs. search needs) cast-final-time final-time-requires (λ c κs. search needs) (λ c κs. search needs) final-time-requires-2 cast-final-time-2 final-time-requires-3 cast-final-time-3 final-time-requires-4 final-time-requires-5 final-time-requires-6 returns)
+    (tie.spec (λ c κs. search needs) (λ c. wide _ (transit (c .before .before .before))) (λ c κs. asked (of-wide _ (transit (c .before .before .before))) (lit≤ tt)) (λ c κs. search needs) cast-final-time final-time-requires (λ c κs. search needs) (λ c κs. search needs) final-time-requires-2 cast-final-time-2 final-time-requires-3 cast-final-time-3 final-time-requires-4 final-time-requires-5 final-time-requires-6 returns)

@@ -1,11 +1,8 @@
-use mathlib.Core.Path.{_≡_, _∙_}
-use lib.Dec.{lit≤}
-use mir.Syntax.{w64}
+use Rattle.prelude.proofs.Logic.{_≡_, _∙_, lit≤, needs, w64}
 use Rattle.integers.proofs.Ranges.{readBack}
 use Rattle.integers.proofs.Held.{of-i64, held-sum, held-by, held-fits, stored, promised}
 use Rattle.models.specs.declared.rounding.Rounding.the-variants.{Nearest}
 use Rattle.stride.proofs.TimesLaws.{held-rounded}
-use borrow.Author.Needs.{needs}
 use Rattle.schedule.proofs.prayer_times.into_the_night.Statement.{statement}
 use Rattle.schedule.proofs.prayer_times.into_the_night.Tie as tie
 

@@ -1,6 +1,4 @@
-use mathlib.Core.Path.{ap, _∙_}
-use lib.Dec.{lit≤}
-use lib.IntN.{ℤ}
+use Rattle.prelude.proofs.Logic.{ap, _∙_, lit≤, ℤ, needs}
 use Rattle.integers.proofs.Held.{constant, held-sum, held-as, held-fits, stored, promised}
 use Rattle.calendar.specs.declared.dates.Date.{Date}
 use Rattle.models.specs.declared.prayer.Prayer.the-variants.{Fajr}
@@ -10,7 +8,6 @@ use Rattle.stride.proofs.TimesLaws.{none-stays}
 use Rattle.schedule.specs.Times.{fajrTomorrowOf}
 use Rattle.schedule.specs.Twilight.{nextDayOf, unadjustedFajrOf}
 use Rattle.schedule.proofs.Promises.{of-near}
-use borrow.Author.Needs.{needs}
 use Rattle.schedule.proofs.prayer_times.next_fajr.Statement.{statement}
 use Rattle.schedule.proofs.prayer_times.next_fajr.Tie as tie
 

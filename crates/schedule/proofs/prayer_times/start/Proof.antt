@@ -1,14 +1,9 @@
-use mathlib.Core.Path.{_≡_, ap, _∙_}
-use Prim.Native.Nat.{_^_, _<_}
-use lib.Dec.{lit≤}
-use lib.IntN.{ℤ, pos, _*ℤ_}
-use mir.Syntax.{w64}
+use Rattle.prelude.proofs.Logic.{_≡_, ap, _∙_, _^_, _<_, lit≤, ℤ, pos, _*ℤ_, needs, w64}
 use Rattle.integers.proofs.Ranges.{readBack}
 use Rattle.integers.proofs.Held.{Held, held-fits, stored, promised}
 use Rattle.calendar.specs.Days.{dayNumberOf}
 use Rattle.schedule.specs.Times.{startOf}
 use Rattle.schedule.proofs.Starts.{start-near}
-use borrow.Author.Needs.{needs}
 use Rattle.schedule.proofs.prayer_times.start.Statement.{statement}
 use Rattle.schedule.proofs.prayer_times.start.Tie as tie
 

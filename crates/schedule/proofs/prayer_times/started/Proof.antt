@@ -1,8 +1,7 @@
-use lib.Dec.{lit≤}
+use Rattle.prelude.proofs.Logic.{lit≤, needs}
 use Rattle.integers.proofs.Held.{held-fits, stored}
 use Rattle.schedule.specs.Times.{startedOf}
 use Rattle.schedule.proofs.Promises.{on-start}
-use borrow.Author.Needs.{needs}
 use Rattle.schedule.proofs.prayer_times.started.Statement.{statement}
 use Rattle.schedule.proofs.prayer_times.started.Tie as tie
 

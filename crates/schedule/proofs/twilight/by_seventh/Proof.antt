@@ -1,7 +1,7 @@
 use lib.Ieee.{round, ofBits}
 use Rattle.float64.specs.Ops.{dec}
 use Rattle.schedule.specs.Twilight.{bySeventhOf}
-use borrow.Author.Needs.{needs}
+use Rattle.prelude.proofs.Logic.{needs}
 use Rattle.schedule.proofs.twilight.by_seventh.Statement.{statement}
 use Rattle.schedule.proofs.twilight.by_seventh.Tie as tie
 

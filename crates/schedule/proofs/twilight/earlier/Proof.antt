@@ -1,4 +1,4 @@
-use lib.Dec.{lit≤}
+use Rattle.prelude.proofs.Logic.{lit≤}
 use Rattle.integers.proofs.Held.{of-i64, held-as, promised}
 use Rattle.schedule.specs.Twilight.{earlierOf}
 use Rattle.schedule.proofs.twilight.earlier.Statement.{statement}

@@ -1,13 +1,9 @@
-use mathlib.Core.Path.{_≡_, sym, _∙_}
-use lib.Dec.{lit≤}
-use mir.Syntax.{w32, w64}
-use mir.Val.{SFits}
+use Rattle.prelude.proofs.Logic.{_≡_, sym, _∙_, lit≤, needs, w32, w64, SFits}
 use Rattle.integers.proofs.Sums.{summands}
 use Rattle.integers.proofs.Ranges.{readBack, read}
 use Rattle.integers.proofs.Held.{held-as, promised}
 use Rattle.schedule.specs.Twilight.{beforeSunriseOf}
 use Rattle.schedule.proofs.Promises.{of-near}
-use borrow.Author.Needs.{needs}
 use Rattle.schedule.proofs.twilight.fajr_bound.Statement.{statement}
 use Rattle.schedule.proofs.twilight.fajr_bound.Tie as tie
 

@@ -1,8 +1,4 @@
-use mathlib.Core.Path.{_≡_, sym, ap, _∙_}
-use Prim.Native.Nat.{ℕ}
-use lib.Dec.{lit≤}
-use mir.Syntax.{w32, w64}
-use mir.Val.{SFits}
+use Rattle.prelude.proofs.Logic.{_≡_, sym, ap, _∙_, ℕ, lit≤, needs, w32, w64, SFits}
 use Rattle.integers.proofs.Sums.{summands}
 use Rattle.integers.proofs.Ranges.{readBack, read}
 use Rattle.integers.proofs.Held.{held-by, held-as, promised}
@@ -13,7 +9,6 @@ use Rattle.night_portions.specs.Portions.{portionAfterOf}
 use Rattle.ops.specs.Season.{eveningSecondsOf}
 use Rattle.schedule.specs.Twilight.{ishaBoundOf}
 use Rattle.schedule.proofs.Promises.{of-near}
-use borrow.Author.Needs.{needs}
 use Rattle.schedule.proofs.twilight.isha_bound.Statement.{statement}
 use Rattle.schedule.proofs.twilight.isha_bound.Tie as tie
 

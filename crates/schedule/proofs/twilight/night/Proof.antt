@@ -1,10 +1,7 @@
-use lib.Dec.{lit≤}
-use mir.Syntax.{w32}
-use mir.Val.{SFits}
+use Rattle.prelude.proofs.Logic.{lit≤, needs, w32, SFits}
 use Rattle.integers.proofs.Ranges.{wide}
 use Rattle.integers.proofs.Held.{constant, of-wide, held-sum, held-difference, held-fits, stored, promised}
 use Rattle.schedule.specs.Twilight.{nightOf}
-use borrow.Author.Needs.{needs}
 use Rattle.schedule.proofs.twilight.night.Statement.{statement}
 use Rattle.schedule.proofs.twilight.night.Tie as tie
 

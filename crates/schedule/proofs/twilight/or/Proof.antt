@@ -1,10 +1,7 @@
-use lib.Dec.{lit≤}
-use mir.Syntax.{w32}
-use mir.Val.{SFits}
+use Rattle.prelude.proofs.Logic.{lit≤, needs, w32, SFits}
 use Rattle.integers.proofs.Ranges.{wide}
 use Rattle.integers.proofs.Held.{of-i64, of-wide, held-as, promised}
 use Rattle.schedule.specs.Twilight.{orOf}
-use borrow.Author.Needs.{needs}
 use Rattle.schedule.proofs.twilight.or.Statement.{statement}
 use Rattle.schedule.proofs.twilight.or.Tie as tie
 

@@ -1,9 +1,7 @@
-use mathlib.Core.Path.{sym, ap, _∙_}
-use lib.Dec.{lit≤}
+use Rattle.prelude.proofs.Logic.{sym, ap, _∙_, lit≤, needs}
 use Rattle.integers.proofs.Held.{of-i64, held-as, promised}
 use Rattle.schedule.specs.Twilight.{orOf, ownOf}
 use Rattle.schedule.proofs.Promises.{of-near}
-use borrow.Author.Needs.{needs}
 use Rattle.schedule.proofs.twilight.own.Statement.{statement}
 use Rattle.schedule.proofs.twilight.own.Tie as tie
 

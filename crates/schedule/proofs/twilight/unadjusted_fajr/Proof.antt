@@ -1,13 +1,8 @@
-use mathlib.Core.Path.{_≡_, ap, _∙_}
-use lib.Dec.{lit≤}
-use lib.IntN.{ℤ}
-use mir.Syntax.{w32, w64}
-use mir.Val.{SFits}
+use Rattle.prelude.proofs.Logic.{_≡_, ap, _∙_, lit≤, ℤ, needs, w32, w64, SFits}
 use Rattle.integers.proofs.Ranges.{readBack, wide}
 use Rattle.integers.proofs.Held.{of-wide, held-difference, held-by, held-as, held-fits, stored, asked, promised}
 use Rattle.schedule.specs.Twilight.{laterOf, ownOf, fajrBoundOf, unadjustedFajrOf}
 use Rattle.schedule.proofs.Promises.{both, of-near, held-seventh}
-use borrow.Author.Needs.{needs}
 use Rattle.schedule.proofs.twilight.unadjusted_fajr.Statement.{statement}
 use Rattle.schedule.proofs.twilight.unadjusted_fajr.Tie as tie
 

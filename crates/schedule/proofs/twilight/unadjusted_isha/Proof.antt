@@ -1,11 +1,8 @@
-use lib.Dec.{lit≤}
-use mir.Syntax.{w32}
-use mir.Val.{SFits}
+use Rattle.prelude.proofs.Logic.{lit≤, needs, w32, SFits}
 use Rattle.integers.proofs.Ranges.{read, wide}
 use Rattle.integers.proofs.Held.{of-wide, held-sum, held-product, held-as, held-fits, stored, promised}
 use Rattle.schedule.specs.Twilight.{unadjustedIshaOf}
 use Rattle.schedule.proofs.Promises.{of-near}
-use borrow.Author.Needs.{needs}
 use Rattle.schedule.proofs.twilight.unadjusted_isha.Statement.{statement}
 use Rattle.schedule.proofs.twilight.unadjusted_isha.Tie as tie
 

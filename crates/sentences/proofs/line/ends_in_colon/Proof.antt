@@ -1,6 +1,4 @@
-use borrow.Author.Needs.{needs}
-use Prim.Native.Nat.{_≤_}
-use lib.ListN.{length}
+use Rattle.prelude.proofs.Logic.{_≤_, length, needs}
 use Rattle.sentences.proofs.Steps.{colon-none, colon-last}
 use Rattle.sentences.proofs.line.ends_in_colon.Statement.{statement}
 use Rattle.sentences.proofs.line.ends_in_colon.Tie as tie

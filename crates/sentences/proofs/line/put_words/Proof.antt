@@ -1,10 +1,4 @@
-use borrow.Author.Needs.{needs}
-use borrow.Author.Tests.{not-true, not-false}
-use native.Mathlib.Omega.{arith}
-use mathlib.Core.Bool.{true, false}
-use mathlib.Core.Path.{_≡_, sym, ap, _∙_}
-use lib.ListN.{length}
-use denote.Ref.{now}
+use Rattle.prelude.proofs.Logic.{_≡_, sym, ap, _∙_, true, false, arith, length, needs, not-true, not-false, now}
 use Rattle.sentences.specs.Table.{textOf}
 use Rattle.sentences.specs.Sentences.{endsInColon}
 use Rattle.sentences.proofs.Lines.{text-fine}

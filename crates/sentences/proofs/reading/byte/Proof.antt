@@ -1,7 +1,4 @@
-use mathlib.Core.Path.{sym}
-use denote.Ref.{now}
-use lib.ListN.{List·getD-eq-default}
-use borrow.Author.Needs.{needs}
+use Rattle.prelude.proofs.Logic.{sym, List·getD-eq-default, needs, now}
 use Rattle.sentences.proofs.reading.byte.Statement.{statement}
 use Rattle.sentences.proofs.reading.byte.Tie as tie
 

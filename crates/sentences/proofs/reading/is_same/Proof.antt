@@ -1,9 +1,4 @@
-use borrow.Author.Needs.{needs}
-use native.Mathlib.Omega.{arith}
-use denote.Ref.{now}
-use Prim.Native.Nat.{_-_, _≤_}
-use mathlib.Core.Path.{_≡_, refl, sym, _∙_}
-use lib.ListN.{length, drop}
+use Rattle.prelude.proofs.Logic.{_≡_, refl, sym, _∙_, _-_, _≤_, arith, length, drop, needs, now}
 use Rattle.sentences.specs.Sentences.{same}
 use Rattle.sentences.proofs.Comparing.{longer-differs, same-next, same-differs, same-ends}
 use Rattle.sentences.proofs.reading.is_same.Statement.{statement}
@@ -17,9 +12,6 @@ abbrev μ-loop : tie.MeasureT-loop
 
 returns : tie.Need-returns Inv-loop μ-loop
 returns c = sym (longer-differs (now (c .before .args .text)) (now (c .before .args .bytes)) (c .if1 .taken))
-
-loop-holds : tie.Need-loop-holds Inv-loop μ-loop
-loop-holds c = (omega arith, c .if1 .left, refl)
 
 returns-2 : tie.Need-returns-2 Inv-loop μ-loop
 returns-2 c =
@@ -39,4 +31,4 @@ returns-3 c =
 pub is-same-spec : {M : Type 1} → statement M
 is-same-spec =
     tie.close
-    (tie.spec Inv-loop μ-loop returns loop-holds (λ c. search needs) (λ c. search needs) returns-2 (λ c. search needs) (λ c. search needs) loop-again returns-3)
+    (tie.spec Inv-loop μ-loop returns (λ c. (omega arith, c .if1 .left, refl)) (λ c. search needs) (λ c. search needs) returns-2 (λ c. search needs) (λ c. search needs) loop-again returns-3)

@@ -1,7 +1,4 @@
-use borrow.Author.Needs.{needs}
-use borrow.Author.Tests.{not-true, not-false}
-use native.Mathlib.Omega.{arith}
-use mathlib.Core.Path.{sym, _∙_}
+use Rattle.prelude.proofs.Logic.{sym, _∙_, arith, needs, not-true, not-false}
 use Rattle.sentences.proofs.Steps.{longer-other, longer-fits, longer-beyond}
 use Rattle.sentences.proofs.reading.lengthen.Statement.{statement}
 use Rattle.sentences.proofs.reading.lengthen.Tie as tie

@@ -1,7 +1,5 @@
-use mathlib.Core.Path.{sym, _∙_}
-use denote.Ref.{now}
+use Rattle.prelude.proofs.Logic.{sym, _∙_, needs, now}
 use Rattle.sentences.proofs.Steps.{two-digits, one-digit}
-use borrow.Author.Needs.{needs}
 use Rattle.sentences.proofs.reading.number_in.Statement.{statement}
 use Rattle.sentences.proofs.reading.number_in.Tie as tie
 

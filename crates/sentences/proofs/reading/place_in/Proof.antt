@@ -1,9 +1,4 @@
-use borrow.Author.Needs.{needs}
-use native.Mathlib.Omega.{arith}
-use denote.Ref.{now}
-use Prim.Native.Nat.{_-_, _≤_}
-use mathlib.Core.Path.{_≡_, refl, sym, _∙_}
-use lib.ListN.{length, drop}
+use Rattle.prelude.proofs.Logic.{_≡_, refl, sym, _∙_, _-_, _≤_, arith, length, drop, needs, now}
 use Rattle.sentences.specs.Guess.{none, placeIn}
 use Rattle.sentences.proofs.Steps.{place-next, place-end}
 use Rattle.sentences.proofs.reading.place_in.Statement.{statement}
@@ -14,12 +9,6 @@ Inv-loop bytes v₀ i₀ v i = (v ≤ none) × (i ≤ length bytes) × (placeIn 
 
 abbrev μ-loop : tie.MeasureT-loop
 μ-loop bytes v₀ i₀ v i = length bytes - i
-
-loop-holds : tie.Need-loop-holds Inv-loop μ-loop
-loop-holds c = (omega arith, omega arith, refl)
-
-lengthen-requires : tie.Need-lengthen-requires Inv-loop μ-loop
-lengthen-requires c κs = c .before .before .loop .inv .0
 
 loop-again : tie.Need-loop-again Inv-loop μ-loop
 loop-again c =
@@ -34,4 +23,4 @@ returns c =
 pub place-in-spec : {M : Type 1} → statement M
 place-in-spec =
     tie.close
-    (tie.spec Inv-loop μ-loop loop-holds (λ c. search needs) lengthen-requires (λ c. search needs) (λ c. search needs) loop-again returns)
+    (tie.spec Inv-loop μ-loop (λ c. (omega arith, omega arith, refl)) (λ c. search needs) (λ c κs. c .before .before .loop .inv .0) (λ c. search needs) (λ c. search needs) loop-again returns)

@@ -1,11 +1,4 @@
-use borrow.Author.Needs.{needs}
-use borrow.Author.Tests.{not-true, not-false}
-use native.Mathlib.Omega.{arith}
-use Prim.Native.Nat.{ℕ}
-use mathlib.Core.Path.{refl, sym, ap, _∙_}
-use mathlib.Core.List.{List}
-use lib.ListN.{length}
-use denote.Ref.{now}
+use Rattle.prelude.proofs.Logic.{refl, sym, ap, _∙_, List, ℕ, arith, length, needs, not-true, not-false, now}
 use Rattle.sentences.specs.Sentences.{same}
 use Rattle.sentences.proofs.Making.{known-by-sentence, unknown-by-sentence, line-of, reads-no-place, reads-unknown, reads-other, reads-it}
 use Rattle.sentences.proofs.sentence.read_sentence.Statement.{statement}

@@ -1,11 +1,6 @@
-use native.Mathlib.Omega.{arith}
-use Prim.Native.Nat.{ℕ, _<_}
-use mathlib.Core.Path.{refl, sym, ap, subst, _∙_}
-use lib.ListN.{length}
-use denote.Ref.{now}
+use Rattle.prelude.proofs.Logic.{refl, sym, ap, subst, _∙_, ℕ, _<_, arith, length, needs, now}
 use Rattle.sentences.specs.Guess.{none}
 use Rattle.sentences.proofs.Making.{known-by-sentence, unknown-by-sentence, line-of, writes, writes-unknown, writes-no-room}
-use borrow.Author.Needs.{needs}
 use Rattle.sentences.proofs.sentence.write_sentence.Statement.{statement}
 use Rattle.sentences.proofs.sentence.write_sentence.Tie as tie
 

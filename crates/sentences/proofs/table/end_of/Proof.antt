@@ -1,8 +1,5 @@
-use borrow.Author.Needs.{needs}
-use native.Mathlib.Omega.{arith}
+use Rattle.prelude.proofs.Logic.{_≡_, refl, sym, _∙_, _≤_, arith, needs}
 use Rattle.sentences.proofs.Steps.{end-here, end-before, end-none}
-use Prim.Native.Nat.{_≤_}
-use mathlib.Core.Path.{_≡_, refl, sym, _∙_}
 use Rattle.sentences.specs.Rows.{endOf}
 use Rattle.sentences.proofs.table.end_of.Statement.{statement}
 use Rattle.sentences.proofs.table.end_of.Tie as tie
@@ -12,12 +9,6 @@ Inv-loop row end₀ end = (end ≤ 64) × (endOf row end ≡ endOf row 64)
 
 abbrev μ-loop : tie.MeasureT-loop
 μ-loop row end₀ end = end
-
-loop-holds : tie.Need-loop-holds Inv-loop μ-loop
-loop-holds c = (omega arith, refl)
-
-array-read-if1 : tie.Need-array-read-if1 Inv-loop μ-loop
-array-read-if1 c = omega (arith, c .before .loop .inv .0)
 
 returns : tie.Need-returns Inv-loop μ-loop
 returns c =
@@ -35,4 +26,4 @@ returns-2 c = sym (end-none (c .before .before .args .t1) (c .before .loop .end)
 pub end-of-spec : {M : Type 1} → statement M
 end-of-spec =
     tie.close
-    (tie.spec Inv-loop μ-loop loop-holds (λ c. search needs) array-read-if1 returns (λ c. search needs) (λ c. search needs) loop-again returns-2)
+    (tie.spec Inv-loop μ-loop (λ c. (omega arith, refl)) (λ c. search needs) (λ c. omega (arith, c .before .loop .inv .0)) returns (λ c. search needs) (λ c. search needs) loop-again returns-2)

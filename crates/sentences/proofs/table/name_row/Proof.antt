@@ -1,11 +1,8 @@
-use mathlib.Core.Path.{sym, ap}
-use mathlib.Core.List.{[]}
-use lib.ListN.{List·getD-eq-default}
+use Rattle.prelude.proofs.Logic.{sym, ap, [], List·getD-eq-default, needs}
 use Rattle.text.specs.Text.{ascii}
 use Rattle.sentences.specs.Table.{names, nameOf, widest}
 use Rattle.sentences.specs.Rows.{filled}
 use Rattle.sentences.proofs.Steps.{mapped}
-use borrow.Author.Needs.{needs}
 use Rattle.sentences.proofs.table.name_row.Statement.{statement}
 use Rattle.sentences.proofs.table.name_row.Tie as tie
 

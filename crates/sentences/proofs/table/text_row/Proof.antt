@@ -1,10 +1,7 @@
-use mathlib.Core.Path.{sym, ap}
-use mathlib.Core.List.{[]}
-use lib.ListN.{List·getD-eq-default}
+use Rattle.prelude.proofs.Logic.{sym, ap, [], List·getD-eq-default, needs}
 use Rattle.sentences.specs.Table.{texts, textOf, widest}
 use Rattle.sentences.specs.Rows.{filled}
 use Rattle.sentences.proofs.Steps.{mapped}
-use borrow.Author.Needs.{needs}
 use Rattle.sentences.proofs.table.text_row.Statement.{statement}
 use Rattle.sentences.proofs.table.text_row.Tie as tie
 

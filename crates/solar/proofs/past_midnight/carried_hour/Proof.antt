@@ -1,4 +1,4 @@
-use mathlib.Core.Path.{sym}
+use Rattle.prelude.proofs.Logic.{sym}
 use Rattle.solar.specs.PastMidnight.{carriedHourOf}
 use Rattle.solar.proofs.past_midnight.carried_hour.Statement.{statement}
 use Rattle.solar.proofs.past_midnight.carried_hour.Tie as tie

@@ -1,4 +1,4 @@
-use mathlib.Core.Path.{refl}
+use Rattle.prelude.proofs.Logic.{refl}
 use lib.Ieee.{ofBits}
 use Rattle.solar.specs.PastMidnight.{hasTimeOf}
 use Rattle.solar.proofs.past_midnight.has_time.Statement.{statement}

@@ -1,6 +1,5 @@
-use Prim.Native.Nat.{_*_, _<_}
+use Rattle.prelude.proofs.Logic.{_*_, _<_, needs}
 use Rattle.solar.proofs.Cases.{midnight}
-use borrow.Author.Needs.{needs}
 use Rattle.solar.proofs.past_midnight.next_midnight.Statement.{statement}
 use Rattle.solar.proofs.past_midnight.next_midnight.Tie as tie
 

@@ -1,10 +1,7 @@
-use mathlib.Core.Path.{ap, _∙_}
-use Prim.Native.Nat.{_+_, _*_, _<_}
+use Rattle.prelude.proofs.Logic.{ap, _∙_, _+_, _*_, _<_, needs, lt-ltb, le-ltb}
 use Rattle.solar.specs.declared.setting.SolarHour.the-variants.{At}
 use Rattle.solar.proofs.Cases as cases
-use borrow.Author.Tests.{lt-ltb, le-ltb}
 use Rattle.solar.specs.Setting.{hourOf}
-use borrow.Author.Needs.{needs}
 use Rattle.solar.proofs.setting.hour.Statement.{statement}
 use Rattle.solar.proofs.setting.hour.Tie as tie
 

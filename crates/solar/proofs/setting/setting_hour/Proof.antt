@@ -1,4 +1,4 @@
-use mathlib.Core.Path.{sym}
+use Rattle.prelude.proofs.Logic.{sym}
 use Rattle.solar.specs.Setting.{settingHourOf}
 use Rattle.solar.proofs.setting.setting_hour.Statement.{statement}
 use Rattle.solar.proofs.setting.setting_hour.Tie as tie

@@ -1,8 +1,5 @@
-use mir.Syntax.{w32}
-use mir.Val.{SFits}
-use mir.Facts.{toZ-ofZ}
+use Rattle.prelude.proofs.Logic.{needs, w32, SFits, toZ-ofZ}
 use Rattle.solar.specs.Times.{dayOf}
-use borrow.Author.Needs.{needs}
 use Rattle.solar.proofs.times.day.Statement.{statement}
 use Rattle.solar.proofs.times.day.Tie as tie
 

@@ -1,5 +1,5 @@
 use Rattle.solar.specs.Times.{solarHourOf}
-use borrow.Author.Needs.{needs}
+use Rattle.prelude.proofs.Logic.{needs}
 use Rattle.solar.proofs.times.solar_hour.Statement.{statement}
 use Rattle.solar.proofs.times.solar_hour.Tie as tie
 

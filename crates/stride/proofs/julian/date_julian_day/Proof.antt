@@ -1,8 +1,6 @@
-use mir.Syntax.{w32}
-use mir.Val.{SFits}
+use Rattle.prelude.proofs.Logic.{needs, w32, SFits}
 use Rattle.integers.proofs.Ranges.{read}
 use Rattle.stride.specs.Julian.{dateJulianDayOf}
-use borrow.Author.Needs.{needs}
 use Rattle.stride.proofs.julian.date_julian_day.Statement.{statement}
 use Rattle.stride.proofs.julian.date_julian_day.Tie as tie
 

@@ -1,8 +1,6 @@
-use mir.Syntax.{w32, w64}
-use mir.Val.{SFits}
+use Rattle.prelude.proofs.Logic.{needs, w32, w64, SFits}
 use Rattle.integers.proofs.Ranges.{read}
 use Rattle.stride.specs.Julian.{fromMarchOf, yearProductOf, monthProductOf}
-use borrow.Author.Needs.{needs}
 use Rattle.stride.proofs.julian.from_march.Statement.{statement}
 use Rattle.stride.proofs.julian.from_march.Tie as tie
 

@@ -1,30 +1,12 @@
-use mathlib.Core.Path.{_≡_}
-use mathlib.Core.Bool.{true, false}
-use lib.Dec.{lit≤}
-use lib.IntN.{pos}
-use lib.Signed.{ltZ}
-use mir.Syntax.{w32}
+use Rattle.prelude.proofs.Logic.{_≡_, true, false, lit≤, pos, ltZ, needs, w32}
 use Rattle.integers.proofs.Ranges.{read, wide, read-wide}
 use Rattle.integers.proofs.Held.{constant, of-wide, held-sum, held-difference, held-fits, stored}
 use Rattle.stride.specs.Julian.{julianDayOf}
-use borrow.Author.Needs.{needs}
 use Rattle.stride.proofs.julian.julian_day.Statement.{statement}
 use Rattle.stride.proofs.julian.julian_day.Tie as tie
 
-cast-from-march : tie.Need-cast-from-march
-cast-from-march c = let s = c .before .before in wide (s .args .year) (s .fits .year)
-
-cast-from-march-2 : tie.Need-cast-from-march-2
-cast-from-march-2 c = let s = c .before .before in wide (s .args .month) (s .fits .month)
-
-cast-from-march-3 : tie.Need-cast-from-march-3
-cast-from-march-3 c = let s = c .before .before in wide (s .args .year) (s .fits .year)
-
 sub-from-march : tie.Need-sub-from-march
 sub-from-march c = let s = c .before .before in held-fits (held-difference (of-wide (s .args .year) (s .fits .year)) (constant 1)) (lit≤ tt)
-
-cast-from-march-4 : tie.Need-cast-from-march-4
-cast-from-march-4 c = let s = c .before .before in wide (s .args .month) (s .fits .month)
 
 add-from-march : tie.Need-add-from-march
 add-from-march c = let s = c .before .before in held-fits (held-sum (of-wide (s .args .month) (s .fits .month)) (constant 12)) (lit≤ tt)
@@ -52,4 +34,4 @@ returns-2 c =
 pub julian-day-spec : {M : Type 1} → statement M
 julian-day-spec =
     tie.close
-    (tie.spec (λ c. search needs) cast-from-march cast-from-march-2 (λ c κs. tt) cast-from-march-3 sub-from-march cast-from-march-4 add-from-march (λ c κs. tt) returns returns-2)
+    (tie.spec (λ c. search needs) (λ c. let s = c .before .before in wide (s .args .year) (s .fits .year)) (λ c. let s = c .before .before in wide (s .args .month) (s .fits .month)) (λ c κs. tt) (λ c. let s = c .before .before in wide (s .args .year) (s .fits .year)) sub-from-march (λ c. let s = c .before .before in wide (s .args .month) (s .fits .month)) add-from-march (λ c κs. tt) returns returns-2)

@@ -1,6 +1,5 @@
-use borrow.Author.Tests.{lt-ltb, le-ltb}
+use Rattle.prelude.proofs.Logic.{needs, lt-ltb, le-ltb}
 use Rattle.stride.specs.Julian.{toI32Of}
-use borrow.Author.Needs.{needs}
 use Rattle.stride.proofs.julian.saturated.Statement.{statement}
 use Rattle.stride.proofs.julian.saturated.Tie as tie
 

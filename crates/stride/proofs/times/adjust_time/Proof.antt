@@ -1,6 +1,4 @@
-use borrow.Author.Needs.{needs}
-use mathlib.Core.Path.{_≡_}
-use mir.Syntax.{w64}
+use Rattle.prelude.proofs.Logic.{_≡_, needs, w64}
 use Rattle.integers.proofs.Ranges.{readBack}
 use Rattle.stride.proofs.Minutes as minutes
 use Rattle.stride.proofs.times.adjust_time.Statement.{statement}

@@ -1,6 +1,4 @@
-use borrow.Author.Needs.{needs}
-use mathlib.Core.Path.{_≡_, _∙_}
-use mir.Syntax.{w64}
+use Rattle.prelude.proofs.Logic.{_≡_, _∙_, needs, w64}
 use Rattle.integers.proofs.Ranges.{readBack, read}
 use Rattle.stride.specs.Times.{roundedOf}
 use Rattle.stride.proofs.times.rounded_minute.Statement.{statement}

@@ -1,8 +1,4 @@
-use borrow.Author.Needs.{needs}
-use mathlib.Core.Path.{_∙_}
-use native.Mathlib.Omega.{arith}
-use borrow.Author.Tests.{lt-ltb, le-ltb}
-use lib.Dec.{lit≤}
+use Rattle.prelude.proofs.Logic.{_∙_, arith, lit≤, needs, lt-ltb, le-ltb}
 use Rattle.stride.specs.Times.{shiftOf}
 use Rattle.stride.proofs.Minutes as minutes
 use Rattle.stride.proofs.times.shift.Statement.{statement}

@@ -1,10 +1,7 @@
-use native.Mathlib.Omega.{arith}
-use denote.Ref.{now}
-use mir.Syntax.{w64}
+use Rattle.prelude.proofs.Logic.{arith, needs, w64, now}
 use Rattle.integers.proofs.Ranges.{read}
 use Rattle.text.proofs.SignedLaws.{minus-made, plain-made}
 use Rattle.text.proofs.TextLaws.{digits-short}
-use borrow.Author.Needs.{needs}
 use Rattle.text.proofs.signed.make_signed.Statement.{statement}
 use Rattle.text.proofs.signed.make_signed.Tie as tie
 

@@ -1,12 +1,8 @@
-use native.Mathlib.Omega.{arith}
-use mathlib.Core.Path.{_≡_, sym, ap, _∙_}
-use lib.ListN.{length}
-use mir.Syntax.{w64}
+use Rattle.prelude.proofs.Logic.{_≡_, sym, ap, _∙_, arith, length, needs, w64}
 use Rattle.integers.proofs.Ranges.{read}
 use Rattle.text.specs.Signed.{signedOf}
 use Rattle.text.proofs.SignedLaws.{signed-length}
 use Rattle.text.proofs.TextLaws.{cut-front}
-use borrow.Author.Needs.{needs}
 use Rattle.text.proofs.signed.put_signed.Statement.{statement}
 use Rattle.text.proofs.signed.put_signed.Tie as tie
 

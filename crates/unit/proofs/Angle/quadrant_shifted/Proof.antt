@@ -1,4 +1,4 @@
-use mathlib.Core.Logic.{⊎-elim}
+use Rattle.prelude.proofs.Logic.{⊎-elim}
 use Rattle.unit.specs.Unit.{quadrantShiftedOf}
 use Rattle.unit.proofs.Angle.quadrant_shifted.Statement.{statement}
 use Rattle.unit.proofs.Angle.quadrant_shifted.Tie as tie

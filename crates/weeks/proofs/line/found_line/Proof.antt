@@ -1,13 +1,7 @@
-use mir.Syntax.{w64}
-use mir.Val.{SFits}
+use Rattle.prelude.proofs.Logic.{_≡_, arith, length, needs, w64, SFits, now}
 use Rattle.integers.proofs.Ranges.{read}
-use native.Mathlib.Omega.{arith}
-use mathlib.Core.Path.{_≡_}
-use lib.ListN.{length}
-use denote.Ref.{now}
 use Rattle.text.proofs.TextLaws.{digits-short}
 use Rattle.weeks.proofs.LineLaws.{pair-length, found-made}
-use borrow.Author.Needs.{needs}
 use Rattle.weeks.proofs.line.found_line.Statement.{statement}
 use Rattle.weeks.proofs.line.found_line.Tie as tie
 

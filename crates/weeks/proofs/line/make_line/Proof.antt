@@ -1,6 +1,5 @@
-use denote.Ref.{now}
+use Rattle.prelude.proofs.Logic.{needs, now}
 use Rattle.weeks.proofs.LineLaws.{line-refused, line-found, line-none}
-use borrow.Author.Needs.{needs}
 use Rattle.weeks.proofs.line.make_line.Statement.{statement}
 use Rattle.weeks.proofs.line.make_line.Tie as tie
 

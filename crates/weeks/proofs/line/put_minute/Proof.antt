@@ -1,10 +1,7 @@
-use native.Mathlib.Omega.{arith}
-use denote.Ref.{now}
-use mir.Syntax.{w64}
+use Rattle.prelude.proofs.Logic.{arith, needs, w64, now}
 use Rattle.integers.proofs.Ranges.{read}
 use Rattle.text.proofs.SignedLaws.{signed-length}
 use Rattle.weeks.proofs.LineLaws.{minute-made}
-use borrow.Author.Needs.{needs}
 use Rattle.weeks.proofs.line.put_minute.Statement.{statement}
 use Rattle.weeks.proofs.line.put_minute.Tie as tie
 

@@ -1,11 +1,6 @@
-use native.Mathlib.Omega.{arith}
-use mir.Syntax.{w64}
-use mathlib.Core.Path.{_≡_}
-use lib.ListN.{length}
-use denote.Ref.{now}
+use Rattle.prelude.proofs.Logic.{_≡_, arith, length, needs, w64, now}
 use Rattle.integers.proofs.Ranges.{read}
 use Rattle.weeks.proofs.LineLaws.{minute-length, pair-made}
-use borrow.Author.Needs.{needs}
 use Rattle.weeks.proofs.line.put_pair.Statement.{statement}
 use Rattle.weeks.proofs.line.put_pair.Tie as tie
 

@@ -1,8 +1,6 @@
-use native.Mathlib.Omega.{arith}
-use denote.Ref.{now}
+use Rattle.prelude.proofs.Logic.{arith, needs, now}
 use Rattle.text.proofs.TextLaws.{digits-short}
 use Rattle.weeks.proofs.LineLaws.{row-made}
-use borrow.Author.Needs.{needs}
 use Rattle.weeks.proofs.line.put_row.Statement.{statement}
 use Rattle.weeks.proofs.line.put_row.Tie as tie
 

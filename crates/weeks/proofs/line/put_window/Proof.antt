@@ -1,10 +1,7 @@
-use native.Mathlib.Omega.{arith}
-use mathlib.Core.Path.{_≡_, sym, ap, _∙_}
-use lib.ListN.{length}
+use Rattle.prelude.proofs.Logic.{_≡_, sym, ap, _∙_, arith, length, needs}
 use Rattle.text.proofs.TextLaws.{cut-front}
 use Rattle.weeks.specs.Lines.{lineOf}
 use Rattle.weeks.proofs.LineLaws.{line-length}
-use borrow.Author.Needs.{needs}
 use Rattle.weeks.proofs.line.put_window.Statement.{statement}
 use Rattle.weeks.proofs.line.put_window.Tie as tie
 

@@ -1,8 +1,6 @@
-use native.Mathlib.Omega.{arith}
-use denote.Ref.{now}
+use Rattle.prelude.proofs.Logic.{arith, needs, now}
 use Rattle.text.proofs.TextLaws.{digits-short}
 use Rattle.weeks.proofs.LineLaws.{refused-made}
-use borrow.Author.Needs.{needs}
 use Rattle.weeks.proofs.line.refused_line.Statement.{statement}
 use Rattle.weeks.proofs.line.refused_line.Tie as tie
 

@@ -1,12 +1,8 @@
-use mathlib.Core.Path.{_≡_, ap, _∙_}
-use lib.IntN.{ℤ}
-use mir.Syntax.{w64}
-use mir.Val.{SFits}
+use Rattle.prelude.proofs.Logic.{_≡_, ap, _∙_, ℤ, needs, w64, SFits}
 use Rattle.integers.proofs.Ranges.{readBack, read}
 use Rattle.integers.specs.Quotients.{floorQuot}
 use Rattle.weeks.specs.declared.minute.Minute.the-variants.{At}
 use Rattle.weeks.specs.State.{minuteFrom}
-use borrow.Author.Needs.{needs}
 use Rattle.weeks.proofs.minute.minute_of.Statement.{statement}
 use Rattle.weeks.proofs.minute.minute_of.Tie as tie
 

@@ -1,8 +1,6 @@
-use mathlib.Core.Path.{_≡_, refl}
-use mir.Syntax.{w64}
+use Rattle.prelude.proofs.Logic.{_≡_, refl, needs, w64}
 use Rattle.integers.proofs.Ranges.{readBack}
 use Rattle.weeks.proofs.MinuteLaws.{whole-fits, minutes-fit, minutes-read}
-use borrow.Author.Needs.{needs}
 use Rattle.weeks.proofs.minute.whole_minutes.Statement.{statement}
 use Rattle.weeks.proofs.minute.whole_minutes.Tie as tie
 

@@ -1,10 +1,5 @@
 -- `weeks::report::put_report` meets its contract: under seven rows the report is empty.
-use borrow.Author.Needs.{needs}
-use mathlib.Core.Path.{sym, ap}
-use mathlib.Core.List.{List}
-use Prim.Native.Nat.{ℕ}
-use lib.ListN.{length}
-use denote.Ref.{now}
+use Rattle.prelude.proofs.Logic.{sym, ap, List, ℕ, length, needs, now}
 use Rattle.text.specs.Text.{frontOf}
 use Rattle.weeks.proofs.PrintedLaws.{few-rows}
 use Rattle.weeks.proofs.report.put_report.Statement.{statement}

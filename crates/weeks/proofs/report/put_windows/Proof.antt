@@ -1,13 +1,8 @@
-use native.Mathlib.Omega.{arith}
-use Prim.Native.Nat.{_+_, _-_, _^_, _<_}
-use mathlib.Core.Path.{_≡_, ap, _∙_}
-use lib.ListN.{length}
-use denote.Ref.{now}
+use Rattle.prelude.proofs.Logic.{_≡_, ap, _∙_, _+_, _-_, _^_, _<_, arith, length, needs, now}
 use Rattle.calls.proofs.RowStates.{first-state, next-state}
 use Rattle.row_suns.specs.RowSuns.{nextRowSunsOf}
 use Rattle.weeks.specs.State.{minuteFrom}
 use Rattle.weeks.proofs.Rolled.{Run, none-yet, run-line}
-use borrow.Author.Needs.{needs}
 use Rattle.weeks.proofs.report.put_windows.Statement.{statement}
 use Rattle.weeks.proofs.report.put_windows.Tie as tie
 

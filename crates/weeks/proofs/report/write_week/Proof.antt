@@ -1,9 +1,4 @@
-use native.Mathlib.Omega.{arith}
-use Prim.Native.Nat.{ℕ}
-use mathlib.Core.Path.{refl, sym, ap, _∙_}
-use mathlib.Core.List.{List, []}
-use lib.ListN.{length}
-use denote.Ref.{now}
+use Rattle.prelude.proofs.Logic.{refl, sym, ap, _∙_, List, [], ℕ, arith, length, needs, now}
 use Rattle.lines.proofs.LinesLaws.{refused-length}
 use Rattle.lines.specs.Lines.{refusedOrderText}
 use Rattle.order.proofs.AcceptedLaws.{read-accepted}
@@ -12,7 +7,6 @@ use Rattle.text.proofs.PrintedLaws.{printed-short, printed}
 use Rattle.text.proofs.TextLaws.{put-next}
 use Rattle.weeks.specs.Report.{weekText, longestWeek}
 use Rattle.weeks.proofs.PrintedLaws.{week-read, week-refused}
-use borrow.Author.Needs.{needs}
 use Rattle.weeks.proofs.report.write_week.Statement.{statement}
 use Rattle.weeks.proofs.report.write_week.Tie as tie
 

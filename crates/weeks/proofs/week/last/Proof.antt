@@ -1,5 +1,5 @@
 use Rattle.weeks.specs.State.{lastWindowOf}
-use borrow.Author.Needs.{needs}
+use Rattle.prelude.proofs.Logic.{needs}
 use Rattle.weeks.proofs.week.last.Statement.{statement}
 use Rattle.weeks.proofs.week.last.Tie as tie
 

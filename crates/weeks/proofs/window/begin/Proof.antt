@@ -1,8 +1,4 @@
-use mir.Syntax.{w64}
-use mir.Val.{SFits}
-use mir.Facts.{toZ-ofZ}
-use mathlib.Core.Path.{sym}
-use borrow.Author.Needs.{needs}
+use Rattle.prelude.proofs.Logic.{sym, needs, w64, SFits, toZ-ofZ}
 use Rattle.weeks.proofs.window.begin.Statement.{statement}
 use Rattle.weeks.proofs.window.begin.Tie as tie
 

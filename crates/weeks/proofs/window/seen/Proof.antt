@@ -1,9 +1,6 @@
-use mir.Syntax.{w64}
-use mir.Val.{toZ, ofZ}
+use Rattle.prelude.proofs.Logic.{_≡_, sym, needs, w64, toZ, ofZ}
 use Rattle.weeks.proofs.Steps.{both-seen}
-use mathlib.Core.Path.{_≡_, sym}
 use Rattle.weeks.specs.Windows.{seenOf}
-use borrow.Author.Needs.{needs}
 use Rattle.weeks.proofs.window.seen.Statement.{statement}
 use Rattle.weeks.proofs.window.seen.Tie as tie
 

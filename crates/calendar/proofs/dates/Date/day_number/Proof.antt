@@ -1,7 +1,5 @@
-use Prim.Native.Nat.{_+_, _≤_}
-use native.Mathlib.Omega.{arith}
+use Rattle.prelude.proofs.Logic.{_+_, _≤_, arith, needs}
 use Rattle.calendar.proofs.Machine.{count-fits, less-fits, number-read}
-use borrow.Author.Needs.{needs}
 use Rattle.calendar.proofs.dates.Date.day_number.Statement.{statement}
 use Rattle.calendar.proofs.dates.Date.day_number.Tie as tie
 

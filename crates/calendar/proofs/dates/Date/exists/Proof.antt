@@ -1,5 +1,4 @@
-use borrow.Author.Tests.{le-leb, lt-leb}
-use mathlib.Core.Path.{sym}
+use Rattle.prelude.proofs.Logic.{sym, le-leb, lt-leb}
 use Rattle.calendar.specs.Gregorian.{existsOf}
 use Rattle.calendar.proofs.dates.Date.exists.Statement.{statement}
 use Rattle.calendar.proofs.dates.Date.exists.Tie as tie

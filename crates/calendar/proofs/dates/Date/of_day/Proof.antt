@@ -1,9 +1,7 @@
-use mir.Syntax.{w64}
+use Rattle.prelude.proofs.Logic.{arith, needs, w64}
 use Rattle.integers.proofs.Ranges.{read}
-use native.Mathlib.Omega.{arith}
 use Rattle.calendar.specs.Days.{dateAtOf}
 use Rattle.calendar.proofs.ByCount.{days-fit, year-fits, rest, since-held}
-use borrow.Author.Needs.{needs}
 use Rattle.calendar.proofs.dates.Date.of_day.Statement.{statement}
 use Rattle.calendar.proofs.dates.Date.of_day.Tie as tie
 

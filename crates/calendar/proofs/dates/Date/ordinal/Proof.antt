@@ -1,7 +1,5 @@
 use Rattle.calendar.proofs.MonthTables.{year-short}
-use mathlib.Core.Path.{ap, _∙_, sym}
-use mathlib.Core.Bool.{Bool}
-use native.Mathlib.Omega.{arith}
+use Rattle.prelude.proofs.Logic.{ap, _∙_, sym, Bool, arith}
 use Rattle.calendar.specs.Gregorian.{leapOf}
 use Rattle.calendar.specs.Days.{daysBeforeOf, ordinalOf}
 use Rattle.calendar.proofs.Existing.{exists-yes, month-of-date}

@@ -1,10 +1,6 @@
-use mathlib.Core.Path.{sym, ap, _∙_}
-use mir.Syntax.{w64}
-use mir.Val.{SFits}
+use Rattle.prelude.proofs.Logic.{sym, ap, _∙_, _≤_, needs, w64, SFits}
 use Rattle.calendar.specs.Answers.{fromOf, ofDayOf}
-use Prim.Native.Nat.{_≤_}
 use Rattle.calendar.proofs.Machine.{row-fits, row-read}
-use borrow.Author.Needs.{needs}
 use Rattle.calendar.proofs.dates.Date.row.Statement.{statement}
 use Rattle.calendar.proofs.dates.Date.row.Tie as tie
 

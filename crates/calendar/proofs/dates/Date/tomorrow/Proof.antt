@@ -1,15 +1,8 @@
-use mathlib.Core.Path.{_≡_, ap, _∙_}
-use mathlib.Core.Bool.{Bool}
-use Prim.Native.Nat.{_≤_}
-use native.Mathlib.Omega.{arith}
+use Rattle.prelude.proofs.Logic.{_≡_, ap, _∙_, Bool, _≤_, arith, needs}
 use Rattle.calendar.specs.Gregorian.{lengthOf, daysInMonthOf}
 use Rattle.calendar.proofs.ByMonth.{before-first, past-last, within, next-month, next-year, last-of-all}
-use borrow.Author.Needs.{needs}
 use Rattle.calendar.proofs.dates.Date.tomorrow.Statement.{statement}
 use Rattle.calendar.proofs.dates.Date.tomorrow.Tie as tie
-
-returns : tie.Need-returns
-returns c = before-first (c .before .before .before .args .self) (c .if1 .taken)
 
 returns-2 : tie.Need-returns-2
 returns-2 c =
@@ -48,4 +41,4 @@ returns-6 c =
 pub tomorrow-spec : {M : Type 1} → statement M
 tomorrow-spec =
     tie.close
-    (tie.spec (λ c κs. tt) (λ c κs. tt) returns returns-2 (λ c. search needs) (λ c κs. tt) returns-3 (λ c. search needs) (λ c κs. tt) returns-4 returns-5 (λ c. search needs) (λ c κs. tt) returns-6)
+    (tie.spec (λ c κs. tt) (λ c κs. tt) (λ c. before-first (c .before .before .before .args .self) (c .if1 .taken)) returns-2 (λ c. search needs) (λ c κs. tt) returns-3 (λ c. search needs) (λ c κs. tt) returns-4 returns-5 (λ c. search needs) (λ c κs. tt) returns-6)

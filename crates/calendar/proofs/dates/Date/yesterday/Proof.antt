@@ -1,11 +1,8 @@
-use mathlib.Core.Path.{sym, ap, _∙_}
-use Prim.Native.Nat.{ℕ, _-_, _≤_}
-use native.Mathlib.Omega.{arith}
+use Rattle.prelude.proofs.Logic.{sym, ap, _∙_, ℕ, _-_, _≤_, arith, needs}
 use Rattle.calendar.specs.Gregorian.{dayBeforeOf}
 use Rattle.calendar.specs.Days.{ofOrdinalOf}
 use Rattle.calendar.proofs.Existing.{ordinal-short}
 use Rattle.calendar.proofs.ByOrdinal.{from-none, yesterday-within, yesterday-old-year, yesterday-first}
-use borrow.Author.Needs.{needs}
 use Rattle.calendar.proofs.dates.Date.yesterday.Statement.{statement}
 use Rattle.calendar.proofs.dates.Date.yesterday.Tie as tie
 

@@ -1,8 +1,5 @@
 -- `fields::values::Fields::part` meets its contract: past the table's end `getD` gives 0.
-use native.Mathlib.Omega.{arith}
-use mathlib.Core.Path.{_≡_}
-use lib.ListN.{length, getD, List·getD-eq-default}
-use borrow.Author.Needs.{needs}
+use Rattle.prelude.proofs.Logic.{_≡_, arith, length, getD, List·getD-eq-default, needs}
 use Rattle.fields.specs.Tags.{tags}
 use Rattle.fields.proofs.values.Fields.part.Statement.{statement}
 use Rattle.fields.proofs.values.Fields.part.Tie as tie

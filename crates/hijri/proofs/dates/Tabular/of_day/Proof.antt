@@ -1,13 +1,9 @@
-use mir.Syntax.{w64}
-use native.Mathlib.Omega.{arith}
+use Rattle.prelude.proofs.Logic.{arith, w64}
 use Rattle.integers.proofs.Ranges.{read}
 use Rattle.hijri.specs.Days.{dateAtOf}
 use Rattle.hijri.proofs.ByCount.{days-fit, year-fits, rest}
 use Rattle.hijri.proofs.dates.Tabular.of_day.Statement.{statement}
 use Rattle.hijri.proofs.dates.Tabular.of_day.Tie as tie
-
-year-of-requires : tie.Need-year-of-requires
-year-of-requires c κs = days-fit _ (c .since-first .result) (c .since-first .ensures)
 
 cast-in-year : tie.Need-cast-in-year
 cast-in-year c = let y = year-fits _ (c .before .since-first .result) (c .before .since-first .ensures) (c .year-of .result) (c .year-of .ensures) in omega arith
@@ -39,4 +35,4 @@ returns c =
 pub of-day-spec : {M : Type 1} → statement M
 of-day-spec =
     tie.close
-    (tie.spec (λ c κs. tt) year-of-requires cast-in-year add-in-year year-start-requires sub-in-year in-year-requires returns)
+    (tie.spec (λ c κs. tt) (λ c κs. days-fit _ (c .since-first .result) (c .since-first .ensures)) cast-in-year add-in-year year-start-requires sub-in-year in-year-requires returns)

@@ -1,5 +1,5 @@
 use Rattle.models.specs.Numbers.{ruleNumberOf}
-use borrow.Author.Needs.{needs}
+use Rattle.prelude.proofs.Logic.{needs}
 use Rattle.models.proofs.high_altitude_rule.HighLatitudeRule.number.Statement.{statement}
 use Rattle.models.proofs.high_altitude_rule.HighLatitudeRule.number.Tie as tie
 

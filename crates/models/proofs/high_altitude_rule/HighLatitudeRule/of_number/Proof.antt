@@ -1,4 +1,4 @@
-use borrow.Author.Needs.{needs}
+use Rattle.prelude.proofs.Logic.{needs}
 use Rattle.models.specs.declared.high_altitude_rule.HighLatitudeRule.the-variants.{MiddleOfTheNight, TwilightAngle}
 use Rattle.models.specs.Numbers.{rules, ruleOf}
 use Rattle.models.proofs.Rows.{inside, beyond}

@@ -1,5 +1,5 @@
 use Rattle.models.specs.Numbers.{madhabNumberOf}
-use borrow.Author.Needs.{needs}
+use Rattle.prelude.proofs.Logic.{needs}
 use Rattle.models.proofs.madhab.Madhab.number.Statement.{statement}
 use Rattle.models.proofs.madhab.Madhab.number.Tie as tie
 

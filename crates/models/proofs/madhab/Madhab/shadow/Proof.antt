@@ -1,7 +1,4 @@
-use lib.Dec.{lit<}
-use lib.IntN.{pos}
-use mir.Syntax.{w32}
-use mir.Val.{SFits}
+use Rattle.prelude.proofs.Logic.{lit<, pos, w32, SFits}
 use Rattle.integers.proofs.Ranges.{read}
 use Rattle.models.specs.declared.madhab.Madhab.{Madhab}
 use Rattle.models.specs.declared.madhab.Madhab.the-variants.{Shafi, Hanafi}
@@ -14,11 +11,5 @@ unfolding madhabNumberOf
 small Shafi = record { sfits = lit< tt }
 small Hanafi = record { sfits = lit< tt }
 
-cast-result : tie.Need-cast-result
-cast-result c = rw (c .number .ensures) (small (c .before .args .self))
-
-returns : tie.Need-returns
-returns c = rw (c .number .ensures) (read w32 _ (small (c .before .args .self)))
-
 pub shadow-spec : {M : Type 1} → statement M
-shadow-spec = tie.close (tie.spec (λ c κs. tt) cast-result returns)
+shadow-spec = tie.close (tie.spec (λ c κs. tt) (λ c. rw (c .number .ensures) (small (c .before .args .self))) (λ c. rw (c .number .ensures) (read w32 _ (small (c .before .args .self)))))

@@ -3,7 +3,7 @@ use Rattle.float64.specs.Ops.{dec}
 use Rattle.models.specs.Builder.{setIshaInterval}
 use Rattle.models.specs.Presets.{presetOf, preset}
 use Rattle.models.specs.Settings.{parametersNewOf}
-use borrow.Author.Needs.{needs}
+use Rattle.prelude.proofs.Logic.{needs}
 use Rattle.models.proofs.method.Method.configuration.Statement.{statement}
 use Rattle.models.proofs.method.Method.configuration.Tie as tie
 

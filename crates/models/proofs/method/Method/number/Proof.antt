@@ -1,5 +1,5 @@
 use Rattle.models.specs.Numbers.{methodNumberOf}
-use borrow.Author.Needs.{needs}
+use Rattle.prelude.proofs.Logic.{needs}
 use Rattle.models.proofs.method.Method.number.Statement.{statement}
 use Rattle.models.proofs.method.Method.number.Tie as tie
 

@@ -1,4 +1,4 @@
-use borrow.Author.Needs.{needs}
+use Rattle.prelude.proofs.Logic.{needs}
 use Rattle.models.specs.declared.method.Method.the-variants.{MuslimWorldLeague, Other}
 use Rattle.models.specs.Numbers.{methods, methodOf}
 use Rattle.models.proofs.Rows.{inside, beyond}

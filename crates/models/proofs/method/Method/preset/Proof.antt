@@ -1,4 +1,4 @@
-use borrow.Author.Needs.{needs}
+use Rattle.prelude.proofs.Logic.{needs}
 use Rattle.models.specs.Settings.{parametersNewOf}
 use Rattle.models.proofs.method.Method.preset.Statement.{statement}
 use Rattle.models.proofs.method.Method.preset.Tie as tie

@@ -1,4 +1,4 @@
-use borrow.Author.Needs.{needs}
+use Rattle.prelude.proofs.Logic.{needs}
 use lib.Ieee.{ofBits}
 use Rattle.models.specs.Builder.{setIshaInterval}
 use Rattle.models.proofs.parameters.Configuration.isha_interval.Statement.{statement}

@@ -1,9 +1,5 @@
-use mir.Syntax.{w32}
-use mir.Val.{SFits}
-use mir.Facts.{toZ-ofZ}
-use mathlib.Core.Path.{sym}
+use Rattle.prelude.proofs.Logic.{sym, needs, w32, SFits, toZ-ofZ}
 use Rattle.models.specs.Presets.{withOf}
-use borrow.Author.Needs.{needs}
 use Rattle.models.proofs.parameters.Configuration.with.Statement.{statement}
 use Rattle.models.proofs.parameters.Configuration.with.Tie as tie
 

@@ -1,7 +1,7 @@
 use lib.Ieee.{round, ofBits}
 use Rattle.float64.specs.Ops.{dec}
 use Rattle.models.specs.Settings.{portionsOf}
-use borrow.Author.Needs.{needs}
+use Rattle.prelude.proofs.Logic.{needs}
 use Rattle.models.proofs.parameters.Parameters.night_portions.Statement.{statement}
 use Rattle.models.proofs.parameters.Parameters.night_portions.Tie as tie
 

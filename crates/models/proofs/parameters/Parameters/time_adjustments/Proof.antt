@@ -1,11 +1,7 @@
-use native.Mathlib.Omega.{arith}
+use Rattle.prelude.proofs.Logic.{_≡_, _∙_, arith, needs, w32, w64, SFits}
 use Rattle.integers.proofs.Sums.{sum, summands}
-use mathlib.Core.Path.{_≡_, _∙_}
-use mir.Syntax.{w32, w64}
-use mir.Val.{SFits}
 use Rattle.integers.proofs.Ranges.{range, readBack, read}
 use Rattle.models.specs.Settings.{timeAdjustmentsOf}
-use borrow.Author.Needs.{needs}
 use Rattle.models.proofs.parameters.Parameters.time_adjustments.Statement.{statement}
 use Rattle.models.proofs.parameters.Parameters.time_adjustments.Tie as tie
 

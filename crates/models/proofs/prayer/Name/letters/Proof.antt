@@ -1,5 +1,5 @@
 use Rattle.models.specs.Names.{lettersOf}
-use borrow.Author.Needs.{needs}
+use Rattle.prelude.proofs.Logic.{needs}
 use Rattle.models.proofs.prayer.Name.letters.Statement.{statement}
 use Rattle.models.proofs.prayer.Name.letters.Tie as tie
 

@@ -1,9 +1,7 @@
-use mathlib.Core.Path.{sym, ap, _∙_}
-use mir.Syntax.{w64}
+use Rattle.prelude.proofs.Logic.{sym, ap, _∙_, needs, w64}
 use Rattle.integers.proofs.Ranges.{read}
 use Rattle.models.specs.Names.{isFridayOf}
 use Rattle.models.specs.Names.{prayerNameOf}
-use borrow.Author.Needs.{needs}
 use Rattle.models.proofs.prayer.Prayer.name.Statement.{statement}
 use Rattle.models.proofs.prayer.Prayer.name.Tie as tie
 

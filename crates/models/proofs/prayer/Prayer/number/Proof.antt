@@ -1,5 +1,5 @@
 use Rattle.models.specs.Numbers.{prayerNumberOf}
-use borrow.Author.Needs.{needs}
+use Rattle.prelude.proofs.Logic.{needs}
 use Rattle.models.proofs.prayer.Prayer.number.Statement.{statement}
 use Rattle.models.proofs.prayer.Prayer.number.Tie as tie
 

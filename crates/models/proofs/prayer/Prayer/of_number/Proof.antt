@@ -1,4 +1,4 @@
-use borrow.Author.Needs.{needs}
+use Rattle.prelude.proofs.Logic.{needs}
 use Rattle.models.specs.declared.prayer.Prayer.the-variants.{Fajr, FajrTomorrow}
 use Rattle.models.specs.Numbers.{prayers, prayerOf}
 use Rattle.models.proofs.Rows.{inside, beyond}

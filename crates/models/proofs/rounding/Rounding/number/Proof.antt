@@ -1,5 +1,5 @@
 use Rattle.models.specs.Numbers.{roundingNumberOf}
-use borrow.Author.Needs.{needs}
+use Rattle.prelude.proofs.Logic.{needs}
 use Rattle.models.proofs.rounding.Rounding.number.Statement.{statement}
 use Rattle.models.proofs.rounding.Rounding.number.Tie as tie
 

@@ -1,4 +1,4 @@
-use borrow.Author.Needs.{needs}
+use Rattle.prelude.proofs.Logic.{needs}
 use Rattle.models.specs.declared.rounding.Rounding.the-variants.{Nearest, None}
 use Rattle.models.specs.Numbers.{roundings, roundingOf}
 use Rattle.models.proofs.Rows.{inside, beyond}

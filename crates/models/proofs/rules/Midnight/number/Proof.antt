@@ -1,5 +1,5 @@
 use Rattle.models.specs.Numbers.{midnightNumberOf}
-use borrow.Author.Needs.{needs}
+use Rattle.prelude.proofs.Logic.{needs}
 use Rattle.models.proofs.rules.Midnight.number.Statement.{statement}
 use Rattle.models.proofs.rules.Midnight.number.Tie as tie
 

@@ -1,5 +1,4 @@
-use mathlib.Core.Path.{_≡_, refl}
-use Prim.Native.Nat.{ℕ, zero, suc}
+use Rattle.prelude.proofs.Logic.{_≡_, refl, ℕ, zero, suc}
 use Rattle.models.specs.declared.rules.Midnight.the-variants.{Carries}
 use Rattle.models.specs.Numbers.{midnightOf}
 use Rattle.models.proofs.rules.Midnight.of_number.Statement.{statement}
@@ -15,8 +14,5 @@ returns : tie.Need-returns
 unfolding midnightOf
 returns c = simp (c .match .keys1)
 
-returns-2 : tie.Need-returns-2
-returns-2 c = rest (c .before .args .n) (c .match .rest .1)
-
 pub of-number-spec : {M : Type 1} → statement M
-of-number-spec = tie.close (tie.spec returns returns-2)
+of-number-spec = tie.close (tie.spec returns (λ c. rest (c .before .args .n) (c .match .rest .1)))

@@ -1,5 +1,5 @@
 use Rattle.models.specs.Numbers.{southernNumberOf}
-use borrow.Author.Needs.{needs}
+use Rattle.prelude.proofs.Logic.{needs}
 use Rattle.models.proofs.rules.Southern.number.Statement.{statement}
 use Rattle.models.proofs.rules.Southern.number.Tie as tie
 

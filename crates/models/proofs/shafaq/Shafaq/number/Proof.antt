@@ -1,5 +1,5 @@
 use Rattle.models.specs.Numbers.{shafaqNumberOf}
-use borrow.Author.Needs.{needs}
+use Rattle.prelude.proofs.Logic.{needs}
 use Rattle.models.proofs.shafaq.Shafaq.number.Statement.{statement}
 use Rattle.models.proofs.shafaq.Shafaq.number.Tie as tie
 

@@ -1,4 +1,4 @@
-use borrow.Author.Needs.{needs}
+use Rattle.prelude.proofs.Logic.{needs}
 use Rattle.models.specs.declared.shafaq.Shafaq.the-variants.{General, Abyad}
 use Rattle.models.specs.Numbers.{shafaqs, shafaqOf}
 use Rattle.models.proofs.Rows.{inside, beyond}

@@ -1,6 +1,6 @@
 use lib.Ieee.{round, ofBits}
 use Rattle.float64.specs.Ops.{dec}
-use mathlib.Core.Path.{refl}
+use Rattle.prelude.proofs.Logic.{refl}
 use Rattle.ops.specs.Shared.{interpolatedOf}
 use Rattle.ops.proofs.interpolation.Interpolation.at.Statement.{statement}
 use Rattle.ops.proofs.interpolation.Interpolation.at.Tie as tie

@@ -1,5 +1,5 @@
 use Rattle.schedule.specs.Times.{workedOf, workedFrom}
-use borrow.Author.Needs.{needs}
+use Rattle.prelude.proofs.Logic.{needs}
 use Rattle.schedule.proofs.hours.RowHours.work.Statement.{statement}
 use Rattle.schedule.proofs.hours.RowHours.work.Tie as tie
 

@@ -1,9 +1,7 @@
-use mir.Syntax.{w64}
-use mathlib.Core.Path.{_≡_, ap, _∙_}
+use Rattle.prelude.proofs.Logic.{_≡_, ap, _∙_, needs, w64}
 use Rattle.integers.proofs.Ranges.{readBack}
 use Rattle.schedule.specs.declared.prayer_times.FajrAlone.the-variants.{At}
 use Rattle.schedule.specs.Fajr.{fajrAloneOf}
-use borrow.Author.Needs.{needs}
 use Rattle.schedule.proofs.hours.Suns.fajr.Statement.{statement}
 use Rattle.schedule.proofs.hours.Suns.fajr.Tie as tie
 

@@ -1,5 +1,5 @@
 use Rattle.schedule.specs.Hours.{sunsOf}
-use borrow.Author.Needs.{needs}
+use Rattle.prelude.proofs.Logic.{needs}
 use Rattle.schedule.proofs.hours.Suns.new.Statement.{statement}
 use Rattle.schedule.proofs.hours.Suns.new.Tie as tie
 

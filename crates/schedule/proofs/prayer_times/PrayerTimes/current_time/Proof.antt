@@ -1,12 +1,7 @@
-use lib.IntN.{ℤ}
-use mir.Syntax.{w64}
+use Rattle.prelude.proofs.Logic.{_≡_, refl, sym, ap, _∙_, _≤_, arith, ℤ, needs, w64}
 use Rattle.integers.proofs.Ranges.{readBack}
 use Rattle.schedule.specs.declared.in_force.Current.the-variants.{Some}
 use Rattle.schedule.proofs.Due as due
-use mathlib.Core.Path.{_≡_, refl, sym, ap, _∙_}
-use Prim.Native.Nat.{_≤_}
-use native.Mathlib.Omega.{arith}
-use borrow.Author.Needs.{needs}
 use Rattle.schedule.specs.InForce.{lastOf, aheadOf, timeOf}
 use Rattle.schedule.proofs.prayer_times.PrayerTimes.current_time.Statement.{statement}
 use Rattle.schedule.proofs.prayer_times.PrayerTimes.current_time.Tie as tie

@@ -1,7 +1,6 @@
-use mathlib.Core.Path.{sym, ap, _∙_}
+use Rattle.prelude.proofs.Logic.{sym, ap, _∙_, needs}
 use Rattle.schedule.specs.InForce.{followingCurrentOf}
 use Rattle.schedule.specs.declared.in_force.Current.the-variants.{Some}
-use borrow.Author.Needs.{needs}
 use Rattle.schedule.proofs.prayer_times.PrayerTimes.next.Statement.{statement}
 use Rattle.schedule.proofs.prayer_times.PrayerTimes.next.Tie as tie
 

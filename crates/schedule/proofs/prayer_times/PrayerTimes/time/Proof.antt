@@ -1,8 +1,5 @@
-use mir.Syntax.{w64}
-use mir.Val.{SFits}
-use mir.Facts.{toZ-ofZ}
+use Rattle.prelude.proofs.Logic.{needs, w64, SFits, toZ-ofZ}
 use Rattle.schedule.specs.InForce.{timeOf}
-use borrow.Author.Needs.{needs}
 use Rattle.schedule.proofs.prayer_times.PrayerTimes.time.Statement.{statement}
 use Rattle.schedule.proofs.prayer_times.PrayerTimes.time.Tie as tie
 

@@ -1,10 +1,7 @@
-use mathlib.Core.Path.{_≡_, sym, ap, _∙_}
-use lib.IntN.{ℤ}
-use mir.Syntax.{w64}
+use Rattle.prelude.proofs.Logic.{_≡_, sym, ap, _∙_, ℤ, needs, w64}
 use Rattle.integers.proofs.Ranges.{readBack}
 use Rattle.schedule.specs.InForce.{aheadOf, hoursMinutesOf, untilOf}
 use Rattle.schedule.specs.declared.in_force.Remaining.the-variants.{In}
-use borrow.Author.Needs.{needs}
 use Rattle.schedule.proofs.prayer_times.PrayerTimes.time_remaining.Statement.{statement}
 use Rattle.schedule.proofs.prayer_times.PrayerTimes.time_remaining.Tie as tie
 

@@ -1,4 +1,4 @@
-use mathlib.Core.Path.{refl}
+use Rattle.prelude.proofs.Logic.{refl}
 use Rattle.weeks.specs.State.{weekOf}
 use Rattle.weeks.proofs.week.Week.new.Statement.{statement}
 use Rattle.weeks.proofs.week.Week.new.Tie as tie

@@ -1,7 +1,5 @@
-use borrow.Author.Tests.{lt-ltb, le-ltb}
-use mathlib.Core.Path.{sym}
+use Rattle.prelude.proofs.Logic.{sym, needs, lt-ltb, le-ltb}
 use Rattle.weeks.specs.State.{windowIn}
-use borrow.Author.Needs.{needs}
 use Rattle.weeks.proofs.week.Week.window.Statement.{statement}
 use Rattle.weeks.proofs.week.Week.window.Tie as tie
 
