@@ -149,7 +149,7 @@ module _ (s : Bool) (m : ℕ) (e : ℤ) (h : Within (fin s m e) 3 4) where
       rw (le-leb (highOf (fin s m e)) 0x3fe9_21fb (le-trans (high-le s m e h) (lit≤ tt)))
       (record { real = n .real; close = written (n .close) (series-stated s (m * up e) (down e) (down-pos e)) })
 
-by-sign : (s : Bool) (m : ℕ) (e : ℤ) → Within (fin s m e) 3 4 → Accuracy.Within 51 (cosOf (fin s m e)) (cosineSum (top (fin s m e)) (down e)) (18 ! * down e ^ 18)
+by-sign : (s : Bool) (m : ℕ) (e : ℤ) → Within (fin s m e) 3 4 → Accuracy.WithinSum 51 (cosOf (fin s m e)) (cosineSum (top (fin s m e)) (down e)) (18 ! * down e ^ 18)
 unfolding unit
 by-sign false m e h = within 51 (is-sum false 18 (m * up e) (down e) (from 0 10)) (cosine-near false m e h) (lit≤ tt)
 by-sign true m e h = within 51 (is-sum true 18 (m * up e) (down e) (from 0 10)) (cosine-near true m e h) (lit≤ tt)

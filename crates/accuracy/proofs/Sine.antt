@@ -119,7 +119,7 @@ module _ (s : Bool) (m : ℕ) (e : ℤ) (h : Within (fin s m e) 3 4) where
       rw (le-leb (highOf (fin s m e)) 0x3fe9_21fb (le-trans (high-le s m e h) (lit≤ tt)))
       (record { real = n .real; close = written (n .close) (series-stated s (m * up e) (down e) (down-pos e)) })
 
-sine-by-sign : (s : Bool) (m : ℕ) (e : ℤ) → Within (fin s m e) 3 4 → Accuracy.Within 51 (sinOf (fin s m e)) (sineSum (top (fin s m e)) (down e)) (19 ! * down e ^ 19)
+sine-by-sign : (s : Bool) (m : ℕ) (e : ℤ) → Within (fin s m e) 3 4 → Accuracy.WithinSum 51 (sinOf (fin s m e)) (sineSum (top (fin s m e)) (down e)) (19 ! * down e ^ 19)
 unfolding unit
 sine-by-sign false m e h = within 51 (is-sum false 19 (m * up e) (down e) (from 1 10)) (sine-near false m e h) (lit≤ tt)
 sine-by-sign true m e h = within 51 (is-sum true 19 (m * up e) (down e) (from 1 10)) (sine-near true m e h) (lit≤ tt)

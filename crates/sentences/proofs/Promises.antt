@@ -7,7 +7,7 @@ use Rattle.sentences.specs.Table.{texts, textOf, nameOf, known, widest, 
 use Rattle.sentences.specs.Guess.{none, numberIn, placeIn}
 use Rattle.sentences.specs.Sentences.{endsInColon, wordsOf, sentenceOf, bufferAfter, meant, noSentence, same, meaningOf}
 use Rattle.sentences.specs.Promises.{allKnown, EachHasASentence, printable, Says, Different, Printed, ReadBack, ReadAs, ReadsOnlySentences, WrittenAndRead}
-use Rattle.sentences.specs.Promises.Right.{says, other}
+use Rattle.sentences.specs.Promises.ReadAs.{says, other}
 use Rattle.sentences.proofs.Lines.{text-fine, name-fine, text-says}
 use Rattle.sentences.proofs.Guessing.{number-append, ten-digits, place-back}
 use Rattle.sentences.proofs.Comparing.{same-itself, same-only}
