@@ -1,5 +1,5 @@
 -- A place sent either way: the record but for where the town stands, and from it all that is answered. Assumes nothing.
-use Rattle.prelude.proofs.Logic.{_≡_, refl, sym, ap, _∙_, subst, false, List, _∷_, _++_, ℕ, zero, suc, _+_, _≤_, lit≤}
+use Rattle.prelude.proofs.Logic.{_≡_, refl, sym, ap, _∙_, subst, false, List, [], _∷_, _++_, ℕ, zero, suc, _+_, _≤_, lit≤}
 use Rattle.integers.specs.Order.{_≼_}
 use Rattle.calendar.specs.Answers.{rowDateOf}
 use Rattle.calls.specs.Calls.{workRowOf, workReadingOf, workDayOf, workAtOf, prayerAtOf, nextAtOf, remainingAtOf}
@@ -20,6 +20,9 @@ use Rattle.pages.specs.Answers.{punchedInOf, answerIn, bufferOf, frontIn, oneRo
 use Rattle.pages.specs.Reports.{wearIn, wearText, cellsIn, cellsText}
 use Rattle.rows.specs.Rows.{linesText, acceptedText, textIn, sheetText, readAnswerOf, readBufferOf, rowAnswerOf, rowBufferOf}
 use Rattle.schedule.specs.declared.in_force.Instant.{Instant}
+use Rattle.weeks.specs.declared.minute.Minute.{Minute}
+use Rattle.weeks.specs.Lines.{reportOf}
+use Rattle.weeks.specs.Report.{minuteIn, rowMinute, minutesOf, ordersReport, weekIn, weekText}
 use Rattle.order_laws.specs.Minutes.{withOwnMinutes}
 use Rattle.order_laws.specs.EitherForm.{saysPlace, SamePlace, withTown, EitherFormAnswersAlike, EitherFormMovesAlike}
 
@@ -47,6 +50,11 @@ pages-same : (o : Order) (town : Part) (n : ℕ) → pagesCells (withTown o town
 unfolding pagesCells
 pages-same o town zero = refl
 pages-same o town (suc p) = rw (pages-same o town p, page-same o town (suc p))
+
+minutes-same : (o : Order) (town : Part) (n : ℕ) → minutesOf (withTown o town) n ≡ minutesOf o n
+unfolding minutesOf minuteIn workRowOf
+minutes-same o town zero = refl
+minutes-same o town (suc n) = ap (λ (m : List Minute). m ++ (rowMinute o n ∷ [])) (minutes-same o town n)
 
 -- a call on some rows of an order that do not hang on its town
 module _ (asked : Order → Rows) (town-free : (o : Order) (town : Part) → asked (withTown o town) ≡ asked o) (least : ℕ) where
@@ -180,6 +188,12 @@ module _ (a b : List ℕ) (orders : SamePlace a b) where
   unfolding cellsIn
   cells-same = rw (orders .«first_read», orders .«second_read») all-same
 
+  week-same : weekText a ≡ weekText b
+  unfolding weekIn
+  week-same =
+      rw (orders .«first_read», orders .«second_read»)
+      (ap reportOf (sym (minutes-same (orders .first) (orders .second .town) (orders .first .rows))) ∙ ap ordersReport given)
+
   module _ (asked : Order → Rows) (town-free : (o : Order) (town : Part) → asked (withTown o town) ≡ asked o) (buffer : List ℕ) where
     asked-same : punchedInOf asked rowLength a buffer ≡ punchedInOf asked rowLength b buffer
     asked-same = written-same asked town-free rowLength a b (orders .first) (orders .second) (orders .«first_read») (orders .«second_read») given buffer
@@ -206,6 +220,7 @@ either-form-answers-alike a b orders =
       «page_buffer» = λ page first scratch. put-same a b orders (pieceIn page first scratch) (piece-same page first scratch) scratch;
       wear = wear-same a b orders;
       cells = cells-same a b orders;
+      week = week-same a b orders;
     }
 
 -- ---- demand 3
