@@ -1,5 +1,5 @@
 -- A place sent either way: the record but for where the town stands, and from it all that is answered. Assumes nothing.
-use Rattle.prelude.proofs.Logic.{_≡_, refl, sym, ap, _∙_, subst, false, List, [], _∷_, _++_, ℕ, zero, suc, _+_, _≤_, lit≤}
+use Rattle.prelude.proofs.Logic.{_≡_, refl, sym, ap, _∙_, subst, false, List, _∷_, _++_, ℕ, zero, suc, _+_, _≤_, lit≤}
 use Rattle.integers.specs.Order.{_≼_}
 use Rattle.calendar.specs.Answers.{rowDateOf}
 use Rattle.calls.specs.Calls.{workRowOf, workReadingOf, workDayOf, workAtOf, prayerAtOf, nextAtOf, remainingAtOf}
@@ -20,9 +20,10 @@ use Rattle.pages.specs.Answers.{punchedInOf, answerIn, bufferOf, frontIn, oneRo
 use Rattle.pages.specs.Reports.{wearIn, wearText, cellsIn, cellsText}
 use Rattle.rows.specs.Rows.{linesText, acceptedText, textIn, sheetText, readAnswerOf, readBufferOf, rowAnswerOf, rowBufferOf}
 use Rattle.schedule.specs.declared.in_force.Instant.{Instant}
-use Rattle.weeks.specs.declared.minute.Minute.{Minute}
+use Rattle.schedule.specs.declared.prayer_times.Worked.{Worked}
+use Rattle.schedule.specs.declared.prayer_times.Worked.the-variants.{Times, Refused}
 use Rattle.weeks.specs.Lines.{reportOf}
-use Rattle.weeks.specs.Report.{minuteIn, rowMinute, minutesOf, ordersReport, weekIn, weekText}
+use Rattle.weeks.specs.Report.{minuteIn, minutesOf, ordersReport, weekIn, weekText}
 use Rattle.order_laws.specs.Minutes.{withOwnMinutes}
 use Rattle.order_laws.specs.EitherForm.{saysPlace, SamePlace, withTown, EitherFormAnswersAlike, EitherFormMovesAlike}
 
@@ -51,10 +52,15 @@ unfolding pagesCells
 pages-same o town zero = refl
 pages-same o town (suc p) = rw (pages-same o town p, page-same o town (suc p))
 
+minute-same : (o : Order) (town : Part) (row : ℕ) (w : Worked) → minuteIn (withTown o town) row w ≡ minuteIn o row w
+unfolding minuteIn
+minute-same o town row (Times t) = refl
+minute-same o town row (Refused r) = refl
+
 minutes-same : (o : Order) (town : Part) (n : ℕ) → minutesOf (withTown o town) n ≡ minutesOf o n
-unfolding minutesOf minuteIn workRowOf
+unfolding minutesOf workRowOf
 minutes-same o town zero = refl
-minutes-same o town (suc n) = ap (λ (m : List Minute). m ++ (rowMinute o n ∷ [])) (minutes-same o town n)
+minutes-same o town (suc n) = rw (minutes-same o town n, minute-same o town n (workRowOf o n))
 
 -- a call on some rows of an order that do not hang on its town
 module _ (asked : Order → Rows) (town-free : (o : Order) (town : Part) → asked (withTown o town) ≡ asked o) (least : ℕ) where
