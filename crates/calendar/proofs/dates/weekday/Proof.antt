@@ -11,5 +11,8 @@ needs-met = (
   λ c. week-cast (c .args .day) (c .fits .day),
 )
 
+returns : tie.Need-returns
+returns c = week-day (c .args .day) (c .fits .day)
+
 pub weekday-spec : {M : Type 1} → statement M
-weekday-spec = tie.close (tie.spec (needs-met .0) (needs-met .1) (needs-met .2) (needs-met .3) (λ c. week-day (c .args .day) (c .fits .day)))
+weekday-spec = tie.close (tie.spec (needs-met .0) (needs-met .1) (needs-met .2) (needs-met .3) returns)

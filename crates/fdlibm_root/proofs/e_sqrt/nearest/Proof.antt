@@ -11,7 +11,10 @@ needs-met = (
   λ c κs. let start = c .before .before .before in let small = doubled (start .args .significand) (start .args .odd) (start .pre .1) (omega arith) in (omega arith, omega arith),
 )
 
+returns-2 : tie.Need-returns-2
+returns-2 c = c .before .corrected .ensures (omega arith)
+
 pub nearest-spec : {M : Type 1} → statement M
 nearest-spec =
     tie.close
-    (tie.spec (λ c. search needs) (needs-met .0) (λ c. search needs) (λ c. search needs) (λ c. search needs) (λ c κs. search needs) (needs-met .1) (needs-met .2) (λ c. search needs) (λ c. c .before .corrected .ensures (omega arith)))
+    (tie.spec (λ c. search needs) (needs-met .0) (λ c. search needs) (λ c. search needs) (λ c. search needs) (λ c κs. search needs) (needs-met .1) (needs-met .2) (λ c. search needs) returns-2)

@@ -21,7 +21,10 @@ returns c =
     let l = c .before .before .loop in
     (c .root-pattern .ensures .0 ∙ ap roundedRoot (moved-same (c .before .before .before .args .t) (l .significand) (l .places) (l .inv)), c .root-pattern .ensures .1)
 
+loop-holds : tie.Need-loop-holds Inv-loop μ-loop
+loop-holds c = record { is = omega arith; small = omega arith; places = lit≤ tt }
+
 pub subnormal-pattern-spec : {M : Type 1} → statement M
 subnormal-pattern-spec =
     tie.close
-    (tie.spec Inv-loop μ-loop (λ c. record { is = omega arith; small = omega arith; places = lit≤ tt }) (λ c. search needs) (λ c. search needs) (λ c. search needs) loop-again (λ c. search needs) (λ c κs. search needs) returns)
+    (tie.spec Inv-loop μ-loop loop-holds (λ c. search needs) (λ c. search needs) (λ c. search needs) loop-again (λ c. search needs) (λ c κs. search needs) returns)

@@ -11,5 +11,8 @@ returns : tie.Need-returns
 unfolding kernelSinOf kernelCosOf
 returns c = simp (sym (c .before .high-word .ensures), lt-ltb _ _ (c .if1 .taken))
 
+returns-2 : tie.Need-returns-2
+returns-2 c = simp (c .cos-polynomial .ensures, c .before .sin-polynomial .ensures)
+
 pub kernels-spec : {M : Type 1} → statement M
-kernels-spec = tie.close (tie.spec (λ c κs. tt) returns (λ c κs. (rw (c .before .high-word .ensures) at (c .if1 .left), refl)) cos-polynomial-requires (λ c. simp (c .cos-polynomial .ensures, c .before .sin-polynomial .ensures)))
+kernels-spec = tie.close (tie.spec (λ c κs. tt) returns (λ c κs. (rw (c .before .high-word .ensures) at (c .if1 .left), refl)) cos-polynomial-requires returns-2)

@@ -70,7 +70,10 @@ returns-2 c =
     (checked-all s _ (nothing-refused s (l .loop .at) (l .loop .starts) (l .loop .lengths) (l .loop .inv) (c .before .loop-test .left))
     (collect-all s (l .loop .at) (l .loop .starts) (l .loop .lengths) (l .loop .inv) (c .before .loop-test .left)))
 
+loop-holds : tie.Need-loop-holds Inv-loop μ-loop
+loop-holds c = collect-first (now (c .before .args .order)) (c .before .pre)
+
 pub pass-spec : {M : Type 1} → statement M
 pass-spec =
     tie.close
-    (tie.spec Inv-loop μ-loop (λ c. collect-first (now (c .before .args .order)) (c .before .pre)) (λ c κs. search needs) (λ c. search needs) (λ c κs. search needs) (λ c. sym (c .before .before .before .before .loop .inv .sizes .0)) (λ c κs. search needs) (λ c. search needs) (λ c κs. search needs) (λ c. search needs) (λ c κs. search needs) returns (λ c. search needs) (λ c. search needs) (λ c. search needs) (λ c. search needs) room short (λ c. search needs) room (λ c. search needs) (λ c. search needs) (λ c. search needs) (λ c. search needs) loop-again (λ c κs. search needs) returns-2)
+    (tie.spec Inv-loop μ-loop loop-holds (λ c κs. search needs) (λ c. search needs) (λ c κs. search needs) (λ c. sym (c .before .before .before .before .loop .inv .sizes .0)) (λ c κs. search needs) (λ c. search needs) (λ c κs. search needs) (λ c. search needs) (λ c κs. search needs) returns (λ c. search needs) (λ c. search needs) (λ c. search needs) (λ c. search needs) room short (λ c. search needs) room (λ c. search needs) (λ c. search needs) (λ c. search needs) (λ c. search needs) loop-again (λ c κs. search needs) returns-2)

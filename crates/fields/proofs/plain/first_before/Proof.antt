@@ -32,7 +32,10 @@ returns-2 c =
     let a = c .before .before .before .args in
     sym (find-none (h .0) (now (a .order)) (a .tag) _ (a .stop) (c .loop-test .left)) ∙ h .2
 
+loop-holds : tie.Need-loop-holds Inv-loop μ-loop
+loop-holds c = (length (c .before .args .order .now), omega arith, refl)
+
 pub first-before-spec : {M : Type 1} → statement M
 first-before-spec =
     tie.close
-    (tie.spec Inv-loop μ-loop (λ c. (length (c .before .args .order .now), omega arith, refl)) (λ c κs. search needs) returns (λ c. search needs) (λ c κs. search needs) (λ c. search needs) (λ c. search needs) (λ c. search needs) loop-again returns-2)
+    (tie.spec Inv-loop μ-loop loop-holds (λ c κs. search needs) returns (λ c. search needs) (λ c κs. search needs) (λ c. search needs) (λ c. search needs) (λ c. search needs) loop-again returns-2)

@@ -33,7 +33,10 @@ returns-2 c =
     let l = b .before .loop in
     c .none .ensures ∙ sym (walk-end (l .inv .0) (b .before .before .before .args .order .now) (l .at) (b .loop-test .left)) ∙ l .inv .2
 
+loop-holds : tie.Need-loop-holds Inv-loop μ-loop
+loop-holds c = (length (c .before .args .order .now), omega arith, refl)
+
 pub walk-spec : {M : Type 1} → statement M
 walk-spec =
     tie.close
-    (tie.spec Inv-loop μ-loop (λ c. (length (c .before .args .order .now), omega arith, refl)) (λ c κs. search needs) (λ c. search needs) (λ c κs. search needs) returns (λ c. search needs) (λ c κs. search needs) (λ c. search needs) (λ c. search needs) (λ c. search needs) loop-again (λ c κs. search needs) returns-2)
+    (tie.spec Inv-loop μ-loop loop-holds (λ c κs. search needs) (λ c. search needs) (λ c κs. search needs) returns (λ c. search needs) (λ c κs. search needs) (λ c. search needs) (λ c. search needs) (λ c. search needs) loop-again (λ c κs. search needs) returns-2)

@@ -32,7 +32,70 @@ returns-22 c =
     let p21 : 21 ≤ tag = past 20 tag p20 (r .1) in
     c .new22 .ensures ∙ beyond-table tag p21
 
+returns : tie.Need-returns
+returns c = simp (c .new .ensures, c .before .match .keys1)
+
+returns-2 : tie.Need-returns-2
+returns-2 c = simp (c .new2 .ensures, c .before .match .keys2)
+
+returns-3 : tie.Need-returns-3
+returns-3 c = simp (c .new3 .ensures, c .before .match .keys3)
+
+returns-4 : tie.Need-returns-4
+returns-4 c = simp (c .new4 .ensures, c .before .match .keys4)
+
+returns-5 : tie.Need-returns-5
+returns-5 c = simp (c .new5 .ensures, c .before .match .keys5)
+
+returns-6 : tie.Need-returns-6
+returns-6 c = simp (c .new6 .ensures, c .before .match .keys6)
+
+returns-7 : tie.Need-returns-7
+returns-7 c = simp (c .new7 .ensures, c .before .match .keys7)
+
+returns-8 : tie.Need-returns-8
+returns-8 c = simp (c .new8 .ensures, c .before .match .keys8)
+
+returns-9 : tie.Need-returns-9
+returns-9 c = simp (c .new9 .ensures, c .before .match .keys9)
+
+returns-10 : tie.Need-returns-10
+returns-10 c = simp (c .new10 .ensures, c .before .match .keys10)
+
+returns-11 : tie.Need-returns-11
+returns-11 c = simp (c .new11 .ensures, c .before .match .keys11)
+
+returns-12 : tie.Need-returns-12
+returns-12 c = simp (c .new12 .ensures, c .before .match .keys12)
+
+returns-13 : tie.Need-returns-13
+returns-13 c = simp (c .new13 .ensures, c .before .match .keys13)
+
+returns-14 : tie.Need-returns-14
+returns-14 c = simp (c .new14 .ensures, c .before .match .keys14)
+
+returns-15 : tie.Need-returns-15
+returns-15 c = simp (c .new15 .ensures, c .before .match .keys15)
+
+returns-16 : tie.Need-returns-16
+returns-16 c = simp (c .new16 .ensures, c .before .match .keys16)
+
+returns-17 : tie.Need-returns-17
+returns-17 c = simp (c .new17 .ensures, c .before .match .keys17)
+
+returns-18 : tie.Need-returns-18
+returns-18 c = simp (c .new18 .ensures, c .before .match .keys18)
+
+returns-19 : tie.Need-returns-19
+returns-19 c = simp (c .new19 .ensures, c .before .match .keys19)
+
+returns-20 : tie.Need-returns-20
+returns-20 c = simp (c .new20 .ensures, c .before .match .keys20)
+
+returns-21 : tie.Need-returns-21
+returns-21 c = simp (c .new21 .ensures, c .before .match .keys21)
+
 pub row-of-spec : {M : Type 1} → statement M
 row-of-spec =
     tie.close
-    (tie.spec (λ c κs. tt) (λ c κs. tt) (λ c κs. tt) (λ c κs. tt) (λ c κs. tt) (λ c κs. tt) (λ c κs. tt) (λ c κs. tt) (λ c κs. tt) (λ c κs. tt) (λ c κs. tt) (λ c κs. tt) (λ c κs. tt) (λ c κs. tt) (λ c κs. tt) (λ c κs. tt) (λ c κs. tt) (λ c κs. tt) (λ c κs. tt) (λ c κs. tt) (λ c κs. tt) (λ c κs. tt) (λ c. simp (c .new .ensures, c .before .match .keys1)) (λ c. simp (c .new2 .ensures, c .before .match .keys2)) (λ c. simp (c .new3 .ensures, c .before .match .keys3)) (λ c. simp (c .new4 .ensures, c .before .match .keys4)) (λ c. simp (c .new5 .ensures, c .before .match .keys5)) (λ c. simp (c .new6 .ensures, c .before .match .keys6)) (λ c. simp (c .new7 .ensures, c .before .match .keys7)) (λ c. simp (c .new8 .ensures, c .before .match .keys8)) (λ c. simp (c .new9 .ensures, c .before .match .keys9)) (λ c. simp (c .new10 .ensures, c .before .match .keys10)) (λ c. simp (c .new11 .ensures, c .before .match .keys11)) (λ c. simp (c .new12 .ensures, c .before .match .keys12)) (λ c. simp (c .new13 .ensures, c .before .match .keys13)) (λ c. simp (c .new14 .ensures, c .before .match .keys14)) (λ c. simp (c .new15 .ensures, c .before .match .keys15)) (λ c. simp (c .new16 .ensures, c .before .match .keys16)) (λ c. simp (c .new17 .ensures, c .before .match .keys17)) (λ c. simp (c .new18 .ensures, c .before .match .keys18)) (λ c. simp (c .new19 .ensures, c .before .match .keys19)) (λ c. simp (c .new20 .ensures, c .before .match .keys20)) (λ c. simp (c .new21 .ensures, c .before .match .keys21)) returns-22)
+    (tie.spec (λ c κs. tt) (λ c κs. tt) (λ c κs. tt) (λ c κs. tt) (λ c κs. tt) (λ c κs. tt) (λ c κs. tt) (λ c κs. tt) (λ c κs. tt) (λ c κs. tt) (λ c κs. tt) (λ c κs. tt) (λ c κs. tt) (λ c κs. tt) (λ c κs. tt) (λ c κs. tt) (λ c κs. tt) (λ c κs. tt) (λ c κs. tt) (λ c κs. tt) (λ c κs. tt) (λ c κs. tt) returns returns-2 returns-3 returns-4 returns-5 returns-6 returns-7 returns-8 returns-9 returns-10 returns-11 returns-12 returns-13 returns-14 returns-15 returns-16 returns-17 returns-18 returns-19 returns-20 returns-21 returns-22)

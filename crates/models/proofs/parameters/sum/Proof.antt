@@ -10,5 +10,8 @@ needs-met = (
   λ c. sum-fits (c .args .a) (c .args .b) (c .fits .a) (c .fits .b),
 )
 
+returns : tie.Need-returns
+returns c = sum-is (c .args .a) (c .args .b) (c .fits .a) (c .fits .b)
+
 pub sum-spec : {M : Type 1} → statement M
-sum-spec = tie.close (tie.spec (needs-met .0) (needs-met .1) (needs-met .2) (λ c. sum-is (c .args .a) (c .args .b) (c .fits .a) (c .fits .b)))
+sum-spec = tie.close (tie.spec (needs-met .0) (needs-met .1) (needs-met .2) returns)

@@ -28,7 +28,10 @@ returns-3 c =
     let l = c .before .loop in let a = c .before .before .before .args in let h = l .inv .0 in let e = l .inv .1 in
     sym (same-ends (now (a .text)) (now (a .bytes)) (l .i) (omega arith) (omega arith)) ∙ l .inv .2
 
+loop-holds : tie.Need-loop-holds Inv-loop μ-loop
+loop-holds c = (omega arith, c .if1 .left, refl)
+
 pub is-same-spec : {M : Type 1} → statement M
 is-same-spec =
     tie.close
-    (tie.spec Inv-loop μ-loop returns (λ c. (omega arith, c .if1 .left, refl)) (λ c. search needs) (λ c. search needs) returns-2 (λ c. search needs) (λ c. search needs) loop-again returns-3)
+    (tie.spec Inv-loop μ-loop returns loop-holds (λ c. search needs) (λ c. search needs) returns-2 (λ c. search needs) (λ c. search needs) loop-again returns-3)

@@ -20,7 +20,10 @@ returns c =
     let l = c .before .loop in
     sym (place-end (now (c .before .before .before .args .bytes)) (l .v) (l .i) (omega (arith, l .inv .1, c .loop-test .left))) ∙ l .inv .2
 
+loop-holds : tie.Need-loop-holds Inv-loop μ-loop
+loop-holds c = (omega arith, omega arith, refl)
+
 pub place-in-spec : {M : Type 1} → statement M
 place-in-spec =
     tie.close
-    (tie.spec Inv-loop μ-loop (λ c. (omega arith, omega arith, refl)) (λ c. search needs) (λ c κs. c .before .before .loop .inv .0) (λ c. search needs) (λ c. search needs) loop-again returns)
+    (tie.spec Inv-loop μ-loop loop-holds (λ c. search needs) (λ c κs. c .before .before .loop .inv .0) (λ c. search needs) (λ c. search needs) loop-again returns)

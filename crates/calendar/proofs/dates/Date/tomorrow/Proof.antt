@@ -38,7 +38,10 @@ returns-6 c =
     let k : d .year ≤ 4294967295 = search needs in
     c .new3 .ensures ∙ next-year d (c .before .before .before .before .before .if1 .left) k (omega arith) (c .before .before .if4 .left) (c .before .if5 .left)
 
+returns : tie.Need-returns
+returns c = before-first (c .before .before .before .args .self) (c .if1 .taken)
+
 pub tomorrow-spec : {M : Type 1} → statement M
 tomorrow-spec =
     tie.close
-    (tie.spec (λ c κs. tt) (λ c κs. tt) (λ c. before-first (c .before .before .before .args .self) (c .if1 .taken)) returns-2 (λ c. search needs) (λ c κs. tt) returns-3 (λ c. search needs) (λ c κs. tt) returns-4 returns-5 (λ c. search needs) (λ c κs. tt) returns-6)
+    (tie.spec (λ c κs. tt) (λ c κs. tt) returns returns-2 (λ c. search needs) (λ c κs. tt) returns-3 (λ c. search needs) (λ c κs. tt) returns-4 returns-5 (λ c. search needs) (λ c κs. tt) returns-6)

@@ -2,5 +2,8 @@
 use Rattle.fields.proofs.values.Fields.has.Statement.{statement}
 use Rattle.fields.proofs.values.Fields.has.Tie as tie
 
+returns : tie.Need-returns
+returns c = rw (c .before .part .ensures)
+
 pub has-spec : {M : Type 1} → statement M
-has-spec = tie.close (tie.spec (λ c κs. tt) (λ c. rw (c .before .part .ensures)))
+has-spec = tie.close (tie.spec (λ c κs. tt) returns)

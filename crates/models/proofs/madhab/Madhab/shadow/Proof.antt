@@ -11,5 +11,8 @@ unfolding madhabNumberOf
 small Shafi = record { sfits = lit< tt }
 small Hanafi = record { sfits = lit< tt }
 
+returns : tie.Need-returns
+returns c = rw (c .number .ensures) (read w32 _ (small (c .before .args .self)))
+
 pub shadow-spec : {M : Type 1} → statement M
-shadow-spec = tie.close (tie.spec (λ c κs. tt) (λ c. rw (c .number .ensures) (small (c .before .args .self))) (λ c. rw (c .number .ensures) (read w32 _ (small (c .before .args .self)))))
+shadow-spec = tie.close (tie.spec (λ c κs. tt) (λ c. rw (c .number .ensures) (small (c .before .args .self))) returns)
