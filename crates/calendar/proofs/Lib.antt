@@ -8,6 +8,7 @@ pub mod Floors
 pub mod Machine
 pub mod MonthTables
 pub mod Neighbours
+pub mod Promises
 pub mod Remainders
 pub mod Successors
 pub mod YearSteps
