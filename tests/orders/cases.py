@@ -274,7 +274,7 @@ WHOLE = but({})
 def marked():
     """Document 01's own examples, the ends of each range and what lies beyond them, what stands for a missing tag, and points where the
     order of the checks tells."""
-    return broken() + dates_and_rows() + numbers() + on_the_map() + ramadan()
+    return broken() + dates_and_rows() + numbers() + on_the_map() + ramadan_sheets()
 
 
 def broken():
@@ -347,7 +347,7 @@ def on_the_map():
     return orders + [join([*given, (5, real_bytes(181.0)), (18, bytes([0, 91, 0, 0, 0]))])]
 
 
-def ramadan():
+def ramadan_sheets():
     """A Ramadan sheet: 30 rows in one byte or two, from the shifted 1 Ramadan on; every first day and its neighbours."""
     fast = lambda day, rows=b"\x1e", told=b"\x0a\1": but({2: date_bytes(*day), 3: rows, 20: told})
     orders = [fast((2026, 2, day), told=bytes([10, shift])) for day in range(16, 21) for shift in range(3)]
