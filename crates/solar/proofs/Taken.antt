@@ -17,11 +17,11 @@ use Rattle.solar.specs.PastMidnight.{hasTimeOf}
 use Rattle.solar.proofs.PastMidnightLaws.{takenOf}
 
 -- ---- the limits
-zero-value : HasValue (dec 0 0) false 0 1
+pub zero-value : HasValue (dec 0 0) false 0 1
 unfolding dec round
 zero-value = (refl, refl)
 
-day-value : HasValue (dec 24 0) false 24 1
+pub day-value : HasValue (dec 24 0) false 24 1
 unfolding dec round
 day-value = (refl, refl)
 
@@ -47,7 +47,7 @@ unfolding hasTimeOf dec round neg le lt eq
 high-limit m e h = omega (arith, ltb-true (m * up e * 1) (3 * 2 ^ 4 * down e) (both (le (neg (dec 24 0)) (fin false m e)) (ltb (m * up e * 1) (3 * 2 ^ 4 * down e)) h .1))
 
 -- ---- floors
-floor-up : (m : ℕ) (e : ℤ) → wholePart m e ≤ big → HasValue (floorOf (fin false m e)) false (wholePart m e) 1
+pub floor-up : (m : ℕ) (e : ℤ) → wholePart m e ≤ big → HasValue (floorOf (fin false m e)) false (wholePart m e) 1
 unfolding floorOf ofInt
 floor-up m e h = go (eqb (fraction m e) 0) refl
   where
