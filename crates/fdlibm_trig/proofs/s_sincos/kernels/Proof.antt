@@ -1,15 +1,11 @@
 use Rattle.prelude.proofs.Logic.{refl, sym, lt-ltb}
 use Rattle.fdlibm_trig.specs.KSin.{kernelSinOf}
 use Rattle.fdlibm_trig.specs.KCos.{kernelCosOf}
-use Rattle.fdlibm_trig.proofs.s_sincos.kernels.Statement.{statement}
-use Rattle.fdlibm_trig.proofs.s_sincos.kernels.Tie as tie
+use Rattle.fdlibm_trig.proofs.s_sincos.kernels as this
 
-cos-polynomial-requires : tie.Need-cos-polynomial-requires
-cos-polynomial-requires c κs = (rw (c .before .before .high-word .ensures) at (c .before .if1 .left), refl, c .before .before .high-word .ensures)
-
-returns : tie.Need-returns
+pub kernels-spec : {M : Type 1} → this.Statement.statement M
 unfolding kernelSinOf kernelCosOf
-returns c = simp (sym (c .before .high-word .ensures), lt-ltb _ _ (c .if1 .taken))
-
-pub kernels-spec : {M : Type 1} → statement M
-kernels-spec = tie.close (tie.spec (λ c κs. tt) returns (λ c κs. (rw (c .before .high-word .ensures) at (c .if1 .left), refl)) cos-polynomial-requires (λ c. simp (c .cos-polynomial .ensures, c .before .sin-polynomial .ensures)))
+kernels-spec = this.Tie.close (this.Tie.spec (λ c κs. tt) (λ c. simp (sym (c .before .high-word .ensures), lt-ltb _ _ (c .if1 .taken)))
+    (λ c κs. (rw (c .before .high-word .ensures) at (c .if1 .left), refl))
+    (λ c κs. (rw (c .before .before .high-word .ensures) at (c .before .if1 .left), refl, c .before .before .high-word .ensures))
+    (λ c. simp (c .cos-polynomial .ensures, c .before .sin-polynomial .ensures)))

@@ -1,11 +1,7 @@
 use Rattle.prelude.proofs.Logic.{refl}
 use lib.Ieee.{div, ofBits}
-use Rattle.float64.proofs.words.not_a_number.Statement.{statement}
-use Rattle.float64.proofs.words.not_a_number.Tie as tie
+use Rattle.float64.proofs.words.not_a_number as this
 
-returns : tie.Need-returns
+pub not-a-number-spec : {M : Type 1} → this.Statement.statement M
 unfolding div ofBits
-returns c = refl
-
-pub not-a-number-spec : {M : Type 1} → statement M
-not-a-number-spec = tie.close (tie.spec returns)
+not-a-number-spec = this.Tie.close (this.Tie.spec (λ c. refl))

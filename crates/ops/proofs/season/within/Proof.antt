@@ -1,5 +1,4 @@
-use Rattle.ops.proofs.season.within.Statement.{statement}
-use Rattle.ops.proofs.season.within.Tie as tie
+use Rattle.ops.proofs.season.within as this
 
-pub within-spec : {M : Type 1} → statement M
-within-spec = tie.close (tie.spec (λ c. simp (c .if1 .taken)) (λ c. simp (c .if1 .left)))
+pub within-spec : {M : Type 1} → this.Statement.statement M
+within-spec = this.Tie.close (this.Tie.spec (λ c. simp (c .if1 .taken)) (λ c. simp (c .if1 .left)))

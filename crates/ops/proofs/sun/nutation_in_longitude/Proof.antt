@@ -1,5 +1,4 @@
-use Rattle.ops.proofs.sun.nutation_in_longitude.Statement.{statement}
-use Rattle.ops.proofs.sun.nutation_in_longitude.Tie as tie
+use Rattle.ops.proofs.sun.nutation_in_longitude as this
 
-pub nutation-in-longitude-spec : {M : Type 1} → statement M
-nutation-in-longitude-spec = tie.close (tie.spec (λ c κs. tt) (λ c. simp (c .nutations .ensures)))
+pub nutation-in-longitude-spec : {M : Type 1} → this.Statement.statement M
+nutation-in-longitude-spec = this.Tie.close (this.Tie.spec (λ c κs. tt) (λ c. simp (c .nutations .ensures)))

@@ -1,5 +1,4 @@
-use Rattle.ops.proofs.sun.nutation_in_obliquity.Statement.{statement}
-use Rattle.ops.proofs.sun.nutation_in_obliquity.Tie as tie
+use Rattle.ops.proofs.sun.nutation_in_obliquity as this
 
-pub nutation-in-obliquity-spec : {M : Type 1} → statement M
-nutation-in-obliquity-spec = tie.close (tie.spec (λ c κs. tt) (λ c. simp (c .nutations .ensures)))
+pub nutation-in-obliquity-spec : {M : Type 1} → this.Statement.statement M
+nutation-in-obliquity-spec = this.Tie.close (this.Tie.spec (λ c κs. tt) (λ c. simp (c .nutations .ensures)))

@@ -1,16 +1,12 @@
 use Rattle.prelude.proofs.Logic.{_≡_, _∙_, needs, w64}
 use Rattle.integers.proofs.Ranges.{readBack, read}
 use Rattle.stride.specs.Times.{roundedOf}
-use Rattle.stride.proofs.times.rounded_minute.Statement.{statement}
-use Rattle.stride.proofs.times.rounded_minute.Tie as tie
+use Rattle.stride.proofs.times.rounded_minute as this
 
-returns : tie.Need-returns
+pub rounded-minute-spec : {M : Type 1} → this.Statement.statement M
 unfolding roundedOf
-returns c =
-    let s = c .before .before .before in
+rounded-minute-spec = this.Tie.close (this.Tie.spec (λ c κs. tt) (λ c κs. tt) (λ c κs. tt)
+    (λ c. let s = c .before .before .before in
     let p : readBack w64 (c .plus .result) ≡ c .plus .result = search needs in
     let q : readBack w64 (c .before .shift .result) ≡ c .before .shift .result = search needs in
-    p ∙ c .plus .ensures ∙ rw (q, c .before .shift .ensures, c .before .before .second .ensures, read w64 (s .args .t) (s .fits .t))
-
-pub rounded-minute-spec : {M : Type 1} → statement M
-rounded-minute-spec = tie.close (tie.spec (λ c κs. tt) (λ c κs. tt) (λ c κs. tt) returns)
+    p ∙ c .plus .ensures ∙ rw (q, c .before .shift .ensures, c .before .before .second .ensures, read w64 (s .args .t) (s .fits .t))))

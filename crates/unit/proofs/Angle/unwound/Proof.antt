@@ -1,5 +1,4 @@
-use Rattle.unit.proofs.Angle.unwound.Statement.{statement}
-use Rattle.unit.proofs.Angle.unwound.Tie as tie
+use Rattle.unit.proofs.Angle.unwound as this
 
-pub unwound-spec : {M : Type 1} → statement M
-unwound-spec = tie.close (tie.spec (λ c κs. tt) (λ c. cc))
+pub unwound-spec : {M : Type 1} → this.Statement.statement M
+unwound-spec = this.Tie.close (this.Tie.spec (λ c κs. tt) (λ c. cc))

@@ -1,6 +1,5 @@
 -- `fields::values::Fields::has` meets its contract.
-use Rattle.fields.proofs.values.Fields.has.Statement.{statement}
-use Rattle.fields.proofs.values.Fields.has.Tie as tie
+use Rattle.fields.proofs.values.Fields.has as this
 
-pub has-spec : {M : Type 1} → statement M
-has-spec = tie.close (tie.spec (λ c κs. tt) (λ c. rw (c .before .part .ensures)))
+pub has-spec : {M : Type 1} → this.Statement.statement M
+has-spec = this.Tie.close (this.Tie.spec (λ c κs. tt) (λ c. rw (c .before .part .ensures)))
