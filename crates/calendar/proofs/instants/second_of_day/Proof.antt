@@ -11,12 +11,17 @@ sub-result c =
     let b = rw r at (c .below .ensures) in
     omega (arith, z, b)
 
+returns : this.Tie.Need-returns
+returns c =
+    let t = c .before .before in
+    let r = read w64 (t .args .seconds) (t .fits .seconds) in
+    rw (rw r at (c .below .ensures)) (remainders.before-zero (t .args .seconds) (rw r at (c .before .if1 .taken)) .1)
+
+returns-2 : this.Tie.Need-returns-2
+returns-2 c =
+    let t = c .before .before in
+    let r = read w64 (t .args .seconds) (t .fits .seconds) in
+    rw (rw r at (c .above .ensures)) (remainders.from-zero (t .args .seconds) (rw r at (c .before .if1 .left)))
+
 pub second-of-day-spec : {M : Type 1} → this.Statement.statement M
-second-of-day-spec = this.Tie.close (this.Tie.spec (λ c κs. search needs) sub-result (λ c. search needs)
-    (λ c. let t = c .before .before in
-    let r = read w64 (t .args .seconds) (t .fits .seconds) in
-    rw (rw r at (c .below .ensures)) (remainders.before-zero (t .args .seconds) (rw r at (c .before .if1 .taken)) .1))
-    (λ c κs. search needs)
-    (λ c. let t = c .before .before in
-    let r = read w64 (t .args .seconds) (t .fits .seconds) in
-    rw (rw r at (c .above .ensures)) (remainders.from-zero (t .args .seconds) (rw r at (c .before .if1 .left)))))
+second-of-day-spec = this.Tie.close (this.Tie.spec (λ c κs. search needs) sub-result (λ c. search needs) returns (λ c κs. search needs) returns-2)

@@ -4,5 +4,7 @@ use Rattle.calendar.proofs.years.days_in_year as this
 
 pub days-in-year-spec : {M : Type 1} → this.Statement.statement M
 unfolding daysInYearOf
-days-in-year-spec = this.Tie.close (this.Tie.spec (λ c κs. tt) (λ c. simp (sym (c .before .is-leap-year .ensures), c .if1 .taken))
-    (λ c. simp (sym (c .before .is-leap-year .ensures), c .if1 .left)))
+days-in-year-spec =
+    let returns : this.Tie.Need-returns = λ c. simp (sym (c .before .is-leap-year .ensures), c .if1 .taken) in
+    let returns-2 : this.Tie.Need-returns-2 = λ c. simp (sym (c .before .is-leap-year .ensures), c .if1 .left) in
+    this.Tie.close (this.Tie.spec (λ c κs. tt) returns returns-2)

@@ -20,11 +20,17 @@ loop-again c =
       rw s (shift-room (l .x) (c .byte .result) (l .i) (l .inv .2) (c .byte .ensures .1)),
     )
 
-pub bits-spec : {M : Type 1} → this.Statement.statement M
-unfolding bytesNumberOf bitsOf
-bits-spec = this.Tie.close (this.Tie.spec Inv-loop μ-loop (λ c. search needs) (λ c κs. search needs) (λ c. search needs) (λ c. search needs)
-    (λ c. search needs) loop-again
-    (λ c. let l = c .before .loop in
+returns : this.Tie.Need-returns Inv-loop μ-loop
+unfolding bitsOf
+returns c =
+    let l = c .before .loop in
     let v = now (c .before .before .before .args .bytes) in
     let e : l .i ≡ 8 = omega arith in
-    l .inv .1 ∙ ap (λ (n : ℕ). bytesNumberOf n v) e))
+    l .inv .1 ∙ ap (λ (n : ℕ). bytesNumberOf n v) e
+
+pub bits-spec : {M : Type 1} → this.Statement.statement M
+unfolding bytesNumberOf
+bits-spec =
+    let loop-holds : this.Tie.Need-loop-holds Inv-loop μ-loop = λ c. search needs in
+    this.Tie.close (this.Tie.spec Inv-loop μ-loop loop-holds (λ c κs. search needs) (λ c. search needs) (λ c. search needs) (λ c. search needs)
+    loop-again returns)

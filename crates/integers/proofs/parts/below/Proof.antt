@@ -3,6 +3,18 @@ use Rattle.integers.proofs.Ranges.{read}
 use Rattle.integers.proofs.Unsigned as unsigned
 use Rattle.integers.proofs.parts.below as this
 
+returns : this.Tie.Need-returns
+returns c =
+    let z = c .before .args .z in
+    let f = c .before .fits .z in
+    unsigned.below-is z f (c .if1 .taken)
+
+returns-2 : this.Tie.Need-returns-2
+returns-2 c =
+    let z = c .before .args .z in
+    let f = c .before .fits .z in
+    unsigned.not-below z _ (read w64 z f) (c .if1 .left)
+
 pub below-spec : {M : Type 1} → this.Statement.statement M
 below-spec = this.Tie.close (this.Tie.spec
     (λ c. let z = c .before .args .z in
@@ -17,9 +29,4 @@ below-spec = this.Tie.close (this.Tie.spec
     (λ c. let z = c .before .args .z in
     let f = c .before .fits .z in
     unsigned.below-fits z f (c .if1 .taken))
-    (λ c. let z = c .before .args .z in
-    let f = c .before .fits .z in
-    unsigned.below-is z f (c .if1 .taken))
-    (λ c. let z = c .before .args .z in
-    let f = c .before .fits .z in
-    unsigned.not-below z _ (read w64 z f) (c .if1 .left)))
+    returns returns-2)

@@ -6,7 +6,8 @@ use Rattle.map_form.proofs.writing.in_range as this
 
 pub in-range-spec : {M : Type 1} → this.Statement.statement M
 unfolding inFloat
-in-range-spec = this.Tie.close (this.Tie.spec (λ c κs. search needs)
-    (λ c. le→leb (c .before .before .args .most) (2 ^ 53) (omega (arith, c .before .before .pre)))
-    (λ c. let s = c .before .before in
-    rw (c .before .abs .ensures) (at-most (s .args .x) _ (s .args .most) (whole-value (s .args .most) (s .pre)))))
+in-range-spec =
+    let returns : this.Tie.Need-returns = λ c. let s = c .before .before in
+    rw (c .before .abs .ensures) (at-most (s .args .x) _ (s .args .most) (whole-value (s .args .most) (s .pre))) in
+    this.Tie.close (this.Tie.spec (λ c κs. search needs)
+    (λ c. le→leb (c .before .before .args .most) (2 ^ 53) (omega (arith, c .before .before .pre))) returns)

@@ -5,9 +5,12 @@ use Rattle.calendar.specs.Days.{weekdayOf}
 use Rattle.models.specs.Names.{isFridayOf}
 use Rattle.models.proofs.prayer.is_friday as this
 
-pub is-friday-spec : {M : Type 1} → this.Statement.statement M
+returns : this.Tie.Need-returns
 unfolding isFridayOf
-is-friday-spec = this.Tie.close (this.Tie.spec (λ c κs. tt) (λ c κs. tt)
-    (λ c. let t = c .before .before in let k : readBack w64 (c .before .day-of .result) ≡ c .before .day-of .result = search needs in
+returns c =
+    let t = c .before .before in let k : readBack w64 (c .before .day-of .result) ≡ c .before .day-of .result = search needs in
     let s = ap (λ (z : ℤ). floorQuot z 86400) (read w64 (t .args .seconds) (t .fits .seconds)) in
-    ap (λ (n : ℕ). eqb n 5) (c .weekday .ensures ∙ ap weekdayOf (k ∙ c .before .day-of .ensures ∙ s))))
+    ap (λ (n : ℕ). eqb n 5) (c .weekday .ensures ∙ ap weekdayOf (k ∙ c .before .day-of .ensures ∙ s))
+
+pub is-friday-spec : {M : Type 1} → this.Statement.statement M
+is-friday-spec = this.Tie.close (this.Tie.spec (λ c κs. tt) (λ c κs. tt) returns)

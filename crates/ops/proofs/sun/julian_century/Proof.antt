@@ -6,4 +6,6 @@ use Rattle.ops.proofs.sun.julian_century as this
 
 pub julian-century-spec : {M : Type 1} → this.Statement.statement M
 unfolding julianCenturyOf dec round ofBits
-julian-century-spec = this.Tie.close (this.Tie.spec (λ c. refl))
+julian-century-spec =
+    let returns : this.Tie.Need-returns = λ c. refl in
+    this.Tie.close (this.Tie.spec returns)

@@ -7,6 +7,12 @@ use Rattle.sentences.proofs.Promises.{words-short, sentence-unknown, se
 use Rattle.sentences.proofs.Making.{unknown-by-words, known-by-words, empty, sentence-made, as-long}
 use Rattle.sentences.proofs.line.put_sentence as this
 
+returns : this.Tie.Need-returns
+returns c =
+    let a = c .before .before .before .args in let w = c .before .put-words .ensures in let z = sym (w .0) ∙ c .if1 .taken in
+    let e = sentence-unknown (a .number) (a .place) (unknown-by-words (a .number) (a .place) z) in
+    (sym (ap length e), w .1 ∙ ap (λ (t : List ℕ). frontOf t (now (a .line))) (empty (wordsOf (a .number) (a .place)) z ∙ sym e))
+
 returns-2 : this.Tie.Need-returns-2
 returns-2 c =
     let a = c .before .before .before .before .before .before .before .before .args in let w = c .before .before .before .before .before .before .put-words in let b = c .before .before .put in let d = c .put-decimal in
@@ -21,11 +27,7 @@ returns-2 c =
     )
 
 pub put-sentence-spec : {M : Type 1} → this.Statement.statement M
-put-sentence-spec = this.Tie.close (this.Tie.spec (λ c κs. search needs)
-    (λ c. let a = c .before .before .before .args in let w = c .before .put-words .ensures in let z = sym (w .0) ∙ c .if1 .taken in
-    let e = sentence-unknown (a .number) (a .place) (unknown-by-words (a .number) (a .place) z) in
-    (sym (ap length e), w .1 ∙ ap (λ (t : List ℕ). frontOf t (now (a .line))) (empty (wordsOf (a .number) (a .place)) z ∙ sym e)))
-    (λ c. search needs) (λ c κs. search needs)
+put-sentence-spec = this.Tie.close (this.Tie.spec (λ c κs. search needs) returns (λ c. search needs) (λ c κs. search needs)
     (λ c. let a = c .before .before .before .before .before .before .args in let s = words-short (a .number) (a .place) in
     record { fits = omega (arith, c .before .before .before .before .put-words .ensures .0) })
     (λ c. let a = c .before .before .before .before .before .before .before .args in let s = words-short (a .number) (a .place) in

@@ -3,6 +3,12 @@ use Rattle.sentences.specs.Sentences.{same}
 use Rattle.sentences.proofs.Making.{known-by-sentence, unknown-by-sentence, line-of, reads-no-place, reads-unknown, reads-other, reads-it}
 use Rattle.sentences.proofs.sentence.read_sentence as this
 
+returns-2 : this.Tie.Need-returns-2
+returns-2 c =
+    let n = c .before .before .before .before .before .before .number-in in let p = c .before .before .before .before .before .place-in in
+    let k = unknown-by-sentence (n .result) (p .result) (sym (c .before .before .put-sentence .ensures .0) ∙ c .before .if2 .taken) in
+    c .no-sentence2 .ensures ∙ reads-unknown (now (c .before .before .before .before .before .before .before .before .args .bytes)) (n .result) (p .result) (n .ensures) (p .ensures) (c .before .before .before .before .if1 .left) k
+
 returns-3 : this.Tie.Need-returns-3
 returns-3 c =
     let n = c .before .before .before .before .before .before .before .before .before .number-in in let p = c .before .before .before .before .before .before .before .before .place-in in let bytes = now (c .before .before .before .before .before .before .before .before .before .before .before .args .bytes) in let w = c .before .before .is-same in
@@ -20,13 +26,11 @@ returns-4 c =
     reads-it bytes (n .result) (p .result) (n .ensures) (p .ensures) (c .before .before .before .before .before .before .if1 .left) k s
 
 pub read-sentence-spec : {M : Type 1} → this.Statement.statement M
-read-sentence-spec = this.Tie.close (this.Tie.spec (λ c κs. search needs) (λ c κs. search needs) (λ c κs. search needs)
-    (λ c. let n = c .before .before .before .number-in in let p = c .before .before .place-in in
-    c .no-sentence .ensures ∙ reads-no-place (now (c .before .before .before .before .before .args .bytes)) (n .result) (p .result) (n .ensures) (p .ensures) (c .before .if1 .taken))
-    (λ c. search needs) (λ c κs. search needs) (λ c κs. search needs)
-    (λ c. let n = c .before .before .before .before .before .before .number-in in let p = c .before .before .before .before .before .place-in in
-    let k = unknown-by-sentence (n .result) (p .result) (sym (c .before .before .put-sentence .ensures .0) ∙ c .before .if2 .taken) in
-    c .no-sentence2 .ensures ∙ reads-unknown (now (c .before .before .before .before .before .before .before .before .args .bytes)) (n .result) (p .result) (n .ensures) (p .ensures) (c .before .before .before .before .if1 .left) k)
+read-sentence-spec =
+    let returns : this.Tie.Need-returns = λ c. let n = c .before .before .before .number-in in let p = c .before .before .place-in in
+    c .no-sentence .ensures ∙ reads-no-place (now (c .before .before .before .before .before .args .bytes)) (n .result) (p .result) (n .ensures) (p .ensures) (c .before .if1 .taken) in
+    this.Tie.close (this.Tie.spec (λ c κs. search needs) (λ c κs. search needs) (λ c κs. search needs) returns (λ c. search needs)
+    (λ c κs. search needs) (λ c κs. search needs) returns-2
     (λ c. let l = line-of _ (c .before .put-sentence .last .0) (c .before .before .before .before .before .number-in .result) (c .before .before .before .before .place-in .result) (c .before .put-sentence .result) (c .before .put-sentence .ensures .0) (c .before .put-sentence .ensures .1) refl (c .before .before .before .if1 .left) in
     omega (arith, l .short, l .long))
     (λ c. let l = line-of _ (c .before .before .put-sentence .last .0) (c .before .before .before .before .before .before .number-in .result) (c .before .before .before .before .before .place-in .result) (c .before .before .put-sentence .result) (c .before .before .put-sentence .ensures .0) (c .before .before .put-sentence .ensures .1) refl (c .before .before .before .before .if1 .left) in

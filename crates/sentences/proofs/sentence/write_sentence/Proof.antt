@@ -3,6 +3,13 @@ use Rattle.sentences.specs.Guess.{none}
 use Rattle.sentences.proofs.Making.{known-by-sentence, unknown-by-sentence, line-of, writes, writes-unknown, writes-no-room}
 use Rattle.sentences.proofs.sentence.write_sentence as this
 
+returns : this.Tie.Need-returns
+returns c =
+    let a = c .before .before .before .before .before .args in
+    let k = unknown-by-sentence (a .number) (a .place) (sym (c .before .before .put-sentence .ensures .0) ∙ c .before .if1 .taken) in
+    let w = writes-unknown (a .number) (a .place) (now (a .buffer)) k in
+    (c .refuse .ensures ∙ w .0, w .1)
+
 returns-2 : this.Tie.Need-returns-2
 returns-2 c =
     let a = c .before .before .before .before .before .before .args in
@@ -45,9 +52,5 @@ returns-3 c =
     (writes (a .number) (a .place) (s .result) (now (a .buffer)) k (l .ends) (c .before .before .before .before .before .if2 .left), rw (l .text) at (c .before .before .put .ensures))
 
 pub write-sentence-spec : {M : Type 1} → this.Statement.statement M
-write-sentence-spec = this.Tie.close (this.Tie.spec (λ c κs. search needs) (λ c κs. search needs)
-    (λ c. let a = c .before .before .before .before .before .args in
-    let k = unknown-by-sentence (a .number) (a .place) (sym (c .before .before .put-sentence .ensures .0) ∙ c .before .if1 .taken) in
-    let w = writes-unknown (a .number) (a .place) (now (a .buffer)) k in
-    (c .refuse .ensures ∙ w .0, w .1))
-    (λ c κs. search needs) returns-2 array-share-prefix-line slice-aggregate-put (λ c κs. search needs) cast-t14 (λ c. search needs) returns-3)
+write-sentence-spec = this.Tie.close (this.Tie.spec (λ c κs. search needs) (λ c κs. search needs) returns (λ c κs. search needs) returns-2
+    array-share-prefix-line slice-aggregate-put (λ c κs. search needs) cast-t14 (λ c. search needs) returns-3)

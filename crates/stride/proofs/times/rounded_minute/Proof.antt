@@ -3,10 +3,13 @@ use Rattle.integers.proofs.Ranges.{readBack, read}
 use Rattle.stride.specs.Times.{roundedOf}
 use Rattle.stride.proofs.times.rounded_minute as this
 
-pub rounded-minute-spec : {M : Type 1} → this.Statement.statement M
+returns : this.Tie.Need-returns
 unfolding roundedOf
-rounded-minute-spec = this.Tie.close (this.Tie.spec (λ c κs. tt) (λ c κs. tt) (λ c κs. tt)
-    (λ c. let s = c .before .before .before in
+returns c =
+    let s = c .before .before .before in
     let p : readBack w64 (c .plus .result) ≡ c .plus .result = search needs in
     let q : readBack w64 (c .before .shift .result) ≡ c .before .shift .result = search needs in
-    p ∙ c .plus .ensures ∙ rw (q, c .before .shift .ensures, c .before .before .second .ensures, read w64 (s .args .t) (s .fits .t))))
+    p ∙ c .plus .ensures ∙ rw (q, c .before .shift .ensures, c .before .before .second .ensures, read w64 (s .args .t) (s .fits .t))
+
+pub rounded-minute-spec : {M : Type 1} → this.Statement.statement M
+rounded-minute-spec = this.Tie.close (this.Tie.spec (λ c κs. tt) (λ c κs. tt) (λ c κs. tt) returns)

@@ -11,5 +11,6 @@ small Shafi = record { sfits = lit< tt }
 small Hanafi = record { sfits = lit< tt }
 
 pub shadow-spec : {M : Type 1} → this.Statement.statement M
-shadow-spec = this.Tie.close (this.Tie.spec (λ c κs. tt) (λ c. rw (c .number .ensures) (small (c .before .args .self)))
-    (λ c. rw (c .number .ensures) (read w32 _ (small (c .before .args .self)))))
+shadow-spec =
+    let returns : this.Tie.Need-returns = λ c. rw (c .number .ensures) (read w32 _ (small (c .before .args .self))) in
+    this.Tie.close (this.Tie.spec (λ c κs. tt) (λ c. rw (c .number .ensures) (small (c .before .args .self))) returns)

@@ -4,4 +4,6 @@ use Rattle.models.proofs.parameters.Parameters.new as this
 
 pub new-spec : {M : Type 1} → this.Statement.statement M
 unfolding parametersNewOf ofBits
-new-spec = this.Tie.close (this.Tie.spec (λ c. cc))
+new-spec =
+    let returns : this.Tie.Need-returns = λ c. cc in
+    this.Tie.close (this.Tie.spec returns)

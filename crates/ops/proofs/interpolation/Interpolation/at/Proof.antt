@@ -6,4 +6,6 @@ use Rattle.ops.proofs.interpolation.Interpolation.at as this
 
 pub at-spec : {M : Type 1} → this.Statement.statement M
 unfolding interpolatedOf dec round ofBits
-at-spec = this.Tie.close (this.Tie.spec (λ c. refl))
+at-spec =
+    let returns : this.Tie.Need-returns = λ c. refl in
+    this.Tie.close (this.Tie.spec returns)
