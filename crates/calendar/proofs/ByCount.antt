@@ -1,7 +1,6 @@
 -- The date of a day by its number, within the years that a u32 holds. Assumes nothing.
-use Rattle.prelude.proofs.Logic.{_≡_, refl, ap, cond, ℕ, _+_, _-_, _≤_, _<_, arith, leb, ℤ, pos, _+ℤ_, leb-true, leb-false, le-leb, lt-leb}
-use Rattle.prelude.proofs.Cases.{cases}
-use Rattle.integers.specs.Parts.{P}
+use Rattle.prelude.proofs.Logic.{_≡_, refl, ap, cond, ℕ, _+_, _-_, _≤_, _<_, arith, leb, ℤ, pos, _+ℤ_, leb-true, leb-false, le-leb, lt-leb, cases}
+use Rattle.integers.proofs.Integers.{P}
 use Rattle.calendar.specs.Gregorian.{dateOf, leapOf}
 use Rattle.calendar.specs.Days.{daysInYearOf, daysBeforeYearOf, ofOrdinalOf, yearOf, dateAtOf, dateOfDayOf}
 use Rattle.calendar.specs.Answers.{heldOf, sinceFirstOf, ofDayOf}

@@ -1,12 +1,7 @@
 -- The number of a day, an i64, beside a count of days from a calendar's first one on: no step of the code loses anything, in either calendar.
 -- Assumes nothing.
-use Rattle.prelude.proofs.Logic.{_≡_, refl, sym, ap, _∙_, true, false, cond, ℕ, suc, _+_, _^_, _≤_, _<_, le-refl, arith, T, leb, ℤ, pos, negsuc, natAbs, _+ℤ_, _-ℤ_, ltZ, nonNeg, leb-true, le-leb, lt-leb, w64, SFits, Fits, toZ}
-use Rattle.prelude.proofs.Cases.{cases}
-use Rattle.integers.specs.Parts.{P, N}
-use Rattle.integers.proofs.PartsLaws.{natural, not-negative, not-positive}
-use Rattle.integers.proofs.Sums.{sum, difference}
-use Rattle.integers.proofs.OrderLaws.{lt-yes, lt-no}
-use Rattle.integers.proofs.Ranges.{range, fits, readBack, read}
+use Rattle.prelude.proofs.Logic.{_≡_, refl, sym, ap, _∙_, true, false, cond, ℕ, suc, _+_, _^_, _≤_, _<_, le-refl, arith, T, leb, ℤ, pos, negsuc, natAbs, _+ℤ_, _-ℤ_, ltZ, nonNeg, leb-true, le-leb, lt-leb, w64, SFits, Fits, toZ, cases}
+use Rattle.integers.proofs.Integers.{P, N, natural, not-negative, not-positive, sum, difference, lt-yes, lt-no, range, fits, readBack, read}
 
 -- n, or the last where n is beyond it
 pub capped : (n last : ℕ) → cond (leb n last) n last ≤ last
@@ -38,8 +33,7 @@ module _ (k last : ℕ) (room : k + last < 2 ^ 62) (z : ℤ) (f : SFits w64 z) w
 
   pub first-above : ltZ (pos last) (readBack w64 z) ≡ true → last + suc k ≡ cond (leb since (last + suc k)) since (last + suc k)
   first-above t =
-      let l = lt-yes (pos last) z (ap (ltZ (pos last)) (sym (read w64 z f)) ∙ t) in let s = sum z (pos (suc k)) in
-      rw (lt-leb since (last + suc k) (omega arith))
+      rw (lt-leb since (last + suc k) (omega (arith, lt-yes (pos last) z (ap (ltZ (pos last)) (sym (read w64 z f)) ∙ t), sum z (pos (suc k)))))
 
   module _ (a : ltZ (readBack w64 z) (negsuc k) ≡ false) (b : ltZ (pos last) (readBack w64 z) ≡ false) where
     low : N z ≤ P z + suc k
@@ -58,9 +52,7 @@ module _ (k last : ℕ) (room : k + last < 2 ^ 62) (z : ℤ) (f : SFits w64 z) w
     shift-fits = rw (read w64 z f) sum-fits
 
     shifted : readBack w64 (readBack w64 z +ℤ pos (suc k)) ≡ pos since
-    shifted =
-        let s = sum z (pos (suc k)) in let l = low in
-        rw (read w64 z f) (read w64 (z +ℤ pos (suc k)) sum-fits ∙ natural (z +ℤ pos (suc k)) (omega arith))
+    shifted = rw (read w64 z f) (read w64 (z +ℤ pos (suc k)) sum-fits ∙ natural (z +ℤ pos (suc k)) (omega (arith, sum z (pos (suc k)), low)))
 
     pub shift-cast : T (nonNeg (readBack w64 (readBack w64 z +ℤ pos (suc k)))) × Fits w64 (natAbs (readBack w64 (readBack w64 z +ℤ pos (suc k))))
     shift-cast = let w = within in rw shifted (tt, record { fits = omega arith })

@@ -1,6 +1,5 @@
 -- Dates that exist: their place in the year and in the count of days, and the way back from there. Assumes nothing.
-use Rattle.prelude.proofs.Logic.{_≡_, refl, sym, ap, _∙_, subst, true, and-eq-true-iff, ℕ, _+_, _-_, _≤_, _<_, arith, leb, lit≤, leb-true, le-leb}
-use Rattle.prelude.proofs.Cases.{cases}
+use Rattle.prelude.proofs.Logic.{_≡_, refl, sym, ap, _∙_, subst, true, and-eq-true-iff, ℕ, _+_, _-_, _≤_, _<_, arith, leb, lit≤, leb-true, le-leb, cases}
 use Rattle.calendar.specs.Gregorian.{dateOf, leapOf, daysInMonthOf, existsOf}
 use Rattle.calendar.specs.Days.{daysBeforeOf, daysInYearOf, ordinalOf, ofOrdinalOf, monthOf, daysBeforeYearOf, dateAtOf, yearOf}
 use Rattle.calendar.specs.declared.dates.Date.{Date}

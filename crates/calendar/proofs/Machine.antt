@@ -1,10 +1,6 @@
 -- Day numbers as i64: no step of the code loses anything. Assumes nothing.
 use Rattle.prelude.proofs.Logic.{_≡_, ap, _∙_, ℕ, _+_, _%_, _^_, _≤_, _<_, arith, T, lit<, ℤ, pos, natAbs, _+ℤ_, _-ℤ_, quotZ, remZ, nonNeg, w64, w32, SFits, Fits, toZ}
-use Rattle.integers.specs.Parts.{P, N}
-use Rattle.integers.proofs.PartsLaws.{natural}
-use Rattle.integers.proofs.Sums.{sum, difference}
-use Rattle.integers.proofs.QuotientLaws.{divided, floored}
-use Rattle.integers.proofs.Ranges.{range, fits, readBack, read}
+use Rattle.integers.proofs.Integers.{P, N, natural, sum, difference, divided, floored, range, fits, readBack, read}
 use Rattle.calendar.specs.Days.{daysBeforeYearOf, ordinalOf, dayNumberOf, weekdayOf}
 use Rattle.calendar.specs.declared.dates.Date.{Date}
 use Rattle.calendar.proofs.Counting.{less-fits, number-read}
@@ -80,7 +76,4 @@ module _ (z : ℤ) (f : SFits w64 z) where
 
   pub week-day : natAbs (readBack w64 (remZ (readBack w64 (readBack w64 (remZ (readBack w64 z) (pos 7)) +ℤ pos 11)) (pos 7))) ≡ weekdayOf z
   unfolding weekdayOf k
-  week-day =
-      let d = divided z 7 (lit< tt) in let g = floored z 7 (lit< tt) in let s = sum (remZ z (pos 7)) (pos 11) in
-      let e = ap N eleven in
-      rw day (omega arith)
+  week-day = rw day (omega (arith, divided z 7 (lit< tt), floored z 7 (lit< tt), sum (remZ z (pos 7)) (pos 11), ap N eleven))

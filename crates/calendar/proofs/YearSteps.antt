@@ -1,6 +1,5 @@
 -- Years follow each other without a gap in the count of days, and the quotient finds the year of each day. Assumes nothing.
-use Rattle.prelude.proofs.Logic.{_≡_, refl, sym, subst, Bool, true, false, cond, not, _&&_, _||_, ℕ, zero, suc, _+_, _-_, _*_, _/_, _%_, _≤_, _<_, zero-add, le-refl, lt-of-not-le, add-one, arith, T, leb, eqb-true, eqb-false, leb-true, leb-false}
-use Rattle.prelude.proofs.Cases.{cases}
+use Rattle.prelude.proofs.Logic.{_≡_, refl, sym, subst, Bool, true, false, cond, not, _&&_, _||_, ℕ, zero, suc, _+_, _-_, _*_, _/_, _%_, _≤_, _<_, zero-add, le-refl, lt-of-not-le, add-one, arith, T, leb, eqb-true, eqb-false, leb-true, leb-false, cases}
 use Rattle.calendar.specs.Gregorian.{divides, leapOf}
 use Rattle.calendar.specs.Days.{daysInYearOf, daysBeforeYearOf, lastBy, yearOf}
 
@@ -114,9 +113,7 @@ year-unique n y z p q = let l = year-before n y (z + 1) (p .from) (q .before) in
 -- ---- the quotient is the year or the one after it
 module _ (n guess : ℕ) (is : guess ≡ (n + 1) * 400 / 146097) where
   pub guess-right : daysBeforeYearOf guess ≤ n → guess ≡ yearOf n
-  guess-right h =
-      let s = spread (guess + 1) in
-      year-unique n guess (yearOf n) (record { from = h; before = omega (arith, s .0) }) (year-found n)
+  guess-right h = year-unique n guess (yearOf n) (record { from = h; before = omega (arith, spread (guess + 1) .0) }) (year-found n)
 
   pub guess-over : n < daysBeforeYearOf guess → guess - 1 ≡ yearOf n
   guess-over h =

@@ -1,7 +1,6 @@
 -- What one walk over the fields of an order collects is what the definitions find tag by tag, and what it has collected says which tags stand
 -- before the field that it has come to. Assumes nothing.
-use Rattle.prelude.proofs.Logic.{_≡_, refl, sym, ap, _∙_, Bool, true, false, lt-of-not-le, List, ℕ, zero, suc, _≤_, _<_, _+_, _-_, arith, ltb, eqb, length, take, drop, getD, set, replicate, getD-replicate, length-set, List·getD-eq-default, take-append-drop, ext-getD, getD-set-same, getD-set-other, take-append-seam, lt-ltb, le-ltb, eq-eqb, ne-eqb, ltb-true, ltb-false, eqb-true, eqb-false}
-use Rattle.prelude.proofs.Cases.{cases, either}
+use Rattle.prelude.proofs.Logic.{_≡_, refl, sym, ap, _∙_, Bool, true, false, lt-of-not-le, List, ℕ, zero, suc, _≤_, _<_, _+_, _-_, arith, ltb, eqb, length, take, drop, getD, set, replicate, getD-replicate, length-set, List·getD-eq-default, take-append-drop, ext-getD, getD-set-same, getD-set-other, take-append-seam, lt-ltb, le-ltb, eq-eqb, ne-eqb, ltb-true, ltb-false, eqb-true, eqb-false, cases, either}
 use Rattle.refusals.specs.Refusals.{refusal, noRefusal}
 use Rattle.refusals.specs.declared.Refusal.{Refusal}
 use Rattle.fields.specs.declared.values.Checked.{Checked}

@@ -1,7 +1,6 @@
 -- What a reader may rely on once the fields of an order are checked: each field is whole, and a tag's value has a length that the table
 -- allows. Assumes nothing.
-use Rattle.prelude.proofs.Logic.{_≡_, refl, sym, ap, _∙_, Bool, true, false, cond, not, _&&_, and-eq-true-iff, List, [], _∷_, ℕ, zero, suc, _≤_, _<_, _+_, _-_, arith, ltb, leb, eqb, lit≤, length, getD, List·getD-eq-default, take, drop, length-take, length-drop, drop-of-length-le, take-nil, lt-ltb, ltb-true, ltb-false, leb-true, eqb-true, eqb-false, not-false}
-use Rattle.prelude.proofs.Cases.{cases, either}
+use Rattle.prelude.proofs.Logic.{_≡_, refl, sym, ap, _∙_, Bool, true, false, cond, not, _&&_, and-eq-true-iff, List, [], _∷_, ℕ, zero, suc, _≤_, _<_, _+_, _-_, arith, ltb, leb, eqb, lit≤, length, getD, List·getD-eq-default, take, drop, length-take, length-drop, drop-of-length-le, take-nil, lt-ltb, ltb-true, ltb-false, leb-true, eqb-true, eqb-false, not-false, cases, either}
 use Rattle.refusals.specs.Refusals.{refusal, noRefusal}
 use Rattle.refusals.specs.declared.Refusal.{Refusal}
 use Rattle.fields.specs.declared.tags.Row.{Row}
@@ -107,9 +106,7 @@ has-good s tag e h =
 
 -- the value of a whole field has the length that the field says
 pub whole-length : (s : List ℕ) (at : ℕ) → nextFieldAt s at ≤ length s → length (take (lengthAt s at) (drop (at + 3) s)) ≡ lengthAt s at
-whole-length s at h =
-    let d = length-drop (at + 3) s in
-    length-take (lengthAt s at) (drop (at + 3) s) ∙ omega arith
+whole-length s at h = length-take (lengthAt s at) (drop (at + 3) s) ∙ omega (arith, length-drop (at + 3) s)
 
 pub value-fits : (s : List ℕ) (tag : ℕ) → checkOf s .number ≡ 0 → hasOf s tag ≡ true → lengthFits tag (length (valueOf s tag)) ≡ true
 unfolding valueOf

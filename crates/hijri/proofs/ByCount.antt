@@ -1,8 +1,6 @@
 -- The date of a day by its number, within the years that a u32 holds. Assumes nothing.
 use Rattle.prelude.proofs.Logic.{_≡_, ap, true, ℕ, _+_, _-_, _≤_, _<_, arith, ℤ, pos, _+ℤ_, le-leb, lt-leb}
-use Rattle.integers.specs.Parts.{P, N}
-use Rattle.integers.proofs.PartsLaws.{not-positive}
-use Rattle.integers.proofs.Sums.{sum}
+use Rattle.integers.proofs.Integers.{P, N, not-positive, sum}
 use Rattle.calendar.proofs.Counting.{capped}
 use Rattle.hijri.specs.Rule.{leapOf}
 use Rattle.hijri.specs.Days.{yearStartOf, monthStartOf, yearOf, monthOf, sinceFirstOf, dateOfDayOf, ofDayOf}

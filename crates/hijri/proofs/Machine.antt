@@ -1,6 +1,6 @@
 -- Day numbers as i64: no step of the code loses anything. Assumes nothing.
 use Rattle.prelude.proofs.Logic.{_≡_, ℕ, _^_, _≤_, _<_, arith, lit<, pos, _-ℤ_, w64, SFits, toZ}
-use Rattle.integers.proofs.Ranges.{readBack}
+use Rattle.integers.proofs.Integers.{readBack}
 use Rattle.calendar.proofs.Counting.{less-fits, number-read}
 use Rattle.hijri.specs.Days.{monthStartOf, countOf, dayNumberOf}
 use Rattle.hijri.specs.declared.dates.Tabular.{Tabular}

@@ -1,9 +1,6 @@
 -- The code's test for the first day of Ramadan: it says yes of each year's first of month 9, moved by the shift, and of no other day. Assumes nothing.
-use Rattle.prelude.proofs.Logic.{_≡_, refl, sym, ap, _∙_, true, true≢false, and-eq-true-iff, ℕ, _≤_, arith, eqb, ℤ, pos, negsuc, _+ℤ_, _-ℤ_, leZ, eqb-true}
-use Rattle.prelude.proofs.Cases.{cases}
-use Rattle.integers.proofs.PartsLaws.{same}
-use Rattle.integers.proofs.Sums.{sum, difference}
-use Rattle.integers.proofs.OrderLaws.{le-no}
+use Rattle.prelude.proofs.Logic.{_≡_, refl, sym, ap, _∙_, true, true≢false, and-eq-true-iff, ℕ, _≤_, arith, eqb, ℤ, pos, negsuc, _+ℤ_, _-ℤ_, leZ, eqb-true, cases}
+use Rattle.integers.proofs.Integers.{same, sum, difference, le-no}
 use Rattle.hijri.specs.Rule.{dateOf, leapOf, existsOf}
 use Rattle.hijri.specs.Days.{yearStartOf, monthStartOf, countOf, dayNumberOf, dateAtOf, ofDayOf}
 use Rattle.hijri.specs.Ramadan.{firstOfRamadanOf, shiftedStartOf, opensRamadan, ramadanStartOf}

@@ -1,6 +1,5 @@
 -- Two byte strings that are the same. Assumes nothing.
-use Rattle.prelude.proofs.Logic.{_≡_, refl, sym, ap, _∙_, Bool, true, false, cond, false≢true, List, [], _∷_, ℕ, _+_, _<_, add-one, eqb, length, getD, drop, drop-cons, drop-length, eq-eqb, ne-eqb, eqb-true}
-use Rattle.prelude.proofs.Cases.{cases}
+use Rattle.prelude.proofs.Logic.{_≡_, refl, sym, ap, _∙_, Bool, true, false, cond, false≢true, List, [], _∷_, ℕ, _+_, _<_, add-one, eqb, length, getD, drop, drop-cons, drop-length, eq-eqb, ne-eqb, eqb-true, cases}
 use Rattle.sentences.specs.Sentences.{same}
 
 pub same-itself : (t : List ℕ) → same t t ≡ true

@@ -1,6 +1,5 @@
 -- A sentence has its number and its place where they are looked for; a place has ten digits at most. Assumes nothing.
-use Rattle.prelude.proofs.Logic.{_≡_, refl, ap, subst, _∙_, true, cond, List, [], _∷_, _++_, ℕ, zero, suc, _+_, _-_, _*_, _/_, _^_, _≤_, _<_, pow-suc, div-lt-iff-lt-mul, arith, ltb, length, List·getD-append, lt-ltb, le-leb, ltb-true}
-use Rattle.prelude.proofs.Cases.{cases}
+use Rattle.prelude.proofs.Logic.{_≡_, refl, ap, subst, _∙_, true, cond, List, [], _∷_, _++_, ℕ, zero, suc, _+_, _-_, _*_, _/_, _^_, _≤_, _<_, pow-suc, div-lt-iff-lt-mul, arith, ltb, length, List·getD-append, lt-ltb, le-leb, ltb-true, cases}
 use Rattle.text.specs.Text.{ascii, digitOf, digitsOf, decimalOf}
 use Rattle.text.proofs.TextLaws.{digits-short}
 use Rattle.sentences.specs.Guess.{isDigit, numberIn, none, longer, placeIn}

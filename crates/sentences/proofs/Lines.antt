@@ -1,6 +1,5 @@
 -- What holds of each line of the two tables, by tests that antt computes over them: a new line needs no new proof. Assumes nothing.
-use Rattle.prelude.proofs.Logic.{_≡_, refl, sym, ap, subst, _∙_, Bool, true, false, _&&_, List, [], _∷_, ℕ, zero, suc, _+_, _≤_, _<_, zero-add, add-zero, suc-add, add-suc, arith, T, leb, eqb, leb→le, eqb→eq, length, getD, take, ltb-true}
-use lib.Ieee.Fits.{and-l, and-r}
+use Rattle.prelude.proofs.Logic.{_≡_, refl, sym, ap, subst, _∙_, Bool, true, false, _&&_, List, [], _∷_, ℕ, zero, suc, _+_, _≤_, _<_, zero-add, add-zero, suc-add, add-suc, arith, T, leb, eqb, leb→le, eqb→eq, length, getD, take, ltb-true, and-l, and-r}
 use Rattle.text.specs.Text.{ascii}
 use Rattle.sentences.specs.Table.{texts, names, textOf, nameOf, known, widest, widestName}
 use Rattle.sentences.specs.Rows.{filled, endOf}

@@ -1,6 +1,5 @@
 -- The line that is made of the words, a blank and the place's digits, and the answers of the two calls. Assumes nothing.
-use Rattle.prelude.proofs.Logic.{_≡_, refl, sym, ap, _∙_, true, false, cond, _&&_, List, [], _∷_, _++_, ℕ, _+_, _≤_, _<_, arith, ltb, length, take, drop, length-append, length-drop, lt-ltb, le-ltb, le-leb, lt-leb, ltb-false}
-use Rattle.prelude.proofs.Cases.{cases}
+use Rattle.prelude.proofs.Logic.{_≡_, refl, sym, ap, _∙_, true, false, cond, _&&_, List, [], _∷_, _++_, ℕ, _+_, _≤_, _<_, arith, ltb, length, take, drop, length-append, length-drop, lt-ltb, le-ltb, le-leb, lt-leb, ltb-false, cases}
 use Rattle.text.specs.Text.{ascii, decimalOf, putOf, frontOf}
 use Rattle.text.proofs.TextLaws.{put-next, put-nothing, cut-front}
 use Rattle.text.proofs.TextLaws as laws
@@ -56,9 +55,7 @@ words-of-both n p line a b e l f q =
 
 -- a line is as long as it was before a short text was put at its front
 pub as-long : (text line made : List ℕ) → made ≡ frontOf text line → length made ≡ 100 → length text ≤ 89 → length line ≡ 100
-as-long text line made m l h =
-    let e = ap length m ∙ length-append text (drop (length text) line) in let d = length-drop (length text) line in
-    omega arith
+as-long text line made m l h = omega (arith, ap length m ∙ length-append text (drop (length text) line), length-drop (length text) line)
 
 -- ---- whether a number is known, by the length of its words or of its sentence
 pub unknown-by-words : (n p : ℕ) → length (wordsOf n p) ≡ 0 → known n ≡ false

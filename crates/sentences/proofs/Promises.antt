@@ -1,6 +1,5 @@
 -- The promises of request 8: `each-has-a-sentence`, `printed`, `read-back`, `different`, `reads-only-sentences`, `written-and-read`. Assumes nothing.
-use Rattle.prelude.proofs.Logic.{_≡_, refl, sym, ap, subst, _∙_, Bool, true, false, _&&_, and-eq-true-iff, List, [], _∷_, _++_, append-assoc, ℕ, zero, suc, _+_, _/_, _≤_, _<_, arith, leb, ltb, length, take, length-append, le-leb, lt-ltb, ltb-true}
-use Rattle.prelude.proofs.Cases.{cases, either}
+use Rattle.prelude.proofs.Logic.{_≡_, refl, sym, ap, subst, _∙_, Bool, true, false, _&&_, and-eq-true-iff, List, [], _∷_, _++_, append-assoc, ℕ, zero, suc, _+_, _/_, _≤_, _<_, arith, leb, ltb, length, take, length-append, le-leb, lt-ltb, ltb-true, cases, either}
 use Rattle.text.specs.Text.{ascii, digitOf, digitsOf, decimalOf, frontOf}
 use Rattle.text.proofs.TextLaws.{put-next, cut-front}
 use Rattle.sentences.specs.declared.Meaning.{Meaning}

@@ -1,5 +1,5 @@
 use Rattle.prelude.proofs.Logic.{arith, needs, w64}
-use Rattle.integers.proofs.Ranges.{read}
+use Rattle.integers.proofs.Integers.{read}
 use Rattle.calendar.proofs.Remainders as remainders
 use Rattle.calendar.proofs.instants.second_of_day as this
 
@@ -7,9 +7,7 @@ sub-result : this.Tie.Need-sub-result
 sub-result c =
     let t = c .before .before in
     let r = read w64 (t .args .seconds) (t .fits .seconds) in
-    let z = remainders.before-zero (t .args .seconds) (rw r at (c .before .if1 .taken)) .0 in
-    let b = rw r at (c .below .ensures) in
-    omega (arith, z, b)
+    omega (arith, remainders.before-zero (t .args .seconds) (rw r at (c .before .if1 .taken)) .0, rw r at (c .below .ensures))
 
 returns : this.Tie.Need-returns
 returns c =

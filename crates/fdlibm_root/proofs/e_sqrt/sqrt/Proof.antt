@@ -1,6 +1,6 @@
 -- Each branch's result is the root by the definition's clause for its floats.
 use Rattle.prelude.proofs.Logic.{_∙_, sym, needs}
-use lib.Ieee.{ofBits, div}
+use Rattle.prelude.proofs.Ieee.{ofBits, div}
 use Rattle.fdlibm_root.proofs.NoNan.{no-nan, no-nan-bits}
 use Rattle.fdlibm_root.proofs.Patterns.{not-zero, subnormal-root, normal-root, infinite-root}
 use Rattle.fdlibm_root.proofs.Special.{zero-root, no-root}

@@ -1,6 +1,5 @@
 -- `fields::tags::row_of` meets its contract: an arm for each row of the table, and beyond it nothing.
-use Rattle.prelude.proofs.Logic.{_∙_, arith}
-use Rattle.prelude.proofs.Cases.{beyond}
+use Rattle.prelude.proofs.Logic.{_∙_, arith, beyond}
 use Rattle.fields.proofs.FieldsLaws.{beyond-table}
 use Rattle.fields.proofs.tags.row_of as this
 

@@ -1,6 +1,5 @@
 use Rattle.prelude.proofs.Logic.{_≡_, refl, sym, subst, _∙_, Bool, true, not, _%_, T, needs, le-ltb, lt-ltb}
-use lib.Ieee.{Float, nan, inf, fin, binary64, ofBits, isNan}
-use lib.Ieee.Bits.{nanBits-above, nanBits-is}
+use Rattle.prelude.proofs.Ieee.{Float, nan, inf, fin, binary64, ofBits, isNan, nanBits-above, nanBits-is}
 use Rattle.float64.proofs.bits.from_bits as this
 
 only-nan : (x : Float) → isNan x ≡ true → x ≡ nan

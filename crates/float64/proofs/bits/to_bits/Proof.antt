@@ -1,5 +1,5 @@
 use Rattle.prelude.proofs.Logic.{sym, ap, needs}
-use lib.Ieee.{binary64, toBits}
+use Rattle.prelude.proofs.Ieee.{binary64, toBits}
 use Rattle.float64.proofs.Patterns.{is-nan, no-nan}
 use Rattle.float64.proofs.bits.to_bits as this
 

@@ -1,5 +1,5 @@
 use Rattle.prelude.proofs.Logic.{_≡_, refl, sym, ap, _∙_, Bool, true, false, not, true≢false, false≢true, ℕ, _*_, _^_, one-mul, leb, ltb, ltb-true, ltb-false, lt-leb, le-leb}
-use lib.Ieee.{Float, nan, inf, fin, up, down, binary64, lt, div, round, ofBits}
+use Rattle.prelude.proofs.Ieee.{Float, nan, inf, fin, up, down, binary64, lt, div, round, ofBits}
 use Rattle.float64.specs.Sizes.{absOf, isNormalOf}
 use Rattle.float64.proofs.sizes.is_normal as this
 

@@ -1,5 +1,5 @@
 use Rattle.prelude.proofs.Logic.{ap, _∙_}
-use lib.Ieee.{neg}
+use Rattle.prelude.proofs.Ieee.{neg}
 use Rattle.float64.proofs.Parts.{neg-neg, neg-positive, round-odd, still-zero}
 use Rattle.float64.proofs.whole.round as this
 

@@ -1,6 +1,5 @@
 use Rattle.prelude.proofs.Logic.{refl, sym, ap, _∙_, _/_, _*_, arith}
-use lib.Ieee.{fits, binary64, toBits, ofBits}
-use lib.Ieee.Bits.{toBits-lt}
+use Rattle.prelude.proofs.Ieee.{fits, binary64, toBits, ofBits, toBits-lt}
 use denote.Floats.{passes}
 use Rattle.float64.specs.Words.{lowClearedOf}
 use Rattle.float64.proofs.Patterns.{is-nan, no-nan, no-larger}

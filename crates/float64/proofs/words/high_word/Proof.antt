@@ -1,5 +1,5 @@
 use Rattle.prelude.proofs.Logic.{refl, sym, ap, needs}
-use lib.Ieee.{toBits}
+use Rattle.prelude.proofs.Ieee.{toBits}
 use Rattle.float64.specs.Words.{highOf}
 use Rattle.float64.proofs.Patterns.{is-nan, no-nan}
 use Rattle.float64.proofs.words.high_word as this

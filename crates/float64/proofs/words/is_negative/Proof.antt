@@ -1,5 +1,5 @@
 use Rattle.prelude.proofs.Logic.{sym, ap}
-use lib.Ieee.{fits, binary64}
+use Rattle.prelude.proofs.Ieee.{fits, binary64}
 use denote.Floats.{passes}
 use Rattle.float64.specs.Words.{isNegativeOf}
 use Rattle.float64.proofs.Patterns.{is-nan, no-nan, sign-bit}

@@ -1,5 +1,5 @@
 use Rattle.prelude.proofs.Logic.{refl}
-use lib.Ieee.{div, ofBits}
+use Rattle.prelude.proofs.Ieee.{div, ofBits}
 use Rattle.float64.proofs.words.not_a_number as this
 
 pub not-a-number-spec : {M : Type 1} → this.Statement.statement M

@@ -1,5 +1,5 @@
 use Rattle.prelude.proofs.Logic.{_≡_, sym, ap, _∙_, _-ℤ_, eq-eqb, ne-eqb}
-use Rattle.integers.proofs.Ranges.{wide}
+use Rattle.integers.proofs.Integers.{wide}
 use Rattle.hijri.specs.Days.{ofDayOf}
 use Rattle.hijri.specs.Ramadan.{ramadanStartOf}
 use Rattle.hijri.proofs.RamadanStart.{far-below, far-above, less-fits, shift-read}

@@ -1,6 +1,6 @@
 -- `map_form::hundredths::nearest` meets its contract: laws of the bit pattern, for what is under the smallest count and for the rest.
 use Rattle.prelude.proofs.Logic.{_-_, _/_, _%_, _^_, div-le-self, arith, lit≤, needs}
-use lib.Ieee.{binary64, toBits}
+use Rattle.float64.proofs.Floats.{binary64, toBits}
 use Rattle.map_form.proofs.Fields.{none, some, highest-field}
 use Rattle.map_form.proofs.Range.{no-nan, count-le}
 use Rattle.map_form.proofs.hundredths.nearest as this

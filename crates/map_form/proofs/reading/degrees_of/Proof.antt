@@ -1,6 +1,6 @@
 -- `map_form::reading::degrees_of` meets its contract: a law for each branch.
 use Rattle.prelude.proofs.Logic.{_^_, arith, le→leb, needs}
-use lib.Ieee.{inFloat}
+use Rattle.float64.proofs.Floats.{inFloat}
 use Rattle.map_form.specs.Hundredths.{sizeOf}
 use Rattle.map_form.proofs.Quotient.{negative, naught, plain}
 use Rattle.map_form.proofs.reading.degrees_of as this

@@ -1,6 +1,6 @@
 -- `map_form::writing::in_range` meets its contract: one comparison of sizes.
 use Rattle.prelude.proofs.Logic.{_^_, arith, le→leb, needs}
-use lib.Ieee.{inFloat}
+use Rattle.float64.proofs.Floats.{inFloat}
 use Rattle.map_form.proofs.Range.{at-most, whole-value}
 use Rattle.map_form.proofs.writing.in_range as this
 

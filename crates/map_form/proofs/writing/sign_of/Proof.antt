@@ -1,6 +1,6 @@
 -- `map_form::writing::sign_of` meets its contract: a law for a zero and one for all else.
 use Rattle.prelude.proofs.Logic.{sym, ap, _∙_, Bool, cond, needs}
-use Rattle.float64.specs.Words.{isNegativeOf}
+use Rattle.float64.proofs.Floats.{isNegativeOf}
 use Rattle.map_form.proofs.Signs.{naught, some}
 use Rattle.map_form.proofs.writing.sign_of as this
 

@@ -1,4 +1,4 @@
-use Rattle.integers.proofs.Ranges.{wide}
+use Rattle.integers.proofs.Integers.{wide}
 use Rattle.models.proofs.Wide.{sum-fits, sum-is}
 use Rattle.models.proofs.parameters.sum as this
 

@@ -1,6 +1,5 @@
 use Rattle.prelude.proofs.Logic.{_≡_, ap, _∙_, ℕ, eqb, ℤ, needs, w64}
-use Rattle.integers.specs.Quotients.{floorQuot}
-use Rattle.integers.proofs.Ranges.{readBack, read}
+use Rattle.integers.proofs.Integers.{floorQuot, readBack, read}
 use Rattle.calendar.specs.Days.{weekdayOf}
 use Rattle.models.specs.Names.{isFridayOf}
 use Rattle.models.proofs.prayer.is_friday as this

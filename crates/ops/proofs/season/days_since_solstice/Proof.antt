@@ -1,6 +1,5 @@
 use Rattle.prelude.proofs.Logic.{sym, ap, _∙_, ℕ, _+_, _%_, _<_, needs, le-leb, lt-leb}
-use lib.Ieee.{round, ofBits}
-use Rattle.float64.specs.Ops.{dec}
+use Rattle.float64.proofs.Floats.{round, ofBits, dec}
 use Rattle.ops.specs.Season.{daysSinceSolsticeOf}
 use Rattle.ops.proofs.Wrapped.{wrapped}
 use Rattle.ops.proofs.season.days_since_solstice as this

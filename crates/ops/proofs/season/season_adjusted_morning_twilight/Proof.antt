@@ -1,6 +1,5 @@
 use Rattle.prelude.proofs.Logic.{_≡_, ap, _∙_, needs, w32, w64, SFits}
-use Rattle.integers.proofs.Ranges.{readBack, read, wide, read-wide}
-use Rattle.integers.proofs.Sums.{summands}
+use Rattle.integers.proofs.Integers.{readBack, read, wide, read-wide, summands}
 use Rattle.models.specs.declared.rules.Season.{Season}
 use Rattle.stride.specs.Times.{satOf}
 use Rattle.ops.specs.Season.{morningSecondsOf}

@@ -7,9 +7,7 @@ add-result : this.Tie.Need-add-result
 add-result c =
     let o = c .before .before in
     let year = o .before .args .year in
-    let g = year-gap year in
-    let l = long year in
-    record { fits = omega (arith, c .if1 .left, c .before .days-in-year .ensures, o .southern-offset .ensures) }
+    record { fits = omega (arith, year-gap year, long year, c .if1 .left, c .before .days-in-year .ensures, o .southern-offset .ensures) }
 
 pub southern-count-spec : {M : Type 1} → this.Statement.statement M
 unfolding southernCountOf

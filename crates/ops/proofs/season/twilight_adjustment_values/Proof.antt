@@ -1,5 +1,4 @@
-use lib.Ieee.{round, ofBits}
-use Rattle.float64.specs.Ops.{dec}
+use Rattle.float64.proofs.Floats.{round, ofBits, dec}
 use Rattle.ops.specs.Season.{moreMinutes, twilightAdjustmentValuesOf}
 use Rattle.prelude.proofs.Logic.{needs}
 use Rattle.ops.proofs.season.twilight_adjustment_values as this

@@ -1,6 +1,5 @@
 use Rattle.prelude.proofs.Logic.{sym, _∙_}
-use lib.Ieee.{round, ofBits}
-use Rattle.float64.specs.Ops.{dec}
+use Rattle.float64.proofs.Floats.{round, ofBits, dec}
 use Rattle.ops.specs.Season.{twilightAdjustmentsOf}
 use Rattle.ops.proofs.season.twilight_adjustments as this
 

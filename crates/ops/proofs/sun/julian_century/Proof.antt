@@ -1,5 +1,4 @@
-use lib.Ieee.{round, ofBits}
-use Rattle.float64.specs.Ops.{dec}
+use Rattle.float64.proofs.Floats.{round, ofBits, dec}
 use Rattle.prelude.proofs.Logic.{refl}
 use Rattle.ops.specs.Sun.{julianCenturyOf}
 use Rattle.ops.proofs.sun.julian_century as this

@@ -39,8 +39,7 @@ cast-t14 c =
     let a = c .before .before .before .before .before .before .before .before .before .before .args in
     let s = c .before .before .before .before .before .before .before .put-sentence in
     let h : a .place < none = search needs in
-    let l = line-of _ (s .last .0) (a .number) (a .place) (s .result) (s .ensures .0) (s .ensures .1) refl h in
-    record { fits = omega (arith, l .short) }
+    record { fits = omega (arith, line-of _ (s .last .0) (a .number) (a .place) (s .result) (s .ensures .0) (s .ensures .1) refl h .short) }
 
 returns-3 : this.Tie.Need-returns-3
 returns-3 c =

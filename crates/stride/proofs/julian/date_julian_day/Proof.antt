@@ -1,5 +1,5 @@
 use Rattle.prelude.proofs.Logic.{needs, w32, SFits}
-use Rattle.integers.proofs.Ranges.{read}
+use Rattle.integers.proofs.Integers.{read}
 use Rattle.stride.specs.Julian.{dateJulianDayOf}
 use Rattle.stride.proofs.julian.date_julian_day as this
 

@@ -1,5 +1,5 @@
 use Rattle.prelude.proofs.Logic.{needs, w32, w64, SFits}
-use Rattle.integers.proofs.Ranges.{read}
+use Rattle.integers.proofs.Integers.{read}
 use Rattle.stride.specs.Julian.{fromMarchOf, yearProductOf, monthProductOf}
 use Rattle.stride.proofs.julian.from_march as this
 

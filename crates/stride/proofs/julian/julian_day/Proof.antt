@@ -1,6 +1,5 @@
 use Rattle.prelude.proofs.Logic.{_≡_, true, false, lit≤, pos, ltZ, needs, w32}
-use Rattle.integers.proofs.Ranges.{read, wide, read-wide}
-use Rattle.integers.proofs.Held.{constant, of-wide, held-sum, held-difference, held-fits, stored}
+use Rattle.integers.proofs.Integers.{read, wide, read-wide, constant, of-wide, held-sum, held-difference, held-fits, stored}
 use Rattle.stride.specs.Julian.{julianDayOf}
 use Rattle.stride.proofs.julian.julian_day as this
 

@@ -1,5 +1,5 @@
 use Rattle.prelude.proofs.Logic.{_≡_, needs, w64}
-use Rattle.integers.proofs.Ranges.{readBack}
+use Rattle.integers.proofs.Integers.{readBack}
 use Rattle.stride.proofs.Minutes as minutes
 use Rattle.stride.proofs.times.adjust_time as this
 

@@ -1,5 +1,5 @@
 use Rattle.prelude.proofs.Logic.{_≡_, _∙_, needs, w64}
-use Rattle.integers.proofs.Ranges.{readBack, read}
+use Rattle.integers.proofs.Integers.{readBack, read}
 use Rattle.stride.specs.Times.{roundedOf}
 use Rattle.stride.proofs.times.rounded_minute as this
 

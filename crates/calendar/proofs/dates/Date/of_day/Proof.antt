@@ -1,5 +1,5 @@
 use Rattle.prelude.proofs.Logic.{arith, needs, w64}
-use Rattle.integers.proofs.Ranges.{read}
+use Rattle.integers.proofs.Integers.{read}
 use Rattle.calendar.specs.Days.{dateAtOf}
 use Rattle.calendar.proofs.ByCount.{days-fit, year-fits, rest, since-held}
 use Rattle.calendar.proofs.dates.Date.of_day as this

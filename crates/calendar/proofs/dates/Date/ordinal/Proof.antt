@@ -11,8 +11,7 @@ add-result c =
     let x = exists-yes d (sym (c .before .before .before .before .exists .ensures) ∙ c .before .before .before .if1 .taken) in
     let m = month-of-date d x in
     let e = c .before .days-before .ensures ∙ ap (λ (b : Bool). daysBeforeOf b (d .month)) (c .before .before .is-leap-year .ensures) in
-    let y = year-short (leapOf (d .year)) in
-    omega arith
+    omega (arith, year-short (leapOf (d .year)))
 
 pub ordinal-spec : {M : Type 1} → this.Statement.statement M
 unfolding ordinalOf

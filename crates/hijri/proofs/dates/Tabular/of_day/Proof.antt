@@ -1,5 +1,5 @@
 use Rattle.prelude.proofs.Logic.{arith, w64}
-use Rattle.integers.proofs.Ranges.{read}
+use Rattle.integers.proofs.Integers.{read}
 use Rattle.hijri.specs.Days.{dateAtOf}
 use Rattle.hijri.proofs.ByCount.{days-fit, year-fits, rest}
 use Rattle.hijri.proofs.dates.Tabular.of_day as this

@@ -1,5 +1,4 @@
-use lib.Ieee.{round, ofBits}
-use Rattle.float64.specs.Ops.{dec}
+use Rattle.float64.proofs.Floats.{round, ofBits, dec}
 use Rattle.models.specs.Rules.{recommendedOf}
 use Rattle.models.proofs.high_altitude_rule.HighLatitudeRule.recommended as this
 

@@ -1,5 +1,4 @@
-use lib.Ieee.{round, ofBits}
-use Rattle.float64.specs.Ops.{dec}
+use Rattle.float64.proofs.Floats.{round, ofBits, dec}
 use Rattle.models.specs.Builder.{setIshaInterval}
 use Rattle.models.specs.Presets.{presetOf, preset}
 use Rattle.models.specs.Settings.{parametersNewOf}

@@ -1,5 +1,5 @@
 use Rattle.prelude.proofs.Logic.{needs}
-use lib.Ieee.{ofBits}
+use Rattle.float64.proofs.Floats.{ofBits}
 use Rattle.models.specs.Builder.{setIshaInterval}
 use Rattle.models.proofs.parameters.Configuration.isha_interval as this
 

@@ -1,5 +1,4 @@
-use lib.Ieee.{round, ofBits}
-use Rattle.float64.specs.Ops.{dec}
+use Rattle.float64.proofs.Floats.{round, ofBits, dec}
 use Rattle.models.specs.Settings.{portionsOf}
 use Rattle.prelude.proofs.Logic.{needs}
 use Rattle.models.proofs.parameters.Parameters.night_portions as this

@@ -1,6 +1,5 @@
 use Rattle.prelude.proofs.Logic.{_≡_, _∙_, arith, needs, w32, w64, SFits}
-use Rattle.integers.proofs.Sums.{sum, summands}
-use Rattle.integers.proofs.Ranges.{range, readBack, read}
+use Rattle.integers.proofs.Integers.{sum, summands, range, readBack, read}
 use Rattle.models.specs.Settings.{timeAdjustmentsOf}
 use Rattle.models.proofs.parameters.Parameters.time_adjustments as this
 

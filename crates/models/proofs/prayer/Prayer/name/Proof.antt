@@ -1,5 +1,5 @@
 use Rattle.prelude.proofs.Logic.{sym, ap, _∙_, needs, w64}
-use Rattle.integers.proofs.Ranges.{read}
+use Rattle.integers.proofs.Integers.{read}
 use Rattle.models.specs.Names.{isFridayOf, prayerNameOf}
 use Rattle.models.proofs.prayer.Prayer.name as this
 
