@@ -2,10 +2,7 @@
 -- Roundings put it at most 7,297 units off, below 0.3 at most 3,713. Done exactly it is 1 + z p, and p lies within 2 ^ 10 units of nine terms of the
 -- series, which makes at most 577 units more. Together they are less than 2 ^ 13 units, 2 ^ -51. Assumes nothing.
 use Rattle.prelude.proofs.Logic.{_≡_, refl, sym, _∙_, Bool, true, false, cond, List, [], _∷_, ℕ, _+_, _*_, _^_, _≤_, _<_, le-trans, mul-pos, one-mul, one-le-pow, pow-zero, pow-succ', arith, T, ltb, lit<, lit≤, ℤ, le-leb}
-use lib.Ieee.{Float, fin, up, down, size, ofBits, neg}
-use lib.Ieee.Fits.{down-pos}
-use Rattle.float64.specs.Words.{highOf}
-use Rattle.float64.proofs.Within.{Within}
+use Rattle.float64.proofs.Floats.{Float, fin, up, down, size, ofBits, neg, down-pos, highOf, Within}
 use Rattle.fdlibm_trig.specs.KSin.{half}
 use Rattle.fdlibm_trig.specs.KCos.{one, C1, C2, C3, C4, C5, C6, quarterOf, kernelCosOf}
 use Rattle.fdlibm_trig.specs.KTan as KTan
@@ -37,14 +34,6 @@ plain = const one unity ⊖ (hz ⊖ r)
 
 abbrev split : Expr Input
 split = const one unity ⊖ var q ⊖ (hz ⊖ var q ⊖ r)
-
-plain-fine : T (fine sizes plain)
-unfolding fine bound error unit ofBits size
-plain-fine = tt
-
-split-fine : T (fine sizes split)
-unfolding fine bound error unit ofBits size
-split-fine = tt
 
 -- ---- either is 1 + z (-1/2 + z (C1 + z ..)), and the series 1 - x ^ 2 / 2! + x ^ 4 / 4! - ..
 abbrev minus-half : Float
@@ -98,12 +87,12 @@ module _ (i : Inputs) where
       through (written d (factored (per half) (per minus-half) square (square ⊠ g) refl refl refl)) (ten-near i kernel)
 
   plain-near : NearFraction (run (floats i) plain) (ten kernel square) (2 ^ 13)
-  unfolding bound error unit ofBits size
-  plain-near = run-near i plain plain-fine exact-near (lit≤ tt)
+  unfolding fine bound error unit ofBits size
+  plain-near = run-near i plain tt exact-near (lit≤ tt)
 
   split-near : NearFraction (run (floats i) split) (ten kernel square) (2 ^ 13)
-  unfolding bound error unit ofBits size
-  split-near = run-near i split split-fine (through (same-close (split-same unity (exact (of i) hz) (exact (of i) r) (value (i .second)))) exact-near) (lit≤ tt)
+  unfolding fine bound error unit ofBits size
+  split-near = run-near i split tt (through (same-close (split-same unity (exact (of i) hz) (exact (of i) r) (value (i .second)))) exact-near) (lit≤ tt)
 
   tiny-near : Within (i .argument) 1 (2 ^ 26) → NearFraction one (ten kernel square) (2 ^ 13)
   unfolding fine bound error unit ofBits size

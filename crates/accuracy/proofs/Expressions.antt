@@ -1,9 +1,7 @@
 -- How roundings add up: expressions, what they give where each operation is rounded, what they are exactly, and how far the one can be from the
 -- other. Assumes nothing.
-use Rattle.prelude.proofs.Logic.{Bool, true, _&&_, ℕ, _+_, _*_, _/_, _≤_, add-comm, lt-div-mul-add, arith, T, leb, leb→le, eqb, eqb→eq}
-use lib.Ieee.{Float, binary64, add, sub, mul}
-use lib.Ieee.Fits.{and-l, and-r}
-use lib.Ieee.Scale.{finite}
+use Rattle.prelude.proofs.Logic.{Bool, true, _&&_, ℕ, _+_, _*_, _/_, _≤_, add-comm, lt-div-mul-add, arith, T, leb, leb→le, eqb, eqb→eq, and-l, and-r}
+use Rattle.float64.proofs.Floats.{Float, binary64, add, sub, mul, finite}
 use Rattle.accuracy.proofs.Fractions.{Fraction, _⊞_, _⊠_, ⊟_, unit, unit-pos, same-close, through, sum, flip, times, times-right, Sized, sized-sum, sized-times}
 use Rattle.accuracy.proofs.Rounding.{value, NearFraction, halfPlace}
 use Rattle.accuracy.proofs.Operations.{add-near, sub-near, mul-near}

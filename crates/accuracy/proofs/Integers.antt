@@ -1,8 +1,8 @@
 -- From fractions to the statement: the sides of an alternating sum of integers, and what a float near a fraction is within. Assumes nothing.
 use Rattle.prelude.proofs.Logic.{_≡_, refl, ap, Bool, true, false, not, _&&_, cond, List, [], _∷_, ℕ, zero, suc, _+_, _-_, _*_, _/_, _^_, _≤_, le-trans, zero-mul, mul-zero, mul-le-mul-right, le-of-mul-le-mul-right, pow-zero, pow-suc, arith, ℤ, pos, negsuc, negℤ, natAbs, _-ℤ_, _*ℤ_, pow-mono}
 use lib.IntN.{pow, one}
-use lib.Ieee.{Float, nan, inf, fin, up}
-use Rattle.integers.specs.Parts.{P, N}
+use Rattle.float64.proofs.Floats.{Float, nan, inf, fin, up}
+use Rattle.integers.proofs.Integers.{P, N}
 use Rattle.integers.proofs.Sums as integers
 use Rattle.accuracy.specs.Accuracy.{top, bottom, _!, term, alternating, WithinSum}
 use Rattle.accuracy.proofs.Fractions.{Fraction, unit, unit-pos}
@@ -19,9 +19,7 @@ is-less {x} {y} h k =
     record { balance = omega (arith, h .balance, k .balance, d .0 .balance, d .1 .over, d .1 .under) }
 
 is-times : {x : ℤ} {p n : ℕ} (k : ℕ) → Is x p n → Is (x *ℤ pos k) (p * k) (n * k)
-is-times {x} k h =
-    let t = integers.times x k in
-    record { balance = omega (arith, ap (λ (z : ℕ). z * k) (h .balance), t .over, t .under) }
+is-times {x} k h = record { balance = omega (arith, ap (λ (z : ℕ). z * k) (h .balance), integers.times x k .over, integers.times x k .under) }
 
 -- ---- the integer a, or -a where s, and its powers
 abbrev integer : Bool → ℕ → ℤ

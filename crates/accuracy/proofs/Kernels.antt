@@ -1,11 +1,7 @@
 -- What the two kernels share: an argument x of at most 3 / 4 in size, a second float q of at most 1 / 4, the square z of x, and a polynomial
 -- 1 + z * (k + z * ..) beside the first ten terms of a series. Assumes nothing.
 use Rattle.prelude.proofs.Logic.{_≡_, refl, sym, _∙_, Bool, true, false, List, _∷_, ℕ, _+_, _*_, _^_, _≤_, _<_, zero-add, one-mul, mul-one, zero-mul, mul-le-mul, mul-le-mul-right, mul-le-mul-left, le-of-mul-le-mul-right, arith, T, lit<, lit≤, ℤ}
-use lib.Ieee.{Float, nan, inf, fin, up, down, size, round}
-use lib.Ieee.Exact.{HasValue}
-use Rattle.float64.specs.Ops.{dec}
-use Rattle.float64.proofs.Limits.{within-limits}
-use Rattle.float64.proofs.Within.{Within}
+use Rattle.float64.proofs.Floats.{Float, nan, inf, fin, up, down, size, round, HasValue, dec, within-limits, Within}
 use Rattle.accuracy.specs.Accuracy.{Moderate}
 use Rattle.accuracy.proofs.Fractions.{Fraction, _⊞_, _⊠_, unity, unit, Close, itself, looser, turned, through, Same, written, sum, times, beside, Sized, sized-times}
 use Rattle.accuracy.proofs.Rounding.{value, NearFraction}

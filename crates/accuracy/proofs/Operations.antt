@@ -1,7 +1,6 @@
 -- Each operation of binary64 is the exact result rounded once: within half of the last place of it, for results up to 2 in size. Assumes nothing.
 use Rattle.prelude.proofs.Logic.{_≡_, refl, ap, Bool, true, false, not, cond, ℕ, _+_, _-_, _*_, _≤_, _<_, arith, T, ltb, ltb→lt, nltb→le}
-use lib.Ieee.{Float, nan, inf, fin, binary64, up, down, round, neg, sum, add, sub, mul}
-use lib.Ieee.Scale.{finite}
+use Rattle.float64.proofs.Floats.{Float, nan, inf, fin, binary64, up, down, round, neg, sum, add, sub, mul, finite}
 use Rattle.accuracy.proofs.Fractions.{Fraction, _⊞_, _⊠_, ⊟_, unit, Sized, written}
 use Rattle.accuracy.proofs.Rounding.{value, NearFraction, halfPlace, round-near}
 

@@ -1,7 +1,6 @@
 -- A kernel's polynomial by Horner's rule, and the series that it stands for, both in the square z of the argument. Assumes nothing.
-use Rattle.prelude.proofs.Logic.{_≡_, refl, ap, Bool, _&&_, List, [], _∷_, ℕ, suc, _+_, _-_, _*_, _/_, _^_, _≤_, _<_, mul-pos, mul-le-mul-left, sub-add-cancel, one-le-pow, pow-succ', arith, T, length, pow-pos}
-use lib.Ieee.{Float}
-use lib.Ieee.Fits.{and-l, and-r}
+use Rattle.prelude.proofs.Logic.{_≡_, refl, ap, Bool, _&&_, List, [], _∷_, ℕ, suc, _+_, _-_, _*_, _/_, _^_, _≤_, _<_, mul-pos, mul-le-mul-left, sub-add-cancel, one-le-pow, pow-succ', arith, T, length, pow-pos, and-l, and-r}
+use Rattle.float64.proofs.Floats.{Float}
 use Rattle.accuracy.proofs.Algebra.{ring, flat}
 use Rattle.accuracy.proofs.Fractions.{Fraction, _⊞_, _⊠_, unit, Close, itself, same-close, through, Same, scaled, written, sum, times, Sized}
 use Rattle.accuracy.proofs.Rounding.{value}

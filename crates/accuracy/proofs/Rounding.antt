@@ -1,13 +1,7 @@
 -- One rounding: a fraction of up to S units, at most 2 in size, goes to a finite float that is no further off than half of S's last place.
 -- Assumes nothing.
 use Rattle.prelude.proofs.Logic.{_≡_, refl, sym, ap, _∙_, subst, Bool, true, false, not, ℕ, _+_, _-_, _*_, _/_, _%_, _^_, _≤_, _<_, compare, Ordering, Ordering·lt, Ordering·eq, Ordering·gt, le-trans, le-of-eq, lt-of-le-of-lt, add-le-add, mul-assoc, mul-pos, mul-le-mul-right, mul-le-mul-left, le-of-mul-le-mul-right, div-add-mod', mod-lt, div-lt-iff-lt-mul, arith, T, isLe, isEq, leb→le, nleb→lt, eqb→eq, lit<, ℤ, pow-pos, pow-mono, pow-add}
-use lib.Ieee.{Float, nan, inf, fin, binary64, up, down, size, nearest, round}
-use lib.Ieee.Digits.{size-lt, size-le}
-use lib.Ieee.Exact.{HasValue, units-val}
-use lib.Ieee.Fits.{down-pos, round-is}
-use lib.Ieee.Nearest.{closest}
-use lib.Ieee.Order.{drop, kept}
-use lib.Ieee.Scale.{grid, finite}
+use Rattle.float64.proofs.Floats.{Float, nan, inf, fin, binary64, up, down, size, nearest, round, size-lt, size-le, HasValue, units-val, down-pos, round-is, closest, drop, kept, grid, finite}
 use Rattle.accuracy.proofs.Fractions.{Fraction, nought, unit, Close}
 
 -- ---- a float as a fraction

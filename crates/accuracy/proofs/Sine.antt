@@ -2,10 +2,7 @@
 -- Done exactly it is x (1 + z p), and p lies within 2 ^ 13 units of nine terms of the series, which makes at most 3,457 units more. Together they are
 -- less than 2 ^ 13 units, 2 ^ -51. Assumes nothing.
 use Rattle.prelude.proofs.Logic.{_≡_, refl, _∙_, Bool, true, false, not, cond, List, [], _∷_, ℕ, _+_, _*_, _^_, _≤_, _<_, le-trans, add-comm, mul-pos, one-le-pow, pow-zero, pow-succ', arith, T, ltb, lit<, lit≤, ℤ, pos, le-leb}
-use lib.Ieee.{Float, fin, up, down, size, ofBits}
-use lib.Ieee.Fits.{down-pos}
-use Rattle.float64.specs.Words.{highOf}
-use Rattle.float64.proofs.Within.{Within}
+use Rattle.float64.proofs.Floats.{Float, fin, up, down, size, ofBits, down-pos, highOf, Within}
 use Rattle.fdlibm_trig.specs.KSin.{S1, S2, S3, S4, S5, S6, kernelSinOf}
 use Rattle.fdlibm_trig.specs.KTan as KTan
 use Rattle.fdlibm_trig.specs.Trig.{sinOf}
@@ -28,10 +25,6 @@ higher = S2 ∷ S3 ∷ S4 ∷ S5 ∷ S6 ∷ []
 
 abbrev code : Expr Input
 code = var x ⊕ z ⊗ var x ⊗ horner z S1 higher
-
-code-fine : T (fine sizes code)
-unfolding fine bound error unit ofBits size
-code-fine = tt
 
 kernel-close : T (near (19 !) (rows (S1 ∷ higher) (terms 19 true (from 3 9))) (2 ^ 13))
 unfolding ofBits
@@ -63,8 +56,8 @@ module _ (a : Float) (h : Within a 3 4) where
   exact-near = through (same-close (taken-out (value a) (exact (of i) (horner z S1 higher)))) (times (given i x .sized) (ten-near i kernel) (units-enough (sizes x * tenOff kernel)))
 
   code-near : NearFraction (run (floats i) code) (series (value a)) (2 ^ 13)
-  unfolding bound error unit ofBits size
-  code-near = run-near i code code-fine exact-near (lit≤ tt)
+  unfolding fine bound error unit ofBits size
+  code-near = run-near i code tt exact-near (lit≤ tt)
 
   tiny-near : Within a 1 (2 ^ 26) → NearFraction a (series (value a)) (2 ^ 13)
   unfolding unit

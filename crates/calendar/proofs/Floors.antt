@@ -1,11 +1,6 @@
 -- A quotient toward zero, less one where the remainder is negative, is the quotient rounded down; and it fits. Assumes nothing.
 use Rattle.prelude.proofs.Logic.{_≡_, refl, sym, ap, subst, _∙_, true, false, suc, _/_, _%_, arith, lit<, ℤ, pos, negsuc, negℤ, _-ℤ_, ltZ, quotZ, remZ, w64, SFits}
-use Rattle.integers.proofs.PartsLaws.{same}
-use Rattle.integers.proofs.Sums.{flip, difference}
-use Rattle.integers.specs.Quotients.{floorQuot}
-use Rattle.integers.proofs.QuotientLaws.{divided}
-use Rattle.integers.proofs.OrderLaws.{lt-yes, lt-no}
-use Rattle.integers.proofs.Ranges.{readBack, read, range, fits}
+use Rattle.integers.proofs.Integers.{same, flip, difference, floorQuot, divided, lt-yes, lt-no, readBack, read, range, fits}
 
 abbrev day : ℤ
 day = pos 86400
@@ -21,8 +16,7 @@ level : (t : ℤ) → ltZ (remZ t day) (pos 0) ≡ false → quotZ t day ≡ flo
 level (pos n) h = refl
 level (negsuc n) h =
     let f = flip (pos (suc n / 86400)) in let g = flip (pos (suc n % 86400)) in
-    let l = lt-no (negℤ (pos (suc n % 86400))) (pos 0) h in
-    same (negℤ (pos (suc n / 86400))) (negsuc (n / 86400)) (omega arith)
+    same (negℤ (pos (suc n / 86400))) (negsuc (n / 86400)) (omega (arith, lt-no (negℤ (pos (suc n % 86400))) (pos 0) h))
 
 -- the same at the values that the machine reads back
 module _ (t : ℤ) (h : SFits w64 t) where

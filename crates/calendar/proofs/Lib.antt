@@ -3,6 +3,7 @@ pub mod ByMonth
 pub mod ByOrdinal
 pub mod CalendarLaws
 pub mod Computed
+pub mod Counting
 pub mod Existing
 pub mod Floors
 pub mod Machine

@@ -2,7 +2,7 @@
 -- In units of w = 2 ^ j the exact root is √M and the float is s, where s * (s - 1) < M ≤ s * (s + 1). Another float is a multiple of w,
 -- so that the middle is s - 1/2 at most or s + 1/2 at least; or it lies below 2 ^ 52 * w, where floats are closer to each other, and s is then 2 ^ 52 at least.
 use Rattle.prelude.proofs.Logic.{_≡_, refl, sym, ap, _∙_, subst, Bool, true, false, _⊎_, inl, inr, ℕ, zero, suc, _+_, _-_, _*_, _/_, _%_, _^_, _≤_, _<_, le-trans, le-add-left, lt-irrefl, lt-of-not-le, not-le-of-lt, zero-lt-suc, zero-mul, suc-mul, le-of-lt, lt-of-le-of-lt, lt-of-lt-of-le, lt-of-mul-lt-mul-right, mul-assoc, mul-comm, mul-left-comm, add-mul, mul-le-mul, mul-le-mul-right, mul-lt-mul-of-pos-right, arith, leb, pow-add, pow-pos, pow-mono, leb-true, leb-false}
-use lib.Ieee.{binary64, units}
+use Rattle.prelude.proofs.Ieee.{binary64, units}
 use Rattle.fdlibm_root.specs.Root.{wholeRoot, sqrtOf}
 use Rattle.fdlibm_root.proofs.RootLaws.{whole-root}
 use Rattle.fdlibm_root.specs.Nearest.{SqrtIsNearest}

@@ -2,9 +2,7 @@
 -- With n = 4 * m * 2 ^ 52 * P * P the root of n lies strictly between (2 s - 1) * P and (2 s + 1) * P,
 -- and so does half of what is rounded, the cut root with the digit that stands for the rest.
 use Rattle.prelude.proofs.Logic.{_≡_, refl, sym, ap, _∙_, Bool, true, false, cond, ℕ, _+_, _-_, _*_, _^_, _≤_, _<_, lt-trans, lt-of-le-of-lt, lt-of-not-le, mul-comm, mul-assoc, mul-left-comm, mul-add, add-mul, mul-pos, mul-le-mul, mul-le-mul-left, mul-le-mul-right, mul-lt-mul-of-pos-right, arith, T, eqb, lit≤, pow-add, pow-pos, eqb-true}
-use lib.Ieee.{binary64, units, fits, ofBits}
-use lib.Ieee.Fits.{round-fits}
-use lib.Ieee.Scale.{round-same}
+use Rattle.prelude.proofs.Ieee.{binary64, units, fits, ofBits, round-fits, round-same}
 use Rattle.fdlibm_root.specs.Root.{Root, wholeRoot, rest, roundedRoot}
 use Rattle.fdlibm_root.proofs.RootLaws.{whole-root, smaller}
 use Rattle.fdlibm_root.specs.Near.{NearRoot}

@@ -1,8 +1,6 @@
 -- The reduction gives the quarter turns by their remainder by 4. Assumes nothing.
 use Rattle.prelude.proofs.Logic.{Bool, true, false, cond, _<_, arith, ltb, leb}
-use lib.Ieee.{Float, lt}
-use Rattle.float64.specs.Sizes.{absOf}
-use Rattle.float64.specs.Words.{highOf}
+use Rattle.float64.proofs.Floats.{Float, lt, absOf, highOf}
 use Rattle.fdlibm_trig.specs.declared.e_rem_pio2.Reduced.{Reduced}
 use Rattle.fdlibm_trig.specs.KTan.{zero}
 use Rattle.fdlibm_trig.specs.RemPio2.{lessOf, moreOf, mediumOf, oppositeOf, nearOf, nearNegativeOf, remPio2Of}

@@ -1,7 +1,6 @@
 -- A high word moved up to its place: no bit is lost, and no NaN's pattern comes of it. Assumes nothing.
 use Rattle.prelude.proofs.Logic.{_≡_, sym, subst, _∙_, Bool, not, ℕ, _%_, _*_, _<_, _≤_, mod-le, mod-eq-of-lt, arith, T, le-ltb}
-use lib.Ieee.{binary64, nanBits}
-use lib.Ieee.Bits.{nanBits-above}
+use Rattle.float64.proofs.Floats.{binary64, nanBits, nanBits-above}
 
 pub shifted : (n : ℕ) → n < 4294967296 → n * 4294967296 % 18446744073709551616 ≡ n * 4294967296
 shifted n h = mod-eq-of-lt (omega arith)

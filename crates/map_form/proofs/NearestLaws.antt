@@ -1,8 +1,6 @@
 -- The law of the writer: the answer's parts are the hundredths nearest to x, a half away from zero, with x's sign. Assumes nothing.
-use Rattle.prelude.proofs.Logic.{_≡_, refl, sym, ap, _∙_, subst, Bool, true, false, cond, false≢true, ℕ, zero, suc, _+_, _*_, _/_, _%_, _≤_, _<_, div-mul-le-self, lt-div-mul-add, lt-of-mul-lt-mul-right, arith, le-leb}
-use lib.Ieee.{Float, nan, inf, fin, up, down}
-use lib.Ieee.Fits.{down-pos}
-use Rattle.float64.specs.Words.{isNegativeOf}
+use Rattle.prelude.proofs.Logic.{_≡_, refl, sym, ap, _∙_, subst, Bool, true, false, cond, false≢true, ℕ, zero, suc, _+_, _*_, _/_, _%_, _≤_, _<_, div-mul-le-self, lt-div-mul-add, lt-of-mul-lt-mul-right, arith, le-leb, cases}
+use Rattle.float64.proofs.Floats.{Float, nan, inf, fin, up, down, down-pos, isNegativeOf}
 use Rattle.refusals.specs.Refusals.{refusal}
 use Rattle.map_form.specs.declared.MapForm.{MapForm}
 use Rattle.map_form.specs.Hundredths.{inDegree, signed, sizeOf, atMost, formFits}
@@ -100,13 +98,9 @@ right-once (fin s m e) most f g p q a b =
     parts-of most f g p q (a .1 ∙ ap (λ (z : ℕ). signFor z (cond s 1 0)) n ∙ sym (b .1)) n
 
 pub one-is-owed : OneIsOwed
-one-is-owed tag most x v w h k = go (atMost most x) refl
-  where
-    go : (t : Bool) → atMost most x ≡ t → v ≡ w
-    go true e =
-        let a = h .inside e in
-        let b = k .inside e in
-        let r : v .refusal ≡ w .refusal = a .0 ∙ sym (b .0) in
-        let f : v .form ≡ w .form = right-once x most (v .form) (w .form) (a .1) (b .1) (a .2) (b .2) in
-        λ i. record { refusal = r i; form = f i }
-    go false e = h .outside e ∙ sym (k .outside e)
+one-is-owed tag most x v w h k =
+    cases (atMost most x)
+    (λ e. let a = h .inside e in let b = k .inside e in let r : v .refusal ≡ w .refusal = a .0 ∙ sym (b .0) in
+    let f : v .form ≡ w .form = right-once x most (v .form) (w .form) (a .1) (b .1) (a .2) (b .2) in
+    λ i. record { refusal = r i; form = f i })
+    (λ e. h .outside e ∙ sym (k .outside e))

@@ -1,8 +1,6 @@
 -- Reading and then writing gives the five parts back. Assumes nothing.
 use Rattle.prelude.proofs.Logic.{_≡_, refl, _∙_, ap, Bool, true, false, _&&_, and-eq-true-iff, ℕ, zero, suc, _*_, _/_, _%_, _≤_, arith, leb, eqb, lit<, lit≤, ℤ, pos, negsuc, le-leb, leb-true}
-use lib.Ieee.{Float, nan, inf, fin, binary64, up, down, round}
-use Rattle.float64.specs.Words.{isNegativeOf}
-use Rattle.float64.proofs.Within.{Within, Signed, round-within, round-signed}
+use Rattle.float64.proofs.Floats.{Float, nan, inf, fin, binary64, up, down, round, isNegativeOf, Within, Signed, round-within, round-signed}
 use Rattle.refusals.specs.Refusals.{noRefusal}
 use Rattle.map_form.specs.declared.MapForm.{MapForm}
 use Rattle.map_form.specs.declared.writing.Written.{Written}

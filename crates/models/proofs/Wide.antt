@@ -1,7 +1,6 @@
 -- The sum of two i32 numbers as i64. Assumes nothing.
 use Rattle.prelude.proofs.Logic.{_≡_, sym, subst, _∙_, arith, ℤ, _+ℤ_, w32, w64, SFits}
-use Rattle.integers.proofs.Sums.{sum, summands}
-use Rattle.integers.proofs.Ranges.{range, fits, readBack, read, read-wide}
+use Rattle.integers.proofs.Integers.{sum, summands, range, fits, readBack, read, read-wide}
 
 module _ (a b : ℤ) (ha : SFits w32 a) (hb : SFits w32 b) where
   exact : SFits w64 (a +ℤ b)

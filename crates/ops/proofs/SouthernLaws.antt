@@ -1,7 +1,6 @@
 -- The southern count that starts again at the solstice, over the days of every year; and how far either count goes. Assumes nothing.
 use Rattle.prelude.proofs.Logic.{_≡_, refl, sym, ap, _∙_, Bool, true, false, cond, ℕ, _+_, _-_, _≤_, _<_, arith, leb, lit≤, leb-true, leb-false, le-leb}
-use lib.Ieee.{Float, le}
-use Rattle.float64.specs.Ops.{dec}
+use Rattle.float64.proofs.Floats.{Float, le, dec}
 use Rattle.calendar.specs.Gregorian.{leapOf}
 use Rattle.calendar.specs.Days.{daysInYearOf}
 use Rattle.models.specs.declared.rules.Southern.{Southern}

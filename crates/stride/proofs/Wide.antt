@@ -1,8 +1,6 @@
 -- The whole numbers of the Julian Day as i64: no step loses anything. Assumes nothing.
 use Rattle.prelude.proofs.Logic.{_≡_, arith, lit<, ℤ, pos, _+ℤ_, _-ℤ_, quotZ, w64, SFits}
-use Rattle.integers.proofs.Sums.{sum, difference}
-use Rattle.integers.proofs.QuotientLaws.{divided}
-use Rattle.integers.proofs.Ranges.{range, fits, readBack, read}
+use Rattle.integers.proofs.Integers.{sum, difference, divided, range, fits, readBack, read}
 use Rattle.stride.specs.Julian.{correctionOf}
 
 -- ---- 2 - a + a / 4, where a is year / 100

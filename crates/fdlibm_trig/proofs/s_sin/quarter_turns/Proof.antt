@@ -1,9 +1,8 @@
 use Rattle.prelude.proofs.Logic.{sym, eq-eqb, ne-eqb}
 use Rattle.fdlibm_trig.specs.Trig.{quarterTurnsOf}
-use Rattle.fdlibm_trig.proofs.s_sin.quarter_turns.Statement.{statement}
-use Rattle.fdlibm_trig.proofs.s_sin.quarter_turns.Tie as tie
+use Rattle.fdlibm_trig.proofs.s_sin.quarter_turns as this
 
-returns : tie.Need-returns × tie.Need-returns-2 × tie.Need-returns-3 × tie.Need-returns-4
+returns : this.Tie.Need-returns × this.Tie.Need-returns-2 × this.Tie.Need-returns-3 × this.Tie.Need-returns-4
 unfolding quarterTurnsOf
 returns = (
   λ c. simp (sym (c .kernel-sin .ensures), eq-eqb _ _ (c .before .if1 .taken)),
@@ -12,7 +11,6 @@ returns = (
   λ c. simp (sym (c .kernel-cos2 .ensures), ne-eqb _ _ (c .before .if3 .left), ne-eqb _ _ (c .before .before .if2 .left), ne-eqb _ _ (c .before .before .before .if1 .left)),
 )
 
-pub quarter-turns-spec : {M : Type 1} → statement M
-quarter-turns-spec =
-    tie.close
-    (tie.spec (λ c κs. tt) (λ c κs. tt) (λ c κs. tt) (λ c κs. tt) (returns .0) (returns .1) (returns .2) (returns .3))
+pub quarter-turns-spec : {M : Type 1} → this.Statement.statement M
+quarter-turns-spec = this.Tie.close (this.Tie.spec (λ c κs. tt) (λ c κs. tt) (λ c κs. tt) (λ c κs. tt) (returns .0) (returns .1) (returns .2)
+    (returns .3))

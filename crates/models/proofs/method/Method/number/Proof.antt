@@ -1,9 +1,8 @@
 use Rattle.models.specs.Numbers.{methodNumberOf}
 use Rattle.prelude.proofs.Logic.{needs}
-use Rattle.models.proofs.method.Method.number.Statement.{statement}
-use Rattle.models.proofs.method.Method.number.Tie as tie
+use Rattle.models.proofs.method.Method.number as this
 
-returns : tie.Need-returns × tie.Need-returns-2 × tie.Need-returns-3 × tie.Need-returns-4 × tie.Need-returns-5 × tie.Need-returns-6 × tie.Need-returns-7 × tie.Need-returns-8 × tie.Need-returns-9 × tie.Need-returns-10 × tie.Need-returns-11 × tie.Need-returns-12 × tie.Need-returns-13
+returns : this.Tie.Need-returns × this.Tie.Need-returns-2 × this.Tie.Need-returns-3 × this.Tie.Need-returns-4 × this.Tie.Need-returns-5 × this.Tie.Need-returns-6 × this.Tie.Need-returns-7 × this.Tie.Need-returns-8 × this.Tie.Need-returns-9 × this.Tie.Need-returns-10 × this.Tie.Need-returns-11 × this.Tie.Need-returns-12 × this.Tie.Need-returns-13
 unfolding methodNumberOf
 returns = (
   λ c. simp (c .enum-told .given .1),
@@ -21,7 +20,8 @@ returns = (
   λ c. simp (c .enum-told13 .given .1),
 )
 
-pub number-spec : {M : Type 1} → statement M
-number-spec =
-    tie.close
-    (tie.spec (λ c. search needs) (λ c. search needs) (λ c. search needs) (λ c. search needs) (λ c. search needs) (λ c. search needs) (λ c. search needs) (λ c. search needs) (λ c. search needs) (λ c. search needs) (λ c. search needs) (λ c. search needs) (λ c. search needs) (returns .0) (returns .1) (returns .2) (returns .3) (returns .4) (returns .5) (returns .6) (returns .7) (returns .8) (returns .9) (returns .10) (returns .11) (returns .12))
+pub number-spec : {M : Type 1} → this.Statement.statement M
+number-spec = this.Tie.close (this.Tie.spec (λ c. search needs) (λ c. search needs) (λ c. search needs) (λ c. search needs) (λ c. search needs)
+    (λ c. search needs) (λ c. search needs) (λ c. search needs) (λ c. search needs) (λ c. search needs) (λ c. search needs) (λ c. search needs)
+    (λ c. search needs) (returns .0) (returns .1) (returns .2) (returns .3) (returns .4) (returns .5) (returns .6) (returns .7) (returns .8)
+    (returns .9) (returns .10) (returns .11) (returns .12))

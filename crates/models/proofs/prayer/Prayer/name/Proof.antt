@@ -1,11 +1,9 @@
 use Rattle.prelude.proofs.Logic.{sym, ap, _∙_, needs, w64}
-use Rattle.integers.proofs.Ranges.{read}
-use Rattle.models.specs.Names.{isFridayOf}
-use Rattle.models.specs.Names.{prayerNameOf}
-use Rattle.models.proofs.prayer.Prayer.name.Statement.{statement}
-use Rattle.models.proofs.prayer.Prayer.name.Tie as tie
+use Rattle.integers.proofs.Integers.{read}
+use Rattle.models.specs.Names.{isFridayOf, prayerNameOf}
+use Rattle.models.proofs.prayer.Prayer.name as this
 
-returns : tie.Need-returns × tie.Need-returns-2 × tie.Need-returns-3 × tie.Need-returns-4 × tie.Need-returns-5 × tie.Need-returns-6 × tie.Need-returns-7 × tie.Need-returns-8 × tie.Need-returns-9
+returns : this.Tie.Need-returns × this.Tie.Need-returns-2 × this.Tie.Need-returns-3 × this.Tie.Need-returns-4 × this.Tie.Need-returns-5 × this.Tie.Need-returns-6 × this.Tie.Need-returns-7 × this.Tie.Need-returns-8 × this.Tie.Need-returns-9
 unfolding prayerNameOf
 returns = (
   λ c. simp (c .enum-told .given .1),
@@ -19,7 +17,7 @@ returns = (
   λ c. simp (c .enum-told8 .given .1),
 )
 
-pub name-spec : {M : Type 1} → statement M
-name-spec =
-    tie.close
-    (tie.spec (λ c. search needs) (λ c. search needs) (λ c. search needs) (λ c κs. tt) (λ c. search needs) (λ c. search needs) (λ c. search needs) (λ c. search needs) (λ c. search needs) (returns .0) (returns .1) (returns .2) (returns .3) (returns .4) (returns .5) (returns .6) (returns .7) (returns .8))
+pub name-spec : {M : Type 1} → this.Statement.statement M
+name-spec = this.Tie.close (this.Tie.spec (λ c. search needs) (λ c. search needs) (λ c. search needs) (λ c κs. tt) (λ c. search needs)
+    (λ c. search needs) (λ c. search needs) (λ c. search needs) (λ c. search needs) (returns .0) (returns .1) (returns .2) (returns .3) (returns .4)
+    (returns .5) (returns .6) (returns .7) (returns .8))
