@@ -22,6 +22,4 @@ returns c =
     pair-made (now (s .args .line)) _ _ (s .args .at) _ _ (s .args .row) (s .args .minute) (s .pre .0) (rw x at (n .0)) (rw x at (n .1)) (e .0) (e .1)
 
 pub put-pair-spec : {M : Type 1} → statement M
-put-pair-spec =
-    tie.close
-    (tie.spec (λ c κs. search needs) put-row-requires (λ c. search needs) returns)
+put-pair-spec = tie.close (tie.spec (λ c κs. search needs) put-row-requires (λ c. search needs) returns)

@@ -37,9 +37,6 @@ add-row c =
     let m = c .before .before .before .before .before .before .before .before .before .before .before .before .before .before .before .pre .0 .rows .1 in
     record { fits = omega arith }
 
-same-length : tie.Need-same-length Inv-loop μ-loop
-same-length c = c .before .before .before .before .put-window .kept .0 ∙ c .before .before .before .before .before .before .before .before .before .before .loop .inv .same
-
 returns : tie.Need-returns Inv-loop μ-loop
 returns c =
     let t = c .before .before .before .before .before .before .before .before .before .before .before .before .before .before .before .before .before in
@@ -52,9 +49,6 @@ returns c =
     let w = l .inv .within in
     let e : l .row + 1 ≡ o .rows = omega (arith, c .if1 .taken) in
     (rw e at (line .place), rw e at (line .text))
-
-loop-less : tie.Need-loop-less Inv-loop μ-loop
-loop-less c = let w = c .before .before .before .before .before .before .before .before .before .before .before .loop .inv .within in omega arith
 
 loop-again : tie.Need-loop-again Inv-loop μ-loop
 loop-again c =
@@ -77,21 +71,6 @@ loop-again c =
 pub put-windows-spec : {M : Type 1} → statement M
 put-windows-spec =
     tie.close
-    (tie.spec
-    Inv-loop
-    μ-loop
-    (λ c κs. search needs)
-    (λ c κs. search needs)
-    loop-holds
-    (λ c κs. search needs)
-    (λ c κs. search needs)
-    (λ c κs. search needs)
-    (λ c κs. search needs)
-    (λ c κs. search needs)
-    add-end
-    add-row
-    same-length
-    returns
-    (λ c κs. search needs)
-    loop-less
+    (tie.spec Inv-loop μ-loop (λ c κs. search needs) (λ c κs. search needs) loop-holds (λ c κs. search needs) (λ c κs. search needs)
+    (λ c κs. search needs) (λ c κs. search needs) (λ c κs. search needs) add-end add-row (λ c. cc) returns (λ c κs. search needs) (λ c. omega arith)
     loop-again)

@@ -3,20 +3,9 @@ use Rattle.prelude.proofs.Logic.{needs}
 use Rattle.weeks.proofs.week.last.Statement.{statement}
 use Rattle.weeks.proofs.week.last.Tie as tie
 
-returns : tie.Need-returns
-unfolding lastWindowOf
-returns c =
-    simp (
-      c .seen6 .ensures,
-      c .before .seen5 .ensures,
-      c .before .before .seen4 .ensures,
-      c .before .before .before .seen3 .ensures,
-      c .before .before .before .before .seen2 .ensures,
-      c .before .before .before .before .before .seen .ensures,
-      c .before .before .before .before .before .before .begin .ensures,
-    )
-
 pub last-spec : {M : Type 1} → statement M
+unfolding lastWindowOf
 last-spec =
     tie.close
-    (tie.spec (λ c κs. tt) (λ c. search needs) (λ c κs. tt) (λ c. search needs) (λ c κs. tt) (λ c. search needs) (λ c κs. tt) (λ c. search needs) (λ c κs. tt) (λ c. search needs) (λ c κs. tt) (λ c. search needs) (λ c κs. tt) returns)
+    (tie.spec (λ c κs. tt) (λ c. search needs) (λ c κs. tt) (λ c. search needs) (λ c κs. tt) (λ c. search needs) (λ c κs. tt) (λ c. search needs)
+    (λ c κs. tt) (λ c. search needs) (λ c κs. tt) (λ c. search needs) (λ c κs. tt) (λ c. cc))
