@@ -57,16 +57,5 @@ returns-2 c =
 pub write-read-spec : {M : Type 1} → statement M
 write-read-spec =
     tie.close
-    (tie.spec
-    (λ c κs. search needs)
-    (λ c κs. search needs)
-    (λ c κs. search needs)
-    returns
-    (λ c. search needs)
-    (λ c κs. search needs)
-    sub-write-rows
-    mul-write-rows
-    add-write-rows
-    write-rows-requires
-    (λ c. search needs)
-    returns-2)
+    (tie.spec (λ c κs. search needs) (λ c κs. search needs) (λ c κs. search needs) returns (λ c. search needs) (λ c κs. search needs) sub-write-rows
+    mul-write-rows add-write-rows write-rows-requires (λ c. search needs) returns-2)

@@ -83,9 +83,6 @@ add-next c =
     let rows = p .0 .rows .1 in
     record { fits = omega arith }
 
-same-length : tie.Need-same-length Inv-loop μ-loop
-same-length c = c .before .before .before .put-cells .kept .0 ∙ c .before .before .before .before .before .before .before .loop .inv .same
-
 returns : tie.Need-returns Inv-loop μ-loop
 returns c =
     let t = c .before .before .before .before .before .before .before .before .before .before .before .before .before .before .before in
@@ -142,4 +139,5 @@ loop-again c =
 pub put-rows-spec : {M : Type 1} → statement M
 put-rows-spec =
     tie.close
-    (tie.spec Inv-loop μ-loop (λ c κs. search needs) (λ c κs. search needs) loop-holds (λ c κs. search needs) (λ c. c .before .loop .inv .from) cast-at mul-at (λ c κs. search needs) add-dots add-next same-length returns (λ c κs. search needs) loop-less loop-again)
+    (tie.spec Inv-loop μ-loop (λ c κs. search needs) (λ c κs. search needs) loop-holds (λ c κs. search needs) (λ c. c .before .loop .inv .from)
+    cast-at mul-at (λ c κs. search needs) add-dots add-next (λ c. cc) returns (λ c κs. search needs) loop-less loop-again)

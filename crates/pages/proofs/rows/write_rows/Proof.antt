@@ -10,5 +10,4 @@ returns c =
     rows-counted (a .order) (a .row) (a .count) _ _ (now (a .buffer)) _ (c .none .ensures) (put .0) (put .1)
 
 pub write-rows-spec : {M : Type 1} → statement M
-write-rows-spec =
-    tie.close (tie.spec (λ c. search needs) (λ c κs. search needs) (λ c κs. search needs) (λ c. search needs) returns)
+write-rows-spec = tie.close (tie.spec (λ c. search needs) (λ c κs. search needs) (λ c κs. search needs) (λ c. search needs) returns)
