@@ -3,8 +3,5 @@ use Rattle.katchidul.specs.Map.{mapAnswerOf}
 use Rattle.katchidul.proofs.map.katchidul_map_latitude.Statement.{statement}
 use Rattle.katchidul.proofs.map.katchidul_map_latitude.Tie as tie
 
-returns : tie.Need-returns
-returns c = c .map-answer .ensures ∙ ap mapAnswerOf (c .before .write-latitude .ensures .0)
-
 pub katchidul-map-latitude-spec : {M : Type 1} → statement M
-katchidul-map-latitude-spec = tie.close (tie.spec (λ c κs. tt) (λ c κs. tt) returns)
+katchidul-map-latitude-spec = tie.close (tie.spec (λ c κs. tt) (λ c κs. tt) (λ c. cc))

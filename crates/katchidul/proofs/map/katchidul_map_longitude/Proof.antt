@@ -3,8 +3,5 @@ use Rattle.katchidul.specs.Map.{mapAnswerOf}
 use Rattle.katchidul.proofs.map.katchidul_map_longitude.Statement.{statement}
 use Rattle.katchidul.proofs.map.katchidul_map_longitude.Tie as tie
 
-returns : tie.Need-returns
-returns c = c .map-answer .ensures ∙ ap mapAnswerOf (c .before .write-longitude .ensures .0)
-
 pub katchidul-map-longitude-spec : {M : Type 1} → statement M
-katchidul-map-longitude-spec = tie.close (tie.spec (λ c κs. tt) (λ c κs. tt) returns)
+katchidul-map-longitude-spec = tie.close (tie.spec (λ c κs. tt) (λ c κs. tt) (λ c. cc))

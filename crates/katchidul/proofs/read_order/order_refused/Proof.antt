@@ -5,10 +5,6 @@ use Rattle.float64.specs.Ops.{dec}
 use Rattle.katchidul.proofs.read_order.order_refused.Statement.{statement}
 use Rattle.katchidul.proofs.read_order.order_refused.Tie as tie
 
-returns : tie.Need-returns
-unfolding orderRefused dec round ofBits
-returns c =
-    simp (sym (c .no-choices .ensures), sym (c .before .no-minutes .ensures))
-
 pub order-refused-spec : {M : Type 1} → statement M
-order-refused-spec = tie.close (tie.spec (λ c κs. tt) (λ c κs. tt) returns)
+unfolding orderRefused dec round ofBits
+order-refused-spec = tie.close (tie.spec (λ c κs. tt) (λ c κs. tt) (λ c. cc))

@@ -11,5 +11,4 @@ returns c =
     c .remaining-answer .ensures ∙ ap remainingAnswerOf (c .before .remaining-at .ensures) ∙ simp (c .before .before .instant .ensures, r)
 
 pub katchidul-remaining-at-spec : {M : Type 1} → statement M
-katchidul-remaining-at-spec =
-    tie.close (tie.spec (λ c κs. tt) (λ c κs. tt) (λ c κs. tt) returns)
+katchidul-remaining-at-spec = tie.close (tie.spec (λ c κs. tt) (λ c κs. tt) (λ c κs. tt) returns)

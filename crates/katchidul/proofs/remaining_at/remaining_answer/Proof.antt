@@ -3,13 +3,6 @@ use Rattle.prelude.proofs.Logic.{needs}
 use Rattle.katchidul.proofs.remaining_at.remaining_answer.Statement.{statement}
 use Rattle.katchidul.proofs.remaining_at.remaining_answer.Tie as tie
 
-returns : tie.Need-returns
-unfolding remainingAnswerOf
-returns c = simp (c .before .answer .given .1)
-
-returns-2 : tie.Need-returns-2
-unfolding remainingAnswerOf
-returns-2 c = simp (c .before .answer2 .given .1)
-
 pub remaining-answer-spec : {M : Type 1} → statement M
-remaining-answer-spec = tie.close (tie.spec (λ c. search needs) (λ c. search needs) returns returns-2)
+unfolding remainingAnswerOf
+remaining-answer-spec = tie.close (tie.spec (λ c. search needs) (λ c. search needs) (λ c. cc) (λ c. cc))

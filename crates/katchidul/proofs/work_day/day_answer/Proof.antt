@@ -3,19 +3,9 @@ use Rattle.katchidul.specs.Exports.{dayAnswerOf}
 use Rattle.katchidul.proofs.work_day.day_answer.Statement.{statement}
 use Rattle.katchidul.proofs.work_day.day_answer.Tie as tie
 
-returns : tie.Need-returns
-unfolding dayAnswerOf
-returns c =
-    let e0 = c .times-worked .ensures in
-    simp (sym e0, c .before .before .worked .given .1)
-
-returns-2 : tie.Need-returns-2
-unfolding dayAnswerOf
-returns-2 c =
-    let e0 = c .no-times .ensures in
-    simp (sym e0, c .before .before .worked2 .given .1)
-
 pub day-answer-spec : {M : Type 1} → statement M
+unfolding dayAnswerOf
 day-answer-spec =
     tie.close
-    (tie.spec (λ c. search needs) (λ c κs. tt) (λ c. search needs) (λ c κs. tt) returns returns-2)
+    (tie.spec (λ c. search needs) (λ c κs. tt) (λ c. search needs) (λ c κs. tt)
+    (λ c. simp (sym (c .times-worked .ensures), c .before .before .worked .given .1)) (λ c. cc))
