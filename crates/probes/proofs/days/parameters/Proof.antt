@@ -17,6 +17,4 @@ returns c =
     simp (toZ-ofZ f0, e0, e1, e2, e3, e4, e5, e6)
 
 pub parameters-spec : {M : Type 1} → statement M
-parameters-spec =
-    tie.close
-    (tie.spec (λ c κs. tt) (λ c κs. tt) (λ c κs. tt) (λ c κs. tt) (λ c κs. tt) (λ c κs. tt) (λ c κs. tt) returns)
+parameters-spec = tie.close (tie.spec (λ c κs. tt) (λ c κs. tt) (λ c κs. tt) (λ c κs. tt) (λ c κs. tt) (λ c κs. tt) (λ c κs. tt) returns)

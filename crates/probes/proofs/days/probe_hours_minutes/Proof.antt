@@ -3,13 +3,6 @@ use Rattle.prelude.proofs.Logic.{needs}
 use Rattle.probes.proofs.days.probe_hours_minutes.Statement.{statement}
 use Rattle.probes.proofs.days.probe_hours_minutes.Tie as tie
 
-returns : tie.Need-returns
-unfolding probeRemainingOf
-returns c = simp (c .before .remaining .given .1)
-
-returns-2 : tie.Need-returns-2
-unfolding probeRemainingOf
-returns-2 c = simp (c .enum-told .given .1)
-
 pub probe-hours-minutes-spec : {M : Type 1} → statement M
-probe-hours-minutes-spec = tie.close (tie.spec (λ c. search needs) (λ c. search needs) returns returns-2)
+unfolding probeRemainingOf
+probe-hours-minutes-spec = tie.close (tie.spec (λ c. search needs) (λ c. search needs) (λ c. cc) (λ c. cc))

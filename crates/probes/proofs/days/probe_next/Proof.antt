@@ -16,5 +16,4 @@ returns c =
     e0 ∙ ap currentNumberOf (e1 ∙ at nextOf (a .times) (a .seconds) (a .nanoseconds) (t .result) (i .result) (start .fits .seconds) (t .ensures) (i .ensures))
 
 pub probe-next-spec : {M : Type 1} → statement M
-probe-next-spec =
-    tie.close (tie.spec (λ c κs. tt) (λ c κs. tt) (λ c κs. tt) (λ c κs. tt) returns)
+probe-next-spec = tie.close (tie.spec (λ c κs. tt) (λ c κs. tt) (λ c κs. tt) (λ c κs. tt) returns)

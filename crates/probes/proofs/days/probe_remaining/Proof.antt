@@ -16,5 +16,4 @@ returns c =
     e0 ∙ ap probeRemainingOf (e1 ∙ at timeRemainingOf (a .times) (a .seconds) (a .nanoseconds) (t .result) (i .result) (start .fits .seconds) (t .ensures) (i .ensures))
 
 pub probe-remaining-spec : {M : Type 1} → statement M
-probe-remaining-spec =
-    tie.close (tie.spec (λ c κs. tt) (λ c κs. tt) (λ c κs. tt) (λ c κs. tt) returns)
+probe-remaining-spec = tie.close (tie.spec (λ c κs. tt) (λ c κs. tt) (λ c κs. tt) (λ c κs. tt) returns)

@@ -13,5 +13,4 @@ returns c =
     ∙ ap (seasonAdjustedEveningTwilightOf (t .args .latitude) (t .args .day) (t .args .year) (t .args .sunset)) (c .before .of-number .ensures)
 
 pub probe-evening-twilight-spec : {M : Type 1} → statement M
-probe-evening-twilight-spec =
-    tie.close (tie.spec (λ c κs. tt) (λ c κs. tt) returns)
+probe-evening-twilight-spec = tie.close (tie.spec (λ c κs. tt) (λ c κs. tt) returns)

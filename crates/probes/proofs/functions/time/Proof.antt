@@ -3,15 +3,9 @@ use Rattle.probes.specs.Functions.{probeTimeOf}
 use Rattle.probes.proofs.functions.time.Statement.{statement}
 use Rattle.probes.proofs.functions.time.Tie as tie
 
-returns : tie.Need-returns
-unfolding probeTimeOf
-returns c =
-    let f0 : SFits w32 (c .before .hour .given .0 .0) = search needs in
-    simp (toZ-ofZ f0, c .before .hour .given .1)
-
-returns-2 : tie.Need-returns-2
-unfolding probeTimeOf
-returns-2 c = simp (c .enum-told .given .1)
-
 pub time-spec : {M : Type 1} → statement M
-time-spec = tie.close (tie.spec (λ c. search needs) (λ c. search needs) returns returns-2)
+unfolding probeTimeOf
+time-spec =
+    tie.close
+    (tie.spec (λ c. search needs) (λ c. search needs) (λ c. let f0 : SFits w32 (c .before .hour .given .0 .0) = search needs in cc (toZ-ofZ f0))
+    (λ c. cc))

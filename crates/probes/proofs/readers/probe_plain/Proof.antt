@@ -4,15 +4,6 @@ use Rattle.probes.specs.Readers.{plainIn}
 use Rattle.probes.proofs.readers.probe_plain.Statement.{statement}
 use Rattle.probes.proofs.readers.probe_plain.Tie as tie
 
-returns : tie.Need-returns
-unfolding plainIn
-returns c = simp (c .plain-read .ensures, sym (c .before .before .before .before .read .ensures), c .before .before .«record» .given .1)
-
-returns-2 : tie.Need-returns-2
-unfolding plainIn
-returns-2 c = simp (c .plain-refused .ensures, sym (c .before .before .before .before .read .ensures), c .before .before .refusal .given .1)
-
 pub probe-plain-spec : {M : Type 1} → statement M
-probe-plain-spec =
-    tie.close
-    (tie.spec (λ c κs. tt) (λ c. search needs) (λ c κs. tt) (λ c. search needs) (λ c κs. tt) returns returns-2)
+unfolding plainIn
+probe-plain-spec = tie.close (tie.spec (λ c κs. tt) (λ c. search needs) (λ c κs. tt) (λ c. search needs) (λ c κs. tt) (λ c. cc) (λ c. cc))
