@@ -1,5 +1,6 @@
 -- Request 6's promise, over every history. Assumes nothing.
 use Rattle.prelude.proofs.Logic.{_≡_, refl, sym, ap, subst, _∙_, Bool, true, false, cond, List, [], _∷_, _++_, ℕ, zero, suc, _+_, _-_, _*_, _≤_, arith, leb, length, length-append, le-leb}
+use Rattle.prelude.proofs.Cases.{either-way}
 use Rattle.refusals.specs.Refusals.{logSecondShort}
 use Rattle.text.specs.Text.{putOf}
 use Rattle.joblog.specs.declared.records.State.{State}
@@ -21,11 +22,7 @@ not-has false h = refl
 room-answer : (t : State) (place : ℕ) (log second : List ℕ)
     → compactingOf t (compactedOf t) place log second .answer .number ≡ cond (leb (5 + 5 * (t .sent - t .finished)) (length second)) 0 12
 unfolding compactAnswer
-room-answer t place log second = rw (compacted-length t) (by-test (leb (5 + 5 * (t .sent - t .finished)) (length second)))
-  where
-    by-test : (b : Bool) → cond b (answered 1 t (5 + 5 * (t .sent - t .finished))) (refused logSecondShort place) .number ≡ cond b 0 12
-    by-test true = refl
-    by-test false = refl
+room-answer t place log second = let test = leb (5 + 5 * (t .sent - t .finished)) (length second) in rw (compacted-length t) (either-way test (λ e. simp e) (λ e. simp e))
 
 kept : (w : World) → Inv w → Kept w
 kept w i =
