@@ -3,6 +3,13 @@ use Rattle.schedule.specs.InForce.{currentNumberOf}
 use Rattle.katchidul.proofs.prayer_at.current_number.Statement.{statement}
 use Rattle.katchidul.proofs.prayer_at.current_number.Tie as tie
 
-pub current-number-spec : {M : Type 1} → statement M
+returns : tie.Need-returns
 unfolding currentNumberOf
-current-number-spec = tie.close (tie.spec (λ c. search needs) (λ c κs. tt) (λ c. search needs) (λ c. cc) (λ c. cc))
+returns c = cc
+
+returns-2 : tie.Need-returns-2
+unfolding currentNumberOf
+returns-2 c = cc
+
+pub current-number-spec : {M : Type 1} → statement M
+current-number-spec = tie.close (tie.spec (λ c. search needs) (λ c κs. tt) (λ c. search needs) returns returns-2)

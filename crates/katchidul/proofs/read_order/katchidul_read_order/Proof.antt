@@ -3,6 +3,13 @@ use Rattle.katchidul.specs.Exports.{orderAnswerOf, orderIn}
 use Rattle.katchidul.proofs.read_order.katchidul_read_order.Statement.{statement}
 use Rattle.katchidul.proofs.read_order.katchidul_read_order.Tie as tie
 
-pub katchidul-read-order-spec : {M : Type 1} → statement M
+returns : tie.Need-returns
 unfolding orderAnswerOf orderIn
-katchidul-read-order-spec = tie.close (tie.spec (λ c κs. tt) (λ c. search needs) (λ c κs. tt) (λ c. search needs) (λ c κs. tt) (λ c. cc) (λ c. cc))
+returns c = cc
+
+returns-2 : tie.Need-returns-2
+unfolding orderAnswerOf orderIn
+returns-2 c = cc
+
+pub katchidul-read-order-spec : {M : Type 1} → statement M
+katchidul-read-order-spec = tie.close (tie.spec (λ c κs. tt) (λ c. search needs) (λ c κs. tt) (λ c. search needs) (λ c κs. tt) returns returns-2)

@@ -3,6 +3,9 @@ use Rattle.katchidul.specs.Sentence.{meaningAnswerOf}
 use Rattle.katchidul.proofs.sentence.meaning_answer.Statement.{statement}
 use Rattle.katchidul.proofs.sentence.meaning_answer.Tie as tie
 
-pub meaning-answer-spec : {M : Type 1} → statement M
+returns : tie.Need-returns
 unfolding meaningAnswerOf
-meaning-answer-spec = tie.close (tie.spec (λ c. refl))
+returns c = refl
+
+pub meaning-answer-spec : {M : Type 1} → statement M
+meaning-answer-spec = tie.close (tie.spec returns)

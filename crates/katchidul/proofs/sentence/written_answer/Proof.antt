@@ -3,6 +3,9 @@ use Rattle.katchidul.specs.Sentence.{writtenAnswerOf}
 use Rattle.katchidul.proofs.sentence.written_answer.Statement.{statement}
 use Rattle.katchidul.proofs.sentence.written_answer.Tie as tie
 
-pub written-answer-spec : {M : Type 1} → statement M
+returns : tie.Need-returns
 unfolding writtenAnswerOf
-written-answer-spec = tie.close (tie.spec (λ c. refl))
+returns c = refl
+
+pub written-answer-spec : {M : Type 1} → statement M
+written-answer-spec = tie.close (tie.spec returns)

@@ -3,9 +3,15 @@ use Rattle.katchidul.specs.Exports.{dayAnswerOf}
 use Rattle.katchidul.proofs.work_day.day_answer.Statement.{statement}
 use Rattle.katchidul.proofs.work_day.day_answer.Tie as tie
 
-pub day-answer-spec : {M : Type 1} → statement M
+returns : tie.Need-returns
 unfolding dayAnswerOf
-day-answer-spec =
-    tie.close
-    (tie.spec (λ c. search needs) (λ c κs. tt) (λ c. search needs) (λ c κs. tt)
-    (λ c. simp (sym (c .times-worked .ensures), c .before .before .worked .given .1)) (λ c. cc))
+returns c =
+    let e0 = c .times-worked .ensures in
+    simp (sym e0, c .before .before .worked .given .1)
+
+returns-2 : tie.Need-returns-2
+unfolding dayAnswerOf
+returns-2 c = cc
+
+pub day-answer-spec : {M : Type 1} → statement M
+day-answer-spec = tie.close (tie.spec (λ c. search needs) (λ c κs. tt) (λ c. search needs) (λ c κs. tt) returns returns-2)

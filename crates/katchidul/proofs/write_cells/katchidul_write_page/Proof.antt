@@ -3,8 +3,10 @@ use Rattle.katchidul.specs.Punched.{cellsAnswerOf}
 use Rattle.katchidul.proofs.write_cells.katchidul_write_page.Statement.{statement}
 use Rattle.katchidul.proofs.write_cells.katchidul_write_page.Tie as tie
 
+returns : tie.Need-returns
+returns c =
+    let e = c .before .before .before .write-page .ensures in
+    (c .cells-answer .ensures ∙ ap cellsAnswerOf (e .0), e .1)
+
 pub katchidul-write-page-spec : {M : Type 1} → statement M
-katchidul-write-page-spec =
-    tie.close
-    (tie.spec (λ c κs. tt) (λ c κs. tt) (λ c. search needs)
-    (λ c. let e = c .before .before .before .write-page .ensures in (c .cells-answer .ensures ∙ ap cellsAnswerOf (e .0), e .1)))
+katchidul-write-page-spec = tie.close (tie.spec (λ c κs. tt) (λ c κs. tt) (λ c. search needs) returns)

@@ -3,6 +3,9 @@ use Rattle.katchidul.specs.Exports.{replyOf}
 use Rattle.katchidul.proofs.write_row.reply.Statement.{statement}
 use Rattle.katchidul.proofs.write_row.reply.Tie as tie
 
-pub reply-spec : {M : Type 1} → statement M
+returns : tie.Need-returns
 unfolding replyOf
-reply-spec = tie.close (tie.spec (λ c. refl))
+returns c = refl
+
+pub reply-spec : {M : Type 1} → statement M
+reply-spec = tie.close (tie.spec returns)

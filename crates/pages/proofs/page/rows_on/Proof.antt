@@ -3,6 +3,9 @@ use Rattle.pages.proofs.PageLaws.{page-none, page-length}
 use Rattle.pages.proofs.page.rows_on.Statement.{statement}
 use Rattle.pages.proofs.page.rows_on.Tie as tie
 
+returns : tie.Need-returns
+returns c = let a = c .before .args in page-none (a .order) (a .page) (c .if1 .taken)
+
 returns-2 : tie.Need-returns-2
 returns-2 c =
     let a = c .before .before .before .args in
@@ -24,5 +27,5 @@ returns-4 c =
 pub rows-on-spec : {M : Type 1} → statement M
 rows-on-spec =
     tie.close
-    (tie.spec (λ c. let a = c .before .args in page-none (a .order) (a .page) (c .if1 .taken)) (λ c. search needs) (λ c. search needs)
-    (λ c. search needs) (λ c. search needs) returns-2 (λ c. search needs) (λ c. search needs) returns-3 returns-4)
+    (tie.spec returns (λ c. search needs) (λ c. search needs) (λ c. search needs) (λ c. search needs) returns-2 (λ c. search needs)
+    (λ c. search needs) returns-3 returns-4)

@@ -4,8 +4,10 @@ use Rattle.pages.proofs.ReportLaws.{all-written}
 use Rattle.pages.proofs.report.all_dots.Statement.{statement}
 use Rattle.pages.proofs.report.all_dots.Tie as tie
 
+returns : tie.Need-returns
+returns c =
+    let o = c .before .before .before .args .order in
+    c .before .put-rows .ensures .0 ∙ ap dotsOf (all-written o)
+
 pub all-dots-spec : {M : Type 1} → statement M
-all-dots-spec =
-    tie.close
-    (tie.spec (λ c. search needs) (λ c κs. search needs)
-    (λ c. c .before .put-rows .ensures .0 ∙ ap dotsOf (all-written (c .before .before .before .args .order))))
+all-dots-spec = tie.close (tie.spec (λ c. search needs) (λ c κs. search needs) returns)

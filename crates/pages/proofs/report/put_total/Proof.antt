@@ -24,4 +24,5 @@ returns c =
 pub put-total-spec : {M : Type 1} → statement M
 put-total-spec =
     tie.close
-    (tie.spec (λ c. search needs) (λ c κs. search needs) (λ c κs. search needs) add-end (λ c. search needs) (λ c κs. search needs) add-result (λ c. search needs) returns)
+    (tie.spec (λ c. search needs) (λ c κs. search needs) (λ c κs. search needs) add-end (λ c. search needs) (λ c κs. search needs) add-result
+    (λ c. search needs) returns)

@@ -7,6 +7,11 @@ use Rattle.pages.proofs.ReportLaws.{refused-made, cells-read, cells-ref
 use Rattle.pages.proofs.report.write_pages.Statement.{statement}
 use Rattle.pages.proofs.report.write_pages.Tie as tie
 
+returns : tie.Need-returns
+returns c =
+    let a = c .before .before .before .args in
+    printed-short longestCells (cellsText (now (a .order))) (now (a .buffer)) (c .if1 .taken)
+
 put-pages-requires : tie.Need-put-pages-requires
 put-pages-requires c κs =
     let a = c .before .before .before .before .before .before .before .before .args in
@@ -36,7 +41,5 @@ returns-3 c =
 pub write-pages-spec : {M : Type 1} → statement M
 write-pages-spec =
     tie.close
-    (tie.spec
-    (λ c. let a = c .before .before .before .args in printed-short longestCells (cellsText (now (a .order))) (now (a .buffer)) (c .if1 .taken))
-    (λ c κs. search needs) (λ c. search needs) put-pages-requires (λ c. search needs) (λ c κs. search needs) (λ c. search needs) returns-2
-    (λ c. search needs) returns-3)
+    (tie.spec returns (λ c κs. search needs) (λ c. search needs) put-pages-requires (λ c. search needs) (λ c κs. search needs) (λ c. search needs)
+    returns-2 (λ c. search needs) returns-3)

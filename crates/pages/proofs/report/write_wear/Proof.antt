@@ -7,6 +7,11 @@ use Rattle.pages.proofs.ReportLaws.{refused-made, wear-read, wear-refus
 use Rattle.pages.proofs.report.write_wear.Statement.{statement}
 use Rattle.pages.proofs.report.write_wear.Tie as tie
 
+returns : tie.Need-returns
+returns c =
+    let a = c .before .before .before .args in
+    printed-short longestWear (wearText (now (a .order))) (now (a .buffer)) (c .if1 .taken)
+
 all-dots-requires : tie.Need-all-dots-requires
 all-dots-requires c κs =
     let a = c .before .before .before .before .before .before .before .before .args in
@@ -36,7 +41,5 @@ returns-3 c =
 pub write-wear-spec : {M : Type 1} → statement M
 write-wear-spec =
     tie.close
-    (tie.spec
-    (λ c. let a = c .before .before .before .args in printed-short longestWear (wearText (now (a .order))) (now (a .buffer)) (c .if1 .taken))
-    (λ c κs. search needs) (λ c. search needs) all-dots-requires (λ c κs. search needs) (λ c. search needs) (λ c κs. search needs) (λ c. search needs)
-    returns-2 (λ c. search needs) returns-3)
+    (tie.spec returns (λ c κs. search needs) (λ c. search needs) all-dots-requires (λ c κs. search needs) (λ c. search needs) (λ c κs. search needs)
+    (λ c. search needs) returns-2 (λ c. search needs) returns-3)

@@ -3,9 +3,15 @@ use Rattle.probes.specs.Days.{probeDayOf}
 use Rattle.probes.proofs.days.answered.Statement.{statement}
 use Rattle.probes.proofs.days.answered.Tie as tie
 
-pub answered-spec : {M : Type 1} → statement M
+returns : tie.Need-returns
 unfolding probeDayOf
-answered-spec =
-    tie.close
-    (tie.spec (λ c. search needs) (λ c κs. tt) (λ c. search needs) (λ c κs. tt)
-    (λ c. simp (sym (c .probe-times .ensures), c .before .before .worked .given .1)) (λ c. cc))
+returns c =
+    let e0 = c .probe-times .ensures in
+    simp (sym e0, c .before .before .worked .given .1)
+
+returns-2 : tie.Need-returns-2
+unfolding probeDayOf
+returns-2 c = cc
+
+pub answered-spec : {M : Type 1} → statement M
+answered-spec = tie.close (tie.spec (λ c. search needs) (λ c κs. tt) (λ c. search needs) (λ c κs. tt) returns returns-2)

@@ -3,6 +3,13 @@ use Rattle.prelude.proofs.Logic.{needs}
 use Rattle.probes.proofs.days.probe_hours_minutes.Statement.{statement}
 use Rattle.probes.proofs.days.probe_hours_minutes.Tie as tie
 
-pub probe-hours-minutes-spec : {M : Type 1} → statement M
+returns : tie.Need-returns
 unfolding probeRemainingOf
-probe-hours-minutes-spec = tie.close (tie.spec (λ c. search needs) (λ c. search needs) (λ c. cc) (λ c. cc))
+returns c = cc
+
+returns-2 : tie.Need-returns-2
+unfolding probeRemainingOf
+returns-2 c = cc
+
+pub probe-hours-minutes-spec : {M : Type 1} → statement M
+probe-hours-minutes-spec = tie.close (tie.spec (λ c. search needs) (λ c. search needs) returns returns-2)

@@ -4,6 +4,9 @@ use Rattle.probes.specs.Readers.{plainRead}
 use Rattle.probes.proofs.readers.plain_read.Statement.{statement}
 use Rattle.probes.proofs.readers.plain_read.Tie as tie
 
-pub plain-read-spec : {M : Type 1} → statement M
+returns : tie.Need-returns
 unfolding plainRead
-plain-read-spec = tie.close (tie.spec (λ c. refl))
+returns c = refl
+
+pub plain-read-spec : {M : Type 1} → statement M
+plain-read-spec = tie.close (tie.spec returns)

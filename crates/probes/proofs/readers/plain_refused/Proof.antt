@@ -6,6 +6,9 @@ use Rattle.probes.specs.Readers.{plainRefused}
 use Rattle.probes.proofs.readers.plain_refused.Statement.{statement}
 use Rattle.probes.proofs.readers.plain_refused.Tie as tie
 
-pub plain-refused-spec : {M : Type 1} → statement M
+returns : tie.Need-returns
 unfolding plainRefused dec round ofBits
-plain-refused-spec = tie.close (tie.spec (λ c. refl))
+returns c = refl
+
+pub plain-refused-spec : {M : Type 1} → statement M
+plain-refused-spec = tie.close (tie.spec returns)

@@ -4,6 +4,13 @@ use Rattle.probes.specs.Readers.{plainIn}
 use Rattle.probes.proofs.readers.probe_plain.Statement.{statement}
 use Rattle.probes.proofs.readers.probe_plain.Tie as tie
 
-pub probe-plain-spec : {M : Type 1} → statement M
+returns : tie.Need-returns
 unfolding plainIn
-probe-plain-spec = tie.close (tie.spec (λ c κs. tt) (λ c. search needs) (λ c κs. tt) (λ c. search needs) (λ c κs. tt) (λ c. cc) (λ c. cc))
+returns c = cc
+
+returns-2 : tie.Need-returns-2
+unfolding plainIn
+returns-2 c = cc
+
+pub probe-plain-spec : {M : Type 1} → statement M
+probe-plain-spec = tie.close (tie.spec (λ c κs. tt) (λ c. search needs) (λ c κs. tt) (λ c. search needs) (λ c κs. tt) returns returns-2)

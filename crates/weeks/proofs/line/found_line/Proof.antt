@@ -56,4 +56,5 @@ returns c =
 pub found-line-spec : {M : Type 1} → statement M
 found-line-spec =
     tie.close
-    (tie.spec (λ c. search needs) (λ c κs. search needs) put-pair-requires put-pair-requires-2 (λ c. search needs) (λ c κs. search needs) add-result (λ c. search needs) returns)
+    (tie.spec (λ c. search needs) (λ c κs. search needs) put-pair-requires put-pair-requires-2 (λ c. search needs) (λ c κs. search needs) add-result
+    (λ c. search needs) returns)

@@ -15,8 +15,9 @@ returns-2 c =
     let e = c .before .before .found-line .ensures in
     line-found (now (s .args .line)) _ (s .args .window) _ (c .before .before .before .before .before .if1 .taken) (c .before .before .before .before .if2 .left) (e .0) (e .1)
 
+returns-3 : tie.Need-returns-3
+returns-3 c = line-none (now (c .before .before .args .line)) (c .before .before .args .window) (c .if1 .left)
+
 pub make-line-spec : {M : Type 1} → statement M
 make-line-spec =
-    tie.close
-    (tie.spec (λ c κs. search needs) (λ c. search needs) returns (λ c κs. search needs) (λ c. search needs) returns-2
-    (λ c. line-none (now (c .before .before .args .line)) (c .before .before .args .window) (c .if1 .left)))
+    tie.close (tie.spec (λ c κs. search needs) (λ c. search needs) returns (λ c κs. search needs) (λ c. search needs) returns-2 returns-3)

@@ -14,6 +14,9 @@ returns c =
     let k : readBack w64 (c .whole-minutes .result) ≡ c .whole-minutes .result = search needs in
     simp (g .1) (ap At (k ∙ c .whole-minutes .ensures ∙ ap (λ (z : ℤ). floorQuot z 60) (read w64 (g .0 .0) f)))
 
-pub minute-of-spec : {M : Type 1} → statement M
+returns-2 : tie.Need-returns-2
 unfolding minuteFrom
-minute-of-spec = tie.close (tie.spec (λ c. search needs) (λ c κs. search needs) (λ c. search needs) returns (λ c. cc))
+returns-2 c = cc
+
+pub minute-of-spec : {M : Type 1} → statement M
+minute-of-spec = tie.close (tie.spec (λ c. search needs) (λ c κs. search needs) (λ c. search needs) returns returns-2)

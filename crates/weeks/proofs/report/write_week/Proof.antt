@@ -10,6 +10,11 @@ use Rattle.weeks.proofs.PrintedLaws.{week-read, week-refused}
 use Rattle.weeks.proofs.report.write_week.Statement.{statement}
 use Rattle.weeks.proofs.report.write_week.Tie as tie
 
+returns : tie.Need-returns
+returns c =
+    let a = c .before .before .before .args in
+    printed-short longestWeek (weekText (now (a .order))) (now (a .buffer)) (c .if1 .taken)
+
 put-report-requires : tie.Need-put-report-requires
 put-report-requires c κs =
     let a = c .before .before .before .before .before .before .before .before .args in
@@ -40,7 +45,5 @@ returns-3 c =
 pub write-week-spec : {M : Type 1} → statement M
 write-week-spec =
     tie.close
-    (tie.spec
-    (λ c. let a = c .before .before .before .args in printed-short longestWeek (weekText (now (a .order))) (now (a .buffer)) (c .if1 .taken))
-    (λ c κs. search needs) (λ c. search needs) put-report-requires (λ c. search needs) (λ c κs. search needs) (λ c. search needs) returns-2
-    (λ c. search needs) returns-3)
+    (tie.spec returns (λ c κs. search needs) (λ c. search needs) put-report-requires (λ c. search needs) (λ c κs. search needs) (λ c. search needs)
+    returns-2 (λ c. search needs) returns-3)

@@ -4,6 +4,10 @@ use Rattle.weeks.specs.Windows.{seenOf}
 use Rattle.weeks.proofs.window.seen.Statement.{statement}
 use Rattle.weeks.proofs.window.seen.Tie as tie
 
+returns : tie.Need-returns
+unfolding seenOf
+returns c = cc
+
 returns-2 : tie.Need-returns-2
 returns-2 c =
     let s = c .before .before .before .before .before .before in
@@ -11,7 +15,10 @@ returns-2 c =
     let x : toZ w64 (ofZ w64 (g .0 .0)) ≡ g .0 .0 = search needs in
     both-seen (s .args .window) _ _ (s .args .row) (g .0 .0) _ (s .args .minute) (g .1) x (c .before .before .if1 .left) (c .before .with-earliest .ensures) (c .with-latest .ensures)
 
-pub seen-spec : {M : Type 1} → statement M
+returns-3 : tie.Need-returns-3
 unfolding seenOf
+returns-3 c = cc
+
+pub seen-spec : {M : Type 1} → statement M
 seen-spec =
-    tie.close (tie.spec (λ c. search needs) (λ c κs. tt) (λ c. cc) (λ c κs. tt) (λ c κs. tt) (λ c. search needs) (λ c κs. tt) returns-2 (λ c. cc))
+    tie.close (tie.spec (λ c. search needs) (λ c κs. tt) returns (λ c κs. tt) (λ c κs. tt) (λ c. search needs) (λ c κs. tt) returns-2 returns-3)

@@ -3,6 +3,9 @@ use Rattle.weeks.specs.State.{weekOf}
 use Rattle.weeks.proofs.week.Week.new.Statement.{statement}
 use Rattle.weeks.proofs.week.Week.new.Tie as tie
 
-pub new-spec : {M : Type 1} → statement M
+returns : tie.Need-returns
 unfolding weekOf
-new-spec = tie.close (tie.spec (λ c. refl))
+returns c = refl
+
+pub new-spec : {M : Type 1} → statement M
+new-spec = tie.close (tie.spec returns)

@@ -2,6 +2,9 @@ use Rattle.weeks.specs.State.{pushedOf}
 use Rattle.weeks.proofs.week.Week.push.Statement.{statement}
 use Rattle.weeks.proofs.week.Week.push.Tie as tie
 
-pub push-spec : {M : Type 1} → statement M
+returns : tie.Need-returns
 unfolding pushedOf
-push-spec = tie.close (tie.spec (λ c κs. tt) (λ c. cc))
+returns c = cc
+
+pub push-spec : {M : Type 1} → statement M
+push-spec = tie.close (tie.spec (λ c κs. tt) returns)

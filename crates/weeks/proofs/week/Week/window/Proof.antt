@@ -3,9 +3,17 @@ use Rattle.weeks.specs.State.{windowIn}
 use Rattle.weeks.proofs.week.Week.window.Statement.{statement}
 use Rattle.weeks.proofs.week.Week.window.Tie as tie
 
-pub window-spec : {M : Type 1} → statement M
+returns : tie.Need-returns
 unfolding windowIn
-window-spec =
-    tie.close
-    (tie.spec (λ c κs. tt) (λ c. simp (sym (c .not-ready .ensures), lt-ltb _ _ (c .before .if1 .taken))) (λ c κs. search needs)
-    (λ c. simp (sym (c .last .ensures), le-ltb _ _ (c .before .before .if1 .left))))
+returns c =
+    let e0 = c .not-ready .ensures in
+    simp (sym e0, lt-ltb _ _ (c .before .if1 .taken))
+
+returns-2 : tie.Need-returns-2
+unfolding windowIn
+returns-2 c =
+    let e0 = c .last .ensures in
+    simp (sym e0, le-ltb _ _ (c .before .before .if1 .left))
+
+pub window-spec : {M : Type 1} → statement M
+window-spec = tie.close (tie.spec (λ c κs. tt) returns (λ c κs. search needs) returns-2)
