@@ -14,5 +14,4 @@ unfolding coordinateIn valuesIn
 returns-2 c = simp (sym (c .degrees-in .ensures), sym (c .before .value2 .ensures), sym (c .before .before .before .has .ensures), c .before .before .if1 .left)
 
 pub coordinate-in-spec : {M : Type 1} → statement M
-coordinate-in-spec =
-    tie.close (tie.spec (λ c κs. tt) (λ c κs. tt) (λ c κs. tt) (λ c κs. tt) (λ c κs. tt) (λ c κs. tt) returns returns-2)
+coordinate-in-spec = tie.close (tie.spec (λ c κs. tt) (λ c κs. tt) (λ c κs. tt) (λ c κs. tt) (λ c κs. tt) (λ c κs. tt) returns returns-2)

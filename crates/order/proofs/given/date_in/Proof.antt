@@ -8,5 +8,4 @@ unfolding dateIn
 returns c = cc
 
 pub date-in-spec : {M : Type 1} → statement M
-date-in-spec =
-    tie.close (tie.spec (λ c κs. tt) (λ c κs. tt) (λ c κs. tt) (λ c κs. tt) returns)
+date-in-spec = tie.close (tie.spec (λ c κs. tt) (λ c κs. tt) (λ c κs. tt) (λ c κs. tt) returns)

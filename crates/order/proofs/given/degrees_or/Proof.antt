@@ -14,5 +14,4 @@ unfolding degreesOr valuesIn
 returns-2 c = simp (sym (c .before .has .ensures), c .if1 .left)
 
 pub degrees-or-spec : {M : Type 1} → statement M
-degrees-or-spec =
-    tie.close (tie.spec (λ c κs. tt) (λ c κs. tt) (λ c κs. tt) returns returns-2)
+degrees-or-spec = tie.close (tie.spec (λ c κs. tt) (λ c κs. tt) (λ c κs. tt) returns returns-2)

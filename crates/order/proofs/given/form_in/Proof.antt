@@ -5,9 +5,7 @@ use Rattle.order.proofs.given.form_in.Tie as tie
 
 returns : tie.Need-returns
 unfolding formIn
-returns c =
-    let b = c .before in
-    simp (c .byte5 .ensures .0, b .byte4 .ensures .0, b .before .byte3 .ensures .0, b .before .before .byte2 .ensures .0, b .before .before .before .byte .ensures .0)
+returns c = cc
 
 pub form-in-spec : {M : Type 1} → statement M
 form-in-spec = tie.close (tie.spec (λ c κs. tt) (λ c κs. tt) (λ c κs. tt) (λ c κs. tt) (λ c κs. tt) returns)

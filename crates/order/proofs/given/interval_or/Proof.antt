@@ -23,5 +23,4 @@ returns-2 c =
     simp (toZ-ofZ f0, sym e0, c .if1 .left)
 
 pub interval-or-spec : {M : Type 1} → statement M
-interval-or-spec =
-    tie.close (tie.spec (λ c κs. tt) (λ c κs. tt) (λ c κs. tt) (λ c. search needs) returns returns-2)
+interval-or-spec = tie.close (tie.spec (λ c κs. tt) (λ c κs. tt) (λ c κs. tt) (λ c. search needs) returns returns-2)

@@ -16,6 +16,4 @@ returns c =
     simp (c .new .ensures, toZ-ofZ f1, sym (c .before .before .before .before .before .before .signed .ensures), toZ-ofZ f2, sym (c .before .before .before .before .before .signed2 .ensures), toZ-ofZ f3, sym (c .before .before .before .before .signed3 .ensures), toZ-ofZ f4, sym (c .before .before .before .signed4 .ensures), toZ-ofZ f5, sym (c .before .before .signed5 .ensures), toZ-ofZ f6, sym (c .before .signed6 .ensures))
 
 pub minutes-in-spec : {M : Type 1} → statement M
-minutes-in-spec =
-    tie.close
-    (tie.spec (λ c κs. tt) (λ c κs. tt) (λ c κs. tt) (λ c κs. tt) (λ c κs. tt) (λ c κs. tt) (λ c κs. tt) returns)
+minutes-in-spec = tie.close (tie.spec (λ c κs. tt) (λ c κs. tt) (λ c κs. tt) (λ c κs. tt) (λ c κs. tt) (λ c κs. tt) (λ c κs. tt) returns)

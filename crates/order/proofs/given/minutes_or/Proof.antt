@@ -14,5 +14,4 @@ unfolding minutesOr valuesIn
 returns-2 c = simp (sym (c .before .has .ensures), c .if1 .left)
 
 pub minutes-or-spec : {M : Type 1} → statement M
-minutes-or-spec =
-    tie.close (tie.spec (λ c κs. tt) (λ c κs. tt) (λ c κs. tt) returns returns-2)
+minutes-or-spec = tie.close (tie.spec (λ c κs. tt) (λ c κs. tt) (λ c κs. tt) returns returns-2)

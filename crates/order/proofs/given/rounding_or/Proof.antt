@@ -15,6 +15,4 @@ unfolding roundingOr valuesIn
 returns-2 c = simp (sym (c .before .has .ensures), c .if1 .left)
 
 pub rounding-or-spec : {M : Type 1} → statement M
-rounding-or-spec =
-    tie.close
-    (tie.spec (λ c κs. tt) (λ c κs. tt) (λ c κs. tt) (λ c κs. tt) returns returns-2)
+rounding-or-spec = tie.close (tie.spec (λ c κs. tt) (λ c κs. tt) (λ c κs. tt) (λ c κs. tt) returns returns-2)

@@ -6,9 +6,7 @@ use Rattle.order.proofs.ranges.clock_fits.Tie as tie
 
 returns : tie.Need-returns
 unfolding clockFits
-returns c =
-    let f : SFits w32 (c .signed .result) = search needs in
-    simp (toZ-ofZ f, sym (c .signed .ensures))
+returns c = let f : SFits w32 (c .signed .result) = search needs in cc (toZ-ofZ f)
 
 pub clock-fits-spec : {M : Type 1} → statement M
 clock-fits-spec = tie.close (tie.spec (λ c κs. tt) returns)

@@ -6,7 +6,7 @@ use Rattle.order.proofs.ranges.minute_fits.Tie as tie
 
 returns : tie.Need-returns
 unfolding minuteFits
-returns c = simp (toZ-ofZ (c .fits .minute))
+returns c = cc (toZ-ofZ (c .fits .minute))
 
 pub minute-fits-spec : {M : Type 1} → statement M
 minute-fits-spec = tie.close (tie.spec returns)

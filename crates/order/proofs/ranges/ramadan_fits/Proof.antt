@@ -5,7 +5,7 @@ use Rattle.order.proofs.ranges.ramadan_fits.Tie as tie
 
 returns : tie.Need-returns
 unfolding ramadanFits
-returns c = simp (c .byte2 .ensures .0, c .before .byte .ensures .0)
+returns c = cc
 
 pub ramadan-fits-spec : {M : Type 1} → statement M
 ramadan-fits-spec = tie.close (tie.spec (λ c κs. tt) (λ c κs. tt) returns)

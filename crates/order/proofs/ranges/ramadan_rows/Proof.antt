@@ -5,11 +5,11 @@ use Rattle.order.proofs.ranges.ramadan_rows.Tie as tie
 
 returns : tie.Need-returns
 unfolding ramadanRows
-returns c = simp (c .rows-in .ensures, c .before .if1 .taken)
+returns c = cc
 
 returns-2 : tie.Need-returns-2
 unfolding ramadanRows
-returns-2 c = simp (c .if1 .left)
+returns-2 c = cc
 
 pub ramadan-rows-spec : {M : Type 1} → statement M
 ramadan-rows-spec = tie.close (tie.spec (λ c κs. tt) returns returns-2)

@@ -35,5 +35,4 @@ returns-4 c =
     )
 
 pub rows-fit-spec : {M : Type 1} → statement M
-rows-fit-spec =
-    tie.close (tie.spec (λ c κs. tt) (λ c κs. tt) returns returns-2 (λ c. search needs) returns-3 (λ c κs. tt) returns-4)
+rows-fit-spec = tie.close (tie.spec (λ c κs. tt) (λ c κs. tt) returns returns-2 (λ c. search needs) returns-3 (λ c κs. tt) returns-4)

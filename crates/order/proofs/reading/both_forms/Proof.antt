@@ -26,5 +26,4 @@ returns-3 c =
 
 pub both-forms-spec : {M : Type 1} → statement M
 both-forms-spec =
-    tie.close
-    (tie.spec (λ c κs. tt) (λ c κs. tt) (λ c κs. tt) returns (λ c κs. tt) (λ c κs. tt) (λ c κs. tt) returns-2 (λ c κs. tt) returns-3)
+    tie.close (tie.spec (λ c κs. tt) (λ c κs. tt) (λ c κs. tt) returns (λ c κs. tt) (λ c κs. tt) (λ c κs. tt) returns-2 (λ c κs. tt) returns-3)

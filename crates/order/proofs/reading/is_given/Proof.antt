@@ -20,6 +20,4 @@ returns-3 c =
     simp (c .has5 .ensures, ne-eqb _ 4 (r .0 .1), ne-eqb _ 5 (r .1))
 
 pub is-given-spec : {M : Type 1} → statement M
-is-given-spec =
-    tie.close
-    (tie.spec (λ c κs. tt) (λ c κs. tt) (λ c κs. tt) (λ c κs. tt) (λ c κs. tt) returns returns-2 returns-3)
+is-given-spec = tie.close (tie.spec (λ c κs. tt) (λ c κs. tt) (λ c κs. tt) (λ c κs. tt) (λ c κs. tt) returns returns-2 returns-3)

@@ -37,9 +37,8 @@ returns-2 c =
 
 returns-3 : tie.Need-returns-3
 unfolding wrongStartOf
-returns-3 c = simp (c .none2 .ensures, c .before .if1 .left)
+returns-3 c = cc
 
 pub wrong-start-spec : {M : Type 1} → statement M
 wrong-start-spec =
-    tie.close
-    (tie.spec (λ c κs. search needs) (λ c κs. search needs) (λ c κs. tt) returns (λ c κs. tt) returns-2 (λ c κs. tt) returns-3)
+    tie.close (tie.spec (λ c κs. search needs) (λ c κs. search needs) (λ c κs. tt) returns (λ c κs. tt) returns-2 (λ c κs. tt) returns-3)
