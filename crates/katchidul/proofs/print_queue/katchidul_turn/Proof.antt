@@ -1,7 +1,7 @@
 use Rattle.prelude.proofs.Logic.{ap, _∙_}
 use Rattle.katchidul.specs.PrintQueue.{turnAnswerOf}
-use Rattle.katchidul.proofs.print_queue.katchidul_turn.Statement.{statement}
-use Rattle.katchidul.proofs.print_queue.katchidul_turn.Tie as tie
+use Rattle.katchidul.proofs.print_queue.katchidul_turn as this
 
-pub katchidul-turn-spec : {M : Type 1} → statement M
-katchidul-turn-spec = tie.close (tie.spec (λ c κs. tt) (λ c κs. tt) (λ c. c .turn-answer .ensures ∙ ap turnAnswerOf (c .before .turn .ensures)))
+pub katchidul-turn-spec : {M : Type 1} → this.Statement.statement M
+katchidul-turn-spec =
+    this.Tie.close (this.Tie.spec (λ c κs. tt) (λ c κs. tt) (λ c. c .turn-answer .ensures ∙ ap turnAnswerOf (c .before .turn .ensures)))

@@ -8,8 +8,7 @@ use Rattle.order.specs.Given.{dateIn}
 use Rattle.order.specs.Ranges.{fitsIn, fitsOf, inRangeOf}
 use Rattle.order.specs.Reading.{firstFailing, tagsFrom, outOfRangeOf}
 use Rattle.order.proofs.Tags.{fails, on, none, tags-from, tags-length}
-use Rattle.order.proofs.reading.out_of_range.Statement.{statement}
-use Rattle.order.proofs.reading.out_of_range.Tie as tie
+use Rattle.order.proofs.reading.out_of_range as this
 
 -- as many as there are
 all : length (tagsFrom lastTag 1) ≡ lastTag
@@ -25,15 +24,15 @@ held : (s : List ℕ) (f : Fields) (date : Date) (ramadan : Bool) → date ≡ d
 unfolding outOfRangeOf inRangeOf fitsOf valuesIn
 held s f date ramadan d r = rw (d, r) refl
 
-abbrev Inv-loop : tie.InvT-loop
+abbrev Inv-loop : this.Tie.InvT-loop
 Inv-loop order starts lengths date ramadan passed₀ passed =
     (passed ≤ lastTag)
     × (firstFailing 5 (passes order starts lengths date ramadan) (drop passed (tagsFrom lastTag 1)) ≡ firstFailing 5 (passes order starts lengths date ramadan) (tagsFrom lastTag 1))
 
-abbrev μ-loop : tie.MeasureT-loop
+abbrev μ-loop : this.Tie.MeasureT-loop
 μ-loop order starts lengths date ramadan passed₀ passed = lastTag - passed
 
-returns : tie.Need-returns Inv-loop μ-loop
+returns : this.Tie.Need-returns Inv-loop μ-loop
 unfolding valuesIn
 returns c =
     let h = c .before .before in
@@ -50,7 +49,7 @@ returns c =
     ∙ l .loop .inv .1
     ∙ held s f (d .date-in .result) (k .has .result) (rw (← d .before .value .ensures) (d .date-in .ensures)) (k .has .ensures)
 
-loop-again : tie.Need-loop-again Inv-loop μ-loop
+loop-again : this.Tie.Need-loop-again Inv-loop μ-loop
 loop-again c =
     let h = c .before in
     let l = h .before .before in
@@ -62,7 +61,7 @@ loop-again c =
     let t = h .before .loop-test .taken in
     (search needs, sym (on 5 p (tagsFrom lastTag 1) (l .loop .passed) (omega (arith, all)) _ (tags-from lastTag 1 (l .loop .passed) t) (sym (h .in-range .ensures) ∙ not-false _ (c .if1 .left))) ∙ l .loop .inv .1)
 
-returns-2 : tie.Need-returns-2 Inv-loop μ-loop
+returns-2 : this.Tie.Need-returns-2 Inv-loop μ-loop
 unfolding valuesIn
 returns-2 c =
     let l = c .before .before in
@@ -77,7 +76,9 @@ returns-2 c =
     ∙ l .loop .inv .1
     ∙ held s f (d .date-in .result) (k .has .result) (rw (← d .before .value .ensures) (d .date-in .ensures)) (k .has .ensures)
 
-pub out-of-range-spec : {M : Type 1} → statement M
+pub out-of-range-spec : {M : Type 1} → this.Statement.statement M
 out-of-range-spec =
-    tie.close
-    (tie.spec Inv-loop μ-loop (λ c κs. tt) (λ c κs. tt) (λ c κs. tt) (λ c. (omega arith, refl)) (λ c. search needs) (λ c. search needs) (λ c. search needs) (λ c. search needs) (λ c. search needs) (λ c. search needs) (λ c. search needs) (λ c κs. tt) (λ c κs. tt) returns (λ c. search needs) loop-again (λ c κs. tt) returns-2)
+    this.Tie.close
+    (this.Tie.spec Inv-loop μ-loop (λ c κs. tt) (λ c κs. tt) (λ c κs. tt) (λ c. (omega arith, refl)) (λ c. search needs) (λ c. search needs)
+    (λ c. search needs) (λ c. search needs) (λ c. search needs) (λ c. search needs) (λ c. search needs) (λ c κs. tt) (λ c κs. tt) returns
+    (λ c. search needs) loop-again (λ c κs. tt) returns-2)

@@ -4,10 +4,9 @@ use Rattle.calendar.specs.Days.{dayNumberOf}
 use Rattle.hijri.specs.Ramadan.{ramadanStartOf}
 use Rattle.integers.proofs.Ranges.{readBack}
 use Rattle.order.specs.Reading.{wrongStartOf}
-use Rattle.order.proofs.reading.wrong_start.Statement.{statement}
-use Rattle.order.proofs.reading.wrong_start.Tie as tie
+use Rattle.order.proofs.reading.wrong_start as this
 
-returns : tie.Need-returns
+returns : this.Tie.Need-returns
 unfolding wrongStartOf
 returns c =
     let s = c .before .before in
@@ -21,7 +20,7 @@ returns c =
     let e = s .is-ramadan-start .ensures ∙ ap (λ (z : ℤ). ramadanStartOf z (readBack w32 r)) (k ∙ day .ensures) ∙ ap (ramadanStartOf (dayNumberOf (a .date))) (toZ-ofZ f) in
     simp (c .none .ensures, set, sym e, c .before .if2 .taken)
 
-returns-2 : tie.Need-returns-2
+returns-2 : this.Tie.Need-returns-2
 unfolding wrongStartOf
 returns-2 c =
     let s = c .before .before in
@@ -35,10 +34,10 @@ returns-2 c =
     let e = s .is-ramadan-start .ensures ∙ ap (λ (z : ℤ). ramadanStartOf z (readBack w32 r)) (k ∙ day .ensures) ∙ ap (ramadanStartOf (dayNumberOf (a .date))) (toZ-ofZ f) in
     simp (c .new .ensures, set, sym e, c .before .if2 .left)
 
-returns-3 : tie.Need-returns-3
+returns-3 : this.Tie.Need-returns-3
 unfolding wrongStartOf
 returns-3 c = cc
 
-pub wrong-start-spec : {M : Type 1} → statement M
+pub wrong-start-spec : {M : Type 1} → this.Statement.statement M
 wrong-start-spec =
-    tie.close (tie.spec (λ c κs. search needs) (λ c κs. search needs) (λ c κs. tt) returns (λ c κs. tt) returns-2 (λ c κs. tt) returns-3)
+    this.Tie.close (this.Tie.spec (λ c κs. search needs) (λ c κs. search needs) (λ c κs. tt) returns (λ c κs. tt) returns-2 (λ c κs. tt) returns-3)

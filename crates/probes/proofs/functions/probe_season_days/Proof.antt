@@ -1,5 +1,4 @@
-use Rattle.probes.proofs.functions.probe_season_days.Statement.{statement}
-use Rattle.probes.proofs.functions.probe_season_days.Tie as tie
+use Rattle.probes.proofs.functions.probe_season_days as this
 
-pub probe-season-days-spec : {M : Type 1} → statement M
-probe-season-days-spec = tie.close (tie.spec (λ c κs. tt) (λ c κs. tt) (λ c. simp (c .season-days .ensures, c .before .of-number .ensures)))
+pub probe-season-days-spec : {M : Type 1} → this.Statement.statement M
+probe-season-days-spec = this.Tie.close (this.Tie.spec (λ c κs. tt) (λ c κs. tt) (λ c. simp (c .season-days .ensures, c .before .of-number .ensures)))

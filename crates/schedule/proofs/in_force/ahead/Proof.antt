@@ -3,10 +3,9 @@ use Rattle.integers.proofs.Sums.{differences}
 use Rattle.integers.proofs.Ranges.{read}
 use Rattle.schedule.proofs.Due as due
 use Rattle.integers.specs.Parts.{P}
-use Rattle.schedule.proofs.in_force.ahead.Statement.{statement}
-use Rattle.schedule.proofs.in_force.ahead.Tie as tie
+use Rattle.schedule.proofs.in_force.ahead as this
 
-returns : tie.Need-returns
+returns : this.Tie.Need-returns
 returns c =
     let t = c .before .before .before .before in
     let s = t .args .instant .seconds in
@@ -16,7 +15,7 @@ returns c =
     let l = c .if1 .taken in
     omega arith
 
-returns-2 : tie.Need-returns-2
+returns-2 : this.Tie.Need-returns-2
 returns-2 c =
     let t = c .before .before .before .before in
     let s = t .args .instant .seconds in
@@ -25,5 +24,5 @@ returns-2 c =
     let d = due.ahead-is (t .args .time) (t .args .instant) in
     omega arith
 
-pub ahead-spec : {M : Type 1} → statement M
-ahead-spec = tie.close (tie.spec (λ c κs. tt) (λ c. search needs) (λ c. search needs) returns returns-2)
+pub ahead-spec : {M : Type 1} → this.Statement.statement M
+ahead-spec = this.Tie.close (this.Tie.spec (λ c κs. tt) (λ c. search needs) (λ c. search needs) returns returns-2)

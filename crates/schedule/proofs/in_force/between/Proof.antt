@@ -2,10 +2,9 @@ use Rattle.prelude.proofs.Logic.{ap, _∙_, arith, w64}
 use Rattle.integers.proofs.Ranges.{read}
 use Rattle.schedule.proofs.Due as due
 use Rattle.integers.specs.Parts.{P, N}
-use Rattle.schedule.proofs.in_force.between.Statement.{statement}
-use Rattle.schedule.proofs.in_force.between.Tie as tie
+use Rattle.schedule.proofs.in_force.between as this
 
-add-to : tie.Need-add-to
+add-to : this.Tie.Need-add-to
 add-to c =
     let t = c .before .before in
     let time = t .args .time in
@@ -16,7 +15,7 @@ add-to c =
     let b = c .below .ensures ∙ ap N rs in
     due.sum-fits time seconds (c .before .above .result) (c .below .result) (t .fits .time) (t .fits .seconds) a b
 
-add-from : tie.Need-add-from
+add-from : this.Tie.Need-add-from
 add-from c =
     let t = c .before .before .before .before in
     let time = t .args .time in
@@ -27,7 +26,7 @@ add-from c =
     let b2 = c .below2 .ensures ∙ ap N rt in
     due.sum-fits seconds time (c .before .above2 .result) (c .below2 .result) (t .fits .seconds) (t .fits .time) a2 b2
 
-returns : tie.Need-returns
+returns : this.Tie.Need-returns
 returns c =
     let t = c .before .before .before .before .before in
     let time = t .args .time in
@@ -41,7 +40,7 @@ returns c =
     let d = due.between-is time seconds in
     omega (arith, c .if1 .taken)
 
-returns-2 : tie.Need-returns-2
+returns-2 : this.Tie.Need-returns-2
 returns-2 c =
     let t = c .before .before .before .before .before in
     let time = t .args .time in
@@ -55,7 +54,5 @@ returns-2 c =
     let d = due.between-is time seconds in
     omega arith
 
-pub between-spec : {M : Type 1} → statement M
-between-spec =
-    tie.close
-    (tie.spec (λ c κs. tt) (λ c κs. tt) add-to (λ c κs. tt) (λ c κs. tt) add-from returns returns-2)
+pub between-spec : {M : Type 1} → this.Statement.statement M
+between-spec = this.Tie.close (this.Tie.spec (λ c κs. tt) (λ c κs. tt) add-to (λ c κs. tt) (λ c κs. tt) add-from returns returns-2)
