@@ -32,49 +32,43 @@ Inv-loop order starts lengths date ramadan passed₀ passed =
 abbrev μ-loop : this.Tie.MeasureT-loop
 μ-loop order starts lengths date ramadan passed₀ passed = lastTag - passed
 
+-- whether a tag passes, and what the first that does not means, at the loop
+passing : (c : this.Tie.At-loop Inv-loop μ-loop) → ℕ → Bool
+passing c =
+    let a = c .before .before .before .before .before .before .before .args in
+    passes (now (a .order)) (a .fields .at) (a .fields .length) (c .before .before .date-in .result) (c .before .has .result)
+
+first : (c : this.Tie.At-loop Inv-loop μ-loop) → let a = c .before .before .before .before .before .before .before .args in
+    firstFailing 5 (passing c) (drop (c .loop .passed) (tagsFrom lastTag 1)) ≡ outOfRangeOf (valuesIn (now (a .order)) (a .fields))
+unfolding passing valuesIn
+first c =
+    let d = c .before .before in
+    let a = d .before .before .before .before .before .args in
+    c .loop .inv .1
+    ∙ held (now (a .order)) (a .fields) (d .date-in .result) (c .before .has .result) (rw (← d .before .value .ensures) (d .date-in .ensures)) (c .before .has .ensures)
+
 returns : this.Tie.Need-returns Inv-loop μ-loop
-unfolding valuesIn
+unfolding passing
 returns c =
     let h = c .before .before in
     let l = h .before .before in
-    let k = l .before in
-    let d = k .before in
-    let a = d .before .before .before .before .before .args in
-    let s = now (a .order) in
-    let f = a .fields in
-    let p = passes s (f .at) (f .length) (d .date-in .result) (k .has .result) in
     let t = h .before .loop-test .taken in
     c .new .ensures
-    ∙ sym (fails 5 p (tagsFrom lastTag 1) (l .loop .passed) (omega (arith, all)) _ (tags-from lastTag 1 (l .loop .passed) t) (sym (h .in-range .ensures) ∙ not-true _ (c .before .if1 .taken)))
-    ∙ l .loop .inv .1
-    ∙ held s f (d .date-in .result) (k .has .result) (rw (← d .before .value .ensures) (d .date-in .ensures)) (k .has .ensures)
+    ∙ sym (fails 5 (passing l) (tagsFrom lastTag 1) (l .loop .passed) (omega (arith, all)) _ (tags-from lastTag 1 (l .loop .passed) t) (sym (h .in-range .ensures) ∙ not-true _ (c .before .if1 .taken)))
+    ∙ first l
 
 loop-again : this.Tie.Need-loop-again Inv-loop μ-loop
+unfolding passing
 loop-again c =
     let h = c .before in
     let l = h .before .before in
-    let k = l .before in
-    let d = k .before in
-    let a = d .before .before .before .before .before .args in
-    let f = a .fields in
-    let p = passes (now (a .order)) (f .at) (f .length) (d .date-in .result) (k .has .result) in
     let t = h .before .loop-test .taken in
-    (search needs, sym (on 5 p (tagsFrom lastTag 1) (l .loop .passed) (omega (arith, all)) _ (tags-from lastTag 1 (l .loop .passed) t) (sym (h .in-range .ensures) ∙ not-false _ (c .if1 .left))) ∙ l .loop .inv .1)
+    (search needs, sym (on 5 (passing l) (tagsFrom lastTag 1) (l .loop .passed) (omega (arith, all)) _ (tags-from lastTag 1 (l .loop .passed) t) (sym (h .in-range .ensures) ∙ not-false _ (c .if1 .left))) ∙ l .loop .inv .1)
 
 returns-2 : this.Tie.Need-returns-2 Inv-loop μ-loop
-unfolding valuesIn
 returns-2 c =
     let l = c .before .before in
-    let k = l .before in
-    let d = k .before in
-    let a = d .before .before .before .before .before .args in
-    let s = now (a .order) in
-    let f = a .fields in
-    let p = passes s (f .at) (f .length) (d .date-in .result) (k .has .result) in
-    c .none .ensures
-    ∙ sym (none 5 p (tagsFrom lastTag 1) (l .loop .passed) (omega (arith, all, c .before .loop-test .left)))
-    ∙ l .loop .inv .1
-    ∙ held s f (d .date-in .result) (k .has .result) (rw (← d .before .value .ensures) (d .date-in .ensures)) (k .has .ensures)
+    c .none .ensures ∙ sym (none 5 (passing l) (tagsFrom lastTag 1) (l .loop .passed) (omega (arith, all, c .before .loop-test .left))) ∙ first l
 
 pub out-of-range-spec : {M : Type 1} → this.Statement.statement M
 out-of-range-spec =

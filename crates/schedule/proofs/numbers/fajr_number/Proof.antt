@@ -15,5 +15,4 @@ returns-2 c =
     simp (sym (c .angle-number .ensures), sym (c .before .new .ensures), sym (test .before .by-seventh .ensures), test .if1 .left)
 
 pub fajr-number-spec : {M : Type 1} → this.Statement.statement M
-fajr-number-spec =
-    this.Tie.close (this.Tie.spec (λ c κs. tt) (λ c κs. tt) returns (λ c κs. tt) (λ c κs. tt) returns-2)
+fajr-number-spec = this.Tie.close (this.Tie.spec (λ c κs. tt) (λ c κs. tt) returns (λ c κs. tt) (λ c κs. tt) returns-2)

@@ -16,19 +16,10 @@ sunrise t = search needs
 sunset : (t : this.Tie.Start) → SFits w32 (t .args .suns .today .sunset)
 sunset t = search needs
 
-cast-final-time : this.Tie.Need-cast-final-time
-cast-final-time c = wide _ (sunset (c .before .before .before .before .before .before .before))
-
-final-time-requires : this.Tie.Need-final-time-requires
-final-time-requires c κs = asked (of-wide _ (sunset (c .before .before .before .before .before .before .before))) (lit≤ tt)
-
 final-time-requires-2 : this.Tie.Need-final-time-requires-2
 final-time-requires-2 c κs =
     let u = c .before .before .before .before .before .before .before .before .before in
     asked (of-near (u .unadjusted-fajr .ensures) (lit≤ tt)) (lit≤ tt)
-
-cast-final-time-2 : this.Tie.Need-cast-final-time-2
-cast-final-time-2 c = wide _ (sunrise (c .before .before .before .before .before .before .before .before .before .before .before .before .before))
 
 final-time-requires-3 : this.Tie.Need-final-time-requires-3
 final-time-requires-3 c κs = asked (of-wide _ (sunrise (c .before .before .before .before .before .before .before .before .before .before .before .before .before))) (lit≤ tt)
@@ -95,6 +86,9 @@ pub from-midnight-spec : {M : Type 1} → this.Statement.statement M
 from-midnight-spec =
     this.Tie.close
     (this.Tie.spec (λ c κs. search needs) (λ c. wide _ (transit (c .before .before .before)))
-    (λ c κs. asked (of-wide _ (transit (c .before .before .before))) (lit≤ tt)) (λ c κs. search needs) cast-final-time final-time-requires
-    (λ c κs. search needs) (λ c κs. search needs) final-time-requires-2 cast-final-time-2 final-time-requires-3 cast-final-time-3
-    final-time-requires-4 final-time-requires-5 final-time-requires-6 returns)
+    (λ c κs. asked (of-wide _ (transit (c .before .before .before))) (lit≤ tt)) (λ c κs. search needs)
+    (λ c. wide _ (sunset (c .before .before .before .before .before .before .before)))
+    (λ c κs. asked (of-wide _ (sunset (c .before .before .before .before .before .before .before))) (lit≤ tt)) (λ c κs. search needs)
+    (λ c κs. search needs) final-time-requires-2
+    (λ c. wide _ (sunrise (c .before .before .before .before .before .before .before .before .before .before .before .before .before)))
+    final-time-requires-3 cast-final-time-3 final-time-requires-4 final-time-requires-5 final-time-requires-6 returns)

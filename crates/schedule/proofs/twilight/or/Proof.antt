@@ -4,11 +4,6 @@ use Rattle.integers.proofs.Held.{of-i64, of-wide, held-as, promised}
 use Rattle.schedule.specs.Twilight.{orOf}
 use Rattle.schedule.proofs.twilight.or as this
 
-cast-result : this.Tie.Need-cast-result
-cast-result c =
-    let f : SFits w32 (c .before .hour .given .0 .0) = search needs in
-    wide _ f
-
 returns : this.Tie.Need-returns
 unfolding orOf
 returns c =
@@ -22,4 +17,7 @@ returns-2 c =
     promised (held-as (of-i64 (t .args .other) (t .fits .other) (t .pre)) (simp (c .enum-told .given .1))) (lit≤ tt)
 
 pub or-spec : {M : Type 1} → this.Statement.statement M
-or-spec = this.Tie.close (this.Tie.spec (λ c. search needs) cast-result (λ c. search needs) returns returns-2)
+or-spec =
+    this.Tie.close
+    (this.Tie.spec (λ c. search needs) (λ c. let f : SFits w32 (c .before .hour .given .0 .0) = search needs in wide _ f) (λ c. search needs) returns
+    returns-2)

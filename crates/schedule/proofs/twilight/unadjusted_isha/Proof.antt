@@ -5,11 +5,6 @@ use Rattle.schedule.specs.Twilight.{unadjustedIshaOf}
 use Rattle.schedule.proofs.Promises.{of-near}
 use Rattle.schedule.proofs.twilight.unadjusted_isha as this
 
-cast-result : this.Tie.Need-cast-result
-cast-result c =
-    let f : SFits w32 (c .before .before .before .before .before .args .today .sunset) = search needs in
-    wide _ f
-
 cast-result-2 : this.Tie.Need-cast-result-2
 cast-result-2 c =
     let f : SFits w32 (c .before .before .before .before .before .before .before .args .parameters .«isha_interval») = search needs in
@@ -43,4 +38,7 @@ returns-2 c =
     promised (held-as (of-near (c .bounded-isha .ensures) (lit≤ tt)) (simp (rw (read w32 _ f) at (c .before .if1 .left)))) (lit≤ tt)
 
 pub unadjusted-isha-spec : {M : Type 1} → this.Statement.statement M
-unadjusted-isha-spec = this.Tie.close (this.Tie.spec cast-result cast-result-2 mul-result add-result returns (λ c κs. search needs) returns-2)
+unadjusted-isha-spec =
+    this.Tie.close
+    (this.Tie.spec (λ c. let f : SFits w32 (c .before .before .before .before .before .args .today .sunset) = search needs in wide _ f) cast-result-2
+    mul-result add-result returns (λ c κs. search needs) returns-2)

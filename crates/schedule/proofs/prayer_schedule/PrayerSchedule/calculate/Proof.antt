@@ -28,5 +28,4 @@ unfolding calculateOf
 returns-4 c = simp (c .if1 .left)
 
 pub calculate-spec : {M : Type 1} → this.Statement.statement M
-calculate-spec =
-    this.Tie.close (this.Tie.spec (λ c κs. tt) (λ c κs. tt) (λ c κs. tt) returns returns-2 returns-3 returns-4)
+calculate-spec = this.Tie.close (this.Tie.spec (λ c κs. tt) (λ c κs. tt) (λ c κs. tt) returns returns-2 returns-3 returns-4)
