@@ -1,6 +1,6 @@
 -- What a single call leaves of both buffers, and a cut at any byte of an append. Assumes nothing.
 use Rattle.prelude.proofs.Logic.{_≡_, refl, sym, ap, _∙_, Bool, true, false, cond, _&&_, List, _++_, ℕ, _+_, _-_, _*_, _≤_, _<_, arith, leb, ltb, eqb, length, take, drop, length-append, drop-append-add, drop-drop, length-take-le, le-leb, leb-true, leb-false, ltb-true, ltb-false}
-use Rattle.refusals.specs.Refusals.{bufferShort, logSecondShort, logOutOfTurn, logCountOutside}
+use Rattle.refusals.specs.Refusals.{bufferShort, logSecondShort, logOutOfTurn}
 use Rattle.prelude.proofs.Cases.{arms}
 use Rattle.text.specs.Text.{putOf}
 use Rattle.joblog.specs.declared.records.State.{State}
@@ -8,7 +8,7 @@ use Rattle.joblog.specs.declared.records.Reading.{Reading}
 use Rattle.joblog.specs.declared.records.Reading.the-variants.{Says, OutOfTurn}
 use Rattle.joblog.specs.Records.{state, recordAs, bytesOf, recordsOf, wholeOf, inTurn, afterOf, logReadingOf, compactedOf}
 use Rattle.joblog.specs.declared.calls.Log.{Log}
-use Rattle.joblog.specs.Calls.{LogCall, refused, refusing, answered, readAnswer, readLogOf, newInTurn, compactAnswer, compactingOf, loggedOf, appendedOf, appendOf, restartedOf, restartOf}
+use Rattle.joblog.specs.Calls.{LogCall, refusing, answered, readAnswer, readLogOf, newInTurn, compactAnswer, compactingOf, loggedOf, appendedOf, appendOf, restartedOf, restartOf}
 use Rattle.joblog.proofs.CompactLaws.{bytes-length, put-none}
 use Rattle.joblog.proofs.CallLaws.{with-length}
 use Rattle.joblog_laws.specs.Run.{inPlace}

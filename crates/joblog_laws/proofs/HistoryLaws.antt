@@ -1,12 +1,11 @@
 -- Request 6's promise, over every history. Assumes nothing.
 use Rattle.prelude.proofs.Logic.{_≡_, refl, sym, ap, subst, _∙_, Bool, true, false, cond, List, [], _∷_, _++_, ℕ, zero, suc, _+_, _-_, _*_, _≤_, arith, leb, length, length-append, le-leb}
 use Rattle.prelude.proofs.Cases.{either-way}
-use Rattle.refusals.specs.Refusals.{logSecondShort}
 use Rattle.text.specs.Text.{putOf}
 use Rattle.joblog.specs.declared.records.State.{State}
 use Rattle.joblog.specs.Records.{state, compactedOf}
 use Rattle.joblog.specs.declared.calls.Log.{Log}
-use Rattle.joblog.specs.Calls.{answered, refused, readLogOf, compactAnswer, compactingOf}
+use Rattle.joblog.specs.Calls.{readLogOf, compactAnswer, compactingOf}
 use Rattle.joblog_laws.specs.Run.{idle, World, begun, goes, finishes, restart, has, asRequested, isIdle, finishing, next, run}
 use Rattle.joblog_laws.specs.Histories.{pagesTo, Kept, HistoriesAreKept, sendAll, OpenPagesCome}
 use Rattle.joblog.proofs.CompactLaws.{compacted-length}

@@ -1,5 +1,5 @@
 -- What a caller may rely on once an order is read: its record is one of Accepted.antt. Assumes nothing.
-use Rattle.prelude.proofs.Logic.{_≡_, refl, sym, ap, subst, Bool, true, false, cond, not, _&&_, _||_, and-eq-true-iff, true≢false, List, ℕ, _+_, _-_, _≤_, _<_, arith, leb, eqb, lit≤, ℤ, pos, negsuc, _-ℤ_, length, getD, leZ, leb-true, eqb-true}
+use Rattle.prelude.proofs.Logic.{_≡_, refl, sym, ap, subst, true, _&&_, _||_, List, ℕ, _+_, _-_, _≤_, _<_, arith, leb, lit≤, ℤ, pos, negsuc, _-ℤ_, getD, leZ, leb-true, eqb-true}
 use Rattle.prelude.proofs.Cases.{arms, either-way, both}
 use lib.Ieee.{Float, neg, le, round}
 use Rattle.integers.specs.Parts.{P, N, Near}
@@ -29,7 +29,6 @@ use Rattle.models.specs.Minutes.{noMinutes}
 use Rattle.models.specs.Numbers.{methodOf}
 use Rattle.models.specs.Presets.{preset, presetOf}
 use Rattle.models.specs.Settings.{minutesFor}
-use Rattle.refusals.specs.Refusals.{refusal, noRefusal}
 use Rattle.order.specs.declared.reading.Order.{Order}
 use Rattle.order.specs.declared.reading.Reading.the-variants.{Read}
 use Rattle.order.specs.Given.{dateIn, rowsIn, degreesIn, formIn, coordinateIn, minutesIn, degreesOr, minutesOr, intervalOr, parametersIn, clockIn, ramadanGiven, ramadanIn}

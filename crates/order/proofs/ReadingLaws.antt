@@ -1,5 +1,5 @@
 -- What reading an order and refusing one say of the checks, and of the town. Assumes nothing.
-use Rattle.prelude.proofs.Logic.{_≡_, refl, sym, ap, subst, _∙_, Bool, true, false, cond, not, _&&_, _||_, true≢false, List, [], _∷_, ℕ, _+_, _-_, _≤_, _<_, arith, eqb, lit≤, length, getD, eqb-true, eqb-false}
+use Rattle.prelude.proofs.Logic.{_≡_, refl, sym, ap, subst, _∙_, Bool, true, false, not, _&&_, _||_, List, [], _∷_, ℕ, _+_, _-_, _≤_, _<_, arith, eqb, lit≤, length, getD, eqb-true, eqb-false}
 use Rattle.prelude.proofs.Cases.{arms, either-way}
 use Rattle.calendar.specs.Days.{dayNumberOf}
 use Rattle.calendar.specs.declared.dates.Date.{Date}
@@ -10,7 +10,6 @@ use Rattle.fields.proofs.FieldsLaws.{check-small, value-fits, fits-between}
 use Rattle.fields.proofs.Collecting.{part-same}
 use Rattle.hijri.specs.Ramadan.{ramadanStartOf}
 use Rattle.hijri.specs.declared.ramadan.Ramadan.{Ramadan}
-use Rattle.refusals.specs.Refusals.{refusal, noRefusal}
 use Rattle.refusals.specs.declared.Refusal.{Refusal}
 use Rattle.order.specs.declared.reading.Order.{Order}
 use Rattle.order.specs.declared.reading.Reading.the-variants.{Read, Refused}

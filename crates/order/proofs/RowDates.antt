@@ -1,11 +1,11 @@
 -- The dates of an order's rows: where the first and the last lie in an order's years, all do. Assumes nothing.
-use Rattle.prelude.proofs.Logic.{_≡_, refl, sym, ap, subst, Bool, true, false, cond, List, ℕ, zero, suc, _+_, _-_, _≤_, _<_, arith, leb, ltb, eqb, pos, negsuc, _+ℤ_, length, le-leb, ltb-true, ltb-false}
+use Rattle.prelude.proofs.Logic.{_≡_, refl, sym, ap, subst, true, List, ℕ, zero, suc, _+_, _-_, _≤_, _<_, arith, leb, ltb, eqb, pos, negsuc, _+ℤ_, length, le-leb, ltb-true, ltb-false}
 use Rattle.prelude.proofs.Cases.{arms, either-way}
 use Rattle.integers.specs.Parts.{P, N}
 use Rattle.integers.proofs.Sums.{sum, difference}
 use Rattle.integers.proofs.OrderLaws.{to-le}
 use Rattle.calendar.specs.declared.dates.Date.{Date}
-use Rattle.calendar.specs.Gregorian.{dateOf, existsOf, dayAfterOf}
+use Rattle.calendar.specs.Gregorian.{existsOf, dayAfterOf}
 use Rattle.calendar.specs.Days.{daysBeforeYearOf, dayNumberOf, dateOfDayOf}
 use Rattle.calendar.specs.Answers.{heldOf, fromOf, rowDateOf}
 use Rattle.calendar.proofs.CalendarLaws.{row-first, row-next, number-of-date, date-of-day-exists}

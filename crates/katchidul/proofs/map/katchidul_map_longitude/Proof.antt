@@ -1,5 +1,3 @@
-use Rattle.prelude.proofs.Logic.{ap, _∙_}
-use Rattle.katchidul.specs.Map.{mapAnswerOf}
 use Rattle.katchidul.proofs.map.katchidul_map_longitude as this
 
 returns : this.Tie.Need-returns

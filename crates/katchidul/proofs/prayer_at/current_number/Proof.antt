@@ -1,4 +1,4 @@
-use Rattle.prelude.proofs.Logic.{sym, needs}
+use Rattle.prelude.proofs.Logic.{needs}
 use Rattle.schedule.specs.InForce.{currentNumberOf}
 use Rattle.katchidul.proofs.prayer_at.current_number as this
 

@@ -1,4 +1,4 @@
-use Rattle.prelude.proofs.Logic.{sym, needs}
+use Rattle.prelude.proofs.Logic.{needs}
 use Rattle.katchidul.specs.Exports.{prayerAnswerOf}
 use Rattle.katchidul.proofs.prayer_at.prayer_answer as this
 

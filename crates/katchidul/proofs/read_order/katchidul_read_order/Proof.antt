@@ -1,4 +1,4 @@
-use Rattle.prelude.proofs.Logic.{sym, needs}
+use Rattle.prelude.proofs.Logic.{needs}
 use Rattle.katchidul.specs.Exports.{orderAnswerOf, orderIn}
 use Rattle.katchidul.proofs.read_order.katchidul_read_order as this
 

@@ -1,5 +1,4 @@
 use Rattle.katchidul.specs.Exports.{orderRefused}
-use Rattle.prelude.proofs.Logic.{sym}
 use lib.Ieee.{round, ofBits}
 use Rattle.float64.specs.Ops.{dec}
 use Rattle.katchidul.proofs.read_order.order_refused as this

@@ -1,5 +1,3 @@
-use Rattle.prelude.proofs.Logic.{ap, _∙_}
-use Rattle.katchidul.specs.Sentence.{meaningAnswerOf}
 use Rattle.katchidul.proofs.sentence.katchidul_read_sentence as this
 
 returns : this.Tie.Need-returns

@@ -1,7 +1,7 @@
 use Rattle.prelude.proofs.Logic.{_≡_, sym, ap, _∙_, _+_, _-_, _*_, _/_, arith, length, needs, now}
 use Rattle.pages.specs.Answers.{refusedOf, pieceIn}
 use Rattle.pages.proofs.AnswerLaws.{rows-none, rows-answered}
-use Rattle.pages.proofs.PageLaws.{piece-none, piece-written}
+use Rattle.pages.proofs.PageLaws.{Written, piece-none, piece-written}
 use Rattle.pages.proofs.RowsLaws.{rows-length}
 use Rattle.pages.proofs.page.write_read as this
 
@@ -12,41 +12,25 @@ returns c =
     let n = rows-none (pieceIn (a .page) (a .first) (now (a .scratch)) (a .order)) (now (a .scratch)) none in
     (c .refused .ensures ∙ ap refusedOf (c .before .lacks-row .ensures) ∙ n .0, n .1)
 
-sub-write-rows : this.Tie.Need-sub-write-rows
-sub-write-rows c =
-    let a = c .before .before .before .before .before .args in
-    let p = c .before .before .before .before .before .pre in
-    let w = piece-written (a .order) (a .page) (a .first) (length (now (a .scratch)) / 39) _ _ (c .before .before .before .rows-on .ensures) (c .before .before .if1 .left) (omega (arith, p .1)) (c .before .least .ensures) in
-    w .from
-
-mul-write-rows : this.Tie.Need-mul-write-rows
-mul-write-rows c =
-    let a = c .before .before .before .before .before .args in
-    let p = c .before .before .before .before .before .pre in
-    let most = p .0 .rows .1 in
-    let w = piece-written (a .order) (a .page) (a .first) (length (now (a .scratch)) / 39) _ _ (c .before .before .before .rows-on .ensures) (c .before .before .if1 .left) (omega (arith, p .1)) (c .before .least .ensures) in
-    record { fits = omega (arith, w .within) }
-
-add-write-rows : this.Tie.Need-add-write-rows
-add-write-rows c =
-    let a = c .before .before .before .before .before .args in
-    let p = c .before .before .before .before .before .pre in
-    let most = p .0 .rows .1 in
-    let w = piece-written (a .order) (a .page) (a .first) (length (now (a .scratch)) / 39) _ _ (c .before .before .before .rows-on .ensures) (c .before .before .if1 .left) (omega (arith, p .1)) (c .before .least .ensures) in
-    record { fits = omega (arith, w .within) }
+-- what is written of a page that has the row
+written : (c : this.Tie.After-least) → let a = c .before .before .before .before .args in
+    Written (a .order) (a .page) (a .first) (length (now (a .scratch)) / 39) (c .least .result)
+written c =
+    let t = c .before .before .before .before in
+    let a = t .args in
+    piece-written (a .order) (a .page) (a .first) (length (now (a .scratch)) / 39) _ _ (c .before .before .rows-on .ensures) (c .before .if1 .left)
+    (omega (arith, t .pre .1)) (c .least .ensures)
 
 write-rows-requires : this.Tie.Need-write-rows-requires
 write-rows-requires c κs =
-    let a = c .before .before .before .before .before .args in
     let p = c .before .before .before .before .before .pre in
-    let w = piece-written (a .order) (a .page) (a .first) (length (now (a .scratch)) / 39) _ _ (c .before .before .before .rows-on .ensures) (c .before .before .if1 .left) (omega (arith, p .1)) (c .before .least .ensures) in
+    let w = written (c .before) in
     (p .0, w .some, w .within, omega (arith, w .fit, p .1))
 
 returns-2 : this.Tie.Need-returns-2
 returns-2 c =
     let a = c .before .before .before .before .before .before .before .before .args in
-    let p = c .before .before .before .before .before .before .before .before .pre in
-    let w = piece-written (a .order) (a .page) (a .first) (length (now (a .scratch)) / 39) _ _ (c .before .before .before .before .before .before .rows-on .ensures) (c .before .before .before .before .before .if1 .left) (omega (arith, p .1)) (c .before .before .before .before .least .ensures) in
+    let w = written (c .before .before .before .before) in
     let taken = c .before .before .before .before .least .result in
     let asked = pieceIn (a .page) (a .first) (now (a .scratch)) (a .order) in
     let l : taken ≡ length asked = sym (rows-length (a .order) (25 * (a .page - 1) + a .first) taken) ∙ ap length (w .rows) in
@@ -57,4 +41,5 @@ pub write-read-spec : {M : Type 1} → this.Statement.statement M
 write-read-spec =
     this.Tie.close
     (this.Tie.spec (λ c κs. search needs) (λ c κs. search needs) (λ c κs. search needs) returns (λ c. search needs) (λ c κs. search needs)
-    sub-write-rows mul-write-rows add-write-rows write-rows-requires (λ c. search needs) returns-2)
+    (λ c. written (c .before) .from) (λ c. omega (arith, written (c .before) .within, c .before .before .before .before .before .pre .0 .rows .1))
+    (λ c. omega (arith, written (c .before) .within, c .before .before .before .before .before .pre .0 .rows .1)) write-rows-requires (λ c. search needs) returns-2)

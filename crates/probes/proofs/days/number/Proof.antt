@@ -1,4 +1,4 @@
-use Rattle.prelude.proofs.Logic.{sym, needs}
+use Rattle.prelude.proofs.Logic.{needs}
 use Rattle.schedule.specs.InForce.{currentNumberOf}
 use Rattle.probes.proofs.days.number as this
 

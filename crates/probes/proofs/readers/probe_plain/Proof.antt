@@ -1,5 +1,5 @@
 -- `probes::readers::probe_plain` meets its contract: a match on what reading answers.
-use Rattle.prelude.proofs.Logic.{sym, needs}
+use Rattle.prelude.proofs.Logic.{needs}
 use Rattle.probes.specs.Readers.{plainIn}
 use Rattle.probes.proofs.readers.probe_plain as this
 

@@ -1,4 +1,4 @@
-use Rattle.prelude.proofs.Logic.{sym, needs, w64, SFits, toZ-ofZ}
+use Rattle.prelude.proofs.Logic.{needs, w64, SFits, toZ-ofZ}
 use Rattle.weeks.proofs.window.begin as this
 
 returns : this.Tie.Need-returns

@@ -1,4 +1,4 @@
-use Rattle.prelude.proofs.Logic.{_≡_, sym, needs, w64, toZ, ofZ}
+use Rattle.prelude.proofs.Logic.{_≡_, needs, w64, toZ, ofZ}
 use Rattle.weeks.proofs.Steps.{both-seen}
 use Rattle.weeks.specs.Windows.{seenOf}
 use Rattle.weeks.proofs.window.seen as this
