@@ -13,9 +13,9 @@ returns c =
     (c .refused .ensures ∙ ap refusedOf (c .before .lacks-row .ensures) ∙ n .0, n .1)
 
 -- what is written of a page that has the row
-written : (c : this.Tie.After-least) → let a = c .before .before .before .before .args in
+piece-holds : (c : this.Tie.After-least) → let a = c .before .before .before .before .args in
     Written (a .order) (a .page) (a .first) (length (now (a .scratch)) / 39) (c .least .result)
-written c =
+piece-holds c =
     let t = c .before .before .before .before in
     let a = t .args in
     piece-written (a .order) (a .page) (a .first) (length (now (a .scratch)) / 39) _ _ (c .before .before .rows-on .ensures) (c .before .if1 .left)
@@ -24,13 +24,13 @@ written c =
 write-rows-requires : this.Tie.Need-write-rows-requires
 write-rows-requires c κs =
     let p = c .before .before .before .before .before .pre in
-    let w = written (c .before) in
+    let w = piece-holds (c .before) in
     (p .0, w .some, w .within, omega (arith, w .fit, p .1))
 
 returns-2 : this.Tie.Need-returns-2
 returns-2 c =
     let a = c .before .before .before .before .before .before .before .before .args in
-    let w = written (c .before .before .before .before) in
+    let w = piece-holds (c .before .before .before .before) in
     let taken = c .before .before .before .before .least .result in
     let asked = pieceIn (a .page) (a .first) (now (a .scratch)) (a .order) in
     let l : taken ≡ length asked = sym (rows-length (a .order) (25 * (a .page - 1) + a .first) taken) ∙ ap length (w .rows) in
@@ -41,5 +41,5 @@ pub write-read-spec : {M : Type 1} → this.Statement.statement M
 write-read-spec =
     this.Tie.close
     (this.Tie.spec (λ c κs. search needs) (λ c κs. search needs) (λ c κs. search needs) returns (λ c. search needs) (λ c κs. search needs)
-    (λ c. written (c .before) .from) (λ c. omega (arith, written (c .before) .within, c .before .before .before .before .before .pre .0 .rows .1))
-    (λ c. omega (arith, written (c .before) .within, c .before .before .before .before .before .pre .0 .rows .1)) write-rows-requires (λ c. search needs) returns-2)
+    (λ c. piece-holds (c .before) .from) (λ c. omega (arith, piece-holds (c .before) .within, c .before .before .before .before .before .pre .0 .rows .1))
+    (λ c. omega (arith, piece-holds (c .before) .within, c .before .before .before .before .before .pre .0 .rows .1)) write-rows-requires (λ c. search needs) returns-2)

@@ -21,10 +21,10 @@ few : (c : this.Tie.At-loop Inv-loop μ-loop) → c .loop .next < 400
 few c = let p = c .before .before .before .before .before .before .before .before .pre in omega (arith, c .loop .inv .within, p .2, p .0 .rows .1)
 
 -- behind the row that is put
-made : (c : this.Tie.After-put-cells Inv-loop μ-loop) → let a = c .before .before .before .before .before .before .before .before .before .before .before .before .args in
+row-holds : (c : this.Tie.After-put-cells Inv-loop μ-loop) → let a = c .before .before .before .before .before .before .before .before .before .before .before .before .args in
     let l = c .before .before .before .before .loop in
     Behind (a .order) (a .row) (now (a .buffer)) (l .next + 1) (c .put-cells .last .0) (l .dots + c .put-cells .result)
-made c =
+row-holds c =
     let t = c .before .before .before .before .before .before .before .before .before .before .before .before in
     let l = c .before .before .before .before .loop in
     let o = t .args .order in
@@ -51,7 +51,7 @@ loop-holds c =
 returns : this.Tie.Need-returns Inv-loop μ-loop
 returns c =
     let l = c .before .before .before .before .before .before .before .loop in
-    let m = made (c .before .before .before) in
+    let m = row-holds (c .before .before .before) in
     let e : l .next + 1 ≡ c .before .before .before .before .before .before .before .before .before .before .before .before .before .before .before .args .end = omega (arith, c .if1 .taken, l .inv .within) in
     (rw e at (m .1), rw e at (m .0))
 
@@ -60,7 +60,7 @@ loop-again c =
     let t = c .before .before .before .before .before .before .before .before .before .before .before .before .before .before .before .before in
     let l = c .before .before .before .before .before .before .before .before .loop in
     let o = t .args .order in
-    let m = made (c .before .before .before .before) in
+    let m = row-holds (c .before .before .before .before) in
     record {
       from = omega (arith, l .inv .from);
       within = c .before .if1 .left;
@@ -76,7 +76,7 @@ put-rows-spec =
     this.Tie.close
     (this.Tie.spec Inv-loop μ-loop (λ c κs. search needs) (λ c κs. search needs) loop-holds (λ c κs. search needs) (λ c. c .before .loop .inv .from)
     (λ c. omega (arith, few (c .before))) (λ c. omega (arith, few (c .before))) (λ c κs. search needs)
-    (λ c. omega (arith, made (c .before .before) .2, few (c .before .before .before .before .before .before)))
+    (λ c. omega (arith, row-holds (c .before .before) .2, few (c .before .before .before .before .before .before)))
     (λ c. omega (arith, few (c .before .before .before .before .before .before)))
     (λ c. c .before .before .before .put-cells .kept .0 ∙ c .before .before .before .before .before .before .before .loop .inv .same) returns
     (λ c κs. search needs) (λ c. omega (arith, c .before .before .before .before .before .before .before .before .loop .inv .within)) loop-again)

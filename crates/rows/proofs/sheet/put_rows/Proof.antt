@@ -13,10 +13,10 @@ abbrev μ-loop : this.Tie.MeasureT-loop
 μ-loop buffer₀ at order coordinates parameters rules ramadan latitude rolling₀ row₀ end₀ buffer suns row end = order .rows - row
 
 -- behind the row whose line is put
-line : (c : this.Tie.After-put-line Inv-loop μ-loop) → let a = c .before .before .before .before .before .before .before .before .before .before .args in
+line-holds : (c : this.Tie.After-put-line Inv-loop μ-loop) → let a = c .before .before .before .before .before .before .before .before .before .before .args in
     let l = c .before .before .before .loop in
     Behind (a .order) (now (a .buffer)) (a .at) (c .put-line .last .0) (l .row + 1) (l .end + c .put-line .result)
-line c =
+line-holds c =
     let t = c .before .before .before .before .before .before .before .before .before .before in
     let o = t .args .order in
     let l = c .before .before .before .loop in
@@ -36,12 +36,12 @@ add-end : this.Tie.Need-add-end Inv-loop μ-loop
 add-end c =
     let t = c .before .before .before .before .before .before .before .before .before .before .before .before in
     let f : length (now (t .args .buffer)) < 2 ^ 64 = search needs in
-    omega (arith, line (c .before .before) .2)
+    omega (arith, line-holds (c .before .before) .2)
 
 returns : this.Tie.Need-returns Inv-loop μ-loop
 returns c =
     let l = c .before .before .before .before .before .before .before .loop in
-    let n = line (c .before .before .before .before) in
+    let n = line-holds (c .before .before .before .before) in
     let e : l .row + 1 ≡ c .before .before .before .before .before .before .before .before .before .before .before .before .before .before .args .order .rows = omega (arith, c .if1 .taken, l .inv .within) in
     (rw e at (n .1), rw e at (n .0))
 
@@ -50,7 +50,7 @@ loop-again c =
     let t = c .before .before .before .before .before .before .before .before .before .before .before .before .before .before .before in
     let o = t .args .order in
     let l = c .before .before .before .before .before .before .before .before .loop in
-    let n = line (c .before .before .before .before .before) in
+    let n = line-holds (c .before .before .before .before .before) in
     record {
       within = c .before .if1 .left;
       state = c .next .ensures ∙ ap (nextRowSunsOf (o .coordinates) (o .parameters) (o .rules)) (l .inv .state) ∙ next-state o (t .pre .0) (l .row) (l .inv .within);

@@ -12,10 +12,10 @@ abbrev μ-loop : this.Tie.MeasureT-loop
 μ-loop buffer₀ order coordinates parameters rules latitude suns₀ week₀ row₀ end₀ buffer suns week row end = order .rows - row
 
 -- behind the row whose window is put
-line : (c : this.Tie.After-put-window Inv-loop μ-loop) → let a = c .before .before .before .before .before .before .before .before .before .before .before .before .before .args in
+line-holds : (c : this.Tie.After-put-window Inv-loop μ-loop) → let a = c .before .before .before .before .before .before .before .before .before .before .before .before .before .args in
     let l = c .before .before .before .before .before .before .loop in
     Next (a .order) (now (a .buffer)) (c .put-window .last .0) (c .before .before .before .push .result) (l .row + 1) (l .end + c .put-window .result)
-line c =
+line-holds c =
     let t = c .before .before .before .before .before .before .before .before .before .before .before .before .before in
     let l = c .before .before .before .before .before .before .loop in
     let put = c .put-window in
@@ -33,12 +33,12 @@ add-end : this.Tie.Need-add-end Inv-loop μ-loop
 add-end c =
     let t = c .before .before .before .before .before .before .before .before .before .before .before .before .before .before .before in
     let f : length (now (t .args .buffer)) < 2 ^ 64 = search needs in
-    omega (arith, line (c .before .before) .fits)
+    omega (arith, line-holds (c .before .before) .fits)
 
 returns : this.Tie.Need-returns Inv-loop μ-loop
 returns c =
     let l = c .before .before .before .before .before .before .before .before .before .before .loop in
-    let n = line (c .before .before .before .before) in
+    let n = line-holds (c .before .before .before .before) in
     let e : l .row + 1 ≡ c .before .before .before .before .before .before .before .before .before .before .before .before .before .before .before .before .before .args .order .rows = omega (arith, c .if1 .taken, l .inv .within) in
     (rw e at (n .place), rw e at (n .text))
 
@@ -47,7 +47,7 @@ loop-again c =
     let t = c .before .before .before .before .before .before .before .before .before .before .before .before .before .before .before .before .before .before in
     let o = t .args .order in
     let l = c .before .before .before .before .before .before .before .before .before .before .before .loop in
-    let n = line (c .before .before .before .before .before) in
+    let n = line-holds (c .before .before .before .before .before) in
     record {
       within = c .before .if1 .left;
       state = c .next .ensures ∙ ap (nextRowSunsOf (o .coordinates) (o .parameters) (o .rules)) (l .inv .state) ∙ next-state o (t .pre .0) (l .row) (l .inv .within);
