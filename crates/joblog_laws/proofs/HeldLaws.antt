@@ -169,7 +169,8 @@ module _ (log : List ℕ) (used : ℕ) (s : State) (tag page : ℕ) (second : Li
       rw (le-leb used (length log) (h .fits), h .reads)
       (arms Outcome (leb page 65535 && inTurn false s (recordAs tag page))
       (λ e. let turn = both (leb page 65535) _ e .1 in
-      arms Outcome (leb (wholeOf used + 5) (length log)) (λ f. placed turn (leb-true _ _ f)) (λ f. by-room turn (leb (length (compactedOf s ++ bytesOf tag page)) (length second)) refl))
+      arms Outcome (leb (wholeOf used + 5) (length log)) (λ f. placed turn (leb-true _ _ f))
+      (λ f. by-room turn (leb (length (compactedOf s ++ bytesOf tag page)) (length second)) refl))
       (λ e. refusal logOutOfTurn second refl))
     where
       by-room : inTurn false s (recordAs tag page) ≡ true → (b : Bool) → leb (length (compactedOf s ++ bytesOf tag page)) (length second) ≡ b

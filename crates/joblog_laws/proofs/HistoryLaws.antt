@@ -21,7 +21,8 @@ not-has false h = refl
 room-answer : (t : State) (place : ℕ) (log second : List ℕ)
     → compactingOf t (compactedOf t) place log second .answer .number ≡ cond (leb (5 + 5 * (t .sent - t .finished)) (length second)) 0 12
 unfolding compactAnswer
-room-answer t place log second = let test = leb (5 + 5 * (t .sent - t .finished)) (length second) in rw (compacted-length t) (either-way test (λ e. simp e) (λ e. simp e))
+room-answer t place log second =
+    rw (compacted-length t) (either-way (leb (5 + 5 * (t .sent - t .finished)) (length second)) (λ e. simp e) (λ e. simp e))
 
 kept : (w : World) → Inv w → Kept w
 kept w i =

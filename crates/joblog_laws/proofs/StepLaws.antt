@@ -86,7 +86,19 @@ log-kept : (w : World) (i : Inv w) {log : List ℕ} {used : ℕ} {writing : Writ
     → Flight base log used s (length (w .finished)) writing → s .finished ≤ length (w .finished) → i .last ≤ s .sent
     → Inv (record { log = log; used = used; up = w .up; out = w .out; writing = writing; heard = w .heard; tray = w .tray; finished = w .finished; coming = w .coming })
 log-kept w i s base h f b a =
-    record { says = s; base = base; held = h; flight = f; last = i .last; here = i .here; behind = b; ahead = a; out = i .out; heard = i .heard; coming = i .coming }
+    record {
+      says = s;
+      base = base;
+      held = h;
+      flight = f;
+      last = i .last;
+      here = i .here;
+      behind = b;
+      ahead = a;
+      out = i .out;
+      heard = i .heard;
+      coming = i .coming;
+    }
 
 -- pages or what is heard of them go on, and the log stays
 pages-kept : (w : World) (i : Inv w) {heard tray finished coming : List ℕ} → length (w .finished) ≤ length finished → finished ++ tray ≡ w .finished ++ w .tray
@@ -211,13 +223,29 @@ restart-kept w i second = rw (restarted w i second) (by-room (leb (length (compa
         → Inv (record { log = log; used = used; up = up; out = n; writing = idle; heard = w .heard; tray = []; finished = w .finished; coming = w .coming })
     begun-again log used up s h b a =
         let here = append-nil (w .finished) ∙ pages-front (w .finished) (w .tray) (i .last) (i .here) in
-        record { says = s; base = log; held = h; flight = refl; last = n; here = here; behind = b; ahead = a; out = λ u. refl; heard = i .heard; coming = i .coming }
+        record {
+          says = s;
+          base = log;
+          held = h;
+          flight = refl;
+          last = n;
+          here = here;
+          behind = b;
+          ahead = a;
+          out = λ u. refl;
+          heard = i .heard;
+          coming = i .coming;
+        }
 
     after : LogCall → World
     after c = record { log = logAfter c; used = usedAfter c (w .used); up = eqb (c .answer .number) 0; out = n; writing = idle; heard = w .heard; tray = []; finished = w .finished; coming = w .coming }
 
     by-room : (b : Bool) → leb (length (compactedOf t)) (length second) ≡ b
-        → Inv (after (record { answer = cond b (answered 1 t (length (compactedOf t))) (refused logSecondShort n); log = w .log; second = putOf second 0 (compactedOf t) }))
+        → Inv (after (record {
+          answer = cond b (answered 1 t (length (compactedOf t))) (refused logSecondShort n);
+          log = w .log;
+          second = putOf second 0 (compactedOf t);
+        }))
     by-room true e =
         let b = count-between w i .1 in
         begun-again _ _ true t (restart-held t second b (leb-true (length (compactedOf t)) (length second) e)) (omega arith) b
@@ -231,7 +259,8 @@ finish-kept w (page ∷ rest) e i =
     let done = w .finished ++ (page ∷ []) in
     let n = length-append (w .finished) (page ∷ []) in
     let all : w .finished ++ (page ∷ rest) ≡ w .finished ++ w .tray = ap (λ (l : List ℕ). w .finished ++ l) (sym e) in
-    let more : (pages : List ℕ) → Below (length (w .finished)) pages → Below (length done) pages = λ pages b. below-more (length (w .finished)) (length done) pages (omega arith) b in
+    let more : (pages : List ℕ) → Below (length (w .finished)) pages → Below (length done) pages =
+    λ pages b. below-more (length (w .finished)) (length done) pages (omega arith) b in
     pages-kept w i (omega arith) (append-assoc (w .finished) (page ∷ []) rest ∙ all) (more (w .heard) (i .heard))
     (below-behind (length done) page (w .coming) (more (w .coming) (i .coming)) (first-page (w .finished) page rest (i .last) (all ∙ i .here)))
 

@@ -24,7 +24,8 @@ pub all-pass : (number : ℕ) (passes : ℕ → Bool) (tags : List ℕ) → 1 �
     → (i : ℕ) → i < length tags → passes (getD tags i 0) ≡ true
 unfolding firstFailing
 all-pass number passes [] l e i h = absurd (omega arith)
-all-pass number passes (tag ∷ rest) l e zero h = arms (λ (x : Refusal). x .number ≡ 0 → passes tag ≡ true) (passes tag) (λ p f. p) (λ p f. absurd (omega arith)) e
+all-pass number passes (tag ∷ rest) l e zero h =
+    arms (λ (x : Refusal). x .number ≡ 0 → passes tag ≡ true) (passes tag) (λ p f. p) (λ p f. absurd (omega arith)) e
 all-pass number passes (tag ∷ rest) l e (suc i) h =
     arms (λ (x : Refusal). x .number ≡ 0 → passes (getD rest i 0) ≡ true) (passes tag)
     (λ p f. all-pass number passes rest l f i (omega arith)) (λ p f. absurd (omega arith)) e

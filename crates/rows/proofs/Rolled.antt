@@ -42,5 +42,6 @@ module _ (o : Order) (a : Accepted o) (buffer : List ℕ) (at : ℕ) (room : at 
       let w = s .within in
       let most = mul-le-mul-right (rowRoom (o .ramadan)) (add-one-le w) in
       let long = lines-length o (row + 1) in
-      let made = line-made o row buffer now after line at end n (omega arith) (s .text) (s .place) (l ∙ ap (madeLine o) (s .state) ∙ state-line o a row w) m p in
+      let made = line-made o row buffer now after line at end n (omega arith) (s .text) (s .place)
+      (l ∙ ap (madeLine o) (s .state) ∙ state-line o a row w) m p in
       (made .0, made .1, omega (arith, made .1))

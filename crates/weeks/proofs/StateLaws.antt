@@ -76,8 +76,9 @@ window-right l =
     either-way (ltb (length l) 7) (λ t. let a = ltb-true (length l) 7 t in simp (t, lt-leb (length l - 7 + 7) (length l) (omega arith)))
     (λ t. let a : 7 ≤ length l = ltb-false (length l) 7 t in
     simp (t, le-leb (length l - 7 + 7) (length l) (omega arith))
-    (looked-is (rowAt l) (length l - 7) (length l) _ _ _ _ _ _ _ (at 7 _ (omega arith) a refl) (at 6 _ (omega arith) a (omega arith)) (at 5 _ (omega arith) a (omega arith))
-    (at 4 _ (omega arith) a (omega arith)) (at 3 _ (omega arith) a (omega arith)) (at 2 _ (omega arith) a (omega arith)) (at 1 _ (omega arith) a (omega arith))))
+    (looked-is (rowAt l) (length l - 7) (length l) _ _ _ _ _ _ _ (at 7 _ (omega arith) a refl) (at 6 _ (omega arith) a (omega arith))
+    (at 5 _ (omega arith) a (omega arith)) (at 4 _ (omega arith) a (omega arith)) (at 3 _ (omega arith) a (omega arith))
+    (at 2 _ (omega arith) a (omega arith)) (at 1 _ (omega arith) a (omega arith))))
   where
     at : (k i : ℕ) → k ≤ 7 → 7 ≤ length l → i ≡ length l - k → back l k ≡ rowAt l i
     at k i h a e = back-is l k (omega arith) ∙ ap (rowAt l) (sym e)

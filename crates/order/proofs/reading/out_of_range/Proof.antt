@@ -45,7 +45,8 @@ first c =
     let d = c .before .before in
     let a = d .before .before .before .before .before .args in
     c .loop .inv .1
-    ∙ held (now (a .order)) (a .fields) (d .date-in .result) (c .before .has .result) (rw (← d .before .value .ensures) (d .date-in .ensures)) (c .before .has .ensures)
+    ∙ held (now (a .order)) (a .fields) (d .date-in .result) (c .before .has .result) (rw (← d .before .value .ensures) (d .date-in .ensures))
+    (c .before .has .ensures)
 
 returns : this.Tie.Need-returns Inv-loop μ-loop
 unfolding passing
@@ -54,7 +55,8 @@ returns c =
     let l = h .before .before in
     let t = h .before .loop-test .taken in
     c .new .ensures
-    ∙ sym (fails 5 (passing l) (tagsFrom lastTag 1) (l .loop .passed) (omega (arith, all)) _ (tags-from lastTag 1 (l .loop .passed) t) (sym (h .in-range .ensures) ∙ not-true _ (c .before .if1 .taken)))
+    ∙ sym (fails 5 (passing l) (tagsFrom lastTag 1) (l .loop .passed) (omega (arith, all)) _ (tags-from lastTag 1 (l .loop .passed) t)
+    (sym (h .in-range .ensures) ∙ not-true _ (c .before .if1 .taken)))
     ∙ first l
 
 loop-again : this.Tie.Need-loop-again Inv-loop μ-loop
@@ -62,8 +64,11 @@ unfolding passing
 loop-again c =
     let h = c .before in
     let l = h .before .before in
-    let t = h .before .loop-test .taken in
-    (search needs, sym (on 5 (passing l) (tagsFrom lastTag 1) (l .loop .passed) (omega (arith, all)) _ (tags-from lastTag 1 (l .loop .passed) t) (sym (h .in-range .ensures) ∙ not-false _ (c .if1 .left))) ∙ l .loop .inv .1)
+    let t = h .before .loop-test .taken in (
+      search needs,
+      sym (on 5 (passing l) (tagsFrom lastTag 1) (l .loop .passed) (omega (arith, all)) _ (tags-from lastTag 1 (l .loop .passed) t)
+          (sym (h .in-range .ensures) ∙ not-false _ (c .if1 .left))) ∙ l .loop .inv .1,
+    )
 
 returns-2 : this.Tie.Need-returns-2 Inv-loop μ-loop
 returns-2 c =

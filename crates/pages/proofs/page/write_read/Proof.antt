@@ -42,4 +42,5 @@ write-read-spec =
     this.Tie.close
     (this.Tie.spec (λ c κs. search needs) (λ c κs. search needs) (λ c κs. search needs) returns (λ c. search needs) (λ c κs. search needs)
     (λ c. piece-holds (c .before) .from) (λ c. omega (arith, piece-holds (c .before) .within, c .before .before .before .before .before .pre .0 .rows .1))
-    (λ c. omega (arith, piece-holds (c .before) .within, c .before .before .before .before .before .pre .0 .rows .1)) write-rows-requires (λ c. search needs) returns-2)
+    (λ c. omega (arith, piece-holds (c .before) .within, c .before .before .before .before .before .pre .0 .rows .1)) write-rows-requires
+    (λ c. search needs) returns-2)

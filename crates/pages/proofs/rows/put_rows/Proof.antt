@@ -21,7 +21,8 @@ few : (c : this.Tie.At-loop Inv-loop μ-loop) → c .loop .next < 400
 few c = let p = c .before .before .before .before .before .before .before .before .pre in omega (arith, c .loop .inv .within, p .2, p .0 .rows .1)
 
 -- behind the row that is put
-row-holds : (c : this.Tie.After-put-cells Inv-loop μ-loop) → let a = c .before .before .before .before .before .before .before .before .before .before .before .before .args in
+row-holds : (c : this.Tie.After-put-cells Inv-loop μ-loop)
+    → let a = c .before .before .before .before .before .before .before .before .before .before .before .before .args in
     let l = c .before .before .before .before .loop in
     Behind (a .order) (a .row) (now (a .buffer)) (l .next + 1) (c .put-cells .last .0) (l .dots + c .put-cells .result)
 row-holds c =
@@ -31,8 +32,10 @@ row-holds c =
     let p = t .pre in
     let put = c .put-cells in
     let k = read w32 (o .clock) (clock-fits o (p .0)) in
-    run-row o (t .args .row) (t .args .end) (p .0) (p .2) (now (t .args .buffer)) (p .3) (l .buffer) (l .suns) (l .next) (l .dots) (l .inv) _ (put .last .0) (put .result) _
-    (ap (λ (w : Worked). rowCells (l .suns .date) w (o .clock)) (c .before .before .before .work .ensures)) (rw k at (put .ensures .0)) refl (rw k at (put .ensures .1))
+    run-row o (t .args .row) (t .args .end) (p .0) (p .2) (now (t .args .buffer)) (p .3) (l .buffer) (l .suns) (l .next) (l .dots) (l .inv)
+    _ (put .last .0) (put .result) _
+    (ap (λ (w : Worked). rowCells (l .suns .date) w (o .clock)) (c .before .before .before .work .ensures)) (rw k at (put .ensures .0)) refl
+    (rw k at (put .ensures .1))
 
 loop-holds : this.Tie.Need-loop-holds Inv-loop μ-loop
 loop-holds c =
@@ -52,7 +55,8 @@ returns : this.Tie.Need-returns Inv-loop μ-loop
 returns c =
     let l = c .before .before .before .before .before .before .before .loop in
     let m = row-holds (c .before .before .before) in
-    let e : l .next + 1 ≡ c .before .before .before .before .before .before .before .before .before .before .before .before .before .before .before .args .end = omega (arith, c .if1 .taken, l .inv .within) in
+    let t = c .before .before .before .before .before .before .before .before .before .before .before .before .before .before .before in
+    let e : l .next + 1 ≡ t .args .end = omega (arith, c .if1 .taken, l .inv .within) in
     (rw e at (m .1), rw e at (m .0))
 
 loop-again : this.Tie.Need-loop-again Inv-loop μ-loop

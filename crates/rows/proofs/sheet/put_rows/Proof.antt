@@ -42,7 +42,8 @@ returns : this.Tie.Need-returns Inv-loop μ-loop
 returns c =
     let l = c .before .before .before .before .before .before .before .loop in
     let n = line-holds (c .before .before .before .before) in
-    let e : l .row + 1 ≡ c .before .before .before .before .before .before .before .before .before .before .before .before .before .before .args .order .rows = omega (arith, c .if1 .taken, l .inv .within) in
+    let t = c .before .before .before .before .before .before .before .before .before .before .before .before .before .before in
+    let e : l .row + 1 ≡ t .args .order .rows = omega (arith, c .if1 .taken, l .inv .within) in
     (rw e at (n .1), rw e at (n .0))
 
 loop-again : this.Tie.Need-loop-again Inv-loop μ-loop
@@ -53,7 +54,8 @@ loop-again c =
     let n = line-holds (c .before .before .before .before .before) in
     record {
       within = c .before .if1 .left;
-      state = c .next .ensures ∙ ap (nextRowSunsOf (o .coordinates) (o .parameters) (o .rules)) (l .inv .state) ∙ next-state o (t .pre .0) (l .row) (l .inv .within);
+      state = c .next .ensures ∙ ap (nextRowSunsOf (o .coordinates) (o .parameters) (o .rules)) (l .inv .state) ∙ next-state o (t .pre .0) (l .row)
+          (l .inv .within);
       text = n .0;
       place = n .1;
       same = c .before .before .before .before .before .put-line .kept .0 ∙ l .inv .same;
@@ -63,6 +65,10 @@ pub put-rows-spec : {M : Type 1} → this.Statement.statement M
 put-rows-spec =
     this.Tie.close
     (this.Tie.spec Inv-loop μ-loop (λ c κs. search needs) loop-holds (λ c κs. search needs) (λ c κs. search needs) add-end
-    (λ c. omega (arith, c .before .before .before .before .before .loop .inv .within, c .before .before .before .before .before .before .before .before .before .before .before .before .pre .0 .rows .1))
+    (λ c. omega (
+      arith,
+      c .before .before .before .before .before .loop .inv .within,
+      c .before .before .before .before .before .before .before .before .before .before .before .before .pre .0 .rows .1,
+    ))
     (λ c. c .before .before .before .before .put-line .kept .0 ∙ c .before .before .before .before .before .before .before .loop .inv .same) returns
     (λ c κs. search needs) (λ c. omega (arith, c .before .before .before .before .before .before .before .before .loop .inv .within)) loop-again)

@@ -11,8 +11,12 @@ parts : (c : this.Tie.After-below2) → let a = c .before .before .before .befor
 parts c =
     let t = c .before .before .before .before in
     let rt = read w64 (t .args .time) (t .fits .time) in
-    let rs = read w64 (t .args .seconds) (t .fits .seconds) in
-    (c .before .before .before .above .ensures ∙ ap P rt, c .before .before .below .ensures ∙ ap N rs, c .before .above2 .ensures ∙ ap P rs, c .below2 .ensures ∙ ap N rt)
+    let rs = read w64 (t .args .seconds) (t .fits .seconds) in (
+      c .before .before .before .above .ensures ∙ ap P rt,
+      c .before .before .below .ensures ∙ ap N rs,
+      c .before .above2 .ensures ∙ ap P rs,
+      c .below2 .ensures ∙ ap N rt,
+    )
 
 add-to : this.Tie.Need-add-to
 add-to c =

@@ -35,7 +35,10 @@ started-spec =
     (λ c. let s = c .before .before .before .before .before .before .before .before in fits s (s .before .pre .asr))
     (λ c. let s = c .before .before .before .before .before .before .before .before .before .before in fits s (s .before .pre .maghrib))
     (λ c. let s = c .before .before .before .before .before .before .before .before .before .before .before .before in fits s (s .before .pre .isha))
-    (λ c. let s = c .before .before .before .before .before .before .before .before .before .before .before .before .before .before in fits s (s .before .pre .«middle_of_the_night»))
-    (λ c. let s = c .before .before .before .before .before .before .before .before .before .before .before .before .before .before .before .before in fits s (s .before .pre .qiyam))
-    (λ c. let s = c .before .before .before .before .before .before .before .before .before .before .before .before .before .before .before .before .before .before in fits s (s .before .pre .«fajr_tomorrow»))
+    (λ c. let s = c .before .before .before .before .before .before .before .before .before .before .before .before .before .before in
+    fits s (s .before .pre .«middle_of_the_night»))
+    (λ c. let s = c .before .before .before .before .before .before .before .before .before .before .before .before .before .before .before .before in
+    fits s (s .before .pre .qiyam))
+    (λ c. let s = c .before .before .before .before .before .before .before .before .before .before .before .before .before .before .before .before .before .before in
+    fits s (s .before .pre .«fajr_tomorrow»))
     returns)

@@ -11,7 +11,8 @@ sunset : (t : this.Tie.Start) → SFits w32 (t .args .today .sunset)
 sunset t = search needs
 
 -- tomorrow's sunrise, and from the sunset to it
-next-day : (t : this.Tie.Start) → Held (2 ^ 31 + 86400) (readBack w64 (readBack w32 (t .args .next .sunrise)) +ℤ pos 86400) (t .args .next .sunrise +ℤ pos 86400)
+next-day : (t : this.Tie.Start) → Held (2 ^ 31 + 86400) (readBack w64 (readBack w32 (t .args .next .sunrise)) +ℤ pos 86400)
+    (t .args .next .sunrise +ℤ pos 86400)
 next-day t = held-sum (of-wide _ (sunrise t)) (constant 86400)
 
 from-sunset : (t : this.Tie.Start)
@@ -27,5 +28,6 @@ returns c = promised (stored (from-sunset (c .before .before .before .before)) (
 pub night-spec : {M : Type 1} → this.Statement.statement M
 night-spec =
     this.Tie.close
-    (this.Tie.spec (λ c. wide _ (sunrise (c .before .before))) (λ c. held-fits (next-day (c .before .before)) (lit≤ tt)) (λ c. wide _ (sunset (c .before .before .before .before)))
+    (this.Tie.spec (λ c. wide _ (sunrise (c .before .before))) (λ c. held-fits (next-day (c .before .before)) (lit≤ tt))
+    (λ c. wide _ (sunset (c .before .before .before .before)))
     (λ c. held-fits (from-sunset (c .before .before .before .before)) (lit≤ tt)) returns)

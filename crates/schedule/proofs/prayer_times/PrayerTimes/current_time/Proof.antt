@@ -34,8 +34,11 @@ returns c =
 loop-again : this.Tie.Need-loop-again Inv-loop μ-loop
 loop-again c =
     let a = c .before .before .before .before .before .before .args in
-    let l = c .before .before .before .before .before .loop in
-    (omega (arith, l .inv .0), sym (due.passed (a .self) (a .instant) (l .n) (c .before .before .before .before .loop-test .taken) (λ e. c .if1 .left (looked (c .before) ∙ e))) ∙ l .inv .1)
+    let l = c .before .before .before .before .before .loop in (
+      omega (arith, l .inv .0),
+      sym (due.passed (a .self) (a .instant) (l .n) (c .before .before .before .before .loop-test .taken)
+          (λ e. c .if1 .left (looked (c .before) ∙ e))) ∙ l .inv .1,
+    )
 
 returns-2 : this.Tie.Need-returns-2 Inv-loop μ-loop
 returns-2 c =
