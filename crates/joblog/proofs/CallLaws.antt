@@ -1,13 +1,14 @@
 -- What the calls' definitions are under the tests that the code makes. Assumes nothing.
 use Rattle.prelude.proofs.Logic.{_≡_, refl, ap, _∙_, Bool, true, false, cond, _&&_, List, [], _++_, ℕ, _+_, _-_, _*_, _≤_, _<_, arith, eqb, leb, length, take, length-append, le-leb, lt-leb, leb-true, eqb-true}
-use Rattle.refusals.specs.Refusals.{bufferShort, logSecondShort, logOutOfTurn, logCountOutside}
+use Rattle.prelude.proofs.Cases.{cases, both}
+use Rattle.refusals.specs.Refusals.{bufferShort, logSecondShort, logOutOfTurn}
 use Rattle.text.specs.Text.{putOf}
 use Rattle.text.proofs.TextLaws.{put-behind}
 use Rattle.joblog.specs.declared.records.State.{State}
 use Rattle.joblog.specs.declared.records.Reading.{Reading}
 use Rattle.joblog.specs.declared.records.Reading.the-variants.{Says, OutOfTurn}
-use Rattle.joblog.specs.Records.{state, recordAs, bytesOf, wholeOf, inTurn, afterOf, logReadingOf, compactedOf}
-use Rattle.joblog.specs.Calls.{refused, answered, LogCall, refusing, readAnswer, readLogOf, compactAnswer, compactingOf, newInTurn, loggedOf, appendedOf, appendOf, restartedOf, restartOf}
+use Rattle.joblog.specs.Records.{recordAs, bytesOf, wholeOf, inTurn, afterOf, logReadingOf, compactedOf}
+use Rattle.joblog.specs.Calls.{refused, answered, refusing, readAnswer, readLogOf, compactAnswer, compactingOf, newInTurn, loggedOf, appendedOf, appendOf, restartedOf, restartOf}
 use Rattle.joblog.proofs.CompactLaws.{bytes-length, compacted-length}
 
 -- ---- compaction
@@ -69,10 +70,6 @@ pub append-over : (log : List ℕ) (used tag page : ℕ) (second : List ℕ) →
 unfolding appendOf
 append-over log used tag page second h = rw (lt-leb used (length log) h)
 
-pub both : (a b : Bool) → a && b ≡ true → (a ≡ true) × (b ≡ true)
-both true b h = (refl, h)
-both false b h = let z : _≡_ {A = ℕ} 0 1 = cc in absurd (omega arith)
-
 pub new-fits : (s : State) (tag page : ℕ) → newInTurn s tag page ≡ true → (tag ≤ 255) × (page ≤ 65535)
 unfolding newInTurn inTurn
 new-fits s tag page h =
@@ -91,14 +88,8 @@ pub restarted-any : (x : Reading) (log : List ℕ) (count : ℕ) (second : List 
     → (restartedOf x [] count second .answer ≡ restartedOf x log count second .answer) × (restartedOf x [] count second .second ≡ restartedOf x log count second .second)
 unfolding restartedOf
 restarted-any (OutOfTurn p) log count second = (refl, refl)
-restarted-any (Says s) log count second = by-test (leb (s .finished) count && leb count (s .sent))
-  where
-    to : Bool → List ℕ → LogCall
-    to b l = cond b (compactingOf (state count (s .sent)) (compactedOf (state count (s .sent))) count l second) (refusing logCountOutside count l second)
-
-    by-test : (b : Bool) → (to b [] .answer ≡ to b log .answer) × (to b [] .second ≡ to b log .second)
-    by-test true = (refl, refl)
-    by-test false = (refl, refl)
+restarted-any (Says s) log count second =
+    cases (leb (s .finished) count && leb count (s .sent)) (λ t. simp t (refl, refl)) (λ t. simp t (refl, refl))
 
 pub restart-fits : (log : List ℕ) (used count : ℕ) (second : List ℕ) → used ≤ length log → restartOf log used count second ≡ restartedOf (logReadingOf (take used log)) log count second
 unfolding restartOf

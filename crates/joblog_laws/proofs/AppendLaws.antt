@@ -1,12 +1,14 @@
 -- What a single call leaves of both buffers, and a cut at any byte of an append. Assumes nothing.
 use Rattle.prelude.proofs.Logic.{_≡_, refl, sym, ap, _∙_, Bool, true, false, cond, _&&_, List, _++_, ℕ, _+_, _-_, _*_, _≤_, _<_, arith, leb, ltb, eqb, length, take, drop, length-append, drop-append-add, drop-drop, length-take-le, le-leb, leb-true, leb-false, ltb-true, ltb-false}
-use Rattle.refusals.specs.Refusals.{bufferShort, logSecondShort, logOutOfTurn, logCountOutside}
+use Rattle.refusals.specs.Refusals.{bufferShort, logSecondShort, logOutOfTurn}
+use Rattle.prelude.proofs.Cases.{arms}
 use Rattle.text.specs.Text.{putOf}
 use Rattle.joblog.specs.declared.records.State.{State}
 use Rattle.joblog.specs.declared.records.Reading.{Reading}
 use Rattle.joblog.specs.declared.records.Reading.the-variants.{Says, OutOfTurn}
 use Rattle.joblog.specs.Records.{state, recordAs, bytesOf, recordsOf, wholeOf, inTurn, afterOf, logReadingOf, compactedOf}
-use Rattle.joblog.specs.Calls.{LogCall, refused, refusing, answered, readAnswer, readLogOf, newInTurn, compactAnswer, compactingOf, loggedOf, appendedOf, appendOf, restartedOf, restartOf}
+use Rattle.joblog.specs.declared.calls.Log.{Log}
+use Rattle.joblog.specs.Calls.{LogCall, refusing, answered, readAnswer, readLogOf, newInTurn, compactAnswer, compactingOf, loggedOf, appendedOf, appendOf, restartedOf, restartOf}
 use Rattle.joblog.proofs.CompactLaws.{bytes-length, put-none}
 use Rattle.joblog.proofs.CallLaws.{with-length}
 use Rattle.joblog_laws.specs.Run.{inPlace}
@@ -15,66 +17,52 @@ use Rattle.joblog_laws.proofs.ReadingLaws.{read-ordered}
 use Rattle.joblog_laws.proofs.HeldLaws.{Held, held-read, put-read, put-held, cut-before, Outcome, refusal, placed, moved, append-outcome}
 
 -- ---- which bytes change
-Keeps : LogCall → List ℕ → List ℕ → Type 0
-Keeps c log second = (eqb (c .answer .number) 0 ≡ false → Unchanged c log second) × (inPlace c ≡ false → c .log ≡ log)
+Keeps : List ℕ → List ℕ → LogCall → Type 0
+Keeps log second c = (eqb (c .answer .number) 0 ≡ false → Unchanged c log second) × (inPlace c ≡ false → c .log ≡ log)
 
-compacting-keeps : (t : State) (text : List ℕ) (place : ℕ) (log second : List ℕ) → Keeps (compactingOf t text place log second) log second
+compacting-keeps : (t : State) (text : List ℕ) (place : ℕ) (log second : List ℕ) → Keeps log second (compactingOf t text place log second)
 unfolding Keeps compactAnswer
-compacting-keeps t text place log second = (by-room (leb (length text) (length second)) refl, λ i. refl)
-  where
-    by-room : (b : Bool) → leb (length text) (length second) ≡ b → eqb (cond b (answered 1 t (length text)) (refused logSecondShort place) .number) 0 ≡ false
-        → (log ≡ log) × (putOf second 0 text ≡ second)
-    by-room true e n = let z : _≡_ {A = ℕ} 0 1 = cc in absurd (omega arith)
-    by-room false e n = (refl, put-none second text (leb-false (length text) (length second) e))
+compacting-keeps t text place log second = (
+  arms (λ (a : Log). eqb (a .number) 0 ≡ false → (log ≡ log) × (putOf second 0 text ≡ second)) (leb (length text) (length second))
+      (λ e n. let z : _≡_ {A = ℕ} 0 1 = cc in absurd (omega arith)) (λ e n. (refl, put-none second text (leb-false (length text) (length second) e))),
+  λ i. refl,
+)
 
-append-keeps : (log : List ℕ) (used tag page : ℕ) (second : List ℕ) → Keeps (appendOf log used tag page second) log second
+append-keeps : (log : List ℕ) (used tag page : ℕ) (second : List ℕ) → Keeps log second (appendOf log used tag page second)
 unfolding Keeps appendOf appendedOf loggedOf
-append-keeps log used tag page second = by-size (leb used (length log)) (logReadingOf (take used log))
+append-keeps log used tag page second =
+    arms (Keeps log second) (leb used (length log)) (λ f. by-reading (logReadingOf (take used log))) (λ f. (λ n. (refl, refl), λ i. refl))
   where
-    by-place : (s : State) (b : Bool)
-        → Keeps
-        (cond b
-        (record { answer = answered 0 (afterOf s (recordAs tag page)) (wholeOf used + 5); log = putOf log (wholeOf used) (bytesOf tag page); second = second })
-        (compactingOf (afterOf s (recordAs tag page)) (compactedOf s ++ bytesOf tag page) page log second))
-        log
-        second
-    by-place s true = (λ n. let z : _≡_ {A = ℕ} 0 1 = cc in absurd (omega arith), λ i. let z : _≡_ {A = ℕ} 0 1 = cc in absurd (omega arith))
-    by-place s false = compacting-keeps (afterOf s (recordAs tag page)) (compactedOf s ++ bytesOf tag page) page log second
+    by-reading : (x : Reading) → Keeps log second (appendedOf x log used tag page second)
+    by-reading (OutOfTurn p) = (λ n. (refl, refl), λ i. refl)
+    by-reading (Says s) =
+        arms (Keeps log second) (newInTurn s tag page)
+        (λ t. arms (Keeps log second) (leb (wholeOf used + 5) (length log))
+        (λ r. (λ n. let z : _≡_ {A = ℕ} 0 1 = cc in absurd (omega arith), λ i. let z : _≡_ {A = ℕ} 0 1 = cc in absurd (omega arith)))
+        (λ r. compacting-keeps (afterOf s (recordAs tag page)) (compactedOf s ++ bytesOf tag page) page log second))
+        (λ t. (λ n. (refl, refl), λ i. refl))
 
-    by-turn : (s : State) (b : Bool) → Keeps (cond b (loggedOf s log used tag page second) (refusing logOutOfTurn page log second)) log second
-    by-turn s true = by-place s (leb (wholeOf used + 5) (length log))
-    by-turn s false = (λ n. (refl, refl), λ i. refl)
+Left : List ℕ → List ℕ → LogCall → Type 0
+Left log second c = (eqb (c .answer .number) 0 ≡ false → Unchanged c log second) × (c .log ≡ log)
 
-    by-size : (b : Bool) (x : Reading) → Keeps (cond b (appendedOf x log used tag page second) (refusing bufferShort 0 log second)) log second
-    by-size false x = (λ n. (refl, refl), λ i. refl)
-    by-size true (OutOfTurn p) = (λ n. (refl, refl), λ i. refl)
-    by-size true (Says s) = by-turn s (newInTurn s tag page)
-
-restart-keeps : (log : List ℕ) (used count : ℕ) (second : List ℕ)
-    → (eqb (restartOf log used count second .answer .number) 0 ≡ false → Unchanged (restartOf log used count second) log second) × (restartOf log used count second .log ≡ log)
-unfolding Keeps restartOf restartedOf
-restart-keeps log used count second = by-size (leb used (length log)) (logReadingOf (take used log))
+restart-keeps : (log : List ℕ) (used count : ℕ) (second : List ℕ) → Left log second (restartOf log used count second)
+unfolding Keeps Left restartOf restartedOf
+restart-keeps log used count second =
+    arms (Left log second) (leb used (length log)) (λ f. by-reading (logReadingOf (take used log))) (λ f. (λ n. (refl, refl), refl))
   where
-    Left : LogCall → Type 0
-    Left c = (eqb (c .answer .number) 0 ≡ false → Unchanged c log second) × (c .log ≡ log)
-
-    by-count : (s : State) (b : Bool)
-        → Left (cond b (compactingOf (state count (s .sent)) (compactedOf (state count (s .sent))) count log second) (refusing logCountOutside count log second))
-    by-count s true = (compacting-keeps (state count (s .sent)) (compactedOf (state count (s .sent))) count log second .0, refl)
-    by-count s false = (λ n. (refl, refl), refl)
-
-    by-size : (b : Bool) (x : Reading) → Left (cond b (restartedOf x log count second) (refusing bufferShort 0 log second))
-    by-size false x = (λ n. (refl, refl), refl)
-    by-size true (OutOfTurn p) = (λ n. (refl, refl), refl)
-    by-size true (Says s) = by-count s (leb (s .finished) count && leb count (s .sent))
+    by-reading : (x : Reading) → Left log second (restartedOf x log count second)
+    by-reading (OutOfTurn p) = (λ n. (refl, refl), refl)
+    by-reading (Says s) =
+        arms (Left log second) (leb (s .finished) count && leb count (s .sent))
+        (λ t. (compacting-keeps (state count (s .sent)) (compactedOf (state count (s .sent))) count log second .0, refl)) (λ t. (λ n. (refl, refl), refl))
 
 pub refused-changes-nothing : RefusedChangesNothing
-unfolding Keeps
+unfolding Keeps Left
 refused-changes-nothing log used second =
     (λ tag page. append-keeps log used tag page second .0, λ count. restart-keeps log used count second .0)
 
 pub first-buffer-stays : FirstBufferStays
-unfolding Keeps
+unfolding Keeps Left
 first-buffer-stays log used second =
     (λ tag page. append-keeps log used tag page second .1, λ count. restart-keeps log used count second .1)
 
@@ -218,25 +206,11 @@ enough : (log : List ℕ) (used tag page : ℕ) (second : List ℕ) (b : Bool) (
 unfolding NotShort appendedOf readLogOf readAnswer loggedOf compactAnswer
 enough log used tag page second false x f e room = refl
 enough log used tag page second true (OutOfTurn p) f e room = refl
-enough log used tag page second true (Says s) f e room = by-turn (newInTurn s tag page)
-  where
-    enough-room : 10 + 5 * (s .sent - s .finished) ≤ length second
-    enough-room = rw (f, e) at room
-
-    fits : leb (length (compactedOf s ++ bytesOf tag page)) (length second) ≡ true
-    fits = let l = with-length s tag page in le-leb (length (compactedOf s ++ bytesOf tag page)) (length second) (omega (arith, enough-room))
-
-    by-place : (b : Bool)
-        → NotShort
-        (cond b
-        (record { answer = answered 0 (afterOf s (recordAs tag page)) (wholeOf used + 5); log = putOf log (wholeOf used) (bytesOf tag page); second = second })
-        (compactingOf (afterOf s (recordAs tag page)) (compactedOf s ++ bytesOf tag page) page log second))
-    by-place true = refl
-    by-place false = rw fits refl
-
-    by-turn : (b : Bool) → NotShort (cond b (loggedOf s log used tag page second) (refusing logOutOfTurn page log second))
-    by-turn true = by-place (leb (wholeOf used + 5) (length log))
-    by-turn false = refl
+enough log used tag page second true (Says s) f e room =
+    let l = with-length s tag page in
+    let r : 10 + 5 * (s .sent - s .finished) ≤ length second = rw (f, e) at room in
+    let fits = le-leb (length (compactedOf s ++ bytesOf tag page)) (length second) (omega arith) in
+    arms NotShort (newInTurn s tag page) (λ t. arms NotShort (leb (wholeOf used + 5) (length log)) (λ p. refl) (λ p. rw fits refl)) (λ t. refl)
 
 pub room-is-enough : RoomIsEnough
 unfolding NotShort appendOf

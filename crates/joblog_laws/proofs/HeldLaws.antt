@@ -1,6 +1,7 @@
 -- What a log says after an append, after one that is cut, and after a restart. Assumes nothing.
 use Rattle.prelude.proofs.Logic.{_≡_, refl, sym, ap, subst, _∙_, Bool, true, false, cond, _&&_, _||_, List, [], _∷_, _++_, append-assoc, append-nil, ℕ, _+_, _/_, _≤_, _<_, arith, leb, ltb, eqb, length, take, drop, length-append, length-drop, take-at, length-take-le, le-leb, lt-leb, leb-true, ltb-true, ltb-false, eqb-true}
 use Rattle.refusals.specs.Refusals.{logSecondShort, logOutOfTurn}
+use Rattle.prelude.proofs.Cases.{arms, cases, both}
 use Rattle.text.specs.Text.{putOf}
 use Rattle.joblog.specs.declared.records.State.{State}
 use Rattle.joblog.specs.declared.records.Record.{Record}
@@ -8,7 +9,7 @@ use Rattle.joblog.specs.declared.records.Reading.the-variants.{Says}
 use Rattle.joblog.specs.Records.{state, recordAs, bytesOf, recordsOf, wholeOf, inTurn, afterOf, readOf, logReadingOf, compactedOf}
 use Rattle.joblog.specs.Calls.{LogCall, refused, refusing, answered, readLogOf, readAnswer, newInTurn, compactAnswer, compactingOf, loggedOf, appendedOf, appendOf, restartedOf, restartOf}
 use Rattle.joblog_laws.specs.Run.{logAfter, usedAfter, inPlace, mayBeUsed}
-use Rattle.joblog_laws.proofs.ReadingLaws.{both, whole-records, cut-records, record-back, read-more, compacted-read}
+use Rattle.joblog_laws.proofs.ReadingLaws.{whole-records, cut-records, record-back, read-more, compacted-read}
 
 second-of : (a b : Bool) → a ≡ false → a || b ≡ true → b ≡ true
 second-of true b f h = let z : _≡_ {A = ℕ} 0 1 = cc in absurd (omega arith)
@@ -164,7 +165,13 @@ module _ (log : List ℕ) (used : ℕ) (s : State) (tag page : ℕ) (second : Li
 
   pub append-outcome : Held log used s → Outcome (appendOf log used tag page second)
   unfolding appendOf appendedOf newInTurn loggedOf compactAnswer
-  append-outcome h = rw (le-leb used (length log) (h .fits), h .reads) (by-turn (leb page 65535 && inTurn false s (recordAs tag page)) refl)
+  append-outcome h =
+      rw (le-leb used (length log) (h .fits), h .reads)
+      (arms Outcome (leb page 65535 && inTurn false s (recordAs tag page))
+      (λ e. let turn = both (leb page 65535) _ e .1 in
+      arms Outcome (leb (wholeOf used + 5) (length log)) (λ f. placed turn (leb-true _ _ f))
+      (λ f. by-room turn (leb (length (compactedOf s ++ bytesOf tag page)) (length second)) refl))
+      (λ e. refusal logOutOfTurn second refl))
     where
       by-room : inTurn false s (recordAs tag page) ≡ true → (b : Bool) → leb (length (compactedOf s ++ bytesOf tag page)) (length second) ≡ b
           → Outcome
@@ -175,17 +182,6 @@ module _ (log : List ℕ) (used : ℕ) (s : State) (tag page : ℕ) (second : Li
           })
       by-room turn true e = moved turn (leb-true _ _ e)
       by-room turn false e = refusal logSecondShort (putOf second 0 (compactedOf s ++ bytesOf tag page)) refl
-
-      by-place : inTurn false s (recordAs tag page) ≡ true → (b : Bool) → leb (wholeOf used + 5) (length log) ≡ b
-          → Outcome (cond b (record { answer = answered 0 (afterOf s (recordAs tag page)) (wholeOf used + 5); log = putOf log (wholeOf used) (bytesOf tag page); second = second })
-          (compactingOf (afterOf s (recordAs tag page)) (compactedOf s ++ bytesOf tag page) page log second))
-      by-place turn true e = placed turn (leb-true _ _ e)
-      by-place turn false e = by-room turn (leb (length (compactedOf s ++ bytesOf tag page)) (length second)) refl
-
-      by-turn : (b : Bool) → leb page 65535 && inTurn false s (recordAs tag page) ≡ b
-          → Outcome (cond b (loggedOf s log used tag page second) (refusing logOutOfTurn page log second))
-      by-turn true e = by-place (both (leb page 65535) _ e .1) (leb (wholeOf used + 5) (length log)) refl
-      by-turn false e = refusal logOutOfTurn second refl
 
   -- an append that returns
   pub append-after : Held log used s → {c : LogCall} → Outcome c → After s tag page (logAfter c) (usedAfter c used)
@@ -205,23 +201,17 @@ module _ (log : List ℕ) (used : ℕ) (s : State) (tag page : ℕ) (second : Li
   unfolding bytesOf
   cut-after h (refusal number after e) k u five = rw e (unchanged h)
   cut-after h (moved turn room) k u five = unchanged h
-  cut-after h (placed turn room) k u five = by-used (mayBeUsed used k u) refl
-    where
-      by-length : mayBeUsed used k u ≡ true → (b : Bool) → ltb u (wholeOf used + 5) ≡ b → After s tag page (putOf log (wholeOf used) (take k (bytesOf tag page))) u
-      by-length m true e =
-          let p = both (leb (wholeOf used) u) (leb u used || leb u (wholeOf used + k)) m in
-          unchanged (cut-before log used s h tag page k u five (leb-true _ _ (p .0)) (ltb-true _ _ e) room)
-      by-length m false e =
-          let p = both (leb (wholeOf used) u) (leb u used || leb u (wholeOf used + k)) m in
-          let low = ltb-false u (wholeOf used + 5) e in
-          let more = leb-true u (wholeOf used + k) (second-of (leb u used) (leb u (wholeOf used + k)) (lt-leb u used (omega arith)) (p .1)) in
-          let k5 : k ≡ 5 = omega arith in
-          let u5 : u ≡ wholeOf used + 5 = omega arith in
-          rw (k5, u5) (record { to = afterOf s (recordAs tag page); held = put-held log used s h tag page turn room; how = in-turn-change s tag page turn })
-
-      by-used : (b : Bool) → mayBeUsed used k u ≡ b → After s tag page (putOf log (wholeOf used) (take k (bytesOf tag page))) (cond b u used)
-      by-used true m = by-length m (ltb u (wholeOf used + 5)) refl
-      by-used false m = unchanged (cut-before log used s h tag page k used five (omega arith) (omega arith) room)
+  cut-after h (placed turn room) k u five =
+      arms (After s tag page (putOf log (wholeOf used) (take k (bytesOf tag page)))) (mayBeUsed used k u)
+      (λ m. let p = both (leb (wholeOf used) u) (leb u used || leb u (wholeOf used + k)) m in
+      cases (ltb u (wholeOf used + 5))
+      (λ e. unchanged (cut-before log used s h tag page k u five (leb-true _ _ (p .0)) (ltb-true _ _ e) room))
+      (λ e. let low = ltb-false u (wholeOf used + 5) e in
+      let more = leb-true u (wholeOf used + k) (second-of (leb u used) (leb u (wholeOf used + k)) (lt-leb u used (omega arith)) (p .1)) in
+      let k5 : k ≡ 5 = omega arith in
+      let u5 : u ≡ wholeOf used + 5 = omega arith in
+      rw (k5, u5) (record { to = afterOf s (recordAs tag page); held = put-held log used s h tag page turn room; how = in-turn-change s tag page turn })))
+      (λ m. unchanged (cut-before log used s h tag page k used five (omega arith) (omega arith) room))
 
 -- ---- restart, with a count between the log's finished and sent pages
 pub restart-outcome : (log : List ℕ) (used : ℕ) (s : State) → Held log used s → (count : ℕ) (second : List ℕ) → s .finished ≤ count → count ≤ s .sent

@@ -1,11 +1,11 @@
 -- Request 6's promise, over every history. Assumes nothing.
 use Rattle.prelude.proofs.Logic.{_≡_, refl, sym, ap, subst, _∙_, Bool, true, false, cond, List, [], _∷_, _++_, ℕ, zero, suc, _+_, _-_, _*_, _≤_, arith, leb, length, length-append, le-leb}
-use Rattle.refusals.specs.Refusals.{logSecondShort}
+use Rattle.prelude.proofs.Cases.{cases}
 use Rattle.text.specs.Text.{putOf}
 use Rattle.joblog.specs.declared.records.State.{State}
 use Rattle.joblog.specs.Records.{state, compactedOf}
 use Rattle.joblog.specs.declared.calls.Log.{Log}
-use Rattle.joblog.specs.Calls.{answered, refused, readLogOf, compactAnswer, compactingOf}
+use Rattle.joblog.specs.Calls.{readLogOf, compactAnswer, compactingOf}
 use Rattle.joblog_laws.specs.Run.{idle, World, begun, goes, finishes, restart, has, asRequested, isIdle, finishing, next, run}
 use Rattle.joblog_laws.specs.Histories.{pagesTo, Kept, HistoriesAreKept, sendAll, OpenPagesCome}
 use Rattle.joblog.proofs.CompactLaws.{compacted-length}
@@ -21,11 +21,8 @@ not-has false h = refl
 room-answer : (t : State) (place : ℕ) (log second : List ℕ)
     → compactingOf t (compactedOf t) place log second .answer .number ≡ cond (leb (5 + 5 * (t .sent - t .finished)) (length second)) 0 12
 unfolding compactAnswer
-room-answer t place log second = rw (compacted-length t) (by-test (leb (5 + 5 * (t .sent - t .finished)) (length second)))
-  where
-    by-test : (b : Bool) → cond b (answered 1 t (5 + 5 * (t .sent - t .finished))) (refused logSecondShort place) .number ≡ cond b 0 12
-    by-test true = refl
-    by-test false = refl
+room-answer t place log second =
+    rw (compacted-length t) (cases (leb (5 + 5 * (t .sent - t .finished)) (length second)) (λ e. simp e) (λ e. simp e))
 
 kept : (w : World) → Inv w → Kept w
 kept w i =

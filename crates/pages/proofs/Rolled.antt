@@ -43,6 +43,11 @@ pub record Run (o : Order) (row end : ℕ) (buffer now : List ℕ) (suns : RowSu
   pub punched : dots ≡ dotsOf (cellsBefore o row next)
   pub same : length now ≡ length buffer
 
+-- behind a row: the cells up to it, their dots, and that these are not many
+abbrev pub Behind : Order → ℕ → List ℕ → ℕ → List ℕ → ℕ → Type 0
+Behind o row buffer next now dots =
+    (now ≡ frontOf (cellsBefore o row next) buffer) × (dots ≡ dotsOf (cellsBefore o row next)) × (dots ≤ 6 * (rowLength * (next - row)))
+
 module _ (o : Order) (row : ℕ) where
   -- no row yet
   pub done-none : (buffer : List ℕ) → (buffer ≡ frontOf (cellsBefore o row row) buffer) × (0 ≡ dotsOf (cellsBefore o row row))
@@ -63,7 +68,7 @@ module _ (o : Order) (row : ℕ) where
       ∙ ap (λ (j : ℕ). cellsOf (rowsFrom o row j)) e
 
   -- the dots of an order's rows fit
-  pub done-dots : (next : ℕ) → dotsOf (cellsBefore o row next) ≤ 6 * (rowLength * (next - row))
+  done-dots : (next : ℕ) → dotsOf (cellsBefore o row next) ≤ 6 * (rowLength * (next - row))
   done-dots next =
       let b = dots-bound (cellsBefore o row next) in
       let l = cells-length o row (next - row) in
@@ -72,7 +77,7 @@ module _ (o : Order) (row : ℕ) where
   module _ (end : ℕ) (a : Accepted o) (most : end ≤ o .rows) (buffer : List ℕ) (room : rowLength * (end - row) ≤ length buffer) where
     pub run-row : (now : List ℕ) (suns : RowSuns) (next dots : ℕ) → Run o row end buffer now suns next dots
         → (cells after : List ℕ) (n at : ℕ) → cells ≡ madeRow o suns → n ≡ dotsOf cells → at ≡ rowLength * (next - row) → after ≡ putOf now at cells
-        → (after ≡ frontOf (cellsBefore o row (next + 1)) buffer) × (dots + n ≡ dotsOf (cellsBefore o row (next + 1)))
+        → Behind o row buffer (next + 1) after (dots + n)
     run-row now suns next dots s cells after n at m q t p =
         let w = s .within in
         let from = s .from in
@@ -83,8 +88,10 @@ module _ (o : Order) (row : ℕ) where
         let d = dots-append (cellsBefore o row next) (rowOf o next) in
         let f : dotsOf (cellsBefore o row next ++ rowOf o next) ≡ dotsOf (cellsBefore o row (next + 1)) = ap dotsOf j in
         let g : n ≡ dotsOf (rowOf o next) = q ∙ ap dotsOf e in
-        let u = s .punched in (
+        let u = s .punched in
+        let most-dots = done-dots (next + 1) in (
           put-next buffer (cellsBefore o row next) (rowOf o next) now after at (s .cells) (t ∙ sym l) (p ∙ ap (putOf now at) e) (omega arith)
               ∙ ap (λ (x : List ℕ). frontOf x buffer) j,
+          omega arith,
           omega arith,
         )

@@ -1,9 +1,10 @@
 -- `jobs-leave-when-sent`: while an id waits it is not admitted again, so what is sent of it and left of it is what it joined with. Assumes nothing.
 use Rattle.prelude.proofs.Logic.{_≡_, refl, sym, ap, _∙_, Bool, true, false, true≢false, false≢true, _||_, List, [], _∷_, ℕ, _+_, _≤_, arith, eqb, ltb, eqb-true, eq-eqb, lt-ltb, le-ltb}
+use Rattle.prelude.proofs.Cases.{arms}
 use Rattle.queue.specs.Jobs.{Job, job, Event, admitted, refused, sent, nothing, QueueStep, waits, joinOf, turnOf}
 use Rattle.queue.specs.History.{Call, join, turn, stepOf, after, events, onlyId, when, admittedBy, pagesAdmitted, pagesSent, pagesLeft, WaitsThrough, AllProper, Sound}
 use Rattle.queue.specs.Promises.{JobsLeaveWhenSent}
-use Rattle.queue.proofs.Steps.{arms, join-cases}
+use Rattle.queue.proofs.Steps.{join-cases}
 use Rattle.queue.proofs.Invariant.{neither, step-sound, sound-from, queues-are-sound}
 use Rattle.queue.proofs.Pages.{left-more, kept-from}
 
@@ -26,7 +27,7 @@ some-left id (x ∷ q) a w = go (eqb (x .id) id) w (some-left id q (a .4))
 -- ---- no id is admitted while it waits
 waiting-out : (i id : ℕ) (q : List Job) (n : ℕ) → waits i q ≡ true → waits id q ≡ false → when (onlyId i id) n ≡ 0
 waiting-out i id q n w v =
-    arms (λ (x : ℕ). x ≡ 0) (eqb id i) n 0
+    arms (λ (x : ℕ). x ≡ 0) (eqb id i)
     (λ t. let e = eqb-true id i t in absurd (true≢false (sym w ∙ ap (λ (k : ℕ). waits k q) (sym e) ∙ v)))
     (λ t. refl)
 

@@ -1,5 +1,6 @@
 -- A window's line, made part by part. Assumes nothing.
-use Rattle.prelude.proofs.Logic.{_≡_, refl, sym, ap, _∙_, Bool, true, false, cond, List, [], _++_, ℕ, _+_, _≤_, arith, ℤ, length, length-append}
+use Rattle.prelude.proofs.Logic.{_≡_, refl, ap, _∙_, true, false, List, [], _++_, ℕ, _+_, _≤_, arith, ℤ, length, length-append}
+use Rattle.prelude.proofs.Cases.{arms}
 use Rattle.text.proofs.SignedLaws.{signed-length}
 use Rattle.text.proofs.TextLaws.{put-behind, put-next, digits-short}
 use Rattle.text.specs.Signed.{signedOf}
@@ -92,49 +93,32 @@ module _ (line : List ℕ) (w : Window) (l : length line ≡ 128) where
 pub found-length : (w : Window) → length (foundLine w) ≤ 128
 unfolding foundLine
 found-length w =
-    let t1 : List ℕ = decimalOf (w .first) in
-    let t2 : List ℕ = pairText (w .earliest) (w .«earliest_row») in
-    let t3 : List ℕ = pairText (w .latest) (w .«latest_row») in
-    let s1 : length t1 ≤ 20 = digits-short 20 (w .first) in
-    let s2 : length t2 ≤ 43 = pair-length (w .earliest) (w .«earliest_row») in
-    let s3 : length t3 ≤ 43 = pair-length (w .latest) (w .«latest_row») in
-    let l2 = length-append t1 t2 in
-    let l3 = length-append (t1 ++ t2) t3 in
-    let l4 = length-append (t1 ++ t2 ++ t3) (ascii "\n") in
-    omega arith
+    let s1 = digits-short 20 (w .first) in
+    let s2 = pair-length (w .earliest) (w .«earliest_row») in
+    let s3 = pair-length (w .latest) (w .«latest_row») in
+    simp length-append (omega arith)
 
 pub refused-length : (w : Window) → length (refusedLine w) ≤ 128
 unfolding refusedLine
-refused-length w =
-    let s1 = digits-short 20 (w .first) in
-    let l2 = length-append (decimalOf (w .first)) (ascii " refused\n") in
-    omega arith
+refused-length w = let s1 = digits-short 20 (w .first) in simp length-append (omega arith)
 
 pub line-length : (w : Window) → length (lineOf w) ≤ 128
 unfolding lineOf
-line-length w = by (w .ready) (w .refused)
-  where
-    by : (a b : Bool) → length (cond a (cond b (refusedLine w) (foundLine w)) []) ≤ 128
-    by true true = refused-length w
-    by true false = found-length w
-    by false b = omega arith
+line-length w =
+    arms (λ (t : List ℕ). length t ≤ 128) (w .ready)
+    (λ a. arms (λ (t : List ℕ). length t ≤ 128) (w .refused) (λ b. refused-length w) (λ b. found-length w)) (λ a. omega arith)
 
-line-is : (w : Window) (a b : Bool) → w .ready ≡ a → w .refused ≡ b → cond a (cond b (refusedLine w) (foundLine w)) [] ≡ lineOf w
-unfolding lineOf
-line-is w a b p q =
-    sym (ap (λ (x : Bool). cond x (cond (w .refused) (refusedLine w) (foundLine w)) []) p
-    ∙ ap (λ (x : Bool). cond a (cond x (refusedLine w) (foundLine w)) []) q)
+module _ (line last : List ℕ) (w : Window) (r : ℕ) where
+  pub line-refused : w .ready ≡ true → w .refused ≡ true → r ≡ length (refusedLine w) → last ≡ frontOf (refusedLine w) line
+      → (r ≡ length (lineOf w)) × (last ≡ frontOf (lineOf w) line)
+  unfolding lineOf
+  line-refused a b p q = simp (a, b) (p, q)
 
-line-put : (line last t u : List ℕ) (r : ℕ) → t ≡ u → r ≡ length t → last ≡ frontOf t line → (r ≡ length u) × (last ≡ frontOf u line)
-line-put line last t u r e a b = (a ∙ ap length e, b ∙ ap (λ (x : List ℕ). frontOf x line) e)
-
-pub line-refused : (line last : List ℕ) (w : Window) (r : ℕ) → w .ready ≡ true → w .refused ≡ true → r ≡ length (refusedLine w)
-    → last ≡ frontOf (refusedLine w) line → (r ≡ length (lineOf w)) × (last ≡ frontOf (lineOf w) line)
-line-refused line last w r a b = line-put line last (refusedLine w) (lineOf w) r (line-is w true true a b)
-
-pub line-found : (line last : List ℕ) (w : Window) (r : ℕ) → w .ready ≡ true → w .refused ≡ false → r ≡ length (foundLine w)
-    → last ≡ frontOf (foundLine w) line → (r ≡ length (lineOf w)) × (last ≡ frontOf (lineOf w) line)
-line-found line last w r a b = line-put line last (foundLine w) (lineOf w) r (line-is w true false a b)
+  pub line-found : w .ready ≡ true → w .refused ≡ false → r ≡ length (foundLine w) → last ≡ frontOf (foundLine w) line
+      → (r ≡ length (lineOf w)) × (last ≡ frontOf (lineOf w) line)
+  unfolding lineOf
+  line-found a b p q = simp (a, b) (p, q)
 
 pub line-none : (line : List ℕ) (w : Window) → w .ready ≡ false → (0 ≡ length (lineOf w)) × (line ≡ frontOf (lineOf w) line)
-line-none line w a = line-put line line [] (lineOf w) 0 (line-is w false (w .refused) a refl) refl refl
+unfolding lineOf
+line-none line w a = simp a (refl, refl)

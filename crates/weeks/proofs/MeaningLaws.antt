@@ -1,5 +1,5 @@
 -- A window that is looked through row by row answers what the rows say. Assumes nothing.
-use Rattle.prelude.proofs.Logic.{_≡_, refl, sym, ap, subst, _∙_, Bool, true, false, cond, List, inl, inr, ℕ, zero, suc, _+_, _≤_, arith, T, ℤ, pos, length, ltZ, le-leb}
+use Rattle.prelude.proofs.Logic.{_≡_, refl, sym, ap, subst, _∙_, Bool, true, false, cond, List, inl, inr, ℕ, zero, suc, _+_, _≤_, arith, ℤ, length, ltZ, le-leb}
 use borrow.Author.Count.{below-more}
 use Rattle.integers.proofs.OrderLaws.{lt-yes, lt-no, to-lt, to-not-lt}
 use Rattle.weeks.specs.declared.minute.Minute.{Minute}
@@ -8,21 +8,11 @@ use Rattle.weeks.specs.declared.window.Window.{Window}
 use Rattle.weeks.specs.Windows.{rowAt, noWindow, refusedWindow, beginOf, withEarliest, withLatest, earlierIn, laterIn, seenOf, lookOf, lookedOf, windowOf}
 use Rattle.weeks.specs.Meaning.{Best, earlier, later, RightWindow, Answers}
 
-minuteIn : Minute → ℤ
-minuteIn (At m) = m
-minuteIn Refused = pos 0
-
-hasMinute : Minute → Bool
-hasMinute (At m) = true
-hasMinute Refused = false
-
 same-minute : (x : Minute) (m n : ℤ) → x ≡ At m → x ≡ At n → m ≡ n
-unfolding minuteIn
-same-minute x m n a b = ap minuteIn (sym a ∙ b)
+same-minute x m n a b = cc
 
 not-both : (x : Minute) (m : ℤ) → x ≡ At m → x ≡ Refused → ⊥
-unfolding hasMinute
-not-both x m a b = subst T (ap hasMinute (sym a ∙ b)) tt
+not-both x m a b = let z : _≡_ {A = ℕ} 0 1 = cc in omega arith
 
 module _ (before : ℤ → ℤ → Bool) (itself : (x : ℤ) → before x x ≡ false)
     (ahead : (x y z : ℤ) → before x y ≡ true → before z y ≡ false → before x z ≡ true)

@@ -1,28 +1,15 @@
 use Rattle.prelude.proofs.Logic.{sym, length-take-le, needs}
 use Rattle.rows.proofs.SheetLaws.{answer-fits}
-use Rattle.sheet.proofs.main.Statement.{statement}
-use Rattle.sheet.proofs.main.Tie as tie
+use Rattle.sheet.proofs.main as this
 
-array-share-prefix-sheet : tie.Need-array-share-prefix-sheet
+array-share-prefix-sheet : this.Tie.Need-array-share-prefix-sheet
 array-share-prefix-sheet c =
     let w = c .before .write-sheet in
     answer-fits _ _ (w .last .1 .0) (w .result) (w .ensures .0) (w .kept .1 .0)
 
-returns : tie.Need-returns
-returns c = search needs
-
-pub main-spec : {M : Type 1} → statement M
+pub main-spec : {M : Type 1} → this.Statement.statement M
 main-spec =
-    tie.close
-    (tie.spec
-    (λ c. search needs)
-    (λ c κs. search needs)
-    (λ c κs. search needs)
-    (λ c. search needs)
-    (λ c. search needs)
-    (λ c. search needs)
-    (λ c κs. search needs)
-    array-share-prefix-sheet
-    (λ c. sym (length-take-le _ _ (array-share-prefix-sheet (c .before))))
-    (λ c κs. search needs)
-    returns)
+    this.Tie.close
+    (this.Tie.spec (λ c. search needs) (λ c κs. search needs) (λ c κs. search needs) (λ c. search needs) (λ c. search needs) (λ c. search needs)
+    (λ c κs. search needs) array-share-prefix-sheet (λ c. sym (length-take-le _ _ (array-share-prefix-sheet (c .before)))) (λ c κs. search needs)
+    (λ c. search needs))

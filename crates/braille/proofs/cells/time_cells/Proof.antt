@@ -1,10 +1,9 @@
 use Rattle.prelude.proofs.Logic.{ap, _∙_, ℤ, needs, w32, w64}
 use Rattle.integers.proofs.Ranges.{readBack, read}
 use Rattle.braille.specs.Cells.{clockMinuteOf, timeCells}
-use Rattle.braille.proofs.cells.time_cells.Statement.{statement}
-use Rattle.braille.proofs.cells.time_cells.Tie as tie
+use Rattle.braille.proofs.cells.time_cells as this
 
-returns : tie.Need-returns
+returns : this.Tie.Need-returns
 unfolding timeCells
 returns c =
     let t = c .before .before .before .before .before in
@@ -14,7 +13,7 @@ returns c =
     ∙ ap (clockMinuteOf (t .args .clock)) (read w64 (t .args .time) (t .fits .time)) in
     simp (c .digit4 .ensures, c .before .digit3 .ensures, c .before .before .digit2 .ensures, c .before .before .before .digit .ensures, m)
 
-pub time-cells-spec : {M : Type 1} → statement M
+pub time-cells-spec : {M : Type 1} → this.Statement.statement M
 time-cells-spec =
-    tie.close
-    (tie.spec (λ c κs. search needs) (λ c κs. search needs) (λ c κs. search needs) (λ c κs. search needs) (λ c κs. search needs) returns)
+    this.Tie.close
+    (this.Tie.spec (λ c κs. search needs) (λ c κs. search needs) (λ c κs. search needs) (λ c κs. search needs) (λ c κs. search needs) returns)

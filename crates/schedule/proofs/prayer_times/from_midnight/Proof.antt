@@ -5,52 +5,42 @@ use Rattle.models.specs.declared.prayer.Prayer.the-variants.{Fajr, Sunrise, Dhu
 use Rattle.schedule.specs.Times.{finalOf, middleOfTheNightOf, qiyamOf, fromMidnightOf}
 use Rattle.schedule.specs.Twilight.{orOf}
 use Rattle.schedule.proofs.Promises.{both, of-near}
-use Rattle.schedule.proofs.prayer_times.from_midnight.Statement.{statement}
-use Rattle.schedule.proofs.prayer_times.from_midnight.Tie as tie
+use Rattle.schedule.proofs.prayer_times.from_midnight as this
 
-transit : (t : tie.Start) → SFits w32 (t .args .suns .today .transit)
+transit : (t : this.Tie.Start) → SFits w32 (t .args .suns .today .transit)
 transit t = search needs
 
-sunrise : (t : tie.Start) → SFits w32 (t .args .suns .today .sunrise)
+sunrise : (t : this.Tie.Start) → SFits w32 (t .args .suns .today .sunrise)
 sunrise t = search needs
 
-sunset : (t : tie.Start) → SFits w32 (t .args .suns .today .sunset)
+sunset : (t : this.Tie.Start) → SFits w32 (t .args .suns .today .sunset)
 sunset t = search needs
 
-cast-final-time : tie.Need-cast-final-time
-cast-final-time c = wide _ (sunset (c .before .before .before .before .before .before .before))
-
-final-time-requires : tie.Need-final-time-requires
-final-time-requires c κs = asked (of-wide _ (sunset (c .before .before .before .before .before .before .before))) (lit≤ tt)
-
-final-time-requires-2 : tie.Need-final-time-requires-2
+final-time-requires-2 : this.Tie.Need-final-time-requires-2
 final-time-requires-2 c κs =
     let u = c .before .before .before .before .before .before .before .before .before in
     asked (of-near (u .unadjusted-fajr .ensures) (lit≤ tt)) (lit≤ tt)
 
-cast-final-time-2 : tie.Need-cast-final-time-2
-cast-final-time-2 c = wide _ (sunrise (c .before .before .before .before .before .before .before .before .before .before .before .before .before))
-
-final-time-requires-3 : tie.Need-final-time-requires-3
+final-time-requires-3 : this.Tie.Need-final-time-requires-3
 final-time-requires-3 c κs = asked (of-wide _ (sunrise (c .before .before .before .before .before .before .before .before .before .before .before .before .before))) (lit≤ tt)
 
-cast-final-time-3 : tie.Need-cast-final-time-3
+cast-final-time-3 : this.Tie.Need-cast-final-time-3
 cast-final-time-3 c = wide _ (transit (c .before .before .before .before .before .before .before .before .before .before .before .before .before .before .before .before))
 
-final-time-requires-4 : tie.Need-final-time-requires-4
+final-time-requires-4 : this.Tie.Need-final-time-requires-4
 final-time-requires-4 c κs = asked (of-wide _ (transit (c .before .before .before .before .before .before .before .before .before .before .before .before .before .before .before .before))) (lit≤ tt)
 
-final-time-requires-5 : tie.Need-final-time-requires-5
+final-time-requires-5 : this.Tie.Need-final-time-requires-5
 final-time-requires-5 c κs =
     let o = c .before .before .before .before .before .before .before .before .before .before .before .before .before in
     asked (of-near (o .or .ensures) (lit≤ tt)) (lit≤ tt)
 
-final-time-requires-6 : tie.Need-final-time-requires-6
+final-time-requires-6 : this.Tie.Need-final-time-requires-6
 final-time-requires-6 c κs =
     let e = c .before .before .before .before .before .before .before .before .before .before .before .before .before in
     asked (of-near (e .unadjusted-isha .ensures) (lit≤ tt)) (lit≤ tt)
 
-returns : tie.Need-returns
+returns : this.Tie.Need-returns
 unfolding fromMidnightOf finalOf
 returns c =
     let c1 = c .before in
@@ -92,7 +82,13 @@ returns c =
       },
     )
 
-pub from-midnight-spec : {M : Type 1} → statement M
+pub from-midnight-spec : {M : Type 1} → this.Statement.statement M
 from-midnight-spec =
-    tie.close
-    (tie.spec (λ c κs. search needs) (λ c. wide _ (transit (c .before .before .before))) (λ c κs. asked (of-wide _ (transit (c .before .before .before))) (lit≤ tt)) (λ c κs. search needs) cast-final-time final-time-requires (λ c κs. search needs) (λ c κs. search needs) final-time-requires-2 cast-final-time-2 final-time-requires-3 cast-final-time-3 final-time-requires-4 final-time-requires-5 final-time-requires-6 returns)
+    this.Tie.close
+    (this.Tie.spec (λ c κs. search needs) (λ c. wide _ (transit (c .before .before .before)))
+    (λ c κs. asked (of-wide _ (transit (c .before .before .before))) (lit≤ tt)) (λ c κs. search needs)
+    (λ c. wide _ (sunset (c .before .before .before .before .before .before .before)))
+    (λ c κs. asked (of-wide _ (sunset (c .before .before .before .before .before .before .before))) (lit≤ tt)) (λ c κs. search needs)
+    (λ c κs. search needs) final-time-requires-2
+    (λ c. wide _ (sunrise (c .before .before .before .before .before .before .before .before .before .before .before .before .before)))
+    final-time-requires-3 cast-final-time-3 final-time-requires-4 final-time-requires-5 final-time-requires-6 returns)
