@@ -5,8 +5,8 @@ use Rattle.refusals.specs.Refusals.{bufferShort, logSecondShort, logOutOfTurn}
 use Rattle.text.specs.Text.{putOf}
 use Rattle.text.proofs.TextLaws.{put-behind}
 use Rattle.joblog.specs.declared.records.State.{State}
-use Rattle.joblog.specs.declared.records.Reading.{Reading}
-use Rattle.joblog.specs.declared.records.Reading.the-variants.{Says, OutOfTurn}
+use Rattle.joblog.specs.declared.records.LogReading.{LogReading}
+use Rattle.joblog.specs.declared.records.LogReading.the-variants.{Says, OutOfTurn}
 use Rattle.joblog.specs.Records.{recordAs, bytesOf, wholeOf, inTurn, afterOf, logReadingOf, compactedOf}
 use Rattle.joblog.specs.Calls.{refused, answered, refusing, readAnswer, readLogOf, compactAnswer, compactingOf, newInTurn, loggedOf, appendedOf, appendOf, restartedOf, restartOf}
 use Rattle.joblog.proofs.CompactLaws.{bytes-length, compacted-length}
@@ -48,15 +48,15 @@ module _ (s : State) (log : List ℕ) (used tag page : ℕ) (second : List ℕ) 
   unfolding loggedOf
   written-moved h = rw (lt-leb (wholeOf used + 5) (length log) h)
 
-  pub appended-good : (x : Reading) → x ≡ Says s → newInTurn s tag page ≡ true → appendedOf x log used tag page second ≡ loggedOf s log used tag page second
+  pub appended-good : (x : LogReading) → x ≡ Says s → newInTurn s tag page ≡ true → appendedOf x log used tag page second ≡ loggedOf s log used tag page second
   unfolding appendedOf
   appended-good x e h = rw (e, h)
 
-  pub appended-bad : (x : Reading) → x ≡ Says s → newInTurn s tag page ≡ false → appendedOf x log used tag page second ≡ refusing logOutOfTurn page log second
+  pub appended-bad : (x : LogReading) → x ≡ Says s → newInTurn s tag page ≡ false → appendedOf x log used tag page second ≡ refusing logOutOfTurn page log second
   unfolding appendedOf
   appended-bad x e h = rw (e, h)
 
-pub appended-not : (x : Reading) (p : ℕ) (log : List ℕ) (used tag page : ℕ) (second : List ℕ) → x ≡ OutOfTurn p
+pub appended-not : (x : LogReading) (p : ℕ) (log : List ℕ) (used tag page : ℕ) (second : List ℕ) → x ≡ OutOfTurn p
     → appendedOf x log used tag page second ≡ refusing logOutOfTurn p log second
 unfolding appendedOf
 appended-not x p log used tag page second e = rw e
@@ -84,7 +84,7 @@ new-fits s tag page h =
 
 -- ---- restart
 -- what it answers and writes does not hang on the first buffer's bytes but by what they say
-pub restarted-any : (x : Reading) (log : List ℕ) (count : ℕ) (second : List ℕ)
+pub restarted-any : (x : LogReading) (log : List ℕ) (count : ℕ) (second : List ℕ)
     → (restartedOf x [] count second .answer ≡ restartedOf x log count second .answer) × (restartedOf x [] count second .second ≡ restartedOf x log count second .second)
 unfolding restartedOf
 restarted-any (OutOfTurn p) log count second = (refl, refl)

@@ -10,8 +10,8 @@ use Rattle.refusals.specs.Refusals.{bufferShort, logSecondShort, logOutOfTurn, 
 use Rattle.text.specs.Text.{putOf}
 use Rattle.joblog.specs.declared.calls.Log.{Log}
 use Rattle.joblog.specs.declared.records.State.{State}
-use Rattle.joblog.specs.declared.records.Reading.{Reading}
-use Rattle.joblog.specs.declared.records.Reading.the-variants.{Says, OutOfTurn}
+use Rattle.joblog.specs.declared.records.LogReading.{LogReading}
+use Rattle.joblog.specs.declared.records.LogReading.the-variants.{Says, OutOfTurn}
 use Rattle.joblog.specs.Records.{state, recordAs, bytesOf, wholeOf, inTurn, afterOf, logReadingOf, compactedOf}
 
 abbrev pub refused : ℕ → ℕ → Log
@@ -22,7 +22,7 @@ abbrev pub answered : ℕ → State → ℕ → Log
 answered moved s used = record { number = 0; place = 0; moved = moved; finished = s .finished; sent = s .sent; used = used }
 
 -- ---- read
-unfoldable pub readAnswer : ℕ → Reading → Log
+unfoldable pub readAnswer : ℕ → LogReading → Log
 readAnswer used (Says s) = answered 0 s (wholeOf used)
 readAnswer used (OutOfTurn page) = refused logOutOfTurn page
 
@@ -60,7 +60,7 @@ loggedOf s log used tag page second =
     (compactingOf t (compactedOf s ++ bytesOf tag page) page log second)
 
 -- the log's own records are tried before the new one
-unfoldable pub appendedOf : Reading → List ℕ → ℕ → ℕ → ℕ → List ℕ → LogCall
+unfoldable pub appendedOf : LogReading → List ℕ → ℕ → ℕ → ℕ → List ℕ → LogCall
 appendedOf (Says s) log used tag page second =
     cond (newInTurn s tag page) (loggedOf s log used tag page second) (refusing logOutOfTurn page log second)
 appendedOf (OutOfTurn p) log used tag page second = refusing logOutOfTurn p log second
@@ -71,7 +71,7 @@ appendOf log used tag page second =
 
 -- ---- restart
 -- "If that count lies between the log's finished and sent pages, ends included, the log is compacted with the count as finished"
-unfoldable pub restartedOf : Reading → List ℕ → ℕ → List ℕ → LogCall
+unfoldable pub restartedOf : LogReading → List ℕ → ℕ → List ℕ → LogCall
 restartedOf (Says s) log count second =
     cond (leb (s .finished) count && leb count (s .sent))
     (compactingOf (state count (s .sent)) (compactedOf (state count (s .sent))) count log second)

@@ -4,8 +4,8 @@ use Rattle.refusals.specs.Refusals.{bufferShort, logSecondShort, logOutOfTurn}
 use Rattle.prelude.proofs.Cases.{arms}
 use Rattle.text.specs.Text.{putOf}
 use Rattle.joblog.specs.declared.records.State.{State}
-use Rattle.joblog.specs.declared.records.Reading.{Reading}
-use Rattle.joblog.specs.declared.records.Reading.the-variants.{Says, OutOfTurn}
+use Rattle.joblog.specs.declared.records.LogReading.{LogReading}
+use Rattle.joblog.specs.declared.records.LogReading.the-variants.{Says, OutOfTurn}
 use Rattle.joblog.specs.Records.{state, recordAs, bytesOf, recordsOf, wholeOf, inTurn, afterOf, logReadingOf, compactedOf}
 use Rattle.joblog.specs.declared.calls.Log.{Log}
 use Rattle.joblog.specs.Calls.{LogCall, refusing, answered, readAnswer, readLogOf, newInTurn, compactAnswer, compactingOf, loggedOf, appendedOf, appendOf, restartedOf, restartOf}
@@ -33,7 +33,7 @@ unfolding Keeps appendOf appendedOf loggedOf
 append-keeps log used tag page second =
     arms (Keeps log second) (leb used (length log)) (λ f. by-reading (logReadingOf (take used log))) (λ f. (λ n. (refl, refl), λ i. refl))
   where
-    by-reading : (x : Reading) → Keeps log second (appendedOf x log used tag page second)
+    by-reading : (x : LogReading) → Keeps log second (appendedOf x log used tag page second)
     by-reading (OutOfTurn p) = (λ n. (refl, refl), λ i. refl)
     by-reading (Says s) =
         arms (Keeps log second) (newInTurn s tag page)
@@ -50,7 +50,7 @@ unfolding Keeps Left restartOf restartedOf
 restart-keeps log used count second =
     arms (Left log second) (leb used (length log)) (λ f. by-reading (logReadingOf (take used log))) (λ f. (λ n. (refl, refl), refl))
   where
-    by-reading : (x : Reading) → Left log second (restartedOf x log count second)
+    by-reading : (x : LogReading) → Left log second (restartedOf x log count second)
     by-reading (OutOfTurn p) = (λ n. (refl, refl), refl)
     by-reading (Says s) =
         arms (Left log second) (leb (s .finished) count && leb count (s .sent))
@@ -85,7 +85,7 @@ module _ (log : List ℕ) (used tag page : ℕ) (second : List ℕ) where
   by-outcome s c (moved turn room) i = let z : _≡_ {A = ℕ} 0 1 = cc in absurd (omega arith)
   by-outcome s c (placed turn room) i = (turn, room, refl)
 
-  by-reading : inPlace (appendOf log used tag page second) ≡ true → (b : Bool) → leb used (length log) ≡ b → (x : Reading) → logReadingOf (take used log) ≡ x
+  by-reading : inPlace (appendOf log used tag page second) ≡ true → (b : Bool) → leb used (length log) ≡ b → (x : LogReading) → logReadingOf (take used log) ≡ x
       → inPlace (cond b (appendedOf x log used tag page second) (refusing bufferShort 0 log second)) ≡ true → Placed
   unfolding appendedOf
   by-reading j false f x e i = let z : _≡_ {A = ℕ} 0 1 = cc in absurd (omega arith)
@@ -200,7 +200,7 @@ next-takes-its-place log used tag page second k i short tag' page' second' =
 NotShort : LogCall → Type 0
 NotShort c = eqb (c .answer .number) logSecondShort ≡ false
 
-enough : (log : List ℕ) (used tag page : ℕ) (second : List ℕ) (b : Bool) (x : Reading) → leb used (length log) ≡ b → logReadingOf (take used log) ≡ x
+enough : (log : List ℕ) (used tag page : ℕ) (second : List ℕ) (b : Bool) (x : LogReading) → leb used (length log) ≡ b → logReadingOf (take used log) ≡ x
     → 10 + 5 * (readLogOf log used .sent - readLogOf log used .finished) ≤ length second
     → NotShort (cond b (appendedOf x log used tag page second) (refusing bufferShort 0 log second))
 unfolding NotShort appendedOf readLogOf readAnswer loggedOf compactAnswer

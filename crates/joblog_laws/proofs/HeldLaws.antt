@@ -5,7 +5,7 @@ use Rattle.prelude.proofs.Cases.{arms, cases, both}
 use Rattle.text.specs.Text.{putOf}
 use Rattle.joblog.specs.declared.records.State.{State}
 use Rattle.joblog.specs.declared.records.Record.{Record}
-use Rattle.joblog.specs.declared.records.Reading.the-variants.{Says}
+use Rattle.joblog.specs.declared.records.LogReading.the-variants.{Says}
 use Rattle.joblog.specs.Records.{state, recordAs, bytesOf, recordsOf, wholeOf, inTurn, afterOf, readOf, logReadingOf, compactedOf}
 use Rattle.joblog.specs.Calls.{LogCall, refused, refusing, answered, readLogOf, readAnswer, newInTurn, compactAnswer, compactingOf, loggedOf, appendedOf, appendOf, restartedOf, restartOf}
 use Rattle.joblog_laws.specs.Run.{logAfter, usedAfter, inPlace, mayBeUsed}

@@ -8,7 +8,7 @@ use lib.Dec.{leb}
 use lib.ListN.{length}
 use Rattle.refusals.specs.Refusals.{logSecondShort}
 use Rattle.joblog.specs.Calls.{readLogOf, restartOf}
-use Rattle.joblog_laws.specs.Run.{World, begun, Step, goes, finishes, restart, has, Rules, asRequested, run}
+use Rattle.joblog_laws.specs.Run.{World, begun, Step, goes, finishes, restart, has, HostRules, asRequested, run}
 
 -- 1, 2, .. n
 unfoldable pub pagesTo : ℕ → List ℕ
@@ -33,7 +33,7 @@ pub record Kept (w : World) : Type 0 where
       → restartOf (w .log) (w .used) (length (w .finished)) second .answer .number
       ≡ cond (leb (5 + 5 * (readLogOf (w .log) (w .used) .sent - length (w .finished))) (length second)) 0 logSecondShort
 
-abbrev pub KeptBy : Rules → Type 0
+abbrev pub KeptBy : HostRules → Type 0
 KeptBy rules = (buffer : List ℕ) (steps : List Step) → Kept (run rules (begun buffer) steps)
 
 abbrev pub HistoriesAreKept : Type 0

@@ -4,7 +4,7 @@ ghost use lib.ListN.{length};
 ghost use Rattle.sentences.specs.Sentences.{sentenceWrittenOf, bufferAfter, meaningOf};
 ghost use Rattle.katchidul.specs.Sentence.{writtenAnswerOf, meaningAnswerOf};
 use sentences::Meaning;
-use sentences::Written;
+use sentences::WrittenSentence;
 use sentences::sentence::read_sentence;
 use sentences::sentence::write_sentence;
 
@@ -23,7 +23,7 @@ pub struct KatchidulMeaning {
     pub of_place: u32,
 }
 
-fn written_answer(written: Written) -> KatchidulWritten
+fn written_answer(written: WrittenSentence) -> KatchidulWritten
     ensures { λ r. ⌜ r ≡ writtenAnswerOf written ⌝ }
 {
     KatchidulWritten {

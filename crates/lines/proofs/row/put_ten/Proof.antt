@@ -2,10 +2,9 @@ use Rattle.prelude.proofs.Logic.{_≡_, ap, _∙_, _∷_, ℤ, length, needs, w
 use Rattle.integers.proofs.Ranges.{readBack}
 use Rattle.text.specs.Text.{putOf}
 use Rattle.lines.specs.Lines.{imsakOf, nineOf, rowText}
-use Rattle.lines.proofs.row.put_ten.Statement.{statement}
-use Rattle.lines.proofs.row.put_ten.Tie as tie
+use Rattle.lines.proofs.row.put_ten as this
 
-returns : tie.Need-returns
+returns : this.Tie.Need-returns
 returns c =
     let t = c .before .before .before .before in
     let i = t .before .imsak in
@@ -18,7 +17,7 @@ returns c =
     let put = c .before .before .put-columns in
     (put .ensures .0 ∙ ap length row, put .ensures .1 ∙ ap (putOf (now (a .buffer)) (a .at)) row)
 
-pub put-ten-spec : {M : Type 1} → statement M
+pub put-ten-spec : {M : Type 1} → this.Statement.statement M
 put-ten-spec =
-    tie.close
-    (tie.spec (λ c κs. search needs) (λ c κs. search needs) (λ c. search needs) (λ c κs. search needs) (λ c. search needs) returns)
+    this.Tie.close
+    (this.Tie.spec (λ c κs. search needs) (λ c κs. search needs) (λ c. search needs) (λ c κs. search needs) (λ c. search needs) returns)

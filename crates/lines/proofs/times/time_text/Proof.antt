@@ -4,15 +4,14 @@ use Rattle.integers.proofs.QuotientLaws.{floored}
 use Rattle.integers.proofs.Ranges.{readBack, read}
 use Rattle.text.specs.Text.{digitOf}
 use Rattle.lines.specs.Lines.{daysOf, signOf, magnitudeOf, timeText}
-use Rattle.lines.proofs.times.time_text.Statement.{statement}
-use Rattle.lines.proofs.times.time_text.Tie as tie
+use Rattle.lines.proofs.times.time_text as this
 
-two-digits-requires : tie.Need-two-digits-requires
+two-digits-requires : this.Tie.Need-two-digits-requires
 two-digits-requires c κs =
     let h = floored (readBack w64 (c .before .args .time)) 86400 (lit< tt) .below in
     omega (arith, h, c .compared .ensures .2)
 
-returns : tie.Need-returns
+returns : this.Tie.Need-returns
 unfolding timeText
 returns c =
     let t = c .before .before .before .before in
@@ -36,7 +35,7 @@ returns c =
     let r1 = rest .ensures .1 ∙ ap digitOf (k ∙ ap (λ (i : ℕ). i % 60) s) in
     simp (sign, size, h0, h1, m0, m1, r0, r1)
 
-pub time-text-spec : {M : Type 1} → statement M
+pub time-text-spec : {M : Type 1} → this.Statement.statement M
 time-text-spec =
-    tie.close
-    (tie.spec (λ c κs. c .pre) two-digits-requires (λ c. search needs) (λ c. search needs) (λ c κs. search needs) (λ c. search needs) (λ c. search needs) (λ c κs. search needs) returns)
+    this.Tie.close
+    (this.Tie.spec (λ c κs. c .pre) two-digits-requires (λ c. search needs) (λ c. search needs) (λ c κs. search needs) (λ c. search needs) (λ c. search needs) (λ c κs. search needs) returns)
