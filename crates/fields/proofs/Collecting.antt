@@ -90,7 +90,8 @@ module _ (s : List ℕ) (at : ℕ) (starts lengths : List ℕ) (c : Collected s 
   unfolding offsetOf
   seen tag start size (ahead p q r) =
       let later = find-from (c .left) s tag at (length s) at (omega arith) (c .inside) in
-      let no : at < suc (firstBefore (length s) s tag 0 at) = lt-of-not-le (λ h. let far = find-farther (length s) s tag 0 at (length s) (c .inside) h in omega arith) in
+      let no : at < suc (firstBefore (length s) s tag 0 at) = lt-of-not-le
+      (λ h. let far = find-farther (length s) s tag 0 at (length s) (c .inside) h in omega arith) in
       rw p (sym (le-ltb (firstBefore (length s) s tag 0 at) at (omega arith)))
   seen tag start size (behind o p q) =
       let e = find-sooner (length s) s tag 0 at (length s) (c .inside) o in

@@ -32,7 +32,8 @@ printable-digits : (k n : ℕ) → printable (digitsOf k n) ≡ true
 unfolding digitsOf printable
 printable-digits zero n = refl
 printable-digits (suc k) n =
-    either (λ d. printable d ≡ true) (ltb n 10) (printable-digit n) (printable-append (digitsOf k (n / 10)) (digitOf n ∷ []) (printable-digits k (n / 10)) (printable-digit n))
+    either (λ d. printable d ≡ true) (ltb n 10) (printable-digit n)
+    (printable-append (digitsOf k (n / 10)) (digitOf n ∷ []) (printable-digits k (n / 10)) (printable-digit n))
 
 -- ---- the words before the place, with a tag's name or without
 pub words-named : (n p : ℕ) → endsInColon (textOf n) ≡ true → wordsOf n p ≡ textOf n ++ nameOf p

@@ -56,10 +56,12 @@ counted d h l =
     (λ e. rw e (gathered (yearDaysOf y) (monthTermOf (d .month)) (y / 100) (y / 100 / 4) (d .day) (daysBeforeYearOf (y + 1)) (count d) (years y)
     (late-days (monthTermOf (d .month)) (late (leapOf y) (d .month) (ltb-true 2 (d .month) e) (omega arith)))))
     (λ e. let f = ltb-false 2 (d .month) e in
-    rw e (gathered (yearDaysOf (y - 1)) (monthTermOf (d .month + 12)) ((y - 1) / 100) ((y - 1) / 100 / 4) (d .day) (daysBeforeYearOf (y - 1 + 1)) (count d) (years (y - 1))
+    rw e (gathered (yearDaysOf (y - 1)) (monthTermOf (d .month + 12)) ((y - 1) / 100) ((y - 1) / 100 / 4) (d .day) (daysBeforeYearOf (y - 1 + 1))
+    (count d) (years (y - 1))
     (early-days (monthTermOf (d .month + 12)) (early (leapOf y) (d .month) (m .first) (omega arith)))))
   where
-    late-days : (v : ℕ) → v + cond (leapOf (d .year)) 1 0 ≡ daysBeforeOf (leapOf (d .year)) (d .month) + 63 → daysBeforeYearOf (d .year + 1) + v + d .day ≡ count d + 428
+    late-days : (v : ℕ) → v + cond (leapOf (d .year)) 1 0 ≡ daysBeforeOf (leapOf (d .year)) (d .month) + 63 →
+        daysBeforeYearOf (d .year + 1) + v + d .day ≡ count d + 428
     late-days v k = unfold daysInYearOf in omega (arith, year-step (d .year), ordinal-is d h, year-days (leapOf (d .year)))
 
     early-days : (v : ℕ) → v ≡ daysBeforeOf (leapOf (d .year)) (d .month) + 428 → daysBeforeYearOf (d .year - 1 + 1) + v + d .day ≡ count d + 428

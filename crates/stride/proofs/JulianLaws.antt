@@ -95,7 +95,8 @@ julian-meeus d h p q =
     (cases (ltb 2 (d .month))
     (λ e. rw e (from-march (d .year) (d .month) (d .day) (omega arith) q (ltb-true 2 (d .month) e) (omega arith) (omega arith)))
     (λ e. let l = ltb-false 2 (d .month) e in
-    rw (e, before (d .year) (omega arith)) (from-march (d .year - 1) (d .month + 12) (d .day) (omega arith) (omega arith) (omega arith) (omega arith) (omega arith))))
+    rw (e, before (d .year) (omega arith))
+    (from-march (d .year - 1) (d .month + 12) (d .day) (omega arith) (omega arith) (omega arith) (omega arith) (omega arith))))
 
 -- and the calendar's count of days: day 0 begins at 2440587.5
 pub julian-number : (d : Date) → existsOf d ≡ true → 1899 ≤ d .year → d .year ≤ 2200 → dateJulianDayOf d ≡ halves (P (dayNumberOf d *ℤ pos 2 +ℤ pos 4881175))

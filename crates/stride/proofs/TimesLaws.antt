@@ -56,7 +56,8 @@ height None s = omega arith
 height-mono : (r : Rounding) (s u : ℕ) → s ≤ u → heightOf r s ≤ heightOf r u
 unfolding heightOf
 height-mono Nearest s u h =
-    cases (ltb u 30) (λ q. rw (q, lt-ltb s 30 (omega (arith, ltb-true u 30 q))) (omega arith)) (λ q. rw q (either (λ k. k ≤ 60) (ltb s 30) (omega arith) (omega arith)))
+    cases (ltb u 30) (λ q. rw (q, lt-ltb s 30 (omega (arith, ltb-true u 30 q))) (omega arith))
+    (λ q. rw q (either (λ k. k ≤ 60) (ltb s 30) (omega arith) (omega arith)))
 height-mono Up s u h = omega arith
 height-mono None s u h = h
 

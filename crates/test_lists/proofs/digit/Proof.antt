@@ -5,6 +5,5 @@ use Rattle.test_lists.proofs.digit as this
 pub digit-spec : {M : Type 1} → this.Statement.statement M
 unfolding digitValueOf
 digit-spec =
-    let returns : this.Tie.Need-returns = λ c. simp (lt-ltb _ _ (c .if1 .taken)) in
     let returns-2 : this.Tie.Need-returns-2 = λ c. simp (le-ltb _ _ (c .if1 .left)) in
-    this.Tie.close (this.Tie.spec (λ c. search needs) returns returns-2)
+    this.Tie.close (this.Tie.spec (λ c. search needs) (λ c. simp (lt-ltb _ _ (c .if1 .taken))) returns-2)

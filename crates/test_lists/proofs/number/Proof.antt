@@ -21,16 +21,14 @@ loop-again c =
 
 pub number-spec : {M : Type 1} → this.Statement.statement M
 unfolding numberOf
-number-spec =
-    let loop-holds : this.Tie.Need-loop-holds Inv-loop μ-loop = λ c. search needs in
-    let returns : this.Tie.Need-returns Inv-loop μ-loop = λ c.
-    let l = c .before .loop in let e : l .k ≡ c .before .before .before .args .digits = omega arith in
-    rw (sym e) (l .inv .1) in
-    this.Tie.close (this.Tie.spec Inv-loop μ-loop loop-holds
+number-spec = this.Tie.close (this.Tie.spec Inv-loop μ-loop (λ c. search needs)
     (λ c. let a = c .before .before .before .args in let l = c .before .loop in
     omega (arith, fits (a .base) (l .v) 0 (l .k) (omega arith) (l .inv .2) (omega arith) (omega arith)))
     (λ c κs. tt) (λ c κs. tt)
     (λ c. let a = c .before .before .before .before .before .args in let l = c .before .before .before .loop in
     let d : c .digit .result < 16 = rw (c .digit .ensures) (digit-small (c .before .byte .result)) in
     omega (arith, fits (a .base) (l .v) (c .digit .result) (l .k) (omega arith) (l .inv .2) d (omega arith)))
-    (λ c. search needs) (λ c. search needs) loop-again returns)
+    (λ c. search needs) (λ c. search needs) loop-again
+    (λ c.
+    let l = c .before .loop in let e : l .k ≡ c .before .before .before .args .digits = omega arith in
+    rw (sym e) (l .inv .1)))

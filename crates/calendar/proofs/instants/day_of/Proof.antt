@@ -5,7 +5,6 @@ use Rattle.calendar.proofs.instants.day_of as this
 pub day-of-spec : {M : Type 1} → this.Statement.statement M
 day-of-spec =
     let returns : this.Tie.Need-returns = λ c. rounded-down (c .before .args .seconds) (c .before .fits .seconds) (c .if1 .taken) in
-    let returns-2 : this.Tie.Need-returns-2 = λ c. kept (c .before .args .seconds) (c .before .fits .seconds) (c .if1 .left) in
     this.Tie.close (this.Tie.spec (λ c. (lit< tt, quotient-fits (c .args .seconds) (c .fits .seconds)))
     (λ c. (lit< tt, quotient-fits (c .args .seconds) (c .fits .seconds))) (λ c. one-less-fits (c .before .args .seconds) (c .before .fits .seconds))
-    returns returns-2)
+    returns (λ c. kept (c .before .args .seconds) (c .before .fits .seconds) (c .if1 .left)))

@@ -6,5 +6,4 @@ pub days-in-year-spec : {M : Type 1} → this.Statement.statement M
 unfolding daysInYearOf
 days-in-year-spec =
     let returns : this.Tie.Need-returns = λ c. simp (sym (c .before .is-leap-year .ensures), c .if1 .taken) in
-    let returns-2 : this.Tie.Need-returns-2 = λ c. simp (sym (c .before .is-leap-year .ensures), c .if1 .left) in
-    this.Tie.close (this.Tie.spec (λ c κs. tt) returns returns-2)
+    this.Tie.close (this.Tie.spec (λ c κs. tt) returns (λ c. simp (sym (c .before .is-leap-year .ensures), c .if1 .left)))

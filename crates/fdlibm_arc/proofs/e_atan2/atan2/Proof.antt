@@ -42,6 +42,7 @@ unfolding atan2Of
 atan2-spec =
     let returns : this.Tie.Need-returns = λ c. simp (sym (c .not-a-number .ensures), c .before .if1 .taken) in
     let returns-2 : this.Tie.Need-returns-2 = λ c. simp (sym (c .not-a-number2 .ensures), c .before .if2 .taken, c .before .before .if1 .left) in
-    let returns-3 : this.Tie.Need-returns-3 = λ c. simp (sym (c .atan .ensures), c .before .if3 .taken, c .before .before .if2 .left, c .before .before .before .if1 .left) in
+    let returns-3 : this.Tie.Need-returns-3 = λ c.
+    simp (sym (c .atan .ensures), c .before .if3 .taken, c .before .before .if2 .left, c .before .before .before .if1 .left) in
     this.Tie.close (this.Tie.spec (λ c κs. tt) returns (λ c κs. tt) returns-2 (λ c κs. tt) returns-3 (λ c κs. tt) (λ c κs. tt) (λ c κs. tt) returns-4
     (λ c κs. tt) returns-5 (λ c κs. tt) (λ c κs. tt) (λ c κs. tt) (λ c κs. tt) (λ c κs. tt) (λ c κs. tt) returns-6 returns-7 returns-8)

@@ -19,7 +19,5 @@ returns-2 c =
 
 pub refine-spec : {M : Type 1} → this.Statement.statement M
 unfolding refineOf
-refine-spec =
-    let returns-3 : this.Tie.Need-returns-3 = λ c. simp (le-ltb _ _ (rw (c .before .exponent .ensures .0) at (c .if1 .left))) in
-    this.Tie.close (this.Tie.spec (λ c κs. tt) (λ c. search needs) (λ c κs. tt) (λ c κs. tt) (λ c. search needs) (λ c κs. tt) returns returns-2
-    returns-3)
+refine-spec = this.Tie.close (this.Tie.spec (λ c κs. tt) (λ c. search needs) (λ c κs. tt) (λ c κs. tt) (λ c. search needs) (λ c κs. tt) returns
+    returns-2 (λ c. simp (le-ltb _ _ (rw (c .before .exponent .ensures .0) at (c .if1 .left)))))

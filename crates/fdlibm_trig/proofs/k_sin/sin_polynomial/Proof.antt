@@ -6,5 +6,4 @@ pub sin-polynomial-spec : {M : Type 1} → this.Statement.statement M
 unfolding kernelSinOf
 sin-polynomial-spec =
     let returns : this.Tie.Need-returns = λ c. simp (c .before .pre .1, c .if1 .taken, le-ltb _ _ (c .before .pre .0)) in
-    let returns-2 : this.Tie.Need-returns-2 = λ c. simp (c .before .pre .1, c .if1 .left, le-ltb _ _ (c .before .pre .0)) in
-    this.Tie.close (this.Tie.spec returns returns-2)
+    this.Tie.close (this.Tie.spec returns (λ c. simp (c .before .pre .1, c .if1 .left, le-ltb _ _ (c .before .pre .0))))

@@ -30,7 +30,5 @@ returns c =
 
 pub bits-spec : {M : Type 1} → this.Statement.statement M
 unfolding bytesNumberOf
-bits-spec =
-    let loop-holds : this.Tie.Need-loop-holds Inv-loop μ-loop = λ c. search needs in
-    this.Tie.close (this.Tie.spec Inv-loop μ-loop loop-holds (λ c κs. search needs) (λ c. search needs) (λ c. search needs) (λ c. search needs)
-    loop-again returns)
+bits-spec = this.Tie.close (this.Tie.spec Inv-loop μ-loop (λ c. search needs) (λ c κs. search needs) (λ c. search needs) (λ c. search needs)
+    (λ c. search needs) loop-again returns)

@@ -70,10 +70,8 @@ returns-2 c =
     (collect-all s (l .loop .at) (l .loop .starts) (l .loop .lengths) (l .loop .inv) (c .before .loop-test .left)))
 
 pub pass-spec : {M : Type 1} → this.Statement.statement M
-pass-spec =
-    let loop-holds : this.Tie.Need-loop-holds Inv-loop μ-loop = λ c. collect-first (now (c .before .args .order)) (c .before .pre) in
-    this.Tie.close (this.Tie.spec Inv-loop μ-loop loop-holds (λ c κs. search needs) (λ c. search needs) (λ c κs. search needs)
-    (λ c. sym (c .before .before .before .before .loop .inv .sizes .0)) (λ c κs. search needs) (λ c. search needs) (λ c κs. search needs)
-    (λ c. search needs) (λ c κs. search needs) returns (λ c. search needs) (λ c. search needs) (λ c. search needs) (λ c. search needs) room short
-    (λ c. search needs) room (λ c. search needs) (λ c. search needs) (λ c. search needs) (λ c. search needs) loop-again (λ c κs. search needs)
-    returns-2)
+pass-spec = this.Tie.close (this.Tie.spec Inv-loop μ-loop (λ c. collect-first (now (c .before .args .order)) (c .before .pre)) (λ c κs. search needs)
+    (λ c. search needs) (λ c κs. search needs) (λ c. sym (c .before .before .before .before .loop .inv .sizes .0)) (λ c κs. search needs)
+    (λ c. search needs) (λ c κs. search needs) (λ c. search needs) (λ c κs. search needs) returns (λ c. search needs) (λ c. search needs)
+    (λ c. search needs) (λ c. search needs) room short (λ c. search needs) room (λ c. search needs) (λ c. search needs) (λ c. search needs)
+    (λ c. search needs) loop-again (λ c κs. search needs) returns-2)

@@ -38,11 +38,10 @@ loop-again c =
     (collect-on s (l .loop .at) (l .loop .starts) (l .loop .lengths) (i .0) t (sound-here s (l .loop .at) (l .loop .starts) (l .loop .lengths) (i .0) (i .1) t) (c .before .byte .result) (c .length-at .result) (c .before .byte .ensures .0) (c .length-at .ensures .0), i .1)
 
 pub collect-spec : {M : Type 1} → this.Statement.statement M
-collect-spec =
-    let loop-holds : this.Tie.Need-loop-holds Inv-loop μ-loop = λ c. let s = now (c .before .args .order) in
-    (collect-first s (check-none s (c .before .pre) .short), c .before .pre) in
-    let returns : this.Tie.Need-returns Inv-loop μ-loop = λ c. let l = c .before in
-    collect-all (now (l .before .before .args .order)) (l .loop .at) (l .loop .starts) (l .loop .lengths) (l .loop .inv .0) (c .loop-test .left) in
-    this.Tie.close (this.Tie.spec Inv-loop μ-loop loop-holds (λ c κs. tt) (λ c. search needs) (λ c κs. search needs) (λ c. search needs)
-    (λ c. search needs) (λ c. search needs) room short room (λ c. search needs) (λ c. search needs) (λ c. search needs) (λ c. search needs) loop-again
-    returns)
+collect-spec = this.Tie.close (this.Tie.spec Inv-loop μ-loop
+    (λ c. let s = now (c .before .args .order) in
+    (collect-first s (check-none s (c .before .pre) .short), c .before .pre))
+    (λ c κs. tt) (λ c. search needs) (λ c κs. search needs) (λ c. search needs) (λ c. search needs) (λ c. search needs) room short room
+    (λ c. search needs) (λ c. search needs) (λ c. search needs) (λ c. search needs) loop-again
+    (λ c. let l = c .before in
+    collect-all (now (l .before .before .args .order)) (l .loop .at) (l .loop .starts) (l .loop .lengths) (l .loop .inv .0) (c .loop-test .left)))

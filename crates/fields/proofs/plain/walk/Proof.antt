@@ -33,8 +33,6 @@ returns-2 c =
     c .none .ensures ∙ sym (walk-end (l .inv .0) (b .before .before .before .args .order .now) (l .at) (b .loop-test .left)) ∙ l .inv .2
 
 pub walk-spec : {M : Type 1} → this.Statement.statement M
-walk-spec =
-    let loop-holds : this.Tie.Need-loop-holds Inv-loop μ-loop = λ c. (length (c .before .args .order .now), omega arith, refl) in
-    this.Tie.close (this.Tie.spec Inv-loop μ-loop loop-holds (λ c κs. search needs) (λ c. search needs) (λ c κs. search needs) returns
-    (λ c. search needs) (λ c κs. search needs) (λ c. search needs) (λ c. search needs) (λ c. search needs) loop-again (λ c κs. search needs)
-    returns-2)
+walk-spec = this.Tie.close (this.Tie.spec Inv-loop μ-loop (λ c. (length (c .before .args .order .now), omega arith, refl)) (λ c κs. search needs)
+    (λ c. search needs) (λ c κs. search needs) returns (λ c. search needs) (λ c κs. search needs) (λ c. search needs) (λ c. search needs)
+    (λ c. search needs) loop-again (λ c κs. search needs) returns-2)

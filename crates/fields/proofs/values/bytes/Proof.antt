@@ -5,7 +5,8 @@ use Rattle.fields.proofs.values.bytes as this
 
 pub bytes-spec : {M : Type 1} → this.Statement.statement M
 bytes-spec =
-    let returns : this.Tie.Need-returns = λ c. let a = c .before .before .before .args in part-none (now (a .order)) (a .part .at) (a .part .length) (c .before .if1 .taken) in
+    let returns : this.Tie.Need-returns = λ c.
+    let a = c .before .before .before .args in part-none (now (a .order)) (a .part .at) (a .part .length) (c .before .if1 .taken) in
     let returns-2 : this.Tie.Need-returns-2 = λ c. let a = c .before .before .before .before .before .args in
     part-rest (now (a .order)) (a .part .at) (a .part .length) (c .before .if2 .taken) in
     let returns-3 : this.Tie.Need-returns-3 = λ c. let a = c .before .before .before .before .before .args in

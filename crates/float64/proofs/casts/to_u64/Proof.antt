@@ -22,11 +22,11 @@ small r x e f = cast-below 64 W whole64 (whole64-value 1) (lit≤ tt) (lit≤ tt
 pub to-u64-spec : {M : Type 1} → this.Statement.statement M
 unfolding ofBits
 to-u64-spec =
-    let returns : this.Tie.Need-returns = λ c. let t = c .before in let b = t .before .before in small (t .trunc .result) (b .before .args .x) (t .trunc .ensures) (b .before .good .0 .1) (b .if1 .taken) (t .before .if2 .taken) .1 in
-    let returns-3 : this.Tie.Need-returns-3 = λ c. cast-end 64 end end-value (c .before .before .before .args .x) (c .before .before .if1 .taken) (c .if3 .left) in
-    let returns-4 : this.Tie.Need-returns-4 = λ c. cast-zero 64 (c .before .args .x) (c .if1 .left) in
+    let returns-3 : this.Tie.Need-returns-3 = λ c.
+    cast-end 64 end end-value (c .before .before .before .args .x) (c .before .before .if1 .taken) (c .if3 .left) in
     this.Tie.close (this.Tie.spec (λ c κs. tt)
     (λ c. let t = c .before in let b = t .before .before in
     small (t .trunc .result) (b .before .args .x) (t .trunc .ensures) (b .before .good .0 .1) (b .if1 .taken) (t .before .if2 .taken) .0)
-    returns (λ c κs. (above-minus-one (c .before .before .before .args .x) (c .before .before .if1 .taken), subst T (sym (c .if3 .taken)) tt))
-    (λ c. c .truncating-f64-to-u64 .ensures) returns-3 returns-4)
+    (λ c. let t = c .before in let b = t .before .before in small (t .trunc .result) (b .before .args .x) (t .trunc .ensures) (b .before .good .0 .1) (b .if1 .taken) (t .before .if2 .taken) .1)
+    (λ c κs. (above-minus-one (c .before .before .before .args .x) (c .before .before .if1 .taken), subst T (sym (c .if3 .taken)) tt))
+    (λ c. c .truncating-f64-to-u64 .ensures) returns-3 (λ c. cast-zero 64 (c .before .args .x) (c .if1 .left)))

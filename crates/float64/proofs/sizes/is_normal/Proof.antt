@@ -31,6 +31,6 @@ infinite (fin s m e) h = absurd (true≢false h)
 
 pub is-normal-spec : {M : Type 1} → this.Statement.statement M
 is-normal-spec =
-    let returns : this.Tie.Need-returns = λ c. rw (c .before .abs .ensures) (finite (c .before .before .args .x) (rw (c .before .abs .ensures) at (c .if1 .taken))) in
-    let returns-2 : this.Tie.Need-returns-2 = λ c. infinite (c .before .before .args .x) (rw (c .before .abs .ensures) at (c .if1 .left)) in
-    this.Tie.close (this.Tie.spec (λ c κs. tt) returns returns-2)
+    let returns : this.Tie.Need-returns = λ c.
+    rw (c .before .abs .ensures) (finite (c .before .before .args .x) (rw (c .before .abs .ensures) at (c .if1 .taken))) in
+    this.Tie.close (this.Tie.spec (λ c κs. tt) returns (λ c. infinite (c .before .before .args .x) (rw (c .before .abs .ensures) at (c .if1 .left))))

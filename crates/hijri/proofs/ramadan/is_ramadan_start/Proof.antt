@@ -27,7 +27,8 @@ returns-4 c =
 pub is-ramadan-start-spec : {M : Type 1} → this.Statement.statement M
 is-ramadan-start-spec =
     let returns : this.Tie.Need-returns = λ c. let s = c .before in far-below (s .args .day) (s .fits .day) (s .args .shift) (s .fits .shift) (c .if1 .taken) in
-    let returns-2 : this.Tie.Need-returns-2 = λ c. let s = c .before .before in far-above (s .args .day) (s .fits .day) (s .args .shift) (s .fits .shift) (c .if2 .taken) in
+    let returns-2 : this.Tie.Need-returns-2 = λ c.
+    let s = c .before .before in far-above (s .args .day) (s .fits .day) (s .args .shift) (s .fits .shift) (c .if2 .taken) in
     this.Tie.close (this.Tie.spec returns returns-2 (λ c. wide (c .before .before .args .shift) (c .before .before .fits .shift))
     (λ c.
     let s = c .before .before in

@@ -17,6 +17,5 @@ returns-3 c =
     ap (λ (b : Bool). cond b 1 0) (sym (c .if2 .left) ∙ c .before .is-negative .ensures) ∙ some (isNegativeOf (a .x)) (a .n) (e .if1 .left)
 
 pub sign-of-spec : {M : Type 1} → this.Statement.statement M
-sign-of-spec =
-    let returns : this.Tie.Need-returns = λ c. naught (isNegativeOf (c .before .args .x)) (c .before .args .n) (c .if1 .taken) in
-    this.Tie.close (this.Tie.spec returns (λ c κs. search needs) returns-2 returns-3)
+sign-of-spec = this.Tie.close (this.Tie.spec (λ c. naught (isNegativeOf (c .before .args .x)) (c .before .args .n) (c .if1 .taken))
+    (λ c κs. search needs) returns-2 returns-3)

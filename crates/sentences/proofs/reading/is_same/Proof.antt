@@ -11,16 +11,16 @@ abbrev μ-loop : this.Tie.MeasureT-loop
 
 pub is-same-spec : {M : Type 1} → this.Statement.statement M
 is-same-spec =
-    let returns : this.Tie.Need-returns Inv-loop μ-loop = λ c. sym (longer-differs (now (c .before .args .text)) (now (c .before .args .bytes)) (c .if1 .taken)) in
-    let loop-holds : this.Tie.Need-loop-holds Inv-loop μ-loop = λ c. (omega arith, c .if1 .left, refl) in
-    let returns-2 : this.Tie.Need-returns-2 Inv-loop μ-loop = λ c.
+    let returns : this.Tie.Need-returns Inv-loop μ-loop = λ c.
+    sym (longer-differs (now (c .before .args .text)) (now (c .before .args .bytes)) (c .if1 .taken)) in
+    this.Tie.close (this.Tie.spec Inv-loop μ-loop returns (λ c. (omega arith, c .if1 .left, refl)) (λ c. search needs) (λ c. search needs)
+    (λ c.
     let l = c .before .before .before .before .loop in let a = c .before .before .before .before .before .before .args in let t = c .before .before .before .loop-test .taken in let e = l .inv .1 in
-    sym (same-differs (now (a .text)) (now (a .bytes)) (l .i) t (omega arith) (c .if2 .taken)) ∙ l .inv .2 in
-    let loop-again : this.Tie.Need-loop-again Inv-loop μ-loop = λ c.
+    sym (same-differs (now (a .text)) (now (a .bytes)) (l .i) t (omega arith) (c .if2 .taken)) ∙ l .inv .2)
+    (λ c. search needs) (λ c. search needs)
+    (λ c.
     let l = c .before .before .before .before .loop in let a = c .before .before .before .before .before .before .args in let t = c .before .before .before .loop-test .taken in let e = l .inv .1 in
-    (omega arith, e, same-next (now (a .text)) (now (a .bytes)) (l .i) t (omega arith) (c .if2 .left) ∙ l .inv .2) in
-    let returns-3 : this.Tie.Need-returns-3 Inv-loop μ-loop = λ c.
+    (omega arith, e, same-next (now (a .text)) (now (a .bytes)) (l .i) t (omega arith) (c .if2 .left) ∙ l .inv .2))
+    (λ c.
     let l = c .before .loop in let a = c .before .before .before .args in let h = l .inv .0 in let e = l .inv .1 in
-    sym (same-ends (now (a .text)) (now (a .bytes)) (l .i) (omega arith) (omega arith)) ∙ l .inv .2 in
-    this.Tie.close (this.Tie.spec Inv-loop μ-loop returns loop-holds (λ c. search needs) (λ c. search needs) returns-2 (λ c. search needs)
-    (λ c. search needs) loop-again returns-3)
+    sym (same-ends (now (a .text)) (now (a .bytes)) (l .i) (omega arith) (omega arith)) ∙ l .inv .2))

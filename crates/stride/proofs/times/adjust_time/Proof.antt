@@ -17,6 +17,8 @@ returns-3 c =
 
 pub adjust-time-spec : {M : Type 1} → this.Statement.statement M
 adjust-time-spec =
-    let returns : this.Tie.Need-returns = λ c. let s = c .before in minutes.far-up (s .args .t) (s .args .minutes) (s .fits .t) (s .fits .minutes) (c .if1 .taken) in
-    let returns-2 : this.Tie.Need-returns-2 = λ c. let s = c .before .before in minutes.far-down (s .args .t) (s .args .minutes) (s .fits .t) (s .fits .minutes) (c .if2 .taken) in
+    let returns : this.Tie.Need-returns = λ c.
+    let s = c .before in minutes.far-up (s .args .t) (s .args .minutes) (s .fits .t) (s .fits .minutes) (c .if1 .taken) in
+    let returns-2 : this.Tie.Need-returns-2 = λ c.
+    let s = c .before .before in minutes.far-down (s .args .t) (s .args .minutes) (s .fits .t) (s .fits .minutes) (c .if2 .taken) in
     this.Tie.close (this.Tie.spec returns returns-2 mul-half (λ c κs. tt) (λ c κs. tt) returns-3)

@@ -9,10 +9,10 @@ add-result-2 c = let s = c .before .before in saturation.in-fits′ (s .args .a)
 
 pub plus-spec : {M : Type 1} → this.Statement.statement M
 plus-spec =
-    let returns : this.Tie.Need-returns = λ c. let s = c .before .before in saturation.over (s .args .a) (s .args .b) (s .fits .a) (s .fits .b) (c .before .if1 .taken) (c .if2 .taken) in
-    let returns-2 : this.Tie.Need-returns-2 = λ c. let s = c .before .before in saturation.added (s .args .a) (s .args .b) (s .fits .a) (s .fits .b) (add-result c) in
-    let returns-3 : this.Tie.Need-returns-3 = λ c. let s = c .before .before in saturation.under (s .args .a) (s .args .b) (s .fits .a) (s .fits .b) (c .before .if1 .left) (c .if3 .taken) in
-    let returns-4 : this.Tie.Need-returns-4 = λ c. let s = c .before .before in saturation.added (s .args .a) (s .args .b) (s .fits .a) (s .fits .b) (add-result-2 c) in
+    let returns : this.Tie.Need-returns = λ c.
+    let s = c .before .before in saturation.over (s .args .a) (s .args .b) (s .fits .a) (s .fits .b) (c .before .if1 .taken) (c .if2 .taken) in
     this.Tie.close (this.Tie.spec (λ c. let s = c .before in saturation.room-fits (s .args .a) (s .args .b) (s .fits .a) (s .fits .b) (c .if1 .taken))
-    returns add-result returns-2 (λ c. let s = c .before in saturation.room-fits′ (s .args .a) (s .args .b) (s .fits .a) (s .fits .b) (c .if1 .left))
-    returns-3 add-result-2 returns-4)
+    returns add-result (λ c. let s = c .before .before in saturation.added (s .args .a) (s .args .b) (s .fits .a) (s .fits .b) (add-result c))
+    (λ c. let s = c .before in saturation.room-fits′ (s .args .a) (s .args .b) (s .fits .a) (s .fits .b) (c .if1 .left))
+    (λ c. let s = c .before .before in saturation.under (s .args .a) (s .args .b) (s .fits .a) (s .fits .b) (c .before .if1 .left) (c .if3 .taken))
+    add-result-2 (λ c. let s = c .before .before in saturation.added (s .args .a) (s .args .b) (s .fits .a) (s .fits .b) (add-result-2 c)))

@@ -10,7 +10,8 @@ shift-spec =
     minutes.less-is _ (s .args .s) (lit≤ tt) (s .fits .s) ∙ rw (c .before .enum-told .given .1, lt-ltb (s .args .s) 30 (omega arith)) in
     let returns-2 : this.Tie.Need-returns-2 = λ c. let s = c .before .before .before in
     minutes.less-is _ (s .args .s) (lit≤ tt) (s .fits .s) ∙ rw (c .before .enum-told .given .1, le-ltb (s .args .s) 30 (omega arith)) in
-    let returns-3 : this.Tie.Need-returns-3 = λ c. let s = c .before .before in minutes.less-is _ (s .args .s) (lit≤ tt) (s .fits .s) ∙ rw (c .enum-told2 .given .1) in
+    let returns-3 : this.Tie.Need-returns-3 = λ c.
+    let s = c .before .before in minutes.less-is _ (s .args .s) (lit≤ tt) (s .fits .s) ∙ rw (c .enum-told2 .given .1) in
     let returns-4 : this.Tie.Need-returns-4 = λ c. rw (c .enum-told3 .given .1) in
     this.Tie.close (this.Tie.spec (λ c. search needs) (λ c. search needs)
     (λ c. let s = c .before .before .before in minutes.less-fits _ (s .args .s) (lit≤ tt) (s .fits .s)) returns

@@ -14,9 +14,7 @@ returns c =
 
 pub row-spec : {M : Type 1} → this.Statement.statement M
 unfolding fromOf
-row-spec =
-    let returns-2 : this.Tie.Need-returns-2 = λ c. simp (sym (c .before .exists .ensures), c .if1 .left) in
-    this.Tie.close (this.Tie.spec (λ c κs. tt) (λ c κs. tt) (λ c. search needs)
+row-spec = this.Tie.close (this.Tie.spec (λ c κs. tt) (λ c κs. tt) (λ c. search needs)
     (λ c. let d = c .before .before .before .args .self in let k : d .year ≤ 4294967295 = search needs in
     row-fits d k (c .day-number .result) (search needs) (c .day-number .ensures) (c .before .before .before .args .row) (search needs))
-    (λ c κs. tt) returns returns-2)
+    (λ c κs. tt) returns (λ c. simp (sym (c .before .exists .ensures), c .if1 .left)))

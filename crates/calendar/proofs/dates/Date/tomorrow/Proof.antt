@@ -38,7 +38,6 @@ returns-6 c =
     c .new3 .ensures ∙ next-year d (c .before .before .before .before .before .if1 .left) k (omega arith) (c .before .before .if4 .left) (c .before .if5 .left)
 
 pub tomorrow-spec : {M : Type 1} → this.Statement.statement M
-tomorrow-spec =
-    let returns : this.Tie.Need-returns = λ c. before-first (c .before .before .before .args .self) (c .if1 .taken) in
-    this.Tie.close (this.Tie.spec (λ c κs. tt) (λ c κs. tt) returns returns-2 (λ c. search needs) (λ c κs. tt) returns-3 (λ c. search needs)
-    (λ c κs. tt) returns-4 returns-5 (λ c. search needs) (λ c κs. tt) returns-6)
+tomorrow-spec = this.Tie.close (this.Tie.spec (λ c κs. tt) (λ c κs. tt) (λ c. before-first (c .before .before .before .args .self) (c .if1 .taken))
+    returns-2 (λ c. search needs) (λ c κs. tt) returns-3 (λ c. search needs) (λ c κs. tt) returns-4 returns-5 (λ c. search needs) (λ c κs. tt)
+    returns-6)

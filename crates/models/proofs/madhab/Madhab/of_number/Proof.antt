@@ -13,5 +13,4 @@ pub of-number-spec : {M : Type 1} → this.Statement.statement M
 unfolding madhabOf
 of-number-spec =
     let returns : this.Tie.Need-returns = λ c. simp (c .match .keys1) in
-    let returns-2 : this.Tie.Need-returns-2 = λ c. rest (c .before .args .n) (c .match .rest .1) in
-    this.Tie.close (this.Tie.spec returns returns-2)
+    this.Tie.close (this.Tie.spec returns (λ c. rest (c .before .args .n) (c .match .rest .1)))

@@ -12,6 +12,5 @@ rest (suc n) f = refl
 pub of-number-spec : {M : Type 1} → this.Statement.statement M
 unfolding midnightOf
 of-number-spec =
-    let returns : this.Tie.Need-returns = λ c. simp (c .match .keys1) in
     let returns-2 : this.Tie.Need-returns-2 = λ c. rest (c .before .args .n) (c .match .rest .1) in
-    this.Tie.close (this.Tie.spec returns returns-2)
+    this.Tie.close (this.Tie.spec (λ c. simp (c .match .keys1)) returns-2)

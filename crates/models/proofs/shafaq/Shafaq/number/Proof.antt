@@ -5,7 +5,6 @@ use Rattle.models.proofs.shafaq.Shafaq.number as this
 pub number-spec : {M : Type 1} → this.Statement.statement M
 unfolding shafaqNumberOf
 number-spec =
-    let returns : this.Tie.Need-returns = λ c. simp (c .enum-told .given .1) in
     let returns-2 : this.Tie.Need-returns-2 = λ c. simp (c .enum-told2 .given .1) in
-    let returns-3 : this.Tie.Need-returns-3 = λ c. simp (c .enum-told3 .given .1) in
-    this.Tie.close (this.Tie.spec (λ c. search needs) (λ c. search needs) (λ c. search needs) returns returns-2 returns-3)
+    this.Tie.close (this.Tie.spec (λ c. search needs) (λ c. search needs) (λ c. search needs) (λ c. simp (c .enum-told .given .1)) returns-2
+    (λ c. simp (c .enum-told3 .given .1)))
