@@ -1,5 +1,5 @@
 -- Demand 3: from the bytes of two orders to the parameters of one row's day, where crates/schedule_laws has proved it. Assumes nothing.
-use Rattle.prelude.proofs.Logic.{_≡_, refl, sym, ap, subst, _∙_, Bool, true, false, cond, List, ℕ, _*_, _≤_, _<_, _^_, arith, ltb, leb, ℤ, pos, _+ℤ_, _-ℤ_, leb-true}
+use Rattle.prelude.proofs.Logic.{_≡_, refl, sym, ap, subst, _∙_, Bool, true, false, cond, _&&_, List, ℕ, _*_, _≤_, _<_, _^_, arith, ltb, leb, ℤ, pos, negsuc, _+ℤ_, _-ℤ_, leZ, leb-true}
 use Rattle.prelude.proofs.Cases.{both}
 use Rattle.integers.specs.Parts.{P, N, Near}
 use Rattle.integers.proofs.PartsLaws.{same}
@@ -111,7 +111,7 @@ refused-alike s z row i j r hi hj alike e =
 less-than-a-second : (i : Instant) → instantFits i ≡ true → i .nanoseconds < 1000000000
 unfolding instantFits
 less-than-a-second i h =
-    let l = leb-true (i .nanoseconds) 999999999 (both _ (leb (i .nanoseconds) 999999999) h .1) in
+    let l = leb-true (i .nanoseconds) 999999999 (both (leZ (negsuc 999999999999) (i .seconds) && leZ (i .seconds) (pos 1000000000000)) (leb (i .nanoseconds) 999999999) h .1) in
     omega arith
 
 -- ---- the theorem
