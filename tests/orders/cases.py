@@ -239,83 +239,127 @@ def damaged(draw):
     return order
 
 
+def date_bytes(year, month, day):
+    return struct.pack(">HBB", year, month, day)
+
+
+def real_bytes(x):
+    return struct.pack(">d", x)
+
+
+def after(x):
+    """The next float above."""
+    return struct.unpack(">d", (int.from_bytes(real_bytes(x), "big") + 1).to_bytes(8, "big"))[0]
+
+
+def minutes_bytes(fajr, isha):
+    return struct.pack(">6h", fajr, 0, 0, 0, 0, isha)
+
+
+# The order of document 01's sheet, 44 bytes; with some of its values others, and with further ones; without a tag.
+POLE = {1: b"Pole", 2: date_bytes(2026, 6, 21), 3: b"\1", 4: real_bytes(90.0), 5: real_bytes(0.0), 6: b"\0"}
+
+
+def but(values):
+    return join({**POLE, **values}.items())
+
+
+def without(tag):
+    return join((t, value) for t, value in POLE.items() if t != tag)
+
+
+WHOLE = but({})
+
+
 def marked():
     """Document 01's own examples, the ends of each range and what lies beyond them, what stands for a missing tag, and points where the
     order of the checks tells."""
-    date = lambda year, month, day: struct.pack(">HBB", year, month, day)
-    real = lambda x: struct.pack(">d", x)
-    pole = {1: b"Pole", 2: date(2026, 6, 21), 3: b"\1", 4: real(90.0), 5: real(0.0), 6: b"\0"}
-    # The order of document 01's sheet, 44 bytes, with some of its values others, and with further ones.
-    but = lambda values: join({**pole, **values}.items())
-    without = lambda tag: join((t, value) for t, value in pole.items() if t != tag)
-    whole = but({})
-    minutes = lambda fajr, isha: struct.pack(">6h", fajr, 0, 0, 0, 0, isha)
-    town, long = field(1, b"Pole"), whole + bytes(1024 - len(whole))
-    after = lambda x: struct.unpack(">d", (int.from_bytes(real(x), "big") + 1).to_bytes(8, "big"))[0]
-    nan = float("nan")
-    orders = [whole, b""]
+    return broken() + dates_and_rows() + numbers() + on_the_map() + ramadan_sheets()
+
+
+def broken():
+    """Refusals 1 to 4, and a town's bytes."""
+    town, long = field(1, b"Pole"), WHOLE + bytes(1024 - len(WHOLE))
+    orders = [WHOLE, b""]
     # 1: a field cut, in its header or its value; over 1,024 bytes, whatever they are
-    orders += [b"\1\0", b"\x63", b"\1\0\2A", whole + b"\7\0", whole + b"\7\0\1", bytes(1025), long, long + b"\0"]
+    orders += [b"\1\0", b"\x63", b"\1\0\2A", WHOLE + b"\7\0", WHOLE + b"\7\0\1", bytes(1025), long, long + b"\0"]
     # 2: a tag that is none, and a length that the tag's value can't have
-    orders += [field(99, b""), field(0, b""), field(16, b"\0"), field(16, b"\0\0\0"), field(15, b""), field(15, b"\0\0"), field(18, b"\0"), field(17, b""), field(1, b""), field(1, b"A" * 41), field(1, b"A" * 40)]
+    lengths = ((99, 0), (0, 0), (16, 1), (16, 3), (15, 0), (15, 2), (18, 1), (17, 0))
+    orders += [field(tag, bytes(length)) for tag, length in lengths] + [field(1, b"A" * length) for length in (0, 41, 40)]
     # 3: a tag again, before its wrong length; a wrong length before a cut value
-    orders += [town + town, whole + town, whole + b"\1\0\0", whole + b"\7\0\2"]
+    orders += [town + town, WHOLE + town, WHOLE + b"\1\0\0", WHOLE + b"\7\0\2"]
     # 4: each tag that may not be missing; before a value out of range, and after a broken field
-    orders += [without(tag) for tag in pole] + [field(1, b"\37") + field(2, pole[2]), field(1, b"\37") + b"\x63"]
+    orders += [without(tag) for tag in POLE] + [field(1, b"\37") + field(2, POLE[2]), field(1, b"\37") + b"\x63"]
     # 5: a town's bytes
-    orders += [but({1: name}) for name in (b"A\37", b"\177", b" ~")]
+    return orders + [but({1: name}) for name in (b"A\37", b"\177", b" ~")]
+
+
+def dates_and_rows():
     # a date: months and days that there are not, both ends of the years; before the rows
-    orders += [but({2: date(*day)}) for day in ((2026, 13, 1), (2026, 0, 1), (2026, 4, 31), (2026, 2, 29), (2023, 2, 29), (2024, 2, 29))]
-    orders += [but({2: date(*day)}) for day in ((1899, 12, 31), (1900, 1, 1), (2199, 12, 31), (2200, 1, 1))]
-    orders += [but({2: date(2026, 4, day), 3: b"\0"}) for day in (31, 30)]
+    orders = [but({2: date_bytes(*day)}) for day in ((2026, 13, 1), (2026, 0, 1), (2026, 4, 31), (2026, 2, 29), (2023, 2, 29), (2024, 2, 29))]
+    orders += [but({2: date_bytes(*day)}) for day in ((1899, 12, 31), (1900, 1, 1), (2199, 12, 31), (2200, 1, 1))]
+    orders += [but({2: date_bytes(2026, 4, day), 3: b"\0"}) for day in (31, 30)]
     # rows: 1 to 250, the last by 2199-12-31
-    orders += [but({3: bytes([rows])}) for rows in (0, 250, 251)] + [but({2: date(1900, 1, 1), 3: bytes([251])})]
-    orders += [but({2: date(2199, 12, day), 3: bytes([rows])}) for day, rows in ((31, 2), (1, 31), (1, 32))]
+    orders += [but({3: bytes([rows])}) for rows in (0, 250, 251)] + [but({2: date_bytes(1900, 1, 1), 3: bytes([251])})]
+    orders += [but({2: date_bytes(2199, 12, day), 3: bytes([rows])}) for day, rows in ((31, 2), (1, 31), (1, 32))]
     # rows in two bytes, high byte first: 1 to 400, and the last by 2199-12-31 here too; three bytes are no length
     two = lambda rows: struct.pack(">H", rows)
     orders += [but({3: two(rows)}) for rows in (0, 1, 30, 250, 251, 255, 256, 399, 400, 401, 512, 65535)] + [but({3: b"\0\1\0"})]
-    orders += [but({2: date(2198, 11, day), 3: two(400)}) for day in (26, 27, 28)]
-    orders += [but({2: date(2199, 12, day), 3: two(rows)}) for day, rows in ((31, 1), (31, 2), (1, 31), (1, 32))]
+    orders += [but({2: date_bytes(2198, 11, day), 3: two(400)}) for day in (26, 27, 28)]
+    return orders + [but({2: date_bytes(2199, 12, day), 3: two(rows)}) for day, rows in ((31, 1), (31, 2), (1, 31), (1, 32))]
+
+
+def numbers():
     # floats: both ends, the next beyond them, NaN, and -0.0, which is read as 0.0
-    orders += [but({tag: real(sign * x)}) for tag, most in ((4, 90.0), (5, 180.0)) for sign in (1, -1) for x in (most, after(most), 0.0)]
-    orders += [but({tag: real(x)}) for tag in (12, 13) for x in (30.0, after(30.0), 0.0, -0.0, -after(0.0))]
-    orders += [but({tag: real(nan)}) for tag in (4, 5, 12, 13)]
+    orders = [but({tag: real_bytes(sign * x)}) for tag, most in ((4, 90.0), (5, 180.0)) for sign in (1, -1) for x in (most, after(most), 0.0)]
+    orders += [but({tag: real_bytes(x)}) for tag in (12, 13) for x in (30.0, after(30.0), 0.0, -0.0, -after(0.0))]
+    orders += [but({tag: real_bytes(float("nan"))}) for tag in (4, 5, 12, 13)]
     # choices: both ends and their neighbours
     orders += [but({6: bytes([number])}) for number in (12, 13)]
     orders += [but({tag: bytes([number])}) for tag in (7, 8, 9, 10, 15, 17) for number in range(4)] + [but({tag: b"\xff"}) for tag in (15, 17)]
     # own minutes, signed 16-bit, which leave the method's; the interval, which leaves the Isha angle
-    orders += [but({11: minutes(*pair)}) for pair in ((-720, 720), (-721, 0), (0, 721), (32767, 0), (0, -32768), (-1, 2))]
+    orders += [but({11: minutes_bytes(*pair)}) for pair in ((-720, 720), (-721, 0), (0, 721), (32767, 0), (0, -32768), (-1, 2))]
     orders += [but({14: struct.pack(">H", n)}) for n in (0, 1440, 1441)]
     # the clock, signed 16-bit
     orders += [but({16: struct.pack(">h", n)}) for n in (-841, -840, -1, 0, 60, 840, 841, 32767, -32768)]
     # what stands for a missing tag comes from the method, and a tag sets its one field
     orders += [but({6: bytes([method])}) for method in range(12)]
-    orders += [but({6: b"\11", 9: b"\2"}), but({6: b"\13", 11: minutes(-1, 2)})]
-    # a coordinate as on the map: each part's limit and the whole's, either sign, a zero with either; a length that it can't have
-    on_map = lambda *parts: join([(tag, value) for tag, value in pole.items() if tag not in (4, 5)] + [(tag, bytes(part)) for tag, part in parts])
-    orders += [on_map((18, (sign, 21, 25, 21, 3)), (19, (1 - sign, 39, 49, 34, 32))) for sign in (0, 1)]
-    orders += [on_map((18, part), (19, (0, 0, 0, 0, 0))) for part in ((0, 90, 0, 0, 0), (1, 90, 0, 0, 0), (0, 90, 0, 0, 1), (0, 89, 59, 59, 99),
-               (1, 0, 0, 0, 0), (1, 0, 0, 0, 1), (2, 0, 0, 0, 0), (0, 0, 60, 0, 0), (0, 0, 0, 60, 0), (0, 0, 0, 0, 100), (0, 255, 255, 255, 255), (0, 91, 0, 0, 0))]
-    orders += [on_map((18, (0, 0, 0, 0, 0)), (19, part)) for part in ((0, 180, 0, 0, 0), (1, 180, 0, 0, 1), (1, 179, 59, 59, 99), (0, 181, 0, 0, 0), (1, 0, 60, 0, 0))]
-    orders += [whole + field(18, bytes(length)) for length in (0, 4, 6)]
+    return orders + [but({6: b"\11", 9: b"\2"}), but({6: b"\13", 11: minutes_bytes(-1, 2)})]
+
+
+def on_the_map():
+    """Coordinates as on the map, and both forms of one."""
+    # each part's limit and the whole's, either sign, a zero with either; a length that it can't have
+    given = [(tag, value) for tag, value in POLE.items() if tag not in (4, 5)]
+    on_map = lambda *parts: join(given + [(tag, bytes(part)) for tag, part in parts])
+    orders = [on_map((18, (sign, 21, 25, 21, 3)), (19, (1 - sign, 39, 49, 34, 32))) for sign in (0, 1)]
+    latitudes = ((0, 90, 0, 0, 0), (1, 90, 0, 0, 0), (0, 90, 0, 0, 1), (0, 89, 59, 59, 99), (1, 0, 0, 0, 0), (1, 0, 0, 0, 1), (2, 0, 0, 0, 0),
+                 (0, 0, 60, 0, 0), (0, 0, 0, 60, 0), (0, 0, 0, 0, 100), (0, 255, 255, 255, 255), (0, 91, 0, 0, 0))
+    orders += [on_map((18, part), (19, (0, 0, 0, 0, 0))) for part in latitudes]
+    longitudes = ((0, 180, 0, 0, 0), (1, 180, 0, 0, 1), (1, 179, 59, 59, 99), (0, 181, 0, 0, 0), (1, 0, 60, 0, 0))
+    orders += [on_map((18, (0, 0, 0, 0, 0)), (19, part)) for part in longitudes]
+    orders += [WHOLE + field(18, bytes(length)) for length in (0, 4, 6)]
     # one coordinate in each form; both forms, which is 15 whatever stands in them, behind missing tags and before ranges, latitude first
-    north, east = field(18, bytes(5)), field(19, bytes(5))
-    orders += [without(4) + north, without(5) + east, whole + north, whole + east, whole + east + north, whole + field(18, b"\2\x63\x63\x63\x63")]
-    orders += [but({1: b"\37"}) + north, but({4: real(nan)}) + field(18, b"\2\x63\x63\x63\x63"), without(6) + north, without(5) + north, without(4) + east]
+    north, east, wild = field(18, bytes(5)), field(19, bytes(5)), field(18, b"\2\x63\x63\x63\x63")
+    orders += [without(4) + north, without(5) + east, WHOLE + north, WHOLE + east, WHOLE + east + north, WHOLE + wild]
+    orders += [but({1: b"\37"}) + north, but({4: real_bytes(float("nan"))}) + wild, without(6) + north, without(5) + north, without(4) + east]
     # the map form's range is judged in its own tag's turn, behind tag 5's
-    orders += [join([*((t, v) for t, v in pole.items() if t not in (4, 5)), (5, real(181.0)), (18, bytes([0, 91, 0, 0, 0]))])]
-    # a Ramadan sheet: 30 rows in one byte or two, from the shifted 1 Ramadan on; every first day and its neighbours
-    fast = lambda day, rows=b"\x1e", told=b"\x0a\1": but({2: date(*day), 3: rows, 20: told})
-    orders += [fast((2026, 2, day), told=bytes([10, shift])) for day in range(16, 21) for shift in range(3)]
-    orders += [fast(day.timetuple()[:3]) for first in FIRST_DAYS for day in (first - datetime.timedelta(1), first, first + datetime.timedelta(1)) if day <= LAST]
+    return orders + [join([*given, (5, real_bytes(181.0)), (18, bytes([0, 91, 0, 0, 0]))])]
+
+
+def ramadan_sheets():
+    """A Ramadan sheet: 30 rows in one byte or two, from the shifted 1 Ramadan on; every first day and its neighbours."""
+    fast = lambda day, rows=b"\x1e", told=b"\x0a\1": but({2: date_bytes(*day), 3: rows, 20: told})
+    orders = [fast((2026, 2, day), told=bytes([10, shift])) for day in range(16, 21) for shift in range(3)]
+    beside = [first + datetime.timedelta(days) for first in FIRST_DAYS for days in (-1, 0, 1)]
+    orders += [fast(day.timetuple()[:3]) for day in beside if day <= LAST]
     orders += [fast((1900, 1, day), told=bytes([0, shift])) for day in (1, 2, 3, 4) for shift in range(3)]
     orders += [fast((2026, 2, 18), rows) for rows in (b"\x1d", b"\x1f", b"\0\x1e", b"\0\x1d", b"\1\x1e", b"\1", b"\0")]
     orders += [fast((2026, 2, 18), told=bytes(told)) for told in ((0, 1), (30, 1), (31, 1), (255, 1), (0, 3), (30, 255), (31, 3))]
     # rows other than 30 in tag 3's turn, before tags 4 to 20; ranges before the start; both forms before it
     orders += [fast((2026, 2, 17), b"\x1d", b"\x1f\3"), fast((2026, 2, 17), told=b"\x1f\3"), fast((2026, 2, 17)) + field(7, b"\0"),
-               fast((2026, 2, 17)) + field(18, bytes(5)), fast((2026, 2, 30)), fast((2026, 2, 17)) + field(12, real(31.0))]
-    orders += [whole + field(20, bytes(length)) for length in (0, 1, 3)] + [fast((2026, 2, 18)) + field(20, b"\x0a\1")]
-    return orders
+               fast((2026, 2, 17)) + field(18, bytes(5)), fast((2026, 2, 30)), fast((2026, 2, 17)) + field(12, real_bytes(31.0))]
+    return orders + [WHOLE + field(20, bytes(length)) for length in (0, 1, 3)] + [fast((2026, 2, 18)) + field(20, b"\x0a\1")]
 
 
 def main():

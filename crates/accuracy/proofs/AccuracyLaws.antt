@@ -10,7 +10,7 @@
 --   Words         which way the code takes, by the argument's high word
 --   Kernels       what sine and cosine share of all that
 --   Sine, Cosine  the two
-use lib.Dec.{lit≤}
+use Rattle.prelude.proofs.Logic.{lit≤}
 use Rattle.accuracy.specs.Accuracy.{SineAndCosineAreNear, SineAndCosineAreNearer}
 use Rattle.accuracy.proofs.Integers.{wider}
 use Rattle.accuracy.proofs.Sine.{sine-within}

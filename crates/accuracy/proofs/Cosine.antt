@@ -1,19 +1,8 @@
 -- The bound of the cosine, in units of 2 ^ -64. k_cos.c gives 1 - (z / 2 - z z (C1 + z (C2 + ..))) with z = x x, from 0.3 on by way of q, about x / 4.
 -- Roundings put it at most 7,297 units off, below 0.3 at most 3,713. Done exactly it is 1 + z p, and p lies within 2 ^ 10 units of nine terms of the
 -- series, which makes at most 577 units more. Together they are less than 2 ^ 13 units, 2 ^ -51. Assumes nothing.
-use mathlib.Core.Path.{_≡_, refl, sym, _∙_}
-use mathlib.Core.Bool.{Bool, true, false, cond}
-use mathlib.Core.List.{List, [], _∷_}
-use Prim.Native.Nat.{ℕ, _+_, _*_, _^_, _≤_, _<_}
-use native.Mathlib.Nat.{le-trans, mul-pos, one-mul, one-le-pow, pow-zero, pow-succ'}
-use native.Mathlib.Omega.{arith}
-use borrow.Author.Tests.{le-leb}
-use lib.IntN.{ℤ}
-use lib.Dec.{T, ltb, lit<, lit≤}
-use lib.Ieee.{Float, fin, up, down, size, ofBits, neg}
-use lib.Ieee.Fits.{down-pos}
-use Rattle.float64.specs.Words.{highOf}
-use Rattle.float64.proofs.Within.{Within}
+use Rattle.prelude.proofs.Logic.{_≡_, refl, sym, _∙_, Bool, true, false, cond, List, [], _∷_, ℕ, _+_, _*_, _^_, _≤_, _<_, le-trans, mul-pos, one-mul, one-le-pow, pow-zero, pow-succ', arith, T, ltb, lit<, lit≤, ℤ, le-leb}
+use Rattle.float64.proofs.Floats.{Float, fin, up, down, size, ofBits, neg, down-pos, highOf, Within}
 use Rattle.fdlibm_trig.specs.KSin.{half}
 use Rattle.fdlibm_trig.specs.KCos.{one, C1, C2, C3, C4, C5, C6, quarterOf, kernelCosOf}
 use Rattle.fdlibm_trig.specs.KTan as KTan
@@ -22,7 +11,7 @@ use Rattle.accuracy.specs.Accuracy.{top, _!, cosineSum, CosineWithin}
 use Rattle.accuracy.specs.Accuracy as Accuracy
 use Rattle.accuracy.proofs.Algebra.{ring, sorted, square-power}
 use Rattle.accuracy.proofs.Fractions.{Fraction, _⊞_, _⊠_, ⊟_, nought, unity, unit, Close, itself, through, Same, scaled, same-close, written, sum, flip}
-use Rattle.accuracy.proofs.Rounding.{signed, value, Near}
+use Rattle.accuracy.proofs.Rounding.{signed, value, NearFraction}
 use Rattle.accuracy.proofs.Expressions.{Expr, var, const, _⊖_, _⊗_, run, exact, bound, error, fine}
 use Rattle.accuracy.proofs.Series.{from, terms, fall-is, side, side-is}
 use Rattle.accuracy.proofs.Polynomials.{per, horner, rows, near}
@@ -45,14 +34,6 @@ plain = const one unity ⊖ (hz ⊖ r)
 
 abbrev split : Expr Input
 split = const one unity ⊖ var q ⊖ (hz ⊖ var q ⊖ r)
-
-plain-fine : T (fine sizes plain)
-unfolding fine bound error unit ofBits size
-plain-fine = tt
-
-split-fine : T (fine sizes split)
-unfolding fine bound error unit ofBits size
-split-fine = tt
 
 -- ---- either is 1 + z (-1/2 + z (C1 + z ..)), and the series 1 - x ^ 2 / 2! + x ^ 4 / 4! - ..
 abbrev minus-half : Float
@@ -105,15 +86,15 @@ module _ (i : Inputs) where
       let d : Close (exact (of i) plain) (unity ⊞ ⊟ (per half ⊠ square ⊞ ⊟ (square ⊠ (square ⊠ g)))) 0 = sum (itself unity) (flip (sum (itself (per half ⊠ square)) e)) in
       through (written d (factored (per half) (per minus-half) square (square ⊠ g) refl refl refl)) (ten-near i kernel)
 
-  plain-near : Near (run (floats i) plain) (ten kernel square) (2 ^ 13)
-  unfolding bound error unit ofBits size
-  plain-near = run-near i plain plain-fine exact-near (lit≤ tt)
+  plain-near : NearFraction (run (floats i) plain) (ten kernel square) (2 ^ 13)
+  unfolding fine bound error unit ofBits size
+  plain-near = run-near i plain tt exact-near (lit≤ tt)
 
-  split-near : Near (run (floats i) split) (ten kernel square) (2 ^ 13)
-  unfolding bound error unit ofBits size
-  split-near = run-near i split split-fine (through (same-close (split-same unity (exact (of i) hz) (exact (of i) r) (value (i .second)))) exact-near) (lit≤ tt)
+  split-near : NearFraction (run (floats i) split) (ten kernel square) (2 ^ 13)
+  unfolding fine bound error unit ofBits size
+  split-near = run-near i split tt (through (same-close (split-same unity (exact (of i) hz) (exact (of i) r) (value (i .second)))) exact-near) (lit≤ tt)
 
-  tiny-near : Within (i .argument) 1 (2 ^ 26) → Near one (ten kernel square) (2 ^ 13)
+  tiny-near : Within (i .argument) 1 (2 ^ 26) → NearFraction one (ten kernel square) (2 ^ 13)
   unfolding fine bound error unit ofBits size
   tiny-near t = run-near i (const one unity) tt (ten-tiny i kernel t) (lit≤ tt)
 
@@ -141,23 +122,23 @@ module _ (s : Bool) (m : ℕ) (e : ℤ) (h : Within (fin s m e) 3 4) where
   abbrev inputs : Inputs
   inputs = record { argument = fin s m e; second = quarterOf (highOf (fin s m e)); moderately = h; slightly = quarter-within (highOf (fin s m e)) (high-le s m e h) }
 
-  kernel-near : Near (kernelCosOf (fin s m e) KTan.zero) (ten kernel (square inputs)) (2 ^ 13)
+  kernel-near : NearFraction (kernelCosOf (fin s m e) KTan.zero) (ten kernel (square inputs)) (2 ^ 13)
   unfolding kernelCosOf
   kernel-near = by-word (ltb (highOf (fin s m e)) 0x3e40_0000) (high-tiny s m e h) (ltb (highOf (fin s m e)) 0x3fd3_3333)
     where
-      by-word : (b : Bool) → (T b → Within (fin s m e) 1 (2 ^ 26)) → (c : Bool) → Near (cond b one (cond c (run (floats inputs) plain) (run (floats inputs) split))) (ten kernel (square inputs)) (2 ^ 13)
+      by-word : (b : Bool) → (T b → Within (fin s m e) 1 (2 ^ 26)) → (c : Bool) → NearFraction (cond b one (cond c (run (floats inputs) plain) (run (floats inputs) split))) (ten kernel (square inputs)) (2 ^ 13)
       by-word true t c = tiny-near inputs (t tt)
       by-word false t true = plain-near inputs
       by-word false t false = split-near inputs
 
-  cosine-near : Near (cosOf (fin s m e)) (stated (m * up e) (down e) (down-pos e)) (2 ^ 13)
+  cosine-near : NearFraction (cosOf (fin s m e)) (stated (m * up e) (down e) (down-pos e)) (2 ^ 13)
   unfolding cosOf
   cosine-near =
       let n = kernel-near in
       rw (le-leb (highOf (fin s m e)) 0x3fe9_21fb (le-trans (high-le s m e h) (lit≤ tt)))
       (record { real = n .real; close = written (n .close) (series-stated s (m * up e) (down e) (down-pos e)) })
 
-by-sign : (s : Bool) (m : ℕ) (e : ℤ) → Within (fin s m e) 3 4 → Accuracy.Within 51 (cosOf (fin s m e)) (cosineSum (top (fin s m e)) (down e)) (18 ! * down e ^ 18)
+by-sign : (s : Bool) (m : ℕ) (e : ℤ) → Within (fin s m e) 3 4 → Accuracy.WithinSum 51 (cosOf (fin s m e)) (cosineSum (top (fin s m e)) (down e)) (18 ! * down e ^ 18)
 unfolding unit
 by-sign false m e h = within 51 (is-sum false 18 (m * up e) (down e) (from 0 10)) (cosine-near false m e h) (lit≤ tt)
 by-sign true m e h = within 51 (is-sum true 18 (m * up e) (down e) (from 0 10)) (cosine-near true m e h) (lit≤ tt)

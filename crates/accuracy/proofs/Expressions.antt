@@ -1,15 +1,9 @@
 -- How roundings add up: expressions, what they give where each operation is rounded, what they are exactly, and how far the one can be from the
 -- other. Assumes nothing.
-use Prim.Native.Nat.{ℕ, _+_, _*_, _/_, _≤_}
-use native.Mathlib.Nat.{add-comm, lt-div-mul-add}
-use native.Mathlib.Omega.{arith}
-use mathlib.Core.Bool.{Bool, true, _&&_}
-use lib.Dec.{T, leb, leb→le, eqb, eqb→eq}
-use lib.Ieee.{Float, binary64, add, sub, mul}
-use lib.Ieee.Fits.{and-l, and-r}
-use lib.Ieee.Scale.{finite}
+use Rattle.prelude.proofs.Logic.{Bool, true, _&&_, ℕ, _+_, _*_, _/_, _≤_, add-comm, lt-div-mul-add, arith, T, leb, leb→le, eqb, eqb→eq, and-l, and-r}
+use Rattle.float64.proofs.Floats.{Float, binary64, add, sub, mul, finite}
 use Rattle.accuracy.proofs.Fractions.{Fraction, _⊞_, _⊠_, ⊟_, unit, unit-pos, same-close, through, sum, flip, times, times-right, Sized, sized-sum, sized-times}
-use Rattle.accuracy.proofs.Rounding.{value, Near, halfPlace}
+use Rattle.accuracy.proofs.Rounding.{value, NearFraction, halfPlace}
 use Rattle.accuracy.proofs.Operations.{add-near, sub-near, mul-near}
 
 -- variables out of A, and constants with the fraction that each is
@@ -81,7 +75,7 @@ fine s (a ⊗ b) = fine s a && fine s b && leb (productOff (bound s a) (error s 
 
 -- ---- x is at most E units from f, which is at most S units in size
 pub record Known (x : Float) (f : Fraction) (S E : ℕ) : Type 0 where
-  pub near : Near x f E
+  pub near : NearFraction x f E
   pub sized : Sized f S
 
 pub units-enough : (n : ℕ) → n ≤ units n * unit

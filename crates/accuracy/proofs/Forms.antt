@@ -1,14 +1,6 @@
 -- Polynomials in y / w with natural coefficients, compared for y / w from 0 to 9 / 16. With u = 9 w - 16 y, which is no less than 0, both are sums of
 -- products of y and u. Where no coefficient of the one exceeds the other's, the one does not exceed the other. Assumes nothing.
-use mathlib.Core.Path.{_≡_, _∙_}
-use mathlib.Core.Bool.{Bool, true, _&&_}
-use mathlib.Core.List.{List, [], _∷_}
-use Prim.Native.Nat.{ℕ, zero, suc, _+_, _*_, _^_, _≤_}
-use native.Mathlib.Nat.{add-le-add, mul-pos, mul-le-mul-right, mul-le-mul-left, le-of-mul-le-mul-right, one-le-pow, pow-zero, pow-succ'}
-use native.Mathlib.Omega.{arith}
-use lib.Dec.{T, leb, leb→le, lit<}
-use lib.Ieee.Fits.{and-l, and-r}
-use lib.ListN.{length}
+use Rattle.prelude.proofs.Logic.{_≡_, _∙_, Bool, true, _&&_, List, [], _∷_, ℕ, zero, suc, _+_, _*_, _^_, _≤_, add-le-add, mul-pos, mul-le-mul-right, mul-le-mul-left, le-of-mul-le-mul-right, one-le-pow, pow-zero, pow-succ', arith, T, leb, leb→le, lit<, length, and-l, and-r}
 use Rattle.accuracy.proofs.Algebra.{ring, flat, mul-pow}
 
 -- ---- the polynomial with the coefficients that f picks, times w ^ n for n of them

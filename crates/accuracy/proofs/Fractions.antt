@@ -1,12 +1,6 @@
 -- Signed fractions over natural numbers: their sums and products, how far two of them are apart, and how large one is. Nothing here is about
 -- floats. Assumes nothing.
-use mathlib.Core.Path.{_≡_, ap}
-use mathlib.Core.Bool.{Bool, true, false, not}
-use Prim.Native.Nat.{ℕ, _+_, _-_, _*_, _^_, _≤_, _<_}
-use native.Mathlib.Nat.{add-comm, add-zero, zero-add, le-of-lt, add-sub-of-le, mul-comm, mul-pos, mul-le-mul-right, le-of-mul-le-mul-right}
-use native.Mathlib.Omega.{arith}
-use lib.Dec.{T, ltb, ltb→lt, nltb→le, lit<}
-use lib.Pow.{pow-pos}
+use Rattle.prelude.proofs.Logic.{_≡_, ap, Bool, true, false, not, ℕ, _+_, _-_, _*_, _^_, _≤_, _<_, add-comm, add-zero, zero-add, le-of-lt, add-sub-of-le, mul-comm, mul-pos, mul-le-mul-right, le-of-mul-le-mul-right, arith, T, ltb, ltb→lt, nltb→le, lit<, pow-pos}
 use Rattle.accuracy.proofs.Algebra.{ring, flat}
 
 -- the number (more - less) / parts

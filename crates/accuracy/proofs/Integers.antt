@@ -1,18 +1,12 @@
 -- From fractions to the statement: the sides of an alternating sum of integers, and what a float near a fraction is within. Assumes nothing.
-use mathlib.Core.Path.{_≡_, refl, ap}
-use mathlib.Core.Bool.{Bool, true, false, not, _&&_, cond}
-use mathlib.Core.List.{List, [], _∷_}
-use Prim.Native.Nat.{ℕ, zero, suc, _+_, _-_, _*_, _/_, _^_, _≤_}
-use native.Mathlib.Nat.{le-trans, zero-mul, mul-zero, mul-le-mul-right, le-of-mul-le-mul-right, pow-zero, pow-suc}
-use native.Mathlib.Omega.{arith}
-use lib.IntN.{ℤ, pos, negsuc, negℤ, natAbs, pow, one, _-ℤ_, _*ℤ_}
-use lib.Pow.{pow-mono}
-use lib.Ieee.{Float, nan, inf, fin, up}
-use Rattle.integers.specs.Parts.{P, N}
+use Rattle.prelude.proofs.Logic.{_≡_, refl, ap, Bool, true, false, not, _&&_, cond, List, [], _∷_, ℕ, zero, suc, _+_, _-_, _*_, _/_, _^_, _≤_, le-trans, zero-mul, mul-zero, mul-le-mul-right, le-of-mul-le-mul-right, pow-zero, pow-suc, arith, ℤ, pos, negsuc, negℤ, natAbs, _-ℤ_, _*ℤ_, pow-mono}
+use lib.IntN.{pow, one}
+use Rattle.float64.proofs.Floats.{Float, nan, inf, fin, up}
+use Rattle.integers.proofs.Integers.{P, N}
 use Rattle.integers.proofs.Sums as integers
-use Rattle.accuracy.specs.Accuracy.{top, bottom, _!, term, alternating, Within}
+use Rattle.accuracy.specs.Accuracy.{top, bottom, _!, term, alternating, WithinSum}
 use Rattle.accuracy.proofs.Fractions.{Fraction, unit, unit-pos}
-use Rattle.accuracy.proofs.Rounding.{value, Near}
+use Rattle.accuracy.proofs.Rounding.{value, NearFraction}
 use Rattle.accuracy.proofs.Series.{amount}
 
 -- z is p - n
@@ -25,9 +19,7 @@ is-less {x} {y} h k =
     record { balance = omega (arith, h .balance, k .balance, d .0 .balance, d .1 .over, d .1 .under) }
 
 is-times : {x : ℤ} {p n : ℕ} (k : ℕ) → Is x p n → Is (x *ℤ pos k) (p * k) (n * k)
-is-times {x} k h =
-    let t = integers.times x k in
-    record { balance = omega (arith, ap (λ (z : ℕ). z * k) (h .balance), t .over, t .under) }
+is-times {x} k h = record { balance = omega (arith, ap (λ (z : ℕ). z * k) (h .balance), integers.times x k .over, integers.times x k .under) }
 
 -- ---- the integer a, or -a where s, and its powers
 abbrev integer : Bool → ℕ → ℤ
@@ -94,12 +86,12 @@ small (negsuc v) p n m h i j = omega (arith, ap (λ (z : ℕ). unit * z) (h .bal
 counted : (K v E m : ℕ) → unit * v ≤ E * m → E * K ≤ unit → K * v ≤ m
 counted K v E m h l = le-of-mul-le-mul-right {k = unit} (omega (arith, mul-le-mul-right K h, mul-le-mul-right m l)) unit-pos
 
-pub within : (k : ℕ) {y : Float} {f : Fraction} {z : ℤ} {E : ℕ} → Is z (f .more) (f .less) → Near y f E → E * 2 ^ k ≤ unit → Within k y z (f .parts)
+pub within : (k : ℕ) {y : Float} {f : Fraction} {z : ℤ} {E : ℕ} → Is z (f .more) (f .less) → NearFraction y f E → E * 2 ^ k ≤ unit → WithinSum k y z (f .parts)
 within k {y} {f} {z} {E} h n l =
     let v = value y in
     let d = is-less (is-times (f .parts) (is-top y)) (is-times (v .parts) h) in
     let s = small _ (v .more * f .parts + f .less * v .parts) (v .less * f .parts + f .more * v .parts) (E * (f .parts * v .parts)) d (omega (arith, n .close .upper)) (omega (arith, n .close .lower)) in
     record { real = n .real; near = rw (bottom-is y) (counted (2 ^ k) _ E (f .parts * v .parts) s l) }
 
-pub wider : {j k : ℕ} {y : Float} {z : ℤ} {w : ℕ} → j ≤ k → Within k y z w → Within j y z w
+pub wider : {j k : ℕ} {y : Float} {z : ℤ} {w : ℕ} → j ≤ k → WithinSum k y z w → WithinSum j y z w
 wider l h = record { real = h .real; near = le-trans (mul-le-mul-right _ (pow-mono l)) (h .near) }

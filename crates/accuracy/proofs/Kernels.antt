@@ -1,21 +1,10 @@
 -- What the two kernels share: an argument x of at most 3 / 4 in size, a second float q of at most 1 / 4, the square z of x, and a polynomial
 -- 1 + z * (k + z * ..) beside the first ten terms of a series. Assumes nothing.
-use mathlib.Core.Path.{_≡_, refl, sym, _∙_}
-use mathlib.Core.Bool.{Bool, true, false}
-use mathlib.Core.List.{List, _∷_}
-use Prim.Native.Nat.{ℕ, _+_, _*_, _^_, _≤_, _<_}
-use native.Mathlib.Nat.{zero-add, one-mul, mul-one, zero-mul, mul-le-mul, mul-le-mul-right, mul-le-mul-left, le-of-mul-le-mul-right}
-use native.Mathlib.Omega.{arith}
-use lib.IntN.{ℤ}
-use lib.Dec.{T, lit<, lit≤}
-use lib.Ieee.{Float, nan, inf, fin, up, down, size, round}
-use lib.Ieee.Exact.{HasValue}
-use Rattle.float64.specs.Ops.{dec}
-use Rattle.float64.proofs.Limits.{within-limits}
-use Rattle.float64.proofs.Within.{Within}
+use Rattle.prelude.proofs.Logic.{_≡_, refl, sym, _∙_, Bool, true, false, List, _∷_, ℕ, _+_, _*_, _^_, _≤_, _<_, zero-add, one-mul, mul-one, zero-mul, mul-le-mul, mul-le-mul-right, mul-le-mul-left, le-of-mul-le-mul-right, arith, T, lit<, lit≤, ℤ}
+use Rattle.float64.proofs.Floats.{Float, nan, inf, fin, up, down, size, round, HasValue, dec, within-limits, Within}
 use Rattle.accuracy.specs.Accuracy.{Moderate}
 use Rattle.accuracy.proofs.Fractions.{Fraction, _⊞_, _⊠_, unity, unit, Close, itself, looser, turned, through, Same, written, sum, times, beside, Sized, sized-times}
-use Rattle.accuracy.proofs.Rounding.{value, Near}
+use Rattle.accuracy.proofs.Rounding.{value, NearFraction}
 use Rattle.accuracy.proofs.Expressions.{Expr, var, _⊗_, Known, run, exact, units, units-enough, bound, error, fine, known}
 use Rattle.accuracy.proofs.Series.{Term, plus}
 use Rattle.accuracy.proofs.Polynomials.{polynomial, in-front, horner, row, rows, added, taken, near, horner-near}
@@ -112,7 +101,7 @@ module _ (i : Inputs) where
   knows : (e : Expr Input) → T (fine sizes e) → Known (run floats e) (exact of e) (bound sizes e) (error sizes e)
   knows e t = known floats of sizes given e t
 
-  pub run-near : (e : Expr Input) → T (fine sizes e) → {f : Fraction} {E G : ℕ} → Close (exact of e) f E → error sizes e + E ≤ G → Near (run floats e) f G
+  pub run-near : (e : Expr Input) → T (fine sizes e) → {f : Fraction} {E G : ℕ} → Close (exact of e) f E → error sizes e + E ≤ G → NearFraction (run floats e) f G
   run-near e t c l = let k = knows e t in record { real = k .near .real; close = looser l (through (k .near .close) c) }
 
   z-sized : Sized (exact of z) (bound sizes z)

@@ -1,15 +1,6 @@
 -- A kernel's polynomial by Horner's rule, and the series that it stands for, both in the square z of the argument. Assumes nothing.
-use mathlib.Core.Path.{_≡_, refl, ap}
-use mathlib.Core.Bool.{Bool, _&&_}
-use mathlib.Core.List.{List, [], _∷_}
-use Prim.Native.Nat.{ℕ, suc, _+_, _-_, _*_, _/_, _^_, _≤_, _<_}
-use native.Mathlib.Nat.{mul-pos, mul-le-mul-left, sub-add-cancel, one-le-pow, pow-succ'}
-use native.Mathlib.Omega.{arith}
-use lib.Dec.{T}
-use lib.Pow.{pow-pos}
-use lib.Ieee.{Float}
-use lib.Ieee.Fits.{and-l, and-r}
-use lib.ListN.{length}
+use Rattle.prelude.proofs.Logic.{_≡_, refl, ap, Bool, _&&_, List, [], _∷_, ℕ, suc, _+_, _-_, _*_, _/_, _^_, _≤_, _<_, mul-pos, mul-le-mul-left, sub-add-cancel, one-le-pow, pow-succ', arith, T, length, pow-pos, and-l, and-r}
+use Rattle.float64.proofs.Floats.{Float}
 use Rattle.accuracy.proofs.Algebra.{ring, flat}
 use Rattle.accuracy.proofs.Fractions.{Fraction, _⊞_, _⊠_, unit, Close, itself, same-close, through, Same, scaled, written, sum, times, Sized}
 use Rattle.accuracy.proofs.Rounding.{value}

@@ -1,20 +1,7 @@
 -- One rounding: a fraction of up to S units, at most 2 in size, goes to a finite float that is no further off than half of S's last place.
 -- Assumes nothing.
-use mathlib.Core.Path.{_≡_, refl, sym, ap, _∙_, subst}
-use mathlib.Core.Bool.{Bool, true, false, not}
-use Prim.Native.Nat.{ℕ, _+_, _-_, _*_, _/_, _%_, _^_, _≤_, _<_, compare, Ordering, Ordering·lt, Ordering·eq, Ordering·gt}
-use native.Mathlib.Nat.{le-trans, le-of-eq, lt-of-le-of-lt, add-le-add, mul-assoc, mul-pos, mul-le-mul-right, mul-le-mul-left, le-of-mul-le-mul-right, div-add-mod', mod-lt, div-lt-iff-lt-mul}
-use native.Mathlib.Omega.{arith}
-use lib.IntN.{ℤ}
-use lib.Dec.{T, isLe, isEq, leb→le, nleb→lt, eqb→eq, lit<}
-use lib.Pow.{pow-pos, pow-mono, pow-add}
-use lib.Ieee.{Float, nan, inf, fin, binary64, up, down, size, nearest, round}
-use lib.Ieee.Digits.{size-lt, size-le}
-use lib.Ieee.Exact.{HasValue, units-val}
-use lib.Ieee.Fits.{down-pos, round-is}
-use lib.Ieee.Nearest.{closest}
-use lib.Ieee.Order.{drop, kept}
-use lib.Ieee.Scale.{grid, finite}
+use Rattle.prelude.proofs.Logic.{_≡_, refl, sym, ap, _∙_, subst, Bool, true, false, not, ℕ, _+_, _-_, _*_, _/_, _%_, _^_, _≤_, _<_, compare, Ordering, Ordering·lt, Ordering·eq, Ordering·gt, le-trans, le-of-eq, lt-of-le-of-lt, add-le-add, mul-assoc, mul-pos, mul-le-mul-right, mul-le-mul-left, le-of-mul-le-mul-right, div-add-mod', mod-lt, div-lt-iff-lt-mul, arith, T, isLe, isEq, leb→le, nleb→lt, eqb→eq, lit<, ℤ, pow-pos, pow-mono, pow-add}
+use Rattle.float64.proofs.Floats.{Float, nan, inf, fin, binary64, up, down, size, nearest, round, size-lt, size-le, HasValue, units-val, down-pos, round-is, closest, drop, kept, grid, finite}
 use Rattle.accuracy.proofs.Fractions.{Fraction, nought, unit, Close}
 
 -- ---- a float as a fraction
@@ -28,7 +15,7 @@ value (inf s) = nought
 value (fin s m e) = signed s (m * up e) (down e) (down-pos e)
 
 -- x is finite, and at most E units from f
-pub record Near (x : Float) (f : Fraction) (E : ℕ) : Type 0 where
+pub record NearFraction (x : Float) (f : Fraction) (E : ℕ) : Type 0 where
   pub real : T (finite x)
   pub close : Close (value x) f E
 
@@ -101,7 +88,7 @@ module _ (a c S : ℕ) (C : 0 < c) (h : a * unit ≤ S * c) (t : S ≤ 2 * unit)
       under G L U M E e h l = omega (arith, mul-le-mul-right M h, ap (λ (z : ℕ). a * z) e)
 
   -- the float that is that many smallest values
-  of-grid : (s : Bool) (m : ℕ) (e : ℤ) → m * up e * 2 ^ 1074 ≡ grid binary64 a c * down e → Near (fin s m e) (signed s a c C) (halfPlace S)
+  of-grid : (s : Bool) (m : ℕ) (e : ℤ) → m * up e * 2 ^ 1074 ≡ grid binary64 a c * down e → NearFraction (fin s m e) (signed s a c C) (halfPlace S)
   of-grid s m e v = by-sign s (bounds (m * up e) (down e) (2 ^ 1074) (grid binary64 a c) low (halfPlace S) (pow-pos 1010) low-units v grid-near)
     where
       bounds : (A d L G M E : ℕ) → 0 < M → L ≡ unit * M → A * L ≡ G * d → (G * c ≤ a * L + c * (M * E)) × (a * L ≤ G * c + c * (M * E))
@@ -112,14 +99,14 @@ module _ (a c S : ℕ) (C : 0 < c) (h : a * unit ≤ S * c) (t : S ≤ 2 * unit)
       )
 
       by-sign : (s : Bool) → (unit * (m * up e * c) ≤ unit * (a * down e) + halfPlace S * (down e * c)) × (unit * (a * down e) ≤ unit * (m * up e * c) + halfPlace S * (down e * c))
-          → Near (fin s m e) (signed s a c C) (halfPlace S)
+          → NearFraction (fin s m e) (signed s a c C) (halfPlace S)
       by-sign false b = record { real = tt; close = record { upper = omega (arith, b .0); lower = omega (arith, b .1) } }
       by-sign true b = record { real = tt; close = record { upper = omega (arith, b .1); lower = omega (arith, b .0) } }
 
-  of-value : (x : Float) (s : Bool) → HasValue x s (grid binary64 a c) (2 ^ 1074) → Near x (signed s a c C) (halfPlace S)
+  of-value : (x : Float) (s : Bool) → HasValue x s (grid binary64 a c) (2 ^ 1074) → NearFraction x (signed s a c C) (halfPlace S)
   of-value nan s v = absurd v
   of-value (inf t) s v = absurd v
-  of-value (fin t m e) s v = subst (λ (b : Bool). Near (fin b m e) (signed s a c C) (halfPlace S)) (sym (v .0)) (of-grid s m e (v .1))
+  of-value (fin t m e) s v = subst (λ (b : Bool). NearFraction (fin b m e) (signed s a c C) (halfPlace S)) (sym (v .0)) (of-grid s m e (v .1))
 
-  pub round-near : (s : Bool) → Near (round binary64 s a c) (signed s a c C) (halfPlace S)
+  pub round-near : (s : Bool) → NearFraction (round binary64 s a c) (signed s a c C) (halfPlace S)
   round-near s = rw (round-is binary64 s a c) (of-value _ s (units-val binary64 s (kept 53 n c) places no-overflow))

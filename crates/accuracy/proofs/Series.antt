@@ -1,11 +1,5 @@
 -- The statement's sums as polynomials: the terms of the powers k, k + 2, .. n of a / d, in y = a a and w = d d. Assumes nothing.
-use mathlib.Core.Path.{_≡_, refl, ap}
-use mathlib.Core.Bool.{Bool, true, false, not, cond}
-use mathlib.Core.List.{List, [], _∷_}
-use Prim.Native.Nat.{ℕ, zero, suc, _+_, _-_, _*_, _/_, _^_}
-use native.Mathlib.Nat.{pow-succ'}
-use native.Mathlib.Omega.{arith}
-use lib.ListN.{length}
+use Rattle.prelude.proofs.Logic.{_≡_, refl, ap, Bool, true, false, not, cond, List, [], _∷_, ℕ, zero, suc, _+_, _-_, _*_, _/_, _^_, pow-succ', arith, length}
 use Rattle.accuracy.specs.Accuracy.{_! }
 use Rattle.accuracy.proofs.Algebra.{ring, square-power}
 use Rattle.accuracy.proofs.Forms.{poly}

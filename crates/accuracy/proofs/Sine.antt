@@ -1,19 +1,8 @@
 -- The bound of the sine, in units of 2 ^ -64. k_sin.c gives x + z x (S1 + z (S2 + ..)) with z = x x, which roundings put at most 1,493 units off.
 -- Done exactly it is x (1 + z p), and p lies within 2 ^ 13 units of nine terms of the series, which makes at most 3,457 units more. Together they are
 -- less than 2 ^ 13 units, 2 ^ -51. Assumes nothing.
-use mathlib.Core.Path.{_≡_, refl, _∙_}
-use mathlib.Core.Bool.{Bool, true, false, not, cond}
-use mathlib.Core.List.{List, [], _∷_}
-use Prim.Native.Nat.{ℕ, _+_, _*_, _^_, _≤_, _<_}
-use native.Mathlib.Nat.{le-trans, add-comm, mul-pos, one-le-pow, pow-zero, pow-succ'}
-use native.Mathlib.Omega.{arith}
-use borrow.Author.Tests.{le-leb}
-use lib.IntN.{ℤ, pos}
-use lib.Dec.{T, ltb, lit<, lit≤}
-use lib.Ieee.{Float, fin, up, down, size, ofBits}
-use lib.Ieee.Fits.{down-pos}
-use Rattle.float64.specs.Words.{highOf}
-use Rattle.float64.proofs.Within.{Within}
+use Rattle.prelude.proofs.Logic.{_≡_, refl, _∙_, Bool, true, false, not, cond, List, [], _∷_, ℕ, _+_, _*_, _^_, _≤_, _<_, le-trans, add-comm, mul-pos, one-le-pow, pow-zero, pow-succ', arith, T, ltb, lit<, lit≤, ℤ, pos, le-leb}
+use Rattle.float64.proofs.Floats.{Float, fin, up, down, size, ofBits, down-pos, highOf, Within}
 use Rattle.fdlibm_trig.specs.KSin.{S1, S2, S3, S4, S5, S6, kernelSinOf}
 use Rattle.fdlibm_trig.specs.KTan as KTan
 use Rattle.fdlibm_trig.specs.Trig.{sinOf}
@@ -21,7 +10,7 @@ use Rattle.accuracy.specs.Accuracy.{top, _!, sineSum, SineWithin}
 use Rattle.accuracy.specs.Accuracy as Accuracy
 use Rattle.accuracy.proofs.Algebra.{flat, ring, sorted, square-power}
 use Rattle.accuracy.proofs.Fractions.{Fraction, _⊞_, _⊠_, unity, unit, Close, looser, through, Same, scaled, written, times, same-close}
-use Rattle.accuracy.proofs.Rounding.{signed, value, Near}
+use Rattle.accuracy.proofs.Rounding.{signed, value, NearFraction}
 use Rattle.accuracy.proofs.Expressions.{Expr, var, _⊕_, _⊗_, run, exact, units, units-enough, bound, error, fine}
 use Rattle.accuracy.proofs.Forms.{poly}
 use Rattle.accuracy.proofs.Series.{rise, fall, from, terms, fall-is, side, side-is}
@@ -36,10 +25,6 @@ higher = S2 ∷ S3 ∷ S4 ∷ S5 ∷ S6 ∷ []
 
 abbrev code : Expr Input
 code = var x ⊕ z ⊗ var x ⊗ horner z S1 higher
-
-code-fine : T (fine sizes code)
-unfolding fine bound error unit ofBits size
-code-fine = tt
 
 kernel-close : T (near (19 !) (rows (S1 ∷ higher) (terms 19 true (from 3 9))) (2 ^ 13))
 unfolding ofBits
@@ -70,11 +55,11 @@ module _ (a : Float) (h : Within a 3 4) where
   exact-near : Close (exact (of i) code) (series (value a)) (0 + units (sizes x * tenOff kernel))
   exact-near = through (same-close (taken-out (value a) (exact (of i) (horner z S1 higher)))) (times (given i x .sized) (ten-near i kernel) (units-enough (sizes x * tenOff kernel)))
 
-  code-near : Near (run (floats i) code) (series (value a)) (2 ^ 13)
-  unfolding bound error unit ofBits size
-  code-near = run-near i code code-fine exact-near (lit≤ tt)
+  code-near : NearFraction (run (floats i) code) (series (value a)) (2 ^ 13)
+  unfolding fine bound error unit ofBits size
+  code-near = run-near i code tt exact-near (lit≤ tt)
 
-  tiny-near : Within a 1 (2 ^ 26) → Near a (series (value a)) (2 ^ 13)
+  tiny-near : Within a 1 (2 ^ 26) → NearFraction a (series (value a)) (2 ^ 13)
   unfolding unit
   tiny-near t =
       let k = exactly a 1 (2 ^ 26) (2 ^ 38) (lit< tt) (lit≤ tt) t in
@@ -112,22 +97,22 @@ series-stated true A D p =
 
 -- ---- which way sin takes
 module _ (s : Bool) (m : ℕ) (e : ℤ) (h : Within (fin s m e) 3 4) where
-  kernel-near : Near (kernelSinOf (fin s m e) KTan.zero false) (series (value (fin s m e))) (2 ^ 13)
+  kernel-near : NearFraction (kernelSinOf (fin s m e) KTan.zero false) (series (value (fin s m e))) (2 ^ 13)
   unfolding kernelSinOf
   kernel-near = by-word (ltb (highOf (fin s m e)) 0x3e40_0000) (high-tiny s m e h)
     where
-      by-word : (b : Bool) → (T b → Within (fin s m e) 1 (2 ^ 26)) → Near (cond b (fin s m e) (run (floats (i (fin s m e) h)) code)) (series (value (fin s m e))) (2 ^ 13)
+      by-word : (b : Bool) → (T b → Within (fin s m e) 1 (2 ^ 26)) → NearFraction (cond b (fin s m e) (run (floats (i (fin s m e) h)) code)) (series (value (fin s m e))) (2 ^ 13)
       by-word true t = tiny-near (fin s m e) h (t tt)
       by-word false t = code-near (fin s m e) h
 
-  sine-near : Near (sinOf (fin s m e)) (stated s (m * up e) (down e) (down-pos e)) (2 ^ 13)
+  sine-near : NearFraction (sinOf (fin s m e)) (stated s (m * up e) (down e) (down-pos e)) (2 ^ 13)
   unfolding sinOf
   sine-near =
       let n = kernel-near in
       rw (le-leb (highOf (fin s m e)) 0x3fe9_21fb (le-trans (high-le s m e h) (lit≤ tt)))
       (record { real = n .real; close = written (n .close) (series-stated s (m * up e) (down e) (down-pos e)) })
 
-sine-by-sign : (s : Bool) (m : ℕ) (e : ℤ) → Within (fin s m e) 3 4 → Accuracy.Within 51 (sinOf (fin s m e)) (sineSum (top (fin s m e)) (down e)) (19 ! * down e ^ 19)
+sine-by-sign : (s : Bool) (m : ℕ) (e : ℤ) → Within (fin s m e) 3 4 → Accuracy.WithinSum 51 (sinOf (fin s m e)) (sineSum (top (fin s m e)) (down e)) (19 ! * down e ^ 19)
 unfolding unit
 sine-by-sign false m e h = within 51 (is-sum false 19 (m * up e) (down e) (from 1 10)) (sine-near false m e h) (lit≤ tt)
 sine-by-sign true m e h = within 51 (is-sum true 19 (m * up e) (down e) (from 1 10)) (sine-near true m e h) (lit≤ tt)

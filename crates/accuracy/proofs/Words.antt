@@ -1,21 +1,6 @@
 -- What fdlibm's tests on the high word say of the size of an argument up to 3 / 4, and how large `quarterOf` is there. Assumes nothing.
-use mathlib.Core.Path.{_≡_, refl, sym, ap, subst}
-use mathlib.Core.Logic.{inl, inr}
-use Prim.Native.Nat.{ℕ, zero, suc, _+_, _-_, _*_, _/_, _%_, _^_, _≤_, _<_}
-use native.Mathlib.Nat.{le-trans, le-of-eq, lt-of-le-of-lt, lt-of-lt-of-le, mul-le-mul, mul-le-mul-right, eq-or-lt-of-le, le-of-mul-le-mul-right, div-lt-iff-lt-mul, lt-div-mul-add, mod-lt}
-use native.Mathlib.Omega.{arith}
-use mathlib.Core.Bool.{Bool, true, false, cond}
-use lib.IntN.{ℤ}
-use lib.Dec.{T, lit<, lit≤, ltb, ltb→lt}
-use lib.Pow.{pow-pos, pow-mono}
-use lib.Ieee.{Float, nan, inf, fin, binary64, up, down, size, toBits, ofFields, ofBits, odd}
-use lib.Ieee.Digits.{size-lt, size-le}
-use lib.Ieee.Exact.{HasValue, odd-sign}
-use lib.Ieee.Fits.{kept-lt, down-pos}
-use lib.Ieee.Order.{transfer}
-use borrow.Author.Tests.{le-ltb, lt-leb, ne-eqb}
-use Rattle.float64.specs.Words.{highOf}
-use Rattle.float64.proofs.Within.{Within}
+use Rattle.prelude.proofs.Logic.{_≡_, refl, sym, ap, subst, Bool, true, false, cond, inl, inr, ℕ, zero, suc, _+_, _-_, _*_, _/_, _%_, _^_, _≤_, _<_, le-trans, le-of-eq, lt-of-le-of-lt, lt-of-lt-of-le, mul-le-mul, mul-le-mul-right, eq-or-lt-of-le, le-of-mul-le-mul-right, div-lt-iff-lt-mul, lt-div-mul-add, mod-lt, arith, T, lit<, lit≤, ltb, ltb→lt, ℤ, pow-pos, pow-mono, le-ltb, lt-leb, ne-eqb}
+use Rattle.float64.proofs.Floats.{Float, nan, inf, fin, binary64, up, down, size, toBits, ofFields, ofBits, odd, size-lt, size-le, HasValue, odd-sign, kept-lt, down-pos, transfer, highOf, Within}
 use Rattle.fdlibm_trig.specs.KCos.{quarterOf}
 
 -- ---- n smallest values, as a pattern without its sign; a size of 3 / 4 is the pattern 0x3fe8_0000_0000_0000

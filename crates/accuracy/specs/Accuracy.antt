@@ -56,15 +56,15 @@ cosineSum a d = alternating (term 18 a d) (0 ∷ 2 ∷ 4 ∷ 6 ∷ 8 ∷ 10 ∷ 
 
 -- ---- the bounds
 -- y is finite, and within 2 ^ -k of sum / whole: |top / bottom - sum / whole| is at most 1 / 2 ^ k, here times 2 ^ k * whole * bottom
-pub record Within (k : ℕ) (y : Float) (sum : ℤ) (whole : ℕ) : Type 0 where
+pub record WithinSum (k : ℕ) (y : Float) (sum : ℤ) (whole : ℕ) : Type 0 where
   pub real : T (finite y)
   pub near : 2 ^ k * natAbs (top y *ℤ pos whole -ℤ sum *ℤ pos (bottom y)) ≤ whole * bottom y
 
 abbrev pub SineWithin : ℕ → Type 0
-SineWithin k = (x : Float) → Moderate x → Within k (sinOf x) (sineSum (top x) (bottom x)) (19 ! * bottom x ^ 19)
+SineWithin k = (x : Float) → Moderate x → WithinSum k (sinOf x) (sineSum (top x) (bottom x)) (19 ! * bottom x ^ 19)
 
 abbrev pub CosineWithin : ℕ → Type 0
-CosineWithin k = (x : Float) → Moderate x → Within k (cosOf x) (cosineSum (top x) (bottom x)) (18 ! * bottom x ^ 18)
+CosineWithin k = (x : Float) → Moderate x → WithinSum k (cosOf x) (cosineSum (top x) (bottom x)) (18 ! * bottom x ^ 18)
 
 -- what is asked for, and what the same proof gives
 abbrev pub SineAndCosineAreNear : Type 0

@@ -1,19 +1,11 @@
 -- The set bits of a cell are its raised dots, and a row's cells have no other bits. Assumes nothing.
-use native.Mathlib.Omega.{arith}
-use native.Mathlib.Numerals.{add-one}
-use native.Mathlib.Nat.{mod-lt}
-use Prim.Native.Nat.{ℕ, zero, suc, _+_, _*_, _/_, _%_, _<_, _≤_}
-use mathlib.Core.Path.{_≡_, refl, sym, ap, subst, _∙_}
-use mathlib.Core.List.{List, [], _∷_, _++_}
+use Rattle.prelude.proofs.Logic.{_≡_, ap, _∙_, List, [], _∷_, _++_, ℕ, zero, suc, _+_, _*_, _/_, _%_, _<_, _≤_, add-one, arith, ℤ, length, getD, take, replicate}
 use lib.Count.{ones, ones-step}
-use lib.IntN.{ℤ}
-use lib.ListN.{length, getD, take, replicate}
-use lib.Seq.{take-suc}
 use Rattle.calendar.specs.declared.dates.Date.{Date}
 use Rattle.schedule.specs.declared.prayer_times.Worked.{Worked}
 use Rattle.schedule.specs.declared.prayer_times.Worked.the-variants.{Times, Refused}
-use Rattle.braille.specs.Braille.{digits, digitCell, dotsIn, dotsOf, SixDots}
-use Rattle.braille.specs.Cells.{dayCells, timeCells, timesCells, minuteOf, sixOf, refusedCells, rowCells}
+use Rattle.braille.specs.Braille.{digitCells, digitCell, dotsIn, dotsOf, SixDots}
+use Rattle.braille.specs.Cells.{dayCells, timeCells, timesCells, clockMinuteOf, sixOf, refusedCells, rowCells}
 
 -- six sums, one after another
 six-sums : (a b c d e f g p q r s t u : ℕ) → a ≡ p + b → b ≡ q + c → c ≡ r + d → d ≡ s + e → e ≡ t + f → f ≡ u + g → g ≡ 0 → a ≡ p + q + r + s + t + u
@@ -71,12 +63,12 @@ unfolding SixDots
 six-append [] ys a b = b
 six-append (x ∷ xs) ys a b = (a .0, six-append xs ys (a .1) b)
 
-digits-six : SixDots digits
+digits-six : SixDots digitCells
 unfolding SixDots
 digits-six = omega arith
 
 digit-six : (n : ℕ) → digitCell n < 64
-digit-six n = six-at digits (n % 10) digits-six
+digit-six n = six-at digitCells (n % 10) digits-six
 
 blanks-six : (n : ℕ) → SixDots (replicate n 0)
 unfolding SixDots
@@ -90,7 +82,7 @@ day-six date = (omega arith, (digit-six (date .day / 10), (digit-six (date .day)
 time-six : (clock time : ℤ) → SixDots (timeCells clock time)
 unfolding SixDots timeCells
 time-six clock time =
-    let minute = minuteOf clock time in
+    let minute = clockMinuteOf clock time in
     (omega arith, (omega arith, (digit-six (minute / 60 / 10), (digit-six (minute / 60), (digit-six (minute % 60 / 10), (digit-six (minute % 60), tt))))))
 
 times-six : (clock : ℤ) (times : List ℤ) → SixDots (timesCells clock times)

@@ -1,15 +1,10 @@
 -- The minute of the day by the clock, from what is left of both within the day. Assumes nothing.
-use native.Mathlib.Omega.{arith}
-use Prim.Native.Nat.{ℕ, _+_, _*_, _/_, _%_}
-use mathlib.Core.Path.{_≡_, sym, ap, subst, _∙_}
-use lib.IntN.{ℤ, pos, _+ℤ_, _*ℤ_}
-use mir.Syntax.{w32, w64}
-use mir.Val.{SFits}
+use Rattle.prelude.proofs.Logic.{_≡_, sym, ap, subst, _∙_, _+_, _/_, _%_, arith, ℤ, pos, _+ℤ_, _*ℤ_, w32, w64, SFits}
 use Rattle.integers.proofs.QuotientLaws.{floored}
 use Rattle.integers.proofs.Ranges.{range, fits, readBack, read, read-wide}
 use Rattle.integers.proofs.Sums.{sum, times}
 use Rattle.integers.specs.Quotients.{floorQuot, floorRem}
-use Rattle.braille.specs.Cells.{minuteOf}
+use Rattle.braille.specs.Cells.{clockMinuteOf}
 
 -- the clock in seconds, as the machine reads it
 seconds-fit : (clock : ℤ) → SFits w32 clock → SFits w64 (clock *ℤ pos 60)
@@ -25,8 +20,8 @@ module _ (clock : ℤ) (h : SFits w32 clock) where
   pub clock-read : readBack w64 (readBack w64 (readBack w32 clock) *ℤ pos 60) ≡ clock *ℤ pos 60
   clock-read = read w64 (readBack w64 (readBack w32 clock) *ℤ pos 60) clock-fits ∙ ap (λ (z : ℤ). z *ℤ pos 60) (read-wide clock h)
 
-pub minute-within : (clock time : ℤ) → (floorRem time 86400 + floorRem (clock *ℤ pos 60) 86400) / 60 % 1440 ≡ minuteOf clock time
-unfolding minuteOf
+pub minute-within : (clock time : ℤ) → (floorRem time 86400 + floorRem (clock *ℤ pos 60) 86400) / 60 % 1440 ≡ clockMinuteOf clock time
+unfolding clockMinuteOf
 minute-within clock time =
     let x = time +ℤ clock *ℤ pos 60 in
     let q = floorQuot x 60 in

@@ -1,12 +1,5 @@
 -- The cells of a row, one time after another. Assumes nothing.
-use native.Mathlib.Omega.{arith}
-use native.Mathlib.Numerals.{add-one}
-use Prim.Native.Nat.{ℕ, _+_, _*_, _<_, _≤_}
-use mathlib.Core.Path.{_≡_, refl, sym, ap, _∙_}
-use mathlib.Core.List.{List, [], _∷_, _++_, append-assoc, append-nil}
-use lib.IntN.{ℤ}
-use lib.ListN.{length, getD, take, drop, replicate, length-append}
-use lib.Seq.{take-suc, length-take-le}
+use Rattle.prelude.proofs.Logic.{_≡_, refl, sym, ap, _∙_, List, [], _∷_, _++_, append-assoc, append-nil, ℕ, _+_, _*_, _<_, add-one, arith, ℤ, length, getD, take, drop, replicate, length-append, take-suc, length-take-le}
 use Rattle.calendar.specs.declared.dates.Date.{Date}
 use Rattle.schedule.specs.declared.prayer_times.PrayerTimes.{PrayerTimes}
 use Rattle.schedule.specs.declared.prayer_times.Worked.{Worked}

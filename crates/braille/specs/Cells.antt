@@ -22,13 +22,13 @@ unfoldable pub dayCells : Date → List ℕ
 dayCells date = numberSign ∷ twoCells (date .day)
 
 -- the clock's minutes are "added to the UTC instant before the hour is taken; seconds are dropped", down, also before 1970
-unfoldable pub minuteOf : ℤ → ℤ → ℕ
-minuteOf clock time = floorRem (floorQuot (time +ℤ clock *ℤ pos 60) 60) 1440
+unfoldable pub clockMinuteOf : ℤ → ℤ → ℕ
+clockMinuteOf clock time = floorRem (floorQuot (time +ℤ clock *ℤ pos 60) 60) 1440
 
 -- "a blank cell, number sign, hour and minute as four digits"
 unfoldable pub timeCells : ℤ → ℤ → List ℕ
 timeCells clock time =
-    let minute = minuteOf clock time in
+    let minute = clockMinuteOf clock time in
     (blank ∷ numberSign ∷ []) ++ twoCells (minute / 60) ++ twoCells (minute % 60)
 
 -- "six times from Fajr to Isha"

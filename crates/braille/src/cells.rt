@@ -1,7 +1,7 @@
 // The parts of a row: the cells of its day and of a time.
 ghost use mathlib.Core.Path.{_≡_};
 ghost use Rattle.braille.specs.Braille.{digitCell};
-ghost use Rattle.braille.specs.Cells.{dayCells, minuteOf, timeCells};
+ghost use Rattle.braille.specs.Cells.{dayCells, clockMinuteOf, timeCells};
 use calendar::dates::Date;
 use calendar::instants::second_of_day;
 
@@ -27,7 +27,7 @@ pub fn day_cells(date: Date) -> [u8; 3]
 
 // The minute of the day by the clock. Both are taken within the day before they are added, so that no instant and no clock are too large.
 fn minute_of_day(clock: i32, time: i64) -> u64
-    ensures { λ r. ⌜ r ≡ minuteOf clock time ⌝ }
+    ensures { λ r. ⌜ r ≡ clockMinuteOf clock time ⌝ }
 {
     (second_of_day(time) + second_of_day(clock as i64 * 60)) / 60 % 1440
 }

@@ -1,48 +1,26 @@
 -- The date of a day by its number, within the years that a u32 holds. Assumes nothing.
-use mathlib.Core.Path.{_≡_, refl, ap}
-use mathlib.Core.Bool.{Bool, true, false, cond}
-use Prim.Native.Nat.{ℕ, _+_, _-_, _≤_, _<_}
-use native.Mathlib.Omega.{arith}
-use lib.Dec.{leb, ltb, lit<}
-use lib.IntN.{ℤ, pos, _+ℤ_}
-use borrow.Author.Tests.{leb-true, leb-false, le-leb, lt-leb, ltb-true, ltb-false}
-use Rattle.integers.specs.Parts.{P}
+use Rattle.prelude.proofs.Logic.{_≡_, refl, ap, cond, ℕ, _+_, _-_, _≤_, _<_, arith, leb, ℤ, pos, _+ℤ_, leb-true, leb-false, le-leb, lt-leb, cases}
+use Rattle.integers.proofs.Integers.{P}
 use Rattle.calendar.specs.Gregorian.{dateOf, leapOf}
 use Rattle.calendar.specs.Days.{daysInYearOf, daysBeforeYearOf, ofOrdinalOf, yearOf, dateAtOf, dateOfDayOf}
 use Rattle.calendar.specs.Answers.{heldOf, sinceFirstOf, ofDayOf}
+use Rattle.calendar.proofs.Counting.{capped}
 use Rattle.calendar.proofs.MonthTables.{year-short}
-use Rattle.calendar.proofs.YearSteps.{year-step, year-mono, year-found, last-year}
+use Rattle.calendar.proofs.YearSteps.{year-step, year-before, year-found, last-year}
 use Rattle.calendar.proofs.Existing.{count-back}
 use Rattle.calendar.proofs.Neighbours.{year-end}
 use Rattle.calendar.proofs.CalendarLaws.{ordinal-last}
 
 since-small : (z : ℤ) → sinceFirstOf z < 1568704592610
 unfolding sinceFirstOf
-since-small z = by-test (P (z +ℤ pos 719528)) (leb (P (z +ℤ pos 719528)) 1568704592609) refl
-  where
-    by-test : (n : ℕ) (b : Bool) → leb n 1568704592609 ≡ b → cond b n 1568704592609 < 1568704592610
-    by-test n true e = let l = leb-true n 1568704592609 e in omega arith
-    by-test n false e = lit< tt
+since-small z = let c = capped (P (z +ℤ pos 719528)) 1568704592609 in omega arith
 
 -- a day before the year 4294967296 lies in a year that a u32 holds, and a later one does not
 year-held : (n : ℕ) → n < 1568704592610 → yearOf n ≤ 4294967295
-year-held n h = by-test (ltb 4294967295 (yearOf n)) refl
-  where
-    by-test : (b : Bool) → ltb 4294967295 (yearOf n) ≡ b → yearOf n ≤ 4294967295
-    by-test true e =
-        let l = ltb-true 4294967295 (yearOf n) e in let m = year-mono 4294967296 (yearOf n) (omega arith) in let i = year-found n in
-        absurd (omega (arith, last-year))
-    by-test false e = ltb-false 4294967295 (yearOf n) e
+year-held n h = let l = year-before n (yearOf n) 4294967296 (year-found n .from) (omega (arith, last-year)) in omega arith
 
 year-past : (n : ℕ) → 1568704592609 < n → 4294967295 < yearOf n
-year-past n h = by-test (ltb 4294967295 (yearOf n)) refl
-  where
-    by-test : (b : Bool) → ltb 4294967295 (yearOf n) ≡ b → 4294967295 < yearOf n
-    by-test true e = ltb-true 4294967295 (yearOf n) e
-    by-test false e =
-        let l = ltb-false 4294967295 (yearOf n) e in let m = year-mono (yearOf n + 1) 4294967296 (omega arith) in
-        let i = year-found n in
-        absurd (omega (arith, last-year))
+year-past n h = let l = year-before n 4294967296 (yearOf n + 1) (omega (arith, last-year)) (year-found n .before) in omega arith
 
 -- the code's numbers: the n days of a day z, their year y and the days b before it
 module _ (z : ℤ) (n : ℕ) (s : n ≡ sinceFirstOf z) where
@@ -77,12 +55,10 @@ year-at n = refl
 
 pub since-held : (z : ℤ) → dateAtOf (sinceFirstOf z) ≡ ofDayOf z
 unfolding sinceFirstOf heldOf dateOfDayOf
-since-held z = by-test (P (z +ℤ pos 719528)) (leb (P (z +ℤ pos 719528)) 1568704592609) refl
+since-held z = by-test (P (z +ℤ pos 719528))
   where
-    by-test : (n : ℕ) (b : Bool) → leb n 1568704592609 ≡ b → dateAtOf (cond b n 1568704592609) ≡ cond (leb (dateAtOf n .year) 4294967295) (dateAtOf n) (dateOf 4294967295 12 31)
-    by-test n true e =
-        let l = leb-true n 1568704592609 e in let y = year-held n (omega arith) in
-        rw (year-at n, le-leb (yearOf n) 4294967295 y)
-    by-test n false e =
-        let l = leb-false n 1568704592609 e in
-        rw (year-at n, lt-leb (yearOf n) 4294967295 (year-past n l)) last-date
+    by-test : (n : ℕ) → dateAtOf (cond (leb n 1568704592609) n 1568704592609) ≡ cond (leb (dateAtOf n .year) 4294967295) (dateAtOf n) (dateOf 4294967295 12 31)
+    by-test n =
+        cases (leb n 1568704592609)
+        (λ e. let l = leb-true n 1568704592609 e in rw (e, year-at n, le-leb (yearOf n) 4294967295 (year-held n (omega arith))))
+        (λ e. rw (e, year-at n, lt-leb (yearOf n) 4294967295 (year-past n (leb-false n 1568704592609 e))) last-date)

@@ -1,9 +1,5 @@
 -- The day after a date by the step that the code takes, month by month. Assumes nothing.
-use mathlib.Core.Path.{_≡_, sym, ap, _∙_, subst}
-use mathlib.Core.Bool.{true}
-use Prim.Native.Nat.{_+_, _≤_, _<_}
-use native.Mathlib.Omega.{arith}
-use borrow.Author.Tests.{lt-ltb, le-ltb, le-leb, lt-leb}
+use Rattle.prelude.proofs.Logic.{_≡_, sym, ap, subst, true, _+_, _≤_, _<_, arith, lt-ltb, le-ltb, le-leb, lt-leb}
 use Rattle.calendar.specs.Gregorian.{dateOf, leapOf, lengthOf, daysInMonthOf, existsOf, dayAfterOf}
 use Rattle.calendar.specs.Answers.{heldOf, fromOf, tomorrowOf}
 use Rattle.calendar.specs.declared.dates.Date.{Date}

@@ -1,16 +1,12 @@
 -- The neighbours of a date by its day of the year: the way that the code takes is the calendar's rule. Assumes nothing.
-use mathlib.Core.Path.{_≡_, refl, ap, _∙_, subst}
-use mathlib.Core.Bool.{Bool, true, false, cond}
-use Prim.Native.Nat.{_+_, _-_, _≤_, _<_}
-use native.Mathlib.Omega.{arith}
-use borrow.Author.Tests.{le-leb, lt-leb}
-use Rattle.calendar.specs.Gregorian.{dateOf, existsOf, dayAfterOf, dayBeforeOf}
-use Rattle.calendar.specs.Days.{daysInYearOf, daysBeforeYearOf, ordinalOf, ofOrdinalOf}
-use Rattle.calendar.specs.Answers.{heldOf, fromOf, tomorrowOf, yesterdayOf}
+use Rattle.prelude.proofs.Logic.{_≡_, refl, ap, _∙_, subst, true, _+_, _-_, _≤_, _<_, arith, le-leb, cases}
+use Rattle.calendar.specs.Gregorian.{dateOf, existsOf, dayBeforeOf}
+use Rattle.calendar.specs.Days.{daysBeforeYearOf, ordinalOf, ofOrdinalOf}
+use Rattle.calendar.specs.Answers.{heldOf, fromOf, yesterdayOf}
 use Rattle.calendar.specs.declared.dates.Date.{Date}
 use Rattle.calendar.proofs.YearSteps.{year-step}
 use Rattle.calendar.proofs.Existing.{ordinal-within, ordinal-forth, count-injective}
-use Rattle.calendar.proofs.Neighbours.{after, before, new-year, year-end}
+use Rattle.calendar.proofs.Neighbours.{before, new-year, year-end}
 use Rattle.calendar.proofs.CalendarLaws.{ordinal-first, ordinal-last}
 
 -- ---- what is answered of a date, and of its neighbours
@@ -25,19 +21,11 @@ from-there d e h l = rw h (held e l)
 -- only a date that does not exist has the ordinal 0
 there : (d : Date) → (ordinalOf d ≡ 0 → ⊥) → existsOf d ≡ true
 unfolding ordinalOf
-there d h = by-test (existsOf d) refl
-  where
-    by-test : (b : Bool) → existsOf d ≡ b → existsOf d ≡ true
-    by-test true e = e
-    by-test false e = absurd (h (rw e))
+there d h = cases (existsOf d) (λ e. e) (λ e. absurd (h (rw e)))
 
 pub from-none : (d e : Date) → ordinalOf d ≡ 0 → d ≡ fromOf d e
 unfolding fromOf
-from-none d e h = by-test (existsOf d) refl
-  where
-    by-test : (b : Bool) → existsOf d ≡ b → d ≡ cond b (heldOf e) d
-    by-test true t = let o = ordinal-within d t in absurd (omega arith)
-    by-test false t = refl
+from-none d e h = cases (existsOf d) (λ t. let o = ordinal-within d t in absurd (omega arith)) (λ t. rw t)
 
 module _ (d : Date) (some : ordinalOf d ≡ 0 → ⊥) (small : d .year ≤ 4294967295) where
   here : existsOf d ≡ true

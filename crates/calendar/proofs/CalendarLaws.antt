@@ -1,17 +1,7 @@
 -- The laws of the calendar: the formulas of Days give the calendar of Gregorian, in every year. Assumes nothing.
 -- That the rows are the running sums of the months' lengths is before-january, before-next and before-december of MonthTables.
-use mathlib.Core.Path.{_≡_, refl, sym, ap, _∙_}
-use mathlib.Core.Bool.{true}
-use Prim.Native.Nat.{ℕ, _+_, _-_, _%_, _≤_, _<_}
-use native.Mathlib.Omega.{arith}
-use lib.IntN.{ℤ, pos, negsuc, _+ℤ_, +ℤ-idr}
-use lib.Dec.{lit<}
-use lib.Signed.{leZ}
-use Rattle.integers.specs.Parts.{P, N}
-use Rattle.integers.proofs.PartsLaws.{same, not-negative}
-use Rattle.integers.proofs.Sums.{sum, difference}
-use Rattle.integers.proofs.OrderLaws.{le-yes, to-le}
-use Rattle.integers.proofs.QuotientLaws.{floored}
+use Rattle.prelude.proofs.Logic.{_≡_, refl, sym, ap, _∙_, true, ℕ, _+_, _%_, _≤_, arith, lit<, ℤ, pos, negsuc, _+ℤ_, +ℤ-idr, leZ}
+use Rattle.integers.proofs.Integers.{P, N, same, not-negative, sum, difference, le-yes, to-le, floored}
 use Rattle.calendar.specs.Gregorian.{dateOf, leapOf, existsOf, dayAfterOf, dayBeforeOf}
 use Rattle.calendar.specs.Days.{daysInYearOf, ordinalOf, daysBeforeYearOf, dayNumberOf, dateAtOf, dateOfDayOf, weekdayOf}
 use Rattle.calendar.specs.declared.dates.Date.{Date}
@@ -45,9 +35,7 @@ numbered : (d : Date) (z : ℤ) → P z + 719529 ≡ N z + count d → dayNumber
 numbered d z h = let b = balance d in same (dayNumberOf d) z (omega arith)
 
 pub day-after : (d : Date) → existsOf d ≡ true → dayNumberOf (dayAfterOf d) ≡ dayNumberOf d +ℤ pos 1
-day-after d h =
-    let f = after d h in let b = balance d in let s = sum (dayNumberOf d) (pos 1) in
-    numbered (dayAfterOf d) (dayNumberOf d +ℤ pos 1) (omega arith)
+day-after d h = numbered (dayAfterOf d) (dayNumberOf d +ℤ pos 1) (omega (arith, after d h, balance d, sum (dayNumberOf d) (pos 1)))
 
 pub day-after-exists : (d : Date) → existsOf d ≡ true → existsOf (dayAfterOf d) ≡ true
 day-after-exists d h = after d h .there
@@ -84,8 +72,7 @@ pub number-of-date : (z : ℤ) → leZ (negsuc 719527) z ≡ true → dayNumberO
 unfolding dateOfDayOf
 number-of-date z h =
     let l = le-yes (negsuc 719527) z h in let s = sum z (pos 719528) in let n = not-negative (z +ℤ pos 719528) (omega arith) in
-    let c = count-forth (P (z +ℤ pos 719528)) in
-    numbered (dateAtOf (P (z +ℤ pos 719528))) z (omega arith)
+    numbered (dateAtOf (P (z +ℤ pos 719528))) z (omega (arith, count-forth (P (z +ℤ pos 719528))))
 
 pub date-of-day-exists : (z : ℤ) → existsOf (dateOfDayOf z) ≡ true
 unfolding dateOfDayOf
@@ -111,9 +98,7 @@ weekday-zero = refl
 
 pub weekday-next : (z : ℤ) → weekdayOf (z +ℤ pos 1) ≡ (weekdayOf z + 1) % 7
 unfolding weekdayOf
-weekday-next z =
-    let f = floored z 7 (lit< tt) in let g = floored (z +ℤ pos 1) 7 (lit< tt) in let s = sum z (pos 1) in
-    omega arith
+weekday-next z = omega (arith, floored z 7 (lit< tt), floored (z +ℤ pos 1) 7 (lit< tt), sum z (pos 1))
 
 ends : (daysBeforeYearOf 1899 ≡ 693596) × (daysBeforeYearOf 2201 ≡ 803899)
 unfolding daysBeforeYearOf

@@ -1,11 +1,5 @@
 -- A rule for each number below n, by one test that antt computes. Assumes nothing.
-use mathlib.Core.Path.{_≡_, subst, sym}
-use mathlib.Core.Bool.{Bool, true, false, not, _&&_, _||_}
-use mathlib.Core.Logic.{⊎-elim}
-use Prim.Native.Nat.{ℕ, zero, suc, _<_}
-use native.Mathlib.Nat.{eq-or-lt-of-le, le-of-suc-le-suc, not-suc-le-zero}
-use lib.Dec.{T}
-use lib.Ieee.Fits.{and-l, and-r}
+use Rattle.prelude.proofs.Logic.{_≡_, subst, sym, Bool, true, false, not, _&&_, _||_, ⊎-elim, ℕ, zero, suc, _<_, eq-or-lt-of-le, le-of-suc-le-suc, not-suc-le-zero, T, and-l, and-r}
 
 -- the test f passes at each number below n
 abbrev pub below : (ℕ → Bool) → ℕ → Bool

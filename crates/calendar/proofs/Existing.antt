@@ -1,10 +1,5 @@
 -- Dates that exist: their place in the year and in the count of days, and the way back from there. Assumes nothing.
-use mathlib.Core.Path.{_≡_, refl, sym, ap, _∙_, subst}
-use mathlib.Core.Bool.{Bool, true, false, cond, _&&_, true≢false}
-use Prim.Native.Nat.{ℕ, _+_, _-_, _≤_, _<_}
-use native.Mathlib.Omega.{arith}
-use lib.Dec.{leb, lit≤}
-use borrow.Author.Tests.{leb-true, le-leb}
+use Rattle.prelude.proofs.Logic.{_≡_, refl, sym, ap, _∙_, subst, true, and-eq-true-iff, ℕ, _+_, _-_, _≤_, _<_, arith, leb, lit≤, leb-true, le-leb, cases}
 use Rattle.calendar.specs.Gregorian.{dateOf, leapOf, daysInMonthOf, existsOf}
 use Rattle.calendar.specs.Days.{daysBeforeOf, daysInYearOf, ordinalOf, ofOrdinalOf, monthOf, daysBeforeYearOf, dateAtOf, yearOf}
 use Rattle.calendar.specs.declared.dates.Date.{Date}
@@ -18,12 +13,9 @@ pub record Exists (d : Date) : Type 0 where
 
 pub exists-yes : (d : Date) → existsOf d ≡ true → Exists d
 unfolding existsOf
-exists-yes d h = by-test (leb 1 (d .day)) (leb (d .day) (daysInMonthOf (d .year) (d .month))) refl refl h
-  where
-    by-test : (a b : Bool) → leb 1 (d .day) ≡ a → leb (d .day) (daysInMonthOf (d .year) (d .month)) ≡ b → a && b ≡ true → Exists d
-    by-test true true p q h = record { from = leb-true 1 (d .day) p; to = leb-true (d .day) (daysInMonthOf (d .year) (d .month)) q }
-    by-test true false p q h = absurd (true≢false (sym h))
-    by-test false b p q h = absurd (true≢false (sym h))
+exists-yes d h =
+    let t = and-eq-true-iff (leb 1 (d .day)) (leb (d .day) (daysInMonthOf (d .year) (d .month))) .0 h in
+    record { from = leb-true 1 (d .day) (t .0); to = leb-true (d .day) (daysInMonthOf (d .year) (d .month)) (t .1) }
 
 pub to-exists : (d : Date) → Exists d → existsOf d ≡ true
 unfolding existsOf
@@ -49,13 +41,8 @@ ordinal-within d h =
 
 pub ordinal-short : (d : Date) → ordinalOf d ≤ 366
 unfolding ordinalOf
-ordinal-short d = by-test (existsOf d) refl
-  where
-    by-test : (b : Bool) → existsOf d ≡ b → cond b (daysBeforeOf (leapOf (d .year)) (d .month) + d .day) 0 ≤ 366
-    by-test true h =
-        let e = exists-yes d h in let m = month-of-date d e in
-        omega (arith, year-short (leapOf (d .year)))
-    by-test false h = lit≤ tt
+ordinal-short d =
+    cases (existsOf d) (λ h. let e = exists-yes d h in let m = month-of-date d e in rw h (omega (arith, year-short (leapOf (d .year))))) (λ h. rw h (lit≤ tt))
 
 -- a date is found again by its year and its ordinal
 pub ordinal-back : (d : Date) → existsOf d ≡ true → ofOrdinalOf (d .year) (ordinalOf d) ≡ d

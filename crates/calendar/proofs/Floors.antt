@@ -1,20 +1,6 @@
 -- A quotient toward zero, less one where the remainder is negative, is the quotient rounded down; and it fits. Assumes nothing.
-use mathlib.Core.Path.{_≡_, refl, sym, ap, subst, _∙_}
-use Prim.Native.Nat.{ℕ, suc, _+_, _-_, _*_, _/_, _%_, _^_, _<_}
-use mathlib.Core.Bool.{Bool, true, false}
-use native.Mathlib.Omega.{arith}
-use lib.Dec.{lit<}
-use lib.IntN.{ℤ, pos, negsuc, negℤ, _-ℤ_}
-use lib.Signed.{ltZ, quotZ, remZ}
-use mir.Syntax.{w64}
-use mir.Val.{SFits}
-use Rattle.integers.specs.Parts.{P, N}
-use Rattle.integers.proofs.PartsLaws.{same}
-use Rattle.integers.proofs.Sums.{flip, difference}
-use Rattle.integers.specs.Quotients.{floorQuot}
-use Rattle.integers.proofs.QuotientLaws.{divided}
-use Rattle.integers.proofs.OrderLaws.{lt-yes, lt-no}
-use Rattle.integers.proofs.Ranges.{readBack, read, range, fits}
+use Rattle.prelude.proofs.Logic.{_≡_, refl, sym, ap, subst, _∙_, true, false, suc, _/_, _%_, arith, lit<, ℤ, pos, negsuc, negℤ, _-ℤ_, ltZ, quotZ, remZ, w64, SFits}
+use Rattle.integers.proofs.Integers.{same, flip, difference, floorQuot, divided, lt-yes, lt-no, readBack, read, range, fits}
 
 abbrev day : ℤ
 day = pos 86400
@@ -30,8 +16,7 @@ level : (t : ℤ) → ltZ (remZ t day) (pos 0) ≡ false → quotZ t day ≡ flo
 level (pos n) h = refl
 level (negsuc n) h =
     let f = flip (pos (suc n / 86400)) in let g = flip (pos (suc n % 86400)) in
-    let l = lt-no (negℤ (pos (suc n % 86400))) (pos 0) h in
-    same (negℤ (pos (suc n / 86400))) (negsuc (n / 86400)) (omega arith)
+    same (negℤ (pos (suc n / 86400))) (negsuc (n / 86400)) (omega (arith, lt-no (negℤ (pos (suc n % 86400))) (pos 0) h))
 
 -- the same at the values that the machine reads back
 module _ (t : ℤ) (h : SFits w64 t) where

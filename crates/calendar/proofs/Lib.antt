@@ -3,11 +3,13 @@ pub mod ByMonth
 pub mod ByOrdinal
 pub mod CalendarLaws
 pub mod Computed
+pub mod Counting
 pub mod Existing
 pub mod Floors
 pub mod Machine
 pub mod MonthTables
 pub mod Neighbours
+pub mod Promises
 pub mod Remainders
 pub mod Successors
 pub mod YearSteps

@@ -1,23 +1,9 @@
 -- Day numbers as i64: no step of the code loses anything. Assumes nothing.
-use mathlib.Core.Path.{_≡_, sym, ap, _∙_}
-use mathlib.Core.Bool.{true, false}
-use Prim.Native.Nat.{ℕ, _+_, _-_, _%_, _^_, _≤_, _<_}
-use native.Mathlib.Omega.{arith}
-use lib.Dec.{T, lit<}
-use lib.IntN.{ℤ, pos, negsuc, natAbs, _+ℤ_, _-ℤ_}
-use lib.Signed.{ltZ, quotZ, remZ, nonNeg}
-use mir.Syntax.{w64, w32}
-use mir.Val.{SFits, Fits, toZ}
-use borrow.Author.Tests.{le-leb, lt-leb}
-use Rattle.integers.specs.Parts.{P, N}
-use Rattle.integers.proofs.PartsLaws.{natural, not-negative, not-positive}
-use Rattle.integers.proofs.Sums.{sum, difference}
-use Rattle.integers.proofs.OrderLaws.{lt-yes, lt-no}
-use Rattle.integers.proofs.QuotientLaws.{divided, floored}
-use Rattle.integers.proofs.Ranges.{range, fits, readBack, read}
-use Rattle.calendar.specs.Days.{dayNumberOf, weekdayOf}
-use Rattle.calendar.specs.Answers.{sinceFirstOf}
+use Rattle.prelude.proofs.Logic.{_≡_, ap, _∙_, ℕ, _+_, _%_, _^_, _≤_, _<_, arith, T, lit<, ℤ, pos, natAbs, _+ℤ_, _-ℤ_, quotZ, remZ, nonNeg, w64, w32, SFits, Fits, toZ}
+use Rattle.integers.proofs.Integers.{P, N, natural, sum, difference, divided, floored, range, fits, readBack, read}
+use Rattle.calendar.specs.Days.{daysBeforeYearOf, ordinalOf, dayNumberOf, weekdayOf}
 use Rattle.calendar.specs.declared.dates.Date.{Date}
+use Rattle.calendar.proofs.Counting.{less-fits, number-read}
 use Rattle.calendar.proofs.YearSteps.{year-mono, last-year}
 use Rattle.calendar.proofs.Existing.{count, ordinal-short}
 
@@ -25,73 +11,17 @@ use Rattle.calendar.proofs.Existing.{count, ordinal-short}
 pub count-room : (d : Date) → d .year ≤ 4294967295 → count d < 1568704592977
 count-room d h = let o = ordinal-short d in let m = year-mono (d .year) 4294967296 (omega arith) in omega (arith, last-year)
 
-module _ (d : Date) (small : d .year ≤ 4294967295) (n : ℕ) (e : n ≡ count d) where
-  pub count-fits : n < 2 ^ 63
+-- by the days b before its year and the day o of the year
+module _ (d : Date) (small : d .year ≤ 4294967295) (b o : ℕ) (e : b ≡ daysBeforeYearOf (d .year)) (f : o ≡ ordinalOf d) where
+  pub count-fits : b + o < 2 ^ 62
   count-fits = let r = count-room d small in omega arith
 
-  number : ℤ
-  number = pos n -ℤ pos 719529
+  pub number-fits : SFits w64 (toZ w64 (b + o) -ℤ pos 719529)
+  number-fits = less-fits 719529 (b + o) (lit< tt) count-fits
 
-  seen : toZ w64 n ≡ pos n
-  seen = read w64 (pos n) (record { sfits = count-fits })
-
-  number-fits : SFits w64 number
-  unfolding number
-  number-fits = let s = difference (pos n) (pos 719529) in let c = count-fits in fits w64 number (omega (arith, s .0, s .1)) (omega (arith, s .0, s .1))
-
-  pub less-fits : SFits w64 (toZ w64 n -ℤ pos 719529)
-  unfolding number
-  less-fits = rw seen number-fits
-
-  pub number-read : readBack w64 (toZ w64 n -ℤ pos 719529) ≡ dayNumberOf d
-  unfolding number dayNumberOf
-  number-read = rw (seen, read w64 number number-fits) (ap (λ (k : ℕ). pos k -ℤ pos 719529) e)
-
--- ---- the day of a number
-module _ (z : ℤ) (f : SFits w64 z) where
-  same-read : readBack w64 z ≡ z
-  same-read = read w64 z f
-
-  pub first-below : ltZ (readBack w64 z) (negsuc 719527) ≡ true → 0 ≡ sinceFirstOf z
-  unfolding sinceFirstOf
-  first-below t =
-      let l = lt-yes z (negsuc 719527) (ap (λ (x : ℤ). ltZ x (negsuc 719527)) (sym same-read) ∙ t) in let s = sum z (pos 719528) in
-      let n = not-positive (z +ℤ pos 719528) (omega arith) in
-      rw n
-
-  pub first-above : ltZ (pos 1568703873081) (readBack w64 z) ≡ true → 1568704592609 ≡ sinceFirstOf z
-  unfolding sinceFirstOf
-  first-above t =
-      let l = lt-yes (pos 1568703873081) z (ap (ltZ (pos 1568703873081)) (sym same-read) ∙ t) in let s = sum z (pos 719528) in
-      rw (lt-leb (P (z +ℤ pos 719528)) 1568704592609 (omega arith))
-
-  module _ (a : ltZ (readBack w64 z) (negsuc 719527) ≡ false) (b : ltZ (pos 1568703873081) (readBack w64 z) ≡ false) where
-    low : N z ≤ P z + 719528
-    low = let l = lt-no z (negsuc 719527) (ap (λ (x : ℤ). ltZ x (negsuc 719527)) (sym same-read) ∙ a) in omega arith
-
-    high : P z ≤ N z + 1568703873081
-    high = let l = lt-no (pos 1568703873081) z (ap (ltZ (pos 1568703873081)) (sym same-read) ∙ b) in omega arith
-
-    within : P (z +ℤ pos 719528) ≤ 1568704592609
-    within = let s = sum z (pos 719528) in let l = low in let h = high in let n = not-negative (z +ℤ pos 719528) (omega arith) in omega arith
-
-    sum-fits : SFits w64 (z +ℤ pos 719528)
-    sum-fits = let s = sum z (pos 719528) in let r = range w64 z f in let w = within in fits w64 (z +ℤ pos 719528) (omega arith) (omega arith)
-
-    pub shift-fits : SFits w64 (readBack w64 z +ℤ pos 719528)
-    shift-fits = rw same-read sum-fits
-
-    shifted : readBack w64 (readBack w64 z +ℤ pos 719528) ≡ pos (P (z +ℤ pos 719528))
-    shifted =
-        let s = sum z (pos 719528) in let l = low in
-        rw same-read (read w64 (z +ℤ pos 719528) sum-fits ∙ natural (z +ℤ pos 719528) (omega arith))
-
-    pub shift-cast : T (nonNeg (readBack w64 (readBack w64 z +ℤ pos 719528))) × Fits w64 (natAbs (readBack w64 (readBack w64 z +ℤ pos 719528)))
-    shift-cast = let w = within in rw shifted (tt, record { fits = omega arith })
-
-    pub first-within : natAbs (readBack w64 (readBack w64 z +ℤ pos 719528)) ≡ sinceFirstOf z
-    unfolding sinceFirstOf
-    first-within = rw (shifted, le-leb (P (z +ℤ pos 719528)) 1568704592609 within)
+  pub number-is : readBack w64 (toZ w64 (b + o) -ℤ pos 719529) ≡ dayNumberOf d
+  unfolding dayNumberOf
+  number-is = rw (← e, ← f) (number-read 719529 (b + o) (lit< tt) count-fits)
 
 -- ---- a row's day
 module _ (d : Date) (small : d .year ≤ 4294967295) (z : ℤ) (f : SFits w64 z) (e : z ≡ dayNumberOf d) (row : ℕ) (r : row < 2 ^ 32) where
@@ -146,7 +76,4 @@ module _ (z : ℤ) (f : SFits w64 z) where
 
   pub week-day : natAbs (readBack w64 (remZ (readBack w64 (readBack w64 (remZ (readBack w64 z) (pos 7)) +ℤ pos 11)) (pos 7))) ≡ weekdayOf z
   unfolding weekdayOf k
-  week-day =
-      let d = divided z 7 (lit< tt) in let g = floored z 7 (lit< tt) in let s = sum (remZ z (pos 7)) (pos 11) in
-      let e = ap N eleven in
-      rw day (omega arith)
+  week-day = rw day (omega (arith, divided z 7 (lit< tt), floored z 7 (lit< tt), sum (remZ z (pos 7)) (pos 11), ap N eleven))

@@ -1,12 +1,5 @@
 -- The rows of days before each month, held to the months' lengths by tests that antt computes. Assumes nothing.
-use mathlib.Core.Path.{_≡_, refl, sym}
-use mathlib.Core.Bool.{Bool, true, false, cond, not, _&&_, _||_}
-use Prim.Native.Nat.{ℕ, zero, suc, _+_, _-_, _/_, _≤_, _<_}
-use native.Mathlib.Omega.{arith}
-use borrow.Author.Tests.{ltb-true, ltb-false}
-use lib.Dec.{T, eqb, ltb, leb, eqb→eq, leb→le, ltb→lt, le→leb, lit≤}
-use lib.ListN.{List·getD-eq-default}
-use lib.Ieee.Fits.{and-l, and-r}
+use Rattle.prelude.proofs.Logic.{_≡_, refl, sym, Bool, true, false, cond, not, _&&_, _||_, ℕ, zero, suc, _+_, _-_, _/_, _≤_, _<_, arith, T, eqb, ltb, leb, eqb→eq, leb→le, ltb→lt, le→leb, lit≤, List·getD-eq-default, ltb-true, ltb-false, and-l, and-r, cases, Others, beyond}
 use Rattle.calendar.specs.Gregorian.{lengthsOf, lengthOf}
 use Rattle.calendar.specs.Days.{monthStartsOf, daysBeforeOf, countBelow, monthOf}
 use Rattle.calendar.proofs.Computed.{below, at, tested, when}
@@ -56,20 +49,11 @@ unfolding daysBeforeOf
 before-past true m h = let k : 12 ≤ m - 1 = omega arith in List·getD-eq-default (monthStartsOf true) 0 k
 before-past false m h = let k : 12 ≤ m - 1 = omega arith in List·getD-eq-default (monthStartsOf false) 0 k
 
-above : (m k : ℕ) → k ≤ m → (m ≡ k → ⊥) → k < m
-above m k h n = omega arith
-
 -- a month that is none of the twelve
-pub before-other : (leap : Bool) (m : ℕ) → (m ≡ 1 → ⊥) → (m ≡ 2 → ⊥) → (m ≡ 3 → ⊥) → (m ≡ 4 → ⊥) → (m ≡ 5 → ⊥) → (m ≡ 6 → ⊥) → (m ≡ 7 → ⊥) → (m ≡ 8 → ⊥) → (m ≡ 9 → ⊥) → (m ≡ 10 → ⊥) → (m ≡ 11 → ⊥) → (m ≡ 12 → ⊥) →
-    0 ≡ daysBeforeOf leap m
-before-other leap m n1 n2 n3 n4 n5 n6 n7 n8 n9 n10 n11 n12 = by-test (ltb 12 m) refl (ltb 0 m) refl
-  where
-    by-test : (a : Bool) → ltb 12 m ≡ a → (b : Bool) → ltb 0 m ≡ b → 0 ≡ daysBeforeOf leap m
-    by-test true p b q = sym (before-past leap m (ltb-true 12 m p))
-    by-test false p false q = let z : m ≡ 0 = omega (arith, ltb-false 0 m q) in rw z (sym (before-none leap))
-    by-test false p true q =
-        let h : 12 < m = above m 12 (above m 11 (above m 10 (above m 9 (above m 8 (above m 7 (above m 6 (above m 5 (above m 4 (above m 3 (above m 2 (above m 1 (ltb-true 0 m q) n1) n2) n3) n4) n5) n6) n7) n8) n9) n10) n11) n12 in
-        absurd (omega (arith, ltb-false 12 m p))
+pub before-other : (leap : Bool) (m : ℕ) → Others m 1 12 → 0 ≡ daysBeforeOf leap m
+before-other leap m o =
+    cases (ltb 0 m) (λ q. sym (before-past leap m (beyond m 1 12 (ltb-true 0 m q) o)))
+    (λ q. let z : m ≡ 0 = let l = ltb-false 0 m q in omega arith in rw z (sym (before-none leap)))
 
 someTest : Bool → ℕ → Bool
 someTest leap k = ltb 0 (lengthOf leap (k + 1))
@@ -91,18 +75,15 @@ monthTest leap m = leb (lengthOf leap m) 31 && leb (daysBeforeOf leap m + length
 pub month : (leap : Bool) (m d : ℕ) → 0 < d → d ≤ lengthOf leap m → Month leap m
 unfolding monthTest daysBeforeOf lengthOf
 month leap zero d p q = absurd (omega arith)
-month leap (suc k) d p q = by-test (ltb 12 (suc k)) refl
-  where
-    by-test : (b : Bool) → ltb 12 (suc k) ≡ b → Month leap (suc k)
-    by-test true e = let z = length-past leap (suc k) (ltb-true 12 (suc k) e) in absurd (omega arith)
-    by-test false e =
-        let l = ltb-false 12 (suc k) e in let t = tested monthTest 13 tt leap (suc k) (omega arith) in
-        record {
-          first = omega arith;
-          last = l;
-          long = leb→le _ _ (and-l (leb (lengthOf leap (suc k)) 31) _ t);
-          room = leb→le _ _ (and-r (leb (lengthOf leap (suc k)) 31) _ t);
-        }
+month leap (suc k) d p q =
+    cases (ltb 12 (suc k)) (λ e. let z = length-past leap (suc k) (ltb-true 12 (suc k) e) in absurd (omega arith))
+    (λ e. let l = ltb-false 12 (suc k) e in let t = tested monthTest 13 tt leap (suc k) (omega arith) in
+    record {
+      first = omega arith;
+      last = l;
+      long = leb→le _ _ (and-l (leb (lengthOf leap (suc k)) 31) _ t);
+      room = leb→le _ _ (and-r (leb (lengthOf leap (suc k)) 31) _ t);
+    })
 
 -- ---- the month of an ordinal
 -- a date's month is the one that its ordinal names

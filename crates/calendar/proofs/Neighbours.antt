@@ -1,10 +1,5 @@
 -- The day after a date that exists, by the calendar's rule, exists and counts one more; the day before it one less. Assumes nothing.
-use mathlib.Core.Path.{_≡_, refl, ap, _∙_, subst}
-use mathlib.Core.Bool.{Bool, true, false, cond}
-use Prim.Native.Nat.{ℕ, _+_, _-_, _<_}
-use native.Mathlib.Omega.{arith}
-use lib.Dec.{ltb}
-use borrow.Author.Tests.{ltb-true, ltb-false}
+use Rattle.prelude.proofs.Logic.{_≡_, refl, sym, ap, _∙_, subst, true, ℕ, _+_, _-_, _<_, arith, ltb, ltb-true, ltb-false, cases}
 use Rattle.calendar.specs.Gregorian.{dateOf, leapOf, lengthOf, daysInMonthOf, existsOf, dayAfterOf, dayBeforeOf}
 use Rattle.calendar.specs.Days.{daysInYearOf}
 use Rattle.calendar.specs.declared.dates.Date.{Date}
@@ -21,8 +16,7 @@ pub record Follows (d e : Date) : Type 0 where
 next-month : (y m : ℕ) → 0 < m → m < 12 → (d : ℕ) → d ≡ daysInMonthOf y m → existsOf (dateOf y m d) ≡ true → Follows (dateOf y m d) (dateOf y (m + 1) 1)
 next-month y m p q d e h =
     let t = to-exists (dateOf y (m + 1) 1) (record { from = omega arith; to = length-some (leapOf y) m q }) in
-    let r = before-next (leapOf y) m q in
-    record { there = t; number = omega (arith, ordinal-is (dateOf y m d) h, ordinal-is (dateOf y (m + 1) 1) t) }
+    record { there = t; number = omega (arith, before-next (leapOf y) m q, ordinal-is (dateOf y m d) h, ordinal-is (dateOf y (m + 1) 1) t) }
 
 pub new-year : (y : ℕ) → existsOf (dateOf y 1 1) ≡ true
 new-year y = to-exists (dateOf y 1 1) (record { from = omega arith; to = omega (arith, length-january (leapOf y)) })
@@ -42,23 +36,18 @@ next-year y =
 
 pub after : (d : Date) → existsOf d ≡ true → Follows d (dayAfterOf d)
 unfolding dayAfterOf
-after d h = by-test (ltb (d .day) (daysInMonthOf (d .year) (d .month))) refl (ltb (d .month) 12) refl
-  where
-    by-test : (a : Bool) → ltb (d .day) (daysInMonthOf (d .year) (d .month)) ≡ a → (b : Bool) → ltb (d .month) 12 ≡ b →
-        Follows d (cond a (dateOf (d .year) (d .month) (d .day + 1)) (cond b (dateOf (d .year) (d .month + 1) 1) (dateOf (d .year + 1) 1 1)))
-    by-test true p b q =
-        let e = dateOf (d .year) (d .month) (d .day + 1) in let l = ltb-true (d .day) (daysInMonthOf (d .year) (d .month)) p in
-        let t = to-exists e (record { from = omega arith; to = omega arith }) in
-        record { there = t; number = omega (arith, ordinal-is d h, ordinal-is e t) }
-    by-test false p true q =
-        let x = exists-yes d h in let m = month-of-date d x in let l = ltb-false (d .day) (daysInMonthOf (d .year) (d .month)) p in
-        next-month (d .year) (d .month) (m .first) (ltb-true (d .month) 12 q) (d .day) (omega arith) h
-    by-test false p false q =
-        let x = exists-yes d h in let m = month-of-date d x in let l = ltb-false (d .day) (daysInMonthOf (d .year) (d .month)) p in
-        let m12 : d .month ≡ 12 = omega (arith, ltb-false (d .month) 12 q) in
-        let d31 : d .day ≡ 31 = let n = length-december (leapOf (d .year)) in let k = ap (lengthOf (leapOf (d .year))) m12 in omega arith in
-        let e : dateOf (d .year) 12 31 ≡ d = rw (m12, d31) in
-        subst (λ (f : Date). Follows f (dateOf (d .year + 1) 1 1)) e (next-year (d .year))
+after d h =
+    let days = daysInMonthOf (d .year) (d .month) in let m = month-of-date d (exists-yes d h) in let x = exists-yes d h in
+    cases (ltb (d .day) days)
+    (λ p. let e = dateOf (d .year) (d .month) (d .day + 1) in let l = ltb-true (d .day) days p in
+    let t = to-exists e (record { from = omega arith; to = omega arith }) in
+    rw p (record { there = t; number = omega (arith, ordinal-is d h, ordinal-is e t) }))
+    (λ p. let l = ltb-false (d .day) days p in
+    cases (ltb (d .month) 12) (λ q. rw (p, q) (next-month (d .year) (d .month) (m .first) (ltb-true (d .month) 12 q) (d .day) (omega arith) h))
+    (λ q. let m12 : d .month ≡ 12 = omega (arith, ltb-false (d .month) 12 q) in
+    let d31 : d .day ≡ 31 = omega (arith, length-december (leapOf (d .year)), ap (lengthOf (leapOf (d .year))) m12) in
+    let e : dateOf (d .year) 12 31 ≡ d = rw (m12, d31) in
+    rw (p, q) (subst (λ (f : Date). Follows f (dateOf (d .year + 1) 1 1)) e (next-year (d .year)))))
 
 -- d exists and e follows it
 pub record Precedes (d e : Date) : Type 0 where
@@ -67,34 +56,25 @@ pub record Precedes (d e : Date) : Type 0 where
 
 pub before : (d : Date) → existsOf d ≡ true → (d ≡ dateOf 0 1 1 → ⊥) → Precedes (dayBeforeOf d) d
 unfolding dayBeforeOf
-before d h n = by-test (ltb 1 (d .day)) refl (ltb 1 (d .month)) refl (ltb 0 (d .year)) refl
-  where
-    by-test : (a : Bool) → ltb 1 (d .day) ≡ a → (b : Bool) → ltb 1 (d .month) ≡ b → (c : Bool) → ltb 0 (d .year) ≡ c →
-        Precedes
-        (cond a (dateOf (d .year) (d .month) (d .day - 1))
-        (cond b (dateOf (d .year) (d .month - 1) (daysInMonthOf (d .year) (d .month - 1))) (cond c (dateOf (d .year - 1) 12 31) d)))
-        d
-    by-test true p b q c r =
-        let e = dateOf (d .year) (d .month) (d .day - 1) in let x = exists-yes d h in let l = ltb-true 1 (d .day) p in
-        let t = to-exists e (record { from = omega arith; to = omega arith }) in
-        record { there = t; next = record { there = h; number = omega (arith, ordinal-is d h, ordinal-is e t) } }
-    by-test false p true q c r =
-        let x = exists-yes d h in let m = month-of-date d x in let l = ltb-true 1 (d .month) q in
-        let days = daysInMonthOf (d .year) (d .month - 1) in let e = dateOf (d .year) (d .month - 1) days in
-        let k : d .month - 2 + 1 ≡ d .month - 1 = omega arith in
-        let s : 0 < days = subst (λ (i : ℕ). 0 < daysInMonthOf (d .year) i) k (length-some (leapOf (d .year)) (d .month - 2) (omega arith)) in
-        let t = to-exists e (record { from = s; to = omega arith }) in let i : d .month - 1 + 1 ≡ d .month = omega arith in
-        let j : 1 ≡ d .day = omega (arith, ltb-false 1 (d .day) p) in
-        let f : dateOf (d .year) (d .month - 1 + 1) 1 ≡ d = rw (i, j) in
-        record { there = t; next = subst (λ (g : Date). Follows e g) f (next-month (d .year) (d .month - 1) (omega arith) (omega arith) days refl t) }
-    by-test false p false q true r =
-        let x = exists-yes d h in let m = month-of-date d x in let l = ltb-true 0 (d .year) r in
-        let i : 1 ≡ d .month = omega (arith, ltb-false 1 (d .month) q) in
-        let j : 1 ≡ d .day = omega (arith, ltb-false 1 (d .day) p) in let y : d .year - 1 + 1 ≡ d .year = omega arith in
-        let f : dateOf (d .year - 1 + 1) 1 1 ≡ d = ap (λ (z : ℕ). dateOf z 1 1) y ∙ ap (λ (z : ℕ). dateOf (d .year) z 1) i ∙ ap (dateOf (d .year) (d .month)) j in
-        record { there = year-end (d .year - 1); next = subst (λ (g : Date). Follows (dateOf (d .year - 1) 12 31) g) f (next-year (d .year - 1)) }
-    by-test false p false q false r =
-        let x = exists-yes d h in let m = month-of-date d x in let y : d .year ≡ 0 = omega (arith, ltb-false 0 (d .year) r) in
-        let i : d .month ≡ 1 = omega (arith, ltb-false 1 (d .month) q) in
-        let j : d .day ≡ 1 = omega (arith, ltb-false 1 (d .day) p) in
-        absurd (n (ap (λ (z : ℕ). dateOf z (d .month) (d .day)) y ∙ ap (λ (z : ℕ). dateOf 0 z (d .day)) i ∙ ap (dateOf 0 1) j))
+before d h n =
+    let x = exists-yes d h in let m = month-of-date d x in
+    cases (ltb 1 (d .day))
+    (λ p. let e = dateOf (d .year) (d .month) (d .day - 1) in let l = ltb-true 1 (d .day) p in
+    let t = to-exists e (record { from = omega arith; to = omega arith }) in
+    rw p (record { there = t; next = record { there = h; number = omega (arith, ordinal-is d h, ordinal-is e t) } }))
+    (λ p. let j : 1 ≡ d .day = omega (arith, ltb-false 1 (d .day) p) in
+    cases (ltb 1 (d .month))
+    (λ q. let l = ltb-true 1 (d .month) q in
+    let days = daysInMonthOf (d .year) (d .month - 1) in let e = dateOf (d .year) (d .month - 1) days in
+    let k : d .month - 2 + 1 ≡ d .month - 1 = omega arith in
+    let s : 0 < days = subst (λ (i : ℕ). 0 < daysInMonthOf (d .year) i) k (length-some (leapOf (d .year)) (d .month - 2) (omega arith)) in
+    let t = to-exists e (record { from = s; to = omega arith }) in let i : d .month - 1 + 1 ≡ d .month = omega arith in
+    let f : dateOf (d .year) (d .month - 1 + 1) 1 ≡ d = rw (i, j) in
+    rw (p, q) (record { there = t; next = subst (λ (g : Date). Follows e g) f (next-month (d .year) (d .month - 1) (omega arith) (omega arith) days refl t) }))
+    (λ q. let i : 1 ≡ d .month = omega (arith, ltb-false 1 (d .month) q) in
+    cases (ltb 0 (d .year))
+    (λ r. let l = ltb-true 0 (d .year) r in let y : d .year - 1 + 1 ≡ d .year = omega arith in
+    let f : dateOf (d .year - 1 + 1) 1 1 ≡ d = ap (λ (z : ℕ). dateOf z 1 1) y ∙ ap (λ (z : ℕ). dateOf (d .year) z 1) i ∙ ap (dateOf (d .year) (d .month)) j in
+    rw (p, q, r) (record { there = year-end (d .year - 1); next = subst (λ (g : Date). Follows (dateOf (d .year - 1) 12 31) g) f (next-year (d .year - 1)) }))
+    (λ r. let y : d .year ≡ 0 = omega (arith, ltb-false 0 (d .year) r) in
+    absurd (n (ap (λ (z : ℕ). dateOf z (d .month) (d .day)) y ∙ ap (λ (z : ℕ). dateOf 0 z (d .day)) (sym i) ∙ ap (dateOf 0 1) (sym j))))))

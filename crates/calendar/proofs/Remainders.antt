@@ -1,13 +1,6 @@
 -- A second of the day by an instant's parts. Assumes nothing.
-use mathlib.Core.Path.{_≡_, refl}
-use mathlib.Core.Bool.{true, false}
-use Prim.Native.Nat.{_+_, _-_, _%_}
-use native.Mathlib.Omega.{arith}
-use lib.IntN.{ℤ, pos, negsuc}
-use lib.Signed.{ltZ}
-use Rattle.integers.specs.Parts.{P, N}
-use Rattle.integers.specs.Quotients.{floorRem}
-use Rattle.integers.proofs.OrderLaws.{lt-yes, lt-no}
+use Rattle.prelude.proofs.Logic.{_≡_, refl, true, false, _+_, _-_, _%_, arith, ℤ, pos, negsuc, ltZ}
+use Rattle.integers.proofs.Integers.{P, N, floorRem, lt-yes, lt-no}
 
 pub before-zero : (t : ℤ) → ltZ t (pos 0) ≡ true → (1 + (N t - 1) ≡ N t) × (86399 - (N t - 1) % 86400 ≡ floorRem t 86400)
 before-zero (pos n) h = absurd (omega (arith, lt-yes (pos n) (pos 0) h))

@@ -1,11 +1,5 @@
 -- The days before and after a date, and the dates of rows, where every year fits a u32. Assumes nothing.
-use mathlib.Core.Path.{_≡_, sym, ap, subst, _∙_}
-use mathlib.Core.Bool.{Bool, true, false, cond}
-use Prim.Native.Nat.{ℕ, _+_, _≤_}
-use native.Mathlib.Omega.{arith}
-use lib.Dec.{ltb}
-use lib.IntN.{pos, _+ℤ_}
-use borrow.Author.Tests.{le-leb}
+use Rattle.prelude.proofs.Logic.{_≡_, sym, ap, subst, _∙_, true, ℕ, _+_, _≤_, arith, ltb, pos, _+ℤ_, le-leb, either}
 use Rattle.calendar.specs.Answers.{heldOf, fromOf, tomorrowOf, yesterdayOf, rowDateOf}
 use Rattle.calendar.specs.Days.{dayNumberOf, dateOfDayOf}
 use Rattle.calendar.specs.Gregorian.{dateOf, existsOf, daysInMonthOf, dayAfterOf, dayBeforeOf}
@@ -15,15 +9,12 @@ use Rattle.calendar.proofs.CalendarLaws.{before-after, day-after-exists
 -- a year holds, or the next one begins
 pub year-after : (d : Date) → (d .year ≤ dayAfterOf d .year) × (dayAfterOf d .year ≤ d .year + 1)
 unfolding dayAfterOf
-year-after d = by-tests (ltb (d .day) (daysInMonthOf (d .year) (d .month))) (ltb (d .month) 12)
+year-after d =
+    either near (ltb (d .day) (daysInMonthOf (d .year) (d .month))) (omega arith, omega arith)
+    (either near (ltb (d .month) 12) (omega arith, omega arith) (omega arith, omega arith))
   where
-    after : Bool → Bool → Date
-    after b c = cond b (dateOf (d .year) (d .month) (d .day + 1)) (cond c (dateOf (d .year) (d .month + 1) 1) (dateOf (d .year + 1) 1 1))
-
-    by-tests : (b c : Bool) → (d .year ≤ after b c .year) × (after b c .year ≤ d .year + 1)
-    by-tests true c = (omega arith, omega arith)
-    by-tests false true = (omega arith, omega arith)
-    by-tests false false = (omega arith, omega arith)
+    near : Date → Type 0
+    near e = (d .year ≤ e .year) × (e .year ≤ d .year + 1)
 
 pub from-is : (d e : Date) → existsOf d ≡ true → e .year ≤ 4294967295 → fromOf d e ≡ e
 unfolding fromOf heldOf

@@ -1,12 +1,5 @@
 -- Years follow each other without a gap in the count of days, and the quotient finds the year of each day. Assumes nothing.
-use mathlib.Core.Path.{_≡_, refl, sym, subst}
-use mathlib.Core.Bool.{Bool, true, false, cond, not, _&&_, _||_}
-use Prim.Native.Nat.{ℕ, zero, suc, _+_, _-_, _*_, _/_, _%_, _≤_, _<_}
-use native.Mathlib.Nat.{zero-add, le-refl, le-antisymm}
-use native.Mathlib.Numerals.{add-one}
-use native.Mathlib.Omega.{arith}
-use lib.Dec.{T, ltb, leb}
-use borrow.Author.Tests.{eqb-true, eqb-false, ltb-true, ltb-false, leb-true, leb-false}
+use Rattle.prelude.proofs.Logic.{_≡_, refl, sym, subst, Bool, true, false, cond, not, _&&_, _||_, ℕ, zero, suc, _+_, _-_, _*_, _/_, _%_, _≤_, _<_, zero-add, le-refl, lt-of-not-le, add-one, arith, T, leb, eqb-true, eqb-false, leb-true, leb-false, cases}
 use Rattle.calendar.specs.Gregorian.{divides, leapOf}
 use Rattle.calendar.specs.Days.{daysInYearOf, daysBeforeYearOf, lastBy, yearOf}
 
@@ -98,11 +91,9 @@ spread y = shares ((y + 3) / 4) ((y + 99) / 100) ((y + 399) / 400) (omega arith)
 last-found : (y n : ℕ) → n < daysBeforeYearOf (y + 1) → In n (lastBy y n)
 unfolding lastBy
 last-found zero n h = record { from = omega (arith, year-zero); before = h }
-last-found (suc y) n h = by-test (leb (daysBeforeYearOf (suc y)) n) refl (last-found y n)
-  where
-    by-test : (b : Bool) → leb (daysBeforeYearOf (suc y)) n ≡ b → (n < daysBeforeYearOf (y + 1) → In n (lastBy y n)) → In n (cond b (suc y) (lastBy y n))
-    by-test true e earlier = record { from = leb-true (daysBeforeYearOf (suc y)) n e; before = h }
-    by-test false e earlier = earlier (rw (add-one y) (leb-false (daysBeforeYearOf (suc y)) n e))
+last-found (suc y) n h =
+    cases (leb (daysBeforeYearOf (suc y)) n) (λ e. rw e (record { from = leb-true (daysBeforeYearOf (suc y)) n e; before = h }))
+    (λ e. rw e (last-found y n (rw (add-one y) (leb-false (daysBeforeYearOf (suc y)) n e))))
 
 not-short : (y : ℕ) → 365 * y ≤ daysBeforeYearOf y
 unfolding daysBeforeYearOf
@@ -112,22 +103,17 @@ pub year-found : (n : ℕ) → In n (yearOf n)
 unfolding yearOf
 year-found n = last-found (n / 365) n (omega (arith, not-short (n / 365 + 1)))
 
+-- a year that begins by a day comes before one that begins after it
+pub year-before : (n y z : ℕ) → daysBeforeYearOf y ≤ n → n < daysBeforeYearOf z → y < z
+year-before n y z p q = lt-of-not-le (λ l. let m = year-mono z y l in omega arith)
+
 pub year-unique : (n y z : ℕ) → In n y → In n z → y ≡ z
-year-unique n y z p q = le-antisymm (no-later y z p q) (no-later z y q p)
-  where
-    no-later : (y z : ℕ) → In n y → In n z → y ≤ z
-    no-later y z p q = by-test (ltb z y) refl
-      where
-        by-test : (b : Bool) → ltb z y ≡ b → y ≤ z
-        by-test true h = let l = ltb-true z y h in let m = year-mono (z + 1) y (omega arith) in absurd (omega arith)
-        by-test false h = ltb-false z y h
+year-unique n y z p q = let l = year-before n y (z + 1) (p .from) (q .before) in let m = year-before n z (y + 1) (q .from) (p .before) in omega arith
 
 -- ---- the quotient is the year or the one after it
 module _ (n guess : ℕ) (is : guess ≡ (n + 1) * 400 / 146097) where
   pub guess-right : daysBeforeYearOf guess ≤ n → guess ≡ yearOf n
-  guess-right h =
-      let s = spread (guess + 1) in
-      year-unique n guess (yearOf n) (record { from = h; before = omega (arith, s .0) }) (year-found n)
+  guess-right h = year-unique n guess (yearOf n) (record { from = h; before = omega (arith, spread (guess + 1) .0) }) (year-found n)
 
   pub guess-over : n < daysBeforeYearOf guess → guess - 1 ≡ yearOf n
   guess-over h =

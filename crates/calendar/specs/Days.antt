@@ -1,5 +1,5 @@
--- Days by number: of the year from 1 on, from 1970-01-01 on, and of the week. That these formulas are the calendar of Gregorian is proved in
--- proofs/CalendarLaws.
+-- Days by number: of the year from 1 on, from 1970-01-01 on, and of the week. That these formulas are the calendar of Gregorian is stated
+-- in Promises.
 use Prim.Native.Nat.{ℕ, zero, suc, _+_, _-_, _*_, _/_, _%_}
 use mathlib.Core.Bool.{Bool, cond}
 use mathlib.Core.List.{List, [], _∷_}

@@ -1,4 +1,4 @@
--- The Gregorian calendar by its rule, for every year from 0 on, also before it was decreed. A reader need believe no more than this file.
+-- The Gregorian calendar by its rule, for every year from 0 on, also before it was decreed. Promises holds the numbers of Days to it.
 use Prim.Native.Nat.{ℕ, _+_, _-_, _%_}
 use mathlib.Core.Bool.{Bool, cond, not, _&&_, _||_}
 use mathlib.Core.List.{List, [], _∷_}

@@ -1,3 +1,4 @@
 pub mod Gregorian
 pub mod Days
 pub mod Answers
+pub mod Promises

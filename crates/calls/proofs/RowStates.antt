@@ -1,8 +1,5 @@
 -- The suns that roll over the rows of an order are those of each row's date, and give each row's day. Assumes nothing.
-use native.Mathlib.Omega.{arith}
-use Prim.Native.Nat.{ℕ, _+_, _<_}
-use mathlib.Core.Path.{_≡_, sym, ap, _∙_}
-use borrow.Author.Tests.{lt-ltb}
+use Rattle.prelude.proofs.Logic.{_≡_, sym, ap, _∙_, ℕ, _+_, _<_, arith, lt-ltb}
 use Rattle.calendar.specs.Answers.{rowDateOf}
 use Rattle.calendar.specs.declared.dates.Date.{Date}
 use Rattle.calendar.proofs.CalendarLaws.{row-first}
@@ -23,8 +20,8 @@ abbrev pub stateOf : Order → ℕ → RowSuns
 stateOf o k = rowSunsOf (rowDateOf (o .date) k) (o .coordinates) (o .parameters) (o .rules)
 
 -- the day that suns give
-abbrev pub workedFrom : Order → RowSuns → Worked
-workedFrom o suns =
+abbrev pub workedBySuns : Order → RowSuns → Worked
+workedBySuns o suns =
     workedOf (rowSunsHoursOf (o .coordinates .latitude) (o .parameters) (o .rules) suns) (suns .date) (seasonOf (o .coordinates .latitude) (o .rules)) (o .parameters)
 
 module _ (o : Order) (a : Accepted o) where
@@ -46,7 +43,7 @@ module _ (o : Order) (a : Accepted o) where
         rolls (rowDateOf d k) (o .coordinates) (o .parameters) (o .rules) (r .there) (omega arith)
         ∙ ap (λ (x : Date). rowSunsOf x (o .coordinates) (o .parameters) (o .rules)) (sym (row-tomorrow d there k (omega arith)))
 
-    pub state-worked : workedFrom o (stateOf o k) ≡ workRowOf o k
+    pub state-worked : workedBySuns o (stateOf o k) ≡ workRowOf o k
     unfolding workRowOf rowSunsOf
     state-worked =
         simp (lt-ltb k (o .rows) h)

@@ -1,13 +1,6 @@
 -- The whole-number arithmetic that decides on a candidate s.
-use Prim.Native.Nat.{ℕ, _+_, _-_, _*_, _/_, _%_, _^_, _≤_, _<_}
-use mathlib.Core.Path.{_≡_, refl, ap}
-use mathlib.Core.Bool.{Bool, true, false}
-use native.Mathlib.Nat.{div-add-mod', mul-le-mul}
-use native.Mathlib.Omega.{arith}
-use lib.Dec.{leb, ltb, lit≤}
-use borrow.Author.Tests.{leb-true, leb-false, ltb-true, ltb-false}
-use mir.Val.{boolByte}
-use Rattle.fdlibm_root.specs.Near.{Near}
+use Rattle.prelude.proofs.Logic.{_≡_, refl, ap, Bool, true, false, ℕ, _+_, _-_, _*_, _/_, _%_, _^_, _≤_, _<_, div-add-mod', mul-le-mul, arith, leb, ltb, lit≤, leb-true, leb-false, ltb-true, ltb-false, boolByte}
+use Rattle.fdlibm_root.specs.Near.{NearRoot}
 
 -- ---- the products of the two halves of an s of 53 digits fit
 pub record Halves (a b : ℕ) : Type 0 where
@@ -63,23 +56,23 @@ pub down-fits : (s z : ℕ) → 2 ^ 55 + 2 < z + 3 * s → z ≤ 2 ^ 55 + 3 * s 
 down-fits s z lo hi = omega (arith, bit (leb (z + s) (2 ^ 55)))
 
 module _ (m s z : ℕ) (is : z + s * s ≡ 2 ^ 55 + m * 2 ^ 52) (lo : 2 ^ 55 + 2 < z + 3 * s) (hi : z ≤ 2 ^ 55 + 3 * s + 2) where
-  below : (t : ℕ) → t + 1 ≡ s → z + s ≤ 2 ^ 55 → Near m t
+  below : (t : ℕ) → t + 1 ≡ s → z + s ≤ 2 ^ 55 → NearRoot m t
   below t less far =
       let square : (t + 1) * (t + 1) ≡ s * s = ap (λ (x : ℕ). x * x) less in
       record { low = omega arith; high = omega arith }
 
-  above : (t : ℕ) → t ≡ s + 1 → 2 ^ 55 + s < z → Near m t
+  above : (t : ℕ) → t ≡ s + 1 → 2 ^ 55 + s < z → NearRoot m t
   above t more far =
       let square : t * t ≡ (s + 1) * (s + 1) = ap (λ (x : ℕ). x * x) more in
       record { low = omega arith; high = omega arith }
 
-  same : (t : ℕ) → t ≡ s → 2 ^ 55 < z + s → z ≤ 2 ^ 55 + s → Near m t
+  same : (t : ℕ) → t ≡ s → 2 ^ 55 < z + s → z ≤ 2 ^ 55 + s → NearRoot m t
   same t e p q = rw e (record { low = omega arith; high = omega arith })
 
-  pub chosen : Near m (s + boolByte (ltb (2 ^ 55 + s) z) - boolByte (leb (z + s) (2 ^ 55)))
+  pub chosen : NearRoot m (s + boolByte (ltb (2 ^ 55 + s) z) - boolByte (leb (z + s) (2 ^ 55)))
   chosen = go (ltb (2 ^ 55 + s) z) (leb (z + s) (2 ^ 55)) refl refl
     where
-      go : (up down : Bool) → ltb (2 ^ 55 + s) z ≡ up → leb (z + s) (2 ^ 55) ≡ down → Near m (s + boolByte up - boolByte down)
+      go : (up down : Bool) → ltb (2 ^ 55 + s) z ≡ up → leb (z + s) (2 ^ 55) ≡ down → NearRoot m (s + boolByte up - boolByte down)
       go true true p q = absurd (clash (ltb-true (2 ^ 55 + s) z p) (leb-true (z + s) (2 ^ 55) q))
         where
           clash : 2 ^ 55 + s < z → z + s ≤ 2 ^ 55 → ⊥

@@ -1,27 +1,17 @@
 -- The root is the float that is nearest to the exact root: specs/Nearest.antt's `SqrtIsNearest`.
 -- In units of w = 2 ^ j the exact root is √M and the float is s, where s * (s - 1) < M ≤ s * (s + 1). Another float is a multiple of w,
 -- so that the middle is s - 1/2 at most or s + 1/2 at least; or it lies below 2 ^ 52 * w, where floats are closer to each other, and s is then 2 ^ 52 at least.
-use Prim.Native.Nat.{ℕ, zero, suc, _+_, _-_, _*_, _/_, _%_, _^_, _≤_, _<_}
-use mathlib.Core.Path.{_≡_, refl, sym, ap, _∙_, subst}
-use mathlib.Core.Bool.{Bool, true, false}
-use mathlib.Core.Logic.{_⊎_, inl, inr}
-use native.Mathlib.Nat.{le-trans, le-add-left, lt-irrefl, lt-of-not-le, not-le-of-lt, zero-lt-suc, zero-mul, suc-mul, le-of-lt, lt-of-le-of-lt, lt-of-lt-of-le, lt-of-mul-lt-mul-right, mul-assoc, mul-comm, mul-left-comm, mul-add, add-mul, mul-le-mul, mul-le-mul-right, mul-lt-mul-of-pos-right}
-use native.Mathlib.Omega.{arith}
-use lib.Dec.{T, leb}
-use lib.Pow.{pow-add, pow-pos, pow-mono}
-use lib.Ieee.{Float, binary64, units, fits}
-use lib.Ieee.Exact.{HasValue}
-use borrow.Author.Tests.{leb-true, leb-false}
-use Rattle.fdlibm_root.specs.Root.{wholeRoot, roundedRoot, sqrtOf}
+use Rattle.prelude.proofs.Logic.{_≡_, refl, sym, ap, _∙_, subst, Bool, true, false, _⊎_, inl, inr, ℕ, zero, suc, _+_, _-_, _*_, _/_, _%_, _^_, _≤_, _<_, le-trans, le-add-left, lt-irrefl, lt-of-not-le, not-le-of-lt, zero-lt-suc, zero-mul, suc-mul, le-of-lt, lt-of-le-of-lt, lt-of-lt-of-le, lt-of-mul-lt-mul-right, mul-assoc, mul-comm, mul-left-comm, add-mul, mul-le-mul, mul-le-mul-right, mul-lt-mul-of-pos-right, arith, leb, pow-add, pow-pos, pow-mono, leb-true, leb-false}
+use Rattle.prelude.proofs.Ieee.{binary64, units}
+use Rattle.fdlibm_root.specs.Root.{wholeRoot, sqrtOf}
 use Rattle.fdlibm_root.proofs.RootLaws.{whole-root}
-use Rattle.fdlibm_root.specs.Near.{Near}
-use Rattle.fdlibm_root.specs.Nearest.{Nearer, NearestFloat, SqrtIsNearest}
+use Rattle.fdlibm_root.specs.Nearest.{SqrtIsNearest}
 use Rattle.fdlibm_root.proofs.Squares.{rounded}
-use Rattle.fdlibm_root.proofs.Rounding.{FullWidth, units-value}
+use Rattle.fdlibm_root.proofs.Rounding.{units-value}
 use Rattle.fdlibm_root.proofs.Sticky.{square-above, square-below, square-within, odd-below, odd-above, near-digits, rounded-units}
 use Rattle.fdlibm_root.proofs.Scaled.{halved, doubled}
 use Rattle.fdlibm_root.proofs.Patterns.{value-root}
-use Rattle.fdlibm_root.proofs.Significand.{Written, written, bounded, widened, multiple}
+use Rattle.fdlibm_root.proofs.Significand.{written, bounded, widened, multiple}
 
 -- ---- which side of the middle
 split : (a b : ℕ) → (a ≤ b) ⊎ (b < a)

@@ -1,12 +1,6 @@
 -- Where a float or a pattern is no NaN's: what `f64::to_bits` and `f64::from_bits` ask.
-use Prim.Native.Nat.{ℕ, _%_, _^_, _<_}
-use mathlib.Core.Path.{_≡_, sym, _∙_, subst}
-use mathlib.Core.Bool.{Bool, true, not, false≢true}
-use native.Mathlib.Nat.{le-of-lt, lt-trans, mod-eq-of-lt}
-use lib.Dec.{T, lit<}
-use lib.Ieee.{Float, nan, inf, fin, binary64, isNan, lt, eq, nanBits}
-use lib.Ieee.Bits.{nanBits-above}
-use borrow.Author.Tests.{le-ltb}
+use Rattle.prelude.proofs.Logic.{_≡_, sym, _∙_, subst, Bool, true, not, false≢true, ℕ, _%_, _^_, _<_, le-of-lt, lt-trans, mod-eq-of-lt, T, lit<, le-ltb}
+use Rattle.prelude.proofs.Ieee.{Float, nan, inf, fin, binary64, isNan, lt, eq, nanBits, nanBits-above}
 use Rattle.fdlibm_root.proofs.Patterns.{Above}
 
 pub no-nan : (x : Float) → Above x → T (not (isNan x))

@@ -1,19 +1,6 @@
 -- From the pattern of a float above 0 to the whole number whose root `sqrtOf` takes.
-use Prim.Native.Nat.{ℕ, zero, suc, _+_, _-_, _*_, _/_, _%_, _^_, _≤_, _<_}
-use mathlib.Core.Path.{_≡_, refl, sym, ap, _∙_, subst}
-use mathlib.Core.Bool.{Bool, true, false, cond, false≢true}
-use mathlib.Core.Logic.{inl, inr}
-use native.Mathlib.Nat.{add-comm, eq-zero-or-pos, lt-irrefl, mod-eq-of-lt, mul-assoc, mul-div-cancel, mul-one, mul-pos, mul-right-comm}
-use native.Mathlib.Omega.{arith}
-use lib.IntN.{pos}
-use lib.Dec.{T, leb, eqb}
-use lib.Pow.{pow-add, pow-pos}
-use lib.Ieee.{Float, nan, inf, fin, binary64, up, down, fits, lt, odd, ofFields, ofBits, toBits}
-use lib.Ieee.Fits.{down-pos}
-use lib.Ieee.Exact.{HasValue, odd-sign}
-use lib.Ieee.Bits.{ofBits-toBits}
-use lib.Ieee.Positive.{positive, positive-of-value}
-use borrow.Author.Tests.{leb-false, eqb-true}
+use Rattle.prelude.proofs.Logic.{_≡_, refl, sym, ap, _∙_, subst, Bool, true, false, cond, false≢true, inl, inr, ℕ, zero, suc, _+_, _-_, _*_, _/_, _%_, _^_, _≤_, _<_, add-comm, eq-zero-or-pos, lt-irrefl, mod-eq-of-lt, mul-assoc, mul-div-cancel, mul-one, mul-pos, mul-right-comm, arith, T, leb, eqb, pos, pow-add, pow-pos, leb-false, eqb-true}
+use Rattle.prelude.proofs.Ieee.{Float, nan, inf, fin, binary64, up, down, fits, lt, odd, ofFields, ofBits, toBits, down-pos, HasValue, odd-sign, ofBits-toBits, positive, positive-of-value}
 use Rattle.fdlibm_root.specs.Root.{roundedRoot, sqrtOf}
 
 -- ---- what the fields of a pattern say of a float above 0

@@ -1,13 +1,6 @@
 -- `wholeRoot n` is the whole part of n's square root, and a number has only one.
-use Prim.Native.Nat.{ℕ, zero, suc, _+_, _*_, _/_, _^_, _≤_, _<_}
-use mathlib.Core.Path.{_≡_, refl}
-use mathlib.Core.Bool.{Bool, true, false, cond}
-use native.Mathlib.Nat.{lt-of-le-of-lt, lt-of-lt-of-le, mul-le-mul, pow-suc, pow-le-pow-left}
-use native.Mathlib.Omega.{arith}
-use lib.Dec.{leb, lit≤}
-use lib.Ieee.{size}
-use lib.Ieee.Digits.{size-lt}
-use borrow.Author.Tests.{leb-true, leb-false}
+use Rattle.prelude.proofs.Logic.{_≡_, refl, Bool, true, false, cond, ℕ, zero, suc, _+_, _*_, _/_, _^_, _≤_, _<_, lt-of-le-of-lt, lt-of-lt-of-le, mul-le-mul, pow-suc, pow-le-pow-left, arith, leb, lit≤, leb-true, leb-false}
+use Rattle.prelude.proofs.Ieee.{size, size-lt}
 use Rattle.fdlibm_root.specs.Root.{Root, digits, wholeRoot}
 
 next-digit : (n r : ℕ) (b : Bool) → leb ((r + 1) * (r + 1)) n ≡ b → r * r ≤ n → n < (r + 2) * (r + 2) → Root n (cond b (r + 1) r)

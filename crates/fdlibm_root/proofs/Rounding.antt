@@ -1,18 +1,7 @@
 -- `round` of a number in the binade of s, and within half a unit of s, is s; and the pattern of that float.
-use Prim.Native.Nat.{ℕ, _+_, _-_, _*_, _/_, _%_, _^_, _≤_, _<_, compare, Ordering, Ordering·lt, Ordering·eq, Ordering·gt}
-use mathlib.Core.Path.{_≡_, sym, ap, _∙_, subst}
-use mathlib.Core.Bool.{true, false, not, true≢false}
-use native.Mathlib.Nat.{lt-of-lt-of-le, lt-of-not-le, not-le-of-lt, lt-of-mul-lt-mul-right, mul-assoc, mul-pos, mul-div-cancel, mul-le-mul-right, div-add-mod', mod-lt}
-use native.Mathlib.Omega.{arith}
-use lib.Dec.{T, isLe, isEq, leb→le, nleb→lt, eqb→eq, eqb-refl, eqb}
+use Rattle.prelude.proofs.Logic.{_≡_, sym, ap, _∙_, subst, true, false, not, true≢false, ℕ, _+_, _-_, _*_, _/_, _%_, _^_, _≤_, _<_, compare, Ordering, Ordering·lt, Ordering·eq, Ordering·gt, lt-of-lt-of-le, lt-of-not-le, not-le-of-lt, lt-of-mul-lt-mul-right, mul-assoc, mul-pos, mul-div-cancel, mul-le-mul-right, div-add-mod', mod-lt, arith, T, isLe, isEq, leb→le, nleb→lt, eqb→eq, eqb-refl, eqb, pow-add, pow-pos, pow-mono, shl-lt}
 use lib.Arith.{lt-of-le-ne}
-use lib.Pow.{pow-add, pow-pos, pow-mono, shl-lt}
-use lib.Ieee.{Float, fin, binary64, up, down, size, nearest, units, round, fits, toBits, ofBits}
-use lib.Ieee.Digits.{size-lt, size-le}
-use lib.Ieee.Fits.{round-is, round-fits, down-pos}
-use lib.Ieee.Nearest.{closest, closest-same}
-use lib.Ieee.Exact.{HasValue, units-val}
-use lib.Ieee.Bits.{ofBits-toBits}
+use Rattle.prelude.proofs.Ieee.{Float, fin, binary64, up, down, size, nearest, units, round, fits, toBits, ofBits, size-lt, size-le, round-is, down-pos, closest, closest-same, HasValue, units-val, ofBits-toBits}
 
 -- ---- the whole number nearest to a / b
 abbrev Compared : Ordering → ℕ → ℕ → Type 0

@@ -1,16 +1,6 @@
 -- Each float is a significand of at most 53 digits, moved up by some places: how many smallest floats it is, as that product.
-use Prim.Native.Nat.{ℕ, zero, suc, _+_, _-_, _*_, _%_, _^_, _≤_, _<_}
-use mathlib.Core.Path.{_≡_, refl, sym, ap, _∙_, subst}
-use mathlib.Core.Bool.{Bool, true, false, _&&_}
-use native.Mathlib.Nat.{le-trans, le-of-lt, lt-of-lt-of-le, lt-of-not-le, not-le-of-lt, zero-lt-suc, zero-mul, mul-one, mul-assoc, mul-right-comm, mul-pos, mul-le-mul-right, mul-lt-mul-of-pos-right, lt-of-mul-lt-mul-right, eq-of-mul-eq-mul-right}
-use native.Mathlib.Omega.{arith}
-use lib.IntN.{pos, negsuc}
-use lib.Dec.{T, eqb, leb, ltb, leb→le, ltb→lt}
-use lib.Pow.{pow-add, pow-pos, pow-mono, pow-lt, shl-lt}
-use lib.Ieee.{Float, fin, binary64, up, down, size, fits}
-use lib.Ieee.Digits.{size-lt, size-le, size-reaches}
-use lib.Ieee.Fits.{and-l, and-r, down-pos}
-use lib.Ieee.Exact.{HasValue}
+use Rattle.prelude.proofs.Logic.{_≡_, sym, ap, _∙_, subst, Bool, false, _&&_, ℕ, zero, suc, _+_, _-_, _*_, _%_, _^_, _≤_, _<_, lt-of-lt-of-le, not-le-of-lt, zero-mul, mul-one, mul-assoc, mul-right-comm, mul-pos, mul-le-mul-right, mul-lt-mul-of-pos-right, lt-of-mul-lt-mul-right, eq-of-mul-eq-mul-right, arith, T, eqb, leb, ltb, leb→le, ltb→lt, pos, negsuc, pow-add, pow-pos, pow-mono, pow-lt, shl-lt, and-l, and-r}
+use Rattle.prelude.proofs.Ieee.{Float, fin, binary64, up, down, size, fits, size-lt, size-le, size-reaches, down-pos, HasValue}
 
 pub record Written (a : ℕ) : Type 0 where
   pub digits : ℕ

@@ -1,13 +1,6 @@
 -- The roots that are no numbers above 0: a zero's is the zero itself, and what is neither above 0 nor a zero has none.
-use Prim.Native.Nat.{ℕ, zero, suc, _*_, _<_}
-use mathlib.Core.Path.{_≡_, refl, sym, ap, _∙_, subst}
-use mathlib.Core.Bool.{Bool, true, false, _&&_, _||_, Bool·beq, false≢true, true≢false}
-use native.Mathlib.Nat.{lt-irrefl, mul-pos, zero-lt-suc, zero-mul}
-use lib.IntN.{ℤ, pos}
-use lib.Dec.{T, eqb, ltb, eqb→eq, lt→ltb}
-use lib.Ieee.{Float, nan, inf, fin, up, down, lt, eq}
-use lib.Ieee.Bits.{is-true}
-use lib.Ieee.Fits.{and-l, up-pos}
+use Rattle.prelude.proofs.Logic.{_≡_, refl, sym, ap, _∙_, subst, Bool, true, false, _&&_, _||_, Bool·beq, false≢true, true≢false, ℕ, zero, suc, _*_, _<_, lt-irrefl, mul-pos, zero-lt-suc, zero-mul, T, eqb, ltb, eqb→eq, lt→ltb, ℤ, pos, and-l}
+use Rattle.prelude.proofs.Ieee.{Float, nan, inf, fin, up, down, lt, eq, is-true, up-pos}
 use Rattle.fdlibm_root.specs.Root.{sqrtOf}
 
 -- a number's size, and a zero's, as the comparisons take them

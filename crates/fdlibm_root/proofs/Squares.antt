@@ -1,13 +1,7 @@
 -- What a turn of the digit loop keeps, what it gives at the end, and how its last digit rounds.
-use Prim.Native.Nat.{ℕ, zero, suc, _+_, _-_, _*_, _/_, _%_, _^_, _≤_, _<_}
-use mathlib.Core.Path.{_≡_, refl, ap}
-use mathlib.Core.Logic.{_⊎_, inl, inr}
-use native.Mathlib.Nat.{lt-of-lt-of-le, pow-le-pow-right, pow-suc}
-use native.Mathlib.Numerals.{add-one}
-use native.Mathlib.Omega.{arith}
-use lib.Dec.{lit<}
+use Rattle.prelude.proofs.Logic.{_≡_, refl, ap, _⊎_, inl, inr, ℕ, zero, suc, _+_, _-_, _*_, _/_, _%_, _^_, _≤_, _<_, lt-of-lt-of-le, pow-le-pow-right, pow-suc, add-one, arith, lit<}
 use Rattle.fdlibm_root.specs.Root.{Root}
-use Rattle.fdlibm_root.specs.Near.{Near}
+use Rattle.fdlibm_root.specs.Near.{NearRoot}
 
 -- after i turns: the digits of m * 4 ^ i that were taken are q * q + left, and those that are still to come are rest
 pub record Kept (m q left rest i : ℕ) : Type 0 where
@@ -78,7 +72,7 @@ even-or-odd : (q s r : ℕ) → s ≡ (q + 1) / 2 → (q + 1) % 2 ≡ r → (q �
 even-or-odd q s zero e h = inr (omega arith)
 even-or-odd q s (suc r) e h = inl (omega arith)
 
-pub rounded : (m q s : ℕ) → 0 < m → Root (m * 2 ^ 54) q → s ≡ (q + 1) / 2 → Near m s
+pub rounded : (m q s : ℕ) → 0 < m → Root (m * 2 ^ 54) q → s ≡ (q + 1) / 2 → NearRoot m s
 rounded m q s h root e =
     let least : 0 < q = some (m * 2 ^ 54) q (omega arith) (root .above) in
     let bounds = halves (m * 2 ^ 52) q s (omega (arith, root .within)) (omega (arith, root .above)) (omega arith) (even-or-odd q s ((q + 1) % 2) e refl) in

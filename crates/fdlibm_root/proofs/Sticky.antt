@@ -1,20 +1,11 @@
 -- From the whole number s nearest to the root of m * 2 ^ 52 to the float that `roundedRoot` defines.
 -- With n = 4 * m * 2 ^ 52 * P * P the root of n lies strictly between (2 s - 1) * P and (2 s + 1) * P,
 -- and so does half of what is rounded, the cut root with the digit that stands for the rest.
-use Prim.Native.Nat.{ℕ, _+_, _-_, _*_, _^_, _≤_, _<_}
-use mathlib.Core.Path.{_≡_, refl, sym, ap, _∙_}
-use mathlib.Core.Bool.{Bool, true, false, cond}
-use native.Mathlib.Nat.{lt-trans, lt-of-le-of-lt, lt-of-not-le, mul-comm, mul-assoc, mul-left-comm, mul-add, add-mul, mul-pos, mul-le-mul, mul-le-mul-left, mul-le-mul-right, mul-lt-mul-of-pos-right}
-use native.Mathlib.Omega.{arith}
-use lib.Dec.{T, eqb, lit≤}
-use lib.Pow.{pow-add, pow-pos}
-use lib.Ieee.{binary64, units, fits, ofBits}
-use lib.Ieee.Fits.{round-fits}
-use lib.Ieee.Scale.{round-same}
-use borrow.Author.Tests.{eqb-true}
+use Rattle.prelude.proofs.Logic.{_≡_, refl, sym, ap, _∙_, Bool, true, false, cond, ℕ, _+_, _-_, _*_, _^_, _≤_, _<_, lt-trans, lt-of-le-of-lt, lt-of-not-le, mul-comm, mul-assoc, mul-left-comm, mul-add, add-mul, mul-pos, mul-le-mul, mul-le-mul-left, mul-le-mul-right, mul-lt-mul-of-pos-right, arith, T, eqb, lit≤, pow-add, pow-pos, eqb-true}
+use Rattle.prelude.proofs.Ieee.{binary64, units, fits, ofBits, round-fits, round-same}
 use Rattle.fdlibm_root.specs.Root.{Root, wholeRoot, rest, roundedRoot}
 use Rattle.fdlibm_root.proofs.RootLaws.{whole-root, smaller}
-use Rattle.fdlibm_root.specs.Near.{Near}
+use Rattle.fdlibm_root.specs.Near.{NearRoot}
 use Rattle.fdlibm_root.proofs.Rounding.{FullWidth, round-to, units-pattern}
 
 -- ---- between A and B, for the root of an n between their squares
@@ -60,12 +51,12 @@ too-many s M k h lo hi =
     let a : (k + 1) * s ≤ s * s = mul-le-mul-right s h in let b : k * (k + 1) ≤ k * s = mul-le-mul-left k h in
     omega arith
 
-near-lo : (m s : ℕ) → Near m s → 2 ^ 52 ≤ m → 2 ^ 52 ≤ s
+near-lo : (m s : ℕ) → NearRoot m s → 2 ^ 52 ≤ m → 2 ^ 52 ≤ s
 near-lo m s near h =
     let few : s + 1 ≤ 2 ^ 52 → ⊥ = λ g. too-few s (m * 2 ^ 52) (2 ^ 52) g (near .high) (mul-le-mul-right (2 ^ 52) h) in
     omega arith
 
-pub near-hi : (m s : ℕ) → Near m s → m ≤ 18014398509481982 → s < 2 ^ 53
+pub near-hi : (m s : ℕ) → NearRoot m s → m ≤ 18014398509481982 → s < 2 ^ 53
 near-hi m s near h = lt-of-not-le (λ (g : 2 ^ 53 ≤ s). too-many s (m * 2 ^ 52) 9007199254740991 g (near .low) (mul-le-mul-right (2 ^ 52) h))
 
 -- ---- v between 2 * t * P and 2 * (2 * s + 1) * P, in the units of `round`: Q of them to each of v's
@@ -92,10 +83,10 @@ odd-below s t M odd h = let squares : (t + 1) * (t + 1) ≡ 2 * s * (2 * s) = ap
 pub odd-above : (s M : ℕ) → M ≤ s * s + s → 4 * M < (2 * s + 1) * (2 * s + 1)
 odd-above s M h = omega arith
 
-pub near-digits : (m s i : ℕ) → Near m s → 2 ^ 52 ≤ m → m ≤ 18014398509481982 → i < 1500 → FullWidth s (i + 475)
+pub near-digits : (m s i : ℕ) → NearRoot m s → 2 ^ 52 ≤ m → m ≤ 18014398509481982 → i < 1500 → FullWidth s (i + 475)
 near-digits m s i near m-lo m-hi small = record { low = near-lo m s near m-lo; high = near-hi m s near m-hi; room = omega arith }
 
-pub rounded-units : (m s i n : ℕ) → Near m s → 2 ^ 52 ≤ m → FullWidth s (i + 475) → n ≡ 4 * (m * 2 ^ 52) * (2 ^ i * 2 ^ i)
+pub rounded-units : (m s i n : ℕ) → NearRoot m s → 2 ^ 52 ≤ m → FullWidth s (i + 475) → n ≡ 4 * (m * 2 ^ 52) * (2 ^ i * 2 ^ i)
     → roundedRoot n ≡ units binary64 false s (i + 475)
 unfolding roundedRoot
 rounded-units m s i n near m-lo d is =
@@ -130,7 +121,7 @@ rounded-fits : (n : ℕ) → T (fits binary64 (roundedRoot n))
 unfolding roundedRoot
 rounded-fits n = round-fits binary64 false (2 * wholeRoot n + rest n (wholeRoot n)) (2 ^ 601)
 
-pub rounded-root : (m s i n : ℕ) → Near m s → 2 ^ 52 ≤ m → m ≤ 18014398509481982 → i < 1500 → n ≡ 4 * (m * 2 ^ 52) * (2 ^ i * 2 ^ i)
+pub rounded-root : (m s i n : ℕ) → NearRoot m s → 2 ^ 52 ≤ m → m ≤ 18014398509481982 → i < 1500 → n ≡ 4 * (m * 2 ^ 52) * (2 ^ i * 2 ^ i)
     → roundedRoot n ≡ ofBits binary64 ((i + 475) * 2 ^ 52 + s)
 rounded-root m s i n near m-lo m-hi small is =
     let d = near-digits m s i near m-lo m-hi small in let e = rounded-units m s i n near m-lo d is in

@@ -1,7 +1,7 @@
 // A candidate for the whole number nearest to the root of m * 2^52, by floats, and whole-number arithmetic that decides whether it is right.
 ghost use mathlib.Core.Path.{_≡_};
 ghost use Prim.Native.Nat.{_+_, _*_, _^_, _<_};
-ghost use Rattle.fdlibm_root.specs.Near.{Near};
+ghost use Rattle.fdlibm_root.specs.Near.{NearRoot};
 
 // 1 / sqrt(f) is within 4 % of the float whose pattern is this less half of f's
 const GUESS: u64 = 0x5fe6_eb50_c7b5_37a9;
@@ -60,7 +60,7 @@ fn residue(m: u64, s: u64) -> u64
 // m * 2^52 - s * s is above s, from s * (s + 1) on, and at most 3 * s + 2, up to (s + 1) * (s + 2).
 pub fn corrected(m: u64, s: u64) -> u64
     requires { ⌜ (m < 2 ^ 54) × (s < 2 ^ 53) ⌝ }
-    ensures { λ r. ⌜ (0 < r → Near m r) ⌝ }
+    ensures { λ r. ⌜ (0 < r → NearRoot m r) ⌝ }
 {
     let z = residue(m, s);
     if z + 3 * s > OFFSET + 2 && z <= OFFSET + 3 * s + 2 {

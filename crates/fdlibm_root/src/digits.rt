@@ -1,7 +1,7 @@
 // The whole number nearest to the root of m * 2^52, a binary digit at a time: slow, and right for every m.
 ghost use Prim.Native.Nat.{_*_, _^_, _<_};
 ghost use Rattle.fdlibm_root.specs.Root.{Root};
-ghost use Rattle.fdlibm_root.specs.Near.{Near};
+ghost use Rattle.fdlibm_root.specs.Near.{NearRoot};
 
 // The whole root of m * 2^54. Of its first 2 i digits q is the root and `left` what q's square leaves; `rest` has those of m that are
 // still to come, the next two at the top of its 54.
@@ -31,7 +31,7 @@ fn root(m: u64) -> u64
 // That root has one digit more than the one that is asked for, and it rounds. There is no tie: m * 2^54 is no odd number's square.
 pub fn by_digits(m: u64) -> u64
     requires { ⌜ (0 < m) × (m < 2 ^ 54) ⌝ }
-    ensures { λ r. ⌜ Near m r ⌝ }
+    ensures { λ r. ⌜ NearRoot m r ⌝ }
 {
     (root(m) + 1) / 2
 }

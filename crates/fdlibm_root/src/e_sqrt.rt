@@ -14,7 +14,7 @@ ghost use mathlib.Core.Path.{_≡_};
 ghost use Prim.Native.Nat.{_+_, _*_, _-_, _^_, _≤_, _<_};
 ghost use lib.Ieee.{ofBits, binary64};
 ghost use Rattle.fdlibm_root.specs.Root.{roundedRoot, sqrtOf};
-ghost use Rattle.fdlibm_root.specs.Near.{Near};
+ghost use Rattle.fdlibm_root.specs.Near.{NearRoot};
 use crate::certify::LEADING;
 use crate::certify::corrected;
 use crate::certify::estimate;
@@ -26,7 +26,7 @@ const INFINITY: u64 = 0x7ff0_0000_0000_0000;
 // The whole number nearest to the root of m * 2^52, where m is the significand, doubled where `odd` is 1.
 fn nearest(significand: u64, odd: u64) -> u64
     requires { ⌜ (2 ^ 52 ≤ significand) × (significand < 2 ^ 53) × (odd < 2) ⌝ }
-    ensures { λ r. ⌜ Near (significand * (1 + odd)) r ⌝ }
+    ensures { λ r. ⌜ NearRoot (significand * (1 + odd)) r ⌝ }
 {
     let m = significand * (1 + odd);
     let s = corrected(m, estimate(significand + (odd + 1022) * LEADING));

@@ -1,11 +1,6 @@
 -- The reduction gives the quarter turns by their remainder by 4. Assumes nothing.
-use mathlib.Core.Bool.{Bool, true, false, cond}
-use Prim.Native.Nat.{_<_}
-use native.Mathlib.Omega.{arith}
-use lib.Dec.{ltb, leb}
-use lib.Ieee.{Float, lt}
-use Rattle.float64.specs.Sizes.{absOf}
-use Rattle.float64.specs.Words.{highOf}
+use Rattle.prelude.proofs.Logic.{Bool, true, false, cond, _<_, arith, ltb, leb}
+use Rattle.float64.proofs.Floats.{Float, lt, absOf, highOf}
 use Rattle.fdlibm_trig.specs.declared.e_rem_pio2.Reduced.{Reduced}
 use Rattle.fdlibm_trig.specs.KTan.{zero}
 use Rattle.fdlibm_trig.specs.RemPio2.{lessOf, moreOf, mediumOf, oppositeOf, nearOf, nearNegativeOf, remPio2Of}

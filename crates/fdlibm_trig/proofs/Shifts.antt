@@ -1,13 +1,6 @@
 -- A high word moved up to its place: no bit is lost, and no NaN's pattern comes of it. Assumes nothing.
-use Prim.Native.Nat.{ℕ, _%_, _*_, _<_, _≤_}
-use mathlib.Core.Path.{_≡_, sym, subst, _∙_}
-use mathlib.Core.Bool.{Bool, not}
-use native.Mathlib.Nat.{mod-le, mod-eq-of-lt}
-use native.Mathlib.Omega.{arith}
-use lib.Dec.{T}
-use lib.Ieee.{binary64, nanBits}
-use lib.Ieee.Bits.{nanBits-above}
-use borrow.Author.Tests.{le-ltb}
+use Rattle.prelude.proofs.Logic.{_≡_, sym, subst, _∙_, Bool, not, ℕ, _%_, _*_, _<_, _≤_, mod-le, mod-eq-of-lt, arith, T, le-ltb}
+use Rattle.float64.proofs.Floats.{binary64, nanBits, nanBits-above}
 
 pub shifted : (n : ℕ) → n < 4294967296 → n * 4294967296 % 18446744073709551616 ≡ n * 4294967296
 shifted n h = mod-eq-of-lt (omega arith)

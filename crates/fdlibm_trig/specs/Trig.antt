@@ -6,7 +6,6 @@ use lib.Ieee.{Float, nan, neg, le}
 use Rattle.float64.specs.Ops.{bits}
 use Rattle.float64.specs.Sizes.{absOf}
 use Rattle.float64.specs.Words.{highOf}
-use Rattle.fdlibm_trig.specs.declared.e_rem_pio2.Reduced.{Reduced}
 use Rattle.fdlibm_trig.specs.declared.s_sincos.Both.{Both}
 use Rattle.fdlibm_trig.specs.KSin.{kernelSinOf}
 use Rattle.fdlibm_trig.specs.KCos.{kernelCosOf}

@@ -1,23 +1,14 @@
 -- What one walk over the fields of an order collects is what the definitions find tag by tag, and what it has collected says which tags stand
 -- before the field that it has come to. Assumes nothing.
-use native.Mathlib.Omega.{arith}
-use native.Mathlib.Numerals.{add-one}
-use Prim.Native.Nat.{ℕ, zero, suc, _≤_, _<_, _+_, _-_}
-use mathlib.Core.Path.{_≡_, refl, sym, ap, _∙_}
-use mathlib.Core.Bool.{Bool, true, false, cond}
-use mathlib.Core.List.{List, []}
-use lib.ListN.{length, take, drop, getD, set, replicate, getD-replicate, length-set, List·getD-eq-default, take-append-drop}
-use lib.Seq.{ext-getD, getD-set-same, getD-set-other, take-append-seam}
-use lib.Dec.{ltb, eqb}
-use borrow.Author.Tests.{lt-ltb, le-ltb, eq-eqb, ne-eqb, ltb-true, ltb-false, eqb-true, eqb-false}
+use Rattle.prelude.proofs.Logic.{_≡_, refl, sym, ap, _∙_, Bool, true, false, lt-of-not-le, List, ℕ, zero, suc, _≤_, _<_, _+_, _-_, arith, ltb, eqb, length, take, drop, getD, set, replicate, getD-replicate, length-set, List·getD-eq-default, take-append-drop, ext-getD, getD-set-same, getD-set-other, take-append-seam, lt-ltb, le-ltb, eq-eqb, ne-eqb, ltb-true, ltb-false, eqb-true, eqb-false, cases, either}
 use Rattle.refusals.specs.Refusals.{refusal, noRefusal}
 use Rattle.refusals.specs.declared.Refusal.{Refusal}
 use Rattle.fields.specs.declared.values.Checked.{Checked}
 use Rattle.fields.specs.declared.values.Fields.{Fields}
 use Rattle.fields.specs.Numbers.{byteOf, unsignedOf}
-use Rattle.fields.specs.Tags.{tags, lastTag, knownTag}
-use Rattle.fields.specs.Fields.{lengthAt, after, firstBefore, faultIn, faultOf, walkOf, checkOf}
-use Rattle.fields.specs.Values.{offsetOf, hasOf, valueOf, startOf, valuesOf, partFor, hasIn, valuesIn, byTag, fieldsOf, noFields, checkedOf}
+use Rattle.fields.specs.Tags.{tags, knownTag}
+use Rattle.fields.specs.Fields.{lengthAt, nextFieldAt, firstBefore, faultIn, faultOf, walkOf, checkOf}
+use Rattle.fields.specs.Values.{offsetOf, hasOf, valueOf, valueStartOf, valuesOf, partFor, hasIn, valuesIn, byTag, fieldsOf, noFields, checkedOf}
 use Rattle.fields.proofs.FieldsLaws.{Good, fault-none, walk-good, has-good, known-last, length-short, whole-length, value-missing}
 use Rattle.fields.proofs.Walking.{find-here, find-on, find-none, walk-stop, walk-on, walk-end}
 
@@ -26,12 +17,8 @@ use Rattle.fields.proofs.Walking.{find-here, find-on, find-none, walk-s
 find-from : (k : ℕ) (s : List ℕ) (tag at stop low : ℕ) → low ≤ at → low ≤ stop → low ≤ firstBefore k s tag at stop
 unfolding firstBefore
 find-from zero s tag at stop low h l = l
-find-from (suc k) s tag at stop low h l = go (ltb at stop) (eqb (byteOf s at) tag) (find-from k s tag (after s at) stop low (omega arith) l)
-  where
-    go : (a c : Bool) → low ≤ firstBefore k s tag (after s at) stop → low ≤ cond a (cond c at (firstBefore k s tag (after s at) stop)) stop
-    go false c f = l
-    go true true f = h
-    go true false f = f
+find-from (suc k) s tag at stop low h l =
+    either (λ n. low ≤ n) (ltb at stop) (either (λ n. low ≤ n) (eqb (byteOf s at) tag) h (find-from k s tag (nextFieldAt s at) stop low (omega arith) l)) l
 
 -- with less to search, it is found where it is with more
 find-sooner : (k : ℕ) (s : List ℕ) (tag at stop far : ℕ) → stop ≤ far → firstBefore k s tag at far < stop
@@ -39,18 +26,10 @@ find-sooner : (k : ℕ) (s : List ℕ) (tag at stop far : ℕ) → stop ≤ far 
 unfolding firstBefore
 find-sooner zero s tag at stop far l h = absurd (omega arith)
 find-sooner (suc k) s tag at stop far l h =
-    go (ltb at far) (eqb (byteOf s at) tag) (ltb at stop) refl (λ g. find-sooner k s tag (after s at) stop far l g) h
-  where
-    go : (a c b : Bool) → ltb at stop ≡ b
-        → (firstBefore k s tag (after s at) far < stop → firstBefore k s tag (after s at) stop ≡ firstBefore k s tag (after s at) far)
-        → cond a (cond c at (firstBefore k s tag (after s at) far)) far < stop
-        → cond b (cond c at (firstBefore k s tag (after s at) stop)) stop ≡ cond a (cond c at (firstBefore k s tag (after s at) far)) far
-    go false c b e on h = absurd (omega arith)
-    go true true true e on h = refl
-    go true true false e on h = absurd (omega (arith, ltb-false at stop e))
-    go true false true e on h = on h
-    go true false false e on h =
-        absurd (omega (arith, find-from k s tag (after s at) far stop (omega (arith, ltb-false at stop e)) l))
+    cases (ltb at stop)
+    (λ b. let m = lt-ltb at far (omega (arith, ltb-true at stop b)) in
+    cases (eqb (byteOf s at) tag) (λ c. simp (b, m, c)) (λ c. simp (b, m, c) (find-sooner k s tag (nextFieldAt s at) stop far l (simp (m, c) at h))))
+    (λ b. absurd (omega (arith, find-from (suc k) s tag at far stop (ltb-false at stop b) l)))
 
 -- with more to search, it is found where it is with less
 find-farther : (k : ℕ) (s : List ℕ) (tag at stop far : ℕ) → stop ≤ far → firstBefore k s tag at stop < stop
@@ -58,15 +37,10 @@ find-farther : (k : ℕ) (s : List ℕ) (tag at stop far : ℕ) → stop ≤ far
 unfolding firstBefore
 find-farther zero s tag at stop far l h = absurd (omega arith)
 find-farther (suc k) s tag at stop far l h =
-    go (ltb at stop) refl (eqb (byteOf s at) tag) (λ g. find-farther k s tag (after s at) stop far l g) h
-  where
-    go : (b : Bool) → ltb at stop ≡ b → (c : Bool)
-        → (firstBefore k s tag (after s at) stop < stop → firstBefore k s tag (after s at) far ≡ firstBefore k s tag (after s at) stop)
-        → cond b (cond c at (firstBefore k s tag (after s at) stop)) stop < stop
-        → cond (ltb at far) (cond c at (firstBefore k s tag (after s at) far)) far ≡ cond b (cond c at (firstBefore k s tag (after s at) stop)) stop
-    go false e c on h = absurd (omega arith)
-    go true e true on h = simp (lt-ltb at far (omega (arith, ltb-true at stop e)))
-    go true e false on h = simp (lt-ltb at far (omega (arith, ltb-true at stop e)), on h)
+    cases (ltb at stop)
+    (λ b. let m = lt-ltb at far (omega (arith, ltb-true at stop b)) in
+    cases (eqb (byteOf s at) tag) (λ c. simp (b, m, c)) (λ c. simp (b, m, c) (find-farther k s tag (nextFieldAt s at) stop far l (simp (b, c) at h))))
+    (λ b. let z = simp b at h in absurd (omega arith))
 
 by-tag : (g : ℕ → ℕ) (k from i : ℕ) → i < k → getD (byTag g k from) i 0 ≡ g (from + i)
 unfolding byTag
@@ -116,15 +90,9 @@ module _ (s : List ℕ) (at : ℕ) (starts lengths : List ℕ) (c : Collected s 
   unfolding offsetOf
   seen tag start size (ahead p q r) =
       let later = find-from (c .left) s tag at (length s) at (omega arith) (c .inside) in
-      rw p (sym (le-ltb (firstBefore (length s) s tag 0 at) at (go (ltb (firstBefore (length s) s tag 0 at) at) refl)))
-    where
-      go : (b : Bool) → ltb (firstBefore (length s) s tag 0 at) at ≡ b → at ≤ firstBefore (length s) s tag 0 at
-      go true e =
-          let h = ltb-true (firstBefore (length s) s tag 0 at) at e in
-          let far = find-farther (length s) s tag 0 at (length s) (c .inside) h in
-          let later = find-from (c .left) s tag at (length s) at (omega arith) (c .inside) in
-          omega arith
-      go false e = ltb-false (firstBefore (length s) s tag 0 at) at e
+      let no : at < suc (firstBefore (length s) s tag 0 at) = lt-of-not-le
+      (λ h. let far = find-farther (length s) s tag 0 at (length s) (c .inside) h in omega arith) in
+      rw p (sym (le-ltb (firstBefore (length s) s tag 0 at) at (omega arith)))
   seen tag start size (behind o p q) =
       let e = find-sooner (length s) s tag 0 at (length s) (c .inside) o in
       rw p (lt-ltb 0 (offsetOf s tag + 3) (omega arith) ∙ sym (lt-ltb (firstBefore (length s) s tag 0 at) at (omega arith)))
@@ -132,14 +100,11 @@ module _ (s : List ℕ) (at : ℕ) (starts lengths : List ℕ) (c : Collected s 
   -- so the field here is refused by what was collected as it is by looking back
   pub fault-collected : faultIn (byteOf s at) (lengthAt s at) (ltb 0 (getD starts (byteOf s at) 0)) (length s - at) ≡ faultOf s at
   unfolding faultOf faultIn
-  fault-collected = go (knownTag (byteOf s at)) refl
-    where
-      go : (b : Bool) → knownTag (byteOf s at) ≡ b
-          → faultIn (byteOf s at) (lengthAt s at) (ltb 0 (getD starts (byteOf s at) 0)) (length s - at) ≡ faultOf s at
-      go true e =
-          let l = known-last (byteOf s at) e in
-          ap (λ (again : Bool). faultIn (byteOf s at) (lengthAt s at) again (length s - at)) (seen (byteOf s at) _ _ (c .kept (byteOf s at) (omega arith)))
-      go false e = simp e
+  fault-collected =
+      cases (knownTag (byteOf s at))
+      (λ e. let l = known-last (byteOf s at) e in
+      ap (λ (again : Bool). faultIn (byteOf s at) (lengthAt s at) again (length s - at)) (seen (byteOf s at) _ _ (c .kept (byteOf s at) (omega arith))))
+      (λ e. simp e)
 
   pub fault-here : (tag size n : ℕ) (again : Bool) → tag ≡ byteOf s at → size ≡ unsignedOf s (at + 1) → again ≡ ltb 0 (getD starts tag 0)
       → n ≡ faultIn tag size again (length s - at) → n ≡ faultOf s at
@@ -147,7 +112,7 @@ module _ (s : List ℕ) (at : ℕ) (starts lengths : List ℕ) (c : Collected s 
   fault-here tag size n again t z a e = e ∙ rw (a, t, z) fault-collected
 
   module _ (l : at < length s) (f : faultOf s at ≡ 0) where
-    here : (j : ℕ) × (c .left ≡ suc j) × (walkOf (c .left) s at ≡ walkOf j s (after s at))
+    here : (j : ℕ) × (c .left ≡ suc j) × (walkOf (c .left) s at ≡ walkOf j s (nextFieldAt s at))
     here = walk-on (c .left) s at (faultOf s at) (c .enough) l refl f
 
     good : Good s at
@@ -168,7 +133,7 @@ module _ (s : List ℕ) (at : ℕ) (starts lengths : List ℕ) (c : Collected s 
 
     -- what is kept once it is passed: its own tag, and another
     abbrev Next : ℕ → Type 0
-    Next tag = Kept s (here .0) (after s at) tag (getD (set starts (byteOf s at) (at + 3)) tag 0) (getD (set lengths (byteOf s at) (lengthAt s at)) tag 0)
+    Next tag = Kept s (here .0) (nextFieldAt s at) tag (getD (set starts (byteOf s at) (at + 3)) tag 0) (getD (set lengths (byteOf s at) (lengthAt s at)) tag 0)
 
     own : offsetOf s (byteOf s at) ≡ at → Next (byteOf s at)
     unfolding valueOf
@@ -189,11 +154,9 @@ module _ (s : List ℕ) (at : ℕ) (starts lengths : List ℕ) (c : Collected s 
     other tag differ (behind o p q) = behind (omega arith) (same starts (at + 3) tag differ ∙ p) (same lengths (lengthAt s at) tag differ ∙ q)
 
     next : (tag : ℕ) → tag < length tags → Next tag
-    next tag t = go (eqb (byteOf s at) tag) refl
-      where
-        go : (b : Bool) → eqb (byteOf s at) tag ≡ b → Next tag
-        go true e = rw (sym (eqb-true (byteOf s at) tag e)) (own (tag-once _ _ (c .kept (byteOf s at) collect-room)))
-        go false e = other tag (eqb-false (byteOf s at) tag e) (c .kept tag t)
+    next tag t =
+        cases (eqb (byteOf s at) tag) (λ e. rw (sym (eqb-true (byteOf s at) tag e)) (own (tag-once _ _ (c .kept (byteOf s at) collect-room))))
+        (λ e. other tag (eqb-false (byteOf s at) tag e) (c .kept tag t))
 
     pub collect-on : (tag size : ℕ) → tag ≡ byteOf s at → size ≡ lengthAt s at → Collected s (at + 3 + size) (set starts tag (at + 3)) (set lengths tag size)
     collect-on tag size is-tag is-size =
@@ -208,8 +171,8 @@ module _ (s : List ℕ) (at : ℕ) (starts lengths : List ℕ) (c : Collected s 
         })
 
   -- at the end it is what the order gives by tag
-  ended : length s ≤ at → (tag start size : ℕ) → Kept s (c .left) at tag start size → (start ≡ startOf s tag) × (size ≡ length (valueOf s tag))
-  unfolding startOf hasOf
+  ended : length s ≤ at → (tag start size : ℕ) → Kept s (c .left) at tag start size → (start ≡ valueStartOf s tag) × (size ≡ length (valueOf s tag))
+  unfolding valueStartOf hasOf
   ended end tag start size (ahead p q r) =
       let n = find-none (c .left) s tag at (length s) end in
       let no : ltb (offsetOf s tag) (length s) ≡ false = le-ltb (offsetOf s tag) (length s) (omega arith) in
@@ -220,7 +183,7 @@ module _ (s : List ℕ) (at : ℕ) (starts lengths : List ℕ) (c : Collected s 
 
   pub collect-all : length s ≤ at → _≡_ {A = Fields} (record { at = starts; length = lengths }) (fieldsOf s)
   collect-all end =
-      let a = ext-getD 0 starts (byTag (startOf s) (length tags) 0) (c .sizes .0 ∙ sym (by-tag-length (startOf s) (length tags) 0)) (λ tag l. given tag l .0) in
+      let a = ext-getD 0 starts (byTag (valueStartOf s) (length tags) 0) (c .sizes .0 ∙ sym (by-tag-length (valueStartOf s) (length tags) 0)) (λ tag l. given tag l .0) in
       let b = ext-getD 0 lengths (byTag (λ t. length (valueOf s t)) (length tags) 0) (c .sizes .1 ∙ sym (by-tag-length (λ t. length (valueOf s t)) (length tags) 0)) (λ tag l. given tag (omega (arith, c .sizes .0, c .sizes .1)) .1) in
       λ i. record { at = a i; length = b i }
     where
@@ -228,7 +191,7 @@ module _ (s : List ℕ) (at : ℕ) (starts lengths : List ℕ) (c : Collected s 
       given tag l =
           let t : tag < length tags = omega (arith, c .sizes .0) in
           let e = ended end tag (getD starts tag 0) (getD lengths tag 0) (c .kept tag t) in
-          (e .0 ∙ sym (tagged (startOf s) tag t), e .1 ∙ sym (tagged (λ x. length (valueOf s x)) tag t))
+          (e .0 ∙ sym (tagged (valueStartOf s) tag t), e .1 ∙ sym (tagged (λ x. length (valueOf s x)) tag t))
 
   -- what refuses the field here refuses the order; at the end nothing does; and where nothing refuses the order, nothing refuses the field here
   pub refused-here : (n : ℕ) → at < length s → n ≡ faultOf s at → (n ≡ 0 → ⊥) → checkOf s ≡ refusal n at
@@ -247,50 +210,37 @@ module _ (s : List ℕ) (at : ℕ) (starts lengths : List ℕ) (c : Collected s 
 -- ---- so what the code holds of a checked order's fields gives what the order gives
 -- a list by tag at any number, where g is 0 of a number that is no tag
 at-tag : (g : ℕ → ℕ) → ((tag : ℕ) → length tags ≤ tag → g tag ≡ 0) → (tag : ℕ) → getD (byTag g (length tags) 0) tag 0 ≡ g tag
-at-tag g none tag = go (ltb tag (length tags)) refl
-  where
-    go : (b : Bool) → ltb tag (length tags) ≡ b → getD (byTag g (length tags) 0) tag 0 ≡ g tag
-    go true e = tagged g tag (ltb-true tag (length tags) e)
-    go false e =
-        let l = ltb-false tag (length tags) e in
-        let n = by-tag-length g (length tags) 0 in
-        List·getD-eq-default (byTag g (length tags) 0) 0 (omega arith) ∙ sym (none tag l)
+at-tag g none tag =
+    cases (ltb tag (length tags)) (λ e. tagged g tag (ltb-true tag (length tags) e))
+    (λ e. let l = ltb-false tag (length tags) e in let n = by-tag-length g (length tags) 0 in
+    List·getD-eq-default (byTag g (length tags) 0) 0 (omega arith) ∙ sym (none tag l))
 
 take-taken : (n : ℕ) (s : List ℕ) → take (length (take n s)) s ≡ take n s
 take-taken n s = ap (take (length (take n s))) (sym (take-append-drop n s)) ∙ take-append-seam (take n s) (drop n s)
 
 -- a tag's value is what its start and its length mark
-pub part-same : (s : List ℕ) (tag : ℕ) → take (length (valueOf s tag)) (drop (startOf s tag) s) ≡ valueOf s tag
-unfolding startOf valueOf
-part-same s tag = go (hasOf s tag) refl
-  where
-    go : (b : Bool) → hasOf s tag ≡ b → take (length (valueOf s tag)) (drop (cond b (offsetOf s tag + 3) 0) s) ≡ valueOf s tag
-    go true q = take-taken (lengthAt s (offsetOf s tag)) (drop (offsetOf s tag + 3) s)
-    go false q = let v = value-missing s tag q in rw v refl
+pub part-same : (s : List ℕ) (tag : ℕ) → take (length (valueOf s tag)) (drop (valueStartOf s tag) s) ≡ valueOf s tag
+unfolding valueStartOf valueOf
+part-same s tag =
+    cases (hasOf s tag) (λ q. simp q (take-taken (lengthAt s (offsetOf s tag)) (drop (offsetOf s tag + 3) s)))
+    (λ q. let v = value-missing s tag q in rw v refl)
 
 module _ (s : List ℕ) (e : checkOf s .number ≡ 0) where
   -- a number that the table lacks is no tag of a field
   beyond : (tag : ℕ) → length tags ≤ tag → hasOf s tag ≡ false
-  beyond tag h = go (hasOf s tag) refl
-    where
-      go : (b : Bool) → hasOf s tag ≡ b → b ≡ false
-      go true q = let g = has-good s tag e q in absurd (omega (arith, known-last (byteOf s (offsetOf s tag)) (g .0 .known), g .1))
-      go false q = refl
+  beyond tag h =
+      cases (hasOf s tag) (λ q. let g = has-good s tag e q in absurd (omega (arith, known-last (byteOf s (offsetOf s tag)) (g .0 .known), g .1))) (λ q. q)
 
-  starts : (tag : ℕ) → getD (fieldsOf s .at) tag 0 ≡ startOf s tag
-  unfolding startOf
-  starts = at-tag (startOf s) (λ tag h. simp (beyond tag h))
+  starts : (tag : ℕ) → getD (fieldsOf s .at) tag 0 ≡ valueStartOf s tag
+  unfolding valueStartOf
+  starts = at-tag (valueStartOf s) (λ tag h. simp (beyond tag h))
 
   lengths : (tag : ℕ) → getD (fieldsOf s .length) tag 0 ≡ length (valueOf s tag)
   lengths = at-tag (λ tag. length (valueOf s tag)) (λ tag h. ap (length {A = ℕ}) (value-missing s tag (beyond tag h)))
 
-  has-same : (tag : ℕ) → ltb 0 (startOf s tag) ≡ hasOf s tag
-  unfolding startOf
-  has-same tag = go (hasOf s tag)
-    where
-      go : (b : Bool) → ltb 0 (cond b (offsetOf s tag + 3) 0) ≡ b
-      go true = lt-ltb 0 (offsetOf s tag + 3) (omega arith)
-      go false = refl
+  has-same : (tag : ℕ) → ltb 0 (valueStartOf s tag) ≡ hasOf s tag
+  unfolding valueStartOf
+  has-same tag = cases (hasOf s tag) (λ q. simp q (lt-ltb 0 (offsetOf s tag + 3) (omega arith))) (λ q. simp q)
 
   pub collected : valuesIn s (fieldsOf s) ≡ valuesOf s
   unfolding valuesIn

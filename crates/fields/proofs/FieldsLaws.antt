@@ -1,20 +1,12 @@
 -- What a reader may rely on once the fields of an order are checked: each field is whole, and a tag's value has a length that the table
 -- allows. Assumes nothing.
-use native.Mathlib.Omega.{arith}
-use Prim.Native.Nat.{ℕ, zero, suc, _≤_, _<_, _+_, _-_}
-use mathlib.Core.Path.{_≡_, refl, sym, ap, _∙_}
-use mathlib.Core.Bool.{Bool, true, false, cond, not, _&&_, and-eq-true-iff}
-use mathlib.Core.List.{List, [], _∷_}
-use lib.ListN.{length, getD, List·getD-eq-default, take, drop, length-take, length-drop, drop-of-length-le}
-use lib.Seq.{take-nil}
-use lib.Dec.{ltb, leb, eqb, lit≤}
-use borrow.Author.Tests.{lt-ltb, ltb-true, ltb-false, leb-true, eqb-true, eqb-false, not-false}
+use Rattle.prelude.proofs.Logic.{_≡_, refl, sym, ap, _∙_, Bool, true, false, cond, not, _&&_, and-eq-true-iff, List, [], _∷_, ℕ, zero, suc, _≤_, _<_, _+_, _-_, arith, ltb, leb, eqb, lit≤, length, getD, List·getD-eq-default, take, drop, length-take, length-drop, drop-of-length-le, take-nil, lt-ltb, ltb-true, ltb-false, leb-true, eqb-true, eqb-false, not-false, cases, either}
 use Rattle.refusals.specs.Refusals.{refusal, noRefusal}
 use Rattle.refusals.specs.declared.Refusal.{Refusal}
 use Rattle.fields.specs.declared.tags.Row.{Row}
 use Rattle.fields.specs.Numbers.{byteOf}
 use Rattle.fields.specs.Tags.{tags, lastTag, column, knownTag, lengthFits}
-use Rattle.fields.specs.Fields.{lengthAt, after, firstBefore, valueFaultOf, faultIn, faultOf, walkOf, checkOf}
+use Rattle.fields.specs.Fields.{lengthAt, nextFieldAt, firstBefore, valueFaultOf, faultIn, faultOf, walkOf, checkOf}
 use Rattle.fields.specs.Values.{offsetOf, hasOf, valueOf}
 
 -- ---- the table's limits
@@ -44,36 +36,21 @@ unfolding rows-short
 length-short tag n e = let f = fits-between tag n e in let l = row-short tags refl tag in omega (arith, f .1, l)
 
 -- a tag that is none of the table's lies beyond it
-pub past : (k tag : ℕ) → k ≤ tag → (tag ≡ k → ⊥) → k + 1 ≤ tag
-past k tag l n = go (ltb k tag) refl
-  where
-    go : (b : Bool) → ltb k tag ≡ b → k + 1 ≤ tag
-    go true e = let h = ltb-true k tag e in omega arith
-    go false e = let h = ltb-false k tag e in absurd (n (omega arith))
-
 pub beyond-table : (tag : ℕ) → length tags ≤ tag
     → _≡_ {A = Row} (record { shortest = 0; longest = 0; lowest = 0; highest = 0 }) (record { shortest = column tag 0; longest = column tag 1; lowest = column tag 2; highest = column tag 3 })
 beyond-table tag l = let e : getD tags tag [] ≡ [] = List·getD-eq-default tags [] l in simp e
 
--- ---- a check that refuses nothing is passed, and a number that each check may give is not exceeded
+-- ---- a check that refuses nothing is passed
 passed : (b : Bool) (x y : ℕ) → 1 ≤ x → cond b x y ≡ 0 → (b ≡ false) × (y ≡ 0)
 passed true x y l e = absurd (omega arith)
 passed false x y l e = (refl, e)
-
-most : (b : Bool) (x y n : ℕ) → x ≤ n → y ≤ n → cond b x y ≤ n
-most true x y n h l = h
-most false x y n h l = l
-
-most-number : (b : Bool) (x y : Refusal) (n : ℕ) → x .number ≤ n → y .number ≤ n → cond b x y .number ≤ n
-most-number true x y n h l = h
-most-number false x y n h l = l
 
 -- ---- a field that is not refused
 pub record Good (s : List ℕ) (at : ℕ) : Type 0 where
   pub known : knownTag (byteOf s at) ≡ true
   pub new : at ≤ firstBefore (length s) s (byteOf s at) 0 at
   pub fits : lengthFits (byteOf s at) (lengthAt s at) ≡ true
-  pub whole : after s at ≤ length s
+  pub whole : nextFieldAt s at ≤ length s
 
 pub fault-none : (s : List ℕ) (at : ℕ) → faultOf s at ≡ 0 → Good s at
 unfolding faultOf faultIn valueFaultOf
@@ -91,14 +68,11 @@ fault-none s at e =
 
 -- a walk that refuses nothing: its first field is good, and so is the walk from the next on
 pub walk-good : (k : ℕ) (s : List ℕ) (at : ℕ) → at < length s → walkOf (suc k) s at .number ≡ 0
-    → (faultOf s at ≡ 0) × (walkOf k s (after s at) .number ≡ 0)
+    → (faultOf s at ≡ 0) × (walkOf k s (nextFieldAt s at) .number ≡ 0)
 unfolding walkOf
-walk-good k s at l e = go (eqb (faultOf s at) 0) refl (simp (lt-ltb at (length s) l) at e)
-  where
-    go : (b : Bool) → eqb (faultOf s at) 0 ≡ b → cond b (walkOf k s (after s at)) (refusal (faultOf s at) at) .number ≡ 0
-        → (faultOf s at ≡ 0) × (walkOf k s (after s at) .number ≡ 0)
-    go true h e = (eqb-true (faultOf s at) 0 h, e)
-    go false h e = absurd (eqb-false (faultOf s at) 0 h e)
+walk-good k s at l e =
+    cases (eqb (faultOf s at) 0) (λ h. (eqb-true (faultOf s at) 0 h, simp (lt-ltb at (length s) l, h) at e))
+    (λ h. absurd (eqb-false (faultOf s at) 0 h (simp (lt-ltb at (length s) l, h) at e)))
 
 -- ---- an order that is not refused: it is short, and its walk refuses nothing
 pub record Sound (s : List ℕ) : Type 0 where
@@ -107,28 +81,21 @@ pub record Sound (s : List ℕ) : Type 0 where
 
 pub check-none : (s : List ℕ) → checkOf s .number ≡ 0 → Sound s
 unfolding checkOf
-check-none s e = go (ltb 1024 (length s)) refl e
-  where
-    go : (b : Bool) → ltb 1024 (length s) ≡ b → cond b (refusal 1 0) (walkOf (length s) s 0) .number ≡ 0 → Sound s
-    go true h e = absurd (omega arith)
-    go false h e = record { short = ltb-false 1024 (length s) h; walk = e }
+check-none s e =
+    cases (ltb 1024 (length s)) (λ h. let z = simp h at e in absurd (omega arith))
+    (λ h. record { short = ltb-false 1024 (length s) h; walk = simp h at e })
 
 -- ---- the field of a tag that such an order has
 find-good : (k : ℕ) (s : List ℕ) (tag at : ℕ) → walkOf k s at .number ≡ 0 → firstBefore k s tag at (length s) < length s
     → (faultOf s (firstBefore k s tag at (length s)) ≡ 0) × (byteOf s (firstBefore k s tag at (length s)) ≡ tag)
 unfolding firstBefore
 find-good zero s tag at e h = absurd (omega arith)
-find-good (suc k) s tag at e h = go (ltb at (length s)) refl (eqb (byteOf s at) tag) refl (λ w l. find-good k s tag (after s at) w l) h
-  where
-    go : (a : Bool) → ltb at (length s) ≡ a → (b : Bool) → eqb (byteOf s at) tag ≡ b
-        → (walkOf k s (after s at) .number ≡ 0 → firstBefore k s tag (after s at) (length s) < length s
-        → (faultOf s (firstBefore k s tag (after s at) (length s)) ≡ 0) × (byteOf s (firstBefore k s tag (after s at) (length s)) ≡ tag))
-        → cond a (cond b at (firstBefore k s tag (after s at) (length s))) (length s) < length s
-        → (faultOf s (cond a (cond b at (firstBefore k s tag (after s at) (length s))) (length s)) ≡ 0)
-        × (byteOf s (cond a (cond b at (firstBefore k s tag (after s at) (length s))) (length s)) ≡ tag)
-    go false ha b hb on h = absurd (omega arith)
-    go true ha true hb on h = (walk-good k s at (ltb-true at (length s) ha) e .0, eqb-true (byteOf s at) tag hb)
-    go true ha false hb on h = on (walk-good k s at (ltb-true at (length s) ha) e .1) h
+find-good (suc k) s tag at e h =
+    cases (ltb at (length s))
+    (λ a. let w = walk-good k s at (ltb-true at (length s) a) e in
+    cases (eqb (byteOf s at) tag) (λ b. simp (a, b) (w .0, eqb-true (byteOf s at) tag b))
+    (λ b. simp (a, b) (find-good k s tag (nextFieldAt s at) (w .1) (simp (a, b) at h))))
+    (λ a. let z = simp a at h in absurd (omega arith))
 
 pub has-good : (s : List ℕ) (tag : ℕ) → checkOf s .number ≡ 0 → hasOf s tag ≡ true
     → Good s (offsetOf s tag) × (byteOf s (offsetOf s tag) ≡ tag)
@@ -138,10 +105,8 @@ has-good s tag e h =
     (fault-none s (firstBefore (length s) s tag 0 (length s)) (f .0), f .1)
 
 -- the value of a whole field has the length that the field says
-pub whole-length : (s : List ℕ) (at : ℕ) → after s at ≤ length s → length (take (lengthAt s at) (drop (at + 3) s)) ≡ lengthAt s at
-whole-length s at h =
-    let d = length-drop (at + 3) s in
-    length-take (lengthAt s at) (drop (at + 3) s) ∙ omega arith
+pub whole-length : (s : List ℕ) (at : ℕ) → nextFieldAt s at ≤ length s → length (take (lengthAt s at) (drop (at + 3) s)) ≡ lengthAt s at
+whole-length s at h = length-take (lengthAt s at) (drop (at + 3) s) ∙ omega (arith, length-drop (at + 3) s)
 
 pub value-fits : (s : List ℕ) (tag : ℕ) → checkOf s .number ≡ 0 → hasOf s tag ≡ true → lengthFits tag (length (valueOf s tag)) ≡ true
 unfolding valueOf
@@ -161,21 +126,19 @@ value-missing s tag h =
 fault-small : (s : List ℕ) (at : ℕ) → faultOf s at ≤ 3
 unfolding faultOf faultIn valueFaultOf
 fault-small s at =
-    most (ltb (length s - at) 3) 1 _ 3 (lit≤ tt)
-    (most (not (knownTag (byteOf s at))) 2 _ 3 (lit≤ tt)
-    (most (ltb (firstBefore (length s) s (byteOf s at) 0 at) at) 3 _ 3 (lit≤ tt)
-    (most (not (lengthFits (byteOf s at) (lengthAt s at))) 2 _ 3 (lit≤ tt)
-    (most (ltb (length s - at - 3) (lengthAt s at)) 1 0 3 (lit≤ tt) (lit≤ tt)))))
+    either (λ n. n ≤ 3) (ltb (length s - at) 3) (lit≤ tt)
+    (either (λ n. n ≤ 3) (not (knownTag (byteOf s at))) (lit≤ tt)
+    (either (λ n. n ≤ 3) (ltb (firstBefore (length s) s (byteOf s at) 0 at) at) (lit≤ tt)
+    (either (λ n. n ≤ 3) (not (lengthFits (byteOf s at) (lengthAt s at))) (lit≤ tt)
+    (either (λ n. n ≤ 3) (ltb (length s - at - 3) (lengthAt s at)) (lit≤ tt) (lit≤ tt)))))
 
 walk-small : (k : ℕ) (s : List ℕ) (at : ℕ) → walkOf k s at .number ≤ 3
 unfolding walkOf
 walk-small zero s at = lit≤ tt
 walk-small (suc k) s at =
-    let next = walkOf k s (after s at) in
-    let one = refusal (faultOf s at) at in
-    most-number (ltb at (length s)) (cond (eqb (faultOf s at) 0) next one) noRefusal 3
-    (most-number (eqb (faultOf s at) 0) next one 3 (walk-small k s (after s at)) (fault-small s at)) (lit≤ tt)
+    either (λ (r : Refusal). r .number ≤ 3) (ltb at (length s))
+    (either (λ (r : Refusal). r .number ≤ 3) (eqb (faultOf s at) 0) (walk-small k s (nextFieldAt s at)) (fault-small s at)) (lit≤ tt)
 
 pub check-small : (s : List ℕ) → checkOf s .number ≤ 3
 unfolding checkOf
-check-small s = most-number (ltb 1024 (length s)) (refusal 1 0) (walkOf (length s) s 0) 3 (lit≤ tt) (walk-small (length s) s 0)
+check-small s = either (λ (r : Refusal). r .number ≤ 3) (ltb 1024 (length s)) (lit≤ tt) (walk-small (length s) s 0)

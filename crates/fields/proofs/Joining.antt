@@ -1,21 +1,10 @@
 -- Laws of the numbers that bytes write: a byte put behind others by a shift, and sixteen bits with a sign in an i32.
-use native.Mathlib.Omega.{arith}
-use Prim.Native.Nat.{ℕ, _≤_, _<_, _+_, _*_, _^_, _%_}
-use native.Mathlib.Nat.{mod-eq-of-lt, lt-of-lt-of-le}
-use native.Mathlib.Numerals.{add-one}
-use mathlib.Core.Path.{_≡_, sym, ap, _∙_}
-use mathlib.Core.List.{List}
-use lib.Pow.{pow-mono, pow-add}
+use Rattle.prelude.proofs.Logic.{_≡_, sym, ap, _∙_, List, ℕ, _≤_, _<_, _+_, _*_, _^_, _%_, mod-eq-of-lt, lt-of-lt-of-le, add-one, arith, pos, _-ℤ_, pow-mono, pow-add, lt-ltb, le-ltb, w32, toZ, ofZ, SFits, toZ-pos, toZ-ofZ}
 use lib.Bits.{bitOr, or-shifted}
-use lib.IntN.{pos, _-ℤ_}
-use borrow.Author.Tests.{lt-ltb, le-ltb}
-use mir.Syntax.{w32}
-use mir.Val.{toZ, ofZ, SFits}
-use mir.Facts.{toZ-pos, toZ-ofZ}
-use Rattle.fields.specs.Numbers.{byteOf, unsignedOf, signedOf, joinedOf}
+use Rattle.fields.specs.Numbers.{byteOf, unsignedOf, signedAtOf, bytesNumberOf}
 
-pub join-on : (v : List ℕ) (i : ℕ) → joinedOf (i + 1) v ≡ joinedOf i v * 256 + byteOf v i
-unfolding joinedOf
+pub join-on : (v : List ℕ) (i : ℕ) → bytesNumberOf (i + 1) v ≡ bytesNumberOf i v * 256 + byteOf v i
+unfolding bytesNumberOf
 join-on v i = rw add-one
 
 -- a shift by a byte and an or put a byte behind fewer than eight
@@ -35,10 +24,10 @@ pub less-fits : (x : ℕ) → x < 65536 → SFits w32 (toZ w32 x -ℤ pos 65536)
 less-fits x h = rw (toZ-pos w32 {n = x} (omega arith)) (rw (lt-ltb x 65536 h) (record { sfits = omega arith }))
 
 module _ (v : List ℕ) (at x : ℕ) (is-x : x ≡ unsignedOf v at) where
-  pub signed-low : x < 32768 → toZ w32 x ≡ signedOf v at
-  unfolding signedOf
+  pub signed-low : x < 32768 → toZ w32 x ≡ signedAtOf v at
+  unfolding signedAtOf
   signed-low h = toZ-pos w32 {n = x} (omega arith) ∙ simp (sym is-x, lt-ltb _ _ h)
 
-  pub signed-high : x < 65536 → 32768 ≤ x → toZ w32 (ofZ w32 (toZ w32 x -ℤ pos 65536)) ≡ signedOf v at
-  unfolding signedOf
+  pub signed-high : x < 65536 → 32768 ≤ x → toZ w32 (ofZ w32 (toZ w32 x -ℤ pos 65536)) ≡ signedAtOf v at
+  unfolding signedAtOf
   signed-high u h = toZ-ofZ (less-fits x u) ∙ rw (toZ-pos w32 {n = x} (omega arith)) (simp (sym is-x, le-ltb _ _ h))

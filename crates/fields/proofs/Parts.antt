@@ -1,11 +1,5 @@
 -- The slices that `fields::values::bytes` may hand out are the bytes of the part. Assumes nothing.
-use native.Mathlib.Omega.{arith}
-use Prim.Native.Nat.{ℕ, _≤_, _+_, _-_}
-use mathlib.Core.Path.{_≡_, sym, ap, _∙_}
-use mathlib.Core.List.{List}
-use native.Mathlib.Nat.{add-sub-cancel-left}
-use lib.ListN.{length, take, drop, drop-of-length-le, length-drop}
-use lib.Seq.{take-nil, take-all, drop-length}
+use Rattle.prelude.proofs.Logic.{_≡_, sym, ap, _∙_, List, ℕ, _≤_, _+_, _-_, add-sub-cancel-left, arith, length, take, drop, drop-of-length-le, length-drop, take-nil, take-all, drop-length}
 
 module _ (s : List ℕ) (at n : ℕ) where
   pub part-none : length s ≤ at → take (length s - length s) (drop (length s) s) ≡ take n (drop at s)

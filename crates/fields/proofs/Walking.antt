@@ -1,12 +1,7 @@
 -- One step of each definition that goes over the fields.
-use native.Mathlib.Omega.{arith}
-use Prim.Native.Nat.{ℕ, zero, suc, _≤_, _<_, _+_}
-use mathlib.Core.Path.{_≡_, refl}
-use mathlib.Core.List.{List}
-use lib.ListN.{length}
-use borrow.Author.Tests.{lt-ltb, le-ltb, eq-eqb, ne-eqb}
+use Rattle.prelude.proofs.Logic.{_≡_, refl, List, ℕ, zero, suc, _≤_, _<_, _+_, arith, length, lt-ltb, le-ltb, eq-eqb, ne-eqb}
 use Rattle.fields.specs.Numbers.{byteOf}
-use Rattle.fields.specs.Fields.{firstBefore, after, faultOf, walkOf}
+use Rattle.fields.specs.Fields.{firstBefore, nextFieldAt, faultOf, walkOf}
 use Rattle.refusals.specs.Refusals.{refusal}
 
 pub find-here : (k : ℕ) (s : List ℕ) (tag at stop : ℕ) → stop ≤ at + k → at < stop → byteOf s at ≡ tag → firstBefore k s tag at stop ≡ at
@@ -15,7 +10,7 @@ find-here zero s tag at stop h l e = omega arith
 find-here (suc k) s tag at stop h l e = simp (lt-ltb _ _ l, eq-eqb _ _ e)
 
 pub find-on : (k : ℕ) (s : List ℕ) (tag at stop : ℕ) → stop ≤ at + k → at < stop → (byteOf s at ≡ tag → ⊥)
-    → (j : ℕ) × (k ≡ suc j) × (firstBefore k s tag at stop ≡ firstBefore j s tag (after s at) stop)
+    → (j : ℕ) × (k ≡ suc j) × (firstBefore k s tag at stop ≡ firstBefore j s tag (nextFieldAt s at) stop)
 unfolding firstBefore
 find-on zero s tag at stop h l e = absurd (omega arith)
 find-on (suc k) s tag at stop h l e = (k, refl, simp (lt-ltb _ _ l, ne-eqb _ _ e))
@@ -32,7 +27,7 @@ walk-stop zero s at n h l e f = absurd (omega arith)
 walk-stop (suc k) s at n h l e f = rw e (simp (lt-ltb _ _ l, ne-eqb (faultOf s at) 0 (λ q. f (omega arith))))
 
 pub walk-on : (k : ℕ) (s : List ℕ) (at n : ℕ) → length s ≤ at + k → at < length s → n ≡ faultOf s at → n ≡ 0
-    → (j : ℕ) × (k ≡ suc j) × (walkOf k s at ≡ walkOf j s (after s at))
+    → (j : ℕ) × (k ≡ suc j) × (walkOf k s at ≡ walkOf j s (nextFieldAt s at))
 unfolding walkOf
 walk-on zero s at n h l e f = absurd (omega arith)
 walk-on (suc k) s at n h l e f = (k, refl, simp (lt-ltb _ _ l, eq-eqb (faultOf s at) 0 (omega arith)))

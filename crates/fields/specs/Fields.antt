@@ -15,8 +15,8 @@ unfoldable pub lengthAt : List ℕ → ℕ → ℕ
 lengthAt s at = unsignedOf s (at + 1)
 
 -- where the field after the one at an offset begins
-abbrev pub after : List ℕ → ℕ → ℕ
-after s at = at + 3 + lengthAt s at
+abbrev pub nextFieldAt : List ℕ → ℕ → ℕ
+nextFieldAt s at = at + 3 + lengthAt s at
 
 -- A field says itself where the next one begins, so the fields from an offset on are gone through by recursion on how many there can be, k.
 -- Each begins three bytes or more after the one before, so there are never more than the order has bytes, and `length s` of them are all.
@@ -25,7 +25,7 @@ after s at = at + 3 + lengthAt s at
 unfoldable pub firstBefore : ℕ → List ℕ → ℕ → ℕ → ℕ → ℕ
 firstBefore zero s tag at stop = stop
 firstBefore (suc k) s tag at stop =
-    cond (ltb at stop) (cond (eqb (byteOf s at) tag) at (firstBefore k s tag (after s at) stop)) stop
+    cond (ltb at stop) (cond (eqb (byteOf s at) tag) at (firstBefore k s tag (nextFieldAt s at) stop)) stop
 
 -- "field by field: header cut, unknown tag, tag again, wrong length, value cut": what a field is refused by, or 0; of its value
 -- first, whose length is said to be n where so many bytes are left
@@ -56,7 +56,7 @@ faultOf s at =
 unfoldable pub walkOf : ℕ → List ℕ → ℕ → Refusal
 walkOf zero s at = noRefusal
 walkOf (suc k) s at =
-    cond (ltb at (length s)) (cond (eqb (faultOf s at) 0) (walkOf k s (after s at)) (refusal (faultOf s at) at)) noRefusal
+    cond (ltb at (length s)) (cond (eqb (faultOf s at) 0) (walkOf k s (nextFieldAt s at)) (refusal (faultOf s at) at)) noRefusal
 
 -- "Order of checks: length over 1,024; then field by field"; 1 is "over 1,024 bytes, or a field cut", 2 "unknown tag, wrong length",
 -- 3 "tag a second time", each with "its offset, or 0". Number and place are 0 where nothing is refused.

@@ -18,16 +18,16 @@ unsignedOf v at = byteOf v at * 256 + byteOf v (at + 1)
 abbrev pub withSign : ℕ → ℤ
 withSign x = cond (ltb x 32768) (pos x) (pos x -ℤ pos 65536)
 
-unfoldable pub signedOf : List ℕ → ℕ → ℤ
-signedOf v at = withSign (unsignedOf v at)
+unfoldable pub signedAtOf : List ℕ → ℕ → ℤ
+signedAtOf v at = withSign (unsignedOf v at)
 
 -- the number that the first n bytes write
-unfoldable pub joinedOf : ℕ → List ℕ → ℕ
-joinedOf zero v = 0
-joinedOf (suc k) v = joinedOf k v * 256 + byteOf v k
+unfoldable pub bytesNumberOf : ℕ → List ℕ → ℕ
+bytesNumberOf zero v = 0
+bytesNumberOf (suc k) v = bytesNumberOf k v * 256 + byteOf v k
 
 unfoldable pub bitsOf : List ℕ → ℕ
-bitsOf v = joinedOf 8 v
+bitsOf v = bytesNumberOf 8 v
 
 -- the float with that bit pattern
 unfoldable pub floatOf : List ℕ → Float

@@ -23,8 +23,8 @@ unfoldable pub valueOf : List ℕ → ℕ → List ℕ
 valueOf s tag = take (lengthAt s (offsetOf s tag)) (drop (offsetOf s tag + 3) s)
 
 -- where they begin, behind tag and length; 0 where the order lacks the tag
-unfoldable pub startOf : List ℕ → ℕ → ℕ
-startOf s tag = cond (hasOf s tag) (offsetOf s tag + 3) 0
+unfoldable pub valueStartOf : List ℕ → ℕ → ℕ
+valueStartOf s tag = cond (hasOf s tag) (offsetOf s tag + 3) 0
 
 -- what an order gives, by tag: all that reading it goes by once its fields are checked
 pub record Values : Type 0 where
@@ -37,7 +37,7 @@ valuesOf s =
     record {
       has = hasOf s;
       value = valueOf s;
-      part = λ tag. record { at = startOf s tag; length = length (valueOf s tag) };
+      part = λ tag. record { at = valueStartOf s tag; length = length (valueOf s tag) };
     }
 
 -- ---- the same as the code holds it: a start and a length for each tag of the table
@@ -60,7 +60,7 @@ byTag f zero tag = []
 byTag f (suc k) tag = f tag ∷ byTag f k (tag + 1)
 
 abbrev pub fieldsOf : List ℕ → Fields
-fieldsOf s = record { at = byTag (startOf s) (length tags) 0; length = byTag (λ tag. length (valueOf s tag)) (length tags) 0 }
+fieldsOf s = record { at = byTag (valueStartOf s) (length tags) 0; length = byTag (λ tag. length (valueOf s tag)) (length tags) 0 }
 
 abbrev pub noFields : Fields
 noFields = record { at = replicate (length tags) 0; length = replicate (length tags) 0 }

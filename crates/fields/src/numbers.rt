@@ -1,7 +1,7 @@
 // The numbers that bytes write, high byte first. A byte past the end counts as 0, so every call has an answer and no caller has an index to prove.
 ghost use mathlib.Core.Path.{_≡_};
 ghost use Prim.Native.Nat.{_<_};
-ghost use Rattle.fields.specs.Numbers.{byteOf, unsignedOf, signedOf, bitsOf, floatOf};
+ghost use Rattle.fields.specs.Numbers.{byteOf, unsignedOf, signedAtOf, bitsOf, floatOf};
 use float64::bits::from_bits;
 
 pub fn byte(bytes: &[u8], at: usize) -> u32
@@ -29,7 +29,7 @@ pub fn unsigned(bytes: &[u8], at: usize) -> u32
 
 // The same two bytes, as a number with a sign.
 pub fn signed(bytes: &[u8], at: usize) -> i32
-    ensures { λ r. ⌜ r ≡ signedOf (now (bytes .entry)) at ⌝ }
+    ensures { λ r. ⌜ r ≡ signedAtOf (now (bytes .entry)) at ⌝ }
 {
     let x = unsigned(bytes, at);
     if x < 32768 {

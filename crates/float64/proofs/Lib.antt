@@ -8,3 +8,4 @@ pub mod Steps
 pub mod Values
 pub mod Within
 pub mod WholeSizes
+pub mod Floats

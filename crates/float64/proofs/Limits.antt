@@ -1,19 +1,6 @@
 -- What tests against limits say of a float's size, and back. Assumes nothing.
-use mathlib.Core.Path.{_≡_, refl, sym, ap, _∙_, subst}
-use mathlib.Core.Bool.{Bool, true, false, _&&_, _||_, true≢false, false≢true}
-use mathlib.Core.Logic.{inl, inr}
-use Prim.Native.Nat.{ℕ, _+_, _*_, _≤_, _<_}
-use native.Mathlib.Nat.{mul-pos, le-of-mul-le-mul-right, le-of-lt, le-of-eq, eq-zero-or-pos, zero-mul}
-use native.Mathlib.Omega.{arith}
-use lib.IntN.{pos}
-use lib.Dec.{T, ltb, eqb, eqb→eq, lit<}
-use borrow.Author.Tests.{ltb-true, ltb-false, eq-eqb}
-use lib.Ieee.{Float, nan, inf, fin, binary64, up, down, round, neg, le, ofInt}
-use lib.Ieee.Exact.{HasValue}
-use lib.Ieee.Back.{round-whole}
-use lib.Ieee.Bits.{is-true}
-use lib.Ieee.Fits.{down-pos, up-pos, and-l}
-use lib.Ieee.Order.{transfer, le-of-values}
+use Rattle.prelude.proofs.Logic.{_≡_, refl, sym, ap, _∙_, subst, Bool, true, false, _&&_, _||_, true≢false, false≢true, inl, inr, ℕ, _+_, _*_, _≤_, _<_, mul-pos, le-of-mul-le-mul-right, le-of-lt, le-of-eq, eq-zero-or-pos, zero-mul, arith, T, ltb, eqb, eqb→eq, lit<, pos, ltb-true, ltb-false, eq-eqb, and-l}
+use Rattle.prelude.proofs.Ieee.{Float, nan, inf, fin, binary64, up, down, round, neg, le, ofInt, HasValue, round-whole, is-true, down-pos, up-pos, transfer, le-of-values}
 use Rattle.float64.specs.Ops.{dec}
 use Rattle.float64.proofs.Values.{big}
 use Rattle.float64.proofs.Within.{Within, le-sizes, under-value, round-signed}

@@ -1,18 +1,7 @@
 -- (x + 2 ^ 52) - 2 ^ 52, for 0 ≤ x < 2 ^ 52: a whole number that lies on the same side of every whole number as x.
 -- The sum is rounded into [2 ^ 52, 2 ^ 53], where all floats are whole numbers, and rounding keeps the order; the difference is exact. Assumes nothing.
-use mathlib.Core.Path.{_≡_, refl, sym}
-use Prim.Native.Nat.{ℕ, suc, _+_, _-_, _*_, _^_, _≤_, _<_}
-use native.Mathlib.Nat.{mul-one, add-mul, le-of-mul-le-mul-right}
-use native.Mathlib.Omega.{arith}
-use mathlib.Core.Bool.{true, false}
-use lib.IntN.{ℤ, pos, negsuc}
-use lib.Dec.{T, lit<, lit≤}
-use lib.Ieee.{Float, nan, inf, fin, binary64, up, down, fits, ofBits, round, add, sub, le}
-use lib.Ieee.Exact.{HasValue}
-use lib.Ieee.Back.{round-whole}
-use lib.Ieee.Fits.{down-pos, round-fits}
-use lib.Ieee.Order.{round-mono}
-use lib.Ieee.Positive.{positive, positive-of-value, values-of-le, between}
+use Rattle.prelude.proofs.Logic.{_≡_, refl, sym, true, false, ℕ, suc, _+_, _-_, _*_, _^_, _≤_, _<_, mul-one, add-mul, le-of-mul-le-mul-right, arith, T, lit<, lit≤, ℤ, pos, negsuc}
+use Rattle.prelude.proofs.Ieee.{Float, nan, inf, fin, binary64, up, down, fits, ofBits, round, add, sub, le, HasValue, round-whole, down-pos, round-fits, round-mono, positive, positive-of-value, values-of-le, between}
 use Rattle.float64.proofs.Values.{big, fraction-below}
 use Rattle.float64.proofs.Exact.{add-same, sub-same}
 

@@ -1,14 +1,6 @@
 -- What the three definitions of specs/Whole.antt have in common: a number with no fraction is its own result, and two of them are odd. Assumes nothing.
-use mathlib.Core.Path.{_≡_, refl, sym, ap, _∙_}
-use Prim.Native.Nat.{ℕ, suc, _+_, _*_, _%_, _^_, _≤_, _<_}
-use native.Mathlib.Nat.{zero-mod, mod-one, div-add-mod'}
-use native.Mathlib.Omega.{arith}
-use mathlib.Core.Bool.{Bool, true, false, cond, false≢true}
-use lib.IntN.{ℤ, pos, negsuc}
-use lib.Dec.{T, eqb, lit<}
-use borrow.Author.Tests.{ltb-true, ltb-false, lt-ltb, eq-eqb}
-use lib.Ieee.{Float, nan, inf, fin, binary64, up, down, fits, ofBits, ofInt, neg, lt}
-use lib.Ieee.Fits.{round-fits}
+use Rattle.prelude.proofs.Logic.{_≡_, refl, sym, ap, _∙_, Bool, true, false, cond, false≢true, ℕ, suc, _+_, _*_, _%_, _^_, _≤_, zero-mod, mod-one, div-add-mod', arith, T, eqb, lit<, ℤ, pos, negsuc, ltb-true, ltb-false, lt-ltb, eq-eqb}
+use Rattle.prelude.proofs.Ieee.{Float, nan, inf, fin, binary64, up, down, fits, ofBits, ofInt, neg, lt, round-fits}
 use Rattle.float64.specs.Whole.{floorOf, truncOf, roundOf, wholePart, fraction, halfUp}
 use Rattle.float64.proofs.Values.{big, value-unique, fraction-below}
 use Rattle.float64.proofs.Near.{W, at, at-value, whole64}
@@ -90,9 +82,7 @@ still-far nan f h k = absurd (false≢true h)
 still-far (inf s) f h k = unfold floorOf truncOf roundOf in ((refl, refl, refl), (refl, refl, refl))
 still-far (fin true m e) f h k = absurd (false≢true h)
 still-far (fin false m (pos j)) f h k = (still false m (pos j) (mod-one (m * 2 ^ j)), still true m (pos j) (mod-one (m * 2 ^ j)))
-still-far (fin false m (negsuc j)) f h k =
-    let l = ltb-false (m * 1 * 1) (W * 2 ^ suc j) k in
-    absurd (omega (arith, fraction-below false m j f))
+still-far (fin false m (negsuc j)) f h k = absurd (omega (arith, ltb-false (m * 1 * 1) (W * 2 ^ suc j) k, fraction-below false m j f))
 
 -- the whole part as a float is x, where x has no fraction
 pub own-whole : (m : ℕ) (e : ℤ) → T (fits binary64 (fin false m e)) → wholePart m e ≤ big → fraction m e ≡ 0 → at (wholePart m e) ≡ fin false m e

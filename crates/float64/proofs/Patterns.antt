@@ -1,14 +1,6 @@
 -- What a float's bit pattern says of it: the sign, the size, and that a pattern which is no larger than a number's is no NaN's. Assumes nothing.
-use mathlib.Core.Path.{_≡_, refl, sym, ap, subst, _∙_}
-use Prim.Native.Nat.{ℕ, zero, suc, _+_, _/_, _%_, _^_, _≤_, _<_}
-use native.Mathlib.Nat.{le-trans, mod-lt, mod-eq-of-lt}
-use native.Mathlib.Omega.{arith}
-use mathlib.Core.Bool.{Bool, true, false, not, cond}
-use lib.Dec.{T, leb, ltb, eqb, lit<}
-use borrow.Author.Tests.{le-ltb, ltb-false, lt-leb}
-use lib.Ieee.{Float, nan, inf, fin, Format, binary64, ne, isNan, fits, toBits, ofBits, ofFields, odd, nanBits, prec, low, hid, ones}
-use lib.Ieee.Compare.{differs-from-itself}
-use lib.Ieee.Bits.{nanBits-above, nanBits-is, ofBits-toBits, is-false}
+use Rattle.prelude.proofs.Logic.{_≡_, refl, sym, ap, subst, _∙_, Bool, true, false, not, cond, ℕ, zero, suc, _+_, _/_, _%_, _^_, _≤_, _<_, le-trans, mod-lt, mod-eq-of-lt, arith, T, leb, ltb, eqb, lit<, le-ltb, ltb-false, lt-leb}
+use Rattle.prelude.proofs.Ieee.{Float, nan, inf, fin, Format, binary64, ne, isNan, fits, toBits, ofBits, ofFields, odd, nanBits, prec, low, hid, ones, differs-from-itself, nanBits-above, nanBits-is, ofBits-toBits, is-false}
 use Rattle.float64.specs.Sizes.{absOf}
 use Rattle.float64.specs.Words.{isNegativeOf}
 

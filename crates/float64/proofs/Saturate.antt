@@ -1,21 +1,7 @@
 -- Saturating casts: of x > 0 to an unsigned number, by its whole part as a float; and from that to a signed one of as many bits. Assumes nothing.
-use mathlib.Core.Path.{_≡_, refl, sym, ap, _∙_, subst}
-use Prim.Native.Nat.{ℕ, zero, suc, _+_, _-_, _*_, _/_, _^_, _≤_, _<_, min, zero-le}
-use native.Mathlib.Nat.{min-eq-left, min-eq-right, le-of-lt, lt-of-lt-of-le, zero-div, mul-le-mul-right, div-lt-iff-lt-mul, le-div-iff-mul-le}
-use native.Mathlib.Omega.{arith}
-use mathlib.Core.Bool.{Bool, true, false, false≢true}
-use lib.IntN.{ℤ, pos, negℤ, _-ℤ_, +ℤ-idl}
-use lib.Signed.{mag}
-use lib.Dec.{T, leb, le→leb, lt→ltb, lit<}
-use lib.Pow.{pow-mono, pow-lt, le-ones}
-use borrow.Author.Tests.{leb-true, leb-false, ltb-true, ltb-false}
-use mir.Syntax.{Width, w8, w16, w32, w64, w128}
-use mir.Val.{SFits, toZ, ofZ, bits, hbits}
+use Rattle.prelude.proofs.Logic.{_≡_, refl, sym, ap, _∙_, subst, Bool, true, false, false≢true, ℕ, zero, suc, _+_, _-_, _*_, _/_, _^_, _≤_, _<_, min, zero-le, min-eq-left, min-eq-right, le-of-lt, lt-of-lt-of-le, zero-div, mul-le-mul-right, div-lt-iff-lt-mul, le-div-iff-mul-le, arith, T, leb, le→leb, lt→ltb, lit<, ℤ, pos, negℤ, _-ℤ_, +ℤ-idl, pow-mono, pow-lt, le-ones, mag, leb-true, leb-false, ltb-true, ltb-false, Width, w8, w16, w32, w64, w128, SFits, toZ, ofZ, bits, hbits}
 use mir.ValLaws.{toZ-pos, toZ-ofZ}
-use lib.Ieee.{Float, nan, inf, fin, up, down, binary64, fits, neg, ofBits, ofInt, lt, toSigned, toUnsigned, inUnsigned, inFloat}
-use lib.Ieee.Exact.{HasValue}
-use lib.Ieee.Back.{unsigned-back}
-use lib.Ieee.Fits.{down-pos}
+use Rattle.prelude.proofs.Ieee.{Float, nan, inf, fin, up, down, binary64, fits, neg, ofBits, ofInt, lt, toSigned, toUnsigned, inUnsigned, inFloat, HasValue, unsigned-back, down-pos}
 use Rattle.float64.specs.Whole.{truncOf}
 use Rattle.float64.proofs.Values.{big, lt-values}
 use Rattle.float64.proofs.Near.{W}

@@ -1,17 +1,6 @@
 -- From the whole number near x to the one below, the one above and the nearest, for 0 < x < 2 ^ 52. A test is added as 0 or 1. Assumes nothing.
-use mathlib.Core.Path.{_≡_, refl, sym, ap, _∙_}
-use Prim.Native.Nat.{ℕ, suc, _+_, _-_, _*_, _%_, _^_, _≤_, _<_}
-use native.Mathlib.Nat.{one-mul, mul-comm, mod-one, mod-le, div-add-mod', div-mul-le-self, le-div-iff-mul-le, div-lt-iff-lt-mul, mul-le-mul-right, lt-of-mul-lt-mul-right, pos-of-ne-zero, add-zero}
-use native.Mathlib.Omega.{arith}
-use mathlib.Core.Bool.{Bool, true, false, not, cond, false≢true}
-use lib.IntN.{ℤ, pos, negsuc}
-use lib.Dec.{T, ltb, eqb, lit<, lit≤}
-use borrow.Author.Tests.{ltb-true, ltb-false, eqb-true, eqb-false, le-ltb}
-use mir.Val.{boolByte}
-use lib.Ieee.{Float, nan, inf, fin, binary64, up, down, fits, ofBits, ofInt, round, neg, lt, add, sub}
-use lib.Ieee.Exact.{HasValue}
-use lib.Ieee.Back.{round-whole}
-use lib.Ieee.Fits.{down-pos, round-fits, neg-fits}
+use Rattle.prelude.proofs.Logic.{_≡_, refl, sym, ap, _∙_, Bool, true, false, not, cond, false≢true, ℕ, suc, _+_, _-_, _*_, _%_, _^_, _≤_, _<_, one-mul, mul-comm, mod-one, mod-le, div-add-mod', div-mul-le-self, le-div-iff-mul-le, div-lt-iff-lt-mul, mul-le-mul-right, lt-of-mul-lt-mul-right, pos-of-ne-zero, add-zero, arith, T, ltb, eqb, lit<, lit≤, ℤ, pos, negsuc, ltb-true, ltb-false, eqb-true, eqb-false, le-ltb, boolByte}
+use Rattle.prelude.proofs.Ieee.{Float, nan, inf, fin, binary64, up, down, fits, ofBits, ofInt, round, neg, lt, add, sub, HasValue, round-whole, down-pos, round-fits, neg-fits}
 use Rattle.float64.specs.Whole.{floorOf, truncOf, roundOf, wholePart, fraction, halfUp}
 use Rattle.float64.proofs.Values.{big, value-unique, dyadic-value, digits, places, over, lt-values}
 use Rattle.float64.proofs.Exact.{sub-same, add-dyadic, sub-dyadic}
@@ -166,9 +155,7 @@ module _ (m : ℕ) (e : ℤ) (fit : T (fits binary64 (fin false m e))) (small : 
 
       go : (t u : Bool) → eqb (fraction m e) 0 ≡ t → ltb (fraction m e * 2) (1 * d) ≡ u → at (q + boolByte (not u)) ≡ cond t (fin false m e) (at (halfUp m e))
       go true true h i = ap at (add-zero q) ∙ whole (eqb-true (fraction m e) 0 h)
-      go true false h i =
-          let r = eqb-true (fraction m e) 0 h in let l = ltb-false (fraction m e * 2) (1 * d) i in let p = down-pos e in
-          absurd (omega arith)
+      go true false h i = absurd (omega (arith, eqb-true (fraction m e) 0 h, ltb-false (fraction m e * 2) (1 * d) i, down-pos e))
       go false u h i =
           let g : ltb (2 * fraction m e) d ≡ u = ap (λ (j : ℕ). ltb j d) (mul-comm 2 (fraction m e)) ∙ ap (ltb (fraction m e * 2)) (sym (one-mul d)) ∙ i in
           rw g (ap at (last u))

@@ -1,20 +1,7 @@
 -- A float's value as a fraction: `HasValue x s a c` says that x is a / c with the sign s. Two floats with one value are the same float,
 -- the rounding of n / 2 ^ k is exact for n below 2 ^ 53, and a float is the rounding of its own value. Assumes nothing.
-use mathlib.Core.Path.{_≡_, refl, sym, ap, _∙_, subst}
-use mathlib.Core.Bool.{Bool, true, false, cond, _&&_, true≢false}
-use Prim.Native.Nat.{ℕ, zero, suc, _+_, _-_, _*_, _/_, _%_, _^_, _≤_, _<_}
-use native.Mathlib.Nat.{mul-one, zero-mul, mul-assoc, mul-right-comm, mul-le-mul-left, mul-lt-mul-of-pos-right, lt-of-lt-of-le, le-trans, not-le-of-lt, pow-succ'}
-use native.Mathlib.Omega.{arith}
-use borrow.Author.Tests.{ltb-true, ltb-false}
-use lib.IntN.{ℤ, pos, negsuc}
-use lib.Dec.{T, ltb, leb, eqb, ltb→lt, leb→le, eqb→eq, lit<, lit≤}
-use lib.Pow.{pow-pos, pow-add, pow-mono, pow-lt}
-use lib.Ieee.{Float, nan, inf, fin, Format, binary64, prec, low, hid, top, up, down, size, fits, toBits, ofBits, round, lt}
-use lib.Ieee.Bits.{ofBits-toBits}
-use lib.Ieee.Exact.{HasValue, round-exact}
-use lib.Ieee.Order.{transfer}
-use lib.Ieee.Nearest.{div-same}
-use lib.Ieee.Fits.{down-pos, round-fits, and-l, and-r}
+use Rattle.prelude.proofs.Logic.{_≡_, refl, sym, ap, _∙_, subst, Bool, true, false, cond, _&&_, true≢false, ℕ, zero, suc, _+_, _-_, _*_, _/_, _%_, _^_, _≤_, _<_, mul-one, zero-mul, mul-assoc, mul-right-comm, mul-le-mul-left, mul-lt-mul-of-pos-right, lt-of-lt-of-le, le-trans, not-le-of-lt, pow-succ', arith, T, ltb, leb, eqb, ltb→lt, leb→le, eqb→eq, lit<, lit≤, ℤ, pos, negsuc, pow-pos, pow-add, pow-mono, pow-lt, ltb-true, ltb-false, and-l, and-r}
+use Rattle.prelude.proofs.Ieee.{Float, nan, inf, fin, Format, binary64, prec, low, hid, top, up, down, size, fits, toBits, ofBits, round, lt, ofBits-toBits, HasValue, round-exact, transfer, div-same, down-pos, round-fits}
 
 -- ---- a value is written in one way
 pattern : Format → Bool → ℕ → ℕ

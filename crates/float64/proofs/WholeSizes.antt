@@ -1,20 +1,6 @@
 -- The whole part of a float of known size, and what a cast and the nearest whole number give of it. Assumes nothing.
-use mathlib.Core.Path.{_≡_, refl, sym, ap}
-use mathlib.Core.Bool.{Bool, true, false, cond, true≢false, false≢true}
-use mathlib.Core.Logic.{inl, inr}
-use Prim.Native.Nat.{ℕ, _+_, _*_, _/_, _^_, _≤_, _<_}
-use native.Mathlib.Nat.{mul-one, lt-of-mul-lt-mul-right, mul-right-comm, div-mul-le-self, mul-le-mul-right, le-of-mul-le-mul-right, le-trans, le-of-lt, le-of-eq, eq-zero-or-pos, min-eq-left, div-add-mod', le-div-iff-mul-le}
-use native.Mathlib.Omega.{arith}
-use lib.IntN.{ℤ, pos, negℤ}
-use lib.Dec.{T, ltb, eqb}
-use borrow.Author.Tests.{eqb-false}
-use lib.Pow.{le-ones}
-use lib.Ieee.{Float, nan, inf, fin, binary64, up, down, neg, le, ofInt, toSigned}
-use lib.Ieee.Exact.{HasValue}
-use lib.Ieee.Back.{round-whole}
-use lib.Ieee.Fits.{down-pos}
-use lib.Ieee.Nearest.{div-same}
-use lib.Ieee.Order.{transfer}
+use Rattle.prelude.proofs.Logic.{_≡_, refl, sym, ap, Bool, true, false, cond, true≢false, false≢true, inl, inr, ℕ, _+_, _*_, _/_, _^_, _≤_, _<_, mul-one, lt-of-mul-lt-mul-right, mul-right-comm, div-mul-le-self, mul-le-mul-right, le-of-mul-le-mul-right, le-trans, le-of-lt, le-of-eq, eq-zero-or-pos, min-eq-left, div-add-mod', le-div-iff-mul-le, arith, T, ltb, eqb, ℤ, pos, negℤ, le-ones, eqb-false}
+use Rattle.prelude.proofs.Ieee.{Float, nan, inf, fin, binary64, up, down, neg, le, ofInt, toSigned, HasValue, round-whole, down-pos, div-same, transfer}
 use Rattle.float64.specs.Whole.{roundOf, wholePart, fraction, halfUp}
 use Rattle.float64.proofs.Values.{big}
 use Rattle.float64.proofs.Within.{Within, Signed, le-sizes, value-within, neg-within, widen}

@@ -1,18 +1,7 @@
 -- Sizes through the operations: a float is finite, and no more than a / c in size. Each bound is n / 2 ^ k with n below 2 ^ 53, a float itself, so
 -- rounding, which keeps the order, does not pass it. Assumes nothing.
-use mathlib.Core.Path.{_≡_, refl, sym, ap, _∙_, subst}
-use mathlib.Core.Bool.{Bool, true, false, _&&_, _||_, cond, true≢false}
-use Prim.Native.Nat.{ℕ, zero, suc, _+_, _-_, _*_, _/_, _%_, _^_, _≤_, _<_, compare}
-use native.Mathlib.Nat.{mul-one, mul-assoc, mul-comm, mul-left-comm, add-mul, mul-pos, mul-le-mul, mul-le-mul-right, le-of-mul-le-mul-right, le-trans, le-of-eq, le-of-lt}
-use native.Mathlib.Omega.{arith}
-use lib.Dec.{T, ltb, eqb, eqb→eq, lit≤}
-use borrow.Author.Tests.{ltb-true, ne-eqb}
-use lib.Pow.{pow-pos}
-use lib.Ieee.{Float, nan, inf, fin, binary64, up, down, unlike, nearest, size, odd, units, round, neg, sum, add, sub, mul, div, le}
-use lib.Ieee.Exact.{HasValue}
-use lib.Ieee.Fits.{down-pos, and-l}
-use lib.Ieee.Order.{round-mono, transfer}
-use lib.Ieee.Positive.{first-pos}
+use Rattle.prelude.proofs.Logic.{_≡_, refl, sym, ap, _∙_, subst, Bool, true, false, _&&_, _||_, cond, true≢false, ℕ, zero, suc, _+_, _-_, _*_, _/_, _%_, _^_, _≤_, _<_, compare, mul-one, mul-assoc, mul-comm, mul-left-comm, add-mul, mul-pos, mul-le-mul, mul-le-mul-right, le-of-mul-le-mul-right, le-trans, le-of-eq, le-of-lt, arith, T, ltb, eqb, eqb→eq, lit≤, pow-pos, ltb-true, ne-eqb, and-l}
+use Rattle.prelude.proofs.Ieee.{Float, nan, inf, fin, binary64, up, down, unlike, nearest, size, odd, units, round, neg, sum, add, sub, mul, div, le, HasValue, down-pos, round-mono, transfer, first-pos}
 use Rattle.float64.specs.Sizes.{absOf}
 use Rattle.float64.specs.Words.{isNegativeOf}
 use Rattle.float64.proofs.Values.{big, dyadic-value}

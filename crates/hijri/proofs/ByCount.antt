@@ -1,14 +1,7 @@
 -- The date of a day by its number, within the years that a u32 holds. Assumes nothing.
-use mathlib.Core.Path.{_≡_, refl, ap}
-use mathlib.Core.Bool.{Bool, true, false, cond}
-use Prim.Native.Nat.{ℕ, _+_, _-_, _≤_, _<_}
-use native.Mathlib.Omega.{arith}
-use lib.Dec.{leb}
-use lib.IntN.{ℤ, pos, _+ℤ_}
-use borrow.Author.Tests.{leb-true, le-leb, lt-leb}
-use Rattle.integers.specs.Parts.{P, N}
-use Rattle.integers.proofs.PartsLaws.{not-positive}
-use Rattle.integers.proofs.Sums.{sum}
+use Rattle.prelude.proofs.Logic.{_≡_, ap, true, ℕ, _+_, _-_, _≤_, _<_, arith, ℤ, pos, _+ℤ_, le-leb, lt-leb}
+use Rattle.integers.proofs.Integers.{P, N, not-positive, sum}
+use Rattle.calendar.proofs.Counting.{capped}
 use Rattle.hijri.specs.Rule.{leapOf}
 use Rattle.hijri.specs.Days.{yearStartOf, monthStartOf, yearOf, monthOf, sinceFirstOf, dateOfDayOf, ofDayOf}
 use Rattle.hijri.proofs.YearSteps.{year-step, year-found, year-held}
@@ -16,11 +9,7 @@ use Rattle.hijri.proofs.MonthSteps.{year-short, month-place}
 
 pub since-small : (z : ℤ) → sinceFirstOf z ≤ 1521993243770
 unfolding sinceFirstOf
-since-small z = by-test (P (z +ℤ pos 492148)) (leb (P (z +ℤ pos 492148)) 1521993243770) refl
-  where
-    by-test : (n : ℕ) (b : Bool) → leb n 1521993243770 ≡ b → cond b n 1521993243770 ≤ 1521993243770
-    by-test n true e = leb-true n 1521993243770 e
-    by-test n false e = omega arith
+since-small z = capped (P (z +ℤ pos 492148)) 1521993243770
 
 -- outside the calendar it is the nearer end
 pub since-below : (z : ℤ) → P z + 492148 ≤ N z → sinceFirstOf z ≡ 0

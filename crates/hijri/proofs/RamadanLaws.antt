@@ -1,15 +1,6 @@
 -- The code's test for the first day of Ramadan: it says yes of each year's first of month 9, moved by the shift, and of no other day. Assumes nothing.
-use mathlib.Core.Path.{_≡_, refl, sym, ap, _∙_}
-use mathlib.Core.Bool.{Bool, true, false, _&&_, true≢false}
-use Prim.Native.Nat.{ℕ, _≤_}
-use native.Mathlib.Omega.{arith}
-use lib.Dec.{eqb}
-use lib.IntN.{ℤ, pos, negsuc, _+ℤ_, _-ℤ_}
-use lib.Signed.{leZ}
-use borrow.Author.Tests.{eqb-true}
-use Rattle.integers.proofs.PartsLaws.{same}
-use Rattle.integers.proofs.Sums.{sum, difference}
-use Rattle.integers.proofs.OrderLaws.{le-no}
+use Rattle.prelude.proofs.Logic.{_≡_, refl, sym, ap, _∙_, true, true≢false, and-eq-true-iff, ℕ, _≤_, arith, eqb, ℤ, pos, negsuc, _+ℤ_, _-ℤ_, leZ, eqb-true, cases}
+use Rattle.integers.proofs.Integers.{same, sum, difference, le-no}
 use Rattle.hijri.specs.Rule.{dateOf, leapOf, existsOf}
 use Rattle.hijri.specs.Days.{yearStartOf, monthStartOf, countOf, dayNumberOf, dateAtOf, ofDayOf}
 use Rattle.hijri.specs.Ramadan.{firstOfRamadanOf, shiftedStartOf, opensRamadan, ramadanStartOf}
@@ -39,23 +30,20 @@ start-yes y l h shift =
     ap (λ (x : ℤ). opensRamadan (ofDayOf x)) e ∙ ap opensRamadan (of-day-back (dateOf y 9 1) (first-exists y l) h)
 
 opened : (d : Tabular) → opensRamadan d ≡ true → dateOf (d .year) 9 1 ≡ d
-opened d h = by-test (eqb (d .month) 9) (eqb (d .day) 1) refl refl h
-  where
-    by-test : (a b : Bool) → eqb (d .month) 9 ≡ a → eqb (d .day) 1 ≡ b → a && b ≡ true → dateOf (d .year) 9 1 ≡ d
-    by-test true true p q h = rw (eqb-true (d .month) 9 p, eqb-true (d .day) 1 q)
-    by-test true false p q h = absurd (true≢false (sym h))
-    by-test false b p q h = absurd (true≢false (sym h))
+opened d h =
+    let t = and-eq-true-iff (eqb (d .month) 9) (eqb (d .day) 1) .0 h in
+    rw (eqb-true (d .month) 9 (t .0), eqb-true (d .day) 1 (t .1))
 
 -- no other day: one that the test takes is the first of month 9 of its year, and the shift more
 pub start-only : (z shift : ℤ) → ramadanStartOf z shift ≡ true → firstOfRamadanOf (ofDayOf (z -ℤ shift) .year) ≡ z -ℤ shift
 unfolding ramadanStartOf
-start-only z shift h = by-place (z -ℤ shift) (leZ (negsuc 492147) (z -ℤ shift)) (leZ (z -ℤ shift) (pos 1521992751622)) refl refl h
+start-only z shift h = by-place (z -ℤ shift) h
   where
-    by-place : (x : ℤ) (a b : Bool) → leZ (negsuc 492147) x ≡ a → leZ x (pos 1521992751622) ≡ b → opensRamadan (ofDayOf x) ≡ true → firstOfRamadanOf (ofDayOf x .year) ≡ x
-    by-place x true true p q h = ap dayNumberOf (opened (ofDayOf x) h) ∙ of-day-forth x p q
-    by-place x true false p q h =
-        let l = le-no x (pos 1521992751622) q in
-        absurd (true≢false (sym h ∙ ap (λ (n : ℕ). opensRamadan (dateAtOf n)) (since-above x (omega arith)) ∙ last-not))
-    by-place x false b p q h =
-        let l = le-no (negsuc 492147) x p in
-        absurd (true≢false (sym h ∙ ap (λ (n : ℕ). opensRamadan (dateAtOf n)) (since-below x (omega arith)) ∙ first-not))
+    by-place : (x : ℤ) → opensRamadan (ofDayOf x) ≡ true → firstOfRamadanOf (ofDayOf x .year) ≡ x
+    by-place x h =
+        cases (leZ (negsuc 492147) x)
+        (λ p. cases (leZ x (pos 1521992751622)) (λ q. ap dayNumberOf (opened (ofDayOf x) h) ∙ of-day-forth x p q)
+        (λ q. let l = le-no x (pos 1521992751622) q in
+        absurd (true≢false (sym h ∙ ap (λ (n : ℕ). opensRamadan (dateAtOf n)) (since-above x (omega arith)) ∙ last-not))))
+        (λ p. let l = le-no (negsuc 492147) x p in
+        absurd (true≢false (sym h ∙ ap (λ (n : ℕ). opensRamadan (dateAtOf n)) (since-below x (omega arith)) ∙ first-not)))

@@ -1,16 +1,6 @@
 -- The day less the shift as i64, and the days so far away that no shift brings them into the calendar. Assumes nothing.
-use mathlib.Core.Path.{_≡_, refl, sym, ap, _∙_}
-use mathlib.Core.Bool.{true, false}
-use Prim.Native.Nat.{ℕ, _+_, _≤_}
-use native.Mathlib.Omega.{arith}
-use lib.IntN.{ℤ, pos, negsuc, _-ℤ_}
-use lib.Signed.{ltZ}
-use mir.Syntax.{w64, w32}
-use mir.Val.{SFits}
-use Rattle.integers.specs.Parts.{P, N}
-use Rattle.integers.proofs.Sums.{difference}
-use Rattle.integers.proofs.OrderLaws.{lt-yes, lt-no}
-use Rattle.integers.proofs.Ranges.{range, fits, readBack, read, read-wide}
+use Rattle.prelude.proofs.Logic.{_≡_, refl, sym, ap, _∙_, true, false, ℕ, _+_, _≤_, arith, ℤ, pos, negsuc, _-ℤ_, ltZ, w64, w32, SFits}
+use Rattle.integers.proofs.Integers.{P, N, difference, lt-yes, lt-no, range, fits, readBack, read, read-wide}
 use Rattle.hijri.specs.Days.{yearStartOf, monthStartOf, yearOf, monthOf, inYearOf, dateAtOf}
 use Rattle.hijri.specs.Ramadan.{opensRamadan, ramadanStartOf}
 use Rattle.hijri.proofs.ByCount.{since-below, since-above}
@@ -44,17 +34,13 @@ module _ (z : ℤ) (f : SFits w64 z) (s : ℤ) (g : SFits w32 s) where
   unfolding ramadanStartOf
   far-below t =
       let l = lt-yes z (negsuc 999999999999) (ap (λ (x : ℤ). ltZ x (negsuc 999999999999)) (sym same-read) ∙ t) in
-      let r = range w32 s g in
-      let d = difference z s in
-      rw (since-below (z -ℤ s) (omega (arith, d .0, d .1))) (sym first-not)
+      rw (since-below (z -ℤ s) (omega (arith, range w32 s g, difference z s .0, difference z s .1))) (sym first-not)
 
   pub far-above : ltZ (pos 2000000000000) (readBack w64 z) ≡ true → false ≡ ramadanStartOf z s
   unfolding ramadanStartOf
   far-above t =
       let l = lt-yes (pos 2000000000000) z (ap (ltZ (pos 2000000000000)) (sym same-read) ∙ t) in
-      let r = range w32 s g in
-      let d = difference z s in
-      rw (since-above (z -ℤ s) (omega (arith, d .0, d .1))) (sym last-not)
+      rw (since-above (z -ℤ s) (omega (arith, range w32 s g, difference z s .0, difference z s .1))) (sym last-not)
 
   module _ (a : ltZ (readBack w64 z) (negsuc 999999999999) ≡ false) (b : ltZ (pos 2000000000000) (readBack w64 z) ≡ false) where
     near-fits : SFits w64 (z -ℤ s)

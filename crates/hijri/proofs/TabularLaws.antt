@@ -1,17 +1,7 @@
 -- The laws of the calendar: the formulas of Days give the calendar of Rule, in every year from 1 on. Assumes nothing.
 -- first-day and day-after give every date's number by the rule alone; the last two say that dates and day numbers give each other.
-use mathlib.Core.Path.{_≡_, refl, ap, subst}
-use mathlib.Core.Bool.{Bool, true, false, cond}
-use Prim.Native.Nat.{_+_}
-use native.Mathlib.Omega.{arith}
-use lib.Dec.{ltb}
-use lib.IntN.{ℤ, pos, negsuc, _+ℤ_}
-use lib.Signed.{leZ}
-use borrow.Author.Tests.{ltb-true, ltb-false}
-use Rattle.integers.specs.Parts.{P, N}
-use Rattle.integers.proofs.PartsLaws.{same, not-negative}
-use Rattle.integers.proofs.Sums.{sum, difference}
-use Rattle.integers.proofs.OrderLaws.{le-yes}
+use Rattle.prelude.proofs.Logic.{_≡_, refl, ap, true, _+_, arith, ltb, ℤ, pos, negsuc, _+ℤ_, leZ, ltb-true, ltb-false, cases}
+use Rattle.integers.proofs.Integers.{P, N, same, not-negative, sum, difference, le-yes}
 use Rattle.hijri.specs.Rule.{dateOf, leapOf, lengthOf, monthDaysOf, existsOf, dayAfterOf}
 use Rattle.hijri.specs.Days.{yearStartOf, monthStartOf, countOf, dayNumberOf, dateAtOf, dateOfDayOf}
 use Rattle.hijri.specs.declared.dates.Tabular.{Tabular}
@@ -26,38 +16,23 @@ record Follows (d e : Tabular) : Type 0 where
 
 after : (d : Tabular) → existsOf d ≡ true → Follows d (dayAfterOf d)
 unfolding dayAfterOf
-after d h = by-test (ltb (d .day) (monthDaysOf (d .year) (d .month))) refl (ltb (d .month) 12) refl
-  where
-    by-test : (a : Bool) → ltb (d .day) (monthDaysOf (d .year) (d .month)) ≡ a → (b : Bool) → ltb (d .month) 12 ≡ b →
-        Follows d (cond a (dateOf (d .year) (d .month) (d .day + 1)) (cond b (dateOf (d .year) (d .month + 1) 1) (dateOf (d .year + 1) 1 1)))
-    by-test true p b q =
-        let e = dateOf (d .year) (d .month) (d .day + 1) in
-        let x = exists-yes d h in
-        let l = ltb-true (d .day) (monthDaysOf (d .year) (d .month)) p in
-        record { there = to-exists e (record { year = x .year; from = omega arith; to = omega arith }); number = omega (arith, count-is d, count-is e) }
-    by-test false p true q =
-        let e = dateOf (d .year) (d .month + 1) 1 in
-        let x = exists-yes d h in
-        let m = month-of-date d x in
-        let l = ltb-false (d .day) (monthDaysOf (d .year) (d .month)) p in
-        let u = ltb-true (d .month) 12 q in
-        let s = month-step (leapOf (d .year)) (d .month) (m .first) u in
-        record {
-          there = to-exists e (record { year = x .year; from = omega arith; to = length-some (leapOf (d .year)) (d .month) u });
-          number = omega (arith, count-is d, count-is e);
-        }
-    by-test false p false q =
-        let e = dateOf (d .year + 1) 1 1 in
-        let x = exists-yes d h in
-        let m = month-of-date d x in
-        let l = ltb-false (d .day) (monthDaysOf (d .year) (d .month)) p in
-        let t : d .month ≡ 12 = omega (arith, ltb-false (d .month) 12 q) in
-        let s = year-step (d .year) in
-        let k = month-last (leapOf (d .year)) in
-        record {
-          there = to-exists e (record { year = omega arith; from = omega arith; to = length-some (leapOf (d .year + 1)) 0 (omega arith) });
-          number = omega (arith, count-is d, count-is e, ap monthStartOf t, ap (lengthOf (leapOf (d .year))) t, month-first);
-        }
+after d h =
+    let leap = leapOf (d .year) in let x = exists-yes d h in let m = month-of-date d x in
+    cases (ltb (d .day) (monthDaysOf (d .year) (d .month)))
+    (λ p. let e = dateOf (d .year) (d .month) (d .day + 1) in let l = ltb-true (d .day) (monthDaysOf (d .year) (d .month)) p in
+    rw p (record { there = to-exists e (record { year = x .year; from = omega arith; to = omega arith }); number = omega (arith, count-is d, count-is e) }))
+    (λ p. let l = ltb-false (d .day) (monthDaysOf (d .year) (d .month)) p in
+    cases (ltb (d .month) 12)
+    (λ q. let e = dateOf (d .year) (d .month + 1) 1 in let u = ltb-true (d .month) 12 q in
+    rw (p, q) (record {
+      there = to-exists e (record { year = x .year; from = omega arith; to = length-some leap (d .month) u });
+      number = omega (arith, month-step leap (d .month) (m .first) u, count-is d, count-is e);
+    }))
+    (λ q. let e = dateOf (d .year + 1) 1 1 in let t : d .month ≡ 12 = omega (arith, ltb-false (d .month) 12 q) in
+    rw (p, q) (record {
+      there = to-exists e (record { year = omega arith; from = omega arith; to = length-some (leapOf (d .year + 1)) 0 (omega arith) });
+      number = omega (arith, year-step (d .year), month-last leap, count-is d, count-is e, ap monthStartOf t, ap (lengthOf leap) t, month-first);
+    })))
 
 -- ---- day numbers
 pub first-day : dayNumberOf (dateOf 1 1 1) ≡ negsuc 492147
@@ -76,11 +51,7 @@ pub numbered : (d : Tabular) (z : ℤ) → P z + 492532 ≡ N z + countOf d → 
 numbered d z h = let b = balance d in same (dayNumberOf d) z (omega arith)
 
 pub day-after : (d : Tabular) → existsOf d ≡ true → dayNumberOf (dayAfterOf d) ≡ dayNumberOf d +ℤ pos 1
-day-after d h =
-    let f = after d h .number in
-    let b = balance d in
-    let s = sum (dayNumberOf d) (pos 1) in
-    numbered (dayAfterOf d) (dayNumberOf d +ℤ pos 1) (omega arith)
+day-after d h = numbered (dayAfterOf d) (dayNumberOf d +ℤ pos 1) (omega (arith, after d h .number, balance d, sum (dayNumberOf d) (pos 1)))
 
 pub day-after-exists : (d : Tabular) → existsOf d ≡ true → existsOf (dayAfterOf d) ≡ true
 day-after-exists d h = after d h .there
@@ -102,8 +73,7 @@ number-of-date z h =
     let l = le-yes (negsuc 492147) z h in
     let s = sum z (pos 492148) in
     let n = not-negative (z +ℤ pos 492148) (omega arith) in
-    let c = count-forth (P (z +ℤ pos 492148)) .number in
-    numbered (dateAtOf (P (z +ℤ pos 492148))) z (omega arith)
+    numbered (dateAtOf (P (z +ℤ pos 492148))) z (omega (arith, count-forth (P (z +ℤ pos 492148)) .number))
 
 pub date-of-day-exists : (z : ℤ) → existsOf (dateOfDayOf z) ≡ true
 unfolding dateOfDayOf

@@ -1,14 +1,6 @@
 -- From the Gregorian calendar to the tabular one and back, and the other way, by the number of the day. Assumes nothing.
-use mathlib.Core.Path.{_≡_, ap, _∙_}
-use mathlib.Core.Bool.{true}
-use Prim.Native.Nat.{_+_, _≤_}
-use native.Mathlib.Omega.{arith}
-use lib.IntN.{ℤ, pos, negsuc, _+ℤ_}
-use lib.Signed.{leZ}
-use borrow.Author.Tests.{le-leb}
-use Rattle.integers.proofs.PartsLaws.{not-negative}
-use Rattle.integers.proofs.Sums.{sum}
-use Rattle.integers.proofs.OrderLaws.{le-yes, to-le}
+use Rattle.prelude.proofs.Logic.{_≡_, ap, _∙_, true, _+_, _≤_, arith, ℤ, pos, negsuc, _+ℤ_, leZ, le-leb}
+use Rattle.integers.proofs.Integers.{not-negative, sum, le-yes, to-le}
 use Rattle.calendar.specs.declared.dates.Date.{Date}
 use Rattle.calendar.specs.Gregorian as gregorian
 use Rattle.calendar.specs.Days as gregorian-days

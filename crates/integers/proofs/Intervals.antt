@@ -1,10 +1,5 @@
 -- Integers from -a to b, through the operations that a time is worked by. Assumes nothing.
-use mathlib.Core.Path.{_≡_}
-use mathlib.Core.Bool.{Bool, true, false, cond}
-use Prim.Native.Nat.{ℕ, _+_, _*_, _≤_}
-use native.Mathlib.Nat.{mul-le-mul-right}
-use native.Mathlib.Omega.{arith}
-use lib.IntN.{ℤ, pos, negsuc, _+ℤ_, _-ℤ_, _*ℤ_}
+use Rattle.prelude.proofs.Logic.{_≡_, Bool, true, false, cond, ℕ, _+_, _*_, _≤_, mul-le-mul-right, arith, ℤ, pos, negsuc, _+ℤ_, _-ℤ_, _*ℤ_}
 use Rattle.integers.specs.Parts.{P, N, Between}
 use Rattle.integers.specs.Order.{_≼_}
 use Rattle.integers.proofs.Sums.{sum, difference, times}

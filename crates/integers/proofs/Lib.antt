@@ -6,3 +6,4 @@ pub mod Ranges
 pub mod Intervals
 pub mod Held
 pub mod Unsigned
+pub mod Integers

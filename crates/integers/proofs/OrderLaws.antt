@@ -1,12 +1,5 @@
 -- What a test of the order that passed or failed says of the parts, and back. Assumes nothing.
-use mathlib.Core.Path.{_≡_, refl, subst}
-use Prim.Native.Nat.{_+_, _≤_, _<_}
-use native.Mathlib.Omega.{arith}
-use mathlib.Core.Bool.{Bool, true, false, not}
-use lib.IntN.{ℤ, pos, negsuc}
-use lib.Signed.{leZ, ltZ}
-use lib.Dec.{T}
-use borrow.Author.Tests.{ltb-true, ltb-false, leb-true, leb-false, lt-ltb, le-ltb, le-leb, lt-leb}
+use Rattle.prelude.proofs.Logic.{_≡_, refl, subst, Bool, true, false, not, _+_, _<_, arith, T, ℤ, pos, negsuc, leZ, ltZ, ltb-true, ltb-false, leb-true, leb-false, lt-ltb, le-ltb, le-leb, lt-leb}
 use Rattle.integers.specs.Parts.{P, N}
 use Rattle.integers.specs.Order.{_≼_}
 

@@ -1,8 +1,5 @@
 -- Integers by the balance of their parts. Assumes nothing.
-use mathlib.Core.Path.{_≡_, refl, ap}
-use Prim.Native.Nat.{_+_, _≤_}
-use native.Mathlib.Omega.{arith}
-use lib.IntN.{ℤ, pos, negsuc}
+use Rattle.prelude.proofs.Logic.{_≡_, refl, ap, _+_, _≤_, arith, ℤ, pos, negsuc}
 use Rattle.integers.specs.Parts.{P, N}
 
 -- equality: two integers with the same balance are one

@@ -1,10 +1,5 @@
 -- Quotients and remainders by a natural number above 0, toward zero and rounded down, by their parts. Assumes nothing.
-use mathlib.Core.Path.{_≡_, sym, ap, subst, _∙_}
-use Prim.Native.Nat.{ℕ, suc, _+_, _-_, _*_, _/_, _%_, _<_}
-use native.Mathlib.Nat.{zero-mul, div-add-mod', mod-lt}
-use native.Mathlib.Omega.{arith}
-use lib.IntN.{ℤ, pos, negsuc, negℤ}
-use lib.Signed.{quotZ, remZ}
+use Rattle.prelude.proofs.Logic.{_≡_, sym, ap, subst, _∙_, ℕ, suc, _+_, _*_, _/_, _%_, _<_, zero-mul, div-add-mod', mod-lt, arith, ℤ, pos, negsuc, negℤ, quotZ, remZ}
 use Rattle.integers.specs.Parts.{P, N}
 use Rattle.integers.specs.Quotients.{floorQuot, floorRem}
 use Rattle.integers.proofs.Sums.{flip}

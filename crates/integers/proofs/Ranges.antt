@@ -1,12 +1,6 @@
 -- Which integers an i32 or an i64 holds, by their parts, and what the machine reads back of one that it holds. Assumes nothing.
-use mathlib.Core.Path.{_≡_, sym, subst, _∙_}
-use Prim.Native.Nat.{_^_, _≤_, _<_}
-use native.Mathlib.Omega.{arith}
-use lib.IntN.{ℤ, pos, negsuc}
-use mir.Syntax.{Width, w32, w64}
-use mir.Val.{SFits, toZ, ofZ, hbits}
+use Rattle.prelude.proofs.Logic.{_≡_, sym, subst, _∙_, _^_, _≤_, _<_, arith, ℤ, pos, negsuc, Width, w32, w64, SFits, toZ, ofZ, hbits, sfits-widen}
 use mir.ValLaws.{toZ-ofZ}
-use mir.Facts.{sfits-widen}
 use Rattle.integers.specs.Parts.{P, N}
 
 -- z is from -2 ^ h to 2 ^ h - 1, where h is the width less its sign bit: 31, 63

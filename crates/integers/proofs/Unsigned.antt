@@ -1,13 +1,5 @@
 -- An i64's parts as u64. Assumes nothing.
-use mathlib.Core.Path.{_≡_, refl, sym, ap, subst, _∙_}
-use mathlib.Core.Bool.{Bool, true, false, not}
-use Prim.Native.Nat.{ℕ, _+_, _-_, _<_}
-use native.Mathlib.Omega.{arith}
-use lib.Dec.{T}
-use lib.IntN.{ℤ, pos, negsuc, natAbs, _+ℤ_, _-ℤ_}
-use lib.Signed.{ltZ, nonNeg}
-use mir.Syntax.{w64}
-use mir.Val.{SFits, Fits}
+use Rattle.prelude.proofs.Logic.{_≡_, refl, sym, ap, subst, _∙_, Bool, true, false, not, _+_, _-_, _<_, arith, T, ℤ, pos, negsuc, natAbs, _+ℤ_, _-ℤ_, ltZ, nonNeg, w64, SFits, Fits}
 use Rattle.integers.specs.Parts.{P, N}
 use Rattle.integers.proofs.PartsLaws.{same}
 use Rattle.integers.proofs.Sums.{sum, difference}

@@ -1,20 +1,14 @@
 -- What the calls' definitions are under the tests that the code makes. Assumes nothing.
-use native.Mathlib.Omega.{arith}
-use Prim.Native.Nat.{ℕ, _+_, _-_, _*_, _≤_, _<_}
-use mathlib.Core.Path.{_≡_, refl, ap, _∙_}
-use mathlib.Core.Bool.{Bool, true, false, cond, _&&_}
-use mathlib.Core.List.{List, [], _++_}
-use lib.Dec.{eqb, leb}
-use lib.ListN.{length, take, length-append}
-use borrow.Author.Tests.{le-leb, lt-leb, leb-true, eqb-true}
-use Rattle.refusals.specs.Refusals.{bufferShort, logSecondShort, logOutOfTurn, logCountOutside}
+use Rattle.prelude.proofs.Logic.{_≡_, refl, ap, _∙_, Bool, true, false, cond, _&&_, List, [], _++_, ℕ, _+_, _-_, _*_, _≤_, _<_, arith, eqb, leb, length, take, length-append, le-leb, lt-leb, leb-true, eqb-true}
+use Rattle.prelude.proofs.Cases.{cases, both}
+use Rattle.refusals.specs.Refusals.{bufferShort, logSecondShort, logOutOfTurn}
 use Rattle.text.specs.Text.{putOf}
 use Rattle.text.proofs.TextLaws.{put-behind}
 use Rattle.joblog.specs.declared.records.State.{State}
-use Rattle.joblog.specs.declared.records.Reading.{Reading}
-use Rattle.joblog.specs.declared.records.Reading.the-variants.{Says, OutOfTurn}
-use Rattle.joblog.specs.Records.{state, recordAs, bytesOf, wholeOf, inTurn, afterOf, readingOf, compactedOf}
-use Rattle.joblog.specs.Calls.{refused, answered, Call, refusing, readAnswer, readLogOf, compactAnswer, compactingOf, newInTurn, writtenOf, appendedOf, appendOf, restartedOf, restartOf}
+use Rattle.joblog.specs.declared.records.LogReading.{LogReading}
+use Rattle.joblog.specs.declared.records.LogReading.the-variants.{Says, OutOfTurn}
+use Rattle.joblog.specs.Records.{recordAs, bytesOf, wholeOf, inTurn, afterOf, logReadingOf, compactedOf}
+use Rattle.joblog.specs.Calls.{refused, answered, refusing, readAnswer, readLogOf, compactAnswer, compactingOf, newInTurn, loggedOf, appendedOf, appendOf, restartedOf, restartOf}
 use Rattle.joblog.proofs.CompactLaws.{bytes-length, compacted-length}
 
 -- ---- compaction
@@ -44,41 +38,37 @@ put-with s tag page at second one two e a f room =
 
 -- ---- append
 module _ (s : State) (log : List ℕ) (used tag page : ℕ) (second : List ℕ) where
-  pub written-placed : wholeOf used + 5 ≤ length log → writtenOf s log used tag page second
+  pub written-placed : wholeOf used + 5 ≤ length log → loggedOf s log used tag page second
       ≡ record { answer = answered 0 (afterOf s (recordAs tag page)) (wholeOf used + 5); log = putOf log (wholeOf used) (bytesOf tag page); second = second }
-  unfolding writtenOf
+  unfolding loggedOf
   written-placed h = rw (le-leb (wholeOf used + 5) (length log) h)
 
   pub written-moved : length log < wholeOf used + 5
-      → writtenOf s log used tag page second ≡ compactingOf (afterOf s (recordAs tag page)) (compactedOf s ++ bytesOf tag page) page log second
-  unfolding writtenOf
+      → loggedOf s log used tag page second ≡ compactingOf (afterOf s (recordAs tag page)) (compactedOf s ++ bytesOf tag page) page log second
+  unfolding loggedOf
   written-moved h = rw (lt-leb (wholeOf used + 5) (length log) h)
 
-  pub appended-good : (x : Reading) → x ≡ Says s → newInTurn s tag page ≡ true → appendedOf x log used tag page second ≡ writtenOf s log used tag page second
+  pub appended-good : (x : LogReading) → x ≡ Says s → newInTurn s tag page ≡ true → appendedOf x log used tag page second ≡ loggedOf s log used tag page second
   unfolding appendedOf
   appended-good x e h = rw (e, h)
 
-  pub appended-bad : (x : Reading) → x ≡ Says s → newInTurn s tag page ≡ false → appendedOf x log used tag page second ≡ refusing logOutOfTurn page log second
+  pub appended-bad : (x : LogReading) → x ≡ Says s → newInTurn s tag page ≡ false → appendedOf x log used tag page second ≡ refusing logOutOfTurn page log second
   unfolding appendedOf
   appended-bad x e h = rw (e, h)
 
-pub appended-not : (x : Reading) (p : ℕ) (log : List ℕ) (used tag page : ℕ) (second : List ℕ) → x ≡ OutOfTurn p
+pub appended-not : (x : LogReading) (p : ℕ) (log : List ℕ) (used tag page : ℕ) (second : List ℕ) → x ≡ OutOfTurn p
     → appendedOf x log used tag page second ≡ refusing logOutOfTurn p log second
 unfolding appendedOf
 appended-not x p log used tag page second e = rw e
 
 pub append-fits : (log : List ℕ) (used tag page : ℕ) (second : List ℕ) → used ≤ length log
-    → appendOf log used tag page second ≡ appendedOf (readingOf (take used log)) log used tag page second
+    → appendOf log used tag page second ≡ appendedOf (logReadingOf (take used log)) log used tag page second
 unfolding appendOf
 append-fits log used tag page second h = rw (le-leb used (length log) h)
 
 pub append-over : (log : List ℕ) (used tag page : ℕ) (second : List ℕ) → length log < used → appendOf log used tag page second ≡ refusing bufferShort 0 log second
 unfolding appendOf
 append-over log used tag page second h = rw (lt-leb used (length log) h)
-
-pub both : (a b : Bool) → a && b ≡ true → (a ≡ true) × (b ≡ true)
-both true b h = (refl, h)
-both false b h = let z : _≡_ {A = ℕ} 0 1 = cc in absurd (omega arith)
 
 pub new-fits : (s : State) (tag page : ℕ) → newInTurn s tag page ≡ true → (tag ≤ 255) × (page ≤ 65535)
 unfolding newInTurn inTurn
@@ -94,23 +84,17 @@ new-fits s tag page h =
 
 -- ---- restart
 -- what it answers and writes does not hang on the first buffer's bytes but by what they say
-pub restarted-any : (x : Reading) (log : List ℕ) (count : ℕ) (second : List ℕ)
+pub restarted-any : (x : LogReading) (log : List ℕ) (count : ℕ) (second : List ℕ)
     → (restartedOf x [] count second .answer ≡ restartedOf x log count second .answer) × (restartedOf x [] count second .second ≡ restartedOf x log count second .second)
 unfolding restartedOf
 restarted-any (OutOfTurn p) log count second = (refl, refl)
-restarted-any (Says s) log count second = by-test (leb (s .finished) count && leb count (s .sent))
-  where
-    to : Bool → List ℕ → Call
-    to b l = cond b (compactingOf (state count (s .sent)) (compactedOf (state count (s .sent))) count l second) (refusing logCountOutside count l second)
+restarted-any (Says s) log count second =
+    cases (leb (s .finished) count && leb count (s .sent)) (λ t. simp t (refl, refl)) (λ t. simp t (refl, refl))
 
-    by-test : (b : Bool) → (to b [] .answer ≡ to b log .answer) × (to b [] .second ≡ to b log .second)
-    by-test true = (refl, refl)
-    by-test false = (refl, refl)
-
-pub restart-fits : (log : List ℕ) (used count : ℕ) (second : List ℕ) → used ≤ length log → restartOf log used count second ≡ restartedOf (readingOf (take used log)) log count second
+pub restart-fits : (log : List ℕ) (used count : ℕ) (second : List ℕ) → used ≤ length log → restartOf log used count second ≡ restartedOf (logReadingOf (take used log)) log count second
 unfolding restartOf
 restart-fits log used count second h = rw (le-leb used (length log) h)
 
-pub read-fits : (log : List ℕ) (used : ℕ) → used ≤ length log → readLogOf log used ≡ readAnswer used (readingOf (take used log))
+pub read-fits : (log : List ℕ) (used : ℕ) → used ≤ length log → readLogOf log used ≡ readAnswer used (logReadingOf (take used log))
 unfolding readLogOf
 read-fits log used h = rw (le-leb used (length log) h)

@@ -1,13 +1,6 @@
 -- Compaction, put record by record. Assumes nothing.
-use native.Mathlib.Omega.{arith}
-use Prim.Native.Nat.{ℕ, zero, suc, _+_, _-_, _*_, _≤_, _<_}
-use mathlib.Core.Path.{_≡_, refl, sym, ap, _∙_}
-use mathlib.Core.Bool.{Bool, true, false, cond}
-use mathlib.Core.List.{List, _++_, append-assoc, append-nil}
-use lib.Dec.{leb}
-use lib.ListN.{length, take, drop, length-append, length-drop}
-use lib.Seq.{length-take-le}
-use borrow.Author.Tests.{lt-leb, leb-true}
+use Rattle.prelude.proofs.Logic.{_≡_, refl, sym, ap, _∙_, List, _++_, append-assoc, append-nil, ℕ, zero, suc, _+_, _-_, _*_, _≤_, _<_, arith, leb, length, length-append, length-drop, length-take-le, lt-leb, leb-true}
+use Rattle.prelude.proofs.Cases.{arms}
 use Rattle.text.specs.Text.{putOf}
 use Rattle.text.proofs.TextLaws.{put-behind, put-nothing}
 use Rattle.joblog.specs.declared.records.State.{State}
@@ -19,17 +12,13 @@ bytes-length tag page = refl
 
 pub put-length : (buffer text : List ℕ) (at : ℕ) → length (putOf buffer at text) ≡ length buffer
 unfolding putOf
-put-length buffer text at = by-test (leb (at + length text) (length buffer)) refl
-  where
-    by-test : (b : Bool) → leb (at + length text) (length buffer) ≡ b → length (cond b (take at buffer ++ text ++ drop (at + length text) buffer) buffer) ≡ length buffer
-    by-test false e = refl
-    by-test true e =
-        let h = leb-true (at + length text) (length buffer) e in
-        let l = length-append (take at buffer ++ text) (drop (at + length text) buffer) in
-        let m = length-append (take at buffer) text in
-        let t = length-take-le at buffer (omega arith) in
-        let d = length-drop (at + length text) buffer in
-        omega arith
+put-length buffer text at =
+    arms (λ (x : List ℕ). length x ≡ length buffer) (leb (at + length text) (length buffer))
+    (λ e. let h = leb-true (at + length text) (length buffer) e in
+    let t = length-take-le at buffer (omega arith) in
+    let d = length-drop (at + length text) buffer in
+    simp length-append (omega arith))
+    (λ e. refl)
 
 pub put-none : (buffer text : List ℕ) → length buffer < length text → putOf buffer 0 text ≡ buffer
 unfolding putOf

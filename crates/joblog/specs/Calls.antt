@@ -10,9 +10,9 @@ use Rattle.refusals.specs.Refusals.{bufferShort, logSecondShort, logOutOfTurn, 
 use Rattle.text.specs.Text.{putOf}
 use Rattle.joblog.specs.declared.calls.Log.{Log}
 use Rattle.joblog.specs.declared.records.State.{State}
-use Rattle.joblog.specs.declared.records.Reading.{Reading}
-use Rattle.joblog.specs.declared.records.Reading.the-variants.{Says, OutOfTurn}
-use Rattle.joblog.specs.Records.{state, recordAs, bytesOf, wholeOf, inTurn, afterOf, readingOf, compactedOf}
+use Rattle.joblog.specs.declared.records.LogReading.{LogReading}
+use Rattle.joblog.specs.declared.records.LogReading.the-variants.{Says, OutOfTurn}
+use Rattle.joblog.specs.Records.{state, recordAs, bytesOf, wholeOf, inTurn, afterOf, logReadingOf, compactedOf}
 
 abbrev pub refused : ℕ → ℕ → Log
 refused number place = record { number = number; place = place; moved = 0; finished = 0; sent = 0; used = 0 }
@@ -22,28 +22,28 @@ abbrev pub answered : ℕ → State → ℕ → Log
 answered moved s used = record { number = 0; place = 0; moved = moved; finished = s .finished; sent = s .sent; used = used }
 
 -- ---- read
-unfoldable pub readAnswer : ℕ → Reading → Log
+unfoldable pub readAnswer : ℕ → LogReading → Log
 readAnswer used (Says s) = answered 0 s (wholeOf used)
 readAnswer used (OutOfTurn page) = refused logOutOfTurn page
 
 -- a `used` over the buffer's size is 9, before anything else
 unfoldable pub readLogOf : List ℕ → ℕ → Log
-readLogOf log used = cond (leb used (length log)) (readAnswer used (readingOf (take used log))) (refused bufferShort 0)
+readLogOf log used = cond (leb used (length log)) (readAnswer used (logReadingOf (take used log))) (refused bufferShort 0)
 
 -- ---- a call that may write: its answer, and the bytes of both buffers after it
-pub record Call : Type 0 where
+pub record LogCall : Type 0 where
   pub answer : Log
   pub log : List ℕ
   pub second : List ℕ
 
-abbrev pub refusing : ℕ → ℕ → List ℕ → List ℕ → Call
+abbrev pub refusing : ℕ → ℕ → List ℕ → List ℕ → LogCall
 refusing number place log second = record { answer = refused number place; log = log; second = second }
 
 -- "compacted into a second lent buffer ..; the first buffer stays as it was"; 12, and nothing is put, where the second is too short for all of it
 unfoldable pub compactAnswer : State → List ℕ → ℕ → List ℕ → Log
 compactAnswer s text place second = cond (leb (length text) (length second)) (answered 1 s (length text)) (refused logSecondShort place)
 
-abbrev pub compactingOf : State → List ℕ → ℕ → List ℕ → List ℕ → Call
+abbrev pub compactingOf : State → List ℕ → ℕ → List ℕ → List ℕ → LogCall
 compactingOf s text place log second = record { answer = compactAnswer s text place second; log = log; second = putOf second 0 text }
 
 -- ---- append
@@ -52,32 +52,32 @@ unfoldable pub newInTurn : State → ℕ → ℕ → Bool
 newInTurn s tag page = leb page 65535 && inTurn false s (recordAs tag page)
 
 -- "A full log .. is compacted": full is fewer than five bytes after the last whole record, where the next record begins
-unfoldable pub writtenOf : State → List ℕ → ℕ → ℕ → ℕ → List ℕ → Call
-writtenOf s log used tag page second =
+unfoldable pub loggedOf : State → List ℕ → ℕ → ℕ → ℕ → List ℕ → LogCall
+loggedOf s log used tag page second =
     let t = afterOf s (recordAs tag page) in
     cond (leb (wholeOf used + 5) (length log))
     (record { answer = answered 0 t (wholeOf used + 5); log = putOf log (wholeOf used) (bytesOf tag page); second = second })
     (compactingOf t (compactedOf s ++ bytesOf tag page) page log second)
 
 -- the log's own records are tried before the new one
-unfoldable pub appendedOf : Reading → List ℕ → ℕ → ℕ → ℕ → List ℕ → Call
+unfoldable pub appendedOf : LogReading → List ℕ → ℕ → ℕ → ℕ → List ℕ → LogCall
 appendedOf (Says s) log used tag page second =
-    cond (newInTurn s tag page) (writtenOf s log used tag page second) (refusing logOutOfTurn page log second)
+    cond (newInTurn s tag page) (loggedOf s log used tag page second) (refusing logOutOfTurn page log second)
 appendedOf (OutOfTurn p) log used tag page second = refusing logOutOfTurn p log second
 
-unfoldable pub appendOf : List ℕ → ℕ → ℕ → ℕ → List ℕ → Call
+unfoldable pub appendOf : List ℕ → ℕ → ℕ → ℕ → List ℕ → LogCall
 appendOf log used tag page second =
-    cond (leb used (length log)) (appendedOf (readingOf (take used log)) log used tag page second) (refusing bufferShort 0 log second)
+    cond (leb used (length log)) (appendedOf (logReadingOf (take used log)) log used tag page second) (refusing bufferShort 0 log second)
 
 -- ---- restart
 -- "If that count lies between the log's finished and sent pages, ends included, the log is compacted with the count as finished"
-unfoldable pub restartedOf : Reading → List ℕ → ℕ → List ℕ → Call
+unfoldable pub restartedOf : LogReading → List ℕ → ℕ → List ℕ → LogCall
 restartedOf (Says s) log count second =
     cond (leb (s .finished) count && leb count (s .sent))
     (compactingOf (state count (s .sent)) (compactedOf (state count (s .sent))) count log second)
     (refusing logCountOutside count log second)
 restartedOf (OutOfTurn p) log count second = refusing logOutOfTurn p log second
 
-unfoldable pub restartOf : List ℕ → ℕ → ℕ → List ℕ → Call
+unfoldable pub restartOf : List ℕ → ℕ → ℕ → List ℕ → LogCall
 restartOf log used count second =
-    cond (leb used (length log)) (restartedOf (readingOf (take used log)) log count second) (refusing bufferShort 0 log second)
+    cond (leb used (length log)) (restartedOf (logReadingOf (take used log)) log count second) (refusing bufferShort 0 log second)

@@ -3,14 +3,14 @@ use Prim.Native.Nat.{ℕ, _+_, _*_, _≤_}
 use mathlib.Core.List.{List}
 use lib.ListN.{getD}
 use Rattle.joblog.specs.declared.records.Record.{Record}
-use Rattle.joblog.specs.declared.records.Reading.{Reading}
-use Rattle.joblog.specs.declared.records.Reading.the-variants.{Says, OutOfTurn}
+use Rattle.joblog.specs.declared.records.LogReading.{LogReading}
+use Rattle.joblog.specs.declared.records.LogReading.the-variants.{Says, OutOfTurn}
 
 -- the record at an offset
 abbrev pub recordAt : List ℕ → ℕ → Record
 recordAt log at = record { tag = getD log at 0; length = getD log (at + 1) 0 * 256 + getD log (at + 2) 0; page = getD log (at + 3) 0 * 256 + getD log (at + 4) 0 }
 
 -- two bytes hold each page of a log of bytes
-abbrev pub Bounded : Reading → Type 0
+abbrev pub Bounded : LogReading → Type 0
 Bounded (Says s) = (s .finished ≤ 65535) × (s .sent ≤ 65535)
 Bounded (OutOfTurn page) = page ≤ 65535

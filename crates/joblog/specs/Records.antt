@@ -6,8 +6,8 @@ use mathlib.Core.List.{List, [], _∷_, _++_}
 use lib.Dec.{leb, eqb}
 use Rattle.joblog.specs.declared.records.State.{State}
 use Rattle.joblog.specs.declared.records.Record.{Record}
-use Rattle.joblog.specs.declared.records.Reading.{Reading}
-use Rattle.joblog.specs.declared.records.Reading.the-variants.{Says, OutOfTurn}
+use Rattle.joblog.specs.declared.records.LogReading.{LogReading}
+use Rattle.joblog.specs.declared.records.LogReading.the-variants.{Says, OutOfTurn}
 
 -- "tag 1 sent, 2 done, 3 finished through"
 abbrev pub sentTag : ℕ
@@ -60,12 +60,12 @@ afterOf s r =
     cond (eqb (r .tag) sentTag) (state (s .finished) (r .page)) (cond (eqb (r .tag) doneTag) (state (r .page) (s .sent)) (state (r .page) (r .page)))
 
 -- the records from the first on, each after those before it; the page of the first that is out of turn
-unfoldable pub readOf : Bool → State → List Record → Reading
+unfoldable pub readOf : Bool → State → List Record → LogReading
 readOf first s [] = Says s
 readOf first s (r ∷ rest) = cond (inTurn first s r) (readOf false (afterOf s r) rest) (OutOfTurn (r .page))
 
-abbrev pub readingOf : List ℕ → Reading
-readingOf log = readOf true (state 0 0) (recordsOf log)
+abbrev pub logReadingOf : List ℕ → LogReading
+logReadingOf log = readOf true (state 0 0) (recordsOf log)
 
 -- ---- what compaction writes
 -- the sent records of the n pages after `page`

@@ -8,8 +8,8 @@ ghost use lib.ListN.{length};
 ghost use Rattle.text.specs.Text.{putOf};
 ghost use Rattle.joblog.specs.Records.{recordAs, bytesOf, wholeOf, afterOf, compactedOf};
 ghost use Rattle.joblog.specs.Parts.{Bounded};
-ghost use Rattle.joblog.specs.Calls.{refused, answered, readAnswer, readLogOf, compactAnswer, newInTurn, writtenOf, appendedOf, appendOf, restartedOf, restartOf};
-use super::records::Reading;
+ghost use Rattle.joblog.specs.Calls.{refused, answered, readAnswer, readLogOf, compactAnswer, newInTurn, loggedOf, appendedOf, appendOf, restartedOf, restartOf};
+use super::records::LogReading;
 use super::records::State;
 use super::records::after;
 use super::records::in_turn;
@@ -67,12 +67,12 @@ fn whole(used: usize) -> usize
     used / 5 * 5
 }
 
-fn read_answer(reading: Reading, used: usize) -> Log
+fn read_answer(reading: LogReading, used: usize) -> Log
     ensures { λ r. ⌜ r ≡ readAnswer used reading ⌝ }
 {
     match reading {
-        Reading::Says(s) => answer(0, s, whole(used)),
-        Reading::OutOfTurn(page) => refuse(LOG_OUT_OF_TURN, page),
+        LogReading::Says(s) => answer(0, s, whole(used)),
+        LogReading::OutOfTurn(page) => refuse(LOG_OUT_OF_TURN, page),
     }
 }
 
@@ -116,9 +116,9 @@ fn compact_with(s: State, tag: u32, page: u32, second: &mut [u8]) -> Log
 // The new record in its place, or into the second buffer where the log is full.
 fn write(s: State, log: &mut [u8], used: usize, tag: u32, page: u32, second: &mut [u8]) -> Log
     requires { ⌜ (s .finished ≤ 65535) × (s .sent ≤ 65535) × (tag ≤ 255) × (page ≤ 65535) × (used ≤ length (now log)) ⌝ }
-    ensures { λ r. ⌜ r ≡ writtenOf s (now (log .entry)) used tag page (now (second .entry)) .answer ⌝ }
-    ensures { λ _. ⌜ now (log .exit) ≡ writtenOf s (now (log .entry)) used tag page (now (second .entry)) .log ⌝ }
-    ensures { λ _. ⌜ now (second .exit) ≡ writtenOf s (now (log .entry)) used tag page (now (second .entry)) .second ⌝ }
+    ensures { λ r. ⌜ r ≡ loggedOf s (now (log .entry)) used tag page (now (second .entry)) .answer ⌝ }
+    ensures { λ _. ⌜ now (log .exit) ≡ loggedOf s (now (log .entry)) used tag page (now (second .entry)) .log ⌝ }
+    ensures { λ _. ⌜ now (second .exit) ≡ loggedOf s (now (log .entry)) used tag page (now (second .entry)) .second ⌝ }
 {
     let at = whole(used);
     if log.len() - at >= 5 {
@@ -140,7 +140,7 @@ fn new_in_turn(s: State, tag: u32, page: u32) -> bool
 
 // What an append does with a log that says this.
 fn append_read(
-    reading: Reading,
+    reading: LogReading,
     log: &mut [u8],
     used: usize,
     tag: u32,
@@ -153,13 +153,13 @@ fn append_read(
     ensures { λ _. ⌜ now (second .exit) ≡ appendedOf reading (now (log .entry)) used tag page (now (second .entry)) .second ⌝ }
 {
     match reading {
-        Reading::Says(s) => {
+        LogReading::Says(s) => {
             if new_in_turn(s, tag, page) {
                 return write(s, &mut log[..], used, tag, page, &mut second[..]);
             }
             return refuse(LOG_OUT_OF_TURN, page);
         }
-        Reading::OutOfTurn(first) => {
+        LogReading::OutOfTurn(first) => {
             return refuse(LOG_OUT_OF_TURN, first);
         }
     }
@@ -185,13 +185,13 @@ fn between(low: u32, count: u32, high: u32) -> bool
 }
 
 // What a restart writes hangs on what the log says alone, so the contract has no bytes of the first buffer.
-fn restart_read(reading: Reading, count: u32, second: &mut [u8]) -> Log
+fn restart_read(reading: LogReading, count: u32, second: &mut [u8]) -> Log
     requires { ⌜ Bounded reading ⌝ }
     ensures { λ r. ⌜ r ≡ restartedOf reading [] count (now (second .entry)) .answer ⌝ }
     ensures { λ _. ⌜ now (second .exit) ≡ restartedOf reading [] count (now (second .entry)) .second ⌝ }
 {
     match reading {
-        Reading::Says(s) => {
+        LogReading::Says(s) => {
             if between(s.finished, count, s.sent) {
                 let t = State {
                     finished: count,
@@ -201,7 +201,7 @@ fn restart_read(reading: Reading, count: u32, second: &mut [u8]) -> Log
             }
             return refuse(LOG_COUNT_OUTSIDE, count);
         }
-        Reading::OutOfTurn(first) => {
+        LogReading::OutOfTurn(first) => {
             return refuse(LOG_OUT_OF_TURN, first);
         }
     }

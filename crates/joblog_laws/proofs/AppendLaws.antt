@@ -1,20 +1,14 @@
 -- What a single call leaves of both buffers, and a cut at any byte of an append. Assumes nothing.
-use native.Mathlib.Omega.{arith}
-use Prim.Native.Nat.{ℕ, _+_, _-_, _*_, _≤_, _<_}
-use mathlib.Core.Path.{_≡_, refl, sym, ap, _∙_}
-use mathlib.Core.Bool.{Bool, true, false, cond, _&&_}
-use mathlib.Core.List.{List, _++_}
-use lib.Dec.{leb, ltb, eqb}
-use lib.ListN.{length, take, drop, length-append}
-use lib.Seq.{drop-append-add, drop-drop, length-take-le}
-use borrow.Author.Tests.{le-leb, leb-true, leb-false, ltb-true, ltb-false}
-use Rattle.refusals.specs.Refusals.{bufferShort, logSecondShort, logOutOfTurn, logCountOutside}
+use Rattle.prelude.proofs.Logic.{_≡_, refl, sym, ap, _∙_, Bool, true, false, cond, _&&_, List, _++_, ℕ, _+_, _-_, _*_, _≤_, _<_, arith, leb, ltb, eqb, length, take, drop, length-append, drop-append-add, drop-drop, length-take-le, le-leb, leb-true, leb-false, ltb-true, ltb-false}
+use Rattle.refusals.specs.Refusals.{bufferShort, logSecondShort, logOutOfTurn}
+use Rattle.prelude.proofs.Cases.{arms}
 use Rattle.text.specs.Text.{putOf}
 use Rattle.joblog.specs.declared.records.State.{State}
-use Rattle.joblog.specs.declared.records.Reading.{Reading}
-use Rattle.joblog.specs.declared.records.Reading.the-variants.{Says, OutOfTurn}
-use Rattle.joblog.specs.Records.{state, recordAs, bytesOf, recordsOf, wholeOf, inTurn, afterOf, readingOf, compactedOf}
-use Rattle.joblog.specs.Calls.{Call, refused, refusing, answered, readAnswer, readLogOf, newInTurn, compactAnswer, compactingOf, writtenOf, appendedOf, appendOf, restartedOf, restartOf}
+use Rattle.joblog.specs.declared.records.LogReading.{LogReading}
+use Rattle.joblog.specs.declared.records.LogReading.the-variants.{Says, OutOfTurn}
+use Rattle.joblog.specs.Records.{state, recordAs, bytesOf, recordsOf, wholeOf, inTurn, afterOf, logReadingOf, compactedOf}
+use Rattle.joblog.specs.declared.calls.Log.{Log}
+use Rattle.joblog.specs.Calls.{LogCall, refusing, answered, readAnswer, readLogOf, newInTurn, compactAnswer, compactingOf, loggedOf, appendedOf, appendOf, restartedOf, restartOf}
 use Rattle.joblog.proofs.CompactLaws.{bytes-length, put-none}
 use Rattle.joblog.proofs.CallLaws.{with-length}
 use Rattle.joblog_laws.specs.Run.{inPlace}
@@ -23,72 +17,58 @@ use Rattle.joblog_laws.proofs.ReadingLaws.{read-ordered}
 use Rattle.joblog_laws.proofs.HeldLaws.{Held, held-read, put-read, put-held, cut-before, Outcome, refusal, placed, moved, append-outcome}
 
 -- ---- which bytes change
-Keeps : Call → List ℕ → List ℕ → Type 0
-Keeps c log second = (eqb (c .answer .number) 0 ≡ false → Unchanged c log second) × (inPlace c ≡ false → c .log ≡ log)
+Keeps : List ℕ → List ℕ → LogCall → Type 0
+Keeps log second c = (eqb (c .answer .number) 0 ≡ false → Unchanged c log second) × (inPlace c ≡ false → c .log ≡ log)
 
-compacting-keeps : (t : State) (text : List ℕ) (place : ℕ) (log second : List ℕ) → Keeps (compactingOf t text place log second) log second
+compacting-keeps : (t : State) (text : List ℕ) (place : ℕ) (log second : List ℕ) → Keeps log second (compactingOf t text place log second)
 unfolding Keeps compactAnswer
-compacting-keeps t text place log second = (by-room (leb (length text) (length second)) refl, λ i. refl)
+compacting-keeps t text place log second = (
+  arms (λ (a : Log). eqb (a .number) 0 ≡ false → (log ≡ log) × (putOf second 0 text ≡ second)) (leb (length text) (length second))
+      (λ e n. let z : _≡_ {A = ℕ} 0 1 = cc in absurd (omega arith)) (λ e n. (refl, put-none second text (leb-false (length text) (length second) e))),
+  λ i. refl,
+)
+
+append-keeps : (log : List ℕ) (used tag page : ℕ) (second : List ℕ) → Keeps log second (appendOf log used tag page second)
+unfolding Keeps appendOf appendedOf loggedOf
+append-keeps log used tag page second =
+    arms (Keeps log second) (leb used (length log)) (λ f. by-reading (logReadingOf (take used log))) (λ f. (λ n. (refl, refl), λ i. refl))
   where
-    by-room : (b : Bool) → leb (length text) (length second) ≡ b → eqb (cond b (answered 1 t (length text)) (refused logSecondShort place) .number) 0 ≡ false
-        → (log ≡ log) × (putOf second 0 text ≡ second)
-    by-room true e n = let z : _≡_ {A = ℕ} 0 1 = cc in absurd (omega arith)
-    by-room false e n = (refl, put-none second text (leb-false (length text) (length second) e))
+    by-reading : (x : LogReading) → Keeps log second (appendedOf x log used tag page second)
+    by-reading (OutOfTurn p) = (λ n. (refl, refl), λ i. refl)
+    by-reading (Says s) =
+        arms (Keeps log second) (newInTurn s tag page)
+        (λ t. arms (Keeps log second) (leb (wholeOf used + 5) (length log))
+        (λ r. (λ n. let z : _≡_ {A = ℕ} 0 1 = cc in absurd (omega arith), λ i. let z : _≡_ {A = ℕ} 0 1 = cc in absurd (omega arith)))
+        (λ r. compacting-keeps (afterOf s (recordAs tag page)) (compactedOf s ++ bytesOf tag page) page log second))
+        (λ t. (λ n. (refl, refl), λ i. refl))
 
-append-keeps : (log : List ℕ) (used tag page : ℕ) (second : List ℕ) → Keeps (appendOf log used tag page second) log second
-unfolding Keeps appendOf appendedOf writtenOf
-append-keeps log used tag page second = by-size (leb used (length log)) (readingOf (take used log))
+Left : List ℕ → List ℕ → LogCall → Type 0
+Left log second c = (eqb (c .answer .number) 0 ≡ false → Unchanged c log second) × (c .log ≡ log)
+
+restart-keeps : (log : List ℕ) (used count : ℕ) (second : List ℕ) → Left log second (restartOf log used count second)
+unfolding Keeps Left restartOf restartedOf
+restart-keeps log used count second =
+    arms (Left log second) (leb used (length log)) (λ f. by-reading (logReadingOf (take used log))) (λ f. (λ n. (refl, refl), refl))
   where
-    by-place : (s : State) (b : Bool)
-        → Keeps
-        (cond b
-        (record { answer = answered 0 (afterOf s (recordAs tag page)) (wholeOf used + 5); log = putOf log (wholeOf used) (bytesOf tag page); second = second })
-        (compactingOf (afterOf s (recordAs tag page)) (compactedOf s ++ bytesOf tag page) page log second))
-        log
-        second
-    by-place s true = (λ n. let z : _≡_ {A = ℕ} 0 1 = cc in absurd (omega arith), λ i. let z : _≡_ {A = ℕ} 0 1 = cc in absurd (omega arith))
-    by-place s false = compacting-keeps (afterOf s (recordAs tag page)) (compactedOf s ++ bytesOf tag page) page log second
-
-    by-turn : (s : State) (b : Bool) → Keeps (cond b (writtenOf s log used tag page second) (refusing logOutOfTurn page log second)) log second
-    by-turn s true = by-place s (leb (wholeOf used + 5) (length log))
-    by-turn s false = (λ n. (refl, refl), λ i. refl)
-
-    by-size : (b : Bool) (x : Reading) → Keeps (cond b (appendedOf x log used tag page second) (refusing bufferShort 0 log second)) log second
-    by-size false x = (λ n. (refl, refl), λ i. refl)
-    by-size true (OutOfTurn p) = (λ n. (refl, refl), λ i. refl)
-    by-size true (Says s) = by-turn s (newInTurn s tag page)
-
-restart-keeps : (log : List ℕ) (used count : ℕ) (second : List ℕ)
-    → (eqb (restartOf log used count second .answer .number) 0 ≡ false → Unchanged (restartOf log used count second) log second) × (restartOf log used count second .log ≡ log)
-unfolding Keeps restartOf restartedOf
-restart-keeps log used count second = by-size (leb used (length log)) (readingOf (take used log))
-  where
-    Left : Call → Type 0
-    Left c = (eqb (c .answer .number) 0 ≡ false → Unchanged c log second) × (c .log ≡ log)
-
-    by-count : (s : State) (b : Bool)
-        → Left (cond b (compactingOf (state count (s .sent)) (compactedOf (state count (s .sent))) count log second) (refusing logCountOutside count log second))
-    by-count s true = (compacting-keeps (state count (s .sent)) (compactedOf (state count (s .sent))) count log second .0, refl)
-    by-count s false = (λ n. (refl, refl), refl)
-
-    by-size : (b : Bool) (x : Reading) → Left (cond b (restartedOf x log count second) (refusing bufferShort 0 log second))
-    by-size false x = (λ n. (refl, refl), refl)
-    by-size true (OutOfTurn p) = (λ n. (refl, refl), refl)
-    by-size true (Says s) = by-count s (leb (s .finished) count && leb count (s .sent))
+    by-reading : (x : LogReading) → Left log second (restartedOf x log count second)
+    by-reading (OutOfTurn p) = (λ n. (refl, refl), refl)
+    by-reading (Says s) =
+        arms (Left log second) (leb (s .finished) count && leb count (s .sent))
+        (λ t. (compacting-keeps (state count (s .sent)) (compactedOf (state count (s .sent))) count log second .0, refl)) (λ t. (λ n. (refl, refl), refl))
 
 pub refused-changes-nothing : RefusedChangesNothing
-unfolding Keeps
+unfolding Keeps Left
 refused-changes-nothing log used second =
     (λ tag page. append-keeps log used tag page second .0, λ count. restart-keeps log used count second .0)
 
 pub first-buffer-stays : FirstBufferStays
-unfolding Keeps
+unfolding Keeps Left
 first-buffer-stays log used second =
     (λ tag page. append-keeps log used tag page second .1, λ count. restart-keeps log used count second .1)
 
 -- ---- an append in the log's own place
 module _ (log : List ℕ) (used tag page : ℕ) (second : List ℕ) where
-  placedCall : State → Call
+  placedCall : State → LogCall
   placedCall s = record { answer = answered 0 (afterOf s (recordAs tag page)) (wholeOf used + 5); log = putOf log (wholeOf used) (bytesOf tag page); second = second }
 
   record Placed : Type 0 where
@@ -98,14 +78,14 @@ module _ (log : List ℕ) (used tag page : ℕ) (second : List ℕ) where
     pub room : wholeOf used + 5 ≤ length log
     pub is : appendOf log used tag page second ≡ placedCall says
 
-  by-outcome : (s : State) (c : Call) → Outcome log used s tag page second c → inPlace c ≡ true
+  by-outcome : (s : State) (c : LogCall) → Outcome log used s tag page second c → inPlace c ≡ true
       → (inTurn false s (recordAs tag page) ≡ true) × (wholeOf used + 5 ≤ length log) × (c ≡ placedCall s)
   unfolding placedCall
   by-outcome s c (refusal number after e) i = let z : _≡_ {A = ℕ} 0 1 = cc in absurd (omega arith)
   by-outcome s c (moved turn room) i = let z : _≡_ {A = ℕ} 0 1 = cc in absurd (omega arith)
   by-outcome s c (placed turn room) i = (turn, room, refl)
 
-  by-reading : inPlace (appendOf log used tag page second) ≡ true → (b : Bool) → leb used (length log) ≡ b → (x : Reading) → readingOf (take used log) ≡ x
+  by-reading : inPlace (appendOf log used tag page second) ≡ true → (b : Bool) → leb used (length log) ≡ b → (x : LogReading) → logReadingOf (take used log) ≡ x
       → inPlace (cond b (appendedOf x log used tag page second) (refusing bufferShort 0 log second)) ≡ true → Placed
   unfolding appendedOf
   by-reading j false f x e i = let z : _≡_ {A = ℕ} 0 1 = cc in absurd (omega arith)
@@ -117,7 +97,7 @@ module _ (log : List ℕ) (used tag page : ℕ) (second : List ℕ) where
 
   in-place : inPlace (appendOf log used tag page second) ≡ true → Placed
   unfolding appendOf
-  in-place i = by-reading i (leb used (length log)) refl (readingOf (take used log)) refl i
+  in-place i = by-reading i (leb used (length log)) refl (logReadingOf (take used log)) refl i
 
 pub five-bytes-change : FiveBytesChange
 unfolding placedCall putOf
@@ -127,7 +107,7 @@ five-bytes-change log used tag page second i =
     let l : wholeOf used + length (bytesOf tag page) ≡ wholeOf used + 5 = omega arith in
     let put : putOf log (wholeOf used) (bytesOf tag page) ≡ take (wholeOf used) log ++ bytesOf tag page ++ drop (wholeOf used + 5) log =
     rw (l, le-leb (wholeOf used + 5) (length log) (p .room)) in
-    (ap (λ (c : Call). c .log) (p .is) ∙ put, ap (λ (c : Call). c .second) (p .is))
+    (ap (λ (c : LogCall). c .log) (p .is) ∙ put, ap (λ (c : LogCall). c .second) (p .is))
 
 -- ---- a cut at any byte
 cut-held : (log : List ℕ) (used tag page : ℕ) (second : List ℕ) (p : Placed log used tag page second) (k : ℕ) → k < 5
@@ -148,7 +128,7 @@ cut-read log used tag page second p k five false e =
     let k5 : k ≡ 5 = omega arith in
     let s = afterOf (p .says) (recordAs tag page) in
     rw k5 (held-read _ _ s (put-held log used (p .says) (p .held) tag page (p .turn) (p .room)) ∙ ap (answered 0 s) w)
-    ∙ sym (ap (λ (c : Call). c .answer) (p .is))
+    ∙ sym (ap (λ (c : LogCall). c .answer) (p .is))
 
 pub cut-at-any-byte : CutAtAnyByte
 cut-at-any-byte log used tag page second k i five = cut-read log used tag page second (in-place log used tag page second i) k five (ltb k 5) refl
@@ -175,11 +155,11 @@ put-over buffer x y at short room =
 -- an append on a log that can be read and is not full
 append-on : (log : List ℕ) (used : ℕ) (s : State) → Held log used s → wholeOf used + 5 ≤ length log → (tag page : ℕ) (second : List ℕ)
     → appendOf log used tag page second ≡ cond (newInTurn s tag page) (placedCall log used tag page second s) (refusing logOutOfTurn page log second)
-unfolding appendOf appendedOf writtenOf placedCall
+unfolding appendOf appendedOf loggedOf placedCall
 append-on log used s h room tag page second = rw (le-leb used (length log) (h .fits), h .reads, le-leb (wholeOf used + 5) (length log) room)
 
 module _ (log : List ℕ) (used tag page : ℕ) (second : List ℕ) (p : Placed log used tag page second) (k : ℕ) (short : k < 5) (tag' page' : ℕ) (second' : List ℕ) where
-  Same : Call → Call → Type 0
+  Same : LogCall → LogCall → Type 0
   Same next plain = (next .answer ≡ plain .answer) × (eqb (next .answer .number) 0 ≡ true → next .log ≡ plain .log)
 
   same-after : (b : Bool)
@@ -217,35 +197,21 @@ next-takes-its-place log used tag page second k i short tag' page' second' =
     next-same log used tag page second (in-place log used tag page second i) k short tag' page' second'
 
 -- ---- room for the open pages
-NotShort : Call → Type 0
+NotShort : LogCall → Type 0
 NotShort c = eqb (c .answer .number) logSecondShort ≡ false
 
-enough : (log : List ℕ) (used tag page : ℕ) (second : List ℕ) (b : Bool) (x : Reading) → leb used (length log) ≡ b → readingOf (take used log) ≡ x
+enough : (log : List ℕ) (used tag page : ℕ) (second : List ℕ) (b : Bool) (x : LogReading) → leb used (length log) ≡ b → logReadingOf (take used log) ≡ x
     → 10 + 5 * (readLogOf log used .sent - readLogOf log used .finished) ≤ length second
     → NotShort (cond b (appendedOf x log used tag page second) (refusing bufferShort 0 log second))
-unfolding NotShort appendedOf readLogOf readAnswer writtenOf compactAnswer
+unfolding NotShort appendedOf readLogOf readAnswer loggedOf compactAnswer
 enough log used tag page second false x f e room = refl
 enough log used tag page second true (OutOfTurn p) f e room = refl
-enough log used tag page second true (Says s) f e room = by-turn (newInTurn s tag page)
-  where
-    enough-room : 10 + 5 * (s .sent - s .finished) ≤ length second
-    enough-room = rw (f, e) at room
-
-    fits : leb (length (compactedOf s ++ bytesOf tag page)) (length second) ≡ true
-    fits = let l = with-length s tag page in le-leb (length (compactedOf s ++ bytesOf tag page)) (length second) (omega (arith, enough-room))
-
-    by-place : (b : Bool)
-        → NotShort
-        (cond b
-        (record { answer = answered 0 (afterOf s (recordAs tag page)) (wholeOf used + 5); log = putOf log (wholeOf used) (bytesOf tag page); second = second })
-        (compactingOf (afterOf s (recordAs tag page)) (compactedOf s ++ bytesOf tag page) page log second))
-    by-place true = refl
-    by-place false = rw fits refl
-
-    by-turn : (b : Bool) → NotShort (cond b (writtenOf s log used tag page second) (refusing logOutOfTurn page log second))
-    by-turn true = by-place (leb (wholeOf used + 5) (length log))
-    by-turn false = refl
+enough log used tag page second true (Says s) f e room =
+    let l = with-length s tag page in
+    let r : 10 + 5 * (s .sent - s .finished) ≤ length second = rw (f, e) at room in
+    let fits = le-leb (length (compactedOf s ++ bytesOf tag page)) (length second) (omega arith) in
+    arms NotShort (newInTurn s tag page) (λ t. arms NotShort (leb (wholeOf used + 5) (length log)) (λ p. refl) (λ p. rw fits refl)) (λ t. refl)
 
 pub room-is-enough : RoomIsEnough
 unfolding NotShort appendOf
-room-is-enough log used tag page second room = enough log used tag page second (leb used (length log)) (readingOf (take used log)) refl refl room
+room-is-enough log used tag page second room = enough log used tag page second (leb used (length log)) (logReadingOf (take used log)) refl refl room

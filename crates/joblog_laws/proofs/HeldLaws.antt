@@ -1,22 +1,15 @@
 -- What a log says after an append, after one that is cut, and after a restart. Assumes nothing.
-use native.Mathlib.Omega.{arith}
-use Prim.Native.Nat.{ℕ, _+_, _/_, _≤_, _<_}
-use mathlib.Core.Path.{_≡_, refl, sym, ap, subst, _∙_}
-use mathlib.Core.Bool.{Bool, true, false, cond, _&&_, _||_}
-use mathlib.Core.List.{List, [], _∷_, _++_, append-assoc, append-nil}
-use lib.Dec.{leb, ltb, eqb}
-use lib.ListN.{length, take, drop, length-append, length-drop}
-use lib.Seq.{take-at, length-take-le}
-use borrow.Author.Tests.{le-leb, lt-leb, leb-true, ltb-true, ltb-false, eqb-true}
+use Rattle.prelude.proofs.Logic.{_≡_, refl, sym, ap, subst, _∙_, Bool, true, false, cond, _&&_, _||_, List, [], _∷_, _++_, append-assoc, append-nil, ℕ, _+_, _/_, _≤_, _<_, arith, leb, ltb, eqb, length, take, drop, length-append, length-drop, take-at, length-take-le, le-leb, lt-leb, leb-true, ltb-true, ltb-false, eqb-true}
 use Rattle.refusals.specs.Refusals.{logSecondShort, logOutOfTurn}
+use Rattle.prelude.proofs.Cases.{arms, cases, both}
 use Rattle.text.specs.Text.{putOf}
 use Rattle.joblog.specs.declared.records.State.{State}
 use Rattle.joblog.specs.declared.records.Record.{Record}
-use Rattle.joblog.specs.declared.records.Reading.the-variants.{Says}
-use Rattle.joblog.specs.Records.{state, recordAs, bytesOf, recordsOf, wholeOf, inTurn, afterOf, readOf, readingOf, compactedOf}
-use Rattle.joblog.specs.Calls.{Call, refused, refusing, answered, readLogOf, readAnswer, newInTurn, compactAnswer, compactingOf, writtenOf, appendedOf, appendOf, restartedOf, restartOf}
+use Rattle.joblog.specs.declared.records.LogReading.the-variants.{Says}
+use Rattle.joblog.specs.Records.{state, recordAs, bytesOf, recordsOf, wholeOf, inTurn, afterOf, readOf, logReadingOf, compactedOf}
+use Rattle.joblog.specs.Calls.{LogCall, refused, refusing, answered, readLogOf, readAnswer, newInTurn, compactAnswer, compactingOf, loggedOf, appendedOf, appendOf, restartedOf, restartOf}
 use Rattle.joblog_laws.specs.Run.{logAfter, usedAfter, inPlace, mayBeUsed}
-use Rattle.joblog_laws.proofs.ReadingLaws.{both, whole-records, cut-records, record-back, read-more, compacted-read}
+use Rattle.joblog_laws.proofs.ReadingLaws.{whole-records, cut-records, record-back, read-more, compacted-read}
 
 second-of : (a b : Bool) → a ≡ false → a || b ≡ true → b ≡ true
 second-of true b f h = let z : _≡_ {A = ℕ} 0 1 = cc in absurd (omega arith)
@@ -25,7 +18,7 @@ second-of false b f h = h
 -- ---- the first `used` bytes of a buffer are a log that says this
 pub record Held (log : List ℕ) (used : ℕ) (s : State) : Type 0 where
   pub fits : used ≤ length log
-  pub reads : readingOf (take used log) ≡ Says s
+  pub reads : logReadingOf (take used log) ≡ Says s
   pub ordered : s .finished ≤ s .sent
 
 pub held-read : (log : List ℕ) (used : ℕ) (s : State) → Held log used s → readLogOf log used ≡ answered 0 s (wholeOf used)
@@ -84,7 +77,7 @@ change-ordered (done a b c) h = c
 
 -- ---- append
 -- the whole records of a log are all that it says
-whole-reads : (log : List ℕ) (used : ℕ) (s : State) → Held log used s → readingOf (take (wholeOf used) log) ≡ Says s
+whole-reads : (log : List ℕ) (used : ℕ) (s : State) → Held log used s → logReadingOf (take (wholeOf used) log) ≡ Says s
 whole-reads log used s h =
     let f = h .fits in
     ap (readOf true (state 0 0)) (sym (cut-records (used / 5) log used (omega arith) (omega arith) (omega arith))) ∙ h .reads
@@ -100,7 +93,7 @@ module _ (log : List ℕ) (used : ℕ) (s : State) (h : Held log used s) (tag pa
       record {
         fits = omega arith;
         reads =
-            ap readingOf (p .0)
+            ap logReadingOf (p .0)
             ∙ ap (readOf true (state 0 0)) (whole-records (used / 5) (take (wholeOf used) log) (bytesOf tag page) n ∙ ap (λ (rs : List Record). recordsOf (take (wholeOf used) log) ++ rs) (record-back tag page))
             ∙ read-more true (state 0 0) s (recordsOf (take (wholeOf used) log)) (recordAs tag page) (whole-reads log used s h) turn;
         ordered = change-ordered (in-turn-change s tag page turn) (h .ordered);
@@ -115,7 +108,7 @@ module _ (log : List ℕ) (used : ℕ) (s : State) (h : Held log used s) (tag pa
       let one : readOf false s (recordAs tag page ∷ []) ≡ Says (afterOf s (recordAs tag page)) = rw turn in
       record {
         fits = p .1;
-        reads = ap readingOf (p .0) ∙ compacted-read s (bytesOf tag page) (h .ordered) ∙ ap (readOf false s) (record-back tag page) ∙ one;
+        reads = ap logReadingOf (p .0) ∙ compacted-read s (bytesOf tag page) (h .ordered) ∙ ap (readOf false s) (record-back tag page) ∙ one;
         ordered = change-ordered (in-turn-change s tag page turn) (h .ordered);
       }
 
@@ -127,7 +120,7 @@ restart-held s second ordered room =
     let p = put-front-read (compactedOf s) second room in
     record {
       fits = p .1;
-      reads = ap readingOf (p .0 ∙ sym (append-nil (compactedOf s))) ∙ compacted-read s [] ordered;
+      reads = ap logReadingOf (p .0 ∙ sym (append-nil (compactedOf s))) ∙ compacted-read s [] ordered;
       ordered = ordered;
     }
 
@@ -149,7 +142,7 @@ cut-before log used s h tag page k u short low high room =
     }
 
 -- the log's buffer while an append is under way, with k of the record's bytes there
-abbrev pub cutLog : List ℕ → ℕ → Call → ℕ → ℕ → ℕ → List ℕ
+abbrev pub cutLog : List ℕ → ℕ → LogCall → ℕ → ℕ → ℕ → List ℕ
 cutLog log used c tag page k = cond (inPlace c) (putOf log (wholeOf used) (take k (bytesOf tag page))) log
 
 -- ---- the calls
@@ -163,7 +156,7 @@ unchanged {s} h = record { to = s; held = h; how = same }
 
 module _ (log : List ℕ) (used : ℕ) (s : State) (tag page : ℕ) (second : List ℕ) where
   -- the three ways of an append on a log that can be read
-  pub data Outcome : Call → Type 0 where
+  pub data Outcome : LogCall → Type 0 where
     refusal : (number : ℕ) (after : List ℕ) → eqb number 0 ≡ false → Outcome (refusing number page log after)
     placed : inTurn false s (recordAs tag page) ≡ true → wholeOf used + 5 ≤ length log
         → Outcome (record { answer = answered 0 (afterOf s (recordAs tag page)) (wholeOf used + 5); log = putOf log (wholeOf used) (bytesOf tag page); second = second })
@@ -171,8 +164,14 @@ module _ (log : List ℕ) (used : ℕ) (s : State) (tag page : ℕ) (second : Li
         → Outcome (record { answer = answered 1 (afterOf s (recordAs tag page)) (length (compactedOf s ++ bytesOf tag page)); log = log; second = putOf second 0 (compactedOf s ++ bytesOf tag page) })
 
   pub append-outcome : Held log used s → Outcome (appendOf log used tag page second)
-  unfolding appendOf appendedOf newInTurn writtenOf compactAnswer
-  append-outcome h = rw (le-leb used (length log) (h .fits), h .reads) (by-turn (leb page 65535 && inTurn false s (recordAs tag page)) refl)
+  unfolding appendOf appendedOf newInTurn loggedOf compactAnswer
+  append-outcome h =
+      rw (le-leb used (length log) (h .fits), h .reads)
+      (arms Outcome (leb page 65535 && inTurn false s (recordAs tag page))
+      (λ e. let turn = both (leb page 65535) _ e .1 in
+      arms Outcome (leb (wholeOf used + 5) (length log)) (λ f. placed turn (leb-true _ _ f))
+      (λ f. by-room turn (leb (length (compactedOf s ++ bytesOf tag page)) (length second)) refl))
+      (λ e. refusal logOutOfTurn second refl))
     where
       by-room : inTurn false s (recordAs tag page) ≡ true → (b : Bool) → leb (length (compactedOf s ++ bytesOf tag page)) (length second) ≡ b
           → Outcome
@@ -184,52 +183,35 @@ module _ (log : List ℕ) (used : ℕ) (s : State) (tag page : ℕ) (second : Li
       by-room turn true e = moved turn (leb-true _ _ e)
       by-room turn false e = refusal logSecondShort (putOf second 0 (compactedOf s ++ bytesOf tag page)) refl
 
-      by-place : inTurn false s (recordAs tag page) ≡ true → (b : Bool) → leb (wholeOf used + 5) (length log) ≡ b
-          → Outcome (cond b (record { answer = answered 0 (afterOf s (recordAs tag page)) (wholeOf used + 5); log = putOf log (wholeOf used) (bytesOf tag page); second = second })
-          (compactingOf (afterOf s (recordAs tag page)) (compactedOf s ++ bytesOf tag page) page log second))
-      by-place turn true e = placed turn (leb-true _ _ e)
-      by-place turn false e = by-room turn (leb (length (compactedOf s ++ bytesOf tag page)) (length second)) refl
-
-      by-turn : (b : Bool) → leb page 65535 && inTurn false s (recordAs tag page) ≡ b
-          → Outcome (cond b (writtenOf s log used tag page second) (refusing logOutOfTurn page log second))
-      by-turn true e = by-place (both (leb page 65535) _ e .1) (leb (wholeOf used + 5) (length log)) refl
-      by-turn false e = refusal logOutOfTurn second refl
-
   -- an append that returns
-  pub append-after : Held log used s → {c : Call} → Outcome c → After s tag page (logAfter c) (usedAfter c used)
+  pub append-after : Held log used s → {c : LogCall} → Outcome c → After s tag page (logAfter c) (usedAfter c used)
   append-after h (refusal number after e) = rw e (unchanged h)
   append-after h (placed turn room) = record { to = afterOf s (recordAs tag page); held = put-held log used s h tag page turn room; how = in-turn-change s tag page turn }
   append-after h (moved turn room) = record { to = afterOf s (recordAs tag page); held = moved-held log used s h tag page turn second room; how = in-turn-change s tag page turn }
 
   -- one that is under way, with k of the record's bytes there
-  pub cut-now : Held log used s → {c : Call} → Outcome c → (k : ℕ) → k ≤ 5 → Held (cutLog log used c tag page k) used s
+  pub cut-now : Held log used s → {c : LogCall} → Outcome c → (k : ℕ) → k ≤ 5 → Held (cutLog log used c tag page k) used s
   cut-now h (refusal number after e) k five = rw e h
   cut-now h (moved turn room) k five = h
   cut-now h (placed turn room) k five = cut-before log used s h tag page k used five (omega arith) (omega arith) room
 
   -- one that a crash cuts
-  pub cut-after : Held log used s → {c : Call} → Outcome c → (k u : ℕ) → k ≤ 5
+  pub cut-after : Held log used s → {c : LogCall} → Outcome c → (k u : ℕ) → k ≤ 5
       → After s tag page (cutLog log used c tag page k) (cond (inPlace c && mayBeUsed used k u) u used)
   unfolding bytesOf
   cut-after h (refusal number after e) k u five = rw e (unchanged h)
   cut-after h (moved turn room) k u five = unchanged h
-  cut-after h (placed turn room) k u five = by-used (mayBeUsed used k u) refl
-    where
-      by-length : mayBeUsed used k u ≡ true → (b : Bool) → ltb u (wholeOf used + 5) ≡ b → After s tag page (putOf log (wholeOf used) (take k (bytesOf tag page))) u
-      by-length m true e =
-          let p = both (leb (wholeOf used) u) (leb u used || leb u (wholeOf used + k)) m in
-          unchanged (cut-before log used s h tag page k u five (leb-true _ _ (p .0)) (ltb-true _ _ e) room)
-      by-length m false e =
-          let p = both (leb (wholeOf used) u) (leb u used || leb u (wholeOf used + k)) m in
-          let low = ltb-false u (wholeOf used + 5) e in
-          let more = leb-true u (wholeOf used + k) (second-of (leb u used) (leb u (wholeOf used + k)) (lt-leb u used (omega arith)) (p .1)) in
-          let k5 : k ≡ 5 = omega arith in
-          let u5 : u ≡ wholeOf used + 5 = omega arith in
-          rw (k5, u5) (record { to = afterOf s (recordAs tag page); held = put-held log used s h tag page turn room; how = in-turn-change s tag page turn })
-
-      by-used : (b : Bool) → mayBeUsed used k u ≡ b → After s tag page (putOf log (wholeOf used) (take k (bytesOf tag page))) (cond b u used)
-      by-used true m = by-length m (ltb u (wholeOf used + 5)) refl
-      by-used false m = unchanged (cut-before log used s h tag page k used five (omega arith) (omega arith) room)
+  cut-after h (placed turn room) k u five =
+      arms (After s tag page (putOf log (wholeOf used) (take k (bytesOf tag page)))) (mayBeUsed used k u)
+      (λ m. let p = both (leb (wholeOf used) u) (leb u used || leb u (wholeOf used + k)) m in
+      cases (ltb u (wholeOf used + 5))
+      (λ e. unchanged (cut-before log used s h tag page k u five (leb-true _ _ (p .0)) (ltb-true _ _ e) room))
+      (λ e. let low = ltb-false u (wholeOf used + 5) e in
+      let more = leb-true u (wholeOf used + k) (second-of (leb u used) (leb u (wholeOf used + k)) (lt-leb u used (omega arith)) (p .1)) in
+      let k5 : k ≡ 5 = omega arith in
+      let u5 : u ≡ wholeOf used + 5 = omega arith in
+      rw (k5, u5) (record { to = afterOf s (recordAs tag page); held = put-held log used s h tag page turn room; how = in-turn-change s tag page turn })))
+      (λ m. unchanged (cut-before log used s h tag page k used five (omega arith) (omega arith) room))
 
 -- ---- restart, with a count between the log's finished and sent pages
 pub restart-outcome : (log : List ℕ) (used : ℕ) (s : State) → Held log used s → (count : ℕ) (second : List ℕ) → s .finished ≤ count → count ≤ s .sent

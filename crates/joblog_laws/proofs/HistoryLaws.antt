@@ -1,20 +1,13 @@
 -- Request 6's promise, over every history. Assumes nothing.
-use native.Mathlib.Omega.{arith}
-use Prim.Native.Nat.{ℕ, zero, suc, _+_, _-_, _*_, _≤_}
-use mathlib.Core.Path.{_≡_, refl, sym, ap, subst, _∙_}
-use mathlib.Core.Bool.{Bool, true, false, cond}
-use mathlib.Core.List.{List, [], _∷_, _++_}
-use lib.Dec.{leb}
-use lib.ListN.{length, length-append}
-use borrow.Author.Tests.{le-leb}
-use Rattle.refusals.specs.Refusals.{logSecondShort}
+use Rattle.prelude.proofs.Logic.{_≡_, refl, sym, ap, subst, _∙_, Bool, true, false, cond, List, [], _∷_, _++_, ℕ, zero, suc, _+_, _-_, _*_, _≤_, arith, leb, length, length-append, le-leb}
+use Rattle.prelude.proofs.Cases.{cases}
 use Rattle.text.specs.Text.{putOf}
 use Rattle.joblog.specs.declared.records.State.{State}
 use Rattle.joblog.specs.Records.{state, compactedOf}
 use Rattle.joblog.specs.declared.calls.Log.{Log}
-use Rattle.joblog.specs.Calls.{answered, refused, readLogOf, compactAnswer, compactingOf}
+use Rattle.joblog.specs.Calls.{readLogOf, compactAnswer, compactingOf}
 use Rattle.joblog_laws.specs.Run.{idle, World, begun, goes, finishes, restart, has, asRequested, isIdle, finishing, next, run}
-use Rattle.joblog_laws.specs.Histories.{pagesOf, Kept, HistoriesAreKept, sendAll, OpenPagesCome}
+use Rattle.joblog_laws.specs.Histories.{pagesTo, Kept, HistoriesAreKept, sendAll, OpenPagesCome}
 use Rattle.joblog.proofs.CompactLaws.{compacted-length}
 use Rattle.joblog_laws.proofs.HeldLaws.{held-read, sent, restart-held}
 use Rattle.joblog_laws.proofs.PageLaws.{pages-front, has-pages}
@@ -28,11 +21,8 @@ not-has false h = refl
 room-answer : (t : State) (place : ℕ) (log second : List ℕ)
     → compactingOf t (compactedOf t) place log second .answer .number ≡ cond (leb (5 + 5 * (t .sent - t .finished)) (length second)) 0 12
 unfolding compactAnswer
-room-answer t place log second = rw (compacted-length t) (by-test (leb (5 + 5 * (t .sent - t .finished)) (length second)))
-  where
-    by-test : (b : Bool) → cond b (answered 1 t (5 + 5 * (t .sent - t .finished))) (refused logSecondShort place) .number ≡ cond b 0 12
-    by-test true = refl
-    by-test false = refl
+room-answer t place log second =
+    rw (compacted-length t) (cases (leb (5 + 5 * (t .sent - t .finished)) (length second)) (λ e. simp e) (λ e. simp e))
 
 kept : (w : World) → Inv w → Kept w
 kept w i =
@@ -45,7 +35,7 @@ kept w i =
     let ahead = i .ahead in
     record {
       «in_order» = order;
-      «none_skipped» = i .here ∙ ap pagesOf (sym whole);
+      «none_skipped» = i .here ∙ ap pagesTo (sym whole);
       «next_out» = λ up. i .out up ∙ sym whole;
       «none_again» = λ up.
           let o = i .out up in
@@ -95,7 +85,7 @@ unfolding next compactAnswer
 restart-world w i second room = rw (restarted w i second, le-leb _ _ room)
 
 come : (w : World) (i : Inv w) (second : List ℕ) → 5 + 5 * (i .says .sent - length (w .finished)) ≤ length second
-    → run asRequested (next asRequested w (restart second)) (sendAll (i .says .sent - length (w .finished))) .finished ≡ pagesOf (i .says .sent)
+    → run asRequested (next asRequested w (restart second)) (sendAll (i .says .sent - length (w .finished))) .finished ≡ pagesTo (i .says .sent)
 come w i second room =
     let n = length (w .finished) in
     let s = i .says .sent in
@@ -107,7 +97,7 @@ come w i second room =
     let e = restart-world w i second (omega arith) in
     let z = sent-out (s - n) (putOf second 0 (compactedOf t)) (length (compactedOf t)) n (w .heard) (w .finished) (w .coming) (omega arith) in
     let m : length (run asRequested (next asRequested w (restart second)) (sendAll (s - n)) .finished) ≡ s = rw e (omega arith) in
-    kept (run asRequested (next asRequested w (restart second)) (sendAll (s - n))) (run-kept (next asRequested w (restart second)) (restart-kept w i second) (sendAll (s - n))) .«in_order» ∙ ap pagesOf m
+    kept (run asRequested (next asRequested w (restart second)) (sendAll (s - n))) (run-kept (next asRequested w (restart second)) (restart-kept w i second) (sendAll (s - n))) .«in_order» ∙ ap pagesTo m
 
 pub open-pages-come : OpenPagesCome
 unfolding run

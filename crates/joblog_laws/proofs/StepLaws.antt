@@ -1,28 +1,20 @@
 -- What every step of a run keeps. Assumes nothing.
-use native.Mathlib.Omega.{arith}
-use Prim.Native.Nat.{ℕ, suc, _+_, _≤_, _<_}
-use mathlib.Core.Path.{_≡_, refl, sym, ap, subst, _∙_}
-use mathlib.Core.Bool.{Bool, true, false, cond, _&&_, _||_, false≢true}
-use mathlib.Core.List.{List, [], _∷_, _++_, append-assoc, append-nil}
-use lib.Dec.{leb, ltb, eqb}
-use lib.ListN.{length, take, drop, length-append, length-drop, take-append-drop}
-use lib.Seq.{take-add, length-take-le}
-use borrow.Author.Tests.{leb-true, ltb-true, eqb-true}
+use Rattle.prelude.proofs.Logic.{_≡_, refl, sym, ap, subst, _∙_, Bool, true, false, cond, _&&_, false≢true, List, [], _∷_, _++_, append-assoc, append-nil, ℕ, suc, _+_, _≤_, _<_, arith, leb, ltb, eqb, length, take, drop, length-append, length-drop, take-append-drop, take-add, length-take-le, leb-true, ltb-true, eqb-true}
+use Rattle.prelude.proofs.Cases.{arms, cases, both}
 use Rattle.refusals.specs.Refusals.{logSecondShort}
 use Rattle.text.specs.Text.{putOf}
 use Rattle.text.proofs.TextLaws.{put-behind, put-nothing}
 use Rattle.joblog.specs.declared.records.State.{State}
 use Rattle.joblog.specs.Records.{state, bytesOf, wholeOf, recordsOf, readOf, compactedOf}
 use Rattle.joblog.proofs.CompactLaws.{bytes-length}
-use Rattle.joblog.specs.Calls.{Call, answered, refused, readLogOf, compactAnswer, compactingOf, appendOf, restartOf}
+use Rattle.joblog.specs.Calls.{LogCall, answered, refused, readLogOf, compactAnswer, compactingOf, appendOf, restartOf}
 use Rattle.joblog_laws.specs.Run.{Writing, idle, within, World, begun, Step, begins, byte, completes, goes, finishes, hears, lost, crash, restart, has, asRequested, logAfter, usedAfter, inPlace, mayAppend, beginning, withByte, writingByte, completing, mayBeUsed, crashUsed, isIdle, finishing, arriving, next, run}
-use Rattle.joblog_laws.specs.Histories.{pagesOf}
-use Rattle.joblog_laws.proofs.ReadingLaws.{both}
-use Rattle.joblog_laws.proofs.HeldLaws.{Held, held-read, cutLog, Change, same, sent, done, After, Outcome, refusal, placed, moved, append-outcome, append-after, cut-now, cut-after, restart-outcome, restart-held}
+use Rattle.joblog_laws.specs.Histories.{pagesTo}
+use Rattle.joblog_laws.proofs.HeldLaws.{Held, held-read, cutLog, Change, same, sent, done, Outcome, refusal, placed, moved, append-outcome, append-after, cut-now, cut-after, restart-outcome, restart-held}
 use Rattle.joblog_laws.proofs.PageLaws.{pages-length, pages-front, first-page}
 
 -- ---- an append that is under way: `base` is the buffer when it began
-pub record Within (base log : List ℕ) (used : ℕ) (s : State) (count tag page : ℕ) (c : Call) (k : ℕ) : Type 0 where
+pub record Within (base log : List ℕ) (used : ℕ) (s : State) (count tag page : ℕ) (c : LogCall) (k : ℕ) : Type 0 where
   pub second : List ℕ
   pub outcome : Outcome base used s tag page second c
   pub there : log ≡ cutLog base used c tag page k
@@ -51,11 +43,8 @@ Below n (page ∷ pages) = (page ≤ n) × Below n pages
 below-has : (n : ℕ) (pages : List ℕ) (page : ℕ) → Below n pages → has pages page ≡ true → page ≤ n
 unfolding has
 below-has n [] page b h = absurd (false≢true h)
-below-has n (p ∷ pages) page b h = go (eqb p page) refl (below-has n pages page (b .1)) h
-  where
-    go : (t : Bool) → eqb p page ≡ t → (has pages page ≡ true → page ≤ n) → t || has pages page ≡ true → page ≤ n
-    go true e rest h = let q = eqb-true p page e in let l = b .0 in omega arith
-    go false e rest h = rest h
+below-has n (p ∷ pages) page b h =
+    cases (eqb p page) (λ e. let q = eqb-true p page e in let l = b .0 in omega arith) (λ e. below-has n pages page (b .1) (rw e at h))
 
 below-more : (n m : ℕ) (pages : List ℕ) → n ≤ m → Below n pages → Below m pages
 below-more n m [] l b = tt
@@ -72,7 +61,7 @@ pub record Inv (w : World) : Type 0 where
   pub held : Held base (w .used) says
   pub flight : Flight base (w .log) (w .used) says (length (w .finished)) (w .writing)
   pub last : ℕ
-  pub here : w .finished ++ w .tray ≡ pagesOf last
+  pub here : w .finished ++ w .tray ≡ pagesTo last
   pub behind : says .finished ≤ length (w .finished)
   pub ahead : last ≤ says .sent
   pub out : w .up ≡ true → w .out ≡ last
@@ -92,54 +81,78 @@ change-between same n h d = (h, omega arith)
 change-between sent n h d = (h, omega arith)
 change-between (done a b c) n h d = let k = d a in (omega arith, omega arith)
 
+-- the log goes on, and the pages stay where they are
+log-kept : (w : World) (i : Inv w) {log : List ℕ} {used : ℕ} {writing : Writing} (s : State) (base : List ℕ) → Held base used s
+    → Flight base log used s (length (w .finished)) writing → s .finished ≤ length (w .finished) → i .last ≤ s .sent
+    → Inv (record { log = log; used = used; up = w .up; out = w .out; writing = writing; heard = w .heard; tray = w .tray; finished = w .finished; coming = w .coming })
+log-kept w i s base h f b a =
+    record {
+      says = s;
+      base = base;
+      held = h;
+      flight = f;
+      last = i .last;
+      here = i .here;
+      behind = b;
+      ahead = a;
+      out = i .out;
+      heard = i .heard;
+      coming = i .coming;
+    }
+
+-- pages or what is heard of them go on, and the log stays
+pages-kept : (w : World) (i : Inv w) {heard tray finished coming : List ℕ} → length (w .finished) ≤ length finished → finished ++ tray ≡ w .finished ++ w .tray
+    → Below (length finished) heard → Below (length finished) coming
+    → Inv (record { log = w .log; used = w .used; up = w .up; out = w .out; writing = w .writing; heard = heard; tray = tray; finished = finished; coming = coming })
+pages-kept w i {finished = finished} more all h c =
+    let b = i .behind in
+    record {
+      says = i .says;
+      base = i .base;
+      held = i .held;
+      flight = flight-more (i .base) (w .log) (w .used) (i .says) (length (w .finished)) (length finished) (w .writing) more (i .flight);
+      last = i .last;
+      here = all ∙ i .here;
+      behind = omega arith;
+      ahead = i .ahead;
+      out = i .out;
+      heard = h;
+      coming = c;
+    }
+
+-- the append that is under way
+in-flight : (w : World) (i : Inv w) {tag page : ℕ} {c : LogCall} {k : ℕ} → w .writing ≡ within tag page c k
+    → Within (i .base) (w .log) (w .used) (i .says) (length (w .finished)) tag page c k
+in-flight w i e = subst (Flight (i .base) (w .log) (w .used) (i .says) (length (w .finished))) e (i .flight)
+
 -- ---- an append begins
 may-append : (w : World) (i : Inv w) (tag page : ℕ) → mayAppend asRequested w tag page ≡ true → tag ≡ 2 → page ≤ length (w .finished)
 may-append w i tag page h two =
     let k = both (w .up) (cond (eqb tag 2) (has (w .heard) page) true) h in
     below-has (length (w .finished)) (w .heard) page (i .heard) (rw two at (k .1))
 
-no-bytes : (log : List ℕ) (used : ℕ) (c : Call) (tag page : ℕ) → used ≤ length log → log ≡ cutLog log used c tag page 0
-no-bytes log used c tag page fits = by-place (inPlace c)
-  where
-    by-place : (b : Bool) → log ≡ cond b (putOf log (wholeOf used) []) log
-    by-place true = sym (put-nothing log (wholeOf used) (omega arith))
-    by-place false = refl
+no-bytes : (log : List ℕ) (used : ℕ) (c : LogCall) (tag page : ℕ) → used ≤ length log → log ≡ cutLog log used c tag page 0
+no-bytes log used c tag page fits = arms (λ (x : List ℕ). log ≡ x) (inPlace c) (λ b. sym (put-nothing log (wholeOf used) (omega arith))) (λ b. refl)
 
 begins-kept : (w : World) → Inv w → (x : Writing) → w .writing ≡ x → (tag page : ℕ) (second : List ℕ) → Inv (beginning asRequested w x tag page second)
 unfolding beginning
 begins-kept w i (within t p c k) e tag page second = i
-begins-kept w i idle e tag page second = by-test (mayAppend asRequested w tag page) refl
-  where
-    c : Call
-    c = appendOf (w .log) (w .used) tag page second
-
-    by-test : (b : Bool) → mayAppend asRequested w tag page ≡ b
-        → Inv (cond b (record { log = w .log; used = w .used; up = w .up; out = w .out; writing = within tag page c 0; heard = w .heard; tray = w .tray; finished = w .finished; coming = w .coming }) w)
-    by-test false m = i
-    by-test true m =
-        let h = held-now w i in
-        record {
-          says = i .says;
-          base = w .log;
-          held = h;
-          flight = record {
-            second = second;
-            outcome = append-outcome (w .log) (w .used) (i .says) tag page second h;
-            there = no-bytes (w .log) (w .used) (appendOf (w .log) (w .used) tag page second) tag page (h .fits);
-            few = omega arith;
-            told = may-append w i tag page m;
-          };
-          last = i .last;
-          here = i .here;
-          behind = i .behind;
-          ahead = i .ahead;
-          out = i .out;
-          heard = i .heard;
-          coming = i .coming;
-        }
+begins-kept w i idle e tag page second =
+    let h = held-now w i in
+    let c = appendOf (w .log) (w .used) tag page second in
+    arms Inv (mayAppend asRequested w tag page)
+    (λ m. log-kept w i (i .says) (w .log) h
+    (record {
+      second = second;
+      outcome = append-outcome (w .log) (w .used) (i .says) tag page second h;
+      there = no-bytes (w .log) (w .used) c tag page (h .fits);
+      few = omega arith;
+      told = may-append w i tag page m;
+    }) (i .behind) (i .ahead))
+    (λ m. i)
 
 -- ---- one byte more
-byte-there : (base log : List ℕ) (used : ℕ) (s : State) (tag page : ℕ) (second : List ℕ) (c : Call) (k : ℕ) → Outcome base used s tag page second c
+byte-there : (base log : List ℕ) (used : ℕ) (s : State) (tag page : ℕ) (second : List ℕ) (c : LogCall) (k : ℕ) → Outcome base used s tag page second c
     → log ≡ cutLog base used c tag page k → k < 5 → inPlace c ≡ true → withByte log used tag page k ≡ cutLog base used c tag page (k + 1)
 byte-there base log used s tag page second c k (refusal number after e) f short i = let z : _≡_ {A = ℕ} 0 1 = cc in absurd (omega arith)
 byte-there base log used s tag page second c k (moved turn room) f short i = let z : _≡_ {A = ℕ} 0 1 = cc in absurd (omega arith)
@@ -158,66 +171,31 @@ byte-there base log used s tag page second c k (placed turn room) f short i =
 byte-kept : (w : World) → Inv w → (x : Writing) → w .writing ≡ x → Inv (writingByte w x)
 unfolding writingByte
 byte-kept w i idle e = i
-byte-kept w i (within tag page c k) e = by-test (inPlace c && ltb k 5) refl
-  where
-    f : Within (i .base) (w .log) (w .used) (i .says) (length (w .finished)) tag page c k
-    f = subst (Flight (i .base) (w .log) (w .used) (i .says) (length (w .finished))) e (i .flight)
-
-    by-test : (b : Bool) → inPlace c && ltb k 5 ≡ b
-        → Inv (cond b (record { log = withByte (w .log) (w .used) tag page k; used = w .used; up = w .up; out = w .out; writing = within tag page c (k + 1); heard = w .heard; tray = w .tray; finished = w .finished; coming = w .coming }) w)
-    by-test false t = i
-    by-test true t =
-        let p = both (inPlace c) (ltb k 5) t in
-        let short = ltb-true k 5 (p .1) in
-        record {
-          says = i .says;
-          base = i .base;
-          held = i .held;
-          flight = record {
-            second = f .second;
-            outcome = f .outcome;
-            there = byte-there (i .base) (w .log) (w .used) (i .says) tag page (f .second) c k (f .outcome) (f .there) short (p .0);
-            few = omega arith;
-            told = f .told;
-          };
-          last = i .last;
-          here = i .here;
-          behind = i .behind;
-          ahead = i .ahead;
-          out = i .out;
-          heard = i .heard;
-          coming = i .coming;
-        }
+byte-kept w i (within tag page c k) e =
+    let f = in-flight w i e in
+    arms Inv (inPlace c && ltb k 5)
+    (λ t. let p = both (inPlace c) (ltb k 5) t in
+    let short = ltb-true k 5 (p .1) in
+    log-kept w i (i .says) (i .base) (i .held)
+    (record {
+      second = f .second;
+      outcome = f .outcome;
+      there = byte-there (i .base) (w .log) (w .used) (i .says) tag page (f .second) c k (f .outcome) (f .there) short (p .0);
+      few = omega arith;
+      told = f .told;
+    }) (i .behind) (i .ahead))
+    (λ t. i)
 
 -- ---- the append completes
 completes-kept : (w : World) → Inv w → (x : Writing) → w .writing ≡ x → Inv (completing w x)
 unfolding completing
 completes-kept w i idle e = i
-completes-kept w i (within tag page c k) e = by-test (inPlace c && ltb k 5)
-  where
-    f : Within (i .base) (w .log) (w .used) (i .says) (length (w .finished)) tag page c k
-    f = subst (Flight (i .base) (w .log) (w .used) (i .says) (length (w .finished))) e (i .flight)
-
-    by-test : (b : Bool)
-        → Inv (cond b w (record { log = logAfter c; used = usedAfter c (w .used); up = w .up; out = w .out; writing = idle; heard = w .heard; tray = w .tray; finished = w .finished; coming = w .coming }))
-    by-test true = i
-    by-test false =
-        let a = append-after (i .base) (w .used) (i .says) tag page (f .second) (i .held) (f .outcome) in
-        let b = change-between (a .how) (length (w .finished)) (i .behind) (f .told) in
-        let h = i .ahead in
-        record {
-          says = a .to;
-          base = logAfter c;
-          held = a .held;
-          flight = refl;
-          last = i .last;
-          here = i .here;
-          behind = b .0;
-          ahead = omega arith;
-          out = i .out;
-          heard = i .heard;
-          coming = i .coming;
-        }
+completes-kept w i (within tag page c k) e =
+    let f = in-flight w i e in
+    let a = append-after (i .base) (w .used) (i .says) tag page (f .second) (i .held) (f .outcome) in
+    let b = change-between (a .how) (length (w .finished)) (i .behind) (f .told) in
+    let h = i .ahead in
+    arms Inv (inPlace c && ltb k 5) (λ t. i) (λ t. log-kept w i (a .to) (logAfter c) (a .held) refl (b .0) (omega arith))
 
 -- ---- a restart: the log says the count, and the tray is empty
 pub count-between : (w : World) (i : Inv w) → (i .says .finished ≤ length (w .finished)) × (length (w .finished) ≤ i .says .sent)
@@ -232,7 +210,7 @@ restarted w i second =
 
 pub restart-kept : (w : World) (i : Inv w) (second : List ℕ) → Inv (next asRequested w (restart second))
 unfolding next compactAnswer
-restart-kept w i second = rw (restarted w i second) (by-room (leb (length text) (length second)) refl)
+restart-kept w i second = rw (restarted w i second) (by-room (leb (length (compactedOf t)) (length second)) refl)
   where
     n : ℕ
     n = length (w .finished)
@@ -240,58 +218,51 @@ restart-kept w i second = rw (restarted w i second) (by-room (leb (length text) 
     t : State
     t = state n (i .says .sent)
 
-    text : List ℕ
-    text = compactedOf t
-
-    here : w .finished ++ [] ≡ pagesOf n
-    here = append-nil (w .finished) ∙ pages-front (w .finished) (w .tray) (i .last) (i .here)
-
-    after : Call → World
-    after c = record { log = logAfter c; used = usedAfter c (w .used); up = eqb (c .answer .number) 0; out = n; writing = idle; heard = w .heard; tray = []; finished = w .finished; coming = w .coming }
-
-    by-room : (b : Bool) → leb (length text) (length second) ≡ b
-        → Inv (after (record { answer = cond b (answered 1 t (length text)) (refused logSecondShort n); log = w .log; second = putOf second 0 text }))
-    by-room true e =
-        let b = count-between w i in
+    -- the count is the log's, and the tray is empty
+    begun-again : (log : List ℕ) (used : ℕ) (up : Bool) (s : State) → Held log used s → s .finished ≤ n → n ≤ s .sent
+        → Inv (record { log = log; used = used; up = up; out = n; writing = idle; heard = w .heard; tray = []; finished = w .finished; coming = w .coming })
+    begun-again log used up s h b a =
+        let here = append-nil (w .finished) ∙ pages-front (w .finished) (w .tray) (i .last) (i .here) in
         record {
-          says = t;
-          base = putOf second 0 text;
-          held = restart-held t second (b .1) (leb-true (length text) (length second) e);
+          says = s;
+          base = log;
+          held = h;
           flight = refl;
           last = n;
           here = here;
-          behind = omega arith;
-          ahead = b .1;
+          behind = b;
+          ahead = a;
           out = λ u. refl;
           heard = i .heard;
           coming = i .coming;
         }
-    by-room false e =
-        let b = count-between w i in
-        record { says = i .says; base = w .log; held = held-now w i; flight = refl; last = n; here = here; behind = b .0; ahead = b .1; out = λ u. refl; heard = i .heard; coming = i .coming }
+
+    after : LogCall → World
+    after c = record { log = logAfter c; used = usedAfter c (w .used); up = eqb (c .answer .number) 0; out = n; writing = idle; heard = w .heard; tray = []; finished = w .finished; coming = w .coming }
+
+    by-room : (b : Bool) → leb (length (compactedOf t)) (length second) ≡ b
+        → Inv (after (record {
+          answer = cond b (answered 1 t (length (compactedOf t))) (refused logSecondShort n);
+          log = w .log;
+          second = putOf second 0 (compactedOf t);
+        }))
+    by-room true e =
+        let b = count-between w i .1 in
+        begun-again _ _ true t (restart-held t second b (leb-true (length (compactedOf t)) (length second) e)) (omega arith) b
+    by-room false e = let b = count-between w i in begun-again _ _ false (i .says) (held-now w i) (b .0) (b .1)
 
 -- ---- the embosser finishes a page, and a page goes out
 finish-kept : (w : World) (tray : List ℕ) → w .tray ≡ tray → Inv w → Inv (finishing w tray)
 unfolding finishing
 finish-kept w [] e i = i
 finish-kept w (page ∷ rest) e i =
+    let done = w .finished ++ (page ∷ []) in
     let n = length-append (w .finished) (page ∷ []) in
-    let b = i .behind in
-    record {
-      says = i .says;
-      base = i .base;
-      held = i .held;
-      flight = flight-more (i .base) (w .log) (w .used) (i .says) (length (w .finished)) (length (w .finished ++ (page ∷ []))) (w .writing) (omega arith) (i .flight);
-      last = i .last;
-      here = append-assoc (w .finished) (page ∷ []) rest ∙ ap (λ (l : List ℕ). w .finished ++ l) (sym e) ∙ i .here;
-      behind = omega arith;
-      ahead = i .ahead;
-      out = i .out;
-      heard = below-more (length (w .finished)) (length (w .finished ++ (page ∷ []))) (w .heard) (omega arith) (i .heard);
-      coming = below-behind (length (w .finished ++ (page ∷ []))) page (w .coming)
-          (below-more (length (w .finished)) (length (w .finished ++ (page ∷ []))) (w .coming) (omega arith) (i .coming))
-          (first-page (w .finished) page rest (i .last) (ap (λ (l : List ℕ). w .finished ++ l) (sym e) ∙ i .here));
-    }
+    let all : w .finished ++ (page ∷ rest) ≡ w .finished ++ w .tray = ap (λ (l : List ℕ). w .finished ++ l) (sym e) in
+    let more : (pages : List ℕ) → Below (length (w .finished)) pages → Below (length done) pages =
+    λ pages b. below-more (length (w .finished)) (length done) pages (omega arith) b in
+    pages-kept w i (omega arith) (append-assoc (w .finished) (page ∷ []) rest ∙ all) (more (w .heard) (i .heard))
+    (below-behind (length done) page (w .coming) (more (w .coming) (i .coming)) (first-page (w .finished) page rest (i .last) (all ∙ i .here)))
 
 -- ---- an acknowledgement is heard, or lost
 arriving-kept : (w : World) (heard : List ℕ → ℕ → List ℕ)
@@ -301,50 +272,35 @@ unfolding arriving
 arriving-kept w heard keeps [] e i = i
 arriving-kept w heard keeps (page ∷ rest) e i =
     let b = subst (Below (length (w .finished))) e (i .coming) in
-    record {
-      says = i .says;
-      base = i .base;
-      held = i .held;
-      flight = i .flight;
-      last = i .last;
-      here = i .here;
-      behind = i .behind;
-      ahead = i .ahead;
-      out = i .out;
-      heard = keeps (length (w .finished)) page (w .heard) (i .heard) (b .0);
-      coming = b .1;
-    }
+    pages-kept w i (omega arith) refl (keeps (length (w .finished)) page (w .heard) (i .heard) (b .0)) (b .1)
 
-one-more : (l : List ℕ) (m page : ℕ) → l ≡ pagesOf m → page ≡ suc m → l ++ (page ∷ []) ≡ pagesOf (suc m)
-unfolding pagesOf
+one-more : (l : List ℕ) (m page : ℕ) → l ≡ pagesTo m → page ≡ suc m → l ++ (page ∷ []) ≡ pagesTo (suc m)
+unfolding pagesTo
 one-more l m page e p = rw (e, p)
 
 goes-kept : (w : World) → Inv w → Inv (next asRequested w goes)
 unfolding next
-goes-kept w i = by-test (w .up && isIdle (w .writing) && leb (w .out + 1) (readLogOf (w .log) (w .used) .sent)) refl
-  where
-    by-test : (b : Bool) → w .up && isIdle (w .writing) && leb (w .out + 1) (readLogOf (w .log) (w .used) .sent) ≡ b
-        → Inv (cond b (record { log = w .log; used = w .used; up = true; out = w .out + 1; writing = idle; heard = w .heard; tray = w .tray ++ ((w .out + 1) ∷ []); finished = w .finished; coming = w .coming }) w)
-    by-test false e = i
-    by-test true e =
-        let j = both (w .up && isIdle (w .writing)) (leb (w .out + 1) (readLogOf (w .log) (w .used) .sent)) e in
-        let o : w .out ≡ i .last = i .out (both (w .up) (isIdle (w .writing)) (j .0) .0) in
-        let l : leb (w .out + 1) (i .says .sent) ≡ true = rw (held-read (w .log) (w .used) (i .says) (held-now w i)) at (j .1) in
-        let m = leb-true (w .out + 1) (i .says .sent) l in
-        let p : w .out + 1 ≡ suc (i .last) = omega arith in
-        record {
-          says = i .says;
-          base = w .log;
-          held = held-now w i;
-          flight = refl;
-          last = suc (i .last);
-          here = sym (append-assoc (w .finished) (w .tray) ((w .out + 1) ∷ [])) ∙ one-more (w .finished ++ w .tray) (i .last) (w .out + 1) (i .here) p;
-          behind = i .behind;
-          ahead = omega arith;
-          out = λ u. p;
-          heard = i .heard;
-          coming = i .coming;
-        }
+goes-kept w i =
+    arms Inv (w .up && isIdle (w .writing) && leb (w .out + 1) (readLogOf (w .log) (w .used) .sent))
+    (λ e. let j = both (w .up && isIdle (w .writing)) (leb (w .out + 1) (readLogOf (w .log) (w .used) .sent)) e in
+    let o : w .out ≡ i .last = i .out (both (w .up) (isIdle (w .writing)) (j .0) .0) in
+    let l : leb (w .out + 1) (i .says .sent) ≡ true = rw (held-read (w .log) (w .used) (i .says) (held-now w i)) at (j .1) in
+    let m = leb-true (w .out + 1) (i .says .sent) l in
+    let p : w .out + 1 ≡ suc (i .last) = omega arith in
+    record {
+      says = i .says;
+      base = w .log;
+      held = held-now w i;
+      flight = refl;
+      last = suc (i .last);
+      here = sym (append-assoc (w .finished) (w .tray) ((w .out + 1) ∷ [])) ∙ one-more (w .finished ++ w .tray) (i .last) (w .out + 1) (i .here) p;
+      behind = i .behind;
+      ahead = omega arith;
+      out = λ u. p;
+      heard = i .heard;
+      coming = i .coming;
+    })
+    (λ e. i)
 
 -- ---- a crash
 -- what the log says then
@@ -358,8 +314,7 @@ crash-left : (w : World) (i : Inv w) (u : ℕ) (x : Writing) → w .writing ≡ 
 unfolding crashUsed
 crash-left w i u idle e = record { to = i .says; held = held-now w i; behind = i .behind; ahead = omega arith }
 crash-left w i u (within tag page c k) e =
-    let f : Within (i .base) (w .log) (w .used) (i .says) (length (w .finished)) tag page c k =
-    subst (Flight (i .base) (w .log) (w .used) (i .says) (length (w .finished))) e (i .flight) in
+    let f = in-flight w i e in
     let used = cond (inPlace c && mayBeUsed (w .used) k u) u (w .used) in
     let a = cut-after (i .base) (w .used) (i .says) tag page (f .second) (i .held) (f .outcome) k u (f .few) in
     let b = change-between (a .how) (length (w .finished)) (i .behind) (f .told) in
@@ -369,7 +324,7 @@ crash-kept : (w : World) → Inv w → (left u : ℕ) → Inv (next asRequested 
 unfolding next
 crash-kept w i left u =
     let front = w .finished ++ take left (w .tray) in
-    let whole : front ++ drop left (w .tray) ≡ pagesOf (i .last) =
+    let whole : front ++ drop left (w .tray) ≡ pagesTo (i .last) =
     append-assoc (w .finished) (take left (w .tray)) (drop left (w .tray)) ∙ ap (λ (l : List ℕ). w .finished ++ l) (take-append-drop left (w .tray)) ∙ i .here in
     let l = pages-length (i .last) in
     let n = length-append front (drop left (w .tray)) in
@@ -410,7 +365,7 @@ run-kept w i [] = i
 run-kept w i (step ∷ steps) = run-kept (next asRequested w step) (next-kept w i step) steps
 
 pub begun-kept : (buffer : List ℕ) → Inv (begun buffer)
-unfolding pagesOf recordsOf readOf
+unfolding pagesTo recordsOf readOf
 begun-kept buffer =
     record {
       says = state 0 0;

@@ -1,17 +1,11 @@
 -- Other rules than the request's, under which the promise fails: for each a short history that breaks it. So `Kept` says something, and each rule of
 -- `asRequested` is needed. Assumes nothing.
-use Prim.Native.Nat.{ℕ}
-use mathlib.Core.Path.{_≡_, refl, ap}
-use mathlib.Core.Bool.{true}
-use mathlib.Core.List.{List, [], _∷_, _++_}
-use native.Mathlib.Omega.{arith}
-use lib.Dec.{leb}
-use lib.ListN.{getD, replicate}
+use Rattle.prelude.proofs.Logic.{_≡_, refl, ap, true, List, [], _∷_, _++_, ℕ, arith, leb, getD, replicate}
 use Rattle.text.specs.Text.{putOf}
 use Rattle.joblog.specs.Records.{bytesOf, recordsOf, inTurn, afterOf, readOf, openOf, compactedOf}
-use Rattle.joblog.specs.Calls.{readLogOf, readAnswer, newInTurn, compactAnswer, writtenOf, appendedOf, appendOf, restartedOf, restartOf}
-use Rattle.joblog_laws.specs.Run.{World, begun, Step, begins, byte, completes, goes, finishes, hears, lost, crash, restart, has, Rules, asRequested, beginning, writingByte, completing, finishing, arriving, crashUsed, isIdle, next, run}
-use Rattle.joblog_laws.specs.Histories.{pagesOf, KeptBy}
+use Rattle.joblog.specs.Calls.{readLogOf, readAnswer, newInTurn, compactAnswer, loggedOf, appendedOf, appendOf, restartedOf, restartOf}
+use Rattle.joblog_laws.specs.Run.{World, begun, Step, begins, byte, completes, goes, finishes, hears, lost, crash, restart, has, HostRules, asRequested, beginning, writingByte, completing, finishing, arriving, crashUsed, isIdle, next, run}
+use Rattle.joblog_laws.specs.Histories.{pagesTo, KeptBy}
 
 abbrev buffer : List ℕ
 buffer = replicate 20 238
@@ -24,8 +18,8 @@ abbrev appended : ℕ → ℕ → List Step
 appended tag page = started tag page ++ (byte ∷ completes ∷ [])
 
 -- where a history ends; to unfold this is to unfold all that a run computes
-ends : Rules → List Step → World
-unfolding run next beginning writingByte completing finishing arriving crashUsed isIdle has putOf bytesOf recordsOf inTurn afterOf readOf openOf compactedOf readLogOf readAnswer newInTurn compactAnswer writtenOf appendedOf appendOf restartedOf restartOf pagesOf
+ends : HostRules → List Step → World
+unfolding run next beginning writingByte completing finishing arriving crashUsed isIdle has putOf bytesOf recordsOf inTurn afterOf readOf openOf compactedOf readLogOf readAnswer newInTurn compactAnswer loggedOf appendedOf appendOf restartedOf restartOf pagesTo
 ends rules steps = run rules (begun buffer) steps
 
 -- ---- by the request: pages 1 and 2 go out and are finished, page 1's done is recorded, page 2's acknowledgement is lost, the host crashes in the append
@@ -40,7 +34,7 @@ unfolding ends one-lost
 as-requested = refl
 
 -- ---- the open pages after the last done go out again, whatever the count: page 1, finished and not recorded as done, is finished twice
-abbrev pub from-the-last-done : Rules
+abbrev pub from-the-last-done : HostRules
 from-the-last-done = record { told = has; ready = leb; resume = λ done count. done; kept = λ tray. [] }
 
 sent-again : List Step
@@ -57,7 +51,7 @@ not-from-the-last-done h =
     omega arith
 
 -- ---- the embosser keeps its tray when it reports its count: page 1, in the tray and sent again, is finished twice
-abbrev pub keeps-its-tray : Rules
+abbrev pub keeps-its-tray : HostRules
 keeps-its-tray = record { told = has; ready = leb; resume = λ done count. count; kept = λ tray. tray }
 
 in-the-tray : List Step
@@ -74,7 +68,7 @@ not-with-its-tray h =
     omega arith
 
 -- ---- a done is recorded before its page is finished: the true count is then refused by 14
-abbrev pub done-before-finished : Rules
+abbrev pub done-before-finished : HostRules
 done-before-finished = record { told = λ heard page. true; ready = leb; resume = λ done count. count; kept = λ tray. [] }
 
 too-early : List Step
@@ -89,7 +83,7 @@ unfolding ends too-early
 not-done-before-finished h = let e : _≡_ {A = ℕ} 14 0 = h buffer too-early .accepted buffer in omega arith
 
 -- ---- a page goes out before its sent record is whole: it is finished, the count is over the log's sent pages, and refused by 14
-abbrev pub goes-before-its-record : Rules
+abbrev pub goes-before-its-record : HostRules
 goes-before-its-record = record { told = has; ready = λ page sent. true; resume = λ done count. count; kept = λ tray. [] }
 
 no-record : List Step

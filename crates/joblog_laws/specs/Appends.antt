@@ -8,11 +8,11 @@ use lib.ListN.{length, take, drop}
 use Rattle.refusals.specs.Refusals.{logSecondShort}
 use Rattle.text.specs.Text.{putOf}
 use Rattle.joblog.specs.Records.{bytesOf, wholeOf}
-use Rattle.joblog.specs.Calls.{Call, readLogOf, appendOf, restartOf}
+use Rattle.joblog.specs.Calls.{LogCall, readLogOf, appendOf, restartOf}
 use Rattle.joblog_laws.specs.Run.{inPlace}
 
 -- ---- which bytes change
-abbrev pub Unchanged : Call → List ℕ → List ℕ → Type 0
+abbrev pub Unchanged : LogCall → List ℕ → List ℕ → Type 0
 Unchanged c log second = (c .log ≡ log) × (c .second ≡ second)
 
 -- a refused call changes no byte of either buffer

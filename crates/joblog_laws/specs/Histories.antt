@@ -8,18 +8,18 @@ use lib.Dec.{leb}
 use lib.ListN.{length}
 use Rattle.refusals.specs.Refusals.{logSecondShort}
 use Rattle.joblog.specs.Calls.{readLogOf, restartOf}
-use Rattle.joblog_laws.specs.Run.{World, begun, Step, goes, finishes, restart, has, Rules, asRequested, run}
+use Rattle.joblog_laws.specs.Run.{World, begun, Step, goes, finishes, restart, has, HostRules, asRequested, run}
 
 -- 1, 2, .. n
-unfoldable pub pagesOf : ℕ → List ℕ
-pagesOf zero = []
-pagesOf (suc n) = pagesOf n ++ (suc n ∷ [])
+unfoldable pub pagesTo : ℕ → List ℕ
+pagesTo zero = []
+pagesTo (suc n) = pagesTo n ++ (suc n ∷ [])
 
 pub record Kept (w : World) : Type 0 where
   -- the embosser has finished the pages 1, 2, 3, .., in order and each once
-  pub «in_order» : w .finished ≡ pagesOf (length (w .finished))
+  pub «in_order» : w .finished ≡ pagesTo (length (w .finished))
   -- and will, with those in its tray: none is skipped and none is there twice
-  pub «none_skipped» : w .finished ++ w .tray ≡ pagesOf (length (w .finished ++ w .tray))
+  pub «none_skipped» : w .finished ++ w .tray ≡ pagesTo (length (w .finished ++ w .tray))
   -- the page that goes out next is the one after all those
   pub «next_out» : w .up ≡ true → w .out ≡ length (w .finished ++ w .tray)
   -- and is no finished one
@@ -33,7 +33,7 @@ pub record Kept (w : World) : Type 0 where
       → restartOf (w .log) (w .used) (length (w .finished)) second .answer .number
       ≡ cond (leb (5 + 5 * (readLogOf (w .log) (w .used) .sent - length (w .finished))) (length second)) 0 logSecondShort
 
-abbrev pub KeptBy : Rules → Type 0
+abbrev pub KeptBy : HostRules → Type 0
 KeptBy rules = (buffer : List ℕ) (steps : List Step) → Kept (run rules (begun buffer) steps)
 
 abbrev pub HistoriesAreKept : Type 0
@@ -50,4 +50,4 @@ OpenPagesCome = (buffer : List ℕ) (steps : List Step) (second : List ℕ)
     → let w = run asRequested (begun buffer) steps in
     let sent = readLogOf (w .log) (w .used) .sent in
     let count = length (w .finished) in
-    5 + 5 * (sent - count) ≤ length second → run asRequested w (restart second ∷ sendAll (sent - count)) .finished ≡ pagesOf sent
+    5 + 5 * (sent - count) ≤ length second → run asRequested w (restart second ∷ sendAll (sent - count)) .finished ≡ pagesTo sent

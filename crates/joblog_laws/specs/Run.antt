@@ -1,7 +1,7 @@
 -- Request 6, a run: a host with its log, and an embosser. What the calls write and answer is crates/joblog's definitions, which its code equals.
 --
 -- What the request's promise rests on, beside the log (each is a choice of this model, to hold against the request). What the host may record and send,
--- what it sends again and what the embosser drops are a value, `Rules`; the others are how the steps go:
+-- what it sends again and what the embosser drops are a value, `HostRules`; the others are how the steps go:
 --   the link    pages reach the embosser in the order in which they go out. What is lost is lost from the end, and then nothing more gets through
 --               until a restart (the step `crash`, also where only the link or the embosser failed).
 --   embosser    it finishes its pages in the order in which they reached it, also while the host is down, and no crash takes a finished page back.
@@ -19,13 +19,13 @@ use lib.Dec.{leb, ltb, eqb}
 use lib.ListN.{length, take, drop}
 use Rattle.text.specs.Text.{putOf}
 use Rattle.joblog.specs.Records.{doneTag, bytesOf, wholeOf}
-use Rattle.joblog.specs.Calls.{Call, readLogOf, appendOf, restartOf}
+use Rattle.joblog.specs.Calls.{LogCall, readLogOf, appendOf, restartOf}
 
 -- ---- what there is at a moment
 -- whether the host is in an append: its record's tag and page, what the call answers and leaves, and how many of the record's bytes are lasting
 pub data Writing : Type 0 where
   idle : Writing
-  within : ℕ → ℕ → Call → ℕ → Writing
+  within : ℕ → ℕ → LogCall → ℕ → Writing
 
 pub record World : Type 0 where
   -- lasting, the host's: the buffer that is the log now, and how many of its bytes are the log
@@ -72,7 +72,7 @@ has [] page = false
 has (p ∷ pages) page = eqb p page || has pages page
 
 -- ---- the rules of host and embosser. Those of the request are below; proofs/WrongRules has others, under which the promise fails.
-pub record Rules : Type 0 where
+pub record HostRules : Type 0 where
   -- the pages whose acknowledgement was heard, a page: may the host record it as done?
   pub told : List ℕ → ℕ → Bool
   -- a page, the pages that the log says are sent: may it go out?
@@ -83,25 +83,25 @@ pub record Rules : Type 0 where
   pub kept : List ℕ → List ℕ
 
 -- "a page goes out only after its sent record is whole"; "the log is compacted with the count as finished, its open pages go out again"
-abbrev pub asRequested : Rules
+abbrev pub asRequested : HostRules
 asRequested = record { told = has; ready = leb; resume = λ done count. count; kept = λ tray. [] }
 
 -- ---- steps. One that the rules do not allow at that moment does not happen.
 -- "the first buffer stays as it was and is the log until the call returns"
-abbrev pub logAfter : Call → List ℕ
+abbrev pub logAfter : LogCall → List ℕ
 logAfter c = cond (eqb (c .answer .moved) 1) (c .second) (c .log)
 
-abbrev pub usedAfter : Call → ℕ → ℕ
+abbrev pub usedAfter : LogCall → ℕ → ℕ
 usedAfter c used = cond (eqb (c .answer .number) 0) (c .answer .used) used
 
 -- an append that writes into the log's own buffer
-abbrev pub inPlace : Call → Bool
+abbrev pub inPlace : LogCall → Bool
 inPlace c = eqb (c .answer .number) 0 && eqb (c .answer .moved) 0
 
-abbrev pub mayAppend : Rules → World → ℕ → ℕ → Bool
+abbrev pub mayAppend : HostRules → World → ℕ → ℕ → Bool
 mayAppend rules w tag page = w .up && cond (eqb tag doneTag) (rules .told (w .heard) page) true
 
-unfoldable pub beginning : Rules → World → Writing → ℕ → ℕ → List ℕ → World
+unfoldable pub beginning : HostRules → World → Writing → ℕ → ℕ → List ℕ → World
 beginning rules w (within t p c k) tag page second = w
 beginning rules w idle tag page second =
     let c = appendOf (w .log) (w .used) tag page second in
@@ -180,7 +180,7 @@ unfoldable pub isIdle : Writing → Bool
 isIdle idle = true
 isIdle (within tag page c k) = false
 
-unfoldable pub next : Rules → World → Step → World
+unfoldable pub next : HostRules → World → Step → World
 next rules w (begins tag page second) = beginning rules w (w .writing) tag page second
 next rules w byte = writingByte w (w .writing)
 next rules w completes = completing w (w .writing)
@@ -228,6 +228,6 @@ next rules w (restart second) =
       coming = w .coming;
     }
 
-unfoldable pub run : Rules → World → List Step → World
+unfoldable pub run : HostRules → World → List Step → World
 run rules w [] = w
 run rules w (step ∷ steps) = run rules (next rules w step) steps

@@ -1,10 +1,5 @@
 -- Of an order that is read, town_at and town_length are the town's own offset and length, and the Isha interval is the record's. Assumes nothing.
-use native.Mathlib.Omega.{arith}
-use Prim.Native.Nat.{ℕ, _+_}
-use mathlib.Core.Path.{_≡_, sym}
-use mathlib.Core.List.{List}
-use lib.IntN.{pos}
-use lib.ListN.{length}
+use Rattle.prelude.proofs.Logic.{_≡_, sym, List, ℕ, _+_, arith, pos, length}
 use Rattle.integers.proofs.PartsLaws.{natural}
 use Rattle.fields.specs.Values.{offsetOf}
 use Rattle.order.specs.declared.reading.Order.{Order}

@@ -1,13 +1,6 @@
 -- An i32 as a u32: what is below 0 is 0, and nothing else changes. Assumes nothing.
-use mathlib.Core.Path.{_≡_, sym, ap, _∙_}
-use mathlib.Core.Bool.{true, false}
-use native.Mathlib.Omega.{arith}
-use lib.Dec.{T}
-use lib.IntN.{ℤ, pos, natAbs}
-use lib.Signed.{ltZ, nonNeg}
-use mir.Syntax.{w32}
-use mir.Val.{SFits, Fits}
-use Rattle.integers.specs.Parts.{P, N}
+use Rattle.prelude.proofs.Logic.{_≡_, sym, ap, _∙_, true, false, arith, T, ℤ, pos, natAbs, ltZ, nonNeg, w32, SFits, Fits}
+use Rattle.integers.specs.Parts.{P}
 use Rattle.integers.proofs.PartsLaws.{natural, not-positive}
 use Rattle.integers.proofs.OrderLaws.{lt-yes, lt-no}
 use Rattle.integers.proofs.Ranges.{range, readBack, read}

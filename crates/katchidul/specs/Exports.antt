@@ -2,7 +2,7 @@
 use Prim.Native.Nat.{ℕ}
 use mathlib.Core.Bool.{Bool, cond}
 use mathlib.Core.List.{List}
-use lib.IntN.{ℤ, pos}
+use lib.IntN.{pos}
 use Rattle.integers.specs.Parts.{P}
 use Rattle.float64.specs.Ops.{dec}
 use Rattle.models.specs.Numbers.{methodNumberOf, madhabNumberOf, ruleNumberOf, roundingNumberOf, shafaqNumberOf, midnightNumberOf, southernNumberOf, prayerNumberOf}

@@ -1,10 +1,10 @@
 // Refusals in words, from C.
 ghost use mathlib.Core.Path.{_≡_};
 ghost use lib.ListN.{length};
-ghost use Rattle.sentences.specs.Sentences.{writtenOf, bufferAfter, meaningOf};
+ghost use Rattle.sentences.specs.Sentences.{sentenceWrittenOf, bufferAfter, meaningOf};
 ghost use Rattle.katchidul.specs.Sentence.{writtenAnswerOf, meaningAnswerOf};
 use sentences::Meaning;
-use sentences::Written;
+use sentences::WrittenSentence;
 use sentences::sentence::read_sentence;
 use sentences::sentence::write_sentence;
 
@@ -23,7 +23,7 @@ pub struct KatchidulMeaning {
     pub of_place: u32,
 }
 
-fn written_answer(written: Written) -> KatchidulWritten
+fn written_answer(written: WrittenSentence) -> KatchidulWritten
     ensures { λ r. ⌜ r ≡ writtenAnswerOf written ⌝ }
 {
     KatchidulWritten {
@@ -39,7 +39,7 @@ pub extern "C" fn katchidul_write_sentence(
     place: u32,
     buffer: &mut [u8],
 ) -> KatchidulWritten
-    ensures { λ r. ⌜ r ≡ writtenAnswerOf (writtenOf number place (length (now (buffer .entry)))) ⌝ }
+    ensures { λ r. ⌜ r ≡ writtenAnswerOf (sentenceWrittenOf number place (length (now (buffer .entry)))) ⌝ }
     ensures { λ _. ⌜ now (buffer .exit) ≡ bufferAfter number place (now (buffer .entry)) ⌝ }
 {
     written_answer(write_sentence(number, place, &mut buffer[..]))

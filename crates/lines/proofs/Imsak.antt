@@ -1,12 +1,5 @@
 -- Imsak in the machine's numbers: 60 times a u32, and what is left of an instant. Assumes nothing.
-use mathlib.Core.Path.{_≡_, sym, ap, _∙_}
-use mathlib.Core.Bool.{true, false}
-use Prim.Native.Nat.{ℕ, _*_, _^_, _<_}
-use native.Mathlib.Omega.{arith}
-use lib.IntN.{ℤ, pos, _+ℤ_, _-ℤ_, _*ℤ_}
-use lib.Signed.{ltZ}
-use mir.Syntax.{w64}
-use mir.Val.{SFits, toZ}
+use Rattle.prelude.proofs.Logic.{_≡_, sym, ap, _∙_, true, false, ℕ, _*_, _^_, _<_, arith, ℤ, pos, _+ℤ_, _-ℤ_, _*ℤ_, ltZ, w64, SFits, toZ}
 use Rattle.integers.proofs.Intervals.{by-balance}
 use Rattle.integers.proofs.OrderLaws.{lt-yes, lt-no, to-le, to-not-le}
 use Rattle.integers.proofs.PartsLaws.{same}

@@ -1,12 +1,5 @@
 -- The days from a date to an instant, in the machine's numbers. Assumes nothing.
-use mathlib.Core.Path.{_≡_, refl, sym, ap, _∙_}
-use mathlib.Core.Bool.{true, false}
-use Prim.Native.Nat.{ℕ, _+_, _-_, _*_, _/_, _%_, _^_, _<_}
-use native.Mathlib.Omega.{arith}
-use lib.IntN.{ℤ, pos, negsuc, _-ℤ_}
-use lib.Signed.{ltZ}
-use mir.Syntax.{w64}
-use mir.Val.{SFits, Fits}
+use Rattle.prelude.proofs.Logic.{_≡_, refl, true, false, _+_, _/_, _^_, _<_, arith, ℤ, pos, negsuc, _-ℤ_, ltZ, w64, SFits, Fits}
 use Rattle.integers.specs.Parts.{P, N}
 use Rattle.integers.proofs.Sums.{difference, times}
 use Rattle.integers.proofs.OrderLaws.{lt-yes, lt-no}

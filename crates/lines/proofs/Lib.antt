@@ -3,3 +3,4 @@ pub mod Instants
 pub mod Making
 pub mod Parts
 pub mod Imsak
+pub mod Moments

@@ -1,12 +1,5 @@
 -- How long the lines are. Assumes nothing.
-use native.Mathlib.Omega.{arith}
-use Prim.Native.Nat.{ℕ, _+_, _*_, _≤_}
-use mathlib.Core.Path.{_≡_, refl}
-use mathlib.Core.Bool.{Bool, true, false, cond}
-use mathlib.Core.List.{List, [], _∷_, _++_}
-use lib.Dec.{lit≤}
-use lib.IntN.{ℤ}
-use lib.ListN.{length, length-append}
+use Rattle.prelude.proofs.Logic.{_≡_, refl, Bool, true, false, cond, List, [], _∷_, _++_, ℕ, _+_, _*_, _≤_, arith, lit≤, ℤ, length, length-append}
 use Rattle.calendar.specs.declared.dates.Date.{Date}
 use Rattle.hijri.specs.declared.ramadan.Ramadan.{Ramadan}
 use Rattle.schedule.specs.declared.prayer_times.PrayerTimes.{PrayerTimes}

@@ -1,9 +1,5 @@
 -- A refusal's line, made part by part. Assumes nothing.
-use native.Mathlib.Omega.{arith}
-use Prim.Native.Nat.{ℕ, _+_, _≤_}
-use mathlib.Core.Path.{_≡_, refl, sym, ap, _∙_}
-use mathlib.Core.List.{List, [], _∷_, _++_}
-use lib.ListN.{length, length-append}
+use Rattle.prelude.proofs.Logic.{_≡_, refl, ap, _∙_, List, [], _++_, ℕ, _+_, _≤_, arith, length, length-append}
 use Rattle.refusals.specs.declared.Refusal.{Refusal}
 use Rattle.text.specs.Text.{ascii, decimalOf, putOf, frontOf}
 use Rattle.text.proofs.TextLaws.{put-behind, put-next, digits-short}

@@ -1,12 +1,5 @@
 -- The times of a row, one after another. Assumes nothing.
-use native.Mathlib.Omega.{arith}
-use native.Mathlib.Numerals.{add-one}
-use Prim.Native.Nat.{ℕ, _+_, _*_, _<_, _≤_}
-use mathlib.Core.Path.{_≡_, refl, sym, ap, _∙_}
-use mathlib.Core.List.{List, [], _∷_, _++_, append-assoc, append-nil}
-use lib.IntN.{ℤ}
-use lib.ListN.{length, getD, take, length-append, drop-of-length-le}
-use lib.Seq.{take-suc, take-length, length-take-le}
+use Rattle.prelude.proofs.Logic.{_≡_, refl, sym, ap, _∙_, List, [], _∷_, _++_, append-assoc, append-nil, ℕ, _+_, _*_, _<_, _≤_, add-one, arith, ℤ, length, getD, take, drop, length-append, length-drop, drop-drop, le-leb, lt-leb, drop-of-length-le, take-suc, take-length, length-take-le}
 use Rattle.calendar.specs.declared.dates.Date.{Date}
 use Rattle.text.specs.Text.{ascii, putOf, frontOf}
 use Rattle.text.proofs.TextLaws.{put-next}
@@ -37,6 +30,32 @@ part-next date times i z h =
     let e : timesText date (take (i + 1) times) ≡ timesText date (take i times) ++ timeText date (getD times i z) =
     rw (add-one i, take-suc times i z h) (times-append date (take i times) (getD times i z ∷ []) ∙ ap (λ (l : List ℕ). timesText date (take i times) ++ l) c) in
     append-assoc (dateText date) (timesText date (take i times)) (timeText date (getD times i z)) ∙ ap (λ (l : List ℕ). dateText date ++ l) (sym e)
+
+-- text that fills a part of a buffer is put into the whole
+pub filled-put : (buffer text : List ℕ) (at k : ℕ) → k ≡ length text → at + k ≤ length buffer
+    → take at buffer ++ (text ++ drop k (drop at buffer)) ≡ putOf buffer at text
+unfolding putOf
+filled-put buffer text at k e room =
+    ap (λ (rest : List ℕ). take at buffer ++ (text ++ rest)) (drop-drop k at buffer ∙ ap (λ (i : ℕ). drop (at + i) buffer) e)
+    ∙ sym (append-assoc (take at buffer) text (drop (at + length text) buffer))
+    ∙ sym (rw (le-leb (at + length text) (length buffer) (omega arith)))
+
+-- text that is put into a part of its own length fills it
+pub part-put : (buffer text part : List ℕ) (at k : ℕ) → k ≡ length text → at + k ≤ length buffer → part ≡ putOf (take k (drop at buffer)) 0 text
+    → take at buffer ++ (part ++ drop k (drop at buffer)) ≡ putOf buffer at text
+part-put buffer text part at k e room p =
+    let mid = take k (drop at buffer) in
+    let n = length-drop at buffer in
+    let l : length mid ≡ k = length-take-le k (drop at buffer) (omega arith) in
+    let whole : part ≡ text =
+    put-next mid [] text mid part 0 refl refl p (omega arith)
+    ∙ ap (λ (rest : List ℕ). text ++ rest) (drop-of-length-le mid {i = length text} (omega arith))
+    ∙ append-nil text in
+    ap (λ (t : List ℕ). take at buffer ++ (t ++ drop k (drop at buffer))) whole ∙ filled-put buffer text at k e room
+
+pub no-room : (buffer text : List ℕ) (at : ℕ) → length buffer < at + length text → buffer ≡ putOf buffer at text
+unfolding putOf
+no-room buffer text at h = rw (lt-leb (at + length text) (length buffer) h)
 
 -- the line of i times becomes that of i + 1
 pub time-put : (date : Date) (times : List ℤ) (i : ℕ) (z : ℤ) (line before after text : List ℕ) → i < length times → length line ≡ rowBytes (length times)

@@ -33,8 +33,8 @@ abbrev pub signOf : ℤ → ℕ
 signOf (pos n) = 43
 signOf (negsuc n) = 45
 
-abbrev pub sizeOf : ℤ → ℕ
-sizeOf z = P z + N z
+abbrev pub magnitudeOf : ℤ → ℕ
+magnitudeOf z = P z + N z
 
 abbrev pub clockText : ℕ → List ℕ
 clockText second = twoDigits (second / 3600) ++ (58 ∷ twoDigits (second / 60 % 60)) ++ (58 ∷ twoDigits (second % 60))
@@ -42,7 +42,7 @@ clockText second = twoDigits (second / 3600) ++ (58 ∷ twoDigits (second / 60 %
 unfoldable pub timeText : Date → ℤ → List ℕ
 timeText date time =
     let days = daysOf date time in
-    (32 ∷ signOf days ∷ digitOf (sizeOf days) ∷ 84 ∷ []) ++ clockText (floorRem time 86400)
+    (32 ∷ signOf days ∷ digitOf (magnitudeOf days) ∷ 84 ∷ []) ++ clockText (floorRem time 86400)
 
 -- ---- "one line a row: date, then nine times in the header's order"
 abbrev pub nineOf : PrayerTimes → List ℤ

@@ -5,8 +5,8 @@ ghost use Prim.Native.Nat.{_≤_};
 ghost use lib.ListN.{length};
 ghost use Rattle.text.specs.Text.{putOf};
 ghost use Rattle.lines.specs.Lines.{imsakOf, nineOf, columnsOf, rowText, rowBytes, rowRoom};
-use super::times::Dated;
 use super::times::date_text;
+use super::times::on_date;
 use super::times::time_text;
 use calendar::dates::Date;
 use hijri::ramadan::Ramadan;
@@ -86,41 +86,53 @@ fn fill_row(line: &mut [u8], date: Date, times: &[i64])
     requires { ⌜ (length (now times) ≤ 10) × (length (now line) ≡ rowBytes (length (now times))) ⌝ }
     ensures { λ _. ⌜ now (line .exit) ≡ rowText date (now (times .entry)) ⌝ }
 {
-    let dated = Dated {
-        date: date,
-        day: date.day_number(),
-    };
+    let dated = on_date(date);
     put(&mut line[..], 0, &date_text(date));
     let mut i = 0;
     while i < times.len() {
-        put(
-            &mut line[..],
-            DATE_BYTES + TIME_BYTES * i,
-            &time_text(dated, times[i]),
-        );
+        let at = DATE_BYTES + TIME_BYTES * i;
+        let end = at + TIME_BYTES;
+        put(&mut line[at..end], 0, &time_text(dated, times[i]));
         i = i + 1;
     }
     put(&mut line[..], DATE_BYTES + TIME_BYTES * i, b"\n");
+}
+
+// The line is written where it stands, once the buffer is known to have room for all of it.
+fn put_columns(buffer: &mut [u8], at: usize, date: Date, times: &[i64]) -> usize
+    requires { ⌜ length (now times) ≤ 10 ⌝ }
+    ensures { λ r. ⌜ r ≡ length (rowText date (now (times .entry))) ⌝ }
+    ensures { λ _. ⌜ now (buffer .exit) ≡ putOf (now (buffer .entry)) at (rowText date (now (times .entry))) ⌝ }
+{
+    let bytes = DATE_BYTES + TIME_BYTES * times.len() + 1;
+    if at > buffer.len() {
+        return bytes;
+    }
+    if bytes > buffer.len() - at {
+        return bytes;
+    }
+    let end = at + bytes;
+    fill_row(&mut buffer[at..end], date, times);
+    bytes
 }
 
 fn put_nine(buffer: &mut [u8], at: usize, date: Date, times: PrayerTimes) -> usize
     ensures { λ r. ⌜ r ≡ length (rowText date (nineOf times)) ⌝ }
     ensures { λ _. ⌜ now (buffer .exit) ≡ putOf (now (buffer .entry)) at (rowText date (nineOf times)) ⌝ }
 {
-    let mut line = [0u8; ROW_BYTES];
-    fill_row(&mut line, date, &nine(times));
-    put(&mut buffer[..], at, &line);
-    ROW_BYTES
+    put_columns(&mut buffer[..], at, date, &nine(times))
 }
 
 fn put_ten(buffer: &mut [u8], at: usize, date: Date, minutes: u32, times: PrayerTimes) -> usize
     ensures { λ r. ⌜ r ≡ length (rowText date (imsakOf minutes (times .fajr) ∷ nineOf times)) ⌝ }
     ensures { λ _. ⌜ now (buffer .exit) ≡ putOf (now (buffer .entry)) at (rowText date (imsakOf minutes (times .fajr) ∷ nineOf times)) ⌝ }
 {
-    let mut line = [0u8; RAMADAN_ROW_BYTES];
-    fill_row(&mut line, date, &ten(imsak(minutes, times.fajr), times));
-    put(&mut buffer[..], at, &line);
-    RAMADAN_ROW_BYTES
+    put_columns(
+        &mut buffer[..],
+        at,
+        date,
+        &ten(imsak(minutes, times.fajr), times),
+    )
 }
 
 // As `put` does; answers the line's length.

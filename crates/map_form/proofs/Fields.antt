@@ -1,17 +1,6 @@
 -- From a bit pattern to the nearest count: what the pattern's fields say of a float up to 180, and the whole-number arithmetic on them. Assumes nothing.
-use mathlib.Core.Path.{_≡_, sym, ap, _∙_, subst}
-use Prim.Native.Nat.{ℕ, zero, suc, _+_, _-_, _*_, _/_, _%_, _^_, _≤_, _<_}
-use native.Mathlib.Nat.{mul-one, mul-assoc, mul-comm, mul-left-comm, mul-add, add-mul, mul-pos, mul-le-mul, mul-le-mul-right, le-trans, lt-of-lt-of-le, not-le-of-lt, le-of-mul-le-mul-right, div-eq-of-lt, add-div-right, div-div-eq-div-mul, mul-div-mul-left, mul-div-mul-right}
-use native.Mathlib.Omega.{arith}
-use mathlib.Core.Bool.{Bool, true, false, cond, false≢true}
-use lib.Dec.{T, leb, eqb, lit<, lit≤}
-use lib.Pow.{pow-add, pow-pos, pow-mono, shl-lt}
-use borrow.Author.Tests.{leb-true}
-use lib.Ieee.{Float, nan, inf, fin, binary64, up, down, fits, odd, ofFields, ofBits, toBits}
-use lib.Ieee.Fits.{down-pos}
-use lib.Ieee.Exact.{HasValue, odd-sign}
-use lib.Ieee.Nearest.{div-same}
-use lib.Ieee.Bits.{ofBits-toBits}
+use Rattle.prelude.proofs.Logic.{_≡_, sym, ap, _∙_, subst, Bool, true, false, cond, false≢true, ℕ, zero, suc, _+_, _-_, _*_, _/_, _%_, _^_, _≤_, _<_, mul-one, mul-assoc, mul-comm, mul-left-comm, mul-add, add-mul, mul-pos, mul-le-mul, mul-le-mul-right, le-trans, lt-of-lt-of-le, not-le-of-lt, le-of-mul-le-mul-right, div-eq-of-lt, add-div-right, div-div-eq-div-mul, mul-div-mul-left, mul-div-mul-right, arith, T, leb, eqb, lit<, lit≤, pow-add, pow-pos, pow-mono, shl-lt, leb-true}
+use Rattle.float64.proofs.Floats.{Float, nan, inf, fin, binary64, up, down, fits, odd, ofFields, ofBits, toBits, down-pos, HasValue, odd-sign, div-same, ofBits-toBits}
 use Rattle.map_form.specs.Hundredths.{atMost}
 use Rattle.map_form.specs.Written.{nearestTo, hundredthsOf}
 

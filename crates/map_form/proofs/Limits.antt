@@ -1,34 +1,17 @@
 -- What a range of exact values says by comparisons with its two ends. Assumes nothing.
-use mathlib.Core.Path.{_≡_, refl, sym, ap, _∙_}
-use mathlib.Core.Bool.{Bool, true, false, _&&_, _||_, true≢false, false≢true}
-use Prim.Native.Nat.{ℕ, _+_, _*_, _≤_, _<_}
-use native.Mathlib.Omega.{arith}
-use lib.Dec.{ltb, eqb, lit<}
-use borrow.Author.Tests.{leb-true, ltb-false, eq-eqb}
-use lib.Ieee.{Float, nan, inf, fin, binary64, up, down, neg, le, round}
-use lib.Ieee.Exact.{HasValue}
-use lib.Ieee.Back.{round-whole}
-use lib.Ieee.Fits.{down-pos}
-use lib.Ieee.Order.{transfer}
-use Rattle.float64.specs.Ops.{dec}
-use Rattle.float64.specs.Ranges.{Inside}
+use Rattle.prelude.proofs.Logic.{_≡_, refl, true, false, _&&_, _||_, true≢false, false≢true, ℕ, _+_, _*_, _≤_, arith, ltb, eqb, lit<, leb-true, ltb-false, eq-eqb, cases}
+use Rattle.float64.proofs.Floats.{Float, nan, inf, fin, binary64, up, down, neg, le, round, HasValue, round-whole, down-pos, transfer, dec, Inside}
 use Rattle.map_form.specs.Hundredths.{atMost}
 
 -- -a ≤ b
 opposite : (a b : ℕ) → (ltb 0 (a + b) || (eqb a b && eqb a 0)) ≡ true
-opposite a b = go (ltb 0 (a + b)) refl
-  where
-    go : (t : Bool) → ltb 0 (a + b) ≡ t → (t || (eqb a b && eqb a 0)) ≡ true
-    go true l = refl
-    go false l = let k = ltb-false 0 (a + b) l in rw (eq-eqb a b (omega arith), eq-eqb a 0 (omega arith))
+opposite a b =
+    cases (ltb 0 (a + b)) (λ l. rw l) (λ l. let k = ltb-false 0 (a + b) l in rw (l, eq-eqb a b (omega arith), eq-eqb a 0 (omega arith)))
 
 -- a ≤ b, and -b ≤ -a
 upright : (a b : ℕ) → a ≤ b → ((ltb a b || (eqb a b && true)) ≡ true) × ((ltb a b || (eqb b a && true)) ≡ true)
-upright a b h = go (ltb a b) refl
-  where
-    go : (t : Bool) → ltb a b ≡ t → ((t || (eqb a b && true)) ≡ true) × ((t || (eqb b a && true)) ≡ true)
-    go true l = (refl, refl)
-    go false l = let k = ltb-false a b l in (rw (eq-eqb a b (omega arith)), rw (eq-eqb b a (omega arith)))
+upright a b h =
+    cases (ltb a b) (λ l. rw l (refl, refl)) (λ l. let k = ltb-false a b l in rw (l, eq-eqb a b (omega arith), eq-eqb b a (omega arith)) (refl, refl))
 
 by-value : (x h : Float) (n : ℕ) → HasValue h false n 1 → atMost n x ≡ true → Inside (neg h) h x
 unfolding le neg atMost

@@ -1,21 +1,12 @@
 -- The law of the writer: the answer's parts are the hundredths nearest to x, a half away from zero, with x's sign. Assumes nothing.
-use mathlib.Core.Path.{_≡_, refl, sym, ap, _∙_, subst}
-use Prim.Native.Nat.{ℕ, zero, suc, _+_, _*_, _/_, _%_, _≤_, _<_}
-use native.Mathlib.Nat.{div-mul-le-self, lt-div-mul-add, lt-of-mul-lt-mul-right}
-use native.Mathlib.Omega.{arith}
-use mathlib.Core.Bool.{Bool, true, false, cond, false≢true}
-use borrow.Author.Tests.{le-leb}
-use lib.Ieee.{Float, nan, inf, fin, up, down}
-use lib.Ieee.Fits.{down-pos}
-use Rattle.float64.specs.Words.{isNegativeOf}
-use Rattle.refusals.specs.Refusals.{noRefusal, refusal}
-use Rattle.refusals.specs.declared.Refusal.{Refusal}
+use Rattle.prelude.proofs.Logic.{_≡_, refl, sym, ap, _∙_, subst, Bool, true, false, cond, false≢true, ℕ, zero, suc, _+_, _*_, _/_, _%_, _≤_, _<_, div-mul-le-self, lt-div-mul-add, lt-of-mul-lt-mul-right, arith, le-leb, cases}
+use Rattle.float64.proofs.Floats.{Float, nan, inf, fin, up, down, down-pos, isNegativeOf}
+use Rattle.refusals.specs.Refusals.{refusal}
 use Rattle.map_form.specs.declared.MapForm.{MapForm}
-use Rattle.map_form.specs.declared.writing.Written.{Written}
 use Rattle.map_form.specs.Hundredths.{inDegree, signed, sizeOf, atMost, formFits}
 use Rattle.map_form.specs.Written.{partsOf, formOf, nearestCount, writtenOf, nearestTo, hundredthsOf}
 use Rattle.map_form.specs.Promises.{WrittenIsOwed, OneIsNearest, OneIsOwed}
-use Rattle.map_form.specs.Owed.{signFor, noParts, Nearest, Right, Owed}
+use Rattle.map_form.specs.Owed.{signFor, Nearest, NearestParts}
 use Rattle.map_form.proofs.Range.{count-le}
 use Rattle.map_form.proofs.RoundTrip.{fits}
 
@@ -54,7 +45,7 @@ made true (suc n) = record { size = whole 1 (suc n); sign = refl }
 made false zero = record { size = refl; sign = refl }
 made false (suc n) = record { size = whole 0 (suc n); sign = refl }
 
-right : (x : Float) (most : ℕ) → atMost most x ≡ true → Right x (formOf (nearestCount x))
+right : (x : Float) (most : ℕ) → atMost most x ≡ true → NearestParts x (formOf (nearestCount x))
 unfolding atMost isNegativeOf hundredthsOf
 right nan most h = false≢true h
 right (inf s) most h = false≢true h
@@ -99,7 +90,7 @@ parts-of most f g p q s e =
     let d : f .degrees ≡ g .degrees = omega (arith, e, m, t, h) in
     λ i. record { sign = s i; degrees = d i; minutes = m i; seconds = t i; hundredths = h i }
 
-right-once : (x : Float) (most : ℕ) (f g : MapForm) → formFits most f ≡ true → formFits most g ≡ true → Right x f → Right x g → f ≡ g
+right-once : (x : Float) (most : ℕ) (f g : MapForm) → formFits most f ≡ true → formFits most g ≡ true → NearestParts x f → NearestParts x g → f ≡ g
 right-once nan most f g p q a b = absurd a
 right-once (inf s) most f g p q a b = absurd a
 right-once (fin s m e) most f g p q a b =
@@ -107,13 +98,9 @@ right-once (fin s m e) most f g p q a b =
     parts-of most f g p q (a .1 ∙ ap (λ (z : ℕ). signFor z (cond s 1 0)) n ∙ sym (b .1)) n
 
 pub one-is-owed : OneIsOwed
-one-is-owed tag most x v w h k = go (atMost most x) refl
-  where
-    go : (t : Bool) → atMost most x ≡ t → v ≡ w
-    go true e =
-        let a = h .inside e in
-        let b = k .inside e in
-        let r : v .refusal ≡ w .refusal = a .0 ∙ sym (b .0) in
-        let f : v .form ≡ w .form = right-once x most (v .form) (w .form) (a .1) (b .1) (a .2) (b .2) in
-        λ i. record { refusal = r i; form = f i }
-    go false e = h .outside e ∙ sym (k .outside e)
+one-is-owed tag most x v w h k =
+    cases (atMost most x)
+    (λ e. let a = h .inside e in let b = k .inside e in let r : v .refusal ≡ w .refusal = a .0 ∙ sym (b .0) in
+    let f : v .form ≡ w .form = right-once x most (v .form) (w .form) (a .1) (b .1) (a .2) (b .2) in
+    λ i. record { refusal = r i; form = f i })
+    (λ e. h .outside e ∙ sym (k .outside e))

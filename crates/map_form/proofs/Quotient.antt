@@ -1,18 +1,6 @@
 -- The reader's division: both numbers are exact as floats, so the quotient is n / 360,000 rounded once. Assumes nothing.
-use mathlib.Core.Path.{_≡_, refl, sym}
-use Prim.Native.Nat.{ℕ, zero, suc, _*_, _≤_, _<_}
-use native.Mathlib.Omega.{arith}
-use mathlib.Core.Bool.{true, false}
-use lib.IntN.{pos}
-use lib.Dec.{eqb, lit<}
-use borrow.Author.Tests.{eq-eqb, ne-eqb}
-use lib.Ieee.{Float, nan, inf, fin, binary64, up, down, round, ofInt, ofBits, div, neg}
-use lib.Ieee.Exact.{HasValue}
-use lib.Ieee.Fits.{down-pos}
-use lib.Ieee.Back.{round-whole}
-use lib.Ieee.Scale.{round-same}
-use Rattle.float64.proofs.Values.{big}
-use Rattle.float64.proofs.Within.{round-neg}
+use Rattle.prelude.proofs.Logic.{_≡_, refl, sym, true, false, ℕ, zero, suc, _*_, _≤_, _<_, arith, eqb, lit<, pos, eq-eqb, ne-eqb}
+use Rattle.float64.proofs.Floats.{Float, nan, inf, fin, binary64, up, down, round, ofInt, ofBits, div, neg, HasValue, down-pos, round-whole, round-same, big, round-neg}
 use Rattle.map_form.specs.Hundredths.{signed, degreesOf}
 
 -- 360,000 as the source has it

@@ -1,19 +1,6 @@
 -- A float's range: the code's test is that of the exact value, and what it says of the float and of its hundredths. Assumes nothing.
-use mathlib.Core.Path.{_≡_, refl}
-use Prim.Native.Nat.{ℕ, _+_, _*_, _≤_, _<_}
-use native.Mathlib.Nat.{mul-le-mul-right, div-lt-iff-lt-mul}
-use native.Mathlib.Omega.{arith}
-use mathlib.Core.Bool.{Bool, true, false, not, false≢true}
-use lib.IntN.{pos}
-use lib.Dec.{T, leb, leb→le, le→leb, lit<}
-use borrow.Author.Tests.{leb-true, le-leb}
-use lib.Ieee.{Float, nan, inf, fin, binary64, up, down, ofInt, le, lt, eq, isNan}
-use lib.Ieee.Exact.{HasValue}
-use lib.Ieee.Fits.{down-pos}
-use lib.Ieee.Back.{round-whole}
-use lib.Ieee.Order.{le-of-values}
-use Rattle.float64.specs.Sizes.{absOf}
-use Rattle.float64.proofs.Within.{under-value}
+use Rattle.prelude.proofs.Logic.{_≡_, refl, Bool, true, false, not, false≢true, ℕ, _+_, _*_, _≤_, _<_, mul-le-mul-right, div-lt-iff-lt-mul, arith, T, leb, leb→le, le→leb, lit<, pos, leb-true, le-leb}
+use Rattle.float64.proofs.Floats.{Float, nan, inf, fin, binary64, up, down, ofInt, le, lt, eq, isNan, HasValue, down-pos, round-whole, le-of-values, absOf, under-value}
 use Rattle.map_form.specs.Hundredths.{atMost}
 use Rattle.map_form.specs.Written.{nearestTo, hundredthsOf}
 

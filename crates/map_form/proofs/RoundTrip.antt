@@ -1,20 +1,12 @@
 -- Reading and then writing gives the five parts back. Assumes nothing.
-use mathlib.Core.Path.{_≡_, refl, _∙_, ap}
-use Prim.Native.Nat.{ℕ, zero, suc, _*_, _/_, _%_, _≤_, _<_}
-use native.Mathlib.Omega.{arith}
-use mathlib.Core.Bool.{Bool, true, false, _&&_, and-eq-true-iff}
-use lib.IntN.{ℤ, pos, negsuc}
-use lib.Dec.{leb, eqb, lit<, lit≤}
-use borrow.Author.Tests.{le-leb, leb-true}
-use lib.Ieee.{Float, nan, inf, fin, binary64, up, down, round}
-use Rattle.float64.specs.Words.{isNegativeOf}
-use Rattle.float64.proofs.Within.{Within, Signed, round-within, round-signed}
+use Rattle.prelude.proofs.Logic.{_≡_, refl, _∙_, ap, Bool, true, false, _&&_, and-eq-true-iff, ℕ, zero, suc, _*_, _/_, _%_, _≤_, arith, leb, eqb, lit<, lit≤, ℤ, pos, negsuc, le-leb, leb-true}
+use Rattle.float64.proofs.Floats.{Float, nan, inf, fin, binary64, up, down, round, isNegativeOf, Within, Signed, round-within, round-signed}
 use Rattle.refusals.specs.Refusals.{noRefusal}
 use Rattle.map_form.specs.declared.MapForm.{MapForm}
 use Rattle.map_form.specs.declared.writing.Written.{Written}
-use Rattle.map_form.specs.Hundredths.{inDegree, signed, sizeOf, countOf, degreesOf, atMost, formFits}
+use Rattle.map_form.specs.Hundredths.{inDegree, signed, sizeOf, signedHundredthsOf, degreesOf, atMost, formFits}
 use Rattle.map_form.specs.Written.{partsOf, formOf, writtenOf}
-use Rattle.map_form.specs.Promises.{back, WritingGivesBack}
+use Rattle.map_form.specs.Promises.{WritingGivesBack}
 use Rattle.map_form.specs.Owed.{signFor}
 use Rattle.map_form.proofs.Rounding.{round-back}
 
@@ -116,10 +108,10 @@ pub writing-gives-back : WritingGivesBack
 writing-gives-back tag most f small t =
     let a = fits most f t in
     let n = sizeOf f in
-    count-back most small tag (countOf f) (rw (size-signed most small (eqb (f .sign) 1) n) (a .whole-in))
+    count-back most small tag (signedHundredthsOf f) (rw (size-signed most small (eqb (f .sign) 1) n) (a .whole-in))
     ∙ ap accepted (signs (f .sign) n (a .sign-in) ∙ parts-back (signFor n (f .sign)) f (a .minutes-in) (a .seconds-in) (a .hundredths-in))
 
 -- a coordinate that is taken is in range as a float too
-pub read-in-range : (most : ℕ) → most ≤ 180 → (f : MapForm) → formFits most f ≡ true → atMost most (degreesOf (countOf f)) ≡ true
+pub read-in-range : (most : ℕ) → most ≤ 180 → (f : MapForm) → formFits most f ≡ true → atMost most (degreesOf (signedHundredthsOf f)) ≡ true
 read-in-range most small f t =
-    count-in-range most small (countOf f) (rw (size-signed most small (eqb (f .sign) 1) (sizeOf f)) (fits most f t .whole-in))
+    count-in-range most small (signedHundredthsOf f) (rw (size-signed most small (eqb (f .sign) 1) (sizeOf f)) (fits most f t .whole-in))

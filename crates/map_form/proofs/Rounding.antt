@@ -1,19 +1,7 @@
 -- One rounding: a fraction of at most 256 rounds to a finite float of the same sign that is within 2 ^ -44 of it. (An ulp there is 2 ^ -45; half
 -- of it would do too.) So the nearest whole number to 360,000 times the rounding of n / 360,000 is n. Assumes nothing.
-use mathlib.Core.Path.{_≡_, sym, subst, ap}
-use Prim.Native.Nat.{ℕ, suc, _+_, _-_, _*_, _/_, _%_, _^_, _≤_, _<_, compare}
-use native.Mathlib.Nat.{lt-of-le-of-lt, mul-le-mul-right, mul-le-mul-left, le-of-mul-le-mul-right, lt-of-mul-lt-mul-right, mul-pos, div-mul-le-self, lt-div-mul-add, div-lt-iff-lt-mul, div-eq-of-lt-le, mul-assoc, mul-comm, mul-left-comm, mul-add, add-mul}
-use native.Mathlib.Omega.{arith}
-use mathlib.Core.Bool.{Bool}
-use lib.Dec.{lit<}
-use lib.Pow.{pow-pos, pow-mono}
-use lib.Ieee.{Float, nan, inf, fin, binary64, up, down, size, round}
-use lib.Ieee.Digits.{size-le}
-use lib.Ieee.Fits.{nearest-le, round-is, down-pos}
-use lib.Ieee.Nearest.{closest, nearest-ge}
-use lib.Ieee.Order.{drop, kept}
-use lib.Ieee.Exact.{HasValue, units-val}
-use lib.Ieee.Scale.{grid, overflow}
+use Rattle.prelude.proofs.Logic.{_≡_, sym, subst, ap, Bool, ℕ, suc, _+_, _-_, _*_, _/_, _%_, _^_, _≤_, _<_, compare, lt-of-le-of-lt, mul-le-mul-right, mul-le-mul-left, le-of-mul-le-mul-right, lt-of-mul-lt-mul-right, mul-pos, div-mul-le-self, lt-div-mul-add, div-lt-iff-lt-mul, div-eq-of-lt-le, mul-assoc, mul-comm, mul-left-comm, mul-add, add-mul, arith, lit<, pow-pos, pow-mono}
+use Rattle.float64.proofs.Floats.{Float, nan, inf, fin, binary64, up, down, size, round, size-le, nearest-le, round-is, down-pos, closest, nearest-ge, drop, kept, HasValue, units-val, grid, overflow}
 use Rattle.map_form.specs.Hundredths.{inDegree}
 use Rattle.map_form.specs.Written.{nearestTo, hundredthsOf}
 

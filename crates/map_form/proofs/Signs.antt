@@ -1,12 +1,7 @@
 -- The writer's answers: in range, with the sign of a count that is not zero, and out of range. Assumes nothing.
-use mathlib.Core.Path.{_≡_, refl}
-use Prim.Native.Nat.{ℕ, zero, suc}
-use native.Mathlib.Omega.{arith}
-use mathlib.Core.Bool.{Bool, true, false, cond}
-use lib.Ieee.{Float}
-use Rattle.float64.specs.Words.{isNegativeOf}
+use Rattle.prelude.proofs.Logic.{_≡_, refl, Bool, true, false, cond, ℕ, zero, suc, arith}
+use Rattle.float64.proofs.Floats.{Float, isNegativeOf}
 use Rattle.refusals.specs.Refusals.{refusal, noRefusal}
-use Rattle.map_form.specs.declared.writing.Written.{Written}
 use Rattle.map_form.specs.Hundredths.{signed, atMost}
 use Rattle.map_form.specs.Written.{partsOf, formOf, writtenOf, hundredthsOf}
 use Rattle.map_form.specs.Owed.{signFor, noParts}

@@ -27,8 +27,8 @@ sizeOf f = ((f .degrees * 60 + f .minutes) * 60 + f .seconds) * 100 + f .hundred
 abbrev pub signed : Bool → ℕ → ℤ
 signed s n = cond s (negℤ (pos n)) (pos n)
 
-abbrev pub countOf : MapForm → ℤ
-countOf f = signed (eqb (f .sign) 1) (sizeOf f)
+abbrev pub signedHundredthsOf : MapForm → ℤ
+signedHundredthsOf f = signed (eqb (f .sign) 1) (sizeOf f)
 
 -- z / 360,000, rounded once; 0 is 0.0
 unfoldable pub degreesOf : ℤ → Float

@@ -25,12 +25,12 @@ pub record Nearest (a d c : ℕ) : Type 0 where
   pub «half_up» : 2 * a ≡ 2 * (c * d) + d → ⊥
 
 -- x is finite, the parts are the hundredths nearest to the size of its exact value, a half away from zero, and the sign is x's, or 0 with a zero
-abbrev pub Right : Float → MapForm → Type 0
-Right nan f = ⊥
-Right (inf s) f = ⊥
-Right (fin s m e) f = Nearest (m * up e * inDegree) (down e) (sizeOf f) × (f .sign ≡ signFor (sizeOf f) (cond s 1 0))
+abbrev pub NearestParts : Float → MapForm → Type 0
+NearestParts nan f = ⊥
+NearestParts (inf s) f = ⊥
+NearestParts (fin s m e) f = Nearest (m * up e * inDegree) (down e) (sizeOf f) × (f .sign ≡ signFor (sizeOf f) (cond s 1 0))
 
 -- of x in range, which is judged of x itself, before it is rounded: parts that the reader takes, and that are right; a NaN is out of range
 pub record Owed (tag most : ℕ) (x : Float) (w : Written) : Type 0 where
-  pub inside : atMost most x ≡ true → (w .refusal ≡ noRefusal) × (formFits most (w .form) ≡ true) × Right x (w .form)
+  pub inside : atMost most x ≡ true → (w .refusal ≡ noRefusal) × (formFits most (w .form) ≡ true) × NearestParts x (w .form)
   pub outside : atMost most x ≡ false → w ≡ record { refusal = refusal outOfRange tag; form = noParts }

@@ -6,7 +6,7 @@ use lib.Ieee.{Float}
 use Rattle.refusals.specs.Refusals.{noRefusal}
 use Rattle.map_form.specs.declared.MapForm.{MapForm}
 use Rattle.map_form.specs.declared.writing.Written.{Written}
-use Rattle.map_form.specs.Hundredths.{sizeOf, countOf, degreesOf, formFits}
+use Rattle.map_form.specs.Hundredths.{sizeOf, signedHundredthsOf, degreesOf, formFits}
 use Rattle.map_form.specs.Owed.{signFor, Nearest, Owed}
 use Rattle.map_form.specs.Written.{writtenOf}
 
@@ -25,12 +25,12 @@ OneIsOwed = (tag most : ℕ) (x : Float) (v w : Written) → Owed tag most x v �
 
 -- ---- there and back
 -- five parts with the sign that they are written with
-abbrev pub back : MapForm → MapForm
-back f = record { sign = signFor (sizeOf f) (f .sign); degrees = f .degrees; minutes = f .minutes; seconds = f .seconds; hundredths = f .hundredths }
+abbrev pub asWritten : MapForm → MapForm
+asWritten f = record { sign = signFor (sizeOf f) (f .sign); degrees = f .degrees; minutes = f .minutes; seconds = f .seconds; hundredths = f .hundredths }
 
 -- "writing back a read coordinate gives its bytes, where zero is written with sign 0": of every coordinate that is taken for a latitude (most is 90)
 -- or a longitude (180)
 abbrev pub WritingGivesBack : Type 0
 WritingGivesBack =
     (tag most : ℕ) (f : MapForm) → most ≤ 180 → formFits most f ≡ true
-    → writtenOf tag most (degreesOf (countOf f)) ≡ record { refusal = noRefusal; form = back f }
+    → writtenOf tag most (degreesOf (signedHundredthsOf f)) ≡ record { refusal = noRefusal; form = asWritten f }

@@ -1,7 +1,7 @@
 // Reading a coordinate as on the map: whether its parts are allowed, and the f64 that they say.
 ghost use mathlib.Core.Path.{_≡_};
 ghost use Prim.Native.Nat.{_≤_, _^_};
-ghost use Rattle.map_form.specs.Hundredths.{mostLatitude, mostLongitude, sizeOf, countOf, degreesOf, formFits};
+ghost use Rattle.map_form.specs.Hundredths.{mostLatitude, mostLongitude, sizeOf, signedHundredthsOf, degreesOf, formFits};
 use super::IN_DEGREE;
 use super::MOST_LATITUDE;
 use super::MOST_LONGITUDE;
@@ -42,7 +42,7 @@ pub fn longitude_fits(form: MapForm) -> bool
 
 // Both numbers are exact as floats, so that the division rounds once. A zero is 0.0 under either sign.
 pub fn degrees_of(form: MapForm) -> f64
-    ensures { λ r. ⌜ r ≡ degreesOf (countOf form) ⌝ }
+    ensures { λ r. ⌜ r ≡ degreesOf (signedHundredthsOf form) ⌝ }
 {
     let n = size(form);
     let degrees = n as f64 / 360000.0;

@@ -1,5 +1,5 @@
 -- Each case's number names that case.
-use mathlib.Core.Path.{_≡_, refl}
+use Rattle.prelude.proofs.Logic.{_≡_, refl}
 use Rattle.models.specs.declared.rounding.Rounding.{Rounding}
 use Rattle.models.specs.declared.rounding.Rounding.the-variants.{Nearest, Up, None}
 use Rattle.models.specs.declared.shafaq.Shafaq.{Shafaq}

@@ -1,9 +1,5 @@
 -- A row of cases by their numbers, and one case for every number beyond it. Assumes nothing.
-use Prim.Native.Nat.{ℕ, zero, suc, _≤_, _<_}
-use mathlib.Core.Path.{_≡_, refl, sym}
-use mathlib.Core.List.{List, [], _∷_}
-use native.Mathlib.Nat.{le-of-suc-le-suc, not-suc-le-zero}
-use lib.ListN.{getD, length, List·getD-eq-default}
+use Rattle.prelude.proofs.Logic.{_≡_, refl, sym, List, [], _∷_, ℕ, zero, suc, _≤_, _<_, le-of-suc-le-suc, not-suc-le-zero, getD, length, List·getD-eq-default}
 
 pub inside : {A : Type 0} (row : List A) (d e : A) (n : ℕ) → n < length row → getD row n d ≡ getD row n e
 inside [] d e n h = absurd (not-suc-le-zero h)

@@ -1,13 +1,6 @@
 -- The sum of two i32 numbers as i64. Assumes nothing.
-use mathlib.Core.Path.{_≡_, sym, subst, _∙_}
-use Prim.Native.Nat.{_^_}
-use native.Mathlib.Omega.{arith}
-use lib.IntN.{ℤ, _+ℤ_}
-use mir.Syntax.{w32, w64}
-use mir.Val.{SFits}
-use Rattle.integers.specs.Parts.{P, N}
-use Rattle.integers.proofs.Sums.{sum, summands}
-use Rattle.integers.proofs.Ranges.{range, fits, readBack, read, read-wide}
+use Rattle.prelude.proofs.Logic.{_≡_, sym, subst, _∙_, arith, ℤ, _+ℤ_, w32, w64, SFits}
+use Rattle.integers.proofs.Integers.{sum, summands, range, fits, readBack, read, read-wide}
 
 module _ (a b : ℤ) (ha : SFits w32 a) (hb : SFits w32 b) where
   exact : SFits w64 (a +ℤ b)

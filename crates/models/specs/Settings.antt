@@ -5,17 +5,13 @@ use Rattle.float64.specs.Ops.{_/ᶠ_, dec}
 use Rattle.models.specs.declared.adjustments.TimeAdjustment.{TimeAdjustment}
 use Rattle.models.specs.declared.high_altitude_rule.HighLatitudeRule.{HighLatitudeRule}
 use Rattle.models.specs.declared.high_altitude_rule.HighLatitudeRule.the-variants.{MiddleOfTheNight, SeventhOfTheNight, TwilightAngle}
-use Rattle.models.specs.declared.madhab.Madhab.{Madhab}
 use Rattle.models.specs.declared.madhab.Madhab.the-variants.{Shafi}
-use Rattle.models.specs.declared.method.Method.{Method}
 use Rattle.models.specs.declared.method.Method.the-variants.{Other}
 use Rattle.models.specs.declared.parameters.NightPortions.{NightPortions}
 use Rattle.models.specs.declared.parameters.Parameters.{Parameters}
 use Rattle.models.specs.declared.prayer.Prayer.{Prayer}
 use Rattle.models.specs.declared.prayer.Prayer.the-variants.{Fajr, Sunrise, Dhuhr, Asr, Maghrib, Isha, Qiyam, FajrTomorrow}
-use Rattle.models.specs.declared.rounding.Rounding.{Rounding}
 use Rattle.models.specs.declared.rounding.Rounding.the-variants.{Nearest}
-use Rattle.models.specs.declared.shafaq.Shafaq.{Shafaq}
 use Rattle.models.specs.declared.shafaq.Shafaq.the-variants.{General}
 use Rattle.models.specs.Minutes.{noMinutes}
 

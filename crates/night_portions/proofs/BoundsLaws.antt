@@ -1,12 +1,6 @@
 -- The portions by which Fajr and Isha are bounded: what an order's parameters give is no more than half, so a bound lies in its half of the night, and the
 -- cast to i32 gives what the source's cast to i64 gives. Over the definitions of `Portions`. Assumes nothing.
-use mathlib.Core.Path.{_≡_, refl, sym, ap, _∙_}
-use mathlib.Core.Bool.{Bool, true, false, not}
-use Prim.Native.Nat.{ℕ, suc, _*_, _^_, _≤_}
-use native.Mathlib.Nat.{le-trans}
-use native.Mathlib.Omega.{arith}
-use lib.Dec.{lit<, lit≤}
-use lib.IntN.{ℤ, pos, negsuc, negℤ, negℤ-negℤ}
+use Rattle.prelude.proofs.Logic.{_≡_, refl, sym, ap, _∙_, Bool, true, false, not, ℕ, suc, _*_, _^_, _≤_, le-trans, arith, lit<, lit≤, ℤ, pos, negsuc, negℤ, negℤ-negℤ}
 use lib.Ieee.{Float, round, neg, le, ofInt, toSigned}
 use lib.Ieee.Exact.{HasValue}
 use Rattle.float64.specs.Ops.{dec}

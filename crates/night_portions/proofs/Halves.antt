@@ -1,12 +1,6 @@
 -- A portion of d seconds that is from 0 to a half: whatever it is, it is cut to no more than half of d, the same by each cast, and with the sign of the
 -- night. Assumes nothing.
-use mathlib.Core.Path.{_≡_, refl, sym, ap, _∙_, subst}
-use mathlib.Core.Bool.{Bool, true, false, not}
-use Prim.Native.Nat.{ℕ, _*_, _^_, _≤_, _<_}
-use native.Mathlib.Nat.{zero-mul}
-use native.Mathlib.Omega.{arith}
-use lib.Dec.{lit<, lit≤}
-use lib.IntN.{ℤ}
+use Rattle.prelude.proofs.Logic.{_≡_, refl, sym, ap, _∙_, subst, Bool, true, false, not, ℕ, _*_, _^_, _≤_, _<_, zero-mul, arith, lit<, lit≤, ℤ}
 use lib.Ieee.{Float, nan, inf, fin, binary64, up, down, unlike, round, neg, toSigned}
 use lib.Ieee.Exact.{HasValue}
 use lib.Ieee.Back.{round-whole}

@@ -1,12 +1,5 @@
 -- The portions that an order's parameters give are from 0 to a half. Assumes nothing.
-use mathlib.Core.Path.{_≡_, refl, ap, _∙_}
-use mathlib.Core.Bool.{Bool, true, false, true≢false, false≢true}
-use mathlib.Core.Logic.{inl, inr}
-use Prim.Native.Nat.{ℕ, _*_}
-use native.Mathlib.Nat.{mul-pos, zero-mul, eq-zero-or-pos}
-use native.Mathlib.Omega.{arith}
-use lib.Dec.{lit<, lit≤}
-use lib.IntN.{ℤ}
+use Rattle.prelude.proofs.Logic.{_≡_, refl, ap, _∙_, Bool, true, false, true≢false, false≢true, inl, inr, ℕ, _*_, mul-pos, zero-mul, eq-zero-or-pos, arith, lit<, lit≤, ℤ}
 use lib.Ieee.{Float, nan, inf, fin, binary64, up, down, round, div, le}
 use lib.Ieee.Exact.{HasValue}
 use lib.Ieee.Back.{round-whole}

@@ -1,12 +1,6 @@
 -- A seventh of a night, its middle and its last third lie in the night, and a later maghrib and a later Fajr never bring the last two forward. Over the
 -- definitions of `Portions`. Assumes nothing.
-use mathlib.Core.Path.{_≡_, refl, ap, _∙_}
-use mathlib.Core.Bool.{Bool, true, false}
-use Prim.Native.Nat.{ℕ, suc, _+_, _*_, _/_, _^_, _≤_, _<_}
-use native.Mathlib.Omega.{arith}
-use lib.Dec.{lit<, lit≤}
-use lib.IntN.{ℤ, pos, negsuc, _+ℤ_, _-ℤ_}
-use lib.Signed.{quotZ}
+use Rattle.prelude.proofs.Logic.{_≡_, refl, ap, _∙_, Bool, true, false, ℕ, suc, _+_, _*_, _/_, _^_, _≤_, _<_, arith, lit<, lit≤, ℤ, pos, negsuc, _+ℤ_, _-ℤ_, quotZ}
 use lib.Ieee.{Float, nan, inf, fin, binary64, up, down, unlike, round, div, ofInt, toSigned}
 use lib.Ieee.Exact.{HasValue}
 use lib.Ieee.Back.{round-whole}
@@ -17,7 +11,6 @@ use Rattle.float64.proofs.Values.{dyadic-value}
 use Rattle.float64.proofs.Exact.{mul-same}
 use Rattle.float64.proofs.Within.{Within, round-signed, round-neg, value-within}
 use Rattle.float64.proofs.WholeSizes.{wholeSize, signed, whole-most, whole-value, whole-neg, cast-is}
-use Rattle.integers.specs.Parts.{P, N}
 use Rattle.integers.proofs.QuotientLaws.{divided}
 use Rattle.integers.proofs.Intervals.{Inside}
 use Rattle.integers.specs.Order.{_≼_}

@@ -1,11 +1,5 @@
 -- A seventh of an i64 is an i64, and the machine reads it back. Assumes nothing.
-use mathlib.Core.Path.{_≡_}
-use native.Mathlib.Omega.{arith}
-use lib.Dec.{lit<}
-use lib.IntN.{ℤ, pos}
-use lib.Signed.{quotZ}
-use mir.Syntax.{w64}
-use mir.Val.{SFits}
+use Rattle.prelude.proofs.Logic.{_≡_, arith, lit<, ℤ, pos, quotZ, w64, SFits}
 use Rattle.integers.proofs.QuotientLaws.{divided}
 use Rattle.integers.proofs.Ranges.{range, fits, readBack, read}
 use Rattle.night_portions.specs.Portions.{seventhOf}

@@ -1,14 +1,6 @@
 -- A share of a night that grows with the night, and no faster. The instant that it marks lies in the night, and later ends of the night never bring it
 -- forward. Assumes nothing.
-use mathlib.Core.Path.{_≡_, refl}
-use mathlib.Core.Logic.{_⊎_, inl, inr, ⊎-elim}
-use mathlib.Core.Bool.{Bool, true, false}
-use Prim.Native.Nat.{ℕ, suc, _+_, _-_, _≤_, zero-le}
-use native.Mathlib.Nat.{le-of-lt}
-use native.Mathlib.Omega.{arith}
-use lib.Dec.{leb}
-use borrow.Author.Tests.{leb-true, leb-false}
-use lib.IntN.{ℤ, pos, negsuc, negℤ, _+ℤ_, _-ℤ_}
+use Rattle.prelude.proofs.Logic.{_≡_, refl, Bool, true, false, _⊎_, inl, inr, ⊎-elim, ℕ, suc, _+_, _-_, _≤_, zero-le, le-of-lt, arith, leb, ℤ, pos, negsuc, negℤ, _+ℤ_, _-ℤ_, leb-true, leb-false}
 use Rattle.integers.specs.Parts.{P, N, Near}
 use Rattle.integers.proofs.Sums.{sum, flip, difference}
 use Rattle.integers.specs.Order.{_≼_}

@@ -1,11 +1,5 @@
 -- Two thirds of d seconds in f64, cut to whole seconds: between the bounds that whole numbers give, so they grow with d and no faster. Assumes nothing.
-use mathlib.Core.Path.{_≡_, ap, subst}
-use mathlib.Core.Logic.{⊎-elim}
-use mathlib.Core.Bool.{Bool, false}
-use Prim.Native.Nat.{ℕ, _+_, _-_, _*_, _/_, _≤_, _<_, zero-le}
-use native.Mathlib.Nat.{le-refl, eq-or-lt-of-le}
-use native.Mathlib.Omega.{arith}
-use lib.Dec.{lit<, lit≤}
+use Rattle.prelude.proofs.Logic.{_≡_, ap, subst, Bool, false, ⊎-elim, ℕ, _+_, _-_, _*_, _/_, _≤_, _<_, zero-le, le-refl, eq-or-lt-of-le, arith, lit<, lit≤}
 use lib.Ieee.{binary64, round}
 use lib.Ieee.Back.{round-whole}
 use lib.Ieee.Order.{round-mono}

@@ -1,20 +1,8 @@
 -- The season's seconds are less than a day, at every latitude and on every day of a year, so an i32 holds what the source's i64 does. Over the definitions
 -- of `Season`. Assumes nothing.
-use mathlib.Core.Path.{_≡_, sym, _∙_}
-use mathlib.Core.Bool.{Bool, true, false}
-use Prim.Native.Nat.{ℕ, _^_, _≤_, _<_}
-use native.Mathlib.Omega.{arith}
-use lib.Dec.{lit<, lit≤}
-use lib.IntN.{pos}
-use lib.Ieee.{Float, neg, le, toSigned}
-use Rattle.integers.specs.Parts.{P, N}
-use Rattle.integers.proofs.Sums.{flip}
-use Rattle.float64.specs.Ops.{_*ᶠ_, dec}
-use Rattle.float64.specs.Whole.{roundOf}
-use Rattle.float64.specs.Words.{isNegativeOf}
-use Rattle.float64.proofs.Within.{Within, within-signed, neg-within, mul-within}
-use Rattle.float64.proofs.Limits.{within-limits}
-use Rattle.float64.proofs.WholeSizes.{wholeSize, signed, whole-most, cast-is, nearest-within}
+use Rattle.prelude.proofs.Logic.{_≡_, sym, _∙_, Bool, true, false, ℕ, _^_, _≤_, _<_, arith, lit<, lit≤, pos}
+use Rattle.float64.proofs.Floats.{Float, neg, le, toSigned, _*ᶠ_, dec, roundOf, isNegativeOf, Within, within-signed, neg-within, mul-within, within-limits, wholeSize, signed, whole-most, cast-is, nearest-within}
+use Rattle.integers.proofs.Integers.{P, N, flip}
 use Rattle.models.specs.declared.rules.Season.{Season}
 use Rattle.models.specs.declared.shafaq.Shafaq.{Shafaq}
 use Rattle.models.specs.declared.shafaq.Shafaq.the-variants.{General}

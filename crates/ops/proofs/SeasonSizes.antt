@@ -1,21 +1,7 @@
 -- How many minutes the season gives at most, at every latitude and on every day of a year: each value of `Season`, from the four of the year to the minutes
 -- on a day, by whole bounds that are wider than need be. Assumes nothing.
-use mathlib.Core.Path.{_≡_, refl}
-use mathlib.Core.Bool.{Bool, true, false, cond, and-eq-true-iff}
-use Prim.Native.Nat.{ℕ, _+_, _-_, _*_, _%_, _^_, _≤_, _<_}
-use native.Mathlib.Nat.{mod-le, le-trans}
-use native.Mathlib.Omega.{arith}
-use lib.Dec.{leb, T, leb→le, lit<, lit≤}
-use lib.IntN.{pos}
-use lib.Ieee.{Float, binary64, le, ofInt}
-use lib.Ieee.Exact.{HasValue}
-use lib.Ieee.Back.{round-whole}
-use Rattle.float64.specs.Ranges.{insideOf}
-use Rattle.float64.specs.Ops.{_-ᶠ_, _*ᶠ_, _/ᶠ_, dec}
-use Rattle.float64.specs.Sizes.{absOf}
-use Rattle.float64.proofs.Values.{big}
-use Rattle.float64.proofs.Within.{Within, value-within, abs-within, widen, round-within, mul-within, div-within, add-within, sub-within, apart-within}
-use Rattle.float64.proofs.Limits.{le-whole}
+use Rattle.prelude.proofs.Logic.{_≡_, refl, Bool, true, false, cond, and-eq-true-iff, ℕ, _+_, _-_, _*_, _%_, _^_, _≤_, _<_, mod-le, le-trans, arith, leb, T, leb→le, lit<, lit≤, pos, either}
+use Rattle.float64.proofs.Floats.{Float, binary64, le, ofInt, HasValue, round-whole, insideOf, _-ᶠ_, _*ᶠ_, _/ᶠ_, dec, absOf, big, Within, value-within, abs-within, widen, round-within, mul-within, div-within, add-within, sub-within, apart-within, le-whole}
 use Rattle.calendar.specs.Gregorian.{leapOf}
 use Rattle.calendar.specs.Days.{daysInYearOf}
 use Rattle.models.specs.declared.shafaq.Shafaq.{Shafaq}
@@ -74,23 +60,14 @@ test-within low high n i j k e =
 -- 559 is the last day of a leap year, in the south
 pub days-most : (day year : ℕ) (latitude : Float) → day ≤ 366 → daysSinceSolsticeOf day year latitude ≤ 559
 unfolding daysSinceSolsticeOf daysInYearOf southernOffsetOf
-days-most day year latitude h = by-test (le (dec 0 0) latitude)
+days-most day year latitude h =
+    let m = mod-le (day + 10) (2 ^ 32) in
+    either (λ n. n ≤ 559) (le (dec 0 0) latitude)
+    (either (λ n. n ≤ 559) (leb (cond (leapOf year) 366 365) ((day + 10) % 2 ^ 32)) (omega arith) (omega arith)) (south (leapOf year))
   where
-    lapsed : ℕ
-    lapsed = (day + 10) % 2 ^ 32
-
-    north : (t : Bool) (days : ℕ) → cond t (lapsed - days) lapsed ≤ 559
-    north true days = omega (arith, mod-le (day + 10) (2 ^ 32))
-    north false days = omega (arith, mod-le (day + 10) (2 ^ 32))
-
     south : (leap : Bool) → (day + cond leap 366 365 - cond leap 173 172) % 2 ^ 32 ≤ 559
     south true = omega (arith, mod-le (day + 366 - 173) (2 ^ 32))
     south false = omega (arith, mod-le (day + 365 - 172) (2 ^ 32))
-
-    by-test : (t : Bool)
-        → cond t (cond (leb (cond (leapOf year) 366 365) lapsed) (lapsed - cond (leapOf year) 366 365) lapsed) ((day + cond (leapOf year) 366 365 - cond (leapOf year) 173 172) % 2 ^ 32) ≤ 559
-    by-test true = north (leb (cond (leapOf year) 366 365) lapsed) (cond (leapOf year) 366 365)
-    by-test false = south (leapOf year)
 
 -- ---- the minutes on a day
 -- from a value of at most f to one of at most t in `days` days, no more than q minutes a day, for at most l of them

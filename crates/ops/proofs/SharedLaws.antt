@@ -1,7 +1,6 @@
 -- What several calls share changes no bit of the source's formulas. Assumes nothing.
-use mathlib.Core.Path.{_≡_, refl}
-use mathlib.Core.Bool.{Bool}
-use lib.Ieee.{Float}
+use Rattle.prelude.proofs.Logic.{_≡_, refl, Bool}
+use Rattle.float64.proofs.Floats.{Float}
 use Rattle.unit.specs.declared.Angle.{Angle}
 use Rattle.unit.specs.declared.Coordinates.{Coordinates}
 use Rattle.unit.specs.Unit.{longitudeAngleOf}

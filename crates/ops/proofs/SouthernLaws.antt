@@ -1,18 +1,12 @@
 -- The southern count that starts again at the solstice, over the days of every year; and how far either count goes. Assumes nothing.
-use native.Mathlib.Omega.{arith}
-use Prim.Native.Nat.{ℕ, _+_, _-_, _≤_, _<_}
-use mathlib.Core.Path.{_≡_, refl, sym, ap, _∙_}
-use mathlib.Core.Bool.{Bool, true, false, cond}
-use lib.Dec.{leb, lit≤}
-use lib.Ieee.{Float, le}
-use borrow.Author.Tests.{leb-true, leb-false, le-leb}
-use Rattle.float64.specs.Ops.{dec}
+use Rattle.prelude.proofs.Logic.{_≡_, refl, sym, ap, _∙_, Bool, true, false, cond, ℕ, _+_, _-_, _≤_, _<_, arith, leb, lit≤, leb-true, leb-false, le-leb}
+use Rattle.float64.proofs.Floats.{Float, le, dec}
 use Rattle.calendar.specs.Gregorian.{leapOf}
 use Rattle.calendar.specs.Days.{daysInYearOf}
 use Rattle.models.specs.declared.rules.Southern.{Southern}
 use Rattle.models.specs.declared.rules.Southern.the-variants.{Unreduced, StartsAgain}
 use Rattle.ops.specs.Season.{southernOffsetOf, daysSinceSolsticeOf, southernCountOf, daysByRule}
-use Rattle.ops.specs.Southern.{DayOfYear, SouthernYear, SouthernCount}
+use Rattle.ops.specs.Southern.{DayOfYear, SouthernCount}
 use Rattle.ops.proofs.SeasonSizes.{days-most}
 
 -- ---- a year of d days whose solstice is on day o: in every year 193 days follow it

@@ -1,8 +1,5 @@
 -- The southern count: a difference that wraps, and wraps back. Assumes nothing.
-use Prim.Native.Nat.{ℕ, _+_, _-_, _%_, _≤_, _<_}
-use mathlib.Core.Path.{_≡_}
-use mathlib.Core.Bool.{Bool, true, false, cond}
-use native.Mathlib.Omega.{arith}
+use Rattle.prelude.proofs.Logic.{_≡_, Bool, true, false, cond, ℕ, _+_, _-_, _%_, _≤_, _<_, arith}
 use Rattle.calendar.specs.Gregorian.{leapOf}
 use Rattle.calendar.specs.Days.{daysInYearOf}
 use Rattle.ops.specs.Season.{southernOffsetOf}

@@ -1,15 +1,7 @@
 -- What a caller may rely on once an order is read: its record is one of Accepted.antt. Assumes nothing.
-use native.Mathlib.Omega.{arith}
-use Prim.Native.Nat.{ℕ, _+_, _-_, _≤_, _<_}
-use mathlib.Core.Path.{_≡_, refl, sym, ap, subst}
-use mathlib.Core.Bool.{Bool, true, false, cond, not, _&&_, _||_, and-eq-true-iff, true≢false}
-use mathlib.Core.List.{List}
-use lib.Dec.{leb, eqb, lit≤}
-use lib.ListN.{length, getD}
+use Rattle.prelude.proofs.Logic.{_≡_, refl, sym, ap, subst, true, _&&_, _||_, List, ℕ, _+_, _-_, _≤_, _<_, arith, leb, lit≤, ℤ, pos, negsuc, _-ℤ_, getD, leZ, leb-true, eqb-true}
+use Rattle.prelude.proofs.Cases.{arms, cases, both}
 use lib.Ieee.{Float, neg, le, round}
-use lib.IntN.{ℤ, pos, negsuc, _-ℤ_}
-use lib.Signed.{leZ}
-use borrow.Author.Tests.{leb-true, eqb-true}
 use Rattle.integers.specs.Parts.{P, N, Near}
 use Rattle.integers.proofs.Intervals.{by-balance}
 use Rattle.integers.proofs.OrderLaws.{le-yes}
@@ -20,12 +12,12 @@ use Rattle.calendar.specs.declared.dates.Date.{Date}
 use Rattle.calendar.specs.Gregorian.{existsOf}
 use Rattle.calendar.specs.Answers.{rowDateOf}
 use Rattle.calendar.specs.Days.{dayNumberOf}
-use Rattle.fields.specs.Numbers.{byteOf, unsignedOf, signedOf}
+use Rattle.fields.specs.Numbers.{byteOf, unsignedOf, signedAtOf}
 use Rattle.fields.specs.Values.{Values, valuesOf}
 use Rattle.fields.specs.Tags.{lastTag}
 use Rattle.hijri.specs.Ramadan.{ramadanStartOf}
 use Rattle.hijri.specs.declared.ramadan.Ramadan.{Ramadan}
-use Rattle.map_form.specs.Hundredths.{countOf, degreesOf, formFits}
+use Rattle.map_form.specs.Hundredths.{signedHundredthsOf, degreesOf, formFits}
 use Rattle.map_form.proofs.Limits.{in-limits}
 use Rattle.map_form.proofs.RoundTrip.{read-in-range}
 use Rattle.models.specs.declared.adjustments.TimeAdjustment.{TimeAdjustment}
@@ -37,20 +29,16 @@ use Rattle.models.specs.Minutes.{noMinutes}
 use Rattle.models.specs.Numbers.{methodOf}
 use Rattle.models.specs.Presets.{preset, presetOf}
 use Rattle.models.specs.Settings.{minutesFor}
-use Rattle.refusals.specs.Refusals.{refusal, noRefusal}
 use Rattle.order.specs.declared.reading.Order.{Order}
 use Rattle.order.specs.declared.reading.Reading.the-variants.{Read}
 use Rattle.order.specs.Given.{dateIn, rowsIn, degreesIn, formIn, coordinateIn, minutesIn, degreesOr, minutesOr, intervalOr, parametersIn, clockIn, ramadanGiven, ramadanIn}
 use Rattle.order.specs.Ranges.{mostRows, mostIn, dateFits, rowsFit, degreesFit, minuteFits, minutesFit, intervalFits, clockFits, ramadanFits, ramadanRows, lookUp, fitsOf}
 use Rattle.order.specs.Reading.{required, isGivenOf, missingOf, outOfRangeOf, orderOf, wrongStartOf, readingOf}
 use Rattle.order.specs.Accepted.{UpTo, DateInOrder, Accepted}
-use Rattle.order.proofs.RowDates.{row-in-order}
+use Rattle.order.proofs.RowDates.{row-in-order, most-few}
 use Rattle.order.proofs.ReadingLaws.{read-passed, has-required, one-form, fits-given}
 
 -- ---- what each test says
-both : (a b : Bool) → (a && b) ≡ true → (a ≡ true) × (b ≡ true)
-both a b e = and-eq-true-iff a b .0 e
-
 degrees-inside : (low high : Float) (v : List ℕ) → degreesFit low high v ≡ true → Inside low high (degreesIn v)
 degrees-inside low high v e = both (le low (degreesIn v)) (le (degreesIn v) high) e
 
@@ -60,13 +48,6 @@ date-in d e =
     let b = both (leb 1900 (d .year)) (leb (d .year) 2199) (a .0) in
     record { there = a .1; from = leb-true 1900 (d .year) (b .0); to = leb-true (d .year) 2199 (b .1) }
 
-most-in : (v : List ℕ) → mostIn v ≤ mostRows
-most-in v = go (eqb (length v) 2)
-  where
-    go : (b : Bool) → cond b mostRows 250 ≤ mostRows
-    go true = lit≤ tt
-    go false = lit≤ tt
-
 rows-in : (d : Date) (v : List ℕ) → rowsFit d v ≡ true
     → ((1 ≤ rowsIn v) × (rowsIn v ≤ mostRows)) × (rowDateOf d (rowsIn v - 1) .year ≤ 2199)
 unfolding rowsFit
@@ -75,7 +56,7 @@ rows-in d v e =
     let a = both (leb 1 n && leb n (mostIn v)) (leb (rowDateOf d (n - 1) .year) 2199) e in
     let b = both (leb 1 n) (leb n (mostIn v)) (a .0) in
     let l = leb-true n (mostIn v) (b .1) in
-    let m = most-in v in
+    let m = most-few v in
     ((leb-true 1 n (b .0), omega arith), leb-true (rowDateOf d (n - 1) .year) 2199 (a .1))
 
 -- from -(k + 1) to k + 1
@@ -118,12 +99,8 @@ module _ (v : Values) where
   angle-or : (tag : ℕ) (missing : Float) → (v .has tag ≡ true → degreesFit (dec 0 0) (dec 30 0) (v .value tag) ≡ true)
       → Inside (dec 0 0) (dec 30 0) missing → Inside (dec 0 0) (dec 30 0) (degreesOr v tag missing)
   unfolding degreesOr
-  angle-or tag missing fits otherwise = go (v .has tag) fits
-    where
-      go : (b : Bool) → (b ≡ true → degreesFit (dec 0 0) (dec 30 0) (v .value tag) ≡ true)
-          → Inside (dec 0 0) (dec 30 0) (cond b (degreesIn (v .value tag)) missing)
-      go true f = degrees-inside (dec 0 0) (dec 30 0) (v .value tag) (f refl)
-      go false f = otherwise
+  angle-or tag missing fits otherwise =
+      arms (Inside (dec 0 0) (dec 30 0)) (v .has tag) (λ t. degrees-inside (dec 0 0) (dec 30 0) (v .value tag) (fits t)) (λ t. otherwise)
 
   -- a coordinate in either form
   coordinate : (float map most : ℕ) → most ≤ 180 → (v .has float || v .has map) ≡ true
@@ -131,73 +108,44 @@ module _ (v : Values) where
       → (v .has map ≡ true → formFits most (formIn (v .value map)) ≡ true)
       → Inside (neg (dec most 0)) (dec most 0) (coordinateIn v float map)
   unfolding coordinateIn
-  coordinate float map most small either as-float as-map = go (v .has map) refl
-    where
-      x : Float
-      x = degreesOf (countOf (formIn (v .value map)))
-
-      go : (b : Bool) → v .has map ≡ b → Inside (neg (dec most 0)) (dec most 0) (cond b x (degreesIn (v .value float)))
-      go true m = in-limits x most small (read-in-range most small (formIn (v .value map)) (as-map m))
-      go false m = degrees-inside (neg (dec most 0)) (dec most 0) (v .value float) (as-float (one-form (v .has) float map either m))
+  coordinate float map most small either as-float as-map =
+      arms (Inside (neg (dec most 0)) (dec most 0)) (v .has map)
+      (λ m. in-limits (degreesOf (signedHundredthsOf (formIn (v .value map)))) most small (read-in-range most small (formIn (v .value map)) (as-map m)))
+      (λ m. degrees-inside (neg (dec most 0)) (dec most 0) (v .value float) (as-float (one-form (v .has) float map either m)))
 
   interval-or : (missing : ℤ) → (v .has 14 ≡ true → intervalFits (v .value 14) ≡ true) → UpTo 1440 missing → UpTo 1440 (intervalOr v missing)
   unfolding intervalOr intervalFits
-  interval-or missing fits otherwise = go (v .has 14) fits
-    where
-      n : ℕ
-      n = unsignedOf (v .value 14) 0
-
-      go : (b : Bool) → (b ≡ true → (leb 0 n && leb n 1440) ≡ true) → UpTo 1440 (cond b (pos n) missing)
-      go true f = (leb-true n 1440 (both (leb 0 n) (leb n 1440) (f refl) .1), refl)
-      go false f = otherwise
+  interval-or missing fits otherwise =
+      let n = unsignedOf (v .value 14) 0 in
+      arms (UpTo 1440) (v .has 14) (λ t. (leb-true n 1440 (both (leb 0 n) (leb n 1440) (fits t) .1), refl)) (λ t. otherwise)
 
   clock-in : (v .has 16 ≡ true → clockFits (v .value 16) ≡ true) → Near 840 (clockIn v)
   unfolding clockIn clockFits
-  clock-in fits = go (v .has 16) fits
-    where
-      m : ℤ
-      m = signedOf (v .value 16) 0
-
-      go : (b : Bool) → (b ≡ true → (leZ (negsuc 839) m && leZ m (pos 840)) ≡ true) → Near 840 (cond b m (pos 0))
-      go true f = signed-within 839 m (f refl)
-      go false f = record { from = lit≤ tt; to = lit≤ tt }
+  clock-in fits =
+      arms (Near 840) (v .has 16) (λ t. signed-within 839 (signedAtOf (v .value 16) 0) (fits t)) (λ t. record { from = lit≤ tt; to = lit≤ tt })
 
   minutes-or : (v .has 11 ≡ true → minutesFit (minutesIn (v .value 11)) ≡ true) → (prayer : Prayer) → Near 720 (minutesFor prayer (minutesOr v noMinutes))
   unfolding minutesOr minutesFit minuteFits
-  minutes-or fits prayer = go (v .has 11) fits
-    where
-      go : (b : Bool) → (b ≡ true → minutesFit (minutesIn (v .value 11)) ≡ true) → Near 720 (minutesFor prayer (cond b (minutesIn (v .value 11)) noMinutes))
-      go true f = minutes-within (minutesIn (v .value 11)) (f refl) prayer
-      go false f = minutes-within noMinutes refl prayer
+  minutes-or fits prayer =
+      arms (λ (m : TimeAdjustment). Near 720 (minutesFor prayer m)) (v .has 11)
+      (λ t. minutes-within (minutesIn (v .value 11)) (fits t) prayer) (λ t. minutes-within noMinutes refl prayer)
 
   ramadan-in : (v .has 20 ≡ true → ramadanFits (v .value 20) ≡ true) → (ramadanIn v .imsak ≤ 30) × Near 1 (ramadanIn v .shift)
   unfolding ramadanIn ramadanGiven ramadanFits
-  ramadan-in fits = go (v .has 20) fits
-    where
-      m : ℕ
-      m = byteOf (v .value 20) 0
-
-      k : ℕ
-      k = byteOf (v .value 20) 1
-
-      go : (b : Bool) → (b ≡ true → (leb m 30 && leb k 2) ≡ true)
-          → (cond b (ramadanGiven (v .value 20)) (record { set = false; imsak = 0; shift = pos 0 }) .imsak ≤ 30)
-          × Near 1 (cond b (ramadanGiven (v .value 20)) (record { set = false; imsak = 0; shift = pos 0 }) .shift)
-      go true f =
-          let e = both (leb m 30) (leb k 2) (f refl) in
-          let l = leb-true k 2 (e .1) in
-          let d = difference (pos k) (pos 1) in
-          (leb-true m 30 (e .0), by-balance 1 1 (pos k -ℤ pos 1) (omega (arith, d .0, d .1)) (omega (arith, d .0, d .1)))
-      go false f = (lit≤ tt, record { from = lit≤ tt; to = lit≤ tt })
+  ramadan-in fits =
+      let m = byteOf (v .value 20) 0 in
+      let k = byteOf (v .value 20) 1 in
+      arms (λ (r : Ramadan). (r .imsak ≤ 30) × Near 1 (r .shift)) (v .has 20)
+      (λ t. let e = both (leb m 30) (leb k 2) (fits t) in
+      let l = leb-true k 2 (e .1) in
+      let d = difference (pos k) (pos 1) in
+      (leb-true m 30 (e .0), by-balance 1 1 (pos k -ℤ pos 1) (omega (arith, d .0, d .1)) (omega (arith, d .0, d .1))))
+      (λ t. (lit≤ tt, record { from = lit≤ tt; to = lit≤ tt }))
 
   -- tag 20 is set where it stands
   ramadan-set : ramadanIn v .set ≡ true → v .has 20 ≡ true
   unfolding ramadanIn ramadanGiven
-  ramadan-set e = go (v .has 20) e
-    where
-      go : (b : Bool) → cond b (ramadanGiven (v .value 20)) (record { set = false; imsak = 0; shift = pos 0 }) .set ≡ true → b ≡ true
-      go true e = refl
-      go false e = e
+  ramadan-set e = cases (v .has 20) (λ t. t) (λ t. cc)
 
   thirty : ramadanRows (v .has 20) (v .value 3) ≡ true → v .has 20 ≡ true → rowsIn (v .value 3) ≡ 30
   unfolding ramadanRows
@@ -206,12 +154,9 @@ module _ (v : Values) where
 started : (ramadan : Ramadan) (date : Date) → wrongStartOf ramadan date .number ≡ 0 → ramadan .set ≡ true
     → ramadanStartOf (dayNumberOf date) (ramadan .shift) ≡ true
 unfolding wrongStartOf
-started ramadan date e set = go (ramadan .set) (ramadanStartOf (dayNumberOf date) (ramadan .shift)) e set
-  where
-    go : (a b : Bool) → cond (a && not b) (refusal 18 2) noRefusal .number ≡ 0 → a ≡ true → b ≡ true
-    go true true e s = refl
-    go true false e s = absurd (omega arith)
-    go false b e s = absurd (true≢false (sym s))
+started ramadan date e set =
+    let start = ramadanStartOf (dayNumberOf date) (ramadan .shift) in
+    cases start (λ t. t) (λ t. let z : _≡_ {A = ℕ} 18 0 = simp (set, t) at e in absurd (omega arith))
 
 -- the method's angles and interval, and its name
 pub record Brought (method : Method) : Type 0 where

@@ -1,8 +1,5 @@
 -- What both readers answer, from the fields as they were checked and collected. Assumes nothing.
-use Prim.Native.Nat.{ℕ}
-use mathlib.Core.Path.{_≡_, sym, ap, _∙_}
-use mathlib.Core.List.{List, _∷_}
-use borrow.Author.Tests.{eq-eqb, ne-eqb}
+use Rattle.prelude.proofs.Logic.{_≡_, sym, ap, _∙_, List, _∷_, ℕ, eq-eqb, ne-eqb}
 use Rattle.fields.specs.declared.values.Checked.{Checked}
 use Rattle.fields.specs.Fields.{checkOf}
 use Rattle.fields.specs.Values.{Values, valuesOf, valuesIn, checkedOf}

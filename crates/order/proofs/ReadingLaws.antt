@@ -1,22 +1,15 @@
 -- What reading an order and refusing one say of the checks, and of the town. Assumes nothing.
-use native.Mathlib.Omega.{arith}
-use Prim.Native.Nat.{ℕ, _+_, _-_, _≤_, _<_}
-use mathlib.Core.Path.{_≡_, refl, sym, ap, subst, _∙_}
-use mathlib.Core.Bool.{Bool, true, false, cond, not, _&&_, _||_, true≢false}
-use mathlib.Core.List.{List, [], _∷_}
-use lib.Dec.{eqb, lit≤}
-use lib.ListN.{length, getD}
-use borrow.Author.Tests.{eqb-true, eqb-false}
+use Rattle.prelude.proofs.Logic.{_≡_, refl, sym, ap, subst, _∙_, Bool, true, false, not, _&&_, _||_, List, [], _∷_, ℕ, _+_, _-_, _≤_, _<_, arith, eqb, lit≤, length, getD, eqb-true, eqb-false}
+use Rattle.prelude.proofs.Cases.{arms, cases}
 use Rattle.calendar.specs.Days.{dayNumberOf}
 use Rattle.calendar.specs.declared.dates.Date.{Date}
 use Rattle.fields.specs.Fields.{checkOf}
 use Rattle.fields.specs.Tags.{lastTag}
-use Rattle.fields.specs.Values.{offsetOf, hasOf, valueOf, startOf, partIn, Values, valuesOf}
+use Rattle.fields.specs.Values.{offsetOf, hasOf, valueOf, valueStartOf, partIn, Values, valuesOf}
 use Rattle.fields.proofs.FieldsLaws.{check-small, value-fits, fits-between}
 use Rattle.fields.proofs.Collecting.{part-same}
 use Rattle.hijri.specs.Ramadan.{ramadanStartOf}
 use Rattle.hijri.specs.declared.ramadan.Ramadan.{Ramadan}
-use Rattle.refusals.specs.Refusals.{refusal, noRefusal}
 use Rattle.refusals.specs.declared.Refusal.{Refusal}
 use Rattle.order.specs.declared.reading.Order.{Order}
 use Rattle.order.specs.declared.reading.Reading.the-variants.{Read, Refused}
@@ -45,25 +38,19 @@ up-to-five n l h = absurd (omega arith)
 module _ (r : Refusal) (rest : List Refusal) (o : Order) where
   pub passed-on : (order : Order) → firstOf (r ∷ rest) o ≡ Read order → (r .number ≡ 0) × (firstOf rest o ≡ Read order)
   unfolding firstOf
-  passed-on order e = go (eqb (r .number) 0) refl e
-    where
-      go : (b : Bool) → eqb (r .number) 0 ≡ b → cond b (firstOf rest o) (Refused r) ≡ Read order → (r .number ≡ 0) × (firstOf rest o ≡ Read order)
-      go true h e = (eqb-true (r .number) 0 h, e)
-      go false h e = let z : _≡_ {A = ℕ} 0 1 = cc in absurd (omega arith)
+  passed-on order e =
+      cases (eqb (r .number) 0) (λ h. (eqb-true (r .number) 0 h, simp h at e)) (λ h. let z : _≡_ {A = ℕ} 0 1 = cc in absurd (omega arith))
 
   -- a refusal is one of them that has a number
   refused-one : (x : Refusal) → Small (r .number) → (firstOf rest o ≡ Refused x → Refusing (x .number))
       → firstOf (r ∷ rest) o ≡ Refused x → Refusing (x .number)
   unfolding firstOf
-  refused-one x small later e = go (eqb (r .number) 0) refl e
-    where
-      go : (b : Bool) → eqb (r .number) 0 ≡ b → cond b (firstOf rest o) (Refused r) ≡ Refused x → Refusing (x .number)
-      go true h e = later e
-      go false h e =
-          let z : r ≡ x = cc in
-          let n = ap (λ (y : Refusal). y .number) z in
-          let m = eqb-false (r .number) 0 h in
-          record { some = omega arith; which = λ l. subst Later n (small (omega arith)) }
+  refused-one x small later e =
+      cases (eqb (r .number) 0) (λ h. later (simp h at e))
+      (λ h. let z : r ≡ x = cc in
+      let n = ap (λ (y : Refusal). y .number) z in
+      let m = eqb-false (r .number) 0 h in
+      record { some = omega arith; which = λ l. subst Later n (small (omega arith)) })
 
 -- ---- an order that is read has passed every check
 pub record Passed (s : List ℕ) (order : Order) : Type 0 where
@@ -89,20 +76,15 @@ read-passed s order e =
 
 both-forms-number : (has : ℕ → Bool) → Small (bothFormsOf has .number)
 unfolding bothFormsOf
-both-forms-number has = go (has 4 && has 18) (has 5 && has 19)
-  where
-    go : (a b : Bool) → Small (cond a (refusal 15 18) (cond b (refusal 15 19) noRefusal) .number)
-    go true b l = record { most = lit≤ tt; otherwise = λ h. refl }
-    go false true l = record { most = lit≤ tt; otherwise = λ h. refl }
-    go false false l = absurd (omega arith)
+both-forms-number has =
+    arms (λ (x : Refusal). Small (x .number)) (has 4 && has 18) (λ t l. record { most = lit≤ tt; otherwise = λ h. refl })
+    (λ t. arms (λ (x : Refusal). Small (x .number)) (has 5 && has 19) (λ u l. record { most = lit≤ tt; otherwise = λ h. refl }) (λ u l. absurd (omega arith)))
 
 start-number : (ramadan : Ramadan) (date : Date) → Small (wrongStartOf ramadan date .number)
 unfolding wrongStartOf
-start-number ramadan date = go (ramadan .set && not (ramadanStartOf (dayNumberOf date) (ramadan .shift)))
-  where
-    go : (b : Bool) → Small (cond b (refusal 18 2) noRefusal .number)
-    go true l = record { most = lit≤ tt; otherwise = λ h. absurd (omega arith) }
-    go false l = absurd (omega arith)
+start-number ramadan date =
+    arms (λ (x : Refusal). Small (x .number)) (ramadan .set && not (ramadanStartOf (dayNumberOf date) (ramadan .shift)))
+    (λ t l. record { most = lit≤ tt; otherwise = λ h. absurd (omega arith) }) (λ t l. absurd (omega arith))
 
 -- a refusal's number is from 1 to 5, or 15 or 18
 pub refused-by : (s : List ℕ) (r : Refusal) → readingOf s ≡ Refused r → Refusing (r .number)
@@ -116,11 +98,8 @@ refused-by s r e =
     (refused-one (missingOf (hasOf s)) (bothFormsOf (hasOf s) ∷ outOfRangeOf v ∷ start ∷ []) (orderOf v) r (up-to-five (missingOf (hasOf s) .number) (omega arith))
     (refused-one (bothFormsOf (hasOf s)) (outOfRangeOf v ∷ start ∷ []) (orderOf v) r (both-forms-number (hasOf s))
     (refused-one (outOfRangeOf v) (start ∷ []) (orderOf v) r (up-to-five (outOfRangeOf v .number) (failing-number 5 (inRangeOf v) (tagsFrom lastTag 1)))
-    (refused-one start [] (orderOf v) r (start-number (orderOf v .ramadan) (orderOf v .date)) no))))
+    (refused-one start [] (orderOf v) r (start-number (orderOf v .ramadan) (orderOf v .date)) (λ no. let z : _≡_ {A = ℕ} 0 1 = cc in absurd (omega arith))))))
     e
-  where
-    no : Read (orderOf (valuesOf s)) ≡ Refused r → Refusing (r .number)
-    no e = let z : _≡_ {A = ℕ} 0 1 = cc in absurd (omega arith)
 
 -- ---- where no tag fails, each passes
 pub has-required : (has : ℕ → Bool) → missingOf has .number ≡ 0 → (i : ℕ) → i < 6 → isGivenOf has (getD required i 0) ≡ true
@@ -129,11 +108,7 @@ has-required has e i l = all-pass 4 (isGivenOf has) required (lit≤ tt) e i l
 
 -- a coordinate that is not missing and stands in no more than one form stands in one of the two
 pub one-form : (has : ℕ → Bool) (float map : ℕ) → (has float || has map) ≡ true → has map ≡ false → has float ≡ true
-one-form has float map either other = go (has float) (has map) either other
-  where
-    go : (a b : Bool) → (a || b) ≡ true → b ≡ false → a ≡ true
-    go true b e f = refl
-    go false b e f = absurd (true≢false (sym e ∙ f))
+one-form has float map either other = cases (has float) (λ t. t) (λ t. cc)
 
 pub fits-given : (v : Values) → outOfRangeOf v .number ≡ 0 → (tag : ℕ) → 1 ≤ tag → tag ≤ lastTag → v .has tag ≡ true → fitsOf v tag ≡ true
 unfolding outOfRangeOf inRangeOf
@@ -152,7 +127,7 @@ pub record Town (s town : List ℕ) (order : Order) : Type 0 where
   pub text : textFits town ≡ true
 
 town-of : (s : List ℕ) (order : Order) → Passed s order → Town s (valueOf s 1) order
-unfolding fitsOf lookUp isGivenOf orderOf startOf
+unfolding fitsOf lookUp isGivenOf orderOf valueStartOf
 town-of s order passed =
     let has = has-required (hasOf s) (passed .given) 0 (lit≤ tt) in
     record {

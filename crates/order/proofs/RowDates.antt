@@ -1,18 +1,11 @@
 -- The dates of an order's rows: where the first and the last lie in an order's years, all do. Assumes nothing.
-use native.Mathlib.Omega.{arith}
-use Prim.Native.Nat.{ℕ, zero, suc, _+_, _-_, _≤_, _<_}
-use mathlib.Core.Path.{_≡_, refl, sym, ap, subst}
-use mathlib.Core.Bool.{Bool, true, false, cond}
-use mathlib.Core.List.{List}
-use lib.Dec.{leb, ltb, eqb}
-use lib.ListN.{length}
-use lib.IntN.{pos, negsuc, _+ℤ_}
-use borrow.Author.Tests.{le-leb, ltb-true, ltb-false}
+use Rattle.prelude.proofs.Logic.{_≡_, refl, sym, ap, subst, true, List, ℕ, zero, suc, _+_, _-_, _≤_, _<_, arith, leb, ltb, eqb, pos, negsuc, _+ℤ_, length, le-leb, ltb-true, ltb-false}
+use Rattle.prelude.proofs.Cases.{arms, cases}
 use Rattle.integers.specs.Parts.{P, N}
 use Rattle.integers.proofs.Sums.{sum, difference}
 use Rattle.integers.proofs.OrderLaws.{to-le}
 use Rattle.calendar.specs.declared.dates.Date.{Date}
-use Rattle.calendar.specs.Gregorian.{dateOf, existsOf, dayAfterOf}
+use Rattle.calendar.specs.Gregorian.{existsOf, dayAfterOf}
 use Rattle.calendar.specs.Days.{daysBeforeYearOf, dayNumberOf, dateOfDayOf}
 use Rattle.calendar.specs.Answers.{heldOf, fromOf, rowDateOf}
 use Rattle.calendar.proofs.CalendarLaws.{row-first, row-next, number-of-date, date-of-day-exists}
@@ -39,11 +32,9 @@ module _ (d : Date) (there : existsOf d ≡ true) where
 
   pub row-year : (k : ℕ) → rowDateOf d k .year ≤ 2199 → daysAfter d k .year ≤ 2199
   unfolding fromOf heldOf
-  row-year k h = go (leb (daysAfter d k .year) 4294967295) (simp there at h)
-    where
-      go : (b : Bool) → cond b (daysAfter d k) (dateOf 4294967295 12 31) .year ≤ 2199 → daysAfter d k .year ≤ 2199
-      go true h = h
-      go false h = absurd (omega arith)
+  row-year k h =
+      arms (λ (x : Date). x .year ≤ 2199 → daysAfter d k .year ≤ 2199) (leb (daysAfter d k .year) 4294967295) (λ t g. g) (λ t g. absurd (omega arith))
+      (simp there at h)
 
   pub row-in-order : 1900 ≤ d .year → (last row : ℕ) → rowDateOf d last .year ≤ 2199 → row ≤ last → DateInOrder (rowDateOf d row)
   row-in-order from last row to l =
@@ -67,41 +58,32 @@ unfolding daysBeforeYearOf
 days-before-2198 year h = let m : daysBeforeYearOf year ≤ daysBeforeYearOf 2197 = year-mono year 2197 h in let l : daysBeforeYearOf 2197 + 1095 ≡ daysBeforeYearOf 2200 = refl in omega arith
 
 ends-early : (d : Date) → existsOf d ≡ true → d .year ≤ 2197 → (k : ℕ) → k ≤ 399 → daysAfter d k .year ≤ 2199
-ends-early d there early k few = go (ltb 2199 (daysAfter d k .year)) refl
-  where
-    go : (b : Bool) → ltb 2199 (daysAfter d k .year) ≡ b → daysAfter d k .year ≤ 2199
-    go false e = ltb-false 2199 (daysAfter d k .year) e
-    go true e =
-        let z = dayNumberOf d +ℤ pos k in
-        let o = ordinal-within d there in
-        let s = sum (dayNumberOf d) (pos k) in
-        let b = balance d in
-        let n : dayNumberOf (daysAfter d k) ≡ z = number-of-date z (to-le (negsuc 719527) z (omega arith)) in
-        let c = balance (daysAfter d k) in
-        let f = ordinal-within (daysAfter d k) (date-of-day-exists z) in
-        let p : P (dayNumberOf (daysAfter d k)) ≡ P z = ap P n in
-        let q : N (dayNumberOf (daysAfter d k)) ≡ N z = ap N n in
-        let m = year-mono 2200 (daysAfter d k .year) (omega (arith, ltb-true 2199 (daysAfter d k .year) e)) in
-        let l = days-before-2198 (d .year) early in
-        let g = ordinal-short d in
-        absurd (omega arith)
+ends-early d there early k few =
+    let z = dayNumberOf d +ℤ pos k in
+    let o = ordinal-within d there in
+    let s = sum (dayNumberOf d) (pos k) in
+    let b = balance d in
+    let n : dayNumberOf (daysAfter d k) ≡ z = number-of-date z (to-le (negsuc 719527) z (omega arith)) in
+    let c = balance (daysAfter d k) in
+    let f = ordinal-within (daysAfter d k) (date-of-day-exists z) in
+    let p : P (dayNumberOf (daysAfter d k)) ≡ P z = ap P n in
+    let q : N (dayNumberOf (daysAfter d k)) ≡ N z = ap N n in
+    let l = days-before-2198 (d .year) early in
+    let g = ordinal-short d in
+    cases (ltb 2199 (daysAfter d k .year))
+    (λ e. let m = year-mono 2200 (daysAfter d k .year) (omega (arith, ltb-true 2199 (daysAfter d k .year) e)) in absurd (omega arith))
+    (λ e. ltb-false 2199 (daysAfter d k .year) e)
 
 row-early : (d : Date) → d .year ≤ 2197 → (k : ℕ) → k ≤ 399 → leb (rowDateOf d k .year) 2199 ≡ true
 unfolding fromOf heldOf
-row-early d early k few = go (existsOf d) refl
-  where
-    go : (b : Bool) → existsOf d ≡ b → leb (cond b (cond (leb (daysAfter d k .year) 4294967295) (daysAfter d k) (dateOf 4294967295 12 31)) d .year) 2199 ≡ true
-    go false e = le-leb (d .year) 2199 (omega arith)
-    go true e =
-        let y = ends-early d e early k few in
-        rw (le-leb (daysAfter d k .year) 4294967295 (omega arith)) (le-leb (daysAfter d k .year) 2199 y)
+row-early d early k few =
+    arms (λ (x : Date). leb (x .year) 2199 ≡ true) (existsOf d)
+    (λ e. let y = ends-early d e early k few in
+    rw (le-leb (daysAfter d k .year) 4294967295 (omega arith)) (le-leb (daysAfter d k .year) 2199 y))
+    (λ e. le-leb (d .year) 2199 (omega arith))
 
-most-few : (v : List ℕ) → mostIn v ≤ 400
-most-few v = go (eqb (length v) 2)
-  where
-    go : (b : Bool) → cond b 400 250 ≤ 400
-    go true = omega arith
-    go false = omega arith
+pub most-few : (v : List ℕ) → mostIn v ≤ 400
+most-few v = arms (λ (n : ℕ). n ≤ 400) (eqb (length v) 2) (λ t. omega arith) (λ t. omega arith)
 
 pub rows-early : (d : Date) (v : List ℕ) (rows most : ℕ) → rows ≡ rowsIn v → most ≡ mostIn v → d .year < 2198 → 1 ≤ rows → rows ≤ most → rowsFit d v ≡ true
 unfolding rowsFit

@@ -1,13 +1,8 @@
 -- The first of some tags that does not pass, tag by tag: what the reader's two loops go by. Assumes nothing.
-use native.Mathlib.Omega.{arith}
-use native.Mathlib.Numerals.{add-one}
-use Prim.Native.Nat.{ℕ, zero, suc, _+_, _≤_, _<_}
-use mathlib.Core.Path.{_≡_, refl, ap, _∙_}
-use mathlib.Core.Bool.{Bool, true, false, cond}
-use mathlib.Core.List.{List, [], _∷_}
-use lib.ListN.{length, getD, drop, drop-of-length-le}
-use lib.Seq.{drop-cons}
+use Rattle.prelude.proofs.Logic.{_≡_, refl, ap, _∙_, Bool, true, false, cond, List, [], _∷_, ℕ, zero, suc, _+_, _≤_, _<_, add-one, arith, length, getD, drop, drop-of-length-le, drop-cons}
+use Rattle.prelude.proofs.Cases.{arms}
 use Rattle.refusals.specs.Refusals.{refusal, noRefusal}
+use Rattle.refusals.specs.declared.Refusal.{Refusal}
 use Rattle.order.specs.Reading.{firstFailing, tagsFrom}
 
 module _ (number : ℕ) (passes : ℕ → Bool) (tags : List ℕ) (i : ℕ) where
@@ -29,37 +24,27 @@ pub all-pass : (number : ℕ) (passes : ℕ → Bool) (tags : List ℕ) → 1 �
     → (i : ℕ) → i < length tags → passes (getD tags i 0) ≡ true
 unfolding firstFailing
 all-pass number passes [] l e i h = absurd (omega arith)
-all-pass number passes (tag ∷ rest) l e i h = go (passes tag) refl e i h (λ f j k. all-pass number passes rest l f j k)
-  where
-    go : (b : Bool) → passes tag ≡ b → cond b (firstFailing number passes rest) (refusal number tag) .number ≡ 0 → (i : ℕ) → i < suc (length rest)
-        → (firstFailing number passes rest .number ≡ 0 → (j : ℕ) → j < length rest → passes (getD rest j 0) ≡ true)
-        → passes (getD (tag ∷ rest) i 0) ≡ true
-    go false p e i h rest-passes = absurd (omega arith)
-    go true p e zero h rest-passes = p
-    go true p e (suc i) h rest-passes = rest-passes e i (omega arith)
+all-pass number passes (tag ∷ rest) l e zero h =
+    arms (λ (x : Refusal). x .number ≡ 0 → passes tag ≡ true) (passes tag) (λ p f. p) (λ p f. absurd (omega arith)) e
+all-pass number passes (tag ∷ rest) l e (suc i) h =
+    arms (λ (x : Refusal). x .number ≡ 0 → passes (getD rest i 0) ≡ true) (passes tag)
+    (λ p f. all-pass number passes rest l f i (omega arith)) (λ p f. absurd (omega arith)) e
 
 -- and none is refused by a rule that is passed wherever that one is
 pub passing-more : (number : ℕ) (passes more : ℕ → Bool) → 1 ≤ number → ((tag : ℕ) → passes tag ≡ true → more tag ≡ true)
     → (tags : List ℕ) → firstFailing number passes tags .number ≡ 0 → firstFailing number more tags .number ≡ 0
 unfolding firstFailing
 passing-more number passes more l m [] e = refl
-passing-more number passes more l m (tag ∷ rest) e = go (passes tag) refl e (λ f. passing-more number passes more l m rest f)
-  where
-    go : (b : Bool) → passes tag ≡ b → cond b (firstFailing number passes rest) (refusal number tag) .number ≡ 0
-        → (firstFailing number passes rest .number ≡ 0 → firstFailing number more rest .number ≡ 0)
-        → cond (more tag) (firstFailing number more rest) (refusal number tag) .number ≡ 0
-    go false p e on = absurd (omega arith)
-    go true p e on = simp (m tag p) (on e)
+passing-more number passes more l m (tag ∷ rest) e =
+    arms (λ (x : Refusal). x .number ≡ 0 → cond (more tag) (firstFailing number more rest) (refusal number tag) .number ≡ 0) (passes tag)
+    (λ p f. simp (m tag p) (passing-more number passes more l m rest f)) (λ p f. absurd (omega arith)) e
 
 -- and a refusal has the number
 pub failing-number : (number : ℕ) (passes : ℕ → Bool) (tags : List ℕ) → firstFailing number passes tags .number ≤ number
 unfolding firstFailing
 failing-number number passes [] = omega arith
-failing-number number passes (tag ∷ rest) = go (passes tag) (failing-number number passes rest)
-  where
-    go : (b : Bool) → firstFailing number passes rest .number ≤ number → cond b (firstFailing number passes rest) (refusal number tag) .number ≤ number
-    go true h = h
-    go false h = omega arith
+failing-number number passes (tag ∷ rest) =
+    arms (λ (x : Refusal). x .number ≤ number) (passes tag) (λ p. failing-number number passes rest) (λ p. omega arith)
 
 -- ---- the tags from one on
 pub tags-from : (k from i : ℕ) → i < k → getD (tagsFrom k from) i 0 ≡ i + from

@@ -1,12 +1,5 @@
 -- A text from one of its bytes on: what the loop over a town's bytes goes by. Assumes nothing.
-use native.Mathlib.Numerals.{add-one}
-use Prim.Native.Nat.{ℕ, _+_, _≤_, _<_}
-use mathlib.Core.Path.{_≡_}
-use mathlib.Core.Bool.{true, false}
-use mathlib.Core.List.{List}
-use lib.ListN.{length, getD, drop, drop-of-length-le}
-use lib.Seq.{drop-cons}
-use borrow.Author.Tests.{le-leb, lt-leb}
+use Rattle.prelude.proofs.Logic.{_≡_, true, false, List, ℕ, _+_, _≤_, _<_, add-one, length, getD, drop, drop-of-length-le, drop-cons, le-leb, lt-leb}
 use Rattle.order.specs.Ranges.{textFits}
 
 pub byte-low : (s : List ℕ) (i : ℕ) → i < length s → getD s i 0 < 32 → textFits (drop i s) ≡ false

@@ -9,11 +9,11 @@ use lib.ListN.{length}
 use Rattle.float64.specs.Ops.{dec}
 use Rattle.calendar.specs.declared.dates.Date.{Date}
 use Rattle.calendar.specs.Gregorian.{dateOf}
-use Rattle.fields.specs.Numbers.{byteOf, unsignedOf, signedOf, floatOf}
+use Rattle.fields.specs.Numbers.{byteOf, unsignedOf, signedAtOf, floatOf}
 use Rattle.fields.specs.Values.{Values}
 use Rattle.hijri.specs.declared.ramadan.Ramadan.{Ramadan}
 use Rattle.map_form.specs.declared.MapForm.{MapForm}
-use Rattle.map_form.specs.Hundredths.{countOf, degreesOf}
+use Rattle.map_form.specs.Hundredths.{signedHundredthsOf, degreesOf}
 use Rattle.models.specs.declared.adjustments.TimeAdjustment.{TimeAdjustment}
 use Rattle.models.specs.declared.parameters.Parameters.{Parameters}
 use Rattle.models.specs.declared.rounding.Rounding.{Rounding}
@@ -41,7 +41,7 @@ formIn v = record { sign = byteOf v 0; degrees = byteOf v 1; minutes = byteOf v 
 
 -- "six minutes, Fajr to Isha"
 unfoldable pub minutesIn : List ℕ → TimeAdjustment
-minutesIn v = sixMinutesOf (signedOf v 0) (signedOf v 2) (signedOf v 4) (signedOf v 6) (signedOf v 8) (signedOf v 10)
+minutesIn v = sixMinutesOf (signedAtOf v 0) (signedAtOf v 2) (signedAtOf v 4) (signedAtOf v 6) (signedAtOf v 8) (signedAtOf v 10)
 
 -- ---- what a tag gives, and else what stands for a missing one
 unfoldable pub byteOr : Values → ℕ → ℕ → ℕ
@@ -61,7 +61,7 @@ intervalOr v missing = cond (v .has 14) (pos (unsignedOf (v .value 14) 0)) missi
 
 -- request 7: "Tags 18 and 19 stand for latitude and longitude": a coordinate by its form on the map where that stands, and else by its float
 unfoldable pub coordinateIn : Values → (float map : ℕ) → Float
-coordinateIn v float map = cond (v .has map) (degreesOf (countOf (formIn (v .value map)))) (degreesIn (v .value float))
+coordinateIn v float map = cond (v .has map) (degreesOf (signedHundredthsOf (formIn (v .value map)))) (degreesIn (v .value float))
 
 -- "By `Method::parameters`, each method brings its own angles, minutes and rounding; tags 7 to 14 then set their one field each, so tag 14
 -- leaves the Isha angle, and tag 11 sets `adjustments`, not `method_adjustments`."
@@ -89,7 +89,7 @@ rulesIn v = record { midnight = midnightOf (byteOr v 15 0); southern = southernO
 
 -- Request 2: "Tag 16 (signed 16-bit minutes, -840 to 840, missing is 0) is added to the UTC instant", by the cells alone.
 unfoldable pub clockIn : Values → ℤ
-clockIn v = cond (v .has 16) (signedOf (v .value 16) 0) (pos 0)
+clockIn v = cond (v .has 16) (signedAtOf (v .value 16) 0) (pos 0)
 
 -- Request 12: "Tag 20 holds imsak minutes and shift, one byte each, the shift stored plus 1."
 unfoldable pub ramadanGiven : List ℕ → Ramadan

@@ -12,7 +12,7 @@ use Rattle.float64.specs.Ranges.{insideOf}
 use Rattle.calendar.specs.declared.dates.Date.{Date}
 use Rattle.calendar.specs.Gregorian.{existsOf}
 use Rattle.calendar.specs.Answers.{rowDateOf}
-use Rattle.fields.specs.Numbers.{byteOf, unsignedOf, signedOf}
+use Rattle.fields.specs.Numbers.{byteOf, unsignedOf, signedAtOf}
 use Rattle.fields.specs.Tags.{choiceFits}
 use Rattle.fields.specs.Values.{Values}
 use Rattle.map_form.specs.Hundredths.{mostLatitude, mostLongitude, formFits}
@@ -60,7 +60,7 @@ intervalFits v = between 0 1440 (unsignedOf v 0)
 
 -- request 2: "signed 16-bit minutes, -840 to 840"
 unfoldable pub clockFits : List ℕ → Bool
-clockFits v = leZ (negsuc 839) (signedOf v 0) && leZ (signedOf v 0) (pos 840)
+clockFits v = leZ (negsuc 839) (signedAtOf v 0) && leZ (signedAtOf v 0) (pos 840)
 
 -- request 12: "imsak minutes over 30, a stored shift over 2" are out of range
 unfoldable pub ramadanFits : List ℕ → Bool

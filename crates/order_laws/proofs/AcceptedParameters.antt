@@ -1,5 +1,5 @@
 -- The parameters of an order that is read are among those that the laws of the schedule speak of. Assumes nothing.
-use native.Mathlib.Omega.{arith}
+use Rattle.prelude.proofs.Logic.{arith}
 use Rattle.integers.specs.Parts.{Between}
 use Rattle.models.specs.Presets.{presetOf}
 use Rattle.order.specs.Accepted.{Accepted}

@@ -1,34 +1,31 @@
 -- A place sent either way: the record but for where the town stands, and from it all that is answered. Assumes nothing.
-use Prim.Native.Nat.{ℕ, zero, suc, _+_, _≤_}
-use mathlib.Core.Path.{_≡_, refl, sym, ap, _∙_, subst}
-use mathlib.Core.Bool.{false}
-use mathlib.Core.List.{List, _∷_, _++_}
-use lib.Dec.{lit≤}
+use Rattle.prelude.proofs.Logic.{_≡_, refl, sym, ap, _∙_, subst, false, List, _∷_, _++_, ℕ, zero, suc, _+_, _≤_, lit≤}
 use Rattle.integers.specs.Order.{_≼_}
 use Rattle.calendar.specs.Answers.{rowDateOf}
 use Rattle.calls.specs.Calls.{workRowOf, workReadingOf, workDayOf, workAtOf, prayerAtOf, nextAtOf, remainingAtOf}
 use Rattle.fields.specs.Tags.{lastTag}
-use Rattle.fields.specs.Values.{hasOf, valueOf, Values, valuesOf}
+use Rattle.fields.specs.Values.{hasOf, valueOf, valuesOf}
 use Rattle.fields.specs.declared.values.Part.{Part}
 use Rattle.lines.specs.Lines.{lineText}
-use Rattle.models.specs.declared.parameters.Parameters.{Parameters}
 use Rattle.models.specs.declared.prayer.Prayer.{Prayer}
-use Rattle.models.specs.declared.rules.Rules.{Rules}
 use Rattle.models.specs.Settings.{timeAdjustmentsOf}
-use Rattle.order.specs.Given.{dateIn, rowsIn, coordinateIn, byteOr, degreesOr, roundingOr, minutesOr, intervalOr, parametersIn, rulesIn, clockIn, ramadanIn}
+use Rattle.order.specs.Given.{coordinateIn, byteOr, degreesOr, roundingOr, minutesOr, intervalOr, parametersIn, rulesIn, clockIn, ramadanIn}
 use Rattle.order.specs.Reading.{orderOf, readingOf, townOf}
 use Rattle.order.specs.declared.reading.Order.{Order}
-use Rattle.order.specs.declared.reading.Reading.{Reading}
 use Rattle.order.specs.declared.reading.Reading.the-variants.{Read}
 use Rattle.order.proofs.ReadingLaws.{read-passed}
 use Rattle.braille.specs.Cells.{rowLength}
 use Rattle.pages.specs.Pages.{Rows, rowOf, rowsFrom, pageOf, pageCount, pagesCells, allCells}
-use Rattle.pages.specs.Answers.{writtenOf, answerIn, bufferOf, frontIn, oneRow, pieceIn}
+use Rattle.pages.specs.Answers.{punchedInOf, answerIn, bufferOf, frontIn, oneRow, pieceIn}
 use Rattle.pages.specs.Reports.{wearIn, wearText, cellsIn, cellsText}
 use Rattle.rows.specs.Rows.{linesText, acceptedText, textIn, sheetText, readAnswerOf, readBufferOf, rowAnswerOf, rowBufferOf}
 use Rattle.schedule.specs.declared.in_force.Instant.{Instant}
-use Rattle.order_laws.specs.Minutes.{withOwnMinutes, LaterOrder}
-use Rattle.order_laws.specs.EitherForm.{saysPlace, SamePlace, withTown, SameAnswers, EitherFormAnswersAlike, EitherFormMovesAlike}
+use Rattle.schedule.specs.declared.prayer_times.Worked.{Worked}
+use Rattle.schedule.specs.declared.prayer_times.Worked.the-variants.{Times, Refused}
+use Rattle.weeks.specs.Lines.{reportOf}
+use Rattle.weeks.specs.Report.{minuteIn, minutesOf, ordersReport, weekIn, weekText}
+use Rattle.order_laws.specs.Minutes.{withOwnMinutes}
+use Rattle.order_laws.specs.EitherForm.{saysPlace, SamePlace, withTown, EitherFormAnswersAlike, EitherFormMovesAlike}
 
 -- ---- where the town stands changes nothing
 lines-same : (o : Order) (town : Part) (n : ℕ) → linesText (withTown o town) n ≡ linesText o n
@@ -55,11 +52,21 @@ unfolding pagesCells
 pages-same o town zero = refl
 pages-same o town (suc p) = rw (pages-same o town p, page-same o town (suc p))
 
+minute-same : (o : Order) (town : Part) (row : ℕ) (w : Worked) → minuteIn (withTown o town) row w ≡ minuteIn o row w
+unfolding minuteIn
+minute-same o town row (Times t) = refl
+minute-same o town row (Refused r) = refl
+
+minutes-same : (o : Order) (town : Part) (n : ℕ) → minutesOf (withTown o town) n ≡ minutesOf o n
+unfolding minutesOf workRowOf
+minutes-same o town zero = refl
+minutes-same o town (suc n) = rw (minutes-same o town n, minute-same o town n (workRowOf o n))
+
 -- a call on some rows of an order that do not hang on its town
 module _ (asked : Order → Rows) (town-free : (o : Order) (town : Part) → asked (withTown o town) ≡ asked o) (least : ℕ) where
   written-same : (a b : List ℕ) (o p : Order) → readingOf a ≡ Read o → readingOf b ≡ Read p → withTown o (p .town) ≡ p → (buffer : List ℕ)
-      → writtenOf asked least a buffer ≡ writtenOf asked least b buffer
-  unfolding writtenOf answerIn
+      → punchedInOf asked least a buffer ≡ punchedInOf asked least b buffer
+  unfolding punchedInOf answerIn
   written-same a b o p x y g buffer = rw (x, y, ← town-free o (p .town), g)
 
   front-same : (a b : List ℕ) (o p : Order) → readingOf a ≡ Read o → readingOf b ≡ Read p → withTown o (p .town) ≡ p → (buffer : List ℕ)
@@ -187,8 +194,14 @@ module _ (a b : List ℕ) (orders : SamePlace a b) where
   unfolding cellsIn
   cells-same = rw (orders .«first_read», orders .«second_read») all-same
 
+  week-same : weekText a ≡ weekText b
+  unfolding weekIn
+  week-same =
+      rw (orders .«first_read», orders .«second_read»)
+      (ap reportOf (sym (minutes-same (orders .first) (orders .second .town) (orders .first .rows))) ∙ ap ordersReport given)
+
   module _ (asked : Order → Rows) (town-free : (o : Order) (town : Part) → asked (withTown o town) ≡ asked o) (buffer : List ℕ) where
-    asked-same : writtenOf asked rowLength a buffer ≡ writtenOf asked rowLength b buffer
+    asked-same : punchedInOf asked rowLength a buffer ≡ punchedInOf asked rowLength b buffer
     asked-same = written-same asked town-free rowLength a b (orders .first) (orders .second) (orders .«first_read») (orders .«second_read») given buffer
 
     put-same : bufferOf asked rowLength a buffer ≡ bufferOf asked rowLength b buffer
@@ -213,6 +226,7 @@ either-form-answers-alike a b orders =
       «page_buffer» = λ page first scratch. put-same a b orders (pieceIn page first scratch) (piece-same page first scratch) scratch;
       wear = wear-same a b orders;
       cells = cells-same a b orders;
+      week = week-same a b orders;
     }
 
 -- ---- demand 3

@@ -1,19 +1,11 @@
 -- Demand 3: from the bytes of two orders to the parameters of one row's day, where crates/schedule_laws has proved it. Assumes nothing.
-use mathlib.Core.Path.{_≡_, refl, sym, ap, subst, _∙_}
-use mathlib.Core.Bool.{Bool, true, false, cond, not, _&&_}
-use mathlib.Core.List.{List}
-use Prim.Native.Nat.{ℕ, _+_, _*_, _≤_, _<_, _^_}
-use native.Mathlib.Omega.{arith}
-use lib.Dec.{T, ltb, leb}
-use borrow.Author.Tests.{leb-true}
-use lib.IntN.{ℤ, pos, negsuc, _+ℤ_, _-ℤ_}
-use lib.Signed.{leZ}
+use Rattle.prelude.proofs.Logic.{_≡_, refl, sym, ap, subst, _∙_, Bool, true, false, cond, _&&_, List, ℕ, _*_, _≤_, _<_, _^_, arith, ltb, leb, ℤ, pos, negsuc, _+ℤ_, _-ℤ_, leZ, leb-true}
+use Rattle.prelude.proofs.Cases.{both}
 use Rattle.integers.specs.Parts.{P, N, Near}
 use Rattle.integers.proofs.PartsLaws.{same}
 use Rattle.integers.proofs.Sums.{sum, difference}
 use Rattle.integers.specs.Order.{_≼_}
 use Rattle.calendar.specs.Answers.{rowDateOf}
-use Rattle.refusals.specs.Refusals.{noRefusal}
 use Rattle.fields.specs.declared.values.Part.{Part}
 use Rattle.models.specs.declared.adjustments.TimeAdjustment.{TimeAdjustment}
 use Rattle.models.specs.declared.parameters.Parameters.{Parameters}
@@ -22,12 +14,9 @@ use Rattle.lines.specs.Lines.{imsakOf}
 use Rattle.models.specs.declared.prayer.Prayer.{Prayer}
 use Rattle.models.specs.declared.prayer.Prayer.the-variants.{Fajr}
 use Rattle.refusals.specs.declared.Refusal.{Refusal}
-use Rattle.models.specs.Presets.{presetOf}
 use Rattle.models.specs.Settings.{timeAdjustmentsOf}
 use Rattle.order.specs.declared.reading.Order.{Order}
 use Rattle.order.specs.declared.reading.Reading.{Reading}
-use Rattle.order.specs.declared.reading.Reading.the-variants.{Read}
-use Rattle.order.specs.Reading.{readingOf}
 use Rattle.order.specs.Accepted.{Accepted}
 use Rattle.order.proofs.AcceptedLaws.{read-accepted}
 use Rattle.schedule.specs.declared.in_force.Current.{Current}
@@ -39,18 +28,17 @@ use Rattle.schedule.specs.declared.prayer_times.Worked.the-variants as worked
 use Rattle.schedule.specs.InForce.{currentTimeOf, currentNumberOf}
 use Rattle.schedule.specs.Times.{workedAt}
 use Rattle.schedule_laws.specs.Later.{withMinutes, laterBy, LaterMinutes, Moved}
-use Rattle.schedule_laws.proofs.CarriedLaws.{carried-held}
+use Rattle.schedule_laws.proofs.CarriedLaws.{carried-sums}
 use Rattle.order_laws.proofs.AcceptedParameters.{accepted-carried}
 use Rattle.order_laws.proofs.PrintedLaws.{imsak-is-printed-whole}
 use Rattle.schedule_laws.proofs.LaterLaws.{later-minutes-move-the-row}
-use Rattle.calls.specs.declared.in_force.InForce.{InForce}
 use Rattle.calls.specs.declared.in_force.InForce.the-variants as force
 use Rattle.calls.specs.Calls.{lacksRow, workRowOf, workReadingOf, workDayOf, instantFits, workAtOf, inForceOf, prayerAtOf}
-use Rattle.order_laws.specs.Minutes.{withOwnMinutes, LaterOrder, ImsakMoved, MovedRow, LaterOrdersMoveTheirRows}
+use Rattle.order_laws.specs.Minutes.{withOwnMinutes, LaterOrder, ImsakMoved, LaterOrdersMoveTheirRows}
 
 -- ---- what an accepted order's sums can be
 held : (order : Order) → Accepted order → (prayer : Prayer) → Near (2 ^ 32) (timeAdjustmentsOf (order .parameters) prayer)
-held order h = carried-held (order .parameters) (accepted-carried order h)
+held order h = carried-sums (order .parameters) (accepted-carried order h)
 
 -- ---- a row that the order lacks
 alike-refused : (p q : Parameters) (r : Refusal) → Moved p q (worked.Refused r) (worked.Refused r)
@@ -63,12 +51,8 @@ alike-refused p q r =
       «in_force» = λ t u e f. no e;
     }
   where
-    isTimes : Worked → Type 0
-    isTimes (worked.Times t) = T true
-    isTimes (worked.Refused x) = T false
-
     no : {X : Type 0} {t : PrayerTimes} → worked.Refused r ≡ worked.Times t → X
-    no e = absurd (subst isTimes (sym e) tt)
+    no e = let z : _≡_ {A = ℕ} 0 1 = cc in absurd (omega arith)
 
 -- ---- a day
 module _ (first : Order) (town : Part) (minutes : TimeAdjustment) (row : ℕ) where
@@ -95,37 +79,20 @@ module _ (first : Order) (town : Part) (minutes : TimeAdjustment) (row : ℕ) wh
       by-test false = alike-refused p q lacksRow
 
 -- ---- what naming the prayer answers
--- the prayer of an answer, which a refusal has not
-prayerIn : InForce → Current
-prayerIn (force.Prayer x) = x
-prayerIn (force.Refused r) = none.None
-
-refusalIn : InForce → Refusal
-refusalIn (force.Prayer x) = noRefusal
-refusalIn (force.Refused r) = r
-
-isPrayer : InForce → Type 0
-isPrayer (force.Prayer x) = T true
-isPrayer (force.Refused r) = T false
-
-isRefused : InForce → Type 0
-isRefused (force.Prayer x) = T false
-isRefused (force.Refused r) = T true
-
 record OfTimes (w : Worked) (i : Instant) (x : Current) : Type 0 where
   times : PrayerTimes
   worked-are : w ≡ worked.Times times
   current-is : currentTimeOf times i ≡ x
 
 prayer-times : (w : Worked) (i : Instant) (x : Current) → inForceOf w i ≡ force.Prayer x → OfTimes w i x
-unfolding inForceOf prayerIn isPrayer
-prayer-times (worked.Times t) i x e = record { times = t; worked-are = refl; current-is = ap prayerIn e }
-prayer-times (worked.Refused r) i x e = absurd (subst isPrayer (sym e) tt)
+unfolding inForceOf
+prayer-times (worked.Times t) i x e = record { times = t; worked-are = refl; current-is = cc }
+prayer-times (worked.Refused r) i x e = let z : _≡_ {A = ℕ} 0 1 = cc in absurd (omega arith)
 
 refused-day : (w : Worked) (i : Instant) (r : Refusal) → inForceOf w i ≡ force.Refused r → w ≡ worked.Refused r
-unfolding inForceOf refusalIn isRefused
-refused-day (worked.Times t) i r e = absurd (subst isRefused (sym e) tt)
-refused-day (worked.Refused x) i r e = ap worked.Refused (ap refusalIn e)
+unfolding inForceOf
+refused-day (worked.Times t) i r e = cc
+refused-day (worked.Refused x) i r e = cc
 
 day-refused : (w : Worked) (i : Instant) (r : Refusal) → w ≡ worked.Refused r → inForceOf w i ≡ force.Refused r
 unfolding inForceOf
@@ -141,15 +108,10 @@ refused-alike : (s z : List ℕ) (row : ℕ) (i j : Instant) (r : Refusal) → i
 refused-alike s z row i j r hi hj alike e =
     asked z row j hj ∙ day-refused (workDayOf z row) j r (alike (refused-day (workDayOf s row) i r (sym (asked s row i hi) ∙ e)))
 
-last : (a b c : Bool) → a && b && c ≡ true → c ≡ true
-last true true c h = h
-last true false c h = absurd (subst (λ (x : Bool). T (not x)) h tt)
-last false b c h = absurd (subst (λ (x : Bool). T (not x)) h tt)
-
 less-than-a-second : (i : Instant) → instantFits i ≡ true → i .nanoseconds < 1000000000
 unfolding instantFits
 less-than-a-second i h =
-    let l = leb-true (i .nanoseconds) 999999999 (last (leZ (negsuc 999999999999) (i .seconds)) (leZ (i .seconds) (pos 1000000000000)) (leb (i .nanoseconds) 999999999) h) in
+    let l = leb-true (i .nanoseconds) 999999999 (both (leZ (negsuc 999999999999) (i .seconds) && leZ (i .seconds) (pos 1000000000000)) (leb (i .nanoseconds) 999999999) h .1) in
     omega arith
 
 -- ---- the theorem

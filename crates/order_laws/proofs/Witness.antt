@@ -1,23 +1,16 @@
 -- Two orders of which demand 3 speaks, so that its hypothesis can be met: town P, 2026-06-21, one row, 10.0, 20.0, method 0; the second with a
 -- minute more for Fajr, and with its place as on the map, 10 degrees north and 20 degrees east. And the first with its place so, all else the same.
-use native.Mathlib.Omega.{arith}
-use mathlib.Core.Path.{_≡_, refl, subst}
-use mathlib.Core.Bool.{Bool, true, false, true≢false}
-use mathlib.Core.List.{List, [], _∷_, _++_}
-use Prim.Native.Nat.{ℕ, zero, suc, _≤_}
-use lib.Dec.{leb, lit≤}
-use borrow.Author.Tests.{leb-true, leb-false}
+use Rattle.prelude.proofs.Logic.{_≡_, refl, subst, Bool, true, false, true≢false, List, [], _∷_, _++_, ℕ, zero, suc, _≤_, arith, leb, lit≤, replicate, leb-true, leb-false}
 use lib.Ieee.{le, neg, ofBits, round}
-use lib.ListN.{replicate}
 use Rattle.integers.specs.Order.{_≼_}
 use Rattle.float64.specs.Ops.{dec}
 use Rattle.calendar.specs.Gregorian.{leapOf, lengthOf, existsOf}
 use Rattle.calendar.specs.Days.{daysBeforeOf, ordinalOf, countBelow, monthOf, ofOrdinalOf, daysBeforeYearOf, dayNumberOf, lastBy, yearOf, dateAtOf, dateOfDayOf}
 use Rattle.calendar.specs.Answers.{heldOf, fromOf}
-use Rattle.fields.specs.Numbers.{unsignedOf, signedOf, joinedOf, bitsOf, floatOf}
+use Rattle.fields.specs.Numbers.{unsignedOf, signedAtOf, bytesNumberOf, bitsOf, floatOf}
 use Rattle.fields.specs.Tags.{lengthFits, choiceFits}
 use Rattle.fields.specs.Fields.{lengthAt, firstBefore, valueFaultOf, faultIn, faultOf, walkOf, checkOf}
-use Rattle.fields.specs.Values.{offsetOf, hasOf, valueOf, startOf, valuesOf}
+use Rattle.fields.specs.Values.{offsetOf, hasOf, valueOf, valueStartOf, valuesOf}
 use Rattle.map_form.specs.Hundredths.{degreesOf, formFits}
 use Rattle.models.specs.declared.prayer.Prayer.{Prayer}
 use Rattle.models.specs.declared.prayer.Prayer.the-variants.{Fajr, Sunrise, Dhuhr, Asr, Maghrib, Isha, Qiyam, FajrTomorrow}
@@ -44,7 +37,7 @@ abbrev later : List ℕ
 later = onTheMap ++ (11 ∷ 0 ∷ 12 ∷ 0 ∷ 1 ∷ replicate 10 0)
 
 more-minutes : (prayer : Prayer) → timeAdjustmentsOf (orderOf (valuesOf earlier) .parameters) prayer ≼ timeAdjustmentsOf (orderOf (valuesOf later) .parameters) prayer
-unfolding hasOf offsetOf firstBefore lengthAt unsignedOf valueOf signedOf minutesIn minutesOr byteOr degreesOr roundingOr intervalOr parametersIn orderOf timeAdjustmentsOf preset presetOf methodOf minutesFor
+unfolding hasOf offsetOf firstBefore lengthAt unsignedOf valueOf signedAtOf minutesIn minutesOr byteOr degreesOr roundingOr intervalOr parametersIn orderOf timeAdjustmentsOf preset presetOf methodOf minutesFor
 more-minutes Fajr = lit≤ tt
 more-minutes Sunrise = lit≤ tt
 more-minutes Dhuhr = lit≤ tt
@@ -55,7 +48,7 @@ more-minutes Qiyam = lit≤ tt
 more-minutes FajrTomorrow = lit≤ tt
 
 pub can-be-met : LaterOrder earlier later
-unfolding readingOf firstOf isGivenOf bothFormsOf formIn coordinateIn formFits degreesOf checkOf walkOf faultOf faultIn valueFaultOf firstBefore lengthAt unsignedOf lengthFits choiceFits offsetOf hasOf valueOf startOf missingOf firstFailing tagsFrom outOfRangeOf inRangeOf fitsOf lookUp textFits rowsFit ramadanRows minuteFits minutesFit intervalFits dateIn rowsIn degreesIn minutesIn byteOr degreesOr roundingOr minutesOr intervalOr parametersIn rulesIn clockIn ramadanIn orderOf wrongStartOf townOf signedOf joinedOf bitsOf floatOf timeAdjustmentsOf existsOf leapOf lengthOf daysBeforeOf ordinalOf countBelow monthOf ofOrdinalOf daysBeforeYearOf dayNumberOf lastBy yearOf dateAtOf dateOfDayOf heldOf fromOf le neg ofBits round dec
+unfolding readingOf firstOf isGivenOf bothFormsOf formIn coordinateIn formFits degreesOf checkOf walkOf faultOf faultIn valueFaultOf firstBefore lengthAt unsignedOf lengthFits choiceFits offsetOf hasOf valueOf valueStartOf missingOf firstFailing tagsFrom outOfRangeOf inRangeOf fitsOf lookUp textFits rowsFit ramadanRows minuteFits minutesFit intervalFits dateIn rowsIn degreesIn minutesIn byteOr degreesOr roundingOr minutesOr intervalOr parametersIn rulesIn clockIn ramadanIn orderOf wrongStartOf townOf signedAtOf bytesNumberOf bitsOf floatOf timeAdjustmentsOf existsOf leapOf lengthOf daysBeforeOf ordinalOf countBelow monthOf ofOrdinalOf daysBeforeYearOf dayNumberOf lastBy yearOf dateAtOf dateOfDayOf heldOf fromOf le neg ofBits round dec
 can-be-met =
     record {
       first = orderOf (valuesOf earlier);
@@ -90,7 +83,7 @@ each-same =
     (λ e. (refl, refl), (λ e. absurd (true≢false e), (λ e. absurd (true≢false e), (λ e. (refl, refl), (λ e. (refl, refl), (λ e. (refl, refl), (λ e. (refl, refl), (λ e. (refl, refl), (λ e. (refl, refl), (λ e. (refl, refl), (λ e. (refl, refl), (λ e. (refl, refl), (λ e. (refl, refl), (λ e. (refl, refl), (λ e. (refl, refl), (λ e. absurd (true≢false e), (λ e. absurd (true≢false e), (λ e. (refl, refl), (λ e. (refl, refl), (λ e. (refl, refl), λ e. (refl, refl)))))))))))))))))))))
 
 pub can-be-sent-either-way : SamePlace earlier onTheMap
-unfolding readingOf firstOf isGivenOf bothFormsOf formIn coordinateIn formFits degreesOf checkOf walkOf faultOf faultIn valueFaultOf firstBefore lengthAt unsignedOf lengthFits choiceFits offsetOf hasOf valueOf startOf missingOf firstFailing tagsFrom outOfRangeOf inRangeOf fitsOf lookUp textFits rowsFit ramadanRows minuteFits minutesFit intervalFits dateIn rowsIn degreesIn minutesIn byteOr degreesOr roundingOr minutesOr intervalOr parametersIn rulesIn clockIn ramadanIn orderOf wrongStartOf townOf signedOf joinedOf bitsOf floatOf timeAdjustmentsOf existsOf leapOf lengthOf daysBeforeOf ordinalOf countBelow monthOf ofOrdinalOf daysBeforeYearOf dayNumberOf lastBy yearOf dateAtOf dateOfDayOf heldOf fromOf le neg ofBits round dec
+unfolding readingOf firstOf isGivenOf bothFormsOf formIn coordinateIn formFits degreesOf checkOf walkOf faultOf faultIn valueFaultOf firstBefore lengthAt unsignedOf lengthFits choiceFits offsetOf hasOf valueOf valueStartOf missingOf firstFailing tagsFrom outOfRangeOf inRangeOf fitsOf lookUp textFits rowsFit ramadanRows minuteFits minutesFit intervalFits dateIn rowsIn degreesIn minutesIn byteOr degreesOr roundingOr minutesOr intervalOr parametersIn rulesIn clockIn ramadanIn orderOf wrongStartOf townOf signedAtOf bytesNumberOf bitsOf floatOf timeAdjustmentsOf existsOf leapOf lengthOf daysBeforeOf ordinalOf countBelow monthOf ofOrdinalOf daysBeforeYearOf dayNumberOf lastBy yearOf dateAtOf dateOfDayOf heldOf fromOf le neg ofBits round dec
 can-be-sent-either-way =
     record {
       first = orderOf (valuesOf earlier);

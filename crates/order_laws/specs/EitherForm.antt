@@ -17,6 +17,7 @@ use Rattle.pages.specs.Answers.{rowWritten, rowBuffer, pageWritten, pageBuffer}
 use Rattle.pages.specs.Reports.{wearText, cellsText}
 use Rattle.rows.specs.Rows.{rowAnswerOf, rowBufferOf, sheetText}
 use Rattle.schedule.specs.declared.in_force.Instant.{Instant}
+use Rattle.weeks.specs.Report.{weekText}
 use Rattle.order_laws.specs.Minutes.{LaterOrder}
 
 -- the tags that say the place, in either form
@@ -66,6 +67,8 @@ pub record SameAnswers (a b : List ℕ) (orders : SamePlace a b) : Type 0 where
   pub «page_buffer» : (page first : ℕ) (scratch : List ℕ) → pageBuffer page first a scratch ≡ pageBuffer page first b scratch
   pub wear : wearText a ≡ wearText b
   pub cells : cellsText a ≡ cellsText b
+  -- the week's report
+  pub week : weekText a ≡ weekText b
 
 abbrev pub EitherFormAnswersAlike : Type 0
 EitherFormAnswersAlike = (a b : List ℕ) (orders : SamePlace a b) → SameAnswers a b orders

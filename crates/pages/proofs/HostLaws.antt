@@ -1,13 +1,6 @@
 -- A host's calls on a page, whatever scratches it lends, give the page. Assumes nothing.
-use native.Mathlib.Omega.{arith}
-use Prim.Native.Nat.{ℕ, zero, suc, _+_, _-_, _*_, _/_, _≤_, _<_, min}
-use mathlib.Core.Bool.{Bool, true, false}
-use mathlib.Core.Path.{_≡_, refl, sym, ap, _∙_}
-use mathlib.Core.List.{List, [], _∷_, _++_}
-use lib.Dec.{ltb}
-use lib.ListN.{length, take, drop, drop-of-length-le}
-use lib.Seq.{take-all, take-at, drop-drop}
-use borrow.Author.Tests.{ltb-true, ltb-false}
+use Rattle.prelude.proofs.Logic.{_≡_, refl, sym, ap, _∙_, List, [], _∷_, _++_, ℕ, zero, suc, _+_, _-_, _*_, _/_, _≤_, _<_, min, arith, ltb, length, take, drop, drop-of-length-le, take-all, take-at, drop-drop, ltb-true, ltb-false}
+use Rattle.prelude.proofs.Cases.{cases}
 use Rattle.braille.specs.Braille.{dotsOf}
 use Rattle.calls.specs.Calls.{lacksRow}
 use Rattle.order.specs.declared.reading.Order.{Order}
@@ -17,7 +10,7 @@ use Rattle.order.specs.Reading.{readingOf}
 use Rattle.refusals.specs.Refusals.{noRefusal}
 use Rattle.refusals.specs.declared.Refusal.{Refusal}
 use Rattle.text.specs.Text.{frontOf}
-use Rattle.pages.specs.Answers.{punchedOf, refusedOf, answerOf, pieceIn, pageWritten, pageBuffer}
+use Rattle.pages.specs.Answers.{punchedOf, refusedOf, rowsAnswerOf, pieceIn, pageWritten, pageBuffer}
 use Rattle.pages.specs.Host.{cellsGot, Calls, ended, called, PiecesAreThePage, AtOnceAsBefore, AsBefore}
 use Rattle.pages.specs.Pages.{Rows, cellsOf, pageOf, pieceOf}
 use Rattle.pages.specs.declared.answer.Punched.{Punched}
@@ -83,39 +76,32 @@ module _ (s : List ℕ) (page : ℕ) (o : Order) (e : readingOf s ≡ Read o) wh
   module _ (lent : ℕ → List ℕ) (long : (n : ℕ) → 39 ≤ length (lent n)) where
     at-end : (n first : ℕ) → pageWritten page first s (lent n) .refusal ≡ lacksRow → Rest first [] 0
     unfolding cellsOf dotsOf
-    at-end n first z = by-test (ltb first (length (pageOf o page))) refl
-      where
-        by-test : (b : Bool) → ltb first (length (pageOf o page)) ≡ b → Rest first [] 0
-        by-test true t =
-            let p = has-row first (lent n) (long n) (ltb-true first (length (pageOf o page)) t) in
-            let five : _≡_ {A = ℕ} 5 0 = ap (λ (r : Refusal). r .number) (sym z ∙ p .none) in
-            absurd (omega arith)
-        by-test false t =
-            let d : drop first (pageOf o page) ≡ [] = drop-of-length-le (pageOf o page) (ltb-false first (length (pageOf o page)) t) in
-            (sym (ap cellsOf d), sym (ap (λ (l : Rows). dotsOf (cellsOf l)) d))
+    at-end n first z =
+        cases (ltb first (length (pageOf o page)))
+        (λ t. let p = has-row first (lent n) (long n) (ltb-true first (length (pageOf o page)) t) in
+        let five : _≡_ {A = ℕ} 5 0 = ap (λ (r : Refusal). r .number) (sym z ∙ p .none) in
+        absurd (omega arith))
+        (λ t. let d : drop first (pageOf o page) ≡ [] = drop-of-length-le (pageOf o page) (ltb-false first (length (pageOf o page)) t) in
+        (sym (ap cellsOf d), sym (ap (λ (l : Rows). dotsOf (cellsOf l)) d)))
 
     one-more : (n first : ℕ) (cells : List ℕ) (dots : ℕ) → pageWritten page first s (lent n) .refusal ≡ noRefusal
         → Rest (first + pageWritten page first s (lent n) .rows) cells dots
         → Rest first (cellsGot page first s (lent n) ++ cells) (pageWritten page first s (lent n) .dots + dots)
-    one-more n first cells dots z i = by-test (ltb first (length (pageOf o page))) refl
-      where
-        by-test : (b : Bool) → ltb first (length (pageOf o page)) ≡ b
-            → Rest first (cellsGot page first s (lent n) ++ cells) (pageWritten page first s (lent n) .dots + dots)
-        by-test true t =
-            let p = has-row first (lent n) (long n) (ltb-true first (length (pageOf o page)) t) in
-            let piece = pieceIn page first (lent n) o in
-            let left = cellsOf (drop (first + length piece) (pageOf o page)) in
-            let c : cells ≡ left = i .0 ∙ ap (λ (k : ℕ). cellsOf (drop (first + k) (pageOf o page))) (p .rows) in
-            let d : dots ≡ dotsOf left = i .1 ∙ ap (λ (k : ℕ). dotsOf (cellsOf (drop (first + k) (pageOf o page)))) (p .rows) in
-            let r = rest (pageOf o page) first (length (lent n) / 39) in
-            let sum = dots-append (cellsOf piece) left in
-            let f : dotsOf (cellsOf piece ++ left) ≡ dotsOf (cellsOf (drop first (pageOf o page))) = ap dotsOf r in
-            let q = p .dots in
-            (ap (λ (l : List ℕ). l ++ cells) (p .cells) ∙ ap (λ (l : List ℕ). cellsOf piece ++ l) c ∙ r, omega arith)
-        by-test false t =
-            let l = lacks-row first (lent n) (long n) (ltb-false first (length (pageOf o page)) t) in
-            let five : _≡_ {A = ℕ} 0 5 = ap (λ (r : Refusal). r .number) (sym z ∙ ap (λ (p : Punched). p .refusal) l) in
-            absurd (omega arith)
+    one-more n first cells dots z i =
+        cases (ltb first (length (pageOf o page)))
+        (λ t. let p = has-row first (lent n) (long n) (ltb-true first (length (pageOf o page)) t) in
+        let piece = pieceIn page first (lent n) o in
+        let left = cellsOf (drop (first + length piece) (pageOf o page)) in
+        let c : cells ≡ left = i .0 ∙ ap (λ (k : ℕ). cellsOf (drop (first + k) (pageOf o page))) (p .rows) in
+        let d : dots ≡ dotsOf left = i .1 ∙ ap (λ (k : ℕ). dotsOf (cellsOf (drop (first + k) (pageOf o page)))) (p .rows) in
+        let r = rest (pageOf o page) first (length (lent n) / 39) in
+        let sum = dots-append (cellsOf piece) left in
+        let f : dotsOf (cellsOf piece ++ left) ≡ dotsOf (cellsOf (drop first (pageOf o page))) = ap dotsOf r in
+        let q = p .dots in
+        (ap (λ (l : List ℕ). l ++ cells) (p .cells) ∙ ap (λ (l : List ℕ). cellsOf piece ++ l) c ∙ r, omega arith))
+        (λ t. let l = lacks-row first (lent n) (long n) (ltb-false first (length (pageOf o page)) t) in
+        let five : _≡_ {A = ℕ} 0 5 = ap (λ (r : Refusal). r .number) (sym z ∙ ap (λ (p : Punched). p .refusal) l) in
+        absurd (omega arith))
 
     -- calls from any row on have got the rest of the page
     got : {n first dots : ℕ} {cells : List ℕ} → Calls s page lent n first cells dots → Rest first cells dots
@@ -128,16 +114,12 @@ module _ (s : List ℕ) (page : ℕ) (o : Order) (e : readingOf s ≡ Read o) wh
     -- with k rows to go they end
     ends-after : (k n first : ℕ) → length (pageOf o page) ≤ first + k → (cells : List ℕ) × (dots : ℕ) × Calls s page lent n first cells dots
     ends-after zero n first h = ends-here n first (omega arith)
-    ends-after (suc k) n first h = by-test (ltb first (length (pageOf o page))) refl (λ next l. ends-after k (n + 1) next l)
-      where
-        by-test : (b : Bool) → ltb first (length (pageOf o page)) ≡ b
-            → ((next : ℕ) → length (pageOf o page) ≤ next + k → (cells : List ℕ) × (dots : ℕ) × Calls s page lent (n + 1) next cells dots)
-            → (cells : List ℕ) × (dots : ℕ) × Calls s page lent n first cells dots
-        by-test false t go = ends-here n first (ltb-false first (length (pageOf o page)) t)
-        by-test true t go =
-            let p = has-row first (lent n) (long n) (ltb-true first (length (pageOf o page)) t) in
-            let r = go (first + pageWritten page first s (lent n) .rows) (omega (arith, p .some)) in
-            (cellsGot page first s (lent n) ++ r .0, pageWritten page first s (lent n) .dots + r .1, called (p .none) (r .2))
+    ends-after (suc k) n first h =
+        cases (ltb first (length (pageOf o page)))
+        (λ t. let p = has-row first (lent n) (long n) (ltb-true first (length (pageOf o page)) t) in
+        let r = ends-after k (n + 1) (first + pageWritten page first s (lent n) .rows) (omega (arith, p .some)) in
+        (cellsGot page first s (lent n) ++ r .0, pageWritten page first s (lent n) .dots + r .1, called (p .none) (r .2)))
+        (λ t. ends-here n first (ltb-false first (length (pageOf o page)) t))
 
     pub read-ends : (cells : List ℕ) × (dots : ℕ) × Calls s page lent 0 0 cells dots
     read-ends = ends-after (length (pageOf o page)) 0 0 (omega arith)
@@ -150,20 +132,17 @@ module _ (s : List ℕ) (page : ℕ) (o : Order) (e : readingOf s ≡ Read o) wh
 
   whole-got : (whole : List ℕ) → 975 ≤ length whole → Rest 0 (cellsGot page 0 s whole) (pageWritten page 0 s whole .dots)
   unfolding cellsOf dotsOf
-  whole-got whole room = by-test (ltb 0 (length (pageOf o page))) refl
-    where
-      by-test : (b : Bool) → ltb 0 (length (pageOf o page)) ≡ b → Rest 0 (cellsGot page 0 s whole) (pageWritten page 0 s whole .dots)
-      by-test true t =
-          let p = has-row 0 whole (omega arith) (ltb-true 0 (length (pageOf o page)) t) in
-          let w = whole-piece whole room in
-          (p .cells ∙ ap cellsOf w, p .dots ∙ ap (λ (l : Rows). dotsOf (cellsOf l)) w)
-      by-test false t =
-          let h = ltb-false 0 (length (pageOf o page)) t in
-          let l = lacks-row 0 whole (omega arith) h in
-          let d : pageOf o page ≡ [] = drop-of-length-le (pageOf o page) h in (
-            ap (λ (p : Punched). take (39 * p .rows) (pageBuffer page 0 s whole)) l ∙ sym (ap cellsOf d),
-            ap (λ (p : Punched). p .dots) l ∙ sym (ap (λ (l : Rows). dotsOf (cellsOf l)) d),
-          )
+  whole-got whole room =
+      cases (ltb 0 (length (pageOf o page)))
+      (λ t. let p = has-row 0 whole (omega arith) (ltb-true 0 (length (pageOf o page)) t) in
+      let w = whole-piece whole room in
+      (p .cells ∙ ap cellsOf w, p .dots ∙ ap (λ (l : Rows). dotsOf (cellsOf l)) w))
+      (λ t. let h = ltb-false 0 (length (pageOf o page)) t in
+      let l = lacks-row 0 whole (omega arith) h in
+      let d : pageOf o page ≡ [] = drop-of-length-le (pageOf o page) h in (
+        ap (λ (p : Punched). take (39 * p .rows) (pageBuffer page 0 s whole)) l ∙ sym (ap cellsOf d),
+        ap (λ (p : Punched). p .dots) l ∙ sym (ap (λ (l : Rows). dotsOf (cellsOf l)) d),
+      ))
 
   pub read-same : (lent : ℕ → List ℕ) → ((n : ℕ) → 39 ≤ length (lent n)) → (whole : List ℕ) → 975 ≤ length whole
       → {cells : List ℕ} {dots : ℕ} → Calls s page lent 0 0 cells dots → (cells ≡ cellsGot page 0 s whole) × (dots ≡ pageWritten page 0 s whole .dots)
@@ -219,7 +198,7 @@ at-once-as-before s page scratch room = by-reading (readingOf s) refl
         let before = order-read (λ o. pageOf o page) 975 s scratch room o e in
         let w = whole-piece s page o e scratch room in
         record {
-          answer = sym (now .0) ∙ ap answerOf w ∙ before .0;
+          answer = sym (now .0) ∙ ap rowsAnswerOf w ∙ before .0;
           buffer = sym (now .1) ∙ ap (λ (l : Rows). frontOf (cellsOf l) scratch) w ∙ before .1;
         }
     by-reading (Refused r) e =

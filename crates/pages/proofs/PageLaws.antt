@@ -1,10 +1,5 @@
 -- The rows of a page, and those of all pages. Assumes nothing.
-use native.Mathlib.Omega.{arith}
-use Prim.Native.Nat.{ℕ, zero, suc, _+_, _-_, _*_, _≤_, _<_, min}
-use mathlib.Core.Path.{_≡_, refl, sym, ap, subst, _∙_}
-use mathlib.Core.List.{List, [], _∷_, _++_}
-use lib.ListN.{length, take, drop, drop-of-length-le}
-use lib.Seq.{take-all, take-add, take-nil}
+use Rattle.prelude.proofs.Logic.{_≡_, refl, sym, ap, subst, _∙_, List, [], _∷_, _++_, ℕ, zero, suc, _+_, _-_, _*_, _≤_, _<_, min, arith, length, take, drop, drop-of-length-le, take-all, take-add, take-nil}
 use Rattle.braille.specs.Braille.{SixDots}
 use Rattle.order.specs.declared.reading.Order.{Order}
 use Rattle.pages.specs.Pages.{Rows, rowsFrom, rowsOf, cellsOf, pageOf, pieceOf, pageCount, pagesCells, allCells}

@@ -1,9 +1,5 @@
 -- What the reports print, and that it fits. Assumes nothing.
-use native.Mathlib.Omega.{arith}
-use Prim.Native.Nat.{ℕ, _+_, _-_, _*_, _≤_}
-use mathlib.Core.Path.{_≡_, refl, sym, ap, _∙_}
-use mathlib.Core.List.{List, [], _++_}
-use lib.ListN.{length, length-append}
+use Rattle.prelude.proofs.Logic.{_≡_, refl, sym, ap, _∙_, List, [], _++_, ℕ, _+_, _-_, _*_, _≤_, arith, length, length-append}
 use Rattle.braille.specs.Braille.{dotsOf}
 use Rattle.braille.specs.Cells.{rowLength}
 use Rattle.lines.proofs.LinesLaws.{refused-length}

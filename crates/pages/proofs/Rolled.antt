@@ -1,17 +1,11 @@
 -- Rows that roll, and their cells behind one another. Assumes nothing.
-use native.Mathlib.Omega.{arith}
-use Prim.Native.Nat.{ℕ, _+_, _-_, _*_, _≤_, _<_}
-use mathlib.Core.Path.{_≡_, refl, sym, ap, _∙_}
-use mathlib.Core.List.{List, [], _∷_, _++_, append-nil}
-use lib.ListN.{length}
-use mir.Syntax.{w32}
-use mir.Val.{SFits}
+use Rattle.prelude.proofs.Logic.{_≡_, refl, sym, ap, _∙_, List, [], _∷_, _++_, append-nil, ℕ, _+_, _-_, _*_, _≤_, _<_, arith, length, w32, SFits}
 use Rattle.braille.proofs.Bits.{dots-bound}
 use Rattle.braille.proofs.Parts.{row-length}
 use Rattle.braille.specs.Braille.{dotsOf}
 use Rattle.braille.specs.Cells.{rowLength, rowCells}
 use Rattle.calendar.specs.Answers.{rowDateOf}
-use Rattle.calls.proofs.RowStates.{stateOf, workedFrom, state-worked}
+use Rattle.calls.proofs.RowStates.{stateOf, workedBySuns, state-worked}
 use Rattle.calls.specs.Calls.{workRowOf}
 use Rattle.integers.proofs.Ranges.{fits}
 use Rattle.order.specs.Accepted.{Accepted}
@@ -30,55 +24,60 @@ clock-fits o a = let n = a .clock in fits w32 (o .clock) (omega (arith, n .from,
 
 -- the cells that a row's suns give
 abbrev pub madeRow : Order → RowSuns → List ℕ
-madeRow o suns = rowCells (suns .date) (workedFrom o suns) (o .clock)
+madeRow o suns = rowCells (suns .date) (workedBySuns o suns) (o .clock)
 
 state-row : (o : Order) → Accepted o → (k : ℕ) → k < o .rows → madeRow o (stateOf o k) ≡ rowOf o k
 unfolding rowSunsOf
 state-row o a k h = ap (λ (w : Worked). rowCells (rowDateOf (o .date) k) w (o .clock)) (state-worked o a k h)
 
 -- the cells from row `row` to before `next`
-abbrev pub doneOf : Order → ℕ → ℕ → List ℕ
-doneOf o row next = cellsOf (rowsFrom o row (next - row))
+abbrev pub cellsBefore : Order → ℕ → ℕ → List ℕ
+cellsBefore o row next = cellsOf (rowsFrom o row (next - row))
 
 -- Before a row its suns are there, the cells of those before it and their dots.
 pub record Run (o : Order) (row end : ℕ) (buffer now : List ℕ) (suns : RowSuns) (next dots : ℕ) : Type 0 where
   pub from : row ≤ next
   pub within : next < end
   pub state : suns ≡ stateOf o next
-  pub cells : now ≡ frontOf (doneOf o row next) buffer
-  pub punched : dots ≡ dotsOf (doneOf o row next)
+  pub cells : now ≡ frontOf (cellsBefore o row next) buffer
+  pub punched : dots ≡ dotsOf (cellsBefore o row next)
   pub same : length now ≡ length buffer
+
+-- behind a row: the cells up to it, their dots, and that these are not many
+abbrev pub Behind : Order → ℕ → List ℕ → ℕ → List ℕ → ℕ → Type 0
+Behind o row buffer next now dots =
+    (now ≡ frontOf (cellsBefore o row next) buffer) × (dots ≡ dotsOf (cellsBefore o row next)) × (dots ≤ 6 * (rowLength * (next - row)))
 
 module _ (o : Order) (row : ℕ) where
   -- no row yet
-  pub done-none : (buffer : List ℕ) → (buffer ≡ frontOf (doneOf o row row) buffer) × (0 ≡ dotsOf (doneOf o row row))
+  pub done-none : (buffer : List ℕ) → (buffer ≡ frontOf (cellsBefore o row row) buffer) × (0 ≡ dotsOf (cellsBefore o row row))
   unfolding cellsOf rowsFrom dotsOf
   done-none buffer =
       let e : row - row ≡ 0 = omega arith in
       (rw e refl, rw e refl)
 
-  done-next : (next : ℕ) → row ≤ next → doneOf o row next ++ rowOf o next ≡ doneOf o row (next + 1)
+  done-next : (next : ℕ) → row ≤ next → cellsBefore o row next ++ rowOf o next ≡ cellsBefore o row (next + 1)
   unfolding cellsOf
   done-next next h =
       let e : next - row + 1 ≡ next + 1 - row = omega arith in
       let f : row + (next - row) ≡ next = omega arith in
-      ap (λ (l : List ℕ). doneOf o row next ++ l) (sym (append-nil (rowOf o next)))
-      ∙ ap (λ (j : ℕ). doneOf o row next ++ cellsOf (rowOf o j ∷ [])) (sym f)
+      ap (λ (l : List ℕ). cellsBefore o row next ++ l) (sym (append-nil (rowOf o next)))
+      ∙ ap (λ (j : ℕ). cellsBefore o row next ++ cellsOf (rowOf o j ∷ [])) (sym f)
       ∙ sym (cells-append (rowsFrom o row (next - row)) (rowOf o (row + (next - row)) ∷ []))
       ∙ ap cellsOf (sym (rows-next o row (next - row)))
       ∙ ap (λ (j : ℕ). cellsOf (rowsFrom o row j)) e
 
   -- the dots of an order's rows fit
-  pub done-dots : (next : ℕ) → dotsOf (doneOf o row next) ≤ 6 * (rowLength * (next - row))
+  done-dots : (next : ℕ) → dotsOf (cellsBefore o row next) ≤ 6 * (rowLength * (next - row))
   done-dots next =
-      let b = dots-bound (doneOf o row next) in
+      let b = dots-bound (cellsBefore o row next) in
       let l = cells-length o row (next - row) in
       omega arith
 
   module _ (end : ℕ) (a : Accepted o) (most : end ≤ o .rows) (buffer : List ℕ) (room : rowLength * (end - row) ≤ length buffer) where
     pub run-row : (now : List ℕ) (suns : RowSuns) (next dots : ℕ) → Run o row end buffer now suns next dots
         → (cells after : List ℕ) (n at : ℕ) → cells ≡ madeRow o suns → n ≡ dotsOf cells → at ≡ rowLength * (next - row) → after ≡ putOf now at cells
-        → (after ≡ frontOf (doneOf o row (next + 1)) buffer) × (dots + n ≡ dotsOf (doneOf o row (next + 1)))
+        → Behind o row buffer (next + 1) after (dots + n)
     run-row now suns next dots s cells after n at m q t p =
         let w = s .within in
         let from = s .from in
@@ -86,11 +85,13 @@ module _ (o : Order) (row : ℕ) where
         let e : cells ≡ rowOf o next = m ∙ ap (madeRow o) (s .state) ∙ state-row o a next (omega arith) in
         let r = row-length (rowDateOf (o .date) next) (workRowOf o next) (o .clock) in
         let j = done-next next from in
-        let d = dots-append (doneOf o row next) (rowOf o next) in
-        let f : dotsOf (doneOf o row next ++ rowOf o next) ≡ dotsOf (doneOf o row (next + 1)) = ap dotsOf j in
+        let d = dots-append (cellsBefore o row next) (rowOf o next) in
+        let f : dotsOf (cellsBefore o row next ++ rowOf o next) ≡ dotsOf (cellsBefore o row (next + 1)) = ap dotsOf j in
         let g : n ≡ dotsOf (rowOf o next) = q ∙ ap dotsOf e in
-        let u = s .punched in (
-          put-next buffer (doneOf o row next) (rowOf o next) now after at (s .cells) (t ∙ sym l) (p ∙ ap (putOf now at) e) (omega arith)
+        let u = s .punched in
+        let most-dots = done-dots (next + 1) in (
+          put-next buffer (cellsBefore o row next) (rowOf o next) now after at (s .cells) (t ∙ sym l) (p ∙ ap (putOf now at) e) (omega arith)
               ∙ ap (λ (x : List ℕ). frontOf x buffer) j,
+          omega arith,
           omega arith,
         )

@@ -1,13 +1,8 @@
 -- The rows of an order as a list, and their cells. Assumes nothing.
-use native.Mathlib.Omega.{arith}
-use native.Mathlib.Numerals.{add-one}
-use Prim.Native.Nat.{ℕ, zero, suc, _+_, _-_, _*_, min}
-use mathlib.Core.Path.{_≡_, refl, sym, ap, _∙_}
-use mathlib.Core.List.{List, [], _∷_, _++_, append-assoc}
-use lib.ListN.{length, take, drop, length-append}
+use Rattle.prelude.proofs.Logic.{_≡_, refl, sym, ap, _∙_, List, [], _∷_, _++_, append-assoc, ℕ, zero, suc, _+_, _-_, _*_, min, add-one, arith, length, take, drop, length-append}
 use Rattle.braille.proofs.Bits.{six-append, row-six}
 use Rattle.braille.proofs.Parts.{row-length}
-use Rattle.braille.specs.Braille.{dotsIn, dotsOf, SixDots}
+use Rattle.braille.specs.Braille.{dotsOf, SixDots}
 use Rattle.braille.specs.Cells.{rowLength}
 use Rattle.calendar.specs.Answers.{rowDateOf}
 use Rattle.calls.specs.Calls.{workRowOf}

@@ -25,12 +25,12 @@ abbrev pub refusedOf : Refusal → Punched
 refusedOf r = record { refusal = r; rows = 0; dots = 0 }
 
 -- "a page that the order lacks gets 5 with place 3", and so does a row
-unfoldable pub answerOf : Rows → Punched
-answerOf [] = refusedOf lacksRow
-answerOf (row ∷ rows) = punchedOf (row ∷ rows)
+unfoldable pub rowsAnswerOf : Rows → Punched
+rowsAnswerOf [] = refusedOf lacksRow
+rowsAnswerOf (row ∷ rows) = punchedOf (row ∷ rows)
 
 unfoldable pub answerIn : (Order → Rows) → Reading → Punched
-answerIn asked (reading.Read o) = answerOf (asked o)
+answerIn asked (reading.Read o) = rowsAnswerOf (asked o)
 answerIn asked (reading.Refused r) = refusedOf r
 
 -- "Here and later, bytes of a lent buffer after what is written stay"; where the call is refused, all of them do
@@ -39,8 +39,8 @@ frontIn asked (reading.Read o) buffer = frontOf (cellsOf (asked o)) buffer
 frontIn asked (reading.Refused r) buffer = buffer
 
 -- a call on an order's bytes that asks for some of its rows, and takes a buffer of some length at least: 9 before anything else
-unfoldable pub writtenOf : (Order → Rows) → ℕ → List ℕ → List ℕ → Punched
-writtenOf asked least s buffer = cond (ltb (length buffer) least) (refusedOf (refusal bufferShort 0)) (answerIn asked (readingOf s))
+unfoldable pub punchedInOf : (Order → Rows) → ℕ → List ℕ → List ℕ → Punched
+punchedInOf asked least s buffer = cond (ltb (length buffer) least) (refusedOf (refusal bufferShort 0)) (answerIn asked (readingOf s))
 
 unfoldable pub bufferOf : (Order → Rows) → ℕ → List ℕ → List ℕ → List ℕ
 bufferOf asked least s buffer = cond (ltb (length buffer) least) buffer (frontIn asked (readingOf s) buffer)
@@ -50,7 +50,7 @@ unfoldable pub oneRow : ℕ → Order → Rows
 oneRow row o = cond (ltb row (o .rows)) (rowOf o row ∷ []) []
 
 abbrev pub rowWritten : ℕ → List ℕ → List ℕ → Punched
-rowWritten row = writtenOf (oneRow row) rowLength
+rowWritten row = punchedInOf (oneRow row) rowLength
 
 abbrev pub rowBuffer : ℕ → List ℕ → List ℕ → List ℕ
 rowBuffer row = bufferOf (oneRow row) rowLength
@@ -61,7 +61,7 @@ abbrev pub pieceIn : ℕ → ℕ → List ℕ → Order → Rows
 pieceIn page first scratch o = pieceOf (pageOf o page) first (length scratch / rowLength)
 
 abbrev pub pageWritten : ℕ → ℕ → List ℕ → List ℕ → Punched
-pageWritten page first s scratch = writtenOf (pieceIn page first scratch) rowLength s scratch
+pageWritten page first s scratch = punchedInOf (pieceIn page first scratch) rowLength s scratch
 
 abbrev pub pageBuffer : ℕ → ℕ → List ℕ → List ℕ → List ℕ
 pageBuffer page first s scratch = bufferOf (pieceIn page first scratch) rowLength s scratch

@@ -10,7 +10,7 @@ use Rattle.order.specs.declared.reading.Order.{Order}
 use Rattle.order.specs.declared.reading.Reading.the-variants.{Read}
 use Rattle.order.specs.Reading.{readingOf}
 use Rattle.refusals.specs.Refusals.{noRefusal}
-use Rattle.pages.specs.Answers.{writtenOf, bufferOf, pageWritten, pageBuffer}
+use Rattle.pages.specs.Answers.{punchedInOf, bufferOf, pageWritten, pageBuffer}
 use Rattle.pages.specs.Pages.{pageRows, pageOf}
 
 -- a scratch that a whole page fits
@@ -43,7 +43,7 @@ PiecesAreThePage =
 
 -- a call from row 0 on is what the page call was before request 9: the whole page, every byte of the scratch, and every refusal
 pub record AsBefore (s : List ℕ) (page : ℕ) (scratch : List ℕ) : Type 0 where
-  pub answer : pageWritten page 0 s scratch ≡ writtenOf (λ o. pageOf o page) pageLength s scratch
+  pub answer : pageWritten page 0 s scratch ≡ punchedInOf (λ o. pageOf o page) pageLength s scratch
   pub buffer : pageBuffer page 0 s scratch ≡ bufferOf (λ o. pageOf o page) pageLength s scratch
 
 -- with a scratch of 975 bytes or more

@@ -6,7 +6,7 @@ ghost use Rattle.braille.specs.Cells.{rowLength};
 ghost use Rattle.order.specs.Accepted.{Accepted};
 ghost use Rattle.text.specs.Text.{frontOf};
 ghost use Rattle.pages.specs.Pages.{cellsOf, pageOf};
-ghost use Rattle.pages.specs.Answers.{answerOf, pieceIn, pageWritten, pageBuffer};
+ghost use Rattle.pages.specs.Answers.{rowsAnswerOf, pieceIn, pageWritten, pageBuffer};
 use super::answer::Punched;
 use super::rows::write_rows;
 use braille::row::ROW_CELLS;
@@ -47,7 +47,7 @@ fn least(room: usize, left: u32) -> u32
 
 fn write_read(scratch: &mut [u8], order: Order, page: u32, first: u32) -> Punched
     requires { ⌜ Accepted order × (rowLength ≤ length (now scratch)) ⌝ }
-    ensures { λ r. ⌜ r ≡ answerOf (pieceIn page first (now (scratch .entry)) order) ⌝ }
+    ensures { λ r. ⌜ r ≡ rowsAnswerOf (pieceIn page first (now (scratch .entry)) order) ⌝ }
     ensures { λ _. ⌜ now (scratch .exit) ≡ frontOf (cellsOf (pieceIn page first (now (scratch .entry)) order)) (now (scratch .entry)) ⌝ }
 {
     let count = rows_on(order, page);

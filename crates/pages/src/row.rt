@@ -6,7 +6,7 @@ ghost use Rattle.braille.specs.Cells.{rowLength};
 ghost use Rattle.order.specs.Accepted.{Accepted};
 ghost use Rattle.text.specs.Text.{frontOf};
 ghost use Rattle.pages.specs.Pages.{cellsOf};
-ghost use Rattle.pages.specs.Answers.{oneRow, answerOf, rowWritten, rowBuffer};
+ghost use Rattle.pages.specs.Answers.{oneRow, rowsAnswerOf, rowWritten, rowBuffer};
 use super::answer::Punched;
 use super::rows::write_rows;
 use braille::row::ROW_CELLS;
@@ -19,7 +19,7 @@ use refusals::Refusal;
 
 fn write_read(buffer: &mut [u8], order: Order, row: u32) -> Punched
     requires { ⌜ Accepted order × (rowLength ≤ length (now buffer)) ⌝ }
-    ensures { λ r. ⌜ r ≡ answerOf (oneRow row order) ⌝ }
+    ensures { λ r. ⌜ r ≡ rowsAnswerOf (oneRow row order) ⌝ }
     ensures { λ _. ⌜ now (buffer .exit) ≡ frontOf (cellsOf (oneRow row order)) (now (buffer .entry)) ⌝ }
 {
     if row < order.rows {

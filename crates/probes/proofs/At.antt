@@ -1,9 +1,5 @@
 -- What is asked of times at an instant, where both come as an export's arguments. Assumes nothing.
-use mathlib.Core.Path.{_≡_, ap, _∙_}
-use Prim.Native.Nat.{ℕ}
-use lib.IntN.{ℤ}
-use mir.Syntax.{w64}
-use mir.Val.{SFits}
+use Rattle.prelude.proofs.Logic.{_≡_, ap, _∙_, ℕ, ℤ, w64, SFits}
 use Rattle.integers.proofs.Ranges.{readBack, read}
 use Rattle.schedule.specs.declared.in_force.Instant.{Instant}
 use Rattle.schedule.specs.declared.prayer_times.PrayerTimes.{PrayerTimes}

@@ -5,8 +5,6 @@ use lib.IntN.{ℤ, pos}
 use Rattle.models.specs.Minutes.{sixMinutesOf}
 use Rattle.models.specs.Numbers.{methodOf, methodNumberOf, madhabOf, madhabNumberOf, ruleOf, ruleNumberOf, roundingOf, roundingNumberOf, shafaqOf, shafaqNumberOf, midnightOf, southernOf}
 use Rattle.models.specs.Presets.{presetOf}
-use Rattle.calendar.specs.declared.dates.Date.{Date}
-use Rattle.unit.specs.declared.Coordinates.{Coordinates}
 use Rattle.models.specs.declared.adjustments.TimeAdjustment.{TimeAdjustment}
 use Rattle.models.specs.declared.parameters.Parameters.{Parameters}
 use Rattle.models.specs.declared.rules.Rules.{Rules}
@@ -29,8 +27,8 @@ use Rattle.probes.specs.declared.days.ProbeRemaining.{ProbeRemaining}
 abbrev pub sunOf : ProbeSun → HourNumbers
 sunOf s = record { transit = s .transit; sunrise = s .sunrise; sunset = s .sunset }
 
-abbrev pub rowOf : ProbeNumbers → RowNumbers
-rowOf n = record { today = sunOf (n .today); tomorrow = sunOf (n .tomorrow); after = sunOf (n .after); fajr = n .fajr; asr = n .asr; isha = n .isha; «fajr_tomorrow» = n .«fajr_tomorrow» }
+abbrev pub rowNumbersOf : ProbeNumbers → RowNumbers
+rowNumbersOf n = record { today = sunOf (n .today); tomorrow = sunOf (n .tomorrow); after = sunOf (n .after); fajr = n .fajr; asr = n .asr; isha = n .isha; «fajr_tomorrow» = n .«fajr_tomorrow» }
 
 abbrev pub minutesFrom : ProbeSettings → TimeAdjustment
 minutesFrom s = sixMinutesOf (s .fajr) (s .sunrise) (s .dhuhr) (s .asr) (s .maghrib) (s .isha)

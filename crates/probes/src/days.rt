@@ -7,7 +7,7 @@ ghost use Rattle.unit.specs.Unit.{coordinatesOf};
 ghost use Rattle.schedule.specs.Hours.{hoursOf};
 ghost use Rattle.schedule.specs.Times.{seasonOf, workedOf, workedAt};
 ghost use Rattle.schedule.specs.InForce.{currentTimeOf, currentNumberOf, nextOf, timeRemainingOf};
-ghost use Rattle.probes.specs.Days.{sunOf, rowOf, minutesFrom, parametersFrom, rulesFrom, settingsOf, probeTimesOf, noTimes, probeDayOf, timesFrom, instantFrom, probeRemainingOf};
+ghost use Rattle.probes.specs.Days.{sunOf, rowNumbersOf, minutesFrom, parametersFrom, rulesFrom, settingsOf, probeTimesOf, noTimes, probeDayOf, timesFrom, instantFrom, probeRemainingOf};
 use calendar::dates::Date;
 use models::adjustments::TimeAdjustment;
 use models::high_altitude_rule::HighLatitudeRule;
@@ -104,7 +104,7 @@ fn sun(s: ProbeSun) -> HourNumbers
 }
 
 fn row(n: ProbeNumbers) -> RowNumbers
-    ensures { λ r. ⌜ r ≡ rowOf n ⌝ }
+    ensures { λ r. ⌜ r ≡ rowNumbersOf n ⌝ }
 {
     let today = n.today;
     let tomorrow = n.tomorrow;
@@ -253,7 +253,7 @@ pub extern "C" fn probe_day(
     settings: ProbeSettings,
     chosen: ProbeRules,
 ) -> ProbeDay
-    ensures { λ r. ⌜ r ≡ probeDayOf (workedOf (hoursOf (rulesFrom chosen .midnight) (rowOf numbers)) (dateOf year month day) (seasonOf latitude (rulesFrom chosen)) (parametersFrom settings)) ⌝ }
+    ensures { λ r. ⌜ r ≡ probeDayOf (workedOf (hoursOf (rulesFrom chosen .midnight) (rowNumbersOf numbers)) (dateOf year month day) (seasonOf latitude (rulesFrom chosen)) (parametersFrom settings)) ⌝ }
 {
     answered(PrayerTimes::new(
         row(numbers),

@@ -13,20 +13,17 @@ ghost use Rattle.calendar.specs.Gregorian.{dateOf};
 ghost use Rattle.unit.specs.Unit.{angleOf, coordinatesOf};
 ghost use Rattle.solar.specs.Hours.{angleNumberOf, afternoonNumberOf};
 ghost use Rattle.solar.specs.Shared.{dateCourseOf};
-ghost use Rattle.models.specs.Numbers.{shafaqOf, midnightOf, southernOf};
-ghost use Rattle.ops.specs.Season.{daysSinceSolsticeOf, daysByRule, seasonAdjustedMorningTwilightOf, seasonAdjustedEveningTwilightOf};
+ghost use Rattle.models.specs.Numbers.{shafaqOf, midnightOf};
+ghost use Rattle.ops.specs.Season.{daysSinceSolsticeOf, seasonAdjustedMorningTwilightOf, seasonAdjustedEveningTwilightOf};
 ghost use Rattle.solar.specs.Setting.{settingHourOf};
 ghost use Rattle.solar.specs.Times.{solarHourOf};
 ghost use Rattle.probes.specs.Functions.{probeSunOf, probeHoursOf, probeTimeOf};
 use calendar::dates::Date;
 use models::rules::Midnight;
-use models::rules::Season;
-use models::rules::Southern;
 use models::shafaq::Shafaq;
 use ops::season::days_since_solstice;
 use ops::season::season_adjusted_evening_twilight;
 use ops::season::season_adjusted_morning_twilight;
-use ops::season::season_days;
 use ops::transit::Course;
 use solar::hours::afternoon_number;
 use solar::hours::angle_number;
@@ -274,22 +271,6 @@ pub extern "C" fn probe_days_since_solstice(day: u32, year: u32, latitude: f64) 
     ensures { λ r. ⌜ r ≡ daysSinceSolsticeOf day year latitude ⌝ }
 {
     days_since_solstice(day, year, latitude)
-}
-
-// The rule for the south by its number.
-#[no_mangle]
-pub extern "C" fn probe_season_days(southern: u32, day: u32, year: u32, latitude: f64) -> u32
-    ensures { λ r. ⌜ r ≡ daysByRule (southernOf southern) latitude day year ⌝ }
-{
-    let rule = Southern::of_number(southern);
-    season_days(
-        Season {
-            latitude: latitude,
-            southern: rule,
-        },
-        day,
-        year,
-    )
 }
 
 #[no_mangle]

@@ -1,18 +1,10 @@
 -- The arrays and the list of jobs: `shown`, a list comes back from its arrays; what the parts of the code make, as lists. Assumes nothing.
-use mathlib.Core.Path.{_≡_, refl, sym, ap, _∙_}
-use mathlib.Core.Bool.{Bool, _||_}
-use mathlib.Core.List.{List, [], _∷_, _++_, map}
-use Prim.Native.Nat.{ℕ, suc, _-_, _≤_, _<_}
-use native.Mathlib.Omega.{arith}
-use lib.Dec.{ltb, eqb, lit≤}
-use lib.ListN.{length, getD, set, replicate, length-append, length-map}
-use lib.Seq.{slice, slice-cons, length-slice, take-at}
-use borrow.Author.Tests.{ltb-true, ltb-false}
+use Rattle.prelude.proofs.Logic.{_≡_, refl, sym, ap, _∙_, Bool, _||_, List, [], _∷_, _++_, map, ℕ, suc, _-_, _≤_, _<_, arith, ltb, eqb, lit≤, length, getD, set, replicate, length-append, length-map, slice, slice-cons, length-slice, take-at, ltb-true, ltb-false}
+use Rattle.prelude.proofs.Cases.{arms}
 use Rattle.queue.specs.declared.Queue.{Queue}
-use Rattle.queue.specs.Jobs.{Job, job, waits, atBack, most}
+use Rattle.queue.specs.Jobs.{Job, job, waits, atBack, mostJobs}
 use Rattle.queue.specs.Arrays.{counted, paired, jobsIn, jobsOf, padded, idOf, pagesOf, queueOf}
 use Rattle.queue.specs.Parts.{among, withLast}
-use Rattle.queue.proofs.Steps.{arms}
 use Rattle.queue.proofs.Lists.{padded-more}
 
 -- both arrays have their length, as the arrays of every queue of the code do
@@ -89,10 +81,10 @@ last-jobs l id pages h = rw (last-of idOf l (job id pages), last-of pagesOf l (j
 
 -- ---- a list comes back from its arrays
 pub counted-small : (n : ℕ) → n ≤ 16 → counted n ≡ n
-counted-small n h = arms (λ (x : ℕ). x ≡ n) (ltb n most) n most (λ t. refl) (λ t. omega (arith, ltb-false n most t))
+counted-small n h = arms (λ (x : ℕ). x ≡ n) (ltb n mostJobs) (λ t. refl) (λ t. omega (arith, ltb-false n mostJobs t))
 
 pub counted-most : (n : ℕ) → counted n ≤ 16
-counted-most n = arms (λ (x : ℕ). x ≤ 16) (ltb n most) n most (λ t. omega (arith, ltb-true n most t)) (λ t. lit≤ tt)
+counted-most n = arms (λ (x : ℕ). x ≤ 16) (ltb n mostJobs) (λ t. omega (arith, ltb-true n mostJobs t)) (λ t. lit≤ tt)
 
 padded-take : (l : List ℕ) (n : ℕ) → length l ≡ n → slice 0 n (padded l) ≡ l
 padded-take l n e = take-at l (replicate (16 - length l) 0) n e

@@ -1,16 +1,9 @@
 -- Each answer of the code is the definition's, in the case that its tests show. Assumes nothing.
-use mathlib.Core.Path.{_≡_, refl, sym, _∙_}
-use mathlib.Core.Bool.{true, false}
-use mathlib.Core.List.{List, _∷_}
-use Prim.Native.Nat.{ℕ, _-_, _≤_, _<_}
-use native.Mathlib.Omega.{arith}
-use lib.ListN.{length, getD}
-use lib.Seq.{slice}
-use borrow.Author.Tests.{lt-ltb, le-ltb}
+use Rattle.prelude.proofs.Logic.{_≡_, refl, sym, _∙_, true, false, List, _∷_, ℕ, _-_, _≤_, _<_, arith, length, getD, slice, lt-ltb, le-ltb}
 use Rattle.queue.specs.declared.Queue.{Queue}
 use Rattle.queue.specs.declared.Joined.{Joined}
 use Rattle.queue.specs.declared.Turned.{Turned}
-use Rattle.queue.specs.Jobs.{Job, job, Step, most, proper, admits, joinOf, turnOf}
+use Rattle.queue.specs.Jobs.{Job, job, QueueStep, mostJobs, proper, admits, joinOf, turnOf}
 use Rattle.queue.specs.Arrays.{counted, jobsIn, jobsOf, queueOf, refusalIn, heldAfter, joinedOf, turnedOf}
 use Rattle.queue.specs.Parts.{among, withLast}
 use Rattle.refusals.specs.Refusals.{refusal, noRefusal, queueFull, jobUnfit}
@@ -18,13 +11,13 @@ use Rattle.queue.proofs.Steps.{join-cases}
 use Rattle.queue.proofs.Abstraction.{Whole, counted-most, jobs-length, jobs-waits, jobs-first, last-jobs}
 
 -- ---- joins of a list of jobs
-admitted-when : (l : List Job) (id pages : ℕ) → refusalIn (joinOf l id pages .event) .number ≡ 0 → (length l < most) × (joinOf l id pages ≡ admits l id pages)
+admitted-when : (l : List Job) (id pages : ℕ) → refusalIn (joinOf l id pages .event) .number ≡ 0 → (length l < mostJobs) × (joinOf l id pages ≡ admits l id pages)
 admitted-when l id pages =
-    join-cases (λ (s : Step). refusalIn (s .event) .number ≡ 0 → (length l < most) × (s ≡ admits l id pages)) l id pages (λ n o h. absurd (omega arith)) (λ r v k h. (k, refl))
+    join-cases (λ (s : QueueStep). refusalIn (s .event) .number ≡ 0 → (length l < mostJobs) × (s ≡ admits l id pages)) l id pages (λ n o h. absurd (omega arith)) (λ r v k h. (k, refl))
 
 kept-when : (q : Queue) (l : List Job) (id pages : ℕ) → (refusalIn (joinOf l id pages .event) .number ≡ 0 → ⊥) → heldAfter q (joinOf l id pages .event) (joinOf l id pages .queue) ≡ q
 kept-when q l id pages =
-    join-cases (λ (s : Step). (refusalIn (s .event) .number ≡ 0 → ⊥) → heldAfter q (s .event) (s .queue) ≡ q) l id pages (λ n o h. refl) (λ r v k h. absurd (h refl))
+    join-cases (λ (s : QueueStep). (refusalIn (s .event) .number ≡ 0 → ⊥) → heldAfter q (s .event) (s .queue) ≡ q) l id pages (λ n o h. refl) (λ r v k h. absurd (h refl))
 
 pub join-refused : (q : Queue) (id pages : ℕ) → (refusalIn (joinOf (jobsOf q) id pages .event) .number ≡ 0 → ⊥)
     → _≡_ {A = Joined} (record { refusal = refusalIn (joinOf (jobsOf q) id pages .event); queue = q }) (joinedOf q id pages)

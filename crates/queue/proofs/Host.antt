@@ -1,17 +1,9 @@
 -- A host's calls do to its arrays what the steps do to the list, so what holds of every history holds of what a host keeps and is told: `hosts-hold-the-queue`,
 -- `hosts-keep-pages`, `hosts-turn-fairly`. Assumes nothing.
-use mathlib.Core.Path.{_≡_, refl, sym, ap, _∙_}
-use mathlib.Core.Bool.{cond}
-use mathlib.Core.List.{List, [], _∷_, _++_, map}
-use Prim.Native.Nat.{ℕ, zero, suc, _+_, _-_, _<_}
-use native.Mathlib.Omega.{arith}
-use lib.Dec.{eqb}
-use lib.ListN.{length, getD, take, drop, replicate, length-map, List·getD-append, List·getD-map}
-use lib.Seq.{split-at, length-take-le}
-use borrow.Author.Tests.{ne-eqb}
+use Rattle.prelude.proofs.Logic.{_≡_, refl, sym, ap, _∙_, cond, List, [], _∷_, _++_, map, ℕ, zero, suc, _+_, _-_, _<_, arith, eqb, length, getD, take, drop, replicate, length-map, List·getD-append, List·getD-map, split-at, length-take-le, ne-eqb}
 use Rattle.queue.specs.declared.Joined.{Joined}
 use Rattle.queue.specs.declared.Turned.{Turned}
-use Rattle.queue.specs.Jobs.{Job, job, less, admitted, refused, sent, Step, joinOf, turnOf}
+use Rattle.queue.specs.Jobs.{Job, job, less, admitted, refused, sent, QueueStep, joinOf, turnOf}
 use Rattle.queue.specs.History.{Call, join, turn, stepOf, after, events, turns, everyId, pagesLeft, Sound}
 use Rattle.queue.specs.Arrays.{padded, idOf, pagesOf, queueOf, sentIn, joinedBy, joinedOf, turnedBy, turnedOf}
 use Rattle.queue.specs.Host.{heldAfterOne, heldAfterAll, told, toldAll, total}
@@ -35,7 +27,7 @@ one-held : (l : List Job) (c : Call) → Sound l → heldAfterOne (queueOf l) c 
 unfolding turnOf
 one-held l (join id pages) s =
     ap (λ (t : Joined). t .queue) (join-shown l id pages s)
-    ∙ join-cases (λ (x : Step). joinedBy (queueOf l) x .queue ≡ queueOf (x .queue)) l id pages (λ n o. refl) (λ r w k. refl)
+    ∙ join-cases (λ (x : QueueStep). joinedBy (queueOf l) x .queue ≡ queueOf (x .queue)) l id pages (λ n o. refl) (λ r w k. refl)
 one-held [] turn s = ap (λ (t : Turned). t .queue) (turn-shown [] s)
 one-held (j ∷ l) turn s = ap (λ (t : Turned). t .queue) (turn-shown (j ∷ l) s)
 
@@ -43,7 +35,7 @@ one-told : (l : List Job) (c : Call) → Sound l → told (queueOf l) c ≡ step
 unfolding turnOf
 one-told l (join id pages) s =
     rw (join-shown l id pages s)
-    (join-cases (λ (x : Step). cond (eqb (joinedBy (queueOf l) x .refusal .number) 0) (admitted (job id pages)) (refused (joinedBy (queueOf l) x .refusal)) ≡ x .event) l id pages
+    (join-cases (λ (x : QueueStep). cond (eqb (joinedBy (queueOf l) x .refusal .number) 0) (admitted (job id pages)) (refused (joinedBy (queueOf l) x .refusal)) ≡ x .event) l id pages
     (λ n o. rw (ne-eqb n 0 (λ e. omega arith))) (λ r w k. refl))
 one-told [] turn s = rw (turn-shown [] s)
 one-told (j ∷ l) turn s = let p = s .proper .0 in rw (turn-shown (j ∷ l) s, ne-eqb (j .id) 0 (λ e. omega arith))

@@ -1,13 +1,5 @@
 -- Parts of lists, padded with zeros: what the loops of `part` and `is_among` keep. Assumes nothing.
-use mathlib.Core.Path.{_≡_, sym, _∙_}
-use mathlib.Core.Bool.{_||_}
-use mathlib.Core.List.{List, [], _∷_, _++_, append-assoc}
-use Prim.Native.Nat.{ℕ, suc, _+_, _-_, _≤_, _<_}
-use native.Mathlib.Numerals.{add-one}
-use native.Mathlib.Omega.{arith}
-use lib.Dec.{eqb}
-use lib.ListN.{length, getD, take, set, replicate, length-append}
-use lib.Seq.{slice, slice-cons, length-slice, take-suc, drop-append-le, length-take-le, set-append-seam}
+use Rattle.prelude.proofs.Logic.{_≡_, sym, _∙_, _||_, List, [], _∷_, _++_, append-assoc, ℕ, suc, _+_, _-_, _≤_, _<_, add-one, arith, eqb, length, getD, take, set, replicate, length-append, slice, slice-cons, length-slice, take-suc, drop-append-le, length-take-le, set-append-seam}
 use Rattle.queue.specs.Arrays.{padded}
 use Rattle.queue.specs.Parts.{among}
 

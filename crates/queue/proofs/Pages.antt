@@ -1,10 +1,6 @@
 -- `pages-are-kept`, by a law of one step. Assumes nothing.
-use mathlib.Core.Path.{_≡_, refl, sym, ap, _∙_}
-use mathlib.Core.Bool.{Bool, true, false}
-use mathlib.Core.List.{List, [], _∷_}
-use Prim.Native.Nat.{ℕ, _+_, _-_, _≤_}
-use native.Mathlib.Omega.{arith}
-use Rattle.queue.specs.Jobs.{Job, job, less, Step, atBack, turnOf}
+use Rattle.prelude.proofs.Logic.{_≡_, refl, sym, ap, _∙_, Bool, true, false, List, [], _∷_, ℕ, _+_, _-_, _≤_, arith}
+use Rattle.queue.specs.Jobs.{Job, job, less, QueueStep, atBack, turnOf}
 use Rattle.queue.specs.History.{Call, join, turn, stepOf, after, events, Ids, when, admittedBy, sentBy, pagesAdmitted, pagesSent, pagesLeft, Sound}
 use Rattle.queue.specs.Promises.{PagesAreKept}
 use Rattle.queue.proofs.Steps.{join-cases, turn-cases}
@@ -23,7 +19,7 @@ left-more of [] j = omega arith
 left-more of (x ∷ q) j = let e = left-more of q j in omega arith
 
 -- what a step sends and leaves is what was left and what it admits
-abbrev Kept : Ids → List Job → Step → Type 0
+abbrev Kept : Ids → List Job → QueueStep → Type 0
 Kept of q s = sentBy of (s .event) + pagesLeft of (s .queue) ≡ pagesLeft of q + admittedBy of (s .event)
 
 step-kept : (of : Ids) (q : List Job) (c : Call) → Sound q → Kept of q (stepOf q c)

@@ -1,15 +1,10 @@
 -- `jobs-leave-when-sent`: while an id waits it is not admitted again, so what is sent of it and left of it is what it joined with. Assumes nothing.
-use mathlib.Core.Path.{_≡_, refl, sym, ap, _∙_}
-use mathlib.Core.Bool.{Bool, true, false, true≢false, false≢true, _||_}
-use mathlib.Core.List.{List, [], _∷_}
-use Prim.Native.Nat.{ℕ, _+_, _≤_}
-use native.Mathlib.Omega.{arith}
-use lib.Dec.{eqb, ltb}
-use borrow.Author.Tests.{eqb-true, eq-eqb, lt-ltb, le-ltb}
-use Rattle.queue.specs.Jobs.{Job, job, Event, admitted, refused, sent, nothing, Step, waits, joinOf, turnOf}
+use Rattle.prelude.proofs.Logic.{_≡_, refl, sym, ap, _∙_, Bool, true, false, true≢false, false≢true, _||_, List, [], _∷_, ℕ, _+_, _≤_, arith, eqb, ltb, eqb-true, eq-eqb, lt-ltb, le-ltb}
+use Rattle.prelude.proofs.Cases.{arms}
+use Rattle.queue.specs.Jobs.{Job, job, Event, admitted, refused, sent, nothing, QueueStep, waits, joinOf, turnOf}
 use Rattle.queue.specs.History.{Call, join, turn, stepOf, after, events, onlyId, when, admittedBy, pagesAdmitted, pagesSent, pagesLeft, WaitsThrough, AllProper, Sound}
 use Rattle.queue.specs.Promises.{JobsLeaveWhenSent}
-use Rattle.queue.proofs.Steps.{arms, join-cases}
+use Rattle.queue.proofs.Steps.{join-cases}
 use Rattle.queue.proofs.Invariant.{neither, step-sound, sound-from, queues-are-sound}
 use Rattle.queue.proofs.Pages.{left-more, kept-from}
 
@@ -32,14 +27,14 @@ some-left id (x ∷ q) a w = go (eqb (x .id) id) w (some-left id q (a .4))
 -- ---- no id is admitted while it waits
 waiting-out : (i id : ℕ) (q : List Job) (n : ℕ) → waits i q ≡ true → waits id q ≡ false → when (onlyId i id) n ≡ 0
 waiting-out i id q n w v =
-    arms (λ (x : ℕ). x ≡ 0) (eqb id i) n 0
+    arms (λ (x : ℕ). x ≡ 0) (eqb id i)
     (λ t. let e = eqb-true id i t in absurd (true≢false (sym w ∙ ap (λ (k : ℕ). waits k q) (sym e) ∙ v)))
     (λ t. refl)
 
 none-admitted : (i : ℕ) (q : List Job) (c : Call) → waits i q ≡ true → admittedBy (onlyId i) (stepOf q c .event) ≡ 0
 unfolding turnOf
 none-admitted i q (join id pages) w =
-    join-cases (λ (s : Step). admittedBy (onlyId i) (s .event) ≡ 0) q id pages (λ n o. refl) (λ r v l. waiting-out i id q pages w v)
+    join-cases (λ (s : QueueStep). admittedBy (onlyId i) (s .event) ≡ 0) q id pages (λ n o. refl) (λ r v l. waiting-out i id q pages w v)
 none-admitted i [] turn w = refl
 none-admitted i (j ∷ q) turn w = refl
 
@@ -58,7 +53,7 @@ isAdmitted (sent j) = false
 isAdmitted nothing = false
 
 admitted-left : (q : List Job) (id pages : ℕ) → isAdmitted (joinOf q id pages .event) ≡ true → pagesLeft (onlyId id) (joinOf q id pages .queue) ≡ pages
-admitted-left q id pages = join-cases (λ (s : Step). isAdmitted (s .event) ≡ true → pagesLeft (onlyId id) (s .queue) ≡ pages) q id pages
+admitted-left q id pages = join-cases (λ (s : QueueStep). isAdmitted (s .event) ≡ true → pagesLeft (onlyId id) (s .queue) ≡ pages) q id pages
     (λ n o e. absurd (false≢true e))
     (λ r w l e. let a = left-more (onlyId id) q (job id pages) in let b = none-left id q w in let c : when (onlyId id id) pages ≡ pages = rw (eq-eqb id id refl) in omega arith)
 

@@ -10,12 +10,12 @@ use Rattle.refusals.specs.declared.Refusal.{Refusal}
 use Rattle.queue.specs.declared.Queue.{Queue}
 use Rattle.queue.specs.declared.Joined.{Joined}
 use Rattle.queue.specs.declared.Turned.{Turned}
-use Rattle.queue.specs.Jobs.{Job, job, Event, admitted, refused, sent, nothing, Step, most, joinOf, turnOf}
+use Rattle.queue.specs.Jobs.{Job, job, Event, admitted, refused, sent, nothing, QueueStep, mostJobs, joinOf, turnOf}
 
 -- ---- from the arrays to the list
 -- of more than 16 jobs, as no calls leave them, the first 16 count
 abbrev pub counted : ℕ → ℕ
-counted jobs = cond (ltb jobs most) jobs most
+counted jobs = cond (ltb jobs mostJobs) jobs mostJobs
 
 abbrev pub paired : List ℕ → List ℕ → List Job
 paired [] pages = []
@@ -32,7 +32,7 @@ jobsOf q = jobsIn q 0 (counted (q .jobs))
 -- ---- from the list to the arrays
 -- zeros stand behind
 abbrev pub padded : List ℕ → List ℕ
-padded l = l ++ replicate (most - length l) 0
+padded l = l ++ replicate (mostJobs - length l) 0
 
 abbrev pub idOf : Job → ℕ
 idOf j = j .id
@@ -64,10 +64,10 @@ heldAfter q (refused r) l = q
 heldAfter q (sent j) l = queueOf l
 heldAfter q nothing l = q
 
-abbrev pub joinedBy : Queue → Step → Joined
+abbrev pub joinedBy : Queue → QueueStep → Joined
 joinedBy q s = record { refusal = refusalIn (s .event); queue = heldAfter q (s .event) (s .queue) }
 
-abbrev pub turnedBy : Queue → Step → Turned
+abbrev pub turnedBy : Queue → QueueStep → Turned
 turnedBy q s = record { id = sentIn (s .event) .id; pages = sentIn (s .event) .pages; queue = heldAfter q (s .event) (s .queue) }
 
 unfoldable pub joinedOf : Queue → ℕ → ℕ → Joined

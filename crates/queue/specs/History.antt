@@ -5,14 +5,14 @@ use mathlib.Core.List.{List, [], _∷_}
 use Prim.Native.Nat.{ℕ, _+_, _≤_}
 use lib.Dec.{eqb}
 use lib.ListN.{length}
-use Rattle.queue.specs.Jobs.{Job, Event, admitted, refused, sent, nothing, Step, waits, most, joinOf, turnOf}
+use Rattle.queue.specs.Jobs.{Job, Event, admitted, refused, sent, nothing, QueueStep, waits, mostJobs, joinOf, turnOf}
 
 pub data Call : Type 0 where
   -- an id and its pages
   join : ℕ → ℕ → Call
   turn : Call
 
-abbrev pub stepOf : List Job → Call → Step
+abbrev pub stepOf : List Job → Call → QueueStep
 stepOf q (join id pages) = joinOf q id pages
 stepOf q turn = turnOf q
 
@@ -84,6 +84,6 @@ AllProper [] = Unit
 AllProper (j ∷ q) = (1 ≤ j .id) × (j .id ≤ 65535) × (1 ≤ j .pages) × (j .pages ≤ 16) × AllProper q
 
 pub record Sound (q : List Job) : Type 0 where
-  pub few : length q ≤ most
+  pub few : length q ≤ mostJobs
   pub once : NoIdTwice q
   pub proper : AllProper q

@@ -22,13 +22,13 @@ pub data Event : Type 0 where
   sent : Job → Event
   nothing : Event
 
-pub record Step : Type 0 where
+pub record QueueStep : Type 0 where
   pub event : Event
   pub queue : List Job
 
 -- "A queue of up to 16 jobs"
-abbrev pub most : ℕ
-most = 16
+abbrev pub mostJobs : ℕ
+mostJobs = 16
 
 -- "New jobs join at the back"
 abbrev pub atBack : List Job → Job → List Job
@@ -44,17 +44,17 @@ waits id (j ∷ q) = eqb (j .id) id || waits id q
 abbrev pub proper : ℕ → ℕ → Bool
 proper id pages = leb 1 id && leb id 65535 && leb 1 pages && leb pages 16
 
-abbrev pub admits : List Job → ℕ → ℕ → Step
+abbrev pub admits : List Job → ℕ → ℕ → QueueStep
 admits q id pages = record { event = admitted (job id pages); queue = atBack q (job id pages) }
 
 -- "the id as place"; the queue stays as it is
-abbrev pub refuses : List Job → ℕ → ℕ → Step
+abbrev pub refuses : List Job → ℕ → ℕ → QueueStep
 refuses q number id = record { event = refused (refusal number id); queue = q }
 
 -- "refused by 16 when 16 jobs wait, and by 17 for id 0, an id still waiting or pages outside 1 to 16, with 17 tried first"
-unfoldable pub joinOf : List Job → ℕ → ℕ → Step
+unfoldable pub joinOf : List Job → ℕ → ℕ → QueueStep
 joinOf q id pages =
-    cond (proper id pages && not (waits id q)) (cond (ltb (length q) most) (admits q id pages) (refuses q queueFull id)) (refuses q jobUnfit id)
+    cond (proper id pages && not (waits id q)) (cond (ltb (length q) mostJobs) (admits q id pages) (refuses q queueFull id)) (refuses q jobUnfit id)
 
 -- ---- turn
 -- A job after a page is sent of it. One that has none left, as no calls leave it, sends its last one all the same.
@@ -66,6 +66,6 @@ abbrev pub behind : List Job → Job → List Job
 behind q j = cond (ltb 0 (j .pages)) (atBack q j) q
 
 -- "A turn answers the job's id and its pages then left; one with no job sends nothing."
-unfoldable pub turnOf : List Job → Step
+unfoldable pub turnOf : List Job → QueueStep
 turnOf [] = record { event = nothing; queue = [] }
 turnOf (j ∷ q) = record { event = sent (less j); queue = behind q (less j) }

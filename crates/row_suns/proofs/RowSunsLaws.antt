@@ -1,7 +1,5 @@
 -- What rolls is what each row would work by itself. Assumes nothing.
-use mathlib.Core.Path.{_≡_, sym, ap}
-use mathlib.Core.Bool.{true}
-use Prim.Native.Nat.{_+_, _≤_}
+use Rattle.prelude.proofs.Logic.{_≡_, sym, ap, true, _+_, _≤_}
 use lib.Ieee.{Float}
 use Rattle.calendar.specs.Answers.{tomorrowOf}
 use Rattle.calendar.specs.Gregorian.{existsOf}
@@ -18,7 +16,6 @@ use Rattle.schedule.specs.Numbers.{numbersOf}
 use Rattle.schedule.specs.Times.{seasonOf, workedOf}
 use Rattle.schedule.proofs.SharedLaws.{courseAt, row-shared}
 use Rattle.unit.specs.declared.Coordinates.{Coordinates}
-use Rattle.row_suns.specs.declared.DaySun.{DaySun}
 use Rattle.row_suns.specs.declared.RowSuns.{RowSuns}
 use Rattle.row_suns.specs.RowSuns.{daySunOf, rowSunsOf, nextRowSunsOf, rowSunsHoursOf, rowSunsFajrOf}
 

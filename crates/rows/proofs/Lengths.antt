@@ -1,42 +1,27 @@
 -- The sheet's text, part by part, and the room that it takes. Assumes nothing.
-use native.Mathlib.Omega.{arith}
-use native.Mathlib.Numerals.{add-one}
-use Prim.Native.Nat.{ℕ, zero, suc, _+_, _*_, _≤_}
-use mathlib.Core.Path.{_≡_, refl, sym, ap, _∙_}
-use mathlib.Core.Bool.{Bool, true, false, cond}
-use mathlib.Core.List.{List, [], _++_}
-use lib.Dec.{lit≤}
-use lib.ListN.{length, length-append}
+use Rattle.prelude.proofs.Logic.{_≡_, refl, sym, ap, _∙_, List, [], _++_, ℕ, zero, suc, _+_, _*_, _≤_, add-one, arith, lit≤, length, length-append}
+use Rattle.prelude.proofs.Cases.{arms, cases}
 use Rattle.calendar.specs.Answers.{rowDateOf}
 use Rattle.calls.specs.Calls.{workRowOf}
 use Rattle.hijri.specs.declared.ramadan.Ramadan.{Ramadan}
-use Rattle.lines.specs.Lines.{fullRow, rowBytes, rowRoom, lineText}
+use Rattle.lines.specs.Lines.{fullRow, rowRoom, lineText}
 use Rattle.lines.proofs.LinesLaws.{line-length}
 use Rattle.order.specs.Accepted.{Accepted}
 use Rattle.order.specs.Ranges.{mostRows}
 use Rattle.order.specs.declared.reading.Order.{Order}
-use Rattle.text.specs.Text.{ascii, putOf, frontOf}
-use Rattle.text.proofs.TextLaws.{put-front, put-behind, put-next, put-nothing}
+use Rattle.text.specs.Text.{putOf, frontOf}
+use Rattle.text.proofs.TextLaws.{put-behind, put-next, put-nothing}
 use Rattle.rows.specs.Rows.{headerText, headText, linesText, acceptedText}
 
 -- 64 bytes without imsak, 70 with it; and with all rows of the order no more than the longest sheet has room for
 pub room-enough : (o : Order) → Accepted o → length (headerText (o .ramadan)) + o .rows * rowRoom (o .ramadan) ≤ 64 + fullRow * mostRows
 unfolding headerText rowRoom
-room-enough o a = go (o .ramadan .set) refl
-  where
-    go : (b : Bool) → o .ramadan .set ≡ b
-        → length (cond b (ascii "\ndate imsak fajr sunrise dhuhr asr maghrib isha middle qiyam tomorrow\n") (ascii "\ndate fajr sunrise dhuhr asr maghrib isha middle qiyam tomorrow\n")) + o .rows * rowBytes (cond b 10 9)
-        ≤ 64 + fullRow * mostRows
-    go true e = let n = a .ramadan e .rows in omega arith
-    go false e = let n = a .rows .1 in omega arith
+room-enough o a =
+    cases (o .ramadan .set) (λ e. let n = a .ramadan e .rows in simp e (omega arith)) (λ e. let n = a .rows .1 in simp e (omega arith))
 
 pub header-short : (ramadan : Ramadan) → length (headerText ramadan) ≤ 70
 unfolding headerText
-header-short ramadan = go (ramadan .set)
-  where
-    go : (b : Bool) → length (cond b (ascii "\ndate imsak fajr sunrise dhuhr asr maghrib isha middle qiyam tomorrow\n") (ascii "\ndate fajr sunrise dhuhr asr maghrib isha middle qiyam tomorrow\n")) ≤ 70
-    go true = lit≤ tt
-    go false = lit≤ tt
+header-short ramadan = arms (λ (t : List ℕ). length t ≤ 70) (ramadan .set) (λ e. lit≤ tt) (λ e. lit≤ tt)
 
 pub head-length : (ramadan : Ramadan) (town : List ℕ) → length (headText ramadan town) ≡ length town + length (headerText ramadan)
 unfolding headText

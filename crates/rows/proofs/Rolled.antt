@@ -1,12 +1,7 @@
 -- Rows that roll, and the lines behind one another. Assumes nothing.
-use native.Mathlib.Nat.{mul-le-mul-right}
-use native.Mathlib.Omega.{arith}
-use Prim.Native.Nat.{ℕ, _+_, _*_, _≤_, _<_}
-use mathlib.Core.Path.{_≡_, ap, _∙_}
-use mathlib.Core.List.{List}
-use lib.ListN.{length}
+use Rattle.prelude.proofs.Logic.{_≡_, ap, _∙_, List, ℕ, _+_, _*_, _≤_, _<_, mul-le-mul-right, arith, length}
 use Rattle.calendar.specs.Answers.{rowDateOf}
-use Rattle.calls.proofs.RowStates.{stateOf, workedFrom, state-worked}
+use Rattle.calls.proofs.RowStates.{stateOf, workedBySuns, state-worked}
 use Rattle.order.specs.Accepted.{Accepted}
 use Rattle.order.specs.declared.reading.Order.{Order}
 use Rattle.lines.specs.Lines.{rowRoom, lineText}
@@ -18,7 +13,7 @@ use Rattle.rows.proofs.Lengths.{lineOf, lines-length, line-made}
 
 -- the line that a row's suns give
 abbrev pub madeLine : Order → RowSuns → List ℕ
-madeLine o suns = lineText (o .ramadan) (suns .date) (workedFrom o suns)
+madeLine o suns = lineText (o .ramadan) (suns .date) (workedBySuns o suns)
 
 state-line : (o : Order) → Accepted o → (k : ℕ) → k < o .rows → madeLine o (stateOf o k) ≡ lineOf o k
 unfolding rowSunsOf
@@ -35,14 +30,18 @@ pub record Run (o : Order) (buffer : List ℕ) (at : ℕ) (now : List ℕ) (suns
   pub place : end ≡ at + length (linesText o row)
   pub same : length now ≡ length buffer
 
+-- behind it: the lines up to it, where they end, and that this is in the buffer
+abbrev pub Behind : Order → List ℕ → ℕ → List ℕ → ℕ → ℕ → Type 0
+Behind o buffer at now row end = (now ≡ putOf buffer at (linesText o row)) × (end ≡ at + length (linesText o row)) × (end ≤ length buffer)
+
 module _ (o : Order) (a : Accepted o) (buffer : List ℕ) (at : ℕ) (room : at + o .rows * rowRoom (o .ramadan) ≤ length buffer) where
   pub run-line : (now : List ℕ) (suns : RowSuns) (row end : ℕ) → Run o buffer at now suns row end
       → (line after : List ℕ) (n : ℕ) → line ≡ madeLine o suns → n ≡ length line → after ≡ putOf now end line
-      → (after ≡ putOf buffer at (linesText o (row + 1))) × (end + n ≡ at + length (linesText o (row + 1)))
+      → Behind o buffer at after (row + 1) (end + n)
   run-line now suns row end s line after n l m p =
       let w = s .within in
       let most = mul-le-mul-right (rowRoom (o .ramadan)) (add-one-le w) in
-      line-made o row buffer now after line at end n (omega arith) (s .text) (s .place) (l ∙ ap (madeLine o) (s .state) ∙ state-line o a row w) m p
-
-  pub run-room : (row : ℕ) → row < o .rows → at + length (linesText o (row + 1)) ≤ length buffer
-  run-room row h = let most = mul-le-mul-right (rowRoom (o .ramadan)) (add-one-le h) in let l = lines-length o (row + 1) in omega arith
+      let long = lines-length o (row + 1) in
+      let made = line-made o row buffer now after line at end n (omega arith) (s .text) (s .place)
+      (l ∙ ap (madeLine o) (s .state) ∙ state-line o a row w) m p in
+      (made .0, made .1, omega (arith, made .1))

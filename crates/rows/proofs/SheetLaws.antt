@@ -1,12 +1,6 @@
 -- No sheet is longer than `longestSheet`, and what is written fits the buffer. Assumes nothing.
-use native.Mathlib.Omega.{arith}
-use Prim.Native.Nat.{ℕ, _≤_, _<_}
-use mathlib.Core.Bool.{Bool, true, false, cond}
-use mathlib.Core.Path.{_≡_, refl, subst}
-use mathlib.Core.List.{List}
-use lib.Dec.{ltb}
-use lib.ListN.{length, length-append}
-use borrow.Author.Tests.{ltb-false}
+use Rattle.prelude.proofs.Logic.{_≡_, refl, List, ℕ, _≤_, arith, ltb, length, length-append, ltb-false}
+use Rattle.prelude.proofs.Cases.{arms}
 use Rattle.lines.proofs.LinesLaws.{refused-length}
 use Rattle.order.proofs.AcceptedLaws.{read-accepted}
 use Rattle.order.proofs.ReadingLaws.{read-town}
@@ -35,11 +29,9 @@ sheet-length s = by-reading (readingOf s) refl
 
 pub sheet-fits : (s buffer : List ℕ) → sheetLengthOf s buffer ≤ length buffer
 unfolding sheetLengthOf
-sheet-fits s buffer = by-room (ltb (length buffer) longestSheet) refl
-  where
-    by-room : (b : Bool) → ltb (length buffer) longestSheet ≡ b → cond b 0 (length (sheetText s)) ≤ length buffer
-    by-room true e = omega arith
-    by-room false e = let r : longestSheet ≤ length buffer = ltb-false (length buffer) longestSheet e in let l = sheet-length s in omega arith
+sheet-fits s buffer =
+    arms (λ (n : ℕ). n ≤ length buffer) (ltb (length buffer) longestSheet) (λ e. omega arith)
+    (λ e. let r = ltb-false (length buffer) longestSheet e in let l = sheet-length s in omega arith)
 
 pub answer-fits : (s buffer after : List ℕ) (n : ℕ) → n ≡ sheetLengthOf s buffer → length after ≡ length buffer → n ≤ length after
 answer-fits s buffer after n e l = let f = sheet-fits s buffer in omega arith

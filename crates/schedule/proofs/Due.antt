@@ -1,19 +1,8 @@
 -- Whole seconds ahead of an instant, and one step of the search for the prayer in force. Assumes nothing.
-use mathlib.Core.Path.{_≡_, refl, sym, ap, subst, _∙_}
-use mathlib.Core.Bool.{Bool, true, false, cond, not}
-use Prim.Native.Nat.{ℕ, zero, suc, _+_, _-_, _*_, _/_, _^_, _≤_, _<_}
-use native.Mathlib.Omega.{arith}
-use lib.Dec.{T, eqb}
-use borrow.Author.Tests.{eq-eqb, ne-eqb}
-use lib.IntN.{ℤ, pos, negsuc, natAbs, _+ℤ_, _-ℤ_, _*ℤ_}
+use Rattle.prelude.proofs.Logic.{_≡_, refl, sym, ap, _∙_, Bool, cond, ℕ, zero, suc, _+_, _-_, _*_, _/_, _≤_, _<_, arith, eqb, ℤ, pos, negsuc, _+ℤ_, _-ℤ_, _*ℤ_, eq-eqb, ne-eqb, w64, SFits, Fits}
 use Rattle.integers.specs.Parts.{P, N}
-use Rattle.integers.proofs.PartsLaws.{same}
-use mir.Syntax.{w64}
-use mir.Val.{SFits, Fits}
-use lib.Signed.{ltZ, nonNeg}
 use Rattle.integers.proofs.Sums.{sum, difference, times}
-use Rattle.integers.proofs.OrderLaws.{lt-yes, lt-no}
-use Rattle.integers.proofs.Ranges.{range, fits, readBack, read}
+use Rattle.integers.proofs.Ranges.{range, fits}
 use Rattle.models.specs.Numbers.{prayerOf}
 use Rattle.schedule.specs.InForce.{second, nanosecondsOf, aheadOf, timeOf, lastOf}
 use Rattle.schedule.specs.declared.in_force.Instant.{Instant}

@@ -1,7 +1,5 @@
 -- Fajr by itself is the Fajr of the nine. Assumes nothing.
-use native.Mathlib.Omega.{arith}
-use mathlib.Core.Path.{_≡_, refl, sym, ap}
-use lib.IntN.{ℤ, _+ℤ_, _-ℤ_}
+use Rattle.prelude.proofs.Logic.{_≡_, refl, sym, ap, arith, ℤ, _+ℤ_, _-ℤ_}
 use Rattle.calendar.specs.declared.dates.Date.{Date}
 use Rattle.integers.proofs.PartsLaws.{same}
 use Rattle.integers.proofs.Sums.{sum, difference}

@@ -1,9 +1,5 @@
 -- What the private functions promise, as the code that called them reads it; and the night's portions as they are worked. Assumes nothing.
-use mathlib.Core.Path.{_≡_, refl, ap, subst, _∙_}
-use Prim.Native.Nat.{ℕ, _+_, _^_, _≤_}
-use lib.Dec.{lit≤}
-use lib.IntN.{ℤ, _+ℤ_}
-use mir.Syntax.{w64}
+use Rattle.prelude.proofs.Logic.{_≡_, refl, ap, subst, _∙_, ℕ, _+_, _^_, _≤_, lit≤, ℤ, _+ℤ_, w64}
 use Rattle.integers.specs.Parts.{Near}
 use Rattle.integers.proofs.Intervals.{wider, inside-between}
 use Rattle.integers.proofs.Ranges.{readBack}

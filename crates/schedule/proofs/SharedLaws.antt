@@ -1,12 +1,12 @@
 -- The hour numbers of a row, from the courses of three suns that share five positions. Assumes nothing.
-use mathlib.Core.Path.{_≡_}
+use Rattle.prelude.proofs.Logic.{_≡_}
 use Rattle.calendar.specs.Answers.{yesterdayOf, tomorrowOf}
 use Rattle.calendar.specs.declared.dates.Date.{Date}
 use Rattle.models.specs.declared.parameters.Parameters.{Parameters}
 use Rattle.ops.specs.declared.transit.Course.{Course}
 use Rattle.ops.specs.Shared.{observerOf}
 use Rattle.solar.specs.Coordinates.{positionOf}
-use Rattle.solar.specs.Hours.{Sun, sunOver}
+use Rattle.solar.specs.Hours.{sunOver}
 use Rattle.solar.specs.Shared.{courseOver, courseAngleNumberOf, courseNumbersOf, courseAfternoonNumberOf}
 use Rattle.solar.proofs.SharedLaws.{angle-shared, numbers-shared, afternoon-shared}
 use Rattle.unit.specs.declared.Coordinates.{Coordinates}

@@ -1,8 +1,5 @@
 -- 0h of any date that a u32's year can name lies within 2 ^ 58 seconds of 1970. Assumes nothing.
-use mathlib.Core.Path.{_≡_}
-use Prim.Native.Nat.{ℕ, _+_, _*_, _^_, _≤_, _<_}
-use native.Mathlib.Omega.{arith}
-use lib.IntN.{ℤ, pos, _-ℤ_, _*ℤ_}
+use Rattle.prelude.proofs.Logic.{ℕ, _+_, _*_, _^_, _≤_, _<_, arith, pos, _-ℤ_, _*ℤ_}
 use Rattle.integers.specs.Parts.{Near}
 use Rattle.integers.proofs.Sums.{difference, times}
 use Rattle.calendar.specs.Days.{daysBeforeYearOf, ordinalOf, dayNumberOf}

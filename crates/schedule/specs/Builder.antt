@@ -1,5 +1,5 @@
 -- schedule.rs: the builder of a date's times. What has not been given is missing.
-use mathlib.Core.Bool.{Bool, true, false, _&&_, cond}
+use mathlib.Core.Bool.{true, false, _&&_, cond}
 use Rattle.calendar.specs.Gregorian.{dateOf}
 use Rattle.calendar.specs.declared.dates.Date.{Date}
 use Rattle.float64.specs.Ops.{dec}

@@ -8,7 +8,6 @@ use Rattle.solar.specs.declared.times.SolarDay.the-variants as day
 use Rattle.solar.specs.Times.{solarHourOf, solarTimeOf}
 use Rattle.schedule.specs.declared.hours.RowNumbers.{RowNumbers}
 use Rattle.schedule.specs.declared.hours.DayHours.{DayHours}
-use Rattle.schedule.specs.declared.hours.ThreeSuns.{ThreeSuns}
 use Rattle.schedule.specs.declared.hours.Suns.{Suns}
 use Rattle.schedule.specs.declared.hours.Suns.the-variants.{Whole, Lacks}
 use Rattle.schedule.specs.declared.hours.RowHours.{RowHours}

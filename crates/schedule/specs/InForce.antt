@@ -5,7 +5,7 @@ use Prim.Native.Nat.{ℕ, zero, suc, _/_, _≤_}
 use mathlib.Core.Bool.{cond}
 use lib.Dec.{eqb}
 use lib.IntN.{ℤ, pos, _+ℤ_, _-ℤ_, _*ℤ_}
-use lib.Ieee.{Float, binary64, ofInt, toUnsigned}
+use lib.Ieee.{binary64, ofInt, toUnsigned}
 use Rattle.integers.specs.Parts.{P}
 use Rattle.integers.specs.Order.{_≼_}
 use Rattle.float64.specs.Ops.{_-ᶠ_, _*ᶠ_, _/ᶠ_, dec}

@@ -120,42 +120,25 @@ fn from_midnight(
     ensures { λ r. ⌜ (r ≡ fromMidnightOf parameters season date suns hours) × Each (Near (2 ^ 43)) r ⌝ }
 {
     let rounding = parameters.rounding;
+    let today = suns.today;
+    let tomorrow = suns.tomorrow;
     let hour = hours.fajr;
     let afternoon = hours.asr;
     let evening = hours.isha;
-    let hour_tomorrow = hours.fajr_tomorrow;
-    let fajr = unadjusted_fajr(parameters, season, date, suns.today, suns.tomorrow, hour);
-    let asr = or(afternoon, suns.today.transit as i64);
-    let isha = unadjusted_isha(parameters, season, date, suns.today, suns.tomorrow, evening);
-    let maghrib = final_time(
-        parameters,
-        Prayer::Maghrib,
-        suns.today.sunset as i64,
-        rounding,
-    );
-    let fajr_tomorrow = next_fajr(
-        parameters,
-        season,
-        date,
-        suns.tomorrow,
-        suns.after,
-        hour_tomorrow,
-    );
+    let next = hours.fajr_tomorrow;
+    let sunrise = today.sunrise as i64;
+    let transit = today.transit as i64;
+    let sunset = today.sunset as i64;
+    let fajr = unadjusted_fajr(parameters, season, date, today, tomorrow, hour);
+    let asr = or(afternoon, transit);
+    let isha = unadjusted_isha(parameters, season, date, today, tomorrow, evening);
+    let maghrib = final_time(parameters, Prayer::Maghrib, sunset, rounding);
+    let fajr_tomorrow = next_fajr(parameters, season, date, tomorrow, suns.after, next);
     let night = calculate_qiyam(maghrib, fajr_tomorrow);
     PrayerTimes {
         fajr: final_time(parameters, Prayer::Fajr, fajr, rounding),
-        sunrise: final_time(
-            parameters,
-            Prayer::Sunrise,
-            suns.today.sunrise as i64,
-            rounding,
-        ),
-        dhuhr: final_time(
-            parameters,
-            Prayer::Dhuhr,
-            suns.today.transit as i64,
-            rounding,
-        ),
+        sunrise: final_time(parameters, Prayer::Sunrise, sunrise, rounding),
+        dhuhr: final_time(parameters, Prayer::Dhuhr, transit, rounding),
         asr: final_time(parameters, Prayer::Asr, asr, rounding),
         maghrib: maghrib,
         isha: final_time(parameters, Prayer::Isha, isha, rounding),

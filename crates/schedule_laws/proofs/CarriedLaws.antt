@@ -1,10 +1,6 @@
 -- The parameters that an order carries are those of specs/Carried: each method's preset is one, and stays one where the tags set their fields in
 -- range. Assumes nothing.
-use mathlib.Core.Path.{_≡_, refl, sym, subst}
-use Prim.Native.Nat.{ℕ, _^_, _≤_}
-use native.Mathlib.Omega.{arith}
-use lib.Dec.{lit≤}
-use lib.IntN.{pos}
+use Rattle.prelude.proofs.Logic.{_≡_, refl, sym, subst, ℕ, _^_, _≤_, arith, lit≤, pos}
 use lib.Ieee.{round, le}
 use Rattle.integers.specs.Parts.{Between, Near}
 use Rattle.integers.proofs.Sums.{flip}
@@ -86,5 +82,5 @@ pub carried-minutes : (p : Parameters) → Carried p → (prayer : Prayer) → N
 unfolding timeAdjustmentsOf
 carried-minutes p c prayer = sum-between (c .own prayer) (c .preset prayer)
 
-pub carried-held : (p : Parameters) → Carried p → (prayer : Prayer) → Near (2 ^ 32) (timeAdjustmentsOf p prayer)
-carried-held p c prayer = wider (carried-minutes p c prayer) (lit≤ tt) (lit≤ tt)
+pub carried-sums : (p : Parameters) → Carried p → (prayer : Prayer) → Near (2 ^ 32) (timeAdjustmentsOf p prayer)
+carried-sums p c prayer = wider (carried-minutes p c prayer) (lit≤ tt) (lit≤ tt)

@@ -1,13 +1,5 @@
 -- The prayer in force where no time is earlier and the instant is not after: what is due under the second is due under the first. Assumes nothing.
-use mathlib.Core.Path.{_≡_, refl, ap}
-use mathlib.Core.Bool.{Bool, true, false, cond}
-use mathlib.Core.Logic.{_⊎_, inl, inr, ⊎-elim}
-use Prim.Native.Nat.{ℕ, zero, suc, _+_, _*_, _≤_, _<_}
-use native.Mathlib.Omega.{arith}
-use lib.Dec.{eqb, eqb→eq, lit≤}
-use lib.IntN.{ℤ, pos, negsuc, _+ℤ_, _-ℤ_, _*ℤ_}
-use lib.Signed.{ltZ}
-use borrow.Author.Tests.{eqb-true, eqb-false}
+use Rattle.prelude.proofs.Logic.{_≡_, refl, ap, Bool, true, false, cond, inl, inr, ⊎-elim, ℕ, zero, suc, _≤_, _<_, arith, eqb, eqb→eq, lit≤, ℤ, pos, negsuc, _+ℤ_, _-ℤ_, _*ℤ_, ltZ, eqb-true, eqb-false}
 use Rattle.integers.specs.Parts.{P, N}
 use Rattle.integers.proofs.PartsLaws.{same}
 use Rattle.integers.proofs.Sums.{sum, difference, times}

@@ -1,7 +1,5 @@
 -- What a school's later minutes do to a day: the statement of specs/Later. Assumes nothing.
-use mathlib.Core.Path.{_≡_, refl, sym, ap, subst, _∙_}
-use Prim.Native.Nat.{ℕ, _^_, _<_}
-use native.Mathlib.Omega.{arith}
+use Rattle.prelude.proofs.Logic.{_≡_, refl, sym, ap, subst, _∙_, ℕ, _^_, _<_, arith}
 use Rattle.integers.specs.Parts.{Near}
 use Rattle.integers.specs.Order.{_≼_}
 use Rattle.calendar.specs.declared.dates.Date.{Date}

@@ -1,9 +1,5 @@
 -- Every time lies by its date, and its days print as one digit: the statements of specs/Range. Assumes nothing.
-use mathlib.Core.Path.{_≡_, subst}
-use Prim.Native.Nat.{ℕ, _+_, _-_, _*_, _≤_, _<_}
-use native.Mathlib.Omega.{arith}
-use lib.Dec.{lit≤}
-use lib.IntN.{ℤ, pos, negsuc, _+ℤ_, _-ℤ_}
+use Rattle.prelude.proofs.Logic.{_≡_, subst, ℕ, _-_, _*_, _≤_, _<_, arith, lit≤, ℤ, pos, negsuc, _+ℤ_, _-ℤ_}
 use Rattle.integers.specs.Parts.{P, N, Between, Near}
 use Rattle.integers.specs.Quotients.{floorQuot}
 use Rattle.integers.proofs.PartsLaws.{same}

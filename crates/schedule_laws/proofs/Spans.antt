@@ -1,11 +1,7 @@
 -- How far Fajr and Isha lie from 0h of their date, by how far the sun's times lie and what is added to them. Assumes nothing.
-use mathlib.Core.Path.{_≡_, refl}
-use Prim.Native.Nat.{ℕ, _+_, _*_, _≤_}
-use native.Mathlib.Omega.{arith}
-use lib.IntN.{ℤ, pos, _+ℤ_}
-use lib.Signed.{ltZ}
+use Rattle.prelude.proofs.Logic.{_≡_, refl, ℕ, _+_, _*_, _≤_, arith, ℤ, pos, _+ℤ_, ltZ}
 use lib.Ieee.{Float}
-use Rattle.integers.specs.Parts.{P, N, Between, Near}
+use Rattle.integers.specs.Parts.{Between, Near}
 use Rattle.integers.proofs.Sums.{sum}
 use Rattle.integers.proofs.Intervals.{by-balance, wider, sum-between, difference-between, either-between}
 use Rattle.calendar.specs.declared.dates.Date.{Date}
@@ -14,7 +10,6 @@ use Rattle.models.specs.declared.parameters.Parameters.{Parameters}
 use Rattle.models.specs.declared.rules.Season.{Season}
 use Rattle.models.specs.declared.prayer.Prayer.{Prayer}
 use Rattle.models.specs.Settings.{timeAdjustmentsOf}
-use Rattle.stride.specs.Times.{adjustedOf}
 use Rattle.stride.proofs.TimesLaws.{rounded-between, adjusted-between}
 use Rattle.night_portions.specs.Portions.{seventhOf}
 use Rattle.solar.specs.declared.setting.SolarHour.{SolarHour}

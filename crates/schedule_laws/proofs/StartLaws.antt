@@ -1,9 +1,6 @@
 -- The definitions round a time counted from 0h of its date, and add the date in the end. Counted from 1970 on, as the papers and the crate count, it
 -- is rounded to the same. Assumes nothing.
-use mathlib.Core.Path.{_≡_, sym, ap, _∙_}
-use Prim.Native.Nat.{_+_, _*_}
-use native.Mathlib.Omega.{arith}
-use lib.IntN.{ℤ, pos, _+ℤ_, _*ℤ_, +ℤ-comm}
+use Rattle.prelude.proofs.Logic.{_≡_, sym, ap, _∙_, arith, ℤ, pos, _+ℤ_, _*ℤ_, +ℤ-comm}
 use Rattle.integers.proofs.PartsLaws.{same}
 use Rattle.integers.proofs.Sums.{times}
 use Rattle.calendar.specs.Days.{dayNumberOf}

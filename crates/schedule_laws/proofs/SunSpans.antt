@@ -1,10 +1,6 @@
 -- How far the sun's times, Fajr and Isha lie from 0h of their date, for what an order can carry. All in whole days: the sun's times go no further than a
 -- day back and two days on. Assumes nothing.
-use Prim.Native.Nat.{ℕ, _+_, _*_, _≤_}
-use native.Mathlib.Omega.{arith}
-use lib.Dec.{lit<, lit≤}
-use lib.IntN.{ℤ, pos}
-use lib.Signed.{ltZ}
+use Rattle.prelude.proofs.Logic.{ℕ, _+_, _*_, _≤_, arith, lit<, lit≤, ℤ, pos, ltZ}
 use lib.Ieee.{Float}
 use Rattle.integers.specs.Parts.{Between}
 use Rattle.integers.proofs.QuotientLaws.{divided}

@@ -1,13 +1,5 @@
 -- Two byte strings that are the same. Assumes nothing.
-use native.Mathlib.Numerals.{add-one}
-use Prim.Native.Nat.{ℕ, _+_, _<_}
-use mathlib.Core.Bool.{Bool, true, false, cond, false≢true}
-use mathlib.Core.Path.{_≡_, refl, sym, ap, _∙_}
-use mathlib.Core.List.{List, [], _∷_}
-use lib.Dec.{eqb}
-use lib.ListN.{length, getD, drop}
-use lib.Seq.{drop-cons, drop-length}
-use borrow.Author.Tests.{eq-eqb, ne-eqb, eqb-true}
+use Rattle.prelude.proofs.Logic.{_≡_, refl, sym, ap, _∙_, Bool, true, false, cond, false≢true, List, [], _∷_, ℕ, _+_, _<_, add-one, eqb, length, getD, drop, drop-cons, drop-length, eq-eqb, ne-eqb, eqb-true, cases}
 use Rattle.sentences.specs.Sentences.{same}
 
 pub same-itself : (t : List ℕ) → same t t ≡ true
@@ -20,18 +12,11 @@ unfolding same
 same-only [] [] e = refl
 same-only [] (b ∷ bs) e = absurd (false≢true e)
 same-only (a ∷ ts) [] e = absurd (false≢true e)
-same-only (a ∷ ts) (b ∷ bs) e = by-test (eqb a b) refl e (same-only ts bs)
-  where
-    by-test : (t : Bool) → eqb a b ≡ t → cond t (same ts bs) false ≡ true → (same ts bs ≡ true → ts ≡ bs) → a ∷ ts ≡ b ∷ bs
-    by-test true h s again = let i = again s in let j = eqb-true a b h in cc
-    by-test false h s again = absurd (false≢true s)
+same-only (a ∷ ts) (b ∷ bs) e =
+    cases (eqb a b) (λ h. let i = same-only ts bs (simp h at e) in let j = eqb-true a b h in cc) (λ h. absurd (false≢true (simp h at e)))
 
 pub longer-differs : (t s : List ℕ) → (length t ≡ length s → ⊥) → same t s ≡ false
-longer-differs t s h = by-test (same t s) refl
-  where
-    by-test : (b : Bool) → same t s ≡ b → b ≡ false
-    by-test true e = absurd (h (ap length (same-only t s e)))
-    by-test false e = refl
+longer-differs t s h = cases (same t s) (λ e. absurd (h (ap length (same-only t s e)))) (λ e. e)
 
 -- ---- the comparing loop: from an index on
 module _ (t s : List ℕ) (i : ℕ) where

@@ -1,13 +1,5 @@
 -- A sentence has its number and its place where they are looked for; a place has ten digits at most. Assumes nothing.
-use native.Mathlib.Omega.{arith}
-use native.Mathlib.Nat.{pow-suc, div-lt-iff-lt-mul}
-use Prim.Native.Nat.{ℕ, zero, suc, _+_, _-_, _*_, _/_, _^_, _≤_, _<_}
-use mathlib.Core.Bool.{Bool, true, false, cond}
-use mathlib.Core.Path.{_≡_, refl, ap, subst, _∙_}
-use mathlib.Core.List.{List, [], _∷_, _++_}
-use lib.Dec.{ltb}
-use lib.ListN.{length, List·getD-append}
-use borrow.Author.Tests.{lt-ltb, le-leb, ltb-true}
+use Rattle.prelude.proofs.Logic.{_≡_, refl, ap, subst, _∙_, true, cond, List, [], _∷_, _++_, ℕ, zero, suc, _+_, _-_, _*_, _/_, _^_, _≤_, _<_, pow-suc, div-lt-iff-lt-mul, arith, ltb, length, List·getD-append, lt-ltb, le-leb, ltb-true, cases}
 use Rattle.text.specs.Text.{ascii, digitOf, digitsOf, decimalOf}
 use Rattle.text.proofs.TextLaws.{digits-short}
 use Rattle.sentences.specs.Guess.{isDigit, numberIn, none, longer, placeIn}
@@ -56,15 +48,10 @@ unfolding digitsOf placeIn
 digits-back zero n h f = rw (lt-ltb n 10 (omega arith)) (last-digit 0 n (omega arith) f)
 digits-back (suc k) n h f =
     let below : n < 10 ^ suc k * 10 = subst (λ (m : ℕ). n < m) (pow-suc 10 (suc k)) h in
-    by-test (ltb n 10) refl (digits-back k (n / 10) (div-lt-iff-lt-mul (omega arith) .1 below) (omega arith))
-  where
-    by-test : (t : Bool) → ltb n 10 ≡ t → placeIn 0 (digitsOf (suc k) (n / 10)) ≡ n / 10
-        → placeIn 0 (cond t (digitOf n ∷ []) (digitsOf (suc k) (n / 10) ++ (digitOf n ∷ []))) ≡ n
-    by-test true e i = let l = ltb-true n 10 e in last-digit 0 n (omega arith) f
-    by-test false e i =
-        place-append (digitsOf (suc k) (n / 10)) (digitOf n ∷ []) 0
-        ∙ ap (λ (v : ℕ). longer v (digitOf n)) i
-        ∙ last-digit (n / 10) n refl f
+    cases (ltb n 10) (λ e. let l = ltb-true n 10 e in rw e (last-digit 0 n (omega arith) f))
+    (λ e. rw e (place-append (digitsOf (suc k) (n / 10)) (digitOf n ∷ []) 0
+    ∙ ap (λ (v : ℕ). longer v (digitOf n)) (digits-back k (n / 10) (div-lt-iff-lt-mul (omega arith) .1 below) (omega arith))
+    ∙ last-digit (n / 10) n refl f))
 
 -- the blank begins the place anew, whatever the words are
 pub place-back : (words : List ℕ) (p : ℕ) → p < none → placeIn 0 (words ++ ascii " " ++ decimalOf p) ≡ p

@@ -1,26 +1,10 @@
 -- What holds of each line of the two tables, by tests that antt computes over them: a new line needs no new proof. Assumes nothing.
-use native.Mathlib.Omega.{arith}
-use native.Mathlib.Nat.{zero-add, add-zero, suc-add, add-suc}
-use Prim.Native.Nat.{ℕ, zero, suc, _+_, _≤_, _<_}
-use mathlib.Core.Bool.{Bool, true, false, _&&_}
-use mathlib.Core.Path.{_≡_, refl, sym, ap, subst, _∙_}
-use mathlib.Core.List.{List, [], _∷_}
-use lib.Dec.{T, leb, eqb, leb→le, eqb→eq}
-use lib.ListN.{length, getD, take}
-use borrow.Author.Tests.{ltb-true}
+use Rattle.prelude.proofs.Logic.{_≡_, refl, sym, ap, subst, _∙_, Bool, true, false, _&&_, List, [], _∷_, ℕ, zero, suc, _+_, _≤_, _<_, zero-add, add-zero, suc-add, add-suc, arith, T, leb, eqb, leb→le, eqb→eq, length, getD, take, ltb-true, and-l, and-r}
 use Rattle.text.specs.Text.{ascii}
 use Rattle.sentences.specs.Table.{texts, names, textOf, nameOf, known, widest, widestName}
 use Rattle.sentences.specs.Rows.{filled, endOf}
 use Rattle.sentences.specs.Guess.{numberIn}
 use Rattle.sentences.specs.Promises.{printable}
-
-left : (a b : Bool) → T (a && b) → T a
-left true b t = tt
-left false b t = t
-
-right : (a b : Bool) → T (a && b) → T b
-right true b t = t
-right false b t = absurd t
 
 is-true : (b : Bool) → T b → b ≡ true
 is-true true t = refl
@@ -33,9 +17,9 @@ every f i (t ∷ ts) = f i t && every f (suc i) ts
 
 from : (f : ℕ → List ℕ → Bool) (d : List ℕ) → ((n : ℕ) → T (f n d)) → (ts : List (List ℕ)) (i : ℕ) → T (every f i ts) → (k : ℕ) → T (f (i + k) (getD ts k d))
 from f d e [] i t k = e (i + k)
-from f d e (x ∷ ts) i t zero = subst (λ (m : ℕ). T (f m x)) (sym (add-zero i)) (left (f i x) (every f (suc i) ts) t)
+from f d e (x ∷ ts) i t zero = subst (λ (m : ℕ). T (f m x)) (sym (add-zero i)) (and-l (f i x) (every f (suc i) ts) t)
 from f d e (x ∷ ts) i t (suc k) =
-    subst (λ (m : ℕ). T (f m (getD ts k d))) (suc-add i k ∙ sym (add-suc i k)) (from f d e ts (suc i) (right (f i x) (every f (suc i) ts) t) k)
+    subst (λ (m : ℕ). T (f m (getD ts k d))) (suc-add i k ∙ sym (add-suc i k)) (from f d e ts (suc i) (and-r (f i x) (every f (suc i) ts) t) k)
 
 at : (f : ℕ → List ℕ → Bool) (d : List ℕ) → ((n : ℕ) → T (f n d)) → (ts : List (List ℕ)) → T (every f 0 ts) → (n : ℕ) → T (f n (getD ts n d))
 at f d e ts t n = subst (λ (m : ℕ). T (f m (getD ts n d))) (zero-add n) (from f d e ts 0 t n)
@@ -51,11 +35,11 @@ pub record Fine (k : ℕ) (t : List ℕ) : Type 0 where
 
 is-fine : (k : ℕ) (t : List ℕ) → T (fine k t) → Fine k t
 is-fine k t h =
-    let both = left (leb (length t) k && printable t) (eqb (endOf (filled widest t) widest) (length t)) h in
+    let both = and-l (leb (length t) k && printable t) (eqb (endOf (filled widest t) widest) (length t)) h in
     record {
-      short = leb→le (length t) k (left (leb (length t) k) (printable t) both);
-      clean = is-true (printable t) (right (leb (length t) k) (printable t) both);
-      ends = eqb→eq (endOf (filled widest t) widest) (length t) (right (leb (length t) k && printable t) (eqb (endOf (filled widest t) widest) (length t)) h);
+      short = leb→le (length t) k (and-l (leb (length t) k) (printable t) both);
+      clean = is-true (printable t) (and-r (leb (length t) k) (printable t) both);
+      ends = eqb→eq (endOf (filled widest t) widest) (length t) (and-r (leb (length t) k && printable t) (eqb (endOf (filled widest t) widest) (length t)) h);
     }
 
 pub text-fine : (n : ℕ) → Fine widest (textOf n)
@@ -79,7 +63,7 @@ says-both : (n : ℕ) (t : List ℕ) → T (says n t) → 0 < length t → (numb
 says-both n [] s h = absurd (omega arith)
 says-both n (b ∷ bs) s h =
     let t = b ∷ bs in
-    (eqb→eq (numberIn t) n (left (eqb (numberIn t) n) (leb 10 (length t)) s), leb→le 10 (length t) (right (eqb (numberIn t) n) (leb 10 (length t)) s))
+    (eqb→eq (numberIn t) n (and-l (eqb (numberIn t) n) (leb 10 (length t)) s), leb→le 10 (length t) (and-r (eqb (numberIn t) n) (leb 10 (length t)) s))
 
 pub text-says : (n : ℕ) → known n ≡ true → (numberIn (textOf n) ≡ n) × (10 ≤ length (textOf n))
 text-says n k = says-both n (textOf n) (all-say n) (ltb-true 0 (length (textOf n)) k)

@@ -1,12 +1,5 @@
 -- The line that is made of the words, a blank and the place's digits, and the answers of the two calls. Assumes nothing.
-use native.Mathlib.Omega.{arith}
-use Prim.Native.Nat.{ℕ, _+_, _-_, _≤_, _<_}
-use mathlib.Core.Bool.{Bool, true, false, cond, _&&_}
-use mathlib.Core.Path.{_≡_, refl, sym, ap, _∙_}
-use mathlib.Core.List.{List, [], _∷_, _++_}
-use lib.Dec.{ltb}
-use lib.ListN.{length, take, drop, length-append, length-drop}
-use borrow.Author.Tests.{lt-ltb, le-ltb, le-leb, lt-leb, ltb-false}
+use Rattle.prelude.proofs.Logic.{_≡_, refl, sym, ap, _∙_, true, false, cond, _&&_, List, [], _∷_, _++_, ℕ, _+_, _≤_, _<_, arith, ltb, length, take, drop, length-append, length-drop, lt-ltb, le-ltb, le-leb, lt-leb, ltb-false, cases}
 use Rattle.text.specs.Text.{ascii, decimalOf, putOf, frontOf}
 use Rattle.text.proofs.TextLaws.{put-next, put-nothing, cut-front}
 use Rattle.text.proofs.TextLaws as laws
@@ -14,7 +7,7 @@ use Rattle.refusals.specs.Refusals.{outOfRange, bufferShort}
 use Rattle.sentences.specs.Table.{textOf, nameOf, known, widest, widestName}
 use Rattle.sentences.specs.Rows.{filled, endOf}
 use Rattle.sentences.specs.Guess.{none, numberIn, placeIn}
-use Rattle.sentences.specs.Sentences.{endsInColon, wordsOf, sentenceOf, unwritten, written, writtenOf, bufferAfter, meant, noSentence, same, meaningOf}
+use Rattle.sentences.specs.Sentences.{endsInColon, wordsOf, sentenceOf, unwritten, written, sentenceWrittenOf, bufferAfter, meant, noSentence, same, meaningOf}
 use Rattle.sentences.proofs.Lines.{Fine, text-fine, name-fine, filled-length, take-filled}
 use Rattle.sentences.proofs.Guessing.{ten-digits}
 use Rattle.sentences.proofs.Promises.{words-named, words-alone, words-short, words-long, sentence-known, sentence-unknown, sentence-length, printed}
@@ -62,9 +55,7 @@ words-of-both n p line a b e l f q =
 
 -- a line is as long as it was before a short text was put at its front
 pub as-long : (text line made : List ℕ) → made ≡ frontOf text line → length made ≡ 100 → length text ≤ 89 → length line ≡ 100
-as-long text line made m l h =
-    let e = ap length m ∙ length-append text (drop (length text) line) in let d = length-drop (length text) line in
-    omega arith
+as-long text line made m l h = omega (arith, ap length m ∙ length-append text (drop (length text) line), length-drop (length text) line)
 
 -- ---- whether a number is known, by the length of its words or of its sentence
 pub unknown-by-words : (n p : ℕ) → length (wordsOf n p) ≡ 0 → known n ≡ false
@@ -79,27 +70,13 @@ unfolding wordsOf
 no-words n p z = rw (empty (textOf n) z)
 
 pub known-by-words : (n p : ℕ) → (length (wordsOf n p) ≡ 0 → ⊥) → known n ≡ true
-known-by-words n p h = by-test (known n) refl
-  where
-    by-test : (t : Bool) → known n ≡ t → t ≡ true
-    by-test true k = refl
-    by-test false k =
-        let l = ltb-false 0 (length (textOf n)) k in let z : length (textOf n) ≡ 0 = omega arith in
-        absurd (h (no-words n p z))
+known-by-words n p h = cases (known n) (λ k. k) (λ k. absurd (let l = ltb-false 0 (length (textOf n)) k in h (no-words n p (omega arith))))
 
 pub known-by-sentence : (n p : ℕ) → (length (sentenceOf n p) ≡ 0 → ⊥) → known n ≡ true
-known-by-sentence n p h = by-test (known n) refl
-  where
-    by-test : (t : Bool) → known n ≡ t → t ≡ true
-    by-test true k = refl
-    by-test false k = absurd (h (ap length (sentence-unknown n p k)))
+known-by-sentence n p h = cases (known n) (λ k. k) (λ k. absurd (h (ap length (sentence-unknown n p k))))
 
 pub unknown-by-sentence : (n p : ℕ) → length (sentenceOf n p) ≡ 0 → known n ≡ false
-unknown-by-sentence n p h = by-test (known n) refl
-  where
-    by-test : (t : Bool) → known n ≡ t → t ≡ false
-    by-test true k = let e = sentence-length n p k in absurd (omega arith)
-    by-test false k = refl
+unknown-by-sentence n p h = cases (known n) (λ k. let e = sentence-length n p k in absurd (omega arith)) (λ k. k)
 
 -- ---- the sentence's line
 pub sentence-made : (line a b c : List ℕ) (n p : ℕ) → length line ≡ 100 → known n ≡ true → p < none → a ≡ frontOf (wordsOf n p) line
@@ -130,20 +107,20 @@ line-of line made n p end e m l h =
 
 -- ---- what writing answers
 pub writes-unknown : (n p : ℕ) (buffer : List ℕ) → known n ≡ false
-    → (unwritten outOfRange ≡ writtenOf n p (length buffer)) × (buffer ≡ bufferAfter n p buffer)
-unfolding writtenOf
+    → (unwritten outOfRange ≡ sentenceWrittenOf n p (length buffer)) × (buffer ≡ bufferAfter n p buffer)
+unfolding sentenceWrittenOf
 writes-unknown n p buffer k = (rw k, sym (ap (putOf buffer 0) (sentence-unknown n p k) ∙ put-nothing buffer 0 (omega arith)))
 
 pub writes-no-room : (n p : ℕ) (buffer : List ℕ) → known n ≡ true → length buffer < length (sentenceOf n p)
-    → (unwritten bufferShort ≡ writtenOf n p (length buffer)) × (buffer ≡ bufferAfter n p buffer)
-unfolding writtenOf putOf
+    → (unwritten bufferShort ≡ sentenceWrittenOf n p (length buffer)) × (buffer ≡ bufferAfter n p buffer)
+unfolding sentenceWrittenOf putOf
 writes-no-room n p buffer k h =
     let e = lt-leb (length (sentenceOf n p)) (length buffer) h in let f = lt-leb (0 + length (sentenceOf n p)) (length buffer) (omega arith) in
     (rw (k, e), rw f)
 
 pub writes : (n p end : ℕ) (buffer : List ℕ) → known n ≡ true → end ≡ length (sentenceOf n p) → end ≤ length buffer
-    → written end ≡ writtenOf n p (length buffer)
-unfolding writtenOf
+    → written end ≡ sentenceWrittenOf n p (length buffer)
+unfolding sentenceWrittenOf
 writes n p end buffer k e h = let f = le-leb (length (sentenceOf n p)) (length buffer) (omega arith) in rw (k, f, e)
 
 -- ---- what reading answers

@@ -1,27 +1,16 @@
 -- The promises of request 8: `each-has-a-sentence`, `printed`, `read-back`, `different`, `reads-only-sentences`, `written-and-read`. Assumes nothing.
-use native.Mathlib.Omega.{arith}
-use Prim.Native.Nat.{ℕ, zero, suc, _+_, _/_, _≤_, _<_}
-use mathlib.Core.Bool.{Bool, true, false, cond, _&&_, false≢true}
-use mathlib.Core.Path.{_≡_, refl, sym, ap, subst, _∙_}
-use mathlib.Core.List.{List, [], _∷_, _++_, append-assoc}
-use lib.Dec.{leb, ltb}
-use lib.ListN.{length, take, length-append}
-use borrow.Author.Tests.{le-leb, lt-ltb, ltb-true}
+use Rattle.prelude.proofs.Logic.{_≡_, refl, sym, ap, subst, _∙_, Bool, true, false, _&&_, and-eq-true-iff, List, [], _∷_, _++_, append-assoc, ℕ, zero, suc, _+_, _/_, _≤_, _<_, arith, leb, ltb, length, take, length-append, le-leb, lt-ltb, ltb-true, cases, either}
 use Rattle.text.specs.Text.{ascii, digitOf, digitsOf, decimalOf, frontOf}
 use Rattle.text.proofs.TextLaws.{put-next, cut-front}
 use Rattle.sentences.specs.declared.Meaning.{Meaning}
 use Rattle.sentences.specs.Table.{texts, textOf, nameOf, known, widest, widestName}
 use Rattle.sentences.specs.Guess.{none, numberIn, placeIn}
 use Rattle.sentences.specs.Sentences.{endsInColon, wordsOf, sentenceOf, bufferAfter, meant, noSentence, same, meaningOf}
-use Rattle.sentences.specs.Promises.{allKnown, EachHasASentence, printable, Says, Different, Printed, ReadBack, Right, ReadsOnlySentences, WrittenAndRead}
-use Rattle.sentences.specs.Promises.Right.{says, other}
+use Rattle.sentences.specs.Promises.{allKnown, EachHasASentence, printable, Says, Different, Printed, ReadBack, ReadAs, ReadsOnlySentences, WrittenAndRead}
+use Rattle.sentences.specs.Promises.ReadAs.{says, other}
 use Rattle.sentences.proofs.Lines.{text-fine, name-fine, text-says}
 use Rattle.sentences.proofs.Guessing.{number-append, ten-digits, place-back}
 use Rattle.sentences.proofs.Comparing.{same-itself, same-only}
-
-and-true : (a b : Bool) → a && b ≡ true → (a ≡ true) × (b ≡ true)
-and-true true b e = (refl, e)
-and-true false b e = absurd (false≢true e)
 
 pub each-has-a-sentence : EachHasASentence
 unfolding allKnown textOf texts
@@ -32,7 +21,7 @@ printable-append : (s t : List ℕ) → printable s ≡ true → printable t ≡
 unfolding printable
 printable-append [] t a b = b
 printable-append (x ∷ s) t a b =
-    let u = and-true (leb 32 x && leb x 126) (printable s) a in
+    let u = and-eq-true-iff (leb 32 x && leb x 126) (printable s) .0 a in
     rw (u .0) (printable-append s t (u .1) b)
 
 printable-digit : (n : ℕ) → printable (digitOf n ∷ []) ≡ true
@@ -42,11 +31,9 @@ printable-digit n = rw (le-leb 32 (digitOf n) (omega arith), le-leb (digitOf n) 
 printable-digits : (k n : ℕ) → printable (digitsOf k n) ≡ true
 unfolding digitsOf printable
 printable-digits zero n = refl
-printable-digits (suc k) n = by-test (ltb n 10) (printable-digits k (n / 10))
-  where
-    by-test : (b : Bool) → printable (digitsOf k (n / 10)) ≡ true → printable (cond b (digitOf n ∷ []) (digitsOf k (n / 10) ++ (digitOf n ∷ []))) ≡ true
-    by-test true i = printable-digit n
-    by-test false i = printable-append (digitsOf k (n / 10)) (digitOf n ∷ []) i (printable-digit n)
+printable-digits (suc k) n =
+    either (λ d. printable d ≡ true) (ltb n 10) (printable-digit n)
+    (printable-append (digitsOf k (n / 10)) (digitOf n ∷ []) (printable-digits k (n / 10)) (printable-digit n))
 
 -- ---- the words before the place, with a tag's name or without
 pub words-named : (n p : ℕ) → endsInColon (textOf n) ≡ true → wordsOf n p ≡ textOf n ++ nameOf p
@@ -65,21 +52,16 @@ record Begun (text words : List ℕ) : Type 0 where
   number : 10 ≤ length text → numberIn words ≡ numberIn text
 
 words-begun : (n p : ℕ) → Begun (textOf n) (wordsOf n p)
-words-begun n p = by-test (endsInColon (textOf n)) refl
-  where
-    by-test : (b : Bool) → endsInColon (textOf n) ≡ b → Begun (textOf n) (wordsOf n p)
-    by-test true e =
-        let t = text-fine n in let m = name-fine p in let a = t .short in let b = m .short in let l = length-append (textOf n) (nameOf p) in
-        subst (Begun (textOf n)) (sym (words-named n p e))
-        (record {
-          short = omega arith;
-          long = omega arith;
-          clean = printable-append (textOf n) (nameOf p) (t .clean) (m .clean);
-          number = number-append (textOf n) (nameOf p);
-        })
-    by-test false e =
-        let t = text-fine n in let a = t .short in
-        subst (Begun (textOf n)) (sym (words-alone n p e)) (record { short = omega arith; long = omega arith; clean = t .clean; number = λ h. refl })
+words-begun n p =
+    let t = text-fine n in let m = name-fine p in let a = t .short in let b = m .short in let l = length-append (textOf n) (nameOf p) in
+    cases (endsInColon (textOf n))
+    (λ e. rw (words-named n p e) (record {
+      short = omega arith;
+      long = omega arith;
+      clean = printable-append (textOf n) (nameOf p) (t .clean) (m .clean);
+      number = number-append (textOf n) (nameOf p);
+    }))
+    (λ e. rw (words-alone n p e) (record { short = omega arith; long = omega arith; clean = t .clean; number = λ h. refl }))
 
 pub words-short : (n p : ℕ) → length (wordsOf n p) ≤ 89
 words-short n p = words-begun n p .short
@@ -104,14 +86,12 @@ sentence-length n p k =
 -- ---- at most a hundred printable bytes
 pub printed : Printed
 unfolding printable
-printed n p h = by-test (known n) refl
-  where
-    by-test : (t : Bool) → known n ≡ t → (length (sentenceOf n p) ≤ 100) × (printable (sentenceOf n p) ≡ true)
-    by-test true k =
-        let e = sentence-length n p k in let w = words-begun n p in let s = w .short in let d = ten-digits p h in
-        let c = printable-append (wordsOf n p) (ascii " ") (w .clean) refl in
-        (omega arith, rw (sentence-known n p k) (printable-append (wordsOf n p ++ ascii " ") (decimalOf p) c (printable-digits 20 p)))
-    by-test false k = rw (sentence-unknown n p k) (omega arith, refl)
+printed n p h =
+    cases (known n)
+    (λ k. let e = sentence-length n p k in let w = words-begun n p in let s = w .short in let d = ten-digits p h in
+    let c = printable-append (wordsOf n p) (ascii " ") (w .clean) refl in
+    (omega arith, rw (sentence-known n p k) (printable-append (wordsOf n p ++ ascii " ") (decimalOf p) c (printable-digits 20 p))))
+    (λ k. rw (sentence-unknown n p k) (omega arith, refl))
 
 -- ---- a sentence is read back
 meaning-at : (bytes : List ℕ) (n p : ℕ) → numberIn bytes ≡ n → placeIn 0 bytes ≡ p → p < none → known n ≡ true → same (sentenceOf n p) bytes ≡ true
@@ -160,22 +140,19 @@ module _ (bytes : List ℕ) where
 
   accepted-bytes : test ≡ true → Says bytes n p
   accepted-bytes e =
-      let t = and-true (ltb p none && known n) (same (sentenceOf n p) bytes) e in let u = and-true (ltb p none) (known n) (t .0) in
+      let t = and-eq-true-iff (ltb p none && known n) (same (sentenceOf n p) bytes) .0 e in let u = and-eq-true-iff (ltb p none) (known n) .0 (t .0) in
       record { number = u .1; place = ltb-true p none (u .0); sentence = sym (same-only (sentenceOf n p) bytes (t .1)) }
 
 pub reads-only-sentences : ReadsOnlySentences
-reads-only-sentences bytes = by-test (test bytes) refl
+reads-only-sentences bytes =
+    cases (test bytes)
+    (λ e. let s = accepted-bytes bytes e in subst (ReadAs bytes) (sym (read-back bytes (n bytes) (p bytes) s)) (says (n bytes) (p bytes) s))
+    (λ e. subst (ReadAs bytes) (sym (refused-bytes bytes e)) (other (λ m q s. never m q e s)))
   where
     never : (m q : ℕ) → test bytes ≡ false → Says bytes m q → ⊥
     never m q e s =
         let z : _≡_ {A = ℕ} 5 0 = ap (λ (r : Meaning). r .number) (sym (refused-bytes bytes e) ∙ read-back bytes m q s) in
         omega arith
-
-    by-test : (t : Bool) → test bytes ≡ t → Right bytes (meaningOf bytes)
-    by-test true e =
-        let s = accepted-bytes bytes e in
-        subst (Right bytes) (sym (read-back bytes (n bytes) (p bytes) s)) (says (n bytes) (p bytes) s)
-    by-test false e = subst (Right bytes) (sym (refused-bytes bytes e)) (other (λ m q s. never m q e s))
 
 -- ---- what was written is read back
 pub written-and-read : WrittenAndRead

@@ -1,14 +1,5 @@
 -- One step of each loop, and the look into a table. Assumes nothing.
-use native.Mathlib.Omega.{arith}
-use native.Mathlib.Numerals.{add-one}
-use Prim.Native.Nat.{ℕ, zero, suc, _+_, _-_, _*_, _≤_, _<_}
-use mathlib.Core.Path.{_≡_, refl, sym, ap, _∙_}
-use mathlib.Core.Bool.{false, true}
-use mathlib.Core.List.{List, [], _∷_, map}
-use lib.ListN.{length, getD, drop, take}
-use lib.Seq.{drop-cons, drop-length, getD-take, length-take-le}
-use lib.Dec.{eqb}
-use borrow.Author.Tests.{eq-eqb, ne-eqb, lt-ltb, le-ltb}
+use Rattle.prelude.proofs.Logic.{_≡_, refl, sym, ap, _∙_, false, true, List, [], _∷_, map, ℕ, zero, suc, _+_, _-_, _*_, _≤_, _<_, add-one, arith, eqb, length, getD, drop, take, drop-cons, drop-length, getD-take, length-take-le, eq-eqb, ne-eqb, lt-ltb, le-ltb}
 use Rattle.sentences.specs.Rows.{endOf}
 use Rattle.sentences.specs.Guess.{isDigit, numberIn, none, longer, placeIn}
 use Rattle.sentences.specs.Sentences.{endsInColon}

@@ -42,12 +42,12 @@ abbrev pub ReadBack : Type 0
 ReadBack = (bytes : List ℕ) (n p : ℕ) → Says bytes n p → meaningOf bytes ≡ meant n p
 
 -- "and refuses all other bytes by 5, place 0"
-pub data Right (bytes : List ℕ) : Meaning → Type 0 where
-  says : (n p : ℕ) → Says bytes n p → Right bytes (meant n p)
-  other : ((n p : ℕ) → Says bytes n p → ⊥) → Right bytes noSentence
+pub data ReadAs (bytes : List ℕ) : Meaning → Type 0 where
+  says : (n p : ℕ) → Says bytes n p → ReadAs bytes (meant n p)
+  other : ((n p : ℕ) → Says bytes n p → ⊥) → ReadAs bytes noSentence
 
 abbrev pub ReadsOnlySentences : Type 0
-ReadsOnlySentences = (bytes : List ℕ) → Right bytes (meaningOf bytes)
+ReadsOnlySentences = (bytes : List ℕ) → ReadAs bytes (meaningOf bytes)
 
 -- "is written at the front of a lent buffer": a buffer with room has the sentence there and else its own bytes, and it is read back
 abbrev pub WrittenAndRead : Type 0

@@ -6,7 +6,7 @@ use lib.Dec.{leb, ltb, eqb}
 use lib.ListN.{length, getD}
 use Rattle.text.specs.Text.{ascii, decimalOf, putOf}
 use Rattle.refusals.specs.Refusals.{outOfRange, bufferShort}
-use Rattle.sentences.specs.declared.Written.{Written}
+use Rattle.sentences.specs.declared.WrittenSentence.{WrittenSentence}
 use Rattle.sentences.specs.declared.Meaning.{Meaning}
 use Rattle.sentences.specs.Table.{textOf, nameOf, known}
 use Rattle.sentences.specs.Guess.{none, numberIn, placeIn}
@@ -24,15 +24,15 @@ unfoldable pub sentenceOf : ℕ → ℕ → List ℕ
 sentenceOf n p = cond (known n) (wordsOf n p ++ ascii " " ++ decimalOf p) []
 
 -- ---- writing
-abbrev pub unwritten : ℕ → Written
+abbrev pub unwritten : ℕ → WrittenSentence
 unwritten number = record { number = number; place = 0; length = 0 }
 
-abbrev pub written : ℕ → Written
+abbrev pub written : ℕ → WrittenSentence
 written length = record { number = 0; place = 0; length = length }
 
 -- "An unknown number gets 5, place 0, before the buffer is checked. A buffer shorter than the sentence gets 9"
-unfoldable pub writtenOf : ℕ → ℕ → ℕ → Written
-writtenOf n p room =
+unfoldable pub sentenceWrittenOf : ℕ → ℕ → ℕ → WrittenSentence
+sentenceWrittenOf n p room =
     cond (known n)
     (cond (leb (length (sentenceOf n p)) room) (written (length (sentenceOf n p))) (unwritten bufferShort))
     (unwritten outOfRange)

@@ -5,7 +5,7 @@ pub mod sentence;
 mod table;
 
 // What writing answers.
-pub struct Written {
+pub struct WrittenSentence {
     pub number: u32,
     pub place: u32,
     pub length: u32,

@@ -1,9 +1,9 @@
 // The two calls: a refusal's sentence into a lent buffer, and the refusal that bytes say.
 ghost use mathlib.Core.Path.{_≡_};
 ghost use lib.ListN.{length};
-ghost use Rattle.sentences.specs.Sentences.{unwritten, writtenOf, bufferAfter, noSentence, meaningOf};
+ghost use Rattle.sentences.specs.Sentences.{unwritten, sentenceWrittenOf, bufferAfter, noSentence, meaningOf};
 use super::Meaning;
-use super::Written;
+use super::WrittenSentence;
 use super::line::put_sentence;
 use super::reading::NONE;
 use super::reading::is_same;
@@ -13,10 +13,10 @@ use refusals::BUFFER_SHORT;
 use refusals::OUT_OF_RANGE;
 use text::put::put;
 
-fn refuse(number: u32) -> Written
+fn refuse(number: u32) -> WrittenSentence
     ensures { λ r. ⌜ r ≡ unwritten number ⌝ }
 {
-    Written {
+    WrittenSentence {
         number: number,
         place: 0,
         length: 0,
@@ -25,8 +25,8 @@ fn refuse(number: u32) -> Written
 
 // The sentence is made by itself first: so a number that is not known is told before the buffer is looked at, and a buffer without room
 // keeps every byte.
-pub fn write_sentence(number: u32, place: u32, buffer: &mut [u8]) -> Written
-    ensures { λ r. ⌜ r ≡ writtenOf number place (length (now (buffer .entry))) ⌝ }
+pub fn write_sentence(number: u32, place: u32, buffer: &mut [u8]) -> WrittenSentence
+    ensures { λ r. ⌜ r ≡ sentenceWrittenOf number place (length (now (buffer .entry))) ⌝ }
     ensures { λ _. ⌜ now (buffer .exit) ≡ bufferAfter number place (now (buffer .entry)) ⌝ }
 {
     let mut line = [0u8; 100];
@@ -38,7 +38,7 @@ pub fn write_sentence(number: u32, place: u32, buffer: &mut [u8]) -> Written
         return refuse(BUFFER_SHORT);
     }
     put(&mut buffer[..], 0, &line[..length]);
-    Written {
+    WrittenSentence {
         number: 0,
         place: 0,
         length: length as u32,

@@ -1,12 +1,5 @@
 -- The arithmetic of `hour` and `next_midnight` at what the machine reads, and their times. Assumes nothing.
-use mathlib.Core.Path.{_≡_, sym, ap, subst, _∙_}
-use Prim.Native.Nat.{ℕ, _+_, _*_, _≤_, _<_}
-use native.Mathlib.Omega.{arith}
-use lib.IntN.{ℤ, pos, negsuc, _-ℤ_}
-use lib.Dec.{ltb}
-use borrow.Author.Tests.{lt-ltb, le-ltb}
-use mir.Syntax.{w32}
-use mir.Val.{SFits, toZ, ofZ}
+use Rattle.prelude.proofs.Logic.{_≡_, sym, ap, subst, _∙_, ℕ, _+_, _*_, _≤_, _<_, arith, ℤ, pos, negsuc, _-ℤ_, lt-ltb, le-ltb, w32, SFits, toZ, ofZ}
 use Rattle.integers.proofs.PartsLaws.{same}
 use Rattle.integers.proofs.Sums.{sum, difference}
 use Rattle.integers.proofs.Ranges.{fits, read}

@@ -5,3 +5,4 @@ pub mod PastMidnightLaws
 pub mod Taken
 pub mod PastMidnightSentences
 pub mod TimesLaws
+pub mod OnTheDate

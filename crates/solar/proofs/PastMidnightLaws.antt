@@ -1,12 +1,6 @@
 -- What the carried times are: where they lie, where they are document 01's, and what they are where it has none. Assumes nothing.
-use mathlib.Core.Path.{_≡_, refl, sym, ap, subst, _∙_}
-use mathlib.Core.Bool.{Bool, true, false, cond}
-use Prim.Native.Nat.{ℕ, _+_, _*_, _≤_, _<_}
-use native.Mathlib.Omega.{arith}
-use lib.Dec.{ltb, lit≤}
-use lib.IntN.{ℤ, pos, _-ℤ_}
+use Rattle.prelude.proofs.Logic.{_≡_, refl, sym, ap, subst, _∙_, Bool, true, false, cond, ℕ, _+_, _*_, _≤_, _<_, arith, ltb, lit≤, ℤ, pos, _-ℤ_, ltb-true, ltb-false, lt-ltb, le-ltb}
 use lib.Ieee.{Float}
-use borrow.Author.Tests.{ltb-true, ltb-false, lt-ltb, le-ltb}
 use Rattle.float64.specs.Sizes.{isNormalOf}
 use Rattle.float64.specs.Whole.{floorOf}
 use Rattle.solar.specs.declared.setting.SolarHour.{SolarHour}
@@ -14,7 +8,7 @@ use Rattle.solar.specs.declared.setting.SolarHour.the-variants.{At, None
 use Rattle.solar.specs.declared.setting.Placed.{Placed}
 use Rattle.solar.specs.Setting.{hourAdjustmentOf, minuteOf, hourOf, settingHourOf}
 use Rattle.solar.proofs.SettingLaws.{HourOfThreeDays, counted, ahead-held}
-use Rattle.solar.specs.PastMidnight.{hasTimeOf, secondOf, sumOf, restOf, nextMidnightOf, carriedOf, carriedHourOf}
+use Rattle.solar.specs.PastMidnight.{hasTimeOf, daySecondOf, sumOf, restOf, nextMidnightOf, carriedOf, carriedHourOf}
 
 -- ---- the range
 rest-held : (minute : ℕ) → restOf minute < 60
@@ -31,7 +25,7 @@ carry-held p minute h = by-test (ltb hour 24) refl
     hour : ℕ
     hour = sumOf (p .hour) minute
 
-    by-test : (b : Bool) → ltb hour 24 ≡ b → HourOfThreeDays (cond b (At (secondOf (p .ahead) hour (restOf minute))) (nextMidnightOf (p .ahead)))
+    by-test : (b : Bool) → ltb hour 24 ≡ b → HourOfThreeDays (cond b (At (daySecondOf (p .ahead) hour (restOf minute))) (nextMidnightOf (p .ahead)))
     by-test true e =
         counted (p .ahead * 86400 + hour * 3600 + restOf minute * 60) (omega (arith, ltb-true hour 24 e, rest-held minute))
     by-test false e = counted ((p .ahead + 1) * 86400 + 0 * 3600 + 0 * 60) (omega arith)
@@ -71,12 +65,12 @@ carry-from p minute = by-test (ltb minute 60) refl
     same-test true = refl
     same-test false = refl
 
-    next-test : (b : Bool) → ltb (p .hour) 23 ≡ b → cond (ltb (p .hour + 1) 24) (At (secondOf (p .ahead) (p .hour + 1) 0)) after ≡ carriedFrom (cond b (At next) None) (p .ahead)
+    next-test : (b : Bool) → ltb (p .hour) 23 ≡ b → cond (ltb (p .hour + 1) 24) (At (daySecondOf (p .ahead) (p .hour + 1) 0)) after ≡ carriedFrom (cond b (At next) None) (p .ahead)
     next-test true e = rw (lt-ltb (p .hour + 1) 24 (omega (arith, ltb-true (p .hour) 23 e))) (same-time (p .ahead * 86400 + (p .hour + 1) * 3600 + 0 * 60) (p .ahead * 86400 + (p .hour + 1) * 3600) (omega arith))
     next-test false e = rw (le-ltb (p .hour + 1) 24 (omega (arith, ltb-false (p .hour) 23 e)))
 
     by-test : (b : Bool) → ltb minute 60 ≡ b →
-        cond (ltb (cond b (p .hour) (p .hour + 1)) 24) (At (secondOf (p .ahead) (cond b (p .hour) (p .hour + 1)) (cond b minute 0))) after
+        cond (ltb (cond b (p .hour) (p .hour + 1)) 24) (At (daySecondOf (p .ahead) (cond b (p .hour) (p .hour + 1)) (cond b minute 0))) after
         ≡ carriedFrom (cond b (cond (ltb (p .hour) 24) (At on) None) (cond (ltb (p .hour) 23) (At next) None)) (p .ahead)
     by-test true e = same-test (ltb (p .hour) 24)
     by-test false e = next-test (ltb (p .hour) 23) refl

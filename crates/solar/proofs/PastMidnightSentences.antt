@@ -1,23 +1,15 @@
 -- Request 1's sentences, each as a law over every number. Assumes nothing.
-use mathlib.Core.Path.{_≡_, refl, ap, _∙_}
-use mathlib.Core.Bool.{Bool, true, false, cond, _&&_, _||_, false≢true}
-use Prim.Native.Nat.{ℕ, _+_, _*_, _^_, _≤_, _<_}
-use native.Mathlib.Nat.{mul-le-mul-left}
-use native.Mathlib.Omega.{arith}
-use lib.Dec.{ltb, eqb}
-use lib.IntN.{ℤ, pos}
-use lib.Pow.{pow-pos}
+use Rattle.prelude.proofs.Logic.{_≡_, refl, ap, _∙_, Bool, true, false, cond, _&&_, _||_, false≢true, ℕ, _+_, _*_, _^_, _≤_, _<_, mul-le-mul-left, arith, ltb, eqb, ℤ, pos, pow-pos, ltb-true, lt-ltb, le-ltb, leb-false, eqb-true, ne-eqb}
 use lib.Ieee.{Float, nan, inf, fin, up, down, round, neg, le, lt, eq}
 use lib.Ieee.Fits.{down-pos}
-use borrow.Author.Tests.{ltb-true, lt-ltb, le-ltb, leb-false, eqb-true, ne-eqb}
 use Rattle.float64.specs.Ops.{dec}
 use Rattle.float64.specs.Sizes.{isNormalOf}
 use Rattle.float64.specs.Whole.{floorOf}
 use Rattle.solar.specs.declared.setting.SolarHour.the-variants.{At, None}
 use Rattle.solar.specs.Setting.{hourAdjustmentOf, minuteOf, settingHourOf}
-use Rattle.solar.specs.PastMidnight.{hasTimeOf, secondOf, sumOf, restOf, nextMidnightOf, carriedOf, carriedHourOf}
+use Rattle.solar.specs.PastMidnight.{hasTimeOf, daySecondOf, sumOf, restOf, nextMidnightOf, carriedOf, carriedHourOf}
 use Rattle.solar.proofs.PastMidnightLaws.{carried-none, carried-small, carried-past}
-use Rattle.solar.proofs.Taken.{both, dateOf, taken-is, hour-in-day}
+use Rattle.solar.proofs.Taken.{both, dateTaken, taken-is, hour-in-day}
 
 -- ---- zero and subnormal numbers are 00:00 of the date
 less-than : (a d w : ℕ) → 0 < w → a * w < d → a < d
@@ -100,23 +92,23 @@ sum-held value h = go (ltb (minuteOf value (floorOf value)) 60)
     go false = omega (arith, hour-in-day value h)
 
 taken-carried : (value : Float) → hasTimeOf value ≡ true → isNormalOf value ≡ true
-    → carriedHourOf value ≡ cond (ltb (hourSum value) 24) (At (secondOf (dateOf value) (hourSum value) (minuteLeft value))) (nextMidnightOf (dateOf value))
+    → carriedHourOf value ≡ cond (ltb (hourSum value) 24) (At (daySecondOf (dateTaken value) (hourSum value) (minuteLeft value))) (nextMidnightOf (dateTaken value))
 unfolding carriedHourOf carriedOf
 taken-carried value h n =
     rw (h, n)
-    (ap (λ (d : ℕ). cond (ltb (hourSum value) 24) (At (secondOf d (hourSum value) (minuteLeft value))) (nextMidnightOf d)) (taken-is value h))
+    (ap (λ (d : ℕ). cond (ltb (hourSum value) 24) (At (daySecondOf d (hourSum value) (minuteLeft value))) (nextMidnightOf d)) (taken-is value h))
 
 pub hour-on-date : (value : Float) → hasTimeOf value ≡ true → isNormalOf value ≡ true → hourSum value < 24
-    → carriedHourOf value ≡ At (secondOf (dateOf value) (hourSum value) (minuteLeft value))
+    → carriedHourOf value ≡ At (daySecondOf (dateTaken value) (hourSum value) (minuteLeft value))
 hour-on-date value h n l =
     taken-carried value h n
-    ∙ ap (λ (b : Bool). cond b (At (secondOf (dateOf value) (hourSum value) (minuteLeft value))) (nextMidnightOf (dateOf value))) (lt-ltb (hourSum value) 24 l)
+    ∙ ap (λ (b : Bool). cond b (At (daySecondOf (dateTaken value) (hourSum value) (minuteLeft value))) (nextMidnightOf (dateTaken value))) (lt-ltb (hourSum value) 24 l)
 
-pub hour-24-carried : (value : Float) → hasTimeOf value ≡ true → isNormalOf value ≡ true → hourSum value ≡ 24 → carriedHourOf value ≡ nextMidnightOf (dateOf value)
+pub hour-24-carried : (value : Float) → hasTimeOf value ≡ true → isNormalOf value ≡ true → hourSum value ≡ 24 → carriedHourOf value ≡ nextMidnightOf (dateTaken value)
 hour-24-carried value h n l =
     taken-carried value h n
-    ∙ ap (λ (b : Bool). cond b (At (secondOf (dateOf value) (hourSum value) (minuteLeft value))) (nextMidnightOf (dateOf value))) (le-ltb (hourSum value) 24 (omega arith))
+    ∙ ap (λ (b : Bool). cond b (At (daySecondOf (dateTaken value) (hourSum value) (minuteLeft value))) (nextMidnightOf (dateTaken value))) (le-ltb (hourSum value) 24 (omega arith))
 
 -- where document 01 has no time
-pub lost-carried : (value : Float) → hasTimeOf value ≡ true → isNormalOf value ≡ true → settingHourOf value ≡ None → carriedHourOf value ≡ nextMidnightOf (dateOf value)
+pub lost-carried : (value : Float) → hasTimeOf value ≡ true → isNormalOf value ≡ true → settingHourOf value ≡ None → carriedHourOf value ≡ nextMidnightOf (dateTaken value)
 lost-carried value h n e = carried-past value h n e ∙ ap nextMidnightOf (taken-is value h)

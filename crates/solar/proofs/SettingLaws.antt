@@ -1,12 +1,6 @@
 -- Where the times of `setting_hour` lie: from 0h of yesterday to 24h of tomorrow, for every hour number that has a time. Assumes nothing.
-use mathlib.Core.Path.{_≡_, refl}
-use mathlib.Core.Bool.{Bool, true, false, cond}
-use Prim.Native.Nat.{ℕ, _+_, _*_, _≤_, _<_}
-use native.Mathlib.Omega.{arith}
-use lib.Dec.{ltb, lit≤}
-use lib.IntN.{ℤ, pos, _-ℤ_}
+use Rattle.prelude.proofs.Logic.{_≡_, refl, Bool, true, false, cond, ℕ, _+_, _*_, _≤_, arith, ltb, lit≤, ℤ, pos, _-ℤ_, ltb-true}
 use lib.Ieee.{Float, lt}
-use borrow.Author.Tests.{ltb-true}
 use Rattle.integers.specs.Parts.{Between}
 use Rattle.integers.proofs.Sums.{difference}
 use Rattle.integers.proofs.Intervals.{by-balance}

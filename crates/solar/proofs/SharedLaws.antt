@@ -1,14 +1,9 @@
 -- The hour numbers of a course are those of the source's calls on its three positions. Assumes nothing.
-use mathlib.Core.Path.{_≡_, fun-ext}
-use mathlib.Core.Bool.{Bool, true, false}
-use lib.Ieee.{Float}
+use Rattle.prelude.proofs.Logic.{_≡_, fun-ext, Bool, true, false}
 use Rattle.unit.specs.declared.Angle.{Angle}
-use Rattle.unit.specs.declared.Coordinates.{Coordinates}
 use Rattle.ops.specs.declared.transit.Course.{Course}
 use Rattle.ops.specs.Shared.{observerOf, courseTransitNumberOf}
 use Rattle.ops.proofs.SharedLaws.{transit-shared, hour-number-shared}
-use Rattle.solar.specs.declared.coordinates.SolarCoordinates.{SolarCoordinates}
-use Rattle.solar.specs.declared.hours.HourNumbers.{HourNumbers}
 use Rattle.solar.specs.Hours.{Sun, approxTransitOf, solarAltitude, transitNumberOf, angleNumberOf, hourNumbersOf, shadowAngleOf, afternoonNumberOf}
 use Rattle.solar.specs.Shared.{courseOver, courseAngleNumberOf, courseNumbersOf, courseAfternoonNumberOf}
 

@@ -1,18 +1,11 @@
 -- The date that an hour number takes, told by the number itself, and its hour in that date: for every number that has a time the hour is at
 -- most 23, so that the sum with minute 60 is at most 24. Assumes nothing.
-use mathlib.Core.Path.{_≡_, refl, sym, ap, subst, _∙_}
-use mathlib.Core.Bool.{Bool, true, false, cond, _&&_, _||_, true≢false, false≢true}
-use Prim.Native.Nat.{ℕ, suc, _+_, _-_, _*_, _/_, _^_, _≤_, _<_}
-use native.Mathlib.Nat.{div-one, min-eq-left, div-add-mod', mod-lt, mul-one, mul-le-mul-right, lt-of-mul-lt-mul-right, div-lt-iff-lt-mul}
-use native.Mathlib.Omega.{arith}
-use lib.Dec.{ltb, eqb, lit<}
-use lib.IntN.{ℤ, pos}
+use Rattle.prelude.proofs.Logic.{_≡_, refl, sym, ap, subst, _∙_, Bool, true, false, cond, _&&_, _||_, true≢false, false≢true, ℕ, suc, _+_, _-_, _*_, _/_, _^_, _≤_, _<_, div-one, min-eq-left, div-add-mod', mod-lt, mul-one, mul-le-mul-right, lt-of-mul-lt-mul-right, div-lt-iff-lt-mul, arith, ltb, eqb, lit<, ℤ, pos, ltb-true, ltb-false, lt-ltb, le-ltb, eqb-true, eqb-false}
 use lib.Ieee.{Float, nan, inf, fin, binary64, up, down, round, ofInt, neg, sum, add, sub, le, lt, eq, toUnsigned}
 use lib.Ieee.Exact.{HasValue}
 use lib.Ieee.Back.{round-whole}
 use lib.Ieee.Scale.{round-same}
 use lib.Ieee.Fits.{down-pos}
-use borrow.Author.Tests.{ltb-true, ltb-false, lt-ltb, le-ltb, eqb-true, eqb-false}
 use Rattle.float64.specs.Ops.{dec}
 use Rattle.float64.specs.Whole.{floorOf, wholePart, fraction}
 use Rattle.float64.proofs.Values.{big, lt-values}
@@ -24,11 +17,11 @@ use Rattle.solar.specs.PastMidnight.{hasTimeOf}
 use Rattle.solar.proofs.PastMidnightLaws.{takenOf}
 
 -- ---- the limits
-zero-value : HasValue (dec 0 0) false 0 1
+pub zero-value : HasValue (dec 0 0) false 0 1
 unfolding dec round
 zero-value = (refl, refl)
 
-day-value : HasValue (dec 24 0) false 24 1
+pub day-value : HasValue (dec 24 0) false 24 1
 unfolding dec round
 day-value = (refl, refl)
 
@@ -54,7 +47,7 @@ unfolding hasTimeOf dec round neg le lt eq
 high-limit m e h = omega (arith, ltb-true (m * up e * 1) (3 * 2 ^ 4 * down e) (both (le (neg (dec 24 0)) (fin false m e)) (ltb (m * up e * 1) (3 * 2 ^ 4 * down e)) h .1))
 
 -- ---- floors
-floor-up : (m : ℕ) (e : ℤ) → wholePart m e ≤ big → HasValue (floorOf (fin false m e)) false (wholePart m e) 1
+pub floor-up : (m : ℕ) (e : ℤ) → wholePart m e ≤ big → HasValue (floorOf (fin false m e)) false (wholePart m e) 1
 unfolding floorOf ofInt
 floor-up m e h = go (eqb (fraction m e) 0) refl
   where
@@ -193,11 +186,11 @@ place-zero (fin true m e) v =
 
 -- ---- numbers that have a time
 -- the date that an hour number takes: yesterday below 0, tomorrow from 24 on
-abbrev pub dateOf : Float → ℕ
-dateOf value = cond (lt value (dec 0 0)) 0 (cond (lt value (dec 24 0)) 1 2)
+abbrev pub dateTaken : Float → ℕ
+dateTaken value = cond (lt value (dec 0 0)) 0 (cond (lt value (dec 24 0)) 1 2)
 
 Right : Float → Type 0
-Right value = (takenOf value ≡ dateOf value) × (hourAdjustmentOf (floorOf value) .hour < 24)
+Right value = (takenOf value ≡ dateTaken value) × (hourAdjustmentOf (floorOf value) .hour < 24)
 
 right-up : (m : ℕ) (e : ℤ) → hasTimeOf (fin false m e) ≡ true → Right (fin false m e)
 unfolding Right
@@ -273,7 +266,7 @@ right (fin true m e) h = right-down m e h
 right (fin false m e) h = right-up m e h
 
 -- LAW the date taken is yesterday below 0, tomorrow from 24 on, and else the date
-pub taken-is : (value : Float) → hasTimeOf value ≡ true → takenOf value ≡ dateOf value
+pub taken-is : (value : Float) → hasTimeOf value ≡ true → takenOf value ≡ dateTaken value
 unfolding Right
 taken-is value h = right value h .0
 

@@ -1,8 +1,5 @@
 -- Where the times of the sun lie by either rule: from 0h of yesterday to 24h of tomorrow. Assumes nothing.
-use mathlib.Core.Path.{_≡_, subst}
-use Prim.Native.Nat.{_≤_}
-use lib.Dec.{lit≤}
-use lib.IntN.{ℤ}
+use Rattle.prelude.proofs.Logic.{_≡_, subst, _≤_, lit≤, ℤ}
 use lib.Ieee.{Float}
 use Rattle.models.specs.declared.rules.Midnight.{Midnight}
 use Rattle.models.specs.declared.rules.Midnight.the-variants.{Stops, Carries}

@@ -20,8 +20,8 @@ unfolding dec
 hasTimeOf value = le (neg (dec 24 0)) value && lt value (dec 48 0)
 
 -- the second of a day's hour and minute; the day is 0 for yesterday, 1 for the date, 2 for tomorrow and 3 for the day after
-abbrev pub secondOf : ℕ → ℕ → ℕ → ℤ
-secondOf day hour minute = pos (day * 86400 + hour * 3600 + minute * 60) -ℤ pos 86400
+abbrev pub daySecondOf : ℕ → ℕ → ℕ → ℤ
+daySecondOf day hour minute = pos (day * 86400 + hour * 3600 + minute * 60) -ℤ pos 86400
 
 -- "minute 60 adds an hour to the hour found", and leaves minute 0
 abbrev pub sumOf : ℕ → ℕ → ℕ
@@ -32,13 +32,13 @@ restOf minute = cond (ltb minute 60) minute 0
 
 -- 00:00 of the date after the one taken
 abbrev pub nextMidnightOf : ℕ → SolarHour
-nextMidnightOf taken = At (secondOf (taken + 1) 0 0)
+nextMidnightOf taken = At (daySecondOf (taken + 1) 0 0)
 
 -- hour and minute as document 01 finds them, on the date taken; a sum of 24 goes on to the next
 unfoldable pub carriedOf : Placed → ℕ → SolarHour
 carriedOf p minute =
     let hour = sumOf (p .hour) minute in
-    cond (ltb hour 24) (At (secondOf (p .ahead) hour (restOf minute))) (nextMidnightOf (p .ahead))
+    cond (ltb hour 24) (At (daySecondOf (p .ahead) hour (restOf minute))) (nextMidnightOf (p .ahead))
 
 -- what has a time and is not normal is zero or subnormal
 unfoldable pub carriedHourOf : Float → SolarHour

@@ -1,19 +1,13 @@
--- solar.rs: the times of a day's transit, sunrise and sunset, or the number of the first that it lacks; and the times of an angle and of Asr. All in
--- seconds from 0h of the day's date.
-use mathlib.Core.Bool.{Bool}
+-- solar.rs: the times of a day's transit, sunrise and sunset, or the number of the first that it lacks. All in seconds from 0h of the day's date.
 use lib.Ieee.{Float}
 use Rattle.refusals.specs.Refusals.{noTransit, noSunrise, noSunset}
 use Rattle.models.specs.declared.rules.Midnight.{Midnight}
 use Rattle.models.specs.declared.rules.Midnight.the-variants.{Stops, Carries}
-use Rattle.ops.specs.declared.transit.Course.{Course}
-use Rattle.unit.specs.declared.Angle.{Angle}
 use Rattle.solar.specs.declared.hours.HourNumbers.{HourNumbers}
 use Rattle.solar.specs.declared.setting.SolarHour.{SolarHour}
 use Rattle.solar.specs.declared.setting.SolarHour.the-variants.{At, None}
-use Rattle.solar.specs.declared.times.SolarTime.{SolarTime}
 use Rattle.solar.specs.declared.times.SolarDay.{SolarDay}
 use Rattle.solar.specs.declared.times.SolarDay.the-variants.{Whole, Lacks}
-use Rattle.solar.specs.Shared.{courseAngleNumberOf, courseAfternoonNumberOf}
 use Rattle.solar.specs.Setting.{settingHourOf}
 use Rattle.solar.specs.PastMidnight.{carriedHourOf}
 
@@ -31,9 +25,3 @@ dayOf (At t) (At r) (At s) = Whole (record { transit = t; sunrise = r; sunset = 
 
 unfoldable pub solarTimeOf : Midnight → HourNumbers → SolarDay
 solarTimeOf rule n = dayOf (solarHourOf rule (n .transit)) (solarHourOf rule (n .sunrise)) (solarHourOf rule (n .sunset))
-
-abbrev pub timeForSolarAngleOf : Midnight → Course → Angle → Bool → SolarHour
-timeForSolarAngleOf rule course angle after = solarHourOf rule (courseAngleNumberOf course angle after)
-
-abbrev pub afternoonOf : Midnight → Course → Float → Float → SolarHour
-afternoonOf rule course latitude shadow = solarHourOf rule (courseAfternoonNumberOf course latitude shadow)

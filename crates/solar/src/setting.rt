@@ -1,5 +1,8 @@
 // solar.rs: an hour number as a time, in seconds from 0h of its date. An i32 holds them, so that no sum of them needs an end of a range.
 ghost use mathlib.Core.Path.{_≡_};
+ghost use mathlib.Core.Bool.{true};
+ghost use lib.Ieee.{lt};
+ghost use Rattle.float64.specs.Ops.{dec};
 ghost use Rattle.solar.specs.Setting.{hourAdjustmentOf, minuteOf, hourOf, settingHourOf};
 use float64::casts::to_u32;
 use float64::sizes::is_normal;
@@ -40,7 +43,8 @@ pub fn hour_adjustment(calculated_hours: f64) -> Placed
     }
 }
 
-// The nearest minute. The floored seconds can be -1, so all of this stays in floats.
+// The nearest minute. The floored seconds can be -1, so all of this stays in floats. What is rounded is whole, so that between 0 and 60, where nearly
+// all of it lies, no cast need cut a fraction off again.
 pub(crate) fn minute(value: f64, calculated_hours: f64) -> u32
     ensures { λ r. ⌜ r ≡ minuteOf value «calculated_hours» ⌝ }
 {
@@ -48,7 +52,13 @@ pub(crate) fn minute(value: f64, calculated_hours: f64) -> u32
     let calculated_seconds = floor(
         (value - (calculated_hours + calculated_minutes / 60.0)) * 60.0 * 60.0,
     );
-    to_u32(round(calculated_minutes + calculated_seconds / 60.0))
+    let minutes = calculated_minutes + calculated_seconds / 60.0;
+    if 0.0 < minutes {
+        if minutes < 60.0 {
+            return round(minutes) as u32;
+        }
+    }
+    to_u32(round(minutes))
 }
 
 pub(crate) fn hour(p: Placed, minute: u32) -> SolarHour
@@ -70,10 +80,28 @@ pub(crate) fn hour(p: Placed, minute: u32) -> SolarHour
     SolarHour::None
 }
 
+// Above 1 and below 24 a number is normal, and its floored hours are an hour of the date.
+fn date_hour(value: f64) -> SolarHour
+    requires { ⌜ (lt (dec 1 0) value ≡ true) × (lt value (dec 24 0) ≡ true) ⌝ }
+    ensures { λ r. ⌜ r ≡ settingHourOf value ⌝ }
+{
+    let calculated_hours = floor(value);
+    let placed = Placed {
+        ahead: 1,
+        hour: calculated_hours as u32,
+    };
+    hour(placed, minute(value, calculated_hours))
+}
+
 // The time of an hour number, where it has one.
 pub fn setting_hour(value: f64) -> SolarHour
     ensures { λ r. ⌜ r ≡ settingHourOf value ⌝ }
 {
+    if 1.0 < value {
+        if value < 24.0 {
+            return date_hour(value);
+        }
+    }
     if is_normal(value) {
         let hours = floor(value);
         return hour(hour_adjustment(hours), minute(value, hours));

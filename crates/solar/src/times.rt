@@ -1,7 +1,8 @@
 // solar.rs: the times of the sun on a day, each in seconds from 0h of its date. Where SolarTime::new panics, the day lacks a time and is
 // refused by a number.
 ghost use mathlib.Core.Path.{_≡_};
-ghost use Rattle.solar.specs.Times.{solarHourOf, dayOf, solarTimeOf, timeForSolarAngleOf, afternoonOf};
+ghost use Rattle.solar.specs.Shared.{timeForSolarAngleOf, afternoonOf};
+ghost use Rattle.solar.specs.Times.{solarHourOf, dayOf, solarTimeOf};
 use super::hours::HourNumbers;
 use super::hours::afternoon_number;
 use super::hours::angle_number;

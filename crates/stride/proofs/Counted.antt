@@ -1,20 +1,13 @@
 -- Meeus's formula counts the days of the calendar, in every year from 1 on. Assumes nothing.
-use mathlib.Core.Path.{_≡_, refl, ap}
-use mathlib.Core.Bool.{Bool, true, false, cond, not, _||_}
-use Prim.Native.Nat.{ℕ, _+_, _-_, _*_, _/_, _≤_, _<_}
-use native.Mathlib.Omega.{arith}
-use lib.Dec.{eqb, ltb, eqb→eq, lt→ltb}
-use lib.IntN.{ℤ, pos, _+ℤ_, _-ℤ_, _*ℤ_}
-use borrow.Author.Tests.{ltb-true, ltb-false}
-use Rattle.integers.proofs.PartsLaws.{same}
-use Rattle.integers.proofs.Sums.{sum, difference, times}
+use Rattle.prelude.proofs.Logic.{_≡_, refl, ap, Bool, true, false, cond, not, _||_, ℕ, _+_, _-_, _*_, _/_, _≤_, _<_, arith, eqb, ltb, eqb→eq, lt→ltb, pos, _+ℤ_, _-ℤ_, _*ℤ_, ltb-true, ltb-false, cases}
+use Rattle.integers.proofs.Integers.{same, sum, difference, times}
 use Rattle.calendar.specs.Gregorian.{leapOf, existsOf}
 use Rattle.calendar.specs.Days.{daysBeforeOf, daysInYearOf, daysBeforeYearOf, dayNumberOf}
 use Rattle.calendar.specs.declared.dates.Date.{Date}
 use Rattle.calendar.proofs.Computed.{tested, when}
 use Rattle.calendar.proofs.YearSteps.{year-step}
 use Rattle.calendar.proofs.Existing.{exists-yes, month-of-date, ordinal-is, count}
-use Rattle.stride.specs.Meeus.{yearDaysOf, monthDaysOf, meeusOf}
+use Rattle.stride.specs.Meeus.{yearDaysOf, monthTermOf, meeusOf}
 
 -- ---- the years: Y's term with B, from the days before the next year
 years : (y : ℕ) → yearDaysOf y + 2 + y / 100 / 4 - y / 100 ≡ daysBeforeYearOf (y + 1) + 1722155
@@ -33,16 +26,16 @@ years y =
 
 -- ---- the months: M's term, from the days before the month
 lateTest : Bool → ℕ → Bool
-lateTest leap m = not (ltb 2 m) || eqb (monthDaysOf m + cond leap 1 0) (daysBeforeOf leap m + 63)
+lateTest leap m = not (ltb 2 m) || eqb (monthTermOf m + cond leap 1 0) (daysBeforeOf leap m + 63)
 
 earlyTest : Bool → ℕ → Bool
-earlyTest leap m = not (ltb 0 m) || eqb (monthDaysOf (m + 12)) (daysBeforeOf leap m + 428)
+earlyTest leap m = not (ltb 0 m) || eqb (monthTermOf (m + 12)) (daysBeforeOf leap m + 428)
 
-late : (leap : Bool) (m : ℕ) → 2 < m → m < 13 → monthDaysOf m + cond leap 1 0 ≡ daysBeforeOf leap m + 63
+late : (leap : Bool) (m : ℕ) → 2 < m → m < 13 → monthTermOf m + cond leap 1 0 ≡ daysBeforeOf leap m + 63
 unfolding lateTest daysBeforeOf
 late leap m p q = eqb→eq _ _ (when (ltb 2 m) _ (tested lateTest 13 tt leap m q) (lt→ltb 2 m p))
 
-early : (leap : Bool) (m : ℕ) → 0 < m → m < 3 → monthDaysOf (m + 12) ≡ daysBeforeOf leap m + 428
+early : (leap : Bool) (m : ℕ) → 0 < m → m < 3 → monthTermOf (m + 12) ≡ daysBeforeOf leap m + 428
 unfolding earlyTest daysBeforeOf
 early leap m p q = eqb→eq _ _ (when (ltb 0 m) _ (tested earlyTest 3 tt leap m q) (lt→ltb 0 m p))
 
@@ -57,34 +50,22 @@ gathered u v a c day w n p q = omega arith
 
 counted : (d : Date) → existsOf d ≡ true → 1 ≤ d .year → meeusOf d ≡ 2 * count d + 3442117
 unfolding meeusOf
-counted d h l = by-test (ltb 2 (d .month)) refl
+counted d h l =
+    let y = d .year in let i = exists-yes d h in let m = month-of-date d i in
+    cases (ltb 2 (d .month))
+    (λ e. rw e (gathered (yearDaysOf y) (monthTermOf (d .month)) (y / 100) (y / 100 / 4) (d .day) (daysBeforeYearOf (y + 1)) (count d) (years y)
+    (late-days (monthTermOf (d .month)) (late (leapOf y) (d .month) (ltb-true 2 (d .month) e) (omega arith)))))
+    (λ e. let f = ltb-false 2 (d .month) e in
+    rw e (gathered (yearDaysOf (y - 1)) (monthTermOf (d .month + 12)) ((y - 1) / 100) ((y - 1) / 100 / 4) (d .day) (daysBeforeYearOf (y - 1 + 1))
+    (count d) (years (y - 1))
+    (early-days (monthTermOf (d .month + 12)) (early (leapOf y) (d .month) (m .first) (omega arith)))))
   where
-    by-test : (b : Bool) → ltb 2 (d .month) ≡ b →
-        (let y = cond b (d .year) (d .year - 1) in let m = cond b (d .month) (d .month + 12) in
-        2 * (yearDaysOf y + monthDaysOf m + d .day + 2 + y / 100 / 4 - y / 100) - 3049 ≡ 2 * count d + 3442117)
-    by-test true e =
-        let y = d .year in
-        let i = exists-yes d h in
-        let m = month-of-date d i in
-        let k = late (leapOf y) (d .month) (ltb-true 2 (d .month) e) (omega arith) in
-        gathered (yearDaysOf y) (monthDaysOf (d .month)) (y / 100) (y / 100 / 4) (d .day) (daysBeforeYearOf (y + 1)) (count d) (years y)
-        (with-days (monthDaysOf (d .month)) k)
-      where
-        with-days : (v : ℕ) → v + cond (leapOf (d .year)) 1 0 ≡ daysBeforeOf (leapOf (d .year)) (d .month) + 63 → daysBeforeYearOf (d .year + 1) + v + d .day ≡ count d + 428
-        with-days v k = let s = year-step (d .year) in let o = ordinal-is d h in unfold daysInYearOf in omega (arith, year-days (leapOf (d .year)))
-    by-test false e =
-        let y = d .year - 1 in
-        let i = exists-yes d h in
-        let m = month-of-date d i in
-        let k = early (leapOf (d .year)) (d .month) (m .first) (let f = ltb-false 2 (d .month) e in omega arith) in
-        gathered (yearDaysOf y) (monthDaysOf (d .month + 12)) (y / 100) (y / 100 / 4) (d .day) (daysBeforeYearOf (y + 1)) (count d) (years y)
-        (with-days (monthDaysOf (d .month + 12)) k)
-      where
-        with-days : (v : ℕ) → v ≡ daysBeforeOf (leapOf (d .year)) (d .month) + 428 → daysBeforeYearOf (d .year - 1 + 1) + v + d .day ≡ count d + 428
-        with-days v k =
-            let z : d .year - 1 + 1 ≡ d .year = omega arith in
-            let o = ordinal-is d h in
-            omega (arith, ap daysBeforeYearOf z)
+    late-days : (v : ℕ) → v + cond (leapOf (d .year)) 1 0 ≡ daysBeforeOf (leapOf (d .year)) (d .month) + 63 →
+        daysBeforeYearOf (d .year + 1) + v + d .day ≡ count d + 428
+    late-days v k = unfold daysInYearOf in omega (arith, year-step (d .year), ordinal-is d h, year-days (leapOf (d .year)))
+
+    early-days : (v : ℕ) → v ≡ daysBeforeOf (leapOf (d .year)) (d .month) + 428 → daysBeforeYearOf (d .year - 1 + 1) + v + d .day ≡ count d + 428
+    early-days v k = let z : d .year - 1 + 1 ≡ d .year = omega arith in omega (arith, ordinal-is d h, ap daysBeforeYearOf z)
 
 -- twice the Julian Day is twice the number of the day, and 4881175: day 0 begins at 2440587.5
 pub meeus-number : (d : Date) → existsOf d ≡ true → 1 ≤ d .year → pos (meeusOf d) ≡ dayNumberOf d *ℤ pos 2 +ℤ pos 4881175
@@ -93,6 +74,4 @@ meeus-number d h l =
     let c = counted d h l in
     let n = pos (count d) -ℤ pos 719529 in
     let b = difference (pos (count d)) (pos 719529) in
-    let t = times n 2 in
-    let s = sum (n *ℤ pos 2) (pos 4881175) in
-    same (pos (meeusOf d)) (n *ℤ pos 2 +ℤ pos 4881175) (omega (arith, b .0, b .1))
+    same (pos (meeusOf d)) (n *ℤ pos 2 +ℤ pos 4881175) (omega (arith, times n 2, sum (n *ℤ pos 2) (pos 4881175), b .0, b .1))

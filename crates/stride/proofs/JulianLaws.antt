@@ -1,25 +1,14 @@
 -- The Julian Day of the f64 formula is the one of Meeus's whole numbers and of the calendar's count of days, for every date of the years 1899
 -- to 2200: its sums of whole numbers and halves lose nothing. Assumes nothing.
-use mathlib.Core.Path.{_≡_, refl, ap, _∙_}
-use mathlib.Core.Bool.{Bool, true, false, cond}
-use Prim.Native.Nat.{ℕ, suc, _+_, _-_, _*_, _/_, _≤_, _<_}
-use native.Mathlib.Omega.{arith}
-use lib.Dec.{ltb, lit<, lit≤}
-use lib.IntN.{ℤ, pos, negsuc, _+ℤ_, _-ℤ_, _*ℤ_}
-use lib.Ieee.{Float, binary64, ofInt, ofBits, round, sub, div}
-use borrow.Author.Tests.{ltb-true, ltb-false, lt-ltb}
-use Rattle.integers.specs.Parts.{P}
-use Rattle.integers.proofs.PartsLaws.{same}
-use Rattle.integers.proofs.Sums.{sum, difference}
-use Rattle.float64.specs.Ops.{_+ᶠ_, _-ᶠ_, _/ᶠ_, bits}
-use Rattle.float64.proofs.Exact.{dyadic, int-dyadic, add-dyadic, sub-dyadic}
-use Rattle.float64.proofs.Steps.{neg-at}
-use Rattle.calendar.specs.Gregorian.{dateOf, leapOf, lengthOf, existsOf}
+use Rattle.prelude.proofs.Logic.{_≡_, refl, ap, _∙_, true, ℕ, suc, _+_, _-_, _*_, _/_, _≤_, _<_, arith, ltb, lit<, lit≤, ℤ, pos, negsuc, _+ℤ_, _-ℤ_, _*ℤ_, ltb-true, ltb-false, lt-ltb, cases}
+use Rattle.float64.proofs.Floats.{Float, binary64, ofInt, ofBits, round, sub, div, _+ᶠ_, _-ᶠ_, _/ᶠ_, bits, dyadic, int-dyadic, add-dyadic, sub-dyadic, neg-at}
+use Rattle.integers.proofs.Integers.{P, same, sum, difference}
+use Rattle.calendar.specs.Gregorian.{existsOf}
 use Rattle.calendar.specs.Days.{dayNumberOf}
 use Rattle.calendar.specs.declared.dates.Date.{Date}
 use Rattle.calendar.proofs.Existing.{exists-yes, month-of-date}
 use Rattle.stride.specs.Julian.{real, correctionOf, fromMarchOf, julianDayOf, toI32Of, dateJulianDayOf}
-use Rattle.stride.specs.Meeus.{yearDaysOf, monthDaysOf, meeusOf}
+use Rattle.stride.specs.Meeus.{yearDaysOf, monthTermOf, meeusOf}
 use Rattle.stride.proofs.Products.{year-cut, month-cut}
 use Rattle.stride.proofs.Counted.{meeus-number}
 
@@ -69,20 +58,19 @@ unfolding correctionOf
 correction y p q =
     let a = y / 100 in
     let d = difference (pos 2) (pos a) in
-    let s = sum (pos 2 -ℤ pos a) (pos (a / 4)) in
-    same ((pos 2 -ℤ pos a) +ℤ pos (a / 4)) (negsuc (a - 2 - a / 4 - 1)) (omega (arith, d .0, d .1))
+    same ((pos 2 -ℤ pos a) +ℤ pos (a / 4)) (negsuc (a - 2 - a / 4 - 1)) (omega (arith, sum (pos 2 -ℤ pos a) (pos (a / 4)), d .0, d .1))
 
 from-march : (y m day : ℕ) → 1898 ≤ y → y ≤ 2200 → 3 ≤ m → m ≤ 14 → day ≤ 31 →
     fromMarchOf (pos y) (pos m) (at-midnight day)
-    ≡ halves (2 * (yearDaysOf y + monthDaysOf m + day + 2 + y / 100 / 4 - y / 100) - 3049)
+    ≡ halves (2 * (yearDaysOf y + monthTermOf m + day + 2 + y / 100 / 4 - y / 100) - 3049)
 unfolding fromMarchOf
 from-march y m day p q i j k =
     let u : yearDaysOf y ≤ 2600000 = omega arith in
     let v : 1525 + 100 ≤ yearDaysOf y = omega arith in
-    let w : monthDaysOf m ≤ 500 = omega arith in
+    let w : monthTermOf m ≤ 500 = omega arith in
     let a : 18 ≤ y / 100 = omega arith in
     let b : y / 100 ≤ 22 = omega arith in
-    rw (year-cut y p q, month-cut m i j, correction y p q) (sum-of (yearDaysOf y) (monthDaysOf m) (y / 100) u v w a b)
+    rw (year-cut y p q, month-cut m i j, correction y p q) (sum-of (yearDaysOf y) (monthTermOf m) (y / 100) u v w a b)
   where
     sum-of : (u v a : ℕ) → u ≤ 2600000 → 1625 ≤ u → v ≤ 500 → 18 ≤ a → a ≤ 22 →
         real (pos u) +ᶠ real (pos v) +ᶠ at-midnight day +ᶠ real (negsuc (a - 2 - a / 4 - 1)) -ᶠ bits 0x4097_d200_0000_0000
@@ -102,25 +90,13 @@ before y h = let d = difference (pos y) (pos 1) in same (pos y -ℤ pos 1) (pos 
 pub julian-meeus : (d : Date) → existsOf d ≡ true → 1899 ≤ d .year → d .year ≤ 2200 → dateJulianDayOf d ≡ halves (meeusOf d)
 unfolding dateJulianDayOf julianDayOf meeusOf
 julian-meeus d h p q =
-    let x = exists-yes d h in
-    let m = month-of-date d x in
-    rw (to-i32 (d .year) (omega arith), to-i32 (d .month) (omega arith), to-i32 (d .day) (omega arith)) (by-test (ltb 2 (d .month)) refl)
-  where
-    by-test : (b : Bool) → ltb 2 (d .month) ≡ b →
-        cond b (fromMarchOf (pos (d .year)) (pos (d .month)) (at-midnight (d .day))) (fromMarchOf (pos (d .year) -ℤ pos 1) (pos (d .month + 12)) (at-midnight (d .day)))
-        ≡ halves
-        (let y = cond b (d .year) (d .year - 1) in let m = cond b (d .month) (d .month + 12) in
-        2 * (yearDaysOf y + monthDaysOf m + d .day + 2 + y / 100 / 4 - y / 100) - 3049)
-    by-test true e =
-        let x = exists-yes d h in
-        let m = month-of-date d x in
-        let l = ltb-true 2 (d .month) e in
-        from-march (d .year) (d .month) (d .day) (omega arith) q l (omega arith) (omega arith)
-    by-test false e =
-        let x = exists-yes d h in
-        let m = month-of-date d x in
-        let l = ltb-false 2 (d .month) e in
-        rw (before (d .year) (omega arith)) (from-march (d .year - 1) (d .month + 12) (d .day) (omega arith) (omega arith) (omega arith) (omega arith) (omega arith))
+    let x = exists-yes d h in let m = month-of-date d x in
+    rw (to-i32 (d .year) (omega arith), to-i32 (d .month) (omega arith), to-i32 (d .day) (omega arith))
+    (cases (ltb 2 (d .month))
+    (λ e. rw e (from-march (d .year) (d .month) (d .day) (omega arith) q (ltb-true 2 (d .month) e) (omega arith) (omega arith)))
+    (λ e. let l = ltb-false 2 (d .month) e in
+    rw (e, before (d .year) (omega arith))
+    (from-march (d .year - 1) (d .month + 12) (d .day) (omega arith) (omega arith) (omega arith) (omega arith) (omega arith))))
 
 -- and the calendar's count of days: day 0 begins at 2440587.5
 pub julian-number : (d : Date) → existsOf d ≡ true → 1899 ≤ d .year → d .year ≤ 2200 → dateJulianDayOf d ≡ halves (P (dayNumberOf d *ℤ pos 2 +ℤ pos 4881175))

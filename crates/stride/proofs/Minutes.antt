@@ -1,18 +1,6 @@
 -- The second of the minute, what rounding adds, and minutes as two halves, as the code works them. Assumes nothing.
-use mathlib.Core.Path.{_≡_, ap, _∙_}
-use Prim.Native.Nat.{ℕ, suc, _-_, _%_, _≤_}
-use native.Mathlib.Omega.{arith}
-use mathlib.Core.Bool.{true, false}
-use lib.IntN.{ℤ, pos, negsuc, negℤ, natAbs, _+ℤ_, _-ℤ_, _*ℤ_}
-use lib.Signed.{ltZ, quotZ, remZ, nonNeg}
-use lib.Dec.{T, lit<}
-use mir.Syntax.{w32, w64}
-use mir.Val.{SFits, Fits, toZ}
-use Rattle.integers.proofs.PartsLaws.{same}
-use Rattle.integers.proofs.Sums.{sum, difference, times, flip}
-use Rattle.integers.proofs.QuotientLaws.{divided, floored}
-use Rattle.integers.proofs.OrderLaws.{lt-yes, lt-no}
-use Rattle.integers.proofs.Ranges.{readBack, read, range, fits}
+use Rattle.prelude.proofs.Logic.{_≡_, ap, _∙_, true, false, ℕ, suc, _-_, _%_, _≤_, arith, T, lit<, ℤ, pos, negsuc, negℤ, natAbs, _+ℤ_, _-ℤ_, _*ℤ_, ltZ, quotZ, remZ, nonNeg, w32, w64, SFits, Fits, toZ}
+use Rattle.integers.proofs.Integers.{same, sum, difference, times, flip, divided, floored, lt-yes, lt-no, readBack, read, range, fits}
 use Rattle.stride.specs.Times.{most, least, satOf, secondOf, adjustedOf}
 use Rattle.stride.proofs.TimesLaws.{between}
 use Rattle.stride.proofs.Saturation.{sat-high, sat-low, sat-twice}
@@ -26,15 +14,12 @@ rem-up (pos n) h = absurd (omega (arith, lt-yes (pos (n % 60)) (pos 0) h))
 rem-up (negsuc n) h =
     let f = flip (pos (suc n % 60)) in
     let s = sum (negℤ (pos (suc n % 60))) (pos 60) in
-    let l = lt-yes (negℤ (pos (suc n % 60))) (pos 0) h in
-    same (negℤ (pos (suc n % 60)) +ℤ pos 60) (pos (60 - 1 - n % 60)) (omega arith)
+    same (negℤ (pos (suc n % 60)) +ℤ pos 60) (pos (60 - 1 - n % 60)) (omega (arith, lt-yes (negℤ (pos (suc n % 60))) (pos 0) h))
 
 rem-is : (t : ℤ) → ltZ (rem t) (pos 0) ≡ false → rem t ≡ pos (secondOf t)
 rem-is (pos n) h = ap pos (omega arith)
 rem-is (negsuc n) h =
-    let f = flip (pos (suc n % 60)) in
-    let l = lt-no (negℤ (pos (suc n % 60))) (pos 0) h in
-    same (negℤ (pos (suc n % 60))) (pos (60 - 1 - n % 60)) (omega arith)
+    same (negℤ (pos (suc n % 60))) (pos (60 - 1 - n % 60)) (omega (arith, flip (pos (suc n % 60)), lt-no (negℤ (pos (suc n % 60))) (pos 0) h))
 
 module _ (t : ℤ) (h : SFits w64 t) where
   rt : readBack w64 t ≡ t
@@ -73,9 +58,7 @@ less-fits k s h f =
     rw (read w64 (pos s) (record { sfits = omega arith })) (fits w64 (pos k -ℤ pos s) (omega (arith, d .0, d .1)) (omega (arith, d .0, d .1)))
 
 pub less-is : (k s : ℕ) → k ≤ 60 → Fits w32 s → readBack w64 (pos k -ℤ toZ w64 s) ≡ pos k -ℤ pos s
-less-is k s h f =
-    let l = f .fits in
-    read w64 (pos k -ℤ toZ w64 s) (less-fits k s h f) ∙ rw (read w64 (pos s) (record { sfits = omega arith }))
+less-is k s h f = read w64 (pos k -ℤ toZ w64 s) (less-fits k s h f) ∙ rw (read w64 (pos s) (record { sfits = omega (arith, f .fits) }))
 
 -- ---- minutes: past 2 ^ 64 / 60 no time stays in range, and up to there half of their seconds fits
 abbrev far-ahead : ℤ
@@ -90,21 +73,11 @@ module _ (t k : ℤ) (ht : SFits w64 t) (hk : SFits w64 k) where
 
   pub far-up : ltZ far-ahead (readBack w64 k) ≡ true → most ≡ satOf (adjustedOf t k)
   unfolding adjustedOf
-  far-up l =
-      let m = lt-yes far-ahead k (rw rk at l) in
-      let r = range w64 t ht in
-      let p = times k 60 in
-      let s = sum t (k *ℤ pos 60) in
-      sat-high (t +ℤ k *ℤ pos 60) (omega arith)
+  far-up l = sat-high (t +ℤ k *ℤ pos 60) (omega (arith, lt-yes far-ahead k (rw rk at l), range w64 t ht, times k 60, sum t (k *ℤ pos 60)))
 
   pub far-down : ltZ (readBack w64 k) far-back ≡ true → least ≡ satOf (adjustedOf t k)
   unfolding adjustedOf
-  far-down l =
-      let m = lt-yes k far-back (rw rk at l) in
-      let r = range w64 t ht in
-      let p = times k 60 in
-      let s = sum t (k *ℤ pos 60) in
-      sat-low (t +ℤ k *ℤ pos 60) (omega arith)
+  far-down l = sat-low (t +ℤ k *ℤ pos 60) (omega (arith, lt-yes k far-back (rw rk at l), range w64 t ht, times k 60, sum t (k *ℤ pos 60)))
 
   -- half the seconds, as the code holds them
   abbrev half : ℤ
@@ -122,9 +95,7 @@ module _ (t k : ℤ) (ht : SFits w64 t) (hk : SFits w64 k) where
       let p = times k 30 in
       let q = times k 60 in
       let s = sum t (k *ℤ pos 30) in
-      let u = sum (t +ℤ k *ℤ pos 30) (k *ℤ pos 30) in
-      let v = sum t (k *ℤ pos 60) in
-      same (t +ℤ k *ℤ pos 30 +ℤ k *ℤ pos 30) (t +ℤ k *ℤ pos 60) (omega arith)
+      same (t +ℤ k *ℤ pos 30 +ℤ k *ℤ pos 30) (t +ℤ k *ℤ pos 60) (omega (arith, sum (t +ℤ k *ℤ pos 30) (k *ℤ pos 30), sum t (k *ℤ pos 60)))
 
   pub adjusted-is :
       (x r : ℤ) → SFits w64 half → readBack w64 x ≡ x → readBack w64 r ≡ r →

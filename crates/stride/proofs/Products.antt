@@ -1,17 +1,10 @@
 -- The f64 products of the Julian Day, cut to whole numbers, are quotients of whole numbers at every year and month in use: two tests that antt
 -- computes. Assumes nothing.
-use mathlib.Core.Path.{_≡_, sym, ap, _∙_}
-use mathlib.Core.Bool.{Bool, _&&_}
-use Prim.Native.Nat.{ℕ, _+_, _-_, _≤_}
-use native.Mathlib.Omega.{arith}
-use lib.Dec.{T, eqb, eqb→eq}
-use lib.IntN.{ℤ, pos, natAbs}
-use lib.Signed.{nonNeg, pos-natAbs}
-use lib.Ieee.{add, mul, ofInt, ofBits, toSigned, round}
-use lib.Ieee.Fits.{and-l, and-r}
+use Rattle.prelude.proofs.Logic.{_≡_, sym, ap, _∙_, Bool, _&&_, ℕ, _+_, _-_, _≤_, arith, T, eqb, eqb→eq, ℤ, pos, natAbs, nonNeg, pos-natAbs, and-l, and-r}
+use Rattle.float64.proofs.Floats.{add, mul, ofInt, ofBits, toSigned, round}
 use Rattle.calendar.proofs.Computed.{at}
 use Rattle.stride.specs.Julian.{cutOf, yearProductOf, monthProductOf}
-use Rattle.stride.specs.Meeus.{yearDaysOf, monthDaysOf}
+use Rattle.stride.specs.Meeus.{yearDaysOf, monthTermOf}
 
 is : ℤ → ℕ → Bool
 is z n = nonNeg z && eqb (natAbs z) n
@@ -25,7 +18,7 @@ yearTest : ℕ → Bool
 yearTest k = is (cutOf (yearProductOf (pos (k + 1898)))) (yearDaysOf (k + 1898))
 
 monthTest : ℕ → Bool
-monthTest k = is (cutOf (monthProductOf (pos (k + 3)))) (monthDaysOf (k + 3))
+monthTest k = is (cutOf (monthProductOf (pos (k + 3)))) (monthTermOf (k + 3))
 
 pub year-cut : (y : ℕ) → 1898 ≤ y → y ≤ 2200 → cutOf (yearProductOf (pos y)) ≡ pos (yearDaysOf y)
 unfolding is yearTest yearProductOf toSigned mul add ofInt ofBits round
@@ -34,9 +27,9 @@ year-cut y p q =
     let t = at yearTest 303 tt (y - 1898) (omega arith) in
     rw e at (is-pos (cutOf (yearProductOf (pos (y - 1898 + 1898)))) (yearDaysOf (y - 1898 + 1898)) t)
 
-pub month-cut : (m : ℕ) → 3 ≤ m → m ≤ 14 → cutOf (monthProductOf (pos m)) ≡ pos (monthDaysOf m)
+pub month-cut : (m : ℕ) → 3 ≤ m → m ≤ 14 → cutOf (monthProductOf (pos m)) ≡ pos (monthTermOf m)
 unfolding is monthTest monthProductOf toSigned mul add ofInt ofBits round
 month-cut m p q =
     let e : m - 3 + 3 ≡ m = omega arith in
     let t = at monthTest 12 tt (m - 3) (omega arith) in
-    rw e at (is-pos (cutOf (monthProductOf (pos (m - 3 + 3)))) (monthDaysOf (m - 3 + 3)) t)
+    rw e at (is-pos (cutOf (monthProductOf (pos (m - 3 + 3)))) (monthTermOf (m - 3 + 3)) t)

@@ -1,17 +1,6 @@
 -- Where a sum of two i64 saturates, and where it fits. Assumes nothing.
-use mathlib.Core.Path.{_≡_, refl, sym, _∙_}
-use Prim.Native.Nat.{_+_, _<_}
-use native.Mathlib.Omega.{arith}
-use mathlib.Core.Bool.{Bool, true, false}
-use lib.IntN.{ℤ, pos, _+ℤ_, _-ℤ_}
-use lib.Signed.{leZ, ltZ}
-use mir.Syntax.{w64}
-use mir.Val.{SFits}
-use Rattle.integers.specs.Parts.{P, N}
-use Rattle.integers.proofs.PartsLaws.{not-negative, not-positive}
-use Rattle.integers.proofs.Sums.{sum, difference}
-use Rattle.integers.proofs.OrderLaws.{le-yes, le-no, lt-yes, lt-no, to-lt, to-not-lt}
-use Rattle.integers.proofs.Ranges.{readBack, read, range}
+use Rattle.prelude.proofs.Logic.{_≡_, sym, _∙_, true, false, _+_, _<_, arith, ℤ, pos, _+ℤ_, _-ℤ_, leZ, ltZ, w64, SFits, cases}
+use Rattle.integers.proofs.Integers.{P, N, not-negative, not-positive, sum, difference, le-yes, le-no, lt-yes, lt-no, to-lt, to-not-lt, readBack, read, range}
 use Rattle.stride.specs.Times.{most, least, satOf}
 use Rattle.stride.proofs.TimesLaws.{between, sat-in}
 
@@ -54,9 +43,7 @@ module _ (a b : ℤ) (ha : SFits w64 a) (hb : SFits w64 b) where
     pub over : ltZ (readBack w64 (most -ℤ b′)) a′ ≡ true → most ≡ satOf (a +ℤ b)
     over l =
         let k = lt-yes (most -ℤ b) a (rw (ra, rb, read w64 (most -ℤ b) room) at l) in
-        let d = difference most b in
-        let s = sum a b in
-        sat-high (a +ℤ b) (omega (arith, d .0, d .1))
+        sat-high (a +ℤ b) (omega (arith, sum a b, difference most b .0, difference most b .1))
 
     pub in-fits : ltZ (readBack w64 (most -ℤ b′)) a′ ≡ false → SFits w64 (a′ +ℤ b′)
     in-fits l =
@@ -81,9 +68,7 @@ module _ (a b : ℤ) (ha : SFits w64 a) (hb : SFits w64 b) where
     pub under : ltZ a′ (readBack w64 (least -ℤ b′)) ≡ true → least ≡ satOf (a +ℤ b)
     under l =
         let k = lt-yes a (least -ℤ b) (rw (ra, rb, read w64 (least -ℤ b) room′) at l) in
-        let d = difference least b in
-        let s = sum a b in
-        sat-low (a +ℤ b) (omega (arith, d .0, d .1))
+        sat-low (a +ℤ b) (omega (arith, sum a b, difference least b .0, difference least b .1))
 
     pub in-fits′ : ltZ a′ (readBack w64 (least -ℤ b′)) ≡ false → SFits w64 (a′ +ℤ b′)
     in-fits′ l =
@@ -121,9 +106,4 @@ module _ (t h : ℤ) (f : SFits w64 t) where
   within p q = rw (sat-in (t +ℤ h) (between (t +ℤ h) (lt-no (t +ℤ h) least q) (lt-no most (t +ℤ h) p)))
 
   pub sat-twice : satOf (satOf (t +ℤ h) +ℤ h) ≡ satOf (t +ℤ h +ℤ h)
-  sat-twice = by-tests (ltZ most (t +ℤ h)) (ltZ (t +ℤ h) least) refl refl
-    where
-      by-tests : (b c : Bool) → ltZ most (t +ℤ h) ≡ b → ltZ (t +ℤ h) least ≡ c → Twice
-      by-tests true c p q = high p
-      by-tests false true p q = low q
-      by-tests false false p q = within p q
+  sat-twice = cases (ltZ most (t +ℤ h)) high (λ p. cases (ltZ (t +ℤ h) least) low (within p))

@@ -1,22 +1,6 @@
 -- What rounding and adjusting keep, and where nothing saturates. Over the definitions of `Times`. Assumes nothing.
-use mathlib.Core.Path.{_≡_, refl, sym, ap, _∙_}
-use mathlib.Core.Bool.{Bool, true, false, cond}
-use Prim.Native.Nat.{ℕ, _+_, _*_, _^_, _≤_, _<_}
-use native.Mathlib.Omega.{arith}
-use lib.IntN.{ℤ, pos, negsuc, _+ℤ_, _-ℤ_, _*ℤ_, +ℤ-idr, +ℤ-assoc, +ℤ-comm}
-use lib.Dec.{ltb, lit<}
-use borrow.Author.Tests.{ltb-true, ltb-false}
-use mir.Syntax.{w64}
-use mir.Val.{SFits}
-use Rattle.integers.specs.Parts.{P, N, Between, Near}
-use Rattle.integers.proofs.Sums.{sum, difference, times}
-use Rattle.integers.specs.Quotients.{floorQuot}
-use Rattle.integers.proofs.QuotientLaws.{Floored, floored}
-use Rattle.integers.specs.Order.{_≼_}
-use Rattle.integers.proofs.OrderLaws.{to-not-lt}
-use Rattle.integers.proofs.Ranges.{range}
-use Rattle.integers.proofs.Intervals.{sum-between, product-between, shifted-between}
-use Rattle.integers.proofs.Held.{Held, held-fits}
+use Rattle.prelude.proofs.Logic.{_≡_, refl, sym, ap, _∙_, cond, ℕ, _+_, _*_, _^_, _≤_, _<_, arith, ltb, lit<, ℤ, pos, negsuc, _+ℤ_, _-ℤ_, _*ℤ_, +ℤ-idr, +ℤ-assoc, +ℤ-comm, ltb-true, ltb-false, lt-ltb, w64, SFits, cases, either}
+use Rattle.integers.proofs.Integers.{P, N, Between, Near, sum, difference, times, floorQuot, Floored, floored, _≼_, to-not-lt, range, sum-between, product-between, shifted-between, Held, held-fits}
 use Rattle.models.specs.declared.rounding.Rounding.{Rounding}
 use Rattle.models.specs.declared.rounding.Rounding.the-variants.{Nearest, Up, None}
 use Rattle.stride.specs.Times.{most, least, satOf, secondOf, shiftOf, roundedOf, adjustedOf}
@@ -63,32 +47,23 @@ heightOf None s = s
 
 height : (r : Rounding) (s : ℕ) → P (shiftOf r s) + s ≡ N (shiftOf r s) + heightOf r s
 unfolding shiftOf heightOf
-height Nearest s = by-test (ltb s 30)
-  where
-    by-test : (b : Bool) → P (cond b (pos 0 -ℤ pos s) (pos 60 -ℤ pos s)) + s ≡ N (cond b (pos 0 -ℤ pos s) (pos 60 -ℤ pos s)) + cond b 0 60
-    by-test true = let d = difference (pos 0) (pos s) in omega (arith, d .0, d .1)
-    by-test false = let d = difference (pos 60) (pos s) in omega (arith, d .0, d .1)
+height Nearest s =
+    cases (ltb s 30) (λ e. let d = difference (pos 0) (pos s) in rw e (omega (arith, d .0, d .1)))
+    (λ e. let d = difference (pos 60) (pos s) in rw e (omega (arith, d .0, d .1)))
 height Up s = let d = difference (pos 60) (pos s) in omega (arith, d .0, d .1)
 height None s = omega arith
 
 height-mono : (r : Rounding) (s u : ℕ) → s ≤ u → heightOf r s ≤ heightOf r u
 unfolding heightOf
-height-mono Nearest s u h = by-tests (ltb s 30) (ltb u 30) refl refl
-  where
-    by-tests : (b c : Bool) → ltb s 30 ≡ b → ltb u 30 ≡ c → cond b 0 60 ≤ cond c 0 60
-    by-tests true c p q = omega arith
-    by-tests false true p q = absurd (omega (arith, ltb-false s 30 p, ltb-true u 30 q))
-    by-tests false false p q = omega arith
+height-mono Nearest s u h =
+    cases (ltb u 30) (λ q. rw (q, lt-ltb s 30 (omega (arith, ltb-true u 30 q))) (omega arith))
+    (λ q. rw q (either (λ k. k ≤ 60) (ltb s 30) (omega arith) (omega arith)))
 height-mono Up s u h = omega arith
 height-mono None s u h = h
 
 height-most : (r : Rounding) (s : ℕ) → s < 60 → heightOf r s ≤ 60
 unfolding heightOf
-height-most Nearest s h = by-test (ltb s 30)
-  where
-    by-test : (b : Bool) → cond b 0 60 ≤ 60
-    by-test true = omega arith
-    by-test false = omega arith
+height-most Nearest s h = either (λ k. k ≤ 60) (ltb s 30) (omega arith) (omega arith)
 height-most Up s h = omega arith
 height-most None s h = omega arith
 
@@ -98,57 +73,32 @@ Above t x h = P x + N (floorQuot t 60) * 60 ≡ N x + (P (floorQuot t 60) * 60 +
 
 rounded : (r : Rounding) (t : ℤ) → Above t (roundedOf r t) (heightOf r (secondOf t))
 unfolding roundedOf
-rounded r t =
-    let a = minute t in
-    let d = sum t (shiftOf r (secondOf t)) in
-    let h = height r (secondOf t) in
-    omega arith
+rounded r t = omega (arith, minute t, sum t (shiftOf r (secondOf t)), height r (secondOf t))
 
 -- rounding keeps the order
 pub rounded-mono : (r : Rounding) (t u : ℤ) → t ≼ u → roundedOf r t ≼ roundedOf r u
-rounded-mono r t u h = by-test (ltb (secondOf u) (secondOf t)) refl
-  where
-    by-test : (b : Bool) → ltb (secondOf u) (secondOf t) ≡ b → roundedOf r t ≼ roundedOf r u
-    by-test true p =
-        let a = minute t in
-        let b = minute u in
-        let d = rounded r t in
-        let e = rounded r u in
-        let m = height-most r (secondOf t) (a .below) in
-        omega (arith, ltb-true (secondOf u) (secondOf t) p)
-    by-test false p =
-        let a = minute t in
-        let b = minute u in
-        let d = rounded r t in
-        let e = rounded r u in
-        let m = height-mono r (secondOf t) (secondOf u) (ltb-false (secondOf u) (secondOf t) p) in
-        omega arith
+rounded-mono r t u h =
+    let a = minute t in let b = minute u in let d = rounded r t in let e = rounded r u in
+    cases (ltb (secondOf u) (secondOf t)) (λ p. omega (arith, height-most r (secondOf t) (a .below), ltb-true (secondOf u) (secondOf t) p))
+    (λ p. omega (arith, height-mono r (secondOf t) (secondOf u) (ltb-false (secondOf u) (secondOf t) p)))
 
 -- a rounded time lies no more than a minute from the time
 pub rounded-high : (r : Rounding) (t : ℤ) → roundedOf r t ≼ t +ℤ pos 60
 rounded-high r t =
     let a = minute t in
-    let d = rounded r t in
-    let s = sum t (pos 60) in
-    let m = height-most r (secondOf t) (a .below) in
-    omega arith
+    omega (arith, rounded r t, sum t (pos 60), height-most r (secondOf t) (a .below))
 
 pub rounded-low : (r : Rounding) (t : ℤ) → t ≼ roundedOf r t +ℤ pos 60
-rounded-low r t =
-    let a = minute t in
-    let d = rounded r t in
-    let s = sum (roundedOf r t) (pos 60) in
-    omega arith
+rounded-low r t = omega (arith, minute t, rounded r t, sum (roundedOf r t) (pos 60))
 
 second-nearest : (t : ℤ) → secondOf (roundedOf Nearest t) ≡ 0
 unfolding heightOf
-second-nearest t = by-test (ltb (secondOf t) 30) (rounded Nearest t)
-  where
-    by-test : (b : Bool) → Above t (roundedOf Nearest t) (cond b 0 60) → secondOf (roundedOf Nearest t) ≡ 0
-    by-test true h = second-unique (roundedOf Nearest t) (floorQuot t 60) 0 (record { balance = omega arith; below = lit< tt })
-    by-test false h =
-        let s = sum (floorQuot t 60) (pos 1) in
-        second-unique (roundedOf Nearest t) (floorQuot t 60 +ℤ pos 1) 0 (record { balance = omega arith; below = lit< tt })
+second-nearest t =
+    let h = rounded Nearest t in
+    cases (ltb (secondOf t) 30)
+    (λ b. let k = rw b at h in second-unique (roundedOf Nearest t) (floorQuot t 60) 0 (record { balance = omega arith; below = lit< tt }))
+    (λ b. let k = rw b at h in let s = sum (floorQuot t 60) (pos 1) in
+    second-unique (roundedOf Nearest t) (floorQuot t 60 +ℤ pos 1) 0 (record { balance = omega arith; below = lit< tt }))
 
 -- Nearest and None, done again, change nothing
 stays : (t : ℤ) → secondOf t ≡ 0 → roundedOf Nearest t ≡ t

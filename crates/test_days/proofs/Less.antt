@@ -1,11 +1,6 @@
 -- What a list gives more than it is, taken off again: an i32 and an i64 hold it. Assumes nothing.
-use Prim.Native.Nat.{ℕ, _^_, _≤_, _<_}
-use native.Mathlib.Omega.{arith}
-use lib.IntN.{ℤ, pos, _-ℤ_}
-use mir.Syntax.{Width}
-use mir.Val.{SFits, toZ, hbits}
-use Rattle.integers.proofs.Sums.{difference}
-use Rattle.integers.proofs.Ranges.{fits, read}
+use Rattle.prelude.proofs.Logic.{ℕ, _^_, _≤_, _<_, arith, pos, _-ℤ_, Width, SFits, toZ, hbits}
+use Rattle.integers.proofs.Integers.{difference, fits, read}
 
 pub less-fits : (w : Width) (n k : ℕ) → n < 2 ^ hbits w → k ≤ 2 ^ hbits w → SFits w (toZ w n -ℤ pos k)
 less-fits w n k h l =

@@ -1,13 +1,5 @@
 -- What a loop over digits needs: the number grows by one digit, and k digits keep it below 16 ^ k. Assumes nothing.
-use Prim.Native.Nat.{ℕ, suc, _+_, _-_, _*_, _%_, _^_, _≤_, _<_}
-use mathlib.Core.Path.{_≡_}
-use mathlib.Core.List.{List}
-use mathlib.Core.Bool.{Bool, true, false, cond}
-use native.Mathlib.Nat.{le-refl, lt-of-lt-of-le, mul-le-mul, zero-lt-suc, pow-suc, pow-le-pow-right}
-use native.Mathlib.Numerals.{add-one}
-use native.Mathlib.Omega.{arith}
-use lib.Dec.{ltb}
-use lib.ListN.{getD}
+use Rattle.prelude.proofs.Logic.{_≡_, Bool, true, false, cond, List, ℕ, _+_, _-_, _*_, _%_, _^_, _≤_, _<_, le-refl, lt-of-lt-of-le, mul-le-mul, zero-lt-suc, pow-suc, pow-le-pow-right, add-one, arith, ltb, getD}
 use Rattle.test_lists.specs.Listed.{digitValueOf, numberOf}
 
 pub number-on : (base : ℕ) (line : List ℕ) (at k : ℕ) → numberOf base line at (k + 1) ≡ numberOf base line at k * base + digitValueOf (getD line (at + k) 0)

@@ -1,18 +1,6 @@
 -- The size of an i32, worked as an i64, as a u64. Assumes nothing.
-use mathlib.Core.Path.{_≡_, refl, sym, ap, subst, _∙_}
-use mathlib.Core.Bool.{true, false}
-use Prim.Native.Nat.{_+_, _<_}
-use native.Mathlib.Omega.{arith}
-use lib.Dec.{T}
-use lib.IntN.{ℤ, pos, negsuc, natAbs, _-ℤ_}
-use lib.Signed.{ltZ, nonNeg}
-use mir.Syntax.{w32, w64}
-use mir.Val.{SFits, Fits}
-use Rattle.integers.specs.Parts.{P, N}
-use Rattle.integers.proofs.PartsLaws.{same, natural, not-positive}
-use Rattle.integers.proofs.OrderLaws.{lt-yes, lt-no}
-use Rattle.integers.proofs.Ranges.{range, fits, readBack, read, wide, read-wide}
-use Rattle.integers.proofs.Sums.{difference}
+use Rattle.prelude.proofs.Logic.{_≡_, sym, ap, _∙_, true, false, _+_, _<_, arith, T, ℤ, pos, negsuc, natAbs, _-ℤ_, ltZ, nonNeg, w32, w64, SFits, Fits}
+use Rattle.integers.proofs.Integers.{P, N, same, natural, not-positive, lt-yes, lt-no, range, fits, readBack, read, wide, read-wide, difference}
 
 size-parts : (z : ℤ) → natAbs z ≡ P z + N z
 size-parts (pos n) = omega arith

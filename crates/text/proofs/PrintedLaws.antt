@@ -1,12 +1,5 @@
 -- A text at the front of a buffer, and that it fits. Assumes nothing.
-use native.Mathlib.Omega.{arith}
-use Prim.Native.Nat.{ℕ, _≤_, _<_}
-use mathlib.Core.Bool.{Bool, true, false, cond}
-use mathlib.Core.Path.{_≡_, refl}
-use mathlib.Core.List.{List}
-use lib.Dec.{ltb}
-use lib.ListN.{length}
-use borrow.Author.Tests.{ltb-false, lt-ltb, le-ltb}
+use Rattle.prelude.proofs.Logic.{_≡_, refl, Bool, true, false, cond, List, ℕ, _≤_, _<_, arith, ltb, length, ltb-false, lt-ltb, le-ltb}
 use Rattle.text.specs.Text.{frontOf}
 use Rattle.text.specs.Printed.{printedLength, printedBuffer}
 

@@ -1,12 +1,5 @@
 -- A number with a sign, by what is put. Assumes nothing.
-use native.Mathlib.Omega.{arith}
-use Prim.Native.Nat.{ℕ, suc, _+_, _≤_}
-use mathlib.Core.Path.{_≡_, refl, sym, ap, _∙_}
-use mathlib.Core.Bool.{true, false}
-use mathlib.Core.List.{List, [], _++_}
-use lib.IntN.{ℤ, pos, negsuc}
-use lib.ListN.{length, length-append}
-use lib.Signed.{ltZ}
+use Rattle.prelude.proofs.Logic.{_≡_, refl, sym, ap, _∙_, true, false, List, [], _++_, ℕ, suc, _+_, _≤_, arith, ℤ, pos, negsuc, length, length-append, ltZ}
 use Rattle.integers.specs.Parts.{P, N}
 use Rattle.integers.proofs.OrderLaws.{lt-yes, lt-no}
 use Rattle.text.specs.Text.{ascii, decimalOf, putOf, frontOf}

@@ -39,10 +39,16 @@ impl Angle {
         (self.degrees * PI) / 180.0
     }
 
-    // From 0 to 360 degrees.
+    // From 0 to 360 degrees. Below 359 no turn is to be taken off, and nothing is divided.
     pub fn unwound(self) -> Angle
         ensures { λ r. ⌜ r ≡ unwoundOf self ⌝ }
     {
+        let degrees = self.degrees;
+        if 0.0 < degrees {
+            if degrees < 359.0 {
+                return self;
+            }
+        }
         Angle {
             degrees: normalized_to_scale(self.degrees, 360.0),
         }

@@ -1,17 +1,12 @@
 -- A window's line, made part by part. Assumes nothing.
-use native.Mathlib.Omega.{arith}
-use Prim.Native.Nat.{ℕ, _+_, _≤_}
-use mathlib.Core.Path.{_≡_, refl, sym, ap, _∙_}
-use mathlib.Core.Bool.{Bool, true, false, cond}
-use mathlib.Core.List.{List, [], _++_}
-use lib.IntN.{ℤ}
-use lib.ListN.{length, length-append}
+use Rattle.prelude.proofs.Logic.{_≡_, refl, ap, _∙_, true, false, List, [], _++_, ℕ, _+_, _≤_, arith, ℤ, length, length-append}
+use Rattle.prelude.proofs.Cases.{arms}
 use Rattle.text.proofs.SignedLaws.{signed-length}
 use Rattle.text.proofs.TextLaws.{put-behind, put-next, digits-short}
 use Rattle.text.specs.Signed.{signedOf}
 use Rattle.text.specs.Text.{ascii, decimalOf, putOf, frontOf}
 use Rattle.weeks.specs.declared.window.Window.{Window}
-use Rattle.weeks.specs.Lines.{minuteText, rowText, pairText, foundLine, refusedLine, lineOf}
+use Rattle.weeks.specs.Lines.{minuteText, rowNumberText, pairText, foundLine, refusedLine, lineOf}
 
 -- a number behind a blank
 blank-made : (line one two text : List ℕ) (at k : ℕ) → at + 1 + length text ≤ length line → one ≡ putOf line at (ascii " ") → k ≡ length text
@@ -26,16 +21,16 @@ unfolding minuteText
 minute-made line one two at k z room p e q = let s = signed-length z in blank-made line one two (signedOf z) at k (omega arith) p e q
 
 pub row-made : (line one two : List ℕ) (at k row : ℕ) → at + 21 ≤ length line → one ≡ putOf line at (ascii " ") → k ≡ length (decimalOf row)
-    → two ≡ putOf one (at + 1) (decimalOf row) → (at + 1 + k ≡ at + length (rowText row)) × (two ≡ putOf line at (rowText row))
-unfolding rowText
+    → two ≡ putOf one (at + 1) (decimalOf row) → (at + 1 + k ≡ at + length (rowNumberText row)) × (two ≡ putOf line at (rowNumberText row))
+unfolding rowNumberText
 row-made line one two at k row room p e q = let d = digits-short 20 row in blank-made line one two (decimalOf row) at k (omega arith) p e q
 
 pub minute-length : (z : ℤ) → length (minuteText z) ≤ 22
 unfolding minuteText
 minute-length z = let s = signed-length z in let a = length-append (ascii " ") (signedOf z) in omega arith
 
-row-length : (row : ℕ) → length (rowText row) ≤ 21
-unfolding rowText
+row-length : (row : ℕ) → length (rowNumberText row) ≤ 21
+unfolding rowNumberText
 row-length row = let d = digits-short 20 row in let a = length-append (ascii " ") (decimalOf row) in omega arith
 
 pub pair-length : (z : ℤ) (row : ℕ) → length (pairText z row) ≤ 43
@@ -43,22 +38,22 @@ unfolding pairText
 pair-length z row =
     let m = minute-length z in
     let r = row-length row in
-    let l = length-append (minuteText z) (rowText row) in
+    let l = length-append (minuteText z) (rowNumberText row) in
     omega arith
 
 pub pair-made : (line one two : List ℕ) (at i r row : ℕ) (z : ℤ) → at + 43 ≤ length line
     → i ≡ at + length (minuteText z) → one ≡ putOf line at (minuteText z)
-    → r ≡ i + length (rowText row) → two ≡ putOf one i (rowText row)
+    → r ≡ i + length (rowNumberText row) → two ≡ putOf one i (rowNumberText row)
     → (r ≡ at + length (pairText z row)) × (two ≡ putOf line at (pairText z row))
 unfolding pairText
 pair-made line one two at i r row z room a a' b b' =
     let m = minute-length z in
     let n = row-length row in
-    let l = length-append (minuteText z) (rowText row) in (
+    let l = length-append (minuteText z) (rowNumberText row) in (
       omega arith,
-      b' ∙ ap (λ (x : List ℕ). putOf x i (rowText row)) a'
-          ∙ ap (λ (k : ℕ). putOf (putOf line at (minuteText z)) k (rowText row)) a
-          ∙ put-behind line (minuteText z) (rowText row) at (omega arith),
+      b' ∙ ap (λ (x : List ℕ). putOf x i (rowNumberText row)) a'
+          ∙ ap (λ (k : ℕ). putOf (putOf line at (minuteText z)) k (rowNumberText row)) a
+          ∙ put-behind line (minuteText z) (rowNumberText row) at (omega arith),
     )
 
 module _ (line : List ℕ) (w : Window) (l : length line ≡ 128) where
@@ -98,49 +93,32 @@ module _ (line : List ℕ) (w : Window) (l : length line ≡ 128) where
 pub found-length : (w : Window) → length (foundLine w) ≤ 128
 unfolding foundLine
 found-length w =
-    let t1 : List ℕ = decimalOf (w .first) in
-    let t2 : List ℕ = pairText (w .earliest) (w .«earliest_row») in
-    let t3 : List ℕ = pairText (w .latest) (w .«latest_row») in
-    let s1 : length t1 ≤ 20 = digits-short 20 (w .first) in
-    let s2 : length t2 ≤ 43 = pair-length (w .earliest) (w .«earliest_row») in
-    let s3 : length t3 ≤ 43 = pair-length (w .latest) (w .«latest_row») in
-    let l2 = length-append t1 t2 in
-    let l3 = length-append (t1 ++ t2) t3 in
-    let l4 = length-append (t1 ++ t2 ++ t3) (ascii "\n") in
-    omega arith
+    let s1 = digits-short 20 (w .first) in
+    let s2 = pair-length (w .earliest) (w .«earliest_row») in
+    let s3 = pair-length (w .latest) (w .«latest_row») in
+    simp length-append (omega arith)
 
 pub refused-length : (w : Window) → length (refusedLine w) ≤ 128
 unfolding refusedLine
-refused-length w =
-    let s1 = digits-short 20 (w .first) in
-    let l2 = length-append (decimalOf (w .first)) (ascii " refused\n") in
-    omega arith
+refused-length w = let s1 = digits-short 20 (w .first) in simp length-append (omega arith)
 
 pub line-length : (w : Window) → length (lineOf w) ≤ 128
 unfolding lineOf
-line-length w = by (w .ready) (w .refused)
-  where
-    by : (a b : Bool) → length (cond a (cond b (refusedLine w) (foundLine w)) []) ≤ 128
-    by true true = refused-length w
-    by true false = found-length w
-    by false b = omega arith
+line-length w =
+    arms (λ (t : List ℕ). length t ≤ 128) (w .ready)
+    (λ a. arms (λ (t : List ℕ). length t ≤ 128) (w .refused) (λ b. refused-length w) (λ b. found-length w)) (λ a. omega arith)
 
-line-is : (w : Window) (a b : Bool) → w .ready ≡ a → w .refused ≡ b → cond a (cond b (refusedLine w) (foundLine w)) [] ≡ lineOf w
-unfolding lineOf
-line-is w a b p q =
-    sym (ap (λ (x : Bool). cond x (cond (w .refused) (refusedLine w) (foundLine w)) []) p
-    ∙ ap (λ (x : Bool). cond a (cond x (refusedLine w) (foundLine w)) []) q)
+module _ (line last : List ℕ) (w : Window) (r : ℕ) where
+  pub line-refused : w .ready ≡ true → w .refused ≡ true → r ≡ length (refusedLine w) → last ≡ frontOf (refusedLine w) line
+      → (r ≡ length (lineOf w)) × (last ≡ frontOf (lineOf w) line)
+  unfolding lineOf
+  line-refused a b p q = simp (a, b) (p, q)
 
-line-put : (line last t u : List ℕ) (r : ℕ) → t ≡ u → r ≡ length t → last ≡ frontOf t line → (r ≡ length u) × (last ≡ frontOf u line)
-line-put line last t u r e a b = (a ∙ ap length e, b ∙ ap (λ (x : List ℕ). frontOf x line) e)
-
-pub line-refused : (line last : List ℕ) (w : Window) (r : ℕ) → w .ready ≡ true → w .refused ≡ true → r ≡ length (refusedLine w)
-    → last ≡ frontOf (refusedLine w) line → (r ≡ length (lineOf w)) × (last ≡ frontOf (lineOf w) line)
-line-refused line last w r a b = line-put line last (refusedLine w) (lineOf w) r (line-is w true true a b)
-
-pub line-found : (line last : List ℕ) (w : Window) (r : ℕ) → w .ready ≡ true → w .refused ≡ false → r ≡ length (foundLine w)
-    → last ≡ frontOf (foundLine w) line → (r ≡ length (lineOf w)) × (last ≡ frontOf (lineOf w) line)
-line-found line last w r a b = line-put line last (foundLine w) (lineOf w) r (line-is w true false a b)
+  pub line-found : w .ready ≡ true → w .refused ≡ false → r ≡ length (foundLine w) → last ≡ frontOf (foundLine w) line
+      → (r ≡ length (lineOf w)) × (last ≡ frontOf (lineOf w) line)
+  unfolding lineOf
+  line-found a b p q = simp (a, b) (p, q)
 
 pub line-none : (line : List ℕ) (w : Window) → w .ready ≡ false → (0 ≡ length (lineOf w)) × (line ≡ frontOf (lineOf w) line)
-line-none line w a = line-put line line [] (lineOf w) 0 (line-is w false (w .refused) a refl) refl refl
+unfolding lineOf
+line-none line w a = simp a (refl, refl)

@@ -1,38 +1,18 @@
 -- A window that is looked through row by row answers what the rows say. Assumes nothing.
-use native.Mathlib.Omega.{arith}
-use Prim.Native.Nat.{ℕ, zero, suc, _+_, _-_, _≤_}
-use mathlib.Core.Path.{_≡_, refl, sym, ap, subst, _∙_}
-use mathlib.Core.Bool.{Bool, true, false, cond}
-use mathlib.Core.Logic.{inl, inr}
-use mathlib.Core.List.{List}
-use lib.IntN.{ℤ, pos}
-use lib.Signed.{ltZ}
-use lib.Dec.{T}
-use lib.ListN.{length}
+use Rattle.prelude.proofs.Logic.{_≡_, refl, sym, ap, subst, _∙_, Bool, true, false, cond, List, inl, inr, ℕ, zero, suc, _+_, _≤_, arith, ℤ, length, ltZ, le-leb}
 use borrow.Author.Count.{below-more}
-use borrow.Author.Tests.{le-leb}
 use Rattle.integers.proofs.OrderLaws.{lt-yes, lt-no, to-lt, to-not-lt}
 use Rattle.weeks.specs.declared.minute.Minute.{Minute}
 use Rattle.weeks.specs.declared.minute.Minute.the-variants.{At, Refused}
 use Rattle.weeks.specs.declared.window.Window.{Window}
-use Rattle.weeks.specs.Windows.{rowAt, noWindow, refusedWindow, beginOf, withEarliest, withLatest, earlierOf, laterOf, seenOf, lookOf, lookedOf, windowOf}
-use Rattle.weeks.specs.Meaning.{Best, earlier, later, Right, Answers}
-
-minuteIn : Minute → ℤ
-minuteIn (At m) = m
-minuteIn Refused = pos 0
-
-hasMinute : Minute → Bool
-hasMinute (At m) = true
-hasMinute Refused = false
+use Rattle.weeks.specs.Windows.{rowAt, noWindow, refusedWindow, beginOf, withEarliest, withLatest, earlierIn, laterIn, seenOf, lookOf, lookedOf, windowOf}
+use Rattle.weeks.specs.Meaning.{Best, earlier, later, RightWindow, Answers}
 
 same-minute : (x : Minute) (m n : ℤ) → x ≡ At m → x ≡ At n → m ≡ n
-unfolding minuteIn
-same-minute x m n a b = ap minuteIn (sym a ∙ b)
+same-minute x m n a b = cc
 
 not-both : (x : Minute) (m : ℤ) → x ≡ At m → x ≡ Refused → ⊥
-unfolding hasMinute
-not-both x m a b = subst T (ap hasMinute (sym a ∙ b)) tt
+not-both x m a b = let z : _≡_ {A = ℕ} 0 1 = cc in omega arith
 
 module _ (before : ℤ → ℤ → Bool) (itself : (x : ℤ) → before x x ≡ false)
     (ahead : (x y z : ℤ) → before x y ≡ true → before z y ≡ false → before x z ≡ true)
@@ -123,9 +103,9 @@ kept-early : (b : Bool) (w : Window) (row : ℕ) (m : ℤ)
 kept-early true w row m = (refl, refl, refl)
 kept-early false w row m = (refl, refl, refl)
 
-right-step : (f : ℕ → Minute) (first next : ℕ) (w : Window) (m : ℤ) → f next ≡ At m → Right f first next w
-    → Right f first (next + 1) (laterOf (earlierOf w next m) next m)
-unfolding earlierOf laterOf
+right-step : (f : ℕ → Minute) (first next : ℕ) (w : Window) (m : ℤ) → f next ≡ At m → RightWindow f first next w
+    → RightWindow f first (next + 1) (laterIn (earlierIn w next m) next m)
+unfolding earlierIn laterIn
 right-step f first next w m e k =
     let b = ltZ m (w .earliest) in
     let u = cond b (withEarliest w next m) w in
@@ -150,12 +130,12 @@ unfolding seenOf
 answers-step f first next w Refused e h k = inl (refl, record { row = next; from = h; to = omega arith; is = e })
 answers-step f first next w (At m) e h (inl (r, s)) =
     inl (
-      ap (λ (b : Bool). cond b (refusedWindow (w .first)) (laterOf (earlierOf w next m) next m) .refused) r,
+      ap (λ (b : Bool). cond b (refusedWindow (w .first)) (laterIn (earlierIn w next m) next m) .refused) r,
       record { row = s .row; from = s .from; to = let y = s .to in omega arith; is = s .is },
     )
 answers-step f first next w (At m) e h (inr k) =
     inr
-    (subst (λ (b : Bool). Right f first (next + 1) (cond b (refusedWindow (w .first)) (laterOf (earlierOf w next m) next m))) (sym (k .accepted))
+    (subst (λ (b : Bool). RightWindow f first (next + 1) (cond b (refusedWindow (w .first)) (laterIn (earlierIn w next m) next m))) (sym (k .accepted))
     (right-step f first next w m e k))
 
 answers-look : (f : ℕ → Minute) (first : ℕ) (w : Window) (i k n : ℕ) → n ≡ i + k → Answers f first (first + i) w
@@ -189,7 +169,7 @@ first-kept w row m false true false r = (r, refl)
 first-kept w row m false false false r = (r, refl)
 
 seen-kept : (w : Window) (row : ℕ) (x : Minute) → w .ready ≡ true → (seenOf w row x .ready ≡ true) × (seenOf w row x .first ≡ w .first)
-unfolding seenOf earlierOf laterOf
+unfolding seenOf earlierIn laterIn
 seen-kept w row Refused r = (refl, refl)
 seen-kept w row (At m) r = first-kept w row m (ltZ m (w .earliest)) (ltZ (cond (ltZ m (w .earliest)) (withEarliest w row m) w .latest) m) (w .refused) r
 

@@ -1,12 +1,5 @@
 -- A row's minute, as it is worked and as it is defined. Assumes nothing.
-use native.Mathlib.Omega.{arith}
-use Prim.Native.Nat.{ℕ, _+_, _*_, _/_, _%_, _^_, _<_}
-use mathlib.Core.Path.{_≡_, refl, ap, _∙_}
-use lib.Dec.{lit≤, lit<}
-use lib.IntN.{ℤ, pos, negsuc, _+ℤ_, _*ℤ_}
-use mir.Syntax.{w64}
-use mir.Facts.{toZ-pos}
-use mir.Val.{SFits, toZ}
+use Rattle.prelude.proofs.Logic.{_≡_, refl, ap, _∙_, ℕ, _+_, _*_, _/_, _%_, _^_, _<_, arith, lit≤, lit<, ℤ, pos, negsuc, _+ℤ_, _*ℤ_, w64, SFits, toZ, toZ-pos}
 use Rattle.calendar.specs.Answers.{rowDateOf}
 use Rattle.calls.proofs.RowStates.{stateOf, state-worked}
 use Rattle.calls.specs.Calls.{workRowOf}

@@ -1,9 +1,5 @@
 -- What the report's call answers, by the order's reading, and that it fits. Assumes nothing.
-use native.Mathlib.Omega.{arith}
-use Prim.Native.Nat.{ℕ, _-_, _≤_, _<_}
-use mathlib.Core.Path.{_≡_, refl}
-use mathlib.Core.List.{List, []}
-use lib.ListN.{length}
+use Rattle.prelude.proofs.Logic.{_≡_, refl, List, [], ℕ, _-_, _≤_, _<_, arith, length}
 use Rattle.lines.proofs.LinesLaws.{refused-length}
 use Rattle.lines.specs.Lines.{refusedOrderText}
 use Rattle.order.proofs.AcceptedLaws.{read-accepted}

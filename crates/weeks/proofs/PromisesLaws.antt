@@ -1,14 +1,6 @@
 -- The windows of an order mean what they say. Assumes nothing.
-use native.Mathlib.Omega.{arith}
-use Prim.Native.Nat.{ℕ, zero, suc, _+_, _≤_, _<_}
-use mathlib.Core.Bool.{Bool, true, false}
-use mathlib.Core.Path.{_≡_, refl, sym, ap, _∙_}
-use mathlib.Core.List.{List, [], _∷_, _++_}
-use lib.Dec.{ltb}
-use lib.ListN.{length}
-use borrow.Author.Tests.{ltb-true, ltb-false}
+use Rattle.prelude.proofs.Logic.{_≡_, refl, ap, _∙_, Bool, true, false, [], _∷_, _++_, ℕ, zero, suc, _<_, arith, ltb, length, ltb-true, ltb-false}
 use Rattle.order.specs.declared.reading.Order.{Order}
-use Rattle.weeks.specs.declared.minute.Minute.{Minute}
 use Rattle.weeks.specs.Promises.{WindowsMeanIt}
 use Rattle.weeks.specs.Report.{rowMinute, minutesOf}
 use Rattle.weeks.specs.Windows.{rowAt}

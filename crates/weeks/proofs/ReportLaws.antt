@@ -1,12 +1,6 @@
 -- A row more is a line more, the one that the last seven rows give. Assumes nothing.
-use native.Mathlib.Omega.{arith}
-use Prim.Native.Nat.{ℕ, zero, suc, _+_, _-_, _*_, _≤_, _<_}
-use mathlib.Core.Path.{_≡_, refl, sym, ap, _∙_}
-use mathlib.Core.Bool.{Bool, true, false, cond}
-use mathlib.Core.List.{List, [], _∷_, _++_, append-assoc, append-nil}
-use lib.Dec.{ltb}
-use lib.ListN.{length, length-append}
-use borrow.Author.Tests.{ltb-true, ltb-false, le-leb, lt-leb}
+use Rattle.prelude.proofs.Logic.{_≡_, refl, sym, ap, _∙_, Bool, cond, List, [], _∷_, _++_, append-assoc, append-nil, ℕ, zero, suc, _+_, _-_, _*_, _≤_, _<_, arith, ltb, length, length-append, ltb-true, ltb-false, le-leb, lt-leb}
+use Rattle.prelude.proofs.Cases.{cases}
 use Rattle.weeks.specs.declared.minute.Minute.{Minute}
 use Rattle.weeks.specs.declared.week.Week.{Week}
 use Rattle.weeks.specs.declared.window.Window.{Window}
@@ -74,25 +68,20 @@ module _ (l : List Minute) (m : Minute) (h : length l < 4294967295) where
 
   pub report-next : reportOf (l ++ (m ∷ [])) ≡ reportOf l ++ lineOf (windowIn (pushedOf (weekOf l) m))
   unfolding linesFrom
-  report-next = by-test (ltb (length l) 6) refl
-    where
-      by-test : (b : Bool) → ltb (length l) 6 ≡ b → reportOf (l ++ (m ∷ [])) ≡ reportOf l ++ lineOf (windowIn (pushedOf (weekOf l) m))
-      by-test true t =
-          let z = ltb-true (length l) 6 t in
-          let n = one-more l m in
-          let a : length (l ++ (m ∷ [])) - 6 ≡ 0 = omega arith in
-          let b : length l - 6 ≡ 0 = omega arith in
-          ap (linesFrom (l ++ (m ∷ [])) 0) a
-          ∙ sym (line-now ∙ window-none (l ++ (m ∷ [])) (omega arith))
-          ∙ ap (λ (j : ℕ). linesFrom l 0 j ++ lineOf (windowIn (pushedOf (weekOf l) m))) (sym b)
-      by-test false t =
-          let z = ltb-false (length l) 6 t in
-          let n = one-more l m in
-          let k = length l - 6 in
-          let a : length (l ++ (m ∷ [])) - 6 ≡ suc k = omega arith in
-          let b : 0 + k ≡ length (l ++ (m ∷ [])) - 7 = omega arith in
-          ap (linesFrom (l ++ (m ∷ [])) 0) a
-          ∙ lines-last (l ++ (m ∷ [])) 0 k
-          ∙ ap (λ (t : List ℕ). t ++ lineOf (windowOf (l ++ (m ∷ [])) (0 + k))) (sym (lines-more l (m ∷ []) 0 k (omega arith)))
-          ∙ ap (λ (j : ℕ). linesFrom l 0 k ++ lineOf (windowOf (l ++ (m ∷ [])) j)) b
-          ∙ ap (λ (t : List ℕ). linesFrom l 0 k ++ t) (sym line-now)
+  report-next =
+      let n = one-more l m in
+      let k = length l - 6 in
+      cases (ltb (length l) 6)
+      (λ t. let z = ltb-true (length l) 6 t in
+      let a : length (l ++ (m ∷ [])) - 6 ≡ 0 = omega arith in
+      let b : length l - 6 ≡ 0 = omega arith in
+      ap (linesFrom (l ++ (m ∷ [])) 0) a ∙ sym (line-now ∙ window-none (l ++ (m ∷ [])) (omega arith))
+      ∙ ap (λ (j : ℕ). linesFrom l 0 j ++ lineOf (windowIn (pushedOf (weekOf l) m))) (sym b))
+      (λ t. let z = ltb-false (length l) 6 t in
+      let a : length (l ++ (m ∷ [])) - 6 ≡ suc k = omega arith in
+      let b : 0 + k ≡ length (l ++ (m ∷ [])) - 7 = omega arith in
+      ap (linesFrom (l ++ (m ∷ [])) 0) a
+      ∙ lines-last (l ++ (m ∷ [])) 0 k
+      ∙ ap (λ (t : List ℕ). t ++ lineOf (windowOf (l ++ (m ∷ [])) (0 + k))) (sym (lines-more l (m ∷ []) 0 k (omega arith)))
+      ∙ ap (λ (j : ℕ). linesFrom l 0 k ++ lineOf (windowOf (l ++ (m ∷ [])) j)) b
+      ∙ ap (λ (t : List ℕ). linesFrom l 0 k ++ t) (sym line-now))

@@ -1,17 +1,11 @@
 -- The state holds the last seven rows of what went by, and its window is the one looked through afresh. Assumes nothing.
-use native.Mathlib.Omega.{arith}
-use Prim.Native.Nat.{ℕ, zero, suc, _+_, _-_, _≤_, _<_}
-use mathlib.Core.Path.{_≡_, refl, sym, ap, _∙_}
-use mathlib.Core.Bool.{Bool, true, false, cond}
-use mathlib.Core.List.{List, [], _∷_, _++_}
-use lib.Dec.{leb, ltb}
-use lib.ListN.{length, length-append}
-use borrow.Author.Tests.{ltb-true, ltb-false, leb-true, leb-false, lt-ltb, le-leb, lt-leb}
+use Rattle.prelude.proofs.Logic.{_≡_, refl, sym, ap, _∙_, Bool, cond, List, [], _∷_, _++_, ℕ, zero, suc, _+_, _-_, _≤_, _<_, arith, leb, ltb, length, length-append, ltb-true, ltb-false, leb-true, leb-false, lt-ltb, le-leb, lt-leb}
+use Rattle.prelude.proofs.Cases.{cases}
 use Rattle.weeks.specs.declared.minute.Minute.{Minute}
 use Rattle.weeks.specs.declared.minute.Minute.the-variants.{Refused}
 use Rattle.weeks.specs.declared.week.Week.{Week}
-use Rattle.weeks.specs.Windows.{rowAt, noWindow, lookedOf, windowOf}
-use Rattle.weeks.specs.State.{back, weekOf, pushedOf, lastOf, windowIn}
+use Rattle.weeks.specs.Windows.{rowAt, lookedOf, windowOf}
+use Rattle.weeks.specs.State.{back, weekOf, pushedOf, lastWindowOf, windowIn}
 
 -- ---- rows of a longer list
 pub row-before : (l k : List Minute) (n : ℕ) → n < length l → rowAt (l ++ k) n ≡ rowAt l n
@@ -34,19 +28,13 @@ back-none : (l : List Minute) (k : ℕ) → length l < k → back l k ≡ Refuse
 back-none l k h = ap (λ (b : Bool). cond b (rowAt l (length l - k)) Refused) (lt-leb k (length l) h)
 
 back-push : (l : List Minute) (m : Minute) (k j : ℕ) → 1 ≤ k → j ≡ k + 1 → back l k ≡ back (l ++ (m ∷ [])) j
-back-push l m k j h e = by (leb k (length l)) refl
-  where
-    by : (b : Bool) → leb k (length l) ≡ b → back l k ≡ back (l ++ (m ∷ [])) j
-    by true t =
-        let a = leb-true k (length l) t in
-        let n = one-more l m in
-        let i : length l - k ≡ length (l ++ (m ∷ [])) - j = omega arith in
-        back-is l k a ∙ sym (row-before l (m ∷ []) (length l - k) (omega arith)) ∙ ap (rowAt (l ++ (m ∷ []))) i
-        ∙ sym (back-is (l ++ (m ∷ [])) j (omega arith))
-    by false t =
-        let a = leb-false k (length l) t in
-        let n = one-more l m in
-        back-none l k (omega arith) ∙ sym (back-none (l ++ (m ∷ [])) j (omega arith))
+back-push l m k j h e =
+    let n = one-more l m in
+    let i : length l - k ≡ length (l ++ (m ∷ [])) - j = omega arith in
+    cases (leb k (length l))
+    (λ t. let a = leb-true k (length l) t in
+    back-is l k a ∙ sym (row-before l (m ∷ []) (length l - k) (omega arith)) ∙ ap (rowAt (l ++ (m ∷ []))) i ∙ sym (back-is (l ++ (m ∷ [])) j (omega arith)))
+    (λ t. let a = leb-false k (length l) t in back-none l k (omega arith) ∙ sym (back-none (l ++ (m ∷ [])) j (omega arith)))
 
 back-one : (l : List Minute) (m : Minute) → m ≡ back (l ++ (m ∷ [])) 1
 back-one l m =
@@ -77,32 +65,20 @@ push-holds l m h =
 -- ---- the window
 -- two ways to name the seven rows
 pub looked-is : (f : ℕ → Minute) (first n : ℕ) (a b c d e h g : Minute) → a ≡ f first → b ≡ f (first + 1) → c ≡ f (first + 2) → d ≡ f (first + 3)
-    → e ≡ f (first + 4) → h ≡ f (first + 5) → g ≡ f (first + 6) → lastOf first (mk n a b c d e h g) ≡ lookedOf f first
-unfolding lookedOf lastOf
+    → e ≡ f (first + 4) → h ≡ f (first + 5) → g ≡ f (first + 6) → lastWindowOf first (mk n a b c d e h g) ≡ lookedOf f first
+unfolding lookedOf lastWindowOf
 looked-is f first n a b c d e h g p q r s t u v =
-    ap (lastOf first) (same-week n n _ _ _ _ _ _ _ _ _ _ _ _ _ _ refl p q r s t u v)
+    ap (lastWindowOf first) (same-week n n _ _ _ _ _ _ _ _ _ _ _ _ _ _ refl p q r s t u v)
 
 pub window-right : (l : List Minute) → windowIn (weekOf l) ≡ windowOf l (length l - 7)
 unfolding windowIn windowOf weekOf
-window-right l = by (ltb (length l) 7) refl
+window-right l =
+    cases (ltb (length l) 7) (λ t. let a = ltb-true (length l) 7 t in simp (t, lt-leb (length l - 7 + 7) (length l) (omega arith)))
+    (λ t. let a : 7 ≤ length l = ltb-false (length l) 7 t in
+    simp (t, le-leb (length l - 7 + 7) (length l) (omega arith))
+    (looked-is (rowAt l) (length l - 7) (length l) _ _ _ _ _ _ _ (at 7 _ (omega arith) a refl) (at 6 _ (omega arith) a (omega arith))
+    (at 5 _ (omega arith) a (omega arith)) (at 4 _ (omega arith) a (omega arith)) (at 3 _ (omega arith) a (omega arith))
+    (at 2 _ (omega arith) a (omega arith)) (at 1 _ (omega arith) a (omega arith))))
   where
     at : (k i : ℕ) → k ≤ 7 → 7 ≤ length l → i ≡ length l - k → back l k ≡ rowAt l i
     at k i h a e = back-is l k (omega arith) ∙ ap (rowAt l) (sym e)
-
-    by : (b : Bool) → ltb (length l) 7 ≡ b
-        → cond (ltb (length l) 7) noWindow (lastOf (length l - 7) (mk (length l) (back l 7) (back l 6) (back l 5) (back l 4) (back l 3) (back l 2) (back l 1)))
-        ≡ cond (leb (length l - 7 + 7) (length l)) (lookedOf (rowAt l) (length l - 7)) noWindow
-    by true t =
-        let a = ltb-true (length l) 7 t in
-        ap (λ (b : Bool). cond b noWindow (lastOf (length l - 7) (mk (length l) (back l 7) (back l 6) (back l 5) (back l 4) (back l 3) (back l 2) (back l 1)))) t ∙ sym (ap (λ (b : Bool). cond b (lookedOf (rowAt l) (length l - 7)) noWindow) (lt-leb (length l - 7 + 7) (length l) (omega arith)))
-    by false t =
-        let a : 7 ≤ length l = ltb-false (length l) 7 t in
-        ap (λ (b : Bool). cond b noWindow (lastOf (length l - 7) (mk (length l) (back l 7) (back l 6) (back l 5) (back l 4) (back l 3) (back l 2) (back l 1)))) t
-        ∙ looked-is (rowAt l) (length l - 7) (length l) _ _ _ _ _ _ _ (at 7 _ (omega arith) a refl)
-        (at 6 _ (omega arith) a (omega arith))
-        (at 5 _ (omega arith) a (omega arith))
-        (at 4 _ (omega arith) a (omega arith))
-        (at 3 _ (omega arith) a (omega arith))
-        (at 2 _ (omega arith) a (omega arith))
-        (at 1 _ (omega arith) a (omega arith))
-        ∙ sym (ap (λ (b : Bool). cond b (lookedOf (rowAt l) (length l - 7)) noWindow) (le-leb (length l - 7 + 7) (length l) (omega arith)))

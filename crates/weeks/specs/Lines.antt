@@ -15,11 +15,11 @@ use Rattle.weeks.specs.Windows.{windowOf}
 unfoldable pub minuteText : ℤ → List ℕ
 minuteText minute = ascii " " ++ signedOf minute
 
-unfoldable pub rowText : ℕ → List ℕ
-rowText row = ascii " " ++ decimalOf row
+unfoldable pub rowNumberText : ℕ → List ℕ
+rowNumberText row = ascii " " ++ decimalOf row
 
 unfoldable pub pairText : ℤ → ℕ → List ℕ
-pairText minute row = minuteText minute ++ rowText row
+pairText minute row = minuteText minute ++ rowNumberText row
 
 -- `0 -2 0 -1 2`
 unfoldable pub foundLine : Window → List ℕ

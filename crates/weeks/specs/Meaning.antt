@@ -1,5 +1,5 @@
 -- Document 02, request 11: what a window's answer means, by the rows alone.
-use Prim.Native.Nat.{ℕ, _+_, _≤_, _<_}
+use Prim.Native.Nat.{ℕ, _≤_, _<_}
 use mathlib.Core.Path.{_≡_}
 use mathlib.Core.Bool.{Bool, true, false}
 use mathlib.Core.Logic.{_⊎_}
@@ -29,7 +29,7 @@ pub record SomeRefused (f : ℕ → Minute) (first next : ℕ) : Type 0 where
   pub to : row < next
   pub is : f row ≡ Refused
 
-pub record Right (f : ℕ → Minute) (first next : ℕ) (w : Window) : Type 0 where
+pub record RightWindow (f : ℕ → Minute) (first next : ℕ) (w : Window) : Type 0 where
   pub accepted : w .refused ≡ false
   pub none-refused : (r : ℕ) → r < next → first ≤ r → f r ≡ Refused → ⊥
   pub early : Best earlier f first next (w .earliest) (w .«earliest_row»)
@@ -37,4 +37,4 @@ pub record Right (f : ℕ → Minute) (first next : ℕ) (w : Window) : Type 0 w
 
 -- a window's answer: refused, and a row is; or right, and none is
 abbrev pub Answers : (ℕ → Minute) → ℕ → ℕ → Window → Type 0
-Answers f first next w = ((w .refused ≡ true) × SomeRefused f first next) ⊎ Right f first next w
+Answers f first next w = ((w .refused ≡ true) × SomeRefused f first next) ⊎ RightWindow f first next w

@@ -1,8 +1,8 @@
 -- This file need not be believed: the number of rows that went by and the last seven are working values, and proofs/ says that they give what each
 -- window gives that is looked through afresh.
-use Prim.Native.Nat.{ℕ, zero, suc, _+_, _-_}
+use Prim.Native.Nat.{ℕ, _+_, _-_}
 use mathlib.Core.Bool.{cond}
-use mathlib.Core.List.{List, [], _∷_, _++_}
+use mathlib.Core.List.{List}
 use lib.Dec.{leb, ltb}
 use lib.ListN.{length}
 use Rattle.integers.specs.Quotients.{floorQuot}
@@ -50,8 +50,8 @@ pushedOf w m =
     }
 
 -- the window of the last seven rows
-unfoldable pub lastOf : ℕ → Week → Window
-lastOf first w =
+unfoldable pub lastWindowOf : ℕ → Week → Window
+lastWindowOf first w =
     seenOf
     (seenOf
     (seenOf
@@ -67,7 +67,7 @@ lastOf first w =
     (w .g)
 
 unfoldable pub windowIn : Week → Window
-windowIn w = cond (ltb (w .rows) 7) noWindow (lastOf (w .rows - 7) w)
+windowIn w = cond (ltb (w .rows) 7) noWindow (lastWindowOf (w .rows - 7) w)
 
 -- a row's minute from its Fajr by itself
 unfoldable pub minuteFrom : FajrAlone → Minute

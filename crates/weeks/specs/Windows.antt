@@ -1,6 +1,6 @@
 -- Document 02, request 11: a window of seven rows, looked through afresh.
 use Prim.Native.Nat.{ℕ, zero, suc, _+_}
-use mathlib.Core.Bool.{Bool, true, false, cond}
+use mathlib.Core.Bool.{true, false, cond}
 use mathlib.Core.List.{List, [], _∷_}
 use lib.Dec.{leb}
 use lib.IntN.{ℤ, pos}
@@ -40,15 +40,15 @@ abbrev pub withLatest : Window → ℕ → ℤ → Window
 withLatest w row m =
     record { ready = w .ready; refused = w .refused; first = w .first; earliest = w .earliest; «earliest_row» = w .«earliest_row»; latest = m; «latest_row» = row }
 
-unfoldable pub earlierOf : Window → ℕ → ℤ → Window
-earlierOf w row m = cond (ltZ m (w .earliest)) (withEarliest w row m) w
+unfoldable pub earlierIn : Window → ℕ → ℤ → Window
+earlierIn w row m = cond (ltZ m (w .earliest)) (withEarliest w row m) w
 
-unfoldable pub laterOf : Window → ℕ → ℤ → Window
-laterOf w row m = cond (ltZ (w .latest) m) (withLatest w row m) w
+unfoldable pub laterIn : Window → ℕ → ℤ → Window
+laterIn w row m = cond (ltZ (w .latest) m) (withLatest w row m) w
 
 unfoldable pub seenOf : Window → ℕ → Minute → Window
 seenOf w row Refused = refusedWindow (w .first)
-seenOf w row (At m) = cond (w .refused) (refusedWindow (w .first)) (laterOf (earlierOf w row m) row m)
+seenOf w row (At m) = cond (w .refused) (refusedWindow (w .first)) (laterIn (earlierIn w row m) row m)
 
 -- k rows more, from row first + i on
 abbrev pub lookOf : (ℕ → Minute) → ℕ → Window → ℕ → ℕ → Window

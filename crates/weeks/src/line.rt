@@ -3,7 +3,7 @@ ghost use mathlib.Core.Path.{_≡_};
 ghost use Prim.Native.Nat.{_+_, _≤_};
 ghost use lib.ListN.{length};
 ghost use Rattle.text.specs.Text.{putOf, frontOf};
-ghost use Rattle.weeks.specs.Lines.{minuteText, rowText, pairText, foundLine, refusedLine, lineOf};
+ghost use Rattle.weeks.specs.Lines.{minuteText, rowNumberText, pairText, foundLine, refusedLine, lineOf};
 use super::window::Window;
 use text::decimal::put_decimal;
 use text::put::put;
@@ -23,8 +23,8 @@ fn put_minute(line: &mut [u8], at: usize, minute: i64) -> usize
 // A blank and a row; answers where they end.
 fn put_row(line: &mut [u8], at: usize, row: u32) -> usize
     requires { ⌜ (at + 21 ≤ length (now line)) × (length (now line) ≤ 128) ⌝ }
-    ensures { λ r. ⌜ r ≡ at + length (rowText row) ⌝ }
-    ensures { λ _. ⌜ now (line .exit) ≡ putOf (now (line .entry)) at (rowText row) ⌝ }
+    ensures { λ r. ⌜ r ≡ at + length (rowNumberText row) ⌝ }
+    ensures { λ _. ⌜ now (line .exit) ≡ putOf (now (line .entry)) at (rowNumberText row) ⌝ }
 {
     put(&mut line[..], at, b" ");
     let end = at + 1;

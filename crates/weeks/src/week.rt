@@ -2,7 +2,7 @@
 ghost use mathlib.Core.Path.{_≡_};
 ghost use Prim.Native.Nat.{_+_, _≤_};
 ghost use mathlib.Core.List.{[]};
-ghost use Rattle.weeks.specs.State.{weekOf, countedOf, pushedOf, lastOf, windowIn};
+ghost use Rattle.weeks.specs.State.{weekOf, countedOf, pushedOf, lastWindowOf, windowIn};
 use super::minute::Minute;
 use super::window::Window;
 use super::window::begin;
@@ -24,7 +24,7 @@ pub struct Week {
 // The seven of them, of which `first` is the first row, looked through.
 fn last(first: u32, week: Week) -> Window
     requires { ⌜ first + 6 ≤ 4294967295 ⌝ }
-    ensures { λ r. ⌜ r ≡ lastOf first week ⌝ }
+    ensures { λ r. ⌜ r ≡ lastWindowOf first week ⌝ }
 {
     let a = week.a;
     let b = week.b;

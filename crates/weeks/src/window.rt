@@ -1,6 +1,6 @@
 // Seven successive rows, looked through one by one: the earliest and the latest Fajr, and the first row that has each.
 ghost use mathlib.Core.Path.{_≡_};
-ghost use Rattle.weeks.specs.Windows.{noWindow, refusedWindow, beginOf, earlierOf, laterOf, seenOf};
+ghost use Rattle.weeks.specs.Windows.{noWindow, refusedWindow, beginOf, earlierIn, laterIn, seenOf};
 use super::minute::Minute;
 
 // The seven rows from `first` on; not ready while there are fewer.
@@ -60,7 +60,7 @@ pub fn begin(first: u32, minute: Minute) -> Window
 }
 
 fn with_earliest(window: Window, row: u32, m: i64) -> Window
-    ensures { λ r. ⌜ r ≡ earlierOf window row m ⌝ }
+    ensures { λ r. ⌜ r ≡ earlierIn window row m ⌝ }
 {
     if m < window.earliest {
         let mut w = window;
@@ -72,7 +72,7 @@ fn with_earliest(window: Window, row: u32, m: i64) -> Window
 }
 
 fn with_latest(window: Window, row: u32, m: i64) -> Window
-    ensures { λ r. ⌜ r ≡ laterOf window row m ⌝ }
+    ensures { λ r. ⌜ r ≡ laterIn window row m ⌝ }
 {
     if window.latest < m {
         let mut w = window;

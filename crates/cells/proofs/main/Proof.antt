@@ -1,63 +1,15 @@
-use mathlib.Core.Path.{sym}
-use lib.Seq.{length-take-le}
+use Rattle.prelude.proofs.Logic.{sym, length-take-le, needs}
 use Rattle.pages.proofs.ReportLaws.{pages-fit}
-use borrow.Author.Needs.{needs}
-use Rattle.cells.proofs.main.Statement.{statement}
-use Rattle.cells.proofs.main.Tie as tie
-use Rattle.cells.proofs.main.Reads as reads
-use Rattle.cells.proofs.main.Lts as lts
-use Rattle.io.proofs.large_buffer.Reads as large-buffer-reads
-use Rattle.io.proofs.read_full.Reads as read-full-reads
-use Rattle.io.proofs.write_all.Reads as write-all-reads
-use Rattle.pages.proofs.report.write_pages.Reads as write-pages-reads
+use Rattle.cells.proofs.main as this
 
-slice-aggregate-read-full : tie.Need-slice-aggregate-read-full
-slice-aggregate-read-full c = search needs
-
-read-full-requires : tie.Need-read-full-requires
-read-full-requires c κs = search needs
-
-large-buffer-requires : tie.Need-large-buffer-requires
-large-buffer-requires c κs = search needs
-
-array-share-prefix-order : tie.Need-array-share-prefix-order
-array-share-prefix-order c = search needs
-
-slice-aggregate-write-pages : tie.Need-slice-aggregate-write-pages
-slice-aggregate-write-pages c = search needs
-
-slice-aggregate-write-pages-2 : tie.Need-slice-aggregate-write-pages-2
-slice-aggregate-write-pages-2 c = search needs
-
-write-pages-requires : tie.Need-write-pages-requires
-write-pages-requires c κs = search needs
-
-array-share-prefix-cells : tie.Need-array-share-prefix-cells
+array-share-prefix-cells : this.Tie.Need-array-share-prefix-cells
 array-share-prefix-cells c =
     let w = c .before .write-pages in
     pages-fit _ _ (w .last .1 .0) (w .result) (w .ensures .0) (w .kept .1 .0)
 
-slice-aggregate-write-all : tie.Need-slice-aggregate-write-all
-slice-aggregate-write-all c = sym (length-take-le _ _ (array-share-prefix-cells (c .before)))
-
-write-all-requires : tie.Need-write-all-requires
-write-all-requires c κs = search needs
-
-returns : tie.Need-returns
-returns c = search needs
-
-pub main-spec : {M : Type 1} → statement M
+pub main-spec : {M : Type 1} → this.Statement.statement M
 main-spec =
-    tie.close
-    (tie.spec
-    slice-aggregate-read-full
-    read-full-requires
-    large-buffer-requires
-    array-share-prefix-order
-    slice-aggregate-write-pages
-    slice-aggregate-write-pages-2
-    write-pages-requires
-    array-share-prefix-cells
-    slice-aggregate-write-all
-    write-all-requires
-    returns)
+    this.Tie.close
+    (this.Tie.spec (λ c. search needs) (λ c κs. search needs) (λ c κs. search needs) (λ c. search needs) (λ c. search needs) (λ c. search needs)
+    (λ c κs. search needs) array-share-prefix-cells (λ c. sym (length-take-le _ _ (array-share-prefix-cells (c .before)))) (λ c κs. search needs)
+    (λ c. search needs))

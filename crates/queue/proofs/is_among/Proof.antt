@@ -1,22 +1,15 @@
-use borrow.Author.Needs.{needs}
-use mathlib.Core.Path.{_≡_, sym, _∙_}
-use Prim.Native.Nat.{_≤_, _-_}
-use native.Mathlib.Omega.{arith}
-use lib.ListN.{length}
-use lib.Seq.{slice, slice-empty}
-use borrow.Author.Tests.{eq-eqb, ne-eqb}
+use Rattle.prelude.proofs.Logic.{_≡_, sym, _∙_, _≤_, _-_, arith, length, slice, slice-empty, needs, eq-eqb, ne-eqb}
 use Rattle.queue.proofs.Lists.{among-first}
 use Rattle.queue.specs.Parts.{among}
-use Rattle.queue.proofs.is_among.Statement.{statement}
-use Rattle.queue.proofs.is_among.Tie as tie
+use Rattle.queue.proofs.is_among as this
 
-abbrev Inv-loop : tie.InvT-loop
+abbrev Inv-loop : this.Tie.InvT-loop
 Inv-loop n id ids i₀ i = (i ≤ n) × (among id (slice 0 n ids) ≡ among id (slice i n ids))
 
-abbrev μ-loop : tie.MeasureT-loop
+abbrev μ-loop : this.Tie.MeasureT-loop
 μ-loop n id ids i₀ i = n - i
 
-returns : tie.Need-returns Inv-loop μ-loop
+returns : this.Tie.Need-returns Inv-loop μ-loop
 returns c =
     let start = c .before .before .before in
     let i = c .before .before .loop .i in
@@ -25,7 +18,7 @@ returns c =
     let f = among-first (start .args .id) a i (start .args .n) e (c .before .loop-test .taken) (start .pre) in
     sym (c .before .before .loop .inv .1 ∙ rw (f, eq-eqb _ _ (c .if1 .taken)))
 
-loop-again : tie.Need-loop-again Inv-loop μ-loop
+loop-again : this.Tie.Need-loop-again Inv-loop μ-loop
 loop-again c =
     let start = c .before .before .before in
     let i = c .before .before .loop .i in
@@ -34,14 +27,15 @@ loop-again c =
     let f = among-first (start .args .id) a i (start .args .n) e (c .before .loop-test .taken) (start .pre) in
     (omega arith, c .before .before .loop .inv .1 ∙ f ∙ rw (ne-eqb _ _ (c .if1 .left)))
 
-returns-2 : tie.Need-returns-2 Inv-loop μ-loop
+returns-2 : this.Tie.Need-returns-2 Inv-loop μ-loop
 returns-2 c =
     let start = c .before .before in
     let i = c .before .loop .i in
     let e : i ≡ start .args .n = omega arith in
     sym (c .before .loop .inv .1 ∙ rw (e, slice-empty))
 
-pub is-among-spec : {M : Type 1} → statement M
+pub is-among-spec : {M : Type 1} → this.Statement.statement M
 is-among-spec =
-    tie.close
-    (tie.spec Inv-loop μ-loop (λ c. search needs) (λ c. search needs) (λ c. search needs) returns (λ c. search needs) (λ c. search needs) loop-again returns-2)
+    this.Tie.close
+    (this.Tie.spec Inv-loop μ-loop (λ c. search needs) (λ c. search needs) (λ c. search needs) returns (λ c. search needs) (λ c. search needs)
+    loop-again returns-2)

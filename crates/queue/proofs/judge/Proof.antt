@@ -1,12 +1,10 @@
-use mathlib.Core.Path.{sym, _∙_}
+use Rattle.prelude.proofs.Logic.{sym, _∙_, needs}
 use Rattle.queue.proofs.Abstraction.{Whole}
 use Rattle.queue.proofs.Answers.{judged-waiting, judged-full, judged-free}
 use Rattle.queue.specs.Jobs.{joinOf}
-use borrow.Author.Needs.{needs}
-use Rattle.queue.proofs.judge.Statement.{statement}
-use Rattle.queue.proofs.judge.Tie as tie
+use Rattle.queue.proofs.judge as this
 
-returns : tie.Need-returns
+returns : this.Tie.Need-returns
 returns c =
     let tested = c .before in
     let among = tested .before .is-among in
@@ -18,7 +16,7 @@ returns c =
     c .new .ensures
     ∙ judged-waiting q w (n .result) (n .ensures .0) (start .args .id) (start .args .pages) (sym (range .ensures) ∙ tested .before .before .if1 .taken) (sym (among .ensures) ∙ tested .if2 .taken)
 
-returns-2 : tie.Need-returns-2
+returns-2 : this.Tie.Need-returns-2
 returns-2 c =
     let tested = c .before in
     let among = tested .before .before .is-among in
@@ -31,7 +29,7 @@ returns-2 c =
     ∙ judged-free q w (n .result) (n .ensures .0) (start .args .id) (start .args .pages) (sym (range .ensures) ∙ tested .before .before .before .if1 .taken)
     (sym (among .ensures) ∙ tested .before .if2 .left) (tested .if3 .taken)
 
-returns-3 : tie.Need-returns-3
+returns-3 : this.Tie.Need-returns-3
 returns-3 c =
     let tested = c .before in
     let among = tested .before .before .is-among in
@@ -44,13 +42,14 @@ returns-3 c =
     ∙ judged-full q w (n .result) (n .ensures .0) (start .args .id) (start .args .pages) (sym (range .ensures) ∙ tested .before .before .before .if1 .taken)
     (sym (among .ensures) ∙ tested .before .if2 .left) (tested .if3 .left)
 
-returns-4 : tie.Need-returns-4
+returns-4 : this.Tie.Need-returns-4
 unfolding joinOf
 returns-4 c =
     let range = c .before .before .in-range .ensures in
     rw (c .new3 .ensures) (simp (sym range, c .before .if1 .left))
 
-pub judge-spec : {M : Type 1} → statement M
+pub judge-spec : {M : Type 1} → this.Statement.statement M
 judge-spec =
-    tie.close
-    (tie.spec (λ c κs. tt) (λ c κs. tt) (λ c κs. search needs) (λ c κs. tt) returns (λ c κs. tt) returns-2 (λ c κs. tt) returns-3 (λ c κs. tt) returns-4)
+    this.Tie.close
+    (this.Tie.spec (λ c κs. tt) (λ c κs. tt) (λ c κs. search needs) (λ c κs. tt) returns (λ c κs. tt) returns-2 (λ c κs. tt) returns-3 (λ c κs. tt)
+    returns-4)

@@ -1,16 +1,9 @@
-use borrow.Author.Tests.{lt-ltb, le-ltb}
+use Rattle.prelude.proofs.Logic.{needs, lt-ltb, le-ltb}
 use Rattle.test_lists.specs.Listed.{digitValueOf}
-use borrow.Author.Needs.{needs}
-use Rattle.test_lists.proofs.digit.Statement.{statement}
-use Rattle.test_lists.proofs.digit.Tie as tie
+use Rattle.test_lists.proofs.digit as this
 
-returns : tie.Need-returns
+pub digit-spec : {M : Type 1} → this.Statement.statement M
 unfolding digitValueOf
-returns c = simp (lt-ltb _ _ (c .if1 .taken))
-
-returns-2 : tie.Need-returns-2
-unfolding digitValueOf
-returns-2 c = simp (le-ltb _ _ (c .if1 .left))
-
-pub digit-spec : {M : Type 1} → statement M
-digit-spec = tie.close (tie.spec (λ c. search needs) returns returns-2)
+digit-spec =
+    let returns-2 : this.Tie.Need-returns-2 = λ c. simp (le-ltb _ _ (c .if1 .left)) in
+    this.Tie.close (this.Tie.spec (λ c. search needs) (λ c. simp (lt-ltb _ _ (c .if1 .taken))) returns-2)

@@ -1,35 +1,16 @@
-use borrow.Author.Needs.{needs}
-use native.Mathlib.Omega.{arith}
-use Prim.Native.Nat.{_-_, _^_, _≤_, _<_}
-use mathlib.Core.Path.{_≡_, sym}
+use Rattle.prelude.proofs.Logic.{_≡_, sym, _-_, _^_, _≤_, _<_, arith, needs}
 use Rattle.test_lists.specs.Listed.{numberOf}
 use Rattle.test_lists.proofs.Digits.{number-on, digit-small, room, fits}
-use Rattle.test_lists.proofs.number.Statement.{statement}
-use Rattle.test_lists.proofs.number.Tie as tie
+use Rattle.test_lists.proofs.number as this
 
-abbrev Inv-loop : tie.InvT-loop
+abbrev Inv-loop : this.Tie.InvT-loop
 Inv-loop base line at digits v₀ k₀ v k =
     (k ≤ digits) × (v ≡ numberOf base line at k) × (v < 16 ^ k)
 
-abbrev μ-loop : tie.MeasureT-loop
+abbrev μ-loop : this.Tie.MeasureT-loop
 μ-loop base line at digits v₀ k₀ v k = digits - k
 
-loop-holds : tie.Need-loop-holds Inv-loop μ-loop
-unfolding numberOf
-loop-holds c = search needs
-
-mul-v : tie.Need-mul-v Inv-loop μ-loop
-mul-v c =
-    let a = c .before .before .before .args in let l = c .before .loop in
-    omega (arith, fits (a .base) (l .v) 0 (l .k) (omega arith) (l .inv .2) (omega arith) (omega arith))
-
-add-v : tie.Need-add-v Inv-loop μ-loop
-add-v c =
-    let a = c .before .before .before .before .before .args in let l = c .before .before .before .loop in
-    let d : c .digit .result < 16 = rw (c .digit .ensures) (digit-small (c .before .byte .result)) in
-    omega (arith, fits (a .base) (l .v) (c .digit .result) (l .k) (omega arith) (l .inv .2) d (omega arith))
-
-loop-again : tie.Need-loop-again Inv-loop μ-loop
+loop-again : this.Tie.Need-loop-again Inv-loop μ-loop
 loop-again c =
     let a = c .before .before .before .before .before .args in let l = c .before .before .before .loop in
     let d : c .digit .result < 16 = rw (c .digit .ensures) (digit-small (c .before .byte .result)) in (
@@ -38,12 +19,16 @@ loop-again c =
       room (a .base) (l .v) (c .digit .result) (l .k) (omega arith) (l .inv .2) d,
     )
 
-returns : tie.Need-returns Inv-loop μ-loop
-returns c =
+pub number-spec : {M : Type 1} → this.Statement.statement M
+unfolding numberOf
+number-spec = this.Tie.close (this.Tie.spec Inv-loop μ-loop (λ c. search needs)
+    (λ c. let a = c .before .before .before .args in let l = c .before .loop in
+    omega (arith, fits (a .base) (l .v) 0 (l .k) (omega arith) (l .inv .2) (omega arith) (omega arith)))
+    (λ c κs. tt) (λ c κs. tt)
+    (λ c. let a = c .before .before .before .before .before .args in let l = c .before .before .before .loop in
+    let d : c .digit .result < 16 = rw (c .digit .ensures) (digit-small (c .before .byte .result)) in
+    omega (arith, fits (a .base) (l .v) (c .digit .result) (l .k) (omega arith) (l .inv .2) d (omega arith)))
+    (λ c. search needs) (λ c. search needs) loop-again
+    (λ c.
     let l = c .before .loop in let e : l .k ≡ c .before .before .before .args .digits = omega arith in
-    rw (sym e) (l .inv .1)
-
-pub number-spec : {M : Type 1} → statement M
-number-spec =
-    tie.close
-    (tie.spec Inv-loop μ-loop loop-holds mul-v (λ c κs. tt) (λ c κs. tt) add-v (λ c. search needs) (λ c. search needs) loop-again returns)
+    rw (sym e) (l .inv .1)))

@@ -1,12 +1,8 @@
-use mir.Syntax.{w32}
-use mir.Val.{SFits}
-use mir.Facts.{toZ-ofZ}
-use borrow.Author.Needs.{needs}
+use Rattle.prelude.proofs.Logic.{needs, w32, SFits, toZ-ofZ}
 use Rattle.test_orders.specs.Numbers.{signedNumbersOf}
-use Rattle.test_orders.proofs.signed_numbers.Statement.{statement}
-use Rattle.test_orders.proofs.signed_numbers.Tie as tie
+use Rattle.test_orders.proofs.signed_numbers as this
 
-returns : tie.Need-returns
+returns : this.Tie.Need-returns
 unfolding signedNumbersOf
 returns c =
     let f0 : SFits w32 (c .before .before .before .before .before .before .args .order .parameters .«isha_interval») = search needs in
@@ -38,5 +34,5 @@ returns c =
       toZ-ofZ f12,
     )
 
-pub signed-numbers-spec : {M : Type 1} → statement M
-signed-numbers-spec = tie.close (tie.spec returns)
+pub signed-numbers-spec : {M : Type 1} → this.Statement.statement M
+signed-numbers-spec = this.Tie.close (this.Tie.spec returns)

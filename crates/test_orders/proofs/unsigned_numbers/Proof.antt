@@ -1,8 +1,7 @@
 use Rattle.test_orders.specs.Numbers.{unsignedNumbersOf}
-use Rattle.test_orders.proofs.unsigned_numbers.Statement.{statement}
-use Rattle.test_orders.proofs.unsigned_numbers.Tie as tie
+use Rattle.test_orders.proofs.unsigned_numbers as this
 
-returns : tie.Need-returns
+returns : this.Tie.Need-returns
 unfolding unsignedNumbersOf
 returns c =
     let c7 = c .before .before .before .before .before .before .before in
@@ -31,7 +30,7 @@ returns c =
       c14 .before .before .before .before .before .before .wide .ensures,
     )
 
-pub unsigned-numbers-spec : {M : Type 1} → statement M
-unsigned-numbers-spec =
-    tie.close
-    (tie.spec (λ c κs. tt) (λ c κs. tt) (λ c κs. tt) (λ c κs. tt) (λ c κs. tt) (λ c κs. tt) (λ c κs. tt) (λ c κs. tt) (λ c κs. tt) (λ c κs. tt) (λ c κs. tt) (λ c κs. tt) (λ c κs. tt) (λ c κs. tt) (λ c κs. tt) (λ c κs. tt) (λ c κs. tt) (λ c κs. tt) (λ c κs. tt) (λ c κs. tt) (λ c κs. tt) returns)
+pub unsigned-numbers-spec : {M : Type 1} → this.Statement.statement M
+unsigned-numbers-spec = this.Tie.close (this.Tie.spec (λ c κs. tt) (λ c κs. tt) (λ c κs. tt) (λ c κs. tt) (λ c κs. tt) (λ c κs. tt) (λ c κs. tt)
+    (λ c κs. tt) (λ c κs. tt) (λ c κs. tt) (λ c κs. tt) (λ c κs. tt) (λ c κs. tt) (λ c κs. tt) (λ c κs. tt) (λ c κs. tt) (λ c κs. tt) (λ c κs. tt)
+    (λ c κs. tt) (λ c κs. tt) (λ c κs. tt) returns)

@@ -1,10 +1,8 @@
 use Rattle.unit.specs.Unit.{normalizedToScaleOf}
-use Rattle.unit.proofs.normalized_to_scale.Statement.{statement}
-use Rattle.unit.proofs.normalized_to_scale.Tie as tie
+use Rattle.unit.proofs.normalized_to_scale as this
 
-returns : tie.Need-returns
+pub normalized-to-scale-spec : {M : Type 1} → this.Statement.statement M
 unfolding normalizedToScaleOf
-returns c = cc
-
-pub normalized-to-scale-spec : {M : Type 1} → statement M
-normalized-to-scale-spec = tie.close (tie.spec (λ c κs. tt) returns)
+normalized-to-scale-spec =
+    let returns : this.Tie.Need-returns = λ c. cc in
+    this.Tie.close (this.Tie.spec (λ c κs. tt) returns)

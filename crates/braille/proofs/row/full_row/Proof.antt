@@ -1,33 +1,25 @@
-use borrow.Author.Needs.{needs}
-use native.Mathlib.Omega.{arith}
-use Prim.Native.Nat.{_-_, _≤_}
-use mathlib.Core.Path.{_≡_, refl, ap, _∙_}
-use lib.IntN.{pos}
-use lib.ListN.{length, getD, take, replicate}
-use mir.Syntax.{w32, w64}
-use mir.Val.{toZ}
+use Rattle.prelude.proofs.Logic.{_≡_, refl, ap, _∙_, _-_, _≤_, arith, pos, length, getD, take, replicate, needs, w32, w64, toZ}
 use Rattle.integers.proofs.Ranges.{readBack, read}
 use Rattle.text.specs.Text.{putOf}
 use Rattle.braille.specs.Cells.{timeCells, timesCells, rowCells}
 use Rattle.schedule.specs.declared.prayer_times.Worked.the-variants.{Times}
 use Rattle.braille.proofs.Parts.{times-none, time-put, day-put, row-done}
-use Rattle.braille.proofs.row.full_row.Statement.{statement}
-use Rattle.braille.proofs.row.full_row.Tie as tie
+use Rattle.braille.proofs.row.full_row as this
 
-abbrev Inv-loop : tie.InvT-loop
+abbrev Inv-loop : this.Tie.InvT-loop
 Inv-loop clock cells₀ six i₀ cells i =
     (i ≤ 6) × (length cells ≡ 39) × (length cells₀ ≡ 39) × (cells ≡ putOf cells₀ 3 (timesCells (toZ w32 clock) (take i six)))
 
-abbrev μ-loop : tie.MeasureT-loop
+abbrev μ-loop : this.Tie.MeasureT-loop
 μ-loop clock cells₀ six i₀ cells i = 6 - i
 
-loop-holds : tie.Need-loop-holds Inv-loop μ-loop
+loop-holds : this.Tie.Need-loop-holds Inv-loop μ-loop
 loop-holds c =
     let t = c .before .before .before .before .before .before in
     let p = c .before .before .put in
     (search needs, p .kept .0, p .kept .0, times-none (readBack w32 (t .args .clock)) (c .six .result) (p .last .0) (p .kept .0))
 
-loop-again : tie.Need-loop-again Inv-loop μ-loop
+loop-again : this.Tie.Need-loop-again Inv-loop μ-loop
 loop-again c =
     let t = c .before .before .before .before .before .before .before .before .before .before .before .before .before .before in
     let clock = readBack w32 (t .args .clock) in
@@ -45,7 +37,7 @@ loop-again c =
       time-put clock six (l .i) (pos 0) day (l .cells) (put .last .0) (time .result) h n (l .inv .2) (l .inv .3) (time .ensures ∙ ap (timeCells clock) k) (put .ensures),
     )
 
-returns : tie.Need-returns Inv-loop μ-loop
+returns : this.Tie.Need-returns Inv-loop μ-loop
 returns c =
     let t = c .before .before .before .before .before .before .before .before in
     let a = t .args in
@@ -58,7 +50,9 @@ returns c =
     row-done (a .date) (a .times) (readBack w32 (a .clock)) (six .result) (l .i) (put .last .0) (l .cells) (six .ensures) end front (l .inv .3)
     ∙ ap (rowCells (a .date) (Times (a .times))) (read w32 (a .clock) (t .fits .clock))
 
-pub full-row-spec : {M : Type 1} → statement M
+pub full-row-spec : {M : Type 1} → this.Statement.statement M
 full-row-spec =
-    tie.close
-    (tie.spec Inv-loop μ-loop (λ c. search needs) (λ c κs. search needs) (λ c. search needs) (λ c κs. search needs) (λ c κs. search needs) loop-holds (λ c. search needs) (λ c. search needs) (λ c. search needs) (λ c. search needs) (λ c. search needs) (λ c κs. search needs) (λ c. search needs) (λ c κs. search needs) (λ c. search needs) (λ c. search needs) loop-again returns)
+    this.Tie.close
+    (this.Tie.spec Inv-loop μ-loop (λ c. search needs) (λ c κs. search needs) (λ c. search needs) (λ c κs. search needs) (λ c κs. search needs)
+    loop-holds (λ c. search needs) (λ c. search needs) (λ c. search needs) (λ c. search needs) (λ c. search needs) (λ c κs. search needs)
+    (λ c. search needs) (λ c κs. search needs) (λ c. search needs) (λ c. search needs) loop-again returns)

@@ -1,17 +1,12 @@
-use native.Mathlib.Omega.{arith}
-use mathlib.Core.Path.{sym, ap, subst, _∙_}
-use lib.ListN.{length}
-use mir.Syntax.{w32}
+use Rattle.prelude.proofs.Logic.{sym, ap, subst, _∙_, arith, length, needs, w32}
 use Rattle.integers.proofs.Ranges.{read, readBack}
 use Rattle.braille.specs.Braille.{dotsOf, SixDots}
 use Rattle.braille.specs.Cells.{rowCells}
 use Rattle.braille.proofs.Bits.{row-six}
 use Rattle.braille.proofs.Parts.{row-length}
-use borrow.Author.Needs.{needs}
-use Rattle.braille.proofs.row.put_cells.Statement.{statement}
-use Rattle.braille.proofs.row.put_cells.Tie as tie
+use Rattle.braille.proofs.row.put_cells as this
 
-dots-requires : tie.Need-dots-requires
+dots-requires : this.Tie.Need-dots-requires
 dots-requires c κs =
     let a = c .before .before .before .before .before .before .before .before .args in
     let row = c .before .before .before .before .before .before .row-cells in
@@ -20,14 +15,14 @@ dots-requires c κs =
       subst SixDots (sym (row .ensures)) (row-six (a .date) (a .worked) clock),
     )
 
-returns : tie.Need-returns
+returns : this.Tie.Need-returns
 returns c =
     let t = c .before .before .before .before .before .before .before .before .before in
     let a = t .args in
     let row = c .before .before .before .before .before .before .before .row-cells .ensures ∙ ap (rowCells (a .date) (a .worked)) (read w32 (a .clock) (t .fits .clock)) in
     (c .dots .ensures ∙ ap dotsOf row, rw row at (c .before .before .before .before .put .ensures))
 
-pub put-cells-spec : {M : Type 1} → statement M
+pub put-cells-spec : {M : Type 1} → this.Statement.statement M
 put-cells-spec =
-    tie.close
-    (tie.spec (λ c κs. search needs) (λ c. search needs) (λ c κs. search needs) (λ c. search needs) dots-requires (λ c. search needs) returns)
+    this.Tie.close
+    (this.Tie.spec (λ c κs. search needs) (λ c. search needs) (λ c κs. search needs) (λ c. search needs) dots-requires (λ c. search needs) returns)

@@ -1,20 +1,17 @@
-use mir.Syntax.{w32}
+use Rattle.prelude.proofs.Logic.{needs, w32}
 use Rattle.integers.proofs.Ranges.{read}
 use Rattle.braille.specs.Cells.{rowCells}
-use borrow.Author.Needs.{needs}
-use Rattle.braille.proofs.row.row_cells.Statement.{statement}
-use Rattle.braille.proofs.row.row_cells.Tie as tie
+use Rattle.braille.proofs.row.row_cells as this
 
-returns : tie.Need-returns
+returns : this.Tie.Need-returns
 returns c =
     let t = c .before .before .before .before in
     simp (c .before .before .worked .given .1) (rw (read w32 (t .args .clock) (t .fits .clock)) at (c .full-row .ensures))
 
-returns-2 : tie.Need-returns-2
+returns-2 : this.Tie.Need-returns-2
 unfolding rowCells
 returns-2 c = simp (c .before .enum-told .given .1) (c .day-alone .ensures)
 
-pub row-cells-spec : {M : Type 1} → statement M
+pub row-cells-spec : {M : Type 1} → this.Statement.statement M
 row-cells-spec =
-    tie.close
-    (tie.spec (λ c. search needs) (λ c κs. search needs) (λ c. search needs) (λ c κs. search needs) returns returns-2)
+    this.Tie.close (this.Tie.spec (λ c. search needs) (λ c κs. search needs) (λ c. search needs) (λ c κs. search needs) returns returns-2)

@@ -1,14 +1,8 @@
-use mathlib.Core.Path.{refl}
+use Rattle.prelude.proofs.Logic.{refl, needs}
 use Rattle.calendar.specs.Days.{daysBeforeYearOf}
-use borrow.Author.Needs.{needs}
-use Rattle.calendar.proofs.counts.days_before_year.Statement.{statement}
-use Rattle.calendar.proofs.counts.days_before_year.Tie as tie
+use Rattle.calendar.proofs.counts.days_before_year as this
 
-returns : tie.Need-returns
+pub days-before-year-spec : {M : Type 1} → this.Statement.statement M
 unfolding daysBeforeYearOf
-returns c = refl
-
-pub days-before-year-spec : {M : Type 1} → statement M
-days-before-year-spec =
-    tie.close
-    (tie.spec (λ c. search needs) (λ c. search needs) (λ c. search needs) (λ c. search needs) (λ c. search needs) (λ c. search needs) (λ c. search needs) returns)
+days-before-year-spec = this.Tie.close (this.Tie.spec (λ c. search needs) (λ c. search needs) (λ c. search needs) (λ c. search needs)
+    (λ c. search needs) (λ c. search needs) (λ c. search needs) (λ c. refl))

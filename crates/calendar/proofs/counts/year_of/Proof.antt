@@ -1,18 +1,11 @@
-use mathlib.Core.Path.{refl}
+use Rattle.prelude.proofs.Logic.{refl, needs}
 use Rattle.calendar.proofs.YearSteps.{year-above, guess-right, guess-over}
-use borrow.Author.Needs.{needs}
-use Rattle.calendar.proofs.counts.year_of.Statement.{statement}
-use Rattle.calendar.proofs.counts.year_of.Tie as tie
+use Rattle.calendar.proofs.counts.year_of as this
 
-sub-result : tie.Need-sub-result
-sub-result c = year-above _ (c .before .before .args .n) (rw (c .before .days-before-year .ensures) at (c .if1 .left))
-
-returns : tie.Need-returns
-returns c = guess-right (c .before .before .args .n) _ refl (rw (c .before .days-before-year .ensures) at (c .if1 .taken))
-
-returns-2 : tie.Need-returns-2
-returns-2 c = guess-over (c .before .before .args .n) _ refl (rw (c .before .days-before-year .ensures) at (c .if1 .left))
-
-pub year-of-spec : {M : Type 1} → statement M
+pub year-of-spec : {M : Type 1} → this.Statement.statement M
 year-of-spec =
-    tie.close (tie.spec (λ c. search needs) (λ c. search needs) (λ c κs. search needs) sub-result returns returns-2)
+    let returns : this.Tie.Need-returns = λ c. guess-right (c .before .before .args .n) _ refl (rw (c .before .days-before-year .ensures) at (c .if1 .taken)) in
+    let returns-2 : this.Tie.Need-returns-2 = λ c.
+    guess-over (c .before .before .args .n) _ refl (rw (c .before .days-before-year .ensures) at (c .if1 .left)) in
+    this.Tie.close (this.Tie.spec (λ c. search needs) (λ c. search needs) (λ c κs. search needs)
+    (λ c. year-above _ (c .before .before .args .n) (rw (c .before .days-before-year .ensures) at (c .if1 .left))) returns returns-2)

@@ -1,22 +1,12 @@
-use mathlib.Core.Path.{sym, ap, subst, _∙_}
-use Prim.Native.Nat.{ℕ, _≤_}
+use Rattle.prelude.proofs.Logic.{sym, ap, subst, _∙_, ℕ, _≤_, needs}
 use Rattle.calendar.proofs.MonthTables.{month-after}
 use Rattle.calendar.specs.Days.{daysBeforeOf, ofOrdinalOf}
-use borrow.Author.Needs.{needs}
-use Rattle.calendar.proofs.dates.of_ordinal.Statement.{statement}
-use Rattle.calendar.proofs.dates.of_ordinal.Tie as tie
+use Rattle.calendar.proofs.dates.of_ordinal as this
 
-sub-t6 : tie.Need-sub-t6
-sub-t6 c =
-    let s = c .before .before .before in
-    subst (λ (k : ℕ). k ≤ s .args .ordinal) (sym (c .days-before .ensures ∙ ap (daysBeforeOf _) (c .before .month-of .ensures)))
-    (month-after (c .before .before .is-leap-year .result) (s .args .ordinal) (s .pre .1))
-
-returns : tie.Need-returns
+pub of-ordinal-spec : {M : Type 1} → this.Statement.statement M
 unfolding ofOrdinalOf
-returns c = cc
-
-pub of-ordinal-spec : {M : Type 1} → statement M
-of-ordinal-spec =
-    tie.close
-    (tie.spec (λ c κs. tt) (λ c κs. search needs) (λ c κs. tt) sub-t6 returns)
+of-ordinal-spec = this.Tie.close (this.Tie.spec (λ c κs. tt) (λ c κs. search needs) (λ c κs. tt)
+    (λ c. let s = c .before .before .before in
+    subst (λ (k : ℕ). k ≤ s .args .ordinal) (sym (c .days-before .ensures ∙ ap (daysBeforeOf _) (c .before .month-of .ensures)))
+    (month-after (c .before .before .is-leap-year .result) (s .args .ordinal) (s .pre .1)))
+    (λ c. cc))

@@ -1,9 +1,8 @@
-use lib.Dec.{lit<}
+use Rattle.prelude.proofs.Logic.{lit<}
 use Rattle.calendar.proofs.Machine.{week-quotient, week-sum, week-quotient-2, week-cast, week-day}
-use Rattle.calendar.proofs.dates.weekday.Statement.{statement}
-use Rattle.calendar.proofs.dates.weekday.Tie as tie
+use Rattle.calendar.proofs.dates.weekday as this
 
-needs-met : tie.Need-rem-result × tie.Need-add-result × tie.Need-rem-result-2 × tie.Need-cast-result
+needs-met : this.Tie.Need-rem-result × this.Tie.Need-add-result × this.Tie.Need-rem-result-2 × this.Tie.Need-cast-result
 needs-met = (
   λ c. (lit< tt, week-quotient (c .args .day) (c .fits .day)),
   λ c. week-sum (c .args .day) (c .fits .day),
@@ -11,8 +10,7 @@ needs-met = (
   λ c. week-cast (c .args .day) (c .fits .day),
 )
 
-returns : tie.Need-returns
-returns c = week-day (c .args .day) (c .fits .day)
-
-pub weekday-spec : {M : Type 1} → statement M
-weekday-spec = tie.close (tie.spec (needs-met .0) (needs-met .1) (needs-met .2) (needs-met .3) returns)
+pub weekday-spec : {M : Type 1} → this.Statement.statement M
+weekday-spec =
+    let returns : this.Tie.Need-returns = λ c. week-day (c .args .day) (c .fits .day) in
+    this.Tie.close (this.Tie.spec (needs-met .0) (needs-met .1) (needs-met .2) (needs-met .3) returns)

@@ -1,31 +1,25 @@
-use mir.Syntax.{w64}
-use Rattle.integers.proofs.Ranges.{read}
+use Rattle.prelude.proofs.Logic.{arith, needs, w64}
+use Rattle.integers.proofs.Integers.{read}
 use Rattle.calendar.proofs.Remainders as remainders
-use native.Mathlib.Omega.{arith}
-use borrow.Author.Needs.{needs}
-use Rattle.calendar.proofs.instants.second_of_day.Statement.{statement}
-use Rattle.calendar.proofs.instants.second_of_day.Tie as tie
+use Rattle.calendar.proofs.instants.second_of_day as this
 
-sub-result : tie.Need-sub-result
+sub-result : this.Tie.Need-sub-result
 sub-result c =
     let t = c .before .before in
     let r = read w64 (t .args .seconds) (t .fits .seconds) in
-    let z = remainders.before-zero (t .args .seconds) (rw r at (c .before .if1 .taken)) .0 in
-    let b = rw r at (c .below .ensures) in
-    omega (arith, z, b)
+    omega (arith, remainders.before-zero (t .args .seconds) (rw r at (c .before .if1 .taken)) .0, rw r at (c .below .ensures))
 
-returns : tie.Need-returns
+returns : this.Tie.Need-returns
 returns c =
     let t = c .before .before in
     let r = read w64 (t .args .seconds) (t .fits .seconds) in
     rw (rw r at (c .below .ensures)) (remainders.before-zero (t .args .seconds) (rw r at (c .before .if1 .taken)) .1)
 
-returns-2 : tie.Need-returns-2
+returns-2 : this.Tie.Need-returns-2
 returns-2 c =
     let t = c .before .before in
     let r = read w64 (t .args .seconds) (t .fits .seconds) in
     rw (rw r at (c .above .ensures)) (remainders.from-zero (t .args .seconds) (rw r at (c .before .if1 .left)))
 
-pub second-of-day-spec : {M : Type 1} → statement M
-second-of-day-spec =
-    tie.close (tie.spec (λ c κs. search needs) sub-result (λ c. search needs) returns (λ c κs. search needs) returns-2)
+pub second-of-day-spec : {M : Type 1} → this.Statement.statement M
+second-of-day-spec = this.Tie.close (this.Tie.spec (λ c κs. search needs) sub-result (λ c. search needs) returns (λ c κs. search needs) returns-2)

@@ -1,21 +1,12 @@
-use mathlib.Core.Path.{_≡_, sym}
-use native.Mathlib.Omega.{arith}
+use Rattle.prelude.proofs.Logic.{_≡_, sym, arith, needs}
 use Rattle.calendar.proofs.MonthTables.{before-next, length-past, length-december}
-use borrow.Author.Needs.{needs}
-use Rattle.calendar.proofs.months.month_days.Statement.{statement}
-use Rattle.calendar.proofs.months.month_days.Tie as tie
+use Rattle.calendar.proofs.months.month_days as this
 
-sub-result : tie.Need-sub-result
-sub-result c = omega (arith, before-next (c .before .before .before .args .leap) (c .before .before .before .args .month) (c .before .before .if1 .taken))
-
-returns : tie.Need-returns × tie.Need-returns-2 × tie.Need-returns-3
-returns = (
-  λ c. omega (arith, before-next (c .before .before .before .args .leap) (c .before .before .before .args .month) (c .before .before .if1 .taken)),
-  λ c. sym (length-past (c .before .before .args .leap) (c .before .before .args .month) (c .if2 .taken)),
-  λ c. let s = c .before .before in let m : s .args .month ≡ 12 = omega arith in rw m (sym (length-december (s .args .leap))),
-)
-
-pub month-days-spec : {M : Type 1} → statement M
+pub month-days-spec : {M : Type 1} → this.Statement.statement M
 month-days-spec =
-    tie.close
-    (tie.spec (λ c. search needs) (λ c κs. tt) (λ c κs. tt) sub-result (returns .0) (returns .1) (returns .2))
+    let returns-3 : this.Tie.Need-returns-3 = λ c.
+    let s = c .before .before in let m : s .args .month ≡ 12 = omega arith in rw m (sym (length-december (s .args .leap))) in
+    this.Tie.close (this.Tie.spec (λ c. search needs) (λ c κs. tt) (λ c κs. tt)
+    (λ c. omega (arith, before-next (c .before .before .before .args .leap) (c .before .before .before .args .month) (c .before .before .if1 .taken)))
+    (λ c. omega (arith, before-next (c .before .before .before .args .leap) (c .before .before .before .args .month) (c .before .before .if1 .taken)))
+    (λ c. sym (length-past (c .before .before .args .leap) (c .before .before .args .month) (c .if2 .taken))) returns-3)

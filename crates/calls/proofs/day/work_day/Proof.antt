@@ -1,23 +1,19 @@
-use mathlib.Core.Path.{sym, ap, _∙_}
+use Rattle.prelude.proofs.Logic.{sym, ap, _∙_, needs}
 use Rattle.order.specs.declared.reading.Reading.{Reading}
 use Rattle.calls.specs.Calls.{workReadingOf, workDayOf}
-use borrow.Author.Needs.{needs}
-use Rattle.calls.proofs.day.work_day.Statement.{statement}
-use Rattle.calls.proofs.day.work_day.Tie as tie
+use Rattle.calls.proofs.day.work_day as this
 
-returns : tie.Need-returns
+returns : this.Tie.Need-returns
 unfolding workDayOf workReadingOf
 returns c =
     let t = c .before .before .before .before .before .before in
     c .work-row .ensures ∙ ap (λ (x : Reading). workReadingOf x (t .args .row)) (sym (c .before .before .order .given .1) ∙ c .before .before .before .before .read .ensures)
 
-returns-2 : tie.Need-returns-2
+returns-2 : this.Tie.Need-returns-2
 unfolding workDayOf workReadingOf
 returns-2 c =
     let t = c .before .before .before .before .before in
     ap (λ (x : Reading). workReadingOf x (t .args .row)) (sym (c .before .refusal .given .1) ∙ c .before .before .before .read .ensures)
 
-pub work-day-spec : {M : Type 1} → statement M
-work-day-spec =
-    tie.close
-    (tie.spec (λ c κs. tt) (λ c. search needs) (λ c κs. tt) (λ c. search needs) returns returns-2)
+pub work-day-spec : {M : Type 1} → this.Statement.statement M
+work-day-spec = this.Tie.close (this.Tie.spec (λ c κs. tt) (λ c. search needs) (λ c κs. tt) (λ c. search needs) returns returns-2)

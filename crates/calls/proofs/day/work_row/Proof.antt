@@ -1,22 +1,20 @@
-use borrow.Author.Tests.{lt-ltb, le-ltb}
-use mathlib.Core.Path.{sym}
+use Rattle.prelude.proofs.Logic.{sym, lt-ltb, le-ltb}
 use Rattle.calls.specs.Calls.{workRowOf}
-use Rattle.calls.proofs.day.work_row.Statement.{statement}
-use Rattle.calls.proofs.day.work_row.Tie as tie
+use Rattle.calls.proofs.day.work_row as this
 
-returns : tie.Need-returns
+returns : this.Tie.Need-returns
 unfolding workRowOf
 returns c =
     let e0 = c .work-date .ensures in
     let e1 = c .before .row .ensures in
     simp (sym e0, sym e1, lt-ltb _ _ (c .before .before .before .if1 .taken))
 
-returns-2 : tie.Need-returns-2
+returns-2 : this.Tie.Need-returns-2
 unfolding workRowOf
 returns-2 c =
     let e0 = c .lacks-row .ensures in
     simp (sym e0, le-ltb _ _ (c .before .if1 .left))
 
-pub work-row-spec : {M : Type 1} → statement M
+pub work-row-spec : {M : Type 1} → this.Statement.statement M
 work-row-spec =
-    tie.close (tie.spec (λ c κs. tt) (λ c κs. tt) returns (λ c κs. tt) returns-2)
+    this.Tie.close (this.Tie.spec (λ c κs. tt) (λ c κs. tt) returns (λ c κs. tt) returns-2)

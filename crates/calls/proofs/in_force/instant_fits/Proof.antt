@@ -1,14 +1,10 @@
-use mathlib.Core.Path.{sym, ap, _∙_}
-use lib.IntN.{ℤ, pos, negsuc}
-use lib.Signed.{ltZ}
-use mir.Syntax.{w64}
+use Rattle.prelude.proofs.Logic.{sym, ap, _∙_, ℤ, pos, negsuc, ltZ, w64}
 use Rattle.integers.proofs.OrderLaws.{lt-yes, lt-no, to-le, to-not-le}
 use Rattle.integers.proofs.Ranges.{read}
 use Rattle.calls.specs.Calls.{instantFits}
-use Rattle.calls.proofs.in_force.instant_fits.Statement.{statement}
-use Rattle.calls.proofs.in_force.instant_fits.Tie as tie
+use Rattle.calls.proofs.in_force.instant_fits as this
 
-returns : tie.Need-returns
+returns : this.Tie.Need-returns
 unfolding instantFits
 returns c =
     let t = c .before in
@@ -17,7 +13,7 @@ returns c =
     let low = to-not-le (negsuc 999999999999) s (lt-yes s (negsuc 999999999999) (sym (ap (λ (z : ℤ). ltZ z (negsuc 999999999999)) r) ∙ c .if1 .taken)) in
     simp low
 
-returns-2 : tie.Need-returns-2
+returns-2 : this.Tie.Need-returns-2
 unfolding instantFits
 returns-2 c =
     let t = c .before .before in
@@ -27,7 +23,7 @@ returns-2 c =
     let high = to-not-le s (pos 1000000000000) (lt-yes (pos 1000000000000) s (sym (ap (ltZ (pos 1000000000000)) r) ∙ c .if2 .taken)) in
     simp (low, high)
 
-returns-3 : tie.Need-returns-3
+returns-3 : this.Tie.Need-returns-3
 unfolding instantFits
 returns-3 c =
     let t = c .before .before in
@@ -37,5 +33,5 @@ returns-3 c =
     let high = to-le s (pos 1000000000000) (lt-no (pos 1000000000000) s (sym (ap (ltZ (pos 1000000000000)) r) ∙ c .if2 .left)) in
     simp (low, high)
 
-pub instant-fits-spec : {M : Type 1} → statement M
-instant-fits-spec = tie.close (tie.spec returns returns-2 returns-3)
+pub instant-fits-spec : {M : Type 1} → this.Statement.statement M
+instant-fits-spec = this.Tie.close (this.Tie.spec returns returns-2 returns-3)

@@ -1,19 +1,17 @@
-use mathlib.Core.Path.{sym}
+use Rattle.prelude.proofs.Logic.{sym, needs}
 use Rattle.calls.specs.Calls.{nextPrayerIn}
-use borrow.Author.Needs.{needs}
-use Rattle.calls.proofs.in_force.next_in.Statement.{statement}
-use Rattle.calls.proofs.in_force.next_in.Tie as tie
+use Rattle.calls.proofs.in_force.next_in as this
 
-returns : tie.Need-returns
+returns : this.Tie.Need-returns
 unfolding nextPrayerIn
 returns c = simp (c .before .next .given .1)
 
-returns-2 : tie.Need-returns-2
+returns-2 : this.Tie.Need-returns-2
 unfolding nextPrayerIn
 returns-2 c =
     let e0 = c .none-in-force .ensures in
     simp (sym e0, c .before .enum-told .given .1)
 
-pub next-in-spec : {M : Type 1} → statement M
+pub next-in-spec : {M : Type 1} → this.Statement.statement M
 next-in-spec =
-    tie.close (tie.spec (λ c. search needs) (λ c. search needs) (λ c κs. tt) returns returns-2)
+    this.Tie.close (this.Tie.spec (λ c. search needs) (λ c. search needs) (λ c κs. tt) returns returns-2)

@@ -1,16 +1,10 @@
-use mathlib.Core.Path.{_≡_, sym, ap, _∙_}
-use mathlib.Core.Bool.{true, false}
-use lib.IntN.{ℤ}
-use mir.Syntax.{w64}
-use mir.Val.{SFits}
-use borrow.Author.Needs.{needs}
+use Rattle.prelude.proofs.Logic.{_≡_, sym, ap, _∙_, true, false, ℤ, needs, w64, SFits}
 use Rattle.integers.proofs.Ranges.{read}
 use Rattle.schedule.specs.declared.prayer_times.Worked.the-variants as worked
 use Rattle.calls.specs.Calls.{instantOf, instantFits, workAtOf}
-use Rattle.calls.proofs.in_force.work_at.Statement.{statement}
-use Rattle.calls.proofs.in_force.work_at.Tie as tie
+use Rattle.calls.proofs.in_force.work_at as this
 
-returns : tie.Need-returns
+returns : this.Tie.Need-returns
 unfolding workAtOf
 returns c =
     let i = c .before .before .before .before .before .args .instant in
@@ -19,7 +13,7 @@ returns c =
     let f : instantFits i ≡ true = sym asked ∙ c .before .if1 .taken in
     c .work-day .ensures ∙ simp f
 
-returns-2 : tie.Need-returns-2
+returns-2 : this.Tie.Need-returns-2
 unfolding workAtOf
 returns-2 c =
     let i = c .before .before .before .before .before .args .instant in
@@ -28,5 +22,5 @@ returns-2 c =
     let f : instantFits i ≡ false = sym asked ∙ c .before .if1 .left in
     ap worked.Refused (c .new .ensures) ∙ simp f
 
-pub work-at-spec : {M : Type 1} → statement M
-work-at-spec = tie.close (tie.spec (λ c κs. tt) (λ c κs. tt) returns (λ c κs. tt) returns-2)
+pub work-at-spec : {M : Type 1} → this.Statement.statement M
+work-at-spec = this.Tie.close (this.Tie.spec (λ c κs. tt) (λ c κs. tt) returns (λ c κs. tt) returns-2)

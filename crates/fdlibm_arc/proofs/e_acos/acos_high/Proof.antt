@@ -1,10 +1,6 @@
 use Rattle.fdlibm_arc.specs.Acos.{acosHighOf}
-use Rattle.fdlibm_arc.proofs.e_acos.acos_high.Statement.{statement}
-use Rattle.fdlibm_arc.proofs.e_acos.acos_high.Tie as tie
+use Rattle.fdlibm_arc.proofs.e_acos.acos_high as this
 
-returns : tie.Need-returns
+pub acos-high-spec : {M : Type 1} → this.Statement.statement M
 unfolding acosHighOf
-returns c = cc
-
-pub acos-high-spec : {M : Type 1} → statement M
-acos-high-spec = tie.close (tie.spec (λ c κs. tt) (λ c κs. tt) (λ c κs. tt) returns)
+acos-high-spec = this.Tie.close (this.Tie.spec (λ c κs. tt) (λ c κs. tt) (λ c κs. tt) (λ c. cc))

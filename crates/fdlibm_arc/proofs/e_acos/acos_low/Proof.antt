@@ -1,10 +1,8 @@
 use Rattle.fdlibm_arc.specs.Acos.{acosLowOf}
-use Rattle.fdlibm_arc.proofs.e_acos.acos_low.Statement.{statement}
-use Rattle.fdlibm_arc.proofs.e_acos.acos_low.Tie as tie
+use Rattle.fdlibm_arc.proofs.e_acos.acos_low as this
 
-returns : tie.Need-returns
+pub acos-low-spec : {M : Type 1} → this.Statement.statement M
 unfolding acosLowOf
-returns c = cc
-
-pub acos-low-spec : {M : Type 1} → statement M
-acos-low-spec = tie.close (tie.spec (λ c κs. tt) (λ c κs. tt) returns)
+acos-low-spec =
+    let returns : this.Tie.Need-returns = λ c. cc in
+    this.Tie.close (this.Tie.spec (λ c κs. tt) (λ c κs. tt) returns)

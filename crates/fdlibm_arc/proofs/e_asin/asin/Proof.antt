@@ -1,21 +1,15 @@
-use borrow.Author.Tests.{lt-ltb, le-ltb, le-leb, lt-leb}
-use mathlib.Core.Path.{sym}
+use Rattle.prelude.proofs.Logic.{sym, lt-ltb, le-ltb, le-leb, lt-leb}
 use Rattle.fdlibm_arc.specs.Asin.{asinOf}
-use Rattle.fdlibm_arc.proofs.e_asin.asin.Statement.{statement}
-use Rattle.fdlibm_arc.proofs.e_asin.asin.Tie as tie
+use Rattle.fdlibm_arc.proofs.e_asin.asin as this
 
-returns : tie.Need-returns × tie.Need-returns-2 × tie.Need-returns-3 × tie.Need-returns-4 × tie.Need-returns-5 × tie.Need-returns-6
+pub asin-spec : {M : Type 1} → this.Statement.statement M
 unfolding asinOf
-returns = (
-  λ c. simp (sym (c .before .abs .ensures), sym (c .before .before .before .high-word .ensures), c .if2 .taken, le-leb _ _ (c .before .before .if1 .taken)),
-  λ c. simp (sym (c .not-a-number .ensures), sym (c .before .before .abs .ensures), sym (c .before .before .before .before .high-word .ensures)) (simp (c .before .if2 .left, le-leb _ _ (c .before .before .before .if1 .taken))),
-  λ c. simp (sym (c .before .before .before .high-word .ensures), lt-ltb _ _ (c .if4 .taken), lt-ltb _ _ (c .before .if3 .taken), lt-leb _ _ (c .before .before .if1 .left)),
-  λ c. simp (sym (c .ratio .ensures), sym (c .before .before .before .before .high-word .ensures)) (simp (le-ltb _ _ (c .before .if4 .left), lt-ltb _ _ (c .before .before .if3 .taken), lt-leb _ _ (c .before .before .before .if1 .left))),
-  λ c. let d = c .before .before .before .before in simp (sym (c .asin-large .ensures), sym (c .before .abs2 .ensures), sym (d .before .high-word .ensures)) (simp (c .before .before .if5 .taken, le-ltb _ _ (c .before .before .before .if3 .left), lt-leb _ _ (d .if1 .left))),
-  λ c. let d = c .before .before .before .before in simp (sym (c .asin-large2 .ensures), sym (c .before .abs3 .ensures), sym (d .before .high-word .ensures)) (simp (c .before .before .if5 .left, le-ltb _ _ (c .before .before .before .if3 .left), lt-leb _ _ (d .if1 .left))),
-)
-
-pub asin-spec : {M : Type 1} → statement M
 asin-spec =
-    tie.close
-    (tie.spec (λ c κs. tt) (λ c κs. tt) (λ c κs. tt) (λ c κs. tt) (λ c κs. tt) (λ c κs. tt) (λ c κs. tt) (λ c κs. tt) (returns .0) (returns .1) (returns .2) (returns .3) (returns .4) (returns .5))
+    let returns-4 : this.Tie.Need-returns-4 = λ c. simp (sym (c .ratio .ensures), sym (c .before .before .before .before .high-word .ensures)) (simp (le-ltb _ _ (c .before .if4 .left), lt-ltb _ _ (c .before .before .if3 .taken), lt-leb _ _ (c .before .before .before .if1 .left))) in
+    this.Tie.close (this.Tie.spec (λ c κs. tt) (λ c κs. tt) (λ c κs. tt) (λ c κs. tt) (λ c κs. tt) (λ c κs. tt) (λ c κs. tt) (λ c κs. tt)
+    (λ c. simp (sym (c .before .abs .ensures), sym (c .before .before .before .high-word .ensures), c .if2 .taken, le-leb _ _ (c .before .before .if1 .taken)))
+    (λ c. simp (sym (c .not-a-number .ensures), sym (c .before .before .abs .ensures), sym (c .before .before .before .before .high-word .ensures)) (simp (c .before .if2 .left, le-leb _ _ (c .before .before .before .if1 .taken))))
+    (λ c. simp (sym (c .before .before .before .high-word .ensures), lt-ltb _ _ (c .if4 .taken), lt-ltb _ _ (c .before .if3 .taken), lt-leb _ _ (c .before .before .if1 .left)))
+    returns-4
+    (λ c. let d = c .before .before .before .before in simp (sym (c .asin-large .ensures), sym (c .before .abs2 .ensures), sym (d .before .high-word .ensures)) (simp (c .before .before .if5 .taken, le-ltb _ _ (c .before .before .before .if3 .left), lt-leb _ _ (d .if1 .left))))
+    (λ c. let d = c .before .before .before .before in simp (sym (c .asin-large2 .ensures), sym (c .before .abs3 .ensures), sym (d .before .high-word .ensures)) (simp (c .before .before .if5 .left, le-ltb _ _ (c .before .before .before .if3 .left), lt-leb _ _ (d .if1 .left)))))

@@ -1,11 +1,9 @@
-use mathlib.Core.Path.{refl}
+use Rattle.prelude.proofs.Logic.{refl}
 use Rattle.fdlibm_arc.specs.Asin.{ratioOf}
-use Rattle.fdlibm_arc.proofs.e_asin.ratio.Statement.{statement}
-use Rattle.fdlibm_arc.proofs.e_asin.ratio.Tie as tie
+use Rattle.fdlibm_arc.proofs.e_asin.ratio as this
 
-returns : tie.Need-returns
+pub ratio-spec : {M : Type 1} → this.Statement.statement M
 unfolding ratioOf
-returns c = refl
-
-pub ratio-spec : {M : Type 1} → statement M
-ratio-spec = tie.close (tie.spec returns)
+ratio-spec =
+    let returns : this.Tie.Need-returns = λ c. refl in
+    this.Tie.close (this.Tie.spec returns)

@@ -1,11 +1,4 @@
-use Rattle.fdlibm_arc.proofs.e_atan2.upright.Statement.{statement}
-use Rattle.fdlibm_arc.proofs.e_atan2.upright.Tie as tie
+use Rattle.fdlibm_arc.proofs.e_atan2.upright as this
 
-returns : tie.Need-returns
-returns c = simp (c .if1 .taken)
-
-returns-2 : tie.Need-returns-2
-returns-2 c = simp (c .if1 .left)
-
-pub upright-spec : {M : Type 1} → statement M
-upright-spec = tie.close (tie.spec returns returns-2)
+pub upright-spec : {M : Type 1} → this.Statement.statement M
+upright-spec = this.Tie.close (this.Tie.spec (λ c. simp (c .if1 .taken)) (λ c. simp (c .if1 .left)))

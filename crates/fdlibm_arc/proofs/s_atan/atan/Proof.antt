@@ -1,22 +1,16 @@
-use borrow.Author.Tests.{lt-ltb, le-ltb, le-leb, lt-leb}
-use mathlib.Core.Path.{sym}
+use Rattle.prelude.proofs.Logic.{sym, lt-ltb, le-ltb, le-leb, lt-leb}
 use Rattle.fdlibm_arc.specs.Atan.{atanOf}
-use Rattle.fdlibm_arc.proofs.s_atan.atan.Statement.{statement}
-use Rattle.fdlibm_arc.proofs.s_atan.atan.Tie as tie
+use Rattle.fdlibm_arc.proofs.s_atan.atan as this
 
-returns : tie.Need-returns × tie.Need-returns-2 × tie.Need-returns-3 × tie.Need-returns-4 × tie.Need-returns-5 × tie.Need-returns-6 × tie.Need-returns-7
+pub atan-spec : {M : Type 1} → this.Statement.statement M
 unfolding atanOf
-returns = (
-  λ c. simp (sym (c .before .before .high-word .ensures), c .if2 .taken, le-leb _ _ (c .before .if1 .taken)),
-  λ c. simp (sym (c .before .before .before .high-word .ensures), c .if3 .taken, c .before .if2 .left, le-leb _ _ (c .before .before .if1 .taken)),
-  λ c. simp (sym (c .before .before .before .high-word .ensures), c .if3 .left, c .before .if2 .left, le-leb _ _ (c .before .before .if1 .taken)),
-  λ c. simp (sym (c .before .before .before .high-word .ensures), lt-ltb _ _ (c .if5 .taken), lt-ltb _ _ (c .before .if4 .taken), lt-leb _ _ (c .before .before .if1 .left)),
-  λ c. simp (sym (c .atan-rest .ensures), sym (c .before .before .before .before .high-word .ensures)) (simp (le-ltb _ _ (c .before .if5 .left), lt-ltb _ _ (c .before .before .if4 .taken), lt-leb _ _ (c .before .before .before .if1 .left))),
-  λ c. let d = c .before .before .before .before in simp (sym (c .atan-large .ensures), sym (c .before .abs .ensures), sym (d .before .high-word .ensures)) (simp (c .before .before .if6 .taken, le-ltb _ _ (c .before .before .before .if4 .left), lt-leb _ _ (d .if1 .left))),
-  λ c. let d = c .before .before .before .before in simp (sym (c .atan-large2 .ensures), sym (c .before .abs2 .ensures), sym (d .before .high-word .ensures)) (simp (c .before .before .if6 .left, le-ltb _ _ (c .before .before .before .if4 .left), lt-leb _ _ (d .if1 .left))),
-)
-
-pub atan-spec : {M : Type 1} → statement M
 atan-spec =
-    tie.close
-    (tie.spec (λ c κs. tt) (λ c κs. tt) (λ c κs. tt) (λ c κs. tt) (λ c κs. tt) (λ c κs. tt) (returns .0) (returns .1) (returns .2) (returns .3) (returns .4) (returns .5) (returns .6))
+    let returns-5 : this.Tie.Need-returns-5 = λ c. simp (sym (c .atan-rest .ensures), sym (c .before .before .before .before .high-word .ensures)) (simp (le-ltb _ _ (c .before .if5 .left), lt-ltb _ _ (c .before .before .if4 .taken), lt-leb _ _ (c .before .before .before .if1 .left))) in
+    this.Tie.close (this.Tie.spec (λ c κs. tt) (λ c κs. tt) (λ c κs. tt) (λ c κs. tt) (λ c κs. tt) (λ c κs. tt)
+    (λ c. simp (sym (c .before .before .high-word .ensures), c .if2 .taken, le-leb _ _ (c .before .if1 .taken)))
+    (λ c. simp (sym (c .before .before .before .high-word .ensures), c .if3 .taken, c .before .if2 .left, le-leb _ _ (c .before .before .if1 .taken)))
+    (λ c. simp (sym (c .before .before .before .high-word .ensures), c .if3 .left, c .before .if2 .left, le-leb _ _ (c .before .before .if1 .taken)))
+    (λ c. simp (sym (c .before .before .before .high-word .ensures), lt-ltb _ _ (c .if5 .taken), lt-ltb _ _ (c .before .if4 .taken), lt-leb _ _ (c .before .before .if1 .left)))
+    returns-5
+    (λ c. let d = c .before .before .before .before in simp (sym (c .atan-large .ensures), sym (c .before .abs .ensures), sym (d .before .high-word .ensures)) (simp (c .before .before .if6 .taken, le-ltb _ _ (c .before .before .before .if4 .left), lt-leb _ _ (d .if1 .left))))
+    (λ c. let d = c .before .before .before .before in simp (sym (c .atan-large2 .ensures), sym (c .before .abs2 .ensures), sym (d .before .high-word .ensures)) (simp (c .before .before .if6 .left, le-ltb _ _ (c .before .before .before .if4 .left), lt-leb _ _ (d .if1 .left)))))

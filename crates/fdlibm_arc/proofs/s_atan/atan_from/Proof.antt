@@ -1,5 +1,4 @@
-use Rattle.fdlibm_arc.proofs.s_atan.atan_from.Statement.{statement}
-use Rattle.fdlibm_arc.proofs.s_atan.atan_from.Tie as tie
+use Rattle.fdlibm_arc.proofs.s_atan.atan_from as this
 
-pub atan-from-spec : {M : Type 1} → statement M
-atan-from-spec = tie.close (tie.spec (λ c κs. tt) (λ c. cc))
+pub atan-from-spec : {M : Type 1} → this.Statement.statement M
+atan-from-spec = this.Tie.close (this.Tie.spec (λ c κs. tt) (λ c. cc))

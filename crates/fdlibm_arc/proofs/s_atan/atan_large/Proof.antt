@@ -1,19 +1,13 @@
-use borrow.Author.Tests.{lt-ltb, le-ltb}
-use mathlib.Core.Path.{sym}
+use Rattle.prelude.proofs.Logic.{sym, lt-ltb, le-ltb}
 use Rattle.fdlibm_arc.specs.Atan.{atanLargeOf}
-use Rattle.fdlibm_arc.proofs.s_atan.atan_large.Statement.{statement}
-use Rattle.fdlibm_arc.proofs.s_atan.atan_large.Tie as tie
+use Rattle.fdlibm_arc.proofs.s_atan.atan_large as this
 
-returns : tie.Need-returns × tie.Need-returns-2 × tie.Need-returns-3 × tie.Need-returns-4
+pub atan-large-spec : {M : Type 1} → this.Statement.statement M
 unfolding atanLargeOf
-returns = (
-  λ c. simp (sym (c .atan-from .ensures), lt-ltb _ _ (c .before .if2 .taken), lt-ltb _ _ (c .before .before .if1 .taken)),
-  λ c. simp (sym (c .atan-from2 .ensures), le-ltb _ _ (c .before .if2 .left), lt-ltb _ _ (c .before .before .if1 .taken)),
-  λ c. simp (sym (c .atan-from3 .ensures), lt-ltb _ _ (c .before .if3 .taken), le-ltb _ _ (c .before .before .if1 .left)),
-  λ c. simp (sym (c .atan-from4 .ensures), le-ltb _ _ (c .before .if3 .left), le-ltb _ _ (c .before .before .if1 .left)),
-)
-
-pub atan-large-spec : {M : Type 1} → statement M
 atan-large-spec =
-    tie.close
-    (tie.spec (λ c κs. tt) (λ c κs. tt) (λ c κs. tt) (λ c κs. tt) (returns .0) (returns .1) (returns .2) (returns .3))
+    let returns-3 : this.Tie.Need-returns-3 = λ c.
+    simp (sym (c .atan-from3 .ensures), lt-ltb _ _ (c .before .if3 .taken), le-ltb _ _ (c .before .before .if1 .left)) in
+    this.Tie.close (this.Tie.spec (λ c κs. tt) (λ c κs. tt) (λ c κs. tt) (λ c κs. tt)
+    (λ c. simp (sym (c .atan-from .ensures), lt-ltb _ _ (c .before .if2 .taken), lt-ltb _ _ (c .before .before .if1 .taken)))
+    (λ c. simp (sym (c .atan-from2 .ensures), le-ltb _ _ (c .before .if2 .left), lt-ltb _ _ (c .before .before .if1 .taken))) returns-3
+    (λ c. simp (sym (c .atan-from4 .ensures), le-ltb _ _ (c .before .if3 .left), le-ltb _ _ (c .before .before .if1 .left))))

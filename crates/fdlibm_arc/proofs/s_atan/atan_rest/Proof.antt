@@ -1,11 +1,7 @@
-use mathlib.Core.Path.{refl}
+use Rattle.prelude.proofs.Logic.{refl}
 use Rattle.fdlibm_arc.specs.Atan.{atanRestOf}
-use Rattle.fdlibm_arc.proofs.s_atan.atan_rest.Statement.{statement}
-use Rattle.fdlibm_arc.proofs.s_atan.atan_rest.Tie as tie
+use Rattle.fdlibm_arc.proofs.s_atan.atan_rest as this
 
-returns : tie.Need-returns
+pub atan-rest-spec : {M : Type 1} → this.Statement.statement M
 unfolding atanRestOf
-returns c = refl
-
-pub atan-rest-spec : {M : Type 1} → statement M
-atan-rest-spec = tie.close (tie.spec returns)
+atan-rest-spec = this.Tie.close (this.Tie.spec (λ c. refl))

@@ -1,18 +1,9 @@
 -- Half the exponent and the nearest root make the pattern of the rounded root.
-use mathlib.Core.Path.{sym}
-use native.Mathlib.Omega.{arith}
-use borrow.Author.Needs.{needs}
+use Rattle.prelude.proofs.Logic.{sym, arith, needs}
 use Rattle.fdlibm_root.proofs.Scaled.{scaled-root, scaled-fits}
-use Rattle.fdlibm_root.proofs.e_sqrt.root_pattern.Statement.{statement}
-use Rattle.fdlibm_root.proofs.e_sqrt.root_pattern.Tie as tie
+use Rattle.fdlibm_root.proofs.e_sqrt.root_pattern as this
 
-add-result : tie.Need-add-result
-add-result c =
-    let a = c .before .args in
-    let small = scaled-fits (a .significand) (a .exponent) (c .nearest .result) (c .before .pre .1) (c .before .pre .3) (c .nearest .ensures) in
-    record { fits = omega arith }
-
-returns : tie.Need-returns
+returns : this.Tie.Need-returns
 returns c =
     let a = c .before .args in
     let pre = c .before .pre in (
@@ -20,5 +11,9 @@ returns c =
       scaled-fits (a .significand) (a .exponent) (c .nearest .result) (pre .1) (pre .3) (c .nearest .ensures),
     )
 
-pub root-pattern-spec : {M : Type 1} → statement M
-root-pattern-spec = tie.close (tie.spec (λ c. search needs) (λ c. search needs) (λ c κs. search needs) add-result returns)
+pub root-pattern-spec : {M : Type 1} → this.Statement.statement M
+root-pattern-spec = this.Tie.close (this.Tie.spec (λ c. search needs) (λ c. search needs) (λ c κs. search needs)
+    (λ c. let a = c .before .args in
+    let small = scaled-fits (a .significand) (a .exponent) (c .nearest .result) (c .before .pre .1) (c .before .pre .3) (c .nearest .ensures) in
+    record { fits = omega arith })
+    returns)

@@ -1,10 +1,8 @@
-use borrow.Author.Tests.{lt-ltb, le-ltb}
+use Rattle.prelude.proofs.Logic.{needs, lt-ltb, le-ltb}
 use Rattle.fdlibm_trig.specs.RemPio2.{refineOf}
-use borrow.Author.Needs.{needs}
-use Rattle.fdlibm_trig.proofs.e_rem_pio2.refine.Statement.{statement}
-use Rattle.fdlibm_trig.proofs.e_rem_pio2.refine.Tie as tie
+use Rattle.fdlibm_trig.proofs.e_rem_pio2.refine as this
 
-returns : tie.Need-returns
+returns : this.Tie.Need-returns
 unfolding refineOf
 returns c =
     let s1 = c .before .before .before .before .turn .ensures in
@@ -12,18 +10,14 @@ returns c =
     let f2 = c .before .before .exponent2 .ensures .0 in
     simp (c .turn2 .ensures, s1, lt-ltb _ _ (rw f1 at (c .before .before .before .before .before .if1 .taken)), lt-ltb _ _ (simp (f2, s1) at (c .before .if2 .taken)))
 
-returns-2 : tie.Need-returns-2
+returns-2 : this.Tie.Need-returns-2
 unfolding refineOf
 returns-2 c =
     let s1 = c .before .before .before .turn .ensures in let f1 = c .before .before .before .before .before .exponent .ensures .0 in
     let f2 = c .before .exponent2 .ensures .0 in
     simp (s1, lt-ltb _ _ (rw f1 at (c .before .before .before .before .if1 .taken)), le-ltb _ _ (simp (f2, s1) at (c .if2 .left)))
 
-returns-3 : tie.Need-returns-3
+pub refine-spec : {M : Type 1} → this.Statement.statement M
 unfolding refineOf
-returns-3 c = simp (le-ltb _ _ (rw (c .before .exponent .ensures .0) at (c .if1 .left)))
-
-pub refine-spec : {M : Type 1} → statement M
-refine-spec =
-    tie.close
-    (tie.spec (λ c κs. tt) (λ c. search needs) (λ c κs. tt) (λ c κs. tt) (λ c. search needs) (λ c κs. tt) returns returns-2 returns-3)
+refine-spec = this.Tie.close (this.Tie.spec (λ c κs. tt) (λ c. search needs) (λ c κs. tt) (λ c κs. tt) (λ c. search needs) (λ c κs. tt) returns
+    returns-2 (λ c. simp (le-ltb _ _ (rw (c .before .exponent .ensures .0) at (c .if1 .left)))))

@@ -1,41 +1,32 @@
-use borrow.Author.Tests.{lt-ltb, le-ltb, le-leb, lt-leb}
-use mathlib.Core.Path.{sym}
+use Rattle.prelude.proofs.Logic.{sym, lt-ltb, le-ltb, le-leb, lt-leb}
 use Rattle.fdlibm_trig.specs.RemPio2.{remPio2Of}
-use Rattle.fdlibm_trig.proofs.e_rem_pio2.rem_pio2.Statement.{statement}
-use Rattle.fdlibm_trig.proofs.e_rem_pio2.rem_pio2.Tie as tie
+use Rattle.fdlibm_trig.proofs.e_rem_pio2.rem_pio2 as this
 
-returns : tie.Need-returns
-unfolding remPio2Of
-returns c = simp (sym (c .before .high-word .ensures), le-leb _ _ (c .if1 .taken))
-
-returns-2 : tie.Need-returns-2
+returns-2 : this.Tie.Need-returns-2
 unfolding remPio2Of
 returns-2 c =
     let d = c .before .before .before .before in
     simp (sym (c .more .ensures), sym (c .before .near-negative .ensures), sym (d .before .high-word .ensures))
     (simp (c .before .before .if3 .taken, lt-ltb _ _ (c .before .before .before .if2 .taken), lt-leb _ _ (d .if1 .left)))
 
-returns-3 : tie.Need-returns-3
+returns-3 : this.Tie.Need-returns-3
 unfolding remPio2Of
 returns-3 c =
     let d = c .before .before .before .before in
     simp (sym (c .less .ensures), sym (c .before .near .ensures), sym (d .before .high-word .ensures))
     (simp (c .before .before .if3 .left, lt-ltb _ _ (c .before .before .before .if2 .taken), lt-leb _ _ (d .if1 .left)))
 
-returns-4 : tie.Need-returns-4
-unfolding remPio2Of
-returns-4 c =
-    let d = c .before .before .before .before in let e3 = d .before .before .high-word .ensures in
-    simp (c .turned .ensures, c .before .medium .ensures, c .before .before .abs .ensures, e3, (c .before .before .before .if4 .taken), le-ltb _ _ (simp (e3) at (d .if2 .left)), lt-leb _ _ (simp (e3) at (d .before .if1 .left)))
-
-returns-5 : tie.Need-returns-5
+returns-5 : this.Tie.Need-returns-5
 unfolding remPio2Of
 returns-5 c =
     let d = c .before .before .before .before in
     simp (sym (c .medium2 .ensures), sym (c .before .abs2 .ensures), sym (d .before .high-word .ensures))
     (simp (c .before .before .if4 .left, le-ltb _ _ (c .before .before .before .if2 .left), lt-leb _ _ (d .if1 .left)))
 
-pub rem-pio2-spec : {M : Type 1} → statement M
-rem-pio2-spec =
-    tie.close
-    (tie.spec (λ c κs. tt) returns (λ c κs. tt) (λ c κs. tt) (λ c κs. tt) (λ c κs. tt) (λ c κs. tt) (λ c κs. tt) (λ c κs. tt) (λ c κs. tt) (λ c κs. tt) returns-2 returns-3 returns-4 returns-5)
+pub rem-pio2-spec : {M : Type 1} → this.Statement.statement M
+unfolding remPio2Of
+rem-pio2-spec = this.Tie.close (this.Tie.spec (λ c κs. tt) (λ c. simp (sym (c .before .high-word .ensures), le-leb _ _ (c .if1 .taken))) (λ c κs. tt)
+    (λ c κs. tt) (λ c κs. tt) (λ c κs. tt) (λ c κs. tt) (λ c κs. tt) (λ c κs. tt) (λ c κs. tt) (λ c κs. tt) returns-2 returns-3
+    (λ c. let d = c .before .before .before .before in let e3 = d .before .before .high-word .ensures in
+    simp (c .turned .ensures, c .before .medium .ensures, c .before .before .abs .ensures, e3, (c .before .before .before .if4 .taken), le-ltb _ _ (simp (e3) at (d .if2 .left)), lt-leb _ _ (simp (e3) at (d .before .if1 .left))))
+    returns-5)

@@ -1,15 +1,10 @@
-use borrow.Author.Tests.{lt-ltb}
-use mathlib.Core.Path.{refl, sym}
+use Rattle.prelude.proofs.Logic.{refl, sym, lt-ltb}
 use Rattle.fdlibm_trig.specs.KCos.{kernelCosOf}
-use Rattle.fdlibm_trig.proofs.k_cos.kernel_cos.Statement.{statement}
-use Rattle.fdlibm_trig.proofs.k_cos.kernel_cos.Tie as tie
+use Rattle.fdlibm_trig.proofs.k_cos.kernel_cos as this
 
-cos-polynomial-requires : tie.Need-cos-polynomial-requires
-cos-polynomial-requires c κs = (rw (c .before .high-word .ensures) at (c .if1 .left), refl, c .before .high-word .ensures)
-
-returns : tie.Need-returns
+pub kernel-cos-spec : {M : Type 1} → this.Statement.statement M
 unfolding kernelCosOf
-returns c = simp (sym (c .before .high-word .ensures), lt-ltb _ _ (c .if1 .taken))
-
-pub kernel-cos-spec : {M : Type 1} → statement M
-kernel-cos-spec = tie.close (tie.spec (λ c κs. tt) returns cos-polynomial-requires (λ c. c .cos-polynomial .ensures))
+kernel-cos-spec =
+    let returns : this.Tie.Need-returns = λ c. simp (sym (c .before .high-word .ensures), lt-ltb _ _ (c .if1 .taken)) in
+    this.Tie.close (this.Tie.spec (λ c κs. tt) returns
+    (λ c κs. (rw (c .before .high-word .ensures) at (c .if1 .left), refl, c .before .high-word .ensures)) (λ c. c .cos-polynomial .ensures))

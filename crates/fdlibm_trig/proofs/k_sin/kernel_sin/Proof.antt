@@ -1,15 +1,10 @@
-use borrow.Author.Tests.{lt-ltb}
-use mathlib.Core.Path.{refl, sym}
+use Rattle.prelude.proofs.Logic.{refl, sym, lt-ltb}
 use Rattle.fdlibm_trig.specs.KSin.{kernelSinOf}
-use Rattle.fdlibm_trig.proofs.k_sin.kernel_sin.Statement.{statement}
-use Rattle.fdlibm_trig.proofs.k_sin.kernel_sin.Tie as tie
+use Rattle.fdlibm_trig.proofs.k_sin.kernel_sin as this
 
-sin-polynomial-requires : tie.Need-sin-polynomial-requires
-sin-polynomial-requires c κs = (rw (c .before .high-word .ensures) at (c .if1 .left), refl)
-
-returns : tie.Need-returns
+pub kernel-sin-spec : {M : Type 1} → this.Statement.statement M
 unfolding kernelSinOf
-returns c = simp (sym (c .before .high-word .ensures), lt-ltb _ _ (c .if1 .taken))
-
-pub kernel-sin-spec : {M : Type 1} → statement M
-kernel-sin-spec = tie.close (tie.spec (λ c κs. tt) returns sin-polynomial-requires (λ c. c .sin-polynomial .ensures))
+kernel-sin-spec =
+    let returns : this.Tie.Need-returns = λ c. simp (sym (c .before .high-word .ensures), lt-ltb _ _ (c .if1 .taken)) in
+    this.Tie.close (this.Tie.spec (λ c κs. tt) returns (λ c κs. (rw (c .before .high-word .ensures) at (c .if1 .left), refl))
+    (λ c. c .sin-polynomial .ensures))

@@ -1,10 +1,6 @@
 use Rattle.fdlibm_trig.specs.KTan.{reciprocalOf}
-use Rattle.fdlibm_trig.proofs.k_tan.reciprocal.Statement.{statement}
-use Rattle.fdlibm_trig.proofs.k_tan.reciprocal.Tie as tie
+use Rattle.fdlibm_trig.proofs.k_tan.reciprocal as this
 
-returns : tie.Need-returns
+pub reciprocal-spec : {M : Type 1} → this.Statement.statement M
 unfolding reciprocalOf
-returns c = cc
-
-pub reciprocal-spec : {M : Type 1} → statement M
-reciprocal-spec = tie.close (tie.spec (λ c κs. tt) (λ c κs. tt) returns)
+reciprocal-spec = this.Tie.close (this.Tie.spec (λ c κs. tt) (λ c κs. tt) (λ c. cc))

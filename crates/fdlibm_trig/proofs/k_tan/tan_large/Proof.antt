@@ -1,10 +1,6 @@
 use Rattle.fdlibm_trig.specs.KTan.{tanLargeOf}
-use Rattle.fdlibm_trig.proofs.k_tan.tan_large.Statement.{statement}
-use Rattle.fdlibm_trig.proofs.k_tan.tan_large.Tie as tie
+use Rattle.fdlibm_trig.proofs.k_tan.tan_large as this
 
-returns : tie.Need-returns
+pub tan-large-spec : {M : Type 1} → this.Statement.statement M
 unfolding tanLargeOf
-returns c = cc
-
-pub tan-large-spec : {M : Type 1} → statement M
-tan-large-spec = tie.close (tie.spec (λ c κs. tt) returns)
+tan-large-spec = this.Tie.close (this.Tie.spec (λ c κs. tt) (λ c. cc))

@@ -1,11 +1,9 @@
-use mathlib.Core.Path.{refl}
+use Rattle.prelude.proofs.Logic.{refl}
 use Rattle.fdlibm_trig.specs.KTan.{tanRestOf}
-use Rattle.fdlibm_trig.proofs.k_tan.tan_rest.Statement.{statement}
-use Rattle.fdlibm_trig.proofs.k_tan.tan_rest.Tie as tie
+use Rattle.fdlibm_trig.proofs.k_tan.tan_rest as this
 
-returns : tie.Need-returns
+pub tan-rest-spec : {M : Type 1} → this.Statement.statement M
 unfolding tanRestOf
-returns c = refl
-
-pub tan-rest-spec : {M : Type 1} → statement M
-tan-rest-spec = tie.close (tie.spec returns)
+tan-rest-spec =
+    let returns : this.Tie.Need-returns = λ c. refl in
+    this.Tie.close (this.Tie.spec returns)

@@ -1,19 +1,13 @@
-use borrow.Author.Tests.{eq-eqb, ne-eqb}
-use mathlib.Core.Path.{sym}
+use Rattle.prelude.proofs.Logic.{sym, eq-eqb, ne-eqb}
 use Rattle.fdlibm_trig.specs.Trig.{quarterTurnsOf}
-use Rattle.fdlibm_trig.proofs.s_sin.quarter_turns.Statement.{statement}
-use Rattle.fdlibm_trig.proofs.s_sin.quarter_turns.Tie as tie
+use Rattle.fdlibm_trig.proofs.s_sin.quarter_turns as this
 
-returns : tie.Need-returns × tie.Need-returns-2 × tie.Need-returns-3 × tie.Need-returns-4
+pub quarter-turns-spec : {M : Type 1} → this.Statement.statement M
 unfolding quarterTurnsOf
-returns = (
-  λ c. simp (sym (c .kernel-sin .ensures), eq-eqb _ _ (c .before .if1 .taken)),
-  λ c. simp (sym (c .kernel-cos .ensures), eq-eqb _ _ (c .before .if2 .taken), ne-eqb _ _ (c .before .before .if1 .left)),
-  λ c. simp (sym (c .kernel-sin2 .ensures), eq-eqb _ _ (c .before .if3 .taken), ne-eqb _ _ (c .before .before .if2 .left), ne-eqb _ _ (c .before .before .before .if1 .left)),
-  λ c. simp (sym (c .kernel-cos2 .ensures), ne-eqb _ _ (c .before .if3 .left), ne-eqb _ _ (c .before .before .if2 .left), ne-eqb _ _ (c .before .before .before .if1 .left)),
-)
-
-pub quarter-turns-spec : {M : Type 1} → statement M
 quarter-turns-spec =
-    tie.close
-    (tie.spec (λ c κs. tt) (λ c κs. tt) (λ c κs. tt) (λ c κs. tt) (returns .0) (returns .1) (returns .2) (returns .3))
+    let returns-4 : this.Tie.Need-returns-4 = λ c. simp (sym (c .kernel-cos2 .ensures), ne-eqb _ _ (c .before .if3 .left), ne-eqb _ _ (c .before .before .if2 .left), ne-eqb _ _ (c .before .before .before .if1 .left)) in
+    this.Tie.close (this.Tie.spec (λ c κs. tt) (λ c κs. tt) (λ c κs. tt) (λ c κs. tt)
+    (λ c. simp (sym (c .kernel-sin .ensures), eq-eqb _ _ (c .before .if1 .taken)))
+    (λ c. simp (sym (c .kernel-cos .ensures), eq-eqb _ _ (c .before .if2 .taken), ne-eqb _ _ (c .before .before .if1 .left)))
+    (λ c. simp (sym (c .kernel-sin2 .ensures), eq-eqb _ _ (c .before .if3 .taken), ne-eqb _ _ (c .before .before .if2 .left), ne-eqb _ _ (c .before .before .before .if1 .left)))
+    returns-4)

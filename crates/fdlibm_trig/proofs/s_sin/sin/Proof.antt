@@ -1,18 +1,12 @@
-use borrow.Author.Tests.{le-leb, lt-leb}
-use mathlib.Core.Path.{sym}
+use Rattle.prelude.proofs.Logic.{sym, le-leb, lt-leb}
 use Rattle.fdlibm_trig.specs.Trig.{sinOf}
-use Rattle.fdlibm_trig.proofs.s_sin.sin.Statement.{statement}
-use Rattle.fdlibm_trig.proofs.s_sin.sin.Tie as tie
+use Rattle.fdlibm_trig.proofs.s_sin.sin as this
 
-returns : tie.Need-returns × tie.Need-returns-2 × tie.Need-returns-3
+pub sin-spec : {M : Type 1} → this.Statement.statement M
 unfolding sinOf
-returns = (
-  λ c. simp (sym (c .kernel-sin .ensures), sym (c .before .before .high-word .ensures), le-leb _ _ (c .before .if1 .taken)),
-  λ c. let d = c .before .before .before .before in simp (sym (c .quarter-turns .ensures), sym (c .before .rem-pio2 .ensures), sym (c .before .before .before .abs .ensures), sym (d .before .high-word .ensures)) (simp (c .before .before .if2 .taken, lt-leb _ _ (d .if1 .left))),
-  λ c. simp (sym (c .not-a-number .ensures), sym (c .before .before .abs .ensures), sym (c .before .before .before .before .high-word .ensures)) (simp (c .before .if2 .left, lt-leb _ _ (c .before .before .before .if1 .left))),
-)
-
-pub sin-spec : {M : Type 1} → statement M
 sin-spec =
-    tie.close
-    (tie.spec (λ c κs. tt) (λ c κs. tt) (λ c κs. tt) (λ c κs. tt) (λ c κs. tt) (λ c κs. tt) (returns .0) (returns .1) (returns .2))
+    let returns : this.Tie.Need-returns = λ c.
+    simp (sym (c .kernel-sin .ensures), sym (c .before .before .high-word .ensures), le-leb _ _ (c .before .if1 .taken)) in
+    let returns-2 : this.Tie.Need-returns-2 = λ c. let d = c .before .before .before .before in simp (sym (c .quarter-turns .ensures), sym (c .before .rem-pio2 .ensures), sym (c .before .before .before .abs .ensures), sym (d .before .high-word .ensures)) (simp (c .before .before .if2 .taken, lt-leb _ _ (d .if1 .left))) in
+    let returns-3 : this.Tie.Need-returns-3 = λ c. simp (sym (c .not-a-number .ensures), sym (c .before .before .abs .ensures), sym (c .before .before .before .before .high-word .ensures)) (simp (c .before .if2 .left, lt-leb _ _ (c .before .before .before .if1 .left))) in
+    this.Tie.close (this.Tie.spec (λ c κs. tt) (λ c κs. tt) (λ c κs. tt) (λ c κs. tt) (λ c κs. tt) (λ c κs. tt) returns returns-2 returns-3)

@@ -1,25 +1,16 @@
 -- `fields::numbers::bits` meets its contract. The invariant: x is the number of the bytes passed, and has no more bits than they.
-use borrow.Author.Needs.{needs}
-use native.Mathlib.Omega.{arith}
-use Prim.Native.Nat.{ℕ, _≤_, _<_, _-_, _*_, _^_}
-use mathlib.Core.Path.{_≡_, ap, _∙_}
-use denote.Ref.{now}
-use Rattle.fields.specs.Numbers.{joinedOf, bitsOf}
+use Rattle.prelude.proofs.Logic.{_≡_, ap, _∙_, ℕ, _≤_, _<_, _-_, _*_, _^_, arith, needs, now}
+use Rattle.fields.specs.Numbers.{bytesNumberOf, bitsOf}
 use Rattle.fields.proofs.Joining.{join-on, shift-in, shift-room}
-use Rattle.fields.proofs.numbers.bits.Statement.{statement}
-use Rattle.fields.proofs.numbers.bits.Tie as tie
+use Rattle.fields.proofs.numbers.bits as this
 
-abbrev Inv-loop : tie.InvT-loop
-Inv-loop bytes x₀ i₀ x i = (i ≤ 8) × (x ≡ joinedOf i bytes) × (x < 2 ^ (8 * i))
+abbrev Inv-loop : this.Tie.InvT-loop
+Inv-loop bytes x₀ i₀ x i = (i ≤ 8) × (x ≡ bytesNumberOf i bytes) × (x < 2 ^ (8 * i))
 
-abbrev μ-loop : tie.MeasureT-loop
+abbrev μ-loop : this.Tie.MeasureT-loop
 μ-loop bytes x₀ i₀ x i = 8 - i
 
-loop-holds : tie.Need-loop-holds Inv-loop μ-loop
-unfolding joinedOf
-loop-holds c = search needs
-
-loop-again : tie.Need-loop-again Inv-loop μ-loop
+loop-again : this.Tie.Need-loop-again Inv-loop μ-loop
 loop-again c =
     let l = c .before .before .loop in
     let v = now (c .before .before .before .before .args .bytes) in
@@ -29,15 +20,15 @@ loop-again c =
       rw s (shift-room (l .x) (c .byte .result) (l .i) (l .inv .2) (c .byte .ensures .1)),
     )
 
-returns : tie.Need-returns Inv-loop μ-loop
+returns : this.Tie.Need-returns Inv-loop μ-loop
 unfolding bitsOf
 returns c =
     let l = c .before .loop in
     let v = now (c .before .before .before .args .bytes) in
     let e : l .i ≡ 8 = omega arith in
-    l .inv .1 ∙ ap (λ (n : ℕ). joinedOf n v) e
+    l .inv .1 ∙ ap (λ (n : ℕ). bytesNumberOf n v) e
 
-pub bits-spec : {M : Type 1} → statement M
-bits-spec =
-    tie.close
-    (tie.spec Inv-loop μ-loop loop-holds (λ c κs. search needs) (λ c. search needs) (λ c. search needs) (λ c. search needs) loop-again returns)
+pub bits-spec : {M : Type 1} → this.Statement.statement M
+unfolding bytesNumberOf
+bits-spec = this.Tie.close (this.Tie.spec Inv-loop μ-loop (λ c. search needs) (λ c κs. search needs) (λ c. search needs) (λ c. search needs)
+    (λ c. search needs) loop-again returns)

@@ -1,12 +1,10 @@
 -- `fields::numbers::float` meets its contract.
 use Rattle.fields.specs.Numbers.{floatOf}
-use borrow.Author.Needs.{needs}
-use Rattle.fields.proofs.numbers.float.Statement.{statement}
-use Rattle.fields.proofs.numbers.float.Tie as tie
+use Rattle.prelude.proofs.Logic.{needs}
+use Rattle.fields.proofs.numbers.float as this
 
-returns : tie.Need-returns
+pub float-spec : {M : Type 1} → this.Statement.statement M
 unfolding floatOf
-returns c = cc
-
-pub float-spec : {M : Type 1} → statement M
-float-spec = tie.close (tie.spec (λ c κs. search needs) (λ c κs. search needs) returns)
+float-spec =
+    let returns : this.Tie.Need-returns = λ c. cc in
+    this.Tie.close (this.Tie.spec (λ c κs. search needs) (λ c κs. search needs) returns)

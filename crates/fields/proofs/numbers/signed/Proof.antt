@@ -1,25 +1,20 @@
 -- `fields::numbers::signed` meets its contract.
-use denote.Ref.{now}
+use Rattle.prelude.proofs.Logic.{needs, now}
 use Rattle.fields.proofs.Joining.{less-fits, signed-low, signed-high}
-use borrow.Author.Needs.{needs}
-use Rattle.fields.proofs.numbers.signed.Statement.{statement}
-use Rattle.fields.proofs.numbers.signed.Tie as tie
+use Rattle.fields.proofs.numbers.signed as this
 
-sub-result : tie.Need-sub-result
-sub-result c = less-fits (c .before .unsigned .result) (c .before .unsigned .ensures .1)
-
-returns : tie.Need-returns
+returns : this.Tie.Need-returns
 returns c =
     let a = c .before .before .before .args in
     let u = c .before .unsigned in
     signed-low (now (a .bytes)) (a .at) (u .result) (u .ensures .0) (c .if1 .taken)
 
-returns-2 : tie.Need-returns-2
+returns-2 : this.Tie.Need-returns-2
 returns-2 c =
     let a = c .before .before .before .args in
     let u = c .before .unsigned in
     signed-high (now (a .bytes)) (a .at) (u .result) (u .ensures .0) (u .ensures .1) (c .if1 .left)
 
-pub signed-spec : {M : Type 1} → statement M
-signed-spec =
-    tie.close (tie.spec (λ c κs. search needs) (λ c. search needs) (λ c. search needs) sub-result returns returns-2)
+pub signed-spec : {M : Type 1} → this.Statement.statement M
+signed-spec = this.Tie.close (this.Tie.spec (λ c κs. search needs) (λ c. search needs) (λ c. search needs)
+    (λ c. less-fits (c .before .unsigned .result) (c .before .unsigned .ensures .1)) returns returns-2)

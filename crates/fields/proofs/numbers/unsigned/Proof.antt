@@ -1,18 +1,9 @@
 -- `fields::numbers::unsigned` meets its contract: past the end both bytes are 0.
-use native.Mathlib.Omega.{arith}
-use Prim.Native.Nat.{_+_}
-use mathlib.Core.Path.{_≡_}
-use lib.ListN.{getD, List·getD-eq-default}
+use Rattle.prelude.proofs.Logic.{_≡_, _+_, arith, getD, List·getD-eq-default, needs}
 use Rattle.fields.specs.Numbers.{unsignedOf}
-use borrow.Author.Needs.{needs}
-use Rattle.fields.proofs.numbers.unsigned.Statement.{statement}
-use Rattle.fields.proofs.numbers.unsigned.Tie as tie
+use Rattle.fields.proofs.numbers.unsigned as this
 
-returns : tie.Need-returns
-unfolding unsignedOf
-returns c = search needs
-
-returns-2 : tie.Need-returns-2
+returns-2 : this.Tie.Need-returns-2
 unfolding unsignedOf
 returns-2 c =
     let v = c .before .before .args .bytes .now in
@@ -21,7 +12,9 @@ returns-2 c =
     let high : getD v (a + 1) 0 ≡ 0 = List·getD-eq-default v 0 (omega arith) in
     (simp (low, high), search needs)
 
-pub unsigned-spec : {M : Type 1} → statement M
+pub unsigned-spec : {M : Type 1} → this.Statement.statement M
+unfolding unsignedOf
 unsigned-spec =
-    tie.close
-    (tie.spec (λ c κs. search needs) (λ c. search needs) (λ c. search needs) (λ c κs. search needs) (λ c. search needs) returns returns-2)
+    let returns : this.Tie.Need-returns = λ c. search needs in
+    this.Tie.close (this.Tie.spec (λ c κs. search needs) (λ c. search needs) (λ c. search needs) (λ c κs. search needs) (λ c. search needs) returns
+    returns-2)

@@ -1,15 +1,10 @@
 -- `fields::one_pass::fields_of` meets its contract: the pass asks that the order is no longer than 1,024 bytes.
-use borrow.Author.Needs.{needs}
-use Prim.Native.Nat.{suc}
-use mathlib.Core.Path.{_∙_}
+use Rattle.prelude.proofs.Logic.{_∙_, needs}
 use Rattle.fields.proofs.Collecting.{checked-not, too-long}
-use Rattle.fields.proofs.one_pass.fields_of.Statement.{statement}
-use Rattle.fields.proofs.one_pass.fields_of.Tie as tie
+use Rattle.fields.proofs.one_pass.fields_of as this
 
-returns : tie.Need-returns
-returns c =
-    let s = c .before .before .before .args .order .now in
-    c .refused .ensures ∙ checked-not s 1 0 (too-long s (c .before .if1 .taken)) (λ e. search needs)
-
-pub fields-of-spec : {M : Type 1} → statement M
-fields-of-spec = tie.close (tie.spec (λ c κs. search needs) returns (λ c κs. search needs) (λ c. search needs))
+pub fields-of-spec : {M : Type 1} → this.Statement.statement M
+fields-of-spec =
+    let returns : this.Tie.Need-returns = λ c. let s = c .before .before .before .args .order .now in
+    c .refused .ensures ∙ checked-not s 1 0 (too-long s (c .before .if1 .taken)) (λ e. search needs) in
+    this.Tie.close (this.Tie.spec (λ c κs. search needs) returns (λ c κs. search needs) (λ c. search needs))

@@ -1,10 +1,6 @@
 -- `fields::one_pass::refused` meets its contract.
-use borrow.Author.Needs.{needs}
-use Rattle.fields.proofs.one_pass.refused.Statement.{statement}
-use Rattle.fields.proofs.one_pass.refused.Tie as tie
+use Rattle.prelude.proofs.Logic.{needs}
+use Rattle.fields.proofs.one_pass.refused as this
 
-returns : tie.Need-returns
-returns c = simp (c .none .ensures, c .before .new .ensures)
-
-pub refused-spec : {M : Type 1} → statement M
-refused-spec = tie.close (tie.spec (λ c κs. search needs) (λ c κs. search needs) returns)
+pub refused-spec : {M : Type 1} → this.Statement.statement M
+refused-spec = this.Tie.close (this.Tie.spec (λ c κs. search needs) (λ c κs. search needs) (λ c. simp (c .none .ensures, c .before .new .ensures)))

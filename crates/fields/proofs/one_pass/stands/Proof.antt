@@ -1,16 +1,9 @@
 -- `fields::one_pass::stands` meets its contract: past the end `getD` gives 0.
-use mathlib.Core.Path.{_≡_}
-use denote.Ref.{now}
-use lib.ListN.{getD, List·getD-eq-default}
-use borrow.Author.Needs.{needs}
-use Rattle.fields.proofs.one_pass.stands.Statement.{statement}
-use Rattle.fields.proofs.one_pass.stands.Tie as tie
+use Rattle.prelude.proofs.Logic.{_≡_, getD, List·getD-eq-default, needs, now}
+use Rattle.fields.proofs.one_pass.stands as this
 
-returns-2 : tie.Need-returns-2
-returns-2 c =
-    let a = c .before .args in
+pub stands-spec : {M : Type 1} → this.Statement.statement M
+stands-spec = this.Tie.close (this.Tie.spec (λ c. search needs) (λ c. search needs) (λ c. search needs)
+    (λ c. let a = c .before .args in
     let none : getD (now (a .starts)) (a .tag) 0 ≡ 0 = List·getD-eq-default (now (a .starts)) 0 (c .if1 .left) in
-    simp none
-
-pub stands-spec : {M : Type 1} → statement M
-stands-spec = tie.close (tie.spec (λ c. search needs) (λ c. search needs) (λ c. search needs) returns-2)
+    simp none))

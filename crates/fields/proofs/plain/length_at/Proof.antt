@@ -1,12 +1,8 @@
 -- `fields::plain::length_at` meets its contract.
 use Rattle.fields.specs.Fields.{lengthAt}
-use borrow.Author.Needs.{needs}
-use Rattle.fields.proofs.plain.length_at.Statement.{statement}
-use Rattle.fields.proofs.plain.length_at.Tie as tie
+use Rattle.prelude.proofs.Logic.{needs}
+use Rattle.fields.proofs.plain.length_at as this
 
-returns : tie.Need-returns
+pub length-at-spec : {M : Type 1} → this.Statement.statement M
 unfolding lengthAt
-returns c = search needs
-
-pub length-at-spec : {M : Type 1} → statement M
-length-at-spec = tie.close (tie.spec (λ c. search needs) (λ c κs. tt) returns)
+length-at-spec = this.Tie.close (this.Tie.spec (λ c. search needs) (λ c κs. tt) (λ c. search needs))

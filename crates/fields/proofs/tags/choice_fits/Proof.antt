@@ -1,11 +1,9 @@
 -- `fields::tags::choice_fits` meets its contract.
 use Rattle.fields.specs.Tags.{choiceFits}
-use Rattle.fields.proofs.tags.choice_fits.Statement.{statement}
-use Rattle.fields.proofs.tags.choice_fits.Tie as tie
+use Rattle.fields.proofs.tags.choice_fits as this
 
-returns : tie.Need-returns
+pub choice-fits-spec : {M : Type 1} → this.Statement.statement M
 unfolding choiceFits
-returns c = simp (c .before .before .row-of .ensures)
-
-pub choice-fits-spec : {M : Type 1} → statement M
-choice-fits-spec = tie.close (tie.spec (λ c κs. tt) returns)
+choice-fits-spec =
+    let returns : this.Tie.Need-returns = λ c. simp (c .before .before .row-of .ensures) in
+    this.Tie.close (this.Tie.spec (λ c κs. tt) returns)

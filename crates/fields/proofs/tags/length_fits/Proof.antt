@@ -1,11 +1,9 @@
 -- `fields::tags::length_fits` meets its contract.
 use Rattle.fields.specs.Tags.{lengthFits}
-use Rattle.fields.proofs.tags.length_fits.Statement.{statement}
-use Rattle.fields.proofs.tags.length_fits.Tie as tie
+use Rattle.fields.proofs.tags.length_fits as this
 
-returns : tie.Need-returns
+pub length-fits-spec : {M : Type 1} → this.Statement.statement M
 unfolding lengthFits
-returns c = simp (c .before .before .row-of .ensures)
-
-pub length-fits-spec : {M : Type 1} → statement M
-length-fits-spec = tie.close (tie.spec (λ c κs. tt) returns)
+length-fits-spec =
+    let returns : this.Tie.Need-returns = λ c. simp (c .before .before .row-of .ensures) in
+    this.Tie.close (this.Tie.spec (λ c κs. tt) returns)

@@ -1,104 +1,22 @@
 -- `fields::tags::row_of` meets its contract: an arm for each row of the table, and beyond it nothing.
-use native.Mathlib.Omega.{arith}
-use Prim.Native.Nat.{ℕ, _≤_, _+_}
-use mathlib.Core.Path.{_≡_, ap, _∙_}
-use Rattle.fields.specs.Tags.{tags}
-use Rattle.fields.proofs.FieldsLaws.{past, beyond-table}
-use Rattle.fields.proofs.tags.row_of.Statement.{statement}
-use Rattle.fields.proofs.tags.row_of.Tie as tie
+use Rattle.prelude.proofs.Logic.{_∙_, arith, beyond}
+use Rattle.fields.proofs.FieldsLaws.{beyond-table}
+use Rattle.fields.proofs.tags.row_of as this
 
-returns : tie.Need-returns
-returns c = simp (c .new .ensures, c .before .match .keys1)
-
-returns-2 : tie.Need-returns-2
-returns-2 c = simp (c .new2 .ensures, c .before .match .keys2)
-
-returns-3 : tie.Need-returns-3
-returns-3 c = simp (c .new3 .ensures, c .before .match .keys3)
-
-returns-4 : tie.Need-returns-4
-returns-4 c = simp (c .new4 .ensures, c .before .match .keys4)
-
-returns-5 : tie.Need-returns-5
-returns-5 c = simp (c .new5 .ensures, c .before .match .keys5)
-
-returns-6 : tie.Need-returns-6
-returns-6 c = simp (c .new6 .ensures, c .before .match .keys6)
-
-returns-7 : tie.Need-returns-7
-returns-7 c = simp (c .new7 .ensures, c .before .match .keys7)
-
-returns-8 : tie.Need-returns-8
-returns-8 c = simp (c .new8 .ensures, c .before .match .keys8)
-
-returns-9 : tie.Need-returns-9
-returns-9 c = simp (c .new9 .ensures, c .before .match .keys9)
-
-returns-10 : tie.Need-returns-10
-returns-10 c = simp (c .new10 .ensures, c .before .match .keys10)
-
-returns-11 : tie.Need-returns-11
-returns-11 c = simp (c .new11 .ensures, c .before .match .keys11)
-
-returns-12 : tie.Need-returns-12
-returns-12 c = simp (c .new12 .ensures, c .before .match .keys12)
-
-returns-13 : tie.Need-returns-13
-returns-13 c = simp (c .new13 .ensures, c .before .match .keys13)
-
-returns-14 : tie.Need-returns-14
-returns-14 c = simp (c .new14 .ensures, c .before .match .keys14)
-
-returns-15 : tie.Need-returns-15
-returns-15 c = simp (c .new15 .ensures, c .before .match .keys15)
-
-returns-16 : tie.Need-returns-16
-returns-16 c = simp (c .new16 .ensures, c .before .match .keys16)
-
-returns-17 : tie.Need-returns-17
-returns-17 c = simp (c .new17 .ensures, c .before .match .keys17)
-
-returns-18 : tie.Need-returns-18
-returns-18 c = simp (c .new18 .ensures, c .before .match .keys18)
-
-returns-19 : tie.Need-returns-19
-returns-19 c = simp (c .new19 .ensures, c .before .match .keys19)
-
-returns-20 : tie.Need-returns-20
-returns-20 c = simp (c .new20 .ensures, c .before .match .keys20)
-
-returns-21 : tie.Need-returns-21
-returns-21 c = simp (c .new21 .ensures, c .before .match .keys21)
-
-returns-22 : tie.Need-returns-22
-returns-22 c =
-    let m = c .before in
-    let r = m .match .rest in
-    let tag = m .before .args .tag in
-    let p1 : 1 ≤ tag = past 0 tag (omega arith) (r .0 .0 .0 .0 .0 .0 .0 .0 .0 .0 .0 .0 .0 .0 .0 .0 .0 .0 .0 .0 .1) in
-    let p2 : 2 ≤ tag = past 1 tag p1 (r .0 .0 .0 .0 .0 .0 .0 .0 .0 .0 .0 .0 .0 .0 .0 .0 .0 .0 .0 .1) in
-    let p3 : 3 ≤ tag = past 2 tag p2 (r .0 .0 .0 .0 .0 .0 .0 .0 .0 .0 .0 .0 .0 .0 .0 .0 .0 .0 .1) in
-    let p4 : 4 ≤ tag = past 3 tag p3 (r .0 .0 .0 .0 .0 .0 .0 .0 .0 .0 .0 .0 .0 .0 .0 .0 .0 .1) in
-    let p5 : 5 ≤ tag = past 4 tag p4 (r .0 .0 .0 .0 .0 .0 .0 .0 .0 .0 .0 .0 .0 .0 .0 .0 .1) in
-    let p6 : 6 ≤ tag = past 5 tag p5 (r .0 .0 .0 .0 .0 .0 .0 .0 .0 .0 .0 .0 .0 .0 .0 .1) in
-    let p7 : 7 ≤ tag = past 6 tag p6 (r .0 .0 .0 .0 .0 .0 .0 .0 .0 .0 .0 .0 .0 .0 .1) in
-    let p8 : 8 ≤ tag = past 7 tag p7 (r .0 .0 .0 .0 .0 .0 .0 .0 .0 .0 .0 .0 .0 .1) in
-    let p9 : 9 ≤ tag = past 8 tag p8 (r .0 .0 .0 .0 .0 .0 .0 .0 .0 .0 .0 .0 .1) in
-    let p10 : 10 ≤ tag = past 9 tag p9 (r .0 .0 .0 .0 .0 .0 .0 .0 .0 .0 .0 .1) in
-    let p11 : 11 ≤ tag = past 10 tag p10 (r .0 .0 .0 .0 .0 .0 .0 .0 .0 .0 .1) in
-    let p12 : 12 ≤ tag = past 11 tag p11 (r .0 .0 .0 .0 .0 .0 .0 .0 .0 .1) in
-    let p13 : 13 ≤ tag = past 12 tag p12 (r .0 .0 .0 .0 .0 .0 .0 .0 .1) in
-    let p14 : 14 ≤ tag = past 13 tag p13 (r .0 .0 .0 .0 .0 .0 .0 .1) in
-    let p15 : 15 ≤ tag = past 14 tag p14 (r .0 .0 .0 .0 .0 .0 .1) in
-    let p16 : 16 ≤ tag = past 15 tag p15 (r .0 .0 .0 .0 .0 .1) in
-    let p17 : 17 ≤ tag = past 16 tag p16 (r .0 .0 .0 .0 .1) in
-    let p18 : 18 ≤ tag = past 17 tag p17 (r .0 .0 .0 .1) in
-    let p19 : 19 ≤ tag = past 18 tag p18 (r .0 .0 .1) in
-    let p20 : 20 ≤ tag = past 19 tag p19 (r .0 .1) in
-    let p21 : 21 ≤ tag = past 20 tag p20 (r .1) in
-    c .new22 .ensures ∙ beyond-table tag p21
-
-pub row-of-spec : {M : Type 1} → statement M
+pub row-of-spec : {M : Type 1} → this.Statement.statement M
 row-of-spec =
-    tie.close
-    (tie.spec (λ c κs. tt) (λ c κs. tt) (λ c κs. tt) (λ c κs. tt) (λ c κs. tt) (λ c κs. tt) (λ c κs. tt) (λ c κs. tt) (λ c κs. tt) (λ c κs. tt) (λ c κs. tt) (λ c κs. tt) (λ c κs. tt) (λ c κs. tt) (λ c κs. tt) (λ c κs. tt) (λ c κs. tt) (λ c κs. tt) (λ c κs. tt) (λ c κs. tt) (λ c κs. tt) (λ c κs. tt) returns returns-2 returns-3 returns-4 returns-5 returns-6 returns-7 returns-8 returns-9 returns-10 returns-11 returns-12 returns-13 returns-14 returns-15 returns-16 returns-17 returns-18 returns-19 returns-20 returns-21 returns-22)
+    let returns-2 : this.Tie.Need-returns-2 = λ c. simp (c .new2 .ensures, c .before .match .keys2) in
+    this.Tie.close (this.Tie.spec (λ c κs. tt) (λ c κs. tt) (λ c κs. tt) (λ c κs. tt) (λ c κs. tt) (λ c κs. tt) (λ c κs. tt) (λ c κs. tt) (λ c κs. tt)
+    (λ c κs. tt) (λ c κs. tt) (λ c κs. tt) (λ c κs. tt) (λ c κs. tt) (λ c κs. tt) (λ c κs. tt) (λ c κs. tt) (λ c κs. tt) (λ c κs. tt) (λ c κs. tt)
+    (λ c κs. tt) (λ c κs. tt) (λ c. simp (c .new .ensures, c .before .match .keys1)) returns-2 (λ c. simp (c .new3 .ensures, c .before .match .keys3))
+    (λ c. simp (c .new4 .ensures, c .before .match .keys4)) (λ c. simp (c .new5 .ensures, c .before .match .keys5))
+    (λ c. simp (c .new6 .ensures, c .before .match .keys6)) (λ c. simp (c .new7 .ensures, c .before .match .keys7))
+    (λ c. simp (c .new8 .ensures, c .before .match .keys8)) (λ c. simp (c .new9 .ensures, c .before .match .keys9))
+    (λ c. simp (c .new10 .ensures, c .before .match .keys10)) (λ c. simp (c .new11 .ensures, c .before .match .keys11))
+    (λ c. simp (c .new12 .ensures, c .before .match .keys12)) (λ c. simp (c .new13 .ensures, c .before .match .keys13))
+    (λ c. simp (c .new14 .ensures, c .before .match .keys14)) (λ c. simp (c .new15 .ensures, c .before .match .keys15))
+    (λ c. simp (c .new16 .ensures, c .before .match .keys16)) (λ c. simp (c .new17 .ensures, c .before .match .keys17))
+    (λ c. simp (c .new18 .ensures, c .before .match .keys18)) (λ c. simp (c .new19 .ensures, c .before .match .keys19))
+    (λ c. simp (c .new20 .ensures, c .before .match .keys20)) (λ c. simp (c .new21 .ensures, c .before .match .keys21))
+    (λ c.
+    c .new22 .ensures ∙ beyond-table _ (beyond (c .before .before .args .tag) 0 21 (omega arith) (c .before .match .rest))))

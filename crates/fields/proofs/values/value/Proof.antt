@@ -1,14 +1,10 @@
 -- `fields::values::value` meets its contract.
-use mathlib.Core.Path.{ap, _∙_}
-use denote.Ref.{now}
-use Rattle.fields.specs.declared.values.Part.{Part}
+use Rattle.prelude.proofs.Logic.{ap, _∙_, now}
 use Rattle.fields.specs.Values.{partIn, valuesIn}
-use Rattle.fields.proofs.values.value.Statement.{statement}
-use Rattle.fields.proofs.values.value.Tie as tie
+use Rattle.fields.proofs.values.value as this
 
-returns : tie.Need-returns
+pub value-spec : {M : Type 1} → this.Statement.statement M
 unfolding valuesIn
-returns c = c .bytes .ensures ∙ ap (partIn (now (c .before .before .before .args .order))) (c .before .part .ensures)
-
-pub value-spec : {M : Type 1} → statement M
-value-spec = tie.close (tie.spec (λ c κs. tt) (λ c κs. tt) returns)
+value-spec =
+    let returns : this.Tie.Need-returns = λ c. c .bytes .ensures ∙ ap (partIn (now (c .before .before .before .args .order))) (c .before .part .ensures) in
+    this.Tie.close (this.Tie.spec (λ c κs. tt) (λ c κs. tt) returns)

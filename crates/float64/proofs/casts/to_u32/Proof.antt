@@ -1,14 +1,10 @@
-use mathlib.Core.Path.{_≡_, refl}
-use mathlib.Core.Bool.{true, false}
-use lib.Dec.{lit≤}
+use Rattle.prelude.proofs.Logic.{_≡_, refl, true, false, lit≤}
 use denote.Floats.{passes}
-use lib.Ieee.{Float, binary64, fits, ofBits, lt}
-use lib.Ieee.Exact.{HasValue}
+use Rattle.prelude.proofs.Ieee.{Float, binary64, fits, ofBits, lt, HasValue}
 use Rattle.float64.specs.Whole.{truncOf}
 use Rattle.float64.proofs.Parts.{zero64}
 use Rattle.float64.proofs.Saturate.{Casts, cast-below, cast-end, cast-zero}
-use Rattle.float64.proofs.casts.to_u32.Statement.{statement}
-use Rattle.float64.proofs.casts.to_u32.Tie as tie
+use Rattle.float64.proofs.casts.to_u32 as this
 
 -- 2 ^ 32
 abbrev end : Float
@@ -22,17 +18,11 @@ end-value = (refl, refl)
 small : (r x : Float) → r ≡ truncOf x → fits binary64 x ≡ true → lt zero64 x ≡ true → lt x end ≡ true → Casts 32 r x
 small r x e f = cast-below 32 4294967296 end end-value (lit≤ tt) (lit≤ tt) r x e (passes (fits binary64 x) f)
 
-float-to-int-result : tie.Need-float-to-int-result
-float-to-int-result c =
-    let t = c .before in let b = t .before .before in
-    small (t .trunc .result) (b .before .args .x) (t .trunc .ensures) (b .before .good .0 .1) (b .if1 .taken) (t .before .if2 .taken) .0
-
-returns : tie.Need-returns × tie.Need-returns-2 × tie.Need-returns-3
-returns = (
-  λ c. let t = c .before in let b = t .before .before in small (t .trunc .result) (b .before .args .x) (t .trunc .ensures) (b .before .good .0 .1) (b .if1 .taken) (t .before .if2 .taken) .1,
-  λ c. cast-end 32 end end-value (c .before .before .args .x) (c .before .if1 .taken) (c .if2 .left),
-  λ c. cast-zero 32 (c .before .args .x) (c .if1 .left),
-)
-
-pub to-u32-spec : {M : Type 1} → statement M
-to-u32-spec = tie.close (tie.spec (λ c κs. tt) float-to-int-result (returns .0) (returns .1) (returns .2))
+pub to-u32-spec : {M : Type 1} → this.Statement.statement M
+to-u32-spec =
+    let returns-2 : this.Tie.Need-returns-2 = λ c. cast-end 32 end end-value (c .before .before .args .x) (c .before .if1 .taken) (c .if2 .left) in
+    this.Tie.close (this.Tie.spec (λ c κs. tt)
+    (λ c. let t = c .before in let b = t .before .before in
+    small (t .trunc .result) (b .before .args .x) (t .trunc .ensures) (b .before .good .0 .1) (b .if1 .taken) (t .before .if2 .taken) .0)
+    (λ c. let t = c .before in let b = t .before .before in small (t .trunc .result) (b .before .args .x) (t .trunc .ensures) (b .before .good .0 .1) (b .if1 .taken) (t .before .if2 .taken) .1)
+    returns-2 (λ c. cast-zero 32 (c .before .args .x) (c .if1 .left)))

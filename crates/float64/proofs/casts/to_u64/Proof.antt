@@ -1,15 +1,11 @@
-use mathlib.Core.Path.{_≡_, refl, sym, subst}
-use mathlib.Core.Bool.{true, false}
-use lib.Dec.{T, lit≤}
+use Rattle.prelude.proofs.Logic.{_≡_, refl, sym, subst, true, false, T, lit≤}
 use denote.Floats.{passes}
-use lib.Ieee.{Float, binary64, fits, ofBits, lt}
-use lib.Ieee.Exact.{HasValue}
+use Rattle.prelude.proofs.Ieee.{Float, binary64, fits, ofBits, lt, HasValue}
 use Rattle.float64.specs.Whole.{truncOf}
 use Rattle.float64.proofs.Near.{W, whole64, whole64-value}
 use Rattle.float64.proofs.Parts.{zero64}
 use Rattle.float64.proofs.Saturate.{Casts, cast-below, cast-end, cast-zero, above-minus-one}
-use Rattle.float64.proofs.casts.to_u64.Statement.{statement}
-use Rattle.float64.proofs.casts.to_u64.Tie as tie
+use Rattle.float64.proofs.casts.to_u64 as this
 
 -- 2 ^ 64
 abbrev end : Float
@@ -23,23 +19,14 @@ end-value = (refl, refl)
 small : (r x : Float) → r ≡ truncOf x → fits binary64 x ≡ true → lt zero64 x ≡ true → lt x whole64 ≡ true → Casts 64 r x
 small r x e f = cast-below 64 W whole64 (whole64-value 1) (lit≤ tt) (lit≤ tt) r x e (passes (fits binary64 x) f)
 
-float-to-int-result : tie.Need-float-to-int-result
-float-to-int-result c =
-    let t = c .before in let b = t .before .before in
-    small (t .trunc .result) (b .before .args .x) (t .trunc .ensures) (b .before .good .0 .1) (b .if1 .taken) (t .before .if2 .taken) .0
-
-returns : tie.Need-returns × tie.Need-returns-3 × tie.Need-returns-4
-returns = (
-  λ c. let t = c .before in let b = t .before .before in small (t .trunc .result) (b .before .args .x) (t .trunc .ensures) (b .before .good .0 .1) (b .if1 .taken) (t .before .if2 .taken) .1,
-  λ c. cast-end 64 end end-value (c .before .before .before .args .x) (c .before .before .if1 .taken) (c .if3 .left),
-  λ c. cast-zero 64 (c .before .args .x) (c .if1 .left),
-)
-
-truncating-f64-to-u64-requires : tie.Need-truncating-f64-to-u64-requires
+pub to-u64-spec : {M : Type 1} → this.Statement.statement M
 unfolding ofBits
-truncating-f64-to-u64-requires c κs = (above-minus-one (c .before .before .before .args .x) (c .before .before .if1 .taken), subst T (sym (c .if3 .taken)) tt)
-
-pub to-u64-spec : {M : Type 1} → statement M
 to-u64-spec =
-    tie.close
-    (tie.spec (λ c κs. tt) float-to-int-result (returns .0) truncating-f64-to-u64-requires (λ c. c .truncating-f64-to-u64 .ensures) (returns .1) (returns .2))
+    let returns-3 : this.Tie.Need-returns-3 = λ c.
+    cast-end 64 end end-value (c .before .before .before .args .x) (c .before .before .if1 .taken) (c .if3 .left) in
+    this.Tie.close (this.Tie.spec (λ c κs. tt)
+    (λ c. let t = c .before in let b = t .before .before in
+    small (t .trunc .result) (b .before .args .x) (t .trunc .ensures) (b .before .good .0 .1) (b .if1 .taken) (t .before .if2 .taken) .0)
+    (λ c. let t = c .before in let b = t .before .before in small (t .trunc .result) (b .before .args .x) (t .trunc .ensures) (b .before .good .0 .1) (b .if1 .taken) (t .before .if2 .taken) .1)
+    (λ c κs. (above-minus-one (c .before .before .before .args .x) (c .before .before .if1 .taken), subst T (sym (c .if3 .taken)) tt))
+    (λ c. c .truncating-f64-to-u64 .ensures) returns-3 (λ c. cast-zero 64 (c .before .args .x) (c .if1 .left)))

@@ -1,13 +1,7 @@
-use mathlib.Core.Path.{_≡_, refl, sym, ap, _∙_}
-use Prim.Native.Nat.{ℕ, _*_, _^_}
-use native.Mathlib.Nat.{one-mul}
-use mathlib.Core.Bool.{Bool, true, false, not, true≢false, false≢true}
-use lib.Dec.{leb, ltb}
-use borrow.Author.Tests.{ltb-true, ltb-false, lt-leb, le-leb}
-use lib.Ieee.{Float, nan, inf, fin, up, down, binary64, lt, div, round, ofBits}
+use Rattle.prelude.proofs.Logic.{_≡_, refl, sym, ap, _∙_, Bool, true, false, not, true≢false, false≢true, ℕ, _*_, _^_, one-mul, leb, ltb, ltb-true, ltb-false, lt-leb, le-leb}
+use Rattle.prelude.proofs.Ieee.{Float, nan, inf, fin, up, down, binary64, lt, div, round, ofBits}
 use Rattle.float64.specs.Sizes.{absOf, isNormalOf}
-use Rattle.float64.proofs.sizes.is_normal.Statement.{statement}
-use Rattle.float64.proofs.sizes.is_normal.Tie as tie
+use Rattle.float64.proofs.sizes.is_normal as this
 
 -- the code's constants
 abbrev infinity : Float
@@ -35,11 +29,8 @@ infinite nan h = refl
 infinite (inf s) h = refl
 infinite (fin s m e) h = absurd (true≢false h)
 
-returns : tie.Need-returns
-returns c = rw (c .before .abs .ensures) (finite (c .before .before .args .x) (rw (c .before .abs .ensures) at (c .if1 .taken)))
-
-returns-2 : tie.Need-returns-2
-returns-2 c = infinite (c .before .before .args .x) (rw (c .before .abs .ensures) at (c .if1 .left))
-
-pub is-normal-spec : {M : Type 1} → statement M
-is-normal-spec = tie.close (tie.spec (λ c κs. tt) returns returns-2)
+pub is-normal-spec : {M : Type 1} → this.Statement.statement M
+is-normal-spec =
+    let returns : this.Tie.Need-returns = λ c.
+    rw (c .before .abs .ensures) (finite (c .before .before .args .x) (rw (c .before .abs .ensures) at (c .if1 .taken))) in
+    this.Tie.close (this.Tie.spec (λ c κs. tt) returns (λ c. infinite (c .before .before .args .x) (rw (c .before .abs .ensures) at (c .if1 .left))))

@@ -1,21 +1,12 @@
-use mathlib.Core.Path.{refl, sym, ap}
-use lib.Ieee.{toBits}
-use borrow.Author.Needs.{needs}
+use Rattle.prelude.proofs.Logic.{refl, sym, ap, needs}
+use Rattle.prelude.proofs.Ieee.{toBits}
 use Rattle.float64.specs.Words.{highOf}
 use Rattle.float64.proofs.Patterns.{is-nan, no-nan}
-use Rattle.float64.proofs.words.high_word.Statement.{statement}
-use Rattle.float64.proofs.words.high_word.Tie as tie
+use Rattle.float64.proofs.words.high_word as this
 
-float-to-bits-result : tie.Need-float-to-bits-result
-float-to-bits-result c = no-nan (c .before .args .x) (c .if1 .left)
-
-returns : tie.Need-returns
+pub high-word-spec : {M : Type 1} → this.Statement.statement M
 unfolding highOf toBits
-returns c = sym (ap highOf (is-nan (c .before .args .x) (c .if1 .taken)))
-
-returns-2 : tie.Need-returns-2
-unfolding highOf
-returns-2 c = refl
-
-pub high-word-spec : {M : Type 1} → statement M
-high-word-spec = tie.close (tie.spec float-to-bits-result (λ c. search needs) returns returns-2)
+high-word-spec =
+    let returns : this.Tie.Need-returns = λ c. sym (ap highOf (is-nan (c .before .args .x) (c .if1 .taken))) in
+    let returns-2 : this.Tie.Need-returns-2 = λ c. refl in
+    this.Tie.close (this.Tie.spec (λ c. no-nan (c .before .args .x) (c .if1 .left)) (λ c. search needs) returns returns-2)

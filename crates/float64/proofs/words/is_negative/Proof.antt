@@ -1,22 +1,14 @@
-use mathlib.Core.Path.{sym, ap}
-use lib.Ieee.{fits, binary64}
+use Rattle.prelude.proofs.Logic.{sym, ap}
+use Rattle.prelude.proofs.Ieee.{fits, binary64}
 use denote.Floats.{passes}
 use Rattle.float64.specs.Words.{isNegativeOf}
 use Rattle.float64.proofs.Patterns.{is-nan, no-nan, sign-bit}
-use Rattle.float64.proofs.words.is_negative.Statement.{statement}
-use Rattle.float64.proofs.words.is_negative.Tie as tie
+use Rattle.float64.proofs.words.is_negative as this
 
-float-to-bits-result : tie.Need-float-to-bits-result
-float-to-bits-result c = no-nan (c .before .args .x) (c .if1 .left)
-
-returns : tie.Need-returns
+pub is-negative-spec : {M : Type 1} → this.Statement.statement M
 unfolding isNegativeOf
-returns c = sym (ap isNegativeOf (is-nan (c .before .args .x) (c .if1 .taken)))
-
-returns-2 : tie.Need-returns-2
-returns-2 c =
-    let x = c .before .args .x in
-    sign-bit x (passes (fits binary64 x) (c .before .good .0 .1)) (no-nan x (c .if1 .left))
-
-pub is-negative-spec : {M : Type 1} → statement M
-is-negative-spec = tie.close (tie.spec float-to-bits-result returns returns-2)
+is-negative-spec =
+    let returns : this.Tie.Need-returns = λ c. sym (ap isNegativeOf (is-nan (c .before .args .x) (c .if1 .taken))) in
+    let returns-2 : this.Tie.Need-returns-2 = λ c. let x = c .before .args .x in
+    sign-bit x (passes (fits binary64 x) (c .before .good .0 .1)) (no-nan x (c .if1 .left)) in
+    this.Tie.close (this.Tie.spec (λ c. no-nan (c .before .args .x) (c .if1 .left)) returns returns-2)

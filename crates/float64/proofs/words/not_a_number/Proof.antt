@@ -1,11 +1,9 @@
-use mathlib.Core.Path.{refl}
-use lib.Ieee.{div, ofBits}
-use Rattle.float64.proofs.words.not_a_number.Statement.{statement}
-use Rattle.float64.proofs.words.not_a_number.Tie as tie
+use Rattle.prelude.proofs.Logic.{refl}
+use Rattle.prelude.proofs.Ieee.{div, ofBits}
+use Rattle.float64.proofs.words.not_a_number as this
 
-returns : tie.Need-returns
+pub not-a-number-spec : {M : Type 1} → this.Statement.statement M
 unfolding div ofBits
-returns c = refl
-
-pub not-a-number-spec : {M : Type 1} → statement M
-not-a-number-spec = tie.close (tie.spec returns)
+not-a-number-spec =
+    let returns : this.Tie.Need-returns = λ c. refl in
+    this.Tie.close (this.Tie.spec returns)

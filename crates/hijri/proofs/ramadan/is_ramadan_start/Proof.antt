@@ -1,23 +1,11 @@
-use mathlib.Core.Path.{_≡_, sym, ap, _∙_}
-use borrow.Author.Tests.{eq-eqb, ne-eqb}
-use lib.IntN.{_-ℤ_}
-use Rattle.integers.proofs.Ranges.{wide}
+use Rattle.prelude.proofs.Logic.{_≡_, sym, ap, _∙_, _-ℤ_, eq-eqb, ne-eqb}
+use Rattle.integers.proofs.Integers.{wide}
 use Rattle.hijri.specs.Days.{ofDayOf}
 use Rattle.hijri.specs.Ramadan.{ramadanStartOf}
 use Rattle.hijri.proofs.RamadanStart.{far-below, far-above, less-fits, shift-read}
-use Rattle.hijri.proofs.ramadan.is_ramadan_start.Statement.{statement}
-use Rattle.hijri.proofs.ramadan.is_ramadan_start.Tie as tie
+use Rattle.hijri.proofs.ramadan.is_ramadan_start as this
 
-returns : tie.Need-returns
-returns c = let s = c .before in far-below (s .args .day) (s .fits .day) (s .args .shift) (s .fits .shift) (c .if1 .taken)
-
-returns-2 : tie.Need-returns-2
-returns-2 c = let s = c .before .before in far-above (s .args .day) (s .fits .day) (s .args .shift) (s .fits .shift) (c .if2 .taken)
-
-cast-of-day : tie.Need-cast-of-day
-cast-of-day c = wide (c .before .before .args .shift) (c .before .before .fits .shift)
-
-returns-3 : tie.Need-returns-3
+returns-3 : this.Tie.Need-returns-3
 unfolding ramadanStartOf
 returns-3 c =
     let q = c .before .before .before in
@@ -26,7 +14,7 @@ returns-3 c =
     let e : q .of-day .result ≡ ofDayOf (s .args .day -ℤ s .args .shift) = q .of-day .ensures ∙ ap ofDayOf r in
     simp (sym e, eq-eqb _ _ (c .before .if3 .taken))
 
-returns-4 : tie.Need-returns-4
+returns-4 : this.Tie.Need-returns-4
 unfolding ramadanStartOf
 returns-4 c =
     let q = c .before .before in
@@ -36,13 +24,13 @@ returns-4 c =
     simp (sym e, ne-eqb _ _ (c .if3 .left))
 
 -- the difference's need goes in by its place, so that a sum there is refused by what it says and not by its name
-pub is-ramadan-start-spec : {M : Type 1} → statement M
+pub is-ramadan-start-spec : {M : Type 1} → this.Statement.statement M
 is-ramadan-start-spec =
-    tie.close
-    (tie.spec returns returns-2 cast-of-day
+    let returns : this.Tie.Need-returns = λ c. let s = c .before in far-below (s .args .day) (s .fits .day) (s .args .shift) (s .fits .shift) (c .if1 .taken) in
+    let returns-2 : this.Tie.Need-returns-2 = λ c.
+    let s = c .before .before in far-above (s .args .day) (s .fits .day) (s .args .shift) (s .fits .shift) (c .if2 .taken) in
+    this.Tie.close (this.Tie.spec returns returns-2 (λ c. wide (c .before .before .args .shift) (c .before .before .fits .shift))
     (λ c.
     let s = c .before .before in
     less-fits (s .args .day) (s .fits .day) (s .args .shift) (s .fits .shift) (c .before .if1 .left) (c .if2 .left))
-    (λ c κs. tt)
-    returns-3
-    returns-4)
+    (λ c κs. tt) returns-3 returns-4)

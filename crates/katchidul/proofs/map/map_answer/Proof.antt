@@ -1,11 +1,10 @@
-use mathlib.Core.Path.{refl}
+use Rattle.prelude.proofs.Logic.{refl}
 use Rattle.katchidul.specs.Map.{mapAnswerOf}
-use Rattle.katchidul.proofs.map.map_answer.Statement.{statement}
-use Rattle.katchidul.proofs.map.map_answer.Tie as tie
+use Rattle.katchidul.proofs.map.map_answer as this
 
-returns : tie.Need-returns
+returns : this.Tie.Need-returns
 unfolding mapAnswerOf
 returns c = refl
 
-pub map-answer-spec : {M : Type 1} → statement M
-map-answer-spec = tie.close (tie.spec returns)
+pub map-answer-spec : {M : Type 1} → this.Statement.statement M
+map-answer-spec = this.Tie.close (this.Tie.spec returns)

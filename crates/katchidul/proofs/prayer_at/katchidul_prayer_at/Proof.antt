@@ -1,15 +1,13 @@
-use mathlib.Core.Path.{ap, _∙_}
-use mir.Syntax.{w64}
+use Rattle.prelude.proofs.Logic.{ap, _∙_, w64}
 use Rattle.integers.proofs.Ranges.{read}
 use Rattle.katchidul.specs.Exports.{prayerAnswerOf}
-use Rattle.katchidul.proofs.prayer_at.katchidul_prayer_at.Statement.{statement}
-use Rattle.katchidul.proofs.prayer_at.katchidul_prayer_at.Tie as tie
+use Rattle.katchidul.proofs.prayer_at.katchidul_prayer_at as this
 
-returns : tie.Need-returns
+returns : this.Tie.Need-returns
 returns c =
     let t = c .before .before .before .before in
     let r = read w64 (t .args .seconds) (t .fits .seconds) in
     c .prayer-answer .ensures ∙ ap prayerAnswerOf (c .before .prayer-at .ensures) ∙ simp (c .before .before .instant .ensures, r)
 
-pub katchidul-prayer-at-spec : {M : Type 1} → statement M
-katchidul-prayer-at-spec = tie.close (tie.spec (λ c κs. tt) (λ c κs. tt) (λ c κs. tt) returns)
+pub katchidul-prayer-at-spec : {M : Type 1} → this.Statement.statement M
+katchidul-prayer-at-spec = this.Tie.close (this.Tie.spec (λ c κs. tt) (λ c κs. tt) (λ c κs. tt) returns)

@@ -1,10 +1,9 @@
-use mathlib.Core.Path.{ap, _∙_}
+use Rattle.prelude.proofs.Logic.{ap, _∙_}
 use Rattle.katchidul.specs.PrintQueue.{joinAnswerOf}
-use Rattle.katchidul.proofs.print_queue.katchidul_join.Statement.{statement}
-use Rattle.katchidul.proofs.print_queue.katchidul_join.Tie as tie
+use Rattle.katchidul.proofs.print_queue.katchidul_join as this
 
-returns : tie.Need-returns
+returns : this.Tie.Need-returns
 returns c = c .join-answer .ensures ∙ ap joinAnswerOf (c .before .join .ensures)
 
-pub katchidul-join-spec : {M : Type 1} → statement M
-katchidul-join-spec = tie.close (tie.spec (λ c κs. tt) (λ c κs. tt) returns)
+pub katchidul-join-spec : {M : Type 1} → this.Statement.statement M
+katchidul-join-spec = this.Tie.close (this.Tie.spec (λ c κs. tt) (λ c κs. tt) returns)

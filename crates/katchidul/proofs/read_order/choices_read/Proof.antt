@@ -1,11 +1,7 @@
-use mir.Syntax.{w32}
-use mir.Val.{SFits}
-use mir.Facts.{toZ-ofZ}
-use borrow.Author.Needs.{needs}
-use Rattle.katchidul.proofs.read_order.choices_read.Statement.{statement}
-use Rattle.katchidul.proofs.read_order.choices_read.Tie as tie
+use Rattle.prelude.proofs.Logic.{needs, w32, SFits, toZ-ofZ}
+use Rattle.katchidul.proofs.read_order.choices_read as this
 
-returns : tie.Need-returns
+returns : this.Tie.Need-returns
 returns c =
     let known = c .before .struct-told .given in
     let also = c .struct-told2 .given in
@@ -15,5 +11,5 @@ returns c =
     let g : SFits w32 (o .ramadan .shift) = search needs in
     simp (toZ-ofZ f, toZ-ofZ g, s .is-set .ensures, s .before .number2 .ensures, s .before .before .number .ensures)
 
-pub choices-read-spec : {M : Type 1} → statement M
-choices-read-spec = tie.close (tie.spec (λ c κs. tt) (λ c κs. tt) (λ c κs. tt) returns)
+pub choices-read-spec : {M : Type 1} → this.Statement.statement M
+choices-read-spec = this.Tie.close (this.Tie.spec (λ c κs. tt) (λ c κs. tt) (λ c κs. tt) returns)

@@ -1,14 +1,13 @@
 use Rattle.katchidul.specs.Exports.{setNumberOf}
-use Rattle.katchidul.proofs.read_order.is_set.Statement.{statement}
-use Rattle.katchidul.proofs.read_order.is_set.Tie as tie
+use Rattle.katchidul.proofs.read_order.is_set as this
 
-returns : tie.Need-returns
+returns : this.Tie.Need-returns
 unfolding setNumberOf
-returns c = simp (c .if1 .taken)
+returns c = cc
 
-returns-2 : tie.Need-returns-2
+returns-2 : this.Tie.Need-returns-2
 unfolding setNumberOf
-returns-2 c = simp (c .if1 .left)
+returns-2 c = cc
 
-pub is-set-spec : {M : Type 1} → statement M
-is-set-spec = tie.close (tie.spec returns returns-2)
+pub is-set-spec : {M : Type 1} → this.Statement.statement M
+is-set-spec = this.Tie.close (this.Tie.spec returns returns-2)

@@ -1,12 +1,8 @@
 use Rattle.katchidul.specs.Exports.{orderRead}
-use mir.Syntax.{w32}
-use mir.Val.{SFits}
-use mir.Facts.{toZ-ofZ}
-use borrow.Author.Needs.{needs}
-use Rattle.katchidul.proofs.read_order.order_read.Statement.{statement}
-use Rattle.katchidul.proofs.read_order.order_read.Tie as tie
+use Rattle.prelude.proofs.Logic.{needs, w32, SFits, toZ-ofZ}
+use Rattle.katchidul.proofs.read_order.order_read as this
 
-returns : tie.Need-returns
+returns : this.Tie.Need-returns
 unfolding orderRead
 returns c =
     let m = c .before in
@@ -26,7 +22,6 @@ returns c =
       n .before .before .before .before .number .ensures,
     )
 
-pub order-read-spec : {M : Type 1} → statement M
+pub order-read-spec : {M : Type 1} → this.Statement.statement M
 order-read-spec =
-    tie.close
-    (tie.spec (λ c κs. tt) (λ c κs. tt) (λ c κs. tt) (λ c κs. tt) (λ c κs. tt) (λ c κs. tt) (λ c κs. tt) (λ c κs. tt) returns)
+    this.Tie.close (this.Tie.spec (λ c κs. tt) (λ c κs. tt) (λ c κs. tt) (λ c κs. tt) (λ c κs. tt) (λ c κs. tt) (λ c κs. tt) (λ c κs. tt) returns)

@@ -1,14 +1,11 @@
 use Rattle.katchidul.specs.Exports.{orderRefused}
-use mathlib.Core.Path.{sym}
 use lib.Ieee.{round, ofBits}
 use Rattle.float64.specs.Ops.{dec}
-use Rattle.katchidul.proofs.read_order.order_refused.Statement.{statement}
-use Rattle.katchidul.proofs.read_order.order_refused.Tie as tie
+use Rattle.katchidul.proofs.read_order.order_refused as this
 
-returns : tie.Need-returns
+returns : this.Tie.Need-returns
 unfolding orderRefused dec round ofBits
-returns c =
-    simp (sym (c .no-choices .ensures), sym (c .before .no-minutes .ensures))
+returns c = cc
 
-pub order-refused-spec : {M : Type 1} → statement M
-order-refused-spec = tie.close (tie.spec (λ c κs. tt) (λ c κs. tt) returns)
+pub order-refused-spec : {M : Type 1} → this.Statement.statement M
+order-refused-spec = this.Tie.close (this.Tie.spec (λ c κs. tt) (λ c κs. tt) returns)

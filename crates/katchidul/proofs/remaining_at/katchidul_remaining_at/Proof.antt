@@ -1,16 +1,13 @@
-use mathlib.Core.Path.{ap, _∙_}
-use mir.Syntax.{w64}
+use Rattle.prelude.proofs.Logic.{ap, _∙_, w64}
 use Rattle.integers.proofs.Ranges.{read}
 use Rattle.katchidul.specs.Exports.{remainingAnswerOf}
-use Rattle.katchidul.proofs.remaining_at.katchidul_remaining_at.Statement.{statement}
-use Rattle.katchidul.proofs.remaining_at.katchidul_remaining_at.Tie as tie
+use Rattle.katchidul.proofs.remaining_at.katchidul_remaining_at as this
 
-returns : tie.Need-returns
+returns : this.Tie.Need-returns
 returns c =
     let t = c .before .before .before .before in
     let r = read w64 (t .args .seconds) (t .fits .seconds) in
     c .remaining-answer .ensures ∙ ap remainingAnswerOf (c .before .remaining-at .ensures) ∙ simp (c .before .before .instant .ensures, r)
 
-pub katchidul-remaining-at-spec : {M : Type 1} → statement M
-katchidul-remaining-at-spec =
-    tie.close (tie.spec (λ c κs. tt) (λ c κs. tt) (λ c κs. tt) returns)
+pub katchidul-remaining-at-spec : {M : Type 1} → this.Statement.statement M
+katchidul-remaining-at-spec = this.Tie.close (this.Tie.spec (λ c κs. tt) (λ c κs. tt) (λ c κs. tt) returns)

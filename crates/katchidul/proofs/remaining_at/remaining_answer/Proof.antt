@@ -1,15 +1,14 @@
 use Rattle.katchidul.specs.Exports.{remainingAnswerOf}
-use borrow.Author.Needs.{needs}
-use Rattle.katchidul.proofs.remaining_at.remaining_answer.Statement.{statement}
-use Rattle.katchidul.proofs.remaining_at.remaining_answer.Tie as tie
+use Rattle.prelude.proofs.Logic.{needs}
+use Rattle.katchidul.proofs.remaining_at.remaining_answer as this
 
-returns : tie.Need-returns
+returns : this.Tie.Need-returns
 unfolding remainingAnswerOf
-returns c = simp (c .before .answer .given .1)
+returns c = cc
 
-returns-2 : tie.Need-returns-2
+returns-2 : this.Tie.Need-returns-2
 unfolding remainingAnswerOf
-returns-2 c = simp (c .before .answer2 .given .1)
+returns-2 c = cc
 
-pub remaining-answer-spec : {M : Type 1} → statement M
-remaining-answer-spec = tie.close (tie.spec (λ c. search needs) (λ c. search needs) returns returns-2)
+pub remaining-answer-spec : {M : Type 1} → this.Statement.statement M
+remaining-answer-spec = this.Tie.close (this.Tie.spec (λ c. search needs) (λ c. search needs) returns returns-2)

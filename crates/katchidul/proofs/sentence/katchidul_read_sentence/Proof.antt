@@ -1,10 +1,7 @@
-use mathlib.Core.Path.{ap, _∙_}
-use Rattle.katchidul.specs.Sentence.{meaningAnswerOf}
-use Rattle.katchidul.proofs.sentence.katchidul_read_sentence.Statement.{statement}
-use Rattle.katchidul.proofs.sentence.katchidul_read_sentence.Tie as tie
+use Rattle.katchidul.proofs.sentence.katchidul_read_sentence as this
 
-returns : tie.Need-returns
-returns c = c .meaning-answer .ensures ∙ ap meaningAnswerOf (c .before .read-sentence .ensures)
+returns : this.Tie.Need-returns
+returns c = cc
 
-pub katchidul-read-sentence-spec : {M : Type 1} → statement M
-katchidul-read-sentence-spec = tie.close (tie.spec (λ c κs. tt) (λ c κs. tt) returns)
+pub katchidul-read-sentence-spec : {M : Type 1} → this.Statement.statement M
+katchidul-read-sentence-spec = this.Tie.close (this.Tie.spec (λ c κs. tt) (λ c κs. tt) returns)

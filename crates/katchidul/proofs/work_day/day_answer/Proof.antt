@@ -1,22 +1,16 @@
-use mathlib.Core.Path.{sym}
+use Rattle.prelude.proofs.Logic.{sym, needs}
 use Rattle.katchidul.specs.Exports.{dayAnswerOf}
-use borrow.Author.Needs.{needs}
-use Rattle.katchidul.proofs.work_day.day_answer.Statement.{statement}
-use Rattle.katchidul.proofs.work_day.day_answer.Tie as tie
+use Rattle.katchidul.proofs.work_day.day_answer as this
 
-returns : tie.Need-returns
+returns : this.Tie.Need-returns
 unfolding dayAnswerOf
 returns c =
     let e0 = c .times-worked .ensures in
     simp (sym e0, c .before .before .worked .given .1)
 
-returns-2 : tie.Need-returns-2
+returns-2 : this.Tie.Need-returns-2
 unfolding dayAnswerOf
-returns-2 c =
-    let e0 = c .no-times .ensures in
-    simp (sym e0, c .before .before .worked2 .given .1)
+returns-2 c = cc
 
-pub day-answer-spec : {M : Type 1} → statement M
-day-answer-spec =
-    tie.close
-    (tie.spec (λ c. search needs) (λ c κs. tt) (λ c. search needs) (λ c κs. tt) returns returns-2)
+pub day-answer-spec : {M : Type 1} → this.Statement.statement M
+day-answer-spec = this.Tie.close (this.Tie.spec (λ c. search needs) (λ c κs. tt) (λ c. search needs) (λ c κs. tt) returns returns-2)

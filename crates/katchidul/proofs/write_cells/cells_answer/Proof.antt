@@ -1,11 +1,10 @@
-use mathlib.Core.Path.{refl}
+use Rattle.prelude.proofs.Logic.{refl}
 use Rattle.katchidul.specs.Punched.{cellsAnswerOf}
-use Rattle.katchidul.proofs.write_cells.cells_answer.Statement.{statement}
-use Rattle.katchidul.proofs.write_cells.cells_answer.Tie as tie
+use Rattle.katchidul.proofs.write_cells.cells_answer as this
 
-returns : tie.Need-returns
+returns : this.Tie.Need-returns
 unfolding cellsAnswerOf
 returns c = refl
 
-pub cells-answer-spec : {M : Type 1} → statement M
-cells-answer-spec = tie.close (tie.spec returns)
+pub cells-answer-spec : {M : Type 1} → this.Statement.statement M
+cells-answer-spec = this.Tie.close (this.Tie.spec returns)

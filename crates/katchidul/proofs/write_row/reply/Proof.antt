@@ -1,11 +1,10 @@
-use mathlib.Core.Path.{refl}
+use Rattle.prelude.proofs.Logic.{refl}
 use Rattle.katchidul.specs.Exports.{replyOf}
-use Rattle.katchidul.proofs.write_row.reply.Statement.{statement}
-use Rattle.katchidul.proofs.write_row.reply.Tie as tie
+use Rattle.katchidul.proofs.write_row.reply as this
 
-returns : tie.Need-returns
+returns : this.Tie.Need-returns
 unfolding replyOf
 returns c = refl
 
-pub reply-spec : {M : Type 1} → statement M
-reply-spec = tie.close (tie.spec returns)
+pub reply-spec : {M : Type 1} → this.Statement.statement M
+reply-spec = this.Tie.close (this.Tie.spec returns)

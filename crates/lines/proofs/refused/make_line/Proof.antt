@@ -1,15 +1,10 @@
-use native.Mathlib.Omega.{arith}
-use mathlib.Core.Path.{_≡_}
-use lib.ListN.{length}
-use denote.Ref.{now}
+use Rattle.prelude.proofs.Logic.{_≡_, arith, length, needs, now}
 use Rattle.text.specs.Text.{ascii}
 use Rattle.lines.proofs.LinesLaws.{number-length}
 use Rattle.lines.proofs.Making.{line-made}
-use borrow.Author.Needs.{needs}
-use Rattle.lines.proofs.refused.make_line.Statement.{statement}
-use Rattle.lines.proofs.refused.make_line.Tie as tie
+use Rattle.lines.proofs.refused.make_line as this
 
-put-number-requires-2 : tie.Need-put-number-requires-2
+put-number-requires-2 : this.Tie.Need-put-number-requires-2
 put-number-requires-2 c κs =
     let a = c .before .before .before .before .before .before .before .before .before .before .before .before .before .args in
     let p = c .before .before .before .before .before .before .before .before .before .before .before .before .before .pre in
@@ -20,7 +15,7 @@ put-number-requires-2 c κs =
     let j : length (c .before .before .before .before .before .before .before .before .put .last .0) ≡ length (now (a .line)) = c .before .before .before .before .before .before .before .before .put .kept .0 in
     (p .1, omega (arith, p .0, p .1, p .2), omega (arith, p .2))
 
-add-result : tie.Need-add-result
+add-result : this.Tie.Need-add-result
 add-result c =
     let a = c .before .before .before .before .before .before .before .before .before .before .before .before .before .before .before .before .before .before .before .before .before .args in
     let p = c .before .before .before .before .before .before .before .before .before .before .before .before .before .before .before .before .before .before .before .before .before .pre in
@@ -30,7 +25,7 @@ add-result c =
     let n = c .before .before .before .before .before .before .before .put-number2 .ensures .0 in
     record { fits = omega (arith, p .0, p .1) }
 
-returns : tie.Need-returns
+returns : this.Tie.Need-returns
 returns c =
     let a = c .before .before .before .before .before .before .before .before .before .before .before .before .before .before .before .before .before .before .before .before .before .args in
     let p = c .before .before .before .before .before .before .before .before .before .before .before .before .before .before .before .before .before .before .before .before .before .pre in
@@ -39,7 +34,7 @@ returns c =
     line-made (now (a .line)) (now (a .whose)) (now (a .word)) (a .refusal) (p .0) (p .1) (p .2) _ _ _ _ _ _
     (c .before .before .before .before .before .before .before .before .before .before .before .before .before .before .before .before .put .ensures) (m .0) (m .1) (n .0) (n .1) (c .before .before .put2 .ensures)
 
-pub make-line-spec : {M : Type 1} → statement M
+pub make-line-spec : {M : Type 1} → this.Statement.statement M
 make-line-spec =
-    tie.close
-    (tie.spec (λ c κs. search needs) (λ c. search needs) (λ c κs. search needs) put-number-requires-2 (λ c. search needs) (λ c κs. search needs) add-result (λ c. search needs) returns)
+    this.Tie.close
+    (this.Tie.spec (λ c κs. search needs) (λ c. search needs) (λ c κs. search needs) put-number-requires-2 (λ c. search needs) (λ c κs. search needs) add-result (λ c. search needs) returns)

@@ -1,11 +1,10 @@
-use borrow.Author.Needs.{needs}
-use Rattle.lines.proofs.refused.put_refused_day.Statement.{statement}
-use Rattle.lines.proofs.refused.put_refused_day.Tie as tie
+use Rattle.prelude.proofs.Logic.{needs}
+use Rattle.lines.proofs.refused.put_refused_day as this
 
-returns : tie.Need-returns
+returns : this.Tie.Need-returns
 returns c = simp (c .before .before .before .before .before .date-text .ensures) at (c .before .before .put-refused .ensures)
 
-pub put-refused-day-spec : {M : Type 1} → statement M
+pub put-refused-day-spec : {M : Type 1} → this.Statement.statement M
 put-refused-day-spec =
-    tie.close
-    (tie.spec (λ c κs. search needs) (λ c. search needs) (λ c. search needs) (λ c κs. search needs) (λ c. search needs) returns)
+    this.Tie.close
+    (this.Tie.spec (λ c κs. search needs) (λ c. search needs) (λ c. search needs) (λ c κs. search needs) (λ c. search needs) returns)

@@ -1,19 +1,16 @@
-use mathlib.Core.Path.{sym, ap, _∙_}
-use denote.Ref.{now}
+use Rattle.prelude.proofs.Logic.{ap, _∙_, List, ℤ, length, needs, now}
 use Rattle.text.specs.Text.{putOf}
-use Rattle.lines.specs.Lines.{nineOf, rowText}
-use Rattle.lines.proofs.LinesLaws.{row-length}
-use borrow.Author.Needs.{needs}
-use Rattle.lines.proofs.row.put_nine.Statement.{statement}
-use Rattle.lines.proofs.row.put_nine.Tie as tie
+use Rattle.lines.specs.Lines.{rowText}
+use Rattle.lines.proofs.row.put_nine as this
 
-returns : tie.Need-returns
+returns : this.Tie.Need-returns
 returns c =
-    let a = c .before .before .before .before .before .before .before .before .before .before .before .args in
-    let filled = c .before .before .before .before .before .before .fill-row .ensures ∙ ap (rowText (a .date)) (c .before .before .before .before .before .before .before .before .nine .ensures) in
-    (sym (row-length (a .date) (nineOf (a .times))), c .before .before .put .ensures ∙ ap (putOf (now (a .buffer)) (a .at)) filled)
+    let a = c .before .before .before .before .before .before .before .args in
+    let row = ap (rowText (a .date)) (c .before .before .before .before .nine .ensures) in
+    let put = c .before .before .put-columns in
+    (put .ensures .0 ∙ ap length row, put .ensures .1 ∙ ap (putOf (now (a .buffer)) (a .at)) row)
 
-pub put-nine-spec : {M : Type 1} → statement M
+pub put-nine-spec : {M : Type 1} → this.Statement.statement M
 put-nine-spec =
-    tie.close
-    (tie.spec (λ c. search needs) (λ c κs. search needs) (λ c. search needs) (λ c κs. search needs) (λ c. search needs) (λ c κs. search needs) (λ c. search needs) returns)
+    this.Tie.close
+    (this.Tie.spec (λ c κs. search needs) (λ c. search needs) (λ c κs. search needs) (λ c. search needs) returns)

@@ -1,32 +1,23 @@
-use mathlib.Core.Path.{_≡_, sym, ap, _∙_}
-use mathlib.Core.List.{List, _∷_}
-use lib.IntN.{ℤ}
-use mir.Syntax.{w64}
-use mir.Val.{SFits}
-use mir.Facts.{toZ-ofZ}
-use denote.Ref.{now}
+use Rattle.prelude.proofs.Logic.{_≡_, ap, _∙_, _∷_, ℤ, length, needs, w64, SFits, toZ-ofZ, now}
 use Rattle.integers.proofs.Ranges.{readBack}
 use Rattle.text.specs.Text.{putOf}
 use Rattle.lines.specs.Lines.{imsakOf, nineOf, rowText}
-use Rattle.lines.proofs.LinesLaws.{row-length}
-use borrow.Author.Needs.{needs}
-use Rattle.lines.proofs.row.put_ten.Statement.{statement}
-use Rattle.lines.proofs.row.put_ten.Tie as tie
+use Rattle.lines.proofs.row.put_ten as this
 
-returns : tie.Need-returns
+returns : this.Tie.Need-returns
 returns c =
-    let t = c .before .before .before .before .before .before .before .before in
+    let t = c .before .before .before .before in
     let i = t .before .imsak in
     let a = t .before .before .before .before .before .args in
     let known = t .before .before .struct-told .given in
     let k : readBack w64 (i .result) ≡ i .result = search needs in
     let f : SFits w64 (a .times .fajr) = search needs in
     let first = k ∙ i .ensures ∙ ap (imsakOf (a .minutes)) (toZ-ofZ f) in
-    let columns = t .ten .ensures ∙ ap (λ (z : ℤ). z ∷ nineOf (a .times)) first in
-    let filled = c .before .before .before .before .before .before .fill-row .ensures ∙ ap (rowText (a .date)) columns in
-    (sym (row-length (a .date) (imsakOf (a .minutes) (a .times .fajr) ∷ nineOf (a .times))), c .before .before .put .ensures ∙ ap (putOf (now (a .buffer)) (a .at)) filled)
+    let row = ap (rowText (a .date)) (t .ten .ensures ∙ ap (λ (z : ℤ). z ∷ nineOf (a .times)) first) in
+    let put = c .before .before .put-columns in
+    (put .ensures .0 ∙ ap length row, put .ensures .1 ∙ ap (putOf (now (a .buffer)) (a .at)) row)
 
-pub put-ten-spec : {M : Type 1} → statement M
+pub put-ten-spec : {M : Type 1} → this.Statement.statement M
 put-ten-spec =
-    tie.close
-    (tie.spec (λ c. search needs) (λ c κs. search needs) (λ c κs. search needs) (λ c. search needs) (λ c κs. search needs) (λ c. search needs) (λ c κs. search needs) (λ c. search needs) returns)
+    this.Tie.close
+    (this.Tie.spec (λ c κs. search needs) (λ c κs. search needs) (λ c. search needs) (λ c κs. search needs) (λ c. search needs) returns)

@@ -1,13 +1,12 @@
 use Rattle.lines.specs.Lines.{dateText}
-use borrow.Author.Needs.{needs}
-use Rattle.lines.proofs.times.date_text.Statement.{statement}
-use Rattle.lines.proofs.times.date_text.Tie as tie
+use Rattle.prelude.proofs.Logic.{needs}
+use Rattle.lines.proofs.times.date_text as this
 
-returns : tie.Need-returns
+returns : this.Tie.Need-returns
 unfolding dateText
 returns c = cc
 
-pub date-text-spec : {M : Type 1} → statement M
+pub date-text-spec : {M : Type 1} → this.Statement.statement M
 date-text-spec =
-    tie.close
-    (tie.spec (λ c. search needs) (λ c. search needs) (λ c. search needs) (λ c κs. search needs) (λ c κs. search needs) (λ c κs. search needs) (λ c κs. search needs) (λ c κs. search needs) (λ c κs. search needs) (λ c κs. search needs) (λ c κs. search needs) returns)
+    this.Tie.close
+    (this.Tie.spec (λ c. search needs) (λ c. search needs) (λ c. search needs) (λ c κs. search needs) (λ c κs. search needs) (λ c κs. search needs) (λ c κs. search needs) (λ c κs. search needs) (λ c κs. search needs) (λ c κs. search needs) (λ c κs. search needs) returns)

@@ -1,16 +1,10 @@
-use mathlib.Core.Path.{_≡_, sym, ap, subst, _∙_}
-use mir.Syntax.{w64}
+use Rattle.prelude.proofs.Logic.{_≡_, sym, ap, subst, _∙_, _^_, _<_, ℤ, _-ℤ_, needs, w64, SFits}
 use Rattle.integers.proofs.Ranges.{readBack, read}
 use Rattle.lines.proofs.Instants as instants
-use Prim.Native.Nat.{_^_, _<_}
-use lib.IntN.{ℤ, _-ℤ_}
-use mir.Val.{SFits}
 use Rattle.integers.specs.Quotients.{floorQuot}
-use borrow.Author.Needs.{needs}
-use Rattle.lines.proofs.times.days_from.Statement.{statement}
-use Rattle.lines.proofs.times.days_from.Tie as tie
+use Rattle.lines.proofs.times.days_from as this
 
-sub-result : tie.Need-sub-result
+sub-result : this.Tie.Need-sub-result
 sub-result c =
     let t = c .before .before .before in
     let q : readBack w64 (c .before .before .day-of .result) ≡ c .before .before .day-of .result = search needs in
@@ -20,7 +14,7 @@ sub-result c =
     let y : t .args .dated .date .year < 2 ^ 32 = search needs in
     subst (SFits w64) (sym e) (instants.days-fit (t .args .time) (t .args .dated .date) (t .fits .time) y)
 
-returns : tie.Need-returns
+returns : this.Tie.Need-returns
 returns c =
     let t = c .before .before .before in
     let q : readBack w64 (c .before .before .day-of .result) ≡ c .before .before .day-of .result = search needs in
@@ -29,5 +23,5 @@ returns c =
     let e = ap (λ (z : ℤ). z -ℤ readBack w64 (t .args .dated .day)) day ∙ ap (λ (z : ℤ). floorQuot (t .args .time) 86400 -ℤ z) (n ∙ t .pre) in
     read w64 _ (sub-result c) ∙ e
 
-pub days-from-spec : {M : Type 1} → statement M
-days-from-spec = tie.close (tie.spec (λ c κs. search needs) sub-result returns)
+pub days-from-spec : {M : Type 1} → this.Statement.statement M
+days-from-spec = this.Tie.close (this.Tie.spec (λ c κs. search needs) sub-result returns)

@@ -1,15 +1,10 @@
-use mathlib.Core.Path.{sym, ap, subst, _∙_}
-use mir.Syntax.{w64}
+use Rattle.prelude.proofs.Logic.{sym, ap, subst, _∙_, ℕ, _+_, needs, w64, Fits}
 use Rattle.integers.proofs.Ranges.{read}
 use Rattle.lines.proofs.Instants as instants
-use Prim.Native.Nat.{ℕ, _+_}
-use mir.Val.{Fits}
 use Rattle.integers.specs.Parts.{P, N}
-use borrow.Author.Needs.{needs}
-use Rattle.lines.proofs.times.size.Statement.{statement}
-use Rattle.lines.proofs.times.size.Tie as tie
+use Rattle.lines.proofs.times.size as this
 
-add-result : tie.Need-add-result
+add-result : this.Tie.Need-add-result
 add-result c =
     let t = c .before .before in
     let z = read w64 (t .args .days) (t .fits .days) in
@@ -17,7 +12,7 @@ add-result c =
     let b = c .below .ensures ∙ ap N z in
     subst (Fits w64) (sym (ap (λ (n : ℕ). n + c .below .result) a ∙ ap (λ (n : ℕ). P (t .args .days) + n) b)) (instants.size-fits (t .args .days) (t .fits .days))
 
-returns : tie.Need-returns
+returns : this.Tie.Need-returns
 returns c =
     let t = c .before .before in
     let z = read w64 (t .args .days) (t .fits .days) in
@@ -25,5 +20,5 @@ returns c =
     let b = c .below .ensures ∙ ap N z in
     cc
 
-pub size-spec : {M : Type 1} → statement M
-size-spec = tie.close (tie.spec (λ c κs. search needs) (λ c κs. search needs) add-result returns)
+pub size-spec : {M : Type 1} → this.Statement.statement M
+size-spec = this.Tie.close (this.Tie.spec (λ c κs. search needs) (λ c κs. search needs) add-result returns)

@@ -1,27 +1,41 @@
-use mathlib.Core.Path.{_≡_, ap, _∙_}
-use lib.IntN.{ℤ}
-use mir.Syntax.{w64}
+use Rattle.prelude.proofs.Logic.{_≡_, ap, _∙_, ℕ, _-_, _*_, _/_, _%_, ℤ, arith, lit<, needs, w64}
 use Rattle.integers.specs.Quotients.{floorRem}
+use Rattle.integers.proofs.QuotientLaws.{floored}
 use Rattle.integers.proofs.Ranges.{readBack, read}
-use Rattle.lines.specs.Lines.{daysOf, signOf, sizeOf, timeText}
-use borrow.Author.Needs.{needs}
-use Rattle.lines.proofs.times.time_text.Statement.{statement}
-use Rattle.lines.proofs.times.time_text.Tie as tie
+use Rattle.text.specs.Text.{digitOf}
+use Rattle.lines.specs.Lines.{daysOf, signOf, magnitudeOf, timeText}
+use Rattle.lines.proofs.times.time_text as this
 
-returns : tie.Need-returns
+two-digits-requires : this.Tie.Need-two-digits-requires
+two-digits-requires c κs =
+    let h = floored (readBack w64 (c .before .args .time)) 86400 (lit< tt) .below in
+    omega (arith, h, c .compared .ensures .2)
+
+returns : this.Tie.Need-returns
 unfolding timeText
 returns c =
-    let t = c .before .before .before .before .before .before .before .before .before .before .before in
-    let days = c .before .before .before .before .before .before .before .before .before .before .days-from in
+    let t = c .before .before .before .before in
+    let moment = c .before .before .before .compared in
+    let hour = c .before .before .two-digits in
+    let minute = c .before .two-digits2 in
+    let rest = c .two-digits3 in
     let r = read w64 (t .args .time) (t .fits .time) in
-    let k : readBack w64 (days .result) ≡ days .result = search needs in
-    let d = k ∙ days .ensures ∙ ap (λ (z : ℤ). daysOf (t .args .dated .date) z) r in
-    let s = c .before .before .before .before .before .before .before .before .before .second-of-day .ensures ∙ ap (λ (z : ℤ). floorRem z 86400) r in
-    let sign = c .before .before .before .before .before .before .before .before .sign .ensures ∙ ap signOf d in
-    let size = c .before .before .before .before .before .before .before .size .ensures ∙ ap sizeOf d in
-    simp (c .digit7 .ensures, c .before .digit6 .ensures, c .before .before .digit5 .ensures, c .before .before .before .digit4 .ensures, c .before .before .before .before .digit3 .ensures, c .before .before .before .before .before .digit2 .ensures, c .before .before .before .before .before .before .digit .ensures, sign, size, s)
+    let days = ap (daysOf (t .args .dated .date)) r in
+    let s = moment .ensures .2 ∙ ap (λ (z : ℤ). floorRem z 86400) r in
+    let n : ℕ = moment .result .second in
+    let m : n / 60 - 60 * (n / 3600) ≡ n / 60 % 60 = omega arith in
+    let k : n - 60 * (n / 60) ≡ n % 60 = omega arith in
+    let sign = moment .ensures .0 ∙ ap signOf days in
+    let size = moment .ensures .1 ∙ ap (λ (z : ℤ). digitOf (magnitudeOf z)) days in
+    let h0 = hour .ensures .0 ∙ ap (λ (i : ℕ). digitOf (i / 3600 / 10)) s in
+    let h1 = hour .ensures .1 ∙ ap (λ (i : ℕ). digitOf (i / 3600)) s in
+    let m0 = minute .ensures .0 ∙ ap (λ (i : ℕ). digitOf (i / 10)) (m ∙ ap (λ (i : ℕ). i / 60 % 60) s) in
+    let m1 = minute .ensures .1 ∙ ap digitOf (m ∙ ap (λ (i : ℕ). i / 60 % 60) s) in
+    let r0 = rest .ensures .0 ∙ ap (λ (i : ℕ). digitOf (i / 10)) (k ∙ ap (λ (i : ℕ). i % 60) s) in
+    let r1 = rest .ensures .1 ∙ ap digitOf (k ∙ ap (λ (i : ℕ). i % 60) s) in
+    simp (sign, size, h0, h1, m0, m1, r0, r1)
 
-pub time-text-spec : {M : Type 1} → statement M
+pub time-text-spec : {M : Type 1} → this.Statement.statement M
 time-text-spec =
-    tie.close
-    (tie.spec (λ c κs. c .pre) (λ c κs. search needs) (λ c κs. search needs) (λ c κs. search needs) (λ c κs. search needs) (λ c κs. search needs) (λ c κs. search needs) (λ c κs. search needs) (λ c κs. search needs) (λ c κs. search needs) (λ c κs. search needs) returns)
+    this.Tie.close
+    (this.Tie.spec (λ c κs. c .pre) two-digits-requires (λ c. search needs) (λ c. search needs) (λ c κs. search needs) (λ c. search needs) (λ c. search needs) (λ c κs. search needs) returns)

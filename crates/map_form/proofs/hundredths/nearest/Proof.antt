@@ -1,40 +1,24 @@
 -- `map_form::hundredths::nearest` meets its contract: laws of the bit pattern, for what is under the smallest count and for the rest.
-use Prim.Native.Nat.{_-_, _/_, _%_, _^_}
-use native.Mathlib.Nat.{div-le-self}
-use native.Mathlib.Omega.{arith}
-use lib.Dec.{lit≤}
-use lib.Ieee.{binary64, toBits}
+use Rattle.prelude.proofs.Logic.{_-_, _/_, _%_, _^_, div-le-self, arith, lit≤, needs}
+use Rattle.float64.proofs.Floats.{binary64, toBits}
 use Rattle.map_form.proofs.Fields.{none, some, highest-field}
 use Rattle.map_form.proofs.Range.{no-nan, count-le}
-use borrow.Author.Needs.{needs}
-use Rattle.map_form.proofs.hundredths.nearest.Statement.{statement}
-use Rattle.map_form.proofs.hundredths.nearest.Tie as tie
+use Rattle.map_form.proofs.hundredths.nearest as this
 
-float-to-bits-b : tie.Need-float-to-bits-b
-float-to-bits-b c = no-nan (c .args .x) 180 (c .pre)
-
-returns : tie.Need-returns
-returns c =
-    let s = c .before in
-    (none (s .args .x) (s .good .0 .1) (s .pre) (c .if1 .taken), lit≤ tt)
-
-sub-result : tie.Need-sub-result
-sub-result c =
-    let s = c .before .before in
-    omega (arith, highest-field (s .args .x) (s .good .0 .1) (s .pre))
-
-add-result : tie.Need-add-result
-add-result c =
-    let s = c .before .before in
-    record { fits = omega (arith, div-le-self (c .scaled .result) (2 ^ (1054 - toBits binary64 (s .args .x) % 2 ^ 63 / 2 ^ 52))) }
-
-returns-2 : tie.Need-returns-2
+returns-2 : this.Tie.Need-returns-2
 returns-2 c =
     let s = c .before .before in
     let e = some (s .args .x) (s .good .0 .1) (s .pre) (c .before .if1 .left) (c .scaled .result) (c .scaled .ensures) in
     (e, rw e (count-le (s .args .x) 180 (s .pre)))
 
-pub nearest-spec : {M : Type 1} → statement M
+pub nearest-spec : {M : Type 1} → this.Statement.statement M
 nearest-spec =
-    tie.close
-    (tie.spec float-to-bits-b returns (λ c. search needs) (λ c κs. search needs) sub-result (λ c. search needs) add-result returns-2)
+    let returns : this.Tie.Need-returns = λ c. let s = c .before in
+    (none (s .args .x) (s .good .0 .1) (s .pre) (c .if1 .taken), lit≤ tt) in
+    this.Tie.close (this.Tie.spec (λ c. no-nan (c .args .x) 180 (c .pre)) returns (λ c. search needs) (λ c κs. search needs)
+    (λ c. let s = c .before .before in
+    omega (arith, highest-field (s .args .x) (s .good .0 .1) (s .pre)))
+    (λ c. search needs)
+    (λ c. let s = c .before .before in
+    record { fits = omega (arith, div-le-self (c .scaled .result) (2 ^ (1054 - toBits binary64 (s .args .x) % 2 ^ 63 / 2 ^ 52))) })
+    returns-2)

@@ -1,12 +1,10 @@
 -- `map_form::reading::fits` meets its contract.
 use Rattle.map_form.specs.Hundredths.{formFits}
-use borrow.Author.Needs.{needs}
-use Rattle.map_form.proofs.reading.fits.Statement.{statement}
-use Rattle.map_form.proofs.reading.fits.Tie as tie
+use Rattle.prelude.proofs.Logic.{needs}
+use Rattle.map_form.proofs.reading.fits as this
 
-returns : tie.Need-returns
+pub fits-spec : {M : Type 1} → this.Statement.statement M
 unfolding formFits
-returns c = rw (c .size .ensures .0)
-
-pub fits-spec : {M : Type 1} → statement M
-fits-spec = tie.close (tie.spec (λ c κs. search needs) (λ c. search needs) returns)
+fits-spec =
+    let returns : this.Tie.Need-returns = λ c. rw (c .size .ensures .0) in
+    this.Tie.close (this.Tie.spec (λ c κs. search needs) (λ c. search needs) returns)

@@ -1,27 +1,21 @@
 -- `map_form::writing::sign_of` meets its contract: a law for a zero and one for all else.
-use mathlib.Core.Path.{_≡_, sym, ap, _∙_}
-use mathlib.Core.Bool.{Bool, cond}
-use Prim.Native.Nat.{ℕ}
-use Rattle.float64.specs.Words.{isNegativeOf}
+use Rattle.prelude.proofs.Logic.{sym, ap, _∙_, Bool, cond, needs}
+use Rattle.float64.proofs.Floats.{isNegativeOf}
 use Rattle.map_form.proofs.Signs.{naught, some}
-use borrow.Author.Needs.{needs}
-use Rattle.map_form.proofs.writing.sign_of.Statement.{statement}
-use Rattle.map_form.proofs.writing.sign_of.Tie as tie
+use Rattle.map_form.proofs.writing.sign_of as this
 
-returns : tie.Need-returns
-returns c = naught (isNegativeOf (c .before .args .x)) (c .before .args .n) (c .if1 .taken)
-
-returns-2 : tie.Need-returns-2
+returns-2 : this.Tie.Need-returns-2
 returns-2 c =
     let e = c .before .before in
     let a = e .before .args in
     ap (λ (b : Bool). cond b 1 0) (sym (c .if2 .taken) ∙ c .before .is-negative .ensures) ∙ some (isNegativeOf (a .x)) (a .n) (e .if1 .left)
 
-returns-3 : tie.Need-returns-3
+returns-3 : this.Tie.Need-returns-3
 returns-3 c =
     let e = c .before .before in
     let a = e .before .args in
     ap (λ (b : Bool). cond b 1 0) (sym (c .if2 .left) ∙ c .before .is-negative .ensures) ∙ some (isNegativeOf (a .x)) (a .n) (e .if1 .left)
 
-pub sign-of-spec : {M : Type 1} → statement M
-sign-of-spec = tie.close (tie.spec returns (λ c κs. search needs) returns-2 returns-3)
+pub sign-of-spec : {M : Type 1} → this.Statement.statement M
+sign-of-spec = this.Tie.close (this.Tie.spec (λ c. naught (isNegativeOf (c .before .args .x)) (c .before .args .n) (c .if1 .taken))
+    (λ c κs. search needs) returns-2 returns-3)

@@ -1,22 +1,15 @@
-use Prim.Native.Nat.{ℕ}
-use mathlib.Core.Path.{_≡_, ap, _∙_}
-use lib.Dec.{eqb}
-use lib.IntN.{ℤ}
-use mir.Syntax.{w64}
-use Rattle.integers.specs.Quotients.{floorQuot}
-use Rattle.integers.proofs.Ranges.{readBack, read}
+use Rattle.prelude.proofs.Logic.{_≡_, ap, _∙_, ℕ, eqb, ℤ, needs, w64}
+use Rattle.integers.proofs.Integers.{floorQuot, readBack, read}
 use Rattle.calendar.specs.Days.{weekdayOf}
 use Rattle.models.specs.Names.{isFridayOf}
-use borrow.Author.Needs.{needs}
-use Rattle.models.proofs.prayer.is_friday.Statement.{statement}
-use Rattle.models.proofs.prayer.is_friday.Tie as tie
+use Rattle.models.proofs.prayer.is_friday as this
 
-returns : tie.Need-returns
+returns : this.Tie.Need-returns
 unfolding isFridayOf
 returns c =
     let t = c .before .before in let k : readBack w64 (c .before .day-of .result) ≡ c .before .day-of .result = search needs in
     let s = ap (λ (z : ℤ). floorQuot z 86400) (read w64 (t .args .seconds) (t .fits .seconds)) in
     ap (λ (n : ℕ). eqb n 5) (c .weekday .ensures ∙ ap weekdayOf (k ∙ c .before .day-of .ensures ∙ s))
 
-pub is-friday-spec : {M : Type 1} → statement M
-is-friday-spec = tie.close (tie.spec (λ c κs. tt) (λ c κs. tt) returns)
+pub is-friday-spec : {M : Type 1} → this.Statement.statement M
+is-friday-spec = this.Tie.close (this.Tie.spec (λ c κs. tt) (λ c κs. tt) returns)

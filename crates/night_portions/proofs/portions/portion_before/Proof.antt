@@ -1,12 +1,9 @@
-use mir.Syntax.{w32, w64}
-use mir.Val.{SFits}
+use Rattle.prelude.proofs.Logic.{needs, w32, w64, SFits}
 use Rattle.integers.proofs.Ranges.{read}
 use Rattle.night_portions.specs.Portions.{portionBeforeOf}
-use borrow.Author.Needs.{needs}
-use Rattle.night_portions.proofs.portions.portion_before.Statement.{statement}
-use Rattle.night_portions.proofs.portions.portion_before.Tie as tie
+use Rattle.night_portions.proofs.portions.portion_before as this
 
-returns : tie.Need-returns
+returns : this.Tie.Need-returns
 unfolding portionBeforeOf
 returns c =
     let s = c .before .before in
@@ -14,5 +11,5 @@ returns c =
     simp (read w32 (c .to-i32 .result) r)
     (simp (c .to-i32 .ensures, c .before .nearest-i64-to-f64 .ensures, read w64 (s .args .night) (s .fits .night)))
 
-pub portion-before-spec : {M : Type 1} → statement M
-portion-before-spec = tie.close (tie.spec (λ c κs. search needs) (λ c κs. tt) returns)
+pub portion-before-spec : {M : Type 1} → this.Statement.statement M
+portion-before-spec = this.Tie.close (this.Tie.spec (λ c κs. search needs) (λ c κs. tt) returns)

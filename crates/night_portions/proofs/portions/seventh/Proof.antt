@@ -1,13 +1,9 @@
-use lib.Dec.{lit<}
+use Rattle.prelude.proofs.Logic.{lit<}
 use Rattle.night_portions.proofs.Sevenths.{seventh-fits, seventh-read}
-use Rattle.night_portions.proofs.portions.seventh.Statement.{statement}
-use Rattle.night_portions.proofs.portions.seventh.Tie as tie
+use Rattle.night_portions.proofs.portions.seventh as this
 
-div-result : tie.Need-div-result
-div-result c = (lit< tt, seventh-fits (c .args .night) (c .fits .night))
-
-returns : tie.Need-returns
+returns : this.Tie.Need-returns
 returns c = seventh-read (c .args .night) (c .fits .night)
 
-pub seventh-spec : {M : Type 1} → statement M
-seventh-spec = tie.close (tie.spec div-result returns)
+pub seventh-spec : {M : Type 1} → this.Statement.statement M
+seventh-spec = this.Tie.close (this.Tie.spec (λ c. (lit< tt, seventh-fits (c .args .night) (c .fits .night))) returns)

@@ -1,12 +1,10 @@
-use Rattle.float64.specs.Ops.{dec}
+use Rattle.float64.proofs.Floats.{dec}
 use Rattle.ops.specs.Transit.{interpolateOf}
 use Rattle.ops.specs.Shared.{interpolatedOf}
-use Rattle.ops.proofs.interpolation.interpolate.Statement.{statement}
-use Rattle.ops.proofs.interpolation.interpolate.Tie as tie
+use Rattle.ops.proofs.interpolation.interpolate as this
 
-returns : tie.Need-returns
+pub interpolate-spec : {M : Type 1} → this.Statement.statement M
 unfolding interpolateOf interpolatedOf dec
-returns c = simp (c .at .ensures, c .before .new .ensures)
-
-pub interpolate-spec : {M : Type 1} → statement M
-interpolate-spec = tie.close (tie.spec (λ c κs. tt) (λ c κs. tt) returns)
+interpolate-spec =
+    let returns : this.Tie.Need-returns = λ c. simp (c .at .ensures, c .before .new .ensures) in
+    this.Tie.close (this.Tie.spec (λ c κs. tt) (λ c κs. tt) returns)

@@ -1,12 +1,10 @@
-use Rattle.float64.specs.Ops.{dec}
+use Rattle.float64.proofs.Floats.{dec}
 use Rattle.ops.specs.Transit.{interpolateAnglesOf}
 use Rattle.ops.specs.Shared.{interpolatedOf}
-use Rattle.ops.proofs.interpolation.interpolate_angles.Statement.{statement}
-use Rattle.ops.proofs.interpolation.interpolate_angles.Tie as tie
+use Rattle.ops.proofs.interpolation.interpolate_angles as this
 
-returns : tie.Need-returns
+pub interpolate-angles-spec : {M : Type 1} → this.Statement.statement M
 unfolding interpolateAnglesOf interpolatedOf dec
-returns c = simp (c .new .ensures, c .before .at .ensures, c .before .before .of-angles .ensures)
-
-pub interpolate-angles-spec : {M : Type 1} → statement M
-interpolate-angles-spec = tie.close (tie.spec (λ c κs. tt) (λ c κs. tt) (λ c κs. tt) returns)
+interpolate-angles-spec =
+    let returns : this.Tie.Need-returns = λ c. simp (c .new .ensures, c .before .at .ensures, c .before .before .of-angles .ensures) in
+    this.Tie.close (this.Tie.spec (λ c κs. tt) (λ c κs. tt) (λ c κs. tt) returns)

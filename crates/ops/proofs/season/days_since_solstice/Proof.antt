@@ -1,23 +1,10 @@
-use Prim.Native.Nat.{ℕ, _+_, _%_, _<_}
-use mathlib.Core.Path.{sym, ap, _∙_}
-use lib.Ieee.{round, ofBits}
-use borrow.Author.Tests.{le-leb, lt-leb}
-use Rattle.float64.specs.Ops.{dec}
+use Rattle.prelude.proofs.Logic.{sym, ap, _∙_, ℕ, _+_, _%_, _<_, needs, le-leb, lt-leb}
+use Rattle.float64.proofs.Floats.{round, ofBits, dec}
 use Rattle.ops.specs.Season.{daysSinceSolsticeOf}
 use Rattle.ops.proofs.Wrapped.{wrapped}
-use borrow.Author.Needs.{needs}
-use Rattle.ops.proofs.season.days_since_solstice.Statement.{statement}
-use Rattle.ops.proofs.season.days_since_solstice.Tie as tie
+use Rattle.ops.proofs.season.days_since_solstice as this
 
-returns : tie.Need-returns
-unfolding daysSinceSolsticeOf dec round ofBits
-returns c = simp (sym (c .before .wrapping-add-u32 .ensures), sym (c .before .before .before .days-in-year .ensures), c .before .before .if1 .taken, le-leb _ _ (c .if2 .taken))
-
-returns-2 : tie.Need-returns-2
-unfolding daysSinceSolsticeOf dec round ofBits
-returns-2 c = simp (sym (c .before .wrapping-add-u32 .ensures), sym (c .before .before .before .days-in-year .ensures), c .before .before .if1 .taken, lt-leb _ _ (c .if2 .left))
-
-returns-3 : tie.Need-returns-3
+returns-3 : this.Tie.Need-returns-3
 unfolding daysSinceSolsticeOf dec round ofBits
 returns-3 c =
     let a = c .before .before .before .before .before in
@@ -28,5 +15,9 @@ returns-3 c =
     let sub = ap (λ (n : ℕ). (r + n) % 4294967296) (sym o) ∙ c .before .wrapping-sub-u32 .ensures in
     simp (c .before .before .before .if1 .left) (c .wrapping-add-u322 .ensures ∙ ap (λ (n : ℕ). (r + n) % 4294967296) d ∙ wrapped r (a .args .day-of-year) (a .args .year) fits (a .fits .day-of-year .fits) sub)
 
-pub days-since-solstice-spec : {M : Type 1} → statement M
-days-since-solstice-spec = tie.close (tie.spec (λ c κs. tt) (λ c κs. tt) (λ c κs. tt) (λ c κs. tt) (λ c κs. tt) returns returns-2 returns-3)
+pub days-since-solstice-spec : {M : Type 1} → this.Statement.statement M
+unfolding daysSinceSolsticeOf dec round ofBits
+days-since-solstice-spec =
+    let returns : this.Tie.Need-returns = λ c. simp (sym (c .before .wrapping-add-u32 .ensures), sym (c .before .before .before .days-in-year .ensures), c .before .before .if1 .taken, le-leb _ _ (c .if2 .taken)) in
+    let returns-2 : this.Tie.Need-returns-2 = λ c. simp (sym (c .before .wrapping-add-u32 .ensures), sym (c .before .before .before .days-in-year .ensures), c .before .before .if1 .taken, lt-leb _ _ (c .if2 .left)) in
+    this.Tie.close (this.Tie.spec (λ c κs. tt) (λ c κs. tt) (λ c κs. tt) (λ c κs. tt) (λ c κs. tt) returns returns-2 returns-3)

@@ -1,18 +1,12 @@
-use mathlib.Core.Path.{_≡_, _∙_}
-use lib.Ieee.{round, ofBits}
-use mir.Syntax.{w32}
-use Rattle.integers.proofs.Ranges.{readBack}
-use Rattle.float64.specs.Ops.{dec}
+use Rattle.prelude.proofs.Logic.{_≡_, _∙_, needs, w32}
+use Rattle.float64.proofs.Floats.{round, ofBits, dec}
+use Rattle.integers.proofs.Integers.{readBack}
 use Rattle.ops.specs.Season.{morningSecondsOf}
-use borrow.Author.Needs.{needs}
-use Rattle.ops.proofs.season.morning_twilight_seconds.Statement.{statement}
-use Rattle.ops.proofs.season.morning_twilight_seconds.Tie as tie
+use Rattle.ops.proofs.season.morning_twilight_seconds as this
 
-returns : tie.Need-returns
+pub morning-twilight-seconds-spec : {M : Type 1} → this.Statement.statement M
 unfolding morningSecondsOf dec round ofBits
-returns c =
-    let k : readBack w32 (c .to-i32 .result) ≡ c .to-i32 .result = search needs in
-    k ∙ simp (c .to-i32 .ensures, c .before .round .ensures, c .before .before .season-minutes .ensures)
-
-pub morning-twilight-seconds-spec : {M : Type 1} → statement M
-morning-twilight-seconds-spec = tie.close (tie.spec (λ c κs. tt) (λ c κs. tt) (λ c κs. tt) returns)
+morning-twilight-seconds-spec =
+    let returns : this.Tie.Need-returns = λ c. let k : readBack w32 (c .to-i32 .result) ≡ c .to-i32 .result = search needs in
+    k ∙ simp (c .to-i32 .ensures, c .before .round .ensures, c .before .before .season-minutes .ensures) in
+    this.Tie.close (this.Tie.spec (λ c κs. tt) (λ c κs. tt) (λ c κs. tt) returns)

@@ -1,23 +1,12 @@
-use mathlib.Core.Path.{_≡_, ap, _∙_}
-use mir.Syntax.{w32, w64}
-use mir.Val.{SFits}
-use Rattle.integers.proofs.Ranges.{readBack, read, wide, read-wide}
-use Rattle.integers.proofs.Sums.{summands}
+use Rattle.prelude.proofs.Logic.{_≡_, ap, _∙_, ℤ, needs, w32, w64, SFits}
+use Rattle.integers.proofs.Integers.{readBack, read, wide, read-wide, summands}
 use Rattle.models.specs.declared.rules.Season.{Season}
 use Rattle.stride.specs.Times.{satOf, roundedOf}
 use Rattle.ops.specs.Season.{eveningSecondsOf}
-use lib.IntN.{ℤ}
 use Rattle.models.specs.declared.rounding.Rounding.the-variants.{Nearest}
-use borrow.Author.Needs.{needs}
-use Rattle.ops.proofs.season.season_adjusted_evening_twilight.Statement.{statement}
-use Rattle.ops.proofs.season.season_adjusted_evening_twilight.Tie as tie
+use Rattle.ops.proofs.season.season_adjusted_evening_twilight as this
 
-cast-plus : tie.Need-cast-plus
-cast-plus c =
-    let f : SFits w32 (c .evening-twilight-seconds .result) = search needs in
-    wide (c .evening-twilight-seconds .result) f
-
-returns : tie.Need-returns
+returns : this.Tie.Need-returns
 returns c =
     let t = c .before .before .before .before in
     let z = c .before .before .evening-twilight-seconds .result in
@@ -27,5 +16,8 @@ returns c =
     let s = summands (read w64 (t .args .sunset) (t .fits .sunset)) (read-wide z f ∙ c .before .before .evening-twilight-seconds .ensures ∙ ap (λ (x : Season). eveningSecondsOf x (t .args .day) (t .args .year) (t .args .shafaq)) (c .before .before .before .source-season .ensures)) in
     k ∙ c .rounded-minute .ensures ∙ ap (λ (x : ℤ). satOf (roundedOf Nearest x)) (p ∙ c .before .plus .ensures ∙ ap satOf s)
 
-pub season-adjusted-evening-twilight-spec : {M : Type 1} → statement M
-season-adjusted-evening-twilight-spec = tie.close (tie.spec (λ c κs. tt) (λ c κs. tt) cast-plus (λ c κs. tt) (λ c κs. tt) returns)
+pub season-adjusted-evening-twilight-spec : {M : Type 1} → this.Statement.statement M
+season-adjusted-evening-twilight-spec = this.Tie.close (this.Tie.spec (λ c κs. tt) (λ c κs. tt)
+    (λ c. let f : SFits w32 (c .evening-twilight-seconds .result) = search needs in
+    wide (c .evening-twilight-seconds .result) f)
+    (λ c κs. tt) (λ c κs. tt) returns)

@@ -1,21 +1,11 @@
-use mathlib.Core.Path.{_≡_, ap, _∙_}
-use mir.Syntax.{w32, w64}
-use mir.Val.{SFits}
-use Rattle.integers.proofs.Ranges.{readBack, read, wide, read-wide}
-use Rattle.integers.proofs.Sums.{summands}
+use Rattle.prelude.proofs.Logic.{_≡_, ap, _∙_, needs, w32, w64, SFits}
+use Rattle.integers.proofs.Integers.{readBack, read, wide, read-wide, summands}
 use Rattle.models.specs.declared.rules.Season.{Season}
 use Rattle.stride.specs.Times.{satOf}
 use Rattle.ops.specs.Season.{morningSecondsOf}
-use borrow.Author.Needs.{needs}
-use Rattle.ops.proofs.season.season_adjusted_morning_twilight.Statement.{statement}
-use Rattle.ops.proofs.season.season_adjusted_morning_twilight.Tie as tie
+use Rattle.ops.proofs.season.season_adjusted_morning_twilight as this
 
-cast-plus : tie.Need-cast-plus
-cast-plus c =
-    let f : SFits w32 (c .morning-twilight-seconds .result) = search needs in
-    wide (c .morning-twilight-seconds .result) f
-
-returns : tie.Need-returns
+returns : this.Tie.Need-returns
 returns c =
     let t = c .before .before .before in
     let z = c .before .morning-twilight-seconds .result in
@@ -23,5 +13,8 @@ returns c =
     let k : readBack w64 (c .plus .result) ≡ c .plus .result = search needs in
     k ∙ c .plus .ensures ∙ ap satOf (summands (read w64 (t .args .sunrise) (t .fits .sunrise)) (read-wide z f ∙ c .before .morning-twilight-seconds .ensures ∙ ap (λ (x : Season). morningSecondsOf x (t .args .day) (t .args .year)) (c .before .before .source-season .ensures)))
 
-pub season-adjusted-morning-twilight-spec : {M : Type 1} → statement M
-season-adjusted-morning-twilight-spec = tie.close (tie.spec (λ c κs. tt) (λ c κs. tt) cast-plus (λ c κs. tt) returns)
+pub season-adjusted-morning-twilight-spec : {M : Type 1} → this.Statement.statement M
+season-adjusted-morning-twilight-spec = this.Tie.close (this.Tie.spec (λ c κs. tt) (λ c κs. tt)
+    (λ c. let f : SFits w32 (c .morning-twilight-seconds .result) = search needs in
+    wide (c .morning-twilight-seconds .result) f)
+    (λ c κs. tt) returns)

@@ -1,15 +1,10 @@
-use mathlib.Core.Path.{sym}
+use Rattle.prelude.proofs.Logic.{sym}
 use Rattle.ops.specs.Season.{southernOffsetOf}
-use Rattle.ops.proofs.season.southern_offset.Statement.{statement}
-use Rattle.ops.proofs.season.southern_offset.Tie as tie
+use Rattle.ops.proofs.season.southern_offset as this
 
-returns : tie.Need-returns
+pub southern-offset-spec : {M : Type 1} → this.Statement.statement M
 unfolding southernOffsetOf
-returns c = simp (sym (c .before .is-leap-year .ensures), c .if1 .taken)
-
-returns-2 : tie.Need-returns-2
-unfolding southernOffsetOf
-returns-2 c = simp (sym (c .before .is-leap-year .ensures), c .if1 .left)
-
-pub southern-offset-spec : {M : Type 1} → statement M
-southern-offset-spec = tie.close (tie.spec (λ c κs. tt) returns returns-2)
+southern-offset-spec =
+    let returns : this.Tie.Need-returns = λ c. simp (sym (c .before .is-leap-year .ensures), c .if1 .taken) in
+    let returns-2 : this.Tie.Need-returns-2 = λ c. simp (sym (c .before .is-leap-year .ensures), c .if1 .left) in
+    this.Tie.close (this.Tie.spec (λ c κs. tt) returns returns-2)

@@ -1,11 +1,7 @@
-use Rattle.ops.proofs.sun.apparent_solar_longitude.Statement.{statement}
-use Rattle.ops.proofs.sun.apparent_solar_longitude.Tie as tie
+use Rattle.ops.proofs.sun.apparent_solar_longitude as this
 
-corrected-longitude-requires : tie.Need-corrected-longitude-requires
-corrected-longitude-requires c κs = simp (c .sin .ensures, c .before .radians .ensures, c .before .before .omega .ensures)
-
-returns : tie.Need-returns
-returns c = c .corrected-longitude .ensures
-
-pub apparent-solar-longitude-spec : {M : Type 1} → statement M
-apparent-solar-longitude-spec = tie.close (tie.spec (λ c κs. tt) (λ c κs. tt) (λ c κs. tt) corrected-longitude-requires returns)
+pub apparent-solar-longitude-spec : {M : Type 1} → this.Statement.statement M
+apparent-solar-longitude-spec =
+    let returns : this.Tie.Need-returns = λ c. c .corrected-longitude .ensures in
+    this.Tie.close (this.Tie.spec (λ c κs. tt) (λ c κs. tt) (λ c κs. tt)
+    (λ c κs. simp (c .sin .ensures, c .before .radians .ensures, c .before .before .omega .ensures)) returns)

@@ -1,12 +1,10 @@
-use lib.Ieee.{round, ofBits}
-use Rattle.float64.specs.Ops.{dec}
+use Rattle.float64.proofs.Floats.{round, ofBits, dec}
 use Rattle.ops.specs.Sun.{ascendingLunarNodeLongitudeOf}
-use Rattle.ops.proofs.sun.ascending_lunar_node_longitude.Statement.{statement}
-use Rattle.ops.proofs.sun.ascending_lunar_node_longitude.Tie as tie
+use Rattle.ops.proofs.sun.ascending_lunar_node_longitude as this
 
-returns : tie.Need-returns
+pub ascending-lunar-node-longitude-spec : {M : Type 1} → this.Statement.statement M
 unfolding ascendingLunarNodeLongitudeOf dec round ofBits
-returns c = simp (c .unwound .ensures, c .before .new .ensures, c .before .before .cubed .ensures, c .before .before .before .squared .ensures)
-
-pub ascending-lunar-node-longitude-spec : {M : Type 1} → statement M
-ascending-lunar-node-longitude-spec = tie.close (tie.spec (λ c κs. tt) (λ c κs. tt) (λ c κs. tt) (λ c κs. tt) returns)
+ascending-lunar-node-longitude-spec =
+    let returns : this.Tie.Need-returns = λ c.
+    simp (c .unwound .ensures, c .before .new .ensures, c .before .before .cubed .ensures, c .before .before .before .squared .ensures) in
+    this.Tie.close (this.Tie.spec (λ c κs. tt) (λ c κs. tt) (λ c κs. tt) (λ c κs. tt) returns)

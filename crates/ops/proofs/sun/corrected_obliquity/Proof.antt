@@ -1,12 +1,9 @@
-use lib.Ieee.{round, ofBits}
-use Rattle.float64.specs.Ops.{dec}
+use Rattle.float64.proofs.Floats.{round, ofBits, dec}
 use Rattle.ops.specs.Sun.{apparentObliquityOfTheEclipticOf}
-use Rattle.ops.proofs.sun.corrected_obliquity.Statement.{statement}
-use Rattle.ops.proofs.sun.corrected_obliquity.Tie as tie
+use Rattle.ops.proofs.sun.corrected_obliquity as this
 
-returns : tie.Need-returns
+pub corrected-obliquity-spec : {M : Type 1} → this.Statement.statement M
 unfolding apparentObliquityOfTheEclipticOf dec round ofBits
-returns c = simp (c .new .ensures, c .before .before .pre)
-
-pub corrected-obliquity-spec : {M : Type 1} → statement M
-corrected-obliquity-spec = tie.close (tie.spec (λ c κs. tt) returns)
+corrected-obliquity-spec =
+    let returns : this.Tie.Need-returns = λ c. simp (c .new .ensures, c .before .before .pre) in
+    this.Tie.close (this.Tie.spec (λ c κs. tt) returns)

@@ -1,13 +1,10 @@
-use lib.Ieee.{round, ofBits}
-use Rattle.float64.specs.Ops.{dec}
-use mathlib.Core.Path.{refl}
+use Rattle.float64.proofs.Floats.{round, ofBits, dec}
+use Rattle.prelude.proofs.Logic.{refl}
 use Rattle.ops.specs.Sun.{julianCenturyOf}
-use Rattle.ops.proofs.sun.julian_century.Statement.{statement}
-use Rattle.ops.proofs.sun.julian_century.Tie as tie
+use Rattle.ops.proofs.sun.julian_century as this
 
-returns : tie.Need-returns
+pub julian-century-spec : {M : Type 1} → this.Statement.statement M
 unfolding julianCenturyOf dec round ofBits
-returns c = refl
-
-pub julian-century-spec : {M : Type 1} → statement M
-julian-century-spec = tie.close (tie.spec returns)
+julian-century-spec =
+    let returns : this.Tie.Need-returns = λ c. refl in
+    this.Tie.close (this.Tie.spec returns)

@@ -1,8 +1,6 @@
-use Rattle.ops.proofs.sun.nutation_in_longitude.Statement.{statement}
-use Rattle.ops.proofs.sun.nutation_in_longitude.Tie as tie
+use Rattle.ops.proofs.sun.nutation_in_longitude as this
 
-returns : tie.Need-returns
-returns c = simp (c .nutations .ensures)
-
-pub nutation-in-longitude-spec : {M : Type 1} → statement M
-nutation-in-longitude-spec = tie.close (tie.spec (λ c κs. tt) returns)
+pub nutation-in-longitude-spec : {M : Type 1} → this.Statement.statement M
+nutation-in-longitude-spec =
+    let returns : this.Tie.Need-returns = λ c. simp (c .nutations .ensures) in
+    this.Tie.close (this.Tie.spec (λ c κs. tt) returns)

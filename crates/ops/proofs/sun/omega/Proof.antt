@@ -1,12 +1,7 @@
-use lib.Ieee.{round, ofBits}
-use Rattle.float64.specs.Ops.{dec}
+use Rattle.float64.proofs.Floats.{round, ofBits, dec}
 use Rattle.ops.specs.Sun.{omegaOf}
-use Rattle.ops.proofs.sun.omega.Statement.{statement}
-use Rattle.ops.proofs.sun.omega.Tie as tie
+use Rattle.ops.proofs.sun.omega as this
 
-returns : tie.Need-returns
+pub omega-spec : {M : Type 1} → this.Statement.statement M
 unfolding omegaOf dec round ofBits
-returns c = simp (c .new .ensures)
-
-pub omega-spec : {M : Type 1} → statement M
-omega-spec = tie.close (tie.spec (λ c κs. tt) returns)
+omega-spec = this.Tie.close (this.Tie.spec (λ c κs. tt) (λ c. simp (c .new .ensures)))

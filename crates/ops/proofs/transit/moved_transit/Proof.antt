@@ -1,16 +1,9 @@
-use lib.Ieee.{round, ofBits}
-use Rattle.float64.specs.Ops.{dec}
+use Rattle.float64.proofs.Floats.{round, ofBits, dec}
 use Rattle.ops.specs.Shared.{movedTransitOf}
-use Rattle.ops.proofs.transit.moved_transit.Statement.{statement}
-use Rattle.ops.proofs.transit.moved_transit.Tie as tie
+use Rattle.ops.proofs.transit.moved_transit as this
 
-returns : tie.Need-returns
+pub moved-transit-spec : {M : Type 1} → this.Statement.statement M
 unfolding movedTransitOf dec round ofBits
-returns c = simp (c .if1 .taken)
-
-returns-2 : tie.Need-returns-2
-unfolding movedTransitOf dec round ofBits
-returns-2 c = simp (c .if1 .left)
-
-pub moved-transit-spec : {M : Type 1} → statement M
-moved-transit-spec = tie.close (tie.spec returns returns-2)
+moved-transit-spec =
+    let returns : this.Tie.Need-returns = λ c. simp (c .if1 .taken) in
+    this.Tie.close (this.Tie.spec returns (λ c. simp (c .if1 .left)))

@@ -1,12 +1,7 @@
-use lib.Ieee.{round, ofBits}
-use Rattle.float64.specs.Ops.{dec}
+use Rattle.float64.proofs.Floats.{round, ofBits, dec}
 use Rattle.ops.specs.Transit.{westOf}
-use Rattle.ops.proofs.transit.west.Statement.{statement}
-use Rattle.ops.proofs.transit.west.Tie as tie
+use Rattle.ops.proofs.transit.west as this
 
-returns : tie.Need-returns
+pub west-spec : {M : Type 1} → this.Statement.statement M
 unfolding westOf dec round ofBits
-returns c = simp (c .mul .ensures, c .before .new .ensures)
-
-pub west-spec : {M : Type 1} → statement M
-west-spec = tie.close (tie.spec (λ c κs. tt) (λ c κs. tt) returns)
+west-spec = this.Tie.close (this.Tie.spec (λ c κs. tt) (λ c κs. tt) (λ c. simp (c .mul .ensures, c .before .new .ensures)))

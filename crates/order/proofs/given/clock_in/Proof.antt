@@ -1,23 +1,18 @@
 -- `order::given::clock_in` meets its contract.
-use mathlib.Core.Path.{sym}
-use mir.Syntax.{w32}
-use mir.Val.{SFits}
-use mir.Facts.{toZ-ofZ}
+use Rattle.prelude.proofs.Logic.{sym, needs, w32, SFits, toZ-ofZ}
 use Rattle.fields.specs.Values.{valuesIn}
 use Rattle.order.specs.Given.{clockIn}
-use borrow.Author.Needs.{needs}
-use Rattle.order.proofs.given.clock_in.Statement.{statement}
-use Rattle.order.proofs.given.clock_in.Tie as tie
+use Rattle.order.proofs.given.clock_in as this
 
-returns : tie.Need-returns
+returns : this.Tie.Need-returns
 unfolding clockIn valuesIn
 returns c =
     let f : SFits w32 (c .signed .result) = search needs in
     simp (toZ-ofZ f, sym (c .signed .ensures), sym (c .before .value .ensures), sym (c .before .before .before .has .ensures), c .before .before .if1 .taken)
 
-returns-2 : tie.Need-returns-2
+returns-2 : this.Tie.Need-returns-2
 unfolding clockIn valuesIn
 returns-2 c = simp (sym (c .before .has .ensures), c .if1 .left)
 
-pub clock-in-spec : {M : Type 1} → statement M
-clock-in-spec = tie.close (tie.spec (λ c κs. tt) (λ c κs. tt) (λ c κs. tt) returns returns-2)
+pub clock-in-spec : {M : Type 1} → this.Statement.statement M
+clock-in-spec = this.Tie.close (this.Tie.spec (λ c κs. tt) (λ c κs. tt) (λ c κs. tt) returns returns-2)

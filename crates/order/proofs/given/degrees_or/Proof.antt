@@ -1,18 +1,16 @@
 -- `order::given::degrees_or` meets its contract.
-use mathlib.Core.Path.{sym}
+use Rattle.prelude.proofs.Logic.{sym}
 use Rattle.fields.specs.Values.{valuesIn}
 use Rattle.order.specs.Given.{degreesOr}
-use Rattle.order.proofs.given.degrees_or.Statement.{statement}
-use Rattle.order.proofs.given.degrees_or.Tie as tie
+use Rattle.order.proofs.given.degrees_or as this
 
-returns : tie.Need-returns
+returns : this.Tie.Need-returns
 unfolding degreesOr valuesIn
 returns c = simp (sym (c .degrees-in .ensures), sym (c .before .value .ensures), sym (c .before .before .before .has .ensures), c .before .before .if1 .taken)
 
-returns-2 : tie.Need-returns-2
+returns-2 : this.Tie.Need-returns-2
 unfolding degreesOr valuesIn
 returns-2 c = simp (sym (c .before .has .ensures), c .if1 .left)
 
-pub degrees-or-spec : {M : Type 1} → statement M
-degrees-or-spec =
-    tie.close (tie.spec (λ c κs. tt) (λ c κs. tt) (λ c κs. tt) returns returns-2)
+pub degrees-or-spec : {M : Type 1} → this.Statement.statement M
+degrees-or-spec = this.Tie.close (this.Tie.spec (λ c κs. tt) (λ c κs. tt) (λ c κs. tt) returns returns-2)

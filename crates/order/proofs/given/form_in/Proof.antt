@@ -1,13 +1,10 @@
 -- `order::given::form_in` meets its contract: five bytes.
 use Rattle.order.specs.Given.{formIn}
-use Rattle.order.proofs.given.form_in.Statement.{statement}
-use Rattle.order.proofs.given.form_in.Tie as tie
+use Rattle.order.proofs.given.form_in as this
 
-returns : tie.Need-returns
+returns : this.Tie.Need-returns
 unfolding formIn
-returns c =
-    let b = c .before in
-    simp (c .byte5 .ensures .0, b .byte4 .ensures .0, b .before .byte3 .ensures .0, b .before .before .byte2 .ensures .0, b .before .before .before .byte .ensures .0)
+returns c = cc
 
-pub form-in-spec : {M : Type 1} → statement M
-form-in-spec = tie.close (tie.spec (λ c κs. tt) (λ c κs. tt) (λ c κs. tt) (λ c κs. tt) (λ c κs. tt) returns)
+pub form-in-spec : {M : Type 1} → this.Statement.statement M
+form-in-spec = this.Tie.close (this.Tie.spec (λ c κs. tt) (λ c κs. tt) (λ c κs. tt) (λ c κs. tt) (λ c κs. tt) returns)

@@ -1,34 +1,25 @@
 -- `order::given::interval_or` meets its contract: two bytes are no less as an i32.
-use native.Mathlib.Omega.{arith}
-use Prim.Native.Nat.{ℕ, _<_}
-use mathlib.Core.Path.{_≡_, sym, _∙_}
-use lib.IntN.{pos}
-use mir.Syntax.{w32}
-use mir.Val.{SFits, toZ}
-use mir.Facts.{toZ-ofZ, toZ-pos}
+use Rattle.prelude.proofs.Logic.{_≡_, sym, _∙_, ℕ, _<_, arith, pos, needs, w32, SFits, toZ, toZ-ofZ, toZ-pos}
 use Rattle.fields.specs.Values.{valuesIn}
 use Rattle.order.specs.Given.{intervalOr}
-use borrow.Author.Needs.{needs}
-use Rattle.order.proofs.given.interval_or.Statement.{statement}
-use Rattle.order.proofs.given.interval_or.Tie as tie
+use Rattle.order.proofs.given.interval_or as this
 
 two-bytes : (x : ℕ) → x < 65536 → toZ w32 x ≡ pos x
 two-bytes x h = toZ-pos w32 {n = x} (omega arith)
 
-returns : tie.Need-returns
+returns : this.Tie.Need-returns
 unfolding intervalOr valuesIn
 returns c =
     let u = c .unsigned in
     let e = two-bytes (u .result) (u .ensures .1) in
     e ∙ simp (u .ensures .0, c .before .value .ensures, sym (c .before .before .before .has .ensures), c .before .before .if1 .taken)
 
-returns-2 : tie.Need-returns-2
+returns-2 : this.Tie.Need-returns-2
 unfolding intervalOr valuesIn
 returns-2 c =
     let f0 : SFits w32 (c .before .before .before .args .missing) = search needs in
     let e0 = c .before .has .ensures in
     simp (toZ-ofZ f0, sym e0, c .if1 .left)
 
-pub interval-or-spec : {M : Type 1} → statement M
-interval-or-spec =
-    tie.close (tie.spec (λ c κs. tt) (λ c κs. tt) (λ c κs. tt) (λ c. search needs) returns returns-2)
+pub interval-or-spec : {M : Type 1} → this.Statement.statement M
+interval-or-spec = this.Tie.close (this.Tie.spec (λ c κs. tt) (λ c κs. tt) (λ c κs. tt) (λ c. search needs) returns returns-2)

@@ -1,14 +1,9 @@
 -- `order::given::minutes_in` meets its contract.
-use mathlib.Core.Path.{sym}
-use mir.Syntax.{w32}
-use mir.Val.{SFits}
-use mir.Facts.{toZ-ofZ}
+use Rattle.prelude.proofs.Logic.{sym, needs, w32, SFits, toZ-ofZ}
 use Rattle.order.specs.Given.{minutesIn}
-use borrow.Author.Needs.{needs}
-use Rattle.order.proofs.given.minutes_in.Statement.{statement}
-use Rattle.order.proofs.given.minutes_in.Tie as tie
+use Rattle.order.proofs.given.minutes_in as this
 
-returns : tie.Need-returns
+returns : this.Tie.Need-returns
 unfolding minutesIn
 returns c =
     let f1 : SFits w32 (c .before .before .before .before .before .before .signed .result) = search needs in
@@ -19,7 +14,5 @@ returns c =
     let f6 : SFits w32 (c .before .signed6 .result) = search needs in
     simp (c .new .ensures, toZ-ofZ f1, sym (c .before .before .before .before .before .before .signed .ensures), toZ-ofZ f2, sym (c .before .before .before .before .before .signed2 .ensures), toZ-ofZ f3, sym (c .before .before .before .before .signed3 .ensures), toZ-ofZ f4, sym (c .before .before .before .signed4 .ensures), toZ-ofZ f5, sym (c .before .before .signed5 .ensures), toZ-ofZ f6, sym (c .before .signed6 .ensures))
 
-pub minutes-in-spec : {M : Type 1} → statement M
-minutes-in-spec =
-    tie.close
-    (tie.spec (λ c κs. tt) (λ c κs. tt) (λ c κs. tt) (λ c κs. tt) (λ c κs. tt) (λ c κs. tt) (λ c κs. tt) returns)
+pub minutes-in-spec : {M : Type 1} → this.Statement.statement M
+minutes-in-spec = this.Tie.close (this.Tie.spec (λ c κs. tt) (λ c κs. tt) (λ c κs. tt) (λ c κs. tt) (λ c κs. tt) (λ c κs. tt) (λ c κs. tt) returns)

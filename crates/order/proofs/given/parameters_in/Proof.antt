@@ -1,16 +1,10 @@
 -- `order::given::parameters_in` meets its contract: each field by its call.
-use mathlib.Core.Path.{sym, ap, _∙_}
-use denote.Ref.{now}
-use mir.Syntax.{w32}
-use mir.Val.{SFits}
-use mir.Facts.{toZ-ofZ}
+use Rattle.prelude.proofs.Logic.{sym, ap, _∙_, needs, w32, SFits, toZ-ofZ, now}
 use Rattle.fields.specs.Values.{valuesIn}
 use Rattle.order.specs.Given.{intervalOr, parametersIn}
-use borrow.Author.Needs.{needs}
-use Rattle.order.proofs.given.parameters_in.Statement.{statement}
-use Rattle.order.proofs.given.parameters_in.Tie as tie
+use Rattle.order.proofs.given.parameters_in as this
 
-returns : tie.Need-returns
+returns : this.Tie.Need-returns
 unfolding parametersIn
 returns c =
     let c5 = c .before .before .before .before .before in
@@ -42,7 +36,8 @@ returns c =
       sym (c14 .before .before .before .value .ensures),
     )
 
-pub parameters-in-spec : {M : Type 1} → statement M
+pub parameters-in-spec : {M : Type 1} → this.Statement.statement M
 parameters-in-spec =
-    tie.close
-    (tie.spec (λ c κs. tt) (λ c κs. tt) (λ c κs. tt) (λ c κs. tt) (λ c κs. tt) (λ c κs. tt) (λ c κs. tt) (λ c κs. tt) (λ c κs. tt) (λ c κs. tt) (λ c κs. tt) (λ c κs. tt) (λ c κs. tt) (λ c κs. tt) (λ c κs. tt) (λ c κs. tt) returns)
+    this.Tie.close
+    (this.Tie.spec (λ c κs. tt) (λ c κs. tt) (λ c κs. tt) (λ c κs. tt) (λ c κs. tt) (λ c κs. tt) (λ c κs. tt) (λ c κs. tt) (λ c κs. tt) (λ c κs. tt)
+    (λ c κs. tt) (λ c κs. tt) (λ c κs. tt) (λ c κs. tt) (λ c κs. tt) (λ c κs. tt) returns)

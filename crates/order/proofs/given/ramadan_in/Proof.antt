@@ -1,17 +1,10 @@
 -- `order::given::ramadan_in` meets its contract: a stored shift is a byte, so that it fits less 1.
-use native.Mathlib.Omega.{arith}
-use Prim.Native.Nat.{ℕ, _<_}
-use mathlib.Core.Path.{_≡_, sym}
-use lib.IntN.{pos, _-ℤ_}
-use mir.Syntax.{w32}
-use mir.Val.{SFits, toZ}
+use Rattle.prelude.proofs.Logic.{_≡_, sym, ℕ, _<_, arith, pos, _-ℤ_, needs, w32, SFits, toZ}
 use Rattle.fields.specs.Values.{valuesIn}
 use Rattle.integers.proofs.Ranges.{fits, readBack, read}
 use Rattle.integers.proofs.Sums.{difference}
 use Rattle.order.specs.Given.{ramadanGiven, ramadanIn}
-use borrow.Author.Needs.{needs}
-use Rattle.order.proofs.given.ramadan_in.Statement.{statement}
-use Rattle.order.proofs.given.ramadan_in.Tie as tie
+use Rattle.order.proofs.given.ramadan_in as this
 
 module _ (n : ℕ) (h : n < 256) where
   seen : toZ w32 n ≡ pos n
@@ -26,10 +19,7 @@ module _ (n : ℕ) (h : n < 256) where
   less-read : readBack w32 (toZ w32 n -ℤ pos 1) ≡ pos n -ℤ pos 1
   less-read = rw seen (read w32 (pos n -ℤ pos 1) less)
 
-sub-t8 : tie.Need-sub-t8
-sub-t8 c = less-fits (c .byte2 .result) (c .byte2 .ensures .1)
-
-returns : tie.Need-returns
+returns : this.Tie.Need-returns
 unfolding ramadanIn ramadanGiven valuesIn
 returns c =
     let v = c .before .before in
@@ -42,11 +32,12 @@ returns c =
       v .before .if1 .taken,
     )
 
-returns-2 : tie.Need-returns-2
+returns-2 : this.Tie.Need-returns-2
 unfolding ramadanIn valuesIn
 returns-2 c = simp (sym (c .before .has .ensures), c .if1 .left)
 
-pub ramadan-in-spec : {M : Type 1} → statement M
+pub ramadan-in-spec : {M : Type 1} → this.Statement.statement M
 ramadan-in-spec =
-    tie.close
-    (tie.spec (λ c κs. tt) (λ c κs. tt) (λ c κs. tt) (λ c κs. tt) (λ c. search needs) sub-t8 returns returns-2)
+    this.Tie.close
+    (this.Tie.spec (λ c κs. tt) (λ c κs. tt) (λ c κs. tt) (λ c κs. tt) (λ c. search needs) (λ c. less-fits (c .byte2 .result) (c .byte2 .ensures .1))
+    returns returns-2)

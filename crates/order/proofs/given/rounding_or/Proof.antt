@@ -1,20 +1,17 @@
 -- `order::given::rounding_or` meets its contract.
-use mathlib.Core.Path.{sym}
+use Rattle.prelude.proofs.Logic.{sym}
 use Rattle.fields.specs.Values.{valuesIn}
 use Rattle.order.specs.Given.{roundingOr}
-use Rattle.order.proofs.given.rounding_or.Statement.{statement}
-use Rattle.order.proofs.given.rounding_or.Tie as tie
+use Rattle.order.proofs.given.rounding_or as this
 
-returns : tie.Need-returns
+returns : this.Tie.Need-returns
 unfolding roundingOr valuesIn
 returns c =
     simp (sym (c .of-number .ensures), sym (c .before .byte .ensures .0), sym (c .before .before .value .ensures), sym (c .before .before .before .before .has .ensures), c .before .before .before .if1 .taken)
 
-returns-2 : tie.Need-returns-2
+returns-2 : this.Tie.Need-returns-2
 unfolding roundingOr valuesIn
 returns-2 c = simp (sym (c .before .has .ensures), c .if1 .left)
 
-pub rounding-or-spec : {M : Type 1} → statement M
-rounding-or-spec =
-    tie.close
-    (tie.spec (λ c κs. tt) (λ c κs. tt) (λ c κs. tt) (λ c κs. tt) returns returns-2)
+pub rounding-or-spec : {M : Type 1} → this.Statement.statement M
+rounding-or-spec = this.Tie.close (this.Tie.spec (λ c κs. tt) (λ c κs. tt) (λ c κs. tt) (λ c κs. tt) returns returns-2)

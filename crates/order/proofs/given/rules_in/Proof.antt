@@ -1,13 +1,10 @@
 -- `order::given::rules_in` meets its contract.
 use Rattle.order.specs.Given.{rulesIn}
-use Rattle.order.proofs.given.rules_in.Statement.{statement}
-use Rattle.order.proofs.given.rules_in.Tie as tie
+use Rattle.order.proofs.given.rules_in as this
 
-returns : tie.Need-returns
+returns : this.Tie.Need-returns
 unfolding rulesIn
-returns c =
-    let m = c .before .before in
-    simp (c .of-number2 .ensures, c .before .byte-or2 .ensures, m .of-number .ensures, m .before .byte-or .ensures)
+returns c = cc
 
-pub rules-in-spec : {M : Type 1} → statement M
-rules-in-spec = tie.close (tie.spec (λ c κs. tt) (λ c κs. tt) (λ c κs. tt) (λ c κs. tt) returns)
+pub rules-in-spec : {M : Type 1} → this.Statement.statement M
+rules-in-spec = this.Tie.close (this.Tie.spec (λ c κs. tt) (λ c κs. tt) (λ c κs. tt) (λ c κs. tt) returns)

@@ -1,20 +1,18 @@
 -- `order::plain::read` meets its contract: the form of the fields first, then what they give.
-use mathlib.Core.Path.{_∙_}
-use denote.Ref.{now}
+use Rattle.prelude.proofs.Logic.{_∙_, now}
 use Rattle.order.proofs.Answers.{by-fields, by-values}
-use Rattle.order.proofs.plain.read.Statement.{statement}
-use Rattle.order.proofs.plain.read.Tie as tie
+use Rattle.order.proofs.plain.read as this
 
-returns : tie.Need-returns
+returns : this.Tie.Need-returns
 returns c =
     let f = c .before .before .before in
     by-fields (now (f .before .before .args .order)) (f .fields-of .result) (f .fields-of .ensures) (c .if1 .taken)
 
-returns-2 : tie.Need-returns-2
+returns-2 : this.Tie.Need-returns-2
 returns-2 c =
     let i = c .before in
     let f = i .before .before .before in
     c .answer .ensures ∙ by-values (now (f .before .before .args .order)) (f .fields-of .result) (f .fields-of .ensures) (i .if1 .left)
 
-pub read-spec : {M : Type 1} → statement M
-read-spec = tie.close (tie.spec (λ c κs. tt) returns (λ c κs. tt) returns-2)
+pub read-spec : {M : Type 1} → this.Statement.statement M
+read-spec = this.Tie.close (this.Tie.spec (λ c κs. tt) returns (λ c κs. tt) returns-2)

@@ -1,18 +1,11 @@
 -- `order::ranges::clock_fits` meets its contract: a signed number is compared as it is read back from its bits.
-use mathlib.Core.Path.{sym}
-use mir.Syntax.{w32}
-use mir.Val.{SFits}
-use mir.Facts.{toZ-ofZ}
+use Rattle.prelude.proofs.Logic.{needs, w32, SFits, toZ-ofZ}
 use Rattle.order.specs.Ranges.{clockFits}
-use borrow.Author.Needs.{needs}
-use Rattle.order.proofs.ranges.clock_fits.Statement.{statement}
-use Rattle.order.proofs.ranges.clock_fits.Tie as tie
+use Rattle.order.proofs.ranges.clock_fits as this
 
-returns : tie.Need-returns
+returns : this.Tie.Need-returns
 unfolding clockFits
-returns c =
-    let f : SFits w32 (c .signed .result) = search needs in
-    simp (toZ-ofZ f, sym (c .signed .ensures))
+returns c = let f : SFits w32 (c .signed .result) = search needs in cc (toZ-ofZ f)
 
-pub clock-fits-spec : {M : Type 1} → statement M
-clock-fits-spec = tie.close (tie.spec (λ c κs. tt) returns)
+pub clock-fits-spec : {M : Type 1} → this.Statement.statement M
+clock-fits-spec = this.Tie.close (this.Tie.spec (λ c κs. tt) returns)

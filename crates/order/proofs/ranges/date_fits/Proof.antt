@@ -1,9 +1,8 @@
 -- `order::ranges::date_fits` meets its contract.
-use Rattle.order.proofs.ranges.date_fits.Statement.{statement}
-use Rattle.order.proofs.ranges.date_fits.Tie as tie
+use Rattle.order.proofs.ranges.date_fits as this
 
-returns : tie.Need-returns
+returns : this.Tie.Need-returns
 returns c = cc
 
-pub date-fits-spec : {M : Type 1} → statement M
-date-fits-spec = tie.close (tie.spec (λ c κs. tt) returns)
+pub date-fits-spec : {M : Type 1} → this.Statement.statement M
+date-fits-spec = this.Tie.close (this.Tie.spec (λ c κs. tt) returns)

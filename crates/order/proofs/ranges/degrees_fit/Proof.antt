@@ -1,9 +1,8 @@
 -- `order::ranges::degrees_fit` meets its contract.
-use Rattle.order.proofs.ranges.degrees_fit.Statement.{statement}
-use Rattle.order.proofs.ranges.degrees_fit.Tie as tie
+use Rattle.order.proofs.ranges.degrees_fit as this
 
-returns : tie.Need-returns
+returns : this.Tie.Need-returns
 returns c = cc
 
-pub degrees-fit-spec : {M : Type 1} → statement M
-degrees-fit-spec = tie.close (tie.spec (λ c κs. tt) returns)
+pub degrees-fit-spec : {M : Type 1} → this.Statement.statement M
+degrees-fit-spec = this.Tie.close (this.Tie.spec (λ c κs. tt) returns)

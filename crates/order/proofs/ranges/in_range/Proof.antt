@@ -1,14 +1,12 @@
 -- `order::ranges::in_range` meets its contract.
-use mathlib.Core.Path.{sym}
-use borrow.Author.Tests.{lt-ltb, le-ltb}
-use Rattle.order.proofs.ranges.in_range.Statement.{statement}
-use Rattle.order.proofs.ranges.in_range.Tie as tie
+use Rattle.prelude.proofs.Logic.{lt-ltb, le-ltb}
+use Rattle.order.proofs.ranges.in_range as this
 
-returns : tie.Need-returns
+returns : this.Tie.Need-returns
 returns c = simp (c .fits2 .ensures, c .before .bytes .ensures, lt-ltb _ _ (c .before .before .if1 .taken))
 
-returns-2 : tie.Need-returns-2
+returns-2 : this.Tie.Need-returns-2
 returns-2 c = simp (le-ltb _ _ (c .if1 .left))
 
-pub in-range-spec : {M : Type 1} → statement M
-in-range-spec = tie.close (tie.spec (λ c κs. tt) (λ c κs. tt) returns returns-2)
+pub in-range-spec : {M : Type 1} → this.Statement.statement M
+in-range-spec = this.Tie.close (this.Tie.spec (λ c κs. tt) (λ c κs. tt) returns returns-2)

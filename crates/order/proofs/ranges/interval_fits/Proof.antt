@@ -1,14 +1,11 @@
 -- `order::ranges::interval_fits` meets its contract: no number is below 0.
-use Prim.Native.Nat.{zero-le}
-use mathlib.Core.Path.{sym}
-use borrow.Author.Tests.{le-leb}
+use Rattle.prelude.proofs.Logic.{sym, zero-le, le-leb}
 use Rattle.order.specs.Ranges.{intervalFits}
-use Rattle.order.proofs.ranges.interval_fits.Statement.{statement}
-use Rattle.order.proofs.ranges.interval_fits.Tie as tie
+use Rattle.order.proofs.ranges.interval_fits as this
 
-returns : tie.Need-returns
+returns : this.Tie.Need-returns
 unfolding intervalFits
 returns c = simp (sym (c .unsigned .ensures .0), le-leb 0 (c .unsigned .result) zero-le)
 
-pub interval-fits-spec : {M : Type 1} → statement M
-interval-fits-spec = tie.close (tie.spec (λ c κs. tt) returns)
+pub interval-fits-spec : {M : Type 1} → this.Statement.statement M
+interval-fits-spec = this.Tie.close (this.Tie.spec (λ c κs. tt) returns)

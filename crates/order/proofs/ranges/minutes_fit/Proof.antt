@@ -1,20 +1,13 @@
 -- `order::ranges::minutes_fit` meets its contract.
-use mathlib.Core.Path.{_≡_, ap, _∙_}
-use mathlib.Core.Bool.{Bool}
-use lib.IntN.{ℤ}
-use mir.Syntax.{w32}
-use mir.Val.{SFits, toZ, ofZ}
-use mir.Facts.{toZ-ofZ}
-use borrow.Author.Needs.{needs}
+use Rattle.prelude.proofs.Logic.{_≡_, ap, _∙_, Bool, ℤ, needs, w32, SFits, toZ, ofZ, toZ-ofZ}
 use Rattle.order.specs.Ranges.{minuteFits, minutesFit}
-use Rattle.order.proofs.ranges.minutes_fit.Statement.{statement}
-use Rattle.order.proofs.ranges.minutes_fit.Tie as tie
+use Rattle.order.proofs.ranges.minutes_fit as this
 
 -- a minute is handed on as it is read back from its bits
 told : (m : ℤ) (r : Bool) → SFits w32 m → r ≡ minuteFits (toZ w32 (ofZ w32 m)) → r ≡ minuteFits m
 told m r f e = e ∙ ap minuteFits (toZ-ofZ f)
 
-returns : tie.Need-returns
+returns : this.Tie.Need-returns
 unfolding minutesFit
 returns c =
     let c4 = c .before .before .before .before in
@@ -36,6 +29,5 @@ returns c =
       told (m .isha) _ f6 (c .minute-fits6 .ensures),
     )
 
-pub minutes-fit-spec : {M : Type 1} → statement M
-minutes-fit-spec =
-    tie.close (tie.spec (λ c κs. tt) (λ c κs. tt) (λ c κs. tt) (λ c κs. tt) (λ c κs. tt) (λ c κs. tt) returns)
+pub minutes-fit-spec : {M : Type 1} → this.Statement.statement M
+minutes-fit-spec = this.Tie.close (this.Tie.spec (λ c κs. tt) (λ c κs. tt) (λ c κs. tt) (λ c κs. tt) (λ c κs. tt) (λ c κs. tt) returns)

@@ -1,13 +1,12 @@
 -- `order::ranges::most_in` meets its contract.
-use borrow.Author.Tests.{eq-eqb, ne-eqb}
-use Rattle.order.proofs.ranges.most_in.Statement.{statement}
-use Rattle.order.proofs.ranges.most_in.Tie as tie
+use Rattle.prelude.proofs.Logic.{eq-eqb, ne-eqb}
+use Rattle.order.proofs.ranges.most_in as this
 
-returns : tie.Need-returns
+returns : this.Tie.Need-returns
 returns c = simp (eq-eqb _ _ (c .if1 .taken))
 
-returns-2 : tie.Need-returns-2
+returns-2 : this.Tie.Need-returns-2
 returns-2 c = simp (ne-eqb _ _ (c .if1 .left))
 
-pub most-in-spec : {M : Type 1} → statement M
-most-in-spec = tie.close (tie.spec returns returns-2)
+pub most-in-spec : {M : Type 1} → this.Statement.statement M
+most-in-spec = this.Tie.close (this.Tie.spec returns returns-2)

@@ -1,11 +1,10 @@
 -- `order::ranges::ramadan_fits` meets its contract: two bytes.
 use Rattle.order.specs.Ranges.{ramadanFits}
-use Rattle.order.proofs.ranges.ramadan_fits.Statement.{statement}
-use Rattle.order.proofs.ranges.ramadan_fits.Tie as tie
+use Rattle.order.proofs.ranges.ramadan_fits as this
 
-returns : tie.Need-returns
+returns : this.Tie.Need-returns
 unfolding ramadanFits
-returns c = simp (c .byte2 .ensures .0, c .before .byte .ensures .0)
+returns c = cc
 
-pub ramadan-fits-spec : {M : Type 1} → statement M
-ramadan-fits-spec = tie.close (tie.spec (λ c κs. tt) (λ c κs. tt) returns)
+pub ramadan-fits-spec : {M : Type 1} → this.Statement.statement M
+ramadan-fits-spec = this.Tie.close (this.Tie.spec (λ c κs. tt) (λ c κs. tt) returns)

@@ -1,15 +1,14 @@
 -- `order::ranges::ramadan_rows` meets its contract.
 use Rattle.order.specs.Ranges.{ramadanRows}
-use Rattle.order.proofs.ranges.ramadan_rows.Statement.{statement}
-use Rattle.order.proofs.ranges.ramadan_rows.Tie as tie
+use Rattle.order.proofs.ranges.ramadan_rows as this
 
-returns : tie.Need-returns
+returns : this.Tie.Need-returns
 unfolding ramadanRows
-returns c = simp (c .rows-in .ensures, c .before .if1 .taken)
+returns c = cc
 
-returns-2 : tie.Need-returns-2
+returns-2 : this.Tie.Need-returns-2
 unfolding ramadanRows
-returns-2 c = simp (c .if1 .left)
+returns-2 c = cc
 
-pub ramadan-rows-spec : {M : Type 1} → statement M
-ramadan-rows-spec = tie.close (tie.spec (λ c κs. tt) returns returns-2)
+pub ramadan-rows-spec : {M : Type 1} → this.Statement.statement M
+ramadan-rows-spec = this.Tie.close (this.Tie.spec (λ c κs. tt) returns returns-2)

@@ -1,25 +1,23 @@
 -- `order::reading::answer` meets its contract: a line for each check, with those before it passed.
-use borrow.Author.Tests.{eq-eqb, ne-eqb}
-use mathlib.Core.Path.{sym}
+use Rattle.prelude.proofs.Logic.{sym, eq-eqb, ne-eqb}
 use Rattle.fields.specs.Values.{valuesIn}
 use Rattle.order.specs.Reading.{firstOf}
-use Rattle.order.proofs.reading.answer.Statement.{statement}
-use Rattle.order.proofs.reading.answer.Tie as tie
+use Rattle.order.proofs.reading.answer as this
 
-returns : tie.Need-returns
+returns : this.Tie.Need-returns
 unfolding firstOf valuesIn
 returns c =
     let m = c .before .before .before .before .before .before in
     simp (sym (m .missing .ensures), ne-eqb _ _ (c .if1 .taken))
 
-returns-2 : tie.Need-returns-2
+returns-2 : this.Tie.Need-returns-2
 unfolding firstOf valuesIn
 returns-2 c =
     let q = c .before .before in
     let d = q .before .before .before .before .before in
     simp (sym (d .before .missing .ensures), eq-eqb _ _ (q .if1 .left), sym (d .both-forms .ensures), ne-eqb _ _ (c .if2 .taken))
 
-returns-3 : tie.Need-returns-3
+returns-3 : this.Tie.Need-returns-3
 unfolding firstOf valuesIn
 returns-3 c =
     let t = c .before .before in
@@ -35,7 +33,7 @@ returns-3 c =
       ne-eqb _ _ (c .if3 .taken),
     )
 
-returns-4 : tie.Need-returns-4
+returns-4 : this.Tie.Need-returns-4
 unfolding firstOf valuesIn
 returns-4 c =
     let u = c .before .before in
@@ -56,7 +54,7 @@ returns-4 c =
       ne-eqb _ _ (c .if4 .taken),
     )
 
-returns-5 : tie.Need-returns-5
+returns-5 : this.Tie.Need-returns-5
 unfolding firstOf valuesIn
 returns-5 c =
     let u = c .before .before in
@@ -77,7 +75,6 @@ returns-5 c =
       eq-eqb _ _ (c .if4 .left),
     )
 
-pub answer-spec : {M : Type 1} → statement M
+pub answer-spec : {M : Type 1} → this.Statement.statement M
 answer-spec =
-    tie.close
-    (tie.spec (λ c κs. tt) (λ c κs. tt) (λ c κs. tt) (λ c κs. tt) (λ c κs. tt) returns returns-2 returns-3 returns-4 returns-5)
+    this.Tie.close (this.Tie.spec (λ c κs. tt) (λ c κs. tt) (λ c κs. tt) (λ c κs. tt) (λ c κs. tt) returns returns-2 returns-3 returns-4 returns-5)

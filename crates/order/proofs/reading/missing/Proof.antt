@@ -1,44 +1,39 @@
 -- `order::reading::missing` meets its contract. The invariant: the first that fails from here on is the first of all.
-use borrow.Author.Needs.{needs}
-use native.Mathlib.Omega.{arith}
-use Prim.Native.Nat.{ℕ, _+_, _-_, _≤_}
-use mathlib.Core.Path.{_≡_, refl, sym, _∙_}
-use borrow.Author.Tests.{not-true, not-false}
-use lib.ListN.{drop}
+use Rattle.prelude.proofs.Logic.{_≡_, refl, sym, _∙_, _-_, _≤_, arith, drop, needs, not-true, not-false}
 use Rattle.fields.specs.Values.{hasIn}
 use Rattle.order.specs.Reading.{firstFailing, required, isGivenOf, missingOf}
 use Rattle.order.proofs.Tags.{fails, on, none}
-use Rattle.order.proofs.reading.missing.Statement.{statement}
-use Rattle.order.proofs.reading.missing.Tie as tie
+use Rattle.order.proofs.reading.missing as this
 
-abbrev Inv-loop : tie.InvT-loop
+abbrev Inv-loop : this.Tie.InvT-loop
 Inv-loop fields i₀ i = (i ≤ 6) × (firstFailing 4 (isGivenOf (hasIn fields)) (drop i required) ≡ missingOf (hasIn fields))
 
-abbrev μ-loop : tie.MeasureT-loop
+abbrev μ-loop : this.Tie.MeasureT-loop
 μ-loop fields i₀ i = 6 - i
 
-loop-holds : tie.Need-loop-holds Inv-loop μ-loop
+loop-holds : this.Tie.Need-loop-holds Inv-loop μ-loop
 unfolding missingOf
 loop-holds c = (omega arith, refl)
 
-returns : tie.Need-returns Inv-loop μ-loop
+returns : this.Tie.Need-returns Inv-loop μ-loop
 returns c =
     let h = c .before .before in
     let l = h .before .before in
     c .new .ensures ∙ sym (fails 4 (isGivenOf (hasIn (l .before .args .fields))) required (l .loop .i) (h .before .loop-test .taken) _ refl (sym (h .is-given .ensures) ∙ not-true _ (c .before .if1 .taken))) ∙ l .loop .inv .1
 
-loop-again : tie.Need-loop-again Inv-loop μ-loop
+loop-again : this.Tie.Need-loop-again Inv-loop μ-loop
 loop-again c =
     let h = c .before in
     let l = h .before .before in
     (search needs, sym (on 4 (isGivenOf (hasIn (l .before .args .fields))) required (l .loop .i) (h .before .loop-test .taken) _ refl (sym (h .is-given .ensures) ∙ not-false _ (c .if1 .left))) ∙ l .loop .inv .1)
 
-returns-2 : tie.Need-returns-2 Inv-loop μ-loop
+returns-2 : this.Tie.Need-returns-2 Inv-loop μ-loop
 returns-2 c =
     let l = c .before .before in
     c .none .ensures ∙ sym (none 4 (isGivenOf (hasIn (l .before .args .fields))) required (l .loop .i) (c .before .loop-test .left)) ∙ l .loop .inv .1
 
-pub missing-spec : {M : Type 1} → statement M
+pub missing-spec : {M : Type 1} → this.Statement.statement M
 missing-spec =
-    tie.close
-    (tie.spec Inv-loop μ-loop loop-holds (λ c. search needs) (λ c. search needs) (λ c κs. tt) (λ c κs. tt) returns (λ c. search needs) (λ c. search needs) loop-again (λ c κs. tt) returns-2)
+    this.Tie.close
+    (this.Tie.spec Inv-loop μ-loop loop-holds (λ c. search needs) (λ c. search needs) (λ c κs. tt) (λ c κs. tt) returns (λ c. search needs)
+    (λ c. search needs) loop-again (λ c κs. tt) returns-2)

@@ -1,14 +1,5 @@
 -- `order::reading::out_of_range` meets its contract. The invariant: the first that fails from here on is the first of all.
-use borrow.Author.Needs.{needs}
-use native.Mathlib.Omega.{arith}
-use Prim.Native.Nat.{ℕ, _-_, _≤_}
-use mathlib.Core.Path.{_≡_, refl, sym, _∙_}
-use mathlib.Core.Bool.{Bool, true, cond}
-use mathlib.Core.List.{List}
-use borrow.Author.Tests.{not-true, not-false}
-use denote.Ref.{now}
-use lib.Dec.{ltb}
-use lib.ListN.{length, drop, getD}
+use Rattle.prelude.proofs.Logic.{_≡_, refl, sym, _∙_, Bool, true, cond, List, ℕ, _-_, _≤_, arith, ltb, length, drop, getD, needs, not-true, not-false, now}
 use Rattle.calendar.specs.declared.dates.Date.{Date}
 use Rattle.fields.specs.Tags.{lastTag}
 use Rattle.fields.specs.declared.values.Fields.{Fields}
@@ -17,8 +8,7 @@ use Rattle.order.specs.Given.{dateIn}
 use Rattle.order.specs.Ranges.{fitsIn, fitsOf, inRangeOf}
 use Rattle.order.specs.Reading.{firstFailing, tagsFrom, outOfRangeOf}
 use Rattle.order.proofs.Tags.{fails, on, none, tags-from, tags-length}
-use Rattle.order.proofs.reading.out_of_range.Statement.{statement}
-use Rattle.order.proofs.reading.out_of_range.Tie as tie
+use Rattle.order.proofs.reading.out_of_range as this
 
 -- as many as there are
 all : length (tagsFrom lastTag 1) ≡ lastTag
@@ -34,62 +24,63 @@ held : (s : List ℕ) (f : Fields) (date : Date) (ramadan : Bool) → date ≡ d
 unfolding outOfRangeOf inRangeOf fitsOf valuesIn
 held s f date ramadan d r = rw (d, r) refl
 
-abbrev Inv-loop : tie.InvT-loop
+abbrev Inv-loop : this.Tie.InvT-loop
 Inv-loop order starts lengths date ramadan passed₀ passed =
     (passed ≤ lastTag)
     × (firstFailing 5 (passes order starts lengths date ramadan) (drop passed (tagsFrom lastTag 1)) ≡ firstFailing 5 (passes order starts lengths date ramadan) (tagsFrom lastTag 1))
 
-abbrev μ-loop : tie.MeasureT-loop
+abbrev μ-loop : this.Tie.MeasureT-loop
 μ-loop order starts lengths date ramadan passed₀ passed = lastTag - passed
 
-loop-holds : tie.Need-loop-holds Inv-loop μ-loop
+-- whether a tag passes, and what the first that does not means, at the loop
+passing : (c : this.Tie.At-loop Inv-loop μ-loop) → ℕ → Bool
+passing c =
+    let a = c .before .before .before .before .before .before .before .args in
+    passes (now (a .order)) (a .fields .at) (a .fields .length) (c .before .before .date-in .result) (c .before .has .result)
+
+first : (c : this.Tie.At-loop Inv-loop μ-loop) → let a = c .before .before .before .before .before .before .before .args in
+    firstFailing 5 (passing c) (drop (c .loop .passed) (tagsFrom lastTag 1)) ≡ outOfRangeOf (valuesIn (now (a .order)) (a .fields))
+unfolding passing valuesIn
+first c =
+    let d = c .before .before in
+    let a = d .before .before .before .before .before .args in
+    c .loop .inv .1
+    ∙ held (now (a .order)) (a .fields) (d .date-in .result) (c .before .has .result) (rw (← d .before .value .ensures) (d .date-in .ensures))
+    (c .before .has .ensures)
+
+loop-holds : this.Tie.Need-loop-holds Inv-loop μ-loop
 loop-holds c = (omega arith, refl)
 
-returns : tie.Need-returns Inv-loop μ-loop
-unfolding valuesIn
+returns : this.Tie.Need-returns Inv-loop μ-loop
+unfolding passing
 returns c =
     let h = c .before .before in
     let l = h .before .before in
-    let k = l .before in
-    let d = k .before in
-    let a = d .before .before .before .before .before .args in
-    let s = now (a .order) in
-    let f = a .fields in
-    let p = passes s (f .at) (f .length) (d .date-in .result) (k .has .result) in
     let t = h .before .loop-test .taken in
     c .new .ensures
-    ∙ sym (fails 5 p (tagsFrom lastTag 1) (l .loop .passed) (omega (arith, all)) _ (tags-from lastTag 1 (l .loop .passed) t) (sym (h .in-range .ensures) ∙ not-true _ (c .before .if1 .taken)))
-    ∙ l .loop .inv .1
-    ∙ held s f (d .date-in .result) (k .has .result) (rw (← d .before .value .ensures) (d .date-in .ensures)) (k .has .ensures)
+    ∙ sym (fails 5 (passing l) (tagsFrom lastTag 1) (l .loop .passed) (omega (arith, all)) _ (tags-from lastTag 1 (l .loop .passed) t)
+    (sym (h .in-range .ensures) ∙ not-true _ (c .before .if1 .taken)))
+    ∙ first l
 
-loop-again : tie.Need-loop-again Inv-loop μ-loop
+loop-again : this.Tie.Need-loop-again Inv-loop μ-loop
+unfolding passing
 loop-again c =
     let h = c .before in
     let l = h .before .before in
-    let k = l .before in
-    let d = k .before in
-    let a = d .before .before .before .before .before .args in
-    let f = a .fields in
-    let p = passes (now (a .order)) (f .at) (f .length) (d .date-in .result) (k .has .result) in
-    let t = h .before .loop-test .taken in
-    (search needs, sym (on 5 p (tagsFrom lastTag 1) (l .loop .passed) (omega (arith, all)) _ (tags-from lastTag 1 (l .loop .passed) t) (sym (h .in-range .ensures) ∙ not-false _ (c .if1 .left))) ∙ l .loop .inv .1)
+    let t = h .before .loop-test .taken in (
+      search needs,
+      sym (on 5 (passing l) (tagsFrom lastTag 1) (l .loop .passed) (omega (arith, all)) _ (tags-from lastTag 1 (l .loop .passed) t)
+          (sym (h .in-range .ensures) ∙ not-false _ (c .if1 .left))) ∙ l .loop .inv .1,
+    )
 
-returns-2 : tie.Need-returns-2 Inv-loop μ-loop
-unfolding valuesIn
+returns-2 : this.Tie.Need-returns-2 Inv-loop μ-loop
 returns-2 c =
     let l = c .before .before in
-    let k = l .before in
-    let d = k .before in
-    let a = d .before .before .before .before .before .args in
-    let s = now (a .order) in
-    let f = a .fields in
-    let p = passes s (f .at) (f .length) (d .date-in .result) (k .has .result) in
-    c .none .ensures
-    ∙ sym (none 5 p (tagsFrom lastTag 1) (l .loop .passed) (omega (arith, all, c .before .loop-test .left)))
-    ∙ l .loop .inv .1
-    ∙ held s f (d .date-in .result) (k .has .result) (rw (← d .before .value .ensures) (d .date-in .ensures)) (k .has .ensures)
+    c .none .ensures ∙ sym (none 5 (passing l) (tagsFrom lastTag 1) (l .loop .passed) (omega (arith, all, c .before .loop-test .left))) ∙ first l
 
-pub out-of-range-spec : {M : Type 1} → statement M
+pub out-of-range-spec : {M : Type 1} → this.Statement.statement M
 out-of-range-spec =
-    tie.close
-    (tie.spec Inv-loop μ-loop (λ c κs. tt) (λ c κs. tt) (λ c κs. tt) loop-holds (λ c. search needs) (λ c. search needs) (λ c. search needs) (λ c. search needs) (λ c. search needs) (λ c. search needs) (λ c. search needs) (λ c κs. tt) (λ c κs. tt) returns (λ c. search needs) loop-again (λ c κs. tt) returns-2)
+    this.Tie.close
+    (this.Tie.spec Inv-loop μ-loop (λ c κs. tt) (λ c κs. tt) (λ c κs. tt) loop-holds (λ c. search needs) (λ c. search needs) (λ c. search needs)
+    (λ c. search needs) (λ c. search needs) (λ c. search needs) (λ c. search needs) (λ c κs. tt) (λ c κs. tt) returns (λ c. search needs) loop-again
+    (λ c κs. tt) returns-2)

@@ -1,16 +1,10 @@
 -- `order::reading::record_in` meets its contract: each field by its call.
-use mathlib.Core.Path.{_≡_, sym, _∙_}
-use mir.Syntax.{w32}
-use mir.Val.{SFits}
-use mir.Facts.{toZ-ofZ}
-use denote.Ref.{now}
-use borrow.Author.Needs.{needs}
+use Rattle.prelude.proofs.Logic.{sym, _∙_, needs, w32, SFits, toZ-ofZ, now}
 use Rattle.fields.proofs.Collecting.{part-for}
 use Rattle.order.specs.Reading.{orderOf}
-use Rattle.order.proofs.reading.record_in.Statement.{statement}
-use Rattle.order.proofs.reading.record_in.Tie as tie
+use Rattle.order.proofs.reading.record_in as this
 
-returns : tie.Need-returns
+returns : this.Tie.Need-returns
 unfolding orderOf
 returns c =
     let k = c .before in
@@ -38,7 +32,8 @@ returns c =
       town,
     )
 
-pub record-in-spec : {M : Type 1} → statement M
+pub record-in-spec : {M : Type 1} → this.Statement.statement M
 record-in-spec =
-    tie.close
-    (tie.spec (λ c κs. tt) (λ c κs. tt) (λ c κs. tt) (λ c κs. tt) (λ c κs. tt) (λ c κs. tt) (λ c κs. tt) (λ c κs. tt) (λ c κs. tt) (λ c κs. tt) (λ c κs. tt) (λ c κs. tt) returns)
+    this.Tie.close
+    (this.Tie.spec (λ c κs. tt) (λ c κs. tt) (λ c κs. tt) (λ c κs. tt) (λ c κs. tt) (λ c κs. tt) (λ c κs. tt) (λ c κs. tt) (λ c κs. tt) (λ c κs. tt)
+    (λ c κs. tt) (λ c κs. tt) returns)

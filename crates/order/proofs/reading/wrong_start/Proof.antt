@@ -1,50 +1,34 @@
 -- `order::reading::wrong_start` meets its contract: the day's number and the shift are handed on as they are read back from their bits.
-use mathlib.Core.Path.{_≡_, sym, ap, _∙_}
-use lib.IntN.{ℤ}
-use mir.Syntax.{w32, w64}
-use mir.Val.{SFits}
-use mir.Facts.{toZ-ofZ}
+use Rattle.prelude.proofs.Logic.{_≡_, sym, ap, _∙_, ℤ, needs, w32, w64, SFits, toZ-ofZ}
 use Rattle.calendar.specs.Days.{dayNumberOf}
 use Rattle.hijri.specs.Ramadan.{ramadanStartOf}
 use Rattle.integers.proofs.Ranges.{readBack}
 use Rattle.order.specs.Reading.{wrongStartOf}
-use borrow.Author.Needs.{needs}
-use Rattle.order.proofs.reading.wrong_start.Statement.{statement}
-use Rattle.order.proofs.reading.wrong_start.Tie as tie
+use Rattle.order.proofs.reading.wrong_start as this
 
-returns : tie.Need-returns
-unfolding wrongStartOf
-returns c =
-    let s = c .before .before in
-    let day = s .before .before .day-number in
-    let set = s .before .before .before .if1 .taken in
-    let a = s .before .before .before .before .args in
-    let known = s .before .struct-told .given in
+told : (c : this.Tie.After-is-ramadan-start) → let a = c .before .before .before .before .args in
+    c .is-ramadan-start .result ≡ ramadanStartOf (dayNumberOf (a .date)) (a .ramadan .shift)
+told c =
+    let day = c .before .before .day-number in
+    let a = c .before .before .before .before .args in
+    let known = c .before .struct-told .given in
     let k : readBack w64 (day .result) ≡ day .result = search needs in
     let f : SFits w32 (a .ramadan .shift) = search needs in
-    let r = a .ramadan .shift in
-    let e = s .is-ramadan-start .ensures ∙ ap (λ (z : ℤ). ramadanStartOf z (readBack w32 r)) (k ∙ day .ensures) ∙ ap (ramadanStartOf (dayNumberOf (a .date))) (toZ-ofZ f) in
-    simp (c .none .ensures, set, sym e, c .before .if2 .taken)
+    c .is-ramadan-start .ensures ∙ ap (λ (z : ℤ). ramadanStartOf z (readBack w32 (a .ramadan .shift))) (k ∙ day .ensures)
+    ∙ ap (ramadanStartOf (dayNumberOf (a .date))) (toZ-ofZ f)
 
-returns-2 : tie.Need-returns-2
+returns : this.Tie.Need-returns
 unfolding wrongStartOf
-returns-2 c =
-    let s = c .before .before in
-    let day = s .before .before .day-number in
-    let set = s .before .before .before .if1 .taken in
-    let a = s .before .before .before .before .args in
-    let known = s .before .struct-told .given in
-    let k : readBack w64 (day .result) ≡ day .result = search needs in
-    let f : SFits w32 (a .ramadan .shift) = search needs in
-    let r = a .ramadan .shift in
-    let e = s .is-ramadan-start .ensures ∙ ap (λ (z : ℤ). ramadanStartOf z (readBack w32 r)) (k ∙ day .ensures) ∙ ap (ramadanStartOf (dayNumberOf (a .date))) (toZ-ofZ f) in
-    simp (c .new .ensures, set, sym e, c .before .if2 .left)
+returns c = simp (c .none .ensures, c .before .before .before .before .before .if1 .taken, sym (told (c .before .before)), c .before .if2 .taken)
 
-returns-3 : tie.Need-returns-3
+returns-2 : this.Tie.Need-returns-2
 unfolding wrongStartOf
-returns-3 c = simp (c .none2 .ensures, c .before .if1 .left)
+returns-2 c = simp (c .new .ensures, c .before .before .before .before .before .if1 .taken, sym (told (c .before .before)), c .before .if2 .left)
 
-pub wrong-start-spec : {M : Type 1} → statement M
+returns-3 : this.Tie.Need-returns-3
+unfolding wrongStartOf
+returns-3 c = cc
+
+pub wrong-start-spec : {M : Type 1} → this.Statement.statement M
 wrong-start-spec =
-    tie.close
-    (tie.spec (λ c κs. search needs) (λ c κs. search needs) (λ c κs. tt) returns (λ c κs. tt) returns-2 (λ c κs. tt) returns-3)
+    this.Tie.close (this.Tie.spec (λ c κs. search needs) (λ c κs. search needs) (λ c κs. tt) returns (λ c κs. tt) returns-2 (λ c κs. tt) returns-3)

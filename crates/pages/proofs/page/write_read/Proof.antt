@@ -1,77 +1,46 @@
-use native.Mathlib.Omega.{arith}
-use Prim.Native.Nat.{_+_, _-_, _*_, _/_}
-use mathlib.Core.Path.{_≡_, sym, ap, _∙_}
-use lib.ListN.{length}
-use denote.Ref.{now}
+use Rattle.prelude.proofs.Logic.{_≡_, sym, ap, _∙_, _+_, _-_, _*_, _/_, arith, length, needs, now}
 use Rattle.pages.specs.Answers.{refusedOf, pieceIn}
 use Rattle.pages.proofs.AnswerLaws.{rows-none, rows-answered}
-use Rattle.pages.proofs.PageLaws.{piece-none, piece-written}
+use Rattle.pages.proofs.PageLaws.{Written, piece-none, piece-written}
 use Rattle.pages.proofs.RowsLaws.{rows-length}
-use borrow.Author.Needs.{needs}
-use Rattle.pages.proofs.page.write_read.Statement.{statement}
-use Rattle.pages.proofs.page.write_read.Tie as tie
+use Rattle.pages.proofs.page.write_read as this
 
-returns : tie.Need-returns
+returns : this.Tie.Need-returns
 returns c =
     let a = c .before .before .before .before .before .args in
     let none = piece-none (a .order) (a .page) (a .first) (length (now (a .scratch)) / 39) (omega (arith, c .before .before .before .rows-on .ensures, c .before .before .if1 .taken)) in
     let n = rows-none (pieceIn (a .page) (a .first) (now (a .scratch)) (a .order)) (now (a .scratch)) none in
     (c .refused .ensures ∙ ap refusedOf (c .before .lacks-row .ensures) ∙ n .0, n .1)
 
-sub-write-rows : tie.Need-sub-write-rows
-sub-write-rows c =
-    let a = c .before .before .before .before .before .args in
-    let p = c .before .before .before .before .before .pre in
-    let w = piece-written (a .order) (a .page) (a .first) (length (now (a .scratch)) / 39) _ _ (c .before .before .before .rows-on .ensures) (c .before .before .if1 .left) (omega (arith, p .1)) (c .before .least .ensures) in
-    w .from
+-- what is written of a page that has the row
+piece-holds : (c : this.Tie.After-least) → let a = c .before .before .before .before .args in
+    Written (a .order) (a .page) (a .first) (length (now (a .scratch)) / 39) (c .least .result)
+piece-holds c =
+    let t = c .before .before .before .before in
+    let a = t .args in
+    piece-written (a .order) (a .page) (a .first) (length (now (a .scratch)) / 39) _ _ (c .before .before .rows-on .ensures) (c .before .if1 .left)
+    (omega (arith, t .pre .1)) (c .least .ensures)
 
-mul-write-rows : tie.Need-mul-write-rows
-mul-write-rows c =
-    let a = c .before .before .before .before .before .args in
-    let p = c .before .before .before .before .before .pre in
-    let most = p .0 .rows .1 in
-    let w = piece-written (a .order) (a .page) (a .first) (length (now (a .scratch)) / 39) _ _ (c .before .before .before .rows-on .ensures) (c .before .before .if1 .left) (omega (arith, p .1)) (c .before .least .ensures) in
-    record { fits = omega (arith, w .within) }
-
-add-write-rows : tie.Need-add-write-rows
-add-write-rows c =
-    let a = c .before .before .before .before .before .args in
-    let p = c .before .before .before .before .before .pre in
-    let most = p .0 .rows .1 in
-    let w = piece-written (a .order) (a .page) (a .first) (length (now (a .scratch)) / 39) _ _ (c .before .before .before .rows-on .ensures) (c .before .before .if1 .left) (omega (arith, p .1)) (c .before .least .ensures) in
-    record { fits = omega (arith, w .within) }
-
-write-rows-requires : tie.Need-write-rows-requires
+write-rows-requires : this.Tie.Need-write-rows-requires
 write-rows-requires c κs =
-    let a = c .before .before .before .before .before .args in
     let p = c .before .before .before .before .before .pre in
-    let w = piece-written (a .order) (a .page) (a .first) (length (now (a .scratch)) / 39) _ _ (c .before .before .before .rows-on .ensures) (c .before .before .if1 .left) (omega (arith, p .1)) (c .before .least .ensures) in
+    let w = piece-holds (c .before) in
     (p .0, w .some, w .within, omega (arith, w .fit, p .1))
 
-returns-2 : tie.Need-returns-2
+returns-2 : this.Tie.Need-returns-2
 returns-2 c =
     let a = c .before .before .before .before .before .before .before .before .args in
-    let p = c .before .before .before .before .before .before .before .before .pre in
-    let w = piece-written (a .order) (a .page) (a .first) (length (now (a .scratch)) / 39) _ _ (c .before .before .before .before .before .before .rows-on .ensures) (c .before .before .before .before .before .if1 .left) (omega (arith, p .1)) (c .before .before .before .before .least .ensures) in
+    let w = piece-holds (c .before .before .before .before) in
     let taken = c .before .before .before .before .least .result in
     let asked = pieceIn (a .page) (a .first) (now (a .scratch)) (a .order) in
     let l : taken ≡ length asked = sym (rows-length (a .order) (25 * (a .page - 1) + a .first) taken) ∙ ap length (w .rows) in
     let put = c .before .before .write-rows .ensures in
     rows-answered _ asked _ (now (a .scratch)) _ (omega (arith, w .some)) (w .rows) (put .0) (put .1)
 
-pub write-read-spec : {M : Type 1} → statement M
+pub write-read-spec : {M : Type 1} → this.Statement.statement M
 write-read-spec =
-    tie.close
-    (tie.spec
-    (λ c κs. search needs)
-    (λ c κs. search needs)
-    (λ c κs. search needs)
-    returns
-    (λ c. search needs)
-    (λ c κs. search needs)
-    sub-write-rows
-    mul-write-rows
-    add-write-rows
-    write-rows-requires
-    (λ c. search needs)
-    returns-2)
+    this.Tie.close
+    (this.Tie.spec (λ c κs. search needs) (λ c κs. search needs) (λ c κs. search needs) returns (λ c. search needs) (λ c κs. search needs)
+    (λ c. piece-holds (c .before) .from) (λ c. omega (arith, piece-holds (c .before) .within, c .before .before .before .before .before .pre .0 .rows .1))
+    (λ c. omega (arith, piece-holds (c .before) .within, c .before .before .before .before .before .pre .0 .rows .1)) write-rows-requires
+    (λ c. search needs) returns-2)

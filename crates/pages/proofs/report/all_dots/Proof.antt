@@ -1,14 +1,12 @@
-use mathlib.Core.Path.{ap, _∙_}
+use Rattle.prelude.proofs.Logic.{ap, _∙_, needs}
 use Rattle.braille.specs.Braille.{dotsOf}
 use Rattle.pages.proofs.ReportLaws.{all-written}
-use borrow.Author.Needs.{needs}
-use Rattle.pages.proofs.report.all_dots.Statement.{statement}
-use Rattle.pages.proofs.report.all_dots.Tie as tie
+use Rattle.pages.proofs.report.all_dots as this
 
-returns : tie.Need-returns
+returns : this.Tie.Need-returns
 returns c =
     let o = c .before .before .before .args .order in
     c .before .put-rows .ensures .0 ∙ ap dotsOf (all-written o)
 
-pub all-dots-spec : {M : Type 1} → statement M
-all-dots-spec = tie.close (tie.spec (λ c. search needs) (λ c κs. search needs) returns)
+pub all-dots-spec : {M : Type 1} → this.Statement.statement M
+all-dots-spec = this.Tie.close (this.Tie.spec (λ c. search needs) (λ c κs. search needs) returns)

@@ -1,17 +1,12 @@
-use mathlib.Core.Path.{sym, ap, _∙_}
-use mathlib.Core.List.{List}
-use Prim.Native.Nat.{ℕ}
-use denote.Ref.{now}
+use Rattle.prelude.proofs.Logic.{sym, ap, _∙_, List, ℕ, needs, now}
 use Rattle.text.specs.Text.{frontOf}
 use Rattle.pages.proofs.ReportLaws.{all-written, all-length}
-use borrow.Author.Needs.{needs}
-use Rattle.pages.proofs.report.put_pages.Statement.{statement}
-use Rattle.pages.proofs.report.put_pages.Tie as tie
+use Rattle.pages.proofs.report.put_pages as this
 
-returns : tie.Need-returns
+returns : this.Tie.Need-returns
 returns c =
     let a = c .before .before .before .before .before .before .args in
     (sym (all-length (a .order)), c .before .before .before .put-rows .ensures .1 ∙ ap (λ (x : List ℕ). frontOf x (now (a .buffer))) (all-written (a .order)))
 
-pub put-pages-spec : {M : Type 1} → statement M
-put-pages-spec = tie.close (tie.spec (λ c κs. search needs) (λ c. search needs) (λ c. search needs) (λ c. search needs) returns)
+pub put-pages-spec : {M : Type 1} → this.Statement.statement M
+put-pages-spec = this.Tie.close (this.Tie.spec (λ c κs. search needs) (λ c. search needs) (λ c. search needs) (λ c. search needs) returns)

@@ -1,29 +1,27 @@
-use native.Mathlib.Omega.{arith}
-use denote.Ref.{now}
+use Rattle.prelude.proofs.Logic.{arith, needs, now}
 use Rattle.text.proofs.TextLaws.{digits-short}
 use Rattle.pages.proofs.ReportLaws.{total-length, total-made}
-use borrow.Author.Needs.{needs}
-use Rattle.pages.proofs.report.put_total.Statement.{statement}
-use Rattle.pages.proofs.report.put_total.Tie as tie
+use Rattle.pages.proofs.report.put_total as this
 
-add-end : tie.Need-add-end
+add-end : this.Tie.Need-add-end
 add-end c =
     let d = digits-short 20 (c .before .before .before .before .before .before .before .before .before .before .args .dots) in
     record { fits = omega (arith, c .before .before .put-decimal .ensures .0) }
 
-add-result : tie.Need-add-result
+add-result : this.Tie.Need-add-result
 add-result c =
     let d = digits-short 20 (c .before .before .before .before .before .before .before .before .before .before .before .before .before .before .before .args .dots) in
     record { fits = omega (arith, c .before .before .before .before .before .before .before .put-decimal .ensures .0) }
 
-returns : tie.Need-returns
+returns : this.Tie.Need-returns
 returns c =
     let t = c .before .before .before .before .before .before .before .before .before .before .before .before .before .before .before in
     let a = t .args in
     let k = c .before .before .before .before .before .before .before .put-decimal .ensures in
     (total-length (a .dots) _ (k .0) .0, total-made (now (a .buffer)) _ _ _ (a .dots) _ (t .pre) (c .before .before .before .before .before .before .before .before .before .before .before .put .ensures) (k .0) (k .1) (c .before .before .put2 .ensures))
 
-pub put-total-spec : {M : Type 1} → statement M
+pub put-total-spec : {M : Type 1} → this.Statement.statement M
 put-total-spec =
-    tie.close
-    (tie.spec (λ c. search needs) (λ c κs. search needs) (λ c κs. search needs) add-end (λ c. search needs) (λ c κs. search needs) add-result (λ c. search needs) returns)
+    this.Tie.close
+    (this.Tie.spec (λ c. search needs) (λ c κs. search needs) (λ c κs. search needs) add-end (λ c. search needs) (λ c κs. search needs) add-result
+    (λ c. search needs) returns)

@@ -1,25 +1,21 @@
-use mathlib.Core.Path.{ap, _∙_}
-use denote.Ref.{now}
+use Rattle.prelude.proofs.Logic.{ap, _∙_, needs, now}
 use Rattle.pages.specs.Answers.{refusedOf, oneRow}
 use Rattle.pages.proofs.AnswerLaws.{rows-none, rows-answered, row-there, row-lacking, row-one}
-use borrow.Author.Needs.{needs}
-use Rattle.pages.proofs.row.write_read.Statement.{statement}
-use Rattle.pages.proofs.row.write_read.Tie as tie
+use Rattle.pages.proofs.row.write_read as this
 
-returns : tie.Need-returns
+returns : this.Tie.Need-returns
 returns c =
     let a = c .before .before .before .before .before .before .before .args in
     let h = c .before .before .before .before .if1 .taken in
     let put = c .before .before .write-rows .ensures in
     rows-answered _ (oneRow (a .row) (a .order)) _ (now (a .buffer)) _ (row-one (a .order) (a .row) h) (row-there (a .order) (a .row) h) (put .0) (put .1)
 
-returns-2 : tie.Need-returns-2
+returns-2 : this.Tie.Need-returns-2
 returns-2 c =
     let a = c .before .before .before .before .before .args in
     let n = rows-none (oneRow (a .row) (a .order)) (now (a .buffer)) (row-lacking (a .order) (a .row) (c .before .before .if1 .left)) in
     (c .refused .ensures ∙ ap refusedOf (c .before .lacks-row .ensures) ∙ n .0, n .1)
 
-pub write-read-spec : {M : Type 1} → statement M
+pub write-read-spec : {M : Type 1} → this.Statement.statement M
 write-read-spec =
-    tie.close
-    (tie.spec (λ c κs. search needs) (λ c. search needs) returns (λ c κs. search needs) (λ c κs. search needs) returns-2)
+    this.Tie.close (this.Tie.spec (λ c κs. search needs) (λ c. search needs) returns (λ c κs. search needs) (λ c κs. search needs) returns-2)

@@ -1,153 +1,86 @@
-use borrow.Author.Needs.{needs}
-use native.Mathlib.Omega.{arith}
-use Prim.Native.Nat.{_+_, _-_}
-use mathlib.Core.Path.{_≡_, refl, ap, _∙_}
-use mir.Syntax.{w32}
-use denote.Ref.{now}
+use Rattle.prelude.proofs.Logic.{_≡_, refl, ap, _∙_, _+_, _-_, _<_, arith, needs, w32, now}
 use Rattle.braille.specs.Cells.{rowCells}
 use Rattle.calendar.specs.declared.dates.Date.{Date}
 use Rattle.calls.proofs.RowStates.{next-state}
 use Rattle.integers.proofs.Ranges.{read}
 use Rattle.row_suns.specs.RowSuns.{rowSunsOf, nextRowSunsOf}
 use Rattle.schedule.specs.declared.prayer_times.Worked.{Worked}
-use Rattle.pages.proofs.Rolled.{clock-fits, Run, done-none, done-dots, run-row}
-use Rattle.pages.proofs.rows.put_rows.Statement.{statement}
-use Rattle.pages.proofs.rows.put_rows.Tie as tie
+use Rattle.pages.proofs.Rolled.{clock-fits, Run, Behind, done-none, run-row}
+use Rattle.pages.proofs.rows.put_rows as this
 
-abbrev Inv-loop : tie.InvT-loop
+abbrev Inv-loop : this.Tie.InvT-loop
 Inv-loop buffer₀ order row end coordinates parameters rules latitude suns₀ next₀ dots₀ buffer suns next dots =
     Run order row end buffer₀ buffer suns next dots
 
-abbrev μ-loop : tie.MeasureT-loop
+abbrev μ-loop : this.Tie.MeasureT-loop
 μ-loop buffer₀ order row end coordinates parameters rules latitude suns₀ next₀ dots₀ buffer suns next dots =
     end - next
 
-loop-holds : tie.Need-loop-holds Inv-loop μ-loop
+-- an order has few rows, so that every number here fits
+few : (c : this.Tie.At-loop Inv-loop μ-loop) → c .loop .next < 400
+few c = let p = c .before .before .before .before .before .before .before .before .pre in omega (arith, c .loop .inv .within, p .2, p .0 .rows .1)
+
+-- behind the row that is put
+row-holds : (c : this.Tie.After-put-cells Inv-loop μ-loop)
+    → let a = c .before .before .before .before .before .before .before .before .before .before .before .before .args in
+    let l = c .before .before .before .before .loop in
+    Behind (a .order) (a .row) (now (a .buffer)) (l .next + 1) (c .put-cells .last .0) (l .dots + c .put-cells .result)
+row-holds c =
+    let t = c .before .before .before .before .before .before .before .before .before .before .before .before in
+    let l = c .before .before .before .before .loop in
+    let o = t .args .order in
+    let p = t .pre in
+    let put = c .put-cells in
+    let k = read w32 (o .clock) (clock-fits o (p .0)) in
+    run-row o (t .args .row) (t .args .end) (p .0) (p .2) (now (t .args .buffer)) (p .3) (l .buffer) (l .suns) (l .next) (l .dots) (l .inv)
+    _ (put .last .0) (put .result) _
+    (ap (λ (w : Worked). rowCells (l .suns .date) w (o .clock)) (c .before .before .before .work .ensures)) (rw k at (put .ensures .0)) refl
+    (rw k at (put .ensures .1))
+
+loop-holds : this.Tie.Need-loop-holds Inv-loop μ-loop
 loop-holds c =
     let t = c .before .before .before .before .before .before .before in
     let o = t .args .order in
-    let p = t .pre in
     let n = done-none o (t .args .row) (now (t .args .buffer)) in
     record {
       from = omega arith;
-      within = p .1;
+      within = t .pre .1;
       state = c .new .ensures ∙ ap (λ (d : Date). rowSunsOf d (o .coordinates) (o .parameters) (o .rules)) (c .before .row .ensures);
       cells = n .0;
       punched = n .1;
       same = refl;
     }
 
-sub-at : tie.Need-sub-at Inv-loop μ-loop
-sub-at c = c .before .loop .inv .from
-
-cast-at : tie.Need-cast-at Inv-loop μ-loop
-cast-at c =
-    let t = c .before .before .before .before .before .before .before .before .before in
-    let l = c .before .loop in
-    let p = t .pre in
-    let from = l .inv .from in
-    let within = l .inv .within in
-    let most = p .2 in
-    let rows = p .0 .rows .1 in
-    record { fits = omega arith }
-
-mul-at : tie.Need-mul-at Inv-loop μ-loop
-mul-at c =
-    let t = c .before .before .before .before .before .before .before .before .before in
-    let l = c .before .loop in
-    let p = t .pre in
-    let from = l .inv .from in
-    let within = l .inv .within in
-    let most = p .2 in
-    let rows = p .0 .rows .1 in
-    record { fits = omega arith }
-
-add-dots : tie.Need-add-dots Inv-loop μ-loop
-add-dots c =
-    let t = c .before .before .before .before .before .before .before .before .before .before .before .before .before .before in
-    let l = c .before .before .before .before .before .before .loop in
-    let p = t .pre in
-    let from = l .inv .from in
-    let within = l .inv .within in
-    let most = p .2 in
-    let rows = p .0 .rows .1 in
-    let o = t .args .order in
-    let put = c .before .before .put-cells in
-    let work = c .before .before .before .before .before .work in
-    let k = read w32 (o .clock) (clock-fits o (p .0)) in
-    let made = run-row o (t .args .row) (t .args .end) (p .0) most (now (t .args .buffer)) (p .3) (l .buffer) (l .suns) (l .next) (l .dots) (l .inv)
-    _ (put .last .0) (put .result) _ (ap (λ (w : Worked). rowCells (l .suns .date) w (o .clock)) (work .ensures)) (rw k at (put .ensures .0)) refl (rw k at (put .ensures .1)) in
-    let d = done-dots o (t .args .row) (l .next + 1) in
-    record { fits = omega (arith, made .1) }
-
-add-next : tie.Need-add-next Inv-loop μ-loop
-add-next c =
-    let t = c .before .before .before .before .before .before .before .before .before .before .before .before .before .before in
-    let l = c .before .before .before .before .before .before .loop in
-    let p = t .pre in
-    let from = l .inv .from in
-    let within = l .inv .within in
-    let most = p .2 in
-    let rows = p .0 .rows .1 in
-    record { fits = omega arith }
-
-same-length : tie.Need-same-length Inv-loop μ-loop
-same-length c = c .before .before .before .put-cells .kept .0 ∙ c .before .before .before .before .before .before .before .loop .inv .same
-
-returns : tie.Need-returns Inv-loop μ-loop
+returns : this.Tie.Need-returns Inv-loop μ-loop
 returns c =
-    let t = c .before .before .before .before .before .before .before .before .before .before .before .before .before .before .before in
     let l = c .before .before .before .before .before .before .before .loop in
-    let p = t .pre in
-    let from = l .inv .from in
-    let within = l .inv .within in
-    let most = p .2 in
-    let rows = p .0 .rows .1 in
-    let o = t .args .order in
-    let put = c .before .before .before .put-cells in
-    let work = c .before .before .before .before .before .before .work in
-    let k = read w32 (o .clock) (clock-fits o (p .0)) in
-    let made = run-row o (t .args .row) (t .args .end) (p .0) most (now (t .args .buffer)) (p .3) (l .buffer) (l .suns) (l .next) (l .dots) (l .inv)
-    _ (put .last .0) (put .result) _ (ap (λ (w : Worked). rowCells (l .suns .date) w (o .clock)) (work .ensures)) (rw k at (put .ensures .0)) refl (rw k at (put .ensures .1)) in
-    let e : l .next + 1 ≡ t .args .end = omega (arith, c .if1 .taken) in
-    (rw e at (made .1), rw e at (made .0))
+    let m = row-holds (c .before .before .before) in
+    let t = c .before .before .before .before .before .before .before .before .before .before .before .before .before .before .before in
+    let e : l .next + 1 ≡ t .args .end = omega (arith, c .if1 .taken, l .inv .within) in
+    (rw e at (m .1), rw e at (m .0))
 
-loop-less : tie.Need-loop-less Inv-loop μ-loop
-loop-less c =
-    let t = c .before .before .before .before .before .before .before .before .before .before .before .before .before .before .before .before in
-    let l = c .before .before .before .before .before .before .before .before .loop in
-    let p = t .pre in
-    let from = l .inv .from in
-    let within = l .inv .within in
-    let most = p .2 in
-    let rows = p .0 .rows .1 in
-    omega arith
-
-loop-again : tie.Need-loop-again Inv-loop μ-loop
+loop-again : this.Tie.Need-loop-again Inv-loop μ-loop
 loop-again c =
     let t = c .before .before .before .before .before .before .before .before .before .before .before .before .before .before .before .before in
     let l = c .before .before .before .before .before .before .before .before .loop in
-    let p = t .pre in
-    let from = l .inv .from in
-    let within = l .inv .within in
-    let most = p .2 in
-    let rows = p .0 .rows .1 in
     let o = t .args .order in
-    let put = c .before .before .before .before .put-cells in
-    let work = c .before .before .before .before .before .before .before .work in
-    let k = read w32 (o .clock) (clock-fits o (p .0)) in
-    let made = run-row o (t .args .row) (t .args .end) (p .0) most (now (t .args .buffer)) (p .3) (l .buffer) (l .suns) (l .next) (l .dots) (l .inv)
-    _ (put .last .0) (put .result) _ (ap (λ (w : Worked). rowCells (l .suns .date) w (o .clock)) (work .ensures)) (rw k at (put .ensures .0)) refl (rw k at (put .ensures .1)) in
+    let m = row-holds (c .before .before .before .before) in
     record {
-      from = omega arith;
+      from = omega (arith, l .inv .from);
       within = c .before .if1 .left;
-      state = c .next .ensures ∙ ap (nextRowSunsOf (o .coordinates) (o .parameters) (o .rules)) (l .inv .state) ∙ next-state o (p .0) (l .next) (omega arith);
-      cells = made .0;
-      punched = made .1;
-      same = put .kept .0 ∙ l .inv .same;
+      state = c .next .ensures ∙ ap (nextRowSunsOf (o .coordinates) (o .parameters) (o .rules)) (l .inv .state)
+          ∙ next-state o (t .pre .0) (l .next) (omega (arith, l .inv .within, t .pre .2));
+      cells = m .0;
+      punched = m .1;
+      same = c .before .before .before .before .put-cells .kept .0 ∙ l .inv .same;
     }
 
-pub put-rows-spec : {M : Type 1} → statement M
+pub put-rows-spec : {M : Type 1} → this.Statement.statement M
 put-rows-spec =
-    tie.close
-    (tie.spec Inv-loop μ-loop (λ c κs. search needs) (λ c κs. search needs) loop-holds (λ c κs. search needs) sub-at cast-at mul-at (λ c κs. search needs) add-dots add-next same-length returns (λ c κs. search needs) loop-less loop-again)
+    this.Tie.close
+    (this.Tie.spec Inv-loop μ-loop (λ c κs. search needs) (λ c κs. search needs) loop-holds (λ c κs. search needs) (λ c. c .before .loop .inv .from)
+    (λ c. omega (arith, few (c .before))) (λ c. omega (arith, few (c .before))) (λ c κs. search needs)
+    (λ c. omega (arith, row-holds (c .before .before) .2, few (c .before .before .before .before .before .before)))
+    (λ c. omega (arith, few (c .before .before .before .before .before .before)))
+    (λ c. c .before .before .before .put-cells .kept .0 ∙ c .before .before .before .before .before .before .before .loop .inv .same) returns
+    (λ c κs. search needs) (λ c. omega (arith, c .before .before .before .before .before .before .before .before .loop .inv .within)) loop-again)

@@ -1,15 +1,12 @@
-use denote.Ref.{now}
+use Rattle.prelude.proofs.Logic.{needs, now}
 use Rattle.pages.proofs.AnswerLaws.{rows-counted}
-use borrow.Author.Needs.{needs}
-use Rattle.pages.proofs.rows.write_rows.Statement.{statement}
-use Rattle.pages.proofs.rows.write_rows.Tie as tie
+use Rattle.pages.proofs.rows.write_rows as this
 
-returns : tie.Need-returns
+returns : this.Tie.Need-returns
 returns c =
     let a = c .before .before .before .before .before .before .args in
     let put = c .before .before .before .put-rows .ensures in
     rows-counted (a .order) (a .row) (a .count) _ _ (now (a .buffer)) _ (c .none .ensures) (put .0) (put .1)
 
-pub write-rows-spec : {M : Type 1} → statement M
-write-rows-spec =
-    tie.close (tie.spec (λ c. search needs) (λ c κs. search needs) (λ c κs. search needs) (λ c. search needs) returns)
+pub write-rows-spec : {M : Type 1} → this.Statement.statement M
+write-rows-spec = this.Tie.close (this.Tie.spec (λ c. search needs) (λ c κs. search needs) (λ c κs. search needs) (λ c. search needs) returns)

@@ -1,22 +1,16 @@
-use mathlib.Core.Path.{sym}
+use Rattle.prelude.proofs.Logic.{sym, needs}
 use Rattle.probes.specs.Days.{probeDayOf}
-use borrow.Author.Needs.{needs}
-use Rattle.probes.proofs.days.answered.Statement.{statement}
-use Rattle.probes.proofs.days.answered.Tie as tie
+use Rattle.probes.proofs.days.answered as this
 
-returns : tie.Need-returns
+returns : this.Tie.Need-returns
 unfolding probeDayOf
 returns c =
     let e0 = c .probe-times .ensures in
     simp (sym e0, c .before .before .worked .given .1)
 
-returns-2 : tie.Need-returns-2
+returns-2 : this.Tie.Need-returns-2
 unfolding probeDayOf
-returns-2 c =
-    let e0 = c .no-times .ensures in
-    simp (sym e0, c .before .before .worked2 .given .1)
+returns-2 c = cc
 
-pub answered-spec : {M : Type 1} → statement M
-answered-spec =
-    tie.close
-    (tie.spec (λ c. search needs) (λ c κs. tt) (λ c. search needs) (λ c κs. tt) returns returns-2)
+pub answered-spec : {M : Type 1} → this.Statement.statement M
+answered-spec = this.Tie.close (this.Tie.spec (λ c. search needs) (λ c κs. tt) (λ c. search needs) (λ c κs. tt) returns returns-2)

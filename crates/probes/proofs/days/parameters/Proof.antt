@@ -1,12 +1,8 @@
-use mir.Syntax.{w32}
-use mir.Val.{SFits}
-use mir.Facts.{toZ-ofZ}
+use Rattle.prelude.proofs.Logic.{needs, w32, SFits, toZ-ofZ}
 use Rattle.probes.specs.Days.{parametersFrom}
-use borrow.Author.Needs.{needs}
-use Rattle.probes.proofs.days.parameters.Statement.{statement}
-use Rattle.probes.proofs.days.parameters.Tie as tie
+use Rattle.probes.proofs.days.parameters as this
 
-returns : tie.Need-returns
+returns : this.Tie.Need-returns
 unfolding parametersFrom
 returns c =
     let f0 : SFits w32 (c .before .before .before .before .before .before .before .before .before .args .s .«isha_interval») = search needs in
@@ -19,7 +15,5 @@ returns c =
     let e6 = c .before .before .before .before .before .before .before .before .of-number .ensures in
     simp (toZ-ofZ f0, e0, e1, e2, e3, e4, e5, e6)
 
-pub parameters-spec : {M : Type 1} → statement M
-parameters-spec =
-    tie.close
-    (tie.spec (λ c κs. tt) (λ c κs. tt) (λ c κs. tt) (λ c κs. tt) (λ c κs. tt) (λ c κs. tt) (λ c κs. tt) returns)
+pub parameters-spec : {M : Type 1} → this.Statement.statement M
+parameters-spec = this.Tie.close (this.Tie.spec (λ c κs. tt) (λ c κs. tt) (λ c κs. tt) (λ c κs. tt) (λ c κs. tt) (λ c κs. tt) (λ c κs. tt) returns)

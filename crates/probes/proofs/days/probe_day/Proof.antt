@@ -1,7 +1,6 @@
-use Rattle.probes.proofs.days.probe_day.Statement.{statement}
-use Rattle.probes.proofs.days.probe_day.Tie as tie
+use Rattle.probes.proofs.days.probe_day as this
 
-returns : tie.Need-returns
+returns : this.Tie.Need-returns
 returns c =
     simp (
       c .answered .ensures,
@@ -12,7 +11,5 @@ returns c =
       c .before .before .before .before .before .row .ensures,
     )
 
-pub probe-day-spec : {M : Type 1} → statement M
-probe-day-spec =
-    tie.close
-    (tie.spec (λ c κs. tt) (λ c κs. tt) (λ c κs. tt) (λ c κs. tt) (λ c κs. tt) (λ c κs. tt) returns)
+pub probe-day-spec : {M : Type 1} → this.Statement.statement M
+probe-day-spec = this.Tie.close (this.Tie.spec (λ c κs. tt) (λ c κs. tt) (λ c κs. tt) (λ c κs. tt) (λ c κs. tt) (λ c κs. tt) returns)

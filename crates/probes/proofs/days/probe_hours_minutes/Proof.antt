@@ -1,15 +1,14 @@
 use Rattle.probes.specs.Days.{probeRemainingOf}
-use borrow.Author.Needs.{needs}
-use Rattle.probes.proofs.days.probe_hours_minutes.Statement.{statement}
-use Rattle.probes.proofs.days.probe_hours_minutes.Tie as tie
+use Rattle.prelude.proofs.Logic.{needs}
+use Rattle.probes.proofs.days.probe_hours_minutes as this
 
-returns : tie.Need-returns
+returns : this.Tie.Need-returns
 unfolding probeRemainingOf
-returns c = simp (c .before .remaining .given .1)
+returns c = cc
 
-returns-2 : tie.Need-returns-2
+returns-2 : this.Tie.Need-returns-2
 unfolding probeRemainingOf
-returns-2 c = simp (c .enum-told .given .1)
+returns-2 c = cc
 
-pub probe-hours-minutes-spec : {M : Type 1} → statement M
-probe-hours-minutes-spec = tie.close (tie.spec (λ c. search needs) (λ c. search needs) returns returns-2)
+pub probe-hours-minutes-spec : {M : Type 1} → this.Statement.statement M
+probe-hours-minutes-spec = this.Tie.close (this.Tie.spec (λ c. search needs) (λ c. search needs) returns returns-2)

@@ -1,13 +1,8 @@
-use mir.Syntax.{w32}
-use mir.Val.{SFits}
-use mir.Facts.{toZ-ofZ}
-use mathlib.Core.Path.{sym}
+use Rattle.prelude.proofs.Logic.{sym, needs, w32, SFits, toZ-ofZ}
 use Rattle.probes.specs.Days.{settingsOf}
-use borrow.Author.Needs.{needs}
-use Rattle.probes.proofs.days.probe_preset.Statement.{statement}
-use Rattle.probes.proofs.days.probe_preset.Tie as tie
+use Rattle.probes.proofs.days.probe_preset as this
 
-returns : tie.Need-returns
+returns : this.Tie.Need-returns
 unfolding settingsOf
 returns c =
     let f0 : SFits w32 (c .before .before .before .before .before .before .before .before .parameters .result .adjustments .fajr) = search needs in
@@ -41,7 +36,5 @@ returns c =
       sym e6,
     )
 
-pub probe-preset-spec : {M : Type 1} → statement M
-probe-preset-spec =
-    tie.close
-    (tie.spec (λ c κs. tt) (λ c κs. tt) (λ c κs. tt) (λ c κs. tt) (λ c κs. tt) (λ c κs. tt) (λ c κs. tt) returns)
+pub probe-preset-spec : {M : Type 1} → this.Statement.statement M
+probe-preset-spec = this.Tie.close (this.Tie.spec (λ c κs. tt) (λ c κs. tt) (λ c κs. tt) (λ c κs. tt) (λ c κs. tt) (λ c κs. tt) (λ c κs. tt) returns)

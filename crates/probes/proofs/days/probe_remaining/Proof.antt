@@ -1,11 +1,10 @@
-use mathlib.Core.Path.{_≡_, ap, _∙_}
+use Rattle.prelude.proofs.Logic.{_≡_, ap, _∙_}
 use Rattle.schedule.specs.InForce.{timeRemainingOf}
 use Rattle.probes.specs.Days.{probeRemainingOf}
 use Rattle.probes.proofs.At.{at}
-use Rattle.probes.proofs.days.probe_remaining.Statement.{statement}
-use Rattle.probes.proofs.days.probe_remaining.Tie as tie
+use Rattle.probes.proofs.days.probe_remaining as this
 
-returns : tie.Need-returns
+returns : this.Tie.Need-returns
 returns c =
     let start = c .before .before .before .before in
     let a = start .args in
@@ -15,6 +14,5 @@ returns c =
     let e1 : c .before .time-remaining .result ≡ timeRemainingOf (t .result) (i .result) = c .before .time-remaining .ensures in
     e0 ∙ ap probeRemainingOf (e1 ∙ at timeRemainingOf (a .times) (a .seconds) (a .nanoseconds) (t .result) (i .result) (start .fits .seconds) (t .ensures) (i .ensures))
 
-pub probe-remaining-spec : {M : Type 1} → statement M
-probe-remaining-spec =
-    tie.close (tie.spec (λ c κs. tt) (λ c κs. tt) (λ c κs. tt) (λ c κs. tt) returns)
+pub probe-remaining-spec : {M : Type 1} → this.Statement.statement M
+probe-remaining-spec = this.Tie.close (this.Tie.spec (λ c κs. tt) (λ c κs. tt) (λ c κs. tt) (λ c κs. tt) returns)

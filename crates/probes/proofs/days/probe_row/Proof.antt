@@ -1,7 +1,6 @@
-use Rattle.probes.proofs.days.probe_row.Statement.{statement}
-use Rattle.probes.proofs.days.probe_row.Tie as tie
+use Rattle.probes.proofs.days.probe_row as this
 
-returns : tie.Need-returns
+returns : this.Tie.Need-returns
 returns c =
     simp (
       c .answered .ensures,
@@ -13,7 +12,5 @@ returns c =
       c .before .before .before .before .before .before .new .ensures,
     )
 
-pub probe-row-spec : {M : Type 1} → statement M
-probe-row-spec =
-    tie.close
-    (tie.spec (λ c κs. tt) (λ c κs. tt) (λ c κs. tt) (λ c κs. tt) (λ c κs. tt) (λ c κs. tt) (λ c κs. tt) returns)
+pub probe-row-spec : {M : Type 1} → this.Statement.statement M
+probe-row-spec = this.Tie.close (this.Tie.spec (λ c κs. tt) (λ c κs. tt) (λ c κs. tt) (λ c κs. tt) (λ c κs. tt) (λ c κs. tt) (λ c κs. tt) returns)

@@ -1,5 +1,4 @@
-use Rattle.probes.proofs.days.row.Statement.{statement}
-use Rattle.probes.proofs.days.row.Tie as tie
+use Rattle.probes.proofs.days.row as this
 
-pub row-spec : {M : Type 1} → statement M
-row-spec = tie.close (tie.spec (λ c κs. tt) (λ c κs. tt) (λ c κs. tt) (λ c. cc))
+pub row-spec : {M : Type 1} → this.Statement.statement M
+row-spec = this.Tie.close (this.Tie.spec (λ c κs. tt) (λ c κs. tt) (λ c κs. tt) (λ c. cc))

@@ -1,8 +1,7 @@
-use Rattle.probes.proofs.days.rules.Statement.{statement}
-use Rattle.probes.proofs.days.rules.Tie as tie
+use Rattle.probes.proofs.days.rules as this
 
-returns : tie.Need-returns
+returns : this.Tie.Need-returns
 returns c = simp (c .of-number2 .ensures, c .before .of-number .ensures)
 
-pub rules-spec : {M : Type 1} → statement M
-rules-spec = tie.close (tie.spec (λ c κs. tt) (λ c κs. tt) returns)
+pub rules-spec : {M : Type 1} → this.Statement.statement M
+rules-spec = this.Tie.close (this.Tie.spec (λ c κs. tt) (λ c κs. tt) returns)

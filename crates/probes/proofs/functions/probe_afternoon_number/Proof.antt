@@ -1,15 +1,14 @@
-use mathlib.Core.Path.{ap}
+use Rattle.prelude.proofs.Logic.{ap}
 use lib.Ieee.{Float}
 use Rattle.solar.proofs.SharedLaws.{afternoon-shared}
 use Rattle.probes.specs.Functions.{probeSunOf}
-use Rattle.probes.proofs.functions.probe_afternoon_number.Statement.{statement}
-use Rattle.probes.proofs.functions.probe_afternoon_number.Tie as tie
+use Rattle.probes.proofs.functions.probe_afternoon_number as this
 
-returns : tie.Need-returns
+returns : this.Tie.Need-returns
 returns c =
     let a = c .before .before .args in
     simp (c .afternoon-number .ensures, c .before .course .ensures)
     (ap (λ (number : Float → Float). number (a .shadow-length)) (afternoon-shared (probeSunOf (a .year) (a .month) (a .day) (a .latitude) (a .longitude))))
 
-pub probe-afternoon-number-spec : {M : Type 1} → statement M
-probe-afternoon-number-spec = tie.close (tie.spec (λ c κs. tt) (λ c κs. tt) returns)
+pub probe-afternoon-number-spec : {M : Type 1} → this.Statement.statement M
+probe-afternoon-number-spec = this.Tie.close (this.Tie.spec (λ c κs. tt) (λ c κs. tt) returns)

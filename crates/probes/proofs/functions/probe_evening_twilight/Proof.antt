@@ -1,13 +1,9 @@
-use mathlib.Core.Path.{_≡_, ap, _∙_}
-use mir.Syntax.{w64}
+use Rattle.prelude.proofs.Logic.{_≡_, ap, _∙_, ℤ, needs, w64}
 use Rattle.integers.proofs.Ranges.{readBack, read}
-use lib.IntN.{ℤ}
 use Rattle.ops.specs.Season.{seasonAdjustedEveningTwilightOf}
-use borrow.Author.Needs.{needs}
-use Rattle.probes.proofs.functions.probe_evening_twilight.Statement.{statement}
-use Rattle.probes.proofs.functions.probe_evening_twilight.Tie as tie
+use Rattle.probes.proofs.functions.probe_evening_twilight as this
 
-returns : tie.Need-returns
+returns : this.Tie.Need-returns
 returns c =
     let t = c .before .before in
     let k : readBack w64 (c .season-adjusted-evening-twilight .result) ≡ c .season-adjusted-evening-twilight .result = search needs in
@@ -15,6 +11,5 @@ returns c =
     ∙ ap (λ (z : ℤ). seasonAdjustedEveningTwilightOf (t .args .latitude) (t .args .day) (t .args .year) z (c .before .of-number .result)) (read w64 (t .args .sunset) (t .fits .sunset))
     ∙ ap (seasonAdjustedEveningTwilightOf (t .args .latitude) (t .args .day) (t .args .year) (t .args .sunset)) (c .before .of-number .ensures)
 
-pub probe-evening-twilight-spec : {M : Type 1} → statement M
-probe-evening-twilight-spec =
-    tie.close (tie.spec (λ c κs. tt) (λ c κs. tt) returns)
+pub probe-evening-twilight-spec : {M : Type 1} → this.Statement.statement M
+probe-evening-twilight-spec = this.Tie.close (this.Tie.spec (λ c κs. tt) (λ c κs. tt) returns)

@@ -1,20 +1,14 @@
-use mir.Syntax.{w32}
-use mir.Val.{SFits}
-use mir.Facts.{toZ-ofZ}
+use Rattle.prelude.proofs.Logic.{needs, w32, SFits, toZ-ofZ}
 use Rattle.probes.specs.Functions.{probeTimeOf}
-use borrow.Author.Needs.{needs}
-use Rattle.probes.proofs.functions.time.Statement.{statement}
-use Rattle.probes.proofs.functions.time.Tie as tie
+use Rattle.probes.proofs.functions.time as this
 
-returns : tie.Need-returns
+returns : this.Tie.Need-returns
 unfolding probeTimeOf
-returns c =
-    let f0 : SFits w32 (c .before .hour .given .0 .0) = search needs in
-    simp (toZ-ofZ f0, c .before .hour .given .1)
+returns c = let f0 : SFits w32 (c .before .hour .given .0 .0) = search needs in cc (toZ-ofZ f0)
 
-returns-2 : tie.Need-returns-2
+returns-2 : this.Tie.Need-returns-2
 unfolding probeTimeOf
-returns-2 c = simp (c .enum-told .given .1)
+returns-2 c = cc
 
-pub time-spec : {M : Type 1} → statement M
-time-spec = tie.close (tie.spec (λ c. search needs) (λ c. search needs) returns returns-2)
+pub time-spec : {M : Type 1} → this.Statement.statement M
+time-spec = this.Tie.close (this.Tie.spec (λ c. search needs) (λ c. search needs) returns returns-2)

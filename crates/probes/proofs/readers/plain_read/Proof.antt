@@ -1,12 +1,11 @@
 -- `probes::readers::plain_read` meets its contract.
-use mathlib.Core.Path.{refl}
+use Rattle.prelude.proofs.Logic.{refl}
 use Rattle.probes.specs.Readers.{plainRead}
-use Rattle.probes.proofs.readers.plain_read.Statement.{statement}
-use Rattle.probes.proofs.readers.plain_read.Tie as tie
+use Rattle.probes.proofs.readers.plain_read as this
 
-returns : tie.Need-returns
+returns : this.Tie.Need-returns
 unfolding plainRead
 returns c = refl
 
-pub plain-read-spec : {M : Type 1} → statement M
-plain-read-spec = tie.close (tie.spec returns)
+pub plain-read-spec : {M : Type 1} → this.Statement.statement M
+plain-read-spec = this.Tie.close (this.Tie.spec returns)

@@ -1,14 +1,13 @@
 -- `probes::readers::plain_refused` meets its contract.
-use mathlib.Core.Path.{refl}
+use Rattle.prelude.proofs.Logic.{refl}
 use lib.Ieee.{round, ofBits}
 use Rattle.float64.specs.Ops.{dec}
 use Rattle.probes.specs.Readers.{plainRefused}
-use Rattle.probes.proofs.readers.plain_refused.Statement.{statement}
-use Rattle.probes.proofs.readers.plain_refused.Tie as tie
+use Rattle.probes.proofs.readers.plain_refused as this
 
-returns : tie.Need-returns
+returns : this.Tie.Need-returns
 unfolding plainRefused dec round ofBits
 returns c = refl
 
-pub plain-refused-spec : {M : Type 1} → statement M
-plain-refused-spec = tie.close (tie.spec returns)
+pub plain-refused-spec : {M : Type 1} → this.Statement.statement M
+plain-refused-spec = this.Tie.close (this.Tie.spec returns)

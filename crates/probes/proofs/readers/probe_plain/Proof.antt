@@ -1,19 +1,15 @@
 -- `probes::readers::probe_plain` meets its contract: a match on what reading answers.
-use mathlib.Core.Path.{sym}
+use Rattle.prelude.proofs.Logic.{needs}
 use Rattle.probes.specs.Readers.{plainIn}
-use borrow.Author.Needs.{needs}
-use Rattle.probes.proofs.readers.probe_plain.Statement.{statement}
-use Rattle.probes.proofs.readers.probe_plain.Tie as tie
+use Rattle.probes.proofs.readers.probe_plain as this
 
-returns : tie.Need-returns
+returns : this.Tie.Need-returns
 unfolding plainIn
-returns c = simp (c .plain-read .ensures, sym (c .before .before .before .before .read .ensures), c .before .before .«record» .given .1)
+returns c = cc
 
-returns-2 : tie.Need-returns-2
+returns-2 : this.Tie.Need-returns-2
 unfolding plainIn
-returns-2 c = simp (c .plain-refused .ensures, sym (c .before .before .before .before .read .ensures), c .before .before .refusal .given .1)
+returns-2 c = cc
 
-pub probe-plain-spec : {M : Type 1} → statement M
-probe-plain-spec =
-    tie.close
-    (tie.spec (λ c κs. tt) (λ c. search needs) (λ c κs. tt) (λ c. search needs) (λ c κs. tt) returns returns-2)
+pub probe-plain-spec : {M : Type 1} → this.Statement.statement M
+probe-plain-spec = this.Tie.close (this.Tie.spec (λ c κs. tt) (λ c. search needs) (λ c κs. tt) (λ c. search needs) (λ c κs. tt) returns returns-2)

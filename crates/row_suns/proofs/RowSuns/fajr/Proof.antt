@@ -1,10 +1,9 @@
 use Rattle.row_suns.specs.RowSuns.{rowSunsFajrOf}
-use Rattle.row_suns.proofs.RowSuns.fajr.Statement.{statement}
-use Rattle.row_suns.proofs.RowSuns.fajr.Tie as tie
+use Rattle.row_suns.proofs.RowSuns.fajr as this
 
-returns : tie.Need-returns
+returns : this.Tie.Need-returns
 unfolding rowSunsFajrOf
 returns c = simp (c .fajr .ensures, c .before .new .ensures)
 
-pub fajr-spec : {M : Type 1} → statement M
-fajr-spec = tie.close (tie.spec (λ c κs. tt) (λ c κs. tt) returns)
+pub fajr-spec : {M : Type 1} → this.Statement.statement M
+fajr-spec = this.Tie.close (this.Tie.spec (λ c κs. tt) (λ c κs. tt) returns)

@@ -1,8 +1,7 @@
 use Rattle.row_suns.specs.RowSuns.{rowSunsOf}
-use Rattle.row_suns.proofs.RowSuns.new.Statement.{statement}
-use Rattle.row_suns.proofs.RowSuns.new.Tie as tie
+use Rattle.row_suns.proofs.RowSuns.new as this
 
-returns : tie.Need-returns
+returns : this.Tie.Need-returns
 unfolding rowSunsOf
 returns c =
     let day = c .before .before .before in
@@ -10,5 +9,5 @@ returns c =
     let dates = positions .before .before .before .before .before .before in
     simp (c .day-sun3 .ensures, c .before .day-sun2 .ensures, c .before .before .day-sun .ensures, day .sun3 .ensures, day .before .sun2 .ensures, day .before .before .sun .ensures, positions .position5 .ensures, positions .before .yesterday .ensures, positions .before .before .position4 .ensures, positions .before .before .before .position3 .ensures, positions .before .before .before .before .position2 .ensures, positions .before .before .before .before .before .position .ensures, dates .tomorrow3 .ensures, dates .before .tomorrow2 .ensures, dates .before .before .tomorrow .ensures, dates .before .before .before .new .ensures)
 
-pub new-spec : {M : Type 1} → statement M
-new-spec = tie.close (tie.spec (λ c κs. tt) (λ c κs. tt) (λ c κs. tt) (λ c κs. tt) (λ c κs. tt) (λ c κs. tt) (λ c κs. tt) (λ c κs. tt) (λ c κs. tt) (λ c κs. tt) (λ c κs. tt) (λ c κs. tt) (λ c κs. tt) (λ c κs. tt) (λ c κs. tt) (λ c κs. tt) returns)
+pub new-spec : {M : Type 1} → this.Statement.statement M
+new-spec = this.Tie.close (this.Tie.spec (λ c κs. tt) (λ c κs. tt) (λ c κs. tt) (λ c κs. tt) (λ c κs. tt) (λ c κs. tt) (λ c κs. tt) (λ c κs. tt) (λ c κs. tt) (λ c κs. tt) (λ c κs. tt) (λ c κs. tt) (λ c κs. tt) (λ c κs. tt) (λ c κs. tt) (λ c κs. tt) returns)

@@ -1,10 +1,9 @@
 use Rattle.row_suns.specs.RowSuns.{nextRowSunsOf}
-use Rattle.row_suns.proofs.RowSuns.next.Statement.{statement}
-use Rattle.row_suns.proofs.RowSuns.next.Tie as tie
+use Rattle.row_suns.proofs.RowSuns.next as this
 
-returns : tie.Need-returns
+returns : this.Tie.Need-returns
 unfolding nextRowSunsOf
 returns c = cc
 
-pub next-spec : {M : Type 1} → statement M
-next-spec = tie.close (tie.spec (λ c κs. tt) (λ c κs. tt) (λ c κs. tt) (λ c κs. tt) (λ c κs. tt) returns)
+pub next-spec : {M : Type 1} → this.Statement.statement M
+next-spec = this.Tie.close (this.Tie.spec (λ c κs. tt) (λ c κs. tt) (λ c κs. tt) (λ c κs. tt) (λ c κs. tt) returns)

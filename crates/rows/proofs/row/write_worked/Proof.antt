@@ -1,16 +1,11 @@
-use native.Mathlib.Omega.{arith}
-use mathlib.Core.Path.{refl, _∙_}
-use mathlib.Core.List.{[]}
-use denote.Ref.{now}
+use Rattle.prelude.proofs.Logic.{refl, _∙_, [], arith, needs, now}
 use Rattle.lines.specs.Lines.{columnsOf, rowText}
 use Rattle.lines.proofs.LinesLaws.{columns-length}
 use Rattle.text.proofs.TextLaws.{put-next}
 use Rattle.rows.specs.Rows.{answerOf, rowFrontOf}
-use borrow.Author.Needs.{needs}
-use Rattle.rows.proofs.row.write_worked.Statement.{statement}
-use Rattle.rows.proofs.row.write_worked.Tie as tie
+use Rattle.rows.proofs.row.write_worked as this
 
-returns : tie.Need-returns
+returns : this.Tie.Need-returns
 unfolding answerOf rowFrontOf
 returns c =
     let put = c .before .before .before .put-row in
@@ -21,11 +16,10 @@ returns c =
     let p = put-next (now (a .buffer)) [] (rowText (a .date) (columnsOf (a .ramadan) (w .0 .0))) (now (a .buffer)) _ 0 refl refl (put .ensures .1) (omega (arith, start .pre)) in
     (c .none .ensures ∙ simp (w .1), simp (w .1) p)
 
-returns-2 : tie.Need-returns-2
+returns-2 : this.Tie.Need-returns-2
 unfolding answerOf rowFrontOf
 returns-2 c = let e = c .before .worked2 .given .1 in (simp e, simp e)
 
-pub write-worked-spec : {M : Type 1} → statement M
+pub write-worked-spec : {M : Type 1} → this.Statement.statement M
 write-worked-spec =
-    tie.close
-    (tie.spec (λ c. search needs) (λ c κs. search needs) (λ c κs. tt) (λ c. search needs) (λ c. search needs) returns returns-2)
+    this.Tie.close (this.Tie.spec (λ c. search needs) (λ c κs. search needs) (λ c κs. tt) (λ c. search needs) (λ c. search needs) returns returns-2)

@@ -1,13 +1,8 @@
-use native.Mathlib.Omega.{arith}
-use mathlib.Core.Path.{_≡_}
-use lib.ListN.{length}
-use denote.Ref.{now}
+use Rattle.prelude.proofs.Logic.{_≡_, arith, length, needs, now}
 use Rattle.rows.proofs.Lengths.{room-enough, head-length, sheet-made}
-use borrow.Author.Needs.{needs}
-use Rattle.rows.proofs.sheet.put_accepted.Statement.{statement}
-use Rattle.rows.proofs.sheet.put_accepted.Tie as tie
+use Rattle.rows.proofs.sheet.put_accepted as this
 
-put-rows-requires : tie.Need-put-rows-requires
+put-rows-requires : this.Tie.Need-put-rows-requires
 put-rows-requires c κs =
     let a = c .before .before .before .before .before .before .before .args in
     let p = c .before .before .before .before .before .before .before .pre in
@@ -18,7 +13,7 @@ put-rows-requires c κs =
     let k : length (h .last .0) ≡ length (now (a .buffer)) = h .kept .0 in
     (p .0, omega (arith, p .1, p .2))
 
-returns : tie.Need-returns
+returns : this.Tie.Need-returns
 returns c =
     let a = c .before .before .before .before .before .before .before .before .before .before .args in
     let p = c .before .before .before .before .before .before .before .before .before .before .pre in
@@ -27,5 +22,5 @@ returns c =
     let room = room-enough (a .order) (p .0) in
     sheet-made (now (a .town)) (now (a .buffer)) _ _ (a .order) _ _ (omega (arith, p .1, p .2)) (h .0) (h .1) (r .0) (r .1)
 
-pub put-accepted-spec : {M : Type 1} → statement M
-put-accepted-spec = tie.close (tie.spec (λ c κs. search needs) put-rows-requires (λ c. search needs) returns)
+pub put-accepted-spec : {M : Type 1} → this.Statement.statement M
+put-accepted-spec = this.Tie.close (this.Tie.spec (λ c κs. search needs) put-rows-requires (λ c. search needs) returns)

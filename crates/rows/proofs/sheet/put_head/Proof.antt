@@ -1,20 +1,15 @@
-use native.Mathlib.Omega.{arith}
-use mathlib.Core.Path.{_≡_, sym, ap, _∙_}
-use lib.ListN.{length}
-use denote.Ref.{now}
+use Rattle.prelude.proofs.Logic.{arith, needs, now}
 use Rattle.rows.proofs.Lengths.{header-short, head-length, head-made}
-use borrow.Author.Needs.{needs}
-use Rattle.rows.proofs.sheet.put_head.Statement.{statement}
-use Rattle.rows.proofs.sheet.put_head.Tie as tie
+use Rattle.rows.proofs.sheet.put_head as this
 
-add-result : tie.Need-add-result
+add-result : this.Tie.Need-add-result
 add-result c =
     let t = c .before .before .before .before .before .before .before .before .before .before in
     let h = c .before .before .put-header .ensures .0 in
     let n = header-short (t .args .ramadan) in
     record { fits = omega (arith, t .pre .0) }
 
-returns : tie.Need-returns
+returns : this.Tie.Need-returns
 returns c =
     let t = c .before .before .before .before .before .before .before .before .before .before in
     let a = t .args in
@@ -25,7 +20,5 @@ returns c =
       head-made (a .ramadan) (now (a .town)) (now (a .buffer)) _ _ (omega (arith, t .pre .0, t .pre .1)) (c .before .before .before .before .before .before .put .ensures) (h .1),
     )
 
-pub put-head-spec : {M : Type 1} → statement M
-put-head-spec =
-    tie.close
-    (tie.spec (λ c κs. search needs) (λ c κs. search needs) add-result (λ c. search needs) returns)
+pub put-head-spec : {M : Type 1} → this.Statement.statement M
+put-head-spec = this.Tie.close (this.Tie.spec (λ c κs. search needs) (λ c κs. search needs) add-result (λ c. search needs) returns)

@@ -1,24 +1,30 @@
-use borrow.Author.Needs.{needs}
-use native.Mathlib.Omega.{arith}
-use Prim.Native.Nat.{_+_, _-_, _^_, _<_}
-use mathlib.Core.Path.{_≡_, refl, ap, _∙_}
-use lib.ListN.{length}
-use denote.Ref.{now}
+use Rattle.prelude.proofs.Logic.{_≡_, refl, ap, _∙_, _+_, _-_, _^_, _<_, arith, length, needs, now}
 use Rattle.calls.proofs.RowStates.{first-state, next-state}
 use Rattle.lines.specs.Lines.{lineText}
 use Rattle.row_suns.specs.RowSuns.{nextRowSunsOf}
 use Rattle.rows.proofs.Lengths.{lines-none}
-use Rattle.rows.proofs.Rolled.{Run, run-line, run-room}
-use Rattle.rows.proofs.sheet.put_rows.Statement.{statement}
-use Rattle.rows.proofs.sheet.put_rows.Tie as tie
+use Rattle.rows.proofs.Rolled.{Run, Behind, run-line}
+use Rattle.rows.proofs.sheet.put_rows as this
 
-abbrev Inv-loop : tie.InvT-loop
+abbrev Inv-loop : this.Tie.InvT-loop
 Inv-loop buffer₀ at order coordinates parameters rules ramadan latitude rolling₀ row₀ end₀ buffer suns row end = Run order buffer₀ at buffer suns row end
 
-abbrev μ-loop : tie.MeasureT-loop
+abbrev μ-loop : this.Tie.MeasureT-loop
 μ-loop buffer₀ at order coordinates parameters rules ramadan latitude rolling₀ row₀ end₀ buffer suns row end = order .rows - row
 
-loop-holds : tie.Need-loop-holds Inv-loop μ-loop
+-- behind the row whose line is put
+line-holds : (c : this.Tie.After-put-line Inv-loop μ-loop) → let a = c .before .before .before .before .before .before .before .before .before .before .args in
+    let l = c .before .before .before .loop in
+    Behind (a .order) (now (a .buffer)) (a .at) (c .put-line .last .0) (l .row + 1) (l .end + c .put-line .result)
+line-holds c =
+    let t = c .before .before .before .before .before .before .before .before .before .before in
+    let o = t .args .order in
+    let l = c .before .before .before .loop in
+    let put = c .put-line in
+    run-line o (t .pre .0) (now (t .args .buffer)) (t .args .at) (t .pre .1) (l .buffer) (l .suns) (l .row) (l .end) (l .inv) _ (put .last .0) (put .result)
+    (ap (lineText (o .ramadan) (l .suns .date)) (c .before .before .work .ensures)) (put .ensures .0) (put .ensures .1)
+
+loop-holds : this.Tie.Need-loop-holds Inv-loop μ-loop
 loop-holds c =
     let t = c .before .before .before .before .before .before in
     let o = t .args .order in
@@ -26,64 +32,43 @@ loop-holds c =
     let n = lines-none o (now (t .args .buffer)) (t .args .at) (omega (arith, p .1)) in
     record { within = p .0 .rows .0; state = c .new .ensures ∙ first-state o (p .0); text = n .0; place = n .1; same = refl }
 
-add-end : tie.Need-add-end Inv-loop μ-loop
+add-end : this.Tie.Need-add-end Inv-loop μ-loop
 add-end c =
     let t = c .before .before .before .before .before .before .before .before .before .before .before .before in
-    let o = t .args .order in
-    let p = t .pre in
-    let l = c .before .before .before .before .before .loop in
-    let put = c .before .before .put-line in
-    let line = run-line o (p .0) (now (t .args .buffer)) (t .args .at) (p .1) (l .buffer) (l .suns) (l .row) (l .end) (l .inv) _ (put .last .0) (put .result)
-    (ap (lineText (o .ramadan) (l .suns .date)) (c .before .before .before .before .work .ensures)) (put .ensures .0) (put .ensures .1) in
-    let room = run-room o (p .0) (now (t .args .buffer)) (t .args .at) (p .1) (l .row) (l .inv .within) in
     let f : length (now (t .args .buffer)) < 2 ^ 64 = search needs in
-    record { fits = omega (arith, line .1) }
+    omega (arith, line-holds (c .before .before) .2)
 
-add-row : tie.Need-add-row Inv-loop μ-loop
-add-row c =
-    let w = c .before .before .before .before .before .loop .inv .within in
-    let m = c .before .before .before .before .before .before .before .before .before .before .before .before .pre .0 .rows .1 in
-    record { fits = omega arith }
-
-same-length : tie.Need-same-length Inv-loop μ-loop
-same-length c = c .before .before .before .before .put-line .kept .0 ∙ c .before .before .before .before .before .before .before .loop .inv .same
-
-returns : tie.Need-returns Inv-loop μ-loop
+returns : this.Tie.Need-returns Inv-loop μ-loop
 returns c =
-    let t = c .before .before .before .before .before .before .before .before .before .before .before .before .before .before in
-    let o = t .args .order in
-    let p = t .pre in
     let l = c .before .before .before .before .before .before .before .loop in
-    let put = c .before .before .before .before .put-line in
-    let line = run-line o (p .0) (now (t .args .buffer)) (t .args .at) (p .1) (l .buffer) (l .suns) (l .row) (l .end) (l .inv) _ (put .last .0) (put .result)
-    (ap (lineText (o .ramadan) (l .suns .date)) (c .before .before .before .before .before .before .work .ensures)) (put .ensures .0) (put .ensures .1) in
-    let room = run-room o (p .0) (now (t .args .buffer)) (t .args .at) (p .1) (l .row) (l .inv .within) in
-    let w = l .inv .within in
-    let e : l .row + 1 ≡ o .rows = omega (arith, c .if1 .taken) in
-    (rw e at (line .1), rw e at (line .0))
+    let n = line-holds (c .before .before .before .before) in
+    let t = c .before .before .before .before .before .before .before .before .before .before .before .before .before .before in
+    let e : l .row + 1 ≡ t .args .order .rows = omega (arith, c .if1 .taken, l .inv .within) in
+    (rw e at (n .1), rw e at (n .0))
 
-loop-less : tie.Need-loop-less Inv-loop μ-loop
-loop-less c = let w = c .before .before .before .before .before .before .before .before .loop .inv .within in omega arith
-
-loop-again : tie.Need-loop-again Inv-loop μ-loop
+loop-again : this.Tie.Need-loop-again Inv-loop μ-loop
 loop-again c =
     let t = c .before .before .before .before .before .before .before .before .before .before .before .before .before .before .before in
     let o = t .args .order in
-    let p = t .pre in
     let l = c .before .before .before .before .before .before .before .before .loop in
-    let put = c .before .before .before .before .before .put-line in
-    let line = run-line o (p .0) (now (t .args .buffer)) (t .args .at) (p .1) (l .buffer) (l .suns) (l .row) (l .end) (l .inv) _ (put .last .0) (put .result)
-    (ap (lineText (o .ramadan) (l .suns .date)) (c .before .before .before .before .before .before .before .work .ensures)) (put .ensures .0) (put .ensures .1) in
-    let room = run-room o (p .0) (now (t .args .buffer)) (t .args .at) (p .1) (l .row) (l .inv .within) in
+    let n = line-holds (c .before .before .before .before .before) in
     record {
       within = c .before .if1 .left;
-      state = c .next .ensures ∙ ap (nextRowSunsOf (o .coordinates) (o .parameters) (o .rules)) (l .inv .state) ∙ next-state o (p .0) (l .row) (l .inv .within);
-      text = line .0;
-      place = line .1;
-      same = put .kept .0 ∙ l .inv .same;
+      state = c .next .ensures ∙ ap (nextRowSunsOf (o .coordinates) (o .parameters) (o .rules)) (l .inv .state) ∙ next-state o (t .pre .0) (l .row)
+          (l .inv .within);
+      text = n .0;
+      place = n .1;
+      same = c .before .before .before .before .before .put-line .kept .0 ∙ l .inv .same;
     }
 
-pub put-rows-spec : {M : Type 1} → statement M
+pub put-rows-spec : {M : Type 1} → this.Statement.statement M
 put-rows-spec =
-    tie.close
-    (tie.spec Inv-loop μ-loop (λ c κs. search needs) loop-holds (λ c κs. search needs) (λ c κs. search needs) add-end add-row same-length returns (λ c κs. search needs) loop-less loop-again)
+    this.Tie.close
+    (this.Tie.spec Inv-loop μ-loop (λ c κs. search needs) loop-holds (λ c κs. search needs) (λ c κs. search needs) add-end
+    (λ c. omega (
+      arith,
+      c .before .before .before .before .before .loop .inv .within,
+      c .before .before .before .before .before .before .before .before .before .before .before .before .pre .0 .rows .1,
+    ))
+    (λ c. c .before .before .before .before .put-line .kept .0 ∙ c .before .before .before .before .before .before .before .loop .inv .same) returns
+    (λ c κs. search needs) (λ c. omega (arith, c .before .before .before .before .before .before .before .before .loop .inv .within)) loop-again)

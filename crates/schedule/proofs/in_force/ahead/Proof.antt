@@ -1,33 +1,21 @@
-use mathlib.Core.Path.{ap, _∙_}
-use mir.Syntax.{w64}
-use native.Mathlib.Omega.{arith}
+use Rattle.prelude.proofs.Logic.{_≡_, ap, _∙_, arith, _-ℤ_, needs, w64, SFits}
 use Rattle.integers.proofs.Sums.{differences}
 use Rattle.integers.proofs.Ranges.{read}
 use Rattle.schedule.proofs.Due as due
-use mir.Val.{SFits}
 use Rattle.integers.specs.Parts.{P}
-use borrow.Author.Needs.{needs}
-use Rattle.schedule.proofs.in_force.ahead.Statement.{statement}
-use Rattle.schedule.proofs.in_force.ahead.Tie as tie
+use Rattle.schedule.proofs.in_force.ahead as this
 
-returns : tie.Need-returns
-returns c =
-    let t = c .before .before .before .before in
-    let s = t .args .instant .seconds in
-    let f : SFits w64 s = search needs in
-    let e = c .before .before .between .ensures ∙ ap P (differences (read w64 (t .args .time) (t .fits .time)) (read w64 s f)) in
-    let d = due.ahead-is (t .args .time) (t .args .instant) in
-    let l = c .if1 .taken in
-    omega arith
+told : (c : this.Tie.After-between) → let a = c .before .before .args in c .between .result ≡ P (a .time -ℤ a .instant .seconds)
+told c =
+    let t = c .before .before in
+    let f : SFits w64 (t .args .instant .seconds) = search needs in
+    c .between .ensures ∙ ap P (differences (read w64 (t .args .time) (t .fits .time)) (read w64 (t .args .instant .seconds) f))
 
-returns-2 : tie.Need-returns-2
-returns-2 c =
-    let t = c .before .before .before .before in
-    let s = t .args .instant .seconds in
-    let f : SFits w64 s = search needs in
-    let e = c .before .before .between .ensures ∙ ap P (differences (read w64 (t .args .time) (t .fits .time)) (read w64 s f)) in
-    let d = due.ahead-is (t .args .time) (t .args .instant) in
-    omega arith
+returns : this.Tie.Need-returns
+returns c = let a = c .before .before .before .before .args in omega (arith, told (c .before .before), due.ahead-is (a .time) (a .instant), c .if1 .taken)
 
-pub ahead-spec : {M : Type 1} → statement M
-ahead-spec = tie.close (tie.spec (λ c κs. tt) (λ c. search needs) (λ c. search needs) returns returns-2)
+returns-2 : this.Tie.Need-returns-2
+returns-2 c = let a = c .before .before .before .before .args in omega (arith, told (c .before .before), due.ahead-is (a .time) (a .instant))
+
+pub ahead-spec : {M : Type 1} → this.Statement.statement M
+ahead-spec = this.Tie.close (this.Tie.spec (λ c κs. tt) (λ c. search needs) (λ c. search needs) returns returns-2)

@@ -1,16 +1,13 @@
 use lib.Ieee.{round, ofBits}
 use Rattle.float64.specs.Ops.{dec}
 use Rattle.schedule.specs.InForce.{hoursMinutesOf}
-use borrow.Author.Needs.{needs}
-use Rattle.schedule.proofs.in_force.hours_minutes.Statement.{statement}
-use Rattle.schedule.proofs.in_force.hours_minutes.Tie as tie
+use Rattle.prelude.proofs.Logic.{needs}
+use Rattle.schedule.proofs.in_force.hours_minutes as this
 
-returns : tie.Need-returns
+returns : this.Tie.Need-returns
 unfolding hoursMinutesOf dec round ofBits
 returns c =
     simp (c .to-u322 .ensures, c .before .round .ensures, c .before .before .to-u32 .ensures, c .before .before .before .trunc .ensures, c .before .before .before .before .nearest-u64-to-f64 .ensures)
 
-pub hours-minutes-spec : {M : Type 1} → statement M
-hours-minutes-spec =
-    tie.close
-    (tie.spec (λ c κs. search needs) (λ c κs. tt) (λ c κs. tt) (λ c κs. tt) (λ c κs. tt) returns)
+pub hours-minutes-spec : {M : Type 1} → this.Statement.statement M
+hours-minutes-spec = this.Tie.close (this.Tie.spec (λ c κs. search needs) (λ c κs. tt) (λ c κs. tt) (λ c κs. tt) (λ c κs. tt) returns)

@@ -1,20 +1,18 @@
-use mathlib.Core.Path.{sym}
+use Rattle.prelude.proofs.Logic.{sym}
 use Rattle.schedule.specs.Numbers.{fajrNumberOf}
-use Rattle.schedule.proofs.numbers.fajr_number.Statement.{statement}
-use Rattle.schedule.proofs.numbers.fajr_number.Tie as tie
+use Rattle.schedule.proofs.numbers.fajr_number as this
 
-returns : tie.Need-returns
+returns : this.Tie.Need-returns
 unfolding fajrNumberOf
 returns c =
     let test = c .before in
     simp (c .not-a-number .ensures, sym (test .before .by-seventh .ensures), test .if1 .taken)
 
-returns-2 : tie.Need-returns-2
+returns-2 : this.Tie.Need-returns-2
 unfolding fajrNumberOf
 returns-2 c =
     let test = c .before .before .before in
     simp (sym (c .angle-number .ensures), sym (c .before .new .ensures), sym (test .before .by-seventh .ensures), test .if1 .left)
 
-pub fajr-number-spec : {M : Type 1} → statement M
-fajr-number-spec =
-    tie.close (tie.spec (λ c κs. tt) (λ c κs. tt) returns (λ c κs. tt) (λ c κs. tt) returns-2)
+pub fajr-number-spec : {M : Type 1} → this.Statement.statement M
+fajr-number-spec = this.Tie.close (this.Tie.spec (λ c κs. tt) (λ c κs. tt) returns (λ c κs. tt) (λ c κs. tt) returns-2)

@@ -1,13 +1,9 @@
-use mathlib.Core.Path.{sym}
-use mir.Syntax.{w32}
-use mir.Val.{SFits}
+use Rattle.prelude.proofs.Logic.{sym, needs, w32, SFits}
 use Rattle.integers.proofs.Ranges.{read}
 use Rattle.schedule.specs.Numbers.{ishaNumberOf}
-use borrow.Author.Needs.{needs}
-use Rattle.schedule.proofs.numbers.isha_number.Statement.{statement}
-use Rattle.schedule.proofs.numbers.isha_number.Tie as tie
+use Rattle.schedule.proofs.numbers.isha_number as this
 
-returns : tie.Need-returns
+returns : this.Tie.Need-returns
 unfolding ishaNumberOf
 returns c =
     let t = c .before .before .before .before in
@@ -16,7 +12,7 @@ returns c =
     let e = rw (read w32 i f) at (c .before .if1 .taken) in
     simp (c .not-a-number .ensures, e)
 
-returns-2 : tie.Need-returns-2
+returns-2 : this.Tie.Need-returns-2
 unfolding ishaNumberOf
 returns-2 c =
     let t = c .before .before .before .before .before .before in
@@ -25,7 +21,7 @@ returns-2 c =
     let e = rw (read w32 i f) at (c .before .before .before .if1 .left) in
     simp (c .not-a-number2 .ensures, e, sym (c .before .before .by-seventh .ensures), c .before .if2 .taken)
 
-returns-3 : tie.Need-returns-3
+returns-3 : this.Tie.Need-returns-3
 unfolding ishaNumberOf
 returns-3 c =
     let t = c .before .before .before .before .before .before .before .before in
@@ -34,7 +30,5 @@ returns-3 c =
     let e = rw (read w32 i f) at (c .before .before .before .before .before .if1 .left) in
     simp (c .angle-number .ensures, c .before .new .ensures, e, sym (c .before .before .before .before .by-seventh .ensures), c .before .before .before .if2 .left)
 
-pub isha-number-spec : {M : Type 1} → statement M
-isha-number-spec =
-    tie.close
-    (tie.spec (λ c κs. tt) returns (λ c κs. tt) (λ c κs. tt) returns-2 (λ c κs. tt) (λ c κs. tt) returns-3)
+pub isha-number-spec : {M : Type 1} → this.Statement.statement M
+isha-number-spec = this.Tie.close (this.Tie.spec (λ c κs. tt) returns (λ c κs. tt) (λ c κs. tt) returns-2 (λ c κs. tt) (λ c κs. tt) returns-3)

@@ -1,6 +1,4 @@
-use mathlib.Core.Path.{_≡_, ap, _∙_}
-use lib.Dec.{lit≤}
-use mir.Syntax.{w64}
+use Rattle.prelude.proofs.Logic.{_≡_, ap, _∙_, lit≤, needs, w64}
 use Rattle.integers.proofs.Sums.{summands}
 use Rattle.integers.proofs.Ranges.{readBack}
 use Rattle.integers.proofs.Held.{of-i64, held-difference, held-by, held-as, held-fits, stored, asked, promised}
@@ -8,14 +6,12 @@ use Rattle.models.specs.declared.rounding.Rounding.the-variants.{Nearest}
 use Rattle.stride.specs.Times.{roundedOf}
 use Rattle.schedule.specs.Times.{middleOfTheNightOf, qiyamOf}
 use Rattle.schedule.proofs.Promises.{of-near, held-middle, held-last-third}
-use borrow.Author.Needs.{needs}
-use Rattle.schedule.proofs.prayer_times.calculate_qiyam.Statement.{statement}
-use Rattle.schedule.proofs.prayer_times.calculate_qiyam.Tie as tie
+use Rattle.schedule.proofs.prayer_times.calculate_qiyam as this
 
-sub-night : tie.Need-sub-night
+sub-night : this.Tie.Need-sub-night
 sub-night t = held-fits (held-difference (of-i64 (t .args .fajr) (t .fits .fajr) (t .pre .1)) (of-i64 (t .args .maghrib) (t .fits .maghrib) (t .pre .0))) (lit≤ tt)
 
-into-the-night-requires : tie.Need-into-the-night-requires
+into-the-night-requires : this.Tie.Need-into-the-night-requires
 into-the-night-requires c κs =
     let t = c .before in
     let m = of-i64 (t .args .maghrib) (t .fits .maghrib) (t .pre .0) in
@@ -23,7 +19,7 @@ into-the-night-requires c κs =
     let k : readBack w64 (c .middle .result) ≡ c .middle .result = search needs in
     (asked m (lit≤ tt), asked (held-by (k ∙ c .middle .ensures) (held-middle night (lit≤ tt))) (lit≤ tt))
 
-into-the-night-requires-2 : tie.Need-into-the-night-requires-2
+into-the-night-requires-2 : this.Tie.Need-into-the-night-requires-2
 into-the-night-requires-2 c κs =
     let t = c .before .before .before in
     let m = of-i64 (t .args .maghrib) (t .fits .maghrib) (t .pre .0) in
@@ -31,7 +27,7 @@ into-the-night-requires-2 c κs =
     let k : readBack w64 (c .last-third .result) ≡ c .last-third .result = search needs in
     (asked m (lit≤ tt), asked (held-by (k ∙ c .last-third .ensures) (held-last-third night (lit≤ tt))) (lit≤ tt))
 
-returns : tie.Need-returns
+returns : this.Tie.Need-returns
 unfolding middleOfTheNightOf qiyamOf
 returns c =
     let l = c .before in
@@ -45,5 +41,6 @@ returns c =
     let third = held-by (j ∙ l .last-third .ensures) (held-last-third night (lit≤ tt)) in
     (promised (held-as (of-near (l .before .into-the-night .ensures) (lit≤ tt)) (ap (roundedOf Nearest) (summands (m .is) (half .is)))) (lit≤ tt), promised (held-as (of-near (c .into-the-night2 .ensures) (lit≤ tt)) (ap (roundedOf Nearest) (summands (m .is) (third .is)))) (lit≤ tt))
 
-pub calculate-qiyam-spec : {M : Type 1} → statement M
-calculate-qiyam-spec = tie.close (tie.spec sub-night (λ c κs. search needs) into-the-night-requires (λ c κs. search needs) into-the-night-requires-2 returns)
+pub calculate-qiyam-spec : {M : Type 1} → this.Statement.statement M
+calculate-qiyam-spec =
+    this.Tie.close (this.Tie.spec sub-night (λ c κs. search needs) into-the-night-requires (λ c κs. search needs) into-the-night-requires-2 returns)

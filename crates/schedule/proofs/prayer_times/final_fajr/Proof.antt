@@ -1,18 +1,15 @@
-use mathlib.Core.Path.{ap, _∙_}
-use lib.Dec.{lit≤}
+use Rattle.prelude.proofs.Logic.{ap, _∙_, lit≤, needs}
 use Rattle.models.specs.declared.prayer.Prayer.the-variants.{Fajr}
 use Rattle.schedule.specs.Times.{finalOf}
 use Rattle.schedule.proofs.Promises.{of-near}
-use borrow.Author.Needs.{needs}
-use Rattle.schedule.proofs.prayer_times.final_fajr.Statement.{statement}
-use Rattle.schedule.proofs.prayer_times.final_fajr.Tie as tie
+use Rattle.schedule.proofs.prayer_times.final_fajr as this
 
-returns : tie.Need-returns
+returns : this.Tie.Need-returns
 unfolding finalOf
 returns c =
     let p = c .before .before .args .parameters in
     let u = of-near (c .before .unadjusted-fajr .ensures) (lit≤ tt) in
     of-near (c .final-time .ensures) (lit≤ tt) .is ∙ ap (finalOf p Fajr) (u .is)
 
-pub final-fajr-spec : {M : Type 1} → statement M
-final-fajr-spec = tie.close (tie.spec (λ c κs. search needs) (λ c κs. search needs) returns)
+pub final-fajr-spec : {M : Type 1} → this.Statement.statement M
+final-fajr-spec = this.Tie.close (this.Tie.spec (λ c κs. search needs) (λ c κs. search needs) returns)

@@ -1,15 +1,11 @@
-use mathlib.Core.Path.{_≡_, _∙_}
-use lib.Dec.{lit≤}
-use mir.Syntax.{w64}
+use Rattle.prelude.proofs.Logic.{_≡_, _∙_, lit≤, needs, w64}
 use Rattle.integers.proofs.Ranges.{readBack}
 use Rattle.integers.proofs.Held.{of-i64, held-by, promised}
 use Rattle.stride.proofs.TimesLaws.{held-rounded, held-adjusted}
 use Rattle.schedule.proofs.Promises.{of-near}
-use borrow.Author.Needs.{needs}
-use Rattle.schedule.proofs.prayer_times.final_time.Statement.{statement}
-use Rattle.schedule.proofs.prayer_times.final_time.Tie as tie
+use Rattle.schedule.proofs.prayer_times.final_time as this
 
-returns : tie.Need-returns
+returns : this.Tie.Need-returns
 returns c =
     let a = c .before in
     let m = a .before in
@@ -21,5 +17,5 @@ returns c =
     let adjusted = held-by (j ∙ a .adjust-time .ensures) (held-adjusted (of-i64 (t .args .time) (t .fits .time) (t .pre)) minutes (lit≤ tt)) in
     promised (held-by (k ∙ c .rounded-minute .ensures) (held-rounded (t .args .rounding) adjusted (lit≤ tt))) (lit≤ tt)
 
-pub final-time-spec : {M : Type 1} → statement M
-final-time-spec = tie.close (tie.spec (λ c κs. search needs) (λ c κs. search needs) (λ c κs. search needs) returns)
+pub final-time-spec : {M : Type 1} → this.Statement.statement M
+final-time-spec = this.Tie.close (this.Tie.spec (λ c κs. search needs) (λ c κs. search needs) (λ c κs. search needs) returns)

@@ -1,80 +1,40 @@
-use mathlib.Core.Path.{ap, _∙_}
-use lib.Dec.{lit≤}
-use mir.Syntax.{w32}
-use mir.Val.{SFits}
+use Rattle.prelude.proofs.Logic.{ap, _∙_, lit≤, needs, w32, SFits}
 use Rattle.integers.proofs.Ranges.{wide, read-wide}
 use Rattle.integers.proofs.Held.{of-wide, held-as, asked}
 use Rattle.models.specs.declared.prayer.Prayer.the-variants.{Fajr, Sunrise, Dhuhr, Asr, Maghrib, Isha}
 use Rattle.schedule.specs.Times.{finalOf, middleOfTheNightOf, qiyamOf, fromMidnightOf}
 use Rattle.schedule.specs.Twilight.{orOf}
 use Rattle.schedule.proofs.Promises.{both, of-near}
-use borrow.Author.Needs.{needs}
-use Rattle.schedule.proofs.prayer_times.from_midnight.Statement.{statement}
-use Rattle.schedule.proofs.prayer_times.from_midnight.Tie as tie
+use Rattle.schedule.proofs.prayer_times.from_midnight as this
 
-transit : (t : tie.Start) → SFits w32 (t .args .suns .today .transit)
+transit : (t : this.Tie.Start) → SFits w32 (t .args .suns .today .transit)
 transit t = search needs
 
-sunrise : (t : tie.Start) → SFits w32 (t .args .suns .today .sunrise)
+sunrise : (t : this.Tie.Start) → SFits w32 (t .args .suns .today .sunrise)
 sunrise t = search needs
 
-sunset : (t : tie.Start) → SFits w32 (t .args .suns .today .sunset)
+sunset : (t : this.Tie.Start) → SFits w32 (t .args .suns .today .sunset)
 sunset t = search needs
 
-cast-or : tie.Need-cast-or
-cast-or c = wide _ (transit (c .before .before .before))
+-- where the arguments are known, from behind the first call
+abbrev start : this.Tie.After-unadjusted-fajr → this.Tie.Start
+start c = c .before .before .before .before .before .before .before .before .before
 
-or-requires : tie.Need-or-requires
-or-requires c κs = asked (of-wide _ (transit (c .before .before .before))) (lit≤ tt)
-
-cast-final-time : tie.Need-cast-final-time
-cast-final-time c = wide _ (sunset (c .before .before .before .before .before .before .before))
-
-final-time-requires : tie.Need-final-time-requires
-final-time-requires c κs = asked (of-wide _ (sunset (c .before .before .before .before .before .before .before))) (lit≤ tt)
-
-final-time-requires-2 : tie.Need-final-time-requires-2
-final-time-requires-2 c κs =
-    let u = c .before .before .before .before .before .before .before .before .before in
-    asked (of-near (u .unadjusted-fajr .ensures) (lit≤ tt)) (lit≤ tt)
-
-cast-final-time-2 : tie.Need-cast-final-time-2
-cast-final-time-2 c = wide _ (sunrise (c .before .before .before .before .before .before .before .before .before .before .before .before .before))
-
-final-time-requires-3 : tie.Need-final-time-requires-3
-final-time-requires-3 c κs = asked (of-wide _ (sunrise (c .before .before .before .before .before .before .before .before .before .before .before .before .before))) (lit≤ tt)
-
-cast-final-time-3 : tie.Need-cast-final-time-3
-cast-final-time-3 c = wide _ (transit (c .before .before .before .before .before .before .before .before .before .before .before .before .before .before .before .before))
-
-final-time-requires-4 : tie.Need-final-time-requires-4
-final-time-requires-4 c κs = asked (of-wide _ (transit (c .before .before .before .before .before .before .before .before .before .before .before .before .before .before .before .before))) (lit≤ tt)
-
-final-time-requires-5 : tie.Need-final-time-requires-5
-final-time-requires-5 c κs =
-    let o = c .before .before .before .before .before .before .before .before .before .before .before .before .before in
-    asked (of-near (o .or .ensures) (lit≤ tt)) (lit≤ tt)
-
-final-time-requires-6 : tie.Need-final-time-requires-6
-final-time-requires-6 c κs =
-    let e = c .before .before .before .before .before .before .before .before .before .before .before .before .before in
-    asked (of-near (e .unadjusted-isha .ensures) (lit≤ tt)) (lit≤ tt)
-
-returns : tie.Need-returns
+returns : this.Tie.Need-returns
 unfolding fromMidnightOf finalOf
 returns c =
     let c1 = c .before in
     let c2 = c1 .before in
     let c3 = c2 .before in
-    let c4 = c3 .before .before .before in
-    let c5 = c4 .before .before .before in
+    let c4 = c3 .before in
+    let c5 = c4 .before in
     let c6 = c5 .before in
     let c7 = c6 .before in
     let c8 = c7 .before in
-    let c9 = c8 .before .before .before in
+    let c9 = c8 .before in
     let c10 = c9 .before in
-    let c11 = c10 .before .before .before in
-    let t = c11 .before in
+    let c11 = c10 .before in
+    let t = start c11 in
     let p = t .args .parameters in
     let u = of-near (c11 .unadjusted-fajr .ensures) (lit≤ tt) in
     let o = of-near (c10 .or .ensures) (lit≤ tt) in
@@ -102,7 +62,22 @@ returns c =
       },
     )
 
-pub from-midnight-spec : {M : Type 1} → statement M
+pub from-midnight-spec : {M : Type 1} → this.Statement.statement M
 from-midnight-spec =
-    tie.close
-    (tie.spec (λ c κs. search needs) cast-or or-requires (λ c κs. search needs) cast-final-time final-time-requires (λ c κs. search needs) (λ c κs. search needs) final-time-requires-2 cast-final-time-2 final-time-requires-3 cast-final-time-3 final-time-requires-4 final-time-requires-5 final-time-requires-6 returns)
+    this.Tie.close
+    (this.Tie.spec
+    (λ c. wide _ (sunrise (c .before .before .before .before)))
+    (λ c. wide _ (transit (c .before .before .before .before .before .before)))
+    (λ c. wide _ (sunset (c .before .before .before .before .before .before .before .before)))
+    (λ c κs. search needs)
+    (λ c κs. asked (of-wide _ (transit (start c))) (lit≤ tt))
+    (λ c κs. search needs)
+    (λ c κs. asked (of-wide _ (sunset (start (c .before .before)))) (lit≤ tt))
+    (λ c κs. search needs)
+    (λ c κs. search needs)
+    (λ c κs. asked (of-near (c .before .before .before .before .before .unadjusted-fajr .ensures) (lit≤ tt)) (lit≤ tt))
+    (λ c κs. asked (of-wide _ (sunrise (start (c .before .before .before .before .before .before)))) (lit≤ tt))
+    (λ c κs. asked (of-wide _ (transit (start (c .before .before .before .before .before .before .before)))) (lit≤ tt))
+    (λ c κs. asked (of-near (c .before .before .before .before .before .before .before .or .ensures) (lit≤ tt)) (lit≤ tt))
+    (λ c κs. asked (of-near (c .before .before .before .before .before .before .before .unadjusted-isha .ensures) (lit≤ tt)) (lit≤ tt))
+    returns)

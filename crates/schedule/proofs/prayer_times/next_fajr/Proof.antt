@@ -1,6 +1,4 @@
-use mathlib.Core.Path.{ap, _∙_}
-use lib.Dec.{lit≤}
-use lib.IntN.{ℤ}
+use Rattle.prelude.proofs.Logic.{ap, _∙_, lit≤, ℤ, needs}
 use Rattle.integers.proofs.Held.{constant, held-sum, held-as, held-fits, stored, promised}
 use Rattle.calendar.specs.declared.dates.Date.{Date}
 use Rattle.models.specs.declared.prayer.Prayer.the-variants.{Fajr}
@@ -10,14 +8,12 @@ use Rattle.stride.proofs.TimesLaws.{none-stays}
 use Rattle.schedule.specs.Times.{fajrTomorrowOf}
 use Rattle.schedule.specs.Twilight.{nextDayOf, unadjustedFajrOf}
 use Rattle.schedule.proofs.Promises.{of-near}
-use borrow.Author.Needs.{needs}
-use Rattle.schedule.proofs.prayer_times.next_fajr.Statement.{statement}
-use Rattle.schedule.proofs.prayer_times.next_fajr.Tie as tie
+use Rattle.schedule.proofs.prayer_times.next_fajr as this
 
-add-result : tie.Need-add-result
+add-result : this.Tie.Need-add-result
 add-result c = held-fits (held-sum (of-near (c .final-time .ensures) (lit≤ tt)) (constant 86400)) (lit≤ tt)
 
-returns : tie.Need-returns
+returns : this.Tie.Need-returns
 unfolding fajrTomorrowOf
 returns c =
     let t = c .before .before .before in
@@ -27,5 +23,5 @@ returns c =
     let adjusted = none-stays _ ∙ ap (λ (z : ℤ). adjustedOf z (timeAdjustmentsOf p Fajr)) fajr in
     promised (held-as (stored (held-sum (of-near (c .final-time .ensures) (lit≤ tt)) (constant 86400)) (lit≤ tt)) (ap nextDayOf adjusted)) (lit≤ tt)
 
-pub next-fajr-spec : {M : Type 1} → statement M
-next-fajr-spec = tie.close (tie.spec (λ c κs. search needs) (λ c κs. search needs) (λ c κs. search needs) add-result returns)
+pub next-fajr-spec : {M : Type 1} → this.Statement.statement M
+next-fajr-spec = this.Tie.close (this.Tie.spec (λ c κs. search needs) (λ c κs. search needs) (λ c κs. search needs) add-result returns)

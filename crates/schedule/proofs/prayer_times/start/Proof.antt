@@ -1,18 +1,12 @@
-use mathlib.Core.Path.{_≡_, ap, _∙_}
-use Prim.Native.Nat.{_^_, _<_}
-use lib.Dec.{lit≤}
-use lib.IntN.{ℤ, pos, _*ℤ_}
-use mir.Syntax.{w64}
+use Rattle.prelude.proofs.Logic.{_≡_, ap, _∙_, _^_, _<_, lit≤, ℤ, pos, _*ℤ_, needs, w64}
 use Rattle.integers.proofs.Ranges.{readBack}
 use Rattle.integers.proofs.Held.{Held, held-fits, stored, promised}
 use Rattle.calendar.specs.Days.{dayNumberOf}
 use Rattle.schedule.specs.Times.{startOf}
 use Rattle.schedule.proofs.Starts.{start-near}
-use borrow.Author.Needs.{needs}
-use Rattle.schedule.proofs.prayer_times.start.Statement.{statement}
-use Rattle.schedule.proofs.prayer_times.start.Tie as tie
+use Rattle.schedule.proofs.prayer_times.start as this
 
-mul-result : tie.Need-mul-result
+mul-result : this.Tie.Need-mul-result
 mul-result c =
     let d = c .before .args .date in
     let y : d .year < 2 ^ 32 = search needs in
@@ -20,7 +14,7 @@ mul-result c =
     let h : Held (2 ^ 58) (readBack w64 (c .day-number .result) *ℤ pos 86400) (dayNumberOf d *ℤ pos 86400) = record { is = ap (λ (z : ℤ). z *ℤ pos 86400) (k ∙ c .day-number .ensures); near = start-near d y } in
     held-fits h (lit≤ tt)
 
-returns : tie.Need-returns
+returns : this.Tie.Need-returns
 unfolding startOf
 returns c =
     let d = c .before .args .date in
@@ -29,5 +23,5 @@ returns c =
     let h : Held (2 ^ 58) (readBack w64 (c .day-number .result) *ℤ pos 86400) (dayNumberOf d *ℤ pos 86400) = record { is = ap (λ (z : ℤ). z *ℤ pos 86400) (k ∙ c .day-number .ensures); near = start-near d y } in
     promised (stored h (lit≤ tt)) (lit≤ tt)
 
-pub start-spec : {M : Type 1} → statement M
-start-spec = tie.close (tie.spec (λ c κs. search needs) mul-result returns)
+pub start-spec : {M : Type 1} → this.Statement.statement M
+start-spec = this.Tie.close (this.Tie.spec (λ c κs. search needs) mul-result returns)

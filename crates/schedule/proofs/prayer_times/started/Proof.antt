@@ -1,39 +1,15 @@
-use lib.Dec.{lit≤}
+use Rattle.prelude.proofs.Logic.{_^_, lit≤, ℤ, _+ℤ_, needs, w64, SFits}
+use Rattle.integers.specs.Parts.{Near}
+use Rattle.integers.proofs.Ranges.{readBack}
 use Rattle.integers.proofs.Held.{held-fits, stored}
 use Rattle.schedule.specs.Times.{startedOf}
 use Rattle.schedule.proofs.Promises.{on-start}
-use borrow.Author.Needs.{needs}
-use Rattle.schedule.proofs.prayer_times.started.Statement.{statement}
-use Rattle.schedule.proofs.prayer_times.started.Tie as tie
+use Rattle.schedule.proofs.prayer_times.started as this
 
-add-t4 : tie.Need-add-t4
-add-t4 c = let s = c .before .before in held-fits (on-start (s .start .ensures) (s .before .pre .fajr)) (lit≤ tt)
+fits : (s : this.Tie.After-start) {x : ℤ} → Near (2 ^ 43) x → SFits w64 (readBack w64 (s .start .result) +ℤ readBack w64 x)
+fits s h = held-fits (on-start (s .start .ensures) h) (lit≤ tt)
 
-add-t5 : tie.Need-add-t5
-add-t5 c = let s = c .before .before .before .before in held-fits (on-start (s .start .ensures) (s .before .pre .sunrise)) (lit≤ tt)
-
-add-t6 : tie.Need-add-t6
-add-t6 c = let s = c .before .before .before .before .before .before in held-fits (on-start (s .start .ensures) (s .before .pre .dhuhr)) (lit≤ tt)
-
-add-t7 : tie.Need-add-t7
-add-t7 c = let s = c .before .before .before .before .before .before .before .before in held-fits (on-start (s .start .ensures) (s .before .pre .asr)) (lit≤ tt)
-
-add-t8 : tie.Need-add-t8
-add-t8 c = let s = c .before .before .before .before .before .before .before .before .before .before in held-fits (on-start (s .start .ensures) (s .before .pre .maghrib)) (lit≤ tt)
-
-add-t9 : tie.Need-add-t9
-add-t9 c = let s = c .before .before .before .before .before .before .before .before .before .before .before .before in held-fits (on-start (s .start .ensures) (s .before .pre .isha)) (lit≤ tt)
-
-add-t10 : tie.Need-add-t10
-add-t10 c = let s = c .before .before .before .before .before .before .before .before .before .before .before .before .before .before in held-fits (on-start (s .start .ensures) (s .before .pre .«middle_of_the_night»)) (lit≤ tt)
-
-add-t11 : tie.Need-add-t11
-add-t11 c = let s = c .before .before .before .before .before .before .before .before .before .before .before .before .before .before .before .before in held-fits (on-start (s .start .ensures) (s .before .pre .qiyam)) (lit≤ tt)
-
-add-t12 : tie.Need-add-t12
-add-t12 c = let s = c .before .before .before .before .before .before .before .before .before .before .before .before .before .before .before .before .before .before in held-fits (on-start (s .start .ensures) (s .before .pre .«fajr_tomorrow»)) (lit≤ tt)
-
-returns : tie.Need-returns
+returns : this.Tie.Need-returns
 unfolding startedOf
 returns c =
     let s = c .before .before .before .before .before .before .before .before .before .before .before .before .before .before .before .before .before .before in
@@ -50,5 +26,19 @@ returns c =
       stored (on-start (s .start .ensures) (h .«fajr_tomorrow»)) (lit≤ tt) .is,
     )
 
-pub started-spec : {M : Type 1} → statement M
-started-spec = tie.close (tie.spec (λ c κs. search needs) add-t4 add-t5 add-t6 add-t7 add-t8 add-t9 add-t10 add-t11 add-t12 returns)
+pub started-spec : {M : Type 1} → this.Statement.statement M
+started-spec =
+    this.Tie.close
+    (this.Tie.spec (λ c κs. search needs) (λ c. let s = c .before .before in fits s (s .before .pre .fajr))
+    (λ c. let s = c .before .before .before .before in fits s (s .before .pre .sunrise))
+    (λ c. let s = c .before .before .before .before .before .before in fits s (s .before .pre .dhuhr))
+    (λ c. let s = c .before .before .before .before .before .before .before .before in fits s (s .before .pre .asr))
+    (λ c. let s = c .before .before .before .before .before .before .before .before .before .before in fits s (s .before .pre .maghrib))
+    (λ c. let s = c .before .before .before .before .before .before .before .before .before .before .before .before in fits s (s .before .pre .isha))
+    (λ c. let s = c .before .before .before .before .before .before .before .before .before .before .before .before .before .before in
+    fits s (s .before .pre .«middle_of_the_night»))
+    (λ c. let s = c .before .before .before .before .before .before .before .before .before .before .before .before .before .before .before .before in
+    fits s (s .before .pre .qiyam))
+    (λ c. let s = c .before .before .before .before .before .before .before .before .before .before .before .before .before .before .before .before .before .before in
+    fits s (s .before .pre .«fajr_tomorrow»))
+    returns)

@@ -1,10 +1,9 @@
 use Rattle.schedule.specs.Twilight.{bySeasonOf}
-use Rattle.schedule.proofs.twilight.by_season.Statement.{statement}
-use Rattle.schedule.proofs.twilight.by_season.Tie as tie
+use Rattle.schedule.proofs.twilight.by_season as this
 
-returns : tie.Need-returns
+returns : this.Tie.Need-returns
 unfolding bySeasonOf
 returns c = cc
 
-pub by-season-spec : {M : Type 1} → statement M
-by-season-spec = tie.close (tie.spec (λ c κs. tt) (λ c κs. tt) returns)
+pub by-season-spec : {M : Type 1} → this.Statement.statement M
+by-season-spec = this.Tie.close (this.Tie.spec (λ c κs. tt) (λ c κs. tt) returns)

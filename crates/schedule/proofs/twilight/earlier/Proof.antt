@@ -1,10 +1,9 @@
-use lib.Dec.{lit≤}
+use Rattle.prelude.proofs.Logic.{lit≤}
 use Rattle.integers.proofs.Held.{of-i64, held-as, promised}
 use Rattle.schedule.specs.Twilight.{earlierOf}
-use Rattle.schedule.proofs.twilight.earlier.Statement.{statement}
-use Rattle.schedule.proofs.twilight.earlier.Tie as tie
+use Rattle.schedule.proofs.twilight.earlier as this
 
-returns : tie.Need-returns
+returns : this.Tie.Need-returns
 unfolding earlierOf
 returns c =
     let t = c .before in
@@ -12,7 +11,7 @@ returns c =
     let b = of-i64 (t .args .b) (t .fits .b) (t .pre .1) in
     promised (held-as b (simp (rw (a .is, b .is) at (c .if1 .taken)))) (lit≤ tt)
 
-returns-2 : tie.Need-returns-2
+returns-2 : this.Tie.Need-returns-2
 unfolding earlierOf
 returns-2 c =
     let t = c .before in
@@ -20,5 +19,5 @@ returns-2 c =
     let b = of-i64 (t .args .b) (t .fits .b) (t .pre .1) in
     promised (held-as a (simp (rw (a .is, b .is) at (c .if1 .left)))) (lit≤ tt)
 
-pub earlier-spec : {M : Type 1} → statement M
-earlier-spec = tie.close (tie.spec returns returns-2)
+pub earlier-spec : {M : Type 1} → this.Statement.statement M
+earlier-spec = this.Tie.close (this.Tie.spec returns returns-2)

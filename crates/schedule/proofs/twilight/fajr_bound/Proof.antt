@@ -1,17 +1,12 @@
-use mathlib.Core.Path.{_≡_, sym, _∙_}
-use lib.Dec.{lit≤}
-use mir.Syntax.{w32, w64}
-use mir.Val.{SFits}
+use Rattle.prelude.proofs.Logic.{_≡_, sym, _∙_, lit≤, needs, w32, w64, SFits}
 use Rattle.integers.proofs.Sums.{summands}
 use Rattle.integers.proofs.Ranges.{readBack, read}
 use Rattle.integers.proofs.Held.{held-as, promised}
 use Rattle.schedule.specs.Twilight.{beforeSunriseOf}
 use Rattle.schedule.proofs.Promises.{of-near}
-use borrow.Author.Needs.{needs}
-use Rattle.schedule.proofs.twilight.fajr_bound.Statement.{statement}
-use Rattle.schedule.proofs.twilight.fajr_bound.Tie as tie
+use Rattle.schedule.proofs.twilight.fajr_bound as this
 
-returns : tie.Need-returns
+returns : this.Tie.Need-returns
 unfolding beforeSunriseOf
 returns c =
     let m = c .before .before in
@@ -21,7 +16,7 @@ returns c =
     let e : readBack w32 (m .morning-twilight-seconds .result) ≡ beforeSunriseOf (t .args .parameters) (t .args .season) (t .args .date) (t .args .night) = k ∙ m .morning-twilight-seconds .ensures ∙ simp (m .before .ordinal .ensures, sym (m .before .before .before .by-season .ensures), m .before .before .if1 .taken) in
     promised (held-as (of-near (c .sum .ensures) (lit≤ tt)) (summands (read w32 _ f) e)) (lit≤ tt)
 
-returns-2 : tie.Need-returns-2
+returns-2 : this.Tie.Need-returns-2
 unfolding beforeSunriseOf
 returns-2 c =
     let m = c .before .before in
@@ -32,5 +27,8 @@ returns-2 c =
     let e : readBack w32 (m .portion-before .result) ≡ beforeSunriseOf (t .args .parameters) (t .args .season) (t .args .date) (t .args .night) = k ∙ m .portion-before .ensures ∙ simp (n, m .before .night-portions .ensures, sym (m .before .before .before .by-season .ensures), m .before .before .if1 .left) in
     promised (held-as (of-near (c .sum2 .ensures) (lit≤ tt)) (summands (read w32 _ f) e)) (lit≤ tt)
 
-pub fajr-bound-spec : {M : Type 1} → statement M
-fajr-bound-spec = tie.close (tie.spec (λ c κs. search needs) (λ c κs. search needs) (λ c κs. search needs) (λ c κs. search needs) returns (λ c κs. search needs) (λ c κs. search needs) (λ c κs. search needs) returns-2)
+pub fajr-bound-spec : {M : Type 1} → this.Statement.statement M
+fajr-bound-spec =
+    this.Tie.close
+    (this.Tie.spec (λ c κs. search needs) (λ c κs. search needs) (λ c κs. search needs) (λ c κs. search needs) returns (λ c κs. search needs)
+    (λ c κs. search needs) (λ c κs. search needs) returns-2)

@@ -1,8 +1,4 @@
-use mathlib.Core.Path.{_≡_, sym, ap, _∙_}
-use Prim.Native.Nat.{ℕ}
-use lib.Dec.{lit≤}
-use mir.Syntax.{w32, w64}
-use mir.Val.{SFits}
+use Rattle.prelude.proofs.Logic.{_≡_, sym, ap, _∙_, ℕ, lit≤, needs, w32, w64, SFits}
 use Rattle.integers.proofs.Sums.{summands}
 use Rattle.integers.proofs.Ranges.{readBack, read}
 use Rattle.integers.proofs.Held.{held-by, held-as, promised}
@@ -13,11 +9,9 @@ use Rattle.night_portions.specs.Portions.{portionAfterOf}
 use Rattle.ops.specs.Season.{eveningSecondsOf}
 use Rattle.schedule.specs.Twilight.{ishaBoundOf}
 use Rattle.schedule.proofs.Promises.{of-near}
-use borrow.Author.Needs.{needs}
-use Rattle.schedule.proofs.twilight.isha_bound.Statement.{statement}
-use Rattle.schedule.proofs.twilight.isha_bound.Tie as tie
+use Rattle.schedule.proofs.twilight.isha_bound as this
 
-returns : tie.Need-returns
+returns : this.Tie.Need-returns
 unfolding ishaBoundOf
 returns c =
     let m = c .before .before .before in
@@ -29,7 +23,7 @@ returns c =
     let x = held-as (of-near (c .before .sum .ensures) (lit≤ tt)) (summands (read w32 _ f) e) in
     promised (held-as (held-by (k ∙ c .rounded-minute .ensures) (held-rounded Nearest x (lit≤ tt))) (simp (sym (m .before .before .before .by-season .ensures), m .before .before .if1 .taken))) (lit≤ tt)
 
-returns-2 : tie.Need-returns-2
+returns-2 : this.Tie.Need-returns-2
 unfolding ishaBoundOf
 returns-2 c =
     let m = c .before .before in
@@ -40,5 +34,8 @@ returns-2 c =
     let e : readBack w32 (m .portion-after .result) ≡ portionAfterOf (nightPortionsOf (t .args .parameters) .isha) (t .args .night) = k ∙ m .portion-after .ensures ∙ simp (n, m .before .night-portions .ensures) in
     promised (held-as (of-near (c .sum2 .ensures) (lit≤ tt)) (summands (read w32 _ f) e ∙ simp (sym (m .before .before .before .by-season .ensures), m .before .before .if1 .left))) (lit≤ tt)
 
-pub isha-bound-spec : {M : Type 1} → statement M
-isha-bound-spec = tie.close (tie.spec (λ c κs. search needs) (λ c κs. search needs) (λ c κs. search needs) (λ c κs. search needs) (λ c κs. search needs) returns (λ c κs. search needs) (λ c κs. search needs) (λ c κs. search needs) returns-2)
+pub isha-bound-spec : {M : Type 1} → this.Statement.statement M
+isha-bound-spec =
+    this.Tie.close
+    (this.Tie.spec (λ c κs. search needs) (λ c κs. search needs) (λ c κs. search needs) (λ c κs. search needs) (λ c κs. search needs) returns
+    (λ c κs. search needs) (λ c κs. search needs) (λ c κs. search needs) returns-2)

@@ -1,42 +1,33 @@
-use lib.Dec.{lit≤}
-use mir.Syntax.{w32}
-use mir.Val.{SFits}
-use Rattle.integers.proofs.Ranges.{wide}
-use Rattle.integers.proofs.Held.{constant, of-wide, held-sum, held-difference, held-fits, stored, promised}
+use Rattle.prelude.proofs.Logic.{_+_, _^_, lit≤, pos, _+ℤ_, _-ℤ_, needs, w32, w64, SFits}
+use Rattle.integers.proofs.Ranges.{readBack, wide}
+use Rattle.integers.proofs.Held.{Held, constant, of-wide, held-sum, held-difference, held-fits, stored, promised}
 use Rattle.schedule.specs.Twilight.{nightOf}
-use borrow.Author.Needs.{needs}
-use Rattle.schedule.proofs.twilight.night.Statement.{statement}
-use Rattle.schedule.proofs.twilight.night.Tie as tie
+use Rattle.schedule.proofs.twilight.night as this
 
-cast-result : tie.Need-cast-result
-cast-result c =
-    let f : SFits w32 (c .before .before .args .next .sunrise) = search needs in
-    wide _ f
+sunrise : (t : this.Tie.Start) → SFits w32 (t .args .next .sunrise)
+sunrise t = search needs
 
-add-result : tie.Need-add-result
-add-result c =
-    let f : SFits w32 (c .before .before .args .next .sunrise) = search needs in
-    held-fits (held-sum (of-wide _ f) (constant 86400)) (lit≤ tt)
+sunset : (t : this.Tie.Start) → SFits w32 (t .args .today .sunset)
+sunset t = search needs
 
-cast-result-2 : tie.Need-cast-result-2
-cast-result-2 c =
-    let f : SFits w32 (c .before .before .before .before .args .today .sunset) = search needs in
-    wide _ f
+-- tomorrow's sunrise, and from the sunset to it
+next-day : (t : this.Tie.Start) → Held (2 ^ 31 + 86400) (readBack w64 (readBack w32 (t .args .next .sunrise)) +ℤ pos 86400)
+    (t .args .next .sunrise +ℤ pos 86400)
+next-day t = held-sum (of-wide _ (sunrise t)) (constant 86400)
 
-sub-result : tie.Need-sub-result
-sub-result c =
-    let t = c .before .before .before .before in
-    let f : SFits w32 (t .args .next .sunrise) = search needs in
-    let g : SFits w32 (t .args .today .sunset) = search needs in
-    held-fits (held-difference (stored (held-sum (of-wide _ f) (constant 86400)) (lit≤ tt)) (of-wide _ g)) (lit≤ tt)
+from-sunset : (t : this.Tie.Start)
+    → Held (2 ^ 31 + 86400 + 2 ^ 31)
+    (readBack w64 (readBack w64 (readBack w32 (t .args .next .sunrise)) +ℤ pos 86400) -ℤ readBack w64 (readBack w32 (t .args .today .sunset)))
+    (t .args .next .sunrise +ℤ pos 86400 -ℤ t .args .today .sunset)
+from-sunset t = held-difference (stored (next-day t) (lit≤ tt)) (of-wide _ (sunset t))
 
-returns : tie.Need-returns
+returns : this.Tie.Need-returns
 unfolding nightOf
-returns c =
-    let t = c .before .before .before .before in
-    let f : SFits w32 (t .args .next .sunrise) = search needs in
-    let g : SFits w32 (t .args .today .sunset) = search needs in
-    promised (stored (held-difference (stored (held-sum (of-wide _ f) (constant 86400)) (lit≤ tt)) (of-wide _ g)) (lit≤ tt)) (lit≤ tt)
+returns c = promised (stored (from-sunset (c .before .before .before .before)) (lit≤ tt)) (lit≤ tt)
 
-pub night-spec : {M : Type 1} → statement M
-night-spec = tie.close (tie.spec cast-result add-result cast-result-2 sub-result returns)
+pub night-spec : {M : Type 1} → this.Statement.statement M
+night-spec =
+    this.Tie.close
+    (this.Tie.spec (λ c. wide _ (sunrise (c .before .before))) (λ c. held-fits (next-day (c .before .before)) (lit≤ tt))
+    (λ c. wide _ (sunset (c .before .before .before .before)))
+    (λ c. held-fits (from-sunset (c .before .before .before .before)) (lit≤ tt)) returns)

@@ -1,37 +1,28 @@
-use lib.Dec.{lit≤}
-use mir.Syntax.{w32}
-use mir.Val.{SFits}
+use Rattle.prelude.proofs.Logic.{lit≤, needs, w32, SFits}
 use Rattle.integers.proofs.Ranges.{read, wide}
 use Rattle.integers.proofs.Held.{of-wide, held-sum, held-product, held-as, held-fits, stored, promised}
 use Rattle.schedule.specs.Twilight.{unadjustedIshaOf}
 use Rattle.schedule.proofs.Promises.{of-near}
-use borrow.Author.Needs.{needs}
-use Rattle.schedule.proofs.twilight.unadjusted_isha.Statement.{statement}
-use Rattle.schedule.proofs.twilight.unadjusted_isha.Tie as tie
+use Rattle.schedule.proofs.twilight.unadjusted_isha as this
 
-cast-result : tie.Need-cast-result
-cast-result c =
-    let f : SFits w32 (c .before .before .before .before .before .args .today .sunset) = search needs in
-    wide _ f
-
-cast-result-2 : tie.Need-cast-result-2
+cast-result-2 : this.Tie.Need-cast-result-2
 cast-result-2 c =
     let f : SFits w32 (c .before .before .before .before .before .before .before .args .parameters .«isha_interval») = search needs in
     wide _ f
 
-mul-result : tie.Need-mul-result
+mul-result : this.Tie.Need-mul-result
 mul-result c =
     let f : SFits w32 (c .before .before .before .before .before .before .before .args .parameters .«isha_interval») = search needs in
     held-fits (held-product (of-wide _ f) 60) (lit≤ tt)
 
-add-result : tie.Need-add-result
+add-result : this.Tie.Need-add-result
 add-result c =
     let t = c .before .before .before .before .before .before .before in
     let f : SFits w32 (t .args .parameters .«isha_interval») = search needs in
     let g : SFits w32 (t .args .today .sunset) = search needs in
     held-fits (held-sum (of-wide _ g) (stored (held-product (of-wide _ f) 60) (lit≤ tt))) (lit≤ tt)
 
-returns : tie.Need-returns
+returns : this.Tie.Need-returns
 unfolding unadjustedIshaOf
 returns c =
     let t = c .before .before .before .before .before .before .before in
@@ -40,11 +31,14 @@ returns c =
     let x = held-sum (of-wide _ g) (stored (held-product (of-wide _ f) 60) (lit≤ tt)) in
     promised (held-as (stored x (lit≤ tt)) (simp (rw (read w32 _ f) at (c .before .before .before .before .if1 .taken)))) (lit≤ tt)
 
-returns-2 : tie.Need-returns-2
+returns-2 : this.Tie.Need-returns-2
 unfolding unadjustedIshaOf
 returns-2 c =
     let f : SFits w32 (c .before .before .before .before .args .parameters .«isha_interval») = search needs in
     promised (held-as (of-near (c .bounded-isha .ensures) (lit≤ tt)) (simp (rw (read w32 _ f) at (c .before .if1 .left)))) (lit≤ tt)
 
-pub unadjusted-isha-spec : {M : Type 1} → statement M
-unadjusted-isha-spec = tie.close (tie.spec cast-result cast-result-2 mul-result add-result returns (λ c κs. search needs) returns-2)
+pub unadjusted-isha-spec : {M : Type 1} → this.Statement.statement M
+unadjusted-isha-spec =
+    this.Tie.close
+    (this.Tie.spec (λ c. let f : SFits w32 (c .before .before .before .before .before .args .today .sunset) = search needs in wide _ f) cast-result-2
+    mul-result add-result returns (λ c κs. search needs) returns-2)

@@ -1,41 +1,19 @@
-use borrow.Author.Needs.{needs}
-use native.Mathlib.Omega.{arith}
-use Prim.Native.Nat.{ℕ, _+_, _<_}
-use mathlib.Core.Path.{_≡_, sym, ap, _∙_}
-use mathlib.Core.List.{List}
-use lib.ListN.{length}
-use denote.Ref.{now}
+use Rattle.prelude.proofs.Logic.{_≡_, sym, ap, _∙_, List, ℕ, _+_, _<_, arith, length, needs, now}
 use Rattle.text.specs.Text.{ascii, decimalOf, putOf, frontOf}
 use Rattle.text.proofs.TextLaws.{digits-short}
 use Rattle.sentences.specs.Guess.{none}
 use Rattle.sentences.specs.Sentences.{wordsOf}
 use Rattle.sentences.proofs.Promises.{words-short, sentence-unknown, sentence-length}
 use Rattle.sentences.proofs.Making.{unknown-by-words, known-by-words, empty, sentence-made, as-long}
-use Rattle.sentences.proofs.line.put_sentence.Statement.{statement}
-use Rattle.sentences.proofs.line.put_sentence.Tie as tie
+use Rattle.sentences.proofs.line.put_sentence as this
 
-returns : tie.Need-returns
+returns : this.Tie.Need-returns
 returns c =
     let a = c .before .before .before .args in let w = c .before .put-words .ensures in let z = sym (w .0) ∙ c .if1 .taken in
     let e = sentence-unknown (a .number) (a .place) (unknown-by-words (a .number) (a .place) z) in
     (sym (ap length e), w .1 ∙ ap (λ (t : List ℕ). frontOf t (now (a .line))) (empty (wordsOf (a .number) (a .place)) z ∙ sym e))
 
-add-result : tie.Need-add-result
-add-result c =
-    let a = c .before .before .before .before .before .before .args in let s = words-short (a .number) (a .place) in
-    record { fits = omega (arith, c .before .before .before .before .put-words .ensures .0) }
-
-add-put-decimal : tie.Need-add-put-decimal
-add-put-decimal c =
-    let a = c .before .before .before .before .before .before .before .args in let s = words-short (a .number) (a .place) in
-    record { fits = omega (arith, c .before .before .before .before .before .put-words .ensures .0) }
-
-add-result-2 : tie.Need-add-result-2
-add-result-2 c =
-    let a = c .before .before .before .before .before .before .before .before .args in let s = words-short (a .number) (a .place) in let d = digits-short 20 (a .place) in
-    record { fits = omega (arith, c .before .before .before .before .before .before .put-words .ensures .0, c .put-decimal .ensures .0) }
-
-returns-2 : tie.Need-returns-2
+returns-2 : this.Tie.Need-returns-2
 returns-2 c =
     let a = c .before .before .before .before .before .before .before .before .args in let w = c .before .before .before .before .before .before .put-words in let b = c .before .before .put in let d = c .put-decimal in
     let h : a .place < none = search needs in let long : length (w .last .0) ≡ 100 = search needs in
@@ -48,7 +26,13 @@ returns-2 c =
       sentence-made (now (a .line)) (w .last .0) (b .last .0) (d .last .0) (a .number) (a .place) line k h (w .ensures .1) q r,
     )
 
-pub put-sentence-spec : {M : Type 1} → statement M
-put-sentence-spec =
-    tie.close
-    (tie.spec (λ c κs. search needs) returns (λ c. search needs) (λ c κs. search needs) add-result add-put-decimal (λ c κs. search needs) add-result-2 returns-2)
+pub put-sentence-spec : {M : Type 1} → this.Statement.statement M
+put-sentence-spec = this.Tie.close (this.Tie.spec (λ c κs. search needs) returns (λ c. search needs) (λ c κs. search needs)
+    (λ c. let a = c .before .before .before .before .before .before .args in let s = words-short (a .number) (a .place) in
+    record { fits = omega (arith, c .before .before .before .before .put-words .ensures .0) })
+    (λ c. let a = c .before .before .before .before .before .before .before .args in let s = words-short (a .number) (a .place) in
+    record { fits = omega (arith, c .before .before .before .before .before .put-words .ensures .0) })
+    (λ c κs. search needs)
+    (λ c. let a = c .before .before .before .before .before .before .before .before .args in let s = words-short (a .number) (a .place) in let d = digits-short 20 (a .place) in
+    record { fits = omega (arith, c .before .before .before .before .before .before .put-words .ensures .0, c .put-decimal .ensures .0) })
+    returns-2)

@@ -1,33 +1,11 @@
-use borrow.Author.Needs.{needs}
-use borrow.Author.Tests.{not-true, not-false}
-use native.Mathlib.Omega.{arith}
-use mathlib.Core.Bool.{true, false}
-use mathlib.Core.Path.{_≡_, sym, ap, _∙_}
-use lib.ListN.{length}
-use denote.Ref.{now}
+use Rattle.prelude.proofs.Logic.{_≡_, sym, ap, _∙_, true, false, arith, length, needs, not-true, not-false, now}
 use Rattle.sentences.specs.Table.{textOf}
 use Rattle.sentences.specs.Sentences.{endsInColon}
 use Rattle.sentences.proofs.Lines.{text-fine}
 use Rattle.sentences.proofs.Making.{cut-text, cut-name, first-put, words-of-text, words-of-both}
-use Rattle.sentences.proofs.line.put_words.Statement.{statement}
-use Rattle.sentences.proofs.line.put_words.Tie as tie
+use Rattle.sentences.proofs.line.put_words as this
 
-array-share-prefix-text : tie.Need-array-share-prefix-text
-array-share-prefix-text c =
-    let t = cut-text (c .before .before .before .args .number) (c .before .before .text-row .result) (c .before .end-of .result) (c .before .before .text-row .ensures) (c .before .end-of .ensures) in
-    omega (arith, t .wide, t .short)
-
-slice-aggregate-put : tie.Need-slice-aggregate-put
-slice-aggregate-put c =
-    let t = cut-text (c .before .before .before .before .args .number) (c .before .before .before .text-row .result) (c .before .before .end-of .result) (c .before .before .before .text-row .ensures) (c .before .before .end-of .ensures) in
-    t .ends ∙ sym (ap length (t .text))
-
-ends-in-colon-requires : tie.Need-ends-in-colon-requires
-ends-in-colon-requires c κs =
-    let t = cut-text (c .before .before .before .before .before .args .number) (c .before .before .before .before .text-row .result) (c .before .before .before .end-of .result) (c .before .before .before .before .text-row .ensures) (c .before .before .before .end-of .ensures) in
-    t .short
-
-returns : tie.Need-returns
+returns : this.Tie.Need-returns
 returns c =
     let a = c .before .before .before .before .before .before .before .args in let k = c .before .ends-in-colon in let p = c .before .before .put in
     let t = cut-text (c .before .before .before .before .before .before .before .args .number) (c .before .before .before .before .before .before .text-row .result) (c .before .before .before .before .before .end-of .result) (c .before .before .before .before .before .before .text-row .ensures) (c .before .before .before .before .before .end-of .ensures) in
@@ -37,23 +15,7 @@ returns c =
     let w = words-of-text (a .number) (a .place) (now (a .line)) (p .last .0) e f in
     (t .ends ∙ w .0, w .1)
 
-array-share-prefix-name : tie.Need-array-share-prefix-name
-array-share-prefix-name c =
-    let m = cut-name (c .before .before .before .before .before .before .before .before .before .before .args .place) (c .before .before .name-row .result) (c .before .end-of2 .result) (c .before .before .name-row .ensures) (c .before .end-of2 .ensures) in
-    omega (arith, m .wide, m .short)
-
-slice-aggregate-put-2 : tie.Need-slice-aggregate-put-2
-slice-aggregate-put-2 c =
-    let m = cut-name (c .before .before .before .before .before .before .before .before .before .before .before .args .place) (c .before .before .before .name-row .result) (c .before .before .end-of2 .result) (c .before .before .before .name-row .ensures) (c .before .before .end-of2 .ensures) in
-    m .ends ∙ sym (ap length (m .text))
-
-add-result : tie.Need-add-result
-add-result c =
-    let t = cut-text (c .before .before .before .before .before .before .before .before .before .before .before .before .args .number) (c .before .before .before .before .before .before .before .before .before .before .before .text-row .result) (c .before .before .before .before .before .before .before .before .before .before .end-of .result) (c .before .before .before .before .before .before .before .before .before .before .before .text-row .ensures) (c .before .before .before .before .before .before .before .before .before .before .end-of .ensures) in
-    let m = cut-name (c .before .before .before .before .before .before .before .before .before .before .before .before .args .place) (c .before .before .before .before .name-row .result) (c .before .before .before .end-of2 .result) (c .before .before .before .before .name-row .ensures) (c .before .before .before .end-of2 .ensures) in
-    record { fits = omega (arith, t .short, m .short) }
-
-returns-2 : tie.Need-returns-2
+returns-2 : this.Tie.Need-returns-2
 returns-2 c =
     let a = c .before .before .before .before .before .before .before .before .before .before .before .before .args in let k = c .before .before .before .before .before .before .ends-in-colon in let p = c .before .before .before .before .before .before .before .put in let q = c .put2 in
     let t = cut-text (c .before .before .before .before .before .before .before .before .before .before .before .before .args .number) (c .before .before .before .before .before .before .before .before .before .before .before .text-row .result) (c .before .before .before .before .before .before .before .before .before .before .end-of .result) (c .before .before .before .before .before .before .before .before .before .before .before .text-row .ensures) (c .before .before .before .before .before .before .before .before .before .before .end-of .ensures) in
@@ -64,7 +26,22 @@ returns-2 c =
     let w = words-of-both (a .number) (a .place) (now (a .line)) (p .last .0) (q .last .0) e long f (rw (m .text, t .ends) at (q .ensures)) in
     (omega (arith, t .ends, m .ends, w .0), w .1)
 
-pub put-words-spec : {M : Type 1} → statement M
-put-words-spec =
-    tie.close
-    (tie.spec (λ c κs. search needs) (λ c κs. search needs) array-share-prefix-text slice-aggregate-put (λ c κs. search needs) ends-in-colon-requires returns (λ c κs. search needs) (λ c κs. search needs) array-share-prefix-name slice-aggregate-put-2 (λ c κs. search needs) add-result returns-2)
+pub put-words-spec : {M : Type 1} → this.Statement.statement M
+put-words-spec = this.Tie.close (this.Tie.spec (λ c κs. search needs) (λ c κs. search needs)
+    (λ c. let t = cut-text (c .before .before .before .args .number) (c .before .before .text-row .result) (c .before .end-of .result) (c .before .before .text-row .ensures) (c .before .end-of .ensures) in
+    omega (arith, t .wide, t .short))
+    (λ c. let t = cut-text (c .before .before .before .before .args .number) (c .before .before .before .text-row .result) (c .before .before .end-of .result) (c .before .before .before .text-row .ensures) (c .before .before .end-of .ensures) in
+    t .ends ∙ sym (ap length (t .text)))
+    (λ c κs. search needs)
+    (λ c κs. let t = cut-text (c .before .before .before .before .before .args .number) (c .before .before .before .before .text-row .result) (c .before .before .before .end-of .result) (c .before .before .before .before .text-row .ensures) (c .before .before .before .end-of .ensures) in
+    t .short)
+    returns (λ c κs. search needs) (λ c κs. search needs)
+    (λ c. let m = cut-name (c .before .before .before .before .before .before .before .before .before .before .args .place) (c .before .before .name-row .result) (c .before .end-of2 .result) (c .before .before .name-row .ensures) (c .before .end-of2 .ensures) in
+    omega (arith, m .wide, m .short))
+    (λ c. let m = cut-name (c .before .before .before .before .before .before .before .before .before .before .before .args .place) (c .before .before .before .name-row .result) (c .before .before .end-of2 .result) (c .before .before .before .name-row .ensures) (c .before .before .end-of2 .ensures) in
+    m .ends ∙ sym (ap length (m .text)))
+    (λ c κs. search needs)
+    (λ c. let t = cut-text (c .before .before .before .before .before .before .before .before .before .before .before .before .args .number) (c .before .before .before .before .before .before .before .before .before .before .before .text-row .result) (c .before .before .before .before .before .before .before .before .before .before .end-of .result) (c .before .before .before .before .before .before .before .before .before .before .before .text-row .ensures) (c .before .before .before .before .before .before .before .before .before .before .end-of .ensures) in
+    let m = cut-name (c .before .before .before .before .before .before .before .before .before .before .before .before .args .place) (c .before .before .before .before .name-row .result) (c .before .before .before .end-of2 .result) (c .before .before .before .before .name-row .ensures) (c .before .before .before .end-of2 .ensures) in
+    record { fits = omega (arith, t .short, m .short) })
+    returns-2)

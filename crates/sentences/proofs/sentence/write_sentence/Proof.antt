@@ -1,22 +1,16 @@
-use native.Mathlib.Omega.{arith}
-use Prim.Native.Nat.{ℕ, _<_}
-use mathlib.Core.Path.{refl, sym, ap, subst, _∙_}
-use lib.ListN.{length}
-use denote.Ref.{now}
+use Rattle.prelude.proofs.Logic.{refl, sym, ap, subst, _∙_, ℕ, _<_, arith, length, needs, now}
 use Rattle.sentences.specs.Guess.{none}
 use Rattle.sentences.proofs.Making.{known-by-sentence, unknown-by-sentence, line-of, writes, writes-unknown, writes-no-room}
-use borrow.Author.Needs.{needs}
-use Rattle.sentences.proofs.sentence.write_sentence.Statement.{statement}
-use Rattle.sentences.proofs.sentence.write_sentence.Tie as tie
+use Rattle.sentences.proofs.sentence.write_sentence as this
 
-returns : tie.Need-returns
+returns : this.Tie.Need-returns
 returns c =
     let a = c .before .before .before .before .before .args in
     let k = unknown-by-sentence (a .number) (a .place) (sym (c .before .before .put-sentence .ensures .0) ∙ c .before .if1 .taken) in
     let w = writes-unknown (a .number) (a .place) (now (a .buffer)) k in
     (c .refuse .ensures ∙ w .0, w .1)
 
-returns-2 : tie.Need-returns-2
+returns-2 : this.Tie.Need-returns-2
 returns-2 c =
     let a = c .before .before .before .before .before .before .args in
     let s = c .before .before .before .put-sentence in
@@ -24,7 +18,7 @@ returns-2 c =
     let w = writes-no-room (a .number) (a .place) (now (a .buffer)) k (subst (λ (m : ℕ). length (now (a .buffer)) < m) (s .ensures .0) (c .before .if2 .taken)) in
     (c .refuse2 .ensures ∙ w .0, w .1)
 
-array-share-prefix-line : tie.Need-array-share-prefix-line
+array-share-prefix-line : this.Tie.Need-array-share-prefix-line
 array-share-prefix-line c =
     let a = c .before .before .before .before .before .before .args in
     let s = c .before .before .before .put-sentence in
@@ -32,7 +26,7 @@ array-share-prefix-line c =
     let l = line-of _ (s .last .0) (a .number) (a .place) (s .result) (s .ensures .0) (s .ensures .1) refl h in
     omega (arith, l .short, l .long)
 
-slice-aggregate-put : tie.Need-slice-aggregate-put
+slice-aggregate-put : this.Tie.Need-slice-aggregate-put
 slice-aggregate-put c =
     let a = c .before .before .before .before .before .before .before .args in
     let s = c .before .before .before .before .put-sentence in
@@ -40,15 +34,14 @@ slice-aggregate-put c =
     let l = line-of _ (s .last .0) (a .number) (a .place) (s .result) (s .ensures .0) (s .ensures .1) refl h in
     l .ends ∙ sym (ap length (l .text))
 
-cast-t14 : tie.Need-cast-t14
+cast-t14 : this.Tie.Need-cast-t14
 cast-t14 c =
     let a = c .before .before .before .before .before .before .before .before .before .before .args in
     let s = c .before .before .before .before .before .before .before .put-sentence in
     let h : a .place < none = search needs in
-    let l = line-of _ (s .last .0) (a .number) (a .place) (s .result) (s .ensures .0) (s .ensures .1) refl h in
-    record { fits = omega (arith, l .short) }
+    record { fits = omega (arith, line-of _ (s .last .0) (a .number) (a .place) (s .result) (s .ensures .0) (s .ensures .1) refl h .short) }
 
-returns-3 : tie.Need-returns-3
+returns-3 : this.Tie.Need-returns-3
 returns-3 c =
     let a = c .before .before .before .before .before .before .before .before .before .before .args in
     let s = c .before .before .before .before .before .before .before .put-sentence in
@@ -57,7 +50,6 @@ returns-3 c =
     let k = known-by-sentence (a .number) (a .place) (λ z. c .before .before .before .before .before .before .if1 .left (s .ensures .0 ∙ z)) in
     (writes (a .number) (a .place) (s .result) (now (a .buffer)) k (l .ends) (c .before .before .before .before .before .if2 .left), rw (l .text) at (c .before .before .put .ensures))
 
-pub write-sentence-spec : {M : Type 1} → statement M
-write-sentence-spec =
-    tie.close
-    (tie.spec (λ c κs. search needs) (λ c κs. search needs) returns (λ c κs. search needs) returns-2 array-share-prefix-line slice-aggregate-put (λ c κs. search needs) cast-t14 (λ c. search needs) returns-3)
+pub write-sentence-spec : {M : Type 1} → this.Statement.statement M
+write-sentence-spec = this.Tie.close (this.Tie.spec (λ c κs. search needs) (λ c κs. search needs) returns (λ c κs. search needs) returns-2
+    array-share-prefix-line slice-aggregate-put (λ c κs. search needs) cast-t14 (λ c. search needs) returns-3)

@@ -1,20 +1,14 @@
-use mathlib.Core.Path.{sym, ap}
-use mathlib.Core.List.{[]}
-use lib.ListN.{List·getD-eq-default}
+use Rattle.prelude.proofs.Logic.{sym, ap, [], List·getD-eq-default, needs}
 use Rattle.sentences.specs.Table.{texts, textOf, widest}
 use Rattle.sentences.specs.Rows.{filled}
 use Rattle.sentences.proofs.Steps.{mapped}
-use borrow.Author.Needs.{needs}
-use Rattle.sentences.proofs.table.text_row.Statement.{statement}
-use Rattle.sentences.proofs.table.text_row.Tie as tie
+use Rattle.sentences.proofs.table.text_row as this
 
-returns : tie.Need-returns
+pub text-row-spec : {M : Type 1} → this.Statement.statement M
 unfolding texts textOf filled
-returns c = let e = mapped (filled widest) texts (c .before .before .args .number) [] [] (c .before .if1 .taken) in search e
-
-returns-2 : tie.Need-returns-2
-unfolding texts textOf filled
-returns-2 c = sym (ap (filled widest) (List·getD-eq-default texts [] {n = c .before .before .args .number} (c .before .if1 .left)))
-
-pub text-row-spec : {M : Type 1} → statement M
-text-row-spec = tie.close (tie.spec (λ c. search needs) (λ c. search needs) returns (λ c. search needs) returns-2)
+text-row-spec =
+    let returns : this.Tie.Need-returns = λ c.
+    let e = mapped (filled widest) texts (c .before .before .args .number) [] [] (c .before .if1 .taken) in search e in
+    let returns-2 : this.Tie.Need-returns-2 = λ c.
+    sym (ap (filled widest) (List·getD-eq-default texts [] {n = c .before .before .args .number} (c .before .if1 .left))) in
+    this.Tie.close (this.Tie.spec (λ c. search needs) (λ c. search needs) returns (λ c. search needs) returns-2)

@@ -1,8 +1,7 @@
-use Rattle.solar.proofs.coordinates.position.Statement.{statement}
-use Rattle.solar.proofs.coordinates.position.Tie as tie
+use Rattle.solar.proofs.coordinates.position as this
 
-returns : tie.Need-returns
+returns : this.Tie.Need-returns
 returns c = cc
 
-pub position-spec : {M : Type 1} → statement M
-position-spec = tie.close (tie.spec (λ c κs. tt) (λ c κs. tt) returns)
+pub position-spec : {M : Type 1} → this.Statement.statement M
+position-spec = this.Tie.close (this.Tie.spec (λ c κs. tt) (λ c κs. tt) returns)

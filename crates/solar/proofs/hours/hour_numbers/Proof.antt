@@ -1,10 +1,9 @@
 use Rattle.solar.specs.Shared.{courseNumbersOf, courseAngleNumberOf}
-use Rattle.solar.proofs.hours.hour_numbers.Statement.{statement}
-use Rattle.solar.proofs.hours.hour_numbers.Tie as tie
+use Rattle.solar.proofs.hours.hour_numbers as this
 
-returns : tie.Need-returns
+returns : this.Tie.Need-returns
 unfolding courseNumbersOf courseAngleNumberOf
 returns c = simp (c .hour-number2 .ensures, c .before .hour-number .ensures, c .before .before .transit-number .ensures, c .before .before .before .half-arc .ensures, c .before .before .before .before .solar-altitude .ensures)
 
-pub hour-numbers-spec : {M : Type 1} → statement M
-hour-numbers-spec = tie.close (tie.spec (λ c κs. tt) (λ c κs. tt) (λ c κs. tt) (λ c κs. tt) (λ c κs. tt) returns)
+pub hour-numbers-spec : {M : Type 1} → this.Statement.statement M
+hour-numbers-spec = this.Tie.close (this.Tie.spec (λ c κs. tt) (λ c κs. tt) (λ c κs. tt) (λ c κs. tt) (λ c κs. tt) returns)

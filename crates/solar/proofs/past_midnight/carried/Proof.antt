@@ -1,14 +1,9 @@
-use mathlib.Core.Path.{sym, ap, _∙_}
-use mir.Syntax.{w32}
-use mir.Val.{SFits}
-use mir.Facts.{toZ-ofZ}
-use borrow.Author.Needs.{needs}
+use Rattle.prelude.proofs.Logic.{sym, ap, _∙_, needs, w32, SFits, toZ-ofZ}
 use Rattle.solar.specs.declared.setting.SolarHour.{SolarHour}
 use Rattle.solar.proofs.PastMidnightLaws.{carriedFrom, carry-from}
-use Rattle.solar.proofs.past_midnight.carried.Statement.{statement}
-use Rattle.solar.proofs.past_midnight.carried.Tie as tie
+use Rattle.solar.proofs.past_midnight.carried as this
 
-returns : tie.Need-returns
+returns : this.Tie.Need-returns
 returns c =
     let h = c .before .before .before in
     let p = h .before .args .p in
@@ -16,14 +11,14 @@ returns c =
     let from : SolarHour → SolarHour = λ r. carriedFrom r (p .ahead) in
     rw (toZ-ofZ f) (sym (carry-from p (h .before .args .minute) ∙ ap from (sym (h .hour .ensures) ∙ c .before .time .given .1)))
 
-returns-2 : tie.Need-returns-2
+returns-2 : this.Tie.Need-returns-2
 returns-2 c =
     let h = c .before .before .before in
     let p = h .before .args .p in
     let from : SolarHour → SolarHour = λ r. carriedFrom r (p .ahead) in
     c .next-midnight .ensures ∙ sym (carry-from p (h .before .args .minute) ∙ ap from (sym (h .hour .ensures) ∙ c .before .enum-told .given .1))
 
-pub carried-spec : {M : Type 1} → statement M
+pub carried-spec : {M : Type 1} → this.Statement.statement M
 carried-spec =
-    tie.close
-    (tie.spec (λ c κs. tt) (λ c. search needs) (λ c. search needs) (λ c κs. tt) returns returns-2)
+    this.Tie.close
+    (this.Tie.spec (λ c κs. tt) (λ c. search needs) (λ c. search needs) (λ c κs. tt) returns returns-2)

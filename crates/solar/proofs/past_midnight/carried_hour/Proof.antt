@@ -1,9 +1,8 @@
-use mathlib.Core.Path.{sym}
+use Rattle.prelude.proofs.Logic.{sym}
 use Rattle.solar.specs.PastMidnight.{carriedHourOf}
-use Rattle.solar.proofs.past_midnight.carried_hour.Statement.{statement}
-use Rattle.solar.proofs.past_midnight.carried_hour.Tie as tie
+use Rattle.solar.proofs.past_midnight.carried_hour as this
 
-returns : tie.Need-returns
+returns : this.Tie.Need-returns
 unfolding carriedHourOf
 returns c =
     let e0 = c .carried .ensures in
@@ -23,20 +22,20 @@ returns c =
       c .before .before .before .before .before .before .if1 .taken,
     )
 
-returns-2 : tie.Need-returns-2
+returns-2 : this.Tie.Need-returns-2
 unfolding carriedHourOf
 returns-2 c =
     let e0 = c .before .is-normal .ensures in
     let e1 = c .before .before .before .has-time .ensures in
     simp (sym e0, sym e1, c .if2 .left, c .before .before .if1 .taken)
 
-returns-3 : tie.Need-returns-3
+returns-3 : this.Tie.Need-returns-3
 unfolding carriedHourOf
 returns-3 c =
     let e0 = c .before .has-time .ensures in
     simp (sym e0, c .if1 .left)
 
-pub carried-hour-spec : {M : Type 1} → statement M
+pub carried-hour-spec : {M : Type 1} → this.Statement.statement M
 carried-hour-spec =
-    tie.close
-    (tie.spec (λ c κs. tt) (λ c κs. tt) (λ c κs. tt) (λ c κs. tt) (λ c κs. tt) (λ c κs. tt) returns returns-2 returns-3)
+    this.Tie.close
+    (this.Tie.spec (λ c κs. tt) (λ c κs. tt) (λ c κs. tt) (λ c κs. tt) (λ c κs. tt) (λ c κs. tt) returns returns-2 returns-3)

@@ -1,13 +1,11 @@
-use Prim.Native.Nat.{_*_, _<_}
+use Rattle.prelude.proofs.Logic.{_*_, _<_, needs}
 use Rattle.solar.proofs.Cases.{midnight}
-use borrow.Author.Needs.{needs}
-use Rattle.solar.proofs.past_midnight.next_midnight.Statement.{statement}
-use Rattle.solar.proofs.past_midnight.next_midnight.Tie as tie
+use Rattle.solar.proofs.past_midnight.next_midnight as this
 
-returns : tie.Need-returns
+returns : this.Tie.Need-returns
 returns c =
     let h : c .args .ahead * 86400 < 2147483648 = search needs in
     midnight (c .args .ahead) h
 
-pub next-midnight-spec : {M : Type 1} → statement M
-next-midnight-spec = tie.close (tie.spec (λ c. search needs) (λ c. search needs) returns)
+pub next-midnight-spec : {M : Type 1} → this.Statement.statement M
+next-midnight-spec = this.Tie.close (this.Tie.spec (λ c. search needs) (λ c. search needs) returns)

@@ -1,14 +1,29 @@
-use lib.Ieee.{round, ofBits}
+use Rattle.prelude.proofs.Logic.{sym, subst, T, needs}
+use lib.Ieee.{Float, binary64, round, ofBits, inUnsigned}
 use Rattle.float64.specs.Ops.{dec}
 use Rattle.solar.specs.Setting.{minuteOf}
-use borrow.Author.Needs.{needs}
-use Rattle.solar.proofs.setting.minute.Statement.{statement}
-use Rattle.solar.proofs.setting.minute.Tie as tie
+use Rattle.solar.proofs.OnTheDate.{minute-cast}
+use Rattle.solar.proofs.setting.minute as this
 
-returns : tie.Need-returns
+float-to-int-result : this.Tie.Need-float-to-int-result
+unfolding dec round ofBits
+float-to-int-result c =
+    let t = c .before .before in
+    subst (λ (x : Float). T (inUnsigned binary64 32 x)) (sym (c .before .round .ensures)) (minute-cast _ (t .before .if1 .taken) (t .if2 .taken))
+
+returns : this.Tie.Need-returns
 unfolding minuteOf dec round ofBits
-returns c = simp (c .to-u32 .ensures, c .before .round .ensures, c .before .before .floor2 .ensures, c .before .before .before .floor .ensures)
+returns c =
+    let t = c .before .before .before .before in
+    simp (c .before .round .ensures, t .floor2 .ensures, t .before .floor .ensures)
 
-pub minute-spec : {M : Type 1} → statement M
+returns-2 : this.Tie.Need-returns-2
+unfolding minuteOf dec round ofBits
+returns-2 c =
+    let t = c .before .before .before in
+    simp (c .to-u32 .ensures, c .before .round2 .ensures, t .floor2 .ensures, t .before .floor .ensures)
+
+pub minute-spec : {M : Type 1} → this.Statement.statement M
 minute-spec =
-    tie.close (tie.spec (λ c κs. search needs) (λ c κs. search needs) (λ c κs. search needs) (λ c κs. search needs) returns)
+    this.Tie.close
+    (this.Tie.spec (λ c κs. search needs) (λ c κs. search needs) (λ c κs. search needs) float-to-int-result returns (λ c κs. search needs) (λ c κs. search needs) returns-2)

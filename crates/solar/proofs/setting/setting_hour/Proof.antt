@@ -1,25 +1,30 @@
-use mathlib.Core.Path.{sym}
+use Rattle.prelude.proofs.Logic.{sym, needs}
+use lib.Ieee.{round, ofBits}
+use Rattle.float64.specs.Ops.{dec}
 use Rattle.solar.specs.Setting.{settingHourOf}
-use Rattle.solar.proofs.setting.setting_hour.Statement.{statement}
-use Rattle.solar.proofs.setting.setting_hour.Tie as tie
+use Rattle.solar.proofs.setting.setting_hour as this
 
-returns : tie.Need-returns
+date-hour-requires : this.Tie.Need-date-hour-requires
+unfolding dec round ofBits
+date-hour-requires c κs = (c .before .if1 .taken, c .if2 .taken)
+
+returns-2 : this.Tie.Need-returns-2
 unfolding settingHourOf
-returns c =
+returns-2 c =
     let e0 = c .hour .ensures in
     let e1 = c .before .minute .ensures in
     let e2 = c .before .before .hour-adjustment .ensures in
     let e3 = c .before .before .before .floor .ensures in
     let e4 = c .before .before .before .before .before .is-normal .ensures in
-    simp (sym e0, sym e1, sym e2, sym e3, sym e4, c .before .before .before .before .if1 .taken)
+    simp (sym e0, sym e1, sym e2, sym e3, sym e4, c .before .before .before .before .if3 .taken)
 
-returns-2 : tie.Need-returns-2
+returns-3 : this.Tie.Need-returns-3
 unfolding settingHourOf
-returns-2 c =
+returns-3 c =
     let e0 = c .before .is-normal .ensures in
-    simp (sym e0, c .if1 .left)
+    simp (sym e0, c .if3 .left)
 
-pub setting-hour-spec : {M : Type 1} → statement M
+pub setting-hour-spec : {M : Type 1} → this.Statement.statement M
 setting-hour-spec =
-    tie.close
-    (tie.spec (λ c κs. tt) (λ c κs. tt) (λ c κs. tt) (λ c κs. tt) (λ c κs. tt) returns returns-2)
+    this.Tie.close
+    (this.Tie.spec date-hour-requires (λ c. search needs) (λ c κs. tt) (λ c κs. tt) (λ c κs. tt) (λ c κs. tt) (λ c κs. tt) returns-2 returns-3)

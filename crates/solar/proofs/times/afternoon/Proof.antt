@@ -1,8 +1,7 @@
-use Rattle.solar.proofs.times.afternoon.Statement.{statement}
-use Rattle.solar.proofs.times.afternoon.Tie as tie
+use Rattle.solar.proofs.times.afternoon as this
 
-returns : tie.Need-returns
+returns : this.Tie.Need-returns
 returns c = cc
 
-pub afternoon-spec : {M : Type 1} → statement M
-afternoon-spec = tie.close (tie.spec (λ c κs. tt) (λ c κs. tt) returns)
+pub afternoon-spec : {M : Type 1} → this.Statement.statement M
+afternoon-spec = this.Tie.close (this.Tie.spec (λ c κs. tt) (λ c κs. tt) returns)

@@ -1,21 +1,17 @@
-use mir.Syntax.{w32}
-use mir.Val.{SFits}
-use mir.Facts.{toZ-ofZ}
+use Rattle.prelude.proofs.Logic.{needs, w32, SFits, toZ-ofZ}
 use Rattle.solar.specs.Times.{dayOf}
-use borrow.Author.Needs.{needs}
-use Rattle.solar.proofs.times.day.Statement.{statement}
-use Rattle.solar.proofs.times.day.Tie as tie
+use Rattle.solar.proofs.times.day as this
 
-returns : tie.Need-returns
+returns : this.Tie.Need-returns
 unfolding dayOf
 returns c = simp (c .enum-told .given .1)
 
-returns-2 : tie.Need-returns-2
+returns-2 : this.Tie.Need-returns-2
 unfolding dayOf
 returns-2 c =
     simp (c .enum-told2 .given .1, c .before .before .before .transit .given .1)
 
-returns-3 : tie.Need-returns-3
+returns-3 : this.Tie.Need-returns-3
 unfolding dayOf
 returns-3 c =
     simp (
@@ -24,7 +20,7 @@ returns-3 c =
       c .before .before .before .before .before .before .transit .given .1,
     )
 
-returns-4 : tie.Need-returns-4
+returns-4 : this.Tie.Need-returns-4
 unfolding dayOf
 returns-4 c =
     let f0 : SFits w32 (c .before .before .before .before .before .before .before .transit .given .0 .0) = search needs in
@@ -39,7 +35,7 @@ returns-4 c =
       c .before .before .before .before .before .before .before .transit .given .1,
     )
 
-pub day-spec : {M : Type 1} → statement M
+pub day-spec : {M : Type 1} → this.Statement.statement M
 day-spec =
-    tie.close
-    (tie.spec (λ c. search needs) (λ c. search needs) returns (λ c. search needs) (λ c. search needs) returns-2 (λ c. search needs) (λ c. search needs) returns-3 returns-4)
+    this.Tie.close
+    (this.Tie.spec (λ c. search needs) (λ c. search needs) returns (λ c. search needs) (λ c. search needs) returns-2 (λ c. search needs) (λ c. search needs) returns-3 returns-4)

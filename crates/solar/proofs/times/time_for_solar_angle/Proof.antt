@@ -1,9 +1,8 @@
-use Rattle.solar.proofs.times.time_for_solar_angle.Statement.{statement}
-use Rattle.solar.proofs.times.time_for_solar_angle.Tie as tie
+use Rattle.solar.proofs.times.time_for_solar_angle as this
 
-returns : tie.Need-returns
+returns : this.Tie.Need-returns
 returns c = cc
 
-pub time-for-solar-angle-spec : {M : Type 1} → statement M
+pub time-for-solar-angle-spec : {M : Type 1} → this.Statement.statement M
 time-for-solar-angle-spec =
-    tie.close (tie.spec (λ c κs. tt) (λ c κs. tt) returns)
+    this.Tie.close (this.Tie.spec (λ c κs. tt) (λ c κs. tt) returns)

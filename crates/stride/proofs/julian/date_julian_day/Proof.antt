@@ -1,12 +1,9 @@
-use mir.Syntax.{w32}
-use mir.Val.{SFits}
-use Rattle.integers.proofs.Ranges.{read}
+use Rattle.prelude.proofs.Logic.{needs, w32, SFits}
+use Rattle.integers.proofs.Integers.{read}
 use Rattle.stride.specs.Julian.{dateJulianDayOf}
-use borrow.Author.Needs.{needs}
-use Rattle.stride.proofs.julian.date_julian_day.Statement.{statement}
-use Rattle.stride.proofs.julian.date_julian_day.Tie as tie
+use Rattle.stride.proofs.julian.date_julian_day as this
 
-returns : tie.Need-returns
+returns : this.Tie.Need-returns
 unfolding dateJulianDayOf
 returns c =
     let c1 = c .before in
@@ -18,7 +15,5 @@ returns c =
     simp (c .julian-day .ensures, read w32 (c1 .saturated3 .result) r1, read w32 (c2 .saturated2 .result) r2, read w32 (c3 .saturated .result) r3)
     (simp (c1 .saturated3 .ensures, c2 .saturated2 .ensures, c3 .saturated .ensures))
 
-pub date-julian-day-spec : {M : Type 1} → statement M
-date-julian-day-spec =
-    tie.close
-    (tie.spec (λ c κs. tt) (λ c κs. tt) (λ c κs. tt) (λ c κs. tt) returns)
+pub date-julian-day-spec : {M : Type 1} → this.Statement.statement M
+date-julian-day-spec = this.Tie.close (this.Tie.spec (λ c κs. tt) (λ c κs. tt) (λ c κs. tt) (λ c κs. tt) returns)

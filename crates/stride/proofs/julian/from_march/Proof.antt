@@ -1,12 +1,9 @@
-use mir.Syntax.{w32, w64}
-use mir.Val.{SFits}
-use Rattle.integers.proofs.Ranges.{read}
+use Rattle.prelude.proofs.Logic.{needs, w32, w64, SFits}
+use Rattle.integers.proofs.Integers.{read}
 use Rattle.stride.specs.Julian.{fromMarchOf, yearProductOf, monthProductOf}
-use borrow.Author.Needs.{needs}
-use Rattle.stride.proofs.julian.from_march.Statement.{statement}
-use Rattle.stride.proofs.julian.from_march.Tie as tie
+use Rattle.stride.proofs.julian.from_march as this
 
-returns : tie.Need-returns
+returns : this.Tie.Need-returns
 unfolding fromMarchOf yearProductOf monthProductOf
 returns c =
     let c1 = c .before .before .before in
@@ -19,7 +16,6 @@ returns c =
     simp (c .nearest-i64-to-f643 .ensures, read w32 (c2 .to-i32 .result) r0, read w32 (c1 .to-i322 .result) r1, read w64 (c3 .correction .result) rb)
     (simp (c1 .to-i322 .ensures, c1 .before .nearest-i64-to-f642 .ensures, c2 .to-i32 .ensures, c2 .before .nearest-i64-to-f64 .ensures, c3 .correction .ensures, read w64 (s .args .year) (s .fits .year), read w64 (s .args .month) (s .fits .month)))
 
-pub from-march-spec : {M : Type 1} → statement M
-from-march-spec =
-    tie.close
-    (tie.spec (λ c κs. tt) (λ c κs. search needs) (λ c κs. tt) (λ c κs. search needs) (λ c κs. tt) (λ c. search needs) (λ c. search needs) (λ c κs. search needs) returns)
+pub from-march-spec : {M : Type 1} → this.Statement.statement M
+from-march-spec = this.Tie.close (this.Tie.spec (λ c κs. tt) (λ c κs. search needs) (λ c κs. tt) (λ c κs. search needs) (λ c κs. tt)
+    (λ c. search needs) (λ c. search needs) (λ c κs. search needs) returns)

@@ -1,35 +1,9 @@
-use mathlib.Core.Path.{_≡_}
-use mathlib.Core.Bool.{true, false}
-use lib.Dec.{lit≤}
-use lib.IntN.{pos}
-use lib.Signed.{ltZ}
-use mir.Syntax.{w32}
-use Rattle.integers.proofs.Ranges.{read, wide, read-wide}
-use Rattle.integers.proofs.Held.{constant, of-wide, held-sum, held-difference, held-fits, stored}
+use Rattle.prelude.proofs.Logic.{_≡_, true, false, lit≤, pos, ltZ, needs, w32}
+use Rattle.integers.proofs.Integers.{read, wide, read-wide, constant, of-wide, held-sum, held-difference, held-fits, stored}
 use Rattle.stride.specs.Julian.{julianDayOf}
-use borrow.Author.Needs.{needs}
-use Rattle.stride.proofs.julian.julian_day.Statement.{statement}
-use Rattle.stride.proofs.julian.julian_day.Tie as tie
+use Rattle.stride.proofs.julian.julian_day as this
 
-cast-from-march : tie.Need-cast-from-march
-cast-from-march c = let s = c .before .before in wide (s .args .year) (s .fits .year)
-
-cast-from-march-2 : tie.Need-cast-from-march-2
-cast-from-march-2 c = let s = c .before .before in wide (s .args .month) (s .fits .month)
-
-cast-from-march-3 : tie.Need-cast-from-march-3
-cast-from-march-3 c = let s = c .before .before in wide (s .args .year) (s .fits .year)
-
-sub-from-march : tie.Need-sub-from-march
-sub-from-march c = let s = c .before .before in held-fits (held-difference (of-wide (s .args .year) (s .fits .year)) (constant 1)) (lit≤ tt)
-
-cast-from-march-4 : tie.Need-cast-from-march-4
-cast-from-march-4 c = let s = c .before .before in wide (s .args .month) (s .fits .month)
-
-add-from-march : tie.Need-add-from-march
-add-from-march c = let s = c .before .before in held-fits (held-sum (of-wide (s .args .month) (s .fits .month)) (constant 12)) (lit≤ tt)
-
-returns : tie.Need-returns
+returns : this.Tie.Need-returns
 unfolding julianDayOf
 returns c =
     let s = c .before .before .before in
@@ -38,7 +12,7 @@ returns c =
     let t : ltZ (pos 2) m ≡ true = rw (← read w32 m fm) (c .before .if1 .taken) in
     simp (c .from-march .ensures, read-wide (s .args .year) (s .fits .year), read-wide m fm, read w32 (s .args .day) (s .fits .day), t)
 
-returns-2 : tie.Need-returns-2
+returns-2 : this.Tie.Need-returns-2
 unfolding julianDayOf
 returns-2 c =
     let s = c .before .before .before in
@@ -49,7 +23,11 @@ returns-2 c =
     let after = stored (held-sum (of-wide m fm) (constant 12)) (lit≤ tt) in
     rw (c .from-march2 .ensures, before .is, after .is, read w32 (s .args .day) (s .fits .day), t)
 
-pub julian-day-spec : {M : Type 1} → statement M
-julian-day-spec =
-    tie.close
-    (tie.spec (λ c. search needs) cast-from-march cast-from-march-2 (λ c κs. tt) cast-from-march-3 sub-from-march cast-from-march-4 add-from-march (λ c κs. tt) returns returns-2)
+pub julian-day-spec : {M : Type 1} → this.Statement.statement M
+julian-day-spec = this.Tie.close (this.Tie.spec (λ c. search needs) (λ c. let s = c .before .before in wide (s .args .year) (s .fits .year))
+    (λ c. let s = c .before .before in wide (s .args .month) (s .fits .month)) (λ c κs. tt)
+    (λ c. let s = c .before .before in wide (s .args .year) (s .fits .year))
+    (λ c. let s = c .before .before in held-fits (held-difference (of-wide (s .args .year) (s .fits .year)) (constant 1)) (lit≤ tt))
+    (λ c. let s = c .before .before in wide (s .args .month) (s .fits .month))
+    (λ c. let s = c .before .before in held-fits (held-sum (of-wide (s .args .month) (s .fits .month)) (constant 12)) (lit≤ tt)) (λ c κs. tt) returns
+    returns-2)

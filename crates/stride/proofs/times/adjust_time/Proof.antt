@@ -1,21 +1,12 @@
-use borrow.Author.Needs.{needs}
-use mathlib.Core.Path.{_≡_}
-use mir.Syntax.{w64}
-use Rattle.integers.proofs.Ranges.{readBack}
+use Rattle.prelude.proofs.Logic.{_≡_, needs, w64}
+use Rattle.integers.proofs.Integers.{readBack}
 use Rattle.stride.proofs.Minutes as minutes
-use Rattle.stride.proofs.times.adjust_time.Statement.{statement}
-use Rattle.stride.proofs.times.adjust_time.Tie as tie
+use Rattle.stride.proofs.times.adjust_time as this
 
-returns : tie.Need-returns
-returns c = let s = c .before in minutes.far-up (s .args .t) (s .args .minutes) (s .fits .t) (s .fits .minutes) (c .if1 .taken)
-
-returns-2 : tie.Need-returns-2
-returns-2 c = let s = c .before .before in minutes.far-down (s .args .t) (s .args .minutes) (s .fits .t) (s .fits .minutes) (c .if2 .taken)
-
-mul-half : tie.Need-mul-half
+mul-half : this.Tie.Need-mul-half
 mul-half c = let s = c .before .before in minutes.half-fits (s .args .t) (s .args .minutes) (s .fits .t) (s .fits .minutes) (c .before .if1 .left) (c .if2 .left)
 
-returns-3 : tie.Need-returns-3
+returns-3 : this.Tie.Need-returns-3
 returns-3 c =
     let s = c .before .before .before .before in
     let x = c .before .plus .result in
@@ -24,5 +15,10 @@ returns-3 c =
     let q : readBack w64 r ≡ r = search needs in
     minutes.adjusted-is (s .args .t) (s .args .minutes) (s .fits .t) (s .fits .minutes) x r (mul-half (c .before .before)) p q (c .before .plus .ensures) (c .plus2 .ensures)
 
-pub adjust-time-spec : {M : Type 1} → statement M
-adjust-time-spec = tie.close (tie.spec returns returns-2 mul-half (λ c κs. tt) (λ c κs. tt) returns-3)
+pub adjust-time-spec : {M : Type 1} → this.Statement.statement M
+adjust-time-spec =
+    let returns : this.Tie.Need-returns = λ c.
+    let s = c .before in minutes.far-up (s .args .t) (s .args .minutes) (s .fits .t) (s .fits .minutes) (c .if1 .taken) in
+    let returns-2 : this.Tie.Need-returns-2 = λ c.
+    let s = c .before .before in minutes.far-down (s .args .t) (s .args .minutes) (s .fits .t) (s .fits .minutes) (c .if2 .taken) in
+    this.Tie.close (this.Tie.spec returns returns-2 mul-half (λ c κs. tt) (λ c κs. tt) returns-3)

@@ -1,12 +1,9 @@
-use borrow.Author.Needs.{needs}
-use mathlib.Core.Path.{_≡_, _∙_}
-use mir.Syntax.{w64}
-use Rattle.integers.proofs.Ranges.{readBack, read}
+use Rattle.prelude.proofs.Logic.{_≡_, _∙_, needs, w64}
+use Rattle.integers.proofs.Integers.{readBack, read}
 use Rattle.stride.specs.Times.{roundedOf}
-use Rattle.stride.proofs.times.rounded_minute.Statement.{statement}
-use Rattle.stride.proofs.times.rounded_minute.Tie as tie
+use Rattle.stride.proofs.times.rounded_minute as this
 
-returns : tie.Need-returns
+returns : this.Tie.Need-returns
 unfolding roundedOf
 returns c =
     let s = c .before .before .before in
@@ -14,5 +11,5 @@ returns c =
     let q : readBack w64 (c .before .shift .result) ≡ c .before .shift .result = search needs in
     p ∙ c .plus .ensures ∙ rw (q, c .before .shift .ensures, c .before .before .second .ensures, read w64 (s .args .t) (s .fits .t))
 
-pub rounded-minute-spec : {M : Type 1} → statement M
-rounded-minute-spec = tie.close (tie.spec (λ c κs. tt) (λ c κs. tt) (λ c κs. tt) returns)
+pub rounded-minute-spec : {M : Type 1} → this.Statement.statement M
+rounded-minute-spec = this.Tie.close (this.Tie.spec (λ c κs. tt) (λ c κs. tt) (λ c κs. tt) returns)

@@ -1,27 +1,12 @@
-use mathlib.Core.Path.{ap}
-use lib.Dec.{lit<}
-use lib.IntN.{natAbs}
+use Rattle.prelude.proofs.Logic.{ap, lit<, natAbs}
 use Rattle.stride.proofs.Minutes as minutes
-use Rattle.stride.proofs.times.second.Statement.{statement}
-use Rattle.stride.proofs.times.second.Tie as tie
+use Rattle.stride.proofs.times.second as this
 
-rem-r : tie.Need-rem-r
-rem-r c = (lit< tt, minutes.quot-fits (c .args .t) (c .fits .t))
-
-add-result : tie.Need-add-result
-add-result c = minutes.up-fits (c .before .args .t) (c .before .fits .t)
-
-cast-result : tie.Need-cast-result
-cast-result c = minutes.as-u32 (c .before .args .t) _ (minutes.negative (c .before .args .t) (c .before .fits .t) (c .if1 .taken))
-
-cast-result-2 : tie.Need-cast-result-2
-cast-result-2 c = minutes.as-u32 (c .before .args .t) _ (minutes.positive (c .before .args .t) (c .before .fits .t) (c .if1 .left))
-
-returns : tie.Need-returns
-returns c = ap natAbs (minutes.negative (c .before .args .t) (c .before .fits .t) (c .if1 .taken))
-
-returns-2 : tie.Need-returns-2
-returns-2 c = ap natAbs (minutes.positive (c .before .args .t) (c .before .fits .t) (c .if1 .left))
-
-pub second-spec : {M : Type 1} → statement M
-second-spec = tie.close (tie.spec rem-r add-result cast-result cast-result-2 returns returns-2)
+pub second-spec : {M : Type 1} → this.Statement.statement M
+second-spec =
+    let returns : this.Tie.Need-returns = λ c. ap natAbs (minutes.negative (c .before .args .t) (c .before .fits .t) (c .if1 .taken)) in
+    let returns-2 : this.Tie.Need-returns-2 = λ c. ap natAbs (minutes.positive (c .before .args .t) (c .before .fits .t) (c .if1 .left)) in
+    this.Tie.close (this.Tie.spec (λ c. (lit< tt, minutes.quot-fits (c .args .t) (c .fits .t)))
+    (λ c. minutes.up-fits (c .before .args .t) (c .before .fits .t))
+    (λ c. minutes.as-u32 (c .before .args .t) _ (minutes.negative (c .before .args .t) (c .before .fits .t) (c .if1 .taken)))
+    (λ c. minutes.as-u32 (c .before .args .t) _ (minutes.positive (c .before .args .t) (c .before .fits .t) (c .if1 .left))) returns returns-2)

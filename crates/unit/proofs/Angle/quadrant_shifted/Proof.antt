@@ -1,17 +1,11 @@
-use mathlib.Core.Logic.{⊎-elim}
+use Rattle.prelude.proofs.Logic.{⊎-elim}
 use Rattle.unit.specs.Unit.{quadrantShiftedOf}
-use Rattle.unit.proofs.Angle.quadrant_shifted.Statement.{statement}
-use Rattle.unit.proofs.Angle.quadrant_shifted.Tie as tie
+use Rattle.unit.proofs.Angle.quadrant_shifted as this
 
-returns : tie.Need-returns
+pub quadrant-shifted-spec : {M : Type 1} → this.Statement.statement M
 unfolding quadrantShiftedOf
-returns c = simp (c .if2 .taken, c .before .if1 .taken)
-
-returns-2 : tie.Need-returns-2
-unfolding quadrantShiftedOf
-returns-2 c =
-    let e = c .round .ensures in
-    ⊎-elim (λ w. simp (e, w .0 .taken, w .1 .left)) (λ w. simp (e, w .left)) (c .before .if1 .came)
-
-pub quadrant-shifted-spec : {M : Type 1} → statement M
-quadrant-shifted-spec = tie.close (tie.spec (λ c κs. tt) returns returns-2)
+quadrant-shifted-spec =
+    let returns : this.Tie.Need-returns = λ c. simp (c .if2 .taken, c .before .if1 .taken) in
+    let returns-2 : this.Tie.Need-returns-2 = λ c. let e = c .round .ensures in
+    ⊎-elim (λ w. simp (e, w .0 .taken, w .1 .left)) (λ w. simp (e, w .left)) (c .before .if1 .came) in
+    this.Tie.close (this.Tie.spec (λ c κs. tt) returns returns-2)

@@ -1,8 +1,19 @@
-use Rattle.unit.proofs.Angle.unwound.Statement.{statement}
-use Rattle.unit.proofs.Angle.unwound.Tie as tie
+use Rattle.prelude.proofs.Logic.{_≡_, true, ap, T, needs}
+use denote.Floats.{passes}
+use lib.Ieee.{Float, binary64, fits, ofBits}
+use Rattle.unit.specs.Unit.{angleOf}
+use Rattle.unit.proofs.Turns.{unturned}
+use Rattle.unit.proofs.Angle.unwound as this
 
-returns : tie.Need-returns
-returns c = cc
+returns : this.Tie.Need-returns
+returns c =
+    let t = c .before .before in
+    let x = t .args .self .degrees in
+    let f : fits binary64 x ≡ true = search needs in
+    ap angleOf (unturned x (passes (fits binary64 x) f) (c .before .if1 .taken) (c .if2 .taken))
 
-pub unwound-spec : {M : Type 1} → statement M
-unwound-spec = tie.close (tie.spec (λ c κs. tt) returns)
+returns-2 : this.Tie.Need-returns-2
+returns-2 c = cc
+
+pub unwound-spec : {M : Type 1} → this.Statement.statement M
+unwound-spec = this.Tie.close (this.Tie.spec returns (λ c κs. tt) returns-2)

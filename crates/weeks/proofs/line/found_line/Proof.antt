@@ -1,17 +1,10 @@
-use mir.Syntax.{w64}
-use mir.Val.{SFits}
+use Rattle.prelude.proofs.Logic.{_≡_, arith, length, needs, w64, SFits, now}
 use Rattle.integers.proofs.Ranges.{read}
-use native.Mathlib.Omega.{arith}
-use mathlib.Core.Path.{_≡_}
-use lib.ListN.{length}
-use denote.Ref.{now}
 use Rattle.text.proofs.TextLaws.{digits-short}
 use Rattle.weeks.proofs.LineLaws.{pair-length, found-made}
-use borrow.Author.Needs.{needs}
-use Rattle.weeks.proofs.line.found_line.Statement.{statement}
-use Rattle.weeks.proofs.line.found_line.Tie as tie
+use Rattle.weeks.proofs.line.found_line as this
 
-put-pair-requires : tie.Need-put-pair-requires
+put-pair-requires : this.Tie.Need-put-pair-requires
 put-pair-requires c κs =
     let s = c .before .before .before .before .before .before .before .before in
     let n = c .before .before .before .before .put-decimal in
@@ -20,7 +13,7 @@ put-pair-requires c κs =
     let k : length (n .last .0) ≡ length (now (s .args .line)) = n .kept .0 in
     (omega (arith, s .pre), omega (arith, s .pre))
 
-put-pair-requires-2 : tie.Need-put-pair-requires-2
+put-pair-requires-2 : this.Tie.Need-put-pair-requires-2
 put-pair-requires-2 c κs =
     let s = c .before .before .before .before .before .before .before .before .before .before .before .before .before in
     let n = c .before .before .before .before .before .before .before .before .before .put-decimal in
@@ -34,7 +27,7 @@ put-pair-requires-2 c κs =
     let j : length (o .last .0) ≡ length (n .last .0) = o .kept .0 in
     (omega (arith, s .pre), omega (arith, s .pre))
 
-add-result : tie.Need-add-result
+add-result : this.Tie.Need-add-result
 add-result c =
     let s = c .before .before .before .before .before .before .before .before .before .before .before .before .before .before .before .before .before .before .before .before .before in
     let x = digits-short 20 (s .args .window .first) in
@@ -47,7 +40,7 @@ add-result c =
     let f = rw (read w64 (s .args .window .latest) h) at (c .before .before .before .before .before .before .before .put-pair2 .ensures .0) in
     record { fits = omega arith }
 
-returns : tie.Need-returns
+returns : this.Tie.Need-returns
 returns c =
     let s = c .before .before .before .before .before .before .before .before .before .before .before .before .before .before .before .before .before .before .before .before .before in
     let d = c .before .before .before .before .before .before .before .before .before .before .before .before .before .before .before .before .before .put-decimal .ensures in
@@ -59,7 +52,8 @@ returns c =
     let y = read w64 (s .args .window .latest) h in
     found-made (now (s .args .line)) (s .args .window) (s .pre) _ _ _ _ _ _ _ (d .0) (d .1) (rw x at (e .0)) (rw x at (e .1)) (rw y at (f .0)) (rw y at (f .1)) (c .before .before .put .ensures)
 
-pub found-line-spec : {M : Type 1} → statement M
+pub found-line-spec : {M : Type 1} → this.Statement.statement M
 found-line-spec =
-    tie.close
-    (tie.spec (λ c. search needs) (λ c κs. search needs) put-pair-requires put-pair-requires-2 (λ c. search needs) (λ c κs. search needs) add-result (λ c. search needs) returns)
+    this.Tie.close
+    (this.Tie.spec (λ c. search needs) (λ c κs. search needs) put-pair-requires put-pair-requires-2 (λ c. search needs) (λ c κs. search needs)
+    add-result (λ c. search needs) returns)

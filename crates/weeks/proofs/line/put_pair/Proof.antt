@@ -1,15 +1,9 @@
-use native.Mathlib.Omega.{arith}
-use mir.Syntax.{w64}
-use mathlib.Core.Path.{_≡_}
-use lib.ListN.{length}
-use denote.Ref.{now}
+use Rattle.prelude.proofs.Logic.{_≡_, arith, length, needs, w64, now}
 use Rattle.integers.proofs.Ranges.{read}
 use Rattle.weeks.proofs.LineLaws.{minute-length, pair-made}
-use borrow.Author.Needs.{needs}
-use Rattle.weeks.proofs.line.put_pair.Statement.{statement}
-use Rattle.weeks.proofs.line.put_pair.Tie as tie
+use Rattle.weeks.proofs.line.put_pair as this
 
-put-row-requires : tie.Need-put-row-requires
+put-row-requires : this.Tie.Need-put-row-requires
 put-row-requires c κs =
     let s = c .before .before .before .before .before .before in
     let n = c .before .before .before .put-minute in
@@ -18,7 +12,7 @@ put-row-requires c κs =
     let k : length (n .last .0) ≡ length (now (s .args .line)) = n .kept .0 in
     (omega (arith, s .pre .0), omega (arith, s .pre .1))
 
-returns : tie.Need-returns
+returns : this.Tie.Need-returns
 returns c =
     let s = c .before .before .before .before .before .before .before .before .before in
     let n = c .before .before .before .before .before .before .put-minute .ensures in
@@ -26,7 +20,5 @@ returns c =
     let x = read w64 (s .args .minute) (s .fits .minute) in
     pair-made (now (s .args .line)) _ _ (s .args .at) _ _ (s .args .row) (s .args .minute) (s .pre .0) (rw x at (n .0)) (rw x at (n .1)) (e .0) (e .1)
 
-pub put-pair-spec : {M : Type 1} → statement M
-put-pair-spec =
-    tie.close
-    (tie.spec (λ c κs. search needs) put-row-requires (λ c. search needs) returns)
+pub put-pair-spec : {M : Type 1} → this.Statement.statement M
+put-pair-spec = this.Tie.close (this.Tie.spec (λ c κs. search needs) put-row-requires (λ c. search needs) returns)

@@ -1,16 +1,11 @@
-use mathlib.Core.Path.{_≡_, ap, _∙_}
-use lib.IntN.{ℤ}
-use mir.Syntax.{w64}
-use mir.Val.{SFits}
+use Rattle.prelude.proofs.Logic.{_≡_, ap, _∙_, ℤ, needs, w64, SFits}
 use Rattle.integers.proofs.Ranges.{readBack, read}
 use Rattle.integers.specs.Quotients.{floorQuot}
 use Rattle.weeks.specs.declared.minute.Minute.the-variants.{At}
 use Rattle.weeks.specs.State.{minuteFrom}
-use borrow.Author.Needs.{needs}
-use Rattle.weeks.proofs.minute.minute_of.Statement.{statement}
-use Rattle.weeks.proofs.minute.minute_of.Tie as tie
+use Rattle.weeks.proofs.minute.minute_of as this
 
-returns : tie.Need-returns
+returns : this.Tie.Need-returns
 unfolding minuteFrom
 returns c =
     let g = c .before .before .fajr .given in
@@ -18,9 +13,9 @@ returns c =
     let k : readBack w64 (c .whole-minutes .result) ≡ c .whole-minutes .result = search needs in
     simp (g .1) (ap At (k ∙ c .whole-minutes .ensures ∙ ap (λ (z : ℤ). floorQuot z 60) (read w64 (g .0 .0) f)))
 
-returns-2 : tie.Need-returns-2
+returns-2 : this.Tie.Need-returns-2
 unfolding minuteFrom
-returns-2 c = simp (c .enum-told .given .1)
+returns-2 c = cc
 
-pub minute-of-spec : {M : Type 1} → statement M
-minute-of-spec = tie.close (tie.spec (λ c. search needs) (λ c κs. search needs) (λ c. search needs) returns returns-2)
+pub minute-of-spec : {M : Type 1} → this.Statement.statement M
+minute-of-spec = this.Tie.close (this.Tie.spec (λ c. search needs) (λ c κs. search needs) (λ c. search needs) returns returns-2)

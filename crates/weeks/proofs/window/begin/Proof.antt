@@ -1,20 +1,11 @@
-use mir.Syntax.{w64}
-use mir.Val.{SFits}
-use mir.Facts.{toZ-ofZ}
-use mathlib.Core.Path.{sym}
-use borrow.Author.Needs.{needs}
-use Rattle.weeks.proofs.window.begin.Statement.{statement}
-use Rattle.weeks.proofs.window.begin.Tie as tie
+use Rattle.prelude.proofs.Logic.{needs, w64, SFits, toZ-ofZ}
+use Rattle.weeks.proofs.window.begin as this
 
-returns : tie.Need-returns
-returns c =
-    let f0 : SFits w64 (c .before .minute .given .0 .0) = search needs in
-    simp (toZ-ofZ f0, c .before .minute .given .1)
+returns : this.Tie.Need-returns
+returns c = let f0 : SFits w64 (c .before .minute .given .0 .0) = search needs in cc (toZ-ofZ f0)
 
-returns-2 : tie.Need-returns-2
-returns-2 c =
-    let e0 = c .refused .ensures in
-    simp (sym e0, c .before .enum-told .given .1)
+returns-2 : this.Tie.Need-returns-2
+returns-2 c = cc
 
-pub begin-spec : {M : Type 1} → statement M
-begin-spec = tie.close (tie.spec (λ c. search needs) (λ c. search needs) (λ c κs. tt) returns returns-2)
+pub begin-spec : {M : Type 1} → this.Statement.statement M
+begin-spec = this.Tie.close (this.Tie.spec (λ c. search needs) (λ c. search needs) (λ c κs. tt) returns returns-2)

@@ -1,32 +1,24 @@
-use mir.Syntax.{w64}
-use mir.Val.{toZ, ofZ}
+use Rattle.prelude.proofs.Logic.{_≡_, needs, w64, toZ, ofZ}
 use Rattle.weeks.proofs.Steps.{both-seen}
-use mathlib.Core.Path.{_≡_, sym}
 use Rattle.weeks.specs.Windows.{seenOf}
-use borrow.Author.Needs.{needs}
-use Rattle.weeks.proofs.window.seen.Statement.{statement}
-use Rattle.weeks.proofs.window.seen.Tie as tie
+use Rattle.weeks.proofs.window.seen as this
 
-returns : tie.Need-returns
+returns : this.Tie.Need-returns
 unfolding seenOf
-returns c =
-    let e0 = c .refused .ensures in
-    simp (sym e0, c .before .if1 .taken, c .before .before .before .minute .given .1)
+returns c = cc
 
-returns-2 : tie.Need-returns-2
+returns-2 : this.Tie.Need-returns-2
 returns-2 c =
     let s = c .before .before .before .before .before .before in
     let g = c .before .before .before .before .minute .given in
     let x : toZ w64 (ofZ w64 (g .0 .0)) ≡ g .0 .0 = search needs in
     both-seen (s .args .window) _ _ (s .args .row) (g .0 .0) _ (s .args .minute) (g .1) x (c .before .before .if1 .left) (c .before .with-earliest .ensures) (c .with-latest .ensures)
 
-returns-3 : tie.Need-returns-3
+returns-3 : this.Tie.Need-returns-3
 unfolding seenOf
-returns-3 c =
-    let e0 = c .refused2 .ensures in
-    simp (sym e0, c .before .enum-told .given .1)
+returns-3 c = cc
 
-pub seen-spec : {M : Type 1} → statement M
+pub seen-spec : {M : Type 1} → this.Statement.statement M
 seen-spec =
-    tie.close
-    (tie.spec (λ c. search needs) (λ c κs. tt) returns (λ c κs. tt) (λ c κs. tt) (λ c. search needs) (λ c κs. tt) returns-2 returns-3)
+    this.Tie.close
+    (this.Tie.spec (λ c. search needs) (λ c κs. tt) returns (λ c κs. tt) (λ c κs. tt) (λ c. search needs) (λ c κs. tt) returns-2 returns-3)

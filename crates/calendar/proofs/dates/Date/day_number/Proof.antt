@@ -1,36 +1,15 @@
-use Prim.Native.Nat.{_+_, _≤_}
-use native.Mathlib.Omega.{arith}
-use Rattle.calendar.proofs.Machine.{count-fits, less-fits, number-read}
-use borrow.Author.Needs.{needs}
-use Rattle.calendar.proofs.dates.Date.day_number.Statement.{statement}
-use Rattle.calendar.proofs.dates.Date.day_number.Tie as tie
+use Rattle.prelude.proofs.Logic.{arith, needs}
+use Rattle.calendar.proofs.Machine.{count-fits, number-fits, number-is}
+use Rattle.calendar.proofs.dates.Date.day_number as this
 
-add-days : tie.Need-add-days
-add-days c =
-    let d = c .before .before .before .args .self in let k : d .year ≤ 4294967295 = search needs in
-    let e = c .before .days-before-year .ensures in let o = c .ordinal .ensures in
-    let r = count-fits d k (c .before .days-before-year .result + c .ordinal .result) (omega arith) in
-    omega arith
-
-cast-result : tie.Need-cast-result
-cast-result c =
-    let d = c .before .before .before .args .self in let k : d .year ≤ 4294967295 = search needs in
-    let e = c .before .days-before-year .ensures in let o = c .ordinal .ensures in
-    record { sfits = count-fits d k (c .before .days-before-year .result + c .ordinal .result) (omega arith) }
-
-sub-result : tie.Need-sub-result
-sub-result c =
-    let d = c .before .before .before .args .self in let k : d .year ≤ 4294967295 = search needs in
-    let e = c .before .days-before-year .ensures in let o = c .ordinal .ensures in
-    less-fits d k (c .before .days-before-year .result + c .ordinal .result) (omega arith)
-
-returns : tie.Need-returns
-returns c =
-    let d = c .before .before .before .args .self in let k : d .year ≤ 4294967295 = search needs in
-    let e = c .before .days-before-year .ensures in let o = c .ordinal .ensures in
-    number-read d k (c .before .days-before-year .result + c .ordinal .result) (omega arith)
-
-pub day-number-spec : {M : Type 1} → statement M
+pub day-number-spec : {M : Type 1} → this.Statement.statement M
 day-number-spec =
-    tie.close
-    (tie.spec (λ c. search needs) (λ c κs. search needs) (λ c κs. tt) (λ c. search needs) add-days cast-result sub-result returns)
+    let returns : this.Tie.Need-returns = λ c.
+    number-is (c .before .before .before .args .self) (search needs) _ _ (c .before .days-before-year .ensures) (c .ordinal .ensures) in
+    this.Tie.close (this.Tie.spec (λ c. search needs) (λ c κs. search needs) (λ c κs. tt) (λ c. search needs)
+    (λ c. let r = count-fits (c .before .before .before .args .self) (search needs) _ _ (c .before .days-before-year .ensures) (c .ordinal .ensures) in
+    omega arith)
+    (λ c. let r = count-fits (c .before .before .before .args .self) (search needs) _ _ (c .before .days-before-year .ensures) (c .ordinal .ensures) in
+    record { sfits = omega arith })
+    (λ c. number-fits (c .before .before .before .args .self) (search needs) _ _ (c .before .days-before-year .ensures) (c .ordinal .ensures))
+    returns)

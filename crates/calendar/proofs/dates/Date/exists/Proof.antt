@@ -1,16 +1,11 @@
-use borrow.Author.Tests.{le-leb, lt-leb}
-use mathlib.Core.Path.{sym}
+use Rattle.prelude.proofs.Logic.{sym, le-leb, lt-leb}
 use Rattle.calendar.specs.Gregorian.{existsOf}
-use Rattle.calendar.proofs.dates.Date.exists.Statement.{statement}
-use Rattle.calendar.proofs.dates.Date.exists.Tie as tie
+use Rattle.calendar.proofs.dates.Date.exists as this
 
-returns : tie.Need-returns
+pub exists-spec : {M : Type 1} → this.Statement.statement M
 unfolding existsOf
-returns c = simp (sym (c .before .before .before .month-days .ensures), sym (c .before .before .before .before .is-leap-year .ensures), le-leb _ _ (c .before .if1 .taken))
-
-returns-2 : tie.Need-returns-2
-unfolding existsOf
-returns-2 c = simp (sym (c .before .before .month-days .ensures), sym (c .before .before .before .is-leap-year .ensures), lt-leb _ _ (c .if1 .left))
-
-pub exists-spec : {M : Type 1} → statement M
-exists-spec = tie.close (tie.spec (λ c κs. tt) (λ c κs. tt) returns returns-2)
+exists-spec =
+    let returns : this.Tie.Need-returns = λ c. simp (sym (c .before .before .before .month-days .ensures), sym (c .before .before .before .before .is-leap-year .ensures), le-leb _ _ (c .before .if1 .taken)) in
+    let returns-2 : this.Tie.Need-returns-2 = λ c.
+    simp (sym (c .before .before .month-days .ensures), sym (c .before .before .before .is-leap-year .ensures), lt-leb _ _ (c .if1 .left)) in
+    this.Tie.close (this.Tie.spec (λ c κs. tt) (λ c κs. tt) returns returns-2)

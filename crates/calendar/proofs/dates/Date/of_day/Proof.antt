@@ -1,13 +1,10 @@
-use mir.Syntax.{w64}
-use Rattle.integers.proofs.Ranges.{read}
-use native.Mathlib.Omega.{arith}
+use Rattle.prelude.proofs.Logic.{arith, needs, w64}
+use Rattle.integers.proofs.Integers.{read}
 use Rattle.calendar.specs.Days.{dateAtOf}
 use Rattle.calendar.proofs.ByCount.{days-fit, year-fits, rest, since-held}
-use borrow.Author.Needs.{needs}
-use Rattle.calendar.proofs.dates.Date.of_day.Statement.{statement}
-use Rattle.calendar.proofs.dates.Date.of_day.Tie as tie
+use Rattle.calendar.proofs.dates.Date.of_day as this
 
-needs-met : tie.Need-year-of-requires × tie.Need-cast-of-ordinal × tie.Need-add-of-ordinal × tie.Need-days-before-year-requires × tie.Need-sub-of-ordinal × tie.Need-cast-of-ordinal-2 × tie.Need-of-ordinal-requires
+needs-met : this.Tie.Need-year-of-requires × this.Tie.Need-cast-of-ordinal × this.Tie.Need-add-of-ordinal × this.Tie.Need-days-before-year-requires × this.Tie.Need-sub-of-ordinal × this.Tie.Need-cast-of-ordinal-2 × this.Tie.Need-of-ordinal-requires
 needs-met = (
   λ c κs. days-fit _ (c .since-first .result) (c .since-first .ensures),
   λ c. let y = year-fits _ (c .before .since-first .result) (c .before .since-first .ensures) (c .year-of .result) (c .year-of .ensures) in omega arith,
@@ -18,14 +15,13 @@ needs-met = (
   λ c κs. let r = rest _ (c .before .before .since-first .result) (c .before .before .since-first .ensures) (c .before .year-of .result) (c .before .year-of .ensures) (c .days-before-year .result) (c .days-before-year .ensures) in (r .from, r .to),
 )
 
-returns : tie.Need-returns
+returns : this.Tie.Need-returns
 unfolding dateAtOf
 returns c =
     let z = c .before .before .before .before .args .day in let s = c .before .before .before .since-first .ensures in
     let y = c .before .before .year-of .ensures in let b = c .before .days-before-year .ensures in let o = c .of-ordinal .ensures in
     simp (o, b, y, s, read w64 z (c .before .before .before .before .fits .day)) (since-held z)
 
-pub of-day-spec : {M : Type 1} → statement M
-of-day-spec =
-    tie.close
-    (tie.spec (λ c κs. search needs) (needs-met .0) (needs-met .1) (needs-met .2) (needs-met .3) (needs-met .4) (needs-met .5) (needs-met .6) returns)
+pub of-day-spec : {M : Type 1} → this.Statement.statement M
+of-day-spec = this.Tie.close (this.Tie.spec (λ c κs. search needs) (needs-met .0) (needs-met .1) (needs-met .2) (needs-met .3) (needs-met .4)
+    (needs-met .5) (needs-met .6) returns)

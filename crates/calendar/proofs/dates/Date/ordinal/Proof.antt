@@ -1,32 +1,21 @@
 use Rattle.calendar.proofs.MonthTables.{year-short}
-use mathlib.Core.Path.{ap, _∙_, sym}
-use mathlib.Core.Bool.{Bool}
-use native.Mathlib.Omega.{arith}
+use Rattle.prelude.proofs.Logic.{ap, _∙_, sym, Bool, arith}
 use Rattle.calendar.specs.Gregorian.{leapOf}
 use Rattle.calendar.specs.Days.{daysBeforeOf, ordinalOf}
 use Rattle.calendar.proofs.Existing.{exists-yes, month-of-date}
-use Rattle.calendar.proofs.dates.Date.ordinal.Statement.{statement}
-use Rattle.calendar.proofs.dates.Date.ordinal.Tie as tie
+use Rattle.calendar.proofs.dates.Date.ordinal as this
 
-add-result : tie.Need-add-result
+add-result : this.Tie.Need-add-result
 add-result c =
     let d = c .before .before .before .before .before .args .self in
     let x = exists-yes d (sym (c .before .before .before .before .exists .ensures) ∙ c .before .before .before .if1 .taken) in
     let m = month-of-date d x in
     let e = c .before .days-before .ensures ∙ ap (λ (b : Bool). daysBeforeOf b (d .month)) (c .before .before .is-leap-year .ensures) in
-    let y = year-short (leapOf (d .year)) in
-    omega arith
+    omega (arith, year-short (leapOf (d .year)))
 
-returns : tie.Need-returns
+pub ordinal-spec : {M : Type 1} → this.Statement.statement M
 unfolding ordinalOf
-returns c =
-    simp (sym (c .before .days-before .ensures), sym (c .before .before .is-leap-year .ensures), sym (c .before .before .before .before .exists .ensures), c .before .before .before .if1 .taken)
-
-returns-2 : tie.Need-returns-2
-unfolding ordinalOf
-returns-2 c = simp (sym (c .before .exists .ensures), c .if1 .left)
-
-pub ordinal-spec : {M : Type 1} → statement M
 ordinal-spec =
-    tie.close
-    (tie.spec (λ c κs. tt) (λ c κs. tt) (λ c κs. tt) add-result returns returns-2)
+    let returns : this.Tie.Need-returns = λ c. simp (sym (c .before .days-before .ensures), sym (c .before .before .is-leap-year .ensures), sym (c .before .before .before .before .exists .ensures), c .before .before .before .if1 .taken) in
+    let returns-2 : this.Tie.Need-returns-2 = λ c. simp (sym (c .before .exists .ensures), c .if1 .left) in
+    this.Tie.close (this.Tie.spec (λ c κs. tt) (λ c κs. tt) (λ c κs. tt) add-result returns returns-2)

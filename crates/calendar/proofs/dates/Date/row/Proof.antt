@@ -1,19 +1,9 @@
-use mathlib.Core.Path.{sym, ap, _∙_}
-use mir.Syntax.{w64}
-use mir.Val.{SFits}
+use Rattle.prelude.proofs.Logic.{sym, ap, _∙_, _≤_, needs, w64, SFits}
 use Rattle.calendar.specs.Answers.{fromOf, ofDayOf}
-use Prim.Native.Nat.{_≤_}
 use Rattle.calendar.proofs.Machine.{row-fits, row-read}
-use borrow.Author.Needs.{needs}
-use Rattle.calendar.proofs.dates.Date.row.Statement.{statement}
-use Rattle.calendar.proofs.dates.Date.row.Tie as tie
+use Rattle.calendar.proofs.dates.Date.row as this
 
-add-of-day : tie.Need-add-of-day
-add-of-day c =
-    let d = c .before .before .before .args .self in let k : d .year ≤ 4294967295 = search needs in
-    row-fits d k (c .day-number .result) (search needs) (c .day-number .ensures) (c .before .before .before .args .row) (search needs)
-
-returns : tie.Need-returns
+returns : this.Tie.Need-returns
 unfolding fromOf
 returns c =
     let s = c .before .before .before .before in let d = s .args .self in let z = c .before .day-number .result in
@@ -22,11 +12,9 @@ returns c =
     let k : d .year ≤ 4294967295 = search needs in
     rw (h, c .of-day .ensures) (ap ofDayOf (row-read d k z f (c .before .day-number .ensures) (s .args .row) (search needs)))
 
-returns-2 : tie.Need-returns-2
+pub row-spec : {M : Type 1} → this.Statement.statement M
 unfolding fromOf
-returns-2 c = simp (sym (c .before .exists .ensures), c .if1 .left)
-
-pub row-spec : {M : Type 1} → statement M
-row-spec =
-    tie.close
-    (tie.spec (λ c κs. tt) (λ c κs. tt) (λ c. search needs) add-of-day (λ c κs. tt) returns returns-2)
+row-spec = this.Tie.close (this.Tie.spec (λ c κs. tt) (λ c κs. tt) (λ c. search needs)
+    (λ c. let d = c .before .before .before .args .self in let k : d .year ≤ 4294967295 = search needs in
+    row-fits d k (c .day-number .result) (search needs) (c .day-number .ensures) (c .before .before .before .args .row) (search needs))
+    (λ c κs. tt) returns (λ c. simp (sym (c .before .exists .ensures), c .if1 .left)))

@@ -1,10 +1,7 @@
 -- `fields::values::Fields::has` meets its contract.
-use borrow.Author.Needs.{needs}
-use Rattle.fields.proofs.values.Fields.has.Statement.{statement}
-use Rattle.fields.proofs.values.Fields.has.Tie as tie
+use Rattle.fields.proofs.values.Fields.has as this
 
-returns : tie.Need-returns
-returns c = rw (c .before .part .ensures)
-
-pub has-spec : {M : Type 1} → statement M
-has-spec = tie.close (tie.spec (λ c κs. tt) returns)
+pub has-spec : {M : Type 1} → this.Statement.statement M
+has-spec =
+    let returns : this.Tie.Need-returns = λ c. rw (c .before .part .ensures) in
+    this.Tie.close (this.Tie.spec (λ c κs. tt) returns)

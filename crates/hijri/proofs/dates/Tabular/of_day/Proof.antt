@@ -1,32 +1,10 @@
-use mir.Syntax.{w64}
-use native.Mathlib.Omega.{arith}
-use Rattle.integers.proofs.Ranges.{read}
+use Rattle.prelude.proofs.Logic.{arith, w64}
+use Rattle.integers.proofs.Integers.{read}
 use Rattle.hijri.specs.Days.{dateAtOf}
 use Rattle.hijri.proofs.ByCount.{days-fit, year-fits, rest}
-use Rattle.hijri.proofs.dates.Tabular.of_day.Statement.{statement}
-use Rattle.hijri.proofs.dates.Tabular.of_day.Tie as tie
+use Rattle.hijri.proofs.dates.Tabular.of_day as this
 
-year-of-requires : tie.Need-year-of-requires
-year-of-requires c κs = days-fit _ (c .since-first .result) (c .since-first .ensures)
-
-cast-in-year : tie.Need-cast-in-year
-cast-in-year c = let y = year-fits _ (c .before .since-first .result) (c .before .since-first .ensures) (c .year-of .result) (c .year-of .ensures) in omega arith
-
-add-in-year : tie.Need-add-in-year
-add-in-year c = let d = days-fit _ (c .before .since-first .result) (c .before .since-first .ensures) in omega arith
-
-year-start-requires : tie.Need-year-start-requires
-year-start-requires c κs = let y = year-fits _ (c .before .since-first .result) (c .before .since-first .ensures) (c .year-of .result) (c .year-of .ensures) in omega arith
-
-sub-in-year : tie.Need-sub-in-year
-sub-in-year c =
-    rest _ (c .before .before .since-first .result) (c .before .before .since-first .ensures) (c .before .year-of .result) (c .before .year-of .ensures) (c .year-start .result) (c .year-start .ensures) .less
-
-in-year-requires : tie.Need-in-year-requires
-in-year-requires c κs =
-    rest _ (c .before .before .since-first .result) (c .before .before .since-first .ensures) (c .before .year-of .result) (c .before .year-of .ensures) (c .year-start .result) (c .year-start .ensures) .short
-
-returns : tie.Need-returns
+returns : this.Tie.Need-returns
 unfolding dateAtOf
 returns c =
     let z = c .before .before .before .before .args .day in
@@ -36,7 +14,11 @@ returns c =
     let o = c .in-year .ensures in
     simp (o, b, y, s, read w64 z (c .before .before .before .before .fits .day))
 
-pub of-day-spec : {M : Type 1} → statement M
-of-day-spec =
-    tie.close
-    (tie.spec (λ c κs. tt) year-of-requires cast-in-year add-in-year year-start-requires sub-in-year in-year-requires returns)
+pub of-day-spec : {M : Type 1} → this.Statement.statement M
+of-day-spec = this.Tie.close (this.Tie.spec (λ c κs. tt) (λ c κs. days-fit _ (c .since-first .result) (c .since-first .ensures))
+    (λ c. let y = year-fits _ (c .before .since-first .result) (c .before .since-first .ensures) (c .year-of .result) (c .year-of .ensures) in omega arith)
+    (λ c. let d = days-fit _ (c .before .since-first .result) (c .before .since-first .ensures) in omega arith)
+    (λ c κs. let y = year-fits _ (c .before .since-first .result) (c .before .since-first .ensures) (c .year-of .result) (c .year-of .ensures) in omega arith)
+    (λ c. rest _ (c .before .before .since-first .result) (c .before .before .since-first .ensures) (c .before .year-of .result) (c .before .year-of .ensures) (c .year-start .result) (c .year-start .ensures) .less)
+    (λ c κs. rest _ (c .before .before .since-first .result) (c .before .before .since-first .ensures) (c .before .year-of .result) (c .before .year-of .ensures) (c .year-start .result) (c .year-start .ensures) .short)
+    returns)

@@ -1,16 +1,7 @@
-use Prim.Native.Nat.{ℕ, zero, suc}
-use mathlib.Core.Path.{_≡_, refl, sym}
-use mathlib.Core.List.{[], _∷_}
-use native.Mathlib.Omega.{arith}
-use lib.ListN.{List·getD-eq-default}
+use Rattle.prelude.proofs.Logic.{_≡_, refl, sym, [], _∷_, ℕ, zero, suc, arith, List·getD-eq-default}
 use Rattle.models.specs.declared.madhab.Madhab.the-variants.{Shafi, Hanafi}
 use Rattle.models.specs.Numbers.{madhabOf}
-use Rattle.models.proofs.madhab.Madhab.of_number.Statement.{statement}
-use Rattle.models.proofs.madhab.Madhab.of_number.Tie as tie
-
-returns : tie.Need-returns
-unfolding madhabOf
-returns c = simp (c .match .keys1)
+use Rattle.models.proofs.madhab.Madhab.of_number as this
 
 -- any number but 1
 rest : (n : ℕ) → (n ≡ 1 → ⊥) → Hanafi ≡ madhabOf n
@@ -18,8 +9,8 @@ unfolding madhabOf
 rest zero f = refl
 rest (suc n) f = sym (List·getD-eq-default (Shafi ∷ []) Hanafi {n = n} (omega arith))
 
-returns-2 : tie.Need-returns-2
-returns-2 c = rest (c .before .args .n) (c .match .rest .1)
-
-pub of-number-spec : {M : Type 1} → statement M
-of-number-spec = tie.close (tie.spec returns returns-2)
+pub of-number-spec : {M : Type 1} → this.Statement.statement M
+unfolding madhabOf
+of-number-spec =
+    let returns : this.Tie.Need-returns = λ c. simp (c .match .keys1) in
+    this.Tie.close (this.Tie.spec returns (λ c. rest (c .before .args .n) (c .match .rest .1)))

@@ -1,24 +1,16 @@
-use lib.Dec.{lit<}
-use lib.IntN.{pos}
-use mir.Syntax.{w32}
-use mir.Val.{SFits}
-use Rattle.integers.proofs.Ranges.{read}
+use Rattle.prelude.proofs.Logic.{lit<, pos, w32, SFits}
+use Rattle.integers.proofs.Integers.{read}
 use Rattle.models.specs.declared.madhab.Madhab.{Madhab}
 use Rattle.models.specs.declared.madhab.Madhab.the-variants.{Shafi, Hanafi}
 use Rattle.models.specs.Numbers.{madhabNumberOf}
-use Rattle.models.proofs.madhab.Madhab.shadow.Statement.{statement}
-use Rattle.models.proofs.madhab.Madhab.shadow.Tie as tie
+use Rattle.models.proofs.madhab.Madhab.shadow as this
 
 small : (m : Madhab) → SFits w32 (pos (madhabNumberOf m))
 unfolding madhabNumberOf
 small Shafi = record { sfits = lit< tt }
 small Hanafi = record { sfits = lit< tt }
 
-cast-result : tie.Need-cast-result
-cast-result c = rw (c .number .ensures) (small (c .before .args .self))
-
-returns : tie.Need-returns
-returns c = rw (c .number .ensures) (read w32 _ (small (c .before .args .self)))
-
-pub shadow-spec : {M : Type 1} → statement M
-shadow-spec = tie.close (tie.spec (λ c κs. tt) cast-result returns)
+pub shadow-spec : {M : Type 1} → this.Statement.statement M
+shadow-spec =
+    let returns : this.Tie.Need-returns = λ c. rw (c .number .ensures) (read w32 _ (small (c .before .args .self))) in
+    this.Tie.close (this.Tie.spec (λ c κs. tt) (λ c. rw (c .number .ensures) (small (c .before .args .self))) returns)

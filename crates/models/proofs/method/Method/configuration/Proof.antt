@@ -1,31 +1,25 @@
-use lib.Ieee.{round, ofBits}
-use Rattle.float64.specs.Ops.{dec}
+use Rattle.float64.proofs.Floats.{round, ofBits, dec}
 use Rattle.models.specs.Builder.{setIshaInterval}
 use Rattle.models.specs.Presets.{presetOf, preset}
 use Rattle.models.specs.Settings.{parametersNewOf}
-use borrow.Author.Needs.{needs}
-use Rattle.models.proofs.method.Method.configuration.Statement.{statement}
-use Rattle.models.proofs.method.Method.configuration.Tie as tie
+use Rattle.prelude.proofs.Logic.{needs}
+use Rattle.models.proofs.method.Method.configuration as this
 
-returns : tie.Need-returns × tie.Need-returns-2 × tie.Need-returns-3 × tie.Need-returns-4 × tie.Need-returns-5 × tie.Need-returns-6 × tie.Need-returns-7 × tie.Need-returns-8 × tie.Need-returns-9 × tie.Need-returns-10 × tie.Need-returns-11 × tie.Need-returns-12 × tie.Need-returns-13
+pub configuration-spec : {M : Type 1} → this.Statement.statement M
 unfolding presetOf preset dec round ofBits parametersNewOf setIshaInterval
-returns = (
-  λ c. simp (c .preset .ensures, c .before .enum-told .given .1),
-  λ c. simp (c .preset2 .ensures, c .before .enum-told2 .given .1),
-  λ c. simp (c .preset3 .ensures, c .before .enum-told3 .given .1),
-  λ c. simp (c .isha-interval .ensures, c .before .preset4 .ensures, c .before .before .enum-told4 .given .1),
-  λ c. simp (c .preset5 .ensures, c .before .enum-told5 .given .1),
-  λ c. simp (c .preset6 .ensures, c .before .enum-told6 .given .1),
-  λ c. simp (c .preset7 .ensures, c .before .enum-told7 .given .1),
-  λ c. simp (c .preset8 .ensures, c .before .enum-told8 .given .1),
-  λ c. simp (c .isha-interval2 .ensures, c .before .preset9 .ensures, c .before .before .enum-told9 .given .1),
-  λ c. simp (c .rounding .ensures, c .before .preset10 .ensures, c .before .before .enum-told10 .given .1),
-  λ c. simp (c .maghrib-angle .ensures, c .before .preset11 .ensures, c .before .before .enum-told11 .given .1),
-  λ c. simp (c .preset12 .ensures, c .before .enum-told12 .given .1),
-  λ c. simp (c .preset13 .ensures, c .before .enum-told13 .given .1),
-)
-
-pub configuration-spec : {M : Type 1} → statement M
 configuration-spec =
-    tie.close
-    (tie.spec (λ c. search needs) (λ c κs. search needs) (λ c. search needs) (λ c κs. search needs) (λ c. search needs) (λ c κs. search needs) (λ c. search needs) (λ c κs. search needs) (λ c κs. search needs) (λ c. search needs) (λ c κs. search needs) (λ c. search needs) (λ c κs. search needs) (λ c. search needs) (λ c κs. search needs) (λ c. search needs) (λ c κs. search needs) (λ c. search needs) (λ c κs. search needs) (λ c κs. search needs) (λ c. search needs) (λ c κs. search needs) (λ c κs. search needs) (λ c. search needs) (λ c κs. search needs) (λ c κs. search needs) (λ c. search needs) (λ c κs. search needs) (λ c. search needs) (λ c κs. search needs) (returns .0) (returns .1) (returns .2) (returns .3) (returns .4) (returns .5) (returns .6) (returns .7) (returns .8) (returns .9) (returns .10) (returns .11) (returns .12))
+    let returns-2 : this.Tie.Need-returns-2 = λ c. simp (c .preset2 .ensures, c .before .enum-told2 .given .1) in
+    this.Tie.close (this.Tie.spec (λ c. search needs) (λ c κs. search needs) (λ c. search needs) (λ c κs. search needs) (λ c. search needs)
+    (λ c κs. search needs) (λ c. search needs) (λ c κs. search needs) (λ c κs. search needs) (λ c. search needs) (λ c κs. search needs)
+    (λ c. search needs) (λ c κs. search needs) (λ c. search needs) (λ c κs. search needs) (λ c. search needs) (λ c κs. search needs)
+    (λ c. search needs) (λ c κs. search needs) (λ c κs. search needs) (λ c. search needs) (λ c κs. search needs) (λ c κs. search needs)
+    (λ c. search needs) (λ c κs. search needs) (λ c κs. search needs) (λ c. search needs) (λ c κs. search needs) (λ c. search needs)
+    (λ c κs. search needs) (λ c. simp (c .preset .ensures, c .before .enum-told .given .1)) returns-2
+    (λ c. simp (c .preset3 .ensures, c .before .enum-told3 .given .1))
+    (λ c. simp (c .isha-interval .ensures, c .before .preset4 .ensures, c .before .before .enum-told4 .given .1))
+    (λ c. simp (c .preset5 .ensures, c .before .enum-told5 .given .1)) (λ c. simp (c .preset6 .ensures, c .before .enum-told6 .given .1))
+    (λ c. simp (c .preset7 .ensures, c .before .enum-told7 .given .1)) (λ c. simp (c .preset8 .ensures, c .before .enum-told8 .given .1))
+    (λ c. simp (c .isha-interval2 .ensures, c .before .preset9 .ensures, c .before .before .enum-told9 .given .1))
+    (λ c. simp (c .rounding .ensures, c .before .preset10 .ensures, c .before .before .enum-told10 .given .1))
+    (λ c. simp (c .maghrib-angle .ensures, c .before .preset11 .ensures, c .before .before .enum-told11 .given .1))
+    (λ c. simp (c .preset12 .ensures, c .before .enum-told12 .given .1)) (λ c. simp (c .preset13 .ensures, c .before .enum-told13 .given .1)))

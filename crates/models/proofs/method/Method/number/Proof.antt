@@ -1,27 +1,14 @@
 use Rattle.models.specs.Numbers.{methodNumberOf}
-use borrow.Author.Needs.{needs}
-use Rattle.models.proofs.method.Method.number.Statement.{statement}
-use Rattle.models.proofs.method.Method.number.Tie as tie
+use Rattle.prelude.proofs.Logic.{needs}
+use Rattle.models.proofs.method.Method.number as this
 
-returns : tie.Need-returns × tie.Need-returns-2 × tie.Need-returns-3 × tie.Need-returns-4 × tie.Need-returns-5 × tie.Need-returns-6 × tie.Need-returns-7 × tie.Need-returns-8 × tie.Need-returns-9 × tie.Need-returns-10 × tie.Need-returns-11 × tie.Need-returns-12 × tie.Need-returns-13
+pub number-spec : {M : Type 1} → this.Statement.statement M
 unfolding methodNumberOf
-returns = (
-  λ c. simp (c .enum-told .given .1),
-  λ c. simp (c .enum-told2 .given .1),
-  λ c. simp (c .enum-told3 .given .1),
-  λ c. simp (c .enum-told4 .given .1),
-  λ c. simp (c .enum-told5 .given .1),
-  λ c. simp (c .enum-told6 .given .1),
-  λ c. simp (c .enum-told7 .given .1),
-  λ c. simp (c .enum-told8 .given .1),
-  λ c. simp (c .enum-told9 .given .1),
-  λ c. simp (c .enum-told10 .given .1),
-  λ c. simp (c .enum-told11 .given .1),
-  λ c. simp (c .enum-told12 .given .1),
-  λ c. simp (c .enum-told13 .given .1),
-)
-
-pub number-spec : {M : Type 1} → statement M
 number-spec =
-    tie.close
-    (tie.spec (λ c. search needs) (λ c. search needs) (λ c. search needs) (λ c. search needs) (λ c. search needs) (λ c. search needs) (λ c. search needs) (λ c. search needs) (λ c. search needs) (λ c. search needs) (λ c. search needs) (λ c. search needs) (λ c. search needs) (returns .0) (returns .1) (returns .2) (returns .3) (returns .4) (returns .5) (returns .6) (returns .7) (returns .8) (returns .9) (returns .10) (returns .11) (returns .12))
+    let returns-11 : this.Tie.Need-returns-11 = λ c. simp (c .enum-told11 .given .1) in
+    this.Tie.close (this.Tie.spec (λ c. search needs) (λ c. search needs) (λ c. search needs) (λ c. search needs) (λ c. search needs)
+    (λ c. search needs) (λ c. search needs) (λ c. search needs) (λ c. search needs) (λ c. search needs) (λ c. search needs) (λ c. search needs)
+    (λ c. search needs) (λ c. simp (c .enum-told .given .1)) (λ c. simp (c .enum-told2 .given .1)) (λ c. simp (c .enum-told3 .given .1))
+    (λ c. simp (c .enum-told4 .given .1)) (λ c. simp (c .enum-told5 .given .1)) (λ c. simp (c .enum-told6 .given .1))
+    (λ c. simp (c .enum-told7 .given .1)) (λ c. simp (c .enum-told8 .given .1)) (λ c. simp (c .enum-told9 .given .1))
+    (λ c. simp (c .enum-told10 .given .1)) returns-11 (λ c. simp (c .enum-told12 .given .1)) (λ c. simp (c .enum-told13 .given .1)))

@@ -1,10 +1,8 @@
 use Rattle.models.specs.Presets.{presetOf}
-use Rattle.models.proofs.method.Method.parameters.Statement.{statement}
-use Rattle.models.proofs.method.Method.parameters.Tie as tie
+use Rattle.models.proofs.method.Method.parameters as this
 
-returns : tie.Need-returns
+pub parameters-spec : {M : Type 1} → this.Statement.statement M
 unfolding presetOf
-returns c = simp (c .done .ensures, c .before .configuration .ensures)
-
-pub parameters-spec : {M : Type 1} → statement M
-parameters-spec = tie.close (tie.spec (λ c κs. tt) (λ c κs. tt) returns)
+parameters-spec =
+    let returns : this.Tie.Need-returns = λ c. simp (c .done .ensures, c .before .configuration .ensures) in
+    this.Tie.close (this.Tie.spec (λ c κs. tt) (λ c κs. tt) returns)

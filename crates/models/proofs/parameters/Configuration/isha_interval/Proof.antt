@@ -1,12 +1,10 @@
-use borrow.Author.Needs.{needs}
-use lib.Ieee.{ofBits}
+use Rattle.prelude.proofs.Logic.{needs}
+use Rattle.float64.proofs.Floats.{ofBits}
 use Rattle.models.specs.Builder.{setIshaInterval}
-use Rattle.models.proofs.parameters.Configuration.isha_interval.Statement.{statement}
-use Rattle.models.proofs.parameters.Configuration.isha_interval.Tie as tie
+use Rattle.models.proofs.parameters.Configuration.isha_interval as this
 
-returns : tie.Need-returns
+pub isha-interval-spec : {M : Type 1} → this.Statement.statement M
 unfolding setIshaInterval ofBits
-returns c = search needs
-
-pub isha-interval-spec : {M : Type 1} → statement M
-isha-interval-spec = tie.close (tie.spec returns)
+isha-interval-spec =
+    let returns : this.Tie.Need-returns = λ c. search needs in
+    this.Tie.close (this.Tie.spec returns)

@@ -1,18 +1,13 @@
-use mir.Syntax.{w32}
-use mir.Val.{SFits}
-use mir.Facts.{toZ-ofZ}
-use mathlib.Core.Path.{sym}
+use Rattle.prelude.proofs.Logic.{sym, needs, w32, SFits, toZ-ofZ}
 use Rattle.models.specs.Presets.{withOf}
-use borrow.Author.Needs.{needs}
-use Rattle.models.proofs.parameters.Configuration.with.Statement.{statement}
-use Rattle.models.proofs.parameters.Configuration.with.Tie as tie
+use Rattle.models.proofs.parameters.Configuration.with as this
 
-returns : tie.Need-returns
+returns : this.Tie.Need-returns
 unfolding withOf
 returns c =
     let f0 : SFits w32 (c .before .before .before .parameters .result .«isha_interval») = search needs in
     let e0 = c .before .before .before .parameters .ensures in
     simp (toZ-ofZ f0, sym e0)
 
-pub with-spec : {M : Type 1} → statement M
-with-spec = tie.close (tie.spec (λ c κs. tt) returns)
+pub with-spec : {M : Type 1} → this.Statement.statement M
+with-spec = this.Tie.close (this.Tie.spec (λ c κs. tt) returns)

@@ -1,15 +1,9 @@
-use native.Mathlib.Omega.{arith}
-use Rattle.integers.proofs.Sums.{sum, summands}
-use mathlib.Core.Path.{_≡_, _∙_}
-use mir.Syntax.{w32, w64}
-use mir.Val.{SFits}
-use Rattle.integers.proofs.Ranges.{range, readBack, read}
+use Rattle.prelude.proofs.Logic.{_≡_, _∙_, arith, needs, w32, w64, SFits}
+use Rattle.integers.proofs.Integers.{sum, summands, range, readBack, read}
 use Rattle.models.specs.Settings.{timeAdjustmentsOf}
-use borrow.Author.Needs.{needs}
-use Rattle.models.proofs.parameters.Parameters.time_adjustments.Statement.{statement}
-use Rattle.models.proofs.parameters.Parameters.time_adjustments.Tie as tie
+use Rattle.models.proofs.parameters.Parameters.time_adjustments as this
 
-returns : tie.Need-returns
+returns : this.Tie.Need-returns
 unfolding timeAdjustmentsOf
 returns c =
     let x = c .before .before .minutes-for .result in let y = c .before .minutes-for2 .result in
@@ -18,6 +12,5 @@ returns c =
     let m = range w32 x a in let n = range w32 y b in
     (e ∙ summands (c .before .before .minutes-for .ensures) (c .before .minutes-for2 .ensures), (rw e (omega arith), rw e (omega arith)))
 
-pub time-adjustments-spec : {M : Type 1} → statement M
-time-adjustments-spec =
-    tie.close (tie.spec (λ c κs. tt) (λ c κs. tt) (λ c κs. tt) returns)
+pub time-adjustments-spec : {M : Type 1} → this.Statement.statement M
+time-adjustments-spec = this.Tie.close (this.Tie.spec (λ c κs. tt) (λ c κs. tt) (λ c κs. tt) returns)

@@ -1,22 +1,13 @@
 use Rattle.models.specs.Names.{lettersOf}
-use borrow.Author.Needs.{needs}
-use Rattle.models.proofs.prayer.Name.letters.Statement.{statement}
-use Rattle.models.proofs.prayer.Name.letters.Tie as tie
+use Rattle.prelude.proofs.Logic.{needs}
+use Rattle.models.proofs.prayer.Name.letters as this
 
-returns : tie.Need-returns × tie.Need-returns-2 × tie.Need-returns-3 × tie.Need-returns-4 × tie.Need-returns-5 × tie.Need-returns-6 × tie.Need-returns-7 × tie.Need-returns-8
+pub letters-spec : {M : Type 1} → this.Statement.statement M
 unfolding lettersOf
-returns = (
-  λ c. simp (c .before .before .enum-told .given .1),
-  λ c. simp (c .before .before .enum-told2 .given .1),
-  λ c. simp (c .before .before .enum-told3 .given .1),
-  λ c. simp (c .before .before .enum-told4 .given .1),
-  λ c. simp (c .before .before .enum-told5 .given .1),
-  λ c. simp (c .before .before .enum-told6 .given .1),
-  λ c. simp (c .before .before .enum-told7 .given .1),
-  λ c. simp (c .before .before .enum-told8 .given .1),
-)
-
-pub letters-spec : {M : Type 1} → statement M
 letters-spec =
-    tie.close
-    (tie.spec (λ c. search needs) (λ c. search needs) (λ c. search needs) (λ c. search needs) (λ c. search needs) (λ c. search needs) (λ c. search needs) (λ c. search needs) (returns .0) (returns .1) (returns .2) (returns .3) (returns .4) (returns .5) (returns .6) (returns .7))
+    let returns-7 : this.Tie.Need-returns-7 = λ c. simp (c .before .before .enum-told7 .given .1) in
+    this.Tie.close (this.Tie.spec (λ c. search needs) (λ c. search needs) (λ c. search needs) (λ c. search needs) (λ c. search needs)
+    (λ c. search needs) (λ c. search needs) (λ c. search needs) (λ c. simp (c .before .before .enum-told .given .1))
+    (λ c. simp (c .before .before .enum-told2 .given .1)) (λ c. simp (c .before .before .enum-told3 .given .1))
+    (λ c. simp (c .before .before .enum-told4 .given .1)) (λ c. simp (c .before .before .enum-told5 .given .1))
+    (λ c. simp (c .before .before .enum-told6 .given .1)) returns-7 (λ c. simp (c .before .before .enum-told8 .given .1)))

@@ -1,27 +1,15 @@
-use mathlib.Core.Path.{sym, ap, _∙_}
-use mir.Syntax.{w64}
-use Rattle.integers.proofs.Ranges.{read}
-use Rattle.models.specs.Names.{isFridayOf}
-use Rattle.models.specs.Names.{prayerNameOf}
-use borrow.Author.Needs.{needs}
-use Rattle.models.proofs.prayer.Prayer.name.Statement.{statement}
-use Rattle.models.proofs.prayer.Prayer.name.Tie as tie
+use Rattle.prelude.proofs.Logic.{sym, ap, _∙_, needs, w64}
+use Rattle.integers.proofs.Integers.{read}
+use Rattle.models.specs.Names.{isFridayOf, prayerNameOf}
+use Rattle.models.proofs.prayer.Prayer.name as this
 
-returns : tie.Need-returns × tie.Need-returns-2 × tie.Need-returns-3 × tie.Need-returns-4 × tie.Need-returns-5 × tie.Need-returns-6 × tie.Need-returns-7 × tie.Need-returns-8 × tie.Need-returns-9
+pub name-spec : {M : Type 1} → this.Statement.statement M
 unfolding prayerNameOf
-returns = (
-  λ c. simp (c .enum-told .given .1),
-  λ c. simp (c .enum-told2 .given .1),
-  λ c. let t = c .before .before .before .before in let e = c .before .is-friday .ensures ∙ ap isFridayOf (read w64 (t .args .seconds) (t .fits .seconds)) in simp (c .before .before .enum-told3 .given .1, sym e, c .if1 .taken),
-  λ c. let t = c .before .before .before .before in let e = c .before .is-friday .ensures ∙ ap isFridayOf (read w64 (t .args .seconds) (t .fits .seconds)) in simp (c .before .before .enum-told3 .given .1, sym e, c .if1 .left),
-  λ c. simp (c .enum-told4 .given .1),
-  λ c. simp (c .enum-told5 .given .1),
-  λ c. simp (c .enum-told6 .given .1),
-  λ c. simp (c .enum-told7 .given .1),
-  λ c. simp (c .enum-told8 .given .1),
-)
-
-pub name-spec : {M : Type 1} → statement M
 name-spec =
-    tie.close
-    (tie.spec (λ c. search needs) (λ c. search needs) (λ c. search needs) (λ c κs. tt) (λ c. search needs) (λ c. search needs) (λ c. search needs) (λ c. search needs) (λ c. search needs) (returns .0) (returns .1) (returns .2) (returns .3) (returns .4) (returns .5) (returns .6) (returns .7) (returns .8))
+    let returns-5 : this.Tie.Need-returns-5 = λ c. simp (c .enum-told4 .given .1) in
+    this.Tie.close (this.Tie.spec (λ c. search needs) (λ c. search needs) (λ c. search needs) (λ c κs. tt) (λ c. search needs) (λ c. search needs)
+    (λ c. search needs) (λ c. search needs) (λ c. search needs) (λ c. simp (c .enum-told .given .1)) (λ c. simp (c .enum-told2 .given .1))
+    (λ c. let t = c .before .before .before .before in let e = c .before .is-friday .ensures ∙ ap isFridayOf (read w64 (t .args .seconds) (t .fits .seconds)) in simp (c .before .before .enum-told3 .given .1, sym e, c .if1 .taken))
+    (λ c. let t = c .before .before .before .before in let e = c .before .is-friday .ensures ∙ ap isFridayOf (read w64 (t .args .seconds) (t .fits .seconds)) in simp (c .before .before .enum-told3 .given .1, sym e, c .if1 .left))
+    returns-5 (λ c. simp (c .enum-told5 .given .1)) (λ c. simp (c .enum-told6 .given .1)) (λ c. simp (c .enum-told7 .given .1))
+    (λ c. simp (c .enum-told8 .given .1)))

@@ -1,13 +1,10 @@
-use lib.Ieee.{round, ofBits}
-use Rattle.float64.specs.Ops.{dec}
-use mathlib.Core.Path.{refl}
+use Rattle.float64.proofs.Floats.{round, ofBits, dec}
+use Rattle.prelude.proofs.Logic.{refl}
 use Rattle.ops.specs.Shared.{interpolatedOf}
-use Rattle.ops.proofs.interpolation.Interpolation.at.Statement.{statement}
-use Rattle.ops.proofs.interpolation.Interpolation.at.Tie as tie
+use Rattle.ops.proofs.interpolation.Interpolation.at as this
 
-returns : tie.Need-returns
+pub at-spec : {M : Type 1} → this.Statement.statement M
 unfolding interpolatedOf dec round ofBits
-returns c = refl
-
-pub at-spec : {M : Type 1} → statement M
-at-spec = tie.close (tie.spec returns)
+at-spec =
+    let returns : this.Tie.Need-returns = λ c. refl in
+    this.Tie.close (this.Tie.spec returns)

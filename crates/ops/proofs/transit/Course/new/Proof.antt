@@ -1,8 +1,6 @@
-use Rattle.ops.proofs.transit.Course.new.Statement.{statement}
-use Rattle.ops.proofs.transit.Course.new.Tie as tie
+use Rattle.ops.proofs.transit.Course.new as this
 
-returns : tie.Need-returns
-returns c = simp (c .before .before .before .before .new .ensures, c .before .before .before .before .before .of-angles .ensures, c .before .before .before .before .before .before .sincos .ensures, c .before .before .before .before .before .before .before .radians .ensures)
-
-pub new-spec : {M : Type 1} → statement M
-new-spec = tie.close (tie.spec (λ c κs. tt) (λ c κs. tt) (λ c κs. tt) (λ c κs. tt) returns)
+pub new-spec : {M : Type 1} → this.Statement.statement M
+new-spec =
+    let returns : this.Tie.Need-returns = λ c. simp (c .before .before .before .before .new .ensures, c .before .before .before .before .before .of-angles .ensures, c .before .before .before .before .before .before .sincos .ensures, c .before .before .before .before .before .before .before .radians .ensures) in
+    this.Tie.close (this.Tie.spec (λ c κs. tt) (λ c κs. tt) (λ c κs. tt) (λ c κs. tt) returns)

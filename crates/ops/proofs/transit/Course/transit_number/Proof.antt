@@ -1,12 +1,9 @@
-use lib.Ieee.{round, ofBits}
-use Rattle.float64.specs.Ops.{dec}
+use Rattle.float64.proofs.Floats.{round, ofBits, dec}
 use Rattle.ops.specs.Shared.{courseTransitNumberOf}
-use Rattle.ops.proofs.transit.Course.transit_number.Statement.{statement}
-use Rattle.ops.proofs.transit.Course.transit_number.Tie as tie
+use Rattle.ops.proofs.transit.Course.transit_number as this
 
-returns : tie.Need-returns
+pub transit-number-spec : {M : Type 1} → this.Statement.statement M
 unfolding courseTransitNumberOf dec round ofBits
-returns c = simp (c .before .div .ensures, c .before .before .new .ensures, c .before .before .before .quadrant-shifted .ensures, c .before .before .before .before .hour-angle .ensures)
-
-pub transit-number-spec : {M : Type 1} → statement M
-transit-number-spec = tie.close (tie.spec (λ c κs. tt) (λ c κs. tt) (λ c κs. tt) (λ c κs. tt) returns)
+transit-number-spec =
+    let returns : this.Tie.Need-returns = λ c. simp (c .before .div .ensures, c .before .before .new .ensures, c .before .before .before .quadrant-shifted .ensures, c .before .before .before .before .hour-angle .ensures) in
+    this.Tie.close (this.Tie.spec (λ c κs. tt) (λ c κs. tt) (λ c κs. tt) (λ c κs. tt) returns)

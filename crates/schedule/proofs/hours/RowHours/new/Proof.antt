@@ -1,10 +1,9 @@
 use Rattle.schedule.specs.Hours.{hoursOf}
-use Rattle.schedule.proofs.hours.RowHours.new.Statement.{statement}
-use Rattle.schedule.proofs.hours.RowHours.new.Tie as tie
+use Rattle.schedule.proofs.hours.RowHours.new as this
 
-returns : tie.Need-returns
+returns : this.Tie.Need-returns
 unfolding hoursOf
 returns c = cc
 
-pub new-spec : {M : Type 1} → statement M
-new-spec = tie.close (tie.spec (λ c κs. tt) (λ c κs. tt) (λ c κs. tt) (λ c κs. tt) returns)
+pub new-spec : {M : Type 1} → this.Statement.statement M
+new-spec = this.Tie.close (this.Tie.spec (λ c κs. tt) (λ c κs. tt) (λ c κs. tt) (λ c κs. tt) returns)

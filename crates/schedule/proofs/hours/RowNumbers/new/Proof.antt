@@ -1,8 +1,7 @@
 use Rattle.schedule.proofs.SharedLaws.{row-shared}
-use Rattle.schedule.proofs.hours.RowNumbers.new.Statement.{statement}
-use Rattle.schedule.proofs.hours.RowNumbers.new.Tie as tie
+use Rattle.schedule.proofs.hours.RowNumbers.new as this
 
-returns : tie.Need-returns
+returns : this.Tie.Need-returns
 returns c =
     let suns = c .before .before .before .before .before .before .before in
     let positions = suns .before .before .before .before .before in
@@ -32,5 +31,8 @@ returns c =
     )
     (row-shared (t .date) (t .coordinates) (t .parameters))
 
-pub new-spec : {M : Type 1} → statement M
-new-spec = tie.close (tie.spec (λ c κs. tt) (λ c κs. tt) (λ c κs. tt) (λ c κs. tt) (λ c κs. tt) (λ c κs. tt) (λ c κs. tt) (λ c κs. tt) (λ c κs. tt) (λ c κs. tt) (λ c κs. tt) (λ c κs. tt) (λ c κs. tt) (λ c κs. tt) (λ c κs. tt) (λ c κs. tt) (λ c κs. tt) (λ c κs. tt) (λ c κs. tt) (λ c κs. tt) returns)
+pub new-spec : {M : Type 1} → this.Statement.statement M
+new-spec =
+    this.Tie.close
+    (this.Tie.spec (λ c κs. tt) (λ c κs. tt) (λ c κs. tt) (λ c κs. tt) (λ c κs. tt) (λ c κs. tt) (λ c κs. tt) (λ c κs. tt) (λ c κs. tt) (λ c κs. tt)
+    (λ c κs. tt) (λ c κs. tt) (λ c κs. tt) (λ c κs. tt) (λ c κs. tt) (λ c κs. tt) (λ c κs. tt) (λ c κs. tt) (λ c κs. tt) (λ c κs. tt) returns)

@@ -1,21 +1,18 @@
-use mir.Syntax.{w64}
-use mathlib.Core.Path.{_≡_, ap, _∙_}
+use Rattle.prelude.proofs.Logic.{_≡_, ap, _∙_, needs, w64}
 use Rattle.integers.proofs.Ranges.{readBack}
 use Rattle.schedule.specs.declared.prayer_times.FajrAlone.the-variants.{At}
 use Rattle.schedule.specs.Fajr.{fajrAloneOf}
-use borrow.Author.Needs.{needs}
-use Rattle.schedule.proofs.hours.Suns.fajr.Statement.{statement}
-use Rattle.schedule.proofs.hours.Suns.fajr.Tie as tie
+use Rattle.schedule.proofs.hours.Suns.fajr as this
 
-returns : tie.Need-returns
+returns : this.Tie.Need-returns
 unfolding fajrAloneOf
 returns c =
     let k : readBack w64 (c .final-fajr .result) ≡ c .final-fajr .result = search needs in
     simp (c .before .before .self .given .1) (ap At (k ∙ c .final-fajr .ensures))
 
-returns-2 : tie.Need-returns-2
+returns-2 : this.Tie.Need-returns-2
 unfolding fajrAloneOf
 returns-2 c = simp (c .enum-told .given .1)
 
-pub fajr-spec : {M : Type 1} → statement M
-fajr-spec = tie.close (tie.spec (λ c. search needs) (λ c κs. search needs) (λ c. search needs) returns returns-2)
+pub fajr-spec : {M : Type 1} → this.Statement.statement M
+fajr-spec = this.Tie.close (this.Tie.spec (λ c. search needs) (λ c κs. search needs) (λ c. search needs) returns returns-2)

@@ -1,8 +1,7 @@
 use Rattle.schedule.specs.Builder.{calculateOf}
-use Rattle.schedule.proofs.prayer_schedule.PrayerSchedule.calculate.Statement.{statement}
-use Rattle.schedule.proofs.prayer_schedule.PrayerSchedule.calculate.Tie as tie
+use Rattle.schedule.proofs.prayer_schedule.PrayerSchedule.calculate as this
 
-returns : tie.Need-returns
+returns : this.Tie.Need-returns
 unfolding calculateOf
 returns c =
     let n = c .before .before in
@@ -15,19 +14,18 @@ returns c =
       n .before .before .before .if1 .taken,
     )
 
-returns-2 : tie.Need-returns-2
+returns-2 : this.Tie.Need-returns-2
 unfolding calculateOf
 returns-2 c =
     simp (c .if3 .left, c .before .if2 .taken, c .before .before .if1 .taken)
 
-returns-3 : tie.Need-returns-3
+returns-3 : this.Tie.Need-returns-3
 unfolding calculateOf
 returns-3 c = simp (c .if2 .left, c .before .if1 .taken)
 
-returns-4 : tie.Need-returns-4
+returns-4 : this.Tie.Need-returns-4
 unfolding calculateOf
 returns-4 c = simp (c .if1 .left)
 
-pub calculate-spec : {M : Type 1} → statement M
-calculate-spec =
-    tie.close (tie.spec (λ c κs. tt) (λ c κs. tt) (λ c κs. tt) returns returns-2 returns-3 returns-4)
+pub calculate-spec : {M : Type 1} → this.Statement.statement M
+calculate-spec = this.Tie.close (this.Tie.spec (λ c κs. tt) (λ c κs. tt) (λ c κs. tt) returns returns-2 returns-3 returns-4)

@@ -1,54 +1,52 @@
-use lib.IntN.{ℤ}
-use mir.Syntax.{w64}
+use Rattle.prelude.proofs.Logic.{_≡_, refl, sym, ap, _∙_, _≤_, arith, ℤ, needs, w64}
 use Rattle.integers.proofs.Ranges.{readBack}
+use Rattle.models.specs.Numbers.{prayerOf}
 use Rattle.schedule.specs.declared.in_force.Current.the-variants.{Some}
 use Rattle.schedule.proofs.Due as due
-use mathlib.Core.Path.{_≡_, refl, sym, ap, _∙_}
-use Prim.Native.Nat.{_≤_, _-_}
-use native.Mathlib.Omega.{arith}
-use borrow.Author.Needs.{needs}
 use Rattle.schedule.specs.InForce.{lastOf, aheadOf, timeOf}
-use Rattle.schedule.proofs.prayer_times.PrayerTimes.current_time.Statement.{statement}
-use Rattle.schedule.proofs.prayer_times.PrayerTimes.current_time.Tie as tie
+use Rattle.schedule.proofs.prayer_times.PrayerTimes.current_time as this
 
-abbrev Inv-loop : tie.InvT-loop
+abbrev Inv-loop : this.Tie.InvT-loop
 Inv-loop self instant n₀ n = (n ≤ 8) × (lastOf self instant n ≡ lastOf self instant 8)
 
-abbrev μ-loop : tie.MeasureT-loop
+abbrev μ-loop : this.Tie.MeasureT-loop
 μ-loop self instant n₀ n = n
 
 -- the search begins at the end of the list
-loop-holds : tie.Need-loop-holds Inv-loop μ-loop
+loop-holds : this.Tie.Need-loop-holds Inv-loop μ-loop
 loop-holds c = (omega arith, refl)
 
-returns : tie.Need-returns Inv-loop μ-loop
+-- the time of the prayer that is looked at
+looked : (c : this.Tie.After-ahead Inv-loop μ-loop) → let a = c .before .before .before .before .before .args in
+    c .ahead .result ≡ aheadOf (timeOf (a .self) (prayerOf (c .before .before .before .before .loop .n))) (a .instant)
+looked c =
+    let a = c .before .before .before .before .before .args in
+    let k : readBack w64 (c .before .time .result) ≡ c .before .time .result = search needs in
+    c .ahead .ensures ∙ ap (λ (z : ℤ). aheadOf z (a .instant)) (k ∙ c .before .time .ensures ∙ ap (timeOf (a .self)) (c .before .before .of-number .ensures))
+
+returns : this.Tie.Need-returns Inv-loop μ-loop
 returns c =
-    let t = c .before .before .before .before .before .before in
-    let self = t .args .self in
-    let i = t .args .instant in
-    let n = c .before .before .before .before .before .loop .n in
-    let p = c .before .before .before .of-number .ensures in
-    let k : readBack w64 (c .before .before .time .result) ≡ c .before .before .time .result = search needs in
-    let a = c .before .ahead .ensures ∙ ap (λ (z : ℤ). aheadOf z i) (k ∙ c .before .before .time .ensures ∙ ap (timeOf self) p) in
-    ap Some p ∙ sym (due.found self i n (c .before .before .before .before .loop-test .taken) (sym a ∙ c .if1 .taken)) ∙ c .before .before .before .before .before .loop .inv .1
+    let a = c .before .before .before .before .before .before .args in
+    let l = c .before .before .before .before .before .loop in
+    ap Some (c .before .before .before .of-number .ensures)
+    ∙ sym (due.found (a .self) (a .instant) (l .n) (c .before .before .before .before .loop-test .taken) (sym (looked (c .before)) ∙ c .if1 .taken)) ∙ l .inv .1
 
-loop-again : tie.Need-loop-again Inv-loop μ-loop
+loop-again : this.Tie.Need-loop-again Inv-loop μ-loop
 loop-again c =
-    let t = c .before .before .before .before .before .before in
-    let self = t .args .self in
-    let i = t .args .instant in
-    let n = c .before .before .before .before .before .loop .n in
-    let p = c .before .before .before .of-number .ensures in
-    let k : readBack w64 (c .before .before .time .result) ≡ c .before .before .time .result = search needs in
-    let a = c .before .ahead .ensures ∙ ap (λ (z : ℤ). aheadOf z i) (k ∙ c .before .before .time .ensures ∙ ap (timeOf self) p) in
-    (omega (arith, c .before .before .before .before .before .loop .inv .0), sym (due.passed self i n (c .before .before .before .before .loop-test .taken) (λ e. c .if1 .left (a ∙ e))) ∙ c .before .before .before .before .before .loop .inv .1)
+    let a = c .before .before .before .before .before .before .args in
+    let l = c .before .before .before .before .before .loop in (
+      omega (arith, l .inv .0),
+      sym (due.passed (a .self) (a .instant) (l .n) (c .before .before .before .before .loop-test .taken)
+          (λ e. c .if1 .left (looked (c .before) ∙ e))) ∙ l .inv .1,
+    )
 
-returns-2 : tie.Need-returns-2 Inv-loop μ-loop
+returns-2 : this.Tie.Need-returns-2 Inv-loop μ-loop
 returns-2 c =
     let t = c .before .before in
     sym (due.exhausted (t .args .self) (t .args .instant) (c .before .loop .n) (c .loop-test .left)) ∙ c .before .loop .inv .1
 
-pub current-time-spec : {M : Type 1} → statement M
+pub current-time-spec : {M : Type 1} → this.Statement.statement M
 current-time-spec =
-    tie.close
-    (tie.spec Inv-loop μ-loop loop-holds (λ c κs. tt) (λ c κs. tt) (λ c κs. tt) returns (λ c. search needs) (λ c. search needs) loop-again returns-2)
+    this.Tie.close
+    (this.Tie.spec Inv-loop μ-loop loop-holds (λ c κs. tt) (λ c κs. tt) (λ c κs. tt) returns (λ c. search needs) (λ c. search needs) loop-again
+    returns-2)

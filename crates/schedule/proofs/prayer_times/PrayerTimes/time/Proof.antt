@@ -1,60 +1,45 @@
-use mir.Syntax.{w64}
-use mir.Val.{SFits}
-use mir.Facts.{toZ-ofZ}
+use Rattle.prelude.proofs.Logic.{needs, w64, SFits, toZ-ofZ}
 use Rattle.schedule.specs.InForce.{timeOf}
-use borrow.Author.Needs.{needs}
-use Rattle.schedule.proofs.prayer_times.PrayerTimes.time.Statement.{statement}
-use Rattle.schedule.proofs.prayer_times.PrayerTimes.time.Tie as tie
+use Rattle.schedule.specs.Times.{Each}
+use Rattle.schedule.proofs.prayer_times.PrayerTimes.time as this
 
-returns : tie.Need-returns
+each : (t : this.Tie.Start) → Each (SFits w64) (t .args .self)
+each t = search needs
+
+returns : this.Tie.Need-returns
 unfolding timeOf
-returns c =
-    let f0 : SFits w64 (c .before .before .before .args .self .fajr) = search needs in
-    simp (toZ-ofZ f0, c .before .enum-told .given .1)
+returns c = simp (toZ-ofZ (each (c .before .before .before) .fajr), c .before .enum-told .given .1)
 
-returns-2 : tie.Need-returns-2
+returns-2 : this.Tie.Need-returns-2
 unfolding timeOf
-returns-2 c =
-    let f0 : SFits w64 (c .before .before .before .args .self .sunrise) = search needs in
-    simp (toZ-ofZ f0, c .before .enum-told2 .given .1)
+returns-2 c = simp (toZ-ofZ (each (c .before .before .before) .sunrise), c .before .enum-told2 .given .1)
 
-returns-3 : tie.Need-returns-3
+returns-3 : this.Tie.Need-returns-3
 unfolding timeOf
-returns-3 c =
-    let f0 : SFits w64 (c .before .before .before .args .self .dhuhr) = search needs in
-    simp (toZ-ofZ f0, c .before .enum-told3 .given .1)
+returns-3 c = simp (toZ-ofZ (each (c .before .before .before) .dhuhr), c .before .enum-told3 .given .1)
 
-returns-4 : tie.Need-returns-4
+returns-4 : this.Tie.Need-returns-4
 unfolding timeOf
-returns-4 c =
-    let f0 : SFits w64 (c .before .before .before .args .self .asr) = search needs in
-    simp (toZ-ofZ f0, c .before .enum-told4 .given .1)
+returns-4 c = simp (toZ-ofZ (each (c .before .before .before) .asr), c .before .enum-told4 .given .1)
 
-returns-5 : tie.Need-returns-5
+returns-5 : this.Tie.Need-returns-5
 unfolding timeOf
-returns-5 c =
-    let f0 : SFits w64 (c .before .before .before .args .self .maghrib) = search needs in
-    simp (toZ-ofZ f0, c .before .enum-told5 .given .1)
+returns-5 c = simp (toZ-ofZ (each (c .before .before .before) .maghrib), c .before .enum-told5 .given .1)
 
-returns-6 : tie.Need-returns-6
+returns-6 : this.Tie.Need-returns-6
 unfolding timeOf
-returns-6 c =
-    let f0 : SFits w64 (c .before .before .before .args .self .isha) = search needs in
-    simp (toZ-ofZ f0, c .before .enum-told6 .given .1)
+returns-6 c = simp (toZ-ofZ (each (c .before .before .before) .isha), c .before .enum-told6 .given .1)
 
-returns-7 : tie.Need-returns-7
+returns-7 : this.Tie.Need-returns-7
 unfolding timeOf
-returns-7 c =
-    let f0 : SFits w64 (c .before .before .before .args .self .qiyam) = search needs in
-    simp (toZ-ofZ f0, c .before .enum-told7 .given .1)
+returns-7 c = simp (toZ-ofZ (each (c .before .before .before) .qiyam), c .before .enum-told7 .given .1)
 
-returns-8 : tie.Need-returns-8
+returns-8 : this.Tie.Need-returns-8
 unfolding timeOf
-returns-8 c =
-    let f0 : SFits w64 (c .before .before .before .args .self .«fajr_tomorrow») = search needs in
-    simp (toZ-ofZ f0, c .before .enum-told8 .given .1)
+returns-8 c = simp (toZ-ofZ (each (c .before .before .before) .«fajr_tomorrow»), c .before .enum-told8 .given .1)
 
-pub time-spec : {M : Type 1} → statement M
+pub time-spec : {M : Type 1} → this.Statement.statement M
 time-spec =
-    tie.close
-    (tie.spec (λ c. search needs) (λ c. search needs) (λ c. search needs) (λ c. search needs) (λ c. search needs) (λ c. search needs) (λ c. search needs) (λ c. search needs) returns returns-2 returns-3 returns-4 returns-5 returns-6 returns-7 returns-8)
+    this.Tie.close
+    (this.Tie.spec (λ c. search needs) (λ c. search needs) (λ c. search needs) (λ c. search needs) (λ c. search needs) (λ c. search needs)
+    (λ c. search needs) (λ c. search needs) returns returns-2 returns-3 returns-4 returns-5 returns-6 returns-7 returns-8)

@@ -1,14 +1,10 @@
-use mathlib.Core.Path.{_≡_, sym, ap, _∙_}
-use lib.IntN.{ℤ}
-use mir.Syntax.{w64}
+use Rattle.prelude.proofs.Logic.{_≡_, sym, ap, _∙_, ℤ, needs, w64}
 use Rattle.integers.proofs.Ranges.{readBack}
 use Rattle.schedule.specs.InForce.{aheadOf, hoursMinutesOf, untilOf}
 use Rattle.schedule.specs.declared.in_force.Remaining.the-variants.{In}
-use borrow.Author.Needs.{needs}
-use Rattle.schedule.proofs.prayer_times.PrayerTimes.time_remaining.Statement.{statement}
-use Rattle.schedule.proofs.prayer_times.PrayerTimes.time_remaining.Tie as tie
+use Rattle.schedule.proofs.prayer_times.PrayerTimes.time_remaining as this
 
-returns : tie.Need-returns
+returns : this.Tie.Need-returns
 unfolding untilOf
 returns c =
     let t = c .before .before .before .before .before .before .before in
@@ -16,13 +12,12 @@ returns c =
     let a = c .before .ahead .ensures ∙ ap (λ (z : ℤ). aheadOf z (t .args .instant)) (k ∙ c .before .before .time .ensures) in
     ap In (c .hours-minutes .ensures ∙ ap hoursMinutesOf a) ∙ ap (untilOf (t .args .self) (t .args .instant)) (sym (c .before .before .before .before .prayer .given .1) ∙ c .before .before .before .before .before .before .next .ensures)
 
-returns-2 : tie.Need-returns-2
+returns-2 : this.Tie.Need-returns-2
 unfolding untilOf
 returns-2 c =
     let t = c .before .before .before in
     ap (untilOf (t .args .self) (t .args .instant)) (sym (c .enum-told .given .1) ∙ c .before .before .next .ensures)
 
-pub time-remaining-spec : {M : Type 1} → statement M
+pub time-remaining-spec : {M : Type 1} → this.Statement.statement M
 time-remaining-spec =
-    tie.close
-    (tie.spec (λ c κs. tt) (λ c. search needs) (λ c κs. tt) (λ c κs. tt) (λ c κs. tt) (λ c. search needs) returns returns-2)
+    this.Tie.close (this.Tie.spec (λ c κs. tt) (λ c. search needs) (λ c κs. tt) (λ c κs. tt) (λ c κs. tt) (λ c. search needs) returns returns-2)

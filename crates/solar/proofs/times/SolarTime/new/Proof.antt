@@ -1,12 +1,11 @@
 use Rattle.solar.specs.Times.{solarTimeOf}
-use Rattle.solar.proofs.times.SolarTime.new.Statement.{statement}
-use Rattle.solar.proofs.times.SolarTime.new.Tie as tie
+use Rattle.solar.proofs.times.SolarTime.new as this
 
-returns : tie.Need-returns
+returns : this.Tie.Need-returns
 unfolding solarTimeOf
 returns c = cc
 
-pub new-spec : {M : Type 1} → statement M
+pub new-spec : {M : Type 1} → this.Statement.statement M
 new-spec =
-    tie.close
-    (tie.spec (λ c κs. tt) (λ c κs. tt) (λ c κs. tt) (λ c κs. tt) returns)
+    this.Tie.close
+    (this.Tie.spec (λ c κs. tt) (λ c κs. tt) (λ c κs. tt) (λ c κs. tt) returns)

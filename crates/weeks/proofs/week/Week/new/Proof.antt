@@ -1,11 +1,10 @@
-use mathlib.Core.Path.{refl}
+use Rattle.prelude.proofs.Logic.{refl}
 use Rattle.weeks.specs.State.{weekOf}
-use Rattle.weeks.proofs.week.Week.new.Statement.{statement}
-use Rattle.weeks.proofs.week.Week.new.Tie as tie
+use Rattle.weeks.proofs.week.Week.new as this
 
-returns : tie.Need-returns
+returns : this.Tie.Need-returns
 unfolding weekOf
 returns c = refl
 
-pub new-spec : {M : Type 1} → statement M
-new-spec = tie.close (tie.spec returns)
+pub new-spec : {M : Type 1} → this.Statement.statement M
+new-spec = this.Tie.close (this.Tie.spec returns)

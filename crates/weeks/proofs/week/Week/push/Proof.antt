@@ -1,10 +1,9 @@
 use Rattle.weeks.specs.State.{pushedOf}
-use Rattle.weeks.proofs.week.Week.push.Statement.{statement}
-use Rattle.weeks.proofs.week.Week.push.Tie as tie
+use Rattle.weeks.proofs.week.Week.push as this
 
-returns : tie.Need-returns
+returns : this.Tie.Need-returns
 unfolding pushedOf
 returns c = cc
 
-pub push-spec : {M : Type 1} → statement M
-push-spec = tie.close (tie.spec (λ c κs. tt) returns)
+pub push-spec : {M : Type 1} → this.Statement.statement M
+push-spec = this.Tie.close (this.Tie.spec (λ c κs. tt) returns)

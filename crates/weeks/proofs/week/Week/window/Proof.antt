@@ -1,21 +1,18 @@
-use borrow.Author.Tests.{lt-ltb, le-ltb}
-use mathlib.Core.Path.{sym}
+use Rattle.prelude.proofs.Logic.{sym, needs, lt-ltb, le-ltb}
 use Rattle.weeks.specs.State.{windowIn}
-use borrow.Author.Needs.{needs}
-use Rattle.weeks.proofs.week.Week.window.Statement.{statement}
-use Rattle.weeks.proofs.week.Week.window.Tie as tie
+use Rattle.weeks.proofs.week.Week.window as this
 
-returns : tie.Need-returns
+returns : this.Tie.Need-returns
 unfolding windowIn
 returns c =
     let e0 = c .not-ready .ensures in
     simp (sym e0, lt-ltb _ _ (c .before .if1 .taken))
 
-returns-2 : tie.Need-returns-2
+returns-2 : this.Tie.Need-returns-2
 unfolding windowIn
 returns-2 c =
     let e0 = c .last .ensures in
     simp (sym e0, le-ltb _ _ (c .before .before .if1 .left))
 
-pub window-spec : {M : Type 1} → statement M
-window-spec = tie.close (tie.spec (λ c κs. tt) returns (λ c κs. search needs) returns-2)
+pub window-spec : {M : Type 1} → this.Statement.statement M
+window-spec = this.Tie.close (this.Tie.spec (λ c κs. tt) returns (λ c κs. search needs) returns-2)

@@ -1,0 +1,28 @@
+use Rattle.prelude.proofs.Logic.{_≡_, ap, _∙_, ℕ, ℤ, arith, lit<, needs, w32, w64, Fits}
+use Rattle.integers.specs.Quotients.{floorRem}
+use Rattle.integers.proofs.QuotientLaws.{floored}
+use Rattle.integers.proofs.Ranges.{readBack, read}
+use Rattle.text.specs.Text.{digitOf}
+use Rattle.lines.specs.Lines.{daysOf, signOf, magnitudeOf}
+use Rattle.lines.proofs.times.divided as this
+
+cast-t8 : this.Tie.Need-cast-t8
+cast-t8 c =
+    let t = c .before .before .before .before .before in
+    let r = read w64 (t .args .time) (t .fits .time) in
+    let s = c .second-of-day .ensures ∙ ap (λ (z : ℤ). floorRem z 86400) r in
+    record { fits = omega (arith, s, floored (t .args .time) 86400 (lit< tt) .below) }
+
+returns : this.Tie.Need-returns
+returns c =
+    let t = c .before .before .before .before .before in
+    let days = c .before .before .before .before .days-from in
+    let r = read w64 (t .args .time) (t .fits .time) in
+    let k : readBack w64 (days .result) ≡ days .result = search needs in
+    let d = k ∙ days .ensures ∙ ap (λ (z : ℤ). daysOf (t .args .dated .date) z) r in
+    (c .before .before .before .sign .ensures ∙ ap signOf d, c .before .digit .ensures ∙ ap digitOf (c .before .before .size .ensures ∙ ap magnitudeOf d), c .second-of-day .ensures ∙ ap (λ (z : ℤ). floorRem z 86400) r)
+
+pub divided-spec : {M : Type 1} → this.Statement.statement M
+divided-spec =
+    this.Tie.close
+    (this.Tie.spec (λ c κs. search needs) (λ c κs. search needs) (λ c κs. search needs) (λ c κs. search needs) (λ c κs. search needs) cast-t8 returns)

@@ -1,0 +1,31 @@
+-- The Julian Day's exact value is Meeus's number, and counts the calendar's days. Assumes nothing.
+use Rattle.prelude.proofs.Logic.{_≡_, sym, subst, true, false, ℕ, _≤_, _<_, arith, lit≤, pos, _+ℤ_, _*ℤ_}
+use lib.Ieee.{Float}
+use lib.Ieee.Exact.{HasValue}
+use Rattle.integers.specs.Parts.{P}
+use Rattle.integers.proofs.OrderLaws.{le-yes}
+use Rattle.integers.proofs.Sums.{sum, times}
+use Rattle.float64.proofs.Values.{big, dyadic-value}
+use Rattle.calendar.specs.Days.{dayNumberOf}
+use Rattle.calendar.specs.Gregorian.{existsOf}
+use Rattle.calendar.specs.declared.dates.Date.{Date}
+use Rattle.calendar.proofs.CalendarLaws.{days-between}
+use Rattle.stride.specs.Meeus.{meeusOf, JulianDaysAreMeeus}
+use Rattle.stride.proofs.Counted.{meeus-number}
+use Rattle.stride.proofs.JulianLaws.{julian-meeus}
+
+meeus-small : (d : Date) → existsOf d ≡ true → 1899 ≤ d .year → d .year ≤ 2200 → meeusOf d < big
+meeus-small d h p q =
+    let z = dayNumberOf d in
+    let l = le-yes z (pos 84370) (days-between d h p q .1) in
+    let t = times z 2 in
+    let s = sum (z *ℤ pos 2) (pos 4881175) in
+    let e : pos (meeusOf d) ≡ z *ℤ pos 2 +ℤ pos 4881175 = meeus-number d h (omega arith) in
+    omega (arith, rw (sym e) at s)
+
+pub julian-days-are-meeus : JulianDaysAreMeeus
+julian-days-are-meeus d h p q =
+    record {
+      meeus = subst (λ (x : Float). HasValue x false (meeusOf d) 2) (sym (julian-meeus d h p q)) (dyadic-value false (meeusOf d) 1 (meeus-small d h p q) (lit≤ tt));
+      counted = meeus-number d h (omega arith);
+    }
