@@ -1,5 +1,5 @@
 -- The neighbours of a date by its day of the year: the way that the code takes is the calendar's rule. Assumes nothing.
-use Rattle.prelude.proofs.Logic.{_≡_, refl, ap, _∙_, subst, true, _+_, _-_, _≤_, _<_, arith, le-leb, cases}
+use Rattle.prelude.proofs.Logic.{_≡_, ap, _∙_, subst, true, _+_, _-_, _≤_, _<_, arith, le-leb, cases}
 use Rattle.calendar.specs.Gregorian.{dateOf, existsOf, dayBeforeOf}
 use Rattle.calendar.specs.Days.{daysBeforeYearOf, ordinalOf, ofOrdinalOf}
 use Rattle.calendar.specs.Answers.{heldOf, fromOf, yesterdayOf}

@@ -1,6 +1,6 @@
 -- The number of a day, an i64, beside a count of days from a calendar's first one on: no step of the code loses anything, in either calendar.
 -- Assumes nothing.
-use Rattle.prelude.proofs.Logic.{_≡_, refl, sym, ap, _∙_, true, false, cond, ℕ, suc, _+_, _^_, _≤_, _<_, le-refl, arith, T, leb, ℤ, pos, negsuc, natAbs, _+ℤ_, _-ℤ_, ltZ, nonNeg, leb-true, le-leb, lt-leb, w64, SFits, Fits, toZ, cases}
+use Rattle.prelude.proofs.Logic.{_≡_, sym, ap, _∙_, true, false, cond, ℕ, suc, _+_, _^_, _≤_, _<_, le-refl, arith, T, leb, ℤ, pos, negsuc, natAbs, _+ℤ_, _-ℤ_, ltZ, nonNeg, leb-true, le-leb, lt-leb, w64, SFits, Fits, toZ, cases}
 use Rattle.integers.proofs.Integers.{P, N, natural, not-negative, not-positive, sum, difference, lt-yes, lt-no, range, fits, readBack, read}
 
 -- n, or the last where n is beyond it

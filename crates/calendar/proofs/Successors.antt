@@ -2,7 +2,7 @@
 use Rattle.prelude.proofs.Logic.{_≡_, sym, ap, subst, _∙_, true, ℕ, _+_, _≤_, arith, ltb, pos, _+ℤ_, le-leb, either}
 use Rattle.calendar.specs.Answers.{heldOf, fromOf, tomorrowOf, yesterdayOf, rowDateOf}
 use Rattle.calendar.specs.Days.{dayNumberOf, dateOfDayOf}
-use Rattle.calendar.specs.Gregorian.{dateOf, existsOf, daysInMonthOf, dayAfterOf, dayBeforeOf}
+use Rattle.calendar.specs.Gregorian.{existsOf, daysInMonthOf, dayAfterOf, dayBeforeOf}
 use Rattle.calendar.specs.declared.dates.Date.{Date}
 use Rattle.calendar.proofs.CalendarLaws.{before-after, day-after-exists, row-next, date-of-day-exists}
 

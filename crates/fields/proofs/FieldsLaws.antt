@@ -1,7 +1,6 @@
 -- What a reader may rely on once the fields of an order are checked: each field is whole, and a tag's value has a length that the table
 -- allows. Assumes nothing.
 use Rattle.prelude.proofs.Logic.{_≡_, refl, sym, ap, _∙_, Bool, true, false, cond, not, _&&_, and-eq-true-iff, List, [], _∷_, ℕ, zero, suc, _≤_, _<_, _+_, _-_, arith, ltb, leb, eqb, lit≤, length, getD, List·getD-eq-default, take, drop, length-take, length-drop, drop-of-length-le, take-nil, lt-ltb, ltb-true, ltb-false, leb-true, eqb-true, eqb-false, not-false, cases, either}
-use Rattle.refusals.specs.Refusals.{refusal, noRefusal}
 use Rattle.refusals.specs.declared.Refusal.{Refusal}
 use Rattle.fields.specs.declared.tags.Row.{Row}
 use Rattle.fields.specs.Numbers.{byteOf}

@@ -20,7 +20,6 @@ use Rattle.order.specs.declared.reading.Reading.{Reading}
 use Rattle.order.specs.Accepted.{Accepted}
 use Rattle.order.proofs.AcceptedLaws.{read-accepted}
 use Rattle.schedule.specs.declared.in_force.Current.{Current}
-use Rattle.schedule.specs.declared.in_force.Current.the-variants as none
 use Rattle.schedule.specs.declared.in_force.Instant.{Instant}
 use Rattle.schedule.specs.declared.prayer_times.PrayerTimes.{PrayerTimes}
 use Rattle.schedule.specs.declared.prayer_times.Worked.{Worked}

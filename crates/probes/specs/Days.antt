@@ -1,7 +1,6 @@
 -- A day's numbers, settings and answers as the exports take and hand them out.
-use Prim.Native.Nat.{ℕ}
 use mathlib.Core.Bool.{true, false}
-use lib.IntN.{ℤ, pos}
+use lib.IntN.{pos}
 use Rattle.models.specs.Minutes.{sixMinutesOf}
 use Rattle.models.specs.Numbers.{methodOf, methodNumberOf, madhabOf, madhabNumberOf, ruleOf, ruleNumberOf, roundingOf, roundingNumberOf, shafaqOf, shafaqNumberOf, midnightOf, southernOf}
 use Rattle.models.specs.Presets.{presetOf}
@@ -13,7 +12,6 @@ use Rattle.schedule.specs.declared.hours.RowNumbers.{RowNumbers}
 use Rattle.schedule.specs.declared.prayer_times.PrayerTimes.{PrayerTimes}
 use Rattle.schedule.specs.declared.prayer_times.Worked.{Worked}
 use Rattle.schedule.specs.declared.prayer_times.Worked.the-variants.{Times, Refused}
-use Rattle.schedule.specs.declared.in_force.Instant.{Instant}
 use Rattle.schedule.specs.declared.in_force.Remaining.{Remaining}
 use Rattle.schedule.specs.declared.in_force.Remaining.the-variants.{In, Nothing}
 use Rattle.probes.specs.declared.days.ProbeSun.{ProbeSun}
@@ -87,9 +85,6 @@ noTimes = record { fajr = pos 0; sunrise = pos 0; dhuhr = pos 0; asr = pos 0; ma
 unfoldable pub probeDayOf : Worked → ProbeDay
 probeDayOf (Times t) = record { number = 0; place = 0; times = probeTimesOf t }
 probeDayOf (Refused r) = record { number = r .number; place = r .place; times = noTimes }
-
-abbrev pub instantFrom : ℤ → ℕ → Instant
-instantFrom seconds nanoseconds = record { seconds = seconds; nanoseconds = nanoseconds }
 
 unfoldable pub probeRemainingOf : Remaining → ProbeRemaining
 probeRemainingOf (In t) = record { found = true; hours = t .hours; minutes = t .minutes }

@@ -7,7 +7,8 @@ ghost use Rattle.unit.specs.Unit.{coordinatesOf};
 ghost use Rattle.schedule.specs.Hours.{hoursOf};
 ghost use Rattle.schedule.specs.Times.{seasonOf, workedOf, workedAt};
 ghost use Rattle.schedule.specs.InForce.{currentTimeOf, currentNumberOf, nextOf, timeRemainingOf};
-ghost use Rattle.probes.specs.Days.{sunOf, rowNumbersOf, minutesFrom, parametersFrom, rulesFrom, settingsOf, probeTimesOf, noTimes, probeDayOf, timesFrom, instantFrom, probeRemainingOf};
+ghost use Rattle.calls.specs.Calls.{instantOf};
+ghost use Rattle.probes.specs.Days.{sunOf, rowNumbersOf, minutesFrom, parametersFrom, rulesFrom, settingsOf, probeTimesOf, noTimes, probeDayOf, timesFrom, probeRemainingOf};
 use calendar::dates::Date;
 use models::adjustments::TimeAdjustment;
 use models::high_altitude_rule::HighLatitudeRule;
@@ -300,7 +301,7 @@ fn prayer_times(t: ProbeTimes) -> PrayerTimes
 }
 
 fn instant(seconds: i64, nanoseconds: u32) -> Instant
-    ensures { λ r. ⌜ r ≡ instantFrom seconds nanoseconds ⌝ }
+    ensures { λ r. ⌜ r ≡ instantOf seconds nanoseconds ⌝ }
 {
     Instant {
         seconds: seconds,
@@ -320,7 +321,7 @@ fn number(current: Current) -> u32
 // The number of the prayer in force, 0 where there is none.
 #[no_mangle]
 pub extern "C" fn probe_current(times: ProbeTimes, seconds: i64, nanoseconds: u32) -> u32
-    ensures { λ r. ⌜ r ≡ currentNumberOf (currentTimeOf (timesFrom times) (instantFrom seconds nanoseconds)) ⌝ }
+    ensures { λ r. ⌜ r ≡ currentNumberOf (currentTimeOf (timesFrom times) (instantOf seconds nanoseconds)) ⌝ }
 {
     number(prayer_times(times).current_time(instant(seconds, nanoseconds)))
 }
@@ -328,7 +329,7 @@ pub extern "C" fn probe_current(times: ProbeTimes, seconds: i64, nanoseconds: u3
 // And of the next one.
 #[no_mangle]
 pub extern "C" fn probe_next(times: ProbeTimes, seconds: i64, nanoseconds: u32) -> u32
-    ensures { λ r. ⌜ r ≡ currentNumberOf (nextOf (timesFrom times) (instantFrom seconds nanoseconds)) ⌝ }
+    ensures { λ r. ⌜ r ≡ currentNumberOf (nextOf (timesFrom times) (instantOf seconds nanoseconds)) ⌝ }
 {
     number(prayer_times(times).next(instant(seconds, nanoseconds)))
 }
@@ -364,7 +365,7 @@ pub extern "C" fn probe_remaining(
     seconds: i64,
     nanoseconds: u32,
 ) -> ProbeRemaining
-    ensures { λ r. ⌜ r ≡ probeRemainingOf (timeRemainingOf (timesFrom times) (instantFrom seconds nanoseconds)) ⌝ }
+    ensures { λ r. ⌜ r ≡ probeRemainingOf (timeRemainingOf (timesFrom times) (instantOf seconds nanoseconds)) ⌝ }
 {
     probe_hours_minutes(prayer_times(times).time_remaining(instant(seconds, nanoseconds)))
 }

@@ -11,7 +11,9 @@ use Rattle.order.specs.declared.reading.Reading.the-variants.{Read, Refused}
 use Rattle.order.specs.Reading.{readingOf, townOf}
 use Rattle.schedule.specs.declared.prayer_times.Worked.{Worked}
 use Rattle.text.specs.Text.{frontOf}
-use Rattle.rows.specs.Rows.{answerOf, rowFrontOf, readAnswerOf, readBufferOf, rowAnswerOf, rowBufferOf, textIn, acceptedText, longestSheet, sheetLengthOf, sheetBufferOf}
+use Rattle.text.specs.Printed.{printedLength, printedBuffer}
+use Rattle.text.proofs.PrintedLaws.{printed-short}
+use Rattle.rows.specs.Rows.{answerOf, rowFrontOf, readAnswerOf, readBufferOf, rowAnswerOf, rowBufferOf, textIn, acceptedText, sheetText, longestSheet, sheetLengthOf, sheetBufferOf}
 
 module _ (o : Order) (row : ℕ) (buffer : List ℕ) where
   -- a row that the order has, by its date
@@ -52,16 +54,15 @@ module _ (s buffer : List ℕ) (row : ℕ) where
 
 module _ (s buffer : List ℕ) where
   pub sheet-short : length buffer < longestSheet → (0 ≡ sheetLengthOf s buffer) × (buffer ≡ sheetBufferOf s buffer)
-  unfolding sheetLengthOf sheetBufferOf
-  sheet-short h = (simp (lt-ltb (length buffer) longestSheet h), simp (lt-ltb (length buffer) longestSheet h))
+  sheet-short h = printed-short longestSheet (sheetText s) buffer h
 
   module _ (h : longestSheet ≤ length buffer) where
     pub sheet-read : (o : Order) → readingOf s ≡ Read o
         → (length (acceptedText (townOf s) o) ≡ sheetLengthOf s buffer) × (frontOf (acceptedText (townOf s) o) buffer ≡ sheetBufferOf s buffer)
-    unfolding sheetLengthOf sheetBufferOf textIn
+    unfolding printedLength printedBuffer textIn
     sheet-read o e = (simp (le-ltb (length buffer) longestSheet h, e), simp (le-ltb (length buffer) longestSheet h, e))
 
     pub sheet-refused : (r : Refusal) → readingOf s ≡ Refused r
         → (length (refusedOrderText r) ≡ sheetLengthOf s buffer) × (frontOf (refusedOrderText r) buffer ≡ sheetBufferOf s buffer)
-    unfolding sheetLengthOf sheetBufferOf textIn
+    unfolding printedLength printedBuffer textIn
     sheet-refused r e = (simp (le-ltb (length buffer) longestSheet h, e), simp (le-ltb (length buffer) longestSheet h, e))

@@ -1,6 +1,5 @@
 -- No sheet is longer than `longestSheet`, and what is written fits the buffer. Assumes nothing.
-use Rattle.prelude.proofs.Logic.{_≡_, refl, List, ℕ, _≤_, arith, ltb, length, length-append, ltb-false}
-use Rattle.prelude.proofs.Cases.{arms}
+use Rattle.prelude.proofs.Logic.{_≡_, refl, List, ℕ, _≤_, arith, length, length-append}
 use Rattle.lines.proofs.LinesLaws.{refused-length}
 use Rattle.order.proofs.AcceptedLaws.{read-accepted}
 use Rattle.order.proofs.ReadingLaws.{read-town}
@@ -8,6 +7,7 @@ use Rattle.order.specs.Reading.{readingOf, townOf}
 use Rattle.order.specs.declared.reading.Reading.{Reading}
 use Rattle.order.specs.declared.reading.Reading.the-variants.{Read, Refused}
 use Rattle.text.specs.Text.{ascii}
+use Rattle.text.proofs.PrintedLaws.{printed-fits}
 use Rattle.rows.specs.Rows.{headText, linesText, acceptedText, textIn, sheetText, longestSheet, sheetLengthOf}
 use Rattle.rows.proofs.Lengths.{room-enough, head-length, lines-length}
 
@@ -28,10 +28,7 @@ sheet-length s = by-reading (readingOf s) refl
     by-reading (Refused r) e = let n = refused-length (ascii "order") (ascii " place ") r in omega arith
 
 pub sheet-fits : (s buffer : List ℕ) → sheetLengthOf s buffer ≤ length buffer
-unfolding sheetLengthOf
-sheet-fits s buffer =
-    arms (λ (n : ℕ). n ≤ length buffer) (ltb (length buffer) longestSheet) (λ e. omega arith)
-    (λ e. let r = ltb-false (length buffer) longestSheet e in let l = sheet-length s in omega arith)
+sheet-fits s buffer = printed-fits longestSheet (sheetText s) buffer (sheet-length s)
 
 pub answer-fits : (s buffer after : List ℕ) (n : ℕ) → n ≡ sheetLengthOf s buffer → length after ≡ length buffer → n ≤ length after
 answer-fits s buffer after n e l = let f = sheet-fits s buffer in omega arith

@@ -18,6 +18,7 @@ use Rattle.order.specs.Ranges.{mostRows}
 use Rattle.order.specs.Reading.{readingOf, townOf}
 use Rattle.schedule.specs.declared.prayer_times.Worked.{Worked}
 use Rattle.schedule.specs.declared.prayer_times.Worked.the-variants as worked
+use Rattle.text.specs.Printed.{printedLength, printedBuffer}
 use Rattle.text.specs.Text.{ascii, frontOf}
 
 -- ---- a row: "a full row has 119 bytes with its newline, at the front of the row buffer; the bytes after them stay"
@@ -84,8 +85,8 @@ abbrev pub longestSheet : ℕ
 longestSheet = 40 + 64 + fullRow * mostRows
 
 -- a buffer that it might not fit is left as it was, and the answer is 0
-unfoldable pub sheetLengthOf : List ℕ → List ℕ → ℕ
-sheetLengthOf s buffer = cond (ltb (length buffer) longestSheet) 0 (length (sheetText s))
+abbrev pub sheetLengthOf : List ℕ → List ℕ → ℕ
+sheetLengthOf s buffer = printedLength longestSheet (sheetText s) buffer
 
-unfoldable pub sheetBufferOf : List ℕ → List ℕ → List ℕ
-sheetBufferOf s buffer = cond (ltb (length buffer) longestSheet) buffer (frontOf (sheetText s) buffer)
+abbrev pub sheetBufferOf : List ℕ → List ℕ → List ℕ
+sheetBufferOf s buffer = printedBuffer longestSheet (sheetText s) buffer

@@ -1,8 +1,7 @@
 -- The Julian Day's exact value is Meeus's number, and counts the calendar's days. Assumes nothing.
-use Rattle.prelude.proofs.Logic.{_≡_, sym, subst, true, false, ℕ, _≤_, _<_, arith, lit≤, pos, _+ℤ_, _*ℤ_}
+use Rattle.prelude.proofs.Logic.{_≡_, sym, subst, true, false, _≤_, _<_, arith, lit≤, pos, _+ℤ_, _*ℤ_}
 use lib.Ieee.{Float}
 use lib.Ieee.Exact.{HasValue}
-use Rattle.integers.specs.Parts.{P}
 use Rattle.integers.proofs.OrderLaws.{le-yes}
 use Rattle.integers.proofs.Sums.{sum, times}
 use Rattle.float64.proofs.Values.{big, dyadic-value}

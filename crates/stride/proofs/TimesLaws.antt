@@ -1,5 +1,5 @@
 -- What rounding and adjusting keep, and where nothing saturates. Over the definitions of `Times`. Assumes nothing.
-use Rattle.prelude.proofs.Logic.{_≡_, refl, sym, ap, _∙_, cond, ℕ, _+_, _*_, _^_, _≤_, _<_, arith, ltb, lit<, ℤ, pos, negsuc, _+ℤ_, _-ℤ_, _*ℤ_, +ℤ-idr, +ℤ-assoc, +ℤ-comm, ltb-true, ltb-false, lt-ltb, w64, SFits, cases, either}
+use Rattle.prelude.proofs.Logic.{_≡_, refl, sym, ap, _∙_, cond, ℕ, _+_, _*_, _^_, _≤_, _<_, arith, ltb, lit<, ℤ, pos, negsuc, _+ℤ_, _*ℤ_, +ℤ-idr, +ℤ-assoc, +ℤ-comm, ltb-true, ltb-false, lt-ltb, w64, SFits, cases, either}
 use Rattle.integers.proofs.Integers.{P, N, Between, Near, sum, difference, times, floorQuot, Floored, floored, _≼_, to-not-lt, range, sum-between, product-between, shifted-between, Held, held-fits}
 use Rattle.models.specs.declared.rounding.Rounding.{Rounding}
 use Rattle.models.specs.declared.rounding.Rounding.the-variants.{Nearest, Up, None}

@@ -1,5 +1,5 @@
 -- An angle above 0 and below 359 degrees is unwound as it stands: a full turn goes into it no time. Assumes nothing.
-use Rattle.prelude.proofs.Logic.{_≡_, refl, sym, ap, _∙_, subst, Bool, true, false, cond, true≢false, ℕ, _*_, _/_, _%_, _^_, _≤_, _<_, div-add-mod', div-eq-of-lt, arith, T, eqb, lit<, lit≤, ℤ, pos, eqb-true}
+use Rattle.prelude.proofs.Logic.{_≡_, refl, sym, ap, _∙_, Bool, true, false, cond, true≢false, ℕ, _*_, _^_, _<_, div-add-mod', div-eq-of-lt, arith, T, eqb, lit<, lit≤, ℤ, eqb-true}
 use lib.Ieee.{Float, nan, inf, fin, binary64, up, down, round, ofBits, ofInt, mul, sub, div, fits, lt}
 use lib.Ieee.Exact.{HasValue}
 use lib.Ieee.Fits.{down-pos}

@@ -1,4 +1,4 @@
-use Rattle.prelude.proofs.Logic.{ap, _∙_, List, ℤ, length, needs, now}
+use Rattle.prelude.proofs.Logic.{ap, _∙_, length, needs, now}
 use Rattle.text.specs.Text.{putOf}
 use Rattle.lines.specs.Lines.{rowText}
 use Rattle.lines.proofs.row.put_nine as this

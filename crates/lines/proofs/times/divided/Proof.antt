@@ -1,4 +1,4 @@
-use Rattle.prelude.proofs.Logic.{_≡_, ap, _∙_, ℕ, ℤ, arith, lit<, needs, w32, w64, Fits}
+use Rattle.prelude.proofs.Logic.{_≡_, ap, _∙_, ℤ, arith, lit<, needs, w64}
 use Rattle.integers.specs.Quotients.{floorRem}
 use Rattle.integers.proofs.QuotientLaws.{floored}
 use Rattle.integers.proofs.Ranges.{readBack, read}

@@ -1,6 +1,6 @@
-use Rattle.prelude.proofs.Logic.{_≡_, true, ap, T, needs}
+use Rattle.prelude.proofs.Logic.{_≡_, true, ap, needs}
 use denote.Floats.{passes}
-use lib.Ieee.{Float, binary64, fits, ofBits}
+use lib.Ieee.{binary64, fits}
 use Rattle.unit.specs.Unit.{angleOf}
 use Rattle.unit.proofs.Turns.{unturned}
 use Rattle.unit.proofs.Angle.unwound as this
