@@ -6,3 +6,4 @@ pub mod Taken
 pub mod PastMidnightSentences
 pub mod TimesLaws
 pub mod OnTheDate
+pub mod NearestMinute
