@@ -7,3 +7,4 @@ pub mod PastMidnightSentences
 pub mod TimesLaws
 pub mod OnTheDate
 pub mod NearestMinute
+pub mod AltitudeSine
