@@ -13,6 +13,7 @@ use Rattle.schedule.proofs.FajrLaws.{fajr-alone}
 use Rattle.schedule.specs.Fajr.{fajrIn}
 use Rattle.schedule.specs.Hours.{dayHoursOf, rowHoursOf, hoursOf}
 use Rattle.schedule.specs.Numbers.{numbersOf}
+use Rattle.schedule.specs.Sines.{twilightSinesOf}
 use Rattle.schedule.specs.Times.{seasonOf, workedOf}
 use Rattle.schedule.proofs.SharedLaws.{courseAt, row-shared}
 use Rattle.unit.specs.declared.Coordinates.{Coordinates}
@@ -39,13 +40,15 @@ rolls date place p rules h l =
     let second = tomorrowOf next in
     let third = tomorrowOf second in
     let fourth = tomorrowOf third in
+    let sines = twilightSinesOf p in
     ap (λ (d : Date). record {
       date = next;
       third = fourth;
       observer = observerOf place;
+      sines = sines;
       «at_second» = positionOf third;
       «at_third» = positionOf fourth;
-      today = daySunOf place p rules (courseAt place d next second);
-      tomorrow = daySunOf place p rules (courseAt place next second third);
-      after = daySunOf place p rules (courseAt place second third fourth);
+      today = daySunOf place p rules sines (courseAt place d next second);
+      tomorrow = daySunOf place p rules sines (courseAt place next second third);
+      after = daySunOf place p rules sines (courseAt place second third fourth);
     }) (sym (back date h l))

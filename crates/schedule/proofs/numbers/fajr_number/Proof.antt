@@ -12,7 +12,7 @@ returns-2 : this.Tie.Need-returns-2
 unfolding fajrNumberOf
 returns-2 c =
     let test = c .before .before .before in
-    simp (sym (c .angle-number .ensures), sym (c .before .new .ensures), sym (test .before .by-seventh .ensures), test .if1 .left)
+    simp (sym (c .sine-number .ensures), sym (c .before .new .ensures), sym (test .before .by-seventh .ensures), test .if1 .left)
 
 pub fajr-number-spec : {M : Type 1} → this.Statement.statement M
 fajr-number-spec = this.Tie.close (this.Tie.spec (λ c κs. tt) (λ c κs. tt) returns (λ c κs. tt) (λ c κs. tt) returns-2)
