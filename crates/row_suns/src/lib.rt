@@ -14,8 +14,6 @@ use schedule::hours::RowHours;
 use schedule::hours::Suns;
 use schedule::numbers::TwilightSines;
 use schedule::numbers::asr_number;
-use schedule::numbers::fajr_number;
-use schedule::numbers::isha_number;
 use schedule::prayer_times::FajrAlone;
 use schedule::prayer_times::Worked;
 use solar::coordinates::SolarCoordinates;
@@ -59,7 +57,7 @@ fn day_sun(
         hours: DayHours::new(
             midnight,
             hour_numbers(course),
-            fajr_number(parameters, coordinates.latitude, course, sines.fajr),
+            sines.fajr_number(parameters, coordinates.latitude, course),
         ),
     }
 }
@@ -175,7 +173,7 @@ impl RowSuns {
             tomorrow.hours,
             sun,
             asr_number(parameters, latitude, course),
-            isha_number(parameters, latitude, course, sines.isha),
+            sines.isha_number(parameters, latitude, course),
         );
         hours.work(date, season, parameters)
     }

@@ -35,31 +35,31 @@ impl TwilightSines {
             isha: sin(Angle::new(-parameters.isha_angle).radians()),
         }
     }
-}
 
-// A NaN, which has no time by either rule, where a seventh of the night takes the angle's place.
-pub fn fajr_number(parameters: Parameters, latitude: f64, sun: Course, sine: f64) -> f64
-    ensures { λ r. ⌜ r ≡ fajrNumberOf parameters latitude (courseSineNumberOf sun sine) ⌝ }
-{
-    let method = parameters.method;
-    if by_seventh(method, latitude) {
-        return not_a_number();
+    // A NaN, which has no time by either rule, where a seventh of the night takes the angle's place.
+    pub fn fajr_number(self, parameters: Parameters, latitude: f64, sun: Course) -> f64
+        ensures { λ r. ⌜ r ≡ fajrNumberOf parameters latitude (courseSineNumberOf sun (self .fajr)) ⌝ }
+    {
+        let method = parameters.method;
+        if by_seventh(method, latitude) {
+            return not_a_number();
+        }
+        sine_number(sun, self.fajr, Angle::new(-parameters.fajr_angle), false)
     }
-    sine_number(sun, sine, Angle::new(-parameters.fajr_angle), false)
-}
 
-// A NaN where an interval or a seventh of the night takes the angle's place.
-pub fn isha_number(parameters: Parameters, latitude: f64, sun: Course, sine: f64) -> f64
-    ensures { λ r. ⌜ r ≡ ishaNumberOf parameters latitude (courseSineNumberOf sun sine) ⌝ }
-{
-    let method = parameters.method;
-    if parameters.isha_interval > 0 {
-        return not_a_number();
+    // A NaN where an interval or a seventh of the night takes the angle's place.
+    pub fn isha_number(self, parameters: Parameters, latitude: f64, sun: Course) -> f64
+        ensures { λ r. ⌜ r ≡ ishaNumberOf parameters latitude (courseSineNumberOf sun (self .isha)) ⌝ }
+    {
+        let method = parameters.method;
+        if parameters.isha_interval > 0 {
+            return not_a_number();
+        }
+        if by_seventh(method, latitude) {
+            return not_a_number();
+        }
+        sine_number(sun, self.isha, Angle::new(-parameters.isha_angle), true)
     }
-    if by_seventh(method, latitude) {
-        return not_a_number();
-    }
-    sine_number(sun, sine, Angle::new(-parameters.isha_angle), true)
 }
 
 pub fn asr_number(parameters: Parameters, latitude: f64, sun: Course) -> f64
@@ -100,10 +100,10 @@ impl RowNumbers {
             today: hour_numbers(today),
             tomorrow: hour_numbers(tomorrow),
             after: hour_numbers(after),
-            fajr: fajr_number(parameters, latitude, today, sines.fajr),
+            fajr: sines.fajr_number(parameters, latitude, today),
             asr: asr_number(parameters, latitude, today),
-            isha: isha_number(parameters, latitude, today, sines.isha),
-            fajr_tomorrow: fajr_number(parameters, latitude, tomorrow, sines.fajr),
+            isha: sines.isha_number(parameters, latitude, today),
+            fajr_tomorrow: sines.fajr_number(parameters, latitude, tomorrow),
         }
     }
 }

@@ -1,6 +1,6 @@
 use Rattle.prelude.proofs.Logic.{sym}
 use Rattle.schedule.specs.Numbers.{fajrNumberOf}
-use Rattle.schedule.proofs.numbers.fajr_number as this
+use Rattle.schedule.proofs.numbers.TwilightSines.fajr_number as this
 
 returns : this.Tie.Need-returns
 unfolding fajrNumberOf

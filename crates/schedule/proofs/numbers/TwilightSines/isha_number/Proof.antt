@@ -1,7 +1,7 @@
 use Rattle.prelude.proofs.Logic.{sym, needs, w32, SFits}
 use Rattle.integers.proofs.Ranges.{read}
 use Rattle.schedule.specs.Numbers.{ishaNumberOf}
-use Rattle.schedule.proofs.numbers.isha_number as this
+use Rattle.schedule.proofs.numbers.TwilightSines.isha_number as this
 
 returns : this.Tie.Need-returns
 unfolding ishaNumberOf
