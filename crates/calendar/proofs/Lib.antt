@@ -2,7 +2,6 @@ pub mod ByCount
 pub mod ByMonth
 pub mod ByOrdinal
 pub mod CalendarLaws
-pub mod Computed
 pub mod Counting
 pub mod Existing
 pub mod Floors

@@ -5,7 +5,7 @@ use Rattle.integers.proofs.PartsLaws.{same}
 use Rattle.integers.proofs.Sums.{sum, difference, times}
 use Rattle.integers.proofs.OrderLaws.{lt-yes, lt-no}
 use Rattle.integers.specs.Order.{_≼_}
-use Rattle.calendar.proofs.Computed.{at}
+use Rattle.prelude.proofs.Computed.{at}
 use Rattle.models.specs.declared.prayer.Prayer.{Prayer}
 use Rattle.models.specs.declared.prayer.Prayer.the-variants.{Fajr, Sunrise, Dhuhr, Asr, Maghrib, Isha, Qiyam, FajrTomorrow}
 use Rattle.models.specs.Numbers.{prayerNumberOf, prayerOf}

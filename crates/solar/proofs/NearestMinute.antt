@@ -10,7 +10,7 @@ use Rattle.float64.proofs.Near.{at}
 use Rattle.float64.proofs.Parts.{zero64, floor-positive}
 use Rattle.float64.proofs.Steps.{inside, trunc-at}
 use Rattle.float64.proofs.Values.{lt-values}
-use Rattle.calendar.proofs.Computed as Computed
+use Rattle.prelude.proofs.Computed as Computed
 use Rattle.solar.proofs.Taken.{below-whole}
 
 -- ---- of k whole minutes and q whole seconds, one by one

@@ -4,7 +4,7 @@ use Rattle.integers.proofs.Integers.{same, sum, difference, times}
 use Rattle.calendar.specs.Gregorian.{leapOf, existsOf}
 use Rattle.calendar.specs.Days.{daysBeforeOf, daysInYearOf, daysBeforeYearOf, dayNumberOf}
 use Rattle.calendar.specs.declared.dates.Date.{Date}
-use Rattle.calendar.proofs.Computed.{tested, when}
+use Rattle.prelude.proofs.Computed.{tested, when}
 use Rattle.calendar.proofs.YearSteps.{year-step}
 use Rattle.calendar.proofs.Existing.{exists-yes, month-of-date, ordinal-is, count}
 use Rattle.stride.specs.Meeus.{yearDaysOf, monthTermOf, meeusOf}
