@@ -6,7 +6,8 @@ use Rattle.joblog.specs.declared.records.State.{State}
 use Rattle.joblog.specs.Records.{state, compactedOf}
 use Rattle.joblog.specs.declared.calls.Log.{Log}
 use Rattle.joblog.specs.Calls.{readLogOf, compactAnswer, compactingOf}
-use Rattle.joblog_laws.specs.Run.{idle, World, begun, goes, finishes, restart, has, asRequested, isIdle, finishing, next, run}
+use Rattle.prelude.specs.Lists.{listed}
+use Rattle.joblog_laws.specs.Run.{idle, World, begun, goes, finishes, restart, asRequested, isIdle, finishing, next, run}
 use Rattle.joblog_laws.specs.Histories.{pagesTo, Kept, HistoriesAreKept, sendAll, OpenPagesCome}
 use Rattle.joblog.proofs.CompactLaws.{compacted-length}
 use Rattle.joblog_laws.proofs.HeldLaws.{held-read, sent, restart-held}
@@ -39,8 +40,8 @@ kept w i =
       «next_out» = λ up. i .out up ∙ sym whole;
       «none_again» = λ up.
           let o = i .out up in
-          not-has (has (w .finished) (w .out + 1))
-          (λ h. let m = has-pages n (w .out + 1) (subst (λ (pages : List ℕ). has pages (w .out + 1) ≡ true) order h) in omega arith);
+          not-has (listed (w .finished) (w .out + 1))
+          (λ h. let m = has-pages n (w .out + 1) (subst (λ (pages : List ℕ). listed pages (w .out + 1) ≡ true) order h) in omega arith);
       readable = ap (λ (a : Log). a .number) r;
       behind = rw r (i .behind);
       ahead = rw r (omega arith);

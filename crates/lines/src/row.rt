@@ -24,7 +24,7 @@ pub const ROW_BYTES: usize = DATE_BYTES + 9 * TIME_BYTES + 1;
 // A row of a Ramadan sheet has a time more.
 const RAMADAN_ROW_BYTES: usize = ROW_BYTES + TIME_BYTES;
 
-// The earliest instant that there is.
+// The earliest instant that 64 bits hold.
 const EARLIEST: i64 = -9223372036854775808;
 
 // What a full row takes, which a Ramadan sheet has imsak in.

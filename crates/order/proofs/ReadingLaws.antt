@@ -13,7 +13,8 @@ use Rattle.hijri.specs.declared.ramadan.Ramadan.{Ramadan}
 use Rattle.refusals.specs.declared.Refusal.{Refusal}
 use Rattle.order.specs.declared.reading.Order.{Order}
 use Rattle.order.specs.declared.reading.Reading.the-variants.{Read, Refused}
-use Rattle.order.specs.Ranges.{textFits, lookUp, fitsOf, inRangeOf}
+use Rattle.text.specs.Text.{printable}
+use Rattle.order.specs.Ranges.{lookUp, fitsOf, inRangeOf}
 use Rattle.order.specs.Reading.{required, isGivenOf, missingOf, bothFormsOf, outOfRangeOf, tagsFrom, orderOf, wrongStartOf, firstOf, readingOf, townOf}
 use Rattle.order.proofs.Tags.{all-pass, failing-number, tags-from, tags-length}
 
@@ -124,7 +125,7 @@ pub record Town (s town : List ℕ) (order : Order) : Type 0 where
   pub begins : order .town .at ≡ offsetOf s 1 + 3
   pub long : order .town .length ≡ length town
   pub size : (1 ≤ length town) × (length town ≤ 40)
-  pub text : textFits town ≡ true
+  pub text : printable town ≡ true
 
 town-of : (s : List ℕ) (order : Order) → Passed s order → Town s (valueOf s 1) order
 unfolding fitsOf lookUp isGivenOf orderOf valueStartOf

@@ -3,7 +3,8 @@ ghost use mathlib.Core.Path.{_≡_};
 ghost use mathlib.Core.Bool.{true, cond};
 ghost use lib.Dec.{ltb};
 ghost use Rattle.fields.specs.Values.{partIn};
-ghost use Rattle.order.specs.Ranges.{textFits, dateFits, mostIn, rowsFit, degreesFit, minuteFits, minutesFit, intervalFits, clockFits, ramadanFits, ramadanRows, fitsIn};
+ghost use Rattle.text.specs.Text.{printable};
+ghost use Rattle.order.specs.Ranges.{dateFits, mostIn, rowsFit, degreesFit, minuteFits, minutesFit, intervalFits, clockFits, ramadanFits, ramadanRows, fitsIn};
 use super::given::date_in;
 use super::given::degrees_in;
 use super::given::form_in;
@@ -30,9 +31,11 @@ const MOST_IN_ONE_BYTE: u32 = 250;
 
 const RAMADAN_ROWS: u32 = 30;
 
+const MOST_IMSAK: u32 = 30;
+
 // Printable ASCII.
 fn text_fits(bytes: &[u8]) -> bool
-    ensures { λ r. ⌜ r ≡ textFits (now (bytes .entry)) ⌝ }
+    ensures { λ r. ⌜ r ≡ printable (now (bytes .entry)) ⌝ }
 {
     let mut i = 0;
     while i < bytes.len() {
@@ -121,7 +124,7 @@ fn clock_fits(bytes: &[u8]) -> bool
 fn ramadan_fits(bytes: &[u8]) -> bool
     ensures { λ r. ⌜ r ≡ ramadanFits (now (bytes .entry)) ⌝ }
 {
-    (byte(bytes, 0) <= 30) & (byte(bytes, 1) <= 2)
+    (byte(bytes, 0) <= MOST_IMSAK) & (byte(bytes, 1) <= 2)
 }
 
 // A Ramadan sheet has the rows of its month and no others.

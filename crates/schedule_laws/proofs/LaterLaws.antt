@@ -18,7 +18,7 @@ use Rattle.schedule.specs.declared.hours.RowNumbers.{RowNumbers}
 use Rattle.schedule.specs.declared.prayer_times.PrayerTimes.{PrayerTimes}
 use Rattle.schedule.specs.declared.prayer_times.Worked.the-variants.{Times, Refused}
 use Rattle.schedule.specs.Hours.{hoursOf}
-use Rattle.schedule.specs.InForce.{NotAfter}
+use Rattle.schedule.specs.InForce.{inSecond, NotAfter}
 use Rattle.schedule.specs.Numbers.{fajrNumberOf, ishaNumberOf, asrNumberOf, numbersOf}
 use Rattle.schedule.specs.Times.{workedFrom, seasonOf, workedOf}
 use Rattle.schedule_laws.specs.Later.{withMinutes, NoneEarlier, ExactlyLater, Moved, LaterMinutesMoveTheDay, LaterMinutesMoveTheRow}
@@ -47,7 +47,7 @@ worked-alike p q x y none exact =
           let a : x ≡ t = cc in let b : y ≡ u = cc in subst (λ (k : PrayerTimes). NoneEarlier t k) b (subst (λ (k : PrayerTimes). NoneEarlier k y) a none);
       «exactly_later» = λ (t u : PrayerTimes) (e : Times x ≡ Times t) (f : Times y ≡ Times u).
           let a : x ≡ t = cc in let b : y ≡ u = cc in subst (λ (k : PrayerTimes). ExactlyLater p q t k) b (subst (λ (k : PrayerTimes). ExactlyLater p q k y) a exact);
-      «in_force» = λ (t u : PrayerTimes) (e : Times x ≡ Times t) (f : Times y ≡ Times u) (i j : Instant) (h : j .nanoseconds < 1000000000) (l : NotAfter j i).
+      «in_force» = λ (t u : PrayerTimes) (e : Times x ≡ Times t) (f : Times y ≡ Times u) (i j : Instant) (h : j .nanoseconds < inSecond) (l : NotAfter j i).
           let a : x ≡ t = cc in
           let b : y ≡ u = cc in
           in-force-no-later t u i j (subst (λ (k : PrayerTimes). NoneEarlier t k) b (subst (λ (k : PrayerTimes). NoneEarlier k y) a none)) (to-nanoseconds j i h l);

@@ -126,6 +126,6 @@ times-lie-by-their-date rule n date season p t there carried e =
 pub days-are-one-digit : DaysAreOneDigit
 days-are-one-digit date time h = by-sign (time -ℤ startOf date) (h .from) (h .before)
   where
-    by-sign : (z : ℤ) → N z ≤ 4 * 86400 → P z < 5 * 86400 → (N (floorQuot z 86400) ≤ 4) × (P (floorQuot z 86400) ≤ 4)
-    by-sign (pos a) l u = (omega arith, omega arith)
-    by-sign (negsuc a) l u = (omega arith, omega arith)
+    by-sign : (z : ℤ) → N z ≤ 4 * 86400 → P z < 5 * 86400 → Near 4 (floorQuot z 86400)
+    by-sign (pos a) l u = record { from = omega arith; to = omega arith }
+    by-sign (negsuc a) l u = record { from = omega arith; to = omega arith }

@@ -6,8 +6,8 @@ use Rattle.float64.specs.Ops.{dec}
 use Rattle.float64.specs.Sizes.{isNormalOf}
 use Rattle.float64.specs.Whole.{floorOf}
 use Rattle.solar.specs.declared.setting.SolarHour.the-variants.{At, None}
-use Rattle.solar.specs.Setting.{hourAdjustmentOf, minuteOf, settingHourOf}
-use Rattle.solar.specs.PastMidnight.{hasTimeOf, daySecondOf, sumOf, restOf, nextMidnightOf, carriedOf, carriedHourOf}
+use Rattle.solar.specs.Setting.{hourAdjustmentOf, minuteOf, settingHourOf, daySecondOf, sumOf, restOf}
+use Rattle.solar.specs.PastMidnight.{hasTimeOf, nextMidnightOf, carriedOf, carriedHourOf}
 use Rattle.solar.proofs.PastMidnightLaws.{carried-none, carried-small, carried-past}
 use Rattle.solar.proofs.Taken.{both, dateTaken, taken-is, hour-in-day}
 

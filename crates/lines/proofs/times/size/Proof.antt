@@ -18,7 +18,7 @@ returns c =
     let z = read w64 (t .args .days) (t .fits .days) in
     let a = c .before .above .ensures ∙ ap P z in
     let b = c .below .ensures ∙ ap N z in
-    cc
+    cc (instants.size-is (t .args .days))
 
 pub size-spec : {M : Type 1} → this.Statement.statement M
 size-spec = this.Tie.close (this.Tie.spec (λ c κs. search needs) (λ c κs. search needs) add-result returns)

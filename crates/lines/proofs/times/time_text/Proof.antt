@@ -1,9 +1,9 @@
-use Rattle.prelude.proofs.Logic.{_≡_, ap, _∙_, ℕ, _-_, _*_, _/_, _%_, ℤ, arith, lit<, needs, w64}
+use Rattle.prelude.proofs.Logic.{_≡_, ap, _∙_, ℕ, _-_, _*_, _/_, _%_, ℤ, natAbs, arith, lit<, needs, w64}
 use Rattle.integers.specs.Quotients.{floorRem}
 use Rattle.integers.proofs.QuotientLaws.{floored}
 use Rattle.integers.proofs.Ranges.{readBack, read}
 use Rattle.text.specs.Text.{digitOf}
-use Rattle.lines.specs.Lines.{daysOf, signOf, magnitudeOf, timeText}
+use Rattle.lines.specs.Lines.{daysOf, signOf, timeText}
 use Rattle.lines.proofs.times.time_text as this
 
 two-digits-requires : this.Tie.Need-two-digits-requires
@@ -26,7 +26,7 @@ returns c =
     let m : n / 60 - 60 * (n / 3600) ≡ n / 60 % 60 = omega arith in
     let k : n - 60 * (n / 60) ≡ n % 60 = omega arith in
     let sign = moment .ensures .0 ∙ ap signOf days in
-    let size = moment .ensures .1 ∙ ap (λ (z : ℤ). digitOf (magnitudeOf z)) days in
+    let size = moment .ensures .1 ∙ ap (λ (z : ℤ). digitOf (natAbs z)) days in
     let h0 = hour .ensures .0 ∙ ap (λ (i : ℕ). digitOf (i / 3600 / 10)) s in
     let h1 = hour .ensures .1 ∙ ap (λ (i : ℕ). digitOf (i / 3600)) s in
     let m0 = minute .ensures .0 ∙ ap (λ (i : ℕ). digitOf (i / 10)) (m ∙ ap (λ (i : ℕ). i / 60 % 60) s) in

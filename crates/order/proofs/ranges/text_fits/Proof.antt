@@ -1,11 +1,11 @@
 -- `order::ranges::text_fits` meets its contract. The invariant: what is left of the text decides as the whole does.
 use Rattle.prelude.proofs.Logic.{_≡_, sym, _∙_, _≤_, _-_, length, drop, needs, now}
-use Rattle.order.specs.Ranges.{textFits}
+use Rattle.text.specs.Text.{printable}
 use Rattle.order.proofs.Text.{byte-low, byte-high, byte-on, text-end}
 use Rattle.order.proofs.ranges.text_fits as this
 
 abbrev Inv-loop : this.Tie.InvT-loop
-Inv-loop bytes i₀ i = (i ≤ length bytes) × (textFits (drop i bytes) ≡ textFits bytes)
+Inv-loop bytes i₀ i = (i ≤ length bytes) × (printable (drop i bytes) ≡ printable bytes)
 
 abbrev μ-loop : this.Tie.MeasureT-loop
 μ-loop bytes i₀ i = length bytes - i
