@@ -9,12 +9,8 @@ returns c =
     let e1 = c .before .row .ensures in
     simp (sym e0, sym e1, lt-ltb _ _ (c .before .before .before .if1 .taken))
 
-returns-2 : this.Tie.Need-returns-2
-unfolding workRowOf
-returns-2 c =
-    let e0 = c .lacks-row .ensures in
-    simp (sym e0, le-ltb _ _ (c .before .if1 .left))
-
 pub work-row-spec : {M : Type 1} → this.Statement.statement M
+unfolding workRowOf
 work-row-spec =
+    let returns-2 : this.Tie.Need-returns-2 = λ c. let e0 = c .lacks-row .ensures in simp (sym e0, le-ltb _ _ (c .before .if1 .left)) in
     this.Tie.close (this.Tie.spec (λ c κs. tt) (λ c κs. tt) returns (λ c κs. tt) returns-2)

@@ -10,9 +10,6 @@ use Rattle.schedule.specs.Twilight.{nextDayOf, unadjustedFajrOf}
 use Rattle.schedule.proofs.Promises.{of-near}
 use Rattle.schedule.proofs.prayer_times.next_fajr as this
 
-add-result : this.Tie.Need-add-result
-add-result c = held-fits (held-sum (of-near (c .final-time .ensures) (lit≤ tt)) (constant 86400)) (lit≤ tt)
-
 returns : this.Tie.Need-returns
 unfolding fajrTomorrowOf
 returns c =
@@ -24,4 +21,6 @@ returns c =
     promised (held-as (stored (held-sum (of-near (c .final-time .ensures) (lit≤ tt)) (constant 86400)) (lit≤ tt)) (ap nextDayOf adjusted)) (lit≤ tt)
 
 pub next-fajr-spec : {M : Type 1} → this.Statement.statement M
-next-fajr-spec = this.Tie.close (this.Tie.spec (λ c κs. search needs) (λ c κs. search needs) (λ c κs. search needs) add-result returns)
+next-fajr-spec =
+    this.Tie.close (this.Tie.spec (λ c κs. search needs) (λ c κs. search needs) (λ c κs. search needs)
+    (λ c. held-fits (held-sum (of-near (c .final-time .ensures) (lit≤ tt)) (constant 86400)) (lit≤ tt)) returns)

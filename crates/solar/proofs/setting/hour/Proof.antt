@@ -18,11 +18,6 @@ returns c =
     let h : n < 2147483648 = search needs in
     ap At (cases.back n h) ∙ cases.on-hour (t .args .p) (t .args .minute) (c .before .if1 .taken) (c .if2 .taken)
 
-returns-2 : this.Tie.Need-returns-2
-unfolding hourOf
-returns-2 c =
-    simp (le-ltb _ _ (c .if2 .left), lt-ltb _ _ (c .before .if1 .taken))
-
 sub-t21 : this.Tie.Need-sub-t21
 sub-t21 c =
     let t = c .before .before in
@@ -37,12 +32,11 @@ returns-3 c =
     let h : n < 2147483648 = search needs in
     ap At (cases.back n h) ∙ cases.next-hour (t .args .p) (t .args .minute) (c .before .if1 .left) (c .if3 .taken)
 
-returns-4 : this.Tie.Need-returns-4
-unfolding hourOf
-returns-4 c =
-    simp (le-ltb _ _ (c .if3 .left), le-ltb _ _ (c .before .if1 .left))
-
 pub hour-spec : {M : Type 1} → this.Statement.statement M
+unfolding hourOf
 hour-spec =
-    this.Tie.close
-    (this.Tie.spec (λ c. search needs) (λ c. search needs) (λ c. search needs) (λ c. search needs) (λ c. search needs) (λ c. search needs) (λ c. search needs) sub-t15 returns returns-2 (λ c. search needs) (λ c. search needs) (λ c. search needs) (λ c. search needs) (λ c. search needs) (λ c. search needs) sub-t21 returns-3 returns-4)
+    let returns-2 : this.Tie.Need-returns-2 = λ c. simp (le-ltb _ _ (c .if2 .left), lt-ltb _ _ (c .before .if1 .taken)) in
+    let returns-4 : this.Tie.Need-returns-4 = λ c. simp (le-ltb _ _ (c .if3 .left), le-ltb _ _ (c .before .if1 .left)) in
+    this.Tie.close (this.Tie.spec (λ c. search needs) (λ c. search needs) (λ c. search needs) (λ c. search needs) (λ c. search needs)
+    (λ c. search needs) (λ c. search needs) sub-t15 returns returns-2 (λ c. search needs) (λ c. search needs) (λ c. search needs)
+    (λ c. search needs) (λ c. search needs) (λ c. search needs) sub-t21 returns-3 returns-4)
