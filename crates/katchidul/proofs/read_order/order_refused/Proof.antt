@@ -1,6 +1,5 @@
 use Rattle.katchidul.specs.Exports.{orderRefused}
-use lib.Ieee.{round, ofBits}
-use Rattle.float64.specs.Ops.{dec}
+use Rattle.float64.proofs.Floats.{round, ofBits, dec}
 use Rattle.katchidul.proofs.read_order.order_refused as this
 
 pub order-refused-spec : {M : Type 1} → this.Statement.statement M

@@ -1,7 +1,6 @@
 use Rattle.prelude.proofs.Logic.{needs, w64, SFits}
 use Rattle.integers.proofs.Ranges.{read}
-use lib.Ieee.{div, round, ofBits}
-use Rattle.float64.specs.Ops.{dec}
+use Rattle.float64.proofs.Floats.{div, round, ofBits, dec}
 use Rattle.night_portions.specs.Portions.{lastThirdOf}
 use Rattle.night_portions.proofs.portions.last_third as this
 

@@ -1,6 +1,5 @@
 -- `order::given::degrees_in` meets its contract.
-use lib.Ieee.{round, ofBits}
-use Rattle.float64.specs.Ops.{dec}
+use Rattle.float64.proofs.Floats.{round, ofBits, dec}
 use Rattle.prelude.proofs.Logic.{sym}
 use Rattle.order.specs.Given.{degreesIn}
 use Rattle.order.proofs.given.degrees_in as this

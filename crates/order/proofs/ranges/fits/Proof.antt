@@ -1,7 +1,6 @@
 -- `order::ranges::fits` meets its contract: a line for each row of the table.
 use Rattle.prelude.proofs.Logic.{ne-eqb}
-use lib.Ieee.{neg, ofBits, round}
-use Rattle.float64.specs.Ops.{dec}
+use Rattle.float64.proofs.Floats.{neg, ofBits, round, dec}
 use Rattle.order.specs.Ranges.{lookUp}
 use Rattle.order.proofs.ranges.fits as this
 

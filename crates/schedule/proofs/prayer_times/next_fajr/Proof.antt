@@ -5,9 +5,7 @@ use Rattle.models.specs.declared.prayer.Prayer.the-variants.{Fajr}
 use Rattle.models.specs.Settings.{timeAdjustmentsOf}
 use Rattle.stride.specs.Times.{adjustedOf}
 use Rattle.stride.proofs.TimesLaws.{none-stays}
-use Rattle.schedule.specs.Times.{fajrTomorrowOf}
-use Rattle.schedule.specs.Twilight.{nextDayOf, unadjustedFajrOf}
-use Rattle.schedule.proofs.Promises.{of-near}
+use Rattle.schedule.proofs.Schedule.{fajrTomorrowOf, nextDayOf, unadjustedFajrOf, of-near}
 use Rattle.schedule.proofs.prayer_times.next_fajr as this
 
 returns : this.Tie.Need-returns

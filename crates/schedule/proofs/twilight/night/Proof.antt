@@ -1,6 +1,5 @@
 use Rattle.prelude.proofs.Logic.{_+_, _^_, lit≤, pos, _+ℤ_, _-ℤ_, needs, w32, w64, SFits}
-use Rattle.integers.proofs.Ranges.{readBack, wide}
-use Rattle.integers.proofs.Held.{Held, constant, of-wide, held-sum, held-difference, held-fits, stored, promised}
+use Rattle.integers.proofs.Integers.{readBack, wide, Held, constant, of-wide, held-sum, held-difference, held-fits, stored, promised}
 use Rattle.schedule.specs.Twilight.{nightOf}
 use Rattle.schedule.proofs.twilight.night as this
 

@@ -1,6 +1,5 @@
 use Rattle.prelude.proofs.Logic.{lit≤, needs, w32, SFits}
-use Rattle.integers.proofs.Ranges.{wide}
-use Rattle.integers.proofs.Held.{of-i64, of-wide, held-as, promised}
+use Rattle.integers.proofs.Integers.{wide, of-i64, of-wide, held-as, promised}
 use Rattle.schedule.specs.Twilight.{orOf}
 use Rattle.schedule.proofs.twilight.or as this
 

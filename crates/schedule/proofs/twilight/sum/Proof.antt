@@ -1,6 +1,5 @@
 use Rattle.prelude.proofs.Logic.{lit≤}
-use Rattle.integers.proofs.Ranges.{wide}
-use Rattle.integers.proofs.Held.{of-wide, held-sum, held-fits, stored, promised}
+use Rattle.integers.proofs.Integers.{wide, of-wide, held-sum, held-fits, stored, promised}
 use Rattle.schedule.proofs.twilight.sum as this
 
 pub sum-spec : {M : Type 1} → this.Statement.statement M

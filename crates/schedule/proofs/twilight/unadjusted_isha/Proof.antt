@@ -1,8 +1,6 @@
 use Rattle.prelude.proofs.Logic.{lit≤, needs, w32, SFits}
-use Rattle.integers.proofs.Ranges.{read, wide}
-use Rattle.integers.proofs.Held.{of-wide, held-sum, held-product, held-as, held-fits, stored, promised}
-use Rattle.schedule.specs.Twilight.{unadjustedIshaOf}
-use Rattle.schedule.proofs.Promises.{of-near}
+use Rattle.integers.proofs.Integers.{read, wide, of-wide, held-sum, held-product, held-as, held-fits, stored, promised}
+use Rattle.schedule.proofs.Schedule.{unadjustedIshaOf, of-near}
 use Rattle.schedule.proofs.twilight.unadjusted_isha as this
 
 mul-result : this.Tie.Need-mul-result

@@ -1,5 +1,4 @@
-use lib.Ieee.{round, ofBits}
-use Rattle.float64.specs.Ops.{dec}
+use Rattle.float64.proofs.Floats.{round, ofBits, dec}
 use Rattle.solar.specs.Setting.{hourAdjustmentOf}
 use Rattle.prelude.proofs.Logic.{needs}
 use Rattle.solar.proofs.setting.hour_adjustment as this

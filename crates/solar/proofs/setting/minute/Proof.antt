@@ -1,6 +1,5 @@
 use Rattle.prelude.proofs.Logic.{sym, subst, T, needs}
-use lib.Ieee.{Float, binary64, round, ofBits, inUnsigned}
-use Rattle.float64.specs.Ops.{dec}
+use Rattle.float64.proofs.Floats.{Float, binary64, round, ofBits, inUnsigned, dec}
 use Rattle.solar.specs.Setting.{minuteOf}
 use Rattle.solar.proofs.OnTheDate.{minute-cast}
 use Rattle.solar.proofs.setting.minute as this

@@ -1,6 +1,5 @@
 use Rattle.prelude.proofs.Logic.{sym, needs}
-use lib.Ieee.{round, ofBits}
-use Rattle.float64.specs.Ops.{dec}
+use Rattle.float64.proofs.Floats.{round, ofBits, dec}
 use Rattle.solar.specs.Setting.{settingHourOf}
 use Rattle.solar.proofs.setting.setting_hour as this
 

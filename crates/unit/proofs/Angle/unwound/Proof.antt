@@ -1,6 +1,5 @@
 use Rattle.prelude.proofs.Logic.{_≡_, true, ap, needs}
-use denote.Floats.{passes}
-use lib.Ieee.{binary64, fits}
+use Rattle.float64.proofs.Floats.{binary64, fits, passes}
 use Rattle.unit.specs.Unit.{angleOf}
 use Rattle.unit.proofs.Turns.{unturned}
 use Rattle.unit.proofs.Angle.unwound as this

@@ -1,5 +1,4 @@
-use Rattle.schedule.specs.Hours.{hoursOf}
-use Rattle.schedule.specs.Times.{workedOf}
+use Rattle.schedule.proofs.Schedule.{hoursOf, workedOf}
 use Rattle.schedule.proofs.prayer_times.PrayerTimes.new as this
 
 pub new-spec : {M : Type 1} → this.Statement.statement M

@@ -1,6 +1,5 @@
 use Rattle.prelude.proofs.Logic.{sym, ap, _∙_, needs}
-use Rattle.schedule.specs.InForce.{followingCurrentOf}
-use Rattle.schedule.specs.declared.in_force.Current.the-variants.{Some}
+use Rattle.schedule.proofs.Schedule.{followingCurrentOf, Some}
 use Rattle.schedule.proofs.prayer_times.PrayerTimes.next as this
 
 returns : this.Tie.Need-returns

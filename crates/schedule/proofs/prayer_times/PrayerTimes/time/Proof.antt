@@ -1,6 +1,5 @@
 use Rattle.prelude.proofs.Logic.{needs, w64, SFits, toZ-ofZ}
-use Rattle.schedule.specs.InForce.{timeOf}
-use Rattle.schedule.specs.Times.{Each}
+use Rattle.schedule.proofs.Schedule.{timeOf, Each}
 use Rattle.schedule.proofs.prayer_times.PrayerTimes.time as this
 
 each : (t : this.Tie.Start) → Each (SFits w64) (t .args .self)
