@@ -1,6 +1,7 @@
 pub mod ByCount
 pub mod ByMonth
 pub mod ByOrdinal
+pub mod Calendar
 pub mod CalendarLaws
 pub mod Counting
 pub mod Existing

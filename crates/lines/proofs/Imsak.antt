@@ -1,10 +1,6 @@
 -- Imsak in the machine's numbers: 60 times a u32, and what is left of an instant. Assumes nothing.
 use Rattle.prelude.proofs.Logic.{_≡_, sym, ap, _∙_, true, false, ℕ, _*_, _^_, _<_, arith, ℤ, pos, _+ℤ_, _-ℤ_, _*ℤ_, ltZ, w64, SFits, toZ}
-use Rattle.integers.proofs.Intervals.{by-balance}
-use Rattle.integers.proofs.OrderLaws.{lt-yes, lt-no, to-le, to-not-le}
-use Rattle.integers.proofs.PartsLaws.{same}
-use Rattle.integers.proofs.Ranges.{range, fits, readBack, read}
-use Rattle.integers.proofs.Sums.{sum, difference, differences, times}
+use Rattle.integers.proofs.Integers.{by-balance, lt-yes, lt-no, to-le, to-not-le, same, range, fits, readBack, read, sum, difference, differences, times}
 use Rattle.integers.specs.Ends.{least64}
 use Rattle.lines.specs.Lines.{imsakOf}
 

@@ -1,10 +1,6 @@
 -- The days from a date to an instant, in the machine's numbers. Assumes nothing.
 use Rattle.prelude.proofs.Logic.{_≡_, refl, true, false, _+_, _/_, _^_, _<_, arith, ℤ, pos, negsuc, natAbs, _-ℤ_, ltZ, w64, SFits, Fits}
-use Rattle.integers.specs.Parts.{P, N}
-use Rattle.integers.proofs.Sums.{difference, times}
-use Rattle.integers.proofs.OrderLaws.{lt-yes, lt-no}
-use Rattle.integers.specs.Quotients.{floorQuot}
-use Rattle.integers.proofs.Ranges.{range, fits}
+use Rattle.integers.proofs.Integers.{P, N, difference, times, lt-yes, lt-no, floorQuot, range, fits}
 use Rattle.calendar.specs.Days.{dayNumberOf}
 use Rattle.calendar.specs.declared.dates.Date.{Date}
 use Rattle.schedule.proofs.Starts.{start-near}

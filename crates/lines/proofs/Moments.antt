@@ -1,13 +1,6 @@
 -- A time on the date or on a day beside it, in the machine's numbers. Assumes nothing.
 use Rattle.prelude.proofs.Logic.{_≡_, sym, ap, subst, _∙_, true, false, ℕ, _+_, _*_, _^_, _≤_, _<_, arith, lit<, T, ℤ, pos, negsuc, natAbs, _+ℤ_, _-ℤ_, _*ℤ_, ltZ, nonNeg, w32, w64, SFits, Fits}
-use Rattle.integers.specs.Parts.{P, N, Near}
-use Rattle.integers.specs.Quotients.{floorQuot, floorRem}
-use Rattle.integers.proofs.Intervals.{by-balance}
-use Rattle.integers.proofs.OrderLaws.{lt-yes, lt-no}
-use Rattle.integers.proofs.PartsLaws.{same, natural}
-use Rattle.integers.proofs.QuotientLaws.{floored}
-use Rattle.integers.proofs.Ranges.{fits, readBack, read}
-use Rattle.integers.proofs.Sums.{sum, difference, differences, times}
+use Rattle.integers.proofs.Integers.{P, N, Near, floorQuot, floorRem, by-balance, lt-yes, lt-no, same, natural, floored, fits, readBack, read, sum, difference, differences, times}
 use Rattle.calendar.specs.Days.{dayNumberOf}
 use Rattle.calendar.specs.declared.dates.Date.{Date}
 use Rattle.schedule.proofs.Starts.{start-near}

@@ -1,17 +1,9 @@
 -- What a caller may rely on once an order is read: its record is one of Accepted.antt. Assumes nothing.
-use Rattle.prelude.proofs.Logic.{_≡_, refl, sym, ap, subst, true, _&&_, _||_, List, ℕ, _+_, _-_, _≤_, _<_, arith, leb, lit≤, ℤ, pos, negsuc, _-ℤ_, getD, leZ, leb-true, eqb-true}
-use Rattle.prelude.proofs.Cases.{arms, cases, both}
-use lib.Ieee.{Float, neg, le, round}
-use Rattle.integers.specs.Parts.{P, N, Between, Near}
-use Rattle.integers.proofs.Intervals.{by-balance}
-use Rattle.integers.proofs.OrderLaws.{le-yes}
-use Rattle.integers.proofs.Sums.{difference}
-use Rattle.float64.specs.Ops.{dec}
-use Rattle.float64.specs.Ranges.{Inside}
+use Rattle.prelude.proofs.Logic.{_≡_, refl, sym, ap, subst, true, _&&_, _||_, List, ℕ, _+_, _-_, _≤_, _<_, arith, leb, lit≤, ℤ, pos, negsuc, _-ℤ_, getD, leZ, leb-true, eqb-true, arms, cases, both}
+use Rattle.float64.proofs.Floats.{Float, neg, le, round, dec, Inside}
+use Rattle.integers.proofs.Integers.{P, N, Between, Near, by-balance, le-yes, difference}
 use Rattle.calendar.specs.declared.dates.Date.{Date}
-use Rattle.calendar.specs.Gregorian.{existsOf}
-use Rattle.calendar.specs.Answers.{rowDateOf}
-use Rattle.calendar.specs.Days.{dayNumberOf}
+use Rattle.calendar.proofs.Calendar.{existsOf, rowDateOf, dayNumberOf}
 use Rattle.fields.specs.Numbers.{byteOf, unsignedOf, signedAtOf}
 use Rattle.fields.specs.Values.{Values, valuesOf}
 use Rattle.fields.specs.Tags.{lastTag}
@@ -20,15 +12,10 @@ use Rattle.hijri.specs.declared.ramadan.Ramadan.{Ramadan}
 use Rattle.map_form.specs.Hundredths.{signedHundredthsOf, degreesOf, formFits}
 use Rattle.map_form.proofs.Limits.{in-limits}
 use Rattle.map_form.proofs.RoundTrip.{read-in-range}
-use Rattle.models.specs.declared.adjustments.TimeAdjustment.{TimeAdjustment}
-use Rattle.models.specs.declared.method.Method.{Method}
+use Rattle.models.specs.declared.{adjustments.TimeAdjustment.TimeAdjustment, method.Method.Method, prayer.Prayer.Prayer}
 use Rattle.models.specs.declared.method.Method.the-variants.{MuslimWorldLeague, Egyptian, Karachi, UmmAlQura, Dubai, MoonsightingCommittee, NorthAmerica, Kuwait, Qatar, Singapore, Tehran, Turkey, Other}
-use Rattle.models.specs.declared.prayer.Prayer.{Prayer}
 use Rattle.models.specs.declared.prayer.Prayer.the-variants.{Fajr, Sunrise, Dhuhr, Asr, Maghrib, Isha, Qiyam, FajrTomorrow}
-use Rattle.models.specs.Minutes.{noMinutes}
-use Rattle.models.specs.Numbers.{methodOf}
-use Rattle.models.specs.Presets.{preset, presetOf}
-use Rattle.models.specs.Settings.{minutesFor}
+use Rattle.models.proofs.Models.{noMinutes, methodOf, preset, presetOf, minutesFor}
 use Rattle.order.specs.declared.reading.Order.{Order}
 use Rattle.order.specs.declared.reading.Reading.the-variants.{Read}
 use Rattle.order.specs.Given.{dateIn, rowsIn, degreesIn, formIn, coordinateIn, minutesIn, degreesOr, minutesOr, intervalOr, parametersIn, clockIn, ramadanGiven, ramadanIn}

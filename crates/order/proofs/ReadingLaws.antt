@@ -1,6 +1,5 @@
 -- What reading an order and refusing one say of the checks, and of the town. Assumes nothing.
-use Rattle.prelude.proofs.Logic.{_≡_, refl, sym, ap, subst, _∙_, Bool, true, false, not, _&&_, _||_, List, [], _∷_, ℕ, _+_, _-_, _≤_, _<_, arith, eqb, lit≤, length, getD, eqb-true, eqb-false}
-use Rattle.prelude.proofs.Cases.{arms, cases}
+use Rattle.prelude.proofs.Logic.{_≡_, refl, sym, ap, subst, _∙_, Bool, true, false, not, _&&_, _||_, List, [], _∷_, ℕ, _+_, _-_, _≤_, _<_, arith, eqb, lit≤, length, getD, eqb-true, eqb-false, arms, cases}
 use Rattle.calendar.specs.Days.{dayNumberOf}
 use Rattle.calendar.specs.declared.dates.Date.{Date}
 use Rattle.fields.specs.Fields.{checkOf}

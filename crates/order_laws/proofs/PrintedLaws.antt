@@ -1,24 +1,16 @@
 -- Times that lie by their date have days of one digit, and so has imsak. Assumes nothing.
 use Rattle.prelude.proofs.Logic.{_≡_, refl, sym, subst, Bool, true, false, cond, ℕ, zero, suc, _+_, _*_, _^_, _≤_, _<_, arith, T, ltb, lit<, ℤ, pos, negsuc, natAbs, _-ℤ_, _*ℤ_, getD, ltb-true}
 use Rattle.integers.specs.Ends.{least64}
-use Rattle.integers.specs.Parts.{P, N}
-use Rattle.integers.specs.Quotients.{floorQuot}
-use Rattle.integers.proofs.OrderLaws.{to-le}
-use Rattle.integers.proofs.QuotientLaws.{floored}
-use Rattle.integers.proofs.Sums.{difference, times}
-use Rattle.calendar.specs.Answers.{rowDateOf}
-use Rattle.calendar.specs.Days.{dayNumberOf}
+use Rattle.integers.proofs.Integers.{P, N, floorQuot, to-le, floored, difference, times}
+use Rattle.calendar.proofs.Calendar.{rowDateOf, dayNumberOf}
 use Rattle.calendar.specs.declared.dates.Date.{Date}
 use Rattle.calls.specs.Calls.{workRowOf}
 use Rattle.refusals.specs.Refusals.{refusal}
 use Rattle.lines.specs.Lines.{daysOf, nineOf, imsakOf}
 use Rattle.order.specs.Accepted.{Accepted}
 use Rattle.order.specs.declared.reading.Order.{Order}
-use Rattle.schedule.proofs.Starts.{start-near}
-use Rattle.schedule.specs.Numbers.{numbersOf}
-use Rattle.schedule.specs.Times.{startOf, seasonOf, workedAt}
-use Rattle.schedule.specs.declared.prayer_times.PrayerTimes.{PrayerTimes}
-use Rattle.schedule.specs.declared.prayer_times.Worked.{Worked}
+use Rattle.schedule.proofs.Schedule.{start-near, numbersOf, startOf, seasonOf, workedAt}
+use Rattle.schedule.specs.declared.{prayer_times.PrayerTimes.PrayerTimes, prayer_times.Worked.Worked}
 use Rattle.schedule.specs.declared.prayer_times.Worked.the-variants.{Times, Refused}
 use Rattle.schedule_laws.specs.Range.{OfDate, AllOfDate}
 use Rattle.schedule_laws.proofs.RangeLaws.{times-lie-by-their-date}

@@ -1,6 +1,5 @@
 -- The arrays and the list of jobs: `shown`, a list comes back from its arrays; what the parts of the code make, as lists. Assumes nothing.
-use Rattle.prelude.proofs.Logic.{_≡_, refl, sym, ap, _∙_, Bool, _||_, List, [], _∷_, _++_, map, ℕ, suc, _-_, _≤_, _<_, arith, ltb, eqb, lit≤, length, getD, set, replicate, length-append, length-map, slice, slice-cons, length-slice, take-at, ltb-true, ltb-false}
-use Rattle.prelude.proofs.Cases.{arms}
+use Rattle.prelude.proofs.Logic.{_≡_, refl, sym, ap, _∙_, Bool, _||_, List, [], _∷_, _++_, map, ℕ, suc, _-_, _≤_, _<_, arith, ltb, eqb, lit≤, length, getD, set, replicate, length-append, length-map, slice, slice-cons, length-slice, take-at, ltb-true, ltb-false, arms}
 use Rattle.queue.specs.declared.Queue.{Queue}
 use Rattle.queue.specs.Jobs.{Job, job, waits, atBack, mostJobs}
 use Rattle.queue.specs.Arrays.{counted, paired, jobsIn, jobsOf, padded, idOf, pagesOf, queueOf}

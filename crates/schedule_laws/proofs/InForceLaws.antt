@@ -1,17 +1,12 @@
 -- The prayer in force where no time is earlier and the instant is not after: what is due under the second is due under the first. Assumes nothing.
 use Rattle.prelude.proofs.Logic.{_≡_, refl, ap, Bool, true, false, cond, inl, inr, ⊎-elim, ℕ, zero, suc, _≤_, _<_, arith, eqb, eqb→eq, lit≤, ℤ, pos, negsuc, _+ℤ_, _-ℤ_, _*ℤ_, ltZ, eqb-true, eqb-false}
-use Rattle.integers.specs.Parts.{P, N}
-use Rattle.integers.proofs.PartsLaws.{same}
-use Rattle.integers.proofs.Sums.{sum, difference, times}
-use Rattle.integers.proofs.OrderLaws.{lt-yes, lt-no}
-use Rattle.integers.specs.Order.{_≼_}
+use Rattle.integers.proofs.Integers.{P, N, same, sum, difference, times, lt-yes, lt-no, _≼_}
 use Rattle.prelude.proofs.Computed.{at}
 use Rattle.models.specs.declared.prayer.Prayer.{Prayer}
 use Rattle.models.specs.declared.prayer.Prayer.the-variants.{Fajr, Sunrise, Dhuhr, Asr, Maghrib, Isha, Qiyam, FajrTomorrow}
 use Rattle.models.specs.Numbers.{prayerNumberOf, prayerOf}
-use Rattle.schedule.specs.declared.in_force.Instant.{Instant}
+use Rattle.schedule.specs.declared.{in_force.Instant.Instant, prayer_times.PrayerTimes.PrayerTimes}
 use Rattle.schedule.specs.declared.in_force.Current.the-variants.{Some}
-use Rattle.schedule.specs.declared.prayer_times.PrayerTimes.{PrayerTimes}
 use Rattle.schedule.specs.InForce.{timeOf, inSecond, nanosecondsOf, NotAfter, aheadOf, lastOf, currentTimeOf, currentNumberOf}
 use Rattle.schedule_laws.specs.Later.{NoneEarlier, NotAfterByNanoseconds}
 

@@ -1,8 +1,6 @@
 -- What the carried times are: where they lie, where they are document 01's, and what they are where it has none. Assumes nothing.
 use Rattle.prelude.proofs.Logic.{_≡_, refl, sym, ap, subst, _∙_, Bool, true, false, cond, ℕ, _+_, _*_, _≤_, _<_, arith, ltb, lit≤, ℤ, pos, _-ℤ_, ltb-true, ltb-false, lt-ltb, le-ltb}
-use lib.Ieee.{Float}
-use Rattle.float64.specs.Sizes.{isNormalOf}
-use Rattle.float64.specs.Whole.{floorOf}
+use Rattle.float64.proofs.Floats.{Float, isNormalOf, floorOf}
 use Rattle.solar.specs.declared.setting.SolarHour.{SolarHour}
 use Rattle.solar.specs.declared.setting.SolarHour.the-variants.{At, None}
 use Rattle.solar.specs.declared.setting.Placed.{Placed}

@@ -1,15 +1,9 @@
 -- Where the times of `setting_hour` lie: from 0h of yesterday to 24h of tomorrow, for every hour number that has a time. Assumes nothing.
 use Rattle.prelude.proofs.Logic.{_≡_, refl, Bool, true, false, cond, ℕ, _+_, _*_, _≤_, _<_, arith, ltb, lit≤, ℤ, pos, _-ℤ_, ltb-true}
-use lib.Ieee.{Float, lt}
-use Rattle.integers.specs.Parts.{Between}
-use Rattle.integers.proofs.Sums.{difference}
-use Rattle.integers.proofs.Intervals.{by-balance}
-use Rattle.float64.specs.Ops.{dec}
-use Rattle.float64.specs.Sizes.{isNormalOf}
-use Rattle.float64.specs.Whole.{floorOf}
-use Rattle.solar.specs.declared.setting.SolarHour.{SolarHour}
+use Rattle.float64.proofs.Floats.{Float, lt, dec, isNormalOf, floorOf}
+use Rattle.integers.proofs.Integers.{Between, difference, by-balance}
+use Rattle.solar.specs.declared.{setting.SolarHour.SolarHour, setting.Placed.Placed}
 use Rattle.solar.specs.declared.setting.SolarHour.the-variants.{At, None}
-use Rattle.solar.specs.declared.setting.Placed.{Placed}
 use Rattle.solar.specs.Setting.{hourAdjustmentOf, minuteOf, daySecondOf, sumOf, restOf, hourOf, settingHourOf}
 
 -- the earliest time of the sun, in seconds before 0h of its date, and the latest, which only a number that is carried past midnight comes to

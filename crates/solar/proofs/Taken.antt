@@ -1,16 +1,7 @@
 -- The date that an hour number takes, told by the number itself, and its hour in that date: for every number that has a time the hour is at
 -- most 23, so that the sum with minute 60 is at most 24. Assumes nothing.
 use Rattle.prelude.proofs.Logic.{_≡_, refl, sym, ap, subst, _∙_, Bool, true, false, cond, _&&_, _||_, true≢false, false≢true, ℕ, suc, _+_, _-_, _*_, _/_, _^_, _≤_, _<_, div-one, min-eq-left, div-add-mod', mod-lt, mul-one, mul-le-mul-right, lt-of-mul-lt-mul-right, div-lt-iff-lt-mul, arith, ltb, eqb, lit<, ℤ, pos, ltb-true, ltb-false, lt-ltb, le-ltb, eqb-true, eqb-false}
-use lib.Ieee.{Float, nan, inf, fin, binary64, up, down, round, ofInt, neg, sum, add, sub, le, lt, eq, toUnsigned}
-use lib.Ieee.Exact.{HasValue}
-use lib.Ieee.Back.{round-whole}
-use lib.Ieee.Scale.{round-same}
-use lib.Ieee.Fits.{down-pos}
-use Rattle.float64.specs.Ops.{dec}
-use Rattle.float64.specs.Whole.{floorOf, wholePart, fraction}
-use Rattle.float64.proofs.Values.{big, lt-values}
-use Rattle.float64.proofs.Exact.{sub-same}
-use Rattle.float64.proofs.WholeSizes.{whole-value}
+use Rattle.float64.proofs.Floats.{Float, nan, inf, fin, binary64, up, down, round, ofInt, neg, sum, add, sub, le, lt, eq, toUnsigned, HasValue, round-whole, round-same, down-pos, dec, floorOf, wholePart, fraction, big, lt-values, sub-same, whole-value}
 use Rattle.solar.specs.declared.setting.Placed.{Placed}
 use Rattle.solar.specs.Setting.{hourAdjustmentOf}
 use Rattle.solar.specs.PastMidnight.{hasTimeOf}

@@ -1,7 +1,5 @@
 use Rattle.prelude.proofs.Logic.{_≡_, ap, _∙_, ℤ, natAbs, arith, lit<, needs, w64}
-use Rattle.integers.specs.Quotients.{floorRem}
-use Rattle.integers.proofs.QuotientLaws.{floored}
-use Rattle.integers.proofs.Ranges.{readBack, read}
+use Rattle.integers.proofs.Integers.{floorRem, floored, readBack, read}
 use Rattle.text.specs.Text.{digitOf}
 use Rattle.lines.specs.Lines.{daysOf, signOf}
 use Rattle.lines.proofs.times.divided as this

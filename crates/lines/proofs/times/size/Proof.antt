@@ -1,7 +1,6 @@
 use Rattle.prelude.proofs.Logic.{sym, ap, subst, _∙_, ℕ, _+_, needs, w64, Fits}
-use Rattle.integers.proofs.Ranges.{read}
+use Rattle.integers.proofs.Integers.{read, P, N}
 use Rattle.lines.proofs.Instants as instants
-use Rattle.integers.specs.Parts.{P, N}
 use Rattle.lines.proofs.times.size as this
 
 add-result : this.Tie.Need-add-result

@@ -26,11 +26,9 @@ loop-again c =
     let e = byte-on (now (c .before .before .before .before .before .before .args .bytes)) (l .i) (c .before .before .before .before .loop-test .taken) (c .before .before .if1 .left) (c .if2 .left) in
     (search needs, sym e ∙ l .inv .1)
 
-returns-3 : this.Tie.Need-returns-3 Inv-loop μ-loop
-returns-3 c = sym (text-end (now (c .before .before .args .bytes)) (c .before .loop .i) (c .loop-test .left)) ∙ c .before .loop .inv .1
-
 pub text-fits-spec : {M : Type 1} → this.Statement.statement M
 text-fits-spec =
-    this.Tie.close
-    (this.Tie.spec Inv-loop μ-loop (λ c. search needs) (λ c. search needs) returns (λ c. search needs) returns-2 (λ c. search needs)
+    let returns-3 : this.Tie.Need-returns-3 Inv-loop μ-loop = λ c.
+    sym (text-end (now (c .before .before .args .bytes)) (c .before .loop .i) (c .loop-test .left)) ∙ c .before .loop .inv .1 in
+    this.Tie.close (this.Tie.spec Inv-loop μ-loop (λ c. search needs) (λ c. search needs) returns (λ c. search needs) returns-2 (λ c. search needs)
     (λ c. search needs) loop-again returns-3)
