@@ -40,7 +40,8 @@ pub struct Reduced {
     pub y1: f64,
 }
 
-// The high word of n * π/2, n from 1 to 32: fdlibm's npio2_hw[n - 1]. The first part of π/2 alone gives each of them.
+// The high word of n * π/2, n from 1 to 32: fdlibm's npio2_hw[n - 1]. The first part of π/2 alone gives each of them. 0 is taken as 1, and beyond
+// its end the row has 0.
 fn npio2(n: u32) -> u32
     ensures { λ r. ⌜ r ≡ npio2Of n ⌝ }
 {

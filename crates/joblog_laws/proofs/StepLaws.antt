@@ -40,11 +40,11 @@ abbrev pub Below : ℕ → List ℕ → Type 0
 Below n [] = Unit
 Below n (page ∷ pages) = (page ≤ n) × Below n pages
 
-below-has : (n : ℕ) (pages : List ℕ) (page : ℕ) → Below n pages → listed pages page ≡ true → page ≤ n
+below-listed : (n : ℕ) (pages : List ℕ) (page : ℕ) → Below n pages → listed pages page ≡ true → page ≤ n
 unfolding listed
-below-has n [] page b h = absurd (false≢true h)
-below-has n (p ∷ pages) page b h =
-    cases (eqb p page) (λ e. let q = eqb-true p page e in let l = b .0 in omega arith) (λ e. below-has n pages page (b .1) (rw e at h))
+below-listed n [] page b h = absurd (false≢true h)
+below-listed n (p ∷ pages) page b h =
+    cases (eqb p page) (λ e. let q = eqb-true p page e in let l = b .0 in omega arith) (λ e. below-listed n pages page (b .1) (rw e at h))
 
 below-more : (n m : ℕ) (pages : List ℕ) → n ≤ m → Below n pages → Below m pages
 below-more n m [] l b = tt
@@ -129,7 +129,7 @@ in-flight w i e = subst (Flight (i .base) (w .log) (w .used) (i .says) (length (
 may-append : (w : World) (i : Inv w) (tag page : ℕ) → mayAppend asRequested w tag page ≡ true → tag ≡ 2 → page ≤ length (w .finished)
 may-append w i tag page h two =
     let k = both (w .up) (cond (eqb tag 2) (listed (w .heard) page) true) h in
-    below-has (length (w .finished)) (w .heard) page (i .heard) (rw two at (k .1))
+    below-listed (length (w .finished)) (w .heard) page (i .heard) (rw two at (k .1))
 
 no-bytes : (log : List ℕ) (used : ℕ) (c : LogCall) (tag page : ℕ) → used ≤ length log → log ≡ cutLog log used c tag page 0
 no-bytes log used c tag page fits = arms (λ (x : List ℕ). log ≡ x) (inPlace c) (λ b. sym (put-nothing log (wholeOf used) (omega arith))) (λ b. refl)

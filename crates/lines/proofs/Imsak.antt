@@ -20,7 +20,7 @@ module _ (m : ℕ) (small : m < 2 ^ 32) where
   seconds : readBack w64 worked ≡ pos (60 * m)
   seconds = read w64 worked seconds-fit ∙ worked-is
 
-  -- the least64 Fajr that leaves an imsak
+  -- the earliest Fajr that leaves an imsak
   abbrev bound : ℤ
   bound = least64 +ℤ readBack w64 worked
 

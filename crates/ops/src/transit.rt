@@ -2,7 +2,7 @@
 // What several hour numbers of a day share is worked once: the sine and cosine of the latitude (Observer), the differences
 // of the interpolations and the products of the sines and of the cosines (Course).
 ghost use mathlib.Core.Path.{_≡_};
-ghost use Rattle.ops.specs.Transit.{altitudeOfCelestialBodyOf, westOf, approximateTransitOf, hourAngleAtOf, correctedTransitOf, correctedHourAngleOf};
+ghost use Rattle.ops.specs.Transit.{altitudeOfCelestialBodyOf, westOf, approximateTransitOf, correctedTransitOf, correctedHourAngleOf};
 ghost use Rattle.ops.specs.Shared.{observerOf, courseOf, hourAngleOf, movedTransitOf, courseTransitNumberOf, arcToSineOf, halfArcOf, hourNumberOf};
 use super::interpolation::Interpolation;
 use super::interpolation::interpolate_angles;

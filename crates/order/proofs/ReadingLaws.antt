@@ -3,7 +3,7 @@ use Rattle.prelude.proofs.Logic.{_≡_, refl, sym, ap, subst, _∙_, Bool, true
 use Rattle.calendar.specs.Days.{dayNumberOf}
 use Rattle.calendar.specs.declared.dates.Date.{Date}
 use Rattle.fields.specs.Fields.{checkOf}
-use Rattle.fields.specs.Tags.{lastTag}
+use Rattle.fields.specs.Tags.{lastTag, longestTown}
 use Rattle.fields.specs.Values.{offsetOf, hasOf, valueOf, valueStartOf, partIn, Values, valuesOf}
 use Rattle.fields.proofs.FieldsLaws.{check-small, value-fits, fits-between}
 use Rattle.fields.proofs.Collecting.{part-same}
@@ -123,7 +123,7 @@ pub record Town (s town : List ℕ) (order : Order) : Type 0 where
   pub part : town ≡ partIn s (order .town)
   pub begins : order .town .at ≡ offsetOf s 1 + 3
   pub long : order .town .length ≡ length town
-  pub size : (1 ≤ length town) × (length town ≤ 40)
+  pub size : (1 ≤ length town) × (length town ≤ longestTown)
   pub text : printable town ≡ true
 
 town-of : (s : List ℕ) (order : Order) → Passed s order → Town s (valueOf s 1) order

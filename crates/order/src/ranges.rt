@@ -29,7 +29,7 @@ const LAST_YEAR: u32 = 2199;
 // Rows whose number has one byte, as every order had them once.
 const MOST_IN_ONE_BYTE: u32 = 250;
 
-const RAMADAN_ROWS: u32 = 30;
+const MONTH_ROWS: u32 = 30;
 
 const MOST_IMSAK: u32 = 30;
 
@@ -132,7 +132,7 @@ fn ramadan_rows(set: bool, bytes: &[u8]) -> bool
     ensures { λ r. ⌜ r ≡ ramadanRows set (now (bytes .entry)) ⌝ }
 {
     if set {
-        return rows_in(bytes) == RAMADAN_ROWS;
+        return rows_in(bytes) == MONTH_ROWS;
     }
     true
 }

@@ -1,4 +1,4 @@
--- Parts of lists, padded with zeros: what the loops of `part` and `is_among` keep. Assumes nothing.
+-- Parts of lists, padded with zeros: what the loops of `part` and `is_listed` keep. Assumes nothing.
 use Rattle.prelude.proofs.Logic.{_≡_, sym, _∙_, _||_, List, [], _∷_, _++_, append-assoc, ℕ, suc, _+_, _-_, _≤_, _<_, add-one, arith, eqb, length, getD, take, set, replicate, length-append, slice, slice-cons, length-slice, take-suc, drop-append-le, length-take-le, set-append-seam}
 use Rattle.queue.specs.Arrays.{padded}
 use Rattle.prelude.specs.Lists.{listed}

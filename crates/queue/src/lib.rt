@@ -50,7 +50,7 @@ fn in_range(id: u32, pages: u32) -> bool
     (1 <= id) & (id <= MOST_ID) & (1 <= pages) & (pages <= MOST_PAGES)
 }
 
-fn is_among(ids: [u32; MOST_JOBS], n: usize, id: u32) -> bool
+fn is_listed(ids: [u32; MOST_JOBS], n: usize, id: u32) -> bool
     requires { ⌜ n ≤ mostJobs ⌝ }
     ensures { λ r. ⌜ r ≡ listed (slice 0 n ids) id ⌝ }
 {
@@ -110,7 +110,7 @@ fn judge(queue: Queue, id: u32, pages: u32) -> Refusal
     let n = count(queue.jobs);
     let ids = queue.ids;
     if in_range(id, pages) {
-        if is_among(ids, n, id) {
+        if is_listed(ids, n, id) {
             return Refusal::new(JOB_UNFIT, id);
         }
         if n < MOST_JOBS {

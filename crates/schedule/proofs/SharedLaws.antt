@@ -17,11 +17,11 @@ use Rattle.schedule.specs.Sines.{twilightSinesOf}
 
 -- ---- a number from the angle's sine is the angle's
 module _ (p : Parameters) (latitude : Float) (c : Course) where
-  fajr-by-sine : fajrNumberOf p latitude (courseSineNumberOf c (twilightSinesOf p .fajr)) ≡ fajrNumberOf p latitude (courseAngleNumberOf c)
+  pub fajr-by-sine : fajrNumberOf p latitude (courseSineNumberOf c (twilightSinesOf p .fajr)) ≡ fajrNumberOf p latitude (courseAngleNumberOf c)
   unfolding fajrNumberOf courseSineNumberOf courseAngleNumberOf halfArcOf
   fajr-by-sine = refl
 
-  isha-by-sine : ishaNumberOf p latitude (courseSineNumberOf c (twilightSinesOf p .isha)) ≡ ishaNumberOf p latitude (courseAngleNumberOf c)
+  pub isha-by-sine : ishaNumberOf p latitude (courseSineNumberOf c (twilightSinesOf p .isha)) ≡ ishaNumberOf p latitude (courseAngleNumberOf c)
   unfolding ishaNumberOf courseSineNumberOf courseAngleNumberOf halfArcOf
   isha-by-sine = refl
 

@@ -1,5 +1,5 @@
 -- The nearest minute where minutes and seconds both lie between 0 and 60: the whole minutes, and one more from 30 seconds on. Assumes nothing.
-use Rattle.prelude.proofs.Logic.{_≡_, refl, sym, ap, _∙_, Bool, true, false, not, ℕ, _+_, _*_, _^_, _<_, div-lt-iff-lt-mul, arith, T, ltb, eqb, eqb→eq, le→leb, lit<, boolByte}
+use Rattle.prelude.proofs.Logic.{_≡_, refl, sym, _∙_, Bool, true, false, not, ℕ, _+_, _*_, _^_, _<_, div-lt-iff-lt-mul, arith, T, ltb, eqb, eqb→eq, le→leb, lit<, boolByte}
 use lib.Ieee.{Float, fin, binary64, up, down, round, add, div, ofInt, inUnsigned, inFloat, toUnsigned, fits, lt}
 use lib.Ieee.Back.{unsigned-back}
 use lib.Ieee.Exact.{HasValue}

@@ -1,7 +1,7 @@
 -- An hour number above 1 and below 24 is normal, and its floored hours are placed on the date, a whole number that a cast takes as it is. Assumes
 -- nothing.
-use Rattle.prelude.proofs.Logic.{_≡_, refl, sym, ap, _∙_, Bool, true, false, cond, true≢false, false≢true, ℕ, _+_, _*_, _/_, _%_, _^_, _≤_, _<_, mul-div-cancel, mul-le-mul-left, div-add-mod', div-lt-iff-lt-mul, arith, T, ltb, eqb, lit<, ℤ, pow-pos, ltb-true, le-ltb, lt-ltb, le-leb, eqb-true}
-use Rattle.float64.proofs.Floats.{Float, nan, inf, fin, binary64, up, down, round, ofInt, whole, inUnsigned, toUnsigned, lt, HasValue, round-whole, down-pos, dec, isNormalOf, floorOf, roundOf, wholePart, fraction, halfUp, lt-values}
+use Rattle.prelude.proofs.Logic.{_≡_, refl, sym, ap, _∙_, true, false, true≢false, false≢true, ℕ, _*_, _/_, _%_, _^_, _≤_, _<_, mul-div-cancel, mul-le-mul-left, div-add-mod', div-lt-iff-lt-mul, arith, T, lit<, ℤ, pow-pos, ltb-true, le-ltb, lt-ltb, le-leb}
+use Rattle.float64.proofs.Floats.{Float, nan, inf, fin, binary64, up, down, round, whole, inUnsigned, toUnsigned, lt, HasValue, down-pos, dec, isNormalOf, floorOf, wholePart, lt-values}
 use Rattle.solar.specs.Setting.{hourAdjustmentOf}
 use Rattle.solar.proofs.Taken.{zero-value, day-value, floor-up}
 

@@ -1,5 +1,5 @@
 -- What the carried times are: where they lie, where they are document 01's, and what they are where it has none. Assumes nothing.
-use Rattle.prelude.proofs.Logic.{_≡_, refl, sym, ap, subst, _∙_, Bool, true, false, cond, ℕ, _+_, _*_, _≤_, _<_, arith, ltb, lit≤, ℤ, pos, _-ℤ_, ltb-true, ltb-false, lt-ltb, le-ltb}
+use Rattle.prelude.proofs.Logic.{_≡_, refl, sym, ap, subst, _∙_, Bool, true, false, cond, ℕ, _+_, _*_, _≤_, arith, ltb, lit≤, ℤ, pos, ltb-true}
 use Rattle.float64.proofs.Floats.{Float, isNormalOf, floorOf}
 use Rattle.solar.specs.declared.setting.SolarHour.{SolarHour}
 use Rattle.solar.specs.declared.setting.SolarHour.the-variants.{At, None}

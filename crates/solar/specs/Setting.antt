@@ -31,14 +31,14 @@ minuteOf value hours =
 abbrev pub daySecondOf : ℕ → ℕ → ℕ → ℤ
 daySecondOf day hour minute = pos (day * 86400 + hour * 3600 + minute * 60) -ℤ pos 86400
 
--- minute 60 adds an hour, and leaves minute 0
+-- "minute 60 adds an hour to the hour found", and leaves minute 0
 abbrev pub sumOf : ℕ → ℕ → ℕ
 sumOf hour minute = cond (ltb minute 60) hour (hour + 1)
 
 abbrev pub restOf : ℕ → ℕ
 restOf minute = cond (ltb minute 60) minute 0
 
--- a sum of 24 or more has no time
+-- "and a sum of 24 or more has no time"
 unfoldable pub hourOf : Placed → ℕ → SolarHour
 hourOf p minute =
     let hour = sumOf (p .hour) minute in

@@ -21,8 +21,8 @@ pub struct HourNumbers {
     pub sunset: f64,
 }
 
-// The sine of the altitude below, as `sin` gives it.
-const SOLAR_ALTITUDE_SINE: f64 = -0.014543897651582656;
+// The sine of the altitude below, as `sin` gives it (proofs/AltitudeSine.antt).
+const SOLAR_ALTITUDE_SINE: f64 = -0.014543897651582656; // 0xbf8dc930 e628cb24
 
 // The altitude of the sun's center at sunrise and sunset.
 fn solar_altitude() -> Angle

@@ -43,8 +43,8 @@ pub fn hour_adjustment(calculated_hours: f64) -> Placed
     }
 }
 
-// The nearest minute. The floored seconds can be -1, so all of this stays in floats. Where minutes and seconds both lie between 0 and 60, which is
-// nearly always, there is one minute more from 30 seconds on, and nothing is divided and rounded to find it.
+// The nearest minute. Where minutes and seconds both lie between 0 and 60, which is nearly always, there is one minute more from 30 seconds on, and
+// nothing is divided and rounded to find it. Elsewhere all stays in floats, since the floored seconds can be -1.
 pub(crate) fn minute(value: f64, calculated_hours: f64) -> u32
     ensures { λ r. ⌜ r ≡ minuteOf value «calculated_hours» ⌝ }
 {

@@ -1,4 +1,4 @@
-use Rattle.prelude.proofs.Logic.{_≡_, sym, _∙_, Bool, ℕ, zero, suc, refl, _≤_, _<_, _-_, arith, T, eqb, eqb→eq, pos, needs, List·getD-eq-default}
+use Rattle.prelude.proofs.Logic.{_≡_, sym, _∙_, Bool, ℕ, zero, suc, _≤_, _<_, _-_, arith, T, eqb, eqb→eq, pos, needs, List·getD-eq-default}
 use Rattle.prelude.proofs.Computed.{below, at}
 use Rattle.float64.proofs.Floats.{binary64, round, ofInt, ofBits, mul, toBits, highOf, _*ᶠ_}
 use Rattle.fdlibm_trig.specs.RemPio2.{npio2Of, npio2, pio2-1}

@@ -1,7 +1,7 @@
 use Rattle.prelude.proofs.Logic.{_≡_, sym, _∙_, _≤_, _-_, arith, length, slice, slice-empty, needs, eq-eqb, ne-eqb}
 use Rattle.queue.proofs.Lists.{listed-first}
 use Rattle.prelude.specs.Lists.{listed}
-use Rattle.queue.proofs.is_among as this
+use Rattle.queue.proofs.is_listed as this
 
 abbrev Inv-loop : this.Tie.InvT-loop
 Inv-loop n id ids i₀ i = (i ≤ n) × (listed (slice 0 n ids) id ≡ listed (slice i n ids) id)
@@ -35,8 +35,8 @@ returns-2 c =
     let e : i ≡ start .args .n = omega arith in
     sym (c .before .loop .inv .1 ∙ rw (e, slice-empty))
 
-pub is-among-spec : {M : Type 1} → this.Statement.statement M
-is-among-spec =
+pub is-listed-spec : {M : Type 1} → this.Statement.statement M
+is-listed-spec =
     this.Tie.close
     (this.Tie.spec Inv-loop μ-loop (λ c. search needs) (λ c. search needs) (λ c. search needs) returns (λ c. search needs) (λ c. search needs)
     loop-again returns-2)
