@@ -16,7 +16,7 @@ use Rattle.models.specs.declared.prayer.Prayer.{Prayer}
 use Rattle.models.specs.Presets.{presetOf}
 use Rattle.models.specs.Settings.{minutesFor}
 use Rattle.order.specs.declared.reading.Order.{Order}
-use Rattle.order.specs.Ranges.{firstYear, lastYear, mostRows, mostImsak, monthRows}
+use Rattle.order.specs.Ranges.{firstYear, lastYear, mostRows, mostImsak, rowsOfRamadan}
 
 -- a date of the calendar, from 1900-01-01 to 2199-12-31
 pub record DateInOrder (date : Date) : Type 0 where
@@ -26,7 +26,7 @@ pub record DateInOrder (date : Date) : Type 0 where
 
 -- what "tag 20 set" asks of an order: "thirty rows", from "the shifted 1 Ramadan" on
 pub record RamadanSheet (order : Order) : Type 0 where
-  pub rows : order .rows ≡ monthRows
+  pub rows : order .rows ≡ rowsOfRamadan
   pub start : ramadanStartOf (dayNumberOf (order .date)) (order .ramadan .shift) ≡ true
 
 pub record Accepted (order : Order) : Type 0 where

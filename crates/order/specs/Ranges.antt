@@ -71,12 +71,12 @@ mostImsak = 30
 unfoldable pub ramadanFits : List ℕ → Bool
 ramadanFits v = leb (byteOf v 0) mostImsak && leb (byteOf v 1) 2
 
-abbrev pub monthRows : ℕ
-monthRows = 30
+abbrev pub rowsOfRamadan : ℕ
+rowsOfRamadan = 30
 
 -- and so are "rows other than 30 (with tag 3's range, place 3)", where tag 20 is set
 unfoldable pub ramadanRows : Bool → List ℕ → Bool
-ramadanRows set v = cond set (eqb (rowsIn v) monthRows) true
+ramadanRows set v = cond set (eqb (rowsIn v) rowsOfRamadan) true
 
 -- the ranges by tag of a value, beside those of a choice's number, which stand in the table of tags: rows go by the order's date too, and by whether
 -- it has tag 20
