@@ -1,9 +1,6 @@
 -- The minute of the day by the clock, from what is left of both within the day. Assumes nothing.
 use Rattle.prelude.proofs.Logic.{_≡_, sym, ap, subst, _∙_, _+_, _/_, _%_, arith, ℤ, pos, _+ℤ_, _*ℤ_, w32, w64, SFits}
-use Rattle.integers.proofs.QuotientLaws.{floored}
-use Rattle.integers.proofs.Ranges.{range, fits, readBack, read, read-wide}
-use Rattle.integers.proofs.Sums.{sum, times}
-use Rattle.integers.specs.Quotients.{floorQuot, floorRem}
+use Rattle.integers.proofs.Integers.{floored, range, fits, readBack, read, read-wide, sum, times, floorQuot, floorRem}
 use Rattle.braille.specs.Cells.{clockMinuteOf}
 
 -- the clock in seconds, as the machine reads it

@@ -1,8 +1,8 @@
 pub mod ByCount
 pub mod ByMonth
 pub mod ByOrdinal
+pub mod Calendar
 pub mod CalendarLaws
-pub mod Computed
 pub mod Counting
 pub mod Existing
 pub mod Floors

@@ -2,7 +2,7 @@
 use Rattle.prelude.proofs.Logic.{_≡_, refl, sym, Bool, true, false, cond, not, _&&_, _||_, ℕ, zero, suc, _+_, _-_, _/_, _≤_, _<_, arith, T, eqb, ltb, leb, eqb→eq, leb→le, ltb→lt, le→leb, lit≤, List·getD-eq-default, ltb-true, ltb-false, and-l, and-r, cases, Others, beyond}
 use Rattle.calendar.specs.Gregorian.{lengthsOf, lengthOf}
 use Rattle.calendar.specs.Days.{monthStartsOf, daysBeforeOf, countBelow, monthOf}
-use Rattle.calendar.proofs.Computed.{below, at, tested, when}
+use Rattle.prelude.proofs.Computed.{below, at, tested, when}
 
 -- a year is short
 pub year-short : (leap : Bool) → cond leap 366 365 ≤ 366

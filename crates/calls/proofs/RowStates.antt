@@ -1,9 +1,7 @@
 -- The suns that roll over the rows of an order are those of each row's date, and give each row's day. Assumes nothing.
 use Rattle.prelude.proofs.Logic.{_≡_, sym, ap, _∙_, ℕ, _+_, _<_, arith, lt-ltb}
-use Rattle.calendar.specs.Answers.{rowDateOf}
+use Rattle.calendar.proofs.Calendar.{rowDateOf, row-first, row-is, row-tomorrow}
 use Rattle.calendar.specs.declared.dates.Date.{Date}
-use Rattle.calendar.proofs.CalendarLaws.{row-first}
-use Rattle.calendar.proofs.Successors.{row-is, row-tomorrow}
 use Rattle.order.specs.Accepted.{Accepted}
 use Rattle.order.proofs.RowDates.{row-year}
 use Rattle.order.specs.declared.reading.Order.{Order}

@@ -40,47 +40,18 @@ pub struct Reduced {
     pub y1: f64,
 }
 
-// The high word of n * π/2, n from 1 to 32: fdlibm's npio2_hw[n - 1]. As the arms of a `match` the row is read where it stands; an array's elements
-// would be stored anew at each use.
+// The high word of n * π/2, n from 1 to 32: fdlibm's npio2_hw[n - 1]. The first part of π/2 alone gives each of them. 0 is taken as 1, and beyond
+// its end the row has 0.
 fn npio2(n: u32) -> u32
     ensures { λ r. ⌜ r ≡ npio2Of n ⌝ }
 {
-    match n {
-        0 => 0x3ff9_21fb,
-        1 => 0x3ff9_21fb,
-        2 => 0x4009_21fb,
-        3 => 0x4012_d97c,
-        4 => 0x4019_21fb,
-        5 => 0x401f_6a7a,
-        6 => 0x4022_d97c,
-        7 => 0x4025_fdbb,
-        8 => 0x4029_21fb,
-        9 => 0x402c_463a,
-        10 => 0x402f_6a7a,
-        11 => 0x4031_475c,
-        12 => 0x4032_d97c,
-        13 => 0x4034_6b9c,
-        14 => 0x4035_fdbb,
-        15 => 0x4037_8fdb,
-        16 => 0x4039_21fb,
-        17 => 0x403a_b41b,
-        18 => 0x403c_463a,
-        19 => 0x403d_d85a,
-        20 => 0x403f_6a7a,
-        21 => 0x4040_7e4c,
-        22 => 0x4041_475c,
-        23 => 0x4042_106c,
-        24 => 0x4042_d97c,
-        25 => 0x4043_a28c,
-        26 => 0x4044_6b9c,
-        27 => 0x4045_34ac,
-        28 => 0x4045_fdbb,
-        29 => 0x4046_c6cb,
-        30 => 0x4047_8fdb,
-        31 => 0x4048_58eb,
-        32 => 0x4049_21fb,
-        _ => 0,
+    if n == 0 {
+        return 0x3ff9_21fb;
     }
+    if n <= 32 {
+        return high_word(n as f64 * PIO2_1);
+    }
+    0
 }
 
 // The field of y's exponent.

@@ -3,8 +3,7 @@
 use Rattle.prelude.proofs.Logic.{_≡_, refl, sym, ap, _∙_, Bool, true, false, lt-of-not-le, List, ℕ, zero, suc, _≤_, _<_, _+_, _-_, arith, ltb, eqb, length, take, drop, getD, set, replicate, getD-replicate, length-set, List·getD-eq-default, take-append-drop, ext-getD, getD-set-same, getD-set-other, take-append-seam, lt-ltb, le-ltb, eq-eqb, ne-eqb, ltb-true, ltb-false, eqb-true, eqb-false, cases, either}
 use Rattle.refusals.specs.Refusals.{refusal, noRefusal}
 use Rattle.refusals.specs.declared.Refusal.{Refusal}
-use Rattle.fields.specs.declared.values.Checked.{Checked}
-use Rattle.fields.specs.declared.values.Fields.{Fields}
+use Rattle.fields.specs.declared.{values.Checked.Checked, values.Fields.Fields}
 use Rattle.fields.specs.Numbers.{byteOf, unsignedOf}
 use Rattle.fields.specs.Tags.{tags, knownTag}
 use Rattle.fields.specs.Fields.{lengthAt, nextFieldAt, firstBefore, faultIn, faultOf, walkOf, checkOf}

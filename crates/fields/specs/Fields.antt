@@ -58,7 +58,10 @@ walkOf zero s at = noRefusal
 walkOf (suc k) s at =
     cond (ltb at (length s)) (cond (eqb (faultOf s at) 0) (walkOf k s (nextFieldAt s at)) (refusal (faultOf s at) at)) noRefusal
 
+abbrev pub longestOrder : ℕ
+longestOrder = 1024
+
 -- "Order of checks: length over 1,024; then field by field"; 1 is "over 1,024 bytes, or a field cut", 2 "unknown tag, wrong length",
 -- 3 "tag a second time", each with "its offset, or 0". Number and place are 0 where nothing is refused.
 unfoldable pub checkOf : List ℕ → Refusal
-checkOf s = cond (ltb 1024 (length s)) (refusal fieldCut 0) (walkOf (length s) s 0)
+checkOf s = cond (ltb longestOrder (length s)) (refusal fieldCut 0) (walkOf (length s) s 0)

@@ -5,6 +5,10 @@ use mathlib.Core.List.{List, [], _∷_}
 use lib.Dec.{leb}
 use lib.ListN.{length, getD}
 
+-- "town, 1 to 40 bytes"
+abbrev pub longestTown : ℕ
+longestTown = 40
+
 abbrev pub row : ℕ → ℕ → ℕ → ℕ → List ℕ
 row shortest longest lowest highest = shortest ∷ longest ∷ lowest ∷ highest ∷ []
 
@@ -15,7 +19,7 @@ abbrev pub tags : List (List ℕ)
 tags =
     row 1 0 1 0
     -- 1, 2, 3: town, date, rows
-    ∷ row 1 40 0 0
+    ∷ row 1 longestTown 0 0
     ∷ row 4 4 0 0
     ∷ row 1 2 0 0
     -- 4, 5: latitude, longitude

@@ -5,6 +5,7 @@ ghost use Prim.Native.Nat.{_≤_};
 ghost use lib.Dec.{ltb};
 ghost use lib.ListN.{length, getD};
 ghost use Rattle.refusals.specs.Refusals.{refusal};
+ghost use Rattle.fields.specs.Fields.{longestOrder};
 ghost use Rattle.fields.specs.Values.{noFields, checkedOf};
 use super::faults::LONGEST_ORDER;
 use super::faults::fault;
@@ -37,7 +38,7 @@ fn stands(starts: &[u16], tag: u32) -> bool
 }
 
 fn pass(order: &[u8]) -> Checked
-    requires { ⌜ length (now order) ≤ 1024 ⌝ }
+    requires { ⌜ length (now order) ≤ longestOrder ⌝ }
     ensures { λ r. ⌜ r ≡ checkedOf (now (order .entry)) ⌝ }
 {
     let mut starts = [0u16; TAGS];

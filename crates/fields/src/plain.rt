@@ -3,7 +3,7 @@
 ghost use mathlib.Core.Path.{_≡_};
 ghost use Prim.Native.Nat.{_≤_, _<_};
 ghost use lib.ListN.{length};
-ghost use Rattle.fields.specs.Fields.{lengthAt, firstBefore, faultOf, walkOf, checkOf};
+ghost use Rattle.fields.specs.Fields.{longestOrder, lengthAt, firstBefore, faultOf, walkOf, checkOf};
 ghost use Rattle.fields.specs.Values.{fieldsOf, checkedOf};
 use super::faults::LONGEST_ORDER;
 use super::faults::fault;
@@ -50,7 +50,7 @@ fn fault_at(order: &[u8], at: usize) -> u32
 }
 
 fn walk(order: &[u8]) -> Refusal
-    requires { ⌜ length (now order) ≤ 1024 ⌝ }
+    requires { ⌜ length (now order) ≤ longestOrder ⌝ }
     ensures { λ r. ⌜ r ≡ walkOf (length (now (order .entry))) (now (order .entry)) 0 ⌝ }
 {
     let mut at = 0;

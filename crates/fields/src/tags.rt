@@ -7,6 +7,8 @@ pub const LAST_TAG: u32 = 20;
 // There is no tag 0, but a row stands for it.
 pub const TAGS: usize = LAST_TAG as usize + 1;
 
+pub const LONGEST_TOWN: u32 = 40;
+
 // The shortest and the longest value of a tag, and the lowest and the highest number where the value is one byte that chooses.
 struct Row {
     shortest: u32,
@@ -35,7 +37,7 @@ fn row_of(tag: u32) -> Row
     match tag {
         0 => Row::new(1, 0, 1, 0),
         // Town, date, rows.
-        1 => Row::new(1, 40, 0, 0),
+        1 => Row::new(1, LONGEST_TOWN, 0, 0),
         2 => Row::new(4, 4, 0, 0),
         3 => Row::new(1, 2, 0, 0),
         // Latitude, longitude.

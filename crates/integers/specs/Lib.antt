@@ -1,3 +1,4 @@
 pub mod Parts
 pub mod Order
 pub mod Quotients
+pub mod Ends

@@ -1,6 +1,5 @@
 -- What the calls' definitions are under the tests that the code makes. Assumes nothing.
-use Rattle.prelude.proofs.Logic.{_≡_, refl, ap, _∙_, Bool, true, false, cond, _&&_, List, [], _++_, ℕ, _+_, _-_, _*_, _≤_, _<_, arith, eqb, leb, length, take, length-append, le-leb, lt-leb, leb-true, eqb-true}
-use Rattle.prelude.proofs.Cases.{cases, both}
+use Rattle.prelude.proofs.Logic.{_≡_, refl, ap, _∙_, Bool, true, false, cond, _&&_, List, [], _++_, ℕ, _+_, _-_, _*_, _≤_, _<_, arith, eqb, leb, length, take, length-append, le-leb, lt-leb, leb-true, eqb-true, cases, both}
 use Rattle.refusals.specs.Refusals.{bufferShort, logSecondShort, logOutOfTurn}
 use Rattle.text.specs.Text.{putOf}
 use Rattle.text.proofs.TextLaws.{put-behind}

@@ -1,6 +1,5 @@
 -- Compaction, put record by record. Assumes nothing.
-use Rattle.prelude.proofs.Logic.{_≡_, refl, sym, ap, _∙_, List, _++_, append-assoc, append-nil, ℕ, zero, suc, _+_, _-_, _*_, _≤_, _<_, arith, leb, length, length-append, length-drop, length-take-le, lt-leb, leb-true}
-use Rattle.prelude.proofs.Cases.{arms}
+use Rattle.prelude.proofs.Logic.{_≡_, refl, sym, ap, _∙_, List, _++_, append-assoc, append-nil, ℕ, zero, suc, _+_, _-_, _*_, _≤_, _<_, arith, leb, length, length-append, length-drop, length-take-le, lt-leb, leb-true, arms}
 use Rattle.text.specs.Text.{putOf}
 use Rattle.text.proofs.TextLaws.{put-behind, put-nothing}
 use Rattle.joblog.specs.declared.records.State.{State}

@@ -1,7 +1,6 @@
 -- What a single call leaves of both buffers, and a cut at any byte of an append. Assumes nothing.
-use Rattle.prelude.proofs.Logic.{_≡_, refl, sym, ap, _∙_, Bool, true, false, cond, _&&_, List, _++_, ℕ, _+_, _-_, _*_, _≤_, _<_, arith, leb, ltb, eqb, length, take, drop, length-append, drop-append-add, drop-drop, length-take-le, le-leb, leb-true, leb-false, ltb-true, ltb-false}
+use Rattle.prelude.proofs.Logic.{_≡_, refl, sym, ap, _∙_, Bool, true, false, cond, _&&_, List, _++_, ℕ, _+_, _-_, _*_, _≤_, _<_, arith, leb, ltb, eqb, length, take, drop, length-append, drop-append-add, drop-drop, length-take-le, le-leb, leb-true, leb-false, ltb-true, ltb-false, arms}
 use Rattle.refusals.specs.Refusals.{bufferShort, logSecondShort, logOutOfTurn}
-use Rattle.prelude.proofs.Cases.{arms}
 use Rattle.text.specs.Text.{putOf}
 use Rattle.joblog.specs.declared.records.State.{State}
 use Rattle.joblog.specs.declared.records.LogReading.{LogReading}

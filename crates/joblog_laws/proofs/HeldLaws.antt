@@ -1,7 +1,6 @@
 -- What a log says after an append, after one that is cut, and after a restart. Assumes nothing.
-use Rattle.prelude.proofs.Logic.{_≡_, refl, sym, ap, subst, _∙_, Bool, true, false, cond, _&&_, _||_, List, [], _∷_, _++_, append-assoc, append-nil, ℕ, _+_, _/_, _≤_, _<_, arith, leb, ltb, eqb, length, take, drop, length-append, length-drop, take-at, length-take-le, le-leb, lt-leb, leb-true, ltb-true, ltb-false, eqb-true}
+use Rattle.prelude.proofs.Logic.{_≡_, refl, sym, ap, subst, _∙_, Bool, true, false, cond, _&&_, _||_, List, [], _∷_, _++_, append-assoc, append-nil, ℕ, _+_, _/_, _≤_, _<_, arith, leb, ltb, eqb, length, take, drop, length-append, length-drop, take-at, length-take-le, le-leb, lt-leb, leb-true, ltb-true, ltb-false, eqb-true, arms, cases, both}
 use Rattle.refusals.specs.Refusals.{logSecondShort, logOutOfTurn}
-use Rattle.prelude.proofs.Cases.{arms, cases, both}
 use Rattle.text.specs.Text.{putOf}
 use Rattle.joblog.specs.declared.records.State.{State}
 use Rattle.joblog.specs.declared.records.Record.{Record}

@@ -1,22 +1,22 @@
 -- Request 6's promise, over every history. Assumes nothing.
-use Rattle.prelude.proofs.Logic.{_≡_, refl, sym, ap, subst, _∙_, Bool, true, false, cond, List, [], _∷_, _++_, ℕ, zero, suc, _+_, _-_, _*_, _≤_, arith, leb, length, length-append, le-leb}
-use Rattle.prelude.proofs.Cases.{cases}
+use Rattle.prelude.proofs.Logic.{_≡_, refl, sym, ap, subst, _∙_, Bool, true, false, cond, List, [], _∷_, _++_, ℕ, zero, suc, _+_, _-_, _*_, _≤_, arith, leb, length, length-append, le-leb, cases}
 use Rattle.text.specs.Text.{putOf}
 use Rattle.joblog.specs.declared.records.State.{State}
 use Rattle.joblog.specs.Records.{state, compactedOf}
 use Rattle.joblog.specs.declared.calls.Log.{Log}
 use Rattle.joblog.specs.Calls.{readLogOf, compactAnswer, compactingOf}
-use Rattle.joblog_laws.specs.Run.{idle, World, begun, goes, finishes, restart, has, asRequested, isIdle, finishing, next, run}
+use Rattle.prelude.specs.Lists.{listed}
+use Rattle.joblog_laws.specs.Run.{idle, World, begun, goes, finishes, restart, asRequested, isIdle, finishing, next, run}
 use Rattle.joblog_laws.specs.Histories.{pagesTo, Kept, HistoriesAreKept, sendAll, OpenPagesCome}
 use Rattle.joblog.proofs.CompactLaws.{compacted-length}
 use Rattle.joblog_laws.proofs.HeldLaws.{held-read, sent, restart-held}
-use Rattle.joblog_laws.proofs.PageLaws.{pages-front, has-pages}
+use Rattle.joblog_laws.proofs.PageLaws.{pages-front, listed-pages}
 use Rattle.joblog_laws.proofs.StepLaws.{Inv, counted, held-now, count-between, restarted, restart-kept, run-kept, begun-kept}
 
 -- ---- what the request promises follows
-not-has : (b : Bool) → (b ≡ true → ⊥) → b ≡ false
-not-has true h = absurd (h refl)
-not-has false h = refl
+not-listed : (b : Bool) → (b ≡ true → ⊥) → b ≡ false
+not-listed true h = absurd (h refl)
+not-listed false h = refl
 
 room-answer : (t : State) (place : ℕ) (log second : List ℕ)
     → compactingOf t (compactedOf t) place log second .answer .number ≡ cond (leb (5 + 5 * (t .sent - t .finished)) (length second)) 0 12
@@ -39,8 +39,8 @@ kept w i =
       «next_out» = λ up. i .out up ∙ sym whole;
       «none_again» = λ up.
           let o = i .out up in
-          not-has (has (w .finished) (w .out + 1))
-          (λ h. let m = has-pages n (w .out + 1) (subst (λ (pages : List ℕ). has pages (w .out + 1) ≡ true) order h) in omega arith);
+          not-listed (listed (w .finished) (w .out + 1))
+          (λ h. let m = listed-pages n (w .out + 1) (subst (λ (pages : List ℕ). listed pages (w .out + 1) ≡ true) order h) in omega arith);
       readable = ap (λ (a : Log). a .number) r;
       behind = rw r (i .behind);
       ahead = rw r (omega arith);

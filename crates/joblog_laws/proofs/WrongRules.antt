@@ -4,7 +4,8 @@ use Rattle.prelude.proofs.Logic.{_≡_, refl, ap, true, List, [], _∷_, _++_, 
 use Rattle.text.specs.Text.{putOf}
 use Rattle.joblog.specs.Records.{bytesOf, recordsOf, inTurn, afterOf, readOf, openOf, compactedOf}
 use Rattle.joblog.specs.Calls.{readLogOf, readAnswer, newInTurn, compactAnswer, loggedOf, appendedOf, appendOf, restartedOf, restartOf}
-use Rattle.joblog_laws.specs.Run.{World, begun, Step, begins, byte, completes, goes, finishes, hears, lost, crash, restart, has, HostRules, asRequested, beginning, writingByte, completing, finishing, arriving, crashUsed, isIdle, next, run}
+use Rattle.prelude.specs.Lists.{listed}
+use Rattle.joblog_laws.specs.Run.{World, begun, Step, begins, byte, completes, goes, finishes, hears, lost, crash, restart, HostRules, asRequested, beginning, writingByte, completing, finishing, arriving, crashUsed, isIdle, next, run}
 use Rattle.joblog_laws.specs.Histories.{pagesTo, KeptBy}
 
 abbrev buffer : List ℕ
@@ -19,7 +20,7 @@ appended tag page = started tag page ++ (byte ∷ completes ∷ [])
 
 -- where a history ends; to unfold this is to unfold all that a run computes
 ends : HostRules → List Step → World
-unfolding run next beginning writingByte completing finishing arriving crashUsed isIdle has putOf bytesOf recordsOf inTurn afterOf readOf openOf compactedOf readLogOf readAnswer newInTurn compactAnswer loggedOf appendedOf appendOf restartedOf restartOf pagesTo
+unfolding run next beginning writingByte completing finishing arriving crashUsed isIdle listed putOf bytesOf recordsOf inTurn afterOf readOf openOf compactedOf readLogOf readAnswer newInTurn compactAnswer loggedOf appendedOf appendOf restartedOf restartOf pagesTo
 ends rules steps = run rules (begun buffer) steps
 
 -- ---- by the request: pages 1 and 2 go out and are finished, page 1's done is recorded, page 2's acknowledgement is lost, the host crashes in the append
@@ -35,7 +36,7 @@ as-requested = refl
 
 -- ---- the open pages after the last done go out again, whatever the count: page 1, finished and not recorded as done, is finished twice
 abbrev pub from-the-last-done : HostRules
-from-the-last-done = record { told = has; ready = leb; resume = λ done count. done; kept = λ tray. [] }
+from-the-last-done = record { told = listed; ready = leb; resume = λ done count. done; kept = λ tray. [] }
 
 sent-again : List Step
 sent-again = appended 1 1 ++ (goes ∷ finishes ∷ crash 0 0 ∷ restart buffer ∷ goes ∷ finishes ∷ [])
@@ -52,7 +53,7 @@ not-from-the-last-done h =
 
 -- ---- the embosser keeps its tray when it reports its count: page 1, in the tray and sent again, is finished twice
 abbrev pub keeps-its-tray : HostRules
-keeps-its-tray = record { told = has; ready = leb; resume = λ done count. count; kept = λ tray. tray }
+keeps-its-tray = record { told = listed; ready = leb; resume = λ done count. count; kept = λ tray. tray }
 
 in-the-tray : List Step
 in-the-tray = appended 1 1 ++ (goes ∷ crash 1 0 ∷ restart buffer ∷ goes ∷ finishes ∷ finishes ∷ [])
@@ -84,7 +85,7 @@ not-done-before-finished h = let e : _≡_ {A = ℕ} 14 0 = h buffer too-early .
 
 -- ---- a page goes out before its sent record is whole: it is finished, the count is over the log's sent pages, and refused by 14
 abbrev pub goes-before-its-record : HostRules
-goes-before-its-record = record { told = has; ready = λ page sent. true; resume = λ done count. count; kept = λ tray. [] }
+goes-before-its-record = record { told = listed; ready = λ page sent. true; resume = λ done count. count; kept = λ tray. [] }
 
 no-record : List Step
 no-record = goes ∷ finishes ∷ crash 0 0 ∷ []

@@ -8,7 +8,8 @@ use lib.Dec.{leb}
 use lib.ListN.{length}
 use Rattle.refusals.specs.Refusals.{logSecondShort}
 use Rattle.joblog.specs.Calls.{readLogOf, restartOf}
-use Rattle.joblog_laws.specs.Run.{World, begun, Step, goes, finishes, restart, has, HostRules, asRequested, run}
+use Rattle.prelude.specs.Lists.{listed}
+use Rattle.joblog_laws.specs.Run.{World, begun, Step, goes, finishes, restart, HostRules, asRequested, run}
 
 -- 1, 2, .. n
 unfoldable pub pagesTo : ℕ → List ℕ
@@ -23,7 +24,7 @@ pub record Kept (w : World) : Type 0 where
   -- the page that goes out next is the one after all those
   pub «next_out» : w .up ≡ true → w .out ≡ length (w .finished ++ w .tray)
   -- and is no finished one
-  pub «none_again» : w .up ≡ true → has (w .finished) (w .out + 1) ≡ false
+  pub «none_again» : w .up ≡ true → listed (w .finished) (w .out + 1) ≡ false
   -- the log can be read, and has the count and the tray between its finished and its sent pages
   pub readable : readLogOf (w .log) (w .used) .number ≡ 0
   pub behind : readLogOf (w .log) (w .used) .finished ≤ length (w .finished)

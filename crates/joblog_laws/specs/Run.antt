@@ -17,6 +17,7 @@ use mathlib.Core.Bool.{Bool, true, false, cond, _&&_, _||_}
 use mathlib.Core.List.{List, [], _∷_, _++_}
 use lib.Dec.{leb, ltb, eqb}
 use lib.ListN.{length, take, drop}
+use Rattle.prelude.specs.Lists.{listed}
 use Rattle.text.specs.Text.{putOf}
 use Rattle.joblog.specs.Records.{doneTag, bytesOf, wholeOf}
 use Rattle.joblog.specs.Calls.{LogCall, readLogOf, appendOf, restartOf}
@@ -67,10 +68,6 @@ pub data Step : Type 0 where
   -- the embosser reports its count, and the host restarts with it (the second buffer that it lends)
   restart : List ℕ → Step
 
-unfoldable pub has : List ℕ → ℕ → Bool
-has [] page = false
-has (p ∷ pages) page = eqb p page || has pages page
-
 -- ---- the rules of host and embosser. Those of the request are below; proofs/WrongRules has others, under which the promise fails.
 pub record HostRules : Type 0 where
   -- the pages whose acknowledgement was heard, a page: may the host record it as done?
@@ -84,7 +81,7 @@ pub record HostRules : Type 0 where
 
 -- "a page goes out only after its sent record is whole"; "the log is compacted with the count as finished, its open pages go out again"
 abbrev pub asRequested : HostRules
-asRequested = record { told = has; ready = leb; resume = λ done count. count; kept = λ tray. [] }
+asRequested = record { told = listed; ready = leb; resume = λ done count. count; kept = λ tray. [] }
 
 -- ---- steps. One that the rules do not allow at that moment does not happen.
 -- "the first buffer stays as it was and is the log until the call returns"

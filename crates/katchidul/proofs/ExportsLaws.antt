@@ -23,5 +23,5 @@ module _ (s : List ℕ) (order : Order) (e : readingOf s ≡ Read order) where
   unfolding orderAnswerOf orderIn orderRead
   interval =
       let z = order .parameters .«isha_interval» in
-      let from = read-accepted s order e .«isha_interval» .1 in
+      let from = read-accepted s order e .«isha_interval» .from in
       rw e (sym (natural z (omega arith)))

@@ -1,9 +1,6 @@
 -- An i32 as a u32: what is below 0 is 0, and nothing else changes. Assumes nothing.
 use Rattle.prelude.proofs.Logic.{_≡_, sym, ap, _∙_, true, false, arith, T, ℤ, pos, natAbs, ltZ, nonNeg, w32, SFits, Fits}
-use Rattle.integers.specs.Parts.{P}
-use Rattle.integers.proofs.PartsLaws.{natural, not-positive}
-use Rattle.integers.proofs.OrderLaws.{lt-yes, lt-no}
-use Rattle.integers.proofs.Ranges.{range, readBack, read}
+use Rattle.integers.proofs.Integers.{P, natural, not-positive, lt-yes, lt-no, range, readBack, read}
 
 module _ (z : ℤ) (f : SFits w32 z) where
   same-read : readBack w32 z ≡ z

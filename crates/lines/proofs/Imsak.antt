@@ -1,11 +1,8 @@
 -- Imsak in the machine's numbers: 60 times a u32, and what is left of an instant. Assumes nothing.
 use Rattle.prelude.proofs.Logic.{_≡_, sym, ap, _∙_, true, false, ℕ, _*_, _^_, _<_, arith, ℤ, pos, _+ℤ_, _-ℤ_, _*ℤ_, ltZ, w64, SFits, toZ}
-use Rattle.integers.proofs.Intervals.{by-balance}
-use Rattle.integers.proofs.OrderLaws.{lt-yes, lt-no, to-le, to-not-le}
-use Rattle.integers.proofs.PartsLaws.{same}
-use Rattle.integers.proofs.Ranges.{range, fits, readBack, read}
-use Rattle.integers.proofs.Sums.{sum, difference, differences, times}
-use Rattle.lines.specs.Lines.{earliest, imsakOf}
+use Rattle.integers.proofs.Integers.{by-balance, lt-yes, lt-no, to-le, to-not-le, same, range, fits, readBack, read, sum, difference, differences, times}
+use Rattle.integers.specs.Ends.{least64}
+use Rattle.lines.specs.Lines.{imsakOf}
 
 module _ (m : ℕ) (small : m < 2 ^ 32) where
   -- the minutes in seconds, as the machine works them
@@ -25,25 +22,25 @@ module _ (m : ℕ) (small : m < 2 ^ 32) where
 
   -- the earliest Fajr that leaves an imsak
   abbrev bound : ℤ
-  bound = earliest +ℤ readBack w64 worked
+  bound = least64 +ℤ readBack w64 worked
 
   pub bound-fits : SFits w64 bound
-  bound-fits = let s = sum earliest (pos (60 * m)) in rw seconds (fits w64 (earliest +ℤ pos (60 * m)) (omega arith) (omega arith))
+  bound-fits = let s = sum least64 (pos (60 * m)) in rw seconds (fits w64 (least64 +ℤ pos (60 * m)) (omega arith) (omega arith))
 
-  bound-is : readBack w64 bound ≡ earliest +ℤ pos (60 * m)
-  bound-is = read w64 bound bound-fits ∙ ap (λ (z : ℤ). earliest +ℤ z) seconds
+  bound-is : readBack w64 bound ≡ least64 +ℤ pos (60 * m)
+  bound-is = read w64 bound bound-fits ∙ ap (λ (z : ℤ). least64 +ℤ z) seconds
 
   module _ (fajr : ℤ) (f : SFits w64 fajr) where
-    tested : ltZ (readBack w64 fajr) (readBack w64 bound) ≡ ltZ fajr (earliest +ℤ pos (60 * m))
+    tested : ltZ (readBack w64 fajr) (readBack w64 bound) ≡ ltZ fajr (least64 +ℤ pos (60 * m))
     tested = ap (λ (z : ℤ). ltZ z (readBack w64 bound)) (read w64 fajr f) ∙ ap (ltZ fajr) bound-is
 
-    pub none-left : ltZ (readBack w64 fajr) (readBack w64 bound) ≡ true → earliest ≡ imsakOf m fajr
+    pub none-left : ltZ (readBack w64 fajr) (readBack w64 bound) ≡ true → least64 ≡ imsakOf m fajr
     unfolding imsakOf
     none-left t =
-        let l = lt-yes fajr (earliest +ℤ pos (60 * m)) (sym tested ∙ t) in
-        let s = sum earliest (pos (60 * m)) in
+        let l = lt-yes fajr (least64 +ℤ pos (60 * m)) (sym tested ∙ t) in
+        let s = sum least64 (pos (60 * m)) in
         let d = difference fajr (pos (60 * m)) in
-        rw (to-not-le earliest (fajr -ℤ pos (60 * m)) (omega (arith, d .0, d .1)))
+        rw (to-not-le least64 (fajr -ℤ pos (60 * m)) (omega (arith, d .0, d .1)))
 
     module _ (t : ltZ (readBack w64 fajr) (readBack w64 bound) ≡ false) where
       left-is : readBack w64 fajr -ℤ readBack w64 worked ≡ fajr -ℤ pos (60 * m)
@@ -51,8 +48,8 @@ module _ (m : ℕ) (small : m < 2 ^ 32) where
 
       pub left-fits : SFits w64 (readBack w64 fajr -ℤ readBack w64 worked)
       left-fits =
-          let l = lt-no fajr (earliest +ℤ pos (60 * m)) (sym tested ∙ t) in
-          let s = sum earliest (pos (60 * m)) in
+          let l = lt-no fajr (least64 +ℤ pos (60 * m)) (sym tested ∙ t) in
+          let s = sum least64 (pos (60 * m)) in
           let d = difference fajr (pos (60 * m)) in
           let r = range w64 fajr f in
           let b = by-balance 9223372036854775808 9223372036854775807 (fajr -ℤ pos (60 * m)) (omega (arith, d .0, d .1, r .low)) (omega (arith, d .0, d .1, r .high)) in
@@ -61,7 +58,7 @@ module _ (m : ℕ) (small : m < 2 ^ 32) where
       pub left : readBack w64 (readBack w64 fajr -ℤ readBack w64 worked) ≡ imsakOf m fajr
       unfolding imsakOf
       left =
-          let l = lt-no fajr (earliest +ℤ pos (60 * m)) (sym tested ∙ t) in
-          let s = sum earliest (pos (60 * m)) in
+          let l = lt-no fajr (least64 +ℤ pos (60 * m)) (sym tested ∙ t) in
+          let s = sum least64 (pos (60 * m)) in
           let d = difference fajr (pos (60 * m)) in
-          rw (to-le earliest (fajr -ℤ pos (60 * m)) (omega (arith, d .0, d .1))) (read w64 _ left-fits ∙ left-is)
+          rw (to-le least64 (fajr -ℤ pos (60 * m)) (omega (arith, d .0, d .1))) (read w64 _ left-fits ∙ left-is)

@@ -1,10 +1,6 @@
 -- The days from a date to an instant, in the machine's numbers. Assumes nothing.
-use Rattle.prelude.proofs.Logic.{_≡_, refl, true, false, _+_, _/_, _^_, _<_, arith, ℤ, pos, negsuc, _-ℤ_, ltZ, w64, SFits, Fits}
-use Rattle.integers.specs.Parts.{P, N}
-use Rattle.integers.proofs.Sums.{difference, times}
-use Rattle.integers.proofs.OrderLaws.{lt-yes, lt-no}
-use Rattle.integers.specs.Quotients.{floorQuot}
-use Rattle.integers.proofs.Ranges.{range, fits}
+use Rattle.prelude.proofs.Logic.{_≡_, refl, true, false, _+_, _/_, _^_, _<_, arith, ℤ, pos, negsuc, natAbs, _-ℤ_, ltZ, w64, SFits, Fits}
+use Rattle.integers.proofs.Integers.{P, N, difference, times, lt-yes, lt-no, floorQuot, range, fits}
 use Rattle.calendar.specs.Days.{dayNumberOf}
 use Rattle.calendar.specs.declared.dates.Date.{Date}
 use Rattle.schedule.proofs.Starts.{start-near}
@@ -33,6 +29,10 @@ plus (pos n) h = refl
 plus (negsuc n) h = absurd (omega (arith, lt-no (negsuc n) (pos 0) h))
 
 -- one of the two parts is 0
+pub size-is : (z : ℤ) → P z + N z ≡ natAbs z
+size-is (pos n) = omega arith
+size-is (negsuc n) = omega arith
+
 pub size-fits : (z : ℤ) → SFits w64 z → Fits w64 (P z + N z)
 size-fits (pos n) h = let r = range w64 (pos n) h in record { fits = omega (arith, r .high) }
 size-fits (negsuc n) h = let r = range w64 (negsuc n) h in record { fits = omega (arith, r .low) }

@@ -2,9 +2,8 @@
 use Rattle.prelude.proofs.Logic.{_≡_, refl, Bool, true, false, cond, List, [], _∷_, _++_, ℕ, _+_, _*_, _≤_, arith, lit≤, ℤ, length, length-append}
 use Rattle.calendar.specs.declared.dates.Date.{Date}
 use Rattle.hijri.specs.declared.ramadan.Ramadan.{Ramadan}
-use Rattle.schedule.specs.declared.prayer_times.PrayerTimes.{PrayerTimes}
+use Rattle.schedule.specs.declared.{prayer_times.PrayerTimes.PrayerTimes, prayer_times.Worked.Worked}
 use Rattle.refusals.specs.declared.Refusal.{Refusal}
-use Rattle.schedule.specs.declared.prayer_times.Worked.{Worked}
 use Rattle.schedule.specs.declared.prayer_times.Worked.the-variants.{Times, Refused}
 use Rattle.text.specs.Text.{ascii, decimalOf}
 use Rattle.text.proofs.TextLaws.{digits-short}

@@ -1,18 +1,11 @@
 -- A time on the date or on a day beside it, in the machine's numbers. Assumes nothing.
 use Rattle.prelude.proofs.Logic.{_≡_, sym, ap, subst, _∙_, true, false, ℕ, _+_, _*_, _^_, _≤_, _<_, arith, lit<, T, ℤ, pos, negsuc, natAbs, _+ℤ_, _-ℤ_, _*ℤ_, ltZ, nonNeg, w32, w64, SFits, Fits}
-use Rattle.integers.specs.Parts.{P, N, Near}
-use Rattle.integers.specs.Quotients.{floorQuot, floorRem}
-use Rattle.integers.proofs.Intervals.{by-balance}
-use Rattle.integers.proofs.OrderLaws.{lt-yes, lt-no}
-use Rattle.integers.proofs.PartsLaws.{same, natural}
-use Rattle.integers.proofs.QuotientLaws.{floored}
-use Rattle.integers.proofs.Ranges.{fits, readBack, read}
-use Rattle.integers.proofs.Sums.{sum, difference, differences, times}
+use Rattle.integers.proofs.Integers.{P, N, Near, floorQuot, floorRem, by-balance, lt-yes, lt-no, same, natural, floored, fits, readBack, read, sum, difference, differences, times}
 use Rattle.calendar.specs.Days.{dayNumberOf}
 use Rattle.calendar.specs.declared.dates.Date.{Date}
 use Rattle.schedule.proofs.Starts.{start-near}
 use Rattle.text.specs.Text.{digitOf}
-use Rattle.lines.specs.Lines.{daysOf, signOf, magnitudeOf}
+use Rattle.lines.specs.Lines.{daysOf, signOf}
 
 -- ---- the second of a day that begins at `start`
 module _ (start time x y : ℤ) (a : x ≡ start) (b : y ≡ time) (from : P start + N time ≤ P time + N start) (to : P time + N start < P start + N time + 86400) where
@@ -51,7 +44,7 @@ on-day date time k s small e =
 -- sign, digit and second are those of a time on a date
 abbrev Told : Date → ℤ → ℕ → ℕ → ℕ → Type 0
 Told date time sign digit second =
-    (sign ≡ signOf (daysOf date time)) × (digit ≡ digitOf (magnitudeOf (daysOf date time))) × (second ≡ floorRem time 86400)
+    (sign ≡ signOf (daysOf date time)) × (digit ≡ digitOf (natAbs (daysOf date time))) × (second ≡ floorRem time 86400)
 
 pub told-by : (date : Date) (time t : ℤ) (sign digit second : ℕ) → t ≡ time → Told date t sign digit second → Told date time sign digit second
 told-by date time t sign digit second r h = subst (λ (z : ℤ). Told date z sign digit second) r h
@@ -114,7 +107,7 @@ module _ (date : Date) (year : date .year < 2 ^ 32) (start : ℤ) (is : start �
       (omega arith, omega arith)
 
   pub told : (k from time t : ℤ) (s : ℕ) → t ≡ time → Begins k from → (s < 86400) × (P t + N from ≡ N t + P from + s)
-      → Told date time (signOf k) (digitOf (magnitudeOf k)) s
+      → Told date time (signOf k) (digitOf (natAbs k)) s
   told k from time t s r f e =
       let d = on-day date time k s (e .0) (omega (arith, e .1, ap P r, ap N r)) in
-      (sym (ap signOf (d .0)), sym (ap (λ (z : ℤ). digitOf (magnitudeOf z)) (d .0)), sym (d .1))
+      (sym (ap signOf (d .0)), sym (ap (λ (z : ℤ). digitOf (natAbs z)) (d .0)), sym (d .1))

@@ -2,9 +2,9 @@
 use Prim.Native.Nat.{ℕ, _+_, _*_, _/_, _%_}
 use mathlib.Core.Bool.{cond}
 use mathlib.Core.List.{List, [], _∷_, _++_}
-use lib.IntN.{ℤ, pos, negsuc, _-ℤ_}
+use lib.IntN.{ℤ, pos, negsuc, natAbs, _-ℤ_}
 use lib.Signed.{leZ}
-use Rattle.integers.specs.Parts.{P, N}
+use Rattle.integers.specs.Ends.{least64}
 use Rattle.integers.specs.Quotients.{floorQuot, floorRem}
 use Rattle.calendar.specs.declared.dates.Date.{Date}
 use Rattle.calendar.specs.Days.{dayNumberOf}
@@ -33,16 +33,13 @@ abbrev pub signOf : ℤ → ℕ
 signOf (pos n) = 43
 signOf (negsuc n) = 45
 
-abbrev pub magnitudeOf : ℤ → ℕ
-magnitudeOf z = P z + N z
-
 abbrev pub clockText : ℕ → List ℕ
 clockText second = twoDigits (second / 3600) ++ (58 ∷ twoDigits (second / 60 % 60)) ++ (58 ∷ twoDigits (second % 60))
 
 unfoldable pub timeText : Date → ℤ → List ℕ
 timeText date time =
     let days = daysOf date time in
-    (32 ∷ signOf days ∷ digitOf (magnitudeOf days) ∷ 84 ∷ []) ++ clockText (floorRem time 86400)
+    (32 ∷ signOf days ∷ digitOf (natAbs days) ∷ 84 ∷ []) ++ clockText (floorRem time 86400)
 
 -- ---- "one line a row: date, then nine times in the header's order"
 abbrev pub nineOf : PrayerTimes → List ℤ
@@ -51,11 +48,8 @@ nineOf t =
 
 -- request 12: "Imsak is the printed Fajr less those minutes". An instant that 64 bits do not hold gives way to the earliest that they do; no order's
 -- imsak is one (crates/order_laws/specs/Imsak.antt)
-abbrev pub earliest : ℤ
-earliest = negsuc 9223372036854775807
-
 unfoldable pub imsakOf : ℕ → ℤ → ℤ
-imsakOf minutes fajr = let time = fajr -ℤ pos (60 * minutes) in cond (leZ earliest time) time earliest
+imsakOf minutes fajr = let time = fajr -ℤ pos (60 * minutes) in cond (leZ least64 time) time least64
 
 -- "and stands between the date and Fajr"
 unfoldable pub columnsOf : Ramadan → PrayerTimes → List ℤ

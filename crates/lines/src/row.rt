@@ -24,8 +24,8 @@ pub const ROW_BYTES: usize = DATE_BYTES + 9 * TIME_BYTES + 1;
 // A row of a Ramadan sheet has a time more.
 const RAMADAN_ROW_BYTES: usize = ROW_BYTES + TIME_BYTES;
 
-// The earliest instant that there is.
-const EARLIEST: i64 = -9223372036854775808;
+// The earliest instant that 64 bits hold.
+const LEAST64: i64 = -9223372036854775808;
 
 // What a full row takes, which a Ramadan sheet has imsak in.
 pub fn row_bytes(ramadan: Ramadan) -> usize
@@ -42,8 +42,8 @@ fn imsak(minutes: u32, fajr: i64) -> i64
     ensures { λ r. ⌜ r ≡ imsakOf minutes fajr ⌝ }
 {
     let seconds = minutes as i64 * 60;
-    if fajr < EARLIEST + seconds {
-        return EARLIEST;
+    if fajr < LEAST64 + seconds {
+        return LEAST64;
     }
     fajr - seconds
 }

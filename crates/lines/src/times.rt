@@ -1,12 +1,12 @@
 // The parts of a row's line: its date and its times.
 ghost use mathlib.Core.Path.{_≡_};
 ghost use Prim.Native.Nat.{_+_, _/_, _≤_, _<_};
-ghost use lib.IntN.{pos, _*ℤ_};
+ghost use lib.IntN.{pos, natAbs, _*ℤ_};
 ghost use Rattle.integers.specs.Parts.{P, N};
 ghost use Rattle.integers.specs.Quotients.{floorRem};
 ghost use Rattle.calendar.specs.Days.{dayNumberOf};
 ghost use Rattle.text.specs.Text.{digitOf};
-ghost use Rattle.lines.specs.Lines.{dateText, signOf, magnitudeOf, daysOf, timeText};
+ghost use Rattle.lines.specs.Lines.{dateText, signOf, daysOf, timeText};
 use calendar::dates::Date;
 use calendar::instants::day_of;
 use calendar::instants::second_of_day;
@@ -67,7 +67,7 @@ fn sign(days: i64) -> u8
 }
 
 fn size(days: i64) -> u64
-    ensures { λ r. ⌜ r ≡ magnitudeOf days ⌝ }
+    ensures { λ r. ⌜ r ≡ natAbs days ⌝ }
 {
     above(days) + below(days)
 }
@@ -82,7 +82,7 @@ struct Moment {
 // Any time, by divisions.
 fn divided(dated: Dated, time: i64) -> Moment
     requires { ⌜ dated .day ≡ dayNumberOf (dated .date) ⌝ }
-    ensures { λ r. ⌜ (r .sign ≡ signOf (daysOf (dated .date) time)) × (r .days ≡ digitOf (magnitudeOf (daysOf (dated .date) time))) × (r .second ≡ floorRem time 86400) ⌝ }
+    ensures { λ r. ⌜ (r .sign ≡ signOf (daysOf (dated .date) time)) × (r .days ≡ digitOf (natAbs (daysOf (dated .date) time))) × (r .second ≡ floorRem time 86400) ⌝ }
 {
     let days = days_from(dated, time);
     Moment {
@@ -103,7 +103,7 @@ fn second_from(start: i64, time: i64) -> u32
 // Nearly every time is on the date or on a day beside it: there comparisons are enough.
 fn compared(dated: Dated, time: i64) -> Moment
     requires { ⌜ (dated .day ≡ dayNumberOf (dated .date)) × (dated .start ≡ dayNumberOf (dated .date) *ℤ pos 86400) ⌝ }
-    ensures { λ r. ⌜ (r .sign ≡ signOf (daysOf (dated .date) time)) × (r .days ≡ digitOf (magnitudeOf (daysOf (dated .date) time))) × (r .second ≡ floorRem time 86400) ⌝ }
+    ensures { λ r. ⌜ (r .sign ≡ signOf (daysOf (dated .date) time)) × (r .days ≡ digitOf (natAbs (daysOf (dated .date) time))) × (r .second ≡ floorRem time 86400) ⌝ }
 {
     let today = dated.start;
     let yesterday = today - 86400;

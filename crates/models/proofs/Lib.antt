@@ -1,3 +1,4 @@
+pub mod Models
 pub mod NumbersLaws
 pub mod Rows
 pub mod Wide

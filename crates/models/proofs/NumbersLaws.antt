@@ -1,22 +1,6 @@
 -- Each case's number names that case.
 use Rattle.prelude.proofs.Logic.{_≡_, refl}
-use Rattle.models.specs.declared.rounding.Rounding.{Rounding}
-use Rattle.models.specs.declared.rounding.Rounding.the-variants.{Nearest, Up, None}
-use Rattle.models.specs.declared.shafaq.Shafaq.{Shafaq}
-use Rattle.models.specs.declared.shafaq.Shafaq.the-variants.{General, Ahmer, Abyad}
-use Rattle.models.specs.declared.madhab.Madhab.{Madhab}
-use Rattle.models.specs.declared.madhab.Madhab.the-variants.{Shafi, Hanafi}
-use Rattle.models.specs.declared.high_altitude_rule.HighLatitudeRule.{HighLatitudeRule}
-use Rattle.models.specs.declared.high_altitude_rule.HighLatitudeRule.the-variants.{MiddleOfTheNight, SeventhOfTheNight, TwilightAngle}
-use Rattle.models.specs.declared.method.Method.{Method}
-use Rattle.models.specs.declared.method.Method.the-variants.{MuslimWorldLeague, Egyptian, Karachi, UmmAlQura, Dubai, MoonsightingCommittee, NorthAmerica, Kuwait, Qatar, Singapore, Tehran, Turkey, Other}
-use Rattle.models.specs.declared.rules.Midnight.{Midnight}
-use Rattle.models.specs.declared.rules.Midnight.the-variants.{Stops, Carries}
-use Rattle.models.specs.declared.rules.Southern.{Southern}
-use Rattle.models.specs.declared.rules.Southern.the-variants.{Unreduced, StartsAgain}
-use Rattle.models.specs.declared.prayer.Prayer.{Prayer}
-use Rattle.models.specs.declared.prayer.Prayer.the-variants.{Fajr, Sunrise, Dhuhr, Asr, Maghrib, Isha, Qiyam, FajrTomorrow}
-use Rattle.models.specs.Numbers.{roundingNumberOf, roundingOf, shafaqNumberOf, shafaqOf, madhabNumberOf, madhabOf, ruleNumberOf, ruleOf, midnightNumberOf, midnightOf, southernNumberOf, southernOf, methodNumberOf, methodOf, prayerNumberOf, prayerOf}
+use Rattle.models.proofs.Models.{Rounding, Nearest, Up, None, Shafaq, General, Ahmer, Abyad, Madhab, Shafi, Hanafi, HighLatitudeRule, MiddleOfTheNight, SeventhOfTheNight, TwilightAngle, Method, MuslimWorldLeague, Egyptian, Karachi, UmmAlQura, Dubai, MoonsightingCommittee, NorthAmerica, Kuwait, Qatar, Singapore, Tehran, Turkey, Other, Midnight, Stops, Carries, Southern, Unreduced, StartsAgain, Prayer, Fajr, Sunrise, Dhuhr, Asr, Maghrib, Isha, Qiyam, FajrTomorrow, roundingNumberOf, roundingOf, shafaqNumberOf, shafaqOf, madhabNumberOf, madhabOf, ruleNumberOf, ruleOf, midnightNumberOf, midnightOf, southernNumberOf, southernOf, methodNumberOf, methodOf, prayerNumberOf, prayerOf}
 
 pub rounding-back : (c : Rounding) → roundingOf (roundingNumberOf c) ≡ c
 unfolding roundingNumberOf roundingOf

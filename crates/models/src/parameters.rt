@@ -1,8 +1,8 @@
 // parameters.rs: what the times are worked by, and its builder.
 ghost use mathlib.Core.Path.{_≡_};
-ghost use Prim.Native.Nat.{_^_, _≤_};
+ghost use Prim.Native.Nat.{_^_};
 ghost use lib.IntN.{_+ℤ_};
-ghost use Rattle.integers.specs.Parts.{P, N};
+ghost use Rattle.integers.specs.Parts.{Near};
 ghost use Rattle.models.specs.Settings.{parametersNewOf, nightPortionsOf, minutesFor, timeAdjustmentsOf};
 ghost use Rattle.models.specs.Builder.{configurationOf, doneOf, chosenOf, setMethod, setMethodAdjustments, setHighLatitudeRule, setMadhab, setIshaInterval, setMaghribAngle, setRounding, setShafaq};
 ghost use Rattle.models.specs.Presets.{withOf};
@@ -115,7 +115,7 @@ impl Parameters {
 
     // A prayer's own minutes and the method's. That they are no more than two i32 is promised too, so that who adds them up knows.
     pub fn time_adjustments(self, prayer: Prayer) -> i64
-        ensures { λ r. ⌜ (r ≡ timeAdjustmentsOf self prayer) × ((P r ≤ 2 ^ 32) × (N r ≤ 2 ^ 32)) ⌝ }
+        ensures { λ r. ⌜ (r ≡ timeAdjustmentsOf self prayer) × Near (2 ^ 32) r ⌝ }
     {
         let own = self.adjustments;
         let preset = self.method_adjustments;

@@ -1,13 +1,8 @@
 -- The portions by which Fajr and Isha are bounded: what an order's parameters give is no more than half, so a bound lies in its half of the night, and the
 -- cast to i32 gives what the source's cast to i64 gives. Over the definitions of `Portions`. Assumes nothing.
 use Rattle.prelude.proofs.Logic.{_≡_, refl, sym, ap, _∙_, Bool, true, false, not, ℕ, suc, _*_, _^_, _≤_, le-trans, arith, lit<, lit≤, ℤ, pos, negsuc, negℤ, negℤ-negℤ}
-use lib.Ieee.{Float, round, neg, le, ofInt, toSigned}
-use lib.Ieee.Exact.{HasValue}
-use Rattle.float64.specs.Ops.{dec}
-use Rattle.float64.proofs.Limits.{from-zero}
-use Rattle.float64.proofs.WholeSizes.{signed}
-use Rattle.integers.specs.Parts.{P, N, Near}
-use Rattle.integers.proofs.Sums.{flip}
+use Rattle.float64.proofs.Floats.{Float, round, neg, le, ofInt, toSigned, HasValue, dec, from-zero, signed}
+use Rattle.integers.proofs.Integers.{P, N, Near, flip}
 use Rattle.night_portions.specs.Portions.{nightFractionOf, portionAfterOf, portionBeforeOf}
 use Rattle.night_portions.proofs.Halves.{Halved, night, product-halved}
 

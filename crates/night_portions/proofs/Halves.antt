@@ -1,15 +1,7 @@
 -- A portion of d seconds that is from 0 to a half: whatever it is, it is cut to no more than half of d, the same by each cast, and with the sign of the
 -- night. Assumes nothing.
 use Rattle.prelude.proofs.Logic.{_≡_, refl, sym, ap, _∙_, subst, Bool, true, false, not, ℕ, _*_, _^_, _≤_, _<_, zero-mul, arith, lit<, lit≤, ℤ}
-use lib.Ieee.{Float, nan, inf, fin, binary64, up, down, unlike, round, neg, toSigned}
-use lib.Ieee.Exact.{HasValue}
-use lib.Ieee.Back.{round-whole}
-use lib.Ieee.Fits.{down-pos}
-use Rattle.float64.specs.Ops.{_*ᶠ_}
-use Rattle.float64.proofs.Exact.{mul-same}
-use Rattle.float64.proofs.Within.{Within, Signed, round-signed, value-within, neg-within, mul-within}
-use Rattle.float64.proofs.Limits.{FromZero}
-use Rattle.float64.proofs.WholeSizes.{wholeSize, signed, whole-most, whole-neg, cast-is}
+use Rattle.float64.proofs.Floats.{Float, nan, inf, fin, binary64, up, down, unlike, round, neg, toSigned, HasValue, round-whole, down-pos, _*ᶠ_, mul-same, Within, Signed, round-signed, value-within, neg-within, mul-within, FromZero, wholeSize, signed, whole-most, whole-neg, cast-is}
 
 -- x is d / 2 or less in size: its casts, and those of its opposite, to any integers that hold d
 pub record Halved (x : Float) (s : Bool) (d : ℕ) : Type 0 where

@@ -1,12 +1,6 @@
 -- The portions that an order's parameters give are from 0 to a half. Assumes nothing.
 use Rattle.prelude.proofs.Logic.{_≡_, refl, ap, _∙_, Bool, true, false, true≢false, false≢true, inl, inr, ℕ, _*_, mul-pos, zero-mul, eq-zero-or-pos, arith, lit<, lit≤, ℤ}
-use lib.Ieee.{Float, nan, inf, fin, binary64, up, down, round, div, le}
-use lib.Ieee.Exact.{HasValue}
-use lib.Ieee.Back.{round-whole}
-use lib.Ieee.Fits.{up-pos}
-use Rattle.float64.specs.Ops.{_/ᶠ_, dec}
-use Rattle.float64.proofs.Within.{Within, Signed, round-signed, div-within}
-use Rattle.float64.proofs.Limits.{FromZero, from-zero, to-tests}
+use Rattle.float64.proofs.Floats.{Float, nan, inf, fin, binary64, up, down, round, div, le, HasValue, round-whole, up-pos, _/ᶠ_, dec, Within, Signed, round-signed, div-within, FromZero, from-zero, to-tests}
 use Rattle.night_portions.proofs.BoundsLaws.{Portion, half-value}
 
 -- by the middle of the night, and by its seventh

@@ -1,19 +1,8 @@
 -- A seventh of a night, its middle and its last third lie in the night, and a later maghrib and a later Fajr never bring the last two forward. Over the
 -- definitions of `Portions`. Assumes nothing.
 use Rattle.prelude.proofs.Logic.{_≡_, refl, ap, _∙_, Bool, true, false, ℕ, suc, _+_, _*_, _/_, _^_, _≤_, _<_, arith, lit<, lit≤, ℤ, pos, negsuc, _+ℤ_, _-ℤ_, quotZ}
-use lib.Ieee.{Float, nan, inf, fin, binary64, up, down, unlike, round, div, ofInt, toSigned}
-use lib.Ieee.Exact.{HasValue}
-use lib.Ieee.Back.{round-whole}
-use lib.Ieee.Fits.{down-pos}
-use lib.Ieee.Scale.{round-same}
-use Rattle.float64.specs.Ops.{_*ᶠ_, _/ᶠ_, dec}
-use Rattle.float64.proofs.Values.{dyadic-value}
-use Rattle.float64.proofs.Exact.{mul-same}
-use Rattle.float64.proofs.Within.{Within, round-signed, round-neg, value-within}
-use Rattle.float64.proofs.WholeSizes.{wholeSize, signed, whole-most, whole-value, whole-neg, cast-is}
-use Rattle.integers.proofs.QuotientLaws.{divided}
-use Rattle.integers.proofs.Intervals.{Inside}
-use Rattle.integers.specs.Order.{_≼_}
+use Rattle.float64.proofs.Floats.{Float, nan, inf, fin, binary64, up, down, unlike, round, div, ofInt, toSigned, HasValue, round-whole, down-pos, round-same, _*ᶠ_, _/ᶠ_, dec, dyadic-value, mul-same, Within, round-signed, round-neg, value-within, wholeSize, signed, whole-most, whole-value, whole-neg, cast-is}
+use Rattle.integers.proofs.Integers.{divided, Inside, _≼_}
 use Rattle.night_portions.specs.Portions.{seventhOf, middleOf, lastThirdOf}
 use Rattle.night_portions.proofs.Steady.{longest, Small, Steady, share, share-inside, share-later}
 use Rattle.night_portions.proofs.Thirds.{twoThirds, third, third-within, third-steady}

@@ -1,7 +1,6 @@
 -- A seventh of an i64 is an i64, and the machine reads it back. Assumes nothing.
 use Rattle.prelude.proofs.Logic.{_≡_, arith, lit<, ℤ, pos, quotZ, w64, SFits}
-use Rattle.integers.proofs.QuotientLaws.{divided}
-use Rattle.integers.proofs.Ranges.{range, fits, readBack, read}
+use Rattle.integers.proofs.Integers.{divided, range, fits, readBack, read}
 use Rattle.night_portions.specs.Portions.{seventhOf}
 
 module _ (night : ℤ) (f : SFits w64 night) where

@@ -1,10 +1,7 @@
 -- A share of a night that grows with the night, and no faster. The instant that it marks lies in the night, and later ends of the night never bring it
 -- forward. Assumes nothing.
 use Rattle.prelude.proofs.Logic.{_≡_, refl, Bool, true, false, _⊎_, inl, inr, ⊎-elim, ℕ, suc, _+_, _-_, _≤_, zero-le, le-of-lt, arith, leb, ℤ, pos, negsuc, negℤ, _+ℤ_, _-ℤ_, leb-true, leb-false}
-use Rattle.integers.specs.Parts.{P, N, Near}
-use Rattle.integers.proofs.Sums.{sum, flip, difference}
-use Rattle.integers.specs.Order.{_≼_}
-use Rattle.integers.proofs.Intervals.{Inside}
+use Rattle.integers.proofs.Integers.{P, N, Near, sum, flip, difference, _≼_, Inside}
 
 -- 2 ^ 50 seconds: no night is longer
 abbrev pub longest : ℕ

@@ -1,10 +1,6 @@
 -- Two thirds of d seconds in f64, cut to whole seconds: between the bounds that whole numbers give, so they grow with d and no faster. Assumes nothing.
 use Rattle.prelude.proofs.Logic.{_≡_, ap, subst, Bool, false, ⊎-elim, ℕ, _+_, _-_, _*_, _/_, _≤_, _<_, zero-le, le-refl, eq-or-lt-of-le, arith, lit<, lit≤}
-use lib.Ieee.{binary64, round}
-use lib.Ieee.Back.{round-whole}
-use lib.Ieee.Order.{round-mono}
-use Rattle.float64.proofs.Within.{Within, round-within, round-signed}
-use Rattle.float64.proofs.WholeSizes.{wholeSize, whole-most, whole-least}
+use Rattle.float64.proofs.Floats.{binary64, round, round-whole, round-mono, Within, round-within, round-signed, wholeSize, whole-most, whole-least}
 use Rattle.night_portions.proofs.Steady.{longest, Steady, either}
 
 -- 2.0 / 3.0 is this over 2 ^ 53

@@ -3,8 +3,7 @@
 use Rattle.prelude.proofs.Logic.{_≡_, sym, _∙_, Bool, true, false, ℕ, _^_, _≤_, _<_, arith, lit<, lit≤, pos}
 use Rattle.float64.proofs.Floats.{Float, neg, le, toSigned, _*ᶠ_, dec, roundOf, isNegativeOf, Within, within-signed, neg-within, mul-within, within-limits, wholeSize, signed, whole-most, cast-is, nearest-within}
 use Rattle.integers.proofs.Integers.{P, N, flip}
-use Rattle.models.specs.declared.rules.Season.{Season}
-use Rattle.models.specs.declared.shafaq.Shafaq.{Shafaq}
+use Rattle.models.specs.declared.{rules.Season.Season, shafaq.Shafaq.Shafaq}
 use Rattle.models.specs.declared.shafaq.Shafaq.the-variants.{General}
 use Rattle.ops.specs.declared.season.AdjustmentDaytime.{AdjustmentDaytime}
 use Rattle.ops.specs.declared.season.AdjustmentDaytime.the-variants.{Morning, Evening}

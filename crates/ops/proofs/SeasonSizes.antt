@@ -2,13 +2,11 @@
 -- on a day, by whole bounds that are wider than need be. Assumes nothing.
 use Rattle.prelude.proofs.Logic.{_≡_, refl, Bool, true, false, cond, and-eq-true-iff, ℕ, _+_, _-_, _*_, _%_, _^_, _≤_, _<_, mod-le, le-trans, arith, leb, T, leb→le, lit<, lit≤, pos, either}
 use Rattle.float64.proofs.Floats.{Float, binary64, le, ofInt, HasValue, round-whole, insideOf, _-ᶠ_, _*ᶠ_, _/ᶠ_, dec, absOf, big, Within, value-within, abs-within, widen, round-within, mul-within, div-within, add-within, sub-within, apart-within, le-whole}
-use Rattle.calendar.specs.Gregorian.{leapOf}
-use Rattle.calendar.specs.Days.{daysInYearOf}
+use Rattle.calendar.proofs.Calendar.{leapOf, daysInYearOf}
 use Rattle.models.specs.declared.shafaq.Shafaq.{Shafaq}
 use Rattle.models.specs.declared.shafaq.Shafaq.the-variants.{General, Ahmer, Abyad}
-use Rattle.ops.specs.declared.season.AdjustmentDaytime.{AdjustmentDaytime}
+use Rattle.ops.specs.declared.{season.AdjustmentDaytime.AdjustmentDaytime, season.TwilightAdjustmentValues.TwilightAdjustmentValues}
 use Rattle.ops.specs.declared.season.AdjustmentDaytime.the-variants.{Morning, Evening}
-use Rattle.ops.specs.declared.season.TwilightAdjustmentValues.{TwilightAdjustmentValues}
 use Rattle.ops.specs.Season.{southernOffsetOf, daysSinceSolsticeOf, moreMinutes, fewerMinutes, eveningValuesOf, twilightAdjustmentValuesOf, onTheWayOf, twilightAdjustmentsOf}
 
 pub whole-value : (n : ℕ) → n ≤ big → HasValue (dec n 0) false n 1

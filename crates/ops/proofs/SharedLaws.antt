@@ -6,7 +6,7 @@ use Rattle.unit.specs.declared.Coordinates.{Coordinates}
 use Rattle.unit.specs.Unit.{longitudeAngleOf}
 use Rattle.ops.specs.declared.transit.Course.{Course}
 use Rattle.ops.specs.Transit.{interpolateOf, interpolateAnglesOf, altitudeOfCelestialBodyOf, hourAngleAtOf, correctedTransitOf, correctedHourAngleOf}
-use Rattle.ops.specs.Shared.{interpolatedOf, observerOf, courseOf, hourAngleOf, courseTransitNumberOf, halfArcOf, movedTransitOf, hourNumberOf}
+use Rattle.ops.specs.Shared.{interpolatedOf, observerOf, courseOf, hourAngleOf, courseTransitNumberOf, arcToSineOf, halfArcOf, movedTransitOf, hourNumberOf}
 
 module _ (transit : Float) (place : Coordinates) (sidereal ascension previous next declination previous-declination next-declination : Angle) where
   abbrev course : Course
@@ -18,5 +18,5 @@ module _ (transit : Float) (place : Coordinates) (sidereal ascension previous ne
 
   pub hour-number-shared : (angle : Angle) (after : Bool) → hourNumberOf course angle (halfArcOf course angle) after
       ≡ correctedHourAngleOf transit angle place after sidereal ascension previous next declination previous-declination next-declination
-  unfolding hourNumberOf movedTransitOf halfArcOf correctedHourAngleOf hourAngleOf hourAngleAtOf interpolatedOf interpolateAnglesOf interpolateOf altitudeOfCelestialBodyOf
+  unfolding hourNumberOf movedTransitOf halfArcOf arcToSineOf correctedHourAngleOf hourAngleOf hourAngleAtOf interpolatedOf interpolateAnglesOf interpolateOf altitudeOfCelestialBodyOf
   hour-number-shared angle after = refl

@@ -1,8 +1,7 @@
 -- The southern count that starts again at the solstice, over the days of every year; and how far either count goes. Assumes nothing.
 use Rattle.prelude.proofs.Logic.{_≡_, refl, sym, ap, _∙_, Bool, true, false, cond, ℕ, _+_, _-_, _≤_, _<_, arith, leb, lit≤, leb-true, leb-false, le-leb}
 use Rattle.float64.proofs.Floats.{Float, le, dec}
-use Rattle.calendar.specs.Gregorian.{leapOf}
-use Rattle.calendar.specs.Days.{daysInYearOf}
+use Rattle.calendar.proofs.Calendar.{leapOf, daysInYearOf}
 use Rattle.models.specs.declared.rules.Southern.{Southern}
 use Rattle.models.specs.declared.rules.Southern.the-variants.{Unreduced, StartsAgain}
 use Rattle.ops.specs.Season.{southernOffsetOf, daysSinceSolsticeOf, southernCountOf, daysByRule}

@@ -1,7 +1,6 @@
 -- The southern count: a difference that wraps, and wraps back. Assumes nothing.
 use Rattle.prelude.proofs.Logic.{_≡_, Bool, true, false, cond, ℕ, _+_, _-_, _%_, _≤_, _<_, arith}
-use Rattle.calendar.specs.Gregorian.{leapOf}
-use Rattle.calendar.specs.Days.{daysInYearOf}
+use Rattle.calendar.proofs.Calendar.{leapOf, daysInYearOf}
 use Rattle.ops.specs.Season.{southernOffsetOf}
 
 within-year : (year : ℕ) → southernOffsetOf year ≤ daysInYearOf year

@@ -64,9 +64,12 @@ courseTransitNumberOf c =
     let delta = overOf (quadrantShiftedOf (hourAngleOf c (c .transit))) (angleOf (neg (dec 360 0))) in
     (c .transit +ᶠ delta .degrees) *ᶠ dec 24 0
 
--- how much of a turn lies between the transit and an altitude, in degrees
+-- how much of a turn lies between the transit and an altitude, in degrees: from the altitude's sine, and from the altitude
+unfoldable pub arcToSineOf : Course → Float → Float
+arcToSineOf c sine = (fromRadiansOf (acosOf ((sine -ᶠ c .sines) /ᶠ c .cosines))) .degrees
+
 unfoldable pub halfArcOf : Course → Angle → Float
-halfArcOf c angle = (fromRadiansOf (acosOf ((sinOf (radiansOf angle) -ᶠ c .sines) /ᶠ c .cosines))) .degrees
+halfArcOf c angle = arcToSineOf c (sinOf (radiansOf angle))
 
 -- the transit moved by an arc, to the evening or to the morning
 unfoldable pub movedTransitOf : Float → Float → Bool → Float

@@ -2,8 +2,8 @@
 // What several hour numbers of a day share is worked once: the sine and cosine of the latitude (Observer), the differences
 // of the interpolations and the products of the sines and of the cosines (Course).
 ghost use mathlib.Core.Path.{_≡_};
-ghost use Rattle.ops.specs.Transit.{altitudeOfCelestialBodyOf, westOf, approximateTransitOf, hourAngleAtOf, correctedTransitOf, correctedHourAngleOf};
-ghost use Rattle.ops.specs.Shared.{observerOf, courseOf, hourAngleOf, movedTransitOf, courseTransitNumberOf, halfArcOf, hourNumberOf};
+ghost use Rattle.ops.specs.Transit.{altitudeOfCelestialBodyOf, westOf, approximateTransitOf, correctedTransitOf, correctedHourAngleOf};
+ghost use Rattle.ops.specs.Shared.{observerOf, courseOf, hourAngleOf, movedTransitOf, courseTransitNumberOf, arcToSineOf, halfArcOf, hourNumberOf};
 use super::interpolation::Interpolation;
 use super::interpolation::interpolate_angles;
 use fdlibm_arc::e_acos::acos;
@@ -133,12 +133,18 @@ impl Course {
         (transit + angle_delta.degrees) * 24.0
     }
 
-    // How much of a turn lies between the transit and an altitude, in degrees.
+    // How much of a turn lies between the transit and an altitude, in degrees, from the altitude's sine: one that several days share is worked once.
+    pub fn arc_to_sine(self, sine: f64) -> f64
+        ensures { λ r. ⌜ r ≡ arcToSineOf self sine ⌝ }
+    {
+        Angle::from_radians(acos((sine - self.sines) / self.cosines)).degrees
+    }
+
+    // The same from the altitude.
     pub fn half_arc(self, angle: Angle) -> f64
         ensures { λ r. ⌜ r ≡ halfArcOf self angle ⌝ }
     {
-        let term1 = sin(angle.radians()) - self.sines;
-        Angle::from_radians(acos(term1 / self.cosines)).degrees
+        self.arc_to_sine(sin(angle.radians()))
     }
 
     // The hour number at which the sun stands at the altitude, from its half arc.

@@ -1,17 +1,9 @@
 -- What a caller may rely on once an order is read: its record is one of Accepted.antt. Assumes nothing.
-use Rattle.prelude.proofs.Logic.{_≡_, refl, sym, ap, subst, true, _&&_, _||_, List, ℕ, _+_, _-_, _≤_, _<_, arith, leb, lit≤, ℤ, pos, negsuc, _-ℤ_, getD, leZ, leb-true, eqb-true}
-use Rattle.prelude.proofs.Cases.{arms, cases, both}
-use lib.Ieee.{Float, neg, le, round}
-use Rattle.integers.specs.Parts.{P, N, Near}
-use Rattle.integers.proofs.Intervals.{by-balance}
-use Rattle.integers.proofs.OrderLaws.{le-yes}
-use Rattle.integers.proofs.Sums.{difference}
-use Rattle.float64.specs.Ops.{dec}
-use Rattle.float64.specs.Ranges.{Inside}
+use Rattle.prelude.proofs.Logic.{_≡_, refl, sym, ap, subst, true, _&&_, _||_, List, ℕ, _+_, _-_, _≤_, _<_, arith, leb, lit≤, ℤ, pos, negsuc, _-ℤ_, getD, leZ, leb-true, eqb-true, arms, cases, both}
+use Rattle.float64.proofs.Floats.{Float, neg, le, round, dec, Inside}
+use Rattle.integers.proofs.Integers.{P, N, Between, Near, by-balance, le-yes, difference}
 use Rattle.calendar.specs.declared.dates.Date.{Date}
-use Rattle.calendar.specs.Gregorian.{existsOf}
-use Rattle.calendar.specs.Answers.{rowDateOf}
-use Rattle.calendar.specs.Days.{dayNumberOf}
+use Rattle.calendar.proofs.Calendar.{existsOf, rowDateOf, dayNumberOf}
 use Rattle.fields.specs.Numbers.{byteOf, unsignedOf, signedAtOf}
 use Rattle.fields.specs.Values.{Values, valuesOf}
 use Rattle.fields.specs.Tags.{lastTag}
@@ -20,23 +12,21 @@ use Rattle.hijri.specs.declared.ramadan.Ramadan.{Ramadan}
 use Rattle.map_form.specs.Hundredths.{signedHundredthsOf, degreesOf, formFits}
 use Rattle.map_form.proofs.Limits.{in-limits}
 use Rattle.map_form.proofs.RoundTrip.{read-in-range}
-use Rattle.models.specs.declared.adjustments.TimeAdjustment.{TimeAdjustment}
-use Rattle.models.specs.declared.method.Method.{Method}
+use Rattle.models.specs.declared.{adjustments.TimeAdjustment.TimeAdjustment, method.Method.Method, prayer.Prayer.Prayer}
 use Rattle.models.specs.declared.method.Method.the-variants.{MuslimWorldLeague, Egyptian, Karachi, UmmAlQura, Dubai, MoonsightingCommittee, NorthAmerica, Kuwait, Qatar, Singapore, Tehran, Turkey, Other}
-use Rattle.models.specs.declared.prayer.Prayer.{Prayer}
 use Rattle.models.specs.declared.prayer.Prayer.the-variants.{Fajr, Sunrise, Dhuhr, Asr, Maghrib, Isha, Qiyam, FajrTomorrow}
-use Rattle.models.specs.Minutes.{noMinutes}
-use Rattle.models.specs.Numbers.{methodOf}
-use Rattle.models.specs.Presets.{preset, presetOf}
-use Rattle.models.specs.Settings.{minutesFor}
+use Rattle.models.proofs.Models.{noMinutes, methodOf, preset, presetOf, minutesFor}
 use Rattle.order.specs.declared.reading.Order.{Order}
 use Rattle.order.specs.declared.reading.Reading.the-variants.{Read}
 use Rattle.order.specs.Given.{dateIn, rowsIn, degreesIn, formIn, coordinateIn, minutesIn, degreesOr, minutesOr, intervalOr, parametersIn, clockIn, ramadanGiven, ramadanIn}
 use Rattle.order.specs.Ranges.{mostRows, mostIn, dateFits, rowsFit, degreesFit, minuteFits, minutesFit, intervalFits, clockFits, ramadanFits, ramadanRows, lookUp, fitsOf}
 use Rattle.order.specs.Reading.{required, isGivenOf, missingOf, outOfRangeOf, orderOf, wrongStartOf, readingOf}
-use Rattle.order.specs.Accepted.{UpTo, DateInOrder, Accepted}
+use Rattle.order.specs.Accepted.{DateInOrder, Accepted}
 use Rattle.order.proofs.RowDates.{row-in-order, most-few}
 use Rattle.order.proofs.ReadingLaws.{read-passed, has-required, one-form, fits-given}
+
+of-natural : {n : ℕ} → n ≤ 1440 → Between 0 1440 (pos n)
+of-natural h = record { from = lit≤ tt; to = h }
 
 -- ---- what each test says
 degrees-inside : (low high : Float) (v : List ℕ) → degreesFit low high v ≡ true → Inside low high (degreesIn v)
@@ -113,11 +103,11 @@ module _ (v : Values) where
       (λ m. in-limits (degreesOf (signedHundredthsOf (formIn (v .value map)))) most small (read-in-range most small (formIn (v .value map)) (as-map m)))
       (λ m. degrees-inside (neg (dec most 0)) (dec most 0) (v .value float) (as-float (one-form (v .has) float map either m)))
 
-  interval-or : (missing : ℤ) → (v .has 14 ≡ true → intervalFits (v .value 14) ≡ true) → UpTo 1440 missing → UpTo 1440 (intervalOr v missing)
+  interval-or : (missing : ℤ) → (v .has 14 ≡ true → intervalFits (v .value 14) ≡ true) → Between 0 1440 missing → Between 0 1440 (intervalOr v missing)
   unfolding intervalOr intervalFits
   interval-or missing fits otherwise =
       let n = unsignedOf (v .value 14) 0 in
-      arms (UpTo 1440) (v .has 14) (λ t. (leb-true n 1440 (both (leb 0 n) (leb n 1440) (fits t) .1), refl)) (λ t. otherwise)
+      arms (Between 0 1440) (v .has 14) (λ t. of-natural (leb-true n 1440 (both (leb 0 n) (leb n 1440) (fits t) .1))) (λ t. otherwise)
 
   clock-in : (v .has 16 ≡ true → clockFits (v .value 16) ≡ true) → Near 840 (clockIn v)
   unfolding clockIn clockFits
@@ -163,23 +153,23 @@ pub record Brought (method : Method) : Type 0 where
   pub named : presetOf method .method ≡ method
   pub fajr : Inside (dec 0 0) (dec 30 0) (presetOf method .«fajr_angle»)
   pub isha : Inside (dec 0 0) (dec 30 0) (presetOf method .«isha_angle»)
-  pub interval : UpTo 1440 (presetOf method .«isha_interval»)
+  pub interval : Between 0 1440 (presetOf method .«isha_interval»)
 
 pub brought : (method : Method) → Brought method
 unfolding presetOf preset dec round le
-brought MuslimWorldLeague = record { named = refl; fajr = (refl, refl); isha = (refl, refl); interval = (lit≤ tt, refl) }
-brought Egyptian = record { named = refl; fajr = (refl, refl); isha = (refl, refl); interval = (lit≤ tt, refl) }
-brought Karachi = record { named = refl; fajr = (refl, refl); isha = (refl, refl); interval = (lit≤ tt, refl) }
-brought UmmAlQura = record { named = refl; fajr = (refl, refl); isha = (refl, refl); interval = (lit≤ tt, refl) }
-brought Dubai = record { named = refl; fajr = (refl, refl); isha = (refl, refl); interval = (lit≤ tt, refl) }
-brought MoonsightingCommittee = record { named = refl; fajr = (refl, refl); isha = (refl, refl); interval = (lit≤ tt, refl) }
-brought NorthAmerica = record { named = refl; fajr = (refl, refl); isha = (refl, refl); interval = (lit≤ tt, refl) }
-brought Kuwait = record { named = refl; fajr = (refl, refl); isha = (refl, refl); interval = (lit≤ tt, refl) }
-brought Qatar = record { named = refl; fajr = (refl, refl); isha = (refl, refl); interval = (lit≤ tt, refl) }
-brought Singapore = record { named = refl; fajr = (refl, refl); isha = (refl, refl); interval = (lit≤ tt, refl) }
-brought Tehran = record { named = refl; fajr = (refl, refl); isha = (refl, refl); interval = (lit≤ tt, refl) }
-brought Turkey = record { named = refl; fajr = (refl, refl); isha = (refl, refl); interval = (lit≤ tt, refl) }
-brought Other = record { named = refl; fajr = (refl, refl); isha = (refl, refl); interval = (lit≤ tt, refl) }
+brought MuslimWorldLeague = record { named = refl; fajr = (refl, refl); isha = (refl, refl); interval = of-natural (lit≤ tt) }
+brought Egyptian = record { named = refl; fajr = (refl, refl); isha = (refl, refl); interval = of-natural (lit≤ tt) }
+brought Karachi = record { named = refl; fajr = (refl, refl); isha = (refl, refl); interval = of-natural (lit≤ tt) }
+brought UmmAlQura = record { named = refl; fajr = (refl, refl); isha = (refl, refl); interval = of-natural (lit≤ tt) }
+brought Dubai = record { named = refl; fajr = (refl, refl); isha = (refl, refl); interval = of-natural (lit≤ tt) }
+brought MoonsightingCommittee = record { named = refl; fajr = (refl, refl); isha = (refl, refl); interval = of-natural (lit≤ tt) }
+brought NorthAmerica = record { named = refl; fajr = (refl, refl); isha = (refl, refl); interval = of-natural (lit≤ tt) }
+brought Kuwait = record { named = refl; fajr = (refl, refl); isha = (refl, refl); interval = of-natural (lit≤ tt) }
+brought Qatar = record { named = refl; fajr = (refl, refl); isha = (refl, refl); interval = of-natural (lit≤ tt) }
+brought Singapore = record { named = refl; fajr = (refl, refl); isha = (refl, refl); interval = of-natural (lit≤ tt) }
+brought Tehran = record { named = refl; fajr = (refl, refl); isha = (refl, refl); interval = of-natural (lit≤ tt) }
+brought Turkey = record { named = refl; fajr = (refl, refl); isha = (refl, refl); interval = of-natural (lit≤ tt) }
+brought Other = record { named = refl; fajr = (refl, refl); isha = (refl, refl); interval = of-natural (lit≤ tt) }
 
 -- ---- the record
 accepted : (v : Values) → missingOf (v .has) .number ≡ 0 → outOfRangeOf v .number ≡ 0

@@ -1,10 +1,9 @@
 -- What reading an order and refusing one say of the checks, and of the town. Assumes nothing.
-use Rattle.prelude.proofs.Logic.{_≡_, refl, sym, ap, subst, _∙_, Bool, true, false, not, _&&_, _||_, List, [], _∷_, ℕ, _+_, _-_, _≤_, _<_, arith, eqb, lit≤, length, getD, eqb-true, eqb-false}
-use Rattle.prelude.proofs.Cases.{arms, cases}
+use Rattle.prelude.proofs.Logic.{_≡_, refl, sym, ap, subst, _∙_, Bool, true, false, not, _&&_, _||_, List, [], _∷_, ℕ, _+_, _-_, _≤_, _<_, arith, eqb, lit≤, length, getD, eqb-true, eqb-false, arms, cases}
 use Rattle.calendar.specs.Days.{dayNumberOf}
 use Rattle.calendar.specs.declared.dates.Date.{Date}
 use Rattle.fields.specs.Fields.{checkOf}
-use Rattle.fields.specs.Tags.{lastTag}
+use Rattle.fields.specs.Tags.{lastTag, longestTown}
 use Rattle.fields.specs.Values.{offsetOf, hasOf, valueOf, valueStartOf, partIn, Values, valuesOf}
 use Rattle.fields.proofs.FieldsLaws.{check-small, value-fits, fits-between}
 use Rattle.fields.proofs.Collecting.{part-same}
@@ -13,7 +12,8 @@ use Rattle.hijri.specs.declared.ramadan.Ramadan.{Ramadan}
 use Rattle.refusals.specs.declared.Refusal.{Refusal}
 use Rattle.order.specs.declared.reading.Order.{Order}
 use Rattle.order.specs.declared.reading.Reading.the-variants.{Read, Refused}
-use Rattle.order.specs.Ranges.{textFits, lookUp, fitsOf, inRangeOf}
+use Rattle.text.specs.Text.{printable}
+use Rattle.order.specs.Ranges.{lookUp, fitsOf, inRangeOf}
 use Rattle.order.specs.Reading.{required, isGivenOf, missingOf, bothFormsOf, outOfRangeOf, tagsFrom, orderOf, wrongStartOf, firstOf, readingOf, townOf}
 use Rattle.order.proofs.Tags.{all-pass, failing-number, tags-from, tags-length}
 
@@ -123,8 +123,8 @@ pub record Town (s town : List ℕ) (order : Order) : Type 0 where
   pub part : town ≡ partIn s (order .town)
   pub begins : order .town .at ≡ offsetOf s 1 + 3
   pub long : order .town .length ≡ length town
-  pub size : (1 ≤ length town) × (length town ≤ 40)
-  pub text : textFits town ≡ true
+  pub size : (1 ≤ length town) × (length town ≤ longestTown)
+  pub text : printable town ≡ true
 
 town-of : (s : List ℕ) (order : Order) → Passed s order → Town s (valueOf s 1) order
 unfolding fitsOf lookUp isGivenOf orderOf valueStartOf

@@ -1,17 +1,8 @@
 -- The dates of an order's rows: where the first and the last lie in an order's years, all do. Assumes nothing.
-use Rattle.prelude.proofs.Logic.{_≡_, refl, sym, ap, subst, true, List, ℕ, zero, suc, _+_, _-_, _≤_, _<_, arith, leb, ltb, eqb, pos, negsuc, _+ℤ_, length, le-leb, ltb-true, ltb-false}
-use Rattle.prelude.proofs.Cases.{arms, cases}
-use Rattle.integers.specs.Parts.{P, N}
-use Rattle.integers.proofs.Sums.{sum, difference}
-use Rattle.integers.proofs.OrderLaws.{to-le}
+use Rattle.prelude.proofs.Logic.{_≡_, refl, sym, ap, subst, true, List, ℕ, zero, suc, _+_, _-_, _≤_, _<_, arith, leb, ltb, eqb, pos, negsuc, _+ℤ_, length, le-leb, ltb-true, ltb-false, arms, cases}
+use Rattle.integers.proofs.Integers.{P, N, sum, difference, to-le}
 use Rattle.calendar.specs.declared.dates.Date.{Date}
-use Rattle.calendar.specs.Gregorian.{existsOf, dayAfterOf}
-use Rattle.calendar.specs.Days.{daysBeforeYearOf, dayNumberOf, dateOfDayOf}
-use Rattle.calendar.specs.Answers.{heldOf, fromOf, rowDateOf}
-use Rattle.calendar.proofs.CalendarLaws.{row-first, row-next, number-of-date, date-of-day-exists}
-use Rattle.calendar.proofs.Existing.{count, ordinal-within, ordinal-short}
-use Rattle.calendar.proofs.YearSteps.{year-mono}
-use Rattle.calendar.proofs.Successors.{year-after, row-is}
+use Rattle.calendar.proofs.Calendar.{existsOf, dayAfterOf, daysBeforeYearOf, dayNumberOf, dateOfDayOf, heldOf, fromOf, rowDateOf, row-first, row-next, number-of-date, date-of-day-exists, count, ordinal-within, ordinal-short, year-mono, year-after, row-is}
 use Rattle.order.specs.Given.{rowsIn}
 use Rattle.order.specs.Ranges.{mostIn, rowsFit}
 use Rattle.order.specs.Accepted.{DateInOrder}

@@ -16,20 +16,22 @@ use Rattle.fields.specs.Numbers.{byteOf, unsignedOf, signedAtOf}
 use Rattle.fields.specs.Tags.{choiceFits}
 use Rattle.fields.specs.Values.{Values}
 use Rattle.map_form.specs.Hundredths.{mostLatitude, mostLongitude, formFits}
+use Rattle.text.specs.Text.{printable}
 use Rattle.models.specs.declared.adjustments.TimeAdjustment.{TimeAdjustment}
 use Rattle.order.specs.Given.{dateIn, rowsIn, degreesIn, formIn, minutesIn}
 
 abbrev pub between : ℕ → ℕ → ℕ → Bool
 between low high n = leb low n && leb n high
 
--- "town, 1 to 40 bytes, each 32 to 126"; how many is the fields' matter
-unfoldable pub textFits : List ℕ → Bool
-textFits [] = true
-textFits (b ∷ bs) = between 32 126 b && textFits bs
+abbrev pub firstYear : ℕ
+firstYear = 1900
+
+abbrev pub lastYear : ℕ
+lastYear = 2199
 
 -- "1900-01-01 to 2199-12-31"; "a day the month lacks" is out of range too, and so is a month that there is not
 abbrev pub dateFits : Date → Bool
-dateFits date = between 1900 2199 (date .year) && existsOf date
+dateFits date = between firstYear lastYear (date .year) && existsOf date
 
 -- "1 to 250, last row by 2199-12-31", and "also .. two bytes, 1 to 400"; rows count from 0, so the last is the one before the number of rows
 abbrev pub mostRows : ℕ
@@ -39,7 +41,7 @@ abbrev pub mostIn : List ℕ → ℕ
 mostIn v = cond (eqb (length v) 2) mostRows 250
 
 unfoldable pub rowsFit : Date → List ℕ → Bool
-rowsFit date v = between 1 (mostIn v) (rowsIn v) && leb (rowDateOf date (rowsIn v - 1) .year) 2199
+rowsFit date v = between 1 (mostIn v) (rowsIn v) && leb (rowDateOf date (rowsIn v - 1) .year) lastYear
 
 -- no comparison with a NaN holds
 abbrev pub degreesFit : Float → Float → List ℕ → Bool
@@ -62,20 +64,26 @@ intervalFits v = between 0 1440 (unsignedOf v 0)
 unfoldable pub clockFits : List ℕ → Bool
 clockFits v = leZ (negsuc 839) (signedAtOf v 0) && leZ (signedAtOf v 0) (pos 840)
 
+abbrev pub mostImsak : ℕ
+mostImsak = 30
+
 -- request 12: "imsak minutes over 30, a stored shift over 2" are out of range
 unfoldable pub ramadanFits : List ℕ → Bool
-ramadanFits v = leb (byteOf v 0) 30 && leb (byteOf v 1) 2
+ramadanFits v = leb (byteOf v 0) mostImsak && leb (byteOf v 1) 2
+
+abbrev pub rowsOfRamadan : ℕ
+rowsOfRamadan = 30
 
 -- and so are "rows other than 30 (with tag 3's range, place 3)", where tag 20 is set
 unfoldable pub ramadanRows : Bool → List ℕ → Bool
-ramadanRows set v = cond set (eqb (rowsIn v) 30) true
+ramadanRows set v = cond set (eqb (rowsIn v) rowsOfRamadan) true
 
 -- the ranges by tag of a value, beside those of a choice's number, which stand in the table of tags: rows go by the order's date too, and by whether
 -- it has tag 20
 abbrev pub ranges : List ℕ → (date : Date) → (ramadan : Bool) → List (ℕ × Bool)
 ranges v date ramadan =
-    -- town, date, and rows from the date on
-    (1, textFits v)
+    -- town, whose length is the fields' matter; date, and rows from the date on
+    (1, printable v)
     ∷ (2, dateFits (dateIn v))
     ∷ (3, rowsFit date v && ramadanRows ramadan v)
     -- latitude, longitude

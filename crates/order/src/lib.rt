@@ -3,3 +3,4 @@ mod given;
 pub mod plain;
 mod ranges;
 pub mod reading;
+mod tag_of;

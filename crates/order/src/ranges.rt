@@ -3,13 +3,15 @@ ghost use mathlib.Core.Path.{_≡_};
 ghost use mathlib.Core.Bool.{true, cond};
 ghost use lib.Dec.{ltb};
 ghost use Rattle.fields.specs.Values.{partIn};
-ghost use Rattle.order.specs.Ranges.{textFits, dateFits, mostIn, rowsFit, degreesFit, minuteFits, minutesFit, intervalFits, clockFits, ramadanFits, ramadanRows, fitsIn};
+ghost use Rattle.text.specs.Text.{printable};
+ghost use Rattle.order.specs.Ranges.{dateFits, mostIn, rowsFit, degreesFit, minuteFits, minutesFit, intervalFits, clockFits, ramadanFits, ramadanRows, fitsIn};
 use super::given::date_in;
 use super::given::degrees_in;
 use super::given::form_in;
 use super::given::minutes_in;
 use super::given::rows_in;
 use super::reading::MOST_ROWS;
+use super::tag_of;
 use calendar::dates::Date;
 use fields::numbers::byte;
 use fields::numbers::signed;
@@ -30,9 +32,11 @@ const MOST_IN_ONE_BYTE: u32 = 250;
 
 const RAMADAN_ROWS: u32 = 30;
 
+const MOST_IMSAK: u32 = 30;
+
 // Printable ASCII.
 fn text_fits(bytes: &[u8]) -> bool
-    ensures { λ r. ⌜ r ≡ textFits (now (bytes .entry)) ⌝ }
+    ensures { λ r. ⌜ r ≡ printable (now (bytes .entry)) ⌝ }
 {
     let mut i = 0;
     while i < bytes.len() {
@@ -121,7 +125,7 @@ fn clock_fits(bytes: &[u8]) -> bool
 fn ramadan_fits(bytes: &[u8]) -> bool
     ensures { λ r. ⌜ r ≡ ramadanFits (now (bytes .entry)) ⌝ }
 {
-    (byte(bytes, 0) <= 30) & (byte(bytes, 1) <= 2)
+    (byte(bytes, 0) <= MOST_IMSAK) & (byte(bytes, 1) <= 2)
 }
 
 // A Ramadan sheet has the rows of its month and no others.
@@ -140,19 +144,19 @@ fn fits(tag: u32, bytes: &[u8], date: Date, ramadan: bool) -> bool
     ensures { λ r. ⌜ r ≡ fitsIn tag (now (bytes .entry)) date ramadan ⌝ }
 {
     match tag {
-        1 => text_fits(bytes),
-        2 => date_fits(date_in(bytes)),
-        3 => rows_fit(date, bytes) & ramadan_rows(ramadan, bytes),
-        4 => degrees_fit(bytes, -90.0, 90.0),
-        5 => degrees_fit(bytes, -180.0, 180.0),
-        11 => minutes_fit(minutes_in(bytes)),
-        12 => degrees_fit(bytes, 0.0, 30.0),
-        13 => degrees_fit(bytes, 0.0, 30.0),
-        14 => interval_fits(bytes),
-        16 => clock_fits(bytes),
-        18 => latitude_fits(form_in(bytes)),
-        19 => longitude_fits(form_in(bytes)),
-        20 => ramadan_fits(bytes),
+        tag_of::TOWN => text_fits(bytes),
+        tag_of::DATE => date_fits(date_in(bytes)),
+        tag_of::ROWS => rows_fit(date, bytes) & ramadan_rows(ramadan, bytes),
+        tag_of::LATITUDE => degrees_fit(bytes, -90.0, 90.0),
+        tag_of::LONGITUDE => degrees_fit(bytes, -180.0, 180.0),
+        tag_of::MINUTES => minutes_fit(minutes_in(bytes)),
+        tag_of::FAJR_ANGLE => degrees_fit(bytes, 0.0, 30.0),
+        tag_of::ISHA_ANGLE => degrees_fit(bytes, 0.0, 30.0),
+        tag_of::ISHA_INTERVAL => interval_fits(bytes),
+        tag_of::CLOCK => clock_fits(bytes),
+        map_form::LATITUDE => latitude_fits(form_in(bytes)),
+        map_form::LONGITUDE => longitude_fits(form_in(bytes)),
+        tag_of::RAMADAN => ramadan_fits(bytes),
         _ => choice_fits(tag, byte(bytes, 0)),
     }
 }

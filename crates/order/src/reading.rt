@@ -10,6 +10,7 @@ use super::given::ramadan_in;
 use super::given::rows_in;
 use super::given::rules_in;
 use super::ranges::in_range;
+use super::tag_of;
 use calendar::dates::Date;
 use fields::one_pass::fields_of;
 use fields::tags::LAST_TAG;
@@ -19,8 +20,6 @@ use fields::values::bytes;
 use fields::values::value;
 use hijri::ramadan::Ramadan;
 use hijri::ramadan::is_ramadan_start;
-use map_form::LATITUDE;
-use map_form::LONGITUDE;
 use models::parameters::Parameters;
 use models::rules::Rules;
 use refusals::BOTH_FORMS;
@@ -34,7 +33,14 @@ use unit::Coordinates;
 pub const MOST_ROWS: u32 = 400;
 
 // The tags that an order may not lack.
-const REQUIRED: [u32; 6] = [1, 2, 3, 4, 5, 6];
+const REQUIRED: [u32; 6] = [
+    tag_of::TOWN,
+    tag_of::DATE,
+    tag_of::ROWS,
+    tag_of::LATITUDE,
+    tag_of::LONGITUDE,
+    tag_of::METHOD,
+];
 
 // What an order asks for: timetables of so many rows from a date on, for a place. The town stays in the order's own bytes.
 pub struct Order {
@@ -59,8 +65,8 @@ fn is_given(fields: Fields, tag: u32) -> bool
     ensures { λ r. ⌜ r ≡ isGivenOf (hasIn fields) tag ⌝ }
 {
     match tag {
-        4 => fields.has(4) | fields.has(LATITUDE),
-        5 => fields.has(5) | fields.has(LONGITUDE),
+        tag_of::LATITUDE => fields.has(tag_of::LATITUDE) | fields.has(map_form::LATITUDE),
+        tag_of::LONGITUDE => fields.has(tag_of::LONGITUDE) | fields.has(map_form::LONGITUDE),
         _ => fields.has(tag),
     }
 }
@@ -84,11 +90,11 @@ fn missing(fields: Fields) -> Refusal
 fn both_forms(fields: Fields) -> Refusal
     ensures { λ r. ⌜ r ≡ bothFormsOf (hasIn fields) ⌝ }
 {
-    if fields.has(4) & fields.has(LATITUDE) {
-        return Refusal::new(BOTH_FORMS, LATITUDE);
+    if fields.has(tag_of::LATITUDE) & fields.has(map_form::LATITUDE) {
+        return Refusal::new(BOTH_FORMS, map_form::LATITUDE);
     }
-    if fields.has(5) & fields.has(LONGITUDE) {
-        return Refusal::new(BOTH_FORMS, LONGITUDE);
+    if fields.has(tag_of::LONGITUDE) & fields.has(map_form::LONGITUDE) {
+        return Refusal::new(BOTH_FORMS, map_form::LONGITUDE);
     }
     Refusal::none()
 }
@@ -99,8 +105,8 @@ fn out_of_range(order: &[u8], fields: Fields) -> Refusal
 {
     let starts = fields.at;
     let lengths = fields.length;
-    let date = date_in(value(order, fields, 2));
-    let ramadan = fields.has(20);
+    let date = date_in(value(order, fields, tag_of::DATE));
+    let ramadan = fields.has(tag_of::RAMADAN);
     let mut passed = 0;
     while passed < LAST_TAG {
         let tag = passed + 1;
@@ -121,12 +127,12 @@ fn record_in(order: &[u8], fields: Fields) -> Order
     ensures { λ r. ⌜ r ≡ orderOf (valuesIn (now (order .entry)) fields) ⌝ }
 {
     Order {
-        town: fields.part(1),
-        date: date_in(value(order, fields, 2)),
-        rows: rows_in(value(order, fields, 3)),
+        town: fields.part(tag_of::TOWN),
+        date: date_in(value(order, fields, tag_of::DATE)),
+        rows: rows_in(value(order, fields, tag_of::ROWS)),
         coordinates: Coordinates::new(
-            coordinate_in(order, fields, 4, LATITUDE),
-            coordinate_in(order, fields, 5, LONGITUDE),
+            coordinate_in(order, fields, tag_of::LATITUDE, map_form::LATITUDE),
+            coordinate_in(order, fields, tag_of::LONGITUDE, map_form::LONGITUDE),
         ),
         parameters: parameters_in(order, fields),
         rules: rules_in(order, fields),
@@ -143,7 +149,7 @@ fn wrong_start(ramadan: Ramadan, date: Date) -> Refusal
         if is_ramadan_start(date.day_number(), ramadan.shift) {
             return Refusal::none();
         }
-        return Refusal::new(NOT_FIRST_OF_RAMADAN, 2);
+        return Refusal::new(NOT_FIRST_OF_RAMADAN, tag_of::DATE);
     }
     Refusal::none()
 }

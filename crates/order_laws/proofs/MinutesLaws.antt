@@ -1,31 +1,20 @@
 -- Demand 3: from the bytes of two orders to the parameters of one row's day, where crates/schedule_laws has proved it. Assumes nothing.
-use Rattle.prelude.proofs.Logic.{_≡_, refl, sym, ap, subst, _∙_, Bool, true, false, cond, _&&_, List, ℕ, _*_, _≤_, _<_, _^_, arith, ltb, leb, ℤ, pos, negsuc, _+ℤ_, _-ℤ_, leZ, leb-true}
-use Rattle.prelude.proofs.Cases.{both}
-use Rattle.integers.specs.Parts.{P, N, Near}
-use Rattle.integers.proofs.PartsLaws.{same}
-use Rattle.integers.proofs.Sums.{sum, difference}
-use Rattle.integers.specs.Order.{_≼_}
+use Rattle.prelude.proofs.Logic.{_≡_, refl, sym, ap, subst, _∙_, Bool, true, false, cond, _&&_, List, ℕ, _*_, _≤_, _<_, _^_, arith, ltb, leb, ℤ, pos, negsuc, _+ℤ_, _-ℤ_, leZ, leb-true, both}
+use Rattle.integers.proofs.Integers.{P, N, Near, same, sum, difference, _≼_}
 use Rattle.calendar.specs.Answers.{rowDateOf}
 use Rattle.fields.specs.declared.values.Part.{Part}
-use Rattle.models.specs.declared.adjustments.TimeAdjustment.{TimeAdjustment}
-use Rattle.models.specs.declared.parameters.Parameters.{Parameters}
+use Rattle.models.specs.declared.{adjustments.TimeAdjustment.TimeAdjustment, parameters.Parameters.Parameters, prayer.Prayer.Prayer}
 use Rattle.hijri.specs.declared.ramadan.Ramadan.{Ramadan}
 use Rattle.lines.specs.Lines.{imsakOf}
-use Rattle.models.specs.declared.prayer.Prayer.{Prayer}
 use Rattle.models.specs.declared.prayer.Prayer.the-variants.{Fajr}
 use Rattle.refusals.specs.declared.Refusal.{Refusal}
 use Rattle.models.specs.Settings.{timeAdjustmentsOf}
-use Rattle.order.specs.declared.reading.Order.{Order}
-use Rattle.order.specs.declared.reading.Reading.{Reading}
+use Rattle.order.specs.declared.{reading.Order.Order, reading.Reading.Reading}
 use Rattle.order.specs.Accepted.{Accepted}
 use Rattle.order.proofs.AcceptedLaws.{read-accepted}
-use Rattle.schedule.specs.declared.in_force.Current.{Current}
-use Rattle.schedule.specs.declared.in_force.Instant.{Instant}
-use Rattle.schedule.specs.declared.prayer_times.PrayerTimes.{PrayerTimes}
-use Rattle.schedule.specs.declared.prayer_times.Worked.{Worked}
+use Rattle.schedule.specs.declared.{in_force.Current.Current, in_force.Instant.Instant, prayer_times.PrayerTimes.PrayerTimes, prayer_times.Worked.Worked}
 use Rattle.schedule.specs.declared.prayer_times.Worked.the-variants as worked
-use Rattle.schedule.specs.InForce.{currentTimeOf, currentNumberOf}
-use Rattle.schedule.specs.Times.{workedAt}
+use Rattle.schedule.proofs.Schedule.{currentTimeOf, currentNumberOf, workedAt}
 use Rattle.schedule_laws.specs.Later.{withMinutes, laterBy, LaterMinutes, Moved}
 use Rattle.schedule_laws.proofs.CarriedLaws.{carried-sums}
 use Rattle.order_laws.proofs.AcceptedParameters.{accepted-carried}

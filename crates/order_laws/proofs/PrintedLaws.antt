@@ -1,23 +1,16 @@
 -- Times that lie by their date have days of one digit, and so has imsak. Assumes nothing.
-use Rattle.prelude.proofs.Logic.{_≡_, refl, sym, subst, Bool, true, false, cond, ℕ, zero, suc, _+_, _*_, _^_, _≤_, _<_, arith, T, ltb, lit<, ℤ, pos, negsuc, _-ℤ_, _*ℤ_, getD, ltb-true}
-use Rattle.integers.specs.Parts.{P, N}
-use Rattle.integers.specs.Quotients.{floorQuot}
-use Rattle.integers.proofs.OrderLaws.{to-le}
-use Rattle.integers.proofs.QuotientLaws.{floored}
-use Rattle.integers.proofs.Sums.{difference, times}
-use Rattle.calendar.specs.Answers.{rowDateOf}
-use Rattle.calendar.specs.Days.{dayNumberOf}
+use Rattle.prelude.proofs.Logic.{_≡_, refl, sym, subst, Bool, true, false, cond, ℕ, zero, suc, _+_, _*_, _^_, _≤_, _<_, arith, T, ltb, lit<, ℤ, pos, negsuc, natAbs, _-ℤ_, _*ℤ_, getD, ltb-true}
+use Rattle.integers.specs.Ends.{least64}
+use Rattle.integers.proofs.Integers.{P, N, floorQuot, to-le, floored, difference, times}
+use Rattle.calendar.proofs.Calendar.{rowDateOf, dayNumberOf}
 use Rattle.calendar.specs.declared.dates.Date.{Date}
 use Rattle.calls.specs.Calls.{workRowOf}
 use Rattle.refusals.specs.Refusals.{refusal}
-use Rattle.lines.specs.Lines.{daysOf, magnitudeOf, nineOf, earliest, imsakOf}
+use Rattle.lines.specs.Lines.{daysOf, nineOf, imsakOf}
 use Rattle.order.specs.Accepted.{Accepted}
 use Rattle.order.specs.declared.reading.Order.{Order}
-use Rattle.schedule.proofs.Starts.{start-near}
-use Rattle.schedule.specs.Numbers.{numbersOf}
-use Rattle.schedule.specs.Times.{startOf, seasonOf, workedAt}
-use Rattle.schedule.specs.declared.prayer_times.PrayerTimes.{PrayerTimes}
-use Rattle.schedule.specs.declared.prayer_times.Worked.{Worked}
+use Rattle.schedule.proofs.Schedule.{start-near, numbersOf, startOf, seasonOf, workedAt}
+use Rattle.schedule.specs.declared.{prayer_times.PrayerTimes.PrayerTimes, prayer_times.Worked.Worked}
 use Rattle.schedule.specs.declared.prayer_times.Worked.the-variants.{Times, Refused}
 use Rattle.schedule_laws.specs.Range.{OfDate, AllOfDate}
 use Rattle.schedule_laws.proofs.RangeLaws.{times-lie-by-their-date}
@@ -26,11 +19,11 @@ use Rattle.order_laws.specs.Printed.{DaysArePrintedWhole}
 use Rattle.order_laws.proofs.AcceptedParameters.{accepted-carried, accepted-latitude}
 
 -- one of the two parts is 0
-small : (k : ℕ) (z : ℤ) → P z ≤ N z + k → N z ≤ P z + k → magnitudeOf z ≤ k
+small : (k : ℕ) (z : ℤ) → P z ≤ N z + k → N z ≤ P z + k → natAbs z ≤ k
 small k (pos n) a b = omega arith
 small k (negsuc n) a b = omega arith
 
-one-digit : (date : Date) (time : ℤ) → OfDate date time → magnitudeOf (daysOf date time) ≤ 4
+one-digit : (date : Date) (time : ℤ) → OfDate date time → natAbs (daysOf date time) ≤ 4
 unfolding startOf
 one-digit date time h =
     let f = floored time 86400 (lit< tt) in
@@ -39,7 +32,7 @@ one-digit date time h =
     let s = difference time (dayNumberOf date *ℤ pos 86400) in
     small 4 (daysOf date time) (omega (arith, f .balance, f .below, d .0, d .1, m, s .0, s .1, h .from, h .before)) (omega (arith, f .balance, f .below, d .0, d .1, m, s .0, s .1, h .from, h .before))
 
-nine-digits : (date : Date) (t : PrayerTimes) → AllOfDate date t → (i : ℕ) → i < 9 → magnitudeOf (daysOf date (getD (nineOf t) i (pos 0))) ≤ 4
+nine-digits : (date : Date) (t : PrayerTimes) → AllOfDate date t → (i : ℕ) → i < 9 → natAbs (daysOf date (getD (nineOf t) i (pos 0))) ≤ 4
 nine-digits date t a zero l = one-digit date (t .fajr) (a .fajr)
 nine-digits date t a (suc zero) l = one-digit date (t .sunrise) (a .sunrise)
 nine-digits date t a (suc (suc zero)) l = one-digit date (t .dhuhr) (a .dhuhr)
@@ -81,9 +74,9 @@ imsak-exact date fajr m y l h =
     let n = start-near date y in
     let s = difference fajr (dayNumberOf date *ℤ pos 86400) in
     let d = difference fajr (pos (60 * m)) in
-    rw (to-le earliest (fajr -ℤ pos (60 * m)) (omega (arith, n .from, n .to, s .0, s .1, d .0, d .1, h .from, h .before)))
+    rw (to-le least64 (fajr -ℤ pos (60 * m)) (omega (arith, n .from, n .to, s .0, s .1, d .0, d .1, h .from, h .before)))
 
-imsak-digit : (date : Date) (fajr : ℤ) (m : ℕ) → m ≤ 30 → OfDate date fajr → magnitudeOf (daysOf date (fajr -ℤ pos (60 * m))) ≤ 5
+imsak-digit : (date : Date) (fajr : ℤ) (m : ℕ) → m ≤ 30 → OfDate date fajr → natAbs (daysOf date (fajr -ℤ pos (60 * m))) ≤ 5
 unfolding startOf
 imsak-digit date fajr m l h =
     let time = fajr -ℤ pos (60 * m) in
@@ -112,4 +105,4 @@ imsak-is-printed-whole order row t h e =
     let a = by-its-date order row t h e in
     let y = h .row row (row-there order row t e) .to in
     let exact = imsak-exact date (t .fajr) m (omega arith) (h .imsak) (a .fajr) in
-    record { exact = exact; days = subst (λ (z : ℤ). magnitudeOf (daysOf date z) ≤ 5) (sym exact) (imsak-digit date (t .fajr) m (h .imsak) (a .fajr)) }
+    record { exact = exact; days = subst (λ (z : ℤ). natAbs (daysOf date z) ≤ 5) (sym exact) (imsak-digit date (t .fajr) m (h .imsak) (a .fajr)) }

@@ -14,7 +14,7 @@ use Rattle.fields.specs.Numbers.{byteOf}
 use Rattle.fields.specs.Tags.{lastTag}
 use Rattle.fields.specs.Values.{valueOf, Values, valuesOf}
 use Rattle.order.specs.Given.{dateIn}
-use Rattle.order.specs.Ranges.{between, ramadanRows, inRangeOf}
+use Rattle.order.specs.Ranges.{between, lastYear, ramadanRows, inRangeOf}
 use Rattle.order.specs.Reading.{firstFailing, missingOf, bothFormsOf, tagsFrom, orderOf, wrongStartOf, firstOf, readingOf}
 use Rattle.order.specs.declared.reading.Order.{Order}
 use Rattle.order.specs.declared.reading.Reading.{Reading}
@@ -25,7 +25,7 @@ abbrev pub formerRowsIn : List ℕ → ℕ
 formerRowsIn v = byteOf v 0
 
 unfoldable pub formerRowsFit : Date → List ℕ → Bool
-formerRowsFit date v = eqb (length v) 1 && (between 1 250 (formerRowsIn v) && leb (rowDateOf date (formerRowsIn v - 1) .year) 2199)
+formerRowsFit date v = eqb (length v) 1 && (between 1 250 (formerRowsIn v) && leb (rowDateOf date (formerRowsIn v - 1) .year) lastYear)
 
 -- the record with the rows that tag 3 gave, all else as it is read today
 unfoldable pub withRows : Order → ℕ → Order

@@ -2,10 +2,10 @@
 -- digit, as those of the nine times are (Printed). Proved in proofs/PrintedLaws.
 use mathlib.Core.Path.{_≡_}
 use Prim.Native.Nat.{ℕ, _*_, _≤_}
-use lib.IntN.{pos, _-ℤ_}
+use lib.IntN.{pos, natAbs, _-ℤ_}
 use Rattle.calendar.specs.Answers.{rowDateOf}
 use Rattle.calls.specs.Calls.{workRowOf}
-use Rattle.lines.specs.Lines.{daysOf, magnitudeOf, imsakOf}
+use Rattle.lines.specs.Lines.{daysOf, imsakOf}
 use Rattle.order.specs.Accepted.{Accepted}
 use Rattle.order.specs.declared.reading.Order.{Order}
 use Rattle.schedule.specs.declared.prayer_times.PrayerTimes.{PrayerTimes}
@@ -13,7 +13,7 @@ use Rattle.schedule.specs.declared.prayer_times.Worked.the-variants.{Times}
 
 pub record ImsakPrinted (order : Order) (row : ℕ) (t : PrayerTimes) : Type 0 where
   pub exact : imsakOf (order .ramadan .imsak) (t .fajr) ≡ t .fajr -ℤ pos (60 * order .ramadan .imsak)
-  pub days : magnitudeOf (daysOf (rowDateOf (order .date) row) (imsakOf (order .ramadan .imsak) (t .fajr))) ≤ 5
+  pub days : natAbs (daysOf (rowDateOf (order .date) row) (imsakOf (order .ramadan .imsak) (t .fajr))) ≤ 5
 
 abbrev pub ImsakIsPrintedWhole : Type 0
 ImsakIsPrintedWhole =

@@ -2,11 +2,11 @@
 -- cut. Proved in proofs/PrintedLaws.
 use mathlib.Core.Path.{_≡_}
 use Prim.Native.Nat.{ℕ, _≤_, _<_}
-use lib.IntN.{pos}
+use lib.IntN.{pos, natAbs}
 use lib.ListN.{getD}
 use Rattle.calendar.specs.Answers.{rowDateOf}
 use Rattle.calls.specs.Calls.{workRowOf}
-use Rattle.lines.specs.Lines.{daysOf, magnitudeOf, nineOf}
+use Rattle.lines.specs.Lines.{daysOf, nineOf}
 use Rattle.order.specs.Accepted.{Accepted}
 use Rattle.order.specs.declared.reading.Order.{Order}
 use Rattle.schedule.specs.declared.prayer_times.PrayerTimes.{PrayerTimes}
@@ -15,4 +15,4 @@ use Rattle.schedule.specs.declared.prayer_times.Worked.the-variants.{Times}
 abbrev pub DaysArePrintedWhole : Type 0
 DaysArePrintedWhole =
     (order : Order) (row : ℕ) (t : PrayerTimes) (i : ℕ) → Accepted order → workRowOf order row ≡ Times t → i < 9
-    → magnitudeOf (daysOf (rowDateOf (order .date) row) (getD (nineOf t) i (pos 0))) ≤ 4
+    → natAbs (daysOf (rowDateOf (order .date) row) (getD (nineOf t) i (pos 0))) ≤ 4

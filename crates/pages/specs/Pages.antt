@@ -1,5 +1,5 @@
 -- Document 02, requests 2 and 9: the rows of cells of an order, its pages and pieces of them.
-use Prim.Native.Nat.{ℕ, zero, suc, _+_, _*_, _/_}
+use Prim.Native.Nat.{ℕ, zero, suc, _+_, _-_, _*_, _/_}
 use mathlib.Core.List.{List, [], _∷_, _++_}
 use lib.ListN.{take, drop}
 use Rattle.braille.specs.Cells.{rowCells}
@@ -42,7 +42,7 @@ pieceOf rows first room = take room (drop first rows)
 
 -- how many pages an order has
 abbrev pub pageCount : Order → ℕ
-pageCount o = (o .rows + 24) / pageRows
+pageCount o = (o .rows + (pageRows - 1)) / pageRows
 
 -- the cells of the first n pages, one page behind another
 unfoldable pub pagesCells : Order → ℕ → List ℕ

@@ -1,3 +1,4 @@
 pub mod Cases
+pub mod Computed
 pub mod Ieee
 pub mod Logic

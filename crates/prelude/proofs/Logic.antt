@@ -21,4 +21,4 @@ pub use mir.Syntax.{w32, w64, Width, w8, w16, w128}
 pub use mir.Val.{SFits, toZ, Fits, boolByte, ofZ, bits, hbits}
 pub use mir.Facts.{toZ-pos, toZ-ofZ, sfits-widen}
 pub use denote.Ref.{now}
-pub use Rattle.prelude.proofs.Cases.{cases, either, Others, beyond}
+pub use Rattle.prelude.proofs.Cases.{cases, arms, either, both, Others, beyond}

@@ -1,8 +1,7 @@
 -- What is asked of times at an instant, where both come as an export's arguments. Assumes nothing.
 use Rattle.prelude.proofs.Logic.{_≡_, ap, _∙_, ℕ, ℤ, w64, SFits}
 use Rattle.integers.proofs.Ranges.{readBack, read}
-use Rattle.schedule.specs.declared.in_force.Instant.{Instant}
-use Rattle.schedule.specs.declared.prayer_times.PrayerTimes.{PrayerTimes}
+use Rattle.schedule.specs.declared.{in_force.Instant.Instant, prayer_times.PrayerTimes.PrayerTimes}
 use Rattle.calls.specs.Calls.{instantOf}
 use Rattle.probes.specs.Days.{timesFrom}
 use Rattle.probes.specs.declared.days.ProbeTimes.{ProbeTimes}

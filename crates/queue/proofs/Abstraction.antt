@@ -1,10 +1,10 @@
 -- The arrays and the list of jobs: `shown`, a list comes back from its arrays; what the parts of the code make, as lists. Assumes nothing.
-use Rattle.prelude.proofs.Logic.{_≡_, refl, sym, ap, _∙_, Bool, _||_, List, [], _∷_, _++_, map, ℕ, suc, _-_, _≤_, _<_, arith, ltb, eqb, lit≤, length, getD, set, replicate, length-append, length-map, slice, slice-cons, length-slice, take-at, ltb-true, ltb-false}
-use Rattle.prelude.proofs.Cases.{arms}
+use Rattle.prelude.proofs.Logic.{_≡_, refl, sym, ap, _∙_, Bool, _||_, List, [], _∷_, _++_, map, ℕ, suc, _-_, _≤_, _<_, arith, ltb, eqb, lit≤, length, getD, set, replicate, length-append, length-map, slice, slice-cons, length-slice, take-at, ltb-true, ltb-false, arms}
 use Rattle.queue.specs.declared.Queue.{Queue}
 use Rattle.queue.specs.Jobs.{Job, job, waits, atBack, mostJobs}
 use Rattle.queue.specs.Arrays.{counted, paired, jobsIn, jobsOf, padded, idOf, pagesOf, queueOf}
-use Rattle.queue.specs.Parts.{among, withLast}
+use Rattle.prelude.specs.Lists.{listed}
+use Rattle.queue.specs.Parts.{withLast}
 use Rattle.queue.proofs.Lists.{padded-more}
 
 -- both arrays have their length, as the arrays of every queue of the code do
@@ -29,7 +29,8 @@ paired-length [] b e = refl
 paired-length (x ∷ a) [] e = absurd (omega arith)
 paired-length (x ∷ a) (y ∷ b) e = ap suc (paired-length a b (omega arith))
 
-pub paired-waits : (id : ℕ) (a b : List ℕ) → length a ≡ length b → waits id (paired a b) ≡ among id a
+pub paired-waits : (id : ℕ) (a b : List ℕ) → length a ≡ length b → waits id (paired a b) ≡ listed a id
+unfolding listed
 paired-waits id [] b e = refl
 paired-waits id (x ∷ a) [] e = absurd (omega arith)
 paired-waits id (x ∷ a) (y ∷ b) e = ap (λ (t : Bool). eqb x id || t) (paired-waits id a b (omega arith))
@@ -53,7 +54,7 @@ module _ (q : Queue) (w : Whole q) (from to : ℕ) (up : to ≤ 16) where
   pub jobs-length : length (jobsIn q from to) ≡ to - from
   jobs-length = paired-length (slice from to (q .ids)) (slice from to (q .pages)) (ids-long ∙ sym pages-long) ∙ ids-long
 
-  pub jobs-waits : (id : ℕ) → waits id (jobsIn q from to) ≡ among id (slice from to (q .ids))
+  pub jobs-waits : (id : ℕ) → waits id (jobsIn q from to) ≡ listed (slice from to (q .ids)) id
   jobs-waits id = paired-waits id (slice from to (q .ids)) (slice from to (q .pages)) (ids-long ∙ sym pages-long)
 
   -- what `lined` makes

@@ -5,7 +5,8 @@ use Rattle.queue.specs.declared.Joined.{Joined}
 use Rattle.queue.specs.declared.Turned.{Turned}
 use Rattle.queue.specs.Jobs.{Job, job, QueueStep, mostJobs, proper, admits, joinOf, turnOf}
 use Rattle.queue.specs.Arrays.{counted, jobsIn, jobsOf, queueOf, refusalIn, heldAfter, joinedOf, turnedOf}
-use Rattle.queue.specs.Parts.{among, withLast}
+use Rattle.prelude.specs.Lists.{listed}
+use Rattle.queue.specs.Parts.{withLast}
 use Rattle.refusals.specs.Refusals.{refusal, noRefusal, queueFull, jobUnfit}
 use Rattle.queue.proofs.Steps.{join-cases}
 use Rattle.queue.proofs.Abstraction.{Whole, counted-most, jobs-length, jobs-waits, jobs-first, last-jobs}
@@ -43,15 +44,15 @@ module _ (q : Queue) (w : Whole q) (n : ℕ) (e : n ≡ counted (q .jobs)) where
 
   -- ---- the refusal of an id and pages in range
   module _ (id pages : ℕ) (p : proper id pages ≡ true) where
-    pub judged-waiting : among id (slice 0 n (q .ids)) ≡ true → refusal jobUnfit id ≡ refusalIn (joinOf (jobsOf q) id pages .event)
+    pub judged-waiting : listed (slice 0 n (q .ids)) id ≡ true → refusal jobUnfit id ≡ refusalIn (joinOf (jobsOf q) id pages .event)
     unfolding joinOf
     judged-waiting a = rw (sym e, p, jobs-waits q w 0 n small id, a)
 
-    pub judged-full : among id (slice 0 n (q .ids)) ≡ false → 16 ≤ n → refusal queueFull id ≡ refusalIn (joinOf (jobsOf q) id pages .event)
+    pub judged-full : listed (slice 0 n (q .ids)) id ≡ false → 16 ≤ n → refusal queueFull id ≡ refusalIn (joinOf (jobsOf q) id pages .event)
     unfolding joinOf
     judged-full a h = rw (sym e, p, jobs-waits q w 0 n small id, a, jobs-count, le-ltb _ _ h)
 
-    pub judged-free : among id (slice 0 n (q .ids)) ≡ false → n < 16 → noRefusal ≡ refusalIn (joinOf (jobsOf q) id pages .event)
+    pub judged-free : listed (slice 0 n (q .ids)) id ≡ false → n < 16 → noRefusal ≡ refusalIn (joinOf (jobsOf q) id pages .event)
     unfolding joinOf
     judged-free a h = rw (sym e, p, jobs-waits q w 0 n small id, a, jobs-count, lt-ltb _ _ h)
 

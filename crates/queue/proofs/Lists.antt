@@ -1,7 +1,7 @@
--- Parts of lists, padded with zeros: what the loops of `part` and `is_among` keep. Assumes nothing.
+-- Parts of lists, padded with zeros: what the loops of `part` and `is_listed` keep. Assumes nothing.
 use Rattle.prelude.proofs.Logic.{_≡_, sym, _∙_, _||_, List, [], _∷_, _++_, append-assoc, ℕ, suc, _+_, _-_, _≤_, _<_, add-one, arith, eqb, length, getD, take, set, replicate, length-append, slice, slice-cons, length-slice, take-suc, drop-append-le, length-take-le, set-append-seam}
 use Rattle.queue.specs.Arrays.{padded}
-use Rattle.queue.specs.Parts.{among}
+use Rattle.prelude.specs.Lists.{listed}
 
 -- one element more
 slice-more : (from i : ℕ) (a : List ℕ) → from ≤ i → i < length a → slice from (suc i) a ≡ slice from i a ++ (getD a i 0 ∷ [])
@@ -23,5 +23,6 @@ part-more a from i e h k =
     let p = padded-more (slice from i a) (getD a i 0) (omega arith) in
     rw (add-one, m, sym n) p
 
-pub among-first : (id : ℕ) (a : List ℕ) (i n : ℕ) → length a ≡ 16 → i < n → n ≤ 16 → among id (slice i n a) ≡ (eqb (getD a i 0) id || among id (slice (i + 1) n a))
-among-first id a i n e h k = let f : n ≤ length a = omega arith in rw (add-one, slice-cons i n a 0 h f)
+pub listed-first : (id : ℕ) (a : List ℕ) (i n : ℕ) → length a ≡ 16 → i < n → n ≤ 16 → listed (slice i n a) id ≡ (eqb (getD a i 0) id || listed (slice (i + 1) n a) id)
+unfolding listed
+listed-first id a i n e h k = let f : n ≤ length a = omega arith in rw (add-one, slice-cons i n a 0 h f)

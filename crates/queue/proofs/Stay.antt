@@ -1,6 +1,5 @@
 -- `jobs-leave-when-sent`: while an id waits it is not admitted again, so what is sent of it and left of it is what it joined with. Assumes nothing.
-use Rattle.prelude.proofs.Logic.{_≡_, refl, sym, ap, _∙_, Bool, true, false, true≢false, false≢true, _||_, List, [], _∷_, ℕ, _+_, _≤_, arith, eqb, ltb, eqb-true, eq-eqb, lt-ltb, le-ltb}
-use Rattle.prelude.proofs.Cases.{arms}
+use Rattle.prelude.proofs.Logic.{_≡_, refl, sym, ap, _∙_, Bool, true, false, true≢false, false≢true, _||_, List, [], _∷_, ℕ, _+_, _≤_, arith, eqb, ltb, eqb-true, eq-eqb, lt-ltb, le-ltb, arms}
 use Rattle.queue.specs.Jobs.{Job, job, Event, admitted, refused, sent, nothing, QueueStep, waits, joinOf, turnOf}
 use Rattle.queue.specs.History.{Call, join, turn, stepOf, after, events, onlyId, when, admittedBy, pagesAdmitted, pagesSent, pagesLeft, WaitsThrough, AllProper, Sound}
 use Rattle.queue.specs.Promises.{JobsLeaveWhenSent}

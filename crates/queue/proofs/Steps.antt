@@ -1,6 +1,5 @@
 -- The cases of a step: what holds of each outcome of a join, and of a turn, holds of the step. Assumes nothing.
-use Rattle.prelude.proofs.Logic.{_≡_, true, false, not, _&&_, List, _∷_, ℕ, _-_, _≤_, _<_, arith, ltb, lit<, length, ltb-true, ltb-false, leb-true, not-true}
-use Rattle.prelude.proofs.Cases.{arms, both}
+use Rattle.prelude.proofs.Logic.{_≡_, true, false, not, _&&_, List, _∷_, ℕ, _-_, _≤_, _<_, arith, ltb, lit<, length, ltb-true, ltb-false, leb-true, not-true, arms, both}
 use Rattle.queue.specs.Jobs.{Job, sent, QueueStep, mostJobs, waits, proper, atBack, admits, refuses, less, joinOf, turnOf}
 
 -- an id and pages in range

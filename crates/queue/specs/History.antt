@@ -5,7 +5,7 @@ use mathlib.Core.List.{List, [], _∷_}
 use Prim.Native.Nat.{ℕ, _+_, _≤_}
 use lib.Dec.{eqb}
 use lib.ListN.{length}
-use Rattle.queue.specs.Jobs.{Job, Event, admitted, refused, sent, nothing, QueueStep, waits, mostJobs, joinOf, turnOf}
+use Rattle.queue.specs.Jobs.{Job, Event, admitted, refused, sent, nothing, QueueStep, waits, mostJobs, mostId, mostPages, joinOf, turnOf}
 
 pub data Call : Type 0 where
   -- an id and its pages
@@ -81,7 +81,7 @@ NoIdTwice (j ∷ q) = (waits (j .id) q ≡ false) × NoIdTwice q
 
 abbrev pub AllProper : List Job → Type 0
 AllProper [] = Unit
-AllProper (j ∷ q) = (1 ≤ j .id) × (j .id ≤ 65535) × (1 ≤ j .pages) × (j .pages ≤ 16) × AllProper q
+AllProper (j ∷ q) = (1 ≤ j .id) × (j .id ≤ mostId) × (1 ≤ j .pages) × (j .pages ≤ mostPages) × AllProper q
 
 pub record Sound (q : List Job) : Type 0 where
   pub few : length q ≤ mostJobs

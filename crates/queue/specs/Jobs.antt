@@ -40,9 +40,15 @@ abbrev pub waits : ℕ → List Job → Bool
 waits id [] = false
 waits id (j ∷ q) = eqb (j .id) id || waits id q
 
+abbrev pub mostId : ℕ
+mostId = 65535
+
+abbrev pub mostPages : ℕ
+mostPages = 16
+
 -- "an id from 1 to 65,535", and not "pages outside 1 to 16"
 abbrev pub proper : ℕ → ℕ → Bool
-proper id pages = leb 1 id && leb id 65535 && leb 1 pages && leb pages 16
+proper id pages = leb 1 id && leb id mostId && leb 1 pages && leb pages mostPages
 
 abbrev pub admits : List Job → ℕ → ℕ → QueueStep
 admits q id pages = record { event = admitted (job id pages); queue = atBack q (job id pages) }

@@ -2,19 +2,26 @@
 ghost use mathlib.Core.Path.{_≡_};
 ghost use Prim.Native.Nat.{_-_, _≤_, _<_};
 ghost use lib.Seq.{slice};
-ghost use Rattle.queue.specs.Jobs.{proper, joinOf};
+ghost use Rattle.prelude.specs.Lists.{listed};
+ghost use Rattle.queue.specs.Jobs.{mostJobs, proper, joinOf};
 ghost use Rattle.queue.specs.Arrays.{counted, jobsIn, jobsOf, padded, queueOf, refusalIn, joinedOf, turnedOf};
-ghost use Rattle.queue.specs.Parts.{among, withLast};
+ghost use Rattle.queue.specs.Parts.{withLast};
 use refusals::JOB_UNFIT;
 use refusals::QUEUE_FULL;
 use refusals::Refusal;
+
+const MOST_JOBS: usize = 16;
+
+const MOST_ID: u32 = 65535;
+
+const MOST_PAGES: u32 = 16;
 
 // How many jobs wait, and of each its id and its pages left, the front first. Zeros stand behind them.
 #[repr(C)]
 pub struct Queue {
     pub jobs: u32,
-    pub ids: [u32; 16],
-    pub pages: [u32; 16],
+    pub ids: [u32; MOST_JOBS],
+    pub pages: [u32; MOST_JOBS],
 }
 
 pub struct Joined {
@@ -31,20 +38,21 @@ pub struct Turned {
 
 // A queue that no calls leave may say more than its arrays hold.
 fn count(jobs: u32) -> usize
-    ensures { λ r. ⌜ (r ≡ counted jobs) × (r ≤ 16) ⌝ }
+    ensures { λ r. ⌜ (r ≡ counted jobs) × (r ≤ mostJobs) ⌝ }
 {
-    if jobs < 16 { jobs as usize } else { 16 }
+    let n = jobs as usize;
+    if n < MOST_JOBS { n } else { MOST_JOBS }
 }
 
 fn in_range(id: u32, pages: u32) -> bool
     ensures { λ r. ⌜ r ≡ proper id pages ⌝ }
 {
-    (1 <= id) & (id <= 65535) & (1 <= pages) & (pages <= 16)
+    (1 <= id) & (id <= MOST_ID) & (1 <= pages) & (pages <= MOST_PAGES)
 }
 
-fn is_among(ids: [u32; 16], n: usize, id: u32) -> bool
-    requires { ⌜ n ≤ 16 ⌝ }
-    ensures { λ r. ⌜ r ≡ among id (slice 0 n ids) ⌝ }
+fn is_listed(ids: [u32; MOST_JOBS], n: usize, id: u32) -> bool
+    requires { ⌜ n ≤ mostJobs ⌝ }
+    ensures { λ r. ⌜ r ≡ listed (slice 0 n ids) id ⌝ }
 {
     let mut i: usize = 0;
     while i < n {
@@ -57,11 +65,11 @@ fn is_among(ids: [u32; 16], n: usize, id: u32) -> bool
 }
 
 // The numbers from one place to another, moved to the front.
-fn part(a: [u32; 16], from: usize, to: usize) -> [u32; 16]
-    requires { ⌜ (from ≤ to) × (to ≤ 16) ⌝ }
+fn part(a: [u32; MOST_JOBS], from: usize, to: usize) -> [u32; MOST_JOBS]
+    requires { ⌜ (from ≤ to) × (to ≤ mostJobs) ⌝ }
     ensures { λ r. ⌜ r ≡ padded (slice from to a) ⌝ }
 {
-    let mut out: [u32; 16] = [0; 16];
+    let mut out: [u32; MOST_JOBS] = [0; MOST_JOBS];
     let mut i: usize = from;
     while i < to {
         out[i - from] = a[i];
@@ -71,7 +79,7 @@ fn part(a: [u32; 16], from: usize, to: usize) -> [u32; 16]
 }
 
 fn lined(queue: Queue, from: usize, to: usize) -> Queue
-    requires { ⌜ (from ≤ to) × (to ≤ 16) ⌝ }
+    requires { ⌜ (from ≤ to) × (to ≤ mostJobs) ⌝ }
     ensures { λ r. ⌜ (r ≡ queueOf (jobsIn queue from to)) × (r .jobs ≡ to - from) ⌝ }
 {
     let ids = queue.ids;
@@ -84,7 +92,7 @@ fn lined(queue: Queue, from: usize, to: usize) -> Queue
 }
 
 fn with_last(queue: Queue, id: u32, pages: u32) -> Queue
-    requires { ⌜ queue .jobs < 16 ⌝ }
+    requires { ⌜ queue .jobs < mostJobs ⌝ }
     ensures { λ r. ⌜ r ≡ withLast queue id pages ⌝ }
 {
     let mut q = queue;
@@ -102,10 +110,10 @@ fn judge(queue: Queue, id: u32, pages: u32) -> Refusal
     let n = count(queue.jobs);
     let ids = queue.ids;
     if in_range(id, pages) {
-        if is_among(ids, n, id) {
+        if is_listed(ids, n, id) {
             return Refusal::new(JOB_UNFIT, id);
         }
-        if n < 16 {
+        if n < MOST_JOBS {
             return Refusal::none();
         }
         return Refusal::new(QUEUE_FULL, id);

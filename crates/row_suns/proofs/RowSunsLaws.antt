@@ -1,20 +1,13 @@
 -- What rolls is what each row would work by itself. Assumes nothing.
 use Rattle.prelude.proofs.Logic.{_≡_, sym, ap, true, _+_, _≤_}
 use lib.Ieee.{Float}
-use Rattle.calendar.specs.Answers.{tomorrowOf}
-use Rattle.calendar.specs.Gregorian.{existsOf}
+use Rattle.calendar.proofs.Calendar.{tomorrowOf, existsOf, back}
 use Rattle.calendar.specs.declared.dates.Date.{Date}
-use Rattle.calendar.proofs.Successors.{back}
-use Rattle.models.specs.declared.parameters.Parameters.{Parameters}
-use Rattle.models.specs.declared.rules.Rules.{Rules}
+use Rattle.models.specs.declared.{parameters.Parameters.Parameters, rules.Rules.Rules}
 use Rattle.ops.specs.Shared.{observerOf}
 use Rattle.solar.specs.Coordinates.{positionOf}
-use Rattle.schedule.proofs.FajrLaws.{fajr-alone}
-use Rattle.schedule.specs.Fajr.{fajrIn}
-use Rattle.schedule.specs.Hours.{dayHoursOf, rowHoursOf, hoursOf}
-use Rattle.schedule.specs.Numbers.{numbersOf}
-use Rattle.schedule.specs.Times.{seasonOf, workedOf}
-use Rattle.schedule.proofs.SharedLaws.{courseAt, row-shared}
+use Rattle.schedule.proofs.Schedule.{fajr-alone, fajrIn, dayHoursOf, rowHoursOf, hoursOf, numbersOf, seasonOf, workedOf, courseAt, row-shared}
+use Rattle.schedule.specs.Sines.{twilightSinesOf}
 use Rattle.unit.specs.declared.Coordinates.{Coordinates}
 use Rattle.row_suns.specs.declared.RowSuns.{RowSuns}
 use Rattle.row_suns.specs.RowSuns.{daySunOf, rowSunsOf, nextRowSunsOf, rowSunsHoursOf, rowSunsFajrOf}
@@ -39,13 +32,15 @@ rolls date place p rules h l =
     let second = tomorrowOf next in
     let third = tomorrowOf second in
     let fourth = tomorrowOf third in
+    let sines = twilightSinesOf p in
     ap (λ (d : Date). record {
       date = next;
       third = fourth;
       observer = observerOf place;
+      sines = sines;
       «at_second» = positionOf third;
       «at_third» = positionOf fourth;
-      today = daySunOf place p rules (courseAt place d next second);
-      tomorrow = daySunOf place p rules (courseAt place next second third);
-      after = daySunOf place p rules (courseAt place second third fourth);
+      today = daySunOf place p rules sines (courseAt place d next second);
+      tomorrow = daySunOf place p rules sines (courseAt place next second third);
+      after = daySunOf place p rules sines (courseAt place second third fourth);
     }) (sym (back date h l))

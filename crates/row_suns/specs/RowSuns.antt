@@ -7,25 +7,28 @@ use Rattle.models.specs.declared.rules.Rules.{Rules}
 use Rattle.ops.specs.declared.transit.Course.{Course}
 use Rattle.ops.specs.Shared.{observerOf}
 use Rattle.solar.specs.Coordinates.{positionOf}
-use Rattle.solar.specs.Shared.{courseOver, courseAngleNumberOf, courseNumbersOf, courseAfternoonNumberOf}
+use Rattle.solar.specs.Shared.{courseOver, courseSineNumberOf, courseNumbersOf, courseAfternoonNumberOf}
 use Rattle.schedule.specs.declared.hours.RowHours.{RowHours}
+use Rattle.schedule.specs.declared.numbers.TwilightSines.{TwilightSines}
 use Rattle.schedule.specs.declared.prayer_times.FajrAlone.{FajrAlone}
 use Rattle.schedule.specs.Fajr.{fajrAloneOf}
 use Rattle.schedule.specs.Hours.{sunsOf, dayHoursOf, rowHoursOf}
 use Rattle.schedule.specs.Numbers.{fajrNumberOf, asrNumberOf, ishaNumberOf}
+use Rattle.schedule.specs.Sines.{twilightSinesOf}
 use Rattle.schedule.specs.Times.{seasonOf}
 use Rattle.unit.specs.declared.Coordinates.{Coordinates}
 use Rattle.row_suns.specs.declared.DaySun.{DaySun}
 use Rattle.row_suns.specs.declared.RowSuns.{RowSuns}
 
-unfoldable pub daySunOf : Coordinates → Parameters → Rules → Course → DaySun
-daySunOf place p rules course =
-    record { course = course; hours = dayHoursOf (rules .midnight) (courseNumbersOf course) (fajrNumberOf p (place .latitude) (courseAngleNumberOf course)) }
+unfoldable pub daySunOf : Coordinates → Parameters → Rules → TwilightSines → Course → DaySun
+daySunOf place p rules sines course =
+    record { course = course; hours = dayHoursOf (rules .midnight) (courseNumbersOf course) (fajrNumberOf p (place .latitude) (courseSineNumberOf course (sines .fajr))) }
 
 -- a row's, from its date
 unfoldable pub rowSunsOf : Date → Coordinates → Parameters → Rules → RowSuns
 rowSunsOf date place p rules =
     let observer = observerOf place in
+    let sines = twilightSinesOf p in
     let next = tomorrowOf date in
     let second = tomorrowOf next in
     let third = tomorrowOf second in
@@ -33,11 +36,12 @@ rowSunsOf date place p rules =
       date = date;
       third = third;
       observer = observer;
+      sines = sines;
       «at_second» = positionOf second;
       «at_third» = positionOf third;
-      today = daySunOf place p rules (courseOver place observer (positionOf (yesterdayOf date)) (positionOf date) (positionOf next));
-      tomorrow = daySunOf place p rules (courseOver place observer (positionOf date) (positionOf next) (positionOf second));
-      after = daySunOf place p rules (courseOver place observer (positionOf next) (positionOf second) (positionOf third));
+      today = daySunOf place p rules sines (courseOver place observer (positionOf (yesterdayOf date)) (positionOf date) (positionOf next));
+      tomorrow = daySunOf place p rules sines (courseOver place observer (positionOf date) (positionOf next) (positionOf second));
+      after = daySunOf place p rules sines (courseOver place observer (positionOf next) (positionOf second) (positionOf third));
     }
 
 -- the next row's, from this one's: one new position and one new sun
@@ -48,18 +52,19 @@ nextRowSunsOf place p rules r =
       date = tomorrowOf (r .date);
       third = fourth;
       observer = r .observer;
+      sines = r .sines;
       «at_second» = r .«at_third»;
       «at_third» = positionOf fourth;
       today = r .tomorrow;
       tomorrow = r .after;
-      after = daySunOf place p rules (courseOver place (r .observer) (r .«at_second») (r .«at_third») (positionOf fourth));
+      after = daySunOf place p rules (r .sines) (courseOver place (r .observer) (r .«at_second») (r .«at_third») (positionOf fourth));
     }
 
 -- the sun's times that the row is worked from
 unfoldable pub rowSunsHoursOf : Float → Parameters → Rules → RowSuns → RowHours
 rowSunsHoursOf latitude p rules r =
     rowHoursOf (rules .midnight) (r .today .hours) (r .tomorrow .hours) (r .after .hours .sun)
-    (asrNumberOf p (courseAfternoonNumberOf (r .today .course) latitude)) (ishaNumberOf p latitude (courseAngleNumberOf (r .today .course)))
+    (asrNumberOf p (courseAfternoonNumberOf (r .today .course) latitude)) (ishaNumberOf p latitude (courseSineNumberOf (r .today .course) (r .sines .isha)))
 
 -- the row's Fajr by itself
 unfoldable pub rowSunsFajrOf : Float → Parameters → Rules → RowSuns → FajrAlone

@@ -1,5 +1,5 @@
 // Rows that follow one another (added). The date of the next row is worked from the next sun's position alone: two of its three suns, and its Fajr's
-// angle, are the row's own.
+// angle, are the row's own. What depends on the place or on the parameters alone is worked with the first row's.
 ghost use mathlib.Core.Path.{_≡_};
 ghost use Rattle.row_suns.specs.RowSuns.{daySunOf, rowSunsOf, nextRowSunsOf, rowSunsHoursOf, rowSunsFajrOf};
 ghost use Rattle.schedule.specs.Times.{seasonOf, workedOf};
@@ -12,9 +12,8 @@ use ops::transit::Observer;
 use schedule::hours::DayHours;
 use schedule::hours::RowHours;
 use schedule::hours::Suns;
+use schedule::numbers::TwilightSines;
 use schedule::numbers::asr_number;
-use schedule::numbers::fajr_number;
-use schedule::numbers::isha_number;
 use schedule::prayer_times::FajrAlone;
 use schedule::prayer_times::Worked;
 use solar::coordinates::SolarCoordinates;
@@ -35,6 +34,7 @@ pub struct RowSuns {
     pub date: Date,
     pub third: Date,
     pub observer: Observer,
+    pub sines: TwilightSines,
     pub at_second: SolarCoordinates,
     pub at_third: SolarCoordinates,
     pub today: DaySun,
@@ -42,8 +42,14 @@ pub struct RowSuns {
     pub after: DaySun,
 }
 
-fn day_sun(coordinates: Coordinates, parameters: Parameters, rules: Rules, course: Course) -> DaySun
-    ensures { λ r. ⌜ r ≡ daySunOf coordinates parameters rules course ⌝ }
+fn day_sun(
+    coordinates: Coordinates,
+    parameters: Parameters,
+    rules: Rules,
+    sines: TwilightSines,
+    course: Course,
+) -> DaySun
+    ensures { λ r. ⌜ r ≡ daySunOf coordinates parameters rules sines course ⌝ }
 {
     let midnight = rules.midnight;
     DaySun {
@@ -51,7 +57,7 @@ fn day_sun(coordinates: Coordinates, parameters: Parameters, rules: Rules, cours
         hours: DayHours::new(
             midnight,
             hour_numbers(course),
-            fajr_number(parameters, coordinates.latitude, course),
+            sines.fajr_number(parameters, coordinates.latitude, course),
         ),
     }
 }
@@ -67,6 +73,7 @@ impl RowSuns {
         ensures { λ r. ⌜ r ≡ rowSunsOf date coordinates parameters rules ⌝ }
     {
         let observer = Observer::new(coordinates);
+        let sines = TwilightSines::new(parameters);
         let next = date.tomorrow();
         let second = next.tomorrow();
         let third = second.tomorrow();
@@ -82,11 +89,12 @@ impl RowSuns {
             date: date,
             third: third,
             observer: observer,
+            sines: sines,
             at_second: at_second,
             at_third: at_third,
-            today: day_sun(coordinates, parameters, rules, today),
-            tomorrow: day_sun(coordinates, parameters, rules, tomorrow),
-            after: day_sun(coordinates, parameters, rules, after),
+            today: day_sun(coordinates, parameters, rules, sines, today),
+            tomorrow: day_sun(coordinates, parameters, rules, sines, tomorrow),
+            after: day_sun(coordinates, parameters, rules, sines, after),
         }
     }
 
@@ -96,6 +104,7 @@ impl RowSuns {
     {
         let date = self.date;
         let observer = self.observer;
+        let sines = self.sines;
         let at_second = self.at_second;
         let at_third = self.at_third;
         let today = self.tomorrow;
@@ -108,11 +117,12 @@ impl RowSuns {
             date: date.tomorrow(),
             third: fourth,
             observer: observer,
+            sines: sines,
             at_second: at_third,
             at_third: at_fourth,
             today: today,
             tomorrow: tomorrow,
-            after: day_sun(coordinates, parameters, rules, course),
+            after: day_sun(coordinates, parameters, rules, sines, course),
         }
     }
 
@@ -154,6 +164,7 @@ impl RowSuns {
         let tomorrow = self.tomorrow;
         let after = self.after;
         let course = today.course;
+        let sines = self.sines;
         let last = after.hours;
         let sun = last.sun;
         let hours = RowHours::of_days(
@@ -162,7 +173,7 @@ impl RowSuns {
             tomorrow.hours,
             sun,
             asr_number(parameters, latitude, course),
-            isha_number(parameters, latitude, course),
+            sines.isha_number(parameters, latitude, course),
         );
         hours.work(date, season, parameters)
     }

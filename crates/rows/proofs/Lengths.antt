@@ -1,6 +1,5 @@
 -- The sheet's text, part by part, and the room that it takes. Assumes nothing.
-use Rattle.prelude.proofs.Logic.{_≡_, refl, sym, ap, _∙_, List, [], _++_, ℕ, zero, suc, _+_, _*_, _≤_, add-one, arith, lit≤, length, length-append}
-use Rattle.prelude.proofs.Cases.{arms, cases}
+use Rattle.prelude.proofs.Logic.{_≡_, refl, sym, ap, _∙_, List, [], _++_, ℕ, zero, suc, _+_, _*_, _≤_, add-one, arith, lit≤, length, length-append, arms, cases}
 use Rattle.calendar.specs.Answers.{rowDateOf}
 use Rattle.calls.specs.Calls.{workRowOf}
 use Rattle.hijri.specs.declared.ramadan.Ramadan.{Ramadan}

@@ -7,6 +7,7 @@ use lib.ListN.{length}
 use Rattle.calendar.specs.Answers.{rowDateOf}
 use Rattle.calendar.specs.declared.dates.Date.{Date}
 use Rattle.calls.specs.Calls.{workRowOf}
+use Rattle.fields.specs.Tags.{longestTown}
 use Rattle.hijri.specs.declared.ramadan.Ramadan.{Ramadan}
 use Rattle.refusals.specs.Refusals.{refusal, noRefusal, bufferShort}
 use Rattle.lines.specs.Lines.{columnsOf, rowText, fullRow, rowRoom, lineText, refusedOrderText}
@@ -82,7 +83,7 @@ sheetText s = textIn s (readingOf s)
 
 -- the longest sheet: a town of 40 bytes, the header with its two newlines, and all full rows that an order can have; a Ramadan sheet has thirty
 abbrev pub longestSheet : ℕ
-longestSheet = 40 + 64 + fullRow * mostRows
+longestSheet = longestTown + 64 + fullRow * mostRows
 
 -- a buffer that it might not fit is left as it was, and the answer is 0
 abbrev pub sheetLengthOf : List ℕ → List ℕ → ℕ

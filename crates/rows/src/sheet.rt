@@ -2,11 +2,13 @@
 ghost use mathlib.Core.Path.{_≡_};
 ghost use Prim.Native.Nat.{_+_, _*_, _≤_};
 ghost use lib.ListN.{length};
+ghost use Rattle.fields.specs.Tags.{longestTown};
 ghost use Rattle.lines.specs.Lines.{rowRoom, lineText};
 ghost use Rattle.order.specs.Accepted.{Accepted};
 ghost use Rattle.text.specs.Text.{putOf, frontOf};
 ghost use Rattle.rows.specs.Rows.{headerText, headText, linesText, acceptedText, longestSheet, sheetLengthOf, sheetBufferOf};
 use calendar::dates::Date;
+use fields::tags::LONGEST_TOWN;
 use fields::values::bytes;
 use hijri::ramadan::Ramadan;
 use lines::refused::put_refused_day;
@@ -21,15 +23,15 @@ use row_suns::RowSuns;
 use schedule::prayer_times::Worked;
 use text::put::put;
 
-const LONGEST_TOWN: usize = 40;
-
 // The header and a newline before and behind it.
 const HEADER_BYTES: usize = 64;
 
 const RAMADAN_HEADER_BYTES: usize = 70;
 
 // What the longest sheet takes; a Ramadan sheet has thirty rows and is shorter.
-pub const SHEET_BYTES: usize = LONGEST_TOWN + HEADER_BYTES + ROW_BYTES * MOST_ROWS as usize;
+pub const SHEET_BYTES: usize = LONGEST_TOWN as usize
+    + HEADER_BYTES
+    + ROW_BYTES * MOST_ROWS as usize;
 
 // A row's line, or its refusal's.
 fn put_line(buffer: &mut [u8], at: usize, ramadan: Ramadan, date: Date, worked: Worked) -> usize
@@ -64,7 +66,7 @@ fn put_header(buffer: &mut [u8], at: usize, ramadan: Ramadan) -> usize
 
 // The town and the header.
 fn put_head(buffer: &mut [u8], ramadan: Ramadan, town: &[u8]) -> usize
-    requires { ⌜ (length (now town) ≤ 40) × (longestSheet ≤ length (now buffer)) ⌝ }
+    requires { ⌜ (length (now town) ≤ longestTown) × (longestSheet ≤ length (now buffer)) ⌝ }
     ensures { λ r. ⌜ r ≡ length (headText ramadan (now (town .entry))) ⌝ }
     ensures { λ _. ⌜ now (buffer .exit) ≡ frontOf (headText ramadan (now (town .entry))) (now (buffer .entry)) ⌝ }
 {
@@ -99,7 +101,7 @@ fn put_rows(buffer: &mut [u8], at: usize, order: Order) -> usize
 }
 
 fn put_accepted(buffer: &mut [u8], town: &[u8], order: Order) -> usize
-    requires { ⌜ Accepted order × (length (now town) ≤ 40) × (longestSheet ≤ length (now buffer)) ⌝ }
+    requires { ⌜ Accepted order × (length (now town) ≤ longestTown) × (longestSheet ≤ length (now buffer)) ⌝ }
     ensures { λ r. ⌜ r ≡ length (acceptedText (now (town .entry)) order) ⌝ }
     ensures { λ _. ⌜ now (buffer .exit) ≡ frontOf (acceptedText (now (town .entry)) order) (now (buffer .entry)) ⌝ }
 {

@@ -1,13 +1,10 @@
 -- Whole seconds ahead of an instant, and one step of the search for the prayer in force. Assumes nothing.
 use Rattle.prelude.proofs.Logic.{_≡_, refl, sym, ap, _∙_, Bool, cond, ℕ, zero, suc, _+_, _-_, _*_, _/_, _≤_, _<_, arith, eqb, ℤ, pos, negsuc, _+ℤ_, _-ℤ_, _*ℤ_, eq-eqb, ne-eqb, w64, SFits, Fits}
-use Rattle.integers.specs.Parts.{P, N}
-use Rattle.integers.proofs.Sums.{sum, difference, times}
-use Rattle.integers.proofs.Ranges.{range, fits}
+use Rattle.integers.proofs.Integers.{P, N, sum, difference, times, range, fits}
 use Rattle.models.specs.Numbers.{prayerOf}
-use Rattle.schedule.specs.InForce.{second, nanosecondsOf, aheadOf, timeOf, lastOf}
-use Rattle.schedule.specs.declared.in_force.Instant.{Instant}
+use Rattle.schedule.specs.InForce.{inSecond, nanosecondsOf, aheadOf, timeOf, lastOf}
+use Rattle.schedule.specs.declared.{in_force.Instant.Instant, prayer_times.PrayerTimes.PrayerTimes}
 use Rattle.schedule.specs.declared.in_force.Current.the-variants.{Some, None}
-use Rattle.schedule.specs.declared.prayer_times.PrayerTimes.{PrayerTimes}
 
 pub sum-fits : (x y : ℤ) (a b : ℕ) → SFits w64 x → SFits w64 y → a ≡ P x → b ≡ N y → Fits w64 (a + b)
 sum-fits x y a b h k p q = let r = range w64 x h in let s = range w64 y k in record { fits = omega arith }
@@ -32,9 +29,9 @@ ahead-is t i =
     let b = P s + N t in
     let x = times t 1000000000 in
     let y = times s 1000000000 in
-    let w = sum (s *ℤ second) (pos n) in
-    let d = difference (t *ℤ second) (s *ℤ second +ℤ pos n) in
-    let p = positive-part (t *ℤ second -ℤ (s *ℤ second +ℤ pos n)) (a * 1000000000) (b * 1000000000 + n) (omega (arith, d .0, d .1)) in
+    let w = sum (s *ℤ pos inSecond) (pos n) in
+    let d = difference (t *ℤ pos inSecond) (s *ℤ pos inSecond +ℤ pos n) in
+    let p = positive-part (t *ℤ pos inSecond -ℤ (s *ℤ pos inSecond +ℤ pos n)) (a * 1000000000) (b * 1000000000 + n) (omega (arith, d .0, d .1)) in
     ap (λ (z : ℕ). z / 1000000000) p ∙ whole-seconds a b n ∙ ap (λ (z : ℕ). z - (n + 999999999) / 1000000000) (sym (between-is t s))
 
 -- ---- one step of the search

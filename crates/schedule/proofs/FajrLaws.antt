@@ -1,8 +1,7 @@
 -- Fajr by itself is the Fajr of the nine. Assumes nothing.
 use Rattle.prelude.proofs.Logic.{_≡_, refl, sym, ap, arith, ℤ, _+ℤ_, _-ℤ_}
 use Rattle.calendar.specs.declared.dates.Date.{Date}
-use Rattle.integers.proofs.PartsLaws.{same}
-use Rattle.integers.proofs.Sums.{sum, difference}
+use Rattle.integers.proofs.Integers.{same, sum, difference}
 use Rattle.models.specs.declared.parameters.Parameters.{Parameters}
 use Rattle.models.specs.declared.prayer.Prayer.the-variants.{Fajr}
 use Rattle.models.specs.declared.rules.Season.{Season}

@@ -1,9 +1,6 @@
 -- What the private functions promise, as the code that called them reads it; and the night's portions as they are worked. Assumes nothing.
 use Rattle.prelude.proofs.Logic.{_≡_, refl, ap, subst, _∙_, ℕ, _+_, _^_, _≤_, lit≤, ℤ, _+ℤ_, w64}
-use Rattle.integers.specs.Parts.{Near}
-use Rattle.integers.proofs.Intervals.{wider, inside-between}
-use Rattle.integers.proofs.Ranges.{readBack}
-use Rattle.integers.proofs.Held.{Held, held-sum, stored}
+use Rattle.integers.proofs.Integers.{Near, wider, inside-between, readBack, Held, held-sum, stored}
 use Rattle.night_portions.specs.Portions.{seventhOf, middleOf, lastThirdOf}
 use Rattle.night_portions.proofs.Steady.{longest}
 use Rattle.night_portions.proofs.PortionsLaws.{seventh-inside, middle-inside, last-third-inside}

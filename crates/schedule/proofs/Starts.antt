@@ -1,10 +1,8 @@
 -- 0h of any date that a u32's year can name lies within 2 ^ 58 seconds of 1970. Assumes nothing.
 use Rattle.prelude.proofs.Logic.{ℕ, _+_, _*_, _^_, _≤_, _<_, arith, pos, _-ℤ_, _*ℤ_}
-use Rattle.integers.specs.Parts.{Near}
-use Rattle.integers.proofs.Sums.{difference, times}
-use Rattle.calendar.specs.Days.{daysBeforeYearOf, ordinalOf, dayNumberOf}
+use Rattle.integers.proofs.Integers.{Near, difference, times}
+use Rattle.calendar.proofs.Calendar.{daysBeforeYearOf, ordinalOf, dayNumberOf, ordinal-short}
 use Rattle.calendar.specs.declared.dates.Date.{Date}
-use Rattle.calendar.proofs.Existing.{ordinal-short}
 
 years : (y : ℕ) → y < 2 ^ 32 → daysBeforeYearOf y ≤ 367 * 2 ^ 32
 unfolding daysBeforeYearOf

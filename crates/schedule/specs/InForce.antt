@@ -31,12 +31,13 @@ timeOf t Isha = t .isha
 timeOf t Qiyam = t .qiyam
 timeOf t FajrTomorrow = t .«fajr_tomorrow»
 
-abbrev pub second : ℤ
-second = pos 1000000000
+-- the nanoseconds of a second
+abbrev pub inSecond : ℕ
+inSecond = 1000000000
 
 -- an instant in nanoseconds
 unfoldable pub nanosecondsOf : Instant → ℤ
-nanosecondsOf i = i .seconds *ℤ second +ℤ pos (i .nanoseconds)
+nanosecondsOf i = i .seconds *ℤ pos inSecond +ℤ pos (i .nanoseconds)
 
 -- an instant is not after another, "ordered by whole seconds, then nanoseconds": its seconds are fewer, or the same and its nanoseconds no more
 abbrev pub NotAfter : Instant → Instant → Type 0
@@ -44,7 +45,7 @@ NotAfter j i = (j .seconds +ℤ pos 1 ≼ i .seconds) ⊎ ((j .seconds ≡ i .se
 
 -- whole seconds from an instant to a time; 0 where less than one is left, or the time has passed
 unfoldable pub aheadOf : ℤ → Instant → ℕ
-aheadOf t i = P (t *ℤ second -ℤ nanosecondsOf i) / 1000000000
+aheadOf t i = P (t *ℤ pos inSecond -ℤ nanosecondsOf i) / inSecond
 
 -- the last of the first n in the list whose time lies less than one second ahead; else none
 unfoldable pub lastOf : PrayerTimes → Instant → ℕ → Current

@@ -5,3 +5,4 @@ pub mod Fajr
 pub mod InForce
 pub mod Numbers
 pub mod Builder
+pub mod Sines

@@ -3,7 +3,7 @@
 ghost use mathlib.Core.Path.{_≡_};
 ghost use lib.IntN.{_-ℤ_};
 ghost use Rattle.integers.specs.Parts.{P};
-ghost use Rattle.schedule.specs.InForce.{timeOf, aheadOf, lastOf, currentTimeOf, followingOf, nextOf, hoursMinutesOf, timeRemainingOf};
+ghost use Rattle.schedule.specs.InForce.{timeOf, aheadOf, currentTimeOf, followingOf, nextOf, hoursMinutesOf, timeRemainingOf};
 use super::prayer_times::PrayerTimes;
 use float64::casts::to_u32;
 use float64::whole::round;
@@ -12,6 +12,12 @@ use integers::parts::above;
 use integers::parts::below;
 use models::prayer::Prayer;
 use std::num::nearest_u64_to_f64;
+
+// The nanoseconds of a second.
+const IN_SECOND: u64 = 1000000000;
+
+// One nanosecond of a second makes it count, so that a quotient is rounded up.
+const ALL_BUT_ONE: u64 = IN_SECOND - 1;
 
 // Seconds from 1970-01-01 0h UTC, rounded down, and the nanoseconds after them.
 pub struct Instant {
@@ -51,7 +57,7 @@ fn ahead(time: i64, instant: Instant) -> u64
     ensures { λ r. ⌜ r ≡ aheadOf time instant ⌝ }
 {
     let whole = between(instant.seconds, time);
-    let begun = (instant.nanoseconds as u64 + 999999999) / 1000000000;
+    let begun = (instant.nanoseconds as u64 + ALL_BUT_ONE) / IN_SECOND;
     if whole < begun {
         return 0;
     }

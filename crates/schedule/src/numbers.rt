@@ -1,10 +1,12 @@
 // The hour numbers of a row from its date and place. Five positions serve the three days, and what depends on the place alone is worked once.
 ghost use mathlib.Core.Path.{_≡_};
 ghost use Rattle.schedule.specs.Numbers.{fajrNumberOf, ishaNumberOf, asrNumberOf, numbersOf};
-ghost use Rattle.solar.specs.Shared.{courseAngleNumberOf, courseAfternoonNumberOf};
+ghost use Rattle.schedule.specs.Sines.{twilightSinesOf};
+ghost use Rattle.solar.specs.Shared.{courseSineNumberOf, courseAfternoonNumberOf};
 use super::hours::RowNumbers;
 use super::twilight::by_seventh;
 use calendar::dates::Date;
+use fdlibm_trig::s_sin::sin;
 use float64::words::not_a_number;
 use models::madhab::Madhab;
 use models::parameters::Parameters;
@@ -12,35 +14,52 @@ use ops::transit::Course;
 use ops::transit::Observer;
 use solar::coordinates::position;
 use solar::hours::afternoon_number;
-use solar::hours::angle_number;
 use solar::hours::hour_numbers;
+use solar::hours::sine_number;
 use solar::hours::sun;
 use unit::Angle;
 use unit::Coordinates;
 
-// A NaN, which has no time by either rule, where a seventh of the night takes the angle's place.
-pub fn fajr_number(parameters: Parameters, latitude: f64, sun: Course) -> f64
-    ensures { λ r. ⌜ r ≡ fajrNumberOf parameters latitude (courseAngleNumberOf sun) ⌝ }
-{
-    let method = parameters.method;
-    if by_seventh(method, latitude) {
-        return not_a_number();
-    }
-    angle_number(sun, Angle::new(-parameters.fajr_angle), false)
+// The sines of Fajr's and Isha's angles: the same on every day, and so worked once for all of them.
+pub struct TwilightSines {
+    pub fajr: f64,
+    pub isha: f64,
 }
 
-// A NaN where an interval or a seventh of the night takes the angle's place.
-pub fn isha_number(parameters: Parameters, latitude: f64, sun: Course) -> f64
-    ensures { λ r. ⌜ r ≡ ishaNumberOf parameters latitude (courseAngleNumberOf sun) ⌝ }
-{
-    let method = parameters.method;
-    if parameters.isha_interval > 0 {
-        return not_a_number();
+impl TwilightSines {
+    pub fn new(parameters: Parameters) -> TwilightSines
+        ensures { λ r. ⌜ r ≡ twilightSinesOf parameters ⌝ }
+    {
+        TwilightSines {
+            fajr: sin(Angle::new(-parameters.fajr_angle).radians()),
+            isha: sin(Angle::new(-parameters.isha_angle).radians()),
+        }
     }
-    if by_seventh(method, latitude) {
-        return not_a_number();
+
+    // A NaN, which has no time by either rule, where a seventh of the night takes the angle's place.
+    pub fn fajr_number(self, parameters: Parameters, latitude: f64, sun: Course) -> f64
+        ensures { λ r. ⌜ r ≡ fajrNumberOf parameters latitude (courseSineNumberOf sun (self .fajr)) ⌝ }
+    {
+        let method = parameters.method;
+        if by_seventh(method, latitude) {
+            return not_a_number();
+        }
+        sine_number(sun, self.fajr, Angle::new(-parameters.fajr_angle), false)
     }
-    angle_number(sun, Angle::new(-parameters.isha_angle), true)
+
+    // A NaN where an interval or a seventh of the night takes the angle's place.
+    pub fn isha_number(self, parameters: Parameters, latitude: f64, sun: Course) -> f64
+        ensures { λ r. ⌜ r ≡ ishaNumberOf parameters latitude (courseSineNumberOf sun (self .isha)) ⌝ }
+    {
+        let method = parameters.method;
+        if parameters.isha_interval > 0 {
+            return not_a_number();
+        }
+        if by_seventh(method, latitude) {
+            return not_a_number();
+        }
+        sine_number(sun, self.isha, Angle::new(-parameters.isha_angle), true)
+    }
 }
 
 pub fn asr_number(parameters: Parameters, latitude: f64, sun: Course) -> f64
@@ -56,6 +75,7 @@ impl RowNumbers {
     {
         let latitude = coordinates.latitude;
         let observer = Observer::new(coordinates);
+        let sines = TwilightSines::new(parameters);
         let next = date.tomorrow();
         let second = next.tomorrow();
         let at_date = position(date);
@@ -80,10 +100,10 @@ impl RowNumbers {
             today: hour_numbers(today),
             tomorrow: hour_numbers(tomorrow),
             after: hour_numbers(after),
-            fajr: fajr_number(parameters, latitude, today),
+            fajr: sines.fajr_number(parameters, latitude, today),
             asr: asr_number(parameters, latitude, today),
-            isha: isha_number(parameters, latitude, today),
-            fajr_tomorrow: fajr_number(parameters, latitude, tomorrow),
+            isha: sines.isha_number(parameters, latitude, today),
+            fajr_tomorrow: sines.fajr_number(parameters, latitude, tomorrow),
         }
     }
 }

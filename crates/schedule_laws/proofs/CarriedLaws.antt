@@ -1,22 +1,13 @@
 -- The parameters that an order carries are those of specs/Carried: each method's preset is one, and stays one where the tags set their fields in
 -- range. Assumes nothing.
 use Rattle.prelude.proofs.Logic.{_≡_, refl, sym, subst, ℕ, _^_, _≤_, arith, lit≤, pos}
-use lib.Ieee.{round, le}
-use Rattle.integers.specs.Parts.{Between, Near}
-use Rattle.integers.proofs.Sums.{flip}
-use Rattle.integers.proofs.Intervals.{wider, sum-between}
-use Rattle.float64.specs.Ops.{dec}
-use Rattle.models.specs.declared.adjustments.TimeAdjustment.{TimeAdjustment}
-use Rattle.models.specs.declared.method.Method.{Method}
+use Rattle.float64.proofs.Floats.{round, le, dec}
+use Rattle.integers.proofs.Integers.{Between, Near, flip, wider, sum-between}
+use Rattle.models.specs.declared.{adjustments.TimeAdjustment.TimeAdjustment, method.Method.Method, parameters.Parameters.Parameters, prayer.Prayer.Prayer, rounding.Rounding.Rounding}
 use Rattle.models.specs.declared.method.Method.the-variants.{MuslimWorldLeague, Egyptian, Karachi, UmmAlQura, Dubai, MoonsightingCommittee, NorthAmerica, Kuwait, Qatar, Singapore, Tehran, Turkey, Other}
-use Rattle.models.specs.declared.parameters.Parameters.{Parameters}
-use Rattle.models.specs.declared.prayer.Prayer.{Prayer}
 use Rattle.models.specs.declared.prayer.Prayer.the-variants.{Fajr, Sunrise, Dhuhr, Asr, Maghrib, Isha, Qiyam, FajrTomorrow}
-use Rattle.models.specs.declared.rounding.Rounding.{Rounding}
 use Rattle.models.specs.declared.rounding.Rounding.the-variants.{Nearest, Up}
-use Rattle.models.specs.Minutes.{noMinutes}
-use Rattle.models.specs.Presets.{preset, presetOf, offset}
-use Rattle.models.specs.Settings.{minutesFor, timeAdjustmentsOf}
+use Rattle.models.proofs.Models.{noMinutes, preset, presetOf, offset, minutesFor, timeAdjustmentsOf}
 use Rattle.schedule_laws.specs.Carried.{AngleInOrder, Carried}
 
 -- six minutes in range

@@ -1,35 +1,30 @@
 -- The prayer in force where no time is earlier and the instant is not after: what is due under the second is due under the first. Assumes nothing.
 use Rattle.prelude.proofs.Logic.{_≡_, refl, ap, Bool, true, false, cond, inl, inr, ⊎-elim, ℕ, zero, suc, _≤_, _<_, arith, eqb, eqb→eq, lit≤, ℤ, pos, negsuc, _+ℤ_, _-ℤ_, _*ℤ_, ltZ, eqb-true, eqb-false}
-use Rattle.integers.specs.Parts.{P, N}
-use Rattle.integers.proofs.PartsLaws.{same}
-use Rattle.integers.proofs.Sums.{sum, difference, times}
-use Rattle.integers.proofs.OrderLaws.{lt-yes, lt-no}
-use Rattle.integers.specs.Order.{_≼_}
-use Rattle.calendar.proofs.Computed.{at}
+use Rattle.integers.proofs.Integers.{P, N, same, sum, difference, times, lt-yes, lt-no, _≼_}
+use Rattle.prelude.proofs.Computed.{at}
 use Rattle.models.specs.declared.prayer.Prayer.{Prayer}
 use Rattle.models.specs.declared.prayer.Prayer.the-variants.{Fajr, Sunrise, Dhuhr, Asr, Maghrib, Isha, Qiyam, FajrTomorrow}
 use Rattle.models.specs.Numbers.{prayerNumberOf, prayerOf}
-use Rattle.schedule.specs.declared.in_force.Instant.{Instant}
+use Rattle.schedule.specs.declared.{in_force.Instant.Instant, prayer_times.PrayerTimes.PrayerTimes}
 use Rattle.schedule.specs.declared.in_force.Current.the-variants.{Some}
-use Rattle.schedule.specs.declared.prayer_times.PrayerTimes.{PrayerTimes}
-use Rattle.schedule.specs.InForce.{timeOf, second, nanosecondsOf, NotAfter, aheadOf, lastOf, currentTimeOf, currentNumberOf}
+use Rattle.schedule.specs.InForce.{timeOf, inSecond, nanosecondsOf, NotAfter, aheadOf, lastOf, currentTimeOf, currentNumberOf}
 use Rattle.schedule_laws.specs.Later.{NoneEarlier, NotAfterByNanoseconds}
 
 -- ---- "not after", by parts and by nanoseconds
 module _ (j i : Instant) where
-  pub to-nanoseconds : j .nanoseconds < 1000000000 → NotAfter j i → nanosecondsOf j ≼ nanosecondsOf i
+  pub to-nanoseconds : j .nanoseconds < inSecond → NotAfter j i → nanosecondsOf j ≼ nanosecondsOf i
   unfolding nanosecondsOf
   to-nanoseconds h o =
       let a = times (j .seconds) 1000000000 in
       let b = times (i .seconds) 1000000000 in
-      let c = sum (j .seconds *ℤ second) (pos (j .nanoseconds)) in
-      let d = sum (i .seconds *ℤ second) (pos (i .nanoseconds)) in
+      let c = sum (j .seconds *ℤ pos inSecond) (pos (j .nanoseconds)) in
+      let d = sum (i .seconds *ℤ pos inSecond) (pos (i .nanoseconds)) in
       let e = sum (j .seconds) (pos 1) in
       ⊎-elim (λ (l : j .seconds +ℤ pos 1 ≼ i .seconds). omega arith)
       (λ (l : (j .seconds ≡ i .seconds) × (j .nanoseconds ≤ i .nanoseconds)). let x = ap P (l .0) in let y = ap N (l .0) in omega (arith, l .1))
       o
 
-  from-nanoseconds : i .nanoseconds < 1000000000 → nanosecondsOf j ≼ nanosecondsOf i → NotAfter j i
+  from-nanoseconds : i .nanoseconds < inSecond → nanosecondsOf j ≼ nanosecondsOf i → NotAfter j i
   unfolding nanosecondsOf
   from-nanoseconds h o = by-tests (ltZ (j .seconds) (i .seconds)) (ltZ (i .seconds) (j .seconds)) refl refl
     where
@@ -39,16 +34,16 @@ module _ (j i : Instant) where
           let l = lt-yes (i .seconds) (j .seconds) q in
           let a = times (j .seconds) 1000000000 in
           let b = times (i .seconds) 1000000000 in
-          let c = sum (j .seconds *ℤ second) (pos (j .nanoseconds)) in
-          let d = sum (i .seconds *ℤ second) (pos (i .nanoseconds)) in
+          let c = sum (j .seconds *ℤ pos inSecond) (pos (j .nanoseconds)) in
+          let d = sum (i .seconds *ℤ pos inSecond) (pos (i .nanoseconds)) in
           absurd (omega arith)
       by-tests false false p q =
           let l = lt-no (j .seconds) (i .seconds) p in
           let m = lt-no (i .seconds) (j .seconds) q in
           let a = times (j .seconds) 1000000000 in
           let b = times (i .seconds) 1000000000 in
-          let c = sum (j .seconds *ℤ second) (pos (j .nanoseconds)) in
-          let d = sum (i .seconds *ℤ second) (pos (i .nanoseconds)) in
+          let c = sum (j .seconds *ℤ pos inSecond) (pos (j .nanoseconds)) in
+          let d = sum (i .seconds *ℤ pos inSecond) (pos (i .nanoseconds)) in
           inr (same (j .seconds) (i .seconds) (omega arith), omega arith)
 
 pub not-after-by-nanoseconds : NotAfterByNanoseconds
@@ -65,9 +60,9 @@ unfolding aheadOf
 ahead-grows s t i j h k =
     let a = times s 1000000000 in
     let b = times t 1000000000 in
-    let c = difference (s *ℤ second) (nanosecondsOf i) in
-    let d = difference (t *ℤ second) (nanosecondsOf j) in
-    let g = positive-grows (s *ℤ second -ℤ nanosecondsOf i) (t *ℤ second -ℤ nanosecondsOf j) (omega (arith, c .0, c .1, d .0, d .1)) in
+    let c = difference (s *ℤ pos inSecond) (nanosecondsOf i) in
+    let d = difference (t *ℤ pos inSecond) (nanosecondsOf j) in
+    let g = positive-grows (s *ℤ pos inSecond -ℤ nanosecondsOf i) (t *ℤ pos inSecond -ℤ nanosecondsOf j) (omega (arith, c .0, c .1, d .0, d .1)) in
     omega (arith, g)
 
 -- ---- the list

@@ -1,29 +1,18 @@
 -- What a school's later minutes do to a day: the statement of specs/Later. Assumes nothing.
 use Rattle.prelude.proofs.Logic.{_≡_, refl, sym, ap, subst, _∙_, ℕ, _^_, _<_, arith}
-use Rattle.integers.specs.Parts.{Near}
-use Rattle.integers.specs.Order.{_≼_}
+use Rattle.integers.proofs.Integers.{Near, _≼_}
 use Rattle.calendar.specs.declared.dates.Date.{Date}
-use Rattle.models.specs.declared.adjustments.TimeAdjustment.{TimeAdjustment}
-use Rattle.models.specs.declared.parameters.Parameters.{Parameters}
-use Rattle.models.specs.declared.rules.Season.{Season}
-use Rattle.models.specs.declared.prayer.Prayer.{Prayer}
-use Rattle.models.specs.declared.rules.Midnight.{Midnight}
+use Rattle.models.specs.declared.{adjustments.TimeAdjustment.TimeAdjustment, parameters.Parameters.Parameters, rules.Season.Season, prayer.Prayer.Prayer, rules.Midnight.Midnight}
 use Rattle.refusals.specs.declared.Refusal.{Refusal}
 use Rattle.models.specs.Settings.{timeAdjustmentsOf}
 use Rattle.unit.specs.declared.Coordinates.{Coordinates}
-use Rattle.schedule.specs.declared.hours.Suns.{Suns}
+use Rattle.schedule.specs.declared.{hours.Suns.Suns, hours.RowHours.RowHours, hours.RowNumbers.RowNumbers, prayer_times.PrayerTimes.PrayerTimes, in_force.Instant.Instant}
 use Rattle.schedule.specs.declared.hours.Suns.the-variants.{Whole, Lacks}
-use Rattle.schedule.specs.declared.hours.RowHours.{RowHours}
-use Rattle.schedule.specs.declared.hours.RowNumbers.{RowNumbers}
-use Rattle.schedule.specs.declared.prayer_times.PrayerTimes.{PrayerTimes}
 use Rattle.schedule.specs.declared.prayer_times.Worked.the-variants.{Times, Refused}
-use Rattle.schedule.specs.Hours.{hoursOf}
-use Rattle.schedule.specs.InForce.{NotAfter}
-use Rattle.schedule.specs.Numbers.{fajrNumberOf, ishaNumberOf, asrNumberOf, numbersOf}
-use Rattle.schedule.specs.Times.{workedFrom, seasonOf, workedOf}
+use Rattle.schedule.specs.InForce.{inSecond}
+use Rattle.schedule.proofs.Schedule.{hoursOf, NotAfter, fajrNumberOf, ishaNumberOf, asrNumberOf, numbersOf, workedFrom, seasonOf, workedOf}
 use Rattle.schedule_laws.specs.Later.{withMinutes, NoneEarlier, ExactlyLater, Moved, LaterMinutesMoveTheDay, LaterMinutesMoveTheRow}
 use Rattle.schedule_laws.proofs.SunSpans.{SunHour, Row, hours}
-use Rattle.schedule.specs.declared.in_force.Instant.{Instant}
 use Rattle.schedule_laws.proofs.Moves.{exactly, none-earlier}
 use Rattle.schedule_laws.proofs.InForceLaws.{to-nanoseconds, in-force-no-later}
 
@@ -47,7 +36,7 @@ worked-alike p q x y none exact =
           let a : x ≡ t = cc in let b : y ≡ u = cc in subst (λ (k : PrayerTimes). NoneEarlier t k) b (subst (λ (k : PrayerTimes). NoneEarlier k y) a none);
       «exactly_later» = λ (t u : PrayerTimes) (e : Times x ≡ Times t) (f : Times y ≡ Times u).
           let a : x ≡ t = cc in let b : y ≡ u = cc in subst (λ (k : PrayerTimes). ExactlyLater p q t k) b (subst (λ (k : PrayerTimes). ExactlyLater p q k y) a exact);
-      «in_force» = λ (t u : PrayerTimes) (e : Times x ≡ Times t) (f : Times y ≡ Times u) (i j : Instant) (h : j .nanoseconds < 1000000000) (l : NotAfter j i).
+      «in_force» = λ (t u : PrayerTimes) (e : Times x ≡ Times t) (f : Times y ≡ Times u) (i j : Instant) (h : j .nanoseconds < inSecond) (l : NotAfter j i).
           let a : x ≡ t = cc in
           let b : y ≡ u = cc in
           in-force-no-later t u i j (subst (λ (k : PrayerTimes). NoneEarlier t k) b (subst (λ (k : PrayerTimes). NoneEarlier k y) a none)) (to-nanoseconds j i h l);

@@ -1,21 +1,12 @@
 -- Where a school's minutes are later and nothing else changes: each time is later by exactly their seconds, and none of the nine is earlier. Assumes
 -- nothing.
 use Rattle.prelude.proofs.Logic.{_≡_, refl, sym, ap, subst, _∙_, _^_, _<_, arith, lit≤, ℤ, pos, negsuc, _+ℤ_, _-ℤ_, _*ℤ_, +ℤ-assoc, mag}
-use lib.Ieee.{Float, toSigned}
-use lib.Ieee.Casts.{toSigned-in}
-use Rattle.integers.specs.Parts.{Near}
-use Rattle.integers.specs.Order.{_≼_}
-use Rattle.integers.proofs.PartsLaws.{same}
-use Rattle.integers.proofs.Sums.{sum, difference, times}
-use Rattle.integers.proofs.Intervals.{wider, natural-between, sum-between, difference-between, either-between}
+use Rattle.float64.proofs.Floats.{Float, toSigned, toSigned-in}
+use Rattle.integers.proofs.Integers.{Near, _≼_, same, sum, difference, times, wider, natural-between, sum-between, difference-between, either-between}
 use Rattle.calendar.specs.Answers.{tomorrowOf}
 use Rattle.calendar.specs.declared.dates.Date.{Date}
-use Rattle.models.specs.declared.adjustments.TimeAdjustment.{TimeAdjustment}
-use Rattle.models.specs.declared.parameters.Parameters.{Parameters}
-use Rattle.models.specs.declared.rules.Season.{Season}
-use Rattle.models.specs.declared.prayer.Prayer.{Prayer}
+use Rattle.models.specs.declared.{adjustments.TimeAdjustment.TimeAdjustment, parameters.Parameters.Parameters, rules.Season.Season, prayer.Prayer.Prayer, rounding.Rounding.Rounding}
 use Rattle.models.specs.declared.prayer.Prayer.the-variants.{Fajr, Sunrise, Dhuhr, Asr, Maghrib, Isha}
-use Rattle.models.specs.declared.rounding.Rounding.{Rounding}
 use Rattle.models.specs.declared.rounding.Rounding.the-variants.{Nearest}
 use Rattle.models.specs.Settings.{timeAdjustmentsOf}
 use Rattle.stride.specs.Times.{roundedOf, adjustedOf}
@@ -24,13 +15,9 @@ use Rattle.night_portions.specs.Portions.{portionBeforeOf, middleOf, lastThirdO
 use Rattle.night_portions.proofs.Steady.{Small}
 use Rattle.night_portions.proofs.PortionsLaws.{middle-later, last-third-later}
 use Rattle.ops.specs.Season.{morningSecondsOf}
-use Rattle.solar.specs.declared.setting.SolarHour.{SolarHour}
-use Rattle.solar.specs.declared.times.SolarTime.{SolarTime}
-use Rattle.schedule.specs.declared.hours.ThreeSuns.{ThreeSuns}
-use Rattle.schedule.specs.declared.hours.RowHours.{RowHours}
-use Rattle.schedule.specs.declared.prayer_times.PrayerTimes.{PrayerTimes}
-use Rattle.schedule.specs.Times.{startOf, finalOf, fajrTomorrowOf, middleOfTheNightOf, qiyamOf, fromMidnightOf, startedOf, timesOf}
-use Rattle.schedule.specs.Twilight.{nightOf, nextDayOf, orOf, bySeasonOf, beforeSunriseOf, unadjustedFajrOf, ishaBoundOf, boundedIshaOf, unadjustedIshaOf}
+use Rattle.solar.specs.declared.{setting.SolarHour.SolarHour, times.SolarTime.SolarTime}
+use Rattle.schedule.specs.declared.{hours.ThreeSuns.ThreeSuns, hours.RowHours.RowHours, prayer_times.PrayerTimes.PrayerTimes}
+use Rattle.schedule.proofs.Schedule.{startOf, finalOf, fajrTomorrowOf, middleOfTheNightOf, qiyamOf, fromMidnightOf, startedOf, timesOf, nightOf, nextDayOf, orOf, bySeasonOf, beforeSunriseOf, unadjustedFajrOf, ishaBoundOf, boundedIshaOf, unadjustedIshaOf}
 use Rattle.schedule_laws.specs.Later.{withMinutes, NoneEarlier, laterBy, ExactlyLater}
 use Rattle.schedule_laws.proofs.Spans.{fajr-between, final-between}
 use Rattle.schedule_laws.proofs.SunSpans.{Days, SunHour, Sun, Three, night-days, seventh-days}

@@ -1,31 +1,20 @@
 -- Every time lies by its date, and its days print as one digit: the statements of specs/Range. Assumes nothing.
 use Rattle.prelude.proofs.Logic.{_≡_, subst, ℕ, _-_, _*_, _≤_, _<_, arith, lit≤, ℤ, pos, negsuc, _+ℤ_, _-ℤ_}
-use Rattle.integers.specs.Parts.{P, N, Between, Near}
-use Rattle.integers.specs.Quotients.{floorQuot}
-use Rattle.integers.proofs.PartsLaws.{same}
-use Rattle.integers.proofs.Sums.{sum, difference}
-use Rattle.integers.proofs.Intervals.{wider, sum-between, difference-between, natural-between, toward-between}
+use Rattle.integers.proofs.Integers.{P, N, Between, Near, floorQuot, same, sum, difference, wider, sum-between, difference-between, natural-between, toward-between}
 use Rattle.calendar.specs.Answers.{tomorrowOf}
 use Rattle.calendar.specs.declared.dates.Date.{Date}
-use Rattle.models.specs.declared.parameters.Parameters.{Parameters}
-use Rattle.models.specs.declared.rules.Season.{Season}
-use Rattle.models.specs.declared.prayer.Prayer.{Prayer}
+use Rattle.models.specs.declared.{parameters.Parameters.Parameters, rules.Season.Season, prayer.Prayer.Prayer}
 use Rattle.models.specs.declared.prayer.Prayer.the-variants.{Fajr, Sunrise, Dhuhr, Asr, Maghrib, Isha}
 use Rattle.models.specs.declared.rounding.Rounding.the-variants.{Nearest}
 use Rattle.models.specs.Settings.{timeAdjustmentsOf}
 use Rattle.stride.proofs.TimesLaws.{rounded-between, adjusted-between}
 use Rattle.night_portions.specs.Portions.{middleOf, lastThirdOf}
 use Rattle.night_portions.proofs.PortionsLaws.{middle-inside, last-third-inside}
-use Rattle.solar.specs.declared.setting.SolarHour.{SolarHour}
-use Rattle.solar.specs.declared.times.SolarTime.{SolarTime}
-use Rattle.schedule.specs.declared.hours.ThreeSuns.{ThreeSuns}
-use Rattle.schedule.specs.declared.hours.Suns.{Suns}
+use Rattle.solar.specs.declared.{setting.SolarHour.SolarHour, times.SolarTime.SolarTime}
+use Rattle.schedule.specs.declared.{hours.ThreeSuns.ThreeSuns, hours.Suns.Suns, hours.RowHours.RowHours, prayer_times.PrayerTimes.PrayerTimes}
 use Rattle.schedule.specs.declared.hours.Suns.the-variants.{Whole, Lacks}
-use Rattle.schedule.specs.declared.hours.RowHours.{RowHours}
-use Rattle.schedule.specs.declared.prayer_times.PrayerTimes.{PrayerTimes}
 use Rattle.schedule.specs.declared.prayer_times.Worked.the-variants.{Times}
-use Rattle.schedule.specs.Hours.{hoursOf}
-use Rattle.schedule.specs.Times.{startOf, finalOf, fajrTomorrowOf, middleOfTheNightOf, qiyamOf, fromMidnightOf, startedOf, timesOf, workedFrom, workedOf, Each}
+use Rattle.schedule.proofs.Schedule.{hoursOf, startOf, finalOf, fajrTomorrowOf, middleOfTheNightOf, qiyamOf, fromMidnightOf, startedOf, timesOf, workedFrom, workedOf, Each}
 use Rattle.schedule_laws.specs.Carried.{LatitudeInOrder, Carried}
 use Rattle.schedule_laws.specs.Range.{OfDate, AllOfDate, TimesLieByTheirDate, DaysAreOneDigit}
 use Rattle.schedule_laws.proofs.CarriedLaws.{carried-minutes}
@@ -126,6 +115,6 @@ times-lie-by-their-date rule n date season p t there carried e =
 pub days-are-one-digit : DaysAreOneDigit
 days-are-one-digit date time h = by-sign (time -ℤ startOf date) (h .from) (h .before)
   where
-    by-sign : (z : ℤ) → N z ≤ 4 * 86400 → P z < 5 * 86400 → (N (floorQuot z 86400) ≤ 4) × (P (floorQuot z 86400) ≤ 4)
-    by-sign (pos a) l u = (omega arith, omega arith)
-    by-sign (negsuc a) l u = (omega arith, omega arith)
+    by-sign : (z : ℤ) → N z ≤ 4 * 86400 → P z < 5 * 86400 → Near 4 (floorQuot z 86400)
+    by-sign (pos a) l u = record { from = omega arith; to = omega arith }
+    by-sign (negsuc a) l u = record { from = omega arith; to = omega arith }

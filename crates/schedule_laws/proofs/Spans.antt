@@ -1,22 +1,15 @@
 -- How far Fajr and Isha lie from 0h of their date, by how far the sun's times lie and what is added to them. Assumes nothing.
 use Rattle.prelude.proofs.Logic.{_≡_, refl, ℕ, _+_, _*_, _≤_, arith, ℤ, pos, _+ℤ_, ltZ}
 use lib.Ieee.{Float}
-use Rattle.integers.specs.Parts.{Between, Near}
-use Rattle.integers.proofs.Sums.{sum}
-use Rattle.integers.proofs.Intervals.{by-balance, wider, sum-between, difference-between, either-between}
+use Rattle.integers.proofs.Integers.{Between, Near, sum, by-balance, wider, sum-between, difference-between, either-between}
 use Rattle.calendar.specs.declared.dates.Date.{Date}
-use Rattle.models.specs.declared.method.Method.{Method}
-use Rattle.models.specs.declared.parameters.Parameters.{Parameters}
-use Rattle.models.specs.declared.rules.Season.{Season}
-use Rattle.models.specs.declared.prayer.Prayer.{Prayer}
+use Rattle.models.specs.declared.{method.Method.Method, parameters.Parameters.Parameters, rules.Season.Season, prayer.Prayer.Prayer}
 use Rattle.models.specs.Settings.{timeAdjustmentsOf}
 use Rattle.stride.proofs.TimesLaws.{rounded-between, adjusted-between}
 use Rattle.night_portions.specs.Portions.{seventhOf}
-use Rattle.solar.specs.declared.setting.SolarHour.{SolarHour}
+use Rattle.solar.specs.declared.{setting.SolarHour.SolarHour, times.SolarTime.SolarTime}
 use Rattle.solar.specs.declared.setting.SolarHour.the-variants.{At, None}
-use Rattle.solar.specs.declared.times.SolarTime.{SolarTime}
-use Rattle.schedule.specs.Times.{finalOf}
-use Rattle.schedule.specs.Twilight.{nextDayOf, nightOf, laterOf, earlierOf, orOf, bySeventhOf, ownOf, beforeSunriseOf, unadjustedFajrOf}
+use Rattle.schedule.proofs.Schedule.{finalOf, nextDayOf, nightOf, laterOf, earlierOf, orOf, bySeventhOf, ownOf, beforeSunriseOf, unadjustedFajrOf}
 
 -- an hour's time, where it has one
 pub record HourBetween (a b : ℕ) (hour : SolarHour) : Type 0 where

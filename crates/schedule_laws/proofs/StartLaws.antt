@@ -1,8 +1,7 @@
 -- The definitions round a time counted from 0h of its date, and add the date in the end. Counted from 1970 on, as the papers and the crate count, it
 -- is rounded to the same. Assumes nothing.
 use Rattle.prelude.proofs.Logic.{_≡_, sym, ap, _∙_, arith, ℤ, pos, _+ℤ_, _*ℤ_, +ℤ-comm}
-use Rattle.integers.proofs.PartsLaws.{same}
-use Rattle.integers.proofs.Sums.{times}
+use Rattle.integers.proofs.Integers.{same, times}
 use Rattle.calendar.specs.Days.{dayNumberOf}
 use Rattle.calendar.specs.declared.dates.Date.{Date}
 use Rattle.models.specs.declared.rounding.Rounding.{Rounding}

@@ -2,18 +2,12 @@
 -- day back and two days on. Assumes nothing.
 use Rattle.prelude.proofs.Logic.{ℕ, _+_, _*_, _≤_, arith, lit<, lit≤, ℤ, pos, ltZ}
 use lib.Ieee.{Float}
-use Rattle.integers.specs.Parts.{Between}
-use Rattle.integers.proofs.QuotientLaws.{divided}
-use Rattle.integers.proofs.Intervals.{wider, sum-between, difference-between, product-between, either-between}
-use Rattle.calendar.specs.Days.{ordinalOf}
+use Rattle.integers.proofs.Integers.{Between, divided, wider, sum-between, difference-between, product-between, either-between}
+use Rattle.calendar.proofs.Calendar.{ordinalOf, ordinal-short}
 use Rattle.calendar.specs.declared.dates.Date.{Date}
-use Rattle.calendar.proofs.Existing.{ordinal-short}
-use Rattle.models.specs.declared.high_altitude_rule.HighLatitudeRule.{HighLatitudeRule}
+use Rattle.models.specs.declared.{high_altitude_rule.HighLatitudeRule.HighLatitudeRule, parameters.Parameters.Parameters, rules.Season.Season, rules.Midnight.Midnight}
 use Rattle.models.specs.declared.high_altitude_rule.HighLatitudeRule.the-variants.{MiddleOfTheNight, SeventhOfTheNight, TwilightAngle}
-use Rattle.models.specs.declared.parameters.Parameters.{Parameters}
-use Rattle.models.specs.declared.rules.Season.{Season}
 use Rattle.models.specs.declared.rounding.Rounding.the-variants.{Nearest}
-use Rattle.models.specs.declared.rules.Midnight.{Midnight}
 use Rattle.models.specs.Settings.{portionsOf, nightPortionsOf}
 use Rattle.stride.proofs.TimesLaws.{rounded-between}
 use Rattle.night_portions.specs.Portions.{portionAfterOf, seventhOf}
@@ -21,19 +15,13 @@ use Rattle.night_portions.proofs.BoundsLaws.{Portion, after-half, before-half}
 use Rattle.night_portions.proofs.OrderPortions.{half-portion, seventh-portion, angle-portion}
 use Rattle.ops.specs.Season.{eveningSecondsOf}
 use Rattle.ops.proofs.SeasonLaws.{morning-small, evening-small}
-use Rattle.solar.specs.declared.setting.SolarHour.{SolarHour}
-use Rattle.solar.specs.declared.times.SolarTime.{SolarTime}
-use Rattle.solar.specs.declared.times.SolarDay.{SolarDay}
+use Rattle.solar.specs.declared.{setting.SolarHour.SolarHour, times.SolarTime.SolarTime, times.SolarDay.SolarDay}
 use Rattle.solar.specs.declared.times.SolarDay.the-variants as day
 use Rattle.solar.specs.Times.{solarHourOf, solarTimeOf}
 use Rattle.solar.proofs.TimesLaws.{SunOfThreeDays, DayOfThreeDays, hour-range, day-held}
-use Rattle.schedule.specs.declared.hours.ThreeSuns.{ThreeSuns}
-use Rattle.schedule.specs.declared.hours.Suns.{Suns}
+use Rattle.schedule.specs.declared.{hours.ThreeSuns.ThreeSuns, hours.Suns.Suns, hours.RowHours.RowHours, hours.RowNumbers.RowNumbers}
 use Rattle.schedule.specs.declared.hours.Suns.the-variants.{Whole, Lacks}
-use Rattle.schedule.specs.declared.hours.RowHours.{RowHours}
-use Rattle.schedule.specs.declared.hours.RowNumbers.{RowNumbers}
-use Rattle.schedule.specs.Hours.{sunsOf, dayHoursOf, rowHoursOf, hoursOf}
-use Rattle.schedule.specs.Twilight.{nightOf, bySeasonOf, beforeSunriseOf, unadjustedFajrOf, ishaBoundOf, boundedIshaOf, unadjustedIshaOf}
+use Rattle.schedule.proofs.Schedule.{sunsOf, dayHoursOf, rowHoursOf, hoursOf, nightOf, bySeasonOf, beforeSunriseOf, unadjustedFajrOf, ishaBoundOf, boundedIshaOf, unadjustedIshaOf}
 use Rattle.schedule_laws.specs.Carried.{AngleInOrder, LatitudeInOrder, Carried}
 use Rattle.schedule_laws.proofs.Spans.{HourBetween, hour-wider, own-between, earlier-between, next-day-between, fajr-between}
 

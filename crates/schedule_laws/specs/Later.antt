@@ -22,7 +22,7 @@ use Rattle.schedule.specs.declared.prayer_times.PrayerTimes.{PrayerTimes}
 use Rattle.schedule.specs.declared.prayer_times.Worked.{Worked}
 use Rattle.schedule.specs.declared.prayer_times.Worked.the-variants.{Times, Refused}
 use Rattle.schedule.specs.Hours.{hoursOf}
-use Rattle.schedule.specs.InForce.{nanosecondsOf, NotAfter, currentTimeOf, currentNumberOf}
+use Rattle.schedule.specs.InForce.{inSecond, nanosecondsOf, NotAfter, currentTimeOf, currentNumberOf}
 use Rattle.schedule.specs.Times.{workedOf, workedAt}
 
 -- ---- "differ only in schools' own minutes, and the second's sum (own plus method's) for each of the six prayers is at least the first's"
@@ -78,7 +78,7 @@ pub record ExactlyLater (p q : Parameters) (t u : PrayerTimes) : Type 0 where
 -- ---- "an instant .. ordered by whole seconds, then nanoseconds": which is the order by the nanoseconds from 1970 on, since an instant's are less than a second
 abbrev pub NotAfterByNanoseconds : Type 0
 NotAfterByNanoseconds =
-    (j i : Instant) → j .nanoseconds < 1000000000 → i .nanoseconds < 1000000000
+    (j i : Instant) → j .nanoseconds < inSecond → i .nanoseconds < inSecond
     → (NotAfter j i → nanosecondsOf j ≼ nanosecondsOf i) × (nanosecondsOf j ≼ nanosecondsOf i → NotAfter j i)
 
 -- ---- demand 3 of one day, w under the first and v under the second
@@ -90,7 +90,7 @@ pub record Moved (p q : Parameters) (w v : Worked) : Type 0 where
   pub «none_earlier» : (t u : PrayerTimes) → w ≡ Times t → v ≡ Times u → NoneEarlier t u
   pub «exactly_later» : (t u : PrayerTimes) → w ≡ Times t → v ≡ Times u → ExactlyLater p q t u
   -- "the prayer in force .. stands no later in the list of eight .. ("none" standing before Fajr)"
-  pub «in_force» : (t u : PrayerTimes) → w ≡ Times t → v ≡ Times u → (i j : Instant) → j .nanoseconds < 1000000000 → NotAfter j i
+  pub «in_force» : (t u : PrayerTimes) → w ≡ Times t → v ≡ Times u → (i j : Instant) → j .nanoseconds < inSecond → NotAfter j i
       → currentNumberOf (currentTimeOf u j) ≤ currentNumberOf (currentTimeOf t i)
 
 abbrev pub LaterMinutesMoveTheDay : Type 0

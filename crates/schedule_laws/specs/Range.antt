@@ -3,7 +3,7 @@
 use mathlib.Core.Path.{_≡_}
 use Prim.Native.Nat.{_*_, _≤_, _<_}
 use lib.IntN.{ℤ, _-ℤ_}
-use Rattle.integers.specs.Parts.{P, N}
+use Rattle.integers.specs.Parts.{P, N, Near}
 use Rattle.integers.specs.Quotients.{floorQuot}
 use Rattle.calendar.specs.declared.dates.Date.{Date}
 use Rattle.models.specs.declared.parameters.Parameters.{Parameters}
@@ -32,4 +32,4 @@ TimesLieByTheirDate =
 -- the days that the sheet prints, rounded down, are from -4 to 4
 abbrev pub DaysAreOneDigit : Type 0
 DaysAreOneDigit =
-    (date : Date) (time : ℤ) → OfDate date time → (N (floorQuot (time -ℤ startOf date) 86400) ≤ 4) × (P (floorQuot (time -ℤ startOf date) 86400) ≤ 4)
+    (date : Date) (time : ℤ) → OfDate date time → Near 4 (floorQuot (time -ℤ startOf date) 86400)

@@ -4,7 +4,7 @@ use Rattle.text.specs.Text.{ascii}
 use Rattle.sentences.specs.Table.{texts, names, textOf, nameOf, known, widest, widestName}
 use Rattle.sentences.specs.Rows.{filled, endOf}
 use Rattle.sentences.specs.Guess.{numberIn}
-use Rattle.sentences.specs.Promises.{printable}
+use Rattle.text.specs.Text.{printable}
 
 is-true : (b : Bool) → T b → b ≡ true
 is-true true t = refl

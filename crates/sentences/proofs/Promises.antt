@@ -1,12 +1,12 @@
 -- The promises of request 8: `each-has-a-sentence`, `printed`, `read-back`, `different`, `reads-only-sentences`, `written-and-read`. Assumes nothing.
 use Rattle.prelude.proofs.Logic.{_≡_, refl, sym, ap, subst, _∙_, Bool, true, false, _&&_, and-eq-true-iff, List, [], _∷_, _++_, append-assoc, ℕ, zero, suc, _+_, _/_, _≤_, _<_, arith, leb, ltb, length, take, length-append, le-leb, lt-ltb, ltb-true, cases, either}
-use Rattle.text.specs.Text.{ascii, digitOf, digitsOf, decimalOf, frontOf}
+use Rattle.text.specs.Text.{ascii, printable, digitOf, digitsOf, decimalOf, frontOf}
 use Rattle.text.proofs.TextLaws.{put-next, cut-front}
 use Rattle.sentences.specs.declared.Meaning.{Meaning}
 use Rattle.sentences.specs.Table.{texts, textOf, nameOf, known, widest, widestName}
 use Rattle.sentences.specs.Guess.{none, numberIn, placeIn}
 use Rattle.sentences.specs.Sentences.{endsInColon, wordsOf, sentenceOf, bufferAfter, meant, noSentence, same, meaningOf}
-use Rattle.sentences.specs.Promises.{allKnown, EachHasASentence, printable, Says, Different, Printed, ReadBack, ReadAs, ReadsOnlySentences, WrittenAndRead}
+use Rattle.sentences.specs.Promises.{allKnown, EachHasASentence, Says, Different, Printed, ReadBack, ReadAs, ReadsOnlySentences, WrittenAndRead}
 use Rattle.sentences.specs.Promises.ReadAs.{says, other}
 use Rattle.sentences.proofs.Lines.{text-fine, name-fine, text-says}
 use Rattle.sentences.proofs.Guessing.{number-append, ten-digits, place-back}

@@ -3,10 +3,9 @@ use Prim.Native.Nat.{ℕ, _≤_, _<_, _^_}
 use mathlib.Core.Path.{_≡_}
 use mathlib.Core.Bool.{Bool, true, false, _&&_}
 use mathlib.Core.List.{List, [], _∷_}
-use lib.Dec.{leb}
 use lib.ListN.{length, take}
 use Rattle.refusals.specs.Refusals.{numbers}
-use Rattle.text.specs.Text.{frontOf}
+use Rattle.text.specs.Text.{printable, frontOf}
 use Rattle.sentences.specs.declared.Meaning.{Meaning}
 use Rattle.sentences.specs.Table.{known}
 use Rattle.sentences.specs.Sentences.{sentenceOf, bufferAfter, meant, noSentence, meaningOf}
@@ -28,10 +27,6 @@ EachHasASentence = (allKnown numbers ≡ true) × (known 0 ≡ false)
 -- "any two refusals that differ in number or place have different sentences": one sentence is one refusal's
 abbrev pub Different : Type 0
 Different = (bytes : List ℕ) (n m p q : ℕ) → Says bytes n p → Says bytes m q → (n ≡ m) × (p ≡ q)
-
-unfoldable pub printable : List ℕ → Bool
-printable [] = true
-printable (b ∷ bs) = leb 32 b && leb b 126 && printable bs
 
 -- "at most 100 bytes of printable ASCII"
 abbrev pub Printed : Type 0

@@ -1,11 +1,9 @@
 -- The arithmetic of `hour` and `next_midnight` at what the machine reads, and their times. Assumes nothing.
 use Rattle.prelude.proofs.Logic.{_≡_, sym, ap, subst, _∙_, ℕ, _+_, _*_, _≤_, _<_, arith, ℤ, pos, negsuc, _-ℤ_, lt-ltb, le-ltb, w32, SFits, toZ, ofZ}
-use Rattle.integers.proofs.PartsLaws.{same}
-use Rattle.integers.proofs.Sums.{sum, difference}
-use Rattle.integers.proofs.Ranges.{fits, read}
+use Rattle.integers.proofs.Integers.{same, sum, difference, fits, read}
 use Rattle.solar.specs.Setting.{hourOf}
 use Rattle.solar.specs.PastMidnight.{nextMidnightOf}
-use Rattle.solar.specs.declared.setting.SolarHour.the-variants.{At}
+use Rattle.solar.specs.declared.setting.SolarHour.the-variants.{At, None}
 use Rattle.solar.specs.declared.setting.Placed.{Placed}
 
 -- a day before the second n
@@ -24,11 +22,17 @@ module _ (n : ℕ) (h : n < 2147483648) where
 module _ (p : Placed) (minute : ℕ) where
   pub on-hour : minute < 60 → p .hour < 24 → At (pos (p .ahead * 86400 + p .hour * 3600 + minute * 60) -ℤ pos 86400) ≡ hourOf p minute
   unfolding hourOf
-  on-hour h k = rw (lt-ltb minute 60 h, lt-ltb (p .hour) 24 k)
+  on-hour h k = simp (lt-ltb minute 60 h, lt-ltb (p .hour) 24 k)
 
   pub next-hour : 60 ≤ minute → p .hour < 23 → At (pos (p .ahead * 86400 + (p .hour + 1) * 3600) -ℤ pos 86400) ≡ hourOf p minute
   unfolding hourOf
-  next-hour h k = rw (le-ltb minute 60 h, lt-ltb (p .hour) 23 k)
+  next-hour h k =
+      let e : p .ahead * 86400 + (p .hour + 1) * 3600 ≡ p .ahead * 86400 + (p .hour + 1) * 3600 + 0 * 60 = omega arith in
+      simp (le-ltb minute 60 h, lt-ltb (p .hour + 1) 24 (omega arith)) (ap (λ (n : ℕ). At (pos n -ℤ pos 86400)) e)
+
+  pub no-hour : 60 ≤ minute → 23 ≤ p .hour → None ≡ hourOf p minute
+  unfolding hourOf
+  no-hour h k = simp (le-ltb minute 60 h, le-ltb (p .hour + 1) 24 (omega arith))
 
 -- 0h of the date after the one taken
 pub midnight : (ahead : ℕ) → ahead * 86400 < 2147483648 → At (toZ w32 (ahead * 86400)) ≡ nextMidnightOf ahead

@@ -6,3 +6,5 @@ pub mod Taken
 pub mod PastMidnightSentences
 pub mod TimesLaws
 pub mod OnTheDate
+pub mod NearestMinute
+pub mod AltitudeSine

@@ -1,14 +1,7 @@
--- An hour number above 1 and below 24 is normal, and its floored hours are placed on the date. They and the nearest minute are whole numbers that a cast
--- takes as they are. Assumes nothing.
-use Rattle.prelude.proofs.Logic.{_≡_, refl, sym, ap, _∙_, Bool, true, false, cond, true≢false, false≢true, ℕ, _+_, _*_, _/_, _%_, _^_, _≤_, _<_, mul-div-cancel, mul-le-mul-left, div-add-mod', div-lt-iff-lt-mul, arith, T, ltb, eqb, lit<, ℤ, pow-pos, ltb-true, le-ltb, lt-ltb, le-leb, eqb-true}
-use lib.Ieee.{Float, nan, inf, fin, binary64, up, down, round, ofInt, whole, inUnsigned, toUnsigned, lt}
-use lib.Ieee.Exact.{HasValue}
-use lib.Ieee.Back.{round-whole}
-use lib.Ieee.Fits.{down-pos}
-use Rattle.float64.specs.Ops.{dec}
-use Rattle.float64.specs.Sizes.{isNormalOf}
-use Rattle.float64.specs.Whole.{floorOf, roundOf, wholePart, fraction, halfUp}
-use Rattle.float64.proofs.Values.{lt-values}
+-- An hour number above 1 and below 24 is normal, and its floored hours are placed on the date, a whole number that a cast takes as it is. Assumes
+-- nothing.
+use Rattle.prelude.proofs.Logic.{_≡_, refl, sym, ap, _∙_, true, false, true≢false, false≢true, ℕ, _*_, _/_, _%_, _^_, _≤_, _<_, mul-div-cancel, mul-le-mul-left, div-add-mod', div-lt-iff-lt-mul, arith, T, lit<, ℤ, pow-pos, ltb-true, le-ltb, lt-ltb, le-leb}
+use Rattle.float64.proofs.Floats.{Float, nan, inf, fin, binary64, up, down, round, whole, inUnsigned, toUnsigned, lt, HasValue, down-pos, dec, isNormalOf, floorOf, wholePart, lt-values}
 use Rattle.solar.specs.Setting.{hourAdjustmentOf}
 use Rattle.solar.proofs.Taken.{zero-value, day-value, floor-up}
 
@@ -80,28 +73,3 @@ placed =
         let a : lt y (dec 0 0) ≡ false = lt-values y (dec 0 0) k 0 1 1 (lit< tt) (lit< tt) (v .0) zero-value ∙ le-ltb (k * 1) (0 * 1) (omega arith) in
         let b : lt y (dec 24 0) ≡ true = lt-values y (dec 24 0) k 24 1 1 (lit< tt) (lit< tt) (v .0) day-value ∙ lt-ltb (k * 1) (24 * 1) (omega (arith, v .1)) in
         rw (a, b)
-
--- ---- the minute
-hour-value : HasValue (dec 60 0) false 60 1
-unfolding dec round
-hour-value = (refl, refl)
-
-pub minute-cast : (x : Float) → lt (dec 0 0) x ≡ true → lt x (dec 60 0) ≡ true → T (inUnsigned binary64 32 (roundOf x))
-unfolding roundOf ofInt
-minute-cast = between (λ x. T (inUnsigned binary64 32 (roundOf x))) 0 60 (dec 0 0) (dec 60 0) zero-value hour-value at
-  where
-    half : (t : Bool) (q : ℕ) → q < 60 → cond t q (q + 1) < 61
-    half true q h = omega arith
-    half false q h = omega arith
-
-    at : (m : ℕ) (e : ℤ) → 0 * down e < m * up e → m * up e < 60 * down e → T (inUnsigned binary64 32 (roundOf (fin false m e)))
-    at m e l u = go (eqb (fraction m e) 0) refl
-      where
-        q-small : wholePart m e < 60
-        q-small = div-lt-iff-lt-mul (down-pos e) .1 u
-
-        go : (b : Bool) → eqb (fraction m e) 0 ≡ b → T (inUnsigned binary64 32 (cond b (fin false m e) (round binary64 false (halfUp m e) 1)))
-        go true z = whole-cast (fin false m e) (wholePart m e) (refl, omega (arith, div-add-mod' (m * up e) (down e), eqb-true (fraction m e) 0 z)) (omega (arith, q-small))
-        go false z =
-            let n = half (ltb (2 * fraction m e) (down e)) (wholePart m e) q-small in
-            whole-cast (round binary64 false (halfUp m e) 1) (halfUp m e) (round-whole binary64 false (halfUp m e) (omega arith)) (omega arith)

@@ -1,23 +1,14 @@
 -- What the carried times are: where they lie, where they are document 01's, and what they are where it has none. Assumes nothing.
-use Rattle.prelude.proofs.Logic.{_≡_, refl, sym, ap, subst, _∙_, Bool, true, false, cond, ℕ, _+_, _*_, _≤_, _<_, arith, ltb, lit≤, ℤ, pos, _-ℤ_, ltb-true, ltb-false, lt-ltb, le-ltb}
-use lib.Ieee.{Float}
-use Rattle.float64.specs.Sizes.{isNormalOf}
-use Rattle.float64.specs.Whole.{floorOf}
+use Rattle.prelude.proofs.Logic.{_≡_, refl, sym, ap, subst, _∙_, Bool, true, false, cond, ℕ, _+_, _*_, _≤_, arith, ltb, lit≤, ℤ, pos, ltb-true}
+use Rattle.float64.proofs.Floats.{Float, isNormalOf, floorOf}
 use Rattle.solar.specs.declared.setting.SolarHour.{SolarHour}
 use Rattle.solar.specs.declared.setting.SolarHour.the-variants.{At, None}
 use Rattle.solar.specs.declared.setting.Placed.{Placed}
-use Rattle.solar.specs.Setting.{hourAdjustmentOf, minuteOf, hourOf, settingHourOf}
-use Rattle.solar.proofs.SettingLaws.{HourOfThreeDays, counted, ahead-held}
-use Rattle.solar.specs.PastMidnight.{hasTimeOf, daySecondOf, sumOf, restOf, nextMidnightOf, carriedOf, carriedHourOf}
+use Rattle.solar.specs.Setting.{hourAdjustmentOf, minuteOf, daySecondOf, sumOf, restOf, hourOf, settingHourOf}
+use Rattle.solar.proofs.SettingLaws.{HourOfThreeDays, counted, rest-held, ahead-held}
+use Rattle.solar.specs.PastMidnight.{hasTimeOf, nextMidnightOf, carriedOf, carriedHourOf}
 
 -- ---- the range
-rest-held : (minute : ℕ) → restOf minute < 60
-rest-held minute = by-test (ltb minute 60) refl
-  where
-    by-test : (b : Bool) → ltb minute 60 ≡ b → cond b minute 0 < 60
-    by-test true e = ltb-true minute 60 e
-    by-test false e = omega arith
-
 carry-held : (p : Placed) (minute : ℕ) → p .ahead ≤ 2 → HourOfThreeDays (carriedOf p minute)
 unfolding carriedOf
 carry-held p minute h = by-test (ltb hour 24) refl
@@ -45,35 +36,19 @@ abbrev pub carriedFrom : SolarHour → ℕ → SolarHour
 carriedFrom (At t) ahead = At t
 carriedFrom None ahead = nextMidnightOf ahead
 
-same-time : (m n : ℕ) → m ≡ n → At (pos m -ℤ pos 86400) ≡ At (pos n -ℤ pos 86400)
-same-time m n e = ap (λ (k : ℕ). At (pos k -ℤ pos 86400)) e
-
 pub carry-from : (p : Placed) (minute : ℕ) → carriedOf p minute ≡ carriedFrom (hourOf p minute) (p .ahead)
 unfolding carriedOf hourOf
-carry-from p minute = by-test (ltb minute 60) refl
+carry-from p minute = by-test (ltb hour 24)
   where
-    on : ℤ
-    on = pos (p .ahead * 86400 + p .hour * 3600 + minute * 60) -ℤ pos 86400
+    hour : ℕ
+    hour = sumOf (p .hour) minute
 
-    next : ℤ
-    next = pos (p .ahead * 86400 + (p .hour + 1) * 3600) -ℤ pos 86400
+    time : ℤ
+    time = daySecondOf (p .ahead) hour (restOf minute)
 
-    after : SolarHour
-    after = nextMidnightOf (p .ahead)
-
-    same-test : (b : Bool) → cond b (At on) after ≡ carriedFrom (cond b (At on) None) (p .ahead)
-    same-test true = refl
-    same-test false = refl
-
-    next-test : (b : Bool) → ltb (p .hour) 23 ≡ b → cond (ltb (p .hour + 1) 24) (At (daySecondOf (p .ahead) (p .hour + 1) 0)) after ≡ carriedFrom (cond b (At next) None) (p .ahead)
-    next-test true e = rw (lt-ltb (p .hour + 1) 24 (omega (arith, ltb-true (p .hour) 23 e))) (same-time (p .ahead * 86400 + (p .hour + 1) * 3600 + 0 * 60) (p .ahead * 86400 + (p .hour + 1) * 3600) (omega arith))
-    next-test false e = rw (le-ltb (p .hour + 1) 24 (omega (arith, ltb-false (p .hour) 23 e)))
-
-    by-test : (b : Bool) → ltb minute 60 ≡ b →
-        cond (ltb (cond b (p .hour) (p .hour + 1)) 24) (At (daySecondOf (p .ahead) (cond b (p .hour) (p .hour + 1)) (cond b minute 0))) after
-        ≡ carriedFrom (cond b (cond (ltb (p .hour) 24) (At on) None) (cond (ltb (p .hour) 23) (At next) None)) (p .ahead)
-    by-test true e = same-test (ltb (p .hour) 24)
-    by-test false e = next-test (ltb (p .hour) 23) refl
+    by-test : (b : Bool) → cond b (At time) (nextMidnightOf (p .ahead)) ≡ carriedFrom (cond b (At time) None) (p .ahead)
+    by-test true = refl
+    by-test false = refl
 
 -- the date taken: 0 is yesterday, 1 the date, 2 tomorrow
 abbrev pub takenOf : Float → ℕ

@@ -1,13 +1,9 @@
 -- Request 1's sentences, each as a law over every number. Assumes nothing.
 use Rattle.prelude.proofs.Logic.{_≡_, refl, ap, _∙_, Bool, true, false, cond, _&&_, _||_, false≢true, ℕ, _+_, _*_, _^_, _≤_, _<_, mul-le-mul-left, arith, ltb, eqb, ℤ, pos, pow-pos, ltb-true, lt-ltb, le-ltb, leb-false, eqb-true, ne-eqb}
-use lib.Ieee.{Float, nan, inf, fin, up, down, round, neg, le, lt, eq}
-use lib.Ieee.Fits.{down-pos}
-use Rattle.float64.specs.Ops.{dec}
-use Rattle.float64.specs.Sizes.{isNormalOf}
-use Rattle.float64.specs.Whole.{floorOf}
+use Rattle.float64.proofs.Floats.{Float, nan, inf, fin, up, down, round, neg, le, lt, eq, down-pos, dec, isNormalOf, floorOf}
 use Rattle.solar.specs.declared.setting.SolarHour.the-variants.{At, None}
-use Rattle.solar.specs.Setting.{hourAdjustmentOf, minuteOf, settingHourOf}
-use Rattle.solar.specs.PastMidnight.{hasTimeOf, daySecondOf, sumOf, restOf, nextMidnightOf, carriedOf, carriedHourOf}
+use Rattle.solar.specs.Setting.{hourAdjustmentOf, minuteOf, settingHourOf, daySecondOf, sumOf, restOf}
+use Rattle.solar.specs.PastMidnight.{hasTimeOf, nextMidnightOf, carriedOf, carriedHourOf}
 use Rattle.solar.proofs.PastMidnightLaws.{carried-none, carried-small, carried-past}
 use Rattle.solar.proofs.Taken.{both, dateTaken, taken-is, hour-in-day}
 

@@ -1,16 +1,10 @@
 -- Where the times of `setting_hour` lie: from 0h of yesterday to 24h of tomorrow, for every hour number that has a time. Assumes nothing.
-use Rattle.prelude.proofs.Logic.{_≡_, refl, Bool, true, false, cond, ℕ, _+_, _*_, _≤_, arith, ltb, lit≤, ℤ, pos, _-ℤ_, ltb-true}
-use lib.Ieee.{Float, lt}
-use Rattle.integers.specs.Parts.{Between}
-use Rattle.integers.proofs.Sums.{difference}
-use Rattle.integers.proofs.Intervals.{by-balance}
-use Rattle.float64.specs.Ops.{dec}
-use Rattle.float64.specs.Sizes.{isNormalOf}
-use Rattle.float64.specs.Whole.{floorOf}
-use Rattle.solar.specs.declared.setting.SolarHour.{SolarHour}
+use Rattle.prelude.proofs.Logic.{_≡_, refl, Bool, true, false, cond, ℕ, _+_, _*_, _≤_, _<_, arith, ltb, lit≤, ℤ, pos, _-ℤ_, ltb-true}
+use Rattle.float64.proofs.Floats.{Float, lt, dec, isNormalOf, floorOf}
+use Rattle.integers.proofs.Integers.{Between, difference, by-balance}
+use Rattle.solar.specs.declared.{setting.SolarHour.SolarHour, setting.Placed.Placed}
 use Rattle.solar.specs.declared.setting.SolarHour.the-variants.{At, None}
-use Rattle.solar.specs.declared.setting.Placed.{Placed}
-use Rattle.solar.specs.Setting.{hourAdjustmentOf, minuteOf, hourOf, settingHourOf}
+use Rattle.solar.specs.Setting.{hourAdjustmentOf, minuteOf, daySecondOf, sumOf, restOf, hourOf, settingHourOf}
 
 -- the earliest time of the sun, in seconds before 0h of its date, and the latest, which only a number that is carried past midnight comes to
 abbrev pub earliestSun : ℕ
@@ -35,19 +29,19 @@ where-so : (b : Bool) (t : ℤ) → (b ≡ true → OfThreeDays t) → HourOfThr
 where-so true t h = h refl
 where-so false t h = lit≤ tt
 
+pub rest-held : (minute : ℕ) → restOf minute < 60
+rest-held minute = by-test (ltb minute 60) refl
+  where
+    by-test : (b : Bool) → ltb minute 60 ≡ b → cond b minute 0 < 60
+    by-test true e = ltb-true minute 60 e
+    by-test false e = omega arith
+
 hour-held : (p : Placed) (minute : ℕ) → p .ahead ≤ 2 → HourOfThreeDays (hourOf p minute)
 unfolding hourOf
-hour-held p minute h = by-test (ltb minute 60) refl
-  where
-    by-test : (b : Bool) → ltb minute 60 ≡ b → HourOfThreeDays (cond b
-        (cond (ltb (p .hour) 24) (At (pos (p .ahead * 86400 + p .hour * 3600 + minute * 60) -ℤ pos 86400)) None)
-        (cond (ltb (p .hour) 23) (At (pos (p .ahead * 86400 + (p .hour + 1) * 3600) -ℤ pos 86400)) None))
-    by-test true e =
-        where-so (ltb (p .hour) 24) (pos (p .ahead * 86400 + p .hour * 3600 + minute * 60) -ℤ pos 86400)
-        (λ k. counted (p .ahead * 86400 + p .hour * 3600 + minute * 60) (omega (arith, ltb-true (p .hour) 24 k, ltb-true minute 60 e)))
-    by-test false e =
-        where-so (ltb (p .hour) 23) (pos (p .ahead * 86400 + (p .hour + 1) * 3600) -ℤ pos 86400)
-        (λ k. counted (p .ahead * 86400 + (p .hour + 1) * 3600) (omega (arith, ltb-true (p .hour) 23 k)))
+hour-held p minute h =
+    let hour = sumOf (p .hour) minute in
+    where-so (ltb hour 24) (daySecondOf (p .ahead) hour (restOf minute))
+    (λ k. counted (p .ahead * 86400 + hour * 3600 + restOf minute * 60) (omega (arith, ltb-true hour 24 k, rest-held minute)))
 
 pub ahead-held : (hours : Float) → hourAdjustmentOf hours .ahead ≤ 2
 unfolding hourAdjustmentOf

@@ -1,16 +1,7 @@
 -- The date that an hour number takes, told by the number itself, and its hour in that date: for every number that has a time the hour is at
 -- most 23, so that the sum with minute 60 is at most 24. Assumes nothing.
 use Rattle.prelude.proofs.Logic.{_≡_, refl, sym, ap, subst, _∙_, Bool, true, false, cond, _&&_, _||_, true≢false, false≢true, ℕ, suc, _+_, _-_, _*_, _/_, _^_, _≤_, _<_, div-one, min-eq-left, div-add-mod', mod-lt, mul-one, mul-le-mul-right, lt-of-mul-lt-mul-right, div-lt-iff-lt-mul, arith, ltb, eqb, lit<, ℤ, pos, ltb-true, ltb-false, lt-ltb, le-ltb, eqb-true, eqb-false}
-use lib.Ieee.{Float, nan, inf, fin, binary64, up, down, round, ofInt, neg, sum, add, sub, le, lt, eq, toUnsigned}
-use lib.Ieee.Exact.{HasValue}
-use lib.Ieee.Back.{round-whole}
-use lib.Ieee.Scale.{round-same}
-use lib.Ieee.Fits.{down-pos}
-use Rattle.float64.specs.Ops.{dec}
-use Rattle.float64.specs.Whole.{floorOf, wholePart, fraction}
-use Rattle.float64.proofs.Values.{big, lt-values}
-use Rattle.float64.proofs.Exact.{sub-same}
-use Rattle.float64.proofs.WholeSizes.{whole-value}
+use Rattle.float64.proofs.Floats.{Float, nan, inf, fin, binary64, up, down, round, ofInt, neg, sum, add, sub, le, lt, eq, toUnsigned, HasValue, round-whole, round-same, down-pos, dec, floorOf, wholePart, fraction, big, lt-values, sub-same, whole-value}
 use Rattle.solar.specs.declared.setting.Placed.{Placed}
 use Rattle.solar.specs.Setting.{hourAdjustmentOf}
 use Rattle.solar.specs.PastMidnight.{hasTimeOf}
@@ -54,6 +45,18 @@ floor-up m e h = go (eqb (fraction m e) 0) refl
     go : (b : Bool) → eqb (fraction m e) 0 ≡ b → HasValue (cond b (fin false m e) (round binary64 false (wholePart m e) 1)) false (wholePart m e) 1
     go true z = (refl, omega (arith, div-add-mod' (m * up e) (down e), eqb-true (fraction m e) 0 z))
     go false z = round-whole binary64 false (wholePart m e) h
+
+-- a float is below a whole number where its whole part is
+pub below-whole : (b m : ℕ) (e : ℤ) → ltb (m * up e * 1) (b * down e) ≡ ltb (wholePart m e) b
+below-whole b m e = go (ltb (wholePart m e) b) refl
+  where
+    go : (t : Bool) → ltb (wholePart m e) b ≡ t → ltb (m * up e * 1) (b * down e) ≡ t
+    go true l =
+        let z : m * up e < b * down e = div-lt-iff-lt-mul (down-pos e) .0 (ltb-true (wholePart m e) b l) in
+        lt-ltb (m * up e * 1) (b * down e) (omega arith)
+    go false l =
+        let z : b * down e ≤ wholePart m e * down e = mul-le-mul-right (down e) (ltb-false (wholePart m e) b l) in
+        le-ltb (m * up e * 1) (b * down e) (omega (arith, div-add-mod' (m * up e) (down e)))
 
 -- the least whole number that is not below m * 2 ^ e
 abbrev ceiling : ℕ → ℤ → ℕ
@@ -203,19 +206,8 @@ right-up m e h =
     let p = place-up (floorOf x) q (floor-up m e (omega arith)) k in
     let a : lt x (dec 0 0) ≡ false = lt-values x (dec 0 0) (m * up e) 0 (down e) 1 d (lit< tt) (refl, refl) zero-value ∙ le-ltb (m * up e * 1) (0 * down e) (omega arith) in
     let b : lt x (dec 24 0) ≡ ltb (m * up e * 1) (24 * down e) = lt-values x (dec 24 0) (m * up e) 24 (down e) 1 d (lit< tt) (refl, refl) day-value in
-    (p .taken ∙ rw (a, b, same-test d) refl, subst (λ (n : ℕ). n < 24) (sym (p .hours)) (hour-less q k))
+    (p .taken ∙ rw (a, b, below-whole 24 m e) refl, subst (λ (n : ℕ). n < 24) (sym (p .hours)) (hour-less q k))
   where
-    same-test : 0 < down e → ltb (m * up e * 1) (24 * down e) ≡ ltb (wholePart m e) 24
-    same-test d = go (ltb (wholePart m e) 24) refl
-      where
-        go : (t : Bool) → ltb (wholePart m e) 24 ≡ t → ltb (m * up e * 1) (24 * down e) ≡ t
-        go true l =
-            let z : m * up e < 24 * down e = div-lt-iff-lt-mul d .0 (ltb-true (wholePart m e) 24 l) in
-            lt-ltb (m * up e * 1) (24 * down e) (omega arith)
-        go false l =
-            let z : 24 * down e ≤ wholePart m e * down e = mul-le-mul-right (down e) (ltb-false (wholePart m e) 24 l) in
-            le-ltb (m * up e * 1) (24 * down e) (omega (arith, div-add-mod' (m * up e) (down e)))
-
     hour-less : (q : ℕ) → q < 48 → cond (ltb q 24) q (q - 24) < 24
     hour-less q k = go (ltb q 24) refl
       where

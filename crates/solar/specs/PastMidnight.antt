@@ -1,9 +1,9 @@
 -- Request 1, carry past midnight: an hour number as a time, in seconds from 0h of its date. "An hour number that rounds to hour 24 is 00:00 of the
 -- date after the one taken. This also holds when the floored hour was below 0 or reached 47. Zero and subnormal numbers are 00:00 of the date. Numbers
 -- below -24 or from 48 on have no time."
-use Prim.Native.Nat.{ℕ, _+_, _*_}
+use Prim.Native.Nat.{ℕ, _+_}
 use mathlib.Core.Bool.{Bool, cond, _&&_}
-use lib.IntN.{ℤ, pos, _-ℤ_}
+use lib.IntN.{pos}
 use lib.Dec.{ltb}
 use lib.Ieee.{Float, le, lt, neg}
 use Rattle.float64.specs.Ops.{dec}
@@ -12,23 +12,12 @@ use Rattle.float64.specs.Whole.{floorOf}
 use Rattle.solar.specs.declared.setting.SolarHour.{SolarHour}
 use Rattle.solar.specs.declared.setting.SolarHour.the-variants.{At, None}
 use Rattle.solar.specs.declared.setting.Placed.{Placed}
-use Rattle.solar.specs.Setting.{hourAdjustmentOf, minuteOf}
+use Rattle.solar.specs.Setting.{hourAdjustmentOf, minuteOf, daySecondOf, sumOf, restOf}
 
 -- a NaN passes neither test
 unfoldable pub hasTimeOf : Float → Bool
 unfolding dec
 hasTimeOf value = le (neg (dec 24 0)) value && lt value (dec 48 0)
-
--- the second of a day's hour and minute; the day is 0 for yesterday, 1 for the date, 2 for tomorrow and 3 for the day after
-abbrev pub daySecondOf : ℕ → ℕ → ℕ → ℤ
-daySecondOf day hour minute = pos (day * 86400 + hour * 3600 + minute * 60) -ℤ pos 86400
-
--- "minute 60 adds an hour to the hour found", and leaves minute 0
-abbrev pub sumOf : ℕ → ℕ → ℕ
-sumOf hour minute = cond (ltb minute 60) hour (hour + 1)
-
-abbrev pub restOf : ℕ → ℕ
-restOf minute = cond (ltb minute 60) minute 0
 
 -- 00:00 of the date after the one taken
 abbrev pub nextMidnightOf : ℕ → SolarHour

@@ -1,7 +1,7 @@
 -- solar.rs: an hour number as a time, in seconds from 0h of its date.
 use Prim.Native.Nat.{ℕ, _+_, _*_}
 use mathlib.Core.Bool.{cond}
-use lib.IntN.{pos, _-ℤ_}
+use lib.IntN.{ℤ, pos, _-ℤ_}
 use lib.Dec.{ltb}
 use lib.Ieee.{Float, lt, toUnsigned}
 use Rattle.float64.specs.Ops.{_+ᶠ_, _-ᶠ_, _*ᶠ_, _/ᶠ_, dec}
@@ -27,12 +27,22 @@ minuteOf value hours =
     let seconds = floorOf ((value -ᶠ (hours +ᶠ minutes /ᶠ dec 60 0)) *ᶠ dec 60 0 *ᶠ dec 60 0) in
     toUnsigned 32 (roundOf (minutes +ᶠ seconds /ᶠ dec 60 0))
 
--- minute 60 adds an hour, and a sum of 24 or more has no time
+-- the second of a day's hour and minute; the day is 0 for yesterday, 1 for the date, 2 for tomorrow and 3 for the day after
+abbrev pub daySecondOf : ℕ → ℕ → ℕ → ℤ
+daySecondOf day hour minute = pos (day * 86400 + hour * 3600 + minute * 60) -ℤ pos 86400
+
+-- "minute 60 adds an hour to the hour found", and leaves minute 0
+abbrev pub sumOf : ℕ → ℕ → ℕ
+sumOf hour minute = cond (ltb minute 60) hour (hour + 1)
+
+abbrev pub restOf : ℕ → ℕ
+restOf minute = cond (ltb minute 60) minute 0
+
+-- "and a sum of 24 or more has no time"
 unfoldable pub hourOf : Placed → ℕ → SolarHour
 hourOf p minute =
-    cond (ltb minute 60)
-    (cond (ltb (p .hour) 24) (At (pos (p .ahead * 86400 + p .hour * 3600 + minute * 60) -ℤ pos 86400)) None)
-    (cond (ltb (p .hour) 23) (At (pos (p .ahead * 86400 + (p .hour + 1) * 3600) -ℤ pos 86400)) None)
+    let hour = sumOf (p .hour) minute in
+    cond (ltb hour 24) (At (daySecondOf (p .ahead) hour (restOf minute))) None
 
 -- what is not normal (NaN, infinite, zero, subnormal) has no time
 unfoldable pub settingHourOf : Float → SolarHour

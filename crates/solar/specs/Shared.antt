@@ -11,7 +11,7 @@ use Rattle.models.specs.declared.rules.Midnight.{Midnight}
 use Rattle.ops.specs.declared.transit.Course.{Course}
 use Rattle.ops.specs.declared.transit.Observer.{Observer}
 use Rattle.ops.specs.Transit.{approximateTransitOf}
-use Rattle.ops.specs.Shared.{observerOf, courseOf, courseTransitNumberOf, halfArcOf, hourNumberOf}
+use Rattle.ops.specs.Shared.{observerOf, courseOf, courseTransitNumberOf, arcToSineOf, halfArcOf, hourNumberOf}
 use Rattle.solar.specs.declared.coordinates.SolarCoordinates.{SolarCoordinates}
 use Rattle.solar.specs.declared.hours.HourNumbers.{HourNumbers}
 use Rattle.solar.specs.Coordinates.{positionOf}
@@ -30,6 +30,10 @@ courseOver place observer previous today next =
 -- on a date, by itself
 abbrev pub dateCourseOf : Date → Coordinates → Course
 dateCourseOf d place = courseOver place (observerOf place) (positionOf (yesterdayOf d)) (positionOf d) (positionOf (tomorrowOf d))
+
+-- the hour number of an angle: from its sine, and by itself
+unfoldable pub courseSineNumberOf : Course → Float → Angle → Bool → Float
+courseSineNumberOf c sine angle after = hourNumberOf c angle (arcToSineOf c sine) after
 
 unfoldable pub courseAngleNumberOf : Course → Angle → Bool → Float
 courseAngleNumberOf c angle after = hourNumberOf c angle (halfArcOf c angle) after

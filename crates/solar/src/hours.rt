@@ -1,7 +1,7 @@
 // solar.rs: the sun's hour numbers over a place on a day. The three positions are handed in, so that neighbouring days share them.
 ghost use mathlib.Core.Path.{_≡_};
 ghost use Rattle.solar.specs.Hours.{solarAltitude, shadowAngleOf};
-ghost use Rattle.solar.specs.Shared.{courseOver, dateCourseOf, courseAngleNumberOf, courseNumbersOf, courseAfternoonNumberOf};
+ghost use Rattle.solar.specs.Shared.{courseOver, dateCourseOf, courseSineNumberOf, courseAngleNumberOf, courseNumbersOf, courseAfternoonNumberOf};
 use super::coordinates::SolarCoordinates;
 use super::coordinates::position;
 use calendar::dates::Date;
@@ -20,6 +20,9 @@ pub struct HourNumbers {
     pub sunrise: f64,
     pub sunset: f64,
 }
+
+// The sine of the altitude below, as `sin` gives it (proofs/AltitudeSine.antt).
+const SOLAR_ALTITUDE_SINE: f64 = -0.014543897651582656; // 0xbf8dc930 e628cb24
 
 // The altitude of the sun's center at sunrise and sunset.
 fn solar_altitude() -> Angle
@@ -79,6 +82,13 @@ pub fn date_sun(date: Date, coordinates: Coordinates) -> Course
     )
 }
 
+// The hour number at which the sun stands at an angle whose sine is at hand.
+pub fn sine_number(course: Course, sine: f64, angle: Angle, after_transit: bool) -> f64
+    ensures { λ r. ⌜ r ≡ courseSineNumberOf course sine angle «after_transit» ⌝ }
+{
+    course.hour_number(angle, course.arc_to_sine(sine), after_transit)
+}
+
 // The hour number at which the sun stands at an angle.
 pub fn angle_number(course: Course, angle: Angle, after_transit: bool) -> f64
     ensures { λ r. ⌜ r ≡ courseAngleNumberOf course angle «after_transit» ⌝ }
@@ -91,7 +101,7 @@ pub fn hour_numbers(course: Course) -> HourNumbers
     ensures { λ r. ⌜ r ≡ courseNumbersOf course ⌝ }
 {
     let altitude = solar_altitude();
-    let arc = course.half_arc(altitude);
+    let arc = course.arc_to_sine(SOLAR_ALTITUDE_SINE);
     HourNumbers {
         transit: course.transit_number(),
         sunrise: course.hour_number(altitude, arc, false),

@@ -43,22 +43,24 @@ pub fn hour_adjustment(calculated_hours: f64) -> Placed
     }
 }
 
-// The nearest minute. The floored seconds can be -1, so all of this stays in floats. What is rounded is whole, so that between 0 and 60, where nearly
-// all of it lies, no cast need cut a fraction off again.
+// The nearest minute. Where minutes and seconds both lie between 0 and 60, which is nearly always, there is one minute more from 30 seconds on, and
+// nothing is divided and rounded to find it. Elsewhere all stays in floats, since the floored seconds can be -1.
 pub(crate) fn minute(value: f64, calculated_hours: f64) -> u32
     ensures { λ r. ⌜ r ≡ minuteOf value «calculated_hours» ⌝ }
 {
-    let calculated_minutes = floor((value - calculated_hours) * 60.0);
-    let calculated_seconds = floor(
-        (value - (calculated_hours + calculated_minutes / 60.0)) * 60.0 * 60.0,
-    );
-    let minutes = calculated_minutes + calculated_seconds / 60.0;
+    let minutes = (value - calculated_hours) * 60.0;
+    let calculated_minutes = floor(minutes);
+    let seconds = (value - (calculated_hours + calculated_minutes / 60.0)) * 60.0 * 60.0;
     if 0.0 < minutes {
         if minutes < 60.0 {
-            return round(minutes) as u32;
+            if 0.0 < seconds {
+                if seconds < 60.0 {
+                    return calculated_minutes as u32 + !(seconds < 30.0) as u32;
+                }
+            }
         }
     }
-    to_u32(round(minutes))
+    to_u32(round(calculated_minutes + floor(seconds) / 60.0))
 }
 
 pub(crate) fn hour(p: Placed, minute: u32) -> SolarHour

@@ -1,12 +1,8 @@
 -- Meeus's formula counts the days of the calendar, in every year from 1 on. Assumes nothing.
 use Rattle.prelude.proofs.Logic.{_≡_, refl, ap, Bool, true, false, cond, not, _||_, ℕ, _+_, _-_, _*_, _/_, _≤_, _<_, arith, eqb, ltb, eqb→eq, lt→ltb, pos, _+ℤ_, _-ℤ_, _*ℤ_, ltb-true, ltb-false, cases}
 use Rattle.integers.proofs.Integers.{same, sum, difference, times}
-use Rattle.calendar.specs.Gregorian.{leapOf, existsOf}
-use Rattle.calendar.specs.Days.{daysBeforeOf, daysInYearOf, daysBeforeYearOf, dayNumberOf}
+use Rattle.calendar.proofs.Calendar.{leapOf, existsOf, daysBeforeOf, daysInYearOf, daysBeforeYearOf, dayNumberOf, tested, when, year-step, exists-yes, month-of-date, ordinal-is, count}
 use Rattle.calendar.specs.declared.dates.Date.{Date}
-use Rattle.calendar.proofs.Computed.{tested, when}
-use Rattle.calendar.proofs.YearSteps.{year-step}
-use Rattle.calendar.proofs.Existing.{exists-yes, month-of-date, ordinal-is, count}
 use Rattle.stride.specs.Meeus.{yearDaysOf, monthTermOf, meeusOf}
 
 -- ---- the years: Y's term with B, from the days before the next year

@@ -3,10 +3,8 @@
 use Rattle.prelude.proofs.Logic.{_≡_, refl, ap, _∙_, true, ℕ, suc, _+_, _-_, _*_, _/_, _≤_, _<_, arith, ltb, lit<, lit≤, ℤ, pos, negsuc, _+ℤ_, _-ℤ_, _*ℤ_, ltb-true, ltb-false, lt-ltb, cases}
 use Rattle.float64.proofs.Floats.{Float, binary64, ofInt, ofBits, round, sub, div, _+ᶠ_, _-ᶠ_, _/ᶠ_, bits, dyadic, int-dyadic, add-dyadic, sub-dyadic, neg-at}
 use Rattle.integers.proofs.Integers.{P, same, sum, difference}
-use Rattle.calendar.specs.Gregorian.{existsOf}
-use Rattle.calendar.specs.Days.{dayNumberOf}
+use Rattle.calendar.proofs.Calendar.{existsOf, dayNumberOf, exists-yes, month-of-date}
 use Rattle.calendar.specs.declared.dates.Date.{Date}
-use Rattle.calendar.proofs.Existing.{exists-yes, month-of-date}
 use Rattle.stride.specs.Julian.{real, correctionOf, fromMarchOf, julianDayOf, toI32Of, dateJulianDayOf}
 use Rattle.stride.specs.Meeus.{yearDaysOf, monthTermOf, meeusOf}
 use Rattle.stride.proofs.Products.{year-cut, month-cut}

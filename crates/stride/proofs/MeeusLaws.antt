@@ -1,14 +1,9 @@
 -- The Julian Day's exact value is Meeus's number, and counts the calendar's days. Assumes nothing.
 use Rattle.prelude.proofs.Logic.{_≡_, sym, subst, true, false, _≤_, _<_, arith, lit≤, pos, _+ℤ_, _*ℤ_}
-use lib.Ieee.{Float}
-use lib.Ieee.Exact.{HasValue}
-use Rattle.integers.proofs.OrderLaws.{le-yes}
-use Rattle.integers.proofs.Sums.{sum, times}
-use Rattle.float64.proofs.Values.{big, dyadic-value}
-use Rattle.calendar.specs.Days.{dayNumberOf}
-use Rattle.calendar.specs.Gregorian.{existsOf}
+use Rattle.float64.proofs.Floats.{Float, HasValue, big, dyadic-value}
+use Rattle.integers.proofs.Integers.{le-yes, sum, times}
+use Rattle.calendar.proofs.Calendar.{dayNumberOf, existsOf, days-between}
 use Rattle.calendar.specs.declared.dates.Date.{Date}
-use Rattle.calendar.proofs.CalendarLaws.{days-between}
 use Rattle.stride.specs.Meeus.{meeusOf, JulianDaysAreMeeus}
 use Rattle.stride.proofs.Counted.{meeus-number}
 use Rattle.stride.proofs.JulianLaws.{julian-meeus}

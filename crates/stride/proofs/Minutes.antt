@@ -1,7 +1,8 @@
 -- The second of the minute, what rounding adds, and minutes as two halves, as the code works them. Assumes nothing.
 use Rattle.prelude.proofs.Logic.{_≡_, ap, _∙_, true, false, ℕ, suc, _-_, _%_, _≤_, arith, T, lit<, ℤ, pos, negsuc, negℤ, natAbs, _+ℤ_, _-ℤ_, _*ℤ_, ltZ, quotZ, remZ, nonNeg, w32, w64, SFits, Fits, toZ}
 use Rattle.integers.proofs.Integers.{same, sum, difference, times, flip, divided, floored, lt-yes, lt-no, readBack, read, range, fits}
-use Rattle.stride.specs.Times.{most, least, satOf, secondOf, adjustedOf}
+use Rattle.integers.specs.Ends.{least64, most64}
+use Rattle.stride.specs.Times.{satOf, secondOf, adjustedOf}
 use Rattle.stride.proofs.TimesLaws.{between}
 use Rattle.stride.proofs.Saturation.{sat-high, sat-low, sat-twice}
 
@@ -71,11 +72,11 @@ module _ (t k : ℤ) (ht : SFits w64 t) (hk : SFits w64 k) where
   rk : readBack w64 k ≡ k
   rk = read w64 k hk
 
-  pub far-up : ltZ far-ahead (readBack w64 k) ≡ true → most ≡ satOf (adjustedOf t k)
+  pub far-up : ltZ far-ahead (readBack w64 k) ≡ true → most64 ≡ satOf (adjustedOf t k)
   unfolding adjustedOf
   far-up l = sat-high (t +ℤ k *ℤ pos 60) (omega (arith, lt-yes far-ahead k (rw rk at l), range w64 t ht, times k 60, sum t (k *ℤ pos 60)))
 
-  pub far-down : ltZ (readBack w64 k) far-back ≡ true → least ≡ satOf (adjustedOf t k)
+  pub far-down : ltZ (readBack w64 k) far-back ≡ true → least64 ≡ satOf (adjustedOf t k)
   unfolding adjustedOf
   far-down l = sat-low (t +ℤ k *ℤ pos 60) (omega (arith, lt-yes k far-back (rw rk at l), range w64 t ht, times k 60, sum t (k *ℤ pos 60)))
 

@@ -2,7 +2,7 @@
 -- computes. Assumes nothing.
 use Rattle.prelude.proofs.Logic.{_≡_, sym, ap, _∙_, Bool, _&&_, ℕ, _+_, _-_, _≤_, arith, T, eqb, eqb→eq, ℤ, pos, natAbs, nonNeg, pos-natAbs, and-l, and-r}
 use Rattle.float64.proofs.Floats.{add, mul, ofInt, ofBits, toSigned, round}
-use Rattle.calendar.proofs.Computed.{at}
+use Rattle.prelude.proofs.Computed.{at}
 use Rattle.stride.specs.Julian.{cutOf, yearProductOf, monthProductOf}
 use Rattle.stride.specs.Meeus.{yearDaysOf, monthTermOf}
 

@@ -3,17 +3,18 @@ use Rattle.prelude.proofs.Logic.{_≡_, refl, sym, ap, _∙_, cond, ℕ, _+_, _
 use Rattle.integers.proofs.Integers.{P, N, Between, Near, sum, difference, times, floorQuot, Floored, floored, _≼_, to-not-lt, range, sum-between, product-between, shifted-between, Held, held-fits}
 use Rattle.models.specs.declared.rounding.Rounding.{Rounding}
 use Rattle.models.specs.declared.rounding.Rounding.the-variants.{Nearest, Up, None}
-use Rattle.stride.specs.Times.{most, least, satOf, secondOf, shiftOf, roundedOf, adjustedOf}
+use Rattle.integers.specs.Ends.{least64, most64}
+use Rattle.stride.specs.Times.{satOf, secondOf, shiftOf, roundedOf, adjustedOf}
 
 -- an i64 holds what lies between the ends of its range
-pub between : (z : ℤ) → least ≼ z → z ≼ most → SFits w64 z
+pub between : (z : ℤ) → least64 ≼ z → z ≼ most64 → SFits w64 z
 between (pos n) l h = record { sfits = omega arith }
 between (negsuc n) l h = record { sfits = omega arith }
 
 -- nothing saturates in an i64's range
 pub sat-in : (z : ℤ) → SFits w64 z → satOf z ≡ z
 unfolding satOf
-sat-in z h = let r = range w64 z h in rw (to-not-lt most z (omega arith), to-not-lt z least (omega arith))
+sat-in z h = let r = range w64 z h in rw (to-not-lt most64 z (omega arith), to-not-lt z least64 (omega arith))
 
 minute : (t : ℤ) → Floored t 60 (floorQuot t 60) (secondOf t)
 minute t = floored t 60 (lit< tt)

@@ -1,23 +1,17 @@
 -- unit.rs's `rounded_minute` and `adjust_time`. A time is whole seconds from 1970-01-01 0h UTC.
 use Prim.Native.Nat.{ℕ}
 use mathlib.Core.Bool.{cond}
-use lib.IntN.{ℤ, pos, negsuc, _+ℤ_, _-ℤ_, _*ℤ_}
+use lib.IntN.{ℤ, pos, _+ℤ_, _-ℤ_, _*ℤ_}
 use lib.Signed.{ltZ}
 use lib.Dec.{ltb}
+use Rattle.integers.specs.Ends.{least64, most64}
 use Rattle.integers.specs.Quotients.{floorRem}
 use Rattle.models.specs.declared.rounding.Rounding.{Rounding}
 use Rattle.models.specs.declared.rounding.Rounding.the-variants.{Nearest, Up, None}
 
--- the ends of an i64's range, 2 ^ 63 - 1 and -2 ^ 63
-abbrev pub most : ℤ
-most = pos 9223372036854775807
-
-abbrev pub least : ℤ
-least = negsuc 9223372036854775807
-
--- z, or the end that lies nearest where z is outside the range
+-- z, or the end that lies nearest where 64 bits do not hold z
 unfoldable pub satOf : ℤ → ℤ
-satOf z = cond (ltZ most z) most (cond (ltZ z least) least z)
+satOf z = cond (ltZ most64 z) most64 (cond (ltZ z least64) least64 z)
 
 -- the second of the minute, 0 to 59, also before 1970
 abbrev pub secondOf : ℤ → ℕ

@@ -5,22 +5,22 @@ ghost use lib.IntN.{_+ℤ_};
 ghost use Rattle.stride.specs.Times.{satOf, secondOf, shiftOf, roundedOf, adjustedOf};
 use models::rounding::Rounding;
 
-const MOST: i64 = 9223372036854775807;
+const MOST64: i64 = 9223372036854775807;
 
-const LEAST: i64 = -9223372036854775808;
+const LEAST64: i64 = -9223372036854775808;
 
 // The sum, which is chrono's checked_add_signed where it stays in range.
 pub fn plus(a: i64, b: i64) -> i64
     ensures { λ r. ⌜ r ≡ satOf (a +ℤ b) ⌝ }
 {
     if b >= 0 {
-        if a > MOST - b {
-            return MOST;
+        if a > MOST64 - b {
+            return MOST64;
         }
         return a + b;
     }
-    if a < LEAST - b {
-        return LEAST;
+    if a < LEAST64 - b {
+        return LEAST64;
     }
     a + b
 }
@@ -59,10 +59,10 @@ pub fn adjust_time(t: i64, minutes: i64) -> i64
     ensures { λ r. ⌜ r ≡ satOf (adjustedOf t minutes) ⌝ }
 {
     if minutes > 307445734561825860 {
-        return MOST;
+        return MOST64;
     }
     if minutes < -307445734561825860 {
-        return LEAST;
+        return LEAST64;
     }
     let half = minutes * 30;
     plus(plus(t, half), half)

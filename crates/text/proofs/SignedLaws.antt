@@ -1,7 +1,6 @@
 -- A number with a sign, by what is put. Assumes nothing.
 use Rattle.prelude.proofs.Logic.{_≡_, refl, sym, ap, _∙_, true, false, List, [], _++_, ℕ, suc, _+_, _≤_, arith, ℤ, pos, negsuc, length, length-append, ltZ}
-use Rattle.integers.specs.Parts.{P, N}
-use Rattle.integers.proofs.OrderLaws.{lt-yes, lt-no}
+use Rattle.integers.proofs.Integers.{P, N, lt-yes, lt-no}
 use Rattle.text.specs.Text.{ascii, decimalOf, putOf, frontOf}
 use Rattle.text.specs.Signed.{signedOf}
 use Rattle.text.proofs.TextLaws.{digits-short, put-next}

@@ -1,14 +1,6 @@
 -- An angle above 0 and below 359 degrees is unwound as it stands: a full turn goes into it no time. Assumes nothing.
 use Rattle.prelude.proofs.Logic.{_≡_, refl, sym, ap, _∙_, Bool, true, false, cond, true≢false, ℕ, _*_, _^_, _<_, div-add-mod', div-eq-of-lt, arith, T, eqb, lit<, lit≤, ℤ, eqb-true}
-use lib.Ieee.{Float, nan, inf, fin, binary64, up, down, round, ofBits, ofInt, mul, sub, div, fits, lt}
-use lib.Ieee.Exact.{HasValue}
-use lib.Ieee.Fits.{down-pos}
-use Rattle.float64.specs.Ops.{bits}
-use Rattle.float64.specs.Whole.{floorOf, fraction, wholePart}
-use Rattle.float64.proofs.Exact.{mul-same, sub-zero64}
-use Rattle.float64.proofs.Parts.{zero64}
-use Rattle.float64.proofs.Steps.{inside}
-use Rattle.float64.proofs.Within.{Within, Signed, round-signed, div-within}
+use Rattle.float64.proofs.Floats.{Float, nan, inf, fin, binary64, up, down, round, ofBits, ofInt, mul, sub, div, fits, lt, HasValue, down-pos, bits, floorOf, fraction, wholePart, mul-same, sub-zero64, zero64, inside, Within, Signed, round-signed, div-within}
 use Rattle.unit.specs.Unit.{full-turn, normalizedToScaleOf}
 
 turn-value : HasValue full-turn false 360 1

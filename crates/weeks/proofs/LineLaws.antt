@@ -1,6 +1,5 @@
 -- A window's line, made part by part. Assumes nothing.
-use Rattle.prelude.proofs.Logic.{_≡_, refl, ap, _∙_, true, false, List, [], _++_, ℕ, _+_, _≤_, arith, ℤ, length, length-append}
-use Rattle.prelude.proofs.Cases.{arms}
+use Rattle.prelude.proofs.Logic.{_≡_, refl, ap, _∙_, true, false, List, [], _++_, ℕ, _+_, _≤_, arith, ℤ, length, length-append, arms}
 use Rattle.text.proofs.SignedLaws.{signed-length}
 use Rattle.text.proofs.TextLaws.{put-behind, put-next, digits-short}
 use Rattle.text.specs.Signed.{signedOf}

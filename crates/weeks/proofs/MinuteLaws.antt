@@ -3,13 +3,7 @@ use Rattle.prelude.proofs.Logic.{_≡_, refl, ap, _∙_, ℕ, _+_, _*_, _/_, _%
 use Rattle.calendar.specs.Answers.{rowDateOf}
 use Rattle.calls.proofs.RowStates.{stateOf, state-worked}
 use Rattle.calls.specs.Calls.{workRowOf}
-use Rattle.integers.specs.Parts.{Near}
-use Rattle.integers.specs.Quotients.{floorQuot, floorRem}
-use Rattle.integers.proofs.Held.{Held, held-sum, held-product, held-fits, stored}
-use Rattle.integers.proofs.PartsLaws.{same}
-use Rattle.integers.proofs.QuotientLaws.{floored}
-use Rattle.integers.proofs.Ranges.{range, read, readBack}
-use Rattle.integers.proofs.Sums.{sum, times}
+use Rattle.integers.proofs.Integers.{Near, floorQuot, floorRem, Held, held-sum, held-product, held-fits, stored, same, floored, range, read, readBack, sum, times}
 use Rattle.order.specs.Accepted.{Accepted}
 use Rattle.order.specs.declared.reading.Order.{Order}
 use Rattle.row_suns.proofs.RowSunsLaws.{suns-fajr}

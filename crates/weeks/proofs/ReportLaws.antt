@@ -1,6 +1,5 @@
 -- A row more is a line more, the one that the last seven rows give. Assumes nothing.
-use Rattle.prelude.proofs.Logic.{_≡_, refl, sym, ap, _∙_, Bool, cond, List, [], _∷_, _++_, append-assoc, append-nil, ℕ, zero, suc, _+_, _-_, _*_, _≤_, _<_, arith, ltb, length, length-append, ltb-true, ltb-false, le-leb, lt-leb}
-use Rattle.prelude.proofs.Cases.{cases}
+use Rattle.prelude.proofs.Logic.{_≡_, refl, sym, ap, _∙_, Bool, cond, List, [], _∷_, _++_, append-assoc, append-nil, ℕ, zero, suc, _+_, _-_, _*_, _≤_, _<_, arith, ltb, length, length-append, ltb-true, ltb-false, le-leb, lt-leb, cases}
 use Rattle.weeks.specs.declared.minute.Minute.{Minute}
 use Rattle.weeks.specs.declared.week.Week.{Week}
 use Rattle.weeks.specs.declared.window.Window.{Window}

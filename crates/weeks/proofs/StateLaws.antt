@@ -1,6 +1,5 @@
 -- The state holds the last seven rows of what went by, and its window is the one looked through afresh. Assumes nothing.
-use Rattle.prelude.proofs.Logic.{_≡_, refl, sym, ap, _∙_, Bool, cond, List, [], _∷_, _++_, ℕ, zero, suc, _+_, _-_, _≤_, _<_, arith, leb, ltb, length, length-append, ltb-true, ltb-false, leb-true, leb-false, lt-ltb, le-leb, lt-leb}
-use Rattle.prelude.proofs.Cases.{cases}
+use Rattle.prelude.proofs.Logic.{_≡_, refl, sym, ap, _∙_, Bool, cond, List, [], _∷_, _++_, ℕ, zero, suc, _+_, _-_, _≤_, _<_, arith, leb, ltb, length, length-append, ltb-true, ltb-false, leb-true, leb-false, lt-ltb, le-leb, lt-leb, cases}
 use Rattle.weeks.specs.declared.minute.Minute.{Minute}
 use Rattle.weeks.specs.declared.minute.Minute.the-variants.{Refused}
 use Rattle.weeks.specs.declared.week.Week.{Week}

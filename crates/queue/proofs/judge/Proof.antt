@@ -7,7 +7,7 @@ use Rattle.queue.proofs.judge as this
 returns : this.Tie.Need-returns
 returns c =
     let tested = c .before in
-    let among = tested .before .is-among in
+    let among = tested .before .is-listed in
     let range = tested .before .before .before .in-range in
     let n = tested .before .before .before .before .before .count in
     let start = tested .before .before .before .before .before .before in
@@ -19,7 +19,7 @@ returns c =
 returns-2 : this.Tie.Need-returns-2
 returns-2 c =
     let tested = c .before in
-    let among = tested .before .before .is-among in
+    let among = tested .before .before .is-listed in
     let range = tested .before .before .before .before .in-range in
     let n = tested .before .before .before .before .before .before .count in
     let start = tested .before .before .before .before .before .before .before in
@@ -32,7 +32,7 @@ returns-2 c =
 returns-3 : this.Tie.Need-returns-3
 returns-3 c =
     let tested = c .before in
-    let among = tested .before .before .is-among in
+    let among = tested .before .before .is-listed in
     let range = tested .before .before .before .before .in-range in
     let n = tested .before .before .before .before .before .before .count in
     let start = tested .before .before .before .before .before .before .before in

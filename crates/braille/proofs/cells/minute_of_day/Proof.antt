@@ -1,7 +1,5 @@
 use Rattle.prelude.proofs.Logic.{ap, _∙_, arith, ℤ, pos, _*ℤ_, needs, w32, w64}
-use Rattle.integers.specs.Quotients.{floorRem}
-use Rattle.integers.proofs.QuotientLaws.{floored}
-use Rattle.integers.proofs.Ranges.{readBack, read, wide}
+use Rattle.integers.proofs.Integers.{floorRem, floored, readBack, read, wide}
 use Rattle.braille.proofs.Clock.{clock-fits, clock-read, minute-within}
 use Rattle.braille.proofs.cells.minute_of_day as this
 

@@ -1,6 +1,5 @@
 use Rattle.prelude.proofs.Logic.{sym, ap, _∙_, ℤ, pos, negsuc, ltZ, w64}
-use Rattle.integers.proofs.OrderLaws.{lt-yes, lt-no, to-le, to-not-le}
-use Rattle.integers.proofs.Ranges.{read}
+use Rattle.integers.proofs.Integers.{lt-yes, lt-no, to-le, to-not-le, read}
 use Rattle.calls.specs.Calls.{instantFits}
 use Rattle.calls.proofs.in_force.instant_fits as this
 

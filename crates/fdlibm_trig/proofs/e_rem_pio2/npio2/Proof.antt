@@ -1,21 +1,26 @@
-use Rattle.prelude.proofs.Logic.{_≡_, sym, ℕ, _-_, arith, List·getD-eq-default, Others, beyond}
-use Rattle.fdlibm_trig.specs.RemPio2.{npio2Of, npio2}
+use Rattle.prelude.proofs.Logic.{_≡_, sym, _∙_, Bool, ℕ, zero, suc, _≤_, _<_, _-_, arith, T, eqb, eqb→eq, pos, needs, List·getD-eq-default}
+use Rattle.prelude.proofs.Computed.{below, at}
+use Rattle.float64.proofs.Floats.{binary64, round, ofInt, ofBits, mul, toBits, highOf, _*ᶠ_}
+use Rattle.fdlibm_trig.specs.RemPio2.{npio2Of, npio2, pio2-1}
 use Rattle.fdlibm_trig.proofs.e_rem_pio2.npio2 as this
 
--- any number but those of the table
-rest : (m : ℕ) → Others m 0 33 → 0 ≡ npio2Of m
-unfolding npio2Of npio2
-rest m o = let l = beyond m 0 33 (omega arith) o in sym (List·getD-eq-default npio2 0 {n = m - 1} (omega arith))
+-- the table, one by one
+highTest : ℕ → Bool
+highTest i = eqb (highOf (ofInt binary64 (pos (suc i)) *ᶠ pio2-1)) (npio2Of (suc i))
+
+all-high : T (below highTest 32)
+unfolding highTest npio2Of npio2 highOf ofInt round mul toBits ofBits
+all-high = tt
+
+high : (n : ℕ) → 0 < n → n ≤ 32 → highOf (ofInt binary64 (pos n) *ᶠ pio2-1) ≡ npio2Of n
+unfolding highTest
+high zero z l = absurd (omega (arith, z))
+high (suc i) z l = eqb→eq _ _ (at highTest 32 all-high i (omega arith))
 
 pub npio2-spec : {M : Type 1} → this.Statement.statement M
 unfolding npio2Of npio2
-npio2-spec = this.Tie.close (this.Tie.spec (λ c. simp (c .match .keys1)) (λ c. simp (c .match .keys2)) (λ c. simp (c .match .keys3))
-    (λ c. simp (c .match .keys4)) (λ c. simp (c .match .keys5)) (λ c. simp (c .match .keys6)) (λ c. simp (c .match .keys7))
-    (λ c. simp (c .match .keys8)) (λ c. simp (c .match .keys9)) (λ c. simp (c .match .keys10)) (λ c. simp (c .match .keys11))
-    (λ c. simp (c .match .keys12)) (λ c. simp (c .match .keys13)) (λ c. simp (c .match .keys14)) (λ c. simp (c .match .keys15))
-    (λ c. simp (c .match .keys16)) (λ c. simp (c .match .keys17)) (λ c. simp (c .match .keys18)) (λ c. simp (c .match .keys19))
-    (λ c. simp (c .match .keys20)) (λ c. simp (c .match .keys21)) (λ c. simp (c .match .keys22)) (λ c. simp (c .match .keys23))
-    (λ c. simp (c .match .keys24)) (λ c. simp (c .match .keys25)) (λ c. simp (c .match .keys26)) (λ c. simp (c .match .keys27))
-    (λ c. simp (c .match .keys28)) (λ c. simp (c .match .keys29)) (λ c. simp (c .match .keys30)) (λ c. simp (c .match .keys31))
-    (λ c. simp (c .match .keys32)) (λ c. simp (c .match .keys33))
-    (λ c. rest (c .before .args .n) (c .match .rest)))
+npio2-spec =
+    let returns : this.Tie.Need-returns = λ c. simp (c .if1 .taken) in
+    let returns-2 : this.Tie.Need-returns-2 = λ c. c .high-word .ensures ∙ high (c .before .before .before .before .args .n) (omega (arith, c .before .before .before .if1 .left)) (c .before .before .if2 .taken) in
+    let returns-3 : this.Tie.Need-returns-3 = λ c. let n = c .before .before .args .n in sym (List·getD-eq-default npio2 0 {n = n - 1} (omega (arith, c .if2 .left))) in
+    this.Tie.close (this.Tie.spec returns (λ c. search needs) (λ c κs. tt) returns-2 returns-3)

@@ -1,6 +1,5 @@
 use Rattle.prelude.proofs.Logic.{_≡_, refl, true, false, lit≤}
-use denote.Floats.{passes}
-use Rattle.prelude.proofs.Ieee.{Float, binary64, fits, ofBits, lt, HasValue}
+use Rattle.prelude.proofs.Ieee.{Float, binary64, fits, ofBits, lt, HasValue, passes}
 use Rattle.float64.specs.Whole.{truncOf}
 use Rattle.float64.proofs.Parts.{zero64}
 use Rattle.float64.proofs.Saturate.{Casts, cast-below, cast-end, cast-zero}

@@ -1,6 +1,5 @@
 use Rattle.prelude.proofs.Logic.{_≡_, refl, sym, subst, true, false, T, lit≤}
-use denote.Floats.{passes}
-use Rattle.prelude.proofs.Ieee.{Float, binary64, fits, ofBits, lt, HasValue}
+use Rattle.prelude.proofs.Ieee.{Float, binary64, fits, ofBits, lt, HasValue, passes}
 use Rattle.float64.specs.Whole.{truncOf}
 use Rattle.float64.proofs.Near.{W, whole64, whole64-value}
 use Rattle.float64.proofs.Parts.{zero64}

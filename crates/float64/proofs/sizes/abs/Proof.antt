@@ -1,6 +1,5 @@
 use Rattle.prelude.proofs.Logic.{sym, ap, _∙_, _%_, arith}
-use Rattle.prelude.proofs.Ieee.{fits, binary64, toBits}
-use denote.Floats.{passes}
+use Rattle.prelude.proofs.Ieee.{fits, binary64, toBits, passes}
 use Rattle.float64.specs.Sizes.{absOf}
 use Rattle.float64.proofs.Patterns.{is-nan, no-nan, no-larger, size-bits}
 use Rattle.float64.proofs.sizes.abs as this

@@ -1,6 +1,5 @@
 use Rattle.prelude.proofs.Logic.{refl, sym, ap, _∙_, _/_, _*_, arith}
-use Rattle.prelude.proofs.Ieee.{fits, binary64, toBits, ofBits, toBits-lt}
-use denote.Floats.{passes}
+use Rattle.prelude.proofs.Ieee.{fits, binary64, toBits, ofBits, toBits-lt, passes}
 use Rattle.float64.specs.Words.{lowClearedOf}
 use Rattle.float64.proofs.Patterns.{is-nan, no-nan, no-larger}
 use Rattle.float64.proofs.words.cut as this

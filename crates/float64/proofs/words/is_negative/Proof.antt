@@ -1,6 +1,5 @@
 use Rattle.prelude.proofs.Logic.{sym, ap}
-use Rattle.prelude.proofs.Ieee.{fits, binary64}
-use denote.Floats.{passes}
+use Rattle.prelude.proofs.Ieee.{fits, binary64, passes}
 use Rattle.float64.specs.Words.{isNegativeOf}
 use Rattle.float64.proofs.Patterns.{is-nan, no-nan, sign-bit}
 use Rattle.float64.proofs.words.is_negative as this

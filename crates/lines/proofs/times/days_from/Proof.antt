@@ -1,7 +1,6 @@
 use Rattle.prelude.proofs.Logic.{_≡_, sym, ap, subst, _∙_, _^_, _<_, ℤ, _-ℤ_, needs, w64, SFits}
-use Rattle.integers.proofs.Ranges.{readBack, read}
+use Rattle.integers.proofs.Integers.{readBack, read, floorQuot}
 use Rattle.lines.proofs.Instants as instants
-use Rattle.integers.specs.Quotients.{floorQuot}
 use Rattle.lines.proofs.times.days_from as this
 
 sub-result : this.Tie.Need-sub-result

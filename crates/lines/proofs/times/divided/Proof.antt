@@ -1,9 +1,7 @@
-use Rattle.prelude.proofs.Logic.{_≡_, ap, _∙_, ℤ, arith, lit<, needs, w64}
-use Rattle.integers.specs.Quotients.{floorRem}
-use Rattle.integers.proofs.QuotientLaws.{floored}
-use Rattle.integers.proofs.Ranges.{readBack, read}
+use Rattle.prelude.proofs.Logic.{_≡_, ap, _∙_, ℤ, natAbs, arith, lit<, needs, w64}
+use Rattle.integers.proofs.Integers.{floorRem, floored, readBack, read}
 use Rattle.text.specs.Text.{digitOf}
-use Rattle.lines.specs.Lines.{daysOf, signOf, magnitudeOf}
+use Rattle.lines.specs.Lines.{daysOf, signOf}
 use Rattle.lines.proofs.times.divided as this
 
 cast-t8 : this.Tie.Need-cast-t8
@@ -20,7 +18,7 @@ returns c =
     let r = read w64 (t .args .time) (t .fits .time) in
     let k : readBack w64 (days .result) ≡ days .result = search needs in
     let d = k ∙ days .ensures ∙ ap (λ (z : ℤ). daysOf (t .args .dated .date) z) r in
-    (c .before .before .before .sign .ensures ∙ ap signOf d, c .before .digit .ensures ∙ ap digitOf (c .before .before .size .ensures ∙ ap magnitudeOf d), c .second-of-day .ensures ∙ ap (λ (z : ℤ). floorRem z 86400) r)
+    (c .before .before .before .sign .ensures ∙ ap signOf d, c .before .digit .ensures ∙ ap digitOf (c .before .before .size .ensures ∙ ap natAbs d), c .second-of-day .ensures ∙ ap (λ (z : ℤ). floorRem z 86400) r)
 
 pub divided-spec : {M : Type 1} → this.Statement.statement M
 divided-spec =

@@ -1,15 +1,8 @@
-use Rattle.prelude.proofs.Logic.{_≡_, ap, _∙_, ℕ, _-_, _*_, _/_, _%_, ℤ, arith, lit<, needs, w64}
-use Rattle.integers.specs.Quotients.{floorRem}
-use Rattle.integers.proofs.QuotientLaws.{floored}
-use Rattle.integers.proofs.Ranges.{readBack, read}
+use Rattle.prelude.proofs.Logic.{_≡_, ap, _∙_, ℕ, _-_, _*_, _/_, _%_, ℤ, natAbs, arith, lit<, needs, w64}
+use Rattle.integers.proofs.Integers.{floorRem, floored, readBack, read}
 use Rattle.text.specs.Text.{digitOf}
-use Rattle.lines.specs.Lines.{daysOf, signOf, magnitudeOf, timeText}
+use Rattle.lines.specs.Lines.{daysOf, signOf, timeText}
 use Rattle.lines.proofs.times.time_text as this
-
-two-digits-requires : this.Tie.Need-two-digits-requires
-two-digits-requires c κs =
-    let h = floored (readBack w64 (c .before .args .time)) 86400 (lit< tt) .below in
-    omega (arith, h, c .compared .ensures .2)
 
 returns : this.Tie.Need-returns
 unfolding timeText
@@ -26,7 +19,7 @@ returns c =
     let m : n / 60 - 60 * (n / 3600) ≡ n / 60 % 60 = omega arith in
     let k : n - 60 * (n / 60) ≡ n % 60 = omega arith in
     let sign = moment .ensures .0 ∙ ap signOf days in
-    let size = moment .ensures .1 ∙ ap (λ (z : ℤ). digitOf (magnitudeOf z)) days in
+    let size = moment .ensures .1 ∙ ap (λ (z : ℤ). digitOf (natAbs z)) days in
     let h0 = hour .ensures .0 ∙ ap (λ (i : ℕ). digitOf (i / 3600 / 10)) s in
     let h1 = hour .ensures .1 ∙ ap (λ (i : ℕ). digitOf (i / 3600)) s in
     let m0 = minute .ensures .0 ∙ ap (λ (i : ℕ). digitOf (i / 10)) (m ∙ ap (λ (i : ℕ). i / 60 % 60) s) in
@@ -37,5 +30,6 @@ returns c =
 
 pub time-text-spec : {M : Type 1} → this.Statement.statement M
 time-text-spec =
-    this.Tie.close
-    (this.Tie.spec (λ c κs. c .pre) two-digits-requires (λ c. search needs) (λ c. search needs) (λ c κs. search needs) (λ c. search needs) (λ c. search needs) (λ c κs. search needs) returns)
+    this.Tie.close (this.Tie.spec (λ c κs. c .pre)
+    (λ c κs. let h = floored (readBack w64 (c .before .args .time)) 86400 (lit< tt) .below in omega (arith, h, c .compared .ensures .2))
+    (λ c. search needs) (λ c. search needs) (λ c κs. search needs) (λ c. search needs) (λ c. search needs) (λ c κs. search needs) returns)

@@ -8,9 +8,8 @@ returns : this.Tie.Need-returns
 unfolding byteOr valuesIn
 returns c = simp (sym (c .byte .ensures .0), sym (c .before .value .ensures), sym (c .before .before .before .has .ensures), c .before .before .if1 .taken)
 
-returns-2 : this.Tie.Need-returns-2
-unfolding byteOr valuesIn
-returns-2 c = simp (sym (c .before .has .ensures), c .if1 .left)
-
 pub byte-or-spec : {M : Type 1} → this.Statement.statement M
-byte-or-spec = this.Tie.close (this.Tie.spec (λ c κs. tt) (λ c κs. tt) (λ c κs. tt) returns returns-2)
+unfolding byteOr valuesIn
+byte-or-spec =
+    let returns-2 : this.Tie.Need-returns-2 = λ c. simp (sym (c .before .has .ensures), c .if1 .left) in
+    this.Tie.close (this.Tie.spec (λ c κs. tt) (λ c κs. tt) (λ c κs. tt) returns returns-2)

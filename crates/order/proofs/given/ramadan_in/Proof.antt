@@ -1,8 +1,7 @@
 -- `order::given::ramadan_in` meets its contract: a stored shift is a byte, so that it fits less 1.
 use Rattle.prelude.proofs.Logic.{_≡_, sym, ℕ, _<_, arith, pos, _-ℤ_, needs, w32, SFits, toZ}
 use Rattle.fields.specs.Values.{valuesIn}
-use Rattle.integers.proofs.Ranges.{fits, readBack, read}
-use Rattle.integers.proofs.Sums.{difference}
+use Rattle.integers.proofs.Integers.{fits, readBack, read, difference}
 use Rattle.order.specs.Given.{ramadanGiven, ramadanIn}
 use Rattle.order.proofs.given.ramadan_in as this
 

@@ -9,9 +9,8 @@ unfolding roundingOr valuesIn
 returns c =
     simp (sym (c .of-number .ensures), sym (c .before .byte .ensures .0), sym (c .before .before .value .ensures), sym (c .before .before .before .before .has .ensures), c .before .before .before .if1 .taken)
 
-returns-2 : this.Tie.Need-returns-2
-unfolding roundingOr valuesIn
-returns-2 c = simp (sym (c .before .has .ensures), c .if1 .left)
-
 pub rounding-or-spec : {M : Type 1} → this.Statement.statement M
-rounding-or-spec = this.Tie.close (this.Tie.spec (λ c κs. tt) (λ c κs. tt) (λ c κs. tt) (λ c κs. tt) returns returns-2)
+unfolding roundingOr valuesIn
+rounding-or-spec =
+    let returns-2 : this.Tie.Need-returns-2 = λ c. simp (sym (c .before .has .ensures), c .if1 .left) in
+    this.Tie.close (this.Tie.spec (λ c κs. tt) (λ c κs. tt) (λ c κs. tt) (λ c κs. tt) returns returns-2)

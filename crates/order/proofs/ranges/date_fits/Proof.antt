@@ -1,8 +1,7 @@
 -- `order::ranges::date_fits` meets its contract.
 use Rattle.order.proofs.ranges.date_fits as this
 
-returns : this.Tie.Need-returns
-returns c = cc
-
 pub date-fits-spec : {M : Type 1} → this.Statement.statement M
-date-fits-spec = this.Tie.close (this.Tie.spec (λ c κs. tt) returns)
+date-fits-spec =
+    let returns : this.Tie.Need-returns = λ c. cc in
+    this.Tie.close (this.Tie.spec (λ c κs. tt) returns)

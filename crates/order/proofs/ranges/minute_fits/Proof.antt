@@ -3,9 +3,8 @@ use Rattle.prelude.proofs.Logic.{toZ-ofZ}
 use Rattle.order.specs.Ranges.{minuteFits}
 use Rattle.order.proofs.ranges.minute_fits as this
 
-returns : this.Tie.Need-returns
-unfolding minuteFits
-returns c = cc (toZ-ofZ (c .fits .minute))
-
 pub minute-fits-spec : {M : Type 1} → this.Statement.statement M
-minute-fits-spec = this.Tie.close (this.Tie.spec returns)
+unfolding minuteFits
+minute-fits-spec =
+    let returns : this.Tie.Need-returns = λ c. cc (toZ-ofZ (c .fits .minute)) in
+    this.Tie.close (this.Tie.spec returns)

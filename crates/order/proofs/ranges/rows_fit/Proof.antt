@@ -4,10 +4,6 @@ use Rattle.order.specs.Ranges.{rowsFit}
 use Rattle.order.proofs.RowDates.{rows-early}
 use Rattle.order.proofs.ranges.rows_fit as this
 
-returns : this.Tie.Need-returns
-unfolding rowsFit
-returns c = simp (sym (c .before .before .rows-in .ensures), lt-leb _ _ (c .if1 .taken))
-
 returns-2 : this.Tie.Need-returns-2
 unfolding rowsFit
 returns-2 c =
@@ -34,4 +30,7 @@ returns-4 c =
     )
 
 pub rows-fit-spec : {M : Type 1} → this.Statement.statement M
-rows-fit-spec = this.Tie.close (this.Tie.spec (λ c κs. tt) (λ c κs. tt) returns returns-2 (λ c. search needs) returns-3 (λ c κs. tt) returns-4)
+unfolding rowsFit
+rows-fit-spec =
+    let returns : this.Tie.Need-returns = λ c. simp (sym (c .before .before .rows-in .ensures), lt-leb _ _ (c .if1 .taken)) in
+    this.Tie.close (this.Tie.spec (λ c κs. tt) (λ c κs. tt) returns returns-2 (λ c. search needs) returns-3 (λ c κs. tt) returns-4)

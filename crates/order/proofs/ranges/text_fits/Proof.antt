@@ -1,11 +1,11 @@
 -- `order::ranges::text_fits` meets its contract. The invariant: what is left of the text decides as the whole does.
 use Rattle.prelude.proofs.Logic.{_≡_, sym, _∙_, _≤_, _-_, length, drop, needs, now}
-use Rattle.order.specs.Ranges.{textFits}
+use Rattle.text.specs.Text.{printable}
 use Rattle.order.proofs.Text.{byte-low, byte-high, byte-on, text-end}
 use Rattle.order.proofs.ranges.text_fits as this
 
 abbrev Inv-loop : this.Tie.InvT-loop
-Inv-loop bytes i₀ i = (i ≤ length bytes) × (textFits (drop i bytes) ≡ textFits bytes)
+Inv-loop bytes i₀ i = (i ≤ length bytes) × (printable (drop i bytes) ≡ printable bytes)
 
 abbrev μ-loop : this.Tie.MeasureT-loop
 μ-loop bytes i₀ i = length bytes - i
@@ -26,11 +26,9 @@ loop-again c =
     let e = byte-on (now (c .before .before .before .before .before .before .args .bytes)) (l .i) (c .before .before .before .before .loop-test .taken) (c .before .before .if1 .left) (c .if2 .left) in
     (search needs, sym e ∙ l .inv .1)
 
-returns-3 : this.Tie.Need-returns-3 Inv-loop μ-loop
-returns-3 c = sym (text-end (now (c .before .before .args .bytes)) (c .before .loop .i) (c .loop-test .left)) ∙ c .before .loop .inv .1
-
 pub text-fits-spec : {M : Type 1} → this.Statement.statement M
 text-fits-spec =
-    this.Tie.close
-    (this.Tie.spec Inv-loop μ-loop (λ c. search needs) (λ c. search needs) returns (λ c. search needs) returns-2 (λ c. search needs)
+    let returns-3 : this.Tie.Need-returns-3 Inv-loop μ-loop = λ c.
+    sym (text-end (now (c .before .before .args .bytes)) (c .before .loop .i) (c .loop-test .left)) ∙ c .before .loop .inv .1 in
+    this.Tie.close (this.Tie.spec Inv-loop μ-loop (λ c. search needs) (λ c. search needs) returns (λ c. search needs) returns-2 (λ c. search needs)
     (λ c. search needs) loop-again returns-3)

@@ -11,10 +11,6 @@ Inv-loop fields i₀ i = (i ≤ 6) × (firstFailing 4 (isGivenOf (hasIn fields))
 abbrev μ-loop : this.Tie.MeasureT-loop
 μ-loop fields i₀ i = 6 - i
 
-loop-holds : this.Tie.Need-loop-holds Inv-loop μ-loop
-unfolding missingOf
-loop-holds c = (omega arith, refl)
-
 returns : this.Tie.Need-returns Inv-loop μ-loop
 returns c =
     let h = c .before .before in
@@ -33,7 +29,8 @@ returns-2 c =
     c .none .ensures ∙ sym (none 4 (isGivenOf (hasIn (l .before .args .fields))) required (l .loop .i) (c .before .loop-test .left)) ∙ l .loop .inv .1
 
 pub missing-spec : {M : Type 1} → this.Statement.statement M
+unfolding missingOf
 missing-spec =
-    this.Tie.close
-    (this.Tie.spec Inv-loop μ-loop loop-holds (λ c. search needs) (λ c. search needs) (λ c κs. tt) (λ c κs. tt) returns (λ c. search needs)
-    (λ c. search needs) loop-again (λ c κs. tt) returns-2)
+    let loop-holds : this.Tie.Need-loop-holds Inv-loop μ-loop = λ c. (omega arith, refl) in
+    this.Tie.close (this.Tie.spec Inv-loop μ-loop loop-holds (λ c. search needs) (λ c. search needs) (λ c κs. tt) (λ c κs. tt) returns
+    (λ c. search needs) (λ c. search needs) loop-again (λ c κs. tt) returns-2)

@@ -48,9 +48,6 @@ first c =
     ∙ held (now (a .order)) (a .fields) (d .date-in .result) (c .before .has .result) (rw (← d .before .value .ensures) (d .date-in .ensures))
     (c .before .has .ensures)
 
-loop-holds : this.Tie.Need-loop-holds Inv-loop μ-loop
-loop-holds c = (omega arith, refl)
-
 returns : this.Tie.Need-returns Inv-loop μ-loop
 unfolding passing
 returns c =
@@ -80,7 +77,7 @@ returns-2 c =
 
 pub out-of-range-spec : {M : Type 1} → this.Statement.statement M
 out-of-range-spec =
-    this.Tie.close
-    (this.Tie.spec Inv-loop μ-loop (λ c κs. tt) (λ c κs. tt) (λ c κs. tt) loop-holds (λ c. search needs) (λ c. search needs) (λ c. search needs)
-    (λ c. search needs) (λ c. search needs) (λ c. search needs) (λ c. search needs) (λ c κs. tt) (λ c κs. tt) returns (λ c. search needs) loop-again
-    (λ c κs. tt) returns-2)
+    let loop-holds : this.Tie.Need-loop-holds Inv-loop μ-loop = λ c. (omega arith, refl) in
+    this.Tie.close (this.Tie.spec Inv-loop μ-loop (λ c κs. tt) (λ c κs. tt) (λ c κs. tt) loop-holds (λ c. search needs) (λ c. search needs)
+    (λ c. search needs) (λ c. search needs) (λ c. search needs) (λ c. search needs) (λ c. search needs) (λ c κs. tt) (λ c κs. tt) returns
+    (λ c. search needs) loop-again (λ c κs. tt) returns-2)

@@ -2,15 +2,9 @@ use Rattle.prelude.proofs.Logic.{sym, needs}
 use Rattle.probes.specs.Days.{probeDayOf}
 use Rattle.probes.proofs.days.answered as this
 
-returns : this.Tie.Need-returns
-unfolding probeDayOf
-returns c =
-    let e0 = c .probe-times .ensures in
-    simp (sym e0, c .before .before .worked .given .1)
-
-returns-2 : this.Tie.Need-returns-2
-unfolding probeDayOf
-returns-2 c = cc
-
 pub answered-spec : {M : Type 1} → this.Statement.statement M
-answered-spec = this.Tie.close (this.Tie.spec (λ c. search needs) (λ c κs. tt) (λ c. search needs) (λ c κs. tt) returns returns-2)
+unfolding probeDayOf
+answered-spec =
+    let returns : this.Tie.Need-returns = λ c. let e0 = c .probe-times .ensures in simp (sym e0, c .before .before .worked .given .1) in
+    let returns-2 : this.Tie.Need-returns-2 = λ c. cc in
+    this.Tie.close (this.Tie.spec (λ c. search needs) (λ c κs. tt) (λ c. search needs) (λ c κs. tt) returns returns-2)

@@ -1,7 +1,6 @@
 -- `probes::readers::plain_refused` meets its contract.
 use Rattle.prelude.proofs.Logic.{refl}
-use lib.Ieee.{round, ofBits}
-use Rattle.float64.specs.Ops.{dec}
+use Rattle.float64.proofs.Floats.{round, ofBits, dec}
 use Rattle.probes.specs.Readers.{plainRefused}
 use Rattle.probes.proofs.readers.plain_refused as this
 

@@ -16,10 +16,8 @@ returns c =
     let p = put-next (now (a .buffer)) [] (rowText (a .date) (columnsOf (a .ramadan) (w .0 .0))) (now (a .buffer)) _ 0 refl refl (put .ensures .1) (omega (arith, start .pre)) in
     (c .none .ensures ∙ simp (w .1), simp (w .1) p)
 
-returns-2 : this.Tie.Need-returns-2
-unfolding answerOf rowFrontOf
-returns-2 c = let e = c .before .worked2 .given .1 in (simp e, simp e)
-
 pub write-worked-spec : {M : Type 1} → this.Statement.statement M
+unfolding answerOf rowFrontOf
 write-worked-spec =
+    let returns-2 : this.Tie.Need-returns-2 = λ c. let e = c .before .worked2 .given .1 in (simp e, simp e) in
     this.Tie.close (this.Tie.spec (λ c. search needs) (λ c κs. search needs) (λ c κs. tt) (λ c. search needs) (λ c. search needs) returns returns-2)

@@ -8,9 +8,6 @@ use Rattle.text.proofs.TextLaws.{put-next}
 use Rattle.rows.proofs.Answers.{sheet-short, sheet-read, sheet-refused}
 use Rattle.rows.proofs.sheet.write_sheet as this
 
-returns : this.Tie.Need-returns
-returns c = let a = c .before .before .before .args in sheet-short (now (a .order)) (now (a .buffer)) (c .if1 .taken)
-
 put-accepted-requires : this.Tie.Need-put-accepted-requires
 put-accepted-requires c κs =
     let a = c .before .before .before .before .before .before .before .before .before .args in
@@ -40,6 +37,7 @@ returns-3 c =
 
 pub write-sheet-spec : {M : Type 1} → this.Statement.statement M
 write-sheet-spec =
-    this.Tie.close
-    (this.Tie.spec returns (λ c κs. search needs) (λ c. search needs) (λ c κs. search needs) put-accepted-requires (λ c. search needs)
-    (λ c κs. search needs) (λ c. search needs) returns-2 (λ c. search needs) returns-3)
+    let returns : this.Tie.Need-returns = λ c.
+    let a = c .before .before .before .args in sheet-short (now (a .order)) (now (a .buffer)) (c .if1 .taken) in
+    this.Tie.close (this.Tie.spec returns (λ c κs. search needs) (λ c. search needs) (λ c κs. search needs) put-accepted-requires
+    (λ c. search needs) (λ c κs. search needs) (λ c. search needs) returns-2 (λ c. search needs) returns-3)

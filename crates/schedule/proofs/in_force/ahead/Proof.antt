@@ -1,8 +1,6 @@
 use Rattle.prelude.proofs.Logic.{_≡_, ap, _∙_, arith, _-ℤ_, needs, w64, SFits}
-use Rattle.integers.proofs.Sums.{differences}
-use Rattle.integers.proofs.Ranges.{read}
+use Rattle.integers.proofs.Integers.{differences, read, P}
 use Rattle.schedule.proofs.Due as due
-use Rattle.integers.specs.Parts.{P}
 use Rattle.schedule.proofs.in_force.ahead as this
 
 told : (c : this.Tie.After-between) → let a = c .before .before .args in c .between .result ≡ P (a .time -ℤ a .instant .seconds)

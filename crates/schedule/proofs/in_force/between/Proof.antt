@@ -1,7 +1,6 @@
 use Rattle.prelude.proofs.Logic.{_≡_, ap, _∙_, arith, w64}
-use Rattle.integers.proofs.Ranges.{read}
+use Rattle.integers.proofs.Integers.{read, P, N}
 use Rattle.schedule.proofs.Due as due
-use Rattle.integers.specs.Parts.{P, N}
 use Rattle.schedule.proofs.in_force.between as this
 
 -- the four parts that are worked

@@ -1,5 +1,4 @@
-use lib.Ieee.{round, ofBits}
-use Rattle.float64.specs.Ops.{dec}
+use Rattle.float64.proofs.Floats.{round, ofBits, dec}
 use Rattle.schedule.specs.InForce.{hoursMinutesOf}
 use Rattle.prelude.proofs.Logic.{needs}
 use Rattle.schedule.proofs.in_force.hours_minutes as this

@@ -1,11 +1,8 @@
 use Rattle.prelude.proofs.Logic.{_≡_, ap, _∙_, lit≤, needs, w64}
-use Rattle.integers.proofs.Sums.{summands}
-use Rattle.integers.proofs.Ranges.{readBack}
-use Rattle.integers.proofs.Held.{of-i64, held-difference, held-by, held-as, held-fits, stored, asked, promised}
+use Rattle.integers.proofs.Integers.{summands, readBack, of-i64, held-difference, held-by, held-as, held-fits, stored, asked, promised}
 use Rattle.models.specs.declared.rounding.Rounding.the-variants.{Nearest}
 use Rattle.stride.specs.Times.{roundedOf}
-use Rattle.schedule.specs.Times.{middleOfTheNightOf, qiyamOf}
-use Rattle.schedule.proofs.Promises.{of-near, held-middle, held-last-third}
+use Rattle.schedule.proofs.Schedule.{middleOfTheNightOf, qiyamOf, of-near, held-middle, held-last-third}
 use Rattle.schedule.proofs.prayer_times.calculate_qiyam as this
 
 sub-night : this.Tie.Need-sub-night

@@ -1,7 +1,6 @@
 use Rattle.prelude.proofs.Logic.{ap, _∙_, lit≤, needs}
 use Rattle.models.specs.declared.prayer.Prayer.the-variants.{Fajr}
-use Rattle.schedule.specs.Times.{finalOf}
-use Rattle.schedule.proofs.Promises.{of-near}
+use Rattle.schedule.proofs.Schedule.{finalOf, of-near}
 use Rattle.schedule.proofs.prayer_times.final_fajr as this
 
 returns : this.Tie.Need-returns

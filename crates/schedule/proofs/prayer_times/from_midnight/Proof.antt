@@ -1,10 +1,7 @@
 use Rattle.prelude.proofs.Logic.{ap, _∙_, lit≤, needs, w32, SFits}
-use Rattle.integers.proofs.Ranges.{wide, read-wide}
-use Rattle.integers.proofs.Held.{of-wide, held-as, asked}
+use Rattle.integers.proofs.Integers.{wide, read-wide, of-wide, held-as, asked}
 use Rattle.models.specs.declared.prayer.Prayer.the-variants.{Fajr, Sunrise, Dhuhr, Asr, Maghrib, Isha}
-use Rattle.schedule.specs.Times.{finalOf, middleOfTheNightOf, qiyamOf, fromMidnightOf}
-use Rattle.schedule.specs.Twilight.{orOf}
-use Rattle.schedule.proofs.Promises.{both, of-near}
+use Rattle.schedule.proofs.Schedule.{finalOf, middleOfTheNightOf, qiyamOf, fromMidnightOf, orOf, both, of-near}
 use Rattle.schedule.proofs.prayer_times.from_midnight as this
 
 transit : (t : this.Tie.Start) → SFits w32 (t .args .suns .today .transit)

@@ -1,6 +1,5 @@
 use Rattle.prelude.proofs.Logic.{_≡_, _∙_, lit≤, needs, w64}
-use Rattle.integers.proofs.Ranges.{readBack}
-use Rattle.integers.proofs.Held.{of-i64, held-sum, held-by, held-fits, stored, promised}
+use Rattle.integers.proofs.Integers.{readBack, of-i64, held-sum, held-by, held-fits, stored, promised}
 use Rattle.models.specs.declared.rounding.Rounding.the-variants.{Nearest}
 use Rattle.stride.proofs.TimesLaws.{held-rounded}
 use Rattle.schedule.proofs.prayer_times.into_the_night as this

@@ -5,13 +5,8 @@ use Rattle.models.specs.declared.prayer.Prayer.the-variants.{Fajr}
 use Rattle.models.specs.Settings.{timeAdjustmentsOf}
 use Rattle.stride.specs.Times.{adjustedOf}
 use Rattle.stride.proofs.TimesLaws.{none-stays}
-use Rattle.schedule.specs.Times.{fajrTomorrowOf}
-use Rattle.schedule.specs.Twilight.{nextDayOf, unadjustedFajrOf}
-use Rattle.schedule.proofs.Promises.{of-near}
+use Rattle.schedule.proofs.Schedule.{fajrTomorrowOf, nextDayOf, unadjustedFajrOf, of-near}
 use Rattle.schedule.proofs.prayer_times.next_fajr as this
-
-add-result : this.Tie.Need-add-result
-add-result c = held-fits (held-sum (of-near (c .final-time .ensures) (lit≤ tt)) (constant 86400)) (lit≤ tt)
 
 returns : this.Tie.Need-returns
 unfolding fajrTomorrowOf
@@ -24,4 +19,6 @@ returns c =
     promised (held-as (stored (held-sum (of-near (c .final-time .ensures) (lit≤ tt)) (constant 86400)) (lit≤ tt)) (ap nextDayOf adjusted)) (lit≤ tt)
 
 pub next-fajr-spec : {M : Type 1} → this.Statement.statement M
-next-fajr-spec = this.Tie.close (this.Tie.spec (λ c κs. search needs) (λ c κs. search needs) (λ c κs. search needs) add-result returns)
+next-fajr-spec =
+    this.Tie.close (this.Tie.spec (λ c κs. search needs) (λ c κs. search needs) (λ c κs. search needs)
+    (λ c. held-fits (held-sum (of-near (c .final-time .ensures) (lit≤ tt)) (constant 86400)) (lit≤ tt)) returns)

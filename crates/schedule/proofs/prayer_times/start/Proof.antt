@@ -1,9 +1,7 @@
 use Rattle.prelude.proofs.Logic.{_≡_, ap, _∙_, _^_, _<_, lit≤, ℤ, pos, _*ℤ_, needs, w64}
-use Rattle.integers.proofs.Ranges.{readBack}
-use Rattle.integers.proofs.Held.{Held, held-fits, stored, promised}
+use Rattle.integers.proofs.Integers.{readBack, Held, held-fits, stored, promised}
 use Rattle.calendar.specs.Days.{dayNumberOf}
-use Rattle.schedule.specs.Times.{startOf}
-use Rattle.schedule.proofs.Starts.{start-near}
+use Rattle.schedule.proofs.Schedule.{startOf, start-near}
 use Rattle.schedule.proofs.prayer_times.start as this
 
 mul-result : this.Tie.Need-mul-result

@@ -1,9 +1,6 @@
 use Rattle.prelude.proofs.Logic.{_^_, lit≤, ℤ, _+ℤ_, needs, w64, SFits}
-use Rattle.integers.specs.Parts.{Near}
-use Rattle.integers.proofs.Ranges.{readBack}
-use Rattle.integers.proofs.Held.{held-fits, stored}
-use Rattle.schedule.specs.Times.{startedOf}
-use Rattle.schedule.proofs.Promises.{on-start}
+use Rattle.integers.proofs.Integers.{Near, readBack, held-fits, stored}
+use Rattle.schedule.proofs.Schedule.{startedOf, on-start}
 use Rattle.schedule.proofs.prayer_times.started as this
 
 fits : (s : this.Tie.After-start) {x : ℤ} → Near (2 ^ 43) x → SFits w64 (readBack w64 (s .start .result) +ℤ readBack w64 x)

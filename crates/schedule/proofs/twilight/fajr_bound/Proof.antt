@@ -1,9 +1,6 @@
 use Rattle.prelude.proofs.Logic.{_≡_, sym, _∙_, lit≤, needs, w32, w64, SFits}
-use Rattle.integers.proofs.Sums.{summands}
-use Rattle.integers.proofs.Ranges.{readBack, read}
-use Rattle.integers.proofs.Held.{held-as, promised}
-use Rattle.schedule.specs.Twilight.{beforeSunriseOf}
-use Rattle.schedule.proofs.Promises.{of-near}
+use Rattle.integers.proofs.Integers.{summands, readBack, read, held-as, promised}
+use Rattle.schedule.proofs.Schedule.{beforeSunriseOf, of-near}
 use Rattle.schedule.proofs.twilight.fajr_bound as this
 
 returns : this.Tie.Need-returns

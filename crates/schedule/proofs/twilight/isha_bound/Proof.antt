@@ -1,14 +1,11 @@
 use Rattle.prelude.proofs.Logic.{_≡_, sym, ap, _∙_, ℕ, lit≤, needs, w32, w64, SFits}
-use Rattle.integers.proofs.Sums.{summands}
-use Rattle.integers.proofs.Ranges.{readBack, read}
-use Rattle.integers.proofs.Held.{held-by, held-as, promised}
+use Rattle.integers.proofs.Integers.{summands, readBack, read, held-by, held-as, promised}
 use Rattle.models.specs.declared.rounding.Rounding.the-variants.{Nearest}
 use Rattle.models.specs.Settings.{nightPortionsOf}
 use Rattle.stride.proofs.TimesLaws.{held-rounded}
 use Rattle.night_portions.specs.Portions.{portionAfterOf}
 use Rattle.ops.specs.Season.{eveningSecondsOf}
-use Rattle.schedule.specs.Twilight.{ishaBoundOf}
-use Rattle.schedule.proofs.Promises.{of-near}
+use Rattle.schedule.proofs.Schedule.{ishaBoundOf, of-near}
 use Rattle.schedule.proofs.twilight.isha_bound as this
 
 returns : this.Tie.Need-returns

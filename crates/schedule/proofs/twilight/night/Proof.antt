@@ -1,6 +1,5 @@
 use Rattle.prelude.proofs.Logic.{_+_, _^_, lit≤, pos, _+ℤ_, _-ℤ_, needs, w32, w64, SFits}
-use Rattle.integers.proofs.Ranges.{readBack, wide}
-use Rattle.integers.proofs.Held.{Held, constant, of-wide, held-sum, held-difference, held-fits, stored, promised}
+use Rattle.integers.proofs.Integers.{readBack, wide, Held, constant, of-wide, held-sum, held-difference, held-fits, stored, promised}
 use Rattle.schedule.specs.Twilight.{nightOf}
 use Rattle.schedule.proofs.twilight.night as this
 
@@ -21,13 +20,9 @@ from-sunset : (t : this.Tie.Start)
     (t .args .next .sunrise +ℤ pos 86400 -ℤ t .args .today .sunset)
 from-sunset t = held-difference (stored (next-day t) (lit≤ tt)) (of-wide _ (sunset t))
 
-returns : this.Tie.Need-returns
-unfolding nightOf
-returns c = promised (stored (from-sunset (c .before .before .before .before)) (lit≤ tt)) (lit≤ tt)
-
 pub night-spec : {M : Type 1} → this.Statement.statement M
+unfolding nightOf
 night-spec =
-    this.Tie.close
-    (this.Tie.spec (λ c. wide _ (sunrise (c .before .before))) (λ c. held-fits (next-day (c .before .before)) (lit≤ tt))
-    (λ c. wide _ (sunset (c .before .before .before .before)))
-    (λ c. held-fits (from-sunset (c .before .before .before .before)) (lit≤ tt)) returns)
+    let returns : this.Tie.Need-returns = λ c. promised (stored (from-sunset (c .before .before .before .before)) (lit≤ tt)) (lit≤ tt) in
+    this.Tie.close (this.Tie.spec (λ c. wide _ (sunrise (c .before .before))) (λ c. held-fits (next-day (c .before .before)) (lit≤ tt))
+    (λ c. wide _ (sunset (c .before .before .before .before))) (λ c. held-fits (from-sunset (c .before .before .before .before)) (lit≤ tt)) returns)

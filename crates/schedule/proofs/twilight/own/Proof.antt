@@ -1,7 +1,6 @@
 use Rattle.prelude.proofs.Logic.{sym, ap, _∙_, lit≤, needs}
 use Rattle.integers.proofs.Held.{of-i64, held-as, promised}
-use Rattle.schedule.specs.Twilight.{orOf, ownOf}
-use Rattle.schedule.proofs.Promises.{of-near}
+use Rattle.schedule.proofs.Schedule.{orOf, ownOf, of-near}
 use Rattle.schedule.proofs.twilight.own as this
 
 returns : this.Tie.Need-returns

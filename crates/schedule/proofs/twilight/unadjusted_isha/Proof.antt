@@ -1,14 +1,7 @@
 use Rattle.prelude.proofs.Logic.{lit≤, needs, w32, SFits}
-use Rattle.integers.proofs.Ranges.{read, wide}
-use Rattle.integers.proofs.Held.{of-wide, held-sum, held-product, held-as, held-fits, stored, promised}
-use Rattle.schedule.specs.Twilight.{unadjustedIshaOf}
-use Rattle.schedule.proofs.Promises.{of-near}
+use Rattle.integers.proofs.Integers.{read, wide, of-wide, held-sum, held-product, held-as, held-fits, stored, promised}
+use Rattle.schedule.proofs.Schedule.{unadjustedIshaOf, of-near}
 use Rattle.schedule.proofs.twilight.unadjusted_isha as this
-
-cast-result-2 : this.Tie.Need-cast-result-2
-cast-result-2 c =
-    let f : SFits w32 (c .before .before .before .before .before .before .before .args .parameters .«isha_interval») = search needs in
-    wide _ f
 
 mul-result : this.Tie.Need-mul-result
 mul-result c =
@@ -39,6 +32,7 @@ returns-2 c =
 
 pub unadjusted-isha-spec : {M : Type 1} → this.Statement.statement M
 unadjusted-isha-spec =
-    this.Tie.close
-    (this.Tie.spec (λ c. let f : SFits w32 (c .before .before .before .before .before .args .today .sunset) = search needs in wide _ f) cast-result-2
+    this.Tie.close (this.Tie.spec
+    (λ c. let f : SFits w32 (c .before .before .before .before .before .args .today .sunset) = search needs in wide _ f) (λ c.
+    let f : SFits w32 (c .before .before .before .before .before .before .before .args .parameters .«isha_interval») = search needs in wide _ f)
     mul-result add-result returns (λ c κs. search needs) returns-2)

@@ -1,5 +1,4 @@
-use lib.Ieee.{round, ofBits}
-use Rattle.float64.specs.Ops.{dec}
+use Rattle.float64.proofs.Floats.{round, ofBits, dec}
 use Rattle.solar.specs.Coordinates.{apparentSiderealTimeOf}
 use Rattle.solar.proofs.coordinates.apparent_sidereal_time as this
 

@@ -1,5 +1,4 @@
-use lib.Ieee.{round, ofBits}
-use Rattle.float64.specs.Ops.{dec}
+use Rattle.float64.proofs.Floats.{round, ofBits, dec}
 use Rattle.solar.specs.Hours.{shadowAngleOf}
 use Rattle.solar.proofs.hours.shadow_angle as this
 

@@ -38,9 +38,9 @@ returns-3 c =
     ap At (cases.back n h) ∙ cases.next-hour (t .args .p) (t .args .minute) (c .before .if1 .left) (c .if3 .taken)
 
 returns-4 : this.Tie.Need-returns-4
-unfolding hourOf
 returns-4 c =
-    simp (le-ltb _ _ (c .if3 .left), le-ltb _ _ (c .before .if1 .left))
+    let t = c .before .before in
+    cases.no-hour (t .args .p) (t .args .minute) (c .before .if1 .left) (c .if3 .left)
 
 pub hour-spec : {M : Type 1} → this.Statement.statement M
 hour-spec =

@@ -1,12 +1,7 @@
 use Rattle.prelude.proofs.Logic.{sym, needs}
-use lib.Ieee.{round, ofBits}
-use Rattle.float64.specs.Ops.{dec}
+use Rattle.float64.proofs.Floats.{round, ofBits, dec}
 use Rattle.solar.specs.Setting.{settingHourOf}
 use Rattle.solar.proofs.setting.setting_hour as this
-
-date-hour-requires : this.Tie.Need-date-hour-requires
-unfolding dec round ofBits
-date-hour-requires c κs = (c .before .if1 .taken, c .if2 .taken)
 
 returns-2 : this.Tie.Need-returns-2
 unfolding settingHourOf
@@ -18,13 +13,9 @@ returns-2 c =
     let e4 = c .before .before .before .before .before .is-normal .ensures in
     simp (sym e0, sym e1, sym e2, sym e3, sym e4, c .before .before .before .before .if3 .taken)
 
-returns-3 : this.Tie.Need-returns-3
-unfolding settingHourOf
-returns-3 c =
-    let e0 = c .before .is-normal .ensures in
-    simp (sym e0, c .if3 .left)
-
 pub setting-hour-spec : {M : Type 1} → this.Statement.statement M
+unfolding dec round ofBits settingHourOf
 setting-hour-spec =
-    this.Tie.close
-    (this.Tie.spec date-hour-requires (λ c. search needs) (λ c κs. tt) (λ c κs. tt) (λ c κs. tt) (λ c κs. tt) (λ c κs. tt) returns-2 returns-3)
+    let returns-3 : this.Tie.Need-returns-3 = λ c. let e0 = c .before .is-normal .ensures in simp (sym e0, c .if3 .left) in
+    this.Tie.close (this.Tie.spec (λ c κs. (c .before .if1 .taken, c .if2 .taken)) (λ c. search needs) (λ c κs. tt) (λ c κs. tt) (λ c κs. tt)
+    (λ c κs. tt) (λ c κs. tt) returns-2 returns-3)

@@ -2,15 +2,6 @@ use Rattle.prelude.proofs.Logic.{needs, w32, SFits, toZ-ofZ}
 use Rattle.solar.specs.Times.{dayOf}
 use Rattle.solar.proofs.times.day as this
 
-returns : this.Tie.Need-returns
-unfolding dayOf
-returns c = simp (c .enum-told .given .1)
-
-returns-2 : this.Tie.Need-returns-2
-unfolding dayOf
-returns-2 c =
-    simp (c .enum-told2 .given .1, c .before .before .before .transit .given .1)
-
 returns-3 : this.Tie.Need-returns-3
 unfolding dayOf
 returns-3 c =
@@ -36,6 +27,9 @@ returns-4 c =
     )
 
 pub day-spec : {M : Type 1} → this.Statement.statement M
+unfolding dayOf
 day-spec =
-    this.Tie.close
-    (this.Tie.spec (λ c. search needs) (λ c. search needs) returns (λ c. search needs) (λ c. search needs) returns-2 (λ c. search needs) (λ c. search needs) returns-3 returns-4)
+    let returns : this.Tie.Need-returns = λ c. simp (c .enum-told .given .1) in
+    let returns-2 : this.Tie.Need-returns-2 = λ c. simp (c .enum-told2 .given .1, c .before .before .before .transit .given .1) in
+    this.Tie.close (this.Tie.spec (λ c. search needs) (λ c. search needs) returns (λ c. search needs) (λ c. search needs) returns-2
+    (λ c. search needs) (λ c. search needs) returns-3 returns-4)

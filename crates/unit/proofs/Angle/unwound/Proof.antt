@@ -1,6 +1,5 @@
 use Rattle.prelude.proofs.Logic.{_≡_, true, ap, needs}
-use denote.Floats.{passes}
-use lib.Ieee.{binary64, fits}
+use Rattle.float64.proofs.Floats.{binary64, fits, passes}
 use Rattle.unit.specs.Unit.{angleOf}
 use Rattle.unit.proofs.Turns.{unturned}
 use Rattle.unit.proofs.Angle.unwound as this
@@ -12,8 +11,7 @@ returns c =
     let f : fits binary64 x ≡ true = search needs in
     ap angleOf (unturned x (passes (fits binary64 x) f) (c .before .if1 .taken) (c .if2 .taken))
 
-returns-2 : this.Tie.Need-returns-2
-returns-2 c = cc
-
 pub unwound-spec : {M : Type 1} → this.Statement.statement M
-unwound-spec = this.Tie.close (this.Tie.spec returns (λ c κs. tt) returns-2)
+unwound-spec =
+    let returns-2 : this.Tie.Need-returns-2 = λ c. cc in
+    this.Tie.close (this.Tie.spec returns (λ c κs. tt) returns-2)

@@ -1,6 +1,5 @@
 use Rattle.prelude.proofs.Logic.{_≡_, ap, _∙_, ℤ, needs, w64, SFits}
-use Rattle.integers.proofs.Ranges.{readBack, read}
-use Rattle.integers.specs.Quotients.{floorQuot}
+use Rattle.integers.proofs.Integers.{readBack, read, floorQuot}
 use Rattle.weeks.specs.declared.minute.Minute.the-variants.{At}
 use Rattle.weeks.specs.State.{minuteFrom}
 use Rattle.weeks.proofs.minute.minute_of as this

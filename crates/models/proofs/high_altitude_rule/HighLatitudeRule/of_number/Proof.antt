@@ -1,7 +1,5 @@
 use Rattle.prelude.proofs.Logic.{needs}
-use Rattle.models.specs.declared.high_altitude_rule.HighLatitudeRule.the-variants.{MiddleOfTheNight, TwilightAngle}
-use Rattle.models.specs.Numbers.{rules, ruleOf}
-use Rattle.models.proofs.Rows.{inside, beyond}
+use Rattle.models.proofs.Models.{MiddleOfTheNight, TwilightAngle, rules, ruleOf, inside, beyond}
 use Rattle.models.proofs.high_altitude_rule.HighLatitudeRule.of_number as this
 
 pub of-number-spec : {M : Type 1} → this.Statement.statement M

@@ -1,6 +1,5 @@
 use Rattle.prelude.proofs.Logic.{_≡_, refl, sym, [], _∷_, ℕ, zero, suc, arith, List·getD-eq-default}
-use Rattle.models.specs.declared.madhab.Madhab.the-variants.{Shafi, Hanafi}
-use Rattle.models.specs.Numbers.{madhabOf}
+use Rattle.models.proofs.Models.{Shafi, Hanafi, madhabOf}
 use Rattle.models.proofs.madhab.Madhab.of_number as this
 
 -- any number but 1

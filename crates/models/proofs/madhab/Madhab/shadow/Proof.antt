@@ -1,8 +1,6 @@
 use Rattle.prelude.proofs.Logic.{lit<, pos, w32, SFits}
 use Rattle.integers.proofs.Integers.{read}
-use Rattle.models.specs.declared.madhab.Madhab.{Madhab}
-use Rattle.models.specs.declared.madhab.Madhab.the-variants.{Shafi, Hanafi}
-use Rattle.models.specs.Numbers.{madhabNumberOf}
+use Rattle.models.proofs.Models.{Madhab, Shafi, Hanafi, madhabNumberOf}
 use Rattle.models.proofs.madhab.Madhab.shadow as this
 
 small : (m : Madhab) → SFits w32 (pos (madhabNumberOf m))

@@ -1,7 +1,5 @@
 use Rattle.float64.proofs.Floats.{round, ofBits, dec}
-use Rattle.models.specs.Builder.{setIshaInterval}
-use Rattle.models.specs.Presets.{presetOf, preset}
-use Rattle.models.specs.Settings.{parametersNewOf}
+use Rattle.models.proofs.Models.{setIshaInterval, presetOf, preset, parametersNewOf}
 use Rattle.prelude.proofs.Logic.{needs}
 use Rattle.models.proofs.method.Method.configuration as this
 

@@ -1,7 +1,5 @@
 use Rattle.prelude.proofs.Logic.{needs}
-use Rattle.models.specs.declared.method.Method.the-variants.{MuslimWorldLeague, Other}
-use Rattle.models.specs.Numbers.{methods, methodOf}
-use Rattle.models.proofs.Rows.{inside, beyond}
+use Rattle.models.proofs.Models.{MuslimWorldLeague, Other, methods, methodOf, inside, beyond}
 use Rattle.models.proofs.method.Method.of_number as this
 
 pub of-number-spec : {M : Type 1} → this.Statement.statement M

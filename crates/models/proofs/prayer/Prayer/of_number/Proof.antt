@@ -1,7 +1,5 @@
 use Rattle.prelude.proofs.Logic.{needs}
-use Rattle.models.specs.declared.prayer.Prayer.the-variants.{Fajr, FajrTomorrow}
-use Rattle.models.specs.Numbers.{prayers, prayerOf}
-use Rattle.models.proofs.Rows.{inside, beyond}
+use Rattle.models.proofs.Models.{Fajr, FajrTomorrow, prayers, prayerOf, inside, beyond}
 use Rattle.models.proofs.prayer.Prayer.of_number as this
 
 pub of-number-spec : {M : Type 1} → this.Statement.statement M

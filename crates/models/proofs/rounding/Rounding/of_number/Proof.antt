@@ -1,7 +1,5 @@
 use Rattle.prelude.proofs.Logic.{needs}
-use Rattle.models.specs.declared.rounding.Rounding.the-variants.{Nearest, None}
-use Rattle.models.specs.Numbers.{roundings, roundingOf}
-use Rattle.models.proofs.Rows.{inside, beyond}
+use Rattle.models.proofs.Models.{Nearest, None, roundings, roundingOf, inside, beyond}
 use Rattle.models.proofs.rounding.Rounding.of_number as this
 
 pub of-number-spec : {M : Type 1} → this.Statement.statement M

@@ -1,6 +1,5 @@
 use Rattle.prelude.proofs.Logic.{_≡_, refl, ℕ, zero, suc}
-use Rattle.models.specs.declared.rules.Midnight.the-variants.{Carries}
-use Rattle.models.specs.Numbers.{midnightOf}
+use Rattle.models.proofs.Models.{Carries, midnightOf}
 use Rattle.models.proofs.rules.Midnight.of_number as this
 
 -- any number but 0

@@ -1,6 +1,5 @@
 use Rattle.prelude.proofs.Logic.{_≡_, refl, ℕ, zero, suc}
-use Rattle.models.specs.declared.rules.Southern.the-variants.{StartsAgain}
-use Rattle.models.specs.Numbers.{southernOf}
+use Rattle.models.proofs.Models.{StartsAgain, southernOf}
 use Rattle.models.proofs.rules.Southern.of_number as this
 
 -- any number but 0

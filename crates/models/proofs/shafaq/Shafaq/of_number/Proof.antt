@@ -1,7 +1,5 @@
 use Rattle.prelude.proofs.Logic.{needs}
-use Rattle.models.specs.declared.shafaq.Shafaq.the-variants.{General, Abyad}
-use Rattle.models.specs.Numbers.{shafaqs, shafaqOf}
-use Rattle.models.proofs.Rows.{inside, beyond}
+use Rattle.models.proofs.Models.{General, Abyad, shafaqs, shafaqOf, inside, beyond}
 use Rattle.models.proofs.shafaq.Shafaq.of_number as this
 
 pub of-number-spec : {M : Type 1} → this.Statement.statement M

@@ -4,5 +4,5 @@ use Rattle.ops.proofs.transit.Course.half_arc as this
 pub half-arc-spec : {M : Type 1} → this.Statement.statement M
 unfolding halfArcOf
 half-arc-spec =
-    let returns : this.Tie.Need-returns = λ c. simp (c .from-radians .ensures, c .before .acos .ensures, c .before .before .before .before .sin .ensures, c .before .before .before .before .before .radians .ensures) in
-    this.Tie.close (this.Tie.spec (λ c κs. tt) (λ c κs. tt) (λ c κs. tt) (λ c κs. tt) returns)
+    let returns : this.Tie.Need-returns = λ c. simp (c .arc-to-sine .ensures, c .before .sin .ensures, c .before .before .radians .ensures) in
+    this.Tie.close (this.Tie.spec (λ c κs. tt) (λ c κs. tt) (λ c κs. tt) returns)

@@ -6,7 +6,7 @@ returns c =
     let suns = c .before .before .before .before .before .before .before in
     let positions = suns .before .before .before .before .before in
     let dates = positions .before .before .before .before .before in
-    let t = dates .before .before .before .args in
+    let t = dates .before .before .before .before .args in
     simp (
       c .fajr-number2 .ensures,
       c .before .isha-number .ensures,
@@ -27,7 +27,8 @@ returns c =
       positions .before .before .before .before .position .ensures,
       dates .tomorrow2 .ensures,
       dates .before .tomorrow .ensures,
-      dates .before .before .new .ensures,
+      dates .before .before .new2 .ensures,
+      dates .before .before .before .new .ensures,
     )
     (row-shared (t .date) (t .coordinates) (t .parameters))
 
@@ -35,4 +36,4 @@ pub new-spec : {M : Type 1} → this.Statement.statement M
 new-spec =
     this.Tie.close
     (this.Tie.spec (λ c κs. tt) (λ c κs. tt) (λ c κs. tt) (λ c κs. tt) (λ c κs. tt) (λ c κs. tt) (λ c κs. tt) (λ c κs. tt) (λ c κs. tt) (λ c κs. tt)
-    (λ c κs. tt) (λ c κs. tt) (λ c κs. tt) (λ c κs. tt) (λ c κs. tt) (λ c κs. tt) (λ c κs. tt) (λ c κs. tt) (λ c κs. tt) (λ c κs. tt) returns)
+    (λ c κs. tt) (λ c κs. tt) (λ c κs. tt) (λ c κs. tt) (λ c κs. tt) (λ c κs. tt) (λ c κs. tt) (λ c κs. tt) (λ c κs. tt) (λ c κs. tt) (λ c κs. tt) returns)

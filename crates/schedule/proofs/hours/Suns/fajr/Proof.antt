@@ -1,7 +1,6 @@
 use Rattle.prelude.proofs.Logic.{_≡_, ap, _∙_, needs, w64}
 use Rattle.integers.proofs.Ranges.{readBack}
-use Rattle.schedule.specs.declared.prayer_times.FajrAlone.the-variants.{At}
-use Rattle.schedule.specs.Fajr.{fajrAloneOf}
+use Rattle.schedule.proofs.Schedule.{At, fajrAloneOf}
 use Rattle.schedule.proofs.hours.Suns.fajr as this
 
 returns : this.Tie.Need-returns

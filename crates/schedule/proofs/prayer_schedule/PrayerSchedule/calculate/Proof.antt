@@ -14,18 +14,10 @@ returns c =
       n .before .before .before .if1 .taken,
     )
 
-returns-2 : this.Tie.Need-returns-2
-unfolding calculateOf
-returns-2 c =
-    simp (c .if3 .left, c .before .if2 .taken, c .before .before .if1 .taken)
-
-returns-3 : this.Tie.Need-returns-3
-unfolding calculateOf
-returns-3 c = simp (c .if2 .left, c .before .if1 .taken)
-
-returns-4 : this.Tie.Need-returns-4
-unfolding calculateOf
-returns-4 c = simp (c .if1 .left)
-
 pub calculate-spec : {M : Type 1} → this.Statement.statement M
-calculate-spec = this.Tie.close (this.Tie.spec (λ c κs. tt) (λ c κs. tt) (λ c κs. tt) returns returns-2 returns-3 returns-4)
+unfolding calculateOf
+calculate-spec =
+    let returns-2 : this.Tie.Need-returns-2 = λ c. simp (c .if3 .left, c .before .if2 .taken, c .before .before .if1 .taken) in
+    let returns-3 : this.Tie.Need-returns-3 = λ c. simp (c .if2 .left, c .before .if1 .taken) in
+    let returns-4 : this.Tie.Need-returns-4 = λ c. simp (c .if1 .left) in
+    this.Tie.close (this.Tie.spec (λ c κs. tt) (λ c κs. tt) (λ c κs. tt) returns returns-2 returns-3 returns-4)

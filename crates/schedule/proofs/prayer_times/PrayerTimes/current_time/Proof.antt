@@ -1,9 +1,8 @@
 use Rattle.prelude.proofs.Logic.{_≡_, refl, sym, ap, _∙_, _≤_, arith, ℤ, needs, w64}
 use Rattle.integers.proofs.Ranges.{readBack}
 use Rattle.models.specs.Numbers.{prayerOf}
-use Rattle.schedule.specs.declared.in_force.Current.the-variants.{Some}
+use Rattle.schedule.proofs.Schedule.{Some, lastOf, aheadOf, timeOf}
 use Rattle.schedule.proofs.Due as due
-use Rattle.schedule.specs.InForce.{lastOf, aheadOf, timeOf}
 use Rattle.schedule.proofs.prayer_times.PrayerTimes.current_time as this
 
 abbrev Inv-loop : this.Tie.InvT-loop

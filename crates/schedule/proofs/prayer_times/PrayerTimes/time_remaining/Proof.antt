@@ -1,7 +1,6 @@
 use Rattle.prelude.proofs.Logic.{_≡_, sym, ap, _∙_, ℤ, needs, w64}
 use Rattle.integers.proofs.Ranges.{readBack}
-use Rattle.schedule.specs.InForce.{aheadOf, hoursMinutesOf, untilOf}
-use Rattle.schedule.specs.declared.in_force.Remaining.the-variants.{In}
+use Rattle.schedule.proofs.Schedule.{aheadOf, hoursMinutesOf, untilOf, In}
 use Rattle.schedule.proofs.prayer_times.PrayerTimes.time_remaining as this
 
 returns : this.Tie.Need-returns

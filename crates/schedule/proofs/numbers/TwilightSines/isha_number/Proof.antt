@@ -1,7 +1,7 @@
 use Rattle.prelude.proofs.Logic.{sym, needs, w32, SFits}
 use Rattle.integers.proofs.Ranges.{read}
 use Rattle.schedule.specs.Numbers.{ishaNumberOf}
-use Rattle.schedule.proofs.numbers.isha_number as this
+use Rattle.schedule.proofs.numbers.TwilightSines.isha_number as this
 
 returns : this.Tie.Need-returns
 unfolding ishaNumberOf
@@ -28,7 +28,7 @@ returns-3 c =
     let i = t .args .parameters .«isha_interval» in
     let f : SFits w32 i = search needs in
     let e = rw (read w32 i f) at (c .before .before .before .before .before .if1 .left) in
-    simp (c .angle-number .ensures, c .before .new .ensures, e, sym (c .before .before .before .before .by-seventh .ensures), c .before .before .before .if2 .left)
+    simp (c .sine-number .ensures, c .before .new .ensures, e, sym (c .before .before .before .before .by-seventh .ensures), c .before .before .before .if2 .left)
 
 pub isha-number-spec : {M : Type 1} → this.Statement.statement M
 isha-number-spec = this.Tie.close (this.Tie.spec (λ c κs. tt) returns (λ c κs. tt) (λ c κs. tt) returns-2 (λ c κs. tt) (λ c κs. tt) returns-3)

@@ -13,8 +13,8 @@ at f (suc n) t k h =
     (λ (l : k < n). at f n (and-r (f n) (below f n) t) k l)
     (eq-or-lt-of-le (le-of-suc-le-suc h))
 
--- a test at each number below n, in both kinds of year
-pub tested : (f : Bool → ℕ → Bool) (n : ℕ) → T (below (f true) n && below (f false) n) → (leap : Bool) (k : ℕ) → k < n → T (f leap k)
+-- a test at each number below n, for both truth values
+pub tested : (f : Bool → ℕ → Bool) (n : ℕ) → T (below (f true) n && below (f false) n) → (b : Bool) (k : ℕ) → k < n → T (f b k)
 tested f n t true k h = at (f true) n (and-l (below (f true) n) (below (f false) n) t) k h
 tested f n t false k h = at (f false) n (and-r (below (f true) n) (below (f false) n) t) k h
 

@@ -1,0 +1,8 @@
+-- The ends of the integers that 64 bits hold, -2 ^ 63 and 2 ^ 63 - 1.
+use lib.IntN.{ℤ, pos, negsuc}
+
+abbrev pub least64 : ℤ
+least64 = negsuc 9223372036854775807
+
+abbrev pub most64 : ℤ
+most64 = pos 9223372036854775807

@@ -1,0 +1,25 @@
+-- What the functions of this crate and the crates above use of it, from one place. Nothing is added.
+pub use Rattle.models.proofs.Rows.{inside, beyond}
+unfoldable pub use Rattle.models.specs.Builder.{setIshaInterval}
+pub use Rattle.models.specs.Minutes.{noMinutes}
+unfoldable pub use Rattle.models.specs.Numbers.{methodOf, roundingNumberOf, roundingOf, shafaqNumberOf, shafaqOf, madhabNumberOf, madhabOf, ruleNumberOf, ruleOf, midnightNumberOf, midnightOf, southernNumberOf, southernOf, methodNumberOf, prayerNumberOf, prayerOf}
+pub use Rattle.models.specs.Numbers.{rules, methods, prayers, roundings, shafaqs}
+unfoldable pub use Rattle.models.specs.Presets.{preset, presetOf}
+pub use Rattle.models.specs.Presets.{offset}
+unfoldable pub use Rattle.models.specs.Settings.{minutesFor, timeAdjustmentsOf, parametersNewOf}
+pub use Rattle.models.specs.declared.high_altitude_rule.HighLatitudeRule.{HighLatitudeRule}
+pub use Rattle.models.specs.declared.high_altitude_rule.HighLatitudeRule.the-variants.{MiddleOfTheNight, SeventhOfTheNight, TwilightAngle}
+pub use Rattle.models.specs.declared.madhab.Madhab.{Madhab}
+pub use Rattle.models.specs.declared.madhab.Madhab.the-variants.{Shafi, Hanafi}
+pub use Rattle.models.specs.declared.method.Method.{Method}
+pub use Rattle.models.specs.declared.method.Method.the-variants.{MuslimWorldLeague, Egyptian, Karachi, UmmAlQura, Dubai, MoonsightingCommittee, NorthAmerica, Kuwait, Qatar, Singapore, Tehran, Turkey, Other}
+pub use Rattle.models.specs.declared.prayer.Prayer.{Prayer}
+pub use Rattle.models.specs.declared.prayer.Prayer.the-variants.{Fajr, Sunrise, Dhuhr, Asr, Maghrib, Isha, Qiyam, FajrTomorrow}
+pub use Rattle.models.specs.declared.rounding.Rounding.{Rounding}
+pub use Rattle.models.specs.declared.rounding.Rounding.the-variants.{Nearest, Up, None}
+pub use Rattle.models.specs.declared.rules.Midnight.{Midnight}
+pub use Rattle.models.specs.declared.rules.Midnight.the-variants.{Stops, Carries}
+pub use Rattle.models.specs.declared.rules.Southern.{Southern}
+pub use Rattle.models.specs.declared.rules.Southern.the-variants.{Unreduced, StartsAgain}
+pub use Rattle.models.specs.declared.shafaq.Shafaq.{Shafaq}
+pub use Rattle.models.specs.declared.shafaq.Shafaq.the-variants.{General, Ahmer, Abyad}
