@@ -1,6 +1,6 @@
 // Refusals (added): a number, 0 where nothing is refused, and a place. This is the one table of the numbers; the header's is held to it.
 ghost use mathlib.Core.Path.{_≡_};
-ghost use Rattle.refusals.specs.Refusals.{refusal, noRefusal};
+ghost use Rattle.refusals.specs.Refusals.{refusal, noRefusal, orOf};
 
 // The order has over 1,024 bytes (place 0), or a field is cut (its offset).
 pub const FIELD_CUT: u32 = 1;
@@ -77,5 +77,14 @@ impl Refusal {
             number: 0,
             place: 0,
         }
+    }
+    // This one, or where it refuses nothing the other.
+    pub fn or(self, other: Refusal) -> Refusal
+        ensures { λ r. ⌜ r ≡ orOf self other ⌝ }
+    {
+        if self.number != 0 {
+            return self;
+        }
+        other
     }
 }
