@@ -54,6 +54,7 @@ pub const JOB_UNFIT: u32 = 17;
 // A Ramadan sheet begins on another day than the 1st of Ramadan, moved by its shift: 2, the tag of the date.
 pub const NOT_FIRST_OF_RAMADAN: u32 = 18;
 
+#[repr(C)]
 pub struct Refusal {
     pub number: u32,
     pub place: u32,
