@@ -8,6 +8,8 @@ use Rattle.ops.specs.Shared.{observerOf}
 use Rattle.solar.specs.Coordinates.{positionOf}
 use Rattle.schedule.proofs.Schedule.{fajr-alone, fajrIn, dayHoursOf, rowHoursOf, hoursOf, numbersOf, seasonOf, workedOf, courseAt, row-shared}
 use Rattle.schedule.specs.Sines.{twilightSinesOf}
+use Rattle.schedule.specs.Times.{workedAt}
+use Rattle.schedule.specs.declared.hours.RowHours.{RowHours}
 use Rattle.unit.specs.declared.Coordinates.{Coordinates}
 use Rattle.row_suns.specs.declared.RowSuns.{RowSuns}
 use Rattle.row_suns.specs.RowSuns.{daySunOf, rowSunsOf, nextRowSunsOf, rowSunsHoursOf, rowSunsFajrOf}
@@ -16,6 +18,13 @@ pub rolled-hours : (date : Date) (place : Coordinates) (p : Parameters) (rules :
     → rowSunsHoursOf (place .latitude) p rules (rowSunsOf date place p rules) ≡ hoursOf (rules .midnight) (numbersOf date place p)
 unfolding rowSunsHoursOf rowSunsOf daySunOf hoursOf dayHoursOf rowHoursOf
 rolled-hours date place p rules = ap (hoursOf (rules .midnight)) (row-shared date place p)
+
+-- the day of the first row is the date's own
+pub first-row : (date : Date) (place : Coordinates) (p : Parameters) (rules : Rules) → let suns = rowSunsOf date place p rules in
+    workedOf (rowSunsHoursOf (place .latitude) p rules suns) (suns .date) (seasonOf (place .latitude) rules) p ≡ workedAt date place p rules
+unfolding rowSunsOf
+first-row date place p rules =
+    ap (λ (h : RowHours). workedOf h date (seasonOf (place .latitude) rules) p) (rolled-hours date place p rules)
 
 -- the Fajr that suns give by itself is that of the times that they give
 pub suns-fajr : (latitude : Float) (p : Parameters) (rules : Rules) (r : RowSuns)
