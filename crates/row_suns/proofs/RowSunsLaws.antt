@@ -12,11 +12,11 @@ use Rattle.schedule.specs.Times.{workedAt}
 use Rattle.schedule.specs.declared.hours.RowHours.{RowHours}
 use Rattle.unit.specs.declared.Coordinates.{Coordinates}
 use Rattle.row_suns.specs.declared.RowSuns.{RowSuns}
-use Rattle.row_suns.specs.RowSuns.{daySunOf, rowSunsOf, nextRowSunsOf, rowSunsHoursOf, rowSunsFajrOf}
+use Rattle.row_suns.specs.RowSuns.{thirdSunOf, daySunOf, rowSunsOf, nextRowSunsOf, rowSunsHoursOf, rowSunsFajrOf}
 
 pub rolled-hours : (date : Date) (place : Coordinates) (p : Parameters) (rules : Rules)
     → rowSunsHoursOf (place .latitude) p rules (rowSunsOf date place p rules) ≡ hoursOf (rules .midnight) (numbersOf date place p)
-unfolding rowSunsHoursOf rowSunsOf daySunOf hoursOf dayHoursOf rowHoursOf
+unfolding rowSunsHoursOf rowSunsOf daySunOf thirdSunOf hoursOf dayHoursOf rowHoursOf
 rolled-hours date place p rules = ap (hoursOf (rules .midnight)) (row-shared date place p)
 
 -- the day of the first row is the date's own
@@ -49,7 +49,7 @@ rolls date place p rules h l =
       sines = sines;
       «at_second» = positionOf third;
       «at_third» = positionOf fourth;
-      today = daySunOf place p rules sines (courseAt place d next second);
-      tomorrow = daySunOf place p rules sines (courseAt place next second third);
-      after = daySunOf place p rules sines (courseAt place second third fourth);
+      today = daySunOf place p rules sines (thirdSunOf rules (courseAt place d next second));
+      tomorrow = daySunOf place p rules sines (thirdSunOf rules (courseAt place next second third));
+      after = thirdSunOf rules (courseAt place second third fourth);
     }) (sym (back date h l))

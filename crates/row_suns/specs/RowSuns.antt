@@ -7,22 +7,28 @@ use Rattle.models.specs.declared.rules.Rules.{Rules}
 use Rattle.ops.specs.declared.transit.Course.{Course}
 use Rattle.ops.specs.Shared.{observerOf}
 use Rattle.solar.specs.Coordinates.{positionOf}
+use Rattle.solar.specs.Times.{solarHourOf, solarTimeOf}
 use Rattle.solar.specs.Shared.{courseOver, courseSineNumberOf, courseNumbersOf, courseAfternoonNumberOf}
 use Rattle.schedule.specs.declared.hours.RowHours.{RowHours}
 use Rattle.schedule.specs.declared.numbers.TwilightSines.{TwilightSines}
 use Rattle.schedule.specs.declared.prayer_times.FajrAlone.{FajrAlone}
 use Rattle.schedule.specs.Fajr.{fajrAloneOf}
-use Rattle.schedule.specs.Hours.{sunsOf, dayHoursOf, rowHoursOf}
+use Rattle.schedule.specs.Hours.{sunsOf, rowHoursOf}
 use Rattle.schedule.specs.Numbers.{fajrNumberOf, asrNumberOf, ishaNumberOf}
 use Rattle.schedule.specs.Sines.{twilightSinesOf}
 use Rattle.schedule.specs.Times.{seasonOf}
 use Rattle.unit.specs.declared.Coordinates.{Coordinates}
 use Rattle.row_suns.specs.declared.DaySun.{DaySun}
+use Rattle.row_suns.specs.declared.ThirdSun.{ThirdSun}
 use Rattle.row_suns.specs.declared.RowSuns.{RowSuns}
 
-unfoldable pub daySunOf : Coordinates → Parameters → Rules → TwilightSines → Course → DaySun
-daySunOf place p rules sines course =
-    record { course = course; hours = dayHoursOf (rules .midnight) (courseNumbersOf course) (fajrNumberOf p (place .latitude) (courseSineNumberOf course (sines .fajr))) }
+unfoldable pub thirdSunOf : Rules → Course → ThirdSun
+thirdSunOf rules course = record { course = course; sun = solarTimeOf (rules .midnight) (courseNumbersOf course) }
+
+unfoldable pub daySunOf : Coordinates → Parameters → Rules → TwilightSines → ThirdSun → DaySun
+daySunOf place p rules sines third =
+    let fajr = solarHourOf (rules .midnight) (fajrNumberOf p (place .latitude) (courseSineNumberOf (third .course) (sines .fajr))) in
+    record { course = third .course; hours = record { sun = third .sun; fajr = fajr } }
 
 -- a row's, from its date
 unfoldable pub rowSunsOf : Date → Coordinates → Parameters → Rules → RowSuns
@@ -39,9 +45,9 @@ rowSunsOf date place p rules =
       sines = sines;
       «at_second» = positionOf second;
       «at_third» = positionOf third;
-      today = daySunOf place p rules sines (courseOver place observer (positionOf (yesterdayOf date)) (positionOf date) (positionOf next));
-      tomorrow = daySunOf place p rules sines (courseOver place observer (positionOf date) (positionOf next) (positionOf second));
-      after = daySunOf place p rules sines (courseOver place observer (positionOf next) (positionOf second) (positionOf third));
+      today = daySunOf place p rules sines (thirdSunOf rules (courseOver place observer (positionOf (yesterdayOf date)) (positionOf date) (positionOf next)));
+      tomorrow = daySunOf place p rules sines (thirdSunOf rules (courseOver place observer (positionOf date) (positionOf next) (positionOf second)));
+      after = thirdSunOf rules (courseOver place observer (positionOf next) (positionOf second) (positionOf third));
     }
 
 -- the next row's, from this one's: one new position and one new sun
@@ -56,17 +62,17 @@ nextRowSunsOf place p rules r =
       «at_second» = r .«at_third»;
       «at_third» = positionOf fourth;
       today = r .tomorrow;
-      tomorrow = r .after;
-      after = daySunOf place p rules (r .sines) (courseOver place (r .observer) (r .«at_second») (r .«at_third») (positionOf fourth));
+      tomorrow = daySunOf place p rules (r .sines) (r .after);
+      after = thirdSunOf rules (courseOver place (r .observer) (r .«at_second») (r .«at_third») (positionOf fourth));
     }
 
 -- the sun's times that the row is worked from
 unfoldable pub rowSunsHoursOf : Float → Parameters → Rules → RowSuns → RowHours
 rowSunsHoursOf latitude p rules r =
-    rowHoursOf (rules .midnight) (r .today .hours) (r .tomorrow .hours) (r .after .hours .sun)
+    rowHoursOf (rules .midnight) (r .today .hours) (r .tomorrow .hours) (r .after .sun)
     (asrNumberOf p (courseAfternoonNumberOf (r .today .course) latitude)) (ishaNumberOf p latitude (courseSineNumberOf (r .today .course) (r .sines .isha)))
 
 -- the row's Fajr by itself
 unfoldable pub rowSunsFajrOf : Float → Parameters → Rules → RowSuns → FajrAlone
 rowSunsFajrOf latitude p rules r =
-    fajrAloneOf (sunsOf (r .today .hours .sun) (r .tomorrow .hours .sun) (r .after .hours .sun)) (r .date) (seasonOf latitude rules) p (r .today .hours .fajr)
+    fajrAloneOf (sunsOf (r .today .hours .sun) (r .tomorrow .hours .sun) (r .after .sun)) (r .date) (seasonOf latitude rules) p (r .today .hours .fajr)

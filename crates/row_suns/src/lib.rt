@@ -1,7 +1,7 @@
 // Rows that follow one another (added). The date of the next row is worked from the next sun's position alone: two of its three suns, and its Fajr's
 // angle, are the row's own. What depends on the place or on the parameters alone is worked with the first row's.
 ghost use mathlib.Core.Path.{_≡_};
-ghost use Rattle.row_suns.specs.RowSuns.{daySunOf, rowSunsOf, nextRowSunsOf, rowSunsHoursOf, rowSunsFajrOf};
+ghost use Rattle.row_suns.specs.RowSuns.{thirdSunOf, daySunOf, rowSunsOf, nextRowSunsOf, rowSunsHoursOf, rowSunsFajrOf};
 ghost use Rattle.schedule.specs.Times.{seasonOf, workedOf};
 use calendar::dates::Date;
 use models::parameters::Parameters;
@@ -20,9 +20,18 @@ use solar::coordinates::SolarCoordinates;
 use solar::coordinates::position;
 use solar::hours::hour_numbers;
 use solar::hours::sun;
+use solar::times::SolarDay;
+use solar::times::SolarTime;
+use solar::times::solar_hour;
 use unit::Coordinates;
 
-// The sun of a day over the place, and what it gives to every row that it serves.
+// The sun of a day over the place and its times: all that a row takes of the third day.
+pub struct ThirdSun {
+    pub course: Course,
+    pub sun: SolarDay,
+}
+
+// And the time of Fajr's angle, which a row takes of its own day and of the next.
 pub struct DaySun {
     pub course: Course,
     pub hours: DayHours,
@@ -39,7 +48,17 @@ pub struct RowSuns {
     pub at_third: SolarCoordinates,
     pub today: DaySun,
     pub tomorrow: DaySun,
-    pub after: DaySun,
+    pub after: ThirdSun,
+}
+
+fn third_sun(rules: Rules, course: Course) -> ThirdSun
+    ensures { λ r. ⌜ r ≡ thirdSunOf rules course ⌝ }
+{
+    let midnight = rules.midnight;
+    ThirdSun {
+        course: course,
+        sun: SolarTime::new(midnight, hour_numbers(course)),
+    }
 }
 
 fn day_sun(
@@ -47,18 +66,23 @@ fn day_sun(
     parameters: Parameters,
     rules: Rules,
     sines: TwilightSines,
-    course: Course,
+    third: ThirdSun,
 ) -> DaySun
-    ensures { λ r. ⌜ r ≡ daySunOf coordinates parameters rules sines course ⌝ }
+    ensures { λ r. ⌜ r ≡ daySunOf coordinates parameters rules sines third ⌝ }
 {
     let midnight = rules.midnight;
+    let course = third.course;
+    let sun = third.sun;
+    let fajr = solar_hour(
+        midnight,
+        sines.fajr_number(parameters, coordinates.latitude, course),
+    );
     DaySun {
         course: course,
-        hours: DayHours::new(
-            midnight,
-            hour_numbers(course),
-            sines.fajr_number(parameters, coordinates.latitude, course),
-        ),
+        hours: DayHours {
+            sun: sun,
+            fajr: fajr,
+        },
     }
 }
 
@@ -92,9 +116,21 @@ impl RowSuns {
             sines: sines,
             at_second: at_second,
             at_third: at_third,
-            today: day_sun(coordinates, parameters, rules, sines, today),
-            tomorrow: day_sun(coordinates, parameters, rules, sines, tomorrow),
-            after: day_sun(coordinates, parameters, rules, sines, after),
+            today: day_sun(
+                coordinates,
+                parameters,
+                rules,
+                sines,
+                third_sun(rules, today),
+            ),
+            tomorrow: day_sun(
+                coordinates,
+                parameters,
+                rules,
+                sines,
+                third_sun(rules, tomorrow),
+            ),
+            after: third_sun(rules, after),
         }
     }
 
@@ -108,7 +144,7 @@ impl RowSuns {
         let at_second = self.at_second;
         let at_third = self.at_third;
         let today = self.tomorrow;
-        let tomorrow = self.after;
+        let after = self.after;
         let third = self.third;
         let fourth = third.tomorrow();
         let at_fourth = position(fourth);
@@ -121,8 +157,8 @@ impl RowSuns {
             at_second: at_third,
             at_third: at_fourth,
             today: today,
-            tomorrow: tomorrow,
-            after: day_sun(coordinates, parameters, rules, sines, course),
+            tomorrow: day_sun(coordinates, parameters, rules, sines, after),
+            after: third_sun(rules, course),
         }
     }
 
@@ -141,10 +177,9 @@ impl RowSuns {
         let after = self.after;
         let first = today.hours;
         let second = tomorrow.hours;
-        let third = after.hours;
         let sun = first.sun;
         let next = second.sun;
-        let last = third.sun;
+        let last = after.sun;
         let hour = first.fajr;
         Suns::new(sun, next, last).fajr(date, season, parameters, hour)
     }
@@ -165,8 +200,7 @@ impl RowSuns {
         let after = self.after;
         let course = today.course;
         let sines = self.sines;
-        let last = after.hours;
-        let sun = last.sun;
+        let sun = after.sun;
         let hours = RowHours::of_days(
             midnight,
             today.hours,

@@ -4,10 +4,31 @@ use Rattle.row_suns.proofs.RowSuns.new as this
 returns : this.Tie.Need-returns
 unfolding rowSunsOf
 returns c =
-    let day = c .before .before .before in
-    let positions = day .before .before .before in
+    let days = c .before .before .before .before .before in
+    let positions = days .before .before .before in
     let dates = positions .before .before .before .before .before .before in
-    simp (c .day-sun3 .ensures, c .before .day-sun2 .ensures, c .before .before .day-sun .ensures, day .sun3 .ensures, day .before .sun2 .ensures, day .before .before .sun .ensures, positions .position5 .ensures, positions .before .yesterday .ensures, positions .before .before .position4 .ensures, positions .before .before .before .position3 .ensures, positions .before .before .before .before .position2 .ensures, positions .before .before .before .before .before .position .ensures, dates .tomorrow3 .ensures, dates .before .tomorrow2 .ensures, dates .before .before .tomorrow .ensures, dates .before .before .before .new2 .ensures, dates .before .before .before .before .new .ensures)
+    let first = dates .before .before .before in
+    simp (
+      c .third-sun3 .ensures,
+      c .before .day-sun2 .ensures,
+      c .before .before .third-sun2 .ensures,
+      c .before .before .before .day-sun .ensures,
+      c .before .before .before .before .third-sun .ensures,
+      days .sun3 .ensures,
+      days .before .sun2 .ensures,
+      days .before .before .sun .ensures,
+      positions .position5 .ensures,
+      positions .before .yesterday .ensures,
+      positions .before .before .position4 .ensures,
+      positions .before .before .before .position3 .ensures,
+      positions .before .before .before .before .position2 .ensures,
+      positions .before .before .before .before .before .position .ensures,
+      dates .tomorrow3 .ensures,
+      dates .before .tomorrow2 .ensures,
+      dates .before .before .tomorrow .ensures,
+      first .new2 .ensures,
+      first .before .new .ensures,
+    )
 
 pub new-spec : {M : Type 1} → this.Statement.statement M
-new-spec = this.Tie.close (this.Tie.spec (λ c κs. tt) (λ c κs. tt) (λ c κs. tt) (λ c κs. tt) (λ c κs. tt) (λ c κs. tt) (λ c κs. tt) (λ c κs. tt) (λ c κs. tt) (λ c κs. tt) (λ c κs. tt) (λ c κs. tt) (λ c κs. tt) (λ c κs. tt) (λ c κs. tt) (λ c κs. tt) (λ c κs. tt) returns)
+new-spec = this.Tie.close (this.Tie.spec (λ c κs. tt) (λ c κs. tt) (λ c κs. tt) (λ c κs. tt) (λ c κs. tt) (λ c κs. tt) (λ c κs. tt) (λ c κs. tt) (λ c κs. tt) (λ c κs. tt) (λ c κs. tt) (λ c κs. tt) (λ c κs. tt) (λ c κs. tt) (λ c κs. tt) (λ c κs. tt) (λ c κs. tt) (λ c κs. tt) (λ c κs. tt) returns)
