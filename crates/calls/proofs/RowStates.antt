@@ -5,9 +5,9 @@ use Rattle.calendar.specs.declared.dates.Date.{Date}
 use Rattle.order.specs.Accepted.{Accepted}
 use Rattle.order.proofs.RowDates.{row-year}
 use Rattle.order.specs.declared.reading.Order.{Order}
-use Rattle.row_suns.specs.RowSuns.{rowSunsOf, nextRowSunsOf, rowSunsHoursOf}
-use Rattle.row_suns.proofs.RowSunsLaws.{first-row, rolls}
-use Rattle.row_suns.specs.declared.RowSuns.{RowSuns}
+use Rattle.schedule.specs.RowSuns.{rowSunsOf, nextRowSunsOf, rowSunsHoursOf}
+use Rattle.schedule.proofs.RowSunsLaws.{first-row, rolls}
+use Rattle.schedule.specs.declared.rolling.RowSuns.{RowSuns}
 use Rattle.schedule.specs.Times.{seasonOf, workedOf}
 use Rattle.schedule.specs.declared.prayer_times.Worked.{Worked}
 use Rattle.calls.specs.Calls.{workRowOf}

@@ -7,8 +7,8 @@ use order::reading::Reading;
 use order::reading::read;
 use refusals::OUT_OF_RANGE;
 use refusals::Refusal;
-use row_suns::RowSuns;
 use schedule::prayer_times::Worked;
+use schedule::rolling::RowSuns;
 
 // The tag of an order's rows: the place of a row that it lacks.
 const ROWS_TAG: u32 = 3;

@@ -27,6 +27,7 @@ use schedule::in_force::Instant;
 use schedule::in_force::Remaining;
 use schedule::prayer_times::PrayerTimes;
 use schedule::prayer_times::Worked;
+use schedule::rolling::RowSuns;
 use solar::hours::HourNumbers;
 use unit::Coordinates;
 
@@ -249,8 +250,14 @@ pub extern "C" fn probe_row(
 {
     let date = Date::new(year, month, day);
     let parameters = parameters(settings);
-    let numbers = RowNumbers::new(date, Coordinates::new(latitude, longitude), parameters);
-    answered(PrayerTimes::new(numbers, date, latitude, parameters, rules(chosen)))
+    let chosen = rules(chosen);
+    let suns = RowSuns::new(
+        date,
+        Coordinates::new(latitude, longitude),
+        parameters,
+        chosen,
+    );
+    answered(suns.work(latitude, parameters, chosen))
 }
 
 fn instant(seconds: i64, nanoseconds: u32) -> Instant

@@ -1,6 +1,6 @@
 -- `calls::day::work_date` meets its contract: the first row's suns give the date's own day.
 use Rattle.prelude.proofs.Logic.{_∙_}
-use Rattle.row_suns.proofs.RowSunsLaws.{first-row}
+use Rattle.schedule.proofs.RowSunsLaws.{first-row}
 use Rattle.calls.proofs.day.work_date as this
 
 returns : this.Tie.Need-returns

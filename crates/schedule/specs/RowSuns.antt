@@ -9,18 +9,18 @@ use Rattle.ops.specs.Shared.{observerOf}
 use Rattle.solar.specs.Coordinates.{positionOf}
 use Rattle.solar.specs.Times.{solarHourOf, solarTimeOf}
 use Rattle.solar.specs.Shared.{courseOver, courseSineNumberOf, courseNumbersOf, courseAfternoonNumberOf}
 use Rattle.schedule.specs.declared.hours.RowHours.{RowHours}
 use Rattle.schedule.specs.declared.numbers.TwilightSines.{TwilightSines}
 use Rattle.schedule.specs.declared.prayer_times.FajrAlone.{FajrAlone}
 use Rattle.schedule.specs.Fajr.{fajrAloneOf}
 use Rattle.schedule.specs.Hours.{sunsOf, rowHoursOf}
 use Rattle.schedule.specs.Numbers.{fajrNumberOf, asrNumberOf, ishaNumberOf}
 use Rattle.schedule.specs.Sines.{twilightSinesOf}
 use Rattle.schedule.specs.Times.{seasonOf}
 use Rattle.unit.specs.declared.Coordinates.{Coordinates}
-use Rattle.row_suns.specs.declared.DaySun.{DaySun}
-use Rattle.row_suns.specs.declared.ThirdSun.{ThirdSun}
-use Rattle.row_suns.specs.declared.RowSuns.{RowSuns}
+use Rattle.schedule.specs.declared.rolling.DaySun.{DaySun}
+use Rattle.schedule.specs.declared.rolling.ThirdSun.{ThirdSun}
+use Rattle.schedule.specs.declared.rolling.RowSuns.{RowSuns}
 
 unfoldable pub thirdSunOf : Rules → Course → ThirdSun
 thirdSunOf rules course = record { course = course; sun = solarTimeOf (rules .midnight) (courseNumbersOf course) }

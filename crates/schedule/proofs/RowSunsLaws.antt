@@ -6,13 +6,13 @@ use Rattle.calendar.specs.declared.dates.Date.{Date}
 use Rattle.models.specs.declared.{parameters.Parameters.Parameters, rules.Rules.Rules}
 use Rattle.ops.specs.Shared.{observerOf}
 use Rattle.solar.specs.Coordinates.{positionOf}
 use Rattle.schedule.proofs.Schedule.{fajr-alone, fajrIn, dayHoursOf, rowHoursOf, hoursOf, numbersOf, seasonOf, workedOf, courseAt, row-shared}
 use Rattle.schedule.specs.Sines.{twilightSinesOf}
 use Rattle.schedule.specs.Times.{workedAt}
 use Rattle.schedule.specs.declared.hours.RowHours.{RowHours}
 use Rattle.unit.specs.declared.Coordinates.{Coordinates}
-use Rattle.row_suns.specs.declared.RowSuns.{RowSuns}
-use Rattle.row_suns.specs.RowSuns.{thirdSunOf, daySunOf, rowSunsOf, nextRowSunsOf, rowSunsHoursOf, rowSunsFajrOf}
+use Rattle.schedule.specs.declared.rolling.RowSuns.{RowSuns}
+use Rattle.schedule.specs.RowSuns.{thirdSunOf, daySunOf, rowSunsOf, nextRowSunsOf, rowSunsHoursOf, rowSunsFajrOf}
 
 pub rolled-hours : (date : Date) (place : Coordinates) (p : Parameters) (rules : Rules)
     → rowSunsHoursOf (place .latitude) p rules (rowSunsOf date place p rules) ≡ hoursOf (rules .midnight) (numbersOf date place p)

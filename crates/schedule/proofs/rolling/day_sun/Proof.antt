@@ -1,5 +1,5 @@
-use Rattle.row_suns.specs.RowSuns.{daySunOf}
-use Rattle.row_suns.proofs.day_sun as this
+use Rattle.schedule.specs.RowSuns.{daySunOf}
+use Rattle.schedule.proofs.rolling.day_sun as this
 
 pub day-sun-spec : {M : Type 1} → this.Statement.statement M
 unfolding daySunOf

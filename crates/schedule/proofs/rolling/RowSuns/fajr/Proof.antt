@@ -1,5 +1,5 @@
-use Rattle.row_suns.specs.RowSuns.{rowSunsFajrOf}
-use Rattle.row_suns.proofs.RowSuns.fajr as this
+use Rattle.schedule.specs.RowSuns.{rowSunsFajrOf}
+use Rattle.schedule.proofs.rolling.RowSuns.fajr as this
 
 returns : this.Tie.Need-returns
 unfolding rowSunsFajrOf

@@ -1,5 +1,5 @@
-use Rattle.row_suns.specs.RowSuns.{rowSunsHoursOf}
-use Rattle.row_suns.proofs.RowSuns.work as this
+use Rattle.schedule.specs.RowSuns.{rowSunsHoursOf}
+use Rattle.schedule.proofs.rolling.RowSuns.work as this
 
 returns : this.Tie.Need-returns
 unfolding rowSunsHoursOf

@@ -1,5 +1,5 @@
-use Rattle.row_suns.specs.RowSuns.{nextRowSunsOf}
-use Rattle.row_suns.proofs.RowSuns.next as this
+use Rattle.schedule.specs.RowSuns.{nextRowSunsOf}
+use Rattle.schedule.proofs.rolling.RowSuns.next as this
 
 pub next-spec : {M : Type 1} → this.Statement.statement M
 unfolding nextRowSunsOf

@@ -1,21 +1,21 @@
 // Rows that follow one another (added). The date of the next row is worked from the next sun's position alone: two of its three suns, and its Fajr's
 // angle, are the row's own. What depends on the place or on the parameters alone is worked with the first row's.
 ghost use mathlib.Core.Path.{_≡_};
-ghost use Rattle.row_suns.specs.RowSuns.{thirdSunOf, daySunOf, rowSunsOf, nextRowSunsOf, rowSunsHoursOf, rowSunsFajrOf};
+ghost use Rattle.schedule.specs.RowSuns.{thirdSunOf, daySunOf, rowSunsOf, nextRowSunsOf, rowSunsHoursOf, rowSunsFajrOf};
 ghost use Rattle.schedule.specs.Times.{seasonOf, workedOf};
+use super::hours::DayHours;
+use super::hours::RowHours;
+use super::hours::Suns;
+use super::numbers::TwilightSines;
+use super::numbers::asr_number;
+use super::prayer_times::FajrAlone;
+use super::prayer_times::Worked;
 use calendar::dates::Date;
 use models::parameters::Parameters;
 use models::rules::Rules;
 use models::rules::Season;
 use ops::transit::Course;
 use ops::transit::Observer;
-use schedule::hours::DayHours;
-use schedule::hours::RowHours;
-use schedule::hours::Suns;
-use schedule::numbers::TwilightSines;
-use schedule::numbers::asr_number;
-use schedule::prayer_times::FajrAlone;
-use schedule::prayer_times::Worked;
 use solar::coordinates::SolarCoordinates;
 use solar::coordinates::position;
 use solar::hours::hour_numbers;

@@ -1,5 +1,5 @@
-use Rattle.row_suns.specs.RowSuns.{thirdSunOf}
-use Rattle.row_suns.proofs.third_sun as this
+use Rattle.schedule.specs.RowSuns.{thirdSunOf}
+use Rattle.schedule.proofs.rolling.third_sun as this
 
 pub third-sun-spec : {M : Type 1} → this.Statement.statement M
 unfolding thirdSunOf

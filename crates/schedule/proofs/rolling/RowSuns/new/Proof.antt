@@ -1,5 +1,5 @@
-use Rattle.row_suns.specs.RowSuns.{rowSunsOf}
-use Rattle.row_suns.proofs.RowSuns.new as this
+use Rattle.schedule.specs.RowSuns.{rowSunsOf}
+use Rattle.schedule.proofs.rolling.RowSuns.new as this
 
 returns : this.Tie.Need-returns
 unfolding rowSunsOf
