@@ -12,6 +12,7 @@ use super::months::month_days;
 use super::months::month_of;
 use super::years::is_leap_year;
 
+#[repr(C)]
 pub struct Date {
     pub year: u32,
     pub month: u32,

@@ -5,11 +5,10 @@ use Rattle.calendar.specs.declared.dates.Date.{Date}
 use Rattle.order.specs.Accepted.{Accepted}
 use Rattle.order.proofs.RowDates.{row-year}
 use Rattle.order.specs.declared.reading.Order.{Order}
-use Rattle.row_suns.specs.RowSuns.{rowSunsOf, nextRowSunsOf, rowSunsHoursOf}
-use Rattle.row_suns.proofs.RowSunsLaws.{rolled-hours, rolls}
-use Rattle.row_suns.specs.declared.RowSuns.{RowSuns}
+use Rattle.schedule.specs.RowSuns.{rowSunsOf, nextRowSunsOf, rowSunsHoursOf}
+use Rattle.schedule.proofs.RowSunsLaws.{first-row, rolls}
+use Rattle.schedule.specs.declared.rolling.RowSuns.{RowSuns}
 use Rattle.schedule.specs.Times.{seasonOf, workedOf}
-use Rattle.schedule.specs.declared.hours.RowHours.{RowHours}
 use Rattle.schedule.specs.declared.prayer_times.Worked.{Worked}
 use Rattle.calls.specs.Calls.{workRowOf}
 
@@ -42,8 +41,5 @@ module _ (o : Order) (a : Accepted o) where
         ∙ ap (λ (x : Date). rowSunsOf x (o .coordinates) (o .parameters) (o .rules)) (sym (row-tomorrow d there k (omega arith)))
 
     pub state-worked : workedBySuns o (stateOf o k) ≡ workRowOf o k
-    unfolding workRowOf rowSunsOf
-    state-worked =
-        simp (lt-ltb k (o .rows) h)
-        (ap (λ (x : RowHours). workedOf x (rowDateOf (o .date) k) (seasonOf (o .coordinates .latitude) (o .rules)) (o .parameters))
-        (rolled-hours (rowDateOf (o .date) k) (o .coordinates) (o .parameters) (o .rules)))
+    unfolding workRowOf
+    state-worked = simp (lt-ltb k (o .rows) h) (first-row (rowDateOf (o .date) k) (o .coordinates) (o .parameters) (o .rules))

@@ -7,22 +7,20 @@ use order::reading::Reading;
 use order::reading::read;
 use refusals::OUT_OF_RANGE;
 use refusals::Refusal;
-use schedule::hours::RowNumbers;
-use schedule::prayer_times::PrayerTimes;
 use schedule::prayer_times::Worked;
+use schedule::rolling::RowSuns;
 
 // The tag of an order's rows: the place of a row that it lacks.
 const ROWS_TAG: u32 = 3;
 
-// A date by the order's place, parameters and rules.
+// A date by the order's place, parameters and rules: the first row of a run of rows.
 pub fn work_date(order: Order, date: Date) -> Worked
     ensures { λ r. ⌜ r ≡ workDateOf order date ⌝ }
 {
     let coordinates = order.coordinates;
     let parameters = order.parameters;
     let rules = order.rules;
-    let numbers = RowNumbers::new(date, coordinates, parameters);
-    PrayerTimes::new(numbers, date, coordinates.latitude, parameters, rules)
+    RowSuns::new(date, coordinates, parameters, rules).work(coordinates.latitude, parameters, rules)
 }
 
 pub fn lacks_row() -> Refusal

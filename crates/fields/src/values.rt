@@ -6,6 +6,7 @@ use super::tags::TAGS;
 use refusals::Refusal;
 
 // Where a value stands in its order. Both are 0 where there is none: no value begins before 3.
+#[repr(C)]
 pub struct Part {
     pub at: u32,
     pub length: u32,

@@ -10,11 +10,11 @@ use Rattle.order.proofs.ReadingLaws.{read-town}
 use Rattle.katchidul.specs.Exports.{orderRead, orderIn, orderAnswerOf}
 
 module _ (s : List ℕ) (order : Order) (e : readingOf s ≡ Read order) where
-  pub town-at : orderAnswerOf s .«town_at» ≡ offsetOf s 1 + 3
+  pub town-at : orderAnswerOf s .town .at ≡ offsetOf s 1 + 3
   unfolding orderAnswerOf orderIn orderRead
   town-at = rw e (read-town s order e .begins)
 
-  pub town-length : orderAnswerOf s .«town_length» ≡ length (townOf s)
+  pub town-length : orderAnswerOf s .town .length ≡ length (townOf s)
   unfolding orderAnswerOf orderIn orderRead
   town-length = rw e (read-town s order e .long)
 

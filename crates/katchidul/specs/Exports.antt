@@ -6,7 +6,10 @@ use lib.IntN.{pos}
 use Rattle.integers.specs.Parts.{P}
 use Rattle.float64.specs.Ops.{dec}
 use Rattle.models.specs.Numbers.{methodNumberOf, madhabNumberOf, ruleNumberOf, roundingNumberOf, shafaqNumberOf, midnightNumberOf, southernNumberOf, prayerNumberOf}
-use Rattle.models.specs.declared.adjustments.TimeAdjustment.{TimeAdjustment}
+use Rattle.calendar.specs.Gregorian.{dateOf}
+use Rattle.unit.specs.Unit.{coordinatesOf}
+use Rattle.models.specs.Minutes.{noMinutes}
+use Rattle.refusals.specs.Refusals.{noRefusal}
 use Rattle.refusals.specs.declared.Refusal.{Refusal}
 use Rattle.order.specs.declared.reading.Order.{Order}
 use Rattle.order.specs.declared.reading.Reading.{Reading}
@@ -22,22 +25,13 @@ use Rattle.calls.specs.declared.in_force.NextPrayer.{NextPrayer}
 use Rattle.calls.specs.declared.in_force.NextPrayer.the-variants as next
 use Rattle.calls.specs.declared.in_force.TimeUntil.{TimeUntil}
 use Rattle.calls.specs.declared.in_force.TimeUntil.the-variants as until
-use Rattle.katchidul.specs.declared.read_order.KatchidulMinutes.{KatchidulMinutes}
 use Rattle.katchidul.specs.declared.read_order.KatchidulChoices.{KatchidulChoices}
 use Rattle.katchidul.specs.declared.read_order.KatchidulOrder.{KatchidulOrder}
-use Rattle.katchidul.specs.declared.work_day.KatchidulTimes.{KatchidulTimes}
 use Rattle.katchidul.specs.declared.work_day.KatchidulDay.{KatchidulDay}
 use Rattle.katchidul.specs.declared.prayer_at.KatchidulPrayer.{KatchidulPrayer}
 use Rattle.katchidul.specs.declared.remaining_at.KatchidulRemaining.{KatchidulRemaining}
-use Rattle.katchidul.specs.declared.write_row.KatchidulReply.{KatchidulReply}
 
 -- ---- an order
-abbrev pub minutesAnswerOf : TimeAdjustment → KatchidulMinutes
-minutesAnswerOf m = record { fajr = m .fajr; sunrise = m .sunrise; dhuhr = m .dhuhr; asr = m .asr; maghrib = m .maghrib; isha = m .isha }
-
-abbrev pub noMinutesAnswer : KatchidulMinutes
-noMinutesAnswer = record { fajr = pos 0; sunrise = pos 0; dhuhr = pos 0; asr = pos 0; maghrib = pos 0; isha = pos 0 }
-
 -- 1 where tag 20 stands
 unfoldable pub setNumberOf : Bool → ℕ
 setNumberOf set = cond set 1 0
@@ -53,16 +47,11 @@ unfoldable pub orderRead : Order → KatchidulOrder
 orderRead o =
     let p = o .parameters in
     record {
-      number = 0;
-      place = 0;
-      «town_at» = o .town .at;
-      «town_length» = o .town .length;
-      year = o .date .year;
-      month = o .date .month;
-      day = o .date .day;
+      refusal = noRefusal;
+      town = o .town;
+      date = o .date;
       rows = o .rows;
-      latitude = o .coordinates .latitude;
-      longitude = o .coordinates .longitude;
+      coordinates = o .coordinates;
       «fajr_angle» = p .«fajr_angle»;
       «isha_angle» = p .«isha_angle»;
       method = methodNumberOf (p .method);
@@ -71,23 +60,18 @@ orderRead o =
       rounding = roundingNumberOf (p .rounding);
       shafaq = shafaqNumberOf (p .shafaq);
       «isha_interval» = P (p .«isha_interval»);
-      minutes = minutesAnswerOf (p .adjustments);
+      minutes = p .adjustments;
       choices = choicesAnswerOf o;
     }
 
 unfoldable pub orderRefused : Refusal → KatchidulOrder
 orderRefused r =
     record {
-      number = r .number;
-      place = r .place;
-      «town_at» = 0;
-      «town_length» = 0;
-      year = 0;
-      month = 0;
-      day = 0;
+      refusal = r;
+      town = record { at = 0; length = 0 };
+      date = dateOf 0 0 0;
       rows = 0;
-      latitude = dec 0 0;
-      longitude = dec 0 0;
+      coordinates = coordinatesOf (dec 0 0) (dec 0 0);
       «fajr_angle» = dec 0 0;
       «isha_angle» = dec 0 0;
       method = 0;
@@ -96,7 +80,7 @@ orderRefused r =
       rounding = 0;
       shafaq = 0;
       «isha_interval» = 0;
-      minutes = noMinutesAnswer;
+      minutes = noMinutes;
       choices = noChoicesAnswer;
     }
 
@@ -108,30 +92,23 @@ unfoldable pub orderAnswerOf : List ℕ → KatchidulOrder
 orderAnswerOf s = orderIn (readingOf s)
 
 -- ---- a day
-abbrev pub timesAnswerOf : PrayerTimes → KatchidulTimes
-timesAnswerOf t = record { fajr = t .fajr; sunrise = t .sunrise; dhuhr = t .dhuhr; asr = t .asr; maghrib = t .maghrib; isha = t .isha; middle = t .«middle_of_the_night»; qiyam = t .qiyam; tomorrow = t .«fajr_tomorrow» }
-
-abbrev pub noTimesAnswer : KatchidulTimes
-noTimesAnswer = record { fajr = pos 0; sunrise = pos 0; dhuhr = pos 0; asr = pos 0; maghrib = pos 0; isha = pos 0; middle = pos 0; qiyam = pos 0; tomorrow = pos 0 }
+abbrev pub noTimes : PrayerTimes
+noTimes = record { fajr = pos 0; sunrise = pos 0; dhuhr = pos 0; asr = pos 0; maghrib = pos 0; isha = pos 0; «middle_of_the_night» = pos 0; qiyam = pos 0; «fajr_tomorrow» = pos 0 }
 
 unfoldable pub dayAnswerOf : Worked → KatchidulDay
-dayAnswerOf (worked.Times t) = record { number = 0; place = 0; times = timesAnswerOf t }
-dayAnswerOf (worked.Refused r) = record { number = r .number; place = r .place; times = noTimesAnswer }
+dayAnswerOf (worked.Times t) = record { refusal = noRefusal; times = t }
+dayAnswerOf (worked.Refused r) = record { refusal = r; times = noTimes }
 
 -- ---- a prayer: 0 is none, which is an answer
 unfoldable pub prayerAnswerOf : InForce → KatchidulPrayer
-prayerAnswerOf (force.Prayer p) = record { number = 0; place = 0; prayer = currentNumberOf p }
-prayerAnswerOf (force.Refused r) = record { number = r .number; place = r .place; prayer = 0 }
+prayerAnswerOf (force.Prayer p) = record { refusal = noRefusal; prayer = currentNumberOf p }
+prayerAnswerOf (force.Refused r) = record { refusal = r; prayer = 0 }
 
 unfoldable pub nextAnswerOf : NextPrayer → KatchidulPrayer
-nextAnswerOf (next.Prayer p) = record { number = 0; place = 0; prayer = prayerNumberOf p }
-nextAnswerOf (next.Refused r) = record { number = r .number; place = r .place; prayer = 0 }
+nextAnswerOf (next.Prayer p) = record { refusal = noRefusal; prayer = prayerNumberOf p }
+nextAnswerOf (next.Refused r) = record { refusal = r; prayer = 0 }
 
 -- ---- the time until the next one
 unfoldable pub remainingAnswerOf : TimeUntil → KatchidulRemaining
-remainingAnswerOf (until.Time t) = record { number = 0; place = 0; hours = t .hours; minutes = t .minutes }
-remainingAnswerOf (until.Refused r) = record { number = r .number; place = r .place; hours = 0; minutes = 0 }
-
--- ---- a row in a lent buffer: number and place are all that it answers
-unfoldable pub replyOf : Refusal → KatchidulReply
-replyOf r = record { number = r .number; place = r .place }
+remainingAnswerOf (until.Time t) = record { refusal = noRefusal; time = t }
+remainingAnswerOf (until.Refused r) = record { refusal = r; time = record { hours = 0; minutes = 0 } }

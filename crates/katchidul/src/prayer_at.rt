@@ -7,13 +7,13 @@ use calls::in_force::InForce;
 use calls::in_force::NextPrayer;
 use calls::in_force::next_at;
 use calls::in_force::prayer_at;
+use refusals::Refusal;
 use schedule::in_force::Current;
 use schedule::in_force::Instant;
 
 #[repr(C)]
 pub struct KatchidulPrayer {
-    pub number: u32,
-    pub place: u32,
+    pub refusal: Refusal,
     pub prayer: u32,
 }
 
@@ -40,13 +40,11 @@ fn prayer_answer(answer: InForce) -> KatchidulPrayer
 {
     match answer {
         InForce::Prayer(current) => KatchidulPrayer {
-            number: 0,
-            place: 0,
+            refusal: Refusal::none(),
             prayer: current_number(current),
         },
         InForce::Refused(refusal) => KatchidulPrayer {
-            number: refusal.number,
-            place: refusal.place,
+            refusal: refusal,
             prayer: 0,
         },
     }
@@ -69,13 +67,11 @@ fn next_answer(answer: NextPrayer) -> KatchidulPrayer
 {
     match answer {
         NextPrayer::Prayer(prayer) => KatchidulPrayer {
-            number: 0,
-            place: 0,
+            refusal: Refusal::none(),
             prayer: prayer.number(),
         },
         NextPrayer::Refused(refusal) => KatchidulPrayer {
-            number: refusal.number,
-            place: refusal.place,
+            refusal: refusal,
             prayer: 0,
         },
     }

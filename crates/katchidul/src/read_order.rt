@@ -1,23 +1,15 @@
 // Reading an order.
 ghost use mathlib.Core.Path.{_≡_};
 ghost use Rattle.integers.specs.Parts.{P};
-ghost use Rattle.katchidul.specs.Exports.{minutesAnswerOf, noMinutesAnswer, setNumberOf, choicesAnswerOf, noChoicesAnswer, orderRead, orderRefused, orderAnswerOf};
+ghost use Rattle.katchidul.specs.Exports.{setNumberOf, choicesAnswerOf, noChoicesAnswer, orderRead, orderRefused, orderAnswerOf};
+use calendar::dates::Date;
+use fields::values::Part;
 use models::adjustments::TimeAdjustment;
 use order::reading::Order;
 use order::reading::Reading;
 use order::reading::read;
 use refusals::Refusal;
-
-// In C an array of six.
-#[repr(C)]
-pub struct KatchidulMinutes {
-    pub fajr: i32,
-    pub sunrise: i32,
-    pub dhuhr: i32,
-    pub asr: i32,
-    pub maghrib: i32,
-    pub isha: i32,
-}
+use unit::Coordinates;
 
 // What tags 15 to 17 and 20 choose; in C six fields of the order.
 #[repr(C)]
@@ -32,16 +24,11 @@ pub struct KatchidulChoices {
 
 #[repr(C)]
 pub struct KatchidulOrder {
-    pub number: u32,
-    pub place: u32,
-    pub town_at: u32,
-    pub town_length: u32,
-    pub year: u32,
-    pub month: u32,
-    pub day: u32,
+    pub refusal: Refusal,
+    pub town: Part,
+    pub date: Date,
     pub rows: u32,
-    pub latitude: f64,
-    pub longitude: f64,
+    pub coordinates: Coordinates,
     pub fajr_angle: f64,
     pub isha_angle: f64,
     pub method: u32,
@@ -50,7 +37,8 @@ pub struct KatchidulOrder {
     pub rounding: u32,
     pub shafaq: u32,
     pub isha_interval: u32,
-    pub minutes: KatchidulMinutes,
+    // In C an array of six.
+    pub minutes: TimeAdjustment,
     pub choices: KatchidulChoices,
 }
 
@@ -62,32 +50,6 @@ fn interval(minutes: i32) -> u32
         return 0;
     }
     minutes as u32
-}
-
-fn minutes_read(m: TimeAdjustment) -> KatchidulMinutes
-    ensures { λ r. ⌜ r ≡ minutesAnswerOf m ⌝ }
-{
-    KatchidulMinutes {
-        fajr: m.fajr,
-        sunrise: m.sunrise,
-        dhuhr: m.dhuhr,
-        asr: m.asr,
-        maghrib: m.maghrib,
-        isha: m.isha,
-    }
-}
-
-fn no_minutes() -> KatchidulMinutes
-    ensures { λ r. ⌜ r ≡ noMinutesAnswer ⌝ }
-{
-    KatchidulMinutes {
-        fajr: 0,
-        sunrise: 0,
-        dhuhr: 0,
-        asr: 0,
-        maghrib: 0,
-        isha: 0,
-    }
 }
 
 fn is_set(set: bool) -> u32
@@ -143,16 +105,11 @@ fn order_read(order: Order) -> KatchidulOrder
     let shafaq = parameters.shafaq;
     let own = parameters.adjustments;
     KatchidulOrder {
-        number: 0,
-        place: 0,
-        town_at: town.at,
-        town_length: town.length,
-        year: date.year,
-        month: date.month,
-        day: date.day,
+        refusal: Refusal::none(),
+        town: town,
+        date: date,
         rows: order.rows,
-        latitude: coordinates.latitude,
-        longitude: coordinates.longitude,
+        coordinates: coordinates,
         fajr_angle: parameters.fajr_angle,
         isha_angle: parameters.isha_angle,
         method: method.number(),
@@ -161,7 +118,7 @@ fn order_read(order: Order) -> KatchidulOrder
         rounding: rounding.number(),
         shafaq: shafaq.number(),
         isha_interval: interval(parameters.isha_interval),
-        minutes: minutes_read(own),
+        minutes: own,
         choices: choices_read(order),
     }
 }
@@ -170,16 +127,11 @@ fn order_refused(refusal: Refusal) -> KatchidulOrder
     ensures { λ r. ⌜ r ≡ orderRefused refusal ⌝ }
 {
     KatchidulOrder {
-        number: refusal.number,
-        place: refusal.place,
-        town_at: 0,
-        town_length: 0,
-        year: 0,
-        month: 0,
-        day: 0,
+        refusal: refusal,
+        town: Part { at: 0, length: 0 },
+        date: Date::new(0, 0, 0),
         rows: 0,
-        latitude: 0.0,
-        longitude: 0.0,
+        coordinates: Coordinates::new(0.0, 0.0),
         fajr_angle: 0.0,
         isha_angle: 0.0,
         method: 0,
@@ -188,7 +140,7 @@ fn order_refused(refusal: Refusal) -> KatchidulOrder
         rounding: 0,
         shafaq: 0,
         isha_interval: 0,
-        minutes: no_minutes(),
+        minutes: TimeAdjustment::NONE,
         choices: no_choices(),
     }
 }

@@ -5,13 +5,13 @@ ghost use Rattle.katchidul.specs.Exports.{remainingAnswerOf};
 use super::prayer_at::instant;
 use calls::in_force::TimeUntil;
 use calls::in_force::remaining_at;
+use refusals::Refusal;
+use schedule::in_force::HoursMinutes;
 
 #[repr(C)]
 pub struct KatchidulRemaining {
-    pub number: u32,
-    pub place: u32,
-    pub hours: u32,
-    pub minutes: u32,
+    pub refusal: Refusal,
+    pub time: HoursMinutes,
 }
 
 fn remaining_answer(answer: TimeUntil) -> KatchidulRemaining
@@ -19,16 +19,15 @@ fn remaining_answer(answer: TimeUntil) -> KatchidulRemaining
 {
     match answer {
         TimeUntil::Time(time) => KatchidulRemaining {
-            number: 0,
-            place: 0,
-            hours: time.hours,
-            minutes: time.minutes,
+            refusal: Refusal::none(),
+            time: time,
         },
         TimeUntil::Refused(refusal) => KatchidulRemaining {
-            number: refusal.number,
-            place: refusal.place,
-            hours: 0,
-            minutes: 0,
+            refusal: refusal,
+            time: HoursMinutes {
+                hours: 0,
+                minutes: 0,
+            },
         },
     }
 }

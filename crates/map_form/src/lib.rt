@@ -17,6 +17,7 @@ const MOST_LONGITUDE: u64 = 180;
 const IN_DEGREE: u64 = 360000;
 
 // The sign 1 is south or west. A number of any size may stand in each part: `latitude_fits` and `longitude_fits` say which are allowed.
+#[repr(C)]
 pub struct MapForm {
     pub sign: u32,
     pub degrees: u32,

@@ -17,6 +17,7 @@ use float64::words::is_negative;
 use refusals::OUT_OF_RANGE;
 use refusals::Refusal;
 
+#[repr(C)]
 pub struct Written {
     pub refusal: Refusal,
     pub form: MapForm,

@@ -2,6 +2,7 @@
 ghost use mathlib.Core.Path.{_≡_};
 ghost use Rattle.models.specs.Minutes.{sixMinutesOf, noMinutes, builderOf, builtOf};
 
+#[repr(C)]
 pub struct TimeAdjustment {
     pub fajr: i32,
     pub sunrise: i32,

@@ -1,11 +1,29 @@
 -- What both readers answer, from the fields as they were checked and collected. Assumes nothing.
-use Rattle.prelude.proofs.Logic.{_≡_, sym, ap, _∙_, List, _∷_, ℕ, eq-eqb, ne-eqb}
+use Rattle.prelude.proofs.Logic.{_≡_, sym, ap, _∙_, List, [], _∷_, ℕ, eqb, eq-eqb, ne-eqb, cases}
 use Rattle.fields.specs.declared.values.Checked.{Checked}
 use Rattle.fields.specs.Fields.{checkOf}
 use Rattle.fields.specs.Values.{Values, valuesOf, valuesIn, checkedOf}
 use Rattle.fields.proofs.Collecting.{checked-refusal, checked-values}
-use Rattle.order.specs.declared.reading.Reading.the-variants.{Refused}
+use Rattle.refusals.specs.declared.Refusal.{Refusal}
+use Rattle.refusals.specs.Refusals.{orOf}
+use Rattle.order.specs.declared.reading.Order.{Order}
+use Rattle.order.specs.declared.reading.Reading.the-variants.{Read, Refused}
 use Rattle.order.specs.Reading.{orderOf, firstOf, checksOf, readingOf}
+
+-- two checks in a chain are one check
+pub first-or : (a b : Refusal) (rest : List Refusal) (o : Order) → firstOf (a ∷ b ∷ rest) o ≡ firstOf (orOf a b ∷ rest) o
+unfolding firstOf orOf
+first-or a b rest o = cases (eqb (a .number) 0) (λ h. simp h) (λ h. simp h)
+
+-- one check alone
+module _ (r : Refusal) (o : Order) where
+  pub refused-alone : (r .number ≡ 0 → ⊥) → Refused r ≡ firstOf (r ∷ []) o
+  unfolding firstOf
+  refused-alone n = simp (ne-eqb _ _ n)
+
+  pub read-alone : r .number ≡ 0 → Read o ≡ firstOf (r ∷ []) o
+  unfolding firstOf
+  read-alone p = simp (eq-eqb _ _ p)
 
 module _ (s : List ℕ) (checked : Checked) (is-checked : checked ≡ checkedOf s) where
   broken : checkOf s ≡ checked .refusal

@@ -158,22 +158,13 @@ fn wrong_start(ramadan: Ramadan, date: Date) -> Refusal
 pub(crate) fn answer(order: &[u8], fields: Fields) -> Reading
     ensures { λ r. ⌜ r ≡ firstOf (checksOf (valuesIn (now (order .entry)) fields)) (orderOf (valuesIn (now (order .entry)) fields)) ⌝ }
 {
-    let lacking = missing(fields);
-    let doubled = both_forms(fields);
-    let outside = out_of_range(order, fields);
     let record = record_in(order, fields);
-    let astray = wrong_start(record.ramadan, record.date);
-    if lacking.number != 0 {
-        return Reading::Refused(lacking);
-    }
-    if doubled.number != 0 {
-        return Reading::Refused(doubled);
-    }
-    if outside.number != 0 {
-        return Reading::Refused(outside);
-    }
-    if astray.number != 0 {
-        return Reading::Refused(astray);
+    let refusal = missing(fields)
+        .or(both_forms(fields))
+        .or(out_of_range(order, fields))
+        .or(wrong_start(record.ramadan, record.date));
+    if refusal.number != 0 {
+        return Reading::Refused(refusal);
     }
     Reading::Read(record)
 }

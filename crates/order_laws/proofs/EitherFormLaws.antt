@@ -17,13 +17,14 @@ use Rattle.order.proofs.ReadingLaws.{read-passed}
 use Rattle.braille.specs.Cells.{rowLength}
 use Rattle.pages.specs.Pages.{Rows, rowOf, rowsFrom, pageOf, pageCount, pagesCells, allCells}
 use Rattle.pages.specs.Answers.{punchedInOf, answerIn, bufferOf, frontIn, oneRow, pieceIn}
-use Rattle.pages.specs.Reports.{wearIn, wearText, cellsIn, cellsText}
-use Rattle.rows.specs.Rows.{linesText, acceptedText, textIn, sheetText, readAnswerOf, readBufferOf, rowAnswerOf, rowBufferOf}
+use Rattle.pages.specs.Reports.{wearText, cellsText}
+use Rattle.reports.specs.Reports.{reportIn}
+use Rattle.rows.specs.Rows.{linesText, acceptedText, sheetText, readAnswerOf, readBufferOf, rowAnswerOf, rowBufferOf}
 use Rattle.schedule.specs.declared.in_force.Instant.{Instant}
 use Rattle.schedule.specs.declared.prayer_times.Worked.{Worked}
 use Rattle.schedule.specs.declared.prayer_times.Worked.the-variants.{Times, Refused}
 use Rattle.weeks.specs.Lines.{reportOf}
-use Rattle.weeks.specs.Report.{minuteIn, minutesOf, ordersReport, weekIn, weekText}
+use Rattle.weeks.specs.Report.{minuteIn, minutesOf, ordersReport, weekText}
 use Rattle.order_laws.specs.Minutes.{withOwnMinutes}
 use Rattle.order_laws.specs.EitherForm.{saysPlace, SamePlace, withTown, EitherFormAnswersAlike, EitherFormMovesAlike}
 
@@ -160,7 +161,7 @@ module _ (a b : List ℕ) (orders : SamePlace a b) where
   town-same = rw (orders .«first_read», orders .«second_read») (value 1 (lit≤ tt) refl)
 
   sheet-same : sheetText a ≡ sheetText b
-  unfolding textIn
+  unfolding reportIn
   sheet-same =
       rw (orders .«first_read», orders .«second_read»)
       (ap (λ (t : List ℕ). acceptedText t (orders .first)) town-same
@@ -187,15 +188,15 @@ module _ (a b : List ℕ) (orders : SamePlace a b) where
   all-same = sym (pages-same (orders .first) (orders .second .town) (pageCount (orders .first))) ∙ ap allCells given
 
   wear-same : wearText a ≡ wearText b
-  unfolding wearIn
+  unfolding reportIn
   wear-same = rw (orders .«first_read», orders .«second_read», all-same)
 
   cells-same : cellsText a ≡ cellsText b
-  unfolding cellsIn
+  unfolding reportIn
   cells-same = rw (orders .«first_read», orders .«second_read») all-same
 
   week-same : weekText a ≡ weekText b
-  unfolding weekIn
+  unfolding reportIn
   week-same =
       rw (orders .«first_read», orders .«second_read»)
       (ap reportOf (sym (minutes-same (orders .first) (orders .second .town) (orders .first .rows))) ∙ ap ordersReport given)

@@ -11,7 +11,7 @@ use Rattle.order.specs.declared.reading.Order.{Order}
 use Rattle.order.specs.declared.reading.Reading.the-variants.{Read}
 use Rattle.order.proofs.ReadingLaws.{passed-on}
 use Rattle.order.proofs.Tags.{all-pass, passing-more}
-use Rattle.rows.specs.Rows.{textIn}
+use Rattle.reports.specs.Reports.{reportIn}
 use Rattle.order_laws.specs.FormerRows.{formerRowsIn, formerRowsFit, withRows, formerInRange, formerReadingOf, AcceptedBeforeIsReadAsBefore}
 
 both : (a b : Bool) → (a && b) ≡ true → (a ≡ true) × (b ≡ true)
@@ -79,7 +79,7 @@ read-as-before s order e =
     (ap Read (sym (with-its-own v) ∙ ap (withRows (orderOf v)) (same-rows v (c .0))) ∙ same)
 
 pub accepted-before-is-read-as-before : AcceptedBeforeIsReadAsBefore
-unfolding textIn townOf
+unfolding reportIn townOf
 accepted-before-is-read-as-before s order e =
     let r = read-as-before s order e in
     record { values = r; sheet = simp r }

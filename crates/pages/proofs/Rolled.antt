@@ -10,8 +10,8 @@ use Rattle.calls.specs.Calls.{workRowOf}
 use Rattle.integers.proofs.Ranges.{fits}
 use Rattle.order.specs.Accepted.{Accepted}
 use Rattle.order.specs.declared.reading.Order.{Order}
-use Rattle.row_suns.specs.RowSuns.{rowSunsOf}
-use Rattle.row_suns.specs.declared.RowSuns.{RowSuns}
+use Rattle.schedule.specs.RowSuns.{rowSunsOf}
+use Rattle.schedule.specs.declared.rolling.RowSuns.{RowSuns}
 use Rattle.schedule.specs.declared.prayer_times.Worked.{Worked}
 use Rattle.text.specs.Text.{putOf, frontOf}
 use Rattle.text.proofs.TextLaws.{put-next}

@@ -3,11 +3,10 @@ use Prim.Native.Nat.{ℕ, _*_}
 use mathlib.Core.List.{List, _++_}
 use Rattle.braille.specs.Braille.{dotsOf}
 use Rattle.braille.specs.Cells.{rowLength}
-use Rattle.lines.specs.Lines.{numberText, refusedOrderText}
-use Rattle.order.specs.declared.reading.Reading.{Reading}
-use Rattle.order.specs.declared.reading.Reading.the-variants as reading
+use Rattle.lines.specs.Lines.{numberText}
+use Rattle.order.specs.declared.reading.Order.{Order}
 use Rattle.order.specs.Ranges.{mostRows}
-use Rattle.order.specs.Reading.{readingOf}
+use Rattle.reports.specs.Reports.{reportText, longestRefused}
 use Rattle.text.specs.Text.{ascii}
 use Rattle.pages.specs.Pages.{allCells}
 
@@ -16,24 +15,19 @@ use Rattle.pages.specs.Pages.{allCells}
 unfoldable pub totalText : ℕ → List ℕ
 totalText dots = numberText (ascii "dots ") dots ++ ascii "\n"
 
-unfoldable pub wearIn : Reading → List ℕ
-wearIn (reading.Read o) = totalText (dotsOf (allCells o))
-wearIn (reading.Refused r) = refusedOrderText r
+abbrev pub wearOf : Order → List ℕ
+wearOf o = totalText (dotsOf (allCells o))
 
 abbrev pub wearText : List ℕ → List ℕ
-wearText s = wearIn (readingOf s)
+wearText s = reportText wearOf s
 
 -- what the embosser is sent: the cells of all pages, 39 a row, and nothing between them or after them
-unfoldable pub cellsIn : Reading → List ℕ
-cellsIn (reading.Read o) = allCells o
-cellsIn (reading.Refused r) = refusedOrderText r
-
 abbrev pub cellsText : List ℕ → List ℕ
-cellsText s = cellsIn (readingOf s)
+cellsText s = reportText allCells s
 
--- no refused order's line is longer, and no total
+-- no total is longer either
 abbrev pub longestWear : ℕ
-longestWear = 62
+longestWear = longestRefused
 
 abbrev pub longestCells : ℕ
 longestCells = rowLength * mostRows

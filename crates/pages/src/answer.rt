@@ -4,6 +4,7 @@ ghost use Rattle.pages.specs.Answers.{refusedOf};
 use refusals::Refusal;
 
 // How many rows were written, and their dots; none where the call is refused.
+#[repr(C)]
 pub struct Punched {
     pub refusal: Refusal,
     pub rows: u32,

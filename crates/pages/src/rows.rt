@@ -13,7 +13,7 @@ use braille::row::ROW_CELLS;
 use braille::row::put_cells;
 use order::reading::Order;
 use refusals::Refusal;
-use row_suns::RowSuns;
+use schedule::rolling::RowSuns;
 
 // The rows from `row` to before `end`; answers their dots. Each row takes over what it can from the one before it.
 pub fn put_rows(buffer: &mut [u8], order: Order, row: u32, end: u32) -> u32

@@ -7,6 +7,7 @@ use Rattle.models.specs.Presets.{presetOf}
 use Rattle.models.specs.declared.adjustments.TimeAdjustment.{TimeAdjustment}
 use Rattle.models.specs.declared.parameters.Parameters.{Parameters}
 use Rattle.models.specs.declared.rules.Rules.{Rules}
+use Rattle.refusals.specs.Refusals.{noRefusal}
 use Rattle.solar.specs.declared.hours.HourNumbers.{HourNumbers}
 use Rattle.schedule.specs.declared.hours.RowNumbers.{RowNumbers}
 use Rattle.schedule.specs.declared.prayer_times.PrayerTimes.{PrayerTimes}
@@ -18,7 +19,6 @@ use Rattle.probes.specs.declared.days.ProbeSun.{ProbeSun}
 use Rattle.probes.specs.declared.days.ProbeNumbers.{ProbeNumbers}
 use Rattle.probes.specs.declared.days.ProbeSettings.{ProbeSettings}
 use Rattle.probes.specs.declared.days.ProbeRules.{ProbeRules}
-use Rattle.probes.specs.declared.days.ProbeTimes.{ProbeTimes}
 use Rattle.probes.specs.declared.days.ProbeDay.{ProbeDay}
 use Rattle.probes.specs.declared.days.ProbeRemaining.{ProbeRemaining}
 
@@ -72,19 +72,12 @@ settingsOf p =
       «isha_angle» = p .«isha_angle»;
     }
 
-abbrev pub probeTimesOf : PrayerTimes → ProbeTimes
-probeTimesOf t = record { fajr = t .fajr; sunrise = t .sunrise; dhuhr = t .dhuhr; asr = t .asr; maghrib = t .maghrib; isha = t .isha; «middle_of_the_night» = t .«middle_of_the_night»; qiyam = t .qiyam; «fajr_tomorrow» = t .«fajr_tomorrow» }
-
--- and back
-abbrev pub timesFrom : ProbeTimes → PrayerTimes
-timesFrom t = record { fajr = t .fajr; sunrise = t .sunrise; dhuhr = t .dhuhr; asr = t .asr; maghrib = t .maghrib; isha = t .isha; «middle_of_the_night» = t .«middle_of_the_night»; qiyam = t .qiyam; «fajr_tomorrow» = t .«fajr_tomorrow» }
-
-abbrev pub noTimes : ProbeTimes
+abbrev pub noTimes : PrayerTimes
 noTimes = record { fajr = pos 0; sunrise = pos 0; dhuhr = pos 0; asr = pos 0; maghrib = pos 0; isha = pos 0; «middle_of_the_night» = pos 0; qiyam = pos 0; «fajr_tomorrow» = pos 0 }
 
 unfoldable pub probeDayOf : Worked → ProbeDay
-probeDayOf (Times t) = record { number = 0; place = 0; times = probeTimesOf t }
-probeDayOf (Refused r) = record { number = r .number; place = r .place; times = noTimes }
+probeDayOf (Times t) = record { refusal = noRefusal; times = t }
+probeDayOf (Refused r) = record { refusal = r; times = noTimes }
 
 unfoldable pub probeRemainingOf : Remaining → ProbeRemaining
 probeRemainingOf (In t) = record { found = true; hours = t .hours; minutes = t .minutes }

@@ -1,40 +1,19 @@
 -- What an order's reading gives, as the export of the plain reader hands it out.
+use Rattle.calendar.specs.Gregorian.{dateOf}
 use Rattle.float64.specs.Ops.{dec}
 use Rattle.order.specs.declared.reading.Order.{Order}
 use Rattle.order.specs.declared.reading.Reading.{Reading}
 use Rattle.order.specs.declared.reading.Reading.the-variants.{Read, Refused}
+use Rattle.refusals.specs.Refusals.{noRefusal}
 use Rattle.refusals.specs.declared.Refusal.{Refusal}
+use Rattle.unit.specs.Unit.{coordinatesOf}
 use Rattle.probes.specs.declared.readers.ProbePlain.{ProbePlain}
 
 unfoldable pub plainRead : Order → ProbePlain
-plainRead o =
-    record {
-      number = 0;
-      place = 0;
-      «town_at» = o .town .at;
-      «town_length» = o .town .length;
-      year = o .date .year;
-      month = o .date .month;
-      day = o .date .day;
-      rows = o .rows;
-      latitude = o .coordinates .latitude;
-      longitude = o .coordinates .longitude;
-    }
+plainRead o = record { refusal = noRefusal; town = o .town; date = o .date; rows = o .rows; coordinates = o .coordinates }
 
 unfoldable pub plainRefused : Refusal → ProbePlain
-plainRefused r =
-    record {
-      number = r .number;
-      place = r .place;
-      «town_at» = 0;
-      «town_length» = 0;
-      year = 0;
-      month = 0;
-      day = 0;
-      rows = 0;
-      latitude = dec 0 0;
-      longitude = dec 0 0;
-    }
+plainRefused r = record { refusal = r; town = record { at = 0; length = 0 }; date = dateOf 0 0 0; rows = 0; coordinates = coordinatesOf (dec 0 0) (dec 0 0) }
 
 unfoldable pub plainIn : Reading → ProbePlain
 plainIn (Read o) = plainRead o

@@ -8,7 +8,7 @@ ghost use Rattle.schedule.specs.Hours.{hoursOf};
 ghost use Rattle.schedule.specs.Times.{seasonOf, workedOf, workedAt};
 ghost use Rattle.schedule.specs.InForce.{currentTimeOf, currentNumberOf, nextOf, timeRemainingOf};
 ghost use Rattle.calls.specs.Calls.{instantOf};
-ghost use Rattle.probes.specs.Days.{sunOf, rowNumbersOf, minutesFrom, parametersFrom, rulesFrom, settingsOf, probeTimesOf, noTimes, probeDayOf, timesFrom, probeRemainingOf};
+ghost use Rattle.probes.specs.Days.{sunOf, rowNumbersOf, minutesFrom, parametersFrom, rulesFrom, settingsOf, noTimes, probeDayOf, probeRemainingOf};
 use calendar::dates::Date;
 use models::adjustments::TimeAdjustment;
 use models::high_altitude_rule::HighLatitudeRule;
@@ -20,12 +20,14 @@ use models::rules::Midnight;
 use models::rules::Rules;
 use models::rules::Southern;
 use models::shafaq::Shafaq;
+use refusals::Refusal;
 use schedule::hours::RowNumbers;
 use schedule::in_force::Current;
 use schedule::in_force::Instant;
 use schedule::in_force::Remaining;
 use schedule::prayer_times::PrayerTimes;
 use schedule::prayer_times::Worked;
+use schedule::rolling::RowSuns;
 use solar::hours::HourNumbers;
 use unit::Coordinates;
 
@@ -66,19 +68,6 @@ pub struct ProbeSettings {
     pub isha_angle: f64,
 }
 
-#[repr(C)]
-pub struct ProbeTimes {
-    pub fajr: i64,
-    pub sunrise: i64,
-    pub dhuhr: i64,
-    pub asr: i64,
-    pub maghrib: i64,
-    pub isha: i64,
-    pub middle_of_the_night: i64,
-    pub qiyam: i64,
-    pub fajr_tomorrow: i64,
-}
-
 // The rules by their numbers.
 #[repr(C)]
 pub struct ProbeRules {
@@ -89,9 +78,8 @@ pub struct ProbeRules {
 // A refusal's number and place, and no times; or 0, 0 and the times.
 #[repr(C)]
 pub struct ProbeDay {
-    pub number: u32,
-    pub place: u32,
-    pub times: ProbeTimes,
+    pub refusal: Refusal,
+    pub times: PrayerTimes,
 }
 
 fn sun(s: ProbeSun) -> HourNumbers
@@ -194,26 +182,10 @@ pub extern "C" fn probe_preset(method: u32) -> ProbeSettings
     }
 }
 
-fn probe_times(t: PrayerTimes) -> ProbeTimes
-    ensures { λ r. ⌜ r ≡ probeTimesOf t ⌝ }
-{
-    ProbeTimes {
-        fajr: t.fajr,
-        sunrise: t.sunrise,
-        dhuhr: t.dhuhr,
-        asr: t.asr,
-        maghrib: t.maghrib,
-        isha: t.isha,
-        middle_of_the_night: t.middle_of_the_night,
-        qiyam: t.qiyam,
-        fajr_tomorrow: t.fajr_tomorrow,
-    }
-}
-
-fn no_times() -> ProbeTimes
+fn no_times() -> PrayerTimes
     ensures { λ r. ⌜ r ≡ noTimes ⌝ }
 {
-    ProbeTimes {
+    PrayerTimes {
         fajr: 0,
         sunrise: 0,
         dhuhr: 0,
@@ -231,13 +203,11 @@ fn answered(worked: Worked) -> ProbeDay
 {
     match worked {
         Worked::Times(times) => ProbeDay {
-            number: 0,
-            place: 0,
-            times: probe_times(times),
+            refusal: Refusal::none(),
+            times: times,
         },
         Worked::Refused(refusal) => ProbeDay {
-            number: refusal.number,
-            place: refusal.place,
+            refusal: refusal,
             times: no_times(),
         },
     }
@@ -280,24 +250,14 @@ pub extern "C" fn probe_row(
 {
     let date = Date::new(year, month, day);
     let parameters = parameters(settings);
-    let numbers = RowNumbers::new(date, Coordinates::new(latitude, longitude), parameters);
-    answered(PrayerTimes::new(numbers, date, latitude, parameters, rules(chosen)))
-}
-
-fn prayer_times(t: ProbeTimes) -> PrayerTimes
-    ensures { λ r. ⌜ r ≡ timesFrom t ⌝ }
-{
-    PrayerTimes {
-        fajr: t.fajr,
-        sunrise: t.sunrise,
-        dhuhr: t.dhuhr,
-        asr: t.asr,
-        maghrib: t.maghrib,
-        isha: t.isha,
-        middle_of_the_night: t.middle_of_the_night,
-        qiyam: t.qiyam,
-        fajr_tomorrow: t.fajr_tomorrow,
-    }
+    let chosen = rules(chosen);
+    let suns = RowSuns::new(
+        date,
+        Coordinates::new(latitude, longitude),
+        parameters,
+        chosen,
+    );
+    answered(suns.work(latitude, parameters, chosen))
 }
 
 fn instant(seconds: i64, nanoseconds: u32) -> Instant
@@ -320,18 +280,18 @@ fn number(current: Current) -> u32
 
 // The number of the prayer in force, 0 where there is none.
 #[no_mangle]
-pub extern "C" fn probe_current(times: ProbeTimes, seconds: i64, nanoseconds: u32) -> u32
-    ensures { λ r. ⌜ r ≡ currentNumberOf (currentTimeOf (timesFrom times) (instantOf seconds nanoseconds)) ⌝ }
+pub extern "C" fn probe_current(times: PrayerTimes, seconds: i64, nanoseconds: u32) -> u32
+    ensures { λ r. ⌜ r ≡ currentNumberOf (currentTimeOf times (instantOf seconds nanoseconds)) ⌝ }
 {
-    number(prayer_times(times).current_time(instant(seconds, nanoseconds)))
+    number(times.current_time(instant(seconds, nanoseconds)))
 }
 
 // And of the next one.
 #[no_mangle]
-pub extern "C" fn probe_next(times: ProbeTimes, seconds: i64, nanoseconds: u32) -> u32
-    ensures { λ r. ⌜ r ≡ currentNumberOf (nextOf (timesFrom times) (instantOf seconds nanoseconds)) ⌝ }
+pub extern "C" fn probe_next(times: PrayerTimes, seconds: i64, nanoseconds: u32) -> u32
+    ensures { λ r. ⌜ r ≡ currentNumberOf (nextOf times (instantOf seconds nanoseconds)) ⌝ }
 {
-    number(prayer_times(times).next(instant(seconds, nanoseconds)))
+    number(times.next(instant(seconds, nanoseconds)))
 }
 
 // The time until the next prayer; zeros where none is in force.
@@ -361,11 +321,11 @@ fn probe_hours_minutes(remaining: Remaining) -> ProbeRemaining
 
 #[no_mangle]
 pub extern "C" fn probe_remaining(
-    times: ProbeTimes,
+    times: PrayerTimes,
     seconds: i64,
     nanoseconds: u32,
 ) -> ProbeRemaining
-    ensures { λ r. ⌜ r ≡ probeRemainingOf (timeRemainingOf (timesFrom times) (instantOf seconds nanoseconds)) ⌝ }
+    ensures { λ r. ⌜ r ≡ probeRemainingOf (timeRemainingOf times (instantOf seconds nanoseconds)) ⌝ }
 {
-    probe_hours_minutes(prayer_times(times).time_remaining(instant(seconds, nanoseconds)))
+    probe_hours_minutes(times.time_remaining(instant(seconds, nanoseconds)))
 }

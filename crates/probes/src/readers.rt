@@ -2,24 +2,22 @@
 ghost use mathlib.Core.Path.{_≡_};
 ghost use Rattle.order.specs.Reading.{readingOf};
 ghost use Rattle.probes.specs.Readers.{plainRead, plainRefused, plainIn};
+use calendar::dates::Date;
+use fields::values::Part;
 use order::plain::read;
 use order::reading::Order;
 use order::reading::Reading;
 use refusals::Refusal;
+use unit::Coordinates;
 
 // The first of a host's fields.
 #[repr(C)]
 pub struct ProbePlain {
-    pub number: u32,
-    pub place: u32,
-    pub town_at: u32,
-    pub town_length: u32,
-    pub year: u32,
-    pub month: u32,
-    pub day: u32,
+    pub refusal: Refusal,
+    pub town: Part,
+    pub date: Date,
     pub rows: u32,
-    pub latitude: f64,
-    pub longitude: f64,
+    pub coordinates: Coordinates,
 }
 
 fn plain_read(order: Order) -> ProbePlain
@@ -29,16 +27,11 @@ fn plain_read(order: Order) -> ProbePlain
     let date = order.date;
     let coordinates = order.coordinates;
     ProbePlain {
-        number: 0,
-        place: 0,
-        town_at: town.at,
-        town_length: town.length,
-        year: date.year,
-        month: date.month,
-        day: date.day,
+        refusal: Refusal::none(),
+        town: town,
+        date: date,
         rows: order.rows,
-        latitude: coordinates.latitude,
-        longitude: coordinates.longitude,
+        coordinates: coordinates,
     }
 }
 
@@ -46,16 +39,11 @@ fn plain_refused(refusal: Refusal) -> ProbePlain
     ensures { λ r. ⌜ r ≡ plainRefused refusal ⌝ }
 {
     ProbePlain {
-        number: refusal.number,
-        place: refusal.place,
-        town_at: 0,
-        town_length: 0,
-        year: 0,
-        month: 0,
-        day: 0,
+        refusal: refusal,
+        town: Part { at: 0, length: 0 },
+        date: Date::new(0, 0, 0),
         rows: 0,
-        latitude: 0.0,
-        longitude: 0.0,
+        coordinates: Coordinates::new(0.0, 0.0),
     }
 }
 

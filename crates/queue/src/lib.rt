@@ -24,12 +24,14 @@ pub struct Queue {
     pub pages: [u32; MOST_JOBS],
 }
 
+#[repr(C)]
 pub struct Joined {
     pub refusal: Refusal,
     pub queue: Queue,
 }
 
 // The job that a page was sent of and its pages then left. Both are 0 where no job waits.
+#[repr(C)]
 pub struct Turned {
     pub id: u32,
     pub pages: u32,

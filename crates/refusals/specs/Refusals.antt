@@ -1,6 +1,8 @@
 -- Document 01's table of refusals, and the numbers that document 02 adds: a number and a place. The numbers under the names that the code gives them.
 use Prim.Native.Nat.{ℕ}
+use mathlib.Core.Bool.{cond}
 use mathlib.Core.List.{List, [], _∷_}
+use lib.Dec.{eqb}
 use Rattle.refusals.specs.declared.Refusal.{Refusal}
 
 abbrev pub refusal : ℕ → ℕ → Refusal
@@ -9,6 +11,10 @@ refusal number place = record { number = number; place = place }
 -- nothing is refused
 abbrev pub noRefusal : Refusal
 noRefusal = refusal 0 0
+
+-- the first of two that refuses
+unfoldable pub orOf : Refusal → Refusal → Refusal
+orOf first second = cond (eqb (first .number) 0) second first
 
 -- "over 1,024 bytes, or a field cut"; "its offset, or 0"
 abbrev pub fieldCut : ℕ

@@ -1,6 +1,6 @@
 // Refusals (added): a number, 0 where nothing is refused, and a place. This is the one table of the numbers; the header's is held to it.
 ghost use mathlib.Core.Path.{_≡_};
-ghost use Rattle.refusals.specs.Refusals.{refusal, noRefusal};
+ghost use Rattle.refusals.specs.Refusals.{refusal, noRefusal, orOf};
 
 // The order has over 1,024 bytes (place 0), or a field is cut (its offset).
 pub const FIELD_CUT: u32 = 1;
@@ -54,6 +54,7 @@ pub const JOB_UNFIT: u32 = 17;
 // A Ramadan sheet begins on another day than the 1st of Ramadan, moved by its shift: 2, the tag of the date.
 pub const NOT_FIRST_OF_RAMADAN: u32 = 18;
 
+#[repr(C)]
 pub struct Refusal {
     pub number: u32,
     pub place: u32,
@@ -77,5 +78,14 @@ impl Refusal {
             number: 0,
             place: 0,
         }
+    }
+    // This one, or where it refuses nothing the other.
+    pub fn or(self, other: Refusal) -> Refusal
+        ensures { λ r. ⌜ r ≡ orOf self other ⌝ }
+    {
+        if self.number != 0 {
+            return self;
+        }
+        other
     }
 }

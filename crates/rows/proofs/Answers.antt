@@ -4,16 +4,13 @@ use Rattle.calendar.specs.Answers.{rowDateOf}
 use Rattle.calendar.specs.declared.dates.Date.{Date}
 use Rattle.calls.specs.Calls.{workDateOf, lacksRow, workRowOf}
 use Rattle.refusals.specs.Refusals.{refusal}
-use Rattle.lines.specs.Lines.{fullRow, rowRoom, refusedOrderText}
+use Rattle.lines.specs.Lines.{fullRow, rowRoom}
 use Rattle.refusals.specs.declared.Refusal.{Refusal}
 use Rattle.order.specs.declared.reading.Order.{Order}
 use Rattle.order.specs.declared.reading.Reading.the-variants.{Read, Refused}
-use Rattle.order.specs.Reading.{readingOf, townOf}
+use Rattle.order.specs.Reading.{readingOf}
 use Rattle.schedule.specs.declared.prayer_times.Worked.{Worked}
-use Rattle.text.specs.Text.{frontOf}
-use Rattle.text.specs.Printed.{printedLength, printedBuffer}
-use Rattle.text.proofs.PrintedLaws.{printed-short}
-use Rattle.rows.specs.Rows.{answerOf, rowFrontOf, readAnswerOf, readBufferOf, rowAnswerOf, rowBufferOf, textIn, acceptedText, sheetText, longestSheet, sheetLengthOf, sheetBufferOf}
+use Rattle.rows.specs.Rows.{answerOf, rowFrontOf, readAnswerOf, readBufferOf, rowAnswerOf, rowBufferOf}
 
 module _ (o : Order) (row : ℕ) (buffer : List ℕ) where
   -- a row that the order has, by its date
@@ -51,18 +48,3 @@ module _ (s buffer : List ℕ) (row : ℕ) where
     pub row-refused : (r : Refusal) → readingOf s ≡ Refused r → (r ≡ rowAnswerOf s row buffer) × (buffer ≡ rowBufferOf s row buffer)
     unfolding rowAnswerOf rowBufferOf
     row-refused r e = (simp (le-ltb (length buffer) fullRow h, e), simp (le-ltb (length buffer) fullRow h, e))
-
-module _ (s buffer : List ℕ) where
-  pub sheet-short : length buffer < longestSheet → (0 ≡ sheetLengthOf s buffer) × (buffer ≡ sheetBufferOf s buffer)
-  sheet-short h = printed-short longestSheet (sheetText s) buffer h
-
-  module _ (h : longestSheet ≤ length buffer) where
-    pub sheet-read : (o : Order) → readingOf s ≡ Read o
-        → (length (acceptedText (townOf s) o) ≡ sheetLengthOf s buffer) × (frontOf (acceptedText (townOf s) o) buffer ≡ sheetBufferOf s buffer)
-    unfolding printedLength printedBuffer textIn
-    sheet-read o e = (simp (le-ltb (length buffer) longestSheet h, e), simp (le-ltb (length buffer) longestSheet h, e))
-
-    pub sheet-refused : (r : Refusal) → readingOf s ≡ Refused r
-        → (length (refusedOrderText r) ≡ sheetLengthOf s buffer) × (frontOf (refusedOrderText r) buffer ≡ sheetBufferOf s buffer)
-    unfolding printedLength printedBuffer textIn
-    sheet-refused r e = (simp (le-ltb (length buffer) longestSheet h, e), simp (le-ltb (length buffer) longestSheet h, e))

@@ -5,8 +5,8 @@ use Rattle.calls.proofs.RowStates.{stateOf, workedBySuns, state-worked}
 use Rattle.order.specs.Accepted.{Accepted}
 use Rattle.order.specs.declared.reading.Order.{Order}
 use Rattle.lines.specs.Lines.{rowRoom, lineText}
-use Rattle.row_suns.specs.RowSuns.{rowSunsOf}
-use Rattle.row_suns.specs.declared.RowSuns.{RowSuns}
+use Rattle.schedule.specs.RowSuns.{rowSunsOf}
+use Rattle.schedule.specs.declared.rolling.RowSuns.{RowSuns}
 use Rattle.text.specs.Text.{putOf}
 use Rattle.rows.specs.Rows.{linesText}
 use Rattle.rows.proofs.Lengths.{lineOf, lines-length, line-made}

@@ -10,8 +10,9 @@ use Rattle.calls.specs.Calls.{workRowOf}
 use Rattle.fields.specs.Tags.{longestTown}
 use Rattle.hijri.specs.declared.ramadan.Ramadan.{Ramadan}
 use Rattle.refusals.specs.Refusals.{refusal, noRefusal, bufferShort}
-use Rattle.lines.specs.Lines.{columnsOf, rowText, fullRow, rowRoom, lineText, refusedOrderText}
+use Rattle.lines.specs.Lines.{columnsOf, rowText, fullRow, rowRoom, lineText}
 use Rattle.refusals.specs.declared.Refusal.{Refusal}
+use Rattle.reports.specs.Reports.{reportText}
 use Rattle.order.specs.declared.reading.Order.{Order}
 use Rattle.order.specs.declared.reading.Reading.{Reading}
 use Rattle.order.specs.declared.reading.Reading.the-variants as reading
@@ -74,12 +75,8 @@ unfoldable pub acceptedText : List ℕ → Order → List ℕ
 acceptedText town o = headText (o .ramadan) town ++ linesText o (o .rows)
 
 -- "a refused order prints `order refused 5 place 2` alone"
-unfoldable pub textIn : List ℕ → Reading → List ℕ
-textIn s (reading.Read o) = acceptedText (townOf s) o
-textIn s (reading.Refused r) = refusedOrderText r
-
 abbrev pub sheetText : List ℕ → List ℕ
-sheetText s = textIn s (readingOf s)
+sheetText s = reportText (acceptedText (townOf s)) s
 
 -- the longest sheet: a town of 40 bytes, the header with its two newlines, and all full rows that an order can have; a Ramadan sheet has thirty
 abbrev pub longestSheet : ℕ

@@ -19,8 +19,8 @@ use order::reading::MOST_ROWS;
 use order::reading::Order;
 use order::reading::Reading;
 use order::reading::read;
-use row_suns::RowSuns;
 use schedule::prayer_times::Worked;
+use schedule::rolling::RowSuns;
 use text::put::put;
 
 // The header and a newline before and behind it.

@@ -4,5 +4,6 @@ pub mod Times
 pub mod Fajr
 pub mod InForce
 pub mod Numbers
+pub mod RowSuns
 pub mod Builder
 pub mod Sines

@@ -30,6 +30,7 @@ pub enum Current {
     None,
 }
 
+#[repr(C)]
 pub struct HoursMinutes {
     pub hours: u32,
     pub minutes: u32,

@@ -5,4 +5,5 @@ pub mod in_force;
 pub mod numbers;
 pub mod prayer_schedule;
 pub mod prayer_times;
+pub mod rolling;
 mod twilight;

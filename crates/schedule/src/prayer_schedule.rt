@@ -1,9 +1,8 @@
 // schedule.rs: the builder of a date's times, by value. The crate's Option is a bool and a value that stands for nothing where it is false.
 ghost use mathlib.Core.Path.{_≡_};
 ghost use Rattle.schedule.specs.Builder.{noSchedule, onOf, forLocationOf, withConfigurationOf, calculateOf};
-use super::hours::RowNumbers;
-use super::prayer_times::PrayerTimes;
 use super::prayer_times::Worked;
+use super::rolling::RowSuns;
 use calendar::dates::Date;
 use models::parameters::Parameters;
 use models::rules::Rules;
@@ -78,15 +77,9 @@ impl PrayerSchedule {
         if self.dated {
             if self.located {
                 if self.configured {
-                    let numbers = RowNumbers::new(date, coordinates, params);
                     let rules = Rules::source();
-                    let worked = PrayerTimes::new(
-                        numbers,
-                        date,
-                        coordinates.latitude,
-                        params,
-                        rules,
-                    );
+                    let suns = RowSuns::new(date, coordinates, params, rules);
+                    let worked = suns.work(coordinates.latitude, params, rules);
                     return Calculated::Worked(worked);
                 }
             }

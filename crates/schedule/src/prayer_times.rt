@@ -33,6 +33,7 @@ use stride::times::adjust_time;
 use stride::times::rounded_minute;
 
 // In seconds from 1970-01-01 0h UTC. They stand in this order and are not sorted.
+#[repr(C)]
 pub struct PrayerTimes {
     pub fajr: i64,
     pub sunrise: i64,

@@ -5,6 +5,7 @@ pub mod sentence;
 mod table;
 
 // What writing answers.
+#[repr(C)]
 pub struct WrittenSentence {
     pub number: u32,
     pub place: u32,
@@ -12,6 +13,7 @@ pub struct WrittenSentence {
 }
 
 // What reading answers: the number and the place that the sentence says, or why it says none.
+#[repr(C)]
 pub struct Meaning {
     pub number: u32,
     pub place: u32,

@@ -9,11 +9,11 @@ use probes::days::ProbeNumbers;
 use probes::days::ProbeRules;
 use probes::days::ProbeSettings;
 use probes::days::ProbeSun;
-use probes::days::ProbeTimes;
 use probes::days::probe_current;
 use probes::days::probe_day;
 use probes::days::probe_next;
 use probes::days::probe_remaining;
+use schedule::prayer_times::PrayerTimes;
 use std::num::wrapping_add_u64;
 use test_lists::decimal;
 use test_lists::hex;
@@ -100,7 +100,7 @@ fn time(line: &[u8], at: usize) -> i64 {
     seconds(start + decimal(line, at) % 100000000)
 }
 
-fn timed(before: Counts, times: ProbeTimes, line: &[u8]) -> Counts {
+fn timed(before: Counts, times: PrayerTimes, line: &[u8]) -> Counts {
     let mut c = counted(before, times.fajr == time(line, 352));
     c = counted(c, times.sunrise == time(line, 361));
     c = counted(c, times.dhuhr == time(line, 370));
@@ -113,7 +113,7 @@ fn timed(before: Counts, times: ProbeTimes, line: &[u8]) -> Counts {
 }
 
 // The prayer in force, the next one and the time remaining at an instant. Where none is in force, nothing remains.
-fn at_instant(before: Counts, times: ProbeTimes, instant: u64, answer: u64) -> Counts {
+fn at_instant(before: Counts, times: PrayerTimes, instant: u64, answer: u64) -> Counts {
     let whole = seconds(instant / 1000000000);
     let nanoseconds = (instant % 1000000000) as u32;
     let mut c = counted(
@@ -150,8 +150,9 @@ fn replayed(before: Counts, line: &[u8]) -> Counts {
         },
     );
     let times = day.times;
-    let mut c = counted(before, day.number == part(refusal / 10));
-    c = counted(c, day.place == part(refusal % 10));
+    let refused = day.refusal;
+    let mut c = counted(before, refused.number == part(refusal / 10));
+    c = counted(c, refused.place == part(refusal % 10));
     if refusal != 0 {
         return c;
     }

@@ -103,6 +103,7 @@ impl Angle {
 }
 
 // Latitude and longitude, in degrees.
+#[repr(C)]
 pub struct Coordinates {
     pub latitude: f64,
     pub longitude: f64,

@@ -6,8 +6,8 @@ use Rattle.calls.specs.Calls.{workRowOf}
 use Rattle.integers.proofs.Integers.{Near, floorQuot, floorRem, Held, held-sum, held-product, held-fits, stored, same, floored, range, read, readBack, sum, times}
 use Rattle.order.specs.Accepted.{Accepted}
 use Rattle.order.specs.declared.reading.Order.{Order}
-use Rattle.row_suns.proofs.RowSunsLaws.{suns-fajr}
-use Rattle.row_suns.specs.RowSuns.{rowSunsOf, rowSunsFajrOf}
+use Rattle.schedule.proofs.RowSunsLaws.{suns-fajr}
+use Rattle.schedule.specs.RowSuns.{rowSunsOf, rowSunsFajrOf}
 use Rattle.schedule.specs.declared.prayer_times.Worked.{Worked}
 use Rattle.schedule.specs.declared.prayer_times.Worked.the-variants.{Times, Refused}
 use Rattle.schedule.specs.Fajr.{fajrIn}

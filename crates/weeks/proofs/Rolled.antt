@@ -3,8 +3,8 @@ use Rattle.prelude.proofs.Logic.{_≡_, refl, sym, ap, _∙_, List, [], _∷_, 
 use Rattle.calls.proofs.RowStates.{stateOf}
 use Rattle.order.specs.Accepted.{Accepted}
 use Rattle.order.specs.declared.reading.Order.{Order}
-use Rattle.row_suns.specs.declared.RowSuns.{RowSuns}
-use Rattle.row_suns.specs.RowSuns.{rowSunsFajrOf}
+use Rattle.schedule.specs.declared.rolling.RowSuns.{RowSuns}
+use Rattle.schedule.specs.RowSuns.{rowSunsFajrOf}
 use Rattle.text.proofs.TextLaws.{put-next}
 use Rattle.text.specs.Text.{putOf, frontOf}
 use Rattle.weeks.specs.declared.minute.Minute.{Minute}

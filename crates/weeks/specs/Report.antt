@@ -5,12 +5,9 @@ use lib.IntN.{_-ℤ_}
 use Rattle.calendar.specs.Answers.{rowDateOf}
 use Rattle.calls.specs.Calls.{workRowOf}
 use Rattle.integers.specs.Quotients.{floorQuot}
-use Rattle.lines.specs.Lines.{refusedOrderText}
 use Rattle.order.specs.declared.reading.Order.{Order}
-use Rattle.order.specs.declared.reading.Reading.{Reading}
-use Rattle.order.specs.declared.reading.Reading.the-variants as reading
 use Rattle.order.specs.Ranges.{mostRows}
-use Rattle.order.specs.Reading.{readingOf}
+use Rattle.reports.specs.Reports.{reportText}
 use Rattle.schedule.specs.declared.prayer_times.Worked.{Worked}
 use Rattle.schedule.specs.declared.prayer_times.Worked.the-variants as worked
 use Rattle.schedule.specs.Times.{startOf}
@@ -36,12 +33,8 @@ abbrev pub ordersReport : Order → List ℕ
 ordersReport o = reportOf (minutesOf o (o .rows))
 
 -- "It reads an order as the wear report does"
-unfoldable pub weekIn : Reading → List ℕ
-weekIn (reading.Read o) = ordersReport o
-weekIn (reading.Refused r) = refusedOrderText r
-
 abbrev pub weekText : List ℕ → List ℕ
-weekText s = weekIn (readingOf s)
+weekText s = reportText ordersReport s
 
 -- no line is longer than 128 bytes
 abbrev pub longestWeek : ℕ

@@ -14,7 +14,7 @@ use order::reading::MOST_ROWS;
 use order::reading::Order;
 use order::reading::Reading;
 use order::reading::read;
-use row_suns::RowSuns;
+use schedule::rolling::RowSuns;
 
 const LINE_BYTES: usize = 128;
 

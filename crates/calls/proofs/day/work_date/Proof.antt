@@ -1,7 +1,10 @@
-use Rattle.prelude.proofs.Logic.{sym}
+-- `calls::day::work_date` meets its contract: the first row's suns give the date's own day.
+use Rattle.prelude.proofs.Logic.{_∙_}
+use Rattle.schedule.proofs.RowSunsLaws.{first-row}
 use Rattle.calls.proofs.day.work_date as this
 
+returns : this.Tie.Need-returns
+returns c = simp (c .work .ensures, c .before .new .ensures) (first-row _ _ _ _)
+
 pub work-date-spec : {M : Type 1} → this.Statement.statement M
-work-date-spec =
-    let returns : this.Tie.Need-returns = λ c. simp (sym (c .new2 .ensures), sym (c .before .new .ensures)) in
-    this.Tie.close (this.Tie.spec (λ c κs. tt) (λ c κs. tt) returns)
+work-date-spec = this.Tie.close (this.Tie.spec (λ c κs. tt) (λ c κs. tt) returns)

@@ -5,21 +5,21 @@ use Rattle.katchidul.proofs.read_order.order_read as this
 returns : this.Tie.Need-returns
 unfolding orderRead
 returns c =
-    let m = c .before in
-    let n = m .before .before .before in
-    let t = n .before .before .before .before .before .before .before .before .before .before in
-    let told = m .before .before .struct-told .given in
-    let f : SFits w32 (t .args .order .parameters .«isha_interval») = search needs in
+    let n = c .before .before .before in
+    let read = n .before .before .before .before .before in
+    let parts = read .before .before in
+    let told = c .before .before .struct-told .given in
+    let f : SFits w32 (parts .before .before .before .before .args .order .parameters .«isha_interval») = search needs in
     simp (
       toZ-ofZ f,
       c .choices-read .ensures,
-      m .minutes-read .ensures,
-      m .before .interval .ensures,
+      c .before .interval .ensures,
       n .number5 .ensures,
       n .before .number4 .ensures,
       n .before .before .number3 .ensures,
       n .before .before .before .number2 .ensures,
       n .before .before .before .before .number .ensures,
+      read .none .ensures,
     )
 
 pub order-read-spec : {M : Type 1} → this.Statement.statement M

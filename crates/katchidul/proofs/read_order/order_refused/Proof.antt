@@ -6,4 +6,4 @@ pub order-refused-spec : {M : Type 1} → this.Statement.statement M
 unfolding orderRefused dec round ofBits
 order-refused-spec =
     let returns : this.Tie.Need-returns = λ c. cc in
-    this.Tie.close (this.Tie.spec (λ c κs. tt) (λ c κs. tt) returns)
+    this.Tie.close (this.Tie.spec (λ c κs. tt) (λ c κs. tt) (λ c κs. tt) returns)

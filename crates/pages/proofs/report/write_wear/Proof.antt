@@ -1,41 +1,32 @@
-use Rattle.prelude.proofs.Logic.{sym, ap, _∙_, List, ℕ, arith, length, needs, now}
+-- `pages::report::write_wear` meets its contract, by the laws of every report.
+use Rattle.prelude.proofs.Logic.{sym, _∙_, lit≤, needs}
 use Rattle.order.proofs.AcceptedLaws.{read-accepted}
-use Rattle.text.specs.Text.{frontOf}
-use Rattle.pages.specs.Reports.{wearText, longestWear, totalText}
-use Rattle.text.proofs.PrintedLaws.{printed-short, printed}
-use Rattle.pages.proofs.ReportLaws.{refused-made, wear-read, wear-refused}
+use Rattle.text.proofs.PrintedLaws.{printed-short}
+use Rattle.reports.proofs.ReportsLaws.{report-read, report-refused}
 use Rattle.pages.proofs.report.write_wear as this
 
 returns : this.Tie.Need-returns
-returns c =
-    let a = c .before .before .before .args in
-    printed-short longestWear (wearText (now (a .order))) (now (a .buffer)) (c .if1 .taken)
+returns c = printed-short _ _ _ (c .if1 .taken)
 
 all-dots-requires : this.Tie.Need-all-dots-requires
 all-dots-requires c κs =
-    let a = c .before .before .before .before .before .before .before .before .args in
-    let e = sym (c .before .before .before .before .read .ensures) ∙ c .before .before .order .given .1 in
-    read-accepted (now (a .order)) _ e
+    let taken = c .before .before in
+    read-accepted _ _ (sym (taken .before .before .read .ensures) ∙ taken .order .given .1)
 
 returns-2 : this.Tie.Need-returns-2
 returns-2 c =
-    let a = c .before .before .before .before .before .before .before .before .before .before .before .before .args in
-    let e = sym (c .before .before .before .before .before .before .before .before .read .ensures) ∙ c .before .before .before .before .before .before .order .given .1 in
-    let room = c .before .before .before .before .before .before .before .before .before .if1 .left in
-    let p = c .before .before .put-total .ensures in
-    let t = wear-read (now (a .order)) _ e ∙ ap totalText (sym (c .before .before .before .all-dots .ensures)) in
-    printed longestWear (wearText (now (a .order))) (now (a .buffer)) room _ _ (p .0 ∙ ap length (sym t)) (p .1 ∙ ap (λ (x : List ℕ). frontOf x (now (a .buffer))) (sym t))
+    let worked = c .before .before .before in
+    let taken = worked .before .before .before in
+    let called = taken .before .before in
+    report-read _ _ _ _ (called .before .if1 .left) _ _ _ (sym (called .read .ensures) ∙ taken .order .given .1)
+    (rw (worked .all-dots .ensures) at (c .before .before .put-total .ensures))
 
 returns-3 : this.Tie.Need-returns-3
 returns-3 c =
-    let a = c .before .before .before .before .before .before .before .before .before .before .before .args in
-    let r = c .before .before .before .before .before .refusal .given .0 .0 in
-    let e = sym (c .before .before .before .before .before .before .before .read .ensures) ∙ c .before .before .before .before .before .refusal .given .1 in
-    let room = c .before .before .before .before .before .before .before .before .if1 .left in
-    let p = c .before .before .put-refused-order .ensures in
-    let f = refused-made r (now (a .buffer)) _ (omega (arith, room)) (p .1) in
-    let t = wear-refused (now (a .order)) r e in
-    printed longestWear (wearText (now (a .order))) (now (a .buffer)) room _ _ (p .0 ∙ ap length (sym t)) (f ∙ ap (λ (x : List ℕ). frontOf x (now (a .buffer))) (sym t))
+    let taken = c .before .before .before .before .before in
+    let called = taken .before .before in
+    report-refused _ _ _ _ (called .before .if1 .left) _ _ (lit≤ tt) _ (sym (called .read .ensures) ∙ taken .refusal .given .1)
+    (c .before .before .put-refused-order .ensures)
 
 pub write-wear-spec : {M : Type 1} → this.Statement.statement M
 write-wear-spec =

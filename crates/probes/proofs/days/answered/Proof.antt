@@ -1,10 +1,10 @@
-use Rattle.prelude.proofs.Logic.{sym, needs}
+use Rattle.prelude.proofs.Logic.{needs}
 use Rattle.probes.specs.Days.{probeDayOf}
 use Rattle.probes.proofs.days.answered as this
 
 pub answered-spec : {M : Type 1} → this.Statement.statement M
 unfolding probeDayOf
 answered-spec =
-    let returns : this.Tie.Need-returns = λ c. let e0 = c .probe-times .ensures in simp (sym e0, c .before .before .worked .given .1) in
+    let returns : this.Tie.Need-returns = λ c. cc in
     let returns-2 : this.Tie.Need-returns-2 = λ c. cc in
     this.Tie.close (this.Tie.spec (λ c. search needs) (λ c κs. tt) (λ c. search needs) (λ c κs. tt) returns returns-2)

@@ -5,13 +5,12 @@ use Rattle.probes.proofs.days.probe_next as this
 
 returns : this.Tie.Need-returns
 returns c =
-    let start = c .before .before .before .before in
+    let start = c .before .before .before in
     let a = start .args in
-    let t = c .before .before .before .prayer-times in
     let i = c .before .before .instant in
     let e0 : c .number .result ≡ currentNumberOf (c .before .next .result) = c .number .ensures in
-    let e1 : c .before .next .result ≡ nextOf (t .result) (i .result) = c .before .next .ensures in
-    e0 ∙ ap currentNumberOf (e1 ∙ at nextOf (a .times) (a .seconds) (a .nanoseconds) (t .result) (i .result) (start .fits .seconds) (t .ensures) (i .ensures))
+    let e1 : c .before .next .result ≡ nextOf (a .times) (i .result) = c .before .next .ensures in
+    e0 ∙ ap currentNumberOf (e1 ∙ at (nextOf (a .times)) (a .seconds) (a .nanoseconds) (i .result) (start .fits .seconds) (i .ensures))
 
 pub probe-next-spec : {M : Type 1} → this.Statement.statement M
-probe-next-spec = this.Tie.close (this.Tie.spec (λ c κs. tt) (λ c κs. tt) (λ c κs. tt) (λ c κs. tt) returns)
+probe-next-spec = this.Tie.close (this.Tie.spec (λ c κs. tt) (λ c κs. tt) (λ c κs. tt) returns)

@@ -6,13 +6,12 @@ use Rattle.probes.proofs.days.probe_remaining as this
 
 returns : this.Tie.Need-returns
 returns c =
-    let start = c .before .before .before .before in
+    let start = c .before .before .before in
     let a = start .args in
-    let t = c .before .before .before .prayer-times in
     let i = c .before .before .instant in
     let e0 : c .probe-hours-minutes .result ≡ probeRemainingOf (c .before .time-remaining .result) = c .probe-hours-minutes .ensures in
-    let e1 : c .before .time-remaining .result ≡ timeRemainingOf (t .result) (i .result) = c .before .time-remaining .ensures in
-    e0 ∙ ap probeRemainingOf (e1 ∙ at timeRemainingOf (a .times) (a .seconds) (a .nanoseconds) (t .result) (i .result) (start .fits .seconds) (t .ensures) (i .ensures))
+    let e1 : c .before .time-remaining .result ≡ timeRemainingOf (a .times) (i .result) = c .before .time-remaining .ensures in
+    e0 ∙ ap probeRemainingOf (e1 ∙ at (timeRemainingOf (a .times)) (a .seconds) (a .nanoseconds) (i .result) (start .fits .seconds) (i .ensures))
 
 pub probe-remaining-spec : {M : Type 1} → this.Statement.statement M
-probe-remaining-spec = this.Tie.close (this.Tie.spec (λ c κs. tt) (λ c κs. tt) (λ c κs. tt) (λ c κs. tt) returns)
+probe-remaining-spec = this.Tie.close (this.Tie.spec (λ c κs. tt) (λ c κs. tt) (λ c κs. tt) returns)

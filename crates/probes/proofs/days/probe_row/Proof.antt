@@ -1,16 +1,20 @@
+use Rattle.prelude.proofs.Logic.{ap}
+use Rattle.schedule.proofs.RowSunsLaws.{first-row}
+use Rattle.probes.specs.Days.{probeDayOf}
 use Rattle.probes.proofs.days.probe_row as this
 
 returns : this.Tie.Need-returns
 returns c =
     simp (
       c .answered .ensures,
-      c .before .new4 .ensures,
-      c .before .before .rules .ensures,
-      c .before .before .before .new3 .ensures,
-      c .before .before .before .before .new2 .ensures,
+      c .before .work .ensures,
+      c .before .before .new3 .ensures,
+      c .before .before .before .new2 .ensures,
+      c .before .before .before .before .rules .ensures,
       c .before .before .before .before .before .parameters .ensures,
       c .before .before .before .before .before .before .new .ensures,
     )
+    (ap probeDayOf (first-row _ _ _ _))
 
 pub probe-row-spec : {M : Type 1} → this.Statement.statement M
 probe-row-spec = this.Tie.close (this.Tie.spec (λ c κs. tt) (λ c κs. tt) (λ c κs. tt) (λ c κs. tt) (λ c κs. tt) (λ c κs. tt) (λ c κs. tt) returns)

@@ -1,7 +1,7 @@
 use Rattle.prelude.proofs.Logic.{_≡_, refl, ap, _∙_, _+_, _-_, _^_, _<_, arith, length, needs, now}
 use Rattle.calls.proofs.RowStates.{first-state, next-state}
 use Rattle.lines.specs.Lines.{lineText}
-use Rattle.row_suns.specs.RowSuns.{nextRowSunsOf}
+use Rattle.schedule.specs.RowSuns.{nextRowSunsOf}
 use Rattle.rows.proofs.Lengths.{lines-none}
 use Rattle.rows.proofs.Rolled.{Run, Behind, run-line}
 use Rattle.rows.proofs.sheet.put_rows as this

@@ -1,6 +1,6 @@
 use Rattle.prelude.proofs.Logic.{_≡_, ap, _∙_, _+_, _-_, _^_, _<_, arith, length, needs, now}
 use Rattle.calls.proofs.RowStates.{first-state, next-state}
-use Rattle.row_suns.specs.RowSuns.{nextRowSunsOf}
+use Rattle.schedule.specs.RowSuns.{nextRowSunsOf}
 use Rattle.weeks.specs.State.{minuteFrom}
 use Rattle.weeks.proofs.Rolled.{Run, Next, none-yet, run-line}
 use Rattle.weeks.proofs.report.put_windows as this

@@ -1,45 +1,31 @@
-use Rattle.prelude.proofs.Logic.{refl, sym, ap, _∙_, List, [], ℕ, arith, length, needs, now}
-use Rattle.lines.proofs.LinesLaws.{refused-length}
-use Rattle.lines.specs.Lines.{refusedOrderText}
+-- `weeks::report::write_week` meets its contract, by the laws of every report.
+use Rattle.prelude.proofs.Logic.{sym, _∙_, lit≤, needs}
 use Rattle.order.proofs.AcceptedLaws.{read-accepted}
-use Rattle.text.specs.Text.{ascii, frontOf}
-use Rattle.text.proofs.PrintedLaws.{printed-short, printed}
-use Rattle.text.proofs.TextLaws.{put-next}
-use Rattle.weeks.specs.Report.{weekText, longestWeek}
-use Rattle.weeks.proofs.PrintedLaws.{week-read, week-refused}
+use Rattle.text.proofs.PrintedLaws.{printed-short}
+use Rattle.reports.proofs.ReportsLaws.{report-read, report-refused}
 use Rattle.weeks.proofs.report.write_week as this
 
 returns : this.Tie.Need-returns
-returns c =
-    let a = c .before .before .before .args in
-    printed-short longestWeek (weekText (now (a .order))) (now (a .buffer)) (c .if1 .taken)
+returns c = printed-short _ _ _ (c .if1 .taken)
 
 put-report-requires : this.Tie.Need-put-report-requires
 put-report-requires c κs =
-    let a = c .before .before .before .before .before .before .before .before .args in
-    let e = sym (c .before .before .before .before .read .ensures) ∙ c .before .before .order .given .1 in
-    (read-accepted (now (a .order)) _ e, c .before .before .before .before .before .if1 .left)
+    let taken = c .before .before in
+    let called = taken .before .before in
+    (read-accepted _ _ (sym (called .read .ensures) ∙ taken .order .given .1), called .before .if1 .left)
 
 returns-2 : this.Tie.Need-returns-2
 returns-2 c =
-    let a = c .before .before .before .before .before .before .before .before .before .before .before .args in
-    let e = sym (c .before .before .before .before .before .before .before .read .ensures) ∙ c .before .before .before .before .before .order .given .1 in
-    let room = c .before .before .before .before .before .before .before .before .if1 .left in
-    let p = c .before .before .put-report .ensures in
-    let t = week-read (now (a .order)) _ e in
-    printed longestWeek (weekText (now (a .order))) (now (a .buffer)) room _ _ (p .0 ∙ ap length (sym t)) (p .1 ∙ ap (λ (x : List ℕ). frontOf x (now (a .buffer))) (sym t))
+    let taken = c .before .before .before .before .before in
+    let called = taken .before .before in
+    report-read _ _ _ _ (called .before .if1 .left) _ _ _ (sym (called .read .ensures) ∙ taken .order .given .1) (c .before .before .put-report .ensures)
 
 returns-3 : this.Tie.Need-returns-3
 returns-3 c =
-    let a = c .before .before .before .before .before .before .before .before .before .before .before .args in
-    let r = c .before .before .before .before .before .refusal .given .0 .0 in
-    let e = sym (c .before .before .before .before .before .before .before .read .ensures) ∙ c .before .before .before .before .before .refusal .given .1 in
-    let room = c .before .before .before .before .before .before .before .before .if1 .left in
-    let p = c .before .before .put-refused-order .ensures in
-    let n = refused-length (ascii "order") (ascii " place ") r in
-    let f = put-next (now (a .buffer)) [] (refusedOrderText r) (now (a .buffer)) _ 0 refl refl (p .1) (omega (arith, room)) in
-    let t = week-refused (now (a .order)) r e in
-    printed longestWeek (weekText (now (a .order))) (now (a .buffer)) room _ _ (p .0 ∙ ap length (sym t)) (f ∙ ap (λ (x : List ℕ). frontOf x (now (a .buffer))) (sym t))
+    let taken = c .before .before .before .before .before in
+    let called = taken .before .before in
+    report-refused _ _ _ _ (called .before .if1 .left) _ _ (lit≤ tt) _ (sym (called .read .ensures) ∙ taken .refusal .given .1)
+    (c .before .before .put-refused-order .ensures)
 
 pub write-week-spec : {M : Type 1} → this.Statement.statement M
 write-week-spec =

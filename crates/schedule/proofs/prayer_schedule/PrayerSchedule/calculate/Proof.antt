@@ -1,4 +1,7 @@
+use Rattle.prelude.proofs.Logic.{ap}
+use Rattle.schedule.specs.declared.prayer_schedule.Calculated.the-variants.{Worked}
 use Rattle.schedule.specs.Builder.{calculateOf}
+use Rattle.schedule.proofs.RowSunsLaws.{first-row}
 use Rattle.schedule.proofs.prayer_schedule.PrayerSchedule.calculate as this
 
 returns : this.Tie.Need-returns
@@ -6,13 +9,14 @@ unfolding calculateOf
 returns c =
     let n = c .before .before in
     simp (
-      c .new2 .ensures,
-      c .before .source .ensures,
-      n .new .ensures,
+      c .work .ensures,
+      c .before .new .ensures,
+      n .source .ensures,
       n .before .if3 .taken,
       n .before .before .if2 .taken,
       n .before .before .before .if1 .taken,
     )
+    (ap Worked (first-row _ _ _ _))
 
 pub calculate-spec : {M : Type 1} → this.Statement.statement M
 unfolding calculateOf

@@ -1,0 +1,19 @@
+-- Documents 01 and 02: each program "reads an order as the sheet program does, prints a refused one alike", and of one that is read its own text.
+use Prim.Native.Nat.{ℕ}
+use mathlib.Core.List.{List}
+use Rattle.lines.specs.Lines.{refusedOrderText}
+use Rattle.order.specs.declared.reading.Order.{Order}
+use Rattle.order.specs.declared.reading.Reading.{Reading}
+use Rattle.order.specs.declared.reading.Reading.the-variants.{Read, Refused}
+use Rattle.order.specs.Reading.{readingOf}
+
+unfoldable pub reportIn : (Order → List ℕ) → Reading → List ℕ
+reportIn text (Read o) = text o
+reportIn text (Refused r) = refusedOrderText r
+
+abbrev pub reportText : (Order → List ℕ) → List ℕ → List ℕ
+reportText text s = reportIn text (readingOf s)
+
+-- no refused order's line is longer
+abbrev pub longestRefused : ℕ
+longestRefused = 62
