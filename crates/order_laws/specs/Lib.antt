@@ -1,3 +1,4 @@
+pub mod NothingBreaks
 pub mod Printed
 pub mod Imsak
 pub mod Minutes
