@@ -5,3 +5,4 @@ pub mod NothingBreaksLaws
 pub mod PrintedLaws
 pub mod FormerRowsLaws
 pub mod EitherFormLaws
+pub mod SwappedLaws

@@ -21,6 +21,7 @@ use Rattle.order.specs.declared.reading.Reading.the-variants.{Read}
 use Rattle.order_laws.specs.FormerRows.{formerLengthFits, formerFaultOf, formerWalkOf, formerCheckOf, formerRowsFit, formerInRange, formerOrderOf, formerReadingOf}
 use Rattle.order_laws.specs.Minutes.{LaterOrder}
 use Rattle.order_laws.specs.EitherForm.{saysPlace, SamePlace}
+use Rattle.order_laws.specs.Swapped.{Sent, Swapped}
 
 abbrev begun : List ℕ
 begun = (1 ∷ 0 ∷ 1 ∷ 80 ∷ []) ++ (2 ∷ 0 ∷ 4 ∷ 7 ∷ 234 ∷ 6 ∷ 21 ∷ []) ++ (3 ∷ 0 ∷ 1 ∷ 1 ∷ [])
@@ -91,6 +92,20 @@ can-be-sent-either-way =
       «second_read» = refl;
       latitude = refl;
       longitude = refl;
+      others = of-each Same 20 each-same;
+    }
+
+pub can-be-swapped : Swapped earlier onTheMap
+unfolding readingOf firstOf isGivenOf bothFormsOf formIn coordinateIn formFits degreesOf checkOf walkOf faultOf faultIn valueFaultOf firstBefore lengthAt unsignedOf lengthFits choiceFits offsetOf hasOf valueOf valueStartOf missingOf firstFailing tagsFrom outOfRangeOf inRangeOf fitsOf lookUp printable rowsFit ramadanRows minuteFits minutesFit intervalFits dateIn rowsIn degreesIn minutesIn byteOr degreesOr roundingOr minutesOr intervalOr parametersIn rulesIn clockIn ramadanIn orderOf wrongStartOf townOf signedAtOf bytesNumberOf bitsOf floatOf timeAdjustmentsOf existsOf leapOf lengthOf daysBeforeOf ordinalOf countBelow monthOf ofOrdinalOf daysBeforeYearOf dayNumberOf lastBy yearOf dateAtOf dateOfDayOf heldOf fromOf le neg ofBits round dec
+can-be-swapped =
+    record {
+      order = orderOf (valuesOf earlier);
+      «first_read» = refl;
+      fields = refl;
+      latitude = Sent.swapped refl refl refl;
+      longitude = Sent.swapped refl refl refl;
+      «same_latitude» = refl;
+      «same_longitude» = refl;
       others = of-each Same 20 each-same;
     }
 

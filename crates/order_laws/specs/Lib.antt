@@ -4,3 +4,4 @@ pub mod Imsak
 pub mod Minutes
 pub mod FormerRows
 pub mod EitherForm
+pub mod Swapped
