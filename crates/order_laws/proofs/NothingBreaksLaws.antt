@@ -25,7 +25,7 @@ use Rattle.refusals.specs.Refusals.{refusal}
 use Rattle.refusals.specs.declared.Refusal.{Refusal}
 use Rattle.reports.specs.Reports.{reportIn}
 use Rattle.rows.proofs.Answers.{row-short, row-read, row-refused}
-use Rattle.rows.specs.Rows.{answerOf, rowFrontOf, readAnswerOf, readBufferOf, rowAnswerOf, rowBufferOf, headText, linesText, acceptedText, sheetText}
+use Rattle.rows.specs.Rows.{workedCallOf, readCallOf, rowCallOf, headText, linesText, acceptedText, sheetText}
 use Rattle.schedule.proofs.Schedule.{sunsOf, dayHoursOf, rowHoursOf, hoursOf, numbersOf, seasonOf, workedFrom, workedOf}
 use Rattle.schedule.specs.declared.hours.RowHours.{RowHours}
 use Rattle.schedule.specs.declared.hours.RowNumbers.{RowNumbers}
@@ -152,13 +152,13 @@ day-number (suc n) e = ne-eqb (suc n) 0 (omega arith)
 
 module _ (o : Order) (row : ℕ) (buffer : List ℕ) where
   by-worked : (w : Worked) → workDateOf o (rowDateOf (o .date) row) ≡ w → rowRoom (o .ramadan) ≤ length buffer
-      → Lent (answerOf w .number) (lineText (o .ramadan) (rowDateOf (o .date) row) w) buffer (rowFrontOf (o .ramadan) (rowDateOf (o .date) row) w buffer)
-  unfolding answerOf rowFrontOf lineText
+      → Lent (workedCallOf (o .ramadan) (rowDateOf (o .date) row) w buffer .answer .number) (lineText (o .ramadan) (rowDateOf (o .date) row) w) buffer (workedCallOf (o .ramadan) (rowDateOf (o .date) row) w buffer .buffer)
+  unfolding workedCallOf lineText
   by-worked (worked.Times t) e h = written-lent (let l = columns-length (o .ramadan) (rowDateOf (o .date) row) t in omega arith)
   by-worked (worked.Refused r) e h = refused-lent (day-number (r .number) (refused-day o (rowDateOf (o .date) row) r e .number))
 
-  read-lent : Lent (readAnswerOf o row buffer .number) (lineOf o row) buffer (readBufferOf o row buffer)
-  unfolding readAnswerOf readBufferOf workRowOf answerOf rowFrontOf
+  read-lent : Lent (readCallOf o row buffer .answer .number) (lineOf o row) buffer (readCallOf o row buffer .buffer)
+  unfolding readCallOf workRowOf workedCallOf
   read-lent =
       cases (ltb (length buffer) (rowRoom (o .ramadan))) (λ short. rw short (refused-lent refl))
       (λ there. rw there
@@ -166,14 +166,14 @@ module _ (o : Order) (row : ℕ) (buffer : List ℕ) where
       (λ h. rw h (refused-lent refl))))
 
 row-lent : (s : List ℕ) (row : ℕ) (buffer : List ℕ)
-    → Lent (rowAnswerOf s row buffer .number) (writtenOf (λ o. lineOf o row) (readingOf s)) buffer (rowBufferOf s row buffer)
+    → Lent (rowCallOf s row buffer .answer .number) (writtenOf (λ o. lineOf o row) (readingOf s)) buffer (rowCallOf s row buffer .buffer)
 row-lent s row buffer =
     cases (ltb (length buffer) fullRow)
     (λ h. let short = row-short s buffer row (ltb-true (length buffer) fullRow h) in rw (← short .0, ← short .1) (refused-lent refl))
     (λ h. by-reading (readingOf s) refl (ltb-false (length buffer) fullRow h))
   where
     by-reading : (x : Reading) → readingOf s ≡ x → fullRow ≤ length buffer
-        → Lent (rowAnswerOf s row buffer .number) (writtenOf (λ o. lineOf o row) x) buffer (rowBufferOf s row buffer)
+        → Lent (rowCallOf s row buffer .answer .number) (writtenOf (λ o. lineOf o row) x) buffer (rowCallOf s row buffer .buffer)
     by-reading (reading.Read o) e h = let read = row-read s buffer row h o e in rw (← read .0, ← read .1) (read-lent o row buffer)
     by-reading (reading.Refused r) e h = let no = row-refused s buffer row h r e in rw (← no .0, ← no .1) (refused-lent (order-number s r e))
 

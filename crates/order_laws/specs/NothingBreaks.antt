@@ -23,7 +23,7 @@ use Rattle.order.specs.declared.reading.Reading.{Reading}
 use Rattle.order.specs.declared.reading.Reading.the-variants as reading
 use Rattle.pages.specs.Answers.{oneRow, pieceIn, rowWritten, rowBuffer, pageWritten, pageBuffer}
 use Rattle.pages.specs.Pages.{cellsOf}
-use Rattle.rows.specs.Rows.{rowAnswerOf, rowBufferOf, headText, sheetText}
+use Rattle.rows.specs.Rows.{rowCallOf, headText, sheetText}
 use Rattle.schedule.specs.Numbers.{numbersOf}
 use Rattle.schedule.specs.declared.prayer_times.Worked.the-variants as worked
 use Rattle.solar.specs.Times.{solarTimeOf}
@@ -95,7 +95,7 @@ pub record NothingBreaks (s : List ℕ) : Type 0 where
   pub sheet : (o : Order) → readingOf s ≡ reading.Read o → sheetText s ≡ headText (o .ramadan) (townOf s) ++ eachOf (lineOf o) (o .rows)
   -- the calls that write: a row, a row of cells, a page of cells or a piece of it
   pub row : (row : ℕ) (buffer : List ℕ)
-      → Lent (rowAnswerOf s row buffer .number) (writtenOf (λ o. lineOf o row) (readingOf s)) buffer (rowBufferOf s row buffer)
+      → Lent (rowCallOf s row buffer .answer .number) (writtenOf (λ o. lineOf o row) (readingOf s)) buffer (rowCallOf s row buffer .buffer)
   pub cells : (row : ℕ) (buffer : List ℕ)
       → Lent (rowWritten row s buffer .refusal .number) (writtenOf (λ o. cellsOf (oneRow row o)) (readingOf s)) buffer (rowBuffer row s buffer)
   pub page : (page first : ℕ) (scratch : List ℕ)
