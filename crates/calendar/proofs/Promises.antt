@@ -1,5 +1,6 @@
 -- The calendar is the Gregorian one. Assumes nothing.
 use Rattle.calendar.specs.Promises.{CalendarIsGregorian}
+use Rattle.calendar.proofs.Successors.{row-zero, row-after}
 use Rattle.calendar.proofs.CalendarLaws.{ordinal-first, ordinal-last, ordinal-next, day-zero, day-after, day-after-exists, day-before-exists, after-before, before-after, date-of-number, number-of-date, date-of-day-exists, weekday-zero, weekday-next}
 
 pub calendar-is-gregorian : CalendarIsGregorian
@@ -14,6 +15,8 @@ calendar-is-gregorian =
       «ordinal_first» = ordinal-first;
       «ordinal_next» = ordinal-next;
       «ordinal_last» = ordinal-last;
+      «row_first» = row-zero;
+      «row_next» = λ d k h. row-after d h k;
       «weekday_zero» = weekday-zero;
       «weekday_next» = weekday-next;
     }

@@ -1,10 +1,10 @@
 -- The days before and after a date, and the dates of rows, where every year fits a u32. Assumes nothing.
-use Rattle.prelude.proofs.Logic.{_≡_, sym, ap, subst, _∙_, true, ℕ, _+_, _≤_, arith, ltb, pos, _+ℤ_, le-leb, either}
+use Rattle.prelude.proofs.Logic.{_≡_, sym, ap, subst, _∙_, true, ℕ, _+_, _≤_, _<_, arith, leb, ltb, pos, _+ℤ_, le-leb, cases, either}
 use Rattle.calendar.specs.Answers.{heldOf, fromOf, tomorrowOf, yesterdayOf, rowDateOf}
 use Rattle.calendar.specs.Days.{dayNumberOf, dateOfDayOf}
 use Rattle.calendar.specs.Gregorian.{existsOf, daysInMonthOf, dayAfterOf, dayBeforeOf}
 use Rattle.calendar.specs.declared.dates.Date.{Date}
-use Rattle.calendar.proofs.CalendarLaws.{before-after, day-after-exists, row-next, date-of-day-exists}
+use Rattle.calendar.proofs.CalendarLaws.{before-after, day-after-exists, row-first, row-next, date-of-day-exists}
 
 -- a year holds, or the next one begins
 pub year-after : (d : Date) → (d .year ≤ dayAfterOf d .year) × (dayAfterOf d .year ≤ d .year + 1)
@@ -49,3 +49,22 @@ module _ (d : Date) (h : existsOf d ≡ true) where
       ∙ n
       ∙ sym (tomorrow-is e (date-of-day-exists (dayNumberOf d +ℤ pos k)) l)
       ∙ ap tomorrowOf (sym (row-is k (omega arith)))
+
+  -- a row whose year a u32 holds, and the next one's
+  row-held : (k : ℕ) → rowDateOf d k .year < 4294967295 → dateOfDayOf (dayNumberOf d +ℤ pos k) .year + 1 ≤ 4294967295
+  unfolding fromOf heldOf
+  row-held k l =
+      let e : Date = dateOfDayOf (dayNumberOf d +ℤ pos k) in
+      let m = rw h at l in
+      cases (leb (e .year) 4294967295) (λ t. let y = rw t at m in omega arith) (λ t. let y = rw t at m in absurd (omega arith))
+
+  pub row-zero : d .year ≤ 4294967295 → rowDateOf d 0 ≡ d
+  row-zero l = let f = row-first d h in row-is 0 (subst (λ (x : Date). x .year ≤ 4294967295) (sym f) l) ∙ f
+
+  pub row-after : (k : ℕ) → rowDateOf d k .year < 4294967295 → rowDateOf d (k + 1) ≡ dayAfterOf (rowDateOf d k)
+  row-after k l =
+      let e : Date = dateOfDayOf (dayNumberOf d +ℤ pos k) in
+      let n : dateOfDayOf (dayNumberOf d +ℤ pos (k + 1)) ≡ dayAfterOf e = row-next d k h in
+      let y = year-after e .1 in
+      let held = row-held k l in
+      row-is (k + 1) (subst (λ (x : Date). x .year ≤ 4294967295) (sym n) (omega arith)) ∙ n ∙ ap dayAfterOf (sym (row-is k (omega arith)))

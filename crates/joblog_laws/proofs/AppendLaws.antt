@@ -1,5 +1,5 @@
 -- What a single call leaves of both buffers, and a cut at any byte of an append. Assumes nothing.
-use Rattle.prelude.proofs.Logic.{_≡_, refl, sym, ap, _∙_, Bool, true, false, cond, _&&_, List, _++_, ℕ, _+_, _-_, _*_, _≤_, _<_, arith, leb, ltb, eqb, length, take, drop, length-append, drop-append-add, drop-drop, length-take-le, le-leb, leb-true, leb-false, ltb-true, ltb-false, arms}
+use Rattle.prelude.proofs.Logic.{_≡_, refl, sym, ap, _∙_, Bool, true, false, cond, _&&_, List, _++_, ℕ, _+_, _-_, _*_, _≤_, _<_, arith, leb, ltb, eqb, length, take, drop, length-append, drop-append-add, drop-drop, length-take-le, le-leb, leb-true, leb-false, ltb-true, ltb-false, arms, both}
 use Rattle.refusals.specs.Refusals.{bufferShort, logSecondShort, logOutOfTurn}
 use Rattle.text.specs.Text.{putOf}
 use Rattle.joblog.specs.declared.records.State.{State}
@@ -7,13 +7,13 @@ use Rattle.joblog.specs.declared.records.LogReading.{LogReading}
 use Rattle.joblog.specs.declared.records.LogReading.the-variants.{Says, OutOfTurn}
 use Rattle.joblog.specs.Records.{state, recordAs, bytesOf, recordsOf, wholeOf, inTurn, afterOf, logReadingOf, compactedOf}
 use Rattle.joblog.specs.declared.calls.Log.{Log}
-use Rattle.joblog.specs.Calls.{LogCall, refusing, answered, readAnswer, readLogOf, newInTurn, compactAnswer, compactingOf, loggedOf, appendedOf, appendOf, restartedOf, restartOf}
+use Rattle.joblog.specs.Calls.{LogCall, refused, refusing, answered, readAnswer, readLogOf, newInTurn, compactAnswer, compactingOf, loggedOf, appendedOf, appendOf, restartedOf, restartOf}
 use Rattle.joblog.proofs.CompactLaws.{bytes-length, put-none}
 use Rattle.joblog.proofs.CallLaws.{with-length}
 use Rattle.joblog_laws.specs.Run.{inPlace}
-use Rattle.joblog_laws.specs.Appends.{Unchanged, RefusedChangesNothing, FirstBufferStays, FiveBytesChange, cutAt, CutAtAnyByte, NextTakesItsPlace, RoomIsEnough}
+use Rattle.joblog_laws.specs.Appends.{Unchanged, RefusedChangesNothing, FirstBufferStays, FiveBytesChange, cutAt, CutAtAnyByte, NextTakesItsPlace, RoomIsEnough, SaysSo, LogSaysSo}
 use Rattle.joblog_laws.proofs.ReadingLaws.{read-ordered}
-use Rattle.joblog_laws.proofs.HeldLaws.{Held, held-read, put-read, put-held, cut-before, Outcome, refusal, placed, moved, append-outcome}
+use Rattle.joblog_laws.proofs.HeldLaws.{Held, held-read, put-read, put-held, moved-held, restart-held, cut-before, Outcome, refusal, placed, moved, append-outcome}
 
 -- ---- which bytes change
 Keeps : List ℕ → List ℕ → LogCall → Type 0
@@ -214,3 +214,61 @@ enough log used tag page second true (Says s) f e room =
 pub room-is-enough : RoomIsEnough
 unfolding NotShort appendOf
 room-is-enough log used tag page second room = enough log used tag page second (leb used (length log)) (logReadingOf (take used log)) refl refl room
+
+-- ---- what the log says then
+held-says : (log : List ℕ) (used : ℕ) (s : State) → Held log used s
+    → (readLogOf log used .number ≡ 0) × (readLogOf log used .finished ≡ s .finished) × (readLogOf log used .sent ≡ s .sent)
+held-says log used s h = let e = held-read log used s h in (ap (λ (l : Log). l .number) e, ap (λ (l : Log). l .finished) e, ap (λ (l : Log). l .sent) e)
+
+read-held : (log : List ℕ) (used : ℕ) (s : State) → leb used (length log) ≡ true → logReadingOf (take used log) ≡ Says s → Held log used s
+read-held log used s f e =
+    record { fits = leb-true used (length log) f; reads = e; ordered = read-ordered true (state 0 0) s (recordsOf (take used log)) e (omega arith) }
+
+module _ (log : List ℕ) (used tag page : ℕ) (second : List ℕ) where
+  outcome-says : (s : State) (c : LogCall) → Held log used s → Outcome log used s tag page second c → eqb (c .answer .number) 0 ≡ true → SaysSo c used
+  outcome-says s c h (refusal number after e) a = let z : _≡_ {A = ℕ} 0 1 = cc in absurd (omega arith)
+  outcome-says s c h (placed turn room) a =
+      held-says (putOf log (wholeOf used) (bytesOf tag page)) (wholeOf used + 5) (afterOf s (recordAs tag page)) (put-held log used s h tag page turn room)
+  outcome-says s c h (moved turn room) a =
+      held-says (putOf second 0 (compactedOf s ++ bytesOf tag page)) (length (compactedOf s ++ bytesOf tag page)) (afterOf s (recordAs tag page)) (moved-held log used s h tag page turn second room)
+
+  append-says : (b : Bool) → leb used (length log) ≡ b → (x : LogReading) → logReadingOf (take used log) ≡ x
+      → eqb (cond b (appendedOf x log used tag page second) (refusing bufferShort 0 log second) .answer .number) 0 ≡ true
+      → eqb (appendOf log used tag page second .answer .number) 0 ≡ true → SaysSo (appendOf log used tag page second) used
+  unfolding appendedOf
+  append-says false f x e i a = let z : _≡_ {A = ℕ} 0 1 = cc in absurd (omega arith)
+  append-says true f (OutOfTurn p) e i a = let z : _≡_ {A = ℕ} 0 1 = cc in absurd (omega arith)
+  append-says true f (Says s) e i a =
+      let h = read-held log used s f e in
+      outcome-says s (appendOf log used tag page second) h (append-outcome log used s tag page second h) a
+
+module _ (log : List ℕ) (used count : ℕ) (second : List ℕ) where
+  Restarted : LogCall → Type 0
+  Restarted c = eqb (c .answer .number) 0 ≡ true → SaysSo c used × (c .answer .finished ≡ count) × (c .answer .sent ≡ readLogOf log used .sent)
+
+  restart-says : (b : Bool) → leb used (length log) ≡ b → (x : LogReading) → logReadingOf (take used log) ≡ x
+      → Restarted (cond b (restartedOf x log count second) (refusing bufferShort 0 log second))
+  unfolding Restarted restartedOf compactAnswer
+  restart-says false f x e = λ a. let z : _≡_ {A = ℕ} 0 1 = cc in absurd (omega arith)
+  restart-says true f (OutOfTurn p) e = λ a. let z : _≡_ {A = ℕ} 0 1 = cc in absurd (omega arith)
+  restart-says true f (Says s) e =
+      arms Restarted (leb (s .finished) count && leb count (s .sent))
+      (λ t. let high = leb-true count (s .sent) (both (leb (s .finished) count) (leb count (s .sent)) t .1) in
+      let now = state count (s .sent) in
+      by-room high (leb (length (compactedOf now)) (length second)) refl)
+      (λ t a. let z : _≡_ {A = ℕ} 0 1 = cc in absurd (omega arith))
+    where
+      by-room : count ≤ s .sent → (b : Bool) → leb (length (compactedOf (state count (s .sent)))) (length second) ≡ b
+          → Restarted (record { answer = cond b (answered 1 (state count (s .sent)) (length (compactedOf (state count (s .sent))))) (refused logSecondShort count); log = log; second = putOf second 0 (compactedOf (state count (s .sent))) })
+      by-room high false r a = let z : _≡_ {A = ℕ} 0 1 = cc in absurd (omega arith)
+      by-room high true r a =
+          let now = state count (s .sent) in
+          let held = restart-held now second high (leb-true (length (compactedOf now)) (length second) r) in
+          (held-says (putOf second 0 (compactedOf now)) (length (compactedOf now)) now held, refl, sym (held-says log used s (read-held log used s f e) .2))
+
+pub log-says-so : LogSaysSo
+unfolding appendOf restartOf Restarted
+log-says-so log used second = (
+  λ tag page a. append-says log used tag page second (leb used (length log)) refl (logReadingOf (take used log)) refl a a,
+  λ count. restart-says log used count second (leb used (length log)) refl (logReadingOf (take used log)) refl,
+)

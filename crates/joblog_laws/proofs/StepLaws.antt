@@ -1,5 +1,5 @@
 -- What every step of a run keeps. Assumes nothing.
-use Rattle.prelude.proofs.Logic.{_≡_, refl, sym, ap, subst, _∙_, Bool, true, false, cond, _&&_, false≢true, List, [], _∷_, _++_, append-assoc, append-nil, ℕ, suc, _+_, _≤_, _<_, arith, leb, ltb, eqb, length, take, drop, length-append, length-drop, take-append-drop, take-add, length-take-le, leb-true, ltb-true, eqb-true, arms, cases, both}
+use Rattle.prelude.proofs.Logic.{_≡_, refl, sym, ap, subst, _∙_, Bool, true, false, cond, _&&_, false≢true, List, [], _∷_, _++_, append-assoc, append-nil, ℕ, suc, _+_, _≤_, _<_, arith, leb, ltb, eqb, length, take, drop, length-append, length-drop, take-append-drop, take-add, length-take-le, leb-true, ltb-true, arms, cases, both}
 use Rattle.refusals.specs.Refusals.{logSecondShort}
 use Rattle.text.specs.Text.{putOf}
 use Rattle.text.proofs.TextLaws.{put-behind, put-nothing}
@@ -7,8 +7,7 @@ use Rattle.joblog.specs.declared.records.State.{State}
 use Rattle.joblog.specs.Records.{state, bytesOf, wholeOf, recordsOf, readOf, compactedOf}
 use Rattle.joblog.proofs.CompactLaws.{bytes-length}
 use Rattle.joblog.specs.Calls.{LogCall, answered, refused, readLogOf, compactAnswer, compactingOf, appendOf, restartOf}
-use Rattle.prelude.specs.Lists.{listed}
-use Rattle.joblog_laws.specs.Run.{Writing, idle, within, World, begun, Step, begins, byte, completes, goes, finishes, hears, lost, crash, restart, asRequested, logAfter, usedAfter, inPlace, mayAppend, beginning, withByte, writingByte, completing, mayBeUsed, crashUsed, isIdle, finishing, arriving, next, run}
+use Rattle.joblog_laws.specs.Run.{Writing, idle, within, World, begun, Step, begins, byte, completes, goes, finishes, hears, lost, crash, restart, acknowledged, asRequested, logAfter, usedAfter, inPlace, mayAppend, beginning, withByte, writingByte, completing, mayBeUsed, crashUsed, isIdle, finishing, arriving, next, run}
 use Rattle.joblog_laws.specs.Histories.{pagesTo}
 use Rattle.joblog_laws.proofs.HeldLaws.{Held, held-read, cutLog, Change, same, sent, done, Outcome, refusal, placed, moved, append-outcome, append-after, cut-now, cut-after, restart-outcome, restart-held}
 use Rattle.joblog_laws.proofs.PageLaws.{pages-length, pages-front, first-page}
@@ -40,11 +39,11 @@ abbrev pub Below : ℕ → List ℕ → Type 0
 Below n [] = Unit
 Below n (page ∷ pages) = (page ≤ n) × Below n pages
 
-below-listed : (n : ℕ) (pages : List ℕ) (page : ℕ) → Below n pages → listed pages page ≡ true → page ≤ n
-unfolding listed
-below-listed n [] page b h = absurd (false≢true h)
-below-listed n (p ∷ pages) page b h =
-    cases (eqb p page) (λ e. let q = eqb-true p page e in let l = b .0 in omega arith) (λ e. below-listed n pages page (b .1) (rw e at h))
+below-acknowledged : (n : ℕ) (pages : List ℕ) (page : ℕ) → Below n pages → acknowledged pages page ≡ true → page ≤ n
+unfolding acknowledged
+below-acknowledged n [] page b h = absurd (false≢true h)
+below-acknowledged n (p ∷ pages) page b h =
+    cases (leb page p) (λ e. let q = leb-true page p e in let l = b .0 in omega arith) (λ e. below-acknowledged n pages page (b .1) (rw e at h))
 
 below-more : (n m : ℕ) (pages : List ℕ) → n ≤ m → Below n pages → Below m pages
 below-more n m [] l b = tt
@@ -128,8 +127,8 @@ in-flight w i e = subst (Flight (i .base) (w .log) (w .used) (i .says) (length (
 -- ---- an append begins
 may-append : (w : World) (i : Inv w) (tag page : ℕ) → mayAppend asRequested w tag page ≡ true → tag ≡ 2 → page ≤ length (w .finished)
 may-append w i tag page h two =
-    let k = both (w .up) (cond (eqb tag 2) (listed (w .heard) page) true) h in
-    below-listed (length (w .finished)) (w .heard) page (i .heard) (rw two at (k .1))
+    let k = both (w .up) (cond (eqb tag 2) (acknowledged (w .heard) page) true) h in
+    below-acknowledged (length (w .finished)) (w .heard) page (i .heard) (rw two at (k .1))
 
 no-bytes : (log : List ℕ) (used : ℕ) (c : LogCall) (tag page : ℕ) → used ≤ length log → log ≡ cutLog log used c tag page 0
 no-bytes log used c tag page fits = arms (λ (x : List ℕ). log ≡ x) (inPlace c) (λ b. sym (put-nothing log (wholeOf used) (omega arith))) (λ b. refl)

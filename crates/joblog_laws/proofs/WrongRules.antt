@@ -2,10 +2,9 @@
 -- `asRequested` is needed. Assumes nothing.
 use Rattle.prelude.proofs.Logic.{_≡_, refl, ap, true, List, [], _∷_, _++_, ℕ, arith, leb, getD, replicate}
 use Rattle.text.specs.Text.{putOf}
-use Rattle.joblog.specs.Records.{bytesOf, recordsOf, inTurn, afterOf, readOf, openOf, compactedOf}
-use Rattle.joblog.specs.Calls.{readLogOf, readAnswer, newInTurn, compactAnswer, loggedOf, appendedOf, appendOf, restartedOf, restartOf}
-use Rattle.prelude.specs.Lists.{listed}
-use Rattle.joblog_laws.specs.Run.{World, begun, Step, begins, byte, completes, goes, finishes, hears, lost, crash, restart, HostRules, asRequested, beginning, writingByte, completing, finishing, arriving, crashUsed, isIdle, next, run}
+use Rattle.joblog.specs.Records.{state, bytesOf, recordsOf, inTurn, afterOf, readOf, openOf, compactedOf}
+use Rattle.joblog.specs.Calls.{answered, readLogOf, readAnswer, newInTurn, compactAnswer, loggedOf, appendedOf, appendOf, restartedOf, restartOf}
+use Rattle.joblog_laws.specs.Run.{World, begun, Step, begins, byte, completes, goes, finishes, hears, lost, crash, restart, HostRules, acknowledged, asRequested, beginning, writingByte, completing, finishing, arriving, crashUsed, isIdle, next, run}
 use Rattle.joblog_laws.specs.Histories.{pagesTo, KeptBy}
 
 abbrev buffer : List ℕ
@@ -20,7 +19,7 @@ appended tag page = started tag page ++ (byte ∷ completes ∷ [])
 
 -- where a history ends; to unfold this is to unfold all that a run computes
 ends : HostRules → List Step → World
-unfolding run next beginning writingByte completing finishing arriving crashUsed isIdle listed putOf bytesOf recordsOf inTurn afterOf readOf openOf compactedOf readLogOf readAnswer newInTurn compactAnswer loggedOf appendedOf appendOf restartedOf restartOf pagesTo
+unfolding run next beginning writingByte completing finishing arriving crashUsed isIdle acknowledged putOf bytesOf recordsOf inTurn afterOf readOf openOf compactedOf readLogOf readAnswer newInTurn compactAnswer loggedOf appendedOf appendOf restartedOf restartOf pagesTo
 ends rules steps = run rules (begun buffer) steps
 
 -- ---- by the request: pages 1 and 2 go out and are finished, page 1's done is recorded, page 2's acknowledgement is lost, the host crashes in the append
@@ -34,9 +33,18 @@ as-requested : ends asRequested one-lost .finished ≡ 1 ∷ 2 ∷ 3 ∷ []
 unfolding ends one-lost
 as-requested = refl
 
+-- page 1's acknowledgement is lost and page 2's is heard, which stands for both: both dones are recorded
+later-heard : List Step
+later-heard =
+    appended 1 1 ++ (goes ∷ []) ++ appended 1 2 ++ (goes ∷ finishes ∷ finishes ∷ lost ∷ hears ∷ []) ++ appended 2 1 ++ appended 2 2
+
+both-done : readLogOf (ends asRequested later-heard .log) (ends asRequested later-heard .used) ≡ answered 0 (state 2 2) 20
+unfolding ends later-heard
+both-done = refl
+
 -- ---- the open pages after the last done go out again, whatever the count: page 1, finished and not recorded as done, is finished twice
 abbrev pub from-the-last-done : HostRules
-from-the-last-done = record { told = listed; ready = leb; resume = λ done count. done; kept = λ tray. [] }
+from-the-last-done = record { told = acknowledged; ready = leb; resume = λ done count. done; kept = λ tray. [] }
 
 sent-again : List Step
 sent-again = appended 1 1 ++ (goes ∷ finishes ∷ crash 0 0 ∷ restart buffer ∷ goes ∷ finishes ∷ [])
@@ -53,7 +61,7 @@ not-from-the-last-done h =
 
 -- ---- the embosser keeps its tray when it reports its count: page 1, in the tray and sent again, is finished twice
 abbrev pub keeps-its-tray : HostRules
-keeps-its-tray = record { told = listed; ready = leb; resume = λ done count. count; kept = λ tray. tray }
+keeps-its-tray = record { told = acknowledged; ready = leb; resume = λ done count. count; kept = λ tray. tray }
 
 in-the-tray : List Step
 in-the-tray = appended 1 1 ++ (goes ∷ crash 1 0 ∷ restart buffer ∷ goes ∷ finishes ∷ finishes ∷ [])
@@ -85,7 +93,7 @@ not-done-before-finished h = let e : _≡_ {A = ℕ} 14 0 = h buffer too-early .
 
 -- ---- a page goes out before its sent record is whole: it is finished, the count is over the log's sent pages, and refused by 14
 abbrev pub goes-before-its-record : HostRules
-goes-before-its-record = record { told = listed; ready = λ page sent. true; resume = λ done count. count; kept = λ tray. [] }
+goes-before-its-record = record { told = acknowledged; ready = λ page sent. true; resume = λ done count. count; kept = λ tray. [] }
 
 no-record : List Step
 no-record = goes ∷ finishes ∷ crash 0 0 ∷ []

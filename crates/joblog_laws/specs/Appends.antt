@@ -9,7 +9,7 @@ use Rattle.refusals.specs.Refusals.{logSecondShort}
 use Rattle.text.specs.Text.{putOf}
 use Rattle.joblog.specs.Records.{bytesOf, wholeOf}
 use Rattle.joblog.specs.Calls.{LogCall, readLogOf, appendOf, restartOf}
-use Rattle.joblog_laws.specs.Run.{inPlace}
+use Rattle.joblog_laws.specs.Run.{logAfter, usedAfter, inPlace}
 
 -- ---- which bytes change
 abbrev pub Unchanged : LogCall → List ℕ → List ℕ → Type 0
@@ -61,3 +61,17 @@ abbrev pub RoomIsEnough : Type 0
 RoomIsEnough =
     (log : List ℕ) (used tag page : ℕ) (second : List ℕ) → 10 + 5 * (readLogOf log used .sent - readLogOf log used .finished) ≤ length second
     → eqb (appendOf log used tag page second .answer .number) logSecondShort ≡ false
+
+-- ---- what the log says after a call that is not refused: what the call answers
+abbrev pub SaysSo : LogCall → ℕ → Type 0
+SaysSo c used =
+    let now = readLogOf (logAfter c) (usedAfter c used) in
+    (now .number ≡ 0) × (now .finished ≡ c .answer .finished) × (now .sent ≡ c .answer .sent)
+
+-- an append, whether it compacts or not; and a restart: "the log is compacted with the count as finished", its open pages as they were
+abbrev pub LogSaysSo : Type 0
+LogSaysSo =
+    (log : List ℕ) (used : ℕ) (second : List ℕ)
+    → ((tag page : ℕ) → eqb (appendOf log used tag page second .answer .number) 0 ≡ true → SaysSo (appendOf log used tag page second) used)
+    × ((count : ℕ) → let c = restartOf log used count second in
+    eqb (c .answer .number) 0 ≡ true → SaysSo c used × (c .answer .finished ≡ count) × (c .answer .sent ≡ readLogOf log used .sent))

@@ -8,8 +8,9 @@
 --   a count     it is true where it is the number of pages finished, and the embosser drops what it has not finished when it reports it: the open
 --               pages go out again, and one still in its tray would be finished twice (`keeps-its-tray` in proofs/WrongRules).
 --   the host    after any crash it restarts before it appends or sends: `up` says so. It sends no page while it is in an append.
---   a done      is recorded only of a page whose acknowledgement the host has heard. The embosser gives one when it has finished a page; it may be
---               lost on its way, or come late, after a crash and a restart too (the steps `hears` and `lost`).
+--   a done      is recorded only of a page that an acknowledgement stands for which the host has heard: its own or a later page's, since pages are
+--               finished in order. The embosser gives one when it has finished a page; it may be lost on its way, or come late, after a crash and a
+--               restart too (the steps `hears` and `lost`).
 --   the buffer  an append's bytes become lasting one by one, from the first on, and `used` never counts a byte that is not lasting; the move to the
 --               second buffer is lasting at once, when the call has returned and before a page goes out.
 use Prim.Native.Nat.{ℕ, _+_}
@@ -17,7 +18,6 @@ use mathlib.Core.Bool.{Bool, true, false, cond, _&&_, _||_}
 use mathlib.Core.List.{List, [], _∷_, _++_}
 use lib.Dec.{leb, ltb, eqb}
 use lib.ListN.{length, take, drop}
-use Rattle.prelude.specs.Lists.{listed}
 use Rattle.text.specs.Text.{putOf}
 use Rattle.joblog.specs.Records.{doneTag, bytesOf, wholeOf}
 use Rattle.joblog.specs.Calls.{LogCall, readLogOf, appendOf, restartOf}
@@ -70,7 +70,7 @@ pub data Step : Type 0 where
 
 -- ---- the rules of host and embosser. Those of the request are below; proofs/WrongRules has others, under which the promise fails.
 pub record HostRules : Type 0 where
-  -- the pages whose acknowledgement was heard, a page: may the host record it as done?
+  -- the pages whose acknowledgements were heard, a page: may the host record it as done?
   pub told : List ℕ → ℕ → Bool
   -- a page, the pages that the log says are sent: may it go out?
   pub ready : ℕ → ℕ → Bool
@@ -79,9 +79,14 @@ pub record HostRules : Type 0 where
   -- what is left of the embosser's tray once it has reported its count
   pub kept : List ℕ → List ℕ
 
+-- an acknowledgement stands for its page and those before it, whose own may be lost
+unfoldable pub acknowledged : List ℕ → ℕ → Bool
+acknowledged [] page = false
+acknowledged (p ∷ heard) page = leb page p || acknowledged heard page
+
 -- "a page goes out only after its sent record is whole"; "the log is compacted with the count as finished, its open pages go out again"
 abbrev pub asRequested : HostRules
-asRequested = record { told = listed; ready = leb; resume = λ done count. count; kept = λ tray. [] }
+asRequested = record { told = acknowledged; ready = leb; resume = λ done count. count; kept = λ tray. [] }
 
 -- ---- steps. One that the rules do not allow at that moment does not happen.
 -- "the first buffer stays as it was and is the log until the call returns"

@@ -19,7 +19,7 @@ use Rattle.pages.specs.Pages.{Rows, rowOf, rowsFrom, pageOf, pageCount, pagesCe
 use Rattle.pages.specs.Answers.{punchedInOf, answerIn, bufferOf, frontIn, oneRow, pieceIn}
 use Rattle.pages.specs.Reports.{wearText, cellsText}
 use Rattle.reports.specs.Reports.{reportIn}
-use Rattle.rows.specs.Rows.{linesText, acceptedText, sheetText, readAnswerOf, readBufferOf, rowAnswerOf, rowBufferOf}
+use Rattle.rows.specs.Rows.{linesText, acceptedText, sheetText, readCallOf, rowCallOf}
 use Rattle.schedule.specs.declared.in_force.Instant.{Instant}
 use Rattle.schedule.specs.declared.prayer_times.Worked.{Worked}
 use Rattle.schedule.specs.declared.prayer_times.Worked.the-variants.{Times, Refused}
@@ -176,12 +176,12 @@ module _ (a b : List ℕ) (orders : SamePlace a b) where
   unfolding workAtOf
   at-same row i = rw (day-same row)
 
-  buffer-same : (row : ℕ) (buffer : List ℕ) → rowBufferOf a row buffer ≡ rowBufferOf b row buffer
-  unfolding rowBufferOf readBufferOf workRowOf
+  buffer-same : (row : ℕ) (buffer : List ℕ) → rowCallOf a row buffer .buffer ≡ rowCallOf b row buffer .buffer
+  unfolding rowCallOf readCallOf workRowOf
   buffer-same row buffer = rw (orders .«first_read», orders .«second_read», ← given)
 
-  answer-same : (row : ℕ) (buffer : List ℕ) → rowAnswerOf a row buffer ≡ rowAnswerOf b row buffer
-  unfolding rowAnswerOf readAnswerOf workRowOf
+  answer-same : (row : ℕ) (buffer : List ℕ) → rowCallOf a row buffer .answer ≡ rowCallOf b row buffer .answer
+  unfolding rowCallOf readCallOf workRowOf
   answer-same row buffer = rw (orders .«first_read», orders .«second_read», ← given)
 
   all-same : allCells (orders .first) ≡ allCells (orders .second)

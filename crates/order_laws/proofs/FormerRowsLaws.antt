@@ -1,85 +1,312 @@
--- What was accepted before request 4 is read as it was. Assumes nothing.
-use Rattle.prelude.proofs.Logic.{_≡_, refl, sym, ap, _∙_, Bool, true, false, cond, _&&_, and-eq-true-iff, List, [], _∷_, ℕ, eqb, lit≤, length, eq-eqb, eqb-true}
+-- What document 01 alone read is read as it was. Assumes nothing.
+use Rattle.prelude.proofs.Logic.{_≡_, refl, sym, ap, _∙_, Bool, true, false, not, cond, _&&_, _||_, true≢false, List, [], _∷_, ℕ, zero, suc, _-_, _≤_, _<_, arith, leb, ltb, eqb, lit≤, length, inl, inr, _⊎_, ltb-true, lt-ltb, leb-true, leb-false, eq-eqb, eqb-true, eqb-false, le-leb, lt-leb, not-false, cases, both, ⊎-elim}
+use Rattle.calendar.specs.Answers.{rowDateOf}
+use Rattle.fields.specs.Fields.{lengthAt, nextFieldAt, firstBefore, valueFaultOf, faultIn, faultOf, walkOf, checkOf}
+use Rattle.fields.specs.Numbers.{byteOf}
+use Rattle.fields.specs.Tags.{lengthFits}
+use Rattle.fields.specs.Values.{offsetOf, hasOf, valueOf, valuesOf}
+use Rattle.fields.proofs.FieldsLaws.{has-good, whole-length, value-missing}
+use Rattle.lines.specs.Lines.{columnsOf, lineText}
+use Rattle.models.proofs.Models.{midnightOf, southernOf}
 use Rattle.calendar.specs.declared.dates.Date.{Date}
-use Rattle.fields.specs.Fields.{checkOf}
-use Rattle.fields.specs.Tags.{lastTag}
-use Rattle.fields.specs.Values.{Values, valuesOf}
-use Rattle.order.specs.Given.{dateIn, rowsIn}
-use Rattle.order.specs.Ranges.{rowsFit, ramadanRows, lookUp, fitsOf, inRangeOf}
-use Rattle.order.specs.Reading.{firstFailing, missingOf, bothFormsOf, tagsFrom, outOfRangeOf, orderOf, wrongStartOf, firstOf, readingOf, townOf}
+use Rattle.order.specs.Given.{dateIn, rowsIn, coordinateIn, byteOr, rulesIn, clockIn, ramadanIn}
+use Rattle.order.specs.Ranges.{between, rowsFit, ramadanRows, lookUp, fitsOf, inRangeOf}
+use Rattle.order.specs.Reading.{firstFailing, required, isGivenOf, missingOf, bothFormsOf, tagsFrom, outOfRangeOf, orderOf, wrongStartOf, firstOf, readingOf, townOf}
 use Rattle.order.specs.declared.reading.Order.{Order}
-use Rattle.order.specs.declared.reading.Reading.the-variants.{Read}
+use Rattle.order.specs.declared.reading.Reading.the-variants as reading
 use Rattle.order.proofs.ReadingLaws.{passed-on}
-use Rattle.order.proofs.Tags.{all-pass, passing-more}
+use Rattle.refusals.specs.Refusals.{noRefusal}
+use Rattle.refusals.specs.declared.Refusal.{Refusal}
 use Rattle.reports.specs.Reports.{reportIn}
-use Rattle.order_laws.specs.FormerRows.{formerRowsIn, formerRowsFit, withRows, formerInRange, formerReadingOf, AcceptedBeforeIsReadAsBefore}
+use Rattle.rows.specs.Rows.{headerText, headText, linesText, acceptedText, sheetText}
+use Rattle.schedule.specs.Times.{workedAt}
+use Rattle.schedule.specs.declared.prayer_times.Worked.{Worked}
+use Rattle.schedule.specs.declared.prayer_times.Worked.the-variants as worked
+use Rattle.calls.specs.Calls.{workRowOf}
+use Rattle.order_laws.specs.FormerRows.{formerLengthFits, formerFaultOf, formerWalkOf, formerCheckOf, formerRowsFit, formerInRange, cratesRules, noRamadan, formerOrderOf, formerReadingOf, formerLine, formerLines, formerText, newAt, OrdersAreAsBefore}
 
-both : (a b : Bool) → (a && b) ≡ true → (a ≡ true) × (b ≡ true)
-both a b e = and-eq-true-iff a b .0 e
+-- ---- the form of the fields: the same fault, or a field that was unknown and is new
+abbrev New : List ℕ → Refusal → Type 0
+New s r = (r .number ≡ 2) × (newAt s (r .place) ≡ true)
 
--- one byte means what it did
-one-byte : (v : List ℕ) → length v ≡ 1 → rowsIn v ≡ formerRowsIn v
-unfolding rowsIn
-one-byte v e = simp e
+one-fits : true ≡ lengthFits 3 1
+unfolding lengthFits
+one-fits = refl
 
-fits-today : (date : Date) (v : List ℕ) → formerRowsFit date v ≡ true → rowsFit date v ≡ true
-unfolding formerRowsFit rowsFit rowsIn
-fits-today date v e =
-    let a = both (eqb (length v) 1) _ e in
-    let one : length v ≡ 1 = eqb-true (length v) 1 (a .0) in
-    simp one (a .1)
+length-three : (n : ℕ) → eqb n 1 ≡ false → (lengthFits 3 n ≡ false) ⊎ (eqb n 2 ≡ true)
+unfolding lengthFits
+length-three zero e = inl refl
+length-three (suc zero) e = absurd (true≢false e)
+length-three (suc (suc zero)) e = inr refl
+length-three (suc (suc (suc n))) e =
+    inl (rw (le-leb 1 (suc (suc (suc n))) (omega arith), lt-leb (suc (suc (suc n))) 2 (omega arith)) refl)
 
-three : (v : Values) (b : Bool) → (formerRowsFit (dateIn (v .value 2)) (v .value 3) && ramadanRows (v .has 20) (v .value 3)) ≡ true
-    → cond b (fitsOf v 3) true ≡ true
-unfolding fitsOf lookUp
-three v true e =
-    let a = both (formerRowsFit (dateIn (v .value 2)) (v .value 3)) (ramadanRows (v .has 20) (v .value 3)) e in
-    simp (fits-today (dateIn (v .value 2)) (v .value 3) (a .0), a .1)
-three v false e = refl
-
-passes-today : (v : Values) (tag : ℕ) → formerInRange v tag ≡ true → inRangeOf v tag ≡ true
-unfolding formerInRange inRangeOf
-passes-today v tag e = go (eqb tag 3) refl e
+fits-same : (tag n : ℕ) → (formerLengthFits tag n ≡ lengthFits tag n) ⊎ ((formerLengthFits tag n ≡ false) × (eqb tag 3 ≡ true) × (eqb n 2 ≡ true))
+unfolding formerLengthFits
+fits-same tag n = cases (eqb tag 3) three (λ t. inl (simp t))
   where
-    go : (b : Bool) → eqb tag 3 ≡ b → cond b (formerRowsFit (dateIn (v .value 2)) (v .value 3) && ramadanRows (v .has 20) (v .value 3)) (inRangeOf v tag) ≡ true → inRangeOf v tag ≡ true
-    go true t e = rw (eqb-true tag 3 t) (three v (v .has 3) e)
-    go false t e = e
+    three : eqb tag 3 ≡ true → (cond (eqb tag 3) (eqb n 1) (lengthFits tag n) ≡ lengthFits tag n) ⊎ ((cond (eqb tag 3) (eqb n 1) (lengthFits tag n) ≡ false) × (eqb tag 3 ≡ true) × (eqb n 2 ≡ true))
+    three t =
+        let is : tag ≡ 3 = eqb-true tag 3 t in
+        cases (eqb n 1) (λ e. let one : n ≡ 1 = eqb-true n 1 e in inl (rw (is, one) one-fits))
+        (λ e. ⊎-elim (λ (f : lengthFits 3 n ≡ false). inl (rw is (e ∙ sym f))) (λ (f : eqb n 2 ≡ true). inr (rw t e, t, f)) (length-three n e))
 
--- where no tag failed, none fails today, and tag 3 has one byte
-module _ (v : Values) (e : firstFailing 5 (formerInRange v) (tagsFrom lastTag 1) .number ≡ 0) where
-  none-fails : outOfRangeOf v .number ≡ 0
-  unfolding outOfRangeOf
-  none-fails = passing-more 5 (formerInRange v) (inRangeOf v) (lit≤ tt) (passes-today v) (tagsFrom lastTag 1) e
+-- by a field's tag and length, whether its tag stands before it, and how many bytes are left
+module _ (tag n left : ℕ) (again : Bool) where
+  abbrev formerIn : ℕ
+  formerIn =
+      cond (ltb left 3) 1 (cond (not (between 1 14 tag)) 2 (cond again 3 (cond (not (formerLengthFits tag n)) 2 (cond (ltb (left - 3) n) 1 0))))
 
-  same-rows : rowsIn (v .value 3) ≡ formerRowsIn (v .value 3)
-  unfolding formerInRange formerRowsFit tagsFrom
-  same-rows =
-      let f : formerInRange v 3 ≡ true = all-pass 5 (formerInRange v) (tagsFrom lastTag 1) (lit≤ tt) e 2 (lit≤ tt) in
-      let g = both _ (ramadanRows (v .has 20) (v .value 3)) f .0 in
-      one-byte (v .value 3) (eqb-true (length (v .value 3)) 1 (both (eqb (length (v .value 3)) 1) _ g .0))
+  abbrev Alike : Type 0
+  Alike = (formerIn ≡ faultIn tag n again left) ⊎ ((formerIn ≡ 2) × ((between 15 20 tag || (eqb tag 3 && eqb n 2)) ≡ true))
 
-with-its-own : (v : Values) → withRows (orderOf v) (rowsIn (v .value 3)) ≡ orderOf v
-unfolding withRows orderOf
-with-its-own v = refl
+  fault-alike : Alike
+  unfolding faultIn valueFaultOf
+  fault-alike =
+      cases (ltb left 3) (λ h. inl (simp h))
+      (λ h. cases (between 1 14 tag)
+      (λ k. let b = both (leb 1 tag) (leb tag 14) k in
+      let low = b .0 in
+      let high : leb tag 20 ≡ true = le-leb tag 20 (let l = leb-true tag 14 (b .1) in omega arith) in
+      cases again (λ a. inl (simp (h, low, b .1, high, a)))
+      (λ a. ⊎-elim (λ (f : formerLengthFits tag n ≡ lengthFits tag n). inl (simp (h, low, b .1, high, a, f)))
+      (λ (f : (formerLengthFits tag n ≡ false) × (eqb tag 3 ≡ true) × (eqb n 2 ≡ true)).
+      let three : tag ≡ 3 = eqb-true tag 3 (f .1) in
+      inr (simp (h, low, b .1, a, f .0), simp (lt-leb 15 tag (omega arith), f .1, f .2)))
+      (fits-same tag n)))
+      (λ k. cases (between 15 20 tag) (λ b. inr (simp (h, k), simp b)) (λ b. inl (simp (h, k, unknown k b)))))
+    where
+      unknown : between 1 14 tag ≡ false → between 15 20 tag ≡ false → between 1 20 tag ≡ false
+      unknown k b =
+          cases (leb 1 tag)
+          (λ low. let over = leb-false tag 14 (simp low at k) in
+          let most : leb tag 20 ≡ false = simp (le-leb 15 tag (omega arith)) at b in
+          simp (low, most))
+          (λ low. simp low)
 
-read-as-before : (s : List ℕ) (order : Order) → formerReadingOf s ≡ Read order → readingOf s ≡ Read order
-unfolding formerReadingOf readingOf firstOf
-read-as-before s order e =
-    let v = valuesOf s in
-    let ranges = firstFailing 5 (formerInRange v) (tagsFrom lastTag 1) in
-    let former = withRows (orderOf v) (formerRowsIn (v .value 3)) in
-    let start = wrongStartOf (orderOf v .ramadan) (orderOf v .date) in
-    let a = passed-on (checkOf s) (missingOf (v .has) ∷ bothFormsOf (v .has) ∷ ranges ∷ start ∷ []) former order e in
-    let b = passed-on (missingOf (v .has)) (bothFormsOf (v .has) ∷ ranges ∷ start ∷ []) former order (a .1) in
-    let d = passed-on (bothFormsOf (v .has)) (ranges ∷ start ∷ []) former order (b .1) in
-    let c = passed-on ranges (start ∷ []) former order (d .1) in
-    let f = passed-on start [] former order (c .1) in
-    let same : Read former ≡ Read order = f .1 in
-    simp (eq-eqb _ _ (a .0), eq-eqb _ _ (b .0), eq-eqb _ _ (d .0), eq-eqb _ _ (none-fails v (c .0)), eq-eqb _ _ (f .0))
-    (ap Read (sym (with-its-own v) ∙ ap (withRows (orderOf v)) (same-rows v (c .0))) ∙ same)
+or-false : (b : Bool) → (b || false) ≡ b
+or-false true = refl
+or-false false = refl
 
-pub accepted-before-is-read-as-before : AcceptedBeforeIsReadAsBefore
-unfolding reportIn townOf
-accepted-before-is-read-as-before s order e =
-    let r = read-as-before s order e in
-    record { values = r; sheet = simp r }
+and-false : (b : Bool) → (b && false) ≡ false
+and-false true = refl
+and-false false = refl
+
+and-true : (b : Bool) → (b && true) ≡ b
+and-true true = refl
+and-true false = refl
+
+-- a line with no imsak
+line-same : (date : Date) (w : Worked) → lineText noRamadan date w ≡ formerLine date w
+unfolding lineText columnsOf formerLine
+line-same date (worked.Times t) = refl
+line-same date (worked.Refused r) = refl
+
+module _ (s : List ℕ) where
+  fault-same : (at : ℕ) → (formerFaultOf s at ≡ faultOf s at) ⊎ ((formerFaultOf s at ≡ 2) × (newAt s at ≡ true))
+  unfolding formerFaultOf faultOf newAt
+  fault-same at = fault-alike (byteOf s at) (lengthAt s at) (length s - at) (ltb (firstBefore (length s) s (byteOf s at) 0 at) at)
+
+  walk-same : (k at : ℕ) → (formerWalkOf k s at ≡ walkOf k s at) ⊎ New s (formerWalkOf k s at)
+  unfolding formerWalkOf walkOf
+  walk-same zero at = inl refl
+  walk-same (suc k) at =
+      cases (ltb at (length s))
+      (λ h. ⊎-elim
+      (λ (f : formerFaultOf s at ≡ faultOf s at). cases (eqb (faultOf s at) 0)
+      (λ z. ⊎-elim (λ (w : formerWalkOf k s (nextFieldAt s at) ≡ walkOf k s (nextFieldAt s at)). inl (simp (h, f, z, w)))
+      (λ (w : New s (formerWalkOf k s (nextFieldAt s at))). inr (simp (h, f, z) w)) (walk-same k (nextFieldAt s at)))
+      (λ z. inl (simp (h, f, z))))
+      (λ (f : (formerFaultOf s at ≡ 2) × (newAt s at ≡ true)). inr (simp (h, f .0) (refl, f .1)))
+      (fault-same at))
+      (λ h. inl (simp h))
+
+  check-same : (formerCheckOf s ≡ checkOf s) ⊎ New s (formerCheckOf s)
+  unfolding formerCheckOf checkOf
+  check-same =
+      cases (ltb 1024 (length s)) (λ h. inl (simp h))
+      (λ h. ⊎-elim (λ (w : formerWalkOf (length s) s 0 ≡ walkOf (length s) s 0). inl (simp (h, w)))
+      (λ (w : New s (formerWalkOf (length s) s 0)). inr (simp h w)) (walk-same (length s) 0))
+
+  -- ---- a walk that refused nothing came to no other field
+  find-former : (k tag at : ℕ) → formerWalkOf k s at .number ≡ 0 → firstBefore k s tag at (length s) < length s
+      → (formerFaultOf s (firstBefore k s tag at (length s)) ≡ 0) × (byteOf s (firstBefore k s tag at (length s)) ≡ tag)
+  unfolding firstBefore formerWalkOf
+  find-former zero tag at e h = absurd (omega arith)
+  find-former (suc k) tag at e h =
+      cases (ltb at (length s))
+      (λ a. cases (eqb (formerFaultOf s at) 0)
+      (λ z. cases (eqb (byteOf s at) tag) (λ b. simp (a, b) (eqb-true (formerFaultOf s at) 0 z, eqb-true (byteOf s at) tag b))
+      (λ b. simp (a, b) (find-former k tag (nextFieldAt s at) (simp (a, z) at e) (simp (a, b) at h))))
+      (λ z. absurd (eqb-false (formerFaultOf s at) 0 z (simp (a, z) at e))))
+      (λ a. let z = simp a at h in absurd (omega arith))
+
+  passed : (b : Bool) (x y : ℕ) → 1 ≤ x → cond b x y ≡ 0 → (b ≡ false) × (y ≡ 0)
+  passed true x y l e = absurd (omega arith)
+  passed false x y l e = (refl, e)
+
+  former-field : (at : ℕ) → formerFaultOf s at ≡ 0 → (byteOf s at ≤ 14) × (formerLengthFits (byteOf s at) (lengthAt s at) ≡ true)
+  unfolding formerFaultOf
+  former-field at e =
+      let tag = byteOf s at in
+      let header = passed (ltb (length s - at) 3) 1 _ (lit≤ tt) e in
+      let known = passed (not (between 1 14 tag)) 2 _ (lit≤ tt) (header .1) in
+      let new = passed (ltb (firstBefore (length s) s tag 0 at) at) 3 _ (lit≤ tt) (known .1) in
+      let fits = passed (not (formerLengthFits tag (lengthAt s at))) 2 _ (lit≤ tt) (new .1) in
+      (leb-true tag 14 (both (leb 1 tag) (leb tag 14) (not-false _ (known .0)) .1), not-false _ (fits .0))
+
+  module _ (e : formerCheckOf s .number ≡ 0) where
+    walked : formerWalkOf (length s) s 0 .number ≡ 0
+    unfolding formerCheckOf
+    walked = cases (ltb 1024 (length s)) (λ h. let z = simp h at e in absurd (omega arith)) (λ h. simp h at e)
+
+    has-former : (tag : ℕ) → hasOf s tag ≡ true → (tag ≤ 14) × (formerLengthFits tag (lengthAt s (offsetOf s tag)) ≡ true)
+    unfolding hasOf offsetOf
+    has-former tag h =
+        let f = find-former (length s) tag 0 walked (ltb-true (firstBefore (length s) s tag 0 (length s)) (length s) h) in
+        let g = former-field (firstBefore (length s) s tag 0 (length s)) (f .0) in
+        (rw (f .1) at (g .0), rw (f .1) at (g .1))
+
+    has-none : (tag : ℕ) → 15 ≤ tag → hasOf s tag ≡ false
+    has-none tag l = cases (hasOf s tag) (λ h. let m = has-former tag h .0 in absurd (omega arith)) (λ h. h)
+
+    check-none : checkOf s .number ≡ 0
+    check-none =
+        ⊎-elim (λ (f : formerCheckOf s ≡ checkOf s). ap (λ (r : Refusal). r .number) (sym f) ∙ e)
+        (λ (f : New s (formerCheckOf s)). absurd (let n = f .0 in omega arith)) check-same
+
+    one-byte : hasOf s 3 ≡ true → length (valueOf s 3) ≡ 1
+    unfolding valueOf formerLengthFits
+    one-byte h =
+        whole-length s (offsetOf s 3) (has-good s 3 check-none h .0 .whole)
+        ∙ eqb-true (lengthAt s (offsetOf s 3)) 1 (has-former 3 h .1)
+
+    not-two : eqb (length (valueOf s 3)) 2 ≡ false
+    not-two = cases (hasOf s 3) (λ h. rw (one-byte h) refl) (λ h. rw (value-missing s 3 h) refl)
+
+    -- ---- the other checks
+    missing-same : missingOf (hasOf s) ≡ firstFailing 4 (hasOf s) required
+    unfolding missingOf firstFailing isGivenOf lookUp
+    missing-same = simp (has-none 18 (lit≤ tt), has-none 19 (lit≤ tt), or-false)
+
+    both-none : bothFormsOf (hasOf s) ≡ noRefusal
+    unfolding bothFormsOf
+    both-none = simp (has-none 18 (lit≤ tt), has-none 19 (lit≤ tt), and-false)
+
+    rows-same : rowsIn (valueOf s 3) ≡ byteOf (valueOf s 3) 0
+    unfolding rowsIn
+    rows-same = rw not-two
+
+    three-same : fitsOf (valuesOf s) 3 ≡ formerRowsFit (dateIn (valueOf s 2)) (valueOf s 3)
+    unfolding fitsOf lookUp rowsFit ramadanRows formerRowsFit
+    three-same = simp (has-none 20 (lit≤ tt), not-two, rows-same, and-true)
+
+    range-same : (tag : ℕ) → inRangeOf (valuesOf s) tag ≡ formerInRange (valuesOf s) tag
+    unfolding inRangeOf formerInRange
+    range-same tag = cases (eqb tag 3) (λ t. let is : tag ≡ 3 = eqb-true tag 3 t in rw (is, three-same)) (λ t. simp t)
+
+    in-range : (tag : ℕ) → 15 ≤ tag → inRangeOf (valuesOf s) tag ≡ true
+    unfolding inRangeOf
+    in-range tag l = simp (has-none tag l)
+
+    ranges-same : outOfRangeOf (valuesOf s) ≡ firstFailing 5 (formerInRange (valuesOf s)) (tagsFrom 14 1)
+    unfolding outOfRangeOf firstFailing tagsFrom
+    ranges-same =
+        simp (
+          range-same 1,
+          range-same 2,
+          range-same 3,
+          range-same 4,
+          range-same 5,
+          range-same 6,
+          range-same 7,
+          range-same 8,
+          range-same 9,
+          range-same 10,
+          range-same 11,
+          range-same 12,
+          range-same 13,
+          range-same 14,
+          in-range 15 (lit≤ tt),
+          in-range 16 (lit≤ tt),
+          in-range 17 (lit≤ tt),
+          in-range 18 (lit≤ tt),
+          in-range 19 (lit≤ tt),
+          in-range 20 (lit≤ tt),
+        )
+
+    -- ---- the record
+    order-same : orderOf (valuesOf s) ≡ formerOrderOf (valuesOf s)
+    unfolding orderOf formerOrderOf coordinateIn rulesIn byteOr midnightOf southernOf clockIn ramadanIn
+    order-same =
+        simp (
+          rows-same,
+          has-none 15 (lit≤ tt),
+          has-none 16 (lit≤ tt),
+          has-none 17 (lit≤ tt),
+          has-none 18 (lit≤ tt),
+          has-none 19 (lit≤ tt),
+          has-none 20 (lit≤ tt),
+        )
+
+    start-none : wrongStartOf (orderOf (valuesOf s) .ramadan) (orderOf (valuesOf s) .date) ≡ noRefusal
+    unfolding wrongStartOf formerOrderOf
+    start-none = rw order-same
+
+    passed-same : readingOf s ≡ formerReadingOf s
+    unfolding readingOf formerReadingOf firstOf
+    passed-same =
+        rw (missing-same, both-none, ranges-same, start-none, order-same, eq-eqb (checkOf s .number) 0 check-none, eq-eqb (formerCheckOf s .number) 0 e)
+
+  -- ---- what was read, whether it was accepted or not
+  refused-same : eqb (formerCheckOf s .number) 0 ≡ false → formerCheckOf s ≡ checkOf s → readingOf s ≡ formerReadingOf s
+  unfolding readingOf formerReadingOf firstOf
+  refused-same h f = rw (← f, h)
+
+  new-refused : eqb (formerCheckOf s .number) 0 ≡ false → formerReadingOf s ≡ reading.Refused (formerCheckOf s)
+  unfolding formerReadingOf firstOf
+  new-refused h = simp h
+
+  -- ---- the sheet
+  abbrev former : Order
+  former = formerOrderOf (valuesOf s)
+
+  lines-same : (n : ℕ) → n ≤ former .rows → linesText former n ≡ formerLines former n
+  unfolding linesText formerLines workRowOf formerOrderOf
+  lines-same zero h = refl
+  lines-same (suc n) h =
+      let date = rowDateOf (former .date) n in
+      rw (lines-same n (omega arith), lt-ltb n (former .rows) (omega arith), line-same date (workedAt date (former .coordinates) (former .parameters) cratesRules))
+
+  text-same : (town : List ℕ) → acceptedText town former ≡ formerText town former
+  unfolding acceptedText formerText headText headerText formerOrderOf
+  text-same town = rw (lines-same (former .rows) (omega arith))
+
+  accepted-order : (o : Order) → formerReadingOf s ≡ reading.Read o → (formerCheckOf s .number ≡ 0) × (former ≡ o)
+  unfolding formerReadingOf firstOf
+  accepted-order o e =
+      let v = valuesOf s in
+      let missing = firstFailing 4 (hasOf s) required in
+      let ranges = firstFailing 5 (formerInRange v) (tagsFrom 14 1) in
+      let a = passed-on (formerCheckOf s) (missing ∷ ranges ∷ []) former o e in
+      let b = passed-on missing (ranges ∷ []) former o (a .1) in
+      let c = passed-on ranges [] former o (b .1) in
+      let same : reading.Read former ≡ reading.Read o = c .1 in
+      (a .0, cc)
+
+  sheet-same : (o : Order) → former ≡ o → readingOf s ≡ reading.Read o → sheetText s ≡ formerText (valueOf s 1) o
+  unfolding reportIn townOf
+  sheet-same o f e = simp e (rw (← f) (text-same (valueOf s 1)))
+
+pub orders-are-as-before : OrdersAreAsBefore
+orders-are-as-before s =
+    record {
+      accepted = λ o e.
+          let a = accepted-order s o e in
+          let r = passed-same s (a .0) ∙ e in
+          (r, sheet-same s o (a .1) r);
+      refused = λ r e.
+          cases (eqb (formerCheckOf s .number) 0) (λ h. inl (passed-same s (eqb-true (formerCheckOf s .number) 0 h) ∙ e))
+          (λ h. ⊎-elim (λ (f : formerCheckOf s ≡ checkOf s). inl (refused-same s h f ∙ e))
+          (λ (f : New s (formerCheckOf s)). let x = new-refused s h in let y : formerCheckOf s ≡ r = cc in inr (rw y at f)) (check-same s));
+    }

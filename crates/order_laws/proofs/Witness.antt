@@ -1,5 +1,6 @@
 -- Two orders of which demand 3 speaks, so that its hypothesis can be met: town P, 2026-06-21, one row, 10.0, 20.0, method 0; the second with a
--- minute more for Fajr, and with its place as on the map, 10 degrees north and 20 degrees east. And the first with its place so, all else the same.
+-- minute more for Fajr, and with its place as on the map, 10 degrees north and 20 degrees east. And the first with its place so, all else the same. The
+-- first is one that document 01 alone accepts.
 use Rattle.prelude.proofs.Logic.{_≡_, refl, subst, Bool, true, false, true≢false, List, [], _∷_, _++_, ℕ, zero, suc, _≤_, arith, leb, lit≤, replicate, leb-true, leb-false}
 use Rattle.float64.proofs.Floats.{le, neg, ofBits, round, dec}
 use Rattle.integers.specs.Order.{_≼_}
@@ -16,8 +17,11 @@ use Rattle.order.specs.Given.{dateIn, rowsIn, degreesIn, formIn, coordinateIn, 
 use Rattle.text.specs.Text.{printable}
 use Rattle.order.specs.Ranges.{rowsFit, ramadanRows, minuteFits, minutesFit, intervalFits, lookUp, fitsOf, inRangeOf}
 use Rattle.order.specs.Reading.{firstFailing, isGivenOf, missingOf, bothFormsOf, tagsFrom, outOfRangeOf, orderOf, wrongStartOf, firstOf, readingOf, townOf}
+use Rattle.order.specs.declared.reading.Reading.the-variants.{Read}
+use Rattle.order_laws.specs.FormerRows.{formerLengthFits, formerFaultOf, formerWalkOf, formerCheckOf, formerRowsFit, formerInRange, formerOrderOf, formerReadingOf}
 use Rattle.order_laws.specs.Minutes.{LaterOrder}
 use Rattle.order_laws.specs.EitherForm.{saysPlace, SamePlace}
+use Rattle.order_laws.specs.Swapped.{Sent, Swapped}
 
 abbrev begun : List ℕ
 begun = (1 ∷ 0 ∷ 1 ∷ 80 ∷ []) ++ (2 ∷ 0 ∷ 4 ∷ 7 ∷ 234 ∷ 6 ∷ 21 ∷ []) ++ (3 ∷ 0 ∷ 1 ∷ 1 ∷ [])
@@ -90,3 +94,22 @@ can-be-sent-either-way =
       longitude = refl;
       others = of-each Same 20 each-same;
     }
+
+pub can-be-swapped : Swapped earlier onTheMap
+unfolding readingOf firstOf isGivenOf bothFormsOf formIn coordinateIn formFits degreesOf checkOf walkOf faultOf faultIn valueFaultOf firstBefore lengthAt unsignedOf lengthFits choiceFits offsetOf hasOf valueOf valueStartOf missingOf firstFailing tagsFrom outOfRangeOf inRangeOf fitsOf lookUp printable rowsFit ramadanRows minuteFits minutesFit intervalFits dateIn rowsIn degreesIn minutesIn byteOr degreesOr roundingOr minutesOr intervalOr parametersIn rulesIn clockIn ramadanIn orderOf wrongStartOf townOf signedAtOf bytesNumberOf bitsOf floatOf timeAdjustmentsOf existsOf leapOf lengthOf daysBeforeOf ordinalOf countBelow monthOf ofOrdinalOf daysBeforeYearOf dayNumberOf lastBy yearOf dateAtOf dateOfDayOf heldOf fromOf le neg ofBits round dec
+can-be-swapped =
+    record {
+      order = orderOf (valuesOf earlier);
+      «first_read» = refl;
+      fields = refl;
+      latitude = Sent.swapped refl refl refl;
+      longitude = Sent.swapped refl refl refl;
+      «same_latitude» = refl;
+      «same_longitude» = refl;
+      others = of-each Same 20 each-same;
+    }
+
+-- ---- the first was accepted when document 01 stood alone
+pub was-accepted : formerReadingOf earlier ≡ Read (formerOrderOf (valuesOf earlier))
+unfolding formerReadingOf formerCheckOf formerWalkOf formerFaultOf formerLengthFits formerRowsFit formerInRange formerOrderOf readingOf firstOf isGivenOf bothFormsOf formIn coordinateIn formFits degreesOf checkOf walkOf faultOf faultIn valueFaultOf firstBefore lengthAt unsignedOf lengthFits choiceFits offsetOf hasOf valueOf valueStartOf missingOf firstFailing tagsFrom outOfRangeOf inRangeOf fitsOf lookUp printable rowsFit ramadanRows minuteFits minutesFit intervalFits dateIn rowsIn degreesIn minutesIn byteOr degreesOr roundingOr minutesOr intervalOr parametersIn rulesIn clockIn ramadanIn orderOf wrongStartOf townOf signedAtOf bytesNumberOf bitsOf floatOf timeAdjustmentsOf existsOf leapOf lengthOf daysBeforeOf ordinalOf countBelow monthOf ofOrdinalOf daysBeforeYearOf dayNumberOf lastBy yearOf dateAtOf dateOfDayOf heldOf fromOf le neg ofBits round dec
+was-accepted = refl

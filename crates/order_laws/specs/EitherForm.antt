@@ -15,7 +15,7 @@ use Rattle.order.specs.declared.reading.Reading.the-variants.{Read}
 use Rattle.order.specs.Reading.{readingOf, townOf}
 use Rattle.pages.specs.Answers.{rowWritten, rowBuffer, pageWritten, pageBuffer}
 use Rattle.pages.specs.Reports.{wearText, cellsText}
-use Rattle.rows.specs.Rows.{rowAnswerOf, rowBufferOf, sheetText}
+use Rattle.rows.specs.Rows.{rowCallOf, sheetText}
 use Rattle.schedule.specs.declared.in_force.Instant.{Instant}
 use Rattle.weeks.specs.Report.{weekText}
 use Rattle.order_laws.specs.Minutes.{LaterOrder}
@@ -58,8 +58,8 @@ pub record SameAnswers (a b : List ℕ) (orders : SamePlace a b) : Type 0 where
   pub prayer : (row : ℕ) (i : Instant) → prayerAtOf a row i ≡ prayerAtOf b row i
   pub next : (row : ℕ) (i : Instant) → nextAtOf a row i ≡ nextAtOf b row i
   pub remaining : (row : ℕ) (i : Instant) → remainingAtOf a row i ≡ remainingAtOf b row i
-  pub answer : (row : ℕ) (buffer : List ℕ) → rowAnswerOf a row buffer ≡ rowAnswerOf b row buffer
-  pub buffer : (row : ℕ) (buffer : List ℕ) → rowBufferOf a row buffer ≡ rowBufferOf b row buffer
+  pub answer : (row : ℕ) (buffer : List ℕ) → rowCallOf a row buffer .answer ≡ rowCallOf b row buffer .answer
+  pub buffer : (row : ℕ) (buffer : List ℕ) → rowCallOf a row buffer .buffer ≡ rowCallOf b row buffer .buffer
   -- cells: of a row, of a page or a piece of it, of all pages, and their dots
   pub «cells_answer» : (row : ℕ) (buffer : List ℕ) → rowWritten row a buffer ≡ rowWritten row b buffer
   pub «cells_buffer» : (row : ℕ) (buffer : List ℕ) → rowBuffer row a buffer ≡ rowBuffer row b buffer

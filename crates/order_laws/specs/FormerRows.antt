@@ -1,68 +1,124 @@
--- Request 4: "A one-byte value means what it did, and every order accepted before gives the same values and prints the same sheet." Tag 3 as it
--- was before, "rows, 1 byte, 1 to 250, last row by 2199-12-31", and the statement. Proved in proofs/FormerRowsLaws.
-use Prim.Native.Nat.{ℕ, _-_}
+-- Request 4: "A one-byte value means what it did, and every order accepted before gives the same values and prints the same sheet." What document 01
+-- alone read and printed: tags 1 to 14, "rows, 1 byte, 1 to 250", the crate's own rules, nine columns; and the statement. Proved in
+-- proofs/FormerRowsLaws.
+use Prim.Native.Nat.{ℕ, zero, suc, _-_}
 use mathlib.Core.Path.{_≡_}
-use mathlib.Core.Bool.{Bool, cond, _&&_}
-use mathlib.Core.List.{List, [], _∷_}
-use lib.Dec.{leb, eqb}
+use mathlib.Core.Bool.{Bool, true, false, cond, not, _&&_, _||_}
+use mathlib.Core.List.{List, [], _∷_, _++_}
+use mathlib.Core.Logic.{_⊎_}
+use lib.Dec.{leb, ltb, eqb}
+use lib.IntN.{pos}
 use lib.ListN.{length}
-use Rattle.refusals.specs.Refusals.{outOfRange}
+use Rattle.refusals.specs.Refusals.{refusal, noRefusal, fieldCut, fieldUnknown, fieldAgain, tagMissing, outOfRange}
+use Rattle.refusals.specs.declared.Refusal.{Refusal}
 use Rattle.calendar.specs.Answers.{rowDateOf}
 use Rattle.calendar.specs.declared.dates.Date.{Date}
-use Rattle.fields.specs.Fields.{checkOf}
+use Rattle.fields.specs.Fields.{lengthAt, nextFieldAt, firstBefore, longestOrder}
 use Rattle.fields.specs.Numbers.{byteOf}
-use Rattle.fields.specs.Tags.{lastTag}
+use Rattle.fields.specs.Tags.{lastTag, lengthFits}
 use Rattle.fields.specs.Values.{valueOf, Values, valuesOf}
-use Rattle.order.specs.Given.{dateIn}
-use Rattle.order.specs.Ranges.{between, lastYear, ramadanRows, inRangeOf}
-use Rattle.order.specs.Reading.{firstFailing, missingOf, bothFormsOf, tagsFrom, orderOf, wrongStartOf, firstOf, readingOf}
+use Rattle.hijri.specs.declared.ramadan.Ramadan.{Ramadan}
+use Rattle.lines.specs.Lines.{nineOf, rowText, refusedDayText}
+use Rattle.models.specs.declared.rules.Rules.{Rules}
+use Rattle.models.specs.declared.rules.Midnight.the-variants.{Stops}
+use Rattle.models.specs.declared.rules.Southern.the-variants.{Unreduced}
+use Rattle.order.specs.Given.{dateIn, degreesIn, parametersIn}
+use Rattle.order.specs.Ranges.{between, lastYear, fitsOf}
+use Rattle.order.specs.Reading.{firstFailing, required, tagsFrom, firstOf, readingOf}
 use Rattle.order.specs.declared.reading.Order.{Order}
 use Rattle.order.specs.declared.reading.Reading.{Reading}
-use Rattle.order.specs.declared.reading.Reading.the-variants.{Read}
-use Rattle.rows.specs.Rows.{acceptedText, sheetText}
+use Rattle.order.specs.declared.reading.Reading.the-variants as reading
+use Rattle.rows.specs.Rows.{sheetText}
+use Rattle.schedule.specs.Times.{workedAt}
+use Rattle.schedule.specs.declared.prayer_times.Worked.{Worked}
+use Rattle.schedule.specs.declared.prayer_times.Worked.the-variants as worked
+use Rattle.text.specs.Text.{ascii}
+use Rattle.unit.specs.Unit.{coordinatesOf}
 
-abbrev pub formerRowsIn : List ℕ → ℕ
-formerRowsIn v = byteOf v 0
+-- ---- the form of the fields
+abbrev pub formerLast : ℕ
+formerLast = 14
 
+unfoldable pub formerLengthFits : ℕ → ℕ → Bool
+formerLengthFits tag n = cond (eqb tag 3) (eqb n 1) (lengthFits tag n)
+
+-- "header cut, unknown tag, tag again, wrong length, value cut"
+unfoldable pub formerFaultOf : List ℕ → ℕ → ℕ
+formerFaultOf s at =
+    let tag = byteOf s at in
+    let n = lengthAt s at in
+    cond (ltb (length s - at) 3) fieldCut
+    (cond (not (between 1 formerLast tag)) fieldUnknown
+    (cond (ltb (firstBefore (length s) s tag 0 at) at) fieldAgain
+    (cond (not (formerLengthFits tag n)) fieldUnknown
+    (cond (ltb (length s - at - 3) n) fieldCut 0))))
+
+unfoldable pub formerWalkOf : ℕ → List ℕ → ℕ → Refusal
+formerWalkOf zero s at = noRefusal
+formerWalkOf (suc k) s at =
+    cond (ltb at (length s)) (cond (eqb (formerFaultOf s at) 0) (formerWalkOf k s (nextFieldAt s at)) (refusal (formerFaultOf s at) at)) noRefusal
+
+unfoldable pub formerCheckOf : List ℕ → Refusal
+formerCheckOf s = cond (ltb longestOrder (length s)) (refusal fieldCut 0) (formerWalkOf (length s) s 0)
+
+-- ---- the ranges: "rows, 1 byte, 1 to 250, last row by 2199-12-31"; those of the other tags are today's
 unfoldable pub formerRowsFit : Date → List ℕ → Bool
-formerRowsFit date v = eqb (length v) 1 && (between 1 250 (formerRowsIn v) && leb (rowDateOf date (formerRowsIn v - 1) .year) lastYear)
+formerRowsFit date v = between 1 250 (byteOf v 0) && leb (rowDateOf date (byteOf v 0 - 1) .year) lastYear
 
--- the record with the rows that tag 3 gave, all else as it is read today
-unfoldable pub withRows : Order → ℕ → Order
-withRows order rows =
+unfoldable pub formerInRange : Values → ℕ → Bool
+formerInRange v tag = cond (v .has tag) (cond (eqb tag 3) (formerRowsFit (dateIn (v .value 2)) (v .value 3)) (fitsOf v tag)) true
+
+-- ---- the record
+abbrev pub cratesRules : Rules
+cratesRules = record { midnight = Stops; southern = Unreduced }
+
+abbrev pub noRamadan : Ramadan
+noRamadan = record { set = false; imsak = 0; shift = pos 0 }
+
+unfoldable pub formerOrderOf : Values → Order
+formerOrderOf v =
     record {
-      town = order .town;
-      date = order .date;
-      rows = rows;
-      coordinates = order .coordinates;
-      parameters = order .parameters;
-      rules = order .rules;
-      clock = order .clock;
-      ramadan = order .ramadan;
+      town = v .part 1;
+      date = dateIn (v .value 2);
+      rows = byteOf (v .value 3) 0;
+      coordinates = coordinatesOf (degreesIn (v .value 4)) (degreesIn (v .value 5));
+      parameters = parametersIn v;
+      rules = cratesRules;
+      clock = pos 0;
+      ramadan = noRamadan;
     }
 
--- today's checks with tag 3's as it was, and what a Ramadan sheet asks of its rows as it is today. A value of another length was refused by the form of the fields; which number refused it is not asked here,
--- only what was accepted.
-unfoldable pub formerInRange : Values → ℕ → Bool
-formerInRange v tag = cond (eqb tag 3) (formerRowsFit (dateIn (v .value 2)) (v .value 3) && ramadanRows (v .has 20) (v .value 3)) (inRangeOf v tag)
-
+-- "then missing tags, then ranges, both by rising tag"
 unfoldable pub formerReadingOf : List ℕ → Reading
 formerReadingOf s =
     let v = valuesOf s in
     firstOf
-    (checkOf s
-    ∷ missingOf (v .has)
-    ∷ bothFormsOf (v .has)
-    ∷ firstFailing outOfRange (formerInRange v) (tagsFrom lastTag 1)
-    ∷ wrongStartOf (orderOf v .ramadan) (orderOf v .date)
-    ∷ [])
-    (withRows (orderOf v) (formerRowsIn (v .value 3)))
+    (formerCheckOf s ∷ firstFailing tagMissing (v .has) required ∷ firstFailing outOfRange (formerInRange v) (tagsFrom formerLast 1) ∷ [])
+    (formerOrderOf v)
 
-pub record ReadAsBefore (s : List ℕ) (order : Order) : Type 0 where
-  -- "the same values"
-  pub values : readingOf s ≡ Read order
-  -- "the same sheet": the town's name and the rows of that record
-  pub sheet : sheetText s ≡ acceptedText (valueOf s 1) order
+-- ---- the sheet: "the town, the header, one line a row: date, then nine times in the header's order"
+unfoldable pub formerLine : Date → Worked → List ℕ
+formerLine date (worked.Times t) = rowText date (nineOf t)
+formerLine date (worked.Refused r) = refusedDayText date r
 
-abbrev pub AcceptedBeforeIsReadAsBefore : Type 0
-AcceptedBeforeIsReadAsBefore = (s : List ℕ) (order : Order) → formerReadingOf s ≡ Read order → ReadAsBefore s order
+unfoldable pub formerLines : Order → ℕ → List ℕ
+formerLines o zero = []
+formerLines o (suc n) =
+    let date = rowDateOf (o .date) n in formerLines o n ++ formerLine date (workedAt date (o .coordinates) (o .parameters) cratesRules)
+
+unfoldable pub formerText : List ℕ → Order → List ℕ
+formerText town o = (town ++ ascii "\ndate fajr sunrise dhuhr asr maghrib isha middle qiyam tomorrow\n") ++ formerLines o (o .rows)
+
+-- ---- a field at an offset that document 02 brought: tags 15 to 20, or rows in two bytes
+unfoldable pub newAt : List ℕ → ℕ → Bool
+newAt s at = between 15 lastTag (byteOf s at) || (eqb (byteOf s at) 3 && eqb (lengthAt s at) 2)
+
+pub record AsBefore (s : List ℕ) : Type 0 where
+  -- "every order accepted before gives the same values and prints the same sheet"
+  pub accepted : (o : Order) → formerReadingOf s ≡ reading.Read o → (readingOf s ≡ reading.Read o) × (sheetText s ≡ formerText (valueOf s 1) o)
+  -- and what was refused is refused by the same number and place, but for a field that was unknown and no longer is
+  pub refused : (r : Refusal) → formerReadingOf s ≡ reading.Refused r
+      → (readingOf s ≡ reading.Refused r) ⊎ ((r .number ≡ fieldUnknown) × (newAt s (r .place) ≡ true))
+
+abbrev pub OrdersAreAsBefore : Type 0
+OrdersAreAsBefore = (s : List ℕ) → AsBefore s

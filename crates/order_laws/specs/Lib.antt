@@ -1,5 +1,7 @@
+pub mod NothingBreaks
 pub mod Printed
 pub mod Imsak
 pub mod Minutes
 pub mod FormerRows
 pub mod EitherForm
+pub mod Swapped

@@ -103,7 +103,9 @@ module _ (o : Order) where
   pub pages-hold-the-rows : PagesHoldTheRows o
   pages-hold-the-rows =
       record {
-        counted = λ page from to. let e = page-length page from in (omega arith, omega arith);
+        full = λ page from to. let e = page-length page from in omega arith;
+        last = λ some. let e = page-length (pageCount o) (omega arith) in (omega arith, omega arith);
+        none = no-rows (pageOf o 0) (sym (page-none 0 refl));
         lacking = λ page h. let e = page-length page (omega arith) in no-rows (pageOf o page) (omega arith);
         held = all-cells;
         six = subst SixDots (sym all-cells) (cells-six o 0 (o .rows));

@@ -1,5 +1,5 @@
 -- Document 02, request 2: what is stated of the pages of an order beyond what each call answers.
-use Prim.Native.Nat.{ℕ, _≤_, _<_}
+use Prim.Native.Nat.{ℕ, _-_, _*_, _≤_, _<_}
 use mathlib.Core.Path.{_≡_}
 use mathlib.Core.List.{[]}
 use lib.ListN.{length}
@@ -9,7 +9,11 @@ use Rattle.pages.specs.Pages.{rowsOf, cellsOf, pageRows, pageOf, pageCou
 
 -- The pages of an order, from 1 to the last, hold its rows, each once and in turn; no other page has a row.
 pub record PagesHoldTheRows (o : Order) : Type 0 where
-  pub counted : (page : ℕ) → 1 ≤ page → page ≤ pageCount o → (1 ≤ length (pageOf o page)) × (length (pageOf o page) ≤ pageRows)
+  -- "A page is 25 rows, the last one those left"
+  pub full : (page : ℕ) → 1 ≤ page → page < pageCount o → length (pageOf o page) ≡ pageRows
+  pub last : 1 ≤ o .rows → (1 ≤ length (pageOf o (pageCount o))) × (length (pageOf o (pageCount o)) ≡ o .rows - pageRows * (pageCount o - 1))
+  -- "pages count from 1"
+  pub none : pageOf o 0 ≡ []
   pub lacking : (page : ℕ) → pageCount o < page → pageOf o page ≡ []
   pub held : allCells o ≡ cellsOf (rowsOf o)
   -- "the other two bits are 0"

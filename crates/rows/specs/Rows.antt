@@ -23,38 +23,33 @@ use Rattle.schedule.specs.declared.prayer_times.Worked.the-variants as worked
 use Rattle.text.specs.Printed.{printedLength, printedBuffer}
 use Rattle.text.specs.Text.{ascii, frontOf}
 
--- ---- a row: "a full row has 119 bytes with its newline, at the front of the row buffer; the bytes after them stay"
-unfoldable pub answerOf : Worked → Refusal
-answerOf (worked.Times t) = noRefusal
-answerOf (worked.Refused r) = r
+-- ---- a row: what a call answers, and every byte of the lent buffer after it
+pub record RowCall : Type 0 where
+  pub answer : Refusal
+  pub buffer : List ℕ
 
 -- "A refusal .. changes no lent byte."
-unfoldable pub rowFrontOf : Ramadan → Date → Worked → List ℕ → List ℕ
-rowFrontOf ramadan date (worked.Times t) buffer = frontOf (rowText date (columnsOf ramadan t)) buffer
-rowFrontOf ramadan date (worked.Refused r) buffer = buffer
+abbrev pub refusing : Refusal → List ℕ → RowCall
+refusing r buffer = record { answer = r; buffer = buffer }
+
+-- "a full row has 119 bytes with its newline, at the front of the row buffer; the bytes after them stay"
+unfoldable pub workedCallOf : Ramadan → Date → Worked → List ℕ → RowCall
+workedCallOf ramadan date (worked.Times t) buffer = record { answer = noRefusal; buffer = frontOf (rowText date (columnsOf ramadan t)) buffer }
+workedCallOf ramadan date (worked.Refused r) buffer = refusing r buffer
 
 -- of an order that is read. Request 12: a buffer "of 119 to 130" bytes is 9 "once the order is accepted with tag 20, before the row"
-unfoldable pub readAnswerOf : Order → ℕ → List ℕ → Refusal
-readAnswerOf o row buffer = cond (ltb (length buffer) (rowRoom (o .ramadan))) (refusal bufferShort 0) (answerOf (workRowOf o row))
+unfoldable pub readCallOf : Order → ℕ → List ℕ → RowCall
+readCallOf o row buffer =
+    cond (ltb (length buffer) (rowRoom (o .ramadan))) (refusing (refusal bufferShort 0) buffer)
+    (workedCallOf (o .ramadan) (rowDateOf (o .date) row) (workRowOf o row) buffer)
 
-unfoldable pub readBufferOf : Order → ℕ → List ℕ → List ℕ
-readBufferOf o row buffer =
-    cond (ltb (length buffer) (rowRoom (o .ramadan))) buffer (rowFrontOf (o .ramadan) (rowDateOf (o .date) row) (workRowOf o row) buffer)
-
-abbrev answerIn : Reading → ℕ → List ℕ → Refusal
-answerIn (reading.Read o) row buffer = readAnswerOf o row buffer
-answerIn (reading.Refused r) row buffer = r
-
-abbrev bufferIn : Reading → ℕ → List ℕ → List ℕ
-bufferIn (reading.Read o) row buffer = readBufferOf o row buffer
-bufferIn (reading.Refused r) row buffer = buffer
+abbrev callIn : Reading → ℕ → List ℕ → RowCall
+callIn (reading.Read o) row buffer = readCallOf o row buffer
+callIn (reading.Refused r) row buffer = refusing r buffer
 
 -- 9 is "row buffer under 119 bytes"; "buffer and instant are checked before anything else in their calls"
-unfoldable pub rowAnswerOf : List ℕ → ℕ → List ℕ → Refusal
-rowAnswerOf s row buffer = cond (ltb (length buffer) fullRow) (refusal bufferShort 0) (answerIn (readingOf s) row buffer)
-
-unfoldable pub rowBufferOf : List ℕ → ℕ → List ℕ → List ℕ
-rowBufferOf s row buffer = cond (ltb (length buffer) fullRow) buffer (bufferIn (readingOf s) row buffer)
+unfoldable pub rowCallOf : List ℕ → ℕ → List ℕ → RowCall
+rowCallOf s row buffer = cond (ltb (length buffer) fullRow) (refusing (refusal bufferShort 0) buffer) (callIn (readingOf s) row buffer)
 
 -- ---- the sheet: "the town, the header, one line a row"
 -- request 12: imsak "stands between the date and Fajr, under the header word imsak"

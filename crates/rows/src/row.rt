@@ -3,7 +3,7 @@ ghost use mathlib.Core.Path.{_≡_};
 ghost use Prim.Native.Nat.{_≤_};
 ghost use lib.ListN.{length};
 ghost use Rattle.lines.specs.Lines.{rowRoom};
-ghost use Rattle.rows.specs.Rows.{answerOf, rowFrontOf, readAnswerOf, readBufferOf, rowAnswerOf, rowBufferOf};
+ghost use Rattle.rows.specs.Rows.{workedCallOf, readCallOf, rowCallOf};
 ghost use Rattle.calls.specs.Calls.{workRowOf};
 ghost use Rattle.calendar.specs.Answers.{rowDateOf};
 use calendar::dates::Date;
@@ -23,8 +23,8 @@ use schedule::prayer_times::Worked;
 // Number 0 where the row is written.
 fn write_worked(ramadan: Ramadan, date: Date, worked: Worked, buffer: &mut [u8]) -> Refusal
     requires { ⌜ rowRoom ramadan ≤ length (now buffer) ⌝ }
-    ensures { λ r. ⌜ r ≡ answerOf worked ⌝ }
-    ensures { λ _. ⌜ now (buffer .exit) ≡ rowFrontOf ramadan date worked (now (buffer .entry)) ⌝ }
+    ensures { λ r. ⌜ r ≡ workedCallOf ramadan date worked (now (buffer .entry)) .answer ⌝ }
+    ensures { λ _. ⌜ now (buffer .exit) ≡ workedCallOf ramadan date worked (now (buffer .entry)) .buffer ⌝ }
 {
     match worked {
         Worked::Times(times) => {
@@ -37,8 +37,8 @@ fn write_worked(ramadan: Ramadan, date: Date, worked: Worked, buffer: &mut [u8])
 
 fn write_there(order: Order, row: u32, buffer: &mut [u8]) -> Refusal
     requires { ⌜ rowRoom (order .ramadan) ≤ length (now buffer) ⌝ }
-    ensures { λ r. ⌜ r ≡ answerOf (workRowOf order row) ⌝ }
-    ensures { λ _. ⌜ now (buffer .exit) ≡ rowFrontOf (order .ramadan) (rowDateOf (order .date) row) (workRowOf order row) (now (buffer .entry)) ⌝ }
+    ensures { λ r. ⌜ r ≡ workedCallOf (order .ramadan) (rowDateOf (order .date) row) (workRowOf order row) (now (buffer .entry)) .answer ⌝ }
+    ensures { λ _. ⌜ now (buffer .exit) ≡ workedCallOf (order .ramadan) (rowDateOf (order .date) row) (workRowOf order row) (now (buffer .entry)) .buffer ⌝ }
 {
     if row < order.rows {
         let first = order.date;
@@ -50,8 +50,8 @@ fn write_there(order: Order, row: u32, buffer: &mut [u8]) -> Refusal
 
 // A row of a Ramadan sheet is longer: a buffer that it does not fit is 9, before the row.
 fn write_read(order: Order, row: u32, buffer: &mut [u8]) -> Refusal
-    ensures { λ r. ⌜ r ≡ readAnswerOf order row (now (buffer .entry)) ⌝ }
-    ensures { λ _. ⌜ now (buffer .exit) ≡ readBufferOf order row (now (buffer .entry)) ⌝ }
+    ensures { λ r. ⌜ r ≡ readCallOf order row (now (buffer .entry)) .answer ⌝ }
+    ensures { λ _. ⌜ now (buffer .exit) ≡ readCallOf order row (now (buffer .entry)) .buffer ⌝ }
 {
     let bytes = row_bytes(order.ramadan);
     if buffer.len() < bytes {
@@ -62,8 +62,8 @@ fn write_read(order: Order, row: u32, buffer: &mut [u8]) -> Refusal
 
 // A buffer that a full row without imsak does not fit is 9, before anything else.
 pub fn write_row(order: &[u8], row: u32, buffer: &mut [u8]) -> Refusal
-    ensures { λ r. ⌜ r ≡ rowAnswerOf (now (order .entry)) row (now (buffer .entry)) ⌝ }
-    ensures { λ _. ⌜ now (buffer .exit) ≡ rowBufferOf (now (order .entry)) row (now (buffer .entry)) ⌝ }
+    ensures { λ r. ⌜ r ≡ rowCallOf (now (order .entry)) row (now (buffer .entry)) .answer ⌝ }
+    ensures { λ _. ⌜ now (buffer .exit) ≡ rowCallOf (now (order .entry)) row (now (buffer .entry)) .buffer ⌝ }
 {
     if buffer.len() < ROW_BYTES {
         return Refusal::new(BUFFER_SHORT, 0);

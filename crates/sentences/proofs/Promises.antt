@@ -1,20 +1,47 @@
 -- The promises of request 8: `each-has-a-sentence`, `printed`, `read-back`, `different`, `reads-only-sentences`, `written-and-read`. Assumes nothing.
-use Rattle.prelude.proofs.Logic.{_≡_, refl, sym, ap, subst, _∙_, Bool, true, false, _&&_, and-eq-true-iff, List, [], _∷_, _++_, append-assoc, ℕ, zero, suc, _+_, _/_, _≤_, _<_, arith, leb, ltb, length, take, length-append, le-leb, lt-ltb, ltb-true, cases, either}
+use Rattle.prelude.proofs.Logic.{_≡_, refl, sym, ap, subst, _∙_, Bool, true, false, not, cond, _&&_, and-eq-true-iff, List, [], _∷_, _++_, append-assoc, ℕ, zero, suc, _+_, _/_, _≤_, _<_, arith, leb, ltb, T, length, getD, take, List·getD-eq-default, length-append, le-leb, lt-ltb, ltb-true, ltb-false, leb-true, ne-eqb, cases, either}
+use Rattle.prelude.specs.Lists.{listed}
+use Rattle.prelude.proofs.Computed.{at}
+use Rattle.refusals.specs.Refusals.{numbers}
 use Rattle.text.specs.Text.{ascii, printable, digitOf, digitsOf, decimalOf, frontOf}
 use Rattle.text.proofs.TextLaws.{put-next, cut-front}
 use Rattle.sentences.specs.declared.Meaning.{Meaning}
 use Rattle.sentences.specs.Table.{texts, textOf, nameOf, known, widest, widestName}
 use Rattle.sentences.specs.Guess.{none, numberIn, placeIn}
 use Rattle.sentences.specs.Sentences.{endsInColon, wordsOf, sentenceOf, bufferAfter, meant, noSentence, same, meaningOf}
-use Rattle.sentences.specs.Promises.{allKnown, EachHasASentence, Says, Different, Printed, ReadBack, ReadAs, ReadsOnlySentences, WrittenAndRead}
+use Rattle.sentences.specs.Promises.{EachHasASentence, Says, Different, Printed, ReadBack, ReadAs, ReadsOnlySentences, WrittenAndRead}
 use Rattle.sentences.specs.Promises.ReadAs.{says, other}
 use Rattle.sentences.proofs.Lines.{text-fine, name-fine, text-says}
 use Rattle.sentences.proofs.Guessing.{number-append, ten-digits, place-back}
 use Rattle.sentences.proofs.Comparing.{same-itself, same-only}
 
+-- ---- the numbers that have a sentence
+-- a number over the largest of some is none of them
+upTo : ℕ → List ℕ → Bool
+upTo most [] = true
+upTo most (x ∷ xs) = leb x most && upTo most xs
+
+none-over : (most n : ℕ) (xs : List ℕ) → upTo most xs ≡ true → most < n → listed xs n ≡ false
+unfolding listed upTo
+none-over most n [] e h = refl
+none-over most n (x ∷ xs) e h =
+    let u = and-eq-true-iff (leb x most) (upTo most xs) .0 e in
+    let l = leb-true x most (u .0) in
+    rw (ne-eqb x n (omega arith)) (none-over most n xs (u .1) h)
+
+equal : (a b : Bool) → T (cond a b (not b)) → a ≡ b
+equal true true t = refl
+equal true false t = absurd t
+equal false true t = absurd t
+equal false false t = refl
+
 pub each-has-a-sentence : EachHasASentence
-unfolding allKnown textOf texts
-each-has-a-sentence = (refl, refl)
+unfolding textOf texts listed upTo
+each-has-a-sentence n =
+    cases (ltb n 19) (λ h. equal (known n) (listed numbers n) (at (λ k. cond (known k) (listed numbers k) (not (listed numbers k))) 19 tt n (ltb-true n 19 h)))
+    (λ h. let l = ltb-false n 19 h in
+    let e : getD texts n [] ≡ [] = List·getD-eq-default texts [] l in
+    rw (e, none-over 18 n numbers refl (omega arith)))
 
 -- ---- printable bytes
 printable-append : (s t : List ℕ) → printable s ≡ true → printable t ≡ true → printable (s ++ t) ≡ true

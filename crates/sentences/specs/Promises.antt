@@ -1,9 +1,10 @@
 -- What request 8 promises, as statements; proofs/Promises.antt proves them.
 use Prim.Native.Nat.{ℕ, _≤_, _<_, _^_}
 use mathlib.Core.Path.{_≡_}
-use mathlib.Core.Bool.{Bool, true, false, _&&_}
-use mathlib.Core.List.{List, [], _∷_}
+use mathlib.Core.Bool.{true}
+use mathlib.Core.List.{List}
 use lib.ListN.{length, take}
+use Rattle.prelude.specs.Lists.{listed}
 use Rattle.refusals.specs.Refusals.{numbers}
 use Rattle.text.specs.Text.{printable, frontOf}
 use Rattle.sentences.specs.declared.Meaning.{Meaning}
@@ -16,13 +17,9 @@ pub record Says (bytes : List ℕ) (n p : ℕ) : Type 0 where
   pub place : p < 2 ^ 32
   pub sentence : bytes ≡ sentenceOf n p
 
-unfoldable pub allKnown : List ℕ → Bool
-allKnown [] = true
-allKnown (n ∷ ns) = known n && allKnown ns
-
--- "a sentence for each refusal": every number of the table of refusals is known, and 0, which refuses nothing, is not
+-- "a sentence for each refusal": the numbers that have one are those of the table of refusals, and no other
 abbrev pub EachHasASentence : Type 0
-EachHasASentence = (allKnown numbers ≡ true) × (known 0 ≡ false)
+EachHasASentence = (n : ℕ) → known n ≡ listed numbers n
 
 -- "any two refusals that differ in number or place have different sentences": one sentence is one refusal's
 abbrev pub Different : Type 0

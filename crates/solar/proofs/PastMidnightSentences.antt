@@ -2,10 +2,11 @@
 use Rattle.prelude.proofs.Logic.{_≡_, refl, ap, _∙_, Bool, true, false, cond, _&&_, _||_, false≢true, ℕ, _+_, _*_, _^_, _≤_, _<_, mul-le-mul-left, arith, ltb, eqb, ℤ, pos, pow-pos, ltb-true, lt-ltb, le-ltb, leb-false, eqb-true, ne-eqb}
 use Rattle.float64.proofs.Floats.{Float, nan, inf, fin, up, down, round, neg, le, lt, eq, down-pos, dec, isNormalOf, floorOf}
 use Rattle.solar.specs.declared.setting.SolarHour.the-variants.{At, None}
-use Rattle.solar.specs.Setting.{hourAdjustmentOf, minuteOf, settingHourOf, daySecondOf, sumOf, restOf}
+use Rattle.solar.specs.Setting.{hourAdjustmentOf, minuteOf, settingHourOf, daySecondOf}
 use Rattle.solar.specs.PastMidnight.{hasTimeOf, nextMidnightOf, carriedOf, carriedHourOf}
-use Rattle.solar.proofs.PastMidnightLaws.{carried-none, carried-small, carried-past}
-use Rattle.solar.proofs.Taken.{both, dateTaken, taken-is, hour-in-day}
+use Rattle.solar.specs.Promises.{dateTaken, hourSum, minuteLeft, CarriesPastMidnight}
+use Rattle.solar.proofs.PastMidnightLaws.{carried-agrees, carried-none, carried-small, carried-past}
+use Rattle.solar.proofs.Taken.{both, taken-is, hour-in-day}
 
 -- ---- zero and subnormal numbers are 00:00 of the date
 less-than : (a d w : ℕ) → 0 < w → a * w < d → a < d
@@ -73,13 +74,6 @@ infinite-none true = refl
 infinite-none false = refl
 
 -- ---- an hour that comes to 24 is 00:00 of the date after the one taken, and every other is that date's
--- the hour with what minute 60 adds, and the minute that is left
-abbrev pub hourSum : Float → ℕ
-hourSum value = sumOf (hourAdjustmentOf (floorOf value) .hour) (minuteOf value (floorOf value))
-
-abbrev pub minuteLeft : Float → ℕ
-minuteLeft value = restOf (minuteOf value (floorOf value))
-
 pub sum-held : (value : Float) → hasTimeOf value ≡ true → hourSum value ≤ 24
 sum-held value h = go (ltb (minuteOf value (floorOf value)) 60)
   where
@@ -108,3 +102,18 @@ hour-24-carried value h n l =
 -- where document 01 has no time
 pub lost-carried : (value : Float) → hasTimeOf value ≡ true → isNormalOf value ≡ true → settingHourOf value ≡ None → carriedHourOf value ≡ nextMidnightOf (dateTaken value)
 lost-carried value h n e = carried-past value h n e ∙ ap nextMidnightOf (taken-is value h)
+
+-- ---- all of them
+pub carries-past-midnight : CarriesPastMidnight
+carries-past-midnight =
+    record {
+      carried = hour-24-carried;
+      most = sum-held;
+      «on_date» = hour-on-date;
+      same = carried-agrees;
+      small = small-on-date;
+      below = below-none;
+      from = from-none;
+      nan = nan-none;
+      infinite = infinite-none;
+    }

@@ -5,6 +5,7 @@ use Rattle.float64.proofs.Floats.{Float, nan, inf, fin, binary64, up, down, rou
 use Rattle.solar.specs.declared.setting.Placed.{Placed}
 use Rattle.solar.specs.Setting.{hourAdjustmentOf}
 use Rattle.solar.specs.PastMidnight.{hasTimeOf}
+use Rattle.solar.specs.Promises.{dateTaken}
 use Rattle.solar.proofs.PastMidnightLaws.{takenOf}
 
 -- ---- the limits
@@ -188,10 +189,6 @@ place-zero (fin true m e) v =
     before-day = unfold lt in lt-ltb 0 (m * up e * 1 + 3 * 2 ^ 3 * down e) (omega (arith, down-pos e))
 
 -- ---- numbers that have a time
--- the date that an hour number takes: yesterday below 0, tomorrow from 24 on
-abbrev pub dateTaken : Float → ℕ
-dateTaken value = cond (lt value (dec 0 0)) 0 (cond (lt value (dec 24 0)) 1 2)
-
 Right : Float → Type 0
 Right value = (takenOf value ≡ dateTaken value) × (hourAdjustmentOf (floorOf value) .hour < 24)
 

@@ -4,3 +4,4 @@ pub mod Setting
 pub mod Shared
 pub mod PastMidnight
 pub mod Times
+pub mod Promises

@@ -2,11 +2,11 @@ use Rattle.prelude.proofs.Logic.{refl, _∙_, [], arith, needs, now}
 use Rattle.lines.specs.Lines.{columnsOf, rowText}
 use Rattle.lines.proofs.LinesLaws.{columns-length}
 use Rattle.text.proofs.TextLaws.{put-next}
-use Rattle.rows.specs.Rows.{answerOf, rowFrontOf}
+use Rattle.rows.specs.Rows.{workedCallOf}
 use Rattle.rows.proofs.row.write_worked as this
 
 returns : this.Tie.Need-returns
-unfolding answerOf rowFrontOf
+unfolding workedCallOf
 returns c =
     let put = c .before .before .before .put-row in
     let w = c .before .before .before .before .before .before .worked .given in
@@ -17,7 +17,7 @@ returns c =
     (c .none .ensures ∙ simp (w .1), simp (w .1) p)
 
 pub write-worked-spec : {M : Type 1} → this.Statement.statement M
-unfolding answerOf rowFrontOf
+unfolding workedCallOf
 write-worked-spec =
     let returns-2 : this.Tie.Need-returns-2 = λ c. let e = c .before .worked2 .given .1 in (simp e, simp e) in
     this.Tie.close (this.Tie.spec (λ c. search needs) (λ c κs. search needs) (λ c κs. tt) (λ c. search needs) (λ c. search needs) returns returns-2)

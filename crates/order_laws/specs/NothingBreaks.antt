@@ -1,0 +1,106 @@
+-- Demand 1, whole, for any bytes that a school sends: "Nothing that a school sends breaks a run: every order is read or refused by number; a day lacking
+-- transit, sunrise or sunset, its own or the next two days', is refused as that day only; the first broken rule in the stated order gives the number;
+-- a refused call changes no lent byte; every call returns." That every call returns is a matter of the language: no function is built that is not
+-- proved to end. Proved in proofs/NothingBreaksLaws.
+use Prim.Native.Nat.{ℕ, zero, suc, _≤_, _<_}
+use mathlib.Core.Path.{_≡_}
+use mathlib.Core.Bool.{true, false}
+use mathlib.Core.List.{List, [], _∷_, _++_}
+use lib.Dec.{eqb}
+use lib.ListN.{length}
+use Rattle.prelude.specs.Lists.{listed}
+use Rattle.refusals.specs.Refusals.{fieldCut, fieldUnknown, fieldAgain, tagMissing, outOfRange, noTransit, noSunrise, noSunset, bothForms, notFirstOfRamadan}
+use Rattle.refusals.specs.declared.Refusal.{Refusal}
+use Rattle.calendar.specs.Answers.{rowDateOf}
+use Rattle.calendar.specs.declared.dates.Date.{Date}
+use Rattle.calls.specs.Calls.{workDateOf, workDayOf}
+use Rattle.fields.specs.Fields.{checkOf}
+use Rattle.fields.specs.Values.{valuesOf}
+use Rattle.lines.specs.Lines.{lineText}
+use Rattle.order.specs.Reading.{checksOf, readingOf, townOf}
+use Rattle.order.specs.declared.reading.Order.{Order}
+use Rattle.order.specs.declared.reading.Reading.{Reading}
+use Rattle.order.specs.declared.reading.Reading.the-variants as reading
+use Rattle.pages.specs.Answers.{oneRow, pieceIn, rowWritten, rowBuffer, pageWritten, pageBuffer}
+use Rattle.pages.specs.Pages.{cellsOf}
+use Rattle.rows.specs.Rows.{rowCallOf, headText, sheetText}
+use Rattle.schedule.specs.Numbers.{numbersOf}
+use Rattle.schedule.specs.declared.prayer_times.Worked.the-variants as worked
+use Rattle.solar.specs.Times.{solarTimeOf}
+use Rattle.solar.specs.declared.times.SolarDay.{SolarDay}
+use Rattle.solar.specs.declared.times.SolarDay.the-variants as sun
+use Rattle.solar.specs.declared.times.SolarTime.{SolarTime}
+use Rattle.text.specs.Text.{frontOf}
+
+-- ---- "every order is read or refused by number"
+abbrev pub orderNumbers : List ℕ
+orderNumbers = fieldCut ∷ fieldUnknown ∷ fieldAgain ∷ tagMissing ∷ outOfRange ∷ bothForms ∷ notFirstOfRamadan ∷ []
+
+-- "the first broken rule in the stated order gives the number": of some rules, each by its refusal, those before it refuse nothing
+pub data FirstBroken (r : Refusal) : List Refusal → Type 0 where
+  here : {rest : List Refusal} → eqb (r .number) 0 ≡ false → FirstBroken r (r ∷ rest)
+  later : {kept : Refusal} {rest : List Refusal} → eqb (kept .number) 0 ≡ true → FirstBroken r rest → FirstBroken r (kept ∷ rest)
+
+-- ---- "a day lacking transit, sunrise or sunset, its own or the next two days', is refused"
+abbrev pub dayNumbers : List ℕ
+dayNumbers = noTransit ∷ noSunrise ∷ noSunset ∷ []
+
+-- a date's own day and the next two: the sun's times of each, or the number of what it lacks
+abbrev pub threeDays : Order → Date → List SolarDay
+threeDays o date =
+    let numbers = numbersOf date (o .coordinates) (o .parameters) in
+    let rule = o .rules .midnight in
+    solarTimeOf rule (numbers .today) ∷ solarTimeOf rule (numbers .tomorrow) ∷ solarTimeOf rule (numbers .after) ∷ []
+
+-- of some days the first that lacks a time: what it lacks, and how many days stand before it
+pub data FirstLacking (number : ℕ) : ℕ → List SolarDay → Type 0 where
+  here : {rest : List SolarDay} → FirstLacking number 0 (sun.Lacks number ∷ rest)
+  later : {place : ℕ} {whole : SolarTime} {rest : List SolarDay} → FirstLacking number place rest → FirstLacking number (suc place) (sun.Whole whole ∷ rest)
+
+pub record RefusedDay (o : Order) (date : Date) (r : Refusal) : Type 0 where
+  pub number : listed dayNumbers (r .number) ≡ true
+  pub place : r .place ≤ 2
+  pub lacking : FirstLacking (r .number) (r .place) (threeDays o date)
+
+-- ---- "as that day only": the line of a row by its own date
+abbrev pub lineOf : Order → ℕ → List ℕ
+lineOf o row = let date = rowDateOf (o .date) row in lineText (o .ramadan) date (workDateOf o date)
+
+-- what each of the rows 0 to n - 1 gives, one behind another
+unfoldable pub eachOf : (ℕ → List ℕ) → ℕ → List ℕ
+eachOf of zero = []
+eachOf of (suc n) = eachOf of n ++ of n
+
+-- ---- "a refused call changes no lent byte"; else what is written is at the front, has room there, and the bytes behind it stay
+pub record Lent (number : ℕ) (text before after : List ℕ) : Type 0 where
+  pub refused : eqb number 0 ≡ false → after ≡ before
+  pub written : eqb number 0 ≡ true → (length text ≤ length before) × (after ≡ frontOf text before)
+
+-- what is written of an order: of a refused one nothing
+abbrev pub writtenOf : (Order → List ℕ) → Reading → List ℕ
+writtenOf of (reading.Read o) = of o
+writtenOf of (reading.Refused r) = []
+
+-- ---- all of it
+pub record NothingBreaks (s : List ℕ) : Type 0 where
+  pub order : (r : Refusal) → readingOf s ≡ reading.Refused r → listed orderNumbers (r .number) ≡ true
+  -- the form of the fields, missing tags, both forms of a coordinate, ranges, the start of a Ramadan sheet
+  pub first : (r : Refusal) → readingOf s ≡ reading.Refused r → FirstBroken r (checkOf s ∷ checksOf (valuesOf s))
+  -- a row that the order has gives nine times, or is refused by 6, 7 or 8 and the day; and where a day lacks a time, it is
+  pub day : (o : Order) (row : ℕ) (r : Refusal) → readingOf s ≡ reading.Read o → row < o .rows → workDayOf s row ≡ worked.Refused r
+      → RefusedDay o (rowDateOf (o .date) row) r
+  pub lacking : (o : Order) (row : ℕ) (r : Refusal) → readingOf s ≡ reading.Read o → row < o .rows
+      → FirstLacking (r .number) (r .place) (threeDays o (rowDateOf (o .date) row)) → workDayOf s row ≡ worked.Refused r
+  -- the sheet has a line for each row, which goes by that row alone
+  pub sheet : (o : Order) → readingOf s ≡ reading.Read o → sheetText s ≡ headText (o .ramadan) (townOf s) ++ eachOf (lineOf o) (o .rows)
+  -- the calls that write: a row, a row of cells, a page of cells or a piece of it
+  pub row : (row : ℕ) (buffer : List ℕ)
+      → Lent (rowCallOf s row buffer .answer .number) (writtenOf (λ o. lineOf o row) (readingOf s)) buffer (rowCallOf s row buffer .buffer)
+  pub cells : (row : ℕ) (buffer : List ℕ)
+      → Lent (rowWritten row s buffer .refusal .number) (writtenOf (λ o. cellsOf (oneRow row o)) (readingOf s)) buffer (rowBuffer row s buffer)
+  pub page : (page first : ℕ) (scratch : List ℕ)
+      → Lent (pageWritten page first s scratch .refusal .number) (writtenOf (λ o. cellsOf (pieceIn page first scratch o)) (readingOf s)) scratch
+      (pageBuffer page first s scratch)
+
+abbrev pub NothingBreaksARun : Type 0
+NothingBreaksARun = (s : List ℕ) → NothingBreaks s

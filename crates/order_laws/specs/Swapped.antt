@@ -1,0 +1,36 @@
+-- Request 7: "Tags 18 and 19 stand for latitude and longitude". An order that is read stays one where a coordinate is sent in the other form, by a
+-- value that fits: beside EitherForm, which is of two orders that are read. Proved in proofs/SwappedLaws.
+use Prim.Native.Nat.{ℕ, _≤_}
+use mathlib.Core.Path.{_≡_}
+use mathlib.Core.Bool.{true, false}
+use mathlib.Core.List.{List}
+use Rattle.fields.specs.Fields.{checkOf}
+use Rattle.fields.specs.Tags.{lastTag}
+use Rattle.fields.specs.Values.{hasOf, valueOf, valuesOf}
+use Rattle.map_form.specs.Hundredths.{mostLatitude, mostLongitude, formFits}
+use Rattle.map_form.specs.Written.{latitudeTag, longitudeTag}
+use Rattle.order.specs.Given.{coordinateIn, formIn}
+use Rattle.order.specs.Reading.{readingOf}
+use Rattle.order.specs.declared.reading.Order.{Order}
+use Rattle.order.specs.declared.reading.Reading.the-variants.{Read}
+use Rattle.order_laws.specs.EitherForm.{SamePlace, saysPlace}
+
+-- a coordinate, by its two tags: the second order gives it as the first does, or in the form on the map, by a value that fits
+pub data Sent (a b : List ℕ) (float map most : ℕ) : Type 0 where
+  alike : hasOf a float ≡ hasOf b float → valueOf a float ≡ valueOf b float → hasOf a map ≡ hasOf b map → valueOf a map ≡ valueOf b map → Sent a b float map most
+  swapped : hasOf b float ≡ false → hasOf b map ≡ true → formFits most (formIn (valueOf b map)) ≡ true → Sent a b float map most
+
+-- the first order is read; the form of the second's fields is right, its coordinates are the same f64, and every other tag gives the same
+pub record Swapped (a b : List ℕ) : Type 0 where
+  pub order : Order
+  pub «first_read» : readingOf a ≡ Read order
+  pub fields : checkOf b .number ≡ 0
+  pub latitude : Sent a b 4 latitudeTag mostLatitude
+  pub longitude : Sent a b 5 longitudeTag mostLongitude
+  pub «same_latitude» : order .coordinates .latitude ≡ coordinateIn (valuesOf b) 4 latitudeTag
+  pub «same_longitude» : order .coordinates .longitude ≡ coordinateIn (valuesOf b) 5 longitudeTag
+  pub others : (tag : ℕ) → tag ≤ lastTag → saysPlace tag ≡ false → (hasOf a tag ≡ hasOf b tag) × (valueOf a tag ≡ valueOf b tag)
+
+-- then the second is read too, and what EitherForm says of the two holds
+abbrev pub MapFormIsRead : Type 0
+MapFormIsRead = (a b : List ℕ) → Swapped a b → SamePlace a b
