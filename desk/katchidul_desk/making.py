@@ -50,7 +50,7 @@ def numbered(out, number):
 
 def tell_wrong(made, anyway):
     """Names each row that one clock can't be right for. Returns whether that stops the making."""
-    for line in zones.wrong_lines(made):
+    for line in [*zones.odd_noon_lines(made), *zones.wrong_lines(made)]:
         streams.say("katchidul: warning: %s" % line)
     if made.on_pages and not anyway:
         streams.say("katchidul: nothing is written; --anyway writes it all the same, and the rows above are then wrong on the page")
