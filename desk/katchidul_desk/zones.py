@@ -17,7 +17,8 @@ from .reading import changed, is_ramadan
 from .sheets import PRAYERS, Sheet, sheet
 from .wording import did_you_mean, listed, quoted, utc_offset
 
-LONGEST_NAME = 100
+# Folders of the time zone data whose clocks count leap seconds, or are there twice.
+OTHER_CLOCKS = ("right/", "posix/")
 ROWS_TAG = 3
 MOST_CLOCK = 840
 NOON = "dhuhr"
@@ -78,15 +79,17 @@ def split(order, name):
 
 def find(name):
     """The zone of a name such as Europe/London."""
+    try:
+        if not name.startswith(OTHER_CLOCKS):
+            return zoneinfo.ZoneInfo(name)
+    except (KeyError, OSError, ValueError):
+        pass
     known = zoneinfo.available_timezones()
     if not known:
         raise ZoneError("this computer has no time zone data; install the package tzdata (on Debian: apt install tzdata)")
-    if name not in known:
-        raise ZoneError("%s is no time zone%s" % (quoted(name), did_you_mean(name, known) or ", which is written as Europe/London"))
-    try:
-        return zoneinfo.ZoneInfo(name)
-    except (OSError, ValueError) as why:
-        raise ZoneError("the time zone data of %s can't be read: %s; install the package tzdata again" % (quoted(name), why)) from None
+    if name in known:
+        raise ZoneError("the time zone data of %s can't be read; install the package tzdata again" % quoted(name))
+    raise ZoneError("%s is no time zone%s" % (quoted(name), did_you_mean(name, known) or ", which is written as Europe/London"))
 
 
 def minutes(instant, zone):

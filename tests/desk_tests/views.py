@@ -7,7 +7,7 @@ import tempfile
 from katchidul_desk import braille, helps, reading, tables, weeks
 from katchidul_desk.command import APART, COMMANDS
 
-from .checks import ROOT, check, program, run
+from .checks import ROOT, check, program, run, started
 
 EXAMPLES = sorted((ROOT / "examples").glob("*.order"))
 TIME = re.compile(r"([+-]\d)T(\d\d):(\d\d):\d\d")
@@ -85,7 +85,7 @@ def pages():
     status, printed, _ = run("cells", ROOT / "examples" / "durham-clock.order")
     lines = printed.decode().splitlines()
     check("cells", (status, lines[0], lines[1][-40:], lines[-1]), (0, "page 1", " 01  01:05 04:36 13:05 17:31 21:33 01:04", "dots 2653"))
-    status, printed, said = run("cells", ROOT / "examples" / "durham-clock.order", env={**os.environ, "PYTHONIOENCODING": "ascii"})
+    status, printed, said = started("cells", ROOT / "examples" / "durham-clock.order", env={**os.environ, "PYTHONIOENCODING": "ascii"})
     check("on a terminal of ASCII", (status, all(byte < 128 for byte in printed), printed.splitlines()[1][:9], "ASCII braille" in said), (0, True, b"#JA #JAJE", True))
     status, printed, _ = run("brf", ROOT / "examples" / "durham-clock.order")
     check("BRF", (status, printed.count(b"\r\n"), printed.count(b"\f"), printed[:10]), (0, 30, 2, b"#JA #JAJE "))
