@@ -34,7 +34,7 @@ def quoted(text):
 def nearest(name, known):
     """The known name that a misspelt one is near to, or None."""
     by_plain = {plain(one): one for one in known}
-    near = difflib.get_close_matches(plain(name)[:LONGEST_QUOTE], by_plain, 1, 0.7)
+    near = difflib.get_close_matches(plain(name)[:LONGEST_QUOTE], by_plain, 1, 0.6)
     return by_plain[near[0]] if near else None
 
 

@@ -22,6 +22,7 @@ OTHER_CLOCKS = ("right/", "posix/")
 ROWS_TAG = 3
 MOST_CLOCK = 840
 NOON = "dhuhr"
+IN_WORDS = {"middle": "the middle of the night", "tomorrow": "tomorrow's fajr"}
 # By a town's clock noon comes between these hours everywhere.
 NOON_HOURS = range(10, 16)
 
@@ -211,5 +212,5 @@ def odd_noon_lines(made):
 def elsewhere_lines(made):
     for date, wrong in itertools.groupby(made.elsewhere, lambda one: one.date):
         wrong = list(wrong)
-        yield "%s: the clocks change before %s, which the pages don't have; the table shows %s" % (
-            date, listed(one.column for one in wrong), listed("%s for %s" % (one.shown, one.right) for one in wrong))
+        yield "%s, not on the pages: %s after the change, and the table shows %s" % (
+            date, listed("%s is %s" % (IN_WORDS.get(one.column, one.column), one.right) for one in wrong), listed(one.shown for one in wrong))

@@ -215,7 +215,7 @@ def wrong_rows():
 
 
 def names():
-    for name, part in [("Europe/Londn", "did you mean Europe/London?"), ("europe/london", "did you mean Europe/London?"), ("London", "as Europe/London"), ("", "as Europe/London"),
+    for name, part in [("Europe/Londn", "did you mean Europe/London?"), ("europe/london", "did you mean Europe/London?"), ("London", "did you mean Europe/London?"), ("Chicago", "did you mean America/Chicago?"), ("Leeds", "as Europe/London"), ("", "as Europe/London"),
                        ("../../etc/passwd", "is no time zone"), ("Europe", "is no time zone"), ("right/Europe/London", "is no time zone"), ("zone.tab", "is no time zone"), ("/etc/localtime", "is no time zone"), ("a" * 300, "is no time zone"),
                        ("Eur\0ope", "is no time zone"), ("\udcff", "is no time zone")]:
         try:
