@@ -60,7 +60,7 @@ def pages_by_order(given, anyway):
     if split is None:
         return [(given.name, braille.pages(given.order))]
     tell_wrong(split, anyway)
-    for line in zones.lines(split, ["order %d" % number for number in range(1, len(split.parts) + 1)] + [given.name]):
+    for line in zones.lines(split, ["order %d" % number for number in range(1, len(split.parts) + 1)]):
         streams.say(line)
     return [("%s to %s" % (part.first, part.last), braille.pages(part.order)) for part in split.parts]
 

@@ -134,7 +134,8 @@ def date_line():
     for name, latitude, longitude in towns(ACROSS):
         made = zones.split(an_order(latitude, longitude, ("month", "2026-06")), name)
         lines = list(zones.wrong_lines(made))
-        check("%s is a day ahead" % name, (len(lines), "The times under 2026-06-01 are those of 2026-06-02" in lines[0]), (1, True))
+        check("%s is a day ahead" % name, (len(lines), lines[0]), (1, "30 rows would have their times under the wrong day: by the clocks "
+                                                          "of %s the noon of row 2026-06-01 is on 2026-06-02" % name))
 
 
 def leeds():
