@@ -10,7 +10,7 @@ from .ramadan import first_days
 from .version import version
 from .wording import did_you_mean, quoted
 
-# Parts that stand alone: each is a package with main(words), which has a help of its own.
+# Each of these commands is a package of its own, with main(words) and its own help.
 APART = {"preview": "preview", "desk": "page", "spool": "spool"}
 
 

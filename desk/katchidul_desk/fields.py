@@ -31,12 +31,12 @@ PRESETS = [
     Preset("Turkey", 18.0, 17.0, 0, "Nearest"),
     Preset("Other", 0.0, 0.0, 0, "Nearest"),
 ]
-# The usual short names of methods. A name that elsewhere stands for other angles is not among them.
+# The usual short names of methods. A name that means other angles elsewhere is not among them.
 SHORT = {"MWL": "MuslimWorldLeague", "Egypt": "Egyptian", "EGAS": "Egyptian", "UISK": "Karachi", "Makkah": "UmmAlQura", "Mecca": "UmmAlQura",
          "UQU": "UmmAlQura", "MCW": "MoonsightingCommittee", "Moonsighting": "MoonsightingCommittee", "ISNA": "NorthAmerica",
          "MUIS": "Singapore", "Diyanet": "Turkey"}
 
-# What a missing tag stands for: a text, or one of these four.
+# The value of a missing tag: a text, or one of these four.
 REFUSED, THE_METHODS, THE_OTHERS, NONE = object(), object(), object(), object()
 METHOD, CLOCK = 6, 16
 

@@ -163,7 +163,7 @@ class Degrees:
 
 
 class Choice:
-    """A number that stands for a name; the text may have either, or both. `short` are other names with the one they mean."""
+    """A number with a name; the text may have either, or both. `short` are other names with the one they mean."""
 
     def __init__(self, *names, first=0, short=None):
         self.names = dict(enumerate(names, first))

@@ -33,8 +33,10 @@ def write_split(made, out, anyway):
     if made.ramadan:
         names, orders = names + [out], orders + [made.ramadan]
     tell_wrong(made, anyway)
-    for name, order in zip(names, orders):
-        streams.write(order, name)
+    if several:
+        streams.write_files(zip(names, orders))
+    else:
+        streams.write(orders[0], out)
     for line in zones.lines(made, [os.path.basename(name or "") for name in names]):
         streams.say(line)
     tell_stale(out, names)

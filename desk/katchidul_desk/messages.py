@@ -10,7 +10,7 @@ class Refusal(NamedTuple):
     why: str = ""
 
 
-# Behind a colon stands the tag's name.
+# The tag's name follows a colon.
 WORDS = {
     1: "over 1,024 bytes, or cut in the field at byte",
     2: "unknown tag or wrong length in the field at byte",

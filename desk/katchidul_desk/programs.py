@@ -1,4 +1,4 @@
-"""Runs the proved programs: those that are installed beside this package, or else those of the checkout that it stands in.
+"""Runs the proved programs: those that are installed beside this package, or else those of its checkout.
 
 A checkout's program is proved and built before its first run, and again after a change to a crate. KATCHIDUL_PROGRAMS names another
 folder of programs."""

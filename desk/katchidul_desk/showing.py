@@ -10,7 +10,7 @@ from .sheets import reason
 def show(words):
     arguments = parse("show", words)
     every = inputs.given(arguments, "show")
-    streams.write(streams.in_terminals_letters("\n".join(orders.show(given.order) for given in every)), arguments.out)
+    write_text("\n".join(orders.show(order) for given in every for order in orders_or_refused(given)), arguments.out)
     return 1 if any(given.refusal for given in every) else 0
 
 

@@ -119,7 +119,7 @@ WAYS = {"place": from_place, "month": from_month, "from": from_first, "to": to_l
 
 
 def text_parts(text):
-    """The parts that a text gives, and whether they are to stand as listed."""
+    """The parts that a text gives, and whether they keep their order."""
     parts, as_listed = [], False
     # Only a newline ends a line: a town may hold what Unicode calls a line's end too, to be told of it.
     for number, line in enumerate(text.lstrip("\ufeff").split("\n"), 1):
@@ -163,7 +163,7 @@ def say_what_is_given_twice(parts):
 
 
 def with_options(parts, from_options):
-    """An option's field stands for all of the text's parts of that field, at the first one's place."""
+    """An option replaces all of the text's parts of its field, at the first one's place."""
     for asked in dict.fromkeys(part.field for part in from_options):
         at = next((at for at, part in enumerate(parts) if part.field == asked), len(parts))
         parts = [part for part in parts if part.field != asked]

@@ -1,7 +1,7 @@
 """Orders by a town's own clock.
 
-An order has one clock for all of its rows, and a town's clock changes twice a year. So the rows are split where the clock changes, and
-each part is an order of its own. Then every time on the pages is compared with the zone, as the system's time zone data has it."""
+An order has one clock for all of its rows, and a town's clock changes twice a year. So the rows are split at each change, and each
+part is an order of its own. Then every time on the pages is compared with the zone, as the system's time zone data has it."""
 import datetime
 import itertools
 import struct

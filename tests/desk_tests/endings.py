@@ -50,6 +50,12 @@ def output_files():
         check("a file stays when nothing is made", (kept.read_bytes(), os.listdir(folder)), (b"old", ["kept.brf"]))
         run("brf", ORDER, "--out", kept)
         check("and is replaced by a whole one", (kept.read_bytes()[:3], os.listdir(folder)), (b"#JA", ["kept.brf"]))
+        check("what is read is not replaced", (run("table", ORDER, "--out", ORDER)[:2], ORDER.read_bytes()[:1]), ((2, b""), b"\1"))
+        written = [(folder + "/a", b"1"), (folder + "/none/b", b"2")]
+        try:
+            streams.write_files(written)
+        except DeskError as why:
+            check("of several files none is written", (str(why).endswith("No such file or directory"), os.listdir(folder)), (True, ["kept.brf"]))
         link = pathlib.Path(folder) / "link.brf"
         link.symlink_to("kept.brf")
         run("brf", ROOT / "examples" / "pole.order", "--out", link)
@@ -118,7 +124,7 @@ def signals():
 
 
 def printed():
-    """tools/printed, which stands before the installed programs: a closed or a folder's input is no empty order, and a signal leaves no file."""
+    """tools/printed, which runs the installed programs: a closed or a folder's input is no empty order, and a signal leaves no file."""
     sheet = os.path.join(PROGRAMS, "sheet")
     for line, status, part in [("tools/printed $S <&-", 2, "standard input is closed"), ("tools/printed $S </", 2, "standard input is a folder"),
                                ("tools/printed $S <$O", 0, ""), ("tools/printed $S <examples/cut.order", 3, ""), ("tools/printed $S </dev/null", 3, ""),

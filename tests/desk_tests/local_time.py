@@ -239,7 +239,7 @@ def names():
     except ZoneError as told:
         check("clocks with seconds", "whole minutes" in str(told), True)
     status, _, said = run("make", "--zone", "Europe/Oslo", "-", given="\n".join("%s: %s" % pair for pair in LEEDS[:-1]).encode() + b"\nclock: 60\n")
-    check("a zone as an option stands for the text's clock", status, 2 if "--out" in said else 0)
+    check("a zone as an option replaces the text's clock", status, 2 if "--out" in said else 0)
     far = [("place", "53.8008, 91.5491") if name == "place" else (name, value) for name, value in LEEDS if name != "month"] + [("month", "2026-06")]
     status, _, said = run("make", *[word for name, value in far for word in ("--" + name, value)])
     check("a noon at night", (status, "do the place and the zone belong together?" in said), (0, True))

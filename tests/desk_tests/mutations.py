@@ -56,7 +56,7 @@ def every_way(order, whole):
         messages.sentence(refusal.number, refusal.place, {})
     own = int(cases.line(order).split()[0])
     if (refusal.number if refusal else 0) != own:
-        raise AssertionError("the second reader answers %d" % own)
+        raise AssertionError("the second reader returns %d" % own)
     if whole:
         try:
             sheets.sheet(order)

@@ -28,15 +28,15 @@ def shown(order):
     return orders.show(order).splitlines(), reading.read(order).refusal
 
 
-def papers_answer(order):
-    """Number and place by the other reader; 0 and 0 where the order is read."""
+def by_the_paper(order):
+    """Number and place by the other reader; 0 and 0 if it accepts the order."""
     return tuple(map(int, cases.line(order).split()[:2]))
 
 
 def check_order(order):
     lines, refusal = shown(order)
     text = orders.show(order)
-    check("number and place of %s" % order.hex(), (refusal.number, refusal.place) if refusal else (0, 0), papers_answer(order))
+    check("number and place of %s" % order.hex(), (refusal.number, refusal.place) if refusal else (0, 0), by_the_paper(order))
     check("bytes that a terminal may take of %s" % order.hex(), all(32 <= ord(c) <= 126 or c == "\n" for c in text), True)
     if len(order) <= 1024:
         check("made again: %s" % order.hex(), made(text.encode()), order)
@@ -109,7 +109,7 @@ def written():
 
 
 def tables():
-    """The names and presets are written down in the tool once more, since it stands alone; here they are held to the port's and the other reader's."""
+    """The desk has the names and presets once more; here they are held to the port's and the other reader's."""
     for tag, name in [(6, "method"), (7, "madhab"), (8, "high_altitude_rule"), (9, "rounding"), (10, "shafaq")]:
         with open(os.path.join(ROOT, "crates", "models", "src", name + ".rt")) as file:
             numbers = file.read().partition("pub fn number(self)")[2].partition("of_number")[0]
