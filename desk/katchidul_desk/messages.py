@@ -29,7 +29,7 @@ LACKS = {6: "transit of the sun", 7: "sunrise", 8: "sunset"}
 
 def sentence(number, place, names):
     """The library's sentence. `names` are the fields' names by tag."""
-    words = WORDS[number]
+    words = WORDS.get(number, "place")
     if words.endswith(":"):
         words += " %s, tag" % names[place] if place in names else " tag"
     return "Refusal %d: %s %d" % (number, words, place)

@@ -141,7 +141,7 @@ def refused(checkout):
     """A refused order is told by its status. A town of that name, and a cell with a newline's byte, are not."""
     checkout.run("sheet")
     program = checkout.root / "target" / "bin" / "sheet"
-    for text, status in [("order refused 5 place 16\\n", 1), ("order refused 5 place 16\\ndate fajr\\n", 0), ("order refused 5 place 16", 0), ("", 0)]:
+    for text, status in [("order refused 5 place 16\\n", 1), ("order refused 99 place 7\\n", 1), ("order refused 5 place 16\\ndate fajr\\n", 0), ("order refused 5 place 16", 0), ("", 0)]:
         program.write_text("#!/bin/sh\ncat >/dev/null\nprintf '%s'\n" % text)
         wanted = text.replace("\\n", "\n").encode()
         check("a program that prints %r" % text, checkout.run("sheet")[:2], (status, wanted))
