@@ -9,7 +9,7 @@ import time
 from katchidul_desk import orders, streams
 from katchidul_desk.errors import DeskError
 
-from .checks import COMMAND, PROGRAMS, ROOT, check, run, started
+from .checks import COMMAND, PROGRAMS, ROOT, check, hears_the_keyboard, run, started
 
 ORDER = ROOT / "examples" / "durham-clock.order"
 COMMANDS = ("show", "sheet", "table", "cells", "brf", "wear", "week", "make")
@@ -115,7 +115,8 @@ def long_values():
 def signals():
     """An order on the way is stopped by the keyboard without a word, and leaves no file."""
     with tempfile.TemporaryDirectory() as folder:
-        run = subprocess.Popen([COMMAND, "make", "-", "--out", os.path.join(folder, "x.order")], stdin=subprocess.PIPE, stderr=subprocess.PIPE)
+        run = subprocess.Popen([COMMAND, "make", "-", "--out", os.path.join(folder, "x.order")], stdin=subprocess.PIPE, stderr=subprocess.PIPE,
+                               preexec_fn=hears_the_keyboard)
         time.sleep(1)
         run.send_signal(signal.SIGINT)
         said = run.stderr.read()
@@ -132,7 +133,8 @@ def printed():
         says(line, "cd %s && %s" % (ROOT, line), status, part, S=sheet)
     with tempfile.TemporaryDirectory() as folder:
         for sent in (signal.SIGTERM, signal.SIGHUP, signal.SIGINT):
-            run = subprocess.Popen([ROOT / "tools" / "printed", sheet], stdin=subprocess.PIPE, env={**os.environ, "TMPDIR": folder})
+            run = subprocess.Popen([ROOT / "tools" / "printed", sheet], stdin=subprocess.PIPE, env={**os.environ, "TMPDIR": folder},
+                                   preexec_fn=hears_the_keyboard)
             for _ in range(500):
                 if os.listdir(folder):
                     break
