@@ -1,7 +1,8 @@
 """The fields of an order: docs/ORDERS.md has the same tables, and tests/order_document holds both to the library."""
 from typing import Any, NamedTuple, Sequence
 
-from .kinds import Choice, Clock, Day, Degrees, Minutes, Ramadan, Rows, Whole
+from .dates import Day
+from .kinds import Choice, Clock, Degrees, Minutes, Ramadan, Rows, Whole
 from .places import LATITUDE, LONGITUDE
 from .towns import Town
 from .wording import plain

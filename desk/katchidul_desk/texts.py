@@ -3,13 +3,14 @@ import datetime
 import re
 from typing import NamedTuple, Optional
 
+from .dates import MONTHS, Day, date_of, days_in
 from .errors import Unreadable
 from .fields import AXES, BY_NAME, CLOCK, FLOATS, TAGS
-from .kinds import DATE_TAG, MONTHS, Day, date_of, days_in
+from .kinds import DATE_TAG
 from .numbers import hexadecimal, signs, whole_bytes
 from .places import LATITUDE, LONGITUDE, coordinate, place
 from .reading import coded
-from .wording import BLANKS, did_you_mean, plain, quoted
+from .wording import BLANKS, as_bytes, did_you_mean, plain, quoted
 
 # Longer than any value in words. It keeps a pasted file from being worked on as one.
 LONGEST_VALUE = 400
@@ -109,7 +110,7 @@ def to_last(text):
 
 
 def from_zone(text):
-    return [Part(ZONE, text.encode("utf-8", "surrogateescape"), "zone")]
+    return [Part(ZONE, as_bytes(text), "zone")]
 
 
 WAYS = {"place": from_place, "month": from_month, "from": from_first, "to": to_last, "zone": from_zone, "timezone": from_zone}

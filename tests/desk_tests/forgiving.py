@@ -169,6 +169,7 @@ def towns():
                        ("Le\x07eds", "control")]:
         made = orders.make("", [("town", town), *BASE[1:]])
         check("town: " + town, made.refusal and part in made.refusal.why or made.refusal, True)
+    check("half a pair", orders.make("", [("town", "\ud800"), *BASE[1:], ("zone", "\ud800")]).refusal.place, 1)
     made = orders.make("town: Leeds\udcff", BASE[1:])
     check("a town that is not UTF-8", "no letters" in made.refusal.why, True)
 
