@@ -8,7 +8,7 @@ from .errors import Unreadable
 from .fields import AXES, BY_NAME, CLOCK, FLOATS, TAGS
 from .kinds import DATE_TAG
 from .numbers import hexadecimal, signs, whole_bytes
-from .places import LATITUDE, LONGITUDE, coordinate, place
+from .places import coordinate, place
 from .reading import coded
 from .wording import BLANKS, as_bytes, did_you_mean, plain, quoted
 

@@ -9,7 +9,7 @@ import tempfile
 import zoneinfo
 
 from katchidul_desk import orders, reading, zones
-from katchidul_desk.errors import Unreadable, ZoneError
+from katchidul_desk.errors import ZoneError
 
 from . import checks
 from .checks import cases, check, program, run

@@ -6,7 +6,7 @@ import re
 import struct
 import tempfile
 
-from katchidul_desk import orders, reading, texts
+from katchidul_desk import orders, reading
 from katchidul_desk.errors import Unreadable
 from katchidul_desk.fields import PRESETS, TAGS
 from katchidul_desk.numbers import whole_bytes
