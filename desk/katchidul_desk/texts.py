@@ -176,10 +176,12 @@ def with_rows(parts):
     """The parts with the rows that a last day gives."""
     if not any(part.last for part in parts):
         return parts
-    first = next((date_of(part.value) for part in parts if part.tag == DATE_TAG and len(part.value) == 4), None)
+    first = next((part for part in parts if part.tag == DATE_TAG and len(part.value) == 4), None)
     if first is None:
         raise Unreadable("to: needs the first day; write from: 2026-09-01 too", "to")
-    return [counted_rows(part, first) if part.last else part for part in parts]
+    if date_of(first.value) is None:
+        raise Unreadable("%s: %s" % (first.given, Day().fault(first.value, {})), plain(first.given))
+    return [counted_rows(part, date_of(first.value)) if part.last else part for part in parts]
 
 
 def counted_rows(part, first):
