@@ -18,7 +18,7 @@ def make(words):
             streams.say("katchidul: warning: %s" % line)
     tell_no_clock(given)
     if given.refusal or not given.zone:
-        streams.write(given.order, arguments.out)
+        streams.write_bytes(given.order, arguments.out)
         return 0
     return write_split(given.split(), arguments.out, anyway)
 
@@ -37,7 +37,7 @@ def write_split(made, out, anyway):
     if several:
         streams.write_files(zip(names, orders))
     else:
-        streams.write(orders[0], out)
+        streams.write_bytes(orders[0], out)
     for line in zones.lines(made, [os.path.basename(name or "") for name in names]):
         streams.say(line)
     tell_stale(out, names)

@@ -81,7 +81,7 @@ def cells(words):
     if "plain" in arguments.flags:
         if len(shown) > 1:
             raise Unreadable("cells --plain writes one order, since nothing marks where the next one's pages begin; here are %d" % len(shown))
-        streams.write(b"".join(row for page in shown[0][1] for row in page), arguments.out)
+        streams.write_bytes(b"".join(row for page in shown[0][1] for row in page), arguments.out)
         return 0
     with_braille = arguments.out is not None or streams.has_letters("\u2800")
     if not with_braille:
