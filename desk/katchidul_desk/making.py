@@ -4,7 +4,7 @@ import os
 from . import inputs, streams, zones
 from .arguments import parse
 from .errors import Refused, Unreadable, WrongTimes
-from .orders import refusal_lines
+from .orders import refused_lines
 
 
 def make(words):
@@ -13,8 +13,8 @@ def make(words):
     anyway = "anyway" in arguments.flags
     if given.refusal:
         if not anyway:
-            raise Refused(given.refusal)
-        for line in refusal_lines(given.refusal):
+            raise Refused(given.refusal, given.name)
+        for line in refused_lines(given.refusal, given.name):
             streams.say("katchidul: warning: %s" % line)
     tell_no_clock(given)
     if given.refusal or not given.zone:

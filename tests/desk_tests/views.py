@@ -30,7 +30,7 @@ def unchanged():
     check("of a text", run("sheet", june)[1], (ROOT / "examples" / "durham-june.sheet").read_bytes())
     check("of a text with an option", run("wear", june, "--clock", "+01:00")[1], b"dots 2653\n")
     status, printed, said = run("sheet", ROOT / "examples" / "cut.order")
-    check("a refused order's reason", said.splitlines()[0], "katchidul: at byte 20, the order ends inside latitude (tag 4), after 3 of 8 bytes")
+    check("a refused order's reason", said.splitlines()[0], "katchidul: cut.order is refused: at byte 20, the order ends inside latitude (tag 4), after 3 of 8 bytes")
 
 
 def expected_table(order):
