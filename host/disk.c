@@ -44,19 +44,19 @@ bool make_folder(int spool, const char *name) {
   return false;
 }
 
-static void write_all(int file, const uint8_t *bytes, size_t length) {
+static bool write_all(int file, const uint8_t *bytes, size_t length) {
   while (length > 0) {
     ssize_t some = TEMP_FAILURE_RETRY(write(file, bytes, length));
-    if (some < 0) stop_at(UNFINISHED);
+    if (some < 0) return false;
     bytes += some, length -= (size_t)some;
   }
+  return true;
 }
 
 void write_lasting(int spool, const char *folder, const char *name, const void *bytes, size_t length) {
   path meant = path_of("%s/%s", folder, name);
   int file = TEMP_FAILURE_RETRY(openat(spool, UNFINISHED, O_WRONLY | O_CREAT | O_TRUNC | O_NOFOLLOW | O_CLOEXEC, 0666));
-  if (file < 0) stop_at(UNFINISHED);
-  write_all(file, bytes, length);
+  if (file < 0 || !write_all(file, bytes, length)) stop_at(UNFINISHED);
   flush_and_close(file, UNFINISHED);
   if (TEMP_FAILURE_RETRY(renameat(spool, UNFINISHED, spool, meant.text)) != 0) stop_at(meant.text);
   flush_folder(spool, folder);

@@ -58,7 +58,7 @@ void say(const char *format, ...) {
   size_t length = write_time(line);
   length += write_escaped(line + length, made.text);
   line[length++] = '\n';
-  ssize_t gone = write(STDOUT_FILENO, line, length);
+  ssize_t gone = TEMP_FAILURE_RETRY(write(STDOUT_FILENO, line, length));
   (void)gone;
 }
 
