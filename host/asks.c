@@ -1,5 +1,6 @@
 /* What the operator asks for: a file asks/WORD.ID, taken between two pages. */
 #define _GNU_SOURCE
+#include <errno.h>
 #include <string.h>
 
 #include "intake.h"
@@ -87,11 +88,21 @@ static const struct {
 
 /* ---- the files */
 
+/* A folder could not be removed, and would be an ask without end. */
+static bool is_file(room *r, const char *name) {
+  char byte;
+  size_t length;
+  int why = read_file(r->spool, path_of("asks/%s", name).text, false, &byte, sizeof byte, &length);
+  if (why != 0 && why != ENOENT) say_once(r, text_of("asks/%s is passed over: %s", name, trouble(why)).text);
+  return why == 0;
+}
+
 static course take_ask(room *r, const char *name) {
   for (size_t i = 0; i < sizeof words / sizeof *words; i++) {
     size_t length = strlen(words[i].word);
     uint32_t id = strncmp(name, words[i].word, length) == 0 ? id_of(name + length) : 0;
     if (id == 0) continue;
+    if (!is_file(r, name)) return GOES_ON;
     course c = words[i].take(r, id);
     if (c == GOES_ON) remove_lasting(r->spool, "asks", name);
     return c;

@@ -3,7 +3,6 @@
 #define JOB_H
 
 #include <limits.h>
-#include <stdbool.h>
 
 #include "order.h"
 
@@ -17,7 +16,6 @@ typedef struct {
   uint8_t buffer[2][LOG_SIZE];
   uint32_t at; /* which of them is the log */
   size_t used;
-  bool announced; /* the embosser has its order, on this link */
 } job;
 
 typedef enum { JOB_READ, JOB_UNCLAIMED, JOB_UNFIT } job_state;
