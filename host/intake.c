@@ -50,7 +50,7 @@ static course restart(room *r, job *j) {
 static course begin(room *r, uint32_t id) {
   job j;
   text why;
-  job_state state = job_read(r->spool, id, &j, &why);
+  job_state state = job_read(r->spool, "jobs", id, &j, &why);
   if (state == JOB_UNCLAIMED && drop_unclaimed(r->spool, id)) return GOES_ON;
   if (state == JOB_UNCLAIMED) why = text_of("its order is missing");
   if (state != JOB_READ) return hold(r, id, job_label(&j).text, why.text), GOES_ON;

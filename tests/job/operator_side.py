@@ -221,6 +221,20 @@ def cancelled_before_it_is_a_job(built):
         return wrong + ([] if [(one.state, one.town) for one in found] == [("refused", "Ripon")] else [str(found)])
 
 
+def odd_asks(built):
+    """Files in asks/ that ask for nothing, or for jobs that are not there, stop nobody."""
+    with Trial(built, [SMALL]) as trial:
+        (trial.spool / "asks" / "cancel.1").mkdir(parents=True)
+        for name in ("hold.9", "release.9", "cancel.9", "hold.70000", "cancel.", "hold", "x\n\x1b", "reissue.1", "hold.1x"):
+            (trial.spool / "asks" / name).touch()
+        trial.run()
+        left = {"cancel.1", "hold.70000", "cancel.", "hold", "x\n\x1b", "reissue.1", "hold.1x"}
+        wrong = [] if set(trial.names("asks")) == left else [f"left are {trial.names('asks')}"]
+        wrong += [] if trial.status == 0 and trial.names("done") == ["1"] and "\x1b" not in trial.said else [trial.said]
+        return wrong + [f"it does not say that job 9 is not {word}" for word in ("held", "released", "cancelled")
+                        if f"job 9 is not {word}: " not in trial.said]
+
+
 def without_a_host(built):
     with Trial(built, [SMALL]) as trial:
         trial.run(after=40)
@@ -321,5 +335,5 @@ def run(checks, built, seed, long):
     checks.check("logs as the library reads them", logs_as_the_library(built, seed, 100000 if long else 3000))
     checks.check("a submit that is killed", submit_that_is_killed(built, 1 if long else 3))
     checks.check("a reissue that is killed", reissued(built, 1 if long else 4))
-    for test in (odd_orders, held_and_released, cancelled, cancelled_before_it_is_a_job, without_a_host, reprinted, status_of_all):
+    for test in (odd_orders, held_and_released, cancelled, cancelled_before_it_is_a_job, odd_asks, without_a_host, reprinted, status_of_all):
         checks.check(test.__name__.replace("_", " "), test(built))
