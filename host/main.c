@@ -17,7 +17,10 @@
 static course meet(room *r, const char *path) {
   embosser *e = &r->embosser;
   answer a;
-  if (!link_open(e, path)) return link_lost(e, "there is no embosser at %s: %s", path, strerror(errno));
+  if (!link_open(e, path)) {
+    if (errno == EAGAIN) return link_lost(e, "the embosser at %s takes no connection", path);
+    return link_lost(e, "there is no embosser at %s: %s", path, strerror(errno));
+  }
   course c = link_begin(e, r->spool_name);
   if (c == GOES_ON) c = link_hear(e, after(e->patience), &a);
   if (c == TOO_LATE) c = link_lost(e, "the embosser at %s does not answer", path);
@@ -36,6 +39,7 @@ static course find_embosser(room *r, const char *path) {
     course c = meet(r, path);
     if (c == GOES_ON && told.text[0] != '\0') say("the embosser is back");
     if (c != LINK_LOST) return c;
+    if (told_to_end() != NULL) return TOLD_TO_END;
     bool waits = r->stays || tries < 10;
     if (!waits || (r->stays && strcmp(told.text, r->embosser.lost.text) != 0))
       say("%s%s", r->embosser.lost.text, r->stays ? "; waiting for it" : "");

@@ -43,8 +43,8 @@ def reprint(spool: pathlib.Path, number: int, pages: list[int]) -> list[str]:
     return [submit_free(spool, name, part) for name, part in parts]
 
 
-# ---- reissue. The new order is put into the job's folder, the job is moved to cancelled/, and then the order is linked into in/. Whatever ends
-# this in between, the same command goes on from there: a link is made once, which the order's own count of links says.
+# ---- reissue. The new order is put into the job's folder, the job is moved to cancelled/, and then the order is linked into in/. Whatever
+# ends this in between, the same command goes on from there. The file's count of links says whether the link was made.
 
 LEFT, REISSUED = "reissue", "reissued"
 
