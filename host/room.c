@@ -90,6 +90,7 @@ static course note_done(room *r, const answer *a, bool *news) {
   katchidul_log log = job_log(j);
   if (a->number > log.sent) return link_lost(&r->embosser, "it finished page %u of job %u, which was not sent", a->number, a->id);
   *news = a->number > log.finished;
+  r->news = r->news || *news;
   while (log.finished < a->number) log = append(r, j, KATCHIDUL_RECORD_DONE, log.finished + 1);
   if (*news) say_progress(r, j, log.finished);
   if (log.finished == pages_of(&j->order)) leave(r, j);

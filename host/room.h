@@ -24,6 +24,7 @@ typedef struct {
   bool passed_over[KATCHIDUL_ID_MAX + 1]; /* jobs that can be neither begun nor moved */
   bool announced[KATCHIDUL_ID_MAX + 1];   /* jobs whose order the embosser has, on this link */
   bool refused;     /* an order or a job was */
+  bool news;        /* a page was finished since a lost link was told */
   bool stays;       /* the host goes on when nothing is left */
 } room;
 
