@@ -100,6 +100,14 @@ def reissue(spool, words):
     print(f"{shown(name)} is submitted" if name else "nothing is reissued")
 
 
+def answer():
+    """A line of the operator; empty if there is none, or if it is no text."""
+    try:
+        return sys.stdin.readline().strip().lower() if sys.stdin else ""
+    except ValueError:
+        return ""
+
+
 def reissue_after_question(spool, job, sure):
     found, first, last = again.unfinished(spool, job)
     print(f"{label(found)}: {again.words(first, last)} of {found.pages} are not finished by its log.")
@@ -107,7 +115,7 @@ def reissue_after_question(spool, job, sure):
         print(f"Of these the machine had {again.words(first, found.sent)}: if they lie in the tray, throw them away.")
     if not sure:
         print(f"Print {again.words(first, last)} as a new order, and end job {job}? yes or no: ", end="", flush=True)
-        sure = sys.stdin.readline().strip().lower() == "yes"
+        sure = answer() == "yes"
     return again.reissue(spool, found, first, last) if sure else None
 
 
@@ -150,9 +158,12 @@ COMMANDS = {"status": show_status, "submit": submit_files, "reprint": reprint, "
             **{word: ask_host(word) for word in asks.ALLOWED}}
 
 
-def complain(error, about=""):
-    text = f"{shown(about)}: {error.strerror or error}" if isinstance(error, OSError) and about else str(error)
-    print(f"katchidul spool: {text}", file=sys.stderr)
+def complain(error, about=None):
+    """A sentence on standard error; of an error of the system also what it is about."""
+    if isinstance(error, OSError):
+        about = error.filename if about is None else about
+        error = error.strerror if about is None else f"{shown(os.fspath(about)) or 'an empty name'}: {error.strerror}"
+    print(f"katchidul spool: {error}", file=sys.stderr)
 
 
 def run(words):
@@ -171,14 +182,27 @@ def main(words: list[str]) -> int:
     """Status 0: done. 1: it could not be done, and a sentence says why. 2: the command is wrong."""
     try:
         status = run(words)
-        sys.stdout.flush()
+        if sys.stdout:
+            sys.stdout.flush()
         return status
     except Usage as error:
-        print(f"katchidul spool: {error}\n{USAGE}", end="", file=sys.stderr)
+        complain(f"{error}; katchidul spool --help says more")
         return 2
-    except BrokenPipeError:
-        os.dup2(os.open(os.devnull, os.O_WRONLY), 1)  # nobody reads: Python would complain at its end
-        return 1
-    except (SpoolError, OSError) as error:
+    except SpoolError as error:
         complain(error)
         return 1
+    except KeyboardInterrupt:
+        return 130
+    except OSError as error:
+        if not isinstance(error, BrokenPipeError):
+            complain(error)
+        close_output()
+        return 1
+
+
+def close_output():
+    """After an error of the output Python would try once more at its end, and complain."""
+    try:
+        sys.stdout.flush()
+    except OSError:
+        os.dup2(os.open(os.devnull, os.O_WRONLY), 1)
