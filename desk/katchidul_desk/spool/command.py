@@ -68,18 +68,27 @@ def show_status(spool, words):
 # ---- orders in
 
 
+def submit_file(spool, word):
+    order = read_regular(word, ORDER_MAX + 1)
+    if len(order) > ORDER_MAX:
+        raise SpoolError(f"{shown(word)} has over {ORDER_MAX:,} bytes: it is no order")
+    return submit(spool, os.path.basename(word), order)
+
+
 def submit_files(spool, words):
+    """Each order by itself: one that fails does not hold up the rest."""
+    if not words:
+        raise Usage("submit takes orders")
     failed = 0
     for word in words:
         try:
-            order = read_regular(word, ORDER_MAX + 1)
-            if len(order) > ORDER_MAX:
-                raise SpoolError(f"{shown(word)} has over {ORDER_MAX:,} bytes: it is no order")
-            print(f"{shown(submit(spool, os.path.basename(word), order))} is submitted")
+            name = submit_file(spool, word)
         except (SpoolError, OSError) as error:
-            failed += 1
+            failed = 1
             complain(error, word)
-    return failed != 0
+        else:
+            print(f"{shown(name)} is submitted")
+    return failed
 
 
 def reprint(spool, words):
@@ -110,7 +119,7 @@ def answer():
 
 def reissue_after_question(spool, job, sure):
     found, first, last = again.unfinished(spool, job)
-    print(f"{label(found)}: {again.words(first, last)} of {found.pages} are not finished by its log.")
+    print(f"{label(found)}: not finished by its log: {again.words(first, last)} of {found.pages}.")
     if found.sent > found.finished:
         print(f"Of these the machine had {again.words(first, found.sent)}: if they lie in the tray, throw them away.")
     if not sure:
