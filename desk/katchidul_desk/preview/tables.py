@@ -1,0 +1,49 @@
+"""A braille page as a table: each row's times by the clock, the same row drawn as dots, and what its cells say."""
+from .. import braille, messages
+from . import dots, words
+from .markup import element
+
+NAMES = {"middle": "Middle", "qiyam": "Qiyam", "tomorrow": "Tomorrow"}
+
+
+def heading(column):
+    return NAMES.get(column, column.capitalize())
+
+
+def time_cell(moment):
+    """HH:MM, and behind it the days from the row's date when there are any."""
+    text = "%02d:%02d" % (moment.local.hour, moment.local.minute)
+    if not moment.days:
+        return element("td", text)
+    return element("td", text, element("span", " %+d" % moment.days, class_="days"))
+
+
+def times(day, columns):
+    if day.refused:
+        return [element("td", "No times: %s." % messages.refused_day(day.date, *day.refused), colspan=len(columns), class_="refused")]
+    return [time_cell(day.moments[column]) for column in columns]
+
+
+def row(day, columns):
+    says = braille.digits(day.cells)
+    return element(
+        "tr", element("th", words.short_day(day.date), scope="row"), times(day, columns),
+        element("td", dots.drawn(day.cells, says), class_="paper"), element("td", says, class_="says"))
+
+
+def caption(page, clock):
+    offsets = {moment.days for day in page for moment in day.moments.values()} - {0}
+    marks = {1: "+1: on the next date.", -1: "-1: on the date before.", 2: "+2: two dates later."}
+    return "Times by the clock %s. " % words.clock(clock) + " ".join(marks[days] for days in sorted(offsets) if days in marks)
+
+
+def table(page, columns, clock):
+    """The days of one braille page."""
+    heads = [element("th", name, scope="col") for name in ["Date", *map(heading, columns), "Braille", "The braille says"]]
+    return element(
+        "table", element("caption", caption(page, clock)), element("thead", element("tr", heads)),
+        element("tbody", [row(day, columns) for day in page]))
+
+
+def dots_of(page):
+    return sum(braille.dots(day.cells) for day in page)
