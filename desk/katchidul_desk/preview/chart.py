@@ -5,12 +5,15 @@ its end and its own dashes: nothing is told by colour alone. A refused day is an
 import datetime
 import math
 
+from ..wording import utc_offset
 from . import words
 from .markup import Markup, element, joined
 
 WIDTH, HEIGHT = 1000, 450
 LEFT, RIGHT, TOP, BOTTOM = 72, 86, 10, 34
 LABEL = 14
+# The hour where the picture has no line, for words in it.
+MORNING = 10
 
 
 class Scale:
@@ -37,13 +40,13 @@ def hours_of(day):
 
 
 def stretches(days):
-    """The places of days that follow one another with times, as lists."""
+    """The places of days that follow one another with times and by one clock, as lists."""
     found = [[]]
     for at, day in enumerate(days):
+        if not day.moments or at and day.clock != days[at - 1].clock:
+            found.append([])
         if day.moments:
             found[-1].append(at)
-        elif found[-1]:
-            found.append([])
     return [stretch for stretch in found if stretch]
 
 
@@ -106,12 +109,13 @@ def date_marks(scale, days):
 
 
 def clock_changes(scale, days):
+    """A line before the first day of another clock."""
     for at in range(1, len(days)):
         if days[at].clock != days[at - 1].clock:
             x = scale.x(at)
-            said = "clock: " + words.clock(days[at].clock)
+            said = "clock " + utc_offset(days[at].clock)
             yield element("path", d="M%s %dV%d" % (x, TOP, HEIGHT - BOTTOM), class_="change")
-            yield element("text", said, x=x + 4, y=HEIGHT - BOTTOM - 6, class_="change")
+            yield element("text", said, x=x + 4, y=scale.y(MORNING), class_="change")
 
 
 def spread(wanted, low, high):

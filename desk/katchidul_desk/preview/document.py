@@ -3,6 +3,7 @@ import itertools
 import pathlib
 
 from .. import messages
+from ..wording import utc_offset
 from . import chart, tables, words
 from .dots import flat_dots
 from .markup import Markup, element, joined
@@ -41,7 +42,7 @@ def page_section(order, number, page, level):
 def facts(order):
     """An order's file, days, clock, pages and dots, as a row of a table."""
     total = sum(map(tables.dots_of, order.pages))
-    told = [order.span, "{:,}".format(len(order.days)), words.clock(order.clock), len(order.pages), "{:,}".format(total)]
+    told = [order.span, "{:,}".format(len(order.days)), utc_offset(order.clock), len(order.pages), "{:,}".format(total)]
     return element("tr", element("th", order.name, scope="row"), [element("td", text) for text in told])
 
 

@@ -2,7 +2,7 @@
 import html
 
 # Elements without an end tag in HTML.
-VOID = {"br", "col", "input", "link", "meta"}
+VOID = {"br", "input", "link", "meta"}
 
 
 class Markup(str):

@@ -2,7 +2,7 @@
 import dataclasses
 import datetime
 
-from .. import braille, orders, sheets
+from .. import braille, reading, sheets
 from . import words
 
 
@@ -56,12 +56,14 @@ def day(row, clock, cells):
     return Day(row.date, clock, {name: moment(instant, clock, row.date) for name, instant in times.items()}, row.refused, bytes(cells))
 
 
-def shown(name, order):
-    """An order that the programs take. Raises what they raise for any other."""
-    sheet, clock = sheets.sheet(order), orders.clock(order)
-    rows = iter(sheet.rows)
+def shown(name, order, sheet=None):
+    """An order that the programs accept. Raises the desk's errors for any other. The rows are looked up in `sheet`, if one is given, by
+    their dates."""
+    sheet, clock = sheet or sheets.sheet(order), reading.clock(order)
+    by_date = {row.date: row for row in sheet.rows}
+    rows = (by_date[date] for date in reading.days(order))
     pages = [[day(next(rows), clock, cells) for cells in page] for page in braille.pages(order)]
-    return Shown(name, order, sheet.town, [column for column in sheet.columns if column != "date"], clock, pages)
+    return Shown(name, order, sheet.town, sheet.columns, clock, pages)
 
 
 def runs(several):

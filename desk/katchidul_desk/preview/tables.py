@@ -1,5 +1,6 @@
 """A braille page as a table: each row's times by the clock, the same row drawn as dots, and what its cells say."""
 from .. import braille, messages
+from ..wording import utc_offset
 from . import dots, words
 from .markup import element
 
@@ -34,7 +35,7 @@ def row(day, columns):
 def caption(page, clock):
     offsets = {moment.days for day in page for moment in day.moments.values()} - {0}
     marks = {1: "+1: on the next date.", -1: "-1: on the date before.", 2: "+2: two dates later."}
-    return "Times by the clock %s. " % words.clock(clock) + " ".join(marks[days] for days in sorted(offsets) if days in marks)
+    return "Times by the clock %s. " % utc_offset(clock) + " ".join(marks[days] for days in sorted(offsets) if days in marks)
 
 
 def table(page, columns, clock):

@@ -1,4 +1,4 @@
-"""Dates, clocks and counts in the words of the preview. The names of days and months are English whatever the system's language is."""
+"""Dates and counts in the words of the preview. The names of days and months are English whatever the system's language is."""
 import datetime
 
 WEEKDAYS = ("Mon", "Tue", "Wed", "Thu", "Fri", "Sat", "Sun")
@@ -22,13 +22,6 @@ def span(first, last):
         return "%d to %s" % (first.day, long_day(last))
     start = long_day(first) if first.year != last.year else "%d %s" % (first.day, MONTHS[first.month - 1])
     return "%s to %s" % (start, long_day(last))
-
-
-def clock(minutes):
-    """UTC+01:00"""
-    if minutes == 0:
-        return "UTC"
-    return "UTC%s%02d:%02d" % ("+" if minutes > 0 else "\u2212", *divmod(abs(minutes), 60))
 
 
 def counted(number, thing):

@@ -1,0 +1,62 @@
+"""The files that the page has: its own style and script, and the texts and orders in the clerk's folder."""
+import os
+import pathlib
+import stat
+
+from .. import orders, reading
+from ..errors import DeskError, Unreadable
+
+OWN = pathlib.Path(__file__).with_name("static")
+KINDS = {".css": "text/css; charset=utf-8", ".js": "text/javascript; charset=utf-8"}
+LONGEST = 64 * 1024
+SUFFIXES = (".text", ".txt", ".order")
+MOST = 200
+
+
+def own(name):
+    """The kind and content of one of the page's own files, or None. The names are those that the folder has, so no path leaves it."""
+    found = {path.name: path for path in (*OWN.iterdir(), OWN.parent.parent / "preview" / "style.css")}
+    path = found.get(name)
+    return (KINDS[path.suffix], path.read_bytes()) if path and path.suffix in KINDS else None
+
+
+def listed(folder):
+    """The names of the texts and orders in the folder."""
+    try:
+        names = sorted(entry.name for entry in os.scandir(folder) if entry.name.endswith(SUFFIXES) and is_plain(entry.name) and entry.is_file())
+    except OSError:
+        return []
+    return names[:MOST]
+
+
+def is_plain(name):
+    """A file's own name: no path, nothing hidden, and nothing that a page or a terminal would not show."""
+    return name.isprintable() and not name.startswith(".") and "/" not in name and "\\" not in name
+
+
+def content(folder, name):
+    """A file of the folder. A name that leads out of it, by a path or by a link, is refused."""
+    if not is_plain(name) or not name.endswith(SUFFIXES):
+        raise Unreadable("the page opens texts and orders of its own folder alone")
+    try:
+        # Without waiting, as a pipe would make it, and without following a link.
+        descriptor = os.open(os.path.join(folder, name), os.O_RDONLY | os.O_NOFOLLOW | os.O_NONBLOCK | os.O_CLOEXEC)
+        with open(descriptor, "rb") as file:
+            if not stat.S_ISREG(os.fstat(descriptor).st_mode):
+                raise Unreadable("%s is no file" % name)
+            return file.read(LONGEST + 1)
+    except (OSError, ValueError):
+        raise Unreadable("%s can't be opened: it is not there, or not to be read" % name) from None
+
+
+def opened(folder, name):
+    """The text of a file, from a text or an order."""
+    data = content(folder, name)
+    if len(data) > LONGEST:
+        raise Unreadable("%s has over 64 KB, and is no text or order" % name)
+    if not name.endswith(".order"):
+        return data.decode("utf-8", "replace")
+    refusal = reading.read(data).refusal
+    if refusal:
+        raise DeskError("%s is no order that can be changed here: %s" % (name, refusal.why))
+    return orders.show(data)

@@ -1,0 +1,89 @@
+"""The page: the form, what it made, and the spool's jobs."""
+from .. import preview
+from ..preview.markup import element, joined
+from ..wording import counted
+from . import jobs
+
+LINKS = (("#form", "Skip to the form"), ("#pages", "Skip to the pages"), ("#room", "Skip to the print room"))
+
+
+def head(title):
+    return element(
+        "head", element("meta", charset="utf-8"), element("meta", name="viewport", content="width=device-width, initial-scale=1"),
+        element("title", title), element("link", rel="stylesheet", href="/style.css"), element("link", rel="stylesheet", href="/desk.css"),
+        element("script", src="/desk.js", defer=True))
+
+
+def section(name, title, *children):
+    return element("section", element("h2", title, id=name + "-title"), children, id=name, aria_labelledby=name + "-title")
+
+
+def notice(text, kind="alert"):
+    return element("div", element("p", text), class_="notice", role=kind, tabindex=-1, autofocus=True) if text else None
+
+
+def opening(names):
+    """The folder's texts and orders, to begin from one of them."""
+    if not names:
+        return None
+    options = [element("option", name, value=name) for name in names]
+    return element(
+        "form", element("label", "Begin from a text or an order of this folder", for_="open"), element("select", options, id="open", name="open"),
+        element("button", "Open", type="submit"), method="get", action="/", class_="line")
+
+
+def hidden(text):
+    return element("input", type="hidden", name="text", value=text)
+
+
+def downloads(text, names):
+    buttons = [element("button", name, type="submit", name="file", value=name) for name in names]
+    return element("form", element("h3", "Files to keep"), hidden(text), element("p", buttons, class_="buttons"), method="post", action="/download")
+
+
+def printing(text, timetable, token, spool):
+    """The button that puts the orders into the spool. A wrong time on a page has to be allowed by the clerk first."""
+    if spool is None:
+        return element("p", "No spool is named, so nothing can be printed from here. Start the desk with --spool FOLDER.")
+    allow = None
+    if timetable.wrong:
+        box = element("input", type="checkbox", id="anyway", name="anyway", value="yes")
+        allow = element("p", box, element("label", "Print these pages with the wrong times that are listed above", for_="anyway"))
+    names = counted(len(timetable.shown), "order")
+    return element(
+        "form", element("h3", "Print"), hidden(text), element("input", type="hidden", name="token", value=token), allow,
+        element("p", element("button", "Put %s into the spool" % names, type="submit", class_="main")), method="post", action="/spool")
+
+
+def told(timetable):
+    """What the clerk has to know before printing."""
+    wrong = [element("h3", "Wrong times on the pages"), element("ul", [element("li", line) for line in timetable.wrong])] if timetable.wrong else []
+    notes = element("ul", [element("li", line.strip()) for line in timetable.notes]) if timetable.notes else None
+    return joined(wrong, notes)
+
+
+def pages(text, timetable, names, token, spool):
+    changed = element("p", "", id="changed", class_="wrong", role="status")
+    return element(
+        "section", element("h2", "The pages", id="pages-title", tabindex=-1, autofocus=True), changed, told(timetable),
+        downloads(text, names), printing(text, timetable, token, spool),
+        element("div", preview.fragment(preview.runs(timetable.shown), 3), class_="preview"), id="pages", aria_labelledby="pages-title")
+
+
+def room(spool, listed, fault):
+    """The print room: the spool's jobs, or why they can't be listed."""
+    if spool is None:
+        return None
+    body = element("p", fault, role="status") if fault else jobs.table(listed)
+    refresh = element("p", element("a", "Look again", href="/#room"), class_="plain")
+    return section("room", "The print room", element("p", "The spool is %s." % spool), element("div", body, id="jobs"), refresh)
+
+
+def whole(title, *parts):
+    """The document. Links to parts that are not there are left out."""
+    content = joined(*parts)
+    links = [element("a", text, href=href) for href, text in LINKS if 'id="%s"' % href[1:] in content]
+    body = element(
+        "body", element("nav", links, class_="skip", aria_label="Skip"), element("header", element("h1", "Timetables in braille")),
+        element("main", content))
+    return "<!DOCTYPE html>\n" + element("html", head(title), body, lang="en") + "\n"

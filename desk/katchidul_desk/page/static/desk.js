@@ -1,0 +1,66 @@
+// Says what is wrong at a field while it is filled in, and keeps the list of jobs up to date. The page works without this.
+"use strict";
+
+const order = document.getElementById("order");
+const visited = new Set();
+let asked = 0;
+let wait;
+
+function show(sentences) {
+  for (const [id, sentence] of Object.entries(sentences)) {
+    const field = document.getElementById(id);
+    const place = document.getElementById(id + "-wrong");
+    // An empty field that the clerk has not come to yet is no mistake.
+    const said = visited.has(id) ? sentence : "";
+    if (place.textContent !== said) place.textContent = said;
+    if (said) field.setAttribute("aria-invalid", "true");
+    else field.removeAttribute("aria-invalid");
+  }
+}
+
+async function check() {
+  const turn = ++asked;
+  try {
+    const answer = await fetch("/check", { method: "POST", body: new URLSearchParams(new FormData(order)) });
+    const sentences = answer.ok ? await answer.json() : {};
+    // A later question has a later answer.
+    if (turn === asked) show(sentences);
+  } catch (fault) {
+    // The desk is not there. The button says so when it is pressed.
+  }
+}
+
+function typed(event) {
+  if (!event.target.id) return;
+  visited.add(event.target.id);
+  clearTimeout(wait);
+  wait = setTimeout(check, 400);
+  const changed = document.getElementById("changed");
+  if (changed) changed.textContent = "The form has changed since these pages were made. Show the pages again before you keep or print them.";
+}
+
+async function look() {
+  const jobs = document.getElementById("jobs");
+  if (!jobs || document.hidden) return;
+  try {
+    const answer = await fetch("/jobs");
+    const text = await answer.text();
+    // Only what has changed is put in: a screen reader that reads the table is not sent back to its start.
+    if (answer.ok && text !== jobs.dataset.last) {
+      if (jobs.dataset.last !== undefined) jobs.innerHTML = text;
+      jobs.dataset.last = text;
+    }
+  } catch (fault) {
+    // As above.
+  }
+}
+
+for (const place of document.querySelectorAll("#order .wrong")) {
+  if (place.textContent) visited.add(place.id.replace(/-wrong$/, ""));
+}
+order.addEventListener("input", typed);
+order.addEventListener("focusout", (event) => {
+  if (event.target.id && event.target.value) typed(event);
+});
+look();
+setInterval(look, 3000);
