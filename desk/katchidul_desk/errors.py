@@ -1,0 +1,30 @@
+"""What the desk can't do, in sentences for the desk. The command prints the sentence and ends with the status."""
+
+
+class DeskError(Exception):
+    status = 2
+
+
+class Unreadable(DeskError):
+    """A text, an option or a file that is not understood. `field` is the name that was given, `line` its line in the text."""
+
+    def __init__(self, sentence, field=None, line=None):
+        super().__init__(sentence)
+        self.field, self.line = field, line
+
+
+class Refused(DeskError):
+    """An order that the programs refuse."""
+    status = 1
+
+    def __init__(self, refusal):
+        super().__init__(refusal.why)
+        self.refusal = refusal
+
+
+class ProgramError(DeskError):
+    """A proved program that is not there, was not proved, or did not end well."""
+
+
+class ZoneError(DeskError):
+    """A time zone that is unknown, or whose clocks no order can hold."""
