@@ -21,7 +21,7 @@ def one(field, value, wrong):
 def group(part, values, faults):
     return element(
         "fieldset", element("legend", part.title), element("p", part.hint, class_="hint") if part.hint else None,
-        [one(field, values[field.name], faults.get(field.name)) for field in part.fields])
+        element("div", [one(field, values[field.name], faults.get(field.name)) for field in part.fields], class_="fields"))
 
 
 def summary(faults):

@@ -94,3 +94,9 @@ def options(filled):
 def text(filled):
     """The text of an order, a line for each field that is filled in."""
     return "".join("%s: %s\n" % pair for pair in options(filled))
+
+
+def from_text(written):
+    """The form's values for a text that `text` made; what has no field is left out."""
+    lines = dict(line.partition(": ")[::2] for line in written.split("\n"))
+    return {field.name: lines.get(field.name, "") for field in FIELDS}

@@ -25,6 +25,6 @@ def table(jobs):
     told = element("p", summary(jobs), id="jobs-told", role="status")
     if not jobs:
         return told
-    heads = [element("th", name, scope="col") for name in ("Order", "Town", "State", "Pages finished", "What to do")]
+    heads = [element("th", name, scope="col") for name in ("Order", "Town", "State", "Pages finished", "Note")]
     whole = element("table", element("thead", element("tr", heads)), element("tbody", [row(job) for job in jobs]))
     return joined(told, element("div", whole, class_="scroll", tabindex=0, role="region", aria_label="Table of the spool's jobs"))

@@ -2,7 +2,6 @@
 from .. import preview
 from ..preview.markup import element, joined
 from ..wording import counted
-from . import jobs
 
 LINKS = (("#form", "Skip to the form"), ("#pages", "Skip to the pages"), ("#room", "Skip to the print room"))
 
@@ -55,28 +54,22 @@ def printing(text, timetable, token, spool):
         element("p", element("button", "Put %s into the spool" % names, type="submit", class_="main")), method="post", action="/spool")
 
 
-def told(timetable):
-    """What the clerk has to know before printing."""
-    wrong = [element("h3", "Wrong times on the pages"), element("ul", [element("li", line) for line in timetable.wrong])] if timetable.wrong else []
-    notes = element("ul", [element("li", line.strip()) for line in timetable.notes]) if timetable.notes else None
-    return joined(wrong, notes)
-
-
 def pages(text, timetable, names, token, spool):
+    """What the form made. Whatever the clerk has to know comes before the buttons."""
     changed = element("p", "", id="changed", class_="wrong", role="status")
+    groups = preview.grouped([timetable])
+    shown = element("div", preview.fragment([group._replace(notes=[], wrong=[]) for group in groups], 3), class_="preview")
     return element(
-        "section", element("h2", "The pages", id="pages-title", tabindex=-1, autofocus=True), changed, told(timetable),
-        downloads(text, names), printing(text, timetable, token, spool),
-        element("div", preview.fragment(preview.runs(timetable.shown), 3), class_="preview"), id="pages", aria_labelledby="pages-title")
+        "section", element("h2", "The pages", id="pages-title", tabindex=-1, autofocus=True), changed, [preview.told(group, 3) for group in groups],
+        downloads(text, names), printing(text, timetable, token, spool), shown, id="pages", aria_labelledby="pages-title")
 
 
-def room(spool, listed, fault):
-    """The print room: the spool's jobs, or why they can't be listed."""
+def room(spool, jobs):
+    """The print room: the spool's jobs as HTML."""
     if spool is None:
         return None
-    body = element("p", fault, role="status") if fault else jobs.table(listed)
-    refresh = element("p", element("a", "Look again", href="/#room"), class_="plain")
-    return section("room", "The print room", element("p", "The spool is %s." % spool), element("div", body, id="jobs"), refresh)
+    again = element("p", element("a", "Look again", href="/#room"))
+    return section("room", "The print room", element("p", "The spool is %s." % spool), element("div", jobs, id="jobs"), again)
 
 
 def whole(title, *parts):

@@ -1,49 +1,17 @@
 """What each path of the page does. Only POST to /spool changes anything."""
-import secrets
-import threading
-from urllib.parse import parse_qs, quote, urlsplit
 import zoneinfo
+from urllib.parse import parse_qs, quote, urlsplit
 
-from .. import braille, preview
 from ..errors import DeskError
-from ..spool import SpoolError, status, submit
+from ..preview.markup import element
+from ..spool import status, submit
 from . import answers, check, fields_html, files, form, jobs, layout, opened, safety
+from .tokens import Tokens
+from .work import contents, made_of
 
-MOST_TOKENS = 1000
+USED = "these pages went into the spool before, or the desk was started again since. Show the pages again to print them once more"
 AREAS = ("Africa", "America", "Antarctica", "Asia", "Atlantic", "Australia", "Europe", "Indian", "Pacific")
 BLANK = dict.fromkeys((field.name for field in form.FIELDS), "")
-
-
-class Tokens:
-    """A token is good for one press of the button, so that a reload or a second press prints nothing twice."""
-
-    def __init__(self):
-        self.lock, self.unused = threading.Lock(), {}
-
-    def new(self):
-        with self.lock:
-            token = secrets.token_urlsafe(16)
-            self.unused[token] = None
-            while len(self.unused) > MOST_TOKENS:
-                self.unused.pop(next(iter(self.unused)))
-            return token
-
-    def use(self, token):
-        """Whether the token is good. It is used up by this."""
-        with self.lock:
-            return self.unused.pop(token, self) is None
-
-
-def contents(timetable, text):
-    """The files to keep, by name, each as a function that makes its bytes."""
-    made = {timetable.base + ".html": lambda: preview.document(preview.runs(timetable.shown)).encode("utf-8")}
-    for one in timetable.shown:
-        made[one.name] = lambda one=one: one.order
-        made[one.name[:-len("order")] + "brf"] = lambda one=one: braille.brf([[day.cells for day in page] for page in one.pages]).encode("ascii")
-    if timetable.sheet_order:
-        made[timetable.sheet_order[0]] = lambda: timetable.sheet_order[1]
-    made[timetable.base + ".text"] = lambda: text.encode("utf-8")
-    return made
 
 
 class Page:
@@ -61,7 +29,7 @@ class Page:
             if path == "/":
                 return self.first(query)
             if path == "/jobs":
-                return answers.page(self.room())
+                return answers.page(self.room() or "")
             own = files.own(path[1:])
             if own:
                 return answers.Answer(200, *own)
@@ -84,29 +52,22 @@ class Page:
             except DeskError as why:
                 told = layout.notice(check.as_sentence(why))
         elif "sent" in query:
-            told = layout.notice("In the spool: %s." % ", ".join(name[:100] for name in query["sent"][:MOST_TOKENS]), "status")
+            told = layout.notice("In the spool: %s." % ", ".join(name[:100] for name in query["sent"][:form.MOST_FIELDS]), "status")
         return self.page(values, {}, told)
 
     def room(self):
+        """The spool's jobs, or why they can't be listed."""
         if self.spool is None:
-            return ""
+            return None
         try:
             return jobs.table(status(self.spool))
-        except (SpoolError, OSError) as why:
-            return "The spool can't be read: %s" % why
+        except (DeskError, OSError) as why:
+            return element("p", check.as_sentence(why), role="status")
 
     def page(self, values, faults, told=None, pages=None, code=200):
         form_part = layout.section("form", "The order", layout.opening(files.listed(self.folder)), fields_html.whole(values, faults, self.zones))
-        listed, fault = self.jobs()
         title = "Timetables in braille" if not faults else "Not right yet: timetables in braille"
-        return answers.page(layout.whole(title, told, form_part, pages, layout.room(self.spool, listed, fault)), code)
-
-    def jobs(self):
-        """The spool's jobs, and why they can't be listed."""
-        try:
-            return (status(self.spool) if self.spool else []), None
-        except (SpoolError, OSError) as why:
-            return [], "The spool can't be read: %s" % why
+        return answers.page(layout.whole(title, told, form_part, pages, layout.room(self.spool, self.room())), code)
 
     # POST
 
@@ -122,7 +83,7 @@ class Page:
             return self.page(values, faults, code=422)
         text = form.text(values)
         try:
-            timetable = preview.from_text(text)
+            timetable = made_of(text)
         except DeskError as why:
             return self.page(values, {}, layout.notice(check.as_sentence(why)), code=422)
         names = list(contents(timetable, text))
@@ -132,26 +93,30 @@ class Page:
         sent = dict(given)
         text, name = sent.get("text", ""), sent.get("file", "")
         try:
-            made = contents(preview.from_text(text), text).get(name)
+            made = contents(made_of(text), text).get(name)
         except DeskError as why:
             return answers.sentence(check.as_sentence(why), 422)
         return answers.download(name, made()) if made else answers.sentence("There is no such file.", 404)
 
     def put(self, given):
         """Puts the orders into the spool, once for each preview."""
-        sent = dict(given)
         if self.spool is None:
             return answers.sentence("No spool is named. Start the desk with --spool FOLDER.", 404)
+        sent = dict(given)
+        text, names = sent.get("text", ""), []
         try:
-            timetable = preview.from_text(sent.get("text", ""))
+            timetable = made_of(text)
             if timetable.wrong and sent.get("anyway") != "yes":
-                raise DeskError("the pages have wrong times: tick the box that allows them, or change the order")
+                raise DeskError("the pages have wrong times, so they are not printed: tick the box that allows them, or change the order")
             if not self.tokens.use(sent.get("token", "")):
-                raise DeskError("these pages went into the spool already, or the desk was started again since; show the pages again to print them once more")
-            names = [submit(self.spool, one.name, one.order) for one in timetable.shown]
-        except (DeskError, SpoolError, OSError) as why:
-            return self.page(BLANK, {}, layout.notice(check.as_sentence(why)), code=409)
-        return answers.moved("/?" + "&".join("sent=" + quote(name, safe="") for name in names) + "#room")
+                raise DeskError(USED)
+            for one in timetable.shown:
+                names.append(submit(self.spool, one.name, one.order))
+        except (DeskError, OSError) as why:
+            # Of several orders some can be in the spool already.
+            there = "%s: in the spool. " % ", ".join(names) if names else ""
+            return self.page(form.from_text(text), {}, layout.notice(there + check.as_sentence(why)), code=409)
+        return answers.moved("/?" + "&".join("sent=" + quote(name, safe="") for name in names))
 
 
 def split(target):

@@ -11,6 +11,8 @@ from . import answers, safety
 
 SECONDS = 10
 THREADS = 16
+# What is read of a request after its answer: seconds without a byte, and bytes.
+LINGER, MOST_UNREAD = 0.5, 1 << 20
 BUSY = b"HTTP/1.0 503 Busy\r\nContent-Type: text/plain\r\nRetry-After: 1\r\nConnection: close\r\n\r\nThe desk is busy. Try again in a second.\n"
 SENTENCES = {
     400: "The request is not HTTP.", 404: "There is no such page.", 408: "The request did not end in time.", 414: "The address is too long.",
@@ -81,6 +83,18 @@ class Handler(http.server.BaseHTTPRequestHandler):
         if self.command != "HEAD":
             self.wfile.write(answer.body)
         self.close_connection = True
+
+    def finish(self):
+        """Reads on for a moment. A connection that is closed over unread bytes can lose the answer on its way to the client."""
+        super().finish()
+        try:
+            self.connection.shutdown(socket.SHUT_WR)
+            self.connection.settimeout(LINGER)
+            for _ in range(MOST_UNREAD // 4096):
+                if not self.connection.recv(4096):
+                    break
+        except OSError:
+            pass
 
     def send_error(self, code, message=None, explain=None):
         """What http.server itself refuses, in a sentence and with the same headers."""

@@ -1,6 +1,6 @@
 """The preview of orders: their times in a table beside the braille, before anything is punched."""
-from .document import document, fragment
-from .shown import runs, shown
-from .timetable import Timetable, base_name, from_text
+from .command import main
+from .document import document, fragment, told
+from .timetable import grouped, timetable
 
-__all__ = ["Timetable", "base_name", "document", "fragment", "from_text", "runs", "shown"]
+__all__ = ["document", "fragment", "grouped", "main", "timetable", "told"]

@@ -2,7 +2,6 @@
 
 A day is a column, and the hours go down from the row's own midnight, so a time of the next date is below 24:00. Each line has its name at
 its end and its own dashes: nothing is told by colour alone. A refused day is an empty column with a cross."""
-import datetime
 import math
 
 from ..wording import utc_offset
@@ -35,8 +34,7 @@ class Scale:
 
 def hours_of(day):
     """The hours from the row's own midnight to each of its times; nothing for a refused day."""
-    midnight = datetime.datetime.combine(day.date, datetime.time())
-    return {name: (moment.local - midnight).total_seconds() / 3600 for name, moment in day.moments.items()}
+    return {name: moment.hours for name, moment in day.moments.items()}
 
 
 def stretches(days):

@@ -4,46 +4,59 @@ import pathlib
 
 from .. import messages
 from ..wording import utc_offset
-from . import chart, tables, words
+from . import chart, pages, words
 from .dots import flat_dots
 from .markup import Markup, element, joined
 
 STYLE = pathlib.Path(__file__).with_name("style.css")
-
-
 # A row needs its own sun and that of the two days after it.
 LATER = ("on that day", "on the day after", "two days after")
 
 
+def span(days):
+    return words.span(days[0].date, days[-1].date)
+
+
+def title_of(group):
+    return "%s, %s" % (group.orders[0].town, span(group.days))
+
+
 def refused_days(days):
     """Refused days in words; days that follow one another for the same reason are one line."""
-    for refused, group in itertools.groupby(days, key=lambda day: day.refused):
+    for refused, alike in itertools.groupby(days, key=lambda day: day.refused):
         if refused:
-            group, (number, later) = list(group), refused
-            yield "%s: %s %s." % (words.span(group[0].date, group[-1].date), messages.DAYS[number], LATER[later])
+            number, later = refused
+            yield "%s: %s %s." % (span(list(alike)), messages.DAYS[number], LATER[later])
 
 
-def refused_list(days, level):
-    lines = [element("li", line) for line in refused_days(days)]
+def listed(title, lines, level, about=None):
+    """A section with a line for each, or nothing without lines."""
     if not lines:
         return None
-    why = "These days have no times. Their braille rows show the day alone."
-    return element("section", element("h%d" % level, "Refused days"), element("p", why), element("ul", lines), class_="refusals")
+    text = element("p", about) if about else None
+    return element("section", element("h%d" % level, title), text, element("ul", [element("li", line) for line in lines]), class_="told")
+
+
+def told(group, level):
+    """What the clerk has to know before printing."""
+    return joined(
+        listed("Wrong times on the pages", group.wrong, level), listed("About the orders", group.notes, level),
+        listed("Refused days", list(refused_days(group.days)), level, "These days have no times. Their braille rows show the day alone."))
 
 
 def page_section(order, number, page, level):
-    title = "%s, page %d of %d: %s" % (order.town, number, len(order.pages), words.span(page[0].date, page[-1].date))
-    name = "%s, %s, %s" % (order.name, words.counted(len(page), "row"), words.counted(tables.dots_of(page), "dot"))
-    scrolled = element(
-        "div", tables.table(page, order.columns, order.clock), class_="scroll", tabindex=0, role="region", aria_label="Table of " + title)
-    return element("section", element("h%d" % level, title), element("p", name, class_="count"), scrolled, class_="page")
+    title = "%s, page %d of %d: %s" % (order.town, number, len(order.pages), span(page))
+    count = "%s, %s, %s" % (order.name, words.counted(len(page), "row"), words.counted(pages.dots_of(page), "dot"))
+    table = pages.table(page, order.columns, order.clock)
+    scrolled = element("div", table, class_="scroll", tabindex=0, role="region", aria_label="Table of " + title)
+    return element("section", element("h%d" % level, title), element("p", count, class_="count"), scrolled, class_="page")
 
 
 def facts(order):
     """An order's file, days, clock, pages and dots, as a row of a table."""
-    total = sum(map(tables.dots_of, order.pages))
-    told = [order.span, "{:,}".format(len(order.days)), utc_offset(order.clock), len(order.pages), "{:,}".format(total)]
-    return element("tr", element("th", order.name, scope="row"), [element("td", text) for text in told])
+    dots = "{:,}".format(sum(map(pages.dots_of, order.pages)))
+    values = [span(order.days), len(order.days), utc_offset(order.clock), len(order.pages), dots]
+    return element("tr", element("th", order.name, scope="row"), [element("td", value) for value in values])
 
 
 def overview(orders):
@@ -51,28 +64,25 @@ def overview(orders):
     return element("table", element("thead", element("tr", heads)), element("tbody", list(map(facts, orders))), class_="overview")
 
 
-def timetable(orders, number, level):
-    """The section of one timetable: its orders, refused days and picture, then its pages."""
-    days = [day for order in orders for day in order.days]
-    title = "%s, %s" % (orders[0].town, words.span(days[0].date, days[-1].date))
-    pages = [page_section(order, at, page, level + 1) for order in orders for at, page in enumerate(order.pages, 1)]
-    shape = chart.picture(days, "The times of " + title, number)
+def timetable(group, number, level):
+    """The section of one timetable: its orders, what to know and its picture, then its pages."""
+    title = title_of(group)
+    sections = [page_section(order, at, page, level + 1) for order in group.orders for at, page in enumerate(order.pages, 1)]
+    caption = element("figcaption", "The times of all rows by the clock. The night, from maghrib to sunrise, is shaded.")
     return element(
-        "section", element("h%d" % level, title), overview(orders), refused_list(days, level + 1),
-        element("figure", shape, element("figcaption", "The times of all rows by the clock. The night, from maghrib to sunrise, is shaded.")),
-        pages, class_="timetable")
+        "section", element("h%d" % level, title), overview(group.orders), told(group, level + 1),
+        element("figure", chart.picture(group.days, "The times of " + title, number), caption), sections, class_="timetable")
 
 
 def fragment(groups, level):
-    """The timetables below a heading of the level before `level`."""
-    return joined(flat_dots(), [timetable(orders, number, level) for number, orders in enumerate(groups, 1)])
+    """The timetables, their headings of this level."""
+    return joined(flat_dots(), [timetable(group, number, level) for number, group in enumerate(groups, 1)])
 
 
 def document(groups):
     """A whole document, without scripts and without links to anything outside."""
-    title = "; ".join("%s, %s" % (orders[0].town, words.span(orders[0].days[0].date, orders[-1].days[-1].date)) for orders in groups)
     head = element(
         "head", element("meta", charset="utf-8"), element("meta", name="viewport", content="width=device-width, initial-scale=1"),
-        element("title", title + ": preview"), element("style", Markup(STYLE.read_text("utf-8"))))
+        element("title", "; ".join(map(title_of, groups)) + ": preview"), element("style", Markup(STYLE.read_text("utf-8"))))
     body = element("body", element("main", fragment(groups, 1), class_="preview"))
     return "<!DOCTYPE html>\n" + element("html", head, body, lang="en") + "\n"

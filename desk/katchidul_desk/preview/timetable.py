@@ -1,10 +1,11 @@
-"""From a text to a timetable: its orders by the town's clock, what is shown of them, and what the clerk has to know."""
+"""From an order or a text to a timetable: its orders by the town's clock, what is shown of them, and what the clerk has to know."""
 import calendar
 import re
 from typing import List, NamedTuple, Optional, Tuple
 
 from .. import orders, reading, zones
 from ..errors import Refused
+from ..making import numbered
 from .shown import Shown, shown
 
 
@@ -26,22 +27,50 @@ def base_name(order):
     return "%s-%s" % (town, first.isoformat()[:7] if whole_month else first)
 
 
-def from_text(text, base=None):
-    """The timetable of a text. Raises the desk's errors for a text that makes none."""
-    made = orders.make(text)
-    if made.refusal:
-        raise Refused(made.refusal)
-    base = base or base_name(made.order)
-    if made.zone is None:
-        return Timetable(base, [shown(base + ".order", made.order)], None, [], [])
-    return by_zone(zones.split(made.order, made.zone), base)
+def timetable(order, zone, base=None):
+    """The timetable of an order, by a zone's clock if there is one. Raises the desk's errors for an order that the programs refuse."""
+    refusal = reading.read(order).refusal
+    if refusal:
+        raise Refused(refusal)
+    base = base or base_name(order)
+    if zone is None:
+        return Timetable(base, [shown(base + ".order", order)], None, [], [])
+    return by_zone(zones.split(order, zone), base)
 
 
 def by_zone(split, base):
-    """The timetable of orders that were split by a zone's clock."""
-    names = [base + ".order"] if len(split.parts) == 1 else ["%s-%d.order" % (base, at) for at in range(1, len(split.parts) + 1)]
+    """The timetable of orders that were split by a zone's clock. Their names are those that make gives them."""
+    whole, several = base + ".order", len(split.parts) > 1
+    names = [numbered(whole, at) for at in range(1, len(split.parts) + 1)] if several else [whole]
     # A divided Ramadan sheet keeps its imsak on the screen: its parts have the same rows without it.
     parts = [shown(name, part.order, split.sheet if split.ramadan else None) for name, part in zip(names, split.parts)]
-    sheet_order = (base + "-ramadan.order", split.ramadan) if split.ramadan else None
-    told = zones.lines(split, names + ([sheet_order[0]] if sheet_order else []))
-    return Timetable(base, parts, sheet_order, list(told), list(zones.wrong_lines(split)))
+    sheet_order = (whole, split.ramadan) if split.ramadan else None
+    told = zones.lines(split, names + [whole] * bool(sheet_order))
+    return Timetable(base, parts, sheet_order, [line.strip() for line in told], list(zones.wrong_lines(split)))
+
+
+class Group(NamedTuple):
+    """Orders whose days follow one another, with the notes of their timetables."""
+    orders: List[Shown]
+    notes: List[str]
+    wrong: List[str]
+
+    @property
+    def days(self):
+        return [day for order in self.orders for day in order.days]
+
+
+def follows(one, before):
+    """Whether an order goes on with the timetable of the one before it, as when a clock changes within it."""
+    return before.town == one.town and before.columns == one.columns and (one.days[0].date - before.days[-1].date).days == 1
+
+
+def grouped(timetables):
+    groups = []
+    for table in timetables:
+        if groups and follows(table.shown[0], groups[-1].orders[-1]):
+            last = groups.pop()
+            groups.append(Group(last.orders + table.shown, last.notes + table.notes, last.wrong + table.wrong))
+        else:
+            groups.append(Group(list(table.shown), table.notes, table.wrong))
+    return groups

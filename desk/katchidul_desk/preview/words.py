@@ -1,8 +1,7 @@
 """Dates and counts in the words of the preview. The names of days and months are English whatever the system's language is."""
-import datetime
+from ..kinds import MONTHS
 
 WEEKDAYS = ("Mon", "Tue", "Wed", "Thu", "Fri", "Sat", "Sun")
-MONTHS = ("January", "February", "March", "April", "May", "June", "July", "August", "September", "October", "November", "December")
 
 
 def short_day(date):
@@ -27,7 +26,3 @@ def span(first, last):
 def counted(number, thing):
     """1 page, 2,653 dots"""
     return "{:,} {}{}".format(number, thing, "" if number == 1 else "s")
-
-
-def day_after(date):
-    return date + datetime.timedelta(days=1)

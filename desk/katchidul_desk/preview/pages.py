@@ -4,19 +4,14 @@ from ..wording import utc_offset
 from . import dots, words
 from .markup import element
 
-NAMES = {"middle": "Middle", "qiyam": "Qiyam", "tomorrow": "Tomorrow"}
-
-
-def heading(column):
-    return NAMES.get(column, column.capitalize())
+MARKS = {-1: "-1: on the date before.", 1: "+1: on the next date.", 2: "+2: two dates later."}
 
 
 def time_cell(moment):
     """HH:MM, and behind it the days from the row's date when there are any."""
-    text = "%02d:%02d" % (moment.local.hour, moment.local.minute)
     if not moment.days:
-        return element("td", text)
-    return element("td", text, element("span", " %+d" % moment.days, class_="days"))
+        return element("td", moment.text)
+    return element("td", moment.text, element("span", "%+d" % moment.days, class_="days"))
 
 
 def times(day, columns):
@@ -33,16 +28,15 @@ def row(day, columns):
 
 
 def caption(page, clock):
-    offsets = {moment.days for day in page for moment in day.moments.values()} - {0}
-    marks = {1: "+1: on the next date.", -1: "-1: on the date before.", 2: "+2: two dates later."}
-    return "Times by the clock %s. " % utc_offset(clock) + " ".join(marks[days] for days in sorted(offsets) if days in marks)
+    offsets = {moment.days for day in page for moment in day.moments.values()}
+    return " ".join(["Times by the clock %s." % utc_offset(clock)] + [MARKS[days] for days in sorted(offsets) if days in MARKS])
 
 
 def table(page, columns, clock):
     """The days of one braille page."""
-    heads = [element("th", name, scope="col") for name in ["Date", *map(heading, columns), "Braille", "The braille says"]]
+    names = ["Date", *(column.capitalize() for column in columns), "Braille", "The braille says"]
     return element(
-        "table", element("caption", caption(page, clock)), element("thead", element("tr", heads)),
+        "table", element("caption", caption(page, clock)), element("thead", element("tr", [element("th", name, scope="col") for name in names])),
         element("tbody", [row(day, columns) for day in page]))
 
 

@@ -1,0 +1,129 @@
+"""A browser driven over WebDriver, in plain HTTP: what tests/browser/run needs of it and nothing more."""
+import base64
+import json
+import shutil
+import socket
+import subprocess
+import tempfile
+import time
+import urllib.error
+import urllib.request
+
+ELEMENT = "element-6066-11e4-a52e-4f735466cecf"
+KEYS = {"tab": "\ue004", "enter": "\ue007", "space": "\ue00d", "shift": "\ue008", "down": "\ue015", "end": "\ue010", "control": "\ue009", "null": "\ue000"}
+
+
+class Failed(Exception):
+    """What the driver answers when it can't do what it is asked."""
+
+
+def free_port():
+    with socket.socket() as probe:
+        probe.bind(("127.0.0.1", 0))
+        return probe.getsockname()[1]
+
+
+class Browser:
+    """A Chromium without a window, in a profile of its own. `scripts` says whether pages may run scripts."""
+
+    def __init__(self, downloads, scripts=True):
+        self.profile = tempfile.mkdtemp(prefix="katchidul-browser-")
+        self.base = "http://127.0.0.1:%d" % free_port()
+        self.driver = subprocess.Popen(["chromedriver", "--port=" + self.base.rpartition(":")[2]], stdout=subprocess.DEVNULL, stderr=subprocess.DEVNULL)
+        preferences = {"download.default_directory": str(downloads), "download.prompt_for_download": False}
+        if not scripts:
+            preferences["profile.managed_default_content_settings.javascript"] = 2
+        arguments = ["--headless=new", "--no-sandbox", "--disable-gpu", "--disable-dev-shm-usage", "--window-size=1366,900", "--user-data-dir=" + self.profile]
+        wanted = {"browserName": "chrome", "goog:chromeOptions": {"args": arguments, "prefs": preferences}}
+        self.session = self.begun({"capabilities": {"alwaysMatch": wanted}})
+
+    def begun(self, wanted):
+        end = time.monotonic() + 60
+        while True:
+            try:
+                return "/session/" + self.call("POST", "/session", wanted)["sessionId"]
+            except (urllib.error.URLError, ConnectionError):
+                if time.monotonic() > end:
+                    raise
+                time.sleep(0.2)
+
+    def call(self, method, path, body=None):
+        data = None if body is None else json.dumps(body).encode()
+        request = urllib.request.Request(self.base + path, data, {"Content-Type": "application/json"}, method=method)
+        try:
+            with urllib.request.urlopen(request, timeout=120) as answer:
+                return json.load(answer)["value"]
+        except urllib.error.HTTPError as fault:
+            raise Failed(json.load(fault)["value"]["message"].splitlines()[0]) from None
+
+    def ask(self, method, path, body=None):
+        return self.call(method, self.session + path, body)
+
+    def close(self):
+        try:
+            self.ask("DELETE", "")
+        except (Failed, OSError):
+            pass
+        self.driver.terminate()
+        self.driver.wait()
+        shutil.rmtree(self.profile, ignore_errors=True)
+
+    def open(self, address):
+        self.ask("POST", "/url", {"url": address})
+
+    def run(self, script, *arguments):
+        return self.ask("POST", "/execute/sync", {"script": script, "args": list(arguments)})
+
+    def find(self, selector):
+        return self.ask("POST", "/element", {"using": "css selector", "value": selector})[ELEMENT]
+
+    def all(self, selector):
+        return [found[ELEMENT] for found in self.ask("POST", "/elements", {"using": "css selector", "value": selector})]
+
+    def text(self, selector):
+        return self.ask("GET", "/element/%s/text" % self.find(selector))
+
+    def texts(self, selector):
+        """The visible texts of all that match, in one call."""
+        return self.run("return [...document.querySelectorAll(arguments[0])].map((one) => one.innerText.trim())", selector)
+
+    def click(self, selector):
+        self.ask("POST", "/element/%s/click" % self.find(selector), {})
+
+    def type(self, text):
+        """Presses keys wherever the focus is; a tuple is keys by name, held together."""
+        actions = []
+        for key in [KEYS[name] for name in text] if isinstance(text, tuple) else text:
+            actions.append({"type": "keyDown", "value": key})
+        if isinstance(text, tuple):
+            actions += [{"type": "keyUp", "value": KEYS[name]} for name in reversed(text)]
+        else:
+            actions = [{"type": kind, "value": key} for key in text for kind in ("keyDown", "keyUp")]
+        self.ask("POST", "/actions", {"actions": [{"type": "key", "id": "keys", "actions": actions}]})
+
+    def wait(self, script, *arguments, seconds=20):
+        """Waits until a script returns what is true, and returns that."""
+        end = time.monotonic() + seconds
+        while True:
+            try:
+                found = self.run(script, *arguments)
+            except Failed:
+                found = None
+            if found or time.monotonic() > end:
+                return found
+            time.sleep(0.1)
+
+    def picture(self, path):
+        path.write_bytes(base64.b64decode(self.ask("GET", "/screenshot")))
+
+    def whole_picture(self, path):
+        """The page from top to end."""
+        size = self.run("return [document.documentElement.scrollWidth, document.documentElement.scrollHeight]")
+        clip = {"x": 0, "y": 0, "width": size[0], "height": min(size[1], 8000), "scale": 1}
+        answer = self.ask("POST", "/goog/cdp/execute", {"cmd": "Page.captureScreenshot", "params": {"clip": clip, "captureBeyondViewport": True}})
+        path.write_bytes(base64.b64decode(answer["data"]))
+
+    def printed(self, path):
+        """The page as PDF, on the paper that its own style asks for."""
+        answer = self.ask("POST", "/goog/cdp/execute", {"cmd": "Page.printToPDF", "params": {"preferCSSPageSize": True, "printBackground": True}})
+        path.write_bytes(base64.b64decode(answer["data"]))
