@@ -9,7 +9,7 @@ class Element:
     def __init__(self, name, attributes, parent):
         self.name, self.attributes, self.parent, self.children = name, attributes, parent, []
 
-    def all(self, name=None, **wanted):
+    def all(self, name=None, /, **wanted):
         """The elements below this one in the document's order, by name and by attributes; class_ asks for one of the classes."""
         for child in self.children:
             if isinstance(child, Element):
@@ -17,7 +17,7 @@ class Element:
                     yield child
                 yield from child.all(name, **wanted)
 
-    def one(self, name=None, **wanted):
+    def one(self, name=None, /, **wanted):
         found = list(self.all(name, **wanted))
         assert len(found) == 1, "%d of %s %s" % (len(found), name, wanted)
         return found[0]

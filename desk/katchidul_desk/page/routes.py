@@ -1,5 +1,4 @@
 """What each path of the page does. Only POST to /spool changes anything."""
-import zoneinfo
 from urllib.parse import parse_qs, quote, urlsplit
 
 from ..errors import DeskError
@@ -20,7 +19,7 @@ class Page:
     def __init__(self, folder, spool):
         self.folder, self.spool, self.tokens = folder, spool, Tokens()
         # Those of a place. The others are old names.
-        self.zones = sorted(name for name in zoneinfo.available_timezones() if name.partition("/")[0] in AREAS)
+        self.zones = sorted(name for name in check.known_zones() if name.partition("/")[0] in AREAS)
 
     def answer(self, method, target, body):
         """The answer to a request that safety let in."""

@@ -76,6 +76,8 @@ class Handler(http.server.BaseHTTPRequestHandler):
 
     def reply(self, answer):
         self.connection.settimeout(self.server.seconds)
+        # Whatever the client speaks, the answer has a status and headers.
+        self.request_version = "HTTP/1.0"
         self.send_response(answer.status)
         for name, value in {**answers.HEADERS, **answer.headers, "Content-Type": answer.kind, "Content-Length": len(answer.body)}.items():
             self.send_header(name.replace("_", "-"), str(value))
