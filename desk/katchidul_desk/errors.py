@@ -22,6 +22,11 @@ class Refused(DeskError):
         self.refusal = refusal
 
 
+class WrongTimes(DeskError):
+    """Pages with a time that is not the zone's."""
+    status = 1
+
+
 class ProgramError(DeskError):
     """A proved program that is not there, was not proved, or did not end well."""
 

@@ -3,7 +3,7 @@ import os
 
 from . import inputs, streams, zones
 from .arguments import parse
-from .errors import Refused, Unreadable
+from .errors import Refused, Unreadable, WrongTimes
 from .orders import refusal_lines
 
 
@@ -32,8 +32,7 @@ def write_split(made, out, anyway):
     orders = [part.order for part in made.parts]
     if made.ramadan:
         names, orders = names + [out], orders + [made.ramadan]
-    if tell_wrong(made, anyway):
-        return 1
+    tell_wrong(made, anyway)
     for name, order in zip(names, orders):
         streams.write(order, name)
     for line in zones.lines(made, [os.path.basename(name or "") for name in names]):
@@ -49,12 +48,11 @@ def numbered(out, number):
 
 
 def tell_wrong(made, anyway):
-    """Names each row that one clock can't be right for. Returns whether that stops the making."""
-    for line in zones.wrong_lines(made):
+    """Names each row that one clock can't be right for, and stops there unless that is asked for."""
+    for line in [*zones.odd_noon_lines(made), *zones.wrong_lines(made)]:
         streams.say("katchidul: warning: %s" % line)
     if made.on_pages and not anyway:
-        streams.say("katchidul: nothing is written; --anyway writes it all the same, and the rows above are then wrong on the page")
-    return bool(made.on_pages) and not anyway
+        raise WrongTimes("nothing is written; --anyway writes it all the same, and the rows above are then wrong on the page")
 
 
 def tell_stale(out, names):

@@ -23,8 +23,8 @@ WORDS = {
     15: "a coordinate is given in both forms:",
     18: "the sheet does not begin on the 1st of Ramadan:",
 }
-# Of a refused day, by the refusal's number.
-DAYS = {6: "the sun has no transit", 7: "the sun does not rise", 8: "the sun does not set"}
+# What a refused day lacks, by the refusal's number.
+LACKS = {6: "transit of the sun", 7: "sunrise", 8: "sunset"}
 
 
 def sentence(number, place, names):
@@ -36,5 +36,6 @@ def sentence(number, place, names):
 
 
 def refused_day(date, number, day):
-    """Why a row has no times: the sun does not rise on 2026-06-21."""
-    return "%s on %s" % (DAYS[number], date + datetime.timedelta(day))
+    """Why a row has no times. A row needs the sun of its own date, day 0, and of the two days after it."""
+    needed = ", which this row needs too" if day else ""
+    return "there is no %s on %s%s" % (LACKS[number], date + datetime.timedelta(day), needed)

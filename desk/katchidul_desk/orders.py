@@ -23,6 +23,7 @@ def make(text, options=()):
     """The order of a text and of options, pairs of a name and a value, which decide over the text. Raises Unreadable for what is not
     understood. An order that the programs refuse is made too, and `warnings` say why they do."""
     from_options = [part for name, value in options for part in texts.option_parts(name, value)]
+    texts.say_what_is_given_twice(from_options)
     parts, as_listed = texts.text_parts(text)
     parts = texts.with_options(parts, from_options)
     order, zone = texts.joined(parts, as_listed), texts.zone_of(parts)

@@ -126,17 +126,14 @@ def place(text):
 
 def halves(text):
     """A place's two texts: by a comma, else behind the letter of the first, else by the blank between two numbers."""
-    by_comma = [part.strip() for part in re.split("[,;]", text)]
-    if len(by_comma) == 2:
-        return by_comma
-    if len(by_comma) == 1:
+    parts = re.split("[,;]", text)
+    if len(parts) == 1:
         letters = re.fullmatch(r"(\S.*?[NSEW]) *([^NSEW]+[NSEW])", text, re.IGNORECASE) or \
             re.fullmatch(r"([NSEW][^NSEW]+) *([NSEW][^NSEW]+)", text, re.IGNORECASE)
-        if letters:
-            return [part.strip() for part in letters.groups()]
-        if len(text.split()) == 2:
-            return text.split()
-    raise Unreadable("takes latitude and longitude with a comma between, as 53.8008, -1.5491")
+        parts = letters.groups() if letters else text.split()
+    if len(parts) != 2 or not all(re.search(r"\d", part) for part in parts):
+        raise Unreadable("takes latitude and longitude with a comma between, as 53.8008, -1.5491")
+    return [part.strip() for part in parts]
 
 
 def in_words(degrees, axis):

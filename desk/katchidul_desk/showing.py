@@ -1,7 +1,7 @@
 """The commands that show an order: in words, as its sheet, table, cells, BRF, dots and weeks."""
 from . import braille, inputs, orders, programs, streams, tables, weeks, zones
 from .arguments import parse
-from .errors import DeskError, Refused, Unreadable
+from .errors import Refused, Unreadable
 from .making import tell_wrong
 from .orders import refusal_lines
 from .sheets import reason
@@ -59,8 +59,7 @@ def pages_by_order(given, anyway):
     split = checked(given)
     if split is None:
         return [(given.name, braille.pages(given.order))]
-    if tell_wrong(split, anyway):
-        raise DeskError("%s: no pages" % given.name)
+    tell_wrong(split, anyway)
     for line in zones.lines(split, ["order %d" % number for number in range(1, len(split.parts) + 1)] + [given.name]):
         streams.say(line)
     return [("%s to %s" % (part.first, part.last), braille.pages(part.order)) for part in split.parts]

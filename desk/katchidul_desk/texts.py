@@ -112,7 +112,7 @@ def from_zone(text):
     return [Part(ZONE, text.encode("utf-8", "surrogateescape"), "zone")]
 
 
-WAYS = {"place": from_place, "month": from_month, "from": from_first, "to": to_last, "zone": from_zone}
+WAYS = {"place": from_place, "month": from_month, "from": from_first, "to": to_last, "zone": from_zone, "timezone": from_zone}
 
 
 # Texts and options.
@@ -151,14 +151,15 @@ def option_parts(name, value):
 
 
 def say_what_is_given_twice(parts):
-    """Two names for one field are a mistake of the text. (One name twice is the order's: it is refused by 3.)"""
+    """Two names for one field are a mistake of the text or of the options. (One name twice is the order's: it is refused by 3.)"""
     seen = {}
     for part in parts:
         if part.given in (TAGS[part.field].name if part.field in TAGS else None, *OTHERS):
             other = seen.setdefault(part.field, part)
             if other.given != part.given:
-                raise Unreadable("lines %d and %d: %s and %s both give the %s; leave one out"
-                                 % (other.line, part.line, other.given, part.given, TAGS[part.field].name), part.given, part.line)
+                lines = "lines %d and %d: " % (other.line, part.line) if part.line else ""
+                raise Unreadable("%s%s and %s both give the %s; leave one out" % (lines, other.given, part.given, TAGS[part.field].name),
+                                 part.given, part.line)
 
 
 def with_options(parts, from_options):

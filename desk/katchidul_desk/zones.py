@@ -20,6 +20,9 @@ from .wording import did_you_mean, listed, quoted, utc_offset
 LONGEST_NAME = 100
 ROWS_TAG = 3
 MOST_CLOCK = 840
+NOON = "dhuhr"
+# By a town's clock noon comes between these hours everywhere.
+NOON_HOURS = range(10, 16)
 
 
 class Part(NamedTuple):
@@ -32,7 +35,8 @@ class Part(NamedTuple):
 
 
 class Wrong(NamedTuple):
-    """A time that one clock for its row does not show right: what is shown, and what the zone's clock says."""
+    """A time that one clock for its row does not show right: what is shown, and what the zone's clock says. With the column "day" it is
+    the row's date and the date there at noon: a zone across the date line is a day ahead of its place."""
     date: datetime.date
     column: str
     shown: str
@@ -138,8 +142,9 @@ def check_pages(whole, parts, zone):
         shown = braille.times(line)
         count += len(PRAYERS) if row.times else 0
         wrong += [Wrong(row.date, *cell) for cell in zip(PRAYERS, shown, right) if cell[1] != cell[2]]
-        if braille.number(line[:3]) != "%02d" % row.date.day:
-            wrong.append(Wrong(row.date, "day", braille.number(line[:3]), "%02d" % row.date.day))
+        there = row.times[NOON].astimezone(zone).date() if row.times else row.date
+        if (braille.number(line[:3]), row.date) != ("%02d" % there.day, there):
+            wrong.append(Wrong(row.date, "day", str(row.date), str(there)))
     return count, wrong
 
 
@@ -180,9 +185,24 @@ def lines(made, names):
 
 def wrong_lines(made):
     """A line for each row that one clock can't be right for."""
-    for date, wrong in itertools.groupby(made.on_pages, lambda one: one.date):
+    days = [one for one in made.on_pages if one.column == "day"]
+    if days:
+        yield "%s is across the date line: its clocks are a day ahead of the dates of %d rows. The times under %s are those of %s" % (
+            made.zone, len(days), days[0].shown, days[0].right)
+    times = (one for one in made.on_pages if one.column != "day")
+    for date, wrong in itertools.groupby(times, lambda one: one.date):
         told = ["%s is %s by the clocks there, and the page would show %s" % (one.column, one.right, one.shown) for one in wrong]
         yield "%s: one clock can't be right for all times of this row: %s" % (date, "; ".join(told))
+
+
+def odd_noon_lines(made):
+    """A line if noon is at night: then the place and the zone are not of one town."""
+    for row, clock in zip(made.sheet.rows, made.clocks):
+        noon = row.times[NOON] + datetime.timedelta(minutes=clock) if row.times else None
+        if noon and noon.hour not in NOON_HOURS:
+            yield "dhuhr of %s is at %s by the clocks of %s; do the place and the zone belong together?" % (
+                row.date, noon.strftime("%H:%M"), made.zone)
+            return
 
 
 def elsewhere_lines(made):

@@ -1,0 +1,51 @@
+"""What the tests of the desk have in common: counting, and running the command."""
+import importlib.machinery
+import importlib.util
+import os
+import pathlib
+import random
+import subprocess
+import sys
+
+sys.dont_write_bytecode = True
+ROOT = pathlib.Path(__file__).resolve().parent.parent.parent
+COMMAND = ROOT / "katchidul"
+sys.path.insert(0, str(ROOT / "desk"))
+PROGRAMS = os.environ.setdefault("KATCHIDUL_PROGRAMS", str(ROOT / "target" / "bin"))
+count = failed = 0
+is_long = False
+
+
+def check(what, got, wanted):
+    global count, failed
+    count += 1
+    if got != wanted:
+        failed += 1
+        if failed <= 40:
+            print("%s: %.500r, not %.500r" % (what, got, wanted))
+
+
+def run(*words, given=b"", **more):
+    """The command's exit status, standard output and standard error."""
+    ended = subprocess.run([COMMAND, *words], input=given, capture_output=True, check=False, **more)
+    return ended.returncode, ended.stdout, ended.stderr.decode("utf-8", "replace")
+
+
+def program(name, order):
+    """What a proved program itself prints."""
+    return subprocess.run([os.path.join(PROGRAMS, name)], input=order, capture_output=True, check=True).stdout
+
+
+def draw(seed):
+    return random.Random(seed)
+
+
+def module(name, *path):
+    loader = importlib.machinery.SourceFileLoader(name, str(ROOT.joinpath(*path)))
+    loaded = importlib.util.module_from_spec(importlib.util.spec_from_loader(name, loader))
+    loader.exec_module(loaded)
+    return loaded
+
+
+# The second reader of orders, written from the paper on its own.
+cases = module("cases", "tests", "orders", "cases.py")
