@@ -1,6 +1,8 @@
 # The crash runs: hosts that are killed and begun again until all is done. Most of their time is waiting, so several run at once.
 import concurrent.futures
+import errno
 import itertools
+import os
 import random
 
 from trial import Trial, order
@@ -9,6 +11,7 @@ ORDERS = [order("Ayr", 26), order("Bath", 1), order("Crewe", 75, clock=60), orde
 LONG = [order("Ely", 400), order("Fowey", 30), order("Goole", 400), order("Hull", 1)]  # 16, 2, 16 and 1
 CHAIN = 400  # hosts in one trial
 AT_ONCE = 6
+ERRORS = [errno.EIO, errno.ENOSPC, errno.EINTR, errno.EMFILE]
 
 # Embossers: quick or slow, with accidents or without.
 HABITS = [["-t", 0], ["-t", 1], ["-t", 2, "-a", 30], ["-t", 1, "-l", 10], ["-t", 0, "-a", 10, "-l", 5]]
@@ -22,10 +25,10 @@ class Count:
         return Count(self.kills + other.kills, self.trials + other.trials, self.pages + other.pages, self.faults + other.faults,
                      self.told + other.told)
 
-    def end(self, trial, what):
+    def end(self, trial, what, in_turn=True):
         self.trials += 1
         self.pages += sum(map(len, trial.pages_by_job().values()))
-        self.faults += [f"{what}: {fault}" for fault in trial.faults()]
+        self.faults += [f"{what}: {fault}" for fault in trial.faults(in_turn=in_turn)]
         return self
 
     def line(self, what):
@@ -110,26 +113,48 @@ def without_accidents(built, orders=ORDERS, host=None):
 
 
 def calls_of_a_run(built):
-    with Trial(built, ORDERS) as trial:
-        trace = trial.folder / "trace"
-        trial.run(trace=trace)
-        return len(trace.read_text().splitlines())
+    """Which calls a host makes from its start to its end, of every kind."""
+    with Trial(built, ORDERS, None, ["-t", 0]) as trial:
+        count = trial.folder / "count"
+        trial.run(count=count)
+        return count.read_text().splitlines()
 
 
-def failing(built, seed, step=1):
-    """Each call that writes fails once, in turn: the host says so and ends, or the link is begun anew; then a host to the end."""
+def failing(built, seed, step=1, errors=ERRORS):
+    """Each call fails once, in turn, by each error: the host says so and ends, or the order waits, or the job is held, or the link is begun
+    again; then a host to the end."""
 
-    def one(at):
-        with Trial(built, ORDERS, None, habits(draw_of(seed, at))) as trial:
-            trial.run(after=at, how="fail")
-            told = trial.status == 2 and "; nothing more is sent" in trial.said
-            faults = trial.out_of_order()
-            if not told and trial.status != 0:
-                faults.append(f"call {at} failed with status {trial.status}, without a word")
+    def one(number):
+        at, error = number // len(errors) + 1, errors[number % len(errors)]
+        with Trial(built, ORDERS, None, habits(draw_of(seed, number))) as trial:
+            trial.run(after=at, how="fail", error=error)
+            faults, told = trial.out_of_order(), told_of_failure(trial)
+            if trial.status != 0 and not told:
+                faults.append(f"status {trial.status} without a word: {trial.said}")
+            trial.release_by_hand()
             trial.run()
-            return Count(told=told, faults=faults).end(trial, f"call {at} failed")
+            return Count(told=told, faults=faults).end(trial, f"call {at} failed by {os.strerror(error)}", in_turn=False)
 
-    return all_of(one, range(1, calls_of_a_run(built) + 1, step))
+    numbers = range(0, (len(calls_of_a_run(built)) + 5) * len(errors), step)
+    return all_of(one, numbers)
+
+
+def told_of_failure(trial):
+    """Whether the host says what failed, in the words for its exit status."""
+    words = {1: (" waits: ", " is held: ", " is refused: ", " is passed over"), 2: ("; nothing more is sent",), 3: ("embosser at ",)}
+    return any(word in trial.said for word in words.get(trial.status, ()))
+
+
+def in_pieces(built, seed, trials):
+    """Reads and writes of a few bytes each time."""
+
+    def one(number):
+        draw = draw_of(seed, number)
+        with Trial(built, ORDERS, None, habits(draw)) as trial:
+            trial.run(short=draw.choice([1, 2, 3, 7, 40]), patience=2000)
+            return Count().end(trial, f"in pieces {seed}, trial {number}")
+
+    return all_of(one, range(trials))
 
 
 def order_of_calls(built, seed, trials, host=None):

@@ -2,6 +2,7 @@
 import itertools
 import os
 import pathlib
+import re
 import shutil
 import subprocess
 import tempfile
@@ -11,6 +12,8 @@ from disk import Disk
 
 LOG_SIZE = 25  # of the host's log, KATCHIDUL_LOG_ROOM of three pages
 PATIENCE = 30  # milliseconds
+FOLDERS = ("in", "jobs", "done", "held", "cancelled", "refused", "asks")
+STAMP = re.compile(r"^\d{4}-\d\d-\d\dT\d\d:\d\d:\d\d[+-]\d\d:\d\d ", re.M)
 
 
 def order(town, rows, clock=0):
@@ -43,7 +46,7 @@ class Trial:
         for at, text in enumerate(orders):
             (self.spool / "in" / f"{at:03}").write_bytes(text)
         self.embosser, self.habits = None, [str(word) for word in embosser]
-        self.said, self.status = "", None
+        self.said, self.stamped, self.status = "", "", None
 
     def __enter__(self):
         self.start_embosser()
@@ -64,14 +67,17 @@ class Trial:
             self.embosser.communicate()
         self.embosser = None
 
-    def begin(self, after=0, how="kill", trace=None, before=None, patience=PATIENCE):
-        """Starts a host; after: the call that writes at which the stopper does what `how` says; before: what its process does first."""
+    def begin(self, after=0, how="kill", trace=None, before=None, patience=PATIENCE, stays=False, **settings):
+        """Starts a host; after: the call at which the stopper does what `how` says; before: what its process does first; settings: more of
+        the stopper's, as error=5."""
         words = {**os.environ}
-        if after or trace:
+        if after or trace or settings:
             words.update(LD_PRELOAD=self.built.stopper, STOPPER_AFTER=str(after), STOPPER_HOW=how, STOPPER_SPOOL=str(self.spool.resolve()))
         if trace:
             words["STOPPER_TRACE"] = str(trace)
-        return subprocess.Popen([self.host, "-p", str(patience), str(self.spool), self.socket], env=words, preexec_fn=before,
+        words.update({f"STOPPER_{name.upper()}": str(value) for name, value in settings.items()})
+        options = ["-s"] if stays else []
+        return subprocess.Popen([self.host, *options, "-p", str(patience), str(self.spool), self.socket], env=words, preexec_fn=before,
                                 stdout=subprocess.PIPE, stderr=subprocess.STDOUT)
 
     def end(self, host, delay=None):
@@ -86,11 +92,17 @@ class Trial:
             host.kill()
             said, _ = host.communicate()
             self.status = 99
-        self.said = said.decode()
+        self.stamped = said.decode()
+        self.said = STAMP.sub("", self.stamped)
         return self.status
 
     def run(self, **words):
         return self.end(self.begin(**words))
+
+    def release_by_hand(self):
+        """Moves every held job back to jobs/."""
+        for name in self.names("held"):
+            (self.spool / "held" / name).rename(self.spool / "jobs" / name)
 
     def was_killed(self):
         return self.status == -9
@@ -98,7 +110,14 @@ class Trial:
     # ---- what is wrong
 
     def names(self, folder):
-        return sorted(os.listdir(self.spool / folder), key=lambda name: (len(name), name))
+        """The names in a folder, without the sentences beside them."""
+        names = os.listdir(self.spool / folder) if (self.spool / folder).exists() else []
+        return sorted((name for name in names if not name.endswith(".why")), key=lambda name: (len(name), name))
+
+    def why(self, name):
+        """The sentence beside a held job or a refused order, without its newline."""
+        file = self.spool / f"{name}.why"
+        return file.read_text().removesuffix("\n") if file.exists() else None
 
     def order_of(self, job):
         file = self.spool / job / "order"
@@ -110,16 +129,17 @@ class Trial:
             jobs.setdefault(job, []).append(tuple(page))
         return jobs
 
-    def faults(self, status=0):
-        """After the last host: each order is one job, all of it punched once, in order, byte for byte as the library gives it in one go."""
+    def faults(self, status=0, in_turn=True):
+        """After the last host: each order is one job, all of it punched once, in order, byte for byte as the library gives it in one go.
+        in_turn: the jobs have their ids in the order of the orders' names."""
         wrong = []
         if self.status != status:
             wrong.append(f"status {self.status}, not {status}: {self.said.strip().splitlines()[-1:]}")
-        for folder in ("in", "jobs", "held", "refused"):
-            if self.names(folder):
+        for folder in FOLDERS:
+            if folder != "done" and self.names(folder):
                 wrong.append(f"{folder} has {self.names(folder)}")
         done = [self.order_of(f"done/{name}") for name in self.names("done")]
-        if done != self.orders:
+        if (done if in_turn else sorted(map(bytes, done))) != (self.orders if in_turn else sorted(self.orders)):
             wrong.append(f"{len(done)} jobs, not the {len(self.orders)} orders")
         jobs = self.pages_by_job()
         for name, text in zip(self.names("done"), done):
@@ -139,15 +159,17 @@ class Trial:
         library, owed = self.built.library, []
         for job, page, *_ in punched_pages(self.punched):
             text = self.orders[job - 1]
-            owed.append(f"job {job}: page {page} of {len(library.pages(text))}, {library.dots(text, page)} dots punched")
-        told = [line for line in self.said.splitlines() if line.endswith(" punched")]
+            town, pages = library.town(text), len(library.pages(text))
+            owed.append(f"job {job} ({job - 1:03}, {town}): page {page} of {pages}, {library.dots(text, page)} dots punched; "
+                        f"pages left: {pages - page}")
+        told = [line.split(", jobs:")[0] for line in self.said.splitlines() if " dots punched" in line]
         return [f"told {line}, not {right}" for line, right in itertools.zip_longest(told, owed) if line != right]
 
     def out_of_order(self):
         """Of jobs that may have stopped halfway: pages that are not the first ones of their order, each once."""
         wrong = []
         for job, pages in self.pages_by_job().items():
-            for folder in ("jobs", "held", "done"):
+            for folder in ("jobs", "held", "done", "cancelled"):
                 text = self.order_of(f"{folder}/{job}")
                 if text is not None and pages != self.built.library.pages(text)[:len(pages)]:
                     wrong.append(f"job {job} has pages twice or out of order")
@@ -178,7 +200,7 @@ class Trial:
             disk.follow(line)
         shutil.rmtree(self.spool)
         disk.lay_down(str(self.spool), draw)
-        for folder in ("in", "jobs", "done", "held", "refused"):
+        for folder in FOLDERS:
             (self.spool / folder).mkdir(exist_ok=True)
 
     def disk(self, unflushed=None):

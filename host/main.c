@@ -1,0 +1,112 @@
+/* katchidul-host [-p MILLISECONDS] [-s] SPOOL SOCKET: embosses the orders of a spool. katchidul-host.8 is its manual page. */
+#define _GNU_SOURCE
+#include <errno.h>
+#include <stdio.h>
+#include <stdlib.h>
+#include <string.h>
+#include <unistd.h>
+
+#include "intake.h"
+
+#define PATIENCE 60000      /* milliseconds, if -p is not given */
+#define PATIENCE_MAX 86400000 /* a day */
+
+/* ---- the embosser comes and goes */
+
+/* The link is open when the embosser says that it serves this spool. */
+static course meet(room *r, const char *path) {
+  embosser *e = &r->embosser;
+  answer a;
+  if (!link_open(e, path)) return link_lost(e, "there is no embosser at %s: %s", path, strerror(errno));
+  course c = link_begin(e, r->spool_name);
+  if (c == GOES_ON) c = link_hear(e, after(e->patience), &a);
+  if (c == TOO_LATE) c = link_lost(e, "the embosser at %s does not answer", path);
+  if (c == GOES_ON && a.kind != SERVES) c = link_lost(e, "the embosser at %s does not say which spool it serves", path);
+  if (c == GOES_ON && strcmp(a.name, r->spool_name) != 0)
+    c = link_lost(e, "the embosser at %s serves the spool %s, and this is %s: nothing is sent", path, a.name, r->spool_name);
+  if (c != GOES_ON) link_close(e);
+  return c;
+}
+
+/* Without -s the host gives up after its patience. With it the host waits, and says so once for each reason. */
+static course find_embosser(room *r, const char *path) {
+  moment end = after(r->embosser.patience);
+  text told = {""};
+  for (;;) {
+    course c = meet(r, path);
+    if (c == GOES_ON && told.text[0] != '\0') say("the embosser is back");
+    if (c != LINK_LOST) return c;
+    bool waits = r->stays || !has_passed(end);
+    if (!waits || (r->stays && strcmp(told.text, r->embosser.lost.text) != 0))
+      say("%s%s", r->embosser.lost.text, r->stays ? "; waiting for it" : "");
+    told = r->embosser.lost;
+    if (!waits) return LINK_LOST;
+    if (wait_until(after(r->embosser.patience / 10), -1, 0, true) == TOLD_TO_END) return TOLD_TO_END;
+  }
+}
+
+/* ---- work */
+
+static course step(room *r) {
+  if (r->queue.jobs > 0 && open_pages(r) < OPEN_MAX_PAGES) return send_next(r);
+  if (r->count > 0) return hear_done(r);
+  return r->stays ? wait_idle(r) : NOTHING_LEFT;
+}
+
+static course work(room *r) {
+  room_clear(r);
+  for (;;) {
+    course c = told_to_end() != NULL ? TOLD_TO_END : admit(r);
+    if (c == GOES_ON) c = step(r);
+    if (c != GOES_ON) return c;
+  }
+}
+
+/* A link that is lost is a start like any other. */
+static int serve(room *r, const char *path) {
+  for (;;) {
+    course c = find_embosser(r, path);
+    if (c == LINK_LOST) return ENDED_WITHOUT_EMBOSSER;
+    if (c == GOES_ON) c = work(r);
+    link_close(&r->embosser);
+    if (c == NOTHING_LEFT) return r->refused ? ENDED_WITH_REFUSALS : ENDED_WELL;
+    if (c == LINK_LOST) say("the link to the embosser is lost: %s; beginning again", r->embosser.lost.text);
+    if (c == LINK_LOST) c = wait_until(after(r->embosser.patience / 10), -1, 0, true);
+    if (c != TOLD_TO_END) continue;
+    say("%s ends the host; jobs in work: %u", told_to_end(), r->count);
+    return r->stays ? ENDED_WELL : ENDED_BY_SIGNAL;
+  }
+}
+
+/* ---- the command */
+
+static int usage(void) {
+  fprintf(stderr, "usage: katchidul-host [-p MILLISECONDS] [-s] SPOOL SOCKET\n");
+  return ENDED_BY_DISK;
+}
+
+/* Digits alone, 1 to a day; else 0. */
+static int patience_of(const char *word) {
+  if (strlen(word) > 8 || strspn(word, "0123456789") != strlen(word)) return 0;
+  long patience = strtol(word, NULL, 10);
+  return patience <= PATIENCE_MAX ? (int)patience : 0;
+}
+
+int main(int count, char **words) {
+  static room r;
+  bool right = true;
+  keep_streams();
+  r.embosser.patience = PATIENCE;
+  for (int option; (option = getopt(count, words, "p:s")) != -1;) {
+    if (option == 'p') r.embosser.patience = patience_of(optarg);
+    r.stays = r.stays || option == 's';
+    right = right && option != '?';
+  }
+  if (!right || count - optind != 2 || r.embosser.patience < 1) return usage();
+  if (!katchidul_environment_is_default()) stop("the floating-point environment", "not the one that the answers are proved for");
+  keep_back_signals();
+  r.spool = open_spool(words[optind]);
+  read_spool_name(r.spool, r.spool_name);
+  r.next_id = id_above_all(r.spool);
+  return serve(&r, words[optind + 1]);
+}
