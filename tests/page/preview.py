@@ -14,7 +14,7 @@ EXAMPLES = ROOT / "examples"
 # By their raised dots: 0 and 1 to 9 are the letters j and a to i.
 DIGITS = ["245", "1", "12", "14", "145", "15", "124", "1245", "125", "24"]
 CELLS = {sum(1 << int(dot) - 1 for dot in dots): str(digit) for digit, dots in enumerate(DIGITS)}
-REASONS = {6: "the sun has no transit", 7: "the sun does not rise", 8: "the sun does not set"}
+LACKS = {6: "transit of the sun", 7: "sunrise", 8: "sunset"}
 
 
 def program(name, order):
@@ -44,7 +44,8 @@ def wanted_row(line, clock):
     date = datetime.date.fromisoformat(date)
     if rest[0] == "refused":
         day = date + datetime.timedelta(int(rest[3]))
-        return [date.strftime("%a %-d %b"), "No times: %s on %s." % (REASONS[int(rest[1])], day)]
+        later = ", which this row needs too" if day != date else ""
+        return [date.strftime("%a %-d %b"), "No times: there is no %s on %s%s." % (LACKS[int(rest[1])], day, later)]
     times = []
     for text in rest:
         days, hour, minute = map(int, re.fullmatch(r"([+-]\d)T(\d\d):(\d\d):\d\d", text).groups())
@@ -125,19 +126,21 @@ def check_document(check, name, text, orders):
     return root
 
 
-def examples(check, desk, folder):
-    """The command on the examples, and on a text with a zone."""
+def examples(check, desk, document_of, folder):
+    """Every example, and the command on three of them."""
     for path in sorted(EXAMPLES.glob("*.order")):
-        out, order = folder / (path.stem + ".html"), path.read_bytes()
-        refused = program("sheet", order).startswith(b"order refused")
-        ended = desk("preview", path, "--out", out)
-        check(path.name + ": status", ended.returncode, 1 if refused else 0)
-        if refused:
-            check(path.name + ": no page for a refused order", out.exists(), False)
+        order = path.read_bytes()
+        if program("sheet", order).startswith(b"order refused"):
+            out = folder / "refused.html"
+            check(path.name + ": a refused order has no page", (desk("preview", path, "--out", out).returncode, out.exists()), (1, False))
             continue
-        root = check_document(check, path.name, out.read_text("utf-8"), [order])
+        text = document_of(order, path.stem)
+        root = check_document(check, path.name, text, [order])
         if any(len(row) > 2 for row in wanted_rows(order)):
             check_picture(check, path.name, root, [order])
+        if path.stem in ("durham-clock", "tromso", "pontianak-ramadan"):
+            out = folder / (path.stem + ".html")
+            check(path.name + ": the command", (desk("preview", path, "--out", out).returncode, out.read_text("utf-8") == text), (0, True))
 
 
 def by_zone(check, desk, folder):
@@ -153,7 +156,7 @@ def by_zone(check, desk, folder):
     several = desk("preview", folder / "leeds-1.order", folder / "leeds-2.order", EXAMPLES / "tromso.order")
     root = check_document(check, "three orders", several.stdout.decode("utf-8"), orders + [(EXAMPLES / "tromso.order").read_bytes()])
     check("three orders: two timetables", len(list(root.all("section", class_="timetable"))), 2)
-    check("three orders: refused days in words", "19 to 24 May 2026: the sun does not rise on that day." in root.text, True)
+    check("three orders: refused days in words", "19 to 24 May 2026: there is no sunrise on the day itself." in root.text, True)
 
 
 def ramadan(check, desk, folder):
@@ -178,4 +181,4 @@ def random_orders(check, document_of, count, seed):
         order = random_order(dice)
         if program("sheet", order).startswith(b"order refused"):
             continue
-        check_document(check, "random order %d of seed %s" % (at, seed), document_of(order), [order])
+        check_document(check, "random order %d of seed %s" % (at, seed), document_of(order, None), [order])

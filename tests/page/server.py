@@ -101,6 +101,12 @@ def folders(folder):
     (texts / "large.text").write_bytes(b"#" * (MOST + 1))
     (texts / "utf16.text").write_bytes("town: Leeds\n".encode("utf-16"))
     os.mkfifo(texts / "pipe.text")
+    job = spool / "jobs" / "7"
+    job.mkdir()
+    (job / "order").write_bytes((preview.EXAMPLES / "durham-clock.order").read_bytes())
+    (job / "name").write_text("durham.order")
+    # Both pages sent, and the first done.
+    (job / "log").write_bytes(bytes.fromhex("0100020001 0100020002 0200020001"))
     return texts, spool
 
 
@@ -128,7 +134,7 @@ def first_page(check, port):
         check("header " + name, answer.headers.get(name), value)
     check("the policy", all(word in answer.headers["content-security-policy"] for word in ("default-src 'none'", "frame-ancestors 'none'")), True)
     check("no word of Python", "ython" in answer.headers.get("server", ""), False)
-    for path in ("/style.css", "/desk.css", "/desk.js"):
+    for path in ("/style.css", "/desk.css", "/desk.js", "/icon.svg"):
         check("GET " + path, ask(port, "GET", path).status, 200)
     head = ask(port, "HEAD", "/")
     check("HEAD /", (head.status, head.body, head.headers.get("content-length") == answer.headers["content-length"]), (200, b"", True))
@@ -280,7 +286,11 @@ def spooled(check, port, spool, shown, orders):
     told = document.read(ask(port, "GET", sent.headers["location"]).text)[0]
     check("what went in is told", told.one("div", class_="notice").text, "In the spool: leeds-2026-10-1.order, leeds-2026-10-2.order.")
     jobs = document.read(ask(port, "GET", "/jobs").text)[0]
-    check("the jobs", [row.text for row in jobs.one("tbody").all("th")], ["leeds-2026-10-1.order", "leeds-2026-10-2.order"])
+    rows = [[cell.text for cell in row.all() if cell.name in ("td", "th")] for row in jobs.one("tbody").all("tr")]
+    check("the jobs", [row[1:4] for row in rows], [["durham.order", "Durham", "printing"]] + [
+        ["leeds-2026-10-%d.order" % at, "Leeds", "waiting to be taken"] for at in (1, 2)])
+    check("a job's progress", (rows[0][0], rows[0][4].strip()), ("7", "1 of 2 finished, 1 more sent"))
+    check("the jobs in a sentence", jobs.one("p", id="jobs-told").text, "3 orders: 1 printing, 2 waiting to be taken.")
 
 
 def slow_clients(check, port, seconds):

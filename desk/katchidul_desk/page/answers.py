@@ -5,8 +5,8 @@ import re
 
 HTML, TEXT, JSON, BINARY = "text/html; charset=utf-8", "text/plain; charset=utf-8", "application/json", "application/octet-stream"
 # Nothing is loaded from elsewhere, no style or script is taken from the document itself, and no other page may frame this one.
-POLICY = ("default-src 'none'; style-src 'self'; script-src 'self'; connect-src 'self'; form-action 'self'; base-uri 'none'; "
-          "frame-ancestors 'none'")
+POLICY = ("default-src 'none'; style-src 'self'; script-src 'self'; connect-src 'self'; img-src 'self'; form-action 'self'; "
+          "base-uri 'none'; frame-ancestors 'none'")
 HEADERS = {
     "Content-Security-Policy": POLICY,
     "X-Content-Type-Options": "nosniff",
@@ -27,7 +27,8 @@ class Answer:
 
 
 def page(text, status=200):
-    return Answer(status, HTML, text.encode("utf-8"))
+    """A name of a file may have bytes that are no letters; they are shown as escapes."""
+    return Answer(status, HTML, text.encode("utf-8", "backslashreplace"))
 
 
 def sentence(text, status, **headers):

@@ -7,7 +7,7 @@ from .. import orders, reading
 from ..errors import DeskError, Unreadable
 
 OWN = pathlib.Path(__file__).with_name("static")
-KINDS = {".css": "text/css; charset=utf-8", ".js": "text/javascript; charset=utf-8"}
+KINDS = {".css": "text/css; charset=utf-8", ".js": "text/javascript; charset=utf-8", ".svg": "image/svg+xml"}
 LONGEST = 64 * 1024
 SUFFIXES = (".text", ".txt", ".order")
 MOST = 200

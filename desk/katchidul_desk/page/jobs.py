@@ -2,29 +2,39 @@
 from ..preview.markup import element, joined
 from ..wording import counted
 
-STATES = {"waiting": "waits to be taken", "queued": "in the queue", "printing": "printing", "done": "done", "held": "held", "refused": "refused"}
+STATES = {"printing": "printing", "queued": "in the queue", "waiting": "waiting to be taken", "held": "held", "refused": "refused",
+          "cancelled": "cancelled", "done": "done"}
+HEADS = ("Job", "Order", "Town", "State", "Pages", "Note")
+
+
+def progress(job):
+    """A bar for those who see it, and the same in words."""
+    if not job.pages:
+        return "not known"
+    bar = element("progress", value=job.finished, max=job.pages, aria_hidden="true")
+    sent = ", %d more sent" % (job.sent - job.finished) if job.sent > job.finished else ""
+    return joined(bar, " %d of %d finished%s" % (job.finished, job.pages, sent))
 
 
 def row(job):
-    pages = "%d of %d" % (job.finished, job.pages) if job.pages else "not known yet"
-    bar = element("progress", value=job.finished, max=job.pages, aria_hidden="true") if job.pages else None
+    """An order that is no job yet has no number."""
+    values = [job.town, STATES.get(job.state, job.state), progress(job), job.sentence]
     return element(
-        "tr", element("th", job.name, scope="row"), element("td", job.town), element("td", STATES.get(job.state, job.state)),
-        element("td", bar, " ", pages), element("td", job.sentence))
+        "tr", element("td", job.id or "none yet"), element("th", job.name, scope="row"), [element("td", value) for value in values])
 
 
 def summary(jobs):
-    """3 jobs: 1 printing, 2 done."""
+    """3 orders: 1 printing, 2 done."""
     counts = {state: sum(job.state == state for job in jobs) for state in STATES}
     told = ", ".join("%d %s" % (count, STATES[state]) for state, count in counts.items() if count)
-    return "%s: %s." % (counted(len(jobs), "job"), told) if jobs else "The spool has no jobs."
+    return "%s: %s." % (counted(len(jobs), "order"), told) if jobs else "The spool has no orders."
 
 
 def table(jobs):
-    """The jobs, and above them their summary."""
+    """The jobs, and above them their summary, which a screen reader says when it changes."""
     told = element("p", summary(jobs), id="jobs-told", role="status")
     if not jobs:
         return told
-    heads = [element("th", name, scope="col") for name in ("Order", "Town", "State", "Pages finished", "Note")]
-    whole = element("table", element("thead", element("tr", heads)), element("tbody", [row(job) for job in jobs]))
-    return joined(told, element("div", whole, class_="scroll", tabindex=0, role="region", aria_label="Table of the spool's jobs"))
+    heads = element("thead", element("tr", [element("th", name, scope="col") for name in HEADS]))
+    rows = element("table", heads, element("tbody", [row(job) for job in jobs]))
+    return joined(told, element("div", rows, class_="scroll", tabindex=0, role="region", aria_label="Table of the spool's orders"))

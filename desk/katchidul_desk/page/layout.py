@@ -10,7 +10,7 @@ def head(title):
     return element(
         "head", element("meta", charset="utf-8"), element("meta", name="viewport", content="width=device-width, initial-scale=1"),
         element("title", title), element("link", rel="stylesheet", href="/style.css"), element("link", rel="stylesheet", href="/desk.css"),
-        element("script", src="/desk.js", defer=True))
+        element("link", rel="icon", href="/icon.svg"), element("script", src="/desk.js", defer=True))
 
 
 def section(name, title, *children):

@@ -3,7 +3,7 @@ from urllib.parse import parse_qs, quote, urlsplit
 
 from ..errors import DeskError
 from ..preview.markup import element
-from ..spool import status, submit
+from ..spool import SpoolError, status, submit
 from . import answers, check, fields_html, files, form, jobs, layout, opened, safety
 from .tokens import Tokens
 from .work import contents, made_of
@@ -60,7 +60,7 @@ class Page:
             return None
         try:
             return jobs.table(status(self.spool))
-        except (DeskError, OSError) as why:
+        except (DeskError, SpoolError, OSError) as why:
             return element("p", check.as_sentence(why), role="status")
 
     def page(self, values, faults, told=None, pages=None, code=200):
@@ -111,7 +111,7 @@ class Page:
                 raise DeskError(USED)
             for one in timetable.shown:
                 names.append(submit(self.spool, one.name, one.order))
-        except (DeskError, OSError) as why:
+        except (DeskError, SpoolError, OSError) as why:
             # Of several orders some can be in the spool already.
             there = "%s: in the spool. " % ", ".join(names) if names else ""
             return self.page(form.from_text(text), {}, layout.notice(there + check.as_sentence(why)), code=409)

@@ -10,7 +10,7 @@ from .markup import Markup, element, joined
 
 STYLE = pathlib.Path(__file__).with_name("style.css")
 # A row needs its own sun and that of the two days after it.
-LATER = ("on that day", "on the day after", "two days after")
+LATER = ("on the day itself", "on the day after, which the row needs too", "two days after, which the row needs too")
 
 
 def span(days):
@@ -26,7 +26,7 @@ def refused_days(days):
     for refused, alike in itertools.groupby(days, key=lambda day: day.refused):
         if refused:
             number, later = refused
-            yield "%s: %s %s." % (span(list(alike)), messages.DAYS[number], LATER[later])
+            yield "%s: there is no %s %s." % (span(list(alike)), messages.LACKS[number], LATER[later])
 
 
 def listed(title, lines, level, about=None):
