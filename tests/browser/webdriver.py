@@ -10,7 +10,7 @@ import urllib.error
 import urllib.request
 
 ELEMENT = "element-6066-11e4-a52e-4f735466cecf"
-KEYS = {"tab": "\ue004", "enter": "\ue007", "space": "\ue00d", "shift": "\ue008", "down": "\ue015", "end": "\ue010", "control": "\ue009", "null": "\ue000"}
+KEYS = {"tab": "\ue004", "enter": "\ue007", "control": "\ue009", "delete": "\ue017", "a": "a"}
 
 
 class Failed(Exception):
@@ -34,7 +34,8 @@ class Browser:
         if not scripts:
             preferences["profile.managed_default_content_settings.javascript"] = 2
         arguments = ["--headless=new", "--no-sandbox", "--disable-gpu", "--disable-dev-shm-usage", "--window-size=1366,900", "--user-data-dir=" + self.profile]
-        wanted = {"browserName": "chrome", "goog:chromeOptions": {"args": arguments, "prefs": preferences}}
+        options = {"args": arguments, "prefs": preferences}
+        wanted = {"browserName": "chrome", "goog:chromeOptions": options, "goog:loggingPrefs": {"browser": "ALL"}}
         self.session = self.begun({"capabilities": {"alwaysMatch": wanted}})
 
     def begun(self, wanted):
@@ -92,11 +93,9 @@ class Browser:
 
     def type(self, text):
         """Presses keys wherever the focus is; a tuple is keys by name, held together."""
-        actions = []
-        for key in [KEYS[name] for name in text] if isinstance(text, tuple) else text:
-            actions.append({"type": "keyDown", "value": key})
         if isinstance(text, tuple):
-            actions += [{"type": "keyUp", "value": KEYS[name]} for name in reversed(text)]
+            down = [{"type": "keyDown", "value": KEYS[name]} for name in text]
+            actions = down + [{"type": "keyUp", "value": KEYS[name]} for name in reversed(text)]
         else:
             actions = [{"type": kind, "value": key} for key in text for kind in ("keyDown", "keyUp")]
         self.ask("POST", "/actions", {"actions": [{"type": "key", "id": "keys", "actions": actions}]})
@@ -113,8 +112,9 @@ class Browser:
                 return found
             time.sleep(0.1)
 
-    def picture(self, path):
-        path.write_bytes(base64.b64decode(self.ask("GET", "/screenshot")))
+    def log(self):
+        """What the browser wrote to its console since the last question."""
+        return self.ask("POST", "/se/log", {"type": "browser"})
 
     def whole_picture(self, path):
         """The page from top to end."""

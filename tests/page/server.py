@@ -62,6 +62,11 @@ def ask(port, *words, **named):
     return Answer(send(port, request(port, *words, **named)))
 
 
+def show(port, **values):
+    """The form, sent as the browser does."""
+    return ask(port, "GET", "/?" + form(**values).decode("ascii"))
+
+
 def form(**values):
     return urlencode({name.replace("_", "-"): value for name, value in values.items()}).encode("ascii")
 
@@ -153,7 +158,7 @@ def senders(check, port):
         check("Origin " + origin, ask(port, "POST", "/check", body=b"", headers={"Origin": origin}).status, 200)
     for origin in ("null", "", "http://evil.example", "https://" + own, "http://127.0.0.1", "http://127.0.0.1:%d.evil.example" % port, "http://" + own + "/",
                    "http://" + own + "\r\nOrigin: null"):
-        for path in ("/", "/check", "/download", "/spool"):
+        for path in ("/check", "/download", "/spool"):
             check("Origin %r of %s" % (origin, path), ask(port, "POST", path, body=form(**LEEDS), headers={"Origin": origin}).status, 403)
 
 
@@ -174,22 +179,22 @@ def bodies(check, port):
     fits, over = b"text=" + b"a" * (MOST - 5), b"text=" + b"a" * (MOST - 4)
     check("a body of 64 KB", ask(port, "POST", "/check", body=fits).status, 200)
     check("a body of 64 KB and a byte", ask(port, "POST", "/check", body=over).status, 413)
-    check("a body that says to be large", ask(port, "POST", "/", body=b"", headers={"Content-Length": "9" * 19}).status, 413)
+    check("a body that says to be large", ask(port, "POST", "/check", body=b"", headers={"Content-Length": "9" * 19}).status, 413)
     for length, status in (("-1", 400), ("1e3", 400), ("+5", 400), ("0x10", 400), ("", 400), ("\u0665", 400), ("5\r\nContent-Length: 6", 400), (None, 411)):
-        check("length %r" % length, ask(port, "POST", "/", body=b"town=", headers={"Content-Length": length}).status, status)
-    check("a body in pieces", ask(port, "POST", "/", body=b"5\r\ntown=\r\n0\r\n\r\n", headers={"Transfer-Encoding": "chunked", "Content-Length": None}).status, 411)
-    check("a cut body", ask(port, "POST", "/", body=b"town=", headers={"Content-Length": "50"}).status, 400)
+        check("length %r" % length, ask(port, "POST", "/check", body=b"town=", headers={"Content-Length": length}).status, status)
+    check("a body in pieces", ask(port, "POST", "/check", body=b"5\r\ntown=\r\n0\r\n\r\n", headers={"Transfer-Encoding": "chunked", "Content-Length": None}).status, 411)
+    check("a cut body", ask(port, "POST", "/check", body=b"town=", headers={"Content-Length": "50"}).status, 400)
     for kind in ("text/plain", "application/json", "multipart/form-data; boundary=x", None, ""):
-        check("type %r" % kind, ask(port, "POST", "/", body=b"town=", headers={"Content-Type": kind}).status, 415)
+        check("type %r" % kind, ask(port, "POST", "/check", body=b"town=", headers={"Content-Type": kind}).status, 415)
     for body in (b"town=%ff", b"town=\xff", b"&" * 100 + b"a=1&" * 100, b"town=%F0%9F"):
-        check("body %r" % body[:12], ask(port, "POST", "/", body=body).status, 400)
+        check("body %r" % body[:12], ask(port, "POST", "/check", body=body).status, 400)
 
 
 def methods(check, port):
     for method in ("PUT", "DELETE", "OPTIONS", "TRACE", "CONNECT", "PATCH", "get", "FOO", "\u00e9"):
         check("method " + method, ask(port, method, "/").status, 501)
     check("GET of what takes POST", (ask(port, "GET", "/spool").status, ask(port, "HEAD", "/check").status), (405, 405))
-    check("POST of a file", ask(port, "POST", "/desk.js", body=b"").status, 404)
+    check("POST of what takes GET", [ask(port, "POST", path, body=b"").status for path in ("/", "/desk.js", "/none")], [405, 405, 405])
     check("HTTP/2", ask(port, "GET", "/", version="HTTP/2.0").status, 505)
     check("a long address", ask(port, "GET", "/" + "a" * 70000).status, 414)
     check("many headers", ask(port, "GET", "/", headers={"X-%d" % at: "1" for at in range(200)}).status, 431)
@@ -214,9 +219,9 @@ def sentences(check, port):
     check("letters outside ASCII", "Tromso" in said(**{**LEEDS, "town": "Troms\u00f8"})["town"], True)
     check("a clock under 15 minutes", "+01:00" in said(**{**LEEDS, "zone": "", "clock": "+1"})["clock"], True)
     check("a Ramadan sheet of 31 rows", list(said(**{**LEEDS, "ramadan": "imsak 10, shift 0"})), ["month"])
-    answer = ask(port, "POST", "/", body=form(town="<script>alert(1)</script>", month="2026-13"))
+    answer = show(port, town="<script>alert(1)</script>", month="2026-13")
     root, faults = document.read(answer.text)
-    check("faults in the page", (answer.status, faults), (422, []))
+    check("faults in the page", (answer.status, faults), (200, []))
     check("faults for a screen reader", document.form_faults(root), [])
     summary = root.one("div", id="faults")
     check("the summary is an alert with the focus", (summary.attributes["role"], "autofocus" in summary.attributes), ("alert", True))
@@ -233,7 +238,7 @@ def hidden(root, action, name):
 
 def order_files(check, port, command, folder):
     """The pages of a form, and the files to keep: those that the commands write."""
-    answer = ask(port, "POST", "/", body=form(**LEEDS))
+    answer = show(port, **LEEDS)
     root, faults = document.read(answer.text)
     check("the pages", (answer.status, faults, document.form_faults(root)), (200, [], []))
     text = hidden(root, "/download", "text")
@@ -281,8 +286,17 @@ def spooled(check, port, spool, shown, orders):
     there = sorted((path.name, path.read_bytes()) for path in (spool / "in").iterdir() if not path.name.startswith("."))
     check("the spool has the orders", there, [("leeds-2026-10-%d.order" % at, order) for at, order in enumerate(orders, 1)])
     again = ask(port, "POST", "/spool", body=form(text=text, token=token))
-    check("a second press", (again.status, "before" in again.text), (409, True))
-    check("the form keeps its values", 'value="Leeds"' in again.text, True)
+    check("a second press", (again.status, "pressed before" in again.text), (409, True))
+    shown = document.read(again.text)[0]
+    check("the form keeps its values", shown.one("input", id="town").attributes["value"], "Leeds")
+    check("what is there is told", [line.text for line in shown.one("ul", id="doubts").all("li")],
+          ["leeds-2026-10-%d.order is in the spool before this: waiting to be taken." % at for at in (1, 2)])
+    unticked = ask(port, "POST", "/spool", body=form(text=text, token=hidden(shown, "/spool", "token")))
+    check("again without the tick", (unticked.status, "tick the box" in unticked.text), (409, True))
+    token = hidden(document.read(unticked.text)[0], "/spool", "token")
+    waits = ask(port, "POST", "/spool", body=form(text=text, token=token, anyway="yes"))
+    check("again with the tick, while the first waits", (waits.status, "waits in the spool already" in waits.text), (409, True))
+    check("the spool has no more", len(list((spool / "in").iterdir())), 2)
     told = document.read(ask(port, "GET", sent.headers["location"]).text)[0]
     check("what went in is told", told.one("div", class_="notice").text, "In the spool: leeds-2026-10-1.order, leeds-2026-10-2.order.")
     jobs = document.read(ask(port, "GET", "/jobs").text)[0]
@@ -341,7 +355,7 @@ def changed(check, port, count, seed):
     dice = random.Random(seed)
     body, values = form(**LEEDS), [b"<", b"'", b"\xff", b"\0", b"%00", b"\r\n", b"9" * 300, b":", b" ", b"\xe2\x80\xae"]
     plain = [request(port, "GET", "/"), request(port, "GET", "/?open=durham.text"), request(port, "POST", "/check", body=body),
-             request(port, "POST", "/", body=form(town="x", month="2026-10")), request(port, "POST", "/download", body=form(text="town: x\n", file="x.order")),
+             request(port, "GET", "/?town=x&month=2026-10"), request(port, "POST", "/download", body=form(text="town: x\n", file="x.order")),
              request(port, "POST", "/spool", body=form(text="town: x\n", token="y"))]
     wrong = 0
     for _ in range(count):
@@ -369,7 +383,7 @@ def odd_values(check, port, count, seed):
 
 def without_spool(check, command, folder):
     desk = Desk(command, folder, None)
-    answer = ask(desk.port, "POST", "/", body=form(**LEEDS))
+    answer = show(desk.port, **LEEDS)
     check("without a spool there is no button for it", 'action="/spool"' in answer.text or "--spool" not in answer.text, False)
     check("nothing goes into none", ask(desk.port, "POST", "/spool", body=form(text="", token="")).status, 404)
     busy = subprocess.run([command, "desk", "--port", str(desk.port)], stdout=subprocess.PIPE, stderr=subprocess.PIPE, check=False)

@@ -43,4 +43,4 @@ def whole(values, faults, zones):
     more = element("details", element("summary", "More choices"), [group(part, values, faults) for part in form.MORE], open=more_used)
     return joined(summary(faults), element(
         "form", [group(part, values, faults) for part in form.MAIN], more, zone_list(zones),
-        element("p", element("button", "Show the pages", type="submit", class_="main")), id="order", method="post", action="/", novalidate=True))
+        element("p", element("button", "Show the pages", type="submit", class_="main")), id="order", method="get", action="/"))

@@ -80,9 +80,8 @@ def pairs(body):
         raise safety.Refused(400, "The body is no form in UTF-8 of at most %d fields." % MOST_FIELDS) from None
 
 
-def values(given):
+def values(sent):
     """The form's values by field, each on one line and without the blanks around it."""
-    sent = dict(given)
     return {field.name: " ".join(sent.get(field.id, "").split()) for field in FIELDS}
 
 

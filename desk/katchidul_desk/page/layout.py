@@ -40,28 +40,29 @@ def downloads(text, names):
     return element("form", element("h3", "Files to keep"), hidden(text), element("p", buttons, class_="buttons"), method="post", action="/download")
 
 
-def printing(text, timetable, token, spool):
-    """The button that puts the orders into the spool. A wrong time on a page has to be allowed by the clerk first."""
-    if spool is None:
-        return element("p", "No spool is named, so nothing can be printed from here. Start the desk with --spool FOLDER.")
+def no_printing(why):
+    return element("section", element("h3", "Print"), element("p", why))
+
+
+def printing(text, count, token, doubts):
+    """The button that puts the orders into the spool. What is in doubt has to be allowed by the clerk first."""
     allow = None
-    if timetable.wrong:
-        box = element("input", type="checkbox", id="anyway", name="anyway", value="yes")
-        allow = element("p", box, element("label", "Print these pages with the wrong times that are listed above", for_="anyway"))
-    names = counted(len(timetable.shown), "order")
+    if doubts:
+        box = element("input", type="checkbox", id="anyway", name="anyway", value="yes", aria_describedby="doubts")
+        label = element("label", "Print the pages all the same", for_="anyway")
+        allow = joined(element("ul", [element("li", doubt) for doubt in doubts], id="doubts"), element("p", box, " ", label))
     return element(
         "form", element("h3", "Print"), hidden(text), element("input", type="hidden", name="token", value=token), allow,
-        element("p", element("button", "Put %s into the spool" % names, type="submit", class_="main")), method="post", action="/spool")
+        element("p", element("button", "Put %s into the spool" % counted(count, "order"), type="submit", class_="main")), method="post", action="/spool")
 
 
-def pages(text, timetable, names, token, spool):
+def pages(timetable, downloads_part, printing_part, focused):
     """What the form made. Whatever the clerk has to know comes before the buttons."""
-    changed = element("p", "", id="changed", class_="wrong", role="status")
     groups = preview.grouped([timetable])
-    shown = element("div", preview.fragment([group._replace(notes=[], wrong=[]) for group in groups], 3), class_="preview")
     return element(
-        "section", element("h2", "The pages", id="pages-title", tabindex=-1, autofocus=True), changed, [preview.told(group, 3) for group in groups],
-        downloads(text, names), printing(text, timetable, token, spool), shown, id="pages", aria_labelledby="pages-title")
+        "section", element("h2", "The pages", id="pages-title", tabindex=-1, autofocus=focused), element("p", id="changed", class_="wrong", role="status"),
+        [preview.told(group, 3) for group in groups], downloads_part, printing_part,
+        element("div", preview.fragment(groups, 3, False), class_="preview"), id="pages", aria_labelledby="pages-title")
 
 
 def room(spool, jobs):

@@ -1,5 +1,5 @@
-"""What each path of the page does. Only POST to /spool changes anything."""
-from urllib.parse import parse_qs, quote, urlsplit
+"""What each path of the page does. GET changes nothing, so a reload or a step back is safe; only POST to /spool does."""
+from urllib.parse import parse_qsl, quote, urlsplit
 
 from ..errors import DeskError
 from ..preview.markup import element
@@ -8,7 +8,9 @@ from . import answers, check, fields_html, files, form, jobs, layout, opened, sa
 from .tokens import Tokens
 from .work import contents, made_of
 
-USED = "these pages went into the spool before, or the desk was started again since. Show the pages again to print them once more"
+USED = "this button was pressed before, or the desk was started again since. Look at the print room below before you press it again"
+UNTICKED = "nothing was printed: tick the box above the button if the pages are to be printed all the same"
+NO_SPOOL = "No spool is named, so nothing can be printed from here. Start the desk with --spool FOLDER."
 AREAS = ("Africa", "America", "Antarctica", "Asia", "Atlantic", "Australia", "Europe", "Indian", "Pacific")
 BLANK = dict.fromkeys((field.name for field in form.FIELDS), "")
 
@@ -24,35 +26,60 @@ class Page:
     def answer(self, method, target, body):
         """The answer to a request that safety let in."""
         path, query = split(target)
-        if method != "POST":
-            if path == "/":
-                return self.first(query)
-            if path == "/jobs":
-                return answers.page(self.room() or "")
-            own = files.own(path[1:])
-            if own:
-                return answers.Answer(200, *own)
-        done = {"/": self.show, "/check": self.check, "/download": self.download, "/spool": self.put}.get(path)
-        if done is None:
-            return answers.sentence("There is no such page.", 404)
-        if method != "POST":
+        changing = {"/check": self.check, "/download": self.download, "/spool": self.put}.get(path)
+        if method == "POST":
+            return changing(dict(form.pairs(body))) if changing else answers.sentence("This path takes GET alone.", 405, Allow="GET, HEAD")
+        if changing:
             return answers.sentence("This path takes POST alone.", 405, Allow="POST")
-        return done(form.pairs(body))
+        if path == "/":
+            return self.first(query)
+        if path == "/jobs":
+            return answers.page(self.room() or "")
+        own = files.own(path[1:])
+        return answers.Answer(200, *own) if own else answers.sentence("There is no such page.", 404)
 
     # GET
 
     def first(self, query):
-        """The empty form, or one filled from a file of the folder."""
-        told, values = None, BLANK
-        if "open" in query:
-            name = query["open"][0]
+        """The empty form, one filled from a file of the folder, or a filled one with its pages."""
+        sent = dict(query)
+        if "open" in sent:
             try:
-                values = opened.filled(files.opened(self.folder, name))
+                return self.page(opened.filled(files.opened(self.folder, sent["open"])), {})
             except DeskError as why:
-                told = layout.notice(check.as_sentence(why))
-        elif "sent" in query:
-            told = layout.notice("In the spool: %s." % ", ".join(name[:100] for name in query["sent"][:form.MOST_FIELDS]), "status")
-        return self.page(values, {}, told)
+                return self.page(BLANK, {}, layout.notice(check.as_sentence(why)))
+        names = [value[:100] for name, value in query if name == "sent"]
+        if names:
+            return self.page(BLANK, {}, layout.notice("In the spool: %s." % ", ".join(names), "status"))
+        if any(field.id in sent for field in form.FIELDS):
+            return self.show(form.values(sent))
+        return self.page(BLANK, {})
+
+    def show(self, values, told=None, code=200):
+        """The pages of a filled form, or its faults."""
+        faults = check.faults(values)
+        if faults:
+            return self.page(values, faults, told)
+        text = form.text(values)
+        try:
+            timetable = made_of(text)
+        except DeskError as why:
+            return self.page(values, {}, layout.notice(check.as_sentence(why)))
+        printing = layout.no_printing(NO_SPOOL)
+        if self.spool:
+            printing = layout.printing(text, len(timetable.shown), self.tokens.new(), self.doubts(timetable))
+        # The focus goes to what is told, and else to the pages.
+        pages = layout.pages(timetable, layout.downloads(text, list(contents(timetable, text))), printing, told is None)
+        return self.page(values, {}, told, pages, code)
+
+    def doubts(self, timetable):
+        """Why the clerk should think again before printing: wrong times, or orders that are in the spool."""
+        names = {one.name for one in timetable.shown}
+        try:
+            there = [job for job in status(self.spool) if job.name in names and job.state not in ("refused", "cancelled")]
+        except (SpoolError, OSError):
+            there = []
+        return timetable.wrong + ["%s is in the spool before this: %s." % (job.name, jobs.STATES.get(job.state, job.state)) for job in there]
 
     def room(self):
         """The spool's jobs, or why they can't be listed."""
@@ -60,7 +87,7 @@ class Page:
             return None
         try:
             return jobs.table(status(self.spool))
-        except (DeskError, SpoolError, OSError) as why:
+        except (SpoolError, OSError) as why:
             return element("p", check.as_sentence(why), role="status")
 
     def page(self, values, faults, told=None, pages=None, code=200):
@@ -70,26 +97,11 @@ class Page:
 
     # POST
 
-    def check(self, given):
-        faults = check.faults(form.values(given))
+    def check(self, sent):
+        faults = check.faults(form.values(sent))
         return answers.data({field.id: faults.get(field.name, "") for field in form.FIELDS})
 
-    def show(self, given):
-        """The pages of a filled form, or its faults."""
-        values = form.values(given)
-        faults = check.faults(values)
-        if faults:
-            return self.page(values, faults, code=422)
-        text = form.text(values)
-        try:
-            timetable = made_of(text)
-        except DeskError as why:
-            return self.page(values, {}, layout.notice(check.as_sentence(why)), code=422)
-        names = list(contents(timetable, text))
-        return self.page(values, {}, None, layout.pages(text, timetable, names, self.tokens.new(), self.spool))
-
-    def download(self, given):
-        sent = dict(given)
+    def download(self, sent):
         text, name = sent.get("text", ""), sent.get("file", "")
         try:
             made = contents(made_of(text), text).get(name)
@@ -97,33 +109,32 @@ class Page:
             return answers.sentence(check.as_sentence(why), 422)
         return answers.download(name, made()) if made else answers.sentence("There is no such file.", 404)
 
-    def put(self, given):
-        """Puts the orders into the spool, once for each preview."""
+    def put(self, sent):
+        """Puts the orders into the spool, once for each time that the pages were shown."""
         if self.spool is None:
-            return answers.sentence("No spool is named. Start the desk with --spool FOLDER.", 404)
-        sent = dict(given)
+            return answers.sentence(NO_SPOOL, 404)
         text, names = sent.get("text", ""), []
         try:
             timetable = made_of(text)
-            if timetable.wrong and sent.get("anyway") != "yes":
-                raise DeskError("the pages have wrong times, so they are not printed: tick the box that allows them, or change the order")
             if not self.tokens.use(sent.get("token", "")):
                 raise DeskError(USED)
+            if self.doubts(timetable) and sent.get("anyway") != "yes":
+                raise DeskError(UNTICKED)
             for one in timetable.shown:
                 names.append(submit(self.spool, one.name, one.order))
         except (DeskError, SpoolError, OSError) as why:
             # Of several orders some can be in the spool already.
-            there = "%s: in the spool. " % ", ".join(names) if names else ""
-            return self.page(form.from_text(text), {}, layout.notice(there + check.as_sentence(why)), code=409)
+            there = "In the spool: %s. " % ", ".join(names) if names else ""
+            return self.show(form.from_text(text), layout.notice(there + check.as_sentence(why)), 409)
         return answers.moved("/?" + "&".join("sent=" + quote(name, safe="") for name in names))
 
 
 def split(target):
-    """The path and the query of a request's target. Raises Refused for one that is neither."""
+    """The path of a request's target, and its query's names and values. Raises Refused for a target that is none of this page's."""
     try:
         parts = urlsplit(target)
         if parts.scheme or parts.netloc or not target.startswith("/"):
             raise ValueError
-        return parts.path, parse_qs(parts.query, errors="strict", max_num_fields=form.MOST_FIELDS)
+        return parts.path, parse_qsl(parts.query, keep_blank_values=True, errors="strict", max_num_fields=form.MOST_FIELDS)
     except ValueError:
         raise safety.Refused(400, "The address is none of this page's.") from None

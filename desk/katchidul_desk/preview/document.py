@@ -64,19 +64,19 @@ def overview(orders):
     return element("table", element("thead", element("tr", heads)), element("tbody", list(map(facts, orders))), class_="overview")
 
 
-def timetable(group, number, level):
+def timetable(group, number, level, with_told):
     """The section of one timetable: its orders, what to know and its picture, then its pages."""
     title = title_of(group)
     sections = [page_section(order, at, page, level + 1) for order in group.orders for at, page in enumerate(order.pages, 1)]
     caption = element("figcaption", "The times of all rows by the clock. The night, from maghrib to sunrise, is shaded.")
     return element(
-        "section", element("h%d" % level, title), overview(group.orders), told(group, level + 1),
+        "section", element("h%d" % level, title), overview(group.orders), told(group, level + 1) if with_told else None,
         element("figure", chart.picture(group.days, "The times of " + title, number), caption), sections, class_="timetable")
 
 
-def fragment(groups, level):
-    """The timetables, their headings of this level."""
-    return joined(flat_dots(), [timetable(group, number, level) for number, group in enumerate(groups, 1)])
+def fragment(groups, level, with_told):
+    """The timetables, their headings of this level, with or without what the clerk has to know."""
+    return joined(flat_dots(), [timetable(group, number, level, with_told) for number, group in enumerate(groups, 1)])
 
 
 def document(groups):
@@ -84,5 +84,5 @@ def document(groups):
     head = element(
         "head", element("meta", charset="utf-8"), element("meta", name="viewport", content="width=device-width, initial-scale=1"),
         element("title", "; ".join(map(title_of, groups)) + ": preview"), element("style", Markup(STYLE.read_text("utf-8"))))
-    body = element("body", element("main", fragment(groups, 1), class_="preview"))
+    body = element("body", element("main", fragment(groups, 1, True), class_="preview"))
     return "<!DOCTYPE html>\n" + element("html", head, body, lang="en") + "\n"
