@@ -218,6 +218,9 @@ def sentences(check, port):
     check("a place", list(said(**{**LEEDS, "place": "91, 0"})), ["place"])
     check("letters outside ASCII", "Tromso" in said(**{**LEEDS, "town": "Troms\u00f8"})["town"], True)
     check("a clock under 15 minutes", "+01:00" in said(**{**LEEDS, "zone": "", "clock": "+1"})["clock"], True)
+    check("as a text has it", said(**{**LEEDS, "zone": "", "clock": "clock: +01:00", "place": "Place: 53.8008, -1.5491"}), {})
+    check("a town of 41 letters", list(said(**{**LEEDS, "town": "a" * 41})), ["town"])
+    check("a range while others are blank", said(clock="900")["clock"].startswith("900 is out of range"), True)
     check("a Ramadan sheet of 31 rows", list(said(**{**LEEDS, "ramadan": "imsak 10, shift 0"})), ["month"])
     answer = show(port, town="<script>alert(1)</script>", month="2026-13")
     root, faults = document.read(answer.text)
@@ -233,7 +236,8 @@ def sentences(check, port):
 
 
 def hidden(root, action, name):
-    return root.one("form", action=action).one("input", name=name).attributes["value"]
+    """A hidden value as a browser sends it back, its lines ended by carriage return and newline."""
+    return root.one("form", action=action).one("input", name=name).attributes["value"].replace("\n", "\r\n")
 
 
 def order_files(check, port, command, folder):
@@ -242,7 +246,7 @@ def order_files(check, port, command, folder):
     root, faults = document.read(answer.text)
     check("the pages", (answer.status, faults, document.form_faults(root)), (200, [], []))
     text = hidden(root, "/download", "text")
-    (folder / "made.text").write_text(text)
+    (folder / "made.text").write_text(text.replace("\r\n", "\n"))
     subprocess.run([command, "make", folder / "made.text", "--out", folder / "made.order"], check=True, stderr=subprocess.DEVNULL)
     orders = [(folder / ("made-%d.order" % at)).read_bytes() for at in (1, 2)]
     preview.check_orders(check, "the page's preview", root, orders)
@@ -255,7 +259,7 @@ def order_files(check, port, command, folder):
         check("order %d" % at, kept["%s-%d.order" % (stem, at)].body, orders[at - 1])
         written = subprocess.run([command, "brf", folder / ("made-%d.order" % at)], check=True, stdout=subprocess.PIPE).stdout
         check("BRF %d" % at, kept["%s-%d.brf" % (stem, at)].body, written)
-    check("the text", kept[stem + ".text"].text, text)
+    check("the text", kept[stem + ".text"].text, text.replace("\r\n", "\n"))
     page = preview.check_document(check, "the kept page", kept[stem + ".html"].text, orders)
     check("the kept page has no form", list(page.all("form")), [])
     for file in ("../leeds.order", "", "leeds.order"):
@@ -289,6 +293,7 @@ def spooled(check, port, spool, shown, orders):
     check("a second press", (again.status, "pressed before" in again.text), (409, True))
     shown = document.read(again.text)[0]
     check("the form keeps its values", shown.one("input", id="town").attributes["value"], "Leeds")
+    check("and its choices", [one.text for one in shown.one("select", id="method").all("option") if "selected" in one.attributes], ["Muslim World League"])
     check("what is there is told", [line.text for line in shown.one("ul", id="doubts").all("li")],
           ["leeds-2026-10-%d.order is in the spool before this: waiting to be taken." % at for at in (1, 2)])
     unticked = ask(port, "POST", "/spool", body=form(text=text, token=hidden(shown, "/spool", "token")))
@@ -299,6 +304,8 @@ def spooled(check, port, spool, shown, orders):
     check("the spool has no more", len(list((spool / "in").iterdir())), 2)
     told = document.read(ask(port, "GET", sent.headers["location"]).text)[0]
     check("what went in is told", told.one("div", class_="notice").text, "In the spool: leeds-2026-10-1.order, leeds-2026-10-2.order.")
+    untrue = document.read(ask(port, "GET", "/?sent=york.order").text)[0]
+    check("what did not go in is not told", list(untrue.all("div", class_="notice")), [])
     jobs = document.read(ask(port, "GET", "/jobs").text)[0]
     rows = [[cell.text for cell in row.all() if cell.name in ("td", "th")] for row in jobs.one("tbody").all("tr")]
     check("the jobs", [row[1:4] for row in rows], [["durham.order", "Durham", "printing"]] + [

@@ -2,9 +2,8 @@
 import os
 import pathlib
 import signal
-import sys
 
-from .. import programs
+from .. import programs, streams
 from ..errors import DeskError, Unreadable
 from .routes import Page
 from .server import Server
@@ -70,14 +69,14 @@ def stop(*_):
 
 def main(words):
     if "--help" in words or "-h" in words:
-        print(HELP)
+        streams.write(streams.in_terminals_letters(HELP + "\n"))
         return 0
     serving = server(words)
     signal.signal(signal.SIGTERM, stop)
     with serving:
-        print("The desk is at http://127.0.0.1:%d/ in the browser of this computer. Ctrl-C ends it." % serving.server_port, flush=True)
+        streams.write(b"The desk is at http://127.0.0.1:%d/ in the browser of this computer. Ctrl-C ends it.\n" % serving.server_port)
         try:
             serving.serve_forever()
         except KeyboardInterrupt:
-            print("The desk has ended.", file=sys.stderr)
+            streams.say("The desk has ended.")
     return 0

@@ -80,9 +80,19 @@ def pairs(body):
         raise safety.Refused(400, "The body is no form in UTF-8 of at most %d fields." % MOST_FIELDS) from None
 
 
+def one_line(value):
+    """A value without the blanks around it, its own as one each."""
+    return " ".join(value.split())
+
+
+def value(field, sent):
+    """A field's value. The desk's sentences say what to write as a text has it, clock: +01:00, so that is understood too."""
+    return re.sub("^%s ?: ?" % field.name, "", one_line(sent.get(field.id, "")), flags=re.IGNORECASE)
+
+
 def values(sent):
-    """The form's values by field, each on one line and without the blanks around it."""
-    return {field.name: " ".join(sent.get(field.id, "").split()) for field in FIELDS}
+    """The form's values by field."""
+    return {field.name: value(field, sent) for field in FIELDS}
 
 
 def options(filled):
@@ -95,7 +105,12 @@ def text(filled):
     return "".join("%s: %s\n" % pair for pair in options(filled))
 
 
+def sent_text(sent):
+    """The text that a page sent back. A browser ends its lines by carriage return and newline, as HTML asks it to."""
+    return sent.get("text", "").replace("\r\n", "\n")
+
+
 def from_text(written):
     """The form's values for a text that `text` made; what has no field is left out."""
     lines = dict(line.partition(": ")[::2] for line in written.split("\n"))
-    return {field.name: lines.get(field.name, "") for field in FIELDS}
+    return {field.name: one_line(lines.get(field.name, "")) for field in FIELDS}

@@ -30,11 +30,11 @@ def summary(jobs):
     return "%s: %s." % (counted(len(jobs), "order"), told) if jobs else "The spool has no orders."
 
 
-def table(jobs):
-    """The jobs, and above them their summary, which a screen reader says when it changes."""
-    told = element("p", summary(jobs), id="jobs-told", role="status")
-    if not jobs:
-        return told
+def table(jobs, fault=None):
+    """A sentence and a table. Both elements are there without jobs too: the script then changes what is in them, and neither the focus
+    nor a screen reader's place is lost."""
+    told = element("p", fault or summary(jobs), id="jobs-told", role="status")
     heads = element("thead", element("tr", [element("th", name, scope="col") for name in HEADS]))
-    rows = element("table", heads, element("tbody", [row(job) for job in jobs]))
-    return joined(told, element("div", rows, class_="scroll", tabindex=0, role="region", aria_label="Table of the spool's orders"))
+    rows = element("table", heads, element("tbody", [row(job) for job in jobs])) if jobs else None
+    return joined(told, element("div", rows, id="jobs-table", class_="scroll", hidden=not jobs, tabindex=0, role="region",
+                                aria_label="Table of the spool's orders"))

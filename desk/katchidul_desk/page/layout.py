@@ -17,8 +17,10 @@ def section(name, title, *children):
     return element("section", element("h2", title, id=name + "-title"), children, id=name, aria_labelledby=name + "-title")
 
 
-def notice(text, kind="alert"):
-    return element("div", element("p", text), class_="notice", role=kind, tabindex=-1, autofocus=True) if text else None
+def notice(text, kind="alert", link=None):
+    """What has happened, with the focus on it; `link` leads to the button that it is about."""
+    way = element("p", element("a", "Go to the button", href=link)) if link else None
+    return element("div", element("p", text), way, class_="notice", role=kind, tabindex=-1, autofocus=True)
 
 
 def opening(names):
@@ -53,7 +55,7 @@ def printing(text, count, token, doubts):
         allow = joined(element("ul", [element("li", doubt) for doubt in doubts], id="doubts"), element("p", box, " ", label))
     return element(
         "form", element("h3", "Print"), hidden(text), element("input", type="hidden", name="token", value=token), allow,
-        element("p", element("button", "Put %s into the spool" % counted(count, "order"), type="submit", class_="main")), method="post", action="/spool")
+        element("p", element("button", "Put %s into the spool" % counted(count, "order"), type="submit", class_="main")), id="print", method="post", action="/spool")
 
 
 def pages(timetable, downloads_part, printing_part, focused):
@@ -70,7 +72,7 @@ def room(spool, jobs):
     if spool is None:
         return None
     again = element("p", element("a", "Look again", href="/#room"))
-    return section("room", "The print room", element("p", "The spool is %s." % spool), element("div", jobs, id="jobs"), again)
+    return section("room", "The print room", element("p", "The spool is %s." % spool), jobs, again)
 
 
 def whole(title, *parts):

@@ -2,7 +2,6 @@
 from urllib.parse import parse_qsl, quote, urlsplit
 
 from ..errors import DeskError
-from ..preview.markup import element
 from ..spool import SpoolError, status, submit
 from . import answers, check, fields_html, files, form, jobs, layout, opened, safety
 from .tokens import Tokens
@@ -48,7 +47,8 @@ class Page:
                 return self.page(opened.filled(files.opened(self.folder, sent["open"])), {})
             except DeskError as why:
                 return self.page(BLANK, {}, layout.notice(check.as_sentence(why)))
-        names = [value[:100] for name, value in query if name == "sent"]
+        # Only what is true: a link of another page may say anything.
+        names = [job.name for job in self.jobs() if ("sent", job.name) in query]
         if names:
             return self.page(BLANK, {}, layout.notice("In the spool: %s." % ", ".join(names), "status"))
         if any(field.id in sent for field in form.FIELDS):
@@ -75,20 +75,24 @@ class Page:
     def doubts(self, timetable):
         """Why the clerk should think again before printing: wrong times, or orders that are in the spool."""
         names = {one.name for one in timetable.shown}
-        try:
-            there = [job for job in status(self.spool) if job.name in names and job.state not in ("refused", "cancelled")]
-        except (SpoolError, OSError):
-            there = []
+        there = [job for job in self.jobs() if job.name in names and job.state not in ("refused", "cancelled")]
         return timetable.wrong + ["%s is in the spool before this: %s." % (job.name, jobs.STATES.get(job.state, job.state)) for job in there]
 
+    def jobs(self):
+        """The spool's jobs; none if there is no spool to read."""
+        try:
+            return status(self.spool) if self.spool else []
+        except (SpoolError, OSError):
+            return []
+
     def room(self):
-        """The spool's jobs, or why they can't be listed."""
+        """The spool's jobs as HTML, or why they can't be listed."""
         if self.spool is None:
             return None
         try:
             return jobs.table(status(self.spool))
         except (SpoolError, OSError) as why:
-            return element("p", check.as_sentence(why), role="status")
+            return jobs.table([], check.as_sentence(why))
 
     def page(self, values, faults, told=None, pages=None, code=200):
         form_part = layout.section("form", "The order", layout.opening(files.listed(self.folder)), fields_html.whole(values, faults, self.zones))
@@ -102,7 +106,7 @@ class Page:
         return answers.data({field.id: faults.get(field.name, "") for field in form.FIELDS})
 
     def download(self, sent):
-        text, name = sent.get("text", ""), sent.get("file", "")
+        text, name = form.sent_text(sent), sent.get("file", "")
         try:
             made = contents(made_of(text), text).get(name)
         except DeskError as why:
@@ -113,7 +117,7 @@ class Page:
         """Puts the orders into the spool, once for each time that the pages were shown."""
         if self.spool is None:
             return answers.sentence(NO_SPOOL, 404)
-        text, names = sent.get("text", ""), []
+        text, names = form.sent_text(sent), []
         try:
             timetable = made_of(text)
             if not self.tokens.use(sent.get("token", "")):
@@ -125,7 +129,7 @@ class Page:
         except (DeskError, SpoolError, OSError) as why:
             # Of several orders some can be in the spool already.
             there = "In the spool: %s. " % ", ".join(names) if names else ""
-            return self.show(form.from_text(text), layout.notice(there + check.as_sentence(why)), 409)
+            return self.show(form.from_text(text), layout.notice(there + check.as_sentence(why), link="#print"), 409)
         return answers.moved("/?" + "&".join("sent=" + quote(name, safe="") for name in names))
 
 

@@ -3,10 +3,10 @@ import http.server
 import io
 import socket
 import socketserver
-import sys
 import threading
 import time
 
+from .. import streams
 from . import answers, safety
 
 SECONDS = 10
@@ -63,7 +63,7 @@ class Handler(http.server.BaseHTTPRequestHandler):
         except OSError:
             raise
         except Exception as fault:  # pylint: disable=broad-except
-            print("katchidul desk: a request failed by a fault of this program (%s)" % type(fault).__name__, file=sys.stderr)
+            streams.say("katchidul: a request was not answered, by a fault of the desk (%s)" % type(fault).__name__)
             return answers.sentence("The desk could not answer, by a fault of its own.", 500)
 
     def body(self):

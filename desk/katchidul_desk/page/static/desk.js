@@ -40,16 +40,19 @@ function typed(event) {
 }
 
 async function look() {
-  const jobs = document.getElementById("jobs");
-  if (!jobs || document.hidden) return;
+  const told = document.getElementById("jobs-told");
+  const table = document.getElementById("jobs-table");
+  if (!told || document.hidden) return;
   try {
     const answer = await fetch("/jobs");
-    const text = await answer.text();
-    // Only what has changed is put in: a screen reader that reads the table is not sent back to its start.
-    if (answer.ok && text !== jobs.dataset.last) {
-      if (jobs.dataset.last !== undefined) jobs.innerHTML = text;
-      jobs.dataset.last = text;
-    }
+    if (!answer.ok) return;
+    const fresh = new DOMParser().parseFromString(await answer.text(), "text/html");
+    const freshTold = fresh.getElementById("jobs-told");
+    const freshTable = fresh.getElementById("jobs-table");
+    // Only what has changed is put in, so a screen reader says no more than that.
+    if (told.textContent !== freshTold.textContent) told.textContent = freshTold.textContent;
+    if (table.innerHTML !== freshTable.innerHTML) table.innerHTML = freshTable.innerHTML;
+    table.hidden = freshTable.hidden;
   } catch (fault) {
     // As above.
   }
@@ -62,5 +65,4 @@ order.addEventListener("input", typed);
 order.addEventListener("focusout", (event) => {
   if (event.target.id && event.target.value) typed(event);
 });
-look();
 setInterval(look, 3000);
