@@ -232,7 +232,8 @@ def room(walk):
     browser.wait("return document.getElementById('pages')")
     browser.click("form[action='/spool'] button")
     told = browser.wait("const one = document.querySelector('.notice'); return one && one.innerText")
-    walk.check("a second press is told", str(told)[:24], "Nothing was printed: tic")
+    # Which of the two depends on whether the browser kept the page or asked for it again.
+    walk.check("a second press is told", str(told).startswith(("Nothing was printed", "This button was pressed before")), True)
     walk.check("the form keeps its method", browser.run("return document.getElementById('method').value"), "MuslimWorldLeague")
     walk.check("the box has its label", browser.ask("GET", "/element/%s/computedlabel" % browser.find("#anyway")), "Print the pages all the same")
     walk.check("the order is there once", [path.name for path in (walk.spool / "in").iterdir()], ["durham-2026-06.order"])

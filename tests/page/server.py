@@ -97,7 +97,7 @@ def folders(folder):
     texts.mkdir()
     for name in ("in", "jobs", "done", "held", "refused"):
         (spool / name).mkdir(parents=True)
-    (folder / "secret.text").write_text("town: Secret\n")
+    (folder / "secret.text").write_text((preview.EXAMPLES / "durham-clock.text").read_text().replace("town: Durham", "town: Secret"))
     (texts / "durham.text").write_bytes((preview.EXAMPLES / "durham-clock.text").read_bytes())
     (texts / "durham.order").write_bytes((preview.EXAMPLES / "durham-clock.order").read_bytes())
     (texts / "<b>.text").write_text("town: <b>\n")

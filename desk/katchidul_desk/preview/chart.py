@@ -154,11 +154,17 @@ def described(days):
     return said + (" %s without times." % words.counted(refused, "refused day") if refused else "")
 
 
-def picture(days, title, number):
-    """The picture of days that follow one another, or a sentence when none of them has times. `number` makes its ids its own."""
+def figure(days, title, number):
+    """The picture with its caption, or a sentence when no day has times."""
     parts = stretches(days)
     if not parts:
         return element("p", "No day of these rows has times, so there is no picture.")
+    caption = element("figcaption", "The times of all rows by the clock. The night, from maghrib to sunrise, is shaded.")
+    return element("figure", picture(days, parts, title, number), caption)
+
+
+def picture(days, parts, title, number):
+    """The picture of days that follow one another. `number` makes its ids its own."""
     scale = Scale(days)
     lines = [line(scale, days, stretch, name) for stretch in parts for name in days[stretch[0]].moments]
     drawn = joined(

@@ -68,10 +68,9 @@ def timetable(group, number, level, with_told):
     """The section of one timetable: its orders, what to know and its picture, then its pages."""
     title = title_of(group)
     sections = [page_section(order, at, page, level + 1) for order in group.orders for at, page in enumerate(order.pages, 1)]
-    caption = element("figcaption", "The times of all rows by the clock. The night, from maghrib to sunrise, is shaded.")
     return element(
         "section", element("h%d" % level, title), overview(group.orders), told(group, level + 1) if with_told else None,
-        element("figure", chart.picture(group.days, "The times of " + title, number), caption), sections, class_="timetable")
+        chart.figure(group.days, "The times of " + title, number), sections, class_="timetable")
 
 
 def fragment(groups, level, with_told):
