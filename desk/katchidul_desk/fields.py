@@ -32,9 +32,9 @@ PRESETS = [
     Preset("Other", 0.0, 0.0, 0, "Nearest"),
 ]
 # The usual short names of methods. A name that elsewhere stands for other angles is not among them.
-SHORT = {"mwl": "MuslimWorldLeague", "egypt": "Egyptian", "egas": "Egyptian", "uisk": "Karachi", "makkah": "UmmAlQura", "mecca": "UmmAlQura",
-         "uqu": "UmmAlQura", "uae": "Dubai", "mcw": "MoonsightingCommittee", "moonsighting": "MoonsightingCommittee",
-         "isna": "NorthAmerica", "muis": "Singapore", "iran": "Tehran", "igut": "Tehran", "diyanet": "Turkey", "custom": "Other"}
+SHORT = {"MWL": "MuslimWorldLeague", "Egypt": "Egyptian", "EGAS": "Egyptian", "UISK": "Karachi", "Makkah": "UmmAlQura", "Mecca": "UmmAlQura",
+         "UQU": "UmmAlQura", "MCW": "MoonsightingCommittee", "Moonsighting": "MoonsightingCommittee", "ISNA": "NorthAmerica",
+         "MUIS": "Singapore", "Diyanet": "Turkey"}
 
 # What a missing tag stands for: a text, or one of these four.
 REFUSED, THE_METHODS, THE_OTHERS, NONE = object(), object(), object(), object()

@@ -118,7 +118,7 @@ def field_lines():
 
 
 def make_help():
-    short = ", ".join("%s %s" % (name.upper() if len(name) < 5 else name.capitalize(), method) for name, method in SHORT.items())
+    short = ", ".join("%s %s" % pair for pair in SHORT.items())
     return MAKE % {"fields": "\n".join(field_lines()), "short": textwrap.fill(short, 100, subsequent_indent="  ")}
 
 

@@ -7,6 +7,7 @@ from . import orders, streams, zones
 from .errors import DeskError, Refused, Unreadable
 from .messages import Refusal
 from .reading import LONGEST, read
+from .wording import shown
 
 
 class Given(NamedTuple):
@@ -50,7 +51,7 @@ def one(arguments, command):
 
 
 def from_file(path, options):
-    data, name = streams.read(path), "standard input" if path == "-" else os.path.basename(path)
+    data, name = streams.read(path), "standard input" if path == "-" else shown(os.path.basename(path))
     if data.startswith((codecs.BOM_UTF16_LE, codecs.BOM_UTF16_BE)):
         raise DeskError("%s is a text in UTF-16; save it as UTF-8" % name)
     # The length of a field begins with a zero byte, and no text has one.

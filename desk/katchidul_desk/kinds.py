@@ -163,19 +163,20 @@ class Degrees:
 
 
 class Choice:
-    """A number that stands for a name; the text may have either, or both. `short` are other names, plain, with the one they mean."""
+    """A number that stands for a name; the text may have either, or both. `short` are other names with the one they mean."""
 
     def __init__(self, *names, first=0, short=None):
         self.names = dict(enumerate(names, first))
         self.takes = ", ".join("%d %s" % pair for pair in self.names.items())
         self.numbers = {plain(name): number for number, name in self.names.items()}
-        self.numbers.update({other: self.numbers[plain(name)] for other, name in (short or {}).items()})
+        self.numbers.update({plain(other): self.numbers[plain(name)] for other, name in (short or {}).items()})
+        self.known = [*names, *(short or {})]
 
     def write(self, text, lengths):
         digits, name = re.fullmatch(r"([0-9]*)(.*)", text, re.DOTALL).groups()
         named = self.numbers.get(plain(name))
         if not text or name and named is None:
-            raise Unreadable("takes %s%s" % (self.takes, did_you_mean(name, self.names.values())))
+            raise Unreadable("takes %s%s" % (self.takes, did_you_mean(name, self.known)))
         number = whole(digits) if digits else named
         if name and number != named:
             raise Unreadable("%s is %d" % (self.names[named], named))

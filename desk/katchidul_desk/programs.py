@@ -8,11 +8,11 @@ import pathlib
 import re
 import shutil
 import subprocess
-import sys
 from typing import NamedTuple, Optional
 
 from .errors import ProgramError
 from .messages import Refusal
+from .streams import say
 
 NAMES = ("sheet", "cells", "wear", "week")
 PACKAGE = pathlib.Path(__file__).resolve().parent
@@ -111,8 +111,3 @@ def prove(root, name, checked):
     if proof.returncode != 0:
         raise ProgramError("the program %s is not proved, so nothing is printed; the lines above say what rt found" % name)
     begun.replace(checked)
-
-
-def say(line):
-    if sys.stderr is not None:
-        print(line, file=sys.stderr, flush=True)

@@ -51,7 +51,7 @@ def parsed(text):
         town, header, *lines = text.decode("ascii").split("\n")[:-1]
         columns = tuple(header.split(" ")[1:])
         return Sheet(town, columns, tuple(parsed_row(line, columns) for line in lines))
-    except (ValueError, TypeError):
+    except ValueError:
         raise ProgramError("the program sheet printed what is no sheet") from None
 
 
@@ -69,6 +69,9 @@ def parsed_row(line, columns):
 
 def instant(date, text):
     """+0T05:12:00, days from the row's date and the time of day, in UTC."""
-    days, hour, minute, second = map(int, TIME.fullmatch(text).groups())
+    parts = TIME.fullmatch(text)
+    if not parts:
+        raise ValueError("a time is written +0T05:12:00")
+    days, hour, minute, second = map(int, parts.groups())
     time = datetime.time(hour, minute, second, tzinfo=datetime.timezone.utc)
     return datetime.datetime.combine(date, time) + datetime.timedelta(days)

@@ -4,6 +4,7 @@ import stat
 import sys
 
 from .errors import DeskError
+from .wording import shown
 
 # Over any text that makes an order. It bounds what is read of a device without an end.
 MOST = 65536
@@ -122,8 +123,8 @@ def has_letters(text):
 
 
 def say(line):
-    """A line for the person at the desk, on standard error."""
+    """A line for the person at the desk, on standard error. A file's name in it can't command the terminal."""
     try:
-        os.write(2, (line + "\n").encode(getattr(sys.stderr, "encoding", None) or "ascii", "backslashreplace"))
+        os.write(2, (shown(line) + "\n").encode(getattr(sys.stderr, "encoding", None) or "ascii", "backslashreplace"))
     except OSError:
         pass

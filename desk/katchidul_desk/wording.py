@@ -21,17 +21,20 @@ def escaped(value):
     return re.sub("^ | $", r"\\x20", text)
 
 
+def shown(text):
+    """A text without anything that a terminal would obey."""
+    return "".join(letter if letter.isprintable() else escaped(as_bytes(letter)) for letter in text)
+
+
 def quoted(text):
-    """A text for a message: shortened, and without anything that a terminal would obey."""
-    short = text if len(text) <= LONGEST_QUOTE else text[:LONGEST_QUOTE] + "..."
-    shown = "".join(letter if letter.isprintable() else escaped(as_bytes(letter)) for letter in short)
-    return "'%s'" % shown
+    """A text for a message, shortened."""
+    return "'%s'" % shown(text if len(text) <= LONGEST_QUOTE else text[:LONGEST_QUOTE] + "...")
 
 
 def nearest(name, known):
     """The known name that a misspelt one is near to, or None."""
     by_plain = {plain(one): one for one in known}
-    near = difflib.get_close_matches(plain(name)[:LONGEST_QUOTE], by_plain, 1, 0.7)
+    near = difflib.get_close_matches(plain(name)[:LONGEST_QUOTE], by_plain, 1, 0.6)
     return by_plain[near[0]] if near else None
 
 

@@ -17,10 +17,12 @@ from .reading import changed, is_ramadan
 from .sheets import PRAYERS, Sheet, sheet
 from .wording import did_you_mean, listed, quoted, utc_offset
 
-LONGEST_NAME = 100
+# Folders of the time zone data whose clocks count leap seconds, or are there twice.
+OTHER_CLOCKS = ("right/", "posix/")
 ROWS_TAG = 3
 MOST_CLOCK = 840
 NOON = "dhuhr"
+IN_WORDS = {"middle": "the middle of the night", "tomorrow": "tomorrow's fajr"}
 # By a town's clock noon comes between these hours everywhere.
 NOON_HOURS = range(10, 16)
 
@@ -78,15 +80,17 @@ def split(order, name):
 
 def find(name):
     """The zone of a name such as Europe/London."""
+    try:
+        if not name.startswith(OTHER_CLOCKS):
+            return zoneinfo.ZoneInfo(name)
+    except (KeyError, OSError, ValueError):
+        pass
     known = zoneinfo.available_timezones()
     if not known:
         raise ZoneError("this computer has no time zone data; install the package tzdata (on Debian: apt install tzdata)")
-    if name not in known:
-        raise ZoneError("%s is no time zone%s" % (quoted(name), did_you_mean(name, known) or ", which is written as Europe/London"))
-    try:
-        return zoneinfo.ZoneInfo(name)
-    except (OSError, ValueError) as why:
-        raise ZoneError("the time zone data of %s can't be read: %s; install the package tzdata again" % (quoted(name), why)) from None
+    if name in known:
+        raise ZoneError("the time zone data of %s can't be read; install the package tzdata again" % quoted(name))
+    raise ZoneError("%s is no time zone%s" % (quoted(name), did_you_mean(name, known) or ", which is written as Europe/London"))
 
 
 def minutes(instant, zone):
@@ -208,5 +212,5 @@ def odd_noon_lines(made):
 def elsewhere_lines(made):
     for date, wrong in itertools.groupby(made.elsewhere, lambda one: one.date):
         wrong = list(wrong)
-        yield "%s: the clocks change before %s, which the pages don't have; the table shows %s" % (
-            date, listed(one.column for one in wrong), listed("%s for %s" % (one.shown, one.right) for one in wrong))
+        yield "%s, not on the pages: %s after the change, and the table shows %s" % (
+            date, listed("%s is %s" % (IN_WORDS.get(one.column, one.column), one.right) for one in wrong), listed(one.shown for one in wrong))

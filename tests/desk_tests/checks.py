@@ -6,6 +6,8 @@ import pathlib
 import random
 import subprocess
 import sys
+import tempfile
+import traceback
 
 sys.dont_write_bytecode = True
 ROOT = pathlib.Path(__file__).resolve().parent.parent.parent
@@ -25,10 +27,36 @@ def check(what, got, wanted):
             print("%s: %.500r, not %.500r" % (what, got, wanted))
 
 
-def run(*words, given=b"", **more):
-    """The command's exit status, standard output and standard error."""
-    ended = subprocess.run([COMMAND, *words], input=given, capture_output=True, check=False, **more)
-    return ended.returncode, ended.stdout, ended.stderr.decode("utf-8", "replace")
+def run(*words, given=b""):
+    """The command's exit status, standard output and standard error, in a process that begins as a copy of this one: Python is not
+    started anew, so that hundreds of runs take seconds."""
+    with tempfile.TemporaryFile() as source, tempfile.TemporaryFile() as printed, tempfile.TemporaryFile() as said:
+        source.write(given)
+        source.seek(0)
+        child = os.fork()
+        if child == 0:
+            for number, file in enumerate((source, printed, said)):
+                os.dup2(file.fileno(), number)
+            os._exit(ended(words))
+        status = os.waitstatus_to_exitcode(os.waitpid(child, 0)[1])
+        printed.seek(0)
+        said.seek(0)
+        return status, printed.read(), said.read().decode("utf-8", "replace")
+
+
+def ended(words):
+    from katchidul_desk import command
+    try:
+        return command.main([os.fspath(word) for word in words])
+    except BaseException:
+        traceback.print_exc()
+        return 99
+
+
+def started(*words, given=b"", **more):
+    """The same of the command as it is started by a person."""
+    run = subprocess.run([COMMAND, *words], input=given, capture_output=True, check=False, **more)
+    return run.returncode, run.stdout, run.stderr.decode("utf-8", "replace")
 
 
 def program(name, order):

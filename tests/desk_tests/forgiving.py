@@ -86,11 +86,12 @@ def places():
 def methods():
     names = [preset.name for preset in PRESETS]
     for short, name in SHORT.items():
-        for text in (short, short.upper()):
+        for text in (short, short.lower()):
             check("method: " + text, tags("method", text), [(6, bytes([names.index(name)]))])
     for text, name in [("MWL", "MuslimWorldLeague"), ("ISNA", "NorthAmerica"), ("Umm al-Qura", "UmmAlQura"), ("Muslim World League", "MuslimWorldLeague")]:
         check("method: " + text, tags("method", text), [(6, bytes([names.index(name)]))])
     why("method", "Muslim World Leage", "did you mean MuslimWorldLeague?")
+    why("method", "MLW", "did you mean MWL?")
     why("method", "Karachhi", "did you mean Karachi?")
     why("madhab", "Hanfi", "did you mean Hanafi?")
     why("minutes", "magrib 3", "did you mean maghrib?")
@@ -176,7 +177,7 @@ def forms():
     """A sentence at each field that is wrong, for a form."""
     check("no fault", orders.faults(BASE), {})
     wrong = orders.faults(BASE[:2] + [("place", "53,8, 1"), ("method", "MWX")])
-    check("two faults", (sorted(wrong), "did you mean" in wrong["method"]), (["method", "place"], False))
+    check("two faults", (sorted(wrong), wrong["method"].endswith("did you mean MWL?")), (["method", "place"], True))
     check("one field by two names", orders.faults(BASE + [("latitude", "91")]), {"latitude": "place and latitude both give the latitude; leave one out"})
     check("a fault of the order", orders.faults(at("91", "0")), {"latitude": "latitude: 91.0 is not -90 to 90 degrees"})
     check("a field that is missing", orders.faults(BASE[1:]), {"town": "town is missing"})

@@ -12,7 +12,7 @@ from katchidul_desk import orders, reading, zones
 from katchidul_desk.errors import Unreadable, ZoneError
 
 from . import checks
-from .checks import COMMAND, cases, check, program, run
+from .checks import cases, check, program, run
 from .tzif import Zone
 
 # Fifty zones with a town's place, and four whose clocks are across the date line from their place.
@@ -38,9 +38,9 @@ def towns(text):
 
 
 def instants(zone):
-    """Every 23 hours of the years, so that each hour of a day is met, and the seconds on both sides of each change."""
+    """Every 47 hours of the years, so that each hour of a day is met, and the seconds on both sides of each change."""
     first, last = calendar.timegm((YEARS[0], 1, 1, 0, 0, 0)), calendar.timegm((YEARS[-1] + 1, 1, 1, 0, 0, 0))
-    yield from range(first, last, 82800)
+    yield from range(first, last, 47 * 3600)
     for change in zone.changes(first, last):
         yield from (change - 1, change)
 
@@ -215,8 +215,8 @@ def wrong_rows():
 
 
 def names():
-    for name, part in [("Europe/Londn", "did you mean Europe/London?"), ("europe/london", "did you mean Europe/London?"), ("London", "as Europe/London"), ("", "as Europe/London"),
-                       ("../../etc/passwd", "is no time zone"), ("Europe", "is no time zone"), ("/etc/localtime", "is no time zone"), ("a" * 300, "is no time zone"),
+    for name, part in [("Europe/Londn", "did you mean Europe/London?"), ("europe/london", "did you mean Europe/London?"), ("London", "did you mean Europe/London?"), ("Chicago", "did you mean America/Chicago?"), ("Leeds", "as Europe/London"), ("", "as Europe/London"),
+                       ("../../etc/passwd", "is no time zone"), ("Europe", "is no time zone"), ("right/Europe/London", "is no time zone"), ("zone.tab", "is no time zone"), ("/etc/localtime", "is no time zone"), ("a" * 300, "is no time zone"),
                        ("Eur\0ope", "is no time zone"), ("\udcff", "is no time zone")]:
         try:
             said = str(zones.find(name))
@@ -224,11 +224,14 @@ def names():
             said = str(told)
         check("zone: %.40r" % name, part in said or said, True)
     known, zoneinfo.available_timezones = zoneinfo.available_timezones, set
+    zoneinfo.reset_tzpath(to=[])
+    zoneinfo.ZoneInfo.clear_cache()
     try:
         zones.find("Europe/London")
     except ZoneError as told:
         check("no time zone data", str(told), "this computer has no time zone data; install the package tzdata (on Debian: apt install tzdata)")
     zoneinfo.available_timezones = known
+    zoneinfo.reset_tzpath()
     order = an_order("6.3", "-10.78", ("month", "1950-06"))
     try:
         check("clocks with seconds", zones.split(order, "Africa/Monrovia").parts, "a fault")

@@ -1,6 +1,7 @@
 """A second reading of the system's time zone files, from RFC 8536 alone, with the rule in the footer."""
 import bisect
 import calendar
+import functools
 import pathlib
 import re
 import struct
@@ -43,26 +44,24 @@ class Zone:
         return self.offsets[at - 1] if at else self.first
 
     def by_rule(self, instant):
+        year = 1970 + instant // 31556952
+        changes = self.rule_changes(range(year - 1, year + 2))
+        return max(one for one in changes if one[0] <= instant)[1]
+
+    @functools.lru_cache(maxsize=None)
+    def rule_changes(self, years):
+        """(instant, offset from it on) by the rule; without summer time one from the beginning on."""
         found = RULE.fullmatch(self.rule).groups()
         standard = -seconds(*found[:4])
         if not found[4]:
-            return standard
+            return [(-2**62, standard)]
         summer = -seconds(*found[5:9]) if found[6] else standard + 3600
-        year = 1970 + instant // 31556952
-        changes = []
-        for near in (year - 1, year, year + 1):
-            changes.append((change(near, found[9]) - standard, summer))
-            changes.append((change(near, found[10]) - summer, standard))
-        return max((time, offset) for time, offset in changes if time <= instant)[1]
+        return [(change(year, found[9]) - standard, summer) for year in years] + [(change(year, found[10]) - summer, standard) for year in years]
 
     def changes(self, first, last):
-        """The instants between two years at which the clock may change."""
-        known = [time for time in self.times if first <= time <= last]
-        found = RULE.fullmatch(self.rule)
-        if found and found[10]:
-            for year in range(1970 + first // 31556952 - 1, 1970 + last // 31556952 + 2):
-                known += [change(year, found[10]) - 14 * 3600 + 1800 * at for at in range(57)] + [change(year, found[11]) - 14 * 3600 + 1800 * at for at in range(57)]
-        return known
+        """The instants between two at which the clock may change."""
+        by_rule = self.rule_changes(range(1970 + first // 31556952, 1970 + last // 31556952)) if self.rule else []
+        return [time for time in [*self.times, *(time for time, _ in by_rule)] if first <= time <= last]
 
 
 def change(year, rule):
