@@ -6,7 +6,7 @@
 
 typedef struct {
   text label, how_far;
-  bool done; /* its last page was finished meanwhile */
+  bool gone; /* its last page was finished meanwhile */
 } stopped;
 
 /* Takes a job in jobs/ out of work. The embosser drops what of it is not finished, and the log says how far it came. */
@@ -23,7 +23,7 @@ static course stop_job(room *r, uint32_t id, stopped *s) {
   course c = hear_count(r, id, &count);
   if (c != GOES_ON) return c;
   if (in_work) j = room_find(r, id);
-  if ((s->done = j == NULL)) return GOES_ON;
+  if ((s->gone = j == NULL)) return GOES_ON;
   katchidul_log now = job_restart(r->spool, j, count);
   if (now.number != 0) s->how_far = refusal(now.number, now.place);
   else s->how_far = text_of("%u of %u pages are finished", now.finished, pages_of(&j->order));
@@ -43,23 +43,31 @@ static course stop_and_move(room *r, uint32_t id, const char *to, const char *wh
   stopped s;
   course c = stop_job(r, id, &s);
   if (c != GOES_ON) return c;
-  if (s.done) say("%s is done already", s.label.text);
+  if (s.gone) say("%s is done already", s.label.text);
   else say_moved(r, id, s.label.text, "jobs", to, text_of("%s by the operator: %s", what, s.how_far.text).text);
   return GOES_ON;
 }
 
 /* ---- the three words */
 
+/* Whether there is such a job in jobs/. A folder whose order did not come is none, and goes. */
+static bool is_in_work(room *r, uint32_t id) {
+  static job read;
+  text why;
+  if (!job_is_in(r->spool, "jobs", id)) return false;
+  return job_read(r->spool, id, &read, &why) != JOB_UNCLAIMED || !drop_unclaimed(r->spool, id);
+}
+
 static course cancel(room *r, uint32_t id) {
   text label = text_of("job %u", id);
-  if (job_is_in(r->spool, "jobs", id)) return stop_and_move(r, id, "cancelled", "cancelled");
+  if (is_in_work(r, id)) return stop_and_move(r, id, "cancelled", "cancelled");
   if (job_is_in(r->spool, "held", id)) say_moved(r, id, label.text, "held", "cancelled", "cancelled by the operator when it was held");
   else say("job %u is not cancelled: it is neither in work nor held", id);
   return GOES_ON;
 }
 
 static course hold_asked(room *r, uint32_t id) {
-  if (job_is_in(r->spool, "jobs", id)) return stop_and_move(r, id, "held", "held");
+  if (is_in_work(r, id)) return stop_and_move(r, id, "held", "held");
   say("job %u is not held: it is not in work", id);
   return GOES_ON;
 }

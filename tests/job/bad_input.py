@@ -34,7 +34,7 @@ def refused_orders(checks, built):
         pages = {name: built.library.pages(text) for name, text in done.items()}
         if list(done.values()) != [GOOD, ORDERS[1]] or {str(job): them for job, them in trial.pages_by_job().items()} != pages:
             wrong.append("the two right orders are not punched")
-        if trial.names("in") != ["a folder", ".unfinished"]:
+        if trial.names("in") != ["a folder"] or not (trial.spool / "in" / ".unfinished").exists():
             wrong.append(f"in has {trial.names('in')}")
     checks.check("refused orders", wrong)
 

@@ -5,7 +5,9 @@
    kill and torn count the calls that write, to the disk, to the link or to a person; fail counts every call.
    STOPPER_SHORT: reads and writes take that many bytes at most, each time.
    STOPPER_TRACE names a file to which each call that writes is appended when it came to its end, a line each, with names from the spool on:
-   what the spool is, STOPPER_SPOOL says. STOPPER_COUNT names a file that gets a line for each call, of whatever kind. */
+   what the spool is, STOPPER_SPOOL says. STOPPER_COUNT names a file that gets a line for each call, of whatever kind.
+   STOPPER_MOVE is three names: when the first, a folder, is opened for the first time, the second is renamed to the third, as an operator
+   may do it at any moment. */
 #define _GNU_SOURCE
 #include <dirent.h>
 #include <dlfcn.h>
@@ -158,12 +160,22 @@ int fsync(int file) {
   return done;
 }
 
+static void move_meanwhile(int spool_file, const char *opened) {
+  static int moved;
+  char folder[64], from[64], to[64];
+  const char *words = getenv("STOPPER_MOVE");
+  if (moved || words == NULL || sscanf(words, "%63s %63s %63s", folder, from, to) != 3 || strcmp(opened, folder) != 0) return;
+  moved = 1;
+  syscall(SYS_renameat2, spool_file, from, spool_file, to, 0);
+}
+
 /* It writes only if it may make a file. */
 int openat(int folder, const char *name, int flags, ...) {
   va_list words;
   va_start(words, flags);
   int mode = flags & O_CREAT ? va_arg(words, int) : 0;
   va_end(words);
+  move_meanwhile(folder, name);
   if (!(flags & O_CREAT)) return fails("openat") ? -1 : (int)syscall(SYS_openat, folder, name, flags, mode);
   if (write_fails("openat")) return -1;
   int file = (int)syscall(SYS_openat, folder, name, flags, mode);

@@ -16,9 +16,9 @@ FOLDERS = ("in", "jobs", "done", "held", "cancelled", "refused", "asks")
 STAMP = re.compile(r"^\d{4}-\d\d-\d\dT\d\d:\d\d:\d\d[+-]\d\d:\d\d ", re.M)
 
 
-def order(town, rows, clock=0):
+def order(town, rows, clock=0, first="07ea0101", latitude="404b633d07c84b5e"):
     """An order for some rows: Durham's, from 2026-01-01 on."""
-    fields = [(1, town.encode()), (2, bytes.fromhex("07ea0101")), (3, rows.to_bytes(2, "big")), (4, bytes.fromhex("404b633d07c84b5e")),
+    fields = [(1, town.encode()), (2, bytes.fromhex(first)), (3, rows.to_bytes(2, "big")), (4, bytes.fromhex(latitude)),
               (5, bytes.fromhex("bff95bc01a36e2eb")), (6, b"\0"), (16, clock.to_bytes(2, "big"))]
     return b"".join(bytes([tag]) + len(value).to_bytes(2, "big") + value for tag, value in fields)
 
@@ -67,7 +67,8 @@ class Trial:
             self.embosser.communicate()
         self.embosser = None
 
-    def begin(self, after=0, how="kill", trace=None, before=None, patience=PATIENCE, stays=False, **settings):
+    def begin(self, after=0, how="kill", trace=None, before=None, patience=PATIENCE, stays=False, output=subprocess.PIPE,
+              **settings):
         """Starts a host; after: the call at which the stopper does what `how` says; before: what its process does first; settings: more of
         the stopper's, as error=5."""
         words = {**os.environ}
@@ -78,7 +79,7 @@ class Trial:
         words.update({f"STOPPER_{name.upper()}": str(value) for name, value in settings.items()})
         options = ["-s"] if stays else []
         return subprocess.Popen([self.host, *options, "-p", str(patience), str(self.spool), self.socket], env=words, preexec_fn=before,
-                                stdout=subprocess.PIPE, stderr=subprocess.STDOUT)
+                                stdout=output, stderr=subprocess.STDOUT)
 
     def end(self, host, delay=None):
         """Waits for a host, or ends it by its id after a delay; a host that does not come to its end counts as status 99."""
@@ -110,9 +111,9 @@ class Trial:
     # ---- what is wrong
 
     def names(self, folder):
-        """The names in a folder, without the sentences beside them."""
+        """The names in a folder, without the sentences beside them and without what was left unfinished."""
         names = os.listdir(self.spool / folder) if (self.spool / folder).exists() else []
-        return sorted((name for name in names if not name.endswith(".why")), key=lambda name: (len(name), name))
+        return sorted((name for name in names if not name.endswith(".why") and name[0] != "."), key=lambda name: (len(name), name))
 
     def why(self, name):
         """The sentence beside a held job or a refused order, without its newline."""
@@ -129,9 +130,8 @@ class Trial:
             jobs.setdefault(job, []).append(tuple(page))
         return jobs
 
-    def faults(self, status=0, in_turn=True):
-        """After the last host: each order is one job, all of it punched once, in order, byte for byte as the library gives it in one go.
-        in_turn: the jobs have their ids in the order of the orders' names."""
+    def faults(self, status=0):
+        """After the last host: each order is one job, all of it punched once, in order, byte for byte as the library gives it in one go."""
         wrong = []
         if self.status != status:
             wrong.append(f"status {self.status}, not {status}: {self.said.strip().splitlines()[-1:]}")
@@ -139,7 +139,7 @@ class Trial:
             if folder != "done" and self.names(folder):
                 wrong.append(f"{folder} has {self.names(folder)}")
         done = [self.order_of(f"done/{name}") for name in self.names("done")]
-        if (done if in_turn else sorted(map(bytes, done))) != (self.orders if in_turn else sorted(self.orders)):
+        if done != self.orders:
             wrong.append(f"{len(done)} jobs, not the {len(self.orders)} orders")
         jobs = self.pages_by_job()
         for name, text in zip(self.names("done"), done):
@@ -147,6 +147,21 @@ class Trial:
             if punched != owed:
                 wrong.append(f"job {name}: punched {[page for page, *_ in punched]} of {len(owed)} pages")
         return wrong + [f"pages of job {job}, which is not there" for job in jobs]
+
+    def asked_faults(self):
+        """After the last host, where jobs were held, released and cancelled: each order is done whole, or cancelled, and then the pages that
+        its log says are punched, and no other."""
+        wrong, library, jobs, texts = [], self.built.library, self.pages_by_job(), []
+        wrong += [f"{folder} has {self.names(folder)}" for folder in FOLDERS if folder not in ("done", "cancelled") and self.names(folder)]
+        for folder in ("done", "cancelled"):
+            for name in self.names(folder):
+                texts.append(self.order_of(f"{folder}/{name}"))
+                log = self.spool / folder / name / "log"
+                finished = library.log(log.read_bytes() if log.exists() else b"", LOG_SIZE).finished
+                owed = library.pages(texts[-1])
+                if jobs.get(int(name), []) != (owed if folder == "done" else owed[:finished]):
+                    wrong.append(f"{folder}/{name}: punched {[page for page, *_ in jobs.get(int(name), [])]} of {len(owed)}, log {finished}")
+        return wrong + ([] if sorted(texts) == sorted(self.orders) else ["an order is lost or there twice"])
 
     def turn_faults(self):
         """Of a run without accidents: the jobs' pages do not come in the turns of the library's queue."""

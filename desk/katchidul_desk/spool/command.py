@@ -127,7 +127,7 @@ def ask_host(word):
         if not words:
             raise Usage(f"{word} takes jobs")
         for job in words:
-            if word == "cancel" and not job.isdigit():
+            if word == "cancel" and not jobs.id_of(job):
                 cancel_waiting(spool, job)
             else:
                 report(spool, number(job), asks.ask(spool, word, number(job)))

@@ -1,6 +1,7 @@
 """Orders into a spool. An order is written under a name that the host passes over, flushed, and linked to its own, which it never replaces."""
 from __future__ import annotations
 
+import itertools
 import os
 import pathlib
 
@@ -36,21 +37,22 @@ def submit(spool: pathlib.Path, name: str, order: bytes) -> str:
     return name
 
 
+def numbered(name: str):
+    """The name, then with .2, .3, .. behind it."""
+    yield name
+    yield from (f"{name}.{number}" for number in itertools.count(2))
+
+
 def submit_free(spool: pathlib.Path, name: str, order: bytes) -> str:
     """The same, with a number behind the name if an order of that name waits."""
-    for number in range(1, 1000):
-        free = name if number == 1 else f"{name}.{number}"
-        if not (spool / "in" / free).exists():
-            return submit(spool, free, order)
-    raise SpoolError(f"a thousand orders {shown(name)} wait in the spool already")
+    return submit(spool, next(each for each in numbered(name) if not (spool / "in" / each).exists()), order)
 
 
 def take_back(spool: pathlib.Path, name: str, why: str) -> None:
     """Moves an order that waits to refused/, with its sentence, unless the host takes it first."""
     refused, kept = spool / "refused", os.fsdecode(os.fsencode(name)[:NAME_BYTES - 15])
     refused.mkdir(exist_ok=True)
-    free = next(each for each in (kept, *(f"{kept}.{number}" for number in range(2, 10**9)))
-                if not each.endswith(WHY) and not (refused / each).exists())
+    free = next(each for each in numbered(kept) if not each.endswith(WHY) and not (refused / each).exists())
     replace(refused, free + WHY, f"{why}\n".encode())
     try:
         os.rename(spool / "in" / name, refused / free)
