@@ -314,6 +314,18 @@ def spooled(check, port, spool, shown, orders):
     check("the jobs in a sentence", jobs.one("p", id="jobs-told").text, "3 orders: 1 printing, 2 waiting to be taken.")
 
 
+def doubtful(check, port):
+    """Fajr before the change of its night, and a place of another zone: the pages are shown, and printed only if that is allowed."""
+    for name, values, wanted in (("one clock is not enough", {**LEEDS, "place": "69.6492, 18.9553", "month": "2026-03", "zone": "Europe/Oslo"}, "one clock can"),
+                                 ("another zone", {**LEEDS, "zone": "Pacific/Honolulu"}, "belong together")):
+        root = document.read(show(port, **values).text)[0]
+        told = [line.text for section in root.all("section", class_="told") for line in section.all("li")]
+        check(name + ": told", any(wanted in line for line in told), True)
+        check(name + ": the box", len(list(root.all("input", id="anyway"))), 1)
+        sent = form(text=hidden(root, "/spool", "text"), token=hidden(root, "/spool", "token"))
+        check(name + ": not printed without the tick", ask(port, "POST", "/spool", body=sent).status, 409)
+
+
 def slow_clients(check, port, seconds):
     """A client that sends a byte at a time, or nothing, is sent away in time; meanwhile others are served."""
     ends = []
@@ -422,6 +434,7 @@ def run(check, command, folder, count, seed):
             part(check, desk.port)
         shown, orders = order_files(check, desk.port, command, folder)
         spooled(check, desk.port, spool, shown, orders)
+        doubtful(check, desk.port)
         odd_values(check, desk.port, count // 4, seed)
         changed(check, desk.port, count, seed)
         check("still there", ask(desk.port, "GET", "/").status, 200)

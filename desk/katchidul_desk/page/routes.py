@@ -73,10 +73,11 @@ class Page:
         return self.page(values, {}, told, pages, code)
 
     def doubts(self, timetable):
-        """Why the clerk should think again before printing: wrong times, or orders that are in the spool."""
+        """Why the clerk should think again before printing: what is wrong, and orders that are in the spool."""
         names = {one.name for one in timetable.shown}
         there = [job for job in self.jobs() if job.name in names and job.state not in ("refused", "cancelled")]
-        return timetable.wrong + ["%s is in the spool before this: %s." % (job.name, jobs.STATES.get(job.state, job.state)) for job in there]
+        wrong = ["The pages would be wrong, as is said above."] if timetable.wrong else []
+        return wrong + ["%s is in the spool before this: %s." % (job.name, jobs.STATES.get(job.state, job.state)) for job in there]
 
     def jobs(self):
         """The spool's jobs; none if there is no spool to read."""

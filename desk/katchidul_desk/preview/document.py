@@ -40,7 +40,7 @@ def listed(title, lines, level, about=None):
 def told(group, level):
     """What the clerk has to know before printing."""
     return joined(
-        listed("Wrong times on the pages", group.wrong, level), listed("About the orders", group.notes, level),
+        listed("Look at this before printing", group.wrong, level), listed("About the orders", group.notes, level),
         listed("Refused days", list(refused_days(group.days)), level, "These days have no times. Their braille rows show the day alone."))
 
 

@@ -11,7 +11,8 @@ from .shown import Shown, shown
 
 class Timetable(NamedTuple):
     """`shown` are the orders for the embosser. `sheet_order` is a Ramadan order, (name, bytes), that could not be split and is for the
-    sheet alone. `notes` are for the clerk to know, `wrong` are rows with a time that no single clock shows right."""
+    sheet alone. `notes` are for the clerk to know; `wrong` is what should not be printed as it is, such as a row with a time that no
+    single clock shows right."""
     base: str
     shown: List[Shown]
     sheet_order: Optional[Tuple[str, bytes]]
@@ -46,7 +47,8 @@ def by_zone(split, base):
     parts = [shown(name, part.order, split.sheet if split.ramadan else None) for name, part in zip(names, split.parts)]
     sheet_order = (whole, split.ramadan) if split.ramadan else None
     told = zones.lines(split, names + [whole] * bool(sheet_order))
-    return Timetable(base, parts, sheet_order, [line.strip() for line in told], list(zones.wrong_lines(split)))
+    wrong = [*zones.odd_noon_lines(split), *zones.wrong_lines(split)]
+    return Timetable(base, parts, sheet_order, [line.strip() for line in told], wrong)
 
 
 class Group(NamedTuple):
