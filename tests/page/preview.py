@@ -117,6 +117,12 @@ def random_order(dice):
     return b"".join(bytes([tag]) + len(value).to_bytes(2, "big") + value for tag, value in values.items())
 
 
+def check_opened(check, name, order, again):
+    """An order that is opened in the form and made again from it prints the same. `again` does both."""
+    made = again(order)
+    check(name + ": opened in the form", [program(one, made) for one in ("sheet", "cells")], [program(one, order) for one in ("sheet", "cells")])
+
+
 def check_document(check, name, text, orders):
     root, faults = document.read(text)
     check(name + ": well formed", faults, [])
@@ -126,7 +132,7 @@ def check_document(check, name, text, orders):
     return root
 
 
-def examples(check, desk, document_of, folder):
+def examples(check, desk, document_of, again, folder):
     """Every example, and the command on three of them."""
     for path in sorted(EXAMPLES.glob("*.order")):
         order = path.read_bytes()
@@ -135,6 +141,7 @@ def examples(check, desk, document_of, folder):
             check(path.name + ": a refused order has no page", (desk("preview", path, "--out", out).returncode, out.exists()), (1, False))
             continue
         text = document_of(order, path.stem)
+        check_opened(check, path.name, order, again)
         root = check_document(check, path.name, text, [order])
         if any(len(row) > 2 for row in wanted_rows(order)):
             check_picture(check, path.name, root, [order])
@@ -175,10 +182,12 @@ def minutes(text):
     return int(text[:2]) * 60 + int(text[3:5])
 
 
-def random_orders(check, document_of, count, seed):
+def random_orders(check, document_of, again, count, seed):
     dice = random.Random(seed)
     for at in range(count):
         order = random_order(dice)
         if program("sheet", order).startswith(b"order refused"):
             continue
-        check_document(check, "random order %d of seed %s" % (at, seed), document_of(order, None), [order])
+        name = "random order %d of seed %s" % (at, seed)
+        check_document(check, name, document_of(order, None), [order])
+        check_opened(check, name, order, again)

@@ -356,6 +356,20 @@ def slow_clients(check, port, seconds):
     check("slow clients are sent away in time", all(end < 2 * seconds for end in ends), True)
 
 
+def lingering(check, port):
+    """A client that goes on sending after its answer is cut off."""
+    began = time.monotonic()
+    with socket.create_connection(("127.0.0.1", port), 30) as connection:
+        connection.sendall(request(port, "GET", "/style.css"))
+        try:
+            while time.monotonic() - began < 20:
+                connection.sendall(b"more")
+                time.sleep(0.05)
+        except ConnectionError:
+            pass
+    check("a client that goes on sending", time.monotonic() - began < 10, True)
+
+
 def crowd(check, port):
     """More clients than threads: some are told to come back, and the page is there after them."""
     idle = [socket.create_connection(("127.0.0.1", port), 30) for _ in range(60)]
@@ -421,6 +435,7 @@ def short_timeouts(check, folder, spool):
         thread = threading.Thread(target=serving.serve_forever, kwargs={"poll_interval": 0.05}, daemon=True)
         thread.start()
         slow_clients(check, serving.server_port, 1.5)
+        lingering(check, serving.server_port)
         crowd(check, serving.server_port)
         serving.shutdown()
         thread.join()

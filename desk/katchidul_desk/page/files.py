@@ -23,20 +23,19 @@ def own(name):
 def listed(folder):
     """The names of the texts and orders in the folder."""
     try:
-        names = sorted(entry.name for entry in os.scandir(folder) if entry.name.endswith(SUFFIXES) and is_plain(entry.name) and entry.is_file())
+        return sorted(entry.name for entry in os.scandir(folder) if is_ours(entry.name) and entry.is_file(follow_symlinks=False))[:MOST]
     except OSError:
         return []
-    return names[:MOST]
 
 
-def is_plain(name):
-    """A file's own name: no path, nothing hidden, and nothing that a page or a terminal would not show."""
-    return name.isprintable() and not name.startswith(".") and "/" not in name and "\\" not in name
+def is_ours(name):
+    """The plain name of a text or an order: no path, nothing hidden, and nothing that a page would not show."""
+    return name.endswith(SUFFIXES) and name.isprintable() and not name.startswith(".") and "/" not in name and "\\" not in name
 
 
 def content(folder, name):
     """A file of the folder. A name that leads out of it, by a path or by a link, is refused."""
-    if not is_plain(name) or not name.endswith(SUFFIXES):
+    if not is_ours(name):
         raise Unreadable("the page opens texts and orders of its own folder alone")
     try:
         # Without waiting, as a pipe would make it, and without following a link.

@@ -62,7 +62,8 @@ MORE = [
         Field("isha interval", "Isha interval", "Minutes after sunset, in place of the angle."),
         Field("rounding", "Rounding", "", choices("rounding", "As the method has it")),
         Field("shafaq", "Shafaq", "For the Moonsighting Committee's method alone.", choices("shafaq", "General, if nothing is chosen")),
-        Field("carry", "Times at midnight UTC", "Carries keeps a day whose sunset rounds to 24:00 UTC.", choices("carry", "Stops, if nothing is chosen")),
+        Field("carry", "Times at midnight UTC", "Carries keeps a day whose sunset rounds to 24:00 UTC.",
+              choices("carry", "Stops, if nothing is chosen")),
         Field("southern", "Southern season", "For the Moonsighting Committee's method in the south alone.",
               choices("southern", "Unreduced, if nothing is chosen")),
         Field("ramadan", "Ramadan sheet", "As imsak 10, shift 0. The days are then 30, from the 1st of Ramadan."),
@@ -81,8 +82,8 @@ def pairs(body):
 
 
 def one_line(value):
-    """A value without the blanks around it, its own as one each."""
-    return " ".join(value.split())
+    """A value as a text's line can have it: without control characters, and without the blanks around it."""
+    return re.sub("[\\x00-\\x1f\\x7f]+", " ", value).strip()
 
 
 def value(field, sent):

@@ -27,19 +27,18 @@ def opening(names):
     """The folder's texts and orders, to begin from one of them."""
     if not names:
         return None
-    options = [element("option", name, value=name) for name in names]
-    return element(
-        "form", element("label", "Begin from a text or an order of this folder", for_="open"), element("select", options, id="open", name="open"),
-        element("button", "Open", type="submit"), method="get", action="/", class_="line")
+    label = element("label", "Begin from a text or an order of this folder", for_="open")
+    chosen = element("select", [element("option", name, value=name) for name in names], id="open", name="open")
+    return element("form", label, chosen, element("button", "Open", type="submit"), method="get", action="/", class_="line")
 
 
-def hidden(text):
-    return element("input", type="hidden", name="text", value=text)
+def hidden(name, value):
+    return element("input", type="hidden", name=name, value=value)
 
 
 def downloads(text, names):
-    buttons = [element("button", name, type="submit", name="file", value=name) for name in names]
-    return element("form", element("h3", "Files to keep"), hidden(text), element("p", buttons, class_="buttons"), method="post", action="/download")
+    buttons = element("p", [element("button", name, type="submit", name="file", value=name) for name in names], class_="buttons")
+    return element("form", element("h3", "Files to keep"), hidden("text", text), buttons, method="post", action="/download")
 
 
 def no_printing(why):
@@ -53,18 +52,20 @@ def printing(text, count, token, doubts):
         box = element("input", type="checkbox", id="anyway", name="anyway", value="yes", aria_describedby="doubts")
         label = element("label", "Print the pages all the same", for_="anyway")
         allow = joined(element("ul", [element("li", doubt) for doubt in doubts], id="doubts"), element("p", box, " ", label))
-    return element(
-        "form", element("h3", "Print"), hidden(text), element("input", type="hidden", name="token", value=token), allow,
-        element("p", element("button", "Put %s into the spool" % counted(count, "order"), type="submit", class_="main")), id="print", method="post", action="/spool")
+    button = element("button", "Put %s into the spool" % counted(count, "order"), type="submit", class_="main")
+    inside = [element("h3", "Print"), hidden("text", text), hidden("token", token), allow, element("p", button)]
+    return element("form", inside, id="print", method="post", action="/spool")
 
 
 def pages(timetable, downloads_part, printing_part, focused):
     """What the form made. Whatever the clerk has to know comes before the buttons."""
     groups = preview.grouped([timetable])
-    return element(
-        "section", element("h2", "The pages", id="pages-title", tabindex=-1, autofocus=focused), element("p", id="changed", class_="wrong", role="status"),
-        [preview.told(group, 3) for group in groups], downloads_part, printing_part,
-        element("div", preview.fragment(groups, 3, False), class_="preview"), id="pages", aria_labelledby="pages-title")
+    title = element("h2", "The pages", id="pages-title", tabindex=-1, autofocus=focused)
+    # The script tells here that the form has changed since.
+    changed = element("p", id="changed", class_="wrong", role="status")
+    shown = element("div", preview.fragment(groups, 3, False), class_="preview")
+    told = [preview.told(group, 3) for group in groups]
+    return element("section", title, changed, told, downloads_part, printing_part, shown, id="pages", aria_labelledby="pages-title")
 
 
 def room(spool, jobs):

@@ -1,13 +1,11 @@
-"""A text put into the form's fields."""
-import datetime
+"""A text or an order of the folder, put into the form's fields."""
 import re
 
-from .. import orders
+from .. import orders, reading
 from ..errors import DeskError
 from ..fields import TAGS
-from ..kinds import DATE_TAG, Choice, date_of
-from ..reading import read
-from . import form
+from ..kinds import Choice
+from . import files, form
 
 
 def choice(tag, words):
@@ -19,15 +17,20 @@ def filled(text):
     """The form's values for a text. The order is made and read again, so that every way to write a text is understood. Raises the desk's
     errors for a text that the form can't show."""
     made = orders.make(text)
-    reading = read(made.order)
-    if reading.refusal:
-        raise DeskError(reading.refusal.why)
+    if made.refusal:
+        raise DeskError(made.refusal.why)
     given = orders.fields(made.order)
-    values = dict.fromkeys((field.name for field in form.FIELDS), "")
-    values.update({tag.name: choice(tag, given[tag.name]) for tag in TAGS.values() if tag.name in given and tag.name in values})
-    first = date_of(reading.values[DATE_TAG])
-    rows = int.from_bytes(reading.values[3], "big")
-    values.update({
-        "place": "%s, %s" % (given["latitude"], given["longitude"]), "zone": made.zone or "", "from": first.isoformat(),
-        "to": (first + datetime.timedelta(rows - 1)).isoformat()})
-    return values
+    found = dict.fromkeys((field.name for field in form.FIELDS), "")
+    found.update({tag.name: choice(tag, given[tag.name]) for tag in TAGS.values() if tag.name in given and tag.name in found})
+    days = reading.days(made.order)
+    place = "%s, %s" % (given["latitude"], given["longitude"])
+    return {**found, "place": place, "zone": made.zone or "", "from": days[0].isoformat(), "to": days[-1].isoformat()}
+
+
+def values(folder, name):
+    """The form's values for a file of the folder."""
+    text = files.opened(folder, name)
+    try:
+        return filled(text)
+    except DeskError as why:
+        raise DeskError("%s can't be put into the form: %s" % (name, why)) from None

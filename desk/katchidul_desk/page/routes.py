@@ -1,4 +1,5 @@
 """What each path of the page does. GET changes nothing, so a reload or a step back is safe; only POST to /spool does."""
+import threading
 from urllib.parse import parse_qsl, quote, urlsplit
 
 from ..errors import DeskError
@@ -18,17 +19,17 @@ class Page:
     """The desk's page over a folder of texts and orders, and a spool or None."""
 
     def __init__(self, folder, spool):
-        self.folder, self.spool, self.tokens = folder, spool, Tokens()
+        self.folder, self.spool, self.tokens, self.putting = folder, spool, Tokens(), threading.Lock()
         # Those of a place. The others are old names.
         self.zones = sorted(name for name in check.known_zones() if name.partition("/")[0] in AREAS)
 
     def answer(self, method, target, body):
         """The answer to a request that safety let in."""
         path, query = split(target)
-        changing = {"/check": self.check, "/download": self.download, "/spool": self.put}.get(path)
+        posted = {"/check": self.check, "/download": self.download, "/spool": self.put}.get(path)
         if method == "POST":
-            return changing(dict(form.pairs(body))) if changing else answers.sentence("This path takes GET alone.", 405, Allow="GET, HEAD")
-        if changing:
+            return posted(dict(form.pairs(body))) if posted else answers.sentence("This path takes GET alone.", 405, Allow="GET, HEAD")
+        if posted:
             return answers.sentence("This path takes POST alone.", 405, Allow="POST")
         if path == "/":
             return self.first(query)
@@ -44,7 +45,7 @@ class Page:
         sent = dict(query)
         if "open" in sent:
             try:
-                return self.page(opened.filled(files.opened(self.folder, sent["open"])), {})
+                return self.page(opened.values(self.folder, sent["open"]), {})
             except DeskError as why:
                 return self.page(BLANK, {}, layout.notice(check.as_sentence(why)))
         # Only what is true: a link of another page may say anything.
@@ -96,9 +97,11 @@ class Page:
             return jobs.table([], check.as_sentence(why))
 
     def page(self, values, faults, told=None, pages=None, code=200):
-        form_part = layout.section("form", "The order", layout.opening(files.listed(self.folder)), fields_html.whole(values, faults, self.zones))
+        """The whole page. `told` is a notice, `pages` what the form made."""
+        opening, whole = layout.opening(files.listed(self.folder)), fields_html.whole(values, faults, self.zones)
+        order, room = layout.section("form", "The order", opening, whole), layout.room(self.spool, self.room())
         title = "Timetables in braille" if not faults else "Not right yet: timetables in braille"
-        return answers.page(layout.whole(title, told, form_part, pages, layout.room(self.spool, self.room())), code)
+        return answers.page(layout.whole(title, told, order, pages, room), code)
 
     # POST
 
@@ -123,10 +126,12 @@ class Page:
             timetable = made_of(text)
             if not self.tokens.use(sent.get("token", "")):
                 raise DeskError(USED)
-            if self.doubts(timetable) and sent.get("anyway") != "yes":
-                raise DeskError(UNTICKED)
-            for one in timetable.shown:
-                names.append(submit(self.spool, one.name, one.order))
+            # One at a time: of two presses in two windows the second sees what the first put there.
+            with self.putting:
+                if self.doubts(timetable) and sent.get("anyway") != "yes":
+                    raise DeskError(UNTICKED)
+                for one in timetable.shown:
+                    names.append(submit(self.spool, one.name, one.order))
         except (DeskError, SpoolError, OSError) as why:
             # Of several orders some can be in the spool already.
             there = "In the spool: %s. " % ", ".join(names) if names else ""

@@ -11,12 +11,16 @@ from . import answers, safety
 
 SECONDS = 10
 THREADS = 16
-# What is read of a request after its answer: seconds without a byte, and bytes.
-LINGER, MOST_UNREAD = 0.5, 1 << 20
-BUSY = b"HTTP/1.0 503 Busy\r\nContent-Type: text/plain\r\nRetry-After: 1\r\nConnection: close\r\n\r\nThe desk is busy. Try again in a second.\n"
+LINGER = 0.5
+BUSY = b"HTTP/1.0 503 Busy\r\nContent-Type: text/plain\r\nRetry-After: 1\r\n\r\nThe desk is busy. Try again in a second.\n"
+# What http.server itself refuses, and a request that did not end in time.
 SENTENCES = {
-    400: "The request is not HTTP.", 404: "There is no such page.", 408: "The request did not end in time.", 414: "The address is too long.",
-    431: "The request has too many headers.", 501: "The page takes GET, HEAD and POST.", 505: "The request has another version of HTTP.",
+    400: "The request is not HTTP.",
+    408: "The request did not end in time.",
+    414: "The address is too long.",
+    431: "The request has too many headers.",
+    501: "The page takes GET, HEAD and POST.",
+    505: "The request has another version of HTTP.",
 }
 
 
@@ -60,7 +64,8 @@ class Handler(http.server.BaseHTTPRequestHandler):
             return answers.sentence(str(why), why.status)
         except socket.timeout:
             return answers.sentence(SENTENCES[408], 408)
-        except OSError:
+        except ConnectionError:
+            # The client went away.
             raise
         except Exception as fault:  # pylint: disable=broad-except
             streams.say("katchidul: a request was not answered, by a fault of the desk (%s)" % type(fault).__name__)
@@ -91,15 +96,14 @@ class Handler(http.server.BaseHTTPRequestHandler):
         super().finish()
         try:
             self.connection.shutdown(socket.SHUT_WR)
-            self.connection.settimeout(LINGER)
-            for _ in range(MOST_UNREAD // 4096):
-                if not self.connection.recv(4096):
-                    break
+            rest = Timed(self.connection, LINGER)
+            while rest.read(65536):
+                pass
         except OSError:
             pass
 
     def send_error(self, code, message=None, explain=None):
-        """What http.server itself refuses, in a sentence and with the same headers."""
+        """In a sentence, and with the same headers as every answer."""
         code = int(code)
         self.reply(answers.sentence(SENTENCES.get(code, "The request is refused."), code))
 

@@ -35,9 +35,9 @@ def caption(page, clock):
 def table(page, columns, clock):
     """The days of one braille page."""
     names = ["Date", *(column.capitalize() for column in columns), "Braille", "The braille says"]
-    return element(
-        "table", element("caption", caption(page, clock)), element("thead", element("tr", [element("th", name, scope="col") for name in names])),
-        element("tbody", [row(day, columns) for day in page]))
+    head = element("tr", [element("th", name, scope="col") for name in names])
+    rows = [row(day, columns) for day in page]
+    return element("table", element("caption", caption(page, clock)), element("thead", head), element("tbody", rows))
 
 
 def dots_of(page):

@@ -36,7 +36,7 @@ function typed(event) {
   clearTimeout(wait);
   wait = setTimeout(check, 400);
   const changed = document.getElementById("changed");
-  if (changed) changed.textContent = "The form has changed since these pages were made. Show the pages again before you keep or print them.";
+  if (changed) changed.textContent = "The form has changed since. Show the pages again before you keep or print them.";
 }
 
 async function look() {
