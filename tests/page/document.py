@@ -71,14 +71,17 @@ def form_faults(root):
     elements = list(root.all())
     ids = [element.attributes["id"] for element in elements if "id" in element.attributes]
     faults = ["id %s twice" % one for one in set(ids) if ids.count(one) > 1]
+    labelled = [label.attributes["for"] for label in root.all("label")]
     for element in elements:
         for name in ("for", "aria-labelledby", "aria-describedby", "list"):
-            faults += ["%s of <%s>: no %s" % (name, element.name, one) for one in (element.attributes.get(name) or "").split() if one not in ids]
+            wanted = (element.attributes.get(name) or "").split()
+            faults += ["%s of <%s>: no %s" % (name, element.name, one) for one in wanted if one not in ids]
         if element.name == "th" and element.attributes.get("scope") not in ("row", "col"):
             faults.append("<th> without a scope")
         if element.name == "svg" and element.attributes.get("role") == "img" and not list(element.all("title")):
             faults.append("a picture without a title")
-        if element.name in ("input", "select") and element.attributes.get("type") != "hidden" and not list(root.all("label", **{"for": element.attributes.get("id")})):
+        typed = element.name in ("input", "select") and element.attributes.get("type") != "hidden"
+        if typed and element.attributes.get("id") not in labelled:
             faults.append("<%s> without a label" % element.name)
     levels = [int(element.name[1]) for element in elements if re.fullmatch("h[1-6]", element.name)]
     if levels[:1] != [1] or any(after > before + 1 for before, after in zip(levels, levels[1:])):

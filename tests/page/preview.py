@@ -89,7 +89,8 @@ def check_orders(check, name, page, orders):
     punched = [re.search(r"([\d,]+) dots?$", section.one("p", class_="count").text)[1].replace(",", "") for section in sections]
     pages = [one[at:at + 975] for one in cells for at in range(0, len(one), 975)]
     check(name + ": the dots of each page", [int(dots) for dots in punched], [sum(bin(cell).count("1") for cell in page) for page in pages])
-    total = [one.text.replace(",", "") for one in page.all("table", class_="overview") for one in list(one.all("tr"))[1:] for one in list(one.all("td"))[-1:]]
+    facts = [row for table in page.all("table", class_="overview") for row in table.one("tbody").all("tr")]
+    total = [list(row.all("td"))[-1].text.replace(",", "") for row in facts]
     check(name + ": the dots of each order", ["dots %s\n" % dots for dots in total], [program("wear", order).decode() for order in orders])
 
 
@@ -120,7 +121,8 @@ def random_order(dice):
 def check_opened(check, name, order, again):
     """An order that is opened in the form and made again from it prints the same. `again` does both."""
     made = again(order)
-    check(name + ": opened in the form", [program(one, made) for one in ("sheet", "cells")], [program(one, order) for one in ("sheet", "cells")])
+    for one in ("sheet", "cells"):
+        check("%s: %s of the order opened in the form" % (name, one), program(one, made), program(one, order))
 
 
 def check_document(check, name, text, orders):
@@ -169,10 +171,12 @@ def by_zone(check, desk, folder):
 def ramadan(check, desk, folder):
     """A Ramadan sheet that a clock's change divides keeps its imsak in the table, and its cells are the plain orders'."""
     text = folder / "chicago.text"
-    text.write_text("town: Chicago\nfirst day: 2026-02-18\nrows: 30\nplace: 41.8781, -87.6298\nmethod: ISNA\nzone: America/Chicago\nramadan: imsak 10, shift 0\n")
+    text.write_text("town: Chicago\nfirst day: 2026-02-18\nrows: 30\nplace: 41.8781, -87.6298\nmethod: ISNA\nzone: America/Chicago\n"
+                    "ramadan: imsak 10, shift 0\n")
     root, faults = document.read(desk("preview", text).stdout.decode("utf-8"))
     check("chicago: well formed", faults, [])
-    lines = [[cell.text for cell in line.all("td")] for section in root.all("section", class_="page") for line in section.one("tbody").all("tr")]
+    rows = [row for section in root.all("section", class_="page") for row in section.one("tbody").all("tr")]
+    lines = [[cell.text for cell in row.all("td")] for row in rows]
     check("chicago: rows", len(lines), 30)
     check("chicago: imsak is ten minutes before fajr", [minutes(line[1]) - minutes(line[0]) for line in lines], [10] * 30)
     check("chicago: the clock goes forward", (lines[17][3], lines[18][3]), ("12:02", "13:02"))
