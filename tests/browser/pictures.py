@@ -16,7 +16,8 @@ def pixels(data):
         packed += body if kind == b"IDAT" else b""
         at += 12 + length
     size = {2: 3, 6: 4}[colours]
-    return [[sum(line[x * size:x * size + 3]) // 3 for x in range(width)] for line in lines(zlib.decompress(packed), width * size, height, size)]
+    rows = lines(zlib.decompress(packed), width * size, height, size)
+    return [[sum(line[x * size:x * size + 3]) // 3 for x in range(width)] for line in rows]
 
 
 def lines(raw, length, height, size):

@@ -1,5 +1,4 @@
 """The walks of tests/browser/run through the desk's page."""
-import base64
 import re
 import subprocess
 import time
@@ -12,6 +11,12 @@ LEEDS = "town: Leeds\nmonth: 2026-10\nplace: 53.8008, -1.5491\nmethod: MWL\nzone
 # A row of the page's tables: its texts, and the path that draws its dots.
 ROWS = """return [...document.querySelectorAll(".page tbody tr")].map((row) => ({
   texts: [...row.cells].map((cell) => cell.innerText.trim()), path: row.querySelector(".raised").getAttribute("d")}))"""
+# The stops of the Tab key in the form: id, role, label, and what is typed there.
+STOPS = [
+    ("town", "textbox", "Town", "Leeds"), ("place", "textbox", "Place", "53.8008, -1.5491"), ("month", "textbox", "Month", "2026-13"),
+    ("from", "textbox", "First day", ""), ("to", "textbox", "Last day", ""), ("method", "combobox", "Method", "muslim"),
+    ("madhab", "combobox", "Asr", ""), ("zone", "combobox", "Time zone", "Europe/London"),
+]
 FOCUS = "const one = document.activeElement; return one.id || one.innerText || one.tagName"
 
 
@@ -22,7 +27,7 @@ class Walk:
 
     def picture(self, name):
         self.shots += 1
-        self.browser.whole_picture(self.kept / ("%d-%d-%s.png" % (self.number, self.shots, name)))
+        (self.kept / ("%d-%d-%s.png" % (self.number, self.shots, name))).write_bytes(self.browser.whole_picture())
 
     def fill(self, **values):
         for name, value in values.items():
@@ -33,7 +38,8 @@ class Walk:
 
     def sentence(self, name, wanted):
         """Waits for a field's sentence."""
-        found = self.browser.wait("return document.getElementById(arguments[0]).textContent.includes(arguments[1])", name + "-wrong", wanted)
+        script = "return document.getElementById(arguments[0]).textContent.includes(arguments[1])"
+        found = self.browser.wait(script, name + "-wrong", wanted)
         self.check("the sentence at %s" % name, bool(found), True)
 
     def quiet(self):
@@ -75,12 +81,11 @@ def drawn(path):
 
 def seen(walk, number, cells):
     """A row's dots by the pixels of the screen: dark if raised, light if not."""
-    walk.browser.run("document.querySelectorAll('.page svg.braille')[arguments[0]].scrollIntoView({block: 'center', inline: 'center'})", number)
-    box = walk.browser.run("""const box = document.querySelectorAll(".page svg.braille")[arguments[0]].getBoundingClientRect();
+    box = walk.browser.run("""const row = document.querySelectorAll(".page svg.braille")[arguments[0]];
+        row.scrollIntoView({block: "center", inline: "center"});
+        const box = row.getBoundingClientRect();
         return [box.x + scrollX, box.y + scrollY, box.width, box.height]""", number)
-    clip = {"x": box[0], "y": box[1], "width": box[2], "height": box[3], "scale": 4}
-    data = walk.browser.ask("POST", "/goog/cdp/execute", {"cmd": "Page.captureScreenshot", "params": {"clip": clip, "captureBeyondViewport": True}})["data"]
-    rows = pictures.pixels(base64.b64decode(data))
+    rows = pictures.pixels(walk.browser.picture(*box, scale=4))
     scale, wrong = len(rows[0]) / 468, 0
     for at, cell in enumerate(cells):
         for dot in range(6):
@@ -108,7 +113,8 @@ def clerk(walk):
     walk.check("the focus is on what is wrong", walk.browser.run(FOCUS), "faults")
     walk.picture("faults")
     walk.fill(town="Leeds", place="53.8008, -1.5491", month="2026-10", clock="", zone="Europe/London", method="muslim")
-    walk.check("nothing is wrong any more", bool(walk.browser.wait("return ![...document.querySelectorAll('.wrong')].some((one) => one.textContent)")), True)
+    right = walk.browser.wait("return ![...document.querySelectorAll('.wrong')].some((one) => one.textContent)")
+    walk.check("nothing is wrong any more", bool(right), True)
     walk.browser.click("button.main")
     walk.browser.wait("return document.getElementById('pages')")
     walk.check("the focus is on the pages", walk.browser.run(FOCUS), "pages-title")
@@ -157,9 +163,8 @@ def paper(walk):
     downloaded(walk, "leeds-2026-10.html")
     walk.browser.open("file://%s" % (walk.folder / "downloads" / "leeds-2026-10.html"))
     walk.picture("kept")
-    path = walk.kept / ("%d-kept.pdf" % walk.number)
-    walk.browser.printed(path)
-    data = path.read_bytes()
+    data = walk.browser.printed()
+    (walk.kept / ("%d-kept.pdf" % walk.number)).write_bytes(data)
     boxes = {tuple(round(float(side)) for side in box.split()) for box in re.findall(rb"/MediaBox ?\[([^\]]*)\]", data)}
     walk.check("the paper is A4", boxes, {(0, 0, 842, 595)})
     walk.check("the sheets of paper", len(re.findall(rb"/Type ?/Page\b", data)), 3)
@@ -174,15 +179,12 @@ def by_keyboard(walk):
     browser.type(("enter",))
     stop(walk, "open", "combobox", "Begin from a text or an order of this folder")
     browser.type(("tab",))
-    for name, role, label, text in (("town", "textbox", "Town", "Leeds"), ("place", "textbox", "Place", "53.8008, -1.5491"), ("month", "textbox", "Month", "2026-13"),
-                                    ("from", "textbox", "First day", ""), ("to", "textbox", "Last day", ""), ("method", "combobox", "Method", "muslim"),
-                                    ("madhab", "combobox", "Asr", ""), ("zone", "combobox", "Time zone", "Europe/London")):
+    for name, role, label, text in STOPS:
         stop(walk, name, role, label)
         browser.type(text)
     walk.sentence("month", "There is no month 13.")
-    walk.check("the sentence is spoken", browser.run("return document.getElementById('month-wrong').getAttribute('aria-live')"), "polite")
-    described = browser.run("return document.getElementById('month').getAttribute('aria-describedby')")
-    walk.check("and belongs to its field", described, "month-hint month-wrong")
+    walk.check("what a screen reader says of the field", [one for one in browser.spoken("textbox") if one[0] == "Month"],
+               [("Month", "As 2026-10 or October 2026. There is no month 13.", True)])
     browser.type(("enter",))
     browser.wait("return document.getElementById('faults')")
     walk.check("the faults have the focus", browser.run(FOCUS), "faults")
@@ -194,10 +196,18 @@ def by_keyboard(walk):
     browser.type(("enter",))
     browser.wait("return document.getElementById('pages')")
     walk.check("the pages have the focus", browser.run(FOCUS), "pages-title")
-    held_to_programs(walk, orders_of(LEEDS, walk.folder))
-    for name in ("leeds-2026-10.html", "leeds-2026-10-1.order", "leeds-2026-10-1.brf", "leeds-2026-10-2.order", "leeds-2026-10-2.brf", "leeds-2026-10.text"):
+    cells = held_to_programs(walk, orders_of(LEEDS, walk.folder))
+    rows = [name for name, _, _ in browser.spoken("image") if name.startswith("Braille: ")]
+    walk.check("what a screen reader says of the dots", rows, ["Braille: " + " ".join(preview.said(row).split()) for row in cells])
+    to_the_spool(walk)
+
+
+def to_the_spool(walk):
+    """From the pages to the button, past the files to keep."""
+    browser = walk.browser
+    for ending in (".html", "-1.order", "-1.brf", "-2.order", "-2.brf", ".text"):
         browser.type(("tab",))
-        walk.check("a stop at each file", browser.run(FOCUS), name)
+        walk.check("a stop at each file", browser.run(FOCUS), "leeds-2026-10" + ending)
     browser.type(("tab",))
     walk.check("then the spool's button", browser.run(FOCUS), "Put 2 orders into the spool")
     walk.check("the focus is seen", browser.run("return getComputedStyle(document.activeElement).outlineStyle"), "solid")
@@ -206,8 +216,12 @@ def by_keyboard(walk):
     browser.wait("return location.search.startsWith('?sent=')")
     walk.check("what went in is told and has the focus", browser.run("return document.activeElement.innerText.trim()"),
                "In the spool: leeds-2026-10-1.order, leeds-2026-10-2.order.")
-    walk.check("the spool has them", sorted(path.name for path in (walk.spool / "in").iterdir()), ["leeds-2026-10-1.order", "leeds-2026-10-2.order"])
+    walk.check("the spool has them", waiting(walk), ["leeds-2026-10-1.order", "leeds-2026-10-2.order"])
     walk.quiet()
+
+
+def waiting(walk):
+    return sorted(path.name for path in (walk.spool / "in").iterdir())
 
 
 def stop(walk, name, role, label):
@@ -235,8 +249,9 @@ def room(walk):
     # Which of the two depends on whether the browser kept the page or asked for it again.
     walk.check("a second press is told", str(told).startswith(("Nothing was printed", "This button was pressed before")), True)
     walk.check("the form keeps its method", browser.run("return document.getElementById('method').value"), "MuslimWorldLeague")
-    walk.check("the box has its label", browser.ask("GET", "/element/%s/computedlabel" % browser.find("#anyway")), "Print the pages all the same")
-    walk.check("the order is there once", [path.name for path in (walk.spool / "in").iterdir()], ["durham-2026-06.order"])
+    label = browser.ask("GET", "/element/%s/computedlabel" % browser.find("#anyway"))
+    walk.check("the box has its label", label, "Print the pages all the same")
+    walk.check("the order is there once", waiting(walk), ["durham-2026-06.order"])
     walk.picture("twice")
     walk.check("a job's progress", browser.texts("#jobs-table tbody tr:first-child td")[3], "1 of 2 finished, 1 more sent")
     browser.run("document.getElementById('jobs-table').focus()")
@@ -266,5 +281,5 @@ def without_script(walk):
     held_to_programs(walk, orders_of(LEEDS, walk.folder))
     browser.click("form[action='/spool'] button")
     browser.wait("return location.search.startsWith('?sent=')")
-    walk.check("into the spool", sorted(path.name for path in (walk.spool / "in").iterdir()), ["leeds-2026-10-1.order", "leeds-2026-10-2.order"])
+    walk.check("into the spool", waiting(walk), ["leeds-2026-10-1.order", "leeds-2026-10-2.order"])
     walk.picture("sent")

@@ -29,11 +29,13 @@ class Browser:
     def __init__(self, downloads, scripts=True):
         self.profile = tempfile.mkdtemp(prefix="katchidul-browser-")
         self.base = "http://127.0.0.1:%d" % free_port()
-        self.driver = subprocess.Popen(["chromedriver", "--port=" + self.base.rpartition(":")[2]], stdout=subprocess.DEVNULL, stderr=subprocess.DEVNULL)
+        command = ["chromedriver", "--port=" + self.base.rpartition(":")[2]]
+        self.driver = subprocess.Popen(command, stdout=subprocess.DEVNULL, stderr=subprocess.DEVNULL)
         preferences = {"download.default_directory": str(downloads), "download.prompt_for_download": False}
         if not scripts:
             preferences["profile.managed_default_content_settings.javascript"] = 2
-        arguments = ["--headless=new", "--no-sandbox", "--disable-gpu", "--disable-dev-shm-usage", "--window-size=1366,900", "--user-data-dir=" + self.profile]
+        arguments = ["--headless=new", "--no-sandbox", "--disable-gpu", "--disable-dev-shm-usage", "--window-size=1366,900",
+                     "--user-data-dir=" + self.profile]
         options = {"args": arguments, "prefs": preferences}
         wanted = {"browserName": "chrome", "goog:chromeOptions": options, "goog:loggingPrefs": {"browser": "ALL"}}
         self.session = self.begun({"capabilities": {"alwaysMatch": wanted}})
@@ -78,9 +80,6 @@ class Browser:
     def find(self, selector):
         return self.ask("POST", "/element", {"using": "css selector", "value": selector})[ELEMENT]
 
-    def all(self, selector):
-        return [found[ELEMENT] for found in self.ask("POST", "/elements", {"using": "css selector", "value": selector})]
-
     def text(self, selector):
         return self.ask("GET", "/element/%s/text" % self.find(selector))
 
@@ -116,14 +115,30 @@ class Browser:
         """What the browser wrote to its console since the last question."""
         return self.ask("POST", "/se/log", {"type": "browser"})
 
-    def whole_picture(self, path):
-        """The page from top to end."""
-        size = self.run("return [document.documentElement.scrollWidth, document.documentElement.scrollHeight]")
-        clip = {"x": 0, "y": 0, "width": size[0], "height": min(size[1], 8000), "scale": 1}
-        answer = self.ask("POST", "/goog/cdp/execute", {"cmd": "Page.captureScreenshot", "params": {"clip": clip, "captureBeyondViewport": True}})
-        path.write_bytes(base64.b64decode(answer["data"]))
+    def chromium(self, command, **parameters):
+        """What WebDriver has no call for."""
+        return self.ask("POST", "/goog/cdp/execute", {"cmd": command, "params": parameters})
 
-    def printed(self, path):
+    def spoken(self, role):
+        """What a screen reader gets of all elements of a role: name, description, and whether it is marked as wrong."""
+        found = []
+        for node in self.chromium("Accessibility.getFullAXTree")["nodes"]:
+            if not node["ignored"] and node["role"]["value"] == role:
+                marks = {one["name"]: one["value"].get("value") for one in node.get("properties", [])}
+                texts = [node.get(key, {}).get("value", "") for key in ("name", "description")]
+                found.append((*texts, marks.get("invalid") == "true"))
+        return found
+
+    def picture(self, x, y, width, height, scale=1):
+        """A part of the page as PNG, also of what is outside the window."""
+        clip = {"x": x, "y": y, "width": width, "height": height, "scale": scale}
+        return base64.b64decode(self.chromium("Page.captureScreenshot", clip=clip, captureBeyondViewport=True)["data"])
+
+    def whole_picture(self):
+        """The page from top to end."""
+        width, height = self.run("return [document.documentElement.scrollWidth, document.documentElement.scrollHeight]")
+        return self.picture(0, 0, width, min(height, 8000))
+
+    def printed(self):
         """The page as PDF, on the paper that its own style asks for."""
-        answer = self.ask("POST", "/goog/cdp/execute", {"cmd": "Page.printToPDF", "params": {"preferCSSPageSize": True, "printBackground": True}})
-        path.write_bytes(base64.b64decode(answer["data"]))
+        return base64.b64decode(self.chromium("Page.printToPDF", preferCSSPageSize=True, printBackground=True)["data"])
