@@ -1,4 +1,5 @@
 """The words behind a command: files, options with a value, flags."""
+import os
 from typing import List, NamedTuple, Optional, Set, Tuple
 
 from .errors import Unreadable
@@ -39,7 +40,16 @@ def parse(command, words, flags=()):
             out = value
         else:
             options.append((name, value))
+    if out is not None and any(is_same(file, out) for file in files):
+        raise Unreadable("--out %s is what is read, and would be lost; give another name" % quoted(out))
     return Arguments(files, options, given, out)
+
+
+def is_same(file, out):
+    try:
+        return os.path.samefile(file, out)
+    except (OSError, ValueError):
+        return False
 
 
 def flag(command, name, equals, flags):

@@ -1,5 +1,5 @@
 """The command katchidul: finds the command that is asked for, and turns what goes wrong into a sentence and a status."""
-import importlib
+import importlib.util
 import re
 
 from . import making, showing, streams
@@ -10,7 +10,7 @@ from .ramadan import first_days
 from .version import version
 from .wording import did_you_mean, quoted
 
-# Parts that stand alone: each is a package with main(words), which has a help of its own.
+# Each of these commands is a package of its own, with main(words) and its own help.
 APART = {"preview": "preview", "desk": "page", "spool": "spool"}
 
 
@@ -28,9 +28,17 @@ COMMANDS = {"make": making.make, "show": showing.show, "table": showing.table, "
             "brf": showing.brf, "wear": showing.wear, "week": showing.week, "ramadan": ramadan}
 
 
+def apart(name):
+    """The package of a command. An installation may lack it."""
+    package = "%s.%s" % (__package__, APART[name])
+    if importlib.util.find_spec(package) is None:
+        raise DeskError("katchidul %s is not part of this installation" % name)
+    return importlib.import_module(package)
+
+
 def run(words):
     if words and words[0] in APART:
-        return importlib.import_module("." + APART[words[0]], __package__).main(words[1:])
+        return apart(words[0]).main(words[1:])
     if "--version" in words[:1]:
         streams.write(("katchidul %s\n" % version()).encode("ascii"))
         return 0

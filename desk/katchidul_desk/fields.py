@@ -1,7 +1,8 @@
 """The fields of an order: docs/ORDERS.md has the same tables, and tests/order_document holds both to the library."""
 from typing import Any, NamedTuple, Sequence
 
-from .kinds import Choice, Clock, Day, Degrees, Minutes, Ramadan, Rows, Whole
+from .dates import Day
+from .kinds import Choice, Clock, Degrees, Minutes, Ramadan, Rows, Whole
 from .places import LATITUDE, LONGITUDE
 from .towns import Town
 from .wording import plain
@@ -31,12 +32,12 @@ PRESETS = [
     Preset("Turkey", 18.0, 17.0, 0, "Nearest"),
     Preset("Other", 0.0, 0.0, 0, "Nearest"),
 ]
-# The usual short names of methods. A name that elsewhere stands for other angles is not among them.
+# The usual short names of methods. A name that means other angles elsewhere is not among them.
 SHORT = {"MWL": "MuslimWorldLeague", "Egypt": "Egyptian", "EGAS": "Egyptian", "UISK": "Karachi", "Makkah": "UmmAlQura", "Mecca": "UmmAlQura",
          "UQU": "UmmAlQura", "MCW": "MoonsightingCommittee", "Moonsighting": "MoonsightingCommittee", "ISNA": "NorthAmerica",
          "MUIS": "Singapore", "Diyanet": "Turkey"}
 
-# What a missing tag stands for: a text, or one of these four.
+# The value of a missing tag: a text, or one of these four.
 REFUSED, THE_METHODS, THE_OTHERS, NONE = object(), object(), object(), object()
 METHOD, CLOCK = 6, 16
 

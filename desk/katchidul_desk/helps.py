@@ -59,9 +59,8 @@ For tests, and for an order that is damaged:
 
 SHOW = """katchidul show ORDER...
 
-Says in words what an order asks for, what stands for the fields that it leaves out, and of a damaged one what is broken. What it
-prints is a text, and make gives the same bytes back for it, other than for an order over 1,024 bytes. The status is 1 if the
-programs refuse the order."""
+Says in words what an order asks for, what is used for the fields that it leaves out, and what is broken in a damaged one. It prints
+a text that makes the same order again, unless the order has over 1,024 bytes. The status is 1 if the programs refuse the order."""
 
 TABLE = """katchidul table ORDER... [--out FILE]
 

@@ -5,6 +5,7 @@ from typing import NamedTuple, Optional
 
 from . import orders, streams, zones
 from .errors import DeskError, Refused, Unreadable
+from .fields import CLOCK
 from .messages import Refusal
 from .reading import LONGEST, read
 from .wording import shown
@@ -15,10 +16,16 @@ class Given(NamedTuple):
     name: str
     order: bytes
     zone: Optional[str] = None
+    is_made: bool = False
 
     @property
     def refusal(self):
         return read(self.order).refusal
+
+    @property
+    def lacks_clock(self):
+        """Whether a text says nothing about its clock. An order that was made before is not asked again."""
+        return self.is_made and not self.zone and CLOCK not in read(self.order).values
 
     def split(self):
         """The orders by the zone's clock, or None without a zone."""
@@ -69,4 +76,4 @@ def from_text(name, text, options):
         made = orders.make(text, options)
     except Unreadable as why:
         raise Unreadable("%s: %s" % (name, why) if text else str(why), why.field, why.line) from None
-    return Given(name, made.order, made.zone)
+    return Given(name, made.order, made.zone, True)

@@ -16,6 +16,7 @@ def make(words):
             raise Refused(given.refusal)
         for line in refusal_lines(given.refusal):
             streams.say("katchidul: warning: %s" % line)
+    tell_no_clock(given)
     if given.refusal or not given.zone:
         streams.write(given.order, arguments.out)
         return 0
@@ -33,8 +34,10 @@ def write_split(made, out, anyway):
     if made.ramadan:
         names, orders = names + [out], orders + [made.ramadan]
     tell_wrong(made, anyway)
-    for name, order in zip(names, orders):
-        streams.write(order, name)
+    if several:
+        streams.write_files(zip(names, orders))
+    else:
+        streams.write(orders[0], out)
     for line in zones.lines(made, [os.path.basename(name or "") for name in names]):
         streams.say(line)
     tell_stale(out, names)
@@ -45,6 +48,12 @@ def numbered(out, number):
     """leeds.order, 1: leeds-1.order."""
     stem, suffix = os.path.splitext(out)
     return "%s-%d%s" % (stem, number, suffix)
+
+
+def tell_no_clock(given):
+    """Pages in UTC are seldom meant."""
+    if given.lacks_clock and not given.refusal:
+        streams.say("katchidul: note: there is no zone and no clock, so the pages show UTC; write zone: Europe/London or its like, or clock: 0")
 
 
 def tell_wrong(made, anyway):

@@ -10,7 +10,7 @@ class Refusal(NamedTuple):
     why: str = ""
 
 
-# Behind a colon stands the tag's name.
+# The tag's name follows a colon.
 WORDS = {
     1: "over 1,024 bytes, or cut in the field at byte",
     2: "unknown tag or wrong length in the field at byte",
@@ -29,7 +29,7 @@ LACKS = {6: "transit of the sun", 7: "sunrise", 8: "sunset"}
 
 def sentence(number, place, names):
     """The library's sentence. `names` are the fields' names by tag."""
-    words = WORDS[number]
+    words = WORDS.get(number, "place")
     if words.endswith(":"):
         words += " %s, tag" % names[place] if place in names else " tag"
     return "Refusal %d: %s %d" % (number, words, place)

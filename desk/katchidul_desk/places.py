@@ -102,7 +102,7 @@ def why_no_coordinate(tidy, axis):
     if re.fullmatch(r"[^,;]*[,;] *[+-]?\d.*", tidy) and not re.fullmatch(r"[+-]?\d+,\d+ *°? *[NSEW]?", tidy):
         return "these are two numbers; write them as one place, place: 53.8008, -1.5491"
     if re.fullmatch(r"[+-]?\d+,\d+ *°? *[NSEW]?", tidy):
-        return "decimals stand behind a point: write %s" % tidy.replace(",", ".")
+        return "decimals are written behind a point: write %s" % tidy.replace(",", ".")
     if re.fullmatch(r".*[NSEW]", tidy) and tidy[-1] not in axis.on_map.letters:
         return "a %s takes %s, and %s is the other coordinate's" % (axis.name, letters, tidy[-1])
     if re.fullmatch(r"[+-].*[NSEW]", tidy):

@@ -1,4 +1,4 @@
-"""Runs the proved programs: those that are installed beside this package, or else those of the checkout that it stands in.
+"""Runs the proved programs: those that are installed beside this package, or else those of its checkout.
 
 A checkout's program is proved and built before its first run, and again after a change to a crate. KATCHIDUL_PROGRAMS names another
 folder of programs."""
@@ -83,9 +83,10 @@ def is_current(root, program, checked):
     """Whether no crate is newer than the last proof. The program's own age does not tell: rt leaves it when a change does not touch it."""
     try:
         since = checked.stat().st_mtime_ns
+        return os.access(program, os.X_OK) and all(path.lstat().st_mtime_ns <= since for path in sources(root))
     except OSError:
+        # No proof yet, or a file that went away meanwhile.
         return False
-    return os.access(program, os.X_OK) and all(path.stat().st_mtime_ns <= since for path in sources(root))
 
 
 def sources(root):

@@ -3,8 +3,9 @@ import datetime
 import struct
 from typing import List, NamedTuple, Optional, Tuple
 
+from .dates import date_of
 from .fields import CLOCK, FLOATS, MAPS, REFUSED, TAGS, Tag
-from .kinds import DATE_TAG, RAMADAN_TAG, date_of
+from .kinds import DATE_TAG, RAMADAN_TAG
 from .messages import Refusal
 from .numbers import byte_count
 from .ramadan import opens_ramadan

@@ -2,7 +2,7 @@
 from . import braille, inputs, orders, programs, streams, tables, weeks, zones
 from .arguments import parse
 from .errors import Refused, Unreadable
-from .making import tell_wrong
+from .making import tell_no_clock, tell_wrong
 from .orders import refusal_lines
 from .sheets import reason
 
@@ -10,7 +10,7 @@ from .sheets import reason
 def show(words):
     arguments = parse("show", words)
     every = inputs.given(arguments, "show")
-    streams.write(streams.in_terminals_letters("\n".join(orders.show(given.order) for given in every)), arguments.out)
+    write_text("\n".join(orders.show(order) for given in every for order in orders_or_refused(given)), arguments.out)
     return 1 if any(given.refusal for given in every) else 0
 
 
@@ -42,7 +42,7 @@ def table(words):
         if split is None:
             texts.append(tables.table(given.order))
             continue
-        notes = list(zones.elsewhere_lines(split)) + list(zones.wrong_lines(split))
+        notes = [*zones.elsewhere_lines(split), *zones.odd_noon_lines(split), *zones.wrong_lines(split)]
         texts.append(tables.split_table(split) + "".join(line + "\n" for line in notes))
     return write_text("\n".join(texts), arguments.out)
 
@@ -58,9 +58,10 @@ def pages_by_order(given, anyway):
     """The pages of each order with its name. A page that would show a wrong time is left out unless it is asked for."""
     split = checked(given)
     if split is None:
+        tell_no_clock(given)
         return [(given.name, braille.pages(given.order))]
     tell_wrong(split, anyway)
-    for line in zones.lines(split, ["order %d" % number for number in range(1, len(split.parts) + 1)] + [given.name]):
+    for line in zones.lines(split, ["order %d" % number for number in range(1, len(split.parts) + 1)]):
         streams.say(line)
     return [("%s to %s" % (part.first, part.last), braille.pages(part.order)) for part in split.parts]
 

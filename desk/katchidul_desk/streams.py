@@ -65,31 +65,38 @@ def is_terminal():
 
 
 def write(data, out=None):
-    """To a file, or to standard output. A file is replaced when all is written, and not before."""
+    """To a file, or to standard output."""
     if out is None or out == "-":
-        return write_standard(data)
+        write_standard(data)
+    else:
+        write_files([(out, data)])
+
+
+def write_files(files):
+    """Writes (name, bytes) pairs: each file is replaced when all of them are written whole, and none before."""
+    parts = []
     try:
-        if os.path.exists(out) and not stat.S_ISREG(os.stat(out).st_mode):
-            with open(out, "wb", buffering=0) as device:
-                write_all(device.fileno(), data)
-        else:
-            replace(out, data)
+        for out, data in files:
+            if os.path.exists(out) and not stat.S_ISREG(os.stat(out).st_mode):
+                with open(out, "wb", buffering=0) as device:
+                    write_all(device.fileno(), data)
+            else:
+                parts.append(("%s.%d.part" % (os.path.realpath(out), os.getpid()), os.path.realpath(out)))
+                write_part(parts[-1][0], data)
+        for part, whole in parts:
+            os.replace(part, whole)
     except (OSError, ValueError) as why:
         raise DeskError("%s can't be written: %s" % (out, getattr(why, "strerror", None) or why)) from None
+    finally:
+        for part, _ in parts:
+            if os.path.exists(part):
+                os.unlink(part)
 
 
-def replace(out, data):
-    out = os.path.realpath(out)
-    part = "%s.%d.part" % (out, os.getpid())
-    try:
-        with open(part, "xb", buffering=0) as file:
-            write_all(file.fileno(), data)
-            os.fsync(file.fileno())
-        os.replace(part, out)
-    except BaseException:
-        if os.path.exists(part):
-            os.unlink(part)
-        raise
+def write_part(part, data):
+    with open(part, "xb", buffering=0) as file:
+        write_all(file.fileno(), data)
+        os.fsync(file.fileno())
 
 
 def write_standard(data):

@@ -27,7 +27,7 @@ def clock_time(instant, date, minutes):
 
 
 def laid_out(whole, clocks, zone=""):
-    """The clock is said again where it changes."""
+    """The lines of a table. The clock is said again when it changes."""
     first, last = whole.rows[0].date, whole.rows[-1].date
     lines = ["%s, %s to %s%s" % (whole.town, first, last, zone), "a time on another date than its row's has the days behind it, as 00:15+1",
              "", "".ljust(15) + "".join(column.ljust(WIDTH) for column in whole.columns).rstrip()]

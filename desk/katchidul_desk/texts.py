@@ -3,13 +3,14 @@ import datetime
 import re
 from typing import NamedTuple, Optional
 
+from .dates import MONTHS, Day, date_of, days_in
 from .errors import Unreadable
 from .fields import AXES, BY_NAME, CLOCK, FLOATS, TAGS
-from .kinds import DATE_TAG, MONTHS, Day, date_of, days_in
+from .kinds import DATE_TAG
 from .numbers import hexadecimal, signs, whole_bytes
-from .places import LATITUDE, LONGITUDE, coordinate, place
+from .places import coordinate, place
 from .reading import coded
-from .wording import BLANKS, did_you_mean, plain, quoted
+from .wording import BLANKS, as_bytes, did_you_mean, plain, quoted
 
 # Longer than any value in words. It keeps a pasted file from being worked on as one.
 LONGEST_VALUE = 400
@@ -109,7 +110,7 @@ def to_last(text):
 
 
 def from_zone(text):
-    return [Part(ZONE, text.encode("utf-8", "surrogateescape"), "zone")]
+    return [Part(ZONE, as_bytes(text), "zone")]
 
 
 WAYS = {"place": from_place, "month": from_month, "from": from_first, "to": to_last, "zone": from_zone, "timezone": from_zone}
@@ -119,7 +120,7 @@ WAYS = {"place": from_place, "month": from_month, "from": from_first, "to": to_l
 
 
 def text_parts(text):
-    """The parts that a text gives, and whether they are to stand as listed."""
+    """The parts that a text gives, and whether they keep their order."""
     parts, as_listed = [], False
     # Only a newline ends a line: a town may hold what Unicode calls a line's end too, to be told of it.
     for number, line in enumerate(text.lstrip("\ufeff").split("\n"), 1):
@@ -163,7 +164,7 @@ def say_what_is_given_twice(parts):
 
 
 def with_options(parts, from_options):
-    """An option's field stands for all of the text's parts of that field, at the first one's place."""
+    """An option replaces all of the text's parts of its field, at the first one's place."""
     for asked in dict.fromkeys(part.field for part in from_options):
         at = next((at for at, part in enumerate(parts) if part.field == asked), len(parts))
         parts = [part for part in parts if part.field != asked]
@@ -175,10 +176,12 @@ def with_rows(parts):
     """The parts with the rows that a last day gives."""
     if not any(part.last for part in parts):
         return parts
-    first = next((date_of(part.value) for part in parts if part.tag == DATE_TAG and len(part.value) == 4), None)
+    first = next((part for part in parts if part.tag == DATE_TAG and len(part.value) == 4), None)
     if first is None:
         raise Unreadable("to: needs the first day; write from: 2026-09-01 too", "to")
-    return [counted_rows(part, first) if part.last else part for part in parts]
+    if date_of(first.value) is None:
+        raise Unreadable("%s: %s" % (first.given, Day().fault(first.value, {})), plain(first.given))
+    return [counted_rows(part, date_of(first.value)) if part.last else part for part in parts]
 
 
 def counted_rows(part, first):

@@ -6,9 +6,11 @@ from .errors import Unreadable
 from .wording import as_bytes, escaped
 
 # Letters that no accent explains.
-SPELT = str.maketrans({"ø": "o", "Ø": "O", "ł": "l", "Ł": "L", "đ": "d", "Đ": "D", "ð": "d", "Ð": "D", "ı": "i", "ß": "ss", "ẞ": "SS", "æ": "ae",
-                       "Æ": "AE", "œ": "oe", "Œ": "OE", "þ": "th", "Þ": "Th", "ħ": "h", "Ħ": "H", "\u2018": "'", "\u2019": "'", "\u02bb": "'",
-                       "\u02bc": "'", "\u02bf": "'", "\u02be": "'", "\u2010": "-", "\u2011": "-", "\u2013": "-", "\u2014": "-", "\u00a0": " "})
+SPELT = str.maketrans({
+    "ø": "o", "Ø": "O", "ł": "l", "Ł": "L", "đ": "d", "Đ": "D", "ð": "d", "Ð": "D", "ħ": "h", "Ħ": "H", "ı": "i", "ß": "ss", "ẞ": "SS",
+    "æ": "ae", "Æ": "AE", "œ": "oe", "Œ": "OE", "þ": "th", "Þ": "Th",
+    # Apostrophes, those of transliterated Arabic among them; hyphens and dashes; the blank that does not break.
+    **dict.fromkeys("\u2018\u2019\u02bb\u02bc\u02be\u02bf", "'"), **dict.fromkeys("\u2010\u2011\u2013\u2014", "-"), "\u00a0": " "})
 
 
 def unescaped(text):

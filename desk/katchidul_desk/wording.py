@@ -12,7 +12,11 @@ def plain(name):
 
 
 def as_bytes(text):
-    return text.encode("utf-8", "surrogateescape")
+    """The bytes that a text was read from. Half a pair of UTF-16, which no file gives, is kept too."""
+    try:
+        return text.encode("utf-8", "surrogateescape")
+    except UnicodeEncodeError:
+        return text.encode("utf-8", "surrogatepass")
 
 
 def escaped(value):

@@ -4,6 +4,7 @@ import importlib.util
 import os
 import pathlib
 import random
+import signal
 import subprocess
 import sys
 import tempfile
@@ -57,6 +58,11 @@ def started(*words, given=b"", **more):
     """The same of the command as it is started by a person."""
     run = subprocess.run([COMMAND, *words], input=given, capture_output=True, check=False, **more)
     return run.returncode, run.stdout, run.stderr.decode("utf-8", "replace")
+
+
+def hears_the_keyboard():
+    """Before a run that is to be stopped: a shell's background job has the keyboard's signal ignored, and so would its children."""
+    signal.signal(signal.SIGINT, signal.SIG_DFL)
 
 
 def program(name, order):

@@ -9,7 +9,7 @@ import time
 from katchidul_desk import orders, streams
 from katchidul_desk.errors import DeskError
 
-from .checks import COMMAND, PROGRAMS, ROOT, check, run, started
+from .checks import COMMAND, PROGRAMS, ROOT, check, hears_the_keyboard, run, started
 
 ORDER = ROOT / "examples" / "durham-clock.order"
 COMMANDS = ("show", "sheet", "table", "cells", "brf", "wear", "week", "make")
@@ -50,6 +50,12 @@ def output_files():
         check("a file stays when nothing is made", (kept.read_bytes(), os.listdir(folder)), (b"old", ["kept.brf"]))
         run("brf", ORDER, "--out", kept)
         check("and is replaced by a whole one", (kept.read_bytes()[:3], os.listdir(folder)), (b"#JA", ["kept.brf"]))
+        check("what is read is not replaced", (run("table", ORDER, "--out", ORDER)[:2], ORDER.read_bytes()[:1]), ((2, b""), b"\1"))
+        written = [(folder + "/a", b"1"), (folder + "/none/b", b"2")]
+        try:
+            streams.write_files(written)
+        except DeskError as why:
+            check("of several files none is written", (str(why).endswith("No such file or directory"), os.listdir(folder)), (True, ["kept.brf"]))
         link = pathlib.Path(folder) / "link.brf"
         link.symlink_to("kept.brf")
         run("brf", ROOT / "examples" / "pole.order", "--out", link)
@@ -109,7 +115,8 @@ def long_values():
 def signals():
     """An order on the way is stopped by the keyboard without a word, and leaves no file."""
     with tempfile.TemporaryDirectory() as folder:
-        run = subprocess.Popen([COMMAND, "make", "-", "--out", os.path.join(folder, "x.order")], stdin=subprocess.PIPE, stderr=subprocess.PIPE)
+        run = subprocess.Popen([COMMAND, "make", "-", "--out", os.path.join(folder, "x.order")], stdin=subprocess.PIPE, stderr=subprocess.PIPE,
+                               preexec_fn=hears_the_keyboard)
         time.sleep(1)
         run.send_signal(signal.SIGINT)
         said = run.stderr.read()
@@ -118,7 +125,7 @@ def signals():
 
 
 def printed():
-    """tools/printed, which stands before the installed programs: a closed or a folder's input is no empty order, and a signal leaves no file."""
+    """tools/printed, which runs the installed programs: a closed or a folder's input is no empty order, and a signal leaves no file."""
     sheet = os.path.join(PROGRAMS, "sheet")
     for line, status, part in [("tools/printed $S <&-", 2, "standard input is closed"), ("tools/printed $S </", 2, "standard input is a folder"),
                                ("tools/printed $S <$O", 0, ""), ("tools/printed $S <examples/cut.order", 3, ""), ("tools/printed $S </dev/null", 3, ""),
@@ -126,7 +133,8 @@ def printed():
         says(line, "cd %s && %s" % (ROOT, line), status, part, S=sheet)
     with tempfile.TemporaryDirectory() as folder:
         for sent in (signal.SIGTERM, signal.SIGHUP, signal.SIGINT):
-            run = subprocess.Popen([ROOT / "tools" / "printed", sheet], stdin=subprocess.PIPE, env={**os.environ, "TMPDIR": folder})
+            run = subprocess.Popen([ROOT / "tools" / "printed", sheet], stdin=subprocess.PIPE, env={**os.environ, "TMPDIR": folder},
+                                   preexec_fn=hears_the_keyboard)
             for _ in range(500):
                 if os.listdir(folder):
                     break

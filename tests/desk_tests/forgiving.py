@@ -114,7 +114,8 @@ def days():
     check("an option over a month", orders.fields(orders.make("month: 2026-10", BASE[:1] + BASE[2:] + [("rows", "7")]).order)["rows"], "7")
     check("a month over a first day", orders.make("first day: 2026-01-01\nrows: 3\n", BASE).order, orders.make("", BASE).order)
     for text, part in [("to: 2026-10-31", "needs the first day"), ("from: 2026-10-02\nto: 2026-10-01", "are 0 days"), ("from: 2025-01-01\nto: 2026-10-01", "are 639 days"),
-                       ("to: 2026-06-31", "June has 30 days"), ("month: 2026-10\nrows: 3", "month and rows both give the rows; leave one out"),
+                       ("to: 2026-06-31", "June has 30 days"), ("from: 2026-06-31\nto: 2026-07-01", "from: June has 30 days"),
+                       ("from: 0000-01-01\nto: 2026-07-01", "0 is no year"), ("month: 2026-10\nrows: 3", "month and rows both give the rows; leave one out"),
                        ("from: 2026-10-01\nfirst day: 2026-10-01", "from and first day both give the first day"),
                        ("rows: 3\nto: 2026-10-31", "rows and to both"), ("place: 1, 2\nlatitude: 1", "place and latitude both give the latitude"),
                        ("clock: 60\nzone: Europe/London", "clock and zone both give the clock")]:
@@ -169,6 +170,7 @@ def towns():
                        ("Le\x07eds", "control")]:
         made = orders.make("", [("town", town), *BASE[1:]])
         check("town: " + town, made.refusal and part in made.refusal.why or made.refusal, True)
+    check("half a pair", orders.make("", [("town", "\ud800"), *BASE[1:], ("zone", "\ud800")]).refusal.place, 1)
     made = orders.make("town: Leeds\udcff", BASE[1:])
     check("a town that is not UTF-8", "no letters" in made.refusal.why, True)
 

@@ -25,7 +25,7 @@ def mutated_text(draw):
         elif kind == 1:
             text = text[:at] + text[at + draw.randint(1, 12):]
         elif kind == 2:
-            text = text[:at] + chr(draw.choice([draw.randrange(128), draw.randrange(0xd800), draw.randrange(0xdc80, 0xdd00)])) + text[at + 1:]
+            text = text[:at] + chr(draw.choice([draw.randrange(128), draw.randrange(0xd800), draw.randrange(0xd800, 0xe000)])) + text[at + 1:]
         elif kind == 3:
             lines = text.split("\n")
             lines.insert(draw.randrange(len(lines) + 1), draw.choice(draw.choice(TEXTS).split("\n")))
@@ -56,7 +56,7 @@ def every_way(order, whole):
         messages.sentence(refusal.number, refusal.place, {})
     own = int(cases.line(order).split()[0])
     if (refusal.number if refusal else 0) != own:
-        raise AssertionError("the second reader answers %d" % own)
+        raise AssertionError("the second reader returns %d" % own)
     if whole:
         try:
             sheets.sheet(order)

@@ -8,7 +8,7 @@ import sys
 import tempfile
 import time
 
-from .checks import ROOT, check
+from .checks import ROOT, check, hears_the_keyboard
 
 # It reads its input, to show that the order is not there; it keeps an old program, as rt does when a change does not touch it; it counts
 # its runs, and is slow while the file `slow` is there.
@@ -55,7 +55,7 @@ class Checkout:
 
     def start(self, *words):
         return subprocess.Popen([self.root / "katchidul", *words], stdin=subprocess.PIPE, stdout=subprocess.PIPE, stderr=subprocess.PIPE,
-                                env=self.environment(), cwd="/")
+                                env=self.environment(), cwd="/", preexec_fn=hears_the_keyboard)
 
     def run(self, *words, given=GIVEN):
         run = self.start(*words)
@@ -85,7 +85,10 @@ def proofs(checkout):
     status, printed, said = checkout.run("sheet")
     check("the first time", (status, printed, len(checkout.proofs())), (0, GIVEN, 2))
     check("progress", ("proving everything below the program sheet" in said, "rt: sheet proved (1 s)" in said, "fn sheet" in said), (True, True, False))
-    check("the second time", (checkout.run("sheet"), len(checkout.proofs())), ((0, GIVEN, ""), 2))
+    (checkout.root / "crates" / ".#editor").symlink_to("nothing")
+    os.utime(checkout.root / "crates", (0, 0))
+    os.utime(checkout.root / "crates" / ".#editor", (0, 0), follow_symlinks=False)
+    check("the second time, with a link to nothing", (checkout.run("sheet"), len(checkout.proofs())), ((0, GIVEN, ""), 2))
     time.sleep(0.05)
     checkout.touch("crates/sheet/src/main.rt")
     check("after a change", (checkout.run("sheet")[:2], len(checkout.proofs())), ((0, GIVEN), 3))
@@ -141,7 +144,7 @@ def refused(checkout):
     """A refused order is told by its status. A town of that name, and a cell with a newline's byte, are not."""
     checkout.run("sheet")
     program = checkout.root / "target" / "bin" / "sheet"
-    for text, status in [("order refused 5 place 16\\n", 1), ("order refused 5 place 16\\ndate fajr\\n", 0), ("order refused 5 place 16", 0), ("", 0)]:
+    for text, status in [("order refused 5 place 16\\n", 1), ("order refused 99 place 7\\n", 1), ("order refused 5 place 16\\ndate fajr\\n", 0), ("order refused 5 place 16", 0), ("", 0)]:
         program.write_text("#!/bin/sh\ncat >/dev/null\nprintf '%s'\n" % text)
         wanted = text.replace("\\n", "\n").encode()
         check("a program that prints %r" % text, checkout.run("sheet")[:2], (status, wanted))

@@ -102,6 +102,8 @@ def several():
     check("a text with a zone in one BRF", (status, printed.count(b"\r\n"), printed.count(b"\f"), "checked: the 186 times" in said), (0, 31, 2, True))
     status, printed, said = run("table", "-", given=text)
     check("its table", (status, printed.count(b"clock: UTC"), b"\nSun 2026-10-25 04:54 " in printed), (0, 2, True))
+    check("its orders in words", re.findall(rb"^(?:first day|clock): .*$", run("show", "-", given=text)[1], re.MULTILINE),
+          [b"first day: 2026-10-01", b"clock: 60", b"first day: 2026-10-25", b"clock: 0"])
     check("its sheet is one", run("sheet", "-", given=text)[1].count(b"\n"), 33)
     check("its weeks", run("week", "-", given=text)[1].count(b" to "), 19)
     with tempfile.TemporaryDirectory() as folder:
