@@ -28,15 +28,15 @@ static course meet(room *r, const char *path) {
   return c;
 }
 
-/* Without -s the host gives up after its patience. With it the host waits, and says so once for each reason. */
+/* A tenth of the patience is between two tries. Without -s the host gives up after ten; with it the host waits, and says so once for each
+   reason. */
 static course find_embosser(room *r, const char *path) {
-  moment end = after(r->embosser.patience);
   text told = {""};
-  for (;;) {
+  for (int tries = 1;; tries++) {
     course c = meet(r, path);
     if (c == GOES_ON && told.text[0] != '\0') say("the embosser is back");
     if (c != LINK_LOST) return c;
-    bool waits = r->stays || !has_passed(end);
+    bool waits = r->stays || tries < 10;
     if (!waits || (r->stays && strcmp(told.text, r->embosser.lost.text) != 0))
       say("%s%s", r->embosser.lost.text, r->stays ? "; waiting for it" : "");
     told = r->embosser.lost;

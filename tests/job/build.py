@@ -2,7 +2,6 @@
 import ctypes
 import os
 import pathlib
-import shutil
 import subprocess
 
 ROOT = pathlib.Path(__file__).resolve().parent.parent.parent
@@ -144,14 +143,23 @@ class Built:
     def checked_embosser(self):
         return self.build("checked", ROOT / "host", "-fsanitize=address,undefined")[1]
 
+    def objects(self):
+        """The host's parts, compiled once for all hosts that differ in one of them."""
+        folder = self.folder / "objects"
+        if not folder.exists():
+            folder.mkdir()
+            subprocess.run([*FLAGS, "-I", str(ROOT / "include"), "-c", *map(str, ROOT.glob("host/*.c"))], cwd=folder, check=True)
+        return folder
+
     def edited_host(self, name, file, old, new):
         """A host with one place of its text changed; the place must be there once."""
-        name = name.replace(" ", "-").replace("/", "")
-        copy = self.folder / name / "host"
-        shutil.copytree(ROOT / "host", copy)
-        (copy.parent / "include").symlink_to(ROOT / "include")
-        text = (copy / file).read_text()
+        text = (ROOT / "host" / file).read_text()
         if text.count(old) != 1:
             raise ValueError(f"{name}: the text to change stands {text.count(old)} times in {file}")
-        (copy / file).write_text(text.replace(old, new))
-        return self.build(name, copy, "-Wno-error")[0]
+        folder = self.folder / name.replace(" ", "-")
+        folder.mkdir()
+        (folder / file).write_text(text.replace(old, new))
+        others = [str(part) for part in self.objects().glob("*.o") if part.stem != pathlib.Path(file).stem]
+        program = str(folder / "katchidul-host")
+        self.run([*FLAGS, "-Wno-error", "-I", str(ROOT / "host"), "-I", str(ROOT / "include"), str(folder / file), *others, self.archive, "-o", program])
+        return program

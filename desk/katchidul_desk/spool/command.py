@@ -104,7 +104,7 @@ def reissue_after_question(spool, job, sure):
     found, first, last = again.unfinished(spool, job)
     print(f"{label(found)}: {again.words(first, last)} of {found.pages} are not finished by its log.")
     if found.sent > found.finished:
-        print(f"Of these the machine had {again.words(first, found.sent)}: look whether they lie in the tray.")
+        print(f"Of these the machine had {again.words(first, found.sent)}: if they lie in the tray, throw them away.")
     if not sure:
         print(f"Print {again.words(first, last)} as a new order, and end job {job}? yes or no: ", end="", flush=True)
         sure = sys.stdin.readline().strip().lower() == "yes"
