@@ -20,5 +20,5 @@ def run(check, command, folder, count, seed):
     finally:
         said = desk.end()
     check("nothing of it on the terminal", (said, desk.process.returncode), (b"The desk has ended.\n", 0))
-    refused.short_timeouts(check, folder, spool)
+    refused.bad_clients(check, folder, spool)
     served.without_spool(check, command, folder)

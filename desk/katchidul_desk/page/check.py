@@ -15,9 +15,10 @@ FIELD = {"firstday": "from", "rows": "to", "latitude": "place", "longitude": "pl
 
 
 def as_sentence(why):
-    """With a capital and a full stop."""
+    """With a capital, unless it begins with the name of a file, and with a full stop."""
     text = str(why)
-    return text[:1].upper() + text[1:] + ("" if text.endswith((".", "?")) else ".")
+    start = text[:1].upper() if text.split(" ")[0].isalpha() else text[:1]
+    return start + text[1:] + ("" if text.endswith((".", "?")) else ".")
 
 
 def value_fault(name, value):

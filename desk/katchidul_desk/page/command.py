@@ -13,10 +13,10 @@ HELP = """katchidul desk: a page for the browser of this computer, to make, chec
 
     katchidul desk [--port N] [--folder FOLDER] [--spool SPOOL]
 
-It prints the page's address and serves it until Ctrl-C. Only this computer can open it.
+It prints the page's address and serves the page until Ctrl-C. Only this computer can open it.
 
   --port N          the port, %d if left out; 0 takes one that is free
-  --folder FOLDER   where the texts and orders are that the page can open; this folder if left out
+  --folder FOLDER   the folder whose texts and orders the page can open; the current one if left out
   --spool SPOOL     the print room's spool; without it nothing can be printed from the page
 
 Exit status: 0 ended by Ctrl-C; 2 the page can't be served, and a line says why.""" % PORT

@@ -23,7 +23,8 @@ def own(name):
 def listed(folder):
     """The names of the texts and orders in the folder."""
     try:
-        return sorted(entry.name for entry in os.scandir(folder) if is_ours(entry.name) and entry.is_file(follow_symlinks=False))[:MOST]
+        with os.scandir(folder) as entries:
+            return sorted(entry.name for entry in entries if is_ours(entry.name) and entry.is_file(follow_symlinks=False))[:MOST]
     except OSError:
         return []
 
@@ -36,26 +37,27 @@ def is_ours(name):
 def content(folder, name):
     """A file of the folder. A name that leads out of it, by a path or by a link, is refused."""
     if not is_ours(name):
-        raise Unreadable("the page opens texts and orders of its own folder alone")
+        raise Unreadable("the page opens only the texts and orders of its folder")
     try:
         # Without waiting, as a pipe would make it, and without following a link.
         descriptor = os.open(os.path.join(folder, name), os.O_RDONLY | os.O_NOFOLLOW | os.O_NONBLOCK | os.O_CLOEXEC)
         with open(descriptor, "rb") as file:
             if not stat.S_ISREG(os.fstat(descriptor).st_mode):
-                raise Unreadable("%s is no file" % name)
+                raise Unreadable("%s is not a file" % name)
             return file.read(LONGEST + 1)
-    except (OSError, ValueError):
-        raise Unreadable("%s can't be opened: it is not there, or not to be read" % name) from None
+    except (OSError, ValueError) as why:
+        raise Unreadable("%s can't be opened: %s" % (name[:100], getattr(why, "strerror", None) or why)) from None
 
 
 def opened(folder, name):
     """The text of a file, from a text or an order."""
     data = content(folder, name)
     if len(data) > LONGEST:
-        raise Unreadable("%s has over 64 KB, and is no text or order" % name)
-    if not name.endswith(".order"):
-        return data.decode("utf-8", "replace")
+        raise Unreadable("%s is over 64 KB, so it is neither a text nor an order" % name)
+    # The length of a field begins with a zero byte, and no text has one.
+    if b"\0" not in data:
+        return data.decode("utf-8-sig", "replace")
     refusal = reading.read(data).refusal
     if refusal:
-        raise DeskError("%s is no order that can be changed here: %s" % (name, refusal.why))
+        raise DeskError("%s is not an order that the programs accept: %s" % (name, refusal.why))
     return orders.show(data)

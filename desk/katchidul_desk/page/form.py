@@ -61,10 +61,10 @@ MORE = [
         Field("isha angle", "Isha angle", "Degrees, as 17."),
         Field("isha interval", "Isha interval", "Minutes after sunset, in place of the angle."),
         Field("rounding", "Rounding", "", choices("rounding", "As the method has it")),
-        Field("shafaq", "Shafaq", "For the Moonsighting Committee's method alone.", choices("shafaq", "General, if nothing is chosen")),
+        Field("shafaq", "Shafaq", "Only for the Moonsighting Committee's method.", choices("shafaq", "General, if nothing is chosen")),
         Field("carry", "Times at midnight UTC", "Carries keeps a day whose sunset rounds to 24:00 UTC.",
               choices("carry", "Stops, if nothing is chosen")),
-        Field("southern", "Southern season", "For the Moonsighting Committee's method in the south alone.",
+        Field("southern", "Southern season", "Only for the Moonsighting Committee's method, south of the equator.",
               choices("southern", "Unreduced, if nothing is chosen")),
         Field("ramadan", "Ramadan sheet", "As imsak 10, shift 0. The days are then 30, from the 1st of Ramadan."),
     ]),
@@ -78,7 +78,7 @@ def pairs(body):
     try:
         return parse_qsl(body.decode("ascii"), keep_blank_values=True, errors="strict", max_num_fields=MOST_FIELDS)
     except ValueError:
-        raise safety.Refused(400, "The body is no form in UTF-8 of at most %d fields." % MOST_FIELDS) from None
+        raise safety.Refused(400, "The body is not a form in UTF-8 of at most %d fields." % MOST_FIELDS) from None
 
 
 def one_line(value):

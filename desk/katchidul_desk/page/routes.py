@@ -28,9 +28,9 @@ class Page:
         path, query = split(target)
         posted = {"/check": self.check, "/download": self.download, "/spool": self.put}.get(path)
         if method == "POST":
-            return posted(dict(form.pairs(body))) if posted else answers.sentence("This path takes GET alone.", 405, Allow="GET, HEAD")
+            return posted(dict(form.pairs(body))) if posted else answers.sentence("This path takes only GET.", 405, Allow="GET, HEAD")
         if posted:
-            return answers.sentence("This path takes POST alone.", 405, Allow="POST")
+            return answers.sentence("This path takes only POST.", 405, Allow="POST")
         if path == "/":
             return self.first(query)
         if path == "/jobs":
@@ -49,7 +49,7 @@ class Page:
             except DeskError as why:
                 return self.page(BLANK, {}, layout.notice(check.as_sentence(why)))
         # Only what is true: a link of another page may say anything.
-        names = [job.name for job in self.jobs() if ("sent", job.name) in query]
+        names = dict.fromkeys(job.name for job in self.jobs() if ("sent", job.name) in query)
         if names:
             return self.page(BLANK, {}, layout.notice("In the spool: %s." % ", ".join(names), "status"))
         if any(field.id in sent for field in form.FIELDS):
@@ -60,7 +60,7 @@ class Page:
         """The pages of a filled form, or its faults."""
         faults = check.faults(values)
         if faults:
-            return self.page(values, faults, told)
+            return self.page(values, faults, told, code=code)
         text = form.text(values)
         try:
             timetable = made_of(text)

@@ -27,7 +27,7 @@ def check_sender(headers, port):
     """Raises Refused for a request that another site's page made."""
     hosts, origins = headers.get_all("Host", []), headers.get_all("Origin", [])
     if len(hosts) != 1 or hosts[0].strip().lower() not in own_hosts(port):
-        raise Refused(403, "This page is served to %s:%d alone. Open http://%s:%d/ in the browser." % (ADDRESS, port, ADDRESS, port))
+        raise Refused(403, "This page has another address. Open http://%s:%d/ in the browser of this computer." % (ADDRESS, port))
     if any(origin.strip().lower() not in {"http://" + host for host in own_hosts(port)} for origin in origins):
         raise Refused(403, "Another site sent this request, so it is not served.")
 
@@ -36,15 +36,15 @@ def body_length(headers):
     """The length of a request's body. Raises Refused when it is not stated as one number, or over 64 KB."""
     lengths = headers.get_all("Content-Length", [])
     if headers.get_all("Transfer-Encoding", []) or not lengths:
-        raise Refused(411, "A request states the length of its body.")
+        raise Refused(411, "The request does not say how long its body is.")
     if len(lengths) != 1 or not re.fullmatch("[0-9]{1,20}", lengths[0].strip(), re.ASCII):
-        raise Refused(400, "The length of the body is no number.")
+        raise Refused(400, "The length of the body is not a number.")
     if int(lengths[0]) > LONGEST_BODY:
-        raise Refused(413, "A request has at most 64 KB.")
+        raise Refused(413, "The request is over 64 KB.")
     return int(lengths[0])
 
 
 def check_type(headers):
     """Raises Refused for a body that is no form."""
     if headers.get_content_type() != FORM:
-        raise Refused(415, "A request's body is a form (%s)." % FORM)
+        raise Refused(415, "The body is not a form (%s)." % FORM)

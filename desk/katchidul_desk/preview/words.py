@@ -1,5 +1,5 @@
 """Dates and counts in the words of the preview. The names of days and months are English whatever the system's language is."""
-from ..kinds import MONTHS
+from ..dates import MONTHS
 
 WEEKDAYS = ("Mon", "Tue", "Wed", "Thu", "Fri", "Sat", "Sun")
 
