@@ -1,5 +1,6 @@
 """Holds the preview to the programs: its dots to the cells, its table to the sheet with the clock added, its counts to wear."""
 import datetime
+import functools
 import os
 import pathlib
 import random
@@ -17,6 +18,7 @@ CELLS = {sum(1 << int(dot) - 1 for dot in dots): str(digit) for digit, dots in e
 LACKS = {6: "transit of the sun", 7: "sunrise", 8: "sunset"}
 
 
+@functools.lru_cache(maxsize=None)
 def program(name, order):
     folder = os.environ.get("PROGRAMS", ROOT / "target" / "bin")
     return subprocess.run([pathlib.Path(folder) / name], input=order, stdout=subprocess.PIPE, check=True).stdout
