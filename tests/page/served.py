@@ -129,7 +129,7 @@ def spooled(check, port, spool, shown, orders):
     check("the form keeps its values", shown.one("input", id="town").attributes["value"], "Leeds")
     check("and its choices", chosen(shown, "method"), ["MuslimWorldLeague"])
     check("what is there is told", [line.text for line in shown.one("ul", id="doubts").all("li")],
-          ["leeds-2026-10-%d.order is in the spool before this: waiting to be taken." % at for at in (1, 2)])
+          ["leeds-2026-10-%d.order is in the spool already: waiting to be taken." % at for at in (1, 2)])
     unticked = ask(port, "POST", "/spool", body=form(text=text, token=hidden(shown, "/spool", "token")))
     check("again without the tick", (unticked.status, "tick the box" in unticked.text), (409, True))
     token = hidden(document.read(unticked.text)[0], "/spool", "token")

@@ -78,7 +78,7 @@ class Page:
         names = {one.name for one in timetable.shown}
         there = [job for job in self.jobs() if job.name in names and job.state not in ("refused", "cancelled")]
         wrong = ["The pages would be wrong, as is said above."] if timetable.wrong else []
-        return wrong + ["%s is in the spool before this: %s." % (job.name, jobs.STATES.get(job.state, job.state)) for job in there]
+        return wrong + ["%s is in the spool already: %s." % (job.name, jobs.STATES.get(job.state, job.state)) for job in there]
 
     def jobs(self):
         """The spool's jobs; none if there is no spool to read."""
