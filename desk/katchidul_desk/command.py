@@ -5,7 +5,7 @@ import re
 from . import making, showing, streams
 from .errors import DeskError, Refused, Unreadable
 from .helps import help_of
-from .orders import refusal_lines
+from .orders import refused_lines
 from .ramadan import first_days
 from .version import version
 from .wording import did_you_mean, quoted
@@ -57,7 +57,7 @@ def main(words):
     try:
         return run(words)
     except Refused as why:
-        for line in refusal_lines(why.refusal):
+        for line in refused_lines(why.refusal, why.name):
             streams.say("katchidul: %s" % line)
         return why.status
     except DeskError as why:

@@ -14,12 +14,12 @@ class Unreadable(DeskError):
 
 
 class Refused(DeskError):
-    """An order that the programs refuse."""
+    """An order that the programs refuse. `name` says which one, if that is known."""
     status = 1
 
-    def __init__(self, refusal):
+    def __init__(self, refusal, name="the order"):
         super().__init__(refusal.why)
-        self.refusal = refusal
+        self.refusal, self.name = refusal, name
 
 
 class WrongTimes(DeskError):

@@ -67,7 +67,7 @@ def from_file(path, options):
     if not options:
         return Given(name, data)
     if len(data) > LONGEST:
-        raise Refused(Refusal(1, 0, "%s has more than 1,024 bytes" % name))
+        raise Refused(Refusal(1, 0, "the order has more than 1,024 bytes"), name)
     return from_text(name, orders.show(data), options)
 
 

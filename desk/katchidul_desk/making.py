@@ -4,7 +4,7 @@ import os
 from . import inputs, streams, zones
 from .arguments import parse
 from .errors import Refused, Unreadable, WrongTimes
-from .orders import refusal_lines
+from .orders import refused_lines
 
 
 def make(words):
@@ -13,12 +13,12 @@ def make(words):
     anyway = "anyway" in arguments.flags
     if given.refusal:
         if not anyway:
-            raise Refused(given.refusal)
-        for line in refusal_lines(given.refusal):
+            raise Refused(given.refusal, given.name)
+        for line in refused_lines(given.refusal, given.name):
             streams.say("katchidul: warning: %s" % line)
     tell_no_clock(given)
     if given.refusal or not given.zone:
-        streams.write(given.order, arguments.out)
+        streams.write_bytes(given.order, arguments.out)
         return 0
     return write_split(given.split(), arguments.out, anyway)
 
@@ -37,7 +37,7 @@ def write_split(made, out, anyway):
     if several:
         streams.write_files(zip(names, orders))
     else:
-        streams.write(orders[0], out)
+        streams.write_bytes(orders[0], out)
     for line in zones.lines(made, [os.path.basename(name or "") for name in names]):
         streams.say(line)
     tell_stale(out, names)

@@ -55,6 +55,11 @@ def refusal_lines(refusal):
     return [refusal.why, sentence(refusal.number, refusal.place, NAMES)]
 
 
+def refused_lines(refusal, name):
+    """The same for a person at a terminal."""
+    return ["%s is refused: %s" % (name, refusal.why), refusal_lines(refusal)[1]]
+
+
 def fields(order):
     """The fields that an order has, in its words by their names; a coordinate has one name in either form."""
     return {TAGS[FLOATS.get(tag.number, tag.number)].name: tag.kind.words(value) for _, tag, value in read(order).fields}

@@ -100,7 +100,7 @@ def why_no_coordinate(tidy, axis):
     """What is wrong with a coordinate that is not understood, and what to write."""
     letters = " or ".join(axis.on_map.letters)
     if re.fullmatch(r"[^,;]*[,;] *[+-]?\d.*", tidy) and not re.fullmatch(r"[+-]?\d+,\d+ *°? *[NSEW]?", tidy):
-        return "these are two numbers; write them as one place, place: 53.8008, -1.5491"
+        return "these are two numbers; write them as one place, place: %s" % tidy
     if re.fullmatch(r"[+-]?\d+,\d+ *°? *[NSEW]?", tidy):
         return "decimals are written behind a point: write %s" % tidy.replace(",", ".")
     if re.fullmatch(r".*[NSEW]", tidy) and tidy[-1] not in axis.on_map.letters:

@@ -3,7 +3,7 @@ from . import braille, inputs, orders, programs, streams, tables, weeks, zones
 from .arguments import parse
 from .errors import Refused, Unreadable
 from .making import tell_no_clock, tell_wrong
-from .orders import refusal_lines
+from .orders import refused_lines
 from .sheets import reason
 
 
@@ -21,17 +21,16 @@ def sheet(words):
 
 def plain(program, arguments, orders_of):
     """What a program itself prints, of all orders."""
-    text, refusals = b"", []
+    text, told = b"", []
     for given in inputs.given(arguments, program):
         for order in orders_of(given):
             printed = programs.run(program, order)
             text += printed.text
-            refusals += [reason(order, printed.refusal)] if printed.refusal else []
+            told += refused_lines(reason(order, printed.refusal), given.name) if printed.refusal else []
     streams.write(text, arguments.out)
-    for refusal in refusals:
-        for line in refusal_lines(refusal):
-            streams.say("katchidul: %s" % line)
-    return 1 if refusals else 0
+    for line in told:
+        streams.say("katchidul: %s" % line)
+    return 1 if told else 0
 
 
 def table(words):
@@ -50,7 +49,7 @@ def table(words):
 def checked(given):
     """The split of a text with a zone, or None. Raises Refused before anything is printed."""
     if given.refusal:
-        raise Refused(given.refusal)
+        raise Refused(given.refusal, given.name)
     return given.split()
 
 
@@ -81,7 +80,7 @@ def cells(words):
     if "plain" in arguments.flags:
         if len(shown) > 1:
             raise Unreadable("cells --plain writes one order, since nothing marks where the next one's pages begin; here are %d" % len(shown))
-        streams.write(b"".join(row for page in shown[0][1] for row in page), arguments.out)
+        streams.write_bytes(b"".join(row for page in shown[0][1] for row in page), arguments.out)
         return 0
     with_braille = arguments.out is not None or streams.has_letters("\u2800")
     if not with_braille:
@@ -117,7 +116,7 @@ def week(words):
     texts = []
     for given in inputs.given(arguments, "week"):
         if given.refusal:
-            raise Refused(given.refusal)
+            raise Refused(given.refusal, given.name)
         texts += [weeks.report(order) for _, order in given.orders()]
     return write_text("\n".join(texts), arguments.out)
 

@@ -72,6 +72,13 @@ def write(data, out=None):
         write_files([(out, data)])
 
 
+def write_bytes(data, out=None):
+    """The same for what is no text, and would upset a terminal."""
+    if out is None and 1 not in closed and os.isatty(1):
+        raise DeskError("these bytes are no text for a terminal; give a file's name with --out")
+    write(data, out)
+
+
 def write_files(files):
     """Writes (name, bytes) pairs: each file is replaced when all of them are written whole, and none before."""
     parts = []

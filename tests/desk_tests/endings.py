@@ -1,9 +1,12 @@
 """Streams that are closed, full, folders or without an end, and terminals of ASCII: a sentence each, and no traceback."""
+import fcntl
 import os
 import pathlib
 import signal
+import struct
 import subprocess
 import tempfile
+import termios
 import time
 
 from katchidul_desk import orders, streams
@@ -100,14 +103,14 @@ def messages_can_not_command_a_terminal():
 
 def long_values():
     """Bounded, and at once."""
-    began = time.monotonic()
+    began = time.process_time()
     for name in ("latitude", "place", "fajr angle", "rows", "clock", "method", "minutes", "first day", "month", "from", "to", "zone", "ramadan", "town", "nothing", "9" * 300000):
         for digits in ("9" * 300000, "imsak 1" + " " * 300000, "-" * 300000, "1 " * 150000, "," * 300000):
             try:
                 orders.make("%s: %s" % (name, digits))
             except DeskError as why:
                 check("a short sentence for %.20s" % name, len(str(why)) < 600, True)
-    check("in time", time.monotonic() - began < 10, True)
+    check("in time", time.process_time() - began < 10, True)
     status, _, said = run("make", "-", given=b"latitude: " + b"9" * 60000)
     check("a long latitude", (status, "too long for a value" in said), (2, True))
 
@@ -117,7 +120,12 @@ def signals():
     with tempfile.TemporaryDirectory() as folder:
         run = subprocess.Popen([COMMAND, "make", "-", "--out", os.path.join(folder, "x.order")], stdin=subprocess.PIPE, stderr=subprocess.PIPE,
                                preexec_fn=hears_the_keyboard)
-        time.sleep(1)
+        run.stdin.write(b"town: Leeds\n")
+        run.stdin.flush()
+        # When the pipe is empty the text is being read.
+        while struct.unpack("i", fcntl.ioctl(run.stdin, termios.FIONREAD, bytes(4)))[0]:
+            time.sleep(0.01)
+        time.sleep(0.1)
         run.send_signal(signal.SIGINT)
         said = run.stderr.read()
         run.stdin.close()
@@ -145,4 +153,15 @@ def printed():
             check("tools/printed stopped by %s" % sent.name, (run.wait(), os.listdir(folder)), (128 + sent, []))
 
 
-TESTS = [output, output_files, inputs, ascii_terminals, messages_can_not_command_a_terminal, long_values, signals, printed]
+def terminals():
+    """An order's bytes don't go to a terminal; and a terminal is not waited on for an order."""
+    master, slave = os.openpty()
+    for words, part in [(["make", ROOT / "examples" / "durham-clock.text"], b"give a file's name with --out"), (["cells", "--plain", ORDER], b"give a file's name with --out"),
+                        (["sheet"], b"sheet takes an order, a text, or options")]:
+        ended = subprocess.run([COMMAND, *words], stdin=slave, stdout=slave, stderr=subprocess.PIPE, check=False)
+        check("%s at a terminal" % words[0], (ended.returncode, part in ended.stderr or ended.stderr), (2, True))
+    os.close(slave)
+    os.close(master)
+
+
+TESTS = [terminals, output, output_files, inputs, ascii_terminals, messages_can_not_command_a_terminal, long_values, signals, printed]

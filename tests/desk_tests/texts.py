@@ -211,13 +211,13 @@ def refused(text, out):
     os.unlink(out)
     status, printed, said = run("make", text, "--first-day", "2026-13-01", "--out", out)
     check("what the sheet refuses is not written", (status, printed, os.path.exists(out)), (1, b"", False))
-    check("and the reason told", said, "katchidul: first day: there is no month 13\n"
+    check("and the reason told", said, "katchidul: pole.text is refused: first day: there is no month 13\n"
           "katchidul: Refusal 5: a value is out of range, or the month lacks the day: first day, tag 2\n")
     check("nor printed", run("make", text, "--first-day", "2026-13-01")[:2], (1, b""))
     status, printed, said = run("make", text, "--first-day", "2026-13-01", "--anyway", "--out", out)
     with open(out, "rb") as file:
         check("with --anyway it is", (status, printed, file.read()), (0, b"", made(POLE.replace(b"06-21", b"13-01"))))
-    check("and told as a warning", said.startswith("katchidul: warning: first day: there is no month 13\n"), True)
+    check("and told as a warning", said.startswith("katchidul: warning: pole.text is refused: first day: there is no month 13\n"), True)
 
 
 FAST = POLE.replace(b"2026-06-21", b"2026-02-18").replace(b"rows: 1", b"rows: 30") + b"ramadan: imsak 10, shift 0\n"

@@ -2,6 +2,7 @@
 import datetime
 import os
 import re
+import shlex
 import tempfile
 
 from katchidul_desk import braille, helps, reading, tables, weeks
@@ -29,7 +30,7 @@ def unchanged():
     check("of a text", run("sheet", june)[1], (ROOT / "examples" / "durham-june.sheet").read_bytes())
     check("of a text with an option", run("wear", june, "--clock", "+01:00")[1], b"dots 2653\n")
     status, printed, said = run("sheet", ROOT / "examples" / "cut.order")
-    check("a refused order's reason", said.splitlines()[0], "katchidul: at byte 20, the order ends inside latitude (tag 4), after 3 of 8 bytes")
+    check("a refused order's reason", said.splitlines()[0], "katchidul: cut.order is refused: at byte 20, the order ends inside latitude (tag 4), after 3 of 8 bytes")
 
 
 def expected_table(order):
@@ -151,4 +152,17 @@ def help_everywhere():
     check("a command that is near one", (status, said), (2, "katchidul: 'tabel' is no command; did you mean table?; katchidul --help lists them\n"))
 
 
-TESTS = [unchanged, table, pages, several, week, help_everywhere]
+def guide():
+    """What docs/DESK.md shows of the first page is what the command says."""
+    blocks = re.findall(r"^```\n(.*?)^```$", (ROOT / "docs" / "DESK.md").read_text(), re.DOTALL | re.MULTILINE)
+    words = shlex.split(blocks[0].replace("\\\n", " "))[1:-2]
+    check("the guide's first command", words[0], "brf")
+    status, printed, said = run(*words)
+    check("what it says", (status, said), (0, blocks[1]))
+    check("the lines of its table", blocks[2] in run("table", *words[1:])[1].decode(), True)
+    check("the text has the same pages", run("brf", "-", given=blocks[3].encode())[1], printed)
+    chicago = next(block for block in blocks if block.startswith("town: Chicago"))
+    check("the text of Ramadan", run("table", "-", given=chicago.encode())[0], 0)
+
+
+TESTS = [guide, unchanged, table, pages, several, week, help_everywhere]
