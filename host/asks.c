@@ -16,7 +16,7 @@ static course stop_job(room *r, uint32_t id, stopped *s) {
   job *j = room_find(r, id);
   bool in_work = j != NULL;
   *s = (stopped){.how_far = text_of("its order is missing")};
-  bool readable = in_work || job_read(r->spool, id, &read, &s->how_far) == JOB_READ;
+  bool readable = in_work || job_read(r->spool, "jobs", id, &read, &s->how_far) == JOB_READ;
   if (!in_work) j = &read;
   s->label = job_label(j);
   if (!readable) return GOES_ON;
@@ -55,13 +55,20 @@ static bool is_in_work(room *r, uint32_t id) {
   static job read;
   text why;
   if (!job_is_in(r->spool, "jobs", id)) return false;
-  return job_read(r->spool, id, &read, &why) != JOB_UNCLAIMED || !drop_unclaimed(r->spool, id);
+  return job_read(r->spool, "jobs", id, &read, &why) != JOB_UNCLAIMED || !drop_unclaimed(r->spool, id);
+}
+
+static text held_label(room *r, uint32_t id) {
+  static job read;
+  text why;
+  job_read(r->spool, "held", id, &read, &why);
+  return job_label(&read);
 }
 
 static course cancel(room *r, uint32_t id) {
-  text label = text_of("job %u", id);
   if (is_in_work(r, id)) return stop_and_move(r, id, "cancelled", "cancelled");
-  if (job_is_in(r->spool, "held", id)) say_moved(r, id, label.text, "held", "cancelled", "cancelled by the operator when it was held");
+  if (job_is_in(r->spool, "held", id))
+    say_moved(r, id, held_label(r, id).text, "held", "cancelled", "cancelled by the operator when it was held");
   else say("job %u is not cancelled: it is neither in work nor held", id);
   return GOES_ON;
 }
@@ -73,7 +80,7 @@ static course hold_asked(room *r, uint32_t id) {
 }
 
 static course release(room *r, uint32_t id) {
-  if (job_is_in(r->spool, "held", id)) say_moved(r, id, text_of("job %u", id).text, "held", "jobs", NULL);
+  if (job_is_in(r->spool, "held", id)) say_moved(r, id, held_label(r, id).text, "held", "jobs", NULL);
   else say("job %u is not released: it is not held", id);
   r->passed_over[id] = false;
   r->look_at = 0;
@@ -92,11 +99,12 @@ static course take_ask(room *r, const char *name) {
     size_t length = strlen(words[i].word);
     uint32_t id = strncmp(name, words[i].word, length) == 0 ? id_of(name + length) : 0;
     if (id == 0) continue;
+    if (!is_regular(r->spool, path_of("asks/%s", name).text)) break; /* a folder would be an ask without end */
     course c = words[i].take(r, id);
     if (c == GOES_ON) remove_lasting(r->spool, "asks", name);
     return c;
   }
-  say_once(r, text_of("asks/%s is passed over: it is not cancel, hold or release with a job's id", name).text);
+  say_once(r, text_of("asks/%s is passed over: it is no file cancel.ID, hold.ID or release.ID", name).text);
   return GOES_ON;
 }
 

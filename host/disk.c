@@ -81,6 +81,11 @@ void remove_lasting(int spool, const char *folder, const char *name) {
   else if (errno != ENOENT) stop_at(file.text);
 }
 
+bool is_regular(int spool, const char *name) {
+  struct stat is;
+  return TEMP_FAILURE_RETRY(fstatat(spool, name, &is, AT_SYMLINK_NOFOLLOW)) == 0 && S_ISREG(is.st_mode);
+}
+
 /* What of an open file there is, up to `size` bytes, in `length`. */
 static int read_open(int file, bool flush, uint8_t *bytes, size_t size, size_t *length) {
   struct stat is;

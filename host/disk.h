@@ -35,6 +35,9 @@ void remove_lasting(int spool, const char *folder, const char *name);
 enum { NOT_REGULAR = -1 };
 int read_file(int spool, const char *name, bool flush, void *bytes, size_t size, size_t *length);
 
+/* Whether a regular file has this name. */
+bool is_regular(int spool, const char *name);
+
 /* Why a file could not be read, in words. */
 const char *trouble(int why);
 

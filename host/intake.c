@@ -31,13 +31,13 @@ static katchidul_joined join(const room *r, const job *j) {
 }
 
 /* The job's log is restarted with what the embosser has finished, and its open pages go out again without a record. */
-static course restart(room *r, job *j, katchidul_queue joined) {
+static course restart(room *r, job *j) {
   uint32_t count;
   course c = hear_count(r, j->id, &count);
   if (c != GOES_ON) return c;
   katchidul_log now = job_restart(r->spool, j, count);
   if (now.number != 0) return hold(r, j->id, job_label(j).text, refusal(now.number, now.place).text), GOES_ON;
-  r->queue = joined;
+  r->queue = join(r, j).queue;
   job *kept = &r->jobs[r->count++];
   *kept = *j;
   if (now.sent > 0) say_progress(r, kept, now.finished);
@@ -50,14 +50,14 @@ static course restart(room *r, job *j, katchidul_queue joined) {
 static course begin(room *r, uint32_t id) {
   job j;
   text why;
-  job_state state = job_read(r->spool, id, &j, &why);
+  job_state state = job_read(r->spool, "jobs", id, &j, &why);
   if (state == JOB_UNCLAIMED && drop_unclaimed(r->spool, id)) return GOES_ON;
   if (state == JOB_UNCLAIMED) why = text_of("its order is missing");
   if (state != JOB_READ) return hold(r, id, job_label(&j).text, why.text), GOES_ON;
   katchidul_joined joined = join(r, &j);
   if (joined.number == KATCHIDUL_QUEUE_FULL || r->count == ROOM_JOBS) return GOES_ON;
   if (joined.number != 0) return hold(r, id, job_label(&j).text, refusal(joined.number, joined.place).text), GOES_ON;
-  return restart(r, &j, joined.queue);
+  return restart(r, &j);
 }
 
 static void note_id(void *ids, const char *name) {

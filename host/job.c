@@ -41,26 +41,25 @@ text job_label(const job *j) {
 /* A want of files or memory is no fault of the job. */
 static bool is_of_the_system(int why) { return why == EMFILE || why == ENFILE || why == ENOMEM; }
 
-static int read_part(int spool, uint32_t id, const char *part, void *bytes, size_t size, size_t *length) {
-  path file = path_of("jobs/%u/%s", id, part);
+static int read_part(int spool, const path *folder, const char *part, void *bytes, size_t size, size_t *length) {
+  path file = path_of("%s/%s", folder->text, part);
   int why = read_file(spool, file.text, false, bytes, size, length);
   if (is_of_the_system(why)) stop(file.text, trouble(why));
   return why;
 }
 
 /* A job of an older host has no file with its name. */
-static void read_name(int spool, job *j) {
+static void read_name(int spool, const path *folder, job *j) {
   size_t length;
-  if (read_part(spool, j->id, "name", j->name, sizeof j->name - 1, &length) != 0 || j->name[0] == '\0')
+  if (read_part(spool, folder, "name", j->name, sizeof j->name - 1, &length) != 0 || j->name[0] == '\0')
     snprintf(j->name, sizeof j->name, "order");
 }
 
 /* Why a log cannot be written in the job's folder, or NULL. */
-static const char *unfit_folder(int spool, uint32_t id) {
+static const char *unfit_folder(int spool, const path *folder) {
   struct stat is;
-  path folder = path_of("jobs/%u", id);
-  if (TEMP_FAILURE_RETRY(fstatat(spool, folder.text, &is, AT_SYMLINK_NOFOLLOW)) == 0 && !S_ISDIR(is.st_mode)) return "it is not a folder";
-  if (faccessat(spool, folder.text, W_OK | X_OK, AT_EACCESS) != 0 && errno == EACCES) return "its folder cannot be written";
+  if (TEMP_FAILURE_RETRY(fstatat(spool, folder->text, &is, AT_SYMLINK_NOFOLLOW)) == 0 && !S_ISDIR(is.st_mode)) return "it is not a folder";
+  if (faccessat(spool, folder->text, W_OK | X_OK, AT_EACCESS) != 0 && errno == EACCES) return "its folder cannot be written";
   return NULL;
 }
 
@@ -74,12 +73,13 @@ static katchidul_reply refusal_of(const job *j) {
   return (katchidul_reply){last.number, last.place};
 }
 
-job_state job_read(int spool, uint32_t id, job *j, text *why) {
-  const char *unfit = unfit_folder(spool, id);
+job_state job_read(int spool, const char *in, uint32_t id, job *j, text *why) {
+  path folder = path_of("%s/%u", in, id);
+  const char *unfit = unfit_folder(spool, &folder);
   *j = (job){.id = id};
-  read_name(spool, j);
-  int order = read_part(spool, id, "order", j->order.bytes, sizeof j->order.bytes, &j->order.length);
-  int log = read_part(spool, id, "log", j->buffer[0], LOG_SIZE, &j->used);
+  read_name(spool, &folder, j);
+  int order = read_part(spool, &folder, "order", j->order.bytes, sizeof j->order.bytes, &j->order.length);
+  int log = read_part(spool, &folder, "log", j->buffer[0], LOG_SIZE, &j->used);
   if (j->order.length > sizeof j->order.bytes) j->order.length = sizeof j->order.bytes;
   if (order == ENOENT && log == ENOENT && unfit == NULL) return JOB_UNCLAIMED;
   if (unfit != NULL) *why = text_of("%s", unfit);

@@ -3,7 +3,6 @@
 #define JOB_H
 
 #include <limits.h>
-#include <stdbool.h>
 
 #include "order.h"
 
@@ -17,14 +16,13 @@ typedef struct {
   uint8_t buffer[2][LOG_SIZE];
   uint32_t at; /* which of them is the log */
   size_t used;
-  bool announced; /* the embosser has its order, on this link */
 } job;
 
 typedef enum { JOB_READ, JOB_UNCLAIMED, JOB_UNFIT } job_state;
 
-/* Reads jobs/ID. JOB_UNCLAIMED: it has neither order nor log. JOB_UNFIT: the job cannot go on, and `why` says the reason: a file that cannot
-   be read, a refusal of order or log, or a log with a page that the order lacks. */
-job_state job_read(int spool, uint32_t id, job *j, text *why);
+/* Reads a job from a folder of the spool. JOB_UNCLAIMED: it has neither order nor log. JOB_UNFIT: the job cannot go on, and `why` says the
+   reason: a file that cannot be read, a refusal of order or log, or a log with a page that the order lacks. */
+job_state job_read(int spool, const char *folder, uint32_t id, job *j, text *why);
 
 /* What a message calls the job: `job 7 (leeds.order, Leeds)`. */
 text job_label(const job *j);

@@ -12,7 +12,8 @@
 
 #include "answer.h"
 
-#define FILE_BYTES 100 /* of an order's file name in a message */
+#define FILE_BYTES 100   /* of an order's file name in a message */
+#define CONNECT_PAUSE 10 /* milliseconds between two tries to connect */
 
 course link_lost(embosser *e, const char *format, ...) {
   va_list words;
@@ -24,7 +25,16 @@ course link_lost(embosser *e, const char *format, ...) {
 
 /* ---- opening */
 
-/* A connection that would have to wait, since the embosser takes none, is tried again by the caller. */
+/* EAGAIN: the embosser is there and takes no connection. It has as long as for an answer. */
+static bool connect_in_time(embosser *e, const struct sockaddr_un *at) {
+  moment end = after(e->patience);
+  for (;;) {
+    if (TEMP_FAILURE_RETRY(connect(e->socket, (const struct sockaddr *)at, sizeof *at)) == 0 || errno == EISCONN) return true;
+    if (errno != EAGAIN || has_passed(end)) return false;
+    if (wait_until(after(CONNECT_PAUSE), -1, 0, true) == TOLD_TO_END) return errno = EINTR, false;
+  }
+}
+
 bool link_open(embosser *e, const char *path) {
   struct sockaddr_un at = {.sun_family = AF_UNIX};
   e->held = 0;
@@ -34,7 +44,7 @@ bool link_open(embosser *e, const char *path) {
   strcpy(at.sun_path, path);
   e->socket = socket(AF_UNIX, SOCK_STREAM | SOCK_NONBLOCK | SOCK_CLOEXEC, 0);
   if (e->socket < 0) return false;
-  if (TEMP_FAILURE_RETRY(connect(e->socket, (const struct sockaddr *)&at, sizeof at)) == 0 || errno == EISCONN) return true;
+  if (connect_in_time(e, &at)) return true;
   int why = errno;
   link_close(e);
   errno = why;

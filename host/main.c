@@ -8,27 +8,39 @@
 
 #include "intake.h"
 
-#define PATIENCE 60000      /* milliseconds, if -p is not given */
+#define PATIENCE 60000        /* milliseconds, if -p is not given */
 #define PATIENCE_MAX 86400000 /* a day */
+#define TRIES 10              /* to reach the embosser, without -s */
 
 /* ---- the embosser comes and goes */
 
-/* The link is open when the embosser says that it serves this spool. */
-static course meet(room *r, const char *path) {
+/* The embosser says which spool it serves; it must be this one. */
+static course hear_serves(room *r) {
   embosser *e = &r->embosser;
   answer a;
-  if (!link_open(e, path)) return link_lost(e, "there is no embosser at %s: %s", path, strerror(errno));
   course c = link_begin(e, r->spool_name);
   if (c == GOES_ON) c = link_hear(e, after(e->patience), &a);
-  if (c == TOO_LATE) c = link_lost(e, "the embosser at %s does not answer", path);
-  if (c == GOES_ON && a.kind != SERVES) c = link_lost(e, "the embosser at %s does not say which spool it serves", path);
-  if (c == GOES_ON && strcmp(a.name, r->spool_name) != 0)
-    c = link_lost(e, "the embosser at %s serves the spool %s, and this is %s: nothing is sent", path, a.name, r->spool_name);
-  if (c != GOES_ON) link_close(e);
+  if (c == TOO_LATE) return link_lost(e, "it does not answer");
+  if (c != GOES_ON) return c;
+  if (a.kind != SERVES) return link_lost(e, "it does not say which spool it serves");
+  if (strcmp(a.name, r->spool_name) == 0) return GOES_ON;
+  return link_lost(e, "it serves the spool %s, and this is %s: nothing is sent", a.name, r->spool_name);
+}
+
+static course meet(room *r, const char *path) {
+  embosser *e = &r->embosser;
+  if (!link_open(e, path)) {
+    if (errno == EAGAIN) return link_lost(e, "the embosser at %s takes no connection", path);
+    return link_lost(e, "there is no embosser at %s: %s", path, strerror(errno));
+  }
+  course c = hear_serves(r);
+  if (c == GOES_ON) return c;
+  link_close(e);
+  if (c == LINK_LOST) e->lost = text_of("the embosser at %s: %s", path, e->lost.text);
   return c;
 }
 
-/* A tenth of the patience is between two tries. Without -s the host gives up after ten; with it the host waits, and says so once for each
+/* A tenth of the patience is between two tries. Without -s the host gives up at last; with it the host waits, and says so once for each
    reason. */
 static course find_embosser(room *r, const char *path) {
   text told = {""};
@@ -36,11 +48,12 @@ static course find_embosser(room *r, const char *path) {
     course c = meet(r, path);
     if (c == GOES_ON && told.text[0] != '\0') say("the embosser is back");
     if (c != LINK_LOST) return c;
-    bool waits = r->stays || tries < 10;
-    if (!waits || (r->stays && strcmp(told.text, r->embosser.lost.text) != 0))
-      say("%s%s", r->embosser.lost.text, r->stays ? "; waiting for it" : "");
-    told = r->embosser.lost;
-    if (!waits) return LINK_LOST;
+    if (told_to_end() != NULL) return TOLD_TO_END;
+    if (!r->stays && tries == TRIES) return say("%s", r->embosser.lost.text), LINK_LOST;
+    if (r->stays && strcmp(told.text, r->embosser.lost.text) != 0) {
+      told = r->embosser.lost;
+      say("%s; waiting for it", told.text);
+    }
     if (wait_until(after(r->embosser.patience / 10), -1, 0, true) == TOLD_TO_END) return TOLD_TO_END;
   }
 }
@@ -62,6 +75,15 @@ static course work(room *r) {
   }
 }
 
+/* Said once, until a page is finished or the reason is another: a driver may ask its operator for a count for hours. */
+static void say_lost(room *r) {
+  static text told;
+  if (r->news || strcmp(told.text, r->embosser.lost.text) != 0)
+    say("the link to the embosser is lost: %s; beginning again", r->embosser.lost.text);
+  told = r->embosser.lost;
+  r->news = false;
+}
+
 /* A link that is lost is a start like any other. */
 static int serve(room *r, const char *path) {
   for (;;) {
@@ -70,7 +92,7 @@ static int serve(room *r, const char *path) {
     if (c == GOES_ON) c = work(r);
     link_close(&r->embosser);
     if (c == NOTHING_LEFT) return r->refused ? ENDED_WITH_REFUSALS : ENDED_WELL;
-    if (c == LINK_LOST) say("the link to the embosser is lost: %s; beginning again", r->embosser.lost.text);
+    if (c == LINK_LOST) say_lost(r);
     if (c == LINK_LOST) c = wait_until(after(r->embosser.patience / 10), -1, 0, true);
     if (c != TOLD_TO_END) continue;
     say("%s ends the host; jobs in work: %u", told_to_end(), r->count);

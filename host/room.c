@@ -15,6 +15,7 @@ void room_clear(room *r) {
   r->count = 0;
   r->queue = (katchidul_queue){0};
   r->look_at = 0;
+  memset(r->announced, 0, sizeof r->announced);
 }
 
 void room_drop(room *r, uint32_t id) {
@@ -28,11 +29,11 @@ void room_drop(room *r, uint32_t id) {
 
 /* ---- pages */
 
-course send_page(room *r, job *j, uint32_t page) {
+course send_page(room *r, const job *j, uint32_t page) {
   uint8_t cells[KATCHIDUL_PAGE_CELLS];
   katchidul_cells made = page_cells(&j->order, page, cells);
-  course c = j->announced ? GOES_ON : link_send_order(&r->embosser, j);
-  j->announced = true;
+  course c = r->announced[j->id] ? GOES_ON : link_send_order(&r->embosser, j);
+  r->announced[j->id] = true;
   return c == GOES_ON ? link_send_page(&r->embosser, j->id, page, cells, made.rows) : c;
 }
 
@@ -76,6 +77,7 @@ void leave(room *r, job *j) {
   if (why == 0) say("%s: done", label.text);
   else say("%s: done, but it cannot be moved to done/: %s", label.text, trouble(why));
   r->passed_over[id] = why != 0;
+  r->refused = r->refused || why != 0;
   room_drop(r, id);
 }
 
@@ -88,6 +90,7 @@ static course note_done(room *r, const answer *a, bool *news) {
   katchidul_log log = job_log(j);
   if (a->number > log.sent) return link_lost(&r->embosser, "it finished page %u of job %u, which was not sent", a->number, a->id);
   *news = a->number > log.finished;
+  r->news = r->news || *news;
   while (log.finished < a->number) log = append(r, j, KATCHIDUL_RECORD_DONE, log.finished + 1);
   if (*news) say_progress(r, j, log.finished);
   if (log.finished == pages_of(&j->order)) leave(r, j);

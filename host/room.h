@@ -22,7 +22,9 @@ typedef struct {
   moment look_at;   /* when jobs/ and in/ are read again */
   uint32_t next_id; /* of a new job */
   bool passed_over[KATCHIDUL_ID_MAX + 1]; /* jobs that can be neither begun nor moved */
+  bool announced[KATCHIDUL_ID_MAX + 1];   /* jobs whose order the embosser has, on this link */
   bool refused;     /* an order or a job was */
+  bool news;        /* a page was finished since a lost link was told */
   bool stays;       /* the host goes on when nothing is left */
 } room;
 
@@ -39,7 +41,7 @@ void room_clear(room *r);
 course send_next(room *r);
 
 /* Sends a page whose record lasts. */
-course send_page(room *r, job *j, uint32_t page);
+course send_page(room *r, const job *j, uint32_t page);
 
 /* How many pages are sent and not finished, of all jobs. */
 uint32_t open_pages(const room *r);

@@ -16,8 +16,8 @@
 
 #define WHY ".why"
 
-/* Where jobs are. A job may be moved out of held/ by the operator at any time, and goes to jobs/ or cancelled/: so held/ is looked at before
-   them, and no job is missed. */
+/* The folders of jobs. The operator may move a job out of held/ at any time, to jobs/ or cancelled/. So held/ is looked at before them, and
+   no job is missed. */
 static const char *const job_folders[] = {"held", "done", "cancelled", "jobs"};
 
 #define JOB_FOLDERS (sizeof job_folders / sizeof *job_folders)
@@ -131,7 +131,8 @@ int move_job(int spool, uint32_t id, const char *from, const char *to, const cha
   return failed;
 }
 
-/* The name that a refused order gets: its own, then with a number. It leaves room for the name of the sentence, and is never such a name. */
+/* The name that a refused order gets: its own, then with a number. It leaves room for the name of its sentence, and is never the name of a
+   sentence. False if it may not have the number's name. */
 static bool refused_name(const char *name, uint32_t number, path *kept) {
   const size_t longest = NAME_MAX - (sizeof WHY - 1), length = strlen(name);
   *kept = number == 1 ? path_of("%s", name) : path_of("%.*s.%u", (int)longest - 11, name, number); /* a dot and ten digits */

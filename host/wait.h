@@ -12,7 +12,7 @@ typedef long long moment; /* milliseconds */
 moment after(int milliseconds);
 bool has_passed(moment end);
 
-/* From here on SIGTERM and SIGINT are kept back, and taken where the host waits or asks. */
+/* From here on SIGTERM and SIGINT are kept back, and taken when the host waits or asks. */
 void keep_back_signals(void);
 
 /* The signal that told the host to end, by name, or NULL. It is asked for between two messages. */

@@ -1,7 +1,7 @@
-/* katchidul-standin [-t MILLISECONDS] [-a PERCENT] [-l PERCENT] [-r SEED] SOCKET PUNCHED: a stand-in for the machine. It takes pages over a
-   socket, as host/link.h has it, finishes them in the order in which they came, each in -t milliseconds, and appends them to PUNCHED,
-   whatever they are: that none comes twice is the host's business. It serves one host at a time, and one spool for good; a host that is gone
-   leaves its pages in the tray, and they are finished still.
+/* katchidul-standin [-t MILLISECONDS] [-a PERCENT] [-l PERCENT] [-r SEED] SOCKET PUNCHED: a stand-in for the machine. It takes pages over
+   a socket, as host/link.h has it, finishes them in the order in which they came, each in -t milliseconds, and appends them to PUNCHED,
+   whatever they are: that none comes twice is the host's business. It serves one host at a time, and one spool for good. A host that is
+   gone leaves its pages in the tray, and they are still finished.
    -a: so many acknowledgements of a hundred are lost. -l: of a hundred pages in work so many are lost, with all of the tray, and the link
    closes; so many trays are lost too when a host is gone. -r begins another row of such accidents. */
 #define _GNU_SOURCE

@@ -64,7 +64,8 @@ def unreadable_orders(checks, built):
         (into / "a").symlink_to("nowhere")
         (into / "b").symlink_to("002")
         trial.run(before=drop_rights)
-        wrong = [] if trial.status == 1 and "000 is refused: Permission denied\n" in trial.said else [f"status {trial.status}: {trial.said}"]
+        told = trial.status == 1 and "000 is refused: Permission denied\n" in trial.said
+        wrong = [] if told else [f"status {trial.status}: {trial.said}"]
         if (trial.names("in"), trial.names("refused"), trial.names("done")) != (["a", "b"], ["000"], ["1", "2"]):
             wrong.append(f"in has {trial.names('in')}, refused {trial.names('refused')}, done {trial.names('done')}")
     checks.check("orders that cannot be read, and links", wrong)

@@ -123,7 +123,7 @@ class Built:
         self.run(["gcc", "-shared", "-o", shared, "-Wl,--whole-archive", self.archive, "-Wl,--no-whole-archive"])
         self.library = Library(shared)
         self.stopper = self.made("stopper.so", [ROOT / "tests/job/stopper.c"], "-shared", "-fPIC")
-        self.flags = ["-g", "-fsanitize=address,undefined", "-fno-sanitize-recover", "-static-libasan", "-static-libubsan"] if sanitize else []
+        self.flags = "-g -fsanitize=address,undefined -fno-sanitize-recover -static-libasan -static-libubsan".split() if sanitize else []
         self.host, self.embosser = self.build("plain", ROOT / "host")
 
     def run(self, words):
@@ -161,5 +161,6 @@ class Built:
         (folder / file).write_text(text.replace(old, new))
         others = [str(part) for part in self.objects().glob("*.o") if part.stem != pathlib.Path(file).stem]
         program = str(folder / "katchidul-host")
-        self.run([*FLAGS, "-Wno-error", "-I", str(ROOT / "host"), "-I", str(ROOT / "include"), str(folder / file), *others, self.archive, "-o", program])
+        places = ["-I", str(ROOT / "host"), "-I", str(ROOT / "include")]
+        self.run([*FLAGS, "-Wno-error", *places, str(folder / file), *others, self.archive, "-o", program])
         return program

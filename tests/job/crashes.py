@@ -28,6 +28,8 @@ class Count:
                      self.told + other.told)
 
     def end(self, trial, what):
+        if trial.status == 3:
+            trial.run_to_end()
         self.trials += 1
         self.pages += sum(map(len, trial.pages_by_job().values()))
         self.faults += [f"{what}: {fault}" for fault in trial.faults()]
@@ -102,7 +104,7 @@ def with_asks(built, seed, trials):
             for name in trial.names("asks"):
                 (trial.spool / "asks" / name).unlink()
             trial.release_by_hand()
-            trial.run()
+            trial.run_to_end()
             faults = trial.asked_faults() + ([] if trial.status == 0 else [f"status {trial.status}: {trial.said[-200:]}"])
             count = Count(kills=kills, trials=1, faults=[f"asks {seed}, trial {number}: {fault}" for fault in faults])
             count.pages = sum(map(len, trial.pages_by_job().values()))
@@ -185,7 +187,7 @@ def failing(built, seed, step=1, errors=ERRORS, lay=lambda trial: None):
                 faults.append(f"status {trial.status} without a word: {trial.said}")
             for _ in range(2):  # what is asked may hold a job once more
                 trial.release_by_hand()
-                trial.run()
+                trial.run_to_end()
             (trial.spool / "refused" / "bad").unlink(missing_ok=True)
             faults += trial.asked_faults() + ([] if trial.status == 0 else [f"status {trial.status}: {trial.said[-200:]}"])
             return Count(trials=1, told=told, faults=[f"call {at} failed by {os.strerror(error)}: {fault}" for fault in faults])

@@ -232,6 +232,11 @@ def answer_that_is_no_number(built):
     return wrong
 
 
+def send_that_has_to_wait(built):
+    """A send or a recv that would have to wait is tried again, within its deadline."""
+    return each_failing(built, {"send", "recv"}, lambda trial: None, lambda trial: unpunched(trial, [FIRST, SECOND]), errno.EAGAIN)
+
+
 # ---- the lock
 
 
@@ -292,9 +297,10 @@ def slow_with_many_orders(built):
         return [] if done >= 200 else [f"{done} orders in 2 seconds"]
 
 
-FOUND = [lost_when_a_job_comes_back, end_of_a_folder_by_an_error, refused_order_overwritten, order_taken_back, names_that_are_no_ids, one_bad_job,
-         connection_that_is_not_taken, count_that_is_never_0, answers_of_unknown_jobs, good_order_refused, lock_dropped_by_a_link,
-         other_error_of_the_lock, answer_that_is_no_number, name_that_writes_to_the_terminal, messages_into_files, slow_with_many_orders]
+FOUND = [lost_when_a_job_comes_back, end_of_a_folder_by_an_error, refused_order_overwritten, order_taken_back, names_that_are_no_ids,
+         one_bad_job, connection_that_is_not_taken, count_that_is_never_0, answers_of_unknown_jobs, send_that_has_to_wait,
+         good_order_refused, lock_dropped_by_a_link, other_error_of_the_lock, answer_that_is_no_number, name_that_writes_to_the_terminal,
+         messages_into_files, slow_with_many_orders]
 
 
 def run(checks, built):

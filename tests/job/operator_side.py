@@ -94,7 +94,7 @@ def pages_of_a_part(built, seed, trials):
 def logs_as_the_library(built, seed, trials):
     draw, wrong = random.Random(seed), []
     for _ in range(trials):
-        records = [(draw.choice([1, 1, 1, 2, 3, 9]), 2 if draw.random() < 0.95 else 3, draw.randint(0, 4)) for _ in range(draw.randint(0, 5))]
+        records = [(draw.choice([1, 1, 1, 2, 3, 9]), draw.choice([2] * 19 + [3]), draw.randint(0, 4)) for _ in range(draw.randint(0, 5))]
         log = b"".join(bytes([tag]) + length.to_bytes(2, "big") + page.to_bytes(2, "big") for tag, length, page in records)
         log = log[:draw.randint(0, len(log))] if draw.random() < 0.3 else log
         said, own = built.library.log(log, LOG_SIZE), logs.read(log)
@@ -121,7 +121,8 @@ def odd_orders(built):
         try:
             taken = [name for name in ("-p", "--help", long, "with blank", "café") if command(trial, "submit", "./" + name)[0] == 0]
             again_ = command(trial, "submit", "with blank")
-            refused = [name for name in (".dot", "big", "pipe", "link", "/dev/zero", "nowhere", ".", "") if command(trial, "submit", name)[0] != 1]
+            refused = [name for name in (".dot", "big", "pipe", "link", "/dev/zero", "nowhere", ".", "")
+                       if command(trial, "submit", name)[0] != 1]
             (here / "-spool").mkdir()
             with redirect_stdout(io.StringIO()):
                 dashed = package.main(["-d", "-spool", "submit", "-p"])
@@ -189,7 +190,8 @@ def held_and_released(built):
         held = job(trial, 1)
         wrong = [] if (status, held.state) == (0, "held") and "held by the operator: " in held.sentence else [f"{status} {said} {held}"]
         until(lambda: job(trial, 2).state == "done")
-        wrong += [] if len(trial.pages_by_job()[1]) == held.finished else [f"{len(trial.pages_by_job()[1])} pages lie there, not {held.finished}"]
+        there = len(trial.pages_by_job()[1])
+        wrong += [] if there == held.finished else [f"{there} pages lie there, not {held.finished}"]
         status, said = command(trial, "release", 1)
         wrong += [] if status == 0 else [said]
         wrong += [] if until(lambda: job(trial, 1).state == "done", 20) else [f"it does not go on: {job(trial, 1)}"]
@@ -203,7 +205,8 @@ def cancelled(built):
         until(lambda: job(trial, 1) and job(trial, 1).finished >= 1)
         status, said = command(trial, "cancel", 1)
         found = job(trial, 1)
-        wrong = [] if (status, found.state) == (0, "cancelled") and "cancelled by the operator: " in found.sentence else [f"{status} {said} {found}"]
+        right = (status, found.state) == (0, "cancelled") and "cancelled by the operator: " in found.sentence
+        wrong = [] if right else [f"{status} {said} {found}"]
         until(lambda: job(trial, 2).state == job(trial, 3).state == "done")
         pages = trial.pages_by_job()
         wrong += [] if pages[1] == built.library.pages(YEAR)[:found.finished] else ["its pages are not those that are said"]
@@ -219,6 +222,20 @@ def cancelled_before_it_is_a_job(built):
         wrong += [] if status == 1 else ["cancelled twice"]
         found = package.status(trial.spool)
         return wrong + ([] if [(one.state, one.town) for one in found] == [("refused", "Ripon")] else [str(found)])
+
+
+def odd_asks(built):
+    """Files in asks/ that ask for nothing, or for jobs that are not there, stop nobody."""
+    with Trial(built, [SMALL]) as trial:
+        (trial.spool / "asks" / "cancel.1").mkdir(parents=True)
+        for name in ("hold.9", "release.9", "cancel.9", "hold.70000", "cancel.", "hold", "x\n\x1b", "reissue.1", "hold.1x"):
+            (trial.spool / "asks" / name).touch()
+        trial.run()
+        left = {"cancel.1", "hold.70000", "cancel.", "hold", "x\n\x1b", "reissue.1", "hold.1x"}
+        wrong = [] if set(trial.names("asks")) == left else [f"left are {trial.names('asks')}"]
+        wrong += [] if trial.status == 0 and trial.names("done") == ["1"] and "\x1b" not in trial.said else [trial.said]
+        return wrong + [f"it does not say that job 9 is not {word}" for word in ("held", "released", "cancelled")
+                        if f"job 9 is not {word}: " not in trial.said]
 
 
 def without_a_host(built):
@@ -243,8 +260,9 @@ def reprinted(built):
         wrong += [] if status == 1 and "a Ramadan order cannot be cut into pages" in said else [f"Ramadan: {status} {said}"]
         status, said = command(trial, "reprint", 2, 1, 2)
         wrong += [] if status == 0 else [f"all pages of a Ramadan order: {said}"]
-        wrong += [f"{words}: {said}" for words in ((1, 16), (1, 0), (1,), (9, 1), ("x", 1)) for status, said in [command(trial, "reprint", *words)]
-                  if status not in (1, 2) or "Traceback" in said]
+        for words in ((1, 16), (1, 0), (1,), (9, 1), ("x", 1)):
+            status, said = command(trial, "reprint", *words)
+            wrong += [] if status in (1, 2) else [f"{words}: {said}"]
         trial.run()
         jobs, year = trial.pages_by_job(), built.library.pages(YEAR)
         again_ = sorted(tuple(page[1:] for page in jobs[number]) for number in (3, 4))
@@ -305,7 +323,8 @@ def status_of_all(built):
         (trial.spool / "in" / "later\x1b[31m").write_bytes(SMALL)
         status, said = command(trial, "status")
         found = {(one.name, one.state, one.town, one.pages, one.finished) for one in package.status(trial.spool)}
-        owed = {("000", "done", "York", 2, 2), ("002", "done", "Ripon", 1, 1), ("later\x1b[31m", "waiting", "Ripon", 1, 0), ("001", "refused", "", 0, 0)}
+        owed = {("000", "done", "York", 2, 2), ("002", "done", "Ripon", 1, 1), ("later\x1b[31m", "waiting", "Ripon", 1, 0),
+                ("001", "refused", "", 0, 0)}
         wrong = [] if found == owed else [f"found {found}"]
         wrong += ["an escape sequence is printed"] if "\x1b" in said else []
         wrong += [] if "Refusal 4" in said and "no host is at work here" in said and status == 0 else [said]
@@ -321,5 +340,6 @@ def run(checks, built, seed, long):
     checks.check("logs as the library reads them", logs_as_the_library(built, seed, 100000 if long else 3000))
     checks.check("a submit that is killed", submit_that_is_killed(built, 1 if long else 3))
     checks.check("a reissue that is killed", reissued(built, 1 if long else 4))
-    for test in (odd_orders, held_and_released, cancelled, cancelled_before_it_is_a_job, without_a_host, reprinted, status_of_all):
+    for test in (odd_orders, held_and_released, cancelled, cancelled_before_it_is_a_job, odd_asks, without_a_host, reprinted,
+                 status_of_all):
         checks.check(test.__name__.replace("_", " "), test(built))

@@ -67,7 +67,7 @@ def another_spool(built):
     with Trial(built, [GOOD]) as trial:
         (trial.folder / "punched.serves").write_text("another-spool")
         trial.run()
-        wrong = [] if trial.status == 3 and "serves the spool another-spool, and this is spool-" in trial.said else [trial.said]
+        wrong = [] if trial.status == 3 and ": it serves the spool another-spool, and this is spool-" in trial.said else [trial.said]
         return wrong + ([] if trial.names("in") == ["000"] and not trial.pages_by_job() else ["something was sent"])
 
 

@@ -43,10 +43,10 @@ def reprint(spool: pathlib.Path, number: int, pages: list[int]) -> list[str]:
     return [submit_free(spool, name, part) for name, part in parts]
 
 
-# ---- reissue. The new order is put into the job's folder, the job is moved to cancelled/, and then the order is linked into in/. Whatever ends
-# this in between, the same command goes on from there: a link is made once, which the order's own count of links says.
+# ---- reissue. The new order is put into the job's folder, the job is moved to cancelled/, and then the order is linked into in/. Whatever
+# ends this in between, the same command goes on from there. The file's count of links says whether the link was made.
 
-LEFT = "reissue"
+LEFT, REISSUED = "reissue", "reissued"
 
 
 def unfinished(spool: pathlib.Path, number: int) -> tuple[jobs.Job, int, int]:
@@ -68,14 +68,15 @@ def unfinished(spool: pathlib.Path, number: int) -> tuple[jobs.Job, int, int]:
 
 def is_left(spool: pathlib.Path, number: int) -> bool:
     """Whether a reissue of this job was begun and did not come to its end."""
-    return (spool / "cancelled" / str(number) / LEFT).exists()
+    folder = spool / "cancelled" / str(number)
+    return (folder / LEFT).exists() and jobs.why(folder).endswith(REISSUED)
 
 
 def reissue(spool: pathlib.Path, job: jobs.Job, first: int, last: int) -> str:
     held, cancelled, name = spool / "held", spool / "cancelled", str(job.id)
     replace(held / name, LEFT, orders.cut(jobs.order_of(held / name / "order"), first, last))
     cancelled.mkdir(exist_ok=True)
-    replace(cancelled, name + jobs.WHY, f"{words(first, last)} of {job.pages} are reissued\n".encode())
+    replace(cancelled, name + jobs.WHY, f"{words(first, last)} of {job.pages}: {REISSUED}\n".encode())
     os.rename(held / name, cancelled / name)
     flush_folder(cancelled)
     flush_folder(held)

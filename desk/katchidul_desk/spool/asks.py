@@ -15,11 +15,11 @@ ALLOWED = {"cancel": ("jobs", "held"), "hold": ("jobs",), "release": ("held",)}
 
 
 def ask(spool: pathlib.Path, word: str, number: int) -> pathlib.Path:
-    """Asks the host; SpoolError if the job is where that cannot be done."""
+    """Asks the host; SpoolError if the job is in a folder for which that makes no sense."""
     folder = find(spool, number)
     if folder not in ALLOWED[word]:
-        where = {"jobs": "in work", "done": "done"}.get(folder, folder)
-        raise SpoolError(f"job {number} is {where}: there is nothing to {word}")
+        state = "in work" if folder == "jobs" else folder
+        raise SpoolError(f"job {number} is {state}: there is nothing to {word}")
     path = spool / "asks" / f"{word}.{number}"
     path.parent.mkdir(exist_ok=True)
     os.close(os.open(path, os.O_WRONLY | os.O_CREAT | os.O_NOFOLLOW | os.O_CLOEXEC, 0o664))

@@ -39,6 +39,7 @@ def write_unfinished(folder: pathlib.Path, text: bytes) -> pathlib.Path:
     path = folder / f".unfinished-{os.getpid()}-{secrets.token_hex(8)}"
     file = os.open(path, os.O_WRONLY | os.O_CREAT | os.O_EXCL | os.O_CLOEXEC, 0o664)
     try:
+        os.fchmod(file, 0o664)  # whatever the umask: the host is another user
         left = memoryview(text)
         while left:
             left = left[os.write(file, left):]

@@ -93,7 +93,7 @@ def read_order(spool: pathlib.Path, folder: str, name: str) -> Job:
 
 
 def ids(spool: pathlib.Path) -> dict[int, str]:
-    """The folder of each job. A job that moves meanwhile goes from held/ to jobs/ or from jobs/ to another: held/ is read first and last."""
+    """The folder of each job. A job that moves meanwhile goes from held/ to jobs/, or from jobs/ to another folder: held/ is read twice."""
     found = {}
     for folder in ("held", *FOLDERS):
         found.update({id_of(name): folder for name in names(spool / folder) if id_of(name)})

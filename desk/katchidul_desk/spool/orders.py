@@ -53,7 +53,7 @@ def cut(order: bytes, first_page: int, last_page: int) -> bytes:
     if (first_page, last_page) == (1, asks.pages):
         return order
     if asks.ramadan:
-        raise SpoolError("a Ramadan order cannot be cut into pages: it has thirty rows from the 1st of Ramadan; submit the whole order again")
+        raise SpoolError("a Ramadan order cannot be cut into pages: it has thirty rows from the 1st of Ramadan; print all of its pages")
     begin = PAGE_ROWS * (first_page - 1)
     first, rows = asks.first + datetime.timedelta(begin), min(PAGE_ROWS * last_page, asks.rows) - begin
     found, made = fields(order), bytearray(order)

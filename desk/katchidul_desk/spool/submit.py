@@ -1,4 +1,4 @@
-"""Orders into a spool. An order is written under a name that the host passes over, flushed, and linked to its own, which it never replaces."""
+"""Orders into a spool. An order is written under a name that the host passes over, flushed, and linked to its own without replacing one."""
 from __future__ import annotations
 
 import itertools
