@@ -7,7 +7,7 @@ import pathlib
 
 from . import logs, orders
 from .errors import SpoolError
-from .files import read_regular
+from .files import read_regular, shown
 
 ID_MAX = 65535
 FOLDERS = ("jobs", "held", "done", "cancelled")
@@ -30,7 +30,7 @@ class Job:
 
 def check(spool: pathlib.Path) -> None:
     if not spool.is_dir():
-        raise SpoolError(f"there is no spool at {spool}: start the host there, or make the folder first")
+        raise SpoolError(f"there is no spool at {shown(str(spool))}: make the folder first, or name another by -d")
 
 
 def names(folder: pathlib.Path) -> list[str]:
@@ -39,6 +39,8 @@ def names(folder: pathlib.Path) -> list[str]:
         return sorted(name for name in os.listdir(folder) if not name.startswith("."))
     except FileNotFoundError:
         return []
+    except OSError as error:
+        raise SpoolError(f"{shown(str(folder))} cannot be read: {error.strerror}") from None
 
 
 def text(path: pathlib.Path, most: int) -> bytes:
@@ -51,7 +53,8 @@ def text(path: pathlib.Path, most: int) -> bytes:
 
 def id_of(name: str) -> int:
     """A name as a job's id, or 0."""
-    return int(name) if name.isascii() and name.isdigit() and name[0] != "0" and int(name[:6]) <= ID_MAX and len(name) < 6 else 0
+    digits = name.isascii() and name.isdigit() and name[0] != "0" and len(name) <= len(str(ID_MAX))
+    return int(name) if digits and int(name) <= ID_MAX else 0
 
 
 def order_of(path: pathlib.Path) -> bytes:
@@ -105,8 +108,19 @@ def find(spool: pathlib.Path, number: int) -> str:
     check(spool)
     folder = ids(spool).get(number)
     if folder is None:
-        raise SpoolError(f"there is no job {number} in {spool}")
+        raise SpoolError(f"there is no job {number} in {shown(str(spool))}")
     return folder
+
+
+def settled(spool: pathlib.Path, folder: str, number: int) -> Job | None:
+    """A job that may move while it is read; None if it was taken out of the spool."""
+    while True:
+        job = read_job(spool, folder, number)
+        if (spool / folder / str(number)).exists():
+            return job
+        folder = ids(spool).get(number)
+        if folder is None:
+            return None
 
 
 def status(spool: pathlib.Path, done: int | None = 100) -> list[Job]:
@@ -117,6 +131,6 @@ def status(spool: pathlib.Path, done: int | None = 100) -> list[Job]:
     found = ids(spool)
     ended = sorted(number for number, folder in found.items() if folder in ("done", "cancelled"))
     passed = set() if done is None else set(ended[:len(ended) - done] if done < len(ended) else ())
-    jobs = [read_job(spool, found[number], number) for number in sorted(found) if number not in passed]
+    jobs = [settled(spool, found[number], number) for number in sorted(found) if number not in passed]
     refused = [read_order(spool, "refused", name) for name in names(spool / "refused") if not name.endswith(WHY)]
-    return jobs + waiting + refused
+    return [job for job in jobs if job] + waiting + refused
