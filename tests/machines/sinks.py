@@ -1,0 +1,75 @@
+"""What stands for a machine: a TCP port that keeps each connection's bytes, and a pseudo-terminal."""
+import os
+import pty
+import select
+import socket
+import struct
+import threading
+import time
+import tty
+
+
+class Port:
+    """`pause` is how long a page takes after its last byte. While `stuck`, nothing is read. `resets` pages are cut by a reset."""
+
+    def __init__(self, pause=0.0):
+        self.pause, self.stuck, self.resets = pause, False, 0
+        self.arrived, self.cut = [], []
+        self.server = socket.socket()
+        self.server.setsockopt(socket.SOL_SOCKET, socket.SO_REUSEADDR, 1)
+        self.server.bind(("127.0.0.1", 0))
+        self.server.listen(16)
+        self.number = self.server.getsockname()[1]
+        threading.Thread(target=self.serve, daemon=True).start()
+
+    def serve(self):
+        while True:
+            try:
+                link, _ = self.server.accept()
+            except OSError:
+                return
+            threading.Thread(target=self.take, args=(link,), daemon=True).start()
+
+    def take(self, link):
+        came = b""
+        while self.stuck:
+            time.sleep(0.02)
+        if self.resets:
+            self.resets -= 1
+            self.cut.append(link.recv(100))
+            link.setsockopt(socket.SOL_SOCKET, socket.SO_LINGER, struct.pack("ii", 1, 0))
+            link.close()
+            return
+        try:
+            while some := link.recv(65536):
+                came += some
+        except OSError:
+            self.cut.append(came)
+            return
+        (self.arrived if came.endswith(b"\f") else self.cut).append(came)
+        time.sleep(self.pause)
+        link.close()
+
+    def end(self):
+        self.server.close()
+
+
+class Terminal:
+    """The driver's side is `name`. While `stuck`, nothing is read."""
+
+    def __init__(self):
+        self.ours, theirs = pty.openpty()
+        tty.setraw(self.ours)
+        self.name = os.ttyname(theirs)
+        self.theirs, self.came, self.stuck, self.over = theirs, b"", False, False
+        threading.Thread(target=self.serve, daemon=True).start()
+
+    def serve(self):
+        while not self.over:
+            if self.stuck or not select.select([self.ours], [], [], 0.05)[0]:
+                time.sleep(0.01)
+                continue
+            self.came += os.read(self.ours, 65536)
+
+    def end(self):
+        self.over = True
