@@ -2,13 +2,15 @@
 #include "cups_calls.h"
 
 #include <cups/cups.h>
+#include <errno.h>
 #include <string.h>
+#include <sys/socket.h>
 
 #define CONNECT_MS 5000
 #define REPLY_SECONDS 10.0
 
 static const options *given;
-static http_t *server;
+static http_t *server, *watched;
 static char why[WORDS_BYTES];
 
 const char *cups_why(void) { return why; }
@@ -36,10 +38,25 @@ static void disconnect(void) {
   server = NULL;
 }
 
+static http_t *connect_to_server(void) {
+  return httpConnect2(cupsServer(), ippPort(), NULL, AF_UNSPEC, cupsEncryption(), 1, CONNECT_MS, NULL);
+}
+
+/* A connection on which nothing is said ends when CUPS does, however soon another CUPS begins. */
+void cups_watch(void) {
+  if (watched != NULL) httpClose(watched);
+  watched = connect_to_server();
+}
+
+bool cups_was_there(void) {
+  char none;
+  return watched != NULL && recv(httpGetFd(watched), &none, 1, MSG_PEEK | MSG_DONTWAIT) < 0 && (errno == EAGAIN || errno == EINTR);
+}
+
 /* Each request has a connection of its own: one that was kept may have died with its CUPS, and libcups would send the request twice. */
 static bool connect_anew(void) {
   disconnect();
-  server = httpConnect2(cupsServer(), ippPort(), NULL, AF_UNSPEC, cupsEncryption(), 1, CONNECT_MS, NULL);
+  server = connect_to_server();
   if (server == NULL) {
     snprintf(why, sizeof why, "CUPS does not answer at %s", cupsServer());
     return false;
@@ -103,7 +120,8 @@ static void copy_text(ipp_t *answer, const char *name, char *text, size_t size) 
   snprintf(text, size, "%s", value == NULL ? "" : value);
 }
 
-static const char *const job_parts[] = {"job-id", "job-name", "job-state", "job-state-reasons"};
+/* CUPS lists no more than 500 jobs if the last of these is asked for. */
+static const char *const job_parts[] = {"job-id", "job-name", "job-state", "job-state-reasons", "time-at-processing"};
 
 static void want(ipp_t *request, int count, const char *const *parts) {
   ippAddStrings(request, IPP_TAG_OPERATION, IPP_TAG_KEYWORD, "requested-attributes", count, NULL, parts);
@@ -114,6 +132,7 @@ static void note(ipp_attribute_t *a, cups_job *job) {
   const char *name = ippGetName(a);
   if (strcmp(name, "job-id") == 0) job->number = (uint32_t)ippGetInteger(a, 0);
   if (strcmp(name, "job-state") == 0) job->state = ippGetInteger(a, 0);
+  if (strcmp(name, "time-at-processing") == 0) job->begun = ippGetValueTag(a) == IPP_TAG_INTEGER;
   if (strcmp(name, "job-name") == 0) snprintf(job->title, sizeof job->title, "%s", ippGetString(a, 0, NULL));
   if (strcmp(name, "job-state-reasons") == 0) snprintf(job->reason, sizeof job->reason, "%s", ippGetString(a, 0, NULL));
 }
@@ -147,7 +166,7 @@ static void keep(const cups_job *job, void *own) { *(cups_job *)own = *job; }
 
 cups_reply cups_look(uint32_t number, cups_job *job) {
   ipp_t *request = request_for_job(IPP_OP_GET_JOB_ATTRIBUTES, number), *answer;
-  want(request, 4, job_parts);
+  want(request, 5, job_parts);
   memset(job, 0, sizeof *job);
   cups_reply reply = ask_shortly(request, "/", &answer);
   if (reply == CUPS_ANSWERED) see_all(answer, keep, job);

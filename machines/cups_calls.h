@@ -12,6 +12,7 @@ typedef struct {
   uint32_t number;
   char title[TITLE_BYTES];
   int state;                /* an ipp_jstate_t */
+  bool begun;               /* it was once being printed; cups_look tells, cups_list does not */
   char reason[WORDS_BYTES]; /* the first of its job-state-reasons */
 } cups_job;
 
@@ -24,6 +25,10 @@ typedef struct {
 typedef enum { CUPS_ANSWERED, CUPS_REFUSED, CUPS_AWAY } cups_reply;
 
 void cups_open(const options *o);
+
+/* Whether CUPS has been there without a break since cups_watch. Answers no after five minutes, when CUPS drops an idle connection. */
+void cups_watch(void);
+bool cups_was_there(void);
 
 /* Why the last call was refused, or CUPS is away. */
 const char *cups_why(void);

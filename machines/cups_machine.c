@@ -7,7 +7,8 @@
 
    CUPS makes a job first and takes its document later. The record has the CUPS job's number before the document goes out: a CUPS job
    that the record does not have has printed nothing. One that the record has and CUPS no longer knows may have been printed, and only the
-   operator can say. */
+   operator can say. The same holds for a page that was aborted while CUPS itself ended and began again: CUPS aborts a job whose
+   document it has removed, also when it had completed it and could not note that any more. */
 #include "cups_calls.h"
 #include "machine.h"
 
@@ -87,6 +88,7 @@ bool machine_take(const char *spool, const sheet *s) {
   uint32_t number;
   if (now_ms() < retry_at) return false;
   write_title(spool, s->id, s->page, work.title);
+  cups_watch();
   if (cups_create(work.title, &number) != CUPS_ANSWERED) {
     tell_once("job %u (%s, %s): page %u waits, CUPS does not take it: %s", s->id, s->file, s->town, s->page, cups_why());
     retry_at = now_ms() + RETRY_MS;
@@ -120,6 +122,13 @@ static progress lose(const char *why) {
   return LOST;
 }
 
+/* CUPS was there all the time, so its word that the page was aborted is true, and lasts. */
+static progress note_aborted(void) {
+  work.record.sent = work.record.finished;
+  record_write(state, work.id, &work.record);
+  return lose("was aborted by CUPS");
+}
+
 /* What keeps a page that CUPS has not begun, or that takes long. */
 static void tell_what_keeps(const cups_job *job) {
   cups_queue queue;
@@ -149,7 +158,7 @@ progress machine_look(void) {
   if (reply == CUPS_REFUSED || strcmp(job.title, work.title) != 0) return lose("is gone from CUPS");
   if (job.state == IPP_JSTATE_COMPLETED) return finish();
   if (job.state == IPP_JSTATE_CANCELED) return lose("was cancelled");
-  if (job.state == IPP_JSTATE_ABORTED) return lose("was aborted by CUPS");
+  if (job.state == IPP_JSTATE_ABORTED) return cups_was_there() ? note_aborted() : lose("was aborted when CUPS began again");
   if (work.unsent) cups_cancel(work.record.cups);
   else tell_what_keeps(&job);
   return GOES_ON;
@@ -167,7 +176,7 @@ typedef struct {
   const char *spool;
   uint32_t id, cups;    /* the job, and the CUPS job that its record has */
   uint32_t highest;     /* the highest page that CUPS has completed */
-  bool found;           /* CUPS has that job */
+  bool found;           /* CUPS has that job, and says for certain what became of it */
   bool open;            /* not all that CUPS has of the job is over */
   bool queue_processes;
 } tally;
@@ -179,17 +188,23 @@ static bool may_finish(const tally *t, const cups_job *job, uint32_t page) {
   return true;
 }
 
+/* CUPS says at once that a job is cancelled, and ends what prints it a little later. A job that never began has the same reason. */
+static bool still_stops(const cups_job *job) {
+  cups_job now;
+  if (strcmp(job->reason, "processing-to-stop-point") != 0) return false;
+  return cups_look(job->number, &now) != CUPS_ANSWERED || now.begun;
+}
+
 static void count_job(const cups_job *job, void *own) {
   tally *t = own;
   uint32_t page = page_of(job->title, t->spool, t->id);
   if (page == 0) return;
-  if (job->number == t->cups) t->found = true;
+  if (job->number == t->cups) t->found = job->state != IPP_JSTATE_ABORTED || (work.record.cups == t->cups && cups_was_there());
   if (job->state == IPP_JSTATE_COMPLETED) {
     if (page > t->highest) t->highest = page;
-  } else if (job->state == IPP_JSTATE_CANCELED || job->state == IPP_JSTATE_ABORTED) {
-    /* CUPS says so at once, and stops what is printing a little later. */
-    if (t->queue_processes && strcmp(job->reason, "processing-to-stop-point") == 0) t->open = true;
-  } else {
+  } else if (job->state == IPP_JSTATE_CANCELED) {
+    if (job->number == t->cups && t->queue_processes && still_stops(job)) t->open = true;
+  } else if (job->state != IPP_JSTATE_ABORTED) {
     t->open = true;
     if (!may_finish(t, job, page)) cups_cancel(job->number);
   }
@@ -199,7 +214,7 @@ static void count_job(const cups_job *job, void *own) {
 static bool ask_operator(uint32_t id, const record *r, uint32_t highest, uint32_t *finished) {
   question q = {.id = id, .least = highest, .most = r->sent};
   snprintf(q.words, sizeof q.words,
-           "Job %u (%s, %s): page %u was given to the CUPS queue %s as CUPS job %u, which CUPS no longer knows.\n"
+           "Job %u (%s, %s): page %u was given to the CUPS queue %s as CUPS job %u. CUPS ended meanwhile and no longer knows what became of it.\n"
            "How many pages of this job lie finished, counted from page 1? The last one sent is page %u.",
            id, r->file, r->town, r->sent, given->machine, r->cups, r->sent);
   question_ask(state, given->folder, &q);

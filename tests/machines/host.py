@@ -128,10 +128,12 @@ class Host(threading.Thread):
     def work(self, link):
         if link.begin(self.spool) != ["serves", self.spool]:
             raise Lost("another spool's")
-        for job in self.jobs:
-            if job.refused is None and job.finished < len(job.pages):
-                self.restart(link, job)
+        begun = set()
         while not self.killed and not self.over():
+            for job in [job for job in self.jobs if job.number not in begun]:
+                begun.add(job.number)
+                if job.refused is None and job.finished < len(job.pages):
+                    self.restart(link, job)
             alive = [job for job in self.jobs if job.refused is None]
             ready = [job for job in alive if job.sent < len(job.pages)]
             if ready and sum(job.sent - job.finished for job in alive) < OPEN:

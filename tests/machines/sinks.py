@@ -14,7 +14,7 @@ class Port:
 
     def __init__(self, pause=0.0):
         self.pause, self.stuck, self.resets = pause, False, 0
-        self.arrived, self.cut = [], []
+        self.arrived, self.cut, self.active, self.quiet_since = [], [], 0, 0.0
         self.server = socket.socket()
         self.server.setsockopt(socket.SOL_SOCKET, socket.SO_REUSEADDR, 1)
         self.server.bind(("127.0.0.1", 0))
@@ -28,7 +28,16 @@ class Port:
                 link, _ = self.server.accept()
             except OSError:
                 return
-            threading.Thread(target=self.take, args=(link,), daemon=True).start()
+            self.active += 1
+            threading.Thread(target=self.take_and_leave, args=(link,), daemon=True).start()
+
+    def take_and_leave(self, link):
+        self.take(link)
+        self.active -= 1
+        self.quiet_since = time.time()
+
+    def quiet(self, seconds):
+        return self.active == 0 and time.time() - self.quiet_since > seconds
 
     def take(self, link):
         came = b""
