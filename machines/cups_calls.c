@@ -87,12 +87,12 @@ static ipp_t *request_for_job(ipp_op_t what, uint32_t number) {
 }
 
 /* What an answer says. A server that is busy or that failed may do better later; another refusal is its last word. */
-static cups_reply reply_of(const ipp_t *answer) {
-  ipp_status_t status = answer == NULL ? cupsLastError() : ippGetStatusCode((ipp_t *)answer);
-  if (answer != NULL && status < IPP_STATUS_ERROR_BAD_REQUEST) return CUPS_ANSWERED;
-  snprintf(why, sizeof why, "%s", cupsLastErrorString());
-  if (answer == NULL) return CUPS_AWAY;
-  return status >= IPP_STATUS_ERROR_INTERNAL ? CUPS_AWAY : CUPS_REFUSED;
+static cups_reply reply_of(ipp_t *answer) {
+  ipp_status_t status = answer == NULL ? cupsLastError() : ippGetStatusCode(answer);
+  bool failed = status >= IPP_STATUS_ERROR_BAD_REQUEST;
+  if (answer != NULL && !failed) return CUPS_ANSWERED;
+  snprintf(why, sizeof why, "%s", failed ? cupsLastErrorString() : "CUPS broke off");
+  return answer == NULL || status >= IPP_STATUS_ERROR_INTERNAL ? CUPS_AWAY : CUPS_REFUSED;
 }
 
 /* Sends a request with a document, or without one, and takes both. The caller deletes the answer. */

@@ -117,8 +117,7 @@ static progress finish(void) {
 
 static progress lose(const char *why) {
   record *r = &work.record;
-  tell_once("job %u (%s, %s): page %u is not finished, its CUPS job %u %s; the host sends it again", work.id, r->file, r->town, work.page,
-            r->cups, why);
+  tell_once("job %u (%s, %s): page %u does not count as finished, its CUPS job %u %s", work.id, r->file, r->town, work.page, r->cups, why);
   return LOST;
 }
 
@@ -213,10 +212,9 @@ static void count_job(const cups_job *job, void *own) {
 /* CUPS forgot a page that it was given: whether it was printed is asked of the operator. */
 static bool ask_operator(uint32_t id, const record *r, uint32_t highest, uint32_t *finished) {
   question q = {.id = id, .least = highest, .most = r->sent};
-  snprintf(q.words, sizeof q.words,
-           "Job %u (%s, %s): page %u was given to the CUPS queue %s as CUPS job %u. CUPS ended meanwhile and no longer knows what became of it.\n"
-           "How many pages of this job lie finished, counted from page 1? The last one sent is page %u.",
-           id, r->file, r->town, r->sent, given->machine, r->cups, r->sent);
+  snprintf(q.about, sizeof q.about,
+           "Job %u (%s, %s): page %u, the last one sent, was CUPS job %u of the queue %s. CUPS does not know what became of it.", id, r->file,
+           r->town, r->sent, r->cups, given->machine);
   question_ask(state, given->folder, &q);
   return question_answered(state, &q, finished);
 }

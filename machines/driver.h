@@ -41,6 +41,7 @@ enum { ENDED_WELL = 0, ENDED_BY_FAILURE = 1, ENDED_BY_USAGE = 2 };
 extern const char *program;
 void open_streams(void);
 void say(const char *format, ...) __attribute__((format(printf, 1, 2)));
+void make_printable(char *text);
 _Noreturn void stop(const char *about, const char *why);
 long long now_ms(void);
 
@@ -145,7 +146,7 @@ void tell(const char *format, ...) __attribute__((format(printf, 1, 2)));
 
 typedef struct {
   uint32_t id, least, most; /* the answer is a number of pages from `least` to `most` */
-  char words[512];
+  char about[400];          /* the job, and what happened */
 } question;
 
 void question_ask(int state, const char *folder, const question *q);

@@ -19,7 +19,9 @@
 #include <sys/un.h>
 #include <unistd.h>
 
-#define MESSAGE_MS 30000 /* that a message may take from its first byte to its last, and a new host to its first message */
+#ifndef MESSAGE_MS /* milliseconds that a message may take from its first byte to its last, and a new host to its first message */
+#define MESSAGE_MS 30000
+#endif
 #define TEXT_BYTES (LINE_MAX_BYTES + KATCHIDUL_ORDER_MAX)
 
 static int listener = -1, host = -1;
@@ -78,7 +80,8 @@ void link_close(const char *why) {
 static void send_line(const char *line, size_t length) {
   if (host < 0) return;
   ssize_t some = send(host, line, length, MSG_NOSIGNAL | MSG_DONTWAIT);
-  if (some != (ssize_t)length) link_close("the host does not take its answers");
+  if (some < 0 && (errno == EPIPE || errno == ECONNRESET)) link_close(NULL);
+  else if (some != (ssize_t)length) link_close("the host does not take its answers");
 }
 
 void link_answer(const char *format, ...) {
@@ -96,8 +99,7 @@ void tell(const char *format, ...) {
   va_start(rest, format);
   vsnprintf(words, sizeof words, format, rest);
   va_end(rest);
-  for (char *c = words; *c != '\0'; c++)
-    if (*c < ' ' || *c > '~') *c = '?';
+  make_printable(words);
   say("%s", words);
   int length = snprintf(line, sizeof line, "says %s\n", words);
   send_line(line, (size_t)length);

@@ -96,10 +96,8 @@ static void write_question(uint32_t id, const record *r, question *q) {
   char pages[96];
   name_last_pages(r, pages, sizeof pages);
   *q = (question){.id = id, .least = r->finished, .most = r->sent};
-  snprintf(q->words, sizeof q->words,
-           "Job %u (%s, %s): %s to %s, and page %u may be there in part.\n"
-           "Clear the machine, set it to the top of a page, and take out what is half punched.\n"
-           "How many pages of this job lie finished, counted from page 1?",
+  snprintf(q->about, sizeof q->about,
+           "Job %u (%s, %s): %s to %s, and page %u may be there in part. Take out what is half punched, and set the machine to the top of a page.",
            id, r->file, r->town, pages, given->machine, r->sent);
 }
 

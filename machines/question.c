@@ -24,8 +24,11 @@ static void file_name(const char *folder, uint32_t id, char name[32]) { snprintf
 /* Opens a question, once. An answer that is there belongs to it only if the question is the same as before. */
 void question_ask(int state, const char *folder, const question *q) {
   char file[32], id[16], text[QUESTION_BYTES], old[QUESTION_BYTES];
-  int length = snprintf(text, sizeof text, "job %u\nfrom %u\nto %u\n%s\nA number from %u to %u. To answer:\n%s answer %s %u PAGES\n", q->id,
-                        q->least, q->most, q->words, q->least, q->most, program, folder, q->id);
+  int length = snprintf(text, sizeof text,
+                        "job %u\nfrom %u\nto %u\n%s\n"
+                        "How many pages of this job lie finished, counted from page 1? A number from %u to %u. To answer:\n"
+                        "%s answer %s %u PAGES\n",
+                        q->id, q->least, q->most, q->about, q->least, q->most, program, folder, q->id);
   if (length < 0 || length >= (int)sizeof text) stop(folder, "the folder's name is too long for a question");
   file_name("questions", q->id, file);
   snprintf(id, sizeof id, "%u", q->id);
@@ -37,8 +40,9 @@ void question_ask(int state, const char *folder, const question *q) {
   if (shown == q->id) return;
   shown = q->id;
   tcflush(STDIN_FILENO, TCIFLUSH); /* what was typed before the question is no answer to it */
-  tell("job %u waits for the operator: %s answer %s %u PAGES", q->id, program, folder, q->id);
-  say("%s", q->words);
+  say("%s", q->about);
+  tell("job %u waits for the operator: how many of its pages lie finished, %u to %u? %s answer %s %u PAGES", q->id, q->least, q->most,
+       program, folder, q->id);
 }
 
 static bool fits(const char *text, const question *q, uint32_t *pages) {
@@ -79,7 +83,7 @@ static bool read_answer(int state, const question *q, uint32_t *pages) {
 
 bool question_answered(int state, const question *q, uint32_t *pages) {
   if (!read_terminal(q, pages) && !read_answer(state, q, pages)) return false;
-  tell("job %u: %u pages lie finished, says the operator", q->id, *pages);
+  tell("job %u: pages that lie finished, by the operator's answer: %u", q->id, *pages);
   return true;
 }
 
@@ -129,6 +133,6 @@ int answer_command(int count, char **words) {
   int length = snprintf(text, sizeof text, "%u\n", pages);
   snprintf(id, sizeof id, "%u", q.id);
   write_lasting(state, "answers", id, text, (size_t)length);
-  printf("job %u: %u pages lie finished; the driver goes on with page %u\n", q.id, pages, pages + 1);
+  printf("job %u: finished pages: %u; the driver goes on behind them\n", q.id, pages);
   return ENDED_WELL;
 }

@@ -25,7 +25,7 @@ static void put(const char *line, size_t length) {
 }
 
 /* Control bytes would reach the operator's terminal as commands. */
-static void make_printable(char *text) {
+void make_printable(char *text) {
   for (; *text != '\0'; text++)
     if (*text < ' ' || *text > '~') *text = '?';
 }

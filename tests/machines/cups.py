@@ -3,6 +3,7 @@ import os
 import pathlib
 import re
 import signal
+import socket
 import subprocess
 import time
 
@@ -95,28 +96,32 @@ class Cups:
     def log(self):
         return (self.root / "error_log").read_text(errors="replace")
 
-    def jobs(self):
-        """Number of each job with its state's name, as CUPS has them."""
-        script = pathlib.Path(__file__).parent / "jobs.test"
-        text = self.ask("ipptool", "-tv", "ipp://localhost/", str(script), fails=True)
-        return text
-
 
 class Printer:
     """ippeveprinter: keeps each document as a file."""
 
-    def __init__(self, root, port):
+    def __init__(self, root):
+        with socket.socket() as free:
+            free.bind(("127.0.0.1", 0))
+            self.port = free.getsockname()[1]
         self.root = pathlib.Path(root)
         self.root.mkdir(parents=True, exist_ok=True)
         os.chmod(self.root, 0o777)
-        words = ["ippeveprinter", "-k", "-d", str(self.root), "-p", str(port), "-r", "off", "-n", "localhost", "-f",
-                 "application/octet-stream,application/vnd.cups-raw", "braille"]
+        # ippeveprinter wants a system bus, to announce itself; this one is its own, and nobody hears it.
+        bus = "unix:path=%s" % (self.root.parent / "bus")
         out = (self.root.parent / "ippeveprinter.out").open("ab")
-        self.process = subprocess.Popen(words, stdin=subprocess.DEVNULL, stdout=out, stderr=out, start_new_session=True)
+        self.bus = subprocess.Popen(["dbus-daemon", "--session", "--nofork", "--address=" + bus], stdout=out, stderr=out)
+        while not (self.root.parent / "bus").exists():
+            time.sleep(0.02)
+        words = ["ippeveprinter", "-k", "-d", str(self.root), "-p", str(self.port), "-r", "off", "-n", "localhost", "-f",
+                 "application/octet-stream,application/vnd.cups-raw", "braille"]
+        self.process = subprocess.Popen(words, stdin=subprocess.DEVNULL, stdout=out, stderr=out, start_new_session=True,
+                                        env=dict(os.environ, DBUS_SYSTEM_BUS_ADDRESS=bus))
 
     def end(self):
-        self.process.kill()
-        self.process.wait()
+        for process in (self.process, self.bus):
+            process.kill()
+            process.wait()
 
     def documents(self):
         return [path.read_bytes() for path in sorted(self.root.iterdir(), key=lambda p: int(re.match(r"(\d+)", p.name).group(1)))]

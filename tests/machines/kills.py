@@ -153,3 +153,16 @@ class Run:
             sum(self.killed.values()), ", ".join("%s %d" % pair for pair in self.killed.items()), len(self.orders.pages),
             sum(map(len, self.orders.pages.values())), restarted, twice, self.operator.answers), flush=True)
         check("kills: pages twice that no CUPS began again", twice <= restarted, True)
+
+
+def run(check, place, kills, seed):
+    import rooms
+    rooms.Whole.program = place.host
+    folder = place.folder / "kills"
+    folder.mkdir()
+    one = Run(folder, place.lib, place.fast_cups, rooms.Whole if place.host else rooms.Small, seed)
+    try:
+        one.go(kills)
+        one.report(check)
+    finally:
+        one.end()

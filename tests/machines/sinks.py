@@ -4,6 +4,7 @@ import pty
 import select
 import socket
 import struct
+import termios
 import threading
 import time
 import tty
@@ -15,17 +16,22 @@ class Port:
     def __init__(self, pause=0.0):
         self.pause, self.stuck, self.resets = pause, False, 0
         self.arrived, self.cut, self.active, self.quiet_since = [], [], 0, 0.0
+        self.number = 0
+        self.listen()
+
+    def listen(self):
+        """Also again, at the same number, after `end`."""
         self.server = socket.socket()
         self.server.setsockopt(socket.SOL_SOCKET, socket.SO_REUSEADDR, 1)
-        self.server.bind(("127.0.0.1", 0))
+        self.server.bind(("127.0.0.1", self.number))
         self.server.listen(16)
         self.number = self.server.getsockname()[1]
-        threading.Thread(target=self.serve, daemon=True).start()
+        threading.Thread(target=self.serve, args=(self.server,), daemon=True).start()
 
-    def serve(self):
+    def serve(self, server):
         while True:
             try:
-                link, _ = self.server.accept()
+                link, _ = server.accept()
             except OSError:
                 return
             self.active += 1
@@ -60,25 +66,31 @@ class Port:
         link.close()
 
     def end(self):
+        self.server.shutdown(socket.SHUT_RDWR)
         self.server.close()
 
 
 class Terminal:
-    """The driver's side is `name`. While `stuck`, nothing is read."""
+    """The driver's side is `name`."""
 
     def __init__(self):
-        self.ours, theirs = pty.openpty()
+        self.ours, self.theirs = pty.openpty()
         tty.setraw(self.ours)
-        self.name = os.ttyname(theirs)
-        self.theirs, self.came, self.stuck, self.over = theirs, b"", False, False
+        self.name = os.ttyname(self.theirs)
+        self.came, self.over = b"", False
         threading.Thread(target=self.serve, daemon=True).start()
+
+    def stop(self):
+        """From here on the line takes no byte."""
+        termios.tcflow(self.theirs, termios.TCOOFF)
+
+    def go_on(self):
+        termios.tcflow(self.theirs, termios.TCOON)
 
     def serve(self):
         while not self.over:
-            if self.stuck or not select.select([self.ours], [], [], 0.05)[0]:
-                time.sleep(0.01)
-                continue
-            self.came += os.read(self.ours, 65536)
+            if select.select([self.ours], [], [], 0.05)[0]:
+                self.came += os.read(self.ours, 65536)
 
     def end(self):
         self.over = True

@@ -1,0 +1,1 @@
+def run(check, place): pass
