@@ -151,17 +151,6 @@ static void see_all(ipp_t *answer, void (*see)(const cups_job *, void *), void *
   if (job.number != 0) see(&job, own);
 }
 
-cups_reply cups_list(void (*see)(const cups_job *job, void *own), void *own) {
-  ipp_t *request = request_for(IPP_OP_GET_JOBS, "printer-uri", "/"), *answer;
-  ippAddBoolean(request, IPP_TAG_OPERATION, "my-jobs", 1);
-  ippAddString(request, IPP_TAG_OPERATION, IPP_TAG_KEYWORD, "which-jobs", NULL, "all");
-  want(request, 4, job_parts);
-  cups_reply reply = ask_shortly(request, "/", &answer);
-  if (reply == CUPS_ANSWERED) see_all(answer, see, own);
-  ippDelete(answer);
-  return reply;
-}
-
 static void keep(const cups_job *job, void *own) { *(cups_job *)own = *job; }
 
 cups_reply cups_look(uint32_t number, cups_job *job) {
@@ -172,6 +161,33 @@ cups_reply cups_look(uint32_t number, cups_job *job) {
   if (reply == CUPS_ANSWERED) see_all(answer, keep, job);
   ippDelete(answer);
   return reply;
+}
+
+typedef struct {
+  void (*see)(const cups_job *job, void *own);
+  void *own;
+  cups_reply reply;
+} listing;
+
+/* CUPS lists a job without its name when it has put the job's attributes away, and brings them back when it is asked for that job. */
+static void see_named(const cups_job *job, void *own) {
+  listing *l = own;
+  cups_job whole = *job;
+  cups_reply reply = job->title[0] == '\0' ? cups_look(job->number, &whole) : CUPS_ANSWERED;
+  if (reply == CUPS_ANSWERED) l->see(&whole, l->own);
+  if (reply == CUPS_AWAY) l->reply = CUPS_AWAY;
+}
+
+cups_reply cups_list(void (*see)(const cups_job *job, void *own), void *own) {
+  ipp_t *request = request_for(IPP_OP_GET_JOBS, "printer-uri", "/"), *answer;
+  listing l = {see, own, CUPS_ANSWERED};
+  ippAddBoolean(request, IPP_TAG_OPERATION, "my-jobs", 1);
+  ippAddString(request, IPP_TAG_OPERATION, IPP_TAG_KEYWORD, "which-jobs", NULL, "all");
+  want(request, 4, job_parts);
+  cups_reply reply = ask_shortly(request, "/", &answer);
+  if (reply == CUPS_ANSWERED) see_all(answer, see_named, &l);
+  ippDelete(answer);
+  return reply == CUPS_ANSWERED ? l.reply : reply;
 }
 
 cups_reply cups_look_at_queue(cups_queue *queue) {

@@ -135,6 +135,7 @@ bool link_is_open(void);
 void link_accept(void);
 void link_read(void);
 void link_close(const char *why);
+bool link_has_message(void);
 message link_next(void);
 int link_patience(bool reads);
 void link_answer(const char *format, ...) __attribute__((format(printf, 1, 2)));

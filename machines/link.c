@@ -180,22 +180,34 @@ static message message_of(char *line) {
   return m;
 }
 
-/* The next message. Its body is good until link_read. */
-message link_next(void) {
+/* The message at the front of what came. Its body is good until link_read. */
+static message front(size_t *length) {
   char line[LINE_MAX_BYTES];
-  message m = {.kind = NOTHING_YET};
   const char *from = text + taken, *end = memchr(from, '\n', held - taken);
-  size_t came = held - taken, length = end == NULL ? came : (size_t)(end - from);
-  if (came > 0 && !waits) waits = true, begun = now_ms();
-  if (length >= LINE_MAX_BYTES || memchr(from, '\0', length) != NULL) return (message){.kind = WRONG};
-  if (end == NULL) return m;
-  memcpy(line, from, length);
-  line[length] = '\0';
-  m = message_of(line);
-  if (m.kind == WRONG) return m;
-  if (came < length + 1 + m.length) return (message){.kind = NOTHING_YET};
-  m.body = (const uint8_t *)from + length + 1;
-  taken += length + 1 + m.length;
+  size_t came = held - taken, head = end == NULL ? came : (size_t)(end - from);
+  if (head >= LINE_MAX_BYTES || memchr(from, '\0', head) != NULL) return (message){.kind = WRONG};
+  if (end == NULL) return (message){.kind = NOTHING_YET};
+  memcpy(line, from, head);
+  line[head] = '\0';
+  message m = message_of(line);
+  *length = head + 1 + m.length;
+  if (m.kind != WRONG && came < *length) m.kind = NOTHING_YET;
+  m.body = (const uint8_t *)from + head + 1;
+  return m;
+}
+
+/* Whether a message is there that was not taken yet. */
+bool link_has_message(void) {
+  size_t length;
+  return host >= 0 && front(&length).kind != NOTHING_YET;
+}
+
+message link_next(void) {
+  size_t length;
+  message m = front(&length);
+  if (held > taken && !waits) waits = true, begun = now_ms();
+  if (m.kind == NOTHING_YET || m.kind == WRONG) return m;
+  taken += length;
   waits = false;
   return m;
 }

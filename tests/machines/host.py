@@ -22,10 +22,19 @@ class Link:
         self.socket = socket.socket(socket.AF_UNIX)
         self.socket.settimeout(patience)
         self.patience, self.came, self.said = patience, b"", []
-        try:
-            self.socket.connect(str(path))
-        except OSError as why:
-            raise Lost(str(why))
+        self.connect(str(path), time.time() + patience)
+
+    def connect(self, path, end):
+        """A driver that has enough hosts waiting takes no more for a while."""
+        while True:
+            try:
+                return self.socket.connect(path)
+            except BlockingIOError as why:
+                if time.time() > end:
+                    raise Lost(str(why))
+                time.sleep(0.01)
+            except OSError as why:
+                raise Lost(str(why))
 
     def send(self, *parts):
         try:
