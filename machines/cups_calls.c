@@ -44,8 +44,13 @@ static http_t *connect_to_server(void) {
 
 /* A connection on which nothing is said ends when CUPS does, however soon another CUPS begins. */
 void cups_watch(void) {
-  if (watched != NULL) httpClose(watched);
+  cups_unwatch();
   watched = connect_to_server();
+}
+
+void cups_unwatch(void) {
+  if (watched != NULL) httpClose(watched);
+  watched = NULL;
 }
 
 bool cups_was_there(void) {
@@ -173,6 +178,7 @@ typedef struct {
 static void see_named(const cups_job *job, void *own) {
   listing *l = own;
   cups_job whole = *job;
+  if (l->reply != CUPS_ANSWERED) return;
   cups_reply reply = job->title[0] == '\0' ? cups_look(job->number, &whole) : CUPS_ANSWERED;
   if (reply == CUPS_ANSWERED) l->see(&whole, l->own);
   if (reply == CUPS_AWAY) l->reply = CUPS_AWAY;

@@ -26,9 +26,10 @@ typedef enum { CUPS_ANSWERED, CUPS_REFUSED, CUPS_AWAY } cups_reply;
 
 void cups_open(const options *o);
 
-/* Whether CUPS has been there without a break since cups_watch. Answers no after five minutes, when CUPS drops an idle connection. */
+/* Whether CUPS has been there without a break since cups_watch. It says no after some minutes, when CUPS drops an idle connection. */
 void cups_watch(void);
 bool cups_was_there(void);
+void cups_unwatch(void);
 
 /* Why the last call was refused, or CUPS is away. */
 const char *cups_why(void);

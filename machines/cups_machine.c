@@ -111,6 +111,7 @@ static progress finish(void) {
   work.record.finished = work.page;
   work.record.cups = 0;
   record_write(state, work.id, &work.record);
+  machine_forget();
   told[0] = '\0';
   return FINISHED;
 }
@@ -163,7 +164,10 @@ progress machine_look(void) {
   return GOES_ON;
 }
 
-void machine_forget(void) { memset(&work, 0, sizeof work); }
+void machine_forget(void) {
+  memset(&work, 0, sizeof work);
+  cups_unwatch();
+}
 
 wait_for machine_waits_for(void) { return (wait_for){-1, 0, LOOK_MS}; }
 

@@ -63,6 +63,7 @@ bool link_is_open(void) { return host >= 0; }
 
 void link_accept(void) {
   host = accept4(listener, NULL, NULL, SOCK_NONBLOCK | SOCK_CLOEXEC);
+  if (host < 0 && errno != EAGAIN) poll(NULL, 0, 100); /* no file is free, as it may be again soon */
   held = taken = 0;
   waits = host >= 0;
   begun = now_ms();

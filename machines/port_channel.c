@@ -22,7 +22,7 @@ static bool network;
 static char host[256], port[8];
 static int file = -1;
 static bool connected, shut;
-static long long since; /* when the connection was asked for, or all was acknowledged */
+static long long since; /* when the connection was asked for, or the machine had all or closed */
 static char why[160];
 
 int channel_fd(void) { return file; }
@@ -92,12 +92,23 @@ static channel_state drain_device(void) {
 
 /* ---- a network port */
 
+/* A name may have several addresses, each of which is tried in its turn. */
+static const struct addrinfo *choose(const struct addrinfo *all) {
+  static unsigned tries;
+  unsigned count = 0;
+  for (const struct addrinfo *a = all; a != NULL; a = a->ai_next) count++;
+  const struct addrinfo *chosen = all;
+  for (unsigned i = tries++ % count; i > 0; i--) chosen = chosen->ai_next;
+  return chosen;
+}
+
 static channel_state begin_connection(void) {
   struct addrinfo wanted = {.ai_family = AF_UNSPEC, .ai_socktype = SOCK_STREAM}, *found;
   int number = getaddrinfo(host, port, &wanted, &found);
   if (number != 0) return fail(gai_strerror(number));
-  file = socket(found->ai_family, SOCK_STREAM | SOCK_NONBLOCK | SOCK_CLOEXEC, 0);
-  bool goes = file >= 0 && (connect(file, found->ai_addr, found->ai_addrlen) == 0 || errno == EINPROGRESS);
+  const struct addrinfo *to = choose(found);
+  file = socket(to->ai_family, SOCK_STREAM | SOCK_NONBLOCK | SOCK_CLOEXEC, 0);
+  bool goes = file >= 0 && (connect(file, to->ai_addr, to->ai_addrlen) == 0 || errno == EINPROGRESS);
   int reason = errno;
   freeaddrinfo(found);
   since = now_ms();
@@ -133,9 +144,11 @@ static channel_state drain_network(void) {
   bool closed = has_closed(&failed);
   if (failed) return fail(strerror(errno));
   if (ioctl(file, SIOCOUTQ, &left) != 0) return fail(strerror(errno));
-  if (left > 0) return closed ? fail("the machine closed the connection before it had the whole page") : CHANNEL_WAITS;
+  if (left > 0 && !closed) return CHANNEL_WAITS;
   if (since == 0) since = now_ms();
-  if (!closed && now_ms() - since < CLOSE_MS) return CHANNEL_WAITS;
+  bool waits = now_ms() - since < CLOSE_MS; /* for the last acknowledgement, or for the machine's end of the connection */
+  if (waits && (left > 0 || !closed)) return CHANNEL_WAITS;
+  if (left > 0) return fail("the machine closed the connection before it had the whole page");
   channel_close();
   return CHANNEL_READY;
 }

@@ -16,6 +16,7 @@ static const options *given;
 static int state;
 static sheet work; /* the page in work; its id is 0 when there is none */
 static size_t written;
+static uint32_t torn; /* the job of a page that was cut: nothing else goes out before the operator has cleared the machine */
 static bool told_slow, told_away, told_wait;
 static long long moved_at, retry_at;
 
@@ -23,6 +24,40 @@ void machine_open(const options *o, int folder) {
   given = o;
   state = folder;
   channel_name(o->machine);
+}
+
+/* ---- questions */
+
+static void name_last_pages(const record *r, char *text, size_t size) {
+  if (r->sent == r->finished + 1) snprintf(text, size, "page %u was sent", r->sent);
+  else snprintf(text, size, "pages %u to %u were sent, the last ones %u and %u", r->finished + 1, r->sent, r->sent - 1, r->sent);
+}
+
+static void write_question(uint32_t id, const record *r, question *q) {
+  char pages[96];
+  name_last_pages(r, pages, sizeof pages);
+  *q = (question){.id = id, .least = r->finished, .most = r->sent};
+  snprintf(q->about, sizeof q->about,
+           "Job %u (%s, %s): %s to %s, and page %u may be there in part. Take out what is half punched, and set the machine to the top of a page.",
+           id, r->file, r->town, pages, given->machine, r->sent);
+}
+
+/* Whether it is known how many pages of a job are finished: none was sent since that was known, or the operator has answered. */
+static bool ask_about(uint32_t id, uint32_t *finished) {
+  record r;
+  question q;
+  record_read(state, id, &r);
+  *finished = r.finished;
+  if (r.sent > r.finished) {
+    write_question(id, &r, &q);
+    question_ask(state, given->folder, &q);
+    if (!question_answered(state, &q, finished)) return false;
+    r.finished = r.sent = *finished;
+    record_write(state, id, &r);
+  }
+  question_close(state, id);
+  if (torn == id) torn = 0;
+  return true;
 }
 
 /* ---- a page */
@@ -39,8 +74,9 @@ static bool waits_for_machine(const sheet *s) {
 
 bool machine_take(const char *spool, const sheet *s) {
   record r;
+  uint32_t finished;
   (void)spool;
-  if (waits_for_machine(s)) return false;
+  if ((torn != 0 && !ask_about(torn, &finished)) || waits_for_machine(s)) return false;
   told_away = told_slow = false;
   record_read(state, s->id, &r);
   r.sent = s->page;
@@ -56,6 +92,7 @@ bool machine_take(const char *spool, const sheet *s) {
 static progress lose(void) {
   tell("job %u (%s, %s): page %u may be there in part, the machine at %s failed: %s", work.id, work.file, work.town, work.page, given->machine,
        channel_why());
+  torn = work.id;
   work.id = 0;
   return LOST;
 }
@@ -87,24 +124,8 @@ int machine_last_wait(void) { return LAST_WAIT; }
 
 /* ---- a job's count */
 
-static void name_last_pages(const record *r, char *text, size_t size) {
-  if (r->sent == r->finished + 1) snprintf(text, size, "page %u was sent", r->sent);
-  else snprintf(text, size, "pages %u to %u were sent, the last ones %u and %u", r->finished + 1, r->sent, r->sent - 1, r->sent);
-}
-
-static void write_question(uint32_t id, const record *r, question *q) {
-  char pages[96];
-  name_last_pages(r, pages, sizeof pages);
-  *q = (question){.id = id, .least = r->finished, .most = r->sent};
-  snprintf(q->about, sizeof q->about,
-           "Job %u (%s, %s): %s to %s, and page %u may be there in part. Take out what is half punched, and set the machine to the top of a page.",
-           id, r->file, r->town, pages, given->machine, r->sent);
-}
-
 /* A page of the job whose bytes are on their way goes out first: nothing else can go into the machine before it. */
 bool machine_settle(const char *spool, uint32_t id, uint32_t *finished) {
-  record r;
-  question q;
   (void)spool;
   if (work.id == id && machine_look() == GOES_ON) {
     if (!told_wait) tell("job %u: page %u is on its way into the machine, its count waits for that", id, work.page);
@@ -112,17 +133,5 @@ bool machine_settle(const char *spool, uint32_t id, uint32_t *finished) {
     return false;
   }
   told_wait = false;
-  record_read(state, id, &r);
-  *finished = r.finished;
-  if (r.sent == r.finished) {
-    question_close(state, id);
-    return true;
-  }
-  write_question(id, &r, &q);
-  question_ask(state, given->folder, &q);
-  if (!question_answered(state, &q, finished)) return false;
-  r.finished = r.sent = *finished;
-  record_write(state, id, &r);
-  question_close(state, id);
-  return true;
+  return ask_about(id, finished);
 }

@@ -2,7 +2,6 @@
    and neither is waited for alone. */
 #include "machine.h"
 
-#include <errno.h>
 #include <poll.h>
 #include <signal.h>
 #include <string.h>
@@ -152,6 +151,7 @@ static void wait_and_read(const sigset_t *while_waiting) {
                             {.fd = machine.file, .events = machine.events},
                             {.fd = asked != 0 ? question_fd() : -1, .events = POLLIN}};
   int patience = least(least(link_patience(reads()), machine.patience), asked != 0 ? ASK_MS : -1);
+  if (ending) patience = least(patience, ASK_MS);
   if (reads() && link_has_message()) patience = 0; /* it came while nothing was read */
   struct timespec time = {.tv_sec = patience / 1000, .tv_nsec = patience % 1000 * 1000000L};
   if (ppoll(files, 3, patience < 0 ? NULL : &time, while_waiting) <= 0 || files[0].revents == 0) return;

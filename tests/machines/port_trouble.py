@@ -175,13 +175,18 @@ def check_reset(check, place):
         check("reset: no page is done", link.hear(), None)
     except Lost:
         pass
-    link.close()
     check("reset: the operator is told", "may be there in part" in driver.said(), True)
+    link.patience = 15.0
+    link.close()
     link = begin(driver)
-    link.send(b"restart 5\n")
-    check("reset: and asked", wait_until(lambda: driver.questions() == [5]), True)
+    restart(link, 6)
+    send_page(link, place.lib, 1, job=6)
+    check("reset: and asked before a page of another job goes out", wait_until(lambda: driver.questions() == [5]), True)
+    time.sleep(0.5)
+    check("reset: nothing has gone out", port.arrived, [])
     driver.answer(5, 0)
-    check("reset: the count", link.hear(), ["count", "5", "0"])
+    check("reset: then it does", link.hear(), ["done", "6", "1"])
+    check("reset: the count", restart(link), ["count", "5", "0"])
     link.close()
     driver.end()
     port.end()
