@@ -120,8 +120,9 @@ static channel_state open_network(void) {
   socklen_t length = sizeof reason;
   if (connected) return CHANNEL_READY;
   if (file < 0 && begin_connection() == CHANNEL_FAILED) return CHANNEL_FAILED;
+  if (now_ms() - since >= CONNECT_MS) return fail("no connection in time"); /* also one that no page came for meanwhile */
   struct pollfd ready = {.fd = file, .events = POLLOUT};
-  if (poll(&ready, 1, 0) <= 0) return now_ms() - since < CONNECT_MS ? CHANNEL_WAITS : fail("no connection in time");
+  if (poll(&ready, 1, 0) <= 0) return CHANNEL_WAITS;
   if (getsockopt(file, SOL_SOCKET, SO_ERROR, &reason, &length) != 0 || reason != 0) return fail(strerror(reason));
   connected = true;
   return CHANNEL_READY;
