@@ -62,7 +62,8 @@ void machine_open(const options *o, int folder) {
   if (reply == CUPS_REFUSED) stop(o->machine, "CUPS has no such queue; 'lpstat -e' lists those that there are");
   if (reply == CUPS_AWAY) say("%s; the driver waits for it", cups_why());
   if (strncmp(queue.policy, "retry", 5) == 0)
-    say("the queue %s has the error policy %s: CUPS may print a page again by itself. Better: lpadmin -p %s -o printer-error-policy=stop-printer",
+    say("the queue %s has the error policy %s, by which CUPS may print a page again by itself; to change it: "
+        "lpadmin -p %s -o printer-error-policy=stop-printer",
         o->machine, queue.policy, o->machine);
 }
 
@@ -84,9 +85,23 @@ static uint32_t page_of(const char *title, const char *spool, uint32_t id) {
 
 /* ---- a page */
 
+static void tell_stopped(const cups_queue *queue, uint32_t id, uint32_t page) {
+  tell_once("the queue %s is stopped (%s), page %u of job %u waits; to start it: cupsenable %s", given->machine, queue->words, page, id,
+            given->machine);
+}
+
+/* A page that a stopped queue had would be cancelled each time the host begins again. */
+static bool queue_goes(const sheet *s) {
+  cups_queue queue;
+  if (cups_look_at_queue(&queue) != CUPS_ANSWERED || !queue.stopped) return true;
+  tell_stopped(&queue, s->id, s->page);
+  retry_at = now_ms() + RETRY_MS;
+  return false;
+}
+
 bool machine_take(const char *spool, const sheet *s) {
   uint32_t number;
-  if (now_ms() < retry_at) return false;
+  if (now_ms() < retry_at || !queue_goes(s)) return false;
   write_title(spool, s->id, s->page, work.title);
   cups_watch();
   if (cups_create(work.title, &number) != CUPS_ANSWERED) {
@@ -138,9 +153,7 @@ static void tell_what_keeps(const cups_job *job) {
   else if (job->state == IPP_JSTATE_STOPPED)
     tell_once("job %u: page %u is stopped in CUPS, job %u (%s)", work.id, work.page, number, job->reason);
   else if (cups_look_at_queue(&queue) != CUPS_ANSWERED) return;
-  else if (queue.stopped)
-    tell_once("the queue %s is stopped (%s), page %u of job %u waits; to start it: cupsenable %s", given->machine, queue.words, work.page,
-              work.id, given->machine);
+  else if (queue.stopped) tell_stopped(&queue, work.id, work.page);
   else if (now_ms() - work.since > SLOW_MS)
     tell_once("job %u: page %u takes long in CUPS, job %u: %s", work.id, work.page, number, queue.words);
 }
@@ -217,8 +230,9 @@ static void count_job(const cups_job *job, void *own) {
 static bool ask_operator(uint32_t id, const record *r, uint32_t highest, uint32_t *finished) {
   question q = {.id = id, .least = highest, .most = r->sent};
   snprintf(q.about, sizeof q.about,
-           "Job %u (%s, %s): page %u, the last one sent, was CUPS job %u of the queue %s. CUPS does not know what became of it.", id, r->file,
-           r->town, r->sent, r->cups, given->machine);
+           "Job %u (%s, %s): page %u, the last one sent, was CUPS job %u of the queue %s. "
+           "CUPS does not know what became of it.",
+           id, r->file, r->town, r->sent, r->cups, given->machine);
   question_ask(state, given->folder, &q);
   return question_answered(state, &q, finished);
 }

@@ -15,9 +15,10 @@ static const char of_cups[] = "  --user NAME      the user whose jobs they are i
                               "  --finish SECONDS that CUPS may take for a page in work when the host begins again; 30 if not given\n";
 
 static void usage(FILE *to, bool cups) {
-  if (cups) fprintf(to, "usage: katchidul-cups [options] SOCKET STATE QUEUE\n       katchidul-cups answer STATE JOB PAGES\n%s%s", common, of_cups);
-  else fprintf(to, "usage: katchidul-port [options] SOCKET STATE DEVICE\n       katchidul-port answer STATE JOB PAGES\n"
-                   "DEVICE is a path, as /dev/usb/lp0, or HOST:PORT\n%s", common);
+  fprintf(to, "usage: %s [options] SOCKET STATE %s\n", program, cups ? "QUEUE" : "DEVICE");
+  fprintf(to, "       %s answer STATE JOB PAGES\n", program);
+  if (!cups) fprintf(to, "DEVICE is a path, as /dev/usb/lp0, or HOST:PORT\n");
+  fprintf(to, "%s%s", common, cups ? of_cups : "");
 }
 
 _Noreturn static void refuse(const char *option, const char *value, const char *wanted) {

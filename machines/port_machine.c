@@ -38,7 +38,8 @@ static void write_question(uint32_t id, const record *r, question *q) {
   name_last_pages(r, pages, sizeof pages);
   *q = (question){.id = id, .least = r->finished, .most = r->sent};
   snprintf(q->about, sizeof q->about,
-           "Job %u (%s, %s): %s to %s, and page %u may be there in part. Take out what is half punched, and set the machine to the top of a page.",
+           "Job %u (%s, %s): %s to %s, and page %u may be there in part. "
+           "Take out what is half punched, and set the machine to the top of a page.",
            id, r->file, r->town, pages, given->machine, r->sent);
 }
 
@@ -67,7 +68,8 @@ static bool waits_for_machine(const sheet *s) {
   if (now == CHANNEL_READY) return false;
   if (now == CHANNEL_WAITS) return true;
   retry_at = now_ms() + RETRY_MS;
-  if (!told_away) tell("job %u (%s, %s): page %u waits for the machine at %s: %s", s->id, s->file, s->town, s->page, given->machine, channel_why());
+  if (!told_away)
+    tell("job %u (%s, %s): page %u waits for the machine at %s: %s", s->id, s->file, s->town, s->page, given->machine, channel_why());
   told_away = true;
   return true;
 }
@@ -90,8 +92,8 @@ bool machine_take(const char *spool, const sheet *s) {
 }
 
 static progress lose(void) {
-  tell("job %u (%s, %s): page %u may be there in part, the machine at %s failed: %s", work.id, work.file, work.town, work.page, given->machine,
-       channel_why());
+  tell("job %u (%s, %s): page %u may be there in part, the machine at %s failed: %s", work.id, work.file, work.town, work.page,
+       given->machine, channel_why());
   torn = work.id;
   work.id = 0;
   return LOST;

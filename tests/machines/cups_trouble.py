@@ -44,6 +44,15 @@ class Room:
     def is_cancelled(self, number):
         return '[Job %s] Canceled by "katchidul"' % number in self.cups.log()
 
+    def keep_busy(self):
+        """Somebody else's job is in the queue's front, and its machine takes nothing: what comes waits."""
+        self.port.stuck = True
+        subprocess.run(["lp", "-d", "braille", "-o", "raw", "-U", "someone"], input=b"else\f", env=self.cups.environment, capture_output=True)
+        wait_until(lambda: '"someone"' in self.cups.log())
+
+    def let_go(self):
+        self.port.stuck = False
+
     def end(self):
         self.driver.end()
         self.cups.end()
@@ -63,33 +72,33 @@ def check_stopped(check, place):
     room.cups.ask("cupsdisable", "braille")
     link = room.begin_page()
     check("stopped queue: told", room.told("is stopped"), True)
+    check("stopped queue: CUPS is given no page", "Create-Job" in room.cups.log(), False)
+    room.cups.ask("cupsenable", "braille")
+    check("started queue: the page goes out", link.hear(), ["done", "5", "1"])
+    check("stopped queue: the host was told", any("is stopped" in said for said in link.said), True)
+    room.keep_busy()
+    send_page(link, place.lib, 2, first=False)
     number = room.last_job()
+    room.cups.ask("cupsdisable", "braille")
+    check("a queue that is stopped behind a page: told", room.told("page 2 of job 5 waits"), True)
     room.cups.ask("lp", "-i", number, "-H", "hold", "-U", "katchidul")
     check("held: told", room.told("is held in CUPS"), True)
-    check("held: the host is told too", wait_until(lambda: True) and no_done(link), True)
     room.cups.ask("cupsenable", "braille")
+    room.let_go()
     no_answer(check, "held: not counted", link)
+    check("held: the host was told", any("is held" in said for said in link.said), True)
     link.close()
     room.cups.ask("lp", "-i", number, "-H", "resume", "-U", "katchidul")
-    check("released: it arrives", wait_until(lambda: len(room.port.arrived) == 1), True)
+    check("released: it arrives", wait_until(lambda: library.brf(place.lib.pages(ORDER)[1]) in room.port.arrived), True)
     link = begin(room.driver)
-    check("released: counted, though no host was there", restart(link), ["count", "5", "1"])
+    check("released: counted, though no host was there", restart(link), ["count", "5", "2"])
     link.close()
     room.end()
 
 
-def no_done(link):
-    link.patience = 0.5
-    try:
-        link.hear()
-        return False
-    except Lost:
-        return any("stopped" in said or "held" in said for said in link.said)
-
-
 def check_cancelled(check, place):
     room = Room(place, "cancelled")
-    room.cups.ask("cupsdisable", "braille")
+    room.keep_busy()
     link = room.begin_page()
     room.cups.ask("cancel", "-U", "root", "braille-%s" % room.last_job(), fails=True)
     room.cups.ask("cancel", "-U", "katchidul", "braille-%s" % room.last_job(), fails=True)
@@ -98,10 +107,10 @@ def check_cancelled(check, place):
     no_answer(check, "cancelled by someone else: not counted, and no later page goes out", link, 0.7)
     check("cancelled by someone else: the record is still of page 1", "sent 1\n" in room.record(), True)
     link.close()
-    room.cups.ask("cupsenable", "braille")
+    room.let_go()
     link = room.begin_page()
     check("cancelled by someone else: the page goes out again", link.hear(), ["done", "5", "1"])
-    check("cancelled by someone else: once", len(room.port.arrived), 1)
+    check("cancelled by someone else: once, beside the other's", len(room.port.arrived), 2)
     link.close()
     room.end()
 
@@ -136,16 +145,17 @@ def check_not_accepting(check, place):
 def check_restart(check, place):
     """A restart cancels a page that waits at once, and one that is printed after its time."""
     room = Room(place, "restarts", options=("--finish", "2"))
-    room.cups.ask("cupsdisable", "braille")
+    room.keep_busy()
     link = room.begin_page()
     number = room.last_job()
     link.close()
     link = begin(room.driver, 5.0)
     check("restart: a page that waits is cancelled", (restart(link), room.is_cancelled(number)), (["count", "5", "0"], True))
-    room.cups.ask("cupsenable", "braille")
+    room.let_go()
+    wait_until(lambda: len(room.port.arrived) == 1)
     room.port.stuck = True
     send_page(link, place.lib, 1)
-    check("restart: CUPS prints", wait_until(lambda: "Started backend" in room.cups.log()), True)
+    check("restart: CUPS prints", wait_until(lambda: room.cups.log().count("Started backend") == 2), True)
     link.close()
     begun = time.time()
     link = begin(room.driver, 20.0)
@@ -195,7 +205,7 @@ def check_history(check, place):
 def check_forgotten(check, place):
     """CUPS forgets a page that it was given: the operator is asked."""
     room = Room(place, "forgotten")
-    room.cups.ask("cupsdisable", "braille")
+    room.keep_busy()
     link = room.begin_page()
     number = room.last_job()
     link.close()
