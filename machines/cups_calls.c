@@ -184,16 +184,42 @@ static void see_named(const cups_job *job, void *own) {
   if (reply == CUPS_AWAY) l->reply = CUPS_AWAY;
 }
 
-cups_reply cups_list(void (*see)(const cups_job *job, void *own), void *own) {
+static cups_reply list_which(const char *which, int parts, void (*see)(const cups_job *job, void *own), void *own) {
   ipp_t *request = request_for(IPP_OP_GET_JOBS, "printer-uri", "/"), *answer;
-  listing l = {see, own, CUPS_ANSWERED};
   ippAddBoolean(request, IPP_TAG_OPERATION, "my-jobs", 1);
-  ippAddString(request, IPP_TAG_OPERATION, IPP_TAG_KEYWORD, "which-jobs", NULL, "all");
-  want(request, 4, job_parts);
+  ippAddString(request, IPP_TAG_OPERATION, IPP_TAG_KEYWORD, "which-jobs", NULL, which);
+  want(request, parts, job_parts);
   cups_reply reply = ask_shortly(request, "/", &answer);
-  if (reply == CUPS_ANSWERED) see_all(answer, see_named, &l);
+  if (reply == CUPS_ANSWERED) see_all(answer, see, own);
   ippDelete(answer);
+  return reply;
+}
+
+cups_reply cups_list(void (*see)(const cups_job *job, void *own), void *own) {
+  listing l = {see, own, CUPS_ANSWERED};
+  cups_reply reply = list_which("all", 4, see_named, &l);
   return reply == CUPS_ANSWERED ? l.reply : reply;
+}
+
+typedef struct {
+  uint32_t number;
+  bool found;
+} search;
+
+static void look_for(const cups_job *job, void *own) {
+  search *s = own;
+  if (job->number == s->number) s->found = true;
+}
+
+cups_reply cups_is_ghost(uint32_t number, bool *ghost) {
+  search s = {.number = number};
+  cups_job job;
+  cups_reply reply = list_which("not-completed", 1, look_for, &s);
+  *ghost = false;
+  if (reply != CUPS_ANSWERED || s.found) return reply;
+  reply = cups_look(number, &job); /* it may be over since */
+  *ghost = reply == CUPS_ANSWERED && job.state < IPP_JSTATE_CANCELED;
+  return reply;
 }
 
 cups_reply cups_look_at_queue(cups_queue *queue) {

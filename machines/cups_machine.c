@@ -7,8 +7,8 @@
 
    CUPS makes a job first and takes its document later. The record has the CUPS job's number before the document goes out: a CUPS job
    that the record does not have has printed nothing. One that the record has and CUPS no longer knows may have been printed, and only the
-   operator can say. The same holds for a page that was aborted while CUPS itself ended and began again: CUPS aborts a job whose
-   document it has removed, also when it had completed it and could not note that any more. */
+   operator can say. The same holds for a page that CUPS had in work when it ended: CUPS aborts a job whose document it has removed, also
+   when it had completed it and could not note that any more; and a ghost (cups_calls.h) says nothing. */
 #include "cups_calls.h"
 #include "machine.h"
 
@@ -29,7 +29,7 @@ static struct {
   uint32_t id, page;
   record record;
   char title[TITLE_BYTES];
-  bool unsent; /* its document did not go out for certain, so it is cancelled */
+  bool unsent; /* CUPS did not say that it has the document */
   long long since, look_at;
 } work;
 
@@ -83,6 +83,8 @@ static uint32_t page_of(const char *title, const char *spool, uint32_t id) {
   return 0;
 }
 
+static bool is_over(const cups_job *job) { return job->state >= IPP_JSTATE_CANCELED; }
+
 /* ---- a page */
 
 static void tell_stopped(const cups_queue *queue, uint32_t id, uint32_t page) {
@@ -118,7 +120,7 @@ bool machine_take(const char *spool, const sheet *s) {
   work.unsent = cups_send(number, s->bytes, s->length) != CUPS_ANSWERED;
   work.since = now_ms();
   work.look_at = 0;
-  if (work.unsent) tell_once("job %u: CUPS did not take page %u and it is cancelled: %s", s->id, s->page, cups_why());
+  if (work.unsent) tell_once("job %u: CUPS did not say that it has page %u: %s", s->id, s->page, cups_why());
   return true;
 }
 
@@ -144,11 +146,13 @@ static progress note_aborted(void) {
   return lose("was aborted by CUPS");
 }
 
+static bool waits_for_document(const cups_job *job) { return strcmp(job->reason, "job-incoming") == 0; }
+
 /* What keeps a page that CUPS has not begun, or that takes long. */
 static void tell_what_keeps(const cups_job *job) {
   cups_queue queue;
   uint32_t number = work.record.cups;
-  if (job->state == IPP_JSTATE_HELD && strcmp(job->reason, "job-incoming") != 0)
+  if (job->state == IPP_JSTATE_HELD && !waits_for_document(job))
     tell_once("job %u: page %u is held in CUPS; to let it go: lp -i %u -H resume", work.id, work.page, number);
   else if (job->state == IPP_JSTATE_STOPPED)
     tell_once("job %u: page %u is stopped in CUPS, job %u (%s)", work.id, work.page, number, job->reason);
@@ -163,16 +167,19 @@ progress machine_look(void) {
   if (now_ms() < work.look_at) return GOES_ON;
   work.look_at = now_ms() + LOOK_MS;
   cups_reply reply = cups_look(work.record.cups, &job);
+  bool ghost = false;
+  if (reply == CUPS_ANSWERED && !is_over(&job) && !cups_was_there()) reply = cups_is_ghost(job.number, &ghost);
   if (reply == CUPS_AWAY) {
     tell_once("job %u: page %u is in CUPS, which does not answer: %s", work.id, work.page, cups_why());
     work.look_at = now_ms() + RETRY_MS;
     return GOES_ON;
   }
   if (reply == CUPS_REFUSED || strcmp(job.title, work.title) != 0) return lose("is gone from CUPS");
+  if (ghost) return lose("was being printed when CUPS ended");
   if (job.state == IPP_JSTATE_COMPLETED) return finish();
   if (job.state == IPP_JSTATE_CANCELED) return lose("was cancelled");
   if (job.state == IPP_JSTATE_ABORTED) return cups_was_there() ? note_aborted() : lose("was aborted when CUPS began again");
-  if (work.unsent) cups_cancel(work.record.cups);
+  if (work.unsent && waits_for_document(&job)) cups_cancel(job.number);
   else tell_what_keeps(&job);
   return GOES_ON;
 }
@@ -211,19 +218,26 @@ static bool still_stops(const cups_job *job) {
   return cups_look(job->number, &now) != CUPS_ANSWERED || now.begun;
 }
 
+/* A job that is not over is waited for or cancelled, and looked at again. */
+static void drop_job(tally *t, const cups_job *job, uint32_t page) {
+  bool ghost;
+  cups_reply reply = cups_is_ghost(job->number, &ghost);
+  if (reply == CUPS_ANSWERED && ghost) return;
+  t->open = true;
+  if (reply == CUPS_ANSWERED && !may_finish(t, job, page)) cups_cancel(job->number);
+}
+
 static void count_job(const cups_job *job, void *own) {
   tally *t = own;
   uint32_t page = page_of(job->title, t->spool, t->id);
   if (page == 0) return;
-  if (job->number == t->cups) t->found = job->state != IPP_JSTATE_ABORTED || (work.record.cups == t->cups && cups_was_there());
-  if (job->state == IPP_JSTATE_COMPLETED) {
-    if (page > t->highest) t->highest = page;
-  } else if (job->state == IPP_JSTATE_CANCELED) {
-    if (job->number == t->cups && t->queue_processes && still_stops(job)) t->open = true;
-  } else if (job->state != IPP_JSTATE_ABORTED) {
-    t->open = true;
-    if (!may_finish(t, job, page)) cups_cancel(job->number);
+  if (!is_over(job)) {
+    drop_job(t, job, page);
+    return;
   }
+  if (job->number == t->cups) t->found = job->state != IPP_JSTATE_ABORTED || (work.record.cups == t->cups && cups_was_there());
+  if (job->state == IPP_JSTATE_COMPLETED && page > t->highest) t->highest = page;
+  if (job->state == IPP_JSTATE_CANCELED && job->number == t->cups && t->queue_processes && still_stops(job)) t->open = true;
 }
 
 /* CUPS forgot a page that it was given: whether it was printed is asked of the operator. */
@@ -237,11 +251,14 @@ static bool ask_operator(uint32_t id, const record *r, uint32_t highest, uint32_
   return question_answered(state, &q, finished);
 }
 
+/* What the operator answered lasts before the CUPS job that was asked about is cancelled, so that the next CUPS does not print it. */
 static void keep(uint32_t id, record *r, uint32_t finished) {
-  bool same = r->finished == finished && r->sent == finished && r->cups == 0;
+  uint32_t number = r->cups;
+  bool same = r->finished == finished && r->sent == finished && number == 0;
   r->finished = r->sent = finished;
   r->cups = 0;
   if (!same) record_write(state, id, r);
+  if (number != 0) cups_cancel(number);
   question_close(state, id);
   memset(&asked, 0, sizeof asked);
 }

@@ -248,6 +248,53 @@ def check_killed_at_completion(check, place):
     room.end()
 
 
+def check_ended_in_order(check, place):
+    """CUPS is stopped in order while it prints a page, and started again: before the machine is connected, and while it finishes."""
+    room = Room(place, "in-order", options=("--finish", "5"))
+    room.port.end()
+    link = room.begin_page()
+    wait_until(lambda: "Connecting to printer" in room.cups.log())
+    room.cups.end()
+    room.cups.start()
+    room.port.listen()
+    check("in order: CUPS prints what it had not sent", link.hear(), ["done", "5", "1"])
+    check("in order: once", len(room.port.arrived), 1)
+    room.port.pause = 1.5
+    before = room.cups.log().count("cups-waiting-for-job-completed")
+    send_page(link, place.lib, 2, first=False)
+    wait_until(lambda: room.cups.log().count("cups-waiting-for-job-completed") > before and "sent 2" in room.record())
+    time.sleep(0.4)
+    room.cups.end()
+    room.cups.start()
+    check("in order: the operator is told of a page that CUPS was finishing", room.told("was being printed when CUPS ended"), True)
+    link.close()
+    link = begin(room.driver)
+    link.send(b"restart 5\n")
+    check("in order: and asked", wait_until(lambda: room.driver.questions() == [5]), True)
+    room.driver.answer(5, 2)
+    check("in order: the count", link.hear(), ["count", "5", "2"])
+    room.cups.end()
+    room.cups.start()
+    time.sleep(0.5)
+    check("in order: the next CUPS does not print it", len(room.port.arrived), 2)
+    send_page(link, place.lib, 3)
+    wait_until(lambda: len(room.port.arrived) == 3)
+    room.driver.kill()
+    room.cups.end()
+    room.cups.start()
+    room.driver.start()
+    link = begin(room.driver)
+    link.send(b"restart 5\n")
+    # CUPS prints the page again, or it saw that all was sent, and does not know.
+    wait_until(lambda: room.driver.questions() == [5] or len(room.port.arrived) == 4)
+    room.driver.answer(5, 3)
+    check("in order: the count of a new driver", link.hear(), ["count", "5", "3"])
+    begun = len(re.findall(r"\[Job \d+\] Started backend", room.cups.log()))
+    check("in order: no page that CUPS did not begin again is there twice", len(room.port.arrived) <= begun, True)
+    link.close()
+    room.end()
+
+
 def check_cups_away(check, place):
     room = Room(place, "away-cups")
     room.cups.kill()
@@ -262,6 +309,19 @@ def check_cups_away(check, place):
     room.cups.process.send_signal(signal.SIGCONT)
     check("CUPS goes on: the page is done", link.hear(), ["done", "5", "1"])
     check("CUPS goes on: the page arrived once", len(room.port.arrived), 1)
+    link.close()
+    room.end()
+
+
+def check_unsent(check, place):
+    """CUPS makes the job and refuses the document: nothing is printed, and nothing waits."""
+    room = Room(place, "unsent", options=("--format", "application/x-nothing"))
+    link = room.begin_page()
+    check("a document that CUPS refuses: told", room.told("CUPS did not say that it has page 1"), True)
+    check("a document that CUPS refuses: its job is cancelled", room.told("was cancelled"), True)
+    link.close()
+    link = begin(room.driver)
+    check("a document that CUPS refuses: count 0", restart(link), ["count", "5", "0"])
     link.close()
     room.end()
 
@@ -283,5 +343,5 @@ def check_start(check, place):
 
 def run(check, place):
     for part in (check_stopped, check_cancelled, check_aborted, check_not_accepting, check_restart, check_history, check_forgotten,
-                 check_killed_at_completion, check_cups_away, check_start):
+                 check_killed_at_completion, check_ended_in_order, check_cups_away, check_unsent, check_start):
         part(check, place)

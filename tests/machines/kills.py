@@ -73,12 +73,17 @@ class Run:
         self.orders = Orders(lib, self.draw)
         self.room = room(self.driver.socket, folder)
         self.operator = Operator(self.driver, self.port, self.orders, self.room)
-        self.killed = {"host": 0, "driver": 0, "cupsd": 0}
+        self.killed = {"host": 0, "driver": 0, "cupsd": 0, "cupsd in order": 0}
 
     def kill_one(self):
+        """One in ten ends of cupsd is in order, as at a restart of the service."""
         what = self.draw.choice(["host", "driver", "cupsd"])
         thing = {"host": self.room, "driver": self.driver, "cupsd": self.cups}[what]
-        thing.kill()
+        if what == "cupsd" and self.draw.random() < 0.1:
+            what = "cupsd in order"
+            thing.end()
+        else:
+            thing.kill()
         time.sleep(self.draw.choice([0, 0, 0.05, 0.3]))
         thing.start()
         self.killed[what] += 1
