@@ -266,7 +266,7 @@ def check_ended_in_order(check, place):
     time.sleep(0.4)
     room.cups.end()
     room.cups.start()
-    check("in order: the operator is told of a page that CUPS was finishing", room.told("was being printed when CUPS ended"), True)
+    check("in order: the operator is told of a page that CUPS was finishing", room.told("was in work when CUPS ended"), True)
     link.close()
     link = begin(room.driver)
     link.send(b"restart 5\n")
