@@ -26,7 +26,7 @@ roundingNumberOf Up = 1
 roundingNumberOf None = 2
 
 abbrev pub roundings : List Rounding
-roundings = Nearest ∷ Up ∷ []
+roundings = Nearest ∷ Up ∷ None ∷ []
 
 unfoldable pub roundingOf : ℕ → Rounding
 roundingOf n = getD roundings n None
@@ -37,7 +37,7 @@ shafaqNumberOf Ahmer = 1
 shafaqNumberOf Abyad = 2
 
 abbrev pub shafaqs : List Shafaq
-shafaqs = General ∷ Ahmer ∷ []
+shafaqs = General ∷ Ahmer ∷ Abyad ∷ []
 
 unfoldable pub shafaqOf : ℕ → Shafaq
 shafaqOf n = getD shafaqs n Abyad
@@ -47,18 +47,18 @@ madhabNumberOf Shafi = 1
 madhabNumberOf Hanafi = 2
 
 unfoldable pub madhabOf : ℕ → Madhab
-madhabOf n = getD (Hanafi ∷ Shafi ∷ []) n Hanafi
+madhabOf n = getD (Hanafi ∷ Shafi ∷ Hanafi ∷ []) n Hanafi
 
 unfoldable pub ruleNumberOf : HighLatitudeRule → ℕ
 ruleNumberOf MiddleOfTheNight = 0
 ruleNumberOf SeventhOfTheNight = 1
 ruleNumberOf TwilightAngle = 2
 
-abbrev pub rules : List HighLatitudeRule
-rules = MiddleOfTheNight ∷ SeventhOfTheNight ∷ []
+abbrev pub highLatitudeRules : List HighLatitudeRule
+highLatitudeRules = MiddleOfTheNight ∷ SeventhOfTheNight ∷ TwilightAngle ∷ []
 
 unfoldable pub ruleOf : ℕ → HighLatitudeRule
-ruleOf n = getD rules n TwilightAngle
+ruleOf n = getD highLatitudeRules n TwilightAngle
 
 -- tag 15
 unfoldable pub midnightNumberOf : Midnight → ℕ
@@ -66,7 +66,7 @@ midnightNumberOf Stops = 0
 midnightNumberOf Carries = 1
 
 unfoldable pub midnightOf : ℕ → Midnight
-midnightOf n = getD (Stops ∷ []) n Carries
+midnightOf n = getD (Stops ∷ Carries ∷ []) n Carries
 
 -- tag 17
 unfoldable pub southernNumberOf : Southern → ℕ
@@ -74,7 +74,7 @@ southernNumberOf Unreduced = 0
 southernNumberOf StartsAgain = 1
 
 unfoldable pub southernOf : ℕ → Southern
-southernOf n = getD (Unreduced ∷ []) n StartsAgain
+southernOf n = getD (Unreduced ∷ StartsAgain ∷ []) n StartsAgain
 
 unfoldable pub methodNumberOf : Method → ℕ
 methodNumberOf MuslimWorldLeague = 0
@@ -92,7 +92,7 @@ methodNumberOf Turkey = 11
 methodNumberOf Other = 12
 
 abbrev pub methods : List Method
-methods = MuslimWorldLeague ∷ Egyptian ∷ Karachi ∷ UmmAlQura ∷ Dubai ∷ MoonsightingCommittee ∷ NorthAmerica ∷ Kuwait ∷ Qatar ∷ Singapore ∷ Tehran ∷ Turkey ∷ []
+methods = MuslimWorldLeague ∷ Egyptian ∷ Karachi ∷ UmmAlQura ∷ Dubai ∷ MoonsightingCommittee ∷ NorthAmerica ∷ Kuwait ∷ Qatar ∷ Singapore ∷ Tehran ∷ Turkey ∷ Other ∷ []
 
 unfoldable pub methodOf : ℕ → Method
 methodOf n = getD methods n Other
@@ -108,7 +108,7 @@ prayerNumberOf Qiyam = 7
 prayerNumberOf FajrTomorrow = 8
 
 abbrev pub prayers : List Prayer
-prayers = FajrTomorrow ∷ Fajr ∷ Sunrise ∷ Dhuhr ∷ Asr ∷ Maghrib ∷ Isha ∷ Qiyam ∷ []
+prayers = FajrTomorrow ∷ Fajr ∷ Sunrise ∷ Dhuhr ∷ Asr ∷ Maghrib ∷ Isha ∷ Qiyam ∷ FajrTomorrow ∷ []
 
 unfoldable pub prayerOf : ℕ → Prayer
 prayerOf n = getD prayers n FajrTomorrow

@@ -92,8 +92,8 @@ impl Prayer {
         }
     }
 
-    // The cases by number but the last, which any other number gives.
-    pub const BY_NUMBER: [Prayer; 8] = [
+    // The cases by number. 0 names none.
+    pub const BY_NUMBER: [Prayer; 9] = [
         Prayer::FajrTomorrow,
         Prayer::Fajr,
         Prayer::Sunrise,
@@ -102,13 +102,14 @@ impl Prayer {
         Prayer::Maghrib,
         Prayer::Isha,
         Prayer::Qiyam,
+        Prayer::FajrTomorrow,
     ];
 
-    // And back.
+    // Inverse of `number`. Any other number gives the last case.
     pub fn of_number(n: u32) -> Prayer
         ensures { λ r. ⌜ r ≡ prayerOf n ⌝ }
     {
-        if n < 8 {
+        if n < 9 {
             Prayer::BY_NUMBER[n as usize]
         } else {
             Prayer::FajrTomorrow

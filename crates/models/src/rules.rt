@@ -22,7 +22,7 @@ impl Midnight {
         }
     }
 
-    // And back.
+    // Inverse of `number`. Any other number gives the last case.
     pub fn of_number(n: u32) -> Midnight
         ensures { λ r. ⌜ r ≡ midnightOf n ⌝ }
     {
@@ -52,7 +52,7 @@ impl Southern {
         }
     }
 
-    // And back.
+    // Inverse of `number`. Any other number gives the last case.
     pub fn of_number(n: u32) -> Southern
         ensures { λ r. ⌜ r ≡ southernOf n ⌝ }
     {

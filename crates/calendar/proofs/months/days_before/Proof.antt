@@ -1,7 +1,13 @@
-use Rattle.prelude.proofs.Logic.{sym}
+use Rattle.prelude.proofs.Logic.{_≡_, sym, arith, needs, le-ltb}
+use Rattle.calendar.specs.Days.{daysBeforeOf}
+use Rattle.calendar.proofs.MonthTables.{before-none, before-past}
 use Rattle.calendar.proofs.months.days_before as this
 
 pub days-before-spec : {M : Type 1} → this.Statement.statement M
+unfolding daysBeforeOf
 days-before-spec =
-    let returns : this.Tie.Need-returns = λ c. simp (sym (c .leap-year .ensures), c .before .if1 .taken) in
-    this.Tie.close (this.Tie.spec (λ c κs. tt) (λ c κs. tt) returns (λ c. simp (sym (c .common .ensures), c .before .if1 .left)))
+    let returns : this.Tie.Need-returns = λ c. let s = c .before in let z : s .args .month ≡ 0 = omega arith in rw z (sym (before-none (s .args .leap))) in
+    this.Tie.close (this.Tie.spec returns (λ c. sym (before-past (c .before .before .args .leap) (c .before .before .args .month) (c .if2 .taken)))
+    (λ c. search needs) (λ c. search needs) (λ c. search needs) (λ c. search needs) (λ c. search needs)
+    (λ c. simp (c .if3 .taken, le-ltb _ _ (c .before .if2 .left), le-ltb _ _ (c .before .before .if1 .left)))
+    (λ c. simp (c .if3 .left, le-ltb _ _ (c .before .if2 .left), le-ltb _ _ (c .before .before .if1 .left))))
