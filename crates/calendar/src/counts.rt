@@ -1,7 +1,7 @@
 // Days and years counted from 0000-01-01, for every year that a u32 holds and the one after.
 ghost use mathlib.Core.Path.{_≡_};
 ghost use Prim.Native.Nat.{_≤_, _<_};
-ghost use Rattle.calendar.specs.Answers.{sinceFirstOf};
+ghost use Rattle.calendar.specs.Counted.{sinceFirstOf};
 ghost use Rattle.calendar.specs.Days.{daysBeforeYearOf, yearOf};
 
 // 0000-01-01 and the last date of the year 4294967295 by their numbers, and the days from the one to the other.

@@ -1,4 +1,4 @@
--- method.rs: each method's preset, a line a method.
+-- method.rs: "each method brings its own angles, minutes and rounding" (document 01), a line a method.
 use Prim.Native.Nat.{ℕ}
 use lib.IntN.{pos, negℤ}
 use Rattle.float64.specs.Ops.{dec}

@@ -11,7 +11,7 @@ use Rattle.calendar.specs.declared.dates.Date.{Date}
 abbrev pub real : ℤ → Float
 real n = ofInt binary64 n
 
--- the products "truncated by a helper": the whole part, as Rust's cast to i32 cuts it
+-- "Casting to i32 is done intentionally for the purpose of decimal truncation" (ops.rs)
 abbrev pub cutOf : Float → ℤ
 cutOf x = toSigned 31 x
 
@@ -36,7 +36,7 @@ julianDayOf year month day hours =
     let d = real day +ᶠ hours /ᶠ dec 24 0 in
     cond (ltZ (pos 2) month) (fromMarchOf year month d) (fromMarchOf (year -ℤ pos 1) (month +ℤ pos 12) d)
 
--- the largest i32 stands for what is beyond it
+-- saturated at the largest i32
 unfoldable pub toI32Of : ℕ → ℤ
 toI32Of n = cond (ltb n 2147483648) (pos n) (pos 2147483647)
 

@@ -1,4 +1,4 @@
--- unit.rs: angles in degrees and places on the earth, operation by operation in f64.
+-- unit.rs: angles in degrees and places on the earth. "Formulas are the crate's, each operation rounded once in its order" (document 01).
 use mathlib.Core.Bool.{cond}
 use lib.Ieee.{Float, neg}
 use Rattle.float64.specs.Ranges.{insideOf}
@@ -48,10 +48,11 @@ minusOf a b = angleOf (a .degrees -ᶠ b .degrees)
 abbrev pub productOf : Angle → Angle → Angle
 productOf a b = angleOf (a .degrees *ᶠ b .degrees)
 
--- by 0 an infinity or NaN, as f64 has it
+-- divided by 0: an infinity or NaN, as f64 has it
 abbrev pub overOf : Angle → Angle → Angle
 overOf a b = angleOf (a .degrees /ᶠ b .degrees)
 
+-- "Latitude and longitude travel together as two f64 numbers" (document 01)
 abbrev pub coordinatesOf : Float → Float → Coordinates
 coordinatesOf latitude longitude = record { latitude = latitude; longitude = longitude }
 
