@@ -9,7 +9,7 @@ const COMMON: [u32; 12] = [0, 31, 59, 90, 120, 151, 181, 212, 243, 273, 304, 334
 
 const LEAP: [u32; 12] = [0, 31, 60, 91, 121, 152, 182, 213, 244, 274, 305, 335];
 
-// 0 for a month that there is not.
+// 0 if there is no such month. Both rows are read before the choice: that takes fewer instructions than choosing a row first.
 pub fn days_before(leap: bool, month: u32) -> u32
     ensures { λ r. ⌜ r ≡ daysBeforeOf leap month ⌝ }
 {
@@ -20,7 +20,9 @@ pub fn days_before(leap: bool, month: u32) -> u32
         return 0;
     }
     let i = (month - 1) as usize;
-    if leap { LEAP[i] } else { COMMON[i] }
+    let common = COMMON[i];
+    let leap_year = LEAP[i];
+    if leap { leap_year } else { common }
 }
 
 // The difference of two neighbours in the row.
