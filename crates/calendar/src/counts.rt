@@ -11,7 +11,7 @@ const LAST: i64 = 1568703873081;
 
 const SPAN: u64 = 1568704592609;
 
-// The days from 0000-01-01 to a day by its number, for a day between the two, and else for the nearer of them.
+// The days from 0000-01-01 to `day`. A day outside FIRST to LAST counts as the nearer of the two.
 pub fn since_first(day: i64) -> u64
     ensures { λ r. ⌜ r ≡ sinceFirstOf day ⌝ }
 {

@@ -4,7 +4,7 @@ ghost use Prim.Native.Nat.{_≤_, _<_};
 ghost use Rattle.calendar.specs.Gregorian.{lengthOf};
 ghost use Rattle.calendar.specs.Days.{daysBeforeOf, monthOf};
 
-// The days before each month, in a common year and in a leap year.
+// "The days before each month, for common and leap years" (document 01). Ordinals, the next date and the previous date use these rows.
 const COMMON: [u32; 12] = [0, 31, 59, 90, 120, 151, 181, 212, 243, 273, 304, 334];
 
 const LEAP: [u32; 12] = [0, 31, 60, 91, 121, 152, 182, 213, 244, 274, 305, 335];
@@ -25,7 +25,7 @@ pub fn days_before(leap: bool, month: u32) -> u32
     if leap { leap_year } else { common }
 }
 
-// The difference of two neighbours in the row.
+// The difference of two neighbours in the row; 0 if there is no such month.
 pub fn month_days(leap: bool, month: u32) -> u32
     ensures { λ r. ⌜ r ≡ lengthOf leap month ⌝ }
 {
@@ -38,7 +38,7 @@ pub fn month_days(leap: bool, month: u32) -> u32
     31
 }
 
-// Were each month 32 days long, the ordinal's would be `guess`: it is that one or the next, and the row decides.
+// If each month had 32 days, the month would be `guess`. It is that one or the next, and the row decides.
 pub fn month_of(leap: bool, ordinal: u32) -> u32
     requires { ⌜ (0 < ordinal) × (ordinal ≤ 366) ⌝ }
     ensures { λ r. ⌜ r ≡ monthOf leap ordinal ⌝ }

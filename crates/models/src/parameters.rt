@@ -57,7 +57,7 @@ pub struct NightPortions {
 }
 
 impl Parameters {
-    // What holds where nothing is said.
+    // The defaults.
     pub const METHOD: Method = Method::Other;
 
     pub const MAGHRIB_ANGLE: f64 = 0.0;
@@ -141,7 +141,7 @@ impl Parameters {
         }
     }
 
-    // A prayer's own minutes and the method's. That they are no more than two i32 is promised too, so that who adds them up knows.
+    // A prayer's own minutes plus the method's. The bound is promised too, for callers that add to the sum.
     pub fn time_adjustments(self, prayer: Prayer) -> i64
         ensures { λ r. ⌜ (r ≡ timeAdjustmentsOf self prayer) × Near (2 ^ 32) r ⌝ }
     {

@@ -54,7 +54,7 @@ fn is_friday(seconds: i64) -> bool
 }
 
 impl Prayer {
-    // Its name at an instant: where the crate reads the clock, the instant is given.
+    // Its name at an instant. The crate reads the clock; here the instant is given.
     pub fn name(self, seconds: i64) -> Name
         ensures { λ r. ⌜ r ≡ prayerNameOf self seconds ⌝ }
     {
