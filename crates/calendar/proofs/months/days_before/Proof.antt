@@ -7,7 +7,7 @@ pub days-before-spec : {M : Type 1} → this.Statement.statement M
 unfolding daysBeforeOf
 days-before-spec =
     let returns : this.Tie.Need-returns = λ c. let s = c .before in let z : s .args .month ≡ 0 = omega arith in rw z (sym (before-none (s .args .leap))) in
+    let returns-3 : this.Tie.Need-returns-3 = λ c. simp (c .if3 .taken, le-ltb _ _ (c .before .if2 .left), le-ltb _ _ (c .before .before .if1 .left)) in
+    let returns-4 : this.Tie.Need-returns-4 = λ c. simp (c .if3 .left, le-ltb _ _ (c .before .if2 .left), le-ltb _ _ (c .before .before .if1 .left)) in
     this.Tie.close (this.Tie.spec returns (λ c. sym (before-past (c .before .before .args .leap) (c .before .before .args .month) (c .if2 .taken)))
-    (λ c. search needs) (λ c. search needs) (λ c. search needs) (λ c. search needs) (λ c. search needs)
-    (λ c. simp (c .if3 .taken, le-ltb _ _ (c .before .if2 .left), le-ltb _ _ (c .before .before .if1 .left)))
-    (λ c. simp (c .if3 .left, le-ltb _ _ (c .before .if2 .left), le-ltb _ _ (c .before .before .if1 .left))))
+    (λ c. search needs) (λ c. search needs) (λ c. search needs) (λ c. search needs) (λ c. search needs) returns-3 returns-4)
