@@ -41,6 +41,7 @@ lacksRow = refusal outOfRange 3
 unfoldable pub workRowOf : Order → ℕ → Worked
 workRowOf order row = cond (ltb row (order .rows)) (workDateOf order (rowDateOf (order .date) row)) (worked.Refused lacksRow)
 
+-- "A refusal gives number and place, no times"
 unfoldable pub workReadingOf : Reading → ℕ → Worked
 workReadingOf (reading.Read order) row = workRowOf order row
 workReadingOf (reading.Refused r) row = worked.Refused r
@@ -59,7 +60,7 @@ instantFits i = leZ (negsuc 999999999999) (i .seconds) && leZ (i .seconds) (pos 
 unfoldable pub workAtOf : List ℕ → ℕ → Instant → Worked
 workAtOf s row i = cond (instantFits i) (workDayOf s row) (worked.Refused (refusal instantBeyond 0))
 
--- ---- the prayer in force, which may be none
+-- ---- the prayer in force: "the last in the list .. whose instant lies less than one second ahead; else none"
 unfoldable pub inForceOf : Worked → Instant → InForce
 inForceOf (worked.Times t) i = force.Prayer (currentTimeOf t i)
 inForceOf (worked.Refused r) i = force.Refused r

@@ -1,6 +1,5 @@
 -- A place sent either way: the record but for where the town stands, and from it all that is answered. Assumes nothing.
-use Rattle.prelude.proofs.Logic.{_≡_, refl, sym, ap, _∙_, subst, false, List, _∷_, _++_, ℕ, zero, suc, _+_, _≤_, lit≤}
-use Rattle.integers.specs.Order.{_≼_}
+use Rattle.prelude.proofs.Logic.{_≡_, refl, sym, ap, _∙_, subst, true, false, List, _∷_, _++_, ℕ, zero, suc, _+_, _≤_, lit≤, leZ}
 use Rattle.calendar.specs.Answers.{rowDateOf}
 use Rattle.calls.specs.Calls.{workRowOf, workReadingOf, workDayOf, workAtOf, prayerAtOf, nextAtOf, remainingAtOf}
 use Rattle.fields.specs.Tags.{lastTag}
@@ -16,7 +15,7 @@ use Rattle.order.specs.declared.reading.Reading.the-variants.{Read}
 use Rattle.order.proofs.ReadingLaws.{read-passed}
 use Rattle.braille.specs.Cells.{rowLength}
 use Rattle.pages.specs.Pages.{Rows, rowOf, rowsFrom, pageOf, pageCount, pagesCells, allCells}
-use Rattle.pages.specs.Answers.{punchedInOf, answerIn, bufferOf, frontIn, oneRow, pieceIn}
+use Rattle.pages.specs.Answers.{askedCallOf, oneRow, pieceIn}
 use Rattle.pages.specs.Reports.{wearText, cellsText}
 use Rattle.reports.specs.Reports.{reportIn}
 use Rattle.rows.specs.Rows.{linesText, acceptedText, sheetText, readCallOf, rowCallOf}
@@ -65,15 +64,10 @@ minutes-same o town (suc n) = rw (minutes-same o town n, minute-same o town n (w
 
 -- a call on some rows of an order that do not hang on its town
 module _ (asked : Order → Rows) (town-free : (o : Order) (town : Part) → asked (withTown o town) ≡ asked o) (least : ℕ) where
-  written-same : (a b : List ℕ) (o p : Order) → readingOf a ≡ Read o → readingOf b ≡ Read p → withTown o (p .town) ≡ p → (buffer : List ℕ)
-      → punchedInOf asked least a buffer ≡ punchedInOf asked least b buffer
-  unfolding punchedInOf answerIn
-  written-same a b o p x y g buffer = rw (x, y, ← town-free o (p .town), g)
-
-  front-same : (a b : List ℕ) (o p : Order) → readingOf a ≡ Read o → readingOf b ≡ Read p → withTown o (p .town) ≡ p → (buffer : List ℕ)
-      → bufferOf asked least a buffer ≡ bufferOf asked least b buffer
-  unfolding bufferOf frontIn
-  front-same a b o p x y g buffer = rw (x, y, ← town-free o (p .town), g)
+  asked-alike : (a b : List ℕ) (o p : Order) → readingOf a ≡ Read o → readingOf b ≡ Read p → withTown o (p .town) ≡ p → (buffer : List ℕ)
+      → askedCallOf asked least a buffer ≡ askedCallOf asked least b buffer
+  unfolding askedCallOf
+  asked-alike a b o p x y g buffer = rw (x, y, ← town-free o (p .town), g)
 
 one-same : (row : ℕ) (o : Order) (town : Part) → oneRow row (withTown o town) ≡ oneRow row o
 unfolding oneRow workRowOf
@@ -176,13 +170,9 @@ module _ (a b : List ℕ) (orders : SamePlace a b) where
   unfolding workAtOf
   at-same row i = rw (day-same row)
 
-  buffer-same : (row : ℕ) (buffer : List ℕ) → rowCallOf a row buffer .buffer ≡ rowCallOf b row buffer .buffer
+  row-same : (row : ℕ) (buffer : List ℕ) → rowCallOf a row buffer ≡ rowCallOf b row buffer
   unfolding rowCallOf readCallOf workRowOf
-  buffer-same row buffer = rw (orders .«first_read», orders .«second_read», ← given)
-
-  answer-same : (row : ℕ) (buffer : List ℕ) → rowCallOf a row buffer .answer ≡ rowCallOf b row buffer .answer
-  unfolding rowCallOf readCallOf workRowOf
-  answer-same row buffer = rw (orders .«first_read», orders .«second_read», ← given)
+  row-same row buffer = rw (orders .«first_read», orders .«second_read», ← given)
 
   all-same : allCells (orders .first) ≡ allCells (orders .second)
   all-same = sym (pages-same (orders .first) (orders .second .town) (pageCount (orders .first))) ∙ ap allCells given
@@ -202,11 +192,8 @@ module _ (a b : List ℕ) (orders : SamePlace a b) where
       (ap reportOf (sym (minutes-same (orders .first) (orders .second .town) (orders .first .rows))) ∙ ap ordersReport given)
 
   module _ (asked : Order → Rows) (town-free : (o : Order) (town : Part) → asked (withTown o town) ≡ asked o) (buffer : List ℕ) where
-    asked-same : punchedInOf asked rowLength a buffer ≡ punchedInOf asked rowLength b buffer
-    asked-same = written-same asked town-free rowLength a b (orders .first) (orders .second) (orders .«first_read») (orders .«second_read») given buffer
-
-    put-same : bufferOf asked rowLength a buffer ≡ bufferOf asked rowLength b buffer
-    put-same = front-same asked town-free rowLength a b (orders .first) (orders .second) (orders .«first_read») (orders .«second_read») given buffer
+    asked-same : askedCallOf asked rowLength a buffer ≡ askedCallOf asked rowLength b buffer
+    asked-same = asked-alike asked town-free rowLength a b (orders .first) (orders .second) (orders .«first_read») (orders .«second_read») given buffer
 
 pub either-form-answers-alike : EitherFormAnswersAlike
 unfolding prayerAtOf nextAtOf remainingAtOf
@@ -219,12 +206,9 @@ either-form-answers-alike a b orders =
       prayer = λ row i. rw (at-same a b orders row i);
       next = λ row i. rw (at-same a b orders row i);
       remaining = λ row i. rw (at-same a b orders row i);
-      answer = answer-same a b orders;
-      buffer = buffer-same a b orders;
-      «cells_answer» = λ row buffer. asked-same a b orders (oneRow row) (one-same row) buffer;
-      «cells_buffer» = λ row buffer. put-same a b orders (oneRow row) (one-same row) buffer;
-      «page_answer» = λ page first scratch. asked-same a b orders (pieceIn page first scratch) (piece-same page first scratch) scratch;
-      «page_buffer» = λ page first scratch. put-same a b orders (pieceIn page first scratch) (piece-same page first scratch) scratch;
+      «row_call» = row-same a b orders;
+      «cells_call» = λ row buffer. asked-same a b orders (oneRow row) (one-same row) buffer;
+      «page_call» = λ page first scratch. asked-same a b orders (pieceIn page first scratch) (piece-same page first scratch) scratch;
       wear = wear-same a b orders;
       cells = cells-same a b orders;
       week = week-same a b orders;
@@ -253,6 +237,6 @@ either-form-moves-alike a b c d p q later =
           (moved-town (later .first) (later .second) (p .second .town) (q .second .town) (later .alike)));
       more =
           λ (prayer : Prayer).
-          subst (λ (o : Order). timeAdjustmentsOf (o .parameters) prayer ≼ timeAdjustmentsOf (q .second .parameters) prayer) x
-          (subst (λ (o : Order). timeAdjustmentsOf (later .first .parameters) prayer ≼ timeAdjustmentsOf (o .parameters) prayer) y (later .more prayer));
+          subst (λ (o : Order). leZ (timeAdjustmentsOf (o .parameters) prayer) (timeAdjustmentsOf (q .second .parameters) prayer) ≡ true) x
+          (subst (λ (o : Order). leZ (timeAdjustmentsOf (later .first .parameters) prayer) (timeAdjustmentsOf (o .parameters) prayer) ≡ true) y (later .more prayer));
     }

@@ -1,6 +1,6 @@
 -- Demand 3: from the bytes of two orders to the parameters of one row's day, where crates/schedule_laws has proved it. Assumes nothing.
 use Rattle.prelude.proofs.Logic.{_≡_, refl, sym, ap, subst, _∙_, Bool, true, false, cond, _&&_, List, ℕ, _*_, _≤_, _<_, _^_, arith, ltb, leb, ℤ, pos, negsuc, _+ℤ_, _-ℤ_, leZ, leb-true, both}
-use Rattle.integers.proofs.Integers.{P, N, Near, same, sum, difference, _≼_}
+use Rattle.integers.proofs.Integers.{P, N, Near, same, sum, difference, le-yes, to-le}
 use Rattle.calendar.specs.Answers.{rowDateOf}
 use Rattle.fields.specs.declared.values.Part.{Part}
 use Rattle.models.specs.declared.{adjustments.TimeAdjustment.TimeAdjustment, parameters.Parameters.Parameters, prayer.Prayer.Prayer}
@@ -47,7 +47,7 @@ module _ (first : Order) (town : Part) (minutes : TimeAdjustment) (row : ℕ) wh
   second : Order
   second = withOwnMinutes first town minutes
 
-  row-moved : Accepted first → Accepted second → ((prayer : Prayer) → timeAdjustmentsOf (first .parameters) prayer ≼ timeAdjustmentsOf (second .parameters) prayer)
+  row-moved : Accepted first → Accepted second → ((prayer : Prayer) → leZ (timeAdjustmentsOf (first .parameters) prayer) (timeAdjustmentsOf (second .parameters) prayer) ≡ true)
       → Moved (first .parameters) (second .parameters) (workRowOf first row) (workRowOf second row)
   unfolding workRowOf second
   row-moved h k more = by-test (ltb row (first .rows))
@@ -124,7 +124,8 @@ module _ (a b : List ℕ) (orders : LaterOrder a b) (row : ℕ) where
       let e = orders .alike in
       let h = read-accepted a (orders .first) (orders .«first_read») in
       let k = subst Accepted (sym e) (read-accepted b (orders .second) (orders .«second_read»)) in
-      let more : (prayer : Prayer) → timeAdjustmentsOf (orders .first .parameters) prayer ≼ timeAdjustmentsOf (withOwnMinutes (orders .first) (orders .second .town) (orders .second .parameters .adjustments) .parameters) prayer = λ (prayer : Prayer). subst (λ (x : Order). timeAdjustmentsOf (orders .first .parameters) prayer ≼ timeAdjustmentsOf (x .parameters) prayer) (sym e) (orders .more prayer) in
+      let more : (prayer : Prayer) → leZ (timeAdjustmentsOf (orders .first .parameters) prayer) (timeAdjustmentsOf (withOwnMinutes (orders .first) (orders .second .town) (orders .second .parameters .adjustments) .parameters) prayer) ≡ true =
+      λ (prayer : Prayer). subst (λ (x : Order). leZ (timeAdjustmentsOf (orders .first .parameters) prayer) (timeAdjustmentsOf (x .parameters) prayer) ≡ true) (sym e) (orders .more prayer) in
       let m = row-moved (orders .first) (orders .second .town) (orders .second .parameters .adjustments) row h k more in
       let n = subst (λ (x : Order). Moved (orders .first .parameters) (x .parameters) (workRowOf (orders .first) row) (workRowOf x row)) e m in
       subst (λ (w : Worked). Moved (orders .first .parameters) (orders .second .parameters) w (workDayOf b row)) (sym day-of-first)
@@ -139,8 +140,12 @@ shifted f g d m e =
     let r = sum (f -ℤ pos m) d in
     same (g -ℤ pos m) ((f -ℤ pos m) +ℤ d) (omega (arith, a .0, a .1, b .0, b .1, ap P e, ap N e))
 
-kept : (f g : ℤ) (m : ℕ) → f ≼ g → f -ℤ pos m ≼ g -ℤ pos m
-kept f g m l = let a = difference g (pos m) in let b = difference f (pos m) in omega (arith, a .0, a .1, b .0, b .1)
+kept : (f g : ℤ) (m : ℕ) → leZ f g ≡ true → leZ (f -ℤ pos m) (g -ℤ pos m) ≡ true
+kept f g m h =
+    let l = le-yes f g h in
+    let a = difference g (pos m) in
+    let b = difference f (pos m) in
+    to-le (f -ℤ pos m) (g -ℤ pos m) (omega (arith, a .0, a .1, b .0, b .1))
 
 module _ (a b : List ℕ) (orders : LaterOrder a b) (row : ℕ) (t u : PrayerTimes)
     (at : workDayOf a row ≡ worked.Times t) (bu : workDayOf b row ≡ worked.Times u) where
@@ -170,8 +175,8 @@ module _ (a b : List ℕ) (orders : LaterOrder a b) (row : ℕ) (t u : PrayerTim
       record {
         same = ramadan-same;
         «not_earlier» =
-            subst (λ (z : ℤ). z ≼ imsakOf (orders .second .ramadan .imsak) (u .fajr)) (sym first-imsak)
-            (subst (λ (z : ℤ). t .fajr -ℤ pos m ≼ z) (sym second-imsak) (kept (t .fajr) (u .fajr) m none));
+            subst (λ (z : ℤ). leZ z (imsakOf (orders .second .ramadan .imsak) (u .fajr)) ≡ true) (sym first-imsak)
+            (subst (λ (z : ℤ). leZ (t .fajr -ℤ pos m) z ≡ true) (sym second-imsak) (kept (t .fajr) (u .fajr) m none));
         exactly =
             second-imsak
             ∙ shifted (t .fajr) (u .fajr) (laterBy (orders .first .parameters) (orders .second .parameters) Fajr) m exact

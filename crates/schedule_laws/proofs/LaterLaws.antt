@@ -1,6 +1,6 @@
 -- What a school's later minutes do to a day: the statement of specs/Later. Assumes nothing.
 use Rattle.prelude.proofs.Logic.{_≡_, refl, sym, ap, subst, _∙_, ℕ, _^_, _<_, arith}
-use Rattle.integers.proofs.Integers.{Near, _≼_}
+use Rattle.integers.proofs.Integers.{Near, _≼_, le-yes}
 use Rattle.calendar.specs.declared.dates.Date.{Date}
 use Rattle.models.specs.declared.{adjustments.TimeAdjustment.TimeAdjustment, parameters.Parameters.Parameters, rules.Season.Season, prayer.Prayer.Prayer, rules.Midnight.Midnight}
 use Rattle.refusals.specs.declared.Refusal.{Refusal}
@@ -59,7 +59,7 @@ pub later-minutes-move-the-day : LaterMinutesMoveTheDay
 later-minutes-move-the-day rule n date season p q h =
     let e = h .alike in
     subst (λ (x : Parameters). Moved p x (workedOf (hoursOf rule n) date season p) (workedOf (hoursOf rule n) date season x)) e
-    (by-numbers p (q .adjustments) (λ (prayer : Prayer). subst (λ (x : Parameters). timeAdjustmentsOf p prayer ≼ timeAdjustmentsOf x prayer) (sym e) (h .more prayer)) (h .«first_held»)
+    (by-numbers p (q .adjustments) (λ (prayer : Prayer). subst (λ (x : Parameters). timeAdjustmentsOf p prayer ≼ timeAdjustmentsOf x prayer) (sym e) (le-yes (timeAdjustmentsOf p prayer) (timeAdjustmentsOf q prayer) (h .more prayer))) (h .«first_held»)
     (λ (prayer : Prayer). subst (λ (x : Parameters). Near (2 ^ 32) (timeAdjustmentsOf x prayer)) (sym e) (h .«second_held» prayer))
     season
     date

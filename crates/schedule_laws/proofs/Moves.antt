@@ -2,7 +2,7 @@
 -- nothing.
 use Rattle.prelude.proofs.Logic.{_≡_, refl, sym, ap, subst, _∙_, _^_, _<_, arith, lit≤, ℤ, pos, negsuc, _+ℤ_, _-ℤ_, _*ℤ_, +ℤ-assoc, mag}
 use Rattle.float64.proofs.Floats.{Float, toSigned, toSigned-in}
-use Rattle.integers.proofs.Integers.{Near, _≼_, same, sum, difference, times, wider, natural-between, sum-between, difference-between, either-between}
+use Rattle.integers.proofs.Integers.{Near, _≼_, same, sum, difference, times, wider, natural-between, sum-between, difference-between, either-between, to-le}
 use Rattle.calendar.specs.Answers.{tomorrowOf}
 use Rattle.calendar.specs.declared.dates.Date.{Date}
 use Rattle.models.specs.declared.{adjustments.TimeAdjustment.TimeAdjustment, parameters.Parameters.Parameters, rules.Season.Season, prayer.Prayer.Prayer, rounding.Rounding.Rounding}
@@ -176,13 +176,13 @@ module _ (p : Parameters) (minutes : TimeAdjustment) where
           let later = by-more Maghrib m m' (final-moved Maghrib (sun .sunset)) in
           let later-fajr = by-more Fajr f f' (tomorrow-moved season date (suns .tomorrow) (suns .after) (h .«fajr_tomorrow»)) in
           record {
-            fajr = by-more Fajr (first .fajr) (second .fajr) (exactly .fajr);
-            sunrise = by-more Sunrise (first .sunrise) (second .sunrise) (exactly .sunrise);
-            dhuhr = by-more Dhuhr (first .dhuhr) (second .dhuhr) (exactly .dhuhr);
-            asr = by-more Asr (first .asr) (second .asr) (exactly .asr);
-            maghrib = by-more Maghrib (first .maghrib) (second .maghrib) (exactly .maghrib);
-            isha = by-more Isha (first .isha) (second .isha) (exactly .isha);
-            «middle_of_the_night» = later-on start (middleOfTheNightOf m f) (middleOfTheNightOf m' f') (middle-moved m f m' f' later later-fajr (short p held) (short q held-q));
-            qiyam = later-on start (qiyamOf m f) (qiyamOf m' f') (qiyam-moved m f m' f' later later-fajr (short p held) (short q held-q));
-            «fajr_tomorrow» = by-more Fajr (first .«fajr_tomorrow») (second .«fajr_tomorrow») (exactly .«fajr_tomorrow»);
+            fajr = to-le (first .fajr) (second .fajr) (by-more Fajr (first .fajr) (second .fajr) (exactly .fajr));
+            sunrise = to-le (first .sunrise) (second .sunrise) (by-more Sunrise (first .sunrise) (second .sunrise) (exactly .sunrise));
+            dhuhr = to-le (first .dhuhr) (second .dhuhr) (by-more Dhuhr (first .dhuhr) (second .dhuhr) (exactly .dhuhr));
+            asr = to-le (first .asr) (second .asr) (by-more Asr (first .asr) (second .asr) (exactly .asr));
+            maghrib = to-le (first .maghrib) (second .maghrib) (by-more Maghrib (first .maghrib) (second .maghrib) (exactly .maghrib));
+            isha = to-le (first .isha) (second .isha) (by-more Isha (first .isha) (second .isha) (exactly .isha));
+            «middle_of_the_night» = to-le (first .«middle_of_the_night») (second .«middle_of_the_night») (later-on start (middleOfTheNightOf m f) (middleOfTheNightOf m' f') (middle-moved m f m' f' later later-fajr (short p held) (short q held-q)));
+            qiyam = to-le (first .qiyam) (second .qiyam) (later-on start (qiyamOf m f) (qiyamOf m' f') (qiyam-moved m f m' f' later later-fajr (short p held) (short q held-q)));
+            «fajr_tomorrow» = to-le (first .«fajr_tomorrow») (second .«fajr_tomorrow») (by-more Fajr (first .«fajr_tomorrow») (second .«fajr_tomorrow») (exactly .«fajr_tomorrow»));
           }

@@ -1,4 +1,4 @@
--- Document 02, request 11: a window of seven rows, looked through afresh.
+-- Document 02, request 11: "The answers are those of looking through each window afresh."
 use Prim.Native.Nat.{ℕ, zero, suc, _+_}
 use mathlib.Core.Bool.{true, false, cond}
 use mathlib.Core.List.{List, [], _∷_}
@@ -31,7 +31,7 @@ abbrev pub beginOf : ℕ → Minute → Window
 beginOf first Refused = refusedWindow first
 beginOf first (At m) = foundWindow first m first m first
 
--- a row more: a minute before the earliest is the earliest, one after the latest the latest
+-- a row more: "the earliest and latest Fajr .., and the first row having each", so that an equal minute changes nothing
 abbrev pub withEarliest : Window → ℕ → ℤ → Window
 withEarliest w row m =
     record { ready = w .ready; refused = w .refused; first = w .first; earliest = m; «earliest_row» = row; latest = w .latest; «latest_row» = w .«latest_row» }
@@ -46,6 +46,7 @@ earlierIn w row m = cond (ltZ m (w .earliest)) (withEarliest w row m) w
 unfoldable pub laterIn : Window → ℕ → ℤ → Window
 laterIn w row m = cond (ltZ (w .latest) m) (withLatest w row m) w
 
+-- "a window with a refused day" is refused
 unfoldable pub seenOf : Window → ℕ → Minute → Window
 seenOf w row Refused = refusedWindow (w .first)
 seenOf w row (At m) = cond (w .refused) (refusedWindow (w .first)) (laterIn (earlierIn w row m) row m)
@@ -55,7 +56,7 @@ abbrev pub lookOf : (ℕ → Minute) → ℕ → Window → ℕ → ℕ → Wind
 lookOf f first w i zero = w
 lookOf f first w i (suc k) = lookOf f first (seenOf w (first + i) (f (first + i))) (i + 1) k
 
--- the seven rows from `first` on
+-- "every run of seven successive rows", from `first` on
 unfoldable pub lookedOf : (ℕ → Minute) → ℕ → Window
 lookedOf f first = lookOf f first (beginOf first (f first)) 1 6
 
