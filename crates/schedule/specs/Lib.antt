@@ -6,4 +6,4 @@ pub mod InForce
 pub mod Numbers
 pub mod RowSuns
 pub mod Builder
-pub mod Sines
+pub mod Asked

@@ -10,7 +10,7 @@ use Rattle.schedule.specs.declared.{hours.Suns.Suns, hours.RowHours.RowHours, h
 use Rattle.schedule.specs.declared.hours.Suns.the-variants.{Whole, Lacks}
 use Rattle.schedule.specs.declared.prayer_times.Worked.the-variants.{Times, Refused}
 use Rattle.schedule.specs.InForce.{inSecond}
-use Rattle.schedule.proofs.Schedule.{hoursOf, NotAfter, fajrNumberOf, ishaNumberOf, asrNumberOf, numbersOf, workedFrom, seasonOf, workedOf}
+use Rattle.schedule.proofs.Schedule.{hoursOf, NotAfter, numbersOf, workedFrom, seasonOf, workedOf}
 use Rattle.schedule_laws.specs.Later.{withMinutes, NoneEarlier, ExactlyLater, Moved, LaterMinutesMoveTheDay, LaterMinutesMoveTheRow}
 use Rattle.schedule_laws.proofs.SunSpans.{SunHour, Row, hours}
 use Rattle.schedule_laws.proofs.Moves.{exactly, none-earlier}
@@ -68,7 +68,7 @@ later-minutes-move-the-day rule n date season p q h =
 
 -- ---- from date and place on
 numbers-alike : (date : Date) (place : Coordinates) (p : Parameters) (minutes : TimeAdjustment) → numbersOf date place (withMinutes p minutes) ≡ numbersOf date place p
-unfolding numbersOf fajrNumberOf asrNumberOf ishaNumberOf
+unfolding numbersOf
 numbers-alike date place p minutes = refl
 
 pub later-minutes-move-the-row : LaterMinutesMoveTheRow
