@@ -5,7 +5,7 @@ use lib.IntN.{pos}
 use lib.Ieee.{Float}
 use Rattle.calendar.specs.Gregorian.{dateOf}
 use Rattle.solar.specs.declared.setting.SolarHour.{SolarHour}
-use Rattle.solar.specs.declared.setting.SolarHour.the-variants.{At, None}
+use Rattle.solar.specs.declared.setting.SolarHour.the-variants.{Some, Nothing}
 use Rattle.solar.specs.Hours.{Sun, sunOn, hourNumbersOf}
 use Rattle.unit.specs.Unit.{coordinatesOf}
 use Rattle.probes.specs.declared.functions.ProbeHours.{ProbeHours}
@@ -19,5 +19,5 @@ abbrev pub probeHoursOf : Sun → ProbeHours
 probeHoursOf s = let n = hourNumbersOf s in record { transit = n .transit; sunrise = n .sunrise; sunset = n .sunset }
 
 unfoldable pub probeTimeOf : SolarHour → ProbeTime
-probeTimeOf (At s) = record { found = true; seconds = s }
-probeTimeOf None = record { found = false; seconds = pos 0 }
+probeTimeOf (Some s) = record { found = true; seconds = s }
+probeTimeOf Nothing = record { found = false; seconds = pos 0 }

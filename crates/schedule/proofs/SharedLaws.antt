@@ -20,7 +20,7 @@ use Rattle.schedule.specs.Asked.{fajrAskedOf, ishaAskedOf, askedOf, twil
 use Rattle.schedule.specs.declared.hours.RowHours.{RowHours}
 use Rattle.schedule.specs.declared.hours.RowNumbers.{RowNumbers}
 use Rattle.schedule.specs.declared.hours.Suns.{Suns}
-use Rattle.schedule.specs.declared.hours.Suns.the-variants.{Whole, Lacks}
+use Rattle.schedule.specs.declared.hours.Suns.the-variants.{Whole, Refused}
 use Rattle.schedule.specs.declared.hours.ThreeSuns.{ThreeSuns}
 use Rattle.schedule.specs.declared.prayer_times.PrayerTimes.{PrayerTimes}
 use Rattle.schedule.specs.declared.prayer_times.Worked.the-variants.{Times}
@@ -58,7 +58,7 @@ module _ (rule : Midnight) (n : RowNumbers) (date : Date) (season : Season) (p :
 
   by-suns : (suns : Suns) → workedFrom suns asked date season p ≡ workedFrom suns (hoursOf rule n) date season p
   unfolding workedFrom
-  by-suns (Lacks r) = refl
+  by-suns (Refused r) = refl
   by-suns (Whole suns) = ap (λ (t : PrayerTimes). Times (startedOf (startOf date) t)) (nine-unasked suns)
 
   -- a row's times are the same from the numbers that are asked for

@@ -7,3 +7,4 @@ pub mod Numbers
 pub mod RowSuns
 pub mod Builder
 pub mod Asked
+pub mod Each
