@@ -15,10 +15,10 @@ use Rattle.order.specs.declared.reading.Reading.{Reading}
 use Rattle.order.specs.declared.reading.Reading.the-variants as reading
 use Rattle.order.specs.Reading.{readingOf}
 use Rattle.schedule.specs.declared.in_force.Current.{Current}
-use Rattle.schedule.specs.declared.in_force.Current.the-variants.{Some, None}
+use Rattle.schedule.specs.declared.in_force.Current.the-variants.{Some, Nothing}
 use Rattle.schedule.specs.declared.in_force.Instant.{Instant}
 use Rattle.schedule.specs.declared.in_force.Remaining.{Remaining}
-use Rattle.schedule.specs.declared.in_force.Remaining.the-variants.{In, Nothing}
+use Rattle.schedule.specs.declared.in_force.Remaining.the-variants as remaining
 use Rattle.schedule.specs.declared.prayer_times.Worked.{Worked}
 use Rattle.schedule.specs.declared.prayer_times.Worked.the-variants as worked
 use Rattle.schedule.specs.InForce.{currentTimeOf, nextOf, timeRemainingOf}
@@ -71,7 +71,7 @@ prayerAtOf s row i = inForceOf (workAtOf s row i) i
 -- ---- the next one. 11 is "next or remaining asked while no prayer is in force"
 unfoldable pub nextPrayerIn : Current → NextPrayer
 nextPrayerIn (Some prayer) = next.Prayer prayer
-nextPrayerIn None = next.Refused (refusal noneInForce 0)
+nextPrayerIn Nothing = next.Refused (refusal noneInForce 0)
 
 unfoldable pub nextPrayerOf : Worked → Instant → NextPrayer
 nextPrayerOf (worked.Times t) i = nextPrayerIn (nextOf t i)
@@ -82,8 +82,8 @@ nextAtOf s row i = nextPrayerOf (workAtOf s row i) i
 
 -- ---- the time until it
 unfoldable pub timeUntilIn : Remaining → TimeUntil
-timeUntilIn (In time) = until.Time time
-timeUntilIn Nothing = until.Refused (refusal noneInForce 0)
+timeUntilIn (remaining.Some time) = until.Time time
+timeUntilIn remaining.Nothing = until.Refused (refusal noneInForce 0)
 
 unfoldable pub timeUntilOf : Worked → Instant → TimeUntil
 timeUntilOf (worked.Times t) i = timeUntilIn (timeRemainingOf t i)

@@ -76,7 +76,7 @@ fn next_in(next: Current) -> NextPrayer
 {
     match next {
         Current::Some(prayer) => NextPrayer::Prayer(prayer),
-        Current::None => NextPrayer::Refused(none_in_force()),
+        Current::Nothing => NextPrayer::Refused(none_in_force()),
     }
 }
 
@@ -93,7 +93,7 @@ fn until_in(remaining: Remaining) -> TimeUntil
     ensures { λ r. ⌜ r ≡ timeUntilIn remaining ⌝ }
 {
     match remaining {
-        Remaining::In(time) => TimeUntil::Time(time),
+        Remaining::Some(time) => TimeUntil::Time(time),
         Remaining::Nothing => TimeUntil::Refused(none_in_force()),
     }
 }

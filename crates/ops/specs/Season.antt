@@ -90,15 +90,14 @@ abbrev pub seasonMinutesOf : AdjustmentDaytime → Season → ℕ → ℕ → Sh
 seasonMinutesOf daytime season day year shafaq =
     twilightAdjustmentsOf (twilightAdjustmentValuesOf daytime (season .latitude) shafaq) (ofInt binary64 (pos (seasonDaysOf season day year)))
 
--- Whole seconds before sunrise and after sunset, half a second away from zero. The source casts to an i64; no latitude of a place comes
--- near the end of an i32 (proofs/SeasonLaws).
+-- `(adjustment * -60.0).round() as i64` seconds from sunrise
 unfoldable pub morningSecondsOf : Season → ℕ → ℕ → ℤ
 unfolding dec
-morningSecondsOf season day year = toSigned 31 (roundOf (seasonMinutesOf Morning season day year General *ᶠ neg (dec 60 0)))
+morningSecondsOf season day year = toSigned 63 (roundOf (seasonMinutesOf Morning season day year General *ᶠ neg (dec 60 0)))
 
 unfoldable pub eveningSecondsOf : Season → ℕ → ℕ → Shafaq → ℤ
 unfolding dec
-eveningSecondsOf season day year shafaq = toSigned 31 (roundOf (seasonMinutesOf Evening season day year shafaq *ᶠ dec 60 0))
+eveningSecondsOf season day year shafaq = toSigned 63 (roundOf (seasonMinutesOf Evening season day year shafaq *ᶠ dec 60 0))
 
 -- the source's own functions have the source's count
 abbrev pub sourceSeason : Float → Season

@@ -36,7 +36,7 @@ use Rattle.sentences.specs.Table.{known}
 use Rattle.solar.specs.Times.{dayOf, solarTimeOf, solarHourOf}
 use Rattle.solar.specs.declared.hours.HourNumbers.{HourNumbers}
 use Rattle.solar.specs.declared.setting.SolarHour.{SolarHour}
-use Rattle.solar.specs.declared.setting.SolarHour.the-variants.{At, None}
+use Rattle.solar.specs.declared.setting.SolarHour.the-variants.{Some, Nothing}
 use Rattle.solar.specs.declared.times.SolarDay.{SolarDay}
 use Rattle.solar.specs.declared.times.SolarDay.the-variants as sun
 use Rattle.text.specs.Text.{frontOf}
@@ -66,10 +66,10 @@ first-broken (q ∷ rest) o r e =
 -- ---- a day
 lacked : (t r s : SolarHour) (n : ℕ) → dayOf t r s ≡ sun.Lacks n → listed dayNumbers n ≡ true
 unfolding dayOf listed
-lacked None r s n e = let same : 6 ≡ n = cc in rw (sym same) refl
-lacked (At t) None s n e = let same : 7 ≡ n = cc in rw (sym same) refl
-lacked (At t) (At r) None n e = let same : 8 ≡ n = cc in rw (sym same) refl
-lacked (At t) (At r) (At s) n e = let z : _≡_ {A = ℕ} 0 1 = cc in absurd (omega arith)
+lacked Nothing r s n e = let same : 6 ≡ n = cc in rw (sym same) refl
+lacked (Some t) Nothing s n e = let same : 7 ≡ n = cc in rw (sym same) refl
+lacked (Some t) (Some r) Nothing n e = let same : 8 ≡ n = cc in rw (sym same) refl
+lacked (Some t) (Some r) (Some s) n e = let z : _≡_ {A = ℕ} 0 1 = cc in absurd (omega arith)
 
 lacks-number : (rule : Midnight) (n : HourNumbers) (k : ℕ) → solarTimeOf rule n ≡ sun.Lacks k → listed dayNumbers k ≡ true
 unfolding solarTimeOf

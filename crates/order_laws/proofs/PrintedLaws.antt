@@ -9,7 +9,8 @@ use Rattle.refusals.specs.Refusals.{refusal}
 use Rattle.lines.specs.Lines.{daysOf, nineOf, imsakOf}
 use Rattle.order.specs.Accepted.{Accepted}
 use Rattle.order.specs.declared.reading.Order.{Order}
-use Rattle.schedule.proofs.Schedule.{start-near, numbersOf, startOf, seasonOf, workedAt}
+use Rattle.models.specs.declared.prayer.Prayer.the-variants.{Fajr, Sunrise, Dhuhr, Asr, Maghrib, Isha, Qiyam, FajrTomorrow}
+use Rattle.schedule.proofs.Schedule.{start-near, numbersOf, startOf, seasonOf, workedAt, timeOf}
 use Rattle.schedule.specs.declared.{prayer_times.PrayerTimes.PrayerTimes, prayer_times.Worked.Worked}
 use Rattle.schedule.specs.declared.prayer_times.Worked.the-variants.{Times, Refused}
 use Rattle.schedule_laws.specs.Range.{OfDate, AllOfDate}
@@ -33,15 +34,16 @@ one-digit date time h =
     small 4 (daysOf date time) (omega (arith, f .balance, f .below, d .0, d .1, m, s .0, s .1, h .from, h .before)) (omega (arith, f .balance, f .below, d .0, d .1, m, s .0, s .1, h .from, h .before))
 
 nine-digits : (date : Date) (t : PrayerTimes) → AllOfDate date t → (i : ℕ) → i < 9 → natAbs (daysOf date (getD (nineOf t) i (pos 0))) ≤ 4
-nine-digits date t a zero l = one-digit date (t .fajr) (a .fajr)
-nine-digits date t a (suc zero) l = one-digit date (t .sunrise) (a .sunrise)
-nine-digits date t a (suc (suc zero)) l = one-digit date (t .dhuhr) (a .dhuhr)
-nine-digits date t a (suc (suc (suc zero))) l = one-digit date (t .asr) (a .asr)
-nine-digits date t a (suc (suc (suc (suc zero)))) l = one-digit date (t .maghrib) (a .maghrib)
-nine-digits date t a (suc (suc (suc (suc (suc zero))))) l = one-digit date (t .isha) (a .isha)
+unfolding timeOf
+nine-digits date t a zero l = one-digit date (t .fajr) (a .named Fajr)
+nine-digits date t a (suc zero) l = one-digit date (t .sunrise) (a .named Sunrise)
+nine-digits date t a (suc (suc zero)) l = one-digit date (t .dhuhr) (a .named Dhuhr)
+nine-digits date t a (suc (suc (suc zero))) l = one-digit date (t .asr) (a .named Asr)
+nine-digits date t a (suc (suc (suc (suc zero)))) l = one-digit date (t .maghrib) (a .named Maghrib)
+nine-digits date t a (suc (suc (suc (suc (suc zero))))) l = one-digit date (t .isha) (a .named Isha)
 nine-digits date t a (suc (suc (suc (suc (suc (suc zero)))))) l = one-digit date (t .«middle_of_the_night») (a .«middle_of_the_night»)
-nine-digits date t a (suc (suc (suc (suc (suc (suc (suc zero))))))) l = one-digit date (t .qiyam) (a .qiyam)
-nine-digits date t a (suc (suc (suc (suc (suc (suc (suc (suc zero)))))))) l = one-digit date (t .«fajr_tomorrow») (a .«fajr_tomorrow»)
+nine-digits date t a (suc (suc (suc (suc (suc (suc (suc zero))))))) l = one-digit date (t .qiyam) (a .named Qiyam)
+nine-digits date t a (suc (suc (suc (suc (suc (suc (suc (suc zero)))))))) l = one-digit date (t .«fajr_tomorrow») (a .named FajrTomorrow)
 nine-digits date t a (suc (suc (suc (suc (suc (suc (suc (suc (suc i))))))))) l = absurd (omega arith)
 
 abbrev isTimes : Worked → Type 0
@@ -99,10 +101,11 @@ row-there order row t e = go (ltb row (order .rows)) refl e
     go false h w = absurd (subst isTimes (sym w) tt)
 
 pub imsak-is-printed-whole : ImsakIsPrintedWhole
+unfolding timeOf
 imsak-is-printed-whole order row t h e =
     let date = rowDateOf (order .date) row in
     let m = order .ramadan .imsak in
     let a = by-its-date order row t h e in
     let y = h .row row (row-there order row t e) .to in
-    let exact = imsak-exact date (t .fajr) m (omega arith) (h .imsak) (a .fajr) in
-    record { exact = exact; days = subst (λ (z : ℤ). natAbs (daysOf date z) ≤ 5) (sym exact) (imsak-digit date (t .fajr) m (h .imsak) (a .fajr)) }
+    let exact = imsak-exact date (t .fajr) m (omega arith) (h .imsak) (a .named Fajr) in
+    record { exact = exact; days = subst (λ (z : ℤ). natAbs (daysOf date z) ≤ 5) (sym exact) (imsak-digit date (t .fajr) m (h .imsak) (a .named Fajr)) }

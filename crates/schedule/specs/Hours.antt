@@ -9,14 +9,14 @@ use Rattle.solar.specs.Times.{solarHourOf, solarTimeOf}
 use Rattle.schedule.specs.declared.hours.RowNumbers.{RowNumbers}
 use Rattle.schedule.specs.declared.hours.DayHours.{DayHours}
 use Rattle.schedule.specs.declared.hours.Suns.{Suns}
-use Rattle.schedule.specs.declared.hours.Suns.the-variants.{Whole, Lacks}
+use Rattle.schedule.specs.declared.hours.Suns.the-variants.{Whole, Refused}
 use Rattle.schedule.specs.declared.hours.RowHours.{RowHours}
 
--- days 0, 1 and 2, tried in that order: the first that lacks a time refuses the row
+-- "Days 0, 1, 2 are the date and the two after it, tried in that order, each for 6, 7, 8"
 unfoldable pub sunsOf : SolarDay → SolarDay → SolarDay → Suns
-sunsOf (day.Lacks n) b c = Lacks (refusal n 0)
-sunsOf (day.Whole x) (day.Lacks n) c = Lacks (refusal n 1)
-sunsOf (day.Whole x) (day.Whole y) (day.Lacks n) = Lacks (refusal n 2)
+sunsOf (day.Lacks n) b c = Refused (refusal n 0)
+sunsOf (day.Whole x) (day.Lacks n) c = Refused (refusal n 1)
+sunsOf (day.Whole x) (day.Whole y) (day.Lacks n) = Refused (refusal n 2)
 sunsOf (day.Whole x) (day.Whole y) (day.Whole z) = Whole (record { today = x; tomorrow = y; after = z })
 
 -- a day's sun and its Fajr

@@ -37,7 +37,7 @@ pub struct ThreeSuns {
 pub enum Suns {
     Whole(ThreeSuns),
     // 6, 7 or 8 with the day: the first of days 0, 1 and 2 that lacks a time.
-    Lacks(Refusal),
+    Refused(Refusal),
 }
 
 // Each counted from 0h of its own date.
@@ -54,11 +54,11 @@ impl Suns {
         ensures { λ r. ⌜ r ≡ sunsOf today tomorrow after ⌝ }
     {
         match today {
-            SolarDay::Lacks(number) => Suns::Lacks(Refusal::new(number, 0)),
+            SolarDay::Lacks(number) => Suns::Refused(Refusal::new(number, 0)),
             SolarDay::Whole(first) => match tomorrow {
-                SolarDay::Lacks(number) => Suns::Lacks(Refusal::new(number, 1)),
+                SolarDay::Lacks(number) => Suns::Refused(Refusal::new(number, 1)),
                 SolarDay::Whole(second) => match after {
-                    SolarDay::Lacks(number) => Suns::Lacks(Refusal::new(number, 2)),
+                    SolarDay::Lacks(number) => Suns::Refused(Refusal::new(number, 2)),
                     SolarDay::Whole(third) => Suns::Whole(ThreeSuns {
                         today: first,
                         tomorrow: second,

@@ -7,10 +7,10 @@ use Rattle.refusals.specs.declared.Refusal.{Refusal}
 use Rattle.models.specs.Settings.{timeAdjustmentsOf}
 use Rattle.unit.specs.declared.Coordinates.{Coordinates}
 use Rattle.schedule.specs.declared.{hours.Suns.Suns, hours.RowHours.RowHours, hours.RowNumbers.RowNumbers, prayer_times.PrayerTimes.PrayerTimes, in_force.Instant.Instant}
-use Rattle.schedule.specs.declared.hours.Suns.the-variants.{Whole, Lacks}
+use Rattle.schedule.specs.declared.hours.Suns.the-variants.{Whole, Refused}
 use Rattle.schedule.specs.declared.prayer_times.Worked.the-variants.{Times, Refused}
 use Rattle.schedule.specs.InForce.{inSecond}
-use Rattle.schedule.proofs.Schedule.{hoursOf, NotAfter, fajrNumberOf, ishaNumberOf, asrNumberOf, numbersOf, workedFrom, seasonOf, workedOf}
+use Rattle.schedule.proofs.Schedule.{hoursOf, NotAfter, numbersOf, workedFrom, seasonOf, workedOf}
 use Rattle.schedule_laws.specs.Later.{withMinutes, NoneEarlier, ExactlyLater, Moved, LaterMinutesMoveTheDay, LaterMinutesMoveTheRow}
 use Rattle.schedule_laws.proofs.SunSpans.{SunHour, Row, hours}
 use Rattle.schedule_laws.proofs.Moves.{exactly, none-earlier}
@@ -47,7 +47,7 @@ module _ (p : Parameters) (minutes : TimeAdjustment) (more : (prayer : Prayer) �
     (season : Season) (date : Date) where
   by-suns : (s : Suns) (h : RowHours) → Row s → SunHour (h .«fajr_tomorrow») → Moved p (withMinutes p minutes) (workedFrom s h date season p) (workedFrom s h date season (withMinutes p minutes))
   unfolding workedFrom
-  by-suns (Lacks r) h x k = refused-alike p (withMinutes p minutes) r
+  by-suns (Refused r) h x k = refused-alike p (withMinutes p minutes) r
   by-suns (Whole suns) h x k =
       worked-alike p (withMinutes p minutes) _ _ (none-earlier p minutes season date suns h more held held-q x k) (exactly p minutes season date suns h)
 
@@ -68,7 +68,7 @@ later-minutes-move-the-day rule n date season p q h =
 
 -- ---- from date and place on
 numbers-alike : (date : Date) (place : Coordinates) (p : Parameters) (minutes : TimeAdjustment) → numbersOf date place (withMinutes p minutes) ≡ numbersOf date place p
-unfolding numbersOf fajrNumberOf asrNumberOf ishaNumberOf
+unfolding numbersOf
 numbers-alike date place p minutes = refl
 
 pub later-minutes-move-the-row : LaterMinutesMoveTheRow

@@ -7,13 +7,15 @@ use Rattle.integers.specs.Parts.{P, N, Near}
 use Rattle.integers.specs.Quotients.{floorQuot}
 use Rattle.calendar.specs.declared.dates.Date.{Date}
 use Rattle.models.specs.declared.parameters.Parameters.{Parameters}
+use Rattle.models.specs.declared.prayer.Prayer.{Prayer}
 use Rattle.models.specs.declared.rules.Midnight.{Midnight}
 use Rattle.models.specs.declared.rules.Season.{Season}
 use Rattle.schedule.specs.declared.hours.RowNumbers.{RowNumbers}
 use Rattle.schedule.specs.declared.prayer_times.PrayerTimes.{PrayerTimes}
 use Rattle.schedule.specs.declared.prayer_times.Worked.the-variants.{Times}
 use Rattle.schedule.specs.Hours.{hoursOf}
-use Rattle.schedule.specs.Times.{startOf, workedOf, Each}
+use Rattle.schedule.specs.InForce.{timeOf}
+use Rattle.schedule.specs.Times.{startOf, workedOf}
 use Rattle.schedule_laws.specs.Carried.{LatitudeInOrder, Carried}
 
 -- from 4 days before 0h of the date to before 5 days after it
@@ -21,8 +23,10 @@ pub record OfDate (date : Date) (time : ℤ) : Type 0 where
   pub from : N (time -ℤ startOf date) ≤ 4 * 86400
   pub before : P (time -ℤ startOf date) < 5 * 86400
 
-abbrev pub AllOfDate : Date → PrayerTimes → Type 0
-AllOfDate date t = Each (OfDate date) t
+-- all nine: those that a prayer names, and the middle of the night
+pub record AllOfDate (date : Date) (t : PrayerTimes) : Type 0 where
+  pub named : (prayer : Prayer) → OfDate date (timeOf t prayer)
+  pub «middle_of_the_night» : OfDate date (t .«middle_of_the_night»)
 
 abbrev pub TimesLieByTheirDate : Type 0
 TimesLieByTheirDate =

@@ -6,6 +6,7 @@ use Rattle.float64.specs.Ops.{_+ᶠ_, _-ᶠ_, _/ᶠ_, dec}
 use Rattle.float64.specs.Sizes.{absOf}
 use Rattle.fdlibm_trig.specs.Trig.{tanOf}
 use Rattle.fdlibm_arc.specs.Atan.{atanOf}
+use Rattle.calendar.specs.Answers.{yesterdayOf, tomorrowOf}
 use Rattle.calendar.specs.declared.dates.Date.{Date}
 use Rattle.unit.specs.declared.Angle.{Angle}
 use Rattle.unit.specs.declared.Coordinates.{Coordinates}
@@ -22,9 +23,9 @@ pub record Sun : Type 0 where
   pub today : SolarCoordinates
   pub next : SolarCoordinates
 
--- at 0h of the day before, of the date and of the day after
-abbrev pub sunOver : Coordinates → Date → Date → Date → Sun
-sunOver place before date after = record { place = place; previous = positionOf before; today = positionOf date; next = positionOf after }
+-- SolarTime::new: `yesterday`, `today` and `tomorrow`, each at 0h
+abbrev pub sunOn : Coordinates → Date → Sun
+sunOn place date = record { place = place; previous = positionOf (yesterdayOf date); today = positionOf date; next = positionOf (tomorrowOf date) }
 
 -- the altitude of the sun's center at sunrise and sunset: 50 minutes of arc below the horizon
 unfoldable pub solarAltitude : Angle

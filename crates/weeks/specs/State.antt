@@ -71,5 +71,5 @@ windowIn w = cond (ltb (w .rows) 7) noWindow (lastWindowOf (w .rows - 7) w)
 
 -- a row's minute from its Fajr by itself
 unfoldable pub minuteFrom : FajrAlone → Minute
-minuteFrom (alone.At seconds) = At (floorQuot seconds 60)
-minuteFrom alone.Refused = Refused
+minuteFrom (alone.Some seconds) = At (floorQuot seconds 60)
+minuteFrom alone.Nothing = Refused

@@ -23,7 +23,7 @@ pub fn minute_of(fajr: FajrAlone) -> Minute
     ensures { λ r. ⌜ r ≡ minuteFrom fajr ⌝ }
 {
     match fajr {
-        FajrAlone::At(seconds) => Minute::At(whole_minutes(seconds)),
-        FajrAlone::Refused => Minute::Refused,
+        FajrAlone::Some(seconds) => Minute::At(whole_minutes(seconds)),
+        FajrAlone::Nothing => Minute::Refused,
     }
 }
