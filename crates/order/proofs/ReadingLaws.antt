@@ -4,9 +4,10 @@ use Rattle.calendar.specs.Days.{dayNumberOf}
 use Rattle.calendar.specs.declared.dates.Date.{Date}
 use Rattle.fields.specs.Fields.{checkOf}
 use Rattle.fields.specs.Tags.{lastTag, longestTown}
-use Rattle.fields.specs.Values.{offsetOf, hasOf, valueOf, valueStartOf, partIn, Values, valuesOf}
-use Rattle.fields.proofs.FieldsLaws.{check-small, value-fits, fits-between}
-use Rattle.fields.proofs.Collecting.{part-same}
+use Rattle.fields.specs.Values.{hasOf, valueOf, partIn, Values, valuesIn, valuesOf}
+use Rattle.fields.specs.Lookup.{offsetOf}
+use Rattle.fields.proofs.FieldsLaws.{check-small, fits-between}
+use Rattle.fields.proofs.LookupLaws.{first, value-fits}
 use Rattle.hijri.specs.Ramadan.{ramadanStartOf}
 use Rattle.hijri.specs.declared.ramadan.Ramadan.{Ramadan}
 use Rattle.refusals.specs.declared.Refusal.{Refusal}
@@ -127,13 +128,14 @@ pub record Town (s town : List ℕ) (order : Order) : Type 0 where
   pub text : printable town ≡ true
 
 town-of : (s : List ℕ) (order : Order) → Passed s order → Town s (valueOf s 1) order
-unfolding fitsOf lookUp isGivenOf orderOf valueStartOf
+unfolding fitsOf lookUp isGivenOf orderOf valuesIn
 town-of s order passed =
     let has = has-required (hasOf s) (passed .given) 0 (lit≤ tt) in
+    let field = first s 1 (passed .fields) in
     record {
-      part = sym (ap (λ (o : Order). partIn s (o .town)) (sym (passed .same)) ∙ part-same s 1);
-      begins = ap (λ (o : Order). o .town .at) (sym (passed .same)) ∙ simp has;
-      long = ap (λ (o : Order). o .town .length) (sym (passed .same));
+      part = ap (λ (o : Order). partIn s (o .town)) (passed .same);
+      begins = ap (λ (o : Order). o .town .at) (sym (passed .same)) ∙ field .begins has;
+      long = ap (λ (o : Order). o .town .length) (sym (passed .same)) ∙ field .long;
       size = fits-between 1 (length (valueOf s 1)) (value-fits s 1 (passed .fields) has);
       text = fits-given (valuesOf s) (passed .ranges) 1 (lit≤ tt) (lit≤ tt) has;
     }
