@@ -1,7 +1,6 @@
 -- The table's limits, and what checking says of a field that it passes. Assumes nothing.
-use Rattle.prelude.proofs.Logic.{_≡_, refl, Bool, true, false, cond, not, _&&_, and-eq-true-iff, List, [], _∷_, ℕ, zero, suc, _≤_, _<_, _+_, _-_, arith, ltb, leb, eqb, lit≤, length, getD, set, replicate, List·getD-eq-default, lt-ltb, ltb-false, leb-true, eqb-true, eqb-false, not-false, cases, either}
+use Rattle.prelude.proofs.Logic.{_≡_, refl, Bool, true, false, cond, not, _&&_, and-eq-true-iff, List, [], _∷_, ℕ, zero, suc, _≤_, _<_, _+_, _-_, arith, ltb, leb, eqb, lit≤, length, getD, set, replicate, List·getD-eq-default, lt-ltb, ltb-false, leb-true, eqb-true, eqb-false, not-false, cases, either, both}
 use Rattle.refusals.specs.declared.Refusal.{Refusal}
-use Rattle.fields.specs.declared.tags.Row.{Row}
 use Rattle.fields.specs.Numbers.{byteOf}
 use Rattle.fields.specs.Tags.{tags, lastTag, column, knownTag, lengthFits}
 use Rattle.fields.specs.Fields.{lengthAt, nextFieldAt, valueFaultOf, faultIn, faultOf, walkOf, checkOf}
@@ -17,25 +16,33 @@ fits-between tag n e =
     let h = and-eq-true-iff (leb (column tag 0) n) (leb n (column tag 1)) .0 (and-eq-true-iff (leb tag lastTag) limits .0 e .1) in
     (leb-true (column tag 0) n (h .0), leb-true n (column tag 1) (h .1))
 
--- no value has more bytes than a byte counts
-rows-short : List (List ℕ) → Bool
-rows-short [] = true
-rows-short (r ∷ rows) = leb (getD r 1 0) 255 && rows-short rows
+-- the table's rule, which antt computes over the whole of it: no number needs more than a byte
+all-small : List ℕ → Bool
+all-small [] = true
+all-small (n ∷ row) = leb n 255 && all-small row
 
-row-short : (rows : List (List ℕ)) → rows-short rows ≡ true → (tag : ℕ) → getD (getD rows tag []) 1 0 ≤ 255
-unfolding rows-short
-row-short [] e tag = lit≤ tt
-row-short (r ∷ rows) e zero = leb-true (getD r 1 0) 255 (and-eq-true-iff (leb (getD r 1 0) 255) (rows-short rows) .0 e .0)
-row-short (r ∷ rows) e (suc tag) = row-short rows (and-eq-true-iff (leb (getD r 1 0) 255) (rows-short rows) .0 e .1) tag
+rows-small : List (List ℕ) → Bool
+rows-small [] = true
+rows-small (row ∷ rows) = all-small row && rows-small rows
+
+entry-small : (row : List ℕ) → all-small row ≡ true → (i : ℕ) → getD row i 0 ≤ 255
+unfolding all-small
+entry-small [] e i = lit≤ tt
+entry-small (n ∷ row) e zero = leb-true n 255 (both (leb n 255) (all-small row) e .0)
+entry-small (n ∷ row) e (suc i) = entry-small row (both (leb n 255) (all-small row) e .1) i
+
+in-row : (rows : List (List ℕ)) → rows-small rows ≡ true → (tag i : ℕ) → getD (getD rows tag []) i 0 ≤ 255
+unfolding rows-small
+in-row [] e tag i = lit≤ tt
+in-row (row ∷ rows) e zero i = entry-small row (both (all-small row) (rows-small rows) e .0) i
+in-row (row ∷ rows) e (suc tag) i = in-row rows (both (all-small row) (rows-small rows) e .1) tag i
+
+pub column-small : (tag i : ℕ) → column tag i ≤ 255
+unfolding rows-small all-small
+column-small = in-row tags refl
 
 pub length-short : (tag n : ℕ) → lengthFits tag n ≡ true → n ≤ 255
-unfolding rows-short
-length-short tag n e = let f = fits-between tag n e in let l = row-short tags refl tag in omega (arith, f .1, l)
-
--- a tag that is none of the table's lies beyond it
-pub beyond-table : (tag : ℕ) → length tags ≤ tag
-    → _≡_ {A = Row} (record { shortest = 0; longest = 0; lowest = 0; highest = 0 }) (record { shortest = column tag 0; longest = column tag 1; lowest = column tag 2; highest = column tag 3 })
-beyond-table tag l = let e : getD tags tag [] ≡ [] = List·getD-eq-default tags [] l in simp e
+length-short tag n e = let f = fits-between tag n e in let l = column-small tag 1 in omega (arith, f .1, l)
 
 -- ---- a field that is passed: its form is right, and no field before it has its tag
 pub record Good (s : List ℕ) (at : ℕ) : Type 0 where
