@@ -3,7 +3,7 @@ use Rattle.prelude.proofs.Logic.{_≡_, refl, Bool, true, false, cond, not, _&&
 use Rattle.refusals.specs.declared.Refusal.{Refusal}
 use Rattle.fields.specs.Numbers.{byteOf}
 use Rattle.fields.specs.Tags.{tags, lastTag, column, knownTag, lengthFits}
-use Rattle.fields.specs.Fields.{lengthAt, nextFieldAt, valueFaultOf, faultIn, faultOf, walkOf, checkOf}
+use Rattle.fields.specs.Fields.{lengthAt, nextFieldAt, faultIn, faultOf, walkOf, checkOf}
 
 -- ---- the table's limits
 pub known-last : (tag : ℕ) → knownTag tag ≡ true → tag ≤ lastTag
@@ -56,7 +56,7 @@ passed true x y l e = absurd (omega arith)
 passed false x y l e = (refl, e)
 
 pub fault-none : (s : List ℕ) (seen : List Bool) (at : ℕ) → faultOf s seen at ≡ 0 → Good s at × (getD seen (byteOf s at) false ≡ false)
-unfolding faultOf faultIn valueFaultOf
+unfolding faultOf faultIn
 fault-none s seen at e =
     let tag = byteOf s at in
     let header = passed (ltb (length s - at) 3) 1 _ (lit≤ tt) e in
@@ -96,7 +96,7 @@ check-none s e =
 
 -- ---- the fields give no number over 3
 fault-small : (s : List ℕ) (seen : List Bool) (at : ℕ) → faultOf s seen at ≤ 3
-unfolding faultOf faultIn valueFaultOf
+unfolding faultOf faultIn
 fault-small s seen at =
     either (λ n. n ≤ 3) (ltb (length s - at) 3) (lit≤ tt)
     (either (λ n. n ≤ 3) (not (knownTag (byteOf s at))) (lit≤ tt)

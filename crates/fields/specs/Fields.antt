@@ -10,8 +10,7 @@ use Rattle.refusals.specs.declared.Refusal.{Refusal}
 use Rattle.fields.specs.Numbers.{byteOf, unsignedOf}
 use Rattle.fields.specs.Tags.{tags, knownTag, lengthFits}
 
--- the bytes before a value: its tag and its length
-abbrev pub headerLength : ℕ
+abbrev pub headerLength : ℕ  -- the bytes before a value: its tag and its length
 headerLength = 3
 
 -- the length that the field at an offset says its value has
@@ -22,25 +21,15 @@ lengthAt s at = unsignedOf s (at + 1)
 abbrev pub nextFieldAt : List ℕ → ℕ → ℕ
 nextFieldAt s at = at + headerLength + lengthAt s at
 
--- "field by field: header cut, unknown tag, tag again, wrong length, value cut": what a field is refused by, or 0. First its value, of n bytes as
--- the field says, when `left` bytes remain
-unfoldable pub valueFaultOf : ℕ → ℕ → ℕ → ℕ
-valueFaultOf tag n left =
-    -- wrong length
-    cond (not (lengthFits tag n)) fieldUnknown
-    -- value cut
-    (cond (ltb left n) fieldCut 0)
-
--- `again` if a field before it has its tag; `left` bytes remain from its tag byte on
+-- "field by field: header cut, unknown tag, tag again, wrong length, value cut": what a field is refused by, or 0. Its value has n bytes, as it says
+-- itself; `again` if a field before it has its tag; `left` bytes remain from its tag byte on
 unfoldable pub faultIn : (tag n : ℕ) → (again : Bool) → (left : ℕ) → ℕ
 faultIn tag n again left =
-    -- header cut
-    cond (ltb left headerLength) fieldCut
-    -- unknown tag
-    (cond (not (knownTag tag)) fieldUnknown
-    -- tag again
-    (cond again fieldAgain
-    (valueFaultOf tag n (left - headerLength))))
+    cond (ltb left headerLength) fieldCut  -- header cut
+    (cond (not (knownTag tag)) fieldUnknown  -- unknown tag
+    (cond again fieldAgain  -- tag again
+    (cond (not (lengthFits tag n)) fieldUnknown  -- wrong length
+    (cond (ltb (left - headerLength) n) fieldCut 0))))  -- value cut
 
 -- the field at an offset; `seen` has by tag whether a field before it has the tag
 unfoldable pub faultOf : List ℕ → (seen : List Bool) → ℕ → ℕ

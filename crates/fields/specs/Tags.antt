@@ -26,8 +26,8 @@ methodTag = 6
 abbrev pub madhabTag : ℕ
 madhabTag = 7
 
-abbrev pub ruleTag : ℕ
-ruleTag = 8
+abbrev pub highLatitudeTag : ℕ
+highLatitudeTag = 8
 
 abbrev pub roundingTag : ℕ
 roundingTag = 9

@@ -15,7 +15,7 @@ use Rattle.order.specs.declared.reading.Order.{Order}
 use Rattle.order.specs.declared.reading.Reading.the-variants.{Read, Refused}
 use Rattle.text.specs.Text.{printable}
 use Rattle.order.specs.Ranges.{lookUp, fitsOf, inRangeOf}
-use Rattle.order.specs.Reading.{required, isGivenOf, missingOf, bothFormsOf, outOfRangeOf, tagsFrom, orderOf, wrongStartOf, firstOf, readingOf, townOf}
+use Rattle.order.specs.Reading.{required, isGivenOf, missingOf, bothFormsOf, outOfRangeOf, tagsFrom, orderOf, wrongStartOf, firstOf, readingOf, townIn, townOf}
 use Rattle.order.proofs.Tags.{all-pass, failing-number, tags-from, tags-length}
 
 -- 15 or 18
@@ -127,23 +127,29 @@ pub record Town (s town : List ℕ) (order : Order) : Type 0 where
   pub size : (1 ≤ length town) × (length town ≤ longestTown)
   pub text : printable town ≡ true
 
-town-of : (s : List ℕ) (order : Order) → Passed s order → Town s (valueOf s 1) order
+town-of : (s : List ℕ) (order : Order) → Passed s order → Town s (partIn s (order .town)) order
 unfolding fitsOf lookUp isGivenOf orderOf valuesIn
 town-of s order passed =
     let has = has-required (hasOf s) (passed .given) 0 (lit≤ tt) in
     let field = first s 1 (passed .fields) in
+    let is : valueOf s 1 ≡ partIn s (order .town) = ap (λ (o : Order). partIn s (o .town)) (passed .same) in
     record {
-      part = ap (λ (o : Order). partIn s (o .town)) (passed .same);
+      part = refl;
       begins = ap (λ (o : Order). o .town .at) (sym (passed .same)) ∙ field .begins has;
-      long = ap (λ (o : Order). o .town .length) (sym (passed .same)) ∙ field .long;
-      size = fits-between 1 (length (valueOf s 1)) (value-fits s 1 (passed .fields) has);
-      text = fits-given (valuesOf s) (passed .ranges) 1 (lit≤ tt) (lit≤ tt) has;
+      long = ap (λ (o : Order). o .town .length) (sym (passed .same)) ∙ field .long ∙ ap (length {A = ℕ}) is;
+      size = rw (← is) (fits-between 1 (length (valueOf s 1)) (value-fits s 1 (passed .fields) has));
+      text = rw (← is) (fits-given (valuesOf s) (passed .ranges) 1 (lit≤ tt) (lit≤ tt) has);
     }
 
+-- it is the value of tag 1
+pub town-value : (s : List ℕ) (order : Order) → readingOf s ≡ Read order → townOf s ≡ valueOf s 1
+unfolding townOf townIn orderOf valuesIn
+town-value s order e = simp e (ap (λ (o : Order). partIn s (o .town)) (sym (read-passed s order e .same)))
+
 pub read-town : (s : List ℕ) (order : Order) → readingOf s ≡ Read order → Town s (townOf s) order
-unfolding townOf
+unfolding townOf townIn
 read-town s order e = simp e (town-of s order (read-passed s order e))
 
 pub refused-town : (s : List ℕ) (r : Refusal) → readingOf s ≡ Refused r → townOf s ≡ []
-unfolding townOf
+unfolding townOf townIn
 refused-town s r e = simp e
