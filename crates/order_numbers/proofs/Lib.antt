@@ -1,0 +1,4 @@
+pub mod Unsigned
+pub mod NumbersLaws
+pub mod PutLaws
+pub mod CallLaws
