@@ -6,3 +6,5 @@ pub mod Found
 pub mod NumberLaws
 pub mod FloatLaws
 pub mod ValueLaws
+pub mod Lengths
+pub mod RoundTrip
