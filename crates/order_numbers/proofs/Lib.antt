@@ -8,3 +8,6 @@ pub mod FloatLaws
 pub mod ValueLaws
 pub mod Lengths
 pub mod RoundTrip
+pub mod Plain
+pub mod Again
+pub mod Calls

@@ -172,3 +172,8 @@ module _ (c : Choices) where
       let small = stored-small (shiftFor (P (c .shift)) (N (c .shift))) n in
       simp t (said-told u (byte-held (c .imsak) (omega arith)) (omega arith)))
       (λ u. let l : 255 ≤ 30 = simp (t, u) at few in absurd (omega arith)))
+
+  pub ramadan-is : (unsaid c ≡ false → c .ramadan ≡ 1) → c .imsak ≤ 30 → Near 1 (c .shift) → RamadanTold c (ramadanAgain c)
+  ramadan-is one few near =
+      cases (unsaid c) (λ t. simp t (unsaid-told t))
+      (λ t. let small = shift-small (c .shift) near in simp t (said-told (eq-eqb (c .ramadan) 1 (one t)) (byte-is (c .imsak) (omega arith)) (omega arith)))
