@@ -6,7 +6,11 @@ use order_numbers::writing::WrittenOrder;
 use order_numbers::writing::write_order;
 
 #[no_mangle]
-pub extern "C" fn katchidul_write_order(order: OrderNumbers, town: &[u8], buffer: &mut [u8]) -> WrittenOrder
+pub extern "C" fn katchidul_write_order(
+    order: OrderNumbers,
+    town: &[u8],
+    buffer: &mut [u8],
+) -> WrittenOrder
     ensures { λ r. ⌜ r ≡ orderCallOf order (now (town .entry)) (now (buffer .entry)) .answer ⌝ }
     ensures { λ _. ⌜ now (buffer .exit) ≡ orderCallOf order (now (town .entry)) (now (buffer .entry)) .buffer ⌝ }
 {

@@ -3,18 +3,18 @@ use Rattle.order_numbers.specs.Bytes.{fieldBytes, joined}
 use Rattle.order_numbers.specs.Values.{ramadanBytes, unsaid, ramadanFields}
 use Rattle.order_numbers.proofs.put.put_ramadan as this
 
-none : this.Tie.Need-returns
+returns : this.Tie.Need-returns
 unfolding joined ramadanFields
-none c =
+returns c =
     let start = c .before .before .before in
     let a = start .args in
     let room = start .pre .1 in
     let t : unsaid (a .c) ≡ true = sym (c .before .is-unsaid .ensures) ∙ c .if1 .taken in
     simp t (omega arith, sym (append-nil (take (a .at) (now (a .line)))))
 
-one : this.Tie.Need-returns-2
+returns-2 : this.Tie.Need-returns-2
 unfolding joined ramadanFields
-one c =
+returns-2 c =
     let put = c .before .before in
     let made = put .before .before .before in
     let tested = made .before in
@@ -30,4 +30,4 @@ one c =
     )
 
 pub put-ramadan-spec : {M : Type 1} → this.Statement.statement M
-put-ramadan-spec = this.Tie.close (this.Tie.spec (λ c κs. tt) none (λ c κs. tt) (λ c. search needs) (λ c κs. search needs) (λ c. search needs) one)
+put-ramadan-spec = this.Tie.close (this.Tie.spec (λ c κs. tt) returns (λ c κs. tt) (λ c. search needs) (λ c κs. search needs) (λ c. search needs) returns-2)

@@ -3,16 +3,16 @@ use Rattle.order_numbers.specs.Bytes.{fieldBytes, twoBytes}
 use Rattle.order_numbers.specs.Values.{rowsBytes}
 use Rattle.order_numbers.proofs.put.put_rows as this
 
-one-byte : this.Tie.Need-returns
+returns : this.Tie.Need-returns
 unfolding rowsBytes
-one-byte c =
+returns c =
     let put = c .before .before in
     let t = le-leb (put .before .before .before .before .args .rows) 250 (put .before .before .if1 .taken) in
     simp t (omega (arith, put .put-byte .ensures .0), put .put-byte .ensures .1)
 
-two-bytes : this.Tie.Need-returns-2
+returns-2 : this.Tie.Need-returns-2
 unfolding rowsBytes twoBytes
-two-bytes c =
+returns-2 c =
     let put = c .before .before in
     let made = put .before .before .before in
     let start = made .before .before .before .before in
@@ -25,4 +25,4 @@ two-bytes c =
     )
 
 pub put-rows-spec : {M : Type 1} → this.Statement.statement M
-put-rows-spec = this.Tie.close (this.Tie.spec (λ c. search needs) (λ c κs. search needs) (λ c. search needs) one-byte (λ c κs. search needs) (λ c κs. search needs) (λ c. search needs) (λ c κs. search needs) (λ c. search needs) two-bytes)
+put-rows-spec = this.Tie.close (this.Tie.spec (λ c. search needs) (λ c κs. search needs) (λ c. search needs) returns (λ c κs. search needs) (λ c κs. search needs) (λ c. search needs) (λ c κs. search needs) (λ c. search needs) returns-2)

@@ -3,9 +3,9 @@ use Rattle.order_numbers.specs.Bytes.{fieldBytes}
 use Rattle.order_numbers.specs.Values.{townBytes}
 use Rattle.order_numbers.proofs.put.put_town as this
 
--- A town of up to 41 bytes is put whole, a longer one as far as it is taken.
-whole : this.Tie.Need-returns
-whole c =
+-- A town of up to 41 bytes is put returns, a longer one as far as it is taken.
+returns : this.Tie.Need-returns
+returns c =
     let put = c .before .before in
     let town = now (put .before .before .before .before .before .args .town) in
     let e : town ≡ townBytes town = sym (take-all 41 town (put .before .before .if1 .taken)) in
@@ -20,4 +20,4 @@ cut-room c κs =
     (start .pre, omega (arith, length-take 41 (now (start .args .town))))
 
 pub put-town-spec : {M : Type 1} → this.Statement.statement M
-put-town-spec = this.Tie.close (this.Tie.spec (λ c κs. search needs) (λ c. search needs) whole cut-length cut-room (λ c. search needs) (λ c. search needs))
+put-town-spec = this.Tie.close (this.Tie.spec (λ c κs. search needs) (λ c. search needs) returns cut-length cut-room (λ c. search needs) (λ c. search needs))

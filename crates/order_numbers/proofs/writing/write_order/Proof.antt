@@ -12,8 +12,8 @@ cut c =
     let kept = made .kept .0 in
     sym (length-take-le (made .result) (made .last .0) (omega (arith, made .ensures .0)))
 
-no-place : this.Tie.Need-returns
-no-place c =
+returns : this.Tie.Need-returns
+returns c =
     let tested = c .before .before in
     let told = tested .before in
     let read = told .before .before in
@@ -32,8 +32,8 @@ cut-again c =
     let kept = made .kept .0 in
     sym (length-take-le (made .result) (made .last .0) (omega (arith, made .ensures .0)))
 
-not-read : this.Tie.Need-returns-2
-not-read c =
+returns-2 : this.Tie.Need-returns-2
+returns-2 c =
     let told = c .before .before in
     let read = told .before .before in
     let made = read .before .before .before in
@@ -42,8 +42,8 @@ not-read c =
     let call = refused (a .numbers) (now (a .town)) (now (a .buffer)) _ e in
     (c .refuse .ensures ∙ sym (ap (λ (x : OrderCall). x .answer) call), sym (ap (λ (x : OrderCall). x .buffer) call))
 
-written : this.Tie.Need-returns-3
-written c =
+returns-3 : this.Tie.Need-returns-3
+returns-3 c =
     let put = c .before .before .before in
     let tested = put .before .before .before in
     let told = tested .before in
@@ -62,4 +62,4 @@ written c =
     )
 
 pub write-order-spec : {M : Type 1} → this.Statement.statement M
-write-order-spec = this.Tie.close (this.Tie.spec (λ c. search needs) (λ c κs. search needs) (λ c. search needs) cut (λ c κs. search needs) (λ c. search needs) (λ c κs. search needs) (λ c. search needs) (λ c κs. search needs) (λ c κs. search needs) no-place (λ c. search needs) cut-again (λ c κs. search needs) (λ c κs. search needs) (λ c. search needs) not-read (λ c. search needs) written)
+write-order-spec = this.Tie.close (this.Tie.spec (λ c. search needs) (λ c κs. search needs) (λ c. search needs) cut (λ c κs. search needs) (λ c. search needs) (λ c κs. search needs) (λ c. search needs) (λ c κs. search needs) (λ c κs. search needs) returns (λ c. search needs) cut-again (λ c κs. search needs) (λ c κs. search needs) (λ c. search needs) returns-2 (λ c. search needs) returns-3)
