@@ -190,14 +190,6 @@ module _ (order : Order) (a : Accepted order) (g : Given order) where
     unfolding orderRead standsIn valueIn
     date-given = ap dateIn (value 2 refl) ∙ date-is (order .date) (a .date)
 
-    one-in : inRangeOf v 1 ≡ true
-    unfolding fitsOf lookUp standsIn valueIn
-    one-in = ranged 1 (λ t. ap printable (value 1 refl ∙ take-all 41 town (omega arith)) ∙ printed)
-
-    two-in : inRangeOf v 2 ≡ true
-    unfolding fitsOf lookUp
-    two-in = ranged 2 (λ t. ap dateFits date-given ∙ date-fits (order .date) (a .date))
-
     thirty : ramadanRows (order .ramadan .set) (rowsBytes (order .rows)) ≡ true
     unfolding ramadanRows
     thirty = cases (order .ramadan .set) (λ t. simp t (eq-eqb (rowsIn (rowsBytes (order .rows))) 30 (rows-is (order .rows) (a .rows .1) ∙ a .ramadan t .rows))) (λ t. simp t)
@@ -213,48 +205,8 @@ module _ (order : Order) (a : Accepted order) (g : Given order) where
     degrees-in : (low high x : Float) (tag : ℕ) → v .value tag ≡ floatBytes x → degreesIn (floatBytes x) ≡ x → Inside low high x → degreesFit low high (v .value tag) ≡ true
     degrees-in low high x tag e s i = ap (λ (y : Float). insideOf low high y) (ap degreesIn e ∙ s) ∙ simp (i .0, i .1)
 
-    four-in : inRangeOf v 4 ≡ true
-    unfolding orderRead fitsOf lookUp standsIn valueIn
-    four-in = ranged 4 (λ t. degrees-in (neg (dec 90 0)) (dec 90 0) (order .coordinates .latitude) 4 (value 4 refl) (sayable .latitude) (a .latitude))
-
-    five-in : inRangeOf v 5 ≡ true
-    unfolding orderRead fitsOf lookUp standsIn valueIn
-    five-in = ranged 5 (λ t. degrees-in (neg (dec 180 0)) (dec 180 0) (order .coordinates .longitude) 5 (value 5 refl) (sayable .longitude) (a .longitude))
-
     chosen : (tag k : ℕ) → v .value tag ≡ byteFor k ∷ [] → T (leb (column tag 3) 255) → choiceFits tag k ≡ true → choiceFits tag (byteOf (v .value tag) 0) ≡ true
     chosen tag k e few c = ap (λ (x : List ℕ). choiceFits tag (byteOf x 0)) e ∙ choice-in tag k few c
-
-    six-in : inRangeOf v 6 ≡ true
-    unfolding orderRead fitsOf lookUp standsIn valueIn
-    six-in = ranged 6 (λ t. chosen 6 _ (value 6 refl) tt (method-fits (order .parameters .method)))
-
-    seven-in : inRangeOf v 7 ≡ true
-    unfolding orderRead fitsOf lookUp standsIn valueIn
-    seven-in = ranged 7 (λ t. chosen 7 _ (value 7 refl) tt (madhab-fits (order .parameters .madhab)))
-
-    eight-in : inRangeOf v 8 ≡ true
-    unfolding orderRead fitsOf lookUp standsIn valueIn
-    eight-in = ranged 8 (λ t. chosen 8 _ (value 8 refl) tt (rule-fits (order .parameters .«high_latitude_rule»)))
-
-    nine-in : inRangeOf v 9 ≡ true
-    unfolding orderRead fitsOf lookUp standsIn valueIn
-    nine-in = ranged 9 (λ t. chosen 9 _ (value 9 refl) tt (rounding-fits (order .parameters .rounding)))
-
-    ten-in : inRangeOf v 10 ≡ true
-    unfolding orderRead fitsOf lookUp standsIn valueIn
-    ten-in = ranged 10 (λ t. chosen 10 _ (value 10 refl) tt (shafaq-fits (order .parameters .shafaq)))
-
-    eleven-in : inRangeOf v 11 ≡ true
-    unfolding orderRead fitsOf lookUp standsIn valueIn
-    eleven-in = ranged 11 (λ t. ap (λ (x : List ℕ). minutesFit (minutesIn x)) (value 11 refl) ∙ ap minutesFit (sayable .minutes) ∙ minutes-fits (order .parameters .adjustments) (a .own))
-
-    twelve-in : inRangeOf v 12 ≡ true
-    unfolding orderRead fitsOf lookUp standsIn valueIn
-    twelve-in = ranged 12 (λ t. degrees-in (dec 0 0) (dec 30 0) (order .parameters .«fajr_angle») 12 (value 12 refl) (sayable .fajr) (a .«fajr_angle»))
-
-    thirteen-in : inRangeOf v 13 ≡ true
-    unfolding orderRead fitsOf lookUp standsIn valueIn
-    thirteen-in = ranged 13 (λ t. degrees-in (dec 0 0) (dec 30 0) (order .parameters .«isha_angle») 13 (value 13 refl) (sayable .isha) (a .«isha_angle»))
 
     fourteen-in : inRangeOf v 14 ≡ true
     unfolding orderRead fitsOf lookUp intervalFits standsIn valueIn
@@ -265,25 +217,9 @@ module _ (order : Order) (a : Accepted order) (g : Given order) where
         let bytes = value 14 refl in
         ranged 14 (λ t. rw bytes (simp (le-leb 0 k (omega arith), le-leb k 1440 l)))
 
-    fifteen-in : inRangeOf v 15 ≡ true
-    unfolding orderRead fitsOf lookUp standsIn valueIn
-    fifteen-in = ranged 15 (λ t. chosen 15 _ (value 15 refl) tt (midnight-fits (order .rules .midnight)))
-
     sixteen-in : inRangeOf v 16 ≡ true
     unfolding orderRead fitsOf lookUp clockFits standsIn valueIn
     sixteen-in = let bytes = value 16 refl in ranged 16 (λ t. rw (bytes, clock-is (order .clock) (a .clock)) (near-fits 839 (order .clock) (a .clock)))
-
-    seventeen-in : inRangeOf v 17 ≡ true
-    unfolding orderRead fitsOf lookUp standsIn valueIn
-    seventeen-in = ranged 17 (λ t. chosen 17 _ (value 17 refl) tt (southern-fits (order .rules .southern)))
-
-    eighteen-in : inRangeOf v 18 ≡ true
-    unfolding inRangeOf
-    eighteen-in = simp (back.none-18 n town v has value)
-
-    nineteen-in : inRangeOf v 19 ≡ true
-    unfolding inRangeOf
-    nineteen-in = simp (back.none-19 n town v has value)
 
     twenty-in : inRangeOf v 20 ≡ true
     unfolding orderRead setNumberOf unsaid fitsOf lookUp ramadanFits ramadanBytes
@@ -297,8 +233,30 @@ module _ (order : Order) (a : Accepted order) (g : Given order) where
 
     -- ---- so no check refuses
     all-in : outOfRangeOf v .number ≡ 0
-    unfolding outOfRangeOf firstFailing tagsFrom
-    all-in = simp (one-in, two-in, three-in, four-in, five-in, six-in, seven-in, eight-in, nine-in, ten-in, eleven-in, twelve-in, thirteen-in, fourteen-in, fifteen-in, sixteen-in, seventeen-in, eighteen-in, nineteen-in, twenty-in)
+    unfolding outOfRangeOf firstFailing tagsFrom inRangeOf orderRead fitsOf lookUp standsIn valueIn
+    all-in =
+        simp (
+          ranged 1 (λ t. ap printable (value 1 refl ∙ take-all 41 town (omega arith)) ∙ printed),
+          ranged 2 (λ t. ap dateFits date-given ∙ date-fits (order .date) (a .date)),
+          three-in,
+          ranged 4 (λ t. degrees-in (neg (dec 90 0)) (dec 90 0) (order .coordinates .latitude) 4 (value 4 refl) (sayable .latitude) (a .latitude)),
+          ranged 5 (λ t. degrees-in (neg (dec 180 0)) (dec 180 0) (order .coordinates .longitude) 5 (value 5 refl) (sayable .longitude) (a .longitude)),
+          ranged 6 (λ t. chosen 6 _ (value 6 refl) tt (method-fits (order .parameters .method))),
+          ranged 7 (λ t. chosen 7 _ (value 7 refl) tt (madhab-fits (order .parameters .madhab))),
+          ranged 8 (λ t. chosen 8 _ (value 8 refl) tt (rule-fits (order .parameters .«high_latitude_rule»))),
+          ranged 9 (λ t. chosen 9 _ (value 9 refl) tt (rounding-fits (order .parameters .rounding))),
+          ranged 10 (λ t. chosen 10 _ (value 10 refl) tt (shafaq-fits (order .parameters .shafaq))),
+          ranged 11 (λ t. ap (λ (x : List ℕ). minutesFit (minutesIn x)) (value 11 refl) ∙ ap minutesFit (sayable .minutes) ∙ minutes-fits (order .parameters .adjustments) (a .own)),
+          ranged 12 (λ t. degrees-in (dec 0 0) (dec 30 0) (order .parameters .«fajr_angle») 12 (value 12 refl) (sayable .fajr) (a .«fajr_angle»)),
+          ranged 13 (λ t. degrees-in (dec 0 0) (dec 30 0) (order .parameters .«isha_angle») 13 (value 13 refl) (sayable .isha) (a .«isha_angle»)),
+          fourteen-in,
+          ranged 15 (λ t. chosen 15 _ (value 15 refl) tt (midnight-fits (order .rules .midnight))),
+          sixteen-in,
+          ranged 17 (λ t. chosen 17 _ (value 17 refl) tt (southern-fits (order .rules .southern))),
+          back.none-18 n town v has value,
+          back.none-19 n town v has value,
+          twenty-in,
+        )
 
     none-missing : missingOf (v .has) .number ≡ 0
     unfolding missingOf firstFailing isGivenOf lookUp standsIn
