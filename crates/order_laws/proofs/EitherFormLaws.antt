@@ -25,7 +25,7 @@ use Rattle.schedule.specs.declared.prayer_times.Worked.the-variants.{Times, Ref
 use Rattle.weeks.specs.Lines.{reportOf}
 use Rattle.weeks.specs.Report.{minuteIn, minutesOf, ordersReport, weekText}
 use Rattle.order_laws.specs.Minutes.{withOwnMinutes}
-use Rattle.order_laws.specs.EitherForm.{saysPlace, SamePlace, withTown, EitherFormAnswersAlike, EitherFormMovesAlike}
+use Rattle.order_laws.specs.EitherForm.{saysPlace, SamePlace, withTown, SameAnswers, EitherFormAnswersAlike, EitherFormMovesAlike}
 
 -- ---- where the town stands changes nothing
 lines-same : (o : Order) (town : Part) (n : ℕ) → linesText (withTown o town) n ≡ linesText o n
@@ -75,6 +75,68 @@ one-same row o town = refl
 
 piece-same : (page first : ℕ) (scratch : List ℕ) (o : Order) (town : Part) → pieceIn page first scratch (withTown o town) ≡ pieceIn page first scratch o
 piece-same page first scratch o town = rw (page-same o town page)
+
+-- ---- what is answered, of two orders whose records are the same but for where the town is
+module _ (a b : List ℕ) (o p : Order) (x : readingOf a ≡ Read o) (y : readingOf b ≡ Read p) (given : withTown o (p .town) ≡ p)
+    (town : townOf a ≡ townOf b) where
+  sheet-same : sheetText a ≡ sheetText b
+  unfolding reportIn
+  sheet-same =
+      rw (x, y)
+      (ap (λ (t : List ℕ). acceptedText t o) town
+      ∙ sym (text-same (townOf b) o (p .town))
+      ∙ ap (acceptedText (townOf b)) given)
+
+  day-same : (row : ℕ) → workDayOf a row ≡ workDayOf b row
+  unfolding workDayOf workReadingOf workRowOf
+  day-same row = rw (x, y, ← given)
+
+  at-same : (row : ℕ) (i : Instant) → workAtOf a row i ≡ workAtOf b row i
+  unfolding workAtOf
+  at-same row i = rw (day-same row)
+
+  row-same : (row : ℕ) (buffer : List ℕ) → rowCallOf a row buffer ≡ rowCallOf b row buffer
+  unfolding rowCallOf readCallOf workRowOf
+  row-same row buffer = rw (x, y, ← given)
+
+  all-same : allCells o ≡ allCells p
+  all-same = sym (pages-same o (p .town) (pageCount o)) ∙ ap allCells given
+
+  wear-same : wearText a ≡ wearText b
+  unfolding reportIn
+  wear-same = rw (x, y, all-same)
+
+  cells-same : cellsText a ≡ cellsText b
+  unfolding reportIn
+  cells-same = rw (x, y) all-same
+
+  week-same : weekText a ≡ weekText b
+  unfolding reportIn
+  week-same =
+      rw (x, y)
+      (ap reportOf (sym (minutes-same o (p .town) (o .rows))) ∙ ap ordersReport given)
+
+  module _ (asked : Order → Rows) (town-free : (o : Order) (town : Part) → asked (withTown o town) ≡ asked o) (buffer : List ℕ) where
+    asked-same : askedCallOf asked rowLength a buffer ≡ askedCallOf asked rowLength b buffer
+    asked-same = asked-alike asked town-free rowLength a b o p x y given buffer
+
+  pub answered-alike : SameAnswers a b
+  unfolding prayerAtOf nextAtOf remainingAtOf
+  answered-alike =
+      record {
+        town = town;
+        sheet = sheet-same;
+        day = day-same;
+        prayer = λ row i. rw (at-same row i);
+        next = λ row i. rw (at-same row i);
+        remaining = λ row i. rw (at-same row i);
+        «row_call» = row-same;
+        «cells_call» = λ row buffer. asked-same (oneRow row) (one-same row) buffer;
+        «page_call» = λ page first scratch. asked-same (pieceIn page first scratch) (piece-same page first scratch) scratch;
+        wear = wear-same;
+        cells = cells-same;
+        week = week-same;
+      }
 
 -- ---- what the tags give
 module _ (a b : List ℕ) (orders : SamePlace a b) where
@@ -149,70 +211,14 @@ module _ (a b : List ℕ) (orders : SamePlace a b) where
       subst (λ (o : Order). withTown o (orders .second .town) ≡ orders .second) first-same
       (subst (λ (o : Order). withTown (orderOf (valuesOf a)) (o .town) ≡ o) second-same given-same)
 
-  -- ---- and what is answered
   town-same : townOf a ≡ townOf b
   unfolding townOf
   town-same = rw (orders .«first_read», orders .«second_read») (value 1 (lit≤ tt) refl)
 
-  sheet-same : sheetText a ≡ sheetText b
-  unfolding reportIn
-  sheet-same =
-      rw (orders .«first_read», orders .«second_read»)
-      (ap (λ (t : List ℕ). acceptedText t (orders .first)) town-same
-      ∙ sym (text-same (townOf b) (orders .first) (orders .second .town))
-      ∙ ap (acceptedText (townOf b)) given)
-
-  day-same : (row : ℕ) → workDayOf a row ≡ workDayOf b row
-  unfolding workDayOf workReadingOf workRowOf
-  day-same row = rw (orders .«first_read», orders .«second_read», ← given)
-
-  at-same : (row : ℕ) (i : Instant) → workAtOf a row i ≡ workAtOf b row i
-  unfolding workAtOf
-  at-same row i = rw (day-same row)
-
-  row-same : (row : ℕ) (buffer : List ℕ) → rowCallOf a row buffer ≡ rowCallOf b row buffer
-  unfolding rowCallOf readCallOf workRowOf
-  row-same row buffer = rw (orders .«first_read», orders .«second_read», ← given)
-
-  all-same : allCells (orders .first) ≡ allCells (orders .second)
-  all-same = sym (pages-same (orders .first) (orders .second .town) (pageCount (orders .first))) ∙ ap allCells given
-
-  wear-same : wearText a ≡ wearText b
-  unfolding reportIn
-  wear-same = rw (orders .«first_read», orders .«second_read», all-same)
-
-  cells-same : cellsText a ≡ cellsText b
-  unfolding reportIn
-  cells-same = rw (orders .«first_read», orders .«second_read») all-same
-
-  week-same : weekText a ≡ weekText b
-  unfolding reportIn
-  week-same =
-      rw (orders .«first_read», orders .«second_read»)
-      (ap reportOf (sym (minutes-same (orders .first) (orders .second .town) (orders .first .rows))) ∙ ap ordersReport given)
-
-  module _ (asked : Order → Rows) (town-free : (o : Order) (town : Part) → asked (withTown o town) ≡ asked o) (buffer : List ℕ) where
-    asked-same : askedCallOf asked rowLength a buffer ≡ askedCallOf asked rowLength b buffer
-    asked-same = asked-alike asked town-free rowLength a b (orders .first) (orders .second) (orders .«first_read») (orders .«second_read») given buffer
-
 pub either-form-answers-alike : EitherFormAnswersAlike
-unfolding prayerAtOf nextAtOf remainingAtOf
 either-form-answers-alike a b orders =
-    record {
-      given = given a b orders;
-      town = town-same a b orders;
-      sheet = sheet-same a b orders;
-      day = day-same a b orders;
-      prayer = λ row i. rw (at-same a b orders row i);
-      next = λ row i. rw (at-same a b orders row i);
-      remaining = λ row i. rw (at-same a b orders row i);
-      «row_call» = row-same a b orders;
-      «cells_call» = λ row buffer. asked-same a b orders (oneRow row) (one-same row) buffer;
-      «page_call» = λ page first scratch. asked-same a b orders (pieceIn page first scratch) (piece-same page first scratch) scratch;
-      wear = wear-same a b orders;
-      cells = cells-same a b orders;
-      week = week-same a b orders;
-    }
+    let same = given a b orders in
+    (same, answered-alike a b (orders .first) (orders .second) (orders .«first_read») (orders .«second_read») same (town-same a b orders))
 
 -- ---- demand 3
 moved-town : (f g : Order) (p q : Part) → withOwnMinutes f (g .town) (g .parameters .adjustments) ≡ g

@@ -48,9 +48,8 @@ withTown order town =
       ramadan = order .ramadan;
     }
 
-pub record SameAnswers (a b : List ℕ) (orders : SamePlace a b) : Type 0 where
-  -- the record, but for where the town stands, and the town
-  pub given : withTown (orders .first) (orders .second .town) ≡ orders .second
+-- whatever is asked of two orders, the answers are the same
+pub record SameAnswers (a b : List ℕ) : Type 0 where
   pub town : townOf a ≡ townOf b
   pub sheet : sheetText a ≡ sheetText b
   -- the calls on a row, on an instant, and on a row buffer: answer and buffer
@@ -67,8 +66,10 @@ pub record SameAnswers (a b : List ℕ) (orders : SamePlace a b) : Type 0 where
   -- the week's report
   pub week : weekText a ≡ weekText b
 
+-- the record is the same but for where the town is, and so are the answers
 abbrev pub EitherFormAnswersAlike : Type 0
-EitherFormAnswersAlike = (a b : List ℕ) (orders : SamePlace a b) → SameAnswers a b orders
+EitherFormAnswersAlike = (a b : List ℕ) (orders : SamePlace a b)
+    → (withTown (orders .first) (orders .second .town) ≡ orders .second) × SameAnswers a b
 
 -- "shifts by minutes included": where demand 3 speaks of two orders, it speaks of them with the place sent the other way too
 abbrev pub EitherFormMovesAlike : Type 0
