@@ -193,7 +193,8 @@ module _ (a b : List ℕ) (orders : SamePlace a b) where
 
   module _ (asked : Order → Rows) (town-free : (o : Order) (town : Part) → asked (withTown o town) ≡ asked o) (buffer : List ℕ) where
     asked-same : askedCallOf asked rowLength a buffer ≡ askedCallOf asked rowLength b buffer
-    asked-same = asked-alike asked town-free rowLength a b (orders .first) (orders .second) (orders .«first_read») (orders .«second_read») given buffer
+    asked-same =
+        asked-alike asked town-free rowLength a b (orders .first) (orders .second) (orders .«first_read») (orders .«second_read») given buffer
 
 pub either-form-answers-alike : EitherFormAnswersAlike
 unfolding prayerAtOf nextAtOf remainingAtOf
