@@ -70,7 +70,8 @@ module _ (a b : List ℕ) (orders : LaterOrder a b) (row : ℕ) where
 
   -- ---- an instant
   module _ (t u : Instant) (ht : instantFits t ≡ true) (hu : instantFits u ≡ true) where
-    in-force : NotAfter u t → (p q : InForce) → prayerAtOf a row t ≡ p → prayerAtOf b row u ≡ q → prayerGot b row u .prayer ≤ prayerGot a row t .prayer
+    in-force : NotAfter u t → (p q : InForce) → prayerAtOf a row t ≡ p → prayerAtOf b row u ≡ q
+        → prayerGot b row u .prayer ≤ prayerGot a row t .prayer
     unfolding prayerAnswerOf
     in-force after (force.Prayer x) (force.Prayer y) e f = rw (e, f) (moved .«in_force» t u ht hu after x y e f)
     in-force after (force.Refused r) (force.Prayer y) e f =
@@ -79,7 +80,8 @@ module _ (a b : List ℕ) (orders : LaterOrder a b) (row : ℕ) where
         absurd (omega arith)
     in-force after p (force.Refused r) e f = rw f (omega arith)
 
-    refused-alike : (p q : InForce) → prayerAtOf a row t ≡ p → prayerAtOf b row u ≡ q → prayerGot a row t .refusal ≡ prayerGot b row u .refusal
+    refused-alike : (p q : InForce) → prayerAtOf a row t ≡ p → prayerAtOf b row u ≡ q
+        → prayerGot a row t .refusal ≡ prayerGot b row u .refusal
     unfolding prayerAnswerOf
     refused-alike (force.Prayer x) (force.Prayer y) e f = rw (e, f)
     refused-alike (force.Prayer x) (force.Refused r) e f =

@@ -11,7 +11,7 @@ use Rattle.joblog_laws.specs.Histories.{pagesTo, Kept, HistoriesAreKept,
 use Rattle.joblog.proofs.CompactLaws.{compacted-length}
 use Rattle.joblog_laws.proofs.HeldLaws.{held-read, sent, restart-held}
 use Rattle.joblog_laws.proofs.PageLaws.{pages-front, listed-pages}
-use Rattle.joblog_laws.proofs.StepLaws.{Inv, counted, held-now, count-between, restarted, restart-kept, run-kept, begun-kept}
+use Rattle.joblog_laws.proofs.StepLaws.{count, Inv, counted, held-now, count-between, restarted, restart-kept, run-kept, begun-kept}
 
 -- ---- what the request promises follows
 not-listed : (b : Bool) → (b ≡ true → ⊥) → b ≡ false
@@ -26,7 +26,7 @@ room-answer t place log second =
 
 kept : (w : World) → Inv w → Kept w
 kept w i =
-    let n = length (w .embosser .finished) in
+    let n = count w in
     let r = held-read (w .host .log) (w .host .used) (i .says) (held-now w i) in
     let l = length-append (w .embosser .finished) (w .embosser .tray) in
     let c = counted w i in
@@ -40,7 +40,8 @@ kept w i =
       «none_again» = λ up.
           let o = i .out up in
           not-listed (listed (w .embosser .finished) (w .host .out + 1))
-          (λ h. let m = listed-pages n (w .host .out + 1) (subst (λ (pages : List ℕ). listed pages (w .host .out + 1) ≡ true) order h) in omega arith);
+          (λ h. let m = listed-pages n (w .host .out + 1) (subst (λ (pages : List ℕ). listed pages (w .host .out + 1) ≡ true) order h) in
+          omega arith);
       readable = ap (λ (a : Log). a .number) r;
       behind = rw r (i .behind);
       ahead = rw r (omega arith);
@@ -54,7 +55,8 @@ histories-are-kept buffer steps = kept (run asRequested (begun buffer) steps) (r
 -- a host that runs and is in no append
 abbrev resting : (log : List ℕ) (used out : ℕ) (heard tray finished coming : List ℕ) → World
 resting log used out heard tray finished coming =
-    world (record { log = log; used = used; up = true; out = out; writing = idle; heard = heard }) (record { tray = tray; finished = finished; coming = coming })
+    world (record { log = log; used = used; up = true; out = out; writing = idle; heard = heard })
+    (record { tray = tray; finished = finished; coming = coming })
 
 one-out : (log : List ℕ) (used out : ℕ) (heard finished coming : List ℕ) → out + 1 ≤ readLogOf log used .sent
     → next asRequested (resting log used out heard [] finished coming) goes ≡ resting log used (out + 1) heard ((out + 1) ∷ []) finished coming
@@ -68,22 +70,23 @@ sent-out zero log used out heard finished coming h = omega arith
 sent-out (suc k) log used out heard finished coming h =
     let a = length-append finished ((out + 1) ∷ []) in
     let l : length (finished ++ ((out + 1) ∷ [])) + k ≡ length finished + suc k = omega arith in
-    ap (λ (w : World). length (run asRequested (next asRequested w finishes) (sendAll k) .embosser .finished)) (one-out log used out heard finished coming (omega arith))
+    ap (λ (w : World). length (run asRequested (next asRequested w finishes) (sendAll k) .embosser .finished))
+    (one-out log used out heard finished coming (omega arith))
     ∙ sent-out k log used (out + 1) heard (finished ++ ((out + 1) ∷ [])) (coming ++ ((out + 1) ∷ [])) (omega arith)
     ∙ l
 
-restart-world : (w : World) (i : Inv w) (second : List ℕ) → length (compactedOf (state (length (w .embosser .finished)) (i .says .sent))) ≤ length second
+restart-world : (w : World) (i : Inv w) (second : List ℕ) → length (compactedOf (state (count w) (i .says .sent))) ≤ length second
     → next asRequested w (restart second)
-    ≡ resting (putOf second 0 (compactedOf (state (length (w .embosser .finished)) (i .says .sent))))
-    (length (compactedOf (state (length (w .embosser .finished)) (i .says .sent)))) (length (w .embosser .finished)) (w .host .heard) [] (w .embosser .finished)
+    ≡ resting (putOf second 0 (compactedOf (state (count w) (i .says .sent))))
+    (length (compactedOf (state (count w) (i .says .sent)))) (count w) (w .host .heard) [] (w .embosser .finished)
     (w .embosser .coming)
 unfolding next compactAnswer
 restart-world w i second room = rw (restarted w i second, le-leb _ _ room)
 
-come : (w : World) (i : Inv w) (second : List ℕ) → 5 + 5 * (i .says .sent - length (w .embosser .finished)) ≤ length second
-    → run asRequested (next asRequested w (restart second)) (sendAll (i .says .sent - length (w .embosser .finished))) .embosser .finished ≡ pagesTo (i .says .sent)
+come : (w : World) (i : Inv w) (second : List ℕ) → 5 + 5 * (i .says .sent - count w) ≤ length second
+    → run asRequested (next asRequested w (restart second)) (sendAll (i .says .sent - count w)) .embosser .finished ≡ pagesTo (i .says .sent)
 come w i second room =
-    let n = length (w .embosser .finished) in
+    let n = count w in
     let s = i .says .sent in
     let t = state n s in
     let b = count-between w i in

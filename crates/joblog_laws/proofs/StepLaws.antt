@@ -54,29 +54,37 @@ below-behind n page [] b h = (h, tt)
 below-behind n page (p ∷ pages) b h = (b .0, below-behind n page pages (b .1) h)
 
 -- ---- what every step keeps
+-- the embosser's count
+abbrev pub count : World → ℕ
+count w = length (w .embosser .finished)
+
 pub record Inv (w : World) : Type 0 where
   pub says : State
   pub base : List ℕ
   pub held : Held base (w .host .used) says
-  pub flight : Flight base (w .host .log) (w .host .used) says (length (w .embosser .finished)) (w .host .writing)
+  pub flight : Flight base (w .host .log) (w .host .used) says (count w) (w .host .writing)
   pub last : ℕ
   pub here : w .embosser .finished ++ w .embosser .tray ≡ pagesTo last
-  pub behind : says .finished ≤ length (w .embosser .finished)
+  pub behind : says .finished ≤ count w
   pub ahead : last ≤ says .sent
   pub out : w .host .up ≡ true → w .host .out ≡ last
   -- an acknowledgement is of a finished page
-  pub heard : Below (length (w .embosser .finished)) (w .host .heard)
-  pub coming : Below (length (w .embosser .finished)) (w .embosser .coming)
+  pub heard : Below (count w) (w .host .heard)
+  pub coming : Below (count w) (w .embosser .coming)
 
 -- with another host
 abbrev HostInv : World → Host → Type 0
 HostInv w h = Inv (world h (w .embosser))
 
-pub counted : (w : World) (i : Inv w) → length (w .embosser .finished) + length (w .embosser .tray) ≡ i .last
-counted w i = let l = pages-length (i .last) in let n = length-append (w .embosser .finished) (w .embosser .tray) in let e = ap length (i .here) in omega arith
+pub counted : (w : World) (i : Inv w) → count w + length (w .embosser .tray) ≡ i .last
+counted w i =
+    let l = pages-length (i .last) in
+    let n = length-append (w .embosser .finished) (w .embosser .tray) in
+    let e = ap length (i .here) in
+    omega arith
 
 pub held-now : (w : World) (i : Inv w) → Held (w .host .log) (w .host .used) (i .says)
-held-now w i = flight-held (i .base) (w .host .log) (w .host .used) (i .says) (length (w .embosser .finished)) (w .host .writing) (i .held) (i .flight)
+held-now w i = flight-held (i .base) (w .host .log) (w .host .used) (i .says) (count w) (w .host .writing) (i .held) (i .flight)
 
 -- a done is of a finished page, so that the count stays between
 change-between : {s t : State} {tag page : ℕ} → Change s tag page t → (n : ℕ) → s .finished ≤ n → (tag ≡ 2 → page ≤ n) → (t .finished ≤ n) × (s .sent ≤ t .sent)
@@ -86,7 +94,7 @@ change-between (done a b c) n h d = let k = d a in (omega arith, omega arith)
 
 -- the log goes on, and the pages stay where they are
 log-kept : (w : World) (i : Inv w) {log : List ℕ} {used : ℕ} {writing : Writing} (s : State) (base : List ℕ) → Held base used s
-    → Flight base log used s (length (w .embosser .finished)) writing → s .finished ≤ length (w .embosser .finished) → i .last ≤ s .sent
+    → Flight base log used s (count w) writing → s .finished ≤ count w → i .last ≤ s .sent
     → Inv (world (writes (w .host) log used writing) (w .embosser))
 log-kept w i s base h f b a =
     record {
@@ -104,7 +112,8 @@ log-kept w i s base h f b a =
     }
 
 -- pages or what is heard of them go on, and the log stays
-pages-kept : (w : World) (i : Inv w) {heard tray finished coming : List ℕ} → length (w .embosser .finished) ≤ length finished → finished ++ tray ≡ w .embosser .finished ++ w .embosser .tray
+pages-kept : (w : World) (i : Inv w) {heard tray finished coming : List ℕ} → count w ≤ length finished
+    → finished ++ tray ≡ w .embosser .finished ++ w .embosser .tray
     → Below (length finished) heard → Below (length finished) coming
     → Inv (world (hasHeard (w .host) heard) (record { tray = tray; finished = finished; coming = coming }))
 pages-kept w i {finished = finished} more all h c =
@@ -113,7 +122,7 @@ pages-kept w i {finished = finished} more all h c =
       says = i .says;
       base = i .base;
       held = i .held;
-      flight = flight-more (i .base) (w .host .log) (w .host .used) (i .says) (length (w .embosser .finished)) (length finished) (w .host .writing) more (i .flight);
+      flight = flight-more (i .base) (w .host .log) (w .host .used) (i .says) (count w) (length finished) (w .host .writing) more (i .flight);
       last = i .last;
       here = all ∙ i .here;
       behind = omega arith;
@@ -125,19 +134,20 @@ pages-kept w i {finished = finished} more all h c =
 
 -- the append that is under way
 in-flight : (w : World) (i : Inv w) {tag page : ℕ} {c : LogCall} {k : ℕ} → w .host .writing ≡ within tag page c k
-    → Within (i .base) (w .host .log) (w .host .used) (i .says) (length (w .embosser .finished)) tag page c k
-in-flight w i e = subst (Flight (i .base) (w .host .log) (w .host .used) (i .says) (length (w .embosser .finished))) e (i .flight)
+    → Within (i .base) (w .host .log) (w .host .used) (i .says) (count w) tag page c k
+in-flight w i e = subst (Flight (i .base) (w .host .log) (w .host .used) (i .says) (count w)) e (i .flight)
 
 -- ---- an append begins
-may-append : (w : World) (i : Inv w) (tag page : ℕ) → mayAppend asRequested (w .host) tag page ≡ true → tag ≡ 2 → page ≤ length (w .embosser .finished)
+may-append : (w : World) (i : Inv w) (tag page : ℕ) → mayAppend asRequested (w .host) tag page ≡ true → tag ≡ 2 → page ≤ count w
 may-append w i tag page h two =
     let k = both (w .host .up) (cond (eqb tag 2) (acknowledged (w .host .heard) page) true) h in
-    below-acknowledged (length (w .embosser .finished)) (w .host .heard) page (i .heard) (rw two at (k .1))
+    below-acknowledged (count w) (w .host .heard) page (i .heard) (rw two at (k .1))
 
 no-bytes : (log : List ℕ) (used : ℕ) (c : LogCall) (tag page : ℕ) → used ≤ length log → log ≡ cutLog log used c tag page 0
 no-bytes log used c tag page fits = arms (λ (x : List ℕ). log ≡ x) (inPlace c) (λ b. sym (put-nothing log (wholeOf used) (omega arith))) (λ b. refl)
 
-begins-kept : (w : World) → Inv w → (x : Writing) → w .host .writing ≡ x → (tag page : ℕ) (second : List ℕ) → Inv (world (beginning asRequested (w .host) x tag page second) (w .embosser))
+begins-kept : (w : World) → Inv w → (x : Writing) → w .host .writing ≡ x → (tag page : ℕ) (second : List ℕ)
+    → Inv (world (beginning asRequested (w .host) x tag page second) (w .embosser))
 unfolding beginning
 begins-kept w i (within t p c k) e tag page second = i
 begins-kept w i idle e tag page second =
@@ -196,27 +206,27 @@ completes-kept w i idle e = i
 completes-kept w i (within tag page c k) e =
     let f = in-flight w i e in
     let a = append-after (i .base) (w .host .used) (i .says) tag page (f .second) (i .held) (f .outcome) in
-    let b = change-between (a .how) (length (w .embosser .finished)) (i .behind) (f .told) in
+    let b = change-between (a .how) (count w) (i .behind) (f .told) in
     let h = i .ahead in
     arms (HostInv w) (inPlace c && ltb k 5) (λ t. i) (λ t. log-kept w i (a .to) (logAfter c) (a .held) refl (b .0) (omega arith))
 
 -- ---- a restart: the log says the count, and the tray is empty
-pub count-between : (w : World) (i : Inv w) → (i .says .finished ≤ length (w .embosser .finished)) × (length (w .embosser .finished) ≤ i .says .sent)
+pub count-between : (w : World) (i : Inv w) → (i .says .finished ≤ count w) × (count w ≤ i .says .sent)
 count-between w i = let c = counted w i in let h = i .ahead in (i .behind, omega arith)
 
 pub restarted : (w : World) (i : Inv w) (second : List ℕ)
-    → restartOf (w .host .log) (w .host .used) (length (w .embosser .finished)) second
-    ≡ compactingOf (state (length (w .embosser .finished)) (i .says .sent)) (compactedOf (state (length (w .embosser .finished)) (i .says .sent))) (length (w .embosser .finished)) (w .host .log) second
+    → restartOf (w .host .log) (w .host .used) (count w) second
+    ≡ compactingOf (state (count w) (i .says .sent)) (compactedOf (state (count w) (i .says .sent))) (count w) (w .host .log) second
 restarted w i second =
     let b = count-between w i in
-    restart-outcome (w .host .log) (w .host .used) (i .says) (held-now w i) (length (w .embosser .finished)) second (b .0) (b .1)
+    restart-outcome (w .host .log) (w .host .used) (i .says) (held-now w i) (count w) second (b .0) (b .1)
 
 pub restart-kept : (w : World) (i : Inv w) (second : List ℕ) → Inv (next asRequested w (restart second))
 unfolding next compactAnswer
 restart-kept w i second = rw (restarted w i second) (by-room (leb (length (compactedOf t)) (length second)) refl)
   where
     n : ℕ
-    n = length (w .embosser .finished)
+    n = count w
 
     t : State
     t = state n (i .says .sent)
@@ -242,7 +252,8 @@ restart-kept w i second = rw (restarted w i second) (by-room (leb (length (compa
 
     after : LogCall → World
     after c =
-        world (record { log = logAfter c; used = usedAfter c (w .host .used); up = eqb (c .answer .number) 0; out = n; writing = idle; heard = w .host .heard })
+        let used = usedAfter c (w .host .used) in
+        world (record { log = logAfter c; used = used; up = eqb (c .answer .number) 0; out = n; writing = idle; heard = w .host .heard })
         (holds (w .embosser) [])
 
     by-room : (b : Bool) → leb (length (compactedOf t)) (length second) ≡ b
@@ -263,11 +274,13 @@ finish-kept w [] e i = i
 finish-kept w (page ∷ rest) e i =
     let done = w .embosser .finished ++ (page ∷ []) in
     let n = length-append (w .embosser .finished) (page ∷ []) in
-    let all : w .embosser .finished ++ (page ∷ rest) ≡ w .embosser .finished ++ w .embosser .tray = ap (λ (l : List ℕ). w .embosser .finished ++ l) (sym e) in
-    let more : (pages : List ℕ) → Below (length (w .embosser .finished)) pages → Below (length done) pages =
-    λ pages b. below-more (length (w .embosser .finished)) (length done) pages (omega arith) b in
+    let all : w .embosser .finished ++ (page ∷ rest) ≡ w .embosser .finished ++ w .embosser .tray =
+    ap (λ (l : List ℕ). w .embosser .finished ++ l) (sym e) in
+    let first = first-page (w .embosser .finished) page rest (i .last) (all ∙ i .here) in
+    let more : (pages : List ℕ) → Below (count w) pages → Below (length done) pages =
+    λ pages b. below-more (count w) (length done) pages (omega arith) b in
     pages-kept w i (omega arith) (append-assoc (w .embosser .finished) (page ∷ []) rest ∙ all) (more (w .host .heard) (i .heard))
-    (below-behind (length done) page (w .embosser .coming) (more (w .embosser .coming) (i .coming)) (first-page (w .embosser .finished) page rest (i .last) (all ∙ i .here)))
+    (below-behind (length done) page (w .embosser .coming) (more (w .embosser .coming) (i .coming)) first)
 
 -- ---- an acknowledgement is heard, or lost
 arriving-kept : (w : World) (heard : List ℕ → ℕ → List ℕ)
@@ -276,8 +289,8 @@ arriving-kept : (w : World) (heard : List ℕ → ℕ → List ℕ)
 unfolding arriving
 arriving-kept w heard keeps [] e i = i
 arriving-kept w heard keeps (page ∷ rest) e i =
-    let b = subst (Below (length (w .embosser .finished))) e (i .coming) in
-    pages-kept w i (omega arith) refl (keeps (length (w .embosser .finished)) page (w .host .heard) (i .heard) (b .0)) (b .1)
+    let b = subst (Below (count w)) e (i .coming) in
+    pages-kept w i (omega arith) refl (keeps (count w) page (w .host .heard) (i .heard) (b .0)) (b .1)
 
 one-more : (l : List ℕ) (m page : ℕ) → l ≡ pagesTo m → page ≡ suc m → l ++ (page ∷ []) ≡ pagesTo (suc m)
 unfolding pagesTo
@@ -298,7 +311,9 @@ goes-kept w i =
       held = i .held;
       flight = i .flight;
       last = suc (i .last);
-      here = sym (append-assoc (w .embosser .finished) (w .embosser .tray) ((w .host .out + 1) ∷ [])) ∙ one-more (w .embosser .finished ++ w .embosser .tray) (i .last) (w .host .out + 1) (i .here) p;
+      here =
+          sym (append-assoc (w .embosser .finished) (w .embosser .tray) ((w .host .out + 1) ∷ []))
+          ∙ one-more (w .embosser .finished ++ w .embosser .tray) (i .last) (w .host .out + 1) (i .here) p;
       behind = i .behind;
       ahead = omega arith;
       out = λ u. p;
@@ -312,7 +327,7 @@ goes-kept w i =
 record Left (w : World) (s : State) (used : ℕ) : Type 0 where
   pub to : State
   pub held : Held (w .host .log) used to
-  pub behind : to .finished ≤ length (w .embosser .finished)
+  pub behind : to .finished ≤ count w
   pub ahead : s .sent ≤ to .sent
 
 crash-left : (w : World) (i : Inv w) (u : ℕ) (x : Writing) → w .host .writing ≡ x → Left w (i .says) (crashUsed (w .host .used) x u)
@@ -322,7 +337,7 @@ crash-left w i u (within tag page c k) e =
     let f = in-flight w i e in
     let used = cond (inPlace c && mayBeUsed (w .host .used) k u) u (w .host .used) in
     let a = cut-after (i .base) (w .host .used) (i .says) tag page (f .second) (i .held) (f .outcome) k u (f .few) in
-    let b = change-between (a .how) (length (w .embosser .finished)) (i .behind) (f .told) in
+    let b = change-between (a .how) (count w) (i .behind) (f .told) in
     record { to = a .to; held = subst (λ (l : List ℕ). Held l used (a .to)) (sym (f .there)) (a .held); behind = b .0; ahead = b .1 }
 
 crash-kept : (w : World) → Inv w → (left u : ℕ) → Inv (next asRequested w (crash left u))
@@ -330,7 +345,9 @@ unfolding next
 crash-kept w i left u =
     let front = w .embosser .finished ++ take left (w .embosser .tray) in
     let whole : front ++ drop left (w .embosser .tray) ≡ pagesTo (i .last) =
-    append-assoc (w .embosser .finished) (take left (w .embosser .tray)) (drop left (w .embosser .tray)) ∙ ap (λ (l : List ℕ). w .embosser .finished ++ l) (take-append-drop left (w .embosser .tray)) ∙ i .here in
+    append-assoc (w .embosser .finished) (take left (w .embosser .tray)) (drop left (w .embosser .tray))
+    ∙ ap (λ (l : List ℕ). w .embosser .finished ++ l) (take-append-drop left (w .embosser .tray))
+    ∙ i .here in
     let l = pages-length (i .last) in
     let n = length-append front (drop left (w .embosser .tray)) in
     let e = ap length whole in

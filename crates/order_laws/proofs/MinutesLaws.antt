@@ -47,7 +47,8 @@ module _ (first : Order) (town : Part) (minutes : TimeAdjustment) (row : ℕ) wh
   second : Order
   second = withOwnMinutes first town minutes
 
-  row-moved : Accepted first → Accepted second → ((prayer : Prayer) → leZ (timeAdjustmentsOf (first .parameters) prayer) (timeAdjustmentsOf (second .parameters) prayer) ≡ true)
+  row-moved : Accepted first → Accepted second
+      → ((prayer : Prayer) → leZ (timeAdjustmentsOf (first .parameters) prayer) (timeAdjustmentsOf (second .parameters) prayer) ≡ true)
       → Moved (first .parameters) (second .parameters) (workRowOf first row) (workRowOf second row)
   unfolding workRowOf second
   row-moved h k more = by-test (ltb row (first .rows))
@@ -124,8 +125,8 @@ module _ (a b : List ℕ) (orders : LaterOrder a b) (row : ℕ) where
       let e = orders .alike in
       let h = read-accepted a (orders .first) (orders .«first_read») in
       let k = subst Accepted (sym e) (read-accepted b (orders .second) (orders .«second_read»)) in
-      let more : (prayer : Prayer) → leZ (timeAdjustmentsOf (orders .first .parameters) prayer) (timeAdjustmentsOf (withOwnMinutes (orders .first) (orders .second .town) (orders .second .parameters .adjustments) .parameters) prayer) ≡ true =
-      λ (prayer : Prayer). subst (λ (x : Order). leZ (timeAdjustmentsOf (orders .first .parameters) prayer) (timeAdjustmentsOf (x .parameters) prayer) ≡ true) (sym e) (orders .more prayer) in
+      let More : Order → Type 0 = λ o. (prayer : Prayer) → leZ (timeAdjustmentsOf (orders .first .parameters) prayer) (timeAdjustmentsOf (o .parameters) prayer) ≡ true in
+      let more = subst More (sym e) (orders .more) in
       let m = row-moved (orders .first) (orders .second .town) (orders .second .parameters .adjustments) row h k more in
       let n = subst (λ (x : Order). Moved (orders .first .parameters) (x .parameters) (workRowOf (orders .first) row) (workRowOf x row)) e m in
       subst (λ (w : Worked). Moved (orders .first .parameters) (orders .second .parameters) w (workDayOf b row)) (sym day-of-first)

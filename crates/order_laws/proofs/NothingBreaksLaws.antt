@@ -181,19 +181,22 @@ row-lent s row buffer =
 
 -- ---- rows of cells: those that are asked for have room
 module _ (asked : Order → Rows) (s buffer : List ℕ) (fit : (o : Order) → rowLength ≤ length buffer → length (cellsOf (asked o)) ≤ length buffer) where
-  rows-lent : (rows : Rows) → length (cellsOf rows) ≤ length buffer → Lent (putCallOf rows buffer .answer .refusal .number) (cellsOf rows) buffer (putCallOf rows buffer .buffer)
+  rows-lent : (rows : Rows) → length (cellsOf rows) ≤ length buffer
+      → Lent (putCallOf rows buffer .answer .refusal .number) (cellsOf rows) buffer (putCallOf rows buffer .buffer)
   unfolding putCallOf
   rows-lent [] h = refused-lent refl
   rows-lent (row ∷ rows) h = written-lent h
 
-  cells-lent : Lent (askedCallOf asked rowLength s buffer .answer .refusal .number) (writtenOf (λ o. cellsOf (asked o)) (readingOf s)) buffer (askedCallOf asked rowLength s buffer .buffer)
+  cells-lent : Lent (askedCallOf asked rowLength s buffer .answer .refusal .number) (writtenOf (λ o. cellsOf (asked o)) (readingOf s)) buffer
+      (askedCallOf asked rowLength s buffer .buffer)
   unfolding askedCallOf
   cells-lent =
       cases (ltb (length buffer) rowLength) (λ short. rw short (refused-lent refl))
       (λ there. rw there (by-reading (ltb-false (length buffer) rowLength there) (readingOf s) refl))
     where
       by-reading : rowLength ≤ length buffer → (x : Reading) → readingOf s ≡ x
-          → Lent (pages.callIn asked x buffer .answer .refusal .number) (writtenOf (λ o. cellsOf (asked o)) x) buffer (pages.callIn asked x buffer .buffer)
+          → Lent (pages.callIn asked x buffer .answer .refusal .number) (writtenOf (λ o. cellsOf (asked o)) x) buffer
+          (pages.callIn asked x buffer .buffer)
       by-reading h (reading.Read o) e = rows-lent (asked o) (fit o h)
       by-reading h (reading.Refused r) e = refused-lent (order-number s r e)
 
@@ -212,7 +215,8 @@ piece-fits (suc p) first scratch o h =
     rw (drop-rows, take-rows, drop-rows, take-rows, cells-length) (omega arith)
 
 -- ---- a sentence
-sentence-lent : (n p : ℕ) (buffer : List ℕ) → Lent (sentenceCallOf n p buffer .answer .number) (sentenceOf n p) buffer (sentenceCallOf n p buffer .buffer)
+sentence-lent : (n p : ℕ) (buffer : List ℕ)
+    → Lent (sentenceCallOf n p buffer .answer .number) (sentenceOf n p) buffer (sentenceCallOf n p buffer .buffer)
 unfolding sentenceCallOf
 sentence-lent n p buffer =
     cases (known n)
@@ -257,7 +261,11 @@ others-stay o row h =
           let here : insteadOf o row w row ≡ lineText (o .ramadan) (rowDateOf (o .date) row) w = rw (eq-eqb row row refl) in
           ap (eachOf (insteadOf o row w)) n
           ∙ around (insteadOf o row w) row left
-          ∙ rw (before-same (lineOf o) (insteadOf o row w) row alike row (omega arith), here, after-same (lineOf o) (insteadOf o row w) row alike left);
+          ∙ rw (
+            before-same (lineOf o) (insteadOf o row w) row alike row (omega arith),
+            here,
+            after-same (lineOf o) (insteadOf o row w) row alike left,
+          );
     }
 
 pub nothing-breaks-a-run : NothingBreaksARun

@@ -96,8 +96,8 @@ module _ (a b : List ℕ) (w : Swapped a b) where
       (λ t. cases (hasOf a 5 && hasOf a 19) (λ u. let z = simp (t, u) at e in absurd (omega arith)) (λ u. (t, u)))
 
   -- a float that is what an order read has is in its range
-  float-fits : (most : ℕ) (float map : ℕ) (x : Float) → Inside (neg (dec most 0)) (dec most 0) x → x ≡ coordinateIn (valuesOf b) float map → hasOf b map ≡ false
-      → degreesFit (neg (dec most 0)) (dec most 0) (valueOf b float) ≡ true
+  float-fits : (most float map : ℕ) (x : Float) → Inside (neg (dec most 0)) (dec most 0) x → x ≡ coordinateIn (valuesOf b) float map
+      → hasOf b map ≡ false → degreesFit (neg (dec most 0)) (dec most 0) (valueOf b float) ≡ true
   unfolding coordinateIn
   float-fits most float map x inside same lacks = let e = simp lacks at same in rw (← e, inside .0, inside .1)
 
@@ -108,13 +108,15 @@ module _ (a b : List ℕ) (w : Swapped a b) where
   unfolding isGivenOf lookUp inRangeOf fitsOf
   latitude-fine =
       fine 4 18 90 (lit≤ tt) (lit≤ tt) (lit≤ tt) (lit≤ tt) (either-given 3 (lit≤ tt)) (one-each .0) (λ there fits. rw there fits)
-      (λ there lacks. rw there (float-fits 90 4 18 (w .order .coordinates .latitude) (accepted .latitude) (w .«same_latitude») lacks)) (w .latitude)
+      (λ there lacks. rw there (float-fits 90 4 18 (w .order .coordinates .latitude) (accepted .latitude) (w .«same_latitude») lacks))
+      (w .latitude)
 
   longitude-fine : Fine 5 19
   unfolding isGivenOf lookUp inRangeOf fitsOf
   longitude-fine =
       fine 5 19 180 (lit≤ tt) (lit≤ tt) (lit≤ tt) (lit≤ tt) (either-given 4 (lit≤ tt)) (one-each .1) (λ there fits. rw there fits)
-      (λ there lacks. rw there (float-fits 180 5 19 (w .order .coordinates .longitude) (accepted .longitude) (w .«same_longitude») lacks)) (w .longitude)
+      (λ there lacks. rw there (float-fits 180 5 19 (w .order .coordinates .longitude) (accepted .longitude) (w .«same_longitude») lacks))
+      (w .longitude)
 
   -- ---- the checks
   given-b : missingOf (hasOf b) ≡ noRefusal
@@ -207,7 +209,9 @@ module _ (s : List ℕ) (o : Order) (e : readingOf s ≡ Read o) where
 
 pub read-is-written-back : ReadIsWrittenBack
 read-is-written-back s o e =
+    let latitude = formIn (valueOf s 18) in
+    let longitude = formIn (valueOf s 19) in
     record {
-      latitude = λ h. ap (writtenOf 18 90) (latitude-is s o e h) ∙ writing-gives-back 18 90 (formIn (valueOf s 18)) (lit≤ tt) (latitude-fits s o e h);
-      longitude = λ h. ap (writtenOf 19 180) (longitude-is s o e h) ∙ writing-gives-back 19 180 (formIn (valueOf s 19)) (lit≤ tt) (longitude-fits s o e h);
+      latitude = λ h. ap (writtenOf 18 90) (latitude-is s o e h) ∙ writing-gives-back 18 90 latitude (lit≤ tt) (latitude-fits s o e h);
+      longitude = λ h. ap (writtenOf 19 180) (longitude-is s o e h) ∙ writing-gives-back 19 180 longitude (lit≤ tt) (longitude-fits s o e h);
     }

@@ -35,7 +35,8 @@ onTheMap = begun ++ (18 ∷ 0 ∷ 5 ∷ 0 ∷ 10 ∷ replicate 3 0) ++ (19 ∷ 0
 abbrev later : List ℕ
 later = onTheMap ++ (11 ∷ 0 ∷ 12 ∷ 0 ∷ 1 ∷ replicate 10 0)
 
-more-minutes : (prayer : Prayer) → leZ (timeAdjustmentsOf (orderOf (valuesOf earlier) .parameters) prayer) (timeAdjustmentsOf (orderOf (valuesOf later) .parameters) prayer) ≡ true
+more-minutes : (prayer : Prayer)
+    → leZ (timeAdjustmentsOf (orderOf (valuesOf earlier) .parameters) prayer) (timeAdjustmentsOf (orderOf (valuesOf later) .parameters) prayer) ≡ true
 unfolding hasOf offsetOf firstBefore lengthAt unsignedOf valueOf signedAtOf minutesIn minutesOr byteOr degreesOr roundingOr intervalOr parametersIn orderOf timeAdjustmentsOf preset presetOf methodOf minutesFor
 more-minutes Fajr = refl
 more-minutes Sunrise = refl

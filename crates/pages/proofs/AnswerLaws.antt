@@ -13,8 +13,16 @@ use Rattle.pages.specs.Pages.{Rows, rowsFrom, cellsOf}
 use Rattle.pages.specs.declared.answer.Punched.{Punched}
 use Rattle.pages.proofs.RowsLaws.{rows-length}
 
+-- equal calls have the same answer, and leave the same buffer
+pub same-answer : {c d : CellsCall} → c ≡ d → c .answer ≡ d .answer
+same-answer e = ap (λ (c : CellsCall). c .answer) e
+
+pub same-buffer : {c d : CellsCall} → c ≡ d → c .buffer ≡ d .buffer
+same-buffer e = ap (λ (c : CellsCall). c .buffer) e
+
 -- some rows, and none
-pub rows-some : (rows : Rows) (buffer : List ℕ) → 1 ≤ length rows → putCallOf rows buffer ≡ record { answer = punchedOf rows; buffer = frontOf (cellsOf rows) buffer }
+pub rows-some : (rows : Rows) (buffer : List ℕ) → 1 ≤ length rows
+    → putCallOf rows buffer ≡ record { answer = punchedOf rows; buffer = frontOf (cellsOf rows) buffer }
 unfolding putCallOf
 rows-some [] buffer h = absurd (omega arith)
 rows-some (row ∷ rows) buffer h = refl
@@ -29,8 +37,8 @@ pub rows-answered : (rows asked : Rows) (result : Punched) (buffer after : List 
     → after ≡ frontOf (cellsOf rows) buffer → (result ≡ putCallOf asked buffer .answer) × (after ≡ putCallOf asked buffer .buffer)
 rows-answered rows asked result buffer after h e r f =
     let some = sym (rows-some asked buffer h) in (
-      r ∙ ap punchedOf e ∙ ap (λ (c : CellsCall). c .answer) some,
-      f ∙ ap (λ (l : Rows). frontOf (cellsOf l) buffer) e ∙ ap (λ (c : CellsCall). c .buffer) some,
+      r ∙ ap punchedOf e ∙ same-answer some,
+      f ∙ ap (λ (l : Rows). frontOf (cellsOf l) buffer) e ∙ same-buffer some,
     )
 
 -- rows by their first and the one behind their last

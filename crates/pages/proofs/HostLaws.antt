@@ -13,7 +13,7 @@ use Rattle.pages.specs.Answers.{CellsCall, punchedOf, refusedOf, putCall
 use Rattle.pages.specs.Host.{cellsGot, Calls, ended, called, PiecesAreThePage, AtOnceAsBefore}
 use Rattle.pages.specs.Pages.{Rows, cellsOf, pageOf, pieceOf}
 use Rattle.pages.specs.declared.answer.Punched.{Punched}
-use Rattle.pages.proofs.AnswerLaws.{rows-some, rows-none, order-read, order-refused}
+use Rattle.pages.proofs.AnswerLaws.{same-answer, rows-some, rows-none, order-read, order-refused}
 use Rattle.pages.proofs.PageLaws.{page-most, piece-none, piece-written}
 use Rattle.pages.proofs.RowsLaws.{dots-append, cells-append, rows-length, cells-length}
 
@@ -51,7 +51,7 @@ module _ (s : List ℕ) (page : ℕ) (o : Order) (e : readingOf s ≡ Read o) wh
       let l : taken ≡ length piece = sym (rows-length o row taken) ∙ ap length (w .rows) in
       let r = order-read (pieceIn page first scratch) 39 s scratch long o e in
       let put = r ∙ rows-some piece scratch (omega (arith, w .some)) in
-      let a : pageCallOf s page first scratch .answer ≡ punchedOf piece = ap (λ (p : CellsCall). p .answer) put in
+      let a : pageCallOf s page first scratch .answer ≡ punchedOf piece = same-answer put in
       let k : pageCallOf s page first scratch .answer .rows ≡ length piece = ap (λ (p : Punched). p .rows) a in
       let c : length (cellsOf piece) ≡ 39 * length piece = ap (λ (x : Rows). length (cellsOf x)) (sym (w .rows)) ∙ cells-length o row taken ∙ ap (λ (n : ℕ). 39 * n) l in
       record {
@@ -64,10 +64,11 @@ module _ (s : List ℕ) (page : ℕ) (o : Order) (e : readingOf s ≡ Read o) wh
             ∙ take-at (cellsOf piece) (drop (length (cellsOf piece)) scratch) (39 * length piece) c;
       }
 
-  lacks-row : (first : ℕ) (scratch : List ℕ) → 39 ≤ length scratch → length (pageOf o page) ≤ first → pageCallOf s page first scratch .answer ≡ refusedOf lacksRow
+  lacks-row : (first : ℕ) (scratch : List ℕ) → 39 ≤ length scratch → length (pageOf o page) ≤ first
+      → pageCallOf s page first scratch .answer ≡ refusedOf lacksRow
   lacks-row first scratch long h =
-      ap (λ (p : CellsCall). p .answer)
-      (order-read (pieceIn page first scratch) 39 s scratch long o e ∙ rows-none (pieceIn page first scratch o) scratch (piece-none o page first (length scratch / 39) h))
+      let none = piece-none o page first (length scratch / 39) h in
+      same-answer (order-read (pieceIn page first scratch) 39 s scratch long o e ∙ rows-none (pieceIn page first scratch o) scratch none)
 
   -- the cells and the dots of the page's rows from one on
   abbrev Rest : ℕ → List ℕ → ℕ → Type 0
@@ -145,7 +146,8 @@ module _ (s : List ℕ) (page : ℕ) (o : Order) (e : readingOf s ≡ Read o) wh
       ))
 
   pub read-same : (lent : ℕ → List ℕ) → ((n : ℕ) → 39 ≤ length (lent n)) → (whole : List ℕ) → 975 ≤ length whole
-      → {cells : List ℕ} {dots : ℕ} → Calls s page lent 0 0 cells dots → (cells ≡ cellsGot page 0 s whole) × (dots ≡ pageCallOf s page 0 whole .answer .dots)
+      → {cells : List ℕ} {dots : ℕ} → Calls s page lent 0 0 cells dots
+      → (cells ≡ cellsGot page 0 s whole) × (dots ≡ pageCallOf s page 0 whole .answer .dots)
   read-same lent long whole room calls =
       let g = got lent long calls in
       let w = whole-got whole room in
@@ -154,9 +156,10 @@ module _ (s : List ℕ) (page : ℕ) (o : Order) (e : readingOf s ≡ Read o) wh
 -- a refused order: no call gives a cell
 module _ (s : List ℕ) (page : ℕ) (r : Refusal) (e : readingOf s ≡ Refused r) where
   refused-answer : (first : ℕ) (scratch : List ℕ) → 39 ≤ length scratch → pageCallOf s page first scratch .answer ≡ refusedOf r
-  refused-answer first scratch long = ap (λ (p : CellsCall). p .answer) (order-refused (pieceIn page first scratch) 39 s scratch long r e)
+  refused-answer first scratch long = same-answer (order-refused (pieceIn page first scratch) 39 s scratch long r e)
 
-  nothing-got : (first : ℕ) (scratch : List ℕ) → 39 ≤ length scratch → (cellsGot page first s scratch ≡ []) × (pageCallOf s page first scratch .answer .dots ≡ 0)
+  nothing-got : (first : ℕ) (scratch : List ℕ) → 39 ≤ length scratch
+      → (cellsGot page first s scratch ≡ []) × (pageCallOf s page first scratch .answer .dots ≡ 0)
   nothing-got first scratch long =
       let a = refused-answer first scratch long in
       (ap (λ (p : Punched). take (39 * p .rows) (pageCallOf s page first scratch .buffer)) a, ap (λ (p : Punched). p .dots) a)
@@ -170,7 +173,8 @@ module _ (s : List ℕ) (page : ℕ) (r : Refusal) (e : readingOf s ≡ Refused 
       (ap (λ (l : List ℕ). l ++ cells) (a .0) ∙ i .0, omega (arith, a .1, i .1))
 
   pub refused-same : (lent : ℕ → List ℕ) → ((n : ℕ) → 39 ≤ length (lent n)) → (whole : List ℕ) → 975 ≤ length whole
-      → {cells : List ℕ} {dots : ℕ} → Calls s page lent 0 0 cells dots → (cells ≡ cellsGot page 0 s whole) × (dots ≡ pageCallOf s page 0 whole .answer .dots)
+      → {cells : List ℕ} {dots : ℕ} → Calls s page lent 0 0 cells dots
+      → (cells ≡ cellsGot page 0 s whole) × (dots ≡ pageCallOf s page 0 whole .answer .dots)
   refused-same lent long whole room calls =
       let g = nothing-in-all lent long calls in
       let w = nothing-got 0 whole (omega arith) in

@@ -75,7 +75,7 @@ fn put_head(buffer: &mut [u8], ramadan: Ramadan, town: &[u8]) -> usize
     end + put_header(&mut buffer[..], end, ramadan)
 }
 
-// The lines of all rows from an offset on; answers where they end. Each row takes over what it can from the one before it.
+// Writes the lines of all rows from an offset on and returns where they end. Each row takes over what it can from the one before it.
 fn put_rows(buffer: &mut [u8], at: usize, order: Order) -> usize
     requires { ⌜ Accepted order × (at + order .rows * rowRoom (order .ramadan) ≤ length (now buffer)) ⌝ }
     ensures { λ r. ⌜ r ≡ at + length (linesText order (order .rows)) ⌝ }
@@ -109,7 +109,7 @@ fn put_accepted(buffer: &mut [u8], town: &[u8], order: Order) -> usize
     put_rows(&mut buffer[..], head, order)
 }
 
-// Answers the length of the text. A buffer that might not hold it, under SHEET_BYTES, is left as it was, and the answer is 0.
+// Returns the length of the text. A buffer under SHEET_BYTES, which might not hold it, is left as it was, and 0 is returned.
 pub fn write_sheet(order: &[u8], buffer: &mut [u8]) -> usize
     ensures { λ r. ⌜ r ≡ sheetLengthOf (now (order .entry)) (now (buffer .entry)) ⌝ }
     ensures { λ _. ⌜ now (buffer .exit) ≡ sheetBufferOf (now (order .entry)) (now (buffer .entry)) ⌝ }
