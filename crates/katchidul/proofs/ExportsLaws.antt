@@ -1,7 +1,7 @@
 -- Of an order that is read, town_at and town_length are the town's own offset and length, and the Isha interval is the record's. Assumes nothing.
 use Rattle.prelude.proofs.Logic.{_≡_, sym, List, ℕ, _+_, arith, pos, length}
 use Rattle.integers.proofs.PartsLaws.{natural}
-use Rattle.fields.specs.Values.{offsetOf}
+use Rattle.fields.specs.Lookup.{offsetOf}
 use Rattle.order.specs.declared.reading.Order.{Order}
 use Rattle.order.specs.declared.reading.Reading.the-variants.{Read}
 use Rattle.order.specs.Reading.{readingOf, townOf}
@@ -23,5 +23,5 @@ module _ (s : List ℕ) (order : Order) (e : readingOf s ≡ Read order) where
   unfolding orderAnswerOf orderIn orderRead
   interval =
       let z = order .parameters .«isha_interval» in
-      let from = read-accepted s order e .«isha_interval» .from in
+      let from = read-accepted s order e .parameters .«isha_interval» .from in
       rw e (sym (natural z (omega arith)))

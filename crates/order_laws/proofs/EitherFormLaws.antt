@@ -13,7 +13,7 @@ use Rattle.order.specs.Given.{coordinateIn, byteOr, degreesOr, roundingOr, minu
 use Rattle.order.specs.Reading.{orderOf, readingOf, townOf}
 use Rattle.order.specs.declared.reading.Order.{Order}
 use Rattle.order.specs.declared.reading.Reading.the-variants.{Read}
-use Rattle.order.proofs.ReadingLaws.{read-passed}
+use Rattle.order.proofs.ReadingLaws.{read-passed, town-value}
 use Rattle.braille.specs.Cells.{rowLength}
 use Rattle.pages.specs.Pages.{Rows, rowOf, rowsFrom, pageOf, pageCount, pagesCells, allCells}
 use Rattle.pages.specs.Answers.{punchedInOf, answerIn, bufferOf, frontIn, oneRow, pieceIn}
@@ -157,8 +157,7 @@ module _ (a b : List ℕ) (orders : SamePlace a b) where
 
   -- ---- and what is answered
   town-same : townOf a ≡ townOf b
-  unfolding townOf
-  town-same = rw (orders .«first_read», orders .«second_read») (value 1 (lit≤ tt) refl)
+  town-same = town-value a (orders .first) (orders .«first_read») ∙ value 1 (lit≤ tt) refl ∙ sym (town-value b (orders .second) (orders .«second_read»))
 
   sheet-same : sheetText a ≡ sheetText b
   unfolding reportIn
