@@ -175,15 +175,15 @@ module _ (s : List ℕ) where
         ⊎-elim (λ (f : formerCheckOf s ≡ checkOf s). ap (λ (r : Refusal). r .number) (sym f) ∙ e)
         (λ (f : New s (formerCheckOf s)). absurd (let n = f .0 in omega arith)) check-same
 
+    found : (tag : ℕ) → offsetOf s tag < length s → Former (offsetOf s tag)
+    unfolding offsetOf
+    found tag l = find-former (length s) none tag 0 walked l
+
     has-former : (tag : ℕ) → hasOf s tag ≡ true → (tag ≤ 14) × (formerLengthFits tag (lengthAt s (offsetOf s tag)) ≡ true)
     has-former tag h =
-        let g = found (ltb-true (offsetOf s tag) (length s) (sym (first s tag check-none .has) ∙ h)) in
+        let g = found tag (ltb-true (offsetOf s tag) (length s) (sym (first s tag check-none .has) ∙ h)) in
         let named = has-good s tag check-none h .1 in
         (rw named at (g .0), rw named at (g .1))
-      where
-        found : offsetOf s tag < length s → Former (offsetOf s tag)
-        unfolding offsetOf
-        found l = find-former (length s) none tag 0 walked l
 
     has-none : (tag : ℕ) → 15 ≤ tag → hasOf s tag ≡ false
     has-none tag l = cases (hasOf s tag) (λ h. let m = has-former tag h .0 in absurd (omega arith)) (λ h. h)
