@@ -8,7 +8,8 @@ use Rattle.schedule_laws.proofs.CarriedLaws.{presets-carried, still-carried}
 pub accepted-carried : (order : Order) → Accepted order → Carried (order .parameters)
 accepted-carried order h =
     let p = order .parameters in
-    still-carried (presetOf (p .method)) p (presets-carried (p .method)) (h .preset) (h .«fajr_angle») (h .«isha_angle») (h .«isha_interval») (h .own)
+    still-carried (presetOf (p .method)) p (presets-carried (p .method)) (h .parameters .preset) (h .parameters .«fajr_angle»)
+    (h .parameters .«isha_angle») (h .parameters .«isha_interval») (h .parameters .own)
 
 pub accepted-latitude : (order : Order) → Accepted order → LatitudeInOrder (order .coordinates .latitude)
 accepted-latitude order h = h .latitude

@@ -12,7 +12,7 @@ use Rattle.order.specs.Given.{coordinateIn, byteOr, degreesOr, roundingOr, minu
 use Rattle.order.specs.Reading.{orderOf, readingOf, townOf}
 use Rattle.order.specs.declared.reading.Order.{Order}
 use Rattle.order.specs.declared.reading.Reading.the-variants.{Read}
-use Rattle.order.proofs.ReadingLaws.{read-passed}
+use Rattle.order.proofs.ReadingLaws.{read-passed, town-value}
 use Rattle.braille.specs.Cells.{rowLength}
 use Rattle.pages.specs.Pages.{Rows, rowOf, rowsFrom, pageOf, pageCount, pagesCells, allCells}
 use Rattle.pages.specs.Answers.{askedCallOf, oneRow, pieceIn}
@@ -212,8 +212,7 @@ module _ (a b : List ℕ) (orders : SamePlace a b) where
       (subst (λ (o : Order). withTown (orderOf (valuesOf a)) (o .town) ≡ o) second-same given-same)
 
   town-same : townOf a ≡ townOf b
-  unfolding townOf
-  town-same = rw (orders .«first_read», orders .«second_read») (value 1 (lit≤ tt) refl)
+  town-same = town-value a (orders .first) (orders .«first_read») ∙ value 1 (lit≤ tt) refl ∙ sym (town-value b (orders .second) (orders .«second_read»))
 
 pub either-form-answers-alike : EitherFormAnswersAlike
 either-form-answers-alike a b orders =

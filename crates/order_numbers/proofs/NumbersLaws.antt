@@ -23,5 +23,5 @@ module _ (s : List ℕ) (order : Order) (e : readingOf s ≡ Read order) where
   unfolding orderNumbersOf orderNumbersIn orderRead
   interval =
       let z = order .parameters .«isha_interval» in
-      let from = read-accepted s order e .«isha_interval» .from in
+      let from = read-accepted s order e .parameters .«isha_interval» .from in
       rw e (sym (natural z (omega arith)))

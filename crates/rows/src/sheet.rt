@@ -9,7 +9,6 @@ ghost use Rattle.text.specs.Text.{putOf, frontOf};
 ghost use Rattle.rows.specs.Rows.{headerText, headText, linesText, acceptedText, longestSheet, sheetLengthOf, sheetBufferOf};
 use calendar::dates::Date;
 use fields::tags::LONGEST_TOWN;
-use fields::values::bytes;
 use hijri::ramadan::Ramadan;
 use lines::refused::put_refused_day;
 use lines::refused::put_refused_order;
@@ -19,6 +18,7 @@ use order::reading::MOST_ROWS;
 use order::reading::Order;
 use order::reading::Reading;
 use order::reading::read;
+use order::reading::town;
 use schedule::prayer_times::Worked;
 use schedule::rolling::RowSuns;
 use text::put::put;
@@ -117,8 +117,10 @@ pub fn write_sheet(order: &[u8], buffer: &mut [u8]) -> usize
     if buffer.len() < SHEET_BYTES {
         return 0;
     }
-    match read(order) {
-        Reading::Read(record) => put_accepted(&mut buffer[..], bytes(order, record.town), record),
+    let reading = read(order);
+    let name = town(order, reading);
+    match reading {
+        Reading::Read(record) => put_accepted(&mut buffer[..], name, record),
         Reading::Refused(refusal) => put_refused_order(&mut buffer[..], 0, refusal),
     }
 }

@@ -26,9 +26,9 @@ unfolding lengthAt
 size-here f = f .before .before .before .unsigned .ensures .0
 
 -- what refuses the field is what the definition says
-fault-here : (f : this.Tie.After-fault Inv-loop μ-loop) → let l = in-loop f .before .loop in
+fault-holds : (f : this.Tie.After-fault Inv-loop μ-loop) → let l = in-loop f .before .loop in
     f .fault .result ≡ faultOf (now (start f .args .order)) (seenIn (l .starts)) (l .at)
-fault-here f =
+fault-holds f =
     let tag = f .before .before .before .before .byte in
     let l = in-loop f .before .loop in
     fault-is (now (start f .args .order)) (l .at) (seenIn (l .starts)) (tag .result) (f .before .before .before .unsigned .result) (f .fault .result)
@@ -37,14 +37,14 @@ fault-here f =
 good : (f : this.Tie.After-fault Inv-loop μ-loop) → f .fault .result ≡ 0 → Good (now (start f .args .order)) (in-loop f .before .loop .at)
 good f none =
     let l = in-loop f .before .loop in
-    fault-none (now (start f .args .order)) (seenIn (l .starts)) (l .at) (sym (fault-here f) ∙ none) .0
+    fault-none (now (start f .args .order)) (seenIn (l .starts)) (l .at) (sym (fault-holds f) ∙ none) .0
 
 returns : this.Tie.Need-returns Inv-loop μ-loop
 returns c =
     let f = c .before .before in
     let l = in-loop f .before .loop in
     let s = now (start f .args .order) in
-    let e = fault-here f in
+    let e = fault-holds f in
     let stop = refused-here s (l .at) (l .starts) (l .lengths) (l .inv) (in-loop f .loop-test .taken) (λ z. c .before .if1 .taken (e ∙ z)) in
     c .refused .ensures
     ∙ checked-not s (f .fault .result) (l .at) (check-walk s (start f .pre) ∙ stop ∙ ap (λ (n : ℕ). refusal n (l .at)) (sym e)) (c .before .if1 .taken)
@@ -65,7 +65,7 @@ loop-again c =
     let f = c .before in
     let l = in-loop f .before .loop in
     rw (f .before .before .before .before .byte .ensures .0, size-here f)
-    (collected-on (now (start f .args .order)) (l .at) (l .starts) (l .lengths) (l .inv) (in-loop f .loop-test .taken) (sym (fault-here f) ∙ c .if1 .left))
+    (collected-on (now (start f .args .order)) (l .at) (l .starts) (l .lengths) (l .inv) (in-loop f .loop-test .taken) (sym (fault-holds f) ∙ c .if1 .left))
 
 returns-2 : this.Tie.Need-returns-2 Inv-loop μ-loop
 returns-2 c =

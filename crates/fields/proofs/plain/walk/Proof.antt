@@ -20,9 +20,9 @@ abbrev start : this.Tie.After-fault Inv-loop μ-loop → this.Tie.Start Inv-loop
 start f = in-loop f .before .before .before
 
 -- what refuses the field is what the definition says
-fault-here : (f : this.Tie.After-fault Inv-loop μ-loop) → let l = in-loop f .before .loop in
+fault-holds : (f : this.Tie.After-fault Inv-loop μ-loop) → let l = in-loop f .before .loop in
     f .fault .result ≡ faultOf (now (start f .args .order)) (l .seen) (l .at)
-fault-here f =
+fault-holds f =
     let size = f .before .before .before .length-at in
     let tag = f .before .before .before .before .byte in
     let l = in-loop f .before .loop in
@@ -34,7 +34,7 @@ returns c =
     let f = c .before .before in
     let l = in-loop f .before .loop in
     let s = now (start f .args .order) in
-    let e = fault-here f in
+    let e = fault-holds f in
     c .new .ensures
     ∙ ap (λ (n : ℕ). refusal n (l .at)) e
     ∙ checked-stop s (l .at) (l .seen) (l .inv) (in-loop f .loop-test .taken) (λ z. c .before .if1 .taken (e ∙ z))
@@ -44,7 +44,7 @@ room c =
     let f = c .before in
     let l = in-loop f .before .loop in
     let s = now (start f .args .order) in
-    let good = fault-none s (l .seen) (l .at) (sym (fault-here f) ∙ c .if1 .left) .0 in
+    let good = fault-none s (l .seen) (l .at) (sym (fault-holds f) ∙ c .if1 .left) .0 in
     rw (f .before .before .before .before .byte .ensures .0) (good-row s (l .at) good)
 
 loop-again : this.Tie.Need-loop-again Inv-loop μ-loop
@@ -52,7 +52,7 @@ loop-again c =
     let f = c .before in
     let l = in-loop f .before .loop in
     rw (f .before .before .before .before .byte .ensures .0, f .before .before .before .length-at .ensures .0)
-    (checked-on (now (start f .args .order)) (l .at) (l .seen) (l .inv) (in-loop f .loop-test .taken) (sym (fault-here f) ∙ c .if1 .left))
+    (checked-on (now (start f .args .order)) (l .at) (l .seen) (l .inv) (in-loop f .loop-test .taken) (sym (fault-holds f) ∙ c .if1 .left))
 
 returns-2 : this.Tie.Need-returns-2 Inv-loop μ-loop
 returns-2 c =
