@@ -54,8 +54,17 @@ abbrev pub instantOf : ℤ → ℕ → Instant
 instantOf seconds nanoseconds = record { seconds = seconds; nanoseconds = nanoseconds }
 
 -- 10 is "an instant's whole seconds beyond ±10^12, or its nanoseconds over 999,999,999"
+abbrev pub leastSeconds : ℤ
+leastSeconds = negsuc 999999999999
+
+abbrev pub mostSeconds : ℤ
+mostSeconds = pos 1000000000000
+
+abbrev pub mostNanoseconds : ℕ
+mostNanoseconds = 999999999
+
 unfoldable pub instantFits : Instant → Bool
-instantFits i = leZ (negsuc 999999999999) (i .seconds) && leZ (i .seconds) (pos 1000000000000) && leb (i .nanoseconds) 999999999
+instantFits i = leZ leastSeconds (i .seconds) && leZ (i .seconds) mostSeconds && leb (i .nanoseconds) mostNanoseconds
 
 unfoldable pub workAtOf : List ℕ → ℕ → Instant → Worked
 workAtOf s row i = cond (instantFits i) (workDayOf s row) (worked.Refused (refusal instantBeyond 0))

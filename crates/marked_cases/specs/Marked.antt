@@ -47,18 +47,6 @@ abbrev misses : SolarHour → Bool
 misses (Some s) = false
 misses Nothing = true
 
-abbrev at : Float → ℤ → Bool
-at x t = gives (settingHourOf x) t
-
-abbrev none : Float → Bool
-none x = misses (settingHourOf x)
-
-abbrev carried : Float → ℤ → Bool
-carried x t = gives (carriedHourOf x) t
-
-abbrev lost : Float → Bool
-lost x = misses (carriedHourOf x)
-
 -- nine times, four thousand seconds apart from 4000 on, but for the middle of the night, which is no prayer
 abbrev times : PrayerTimes
 times =
@@ -110,27 +98,27 @@ marked =
     eqb (daysByRule StartsAgain north 172 2025) 182 ∷
     eqb (daysByRule StartsAgain (neg north) 172 2025) 182 ∷
     -- setting_hour: 05:30, yesterday 23:30, tomorrow 00:15, yesterday 00:00, and three that have no time
-    at (dec 55 1) (pos 19800) ∷
-    at (neg (dec 5 1)) (negsuc 1799) ∷
-    at (dec 2425 2) (pos 87300) ∷
-    at (neg (dec 25 0)) (negsuc 86399) ∷
-    none (dec 0 0) ∷
-    none (dec 23995 3) ∷
-    none (dec 48 0) ∷
+    gives (settingHourOf (dec 55 1)) (pos 19800) ∷
+    gives (settingHourOf (neg (dec 5 1))) (negsuc 1799) ∷
+    gives (settingHourOf (dec 2425 2)) (pos 87300) ∷
+    gives (settingHourOf (neg (dec 25 0))) (negsuc 86399) ∷
+    misses (settingHourOf (dec 0 0)) ∷
+    misses (settingHourOf (dec 23995 3)) ∷
+    misses (settingHourOf (dec 48 0)) ∷
     -- carried past midnight: 00:00 of tomorrow, of the date after a floored hour below 0, of the day after tomorrow after hour 47
-    carried (dec 23995 3) (pos 86400) ∷
-    carried (neg (dec 1 4)) (pos 0) ∷
-    carried (dec 47995 3) (pos 172800) ∷
+    gives (carriedHourOf (dec 23995 3)) (pos 86400) ∷
+    gives (carriedHourOf (neg (dec 1 4))) (pos 0) ∷
+    gives (carriedHourOf (dec 47995 3)) (pos 172800) ∷
     -- both zeros and the smallest subnormal are 00:00 of the date; yesterday's 00:00 is the first time, and what lies beyond, or is no number, has none
-    carried (dec 0 0) (pos 0) ∷
-    carried (neg (dec 0 0)) (pos 0) ∷
-    carried (ofBits binary64 1) (pos 0) ∷
-    carried (neg (dec 24 0)) (negsuc 86399) ∷
-    lost (neg (dec 25 0)) ∷
-    lost (dec 48 0) ∷
-    lost nan ∷
+    gives (carriedHourOf (dec 0 0)) (pos 0) ∷
+    gives (carriedHourOf (neg (dec 0 0))) (pos 0) ∷
+    gives (carriedHourOf (ofBits binary64 1)) (pos 0) ∷
+    gives (carriedHourOf (neg (dec 24 0))) (negsuc 86399) ∷
+    misses (carriedHourOf (neg (dec 25 0))) ∷
+    misses (carriedHourOf (dec 48 0)) ∷
+    misses (carriedHourOf nan) ∷
     -- and what needs no carrying stays
-    carried (dec 55 1) (pos 19800) ∷
+    gives (carriedHourOf (dec 55 1)) (pos 19800) ∷
     -- half a second before Fajr it is in force, a full second before it is not
     names (currentTimeOf times (instant 3999 500000000)) 1 ∷
     names (currentTimeOf times (instant 3999 0)) 0 ∷

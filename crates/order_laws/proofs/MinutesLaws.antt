@@ -21,7 +21,7 @@ use Rattle.order_laws.proofs.AcceptedParameters.{accepted-carried}
 use Rattle.order_laws.proofs.PrintedLaws.{imsak-is-printed-whole}
 use Rattle.schedule_laws.proofs.LaterLaws.{later-minutes-move-the-row}
 use Rattle.calls.specs.declared.in_force.InForce.the-variants as force
-use Rattle.calls.specs.Calls.{lacksRow, workRowOf, workReadingOf, workDayOf, instantFits, workAtOf, inForceOf, prayerAtOf}
+use Rattle.calls.specs.Calls.{lacksRow, workRowOf, workReadingOf, workDayOf, leastSeconds, mostSeconds, mostNanoseconds, instantFits, workAtOf, inForceOf, prayerAtOf}
 use Rattle.order_laws.specs.Minutes.{withOwnMinutes, LaterOrder, ImsakMoved, LaterOrdersMoveTheirRows}
 
 -- ---- what an accepted order's sums can be
@@ -100,7 +100,7 @@ refused-alike s z row i j r hi hj alike e =
 less-than-a-second : (i : Instant) → instantFits i ≡ true → i .nanoseconds < 1000000000
 unfolding instantFits
 less-than-a-second i h =
-    let l = leb-true (i .nanoseconds) 999999999 (both (leZ (negsuc 999999999999) (i .seconds) && leZ (i .seconds) (pos 1000000000000)) (leb (i .nanoseconds) 999999999) h .1) in
+    let l = leb-true (i .nanoseconds) mostNanoseconds (both (leZ leastSeconds (i .seconds) && leZ (i .seconds) mostSeconds) (leb (i .nanoseconds) mostNanoseconds) h .1) in
     omega arith
 
 -- ---- the theorem

@@ -7,7 +7,7 @@ use Rattle.refusals.specs.declared.Refusal.{Refusal}
 use Rattle.models.specs.Settings.{timeAdjustmentsOf}
 use Rattle.unit.specs.declared.Coordinates.{Coordinates}
 use Rattle.schedule.specs.declared.{hours.Suns.Suns, hours.RowHours.RowHours, hours.RowNumbers.RowNumbers, prayer_times.PrayerTimes.PrayerTimes, in_force.Instant.Instant}
-use Rattle.schedule.specs.declared.hours.Suns.the-variants.{Whole, Refused}
+use Rattle.schedule.specs.declared.hours.Suns.the-variants as suns
 use Rattle.schedule.specs.declared.prayer_times.Worked.the-variants.{Times, Refused}
 use Rattle.schedule.specs.InForce.{inSecond}
 use Rattle.schedule.proofs.Schedule.{hoursOf, NotAfter, numbersOf, workedFrom, seasonOf, workedOf}
@@ -47,9 +47,9 @@ module _ (p : Parameters) (minutes : TimeAdjustment) (more : (prayer : Prayer) �
     (season : Season) (date : Date) where
   by-suns : (s : Suns) (h : RowHours) → Row s → SunHour (h .«fajr_tomorrow») → Moved p (withMinutes p minutes) (workedFrom s h date season p) (workedFrom s h date season (withMinutes p minutes))
   unfolding workedFrom
-  by-suns (Refused r) h x k = refused-alike p (withMinutes p minutes) r
-  by-suns (Whole suns) h x k =
-      worked-alike p (withMinutes p minutes) _ _ (none-earlier p minutes season date suns h more held held-q x k) (exactly p minutes season date suns h)
+  by-suns (suns.Refused r) h x k = refused-alike p (withMinutes p minutes) r
+  by-suns (suns.Whole three) h x k =
+      worked-alike p (withMinutes p minutes) _ _ (none-earlier p minutes season date three h more held held-q x k) (exactly p minutes season date three h)
 
   by-numbers : (rule : Midnight) (n : RowNumbers) → Moved p (withMinutes p minutes) (workedOf (hoursOf rule n) date season p) (workedOf (hoursOf rule n) date season (withMinutes p minutes))
   unfolding workedOf
