@@ -5,7 +5,8 @@ pub use Rattle.schedule.proofs.SharedLaws.{courseRowOf, row-shared, wor
 pub use Rattle.schedule.proofs.Short.{short-near, short-is}
 pub use Rattle.schedule.proofs.Starts.{start-near}
 unfoldable pub use Rattle.schedule.specs.Fajr.{fajrIn, fajrAloneOf}
-unfoldable pub use Rattle.schedule.specs.Hours.{dayHoursOf, rowHoursOf, hoursOf, sunsOf}
+unfoldable pub use Rattle.schedule.specs.Hours.{hoursOf, sunsOf}
+unfoldable pub use Rattle.schedule.specs.RowSuns.{dayHoursOf, rowHoursOf}
 unfoldable pub use Rattle.schedule.specs.InForce.{currentNumberOf, lastOf, aheadOf, timeOf, followingCurrentOf, hoursMinutesOf, untilOf}
 pub use Rattle.schedule.specs.InForce.{currentTimeOf, nextOf, NotAfter}
 unfoldable pub use Rattle.schedule.specs.Numbers.{numbersOf}

@@ -24,7 +24,7 @@ use Rattle.schedule.specs.declared.hours.Suns.the-variants.{Whole, Refus
 use Rattle.schedule.specs.declared.hours.ThreeSuns.{ThreeSuns}
 use Rattle.schedule.specs.declared.prayer_times.PrayerTimes.{PrayerTimes}
 use Rattle.schedule.specs.declared.prayer_times.Worked.the-variants.{Times}
-use Rattle.schedule.specs.Hours.{dayHoursOf, rowHoursOf, hoursOf}
+use Rattle.schedule.specs.Hours.{hoursOf}
 use Rattle.schedule.specs.Numbers.{fajrAngleOf, ishaAngleOf, shadowOf, numbersOf}
 use Rattle.schedule.specs.Times.{startOf, fajrTomorrowOf, fromMidnightOf, startedOf, workedFrom, workedOf}
 use Rattle.schedule.specs.Twilight.{bySeventhOf, ownOf, unadjustedFajrOf, boundedIshaOf, unadjustedIshaOf}
@@ -48,7 +48,7 @@ module _ (rule : Midnight) (n : RowNumbers) (date : Date) (season : Season) (p :
   asked = hoursOf rule (askedOf p (season .latitude) n)
 
   nine-unasked : (suns : ThreeSuns) → fromMidnightOf p season date suns asked ≡ fromMidnightOf p season date suns (hoursOf rule n)
-  unfolding fromMidnightOf fajrTomorrowOf hoursOf rowHoursOf dayHoursOf
+  unfolding fromMidnightOf fajrTomorrowOf hoursOf
   nine-unasked suns =
       simp (
         fajr-unasked rule p season date (suns .today) (suns .tomorrow) (n .fajr),
@@ -63,7 +63,7 @@ module _ (rule : Midnight) (n : RowNumbers) (date : Date) (season : Season) (p :
 
   -- a row's times are the same from the numbers that are asked for
   pub worked-unasked : workedOf asked date season p ≡ workedOf (hoursOf rule n) date season p
-  unfolding workedOf hoursOf rowHoursOf dayHoursOf
+  unfolding workedOf hoursOf
   worked-unasked = by-suns (hoursOf rule n .suns)
 
 -- ---- a number from the angle's sine is the angle's

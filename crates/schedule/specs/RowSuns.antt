@@ -3,17 +3,21 @@ use lib.Ieee.{Float}
 use Rattle.calendar.specs.Answers.{tomorrowOf}
 use Rattle.calendar.specs.declared.dates.Date.{Date}
 use Rattle.models.specs.declared.parameters.Parameters.{Parameters}
+use Rattle.models.specs.declared.rules.Midnight.{Midnight}
 use Rattle.models.specs.declared.rules.Rules.{Rules}
 use Rattle.ops.specs.declared.transit.Course.{Course}
 use Rattle.ops.specs.Shared.{observerOf}
 use Rattle.solar.specs.Coordinates.{positionOf}
 use Rattle.solar.specs.Times.{solarHourOf, solarTimeOf}
 use Rattle.solar.specs.Shared.{courseOver, dateCourseOf, courseNumbersOf, courseAfternoonNumberOf}
+use Rattle.solar.specs.declared.hours.HourNumbers.{HourNumbers}
+use Rattle.solar.specs.declared.times.SolarDay.{SolarDay}
+use Rattle.schedule.specs.declared.hours.DayHours.{DayHours}
 use Rattle.schedule.specs.declared.hours.RowHours.{RowHours}
 use Rattle.schedule.specs.declared.numbers.TwilightSines.{TwilightSines}
 use Rattle.schedule.specs.declared.prayer_times.FajrAlone.{FajrAlone}
 use Rattle.schedule.specs.Fajr.{fajrAloneOf}
-use Rattle.schedule.specs.Hours.{sunsOf, rowHoursOf}
+use Rattle.schedule.specs.Hours.{sunsOf}
 use Rattle.schedule.specs.Asked.{twilightSinesOf, fajrBySineOf, ishaBySineOf}
 use Rattle.schedule.specs.Numbers.{shadowOf}
 use Rattle.schedule.specs.Times.{seasonOf}
@@ -21,6 +25,21 @@ use Rattle.unit.specs.declared.Coordinates.{Coordinates}
 use Rattle.schedule.specs.declared.rolling.DaySun.{DaySun}
 use Rattle.schedule.specs.declared.rolling.ThirdSun.{ThirdSun}
 use Rattle.schedule.specs.declared.rolling.RowSuns.{RowSuns}
+
+-- a day's sun and its Fajr
+unfoldable pub dayHoursOf : Midnight → HourNumbers → Float → DayHours
+dayHoursOf rule n fajr = record { sun = solarTimeOf rule n; fajr = solarHourOf rule fajr }
+
+-- the date's day, the next one and the sun of the one after that; and the numbers of the date's Asr and Isha
+unfoldable pub rowHoursOf : Midnight → DayHours → DayHours → SolarDay → Float → Float → RowHours
+rowHoursOf rule today tomorrow after asr isha =
+    record {
+      suns = sunsOf (today .sun) (tomorrow .sun) after;
+      fajr = today .fajr;
+      asr = solarHourOf rule asr;
+      isha = solarHourOf rule isha;
+      «fajr_tomorrow» = tomorrow .fajr;
+    }
 
 unfoldable pub thirdSunOf : Rules → Course → ThirdSun
 thirdSunOf rules course = record { course = course; sun = solarTimeOf (rules .midnight) (courseNumbersOf course) }

@@ -1,7 +1,8 @@
 // The hour numbers that a row's times are worked from, and the sun's times that they give. A row by itself and rows that follow one another build
 // them here.
 ghost use mathlib.Core.Path.{_≡_};
-ghost use Rattle.schedule.specs.Hours.{sunsOf, dayHoursOf, rowHoursOf, hoursOf};
+ghost use Rattle.schedule.specs.Hours.{sunsOf, hoursOf};
+ghost use Rattle.schedule.specs.RowSuns.{dayHoursOf, rowHoursOf};
 use models::rules::Midnight;
 use refusals::Refusal;
 use solar::hours::HourNumbers;
