@@ -1,0 +1,85 @@
+"""What the tests of the desk have in common: counting, and running the command."""
+import importlib.machinery
+import importlib.util
+import os
+import pathlib
+import random
+import signal
+import subprocess
+import sys
+import tempfile
+import traceback
+
+sys.dont_write_bytecode = True
+ROOT = pathlib.Path(__file__).resolve().parent.parent.parent
+COMMAND = ROOT / "katchidul"
+sys.path.insert(0, str(ROOT / "desk"))
+PROGRAMS = os.environ.setdefault("KATCHIDUL_PROGRAMS", str(ROOT / "target" / "bin"))
+count = failed = 0
+is_long = False
+
+
+def check(what, got, wanted):
+    global count, failed
+    count += 1
+    if got != wanted:
+        failed += 1
+        if failed <= 40:
+            print("%s: %.500r, not %.500r" % (what, got, wanted))
+
+
+def run(*words, given=b""):
+    """The command's exit status, standard output and standard error, in a process that begins as a copy of this one: Python is not
+    started anew, so that hundreds of runs take seconds."""
+    with tempfile.TemporaryFile() as source, tempfile.TemporaryFile() as printed, tempfile.TemporaryFile() as said:
+        source.write(given)
+        source.seek(0)
+        child = os.fork()
+        if child == 0:
+            for number, file in enumerate((source, printed, said)):
+                os.dup2(file.fileno(), number)
+            os._exit(ended(words))
+        status = os.waitstatus_to_exitcode(os.waitpid(child, 0)[1])
+        printed.seek(0)
+        said.seek(0)
+        return status, printed.read(), said.read().decode("utf-8", "replace")
+
+
+def ended(words):
+    from katchidul_desk import command
+    try:
+        return command.main([os.fspath(word) for word in words])
+    except BaseException:
+        traceback.print_exc()
+        return 99
+
+
+def started(*words, given=b"", **more):
+    """The same of the command as it is started by a person."""
+    run = subprocess.run([COMMAND, *words], input=given, capture_output=True, check=False, **more)
+    return run.returncode, run.stdout, run.stderr.decode("utf-8", "replace")
+
+
+def hears_the_keyboard():
+    """Before a run that is to be stopped: a shell's background job has the keyboard's signal ignored, and so would its children."""
+    signal.signal(signal.SIGINT, signal.SIG_DFL)
+
+
+def program(name, order):
+    """What a proved program itself prints."""
+    return subprocess.run([os.path.join(PROGRAMS, name)], input=order, capture_output=True, check=True).stdout
+
+
+def draw(seed):
+    return random.Random(seed)
+
+
+def module(name, *path):
+    loader = importlib.machinery.SourceFileLoader(name, str(ROOT.joinpath(*path)))
+    loaded = importlib.util.module_from_spec(importlib.util.spec_from_loader(name, loader))
+    loader.exec_module(loaded)
+    return loaded
+
+
+# The second reader of orders, written from the paper on its own.
+cases = module("cases", "tests", "orders", "cases.py")
