@@ -24,15 +24,17 @@ def refused_orders(checks, built):
         trial.run()
         wrong = [] if trial.status == 1 else [f"status {trial.status}"]
         for at, text in enumerate(BAD, 1):
-            if f"order {at:03}: {built.library.refusal(text)}\n" not in trial.said:
+            if f"{at:03} is refused: {built.library.refusal(text)}\n" not in trial.said:
                 wrong.append(f"nothing is said of order {at}")
+            if trial.why(f"refused/{at:03}") != built.library.refusal(text):
+                wrong.append(f"beside order {at} is {trial.why(f'refused/{at:03}')!r}")
             if (trial.spool / "refused" / f"{at:03}").read_bytes() != text:
                 wrong.append(f"order {at} is not kept as it came")
         done = {name: (trial.spool / "done" / name / "order").read_bytes() for name in trial.names("done")}
         pages = {name: built.library.pages(text) for name, text in done.items()}
         if list(done.values()) != [GOOD, ORDERS[1]] or {str(job): them for job, them in trial.pages_by_job().items()} != pages:
             wrong.append("the two right orders are not punched")
-        if trial.names("in") != ["a folder", ".unfinished"]:
+        if trial.names("in") != ["a folder"] or not (trial.spool / "in" / ".unfinished").exists():
             wrong.append(f"in has {trial.names('in')}")
     checks.check("refused orders", wrong)
 
@@ -45,7 +47,7 @@ def refused_again(checks, built):
             (trial.spool / "in" / name).write_bytes(text)
             trial.run()
         kept = {there: (trial.spool / "refused" / there).read_bytes() for there in trial.names("refused")}
-        owed = dict(zip(["000", "000.2", "000.3", name, name[:-11] + ".2", name[:-11] + ".3"], BAD[:3] * 2))
+        owed = dict(zip(["000", "000.2", "000.3", name[:-15] + ".2", name[:-15] + ".3", name[:-15] + ".4"], BAD[:3] * 2))
     checks.check("refused orders of one name", [] if kept == owed else [f"kept {sorted(kept)}"])
 
 
@@ -62,7 +64,8 @@ def unreadable_orders(checks, built):
         (into / "a").symlink_to("nowhere")
         (into / "b").symlink_to("002")
         trial.run(before=drop_rights)
-        wrong = [] if trial.status == 1 and "order 000: Permission denied\n" in trial.said else [f"status {trial.status}: {trial.said}"]
+        told = trial.status == 1 and "000 is refused: Permission denied\n" in trial.said
+        wrong = [] if told else [f"status {trial.status}: {trial.said}"]
         if (trial.names("in"), trial.names("refused"), trial.names("done")) != (["a", "b"], ["000"], ["1", "2"]):
             wrong.append(f"in has {trial.names('in')}, refused {trial.names('refused')}, done {trial.names('done')}")
     checks.check("orders that cannot be read, and links", wrong)
@@ -85,7 +88,7 @@ def full_queue(checks, built):
     with Trial(built, [order(f"Town {at}", 26 + at) for at in range(20)], None, ["-t", 1]) as trial:
         trial.run()
         wrong = trial.faults()
-        if f"order 016: {built.library.sentence(16, 17)}\n" not in trial.said:
+        if "016 waits: 16 jobs are in the queue.\n" not in trial.said:
             wrong.append("nothing is said of the full queue")
     checks.check("more orders than the queue takes", wrong)
 
@@ -94,7 +97,8 @@ def no_id_left(checks, built):
     with Trial(built, [GOOD]) as trial:
         (trial.spool / "done" / "65535").mkdir(parents=True)
         trial.run()
-        told = trial.status == 1 and f"order 000: {built.library.sentence(17, 65536)}\n" in trial.said and trial.names("in") == ["000"]
+        told = trial.status == 1 and "000 waits: all ids of jobs up to 65535 are used; a new spool is needed\n" in trial.said
+        told = told and trial.names("in") == ["000"]
     checks.check("all ids are used up", [] if told else [trial.said])
 
 
@@ -138,7 +142,8 @@ class Stopped:
 
     def held_faults(self, trial, name, log, refused):
         wrong = trial.out_of_order()
-        if trial.status != 1 or f"job {name} is held: {self.built.library.sentence(*refused)}\n" not in trial.said:
+        sentence = self.built.library.sentence(*refused)
+        if trial.status != 1 or f") is held: {sentence}\n" not in trial.said or trial.why(f"held/{name}") != sentence:
             wrong.append(f"job {name}: status {trial.status}, not held by {refused}: {trial.said}")
         if trial.names("held") != [name] or (trial.spool / "held" / name / "log").read_bytes() != log:
             wrong.append(f"job {name} is not kept as it was")
@@ -235,9 +240,9 @@ def asked(trial, stopped=False):
     with socket.socket(socket.AF_UNIX) as host:
         host.settimeout(5)
         host.connect(trial.socket)
-        host.sendall(b"restart 1\n")
+        host.sendall(b"spool " + (trial.spool / "name").read_bytes() + b"restart 1\n")
         try:
-            return None if stopped else host.recv(64)
+            return None if stopped else [host.makefile("rb", 0).readline() for _ in range(2)][1]
         except OSError as lost:
             return lost
 

@@ -2,7 +2,6 @@
 import ctypes
 import os
 import pathlib
-import shutil
 import subprocess
 
 ROOT = pathlib.Path(__file__).resolve().parent.parent.parent
@@ -11,6 +10,12 @@ FLAGS = ["gcc", "-std=c11", "-Wall", "-Wextra", "-Wpedantic", "-Werror", "-O2"]
 
 class Cells(ctypes.Structure):
     _fields_ = [(name, ctypes.c_uint32) for name in ("number", "place", "rows", "dots")]
+
+
+class Order(ctypes.Structure):
+    """The front of what an order asks for; the rest is not looked at."""
+    _fields_ = [(name, ctypes.c_uint32) for name in ("number", "place", "town_at", "town_length", "year", "month", "day", "rows")] + [
+        ("rest", ctypes.c_uint8 * 104)]
 
 
 class Log(ctypes.Structure):
@@ -41,6 +46,7 @@ class Library:
         buffer, size, word = ctypes.c_char_p, ctypes.c_size_t, ctypes.c_uint32
         self.calls = {}
         for name, answer, words in [
+                ("read_order", Order, [buffer, size]),
                 ("write_page", Cells, [buffer, size, word, word, buffer, size]),
                 ("join", Joined, [Queue, word, word]),
                 ("turn", Turned, [Queue]),
@@ -74,6 +80,10 @@ class Library:
             self.known[order] = pages  # only now: other threads may ask
         return self.known[order]
 
+    def town(self, order):
+        read = self.calls["read_order"](order, len(order))
+        return order[read.town_at:read.town_at + read.town_length].decode()
+
     def dots(self, order, page):
         """The dots of the pages up to this one."""
         scratch = ctypes.create_string_buffer(975)
@@ -102,7 +112,7 @@ class Library:
 
 
 class Built:
-    def __init__(self, folder):
+    def __init__(self, folder, sanitize=False):
         self.folder = pathlib.Path(folder)
         archive = os.environ.get("LIBRARY")
         if not archive:
@@ -112,9 +122,9 @@ class Built:
         shared = str(self.folder / "library.so")
         self.run(["gcc", "-shared", "-o", shared, "-Wl,--whole-archive", self.archive, "-Wl,--no-whole-archive"])
         self.library = Library(shared)
-        self.embosser = self.build_embosser("embosser")
         self.stopper = self.made("stopper.so", [ROOT / "tests/job/stopper.c"], "-shared", "-fPIC")
-        self.host = self.build_host("emboss", ROOT / "examples/host")
+        self.flags = "-g -fsanitize=address,undefined -fno-sanitize-recover -static-libasan -static-libubsan".split() if sanitize else []
+        self.host, self.embosser = self.build("plain", ROOT / "host")
 
     def run(self, words):
         subprocess.run(words, cwd=ROOT, check=True)
@@ -124,23 +134,33 @@ class Built:
         self.run([*FLAGS, *words, *map(str, sources), "-o", program])
         return program
 
-    def build_embosser(self, name, *words):
-        return self.made(name, sorted(ROOT.glob("examples/embosser/*.c")), *words)
+    def build(self, name, sources, *words):
+        """A host and its stand-in for an embosser, by the host's own script."""
+        made = self.folder / f"{name}.bin"
+        subprocess.run([str(sources / "build"), str(made), *self.flags, *words], env={**os.environ, "LIBRARY": self.archive}, check=True)
+        return str(made / "katchidul-host"), str(made / "katchidul-standin")
 
     def checked_embosser(self):
-        return self.build_embosser("checked-embosser", "-fsanitize=address,undefined")
+        return self.build("checked", ROOT / "host", "-fsanitize=address,undefined")[1]
 
-    def build_host(self, name, sources, *words):
-        program = str(self.folder / name)
-        self.run([*FLAGS, *words, "-I", str(ROOT / "include"), *map(str, sorted(sources.glob("*.c"))), self.archive, "-o", program])
-        return program
+    def objects(self):
+        """The host's parts, compiled once for all hosts that differ in one of them."""
+        folder = self.folder / "objects"
+        if not folder.exists():
+            folder.mkdir()
+            subprocess.run([*FLAGS, "-I", str(ROOT / "include"), "-c", *map(str, ROOT.glob("host/*.c"))], cwd=folder, check=True)
+        return folder
 
     def edited_host(self, name, file, old, new):
         """A host with one place of its text changed; the place must be there once."""
-        copy = self.folder / (name.replace(" ", "-") + ".host")
-        shutil.copytree(ROOT / "examples/host", copy)
-        text = (copy / file).read_text()
+        text = (ROOT / "host" / file).read_text()
         if text.count(old) != 1:
             raise ValueError(f"{name}: the text to change stands {text.count(old)} times in {file}")
-        (copy / file).write_text(text.replace(old, new))
-        return self.build_host(name.replace(" ", "-"), copy, "-Wno-error")
+        folder = self.folder / name.replace(" ", "-")
+        folder.mkdir()
+        (folder / file).write_text(text.replace(old, new))
+        others = [str(part) for part in self.objects().glob("*.o") if part.stem != pathlib.Path(file).stem]
+        program = str(folder / "katchidul-host")
+        places = ["-I", str(ROOT / "host"), "-I", str(ROOT / "include")]
+        self.run([*FLAGS, "-Wno-error", *places, str(folder / file), *others, self.archive, "-o", program])
+        return program

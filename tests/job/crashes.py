@@ -1,14 +1,19 @@
 # The crash runs: hosts that are killed and begun again until all is done. Most of their time is waiting, so several run at once.
 import concurrent.futures
+import errno
 import itertools
+import os
 import random
+import time
 
 from trial import Trial, order
 
 ORDERS = [order("Ayr", 26), order("Bath", 1), order("Crewe", 75, clock=60), order("Deal", 50)]  # 2, 1, 3 and 2 pages
 LONG = [order("Ely", 400), order("Fowey", 30), order("Goole", 400), order("Hull", 1)]  # 16, 2, 16 and 1
+ASKED = [order("Ayr", 26), order("Bath", 100), order("Crewe", 400), order("Deal", 175), order("Ely", 1)]  # 2, 4, 16, 7 and 1
 CHAIN = 400  # hosts in one trial
 AT_ONCE = 6
+ERRORS = [errno.EIO, errno.ENOSPC, errno.EINTR, errno.EMFILE]
 
 # Embossers: quick or slow, with accidents or without.
 HABITS = [["-t", 0], ["-t", 1], ["-t", 2, "-a", 30], ["-t", 1, "-l", 10], ["-t", 0, "-a", 10, "-l", 5]]
@@ -23,6 +28,8 @@ class Count:
                      self.told + other.told)
 
     def end(self, trial, what):
+        if trial.status == 3:
+            trial.run_to_end()
         self.trials += 1
         self.pages += sum(map(len, trial.pages_by_job().values()))
         self.faults += [f"{what}: {fault}" for fault in trial.faults()]
@@ -72,16 +79,54 @@ def killed_again(built, seed, trials, orders=ORDERS):
         draw, kills = draw_of(seed, number), 0
         with Trial(built, orders, None, habits(draw)) as trial:
             for _ in range(CHAIN):
-                if draw.random() < 0.3:
-                    trial.end(trial.begin(), delay=draw.expovariate(200))
-                else:
-                    trial.run(after=draw.randint(1, 70), how=draw.choice(["kill", "torn"]))
-                if not trial.was_killed():
+                if not killed_somehow(trial, draw):
                     break
                 kills += 1
             return Count(kills=kills).end(trial, f"chain {seed}, trial {number}")
 
     return all_of(one, range(trials))
+
+
+def with_asks(built, seed, trials):
+    """The same while the operator holds, releases and cancels jobs, and the embosser is killed and begun again too."""
+
+    def one(number):
+        draw, kills = draw_of("asks", seed, number), 0
+        with Trial(built, ASKED, None, habits(draw)) as trial:
+            for turn in range(CHAIN):
+                (trial.spool / "asks").mkdir(exist_ok=True)
+                for _ in range(draw.choice([0, 1, 1, 3])):
+                    word = draw.choice(["hold", "hold", "release", "release", "release"] + ["cancel"] * (turn < 6))
+                    (trial.spool / "asks" / f"{word}.{draw.randint(1, len(ASKED) + 1)}").touch()
+                kills += killed_somehow(trial, draw)
+                if turn > 12 and not trial.was_killed():
+                    break
+            for name in trial.names("asks"):
+                (trial.spool / "asks" / name).unlink()
+            trial.release_by_hand()
+            trial.run_to_end()
+            faults = trial.asked_faults() + ([] if trial.status == 0 else [f"status {trial.status}: {trial.said[-200:]}"])
+            count = Count(kills=kills, trials=1, faults=[f"asks {seed}, trial {number}: {fault}" for fault in faults])
+            count.pages = sum(map(len, trial.pages_by_job().values()))
+            return count
+
+    return all_of(one, range(trials))
+
+
+def killed_somehow(trial, draw):
+    """Runs a host to some call or some moment, or kills its embosser; how many were killed."""
+    if draw.random() < 0.3:
+        host = trial.begin()
+        time.sleep(draw.expovariate(200))
+        trial.stop_embosser()
+        trial.start_embosser()
+        trial.end(host)
+        return 1
+    if draw.random() < 0.3:
+        trial.end(trial.begin(), delay=draw.expovariate(200))
+    else:
+        trial.run(after=draw.randint(1, 90), how=draw.choice(["kill", "torn"]))
+    return trial.was_killed()
 
 
 def without_power(built, seed, trials, host=None, seconds=30):
@@ -109,27 +154,66 @@ def without_accidents(built, orders=ORDERS, host=None):
         return trial.faults() + trial.turn_faults() + trial.progress_faults()
 
 
-def calls_of_a_run(built):
-    with Trial(built, ORDERS) as trial:
-        trace = trial.folder / "trace"
-        trial.run(trace=trace)
-        return len(trace.read_text().splitlines())
+def calls_of_a_run(built, lay):
+    """Which calls a host makes from its start to its end, of every kind."""
+    with Trial(built, ORDERS, None, ["-t", 0]) as trial:
+        lay(trial)
+        count = trial.folder / "count"
+        trial.run(count=count)
+        return count.read_text().splitlines()
 
 
-def failing(built, seed, step=1):
-    """Each call that writes fails once, in turn: the host says so and ends, or the link is begun anew; then a host to the end."""
+def lay_asks(trial):
+    """Three of the orders are jobs already, one of them held, and the operator asks for a change of each; a fourth is bad."""
+    for job, folder, word in ((1, "jobs", "hold"), (2, "jobs", "cancel"), (3, "held", "release")):
+        (trial.spool / folder / str(job)).mkdir(parents=True)
+        (trial.spool / "in" / f"{job - 1:03}").rename(trial.spool / folder / str(job) / "order")
+        (trial.spool / "asks").mkdir(exist_ok=True)
+        (trial.spool / "asks" / f"{word}.{job}").touch()
+    (trial.spool / "in" / "bad").write_bytes(b"")
 
-    def one(at):
-        with Trial(built, ORDERS, None, habits(draw_of(seed, at))) as trial:
-            trial.run(after=at, how="fail")
-            told = trial.status == 2 and "; nothing more is sent" in trial.said
-            faults = trial.out_of_order()
-            if not told and trial.status != 0:
-                faults.append(f"call {at} failed with status {trial.status}, without a word")
-            trial.run()
-            return Count(told=told, faults=faults).end(trial, f"call {at} failed")
 
-    return all_of(one, range(1, calls_of_a_run(built) + 1, step))
+def failing(built, seed, step=1, errors=ERRORS, lay=lambda trial: None):
+    """Each call fails once, in turn, by each error: the host says so and ends, or the order waits, or the job is held, or the link is begun
+    again; then a host to the end."""
+
+    def one(number):
+        at, error = number // len(errors) + 1, errors[number % len(errors)]
+        with Trial(built, ORDERS, None, habits(draw_of(seed, number))) as trial:
+            lay(trial)
+            trial.run(after=at, how="fail", error=error)
+            faults, told = trial.out_of_order(), told_of_failure(trial)
+            if trial.status != 0 and not told:
+                faults.append(f"status {trial.status} without a word: {trial.said}")
+            for _ in range(2):  # what is asked may hold a job once more
+                trial.release_by_hand()
+                trial.run_to_end()
+            (trial.spool / "refused" / "bad").unlink(missing_ok=True)
+            faults += trial.asked_faults() + ([] if trial.status == 0 else [f"status {trial.status}: {trial.said[-200:]}"])
+            return Count(trials=1, told=told, faults=[f"call {at} failed by {os.strerror(error)}: {fault}" for fault in faults])
+
+    numbers = range(0, (len(calls_of_a_run(built, lay)) + 5) * len(errors), step)
+    return all_of(one, numbers)
+
+
+def told_of_failure(trial):
+    """Whether the host says what failed, in the words for its exit status, or in a sentence beside the order."""
+    if trial.status == 1 and list(trial.spool.glob("refused/*.why")):
+        return True
+    words = {1: (" waits: ", " is held: ", " is refused: ", " is passed over"), 2: ("; nothing more is sent",), 3: ("embosser at ",)}
+    return any(word in trial.said for word in words.get(trial.status, ()))
+
+
+def in_pieces(built, seed, trials):
+    """Reads and writes of a few bytes each time."""
+
+    def one(number):
+        draw = draw_of(seed, number)
+        with Trial(built, ORDERS, None, habits(draw)) as trial:
+            trial.run(short=draw.choice([1, 2, 3, 7, 40]), patience=2000)
+            return Count().end(trial, f"in pieces {seed}, trial {number}")
+
+    return all_of(one, range(trials))
 
 
 def order_of_calls(built, seed, trials, host=None):

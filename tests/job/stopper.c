@@ -1,13 +1,19 @@
-/* Preloaded into a host: counts the calls that write, to the disk, to the link or to a person, and at the one whose number is
-   STOPPER_AFTER does what STOPPER_HOW says:
+/* Preloaded into a host: counts its calls, and at the one whose number is STOPPER_AFTER does what STOPPER_HOW says:
        kill    lets it come to its end, and ends the process by its own id
        torn    lets half of its bytes through, where it has any, and ends the process
-       fail    does nothing, and answers that the disk is full or the link is gone
-   STOPPER_TRACE names a file to which each call that came to its end is appended, a line each, with names from the spool on: what the spool
-   is, STOPPER_SPOOL says. */
+       fail    does nothing, and answers that it failed by STOPPER_ERROR, a number
+   kill and torn count the calls that write, to the disk, to the link or to a person; fail counts every call.
+   STOPPER_SHORT: reads and writes take that many bytes at most, each time.
+   STOPPER_TRACE names a file to which each call that writes is appended when it came to its end, a line each, with names from the spool on:
+   what the spool is, STOPPER_SPOOL says. STOPPER_COUNT names a file that gets a line for each call, of whatever kind.
+   STOPPER_MOVE is three names: when the first, a folder, is opened for the first time, the second is renamed to the third, as an operator
+   may do it at any moment. */
 #define _GNU_SOURCE
+#include <dirent.h>
+#include <dlfcn.h>
 #include <errno.h>
 #include <fcntl.h>
+#include <poll.h>
 #include <signal.h>
 #include <stdarg.h>
 #include <stdio.h>
@@ -18,29 +24,40 @@
 #include <sys/syscall.h>
 #include <unistd.h>
 
-static long calls, stop_after;
+static long calls, writes, stop_after;
 static char how = 'k';
-static int trace = -1;
+static int trace = -1, counted = -1, error = EIO;
+static size_t most = (size_t)-1;
 static const char *spool = "";
 
 typedef struct {
   char text[4096];
 } path;
 
+static int open_own(const char *name) {
+  const char *file = getenv(name);
+  return file == NULL ? -1 : (int)syscall(SYS_openat, AT_FDCWD, file, O_WRONLY | O_CREAT | O_APPEND | O_CLOEXEC, 0666);
+}
+
 __attribute__((constructor)) static void read_settings(void) {
-  const char *after = getenv("STOPPER_AFTER"), *way = getenv("STOPPER_HOW"), *file = getenv("STOPPER_TRACE");
+  const char *after = getenv("STOPPER_AFTER"), *way = getenv("STOPPER_HOW");
   if (after) stop_after = atol(after);
   if (way) how = way[0];
   if (getenv("STOPPER_SPOOL")) spool = getenv("STOPPER_SPOOL");
-  if (file) trace = (int)syscall(SYS_openat, AT_FDCWD, file, O_WRONLY | O_CREAT | O_APPEND | O_CLOEXEC, 0666);
+  if (getenv("STOPPER_ERROR")) error = atoi(getenv("STOPPER_ERROR"));
+  if (getenv("STOPPER_SHORT")) most = (size_t)atol(getenv("STOPPER_SHORT"));
+  trace = open_own("STOPPER_TRACE");
+  counted = open_own("STOPPER_COUNT");
 }
 
-static int is_now(char way) { return stop_after != 0 && calls == stop_after && how == way; }
+static int is_now(char way) { return stop_after != 0 && writes == stop_after && how == way; }
 
 static void end_here(void) {
   kill(getpid(), SIGKILL);
   for (;;) pause();
 }
+
+/* ---- names and notes */
 
 /* An open file's name, from the spool on: "." is the spool itself. */
 static path name_of(int file) {
@@ -72,77 +89,182 @@ static void note_bytes(const char *what, const char *name, const void *bytes, si
   note("%s %s %s\n", what, name, digits);
 }
 
-/* After a call: the process ends here where its turn has come. A torn call that has no bytes is a whole one. */
-static void after_call(void) {
-  if (is_now('k') || is_now('t')) end_here();
-}
+/* ---- before and after a call */
 
-/* Before a call: true where it has to fail. */
-static int fails(int why) {
+/* True if the call has to fail. */
+static int fails(const char *call) {
   calls++;
-  if (!is_now('f')) return 0;
-  errno = why;
+  if (counted >= 0) {
+    char line[64];
+    syscall(SYS_write, counted, line, (size_t)snprintf(line, sizeof line, "%s\n", call));
+  }
+  if (how != 'f' || calls != stop_after) return 0;
+  errno = error;
   return 1;
 }
 
+static int write_fails(const char *call) {
+  if (fails(call)) return 1;
+  writes++;
+  return 0;
+}
+
+/* The process ends here when its turn has come. A torn call that has no bytes is a whole one. */
+static void after_write(void) {
+  if (is_now('k') || is_now('t')) end_here();
+}
+
+static size_t cut(size_t length) { return length < most ? length : most; }
+
+/* The C library's own calls, for those that are more than a system call. */
+static int (*real_faccessat)(int, const char *, int, int);
+static DIR *(*real_fdopendir)(int);
+static struct dirent *(*real_readdir)(DIR *);
+static int (*real_ppoll)(struct pollfd *, nfds_t, const struct timespec *, const sigset_t *);
+
+static void find(const char *name, void *pointer) {
+  void *found = dlsym(RTLD_NEXT, name);
+  memcpy(pointer, &found, sizeof found);
+}
+
+__attribute__((constructor)) static void find_real(void) {
+  find("faccessat", &real_faccessat);
+  find("fdopendir", &real_fdopendir);
+  find("readdir", &real_readdir);
+  find("ppoll", &real_ppoll);
+}
+
+/* ---- calls that write */
+
 ssize_t write(int file, const void *bytes, size_t length) {
-  if (fails(ENOSPC)) return -1;
-  ssize_t done = syscall(SYS_write, file, bytes, is_now('t') ? length / 2 : length);
+  if (write_fails("write")) return -1;
+  ssize_t done = syscall(SYS_write, file, bytes, is_now('t') ? length / 2 : file <= 2 ? length : cut(length));
   if (done >= 0) note_bytes(file <= 2 ? "say" : "write", file <= 2 ? "-" : name_of(file).text, bytes, (size_t)done);
-  after_call();
+  after_write();
   return done;
 }
 
 ssize_t send(int socket, const void *bytes, size_t length, int flags) {
-  if (fails(EPIPE)) return -1;
-  ssize_t done = syscall(SYS_sendto, socket, bytes, is_now('t') ? length / 2 : length, flags, NULL, 0);
+  if (write_fails("send")) return -1;
+  ssize_t done = syscall(SYS_sendto, socket, bytes, is_now('t') ? length / 2 : cut(length), flags, NULL, 0);
   if (done >= 0) note_bytes("send", "-", bytes, (size_t)done);
-  after_call();
+  after_write();
   return done;
 }
 
 int fsync(int file) {
-  if (fails(EIO)) return -1;
+  if (write_fails("fsync")) return -1;
   int done = (int)syscall(SYS_fsync, file);
   if (done == 0) note("fsync %s\n", name_of(file).text);
-  after_call();
+  after_write();
   return done;
 }
 
-/* Counts only where it may make a file. */
+static void move_meanwhile(int spool_file, const char *opened) {
+  static int moved;
+  char folder[64], from[64], to[64];
+  const char *words = getenv("STOPPER_MOVE");
+  if (moved || words == NULL || sscanf(words, "%63s %63s %63s", folder, from, to) != 3 || strcmp(opened, folder) != 0) return;
+  moved = 1;
+  syscall(SYS_renameat2, spool_file, from, spool_file, to, 0);
+}
+
+/* It writes only if it may make a file. */
 int openat(int folder, const char *name, int flags, ...) {
   va_list words;
   va_start(words, flags);
   int mode = flags & O_CREAT ? va_arg(words, int) : 0;
   va_end(words);
-  if (!(flags & O_CREAT)) return (int)syscall(SYS_openat, folder, name, flags, mode);
-  if (fails(ENOSPC)) return -1;
+  move_meanwhile(folder, name);
+  if (!(flags & O_CREAT)) return fails("openat") ? -1 : (int)syscall(SYS_openat, folder, name, flags, mode);
+  if (write_fails("openat")) return -1;
   int file = (int)syscall(SYS_openat, folder, name, flags, mode);
   if (file >= 0) note("create %s\n", name);
-  after_call();
+  after_write();
   return file;
 }
 
-int renameat(int from_folder, const char *from, int to_folder, const char *to) {
-  if (fails(ENOSPC)) return -1;
-  int done = (int)syscall(SYS_renameat, from_folder, from, to_folder, to);
+static int rename_by(int from_folder, const char *from, int to_folder, const char *to, unsigned flags, const char *call) {
+  if (write_fails(call)) return -1;
+  int done = (int)syscall(SYS_renameat2, from_folder, from, to_folder, to, flags);
   if (done == 0) note("rename %s %s\n", from, to);
-  after_call();
+  after_write();
   return done;
 }
 
+int renameat(int from_folder, const char *from, int to_folder, const char *to) {
+  return rename_by(from_folder, from, to_folder, to, 0, "renameat");
+}
+
+int renameat2(int from_folder, const char *from, int to_folder, const char *to, unsigned flags) {
+  return rename_by(from_folder, from, to_folder, to, flags, "renameat2");
+}
+
 int mkdirat(int folder, const char *name, mode_t mode) {
-  if (fails(ENOSPC)) return -1;
+  if (write_fails("mkdirat")) return -1;
   int done = (int)syscall(SYS_mkdirat, folder, name, mode);
   if (done == 0) note("mkdir %s\n", name);
-  after_call();
+  after_write();
   return done;
 }
 
 int unlinkat(int folder, const char *name, int flags) {
-  if (fails(EIO)) return -1;
+  if (write_fails("unlinkat")) return -1;
   int done = (int)syscall(SYS_unlinkat, folder, name, flags);
   if (done == 0) note("remove %s\n", name);
-  after_call();
+  after_write();
   return done;
+}
+
+/* ---- calls that write nothing */
+
+int open(const char *name, int flags, ...) { return fails("open") ? -1 : (int)syscall(SYS_openat, AT_FDCWD, name, flags, 0); }
+
+/* A file is closed also when that fails. */
+int close(int file) {
+  int failed = fails("close"), done = (int)syscall(SYS_close, file);
+  if (failed) errno = error;
+  return failed ? -1 : done;
+}
+
+ssize_t read(int file, void *bytes, size_t length) { return fails("read") ? -1 : syscall(SYS_read, file, bytes, cut(length)); }
+
+ssize_t recv(int socket, void *bytes, size_t length, int flags) {
+  return fails("recv") ? -1 : syscall(SYS_recvfrom, socket, bytes, cut(length), flags, NULL, NULL);
+}
+
+int fstat(int file, struct stat *is) { return fails("fstat") ? -1 : (int)syscall(SYS_newfstatat, file, "", is, AT_EMPTY_PATH); }
+
+int fstatat(int folder, const char *name, struct stat *is, int flags) {
+  return fails("fstatat") ? -1 : (int)syscall(SYS_newfstatat, folder, name, is, flags);
+}
+
+int faccessat(int folder, const char *name, int mode, int flags) {
+  return fails("faccessat") ? -1 : real_faccessat(folder, name, mode, flags);
+}
+
+DIR *fdopendir(int file) { return fails("fdopendir") ? NULL : real_fdopendir(file); }
+
+struct dirent *readdir(DIR *list) { return fails("readdir") ? NULL : real_readdir(list); }
+
+int socket(int domain, int type, int protocol) { return fails("socket") ? -1 : (int)syscall(SYS_socket, domain, type, protocol); }
+
+int connect(int file, __CONST_SOCKADDR_ARG address, socklen_t length) {
+  return fails("connect") ? -1 : (int)syscall(SYS_connect, file, address.__sockaddr__, length);
+}
+
+int ppoll(struct pollfd *files, nfds_t count, const struct timespec *time, const sigset_t *signals) {
+  return fails("ppoll") ? -1 : real_ppoll(files, count, time, signals);
+}
+
+int fcntl(int file, int command, ...) {
+  va_list words;
+  va_start(words, command);
+  void *word = va_arg(words, void *);
+  va_end(words);
+  return fails("fcntl") ? -1 : (int)syscall(SYS_fcntl, file, command, word);
+}
+
+ssize_t getrandom(void *bytes, size_t length, unsigned flags) {
+  return fails("getrandom") ? -1 : syscall(SYS_getrandom, bytes, length, flags);
 }

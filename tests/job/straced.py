@@ -9,8 +9,8 @@ from trial import PATIENCE, Trial
 
 # System calls of the host that change nothing on a disk or a link.
 NO_WRITES = set("""access arch_prctl brk clock_nanosleep close connect execve exit_group faccessat faccessat2 fcntl getdents64 getegid
-geteuid getgid getrandom getuid mmap mprotect munmap newfstatat poll pread64 prlimit64 read readlink recvfrom rseq rt_sigaction
-set_robust_list set_tid_address socket""".split())
+geteuid getgid getrandom getuid lseek mmap mprotect munmap newfstatat ppoll pread64 prlimit64 read readlink recvfrom rseq rt_sigaction
+rt_sigprocmask set_robust_list set_tid_address socket""".split())
 
 
 def found():
@@ -41,8 +41,8 @@ class Calls:
         texts = [text_of(word) for word in re.findall(r'"((?:\\x..)*)"', words)]
         if call == "openat" and "O_CREAT" not in words or self.own_trace in [*files, *(text.decode("latin-1") for text in texts)]:
             return
-        if call in ("openat", "mkdirat", "unlinkat", "renameat"):
-            known = {"openat": "create", "mkdirat": "mkdir", "unlinkat": "remove", "renameat": "rename"}[call]
+        if call in ("openat", "mkdirat", "unlinkat", "renameat", "renameat2"):
+            known = {"openat": "create", "mkdirat": "mkdir", "unlinkat": "remove"}.get(call, "rename")
             self.lines += [" ".join([known, *(text.decode() for text in texts)])] if answer >= 0 else []
         elif call == "fsync":
             self.lines += ["fsync " + self.name(files[0])] if answer == 0 else []

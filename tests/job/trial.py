@@ -2,6 +2,7 @@
 import itertools
 import os
 import pathlib
+import re
 import shutil
 import subprocess
 import tempfile
@@ -11,11 +12,13 @@ from disk import Disk
 
 LOG_SIZE = 25  # of the host's log, KATCHIDUL_LOG_ROOM of three pages
 PATIENCE = 30  # milliseconds
+FOLDERS = ("in", "jobs", "done", "held", "cancelled", "refused", "asks")
+STAMP = re.compile(r"^\d{4}-\d\d-\d\dT\d\d:\d\d:\d\d[+-]\d\d:\d\d ", re.M)
 
 
-def order(town, rows, clock=0):
+def order(town, rows, clock=0, first="07ea0101", latitude="404b633d07c84b5e"):
     """An order for some rows: Durham's, from 2026-01-01 on."""
-    fields = [(1, town.encode()), (2, bytes.fromhex("07ea0101")), (3, rows.to_bytes(2, "big")), (4, bytes.fromhex("404b633d07c84b5e")),
+    fields = [(1, town.encode()), (2, bytes.fromhex(first)), (3, rows.to_bytes(2, "big")), (4, bytes.fromhex(latitude)),
               (5, bytes.fromhex("bff95bc01a36e2eb")), (6, b"\0"), (16, clock.to_bytes(2, "big"))]
     return b"".join(bytes([tag]) + len(value).to_bytes(2, "big") + value for tag, value in fields)
 
@@ -43,7 +46,7 @@ class Trial:
         for at, text in enumerate(orders):
             (self.spool / "in" / f"{at:03}").write_bytes(text)
         self.embosser, self.habits = None, [str(word) for word in embosser]
-        self.said, self.status = "", None
+        self.said, self.stamped, self.status = "", "", None
 
     def __enter__(self):
         self.start_embosser()
@@ -64,15 +67,19 @@ class Trial:
             self.embosser.communicate()
         self.embosser = None
 
-    def begin(self, after=0, how="kill", trace=None, before=None, patience=PATIENCE):
-        """Starts a host; after: the call that writes at which the stopper does what `how` says; before: what its process does first."""
+    def begin(self, after=0, how="kill", trace=None, before=None, patience=PATIENCE, stays=False, output=subprocess.PIPE,
+              **settings):
+        """Starts a host; after: the call at which the stopper does what `how` says; before: what its process does first; settings: more of
+        the stopper's, as error=5."""
         words = {**os.environ}
-        if after or trace:
+        if after or trace or settings:
             words.update(LD_PRELOAD=self.built.stopper, STOPPER_AFTER=str(after), STOPPER_HOW=how, STOPPER_SPOOL=str(self.spool.resolve()))
         if trace:
             words["STOPPER_TRACE"] = str(trace)
-        return subprocess.Popen([self.host, "-p", str(patience), str(self.spool), self.socket], env=words, preexec_fn=before,
-                                stdout=subprocess.PIPE, stderr=subprocess.STDOUT)
+        words.update({f"STOPPER_{name.upper()}": str(value) for name, value in settings.items()})
+        options = ["-s"] if stays else []
+        return subprocess.Popen([self.host, *options, "-p", str(patience), str(self.spool), self.socket], env=words, preexec_fn=before,
+                                stdout=output, stderr=subprocess.STDOUT)
 
     def end(self, host, delay=None):
         """Waits for a host, or ends it by its id after a delay; a host that does not come to its end counts as status 99."""
@@ -86,11 +93,25 @@ class Trial:
             host.kill()
             said, _ = host.communicate()
             self.status = 99
-        self.said = said.decode()
+        self.stamped = said.decode()
+        self.said = STAMP.sub("", self.stamped)
         return self.status
 
     def run(self, **words):
         return self.end(self.begin(**words))
+
+    def run_to_end(self):
+        """A host that comes to its end. On a busy machine the embosser may be late for ten tries in a row; then another host is begun."""
+        self.run()
+        for _ in range(20):
+            if self.status == 3 and self.embosser:
+                self.run()
+        return self.status
+
+    def release_by_hand(self):
+        """Moves every held job back to jobs/."""
+        for name in self.names("held"):
+            (self.spool / "held" / name).rename(self.spool / "jobs" / name)
 
     def was_killed(self):
         return self.status == -9
@@ -98,7 +119,14 @@ class Trial:
     # ---- what is wrong
 
     def names(self, folder):
-        return sorted(os.listdir(self.spool / folder), key=lambda name: (len(name), name))
+        """The names in a folder, without the sentences beside them and without what was left unfinished."""
+        names = os.listdir(self.spool / folder) if (self.spool / folder).exists() else []
+        return sorted((name for name in names if not name.endswith(".why") and name[0] != "."), key=lambda name: (len(name), name))
+
+    def why(self, name):
+        """The sentence beside a held job or a refused order, without its newline."""
+        file = self.spool / f"{name}.why"
+        return file.read_text().removesuffix("\n") if file.exists() else None
 
     def order_of(self, job):
         file = self.spool / job / "order"
@@ -115,8 +143,8 @@ class Trial:
         wrong = []
         if self.status != status:
             wrong.append(f"status {self.status}, not {status}: {self.said.strip().splitlines()[-1:]}")
-        for folder in ("in", "jobs", "held", "refused"):
-            if self.names(folder):
+        for folder in FOLDERS:
+            if folder != "done" and self.names(folder):
                 wrong.append(f"{folder} has {self.names(folder)}")
         done = [self.order_of(f"done/{name}") for name in self.names("done")]
         if done != self.orders:
@@ -127,6 +155,21 @@ class Trial:
             if punched != owed:
                 wrong.append(f"job {name}: punched {[page for page, *_ in punched]} of {len(owed)} pages")
         return wrong + [f"pages of job {job}, which is not there" for job in jobs]
+
+    def asked_faults(self):
+        """After the last host, when jobs were held, released and cancelled: each order is done whole, or it is cancelled. Of a cancelled
+        one the pages that its log says are punched, and no other."""
+        wrong, library, jobs, texts = [], self.built.library, self.pages_by_job(), []
+        wrong += [f"{folder} has {self.names(folder)}" for folder in FOLDERS if folder not in ("done", "cancelled") and self.names(folder)]
+        for folder in ("done", "cancelled"):
+            for name in self.names(folder):
+                texts.append(self.order_of(f"{folder}/{name}"))
+                log = self.spool / folder / name / "log"
+                finished = library.log(log.read_bytes() if log.exists() else b"", LOG_SIZE).finished
+                owed, punched = library.pages(texts[-1]), jobs.get(int(name), [])
+                if punched != (owed if folder == "done" else owed[:finished]):
+                    wrong.append(f"{folder}/{name}: punched {[page for page, *_ in punched]} of {len(owed)}, log {finished}")
+        return wrong + ([] if sorted(texts) == sorted(self.orders) else ["an order is lost or there twice"])
 
     def turn_faults(self):
         """Of a run without accidents: the jobs' pages do not come in the turns of the library's queue."""
@@ -139,15 +182,17 @@ class Trial:
         library, owed = self.built.library, []
         for job, page, *_ in punched_pages(self.punched):
             text = self.orders[job - 1]
-            owed.append(f"job {job}: page {page} of {len(library.pages(text))}, {library.dots(text, page)} dots punched")
-        told = [line for line in self.said.splitlines() if line.endswith(" punched")]
+            town, pages = library.town(text), len(library.pages(text))
+            owed.append(f"job {job} ({job - 1:03}, {town}): page {page} of {pages}, {library.dots(text, page)} dots punched; "
+                        f"pages left: {pages - page}")
+        told = [line.split(", jobs:")[0] for line in self.said.splitlines() if " dots punched" in line]
         return [f"told {line}, not {right}" for line, right in itertools.zip_longest(told, owed) if line != right]
 
     def out_of_order(self):
         """Of jobs that may have stopped halfway: pages that are not the first ones of their order, each once."""
         wrong = []
         for job, pages in self.pages_by_job().items():
-            for folder in ("jobs", "held", "done"):
+            for folder in ("jobs", "held", "done", "cancelled"):
                 text = self.order_of(f"{folder}/{job}")
                 if text is not None and pages != self.built.library.pages(text)[:len(pages)]:
                     wrong.append(f"job {job} has pages twice or out of order")
@@ -178,7 +223,7 @@ class Trial:
             disk.follow(line)
         shutil.rmtree(self.spool)
         disk.lay_down(str(self.spool), draw)
-        for folder in ("in", "jobs", "done", "held", "refused"):
+        for folder in FOLDERS:
             (self.spool / folder).mkdir(exist_ok=True)
 
     def disk(self, unflushed=None):

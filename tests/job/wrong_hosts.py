@@ -7,32 +7,31 @@ SEND_NEXT = """  append(r, j, KATCHIDUL_RECORD_SENT, page);
 
 WRONG_HOSTS = [
     ("a page before its record", {"kills", "calls"}, "room.c", SEND_NEXT, """\
-  bool gone = send_page(r, j, page);
+  course gone = send_page(r, j, page);
   append(r, j, KATCHIDUL_RECORD_SENT, page);
   r->queue = turn.queue;
   return gone;
 """),
-    ("nothing flushed", {"power", "calls"}, "lasting.c", "fsync(file) != 0 || close(file) != 0", "close(file) != 0"),
-    ("the log not flushed", {"power", "calls"}, "lasting.c", "  flush_and_close(file, made);\n", "  close(file);\n"),
-    ("the log's folder not flushed", {"power", "calls"}, "lasting.c", "stop_at(meant);\n  flush_file(spool, folder);\n",
-     "stop_at(meant);\n"),
-    ("the order's folder not flushed", {"calls"}, "spool.c", '  make_folder(spool, folder);\n  flush_file(spool, "jobs");\n',
-     "  make_folder(spool, folder);\n"),
-    ("the order not flushed", {"calls"}, "spool.c", "  flush_file(spool, file);\n", ""),
-    ("each job whole", {"plain"}, "room.c", "  job *j = find(r, turn.id);\n", """\
+    ("nothing flushed", {"power", "calls"}, "disk.c", "file < 0 || TEMP_FAILURE_RETRY(fsync(file)) != 0", "file < 0"),
+    ("the log not flushed", {"power", "calls"}, "disk.c", "  flush_and_close(file, UNFINISHED);\n", "  close(file);\n"),
+    ("the log's folder not flushed", {"power", "calls"}, "disk.c", "stop_at(meant.text);\n  flush_folder(spool, folder);\n",
+     "stop_at(meant.text);\n"),
+    ("the order's folder not flushed", {"calls"}, "spool.c", '  flush_folder(spool, "jobs");\n', ""),
+    ("the order not flushed", {"calls"}, "intake.c", "name).text, true, o->bytes", "name).text, false, o->bytes"),
+    ("each job whole", {"plain"}, "room.c", "  job *j = room_find(r, turn.id);\n", """\
   job *j = NULL;
-  for (uint32_t id = 1; j == NULL || job_log(j).sent == pages_of(&j->order); id++) j = find(r, id);
+  for (uint32_t id = 1; j == NULL || job_log(j).sent == pages_of(&j->order); id++) j = room_find(r, id);
 """),
-    ("the whole job's dots told", {"plain"}, "room.c", "dots_through(&j->order, finished)", "dots_through(&j->order, pages_of(&j->order))"),
-    ("pages told before they are punched", {"plain"}, "room.c", "say_progress(j, log.finished);", "say_progress(j, log.sent);"),
-    ("the log written in its place", {"kills"}, "lasting.c", '"%s/%s.new", folder, name', '"%s/%s", folder, name'),
-    ("the embosser not asked", {"kills"}, "room.c", "job_restart(r->spool, &j, count)", "job_restart(r->spool, &j, job_log(&j).finished)"),
-    ("open pages not sent again", {"kills"}, "room.c", "uint32_t page = now.finished + 1;", "uint32_t page = now.sent + 1;"),
-    ("an order copied, not moved", {"kills"}, "spool.c", '  move_lasting(spool, "in", name, folder, "order");\n', """\
-  uint8_t bytes[KATCHIDUL_ORDER_MAX];
+    ("the whole job's dots told", {"plain"}, "room.c", "dots_through(&j->order, finished)", "dots_through(&j->order, pages)"),
+    ("pages told before they are punched", {"plain"}, "room.c", "say_progress(r, j, log.finished);", "say_progress(r, j, log.sent);"),
+    ("the log written in its place", {"kills"}, "disk.c", '#define UNFINISHED ".new"', "#define UNFINISHED meant.text"),
+    ("the embosser not asked", {"kills"}, "intake.c", "job_restart(r->spool, j, count)", "job_restart(r->spool, j, job_log(j).finished)"),
+    ("open pages not sent again", {"kills"}, "intake.c", "uint32_t page = now.finished + 1;", "uint32_t page = now.sent + 1;"),
+    ("an order copied, not moved", {"kills"}, "spool.c", '  int why = move_lasting(spool, "in", name, folder.text, "order");\n', """\
+  char bytes[KATCHIDUL_ORDER_MAX];
   size_t length;
-  read_file(spool, file, bytes, sizeof bytes, &length);
-  write_lasting(spool, folder, "order", bytes, length);
-  unlinkat(spool, file, 0);
+  int why = read_file(spool, path_of("in/%s", name).text, true, bytes, sizeof bytes, &length);
+  write_lasting(spool, folder.text, "order", bytes, length);
+  remove_lasting(spool, "in", name);
 """),
 ]

@@ -1,9 +1,10 @@
-/* embosser [-t MILLISECONDS] [-a PERCENT] [-l PERCENT] [-r SEED] SOCKET PUNCHED: a stand-in for the machine. It takes pages over a socket,
-   as examples/host/link.c writes them, finishes them in the order in which they came, each in -t milliseconds, and appends them to PUNCHED,
-   whatever they are: that none comes twice is the host's business. It serves a host at a time; a host that is gone leaves its pages in
-   the tray, and they are finished still.
+/* katchidul-standin [-t MILLISECONDS] [-a PERCENT] [-l PERCENT] [-r SEED] SOCKET PUNCHED: a stand-in for the machine. It takes pages over
+   a socket, as host/link.h has it, finishes them in the order in which they came, each in -t milliseconds, and appends them to PUNCHED,
+   whatever they are: that none comes twice is the host's business. It serves one host at a time, and one spool for good. A host that is
+   gone leaves its pages in the tray, and they are still finished.
    -a: so many acknowledgements of a hundred are lost. -l: of a hundred pages in work so many are lost, with all of the tray, and the link
    closes; so many trays are lost too when a host is gone. -r begins another row of such accidents. */
+#define _GNU_SOURCE
 #include "punched.h"
 
 #include <poll.h>
@@ -24,10 +25,11 @@ typedef struct {
 
 static habits does;
 static int listener = -1, host = -1;
+static bool met; /* the host's spool is the one that is served */
 static sheet tray[TRAY];
 static bool known[TRAY]; /* whether the host that sent it is there */
 static size_t waiting;
-static char text[2 * PAGE_BYTES];
+static char text[2 * MESSAGE_BYTES];
 static size_t held;
 static long long begun; /* when the page in work was begun */
 
@@ -43,15 +45,27 @@ static void part(void) {
   if (host >= 0) close(host);
   host = -1;
   held = 0;
+  met = false;
   memset(known, 0, sizeof known);
   if (accident(does.lost_pages)) waiting = 0;
 }
 
-static void answer(const char *word, uint32_t id, uint32_t number) {
-  char line[64];
-  int length = snprintf(line, sizeof line, "%s %u %u\n", word, id, number);
-  if (host >= 0 && send(host, line, (size_t)length, MSG_NOSIGNAL) != length) part();
+static void answer(const char *line) {
+  if (host >= 0 && send(host, line, strlen(line), MSG_NOSIGNAL) != (ssize_t)strlen(line)) part();
 }
+
+static void answer_numbers(const char *word, uint32_t id, uint32_t number) {
+  char line[LINE_BYTES];
+  snprintf(line, sizeof line, "%s %u %u\n", word, id, number);
+  answer(line);
+}
+
+static void fail(void) {
+  perror("katchidul-standin");
+  exit(1);
+}
+
+/* ---- messages */
 
 static void remove_at(size_t at) {
   memmove(tray + at, tray + at + 1, (waiting - at - 1) * sizeof *tray);
@@ -63,40 +77,41 @@ static void remove_at(size_t at) {
 static void restart(uint32_t id) {
   for (size_t i = waiting; i-- > 0;)
     if (tray[i].id == id) remove_at(i);
-  answer("count", id, punched_count(id));
+  answer_numbers("count", id, punched_count(id));
 }
 
-/* The front of what came: how many bytes it is, 0 where it is not whole, -1 where it is nothing. */
-static int take(void) {
-  uint32_t id;
-  char *end = memchr(text, '\n', held);
-  if (end == NULL) return held < HEAD_MAX ? 0 : -1;
-  if (text[0] == 'p') {
-    if (waiting == TRAY) return 0;
-    int length = sheet_from(text, held, &tray[waiting]);
-    if (length <= 0) return length;
-    if (waiting == 0) begun = now();
-    known[waiting++] = true;
-    return length;
-  }
-  *end = '\0';
-  if (sscanf(text, "restart %u", &id) != 1) return -1;
-  int length = (int)(end + 1 - text);
-  restart(id);
-  return length;
+static void meet(const char *asking) {
+  char name[NAME_BYTES + 1], line[LINE_BYTES];
+  if (!punched_serves(asking, name)) fail();
+  met = strcmp(name, asking) == 0;
+  snprintf(line, sizeof line, "serves %s\n", name);
+  answer(line);
 }
 
-static void take_all(void) {
-  for (int length; host >= 0 && (length = take()) != 0;) {
-    if (length < 0) {
-      fprintf(stderr, "embosser: this is no page and no question\n");
-      part();
-      return;
-    }
-    if (host < 0) return; /* it was gone before its answer, and so is what it said */
-    held -= (size_t)length;
-    memmove(text, text + length, held);
+static void lay_in_tray(const message *m) {
+  sheet *s = &tray[waiting];
+  *s = (sheet){.id = m->id, .page = m->page, .length = m->length};
+  memcpy(s->bytes, text, m->length);
+  if (waiting == 0) begun = now();
+  known[waiting++] = true;
+}
+
+/* Takes the message at the front of what came; false if there is none. */
+static bool take(void) {
+  message m = message_from(text, held);
+  if (m.kind == UNFINISHED || (m.kind == PAGE && waiting == TRAY)) return false;
+  if (m.kind == NO_MESSAGE || (m.kind == SPOOL) == met) {
+    fprintf(stderr, "katchidul-standin: the host sent what is no message, or out of turn\n");
+    part();
+    return false;
   }
+  if (m.kind == SPOOL) meet(m.name);
+  if (m.kind == RESTART) restart(m.id);
+  if (m.kind == PAGE) lay_in_tray(&m);
+  if (host < 0) return false; /* it was gone before its answer, and so is what it said */
+  held -= m.length;
+  memmove(text, text + m.length, held);
+  return true;
 }
 
 static void hear(void) {
@@ -104,6 +119,8 @@ static void hear(void) {
   if (some <= 0) part();
   else held += (size_t)some;
 }
+
+/* ---- pages */
 
 static void finish(void) {
   uint32_t id = tray[0].id, page = tray[0].page;
@@ -113,13 +130,10 @@ static void finish(void) {
     part();
     return;
   }
-  if (!punched_append(&tray[0])) {
-    perror("embosser");
-    exit(1);
-  }
+  if (!punched_append(&tray[0])) fail();
   remove_at(0);
   begun = now();
-  if (heard) answer("done", id, page);
+  if (heard) answer_numbers("done", id, page);
 }
 
 /* While the tray is full nothing more is read. */
@@ -131,17 +145,19 @@ static void serve(void) {
       if (host < 0) host = accept(listener, NULL, NULL);
       else hear();
     }
-    take_all();
+    while (host >= 0 && take()) continue;
     if (waiting > 0 && begun + does.page_time <= now()) finish();
   }
 }
+
+/* ---- the command */
 
 static bool listen_at(const char *path) {
   struct sockaddr_un at = {.sun_family = AF_UNIX};
   if (strlen(path) >= sizeof at.sun_path) return false;
   strcpy(at.sun_path, path);
   unlink(path);
-  listener = socket(AF_UNIX, SOCK_STREAM, 0);
+  listener = socket(AF_UNIX, SOCK_STREAM | SOCK_CLOEXEC, 0);
   return listener >= 0 && bind(listener, (const struct sockaddr *)&at, sizeof at) == 0 && listen(listener, 4) == 0;
 }
 
@@ -155,15 +171,12 @@ int main(int count, char **words) {
     right = right && option != '?';
   }
   if (!right || count - optind != 2) {
-    fprintf(stderr, "usage: embosser [-t MILLISECONDS] [-a PERCENT] [-l PERCENT] [-r SEED] SOCKET PUNCHED\n");
+    fprintf(stderr, "usage: katchidul-standin [-t MILLISECONDS] [-a PERCENT] [-l PERCENT] [-r SEED] SOCKET PUNCHED\n");
     return 2;
   }
   signal(SIGPIPE, SIG_IGN);
-  if (!punched_open(words[optind + 1]) || !listen_at(words[optind])) {
-    perror("embosser");
-    return 1;
-  }
-  puts("embosser: ready");
+  if (!punched_open(words[optind + 1]) || !listen_at(words[optind])) fail();
+  puts("katchidul-standin: ready");
   fflush(stdout);
   serve();
 }

@@ -1,0 +1,184 @@
+"""katchidul spool: the operator's command."""
+from __future__ import annotations
+
+import os
+import pathlib
+import sys
+
+from . import again, asks, jobs
+from .errors import SpoolError
+from .files import read_regular, shown
+from .orders import ORDER_MAX
+from .submit import check_name, submit, take_back
+
+DEFAULT = "/var/spool/katchidul"
+USAGE = f"""\
+usage: katchidul spool [-d SPOOL] COMMAND ...
+
+  status [--all]       what is in the spool; --all with every job that is done
+  submit ORDER..       puts orders in
+  cancel JOB..         ends jobs; an order that waits is named by its file
+  hold JOB..           puts jobs aside
+  release JOB..        lets held jobs go on
+  reprint JOB PAGE..   prints pages of a job again, as new orders
+  reissue JOB [--yes]  prints the pages of a held job that are not finished, as a new order
+
+SPOOL is the spool's folder: KATCHIDUL_SPOOL, or {DEFAULT}, if -d is not given.
+What the host is asked for takes effect between two pages; the other jobs go on.
+"""
+PATIENCE = 5  # seconds to wait for the host
+
+
+class Usage(Exception):
+    pass
+
+
+def number(word: str) -> int:
+    """A job or a page."""
+    if not (word.isascii() and word.isdigit() and len(word) < 6 and 1 <= int(word) <= jobs.ID_MAX):
+        raise Usage(f"{shown(word)} is no number of a job or a page")
+    return int(word)
+
+
+def label(job: jobs.Job) -> str:
+    return f"job {job.id} ({shown(job.name)}, {shown(job.town)})"
+
+
+# ---- status
+
+
+def lines(found: list[jobs.Job]):
+    table = [("job", "state", "pages", "order", "town")]
+    table += [(str(job.id or "-"), job.state, f"{job.finished}/{job.pages}", shown(job.name), shown(job.town)) for job in found]
+    widths = [max(map(len, column)) for column in zip(*table)]
+    for row, job in zip(table, [None, *found]):
+        yield "  ".join(cell.ljust(width) for cell, width in zip(row, widths)).rstrip()
+        if job and job.sentence:
+            yield f"     {shown(job.sentence)}"
+
+
+def show_status(spool, words):
+    if words not in ([], ["--all"]):
+        raise Usage("status takes --all and nothing else")
+    found = jobs.status(spool, None if words else 10)
+    print("\n".join(lines(found)) if found else "the spool is empty")
+    print("a host is at work here" if asks.host_is_at_work(spool) else "no host is at work here")
+
+
+# ---- orders in
+
+
+def submit_files(spool, words):
+    failed = 0
+    for word in words:
+        try:
+            order = read_regular(word, ORDER_MAX + 1)
+            if len(order) > ORDER_MAX:
+                raise SpoolError(f"{shown(word)} has over {ORDER_MAX:,} bytes: it is no order")
+            print(f"{shown(submit(spool, os.path.basename(word), order))} is submitted")
+        except (SpoolError, OSError) as error:
+            failed += 1
+            complain(error, word)
+    return failed != 0
+
+
+def reprint(spool, words):
+    if len(words) < 2:
+        raise Usage("reprint takes a job and its pages")
+    job, *pages = map(number, words)
+    for name in again.reprint(spool, job, pages):
+        print(f"{shown(name)} is submitted")
+
+
+def reissue(spool, words):
+    sure = "--yes" in words
+    words = [word for word in words if word != "--yes"]
+    if len(words) != 1:
+        raise Usage("reissue takes a job")
+    job = number(words[0])
+    name = again.finish_reissue(spool, job) if again.is_left(spool, job) else reissue_after_question(spool, job, sure)
+    print(f"{shown(name)} is submitted" if name else "nothing is reissued")
+
+
+def reissue_after_question(spool, job, sure):
+    found, first, last = again.unfinished(spool, job)
+    print(f"{label(found)}: {again.words(first, last)} of {found.pages} are not finished by its log.")
+    if found.sent > found.finished:
+        print(f"Of these the machine had {again.words(first, found.sent)}: if they lie in the tray, throw them away.")
+    if not sure:
+        print(f"Print {again.words(first, last)} as a new order, and end job {job}? yes or no: ", end="", flush=True)
+        sure = sys.stdin.readline().strip().lower() == "yes"
+    return again.reissue(spool, found, first, last) if sure else None
+
+
+# ---- what the host is asked for
+
+
+def cancel_waiting(spool, name):
+    """An order that waits is no job yet: it goes to refused/, with a sentence. If the host takes it first, it is a job."""
+    check_name(name)
+    jobs.check(spool)
+    take_back(spool, name, "cancelled by the operator before it was a job")
+    print(f"{shown(name)} is cancelled")
+
+
+def ask_host(word):
+    def run(spool, words):
+        if not words:
+            raise Usage(f"{word} takes jobs")
+        for job in words:
+            if word == "cancel" and not jobs.id_of(job):
+                cancel_waiting(spool, job)
+            else:
+                report(spool, number(job), asks.ask(spool, word, number(job)))
+    return run
+
+
+def report(spool, job, asked):
+    if asks.was_taken(asked, PATIENCE if asks.host_is_at_work(spool) else 0):
+        found = jobs.read_job(spool, jobs.find(spool, job), job)
+        print(f"{label(found)}: {found.state}{': ' if found.sentence else ''}{shown(found.sentence)}")
+    elif asks.host_is_at_work(spool):
+        print(f"job {job}: the host is asked, and does it after the page that is in work, when the machine answers")
+    else:
+        print(f"job {job}: no host is at work here; it does this when it is started")
+
+
+# ---- the command
+
+COMMANDS = {"status": show_status, "submit": submit_files, "reprint": reprint, "reissue": reissue,
+            **{word: ask_host(word) for word in asks.ALLOWED}}
+
+
+def complain(error, about=""):
+    text = f"{shown(about)}: {error.strerror or error}" if isinstance(error, OSError) and about else str(error)
+    print(f"katchidul spool: {text}", file=sys.stderr)
+
+
+def run(words):
+    spool = os.environ.get("KATCHIDUL_SPOOL") or DEFAULT
+    if words[:1] == ["-d"] and len(words) > 1:
+        spool, words = words[1], words[2:]
+    if words[:1] in (["--help"], ["-h"]) or words[1:2] == ["--help"]:
+        print(USAGE, end="")
+        return 0
+    if not words or words[0] not in COMMANDS:
+        raise Usage(f"{shown(words[0])} is no command" if words else "a command is missing")
+    return int(COMMANDS[words[0]](pathlib.Path(spool), words[1:]) or 0)
+
+
+def main(words: list[str]) -> int:
+    """Status 0: done. 1: it could not be done, and a sentence says why. 2: the command is wrong."""
+    try:
+        status = run(words)
+        sys.stdout.flush()
+        return status
+    except Usage as error:
+        print(f"katchidul spool: {error}\n{USAGE}", end="", file=sys.stderr)
+        return 2
+    except BrokenPipeError:
+        os.dup2(os.open(os.devnull, os.O_WRONLY), 1)  # nobody reads: Python would complain at its end
+        return 1
+    except (SpoolError, OSError) as error:
+        complain(error)
+        return 1
