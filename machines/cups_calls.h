@@ -1,0 +1,54 @@
+/* What katchidul-cups asks of CUPS, each call one request with a limit on its time. */
+#ifndef CUPS_CALLS_H
+#define CUPS_CALLS_H
+
+#include "driver.h"
+
+#define TITLE_BYTES 160
+#define WORDS_BYTES 160
+
+/* A job of CUPS. */
+typedef struct {
+  uint32_t number;
+  char title[TITLE_BYTES];
+  int state;                /* an ipp_jstate_t */
+  bool begun;               /* it was once being printed; cups_look tells, cups_list does not */
+  char reason[WORDS_BYTES]; /* the first of its job-state-reasons */
+} cups_job;
+
+typedef struct {
+  bool stopped, accepts, processes;
+  char words[WORDS_BYTES];  /* printer-state-message */
+  char policy[WORDS_BYTES]; /* printer-error-policy */
+} cups_queue;
+
+typedef enum { CUPS_ANSWERED, CUPS_REFUSED, CUPS_AWAY } cups_reply;
+
+void cups_open(const options *o);
+
+/* Whether CUPS has been there without a break since cups_watch. It says no after some minutes, when CUPS drops an idle connection. */
+void cups_watch(void);
+bool cups_was_there(void);
+void cups_unwatch(void);
+
+/* Why the last call was refused, or CUPS is away. */
+const char *cups_why(void);
+
+/* Hands each job of this user to `see`, also those that are long over. */
+cups_reply cups_list(void (*see)(const cups_job *job, void *own), void *own);
+
+/* A job that CUPS does not have is CUPS_REFUSED. */
+cups_reply cups_look(uint32_t number, cups_job *job);
+
+/* Whether a job is a ghost: CUPS says that it waits, and never prints it. It becomes one when CUPS ends in order while it waits for the
+   machine to finish the page. */
+cups_reply cups_is_ghost(uint32_t number, bool *ghost);
+
+cups_reply cups_look_at_queue(cups_queue *queue);
+
+/* Makes a job without a document, which prints nothing. */
+cups_reply cups_create(const char *title, uint32_t *number);
+cups_reply cups_send(uint32_t number, const uint8_t *bytes, size_t length);
+cups_reply cups_cancel(uint32_t number);
+
+#endif

@@ -1,0 +1,56 @@
+/* Lines for a person on standard error, each with its time. */
+#include "driver.h"
+
+#include <fcntl.h>
+#include <stdarg.h>
+#include <stdlib.h>
+#include <time.h>
+#include <unistd.h>
+
+const char *program = "katchidul";
+
+/* A stream that is closed is opened to nowhere, so that no file of the state takes its place and gets the messages. */
+void open_streams(void) {
+  int file;
+  do file = open("/dev/null", O_RDWR | O_CLOEXEC);
+  while (file >= 0 && file <= STDERR_FILENO);
+  if (file < 0) exit(ENDED_BY_FAILURE);
+  close(file);
+}
+
+/* A reader who is gone keeps no page from going out. */
+static void put(const char *line, size_t length) {
+  ssize_t gone = write(STDERR_FILENO, line, length);
+  (void)gone;
+}
+
+/* Control bytes would reach the operator's terminal as commands. */
+void make_printable(char *text) {
+  for (; *text != '\0'; text++)
+    if (*text < ' ' || *text > '~') *text = '?';
+}
+
+void say(const char *format, ...) {
+  char words[1024], when[40], line[1200];
+  time_t now = time(NULL);
+  struct tm local;
+  va_list rest;
+  va_start(rest, format);
+  vsnprintf(words, sizeof words, format, rest);
+  va_end(rest);
+  make_printable(words);
+  strftime(when, sizeof when, "%Y-%m-%dT%H:%M:%S%z", localtime_r(&now, &local));
+  int length = snprintf(line, sizeof line, "%s %s: %s\n", when, program, words);
+  put(line, (size_t)length);
+}
+
+_Noreturn void stop(const char *about, const char *why) {
+  say("%s: %s; the driver ends, and nothing more is sent", about, why);
+  exit(ENDED_BY_FAILURE);
+}
+
+long long now_ms(void) {
+  struct timespec t;
+  clock_gettime(CLOCK_MONOTONIC, &t);
+  return t.tv_sec * 1000LL + t.tv_nsec / 1000000;
+}
