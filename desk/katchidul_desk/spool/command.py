@@ -68,18 +68,27 @@ def show_status(spool, words):
 # ---- orders in
 
 
+def submit_file(spool, word):
+    order = read_regular(word, ORDER_MAX + 1)
+    if len(order) > ORDER_MAX:
+        raise SpoolError(f"{shown(word)} has over {ORDER_MAX:,} bytes: it is no order")
+    return submit(spool, os.path.basename(word), order)
+
+
 def submit_files(spool, words):
+    """Each order by itself: one that fails does not hold up the rest."""
+    if not words:
+        raise Usage("submit takes orders")
     failed = 0
     for word in words:
         try:
-            order = read_regular(word, ORDER_MAX + 1)
-            if len(order) > ORDER_MAX:
-                raise SpoolError(f"{shown(word)} has over {ORDER_MAX:,} bytes: it is no order")
-            print(f"{shown(submit(spool, os.path.basename(word), order))} is submitted")
+            name = submit_file(spool, word)
         except (SpoolError, OSError) as error:
-            failed += 1
+            failed = 1
             complain(error, word)
-    return failed != 0
+        else:
+            print(f"{shown(name)} is submitted")
+    return failed
 
 
 def reprint(spool, words):
@@ -100,14 +109,22 @@ def reissue(spool, words):
     print(f"{shown(name)} is submitted" if name else "nothing is reissued")
 
 
+def answer():
+    """A line of the operator; empty if there is none, or if it is no text."""
+    try:
+        return sys.stdin.readline().strip().lower() if sys.stdin else ""
+    except ValueError:
+        return ""
+
+
 def reissue_after_question(spool, job, sure):
     found, first, last = again.unfinished(spool, job)
-    print(f"{label(found)}: {again.words(first, last)} of {found.pages} are not finished by its log.")
+    print(f"{label(found)}: not finished by its log: {again.words(first, last)} of {found.pages}.")
     if found.sent > found.finished:
         print(f"Of these the machine had {again.words(first, found.sent)}: if they lie in the tray, throw them away.")
     if not sure:
         print(f"Print {again.words(first, last)} as a new order, and end job {job}? yes or no: ", end="", flush=True)
-        sure = sys.stdin.readline().strip().lower() == "yes"
+        sure = answer() == "yes"
     return again.reissue(spool, found, first, last) if sure else None
 
 
@@ -150,9 +167,12 @@ COMMANDS = {"status": show_status, "submit": submit_files, "reprint": reprint, "
             **{word: ask_host(word) for word in asks.ALLOWED}}
 
 
-def complain(error, about=""):
-    text = f"{shown(about)}: {error.strerror or error}" if isinstance(error, OSError) and about else str(error)
-    print(f"katchidul spool: {text}", file=sys.stderr)
+def complain(error, about=None):
+    """A sentence on standard error; of an error of the system also what it is about."""
+    if isinstance(error, OSError):
+        about = error.filename if about is None else about
+        error = error.strerror if about is None else f"{shown(os.fspath(about)) or 'an empty name'}: {error.strerror}"
+    print(f"katchidul spool: {error}", file=sys.stderr)
 
 
 def run(words):
@@ -171,14 +191,27 @@ def main(words: list[str]) -> int:
     """Status 0: done. 1: it could not be done, and a sentence says why. 2: the command is wrong."""
     try:
         status = run(words)
-        sys.stdout.flush()
+        if sys.stdout:
+            sys.stdout.flush()
         return status
     except Usage as error:
-        print(f"katchidul spool: {error}\n{USAGE}", end="", file=sys.stderr)
+        complain(f"{error}; katchidul spool --help says more")
         return 2
-    except BrokenPipeError:
-        os.dup2(os.open(os.devnull, os.O_WRONLY), 1)  # nobody reads: Python would complain at its end
-        return 1
-    except (SpoolError, OSError) as error:
+    except SpoolError as error:
         complain(error)
         return 1
+    except KeyboardInterrupt:
+        return 130
+    except OSError as error:
+        if not isinstance(error, BrokenPipeError):
+            complain(error)
+        close_output()
+        return 1
+
+
+def close_output():
+    """After an error of the output Python would try once more at its end, and complain."""
+    try:
+        sys.stdout.flush()
+    except OSError:
+        os.dup2(os.open(os.devnull, os.O_WRONLY), 1)

@@ -1,6 +1,7 @@
 """Files that last, regular files alone, and names that can be shown."""
 from __future__ import annotations
 
+import errno
 import os
 import pathlib
 import secrets
@@ -17,7 +18,7 @@ def read_regular(path, most: int) -> bytes:
     file = os.open(path, os.O_RDONLY | os.O_NOFOLLOW | os.O_NONBLOCK | os.O_NOCTTY | os.O_CLOEXEC)
     try:
         if not stat.S_ISREG(os.fstat(file).st_mode):
-            raise OSError(f"{shown(str(path))} is not a regular file")
+            raise OSError(errno.EINVAL, "it is not a regular file")
         text = b""
         while len(text) < most and (more := os.read(file, most - len(text))):
             text += more

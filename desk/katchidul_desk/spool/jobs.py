@@ -7,7 +7,7 @@ import pathlib
 
 from . import logs, orders
 from .errors import SpoolError
-from .files import read_regular
+from .files import read_regular, shown
 
 ID_MAX = 65535
 FOLDERS = ("jobs", "held", "done", "cancelled")
@@ -30,7 +30,7 @@ class Job:
 
 def check(spool: pathlib.Path) -> None:
     if not spool.is_dir():
-        raise SpoolError(f"there is no spool at {spool}: start the host there, or make the folder first")
+        raise SpoolError(f"there is no spool at {shown(str(spool))}: make the folder first, or name another by -d")
 
 
 def names(folder: pathlib.Path) -> list[str]:
@@ -39,6 +39,8 @@ def names(folder: pathlib.Path) -> list[str]:
         return sorted(name for name in os.listdir(folder) if not name.startswith("."))
     except FileNotFoundError:
         return []
+    except OSError as error:
+        raise SpoolError(f"{shown(str(folder))} cannot be read: {error.strerror}") from None
 
 
 def text(path: pathlib.Path, most: int) -> bytes:
@@ -105,7 +107,7 @@ def find(spool: pathlib.Path, number: int) -> str:
     check(spool)
     folder = ids(spool).get(number)
     if folder is None:
-        raise SpoolError(f"there is no job {number} in {spool}")
+        raise SpoolError(f"there is no job {number} in {shown(str(spool))}")
     return folder
 
 

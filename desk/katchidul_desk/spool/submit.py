@@ -33,7 +33,7 @@ def submit(spool: pathlib.Path, name: str, order: bytes) -> str:
     except FileExistsError:
         raise SpoolError(f"an order {shown(name)} waits in the spool already; give this one another name") from None
     except OSError as error:
-        raise SpoolError(f"{shown(name)} was not submitted to {spool}: {error.strerror or error}") from None
+        raise SpoolError(f"{shown(name)} was not submitted to {shown(str(spool))}: {error.strerror or error}") from None
     return name
 
 
