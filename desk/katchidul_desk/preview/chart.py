@@ -11,7 +11,7 @@ from .markup import Markup, element, joined
 WIDTH, HEIGHT = 1000, 450
 LEFT, RIGHT, TOP, BOTTOM = 72, 86, 10, 34
 LABEL = 14
-# The hour where the picture has no line, for words in it.
+# An hour without a line, for words in the picture.
 MORNING = 10
 
 
@@ -110,10 +110,10 @@ def clock_changes(scale, days):
     """A line before the first day of another clock."""
     for at in range(1, len(days)):
         if days[at].clock != days[at - 1].clock:
-            x = scale.x(at)
+            x, y = scale.x(at), min(max(scale.y(MORNING), TOP + LABEL), HEIGHT - BOTTOM)
             said = "clock " + utc_offset(days[at].clock)
             yield element("path", d="M%s %dV%d" % (x, TOP, HEIGHT - BOTTOM), class_="change")
-            yield element("text", said, x=x + 4, y=scale.y(MORNING), class_="change")
+            yield element("text", said, x=x + 4, y=y, class_="change")
 
 
 def spread(wanted, low, high):

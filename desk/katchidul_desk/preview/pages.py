@@ -4,7 +4,11 @@ from ..wording import utc_offset
 from . import dots, words
 from .markup import element
 
-MARKS = {-1: "-1: on the date before.", 1: "+1: on the next date.", 2: "+2: two dates later."}
+
+def mark(days):
+    """What the days behind a time mean."""
+    near = {-1: "on the date before", 1: "on the next date"}
+    return "%+d: %s." % (days, near.get(days, "%d dates %s" % (abs(days), "later" if days > 0 else "before")))
 
 
 def time_cell(moment):
@@ -28,8 +32,8 @@ def row(day, columns):
 
 
 def caption(page, clock):
-    offsets = {moment.days for day in page for moment in day.moments.values()}
-    return " ".join(["Times by the clock %s." % utc_offset(clock)] + [MARKS[days] for days in sorted(offsets) if days in MARKS])
+    offsets = {moment.days for day in page for moment in day.moments.values()} - {0}
+    return " ".join(["Times by the clock %s." % utc_offset(clock), *map(mark, sorted(offsets))])
 
 
 def table(page, columns, clock):
