@@ -248,7 +248,7 @@ typedef struct katchidul_map {
   uint32_t number, place, sign, degrees, minutes, seconds, hundredths;
 } katchidul_map;
 
-/* The library's version, as KATCHIDUL_VERSION of the header that it was built with. */
+/* Returns the library's version: KATCHIDUL_VERSION of the header that it was built with. */
 uint32_t katchidul_version(void);
 
 /* Reads an order. Refusals 1 to 5, 15 and 18. */
