@@ -16,8 +16,7 @@ use Rattle.schedule.specs.declared.{in_force.Current.Current, in_force.Instant.
 use Rattle.schedule.specs.declared.prayer_times.Worked.the-variants as worked
 use Rattle.schedule.proofs.Schedule.{currentTimeOf, currentNumberOf, workedAt}
 use Rattle.schedule_laws.specs.Later.{withMinutes, laterBy, LaterMinutes, Moved}
-use Rattle.schedule_laws.proofs.CarriedLaws.{carried-sums}
-use Rattle.order_laws.proofs.AcceptedParameters.{accepted-carried}
+use Rattle.schedule_laws.proofs.OrderMinutes.{sums-held}
 use Rattle.order_laws.proofs.PrintedLaws.{imsak-is-printed-whole}
 use Rattle.schedule_laws.proofs.LaterLaws.{later-minutes-move-the-row}
 use Rattle.calls.specs.declared.in_force.InForce.the-variants as force
@@ -26,7 +25,7 @@ use Rattle.order_laws.specs.Minutes.{withOwnMinutes, LaterOrder, ImsakMo
 
 -- ---- what an accepted order's sums can be
 held : (order : Order) → Accepted order → (prayer : Prayer) → Near (2 ^ 32) (timeAdjustmentsOf (order .parameters) prayer)
-held order h = carried-sums (order .parameters) (accepted-carried order h)
+held order h = sums-held (order .parameters) (h .parameters)
 
 -- ---- a row that the order lacks
 alike-refused : (p q : Parameters) (r : Refusal) → Moved p q (worked.Refused r) (worked.Refused r)

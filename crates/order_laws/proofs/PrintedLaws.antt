@@ -17,7 +17,6 @@ use Rattle.schedule_laws.specs.Range.{OfDate, AllOfDate}
 use Rattle.schedule_laws.proofs.RangeLaws.{times-lie-by-their-date}
 use Rattle.order_laws.specs.Imsak.{ImsakIsPrintedWhole}
 use Rattle.order_laws.specs.Printed.{DaysArePrintedWhole}
-use Rattle.order_laws.proofs.AcceptedParameters.{accepted-carried, accepted-latitude}
 
 -- one of the two parts is 0
 small : (k : ℕ) (z : ℤ) → P z ≤ N z + k → N z ≤ P z + k → natAbs z ≤ k
@@ -62,7 +61,7 @@ by-its-date order row t h e = by-row (ltb row (order .rows)) e
         → cond b (workedAt date (order .coordinates) (order .parameters) (order .rules)) (Refused (refusal 5 3)) ≡ Times t
         → AllOfDate date t
     by-row true w =
-        times-lie-by-their-date (order .rules .midnight) (numbersOf date (order .coordinates) (order .parameters)) date (seasonOf (order .coordinates .latitude) (order .rules)) (order .parameters) t (accepted-latitude order h) (accepted-carried order h) w
+        times-lie-by-their-date (order .rules .midnight) (numbersOf date (order .coordinates) (order .parameters)) date (seasonOf (order .coordinates .latitude) (order .rules)) (order .parameters) t (h .latitude) (h .parameters) w
     by-row false w = absurd (subst isTimes (sym w) tt)
 
 pub days-are-printed-whole : DaysArePrintedWhole

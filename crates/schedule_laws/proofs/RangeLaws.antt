@@ -15,9 +15,9 @@ use Rattle.schedule.specs.declared.{hours.ThreeSuns.ThreeSuns, hours.Suns.Suns,
 use Rattle.schedule.specs.declared.hours.Suns.the-variants.{Whole, Refused}
 use Rattle.schedule.specs.declared.prayer_times.Worked.the-variants.{Times}
 use Rattle.schedule.proofs.Schedule.{hoursOf, startOf, finalOf, fajrTomorrowOf, middleOfTheNightOf, qiyamOf, fromMidnightOf, startedOf, timesOf, workedFrom, workedOf, timeOf, Each}
-use Rattle.schedule_laws.specs.Carried.{LatitudeInOrder, Carried}
+use Rattle.order.specs.Accepted.{LatitudeInOrder, ParametersInOrder}
 use Rattle.schedule_laws.specs.Range.{OfDate, AllOfDate, TimesLieByTheirDate, DaysAreOneDigit}
-use Rattle.schedule_laws.proofs.CarriedLaws.{carried-minutes}
+use Rattle.schedule_laws.proofs.OrderMinutes.{sums-near}
 use Rattle.schedule_laws.proofs.Spans.{or-between, final-between}
 use Rattle.schedule_laws.proofs.SunSpans.{Days, SunHour, Sun, Three, Row, Hours, hours, fajr-days, isha-days}
 
@@ -66,9 +66,9 @@ module _ {maghrib fajr : ℤ} (m : Closer maghrib) (f : Closer fajr) where
       rounded-between Nearest (toward-between maghrib fajr (lastThirdOf (fajr -ℤ maghrib)) m f (last-third-inside (fajr -ℤ maghrib) small))
 
 -- ---- the nine
-module _ (p : Parameters) (carried : Carried p) (season : Season) (there : LatitudeInOrder (season .latitude)) (date : Date) where
+module _ (p : Parameters) (allowed : ParametersInOrder p) (season : Season) (there : LatitudeInOrder (season .latitude)) (date : Date) where
   minutes : (prayer : Prayer) → Near 727 (timeAdjustmentsOf p prayer)
-  minutes prayer = carried-minutes p carried prayer
+  minutes prayer = sums-near p allowed prayer
 
   -- a time of the sun, adjusted and rounded
   final : (prayer : Prayer) {x : ℤ} → Days 1 2 x → Closer (finalOf p prayer x)
@@ -78,7 +78,7 @@ module _ (p : Parameters) (carried : Carried p) (season : Season) (there : Latit
   tomorrow : (today next : SolarTime) (hour : SolarHour) → Sun today → Sun next → SunHour hour → Closer (fajrTomorrowOf p season date today next hour)
   unfolding fajrTomorrowOf
   tomorrow today next hour a b h =
-      wider (sum-between (adjusted-between (fajr-days p season carried there (tomorrowOf date) today next a b hour h) (minutes Fajr)) (natural-between 86400)) (lit≤ tt) (lit≤ tt)
+      wider (sum-between (adjusted-between (fajr-days p season allowed there (tomorrowOf date) today next a b hour h) (minutes Fajr)) (natural-between 86400)) (lit≤ tt) (lit≤ tt)
 
   nine : (suns : ThreeSuns) (h : RowHours) → Three suns → Hours h → Each Close (fromMidnightOf p season date suns h)
   unfolding fromMidnightOf
@@ -88,12 +88,12 @@ module _ (p : Parameters) (carried : Carried p) (season : Season) (there : Latit
       let m = final Maghrib (sun .sunset) in
       let f = tomorrow (suns .tomorrow) (suns .after) (h .«fajr_tomorrow») next (three .after) (k .«fajr_tomorrow») in
       record {
-        fajr = wider (final-between p Fajr (fajr-days p season carried there date (suns .today) (suns .tomorrow) sun next (h .fajr) (k .fajr)) (minutes Fajr)) (lit≤ tt) (lit≤ tt);
+        fajr = wider (final-between p Fajr (fajr-days p season allowed there date (suns .today) (suns .tomorrow) sun next (h .fajr) (k .fajr)) (minutes Fajr)) (lit≤ tt) (lit≤ tt);
         sunrise = wider (final Sunrise (sun .sunrise)) (lit≤ tt) (lit≤ tt);
         dhuhr = wider (final Dhuhr (sun .transit)) (lit≤ tt) (lit≤ tt);
         asr = wider (final Asr (or-between (h .asr) (k .asr) (sun .transit))) (lit≤ tt) (lit≤ tt);
         maghrib = wider m (lit≤ tt) (lit≤ tt);
-        isha = wider (final-between p Isha (isha-days p season carried there date (suns .today) (suns .tomorrow) sun next (h .isha) (k .isha)) (minutes Isha)) (lit≤ tt) (lit≤ tt);
+        isha = wider (final-between p Isha (isha-days p season allowed there date (suns .today) (suns .tomorrow) sun next (h .isha) (k .isha)) (minutes Isha)) (lit≤ tt) (lit≤ tt);
         «middle_of_the_night» = middle-close m f;
         qiyam = qiyam-close m f;
         «fajr_tomorrow» = wider f (lit≤ tt) (lit≤ tt);
@@ -108,9 +108,9 @@ module _ (p : Parameters) (carried : Carried p) (season : Season) (there : Latit
 
 pub times-lie-by-their-date : TimesLieByTheirDate
 unfolding workedOf
-times-lie-by-their-date rule n date season p t there carried e =
+times-lie-by-their-date rule n date season p t there allowed e =
     let h = hours rule n in
-    worked p carried season there date (hoursOf rule n .suns) (hoursOf rule n) t (h .suns) h e
+    worked p allowed season there date (hoursOf rule n .suns) (hoursOf rule n) t (h .suns) h e
 
 pub days-are-one-digit : DaysAreOneDigit
 days-are-one-digit date time h = by-sign (time -ℤ startOf date) (h .from) (h .before)

@@ -1,5 +1,5 @@
 -- Where the nine times of a date lie, and that a sheet can print each one's days as one signed digit: for all hour numbers, either rule at midnight and in the
--- south, every date, and every latitude and parameters that an order can carry. Proved in proofs/RangeLaws.
+-- south, every date, and every latitude and parameters that an order can hold. Proved in proofs/RangeLaws.
 use mathlib.Core.Path.{_≡_}
 use Prim.Native.Nat.{_*_, _≤_, _<_}
 use lib.IntN.{ℤ, _-ℤ_}
@@ -16,7 +16,7 @@ use Rattle.schedule.specs.declared.prayer_times.Worked.the-variants.{Times}
 use Rattle.schedule.specs.Hours.{hoursOf}
 use Rattle.schedule.specs.InForce.{timeOf}
 use Rattle.schedule.specs.Times.{startOf, workedOf}
-use Rattle.schedule_laws.specs.Carried.{LatitudeInOrder, Carried}
+use Rattle.order.specs.Accepted.{LatitudeInOrder, ParametersInOrder}
 
 -- from 4 days before 0h of the date to before 5 days after it
 pub record OfDate (date : Date) (time : ℤ) : Type 0 where
@@ -31,7 +31,7 @@ pub record AllOfDate (date : Date) (t : PrayerTimes) : Type 0 where
 abbrev pub TimesLieByTheirDate : Type 0
 TimesLieByTheirDate =
     (rule : Midnight) (n : RowNumbers) (date : Date) (season : Season) (p : Parameters) (t : PrayerTimes)
-    → LatitudeInOrder (season .latitude) → Carried p → workedOf (hoursOf rule n) date season p ≡ Times t → AllOfDate date t
+    → LatitudeInOrder (season .latitude) → ParametersInOrder p → workedOf (hoursOf rule n) date season p ≡ Times t → AllOfDate date t
 
 -- the days that the sheet prints, rounded down, are from -4 to 4
 abbrev pub DaysAreOneDigit : Type 0
