@@ -37,7 +37,7 @@ static order_bytes owed(const katchidul_order *order, const uint8_t *town, size_
 }
 
 static bool refused_by(const katchidul_written *answer, uint32_t number, uint32_t place) {
-  return answer->number == number && answer->place == place && answer->length == 0 && buffer_holds(NULL, 0);
+  return answer->number == number && answer->place == place && answer->length == 0 && buffer_holds((const uint8_t *)"", 0);
 }
 
 /* The same struct, but for where the town is. */

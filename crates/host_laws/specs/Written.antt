@@ -1,5 +1,4 @@
--- What the writer of orders gives a host: writing what was read gives an order that every call answers as it answers the one that was read. Proved
--- in proofs/WrittenLaws from order_numbers' WrittenAgain.
+-- "writing what was read gives an order that every call answers as it answers the one that was read". Proved in proofs/WrittenLaws.
 use Prim.Native.Nat.{ℕ}
 use mathlib.Core.Path.{_≡_}
 use mathlib.Core.List.{List}

@@ -48,7 +48,6 @@ withTown order town =
       ramadan = order .ramadan;
     }
 
--- whatever is asked of two orders, the answers are the same
 pub record SameAnswers (a b : List ℕ) : Type 0 where
   pub town : townOf a ≡ townOf b
   pub sheet : sheetText a ≡ sheetText b
@@ -66,7 +65,6 @@ pub record SameAnswers (a b : List ℕ) : Type 0 where
   -- the week's report
   pub week : weekText a ≡ weekText b
 
--- the record is the same but for where the town is, and so are the answers
 abbrev pub EitherFormAnswersAlike : Type 0
 EitherFormAnswersAlike = (a b : List ℕ) (orders : SamePlace a b)
     → (withTown (orders .first) (orders .second .town) ≡ orders .second) × SameAnswers a b
