@@ -14,6 +14,9 @@
 
 /* ---- the embosser comes and goes */
 
+/* Milliseconds between two tries: a tenth of the patience, and never nothing. */
+static int pause_of(const room *r) { return r->embosser.patience / 10 + 1; }
+
 /* The embosser says which spool it serves; it must be this one. */
 static course hear_serves(room *r) {
   embosser *e = &r->embosser;
@@ -40,8 +43,7 @@ static course meet(room *r, const char *path) {
   return c;
 }
 
-/* A tenth of the patience is between two tries. Without -s the host gives up at last; with it the host waits, and says so once for each
-   reason. */
+/* Without -s the host gives up after some tries; with it the host waits, and says so once for each reason. */
 static course find_embosser(room *r, const char *path) {
   text told = {""};
   for (int tries = 1;; tries++) {
@@ -54,7 +56,7 @@ static course find_embosser(room *r, const char *path) {
       told = r->embosser.lost;
       say("%s; waiting for it", told.text);
     }
-    if (wait_until(after(r->embosser.patience / 10), -1, 0, true) == TOLD_TO_END) return TOLD_TO_END;
+    if (wait_until(after(pause_of(r)), -1, 0, true) == TOLD_TO_END) return TOLD_TO_END;
   }
 }
 
@@ -93,7 +95,7 @@ static int serve(room *r, const char *path) {
     link_close(&r->embosser);
     if (c == NOTHING_LEFT) return r->refused ? ENDED_WITH_REFUSALS : ENDED_WELL;
     if (c == LINK_LOST) say_lost(r);
-    if (c == LINK_LOST) c = wait_until(after(r->embosser.patience / 10), -1, 0, true);
+    if (c == LINK_LOST) c = wait_until(after(pause_of(r)), -1, 0, true);
     if (c != TOLD_TO_END) continue;
     say("%s ends the host; jobs in work: %u", told_to_end(), r->count);
     return r->stays ? ENDED_WELL : ENDED_BY_SIGNAL;

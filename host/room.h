@@ -16,16 +16,16 @@ typedef struct {
   katchidul_queue queue;
   job jobs[ROOM_JOBS];
   uint32_t count;
-  names waiting;    /* orders in in/ */
-  names told;       /* lines that are not said again */
+  names waiting;     /* orders in in/ */
+  names told;        /* lines that are not said again */
   path told_to_wait; /* the order of which it was said that the queue is full */
-  moment look_at;   /* when jobs/ and in/ are read again */
-  uint32_t next_id; /* of a new job */
+  moment look_at;    /* when jobs/ and in/ are read again */
+  uint32_t next_id;  /* of a new job */
+  bool refused;      /* an order or a job was */
+  bool news;         /* a page was finished since a lost link was told */
+  bool stays;        /* the host goes on when nothing is left */
   bool passed_over[KATCHIDUL_ID_MAX + 1]; /* jobs that can be neither begun nor moved */
   bool announced[KATCHIDUL_ID_MAX + 1];   /* jobs whose order the embosser has, on this link */
-  bool refused;     /* an order or a job was */
-  bool news;        /* a page was finished since a lost link was told */
-  bool stays;       /* the host goes on when nothing is left */
 } room;
 
 /* The job in work with this id, or NULL. */

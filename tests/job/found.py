@@ -1,14 +1,14 @@
 # Faults that were found in an earlier host, each with its way to see it. A test is named by what it would catch, and returns the faults.
 import errno
 import os
-import shutil
+import pathlib
 import socket
 import subprocess
 import time
 
 from bad_input import drop_rights, until
 from fake import FakeTrial
-from trial import PATIENCE, Trial, order
+from trial import Trial, order
 
 FIRST, SECOND, THIRD = order("Ayr", 26), order("Bath", 1), order("Crewe", 30)
 BAD = FIRST[:-1]
@@ -199,20 +199,17 @@ def answers_of_unknown_jobs(built):
     def answer(line, link):
         if not line.startswith(b"page") or trial.fake.links > 1:
             return None
-        end = time.monotonic() + 2
+        end = time.monotonic() + 10
         while time.monotonic() < end:
             link.sendall(b"done 999 1\n")
             time.sleep(0.005)
         raise OSError
 
     with FakeTrial(built, [FIRST], answer) as trial:
-        began = time.monotonic()
         host = trial.begin(patience=100)
-        again = until(lambda: trial.fake.lines.count(b"restart 1\n") > 2 or time.monotonic() - began > 1.5, 5)
-        early = again and time.monotonic() - began < 1.5
+        again = until(lambda: trial.fake.links > 1, 8)
         trial.end(host)
-        log = "link to the embosser is lost" in trial.said
-        return [] if log and (early or trial.fake.links > 1 and "no answer for" in trial.said) else [trial.said[-300:]]
+        return [] if again and trial.status == 0 else [f"status {trial.status}: {trial.said[-300:]}"]
 
 
 def answer_that_is_no_number(built):
@@ -282,19 +279,23 @@ def messages_into_files(built):
         return wrong + trial.faults()
 
 
+def seconds_of(process):
+    """The processor's time that a process has used."""
+    words = pathlib.Path(f"/proc/{process.pid}/stat").read_text().rsplit(")", 1)[1].split()
+    return (int(words[11]) + int(words[12])) / os.sysconf("SC_CLK_TCK")
+
+
 def slow_with_many_orders(built):
-    """10,000 orders wait: 100 a second at least are done."""
+    """10,000 orders wait: 150 at least are done in a second of the processor's time, however busy it is otherwise."""
     with Trial(built, []) as trial:
         for at in range(10000):
             (trial.spool / "in" / f"{at:05}").write_bytes(SECOND)
         host = trial.begin(patience=1000, output=subprocess.DEVNULL)
-        time.sleep(0.5)
-        before = len(trial.names("done"))
-        time.sleep(2)
-        done = len(trial.names("done")) - before
+        until(lambda: seconds_of(host) > 0.6, 20)
+        done, seconds = len(trial.names("done")), seconds_of(host)
         host.kill()
         host.wait()
-        return [] if done >= 200 else [f"{done} orders in 2 seconds"]
+        return [] if done >= 150 * seconds else [f"{done} orders in {seconds} seconds"]
 
 
 FOUND = [lost_when_a_job_comes_back, end_of_a_folder_by_an_error, refused_order_overwritten, order_taken_back, names_that_are_no_ids,

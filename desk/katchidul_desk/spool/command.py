@@ -153,8 +153,8 @@ def ask_host(word):
 
 def report(spool, job, asked):
     if asks.was_taken(asked, PATIENCE if asks.host_is_at_work(spool) else 0):
-        found = jobs.read_job(spool, jobs.find(spool, job), job)
-        print(f"{label(found)}: {found.state}{': ' if found.sentence else ''}{shown(found.sentence)}")
+        found = jobs.settled(spool, jobs.find(spool, job), job)
+        print(f"{label(found)}: {shown(found.sentence) or found.state}" if found else f"job {job} was taken out of the spool")
     elif asks.host_is_at_work(spool):
         print(f"job {job}: the host is asked, and does it after the page that is in work, when the machine answers")
     else:

@@ -53,7 +53,8 @@ def text(path: pathlib.Path, most: int) -> bytes:
 
 def id_of(name: str) -> int:
     """A name as a job's id, or 0."""
-    return int(name) if name.isascii() and name.isdigit() and name[0] != "0" and int(name[:6]) <= ID_MAX and len(name) < 6 else 0
+    digits = name.isascii() and name.isdigit() and name[0] != "0" and len(name) <= len(str(ID_MAX))
+    return int(name) if digits and int(name) <= ID_MAX else 0
 
 
 def order_of(path: pathlib.Path) -> bytes:
@@ -111,6 +112,17 @@ def find(spool: pathlib.Path, number: int) -> str:
     return folder
 
 
+def settled(spool: pathlib.Path, folder: str, number: int) -> Job | None:
+    """A job that may move while it is read; None if it was taken out of the spool."""
+    while True:
+        job = read_job(spool, folder, number)
+        if (spool / folder / str(number)).exists():
+            return job
+        folder = ids(spool).get(number)
+        if folder is None:
+            return None
+
+
 def status(spool: pathlib.Path, done: int | None = 100) -> list[Job]:
     """Orders that wait and the jobs, by their ids; of the jobs that are done or cancelled the last ones, or all for None."""
     spool = pathlib.Path(spool)
@@ -119,6 +131,6 @@ def status(spool: pathlib.Path, done: int | None = 100) -> list[Job]:
     found = ids(spool)
     ended = sorted(number for number, folder in found.items() if folder in ("done", "cancelled"))
     passed = set() if done is None else set(ended[:len(ended) - done] if done < len(ended) else ())
-    jobs = [read_job(spool, found[number], number) for number in sorted(found) if number not in passed]
+    jobs = [settled(spool, found[number], number) for number in sorted(found) if number not in passed]
     refused = [read_order(spool, "refused", name) for name in names(spool / "refused") if not name.endswith(WHY)]
-    return jobs + waiting + refused
+    return [job for job in jobs if job] + waiting + refused

@@ -6,7 +6,7 @@ import datetime
 
 from .errors import SpoolError
 
-ORDER_MAX, PAGE_ROWS = 1024, 25
+ORDER_MAX, ROWS_MAX, PAGE_ROWS = 1024, 400, 25
 TOWN, FIRST_DAY, ROWS, RAMADAN = 1, 2, 3, 20
 
 
@@ -42,9 +42,11 @@ def read(order: bytes) -> Order:
         day = value(order, found[FIRST_DAY])
         first = datetime.date(int.from_bytes(day[:2], "big"), day[2], day[3])
         rows = int.from_bytes(value(order, found[ROWS]), "big")
+        if not 1 <= rows <= ROWS_MAX:
+            raise ValueError
         return Order(value(order, found[TOWN]).decode("ascii"), first, rows, RAMADAN in found)
     except (KeyError, ValueError, IndexError):
-        raise SpoolError("the order cannot be read: it lacks its town, first day or rows") from None
+        raise SpoolError("the order cannot be read: its town, its first day or its rows are missing or wrong") from None
 
 
 def cut(order: bytes, first_page: int, last_page: int) -> bytes:
