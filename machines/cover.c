@@ -1,4 +1,4 @@
-/* What the pages are, in braille: a cover before a job's first page, and a heading where the paper has room for one. */
+/* What the pages are, in braille: a cover before a job's first page, and a heading if the paper has room for one. */
 #include "driver.h"
 
 #include <string.h>

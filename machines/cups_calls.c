@@ -216,11 +216,13 @@ cups_reply cups_is_ghost(uint32_t number, bool *ghost) {
   cups_job job;
   cups_reply reply = list_which("not-completed", 1, look_for, &s);
   *ghost = false;
-  if (reply != CUPS_ANSWERED || s.found) return reply;
-  reply = cups_look(number, &job); /* it may be over since */
-  *ghost = reply == CUPS_ANSWERED && job.state < IPP_JSTATE_CANCELED;
+  if (reply != CUPS_ANSWERED) return reply;
+  reply = cups_look(number, &job); /* after the list: it may be over since */
+  *ghost = reply == CUPS_ANSWERED && job.state < IPP_JSTATE_CANCELED && (!s.found || cups_waits_for_document(&job));
   return reply;
 }
+
+bool cups_waits_for_document(const cups_job *job) { return strcmp(job->reason, "job-incoming") == 0; }
 
 cups_reply cups_look_at_queue(cups_queue *queue) {
   static const char *const parts[] = {"printer-state", "printer-state-message", "printer-is-accepting-jobs", "printer-error-policy"};

@@ -40,9 +40,10 @@ cups_reply cups_list(void (*see)(const cups_job *job, void *own), void *own);
 /* A job that CUPS does not have is CUPS_REFUSED. */
 cups_reply cups_look(uint32_t number, cups_job *job);
 
-/* Whether a job is a ghost: CUPS says that it waits, and never prints it. It becomes one when CUPS ends in order while it waits for the
-   machine to finish the page. */
+/* Whether a job whose document was sent is a ghost: CUPS says that it waits, and never prints it. It becomes one when CUPS ends in order
+   while it waits for the machine to finish the page, or is killed before it has noted that it took the document. */
 cups_reply cups_is_ghost(uint32_t number, bool *ghost);
+bool cups_waits_for_document(const cups_job *job);
 
 cups_reply cups_look_at_queue(cups_queue *queue);
 

@@ -146,13 +146,11 @@ static progress note_aborted(void) {
   return lose("was aborted by CUPS");
 }
 
-static bool waits_for_document(const cups_job *job) { return strcmp(job->reason, "job-incoming") == 0; }
-
 /* What keeps a page that CUPS has not begun, or that takes long. */
 static void tell_what_keeps(const cups_job *job) {
   cups_queue queue;
   uint32_t number = work.record.cups;
-  if (job->state == IPP_JSTATE_HELD && !waits_for_document(job))
+  if (job->state == IPP_JSTATE_HELD && !cups_waits_for_document(job))
     tell_once("job %u: page %u is held in CUPS; to let it go: lp -i %u -H resume", work.id, work.page, number);
   else if (job->state == IPP_JSTATE_STOPPED)
     tell_once("job %u: page %u is stopped in CUPS, job %u (%s)", work.id, work.page, number, job->reason);
@@ -175,11 +173,11 @@ progress machine_look(void) {
     return GOES_ON;
   }
   if (reply == CUPS_REFUSED || strcmp(job.title, work.title) != 0) return lose("is gone from CUPS");
-  if (ghost) return lose("was being printed when CUPS ended");
+  if (ghost) return lose("was in work when CUPS ended");
   if (job.state == IPP_JSTATE_COMPLETED) return finish();
   if (job.state == IPP_JSTATE_CANCELED) return lose("was cancelled");
   if (job.state == IPP_JSTATE_ABORTED) return cups_was_there() ? note_aborted() : lose("was aborted when CUPS began again");
-  if (work.unsent && waits_for_document(&job)) cups_cancel(job.number);
+  if (work.unsent && cups_waits_for_document(&job)) cups_cancel(job.number);
   else tell_what_keeps(&job);
   return GOES_ON;
 }
@@ -218,11 +216,14 @@ static bool still_stops(const cups_job *job) {
   return cups_look(job->number, &now) != CUPS_ANSWERED || now.begun;
 }
 
+/* Whether CUPS has been there since it was given the page that the record has, so that its word on it is true. */
+static bool is_certain(const tally *t) { return work.record.cups == t->cups && cups_was_there(); }
+
 /* A job that is not over is waited for or cancelled, and looked at again. */
 static void drop_job(tally *t, const cups_job *job, uint32_t page) {
-  bool ghost;
-  cups_reply reply = cups_is_ghost(job->number, &ghost);
-  if (reply == CUPS_ANSWERED && ghost) return;
+  bool ghost = false, doubtful = job->number == t->cups && !is_certain(t);
+  cups_reply reply = doubtful ? cups_is_ghost(job->number, &ghost) : CUPS_ANSWERED;
+  if (ghost) return;
   t->open = true;
   if (reply == CUPS_ANSWERED && !may_finish(t, job, page)) cups_cancel(job->number);
 }
@@ -235,7 +236,7 @@ static void count_job(const cups_job *job, void *own) {
     drop_job(t, job, page);
     return;
   }
-  if (job->number == t->cups) t->found = job->state != IPP_JSTATE_ABORTED || (work.record.cups == t->cups && cups_was_there());
+  if (job->number == t->cups) t->found = job->state != IPP_JSTATE_ABORTED || is_certain(t);
   if (job->state == IPP_JSTATE_COMPLETED && page > t->highest) t->highest = page;
   if (job->state == IPP_JSTATE_CANCELED && job->number == t->cups && t->queue_processes && still_stops(job)) t->open = true;
 }

@@ -128,7 +128,7 @@ static channel_state open_network(void) {
   return CHANNEL_READY;
 }
 
-/* Takes what the machine says, which means nothing here. Returns whether it has closed its side; `why` is set when it failed. */
+/* Takes what the machine says, which means nothing here. Returns whether it has closed its side; `failed` says that the connection did. */
 static bool has_closed(bool *failed) {
   char nothing[256];
   ssize_t some;

@@ -47,7 +47,8 @@ class Room:
     def keep_busy(self):
         """Somebody else's job is in the queue's front, and its machine takes nothing: what comes waits."""
         self.port.stuck = True
-        subprocess.run(["lp", "-d", "braille", "-o", "raw", "-U", "someone"], input=b"else\f", env=self.cups.environment, capture_output=True)
+        words = ["lp", "-d", "braille", "-o", "raw", "-U", "someone"]
+        subprocess.run(words, input=b"else\f", env=self.cups.environment, capture_output=True)
         wait_until(lambda: '"someone"' in self.cups.log())
 
     def let_go(self):
@@ -216,7 +217,8 @@ def check_forgotten(check, place):
     link.send(b"restart 5\n")
     check("forgotten: a question", wait_until(lambda: room.driver.questions() == [5]), True)
     text = (room.driver.state / "questions" / "5").read_text()
-    check("forgotten: what it names", [words in text for words in ("durham.order", "Durham", "page 1", "from 0 to 1", "braille")], [True] * 5)
+    names = ("durham.order", "Durham", "page 1", "from 0 to 1", "braille")
+    check("forgotten: what it names", [words for words in names if words not in text], [])
     check("forgotten: 2 is no answer", room.driver.answer(5, 2).returncode, 2)
     check("forgotten: 0 is", room.driver.answer(5, 0).returncode, 0)
     check("forgotten: the count", link.hear(), ["count", "5", "0"])
@@ -227,8 +229,6 @@ def check_forgotten(check, place):
 def check_killed_at_completion(check, place):
     """cupsd is killed when it has completed a page and not noted it on the disk: it aborts the job later, and the driver asks."""
     room = Room(place, "unsaved")
-    room.driver.process.send_signal(signal.SIGSTOP)
-    room.driver.process.send_signal(signal.SIGCONT)
     link = room.begin_page()
     wait_until(lambda: "Started backend" in room.cups.log())
     room.driver.process.send_signal(signal.SIGSTOP)
@@ -243,7 +243,8 @@ def check_killed_at_completion(check, place):
     asked = wait_until(lambda: room.driver.questions() == [5], 5)
     if asked:
         room.driver.answer(5, len(room.port.arrived))
-    check("killed at completion: the page counts, and CUPS did not repeat it", (link.hear(), len(room.port.arrived)), (["count", "5", "1"], 1))
+    check("killed at completion: the page counts", link.hear(), ["count", "5", "1"])
+    check("killed at completion: CUPS did not repeat it", len(room.port.arrived), 1)
     link.close()
     room.end()
 
@@ -266,7 +267,7 @@ def check_ended_in_order(check, place):
     time.sleep(0.4)
     room.cups.end()
     room.cups.start()
-    check("in order: the operator is told of a page that CUPS was finishing", room.told("was being printed when CUPS ended"), True)
+    check("in order: the operator is told of a page that CUPS was finishing", room.told("was in work when CUPS ended"), True)
     link.close()
     link = begin(room.driver)
     link.send(b"restart 5\n")

@@ -88,7 +88,8 @@ def check_silent(check, driver):
 
 def check_noise(driver):
     draw = random.Random(3)
-    words = [b"spool", b"restart", b"job", b"page", b"test-spool", b"5", b"1", b"25", b"0", b"65535", b" ", b"\n", b"\0", b"%", b"\xff", ORDER]
+    words = [b"spool", b"restart", b"job", b"page", b"test-spool", b"5", b"1", b"25", b"0", b"65535", b" ", b"\n", b"\0", b"%", b"\xff",
+             ORDER]
     for _ in range(150):
         link = Link(driver.socket)
         link.send(b"spool test-spool\n" if draw.random() < 0.7 else b"")

@@ -33,7 +33,7 @@ class Orders:
         return name, made, pages
 
     def named(self, bytes):
-        """The page that arrived: what stands behind its cover."""
+        """The page that arrived: what is behind its cover."""
         return self.of_page.get(bytes.split(b"\f")[-2] + b"\f")
 
 
@@ -154,9 +154,11 @@ class Run:
         check("kills: pages given to CUPS again after CUPS had completed them", again, 0)
         check("kills: completed pages that CUPS repeated", repeated, 0)
         twice = sum(times - 1 for times in count.values())
-        print("kills: %d (%s), orders %d, pages %d, jobs that CUPS began again %d, pages that arrived twice for it %d, operator's answers %d" % (
+        print("kills: %d (%s), orders %d, pages %d" % (
             sum(self.killed.values()), ", ".join("%s %d" % pair for pair in self.killed.items()), len(self.orders.pages),
-            sum(map(len, self.orders.pages.values())), restarted, twice, self.operator.answers), flush=True)
+            sum(map(len, self.orders.pages.values()))))
+        print("kills: jobs that CUPS began again %d, pages that arrived twice %d, questions that the operator answered %d" % (
+            restarted, twice, self.operator.answers), flush=True)
         check("kills: pages twice that no CUPS began again", twice <= restarted, True)
 
 

@@ -36,7 +36,8 @@ def field(tag, value):
 def order(town, rows=30, first=(2026, 6, 1), clock=60, latitude=54.7753, longitude=-1.5849):
     return b"".join([
         field(1, town.encode("ascii")), field(2, struct.pack(">HBB", *first)), field(3, struct.pack(">H", rows)),
-        field(4, struct.pack(">d", latitude)), field(5, struct.pack(">d", longitude)), field(6, b"\0"), field(16, struct.pack(">h", clock))])
+        field(4, struct.pack(">d", latitude)), field(5, struct.pack(">d", longitude)), field(6, b"\0"),
+        field(16, struct.pack(">h", clock))])
 
 
 def brf(cells):

@@ -59,7 +59,8 @@ def check_question(check, place):
     port = Port()
     driver = with_two_pages(place, "question", "127.0.0.1:%d" % port.number)
     link = begin(driver)
-    check("a job that the machine never saw has count 0, without a question", (restart(link, 6), driver.questions()), (["count", "6", "0"], []))
+    check("a job that the machine never saw has count 0", restart(link, 6), ["count", "6", "0"])
+    check("and there is no question about it", driver.questions(), [])
     link.send(b"restart 5\n")
     check("a question is asked", wait_until(lambda: driver.questions() == [5]), True)
     text = (driver.state / "questions" / "5").read_text()
@@ -68,7 +69,6 @@ def check_question(check, place):
     for wrong in ("", "x", "-1", "3", "1.0", " 1", "+1", "1x", "4294967297", "00000000001"):
         check("'%s' is no answer" % wrong, (driver.answer(5, wrong).returncode, driver.questions()), (2, [5]))
     check("there is no question about job 6", driver.answer(6, 0).returncode, 1)
-    check("no count before the answer", link.came + (b"" if wait_until(lambda: False, 0.3) else b""), b"")
     link.close()
     driver.kill()
     driver.start()
@@ -203,9 +203,10 @@ def check_stuck(check, place):
     link.send(b"job 5 %d durham.order\n" % len(ORDER), ORDER)
     for page in (1, 2, 3):
         link.send(b"page 5 %d %d\n" % (page, len(pages[page - 1]) // 39), pages[page - 1])
-    check("stuck: the record", wait_until(lambda: "sent" in (driver.state / "jobs" / "5").read_text() if (driver.state / "jobs" / "5").exists() else False), True)
+    record = driver.state / "jobs" / "5"
+    check("stuck: the record is there", wait_until(record.exists), True)
     time.sleep(0.5)
-    check("stuck: no byte came, and the record is of page 1 alone", (line.came, "sent 1\n" in (driver.state / "jobs" / "5").read_text()), (b"", True))
+    check("stuck: it is of page 1 alone, and no byte came", (line.came, "sent 1\n" in record.read_text()), (b"", True))
     link.close()
     link = begin(driver)
     link.send(b"restart 5\n")
@@ -243,11 +244,10 @@ def check_end(check, place):
 
 
 def check_names(check, place):
-    for name in ("nonsense", ":9100", "host:0", "host:65536", "host:91x", "/etc/passwd-not-there"):
-        done = subprocess.run([place.port, str(place.folder / "n.socket"), str(place.folder / "n.state"), name], capture_output=True, text=True, timeout=5) \
-            if "/" not in name else None
-        if done:
-            check("'%s' is no machine" % name, (done.returncode, "HOST:PORT" in done.stderr or "empty" in done.stderr), (1, True))
+    for name in ("nonsense", ":9100", "host:0", "host:65536", "host:91x"):
+        words = [place.port, str(place.folder / "n.socket"), str(place.folder / "n.state"), name]
+        done = subprocess.run(words, capture_output=True, text=True, timeout=5)
+        check("'%s' is no machine" % name, (done.returncode, "HOST:PORT" in done.stderr), (1, True))
     (place.folder / "file").write_bytes(b"")
     driver = Driver(place.port, place.folder / "file-driver", str(place.folder / "file"))
     link = begin(driver)
@@ -297,5 +297,6 @@ def check_kills(check, place, kills=25):
 
 
 def run(check, place):
-    for part in (check_question, check_late_answer, check_terminal, check_away, check_reset, check_stuck, check_end, check_names, check_kills):
+    for part in (check_question, check_late_answer, check_terminal, check_away, check_reset, check_stuck, check_end, check_names,
+                 check_kills):
         part(check, place)

@@ -2,7 +2,6 @@
 they are killed, take orders at any time, and say which orders are done."""
 import os
 import pathlib
-import re
 import subprocess
 
 import host
@@ -30,9 +29,6 @@ class Small:
 
     def held(self):
         return [job.name for job in self.jobs if job.refused is not None]
-
-    def name_of(self, number):
-        return next(job.name for job in self.jobs if job.number == number)
 
     end = kill
 
@@ -68,10 +64,6 @@ class Whole:
 
     def held(self):
         return self.names("held") + self.names("refused")
-
-    def name_of(self, number):
-        said = (self.spool.parent / "host.out").read_text(errors="replace")
-        return re.search(r"(order-\d+)[^\n]*job %d\b|job %d\b[^\n]*?(order-\d+)" % (number, number), said)[0]
 
     def end(self):
         self.process.terminate()

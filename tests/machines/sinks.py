@@ -1,4 +1,4 @@
-"""What stands for a machine: a TCP port that keeps each connection's bytes, and a pseudo-terminal."""
+"""What stands in for a machine: a TCP port that keeps each connection's bytes, and a pseudo-terminal."""
 import os
 import pty
 import select
