@@ -1,7 +1,7 @@
 """A picture of all rows: each time of the sheet over the days, by the clock of the order, with the night shaded.
 
 A day is a column, and the hours go down from the row's own midnight, so a time of the next date is below 24:00. Each line has its name at
-its end and its own dashes: nothing is told by colour alone. A refused day is an empty column with a cross."""
+its end, so nothing is told by colour alone. A refused day is an empty column with a cross."""
 import math
 
 from ..wording import utc_offset

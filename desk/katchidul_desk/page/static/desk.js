@@ -30,11 +30,14 @@ async function check() {
   }
 }
 
-function typed(event) {
-  if (!event.target.id) return;
-  visited.add(event.target.id);
+function checkSoon(id) {
+  visited.add(id);
   clearTimeout(wait);
   wait = setTimeout(check, 400);
+}
+
+function typed(event) {
+  checkSoon(event.target.id);
   const changed = document.getElementById("changed");
   if (changed) changed.textContent = "The form has changed since. Show the pages again before you keep or print them.";
 }
@@ -63,6 +66,7 @@ for (const place of document.querySelectorAll("#order .wrong")) {
 }
 order.addEventListener("input", typed);
 order.addEventListener("focusout", (event) => {
-  if (event.target.id && event.target.value) typed(event);
+  // A button has no sentence of its own.
+  if (event.target.value) checkSoon(event.target.id);
 });
 setInterval(look, 3000);
