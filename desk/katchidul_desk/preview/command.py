@@ -15,7 +15,9 @@ dots, the same cells that go to the embosser, with what they say; the dots of ea
 rows, with the night shaded. It has no scripts and no links, opens in any browser, and prints on A4.
 
 An order is the bytes that make writes. A text is taken in its place, and made on the way; if it has a zone, the page shows all of its
-orders. Orders of one town whose days follow one another are shown as one timetable. - is standard input."""
+orders. Orders of one town whose days follow one another are shown as one timetable. - is standard input.
+
+Exit status: 0 the page is written; 1 an order is refused; 2 nothing was written, and a line says why."""
 
 
 def one(given):
