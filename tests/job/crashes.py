@@ -17,6 +17,7 @@ ERRORS = [errno.EIO, errno.ENOSPC, errno.EINTR, errno.EMFILE]
 
 # Embossers: quick or slow, with accidents or without.
 HABITS = [["-t", 0], ["-t", 1], ["-t", 2, "-a", 30], ["-t", 1, "-l", 10], ["-t", 0, "-a", 10, "-l", 5]]
+SLOW = [["-t", 5], ["-t", 8], ["-t", 6, "-a", 20], ["-t", 6, "-l", 5]]
 
 
 class Count:
@@ -87,30 +88,47 @@ def killed_again(built, seed, trials, orders=ORDERS):
     return all_of(one, range(trials))
 
 
-def with_asks(built, seed, trials):
-    """The same while the operator holds, releases and cancels jobs, and the embosser is killed and begun again too."""
+def with_asks(built, seed, trials, host=None):
+    """The same while the operator holds, releases and cancels jobs at any moment, and the embosser is killed and begun again too."""
 
     def one(number):
-        draw, kills = draw_of("asks", seed, number), 0
-        with Trial(built, ASKED, None, habits(draw)) as trial:
+        draw, kills, faults = draw_of("asks", seed, number), 0, []
+        with Trial(built, ASKED, host, draw.choice(SLOW) + ["-r", draw.randrange(10**6)]) as trial:
             for turn in range(CHAIN):
-                (trial.spool / "asks").mkdir(exist_ok=True)
-                for _ in range(draw.choice([0, 1, 1, 3])):
-                    word = draw.choice(["hold", "hold", "release", "release", "release"] + ["cancel"] * (turn < 6))
-                    (trial.spool / "asks" / f"{word}.{draw.randint(1, len(ASKED) + 1)}").touch()
-                kills += killed_somehow(trial, draw)
+                kills += asked_somehow(trial, draw, cancels=turn < 8)
+                faults += [] if trial.status in (0, 3, -9) else [f"status {trial.status}: {trial.said[-200:]}"]
                 if turn > 12 and not trial.was_killed():
                     break
             for name in trial.names("asks"):
                 (trial.spool / "asks" / name).unlink()
             trial.release_by_hand()
             trial.run_to_end()
-            faults = trial.asked_faults() + ([] if trial.status == 0 else [f"status {trial.status}: {trial.said[-200:]}"])
+            faults += trial.asked_faults() + ([] if trial.status == 0 else [f"status {trial.status}: {trial.said[-200:]}"])
             count = Count(kills=kills, trials=1, faults=[f"asks {seed}, trial {number}: {fault}" for fault in faults])
             count.pages = sum(map(len, trial.pages_by_job().values()))
             return count
 
     return all_of(one, range(trials))
+
+
+def asked_somehow(trial, draw, cancels):
+    """Runs a host, asks it for changes while it is at work, and kills it or its embosser; how many were killed."""
+    after, kills = draw.choice([0, draw.randint(20, 300)]), 0
+    host = trial.begin(after=after, how=draw.choice(["kill", "torn"]))
+    (trial.spool / "asks").mkdir(exist_ok=True)
+    end = time.monotonic() + 2
+    while host.poll() is None and not (trial.names("jobs") and trial.embosser_is_busy()) and time.monotonic() < end:
+        time.sleep(0.002)
+    time.sleep(draw.uniform(0, 0.06))
+    for _ in range(draw.choice([0, 1, 2, 4])):
+        word = draw.choice(["hold", "hold", "release", "release"] + ["cancel"] * cancels)
+        (trial.spool / "asks" / f"{word}.{draw.randint(1, len(ASKED) + 1)}").touch()
+    if draw.random() < 0.2:
+        trial.stop_embosser()
+        trial.start_embosser()
+        kills += 1
+    trial.end(host, delay=draw.uniform(0, 0.05) if not after and draw.random() < 0.6 else None)
+    return kills + trial.was_killed()
 
 
 def killed_somehow(trial, draw):

@@ -100,6 +100,17 @@ class Trial:
     def run(self, **words):
         return self.end(self.begin(**words))
 
+    def embosser_is_busy(self):
+        """Whether pages of some job are sent and not acknowledged."""
+        for log in self.spool.glob("jobs/*/log"):
+            try:
+                said = self.built.library.log(log.read_bytes(), LOG_SIZE)
+            except OSError:
+                continue  # the job has moved
+            if said.sent > said.finished:
+                return True
+        return False
+
     def run_to_end(self):
         """A host that comes to its end. On a busy machine the embosser may be late for ten tries in a row; then another host is begun."""
         self.run()
