@@ -222,7 +222,10 @@ cups_reply cups_is_ghost(uint32_t number, bool *ghost) {
   return reply;
 }
 
-bool cups_waits_for_document(const cups_job *job) { return strcmp(job->reason, "job-incoming") == 0; }
+/* A CUPS that began again has forgotten the reason. Other reasons are those of a job that someone or something holds. */
+bool cups_waits_for_document(const cups_job *job) {
+  return job->state == IPP_JSTATE_HELD && (strcmp(job->reason, "job-incoming") == 0 || strcmp(job->reason, "none") == 0);
+}
 
 cups_reply cups_look_at_queue(cups_queue *queue) {
   static const char *const parts[] = {"printer-state", "printer-state-message", "printer-is-accepting-jobs", "printer-error-policy"};
