@@ -2,12 +2,12 @@
 use mathlib.Core.Path.{_≡_}
 use mathlib.Core.Logic.{_⊎_}
 use Prim.Native.Nat.{ℕ, zero, suc, _/_, _≤_}
-use mathlib.Core.Bool.{cond}
+use mathlib.Core.Bool.{true, cond}
 use lib.Dec.{eqb}
+use lib.Signed.{ltZ}
 use lib.IntN.{ℤ, pos, _+ℤ_, _-ℤ_, _*ℤ_}
 use lib.Ieee.{binary64, ofInt, toUnsigned}
 use Rattle.integers.specs.Parts.{P}
-use Rattle.integers.specs.Order.{_≼_}
 use Rattle.float64.specs.Ops.{_-ᶠ_, _*ᶠ_, _/ᶠ_, dec}
 use Rattle.float64.specs.Whole.{truncOf, roundOf}
 use Rattle.models.specs.declared.prayer.Prayer.{Prayer}
@@ -41,7 +41,7 @@ nanosecondsOf i = i .seconds *ℤ pos inSecond +ℤ pos (i .nanoseconds)
 
 -- an instant is not after another, "ordered by whole seconds, then nanoseconds": its seconds are fewer, or the same and its nanoseconds no more
 abbrev pub NotAfter : Instant → Instant → Type 0
-NotAfter j i = (j .seconds +ℤ pos 1 ≼ i .seconds) ⊎ ((j .seconds ≡ i .seconds) × (j .nanoseconds ≤ i .nanoseconds))
+NotAfter j i = (ltZ (j .seconds) (i .seconds) ≡ true) ⊎ ((j .seconds ≡ i .seconds) × (j .nanoseconds ≤ i .nanoseconds))
 
 -- `signed_duration_since(now).num_seconds()`, "passed, 0": whole seconds from an instant to a time
 unfoldable pub aheadOf : ℤ → Instant → ℕ

@@ -19,8 +19,7 @@ module _ (j i : Instant) where
       let b = times (i .seconds) 1000000000 in
       let c = sum (j .seconds *ℤ pos inSecond) (pos (j .nanoseconds)) in
       let d = sum (i .seconds *ℤ pos inSecond) (pos (i .nanoseconds)) in
-      let e = sum (j .seconds) (pos 1) in
-      ⊎-elim (λ (l : j .seconds +ℤ pos 1 ≼ i .seconds). omega arith)
+      ⊎-elim (λ (l : ltZ (j .seconds) (i .seconds) ≡ true). omega (arith, lt-yes (j .seconds) (i .seconds) l))
       (λ (l : (j .seconds ≡ i .seconds) × (j .nanoseconds ≤ i .nanoseconds)). let x = ap P (l .0) in let y = ap N (l .0) in omega (arith, l .1))
       o
 
@@ -29,7 +28,7 @@ module _ (j i : Instant) where
   from-nanoseconds h o = by-tests (ltZ (j .seconds) (i .seconds)) (ltZ (i .seconds) (j .seconds)) refl refl
     where
       by-tests : (b c : Bool) → ltZ (j .seconds) (i .seconds) ≡ b → ltZ (i .seconds) (j .seconds) ≡ c → NotAfter j i
-      by-tests true c p q = let l = lt-yes (j .seconds) (i .seconds) p in let e = sum (j .seconds) (pos 1) in inl (omega arith)
+      by-tests true c p q = inl p
       by-tests false true p q =
           let l = lt-yes (i .seconds) (j .seconds) q in
           let a = times (j .seconds) 1000000000 in

@@ -7,12 +7,12 @@ use lib.IntN.{ℤ, pos}
 use lib.Signed.{ltZ}
 use lib.ListN.{length}
 use Rattle.weeks.specs.declared.minute.Minute.{Minute}
-use Rattle.weeks.specs.declared.minute.Minute.the-variants.{At, Refused}
+use Rattle.weeks.specs.declared.minute.Minute.the-variants.{Some, Nothing}
 use Rattle.weeks.specs.declared.window.Window.{Window}
 
 -- the row at a place, from 0
 abbrev pub rowAt : List Minute → ℕ → Minute
-rowAt [] n = Refused
+rowAt [] n = Nothing
 rowAt (m ∷ l) zero = m
 rowAt (m ∷ l) (suc n) = rowAt l n
 
@@ -28,8 +28,8 @@ foundWindow first early earlyRow late lateRow =
 
 -- its first row by itself
 abbrev pub beginOf : ℕ → Minute → Window
-beginOf first Refused = refusedWindow first
-beginOf first (At m) = foundWindow first m first m first
+beginOf first Nothing = refusedWindow first
+beginOf first (Some m) = foundWindow first m first m first
 
 -- a row more: "the earliest and latest Fajr .., and the first row having each", so that an equal minute changes nothing
 abbrev pub withEarliest : Window → ℕ → ℤ → Window
@@ -48,8 +48,8 @@ laterIn w row m = cond (ltZ (w .latest) m) (withLatest w row m) w
 
 -- "a window with a refused day" is refused
 unfoldable pub seenOf : Window → ℕ → Minute → Window
-seenOf w row Refused = refusedWindow (w .first)
-seenOf w row (At m) = cond (w .refused) (refusedWindow (w .first)) (laterIn (earlierIn w row m) row m)
+seenOf w row Nothing = refusedWindow (w .first)
+seenOf w row (Some m) = cond (w .refused) (refusedWindow (w .first)) (laterIn (earlierIn w row m) row m)
 
 -- k rows more, from row first + i on
 abbrev pub lookOf : (ℕ → Minute) → ℕ → Window → ℕ → ℕ → Window
