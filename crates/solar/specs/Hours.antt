@@ -16,7 +16,7 @@ use Rattle.solar.specs.declared.coordinates.SolarCoordinates.{SolarCoord
 use Rattle.solar.specs.declared.hours.HourNumbers.{HourNumbers}
 use Rattle.solar.specs.Coordinates.{positionOf}
 
--- the sun of a day over a place
+-- SolarTime: `observer`, `prev_solar`, `solar` and `next_solar`
 pub record Sun : Type 0 where
   pub place : Coordinates
   pub previous : SolarCoordinates
@@ -27,7 +27,7 @@ pub record Sun : Type 0 where
 abbrev pub sunOn : Coordinates → Date → Sun
 sunOn place date = record { place = place; previous = positionOf (yesterdayOf date); today = positionOf date; next = positionOf (tomorrowOf date) }
 
--- the altitude of the sun's center at sunrise and sunset: 50 minutes of arc below the horizon
+-- `solar_altitude`: the sun's center is 50 minutes of arc below the horizon at sunrise and sunset
 unfoldable pub solarAltitude : Angle
 unfolding dec
 solarAltitude = angleOf (neg (dec 50 0) /ᶠ dec 60 0)
@@ -40,7 +40,7 @@ transitNumberOf s =
     correctedTransitOf (approxTransitOf s) (longitudeAngleOf (s .place)) (s .today .«apparent_sidereal_time»)
     (s .today .«right_ascension») (s .previous .«right_ascension») (s .next .«right_ascension»)
 
--- the hour number at which the sun stands at an angle, before or after its transit
+-- time_for_solar_angle: `hours`, at which the sun stands at an angle, before or after its transit
 unfoldable pub angleNumberOf : Sun → Angle → Bool → Float
 angleNumberOf s angle after =
     correctedHourAngleOf (approxTransitOf s) angle (s .place) after (s .today .«apparent_sidereal_time»)
@@ -55,7 +55,7 @@ hourNumbersOf s =
       sunset = angleNumberOf s solarAltitude true;
     }
 
--- the angle at which a shadow has grown by so many lengths, at a latitude and under a declination
+-- afternoon: `angle`, at which a shadow has grown by so many lengths, at a latitude and under a declination
 unfoldable pub shadowAngleOf : Float → Float → Float → Angle
 unfolding dec
 shadowAngleOf latitude declination shadow =

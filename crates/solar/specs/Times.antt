@@ -19,7 +19,7 @@ unfoldable pub solarHourOf : Midnight → Float → SolarHour
 solarHourOf Stops number = settingHourOf number
 solarHourOf Carries number = carriedHourOf number
 
--- no transit is 6, no sunrise 7, no sunset 8, tried in that order
+-- 6 "no transit", 7 "no sunrise", 8 "no sunset", tried in that order
 unfoldable pub dayOf : SolarHour → SolarHour → SolarHour → SolarDay
 dayOf Nothing sunrise sunset = Lacks noTransit
 dayOf (Some t) Nothing sunset = Lacks noSunrise
