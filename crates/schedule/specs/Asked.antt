@@ -1,5 +1,5 @@
 -- This file need not be believed: the numbers of Fajr and Isha as the code works them. One that no time asks for is left out, and the others start from
--- the sines of their angles. proofs/AskedLaws.antt says that the times are those of Numbers.
+-- the sines of their angles. proofs/SharedLaws.antt says that the times are those of Numbers.
 use mathlib.Core.Bool.{true, false, cond}
 use lib.IntN.{pos}
 use lib.Signed.{ltZ}
