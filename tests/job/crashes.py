@@ -30,7 +30,7 @@ class Count:
 
     def end(self, trial, what):
         if trial.status == 3:
-            trial.run_to_end()
+            trial.run()
         self.trials += 1
         self.pages += sum(map(len, trial.pages_by_job().values()))
         self.faults += [f"{what}: {fault}" for fault in trial.faults()]
@@ -88,12 +88,12 @@ def killed_again(built, seed, trials, orders=ORDERS):
     return all_of(one, range(trials))
 
 
-def with_asks(built, seed, trials, host=None):
+def with_asks(built, seed, trials):
     """The same while the operator holds, releases and cancels jobs at any moment, and the embosser is killed and begun again too."""
 
     def one(number):
         draw, kills, faults = draw_of("asks", seed, number), 0, []
-        with Trial(built, ASKED, host, draw.choice(SLOW) + ["-r", draw.randrange(10**6)]) as trial:
+        with Trial(built, ASKED, None, draw.choice(SLOW) + ["-r", draw.randrange(10**6)]) as trial:
             for turn in range(CHAIN):
                 kills += asked_somehow(trial, draw, cancels=turn < 8)
                 faults += [] if trial.status in (0, 3, -9) else [f"status {trial.status}: {trial.said[-200:]}"]
@@ -102,7 +102,7 @@ def with_asks(built, seed, trials, host=None):
             for name in trial.names("asks"):
                 (trial.spool / "asks" / name).unlink()
             trial.release_by_hand()
-            trial.run_to_end()
+            trial.run()
             faults += trial.asked_faults() + ([] if trial.status == 0 else [f"status {trial.status}: {trial.said[-200:]}"])
             count = Count(kills=kills, trials=1, faults=[f"asks {seed}, trial {number}: {fault}" for fault in faults])
             count.pages = sum(map(len, trial.pages_by_job().values()))
@@ -205,7 +205,7 @@ def failing(built, seed, step=1, errors=ERRORS, lay=lambda trial: None):
                 faults.append(f"status {trial.status} without a word: {trial.said}")
             for _ in range(2):  # what is asked may hold a job once more
                 trial.release_by_hand()
-                trial.run_to_end()
+                trial.run()
             (trial.spool / "refused" / "bad").unlink(missing_ok=True)
             faults += trial.asked_faults() + ([] if trial.status == 0 else [f"status {trial.status}: {trial.said[-200:]}"])
             return Count(trials=1, told=told, faults=[f"call {at} failed by {os.strerror(error)}: {fault}" for fault in faults])

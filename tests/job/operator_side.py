@@ -164,8 +164,8 @@ def submit_that_is_killed(built, step):
 class Working:
     """A trial with a host that stays."""
 
-    def __init__(self, built, texts, habits=("-t", 40)):
-        self.trial = Trial(built, texts, None, habits)
+    def __init__(self, built, texts, host=None):
+        self.trial = Trial(built, texts, host, ["-t", 40])
 
     def __enter__(self):
         self.trial.__enter__()
@@ -200,8 +200,8 @@ def held_and_released(built):
         return wrong + trial.faults()
 
 
-def cancelled(built):
-    with Working(built, [YEAR, MONTH, RAMADAN]) as trial:
+def cancelled(built, host=None):
+    with Working(built, [YEAR, MONTH, RAMADAN], host) as trial:
         until(lambda: job(trial, 1) and job(trial, 1).finished >= 1)
         status, said = command(trial, "cancel", 1)
         found = job(trial, 1)

@@ -98,7 +98,12 @@ class Trial:
         return self.status
 
     def run(self, **words):
-        return self.end(self.begin(**words))
+        """A host from its start to its end. On a busy machine the embosser may be late for ten tries in a row; then another is begun."""
+        for _ in range(20):
+            self.end(self.begin(**words))
+            if self.status != 3 or not self.embosser:
+                break
+        return self.status
 
     def embosser_is_busy(self):
         """Whether pages of some job are sent and not acknowledged."""
@@ -110,14 +115,6 @@ class Trial:
             if said.sent > said.finished:
                 return True
         return False
-
-    def run_to_end(self):
-        """A host that comes to its end. On a busy machine the embosser may be late for ten tries in a row; then another host is begun."""
-        self.run()
-        for _ in range(20):
-            if self.status == 3 and self.embosser:
-                self.run()
-        return self.status
 
     def release_by_hand(self):
         """Moves every held job back to jobs/."""

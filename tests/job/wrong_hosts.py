@@ -1,5 +1,5 @@
 # Hosts with one thing wrong, each an edit of the host's text, and which runs must notice: `kills`, lost `power`, the order of the calls
-# (`calls`), a run without accidents (`plain`), or one in which the operator asks for changes (`asks`).
+# (`calls`), a run without accidents (`plain`), or one in which the operator cancels a job (`asks`).
 SEND_NEXT = """  append(r, j, KATCHIDUL_RECORD_SENT, page);
   r->queue = turn.queue;
   return send_page(r, j, page);
@@ -29,7 +29,6 @@ WRONG_HOSTS = [
     ("open pages not sent again", {"kills"}, "intake.c", "uint32_t page = now.finished + 1;", "uint32_t page = now.sent + 1;"),
     ("a job stopped without its count", {"asks"}, "asks.c", "course c = hear_count(r, id, &count);",
      "course c = GOES_ON; count = job_log(j).finished;"),
-    ("a stopped job still in the queue", {"asks"}, "asks.c", "  room_drop(r, id);\n", ""),
     ("an order copied, not moved", {"kills"}, "spool.c", '  int why = move_lasting(spool, "in", name, folder.text, "order");\n', """\
   char bytes[KATCHIDUL_ORDER_MAX];
   size_t length;
