@@ -57,10 +57,16 @@
 extern "C" {
 #endif
 
-/* Of this header: one more with every change of a call, a struct or a number. Take header and library from the same build. */
-#define KATCHIDUL_VERSION 11
+/* The version of this header; katchidul_version() returns that of the library. The major number is raised if a program that was built with the
+   header before could go wrong: a call, a struct, a limit or the meaning of a number has changed or is gone. It is the number in the name of
+   the shared object. The minor number is raised if something is added, and goes back to 0 with a new major number. So a host is right with a
+   library of the same major number and of its own minor number or a higher one. */
+#define KATCHIDUL_VERSION_MAJOR 1
+#define KATCHIDUL_VERSION_MINOR 0
+#define KATCHIDUL_VERSION (KATCHIDUL_VERSION_MAJOR * 65536u + KATCHIDUL_VERSION_MINOR)
 
 #define KATCHIDUL_ORDER_MAX 1024 /* bytes of an order */
+#define KATCHIDUL_WRITTEN_MAX 157 /* bytes of an order that katchidul_write_order writes */
 #define KATCHIDUL_TOWN_MAX 40    /* bytes of a town's name */
 #define KATCHIDUL_ROWS_MAX 400   /* rows of an order */
 #define KATCHIDUL_ROW_CELLS 39   /* of a row, a byte each, and the least that a cell buffer or a page's scratch may have */
@@ -226,7 +232,7 @@ typedef struct katchidul_reply {
   uint32_t number, place;
 } katchidul_reply;
 
-/* What writing a sentence says: the sentence's bytes. */
+/* What writing a sentence or an order returns: how many bytes it has. */
 typedef struct katchidul_written {
   uint32_t number, place, length;
 } katchidul_written;
@@ -242,8 +248,22 @@ typedef struct katchidul_map {
   uint32_t number, place, sign, degrees, minutes, seconds, hundredths;
 } katchidul_map;
 
+/* Returns the library's version: KATCHIDUL_VERSION of the header that it was built with. */
+uint32_t katchidul_version(void);
+
 /* Reads an order. Refusals 1 to 5, 15 and 18. */
 katchidul_order katchidul_read_order(const uint8_t *order, size_t length);
+
+/* Writes an order at the front of a buffer of `size` bytes: every field of `order`, which is as katchidul_read_order returns it, and the town's
+   name. `number`, `place`, `town_at` and `town_length` of the struct are not looked at: the town is `town_length` bytes at `town`. `length` is
+   how many bytes the order has, KATCHIDUL_WRITTEN_MAX at most. The place is written as two floats, also if it was read as on the map.
+
+   What reading the bytes would refuse is refused alike, before the buffer is looked at; then a buffer that is too short is 9, place 0. What no
+   order can say is written out of range in its own field, and so refused (5): a number that no choice has, 70,000 rows, -0.0 degrees, which
+   would be read as 0.0, or minutes of imsak on a sheet that is not Ramadan's. A refused call changes no byte of the buffer; else the bytes behind
+   the order stay. Reading what was written returns the same struct, but for `town_at`, which is 3; and writing what was read gives an order that
+   every call answers as it answers the one that was read. The buffer and the town must not overlap. Refusals 2, 5, 9 and 18. */
+katchidul_written katchidul_write_order(katchidul_order order, const uint8_t *town, size_t town_length, uint8_t *buffer, size_t size);
 
 /* Works the nine times of a row's date; rows count from 0. Refusals 1 to 8, 15 and 18. */
 katchidul_day katchidul_work_day(const uint8_t *order, size_t length, uint32_t row);
@@ -405,7 +425,7 @@ katchidul_map katchidul_map_longitude(double degrees);
 /* Whether the calling thread's floating-point environment is the one that the answers are proved for: 1 or 0. It reads the processor's
    MXCSR: no subnormal number taken or made zero, rounding to nearest, every exception masked. The six lowest bits say what happened and
    change no answer. */
-static inline int katchidul_environment_is_default(void) {
+static __inline__ int katchidul_environment_is_default(void) {
   uint32_t control;
   __asm__ volatile("stmxcsr %0" : "=m"(control));
   return (control & 0xffc0u) == 0x1f80u;

@@ -10,4 +10,4 @@ def version():
         return (PACKAGE.parent / "version").read_text("utf-8").strip()
     except OSError:
         header = (PACKAGE.parent.parent / "include" / "katchidul.h").read_text("utf-8")
-        return re.search(r"^#define KATCHIDUL_VERSION (\S+)", header, re.MULTILINE)[1]
+        return ".".join(re.findall(r"^#define KATCHIDUL_VERSION_M\w+ (\d+)", header, re.MULTILINE))

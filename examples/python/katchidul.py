@@ -61,7 +61,9 @@ class Lent:
 BYTES, LENT = [ctypes.c_char_p, c_size_t], [Lent, c_size_t]
 AT_ROW, AT_INSTANT = BYTES + [c_uint32], BYTES + [c_uint32, c_int64, c_uint32]
 CALLS = {
+    "version": (c_uint32, []),
     "read_order": (Order, BYTES),
+    "write_order": (Written, [Order] + BYTES + LENT),
     "work_day": (Day, AT_ROW),
     "prayer_at": (Prayer, AT_INSTANT),
     "next_at": (Prayer, AT_INSTANT),

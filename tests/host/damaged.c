@@ -119,6 +119,8 @@ void check_damaged(uint32_t orders) {
     answers all = ask(&order, row, seconds, nanoseconds);
     snprintf(what, sizeof what, "order %u of the random and damaged ones", i);
     check(answers_agree(&all, row, seconds, nanoseconds), what);
+    check(written_agrees(&order, below(4) ? BUFFER_MOST : below(200)), what);
+    if (below(4) == 0) check(written_answers_alike(&order, &all, row, seconds, nanoseconds), what);
     if (below(8) == 0) {
       numbers[9]++;
       check(row_unwritten(&order, row, below(ROW_LENGTH), 9, 0), what);

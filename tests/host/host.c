@@ -27,6 +27,7 @@ int main(int count, char **arguments) {
   check_refusals();
   check_ranges();
   check_records();
+  check_write_order();
   check_days();
   check_instants();
   check_lines();

@@ -123,6 +123,10 @@ bool cells_refused(const katchidul_cells *answer, uint32_t number, uint32_t plac
 /* A whole call on a page, whatever the order, the row to begin at and the scratch. */
 bool page_agrees(const order_bytes *order, uint32_t page, uint32_t first, size_t size);
 
+/* write_order.c: an order that is read, written again into a buffer of so many bytes; and what the calls answer of it. */
+bool written_agrees(const order_bytes *bytes, size_t size);
+bool written_answers_alike(const order_bytes *bytes, const answers *all, uint32_t row, int64_t seconds, uint32_t nanoseconds);
+
 /* sense.c: what holds of every answer, whatever the order. */
 bool answers_agree(const answers *all, uint32_t row, int64_t seconds, uint32_t nanoseconds);
 /* The days from 1970-01-01 to a date. */
@@ -136,6 +140,7 @@ void check_names(void);
 void check_refusals(void);
 void check_ranges(void);
 void check_records(void);
+void check_write_order(void);
 void check_days(void);
 void check_instants(void);
 void check_lines(void);

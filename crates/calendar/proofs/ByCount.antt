@@ -3,7 +3,8 @@ use Rattle.prelude.proofs.Logic.{_≡_, refl, ap, cond, ℕ, _+_, _-_, _≤_, _
 use Rattle.integers.proofs.Integers.{P}
 use Rattle.calendar.specs.Gregorian.{dateOf, leapOf}
 use Rattle.calendar.specs.Days.{daysInYearOf, daysBeforeYearOf, ofOrdinalOf, yearOf, dateAtOf, dateOfDayOf}
-use Rattle.calendar.specs.Answers.{heldOf, sinceFirstOf, ofDayOf}
+use Rattle.calendar.specs.Answers.{heldOf, ofDayOf}
+use Rattle.calendar.specs.Counted.{sinceFirstOf}
 use Rattle.calendar.proofs.Counting.{capped}
 use Rattle.calendar.proofs.MonthTables.{year-short}
 use Rattle.calendar.proofs.YearSteps.{year-step, year-before, year-found, last-year}

@@ -1,5 +1,5 @@
 -- The rows of days before each month, held to the months' lengths by tests that antt computes. Assumes nothing.
-use Rattle.prelude.proofs.Logic.{_≡_, refl, sym, Bool, true, false, cond, not, _&&_, _||_, ℕ, zero, suc, _+_, _-_, _/_, _≤_, _<_, arith, T, eqb, ltb, leb, eqb→eq, leb→le, ltb→lt, le→leb, lit≤, List·getD-eq-default, ltb-true, ltb-false, and-l, and-r, cases, Others, beyond}
+use Rattle.prelude.proofs.Logic.{_≡_, refl, sym, Bool, true, false, cond, not, _&&_, _||_, ℕ, zero, suc, _+_, _-_, _/_, _≤_, _<_, arith, T, eqb, ltb, leb, eqb→eq, leb→le, ltb→lt, le→leb, lit≤, List·getD-eq-default, ltb-true, ltb-false, and-l, and-r, cases}
 use Rattle.calendar.specs.Gregorian.{lengthsOf, lengthOf}
 use Rattle.calendar.specs.Days.{monthStartsOf, daysBeforeOf, countBelow, monthOf}
 use Rattle.prelude.proofs.Computed.{below, at, tested, when}
@@ -48,12 +48,6 @@ pub before-past : (leap : Bool) (m : ℕ) → 12 < m → daysBeforeOf leap m ≡
 unfolding daysBeforeOf
 before-past true m h = let k : 12 ≤ m - 1 = omega arith in List·getD-eq-default (monthStartsOf true) 0 k
 before-past false m h = let k : 12 ≤ m - 1 = omega arith in List·getD-eq-default (monthStartsOf false) 0 k
-
--- a month that is none of the twelve
-pub before-other : (leap : Bool) (m : ℕ) → Others m 1 12 → 0 ≡ daysBeforeOf leap m
-before-other leap m o =
-    cases (ltb 0 m) (λ q. sym (before-past leap m (beyond m 1 12 (ltb-true 0 m q) o)))
-    (λ q. let z : m ≡ 0 = let l = ltb-false 0 m q in omega arith in rw z (sym (before-none leap)))
 
 someTest : Bool → ℕ → Bool
 someTest leap k = ltb 0 (lengthOf leap (k + 1))

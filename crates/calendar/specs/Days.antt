@@ -12,13 +12,13 @@ use Rattle.calendar.specs.Gregorian.{dateOf, leapOf, existsOf}
 use Rattle.calendar.specs.declared.dates.Date.{Date}
 
 -- ---- days of the year
--- the days before each month, in a leap year and in a common one
+-- "the days before each month, for common and leap years" (document 01), here the leap year's first
 abbrev pub monthStartsOf : Bool → List ℕ
 monthStartsOf leap =
     cond leap (0 ∷ 31 ∷ 60 ∷ 91 ∷ 121 ∷ 152 ∷ 182 ∷ 213 ∷ 244 ∷ 274 ∷ 305 ∷ 335 ∷ [])
     (0 ∷ 31 ∷ 59 ∷ 90 ∷ 120 ∷ 151 ∷ 181 ∷ 212 ∷ 243 ∷ 273 ∷ 304 ∷ 334 ∷ [])
 
--- 0 for a month that there is not
+-- 0 if there is no such month
 unfoldable pub daysBeforeOf : Bool → ℕ → ℕ
 daysBeforeOf leap month = getD (monthStartsOf leap) (month - 1) 0
 

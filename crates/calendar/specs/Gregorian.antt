@@ -1,4 +1,5 @@
--- The Gregorian calendar by its rule, for every year from 0 on, also before it was decreed. Promises holds the numbers of Days to it.
+-- "The Gregorian calendar decides" (document 01): its rule, for every year from 0 on, also before it was decreed. Promises holds the numbers
+-- of Days to it.
 use Prim.Native.Nat.{ℕ, _+_, _-_, _%_}
 use mathlib.Core.Bool.{Bool, cond, not, _&&_, _||_}
 use mathlib.Core.List.{List, [], _∷_}
@@ -36,7 +37,7 @@ dayAfterOf d =
     cond (ltb (d .day) (daysInMonthOf (d .year) (d .month))) (dateOf (d .year) (d .month) (d .day + 1))
     (cond (ltb (d .month) 12) (dateOf (d .year) (d .month + 1) 1) (dateOf (d .year + 1) 1 1))
 
--- the same backwards; nothing is before 0000-01-01, which stays
+-- the same backwards. Nothing is before 0000-01-01: it gives itself
 unfoldable pub dayBeforeOf : Date → Date
 dayBeforeOf d =
     cond (ltb 1 (d .day)) (dateOf (d .year) (d .month) (d .day - 1))

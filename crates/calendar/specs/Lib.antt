@@ -1,4 +1,5 @@
 pub mod Gregorian
 pub mod Days
 pub mod Answers
+pub mod Counted
 pub mod Promises

@@ -1,7 +1,7 @@
 // Days and years counted from 0000-01-01, for every year that a u32 holds and the one after.
 ghost use mathlib.Core.Path.{_≡_};
 ghost use Prim.Native.Nat.{_≤_, _<_};
-ghost use Rattle.calendar.specs.Answers.{sinceFirstOf};
+ghost use Rattle.calendar.specs.Counted.{sinceFirstOf};
 ghost use Rattle.calendar.specs.Days.{daysBeforeYearOf, yearOf};
 
 // 0000-01-01 and the last date of the year 4294967295 by their numbers, and the days from the one to the other.
@@ -11,7 +11,7 @@ const LAST: i64 = 1568703873081;
 
 const SPAN: u64 = 1568704592609;
 
-// The days from 0000-01-01 to a day by its number, for a day between the two, and else for the nearer of them.
+// The days from 0000-01-01 to `day`. A day outside FIRST to LAST counts as the nearer of the two.
 pub fn since_first(day: i64) -> u64
     ensures { λ r. ⌜ r ≡ sinceFirstOf day ⌝ }
 {

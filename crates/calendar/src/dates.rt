@@ -52,7 +52,7 @@ impl Date {
         self.day >= 1 && self.day <= days
     }
 
-    // The day of the year; 0 for a date that does not exist, so that who asks for it need not ask whether the date exists.
+    // The day of the year; 0 for a date that does not exist, so callers need not check first.
     pub fn ordinal(self) -> u32
         ensures { λ r. ⌜ r ≡ ordinalOf self ⌝ }
     {
@@ -89,7 +89,7 @@ impl Date {
         Date::new(year + 1, 1, 1)
     }
 
-    // The ordinal before, or the last of the year before.
+    // The ordinal before, or December 31 of the year before.
     pub fn yesterday(self) -> Date
         ensures { λ r. ⌜ r ≡ yesterdayOf self ⌝ }
     {

@@ -15,10 +15,10 @@ use Rattle.order.specs.declared.reading.Reading.{Reading}
 use Rattle.order.specs.declared.reading.Reading.the-variants as reading
 use Rattle.order.specs.Reading.{readingOf}
 use Rattle.schedule.specs.declared.in_force.Current.{Current}
-use Rattle.schedule.specs.declared.in_force.Current.the-variants.{Some, None}
+use Rattle.schedule.specs.declared.in_force.Current.the-variants.{Some, Nothing}
 use Rattle.schedule.specs.declared.in_force.Instant.{Instant}
 use Rattle.schedule.specs.declared.in_force.Remaining.{Remaining}
-use Rattle.schedule.specs.declared.in_force.Remaining.the-variants.{In, Nothing}
+use Rattle.schedule.specs.declared.in_force.Remaining.the-variants as remaining
 use Rattle.schedule.specs.declared.prayer_times.Worked.{Worked}
 use Rattle.schedule.specs.declared.prayer_times.Worked.the-variants as worked
 use Rattle.schedule.specs.InForce.{currentTimeOf, nextOf, timeRemainingOf}
@@ -41,6 +41,7 @@ lacksRow = refusal outOfRange 3
 unfoldable pub workRowOf : Order → ℕ → Worked
 workRowOf order row = cond (ltb row (order .rows)) (workDateOf order (rowDateOf (order .date) row)) (worked.Refused lacksRow)
 
+-- "A refusal gives number and place, no times"
 unfoldable pub workReadingOf : Reading → ℕ → Worked
 workReadingOf (reading.Read order) row = workRowOf order row
 workReadingOf (reading.Refused r) row = worked.Refused r
@@ -53,13 +54,22 @@ abbrev pub instantOf : ℤ → ℕ → Instant
 instantOf seconds nanoseconds = record { seconds = seconds; nanoseconds = nanoseconds }
 
 -- 10 is "an instant's whole seconds beyond ±10^12, or its nanoseconds over 999,999,999"
+abbrev pub leastSeconds : ℤ
+leastSeconds = negsuc 999999999999
+
+abbrev pub mostSeconds : ℤ
+mostSeconds = pos 1000000000000
+
+abbrev pub mostNanoseconds : ℕ
+mostNanoseconds = 999999999
+
 unfoldable pub instantFits : Instant → Bool
-instantFits i = leZ (negsuc 999999999999) (i .seconds) && leZ (i .seconds) (pos 1000000000000) && leb (i .nanoseconds) 999999999
+instantFits i = leZ leastSeconds (i .seconds) && leZ (i .seconds) mostSeconds && leb (i .nanoseconds) mostNanoseconds
 
 unfoldable pub workAtOf : List ℕ → ℕ → Instant → Worked
 workAtOf s row i = cond (instantFits i) (workDayOf s row) (worked.Refused (refusal instantBeyond 0))
 
--- ---- the prayer in force, which may be none
+-- ---- the prayer in force: "the last in the list .. whose instant lies less than one second ahead; else none"
 unfoldable pub inForceOf : Worked → Instant → InForce
 inForceOf (worked.Times t) i = force.Prayer (currentTimeOf t i)
 inForceOf (worked.Refused r) i = force.Refused r
@@ -70,7 +80,7 @@ prayerAtOf s row i = inForceOf (workAtOf s row i) i
 -- ---- the next one. 11 is "next or remaining asked while no prayer is in force"
 unfoldable pub nextPrayerIn : Current → NextPrayer
 nextPrayerIn (Some prayer) = next.Prayer prayer
-nextPrayerIn None = next.Refused (refusal noneInForce 0)
+nextPrayerIn Nothing = next.Refused (refusal noneInForce 0)
 
 unfoldable pub nextPrayerOf : Worked → Instant → NextPrayer
 nextPrayerOf (worked.Times t) i = nextPrayerIn (nextOf t i)
@@ -81,8 +91,8 @@ nextAtOf s row i = nextPrayerOf (workAtOf s row i) i
 
 -- ---- the time until it
 unfoldable pub timeUntilIn : Remaining → TimeUntil
-timeUntilIn (In time) = until.Time time
-timeUntilIn Nothing = until.Refused (refusal noneInForce 0)
+timeUntilIn (remaining.Some time) = until.Time time
+timeUntilIn remaining.Nothing = until.Refused (refusal noneInForce 0)
 
 unfoldable pub timeUntilOf : Worked → Instant → TimeUntil
 timeUntilOf (worked.Times t) i = timeUntilIn (timeRemainingOf t i)

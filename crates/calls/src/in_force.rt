@@ -30,16 +30,23 @@ pub enum TimeUntil {
     Refused(Refusal),
 }
 
+// The instants that 10 does not refuse.
+const LEAST_SECONDS: i64 = -1000000000000;
+
+const MOST_SECONDS: i64 = 1000000000000;
+
+const MOST_NANOSECONDS: u32 = 999999999;
+
 fn instant_fits(seconds: i64, nanoseconds: u32) -> bool
     ensures { λ r. ⌜ r ≡ instantFits (instantOf seconds nanoseconds) ⌝ }
 {
-    if seconds < -1000000000000 {
+    if seconds < LEAST_SECONDS {
         return false;
     }
-    if seconds > 1000000000000 {
+    if seconds > MOST_SECONDS {
         return false;
     }
-    nanoseconds <= 999999999
+    nanoseconds <= MOST_NANOSECONDS
 }
 
 // The times of the row's day, for an instant that is in range.
@@ -76,7 +83,7 @@ fn next_in(next: Current) -> NextPrayer
 {
     match next {
         Current::Some(prayer) => NextPrayer::Prayer(prayer),
-        Current::None => NextPrayer::Refused(none_in_force()),
+        Current::Nothing => NextPrayer::Refused(none_in_force()),
     }
 }
 
@@ -93,7 +100,7 @@ fn until_in(remaining: Remaining) -> TimeUntil
     ensures { λ r. ⌜ r ≡ timeUntilIn remaining ⌝ }
 {
     match remaining {
-        Remaining::In(time) => TimeUntil::Time(time),
+        Remaining::Some(time) => TimeUntil::Time(time),
         Remaining::Nothing => TimeUntil::Refused(none_in_force()),
     }
 }

@@ -3,3 +3,4 @@ pub mod KCos
 pub mod KTan
 pub mod RemPio2
 pub mod Trig
+pub mod Steps

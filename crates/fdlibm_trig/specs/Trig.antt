@@ -1,6 +1,6 @@
 -- s_sin.c, s_cos.c and s_tan.c. Beyond 70 radians in size, where fdlibm goes on to its large case, they are NaN here.
 use Prim.Native.Nat.{ℕ, _+_, _%_}
-use mathlib.Core.Bool.{Bool, true, false, cond}
+use mathlib.Core.Bool.{true, false, cond}
 use lib.Dec.{leb, eqb}
 use lib.Ieee.{Float, nan, neg, le}
 use Rattle.float64.specs.Ops.{bits}
@@ -42,11 +42,5 @@ tanOf x =
     (cond (le (absOf x) seventy) (kernelTanOf (p .y0) (p .y1) (eqb (p .n % 2) 1)) nan)
 
 -- the sine and the cosine together
-abbrev pub kernelsOf : Float → Float → Bool → Both
-kernelsOf x y tail = record { sin = kernelSinOf x y tail; cos = kernelCosOf x y }
-
-abbrev pub bothTurnsOf : ℕ → Float → Float → Both
-bothTurnsOf n y0 y1 = record { sin = quarterTurnsOf n y0 y1; cos = quarterTurnsOf ((n % 4 + 1) % 4) y0 y1 }
-
 abbrev pub sincosOf : Float → Both
 sincosOf x = record { sin = sinOf x; cos = cosOf x }

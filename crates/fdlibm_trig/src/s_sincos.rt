@@ -1,7 +1,8 @@
 // The sine and the cosine of one angle (added): one reduction and two kernels serve both.
 ghost use mathlib.Core.Path.{_≡_};
 ghost use Prim.Native.Nat.{_<_};
-ghost use Rattle.fdlibm_trig.specs.Trig.{kernelsOf, bothTurnsOf, sincosOf};
+ghost use Rattle.fdlibm_trig.specs.Steps.{kernelsOf, bothTurnsOf};
+ghost use Rattle.fdlibm_trig.specs.Trig.{sincosOf};
 use super::e_rem_pio2::rem_pio2;
 use super::k_cos::cos_polynomial;
 use super::k_sin::sin_polynomial;

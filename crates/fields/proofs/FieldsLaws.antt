@@ -1,12 +1,9 @@
--- What a reader may rely on once the fields of an order are checked: each field is whole, and a tag's value has a length that the table
--- allows. Assumes nothing.
-use Rattle.prelude.proofs.Logic.{_≡_, refl, sym, ap, _∙_, Bool, true, false, cond, not, _&&_, and-eq-true-iff, List, [], _∷_, ℕ, zero, suc, _≤_, _<_, _+_, _-_, arith, ltb, leb, eqb, lit≤, length, getD, List·getD-eq-default, take, drop, length-take, length-drop, drop-of-length-le, take-nil, lt-ltb, ltb-true, ltb-false, leb-true, eqb-true, eqb-false, not-false, cases, either}
+-- The table's limits, and what checking says of a field that it passes. Assumes nothing.
+use Rattle.prelude.proofs.Logic.{_≡_, refl, Bool, true, false, cond, not, _&&_, and-eq-true-iff, List, [], _∷_, ℕ, zero, suc, _≤_, _<_, _+_, _-_, arith, ltb, leb, eqb, lit≤, length, getD, set, replicate, List·getD-eq-default, lt-ltb, ltb-false, leb-true, eqb-true, eqb-false, not-false, cases, either, both}
 use Rattle.refusals.specs.declared.Refusal.{Refusal}
-use Rattle.fields.specs.declared.tags.Row.{Row}
 use Rattle.fields.specs.Numbers.{byteOf}
 use Rattle.fields.specs.Tags.{tags, lastTag, column, knownTag, lengthFits}
-use Rattle.fields.specs.Fields.{lengthAt, nextFieldAt, firstBefore, valueFaultOf, faultIn, faultOf, walkOf, checkOf}
-use Rattle.fields.specs.Values.{offsetOf, hasOf, valueOf}
+use Rattle.fields.specs.Fields.{lengthAt, nextFieldAt, faultIn, faultOf, walkOf, checkOf}
 
 -- ---- the table's limits
 pub known-last : (tag : ℕ) → knownTag tag ≡ true → tag ≤ lastTag
@@ -19,64 +16,77 @@ fits-between tag n e =
     let h = and-eq-true-iff (leb (column tag 0) n) (leb n (column tag 1)) .0 (and-eq-true-iff (leb tag lastTag) limits .0 e .1) in
     (leb-true (column tag 0) n (h .0), leb-true n (column tag 1) (h .1))
 
--- no value has more bytes than a byte counts
-rows-short : List (List ℕ) → Bool
-rows-short [] = true
-rows-short (r ∷ rows) = leb (getD r 1 0) 255 && rows-short rows
+-- the table's rule, which antt computes over the whole of it: no number needs more than a byte
+all-small : List ℕ → Bool
+all-small [] = true
+all-small (n ∷ row) = leb n 255 && all-small row
 
-row-short : (rows : List (List ℕ)) → rows-short rows ≡ true → (tag : ℕ) → getD (getD rows tag []) 1 0 ≤ 255
-unfolding rows-short
-row-short [] e tag = lit≤ tt
-row-short (r ∷ rows) e zero = leb-true (getD r 1 0) 255 (and-eq-true-iff (leb (getD r 1 0) 255) (rows-short rows) .0 e .0)
-row-short (r ∷ rows) e (suc tag) = row-short rows (and-eq-true-iff (leb (getD r 1 0) 255) (rows-short rows) .0 e .1) tag
+rows-small : List (List ℕ) → Bool
+rows-small [] = true
+rows-small (row ∷ rows) = all-small row && rows-small rows
+
+entry-small : (row : List ℕ) → all-small row ≡ true → (i : ℕ) → getD row i 0 ≤ 255
+unfolding all-small
+entry-small [] e i = lit≤ tt
+entry-small (n ∷ row) e zero = leb-true n 255 (both (leb n 255) (all-small row) e .0)
+entry-small (n ∷ row) e (suc i) = entry-small row (both (leb n 255) (all-small row) e .1) i
+
+in-row : (rows : List (List ℕ)) → rows-small rows ≡ true → (tag i : ℕ) → getD (getD rows tag []) i 0 ≤ 255
+unfolding rows-small
+in-row [] e tag i = lit≤ tt
+in-row (row ∷ rows) e zero i = entry-small row (both (all-small row) (rows-small rows) e .0) i
+in-row (row ∷ rows) e (suc tag) i = in-row rows (both (all-small row) (rows-small rows) e .1) tag i
+
+pub column-small : (tag i : ℕ) → column tag i ≤ 255
+unfolding rows-small all-small
+column-small = in-row tags refl
 
 pub length-short : (tag n : ℕ) → lengthFits tag n ≡ true → n ≤ 255
-unfolding rows-short
-length-short tag n e = let f = fits-between tag n e in let l = row-short tags refl tag in omega (arith, f .1, l)
+length-short tag n e = let f = fits-between tag n e in let l = column-small tag 1 in omega (arith, f .1, l)
 
--- a tag that is none of the table's lies beyond it
-pub beyond-table : (tag : ℕ) → length tags ≤ tag
-    → _≡_ {A = Row} (record { shortest = 0; longest = 0; lowest = 0; highest = 0 }) (record { shortest = column tag 0; longest = column tag 1; lowest = column tag 2; highest = column tag 3 })
-beyond-table tag l = let e : getD tags tag [] ≡ [] = List·getD-eq-default tags [] l in simp e
-
--- ---- a check that refuses nothing is passed
-passed : (b : Bool) (x y : ℕ) → 1 ≤ x → cond b x y ≡ 0 → (b ≡ false) × (y ≡ 0)
-passed true x y l e = absurd (omega arith)
-passed false x y l e = (refl, e)
-
--- ---- a field that is not refused
+-- ---- a field that is passed: its form is right, and no field before it has its tag
 pub record Good (s : List ℕ) (at : ℕ) : Type 0 where
   pub known : knownTag (byteOf s at) ≡ true
-  pub new : at ≤ firstBefore (length s) s (byteOf s at) 0 at
   pub fits : lengthFits (byteOf s at) (lengthAt s at) ≡ true
   pub whole : nextFieldAt s at ≤ length s
 
-pub fault-none : (s : List ℕ) (at : ℕ) → faultOf s at ≡ 0 → Good s at
-unfolding faultOf faultIn valueFaultOf
-fault-none s at e =
+-- a check that refuses nothing is passed
+pub passed : (b : Bool) (x y : ℕ) → 1 ≤ x → cond b x y ≡ 0 → (b ≡ false) × (y ≡ 0)
+passed true x y l e = absurd (omega arith)
+passed false x y l e = (refl, e)
+
+pub fault-none : (s : List ℕ) (seen : List Bool) (at : ℕ) → faultOf s seen at ≡ 0 → Good s at × (getD seen (byteOf s at) false ≡ false)
+unfolding faultOf faultIn
+fault-none s seen at e =
     let tag = byteOf s at in
-    let first = firstBefore (length s) s tag 0 at in
     let header = passed (ltb (length s - at) 3) 1 _ (lit≤ tt) e in
     let known = passed (not (knownTag tag)) 2 _ (lit≤ tt) (header .1) in
-    let new = passed (ltb first at) 3 _ (lit≤ tt) (known .1) in
+    let new = passed (getD seen tag false) 3 _ (lit≤ tt) (known .1) in
     let fits = passed (not (lengthFits tag (lengthAt s at))) 2 _ (lit≤ tt) (new .1) in
     let value = passed (ltb (length s - at - 3) (lengthAt s at)) 1 0 (lit≤ tt) (fits .1) in
     let three = ltb-false (length s - at) 3 (header .0) in
     let rest = ltb-false (length s - at - 3) (lengthAt s at) (value .0) in
-    record { known = not-false _ (known .0); new = ltb-false first at (new .0); fits = not-false _ (fits .0); whole = omega arith }
+    (record { known = not-false _ (known .0); fits = not-false _ (fits .0); whole = omega arith }, new .0)
 
--- a walk that refuses nothing: its first field is good, and so is the walk from the next on
-pub walk-good : (k : ℕ) (s : List ℕ) (at : ℕ) → at < length s → walkOf (suc k) s at .number ≡ 0
-    → (faultOf s at ≡ 0) × (walkOf k s (nextFieldAt s at) .number ≡ 0)
+-- its tag has a row, and its length fits a byte
+pub good-row : (s : List ℕ) (at : ℕ) → Good s at → byteOf s at < length tags
+good-row s at g = let h = known-last (byteOf s at) (g .known) in omega arith
+
+pub good-short : (s : List ℕ) (at : ℕ) → Good s at → lengthAt s at ≤ 255
+good-short s at g = length-short (byteOf s at) (lengthAt s at) (g .fits)
+
+-- a walk that refuses nothing passes its first field, and goes on so
+pub walk-good : (k : ℕ) (s : List ℕ) (seen : List Bool) (at : ℕ) → at < length s → walkOf (suc k) s seen at .number ≡ 0
+    → (faultOf s seen at ≡ 0) × (walkOf k s (set seen (byteOf s at) true) (nextFieldAt s at) .number ≡ 0)
 unfolding walkOf
-walk-good k s at l e =
-    cases (eqb (faultOf s at) 0) (λ h. (eqb-true (faultOf s at) 0 h, simp (lt-ltb at (length s) l, h) at e))
-    (λ h. absurd (eqb-false (faultOf s at) 0 h (simp (lt-ltb at (length s) l, h) at e)))
+walk-good k s seen at l e =
+    cases (eqb (faultOf s seen at) 0) (λ h. (eqb-true (faultOf s seen at) 0 h, simp (lt-ltb at (length s) l, h) at e))
+    (λ h. absurd (eqb-false (faultOf s seen at) 0 h (simp (lt-ltb at (length s) l, h) at e)))
 
 -- ---- an order that is not refused: it is short, and its walk refuses nothing
 pub record Sound (s : List ℕ) : Type 0 where
   pub short : length s ≤ 1024
-  pub walk : walkOf (length s) s 0 .number ≡ 0
+  pub walk : walkOf (length s) s (replicate (length tags) false) 0 .number ≡ 0
 
 pub check-none : (s : List ℕ) → checkOf s .number ≡ 0 → Sound s
 unfolding checkOf
@@ -84,60 +94,25 @@ check-none s e =
     cases (ltb 1024 (length s)) (λ h. let z = simp h at e in absurd (omega arith))
     (λ h. record { short = ltb-false 1024 (length s) h; walk = simp h at e })
 
--- ---- the field of a tag that such an order has
-find-good : (k : ℕ) (s : List ℕ) (tag at : ℕ) → walkOf k s at .number ≡ 0 → firstBefore k s tag at (length s) < length s
-    → (faultOf s (firstBefore k s tag at (length s)) ≡ 0) × (byteOf s (firstBefore k s tag at (length s)) ≡ tag)
-unfolding firstBefore
-find-good zero s tag at e h = absurd (omega arith)
-find-good (suc k) s tag at e h =
-    cases (ltb at (length s))
-    (λ a. let w = walk-good k s at (ltb-true at (length s) a) e in
-    cases (eqb (byteOf s at) tag) (λ b. simp (a, b) (w .0, eqb-true (byteOf s at) tag b))
-    (λ b. simp (a, b) (find-good k s tag (nextFieldAt s at) (w .1) (simp (a, b) at h))))
-    (λ a. let z = simp a at h in absurd (omega arith))
-
-pub has-good : (s : List ℕ) (tag : ℕ) → checkOf s .number ≡ 0 → hasOf s tag ≡ true
-    → Good s (offsetOf s tag) × (byteOf s (offsetOf s tag) ≡ tag)
-unfolding hasOf offsetOf
-has-good s tag e h =
-    let f = find-good (length s) s tag 0 (check-none s e .walk) (ltb-true (firstBefore (length s) s tag 0 (length s)) (length s) h) in
-    (fault-none s (firstBefore (length s) s tag 0 (length s)) (f .0), f .1)
-
--- the value of a whole field has the length that the field says
-pub whole-length : (s : List ℕ) (at : ℕ) → nextFieldAt s at ≤ length s → length (take (lengthAt s at) (drop (at + 3) s)) ≡ lengthAt s at
-whole-length s at h = length-take (lengthAt s at) (drop (at + 3) s) ∙ omega (arith, length-drop (at + 3) s)
-
-pub value-fits : (s : List ℕ) (tag : ℕ) → checkOf s .number ≡ 0 → hasOf s tag ≡ true → lengthFits tag (length (valueOf s tag)) ≡ true
-unfolding valueOf
-value-fits s tag e h =
-    let g = has-good s tag e h in
-    rw (whole-length s (offsetOf s tag) (g .0 .whole)) (ap (λ (t : ℕ). lengthFits t (lengthAt s (offsetOf s tag))) (sym (g .1)) ∙ g .0 .fits)
-
--- and a tag that it lacks has no bytes, in any order
-pub value-missing : (s : List ℕ) (tag : ℕ) → hasOf s tag ≡ false → valueOf s tag ≡ []
-unfolding hasOf valueOf
-value-missing s tag h =
-    let l : length s ≤ offsetOf s tag = ltb-false (offsetOf s tag) (length s) h in
-    let m : length s ≤ offsetOf s tag + 3 = omega arith in
-    simp (drop-of-length-le s m, take-nil)
-
 -- ---- the fields give no number over 3
-fault-small : (s : List ℕ) (at : ℕ) → faultOf s at ≤ 3
-unfolding faultOf faultIn valueFaultOf
-fault-small s at =
+fault-small : (s : List ℕ) (seen : List Bool) (at : ℕ) → faultOf s seen at ≤ 3
+unfolding faultOf faultIn
+fault-small s seen at =
     either (λ n. n ≤ 3) (ltb (length s - at) 3) (lit≤ tt)
     (either (λ n. n ≤ 3) (not (knownTag (byteOf s at))) (lit≤ tt)
-    (either (λ n. n ≤ 3) (ltb (firstBefore (length s) s (byteOf s at) 0 at) at) (lit≤ tt)
+    (either (λ n. n ≤ 3) (getD seen (byteOf s at) false) (lit≤ tt)
     (either (λ n. n ≤ 3) (not (lengthFits (byteOf s at) (lengthAt s at))) (lit≤ tt)
     (either (λ n. n ≤ 3) (ltb (length s - at - 3) (lengthAt s at)) (lit≤ tt) (lit≤ tt)))))
 
-walk-small : (k : ℕ) (s : List ℕ) (at : ℕ) → walkOf k s at .number ≤ 3
+walk-small : (k : ℕ) (s : List ℕ) (seen : List Bool) (at : ℕ) → walkOf k s seen at .number ≤ 3
 unfolding walkOf
-walk-small zero s at = lit≤ tt
-walk-small (suc k) s at =
+walk-small zero s seen at = lit≤ tt
+walk-small (suc k) s seen at =
     either (λ (r : Refusal). r .number ≤ 3) (ltb at (length s))
-    (either (λ (r : Refusal). r .number ≤ 3) (eqb (faultOf s at) 0) (walk-small k s (nextFieldAt s at)) (fault-small s at)) (lit≤ tt)
+    (either (λ (r : Refusal). r .number ≤ 3) (eqb (faultOf s seen at) 0)
+    (walk-small k s (set seen (byteOf s at) true) (nextFieldAt s at)) (fault-small s seen at)) (lit≤ tt)
 
 pub check-small : (s : List ℕ) → checkOf s .number ≤ 3
 unfolding checkOf
-check-small s = either (λ (r : Refusal). r .number ≤ 3) (ltb 1024 (length s)) (lit≤ tt) (walk-small (length s) s 0)
+check-small s =
+    either (λ (r : Refusal). r .number ≤ 3) (ltb 1024 (length s)) (lit≤ tt) (walk-small (length s) s (replicate (length tags) false) 0)

@@ -3,3 +3,4 @@ pub mod Walking
 pub mod Parts
 pub mod FieldsLaws
 pub mod Collecting
+pub mod LookupLaws

@@ -1,7 +1,6 @@
-// What the form of a single field is refused by, asked by both readers in the same order: header cut, unknown tag, tag again, wrong length,
-// value cut.
+// What the form of a single field is refused by. Both readers ask in the same order: header cut, unknown tag, tag again, wrong length, value cut.
 ghost use mathlib.Core.Path.{_≡_};
-ghost use Rattle.fields.specs.Fields.{valueFaultOf, faultIn};
+ghost use Rattle.fields.specs.Fields.{faultIn};
 use super::tags::known;
 use super::tags::length_fits;
 use refusals::FIELD_AGAIN;
@@ -10,24 +9,14 @@ use refusals::FIELD_UNKNOWN;
 
 pub(crate) const LONGEST_ORDER: usize = 1024;
 
-// What a value is refused by whose length is said to be one, where so many bytes are left.
-fn value_fault(tag: u32, length: u32, left: usize) -> u32
-    ensures { λ r. ⌜ r ≡ valueFaultOf tag length left ⌝ }
-{
-    if !length_fits(tag, length) {
-        return FIELD_UNKNOWN;
-    }
-    if left < length as usize {
-        return FIELD_CUT;
-    }
-    0
-}
+// The bytes before a value: its tag and its length.
+pub(crate) const HEADER_LENGTH: usize = 3;
 
-// What a field is refused by, or 0, where so many bytes are left from its tag byte on; `again` where its tag stands before it.
+// The refusal's number for a field when `left` bytes remain from its tag byte on, or 0; `again` if a field before it has its tag.
 pub(crate) fn fault(tag: u32, length: u32, again: bool, left: usize) -> u32
     ensures { λ r. ⌜ r ≡ faultIn tag length again left ⌝ }
 {
-    if left < 3 {
+    if left < HEADER_LENGTH {
         return FIELD_CUT;
     }
     if !known(tag) {
@@ -36,5 +25,11 @@ pub(crate) fn fault(tag: u32, length: u32, again: bool, left: usize) -> u32
     if again {
         return FIELD_AGAIN;
     }
-    value_fault(tag, length, left - 3)
+    if !length_fits(tag, length) {
+        return FIELD_UNKNOWN;
+    }
+    if left - HEADER_LENGTH < length as usize {
+        return FIELD_CUT;
+    }
+    0
 }

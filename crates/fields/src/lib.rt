@@ -1,5 +1,5 @@
-// The bytes of an order as fields (added): which bytes break the fields' form, where a tag's value stands, and what numbers its bytes
-// write. What a value may say beside a choice's number, and what an order without a tag means, is not decided here.
+// The bytes of an order as fields (added): which bytes break the fields' form, where a tag's value is, and what numbers its bytes write. The ranges
+// of values that are no choices, and what a missing tag means, are the crate order's.
 mod faults;
 pub mod numbers;
 pub mod one_pass;

@@ -1,5 +1,4 @@
-// The reader of the fields (request 5): it goes over them once and collects as it checks. A tag that was collected before is found in what was
-// collected, and not by looking back.
+// The reader of the fields (request 5): it goes over them once and collects as it checks. What it has collected says which tags it has seen.
 ghost use mathlib.Core.Path.{_≡_};
 ghost use Prim.Native.Nat.{_≤_};
 ghost use lib.Dec.{ltb};
@@ -7,6 +6,7 @@ ghost use lib.ListN.{length, getD};
 ghost use Rattle.refusals.specs.Refusals.{refusal};
 ghost use Rattle.fields.specs.Fields.{longestOrder};
 ghost use Rattle.fields.specs.Values.{noFields, checkedOf};
+use super::faults::HEADER_LENGTH;
 use super::faults::LONGEST_ORDER;
 use super::faults::fault;
 use super::numbers::byte;
@@ -26,7 +26,7 @@ fn refused(number: u32, place: u32) -> Checked
     }
 }
 
-// Whether the tag was collected; no value begins before 3.
+// Whether the tag was collected: no value begins at 0.
 fn stands(starts: &[u16], tag: u32) -> bool
     ensures { λ r. ⌜ r ≡ ltb 0 (getD (now (starts .entry)) tag 0) ⌝ }
 {
@@ -51,9 +51,9 @@ fn pass(order: &[u8]) -> Checked
         if number != 0 {
             return refused(number, at as u32);
         }
-        starts[tag as usize] = at as u16 + 3;
+        starts[tag as usize] = (at + HEADER_LENGTH) as u16;
         lengths[tag as usize] = length as u8;
-        at = at + 3 + length as usize;
+        at = at + HEADER_LENGTH + length as usize;
     }
     Checked {
         refusal: Refusal::none(),

@@ -1,10 +1,12 @@
-// The plain reader of the fields: it checks them in one pass and collects them in another, as the definitions do, and `one_pass` is held to it.
-// A repeated tag is found by looking again over the fields before it, so the pass that checks keeps nothing but its offset.
+// The plain reader of the fields (request 5), and their definition line by line: one pass checks, another collects. `one_pass` is proved equal to it.
 ghost use mathlib.Core.Path.{_≡_};
+ghost use mathlib.Core.Bool.{false};
 ghost use Prim.Native.Nat.{_≤_, _<_};
-ghost use lib.ListN.{length};
-ghost use Rattle.fields.specs.Fields.{longestOrder, lengthAt, firstBefore, faultOf, walkOf, checkOf};
+ghost use lib.ListN.{length, getD, replicate};
+ghost use Rattle.fields.specs.Tags.{tags};
+ghost use Rattle.fields.specs.Fields.{longestOrder, lengthAt, walkOf, checkOf};
 ghost use Rattle.fields.specs.Values.{fieldsOf, checkedOf};
+use super::faults::HEADER_LENGTH;
 use super::faults::LONGEST_ORDER;
 use super::faults::fault;
 use super::numbers::byte;
@@ -24,47 +26,37 @@ fn length_at(order: &[u8], at: usize) -> u32
     unsigned(order, at + 1)
 }
 
-// The offset of the first field with the tag that begins before stop, or stop.
-fn first_before(order: &[u8], tag: u32, stop: usize) -> usize
-    requires { ⌜ stop ≤ length (now order) ⌝ }
-    ensures { λ r. ⌜ r ≡ firstBefore (length (now (order .entry))) (now (order .entry)) tag 0 stop ⌝ }
+// False for a number that is no tag.
+fn is_seen(seen: &[bool], tag: u32) -> bool
+    ensures { λ r. ⌜ r ≡ getD (now (seen .entry)) tag false ⌝ }
 {
-    let mut at = 0;
-    while at < stop {
-        if byte(order, at) == tag {
-            return at;
-        }
-        at = at + 3 + length_at(order, at) as usize;
+    let row = tag as usize;
+    if row < seen.len() {
+        return seen[row];
     }
-    stop
-}
-
-// What the field at an offset is refused by, or 0.
-fn fault_at(order: &[u8], at: usize) -> u32
-    requires { ⌜ at < length (now order) ⌝ }
-    ensures { λ r. ⌜ r ≡ faultOf (now (order .entry)) at ⌝ }
-{
-    let tag = byte(order, at);
-    let again = first_before(order, tag, at) < at;
-    fault(tag, length_at(order, at), again, order.len() - at)
+    false
 }
 
 fn walk(order: &[u8]) -> Refusal
     requires { ⌜ length (now order) ≤ longestOrder ⌝ }
-    ensures { λ r. ⌜ r ≡ walkOf (length (now (order .entry))) (now (order .entry)) 0 ⌝ }
+    ensures { λ r. ⌜ r ≡ walkOf (length (now (order .entry))) (now (order .entry)) (replicate (length tags) false) 0 ⌝ }
 {
+    let mut seen = [false; TAGS];
     let mut at = 0;
     while at < order.len() {
-        let number = fault_at(order, at);
+        let tag = byte(order, at);
+        let length = length_at(order, at);
+        let number = fault(tag, length, is_seen(&seen, tag), order.len() - at);
         if number != 0 {
             return Refusal::new(number, at as u32);
         }
-        at = at + 3 + length_at(order, at) as usize;
+        seen[tag as usize] = true;
+        at = at + HEADER_LENGTH + length as usize;
     }
     Refusal::none()
 }
 
-// Number 0 where the form of every field is right.
+// Number 0 if the form of every field is right.
 fn check(order: &[u8]) -> Refusal
     ensures { λ r. ⌜ r ≡ checkOf (now (order .entry)) ⌝ }
 {
@@ -74,7 +66,7 @@ fn check(order: &[u8]) -> Refusal
     walk(order)
 }
 
-// One walk over the fields of an order that `check` passes.
+// The fields of an order that `check` passes.
 fn collect(order: &[u8]) -> Fields
     requires { ⌜ checkOf (now order) .number ≡ 0 ⌝ }
     ensures { λ r. ⌜ r ≡ fieldsOf (now (order .entry)) ⌝ }
@@ -85,9 +77,9 @@ fn collect(order: &[u8]) -> Fields
     while at < order.len() {
         let tag = byte(order, at) as usize;
         let length = length_at(order, at);
-        starts[tag] = at as u16 + 3;
+        starts[tag] = (at + HEADER_LENGTH) as u16;
         lengths[tag] = length as u8;
-        at = at + 3 + length as usize;
+        at = at + HEADER_LENGTH + length as usize;
     }
     Fields {
         at: starts,

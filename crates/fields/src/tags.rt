@@ -1,6 +1,42 @@
-// The table of tags: a new tag is a new row and a new last tag.
+// The tags by what they give, and their table: a new tag is a new name, a new row and a new last tag. The names of tags 18 and 19 are map_form's.
 ghost use mathlib.Core.Path.{_≡_};
-ghost use Rattle.fields.specs.Tags.{column, knownTag, lengthFits, choiceFits};
+ghost use Rattle.fields.specs.Tags.{knownTag, lengthFits, choiceFits};
+
+pub const TOWN: u32 = 1;
+
+pub const DATE: u32 = 2;
+
+pub const ROWS: u32 = 3;
+
+pub const LATITUDE: u32 = 4;
+
+pub const LONGITUDE: u32 = 5;
+
+pub const METHOD: u32 = 6;
+
+pub const MADHAB: u32 = 7;
+
+pub const HIGH_LATITUDE_RULE: u32 = 8;
+
+pub const ROUNDING: u32 = 9;
+
+pub const SHAFAQ: u32 = 10;
+
+pub const MINUTES: u32 = 11;
+
+pub const FAJR_ANGLE: u32 = 12;
+
+pub const ISHA_ANGLE: u32 = 13;
+
+pub const ISHA_INTERVAL: u32 = 14;
+
+pub const MIDNIGHT: u32 = 15;
+
+pub const CLOCK: u32 = 16;
+
+pub const SOUTHERN: u32 = 17;
+
+pub const RAMADAN: u32 = 20;
 
 pub const LAST_TAG: u32 = 20;
 
@@ -9,67 +45,41 @@ pub const TAGS: usize = LAST_TAG as usize + 1;
 
 pub const LONGEST_TOWN: u32 = 40;
 
-// The shortest and the longest value of a tag, and the lowest and the highest number where the value is one byte that chooses.
-struct Row {
-    shortest: u32,
-    longest: u32,
-    lowest: u32,
-    highest: u32,
-}
-
-impl Row {
-    fn new(shortest: u32, longest: u32, lowest: u32, highest: u32) -> Row
-        ensures { λ r. ⌜ r ≡ record { shortest = shortest; longest = longest; lowest = lowest; highest = highest } ⌝ }
-    {
-        Row {
-            shortest: shortest,
-            longest: longest,
-            lowest: lowest,
-            highest: highest,
-        }
-    }
-}
-
-// The table. A `match` becomes a table in the library's constants; an array would be written out at every call.
-fn row_of(tag: u32) -> Row
-    ensures { λ r. ⌜ r ≡ record { shortest = column tag 0; longest = column tag 1; lowest = column tag 2; highest = column tag 3 } ⌝ }
-{
-    match tag {
-        0 => Row::new(1, 0, 1, 0),
-        // Town, date, rows.
-        1 => Row::new(1, LONGEST_TOWN, 0, 0),
-        2 => Row::new(4, 4, 0, 0),
-        3 => Row::new(1, 2, 0, 0),
-        // Latitude, longitude.
-        4 => Row::new(8, 8, 0, 0),
-        5 => Row::new(8, 8, 0, 0),
-        // Method, madhab, high latitude rule, rounding, shafaq.
-        6 => Row::new(1, 1, 0, 12),
-        7 => Row::new(1, 1, 1, 2),
-        8 => Row::new(1, 1, 0, 2),
-        9 => Row::new(1, 1, 0, 2),
-        10 => Row::new(1, 1, 0, 2),
-        // Six minutes.
-        11 => Row::new(12, 12, 0, 0),
-        // Fajr angle, Isha angle.
-        12 => Row::new(8, 8, 0, 0),
-        13 => Row::new(8, 8, 0, 0),
-        // Isha interval.
-        14 => Row::new(2, 2, 0, 0),
-        // At midnight.
-        15 => Row::new(1, 1, 0, 1),
-        // Clock.
-        16 => Row::new(2, 2, 0, 0),
-        // The southern season.
-        17 => Row::new(1, 1, 0, 1),
-        // Latitude and longitude as on the map.
-        18 => Row::new(5, 5, 0, 0),
-        19 => Row::new(5, 5, 0, 0),
-        // Imsak and shift.
-        20 => Row::new(2, 2, 0, 0),
-        _ => Row::new(0, 0, 0, 0),
-    }
-}
+// By tag: the shortest and the longest value, and the lowest and the highest number if the value is one byte that chooses.
+const TABLE: [[u8; 4]; TAGS] = [
+    [1, 0, 1, 0],
+    // Town, date, rows.
+    [1, LONGEST_TOWN as u8, 0, 0],
+    [4, 4, 0, 0],
+    [1, 2, 0, 0],
+    // Latitude, longitude.
+    [8, 8, 0, 0],
+    [8, 8, 0, 0],
+    // Method, madhab, high latitude rule, rounding, shafaq.
+    [1, 1, 0, 12],
+    [1, 1, 1, 2],
+    [1, 1, 0, 2],
+    [1, 1, 0, 2],
+    [1, 1, 0, 2],
+    // Six minutes.
+    [12, 12, 0, 0],
+    // Fajr angle, Isha angle.
+    [8, 8, 0, 0],
+    [8, 8, 0, 0],
+    // Isha interval.
+    [2, 2, 0, 0],
+    // At midnight.
+    [1, 1, 0, 1],
+    // Clock.
+    [2, 2, 0, 0],
+    // The southern season.
+    [1, 1, 0, 1],
+    // Latitude and longitude as on the map.
+    [5, 5, 0, 0],
+    [5, 5, 0, 0],
+    // Imsak and shift.
+    [2, 2, 0, 0],
+];
 
 pub(crate) fn known(tag: u32) -> bool
     ensures { λ r. ⌜ r ≡ knownTag tag ⌝ }
@@ -80,13 +90,19 @@ pub(crate) fn known(tag: u32) -> bool
 pub(crate) fn length_fits(tag: u32, length: u32) -> bool
     ensures { λ r. ⌜ r ≡ lengthFits tag length ⌝ }
 {
-    let row = row_of(tag);
-    (tag <= LAST_TAG) & ((row.shortest <= length) & (length <= row.longest))
+    if LAST_TAG < tag {
+        return false;
+    }
+    let row = TABLE[tag as usize];
+    (row[0] as u32 <= length) & (length <= row[1] as u32)
 }
 
 pub fn choice_fits(tag: u32, number: u32) -> bool
     ensures { λ r. ⌜ r ≡ choiceFits tag number ⌝ }
 {
-    let row = row_of(tag);
-    (tag <= LAST_TAG) & ((row.lowest <= number) & (number <= row.highest))
+    if LAST_TAG < tag {
+        return false;
+    }
+    let row = TABLE[tag as usize];
+    (row[2] as u32 <= number) & (number <= row[3] as u32)
 }

@@ -1,4 +1,4 @@
--- The order of integers, by their parts.
+-- The order of integers, by their parts: a form for the proofs, which need not be believed.
 use Prim.Native.Nat.{_+_, _≤_}
 use lib.IntN.{ℤ}
 use Rattle.integers.specs.Parts.{P, N}

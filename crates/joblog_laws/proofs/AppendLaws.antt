@@ -1,18 +1,18 @@
 -- What a single call leaves of both buffers, and a cut at any byte of an append. Assumes nothing.
-use Rattle.prelude.proofs.Logic.{_≡_, refl, sym, ap, _∙_, Bool, true, false, cond, _&&_, List, _++_, ℕ, _+_, _-_, _*_, _≤_, _<_, arith, leb, ltb, eqb, length, take, drop, length-append, drop-append-add, drop-drop, length-take-le, le-leb, leb-true, leb-false, ltb-true, ltb-false, arms, both}
+use Rattle.prelude.proofs.Logic.{_≡_, refl, sym, ap, _∙_, Bool, true, false, cond, _&&_, List, [], _++_, append-nil, ℕ, _+_, _-_, _*_, _≤_, _<_, arith, leb, ltb, eqb, length, take, drop, length-append, drop-append-add, drop-drop, length-take-le, le-leb, leb-true, leb-false, ltb-true, ltb-false, arms, both}
 use Rattle.refusals.specs.Refusals.{bufferShort, logSecondShort, logOutOfTurn}
 use Rattle.text.specs.Text.{putOf}
 use Rattle.joblog.specs.declared.records.State.{State}
 use Rattle.joblog.specs.declared.records.LogReading.{LogReading}
 use Rattle.joblog.specs.declared.records.LogReading.the-variants.{Says, OutOfTurn}
-use Rattle.joblog.specs.Records.{state, recordAs, bytesOf, recordsOf, wholeOf, inTurn, afterOf, logReadingOf, compactedOf}
+use Rattle.joblog.specs.Records.{state, recordAs, bytesOf, recordsOf, wholeOf, inTurn, afterOf, readOf, logReadingOf, compactedOf}
 use Rattle.joblog.specs.declared.calls.Log.{Log}
 use Rattle.joblog.specs.Calls.{LogCall, refused, refusing, answered, readAnswer, readLogOf, newInTurn, compactAnswer, compactingOf, loggedOf, appendedOf, appendOf, restartedOf, restartOf}
-use Rattle.joblog.proofs.CompactLaws.{bytes-length, put-none}
+use Rattle.joblog.proofs.CompactLaws.{bytes-length, compacted-length, put-none}
 use Rattle.joblog.proofs.CallLaws.{with-length}
 use Rattle.joblog_laws.specs.Run.{inPlace}
-use Rattle.joblog_laws.specs.Appends.{Unchanged, RefusedChangesNothing, FirstBufferStays, FiveBytesChange, cutAt, CutAtAnyByte, NextTakesItsPlace, RoomIsEnough, SaysSo, LogSaysSo}
-use Rattle.joblog_laws.proofs.ReadingLaws.{read-ordered}
+use Rattle.joblog_laws.specs.Appends.{Unchanged, RefusedChangesNothing, FirstBufferStays, FiveBytesChange, cutAt, CutAtAnyByte, NextTakesItsPlace, RoomIsEnough, CompactionSaysTheSame, SaysSo, LogSaysSo}
+use Rattle.joblog_laws.proofs.ReadingLaws.{read-ordered, compacted-read}
 use Rattle.joblog_laws.proofs.HeldLaws.{Held, held-read, put-read, put-held, moved-held, restart-held, cut-before, Outcome, refusal, placed, moved, append-outcome}
 
 -- ---- which bytes change
@@ -211,9 +211,28 @@ enough log used tag page second true (Says s) f e room =
     let fits = le-leb (length (compactedOf s ++ bytesOf tag page)) (length second) (omega arith) in
     arms NotShort (newInTurn s tag page) (λ t. arms NotShort (leb (wholeOf used + 5) (length log)) (λ p. refl) (λ p. rw fits refl)) (λ t. refl)
 
+enough-again : (log : List ℕ) (used count : ℕ) (second : List ℕ) (b : Bool) (x : LogReading) → leb used (length log) ≡ b → logReadingOf (take used log) ≡ x
+    → 5 + 5 * (readLogOf log used .sent - count) ≤ length second → NotShort (cond b (restartedOf x log count second) (refusing bufferShort 0 log second))
+unfolding NotShort restartedOf readLogOf readAnswer compactAnswer
+enough-again log used count second false x f e room = refl
+enough-again log used count second true (OutOfTurn p) f e room = refl
+enough-again log used count second true (Says s) f e room =
+    let l = compacted-length (state count (s .sent)) in
+    let r : 5 + 5 * (s .sent - count) ≤ length second = rw (f, e) at room in
+    let fits = le-leb (length (compactedOf (state count (s .sent)))) (length second) (omega arith) in
+    arms NotShort (leb (s .finished) count && leb count (s .sent)) (λ t. rw fits refl) (λ t. refl)
+
 pub room-is-enough : RoomIsEnough
-unfolding NotShort appendOf
-room-is-enough log used tag page second room = enough log used tag page second (leb used (length log)) (logReadingOf (take used log)) refl refl room
+unfolding NotShort appendOf restartOf
+room-is-enough log used second = (
+  λ tag page room. enough log used tag page second (leb used (length log)) (logReadingOf (take used log)) refl refl room,
+  λ count room. enough-again log used count second (leb used (length log)) (logReadingOf (take used log)) refl refl room,
+)
+
+pub compaction-says-the-same : CompactionSaysTheSame
+unfolding recordsOf readOf
+compaction-says-the-same finished sent ordered =
+    ap logReadingOf (sym (append-nil (compactedOf (state finished sent)))) ∙ compacted-read (state finished sent) [] ordered
 
 -- ---- what the log says then
 held-says : (log : List ℕ) (used : ℕ) (s : State) → Held log used s

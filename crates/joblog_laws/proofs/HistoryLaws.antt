@@ -6,12 +6,12 @@ use Rattle.joblog.specs.Records.{state, compactedOf}
 use Rattle.joblog.specs.declared.calls.Log.{Log}
 use Rattle.joblog.specs.Calls.{readLogOf, compactAnswer, compactingOf}
 use Rattle.prelude.specs.Lists.{listed}
-use Rattle.joblog_laws.specs.Run.{idle, World, begun, goes, finishes, restart, asRequested, isIdle, finishing, next, run}
+use Rattle.joblog_laws.specs.Run.{idle, World, world, begun, goes, finishes, restart, asRequested, isIdle, finishing, next, run}
 use Rattle.joblog_laws.specs.Histories.{pagesTo, Kept, HistoriesAreKept, sendAll, OpenPagesCome}
 use Rattle.joblog.proofs.CompactLaws.{compacted-length}
 use Rattle.joblog_laws.proofs.HeldLaws.{held-read, sent, restart-held}
 use Rattle.joblog_laws.proofs.PageLaws.{pages-front, listed-pages}
-use Rattle.joblog_laws.proofs.StepLaws.{Inv, counted, held-now, count-between, restarted, restart-kept, run-kept, begun-kept}
+use Rattle.joblog_laws.proofs.StepLaws.{count, Inv, counted, held-now, count-between, restarted, restart-kept, run-kept, begun-kept}
 
 -- ---- what the request promises follows
 not-listed : (b : Bool) → (b ≡ true → ⊥) → b ≡ false
@@ -26,12 +26,12 @@ room-answer t place log second =
 
 kept : (w : World) → Inv w → Kept w
 kept w i =
-    let n = length (w .finished) in
-    let r = held-read (w .log) (w .used) (i .says) (held-now w i) in
-    let l = length-append (w .finished) (w .tray) in
+    let n = count w in
+    let r = held-read (w .host .log) (w .host .used) (i .says) (held-now w i) in
+    let l = length-append (w .embosser .finished) (w .embosser .tray) in
     let c = counted w i in
-    let order = pages-front (w .finished) (w .tray) (i .last) (i .here) in
-    let whole : length (w .finished ++ w .tray) ≡ i .last = omega arith in
+    let order = pages-front (w .embosser .finished) (w .embosser .tray) (i .last) (i .here) in
+    let whole : length (w .embosser .finished ++ w .embosser .tray) ≡ i .last = omega arith in
     let ahead = i .ahead in
     record {
       «in_order» = order;
@@ -39,55 +39,54 @@ kept w i =
       «next_out» = λ up. i .out up ∙ sym whole;
       «none_again» = λ up.
           let o = i .out up in
-          not-listed (listed (w .finished) (w .out + 1))
-          (λ h. let m = listed-pages n (w .out + 1) (subst (λ (pages : List ℕ). listed pages (w .out + 1) ≡ true) order h) in omega arith);
+          not-listed (listed (w .embosser .finished) (w .host .out + 1))
+          (λ h. let m = listed-pages n (w .host .out + 1) (subst (λ (pages : List ℕ). listed pages (w .host .out + 1) ≡ true) order h) in
+          omega arith);
       readable = ap (λ (a : Log). a .number) r;
       behind = rw r (i .behind);
       ahead = rw r (omega arith);
-      accepted = λ second. rw (r, restarted w i second) (room-answer (state n (i .says .sent)) n (w .log) second);
+      accepted = λ second. rw (r, restarted w i second) (room-answer (state n (i .says .sent)) n (w .host .log) second);
     }
 
 pub histories-are-kept : HistoriesAreKept
 histories-are-kept buffer steps = kept (run asRequested (begun buffer) steps) (run-kept (begun buffer) (begun-kept buffer) steps)
 
 -- ---- the open pages come
+-- a host that runs and is in no append
+abbrev resting : (log : List ℕ) (used out : ℕ) (heard tray finished coming : List ℕ) → World
+resting log used out heard tray finished coming =
+    world (record { log = log; used = used; up = true; out = out; writing = idle; heard = heard })
+    (record { tray = tray; finished = finished; coming = coming })
+
 one-out : (log : List ℕ) (used out : ℕ) (heard finished coming : List ℕ) → out + 1 ≤ readLogOf log used .sent
-    → next asRequested (record { log = log; used = used; up = true; out = out; writing = idle; heard = heard; tray = []; finished = finished; coming = coming }) goes
-    ≡ record { log = log; used = used; up = true; out = out + 1; writing = idle; heard = heard; tray = (out + 1) ∷ []; finished = finished; coming = coming }
+    → next asRequested (resting log used out heard [] finished coming) goes ≡ resting log used (out + 1) heard ((out + 1) ∷ []) finished coming
 unfolding next isIdle
 one-out log used out heard finished coming h = rw (le-leb (out + 1) (readLogOf log used .sent) h)
 
 sent-out : (k : ℕ) (log : List ℕ) (used out : ℕ) (heard finished coming : List ℕ) → out + k ≤ readLogOf log used .sent
-    → length (run asRequested (record { log = log; used = used; up = true; out = out; writing = idle; heard = heard; tray = []; finished = finished; coming = coming }) (sendAll k) .finished) ≡ length finished + k
+    → length (run asRequested (resting log used out heard [] finished coming) (sendAll k) .embosser .finished) ≡ length finished + k
 unfolding run sendAll next finishing
 sent-out zero log used out heard finished coming h = omega arith
 sent-out (suc k) log used out heard finished coming h =
     let a = length-append finished ((out + 1) ∷ []) in
     let l : length (finished ++ ((out + 1) ∷ [])) + k ≡ length finished + suc k = omega arith in
-    ap (λ (w : World). length (run asRequested (next asRequested w finishes) (sendAll k) .finished)) (one-out log used out heard finished coming (omega arith))
+    ap (λ (w : World). length (run asRequested (next asRequested w finishes) (sendAll k) .embosser .finished))
+    (one-out log used out heard finished coming (omega arith))
     ∙ sent-out k log used (out + 1) heard (finished ++ ((out + 1) ∷ [])) (coming ++ ((out + 1) ∷ [])) (omega arith)
     ∙ l
 
-restart-world : (w : World) (i : Inv w) (second : List ℕ) → length (compactedOf (state (length (w .finished)) (i .says .sent))) ≤ length second
+restart-world : (w : World) (i : Inv w) (second : List ℕ) → length (compactedOf (state (count w) (i .says .sent))) ≤ length second
     → next asRequested w (restart second)
-    ≡ record {
-      log = putOf second 0 (compactedOf (state (length (w .finished)) (i .says .sent)));
-      used = length (compactedOf (state (length (w .finished)) (i .says .sent)));
-      up = true;
-      out = length (w .finished);
-      writing = idle;
-      heard = w .heard;
-      tray = [];
-      finished = w .finished;
-      coming = w .coming;
-    }
+    ≡ resting (putOf second 0 (compactedOf (state (count w) (i .says .sent))))
+    (length (compactedOf (state (count w) (i .says .sent)))) (count w) (w .host .heard) [] (w .embosser .finished)
+    (w .embosser .coming)
 unfolding next compactAnswer
 restart-world w i second room = rw (restarted w i second, le-leb _ _ room)
 
-come : (w : World) (i : Inv w) (second : List ℕ) → 5 + 5 * (i .says .sent - length (w .finished)) ≤ length second
-    → run asRequested (next asRequested w (restart second)) (sendAll (i .says .sent - length (w .finished))) .finished ≡ pagesTo (i .says .sent)
+come : (w : World) (i : Inv w) (second : List ℕ) → 5 + 5 * (i .says .sent - count w) ≤ length second
+    → run asRequested (next asRequested w (restart second)) (sendAll (i .says .sent - count w)) .embosser .finished ≡ pagesTo (i .says .sent)
 come w i second room =
-    let n = length (w .finished) in
+    let n = count w in
     let s = i .says .sent in
     let t = state n s in
     let b = count-between w i in
@@ -95,8 +94,8 @@ come w i second room =
     let h = restart-held t second (b .1) (omega arith) in
     let r = ap (λ (a : Log). a .sent) (held-read (putOf second 0 (compactedOf t)) (length (compactedOf t)) t h) in
     let e = restart-world w i second (omega arith) in
-    let z = sent-out (s - n) (putOf second 0 (compactedOf t)) (length (compactedOf t)) n (w .heard) (w .finished) (w .coming) (omega arith) in
-    let m : length (run asRequested (next asRequested w (restart second)) (sendAll (s - n)) .finished) ≡ s = rw e (omega arith) in
+    let z = sent-out (s - n) (putOf second 0 (compactedOf t)) (length (compactedOf t)) n (w .host .heard) (w .embosser .finished) (w .embosser .coming) (omega arith) in
+    let m : length (run asRequested (next asRequested w (restart second)) (sendAll (s - n)) .embosser .finished) ≡ s = rw e (omega arith) in
     kept (run asRequested (next asRequested w (restart second)) (sendAll (s - n))) (run-kept (next asRequested w (restart second)) (restart-kept w i second) (sendAll (s - n))) .«in_order» ∙ ap pagesTo m
 
 pub open-pages-come : OpenPagesCome
@@ -104,5 +103,5 @@ unfolding run
 open-pages-come buffer steps second room =
     let w = run asRequested (begun buffer) steps in
     let i = run-kept (begun buffer) (begun-kept buffer) steps in
-    let r = ap (λ (a : Log). a .sent) (held-read (w .log) (w .used) (i .says) (held-now w i)) in
+    let r = ap (λ (a : Log). a .sent) (held-read (w .host .log) (w .host .used) (i .says) (held-now w i)) in
     rw r (come w i second (rw r at room))

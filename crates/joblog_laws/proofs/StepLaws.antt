@@ -7,7 +7,7 @@ use Rattle.joblog.specs.declared.records.State.{State}
 use Rattle.joblog.specs.Records.{state, bytesOf, wholeOf, recordsOf, readOf, compactedOf}
 use Rattle.joblog.proofs.CompactLaws.{bytes-length}
 use Rattle.joblog.specs.Calls.{LogCall, answered, refused, readLogOf, compactAnswer, compactingOf, appendOf, restartOf}
-use Rattle.joblog_laws.specs.Run.{Writing, idle, within, World, begun, Step, begins, byte, completes, goes, finishes, hears, lost, crash, restart, acknowledged, asRequested, logAfter, usedAfter, inPlace, mayAppend, beginning, withByte, writingByte, completing, mayBeUsed, crashUsed, isIdle, finishing, arriving, next, run}
+use Rattle.joblog_laws.specs.Run.{Writing, idle, within, Host, Embosser, World, world, begun, writes, hasHeard, holds, maySend, Step, begins, byte, completes, goes, finishes, hears, lost, crash, restart, acknowledged, asRequested, logAfter, usedAfter, inPlace, mayAppend, beginning, withByte, writingByte, completing, mayBeUsed, crashUsed, isIdle, finishing, arriving, next, run}
 use Rattle.joblog_laws.specs.Histories.{pagesTo}
 use Rattle.joblog_laws.proofs.HeldLaws.{Held, held-read, cutLog, Change, same, sent, done, Outcome, refusal, placed, moved, append-outcome, append-after, cut-now, cut-after, restart-outcome, restart-held}
 use Rattle.joblog_laws.proofs.PageLaws.{pages-length, pages-front, first-page}
@@ -54,25 +54,37 @@ below-behind n page [] b h = (h, tt)
 below-behind n page (p ∷ pages) b h = (b .0, below-behind n page pages (b .1) h)
 
 -- ---- what every step keeps
+-- the embosser's count
+abbrev pub count : World → ℕ
+count w = length (w .embosser .finished)
+
 pub record Inv (w : World) : Type 0 where
   pub says : State
   pub base : List ℕ
-  pub held : Held base (w .used) says
-  pub flight : Flight base (w .log) (w .used) says (length (w .finished)) (w .writing)
+  pub held : Held base (w .host .used) says
+  pub flight : Flight base (w .host .log) (w .host .used) says (count w) (w .host .writing)
   pub last : ℕ
-  pub here : w .finished ++ w .tray ≡ pagesTo last
-  pub behind : says .finished ≤ length (w .finished)
+  pub here : w .embosser .finished ++ w .embosser .tray ≡ pagesTo last
+  pub behind : says .finished ≤ count w
   pub ahead : last ≤ says .sent
-  pub out : w .up ≡ true → w .out ≡ last
+  pub out : w .host .up ≡ true → w .host .out ≡ last
   -- an acknowledgement is of a finished page
-  pub heard : Below (length (w .finished)) (w .heard)
-  pub coming : Below (length (w .finished)) (w .coming)
+  pub heard : Below (count w) (w .host .heard)
+  pub coming : Below (count w) (w .embosser .coming)
 
-pub counted : (w : World) (i : Inv w) → length (w .finished) + length (w .tray) ≡ i .last
-counted w i = let l = pages-length (i .last) in let n = length-append (w .finished) (w .tray) in let e = ap length (i .here) in omega arith
+-- with another host
+abbrev HostInv : World → Host → Type 0
+HostInv w h = Inv (world h (w .embosser))
 
-pub held-now : (w : World) (i : Inv w) → Held (w .log) (w .used) (i .says)
-held-now w i = flight-held (i .base) (w .log) (w .used) (i .says) (length (w .finished)) (w .writing) (i .held) (i .flight)
+pub counted : (w : World) (i : Inv w) → count w + length (w .embosser .tray) ≡ i .last
+counted w i =
+    let l = pages-length (i .last) in
+    let n = length-append (w .embosser .finished) (w .embosser .tray) in
+    let e = ap length (i .here) in
+    omega arith
+
+pub held-now : (w : World) (i : Inv w) → Held (w .host .log) (w .host .used) (i .says)
+held-now w i = flight-held (i .base) (w .host .log) (w .host .used) (i .says) (count w) (w .host .writing) (i .held) (i .flight)
 
 -- a done is of a finished page, so that the count stays between
 change-between : {s t : State} {tag page : ℕ} → Change s tag page t → (n : ℕ) → s .finished ≤ n → (tag ≡ 2 → page ≤ n) → (t .finished ≤ n) × (s .sent ≤ t .sent)
@@ -82,8 +94,8 @@ change-between (done a b c) n h d = let k = d a in (omega arith, omega arith)
 
 -- the log goes on, and the pages stay where they are
 log-kept : (w : World) (i : Inv w) {log : List ℕ} {used : ℕ} {writing : Writing} (s : State) (base : List ℕ) → Held base used s
-    → Flight base log used s (length (w .finished)) writing → s .finished ≤ length (w .finished) → i .last ≤ s .sent
-    → Inv (record { log = log; used = used; up = w .up; out = w .out; writing = writing; heard = w .heard; tray = w .tray; finished = w .finished; coming = w .coming })
+    → Flight base log used s (count w) writing → s .finished ≤ count w → i .last ≤ s .sent
+    → Inv (world (writes (w .host) log used writing) (w .embosser))
 log-kept w i s base h f b a =
     record {
       says = s;
@@ -100,16 +112,17 @@ log-kept w i s base h f b a =
     }
 
 -- pages or what is heard of them go on, and the log stays
-pages-kept : (w : World) (i : Inv w) {heard tray finished coming : List ℕ} → length (w .finished) ≤ length finished → finished ++ tray ≡ w .finished ++ w .tray
+pages-kept : (w : World) (i : Inv w) {heard tray finished coming : List ℕ} → count w ≤ length finished
+    → finished ++ tray ≡ w .embosser .finished ++ w .embosser .tray
     → Below (length finished) heard → Below (length finished) coming
-    → Inv (record { log = w .log; used = w .used; up = w .up; out = w .out; writing = w .writing; heard = heard; tray = tray; finished = finished; coming = coming })
+    → Inv (world (hasHeard (w .host) heard) (record { tray = tray; finished = finished; coming = coming }))
 pages-kept w i {finished = finished} more all h c =
     let b = i .behind in
     record {
       says = i .says;
       base = i .base;
       held = i .held;
-      flight = flight-more (i .base) (w .log) (w .used) (i .says) (length (w .finished)) (length finished) (w .writing) more (i .flight);
+      flight = flight-more (i .base) (w .host .log) (w .host .used) (i .says) (count w) (length finished) (w .host .writing) more (i .flight);
       last = i .last;
       here = all ∙ i .here;
       behind = omega arith;
@@ -120,31 +133,32 @@ pages-kept w i {finished = finished} more all h c =
     }
 
 -- the append that is under way
-in-flight : (w : World) (i : Inv w) {tag page : ℕ} {c : LogCall} {k : ℕ} → w .writing ≡ within tag page c k
-    → Within (i .base) (w .log) (w .used) (i .says) (length (w .finished)) tag page c k
-in-flight w i e = subst (Flight (i .base) (w .log) (w .used) (i .says) (length (w .finished))) e (i .flight)
+in-flight : (w : World) (i : Inv w) {tag page : ℕ} {c : LogCall} {k : ℕ} → w .host .writing ≡ within tag page c k
+    → Within (i .base) (w .host .log) (w .host .used) (i .says) (count w) tag page c k
+in-flight w i e = subst (Flight (i .base) (w .host .log) (w .host .used) (i .says) (count w)) e (i .flight)
 
 -- ---- an append begins
-may-append : (w : World) (i : Inv w) (tag page : ℕ) → mayAppend asRequested w tag page ≡ true → tag ≡ 2 → page ≤ length (w .finished)
+may-append : (w : World) (i : Inv w) (tag page : ℕ) → mayAppend asRequested (w .host) tag page ≡ true → tag ≡ 2 → page ≤ count w
 may-append w i tag page h two =
-    let k = both (w .up) (cond (eqb tag 2) (acknowledged (w .heard) page) true) h in
-    below-acknowledged (length (w .finished)) (w .heard) page (i .heard) (rw two at (k .1))
+    let k = both (w .host .up) (cond (eqb tag 2) (acknowledged (w .host .heard) page) true) h in
+    below-acknowledged (count w) (w .host .heard) page (i .heard) (rw two at (k .1))
 
 no-bytes : (log : List ℕ) (used : ℕ) (c : LogCall) (tag page : ℕ) → used ≤ length log → log ≡ cutLog log used c tag page 0
 no-bytes log used c tag page fits = arms (λ (x : List ℕ). log ≡ x) (inPlace c) (λ b. sym (put-nothing log (wholeOf used) (omega arith))) (λ b. refl)
 
-begins-kept : (w : World) → Inv w → (x : Writing) → w .writing ≡ x → (tag page : ℕ) (second : List ℕ) → Inv (beginning asRequested w x tag page second)
+begins-kept : (w : World) → Inv w → (x : Writing) → w .host .writing ≡ x → (tag page : ℕ) (second : List ℕ)
+    → Inv (world (beginning asRequested (w .host) x tag page second) (w .embosser))
 unfolding beginning
 begins-kept w i (within t p c k) e tag page second = i
 begins-kept w i idle e tag page second =
     let h = held-now w i in
-    let c = appendOf (w .log) (w .used) tag page second in
-    arms Inv (mayAppend asRequested w tag page)
-    (λ m. log-kept w i (i .says) (w .log) h
+    let c = appendOf (w .host .log) (w .host .used) tag page second in
+    arms (HostInv w) (mayAppend asRequested (w .host) tag page)
+    (λ m. log-kept w i (i .says) (w .host .log) h
     (record {
       second = second;
-      outcome = append-outcome (w .log) (w .used) (i .says) tag page second h;
-      there = no-bytes (w .log) (w .used) c tag page (h .fits);
+      outcome = append-outcome (w .host .log) (w .host .used) (i .says) tag page second h;
+      there = no-bytes (w .host .log) (w .host .used) c tag page (h .fits);
       few = omega arith;
       told = may-append w i tag page m;
     }) (i .behind) (i .ahead))
@@ -167,61 +181,61 @@ byte-there base log used s tag page second c k (placed turn room) f short i =
     ∙ put-behind base (take k bytes) (take 1 (drop k bytes)) (wholeOf used) (omega arith)
     ∙ ap (putOf base (wholeOf used)) (sym (take-add k 1 bytes))
 
-byte-kept : (w : World) → Inv w → (x : Writing) → w .writing ≡ x → Inv (writingByte w x)
+byte-kept : (w : World) → Inv w → (x : Writing) → w .host .writing ≡ x → Inv (world (writingByte (w .host) x) (w .embosser))
 unfolding writingByte
 byte-kept w i idle e = i
 byte-kept w i (within tag page c k) e =
     let f = in-flight w i e in
-    arms Inv (inPlace c && ltb k 5)
+    arms (HostInv w) (inPlace c && ltb k 5)
     (λ t. let p = both (inPlace c) (ltb k 5) t in
     let short = ltb-true k 5 (p .1) in
     log-kept w i (i .says) (i .base) (i .held)
     (record {
       second = f .second;
       outcome = f .outcome;
-      there = byte-there (i .base) (w .log) (w .used) (i .says) tag page (f .second) c k (f .outcome) (f .there) short (p .0);
+      there = byte-there (i .base) (w .host .log) (w .host .used) (i .says) tag page (f .second) c k (f .outcome) (f .there) short (p .0);
       few = omega arith;
       told = f .told;
     }) (i .behind) (i .ahead))
     (λ t. i)
 
 -- ---- the append completes
-completes-kept : (w : World) → Inv w → (x : Writing) → w .writing ≡ x → Inv (completing w x)
+completes-kept : (w : World) → Inv w → (x : Writing) → w .host .writing ≡ x → Inv (world (completing (w .host) x) (w .embosser))
 unfolding completing
 completes-kept w i idle e = i
 completes-kept w i (within tag page c k) e =
     let f = in-flight w i e in
-    let a = append-after (i .base) (w .used) (i .says) tag page (f .second) (i .held) (f .outcome) in
-    let b = change-between (a .how) (length (w .finished)) (i .behind) (f .told) in
+    let a = append-after (i .base) (w .host .used) (i .says) tag page (f .second) (i .held) (f .outcome) in
+    let b = change-between (a .how) (count w) (i .behind) (f .told) in
     let h = i .ahead in
-    arms Inv (inPlace c && ltb k 5) (λ t. i) (λ t. log-kept w i (a .to) (logAfter c) (a .held) refl (b .0) (omega arith))
+    arms (HostInv w) (inPlace c && ltb k 5) (λ t. i) (λ t. log-kept w i (a .to) (logAfter c) (a .held) refl (b .0) (omega arith))
 
 -- ---- a restart: the log says the count, and the tray is empty
-pub count-between : (w : World) (i : Inv w) → (i .says .finished ≤ length (w .finished)) × (length (w .finished) ≤ i .says .sent)
+pub count-between : (w : World) (i : Inv w) → (i .says .finished ≤ count w) × (count w ≤ i .says .sent)
 count-between w i = let c = counted w i in let h = i .ahead in (i .behind, omega arith)
 
 pub restarted : (w : World) (i : Inv w) (second : List ℕ)
-    → restartOf (w .log) (w .used) (length (w .finished)) second
-    ≡ compactingOf (state (length (w .finished)) (i .says .sent)) (compactedOf (state (length (w .finished)) (i .says .sent))) (length (w .finished)) (w .log) second
+    → restartOf (w .host .log) (w .host .used) (count w) second
+    ≡ compactingOf (state (count w) (i .says .sent)) (compactedOf (state (count w) (i .says .sent))) (count w) (w .host .log) second
 restarted w i second =
     let b = count-between w i in
-    restart-outcome (w .log) (w .used) (i .says) (held-now w i) (length (w .finished)) second (b .0) (b .1)
+    restart-outcome (w .host .log) (w .host .used) (i .says) (held-now w i) (count w) second (b .0) (b .1)
 
 pub restart-kept : (w : World) (i : Inv w) (second : List ℕ) → Inv (next asRequested w (restart second))
 unfolding next compactAnswer
 restart-kept w i second = rw (restarted w i second) (by-room (leb (length (compactedOf t)) (length second)) refl)
   where
     n : ℕ
-    n = length (w .finished)
+    n = count w
 
     t : State
     t = state n (i .says .sent)
 
     -- the count is the log's, and the tray is empty
     begun-again : (log : List ℕ) (used : ℕ) (up : Bool) (s : State) → Held log used s → s .finished ≤ n → n ≤ s .sent
-        → Inv (record { log = log; used = used; up = up; out = n; writing = idle; heard = w .heard; tray = []; finished = w .finished; coming = w .coming })
+        → Inv (world (record { log = log; used = used; up = up; out = n; writing = idle; heard = w .host .heard }) (holds (w .embosser) []))
     begun-again log used up s h b a =
-        let here = append-nil (w .finished) ∙ pages-front (w .finished) (w .tray) (i .last) (i .here) in
+        let here = append-nil (w .embosser .finished) ∙ pages-front (w .embosser .finished) (w .embosser .tray) (i .last) (i .here) in
         record {
           says = s;
           base = log;
@@ -237,12 +251,15 @@ restart-kept w i second = rw (restarted w i second) (by-room (leb (length (compa
         }
 
     after : LogCall → World
-    after c = record { log = logAfter c; used = usedAfter c (w .used); up = eqb (c .answer .number) 0; out = n; writing = idle; heard = w .heard; tray = []; finished = w .finished; coming = w .coming }
+    after c =
+        let used = usedAfter c (w .host .used) in
+        world (record { log = logAfter c; used = used; up = eqb (c .answer .number) 0; out = n; writing = idle; heard = w .host .heard })
+        (holds (w .embosser) [])
 
     by-room : (b : Bool) → leb (length (compactedOf t)) (length second) ≡ b
         → Inv (after (record {
           answer = cond b (answered 1 t (length (compactedOf t))) (refused logSecondShort n);
-          log = w .log;
+          log = w .host .log;
           second = putOf second 0 (compactedOf t);
         }))
     by-room true e =
@@ -251,27 +268,29 @@ restart-kept w i second = rw (restarted w i second) (by-room (leb (length (compa
     by-room false e = let b = count-between w i in begun-again _ _ false (i .says) (held-now w i) (b .0) (b .1)
 
 -- ---- the embosser finishes a page, and a page goes out
-finish-kept : (w : World) (tray : List ℕ) → w .tray ≡ tray → Inv w → Inv (finishing w tray)
+finish-kept : (w : World) (tray : List ℕ) → w .embosser .tray ≡ tray → Inv w → Inv (world (w .host) (finishing (w .embosser) tray))
 unfolding finishing
 finish-kept w [] e i = i
 finish-kept w (page ∷ rest) e i =
-    let done = w .finished ++ (page ∷ []) in
-    let n = length-append (w .finished) (page ∷ []) in
-    let all : w .finished ++ (page ∷ rest) ≡ w .finished ++ w .tray = ap (λ (l : List ℕ). w .finished ++ l) (sym e) in
-    let more : (pages : List ℕ) → Below (length (w .finished)) pages → Below (length done) pages =
-    λ pages b. below-more (length (w .finished)) (length done) pages (omega arith) b in
-    pages-kept w i (omega arith) (append-assoc (w .finished) (page ∷ []) rest ∙ all) (more (w .heard) (i .heard))
-    (below-behind (length done) page (w .coming) (more (w .coming) (i .coming)) (first-page (w .finished) page rest (i .last) (all ∙ i .here)))
+    let done = w .embosser .finished ++ (page ∷ []) in
+    let n = length-append (w .embosser .finished) (page ∷ []) in
+    let all : w .embosser .finished ++ (page ∷ rest) ≡ w .embosser .finished ++ w .embosser .tray =
+    ap (λ (l : List ℕ). w .embosser .finished ++ l) (sym e) in
+    let first = first-page (w .embosser .finished) page rest (i .last) (all ∙ i .here) in
+    let more : (pages : List ℕ) → Below (count w) pages → Below (length done) pages =
+    λ pages b. below-more (count w) (length done) pages (omega arith) b in
+    pages-kept w i (omega arith) (append-assoc (w .embosser .finished) (page ∷ []) rest ∙ all) (more (w .host .heard) (i .heard))
+    (below-behind (length done) page (w .embosser .coming) (more (w .embosser .coming) (i .coming)) first)
 
 -- ---- an acknowledgement is heard, or lost
 arriving-kept : (w : World) (heard : List ℕ → ℕ → List ℕ)
     → ((n page : ℕ) (pages : List ℕ) → Below n pages → page ≤ n → Below n (heard pages page))
-    → (coming : List ℕ) → w .coming ≡ coming → Inv w → Inv (arriving w heard coming)
+    → (coming : List ℕ) → w .embosser .coming ≡ coming → Inv w → Inv (arriving w heard coming)
 unfolding arriving
 arriving-kept w heard keeps [] e i = i
 arriving-kept w heard keeps (page ∷ rest) e i =
-    let b = subst (Below (length (w .finished))) e (i .coming) in
-    pages-kept w i (omega arith) refl (keeps (length (w .finished)) page (w .heard) (i .heard) (b .0)) (b .1)
+    let b = subst (Below (count w)) e (i .coming) in
+    pages-kept w i (omega arith) refl (keeps (count w) page (w .host .heard) (i .heard) (b .0)) (b .1)
 
 one-more : (l : List ℕ) (m page : ℕ) → l ≡ pagesTo m → page ≡ suc m → l ++ (page ∷ []) ≡ pagesTo (suc m)
 unfolding pagesTo
@@ -280,19 +299,21 @@ one-more l m page e p = rw (e, p)
 goes-kept : (w : World) → Inv w → Inv (next asRequested w goes)
 unfolding next
 goes-kept w i =
-    arms Inv (w .up && isIdle (w .writing) && leb (w .out + 1) (readLogOf (w .log) (w .used) .sent))
-    (λ e. let j = both (w .up && isIdle (w .writing)) (leb (w .out + 1) (readLogOf (w .log) (w .used) .sent)) e in
-    let o : w .out ≡ i .last = i .out (both (w .up) (isIdle (w .writing)) (j .0) .0) in
-    let l : leb (w .out + 1) (i .says .sent) ≡ true = rw (held-read (w .log) (w .used) (i .says) (held-now w i)) at (j .1) in
-    let m = leb-true (w .out + 1) (i .says .sent) l in
-    let p : w .out + 1 ≡ suc (i .last) = omega arith in
+    arms Inv (maySend asRequested (w .host))
+    (λ e. let j = both (w .host .up && isIdle (w .host .writing)) (leb (w .host .out + 1) (readLogOf (w .host .log) (w .host .used) .sent)) e in
+    let o : w .host .out ≡ i .last = i .out (both (w .host .up) (isIdle (w .host .writing)) (j .0) .0) in
+    let l : leb (w .host .out + 1) (i .says .sent) ≡ true = rw (held-read (w .host .log) (w .host .used) (i .says) (held-now w i)) at (j .1) in
+    let m = leb-true (w .host .out + 1) (i .says .sent) l in
+    let p : w .host .out + 1 ≡ suc (i .last) = omega arith in
     record {
       says = i .says;
-      base = w .log;
-      held = held-now w i;
-      flight = refl;
+      base = i .base;
+      held = i .held;
+      flight = i .flight;
       last = suc (i .last);
-      here = sym (append-assoc (w .finished) (w .tray) ((w .out + 1) ∷ [])) ∙ one-more (w .finished ++ w .tray) (i .last) (w .out + 1) (i .here) p;
+      here =
+          sym (append-assoc (w .embosser .finished) (w .embosser .tray) ((w .host .out + 1) ∷ []))
+          ∙ one-more (w .embosser .finished ++ w .embosser .tray) (i .last) (w .host .out + 1) (i .here) p;
       behind = i .behind;
       ahead = omega arith;
       out = λ u. p;
@@ -305,39 +326,41 @@ goes-kept w i =
 -- what the log says then
 record Left (w : World) (s : State) (used : ℕ) : Type 0 where
   pub to : State
-  pub held : Held (w .log) used to
-  pub behind : to .finished ≤ length (w .finished)
+  pub held : Held (w .host .log) used to
+  pub behind : to .finished ≤ count w
   pub ahead : s .sent ≤ to .sent
 
-crash-left : (w : World) (i : Inv w) (u : ℕ) (x : Writing) → w .writing ≡ x → Left w (i .says) (crashUsed (w .used) x u)
+crash-left : (w : World) (i : Inv w) (u : ℕ) (x : Writing) → w .host .writing ≡ x → Left w (i .says) (crashUsed (w .host .used) x u)
 unfolding crashUsed
 crash-left w i u idle e = record { to = i .says; held = held-now w i; behind = i .behind; ahead = omega arith }
 crash-left w i u (within tag page c k) e =
     let f = in-flight w i e in
-    let used = cond (inPlace c && mayBeUsed (w .used) k u) u (w .used) in
-    let a = cut-after (i .base) (w .used) (i .says) tag page (f .second) (i .held) (f .outcome) k u (f .few) in
-    let b = change-between (a .how) (length (w .finished)) (i .behind) (f .told) in
+    let used = cond (inPlace c && mayBeUsed (w .host .used) k u) u (w .host .used) in
+    let a = cut-after (i .base) (w .host .used) (i .says) tag page (f .second) (i .held) (f .outcome) k u (f .few) in
+    let b = change-between (a .how) (count w) (i .behind) (f .told) in
     record { to = a .to; held = subst (λ (l : List ℕ). Held l used (a .to)) (sym (f .there)) (a .held); behind = b .0; ahead = b .1 }
 
 crash-kept : (w : World) → Inv w → (left u : ℕ) → Inv (next asRequested w (crash left u))
 unfolding next
 crash-kept w i left u =
-    let front = w .finished ++ take left (w .tray) in
-    let whole : front ++ drop left (w .tray) ≡ pagesTo (i .last) =
-    append-assoc (w .finished) (take left (w .tray)) (drop left (w .tray)) ∙ ap (λ (l : List ℕ). w .finished ++ l) (take-append-drop left (w .tray)) ∙ i .here in
+    let front = w .embosser .finished ++ take left (w .embosser .tray) in
+    let whole : front ++ drop left (w .embosser .tray) ≡ pagesTo (i .last) =
+    append-assoc (w .embosser .finished) (take left (w .embosser .tray)) (drop left (w .embosser .tray))
+    ∙ ap (λ (l : List ℕ). w .embosser .finished ++ l) (take-append-drop left (w .embosser .tray))
+    ∙ i .here in
     let l = pages-length (i .last) in
-    let n = length-append front (drop left (w .tray)) in
+    let n = length-append front (drop left (w .embosser .tray)) in
     let e = ap length whole in
     let a = i .ahead in
-    let s = crash-left w i u (w .writing) refl in
+    let s = crash-left w i u (w .host .writing) refl in
     let b = s .ahead in
     record {
       says = s .to;
-      base = w .log;
+      base = w .host .log;
       held = s .held;
       flight = refl;
       last = length front;
-      here = pages-front front (drop left (w .tray)) (i .last) whole;
+      here = pages-front front (drop left (w .embosser .tray)) (i .last) whole;
       behind = s .behind;
       ahead = omega arith;
       out = λ up. let z : _≡_ {A = ℕ} 0 1 = cc in absurd (omega arith);
@@ -348,13 +371,13 @@ crash-kept w i left u =
 -- ---- every step
 next-kept : (w : World) → Inv w → (step : Step) → Inv (next asRequested w step)
 unfolding next
-next-kept w i (begins tag page second) = begins-kept w i (w .writing) refl tag page second
-next-kept w i byte = byte-kept w i (w .writing) refl
-next-kept w i completes = completes-kept w i (w .writing) refl
+next-kept w i (begins tag page second) = begins-kept w i (w .host .writing) refl tag page second
+next-kept w i byte = byte-kept w i (w .host .writing) refl
+next-kept w i completes = completes-kept w i (w .host .writing) refl
 next-kept w i goes = goes-kept w i
-next-kept w i finishes = finish-kept w (w .tray) refl i
-next-kept w i hears = arriving-kept w (λ heard page. page ∷ heard) (λ n page pages b h. (h, b)) (w .coming) refl i
-next-kept w i lost = arriving-kept w (λ heard page. heard) (λ n page pages b h. b) (w .coming) refl i
+next-kept w i finishes = finish-kept w (w .embosser .tray) refl i
+next-kept w i hears = arriving-kept w (λ heard page. page ∷ heard) (λ n page pages b h. (h, b)) (w .embosser .coming) refl i
+next-kept w i lost = arriving-kept w (λ heard page. heard) (λ n page pages b h. b) (w .embosser .coming) refl i
 next-kept w i (crash left u) = crash-kept w i left u
 next-kept w i (restart second) = restart-kept w i second
 

@@ -29,7 +29,7 @@ one-lost =
     appended 1 1 ++ (goes ∷ []) ++ appended 1 2 ++ (goes ∷ finishes ∷ finishes ∷ hears ∷ lost ∷ []) ++ appended 2 1 ++ started 1 3
     ++ (crash 0 19 ∷ restart buffer ∷ []) ++ appended 1 3 ++ (goes ∷ finishes ∷ [])
 
-as-requested : ends asRequested one-lost .finished ≡ 1 ∷ 2 ∷ 3 ∷ []
+as-requested : ends asRequested one-lost .embosser .finished ≡ 1 ∷ 2 ∷ 3 ∷ []
 unfolding ends one-lost
 as-requested = refl
 
@@ -38,7 +38,7 @@ later-heard : List Step
 later-heard =
     appended 1 1 ++ (goes ∷ []) ++ appended 1 2 ++ (goes ∷ finishes ∷ finishes ∷ lost ∷ hears ∷ []) ++ appended 2 1 ++ appended 2 2
 
-both-done : readLogOf (ends asRequested later-heard .log) (ends asRequested later-heard .used) ≡ answered 0 (state 2 2) 20
+both-done : readLogOf (ends asRequested later-heard .host .log) (ends asRequested later-heard .host .used) ≡ answered 0 (state 2 2) 20
 unfolding ends later-heard
 both-done = refl
 
@@ -49,7 +49,7 @@ from-the-last-done = record { told = acknowledged; ready = leb; resume = λ done
 sent-again : List Step
 sent-again = appended 1 1 ++ (goes ∷ finishes ∷ crash 0 0 ∷ restart buffer ∷ goes ∷ finishes ∷ [])
 
-twice : ends from-the-last-done sent-again .finished ≡ 1 ∷ 1 ∷ []
+twice : ends from-the-last-done sent-again .embosser .finished ≡ 1 ∷ 1 ∷ []
 unfolding ends sent-again
 twice = refl
 
@@ -66,7 +66,7 @@ keeps-its-tray = record { told = acknowledged; ready = leb; resume = λ done cou
 in-the-tray : List Step
 in-the-tray = appended 1 1 ++ (goes ∷ crash 1 0 ∷ restart buffer ∷ goes ∷ finishes ∷ finishes ∷ [])
 
-twice-too : ends keeps-its-tray in-the-tray .finished ≡ 1 ∷ 1 ∷ []
+twice-too : ends keeps-its-tray in-the-tray .embosser .finished ≡ 1 ∷ 1 ∷ []
 unfolding ends in-the-tray
 twice-too = refl
 
@@ -83,7 +83,7 @@ done-before-finished = record { told = λ heard page. true; ready = leb; resume 
 too-early : List Step
 too-early = appended 1 1 ++ (goes ∷ []) ++ appended 2 1 ++ (crash 0 0 ∷ [])
 
-refused-then : restartOf (ends done-before-finished too-early .log) (ends done-before-finished too-early .used) 0 buffer .answer .number ≡ 14
+refused-then : restartOf (ends done-before-finished too-early .host .log) (ends done-before-finished too-early .host .used) 0 buffer .answer .number ≡ 14
 unfolding ends too-early
 refused-then = refl
 

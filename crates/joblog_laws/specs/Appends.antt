@@ -7,7 +7,8 @@ use lib.Dec.{ltb, eqb}
 use lib.ListN.{length, take, drop}
 use Rattle.refusals.specs.Refusals.{logSecondShort}
 use Rattle.text.specs.Text.{putOf}
-use Rattle.joblog.specs.Records.{bytesOf, wholeOf}
+use Rattle.joblog.specs.Records.{state, bytesOf, wholeOf, logReadingOf, compactedOf}
+use Rattle.joblog.specs.declared.records.LogReading.the-variants.{Says}
 use Rattle.joblog.specs.Calls.{LogCall, readLogOf, appendOf, restartOf}
 use Rattle.joblog_laws.specs.Run.{logAfter, usedAfter, inPlace}
 
@@ -56,11 +57,17 @@ NextTakesItsPlace =
     → let next = appendOf (cutAt log used tag page k) (wholeOf used + k) tag' page' second' in
     (next .answer ≡ appendOf log used tag' page' second' .answer) × (eqb (next .answer .number) 0 ≡ true → next .log ≡ appendOf log used tag' page' second' .log)
 
--- ---- a second buffer with room for the open pages and two records more is never too short
+-- ---- a second buffer with room for one record and the open pages, and for an append one record more, is never too short
 abbrev pub RoomIsEnough : Type 0
 RoomIsEnough =
-    (log : List ℕ) (used tag page : ℕ) (second : List ℕ) → 10 + 5 * (readLogOf log used .sent - readLogOf log used .finished) ≤ length second
-    → eqb (appendOf log used tag page second .answer .number) logSecondShort ≡ false
+    (log : List ℕ) (used : ℕ) (second : List ℕ)
+    → ((tag page : ℕ) → 10 + 5 * (readLogOf log used .sent - readLogOf log used .finished) ≤ length second
+    → eqb (appendOf log used tag page second .answer .number) logSecondShort ≡ false)
+    × ((count : ℕ) → 5 + 5 * (readLogOf log used .sent - count) ≤ length second → eqb (restartOf log used count second .answer .number) logSecondShort ≡ false)
+
+-- ---- "one finished record (page 0 if none is done), then the open pages": what compaction writes says what it was written from
+abbrev pub CompactionSaysTheSame : Type 0
+CompactionSaysTheSame = (finished sent : ℕ) → finished ≤ sent → logReadingOf (compactedOf (state finished sent)) ≡ Says (state finished sent)
 
 -- ---- what the log says after a call that is not refused: what the call answers
 abbrev pub SaysSo : LogCall → ℕ → Type 0

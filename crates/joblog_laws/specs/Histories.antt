@@ -18,21 +18,21 @@ pagesTo (suc n) = pagesTo n ++ (suc n ∷ [])
 
 pub record Kept (w : World) : Type 0 where
   -- the embosser has finished the pages 1, 2, 3, .., in order and each once
-  pub «in_order» : w .finished ≡ pagesTo (length (w .finished))
+  pub «in_order» : w .embosser .finished ≡ pagesTo (length (w .embosser .finished))
   -- and will, with those in its tray: none is skipped and none is there twice
-  pub «none_skipped» : w .finished ++ w .tray ≡ pagesTo (length (w .finished ++ w .tray))
+  pub «none_skipped» : w .embosser .finished ++ w .embosser .tray ≡ pagesTo (length (w .embosser .finished ++ w .embosser .tray))
   -- the page that goes out next is the one after all those
-  pub «next_out» : w .up ≡ true → w .out ≡ length (w .finished ++ w .tray)
+  pub «next_out» : w .host .up ≡ true → w .host .out ≡ length (w .embosser .finished ++ w .embosser .tray)
   -- and is no finished one
-  pub «none_again» : w .up ≡ true → listed (w .finished) (w .out + 1) ≡ false
+  pub «none_again» : w .host .up ≡ true → listed (w .embosser .finished) (w .host .out + 1) ≡ false
   -- the log can be read, and has the count and the tray between its finished and its sent pages
-  pub readable : readLogOf (w .log) (w .used) .number ≡ 0
-  pub behind : readLogOf (w .log) (w .used) .finished ≤ length (w .finished)
-  pub ahead : length (w .finished ++ w .tray) ≤ readLogOf (w .log) (w .used) .sent
+  pub readable : readLogOf (w .host .log) (w .host .used) .number ≡ 0
+  pub behind : readLogOf (w .host .log) (w .host .used) .finished ≤ length (w .embosser .finished)
+  pub ahead : length (w .embosser .finished ++ w .embosser .tray) ≤ readLogOf (w .host .log) (w .host .used) .sent
   -- a restart with the true count is accepted, or refused by 12 where the second buffer has no room for one record and the open pages
   pub accepted : (second : List ℕ)
-      → restartOf (w .log) (w .used) (length (w .finished)) second .answer .number
-      ≡ cond (leb (5 + 5 * (readLogOf (w .log) (w .used) .sent - length (w .finished))) (length second)) 0 logSecondShort
+      → restartOf (w .host .log) (w .host .used) (length (w .embosser .finished)) second .answer .number
+      ≡ cond (leb (5 + 5 * (readLogOf (w .host .log) (w .host .used) .sent - length (w .embosser .finished))) (length second)) 0 logSecondShort
 
 abbrev pub KeptBy : HostRules → Type 0
 KeptBy rules = (buffer : List ℕ) (steps : List Step) → Kept (run rules (begun buffer) steps)
@@ -49,6 +49,6 @@ sendAll (suc n) = goes ∷ finishes ∷ sendAll n
 abbrev pub OpenPagesCome : Type 0
 OpenPagesCome = (buffer : List ℕ) (steps : List Step) (second : List ℕ)
     → let w = run asRequested (begun buffer) steps in
-    let sent = readLogOf (w .log) (w .used) .sent in
-    let count = length (w .finished) in
-    5 + 5 * (sent - count) ≤ length second → run asRequested w (restart second ∷ sendAll (sent - count)) .finished ≡ pagesTo sent
+    let sent = readLogOf (w .host .log) (w .host .used) .sent in
+    let count = length (w .embosser .finished) in
+    5 + 5 * (sent - count) ≤ length second → run asRequested w (restart second ∷ sendAll (sent - count)) .embosser .finished ≡ pagesTo sent

@@ -28,25 +28,34 @@ pub data Writing : Type 0 where
   idle : Writing
   within : ℕ → ℕ → LogCall → ℕ → Writing
 
-pub record World : Type 0 where
-  -- lasting, the host's: the buffer that is the log now, and how many of its bytes are the log
+pub record Host : Type 0 where
+  -- lasting: the buffer that is the log now, and how many of its bytes are the log
   pub log : List ℕ
   pub used : ℕ
-  -- the host's memory: whether it runs and has restarted since the last crash, the last page that went out, the append that it is in, and the pages
-  -- whose acknowledgement it has heard
+  -- its memory: whether it runs and has restarted since the last crash, the last page that went out, the append that it is in, and the pages whose
+  -- acknowledgement it has heard
   pub up : Bool
   pub out : ℕ
   pub writing : Writing
   pub heard : List ℕ
-  -- the embosser's: the pages that reached it and are not finished, and those that it has finished, the oldest first
+
+pub record Embosser : Type 0 where
+  -- the pages that reached it and are not finished, and those that it has finished, the oldest first
   pub tray : List ℕ
   pub finished : List ℕ
   -- the acknowledgements on their way to the host, the oldest first
   pub coming : List ℕ
 
+pub record World : Type 0 where
+  pub host : Host
+  pub embosser : Embosser
+
+abbrev pub world : Host → Embosser → World
+world host embosser = record { host = host; embosser = embosser }
+
 -- a job begins: any buffer, and an empty log in it
 abbrev pub begun : List ℕ → World
-begun buffer = record { log = buffer; used = 0; up = true; out = 0; writing = idle; heard = []; tray = []; finished = []; coming = [] }
+begun buffer = world (record { log = buffer; used = 0; up = true; out = 0; writing = idle; heard = [] }) (record { tray = []; finished = []; coming = [] })
 
 pub data Step : Type 0 where
   -- the host calls append with a record, its tag and page, and lends a second buffer
@@ -100,76 +109,64 @@ usedAfter c used = cond (eqb (c .answer .number) 0) (c .answer .used) used
 abbrev pub inPlace : LogCall → Bool
 inPlace c = eqb (c .answer .number) 0 && eqb (c .answer .moved) 0
 
-abbrev pub mayAppend : HostRules → World → ℕ → ℕ → Bool
-mayAppend rules w tag page = w .up && cond (eqb tag doneTag) (rules .told (w .heard) page) true
+-- a host whose append goes on: its log and the append that it is in; a host that sends a page; a host that hears
+abbrev pub writes : Host → List ℕ → ℕ → Writing → Host
+writes h log used writing = record { log = log; used = used; up = h .up; out = h .out; writing = writing; heard = h .heard }
 
-unfoldable pub beginning : HostRules → World → Writing → ℕ → ℕ → List ℕ → World
-beginning rules w (within t p c k) tag page second = w
-beginning rules w idle tag page second =
-    let c = appendOf (w .log) (w .used) tag page second in
-    cond (mayAppend rules w tag page)
-    (record { log = w .log; used = w .used; up = w .up; out = w .out; writing = within tag page c 0; heard = w .heard; tray = w .tray; finished = w .finished; coming = w .coming })
-    w
+abbrev pub sends : Host → ℕ → Host
+sends h page = record { log = h .log; used = h .used; up = h .up; out = page; writing = h .writing; heard = h .heard }
+
+abbrev pub hasHeard : Host → List ℕ → Host
+hasHeard h heard = record { log = h .log; used = h .used; up = h .up; out = h .out; writing = h .writing; heard = heard }
+
+-- an embosser with another tray; one with other acknowledgements on their way
+abbrev pub holds : Embosser → List ℕ → Embosser
+holds e tray = record { tray = tray; finished = e .finished; coming = e .coming }
+
+abbrev pub awaits : Embosser → List ℕ → Embosser
+awaits e coming = record { tray = e .tray; finished = e .finished; coming = coming }
+
+-- ---- an append
+abbrev pub mayAppend : HostRules → Host → ℕ → ℕ → Bool
+mayAppend rules h tag page = h .up && cond (eqb tag doneTag) (rules .told (h .heard) page) true
+
+unfoldable pub beginning : HostRules → Host → Writing → ℕ → ℕ → List ℕ → Host
+beginning rules h (within t p c k) tag page second = h
+beginning rules h idle tag page second =
+    cond (mayAppend rules h tag page) (writes h (h .log) (h .used) (within tag page (appendOf (h .log) (h .used) tag page second) 0)) h
 
 -- the next one of the record's five bytes, behind the last whole record and those that are there
 abbrev pub withByte : List ℕ → ℕ → ℕ → ℕ → ℕ → List ℕ
 withByte log used tag page k = putOf log (wholeOf used + k) (take 1 (drop k (bytesOf tag page)))
 
-unfoldable pub writingByte : World → Writing → World
-writingByte w idle = w
-writingByte w (within tag page c k) =
-    cond (inPlace c && ltb k 5)
-    (record {
-      log = withByte (w .log) (w .used) tag page k;
-      used = w .used;
-      up = w .up;
-      out = w .out;
-      writing = within tag page c (k + 1);
-      heard = w .heard;
-      tray = w .tray;
-      finished = w .finished;
-      coming = w .coming;
-    })
-    w
+unfoldable pub writingByte : Host → Writing → Host
+writingByte h idle = h
+writingByte h (within tag page c k) =
+    cond (inPlace c && ltb k 5) (writes h (withByte (h .log) (h .used) tag page k) (h .used) (within tag page c (k + 1))) h
 
-unfoldable pub completing : World → Writing → World
-completing w idle = w
-completing w (within tag page c k) =
-    cond (inPlace c && ltb k 5)
-    w
-    (record { log = logAfter c; used = usedAfter c (w .used); up = w .up; out = w .out; writing = idle; heard = w .heard; tray = w .tray; finished = w .finished; coming = w .coming })
+unfoldable pub completing : Host → Writing → Host
+completing h idle = h
+completing h (within tag page c k) = cond (inPlace c && ltb k 5) h (writes h (logAfter c) (usedAfter c (h .used)) idle)
 
-unfoldable pub finishing : World → List ℕ → World
-finishing w [] = w
-finishing w (page ∷ rest) =
-    record {
-      log = w .log;
-      used = w .used;
-      up = w .up;
-      out = w .out;
-      writing = w .writing;
-      heard = w .heard;
-      tray = rest;
-      finished = w .finished ++ (page ∷ []);
-      coming = w .coming ++ (page ∷ []);
-    }
+-- ---- pages and acknowledgements
+unfoldable pub isIdle : Writing → Bool
+isIdle idle = true
+isIdle (within tag page c k) = false
+
+-- "a page goes out only after its sent record is whole"
+abbrev pub maySend : HostRules → Host → Bool
+maySend rules h = h .up && isIdle (h .writing) && rules .ready (h .out + 1) (readLogOf (h .log) (h .used) .sent)
+
+unfoldable pub finishing : Embosser → List ℕ → Embosser
+finishing e [] = e
+finishing e (page ∷ rest) = record { tray = rest; finished = e .finished ++ (page ∷ []); coming = e .coming ++ (page ∷ []) }
 
 -- the first acknowledgement on its way: the pages that the host has then heard of, and where it is lost those of before
 unfoldable pub arriving : World → (List ℕ → ℕ → List ℕ) → List ℕ → World
 arriving w heard [] = w
-arriving w heard (page ∷ rest) =
-    record {
-      log = w .log;
-      used = w .used;
-      up = w .up;
-      out = w .out;
-      writing = w .writing;
-      heard = heard (w .heard) page;
-      tray = w .tray;
-      finished = w .finished;
-      coming = rest;
-    }
+arriving w heard (page ∷ rest) = world (hasHeard (w .host) (heard (w .host .heard) page)) (awaits (w .embosser) rest)
 
+-- ---- a crash and a restart
 -- what `used` may be after a crash in an append with k of the record's bytes lasting
 abbrev pub mayBeUsed : ℕ → ℕ → ℕ → Bool
 mayBeUsed used k u = leb (wholeOf used) u && (leb u used || leb u (wholeOf used + k))
@@ -178,57 +175,36 @@ unfoldable pub crashUsed : ℕ → Writing → ℕ → ℕ
 crashUsed used idle u = used
 crashUsed used (within tag page c k) u = cond (inPlace c && mayBeUsed used k u) u used
 
-unfoldable pub isIdle : Writing → Bool
-isIdle idle = true
-isIdle (within tag page c k) = false
+-- of the host only its log is left
+abbrev pub crashed : Host → ℕ → Host
+crashed h u = record { log = h .log; used = crashUsed (h .used) (h .writing) u; up = false; out = 0; writing = idle; heard = [] }
 
-unfoldable pub next : HostRules → World → Step → World
-next rules w (begins tag page second) = beginning rules w (w .writing) tag page second
-next rules w byte = writingByte w (w .writing)
-next rules w completes = completing w (w .writing)
-next rules w goes =
-    cond (w .up && isIdle (w .writing) && rules .ready (w .out + 1) (readLogOf (w .log) (w .used) .sent))
-    (record {
-      log = w .log;
-      used = w .used;
-      up = true;
-      out = w .out + 1;
-      writing = idle;
-      heard = w .heard;
-      tray = w .tray ++ ((w .out + 1) ∷ []);
-      finished = w .finished;
-      coming = w .coming;
-    })
-    w
-next rules w finishes = finishing w (w .tray)
-next rules w hears = arriving w (λ heard page. page ∷ heard) (w .coming)
-next rules w lost = arriving w (λ heard page. heard) (w .coming)
-next rules w (crash left u) =
-    record {
-      log = w .log;
-      used = crashUsed (w .used) (w .writing) u;
-      up = false;
-      out = 0;
-      writing = idle;
-      heard = [];
-      tray = take left (w .tray);
-      finished = w .finished;
-      coming = w .coming;
-    }
-next rules w (restart second) =
-    let count = length (w .finished) in
-    let c = restartOf (w .log) (w .used) count second in
+abbrev pub restarting : HostRules → Host → ℕ → List ℕ → Host
+restarting rules h count second =
+    let c = restartOf (h .log) (h .used) count second in
     record {
       log = logAfter c;
-      used = usedAfter c (w .used);
+      used = usedAfter c (h .used);
       up = eqb (c .answer .number) 0;
-      out = rules .resume (readLogOf (w .log) (w .used) .finished) count;
+      out = rules .resume (readLogOf (h .log) (h .used) .finished) count;
       writing = idle;
-      heard = w .heard;
-      tray = rules .kept (w .tray);
-      finished = w .finished;
-      coming = w .coming;
+      heard = h .heard;
     }
+
+-- ---- a step, and a run
+unfoldable pub next : HostRules → World → Step → World
+next rules w (begins tag page second) = world (beginning rules (w .host) (w .host .writing) tag page second) (w .embosser)
+next rules w byte = world (writingByte (w .host) (w .host .writing)) (w .embosser)
+next rules w completes = world (completing (w .host) (w .host .writing)) (w .embosser)
+next rules w goes =
+    let page = w .host .out + 1 in
+    cond (maySend rules (w .host)) (world (sends (w .host) page) (holds (w .embosser) (w .embosser .tray ++ (page ∷ [])))) w
+next rules w finishes = world (w .host) (finishing (w .embosser) (w .embosser .tray))
+next rules w hears = arriving w (λ heard page. page ∷ heard) (w .embosser .coming)
+next rules w lost = arriving w (λ heard page. heard) (w .embosser .coming)
+next rules w (crash left u) = world (crashed (w .host) u) (holds (w .embosser) (take left (w .embosser .tray)))
+next rules w (restart second) =
+    world (restarting rules (w .host) (length (w .embosser .finished)) second) (holds (w .embosser) (rules .kept (w .embosser .tray)))
 
 unfoldable pub run : HostRules → World → List Step → World
 run rules w [] = w

@@ -6,6 +6,8 @@ pub mod print_queue;
 pub mod read_order;
 pub mod remaining_at;
 pub mod sentence;
+pub mod version;
 pub mod work_day;
 pub mod write_cells;
+pub mod write_order;
 pub mod write_row;

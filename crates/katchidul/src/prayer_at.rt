@@ -31,7 +31,7 @@ fn current_number(current: Current) -> u32
 {
     match current {
         Current::Some(prayer) => prayer.number(),
-        Current::None => 0,
+        Current::Nothing => 0,
     }
 }
 

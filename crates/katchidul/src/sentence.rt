@@ -1,7 +1,6 @@
 // Refusals in words, from C.
 ghost use mathlib.Core.Path.{_≡_};
-ghost use lib.ListN.{length};
-ghost use Rattle.sentences.specs.Sentences.{sentenceWrittenOf, bufferAfter, meaningOf};
+ghost use Rattle.sentences.specs.Sentences.{sentenceCallOf, meaningOf};
 use sentences::Meaning;
 use sentences::WrittenSentence;
 use sentences::sentence::read_sentence;
@@ -13,8 +12,8 @@ pub extern "C" fn katchidul_write_sentence(
     place: u32,
     buffer: &mut [u8],
 ) -> WrittenSentence
-    ensures { λ r. ⌜ r ≡ sentenceWrittenOf number place (length (now (buffer .entry))) ⌝ }
-    ensures { λ _. ⌜ now (buffer .exit) ≡ bufferAfter number place (now (buffer .entry)) ⌝ }
+    ensures { λ r. ⌜ r ≡ sentenceCallOf number place (now (buffer .entry)) .answer ⌝ }
+    ensures { λ _. ⌜ now (buffer .exit) ≡ sentenceCallOf number place (now (buffer .entry)) .buffer ⌝ }
 {
     write_sentence(number, place, &mut buffer[..])
 }

@@ -15,14 +15,15 @@ use Rattle.float64.specs.Whole.{floorOf, truncOf, roundOf}
 use Rattle.models.specs.Numbers.{prayerNumberOf, prayerOf}
 use Rattle.schedule.specs.declared.in_force.Current.{Current}
 use Rattle.schedule.specs.declared.in_force.Current.the-variants as current
-use Rattle.schedule.specs.declared.in_force.HoursMinutes.{HoursMinutes}
 use Rattle.schedule.specs.declared.in_force.Instant.{Instant}
+use Rattle.schedule.specs.declared.in_force.Remaining.{Remaining}
+use Rattle.schedule.specs.declared.in_force.Remaining.the-variants as remaining
 use Rattle.schedule.specs.declared.prayer_times.PrayerTimes.{PrayerTimes}
-use Rattle.schedule.specs.InForce.{timeOf, nanosecondsOf, aheadOf, lastOf, currentTimeOf, followingOf, followingCurrentOf, nextOf, hoursMinutesOf}
+use Rattle.schedule.specs.InForce.{timeOf, nanosecondsOf, aheadOf, lastOf, currentTimeOf, followingOf, followingCurrentOf, nextOf, hoursMinutesOf, untilOf, timeRemainingOf}
 use Rattle.models.specs.declared.rules.Southern.the-variants.{StartsAgain}
 use Rattle.ops.specs.Season.{daysSinceSolsticeOf, southernOffsetOf, southernCountOf, daysByRule}
 use Rattle.solar.specs.declared.setting.SolarHour.{SolarHour}
-use Rattle.solar.specs.declared.setting.SolarHour.the-variants.{At, None}
+use Rattle.solar.specs.declared.setting.SolarHour.the-variants.{Some, Nothing}
 use Rattle.solar.specs.Setting.{settingHourOf, hourOf, hourAdjustmentOf, minuteOf}
 use Rattle.solar.specs.PastMidnight.{hasTimeOf, carriedOf, carriedHourOf}
 
@@ -39,38 +40,26 @@ again day year count = eqb (daysByRule StartsAgain south day year) count
 
 -- an hour number that gives a time, in seconds from 0h of the date, and one that gives none
 abbrev gives : SolarHour → ℤ → Bool
-gives (At s) t = leZ s t && leZ t s
-gives None t = false
+gives (Some s) t = leZ s t && leZ t s
+gives Nothing t = false
 
 abbrev misses : SolarHour → Bool
-misses (At s) = false
-misses None = true
+misses (Some s) = false
+misses Nothing = true
 
-abbrev at : Float → ℤ → Bool
-at x t = gives (settingHourOf x) t
-
-abbrev none : Float → Bool
-none x = misses (settingHourOf x)
-
-abbrev carried : Float → ℤ → Bool
-carried x t = gives (carriedHourOf x) t
-
-abbrev lost : Float → Bool
-lost x = misses (carriedHourOf x)
-
--- nine times, a thousand seconds apart from 1000 on, but for the middle of the night, which is no prayer
+-- nine times, four thousand seconds apart from 4000 on, but for the middle of the night, which is no prayer
 abbrev times : PrayerTimes
 times =
     record {
-      fajr = pos 1000;
-      sunrise = pos 2000;
-      dhuhr = pos 3000;
-      asr = pos 4000;
-      maghrib = pos 5000;
-      isha = pos 6000;
-      «middle_of_the_night» = pos 6500;
-      qiyam = pos 7000;
-      «fajr_tomorrow» = pos 8000;
+      fajr = pos 4000;
+      sunrise = pos 8000;
+      dhuhr = pos 12000;
+      asr = pos 16000;
+      maghrib = pos 20000;
+      isha = pos 24000;
+      «middle_of_the_night» = pos 26000;
+      qiyam = pos 28000;
+      «fajr_tomorrow» = pos 32000;
     }
 
 abbrev instant : ℕ → ℕ → Instant
@@ -79,10 +68,11 @@ instant seconds nanoseconds = record { seconds = pos seconds; nanoseconds = nano
 -- whether the prayer that stands n-th in the list is named, and none where n is 0
 abbrev names : Current → ℕ → Bool
 names (current.Some prayer) n = eqb (prayerNumberOf prayer) n
-names current.None n = eqb n 0
+names current.Nothing n = eqb n 0
 
-abbrev lasts : HoursMinutes → ℕ → ℕ → Bool
-lasts r hours minutes = eqb (r .hours) hours && eqb (r .minutes) minutes
+abbrev lasts : Remaining → ℕ → ℕ → Bool
+lasts (remaining.Some r) hours minutes = eqb (r .hours) hours && eqb (r .minutes) minutes
+lasts remaining.Nothing hours minutes = false
 
 unfoldable pub marked : List Bool
 marked =
@@ -108,35 +98,35 @@ marked =
     eqb (daysByRule StartsAgain north 172 2025) 182 ∷
     eqb (daysByRule StartsAgain (neg north) 172 2025) 182 ∷
     -- setting_hour: 05:30, yesterday 23:30, tomorrow 00:15, yesterday 00:00, and three that have no time
-    at (dec 55 1) (pos 19800) ∷
-    at (neg (dec 5 1)) (negsuc 1799) ∷
-    at (dec 2425 2) (pos 87300) ∷
-    at (neg (dec 25 0)) (negsuc 86399) ∷
-    none (dec 0 0) ∷
-    none (dec 23995 3) ∷
-    none (dec 48 0) ∷
+    gives (settingHourOf (dec 55 1)) (pos 19800) ∷
+    gives (settingHourOf (neg (dec 5 1))) (negsuc 1799) ∷
+    gives (settingHourOf (dec 2425 2)) (pos 87300) ∷
+    gives (settingHourOf (neg (dec 25 0))) (negsuc 86399) ∷
+    misses (settingHourOf (dec 0 0)) ∷
+    misses (settingHourOf (dec 23995 3)) ∷
+    misses (settingHourOf (dec 48 0)) ∷
     -- carried past midnight: 00:00 of tomorrow, of the date after a floored hour below 0, of the day after tomorrow after hour 47
-    carried (dec 23995 3) (pos 86400) ∷
-    carried (neg (dec 1 4)) (pos 0) ∷
-    carried (dec 47995 3) (pos 172800) ∷
+    gives (carriedHourOf (dec 23995 3)) (pos 86400) ∷
+    gives (carriedHourOf (neg (dec 1 4))) (pos 0) ∷
+    gives (carriedHourOf (dec 47995 3)) (pos 172800) ∷
     -- both zeros and the smallest subnormal are 00:00 of the date; yesterday's 00:00 is the first time, and what lies beyond, or is no number, has none
-    carried (dec 0 0) (pos 0) ∷
-    carried (neg (dec 0 0)) (pos 0) ∷
-    carried (ofBits binary64 1) (pos 0) ∷
-    carried (neg (dec 24 0)) (negsuc 86399) ∷
-    lost (neg (dec 25 0)) ∷
-    lost (dec 48 0) ∷
-    lost nan ∷
+    gives (carriedHourOf (dec 0 0)) (pos 0) ∷
+    gives (carriedHourOf (neg (dec 0 0))) (pos 0) ∷
+    gives (carriedHourOf (ofBits binary64 1)) (pos 0) ∷
+    gives (carriedHourOf (neg (dec 24 0))) (negsuc 86399) ∷
+    misses (carriedHourOf (neg (dec 25 0))) ∷
+    misses (carriedHourOf (dec 48 0)) ∷
+    misses (carriedHourOf nan) ∷
     -- and what needs no carrying stays
-    carried (dec 55 1) (pos 19800) ∷
+    gives (carriedHourOf (dec 55 1)) (pos 19800) ∷
     -- half a second before Fajr it is in force, a full second before it is not
-    names (currentTimeOf times (instant 999 500000000)) 1 ∷
-    names (currentTimeOf times (instant 999 0)) 0 ∷
+    names (currentTimeOf times (instant 3999 500000000)) 1 ∷
+    names (currentTimeOf times (instant 3999 0)) 0 ∷
     -- next after FajrTomorrow is FajrTomorrow
-    names (nextOf times (instant 8000 0)) 8 ∷
-    -- 3,599 seconds are 0 hours and 60 minutes; what has passed is 0 and 0
-    lasts (hoursMinutesOf 3599) 0 60 ∷
-    lasts (hoursMinutesOf (aheadOf (pos 1000) (instant 2000 0))) 0 0 ∷
+    names (nextOf times (instant 32000 0)) 8 ∷
+    -- `time_remaining` 3,599 s before sunrise is 0 hours 60 minutes; after FajrTomorrow, which is the next itself, it is 0 and 0
+    lasts (timeRemainingOf times (instant 4401 0)) 0 60 ∷
+    lasts (timeRemainingOf times (instant 32001 0)) 0 0 ∷
     []
 
 unfoldable pub all : List Bool → Bool
@@ -144,5 +134,5 @@ all [] = true
 all (t ∷ ts) = t && all ts
 
 pub all-hold : T (all marked)
-unfolding marked all timeOf nanosecondsOf aheadOf lastOf followingOf followingCurrentOf hoursMinutesOf prayerNumberOf prayerOf truncOf settingHourOf hourOf hourAdjustmentOf minuteOf hasTimeOf carriedOf carriedHourOf isNormalOf floorOf roundOf toUnsigned dec round ofBits eq le lt add sub mul div neg ofInt toSigned dateJulianDayOf julianDayOf fromMarchOf yearProductOf monthProductOf correctionOf toI32Of daysSinceSolsticeOf southernOffsetOf southernCountOf daysByRule daysInYearOf leapOf
+unfolding marked all timeOf nanosecondsOf aheadOf lastOf followingOf followingCurrentOf hoursMinutesOf untilOf prayerNumberOf prayerOf truncOf settingHourOf hourOf hourAdjustmentOf minuteOf hasTimeOf carriedOf carriedHourOf isNormalOf floorOf roundOf toUnsigned dec round ofBits eq le lt add sub mul div neg ofInt toSigned dateJulianDayOf julianDayOf fromMarchOf yearProductOf monthProductOf correctionOf toI32Of daysSinceSolsticeOf southernOffsetOf southernCountOf daysByRule daysInYearOf leapOf
 all-hold = tt

@@ -3,7 +3,7 @@ pub use Rattle.models.proofs.Rows.{inside, beyond}
 unfoldable pub use Rattle.models.specs.Builder.{setIshaInterval}
 pub use Rattle.models.specs.Minutes.{noMinutes}
 unfoldable pub use Rattle.models.specs.Numbers.{methodOf, roundingNumberOf, roundingOf, shafaqNumberOf, shafaqOf, madhabNumberOf, madhabOf, ruleNumberOf, ruleOf, midnightNumberOf, midnightOf, southernNumberOf, southernOf, methodNumberOf, prayerNumberOf, prayerOf}
-pub use Rattle.models.specs.Numbers.{rules, methods, prayers, roundings, shafaqs}
+pub use Rattle.models.specs.Numbers.{methods, prayers}
 unfoldable pub use Rattle.models.specs.Presets.{preset, presetOf}
 pub use Rattle.models.specs.Presets.{offset}
 unfoldable pub use Rattle.models.specs.Settings.{minutesFor, timeAdjustmentsOf, parametersNewOf}

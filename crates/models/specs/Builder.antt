@@ -1,4 +1,4 @@
--- parameters.rs: Configuration, which builds Parameters a field at a time. It has the same fields.
+-- parameters.rs: Configuration, which builds Parameters a field at a time.
 use lib.IntN.{ℤ}
 use lib.Ieee.{Float}
 use Rattle.float64.specs.Ops.{dec}
@@ -12,37 +12,64 @@ use Rattle.models.specs.declared.rounding.Rounding.{Rounding}
 use Rattle.models.specs.declared.shafaq.Shafaq.{Shafaq}
 
 abbrev pub configurationOf : Parameters → Configuration
-configurationOf p = record { method = p .method; «fajr_angle» = p .«fajr_angle»; «maghrib_angle» = p .«maghrib_angle»; «isha_angle» = p .«isha_angle»; «isha_interval» = p .«isha_interval»; madhab = p .madhab; «high_latitude_rule» = p .«high_latitude_rule»; adjustments = p .adjustments; «method_adjustments» = p .«method_adjustments»; rounding = p .rounding; shafaq = p .shafaq }
+configurationOf p = record { parameters = p }
 
-abbrev pub doneOf : Configuration → Parameters
-doneOf c = record { method = c .method; «fajr_angle» = c .«fajr_angle»; «maghrib_angle» = c .«maghrib_angle»; «isha_angle» = c .«isha_angle»; «isha_interval» = c .«isha_interval»; madhab = c .madhab; «high_latitude_rule» = c .«high_latitude_rule»; adjustments = c .adjustments; «method_adjustments» = c .«method_adjustments»; rounding = c .rounding; shafaq = c .shafaq }
+-- the choices as given, the numbers as they were
+abbrev pub chosenOf : Parameters → Method → Madhab → HighLatitudeRule → Rounding → Shafaq → Parameters
+chosenOf p method madhab rule rounding shafaq =
+    record {
+      method = method;
+      «fajr_angle» = p .«fajr_angle»;
+      «maghrib_angle» = p .«maghrib_angle»;
+      «isha_angle» = p .«isha_angle»;
+      «isha_interval» = p .«isha_interval»;
+      madhab = madhab;
+      «high_latitude_rule» = rule;
+      adjustments = p .adjustments;
+      «method_adjustments» = p .«method_adjustments»;
+      rounding = rounding;
+      shafaq = shafaq;
+    }
 
--- the choices anew, the numbers as they were
-abbrev pub chosenOf : Configuration → Method → Madhab → HighLatitudeRule → Rounding → Shafaq → Configuration
-chosenOf c method madhab rule rounding shafaq = record { method = method; «fajr_angle» = c .«fajr_angle»; «maghrib_angle» = c .«maghrib_angle»; «isha_angle» = c .«isha_angle»; «isha_interval» = c .«isha_interval»; madhab = madhab; «high_latitude_rule» = rule; adjustments = c .adjustments; «method_adjustments» = c .«method_adjustments»; rounding = rounding; shafaq = shafaq }
+-- the Maghrib and Isha angles, the Isha interval and the method's minutes as given, the rest as it was
+abbrev pub numberedOf : Parameters → Float → Float → ℤ → TimeAdjustment → Parameters
+numberedOf p maghrib isha interval minutes =
+    record {
+      method = p .method;
+      «fajr_angle» = p .«fajr_angle»;
+      «maghrib_angle» = maghrib;
+      «isha_angle» = isha;
+      «isha_interval» = interval;
+      madhab = p .madhab;
+      «high_latitude_rule» = p .«high_latitude_rule»;
+      adjustments = p .adjustments;
+      «method_adjustments» = minutes;
+      rounding = p .rounding;
+      shafaq = p .shafaq;
+    }
 
 abbrev pub setMethod : Configuration → Method → Configuration
-setMethod c x = chosenOf c x (c .madhab) (c .«high_latitude_rule») (c .rounding) (c .shafaq)
-
-abbrev pub setMethodAdjustments : Configuration → TimeAdjustment → Configuration
-setMethodAdjustments c x = record { method = c .method; «fajr_angle» = c .«fajr_angle»; «maghrib_angle» = c .«maghrib_angle»; «isha_angle» = c .«isha_angle»; «isha_interval» = c .«isha_interval»; madhab = c .madhab; «high_latitude_rule» = c .«high_latitude_rule»; adjustments = c .adjustments; «method_adjustments» = x; rounding = c .rounding; shafaq = c .shafaq }
-
-abbrev pub setHighLatitudeRule : Configuration → HighLatitudeRule → Configuration
-setHighLatitudeRule c x = chosenOf c (c .method) (c .madhab) x (c .rounding) (c .shafaq)
+setMethod c x = let p = c .parameters in configurationOf (chosenOf p x (p .madhab) (p .«high_latitude_rule») (p .rounding) (p .shafaq))
 
 abbrev pub setMadhab : Configuration → Madhab → Configuration
-setMadhab c x = chosenOf c (c .method) x (c .«high_latitude_rule») (c .rounding) (c .shafaq)
+setMadhab c x = let p = c .parameters in configurationOf (chosenOf p (p .method) x (p .«high_latitude_rule») (p .rounding) (p .shafaq))
 
--- an interval takes the place of the Isha angle
-unfoldable pub setIshaInterval : Configuration → ℤ → Configuration
-unfolding dec
-setIshaInterval c x = record { method = c .method; «fajr_angle» = c .«fajr_angle»; «maghrib_angle» = c .«maghrib_angle»; «isha_angle» = dec 0 0; «isha_interval» = x; madhab = c .madhab; «high_latitude_rule» = c .«high_latitude_rule»; adjustments = c .adjustments; «method_adjustments» = c .«method_adjustments»; rounding = c .rounding; shafaq = c .shafaq }
-
-abbrev pub setMaghribAngle : Configuration → Float → Configuration
-setMaghribAngle c x = record { method = c .method; «fajr_angle» = c .«fajr_angle»; «maghrib_angle» = x; «isha_angle» = c .«isha_angle»; «isha_interval» = c .«isha_interval»; madhab = c .madhab; «high_latitude_rule» = c .«high_latitude_rule»; adjustments = c .adjustments; «method_adjustments» = c .«method_adjustments»; rounding = c .rounding; shafaq = c .shafaq }
+abbrev pub setHighLatitudeRule : Configuration → HighLatitudeRule → Configuration
+setHighLatitudeRule c x = let p = c .parameters in configurationOf (chosenOf p (p .method) (p .madhab) x (p .rounding) (p .shafaq))
 
 abbrev pub setRounding : Configuration → Rounding → Configuration
-setRounding c x = chosenOf c (c .method) (c .madhab) (c .«high_latitude_rule») x (c .shafaq)
+setRounding c x = let p = c .parameters in configurationOf (chosenOf p (p .method) (p .madhab) (p .«high_latitude_rule») x (p .shafaq))
 
 abbrev pub setShafaq : Configuration → Shafaq → Configuration
-setShafaq c x = chosenOf c (c .method) (c .madhab) (c .«high_latitude_rule») (c .rounding) x
+setShafaq c x = let p = c .parameters in configurationOf (chosenOf p (p .method) (p .madhab) (p .«high_latitude_rule») (p .rounding) x)
+
+abbrev pub setMaghribAngle : Configuration → Float → Configuration
+setMaghribAngle c x = let p = c .parameters in configurationOf (numberedOf p x (p .«isha_angle») (p .«isha_interval») (p .«method_adjustments»))
+
+abbrev pub setMethodAdjustments : Configuration → TimeAdjustment → Configuration
+setMethodAdjustments c x = let p = c .parameters in configurationOf (numberedOf p (p .«maghrib_angle») (p .«isha_angle») (p .«isha_interval») x)
+
+-- "isha_interval" sets the Isha angle to 0: an interval takes its place
+unfoldable pub setIshaInterval : Configuration → ℤ → Configuration
+unfolding dec
+setIshaInterval c x = let p = c .parameters in configurationOf (numberedOf p (p .«maghrib_angle») (dec 0 0) x (p .«method_adjustments»))

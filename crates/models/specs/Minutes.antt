@@ -10,9 +10,6 @@ sixMinutesOf fajr sunrise dhuhr asr maghrib isha =
 abbrev pub noMinutes : TimeAdjustment
 noMinutes = sixMinutesOf (pos 0) (pos 0) (pos 0) (pos 0) (pos 0) (pos 0)
 
--- the builder holds the same six, and gives them back
+-- the builder holds them, and gives them back
 abbrev pub builderOf : TimeAdjustment → Adjustment
-builderOf m = record { fajr = m .fajr; sunrise = m .sunrise; dhuhr = m .dhuhr; asr = m .asr; maghrib = m .maghrib; isha = m .isha }
-
-abbrev pub builtOf : Adjustment → TimeAdjustment
-builtOf b = sixMinutesOf (b .fajr) (b .sunrise) (b .dhuhr) (b .asr) (b .maghrib) (b .isha)
+builderOf m = record { minutes = m }

@@ -1,4 +1,4 @@
--- prayer.rs: the names of the prayers. At an instant of a Friday, Dhuhr is Jumua.
+-- prayer.rs: the names of the prayers. Dhuhr is Jumua at an instant of a Friday: "`Utc::now`: an instant given" (document 01).
 use Prim.Native.Nat.{ℕ}
 use mathlib.Core.Bool.{Bool, cond}
 use mathlib.Core.List.{List, [], _∷_}

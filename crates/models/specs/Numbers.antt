@@ -1,5 +1,5 @@
--- The numbers by which an order and an answer name the cases of each enum, and the case of each number.
--- A number that names none is taken for the last one's: the reader of an order refuses it before.
+-- The numbers by which an order and an answer name the cases of each enum, in the words of document 01's table, and the case of each number.
+-- A number that names no case gives the last one. An order with such a number is refused before.
 use Prim.Native.Nat.{ℕ}
 use mathlib.Core.List.{List, [], _∷_}
 use lib.ListN.{getD}
@@ -20,62 +20,58 @@ use Rattle.models.specs.declared.rules.Southern.the-variants.{Unreduced,
 use Rattle.models.specs.declared.prayer.Prayer.{Prayer}
 use Rattle.models.specs.declared.prayer.Prayer.the-variants.{Fajr, Sunrise, Dhuhr, Asr, Maghrib, Isha, Qiyam, FajrTomorrow}
 
+-- "rounding 0 to 2 (Nearest, Up, None)"
 unfoldable pub roundingNumberOf : Rounding → ℕ
 roundingNumberOf Nearest = 0
 roundingNumberOf Up = 1
 roundingNumberOf None = 2
 
-abbrev pub roundings : List Rounding
-roundings = Nearest ∷ Up ∷ []
-
 unfoldable pub roundingOf : ℕ → Rounding
-roundingOf n = getD roundings n None
+roundingOf n = getD (Nearest ∷ Up ∷ None ∷ []) n None
 
+-- "shafaq 0 to 2, in its enum's order"
 unfoldable pub shafaqNumberOf : Shafaq → ℕ
 shafaqNumberOf General = 0
 shafaqNumberOf Ahmer = 1
 shafaqNumberOf Abyad = 2
 
-abbrev pub shafaqs : List Shafaq
-shafaqs = General ∷ Ahmer ∷ []
-
 unfoldable pub shafaqOf : ℕ → Shafaq
-shafaqOf n = getD shafaqs n Abyad
+shafaqOf n = getD (General ∷ Ahmer ∷ Abyad ∷ []) n Abyad
 
+-- "madhab 1 or 2"
 unfoldable pub madhabNumberOf : Madhab → ℕ
 madhabNumberOf Shafi = 1
 madhabNumberOf Hanafi = 2
 
 unfoldable pub madhabOf : ℕ → Madhab
-madhabOf n = getD (Hanafi ∷ Shafi ∷ []) n Hanafi
+madhabOf n = getD (Hanafi ∷ Shafi ∷ Hanafi ∷ []) n Hanafi
 
+-- "high latitude rule 0 to 2, in its enum's order"
 unfoldable pub ruleNumberOf : HighLatitudeRule → ℕ
 ruleNumberOf MiddleOfTheNight = 0
 ruleNumberOf SeventhOfTheNight = 1
 ruleNumberOf TwilightAngle = 2
 
-abbrev pub rules : List HighLatitudeRule
-rules = MiddleOfTheNight ∷ SeventhOfTheNight ∷ []
-
 unfoldable pub ruleOf : ℕ → HighLatitudeRule
-ruleOf n = getD rules n TwilightAngle
+ruleOf n = getD (MiddleOfTheNight ∷ SeventhOfTheNight ∷ TwilightAngle ∷ []) n TwilightAngle
 
--- tag 15
+-- request 1, tag 15
 unfoldable pub midnightNumberOf : Midnight → ℕ
 midnightNumberOf Stops = 0
 midnightNumberOf Carries = 1
 
 unfoldable pub midnightOf : ℕ → Midnight
-midnightOf n = getD (Stops ∷ []) n Carries
+midnightOf n = getD (Stops ∷ Carries ∷ []) n Carries
 
--- tag 17
+-- request 3, tag 17
 unfoldable pub southernNumberOf : Southern → ℕ
 southernNumberOf Unreduced = 0
 southernNumberOf StartsAgain = 1
 
 unfoldable pub southernOf : ℕ → Southern
-southernOf n = getD (Unreduced ∷ []) n StartsAgain
+southernOf n = getD (Unreduced ∷ StartsAgain ∷ []) n StartsAgain
 
+-- "method 0 to 12, in `Method`'s order"
 unfoldable pub methodNumberOf : Method → ℕ
 methodNumberOf MuslimWorldLeague = 0
 methodNumberOf Egyptian = 1
@@ -92,11 +88,12 @@ methodNumberOf Turkey = 11
 methodNumberOf Other = 12
 
 abbrev pub methods : List Method
-methods = MuslimWorldLeague ∷ Egyptian ∷ Karachi ∷ UmmAlQura ∷ Dubai ∷ MoonsightingCommittee ∷ NorthAmerica ∷ Kuwait ∷ Qatar ∷ Singapore ∷ Tehran ∷ Turkey ∷ []
+methods = MuslimWorldLeague ∷ Egyptian ∷ Karachi ∷ UmmAlQura ∷ Dubai ∷ MoonsightingCommittee ∷ NorthAmerica ∷ Kuwait ∷ Qatar ∷ Singapore ∷ Tehran ∷ Turkey ∷ Other ∷ []
 
 unfoldable pub methodOf : ℕ → Method
 methodOf n = getD methods n Other
 
+-- "the list Fajr, Sunrise, Dhuhr, Asr, Maghrib, Isha, Qiyam, FajrTomorrow", from 1; 0 is none in force
 unfoldable pub prayerNumberOf : Prayer → ℕ
 prayerNumberOf Fajr = 1
 prayerNumberOf Sunrise = 2
@@ -108,7 +105,7 @@ prayerNumberOf Qiyam = 7
 prayerNumberOf FajrTomorrow = 8
 
 abbrev pub prayers : List Prayer
-prayers = FajrTomorrow ∷ Fajr ∷ Sunrise ∷ Dhuhr ∷ Asr ∷ Maghrib ∷ Isha ∷ Qiyam ∷ []
+prayers = FajrTomorrow ∷ Fajr ∷ Sunrise ∷ Dhuhr ∷ Asr ∷ Maghrib ∷ Isha ∷ Qiyam ∷ FajrTomorrow ∷ []
 
 unfoldable pub prayerOf : ℕ → Prayer
 prayerOf n = getD prayers n FajrTomorrow

@@ -1,36 +1,25 @@
--- method.rs: each method's preset, a line a method.
+-- method.rs: "each method brings its own angles, minutes and rounding" (document 01), a line a method.
 use Prim.Native.Nat.{ℕ}
 use lib.IntN.{pos, negℤ}
 use Rattle.float64.specs.Ops.{dec}
 use Rattle.models.specs.declared.adjustments.TimeAdjustment.{TimeAdjustment}
-use Rattle.models.specs.declared.high_altitude_rule.HighLatitudeRule.the-variants.{MiddleOfTheNight}
 use Rattle.models.specs.declared.madhab.Madhab.{Madhab}
-use Rattle.models.specs.declared.madhab.Madhab.the-variants.{Shafi}
 use Rattle.models.specs.declared.method.Method.{Method}
 use Rattle.models.specs.declared.method.Method.the-variants.{MuslimWorldLeague, Egyptian, Karachi, UmmAlQura, Dubai, MoonsightingCommittee, NorthAmerica, Kuwait, Qatar, Singapore, Tehran, Turkey, Other}
 use Rattle.models.specs.declared.parameters.Parameters.{Parameters}
 use Rattle.models.specs.declared.rounding.Rounding.{Rounding}
 use Rattle.models.specs.declared.rounding.Rounding.the-variants.{Nearest, Up}
-use Rattle.models.specs.declared.shafaq.Shafaq.the-variants.{General}
-use Rattle.models.specs.Minutes.{sixMinutesOf, noMinutes}
+use Rattle.models.specs.Builder.{chosenOf, numberedOf}
+use Rattle.models.specs.Minutes.{sixMinutesOf}
+use Rattle.models.specs.Settings.{parametersNewOf}
 
--- the Fajr, Isha and Maghrib angles in tenths of a degree, the Isha interval, the method's minutes and its rounding
+-- the Fajr, Isha and Maghrib angles in tenths of a degree, the Isha interval, the method's minutes and its rounding; the rest as in Parameters::new
 unfoldable pub preset : Method → ℕ → ℕ → ℕ → ℕ → TimeAdjustment → Rounding → Parameters
-unfolding dec
+unfolding dec parametersNewOf
 preset method fajr isha maghrib interval minutes rounding =
-    record {
-      method = method;
-      «fajr_angle» = dec fajr 1;
-      «maghrib_angle» = dec maghrib 1;
-      «isha_angle» = dec isha 1;
-      «isha_interval» = pos interval;
-      madhab = Shafi;
-      «high_latitude_rule» = MiddleOfTheNight;
-      adjustments = noMinutes;
-      «method_adjustments» = minutes;
-      rounding = rounding;
-      shafaq = General;
-    }
+    let new = parametersNewOf (dec fajr 1) (dec isha 1) in
+    let p = numberedOf new (dec maghrib 1) (dec isha 1) (pos interval) minutes in
+    chosenOf p method (p .madhab) (p .«high_latitude_rule») rounding (p .shafaq)
 
 -- minutes of sunrise (taken off), Dhuhr, Asr and Maghrib (added)
 abbrev pub offset : ℕ → ℕ → ℕ → ℕ → TimeAdjustment
@@ -55,18 +44,4 @@ presetOf Other = preset Other 0 0 0 0 (offset 0 0 0 0) Nearest
 
 -- a preset with another madhab
 unfoldable pub withOf : Method → Madhab → Parameters
-withOf method madhab =
-    let p = presetOf method in
-    record {
-      method = p .method;
-      «fajr_angle» = p .«fajr_angle»;
-      «maghrib_angle» = p .«maghrib_angle»;
-      «isha_angle» = p .«isha_angle»;
-      «isha_interval» = p .«isha_interval»;
-      madhab = madhab;
-      «high_latitude_rule» = p .«high_latitude_rule»;
-      adjustments = p .adjustments;
-      «method_adjustments» = p .«method_adjustments»;
-      rounding = p .rounding;
-      shafaq = p .shafaq;
-    }
+withOf method madhab = let p = presetOf method in chosenOf p (p .method) madhab (p .«high_latitude_rule») (p .rounding) (p .shafaq)

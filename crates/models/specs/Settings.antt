@@ -15,7 +15,7 @@ use Rattle.models.specs.declared.rounding.Rounding.the-variants.{Nearest
 use Rattle.models.specs.declared.shafaq.Shafaq.the-variants.{General}
 use Rattle.models.specs.Minutes.{noMinutes}
 
--- both angles given, and everything else as it is where nothing is said
+-- `Parameters::new`: both angles given, and the rest by default
 unfoldable pub parametersNewOf : Float → Float → Parameters
 unfolding dec
 parametersNewOf fajr isha =
@@ -33,7 +33,7 @@ parametersNewOf fajr isha =
       shafaq = General;
     }
 
--- the portions of the night by which Fajr and Isha are bounded
+-- `night_portions`, by which the night is multiplied
 unfoldable pub portionsOf : HighLatitudeRule → Float → Float → NightPortions
 unfolding dec
 portionsOf MiddleOfTheNight fajr isha = record { fajr = dec 1 0 /ᶠ dec 2 0; isha = dec 1 0 /ᶠ dec 2 0 }
@@ -43,7 +43,7 @@ portionsOf TwilightAngle fajr isha = record { fajr = fajr /ᶠ dec 60 0; isha = 
 abbrev pub nightPortionsOf : Parameters → NightPortions
 nightPortionsOf p = portionsOf (p .«high_latitude_rule») (p .«fajr_angle») (p .«isha_angle»)
 
--- a prayer's minutes of one kind; Qiyam and tomorrow's Fajr have none of their own
+-- "The six prayers are tag 11's, sunrise among them" (document 01); Qiyam and tomorrow's Fajr have no minutes of their own
 unfoldable pub minutesFor : Prayer → TimeAdjustment → ℤ
 minutesFor Fajr m = m .fajr
 minutesFor Sunrise m = m .sunrise
@@ -54,6 +54,6 @@ minutesFor Isha m = m .isha
 minutesFor Qiyam m = pos 0
 minutesFor FajrTomorrow m = pos 0
 
--- a prayer's sum: own minutes and the method's
+-- "their minutes (own plus method's)" (document 01)
 unfoldable pub timeAdjustmentsOf : Parameters → Prayer → ℤ
 timeAdjustmentsOf p prayer = minutesFor prayer (p .adjustments) +ℤ minutesFor prayer (p .«method_adjustments»)

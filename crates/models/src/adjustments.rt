@@ -1,6 +1,6 @@
 // adjustments.rs: minutes to add to each of six times, negative ones too. They are i32 here, so that the sum of two fits an i64.
 ghost use mathlib.Core.Path.{_≡_};
-ghost use Rattle.models.specs.Minutes.{sixMinutesOf, noMinutes, builderOf, builtOf};
+ghost use Rattle.models.specs.Minutes.{sixMinutesOf, noMinutes, builderOf};
 
 #[repr(C)]
 pub struct TimeAdjustment {
@@ -51,81 +51,69 @@ impl TimeAdjustment {
 
 // Builds a TimeAdjustment, a field at a time.
 pub struct Adjustment {
-    pub fajr: i32,
-    pub sunrise: i32,
-    pub dhuhr: i32,
-    pub asr: i32,
-    pub maghrib: i32,
-    pub isha: i32,
+    pub minutes: TimeAdjustment,
 }
 
 impl Adjustment {
     pub fn new() -> Adjustment
         ensures { λ r. ⌜ r ≡ builderOf noMinutes ⌝ }
     {
-        let none = TimeAdjustment::NONE;
         Adjustment {
-            fajr: none.fajr,
-            sunrise: none.sunrise,
-            dhuhr: none.dhuhr,
-            asr: none.asr,
-            maghrib: none.maghrib,
-            isha: none.isha,
+            minutes: TimeAdjustment::NONE,
         }
     }
 
-    pub fn fajr(mut self, fajr: i32) -> Adjustment
-        ensures { λ r. ⌜ r ≡ builderOf (sixMinutesOf fajr (self .sunrise) (self .dhuhr) (self .asr) (self .maghrib) (self .isha)) ⌝ }
+    pub fn fajr(self, fajr: i32) -> Adjustment
+        ensures { λ r. ⌜ r ≡ builderOf (sixMinutesOf fajr (self .minutes .sunrise) (self .minutes .dhuhr) (self .minutes .asr) (self .minutes .maghrib) (self .minutes .isha)) ⌝ }
     {
-        self.fajr = fajr;
-        self
+        let mut minutes = self.minutes;
+        minutes.fajr = fajr;
+        Adjustment { minutes: minutes }
     }
 
-    pub fn sunrise(mut self, sunrise: i32) -> Adjustment
-        ensures { λ r. ⌜ r ≡ builderOf (sixMinutesOf (self .fajr) sunrise (self .dhuhr) (self .asr) (self .maghrib) (self .isha)) ⌝ }
+    pub fn sunrise(self, sunrise: i32) -> Adjustment
+        ensures { λ r. ⌜ r ≡ builderOf (sixMinutesOf (self .minutes .fajr) sunrise (self .minutes .dhuhr) (self .minutes .asr) (self .minutes .maghrib) (self .minutes .isha)) ⌝ }
     {
-        self.sunrise = sunrise;
-        self
+        let mut minutes = self.minutes;
+        minutes.sunrise = sunrise;
+        Adjustment { minutes: minutes }
     }
 
-    pub fn dhuhr(mut self, dhuhr: i32) -> Adjustment
-        ensures { λ r. ⌜ r ≡ builderOf (sixMinutesOf (self .fajr) (self .sunrise) dhuhr (self .asr) (self .maghrib) (self .isha)) ⌝ }
+    pub fn dhuhr(self, dhuhr: i32) -> Adjustment
+        ensures { λ r. ⌜ r ≡ builderOf (sixMinutesOf (self .minutes .fajr) (self .minutes .sunrise) dhuhr (self .minutes .asr) (self .minutes .maghrib) (self .minutes .isha)) ⌝ }
     {
-        self.dhuhr = dhuhr;
-        self
+        let mut minutes = self.minutes;
+        minutes.dhuhr = dhuhr;
+        Adjustment { minutes: minutes }
     }
 
-    pub fn asr(mut self, asr: i32) -> Adjustment
-        ensures { λ r. ⌜ r ≡ builderOf (sixMinutesOf (self .fajr) (self .sunrise) (self .dhuhr) asr (self .maghrib) (self .isha)) ⌝ }
+    pub fn asr(self, asr: i32) -> Adjustment
+        ensures { λ r. ⌜ r ≡ builderOf (sixMinutesOf (self .minutes .fajr) (self .minutes .sunrise) (self .minutes .dhuhr) asr (self .minutes .maghrib) (self .minutes .isha)) ⌝ }
     {
-        self.asr = asr;
-        self
+        let mut minutes = self.minutes;
+        minutes.asr = asr;
+        Adjustment { minutes: minutes }
     }
 
-    pub fn maghrib(mut self, maghrib: i32) -> Adjustment
-        ensures { λ r. ⌜ r ≡ builderOf (sixMinutesOf (self .fajr) (self .sunrise) (self .dhuhr) (self .asr) maghrib (self .isha)) ⌝ }
+    pub fn maghrib(self, maghrib: i32) -> Adjustment
+        ensures { λ r. ⌜ r ≡ builderOf (sixMinutesOf (self .minutes .fajr) (self .minutes .sunrise) (self .minutes .dhuhr) (self .minutes .asr) maghrib (self .minutes .isha)) ⌝ }
     {
-        self.maghrib = maghrib;
-        self
+        let mut minutes = self.minutes;
+        minutes.maghrib = maghrib;
+        Adjustment { minutes: minutes }
     }
 
-    pub fn isha(mut self, isha: i32) -> Adjustment
-        ensures { λ r. ⌜ r ≡ builderOf (sixMinutesOf (self .fajr) (self .sunrise) (self .dhuhr) (self .asr) (self .maghrib) isha) ⌝ }
+    pub fn isha(self, isha: i32) -> Adjustment
+        ensures { λ r. ⌜ r ≡ builderOf (sixMinutesOf (self .minutes .fajr) (self .minutes .sunrise) (self .minutes .dhuhr) (self .minutes .asr) (self .minutes .maghrib) isha) ⌝ }
     {
-        self.isha = isha;
-        self
+        let mut minutes = self.minutes;
+        minutes.isha = isha;
+        Adjustment { minutes: minutes }
     }
 
     pub fn done(self) -> TimeAdjustment
-        ensures { λ r. ⌜ r ≡ builtOf self ⌝ }
+        ensures { λ r. ⌜ r ≡ self .minutes ⌝ }
     {
-        TimeAdjustment {
-            fajr: self.fajr,
-            sunrise: self.sunrise,
-            dhuhr: self.dhuhr,
-            asr: self.asr,
-            maghrib: self.maghrib,
-            isha: self.isha,
-        }
+        self.minutes
     }
 }

@@ -35,17 +35,18 @@ impl HighLatitudeRule {
         }
     }
 
-    // The cases by number but the last, which any other number gives.
-    pub const BY_NUMBER: [HighLatitudeRule; 2] = [
+    // The cases by number.
+    pub const BY_NUMBER: [HighLatitudeRule; 3] = [
         HighLatitudeRule::MiddleOfTheNight,
         HighLatitudeRule::SeventhOfTheNight,
+        HighLatitudeRule::TwilightAngle,
     ];
 
-    // And back.
+    // Inverse of `number`. Any other number gives the last case.
     pub fn of_number(n: u32) -> HighLatitudeRule
         ensures { λ r. ⌜ r ≡ ruleOf n ⌝ }
     {
-        if n < 2 {
+        if n < 3 {
             HighLatitudeRule::BY_NUMBER[n as usize]
         } else {
             HighLatitudeRule::TwilightAngle

@@ -26,7 +26,7 @@ impl Madhab {
         }
     }
 
-    // And back; any other number is the last one's.
+    // Inverse of `number`. Any other number gives the last case.
     pub fn of_number(n: u32) -> Madhab
         ensures { λ r. ⌜ r ≡ madhabOf n ⌝ }
     {

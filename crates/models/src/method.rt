@@ -135,8 +135,8 @@ impl Method {
         }
     }
 
-    // The cases by number but the last, which any other number gives.
-    pub const BY_NUMBER: [Method; 12] = [
+    // The cases by number.
+    pub const BY_NUMBER: [Method; 13] = [
         Method::MuslimWorldLeague,
         Method::Egyptian,
         Method::Karachi,
@@ -149,13 +149,14 @@ impl Method {
         Method::Singapore,
         Method::Tehran,
         Method::Turkey,
+        Method::Other,
     ];
 
-    // And back.
+    // Inverse of `number`. Any other number gives the last case.
     pub fn of_number(n: u32) -> Method
         ensures { λ r. ⌜ r ≡ methodOf n ⌝ }
     {
-        if n < 12 {
+        if n < 13 {
             Method::BY_NUMBER[n as usize]
         } else {
             Method::Other

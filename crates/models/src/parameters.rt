@@ -4,7 +4,7 @@ ghost use Prim.Native.Nat.{_^_};
 ghost use lib.IntN.{_+ℤ_};
 ghost use Rattle.integers.specs.Parts.{Near};
 ghost use Rattle.models.specs.Settings.{parametersNewOf, nightPortionsOf, minutesFor, timeAdjustmentsOf};
-ghost use Rattle.models.specs.Builder.{configurationOf, doneOf, chosenOf, setMethod, setMethodAdjustments, setHighLatitudeRule, setMadhab, setIshaInterval, setMaghribAngle, setRounding, setShafaq};
+ghost use Rattle.models.specs.Builder.{configurationOf, chosenOf, setMethod, setMethodAdjustments, setHighLatitudeRule, setMadhab, setIshaInterval, setMaghribAngle, setRounding, setShafaq};
 ghost use Rattle.models.specs.Presets.{withOf};
 use super::adjustments::TimeAdjustment;
 use super::high_altitude_rule::HighLatitudeRule;
@@ -57,7 +57,7 @@ pub struct NightPortions {
 }
 
 impl Parameters {
-    // What holds where nothing is said.
+    // The defaults.
     pub const METHOD: Method = Method::Other;
 
     pub const MAGHRIB_ANGLE: f64 = 0.0;
@@ -92,6 +92,34 @@ impl Parameters {
         }
     }
 
+    // The choices as given, the numbers as they were.
+    fn choosing(
+        self,
+        method: Method,
+        madhab: Madhab,
+        high_latitude_rule: HighLatitudeRule,
+        rounding: Rounding,
+        shafaq: Shafaq,
+    ) -> Parameters
+        ensures { λ r. ⌜ r ≡ chosenOf self method madhab «high_latitude_rule» rounding shafaq ⌝ }
+    {
+        let adjustments = self.adjustments;
+        let method_adjustments = self.method_adjustments;
+        Parameters {
+            method: method,
+            fajr_angle: self.fajr_angle,
+            maghrib_angle: self.maghrib_angle,
+            isha_angle: self.isha_angle,
+            isha_interval: self.isha_interval,
+            madhab: madhab,
+            high_latitude_rule: high_latitude_rule,
+            adjustments: adjustments,
+            method_adjustments: method_adjustments,
+            rounding: rounding,
+            shafaq: shafaq,
+        }
+    }
+
     // The portions of the night by which Fajr and Isha are bounded.
     pub fn night_portions(self) -> NightPortions
         ensures { λ r. ⌜ r ≡ nightPortionsOf self ⌝ }
@@ -113,7 +141,7 @@ impl Parameters {
         }
     }
 
-    // A prayer's own minutes and the method's. That they are no more than two i32 is promised too, so that who adds them up knows.
+    // A prayer's own minutes plus the method's. The bound is promised too, for callers that add to the sum.
     pub fn time_adjustments(self, prayer: Prayer) -> i64
         ensures { λ r. ⌜ (r ≡ timeAdjustmentsOf self prayer) × Near (2 ^ 32) r ⌝ }
     {
@@ -125,17 +153,7 @@ impl Parameters {
 
 // Builds Parameters, a field at a time.
 pub struct Configuration {
-    pub method: Method,
-    pub fajr_angle: f64,
-    pub maghrib_angle: f64,
-    pub isha_angle: f64,
-    pub isha_interval: i32,
-    pub madhab: Madhab,
-    pub high_latitude_rule: HighLatitudeRule,
-    pub adjustments: TimeAdjustment,
-    pub method_adjustments: TimeAdjustment,
-    pub rounding: Rounding,
-    pub shafaq: Shafaq,
+    pub parameters: Parameters,
 }
 
 impl Configuration {
@@ -143,169 +161,116 @@ impl Configuration {
         ensures { λ r. ⌜ r ≡ configurationOf (parametersNewOf «fajr_angle» «isha_angle») ⌝ }
     {
         Configuration {
-            fajr_angle: fajr_angle,
-            maghrib_angle: Parameters::MAGHRIB_ANGLE,
-            isha_angle: isha_angle,
-            method: Parameters::METHOD,
-            isha_interval: Parameters::ISHA_INTERVAL,
-            madhab: Parameters::MADHAB,
-            high_latitude_rule: Parameters::HIGH_LATITUDE_RULE,
-            adjustments: Parameters::ADJUSTMENTS,
-            method_adjustments: Parameters::ADJUSTMENTS,
-            rounding: Parameters::ROUNDING,
-            shafaq: Parameters::SHAFAQ,
-        }
-    }
-
-    // The choices anew, the numbers as they were.
-    fn choosing(
-        self,
-        method: Method,
-        madhab: Madhab,
-        high_latitude_rule: HighLatitudeRule,
-        rounding: Rounding,
-        shafaq: Shafaq,
-    ) -> Configuration
-        ensures { λ r. ⌜ r ≡ chosenOf self method madhab «high_latitude_rule» rounding shafaq ⌝ }
-    {
-        let adjustments = self.adjustments;
-        let method_adjustments = self.method_adjustments;
-        Configuration {
-            method: method,
-            fajr_angle: self.fajr_angle,
-            maghrib_angle: self.maghrib_angle,
-            isha_angle: self.isha_angle,
-            isha_interval: self.isha_interval,
-            madhab: madhab,
-            high_latitude_rule: high_latitude_rule,
-            adjustments: adjustments,
-            method_adjustments: method_adjustments,
-            rounding: rounding,
-            shafaq: shafaq,
+            parameters: Parameters::new(fajr_angle, isha_angle),
         }
     }
 
     pub fn method(self, value: Method) -> Configuration
         ensures { λ r. ⌜ r ≡ setMethod self value ⌝ }
     {
-        let madhab = self.madhab;
-        let high_latitude_rule = self.high_latitude_rule;
-        let rounding = self.rounding;
-        let shafaq = self.shafaq;
-        self.choosing(value, madhab, high_latitude_rule, rounding, shafaq)
+        let p = self.parameters;
+        let madhab = p.madhab;
+        let high_latitude_rule = p.high_latitude_rule;
+        let rounding = p.rounding;
+        let shafaq = p.shafaq;
+        Configuration {
+            parameters: p.choosing(value, madhab, high_latitude_rule, rounding, shafaq),
+        }
     }
 
-    pub fn method_adjustments(mut self, method_adjustments: TimeAdjustment) -> Configuration
+    pub fn method_adjustments(self, method_adjustments: TimeAdjustment) -> Configuration
         ensures { λ r. ⌜ r ≡ setMethodAdjustments self «method_adjustments» ⌝ }
     {
-        self.method_adjustments = method_adjustments;
-        self
+        let mut p = self.parameters;
+        p.method_adjustments = method_adjustments;
+        Configuration { parameters: p }
     }
 
     pub fn high_latitude_rule(self, value: HighLatitudeRule) -> Configuration
         ensures { λ r. ⌜ r ≡ setHighLatitudeRule self value ⌝ }
     {
-        let method = self.method;
-        let madhab = self.madhab;
-        let rounding = self.rounding;
-        let shafaq = self.shafaq;
-        self.choosing(method, madhab, value, rounding, shafaq)
+        let p = self.parameters;
+        let method = p.method;
+        let madhab = p.madhab;
+        let rounding = p.rounding;
+        let shafaq = p.shafaq;
+        Configuration {
+            parameters: p.choosing(method, madhab, value, rounding, shafaq),
+        }
     }
 
     pub fn madhab(self, value: Madhab) -> Configuration
         ensures { λ r. ⌜ r ≡ setMadhab self value ⌝ }
     {
-        let method = self.method;
-        let high_latitude_rule = self.high_latitude_rule;
-        let rounding = self.rounding;
-        let shafaq = self.shafaq;
-        self.choosing(method, value, high_latitude_rule, rounding, shafaq)
+        let p = self.parameters;
+        let method = p.method;
+        let high_latitude_rule = p.high_latitude_rule;
+        let rounding = p.rounding;
+        let shafaq = p.shafaq;
+        Configuration {
+            parameters: p.choosing(method, value, high_latitude_rule, rounding, shafaq),
+        }
     }
 
     // An interval takes the place of the Isha angle.
-    pub fn isha_interval(mut self, isha_interval: i32) -> Configuration
+    pub fn isha_interval(self, isha_interval: i32) -> Configuration
         ensures { λ r. ⌜ r ≡ setIshaInterval self «isha_interval» ⌝ }
     {
-        self.isha_angle = 0.0;
-        self.isha_interval = isha_interval;
-        self
+        let mut p = self.parameters;
+        p.isha_angle = 0.0;
+        p.isha_interval = isha_interval;
+        Configuration { parameters: p }
     }
 
-    pub fn maghrib_angle(mut self, angle: f64) -> Configuration
+    pub fn maghrib_angle(self, angle: f64) -> Configuration
         ensures { λ r. ⌜ r ≡ setMaghribAngle self angle ⌝ }
     {
-        self.maghrib_angle = angle;
-        self
+        let mut p = self.parameters;
+        p.maghrib_angle = angle;
+        Configuration { parameters: p }
     }
 
     pub fn rounding(self, value: Rounding) -> Configuration
         ensures { λ r. ⌜ r ≡ setRounding self value ⌝ }
     {
-        let method = self.method;
-        let madhab = self.madhab;
-        let high_latitude_rule = self.high_latitude_rule;
-        let shafaq = self.shafaq;
-        self.choosing(method, madhab, high_latitude_rule, value, shafaq)
+        let p = self.parameters;
+        let method = p.method;
+        let madhab = p.madhab;
+        let high_latitude_rule = p.high_latitude_rule;
+        let shafaq = p.shafaq;
+        Configuration {
+            parameters: p.choosing(method, madhab, high_latitude_rule, value, shafaq),
+        }
     }
 
     pub fn shafaq(self, value: Shafaq) -> Configuration
         ensures { λ r. ⌜ r ≡ setShafaq self value ⌝ }
     {
-        let method = self.method;
-        let madhab = self.madhab;
-        let high_latitude_rule = self.high_latitude_rule;
-        let rounding = self.rounding;
-        self.choosing(method, madhab, high_latitude_rule, rounding, value)
+        let p = self.parameters;
+        let method = p.method;
+        let madhab = p.madhab;
+        let high_latitude_rule = p.high_latitude_rule;
+        let rounding = p.rounding;
+        Configuration {
+            parameters: p.choosing(method, madhab, high_latitude_rule, rounding, value),
+        }
     }
 
     pub fn done(self) -> Parameters
-        ensures { λ r. ⌜ r ≡ doneOf self ⌝ }
+        ensures { λ r. ⌜ r ≡ self .parameters ⌝ }
     {
-        let method = self.method;
-        let madhab = self.madhab;
-        let high_latitude_rule = self.high_latitude_rule;
-        let rounding = self.rounding;
-        let shafaq = self.shafaq;
-        let own = self.adjustments;
-        let preset = self.method_adjustments;
-        Parameters {
-            method: method,
-            fajr_angle: self.fajr_angle,
-            maghrib_angle: self.maghrib_angle,
-            isha_angle: self.isha_angle,
-            isha_interval: self.isha_interval,
-            madhab: madhab,
-            high_latitude_rule: high_latitude_rule,
-            adjustments: own,
-            method_adjustments: preset,
-            rounding: rounding,
-            shafaq: shafaq,
-        }
+        self.parameters
     }
 
     // A method's preset with another madhab.
     pub fn with(method: Method, madhab: Madhab) -> Parameters
         ensures { λ r. ⌜ r ≡ withOf method madhab ⌝ }
     {
-        let preset = method.parameters();
-        let method = preset.method;
-        let high_latitude_rule = preset.high_latitude_rule;
-        let rounding = preset.rounding;
-        let shafaq = preset.shafaq;
-        let adjustments = preset.adjustments;
-        let method_adjustments = preset.method_adjustments;
-        Parameters {
-            method: method,
-            fajr_angle: preset.fajr_angle,
-            maghrib_angle: preset.maghrib_angle,
-            isha_angle: preset.isha_angle,
-            isha_interval: preset.isha_interval,
-            madhab: madhab,
-            high_latitude_rule: high_latitude_rule,
-            adjustments: adjustments,
-            method_adjustments: method_adjustments,
-            rounding: rounding,
-            shafaq: shafaq,
-        }
+        let p = method.parameters();
+        let method = p.method;
+        let high_latitude_rule = p.high_latitude_rule;
+        let rounding = p.rounding;
+        let shafaq = p.shafaq;
+        p.choosing(method, madhab, high_latitude_rule, rounding, shafaq)
     }
 }

@@ -54,7 +54,7 @@ fn is_friday(seconds: i64) -> bool
 }
 
 impl Prayer {
-    // Its name at an instant: where the crate reads the clock, the instant is given.
+    // Its name at an instant. The crate reads the clock; here the instant is given.
     pub fn name(self, seconds: i64) -> Name
         ensures { λ r. ⌜ r ≡ prayerNameOf self seconds ⌝ }
     {
@@ -92,8 +92,8 @@ impl Prayer {
         }
     }
 
-    // The cases by number but the last, which any other number gives.
-    pub const BY_NUMBER: [Prayer; 8] = [
+    // The cases by number. 0 names none.
+    pub const BY_NUMBER: [Prayer; 9] = [
         Prayer::FajrTomorrow,
         Prayer::Fajr,
         Prayer::Sunrise,
@@ -102,13 +102,14 @@ impl Prayer {
         Prayer::Maghrib,
         Prayer::Isha,
         Prayer::Qiyam,
+        Prayer::FajrTomorrow,
     ];
 
-    // And back.
+    // Inverse of `number`. Any other number gives the last case.
     pub fn of_number(n: u32) -> Prayer
         ensures { λ r. ⌜ r ≡ prayerOf n ⌝ }
     {
-        if n < 8 {
+        if n < 9 {
             Prayer::BY_NUMBER[n as usize]
         } else {
             Prayer::FajrTomorrow

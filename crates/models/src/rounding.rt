@@ -20,14 +20,14 @@ impl Rounding {
         }
     }
 
-    // The cases by number but the last, which any other number gives.
-    pub const BY_NUMBER: [Rounding; 2] = [Rounding::Nearest, Rounding::Up];
+    // The cases by number.
+    pub const BY_NUMBER: [Rounding; 3] = [Rounding::Nearest, Rounding::Up, Rounding::None];
 
-    // And back.
+    // Inverse of `number`. Any other number gives the last case.
     pub fn of_number(n: u32) -> Rounding
         ensures { λ r. ⌜ r ≡ roundingOf n ⌝ }
     {
-        if n < 2 {
+        if n < 3 {
             Rounding::BY_NUMBER[n as usize]
         } else {
             Rounding::None

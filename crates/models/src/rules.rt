@@ -1,4 +1,4 @@
-// The rules that an order chooses in place of the source's (added). They stand beside Parameters, which stay the source's own.
+// The rules that an order chooses in place of the source's (added). They are kept beside Parameters, which stay the source's own.
 ghost use mathlib.Core.Path.{_≡_};
 ghost use Rattle.models.specs.Numbers.{midnightNumberOf, midnightOf, southernNumberOf, southernOf};
 ghost use Rattle.models.specs.Chosen.{sourceRules};
@@ -22,7 +22,7 @@ impl Midnight {
         }
     }
 
-    // And back.
+    // Inverse of `number`. Any other number gives the last case.
     pub fn of_number(n: u32) -> Midnight
         ensures { λ r. ⌜ r ≡ midnightOf n ⌝ }
     {
@@ -52,7 +52,7 @@ impl Southern {
         }
     }
 
-    // And back.
+    // Inverse of `number`. Any other number gives the last case.
     pub fn of_number(n: u32) -> Southern
         ensures { λ r. ⌜ r ≡ southernOf n ⌝ }
     {
@@ -68,7 +68,7 @@ pub struct Rules {
     pub southern: Southern,
 }
 
-// What the season goes by beside the date.
+// What the season depends on beside the date.
 pub struct Season {
     pub latitude: f64,
     pub southern: Southern,

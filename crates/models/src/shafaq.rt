@@ -23,14 +23,14 @@ impl Shafaq {
         }
     }
 
-    // The cases by number but the last, which any other number gives.
-    pub const BY_NUMBER: [Shafaq; 2] = [Shafaq::General, Shafaq::Ahmer];
+    // The cases by number.
+    pub const BY_NUMBER: [Shafaq; 3] = [Shafaq::General, Shafaq::Ahmer, Shafaq::Abyad];
 
-    // And back.
+    // Inverse of `number`. Any other number gives the last case.
     pub fn of_number(n: u32) -> Shafaq
         ensures { λ r. ⌜ r ≡ shafaqOf n ⌝ }
     {
-        if n < 2 {
+        if n < 3 {
             Shafaq::BY_NUMBER[n as usize]
         } else {
             Shafaq::Abyad

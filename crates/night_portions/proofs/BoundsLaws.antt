@@ -1,7 +1,7 @@
--- The portions by which Fajr and Isha are bounded: what an order's parameters give is no more than half, so a bound lies in its half of the night, and the
--- cast to i32 gives what the source's cast to i64 gives. Over the definitions of `Portions`. Assumes nothing.
+-- The portions by which Fajr and Isha are bounded: what an order's parameters give is no more than half, so a bound lies in its half of the night. Over the
+-- definitions of `Portions`. Assumes nothing.
 use Rattle.prelude.proofs.Logic.{_≡_, refl, sym, ap, _∙_, Bool, true, false, not, ℕ, suc, _*_, _^_, _≤_, le-trans, arith, lit<, lit≤, ℤ, pos, negsuc, negℤ, negℤ-negℤ}
-use Rattle.float64.proofs.Floats.{Float, round, neg, le, ofInt, toSigned, HasValue, dec, from-zero, signed}
+use Rattle.float64.proofs.Floats.{Float, round, le, ofInt, HasValue, dec, from-zero, signed}
 use Rattle.integers.proofs.Integers.{P, N, Near, flip}
 use Rattle.night_portions.specs.Portions.{nightFractionOf, portionAfterOf, portionBeforeOf}
 use Rattle.night_portions.proofs.Halves.{Halved, night, product-halved}
@@ -54,11 +54,11 @@ module _ (p : Float) (n : ℤ) (h : Portion p) (k : Short n) where
 
   after-is : portionAfterOf p n ≡ signed (negative n) (cuts .whole)
   unfolding portionAfterOf
-  after-is = cuts .cast 31 (seconds-most n k) (lit< tt)
+  after-is = cuts .cast 63 (le-trans (seconds-most n k) (lit≤ tt)) (lit< tt)
 
   before-is : portionBeforeOf p n ≡ signed (not (negative n)) (cuts .whole)
   unfolding portionBeforeOf
-  before-is = cuts .opposite 31 (seconds-most n k) (lit< tt)
+  before-is = cuts .opposite 63 (le-trans (seconds-most n k) (lit≤ tt)) (lit< tt)
 
   -- no more than half of the night: after sunset for Isha, before sunrise for Fajr
   pub after-half : (P (portionAfterOf p n) * 2 ≤ P n) × (N (portionAfterOf p n) * 2 ≤ N n)
@@ -70,10 +70,3 @@ module _ (p : Float) (n : ℤ) (h : Portion p) (k : Short n) where
   -- the two are opposites
   pub before-after : portionBeforeOf p n ≡ negℤ (portionAfterOf p n)
   before-after = before-is ∙ opposites (negative n) (cuts .whole) ∙ ap negℤ (sym after-is)
-
-  -- the source's casts give the same
-  pub after-source : portionAfterOf p n ≡ toSigned 63 (nightFractionOf p n)
-  after-source = after-is ∙ sym (cuts .cast 63 (le-trans (seconds-most n k) (lit≤ tt)) (lit< tt))
-
-  pub before-source : portionBeforeOf p n ≡ toSigned 63 (neg (nightFractionOf p n))
-  before-source = before-is ∙ sym (cuts .opposite 63 (le-trans (seconds-most n k) (lit≤ tt)) (lit< tt))

@@ -1,31 +1,32 @@
--- schedule.rs: portions of a night in f64, cut toward zero to whole seconds. A night is a number of seconds, and may be negative.
+-- schedule.rs: portions of a night in f64, cut toward zero to whole seconds. A night is a number of seconds: "the portion is cut toward zero, also when
+-- the night is negative".
 use lib.IntN.{ℤ, pos}
 use lib.Signed.{quotZ}
 use lib.Ieee.{Float, binary64, neg, ofInt, toSigned}
 use Rattle.float64.specs.Ops.{_*ᶠ_, _/ᶠ_, dec}
 
--- a portion of a night, not cut yet
+-- `portion * (night.num_seconds() as f64)`
 abbrev pub nightFractionOf : Float → ℤ → Float
 nightFractionOf portion night = portion *ᶠ ofInt binary64 night
 
--- what Isha's bound adds to sunset
+-- calculate_isha: `night_fraction as i64`, which is added to sunset
 unfoldable pub portionAfterOf : Float → ℤ → ℤ
-portionAfterOf portion night = toSigned 31 (nightFractionOf portion night)
+portionAfterOf portion night = toSigned 63 (nightFractionOf portion night)
 
--- what Fajr's bound adds to sunrise: the negated portion is cut
+-- calculate_fajr: `-night_fraction as i64`, which is added to sunrise
 unfoldable pub portionBeforeOf : Float → ℤ → ℤ
-portionBeforeOf portion night = toSigned 31 (neg (nightFractionOf portion night))
+portionBeforeOf portion night = toSigned 63 (neg (nightFractionOf portion night))
 
--- a seventh in whole numbers
+-- "a seventh of the night (whole seconds, cut toward zero)"
 unfoldable pub seventhOf : ℤ → ℤ
 seventhOf night = quotZ night (pos 7)
 
--- the middle of the night, from its start
+-- calculate_qiyam: `(night_duration / 2.0) as i64`
 unfoldable pub middleOf : ℤ → ℤ
 unfolding dec
 middleOf night = toSigned 63 (ofInt binary64 night /ᶠ dec 2 0)
 
--- its last third, from its start: two thirds of the way
+-- `(night_duration * (2.0 / 3.0)) as i64`
 unfoldable pub lastThirdOf : ℤ → ℤ
 unfolding dec
 lastThirdOf night = toSigned 63 (ofInt binary64 night *ᶠ (dec 2 0 /ᶠ dec 3 0))

@@ -1,9 +1,6 @@
 // schedule.rs: portions of a night, cut toward zero to whole seconds, also where the night is negative.
-// The source casts the portions of Fajr and Isha to i64. From an i32 every later sum fits with nothing to refuse, and the two casts give the same for
-// what an order's parameters give, no more than half of a night, of up to 2^31 seconds (after-source and before-source of proofs/BoundsLaws).
 ghost use mathlib.Core.Path.{_≡_};
 ghost use Rattle.night_portions.specs.Portions.{portionAfterOf, portionBeforeOf, seventhOf, middleOf, lastThirdOf};
-use float64::casts::to_i32;
 use float64::casts::to_i64;
 use std::num::nearest_i64_to_f64;
 
@@ -11,19 +8,19 @@ use std::num::nearest_i64_to_f64;
 const TWO_THIRDS: f64 = 2.0 / 3.0;
 
 // What Isha's bound adds to sunset.
-pub fn portion_after(portion: f64, night: i64) -> i32
+pub fn portion_after(portion: f64, night: i64) -> i64
     ensures { λ r. ⌜ r ≡ portionAfterOf portion night ⌝ }
 {
     let night_fraction = portion * nearest_i64_to_f64(night);
-    to_i32(night_fraction)
+    to_i64(night_fraction)
 }
 
 // What Fajr's bound adds to sunrise: the negated portion is cut.
-pub fn portion_before(portion: f64, night: i64) -> i32
+pub fn portion_before(portion: f64, night: i64) -> i64
     ensures { λ r. ⌜ r ≡ portionBeforeOf portion night ⌝ }
 {
     let night_fraction = portion * nearest_i64_to_f64(night);
-    to_i32(-night_fraction)
+    to_i64(-night_fraction)
 }
 
 // A seventh, which the MoonsightingCommittee method takes from latitude 55 on; in whole numbers.

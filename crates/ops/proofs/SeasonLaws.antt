@@ -1,6 +1,5 @@
--- The season's seconds are less than a day, at every latitude and on every day of a year, so an i32 holds what the source's i64 does. Over the definitions
--- of `Season`. Assumes nothing.
-use Rattle.prelude.proofs.Logic.{_≡_, sym, _∙_, Bool, true, false, ℕ, _^_, _≤_, _<_, arith, lit<, lit≤, pos}
+-- The season's seconds are less than a day, at every latitude and on every day of a year. Over the definitions of `Season`. Assumes nothing.
+use Rattle.prelude.proofs.Logic.{_≡_, Bool, true, false, ℕ, _≤_, arith, lit<, lit≤, pos}
 use Rattle.float64.proofs.Floats.{Float, neg, le, toSigned, _*ᶠ_, dec, roundOf, isNegativeOf, Within, within-signed, neg-within, mul-within, within-limits, wholeSize, signed, whole-most, cast-is, nearest-within}
 use Rattle.integers.proofs.Integers.{P, N, flip}
 use Rattle.models.specs.declared.{rules.Season.Season, shafaq.Shafaq.Shafaq}
@@ -20,19 +19,18 @@ module _ (minutes factor : Float) (h : Within minutes 1301 1) (k : Within factor
   unfolding rounded
   rounded-within = nearest-within (minutes *ᶠ factor) 78060 (lit< tt) (mul-within minutes factor 1301 60 1 1 78060 0 (lit< tt) (lit< tt) h k (lit< tt) (lit≤ tt) (lit≤ tt))
 
-  cast : (b : ℕ) → 78060 < 2 ^ b → toSigned b (roundOf (minutes *ᶠ factor)) ≡ signed (isNegativeOf rounded) (wholeSize rounded)
+  cast : toSigned 63 (roundOf (minutes *ᶠ factor)) ≡ signed (isNegativeOf rounded) (wholeSize rounded)
   unfolding rounded
-  cast b l = let m = whole-most rounded 78060 1 rounded-within in cast-is b (isNegativeOf rounded) rounded (within-signed rounded 78060 1 rounded-within) 78060 1 rounded-within (omega arith)
+  cast =
+      let m = whole-most rounded 78060 1 rounded-within in
+      cast-is 63 (isNegativeOf rounded) rounded (within-signed rounded 78060 1 rounded-within) 78060 1 rounded-within (omega arith)
 
   parts : (s : Bool) → (P (signed s (wholeSize rounded)) ≤ 86400) × (N (signed s (wholeSize rounded)) ≤ 86400)
   parts true = let m = whole-most rounded 78060 1 rounded-within in let f = flip (pos (wholeSize rounded)) in (omega arith, omega arith)
   parts false = let m = whole-most rounded 78060 1 rounded-within in (omega arith, lit≤ tt)
 
-  seconds-small : (P (toSigned 31 (roundOf (minutes *ᶠ factor))) ≤ 86400) × (N (toSigned 31 (roundOf (minutes *ᶠ factor))) ≤ 86400)
-  seconds-small = rw (cast 31 (lit< tt)) (parts (isNegativeOf rounded))
-
-  seconds-source : toSigned 31 (roundOf (minutes *ᶠ factor)) ≡ toSigned 63 (roundOf (minutes *ᶠ factor))
-  seconds-source = cast 31 (lit< tt) ∙ sym (cast 63 (lit< tt))
+  seconds-small : (P (toSigned 63 (roundOf (minutes *ᶠ factor))) ≤ 86400) × (N (toSigned 63 (roundOf (minutes *ᶠ factor))) ≤ 86400)
+  seconds-small = rw cast (parts (isNegativeOf rounded))
 
 -- ---- the laws
 sixty-within : Within (dec 60 0) 60 1
@@ -57,12 +55,3 @@ module _ (season : Season) (day year : ℕ) (south : le (neg (dec 90 0)) (season
   pub evening-small : (shafaq : Shafaq) → (P (eveningSecondsOf season day year shafaq) ≤ 86400) × (N (eveningSecondsOf season day year shafaq) ≤ 86400)
   unfolding eveningSecondsOf
   evening-small shafaq = seconds-small (seasonMinutesOf Evening season day year shafaq) (dec 60 0) (all-within Evening shafaq) sixty-within
-
-  -- the source's cast gives the same
-  pub morning-source : morningSecondsOf season day year ≡ toSigned 63 (roundOf (seasonMinutesOf Morning season day year General *ᶠ neg (dec 60 0)))
-  unfolding morningSecondsOf
-  morning-source = seconds-source (seasonMinutesOf Morning season day year General) (neg (dec 60 0)) (all-within Morning General) minus-sixty-within
-
-  pub evening-source : (shafaq : Shafaq) → eveningSecondsOf season day year shafaq ≡ toSigned 63 (roundOf (seasonMinutesOf Evening season day year shafaq *ᶠ dec 60 0))
-  unfolding eveningSecondsOf
-  evening-source shafaq = seconds-source (seasonMinutesOf Evening season day year shafaq) (dec 60 0) (all-within Evening shafaq) sixty-within

@@ -21,12 +21,12 @@ use Rattle.ops.specs.declared.season.AdjustmentDaytime.{AdjustmentDaytim
 use Rattle.ops.specs.declared.season.AdjustmentDaytime.the-variants.{Morning, Evening}
 use Rattle.ops.specs.declared.season.TwilightAdjustmentValues.{TwilightAdjustmentValues}
 
--- the day of the June solstice
+-- `southern_offset`, the day of the June solstice
 unfoldable pub southernOffsetOf : ℕ → ℕ
 southernOffsetOf year = cond (leapOf year) 173 172
 
--- Days since the solstice of winter, by the day of the year. From the equator north the count starts again with the year's days;
--- south of it, it is counted from June and is not reduced. A u32 holds it, and wraps.
+-- `days_since_solstice`, "latitude 0 northern: day 354 of a common year gives 364, day 355 gives 0. South it isn't reduced". "The u32 that wraps in the
+-- southern count: wrapping subtract."
 unfoldable pub daysSinceSolsticeOf : ℕ → ℕ → Float → ℕ
 unfolding dec
 daysSinceSolsticeOf day year latitude =
@@ -60,7 +60,7 @@ fewerMinutes base latitude n = dec base 0 -ᶠ dec n 3 /ᶠ dec 55 0 *ᶠ absOf 
 abbrev valuesOf : Float → Float → Float → Float → TwilightAdjustmentValues
 valuesOf a b c d = record { a = a; b = b; c = c; d = d }
 
--- the observed minutes at four points of the year
+-- twilight_adjustment_values: the observed minutes at four points of the year
 unfoldable pub eveningValuesOf : Float → Shafaq → TwilightAdjustmentValues
 eveningValuesOf x General = valuesOf (moreMinutes 75 x 25600) (moreMinutes 75 x 2050) (fewerMinutes 75 x 9210) (moreMinutes 75 x 6140)
 eveningValuesOf x Ahmer = valuesOf (moreMinutes 62 x 17400) (fewerMinutes 62 x 7160) (moreMinutes 62 x 5120) (moreMinutes 62 x 19440)
@@ -74,7 +74,7 @@ twilightAdjustmentValuesOf Evening x shafaq = eveningValuesOf x shafaq
 abbrev pub onTheWayOf : Float → Float → Float → Float → Float
 onTheWayOf from to days lapsed = from +ᶠ (to -ᶠ from) /ᶠ days *ᶠ lapsed
 
--- the minutes on a day, by the six parts of the year
+-- twilight_adjustments: the minutes on a day, by the six parts of the year
 unfoldable pub twilightAdjustmentsOf : TwilightAdjustmentValues → Float → Float
 unfolding dec
 twilightAdjustmentsOf v days =
@@ -90,15 +90,14 @@ abbrev pub seasonMinutesOf : AdjustmentDaytime → Season → ℕ → ℕ → Sh
 seasonMinutesOf daytime season day year shafaq =
     twilightAdjustmentsOf (twilightAdjustmentValuesOf daytime (season .latitude) shafaq) (ofInt binary64 (pos (seasonDaysOf season day year)))
 
--- Whole seconds before sunrise and after sunset, half a second away from zero. The source casts to an i64; no latitude of a place comes
--- near the end of an i32 (proofs/SeasonLaws).
+-- `(adjustment * -60.0).round() as i64` seconds from sunrise
 unfoldable pub morningSecondsOf : Season → ℕ → ℕ → ℤ
 unfolding dec
-morningSecondsOf season day year = toSigned 31 (roundOf (seasonMinutesOf Morning season day year General *ᶠ neg (dec 60 0)))
+morningSecondsOf season day year = toSigned 63 (roundOf (seasonMinutesOf Morning season day year General *ᶠ neg (dec 60 0)))
 
 unfoldable pub eveningSecondsOf : Season → ℕ → ℕ → Shafaq → ℤ
 unfolding dec
-eveningSecondsOf season day year shafaq = toSigned 31 (roundOf (seasonMinutesOf Evening season day year shafaq *ᶠ dec 60 0))
+eveningSecondsOf season day year shafaq = toSigned 63 (roundOf (seasonMinutesOf Evening season day year shafaq *ᶠ dec 60 0))
 
 -- the source's own functions have the source's count
 abbrev pub sourceSeason : Float → Season
@@ -107,6 +106,6 @@ sourceSeason latitude = record { latitude = latitude; southern = Unreduced }
 abbrev pub seasonAdjustedMorningTwilightOf : Float → ℕ → ℕ → ℤ → ℤ
 seasonAdjustedMorningTwilightOf latitude day year sunrise = satOf (sunrise +ℤ morningSecondsOf (sourceSeason latitude) day year)
 
--- the evening's is itself rounded to the nearest minute
+-- "Only the evening season bound is itself rounded (Nearest)."
 abbrev pub seasonAdjustedEveningTwilightOf : Float → ℕ → ℕ → ℤ → Shafaq → ℤ
 seasonAdjustedEveningTwilightOf latitude day year sunset shafaq = satOf (roundedOf Nearest (satOf (sunset +ℤ eveningSecondsOf (sourceSeason latitude) day year shafaq)))

@@ -1,5 +1,5 @@
--- This file need not be believed: proofs/SharedLaws.antt says that it is Transit's formulas, over what several calls share and is worked
--- once: the place's sine and cosine, the differences of an interpolation, the products of sines and of cosines.
+-- This file need not be believed: it is Sun's and Transit's formulas over what several calls share and is worked once: the sine and cosine of an angle,
+-- the differences of an interpolation, the products of sines and of cosines. proofs/SharedLaws.antt says so of Transit's.
 use mathlib.Core.Bool.{Bool, cond}
 use lib.Ieee.{Float, neg}
 use Rattle.float64.specs.Ops.{_+ᶠ_, _-ᶠ_, _*ᶠ_, _/ᶠ_, dec}
@@ -10,9 +10,20 @@ use Rattle.unit.specs.declared.Angle.{Angle}
 use Rattle.unit.specs.declared.Coordinates.{Coordinates}
 use Rattle.unit.specs.Unit.{angleOf, fromRadiansOf, radiansOf, unwoundOf, quadrantShiftedOf, minusOf, overOf, latitudeAngleOf, longitudeAngleOf}
 use Rattle.ops.specs.declared.interpolation.Interpolation.{Interpolation}
+use Rattle.ops.specs.declared.sun.Nutation.{Nutation}
+use Rattle.ops.specs.declared.sun.Apparent.{Apparent}
 use Rattle.ops.specs.declared.transit.Observer.{Observer}
 use Rattle.ops.specs.declared.transit.Course.{Course}
+use Rattle.ops.specs.Sun.{apparentSolarLongitudeOf, apparentObliquityOfTheEclipticOf, nutationInLongitudeOf, nutationInObliquityOf}
 use Rattle.ops.specs.Transit.{westOf}
+
+-- what the sine and the cosine of one angle correct together
+abbrev pub nutationsOf : Angle → Angle → Angle → Nutation
+nutationsOf solar lunar node = record { longitude = nutationInLongitudeOf solar lunar node; obliquity = nutationInObliquityOf solar lunar node }
+
+abbrev pub apparentPositionOf : Float → Angle → Angle → Apparent
+apparentPositionOf t longitude obliquity =
+    record { longitude = apparentSolarLongitudeOf t longitude; obliquity = apparentObliquityOfTheEclipticOf t obliquity }
 
 -- the differences of an interpolation: a + b and c
 abbrev pub differencesOf : Float → Float → Float → Interpolation

@@ -4,8 +4,6 @@ use lib.Ieee.{Float, neg}
 use Rattle.float64.specs.Ops.{_+ᶠ_, _-ᶠ_, _*ᶠ_, _/ᶠ_, dec}
 use Rattle.fdlibm_trig.specs.Trig.{sinOf, cosOf}
 use Rattle.unit.specs.declared.Angle.{Angle}
-use Rattle.ops.specs.declared.sun.Nutation.{Nutation}
-use Rattle.ops.specs.declared.sun.Apparent.{Apparent}
 use Rattle.unit.specs.Unit.{angleOf, unwoundOf, radiansOf, plusOf}
 
 abbrev pub square : Float → Float
@@ -101,10 +99,3 @@ nutationInObliquityOf solar lunar node =
     let term3 = dec 10 2 /ᶠ dec 3600 0 *ᶠ cosOf (dec 2 0 *ᶠ radiansOf lunar) in
     let term4 = dec 9 2 /ᶠ dec 3600 0 *ᶠ cosOf (dec 2 0 *ᶠ radiansOf node) in
     term1 +ᶠ term2 +ᶠ term3 -ᶠ term4
-
-abbrev pub nutationsOf : Angle → Angle → Angle → Nutation
-nutationsOf solar lunar node = record { longitude = nutationInLongitudeOf solar lunar node; obliquity = nutationInObliquityOf solar lunar node }
-
-abbrev pub apparentPositionOf : Float → Angle → Angle → Apparent
-apparentPositionOf t longitude obliquity =
-    record { longitude = apparentSolarLongitudeOf t longitude; obliquity = apparentObliquityOfTheEclipticOf t obliquity }

@@ -4,7 +4,7 @@ ghost use Rattle.float64.specs.Ranges.{insideOf};
 ghost use Rattle.ops.specs.Season.{southernOffsetOf, daysSinceSolsticeOf, southernCountOf, seasonDaysOf, sourceSeason, eveningValuesOf, twilightAdjustmentValuesOf, onTheWayOf, twilightAdjustmentsOf, seasonMinutesOf, morningSecondsOf, eveningSecondsOf, seasonAdjustedMorningTwilightOf, seasonAdjustedEveningTwilightOf};
 use calendar::years::days_in_year;
 use calendar::years::is_leap_year;
-use float64::casts::to_i32;
+use float64::casts::to_i64;
 use float64::sizes::abs;
 use float64::whole::round;
 use models::rounding::Rounding;
@@ -180,7 +180,7 @@ fn season_minutes(
 }
 
 // Whole seconds from sunrise to the bound of Fajr, which are negative.
-pub fn morning_twilight_seconds(season: Season, day: u32, year: u32) -> i32
+pub fn morning_twilight_seconds(season: Season, day: u32, year: u32) -> i64
     ensures { λ r. ⌜ r ≡ morningSecondsOf season day year ⌝ }
 {
     let adjustment = season_minutes(
@@ -190,15 +190,15 @@ pub fn morning_twilight_seconds(season: Season, day: u32, year: u32) -> i32
         year,
         Shafaq::General,
     );
-    to_i32(round(adjustment * -60.0))
+    to_i64(round(adjustment * -60.0))
 }
 
 // Whole seconds from sunset to the bound of Isha.
-pub fn evening_twilight_seconds(season: Season, day: u32, year: u32, shafaq: Shafaq) -> i32
+pub fn evening_twilight_seconds(season: Season, day: u32, year: u32, shafaq: Shafaq) -> i64
     ensures { λ r. ⌜ r ≡ eveningSecondsOf season day year shafaq ⌝ }
 {
     let adjustment = season_minutes(AdjustmentDaytime::Evening, season, day, year, shafaq);
-    to_i32(round(adjustment * 60.0))
+    to_i64(round(adjustment * 60.0))
 }
 
 // The source's own.
@@ -216,7 +216,7 @@ pub fn season_adjusted_morning_twilight(latitude: f64, day: u32, year: u32, sunr
 {
     plus(
         sunrise,
-        morning_twilight_seconds(source_season(latitude), day, year) as i64,
+        morning_twilight_seconds(source_season(latitude), day, year),
     )
 }
 
@@ -232,7 +232,7 @@ pub fn season_adjusted_evening_twilight(
 {
     let adjusted = plus(
         sunset,
-        evening_twilight_seconds(source_season(latitude), day, year, shafaq) as i64,
+        evening_twilight_seconds(source_season(latitude), day, year, shafaq),
     );
     rounded_minute(adjusted, Rounding::Nearest)
 }

@@ -1,6 +1,7 @@
 // ops.rs: where the sun is, by the formulas of Meeus, Astronomical Algorithms.
 ghost use mathlib.Core.Path.{_≡_};
-ghost use Rattle.ops.specs.Sun.{square, cube, julianCenturyOf, meanSolarLongitudeOf, meanLunarLongitudeOf, ascendingLunarNodeLongitudeOf, meanSolarAnomalyOf, solarEquationOfTheCenterOf, omegaOf, apparentSolarLongitudeOf, meanObliquityOfTheEclipticOf, apparentObliquityOfTheEclipticOf, meanSiderealTimeOf, nutationInLongitudeOf, nutationInObliquityOf, nutationsOf, apparentPositionOf};
+ghost use Rattle.ops.specs.Sun.{square, cube, julianCenturyOf, meanSolarLongitudeOf, meanLunarLongitudeOf, ascendingLunarNodeLongitudeOf, meanSolarAnomalyOf, solarEquationOfTheCenterOf, omegaOf, apparentSolarLongitudeOf, meanObliquityOfTheEclipticOf, apparentObliquityOfTheEclipticOf, meanSiderealTimeOf, nutationInLongitudeOf, nutationInObliquityOf};
+ghost use Rattle.ops.specs.Shared.{nutationsOf, apparentPositionOf};
 ghost use Rattle.fdlibm_trig.specs.Trig.{sinOf, cosOf};
 ghost use Rattle.unit.specs.Unit.{radiansOf};
 use fdlibm_trig::s_cos::cos;

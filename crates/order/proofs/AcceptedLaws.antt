@@ -188,17 +188,19 @@ accepted v given ranges start =
       row = λ (row : ℕ) (l : row < rowsIn (v .value 3)). row-in-order (dateIn (v .value 2)) (date .there) (date .from) (rowsIn (v .value 3) - 1) row (rows .1) (omega arith);
       latitude = coordinate v 4 18 90 (lit≤ tt) (has 3 (lit≤ tt)) (fits 4 (lit≤ tt) (lit≤ tt)) (fits 18 (lit≤ tt) (lit≤ tt));
       longitude = coordinate v 5 19 180 (lit≤ tt) (has 4 (lit≤ tt)) (fits 5 (lit≤ tt) (lit≤ tt)) (fits 19 (lit≤ tt) (lit≤ tt));
-      «fajr_angle» = angle-or v 12 (presetOf method .«fajr_angle») (fits 12 (lit≤ tt) (lit≤ tt)) (from .fajr);
-      «isha_angle» = angle-or v 13 (presetOf method .«isha_angle») (fits 13 (lit≤ tt) (lit≤ tt)) (from .isha);
-      «isha_interval» = interval-or v (presetOf method .«isha_interval») (fits 14 (lit≤ tt) (lit≤ tt)) (from .interval);
-      own = minutes-or v (fits 11 (lit≤ tt) (lit≤ tt));
+      parameters = record {
+        «fajr_angle» = angle-or v 12 (presetOf method .«fajr_angle») (fits 12 (lit≤ tt) (lit≤ tt)) (from .fajr);
+        «isha_angle» = angle-or v 13 (presetOf method .«isha_angle») (fits 13 (lit≤ tt) (lit≤ tt)) (from .isha);
+        «isha_interval» = interval-or v (presetOf method .«isha_interval») (fits 14 (lit≤ tt) (lit≤ tt)) (from .interval);
+        own = minutes-or v (fits 11 (lit≤ tt) (lit≤ tt));
+        preset = ap (λ (m : Method). presetOf m .«method_adjustments») (sym (from .named));
+      };
       clock = clock-in v (fits 16 (lit≤ tt) (lit≤ tt));
       imsak = ramadan .0;
       shift = ramadan .1;
       ramadan =
           λ (set : ramadanIn v .set ≡ true).
           record { rows = thirty v (three .1) (ramadan-set v set); start = started (ramadanIn v) (dateIn (v .value 2)) start set };
-      preset = ap (λ (m : Method). presetOf m .«method_adjustments») (sym (from .named));
     }
   where
     has : (i : ℕ) → i < 6 → isGivenOf (v .has) (getD required i 0) ≡ true

@@ -4,9 +4,10 @@ use Rattle.calendar.specs.Days.{dayNumberOf}
 use Rattle.calendar.specs.declared.dates.Date.{Date}
 use Rattle.fields.specs.Fields.{checkOf}
 use Rattle.fields.specs.Tags.{lastTag, longestTown}
-use Rattle.fields.specs.Values.{offsetOf, hasOf, valueOf, valueStartOf, partIn, Values, valuesOf}
-use Rattle.fields.proofs.FieldsLaws.{check-small, value-fits, fits-between}
-use Rattle.fields.proofs.Collecting.{part-same}
+use Rattle.fields.specs.Values.{hasOf, valueOf, partIn, Values, valuesIn, valuesOf}
+use Rattle.fields.specs.Lookup.{offsetOf}
+use Rattle.fields.proofs.FieldsLaws.{check-small, fits-between}
+use Rattle.fields.proofs.LookupLaws.{first, value-fits}
 use Rattle.hijri.specs.Ramadan.{ramadanStartOf}
 use Rattle.hijri.specs.declared.ramadan.Ramadan.{Ramadan}
 use Rattle.refusals.specs.declared.Refusal.{Refusal}
@@ -14,7 +15,7 @@ use Rattle.order.specs.declared.reading.Order.{Order}
 use Rattle.order.specs.declared.reading.Reading.the-variants.{Read, Refused}
 use Rattle.text.specs.Text.{printable}
 use Rattle.order.specs.Ranges.{lookUp, fitsOf, inRangeOf}
-use Rattle.order.specs.Reading.{required, isGivenOf, missingOf, bothFormsOf, outOfRangeOf, tagsFrom, orderOf, wrongStartOf, firstOf, readingOf, townOf}
+use Rattle.order.specs.Reading.{required, isGivenOf, missingOf, bothFormsOf, outOfRangeOf, tagsFrom, orderOf, wrongStartOf, firstOf, readingOf, townIn, townOf}
 use Rattle.order.proofs.Tags.{all-pass, failing-number, tags-from, tags-length}
 
 -- 15 or 18
@@ -126,22 +127,29 @@ pub record Town (s town : List ℕ) (order : Order) : Type 0 where
   pub size : (1 ≤ length town) × (length town ≤ longestTown)
   pub text : printable town ≡ true
 
-town-of : (s : List ℕ) (order : Order) → Passed s order → Town s (valueOf s 1) order
-unfolding fitsOf lookUp isGivenOf orderOf valueStartOf
+town-of : (s : List ℕ) (order : Order) → Passed s order → Town s (partIn s (order .town)) order
+unfolding fitsOf lookUp isGivenOf orderOf valuesIn
 town-of s order passed =
     let has = has-required (hasOf s) (passed .given) 0 (lit≤ tt) in
+    let field = first s 1 (passed .fields) in
+    let is : valueOf s 1 ≡ partIn s (order .town) = ap (λ (o : Order). partIn s (o .town)) (passed .same) in
     record {
-      part = sym (ap (λ (o : Order). partIn s (o .town)) (sym (passed .same)) ∙ part-same s 1);
-      begins = ap (λ (o : Order). o .town .at) (sym (passed .same)) ∙ simp has;
-      long = ap (λ (o : Order). o .town .length) (sym (passed .same));
-      size = fits-between 1 (length (valueOf s 1)) (value-fits s 1 (passed .fields) has);
-      text = fits-given (valuesOf s) (passed .ranges) 1 (lit≤ tt) (lit≤ tt) has;
+      part = refl;
+      begins = ap (λ (o : Order). o .town .at) (sym (passed .same)) ∙ field .begins has;
+      long = ap (λ (o : Order). o .town .length) (sym (passed .same)) ∙ field .long ∙ ap (length {A = ℕ}) is;
+      size = rw (← is) (fits-between 1 (length (valueOf s 1)) (value-fits s 1 (passed .fields) has));
+      text = rw (← is) (fits-given (valuesOf s) (passed .ranges) 1 (lit≤ tt) (lit≤ tt) has);
     }
 
+-- it is the value of tag 1
+pub town-value : (s : List ℕ) (order : Order) → readingOf s ≡ Read order → townOf s ≡ valueOf s 1
+unfolding townOf townIn orderOf valuesIn
+town-value s order e = simp e (ap (λ (o : Order). partIn s (o .town)) (sym (read-passed s order e .same)))
+
 pub read-town : (s : List ℕ) (order : Order) → readingOf s ≡ Read order → Town s (townOf s) order
-unfolding townOf
+unfolding townOf townIn
 read-town s order e = simp e (town-of s order (read-passed s order e))
 
 pub refused-town : (s : List ℕ) (r : Refusal) → readingOf s ≡ Refused r → townOf s ≡ []
-unfolding townOf
+unfolding townOf townIn
 refused-town s r e = simp e

@@ -4,7 +4,7 @@ use mathlib.Core.Bool.{Bool, true, cond, _&&_}
 use mathlib.Core.List.{List, [], _∷_}
 use lib.Dec.{leb, eqb}
 use lib.Ieee.{Float, neg}
-use lib.IntN.{ℤ, pos, negsuc}
+use lib.IntN.{ℤ, pos, negℤ}
 use lib.ListN.{length}
 use lib.Signed.{leZ}
 use Rattle.float64.specs.Ops.{dec}
@@ -13,15 +13,19 @@ use Rattle.calendar.specs.declared.dates.Date.{Date}
 use Rattle.calendar.specs.Gregorian.{existsOf}
 use Rattle.calendar.specs.Answers.{rowDateOf}
 use Rattle.fields.specs.Numbers.{byteOf, unsignedOf, signedAtOf}
-use Rattle.fields.specs.Tags.{choiceFits}
+use Rattle.fields.specs.Tags.{townTag, dateTag, rowsTag, latitudeTag, longitudeTag, minutesTag, fajrAngleTag, ishaAngleTag, ishaIntervalTag, clockTag, ramadanTag, choiceFits}
 use Rattle.fields.specs.Values.{Values}
 use Rattle.map_form.specs.Hundredths.{mostLatitude, mostLongitude, formFits}
+use Rattle.map_form.specs.Written as map
 use Rattle.text.specs.Text.{printable}
 use Rattle.models.specs.declared.adjustments.TimeAdjustment.{TimeAdjustment}
 use Rattle.order.specs.Given.{dateIn, rowsIn, degreesIn, formIn, minutesIn}
 
 abbrev pub between : ℕ → ℕ → ℕ → Bool
 between low high n = leb low n && leb n high
+
+abbrev pub within : ℕ → ℤ → Bool  -- of either sign
+within most z = leZ (negℤ (pos most)) z && leZ z (pos most)
 
 abbrev pub firstYear : ℕ
 firstYear = 1900
@@ -33,78 +37,78 @@ lastYear = 2199
 abbrev pub dateFits : Date → Bool
 dateFits date = between firstYear lastYear (date .year) && existsOf date
 
--- "1 to 250, last row by 2199-12-31", and "also .. two bytes, 1 to 400"; rows count from 0, so the last is the one before the number of rows
-abbrev pub mostRows : ℕ
+abbrev pub mostRows : ℕ  -- "1 to 250", and of "two bytes, 1 to 400"
 mostRows = 400
 
 abbrev pub mostIn : List ℕ → ℕ
 mostIn v = cond (eqb (length v) 2) mostRows 250
 
+-- "last row by 2199-12-31"; rows count from 0
 unfoldable pub rowsFit : Date → List ℕ → Bool
 rowsFit date v = between 1 (mostIn v) (rowsIn v) && leb (rowDateOf date (rowsIn v - 1) .year) lastYear
 
--- no comparison with a NaN holds
+-- "NaN is out of range": no comparison with it holds
 abbrev pub degreesFit : Float → Float → List ℕ → Bool
 degreesFit low high v = insideOf low high (degreesIn v)
 
--- "each -720 to 720"
+abbrev pub mostAngle : ℕ  -- "Fajr, Isha angle, 0 to 30"
+mostAngle = 30
+
+abbrev pub mostMinutes : ℕ  -- "each -720 to 720"
+mostMinutes = 720
+
 unfoldable pub minuteFits : ℤ → Bool
-minuteFits minute = leZ (negsuc 719) minute && leZ minute (pos 720)
+minuteFits minute = within mostMinutes minute
 
 unfoldable pub minutesFit : TimeAdjustment → Bool
 minutesFit m =
     minuteFits (m .fajr) && minuteFits (m .sunrise) && minuteFits (m .dhuhr) && minuteFits (m .asr) && minuteFits (m .maghrib)
     && minuteFits (m .isha)
 
--- "2 bytes, 0 to 1,440"
+abbrev pub mostInterval : ℕ  -- "2 bytes, 0 to 1,440"
+mostInterval = 1440
+
 unfoldable pub intervalFits : List ℕ → Bool
-intervalFits v = between 0 1440 (unsignedOf v 0)
+intervalFits v = between 0 mostInterval (unsignedOf v 0)
 
--- request 2: "signed 16-bit minutes, -840 to 840"
+abbrev pub mostClock : ℕ  -- request 2: "signed 16-bit minutes, -840 to 840"
+mostClock = 840
+
 unfoldable pub clockFits : List ℕ → Bool
-clockFits v = leZ (negsuc 839) (signedAtOf v 0) && leZ (signedAtOf v 0) (pos 840)
+clockFits v = within mostClock (signedAtOf v 0)
 
-abbrev pub mostImsak : ℕ
+abbrev pub mostImsak : ℕ  -- request 12: "imsak minutes over 30, a stored shift over 2" are out of range
 mostImsak = 30
 
--- request 12: "imsak minutes over 30, a stored shift over 2" are out of range
 unfoldable pub ramadanFits : List ℕ → Bool
 ramadanFits v = leb (byteOf v 0) mostImsak && leb (byteOf v 1) 2
 
-abbrev pub rowsOfRamadan : ℕ
+abbrev pub rowsOfRamadan : ℕ  -- and so are "rows other than 30 (with tag 3's range, place 3)", if tag 20 is set
 rowsOfRamadan = 30
 
--- and so are "rows other than 30 (with tag 3's range, place 3)", where tag 20 is set
 unfoldable pub ramadanRows : Bool → List ℕ → Bool
 ramadanRows set v = cond set (eqb (rowsIn v) rowsOfRamadan) true
 
--- the ranges by tag of a value, beside those of a choice's number, which stand in the table of tags: rows go by the order's date too, and by whether
--- it has tag 20
+-- the ranges by tag of a value; those of a choice's number are in the table of tags. The range of rows depends on the order's date too, and on
+-- whether it has tag 20. A town's length is the fields' matter.
 abbrev pub ranges : List ℕ → (date : Date) → (ramadan : Bool) → List (ℕ × Bool)
 ranges v date ramadan =
-    -- town, whose length is the fields' matter; date, and rows from the date on
-    (1, printable v)
-    ∷ (2, dateFits (dateIn v))
-    ∷ (3, rowsFit date v && ramadanRows ramadan v)
-    -- latitude, longitude
-    ∷ (4, degreesFit (neg (dec 90 0)) (dec 90 0) v)
-    ∷ (5, degreesFit (neg (dec 180 0)) (dec 180 0) v)
-    -- own minutes
-    ∷ (11, minutesFit (minutesIn v))
-    -- Fajr angle, Isha angle, Isha interval
-    ∷ (12, degreesFit (dec 0 0) (dec 30 0) v)
-    ∷ (13, degreesFit (dec 0 0) (dec 30 0) v)
-    ∷ (14, intervalFits v)
-    -- clock
-    ∷ (16, clockFits v)
-    -- latitude, longitude as on the map
-    ∷ (18, formFits mostLatitude (formIn v))
-    ∷ (19, formFits mostLongitude (formIn v))
-    -- Ramadan
-    ∷ (20, ramadanFits v)
+    (townTag, printable v)
+    ∷ (dateTag, dateFits (dateIn v))
+    ∷ (rowsTag, rowsFit date v && ramadanRows ramadan v)
+    ∷ (latitudeTag, degreesFit (neg (dec mostLatitude 0)) (dec mostLatitude 0) v)
+    ∷ (longitudeTag, degreesFit (neg (dec mostLongitude 0)) (dec mostLongitude 0) v)
+    ∷ (minutesTag, minutesFit (minutesIn v))
+    ∷ (fajrAngleTag, degreesFit (dec 0 0) (dec mostAngle 0) v)
+    ∷ (ishaAngleTag, degreesFit (dec 0 0) (dec mostAngle 0) v)
+    ∷ (ishaIntervalTag, intervalFits v)
+    ∷ (clockTag, clockFits v)
+    ∷ (map.latitudeTag, formFits mostLatitude (formIn v))
+    ∷ (map.longitudeTag, formFits mostLongitude (formIn v))
+    ∷ (ramadanTag, ramadanFits v)
     ∷ []
 
--- what a list by tag has for a tag, and else another answer
+-- what a list by tag has for a tag, or another answer
 unfoldable pub lookUp : ℕ → List (ℕ × Bool) → Bool → Bool
 lookUp tag [] otherwise = otherwise
 lookUp tag (entry ∷ rest) otherwise = cond (eqb tag (entry .0)) (entry .1) (lookUp tag rest otherwise)
@@ -113,7 +117,7 @@ abbrev pub fitsIn : ℕ → List ℕ → (date : Date) → (ramadan : Bool) → 
 fitsIn tag v date ramadan = lookUp tag (ranges v date ramadan) (choiceFits tag (byteOf v 0))
 
 unfoldable pub fitsOf : Values → ℕ → Bool
-fitsOf v tag = fitsIn tag (v .value tag) (dateIn (v .value 2)) (v .has 20)
+fitsOf v tag = fitsIn tag (v .value tag) (dateIn (v .value dateTag)) (v .has ramadanTag)
 
 -- a tag that the order lacks has nothing out of range
 unfoldable pub inRangeOf : Values → ℕ → Bool

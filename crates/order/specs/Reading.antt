@@ -1,5 +1,4 @@
--- Document 01, "The order": what reading any bytes answers. "Order of checks: length over 1,024; then field by field ..; then missing tags,
--- then ranges, both by rising tag".
+-- Document 01, "The order": what reading any bytes answers.
 use Prim.Native.Nat.{ℕ, zero, suc, _+_}
 use mathlib.Core.Bool.{Bool, cond, not, _&&_, _||_}
 use mathlib.Core.List.{List, [], _∷_}
@@ -7,11 +6,11 @@ use lib.Dec.{eqb}
 use Rattle.calendar.specs.Days.{dayNumberOf}
 use Rattle.calendar.specs.declared.dates.Date.{Date}
 use Rattle.fields.specs.Fields.{checkOf}
-use Rattle.fields.specs.Tags.{lastTag}
-use Rattle.fields.specs.Values.{valueOf, Values, valuesOf}
+use Rattle.fields.specs.Tags.{townTag, dateTag, rowsTag, latitudeTag, longitudeTag, methodTag, lastTag}
+use Rattle.fields.specs.Values.{partIn, Values, valuesOf}
 use Rattle.hijri.specs.Ramadan.{ramadanStartOf}
 use Rattle.hijri.specs.declared.ramadan.Ramadan.{Ramadan}
-use Rattle.map_form.specs.Written.{latitudeTag, longitudeTag}
+use Rattle.map_form.specs.Written as map
 use Rattle.refusals.specs.Refusals.{refusal, noRefusal, tagMissing, outOfRange, bothForms, notFirstOfRamadan}
 use Rattle.refusals.specs.declared.Refusal.{Refusal}
 use Rattle.unit.specs.Unit.{coordinatesOf}
@@ -28,11 +27,12 @@ firstFailing number passes (tag ∷ rest) = cond (passes tag) (firstFailing numb
 
 -- 4 is "tag missing": the tags that have "refused" in the column "missing"
 abbrev pub required : List ℕ
-required = 1 ∷ 2 ∷ 3 ∷ 4 ∷ 5 ∷ 6 ∷ []
+required = townTag ∷ dateTag ∷ rowsTag ∷ latitudeTag ∷ longitudeTag ∷ methodTag ∷ []
 
 -- request 7: "Either form keeps a coordinate from being missing"
 unfoldable pub isGivenOf : (ℕ → Bool) → ℕ → Bool
-isGivenOf has tag = lookUp tag ((4, has 4 || has latitudeTag) ∷ (5, has 5 || has longitudeTag) ∷ []) (has tag)
+isGivenOf has tag =
+    lookUp tag ((latitudeTag, has latitudeTag || has map.latitudeTag) ∷ (longitudeTag, has longitudeTag || has map.longitudeTag) ∷ []) (has tag)
 
 unfoldable pub missingOf : (ℕ → Bool) → Refusal
 missingOf has = firstFailing tagMissing (isGivenOf has) required
@@ -40,10 +40,10 @@ missingOf has = firstFailing tagMissing (isGivenOf has) required
 -- request 7: "Both forms for one coordinate are refused by 15, with 18 or 19 as place, latitude first"
 unfoldable pub bothFormsOf : (ℕ → Bool) → Refusal
 bothFormsOf has =
-    cond (has 4 && has latitudeTag) (refusal bothForms latitudeTag)
-    (cond (has 5 && has longitudeTag) (refusal bothForms longitudeTag) noRefusal)
+    cond (has latitudeTag && has map.latitudeTag) (refusal bothForms map.latitudeTag)
+    (cond (has longitudeTag && has map.longitudeTag) (refusal bothForms map.longitudeTag) noRefusal)
 
--- 5 is "value out of range, or a day the month lacks": every tag is asked
+-- 5 is "value out of range, or a day the month lacks"; "both by rising tag"
 unfoldable pub tagsFrom : ℕ → ℕ → List ℕ
 tagsFrom zero tag = []
 tagsFrom (suc k) tag = tag ∷ tagsFrom k (tag + 1)
@@ -55,38 +55,38 @@ outOfRangeOf v = firstFailing outOfRange (inRangeOf v) (tagsFrom lastTag 1)
 unfoldable pub orderOf : Values → Order
 orderOf v =
     record {
-      town = v .part 1;
-      date = dateIn (v .value 2);
-      rows = rowsIn (v .value 3);
-      coordinates = coordinatesOf (coordinateIn v 4 latitudeTag) (coordinateIn v 5 longitudeTag);
+      town = v .part townTag;
+      date = dateIn (v .value dateTag);
+      rows = rowsIn (v .value rowsTag);
+      coordinates = coordinatesOf (coordinateIn v latitudeTag map.latitudeTag) (coordinateIn v longitudeTag map.longitudeTag);
       parameters = parametersIn v;
       rules = rulesIn v;
       clock = clockIn v;
       ramadan = ramadanIn v;
     }
 
--- request 12: "A start other than the shifted 1 Ramadan (month 9) is refused by 18, place 2", where tag 20 is set
+-- request 12: "A start other than the shifted 1 Ramadan (month 9) is refused by 18, place 2", if tag 20 is set
 unfoldable pub wrongStartOf : Ramadan → Date → Refusal
 wrongStartOf ramadan date =
-    cond (ramadan .set && not (ramadanStartOf (dayNumberOf date) (ramadan .shift))) (refusal notFirstOfRamadan 2) noRefusal
+    cond (ramadan .set && not (ramadanStartOf (dayNumberOf date) (ramadan .shift))) (refusal notFirstOfRamadan dateTag) noRefusal
 
--- the first of some refusals that refuses; where none does, what is read
+-- the first of some refusals that refuses; if none does, what is read
 unfoldable pub firstOf : List Refusal → Order → Reading
 firstOf [] order = Read order
 firstOf (r ∷ rest) order = cond (eqb (r .number) 0) (firstOf rest order) (Refused r)
 
--- of what an order gives: missing tags (4), both forms of a coordinate (15), "after missing tags and before ranges", ranges (5), and the start of a
--- Ramadan sheet (18), "after all ranges and before the day"
+-- "then missing tags", then both forms of a coordinate, "after missing tags and before ranges", "then ranges", then the start of a Ramadan sheet,
+-- "after all ranges and before the day"
 abbrev pub checksOf : Values → List Refusal
 checksOf v = missingOf (v .has) ∷ bothFormsOf (v .has) ∷ outOfRangeOf v ∷ wrongStartOf (orderOf v .ramadan) (orderOf v .date) ∷ []
 
--- and before them the form of the fields (1, 2, 3)
+-- "Order of checks: length over 1,024; then field by field", and then those
 unfoldable pub readingOf : List ℕ → Reading
 readingOf s = firstOf (checkOf s ∷ checksOf (valuesOf s)) (orderOf (valuesOf s))
 
 -- "The town's name is handed back as that part of the order itself, an empty part where the order is refused."
-abbrev pub townIn : List ℕ → Reading → List ℕ
-townIn s (Read order) = valueOf s 1
+unfoldable pub townIn : List ℕ → Reading → List ℕ
+townIn s (Read order) = partIn s (order .town)
 townIn s (Refused refusal) = []
 
 unfoldable pub townOf : List ℕ → List ℕ

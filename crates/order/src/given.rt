@@ -1,13 +1,13 @@
-// What each tag gives where its value is in range, and what stands for a missing one.
+// What each tag gives if its value is in range, and what a missing one means.
 ghost use mathlib.Core.Path.{_≡_};
 ghost use Rattle.fields.specs.Values.{valuesIn};
 ghost use Rattle.order.specs.Given.{dateIn, rowsIn, degreesIn, formIn, coordinateIn, minutesIn, byteOr, degreesOr, roundingOr, minutesOr, intervalOr, parametersIn, rulesIn, clockIn, ramadanIn};
-use super::tag_of;
 use calendar::dates::Date;
 use fields::numbers::byte;
 use fields::numbers::float;
 use fields::numbers::signed;
 use fields::numbers::unsigned;
+use fields::tags;
 use fields::values::Fields;
 use fields::values::value;
 use hijri::ramadan::Ramadan;
@@ -107,8 +107,8 @@ fn degrees_or(order: &[u8], fields: Fields, tag: u32, missing: f64) -> f64
 fn rounding_or(order: &[u8], fields: Fields, missing: Rounding) -> Rounding
     ensures { λ r. ⌜ r ≡ roundingOr (valuesIn (now (order .entry)) fields) missing ⌝ }
 {
-    if fields.has(tag_of::ROUNDING) {
-        Rounding::of_number(byte(value(order, fields, tag_of::ROUNDING), 0))
+    if fields.has(tags::ROUNDING) {
+        Rounding::of_number(byte(value(order, fields, tags::ROUNDING), 0))
     } else {
         missing
     }
@@ -117,8 +117,8 @@ fn rounding_or(order: &[u8], fields: Fields, missing: Rounding) -> Rounding
 fn minutes_or(order: &[u8], fields: Fields, missing: TimeAdjustment) -> TimeAdjustment
     ensures { λ r. ⌜ r ≡ minutesOr (valuesIn (now (order .entry)) fields) missing ⌝ }
 {
-    if fields.has(tag_of::MINUTES) {
-        minutes_in(value(order, fields, tag_of::MINUTES))
+    if fields.has(tags::MINUTES) {
+        minutes_in(value(order, fields, tags::MINUTES))
     } else {
         missing
     }
@@ -127,48 +127,48 @@ fn minutes_or(order: &[u8], fields: Fields, missing: TimeAdjustment) -> TimeAdju
 fn interval_or(order: &[u8], fields: Fields, missing: i32) -> i32
     ensures { λ r. ⌜ r ≡ intervalOr (valuesIn (now (order .entry)) fields) missing ⌝ }
 {
-    if fields.has(tag_of::ISHA_INTERVAL) {
-        unsigned(value(order, fields, tag_of::ISHA_INTERVAL), 0) as i32
+    if fields.has(tags::ISHA_INTERVAL) {
+        unsigned(value(order, fields, tags::ISHA_INTERVAL), 0) as i32
     } else {
         missing
     }
 }
 
-// The method's, and tags 7 to 14 set their one field each: the interval leaves the Isha angle.
+// The method's parameters; tags 7 to 14 set their one field each, so the interval leaves the Isha angle.
 pub fn parameters_in(order: &[u8], fields: Fields) -> Parameters
     ensures { λ r. ⌜ r ≡ parametersIn (valuesIn (now (order .entry)) fields) ⌝ }
 {
-    let preset = Method::of_number(byte(value(order, fields, tag_of::METHOD), 0)).parameters();
+    let preset = Method::of_number(byte(value(order, fields, tags::METHOD), 0)).parameters();
     let method = preset.method;
     let rounding = preset.rounding;
     let method_adjustments = preset.method_adjustments;
     Parameters {
         method: method,
-        fajr_angle: degrees_or(order, fields, tag_of::FAJR_ANGLE, preset.fajr_angle),
+        fajr_angle: degrees_or(order, fields, tags::FAJR_ANGLE, preset.fajr_angle),
         maghrib_angle: preset.maghrib_angle,
-        isha_angle: degrees_or(order, fields, tag_of::ISHA_ANGLE, preset.isha_angle),
+        isha_angle: degrees_or(order, fields, tags::ISHA_ANGLE, preset.isha_angle),
         isha_interval: interval_or(order, fields, preset.isha_interval),
-        madhab: Madhab::of_number(byte_or(order, fields, tag_of::MADHAB, 1)),
+        madhab: Madhab::of_number(byte_or(order, fields, tags::MADHAB, 1)),
         high_latitude_rule: HighLatitudeRule::of_number(byte_or(
             order,
             fields,
-            tag_of::HIGH_LATITUDE_RULE,
+            tags::HIGH_LATITUDE_RULE,
             0,
         )),
         adjustments: minutes_or(order, fields, TimeAdjustment::default()),
         method_adjustments: method_adjustments,
         rounding: rounding_or(order, fields, rounding),
-        shafaq: Shafaq::of_number(byte_or(order, fields, tag_of::SHAFAQ, 0)),
+        shafaq: Shafaq::of_number(byte_or(order, fields, tags::SHAFAQ, 0)),
     }
 }
 
-// Tags 15 and 17: 0 where one is missing, the source's rule.
+// Tags 15 and 17. A missing one is 0, the source's rule.
 pub fn rules_in(order: &[u8], fields: Fields) -> Rules
     ensures { λ r. ⌜ r ≡ rulesIn (valuesIn (now (order .entry)) fields) ⌝ }
 {
     Rules {
-        midnight: Midnight::of_number(byte_or(order, fields, tag_of::MIDNIGHT, 0)),
-        southern: Southern::of_number(byte_or(order, fields, tag_of::SOUTHERN, 0)),
+        midnight: Midnight::of_number(byte_or(order, fields, tags::MIDNIGHT, 0)),
+        southern: Southern::of_number(byte_or(order, fields, tags::SOUTHERN, 0)),
     }
 }
 
@@ -176,8 +176,8 @@ pub fn rules_in(order: &[u8], fields: Fields) -> Rules
 pub fn clock_in(order: &[u8], fields: Fields) -> i32
     ensures { λ r. ⌜ r ≡ clockIn (valuesIn (now (order .entry)) fields) ⌝ }
 {
-    if fields.has(tag_of::CLOCK) {
-        signed(value(order, fields, tag_of::CLOCK), 0)
+    if fields.has(tags::CLOCK) {
+        signed(value(order, fields, tags::CLOCK), 0)
     } else {
         0
     }
@@ -187,8 +187,8 @@ pub fn clock_in(order: &[u8], fields: Fields) -> i32
 pub fn ramadan_in(order: &[u8], fields: Fields) -> Ramadan
     ensures { λ r. ⌜ r ≡ ramadanIn (valuesIn (now (order .entry)) fields) ⌝ }
 {
-    if fields.has(tag_of::RAMADAN) {
-        let bytes = value(order, fields, tag_of::RAMADAN);
+    if fields.has(tags::RAMADAN) {
+        let bytes = value(order, fields, tags::RAMADAN);
         return Ramadan {
             set: true,
             imsak: byte(bytes, 0),

@@ -3,4 +3,3 @@ mod given;
 pub mod plain;
 mod ranges;
 pub mod reading;
-mod tag_of;

@@ -1,4 +1,4 @@
-// What stands inside a right length: the range of each tag's value. Range ends are allowed.
+// The range of each tag's value, inside a right length. Range ends are allowed.
 ghost use mathlib.Core.Path.{_≡_};
 ghost use mathlib.Core.Bool.{true, cond};
 ghost use lib.Dec.{ltb};
@@ -11,11 +11,11 @@ use super::given::form_in;
 use super::given::minutes_in;
 use super::given::rows_in;
 use super::reading::MOST_ROWS;
-use super::tag_of;
 use calendar::dates::Date;
 use fields::numbers::byte;
 use fields::numbers::signed;
 use fields::numbers::unsigned;
+use fields::tags;
 use fields::tags::choice_fits;
 use fields::values::Part;
 use fields::values::bytes;
@@ -30,9 +30,19 @@ const LAST_YEAR: u32 = 2199;
 // Rows whose number has one byte, as every order had them once.
 const MOST_IN_ONE_BYTE: u32 = 250;
 
+// The most minutes that a school adds to a prayer or takes from it, those of an Isha interval, and those from UTC to a clock, ahead or behind.
+const MOST_MINUTES: i32 = 720;
+
+const MOST_INTERVAL: u32 = 1440;
+
+const MOST_CLOCK: i32 = 840;
+
 const RAMADAN_ROWS: u32 = 30;
 
 const MOST_IMSAK: u32 = 30;
+
+// A shift of one day, stored plus 1.
+const MOST_STORED_SHIFT: u32 = 2;
 
 // Printable ASCII.
 fn text_fits(bytes: &[u8]) -> bool
@@ -98,7 +108,7 @@ fn degrees_fit(bytes: &[u8], low: f64, high: f64) -> bool
 fn minute_fits(minute: i32) -> bool
     ensures { λ r. ⌜ r ≡ minuteFits minute ⌝ }
 {
-    (-720 <= minute) & (minute <= 720)
+    (-MOST_MINUTES <= minute) & (minute <= MOST_MINUTES)
 }
 
 fn minutes_fit(m: TimeAdjustment) -> bool
@@ -111,21 +121,21 @@ fn minutes_fit(m: TimeAdjustment) -> bool
 fn interval_fits(bytes: &[u8]) -> bool
     ensures { λ r. ⌜ r ≡ intervalFits (now (bytes .entry)) ⌝ }
 {
-    unsigned(bytes, 0) <= 1440
+    unsigned(bytes, 0) <= MOST_INTERVAL
 }
 
 fn clock_fits(bytes: &[u8]) -> bool
     ensures { λ r. ⌜ r ≡ clockFits (now (bytes .entry)) ⌝ }
 {
     let minutes = signed(bytes, 0);
-    (-840 <= minutes) & (minutes <= 840)
+    (-MOST_CLOCK <= minutes) & (minutes <= MOST_CLOCK)
 }
 
-// Minutes from imsak to Fajr, and a shift that is stored plus 1.
+// Minutes from imsak to Fajr, and the shift.
 fn ramadan_fits(bytes: &[u8]) -> bool
     ensures { λ r. ⌜ r ≡ ramadanFits (now (bytes .entry)) ⌝ }
 {
-    (byte(bytes, 0) <= MOST_IMSAK) & (byte(bytes, 1) <= 2)
+    (byte(bytes, 0) <= MOST_IMSAK) & (byte(bytes, 1) <= MOST_STORED_SHIFT)
 }
 
 // A Ramadan sheet has the rows of its month and no others.
@@ -138,25 +148,24 @@ fn ramadan_rows(set: bool, bytes: &[u8]) -> bool
     true
 }
 
-// A row for each tag whose value is no choice's number: those stand in the table of tags. Rows go by the order's date too, and by whether it has
-// tag 20.
+// The ranges of choices are in the table of tags. The range of rows depends on the order's date too, and on whether it has tag 20.
 fn fits(tag: u32, bytes: &[u8], date: Date, ramadan: bool) -> bool
     ensures { λ r. ⌜ r ≡ fitsIn tag (now (bytes .entry)) date ramadan ⌝ }
 {
     match tag {
-        tag_of::TOWN => text_fits(bytes),
-        tag_of::DATE => date_fits(date_in(bytes)),
-        tag_of::ROWS => rows_fit(date, bytes) & ramadan_rows(ramadan, bytes),
-        tag_of::LATITUDE => degrees_fit(bytes, -90.0, 90.0),
-        tag_of::LONGITUDE => degrees_fit(bytes, -180.0, 180.0),
-        tag_of::MINUTES => minutes_fit(minutes_in(bytes)),
-        tag_of::FAJR_ANGLE => degrees_fit(bytes, 0.0, 30.0),
-        tag_of::ISHA_ANGLE => degrees_fit(bytes, 0.0, 30.0),
-        tag_of::ISHA_INTERVAL => interval_fits(bytes),
-        tag_of::CLOCK => clock_fits(bytes),
+        tags::TOWN => text_fits(bytes),
+        tags::DATE => date_fits(date_in(bytes)),
+        tags::ROWS => rows_fit(date, bytes) & ramadan_rows(ramadan, bytes),
+        tags::LATITUDE => degrees_fit(bytes, -90.0, 90.0),
+        tags::LONGITUDE => degrees_fit(bytes, -180.0, 180.0),
+        tags::MINUTES => minutes_fit(minutes_in(bytes)),
+        tags::FAJR_ANGLE => degrees_fit(bytes, 0.0, 30.0),
+        tags::ISHA_ANGLE => degrees_fit(bytes, 0.0, 30.0),
+        tags::ISHA_INTERVAL => interval_fits(bytes),
+        tags::CLOCK => clock_fits(bytes),
         map_form::LATITUDE => latitude_fits(form_in(bytes)),
         map_form::LONGITUDE => longitude_fits(form_in(bytes)),
-        tag_of::RAMADAN => ramadan_fits(bytes),
+        tags::RAMADAN => ramadan_fits(bytes),
         _ => choice_fits(tag, byte(bytes, 0)),
     }
 }

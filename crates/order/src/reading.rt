@@ -1,7 +1,7 @@
 // Reading an order: the form of its fields, then missing tags, then coordinates in both forms, then ranges, then the first day of a Ramadan sheet.
 ghost use mathlib.Core.Path.{_≡_};
 ghost use Rattle.fields.specs.Values.{hasIn, valuesIn};
-ghost use Rattle.order.specs.Reading.{isGivenOf, missingOf, bothFormsOf, outOfRangeOf, orderOf, wrongStartOf, firstOf, checksOf, readingOf, townOf};
+ghost use Rattle.order.specs.Reading.{isGivenOf, missingOf, bothFormsOf, outOfRangeOf, orderOf, wrongStartOf, firstOf, checksOf, readingOf, townIn};
 use super::given::clock_in;
 use super::given::coordinate_in;
 use super::given::date_in;
@@ -10,9 +10,9 @@ use super::given::ramadan_in;
 use super::given::rows_in;
 use super::given::rules_in;
 use super::ranges::in_range;
-use super::tag_of;
 use calendar::dates::Date;
 use fields::one_pass::fields_of;
+use fields::tags;
 use fields::tags::LAST_TAG;
 use fields::values::Fields;
 use fields::values::Part;
@@ -34,15 +34,15 @@ pub const MOST_ROWS: u32 = 400;
 
 // The tags that an order may not lack.
 const REQUIRED: [u32; 6] = [
-    tag_of::TOWN,
-    tag_of::DATE,
-    tag_of::ROWS,
-    tag_of::LATITUDE,
-    tag_of::LONGITUDE,
-    tag_of::METHOD,
+    tags::TOWN,
+    tags::DATE,
+    tags::ROWS,
+    tags::LATITUDE,
+    tags::LONGITUDE,
+    tags::METHOD,
 ];
 
-// What an order asks for: timetables of so many rows from a date on, for a place. The town stays in the order's own bytes.
+// What an order asks for: timetables of so many rows from a date on, for a place. The town is a part of the order's own bytes.
 pub struct Order {
     pub town: Part,
     pub date: Date,
@@ -65,8 +65,8 @@ fn is_given(fields: Fields, tag: u32) -> bool
     ensures { λ r. ⌜ r ≡ isGivenOf (hasIn fields) tag ⌝ }
 {
     match tag {
-        tag_of::LATITUDE => fields.has(tag_of::LATITUDE) | fields.has(map_form::LATITUDE),
-        tag_of::LONGITUDE => fields.has(tag_of::LONGITUDE) | fields.has(map_form::LONGITUDE),
+        tags::LATITUDE => fields.has(tags::LATITUDE) | fields.has(map_form::LATITUDE),
+        tags::LONGITUDE => fields.has(tags::LONGITUDE) | fields.has(map_form::LONGITUDE),
         _ => fields.has(tag),
     }
 }
@@ -86,14 +86,14 @@ fn missing(fields: Fields) -> Refusal
     Refusal::none()
 }
 
-// By the first coordinate that stands in both forms, whatever they say.
+// By the first coordinate that is given in both forms, whatever they say.
 fn both_forms(fields: Fields) -> Refusal
     ensures { λ r. ⌜ r ≡ bothFormsOf (hasIn fields) ⌝ }
 {
-    if fields.has(tag_of::LATITUDE) & fields.has(map_form::LATITUDE) {
+    if fields.has(tags::LATITUDE) & fields.has(map_form::LATITUDE) {
         return Refusal::new(BOTH_FORMS, map_form::LATITUDE);
     }
-    if fields.has(tag_of::LONGITUDE) & fields.has(map_form::LONGITUDE) {
+    if fields.has(tags::LONGITUDE) & fields.has(map_form::LONGITUDE) {
         return Refusal::new(BOTH_FORMS, map_form::LONGITUDE);
     }
     Refusal::none()
@@ -105,8 +105,8 @@ fn out_of_range(order: &[u8], fields: Fields) -> Refusal
 {
     let starts = fields.at;
     let lengths = fields.length;
-    let date = date_in(value(order, fields, tag_of::DATE));
-    let ramadan = fields.has(tag_of::RAMADAN);
+    let date = date_in(value(order, fields, tags::DATE));
+    let ramadan = fields.has(tags::RAMADAN);
     let mut passed = 0;
     while passed < LAST_TAG {
         let tag = passed + 1;
@@ -127,12 +127,12 @@ fn record_in(order: &[u8], fields: Fields) -> Order
     ensures { λ r. ⌜ r ≡ orderOf (valuesIn (now (order .entry)) fields) ⌝ }
 {
     Order {
-        town: fields.part(tag_of::TOWN),
-        date: date_in(value(order, fields, tag_of::DATE)),
-        rows: rows_in(value(order, fields, tag_of::ROWS)),
+        town: fields.part(tags::TOWN),
+        date: date_in(value(order, fields, tags::DATE)),
+        rows: rows_in(value(order, fields, tags::ROWS)),
         coordinates: Coordinates::new(
-            coordinate_in(order, fields, tag_of::LATITUDE, map_form::LATITUDE),
-            coordinate_in(order, fields, tag_of::LONGITUDE, map_form::LONGITUDE),
+            coordinate_in(order, fields, tags::LATITUDE, map_form::LATITUDE),
+            coordinate_in(order, fields, tags::LONGITUDE, map_form::LONGITUDE),
         ),
         parameters: parameters_in(order, fields),
         rules: rules_in(order, fields),
@@ -149,12 +149,12 @@ fn wrong_start(ramadan: Ramadan, date: Date) -> Refusal
         if is_ramadan_start(date.day_number(), ramadan.shift) {
             return Refusal::none();
         }
-        return Refusal::new(NOT_FIRST_OF_RAMADAN, tag_of::DATE);
+        return Refusal::new(NOT_FIRST_OF_RAMADAN, tags::DATE);
     }
     Refusal::none()
 }
 
-// What is answered of the fields once their form is right, whichever reader collected them: no walk over the bytes is left.
+// Reads the fields once their form is right, whichever reader collected them.
 pub(crate) fn answer(order: &[u8], fields: Fields) -> Reading
     ensures { λ r. ⌜ r ≡ firstOf (checksOf (valuesIn (now (order .entry)) fields)) (orderOf (valuesIn (now (order .entry)) fields)) ⌝ }
 {
@@ -180,11 +180,11 @@ pub fn read(order: &[u8]) -> Reading
     answer(order, checked.fields)
 }
 
-// The town's name, as the part of the order that it is; an empty part where the order is refused.
-pub fn town(order: &[u8]) -> &[u8]
-    ensures { λ r. ⌜ now r ≡ townOf (now (order .entry)) ⌝ }
+// The town's name, as that part of the order itself; an empty part if the order is refused.
+pub fn town(order: &[u8], reading: Reading) -> &[u8]
+    ensures { λ r. ⌜ now r ≡ townIn (now (order .entry)) reading ⌝ }
 {
-    match read(order) {
+    match reading {
         Reading::Read(record) => bytes(order, record.town),
         Reading::Refused(_) => &order[0..0],
     }

@@ -1,6 +1,5 @@
 -- A place sent either way: the record but for where the town stands, and from it all that is answered. Assumes nothing.
-use Rattle.prelude.proofs.Logic.{_≡_, refl, sym, ap, _∙_, subst, false, List, _∷_, _++_, ℕ, zero, suc, _+_, _≤_, lit≤}
-use Rattle.integers.specs.Order.{_≼_}
+use Rattle.prelude.proofs.Logic.{_≡_, refl, sym, ap, _∙_, subst, true, false, List, _∷_, _++_, ℕ, zero, suc, _+_, _≤_, lit≤, leZ}
 use Rattle.calendar.specs.Answers.{rowDateOf}
 use Rattle.calls.specs.Calls.{workRowOf, workReadingOf, workDayOf, workAtOf, prayerAtOf, nextAtOf, remainingAtOf}
 use Rattle.fields.specs.Tags.{lastTag}
@@ -13,10 +12,10 @@ use Rattle.order.specs.Given.{coordinateIn, byteOr, degreesOr, roundingOr, minu
 use Rattle.order.specs.Reading.{orderOf, readingOf, townOf}
 use Rattle.order.specs.declared.reading.Order.{Order}
 use Rattle.order.specs.declared.reading.Reading.the-variants.{Read}
-use Rattle.order.proofs.ReadingLaws.{read-passed}
+use Rattle.order.proofs.ReadingLaws.{read-passed, town-value}
 use Rattle.braille.specs.Cells.{rowLength}
 use Rattle.pages.specs.Pages.{Rows, rowOf, rowsFrom, pageOf, pageCount, pagesCells, allCells}
-use Rattle.pages.specs.Answers.{punchedInOf, answerIn, bufferOf, frontIn, oneRow, pieceIn}
+use Rattle.pages.specs.Answers.{askedCallOf, oneRow, pieceIn}
 use Rattle.pages.specs.Reports.{wearText, cellsText}
 use Rattle.reports.specs.Reports.{reportIn}
 use Rattle.rows.specs.Rows.{linesText, acceptedText, sheetText, readCallOf, rowCallOf}
@@ -26,7 +25,7 @@ use Rattle.schedule.specs.declared.prayer_times.Worked.the-variants.{Times, Ref
 use Rattle.weeks.specs.Lines.{reportOf}
 use Rattle.weeks.specs.Report.{minuteIn, minutesOf, ordersReport, weekText}
 use Rattle.order_laws.specs.Minutes.{withOwnMinutes}
-use Rattle.order_laws.specs.EitherForm.{saysPlace, SamePlace, withTown, EitherFormAnswersAlike, EitherFormMovesAlike}
+use Rattle.order_laws.specs.EitherForm.{saysPlace, SamePlace, withTown, SameAnswers, EitherFormAnswersAlike, EitherFormMovesAlike}
 
 -- ---- where the town stands changes nothing
 lines-same : (o : Order) (town : Part) (n : ℕ) → linesText (withTown o town) n ≡ linesText o n
@@ -65,15 +64,10 @@ minutes-same o town (suc n) = rw (minutes-same o town n, minute-same o town n (w
 
 -- a call on some rows of an order that do not hang on its town
 module _ (asked : Order → Rows) (town-free : (o : Order) (town : Part) → asked (withTown o town) ≡ asked o) (least : ℕ) where
-  written-same : (a b : List ℕ) (o p : Order) → readingOf a ≡ Read o → readingOf b ≡ Read p → withTown o (p .town) ≡ p → (buffer : List ℕ)
-      → punchedInOf asked least a buffer ≡ punchedInOf asked least b buffer
-  unfolding punchedInOf answerIn
-  written-same a b o p x y g buffer = rw (x, y, ← town-free o (p .town), g)
-
-  front-same : (a b : List ℕ) (o p : Order) → readingOf a ≡ Read o → readingOf b ≡ Read p → withTown o (p .town) ≡ p → (buffer : List ℕ)
-      → bufferOf asked least a buffer ≡ bufferOf asked least b buffer
-  unfolding bufferOf frontIn
-  front-same a b o p x y g buffer = rw (x, y, ← town-free o (p .town), g)
+  asked-alike : (a b : List ℕ) (o p : Order) → readingOf a ≡ Read o → readingOf b ≡ Read p → withTown o (p .town) ≡ p → (buffer : List ℕ)
+      → askedCallOf asked least a buffer ≡ askedCallOf asked least b buffer
+  unfolding askedCallOf
+  asked-alike a b o p x y g buffer = rw (x, y, ← town-free o (p .town), g)
 
 one-same : (row : ℕ) (o : Order) (town : Part) → oneRow row (withTown o town) ≡ oneRow row o
 unfolding oneRow workRowOf
@@ -81,6 +75,68 @@ one-same row o town = refl
 
 piece-same : (page first : ℕ) (scratch : List ℕ) (o : Order) (town : Part) → pieceIn page first scratch (withTown o town) ≡ pieceIn page first scratch o
 piece-same page first scratch o town = rw (page-same o town page)
+
+-- ---- what is answered, of two orders whose records are the same but for where the town is
+module _ (a b : List ℕ) (o p : Order) (x : readingOf a ≡ Read o) (y : readingOf b ≡ Read p) (given : withTown o (p .town) ≡ p)
+    (town : townOf a ≡ townOf b) where
+  sheet-same : sheetText a ≡ sheetText b
+  unfolding reportIn
+  sheet-same =
+      rw (x, y)
+      (ap (λ (t : List ℕ). acceptedText t o) town
+      ∙ sym (text-same (townOf b) o (p .town))
+      ∙ ap (acceptedText (townOf b)) given)
+
+  day-same : (row : ℕ) → workDayOf a row ≡ workDayOf b row
+  unfolding workDayOf workReadingOf workRowOf
+  day-same row = rw (x, y, ← given)
+
+  at-same : (row : ℕ) (i : Instant) → workAtOf a row i ≡ workAtOf b row i
+  unfolding workAtOf
+  at-same row i = rw (day-same row)
+
+  row-same : (row : ℕ) (buffer : List ℕ) → rowCallOf a row buffer ≡ rowCallOf b row buffer
+  unfolding rowCallOf readCallOf workRowOf
+  row-same row buffer = rw (x, y, ← given)
+
+  all-same : allCells o ≡ allCells p
+  all-same = sym (pages-same o (p .town) (pageCount o)) ∙ ap allCells given
+
+  wear-same : wearText a ≡ wearText b
+  unfolding reportIn
+  wear-same = rw (x, y, all-same)
+
+  cells-same : cellsText a ≡ cellsText b
+  unfolding reportIn
+  cells-same = rw (x, y) all-same
+
+  week-same : weekText a ≡ weekText b
+  unfolding reportIn
+  week-same =
+      rw (x, y)
+      (ap reportOf (sym (minutes-same o (p .town) (o .rows))) ∙ ap ordersReport given)
+
+  module _ (asked : Order → Rows) (town-free : (o : Order) (town : Part) → asked (withTown o town) ≡ asked o) (buffer : List ℕ) where
+    asked-same : askedCallOf asked rowLength a buffer ≡ askedCallOf asked rowLength b buffer
+    asked-same = asked-alike asked town-free rowLength a b o p x y given buffer
+
+  pub answered-alike : SameAnswers a b
+  unfolding prayerAtOf nextAtOf remainingAtOf
+  answered-alike =
+      record {
+        town = town;
+        sheet = sheet-same;
+        day = day-same;
+        prayer = λ row i. rw (at-same row i);
+        next = λ row i. rw (at-same row i);
+        remaining = λ row i. rw (at-same row i);
+        «row_call» = row-same;
+        «cells_call» = λ row buffer. asked-same (oneRow row) (one-same row) buffer;
+        «page_call» = λ page first scratch. asked-same (pieceIn page first scratch) (piece-same page first scratch) scratch;
+        wear = wear-same;
+        cells = cells-same;
+        week = week-same;
+      }
 
 -- ---- what the tags give
 module _ (a b : List ℕ) (orders : SamePlace a b) where
@@ -155,80 +211,13 @@ module _ (a b : List ℕ) (orders : SamePlace a b) where
       subst (λ (o : Order). withTown o (orders .second .town) ≡ orders .second) first-same
       (subst (λ (o : Order). withTown (orderOf (valuesOf a)) (o .town) ≡ o) second-same given-same)
 
-  -- ---- and what is answered
   town-same : townOf a ≡ townOf b
-  unfolding townOf
-  town-same = rw (orders .«first_read», orders .«second_read») (value 1 (lit≤ tt) refl)
-
-  sheet-same : sheetText a ≡ sheetText b
-  unfolding reportIn
-  sheet-same =
-      rw (orders .«first_read», orders .«second_read»)
-      (ap (λ (t : List ℕ). acceptedText t (orders .first)) town-same
-      ∙ sym (text-same (townOf b) (orders .first) (orders .second .town))
-      ∙ ap (acceptedText (townOf b)) given)
-
-  day-same : (row : ℕ) → workDayOf a row ≡ workDayOf b row
-  unfolding workDayOf workReadingOf workRowOf
-  day-same row = rw (orders .«first_read», orders .«second_read», ← given)
-
-  at-same : (row : ℕ) (i : Instant) → workAtOf a row i ≡ workAtOf b row i
-  unfolding workAtOf
-  at-same row i = rw (day-same row)
-
-  buffer-same : (row : ℕ) (buffer : List ℕ) → rowCallOf a row buffer .buffer ≡ rowCallOf b row buffer .buffer
-  unfolding rowCallOf readCallOf workRowOf
-  buffer-same row buffer = rw (orders .«first_read», orders .«second_read», ← given)
-
-  answer-same : (row : ℕ) (buffer : List ℕ) → rowCallOf a row buffer .answer ≡ rowCallOf b row buffer .answer
-  unfolding rowCallOf readCallOf workRowOf
-  answer-same row buffer = rw (orders .«first_read», orders .«second_read», ← given)
-
-  all-same : allCells (orders .first) ≡ allCells (orders .second)
-  all-same = sym (pages-same (orders .first) (orders .second .town) (pageCount (orders .first))) ∙ ap allCells given
-
-  wear-same : wearText a ≡ wearText b
-  unfolding reportIn
-  wear-same = rw (orders .«first_read», orders .«second_read», all-same)
-
-  cells-same : cellsText a ≡ cellsText b
-  unfolding reportIn
-  cells-same = rw (orders .«first_read», orders .«second_read») all-same
-
-  week-same : weekText a ≡ weekText b
-  unfolding reportIn
-  week-same =
-      rw (orders .«first_read», orders .«second_read»)
-      (ap reportOf (sym (minutes-same (orders .first) (orders .second .town) (orders .first .rows))) ∙ ap ordersReport given)
-
-  module _ (asked : Order → Rows) (town-free : (o : Order) (town : Part) → asked (withTown o town) ≡ asked o) (buffer : List ℕ) where
-    asked-same : punchedInOf asked rowLength a buffer ≡ punchedInOf asked rowLength b buffer
-    asked-same = written-same asked town-free rowLength a b (orders .first) (orders .second) (orders .«first_read») (orders .«second_read») given buffer
-
-    put-same : bufferOf asked rowLength a buffer ≡ bufferOf asked rowLength b buffer
-    put-same = front-same asked town-free rowLength a b (orders .first) (orders .second) (orders .«first_read») (orders .«second_read») given buffer
+  town-same = town-value a (orders .first) (orders .«first_read») ∙ value 1 (lit≤ tt) refl ∙ sym (town-value b (orders .second) (orders .«second_read»))
 
 pub either-form-answers-alike : EitherFormAnswersAlike
-unfolding prayerAtOf nextAtOf remainingAtOf
 either-form-answers-alike a b orders =
-    record {
-      given = given a b orders;
-      town = town-same a b orders;
-      sheet = sheet-same a b orders;
-      day = day-same a b orders;
-      prayer = λ row i. rw (at-same a b orders row i);
-      next = λ row i. rw (at-same a b orders row i);
-      remaining = λ row i. rw (at-same a b orders row i);
-      answer = answer-same a b orders;
-      buffer = buffer-same a b orders;
-      «cells_answer» = λ row buffer. asked-same a b orders (oneRow row) (one-same row) buffer;
-      «cells_buffer» = λ row buffer. put-same a b orders (oneRow row) (one-same row) buffer;
-      «page_answer» = λ page first scratch. asked-same a b orders (pieceIn page first scratch) (piece-same page first scratch) scratch;
-      «page_buffer» = λ page first scratch. put-same a b orders (pieceIn page first scratch) (piece-same page first scratch) scratch;
-      wear = wear-same a b orders;
-      cells = cells-same a b orders;
-      week = week-same a b orders;
-    }
+    let same = given a b orders in
+    (same, answered-alike a b (orders .first) (orders .second) (orders .«first_read») (orders .«second_read») same (town-same a b orders))
 
 -- ---- demand 3
 moved-town : (f g : Order) (p q : Part) → withOwnMinutes f (g .town) (g .parameters .adjustments) ≡ g
@@ -253,6 +242,6 @@ either-form-moves-alike a b c d p q later =
           (moved-town (later .first) (later .second) (p .second .town) (q .second .town) (later .alike)));
       more =
           λ (prayer : Prayer).
-          subst (λ (o : Order). timeAdjustmentsOf (o .parameters) prayer ≼ timeAdjustmentsOf (q .second .parameters) prayer) x
-          (subst (λ (o : Order). timeAdjustmentsOf (later .first .parameters) prayer ≼ timeAdjustmentsOf (o .parameters) prayer) y (later .more prayer));
+          subst (λ (o : Order). leZ (timeAdjustmentsOf (o .parameters) prayer) (timeAdjustmentsOf (q .second .parameters) prayer) ≡ true) x
+          (subst (λ (o : Order). leZ (timeAdjustmentsOf (later .first .parameters) prayer) (timeAdjustmentsOf (o .parameters) prayer) ≡ true) y (later .more prayer));
     }

@@ -1,20 +1,21 @@
 -- What document 01 alone read is read as it was. Assumes nothing.
-use Rattle.prelude.proofs.Logic.{_≡_, refl, sym, ap, _∙_, Bool, true, false, not, cond, _&&_, _||_, true≢false, List, [], _∷_, ℕ, zero, suc, _-_, _≤_, _<_, arith, leb, ltb, eqb, lit≤, length, inl, inr, _⊎_, ltb-true, lt-ltb, leb-true, leb-false, eq-eqb, eqb-true, eqb-false, le-leb, lt-leb, not-false, cases, both, ⊎-elim}
+use Rattle.prelude.proofs.Logic.{_≡_, refl, sym, ap, _∙_, Bool, true, false, not, cond, _&&_, _||_, true≢false, List, [], _∷_, ℕ, zero, suc, _-_, _≤_, _<_, arith, leb, ltb, eqb, lit≤, length, getD, set, replicate, inl, inr, _⊎_, ltb-true, lt-ltb, leb-true, leb-false, eq-eqb, eqb-true, eqb-false, le-leb, lt-leb, not-false, cases, both, ⊎-elim}
 use Rattle.calendar.specs.Answers.{rowDateOf}
-use Rattle.fields.specs.Fields.{lengthAt, nextFieldAt, firstBefore, valueFaultOf, faultIn, faultOf, walkOf, checkOf}
+use Rattle.fields.specs.Fields.{lengthAt, nextFieldAt, faultIn, faultOf, walkOf, checkOf}
 use Rattle.fields.specs.Numbers.{byteOf}
-use Rattle.fields.specs.Tags.{lengthFits}
-use Rattle.fields.specs.Values.{offsetOf, hasOf, valueOf, valuesOf}
-use Rattle.fields.proofs.FieldsLaws.{has-good, whole-length, value-missing}
+use Rattle.fields.specs.Tags.{tags, lengthFits}
+use Rattle.fields.specs.Values.{hasOf, valueOf, valuesOf}
+use Rattle.fields.specs.Lookup.{firstFrom, offsetOf}
+use Rattle.fields.proofs.LookupLaws.{first, has-good, whole-length, value-missing}
 use Rattle.lines.specs.Lines.{columnsOf, lineText}
 use Rattle.models.proofs.Models.{midnightOf, southernOf}
 use Rattle.calendar.specs.declared.dates.Date.{Date}
 use Rattle.order.specs.Given.{dateIn, rowsIn, coordinateIn, byteOr, rulesIn, clockIn, ramadanIn}
 use Rattle.order.specs.Ranges.{between, rowsFit, ramadanRows, lookUp, fitsOf, inRangeOf}
-use Rattle.order.specs.Reading.{firstFailing, required, isGivenOf, missingOf, bothFormsOf, tagsFrom, outOfRangeOf, orderOf, wrongStartOf, firstOf, readingOf, townOf}
+use Rattle.order.specs.Reading.{firstFailing, required, isGivenOf, missingOf, bothFormsOf, tagsFrom, outOfRangeOf, orderOf, wrongStartOf, firstOf, readingOf}
 use Rattle.order.specs.declared.reading.Order.{Order}
 use Rattle.order.specs.declared.reading.Reading.the-variants as reading
-use Rattle.order.proofs.ReadingLaws.{passed-on}
+use Rattle.order.proofs.ReadingLaws.{passed-on, town-value}
 use Rattle.refusals.specs.Refusals.{noRefusal}
 use Rattle.refusals.specs.declared.Refusal.{Refusal}
 use Rattle.reports.specs.Reports.{reportIn}
@@ -61,7 +62,7 @@ module _ (tag n left : ℕ) (again : Bool) where
   Alike = (formerIn ≡ faultIn tag n again left) ⊎ ((formerIn ≡ 2) × ((between 15 20 tag || (eqb tag 3 && eqb n 2)) ≡ true))
 
   fault-alike : Alike
-  unfolding faultIn valueFaultOf
+  unfolding faultIn
   fault-alike =
       cases (ltb left 3) (λ h. inl (simp h))
       (λ h. cases (between 1 14 tag)
@@ -103,86 +104,99 @@ line-same date (worked.Times t) = refl
 line-same date (worked.Refused r) = refl
 
 module _ (s : List ℕ) where
-  fault-same : (at : ℕ) → (formerFaultOf s at ≡ faultOf s at) ⊎ ((formerFaultOf s at ≡ 2) × (newAt s at ≡ true))
+  fault-same : (seen : List Bool) (at : ℕ)
+      → (formerFaultOf s seen at ≡ faultOf s seen at) ⊎ ((formerFaultOf s seen at ≡ 2) × (newAt s at ≡ true))
   unfolding formerFaultOf faultOf newAt
-  fault-same at = fault-alike (byteOf s at) (lengthAt s at) (length s - at) (ltb (firstBefore (length s) s (byteOf s at) 0 at) at)
+  fault-same seen at = fault-alike (byteOf s at) (lengthAt s at) (length s - at) (getD seen (byteOf s at) false)
 
-  walk-same : (k at : ℕ) → (formerWalkOf k s at ≡ walkOf k s at) ⊎ New s (formerWalkOf k s at)
+  walk-same : (k : ℕ) (seen : List Bool) (at : ℕ) → (formerWalkOf k s seen at ≡ walkOf k s seen at) ⊎ New s (formerWalkOf k s seen at)
   unfolding formerWalkOf walkOf
-  walk-same zero at = inl refl
-  walk-same (suc k) at =
+  walk-same zero seen at = inl refl
+  walk-same (suc k) seen at =
+      let next = nextFieldAt s at in
+      let seen' = set seen (byteOf s at) true in
       cases (ltb at (length s))
       (λ h. ⊎-elim
-      (λ (f : formerFaultOf s at ≡ faultOf s at). cases (eqb (faultOf s at) 0)
-      (λ z. ⊎-elim (λ (w : formerWalkOf k s (nextFieldAt s at) ≡ walkOf k s (nextFieldAt s at)). inl (simp (h, f, z, w)))
-      (λ (w : New s (formerWalkOf k s (nextFieldAt s at))). inr (simp (h, f, z) w)) (walk-same k (nextFieldAt s at)))
+      (λ (f : formerFaultOf s seen at ≡ faultOf s seen at). cases (eqb (faultOf s seen at) 0)
+      (λ z. ⊎-elim (λ (w : formerWalkOf k s seen' next ≡ walkOf k s seen' next). inl (simp (h, f, z, w)))
+      (λ (w : New s (formerWalkOf k s seen' next)). inr (simp (h, f, z) w)) (walk-same k seen' next))
       (λ z. inl (simp (h, f, z))))
-      (λ (f : (formerFaultOf s at ≡ 2) × (newAt s at ≡ true)). inr (simp (h, f .0) (refl, f .1)))
-      (fault-same at))
+      (λ (f : (formerFaultOf s seen at ≡ 2) × (newAt s at ≡ true)). inr (simp (h, f .0) (refl, f .1)))
+      (fault-same seen at))
       (λ h. inl (simp h))
+
+  abbrev none : List Bool
+  none = replicate (length tags) false
 
   check-same : (formerCheckOf s ≡ checkOf s) ⊎ New s (formerCheckOf s)
   unfolding formerCheckOf checkOf
   check-same =
       cases (ltb 1024 (length s)) (λ h. inl (simp h))
-      (λ h. ⊎-elim (λ (w : formerWalkOf (length s) s 0 ≡ walkOf (length s) s 0). inl (simp (h, w)))
-      (λ (w : New s (formerWalkOf (length s) s 0)). inr (simp h w)) (walk-same (length s) 0))
+      (λ h. ⊎-elim (λ (w : formerWalkOf (length s) s none 0 ≡ walkOf (length s) s none 0). inl (simp (h, w)))
+      (λ (w : New s (formerWalkOf (length s) s none 0)). inr (simp h w)) (walk-same (length s) none 0))
 
   -- ---- a walk that refused nothing came to no other field
-  find-former : (k tag at : ℕ) → formerWalkOf k s at .number ≡ 0 → firstBefore k s tag at (length s) < length s
-      → (formerFaultOf s (firstBefore k s tag at (length s)) ≡ 0) × (byteOf s (firstBefore k s tag at (length s)) ≡ tag)
-  unfolding firstBefore formerWalkOf
-  find-former zero tag at e h = absurd (omega arith)
-  find-former (suc k) tag at e h =
-      cases (ltb at (length s))
-      (λ a. cases (eqb (formerFaultOf s at) 0)
-      (λ z. cases (eqb (byteOf s at) tag) (λ b. simp (a, b) (eqb-true (formerFaultOf s at) 0 z, eqb-true (byteOf s at) tag b))
-      (λ b. simp (a, b) (find-former k tag (nextFieldAt s at) (simp (a, z) at e) (simp (a, b) at h))))
-      (λ z. absurd (eqb-false (formerFaultOf s at) 0 z (simp (a, z) at e))))
-      (λ a. let z = simp a at h in absurd (omega arith))
-
   passed : (b : Bool) (x y : ℕ) → 1 ≤ x → cond b x y ≡ 0 → (b ≡ false) × (y ≡ 0)
   passed true x y l e = absurd (omega arith)
   passed false x y l e = (refl, e)
 
-  former-field : (at : ℕ) → formerFaultOf s at ≡ 0 → (byteOf s at ≤ 14) × (formerLengthFits (byteOf s at) (lengthAt s at) ≡ true)
+  abbrev Former : ℕ → Type 0
+  Former at = (byteOf s at ≤ 14) × (formerLengthFits (byteOf s at) (lengthAt s at) ≡ true)
+
+  former-field : (seen : List Bool) (at : ℕ) → formerFaultOf s seen at ≡ 0 → Former at
   unfolding formerFaultOf
-  former-field at e =
+  former-field seen at e =
       let tag = byteOf s at in
       let header = passed (ltb (length s - at) 3) 1 _ (lit≤ tt) e in
       let known = passed (not (between 1 14 tag)) 2 _ (lit≤ tt) (header .1) in
-      let new = passed (ltb (firstBefore (length s) s tag 0 at) at) 3 _ (lit≤ tt) (known .1) in
+      let new = passed (getD seen tag false) 3 _ (lit≤ tt) (known .1) in
       let fits = passed (not (formerLengthFits tag (lengthAt s at))) 2 _ (lit≤ tt) (new .1) in
       (leb-true tag 14 (both (leb 1 tag) (leb tag 14) (not-false _ (known .0)) .1), not-false _ (fits .0))
 
+  find-former : (k : ℕ) (seen : List Bool) (tag at : ℕ) → formerWalkOf k s seen at .number ≡ 0 → firstFrom k s tag at < length s
+      → Former (firstFrom k s tag at)
+  unfolding firstFrom formerWalkOf
+  find-former zero seen tag at e h = absurd (omega arith)
+  find-former (suc k) seen tag at e h =
+      cases (ltb at (length s))
+      (λ a. cases (eqb (formerFaultOf s seen at) 0)
+      (λ z. cases (eqb (byteOf s at) tag) (λ b. simp (a, b) (former-field seen at (eqb-true (formerFaultOf s seen at) 0 z)))
+      (λ b. simp (a, b) (find-former k (set seen (byteOf s at) true) tag (nextFieldAt s at) (simp (a, z) at e) (simp (a, b) at h))))
+      (λ z. absurd (eqb-false (formerFaultOf s seen at) 0 z (simp (a, z) at e))))
+      (λ a. let z = simp a at h in absurd (omega arith))
+
   module _ (e : formerCheckOf s .number ≡ 0) where
-    walked : formerWalkOf (length s) s 0 .number ≡ 0
+    walked : formerWalkOf (length s) s none 0 .number ≡ 0
     unfolding formerCheckOf
     walked = cases (ltb 1024 (length s)) (λ h. let z = simp h at e in absurd (omega arith)) (λ h. simp h at e)
-
-    has-former : (tag : ℕ) → hasOf s tag ≡ true → (tag ≤ 14) × (formerLengthFits tag (lengthAt s (offsetOf s tag)) ≡ true)
-    unfolding hasOf offsetOf
-    has-former tag h =
-        let f = find-former (length s) tag 0 walked (ltb-true (firstBefore (length s) s tag 0 (length s)) (length s) h) in
-        let g = former-field (firstBefore (length s) s tag 0 (length s)) (f .0) in
-        (rw (f .1) at (g .0), rw (f .1) at (g .1))
-
-    has-none : (tag : ℕ) → 15 ≤ tag → hasOf s tag ≡ false
-    has-none tag l = cases (hasOf s tag) (λ h. let m = has-former tag h .0 in absurd (omega arith)) (λ h. h)
 
     check-none : checkOf s .number ≡ 0
     check-none =
         ⊎-elim (λ (f : formerCheckOf s ≡ checkOf s). ap (λ (r : Refusal). r .number) (sym f) ∙ e)
         (λ (f : New s (formerCheckOf s)). absurd (let n = f .0 in omega arith)) check-same
 
+    found : (tag : ℕ) → offsetOf s tag < length s → Former (offsetOf s tag)
+    unfolding offsetOf
+    found tag l = find-former (length s) none tag 0 walked l
+
+    has-former : (tag : ℕ) → hasOf s tag ≡ true → (tag ≤ 14) × (formerLengthFits tag (lengthAt s (offsetOf s tag)) ≡ true)
+    has-former tag h =
+        let g = found tag (ltb-true (offsetOf s tag) (length s) (sym (first s tag check-none .has) ∙ h)) in
+        let named = has-good s tag check-none h .1 in
+        (rw named at (g .0), rw named at (g .1))
+
+    has-none : (tag : ℕ) → 15 ≤ tag → hasOf s tag ≡ false
+    has-none tag l = cases (hasOf s tag) (λ h. let m = has-former tag h .0 in absurd (omega arith)) (λ h. h)
+
     one-byte : hasOf s 3 ≡ true → length (valueOf s 3) ≡ 1
-    unfolding valueOf formerLengthFits
+    unfolding formerLengthFits
     one-byte h =
-        whole-length s (offsetOf s 3) (has-good s 3 check-none h .0 .whole)
+        ap (length {A = ℕ}) (first s 3 check-none .value)
+        ∙ whole-length s (offsetOf s 3) (has-good s 3 check-none h .0 .whole)
         ∙ eqb-true (lengthAt s (offsetOf s 3)) 1 (has-former 3 h .1)
 
     not-two : eqb (length (valueOf s 3)) 2 ≡ false
-    not-two = cases (hasOf s 3) (λ h. rw (one-byte h) refl) (λ h. rw (value-missing s 3 h) refl)
+    not-two = cases (hasOf s 3) (λ h. rw (one-byte h) refl) (λ h. rw (value-missing s 3 check-none h) refl)
 
     -- ---- the other checks
     missing-same : missingOf (hasOf s) ≡ firstFailing 4 (hasOf s) required
@@ -295,8 +309,8 @@ module _ (s : List ℕ) where
       (a .0, cc)
 
   sheet-same : (o : Order) → former ≡ o → readingOf s ≡ reading.Read o → sheetText s ≡ formerText (valueOf s 1) o
-  unfolding reportIn townOf
-  sheet-same o f e = simp e (rw (← f) (text-same (valueOf s 1)))
+  unfolding reportIn
+  sheet-same o f e = rw (town-value s o e) (simp e (rw (← f) (text-same (valueOf s 1))))
 
 pub orders-are-as-before : OrdersAreAsBefore
 orders-are-as-before s =

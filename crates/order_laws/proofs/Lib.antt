@@ -1,4 +1,3 @@
-pub mod AcceptedParameters
 pub mod Witness
 pub mod MinutesLaws
 pub mod NothingBreaksLaws

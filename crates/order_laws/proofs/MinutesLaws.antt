@@ -1,6 +1,6 @@
 -- Demand 3: from the bytes of two orders to the parameters of one row's day, where crates/schedule_laws has proved it. Assumes nothing.
 use Rattle.prelude.proofs.Logic.{_≡_, refl, sym, ap, subst, _∙_, Bool, true, false, cond, _&&_, List, ℕ, _*_, _≤_, _<_, _^_, arith, ltb, leb, ℤ, pos, negsuc, _+ℤ_, _-ℤ_, leZ, leb-true, both}
-use Rattle.integers.proofs.Integers.{P, N, Near, same, sum, difference, _≼_}
+use Rattle.integers.proofs.Integers.{P, N, Near, same, sum, difference, le-yes, to-le}
 use Rattle.calendar.specs.Answers.{rowDateOf}
 use Rattle.fields.specs.declared.values.Part.{Part}
 use Rattle.models.specs.declared.{adjustments.TimeAdjustment.TimeAdjustment, parameters.Parameters.Parameters, prayer.Prayer.Prayer}
@@ -16,17 +16,16 @@ use Rattle.schedule.specs.declared.{in_force.Current.Current, in_force.Instant.
 use Rattle.schedule.specs.declared.prayer_times.Worked.the-variants as worked
 use Rattle.schedule.proofs.Schedule.{currentTimeOf, currentNumberOf, workedAt}
 use Rattle.schedule_laws.specs.Later.{withMinutes, laterBy, LaterMinutes, Moved}
-use Rattle.schedule_laws.proofs.CarriedLaws.{carried-sums}
-use Rattle.order_laws.proofs.AcceptedParameters.{accepted-carried}
+use Rattle.schedule_laws.proofs.OrderMinutes.{sums-held}
 use Rattle.order_laws.proofs.PrintedLaws.{imsak-is-printed-whole}
 use Rattle.schedule_laws.proofs.LaterLaws.{later-minutes-move-the-row}
 use Rattle.calls.specs.declared.in_force.InForce.the-variants as force
-use Rattle.calls.specs.Calls.{lacksRow, workRowOf, workReadingOf, workDayOf, instantFits, workAtOf, inForceOf, prayerAtOf}
+use Rattle.calls.specs.Calls.{lacksRow, workRowOf, workReadingOf, workDayOf, leastSeconds, mostSeconds, mostNanoseconds, instantFits, workAtOf, inForceOf, prayerAtOf}
 use Rattle.order_laws.specs.Minutes.{withOwnMinutes, LaterOrder, ImsakMoved, LaterOrdersMoveTheirRows}
 
 -- ---- what an accepted order's sums can be
 held : (order : Order) → Accepted order → (prayer : Prayer) → Near (2 ^ 32) (timeAdjustmentsOf (order .parameters) prayer)
-held order h = carried-sums (order .parameters) (accepted-carried order h)
+held order h = sums-held (order .parameters) (h .parameters)
 
 -- ---- a row that the order lacks
 alike-refused : (p q : Parameters) (r : Refusal) → Moved p q (worked.Refused r) (worked.Refused r)
@@ -47,7 +46,8 @@ module _ (first : Order) (town : Part) (minutes : TimeAdjustment) (row : ℕ) wh
   second : Order
   second = withOwnMinutes first town minutes
 
-  row-moved : Accepted first → Accepted second → ((prayer : Prayer) → timeAdjustmentsOf (first .parameters) prayer ≼ timeAdjustmentsOf (second .parameters) prayer)
+  row-moved : Accepted first → Accepted second
+      → ((prayer : Prayer) → leZ (timeAdjustmentsOf (first .parameters) prayer) (timeAdjustmentsOf (second .parameters) prayer) ≡ true)
       → Moved (first .parameters) (second .parameters) (workRowOf first row) (workRowOf second row)
   unfolding workRowOf second
   row-moved h k more = by-test (ltb row (first .rows))
@@ -99,7 +99,7 @@ refused-alike s z row i j r hi hj alike e =
 less-than-a-second : (i : Instant) → instantFits i ≡ true → i .nanoseconds < 1000000000
 unfolding instantFits
 less-than-a-second i h =
-    let l = leb-true (i .nanoseconds) 999999999 (both (leZ (negsuc 999999999999) (i .seconds) && leZ (i .seconds) (pos 1000000000000)) (leb (i .nanoseconds) 999999999) h .1) in
+    let l = leb-true (i .nanoseconds) mostNanoseconds (both (leZ leastSeconds (i .seconds) && leZ (i .seconds) mostSeconds) (leb (i .nanoseconds) mostNanoseconds) h .1) in
     omega arith
 
 -- ---- the theorem
@@ -124,7 +124,8 @@ module _ (a b : List ℕ) (orders : LaterOrder a b) (row : ℕ) where
       let e = orders .alike in
       let h = read-accepted a (orders .first) (orders .«first_read») in
       let k = subst Accepted (sym e) (read-accepted b (orders .second) (orders .«second_read»)) in
-      let more : (prayer : Prayer) → timeAdjustmentsOf (orders .first .parameters) prayer ≼ timeAdjustmentsOf (withOwnMinutes (orders .first) (orders .second .town) (orders .second .parameters .adjustments) .parameters) prayer = λ (prayer : Prayer). subst (λ (x : Order). timeAdjustmentsOf (orders .first .parameters) prayer ≼ timeAdjustmentsOf (x .parameters) prayer) (sym e) (orders .more prayer) in
+      let More : Order → Type 0 = λ o. (prayer : Prayer) → leZ (timeAdjustmentsOf (orders .first .parameters) prayer) (timeAdjustmentsOf (o .parameters) prayer) ≡ true in
+      let more = subst More (sym e) (orders .more) in
       let m = row-moved (orders .first) (orders .second .town) (orders .second .parameters .adjustments) row h k more in
       let n = subst (λ (x : Order). Moved (orders .first .parameters) (x .parameters) (workRowOf (orders .first) row) (workRowOf x row)) e m in
       subst (λ (w : Worked). Moved (orders .first .parameters) (orders .second .parameters) w (workDayOf b row)) (sym day-of-first)
@@ -139,8 +140,12 @@ shifted f g d m e =
     let r = sum (f -ℤ pos m) d in
     same (g -ℤ pos m) ((f -ℤ pos m) +ℤ d) (omega (arith, a .0, a .1, b .0, b .1, ap P e, ap N e))
 
-kept : (f g : ℤ) (m : ℕ) → f ≼ g → f -ℤ pos m ≼ g -ℤ pos m
-kept f g m l = let a = difference g (pos m) in let b = difference f (pos m) in omega (arith, a .0, a .1, b .0, b .1)
+kept : (f g : ℤ) (m : ℕ) → leZ f g ≡ true → leZ (f -ℤ pos m) (g -ℤ pos m) ≡ true
+kept f g m h =
+    let l = le-yes f g h in
+    let a = difference g (pos m) in
+    let b = difference f (pos m) in
+    to-le (f -ℤ pos m) (g -ℤ pos m) (omega (arith, a .0, a .1, b .0, b .1))
 
 module _ (a b : List ℕ) (orders : LaterOrder a b) (row : ℕ) (t u : PrayerTimes)
     (at : workDayOf a row ≡ worked.Times t) (bu : workDayOf b row ≡ worked.Times u) where
@@ -170,8 +175,8 @@ module _ (a b : List ℕ) (orders : LaterOrder a b) (row : ℕ) (t u : PrayerTim
       record {
         same = ramadan-same;
         «not_earlier» =
-            subst (λ (z : ℤ). z ≼ imsakOf (orders .second .ramadan .imsak) (u .fajr)) (sym first-imsak)
-            (subst (λ (z : ℤ). t .fajr -ℤ pos m ≼ z) (sym second-imsak) (kept (t .fajr) (u .fajr) m none));
+            subst (λ (z : ℤ). leZ z (imsakOf (orders .second .ramadan .imsak) (u .fajr)) ≡ true) (sym first-imsak)
+            (subst (λ (z : ℤ). leZ (t .fajr -ℤ pos m) z ≡ true) (sym second-imsak) (kept (t .fajr) (u .fajr) m none));
         exactly =
             second-imsak
             ∙ shifted (t .fajr) (u .fajr) (laterBy (orders .first .parameters) (orders .second .parameters) Fajr) m exact

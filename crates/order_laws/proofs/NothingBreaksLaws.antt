@@ -1,5 +1,5 @@
 -- Nothing that a school sends breaks a run. Assumes nothing.
-use Rattle.prelude.proofs.Logic.{_≡_, refl, sym, ap, _∙_, subst, true, false, true≢false, List, [], _∷_, _++_, ℕ, zero, suc, _+_, _-_, _/_, _≤_, _<_, arith, ltb, eqb, lit≤, length, take, drop, ltb-true, ltb-false, lt-ltb, ne-eqb, eqb-true, eqb-false, take-nil, drop-of-length-le, cases, arms}
+use Rattle.prelude.proofs.Logic.{_≡_, refl, sym, ap, _∙_, subst, true, false, true≢false, List, [], _∷_, _++_, append-assoc, append-nil, ℕ, zero, suc, _+_, _-_, _/_, _≤_, _<_, arith, leb, ltb, eqb, lit≤, length, take, drop, ltb-true, ltb-false, lt-ltb, leb-true, eq-eqb, ne-eqb, eqb-true, eqb-false, take-nil, drop-of-length-le, cases, arms}
 use Rattle.prelude.specs.Lists.{listed}
 use Rattle.braille.specs.Cells.{rowLength}
 use Rattle.calendar.specs.Answers.{rowDateOf}
@@ -18,7 +18,7 @@ use Rattle.order.specs.declared.reading.Reading.{Reading}
 use Rattle.order.specs.declared.reading.Reading.the-variants as reading
 use Rattle.order.proofs.ReadingLaws.{Refusing, refused-by}
 use Rattle.pages.specs.Answers as pages
-use Rattle.pages.specs.Answers.{rowsAnswerOf, frontIn, punchedInOf, bufferOf, oneRow, pieceIn}
+use Rattle.pages.specs.Answers.{putCallOf, askedCallOf, oneRow, pieceIn}
 use Rattle.pages.specs.Pages.{Rows, rowsFrom, cellsOf, pageOf, pieceOf}
 use Rattle.pages.proofs.RowsLaws.{cells-length, take-rows, drop-rows}
 use Rattle.refusals.specs.Refusals.{refusal}
@@ -31,14 +31,16 @@ use Rattle.schedule.specs.declared.hours.RowHours.{RowHours}
 use Rattle.schedule.specs.declared.hours.RowNumbers.{RowNumbers}
 use Rattle.schedule.specs.declared.prayer_times.Worked.{Worked}
 use Rattle.schedule.specs.declared.prayer_times.Worked.the-variants as worked
+use Rattle.sentences.specs.Sentences.{sentenceOf, sentenceCallOf}
+use Rattle.sentences.specs.Table.{known}
 use Rattle.solar.specs.Times.{dayOf, solarTimeOf, solarHourOf}
 use Rattle.solar.specs.declared.hours.HourNumbers.{HourNumbers}
 use Rattle.solar.specs.declared.setting.SolarHour.{SolarHour}
-use Rattle.solar.specs.declared.setting.SolarHour.the-variants.{At, None}
+use Rattle.solar.specs.declared.setting.SolarHour.the-variants.{Some, Nothing}
 use Rattle.solar.specs.declared.times.SolarDay.{SolarDay}
 use Rattle.solar.specs.declared.times.SolarDay.the-variants as sun
 use Rattle.text.specs.Text.{frontOf}
-use Rattle.order_laws.specs.NothingBreaks.{orderNumbers, dayNumbers, FirstBroken, FirstLacking, threeDays, RefusedDay, lineOf, eachOf, Lent, writtenOf, NothingBreaksARun}
+use Rattle.order_laws.specs.NothingBreaks.{orderNumbers, dayNumbers, FirstBroken, FirstLacking, threeDays, RefusedDay, lineOf, eachOf, insteadOf, OthersStay, Lent, writtenOf, NothingBreaksARun}
 
 -- ---- an order's numbers
 is-listed : (n : ℕ) → Refusing n → listed orderNumbers n ≡ true
@@ -64,10 +66,10 @@ first-broken (q ∷ rest) o r e =
 -- ---- a day
 lacked : (t r s : SolarHour) (n : ℕ) → dayOf t r s ≡ sun.Lacks n → listed dayNumbers n ≡ true
 unfolding dayOf listed
-lacked None r s n e = let same : 6 ≡ n = cc in rw (sym same) refl
-lacked (At t) None s n e = let same : 7 ≡ n = cc in rw (sym same) refl
-lacked (At t) (At r) None n e = let same : 8 ≡ n = cc in rw (sym same) refl
-lacked (At t) (At r) (At s) n e = let z : _≡_ {A = ℕ} 0 1 = cc in absurd (omega arith)
+lacked Nothing r s n e = let same : 6 ≡ n = cc in rw (sym same) refl
+lacked (Some t) Nothing s n e = let same : 7 ≡ n = cc in rw (sym same) refl
+lacked (Some t) (Some r) Nothing n e = let same : 8 ≡ n = cc in rw (sym same) refl
+lacked (Some t) (Some r) (Some s) n e = let z : _≡_ {A = ℕ} 0 1 = cc in absurd (omega arith)
 
 lacks-number : (rule : Midnight) (n : HourNumbers) (k : ℕ) → solarTimeOf rule n ≡ sun.Lacks k → listed dayNumbers k ≡ true
 unfolding solarTimeOf
@@ -179,19 +181,22 @@ row-lent s row buffer =
 
 -- ---- rows of cells: those that are asked for have room
 module _ (asked : Order → Rows) (s buffer : List ℕ) (fit : (o : Order) → rowLength ≤ length buffer → length (cellsOf (asked o)) ≤ length buffer) where
-  rows-lent : (rows : Rows) → length (cellsOf rows) ≤ length buffer → Lent (rowsAnswerOf rows .refusal .number) (cellsOf rows) buffer (frontOf (cellsOf rows) buffer)
-  unfolding rowsAnswerOf cellsOf
+  rows-lent : (rows : Rows) → length (cellsOf rows) ≤ length buffer
+      → Lent (putCallOf rows buffer .answer .refusal .number) (cellsOf rows) buffer (putCallOf rows buffer .buffer)
+  unfolding putCallOf
   rows-lent [] h = refused-lent refl
   rows-lent (row ∷ rows) h = written-lent h
 
-  cells-lent : Lent (punchedInOf asked rowLength s buffer .refusal .number) (writtenOf (λ o. cellsOf (asked o)) (readingOf s)) buffer (bufferOf asked rowLength s buffer)
-  unfolding punchedInOf bufferOf pages.answerIn frontIn
+  cells-lent : Lent (askedCallOf asked rowLength s buffer .answer .refusal .number) (writtenOf (λ o. cellsOf (asked o)) (readingOf s)) buffer
+      (askedCallOf asked rowLength s buffer .buffer)
+  unfolding askedCallOf
   cells-lent =
       cases (ltb (length buffer) rowLength) (λ short. rw short (refused-lent refl))
       (λ there. rw there (by-reading (ltb-false (length buffer) rowLength there) (readingOf s) refl))
     where
       by-reading : rowLength ≤ length buffer → (x : Reading) → readingOf s ≡ x
-          → Lent (pages.answerIn asked x .refusal .number) (writtenOf (λ o. cellsOf (asked o)) x) buffer (frontIn asked x buffer)
+          → Lent (pages.callIn asked x buffer .answer .refusal .number) (writtenOf (λ o. cellsOf (asked o)) x) buffer
+          (pages.callIn asked x buffer .buffer)
       by-reading h (reading.Read o) e = rows-lent (asked o) (fit o h)
       by-reading h (reading.Refused r) e = refused-lent (order-number s r e)
 
@@ -209,6 +214,60 @@ piece-fits zero first scratch o h =
 piece-fits (suc p) first scratch o h =
     rw (drop-rows, take-rows, drop-rows, take-rows, cells-length) (omega arith)
 
+-- ---- a sentence
+sentence-lent : (n p : ℕ) (buffer : List ℕ)
+    → Lent (sentenceCallOf n p buffer .answer .number) (sentenceOf n p) buffer (sentenceCallOf n p buffer .buffer)
+unfolding sentenceCallOf
+sentence-lent n p buffer =
+    cases (known n)
+    (λ k. rw k (cases (leb (length (sentenceOf n p)) (length buffer))
+    (λ room. rw room (written-lent (leb-true (length (sentenceOf n p)) (length buffer) room))) (λ room. rw room (refused-lent refl))))
+    (λ k. rw k (refused-lent refl))
+
+-- ---- a row and the others
+-- what the n rows from one on give
+fromOf : (ℕ → List ℕ) → ℕ → ℕ → List ℕ
+fromOf of k zero = []
+fromOf of k (suc n) = fromOf of k n ++ of (k + n)
+
+around : (of : ℕ → List ℕ) (one n : ℕ) → eachOf of (suc one + n) ≡ eachOf of one ++ of one ++ fromOf of (suc one) n
+unfolding eachOf fromOf
+around of one zero = let e : suc one + 0 ≡ suc one = omega arith in rw e (sym (append-nil (eachOf of one ++ of one)))
+around of one (suc n) =
+    let e : suc one + suc n ≡ suc (suc one + n) = omega arith in
+    rw (e, around of one n) (append-assoc (eachOf of one ++ of one) (fromOf of (suc one) n) (of (suc one + n)))
+
+module _ (of other : ℕ → List ℕ) (one : ℕ) (alike : (row : ℕ) → eqb row one ≡ false → other row ≡ of row) where
+  before-same : (n : ℕ) → n ≤ one → eachOf other n ≡ eachOf of n
+  unfolding eachOf
+  before-same zero h = refl
+  before-same (suc n) h = rw (before-same n (omega arith), alike n (ne-eqb n one (omega arith)))
+
+  after-same : (n : ℕ) → fromOf other (suc one) n ≡ fromOf of (suc one) n
+  unfolding fromOf
+  after-same zero = refl
+  after-same (suc n) = rw (after-same n, alike (suc one + n) (ne-eqb (suc one + n) one (omega arith)))
+
+others-stay : (o : Order) (row : ℕ) → row < o .rows → OthersStay o row
+others-stay o row h =
+    let left = o .rows - suc row in
+    let n : o .rows ≡ suc row + left = omega arith in
+    record {
+      before = eachOf (lineOf o) row;
+      after = fromOf (lineOf o) (suc row) left;
+      now = ap (eachOf (lineOf o)) n ∙ around (lineOf o) row left;
+      instead = λ w.
+          let alike : (k : ℕ) → eqb k row ≡ false → insteadOf o row w k ≡ lineOf o k = λ k e. rw e in
+          let here : insteadOf o row w row ≡ lineText (o .ramadan) (rowDateOf (o .date) row) w = rw (eq-eqb row row refl) in
+          ap (eachOf (insteadOf o row w)) n
+          ∙ around (insteadOf o row w) row left
+          ∙ rw (
+            before-same (lineOf o) (insteadOf o row w) row alike row (omega arith),
+            here,
+            after-same (lineOf o) (insteadOf o row w) row alike left,
+          );
+    }
+
 pub nothing-breaks-a-run : NothingBreaksARun
 unfolding readingOf
 nothing-breaks-a-run s =
@@ -218,7 +277,9 @@ nothing-breaks-a-run s =
       day = λ o row r e h w. refused-day o (rowDateOf (o .date) row) r (sym (row-of s o row e h) ∙ w);
       lacking = λ o row r e h l. row-of s o row e h ∙ lacking-day o (rowDateOf (o .date) row) r l;
       sheet = sheet-each s;
+      only = λ o row e h. others-stay o row h;
       row = row-lent s;
       cells = λ row buffer. cells-lent (oneRow row) s buffer (one-fits row buffer);
       page = λ page first scratch. cells-lent (pieceIn page first scratch) s scratch (piece-fits page first scratch);
+      sentence = sentence-lent;
     }

@@ -9,14 +9,14 @@ use Rattle.refusals.specs.Refusals.{refusal}
 use Rattle.lines.specs.Lines.{daysOf, nineOf, imsakOf}
 use Rattle.order.specs.Accepted.{Accepted}
 use Rattle.order.specs.declared.reading.Order.{Order}
-use Rattle.schedule.proofs.Schedule.{start-near, numbersOf, startOf, seasonOf, workedAt}
+use Rattle.models.specs.declared.prayer.Prayer.the-variants.{Fajr, Sunrise, Dhuhr, Asr, Maghrib, Isha, Qiyam, FajrTomorrow}
+use Rattle.schedule.proofs.Schedule.{start-near, numbersOf, startOf, seasonOf, workedAt, timeOf}
 use Rattle.schedule.specs.declared.{prayer_times.PrayerTimes.PrayerTimes, prayer_times.Worked.Worked}
 use Rattle.schedule.specs.declared.prayer_times.Worked.the-variants.{Times, Refused}
 use Rattle.schedule_laws.specs.Range.{OfDate, AllOfDate}
 use Rattle.schedule_laws.proofs.RangeLaws.{times-lie-by-their-date}
 use Rattle.order_laws.specs.Imsak.{ImsakIsPrintedWhole}
 use Rattle.order_laws.specs.Printed.{DaysArePrintedWhole}
-use Rattle.order_laws.proofs.AcceptedParameters.{accepted-carried, accepted-latitude}
 
 -- one of the two parts is 0
 small : (k : ℕ) (z : ℤ) → P z ≤ N z + k → N z ≤ P z + k → natAbs z ≤ k
@@ -33,15 +33,16 @@ one-digit date time h =
     small 4 (daysOf date time) (omega (arith, f .balance, f .below, d .0, d .1, m, s .0, s .1, h .from, h .before)) (omega (arith, f .balance, f .below, d .0, d .1, m, s .0, s .1, h .from, h .before))
 
 nine-digits : (date : Date) (t : PrayerTimes) → AllOfDate date t → (i : ℕ) → i < 9 → natAbs (daysOf date (getD (nineOf t) i (pos 0))) ≤ 4
-nine-digits date t a zero l = one-digit date (t .fajr) (a .fajr)
-nine-digits date t a (suc zero) l = one-digit date (t .sunrise) (a .sunrise)
-nine-digits date t a (suc (suc zero)) l = one-digit date (t .dhuhr) (a .dhuhr)
-nine-digits date t a (suc (suc (suc zero))) l = one-digit date (t .asr) (a .asr)
-nine-digits date t a (suc (suc (suc (suc zero)))) l = one-digit date (t .maghrib) (a .maghrib)
-nine-digits date t a (suc (suc (suc (suc (suc zero))))) l = one-digit date (t .isha) (a .isha)
+unfolding timeOf
+nine-digits date t a zero l = one-digit date (t .fajr) (a .named Fajr)
+nine-digits date t a (suc zero) l = one-digit date (t .sunrise) (a .named Sunrise)
+nine-digits date t a (suc (suc zero)) l = one-digit date (t .dhuhr) (a .named Dhuhr)
+nine-digits date t a (suc (suc (suc zero))) l = one-digit date (t .asr) (a .named Asr)
+nine-digits date t a (suc (suc (suc (suc zero)))) l = one-digit date (t .maghrib) (a .named Maghrib)
+nine-digits date t a (suc (suc (suc (suc (suc zero))))) l = one-digit date (t .isha) (a .named Isha)
 nine-digits date t a (suc (suc (suc (suc (suc (suc zero)))))) l = one-digit date (t .«middle_of_the_night») (a .«middle_of_the_night»)
-nine-digits date t a (suc (suc (suc (suc (suc (suc (suc zero))))))) l = one-digit date (t .qiyam) (a .qiyam)
-nine-digits date t a (suc (suc (suc (suc (suc (suc (suc (suc zero)))))))) l = one-digit date (t .«fajr_tomorrow») (a .«fajr_tomorrow»)
+nine-digits date t a (suc (suc (suc (suc (suc (suc (suc zero))))))) l = one-digit date (t .qiyam) (a .named Qiyam)
+nine-digits date t a (suc (suc (suc (suc (suc (suc (suc (suc zero)))))))) l = one-digit date (t .«fajr_tomorrow») (a .named FajrTomorrow)
 nine-digits date t a (suc (suc (suc (suc (suc (suc (suc (suc (suc i))))))))) l = absurd (omega arith)
 
 abbrev isTimes : Worked → Type 0
@@ -60,7 +61,7 @@ by-its-date order row t h e = by-row (ltb row (order .rows)) e
         → cond b (workedAt date (order .coordinates) (order .parameters) (order .rules)) (Refused (refusal 5 3)) ≡ Times t
         → AllOfDate date t
     by-row true w =
-        times-lie-by-their-date (order .rules .midnight) (numbersOf date (order .coordinates) (order .parameters)) date (seasonOf (order .coordinates .latitude) (order .rules)) (order .parameters) t (accepted-latitude order h) (accepted-carried order h) w
+        times-lie-by-their-date (order .rules .midnight) (numbersOf date (order .coordinates) (order .parameters)) date (seasonOf (order .coordinates .latitude) (order .rules)) (order .parameters) t (h .latitude) (h .parameters) w
     by-row false w = absurd (subst isTimes (sym w) tt)
 
 pub days-are-printed-whole : DaysArePrintedWhole
@@ -99,10 +100,11 @@ row-there order row t e = go (ltb row (order .rows)) refl e
     go false h w = absurd (subst isTimes (sym w) tt)
 
 pub imsak-is-printed-whole : ImsakIsPrintedWhole
+unfolding timeOf
 imsak-is-printed-whole order row t h e =
     let date = rowDateOf (order .date) row in
     let m = order .ramadan .imsak in
     let a = by-its-date order row t h e in
     let y = h .row row (row-there order row t e) .to in
-    let exact = imsak-exact date (t .fajr) m (omega arith) (h .imsak) (a .fajr) in
-    record { exact = exact; days = subst (λ (z : ℤ). natAbs (daysOf date z) ≤ 5) (sym exact) (imsak-digit date (t .fajr) m (h .imsak) (a .fajr)) }
+    let exact = imsak-exact date (t .fajr) m (omega arith) (h .imsak) (a .named Fajr) in
+    record { exact = exact; days = subst (λ (z : ℤ). natAbs (daysOf date z) ≤ 5) (sym exact) (imsak-digit date (t .fajr) m (h .imsak) (a .named Fajr)) }

@@ -1,17 +1,23 @@
--- An order that is read stays one where a coordinate is sent in the form on the map. Assumes nothing.
-use Rattle.prelude.proofs.Logic.{_≡_, refl, sym, _∙_, true, false, _&&_, _||_, List, ℕ, _-_, _≤_, _<_, arith, lit≤, getD, eq-eqb, cases}
+-- An order that is read stays one if a coordinate is sent in the other form, and its coordinates are written back. Assumes nothing.
+use Rattle.prelude.proofs.Logic.{_≡_, refl, sym, ap, _∙_, true, false, _&&_, _||_, List, ℕ, _-_, _≤_, _<_, arith, lit≤, getD, eq-eqb, cases}
+use Rattle.float64.proofs.Floats.{Float, neg, dec, Inside}
 use Rattle.fields.specs.Fields.{checkOf}
 use Rattle.fields.specs.Values.{hasOf, valueOf, valuesOf}
-use Rattle.map_form.specs.Hundredths.{formFits}
-use Rattle.order.specs.Given.{formIn, ramadanIn}
-use Rattle.order.specs.Ranges.{lookUp, fitsOf, inRangeOf}
+use Rattle.map_form.specs.Hundredths.{signedHundredthsOf, degreesOf, formFits}
+use Rattle.map_form.specs.Written.{writtenOf}
+use Rattle.map_form.proofs.RoundTrip.{writing-gives-back}
+use Rattle.order.specs.Given.{formIn, coordinateIn, ramadanIn}
+use Rattle.order.specs.Ranges.{degreesFit, lookUp, fitsOf, inRangeOf}
 use Rattle.order.specs.Reading.{firstFailing, required, isGivenOf, missingOf, bothFormsOf, tagsFrom, outOfRangeOf, orderOf, wrongStartOf, firstOf, readingOf}
+use Rattle.order.specs.Accepted.{Accepted}
+use Rattle.order.specs.declared.reading.Order.{Order}
 use Rattle.order.specs.declared.reading.Reading.the-variants.{Read}
-use Rattle.order.proofs.ReadingLaws.{Passed, read-passed, has-required}
+use Rattle.order.proofs.AcceptedLaws.{read-accepted}
+use Rattle.order.proofs.ReadingLaws.{Passed, read-passed, has-required, fits-given}
 use Rattle.order.proofs.Tags.{all-pass, tags-from, tags-length}
 use Rattle.refusals.specs.Refusals.{noRefusal}
 use Rattle.order_laws.specs.EitherForm.{saysPlace}
-use Rattle.order_laws.specs.Swapped.{Sent, Swapped, MapFormIsRead}
+use Rattle.order_laws.specs.Swapped.{Sent, Swapped, OtherFormIsRead, ReadIsWrittenBack}
 
 module _ (a b : List ℕ) (w : Swapped a b) where
   passed : Passed a (w .order)
@@ -54,20 +60,28 @@ module _ (a b : List ℕ) (w : Swapped a b) where
     in-map : inRangeOf (valuesOf b) map ≡ true
 
   fine : (float map most : ℕ) → 1 ≤ float → float ≤ 20 → 1 ≤ map → map ≤ 20 → (hasOf a float || hasOf a map) ≡ true → (hasOf a float && hasOf a map) ≡ false
-      → (hasOf b map ≡ true → formFits most (formIn (valueOf b map)) ≡ true → inRangeOf (valuesOf b) map ≡ true) → Sent a b float map most → Fine float map
-  fine float map most l h k m given single in-range (Sent.alike x v y u) =
+      → (hasOf b map ≡ true → formFits most (formIn (valueOf b map)) ≡ true → inRangeOf (valuesOf b) map ≡ true)
+      → (hasOf b float ≡ true → hasOf b map ≡ false → inRangeOf (valuesOf b) float ≡ true) → Sent a b float map most → Fine float map
+  fine float map most l h k m given single in-range float-range (Sent.alike x v y u) =
       record {
         given = rw (x, y) at given;
         single = rw (x, y) at single;
         in-float = sym (same-range float x v) ∙ in-a float l h;
         in-map = sym (same-range map y u) ∙ in-a map k m;
       }
-  fine float map most l h k m given single in-range (Sent.swapped lacks there fits) =
+  fine float map most l h k m given single in-range float-range (Sent.mapped lacks there fits) =
       record {
         given = simp (lacks, there);
         single = simp lacks;
         in-float = missing-range float lacks;
         in-map = in-range there fits;
+      }
+  fine float map most l h k m given single in-range float-range (Sent.floated there lacks) =
+      record {
+        given = simp there;
+        single = simp (there, lacks);
+        in-float = float-range there lacks;
+        in-map = missing-range map lacks;
       }
 
   -- what the first passed
@@ -81,13 +95,28 @@ module _ (a b : List ℕ) (w : Swapped a b) where
       cases (hasOf a 4 && hasOf a 18) (λ t. let z = simp t at e in absurd (omega arith))
       (λ t. cases (hasOf a 5 && hasOf a 19) (λ u. let z = simp (t, u) at e in absurd (omega arith)) (λ u. (t, u)))
 
+  -- a float that is what an order read has is in its range
+  float-fits : (most float map : ℕ) (x : Float) → Inside (neg (dec most 0)) (dec most 0) x → x ≡ coordinateIn (valuesOf b) float map
+      → hasOf b map ≡ false → degreesFit (neg (dec most 0)) (dec most 0) (valueOf b float) ≡ true
+  unfolding coordinateIn
+  float-fits most float map x inside same lacks = let e = simp lacks at same in rw (← e, inside .0, inside .1)
+
+  accepted : Accepted (w .order)
+  accepted = read-accepted a (w .order) (w .«first_read»)
+
   latitude-fine : Fine 4 18
   unfolding isGivenOf lookUp inRangeOf fitsOf
-  latitude-fine = fine 4 18 90 (lit≤ tt) (lit≤ tt) (lit≤ tt) (lit≤ tt) (either-given 3 (lit≤ tt)) (one-each .0) (λ there fits. rw there fits) (w .latitude)
+  latitude-fine =
+      fine 4 18 90 (lit≤ tt) (lit≤ tt) (lit≤ tt) (lit≤ tt) (either-given 3 (lit≤ tt)) (one-each .0) (λ there fits. rw there fits)
+      (λ there lacks. rw there (float-fits 90 4 18 (w .order .coordinates .latitude) (accepted .latitude) (w .«same_latitude») lacks))
+      (w .latitude)
 
   longitude-fine : Fine 5 19
   unfolding isGivenOf lookUp inRangeOf fitsOf
-  longitude-fine = fine 5 19 180 (lit≤ tt) (lit≤ tt) (lit≤ tt) (lit≤ tt) (either-given 4 (lit≤ tt)) (one-each .1) (λ there fits. rw there fits) (w .longitude)
+  longitude-fine =
+      fine 5 19 180 (lit≤ tt) (lit≤ tt) (lit≤ tt) (lit≤ tt) (either-given 4 (lit≤ tt)) (one-each .1) (λ there fits. rw there fits)
+      (λ there lacks. rw there (float-fits 180 5 19 (w .order .coordinates .longitude) (accepted .longitude) (w .«same_longitude») lacks))
+      (w .longitude)
 
   -- ---- the checks
   given-b : missingOf (hasOf b) ≡ noRefusal
@@ -144,9 +173,9 @@ module _ (a b : List ℕ) (w : Swapped a b) where
   unfolding readingOf firstOf
   second-read = simp (eq-eqb (checkOf b .number) 0 (w .fields), given-b, single-b, ranges-b, eq-eqb _ _ start-b)
 
-pub map-form-is-read : MapFormIsRead
+pub other-form-is-read : OtherFormIsRead
 unfolding orderOf
-map-form-is-read a b w =
+other-form-is-read a b w =
     record {
       first = w .order;
       second = orderOf (valuesOf b);
@@ -155,4 +184,34 @@ map-form-is-read a b w =
       latitude = w .«same_latitude»;
       longitude = w .«same_longitude»;
       others = w .others;
+    }
+
+-- ---- what was read on the map is written back
+module _ (s : List ℕ) (o : Order) (e : readingOf s ≡ Read o) where
+  was-passed : Passed s o
+  was-passed = read-passed s o e
+
+  latitude-fits : hasOf s 18 ≡ true → formFits 90 (formIn (valueOf s 18)) ≡ true
+  unfolding fitsOf lookUp
+  latitude-fits h = fits-given (valuesOf s) (was-passed .ranges) 18 (lit≤ tt) (lit≤ tt) h
+
+  longitude-fits : hasOf s 19 ≡ true → formFits 180 (formIn (valueOf s 19)) ≡ true
+  unfolding fitsOf lookUp
+  longitude-fits h = fits-given (valuesOf s) (was-passed .ranges) 19 (lit≤ tt) (lit≤ tt) h
+
+  latitude-is : hasOf s 18 ≡ true → o .coordinates .latitude ≡ degreesOf (signedHundredthsOf (formIn (valueOf s 18)))
+  unfolding orderOf coordinateIn
+  latitude-is h = ap (λ (x : Order). x .coordinates .latitude) (sym (was-passed .same)) ∙ simp h
+
+  longitude-is : hasOf s 19 ≡ true → o .coordinates .longitude ≡ degreesOf (signedHundredthsOf (formIn (valueOf s 19)))
+  unfolding orderOf coordinateIn
+  longitude-is h = ap (λ (x : Order). x .coordinates .longitude) (sym (was-passed .same)) ∙ simp h
+
+pub read-is-written-back : ReadIsWrittenBack
+read-is-written-back s o e =
+    let latitude = formIn (valueOf s 18) in
+    let longitude = formIn (valueOf s 19) in
+    record {
+      latitude = λ h. ap (writtenOf 18 90) (latitude-is s o e h) ∙ writing-gives-back 18 90 latitude (lit≤ tt) (latitude-fits s o e h);
+      longitude = λ h. ap (writtenOf 19 180) (longitude-is s o e h) ∙ writing-gives-back 19 180 longitude (lit≤ tt) (longitude-fits s o e h);
     }

@@ -13,7 +13,7 @@ use Rattle.map_form.specs.Written.{latitudeTag, longitudeTag}
 use Rattle.order.specs.declared.reading.Order.{Order}
 use Rattle.order.specs.declared.reading.Reading.the-variants.{Read}
 use Rattle.order.specs.Reading.{readingOf, townOf}
-use Rattle.pages.specs.Answers.{rowWritten, rowBuffer, pageWritten, pageBuffer}
+use Rattle.pages.specs.Answers.{cellsCallOf, pageCallOf}
 use Rattle.pages.specs.Reports.{wearText, cellsText}
 use Rattle.rows.specs.Rows.{rowCallOf, sheetText}
 use Rattle.schedule.specs.declared.in_force.Instant.{Instant}
@@ -48,30 +48,26 @@ withTown order town =
       ramadan = order .ramadan;
     }
 
-pub record SameAnswers (a b : List ℕ) (orders : SamePlace a b) : Type 0 where
-  -- the record, but for where the town stands, and the town
-  pub given : withTown (orders .first) (orders .second .town) ≡ orders .second
+pub record SameAnswers (a b : List ℕ) : Type 0 where
   pub town : townOf a ≡ townOf b
   pub sheet : sheetText a ≡ sheetText b
-  -- the calls on a row, on an instant, and on a row buffer
+  -- the calls on a row, on an instant, and on a row buffer: answer and buffer
   pub day : (row : ℕ) → workDayOf a row ≡ workDayOf b row
   pub prayer : (row : ℕ) (i : Instant) → prayerAtOf a row i ≡ prayerAtOf b row i
   pub next : (row : ℕ) (i : Instant) → nextAtOf a row i ≡ nextAtOf b row i
   pub remaining : (row : ℕ) (i : Instant) → remainingAtOf a row i ≡ remainingAtOf b row i
-  pub answer : (row : ℕ) (buffer : List ℕ) → rowCallOf a row buffer .answer ≡ rowCallOf b row buffer .answer
-  pub buffer : (row : ℕ) (buffer : List ℕ) → rowCallOf a row buffer .buffer ≡ rowCallOf b row buffer .buffer
+  pub «row_call» : (row : ℕ) (buffer : List ℕ) → rowCallOf a row buffer ≡ rowCallOf b row buffer
   -- cells: of a row, of a page or a piece of it, of all pages, and their dots
-  pub «cells_answer» : (row : ℕ) (buffer : List ℕ) → rowWritten row a buffer ≡ rowWritten row b buffer
-  pub «cells_buffer» : (row : ℕ) (buffer : List ℕ) → rowBuffer row a buffer ≡ rowBuffer row b buffer
-  pub «page_answer» : (page first : ℕ) (scratch : List ℕ) → pageWritten page first a scratch ≡ pageWritten page first b scratch
-  pub «page_buffer» : (page first : ℕ) (scratch : List ℕ) → pageBuffer page first a scratch ≡ pageBuffer page first b scratch
+  pub «cells_call» : (row : ℕ) (buffer : List ℕ) → cellsCallOf a row buffer ≡ cellsCallOf b row buffer
+  pub «page_call» : (page first : ℕ) (scratch : List ℕ) → pageCallOf a page first scratch ≡ pageCallOf b page first scratch
   pub wear : wearText a ≡ wearText b
   pub cells : cellsText a ≡ cellsText b
   -- the week's report
   pub week : weekText a ≡ weekText b
 
 abbrev pub EitherFormAnswersAlike : Type 0
-EitherFormAnswersAlike = (a b : List ℕ) (orders : SamePlace a b) → SameAnswers a b orders
+EitherFormAnswersAlike = (a b : List ℕ) (orders : SamePlace a b)
+    → (withTown (orders .first) (orders .second .town) ≡ orders .second) × SameAnswers a b
 
 -- "shifts by minutes included": where demand 3 speaks of two orders, it speaks of them with the place sent the other way too
 abbrev pub EitherFormMovesAlike : Type 0

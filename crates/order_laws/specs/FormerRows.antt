@@ -8,14 +8,14 @@ use mathlib.Core.List.{List, [], _∷_, _++_}
 use mathlib.Core.Logic.{_⊎_}
 use lib.Dec.{leb, ltb, eqb}
 use lib.IntN.{pos}
-use lib.ListN.{length}
+use lib.ListN.{length, getD, set, replicate}
 use Rattle.refusals.specs.Refusals.{refusal, noRefusal, fieldCut, fieldUnknown, fieldAgain, tagMissing, outOfRange}
 use Rattle.refusals.specs.declared.Refusal.{Refusal}
 use Rattle.calendar.specs.Answers.{rowDateOf}
 use Rattle.calendar.specs.declared.dates.Date.{Date}
-use Rattle.fields.specs.Fields.{lengthAt, nextFieldAt, firstBefore, longestOrder}
+use Rattle.fields.specs.Fields.{lengthAt, nextFieldAt, longestOrder}
 use Rattle.fields.specs.Numbers.{byteOf}
-use Rattle.fields.specs.Tags.{lastTag, lengthFits}
+use Rattle.fields.specs.Tags.{tags, lastTag, lengthFits}
 use Rattle.fields.specs.Values.{valueOf, Values, valuesOf}
 use Rattle.hijri.specs.declared.ramadan.Ramadan.{Ramadan}
 use Rattle.lines.specs.Lines.{nineOf, rowText, refusedDayText}
@@ -43,23 +43,25 @@ unfoldable pub formerLengthFits : ℕ → ℕ → Bool
 formerLengthFits tag n = cond (eqb tag 3) (eqb n 1) (lengthFits tag n)
 
 -- "header cut, unknown tag, tag again, wrong length, value cut"
-unfoldable pub formerFaultOf : List ℕ → ℕ → ℕ
-formerFaultOf s at =
+unfoldable pub formerFaultOf : List ℕ → (seen : List Bool) → ℕ → ℕ
+formerFaultOf s seen at =
     let tag = byteOf s at in
     let n = lengthAt s at in
     cond (ltb (length s - at) 3) fieldCut
     (cond (not (between 1 formerLast tag)) fieldUnknown
-    (cond (ltb (firstBefore (length s) s tag 0 at) at) fieldAgain
+    (cond (getD seen tag false) fieldAgain
     (cond (not (formerLengthFits tag n)) fieldUnknown
     (cond (ltb (length s - at - 3) n) fieldCut 0))))
 
-unfoldable pub formerWalkOf : ℕ → List ℕ → ℕ → Refusal
-formerWalkOf zero s at = noRefusal
-formerWalkOf (suc k) s at =
-    cond (ltb at (length s)) (cond (eqb (formerFaultOf s at) 0) (formerWalkOf k s (nextFieldAt s at)) (refusal (formerFaultOf s at) at)) noRefusal
+unfoldable pub formerWalkOf : ℕ → List ℕ → (seen : List Bool) → ℕ → Refusal
+formerWalkOf zero s seen at = noRefusal
+formerWalkOf (suc k) s seen at =
+    cond (ltb at (length s))
+    (cond (eqb (formerFaultOf s seen at) 0) (formerWalkOf k s (set seen (byteOf s at) true) (nextFieldAt s at)) (refusal (formerFaultOf s seen at) at))
+    noRefusal
 
 unfoldable pub formerCheckOf : List ℕ → Refusal
-formerCheckOf s = cond (ltb longestOrder (length s)) (refusal fieldCut 0) (formerWalkOf (length s) s 0)
+formerCheckOf s = cond (ltb longestOrder (length s)) (refusal fieldCut 0) (formerWalkOf (length s) s (replicate (length tags) false) 0)
 
 -- ---- the ranges: "rows, 1 byte, 1 to 250, last row by 2199-12-31"; those of the other tags are today's
 unfoldable pub formerRowsFit : Date → List ℕ → Bool

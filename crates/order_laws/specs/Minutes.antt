@@ -10,7 +10,7 @@ use mathlib.Core.Bool.{true}
 use mathlib.Core.List.{List}
 use Prim.Native.Nat.{ℕ, _≤_}
 use lib.IntN.{_+ℤ_}
-use Rattle.integers.specs.Order.{_≼_}
+use lib.Signed.{leZ}
 use Rattle.fields.specs.declared.values.Part.{Part}
 use Rattle.models.specs.declared.adjustments.TimeAdjustment.{TimeAdjustment}
 use Rattle.models.specs.declared.prayer.Prayer.{Prayer}
@@ -54,12 +54,12 @@ pub record LaterOrder (a b : List ℕ) : Type 0 where
   pub town : townOf a ≡ townOf b
   pub alike : withOwnMinutes first (second .town) (second .parameters .adjustments) ≡ second
   -- "the six prayers are tag 11's"; Qiyam and tomorrow's Fajr have no minutes, so that their sums are equal
-  pub more : (prayer : Prayer) → timeAdjustmentsOf (first .parameters) prayer ≼ timeAdjustmentsOf (second .parameters) prayer
+  pub more : (prayer : Prayer) → leZ (timeAdjustmentsOf (first .parameters) prayer) (timeAdjustmentsOf (second .parameters) prayer) ≡ true
 
 -- imsak of each, as the sheet has it
 pub record ImsakMoved (first second : Order) (t u : PrayerTimes) : Type 0 where
   pub same : second .ramadan ≡ first .ramadan
-  pub «not_earlier» : imsakOf (first .ramadan .imsak) (t .fajr) ≼ imsakOf (second .ramadan .imsak) (u .fajr)
+  pub «not_earlier» : leZ (imsakOf (first .ramadan .imsak) (t .fajr)) (imsakOf (second .ramadan .imsak) (u .fajr)) ≡ true
   pub exactly : imsakOf (second .ramadan .imsak) (u .fajr)
       ≡ imsakOf (first .ramadan .imsak) (t .fajr) +ℤ laterBy (first .parameters) (second .parameters) Fajr
 

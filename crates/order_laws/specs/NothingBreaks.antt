@@ -4,7 +4,7 @@
 -- proved to end. Proved in proofs/NothingBreaksLaws.
 use Prim.Native.Nat.{ℕ, zero, suc, _≤_, _<_}
 use mathlib.Core.Path.{_≡_}
-use mathlib.Core.Bool.{true, false}
+use mathlib.Core.Bool.{true, false, cond}
 use mathlib.Core.List.{List, [], _∷_, _++_}
 use lib.Dec.{eqb}
 use lib.ListN.{length}
@@ -21,11 +21,13 @@ use Rattle.order.specs.Reading.{checksOf, readingOf, townOf}
 use Rattle.order.specs.declared.reading.Order.{Order}
 use Rattle.order.specs.declared.reading.Reading.{Reading}
 use Rattle.order.specs.declared.reading.Reading.the-variants as reading
-use Rattle.pages.specs.Answers.{oneRow, pieceIn, rowWritten, rowBuffer, pageWritten, pageBuffer}
+use Rattle.pages.specs.Answers.{oneRow, pieceIn, cellsCallOf, pageCallOf}
 use Rattle.pages.specs.Pages.{cellsOf}
 use Rattle.rows.specs.Rows.{rowCallOf, headText, sheetText}
 use Rattle.schedule.specs.Numbers.{numbersOf}
+use Rattle.schedule.specs.declared.prayer_times.Worked.{Worked}
 use Rattle.schedule.specs.declared.prayer_times.Worked.the-variants as worked
+use Rattle.sentences.specs.Sentences.{sentenceOf, sentenceCallOf}
 use Rattle.solar.specs.Times.{solarTimeOf}
 use Rattle.solar.specs.declared.times.SolarDay.{SolarDay}
 use Rattle.solar.specs.declared.times.SolarDay.the-variants as sun
@@ -71,6 +73,17 @@ unfoldable pub eachOf : (ℕ → List ℕ) → ℕ → List ℕ
 eachOf of zero = []
 eachOf of (suc n) = eachOf of n ++ of n
 
+-- the lines, if working one row gave w
+abbrev pub insteadOf : Order → ℕ → Worked → ℕ → List ℕ
+insteadOf o one w row = cond (eqb row one) (lineText (o .ramadan) (rowDateOf (o .date) one) w) (lineOf o row)
+
+-- whatever working that row gives, times or a refusal, the lines before and after its own are the same
+pub record OthersStay (o : Order) (one : ℕ) : Type 0 where
+  pub before : List ℕ
+  pub after : List ℕ
+  pub now : eachOf (lineOf o) (o .rows) ≡ before ++ lineOf o one ++ after
+  pub instead : (w : Worked) → eachOf (insteadOf o one w) (o .rows) ≡ before ++ lineText (o .ramadan) (rowDateOf (o .date) one) w ++ after
+
 -- ---- "a refused call changes no lent byte"; else what is written is at the front, has room there, and the bytes behind it stay
 pub record Lent (number : ℕ) (text before after : List ℕ) : Type 0 where
   pub refused : eqb number 0 ≡ false → after ≡ before
@@ -93,14 +106,18 @@ pub record NothingBreaks (s : List ℕ) : Type 0 where
       → FirstLacking (r .number) (r .place) (threeDays o (rowDateOf (o .date) row)) → workDayOf s row ≡ worked.Refused r
   -- the sheet has a line for each row, which goes by that row alone
   pub sheet : (o : Order) → readingOf s ≡ reading.Read o → sheetText s ≡ headText (o .ramadan) (townOf s) ++ eachOf (lineOf o) (o .rows)
+  pub only : (o : Order) (row : ℕ) → readingOf s ≡ reading.Read o → row < o .rows → OthersStay o row
   -- the calls that write: a row, a row of cells, a page of cells or a piece of it
   pub row : (row : ℕ) (buffer : List ℕ)
       → Lent (rowCallOf s row buffer .answer .number) (writtenOf (λ o. lineOf o row) (readingOf s)) buffer (rowCallOf s row buffer .buffer)
   pub cells : (row : ℕ) (buffer : List ℕ)
-      → Lent (rowWritten row s buffer .refusal .number) (writtenOf (λ o. cellsOf (oneRow row o)) (readingOf s)) buffer (rowBuffer row s buffer)
+      → Lent (cellsCallOf s row buffer .answer .refusal .number) (writtenOf (λ o. cellsOf (oneRow row o)) (readingOf s)) buffer (cellsCallOf s row buffer .buffer)
   pub page : (page first : ℕ) (scratch : List ℕ)
-      → Lent (pageWritten page first s scratch .refusal .number) (writtenOf (λ o. cellsOf (pieceIn page first scratch o)) (readingOf s)) scratch
-      (pageBuffer page first s scratch)
+      → Lent (pageCallOf s page first scratch .answer .refusal .number) (writtenOf (λ o. cellsOf (pieceIn page first scratch o)) (readingOf s)) scratch
+      (pageCallOf s page first scratch .buffer)
+  -- and the sentence of a refusal
+  pub sentence : (number place : ℕ) (buffer : List ℕ)
+      → Lent (sentenceCallOf number place buffer .answer .number) (sentenceOf number place) buffer (sentenceCallOf number place buffer .buffer)
 
 abbrev pub NothingBreaksARun : Type 0
 NothingBreaksARun = (s : List ℕ) → NothingBreaks s

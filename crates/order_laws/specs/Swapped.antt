@@ -1,5 +1,5 @@
--- Request 7: "Tags 18 and 19 stand for latitude and longitude". An order that is read stays one where a coordinate is sent in the other form, by a
--- value that fits: beside EitherForm, which is of two orders that are read. Proved in proofs/SwappedLaws.
+-- Request 7: "Tags 18 and 19 stand for latitude and longitude". An order that is read stays one if a coordinate is sent in the other form, beside
+-- EitherForm, which is of two orders that are read; and the coordinates of one that is read are written back. Proved in proofs/SwappedLaws.
 use Prim.Native.Nat.{ℕ, _≤_}
 use mathlib.Core.Path.{_≡_}
 use mathlib.Core.Bool.{true, false}
@@ -8,17 +8,20 @@ use Rattle.fields.specs.Fields.{checkOf}
 use Rattle.fields.specs.Tags.{lastTag}
 use Rattle.fields.specs.Values.{hasOf, valueOf, valuesOf}
 use Rattle.map_form.specs.Hundredths.{mostLatitude, mostLongitude, formFits}
-use Rattle.map_form.specs.Written.{latitudeTag, longitudeTag}
+use Rattle.map_form.specs.Promises.{asWritten}
+use Rattle.map_form.specs.Written.{latitudeTag, longitudeTag, writtenOf}
 use Rattle.order.specs.Given.{coordinateIn, formIn}
 use Rattle.order.specs.Reading.{readingOf}
 use Rattle.order.specs.declared.reading.Order.{Order}
 use Rattle.order.specs.declared.reading.Reading.the-variants.{Read}
+use Rattle.refusals.specs.Refusals.{noRefusal}
 use Rattle.order_laws.specs.EitherForm.{SamePlace, saysPlace}
 
--- a coordinate, by its two tags: the second order gives it as the first does, or in the form on the map, by a value that fits
+-- a coordinate, by its two tags: the second order gives it as the first does, or on the map by a value that fits, or by a float
 pub data Sent (a b : List ℕ) (float map most : ℕ) : Type 0 where
   alike : hasOf a float ≡ hasOf b float → valueOf a float ≡ valueOf b float → hasOf a map ≡ hasOf b map → valueOf a map ≡ valueOf b map → Sent a b float map most
-  swapped : hasOf b float ≡ false → hasOf b map ≡ true → formFits most (formIn (valueOf b map)) ≡ true → Sent a b float map most
+  mapped : hasOf b float ≡ false → hasOf b map ≡ true → formFits most (formIn (valueOf b map)) ≡ true → Sent a b float map most
+  floated : hasOf b float ≡ true → hasOf b map ≡ false → Sent a b float map most
 
 -- the first order is read; the form of the second's fields is right, its coordinates are the same f64, and every other tag gives the same
 pub record Swapped (a b : List ℕ) : Type 0 where
@@ -32,5 +35,15 @@ pub record Swapped (a b : List ℕ) : Type 0 where
   pub others : (tag : ℕ) → tag ≤ lastTag → saysPlace tag ≡ false → (hasOf a tag ≡ hasOf b tag) × (valueOf a tag ≡ valueOf b tag)
 
 -- then the second is read too, and what EitherForm says of the two holds
-abbrev pub MapFormIsRead : Type 0
-MapFormIsRead = (a b : List ℕ) → Swapped a b → SamePlace a b
+abbrev pub OtherFormIsRead : Type 0
+OtherFormIsRead = (a b : List ℕ) → Swapped a b → SamePlace a b
+
+-- ---- "writing back a read coordinate gives its bytes, where zero is written with sign 0": the parts of `formIn` are the bytes
+pub record BackOnTheMap (s : List ℕ) (o : Order) : Type 0 where
+  pub latitude : hasOf s latitudeTag ≡ true → writtenOf latitudeTag mostLatitude (o .coordinates .latitude)
+      ≡ record { refusal = noRefusal; form = asWritten (formIn (valueOf s latitudeTag)) }
+  pub longitude : hasOf s longitudeTag ≡ true → writtenOf longitudeTag mostLongitude (o .coordinates .longitude)
+      ≡ record { refusal = noRefusal; form = asWritten (formIn (valueOf s longitudeTag)) }
+
+abbrev pub ReadIsWrittenBack : Type 0
+ReadIsWrittenBack = (s : List ℕ) (o : Order) → readingOf s ≡ Read o → BackOnTheMap s o

@@ -1,5 +1,5 @@
 -- What a call that asks for rows answers, case by case. Assumes nothing.
-use Rattle.prelude.proofs.Logic.{_≡_, refl, ap, _∙_, List, [], _∷_, ℕ, _+_, _-_, _≤_, _<_, arith, length, lt-ltb, le-ltb}
+use Rattle.prelude.proofs.Logic.{_≡_, refl, sym, ap, _∙_, List, [], _∷_, ℕ, _+_, _-_, _≤_, _<_, arith, length, lt-ltb, le-ltb}
 use Rattle.braille.specs.Braille.{dotsOf}
 use Rattle.calls.specs.Calls.{lacksRow}
 use Rattle.order.specs.declared.reading.Order.{Order}
@@ -8,27 +8,38 @@ use Rattle.order.specs.Reading.{readingOf}
 use Rattle.refusals.specs.Refusals.{refusal, noRefusal}
 use Rattle.refusals.specs.declared.Refusal.{Refusal}
 use Rattle.text.specs.Text.{frontOf}
-use Rattle.pages.specs.Answers.{punchedOf, refusedOf, rowsAnswerOf, answerIn, frontIn, punchedInOf, bufferOf, oneRow}
+use Rattle.pages.specs.Answers.{CellsCall, punchedOf, refusing, putCallOf, askedCallOf, oneRow}
 use Rattle.pages.specs.Pages.{Rows, rowsFrom, cellsOf}
 use Rattle.pages.specs.declared.answer.Punched.{Punched}
 use Rattle.pages.proofs.RowsLaws.{rows-length}
 
--- some rows, and none
-pub rows-some : (rows : Rows) → 1 ≤ length rows → punchedOf rows ≡ rowsAnswerOf rows
-unfolding rowsAnswerOf
-rows-some [] h = absurd (omega arith)
-rows-some (row ∷ rows) h = refl
+-- equal calls have the same answer, and leave the same buffer
+pub same-answer : {c d : CellsCall} → c ≡ d → c .answer ≡ d .answer
+same-answer e = ap (λ (c : CellsCall). c .answer) e
 
-pub rows-none : (rows : Rows) (buffer : List ℕ) → length rows ≡ 0 → (refusedOf lacksRow ≡ rowsAnswerOf rows) × (buffer ≡ frontOf (cellsOf rows) buffer)
-unfolding rowsAnswerOf cellsOf
-rows-none [] buffer e = (refl, refl)
+pub same-buffer : {c d : CellsCall} → c ≡ d → c .buffer ≡ d .buffer
+same-buffer e = ap (λ (c : CellsCall). c .buffer) e
+
+-- some rows, and none
+pub rows-some : (rows : Rows) (buffer : List ℕ) → 1 ≤ length rows
+    → putCallOf rows buffer ≡ record { answer = punchedOf rows; buffer = frontOf (cellsOf rows) buffer }
+unfolding putCallOf
+rows-some [] buffer h = absurd (omega arith)
+rows-some (row ∷ rows) buffer h = refl
+
+pub rows-none : (rows : Rows) (buffer : List ℕ) → length rows ≡ 0 → putCallOf rows buffer ≡ refusing lacksRow buffer
+unfolding putCallOf
+rows-none [] buffer e = refl
 rows-none (row ∷ rows) buffer e = absurd (omega arith)
 
 -- rows that were written are those that were asked for
 pub rows-answered : (rows asked : Rows) (result : Punched) (buffer after : List ℕ) → 1 ≤ length asked → rows ≡ asked → result ≡ punchedOf rows
-    → after ≡ frontOf (cellsOf rows) buffer → (result ≡ rowsAnswerOf asked) × (after ≡ frontOf (cellsOf asked) buffer)
+    → after ≡ frontOf (cellsOf rows) buffer → (result ≡ putCallOf asked buffer .answer) × (after ≡ putCallOf asked buffer .buffer)
 rows-answered rows asked result buffer after h e r f =
-    (r ∙ ap punchedOf e ∙ rows-some asked h, f ∙ ap (λ (l : Rows). frontOf (cellsOf l) buffer) e)
+    let some = sym (rows-some asked buffer h) in (
+      r ∙ ap punchedOf e ∙ same-answer some,
+      f ∙ ap (λ (l : Rows). frontOf (cellsOf l) buffer) e ∙ same-buffer some,
+    )
 
 -- rows by their first and the one behind their last
 pub rows-counted : (o : Order) (row count dots : ℕ) (none : Refusal) (buffer after : List ℕ) → none ≡ noRefusal
@@ -52,17 +63,15 @@ unfolding oneRow
 row-lacking o row h = simp (le-ltb row (o .rows) h)
 
 module _ (asked : Order → Rows) (least : ℕ) (s buffer : List ℕ) where
-  pub buffer-short : length buffer < least → (refusedOf (refusal 9 0) ≡ punchedInOf asked least s buffer) × (buffer ≡ bufferOf asked least s buffer)
-  unfolding punchedInOf bufferOf
-  buffer-short h = (simp (lt-ltb (length buffer) least h), simp (lt-ltb (length buffer) least h))
+  pub buffer-short : length buffer < least → askedCallOf asked least s buffer ≡ refusing (refusal 9 0) buffer
+  unfolding askedCallOf
+  buffer-short h = simp (lt-ltb (length buffer) least h)
 
   module _ (h : least ≤ length buffer) where
-    pub order-read : (o : Order) → readingOf s ≡ Read o
-        → (rowsAnswerOf (asked o) ≡ punchedInOf asked least s buffer) × (frontOf (cellsOf (asked o)) buffer ≡ bufferOf asked least s buffer)
-    unfolding punchedInOf bufferOf answerIn frontIn
-    order-read o e = (simp (le-ltb (length buffer) least h, e), simp (le-ltb (length buffer) least h, e))
+    pub order-read : (o : Order) → readingOf s ≡ Read o → askedCallOf asked least s buffer ≡ putCallOf (asked o) buffer
+    unfolding askedCallOf
+    order-read o e = simp (le-ltb (length buffer) least h, e)
 
-    pub order-refused : (r : Refusal) → readingOf s ≡ Refused r
-        → (refusedOf r ≡ punchedInOf asked least s buffer) × (buffer ≡ bufferOf asked least s buffer)
-    unfolding punchedInOf bufferOf answerIn frontIn
-    order-refused r e = (simp (le-ltb (length buffer) least h, e), simp (le-ltb (length buffer) least h, e))
+    pub order-refused : (r : Refusal) → readingOf s ≡ Refused r → askedCallOf asked least s buffer ≡ refusing r buffer
+    unfolding askedCallOf
+    order-refused r e = simp (le-ltb (length buffer) least h, e)

@@ -9,11 +9,11 @@ use Rattle.order.specs.Reading.{readingOf}
 use Rattle.refusals.specs.Refusals.{noRefusal}
 use Rattle.refusals.specs.declared.Refusal.{Refusal}
 use Rattle.text.specs.Text.{frontOf}
-use Rattle.pages.specs.Answers.{punchedOf, refusedOf, rowsAnswerOf, pieceIn, pageWritten, pageBuffer}
-use Rattle.pages.specs.Host.{cellsGot, Calls, ended, called, PiecesAreThePage, AtOnceAsBefore, AsBefore}
+use Rattle.pages.specs.Answers.{CellsCall, punchedOf, refusedOf, putCallOf, askedCallOf, pieceIn, pageCallOf}
+use Rattle.pages.specs.Host.{cellsGot, Calls, ended, called, PiecesAreThePage, AtOnceAsBefore}
 use Rattle.pages.specs.Pages.{Rows, cellsOf, pageOf, pieceOf}
 use Rattle.pages.specs.declared.answer.Punched.{Punched}
-use Rattle.pages.proofs.AnswerLaws.{rows-some, rows-none, order-read, order-refused}
+use Rattle.pages.proofs.AnswerLaws.{same-answer, rows-some, rows-none, order-read, order-refused}
 use Rattle.pages.proofs.PageLaws.{page-most, piece-none, piece-written}
 use Rattle.pages.proofs.RowsLaws.{dots-append, cells-append, rows-length, cells-length}
 
@@ -35,10 +35,10 @@ rest rows first room =
 module _ (s : List ℕ) (page : ℕ) (o : Order) (e : readingOf s ≡ Read o) where
   -- What a call answers that has its row: the piece's rows, not none, their dots and their cells.
   record Piece (first : ℕ) (scratch : List ℕ) : Type 0 where
-    none : pageWritten page first s scratch .refusal ≡ noRefusal
-    some : 1 ≤ pageWritten page first s scratch .rows
-    rows : pageWritten page first s scratch .rows ≡ length (pieceIn page first scratch o)
-    dots : pageWritten page first s scratch .dots ≡ dotsOf (cellsOf (pieceIn page first scratch o))
+    none : pageCallOf s page first scratch .answer .refusal ≡ noRefusal
+    some : 1 ≤ pageCallOf s page first scratch .answer .rows
+    rows : pageCallOf s page first scratch .answer .rows ≡ length (pieceIn page first scratch o)
+    dots : pageCallOf s page first scratch .answer .dots ≡ dotsOf (cellsOf (pieceIn page first scratch o))
     cells : cellsGot page first s scratch ≡ cellsOf (pieceIn page first scratch o)
 
   has-row : (first : ℕ) (scratch : List ℕ) → 39 ≤ length scratch → first < length (pageOf o page) → Piece first scratch
@@ -50,30 +50,32 @@ module _ (s : List ℕ) (page : ℕ) (o : Order) (e : readingOf s ≡ Read o) wh
       let w = piece-written o page first room (length (pageOf o page)) taken refl h (omega arith) refl in
       let l : taken ≡ length piece = sym (rows-length o row taken) ∙ ap length (w .rows) in
       let r = order-read (pieceIn page first scratch) 39 s scratch long o e in
-      let a : pageWritten page first s scratch ≡ punchedOf piece = sym (r .0) ∙ sym (rows-some piece (omega (arith, w .some))) in
-      let k : pageWritten page first s scratch .rows ≡ length piece = ap (λ (p : Punched). p .rows) a in
+      let put = r ∙ rows-some piece scratch (omega (arith, w .some)) in
+      let a : pageCallOf s page first scratch .answer ≡ punchedOf piece = same-answer put in
+      let k : pageCallOf s page first scratch .answer .rows ≡ length piece = ap (λ (p : Punched). p .rows) a in
       let c : length (cellsOf piece) ≡ 39 * length piece = ap (λ (x : Rows). length (cellsOf x)) (sym (w .rows)) ∙ cells-length o row taken ∙ ap (λ (n : ℕ). 39 * n) l in
       record {
         none = ap (λ (p : Punched). p .refusal) a;
         some = omega (arith, w .some);
         rows = k;
         dots = ap (λ (p : Punched). p .dots) a;
-        cells = ap (λ (n : ℕ). take (39 * n) (pageBuffer page first s scratch)) k
-            ∙ ap (take (39 * length piece)) (sym (r .1))
+        cells = ap (λ (n : ℕ). take (39 * n) (pageCallOf s page first scratch .buffer)) k
+            ∙ ap (λ (p : CellsCall). take (39 * length piece) (p .buffer)) put
             ∙ take-at (cellsOf piece) (drop (length (cellsOf piece)) scratch) (39 * length piece) c;
       }
 
-  lacks-row : (first : ℕ) (scratch : List ℕ) → 39 ≤ length scratch → length (pageOf o page) ≤ first → pageWritten page first s scratch ≡ refusedOf lacksRow
+  lacks-row : (first : ℕ) (scratch : List ℕ) → 39 ≤ length scratch → length (pageOf o page) ≤ first
+      → pageCallOf s page first scratch .answer ≡ refusedOf lacksRow
   lacks-row first scratch long h =
-      let r = order-read (pieceIn page first scratch) 39 s scratch long o e in
-      sym (r .0) ∙ sym (rows-none (pieceIn page first scratch o) scratch (piece-none o page first (length scratch / 39) h) .0)
+      let none = piece-none o page first (length scratch / 39) h in
+      same-answer (order-read (pieceIn page first scratch) 39 s scratch long o e ∙ rows-none (pieceIn page first scratch o) scratch none)
 
   -- the cells and the dots of the page's rows from one on
   abbrev Rest : ℕ → List ℕ → ℕ → Type 0
   Rest first cells dots = (cells ≡ cellsOf (drop first (pageOf o page))) × (dots ≡ dotsOf (cellsOf (drop first (pageOf o page))))
 
   module _ (lent : ℕ → List ℕ) (long : (n : ℕ) → 39 ≤ length (lent n)) where
-    at-end : (n first : ℕ) → pageWritten page first s (lent n) .refusal ≡ lacksRow → Rest first [] 0
+    at-end : (n first : ℕ) → pageCallOf s page first (lent n) .answer .refusal ≡ lacksRow → Rest first [] 0
     unfolding cellsOf dotsOf
     at-end n first z =
         cases (ltb first (length (pageOf o page)))
@@ -83,9 +85,9 @@ module _ (s : List ℕ) (page : ℕ) (o : Order) (e : readingOf s ≡ Read o) wh
         (λ t. let d : drop first (pageOf o page) ≡ [] = drop-of-length-le (pageOf o page) (ltb-false first (length (pageOf o page)) t) in
         (sym (ap cellsOf d), sym (ap (λ (l : Rows). dotsOf (cellsOf l)) d)))
 
-    one-more : (n first : ℕ) (cells : List ℕ) (dots : ℕ) → pageWritten page first s (lent n) .refusal ≡ noRefusal
-        → Rest (first + pageWritten page first s (lent n) .rows) cells dots
-        → Rest first (cellsGot page first s (lent n) ++ cells) (pageWritten page first s (lent n) .dots + dots)
+    one-more : (n first : ℕ) (cells : List ℕ) (dots : ℕ) → pageCallOf s page first (lent n) .answer .refusal ≡ noRefusal
+        → Rest (first + pageCallOf s page first (lent n) .answer .rows) cells dots
+        → Rest first (cellsGot page first s (lent n) ++ cells) (pageCallOf s page first (lent n) .answer .dots + dots)
     one-more n first cells dots z i =
         cases (ltb first (length (pageOf o page)))
         (λ t. let p = has-row first (lent n) (long n) (ltb-true first (length (pageOf o page)) t) in
@@ -116,8 +118,8 @@ module _ (s : List ℕ) (page : ℕ) (o : Order) (e : readingOf s ≡ Read o) wh
     ends-after (suc k) n first h =
         cases (ltb first (length (pageOf o page)))
         (λ t. let p = has-row first (lent n) (long n) (ltb-true first (length (pageOf o page)) t) in
-        let r = ends-after k (n + 1) (first + pageWritten page first s (lent n) .rows) (omega (arith, p .some)) in
-        (cellsGot page first s (lent n) ++ r .0, pageWritten page first s (lent n) .dots + r .1, called (p .none) (r .2)))
+        let r = ends-after k (n + 1) (first + pageCallOf s page first (lent n) .answer .rows) (omega (arith, p .some)) in
+        (cellsGot page first s (lent n) ++ r .0, pageCallOf s page first (lent n) .answer .dots + r .1, called (p .none) (r .2)))
         (λ t. ends-here n first (ltb-false first (length (pageOf o page)) t))
 
     pub read-ends : (cells : List ℕ) × (dots : ℕ) × Calls s page lent 0 0 cells dots
@@ -129,7 +131,7 @@ module _ (s : List ℕ) (page : ℕ) (o : Order) (e : readingOf s ≡ Read o) wh
       let most = page-most o page in
       take-all (length whole / 39) (pageOf o page) (omega arith)
 
-  whole-got : (whole : List ℕ) → 975 ≤ length whole → Rest 0 (cellsGot page 0 s whole) (pageWritten page 0 s whole .dots)
+  whole-got : (whole : List ℕ) → 975 ≤ length whole → Rest 0 (cellsGot page 0 s whole) (pageCallOf s page 0 whole .answer .dots)
   unfolding cellsOf dotsOf
   whole-got whole room =
       cases (ltb 0 (length (pageOf o page)))
@@ -139,12 +141,13 @@ module _ (s : List ℕ) (page : ℕ) (o : Order) (e : readingOf s ≡ Read o) wh
       (λ t. let h = ltb-false 0 (length (pageOf o page)) t in
       let l = lacks-row 0 whole (omega arith) h in
       let d : pageOf o page ≡ [] = drop-of-length-le (pageOf o page) h in (
-        ap (λ (p : Punched). take (39 * p .rows) (pageBuffer page 0 s whole)) l ∙ sym (ap cellsOf d),
+        ap (λ (p : Punched). take (39 * p .rows) (pageCallOf s page 0 whole .buffer)) l ∙ sym (ap cellsOf d),
         ap (λ (p : Punched). p .dots) l ∙ sym (ap (λ (l : Rows). dotsOf (cellsOf l)) d),
       ))
 
   pub read-same : (lent : ℕ → List ℕ) → ((n : ℕ) → 39 ≤ length (lent n)) → (whole : List ℕ) → 975 ≤ length whole
-      → {cells : List ℕ} {dots : ℕ} → Calls s page lent 0 0 cells dots → (cells ≡ cellsGot page 0 s whole) × (dots ≡ pageWritten page 0 s whole .dots)
+      → {cells : List ℕ} {dots : ℕ} → Calls s page lent 0 0 cells dots
+      → (cells ≡ cellsGot page 0 s whole) × (dots ≡ pageCallOf s page 0 whole .answer .dots)
   read-same lent long whole room calls =
       let g = got lent long calls in
       let w = whole-got whole room in
@@ -152,13 +155,14 @@ module _ (s : List ℕ) (page : ℕ) (o : Order) (e : readingOf s ≡ Read o) wh
 
 -- a refused order: no call gives a cell
 module _ (s : List ℕ) (page : ℕ) (r : Refusal) (e : readingOf s ≡ Refused r) where
-  refused-answer : (first : ℕ) (scratch : List ℕ) → 39 ≤ length scratch → pageWritten page first s scratch ≡ refusedOf r
-  refused-answer first scratch long = sym (order-refused (pieceIn page first scratch) 39 s scratch long r e .0)
+  refused-answer : (first : ℕ) (scratch : List ℕ) → 39 ≤ length scratch → pageCallOf s page first scratch .answer ≡ refusedOf r
+  refused-answer first scratch long = same-answer (order-refused (pieceIn page first scratch) 39 s scratch long r e)
 
-  nothing-got : (first : ℕ) (scratch : List ℕ) → 39 ≤ length scratch → (cellsGot page first s scratch ≡ []) × (pageWritten page first s scratch .dots ≡ 0)
+  nothing-got : (first : ℕ) (scratch : List ℕ) → 39 ≤ length scratch
+      → (cellsGot page first s scratch ≡ []) × (pageCallOf s page first scratch .answer .dots ≡ 0)
   nothing-got first scratch long =
       let a = refused-answer first scratch long in
-      (ap (λ (p : Punched). take (39 * p .rows) (pageBuffer page first s scratch)) a, ap (λ (p : Punched). p .dots) a)
+      (ap (λ (p : Punched). take (39 * p .rows) (pageCallOf s page first scratch .buffer)) a, ap (λ (p : Punched). p .dots) a)
 
   nothing-in-all : (lent : ℕ → List ℕ) → ((n : ℕ) → 39 ≤ length (lent n)) → {n first dots : ℕ} {cells : List ℕ} → Calls s page lent n first cells dots
       → (cells ≡ []) × (dots ≡ 0)
@@ -169,7 +173,8 @@ module _ (s : List ℕ) (page : ℕ) (r : Refusal) (e : readingOf s ≡ Refused 
       (ap (λ (l : List ℕ). l ++ cells) (a .0) ∙ i .0, omega (arith, a .1, i .1))
 
   pub refused-same : (lent : ℕ → List ℕ) → ((n : ℕ) → 39 ≤ length (lent n)) → (whole : List ℕ) → 975 ≤ length whole
-      → {cells : List ℕ} {dots : ℕ} → Calls s page lent 0 0 cells dots → (cells ≡ cellsGot page 0 s whole) × (dots ≡ pageWritten page 0 s whole .dots)
+      → {cells : List ℕ} {dots : ℕ} → Calls s page lent 0 0 cells dots
+      → (cells ≡ cellsGot page 0 s whole) × (dots ≡ pageCallOf s page 0 whole .answer .dots)
   refused-same lent long whole room calls =
       let g = nothing-in-all lent long calls in
       let w = nothing-got 0 whole (omega arith) in
@@ -184,23 +189,17 @@ pieces-are-the-page s page lent whole long room =
     }
   where
     by-reading : (r : Reading) → readingOf s ≡ r → {cells : List ℕ} {dots : ℕ} → Calls s page lent 0 0 cells dots
-        → (cells ≡ cellsGot page 0 s whole) × (dots ≡ pageWritten page 0 s whole .dots)
+        → (cells ≡ cellsGot page 0 s whole) × (dots ≡ pageCallOf s page 0 whole .answer .dots)
     by-reading (Read o) e calls = read-same s page o e lent long whole room calls
     by-reading (Refused r) e calls = refused-same s page r e lent long whole room calls
 
 pub at-once-as-before : AtOnceAsBefore
 at-once-as-before s page scratch room = by-reading (readingOf s) refl
   where
-    by-reading : (r : Reading) → readingOf s ≡ r → AsBefore s page scratch
+    by-reading : (r : Reading) → readingOf s ≡ r → pageCallOf s page 0 scratch ≡ askedCallOf (λ o. pageOf o page) 975 s scratch
     by-reading (Read o) e =
-        let now = order-read (pieceIn page 0 scratch) 39 s scratch (omega arith) o e in
-        let before = order-read (λ o. pageOf o page) 975 s scratch room o e in
-        let w = whole-piece s page o e scratch room in
-        record {
-          answer = sym (now .0) ∙ ap rowsAnswerOf w ∙ before .0;
-          buffer = sym (now .1) ∙ ap (λ (l : Rows). frontOf (cellsOf l) scratch) w ∙ before .1;
-        }
+        order-read (pieceIn page 0 scratch) 39 s scratch (omega arith) o e
+        ∙ ap (λ (l : Rows). putCallOf l scratch) (whole-piece s page o e scratch room)
+        ∙ sym (order-read (λ o. pageOf o page) 975 s scratch room o e)
     by-reading (Refused r) e =
-        let now = order-refused (pieceIn page 0 scratch) 39 s scratch (omega arith) r e in
-        let before = order-refused (λ o. pageOf o page) 975 s scratch room r e in
-        record { answer = sym (now .0) ∙ before .0; buffer = sym (now .1) ∙ before .1 }
+        order-refused (pieceIn page 0 scratch) 39 s scratch (omega arith) r e ∙ sym (order-refused (λ o. pageOf o page) 975 s scratch room r e)

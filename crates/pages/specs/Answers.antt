@@ -24,44 +24,41 @@ punchedOf rows = record { refusal = noRefusal; rows = length rows; dots = dotsOf
 abbrev pub refusedOf : Refusal → Punched
 refusedOf r = record { refusal = r; rows = 0; dots = 0 }
 
--- "a page that the order lacks gets 5 with place 3", and so does a row
-unfoldable pub rowsAnswerOf : Rows → Punched
-rowsAnswerOf [] = refusedOf lacksRow
-rowsAnswerOf (row ∷ rows) = punchedOf (row ∷ rows)
+-- ---- what a call answers, and every byte of the lent buffer after it
+pub record CellsCall : Type 0 where
+  pub answer : Punched
+  pub buffer : List ℕ
 
-unfoldable pub answerIn : (Order → Rows) → Reading → Punched
-answerIn asked (reading.Read o) = rowsAnswerOf (asked o)
-answerIn asked (reading.Refused r) = refusedOf r
+-- "A refusal .. changes no lent byte."
+abbrev pub refusing : Refusal → List ℕ → CellsCall
+refusing r buffer = record { answer = refusedOf r; buffer = buffer }
 
--- "Here and later, bytes of a lent buffer after what is written stay"; where the call is refused, all of them do
-unfoldable pub frontIn : (Order → Rows) → Reading → List ℕ → List ℕ
-frontIn asked (reading.Read o) buffer = frontOf (cellsOf (asked o)) buffer
-frontIn asked (reading.Refused r) buffer = buffer
+-- the rows that were asked for, at the front; "Here and later, bytes of a lent buffer after what is written stay". "A page that the order lacks gets 5
+-- with place 3", and so does a row.
+unfoldable pub putCallOf : Rows → List ℕ → CellsCall
+putCallOf [] buffer = refusing lacksRow buffer
+putCallOf (row ∷ rows) buffer = record { answer = punchedOf (row ∷ rows); buffer = frontOf (cellsOf (row ∷ rows)) buffer }
+
+abbrev pub callIn : (Order → Rows) → Reading → List ℕ → CellsCall
+callIn asked (reading.Read o) buffer = putCallOf (asked o) buffer
+callIn asked (reading.Refused r) buffer = refusing r buffer
 
 -- a call on an order's bytes that asks for some of its rows, and takes a buffer of some length at least: 9 before anything else
-unfoldable pub punchedInOf : (Order → Rows) → ℕ → List ℕ → List ℕ → Punched
-punchedInOf asked least s buffer = cond (ltb (length buffer) least) (refusedOf (refusal bufferShort 0)) (answerIn asked (readingOf s))
-
-unfoldable pub bufferOf : (Order → Rows) → ℕ → List ℕ → List ℕ → List ℕ
-bufferOf asked least s buffer = cond (ltb (length buffer) least) buffer (frontIn asked (readingOf s) buffer)
+unfoldable pub askedCallOf : (Order → Rows) → ℕ → List ℕ → List ℕ → CellsCall
+askedCallOf asked least s buffer =
+    cond (ltb (length buffer) least) (refusing (refusal bufferShort 0) buffer) (callIn asked (readingOf s) buffer)
 
 -- ---- a row: "A cell buffer under 39 bytes .. gets 9"
 unfoldable pub oneRow : ℕ → Order → Rows
 oneRow row o = cond (ltb row (o .rows)) (rowOf o row ∷ []) []
 
-abbrev pub rowWritten : ℕ → List ℕ → List ℕ → Punched
-rowWritten row = punchedInOf (oneRow row) rowLength
-
-abbrev pub rowBuffer : ℕ → List ℕ → List ℕ → List ℕ
-rowBuffer row = bufferOf (oneRow row) rowLength
+abbrev pub cellsCallOf : List ℕ → ℕ → List ℕ → CellsCall
+cellsCallOf s row buffer = askedCallOf (oneRow row) rowLength s buffer
 
 -- ---- a page, or a piece of it. Request 9: "The page call now also takes the page's row to begin at, from 0, puts in as many whole rows as have
 -- room and are left, and answers how many and their dots. .. Of scratches only one under 39 gets 9; a row that the page lacks gets 5 with place 3."
 abbrev pub pieceIn : ℕ → ℕ → List ℕ → Order → Rows
 pieceIn page first scratch o = pieceOf (pageOf o page) first (length scratch / rowLength)
 
-abbrev pub pageWritten : ℕ → ℕ → List ℕ → List ℕ → Punched
-pageWritten page first s scratch = punchedInOf (pieceIn page first scratch) rowLength s scratch
-
-abbrev pub pageBuffer : ℕ → ℕ → List ℕ → List ℕ → List ℕ
-pageBuffer page first s scratch = bufferOf (pieceIn page first scratch) rowLength s scratch
+abbrev pub pageCallOf : List ℕ → ℕ → ℕ → List ℕ → CellsCall
+pageCallOf s page first scratch = askedCallOf (pieceIn page first scratch) rowLength s scratch

@@ -1,9 +1,9 @@
-// What a call that writes cells answers.
+// What a call that writes cells returns.
 ghost use mathlib.Core.Path.{_≡_};
 ghost use Rattle.pages.specs.Answers.{refusedOf};
 use refusals::Refusal;
 
-// How many rows were written, and their dots; none where the call is refused.
+// How many rows were written, and their dots. Both are 0 if the call is refused.
 #[repr(C)]
 pub struct Punched {
     pub refusal: Refusal,

@@ -4,9 +4,8 @@ ghost use Prim.Native.Nat.{_≤_, min};
 ghost use lib.ListN.{length};
 ghost use Rattle.braille.specs.Cells.{rowLength};
 ghost use Rattle.order.specs.Accepted.{Accepted};
-ghost use Rattle.text.specs.Text.{frontOf};
-ghost use Rattle.pages.specs.Pages.{cellsOf, pageOf};
-ghost use Rattle.pages.specs.Answers.{rowsAnswerOf, pieceIn, pageWritten, pageBuffer};
+ghost use Rattle.pages.specs.Pages.{pageOf};
+ghost use Rattle.pages.specs.Answers.{putCallOf, pieceIn, pageCallOf};
 use super::answer::Punched;
 use super::rows::write_rows;
 use braille::row::ROW_CELLS;
@@ -34,7 +33,7 @@ fn rows_on(order: Order, page: u32) -> u32
     if left < PAGE_ROWS { left } else { PAGE_ROWS }
 }
 
-// As many rows as have room and are left.
+// The number of rows that fit and are left.
 fn least(room: usize, left: u32) -> u32
     ensures { λ r. ⌜ r ≡ min room left ⌝ }
 {
@@ -47,8 +46,8 @@ fn least(room: usize, left: u32) -> u32
 
 fn write_read(scratch: &mut [u8], order: Order, page: u32, first: u32) -> Punched
     requires { ⌜ Accepted order × (rowLength ≤ length (now scratch)) ⌝ }
-    ensures { λ r. ⌜ r ≡ rowsAnswerOf (pieceIn page first (now (scratch .entry)) order) ⌝ }
-    ensures { λ _. ⌜ now (scratch .exit) ≡ frontOf (cellsOf (pieceIn page first (now (scratch .entry)) order)) (now (scratch .entry)) ⌝ }
+    ensures { λ r. ⌜ r ≡ putCallOf (pieceIn page first (now (scratch .entry)) order) (now (scratch .entry)) .answer ⌝ }
+    ensures { λ _. ⌜ now (scratch .exit) ≡ putCallOf (pieceIn page first (now (scratch .entry)) order) (now (scratch .entry)) .buffer ⌝ }
 {
     let count = rows_on(order, page);
     if first >= count {
@@ -63,11 +62,11 @@ fn write_read(scratch: &mut [u8], order: Order, page: u32, first: u32) -> Punche
     )
 }
 
-// The rows of a page from its row `first` on, as many as the scratch has room for and are left. A scratch that a row does not fit is 9, before
-// anything else.
+// Writes the rows of a page from its row `first` on, as many as fit the scratch and are left. Returns 9 if the scratch is shorter than a row of cells.
+// This is checked first.
 pub fn write_page(order: &[u8], page: u32, first: u32, scratch: &mut [u8]) -> Punched
-    ensures { λ r. ⌜ r ≡ pageWritten page first (now (order .entry)) (now (scratch .entry)) ⌝ }
-    ensures { λ _. ⌜ now (scratch .exit) ≡ pageBuffer page first (now (order .entry)) (now (scratch .entry)) ⌝ }
+    ensures { λ r. ⌜ r ≡ pageCallOf (now (order .entry)) page first (now (scratch .entry)) .answer ⌝ }
+    ensures { λ _. ⌜ now (scratch .exit) ≡ pageCallOf (now (order .entry)) page first (now (scratch .entry)) .buffer ⌝ }
 {
     if scratch.len() < ROW_CELLS {
         return Punched::refused(Refusal::new(BUFFER_SHORT, 0));

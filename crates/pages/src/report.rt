@@ -23,7 +23,7 @@ pub const WEAR_BYTES: usize = 62;
 
 pub const CELLS_BYTES: usize = ROW_CELLS * MOST_ROWS as usize;
 
-// The dots of all pages: those of all rows, whatever page each stands on.
+// The dots of all pages: those of all rows, whatever page each is on.
 fn all_dots(order: Order) -> u32
     requires { ⌜ Accepted order ⌝ }
     ensures { λ r. ⌜ r ≡ dotsOf (allCells order) ⌝ }
@@ -43,7 +43,7 @@ fn put_total(buffer: &mut [u8], dots: u32) -> usize
     end + 1
 }
 
-// Answers the length of the text. A buffer that might not hold it, under WEAR_BYTES, is left as it was, and the answer is 0.
+// Returns the length of the text. A buffer under WEAR_BYTES, which might not hold it, is left as it was, and 0 is returned.
 pub fn write_wear(order: &[u8], buffer: &mut [u8]) -> usize
     ensures { λ r. ⌜ r ≡ printedLength longestWear (wearText (now (order .entry))) (now (buffer .entry)) ⌝ }
     ensures { λ _. ⌜ now (buffer .exit) ≡ printedBuffer longestWear (wearText (now (order .entry))) (now (buffer .entry)) ⌝ }
@@ -66,7 +66,7 @@ fn put_pages(buffer: &mut [u8], order: Order) -> usize
     ROW_CELLS * order.rows as usize
 }
 
-// Answers how many bytes it wrote. A buffer that might not hold them, under CELLS_BYTES, is left as it was, and the answer is 0.
+// Returns how many bytes it wrote. A buffer under CELLS_BYTES, which might not hold them, is left as it was, and 0 is returned.
 pub fn write_pages(order: &[u8], buffer: &mut [u8]) -> usize
     ensures { λ r. ⌜ r ≡ printedLength longestCells (cellsText (now (order .entry))) (now (buffer .entry)) ⌝ }
     ensures { λ _. ⌜ now (buffer .exit) ≡ printedBuffer longestCells (cellsText (now (order .entry))) (now (buffer .entry)) ⌝ }

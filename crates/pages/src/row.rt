@@ -4,9 +4,7 @@ ghost use Prim.Native.Nat.{_≤_};
 ghost use lib.ListN.{length};
 ghost use Rattle.braille.specs.Cells.{rowLength};
 ghost use Rattle.order.specs.Accepted.{Accepted};
-ghost use Rattle.text.specs.Text.{frontOf};
-ghost use Rattle.pages.specs.Pages.{cellsOf};
-ghost use Rattle.pages.specs.Answers.{oneRow, rowsAnswerOf, rowWritten, rowBuffer};
+ghost use Rattle.pages.specs.Answers.{oneRow, putCallOf, cellsCallOf};
 use super::answer::Punched;
 use super::rows::write_rows;
 use braille::row::ROW_CELLS;
@@ -19,8 +17,8 @@ use refusals::Refusal;
 
 fn write_read(buffer: &mut [u8], order: Order, row: u32) -> Punched
     requires { ⌜ Accepted order × (rowLength ≤ length (now buffer)) ⌝ }
-    ensures { λ r. ⌜ r ≡ rowsAnswerOf (oneRow row order) ⌝ }
-    ensures { λ _. ⌜ now (buffer .exit) ≡ frontOf (cellsOf (oneRow row order)) (now (buffer .entry)) ⌝ }
+    ensures { λ r. ⌜ r ≡ putCallOf (oneRow row order) (now (buffer .entry)) .answer ⌝ }
+    ensures { λ _. ⌜ now (buffer .exit) ≡ putCallOf (oneRow row order) (now (buffer .entry)) .buffer ⌝ }
 {
     if row < order.rows {
         return write_rows(&mut buffer[..], order, row, 1);
@@ -28,10 +26,10 @@ fn write_read(buffer: &mut [u8], order: Order, row: u32) -> Punched
     Punched::refused(lacks_row())
 }
 
-// A buffer that a row does not fit is 9, before anything else. A row is not refused for its day.
+// Returns 9 if the buffer is shorter than a row of cells. This is checked first. A row is not refused for its day.
 pub fn write_cells(order: &[u8], row: u32, buffer: &mut [u8]) -> Punched
-    ensures { λ r. ⌜ r ≡ rowWritten row (now (order .entry)) (now (buffer .entry)) ⌝ }
-    ensures { λ _. ⌜ now (buffer .exit) ≡ rowBuffer row (now (order .entry)) (now (buffer .entry)) ⌝ }
+    ensures { λ r. ⌜ r ≡ cellsCallOf (now (order .entry)) row (now (buffer .entry)) .answer ⌝ }
+    ensures { λ _. ⌜ now (buffer .exit) ≡ cellsCallOf (now (order .entry)) row (now (buffer .entry)) .buffer ⌝ }
 {
     if buffer.len() < ROW_CELLS {
         return Punched::refused(Refusal::new(BUFFER_SHORT, 0));

@@ -15,7 +15,7 @@ use order::reading::Order;
 use refusals::Refusal;
 use schedule::rolling::RowSuns;
 
-// The rows from `row` to before `end`; answers their dots. Each row takes over what it can from the one before it.
+// Writes the rows from `row` to before `end` and returns their dots. Each row takes over what it can from the one before it.
 pub fn put_rows(buffer: &mut [u8], order: Order, row: u32, end: u32) -> u32
     requires { ⌜ Accepted order × (row < end) × (end ≤ order .rows) × (rowLength * (end - row) ≤ length (now buffer)) ⌝ }
     ensures { λ r. ⌜ r ≡ dotsOf (cellsOf (rowsFrom order row (end - row))) ⌝ }
@@ -41,7 +41,7 @@ pub fn put_rows(buffer: &mut [u8], order: Order, row: u32, end: u32) -> u32
     }
 }
 
-// So many rows from one on, and how many dots they have.
+// Writes `count` rows from `row` on and returns how many dots they have.
 pub fn write_rows(buffer: &mut [u8], order: Order, row: u32, count: u32) -> Punched
     requires { ⌜ Accepted order × (0 < count) × (row + count ≤ order .rows) × (rowLength * count ≤ length (now buffer)) ⌝ }
     ensures { λ r. ⌜ r ≡ punchedOf (rowsFrom order row count) ⌝ }

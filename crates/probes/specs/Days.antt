@@ -14,7 +14,7 @@ use Rattle.schedule.specs.declared.prayer_times.PrayerTimes.{PrayerTimes}
 use Rattle.schedule.specs.declared.prayer_times.Worked.{Worked}
 use Rattle.schedule.specs.declared.prayer_times.Worked.the-variants.{Times, Refused}
 use Rattle.schedule.specs.declared.in_force.Remaining.{Remaining}
-use Rattle.schedule.specs.declared.in_force.Remaining.the-variants.{In, Nothing}
+use Rattle.schedule.specs.declared.in_force.Remaining.the-variants.{Some, Nothing}
 use Rattle.probes.specs.declared.days.ProbeSun.{ProbeSun}
 use Rattle.probes.specs.declared.days.ProbeNumbers.{ProbeNumbers}
 use Rattle.probes.specs.declared.days.ProbeSettings.{ProbeSettings}
@@ -80,5 +80,5 @@ probeDayOf (Times t) = record { refusal = noRefusal; times = t }
 probeDayOf (Refused r) = record { refusal = r; times = noTimes }
 
 unfoldable pub probeRemainingOf : Remaining → ProbeRemaining
-probeRemainingOf (In t) = record { found = true; hours = t .hours; minutes = t .minutes }
+probeRemainingOf (Some t) = record { found = true; hours = t .hours; minutes = t .minutes }
 probeRemainingOf Nothing = record { found = false; hours = 0; minutes = 0 }

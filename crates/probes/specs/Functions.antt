@@ -3,24 +3,21 @@ use Prim.Native.Nat.{ℕ}
 use mathlib.Core.Bool.{true, false}
 use lib.IntN.{pos}
 use lib.Ieee.{Float}
-use Rattle.calendar.specs.Answers.{yesterdayOf, tomorrowOf}
 use Rattle.calendar.specs.Gregorian.{dateOf}
 use Rattle.solar.specs.declared.setting.SolarHour.{SolarHour}
-use Rattle.solar.specs.declared.setting.SolarHour.the-variants.{At, None}
-use Rattle.solar.specs.Hours.{Sun, sunOver, hourNumbersOf}
+use Rattle.solar.specs.declared.setting.SolarHour.the-variants.{Some, Nothing}
+use Rattle.solar.specs.Hours.{Sun, sunOn, hourNumbersOf}
 use Rattle.unit.specs.Unit.{coordinatesOf}
 use Rattle.probes.specs.declared.functions.ProbeHours.{ProbeHours}
 use Rattle.probes.specs.declared.functions.ProbeTime.{ProbeTime}
 
 -- the sun of a date over a place
 abbrev pub probeSunOf : ℕ → ℕ → ℕ → Float → Float → Sun
-probeSunOf year month day latitude longitude =
-    let date = dateOf year month day in
-    sunOver (coordinatesOf latitude longitude) (yesterdayOf date) date (tomorrowOf date)
+probeSunOf year month day latitude longitude = sunOn (coordinatesOf latitude longitude) (dateOf year month day)
 
 abbrev pub probeHoursOf : Sun → ProbeHours
 probeHoursOf s = let n = hourNumbersOf s in record { transit = n .transit; sunrise = n .sunrise; sunset = n .sunset }
 
 unfoldable pub probeTimeOf : SolarHour → ProbeTime
-probeTimeOf (At s) = record { found = true; seconds = s }
-probeTimeOf None = record { found = false; seconds = pos 0 }
+probeTimeOf (Some s) = record { found = true; seconds = s }
+probeTimeOf Nothing = record { found = false; seconds = pos 0 }

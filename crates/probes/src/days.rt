@@ -274,7 +274,7 @@ fn number(current: Current) -> u32
 {
     match current {
         Current::Some(prayer) => prayer.number(),
-        Current::None => 0,
+        Current::Nothing => 0,
     }
 }
 
@@ -306,7 +306,7 @@ fn probe_hours_minutes(remaining: Remaining) -> ProbeRemaining
     ensures { λ r. ⌜ r ≡ probeRemainingOf remaining ⌝ }
 {
     match remaining {
-        Remaining::In(time) => ProbeRemaining {
+        Remaining::Some(time) => ProbeRemaining {
             found: true,
             hours: time.hours,
             minutes: time.minutes,

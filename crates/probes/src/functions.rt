@@ -239,11 +239,11 @@ fn time(hour: SolarHour) -> ProbeTime
     ensures { λ r. ⌜ r ≡ probeTimeOf hour ⌝ }
 {
     match hour {
-        SolarHour::At(seconds) => ProbeTime {
+        SolarHour::Some(seconds) => ProbeTime {
             found: true,
             seconds: seconds,
         },
-        SolarHour::None => ProbeTime {
+        SolarHour::Nothing => ProbeTime {
             found: false,
             seconds: 0,
         },

@@ -20,7 +20,7 @@ use refusals::BUFFER_SHORT;
 use refusals::Refusal;
 use schedule::prayer_times::Worked;
 
-// Number 0 where the row is written.
+// Returns number 0 if the row is written.
 fn write_worked(ramadan: Ramadan, date: Date, worked: Worked, buffer: &mut [u8]) -> Refusal
     requires { ⌜ rowRoom ramadan ≤ length (now buffer) ⌝ }
     ensures { λ r. ⌜ r ≡ workedCallOf ramadan date worked (now (buffer .entry)) .answer ⌝ }
@@ -48,7 +48,7 @@ fn write_there(order: Order, row: u32, buffer: &mut [u8]) -> Refusal
     lacks_row()
 }
 
-// A row of a Ramadan sheet is longer: a buffer that it does not fit is 9, before the row.
+// A row of a Ramadan sheet is longer. Returns 9 if the buffer is shorter than it. This is checked before the row.
 fn write_read(order: Order, row: u32, buffer: &mut [u8]) -> Refusal
     ensures { λ r. ⌜ r ≡ readCallOf order row (now (buffer .entry)) .answer ⌝ }
     ensures { λ _. ⌜ now (buffer .exit) ≡ readCallOf order row (now (buffer .entry)) .buffer ⌝ }
@@ -60,7 +60,7 @@ fn write_read(order: Order, row: u32, buffer: &mut [u8]) -> Refusal
     write_there(order, row, &mut buffer[..])
 }
 
-// A buffer that a full row without imsak does not fit is 9, before anything else.
+// Returns 9 if the buffer is shorter than a full row without imsak. This is checked first.
 pub fn write_row(order: &[u8], row: u32, buffer: &mut [u8]) -> Refusal
     ensures { λ r. ⌜ r ≡ rowCallOf (now (order .entry)) row (now (buffer .entry)) .answer ⌝ }
     ensures { λ _. ⌜ now (buffer .exit) ≡ rowCallOf (now (order .entry)) row (now (buffer .entry)) .buffer ⌝ }

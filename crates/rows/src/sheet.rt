@@ -9,7 +9,6 @@ ghost use Rattle.text.specs.Text.{putOf, frontOf};
 ghost use Rattle.rows.specs.Rows.{headerText, headText, linesText, acceptedText, longestSheet, sheetLengthOf, sheetBufferOf};
 use calendar::dates::Date;
 use fields::tags::LONGEST_TOWN;
-use fields::values::bytes;
 use hijri::ramadan::Ramadan;
 use lines::refused::put_refused_day;
 use lines::refused::put_refused_order;
@@ -19,6 +18,7 @@ use order::reading::MOST_ROWS;
 use order::reading::Order;
 use order::reading::Reading;
 use order::reading::read;
+use order::reading::town;
 use schedule::prayer_times::Worked;
 use schedule::rolling::RowSuns;
 use text::put::put;
@@ -75,7 +75,7 @@ fn put_head(buffer: &mut [u8], ramadan: Ramadan, town: &[u8]) -> usize
     end + put_header(&mut buffer[..], end, ramadan)
 }
 
-// The lines of all rows from an offset on; answers where they end. Each row takes over what it can from the one before it.
+// Writes the lines of all rows from an offset on and returns where they end. Each row takes over what it can from the one before it.
 fn put_rows(buffer: &mut [u8], at: usize, order: Order) -> usize
     requires { ⌜ Accepted order × (at + order .rows * rowRoom (order .ramadan) ≤ length (now buffer)) ⌝ }
     ensures { λ r. ⌜ r ≡ at + length (linesText order (order .rows)) ⌝ }
@@ -109,7 +109,7 @@ fn put_accepted(buffer: &mut [u8], town: &[u8], order: Order) -> usize
     put_rows(&mut buffer[..], head, order)
 }
 
-// Answers the length of the text. A buffer that might not hold it, under SHEET_BYTES, is left as it was, and the answer is 0.
+// Returns the length of the text. A buffer under SHEET_BYTES, which might not hold it, is left as it was, and 0 is returned.
 pub fn write_sheet(order: &[u8], buffer: &mut [u8]) -> usize
     ensures { λ r. ⌜ r ≡ sheetLengthOf (now (order .entry)) (now (buffer .entry)) ⌝ }
     ensures { λ _. ⌜ now (buffer .exit) ≡ sheetBufferOf (now (order .entry)) (now (buffer .entry)) ⌝ }
@@ -117,8 +117,10 @@ pub fn write_sheet(order: &[u8], buffer: &mut [u8]) -> usize
     if buffer.len() < SHEET_BYTES {
         return 0;
     }
-    match read(order) {
-        Reading::Read(record) => put_accepted(&mut buffer[..], bytes(order, record.town), record),
+    let reading = read(order);
+    let name = town(order, reading);
+    match reading {
+        Reading::Read(record) => put_accepted(&mut buffer[..], name, record),
         Reading::Refused(refusal) => put_refused_order(&mut buffer[..], 0, refusal),
     }
 }

@@ -4,7 +4,7 @@ use Rattle.integers.proofs.Integers.{P, N, sum, difference, times, range, fits}
 use Rattle.models.specs.Numbers.{prayerOf}
 use Rattle.schedule.specs.InForce.{inSecond, nanosecondsOf, aheadOf, timeOf, lastOf}
 use Rattle.schedule.specs.declared.{in_force.Instant.Instant, prayer_times.PrayerTimes.PrayerTimes}
-use Rattle.schedule.specs.declared.in_force.Current.the-variants.{Some, None}
+use Rattle.schedule.specs.declared.in_force.Current.the-variants.{Some, Nothing}
 
 pub sum-fits : (x y : ℤ) (a b : ℕ) → SFits w64 x → SFits w64 y → a ≡ P x → b ≡ N y → Fits w64 (a + b)
 sum-fits x y a b h k p q = let r = range w64 x h in let s = range w64 y k in record { fits = omega arith }
@@ -48,7 +48,7 @@ found t i n h e = found-at t i n h ∙ ap (λ (b : Bool). cond b (Some (prayerOf
 pub passed : (t : PrayerTimes) (i : Instant) (n : ℕ) → 0 < n → (aheadOf (timeOf t (prayerOf n)) i ≡ 0 → ⊥) → lastOf t i n ≡ lastOf t i (n - 1)
 passed t i n h e = found-at t i n h ∙ ap (λ (b : Bool). cond b (Some (prayerOf n)) (lastOf t i (n - 1))) (ne-eqb (aheadOf (timeOf t (prayerOf n)) i) 0 e)
 
-pub exhausted : (t : PrayerTimes) (i : Instant) (n : ℕ) → n ≤ 0 → lastOf t i n ≡ None
+pub exhausted : (t : PrayerTimes) (i : Instant) (n : ℕ) → n ≤ 0 → lastOf t i n ≡ Nothing
 unfolding lastOf
 exhausted t i zero h = refl
 exhausted t i (suc n) h = absurd (omega arith)

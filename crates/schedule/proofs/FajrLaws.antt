@@ -7,8 +7,8 @@ use Rattle.models.specs.declared.prayer.Prayer.the-variants.{Fajr}
 use Rattle.models.specs.declared.rules.Season.{Season}
 use Rattle.schedule.specs.declared.hours.RowHours.{RowHours}
 use Rattle.schedule.specs.declared.hours.Suns.{Suns}
-use Rattle.schedule.specs.declared.hours.Suns.the-variants.{Whole, Lacks}
-use Rattle.schedule.specs.declared.prayer_times.FajrAlone.the-variants.{At}
+use Rattle.schedule.specs.declared.hours.Suns.the-variants.{Whole, Refused}
+use Rattle.schedule.specs.declared.prayer_times.FajrAlone.the-variants.{Some}
 use Rattle.schedule.specs.Fajr.{fajrIn, fajrAloneOf}
 use Rattle.schedule.specs.Times.{startOf, finalOf, fromMidnightOf, startedOf, workedFrom, workedOf}
 use Rattle.schedule.specs.Twilight.{unadjustedFajrOf}
@@ -23,8 +23,8 @@ back-off a z =
 module _ (h : RowHours) (date : Date) (season : Season) (p : Parameters) where
   by-suns : (suns : Suns) → fajrAloneOf suns date season p (h .fajr) ≡ fajrIn date (workedFrom suns h date season p)
   unfolding fajrAloneOf fajrIn workedFrom startedOf fromMidnightOf
-  by-suns (Lacks r) = refl
-  by-suns (Whole suns) = ap At (sym (back-off (startOf date) (finalOf p Fajr (unadjustedFajrOf p season date (suns .today) (suns .tomorrow) (h .fajr)))))
+  by-suns (Refused r) = refl
+  by-suns (Whole suns) = ap Some (sym (back-off (startOf date) (finalOf p Fajr (unadjustedFajrOf p season date (suns .today) (suns .tomorrow) (h .fajr)))))
 
   pub fajr-alone : fajrAloneOf (h .suns) date season p (h .fajr) ≡ fajrIn date (workedOf h date season p)
   unfolding workedOf

@@ -7,7 +7,7 @@ use Rattle.models.specs.declared.prayer.Prayer.the-variants as prayer
 use Rattle.models.specs.declared.rules.Season.{Season}
 use Rattle.solar.specs.declared.setting.SolarHour.{SolarHour}
 use Rattle.schedule.specs.declared.hours.Suns.{Suns}
-use Rattle.schedule.specs.declared.hours.Suns.the-variants.{Whole, Lacks}
+use Rattle.schedule.specs.declared.hours.Suns.the-variants.{Whole, Refused}
 use Rattle.schedule.specs.declared.prayer_times.FajrAlone.{FajrAlone}
 use Rattle.schedule.specs.declared.prayer_times.FajrAlone.the-variants as alone
 use Rattle.schedule.specs.declared.prayer_times.Worked.{Worked}
@@ -17,10 +17,10 @@ use Rattle.schedule.specs.Twilight.{unadjustedFajrOf}
 
 -- of a date's times
 unfoldable pub fajrIn : Date → Worked → FajrAlone
-fajrIn date (worked.Times t) = alone.At (t .fajr -ℤ startOf date)
-fajrIn date (worked.Refused r) = alone.Refused
+fajrIn date (worked.Times t) = alone.Some (t .fajr -ℤ startOf date)
+fajrIn date (worked.Refused r) = alone.Nothing
 
 -- as it is worked
 unfoldable pub fajrAloneOf : Suns → Date → Season → Parameters → SolarHour → FajrAlone
-fajrAloneOf (Lacks r) date season p hour = alone.Refused
-fajrAloneOf (Whole suns) date season p hour = alone.At (finalOf p prayer.Fajr (unadjustedFajrOf p season date (suns .today) (suns .tomorrow) hour))
+fajrAloneOf (Refused r) date season p hour = alone.Nothing
+fajrAloneOf (Whole suns) date season p hour = alone.Some (finalOf p prayer.Fajr (unadjustedFajrOf p season date (suns .today) (suns .tomorrow) hour))

@@ -2,12 +2,12 @@
 use mathlib.Core.Path.{_≡_}
 use mathlib.Core.Logic.{_⊎_}
 use Prim.Native.Nat.{ℕ, zero, suc, _/_, _≤_}
-use mathlib.Core.Bool.{cond}
+use mathlib.Core.Bool.{true, cond}
 use lib.Dec.{eqb}
+use lib.Signed.{ltZ}
 use lib.IntN.{ℤ, pos, _+ℤ_, _-ℤ_, _*ℤ_}
 use lib.Ieee.{binary64, ofInt, toUnsigned}
 use Rattle.integers.specs.Parts.{P}
-use Rattle.integers.specs.Order.{_≼_}
 use Rattle.float64.specs.Ops.{_-ᶠ_, _*ᶠ_, _/ᶠ_, dec}
 use Rattle.float64.specs.Whole.{truncOf, roundOf}
 use Rattle.models.specs.declared.prayer.Prayer.{Prayer}
@@ -15,10 +15,10 @@ use Rattle.models.specs.declared.prayer.Prayer.the-variants.{Fajr, Sunrise, Dhu
 use Rattle.models.specs.Numbers.{prayerNumberOf, prayerOf}
 use Rattle.schedule.specs.declared.in_force.Instant.{Instant}
 use Rattle.schedule.specs.declared.in_force.Current.{Current}
-use Rattle.schedule.specs.declared.in_force.Current.the-variants.{Some, None}
+use Rattle.schedule.specs.declared.in_force.Current.the-variants.{Some, Nothing}
 use Rattle.schedule.specs.declared.in_force.HoursMinutes.{HoursMinutes}
 use Rattle.schedule.specs.declared.in_force.Remaining.{Remaining}
-use Rattle.schedule.specs.declared.in_force.Remaining.the-variants.{In, Nothing}
+use Rattle.schedule.specs.declared.in_force.Remaining.the-variants as remaining
 use Rattle.schedule.specs.declared.prayer_times.PrayerTimes.{PrayerTimes}
 
 unfoldable pub timeOf : PrayerTimes → Prayer → ℤ
@@ -41,26 +41,26 @@ nanosecondsOf i = i .seconds *ℤ pos inSecond +ℤ pos (i .nanoseconds)
 
 -- an instant is not after another, "ordered by whole seconds, then nanoseconds": its seconds are fewer, or the same and its nanoseconds no more
 abbrev pub NotAfter : Instant → Instant → Type 0
-NotAfter j i = (j .seconds +ℤ pos 1 ≼ i .seconds) ⊎ ((j .seconds ≡ i .seconds) × (j .nanoseconds ≤ i .nanoseconds))
+NotAfter j i = (ltZ (j .seconds) (i .seconds) ≡ true) ⊎ ((j .seconds ≡ i .seconds) × (j .nanoseconds ≤ i .nanoseconds))
 
--- whole seconds from an instant to a time; 0 where less than one is left, or the time has passed
+-- `signed_duration_since(now).num_seconds()`, "passed, 0": whole seconds from an instant to a time
 unfoldable pub aheadOf : ℤ → Instant → ℕ
 aheadOf t i = P (t *ℤ pos inSecond -ℤ nanosecondsOf i) / inSecond
 
--- the last of the first n in the list whose time lies less than one second ahead; else none
+-- "the last in the list .. whose instant lies less than one second ahead; else none", among its first n
 unfoldable pub lastOf : PrayerTimes → Instant → ℕ → Current
-lastOf t i zero = None
+lastOf t i zero = Nothing
 lastOf t i (suc n) = cond (eqb (aheadOf (timeOf t (prayerOf (suc n))) i) 0) (Some (prayerOf (suc n))) (lastOf t i n)
 
 abbrev pub currentTimeOf : PrayerTimes → Instant → Current
 currentTimeOf t i = lastOf t i 8
 
--- its number in the list of eight, Fajr's 1; 0 where there is none, which stands before Fajr
+-- its number in the list of eight, Fajr's 1; "none" stands before Fajr
 unfoldable pub currentNumberOf : Current → ℕ
 currentNumberOf (Some prayer) = prayerNumberOf prayer
-currentNumberOf None = 0
+currentNumberOf Nothing = 0
 
--- after FajrTomorrow, FajrTomorrow
+-- "Next after FajrTomorrow is FajrTomorrow."
 unfoldable pub followingOf : Prayer → Prayer
 followingOf Fajr = Sunrise
 followingOf Sunrise = Dhuhr
@@ -73,12 +73,12 @@ followingOf FajrTomorrow = FajrTomorrow
 
 unfoldable pub followingCurrentOf : Current → Current
 followingCurrentOf (Some prayer) = Some (followingOf prayer)
-followingCurrentOf None = None
+followingCurrentOf Nothing = Nothing
 
 abbrev pub nextOf : PrayerTimes → Instant → Current
 nextOf t i = followingCurrentOf (currentTimeOf t i)
 
--- so many seconds as hours and minutes, by the crate's expression in f64: its 60 minutes stay 60
+-- so many seconds as hours and minutes, by the crate's `whole`, `fract` and casts: "`time_remaining` in 3,599 s is 0 hours 60 minutes"
 unfoldable pub hoursMinutesOf : ℕ → HoursMinutes
 unfolding dec
 hoursMinutesOf seconds =
@@ -87,8 +87,8 @@ hoursMinutesOf seconds =
     record { hours = toUnsigned 32 (truncOf whole); minutes = toUnsigned 32 (roundOf (fract *ᶠ dec 60 0)) }
 
 unfoldable pub untilOf : PrayerTimes → Instant → Current → Remaining
-untilOf t i (Some prayer) = In (hoursMinutesOf (aheadOf (timeOf t prayer) i))
-untilOf t i None = Nothing
+untilOf t i (Some prayer) = remaining.Some (hoursMinutesOf (aheadOf (timeOf t prayer) i))
+untilOf t i Nothing = remaining.Nothing
 
 abbrev pub timeRemainingOf : PrayerTimes → Instant → Remaining
 timeRemainingOf t i = untilOf t i (nextOf t i)

@@ -6,4 +6,5 @@ pub mod InForce
 pub mod Numbers
 pub mod RowSuns
 pub mod Builder
-pub mod Sines
+pub mod Asked
+pub mod Each

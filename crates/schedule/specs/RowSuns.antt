@@ -1,39 +1,57 @@
 -- This file need not be believed: what rolls is a working value, and proofs/RowSunsLaws.antt says that it is what each row's own date gives.
 use lib.Ieee.{Float}
-use Rattle.calendar.specs.Answers.{yesterdayOf, tomorrowOf}
+use Rattle.calendar.specs.Answers.{tomorrowOf}
 use Rattle.calendar.specs.declared.dates.Date.{Date}
 use Rattle.models.specs.declared.parameters.Parameters.{Parameters}
+use Rattle.models.specs.declared.rules.Midnight.{Midnight}
 use Rattle.models.specs.declared.rules.Rules.{Rules}
 use Rattle.ops.specs.declared.transit.Course.{Course}
 use Rattle.ops.specs.Shared.{observerOf}
 use Rattle.solar.specs.Coordinates.{positionOf}
 use Rattle.solar.specs.Times.{solarHourOf, solarTimeOf}
-use Rattle.solar.specs.Shared.{courseOver, courseSineNumberOf, courseNumbersOf, courseAfternoonNumberOf}
+use Rattle.solar.specs.Shared.{courseOver, dateCourseOf, courseNumbersOf, courseAfternoonNumberOf}
+use Rattle.solar.specs.declared.hours.HourNumbers.{HourNumbers}
+use Rattle.solar.specs.declared.times.SolarDay.{SolarDay}
+use Rattle.schedule.specs.declared.hours.DayHours.{DayHours}
 use Rattle.schedule.specs.declared.hours.RowHours.{RowHours}
 use Rattle.schedule.specs.declared.numbers.TwilightSines.{TwilightSines}
 use Rattle.schedule.specs.declared.prayer_times.FajrAlone.{FajrAlone}
 use Rattle.schedule.specs.Fajr.{fajrAloneOf}
-use Rattle.schedule.specs.Hours.{sunsOf, rowHoursOf}
-use Rattle.schedule.specs.Numbers.{fajrNumberOf, asrNumberOf, ishaNumberOf}
-use Rattle.schedule.specs.Sines.{twilightSinesOf}
+use Rattle.schedule.specs.Hours.{sunsOf}
+use Rattle.schedule.specs.Asked.{twilightSinesOf, fajrBySineOf, ishaBySineOf}
+use Rattle.schedule.specs.Numbers.{shadowOf}
 use Rattle.schedule.specs.Times.{seasonOf}
 use Rattle.unit.specs.declared.Coordinates.{Coordinates}
 use Rattle.schedule.specs.declared.rolling.DaySun.{DaySun}
 use Rattle.schedule.specs.declared.rolling.ThirdSun.{ThirdSun}
 use Rattle.schedule.specs.declared.rolling.RowSuns.{RowSuns}
 
+-- a day's sun and its Fajr
+unfoldable pub dayHoursOf : Midnight → HourNumbers → Float → DayHours
+dayHoursOf rule n fajr = record { sun = solarTimeOf rule n; fajr = solarHourOf rule fajr }
+
+-- the date's day, the next one and the sun of the one after that; and the numbers of the date's Asr and Isha
+unfoldable pub rowHoursOf : Midnight → DayHours → DayHours → SolarDay → Float → Float → RowHours
+rowHoursOf rule today tomorrow after asr isha =
+    record {
+      suns = sunsOf (today .sun) (tomorrow .sun) after;
+      fajr = today .fajr;
+      asr = solarHourOf rule asr;
+      isha = solarHourOf rule isha;
+      «fajr_tomorrow» = tomorrow .fajr;
+    }
+
 unfoldable pub thirdSunOf : Rules → Course → ThirdSun
 thirdSunOf rules course = record { course = course; sun = solarTimeOf (rules .midnight) (courseNumbersOf course) }
 
 unfoldable pub daySunOf : Coordinates → Parameters → Rules → TwilightSines → ThirdSun → DaySun
 daySunOf place p rules sines third =
-    let fajr = solarHourOf (rules .midnight) (fajrNumberOf p (place .latitude) (courseSineNumberOf (third .course) (sines .fajr))) in
+    let fajr = solarHourOf (rules .midnight) (fajrBySineOf p (place .latitude) (sines .fajr) (third .course)) in
     record { course = third .course; hours = record { sun = third .sun; fajr = fajr } }
 
 -- a row's, from its date
 unfoldable pub rowSunsOf : Date → Coordinates → Parameters → Rules → RowSuns
 rowSunsOf date place p rules =
-    let observer = observerOf place in
     let sines = twilightSinesOf p in
     let next = tomorrowOf date in
     let second = tomorrowOf next in
@@ -41,13 +59,13 @@ rowSunsOf date place p rules =
     record {
       date = date;
       third = third;
-      observer = observer;
+      observer = observerOf place;
       sines = sines;
       «at_second» = positionOf second;
       «at_third» = positionOf third;
-      today = daySunOf place p rules sines (thirdSunOf rules (courseOver place observer (positionOf (yesterdayOf date)) (positionOf date) (positionOf next)));
-      tomorrow = daySunOf place p rules sines (thirdSunOf rules (courseOver place observer (positionOf date) (positionOf next) (positionOf second)));
-      after = thirdSunOf rules (courseOver place observer (positionOf next) (positionOf second) (positionOf third));
+      today = daySunOf place p rules sines (thirdSunOf rules (dateCourseOf date place));
+      tomorrow = daySunOf place p rules sines (thirdSunOf rules (dateCourseOf next place));
+      after = thirdSunOf rules (dateCourseOf second place);
     }
 
 -- the next row's, from this one's: one new position and one new sun
@@ -70,7 +88,7 @@ nextRowSunsOf place p rules r =
 unfoldable pub rowSunsHoursOf : Float → Parameters → Rules → RowSuns → RowHours
 rowSunsHoursOf latitude p rules r =
     rowHoursOf (rules .midnight) (r .today .hours) (r .tomorrow .hours) (r .after .sun)
-    (asrNumberOf p (courseAfternoonNumberOf (r .today .course) latitude)) (ishaNumberOf p latitude (courseSineNumberOf (r .today .course) (r .sines .isha)))
+    (courseAfternoonNumberOf (r .today .course) latitude (shadowOf p)) (ishaBySineOf p latitude (r .sines .isha) (r .today .course))
 
 -- the row's Fajr by itself
 unfoldable pub rowSunsFajrOf : Float → Parameters → Rules → RowSuns → FajrAlone

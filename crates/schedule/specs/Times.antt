@@ -18,7 +18,7 @@ use Rattle.solar.specs.declared.times.SolarTime.{SolarTime}
 use Rattle.unit.specs.declared.Coordinates.{Coordinates}
 use Rattle.schedule.specs.declared.hours.ThreeSuns.{ThreeSuns}
 use Rattle.schedule.specs.declared.hours.Suns.{Suns}
-use Rattle.schedule.specs.declared.hours.Suns.the-variants.{Whole, Lacks}
+use Rattle.schedule.specs.declared.hours.Suns.the-variants as suns
 use Rattle.schedule.specs.declared.hours.RowHours.{RowHours}
 use Rattle.schedule.specs.declared.prayer_times.PrayerTimes.{PrayerTimes}
 use Rattle.schedule.specs.declared.prayer_times.Worked.{Worked}
@@ -31,15 +31,15 @@ use Rattle.schedule.specs.Twilight.{nextDayOf, orOf, unadjustedFajrOf, u
 unfoldable pub startOf : Date → ℤ
 startOf date = dayNumberOf date *ℤ pos 86400
 
--- a prayer's minutes are added, own plus method's; then the time is rounded
+-- "Fajr, sunrise, dhuhr, asr, maghrib, isha add their minutes (own plus method's), then round."
 unfoldable pub finalOf : Parameters → Prayer → ℤ → ℤ
 finalOf p prayer t = roundedOf (p .rounding) (adjustedOf t (timeAdjustmentsOf p prayer))
 
--- the next date's, from that date's sun and the night after it: adjusted, not rounded
+-- "Tomorrow's Fajr is worked as the next date's, from that date's sun and the night after it; it is adjusted, not rounded."
 unfoldable pub fajrTomorrowOf : Parameters → Season → Date → SolarTime → SolarTime → SolarHour → ℤ
 fajrTomorrowOf p season date tomorrow after hour = nextDayOf (adjustedOf (unadjustedFajrOf p season (tomorrowOf date) tomorrow after hour) (timeAdjustmentsOf p Fajr))
 
--- from rounded maghrib, a half and two thirds of the seconds to tomorrow's Fajr
+-- "Middle of night and qiyam start at rounded maghrib, go 1/2 and 2.0/3.0 (f64) of the seconds to tomorrow's Fajr, cut toward zero, and round to Nearest."
 unfoldable pub middleOfTheNightOf : ℤ → ℤ → ℤ
 middleOfTheNightOf maghrib tomorrow = roundedOf Nearest (maghrib +ℤ middleOf (tomorrow -ℤ maghrib))
 
@@ -56,6 +56,7 @@ fromMidnightOf p season date suns h =
       fajr = finalOf p Fajr (unadjustedFajrOf p season date sun (suns .tomorrow) (h .fajr));
       sunrise = finalOf p Sunrise (sun .sunrise);
       dhuhr = finalOf p Dhuhr (sun .transit);
+      -- "Asr without a time is the transit."
       asr = finalOf p Asr (orOf (h .asr) (sun .transit));
       maghrib = maghrib;
       isha = finalOf p Isha (unadjustedIshaOf p season date sun (suns .tomorrow) (h .isha));
@@ -84,8 +85,8 @@ timesOf p season date suns h = startedOf (startOf date) (fromMidnightOf p season
 
 -- a date is refused where one of the three days lacks a time
 unfoldable pub workedFrom : Suns → RowHours → Date → Season → Parameters → Worked
-workedFrom (Lacks r) h date season p = Refused r
-workedFrom (Whole suns) h date season p = Times (timesOf p season date suns h)
+workedFrom (suns.Refused r) h date season p = Refused r
+workedFrom (suns.Whole three) h date season p = Times (timesOf p season date three h)
 
 unfoldable pub workedOf : RowHours → Date → Season → Parameters → Worked
 workedOf h date season p = workedFrom (h .suns) h date season p
@@ -97,15 +98,3 @@ seasonOf latitude rules = record { latitude = latitude; southern = rules .southe
 -- the whole way: from date, place, parameters and rules
 abbrev pub workedAt : Date → Coordinates → Parameters → Rules → Worked
 workedAt date place p rules = workedOf (hoursOf (rules .midnight) (numbersOf date place p)) date (seasonOf (place .latitude) rules) p
-
--- what holds of each of the nine
-pub record Each (C : ℤ → Type 0) (t : PrayerTimes) : Type 0 where
-  pub fajr : C (t .fajr)
-  pub sunrise : C (t .sunrise)
-  pub dhuhr : C (t .dhuhr)
-  pub asr : C (t .asr)
-  pub maghrib : C (t .maghrib)
-  pub isha : C (t .isha)
-  pub «middle_of_the_night» : C (t .«middle_of_the_night»)
-  pub qiyam : C (t .qiyam)
-  pub «fajr_tomorrow» : C (t .«fajr_tomorrow»)

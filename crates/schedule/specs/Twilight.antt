@@ -1,32 +1,30 @@
 -- schedule.rs: Fajr and Isha, before their minutes are added. Each is the time of an angle, bounded by a portion of the night or by the season.
 -- Times are seconds from 0h of the date.
-use mathlib.Core.Bool.{Bool, _&&_, cond}
-use lib.Dec.{eqb}
-use lib.IntN.{ℤ, pos, _+ℤ_, _-ℤ_, _*ℤ_}
+use mathlib.Core.Bool.{Bool, true, false, _&&_, cond}
+use lib.IntN.{ℤ, pos, negsuc, _+ℤ_, _-ℤ_, _*ℤ_}
 use lib.Signed.{ltZ}
 use lib.Ieee.{Float, le}
 use Rattle.float64.specs.Ops.{dec}
 use Rattle.calendar.specs.Days.{ordinalOf}
 use Rattle.calendar.specs.declared.dates.Date.{Date}
 use Rattle.models.specs.declared.method.Method.{Method}
-use Rattle.models.specs.declared.method.Method.the-variants.{MoonsightingCommittee}
+use Rattle.models.specs.declared.method.Method.the-variants.{MuslimWorldLeague, Egyptian, Karachi, UmmAlQura, Dubai, MoonsightingCommittee, NorthAmerica, Kuwait, Qatar, Singapore, Tehran, Turkey, Other}
 use Rattle.models.specs.declared.parameters.Parameters.{Parameters}
 use Rattle.models.specs.declared.rounding.Rounding.the-variants.{Nearest}
 use Rattle.models.specs.declared.rules.Season.{Season}
-use Rattle.models.specs.Numbers.{methodNumberOf}
 use Rattle.models.specs.Settings.{nightPortionsOf}
 use Rattle.stride.specs.Times.{roundedOf}
 use Rattle.night_portions.specs.Portions.{portionBeforeOf, portionAfterOf, seventhOf}
 use Rattle.ops.specs.Season.{morningSecondsOf, eveningSecondsOf}
 use Rattle.solar.specs.declared.setting.SolarHour.{SolarHour}
-use Rattle.solar.specs.declared.setting.SolarHour.the-variants.{At, None}
+use Rattle.solar.specs.declared.setting.SolarHour.the-variants.{Some, Nothing}
 use Rattle.solar.specs.declared.times.SolarTime.{SolarTime}
 
 -- a time of the next date, from 0h of this one
 abbrev pub nextDayOf : ℤ → ℤ
 nextDayOf t = t +ℤ pos 86400
 
--- the next sunrise less sunset
+-- "Night is the next sunrise less sunset"
 unfoldable pub nightOf : SolarTime → SolarTime → ℤ
 nightOf today next = nextDayOf (next .sunrise) -ℤ today .sunset
 
@@ -36,34 +34,58 @@ laterOf a b = cond (ltZ a b) b a
 unfoldable pub earlierOf : ℤ → ℤ → ℤ
 earlierOf a b = cond (ltZ b a) b a
 
--- without a time of its own the other one serves
+-- `unwrap_or`: the other one serves without a time of its own
 unfoldable pub orOf : SolarHour → ℤ → ℤ
-orOf (At t) other = t
-orOf None other = other
+orOf (Some t) other = t
+orOf Nothing other = other
 
--- MoonsightingCommittee bounds by season
+-- "MoonsightingCommittee bounds by season"
 unfoldable pub bySeasonOf : Method → Bool
-bySeasonOf method = eqb (methodNumberOf method) (methodNumberOf MoonsightingCommittee)
+bySeasonOf MuslimWorldLeague = false
+bySeasonOf Egyptian = false
+bySeasonOf Karachi = false
+bySeasonOf UmmAlQura = false
+bySeasonOf Dubai = false
+bySeasonOf MoonsightingCommittee = true
+bySeasonOf NorthAmerica = false
+bySeasonOf Kuwait = false
+bySeasonOf Qatar = false
+bySeasonOf Singapore = false
+bySeasonOf Tehran = false
+bySeasonOf Turkey = false
+bySeasonOf Other = false
 
--- and from latitude 55.0 takes a seventh of the night in place of the angle
+-- "and from latitude 55.0 takes a seventh of the night (whole seconds, cut toward zero) in place of the angle"
 unfoldable pub bySeventhOf : Method → Float → Bool
 unfolding dec
 bySeventhOf method latitude = le (dec 55 0) latitude && bySeasonOf method
 
--- the time that its bound is held against: that a seventh of the night gives, or the angle's; without a time of its own the bound serves
+-- the time that its bound is held against. "Without an angle time the bound serves."
 unfoldable pub ownOf : Method → Float → ℤ → SolarHour → ℤ → ℤ
 ownOf method latitude seventh hour bound = cond (bySeventhOf method latitude) seventh (orOf hour bound)
+
+-- the ends of an i32
+abbrev least32 : ℤ
+least32 = negsuc 2147483647
+
+abbrev most32 : ℤ
+most32 = pos 2147483647
+
+-- Seconds, held at the ends of an i32, so that every sum has its place. An order's are never near those ends (before-source and after-source of
+-- schedule_laws); the source panics where a sum leaves chrono's range.
+unfoldable pub shortOf : ℤ → ℤ
+shortOf z = cond (ltZ most32 z) most32 (cond (ltZ z least32) least32 z)
 
 -- ---- Fajr
 -- from sunrise to its bound
 unfoldable pub beforeSunriseOf : Parameters → Season → Date → ℤ → ℤ
 beforeSunriseOf p season date night =
-    cond (bySeasonOf (p .method)) (morningSecondsOf season (ordinalOf date) (date .year)) (portionBeforeOf (nightPortionsOf p .fajr) night)
+    shortOf (cond (bySeasonOf (p .method)) (morningSecondsOf season (ordinalOf date) (date .year)) (portionBeforeOf (nightPortionsOf p .fajr) night))
 
 abbrev pub fajrBoundOf : Parameters → Season → Date → SolarTime → ℤ → ℤ
 fajrBoundOf p season date today night = today .sunrise +ℤ beforeSunriseOf p season date night
 
--- the later of its angle's time and the bound
+-- "Unadjusted Fajr is the later of its angle's time and the night bound"
 unfoldable pub unadjustedFajrOf : Parameters → Season → Date → SolarTime → SolarTime → SolarHour → ℤ
 unadjustedFajrOf p season date today next hour =
     let night = nightOf today next in
@@ -71,20 +93,25 @@ unadjustedFajrOf p season date today next hour =
     laterOf (ownOf (p .method) (season .latitude) (today .sunrise -ℤ seventhOf night) hour bound) bound
 
 -- ---- Isha
--- only this bound is itself rounded
+-- from sunset to its bound
+unfoldable pub afterSunsetOf : Parameters → Season → Date → ℤ → ℤ
+afterSunsetOf p season date night =
+    shortOf (cond (bySeasonOf (p .method)) (eveningSecondsOf season (ordinalOf date) (date .year) (p .shafaq)) (portionAfterOf (nightPortionsOf p .isha) night))
+
+-- "Only the evening season bound is itself rounded (Nearest)."
 unfoldable pub ishaBoundOf : Parameters → Season → Date → SolarTime → ℤ → ℤ
 ishaBoundOf p season date today night =
-    cond (bySeasonOf (p .method)) (roundedOf Nearest (today .sunset +ℤ eveningSecondsOf season (ordinalOf date) (date .year) (p .shafaq)))
-    (today .sunset +ℤ portionAfterOf (nightPortionsOf p .isha) night)
+    let bound = today .sunset +ℤ afterSunsetOf p season date night in
+    cond (bySeasonOf (p .method)) (roundedOf Nearest bound) bound
 
--- the earlier of its angle's time and the bound
+-- "Isha the earlier"
 unfoldable pub boundedIshaOf : Parameters → Season → Date → SolarTime → SolarTime → SolarHour → ℤ
 boundedIshaOf p season date today next hour =
     let night = nightOf today next in
     let bound = ishaBoundOf p season date today night in
     earlierOf (ownOf (p .method) (season .latitude) (today .sunset +ℤ seventhOf night) hour bound) bound
 
--- an interval above 0 replaces the rule
+-- "An interval above 0 replaces the Isha rule."
 unfoldable pub unadjustedIshaOf : Parameters → Season → Date → SolarTime → SolarTime → SolarHour → ℤ
 unadjustedIshaOf p season date today next hour =
     cond (ltZ (pos 0) (p .«isha_interval»)) (today .sunset +ℤ p .«isha_interval» *ℤ pos 60) (boundedIshaOf p season date today next hour)

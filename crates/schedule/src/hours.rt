@@ -1,7 +1,8 @@
 // The hour numbers that a row's times are worked from, and the sun's times that they give. A row by itself and rows that follow one another build
 // them here.
 ghost use mathlib.Core.Path.{_≡_};
-ghost use Rattle.schedule.specs.Hours.{sunsOf, dayHoursOf, rowHoursOf, hoursOf};
+ghost use Rattle.schedule.specs.Hours.{sunsOf, hoursOf};
+ghost use Rattle.schedule.specs.RowSuns.{dayHoursOf, rowHoursOf};
 use models::rules::Midnight;
 use refusals::Refusal;
 use solar::hours::HourNumbers;
@@ -37,7 +38,7 @@ pub struct ThreeSuns {
 pub enum Suns {
     Whole(ThreeSuns),
     // 6, 7 or 8 with the day: the first of days 0, 1 and 2 that lacks a time.
-    Lacks(Refusal),
+    Refused(Refusal),
 }
 
 // Each counted from 0h of its own date.
@@ -54,11 +55,11 @@ impl Suns {
         ensures { λ r. ⌜ r ≡ sunsOf today tomorrow after ⌝ }
     {
         match today {
-            SolarDay::Lacks(number) => Suns::Lacks(Refusal::new(number, 0)),
+            SolarDay::Lacks(number) => Suns::Refused(Refusal::new(number, 0)),
             SolarDay::Whole(first) => match tomorrow {
-                SolarDay::Lacks(number) => Suns::Lacks(Refusal::new(number, 1)),
+                SolarDay::Lacks(number) => Suns::Refused(Refusal::new(number, 1)),
                 SolarDay::Whole(second) => match after {
-                    SolarDay::Lacks(number) => Suns::Lacks(Refusal::new(number, 2)),
+                    SolarDay::Lacks(number) => Suns::Refused(Refusal::new(number, 2)),
                     SolarDay::Whole(third) => Suns::Whole(ThreeSuns {
                         today: first,
                         tomorrow: second,

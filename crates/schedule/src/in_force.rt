@@ -27,7 +27,7 @@ pub struct Instant {
 
 pub enum Current {
     Some(Prayer),
-    None,
+    Nothing,
 }
 
 #[repr(C)]
@@ -37,7 +37,7 @@ pub struct HoursMinutes {
 }
 
 pub enum Remaining {
-    In(HoursMinutes),
+    Some(HoursMinutes),
     Nothing,
 }
 
@@ -120,7 +120,7 @@ impl PrayerTimes {
             }
             n = n - 1;
         }
-        Current::None
+        Current::Nothing
     }
 
     pub fn next(self, instant: Instant) -> Current
@@ -128,7 +128,7 @@ impl PrayerTimes {
     {
         match self.current_time(instant) {
             Current::Some(prayer) => Current::Some(following(prayer)),
-            Current::None => Current::None,
+            Current::Nothing => Current::Nothing,
         }
     }
 
@@ -138,9 +138,9 @@ impl PrayerTimes {
         match self.next(instant) {
             Current::Some(prayer) => {
                 let seconds = ahead(self.time(prayer), instant);
-                Remaining::In(hours_minutes(seconds))
+                Remaining::Some(hours_minutes(seconds))
             }
-            Current::None => Remaining::Nothing,
+            Current::Nothing => Remaining::Nothing,
         }
     }
 }

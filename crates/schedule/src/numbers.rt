@@ -1,8 +1,8 @@
 // The hour numbers of Fajr, Asr and Isha from a day's sun.
 ghost use mathlib.Core.Path.{_≡_};
-ghost use Rattle.schedule.specs.Numbers.{fajrNumberOf, ishaNumberOf, asrNumberOf};
-ghost use Rattle.schedule.specs.Sines.{twilightSinesOf};
-ghost use Rattle.solar.specs.Shared.{courseSineNumberOf, courseAfternoonNumberOf};
+ghost use Rattle.schedule.specs.Asked.{twilightSinesOf, fajrBySineOf, ishaBySineOf};
+ghost use Rattle.schedule.specs.Numbers.{shadowOf};
+ghost use Rattle.solar.specs.Shared.{courseAfternoonNumberOf};
 use super::twilight::by_seventh;
 use fdlibm_trig::s_sin::sin;
 use float64::words::not_a_number;
@@ -31,7 +31,7 @@ impl TwilightSines {
 
     // A NaN, which has no time by either rule, where a seventh of the night takes the angle's place.
     pub fn fajr_number(self, parameters: Parameters, latitude: f64, sun: Course) -> f64
-        ensures { λ r. ⌜ r ≡ fajrNumberOf parameters latitude (courseSineNumberOf sun (self .fajr)) ⌝ }
+        ensures { λ r. ⌜ r ≡ fajrBySineOf parameters latitude (self .fajr) sun ⌝ }
     {
         let method = parameters.method;
         if by_seventh(method, latitude) {
@@ -42,7 +42,7 @@ impl TwilightSines {
 
     // A NaN where an interval or a seventh of the night takes the angle's place.
     pub fn isha_number(self, parameters: Parameters, latitude: f64, sun: Course) -> f64
-        ensures { λ r. ⌜ r ≡ ishaNumberOf parameters latitude (courseSineNumberOf sun (self .isha)) ⌝ }
+        ensures { λ r. ⌜ r ≡ ishaBySineOf parameters latitude (self .isha) sun ⌝ }
     {
         let method = parameters.method;
         if parameters.isha_interval > 0 {
@@ -56,7 +56,7 @@ impl TwilightSines {
 }
 
 pub fn asr_number(parameters: Parameters, latitude: f64, sun: Course) -> f64
-    ensures { λ r. ⌜ r ≡ asrNumberOf parameters (courseAfternoonNumberOf sun latitude) ⌝ }
+    ensures { λ r. ⌜ r ≡ courseAfternoonNumberOf sun latitude (shadowOf parameters) ⌝ }
 {
     let madhab = parameters.madhab;
     afternoon_number(sun, latitude, madhab.shadow() as f64)

@@ -1,4 +1,4 @@
-// schedule.rs: the builder of a date's times, by value. The crate's Option is a bool and a value that stands for nothing where it is false.
+// schedule.rs: the builder of a date's times, by value. Each of the crate's three `Option`s is an enum.
 ghost use mathlib.Core.Path.{_≡_};
 ghost use Rattle.schedule.specs.Builder.{noSchedule, onOf, forLocationOf, withConfigurationOf, calculateOf};
 use super::prayer_times::Worked;
@@ -8,19 +8,31 @@ use models::parameters::Parameters;
 use models::rules::Rules;
 use unit::Coordinates;
 
+pub enum ChosenDate {
+    Some(Date),
+    Nothing,
+}
+
+pub enum ChosenPlace {
+    Some(Coordinates),
+    Nothing,
+}
+
+pub enum ChosenParameters {
+    Some(Parameters),
+    Nothing,
+}
+
 pub struct PrayerSchedule {
-    pub dated: bool,
-    pub date: Date,
-    pub located: bool,
-    pub coordinates: Coordinates,
-    pub configured: bool,
-    pub params: Parameters,
+    pub date: ChosenDate,
+    pub coordinates: ChosenPlace,
+    pub params: ChosenParameters,
 }
 
 pub enum Calculated {
-    Worked(Worked),
+    Some(Worked),
     // Date, coordinates and parameters are all needed.
-    Missing,
+    Nothing,
 }
 
 impl PrayerSchedule {
@@ -28,29 +40,34 @@ impl PrayerSchedule {
         ensures { λ r. ⌜ r ≡ noSchedule ⌝ }
     {
         PrayerSchedule {
-            dated: false,
-            date: Date::new(0, 0, 0),
-            located: false,
-            coordinates: Coordinates::new(0.0, 0.0),
-            configured: false,
-            params: Parameters::new(0.0, 0.0),
+            date: ChosenDate::Nothing,
+            coordinates: ChosenPlace::Nothing,
+            params: ChosenParameters::Nothing,
         }
     }
 
-    pub fn on(mut self, date: Date) -> PrayerSchedule
+    pub fn on(self, date: Date) -> PrayerSchedule
         ensures { λ r. ⌜ r ≡ onOf self date ⌝ }
     {
-        self.dated = true;
-        self.date = date;
-        self
+        let coordinates = self.coordinates;
+        let params = self.params;
+        PrayerSchedule {
+            date: ChosenDate::Some(date),
+            coordinates: coordinates,
+            params: params,
+        }
     }
 
-    pub fn for_location(mut self, location: Coordinates) -> PrayerSchedule
+    pub fn for_location(self, location: Coordinates) -> PrayerSchedule
         ensures { λ r. ⌜ r ≡ forLocationOf self location ⌝ }
     {
-        self.located = true;
-        self.coordinates = location;
-        self
+        let date = self.date;
+        let params = self.params;
+        PrayerSchedule {
+            date: date,
+            coordinates: ChosenPlace::Some(location),
+            params: params,
+        }
     }
 
     pub fn with_configuration(self, params: Parameters) -> PrayerSchedule
@@ -59,12 +76,9 @@ impl PrayerSchedule {
         let date = self.date;
         let coordinates = self.coordinates;
         PrayerSchedule {
-            dated: self.dated,
             date: date,
-            located: self.located,
             coordinates: coordinates,
-            configured: true,
-            params: params,
+            params: ChosenParameters::Some(params),
         }
     }
 
@@ -72,18 +86,19 @@ impl PrayerSchedule {
         ensures { λ r. ⌜ r ≡ calculateOf self ⌝ }
     {
         let date = self.date;
-        let coordinates = self.coordinates;
+        let place = self.coordinates;
         let params = self.params;
-        if self.dated {
-            if self.located {
-                if self.configured {
-                    let rules = Rules::source();
-                    let suns = RowSuns::new(date, coordinates, params, rules);
-                    let worked = suns.work(coordinates.latitude, params, rules);
-                    return Calculated::Worked(worked);
-                }
-            }
-        }
-        Calculated::Missing
+        let ChosenDate::Some(date) = date else {
+            return Calculated::Nothing;
+        };
+        let ChosenPlace::Some(coordinates) = place else {
+            return Calculated::Nothing;
+        };
+        let ChosenParameters::Some(parameters) = params else {
+            return Calculated::Nothing;
+        };
+        let rules = Rules::source();
+        let suns = RowSuns::new(date, coordinates, parameters, rules);
+        Calculated::Some(suns.work(coordinates.latitude, parameters, rules))
     }
 }

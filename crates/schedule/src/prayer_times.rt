@@ -9,7 +9,8 @@ ghost use Rattle.models.specs.Settings.{timeAdjustmentsOf};
 ghost use Rattle.stride.specs.Times.{roundedOf, adjustedOf};
 ghost use Rattle.schedule.specs.Hours.{hoursOf};
 ghost use Rattle.schedule.specs.Fajr.{fajrAloneOf};
-ghost use Rattle.schedule.specs.Times.{startOf, finalOf, fajrTomorrowOf, middleOfTheNightOf, qiyamOf, fromMidnightOf, startedOf, seasonOf, workedOf, Each};
+ghost use Rattle.schedule.specs.Times.{startOf, finalOf, fajrTomorrowOf, middleOfTheNightOf, qiyamOf, fromMidnightOf, startedOf, seasonOf, workedOf};
+ghost use Rattle.schedule.specs.Each.{Each};
 ghost use Rattle.schedule.specs.Twilight.{unadjustedFajrOf};
 use super::hours::RowHours;
 use super::hours::RowNumbers;
@@ -54,9 +55,9 @@ pub enum Worked {
 
 // A date's Fajr by itself, in seconds from 0h of the date.
 pub enum FajrAlone {
-    At(i64),
+    Some(i64),
     // The date's times are refused.
-    Refused,
+    Nothing,
 }
 
 // What is counted from maghrib to tomorrow's Fajr.
@@ -201,7 +202,7 @@ impl RowHours {
                 date,
                 from_midnight(parameters, season, date, three, self),
             )),
-            Suns::Lacks(refusal) => Worked::Refused(refusal),
+            Suns::Refused(refusal) => Worked::Refused(refusal),
         }
     }
 }
@@ -218,8 +219,14 @@ impl Suns {
         ensures { λ r. ⌜ r ≡ fajrAloneOf self date season parameters hour ⌝ }
     {
         match self {
-            Suns::Whole(three) => FajrAlone::At(final_fajr(parameters, season, date, three, hour)),
-            Suns::Lacks(_) => FajrAlone::Refused,
+            Suns::Whole(three) => FajrAlone::Some(final_fajr(
+                parameters,
+                season,
+                date,
+                three,
+                hour,
+            )),
+            Suns::Refused(_) => FajrAlone::Nothing,
         }
     }
 }

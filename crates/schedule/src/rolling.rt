@@ -1,8 +1,10 @@
 // Rows that follow one another (added). The date of the next row is worked from the next sun's position alone: two of its three suns, and its Fajr's
 // angle, are the row's own. What depends on the place or on the parameters alone is worked with the first row's.
 ghost use mathlib.Core.Path.{_≡_};
+ghost use Rattle.calendar.specs.Answers.{yesterdayOf, tomorrowOf};
 ghost use Rattle.schedule.specs.RowSuns.{thirdSunOf, daySunOf, rowSunsOf, nextRowSunsOf, rowSunsHoursOf, rowSunsFajrOf};
 ghost use Rattle.schedule.specs.Times.{seasonOf, workedOf};
+ghost use Rattle.solar.specs.Coordinates.{positionOf};
 use super::hours::DayHours;
 use super::hours::RowHours;
 use super::hours::Suns;
@@ -49,6 +51,20 @@ pub struct RowSuns {
     pub today: DaySun,
     pub tomorrow: DaySun,
     pub after: ThirdSun,
+}
+
+// The last year that a u32 holds. Its last date is its own tomorrow.
+const LAST_YEAR: u32 = 4294967295;
+
+// The position on the day before the date's tomorrow. In every year but the last that day is the date itself, whose position is at hand.
+fn position_before_tomorrow(date: Date, at_date: SolarCoordinates) -> SolarCoordinates
+    requires { ⌜ «at_date» ≡ positionOf date ⌝ }
+    ensures { λ r. ⌜ r ≡ positionOf (yesterdayOf (tomorrowOf date)) ⌝ }
+{
+    if date.year < LAST_YEAR {
+        return at_date;
+    }
+    position(date.tomorrow().yesterday())
 }
 
 fn third_sun(rules: Rules, course: Course) -> ThirdSun
@@ -103,12 +119,14 @@ impl RowSuns {
         let third = second.tomorrow();
         let at_date = position(date);
         let at_next = position(next);
+        let before_next = position_before_tomorrow(date, at_date);
+        let before_second = position_before_tomorrow(next, at_next);
         let at_second = position(second);
         let at_third = position(third);
         let before = position(date.yesterday());
         let today = sun(coordinates, observer, before, at_date, at_next);
-        let tomorrow = sun(coordinates, observer, at_date, at_next, at_second);
-        let after = sun(coordinates, observer, at_next, at_second, at_third);
+        let tomorrow = sun(coordinates, observer, before_next, at_next, at_second);
+        let after = sun(coordinates, observer, before_second, at_second, at_third);
         RowSuns {
             date: date,
             third: third,

@@ -4,7 +4,7 @@ ghost use mathlib.Core.Path.{_≡_};
 ghost use Prim.Native.Nat.{_^_};
 ghost use lib.IntN.{_+ℤ_};
 ghost use Rattle.integers.specs.Parts.{Near};
-ghost use Rattle.schedule.specs.Twilight.{nightOf, laterOf, earlierOf, orOf, bySeasonOf, bySeventhOf, ownOf, fajrBoundOf, unadjustedFajrOf, ishaBoundOf, boundedIshaOf, unadjustedIshaOf};
+ghost use Rattle.schedule.specs.Twilight.{nightOf, laterOf, earlierOf, orOf, bySeasonOf, bySeventhOf, ownOf, shortOf, fajrBoundOf, unadjustedFajrOf, ishaBoundOf, boundedIshaOf, unadjustedIshaOf};
 use calendar::dates::Date;
 use models::method::Method;
 use models::parameters::Parameters;
@@ -19,10 +19,28 @@ use solar::setting::SolarHour;
 use solar::times::SolarTime;
 use stride::times::rounded_minute;
 
-fn sum(a: i32, b: i32) -> i64
-    ensures { λ r. ⌜ (r ≡ a +ℤ b) × Near (2 ^ 32) r ⌝ }
+const MOST32: i64 = 2147483647;
+
+const LEAST32: i64 = -2147483648;
+
+// Seconds, held at the ends of an i32: no order's come near them.
+fn short(seconds: i64) -> i64
+    ensures { λ r. ⌜ (r ≡ shortOf seconds) × Near (2 ^ 31) r ⌝ }
 {
-    a as i64 + b as i64
+    if seconds > MOST32 {
+        return MOST32;
+    }
+    if seconds < LEAST32 {
+        return LEAST32;
+    }
+    seconds
+}
+
+// A time of the sun, moved by so many seconds.
+fn moved(time: i32, seconds: i64) -> i64
+    ensures { λ r. ⌜ (r ≡ time +ℤ shortOf seconds) × Near (2 ^ 32) r ⌝ }
+{
+    time as i64 + short(seconds)
 }
 
 // The next sunrise less sunset.
@@ -52,14 +70,14 @@ fn earlier(a: i64, b: i64) -> i64
     a
 }
 
-// An hour's time; without one, the other serves.
+// `hour`'s time, or `other` if it has none.
 pub fn or(hour: SolarHour, other: i64) -> i64
     requires { ⌜ Near (2 ^ 38) other ⌝ }
     ensures { λ r. ⌜ (r ≡ orOf hour other) × Near (2 ^ 38) r ⌝ }
 {
     match hour {
-        SolarHour::At(time) => time as i64,
-        SolarHour::None => other,
+        SolarHour::Some(time) => time as i64,
+        SolarHour::Nothing => other,
     }
 }
 
@@ -67,7 +85,21 @@ pub fn or(hour: SolarHour, other: i64) -> i64
 fn by_season(method: Method) -> bool
     ensures { λ r. ⌜ r ≡ bySeasonOf method ⌝ }
 {
-    method.number() == Method::MoonsightingCommittee.number()
+    match method {
+        Method::MuslimWorldLeague => false,
+        Method::Egyptian => false,
+        Method::Karachi => false,
+        Method::UmmAlQura => false,
+        Method::Dubai => false,
+        Method::MoonsightingCommittee => true,
+        Method::NorthAmerica => false,
+        Method::Kuwait => false,
+        Method::Qatar => false,
+        Method::Singapore => false,
+        Method::Tehran => false,
+        Method::Turkey => false,
+        Method::Other => false,
+    }
 }
 
 // And from latitude 55 on it takes a seventh of the night in place of the angle.
@@ -103,10 +135,10 @@ fn fajr_bound(
     let method = parameters.method;
     if by_season(method) {
         let seconds = morning_twilight_seconds(season, date.ordinal(), date.year);
-        return sum(today.sunrise, seconds);
+        return moved(today.sunrise, seconds);
     }
     let portions = parameters.night_portions();
-    sum(today.sunrise, portion_before(portions.fajr, night))
+    moved(today.sunrise, portion_before(portions.fajr, night))
 }
 
 pub fn unadjusted_fajr(
@@ -139,13 +171,13 @@ fn isha_bound(
     if by_season(method) {
         let shafaq = parameters.shafaq;
         let seconds = evening_twilight_seconds(season, date.ordinal(), date.year, shafaq);
-        return rounded_minute(sum(today.sunset, seconds), Rounding::Nearest);
+        return rounded_minute(moved(today.sunset, seconds), Rounding::Nearest);
     }
     let portions = parameters.night_portions();
-    sum(today.sunset, portion_after(portions.isha, night))
+    moved(today.sunset, portion_after(portions.isha, night))
 }
 
-// Where no interval replaces the rule.
+// Isha without an interval.
 fn bounded_isha(
     parameters: Parameters,
     season: Season,

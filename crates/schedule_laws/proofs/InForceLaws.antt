@@ -1,6 +1,6 @@
 -- The prayer in force where no time is earlier and the instant is not after: what is due under the second is due under the first. Assumes nothing.
 use Rattle.prelude.proofs.Logic.{_≡_, refl, ap, Bool, true, false, cond, inl, inr, ⊎-elim, ℕ, zero, suc, _≤_, _<_, arith, eqb, eqb→eq, lit≤, ℤ, pos, negsuc, _+ℤ_, _-ℤ_, _*ℤ_, ltZ, eqb-true, eqb-false}
-use Rattle.integers.proofs.Integers.{P, N, same, sum, difference, times, lt-yes, lt-no, _≼_}
+use Rattle.integers.proofs.Integers.{P, N, same, sum, difference, times, le-yes, lt-yes, lt-no, to-le, _≼_}
 use Rattle.prelude.proofs.Computed.{at}
 use Rattle.models.specs.declared.prayer.Prayer.{Prayer}
 use Rattle.models.specs.declared.prayer.Prayer.the-variants.{Fajr, Sunrise, Dhuhr, Asr, Maghrib, Isha, Qiyam, FajrTomorrow}
@@ -19,8 +19,7 @@ module _ (j i : Instant) where
       let b = times (i .seconds) 1000000000 in
       let c = sum (j .seconds *ℤ pos inSecond) (pos (j .nanoseconds)) in
       let d = sum (i .seconds *ℤ pos inSecond) (pos (i .nanoseconds)) in
-      let e = sum (j .seconds) (pos 1) in
-      ⊎-elim (λ (l : j .seconds +ℤ pos 1 ≼ i .seconds). omega arith)
+      ⊎-elim (λ (l : ltZ (j .seconds) (i .seconds) ≡ true). omega (arith, lt-yes (j .seconds) (i .seconds) l))
       (λ (l : (j .seconds ≡ i .seconds) × (j .nanoseconds ≤ i .nanoseconds)). let x = ap P (l .0) in let y = ap N (l .0) in omega (arith, l .1))
       o
 
@@ -29,7 +28,7 @@ module _ (j i : Instant) where
   from-nanoseconds h o = by-tests (ltZ (j .seconds) (i .seconds)) (ltZ (i .seconds) (j .seconds)) refl refl
     where
       by-tests : (b c : Bool) → ltZ (j .seconds) (i .seconds) ≡ b → ltZ (i .seconds) (j .seconds) ≡ c → NotAfter j i
-      by-tests true c p q = let l = lt-yes (j .seconds) (i .seconds) p in let e = sum (j .seconds) (pos 1) in inl (omega arith)
+      by-tests true c p q = inl p
       by-tests false true p q =
           let l = lt-yes (i .seconds) (j .seconds) q in
           let a = times (j .seconds) 1000000000 in
@@ -47,7 +46,10 @@ module _ (j i : Instant) where
           inr (same (j .seconds) (i .seconds) (omega arith), omega arith)
 
 pub not-after-by-nanoseconds : NotAfterByNanoseconds
-not-after-by-nanoseconds j i h k = (to-nanoseconds j i h, from-nanoseconds j i k)
+not-after-by-nanoseconds j i h k = (
+  λ o. to-le (nanosecondsOf j) (nanosecondsOf i) (to-nanoseconds j i h o),
+  λ o. from-nanoseconds j i k (le-yes (nanosecondsOf j) (nanosecondsOf i) o),
+)
 
 -- ---- the whole seconds that lie ahead
 positive-grows : (x y : ℤ) → x ≼ y → P x ≤ P y
@@ -68,14 +70,14 @@ ahead-grows s t i j h k =
 -- ---- the list
 time-grows : (t u : PrayerTimes) → NoneEarlier t u → (prayer : Prayer) → timeOf t prayer ≼ timeOf u prayer
 unfolding timeOf
-time-grows t u h Fajr = h .fajr
-time-grows t u h Sunrise = h .sunrise
-time-grows t u h Dhuhr = h .dhuhr
-time-grows t u h Asr = h .asr
-time-grows t u h Maghrib = h .maghrib
-time-grows t u h Isha = h .isha
-time-grows t u h Qiyam = h .qiyam
-time-grows t u h FajrTomorrow = h .«fajr_tomorrow»
+time-grows t u h Fajr = le-yes (t .fajr) (u .fajr) (h .fajr)
+time-grows t u h Sunrise = le-yes (t .sunrise) (u .sunrise) (h .sunrise)
+time-grows t u h Dhuhr = le-yes (t .dhuhr) (u .dhuhr) (h .dhuhr)
+time-grows t u h Asr = le-yes (t .asr) (u .asr) (h .asr)
+time-grows t u h Maghrib = le-yes (t .maghrib) (u .maghrib) (h .maghrib)
+time-grows t u h Isha = le-yes (t .isha) (u .isha) (h .isha)
+time-grows t u h Qiyam = le-yes (t .qiyam) (u .qiyam) (h .qiyam)
+time-grows t u h FajrTomorrow = le-yes (t .«fajr_tomorrow») (u .«fajr_tomorrow») (h .«fajr_tomorrow»)
 
 placeTest : ℕ → Bool
 placeTest n = eqb (prayerNumberOf (prayerOf (suc n))) (suc n)

@@ -1,16 +1,16 @@
 -- What a school's later minutes do to a day: the statement of specs/Later. Assumes nothing.
 use Rattle.prelude.proofs.Logic.{_≡_, refl, sym, ap, subst, _∙_, ℕ, _^_, _<_, arith}
-use Rattle.integers.proofs.Integers.{Near, _≼_}
+use Rattle.integers.proofs.Integers.{Near, _≼_, le-yes}
 use Rattle.calendar.specs.declared.dates.Date.{Date}
 use Rattle.models.specs.declared.{adjustments.TimeAdjustment.TimeAdjustment, parameters.Parameters.Parameters, rules.Season.Season, prayer.Prayer.Prayer, rules.Midnight.Midnight}
 use Rattle.refusals.specs.declared.Refusal.{Refusal}
 use Rattle.models.specs.Settings.{timeAdjustmentsOf}
 use Rattle.unit.specs.declared.Coordinates.{Coordinates}
 use Rattle.schedule.specs.declared.{hours.Suns.Suns, hours.RowHours.RowHours, hours.RowNumbers.RowNumbers, prayer_times.PrayerTimes.PrayerTimes, in_force.Instant.Instant}
-use Rattle.schedule.specs.declared.hours.Suns.the-variants.{Whole, Lacks}
+use Rattle.schedule.specs.declared.hours.Suns.the-variants as suns
 use Rattle.schedule.specs.declared.prayer_times.Worked.the-variants.{Times, Refused}
 use Rattle.schedule.specs.InForce.{inSecond}
-use Rattle.schedule.proofs.Schedule.{hoursOf, NotAfter, fajrNumberOf, ishaNumberOf, asrNumberOf, numbersOf, workedFrom, seasonOf, workedOf}
+use Rattle.schedule.proofs.Schedule.{hoursOf, NotAfter, numbersOf, workedFrom, seasonOf, workedOf}
 use Rattle.schedule_laws.specs.Later.{withMinutes, NoneEarlier, ExactlyLater, Moved, LaterMinutesMoveTheDay, LaterMinutesMoveTheRow}
 use Rattle.schedule_laws.proofs.SunSpans.{SunHour, Row, hours}
 use Rattle.schedule_laws.proofs.Moves.{exactly, none-earlier}
@@ -47,9 +47,9 @@ module _ (p : Parameters) (minutes : TimeAdjustment) (more : (prayer : Prayer) �
     (season : Season) (date : Date) where
   by-suns : (s : Suns) (h : RowHours) → Row s → SunHour (h .«fajr_tomorrow») → Moved p (withMinutes p minutes) (workedFrom s h date season p) (workedFrom s h date season (withMinutes p minutes))
   unfolding workedFrom
-  by-suns (Lacks r) h x k = refused-alike p (withMinutes p minutes) r
-  by-suns (Whole suns) h x k =
-      worked-alike p (withMinutes p minutes) _ _ (none-earlier p minutes season date suns h more held held-q x k) (exactly p minutes season date suns h)
+  by-suns (suns.Refused r) h x k = refused-alike p (withMinutes p minutes) r
+  by-suns (suns.Whole three) h x k =
+      worked-alike p (withMinutes p minutes) _ _ (none-earlier p minutes season date three h more held held-q x k) (exactly p minutes season date three h)
 
   by-numbers : (rule : Midnight) (n : RowNumbers) → Moved p (withMinutes p minutes) (workedOf (hoursOf rule n) date season p) (workedOf (hoursOf rule n) date season (withMinutes p minutes))
   unfolding workedOf
@@ -59,7 +59,7 @@ pub later-minutes-move-the-day : LaterMinutesMoveTheDay
 later-minutes-move-the-day rule n date season p q h =
     let e = h .alike in
     subst (λ (x : Parameters). Moved p x (workedOf (hoursOf rule n) date season p) (workedOf (hoursOf rule n) date season x)) e
-    (by-numbers p (q .adjustments) (λ (prayer : Prayer). subst (λ (x : Parameters). timeAdjustmentsOf p prayer ≼ timeAdjustmentsOf x prayer) (sym e) (h .more prayer)) (h .«first_held»)
+    (by-numbers p (q .adjustments) (λ (prayer : Prayer). subst (λ (x : Parameters). timeAdjustmentsOf p prayer ≼ timeAdjustmentsOf x prayer) (sym e) (le-yes (timeAdjustmentsOf p prayer) (timeAdjustmentsOf q prayer) (h .more prayer))) (h .«first_held»)
     (λ (prayer : Prayer). subst (λ (x : Parameters). Near (2 ^ 32) (timeAdjustmentsOf x prayer)) (sym e) (h .«second_held» prayer))
     season
     date
@@ -68,7 +68,7 @@ later-minutes-move-the-day rule n date season p q h =
 
 -- ---- from date and place on
 numbers-alike : (date : Date) (place : Coordinates) (p : Parameters) (minutes : TimeAdjustment) → numbersOf date place (withMinutes p minutes) ≡ numbersOf date place p
-unfolding numbersOf fajrNumberOf asrNumberOf ishaNumberOf
+unfolding numbersOf
 numbers-alike date place p minutes = refl
 
 pub later-minutes-move-the-row : LaterMinutesMoveTheRow

@@ -1,6 +1,6 @@
 pub mod Spans
 pub mod SunSpans
-pub mod CarriedLaws
+pub mod OrderMinutes
 pub mod RangeLaws
 pub mod InForceLaws
 pub mod Moves

@@ -1,8 +1,7 @@
 -- Where a school's minutes are later and nothing else changes: each time is later by exactly their seconds, and none of the nine is earlier. Assumes
 -- nothing.
-use Rattle.prelude.proofs.Logic.{_≡_, refl, sym, ap, subst, _∙_, _^_, _<_, arith, lit≤, ℤ, pos, negsuc, _+ℤ_, _-ℤ_, _*ℤ_, +ℤ-assoc, mag}
-use Rattle.float64.proofs.Floats.{Float, toSigned, toSigned-in}
-use Rattle.integers.proofs.Integers.{Near, _≼_, same, sum, difference, times, wider, natural-between, sum-between, difference-between, either-between}
+use Rattle.prelude.proofs.Logic.{_≡_, refl, sym, ap, subst, _∙_, _^_, _<_, arith, lit≤, ℤ, pos, negsuc, _+ℤ_, _-ℤ_, _*ℤ_, +ℤ-assoc}
+use Rattle.integers.proofs.Integers.{Near, _≼_, same, sum, difference, times, wider, natural-between, sum-between, difference-between, to-le}
 use Rattle.calendar.specs.Answers.{tomorrowOf}
 use Rattle.calendar.specs.declared.dates.Date.{Date}
 use Rattle.models.specs.declared.{adjustments.TimeAdjustment.TimeAdjustment, parameters.Parameters.Parameters, rules.Season.Season, prayer.Prayer.Prayer, rounding.Rounding.Rounding}
@@ -11,13 +10,12 @@ use Rattle.models.specs.declared.rounding.Rounding.the-variants.{Nearest}
 use Rattle.models.specs.Settings.{timeAdjustmentsOf}
 use Rattle.stride.specs.Times.{roundedOf, adjustedOf}
 use Rattle.stride.proofs.TimesLaws.{rounded-adjusted, rounded-mono, adjusted-between}
-use Rattle.night_portions.specs.Portions.{portionBeforeOf, middleOf, lastThirdOf}
+use Rattle.night_portions.specs.Portions.{middleOf, lastThirdOf}
 use Rattle.night_portions.proofs.Steady.{Small}
 use Rattle.night_portions.proofs.PortionsLaws.{middle-later, last-third-later}
-use Rattle.ops.specs.Season.{morningSecondsOf}
 use Rattle.solar.specs.declared.{setting.SolarHour.SolarHour, times.SolarTime.SolarTime}
 use Rattle.schedule.specs.declared.{hours.ThreeSuns.ThreeSuns, hours.RowHours.RowHours, prayer_times.PrayerTimes.PrayerTimes}
-use Rattle.schedule.proofs.Schedule.{startOf, finalOf, fajrTomorrowOf, middleOfTheNightOf, qiyamOf, fromMidnightOf, startedOf, timesOf, nightOf, nextDayOf, orOf, bySeasonOf, beforeSunriseOf, unadjustedFajrOf, ishaBoundOf, boundedIshaOf, unadjustedIshaOf}
+use Rattle.schedule.proofs.Schedule.{startOf, finalOf, fajrTomorrowOf, middleOfTheNightOf, qiyamOf, fromMidnightOf, startedOf, timesOf, nightOf, nextDayOf, orOf, beforeSunriseOf, short-near, unadjustedFajrOf, afterSunsetOf, ishaBoundOf, boundedIshaOf, unadjustedIshaOf}
 use Rattle.schedule_laws.specs.Later.{withMinutes, NoneEarlier, laterBy, ExactlyLater}
 use Rattle.schedule_laws.proofs.Spans.{fajr-between, final-between}
 use Rattle.schedule_laws.proofs.SunSpans.{Days, SunHour, Sun, Three, night-days, seventh-days}
@@ -55,17 +53,9 @@ not-earlier x y a b h e =
     subst (λ (w : ℤ). x ≼ w) (sym e) (omega (arith, d .0, d .1))
 
 -- ---- maghrib and tomorrow's Fajr are near enough that every night is short, whatever the parameters
--- what is cut to an i32 is one
-in-i32 : (z : ℤ) → mag z < 2 ^ 31 → Near (2 ^ 31) z
-in-i32 (pos n) h = record { from = omega arith; to = omega arith }
-in-i32 (negsuc n) h = record { from = omega arith; to = omega arith }
-
-cast-near : (x : Float) → Near (2 ^ 31) (toSigned 31 x)
-cast-near x = in-i32 (toSigned 31 x) (toSigned-in 31 x)
-
 before-near : (p : Parameters) (season : Season) (date : Date) (night : ℤ) → Near (2 ^ 31) (beforeSunriseOf p season date night)
-unfolding beforeSunriseOf morningSecondsOf portionBeforeOf
-before-near p season date night = either-between (bySeasonOf (p .method)) (cast-near _) (cast-near _)
+unfolding beforeSunriseOf
+before-near p season date night = short-near _
 
 module _ (p : Parameters) (held : (prayer : Prayer) → Near (2 ^ 32) (timeAdjustmentsOf p prayer)) where
   maghrib-near : {x : ℤ} → Days 1 2 x → Near (2 ^ 39) (finalOf p Maghrib x)
@@ -107,7 +97,7 @@ module _ (p : Parameters) (minutes : TimeAdjustment) where
     unadjusted-fajr = refl
 
     unadjusted-isha : unadjustedIshaOf q season date today next hour ≡ unadjustedIshaOf p season date today next hour
-    unfolding unadjustedIshaOf boundedIshaOf ishaBoundOf
+    unfolding unadjustedIshaOf boundedIshaOf ishaBoundOf afterSunsetOf
     unadjusted-isha = refl
 
     fajr-moved : finalOf q Fajr (unadjustedFajrOf q season date today next hour) ≡ finalOf p Fajr (unadjustedFajrOf p season date today next hour) +ℤ laterBy p q Fajr
@@ -176,13 +166,13 @@ module _ (p : Parameters) (minutes : TimeAdjustment) where
           let later = by-more Maghrib m m' (final-moved Maghrib (sun .sunset)) in
           let later-fajr = by-more Fajr f f' (tomorrow-moved season date (suns .tomorrow) (suns .after) (h .«fajr_tomorrow»)) in
           record {
-            fajr = by-more Fajr (first .fajr) (second .fajr) (exactly .fajr);
-            sunrise = by-more Sunrise (first .sunrise) (second .sunrise) (exactly .sunrise);
-            dhuhr = by-more Dhuhr (first .dhuhr) (second .dhuhr) (exactly .dhuhr);
-            asr = by-more Asr (first .asr) (second .asr) (exactly .asr);
-            maghrib = by-more Maghrib (first .maghrib) (second .maghrib) (exactly .maghrib);
-            isha = by-more Isha (first .isha) (second .isha) (exactly .isha);
-            «middle_of_the_night» = later-on start (middleOfTheNightOf m f) (middleOfTheNightOf m' f') (middle-moved m f m' f' later later-fajr (short p held) (short q held-q));
-            qiyam = later-on start (qiyamOf m f) (qiyamOf m' f') (qiyam-moved m f m' f' later later-fajr (short p held) (short q held-q));
-            «fajr_tomorrow» = by-more Fajr (first .«fajr_tomorrow») (second .«fajr_tomorrow») (exactly .«fajr_tomorrow»);
+            fajr = to-le (first .fajr) (second .fajr) (by-more Fajr (first .fajr) (second .fajr) (exactly .fajr));
+            sunrise = to-le (first .sunrise) (second .sunrise) (by-more Sunrise (first .sunrise) (second .sunrise) (exactly .sunrise));
+            dhuhr = to-le (first .dhuhr) (second .dhuhr) (by-more Dhuhr (first .dhuhr) (second .dhuhr) (exactly .dhuhr));
+            asr = to-le (first .asr) (second .asr) (by-more Asr (first .asr) (second .asr) (exactly .asr));
+            maghrib = to-le (first .maghrib) (second .maghrib) (by-more Maghrib (first .maghrib) (second .maghrib) (exactly .maghrib));
+            isha = to-le (first .isha) (second .isha) (by-more Isha (first .isha) (second .isha) (exactly .isha));
+            «middle_of_the_night» = to-le (first .«middle_of_the_night») (second .«middle_of_the_night») (later-on start (middleOfTheNightOf m f) (middleOfTheNightOf m' f') (middle-moved m f m' f' later later-fajr (short p held) (short q held-q)));
+            qiyam = to-le (first .qiyam) (second .qiyam) (later-on start (qiyamOf m f) (qiyamOf m' f') (qiyam-moved m f m' f' later later-fajr (short p held) (short q held-q)));
+            «fajr_tomorrow» = to-le (first .«fajr_tomorrow») (second .«fajr_tomorrow») (by-more Fajr (first .«fajr_tomorrow») (second .«fajr_tomorrow») (exactly .«fajr_tomorrow»));
           }

@@ -8,20 +8,20 @@ use Rattle.models.specs.Settings.{timeAdjustmentsOf}
 use Rattle.stride.proofs.TimesLaws.{rounded-between, adjusted-between}
 use Rattle.night_portions.specs.Portions.{seventhOf}
 use Rattle.solar.specs.declared.{setting.SolarHour.SolarHour, times.SolarTime.SolarTime}
-use Rattle.solar.specs.declared.setting.SolarHour.the-variants.{At, None}
+use Rattle.solar.specs.declared.setting.SolarHour.the-variants.{Some, Nothing}
 use Rattle.schedule.proofs.Schedule.{finalOf, nextDayOf, nightOf, laterOf, earlierOf, orOf, bySeventhOf, ownOf, beforeSunriseOf, unadjustedFajrOf}
 
 -- an hour's time, where it has one
 pub record HourBetween (a b : ℕ) (hour : SolarHour) : Type 0 where
-  pub at : (t : ℤ) → hour ≡ At t → Between a b t
+  pub at : (t : ℤ) → hour ≡ Some t → Between a b t
 
 pub hour-wider : {a b c d : ℕ} {hour : SolarHour} → HourBetween a b hour → a ≤ c → b ≤ d → HourBetween c d hour
 hour-wider h l m = record { at = λ t e. wider (h .at t e) l m }
 
 pub or-between : {a b : ℕ} {y : ℤ} (hour : SolarHour) → HourBetween a b hour → Between a b y → Between a b (orOf hour y)
 unfolding orOf
-or-between (At t) h k = h .at t refl
-or-between None h k = k
+or-between (Some t) h k = h .at t refl
+or-between Nothing h k = k
 
 pub own-between : {a b : ℕ} {x y : ℤ} (method : Method) (latitude : Float) (hour : SolarHour) → HourBetween a b hour → Between a b x → Between a b y → Between a b (ownOf method latitude x hour y)
 unfolding ownOf

@@ -1,7 +1,9 @@
--- How far the sun's times, Fajr and Isha lie from 0h of their date, for what an order can carry. All in whole days: the sun's times go no further than a
+-- How far the sun's times, Fajr and Isha lie from 0h of their date, for what an order can hold. All in whole days: the sun's times go no further than a
 -- day back and two days on. Assumes nothing.
-use Rattle.prelude.proofs.Logic.{ℕ, _+_, _*_, _≤_, arith, lit<, lit≤, ℤ, pos, ltZ}
+use Rattle.prelude.proofs.Logic.{_≡_, sym, subst, cond, ℕ, _+_, _*_, _≤_, arith, lit<, lit≤, ℤ, pos, ltZ, cases}
 use lib.Ieee.{Float}
+use Rattle.float64.specs.Ops.{dec}
+use Rattle.float64.specs.Ranges.{Inside}
 use Rattle.integers.proofs.Integers.{Between, divided, wider, sum-between, difference-between, product-between, either-between}
 use Rattle.calendar.proofs.Calendar.{ordinalOf, ordinal-short}
 use Rattle.calendar.specs.declared.dates.Date.{Date}
@@ -10,19 +12,20 @@ use Rattle.models.specs.declared.high_altitude_rule.HighLatitudeRule.the-varian
 use Rattle.models.specs.declared.rounding.Rounding.the-variants.{Nearest}
 use Rattle.models.specs.Settings.{portionsOf, nightPortionsOf}
 use Rattle.stride.proofs.TimesLaws.{rounded-between}
-use Rattle.night_portions.specs.Portions.{portionAfterOf, seventhOf}
+use Rattle.night_portions.specs.Portions.{portionBeforeOf, portionAfterOf, seventhOf}
 use Rattle.night_portions.proofs.BoundsLaws.{Portion, after-half, before-half}
 use Rattle.night_portions.proofs.OrderPortions.{half-portion, seventh-portion, angle-portion}
-use Rattle.ops.specs.Season.{eveningSecondsOf}
+use Rattle.ops.specs.Season.{morningSecondsOf, eveningSecondsOf}
 use Rattle.ops.proofs.SeasonLaws.{morning-small, evening-small}
 use Rattle.solar.specs.declared.{setting.SolarHour.SolarHour, times.SolarTime.SolarTime, times.SolarDay.SolarDay}
 use Rattle.solar.specs.declared.times.SolarDay.the-variants as day
 use Rattle.solar.specs.Times.{solarHourOf, solarTimeOf}
 use Rattle.solar.proofs.TimesLaws.{SunOfThreeDays, DayOfThreeDays, hour-range, day-held}
 use Rattle.schedule.specs.declared.{hours.ThreeSuns.ThreeSuns, hours.Suns.Suns, hours.RowHours.RowHours, hours.RowNumbers.RowNumbers}
-use Rattle.schedule.specs.declared.hours.Suns.the-variants.{Whole, Lacks}
-use Rattle.schedule.proofs.Schedule.{sunsOf, dayHoursOf, rowHoursOf, hoursOf, nightOf, bySeasonOf, beforeSunriseOf, unadjustedFajrOf, ishaBoundOf, boundedIshaOf, unadjustedIshaOf}
-use Rattle.schedule_laws.specs.Carried.{AngleInOrder, LatitudeInOrder, Carried}
+use Rattle.schedule.specs.declared.hours.Suns.the-variants.{Whole, Refused}
+use Rattle.schedule.proofs.Schedule.{sunsOf, dayHoursOf, rowHoursOf, hoursOf, nightOf, bySeasonOf, short-is, beforeSunriseOf, unadjustedFajrOf, afterSunsetOf, ishaBoundOf, boundedIshaOf, unadjustedIshaOf}
+use Rattle.order.specs.Ranges.{mostAngle}
+use Rattle.order.specs.Accepted.{LatitudeInOrder, ParametersInOrder}
 use Rattle.schedule_laws.proofs.Spans.{HourBetween, hour-wider, own-between, earlier-between, next-day-between, fajr-between}
 
 -- from so many days before 0h of a date to so many after it
@@ -52,7 +55,7 @@ pub record Three (suns : ThreeSuns) : Type 0 where
 -- where the row is not refused
 abbrev pub Row : Suns → Type 0
 Row (Whole suns) = Three suns
-Row (Lacks r) = 0 ≤ 0
+Row (Refused r) = 0 ≤ 0
 
 row : (a b c : SolarDay) → DayOfThreeDays a → DayOfThreeDays b → DayOfThreeDays c → Row (sunsOf a b c)
 unfolding sunsOf
@@ -88,20 +91,20 @@ pub seventh-days : (night : ℤ) → Days 2 4 night → Days 1 1 (seventhOf nigh
 unfolding seventhOf
 seventh-days night h = let d = divided night 7 (lit< tt) in record { from = omega arith; to = omega arith }
 
-fajr-portion : (rule : HighLatitudeRule) (fajr isha : Float) → AngleInOrder fajr → Portion (portionsOf rule fajr isha .fajr)
+fajr-portion : (rule : HighLatitudeRule) (fajr isha : Float) → Inside (dec 0 0) (dec mostAngle 0) fajr → Portion (portionsOf rule fajr isha .fajr)
 unfolding portionsOf
 fajr-portion MiddleOfTheNight fajr isha h = half-portion
 fajr-portion SeventhOfTheNight fajr isha h = seventh-portion
 fajr-portion TwilightAngle fajr isha h = angle-portion fajr (h .0) (h .1)
 
-isha-portion : (rule : HighLatitudeRule) (fajr isha : Float) → AngleInOrder isha → Portion (portionsOf rule fajr isha .isha)
+isha-portion : (rule : HighLatitudeRule) (fajr isha : Float) → Inside (dec 0 0) (dec mostAngle 0) isha → Portion (portionsOf rule fajr isha .isha)
 unfolding portionsOf
 isha-portion MiddleOfTheNight fajr isha h = half-portion
 isha-portion SeventhOfTheNight fajr isha h = seventh-portion
 isha-portion TwilightAngle fajr isha h = angle-portion isha (h .0) (h .1)
 
 -- ---- Fajr and Isha, not adjusted yet
-module _ (p : Parameters) (season : Season) (carried : Carried p) (there : LatitudeInOrder (season .latitude)) (date : Date) (today next : SolarTime) (sun : Sun today) (sun-next : Sun next)
+module _ (p : Parameters) (season : Season) (allowed : ParametersInOrder p) (there : LatitudeInOrder (season .latitude)) (date : Date) (today next : SolarTime) (sun : Sun today) (sun-next : Sun next)
     (hour : SolarHour) (placed : SunHour hour) where
   abbrev night : ℤ
   night = nightOf today next
@@ -109,19 +112,42 @@ module _ (p : Parameters) (season : Season) (carried : Carried p) (there : Latit
   long : Days 2 4 night
   long = night-days today next sun sun-next
 
-  before : Days 2 1 (beforeSunriseOf p season date night)
-  unfolding beforeSunriseOf
-  before =
+  -- what the source's casts give
+  abbrev before-cast : ℤ
+  before-cast = cond (bySeasonOf (p .method)) (morningSecondsOf season (ordinalOf date) (date .year)) (portionBeforeOf (nightPortionsOf p .fajr) night)
+
+  abbrev after-cast : ℤ
+  after-cast = cond (bySeasonOf (p .method)) (eveningSecondsOf season (ordinalOf date) (date .year) (p .shafaq)) (portionAfterOf (nightPortionsOf p .isha) night)
+
+  before-days : Days 2 1 before-cast
+  before-days =
       let l = long in
       let m = morning-small season (ordinalOf date) (date .year) (there .0) (there .1) (ordinal-short date) in
-      let b = before-half (nightPortionsOf p .fajr) night (fajr-portion (p .«high_latitude_rule») (p .«fajr_angle») (p .«isha_angle») (carried .«fajr_angle»)) (wider l (lit≤ tt) (lit≤ tt)) in
+      let b = before-half (nightPortionsOf p .fajr) night (fajr-portion (p .«high_latitude_rule») (p .«fajr_angle») (p .«isha_angle») (allowed .«fajr_angle»)) (wider l (lit≤ tt) (lit≤ tt)) in
       either-between (bySeasonOf (p .method)) (record { from = omega (arith, m .1); to = m .0 }) (record { from = omega (arith, b .1); to = omega (arith, b .0) })
 
-  after : Days 1 2 (portionAfterOf (nightPortionsOf p .isha) night)
-  after =
+  evening : Days 1 1 (eveningSecondsOf season (ordinalOf date) (date .year) (p .shafaq))
+  evening =
+      let e = evening-small season (ordinalOf date) (date .year) (there .0) (there .1) (ordinal-short date) (p .shafaq) in
+      record { from = e .1; to = e .0 }
+
+  portion : Days 1 2 (portionAfterOf (nightPortionsOf p .isha) night)
+  portion =
       let l = long in
-      let b = after-half (nightPortionsOf p .isha) night (isha-portion (p .«high_latitude_rule») (p .«fajr_angle») (p .«isha_angle») (carried .«isha_angle»)) (wider l (lit≤ tt) (lit≤ tt)) in
+      let b = after-half (nightPortionsOf p .isha) night (isha-portion (p .«high_latitude_rule») (p .«fajr_angle») (p .«isha_angle») (allowed .«isha_angle»)) (wider l (lit≤ tt) (lit≤ tt)) in
       record { from = omega (arith, b .1); to = omega (arith, b .0) }
+
+  -- an i32 holds them: the bounds go by the source's seconds
+  pub before-source : beforeSunriseOf p season date night ≡ before-cast
+  unfolding beforeSunriseOf
+  before-source = short-is before-cast (wider before-days (lit≤ tt) (lit≤ tt))
+
+  pub after-source : afterSunsetOf p season date night ≡ after-cast
+  unfolding afterSunsetOf
+  after-source = short-is after-cast (either-between (bySeasonOf (p .method)) (wider evening (lit≤ tt) (lit≤ tt)) (wider portion (lit≤ tt) (lit≤ tt)))
+
+  before : Days 2 1 (beforeSunriseOf p season date night)
+  before = subst (Days 2 1) (sym before-source) before-days
 
   pub fajr-days : Days 3 3 (unadjustedFajrOf p season date today next hour)
   fajr-days = fajr-between p season date today next hour placed (sun .sunrise) (wider (seventh-days night long) (lit≤ tt) (lit≤ tt)) before
@@ -132,9 +158,8 @@ module _ (p : Parameters) (season : Season) (carried : Carried p) (there : Latit
   bound : IshaSpan (ishaBoundOf p season date today night)
   unfolding ishaBoundOf
   bound =
-      let e = evening-small season (ordinalOf date) (date .year) (there .0) (there .1) (ordinal-short date) (p .shafaq) in
-      let evening : Days 1 1 (eveningSecondsOf season (ordinalOf date) (date .year) (p .shafaq)) = record { from = e .1; to = e .0 } in
-      either-between (bySeasonOf (p .method)) (wider (rounded-between Nearest (sum-between (sun .sunset) evening)) (lit≤ tt) (lit≤ tt)) (wider (sum-between (sun .sunset) after) (lit≤ tt) (lit≤ tt))
+      cases (bySeasonOf (p .method)) (λ by-season. rw (after-source, by-season) (wider (rounded-between Nearest (sum-between (sun .sunset) evening)) (lit≤ tt) (lit≤ tt)))
+      (λ by-night. rw (after-source, by-night) (wider (sum-between (sun .sunset) portion) (lit≤ tt) (lit≤ tt)))
 
   bounded : IshaSpan (boundedIshaOf p season date today next hour)
   unfolding boundedIshaOf
@@ -143,4 +168,4 @@ module _ (p : Parameters) (season : Season) (carried : Carried p) (there : Latit
 
   pub isha-days : IshaSpan (unadjustedIshaOf p season date today next hour)
   unfolding unadjustedIshaOf
-  isha-days = either-between (ltZ (pos 0) (p .«isha_interval»)) (wider (sum-between (sun .sunset) (product-between (carried .«isha_interval») 60)) (lit≤ tt) (lit≤ tt)) bounded
+  isha-days = either-between (ltZ (pos 0) (p .«isha_interval»)) (wider (sum-between (sun .sunset) (product-between (allowed .«isha_interval») 60)) (lit≤ tt) (lit≤ tt)) bounded

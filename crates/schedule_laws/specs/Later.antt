@@ -2,9 +2,10 @@
 -- the nine times and to the prayer in force. For all hour numbers, either rule at midnight and in the south, every date and every latitude. Proved in proofs/LaterLaws.
 use mathlib.Core.Path.{_≡_}
 use Prim.Native.Nat.{_^_, _≤_, _<_}
+use mathlib.Core.Bool.{true}
+use lib.Signed.{leZ}
 use lib.IntN.{ℤ, pos, _+ℤ_, _-ℤ_, _*ℤ_}
 use Rattle.integers.specs.Parts.{Near}
-use Rattle.integers.specs.Order.{_≼_}
 use Rattle.calendar.specs.declared.dates.Date.{Date}
 use Rattle.models.specs.declared.adjustments.TimeAdjustment.{TimeAdjustment}
 use Rattle.models.specs.declared.parameters.Parameters.{Parameters}
@@ -45,21 +46,21 @@ withMinutes p minutes =
 -- Qiyam and tomorrow's Fajr have no minutes: their sums are 0. Any two i32 have a sum within 2 ^ 32.
 pub record LaterMinutes (p q : Parameters) : Type 0 where
   pub alike : withMinutes p (q .adjustments) ≡ q
-  pub more : (prayer : Prayer) → timeAdjustmentsOf p prayer ≼ timeAdjustmentsOf q prayer
+  pub more : (prayer : Prayer) → leZ (timeAdjustmentsOf p prayer) (timeAdjustmentsOf q prayer) ≡ true
   pub «first_held» : (prayer : Prayer) → Near (2 ^ 32) (timeAdjustmentsOf p prayer)
   pub «second_held» : (prayer : Prayer) → Near (2 ^ 32) (timeAdjustmentsOf q prayer)
 
 -- ---- "none of the second's nine times is earlier than the first's"
 pub record NoneEarlier (t u : PrayerTimes) : Type 0 where
-  pub fajr : t .fajr ≼ u .fajr
-  pub sunrise : t .sunrise ≼ u .sunrise
-  pub dhuhr : t .dhuhr ≼ u .dhuhr
-  pub asr : t .asr ≼ u .asr
-  pub maghrib : t .maghrib ≼ u .maghrib
-  pub isha : t .isha ≼ u .isha
-  pub «middle_of_the_night» : t .«middle_of_the_night» ≼ u .«middle_of_the_night»
-  pub qiyam : t .qiyam ≼ u .qiyam
-  pub «fajr_tomorrow» : t .«fajr_tomorrow» ≼ u .«fajr_tomorrow»
+  pub fajr : leZ (t .fajr) (u .fajr) ≡ true
+  pub sunrise : leZ (t .sunrise) (u .sunrise) ≡ true
+  pub dhuhr : leZ (t .dhuhr) (u .dhuhr) ≡ true
+  pub asr : leZ (t .asr) (u .asr) ≡ true
+  pub maghrib : leZ (t .maghrib) (u .maghrib) ≡ true
+  pub isha : leZ (t .isha) (u .isha) ≡ true
+  pub «middle_of_the_night» : leZ (t .«middle_of_the_night») (u .«middle_of_the_night») ≡ true
+  pub qiyam : leZ (t .qiyam) (u .qiyam) ≡ true
+  pub «fajr_tomorrow» : leZ (t .«fajr_tomorrow») (u .«fajr_tomorrow») ≡ true
 
 -- ---- "each of its six daily times is later by exactly the difference of the two sums for it, and tomorrow's Fajr by exactly Fajr's difference"
 -- 60 seconds for each minute of difference
@@ -79,7 +80,7 @@ pub record ExactlyLater (p q : Parameters) (t u : PrayerTimes) : Type 0 where
 abbrev pub NotAfterByNanoseconds : Type 0
 NotAfterByNanoseconds =
     (j i : Instant) → j .nanoseconds < inSecond → i .nanoseconds < inSecond
-    → (NotAfter j i → nanosecondsOf j ≼ nanosecondsOf i) × (nanosecondsOf j ≼ nanosecondsOf i → NotAfter j i)
+    → (NotAfter j i → leZ (nanosecondsOf j) (nanosecondsOf i) ≡ true) × (leZ (nanosecondsOf j) (nanosecondsOf i) ≡ true → NotAfter j i)
 
 -- ---- demand 3 of one day, w under the first and v under the second
 pub record Moved (p q : Parameters) (w v : Worked) : Type 0 where

@@ -1,3 +1,2 @@
-pub mod Carried
 pub mod Range
 pub mod Later

@@ -1,5 +1,5 @@
 -- Where the nine times of a date lie, and that a sheet can print each one's days as one signed digit: for all hour numbers, either rule at midnight and in the
--- south, every date, and every latitude and parameters that an order can carry. Proved in proofs/RangeLaws.
+-- south, every date, and every latitude and parameters that an order can hold. Proved in proofs/RangeLaws.
 use mathlib.Core.Path.{_≡_}
 use Prim.Native.Nat.{_*_, _≤_, _<_}
 use lib.IntN.{ℤ, _-ℤ_}
@@ -7,27 +7,31 @@ use Rattle.integers.specs.Parts.{P, N, Near}
 use Rattle.integers.specs.Quotients.{floorQuot}
 use Rattle.calendar.specs.declared.dates.Date.{Date}
 use Rattle.models.specs.declared.parameters.Parameters.{Parameters}
+use Rattle.models.specs.declared.prayer.Prayer.{Prayer}
 use Rattle.models.specs.declared.rules.Midnight.{Midnight}
 use Rattle.models.specs.declared.rules.Season.{Season}
 use Rattle.schedule.specs.declared.hours.RowNumbers.{RowNumbers}
 use Rattle.schedule.specs.declared.prayer_times.PrayerTimes.{PrayerTimes}
 use Rattle.schedule.specs.declared.prayer_times.Worked.the-variants.{Times}
 use Rattle.schedule.specs.Hours.{hoursOf}
-use Rattle.schedule.specs.Times.{startOf, workedOf, Each}
-use Rattle.schedule_laws.specs.Carried.{LatitudeInOrder, Carried}
+use Rattle.schedule.specs.InForce.{timeOf}
+use Rattle.schedule.specs.Times.{startOf, workedOf}
+use Rattle.order.specs.Accepted.{LatitudeInOrder, ParametersInOrder}
 
 -- from 4 days before 0h of the date to before 5 days after it
 pub record OfDate (date : Date) (time : ℤ) : Type 0 where
   pub from : N (time -ℤ startOf date) ≤ 4 * 86400
   pub before : P (time -ℤ startOf date) < 5 * 86400
 
-abbrev pub AllOfDate : Date → PrayerTimes → Type 0
-AllOfDate date t = Each (OfDate date) t
+-- all nine: those that a prayer names, and the middle of the night
+pub record AllOfDate (date : Date) (t : PrayerTimes) : Type 0 where
+  pub named : (prayer : Prayer) → OfDate date (timeOf t prayer)
+  pub «middle_of_the_night» : OfDate date (t .«middle_of_the_night»)
 
 abbrev pub TimesLieByTheirDate : Type 0
 TimesLieByTheirDate =
     (rule : Midnight) (n : RowNumbers) (date : Date) (season : Season) (p : Parameters) (t : PrayerTimes)
-    → LatitudeInOrder (season .latitude) → Carried p → workedOf (hoursOf rule n) date season p ≡ Times t → AllOfDate date t
+    → LatitudeInOrder (season .latitude) → ParametersInOrder p → workedOf (hoursOf rule n) date season p ≡ Times t → AllOfDate date t
 
 -- the days that the sheet prints, rounded down, are from -4 to 4
 abbrev pub DaysAreOneDigit : Type 0

@@ -6,11 +6,11 @@ use Rattle.text.proofs.TextLaws as laws
 use Rattle.refusals.specs.Refusals.{outOfRange, bufferShort}
 use Rattle.sentences.specs.Table.{textOf, nameOf, known, widest, widestName}
 use Rattle.sentences.specs.Rows.{filled, endOf}
-use Rattle.sentences.specs.Guess.{none, numberIn, placeIn}
-use Rattle.sentences.specs.Sentences.{endsInColon, wordsOf, sentenceOf, unwritten, written, sentenceWrittenOf, bufferAfter, meant, noSentence, same, meaningOf}
+use Rattle.sentences.specs.Guess.{none, numberIn, placeIn, guessedOf}
+use Rattle.sentences.specs.Sentences.{endsInColon, wordsOf, sentenceOf, written, refusing, sentenceCallOf, meant, noSentence, same, meaningOf}
 use Rattle.sentences.proofs.Lines.{Fine, text-fine, name-fine, filled-length, take-filled}
 use Rattle.sentences.proofs.Guessing.{ten-digits}
-use Rattle.sentences.proofs.Promises.{words-named, words-alone, words-short, words-long, sentence-known, sentence-unknown, sentence-length, printed}
+use Rattle.sentences.proofs.Promises.{words-named, words-alone, words-short, words-long, sentence-known, sentence-unknown, sentence-length, printed, guessed-right}
 
 -- ---- a row of a table, cut where its text ends
 pub record Cut (t row : List ℕ) (end : ℕ) : Type 0 where
@@ -105,29 +105,28 @@ line-of line made n p end e m l h =
       text = cut-front (sentenceOf n p) line made end e m;
     }
 
--- ---- what writing answers
-pub writes-unknown : (n p : ℕ) (buffer : List ℕ) → known n ≡ false
-    → (unwritten outOfRange ≡ sentenceWrittenOf n p (length buffer)) × (buffer ≡ bufferAfter n p buffer)
-unfolding sentenceWrittenOf
-writes-unknown n p buffer k = (rw k, sym (ap (putOf buffer 0) (sentence-unknown n p k) ∙ put-nothing buffer 0 (omega arith)))
+-- ---- what writing answers and leaves
+pub writes-unknown : (n p : ℕ) (buffer : List ℕ) → known n ≡ false → sentenceCallOf n p buffer ≡ refusing outOfRange buffer
+unfolding sentenceCallOf
+writes-unknown n p buffer k = rw k
 
 pub writes-no-room : (n p : ℕ) (buffer : List ℕ) → known n ≡ true → length buffer < length (sentenceOf n p)
-    → (unwritten bufferShort ≡ sentenceWrittenOf n p (length buffer)) × (buffer ≡ bufferAfter n p buffer)
-unfolding sentenceWrittenOf putOf
-writes-no-room n p buffer k h =
-    let e = lt-leb (length (sentenceOf n p)) (length buffer) h in let f = lt-leb (0 + length (sentenceOf n p)) (length buffer) (omega arith) in
-    (rw (k, e), rw f)
+    → sentenceCallOf n p buffer ≡ refusing bufferShort buffer
+unfolding sentenceCallOf
+writes-no-room n p buffer k h = rw (k, lt-leb (length (sentenceOf n p)) (length buffer) h)
 
 pub writes : (n p end : ℕ) (buffer : List ℕ) → known n ≡ true → end ≡ length (sentenceOf n p) → end ≤ length buffer
-    → written end ≡ sentenceWrittenOf n p (length buffer)
-unfolding sentenceWrittenOf
-writes n p end buffer k e h = let f = le-leb (length (sentenceOf n p)) (length buffer) (omega arith) in rw (k, f, e)
+    → sentenceCallOf n p buffer ≡ record { answer = written end; buffer = putOf buffer 0 (sentenceOf n p) }
+unfolding sentenceCallOf
+writes n p end buffer k e h =
+    let put = put-next buffer [] (sentenceOf n p) buffer (putOf buffer 0 (sentenceOf n p)) 0 refl refl refl (omega arith) in
+    rw (k, le-leb (length (sentenceOf n p)) (length buffer) (omega arith), e, put)
 
 -- ---- what reading answers
 module _ (bytes : List ℕ) (n p : ℕ) (e : n ≡ numberIn bytes) (q : p ≡ placeIn 0 bytes) where
   at-these : meaningOf bytes ≡ cond (ltb p none && known n && same (sentenceOf n p) bytes) (meant n p) noSentence
-  unfolding meaningOf
-  at-these = rw (e, q)
+  unfolding guessedOf
+  at-these = sym (guessed-right bytes) ∙ rw (e, q)
 
   pub reads-no-place : none ≤ p → noSentence ≡ meaningOf bytes
   reads-no-place h = sym (at-these ∙ rw (le-ltb p none h))

@@ -1,14 +1,14 @@
 -- The promises of request 8: `each-has-a-sentence`, `printed`, `read-back`, `different`, `reads-only-sentences`, `written-and-read`. Assumes nothing.
-use Rattle.prelude.proofs.Logic.{_≡_, refl, sym, ap, subst, _∙_, Bool, true, false, not, cond, _&&_, and-eq-true-iff, List, [], _∷_, _++_, append-assoc, ℕ, zero, suc, _+_, _/_, _≤_, _<_, arith, leb, ltb, T, length, getD, take, List·getD-eq-default, length-append, le-leb, lt-ltb, ltb-true, ltb-false, leb-true, ne-eqb, cases, either}
+use Rattle.prelude.proofs.Logic.{_≡_, refl, sym, ap, subst, _∙_, Bool, true, false, false≢true, not, cond, _&&_, and-eq-true-iff, List, [], _∷_, _++_, append-assoc, ℕ, zero, suc, _+_, _/_, _≤_, _<_, arith, leb, ltb, eqb, T, length, getD, take, List·getD-eq-default, length-append, le-leb, lt-ltb, ltb-true, ltb-false, leb-true, eq-eqb, ne-eqb, eqb-true, cases, either}
 use Rattle.prelude.specs.Lists.{listed}
 use Rattle.prelude.proofs.Computed.{at}
 use Rattle.refusals.specs.Refusals.{numbers}
 use Rattle.text.specs.Text.{ascii, printable, digitOf, digitsOf, decimalOf, frontOf}
-use Rattle.text.proofs.TextLaws.{put-next, cut-front}
+use Rattle.text.proofs.TextLaws.{cut-front}
 use Rattle.sentences.specs.declared.Meaning.{Meaning}
 use Rattle.sentences.specs.Table.{texts, textOf, nameOf, known, widest, widestName}
-use Rattle.sentences.specs.Guess.{none, numberIn, placeIn}
-use Rattle.sentences.specs.Sentences.{endsInColon, wordsOf, sentenceOf, bufferAfter, meant, noSentence, same, meaningOf}
+use Rattle.sentences.specs.Guess.{none, numberIn, placeIn, guessedOf}
+use Rattle.sentences.specs.Sentences.{endsInColon, wordsOf, sentenceOf, sentenceCallOf, meant, noSentence, same, amongPlaces, amongNumbers, meaningOf}
 use Rattle.sentences.specs.Promises.{EachHasASentence, Says, Different, Printed, ReadBack, ReadAs, ReadsOnlySentences, WrittenAndRead}
 use Rattle.sentences.specs.Promises.ReadAs.{says, other}
 use Rattle.sentences.proofs.Lines.{text-fine, name-fine, text-says}
@@ -120,11 +120,11 @@ printed n p h =
     (omega arith, rw (sentence-known n p k) (printable-append (wordsOf n p ++ ascii " ") (decimalOf p) c (printable-digits 20 p))))
     (λ k. rw (sentence-unknown n p k) (omega arith, refl))
 
--- ---- a sentence is read back
-meaning-at : (bytes : List ℕ) (n p : ℕ) → numberIn bytes ≡ n → placeIn 0 bytes ≡ p → p < none → known n ≡ true → same (sentenceOf n p) bytes ≡ true
-    → meaningOf bytes ≡ meant n p
-unfolding meaningOf
-meaning-at bytes n p e d h k s = rw (e, d, k, s, lt-ltb p none h)
+-- ---- a sentence is read back, by what the code does
+guessed-at : (bytes : List ℕ) (n p : ℕ) → numberIn bytes ≡ n → placeIn 0 bytes ≡ p → p < none → known n ≡ true → same (sentenceOf n p) bytes ≡ true
+    → guessedOf bytes ≡ meant n p
+unfolding guessedOf
+guessed-at bytes n p e d h k s = rw (e, d, k, s, lt-ltb p none h)
 
 number-back : (n p : ℕ) → known n ≡ true → numberIn (wordsOf n p ++ ascii " " ++ decimalOf p) ≡ n
 number-back n p k =
@@ -134,23 +134,17 @@ number-back n p k =
     ∙ w .number long
     ∙ t .0
 
-pub read-back : ReadBack
-read-back bytes n p s =
+guessed-back : (bytes : List ℕ) (n p : ℕ) → Says bytes n p → guessedOf bytes ≡ meant n p
+guessed-back bytes n p s =
     let k = s .number in let e : bytes ≡ wordsOf n p ++ ascii " " ++ decimalOf p = s .sentence ∙ sentence-known n p k in
-    meaning-at bytes n p
+    guessed-at bytes n p
     (ap numberIn e ∙ number-back n p k)
     (ap (placeIn 0) e ∙ place-back (wordsOf n p) p (s .place))
     (s .place)
     k
     (ap (same (sentenceOf n p)) (s .sentence) ∙ same-itself (sentenceOf n p))
 
--- ---- refusals that differ have different sentences
-pub different : Different
-different bytes n m p q s u =
-    let e : meant n p ≡ meant m q = sym (read-back bytes n p s) ∙ read-back bytes m q u in
-    (ap (λ (r : Meaning). r .«of_number») e, ap (λ (r : Meaning). r .«of_place») e)
-
--- ---- nothing else is read
+-- ---- and no other bytes are
 module _ (bytes : List ℕ) where
   abbrev n : ℕ
   n = numberIn bytes
@@ -161,8 +155,8 @@ module _ (bytes : List ℕ) where
   abbrev test : Bool
   test = ltb p none && known n && same (sentenceOf n p) bytes
 
-  refused-bytes : test ≡ false → meaningOf bytes ≡ noSentence
-  unfolding meaningOf
+  refused-bytes : test ≡ false → guessedOf bytes ≡ noSentence
+  unfolding guessedOf
   refused-bytes e = rw e
 
   accepted-bytes : test ≡ true → Says bytes n p
@@ -170,23 +164,95 @@ module _ (bytes : List ℕ) where
       let t = and-eq-true-iff (ltb p none && known n) (same (sentenceOf n p) bytes) .0 e in let u = and-eq-true-iff (ltb p none) (known n) .0 (t .0) in
       record { number = u .1; place = ltb-true p none (u .0); sentence = sym (same-only (sentenceOf n p) bytes (t .1)) }
 
+-- ---- which is what the definition finds among all sentences. A sentence that it meets is the guessed one, since that is read back; so going on changes
+-- nothing, and the guessed one is met.
+module _ (bytes : List ℕ) where
+  met : (n p : ℕ) → known n ≡ true → p < none → same (sentenceOf n p) bytes ≡ true → meant n p ≡ guessedOf bytes
+  met n p k h s = sym (guessed-back bytes n p (record { number = k; place = h; sentence = sym (same-only (sentenceOf n p) bytes s) }))
+
+  places-after : (n k : ℕ) (after : Meaning) → known n ≡ true → k ≤ none → after ≡ guessedOf bytes → amongPlaces bytes n k after ≡ guessedOf bytes
+  unfolding amongPlaces
+  places-after n zero after y h e = e
+  places-after n (suc k) after y h e =
+      cases (same (sentenceOf n k) bytes) (λ s. rw s (met n k y (omega arith) s)) (λ s. rw s (places-after n k after y (omega arith) e))
+
+  places-meet : (n p k : ℕ) (after : Meaning) → known n ≡ true → k ≤ none → p < k → same (sentenceOf n p) bytes ≡ true → amongPlaces bytes n k after ≡ guessedOf bytes
+  unfolding amongPlaces
+  places-meet n p zero after y h l s = absurd (omega arith)
+  places-meet n p (suc k) after y h l s =
+      cases (same (sentenceOf n k) bytes) (λ e. rw e (met n k y (omega arith) e))
+      (λ e. rw e (cases (ltb p k) (λ t. places-meet n p k after y (omega arith) (ltb-true p k t) s)
+      (λ t. let u = ltb-false p k t in let same-place : p ≡ k = omega arith in absurd (false≢true (sym e ∙ rw same-place at s)))))
+
+  abbrev allKnown : List ℕ → Type 0
+  allKnown xs = (n : ℕ) → listed xs n ≡ true → known n ≡ true
+
+  rest-known : (x : ℕ) (xs : List ℕ) → allKnown (x ∷ xs) → allKnown xs
+  unfolding listed
+  rest-known x xs y n l = y n (cases (eqb x n) (λ e. rw e) (λ e. rw e l))
+
+  first-known : (x : ℕ) (xs : List ℕ) → allKnown (x ∷ xs) → known x ≡ true
+  unfolding listed
+  first-known x xs y = y x (rw (eq-eqb x x refl))
+
+  numbers-without : (xs : List ℕ) → allKnown xs → noSentence ≡ guessedOf bytes → amongNumbers bytes xs ≡ guessedOf bytes
+  unfolding amongNumbers
+  numbers-without [] y e = e
+  numbers-without (x ∷ xs) y e =
+      places-after x none (amongNumbers bytes xs) (first-known x xs y) (omega arith) (numbers-without xs (rest-known x xs y) e)
+
+  numbers-meet : (xs : List ℕ) (n p : ℕ) → allKnown xs → listed xs n ≡ true → p < none → same (sentenceOf n p) bytes ≡ true → amongNumbers bytes xs ≡ guessedOf bytes
+  unfolding amongNumbers listed
+  numbers-meet [] n p y l h s = absurd (false≢true l)
+  numbers-meet (x ∷ xs) n p y l h s =
+      cases (eqb x n)
+      (λ e. places-meet x p none (amongNumbers bytes xs) (first-known x xs y) (omega arith) h (rw (← eqb-true x n e) at s))
+      (λ e. places-after x none (amongNumbers bytes xs) (first-known x xs y) (omega arith) (numbers-meet xs n p (rest-known x xs y) (rw e at l) h s))
+
+  numbers-known : allKnown numbers
+  numbers-known n l = each-has-a-sentence n ∙ l
+
+  pub guessed-right : guessedOf bytes ≡ meaningOf bytes
+  guessed-right =
+      cases (test bytes)
+      (λ e. let s = accepted-bytes bytes e in
+      let itself = ap (same (sentenceOf (n bytes) (p bytes))) (s .sentence) ∙ same-itself (sentenceOf (n bytes) (p bytes)) in
+      sym (numbers-meet numbers (n bytes) (p bytes) numbers-known (sym (each-has-a-sentence (n bytes)) ∙ s .number) (s .place) itself))
+      (λ e. sym (numbers-without numbers numbers-known (sym (refused-bytes bytes e))))
+
+-- ---- so a sentence is read back
+pub read-back : ReadBack
+read-back bytes n p s = sym (guessed-right bytes) ∙ guessed-back bytes n p s
+
+-- ---- refusals that differ have different sentences
+pub different : Different
+different bytes n m p q s u =
+    let e : meant n p ≡ meant m q = sym (read-back bytes n p s) ∙ read-back bytes m q u in
+    (ap (λ (r : Meaning). r .«of_number») e, ap (λ (r : Meaning). r .«of_place») e)
+
+-- ---- nothing else is read
 pub reads-only-sentences : ReadsOnlySentences
 reads-only-sentences bytes =
     cases (test bytes)
     (λ e. let s = accepted-bytes bytes e in subst (ReadAs bytes) (sym (read-back bytes (n bytes) (p bytes) s)) (says (n bytes) (p bytes) s))
-    (λ e. subst (ReadAs bytes) (sym (refused-bytes bytes e)) (other (λ m q s. never m q e s)))
+    (λ e. subst (ReadAs bytes) (sym (sym (guessed-right bytes) ∙ refused-bytes bytes e)) (other (λ m q s. never m q e s)))
   where
     never : (m q : ℕ) → test bytes ≡ false → Says bytes m q → ⊥
     never m q e s =
-        let z : _≡_ {A = ℕ} 5 0 = ap (λ (r : Meaning). r .number) (sym (refused-bytes bytes e) ∙ read-back bytes m q s) in
+        let z : _≡_ {A = ℕ} 5 0 = ap (λ (r : Meaning). r .number) (sym (sym (guessed-right bytes) ∙ refused-bytes bytes e) ∙ read-back bytes m q s) in
         omega arith
 
 -- ---- what was written is read back
+call-written : (buffer : List ℕ) (n p : ℕ) → known n ≡ true → length (sentenceOf n p) ≤ length buffer
+    → sentenceCallOf n p buffer .buffer ≡ frontOf (sentenceOf n p) buffer
+unfolding sentenceCallOf
+call-written buffer n p k room = rw (k, le-leb (length (sentenceOf n p)) (length buffer) room)
+
 pub written-and-read : WrittenAndRead
 written-and-read buffer n p k h room =
     let s = sentenceOf n p in
-    let made : bufferAfter n p buffer ≡ frontOf s buffer = put-next buffer [] s buffer (bufferAfter n p buffer) 0 refl refl refl (omega arith) in (
+    let made = call-written buffer n p k room in (
       made,
-      read-back (take (length s) (bufferAfter n p buffer)) n p
-          (record { number = k; place = h; sentence = cut-front s buffer (bufferAfter n p buffer) (length s) refl made }),
+      read-back (take (length s) (sentenceCallOf n p buffer .buffer)) n p
+          (record { number = k; place = h; sentence = cut-front s buffer (sentenceCallOf n p buffer .buffer) (length s) refl made }),
     )

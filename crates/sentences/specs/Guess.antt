@@ -1,9 +1,12 @@
--- Where a sentence has its number and its place. Of other bytes this says nothing: reading compares the whole sentence.
+-- This file need not be believed: where the code looks for the number and the place that bytes say, before it compares their whole sentence.
 use Prim.Native.Nat.{ℕ, _+_, _*_, _-_, _^_}
 use mathlib.Core.Bool.{Bool, cond, _&&_}
 use mathlib.Core.List.{List, [], _∷_}
 use lib.Dec.{leb, ltb}
 use lib.ListN.{getD}
+use Rattle.sentences.specs.declared.Meaning.{Meaning}
+use Rattle.sentences.specs.Table.{known}
+use Rattle.sentences.specs.Sentences.{sentenceOf, meant, noSentence, same}
 
 abbrev pub isDigit : ℕ → Bool
 isDigit b = leb 48 b && leb b 57
@@ -27,3 +30,10 @@ longer v b = cond (isDigit b) (cond (ltb (10 * v + (b - 48)) none) (10 * v + (b 
 unfoldable pub placeIn : ℕ → List ℕ → ℕ
 placeIn v [] = v
 placeIn v (b ∷ bs) = placeIn (longer v b) bs
+
+-- the bytes say the number and the place that stand in them, if they are the sentence of these two, byte for byte
+unfoldable pub guessedOf : List ℕ → Meaning
+guessedOf bytes =
+    let n = numberIn bytes in
+    let p = placeIn 0 bytes in
+    cond (ltb p none && known n && same (sentenceOf n p) bytes) (meant n p) noSentence

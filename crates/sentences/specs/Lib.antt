@@ -1,5 +1,5 @@
 pub mod Table
 pub mod Rows
-pub mod Guess
 pub mod Sentences
+pub mod Guess
 pub mod Promises

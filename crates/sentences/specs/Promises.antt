@@ -9,7 +9,7 @@ use Rattle.refusals.specs.Refusals.{numbers}
 use Rattle.text.specs.Text.{printable, frontOf}
 use Rattle.sentences.specs.declared.Meaning.{Meaning}
 use Rattle.sentences.specs.Table.{known}
-use Rattle.sentences.specs.Sentences.{sentenceOf, bufferAfter, meant, noSentence, meaningOf}
+use Rattle.sentences.specs.Sentences.{sentenceOf, sentenceCallOf, meant, noSentence, meaningOf}
 
 -- the bytes are the sentence of a known number and a place
 pub record Says (bytes : List ℕ) (n p : ℕ) : Type 0 where
@@ -44,5 +44,5 @@ ReadsOnlySentences = (bytes : List ℕ) → ReadAs bytes (meaningOf bytes)
 -- "is written at the front of a lent buffer": a buffer with room has the sentence there and else its own bytes, and it is read back
 abbrev pub WrittenAndRead : Type 0
 WrittenAndRead = (buffer : List ℕ) (n p : ℕ) → known n ≡ true → p < 2 ^ 32 → length (sentenceOf n p) ≤ length buffer
-    → (bufferAfter n p buffer ≡ frontOf (sentenceOf n p) buffer)
-    × (meaningOf (take (length (sentenceOf n p)) (bufferAfter n p buffer)) ≡ meant n p)
+    → (sentenceCallOf n p buffer .buffer ≡ frontOf (sentenceOf n p) buffer)
+    × (meaningOf (take (length (sentenceOf n p)) (sentenceCallOf n p buffer .buffer)) ≡ meant n p)

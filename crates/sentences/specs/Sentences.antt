@@ -1,15 +1,14 @@
 -- Request 8, "Refusals in words": a refusal's sentence, what writing answers and leaves in the buffer, and what reading answers.
-use Prim.Native.Nat.{ℕ, _-_}
-use mathlib.Core.Bool.{Bool, true, false, cond, _&&_}
+use Prim.Native.Nat.{ℕ, zero, suc, _-_, _^_}
+use mathlib.Core.Bool.{Bool, true, false, cond}
 use mathlib.Core.List.{List, [], _∷_, _++_}
-use lib.Dec.{leb, ltb, eqb}
+use lib.Dec.{leb, eqb}
 use lib.ListN.{length, getD}
-use Rattle.text.specs.Text.{ascii, decimalOf, putOf}
-use Rattle.refusals.specs.Refusals.{outOfRange, bufferShort}
+use Rattle.text.specs.Text.{ascii, decimalOf, frontOf}
+use Rattle.refusals.specs.Refusals.{outOfRange, bufferShort, numbers}
 use Rattle.sentences.specs.declared.WrittenSentence.{WrittenSentence}
 use Rattle.sentences.specs.declared.Meaning.{Meaning}
 use Rattle.sentences.specs.Table.{textOf, nameOf, known}
-use Rattle.sentences.specs.Guess.{none, numberIn, placeIn}
 
 -- ---- the sentence
 abbrev pub endsInColon : List ℕ → Bool
@@ -23,23 +22,29 @@ wordsOf n p = cond (endsInColon (textOf n)) (textOf n ++ nameOf p) (textOf n)
 unfoldable pub sentenceOf : ℕ → ℕ → List ℕ
 sentenceOf n p = cond (known n) (wordsOf n p ++ ascii " " ++ decimalOf p) []
 
--- ---- writing
+-- ---- writing: what the call answers, and every byte of the lent buffer after it
+pub record SentenceCall : Type 0 where
+  pub answer : WrittenSentence
+  pub buffer : List ℕ
+
 abbrev pub unwritten : ℕ → WrittenSentence
 unwritten number = record { number = number; place = 0; length = 0 }
 
 abbrev pub written : ℕ → WrittenSentence
 written length = record { number = 0; place = 0; length = length }
 
--- "An unknown number gets 5, place 0, before the buffer is checked. A buffer shorter than the sentence gets 9"
-unfoldable pub sentenceWrittenOf : ℕ → ℕ → ℕ → WrittenSentence
-sentenceWrittenOf n p room =
-    cond (known n)
-    (cond (leb (length (sentenceOf n p)) room) (written (length (sentenceOf n p))) (unwritten bufferShort))
-    (unwritten outOfRange)
+-- "A refusal .. changes no lent byte."
+abbrev pub refusing : ℕ → List ℕ → SentenceCall
+refusing number buffer = record { answer = unwritten number; buffer = buffer }
 
--- the sentence at the front, and every other byte as it was; all of them where there is no sentence or no room for it
-abbrev pub bufferAfter : ℕ → ℕ → List ℕ → List ℕ
-bufferAfter n p buffer = putOf buffer 0 (sentenceOf n p)
+-- "An unknown number gets 5, place 0, before the buffer is checked. A buffer shorter than the sentence gets 9." Else it is "at the front of a lent
+-- buffer", and the bytes after it stay
+unfoldable pub sentenceCallOf : ℕ → ℕ → List ℕ → SentenceCall
+sentenceCallOf n p buffer =
+    let sentence = sentenceOf n p in
+    cond (known n)
+    (cond (leb (length sentence) (length buffer)) (record { answer = written (length sentence); buffer = frontOf sentence buffer }) (refusing bufferShort buffer))
+    (refusing outOfRange buffer)
 
 -- ---- reading
 abbrev pub meant : ℕ → ℕ → Meaning
@@ -54,9 +59,16 @@ same [] (b ∷ bs) = false
 same (a ∷ ts) [] = false
 same (a ∷ ts) (b ∷ bs) = cond (eqb a b) (same ts bs) false
 
--- the bytes say the number and the place that stand in them, if they are the sentence of these two, byte for byte
-unfoldable pub meaningOf : List ℕ → Meaning
-meaningOf bytes =
-    let n = numberIn bytes in
-    let p = placeIn 0 bytes in
-    cond (ltb p none && known n && same (sentenceOf n p) bytes) (meant n p) noSentence
+-- the bytes are the sentence of number n and one of the k lowest places; else what is given
+unfoldable pub amongPlaces : List ℕ → ℕ → ℕ → Meaning → Meaning
+amongPlaces bytes n zero other = other
+amongPlaces bytes n (suc k) other = cond (same (sentenceOf n k) bytes) (meant n k) (amongPlaces bytes n k other)
+
+-- they are the sentence of one of some numbers and any place, which is a u32; else none
+unfoldable pub amongNumbers : List ℕ → List ℕ → Meaning
+amongNumbers bytes [] = noSentence
+amongNumbers bytes (n ∷ rest) = amongPlaces bytes n (2 ^ 32) (amongNumbers bytes rest)
+
+-- "a reader of the sentence recovers both and refuses all other bytes by 5, place 0"
+abbrev pub meaningOf : List ℕ → Meaning
+meaningOf bytes = amongNumbers bytes numbers

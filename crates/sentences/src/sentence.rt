@@ -1,7 +1,6 @@
 // The two calls: a refusal's sentence into a lent buffer, and the refusal that bytes say.
 ghost use mathlib.Core.Path.{_≡_};
-ghost use lib.ListN.{length};
-ghost use Rattle.sentences.specs.Sentences.{unwritten, sentenceWrittenOf, bufferAfter, noSentence, meaningOf};
+ghost use Rattle.sentences.specs.Sentences.{unwritten, sentenceCallOf, noSentence, meaningOf};
 use super::Meaning;
 use super::WrittenSentence;
 use super::line::put_sentence;
@@ -26,8 +25,8 @@ fn refuse(number: u32) -> WrittenSentence
 // The sentence is made by itself first: so a number that is not known is told before the buffer is looked at, and a buffer without room
 // keeps every byte.
 pub fn write_sentence(number: u32, place: u32, buffer: &mut [u8]) -> WrittenSentence
-    ensures { λ r. ⌜ r ≡ sentenceWrittenOf number place (length (now (buffer .entry))) ⌝ }
-    ensures { λ _. ⌜ now (buffer .exit) ≡ bufferAfter number place (now (buffer .entry)) ⌝ }
+    ensures { λ r. ⌜ r ≡ sentenceCallOf number place (now (buffer .entry)) .answer ⌝ }
+    ensures { λ _. ⌜ now (buffer .exit) ≡ sentenceCallOf number place (now (buffer .entry)) .buffer ⌝ }
 {
     let mut line = [0u8; 100];
     let length = put_sentence(&mut line, number, place);

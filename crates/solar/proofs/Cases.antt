@@ -3,7 +3,7 @@ use Rattle.prelude.proofs.Logic.{_≡_, sym, ap, subst, _∙_, ℕ, _+_, _*_, _
 use Rattle.integers.proofs.Integers.{same, sum, difference, fits, read}
 use Rattle.solar.specs.Setting.{hourOf}
 use Rattle.solar.specs.PastMidnight.{nextMidnightOf}
-use Rattle.solar.specs.declared.setting.SolarHour.the-variants.{At, None}
+use Rattle.solar.specs.declared.setting.SolarHour.the-variants.{Some, Nothing}
 use Rattle.solar.specs.declared.setting.Placed.{Placed}
 
 -- a day before the second n
@@ -20,24 +20,24 @@ module _ (n : ℕ) (h : n < 2147483648) where
   back = read w32 (toZ w32 n -ℤ pos 86400) back-fits ∙ ap (λ (z : ℤ). z -ℤ pos 86400) n-is
 
 module _ (p : Placed) (minute : ℕ) where
-  pub on-hour : minute < 60 → p .hour < 24 → At (pos (p .ahead * 86400 + p .hour * 3600 + minute * 60) -ℤ pos 86400) ≡ hourOf p minute
+  pub on-hour : minute < 60 → p .hour < 24 → Some (pos (p .ahead * 86400 + p .hour * 3600 + minute * 60) -ℤ pos 86400) ≡ hourOf p minute
   unfolding hourOf
   on-hour h k = simp (lt-ltb minute 60 h, lt-ltb (p .hour) 24 k)
 
-  pub next-hour : 60 ≤ minute → p .hour < 23 → At (pos (p .ahead * 86400 + (p .hour + 1) * 3600) -ℤ pos 86400) ≡ hourOf p minute
+  pub next-hour : 60 ≤ minute → p .hour < 23 → Some (pos (p .ahead * 86400 + (p .hour + 1) * 3600) -ℤ pos 86400) ≡ hourOf p minute
   unfolding hourOf
   next-hour h k =
       let e : p .ahead * 86400 + (p .hour + 1) * 3600 ≡ p .ahead * 86400 + (p .hour + 1) * 3600 + 0 * 60 = omega arith in
-      simp (le-ltb minute 60 h, lt-ltb (p .hour + 1) 24 (omega arith)) (ap (λ (n : ℕ). At (pos n -ℤ pos 86400)) e)
+      simp (le-ltb minute 60 h, lt-ltb (p .hour + 1) 24 (omega arith)) (ap (λ (n : ℕ). Some (pos n -ℤ pos 86400)) e)
 
-  pub no-hour : 60 ≤ minute → 23 ≤ p .hour → None ≡ hourOf p minute
+  pub no-hour : 60 ≤ minute → 23 ≤ p .hour → Nothing ≡ hourOf p minute
   unfolding hourOf
   no-hour h k = simp (le-ltb minute 60 h, le-ltb (p .hour + 1) 24 (omega arith))
 
 -- 0h of the date after the one taken
-pub midnight : (ahead : ℕ) → ahead * 86400 < 2147483648 → At (toZ w32 (ahead * 86400)) ≡ nextMidnightOf ahead
+pub midnight : (ahead : ℕ) → ahead * 86400 < 2147483648 → Some (toZ w32 (ahead * 86400)) ≡ nextMidnightOf ahead
 midnight ahead h =
     let n = ahead * 86400 in
     let m = (ahead + 1) * 86400 + 0 * 3600 + 0 * 60 in
     let d = difference (pos m) (pos 86400) in
-    ap At (n-is n h ∙ same (pos n) (pos m -ℤ pos 86400) (omega (arith, d .0, d .1)))
+    ap Some (n-is n h ∙ same (pos n) (pos m -ℤ pos 86400) (omega (arith, d .0, d .1)))

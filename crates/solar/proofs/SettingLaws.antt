@@ -3,7 +3,7 @@ use Rattle.prelude.proofs.Logic.{_≡_, refl, Bool, true, false, cond, ℕ, _+_
 use Rattle.float64.proofs.Floats.{Float, lt, dec, isNormalOf, floorOf}
 use Rattle.integers.proofs.Integers.{Between, difference, by-balance}
 use Rattle.solar.specs.declared.{setting.SolarHour.SolarHour, setting.Placed.Placed}
-use Rattle.solar.specs.declared.setting.SolarHour.the-variants.{At, None}
+use Rattle.solar.specs.declared.setting.SolarHour.the-variants.{Some, Nothing}
 use Rattle.solar.specs.Setting.{hourAdjustmentOf, minuteOf, daySecondOf, sumOf, restOf, hourOf, settingHourOf}
 
 -- the earliest time of the sun, in seconds before 0h of its date, and the latest, which only a number that is carried past midnight comes to
@@ -18,14 +18,14 @@ OfThreeDays t = Between earliestSun latestSun t
 
 -- an hour's time, where it has one
 abbrev pub HourOfThreeDays : SolarHour → Type 0
-HourOfThreeDays (At t) = OfThreeDays t
-HourOfThreeDays None = 0 ≤ 0
+HourOfThreeDays (Some t) = OfThreeDays t
+HourOfThreeDays Nothing = 0 ≤ 0
 
 -- so many seconds from 0h of yesterday
 pub counted : (n : ℕ) → n ≤ earliestSun + latestSun → OfThreeDays (pos n -ℤ pos 86400)
 counted n h = let d = difference (pos n) (pos 86400) in by-balance earliestSun latestSun (pos n -ℤ pos 86400) (omega (arith, d .0, d .1)) (omega (arith, d .0, d .1))
 
-where-so : (b : Bool) (t : ℤ) → (b ≡ true → OfThreeDays t) → HourOfThreeDays (cond b (At t) None)
+where-so : (b : Bool) (t : ℤ) → (b ≡ true → OfThreeDays t) → HourOfThreeDays (cond b (Some t) Nothing)
 where-so true t h = h refl
 where-so false t h = lit≤ tt
 
@@ -56,6 +56,6 @@ pub setting-held : (value : Float) → HourOfThreeDays (settingHourOf value)
 unfolding settingHourOf
 setting-held value = by-test (isNormalOf value)
   where
-    by-test : (b : Bool) → HourOfThreeDays (cond b (hourOf (hourAdjustmentOf (floorOf value)) (minuteOf value (floorOf value))) None)
+    by-test : (b : Bool) → HourOfThreeDays (cond b (hourOf (hourAdjustmentOf (floorOf value)) (minuteOf value (floorOf value))) Nothing)
     by-test true = hour-held (hourAdjustmentOf (floorOf value)) (minuteOf value (floorOf value)) (ahead-held (floorOf value))
     by-test false = lit≤ tt

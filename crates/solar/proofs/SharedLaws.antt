@@ -1,5 +1,6 @@
 -- The hour numbers of a course are those of the source's calls on its three positions. Assumes nothing.
-use Rattle.prelude.proofs.Logic.{_≡_, fun-ext, Bool, true, false}
+use Rattle.prelude.proofs.Logic.{_≡_, Bool, true, false}
+use lib.Ieee.{Float}
 use Rattle.unit.specs.declared.Angle.{Angle}
 use Rattle.ops.specs.declared.transit.Course.{Course}
 use Rattle.ops.specs.Shared.{observerOf, courseTransitNumberOf}
@@ -18,19 +19,16 @@ module _ (s : Sun) where
       transit-shared (approxTransitOf s) (s .place) (s .today .«apparent_sidereal_time») (s .today .«right_ascension») (s .previous .«right_ascension») (s .next .«right_ascension»)
       (s .today .declination) (s .previous .declination) (s .next .declination)
 
-  angle-number-shared : (angle : Angle) (after : Bool) → courseAngleNumberOf (courseOfSun s) angle after ≡ angleNumberOf s angle after
+  pub angle-shared : (angle : Angle) (after : Bool) → courseAngleNumberOf (courseOfSun s) angle after ≡ angleNumberOf s angle after
   unfolding courseAngleNumberOf angleNumberOf
-  angle-number-shared angle after =
+  angle-shared angle after =
       hour-number-shared (approxTransitOf s) (s .place) (s .today .«apparent_sidereal_time») (s .today .«right_ascension») (s .previous .«right_ascension») (s .next .«right_ascension»)
       (s .today .declination) (s .previous .declination) (s .next .declination) angle after
 
-  pub angle-shared : courseAngleNumberOf (courseOfSun s) ≡ angleNumberOf s
-  angle-shared = fun-ext (λ angle. fun-ext (angle-number-shared angle))
-
   pub numbers-shared : courseNumbersOf (courseOfSun s) ≡ hourNumbersOf s
   unfolding courseNumbersOf hourNumbersOf
-  numbers-shared = simp (transit-number-shared, angle-number-shared solarAltitude false, angle-number-shared solarAltitude true)
+  numbers-shared = simp (transit-number-shared, angle-shared solarAltitude false, angle-shared solarAltitude true)
 
-  pub afternoon-shared : courseAfternoonNumberOf (courseOfSun s) (s .place .latitude) ≡ afternoonNumberOf s
+  pub afternoon-shared : (shadow : Float) → courseAfternoonNumberOf (courseOfSun s) (s .place .latitude) shadow ≡ afternoonNumberOf s shadow
   unfolding courseAfternoonNumberOf afternoonNumberOf
-  afternoon-shared = fun-ext (λ shadow. angle-number-shared (shadowAngleOf (s .place .latitude) (s .today .declination .degrees) shadow) true)
+  afternoon-shared shadow = angle-shared (shadowAngleOf (s .place .latitude) (s .today .declination .degrees) shadow) true

@@ -4,7 +4,7 @@ use lib.Ieee.{Float}
 use Rattle.models.specs.declared.rules.Midnight.{Midnight}
 use Rattle.models.specs.declared.rules.Midnight.the-variants.{Stops, Carries}
 use Rattle.solar.specs.declared.setting.SolarHour.{SolarHour}
-use Rattle.solar.specs.declared.setting.SolarHour.the-variants.{At, None}
+use Rattle.solar.specs.declared.setting.SolarHour.the-variants.{Some, Nothing}
 use Rattle.solar.specs.declared.times.SolarTime.{SolarTime}
 use Rattle.solar.specs.declared.times.SolarDay.{SolarDay}
 use Rattle.solar.specs.declared.times.SolarDay.the-variants.{Whole, Lacks}
@@ -18,7 +18,7 @@ unfolding solarHourOf
 hour-held Stops number = setting-held number
 hour-held Carries number = carried-held number
 
-pub hour-range : (rule : Midnight) (number : Float) (t : ℤ) → solarHourOf rule number ≡ At t → OfThreeDays t
+pub hour-range : (rule : Midnight) (number : Float) (t : ℤ) → solarHourOf rule number ≡ Some t → OfThreeDays t
 hour-range rule number t e = subst HourOfThreeDays e (hour-held rule number)
 
 -- ---- and so of a day's sun, where it is whole
@@ -38,7 +38,7 @@ day-held rule n =
     (hour-held rule (n .transit)) (hour-held rule (n .sunrise)) (hour-held rule (n .sunset))
   where
     by-hours : (t r s : SolarHour) → HourOfThreeDays t → HourOfThreeDays r → HourOfThreeDays s → DayOfThreeDays (dayOf t r s)
-    by-hours None r s h k l = lit≤ tt
-    by-hours (At t) None s h k l = lit≤ tt
-    by-hours (At t) (At r) None h k l = lit≤ tt
-    by-hours (At t) (At r) (At s) h k l = record { transit = h; sunrise = k; sunset = l }
+    by-hours Nothing r s h k l = lit≤ tt
+    by-hours (Some t) Nothing s h k l = lit≤ tt
+    by-hours (Some t) (Some r) Nothing h k l = lit≤ tt
+    by-hours (Some t) (Some r) (Some s) h k l = record { transit = h; sunrise = k; sunset = l }

@@ -9,7 +9,6 @@ use Rattle.stride.specs.Julian.{dateJulianDayOf}
 use Rattle.unit.specs.declared.Angle.{Angle}
 use Rattle.unit.specs.Unit.{angleOf, fromRadiansOf, radiansOf, unwoundOf}
 use Rattle.ops.specs.Sun.{julianCenturyOf, meanSolarLongitudeOf, meanLunarLongitudeOf, ascendingLunarNodeLongitudeOf, apparentSolarLongitudeOf, meanObliquityOfTheEclipticOf, apparentObliquityOfTheEclipticOf, meanSiderealTimeOf, nutationInLongitudeOf, nutationInObliquityOf}
-use Rattle.solar.specs.declared.coordinates.Equatorial.{Equatorial}
 use Rattle.solar.specs.declared.coordinates.SolarCoordinates.{SolarCoordinates}
 
 -- page 165, from the apparent obliquity and longitude in radians
@@ -19,9 +18,6 @@ declinationOf obliquity longitude = fromRadiansOf (asinOf (sinOf obliquity *ᶠ 
 -- page 165
 unfoldable pub rightAscensionOf : Float → Float → Angle
 rightAscensionOf obliquity longitude = unwoundOf (fromRadiansOf (atan2Of (cosOf obliquity *ᶠ sinOf longitude) (cosOf longitude)))
-
-abbrev pub equatorialOf : Float → Float → Equatorial
-equatorialOf obliquity longitude = record { declination = declinationOf obliquity longitude; «right_ascension» = rightAscensionOf obliquity longitude }
 
 -- page 88
 unfoldable pub apparentSiderealTimeOf : Float → Angle → Angle → Angle

@@ -6,6 +6,7 @@ use Rattle.float64.specs.Ops.{_+ᶠ_, _-ᶠ_, _/ᶠ_, dec}
 use Rattle.float64.specs.Sizes.{absOf}
 use Rattle.fdlibm_trig.specs.Trig.{tanOf}
 use Rattle.fdlibm_arc.specs.Atan.{atanOf}
+use Rattle.calendar.specs.Answers.{yesterdayOf, tomorrowOf}
 use Rattle.calendar.specs.declared.dates.Date.{Date}
 use Rattle.unit.specs.declared.Angle.{Angle}
 use Rattle.unit.specs.declared.Coordinates.{Coordinates}
@@ -15,18 +16,18 @@ use Rattle.solar.specs.declared.coordinates.SolarCoordinates.{SolarCoord
 use Rattle.solar.specs.declared.hours.HourNumbers.{HourNumbers}
 use Rattle.solar.specs.Coordinates.{positionOf}
 
--- the sun of a day over a place
+-- SolarTime: `observer`, `prev_solar`, `solar` and `next_solar`
 pub record Sun : Type 0 where
   pub place : Coordinates
   pub previous : SolarCoordinates
   pub today : SolarCoordinates
   pub next : SolarCoordinates
 
--- at 0h of the day before, of the date and of the day after
-abbrev pub sunOver : Coordinates → Date → Date → Date → Sun
-sunOver place before date after = record { place = place; previous = positionOf before; today = positionOf date; next = positionOf after }
+-- SolarTime::new: `yesterday`, `today` and `tomorrow`, each at 0h
+abbrev pub sunOn : Coordinates → Date → Sun
+sunOn place date = record { place = place; previous = positionOf (yesterdayOf date); today = positionOf date; next = positionOf (tomorrowOf date) }
 
--- the altitude of the sun's center at sunrise and sunset: 50 minutes of arc below the horizon
+-- `solar_altitude`: the sun's center is 50 minutes of arc below the horizon at sunrise and sunset
 unfoldable pub solarAltitude : Angle
 unfolding dec
 solarAltitude = angleOf (neg (dec 50 0) /ᶠ dec 60 0)
@@ -39,7 +40,7 @@ transitNumberOf s =
     correctedTransitOf (approxTransitOf s) (longitudeAngleOf (s .place)) (s .today .«apparent_sidereal_time»)
     (s .today .«right_ascension») (s .previous .«right_ascension») (s .next .«right_ascension»)
 
--- the hour number at which the sun stands at an angle, before or after its transit
+-- time_for_solar_angle: `hours`, at which the sun stands at an angle, before or after its transit
 unfoldable pub angleNumberOf : Sun → Angle → Bool → Float
 angleNumberOf s angle after =
     correctedHourAngleOf (approxTransitOf s) angle (s .place) after (s .today .«apparent_sidereal_time»)
@@ -54,7 +55,7 @@ hourNumbersOf s =
       sunset = angleNumberOf s solarAltitude true;
     }
 
--- the angle at which a shadow has grown by so many lengths, at a latitude and under a declination
+-- afternoon: `angle`, at which a shadow has grown by so many lengths, at a latitude and under a declination
 unfoldable pub shadowAngleOf : Float → Float → Float → Angle
 unfolding dec
 shadowAngleOf latitude declination shadow =

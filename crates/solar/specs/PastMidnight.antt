@@ -10,7 +10,7 @@ use Rattle.float64.specs.Ops.{dec}
 use Rattle.float64.specs.Sizes.{isNormalOf}
 use Rattle.float64.specs.Whole.{floorOf}
 use Rattle.solar.specs.declared.setting.SolarHour.{SolarHour}
-use Rattle.solar.specs.declared.setting.SolarHour.the-variants.{At, None}
+use Rattle.solar.specs.declared.setting.SolarHour.the-variants.{Some, Nothing}
 use Rattle.solar.specs.declared.setting.Placed.{Placed}
 use Rattle.solar.specs.Setting.{hourAdjustmentOf, minuteOf, daySecondOf, sumOf, restOf}
 
@@ -21,16 +21,16 @@ hasTimeOf value = le (neg (dec 24 0)) value && lt value (dec 48 0)
 
 -- 00:00 of the date after the one taken
 abbrev pub nextMidnightOf : ℕ → SolarHour
-nextMidnightOf taken = At (daySecondOf (taken + 1) 0 0)
+nextMidnightOf taken = Some (daySecondOf (taken + 1) 0 0)
 
 -- hour and minute as document 01 finds them, on the date taken; a sum of 24 goes on to the next
 unfoldable pub carriedOf : Placed → ℕ → SolarHour
 carriedOf p minute =
     let hour = sumOf (p .hour) minute in
-    cond (ltb hour 24) (At (daySecondOf (p .ahead) hour (restOf minute))) (nextMidnightOf (p .ahead))
+    cond (ltb hour 24) (Some (daySecondOf (p .ahead) hour (restOf minute))) (nextMidnightOf (p .ahead))
 
 -- what has a time and is not normal is zero or subnormal
 unfoldable pub carriedHourOf : Float → SolarHour
 carriedHourOf value =
     let hours = floorOf value in
-    cond (hasTimeOf value) (cond (isNormalOf value) (carriedOf (hourAdjustmentOf hours) (minuteOf value hours)) (At (pos 0))) None
+    cond (hasTimeOf value) (cond (isNormalOf value) (carriedOf (hourAdjustmentOf hours) (minuteOf value hours)) (Some (pos 0))) Nothing

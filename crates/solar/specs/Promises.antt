@@ -7,7 +7,7 @@ use lib.Ieee.{Float, nan, inf, fin, le, lt, neg}
 use Rattle.float64.specs.Ops.{dec}
 use Rattle.float64.specs.Sizes.{isNormalOf}
 use Rattle.float64.specs.Whole.{floorOf}
-use Rattle.solar.specs.declared.setting.SolarHour.the-variants.{At, None}
+use Rattle.solar.specs.declared.setting.SolarHour.the-variants.{Some, Nothing}
 use Rattle.solar.specs.Setting.{hourAdjustmentOf, minuteOf, daySecondOf, sumOf, restOf, settingHourOf}
 use Rattle.solar.specs.PastMidnight.{hasTimeOf, nextMidnightOf, carriedHourOf}
 
@@ -29,13 +29,13 @@ pub record CarriesPastMidnight : Type 0 where
   -- no number rounds to a later hour, and one that rounds to an earlier one is at that hour and minute of the date taken
   pub most : (value : Float) → hasTimeOf value ≡ true → hourSum value ≤ 24
   pub «on_date» : (value : Float) → hasTimeOf value ≡ true → isNormalOf value ≡ true → hourSum value < 24
-      → carriedHourOf value ≡ At (daySecondOf (dateTaken value) (hourSum value) (minuteLeft value))
+      → carriedHourOf value ≡ Some (daySecondOf (dateTaken value) (hourSum value) (minuteLeft value))
   -- which is document 01's time, where that has one
-  pub same : (value : Float) (t : ℤ) → hasTimeOf value ≡ true → settingHourOf value ≡ At t → carriedHourOf value ≡ At t
+  pub same : (value : Float) (t : ℤ) → hasTimeOf value ≡ true → settingHourOf value ≡ Some t → carriedHourOf value ≡ Some t
   -- "Zero and subnormal numbers are 00:00 of the date."
-  pub small : (s : Bool) (m : ℕ) (e : ℤ) → isNormalOf (fin s m e) ≡ false → carriedHourOf (fin s m e) ≡ At (pos 0)
+  pub small : (s : Bool) (m : ℕ) (e : ℤ) → isNormalOf (fin s m e) ≡ false → carriedHourOf (fin s m e) ≡ Some (pos 0)
   -- "Numbers below -24 or from 48 on have no time", nor has what is no number
-  pub below : (value : Float) → lt value (neg (dec 24 0)) ≡ true → carriedHourOf value ≡ None
-  pub from : (value : Float) → le (dec 48 0) value ≡ true → carriedHourOf value ≡ None
-  pub nan : carriedHourOf nan ≡ None
-  pub infinite : (s : Bool) → carriedHourOf (inf s) ≡ None
+  pub below : (value : Float) → lt value (neg (dec 24 0)) ≡ true → carriedHourOf value ≡ Nothing
+  pub from : (value : Float) → le (dec 48 0) value ≡ true → carriedHourOf value ≡ Nothing
+  pub nan : carriedHourOf nan ≡ Nothing
+  pub infinite : (s : Bool) → carriedHourOf (inf s) ≡ Nothing

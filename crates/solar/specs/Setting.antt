@@ -8,10 +8,10 @@ use Rattle.float64.specs.Ops.{_+ᶠ_, _-ᶠ_, _*ᶠ_, _/ᶠ_, dec}
 use Rattle.float64.specs.Sizes.{isNormalOf}
 use Rattle.float64.specs.Whole.{floorOf, roundOf}
 use Rattle.solar.specs.declared.setting.SolarHour.{SolarHour}
-use Rattle.solar.specs.declared.setting.SolarHour.the-variants.{At, None}
+use Rattle.solar.specs.declared.setting.SolarHour.the-variants.{Some, Nothing}
 use Rattle.solar.specs.declared.setting.Placed.{Placed}
 
--- Floored hours below 0 take yesterday, hours plus 24, clamped at 0; from 24, tomorrow, minus 24.
+-- hour_adjustment: "Floored hours below 0 take yesterday, hours plus 24, clamped at 0; from 24, tomorrow, minus 24."
 -- `ahead` is 0 for yesterday, 1 for the date, 2 for tomorrow.
 unfoldable pub hourAdjustmentOf : Float → Placed
 unfolding dec
@@ -19,7 +19,7 @@ hourAdjustmentOf hours =
     cond (lt hours (dec 0 0)) (record { ahead = 0; hour = toUnsigned 32 (hours +ᶠ dec 24 0) })
     (cond (lt hours (dec 24 0)) (record { ahead = 1; hour = toUnsigned 32 hours }) (record { ahead = 2; hour = toUnsigned 32 (hours -ᶠ dec 24 0) }))
 
--- minutes and seconds are floored; the seconds round the minute
+-- "Hours, minutes, seconds are floored; seconds round the minute"
 unfoldable pub minuteOf : Float → Float → ℕ
 unfolding dec
 minuteOf value hours =
@@ -42,10 +42,10 @@ restOf minute = cond (ltb minute 60) minute 0
 unfoldable pub hourOf : Placed → ℕ → SolarHour
 hourOf p minute =
     let hour = sumOf (p .hour) minute in
-    cond (ltb hour 24) (At (daySecondOf (p .ahead) hour (restOf minute))) None
+    cond (ltb hour 24) (Some (daySecondOf (p .ahead) hour (restOf minute))) Nothing
 
--- what is not normal (NaN, infinite, zero, subnormal) has no time
+-- setting_hour: "not normal (NaN, infinite, zero, subnormal) has no time"
 unfoldable pub settingHourOf : Float → SolarHour
 settingHourOf value =
     let hours = floorOf value in
-    cond (isNormalOf value) (hourOf (hourAdjustmentOf hours) (minuteOf value hours)) None
+    cond (isNormalOf value) (hourOf (hourAdjustmentOf hours) (minuteOf value hours)) Nothing

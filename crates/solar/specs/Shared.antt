@@ -7,17 +7,19 @@ use Rattle.calendar.specs.declared.dates.Date.{Date}
 use Rattle.unit.specs.declared.Angle.{Angle}
 use Rattle.unit.specs.declared.Coordinates.{Coordinates}
 use Rattle.unit.specs.Unit.{longitudeAngleOf}
-use Rattle.models.specs.declared.rules.Midnight.{Midnight}
 use Rattle.ops.specs.declared.transit.Course.{Course}
 use Rattle.ops.specs.declared.transit.Observer.{Observer}
 use Rattle.ops.specs.Transit.{approximateTransitOf}
 use Rattle.ops.specs.Shared.{observerOf, courseOf, courseTransitNumberOf, arcToSineOf, halfArcOf, hourNumberOf}
 use Rattle.solar.specs.declared.coordinates.SolarCoordinates.{SolarCoordinates}
 use Rattle.solar.specs.declared.hours.HourNumbers.{HourNumbers}
-use Rattle.solar.specs.Coordinates.{positionOf}
-use Rattle.solar.specs.declared.setting.SolarHour.{SolarHour}
+use Rattle.solar.specs.declared.coordinates.Equatorial.{Equatorial}
+use Rattle.solar.specs.Coordinates.{declinationOf, rightAscensionOf, positionOf}
 use Rattle.solar.specs.Hours.{solarAltitude, shadowAngleOf}
-use Rattle.solar.specs.Times.{solarHourOf}
+
+-- what the sines and cosines of the obliquity and of the longitude give together
+abbrev pub equatorialOf : Float → Float → Equatorial
+equatorialOf obliquity longitude = record { declination = declinationOf obliquity longitude; «right_ascension» = rightAscensionOf obliquity longitude }
 
 -- the sun's course over a place, from three positions
 abbrev pub courseOver : Coordinates → Observer → SolarCoordinates → SolarCoordinates → SolarCoordinates → Course
@@ -48,10 +50,3 @@ courseNumbersOf c =
 
 unfoldable pub courseAfternoonNumberOf : Course → Float → Float → Float
 courseAfternoonNumberOf c latitude shadow = courseAngleNumberOf c (shadowAngleOf latitude (c .declination .value) shadow) true
-
--- the times of an angle and of Asr, as the numbers of a course give them
-abbrev pub timeForSolarAngleOf : Midnight → Course → Angle → Bool → SolarHour
-timeForSolarAngleOf rule course angle after = solarHourOf rule (courseAngleNumberOf course angle after)
-
-abbrev pub afternoonOf : Midnight → Course → Float → Float → SolarHour
-afternoonOf rule course latitude shadow = solarHourOf rule (courseAfternoonNumberOf course latitude shadow)

@@ -1,6 +1,7 @@
 // solar.rs: the sun's position at 0h of a day.
 ghost use mathlib.Core.Path.{_≡_};
-ghost use Rattle.solar.specs.Coordinates.{equatorialOf, apparentSiderealTimeOf, solarCoordinatesOf, positionOf};
+ghost use Rattle.solar.specs.Coordinates.{apparentSiderealTimeOf, solarCoordinatesOf, positionOf};
+ghost use Rattle.solar.specs.Shared.{equatorialOf};
 use calendar::dates::Date;
 use fdlibm_arc::e_asin::asin;
 use fdlibm_arc::e_atan2::atan2;

@@ -20,7 +20,7 @@ fn has_time(value: f64) -> bool
 fn next_midnight(ahead: u8) -> SolarHour
     ensures { λ r. ⌜ r ≡ nextMidnightOf ahead ⌝ }
 {
-    SolarHour::At(((ahead as u32) * 86400) as i32)
+    SolarHour::Some(((ahead as u32) * 86400) as i32)
 }
 
 // Where the source's rule has an hour of the date taken it stands; else the sum came to 24.
@@ -29,8 +29,8 @@ fn carried(p: Placed, minute: u32) -> SolarHour
 {
     let ahead = p.ahead;
     match hour(p, minute) {
-        SolarHour::At(time) => SolarHour::At(time),
-        SolarHour::None => next_midnight(ahead),
+        SolarHour::Some(time) => SolarHour::Some(time),
+        SolarHour::Nothing => next_midnight(ahead),
     }
 }
 
@@ -43,7 +43,7 @@ pub fn carried_hour(value: f64) -> SolarHour
             let hours = floor(value);
             return carried(hour_adjustment(hours), minute(value, hours));
         }
-        return SolarHour::At(0);
+        return SolarHour::Some(0);
     }
-    SolarHour::None
+    SolarHour::Nothing
 }

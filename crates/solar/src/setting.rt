@@ -11,8 +11,8 @@ use float64::whole::round;
 
 pub enum SolarHour {
     // Below 0 yesterday's, from 86,400 on tomorrow's.
-    At(i32),
-    None,
+    Some(i32),
+    Nothing,
 }
 
 // An hour of yesterday (0), of the date (1) or of tomorrow (2).
@@ -71,15 +71,15 @@ pub(crate) fn hour(p: Placed, minute: u32) -> SolarHour
     if minute < 60 {
         if hour < 24 {
             let n = (ahead as u32) * 86400 + hour * 3600 + minute * 60;
-            return SolarHour::At(n as i32 - 86400);
+            return SolarHour::Some(n as i32 - 86400);
         }
-        return SolarHour::None;
+        return SolarHour::Nothing;
     }
     if hour < 23 {
         let n = (ahead as u32) * 86400 + (hour + 1) * 3600;
-        return SolarHour::At(n as i32 - 86400);
+        return SolarHour::Some(n as i32 - 86400);
     }
-    SolarHour::None
+    SolarHour::Nothing
 }
 
 // Above 1 and below 24 a number is normal, and its floored hours are an hour of the date.
@@ -108,5 +108,5 @@ pub fn setting_hour(value: f64) -> SolarHour
         let hours = floor(value);
         return hour(hour_adjustment(hours), minute(value, hours));
     }
-    SolarHour::None
+    SolarHour::Nothing
 }

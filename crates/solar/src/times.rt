@@ -1,20 +1,22 @@
 // solar.rs: the times of the sun on a day, each in seconds from 0h of its date. Where SolarTime::new panics, the day lacks a time and is
 // refused by a number.
 ghost use mathlib.Core.Path.{_≡_};
-ghost use Rattle.solar.specs.Shared.{timeForSolarAngleOf, afternoonOf};
-ghost use Rattle.solar.specs.Times.{solarHourOf, dayOf, solarTimeOf};
+ghost use Rattle.solar.specs.Hours.{sunOn};
+ghost use Rattle.solar.specs.Times.{solarHourOf, dayOf, solarTimeOf, timeForSolarAngleOf, afternoonOf};
 use super::hours::HourNumbers;
 use super::hours::afternoon_number;
 use super::hours::angle_number;
+use super::hours::date_sun;
 use super::past_midnight::carried_hour;
 use super::setting::SolarHour;
 use super::setting::setting_hour;
+use calendar::dates::Date;
 use models::rules::Midnight;
-use ops::transit::Course;
 use refusals::NO_SUNRISE;
 use refusals::NO_SUNSET;
 use refusals::NO_TRANSIT;
 use unit::Angle;
+use unit::Coordinates;
 
 // The time of an hour number by a rule, where it has one. No other place asks for the rule.
 pub fn solar_hour(rule: Midnight, number: f64) -> SolarHour
@@ -42,13 +44,13 @@ pub enum SolarDay {
 fn day(transit: SolarHour, sunrise: SolarHour, sunset: SolarHour) -> SolarDay
     ensures { λ r. ⌜ r ≡ dayOf transit sunrise sunset ⌝ }
 {
-    let SolarHour::At(transit) = transit else {
+    let SolarHour::Some(transit) = transit else {
         return SolarDay::Lacks(NO_TRANSIT);
     };
-    let SolarHour::At(sunrise) = sunrise else {
+    let SolarHour::Some(sunrise) = sunrise else {
         return SolarDay::Lacks(NO_SUNRISE);
     };
-    let SolarHour::At(sunset) = sunset else {
+    let SolarHour::Some(sunset) = sunset else {
         return SolarDay::Lacks(NO_SUNSET);
     };
     SolarDay::Whole(SolarTime {
@@ -70,21 +72,32 @@ impl SolarTime {
     }
 }
 
-// The time at which the sun stands at an angle.
+// The time at which the sun stands at an angle, on a date over a place.
 pub fn time_for_solar_angle(
     rule: Midnight,
-    course: Course,
+    date: Date,
+    coordinates: Coordinates,
     angle: Angle,
     after_transit: bool,
 ) -> SolarHour
-    ensures { λ r. ⌜ r ≡ timeForSolarAngleOf rule course angle «after_transit» ⌝ }
+    ensures { λ r. ⌜ r ≡ timeForSolarAngleOf rule (sunOn coordinates date) angle «after_transit» ⌝ }
 {
+    let course = date_sun(date, coordinates);
     solar_hour(rule, angle_number(course, angle, after_transit))
 }
 
 // Asr's time.
-pub fn afternoon(rule: Midnight, course: Course, latitude: f64, shadow_length: f64) -> SolarHour
-    ensures { λ r. ⌜ r ≡ afternoonOf rule course latitude «shadow_length» ⌝ }
+pub fn afternoon(
+    rule: Midnight,
+    date: Date,
+    coordinates: Coordinates,
+    shadow_length: f64,
+) -> SolarHour
+    ensures { λ r. ⌜ r ≡ afternoonOf rule (sunOn coordinates date) «shadow_length» ⌝ }
 {
-    solar_hour(rule, afternoon_number(course, latitude, shadow_length))
+    let course = date_sun(date, coordinates);
+    solar_hour(
+        rule,
+        afternoon_number(course, coordinates.latitude, shadow_length),
+    )
 }

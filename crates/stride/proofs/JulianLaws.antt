@@ -1,7 +1,7 @@
 -- The Julian Day of the f64 formula is the one of Meeus's whole numbers and of the calendar's count of days, for every date of the years 1899
 -- to 2200: its sums of whole numbers and halves lose nothing. Assumes nothing.
 use Rattle.prelude.proofs.Logic.{_≡_, refl, ap, _∙_, true, ℕ, suc, _+_, _-_, _*_, _/_, _≤_, _<_, arith, ltb, lit<, lit≤, ℤ, pos, negsuc, _+ℤ_, _-ℤ_, _*ℤ_, ltb-true, ltb-false, lt-ltb, cases}
-use Rattle.float64.proofs.Floats.{Float, binary64, ofInt, ofBits, round, sub, div, _+ᶠ_, _-ᶠ_, _/ᶠ_, bits, dyadic, int-dyadic, add-dyadic, sub-dyadic, neg-at}
+use Rattle.float64.proofs.Floats.{Float, binary64, ofInt, round, sub, div, _+ᶠ_, _-ᶠ_, _/ᶠ_, dec, dyadic, int-dyadic, add-dyadic, sub-dyadic, neg-at}
 use Rattle.integers.proofs.Integers.{P, same, sum, difference}
 use Rattle.calendar.proofs.Calendar.{existsOf, dayNumberOf, exists-yes, month-of-date}
 use Rattle.calendar.specs.declared.dates.Date.{Date}
@@ -17,16 +17,16 @@ halves n = dyadic 1 n
 whole : (n : ℕ) → real (pos n) ≡ halves (n * 2)
 whole n = int-dyadic 1 n
 
-offset : bits 0x4097_d200_0000_0000 ≡ halves 3049
-unfolding ofBits round
+offset : dec 15245 1 ≡ halves 3049
+unfolding dec round
 offset = refl
 
 -- the day of the month at 0 h
 abbrev at-midnight : ℕ → Float
-at-midnight day = real (pos day) +ᶠ bits 0 /ᶠ bits 0x4038_0000_0000_0000
+at-midnight day = real (pos day) +ᶠ dec 0 0 /ᶠ dec 24 0
 
-no-hours : bits 0 /ᶠ bits 0x4038_0000_0000_0000 ≡ halves 0
-unfolding ofBits round div
+no-hours : dec 0 0 /ᶠ dec 24 0 ≡ halves 0
+unfolding dec round div
 no-hours = refl
 
 -- a whole number of B's size and sign is taken away
@@ -38,7 +38,7 @@ taken x b h p l =
 
 -- u, v: the days of the years and of the months; b: what the centuries take away
 exact : (u v day b : ℕ) → u + v + day < 10000000 → 0 < b → b + 1525 ≤ u + v + day →
-    real (pos u) +ᶠ real (pos v) +ᶠ at-midnight day +ᶠ real (negsuc (b - 1)) -ᶠ bits 0x4097_d200_0000_0000
+    real (pos u) +ᶠ real (pos v) +ᶠ at-midnight day +ᶠ real (negsuc (b - 1)) -ᶠ dec 15245 1
     ≡ halves (2 * (u + v + day - b) - 3049)
 exact u v day b small p large =
     let e0 : halves (day * 2) +ᶠ halves 0 ≡ halves (day * 2 + 0) = add-dyadic 1 (day * 2) 0 (lit≤ tt) (omega arith) (lit< tt) in
@@ -71,7 +71,7 @@ from-march y m day p q i j k =
     rw (year-cut y p q, month-cut m i j, correction y p q) (sum-of (yearDaysOf y) (monthTermOf m) (y / 100) u v w a b)
   where
     sum-of : (u v a : ℕ) → u ≤ 2600000 → 1625 ≤ u → v ≤ 500 → 18 ≤ a → a ≤ 22 →
-        real (pos u) +ᶠ real (pos v) +ᶠ at-midnight day +ᶠ real (negsuc (a - 2 - a / 4 - 1)) -ᶠ bits 0x4097_d200_0000_0000
+        real (pos u) +ᶠ real (pos v) +ᶠ at-midnight day +ᶠ real (negsuc (a - 2 - a / 4 - 1)) -ᶠ dec 15245 1
         ≡ halves (2 * (u + v + day + 2 + a / 4 - a) - 3049)
     sum-of u v a b c d e f =
         let g : 2 * (u + v + day - (a - 2 - a / 4)) - 3049 ≡ 2 * (u + v + day + 2 + a / 4 - a) - 3049 = omega arith in

@@ -5,43 +5,41 @@ use lib.Dec.{ltb}
 use lib.IntN.{ℤ, pos, _+ℤ_, _-ℤ_}
 use lib.Signed.{ltZ, quotZ}
 use lib.Ieee.{Float, binary64, ofInt, toSigned}
-use Rattle.float64.specs.Ops.{_+ᶠ_, _-ᶠ_, _*ᶠ_, _/ᶠ_, bits}
+use Rattle.float64.specs.Ops.{_+ᶠ_, _-ᶠ_, _*ᶠ_, _/ᶠ_, dec}
 use Rattle.calendar.specs.declared.dates.Date.{Date}
 
 abbrev pub real : ℤ → Float
 real n = ofInt binary64 n
 
--- the whole part of a product, as Rust's cast to i32 cuts it
+-- "Casting to i32 is done intentionally for the purpose of decimal truncation" (ops.rs)
 abbrev pub cutOf : Float → ℤ
 cutOf x = toSigned 31 x
 
--- 365.25 (year + 4716)
 unfoldable pub yearProductOf : ℤ → Float
-yearProductOf year = bits 0x4076_d400_0000_0000 *ᶠ (real year +ᶠ bits 0x40b2_6c00_0000_0000)
+yearProductOf year = dec 36525 2 *ᶠ (real year +ᶠ dec 4716 0)
 
--- 30.6001 (month + 1)
 unfoldable pub monthProductOf : ℤ → Float
-monthProductOf month = bits 0x403e_99a0_2752_5461 *ᶠ (real month +ᶠ bits 0x3ff0_0000_0000_0000)
+monthProductOf month = dec 306001 4 *ᶠ (real month +ᶠ dec 1 0)
 
 -- the Gregorian correction: 2 - A + A / 4, where A is the century
 unfoldable pub correctionOf : ℤ → ℤ
 correctionOf year = let a = quotZ year (pos 100) in (pos 2 -ℤ a) +ℤ quotZ a (pos 4)
 
--- the month is 3 to 14; the sum's last term is 1524.5
+-- the month is 3 to 14
 unfoldable pub fromMarchOf : ℤ → ℤ → Float → Float
 fromMarchOf year month day =
-    real (cutOf (yearProductOf year)) +ᶠ real (cutOf (monthProductOf month)) +ᶠ day +ᶠ real (correctionOf year) -ᶠ bits 0x4097_d200_0000_0000
+    real (cutOf (yearProductOf year)) +ᶠ real (cutOf (monthProductOf month)) +ᶠ day +ᶠ real (correctionOf year) -ᶠ dec 15245 1
 
 -- January and February are months 13 and 14 of the year before
 unfoldable pub julianDayOf : ℤ → ℤ → ℤ → Float → Float
 julianDayOf year month day hours =
-    let d = real day +ᶠ hours /ᶠ bits 0x4038_0000_0000_0000 in
+    let d = real day +ᶠ hours /ᶠ dec 24 0 in
     cond (ltZ (pos 2) month) (fromMarchOf year month d) (fromMarchOf (year -ℤ pos 1) (month +ℤ pos 12) d)
 
--- the largest i32 stands for what is beyond it
+-- saturated at the largest i32
 unfoldable pub toI32Of : ℕ → ℤ
 toI32Of n = cond (ltb n 2147483648) (pos n) (pos 2147483647)
 
 -- at 0 h
 unfoldable pub dateJulianDayOf : Date → Float
-dateJulianDayOf d = julianDayOf (toI32Of (d .year)) (toI32Of (d .month)) (toI32Of (d .day)) (bits 0)
+dateJulianDayOf d = julianDayOf (toI32Of (d .year)) (toI32Of (d .month)) (toI32Of (d .day)) (dec 0 0)

@@ -35,7 +35,7 @@ pub fn julian_day(year: i32, month: i32, day: i32, hours: f64) -> f64
     }
 }
 
-// The largest i32 stands for what is beyond it.
+// n, or the largest i32 if n is beyond it.
 fn saturated(n: u32) -> i32
     ensures { λ r. ⌜ r ≡ toI32Of n ⌝ }
 {

@@ -133,7 +133,7 @@ fn print_record(order: Order) {
     print_ramadan(order);
 }
 
-fn print_answer(reading: Reading, town: &[u8]) {
+fn print_answer(order: &[u8], reading: Reading) {
     match reading {
         Reading::Read(given) => {
             print(0);
@@ -145,13 +145,13 @@ fn print_answer(reading: Reading, town: &[u8]) {
             print(wide(refusal.place));
         }
     }
-    io::write_all(STDOUT_FILENO, town);
+    io::write_all(STDOUT_FILENO, reading::town(order, reading));
     io::write_all(STDOUT_FILENO, b"\n");
 }
 
 fn answer(order: &[u8]) {
-    print_answer(reading::read(order), reading::town(order));
-    print_answer(plain::read(order), plain::town(order));
+    print_answer(order, reading::read(order));
+    print_answer(order, plain::read(order));
 }
 
 // The next order, of so many bytes, and its line. One that is longer than the space, which the list has none of, is left unread.

@@ -1,18 +1,17 @@
 -- An angle above 0 and below 359 degrees is unwound as it stands: a full turn goes into it no time. Assumes nothing.
 use Rattle.prelude.proofs.Logic.{_≡_, refl, sym, ap, _∙_, Bool, true, false, cond, true≢false, ℕ, _*_, _^_, _<_, div-add-mod', div-eq-of-lt, arith, T, eqb, lit<, lit≤, ℤ, eqb-true}
-use Rattle.float64.proofs.Floats.{Float, nan, inf, fin, binary64, up, down, round, ofBits, ofInt, mul, sub, div, fits, lt, HasValue, down-pos, bits, floorOf, fraction, wholePart, mul-same, sub-zero64, zero64, inside, Within, Signed, round-signed, div-within}
+use Rattle.float64.proofs.Floats.{Float, nan, inf, fin, binary64, up, down, round, ofBits, ofInt, mul, sub, div, fits, lt, HasValue, down-pos, dec, floorOf, fraction, wholePart, mul-same, sub-zero64, zero64, inside, Within, Signed, round-signed, div-within}
 use Rattle.unit.specs.Unit.{full-turn, normalizedToScaleOf}
 
 turn-value : HasValue full-turn false 360 1
-unfolding ofBits
+unfolding dec round
 turn-value = (refl, refl)
 
--- 359 degrees
 abbrev nearly : Float
-nearly = bits 0x4076_7000_0000_0000
+nearly = dec 359 0
 
 nearly-value : HasValue nearly false 359 1
-unfolding ofBits
+unfolding dec round
 nearly-value = (refl, refl)
 
 -- ---- the quotient lies below 1, so its floor is 0
@@ -34,7 +33,7 @@ floor-zero (fin false k f) w s = go (eqb (fraction k f) 0) refl
     go false z = rw none (refl, refl)
 
 quotient-signed : (m : ℕ) (e : ℤ) → Signed false (div binary64 (fin false m e) full-turn)
-unfolding div ofBits
+unfolding div dec round
 quotient-signed m e = round-signed (m * up e * 1) (45 * 2 ^ 3 * down e) false
 
 turns-zero : (m : ℕ) (e : ℤ) → m * up e < 359 * down e → mul binary64 full-turn (floorOf (div binary64 (fin false m e) full-turn)) ≡ zero64

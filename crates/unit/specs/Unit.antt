@@ -1,20 +1,20 @@
--- unit.rs: angles in degrees and places on the earth, operation by operation in f64.
+-- unit.rs: angles in degrees and places on the earth. "Formulas are the crate's, each operation rounded once in its order" (document 01).
 use mathlib.Core.Bool.{cond}
 use lib.Ieee.{Float, neg}
 use Rattle.float64.specs.Ranges.{insideOf}
-use Rattle.float64.specs.Ops.{_+ᶠ_, _-ᶠ_, _*ᶠ_, _/ᶠ_, bits}
+use Rattle.float64.specs.Ops.{_+ᶠ_, _-ᶠ_, _*ᶠ_, _/ᶠ_, dec}
 use Rattle.float64.specs.Whole.{floorOf, roundOf}
 use Rattle.unit.specs.declared.Angle.{Angle}
 use Rattle.unit.specs.declared.Coordinates.{Coordinates}
 
 abbrev pub pi : Float
-pi = bits 0x4009_21fb_5444_2d18
+pi = dec 314159265358979323846 20
 
 abbrev pub half-turn : Float
-half-turn = bits 0x4066_8000_0000_0000
+half-turn = dec 180 0
 
 abbrev pub full-turn : Float
-full-turn = bits 0x4076_8000_0000_0000
+full-turn = dec 360 0
 
 -- x less the whole multiples of max below it
 unfoldable pub normalizedToScaleOf : Float → Float → Float
@@ -48,10 +48,11 @@ minusOf a b = angleOf (a .degrees -ᶠ b .degrees)
 abbrev pub productOf : Angle → Angle → Angle
 productOf a b = angleOf (a .degrees *ᶠ b .degrees)
 
--- by 0 an infinity or NaN, as f64 has it
+-- divided by 0: an infinity or NaN, as f64 has it
 abbrev pub overOf : Angle → Angle → Angle
 overOf a b = angleOf (a .degrees /ᶠ b .degrees)
 
+-- "Latitude and longitude travel together as two f64 numbers" (document 01)
 abbrev pub coordinatesOf : Float → Float → Coordinates
 coordinatesOf latitude longitude = record { latitude = latitude; longitude = longitude }
 

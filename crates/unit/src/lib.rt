@@ -39,7 +39,7 @@ impl Angle {
         (self.degrees * PI) / 180.0
     }
 
-    // From 0 to 360 degrees. Below 359 no turn is to be taken off, and nothing is divided.
+    // From 0 to 360 degrees. Below 359 there is no turn to take off, so nothing is divided.
     pub fn unwound(self) -> Angle
         ensures { λ r. ⌜ r ≡ unwoundOf self ⌝ }
     {

@@ -3,31 +3,31 @@ use Rattle.prelude.proofs.Logic.{_≡_, refl, sym, ap, subst, _∙_, Bool, true
 use borrow.Author.Count.{below-more}
 use Rattle.integers.proofs.OrderLaws.{lt-yes, lt-no, to-lt, to-not-lt}
 use Rattle.weeks.specs.declared.minute.Minute.{Minute}
-use Rattle.weeks.specs.declared.minute.Minute.the-variants.{At, Refused}
+use Rattle.weeks.specs.declared.minute.Minute.the-variants.{Some, Nothing}
 use Rattle.weeks.specs.declared.window.Window.{Window}
 use Rattle.weeks.specs.Windows.{rowAt, noWindow, refusedWindow, beginOf, withEarliest, withLatest, earlierIn, laterIn, seenOf, lookOf, lookedOf, windowOf}
 use Rattle.weeks.specs.Meaning.{Best, earlier, later, RightWindow, Answers}
 
-same-minute : (x : Minute) (m n : ℤ) → x ≡ At m → x ≡ At n → m ≡ n
+same-minute : (x : Minute) (m n : ℤ) → x ≡ Some m → x ≡ Some n → m ≡ n
 same-minute x m n a b = cc
 
-not-both : (x : Minute) (m : ℤ) → x ≡ At m → x ≡ Refused → ⊥
+not-both : (x : Minute) (m : ℤ) → x ≡ Some m → x ≡ Nothing → ⊥
 not-both x m a b = let z : _≡_ {A = ℕ} 0 1 = cc in omega arith
 
 module _ (before : ℤ → ℤ → Bool) (itself : (x : ℤ) → before x x ≡ false)
     (ahead : (x y z : ℤ) → before x y ≡ true → before z y ≡ false → before x z ≡ true)
     (behind : (x y z : ℤ) → before x y ≡ true → before z y ≡ false → before z x ≡ false) where
-  best-begin : (f : ℕ → Minute) (first : ℕ) (m : ℤ) → f first ≡ At m → Best before f first (first + 1) m first
+  best-begin : (f : ℕ → Minute) (first : ℕ) (m : ℤ) → f first ≡ Some m → Best before f first (first + 1) m first
   best-begin f first m e =
       record {
         from = omega arith;
         to = omega arith;
         there = e;
-        none-before = below-more (λ (r : ℕ). first ≤ r → (n : ℤ) → f r ≡ At n → before n m ≡ false) first (λ r h g. absurd (omega arith)) (λ g n d. subst (λ (x : ℤ). before x m ≡ false) (same-minute (f first) m n e d) (itself m));
+        none-before = below-more (λ (r : ℕ). first ≤ r → (n : ℤ) → f r ≡ Some n → before n m ≡ false) first (λ r h g. absurd (omega arith)) (λ g n d. subst (λ (x : ℤ). before x m ≡ false) (same-minute (f first) m n e d) (itself m));
         is-first = λ r h g. absurd (omega arith);
       }
 
-  best-taken : (f : ℕ → Minute) (first next row : ℕ) (b m : ℤ) → f next ≡ At m → before m b ≡ true → Best before f first next b row
+  best-taken : (f : ℕ → Minute) (first next row : ℕ) (b m : ℤ) → f next ≡ Some m → before m b ≡ true → Best before f first next b row
       → Best before f first (next + 1) m next
   best-taken f first next row b m e t k =
       record {
@@ -35,12 +35,12 @@ module _ (before : ℤ → ℤ → Bool) (itself : (x : ℤ) → before x x ≡ 
         to = omega arith;
         there = e;
         none-before =
-            below-more (λ (r : ℕ). first ≤ r → (n : ℤ) → f r ≡ At n → before n m ≡ false) next (λ r h g n d. behind m b n t (k .none-before r h g n d))
+            below-more (λ (r : ℕ). first ≤ r → (n : ℤ) → f r ≡ Some n → before n m ≡ false) next (λ r h g n d. behind m b n t (k .none-before r h g n d))
             (λ g n d. subst (λ (x : ℤ). before x m ≡ false) (same-minute (f next) m n e d) (itself m));
         is-first = λ r h g n d. ahead m b n t (k .none-before r h g n d);
       }
 
-  best-left : (f : ℕ → Minute) (first next row : ℕ) (b m : ℤ) → f next ≡ At m → before m b ≡ false → Best before f first next b row
+  best-left : (f : ℕ → Minute) (first next row : ℕ) (b m : ℤ) → f next ≡ Some m → before m b ≡ false → Best before f first next b row
       → Best before f first (next + 1) b row
   best-left f first next row b m e t k =
       record {
@@ -48,7 +48,7 @@ module _ (before : ℤ → ℤ → Bool) (itself : (x : ℤ) → before x x ≡ 
         to = let y = k .to in omega arith;
         there = k .there;
         none-before =
-            below-more (λ (r : ℕ). first ≤ r → (n : ℤ) → f r ≡ At n → before n b ≡ false) next (λ r h g n d. k .none-before r h g n d) (λ g n d. subst (λ (x : ℤ). before x b ≡ false) (same-minute (f next) m n e d) t);
+            below-more (λ (r : ℕ). first ≤ r → (n : ℤ) → f r ≡ Some n → before n b ≡ false) next (λ r h g n d. k .none-before r h g n d) (λ g n d. subst (λ (x : ℤ). before x b ≡ false) (same-minute (f next) m n e d) t);
         is-first = k .is-first;
       }
 
@@ -69,24 +69,24 @@ gt-behind x y z a b = let p = lt-yes y x a in let q = lt-no y z b in to-not-lt x
 
 -- ---- the first row
 answers-begin : (f : ℕ → Minute) (first : ℕ) (x : Minute) → f first ≡ x → Answers f first (first + 1) (beginOf first x)
-answers-begin f first Refused e = inl (refl, record { row = first; from = omega arith; to = omega arith; is = e })
-answers-begin f first (At m) e =
+answers-begin f first Nothing e = inl (refl, record { row = first; from = omega arith; to = omega arith; is = e })
+answers-begin f first (Some m) e =
     inr
     (record {
       accepted = refl;
-      none-refused = below-more (λ (r : ℕ). first ≤ r → f r ≡ Refused → ⊥) first (λ r h g. absurd (omega arith)) (λ g d. not-both (f first) m e d);
+      none-refused = below-more (λ (r : ℕ). first ≤ r → f r ≡ Nothing → ⊥) first (λ r h g. absurd (omega arith)) (λ g d. not-both (f first) m e d);
       early = best-begin earlier lt-itself lt-ahead lt-behind f first m e;
       late = best-begin later lt-itself gt-ahead gt-behind f first m e;
     })
 
 -- ---- a row more
-early-step : (f : ℕ → Minute) (first next : ℕ) (w : Window) (m : ℤ) → f next ≡ At m → Best earlier f first next (w .earliest) (w .«earliest_row»)
+early-step : (f : ℕ → Minute) (first next : ℕ) (w : Window) (m : ℤ) → f next ≡ Some m → Best earlier f first next (w .earliest) (w .«earliest_row»)
     → (b : Bool) → ltZ m (w .earliest) ≡ b
     → Best earlier f first (next + 1) (cond b (withEarliest w next m) w .earliest) (cond b (withEarliest w next m) w .«earliest_row»)
 early-step f first next w m e k true t = best-taken earlier lt-itself lt-ahead lt-behind f first next _ _ m e t k
 early-step f first next w m e k false t = best-left earlier lt-itself lt-ahead lt-behind f first next _ _ m e t k
 
-late-step : (f : ℕ → Minute) (first next : ℕ) (w : Window) (m : ℤ) → f next ≡ At m → Best later f first next (w .latest) (w .«latest_row»)
+late-step : (f : ℕ → Minute) (first next : ℕ) (w : Window) (m : ℤ) → f next ≡ Some m → Best later f first next (w .latest) (w .«latest_row»)
     → (b : Bool) → ltZ (w .latest) m ≡ b
     → Best later f first (next + 1) (cond b (withLatest w next m) w .latest) (cond b (withLatest w next m) w .«latest_row»)
 late-step f first next w m e k true t = best-taken later lt-itself gt-ahead gt-behind f first next _ _ m e t k
@@ -103,7 +103,7 @@ kept-early : (b : Bool) (w : Window) (row : ℕ) (m : ℤ)
 kept-early true w row m = (refl, refl, refl)
 kept-early false w row m = (refl, refl, refl)
 
-right-step : (f : ℕ → Minute) (first next : ℕ) (w : Window) (m : ℤ) → f next ≡ At m → RightWindow f first next w
+right-step : (f : ℕ → Minute) (first next : ℕ) (w : Window) (m : ℤ) → f next ≡ Some m → RightWindow f first next w
     → RightWindow f first (next + 1) (laterIn (earlierIn w next m) next m)
 unfolding earlierIn laterIn
 right-step f first next w m e k =
@@ -114,7 +114,7 @@ right-step f first next w m e k =
     let q = kept-early d u next m in
     record {
       accepted = q .2 ∙ p .2 ∙ k .accepted;
-      none-refused = below-more (λ (r : ℕ). first ≤ r → f r ≡ Refused → ⊥) next (k .none-refused) (λ g z. not-both (f next) m e z);
+      none-refused = below-more (λ (r : ℕ). first ≤ r → f r ≡ Nothing → ⊥) next (k .none-refused) (λ g z. not-both (f next) m e z);
       early =
           subst (λ (x : ℤ). Best earlier f first (next + 1) x (cond d (withLatest u next m) u .«earliest_row»)) (sym (q .0))
           (subst (λ (x : ℕ). Best earlier f first (next + 1) (u .earliest) x) (sym (q .1)) (early-step f first next w m e (k .early) b refl));
@@ -127,13 +127,13 @@ right-step f first next w m e k =
 answers-step : (f : ℕ → Minute) (first next : ℕ) (w : Window) (x : Minute) → f next ≡ x → first ≤ next → Answers f first next w
     → Answers f first (next + 1) (seenOf w next x)
 unfolding seenOf
-answers-step f first next w Refused e h k = inl (refl, record { row = next; from = h; to = omega arith; is = e })
-answers-step f first next w (At m) e h (inl (r, s)) =
+answers-step f first next w Nothing e h k = inl (refl, record { row = next; from = h; to = omega arith; is = e })
+answers-step f first next w (Some m) e h (inl (r, s)) =
     inl (
       ap (λ (b : Bool). cond b (refusedWindow (w .first)) (laterIn (earlierIn w next m) next m) .refused) r,
       record { row = s .row; from = s .from; to = let y = s .to in omega arith; is = s .is },
     )
-answers-step f first next w (At m) e h (inr k) =
+answers-step f first next w (Some m) e h (inr k) =
     inr
     (subst (λ (b : Bool). RightWindow f first (next + 1) (cond b (refusedWindow (w .first)) (laterIn (earlierIn w next m) next m))) (sym (k .accepted))
     (right-step f first next w m e k))
@@ -170,8 +170,8 @@ first-kept w row m false false false r = (r, refl)
 
 seen-kept : (w : Window) (row : ℕ) (x : Minute) → w .ready ≡ true → (seenOf w row x .ready ≡ true) × (seenOf w row x .first ≡ w .first)
 unfolding seenOf earlierIn laterIn
-seen-kept w row Refused r = (refl, refl)
-seen-kept w row (At m) r = first-kept w row m (ltZ m (w .earliest)) (ltZ (cond (ltZ m (w .earliest)) (withEarliest w row m) w .latest) m) (w .refused) r
+seen-kept w row Nothing r = (refl, refl)
+seen-kept w row (Some m) r = first-kept w row m (ltZ m (w .earliest)) (ltZ (cond (ltZ m (w .earliest)) (withEarliest w row m) w .latest) m) (w .refused) r
 
 look-kept : (f : ℕ → Minute) (first : ℕ) (w : Window) (i k : ℕ) → w .ready ≡ true → w .first ≡ first
     → (lookOf f first w i k .ready ≡ true) × (lookOf f first w i k .first ≡ first)
@@ -181,8 +181,8 @@ look-kept f first w i (suc k) r e =
     look-kept f first (seenOf w (first + i) (f (first + i))) (i + 1) k (s .0) (s .1 ∙ e)
 
 begin-kept : (first : ℕ) (x : Minute) → (beginOf first x .ready ≡ true) × (beginOf first x .first ≡ first)
-begin-kept first Refused = (refl, refl)
-begin-kept first (At m) = (refl, refl)
+begin-kept first Nothing = (refl, refl)
+begin-kept first (Some m) = (refl, refl)
 
 looked-first : (f : ℕ → Minute) (first : ℕ) → (lookedOf f first .ready ≡ true) × (lookedOf f first .first ≡ first)
 unfolding lookedOf

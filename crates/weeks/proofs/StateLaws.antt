@@ -1,7 +1,7 @@
 -- The state holds the last seven rows of what went by, and its window is the one looked through afresh. Assumes nothing.
 use Rattle.prelude.proofs.Logic.{_≡_, refl, sym, ap, _∙_, Bool, cond, List, [], _∷_, _++_, ℕ, zero, suc, _+_, _-_, _≤_, _<_, arith, leb, ltb, length, length-append, ltb-true, ltb-false, leb-true, leb-false, lt-ltb, le-leb, lt-leb, cases}
 use Rattle.weeks.specs.declared.minute.Minute.{Minute}
-use Rattle.weeks.specs.declared.minute.Minute.the-variants.{Refused}
+use Rattle.weeks.specs.declared.minute.Minute.the-variants.{Nothing}
 use Rattle.weeks.specs.declared.week.Week.{Week}
 use Rattle.weeks.specs.Windows.{rowAt, lookedOf, windowOf}
 use Rattle.weeks.specs.State.{back, weekOf, pushedOf, lastWindowOf, windowIn}
@@ -21,10 +21,10 @@ one-more l m = length-append l (m ∷ [])
 
 -- ---- from the end
 back-is : (l : List Minute) (k : ℕ) → k ≤ length l → back l k ≡ rowAt l (length l - k)
-back-is l k h = ap (λ (b : Bool). cond b (rowAt l (length l - k)) Refused) (le-leb k (length l) h)
+back-is l k h = ap (λ (b : Bool). cond b (rowAt l (length l - k)) Nothing) (le-leb k (length l) h)
 
-back-none : (l : List Minute) (k : ℕ) → length l < k → back l k ≡ Refused
-back-none l k h = ap (λ (b : Bool). cond b (rowAt l (length l - k)) Refused) (lt-leb k (length l) h)
+back-none : (l : List Minute) (k : ℕ) → length l < k → back l k ≡ Nothing
+back-none l k h = ap (λ (b : Bool). cond b (rowAt l (length l - k)) Nothing) (lt-leb k (length l) h)
 
 back-push : (l : List Minute) (m : Minute) (k j : ℕ) → 1 ≤ k → j ≡ k + 1 → back l k ≡ back (l ++ (m ∷ [])) j
 back-push l m k j h e =

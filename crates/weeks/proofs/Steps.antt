@@ -1,7 +1,7 @@
 -- The steps of the search, by the test that was taken. Assumes nothing.
 use Rattle.prelude.proofs.Logic.{_≡_, sym, ap, _∙_, true, false, ℕ, ℤ, ltZ}
 use Rattle.weeks.specs.declared.minute.Minute.{Minute}
-use Rattle.weeks.specs.declared.minute.Minute.the-variants.{At}
+use Rattle.weeks.specs.declared.minute.Minute.the-variants.{Some}
 use Rattle.weeks.specs.declared.window.Window.{Window}
 use Rattle.weeks.specs.Windows.{withEarliest, withLatest, earlierIn, laterIn, seenOf}
 
@@ -24,7 +24,7 @@ unfolding laterIn
 latest-left w row m x e p q t = let t' : ltZ (w .latest) m ≡ false = rw (sym p, sym q) t in rw t'
 
 -- a row with a minute, where none before it is refused
-pub both-seen : (w u v : Window) (row : ℕ) (m x : ℤ) (n : Minute) → n ≡ At m → x ≡ m → w .refused ≡ false
+pub both-seen : (w u v : Window) (row : ℕ) (m x : ℤ) (n : Minute) → n ≡ Some m → x ≡ m → w .refused ≡ false
     → u ≡ earlierIn w row x → v ≡ laterIn u row x → v ≡ seenOf w row n
 unfolding seenOf
 both-seen w u v row m x n a b r p q =

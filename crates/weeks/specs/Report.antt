@@ -12,14 +12,14 @@ use Rattle.schedule.specs.declared.prayer_times.Worked.{Worked}
 use Rattle.schedule.specs.declared.prayer_times.Worked.the-variants as worked
 use Rattle.schedule.specs.Times.{startOf}
 use Rattle.weeks.specs.declared.minute.Minute.{Minute}
-use Rattle.weeks.specs.declared.minute.Minute.the-variants.{At, Refused}
+use Rattle.weeks.specs.declared.minute.Minute.the-variants.{Some, Nothing}
 use Rattle.weeks.specs.Lines.{reportOf}
 
 -- "Fajr by the clock, in minutes after the row's own 0h UTC .. The minute is the second count divided by 60 and rounded down, also below zero." Tag 16
 -- has no part in it.
 unfoldable pub minuteIn : Order → ℕ → Worked → Minute
-minuteIn o row (worked.Times t) = At (floorQuot (t .fajr -ℤ startOf (rowDateOf (o .date) row)) 60)
-minuteIn o row (worked.Refused r) = Refused
+minuteIn o row (worked.Times t) = Some (floorQuot (t .fajr -ℤ startOf (rowDateOf (o .date) row)) 60)
+minuteIn o row (worked.Refused r) = Nothing
 
 abbrev pub rowMinute : Order → ℕ → Minute
 rowMinute o row = minuteIn o row (workRowOf o row)

@@ -9,14 +9,14 @@ use Rattle.integers.specs.Quotients.{floorQuot}
 use Rattle.schedule.specs.declared.prayer_times.FajrAlone.{FajrAlone}
 use Rattle.schedule.specs.declared.prayer_times.FajrAlone.the-variants as alone
 use Rattle.weeks.specs.declared.minute.Minute.{Minute}
-use Rattle.weeks.specs.declared.minute.Minute.the-variants.{At, Refused}
+use Rattle.weeks.specs.declared.minute.Minute.the-variants.{Some, Nothing}
 use Rattle.weeks.specs.declared.week.Week.{Week}
 use Rattle.weeks.specs.declared.window.Window.{Window}
 use Rattle.weeks.specs.Windows.{rowAt, noWindow, beginOf, seenOf}
 
 -- the row k from the end; refused where there is none
 abbrev pub back : List Minute → ℕ → Minute
-back l k = cond (leb k (length l)) (rowAt l (length l - k)) Refused
+back l k = cond (leb k (length l)) (rowAt l (length l - k)) Nothing
 
 -- the state that holds the last seven of a list
 unfoldable pub weekOf : List Minute → Week
@@ -71,5 +71,5 @@ windowIn w = cond (ltb (w .rows) 7) noWindow (lastWindowOf (w .rows - 7) w)
 
 -- a row's minute from its Fajr by itself
 unfoldable pub minuteFrom : FajrAlone → Minute
-minuteFrom (alone.At seconds) = At (floorQuot seconds 60)
-minuteFrom alone.Refused = Refused
+minuteFrom (alone.Some seconds) = Some (floorQuot seconds 60)
+minuteFrom alone.Nothing = Nothing

@@ -1,4 +1,4 @@
--- Document 02, request 11: a window of seven rows, looked through afresh.
+-- Document 02, request 11: "The answers are those of looking through each window afresh."
 use Prim.Native.Nat.{ℕ, zero, suc, _+_}
 use mathlib.Core.Bool.{true, false, cond}
 use mathlib.Core.List.{List, [], _∷_}
@@ -7,12 +7,12 @@ use lib.IntN.{ℤ, pos}
 use lib.Signed.{ltZ}
 use lib.ListN.{length}
 use Rattle.weeks.specs.declared.minute.Minute.{Minute}
-use Rattle.weeks.specs.declared.minute.Minute.the-variants.{At, Refused}
+use Rattle.weeks.specs.declared.minute.Minute.the-variants.{Some, Nothing}
 use Rattle.weeks.specs.declared.window.Window.{Window}
 
 -- the row at a place, from 0
 abbrev pub rowAt : List Minute → ℕ → Minute
-rowAt [] n = Refused
+rowAt [] n = Nothing
 rowAt (m ∷ l) zero = m
 rowAt (m ∷ l) (suc n) = rowAt l n
 
@@ -28,10 +28,10 @@ foundWindow first early earlyRow late lateRow =
 
 -- its first row by itself
 abbrev pub beginOf : ℕ → Minute → Window
-beginOf first Refused = refusedWindow first
-beginOf first (At m) = foundWindow first m first m first
+beginOf first Nothing = refusedWindow first
+beginOf first (Some m) = foundWindow first m first m first
 
--- a row more: a minute before the earliest is the earliest, one after the latest the latest
+-- a row more: "the earliest and latest Fajr .., and the first row having each", so that an equal minute changes nothing
 abbrev pub withEarliest : Window → ℕ → ℤ → Window
 withEarliest w row m =
     record { ready = w .ready; refused = w .refused; first = w .first; earliest = m; «earliest_row» = row; latest = w .latest; «latest_row» = w .«latest_row» }
@@ -46,16 +46,17 @@ earlierIn w row m = cond (ltZ m (w .earliest)) (withEarliest w row m) w
 unfoldable pub laterIn : Window → ℕ → ℤ → Window
 laterIn w row m = cond (ltZ (w .latest) m) (withLatest w row m) w
 
+-- "a window with a refused day" is refused
 unfoldable pub seenOf : Window → ℕ → Minute → Window
-seenOf w row Refused = refusedWindow (w .first)
-seenOf w row (At m) = cond (w .refused) (refusedWindow (w .first)) (laterIn (earlierIn w row m) row m)
+seenOf w row Nothing = refusedWindow (w .first)
+seenOf w row (Some m) = cond (w .refused) (refusedWindow (w .first)) (laterIn (earlierIn w row m) row m)
 
 -- k rows more, from row first + i on
 abbrev pub lookOf : (ℕ → Minute) → ℕ → Window → ℕ → ℕ → Window
 lookOf f first w i zero = w
 lookOf f first w i (suc k) = lookOf f first (seenOf w (first + i) (f (first + i))) (i + 1) k
 
--- the seven rows from `first` on
+-- "every run of seven successive rows", from `first` on
 unfoldable pub lookedOf : (ℕ → Minute) → ℕ → Window
 lookedOf f first = lookOf f first (beginOf first (f first)) 1 6
 

@@ -9,7 +9,7 @@ use text::decimal::put_decimal;
 use text::put::put;
 use text::signed::put_signed;
 
-// A blank and a minute; answers where they end.
+// Writes a blank and a minute, and returns where they end.
 fn put_minute(line: &mut [u8], at: usize, minute: i64) -> usize
     requires { ⌜ (at + 22 ≤ length (now line)) × (length (now line) ≤ 128) ⌝ }
     ensures { λ r. ⌜ r ≡ at + length (minuteText minute) ⌝ }
@@ -20,7 +20,7 @@ fn put_minute(line: &mut [u8], at: usize, minute: i64) -> usize
     end + put_signed(&mut line[..], end, minute)
 }
 
-// A blank and a row; answers where they end.
+// Writes a blank and a row, and returns where they end.
 fn put_row(line: &mut [u8], at: usize, row: u32) -> usize
     requires { ⌜ (at + 21 ≤ length (now line)) × (length (now line) ≤ 128) ⌝ }
     ensures { λ r. ⌜ r ≡ at + length (rowNumberText row) ⌝ }
@@ -31,7 +31,7 @@ fn put_row(line: &mut [u8], at: usize, row: u32) -> usize
     end + put_decimal(&mut line[..], end, row as u64)
 }
 
-// A minute and its row; answers where they end.
+// Writes a minute and its row, and returns where they end.
 fn put_pair(line: &mut [u8], at: usize, minute: i64, row: u32) -> usize
     requires { ⌜ (at + 43 ≤ length (now line)) × (length (now line) ≤ 128) ⌝ }
     ensures { λ r. ⌜ r ≡ at + length (pairText minute row) ⌝ }
@@ -63,7 +63,7 @@ fn refused_line(line: &mut [u8], window: Window) -> usize
     end + 9
 }
 
-// The window's line at the front of 128 bytes, which no line exceeds; answers its length.
+// Writes the window's line at the front of 128 bytes, which no line exceeds, and returns its length.
 fn make_line(line: &mut [u8], window: Window) -> usize
     requires { ⌜ length (now line) ≡ 128 ⌝ }
     ensures { λ r. ⌜ r ≡ length (lineOf window) ⌝ }
@@ -78,7 +78,7 @@ fn make_line(line: &mut [u8], window: Window) -> usize
     0
 }
 
-// The window's line as `put` does; nothing where it is not ready. Answers the line's length.
+// Writes the window's line as `put` does, or nothing if it is not ready, and returns the line's length.
 pub fn put_window(buffer: &mut [u8], at: usize, window: Window) -> usize
     ensures { λ r. ⌜ r ≡ length (lineOf window) ⌝ }
     ensures { λ _. ⌜ now (buffer .exit) ≡ putOf (now (buffer .entry)) at (lineOf window) ⌝ }

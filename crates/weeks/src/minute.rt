@@ -8,8 +8,8 @@ use schedule::prayer_times::FajrAlone;
 
 // In minutes after the row's own 0h UTC, or a refused day.
 pub enum Minute {
-    At(i64),
-    Refused,
+    Some(i64),
+    Nothing,
 }
 
 // Whole minutes, rounded down, also below zero.
@@ -23,7 +23,7 @@ pub fn minute_of(fajr: FajrAlone) -> Minute
     ensures { λ r. ⌜ r ≡ minuteFrom fajr ⌝ }
 {
     match fajr {
-        FajrAlone::At(seconds) => Minute::At(whole_minutes(seconds)),
-        FajrAlone::Refused => Minute::Refused,
+        FajrAlone::Some(seconds) => Minute::Some(whole_minutes(seconds)),
+        FajrAlone::Nothing => Minute::Nothing,
     }
 }

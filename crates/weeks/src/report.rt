@@ -58,7 +58,7 @@ fn put_report(buffer: &mut [u8], order: Order) -> usize
     put_windows(&mut buffer[..], order)
 }
 
-// Answers the length of the text, which may be 0. A buffer that might not hold it, under WEEK_BYTES, is left as it was, and the answer is 0.
+// Returns the length of the text, which may be 0. A buffer under WEEK_BYTES, which might not hold it, is left as it was, and 0 is returned.
 pub fn write_week(order: &[u8], buffer: &mut [u8]) -> usize
     ensures { λ r. ⌜ r ≡ printedLength longestWeek (weekText (now (order .entry))) (now (buffer .entry)) ⌝ }
     ensures { λ _. ⌜ now (buffer .exit) ≡ printedBuffer longestWeek (weekText (now (order .entry))) (now (buffer .entry)) ⌝ }

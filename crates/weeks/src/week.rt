@@ -58,13 +58,13 @@ impl Week {
     {
         Week {
             rows: 0,
-            a: Minute::Refused,
-            b: Minute::Refused,
-            c: Minute::Refused,
-            d: Minute::Refused,
-            e: Minute::Refused,
-            f: Minute::Refused,
-            g: Minute::Refused,
+            a: Minute::Nothing,
+            b: Minute::Nothing,
+            c: Minute::Nothing,
+            d: Minute::Nothing,
+            e: Minute::Nothing,
+            f: Minute::Nothing,
+            g: Minute::Nothing,
         }
     }
 

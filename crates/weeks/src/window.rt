@@ -46,7 +46,7 @@ pub fn begin(first: u32, minute: Minute) -> Window
     ensures { λ r. ⌜ r ≡ beginOf first minute ⌝ }
 {
     match minute {
-        Minute::At(m) => Window {
+        Minute::Some(m) => Window {
             ready: true,
             refused: false,
             first: first,
@@ -55,7 +55,7 @@ pub fn begin(first: u32, minute: Minute) -> Window
             latest: m,
             latest_row: first,
         },
-        Minute::Refused => refused(first),
+        Minute::Nothing => refused(first),
     }
 }
 
@@ -87,12 +87,12 @@ pub fn seen(window: Window, row: u32, minute: Minute) -> Window
     ensures { λ r. ⌜ r ≡ seenOf window row minute ⌝ }
 {
     match minute {
-        Minute::At(m) => {
+        Minute::Some(m) => {
             if window.refused {
                 return refused(window.first);
             }
             with_latest(with_earliest(window, row, m), row, m)
         }
-        Minute::Refused => refused(window.first),
+        Minute::Nothing => refused(window.first),
     }
 }

@@ -96,6 +96,8 @@ fn main() {
     let mut order = Vec::new();
     std::io::stdin().read_to_end(&mut order).unwrap();
     let fields = fields(&order);
+    let chosen = |tag| fields.get(&tag).is_some_and(|value: &Vec<u8>| value[0] == 1);
+    rules::choose(chosen(15), chosen(17));
     let (place, parameters) = (Coordinates::new(coordinate(&fields, 4, 18), coordinate(&fields, 5, 19)), parameters(&fields));
     let first = &fields[&2];
     let first = NaiveDate::from_ymd_opt(signed(first) as i32, first[2] as u32, first[3] as u32).unwrap();

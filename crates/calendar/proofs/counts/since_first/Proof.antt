@@ -1,5 +1,5 @@
 use Rattle.prelude.proofs.Logic.{lit<}
-use Rattle.calendar.specs.Answers.{sinceFirstOf}
+use Rattle.calendar.specs.Counted.{sinceFirstOf}
 use Rattle.calendar.proofs.Counting.{first-below, first-above, shift-fits, shift-cast, first-within}
 use Rattle.calendar.proofs.counts.since_first as this
 

@@ -1,6 +1,6 @@
-use Rattle.prelude.proofs.Logic.{sym, ap, _∙_, ℤ, pos, negsuc, ltZ, w64}
+use Rattle.prelude.proofs.Logic.{sym, ap, _∙_, ℤ, ltZ, w64}
 use Rattle.integers.proofs.Integers.{lt-yes, lt-no, to-le, to-not-le, read}
-use Rattle.calls.specs.Calls.{instantFits}
+use Rattle.calls.specs.Calls.{leastSeconds, mostSeconds, instantFits}
 use Rattle.calls.proofs.in_force.instant_fits as this
 
 returns : this.Tie.Need-returns
@@ -9,7 +9,7 @@ returns c =
     let t = c .before in
     let s = t .args .seconds in
     let r = read w64 s (t .fits .seconds) in
-    let low = to-not-le (negsuc 999999999999) s (lt-yes s (negsuc 999999999999) (sym (ap (λ (z : ℤ). ltZ z (negsuc 999999999999)) r) ∙ c .if1 .taken)) in
+    let low = to-not-le leastSeconds s (lt-yes s leastSeconds (sym (ap (λ (z : ℤ). ltZ z leastSeconds) r) ∙ c .if1 .taken)) in
     simp low
 
 returns-2 : this.Tie.Need-returns-2
@@ -18,8 +18,8 @@ returns-2 c =
     let t = c .before .before in
     let s = t .args .seconds in
     let r = read w64 s (t .fits .seconds) in
-    let low = to-le (negsuc 999999999999) s (lt-no s (negsuc 999999999999) (sym (ap (λ (z : ℤ). ltZ z (negsuc 999999999999)) r) ∙ c .before .if1 .left)) in
-    let high = to-not-le s (pos 1000000000000) (lt-yes (pos 1000000000000) s (sym (ap (ltZ (pos 1000000000000)) r) ∙ c .if2 .taken)) in
+    let low = to-le leastSeconds s (lt-no s leastSeconds (sym (ap (λ (z : ℤ). ltZ z leastSeconds) r) ∙ c .before .if1 .left)) in
+    let high = to-not-le s mostSeconds (lt-yes mostSeconds s (sym (ap (ltZ mostSeconds) r) ∙ c .if2 .taken)) in
     simp (low, high)
 
 returns-3 : this.Tie.Need-returns-3
@@ -28,8 +28,8 @@ returns-3 c =
     let t = c .before .before in
     let s = t .args .seconds in
     let r = read w64 s (t .fits .seconds) in
-    let low = to-le (negsuc 999999999999) s (lt-no s (negsuc 999999999999) (sym (ap (λ (z : ℤ). ltZ z (negsuc 999999999999)) r) ∙ c .before .if1 .left)) in
-    let high = to-le s (pos 1000000000000) (lt-no (pos 1000000000000) s (sym (ap (ltZ (pos 1000000000000)) r) ∙ c .if2 .left)) in
+    let low = to-le leastSeconds s (lt-no s leastSeconds (sym (ap (λ (z : ℤ). ltZ z leastSeconds) r) ∙ c .before .if1 .left)) in
+    let high = to-le s mostSeconds (lt-no mostSeconds s (sym (ap (ltZ mostSeconds) r) ∙ c .if2 .left)) in
     simp (low, high)
 
 pub instant-fits-spec : {M : Type 1} → this.Statement.statement M

@@ -1,76 +1,84 @@
--- `fields::one_pass::pass` meets its contract. The invariant: the walk has come to `at`, nothing is refused before it, and both arrays hold
--- what lies before it.
-use Rattle.prelude.proofs.Logic.{_≡_, sym, _∙_, _-_, arith, length, needs, now}
-use Rattle.fields.specs.Fields.{lengthAt}
-use Rattle.fields.proofs.Collecting.{Collected, collect-first, fault-here, refused-here, nothing-refused, collect-room, collect-short, collect-on, collect-all, checked-not, checked-all}
+-- `fields::one_pass::pass` meets its contract. The invariant: with what was collected, which says the tags seen, both passes of the definition answer
+-- from here on what they answer from the start.
+use Rattle.prelude.proofs.Logic.{_≡_, sym, ap, _∙_, ℕ, _-_, arith, length, needs, now}
+use Rattle.refusals.specs.Refusals.{refusal}
+use Rattle.fields.specs.Fields.{lengthAt, longestOrder, faultOf}
+use Rattle.fields.proofs.FieldsLaws.{Good, fault-none, good-row, good-short}
+use Rattle.fields.proofs.Collecting.{Collecting, seenIn, seen-collected, collect-first, fault-is, refused-here, nothing-refused, collected-on, collected-all, check-walk, checked-not, checked-all}
 use Rattle.fields.proofs.one_pass.pass as this
 
 abbrev Inv-loop : this.Tie.InvT-loop
-Inv-loop order starts₀ lengths₀ at₀ starts lengths at = Collected order at starts lengths
+Inv-loop order starts₀ lengths₀ at₀ starts lengths at = Collecting order at starts lengths
 
 abbrev μ-loop : this.Tie.MeasureT-loop
 μ-loop order starts₀ lengths₀ at₀ starts lengths at = length order - at
 
+-- the field's offset, and before it the loop's start and the function's
+abbrev in-loop : this.Tie.After-fault Inv-loop μ-loop → this.Tie.In-loop Inv-loop μ-loop
+in-loop f = f .before .before .before .before .before
+
+abbrev start : this.Tie.After-fault Inv-loop μ-loop → this.Tie.Start Inv-loop μ-loop
+start f = in-loop f .before .before .before
+
+size-here : (f : this.Tie.After-fault Inv-loop μ-loop)
+    → f .before .before .before .unsigned .result ≡ lengthAt (now (start f .args .order)) (in-loop f .before .loop .at)
+unfolding lengthAt
+size-here f = f .before .before .before .unsigned .ensures .0
+
+-- what refuses the field is what the definition says
+fault-holds : (f : this.Tie.After-fault Inv-loop μ-loop) → let l = in-loop f .before .loop in
+    f .fault .result ≡ faultOf (now (start f .args .order)) (seenIn (l .starts)) (l .at)
+fault-holds f =
+    let tag = f .before .before .before .before .byte in
+    let l = in-loop f .before .loop in
+    fault-is (now (start f .args .order)) (l .at) (seenIn (l .starts)) (tag .result) (f .before .before .before .unsigned .result) (f .fault .result)
+    (f .before .stands .result) (tag .ensures .0) (size-here f) (f .before .stands .ensures ∙ seen-collected (l .starts) (tag .result)) (f .fault .ensures)
+
+good : (f : this.Tie.After-fault Inv-loop μ-loop) → f .fault .result ≡ 0 → Good (now (start f .args .order)) (in-loop f .before .loop .at)
+good f none =
+    let l = in-loop f .before .loop in
+    fault-none (now (start f .args .order)) (seenIn (l .starts)) (l .at) (sym (fault-holds f) ∙ none) .0
+
 returns : this.Tie.Need-returns Inv-loop μ-loop
 returns c =
     let f = c .before .before in
-    let t = f .before in
-    let b = t .before .before .before in
-    let l = b .before .before in
-    let s = now (l .before .before .args .order) in
-    let e = fault-here s (l .loop .at) (l .loop .starts) (l .loop .lengths) (l .loop .inv) (b .byte .result) (t .before .before .unsigned .result) (f .fault .result) (t .stands .result) (b .byte .ensures .0) (t .before .before .unsigned .ensures .0) (t .stands .ensures) (f .fault .ensures) in
+    let l = in-loop f .before .loop in
+    let s = now (start f .args .order) in
+    let e = fault-holds f in
+    let stop = refused-here s (l .at) (l .starts) (l .lengths) (l .inv) (in-loop f .loop-test .taken) (λ z. c .before .if1 .taken (e ∙ z)) in
     c .refused .ensures
-    ∙ checked-not s (f .fault .result) (l .loop .at)
-    (refused-here s (l .loop .at) (l .loop .starts) (l .loop .lengths) (l .loop .inv) (f .fault .result) (b .before .loop-test .taken) e (c .before .if1 .taken))
-    (c .before .if1 .taken)
+    ∙ checked-not s (f .fault .result) (l .at) (check-walk s (start f .pre) ∙ stop ∙ ap (λ (n : ℕ). refusal n (l .at)) (sym e)) (c .before .if1 .taken)
 
 room : this.Tie.Need-array-write-starts Inv-loop μ-loop
 room c =
     let f = c .before in
-    let t = f .before in
-    let u = t .before .before in
-    let b = u .before in
-    let l = b .before .before in
-    let s = now (l .before .before .args .order) in
-    let good = sym (fault-here s (l .loop .at) (l .loop .starts) (l .loop .lengths) (l .loop .inv) (b .byte .result) (u .unsigned .result) (f .fault .result) (t .stands .result) (b .byte .ensures .0) (u .unsigned .ensures .0) (t .stands .ensures) (f .fault .ensures)) ∙ c .if1 .left in
-    rw (b .byte .ensures .0) (collect-room s (l .loop .at) (l .loop .starts) (l .loop .lengths) (l .loop .inv) (b .before .loop-test .taken) good)
+    rw (f .before .before .before .before .byte .ensures .0) (good-row (now (start f .args .order)) (in-loop f .before .loop .at) (good f (c .if1 .left)))
 
 short : this.Tie.Need-cast-lengths Inv-loop μ-loop
-unfolding lengthAt
 short c =
     let f = c .before in
-    let t = f .before in
-    let u = t .before .before in
-    let b = u .before in
-    let l = b .before .before in
-    let s = now (l .before .before .args .order) in
-    let good = sym (fault-here s (l .loop .at) (l .loop .starts) (l .loop .lengths) (l .loop .inv) (b .byte .result) (u .unsigned .result) (f .fault .result) (t .stands .result) (b .byte .ensures .0) (u .unsigned .ensures .0) (t .stands .ensures) (f .fault .ensures)) ∙ c .if1 .left in
-    let n = collect-short s (l .loop .at) (l .loop .starts) (l .loop .lengths) (l .loop .inv) (b .before .loop-test .taken) good in
-    let z : u .unsigned .result ≡ lengthAt s (l .loop .at) = u .unsigned .ensures .0 in
-    omega arith
+    let n = good-short (now (start f .args .order)) (in-loop f .before .loop .at) (good f (c .if1 .left)) in
+    omega (arith, n, size-here f)
 
 loop-again : this.Tie.Need-loop-again Inv-loop μ-loop
-unfolding lengthAt
 loop-again c =
     let f = c .before in
-    let t = f .before in
-    let u = t .before .before in
-    let b = u .before in
-    let l = b .before .before in
-    let s = now (l .before .before .args .order) in
-    let good = sym (fault-here s (l .loop .at) (l .loop .starts) (l .loop .lengths) (l .loop .inv) (b .byte .result) (u .unsigned .result) (f .fault .result) (t .stands .result) (b .byte .ensures .0) (u .unsigned .ensures .0) (t .stands .ensures) (f .fault .ensures)) ∙ c .if1 .left in
-    collect-on s (l .loop .at) (l .loop .starts) (l .loop .lengths) (l .loop .inv) (b .before .loop-test .taken) good (b .byte .result) (u .unsigned .result) (b .byte .ensures .0) (u .unsigned .ensures .0)
+    let l = in-loop f .before .loop in
+    rw (f .before .before .before .before .byte .ensures .0, size-here f)
+    (collected-on (now (start f .args .order)) (l .at) (l .starts) (l .lengths) (l .inv) (in-loop f .loop-test .taken) (sym (fault-holds f) ∙ c .if1 .left))
 
 returns-2 : this.Tie.Need-returns-2 Inv-loop μ-loop
 returns-2 c =
-    let l = c .before .before in
-    let s = now (l .before .before .args .order) in
+    let l = c .before .before .loop in
+    let first = c .before .before .before .before in
+    let s = now (first .args .order) in
+    let ended = c .before .loop-test .left in
     rw (c .none .ensures)
-    (checked-all s _ (nothing-refused s (l .loop .at) (l .loop .starts) (l .loop .lengths) (l .loop .inv) (c .before .loop-test .left))
-    (collect-all s (l .loop .at) (l .loop .starts) (l .loop .lengths) (l .loop .inv) (c .before .loop-test .left)))
+    (checked-all s _ (check-walk s (first .pre) ∙ nothing-refused s (l .at) (l .starts) (l .lengths) (l .inv) ended)
+    (collected-all s (l .at) (l .starts) (l .lengths) (l .inv) ended))
 
 pub pass-spec : {M : Type 1} → this.Statement.statement M
-pass-spec = this.Tie.close (this.Tie.spec Inv-loop μ-loop (λ c. collect-first (now (c .before .args .order)) (c .before .pre)) (λ c κs. search needs)
+pass-spec = this.Tie.close (this.Tie.spec Inv-loop μ-loop (λ c. collect-first (now (c .before .args .order))) (λ c κs. search needs)
     (λ c. search needs) (λ c κs. search needs) (λ c. sym (c .before .before .before .before .loop .inv .sizes .0)) (λ c κs. search needs)
     (λ c. search needs) (λ c κs. search needs) (λ c. search needs) (λ c κs. search needs) returns (λ c. search needs) (λ c. search needs)
     (λ c. search needs) (λ c. search needs) room short (λ c. search needs) room (λ c. search needs) (λ c. search needs) (λ c. search needs)

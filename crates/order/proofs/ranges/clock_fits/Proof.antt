@@ -8,4 +8,4 @@ unfolding clockFits
 returns c = let f : SFits w32 (c .signed .result) = search needs in cc (toZ-ofZ f)
 
 pub clock-fits-spec : {M : Type 1} → this.Statement.statement M
-clock-fits-spec = this.Tie.close (this.Tie.spec (λ c κs. tt) returns)
+clock-fits-spec = this.Tie.close (this.Tie.spec (λ c κs. tt) (λ c. search needs) returns)

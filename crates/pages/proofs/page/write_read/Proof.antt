@@ -1,6 +1,6 @@
 use Rattle.prelude.proofs.Logic.{_≡_, sym, ap, _∙_, _+_, _-_, _*_, _/_, arith, length, needs, now}
 use Rattle.pages.specs.Answers.{refusedOf, pieceIn}
-use Rattle.pages.proofs.AnswerLaws.{rows-none, rows-answered}
+use Rattle.pages.proofs.AnswerLaws.{same-answer, same-buffer, rows-none, rows-answered}
 use Rattle.pages.proofs.PageLaws.{Written, piece-none, piece-written}
 use Rattle.pages.proofs.RowsLaws.{rows-length}
 use Rattle.pages.proofs.page.write_read as this
@@ -9,8 +9,8 @@ returns : this.Tie.Need-returns
 returns c =
     let a = c .before .before .before .before .before .args in
     let none = piece-none (a .order) (a .page) (a .first) (length (now (a .scratch)) / 39) (omega (arith, c .before .before .before .rows-on .ensures, c .before .before .if1 .taken)) in
-    let n = rows-none (pieceIn (a .page) (a .first) (now (a .scratch)) (a .order)) (now (a .scratch)) none in
-    (c .refused .ensures ∙ ap refusedOf (c .before .lacks-row .ensures) ∙ n .0, n .1)
+    let n = sym (rows-none (pieceIn (a .page) (a .first) (now (a .scratch)) (a .order)) (now (a .scratch)) none) in
+    (c .refused .ensures ∙ ap refusedOf (c .before .lacks-row .ensures) ∙ same-answer n, same-buffer n)
 
 -- what is written of a page that has the row
 piece-holds : (c : this.Tie.After-least) → let a = c .before .before .before .before .args in

@@ -1,6 +1,6 @@
-use Rattle.prelude.proofs.Logic.{ap, _∙_, needs, now}
+use Rattle.prelude.proofs.Logic.{sym, ap, _∙_, needs, now}
 use Rattle.pages.specs.Answers.{refusedOf, oneRow}
-use Rattle.pages.proofs.AnswerLaws.{rows-none, rows-answered, row-there, row-lacking, row-one}
+use Rattle.pages.proofs.AnswerLaws.{same-answer, same-buffer, rows-none, rows-answered, row-there, row-lacking, row-one}
 use Rattle.pages.proofs.row.write_read as this
 
 returns : this.Tie.Need-returns
@@ -13,8 +13,8 @@ returns c =
 returns-2 : this.Tie.Need-returns-2
 returns-2 c =
     let a = c .before .before .before .before .before .args in
-    let n = rows-none (oneRow (a .row) (a .order)) (now (a .buffer)) (row-lacking (a .order) (a .row) (c .before .before .if1 .left)) in
-    (c .refused .ensures ∙ ap refusedOf (c .before .lacks-row .ensures) ∙ n .0, n .1)
+    let n = sym (rows-none (oneRow (a .row) (a .order)) (now (a .buffer)) (row-lacking (a .order) (a .row) (c .before .before .if1 .left))) in
+    (c .refused .ensures ∙ ap refusedOf (c .before .lacks-row .ensures) ∙ same-answer n, same-buffer n)
 
 pub write-read-spec : {M : Type 1} → this.Statement.statement M
 write-read-spec =

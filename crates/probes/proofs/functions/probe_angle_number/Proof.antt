@@ -1,7 +1,4 @@
-use Rattle.prelude.proofs.Logic.{ap, Bool}
-use lib.Ieee.{Float}
 use Rattle.solar.proofs.SharedLaws.{angle-shared}
-use Rattle.unit.specs.declared.Angle.{Angle}
 use Rattle.unit.specs.Unit.{angleOf}
 use Rattle.probes.specs.Functions.{probeSunOf}
 use Rattle.probes.proofs.functions.probe_angle_number as this
@@ -10,7 +7,7 @@ returns : this.Tie.Need-returns
 returns c =
     let a = c .before .before .before .args in
     simp (c .angle-number .ensures, c .before .new .ensures, c .before .before .course .ensures)
-    (ap (λ (number : Angle → Bool → Float). number (angleOf (a .angle)) (a .after-transit)) (angle-shared (probeSunOf (a .year) (a .month) (a .day) (a .latitude) (a .longitude))))
+    (angle-shared (probeSunOf (a .year) (a .month) (a .day) (a .latitude) (a .longitude)) (angleOf (a .angle)) (a .after-transit))
 
 pub probe-angle-number-spec : {M : Type 1} → this.Statement.statement M
 probe-angle-number-spec = this.Tie.close (this.Tie.spec (λ c κs. tt) (λ c κs. tt) (λ c κs. tt) returns)

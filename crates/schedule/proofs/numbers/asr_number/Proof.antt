@@ -1,12 +1,10 @@
 use Rattle.prelude.proofs.Logic.{_≡_, ap, _∙_, ℤ, needs, w32}
 use lib.Ieee.{binary64, ofInt}
 use Rattle.integers.proofs.Ranges.{readBack}
-use Rattle.schedule.specs.Numbers.{asrNumberOf}
 use Rattle.solar.specs.Shared.{courseAfternoonNumberOf}
 use Rattle.schedule.proofs.numbers.asr_number as this
 
 returns : this.Tie.Need-returns
-unfolding asrNumberOf
 returns c =
     let t = c .before .before .before in
     let k : readBack w32 (c .before .before .shadow .result) ≡ c .before .before .shadow .result = search needs in

@@ -1,5 +1,6 @@
 use Rattle.prelude.proofs.Logic.{refl, sym, ap, subst, _∙_, ℕ, _<_, arith, length, needs, now}
 use Rattle.sentences.specs.Guess.{none}
+use Rattle.sentences.specs.Sentences.{SentenceCall}
 use Rattle.sentences.proofs.Making.{known-by-sentence, unknown-by-sentence, line-of, writes, writes-unknown, writes-no-room}
 use Rattle.sentences.proofs.sentence.write_sentence as this
 
@@ -7,16 +8,16 @@ returns : this.Tie.Need-returns
 returns c =
     let a = c .before .before .before .before .before .args in
     let k = unknown-by-sentence (a .number) (a .place) (sym (c .before .before .put-sentence .ensures .0) ∙ c .before .if1 .taken) in
-    let w = writes-unknown (a .number) (a .place) (now (a .buffer)) k in
-    (c .refuse .ensures ∙ w .0, w .1)
+    let w = sym (writes-unknown (a .number) (a .place) (now (a .buffer)) k) in
+    (c .refuse .ensures ∙ ap (λ (call : SentenceCall). call .answer) w, ap (λ (call : SentenceCall). call .buffer) w)
 
 returns-2 : this.Tie.Need-returns-2
 returns-2 c =
     let a = c .before .before .before .before .before .before .args in
     let s = c .before .before .before .put-sentence in
     let k = known-by-sentence (a .number) (a .place) (λ z. c .before .before .if1 .left (s .ensures .0 ∙ z)) in
-    let w = writes-no-room (a .number) (a .place) (now (a .buffer)) k (subst (λ (m : ℕ). length (now (a .buffer)) < m) (s .ensures .0) (c .before .if2 .taken)) in
-    (c .refuse2 .ensures ∙ w .0, w .1)
+    let w = sym (writes-no-room (a .number) (a .place) (now (a .buffer)) k (subst (λ (m : ℕ). length (now (a .buffer)) < m) (s .ensures .0) (c .before .if2 .taken))) in
+    (c .refuse2 .ensures ∙ ap (λ (call : SentenceCall). call .answer) w, ap (λ (call : SentenceCall). call .buffer) w)
 
 array-share-prefix-line : this.Tie.Need-array-share-prefix-line
 array-share-prefix-line c =
@@ -48,7 +49,8 @@ returns-3 c =
     let h : a .place < none = search needs in
     let l = line-of _ (s .last .0) (a .number) (a .place) (s .result) (s .ensures .0) (s .ensures .1) refl h in
     let k = known-by-sentence (a .number) (a .place) (λ z. c .before .before .before .before .before .before .if1 .left (s .ensures .0 ∙ z)) in
-    (writes (a .number) (a .place) (s .result) (now (a .buffer)) k (l .ends) (c .before .before .before .before .before .if2 .left), rw (l .text) at (c .before .before .put .ensures))
+    let w = sym (writes (a .number) (a .place) (s .result) (now (a .buffer)) k (l .ends) (c .before .before .before .before .before .if2 .left)) in
+    (ap (λ (call : SentenceCall). call .answer) w, rw (l .text) at (c .before .before .put .ensures) ∙ ap (λ (call : SentenceCall). call .buffer) w)
 
 pub write-sentence-spec : {M : Type 1} → this.Statement.statement M
 write-sentence-spec = this.Tie.close (this.Tie.spec (λ c κs. search needs) (λ c κs. search needs) returns (λ c κs. search needs) returns-2

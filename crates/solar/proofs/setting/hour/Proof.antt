@@ -1,5 +1,5 @@
 use Rattle.prelude.proofs.Logic.{ap, _∙_, _+_, _*_, _<_, needs, lt-ltb, le-ltb}
-use Rattle.solar.specs.declared.setting.SolarHour.the-variants.{At}
+use Rattle.solar.specs.declared.setting.SolarHour.the-variants.{Some}
 use Rattle.solar.proofs.Cases as cases
 use Rattle.solar.specs.Setting.{hourOf}
 use Rattle.solar.proofs.setting.hour as this
@@ -16,7 +16,7 @@ returns c =
     let t = c .before .before in
     let n = t .args .p .ahead * 86400 + t .args .p .hour * 3600 + t .args .minute * 60 in
     let h : n < 2147483648 = search needs in
-    ap At (cases.back n h) ∙ cases.on-hour (t .args .p) (t .args .minute) (c .before .if1 .taken) (c .if2 .taken)
+    ap Some (cases.back n h) ∙ cases.on-hour (t .args .p) (t .args .minute) (c .before .if1 .taken) (c .if2 .taken)
 
 returns-2 : this.Tie.Need-returns-2
 unfolding hourOf
@@ -35,7 +35,7 @@ returns-3 c =
     let t = c .before .before in
     let n = t .args .p .ahead * 86400 + (t .args .p .hour + 1) * 3600 in
     let h : n < 2147483648 = search needs in
-    ap At (cases.back n h) ∙ cases.next-hour (t .args .p) (t .args .minute) (c .before .if1 .left) (c .if3 .taken)
+    ap Some (cases.back n h) ∙ cases.next-hour (t .args .p) (t .args .minute) (c .before .if1 .left) (c .if3 .taken)
 
 returns-4 : this.Tie.Need-returns-4
 returns-4 c =

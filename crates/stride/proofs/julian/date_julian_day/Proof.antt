@@ -1,10 +1,11 @@
 use Rattle.prelude.proofs.Logic.{needs, w32, SFits}
+use Rattle.float64.proofs.Floats.{round, ofBits, dec}
 use Rattle.integers.proofs.Integers.{read}
 use Rattle.stride.specs.Julian.{dateJulianDayOf}
 use Rattle.stride.proofs.julian.date_julian_day as this
 
 returns : this.Tie.Need-returns
-unfolding dateJulianDayOf
+unfolding dateJulianDayOf dec round ofBits
 returns c =
     let c1 = c .before in
     let c2 = c1 .before in

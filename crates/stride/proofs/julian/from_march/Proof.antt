@@ -1,10 +1,11 @@
 use Rattle.prelude.proofs.Logic.{needs, w32, w64, SFits}
+use Rattle.float64.proofs.Floats.{round, ofBits, dec}
 use Rattle.integers.proofs.Integers.{read}
 use Rattle.stride.specs.Julian.{fromMarchOf, yearProductOf, monthProductOf}
 use Rattle.stride.proofs.julian.from_march as this
 
 returns : this.Tie.Need-returns
-unfolding fromMarchOf yearProductOf monthProductOf
+unfolding fromMarchOf yearProductOf monthProductOf dec round ofBits
 returns c =
     let c1 = c .before .before .before in
     let c2 = c1 .before .before in

@@ -1,10 +1,11 @@
 use Rattle.prelude.proofs.Logic.{_≡_, true, false, lit≤, pos, ltZ, needs, w32}
+use Rattle.float64.proofs.Floats.{round, ofBits, dec}
 use Rattle.integers.proofs.Integers.{read, wide, read-wide, constant, of-wide, held-sum, held-difference, held-fits, stored}
 use Rattle.stride.specs.Julian.{julianDayOf}
 use Rattle.stride.proofs.julian.julian_day as this
 
 returns : this.Tie.Need-returns
-unfolding julianDayOf
+unfolding julianDayOf dec round ofBits
 returns c =
     let s = c .before .before .before in
     let m = s .args .month in
@@ -13,7 +14,7 @@ returns c =
     simp (c .from-march .ensures, read-wide (s .args .year) (s .fits .year), read-wide m fm, read w32 (s .args .day) (s .fits .day), t)
 
 returns-2 : this.Tie.Need-returns-2
-unfolding julianDayOf
+unfolding julianDayOf dec round ofBits
 returns-2 c =
     let s = c .before .before .before in
     let m = s .args .month in

@@ -1,6 +1,6 @@
 use Rattle.prelude.proofs.Logic.{_≡_, ap, _∙_, ℤ, needs, w64, SFits}
 use Rattle.integers.proofs.Integers.{readBack, read, floorQuot}
-use Rattle.weeks.specs.declared.minute.Minute.the-variants.{At}
+use Rattle.weeks.specs.declared.minute.Minute.the-variants.{Some}
 use Rattle.weeks.specs.State.{minuteFrom}
 use Rattle.weeks.proofs.minute.minute_of as this
 
@@ -10,7 +10,7 @@ returns c =
     let g = c .before .before .fajr .given in
     let f : SFits w64 (g .0 .0) = search needs in
     let k : readBack w64 (c .whole-minutes .result) ≡ c .whole-minutes .result = search needs in
-    simp (g .1) (ap At (k ∙ c .whole-minutes .ensures ∙ ap (λ (z : ℤ). floorQuot z 60) (read w64 (g .0 .0) f)))
+    simp (g .1) (ap Some (k ∙ c .whole-minutes .ensures ∙ ap (λ (z : ℤ). floorQuot z 60) (read w64 (g .0 .0) f)))
 
 returns-2 : this.Tie.Need-returns-2
 unfolding minuteFrom

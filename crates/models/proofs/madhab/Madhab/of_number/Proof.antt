@@ -1,12 +1,14 @@
-use Rattle.prelude.proofs.Logic.{_≡_, refl, sym, [], _∷_, ℕ, zero, suc, arith, List·getD-eq-default}
-use Rattle.models.proofs.Models.{Shafi, Hanafi, madhabOf}
+use Rattle.prelude.proofs.Logic.{_≡_, refl, ℕ, zero, suc}
+use Rattle.models.proofs.Models.{Hanafi, madhabOf}
 use Rattle.models.proofs.madhab.Madhab.of_number as this
 
 -- any number but 1
 rest : (n : ℕ) → (n ≡ 1 → ⊥) → Hanafi ≡ madhabOf n
 unfolding madhabOf
 rest zero f = refl
-rest (suc n) f = sym (List·getD-eq-default (Shafi ∷ []) Hanafi {n = n} (omega arith))
+rest (suc zero) f = absurd (f refl)
+rest (suc (suc zero)) f = refl
+rest (suc (suc (suc n))) f = refl
 
 pub of-number-spec : {M : Type 1} → this.Statement.statement M
 unfolding madhabOf

@@ -1,4 +1,4 @@
-use Rattle.schedule.specs.Hours.{dayHoursOf}
+use Rattle.schedule.specs.RowSuns.{dayHoursOf}
 use Rattle.schedule.proofs.hours.DayHours.new as this
 
 pub new-spec : {M : Type 1} → this.Statement.statement M

@@ -1,4 +1,4 @@
-use Rattle.schedule.specs.Hours.{rowHoursOf}
+use Rattle.schedule.specs.RowSuns.{rowHoursOf}
 use Rattle.schedule.proofs.hours.RowHours.of_days as this
 
 pub of-days-spec : {M : Type 1} → this.Statement.statement M

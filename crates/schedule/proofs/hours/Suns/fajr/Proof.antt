@@ -1,13 +1,14 @@
 use Rattle.prelude.proofs.Logic.{_≡_, ap, _∙_, needs, w64}
 use Rattle.integers.proofs.Ranges.{readBack}
-use Rattle.schedule.proofs.Schedule.{At, fajrAloneOf}
+use Rattle.schedule.proofs.Schedule.{fajrAloneOf}
+use Rattle.schedule.specs.declared.prayer_times.FajrAlone.the-variants.{Some}
 use Rattle.schedule.proofs.hours.Suns.fajr as this
 
 returns : this.Tie.Need-returns
 unfolding fajrAloneOf
 returns c =
     let k : readBack w64 (c .final-fajr .result) ≡ c .final-fajr .result = search needs in
-    simp (c .before .before .self .given .1) (ap At (k ∙ c .final-fajr .ensures))
+    simp (c .before .before .self .given .1) (ap Some (k ∙ c .final-fajr .ensures))
 
 returns-2 : this.Tie.Need-returns-2
 unfolding fajrAloneOf

@@ -1,9 +1,9 @@
 use Rattle.prelude.proofs.Logic.{sym}
-use Rattle.schedule.specs.Numbers.{fajrNumberOf}
+use Rattle.schedule.specs.Asked.{fajrAskedOf}
 use Rattle.schedule.proofs.numbers.TwilightSines.fajr_number as this
 
 pub fajr-number-spec : {M : Type 1} → this.Statement.statement M
-unfolding fajrNumberOf
+unfolding fajrAskedOf
 fajr-number-spec =
     let returns : this.Tie.Need-returns = λ c.
     let test = c .before in simp (c .not-a-number .ensures, sym (test .before .by-seventh .ensures), test .if1 .taken) in

@@ -1,10 +1,10 @@
 use Rattle.prelude.proofs.Logic.{sym, needs, w32, SFits}
 use Rattle.integers.proofs.Ranges.{read}
-use Rattle.schedule.specs.Numbers.{ishaNumberOf}
+use Rattle.schedule.specs.Asked.{ishaAskedOf}
 use Rattle.schedule.proofs.numbers.TwilightSines.isha_number as this
 
 returns : this.Tie.Need-returns
-unfolding ishaNumberOf
+unfolding ishaAskedOf
 returns c =
     let t = c .before .before .before .before in
     let i = t .args .parameters .«isha_interval» in
@@ -13,7 +13,7 @@ returns c =
     simp (c .not-a-number .ensures, e)
 
 returns-2 : this.Tie.Need-returns-2
-unfolding ishaNumberOf
+unfolding ishaAskedOf
 returns-2 c =
     let t = c .before .before .before .before .before .before in
     let i = t .args .parameters .«isha_interval» in
@@ -22,7 +22,7 @@ returns-2 c =
     simp (c .not-a-number2 .ensures, e, sym (c .before .before .by-seventh .ensures), c .before .if2 .taken)
 
 returns-3 : this.Tie.Need-returns-3
-unfolding ishaNumberOf
+unfolding ishaAskedOf
 returns-3 c =
     let t = c .before .before .before .before .before .before .before .before in
     let i = t .args .parameters .«isha_interval» in

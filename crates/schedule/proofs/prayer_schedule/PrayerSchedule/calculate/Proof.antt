@@ -1,27 +1,34 @@
-use Rattle.prelude.proofs.Logic.{ap}
-use Rattle.schedule.specs.declared.prayer_schedule.Calculated.the-variants.{Worked}
-use Rattle.schedule.specs.Builder.{calculateOf}
+use Rattle.prelude.proofs.Logic.{ap, needs}
+use Rattle.schedule.specs.declared.prayer_schedule.Calculated.the-variants.{Some}
+use Rattle.schedule.specs.Builder.{calculatedFrom}
 use Rattle.schedule.proofs.RowSunsLaws.{first-row}
 use Rattle.schedule.proofs.prayer_schedule.PrayerSchedule.calculate as this
 
-returns : this.Tie.Need-returns
-unfolding calculateOf
-returns c =
-    let n = c .before .before in
+returns-3 : this.Tie.Need-returns-3
+unfolding calculatedFrom
+returns-3 c =
+    let place = c .before .before .before in
+    simp (c .enum-told3 .given .1, place .place .given .1, place .before .before .before .date .given .1)
+
+returns-4 : this.Tie.Need-returns-4
+unfolding calculatedFrom
+returns-4 c =
+    let params = c .before .before .before .before in
+    let place = params .before .before .before in
     simp (
       c .work .ensures,
       c .before .new .ensures,
-      n .source .ensures,
-      n .before .if3 .taken,
-      n .before .before .if2 .taken,
-      n .before .before .before .if1 .taken,
+      c .before .before .source .ensures,
+      params .params .given .1,
+      place .place .given .1,
+      place .before .before .before .date .given .1,
     )
-    (ap Worked (first-row _ _ _ _))
+    (ap Some (first-row _ _ _ _))
 
 pub calculate-spec : {M : Type 1} → this.Statement.statement M
-unfolding calculateOf
+unfolding calculatedFrom
 calculate-spec =
-    let returns-2 : this.Tie.Need-returns-2 = λ c. simp (c .if3 .left, c .before .if2 .taken, c .before .before .if1 .taken) in
-    let returns-3 : this.Tie.Need-returns-3 = λ c. simp (c .if2 .left, c .before .if1 .taken) in
-    let returns-4 : this.Tie.Need-returns-4 = λ c. simp (c .if1 .left) in
-    this.Tie.close (this.Tie.spec (λ c κs. tt) (λ c κs. tt) (λ c κs. tt) returns returns-2 returns-3 returns-4)
+    let returns : this.Tie.Need-returns = λ c. simp (c .enum-told .given .1) in
+    let returns-2 : this.Tie.Need-returns-2 = λ c. simp (c .enum-told2 .given .1, c .before .before .before .date .given .1) in
+    this.Tie.close (this.Tie.spec (λ c. search needs) (λ c. search needs) returns (λ c. search needs) (λ c. search needs) returns-2
+    (λ c. search needs) (λ c. search needs) returns-3 (λ c κs. tt) (λ c κs. tt) (λ c κs. tt) returns-4)

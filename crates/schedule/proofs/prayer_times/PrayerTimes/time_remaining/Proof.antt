@@ -1,6 +1,7 @@
 use Rattle.prelude.proofs.Logic.{_≡_, sym, ap, _∙_, ℤ, needs, w64}
 use Rattle.integers.proofs.Ranges.{readBack}
-use Rattle.schedule.proofs.Schedule.{aheadOf, hoursMinutesOf, untilOf, In}
+use Rattle.schedule.proofs.Schedule.{aheadOf, hoursMinutesOf, untilOf}
+use Rattle.schedule.specs.declared.in_force.Remaining.the-variants.{Some}
 use Rattle.schedule.proofs.prayer_times.PrayerTimes.time_remaining as this
 
 returns : this.Tie.Need-returns
@@ -9,7 +10,7 @@ returns c =
     let t = c .before .before .before .before .before .before .before in
     let k : readBack w64 (c .before .before .time .result) ≡ c .before .before .time .result = search needs in
     let a = c .before .ahead .ensures ∙ ap (λ (z : ℤ). aheadOf z (t .args .instant)) (k ∙ c .before .before .time .ensures) in
-    ap In (c .hours-minutes .ensures ∙ ap hoursMinutesOf a) ∙ ap (untilOf (t .args .self) (t .args .instant)) (sym (c .before .before .before .before .prayer .given .1) ∙ c .before .before .before .before .before .before .next .ensures)
+    ap Some (c .hours-minutes .ensures ∙ ap hoursMinutesOf a) ∙ ap (untilOf (t .args .self) (t .args .instant)) (sym (c .before .before .before .before .prayer .given .1) ∙ c .before .before .before .before .before .before .next .ensures)
 
 returns-2 : this.Tie.Need-returns-2
 unfolding untilOf

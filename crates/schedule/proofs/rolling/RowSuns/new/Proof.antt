@@ -5,8 +5,9 @@ returns : this.Tie.Need-returns
 unfolding rowSunsOf
 returns c =
     let days = c .before .before .before .before .before in
-    let positions = days .before .before .before in
-    let dates = positions .before .before .before .before .before .before in
+    let later = days .before .before .before in
+    let positions = later .before .before .before .before in
+    let dates = positions .before .before .before .before in
     let first = dates .before .before .before in
     simp (
       c .third-sun3 .ensures,
@@ -17,12 +18,14 @@ returns c =
       days .sun3 .ensures,
       days .before .sun2 .ensures,
       days .before .before .sun .ensures,
-      positions .position5 .ensures,
-      positions .before .yesterday .ensures,
-      positions .before .before .position4 .ensures,
-      positions .before .before .before .position3 .ensures,
-      positions .before .before .before .before .position2 .ensures,
-      positions .before .before .before .before .before .position .ensures,
+      later .position5 .ensures,
+      later .before .yesterday .ensures,
+      later .before .before .position4 .ensures,
+      later .before .before .before .position3 .ensures,
+      positions .position-before-tomorrow2 .ensures,
+      positions .before .position-before-tomorrow .ensures,
+      positions .before .before .position2 .ensures,
+      positions .before .before .before .position .ensures,
       dates .tomorrow3 .ensures,
       dates .before .tomorrow2 .ensures,
       dates .before .before .tomorrow .ensures,
@@ -31,4 +34,6 @@ returns c =
     )
 
 pub new-spec : {M : Type 1} → this.Statement.statement M
-new-spec = this.Tie.close (this.Tie.spec (λ c κs. tt) (λ c κs. tt) (λ c κs. tt) (λ c κs. tt) (λ c κs. tt) (λ c κs. tt) (λ c κs. tt) (λ c κs. tt) (λ c κs. tt) (λ c κs. tt) (λ c κs. tt) (λ c κs. tt) (λ c κs. tt) (λ c κs. tt) (λ c κs. tt) (λ c κs. tt) (λ c κs. tt) (λ c κs. tt) (λ c κs. tt) returns)
+new-spec = this.Tie.close (this.Tie.spec (λ c κs. tt) (λ c κs. tt) (λ c κs. tt) (λ c κs. tt) (λ c κs. tt) (λ c κs. tt) (λ c κs. tt)
+    (λ c κs. c .before .position .ensures) (λ c κs. c .before .position2 .ensures)
+    (λ c κs. tt) (λ c κs. tt) (λ c κs. tt) (λ c κs. tt) (λ c κs. tt) (λ c κs. tt) (λ c κs. tt) (λ c κs. tt) (λ c κs. tt) (λ c κs. tt) (λ c κs. tt) (λ c κs. tt) returns)

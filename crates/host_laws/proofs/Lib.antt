@@ -1,0 +1,2 @@
+pub mod GotLaws
+pub mod WrittenLaws

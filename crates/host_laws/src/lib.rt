@@ -1,0 +1,1 @@
+// Theorems about what a host in C gets: see specs/. There is no code here.

@@ -1,2 +1,0 @@
-pub mod Unsigned
-pub mod ExportsLaws

@@ -1,0 +1,13 @@
+pub mod Unsigned
+pub mod NumbersLaws
+pub mod PutLaws
+pub mod CallLaws
+pub mod Found
+pub mod NumberLaws
+pub mod FloatLaws
+pub mod ValueLaws
+pub mod Lengths
+pub mod RoundTrip
+pub mod Plain
+pub mod Again
+pub mod Calls

@@ -1,0 +1,5 @@
+pub mod Numbers
+pub mod Bytes
+pub mod Values
+pub mod Writing
+pub mod Promises
