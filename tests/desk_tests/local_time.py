@@ -11,7 +11,7 @@ import zoneinfo
 from katchidul_desk import orders, reading, zones
 from katchidul_desk.errors import ZoneError
 
-from . import checks
+from . import almanac, checks
 from .checks import cases, check, program, run
 from .tzif import Zone
 
@@ -139,7 +139,8 @@ def date_line():
 
 
 def leeds():
-    """October in Leeds from nothing, in one command: the sheet's UTC times by the proved program, the clock by the command date."""
+    """October in Leeds from nothing, in one command. The days around the change are held to other sources: the sun to the Astronomical
+    Almanac's formulas, the clock to the command date."""
     with tempfile.TemporaryDirectory() as folder:
         out = os.path.join(folder, "leeds.order")
         status, printed, said = run("make", *[word for name, value in LEEDS for word in ("--" + name, value)], "--out", out)
@@ -153,6 +154,9 @@ def leeds():
         for row in range(23, 27):
             by_date = [by_the_command_date(at) for at in rows[row][1]]
             check("%s in Leeds" % rows[row][0], pages[row], (row + 1, by_date))
+            by_almanac = almanac.six_times(datetime.date.fromisoformat(rows[row][0]), 53.8008, -1.5491)
+            apart = [abs(at - second.timestamp()) for at, second in zip(rows[row][1], by_almanac)]
+            check("the sun of %s by the almanac, to half a minute and some seconds" % rows[row][0], [some for some in apart if some > 36], [])
         check("Fajr before the change and after it", (pages[23][1][0], pages[24][1][0]), ((5, 52), (4, 54)))
         status, _, said = run("make", *[word for name, value in LEEDS for word in ("--" + name, value)])
         check("several orders need a name", (status, "give a name for them with --out" in said), (2, True))
