@@ -1,7 +1,7 @@
 """The commands that show an order: in words, as its sheet, table, cells, BRF, dots and weeks."""
 from . import braille, inputs, orders, programs, streams, tables, weeks, zones
 from .arguments import parse
-from .errors import Refused, Unreadable
+from .errors import Unreadable
 from .making import tell_no_clock, tell_wrong
 from .orders import refused_lines
 from .sheets import reason
@@ -48,8 +48,7 @@ def table(words):
 
 def checked(given):
     """The split of a text with a zone, or None. Raises Refused before anything is printed."""
-    if given.refusal:
-        raise Refused(given.refusal, given.name)
+    given.check()
     return given.split()
 
 
@@ -115,8 +114,7 @@ def week(words):
         return plain("week", arguments, orders_or_refused)
     texts = []
     for given in inputs.given(arguments, "week"):
-        if given.refusal:
-            raise Refused(given.refusal, given.name)
+        given.check()
         texts += [weeks.report(order) for _, order in given.orders()]
     return write_text("\n".join(texts), arguments.out)
 

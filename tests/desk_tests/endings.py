@@ -37,6 +37,7 @@ def output():
     status, printed, said = shell("($K table examples/longest.order examples/longest.order; echo $? >&2) | head -n 1")
     check("a reader that leaves", (printed[:7], said in ("0\n", "141\n") or said), (b"Kampala", True))
     says("all closed", "$K sheet $O <&- >&- 2>&-", 2, "")
+    says("closed output of a spool's status", "$K spool -d /tmp status >&-", 1, "standard output is closed")
     says("closed errors", "$K sheet nothing 2>&-", 2, "")
     says("full errors", "$K sheet nothing 2>/dev/full", 2, "")
 
