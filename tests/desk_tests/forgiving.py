@@ -61,6 +61,9 @@ def refused_coordinates():
     why("latitude", "53 48 2.88", "lacks its letter, N or S", "write 53 48 2.88 N")
     why("longitude", "-1 32 56", "lacks its letter, E or W", "write 1 32 56 W")
     why("latitude", "54 46 31.080 N", "hundredths")
+    for text, seconds in [("53° 48.048' N", "53 48 2.88 N"), ("53 48.048 N", "53 48 2.88 N"), ("53°48.5'N", "53 48 30.00 N"),
+                          ("53 59.99999 N", "54 0 0.00 N"), ("53 48.123456 N", "53 48 7.41 N")]:
+        why("latitude", text, "decimals of a minute are written as seconds: write " + seconds)
     why("latitude", "north", "54.7753 N", "54 46 31.08 N")
     why("latitude", "9" * 300000, "too long")
     why("fajr angle", "9" * 300000, "too long")
@@ -77,7 +80,8 @@ def places():
         check("place: " + text, tags("place", text), wiki)
     why("place", "53.8008", "with a comma between")
     why("place", "53.8008, -1.5491, 30", "with a comma between")
-    why("place", "53,8008, -1,5491", "with a comma between")
+    for text in ("53,8008, -1,5491", "53,8008; -1,5491", "53,8008 -1,5491", "53,8008,-1,5491"):
+        why("place", text, "decimals are written behind a point: write 53.8008, -1.5491")
     why("place", "Leeds", "with a comma between")
     why("place", "53.8008, 1.5491 N", "takes E or W")
     why("place", "", "with a comma between")
