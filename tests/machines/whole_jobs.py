@@ -67,7 +67,8 @@ def over_port(check, place):
     compare(check, "TCP", jobs, port.arrived)
     check("TCP: the driver ends with status 0", driver.end(), 0)
     stamp = re.compile(r"\d{4}-\d\d-\d\dT\d\d:\d\d:\d\d[+-]\d\d:\d\d katchidul-port: ")
-    check("TCP: each line begins with its time, as the host's do", [line for line in driver.said().splitlines() if not stamp.match(line)], [])
+    odd = [line for line in driver.said().splitlines() if not stamp.match(line)]
+    check("TCP: each line begins with its time, as the host's do", odd, [])
     port.end()
 
 
