@@ -132,6 +132,7 @@ def clerk(walk):
     walk.fill(town="York")
     changed = walk.browser.wait("return document.getElementById('changed').textContent")
     walk.check("pages of another form are marked", str(changed)[:20], "The form has changed")
+    small_screen(walk)
     narrow(walk)
     walk.quiet()
     paper(walk)
@@ -152,6 +153,13 @@ def downloaded(walk, name):
     while not path.exists() and time.monotonic() < end:
         time.sleep(0.1)
     return path.read_bytes() if path.exists() else None
+
+
+def small_screen(walk):
+    """On a screen of 1280 pixels the tables are seen whole, the braille's digits too."""
+    walk.browser.ask("POST", "/window/rect", {"width": 1280, "height": 900})
+    hidden = walk.browser.run("return [...document.querySelectorAll('.preview .scroll')].map((one) => one.scrollWidth - one.clientWidth)")
+    walk.check("a small screen: what is hidden of the tables", hidden, [0, 0])
 
 
 def narrow(walk):
