@@ -115,7 +115,8 @@ def tables():
         with open(os.path.join(ROOT, "crates", "models", "src", name + ".rt")) as file:
             numbers = file.read().partition("pub fn number(self)")[2].partition("of_number")[0]
         check("names of " + name, TAGS[tag].kind.names, {int(n): known for known, n in re.findall(r"::(\w+) => (\d+),", numbers)})
-    for preset, (fajr, isha, _, interval, rounding, _) in zip(PRESETS, cases.METHODS, strict=True):
+    check("as many methods", len(PRESETS), len(cases.METHODS))
+    for preset, (fajr, isha, _, interval, rounding, _) in zip(PRESETS, cases.METHODS):
         names = TAGS[9].kind.names
         check(preset.name, preset[1:], (fajr, isha, interval, names[rounding]))
     check("lengths", {tag: list(row.lengths) for tag, row in TAGS.items()}, {tag: list(lengths) for tag, lengths in cases.LENGTHS.items()})

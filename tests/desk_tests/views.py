@@ -80,7 +80,9 @@ def pages():
             continue
         order = path.read_bytes()
         rows = [braille.digits(row).split() for page in braille.pages(order) for row in page]
-        for row, (date, times) in zip(rows, expected_table(order), strict=True):
+        expected = list(expected_table(order))
+        check("rows of the table of " + path.name, len(rows), len(expected))
+        for row, (date, times) in zip(rows, expected):
             six = ["--:--"] * 6 if times.startswith("refused") else [time[:5] for time in times.split(" ")[-9:-3]]
             check("%s of %s" % (date, path.name), row, [date[8:], *six])
     status, printed, _ = run("cells", ROOT / "examples" / "durham-clock.order")
