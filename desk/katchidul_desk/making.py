@@ -53,7 +53,8 @@ def numbered(out, number):
 def tell_no_clock(given):
     """Pages in UTC are seldom meant."""
     if given.lacks_clock and not given.refusal:
-        streams.say("katchidul: note: there is no zone and no clock, so the pages show UTC; write zone: Europe/London or its like, or clock: 0")
+        streams.say("katchidul: note: there is no zone and no clock, so the pages show UTC; "
+                    "write zone: Europe/London or its like, or clock: 0")
 
 
 def tell_wrong(made, anyway):

@@ -78,7 +78,8 @@ def cells(words):
     shown = [pages for given in every for pages in pages_by_order(given, "anyway" in arguments.flags)]
     if "plain" in arguments.flags:
         if len(shown) > 1:
-            raise Unreadable("cells --plain writes one order, since nothing marks where the next one's pages begin; here are %d" % len(shown))
+            raise Unreadable("cells --plain writes one order, since nothing marks where the next one's pages begin; here are %d"
+                             % len(shown))
         streams.write_bytes(b"".join(row for page in shown[0][1] for row in page), arguments.out)
         return 0
     with_braille = arguments.out is not None or streams.has_letters("\u2800")
