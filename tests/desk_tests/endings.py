@@ -12,7 +12,7 @@ import time
 from katchidul_desk import orders, streams
 from katchidul_desk.errors import DeskError
 
-from .checks import COMMAND, PROGRAMS, ROOT, check, hears_the_keyboard, run, started
+from .checks import COMMAND, PROGRAMS, ROOT, check, run, started
 
 ORDER = ROOT / "examples" / "durham-clock.order"
 COMMANDS = ("show", "sheet", "table", "cells", "brf", "wear", "week", "make")
@@ -119,8 +119,7 @@ def long_values():
 def signals():
     """An order on the way is stopped by the keyboard without a word, and leaves no file."""
     with tempfile.TemporaryDirectory() as folder:
-        run = subprocess.Popen([COMMAND, "make", "-", "--out", os.path.join(folder, "x.order")], stdin=subprocess.PIPE, stderr=subprocess.PIPE,
-                               preexec_fn=hears_the_keyboard)
+        run = subprocess.Popen([COMMAND, "make", "-", "--out", os.path.join(folder, "x.order")], stdin=subprocess.PIPE, stderr=subprocess.PIPE)
         run.stdin.write(b"town: Leeds\n")
         run.stdin.flush()
         # When the pipe is empty the text is being read.
@@ -142,8 +141,7 @@ def printed():
         says(line, "cd %s && %s" % (ROOT, line), status, part, S=sheet)
     with tempfile.TemporaryDirectory() as folder:
         for sent in (signal.SIGTERM, signal.SIGHUP, signal.SIGINT):
-            run = subprocess.Popen([ROOT / "tools" / "printed", sheet], stdin=subprocess.PIPE, env={**os.environ, "TMPDIR": folder},
-                                   preexec_fn=hears_the_keyboard)
+            run = subprocess.Popen([ROOT / "tools" / "printed", sheet], stdin=subprocess.PIPE, env={**os.environ, "TMPDIR": folder})
             for _ in range(500):
                 if os.listdir(folder):
                     break

@@ -8,7 +8,7 @@ import sys
 import tempfile
 import time
 
-from .checks import ROOT, check, hears_the_keyboard
+from .checks import ROOT, check
 
 # It reads its input, to show that the order is not there; it keeps an old program, as rt does when a change does not touch it; it counts
 # its runs, and is slow while the file `slow` is there.
@@ -55,7 +55,7 @@ class Checkout:
 
     def start(self, *words):
         return subprocess.Popen([self.root / "katchidul", *words], stdin=subprocess.PIPE, stdout=subprocess.PIPE, stderr=subprocess.PIPE,
-                                env=self.environment(), cwd="/", preexec_fn=hears_the_keyboard)
+                                env=self.environment(), cwd="/")
 
     def run(self, *words, given=GIVEN):
         run = self.start(*words)

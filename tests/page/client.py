@@ -71,9 +71,7 @@ class Desk:
     def __init__(self, command, folder, spool):
         self.errors = open(folder / "errors", "w+b")
         words = [command, "desk", "--port", "0", "--folder", folder / "texts"] + (["--spool", spool] if spool else [])
-        # A shell's background job has the keyboard's signal ignored, and so would the desk.
-        self.process = subprocess.Popen(words, stdout=subprocess.PIPE, stderr=self.errors, stdin=subprocess.DEVNULL,
-                                        preexec_fn=lambda: signal.signal(signal.SIGINT, signal.SIG_DFL))
+        self.process = subprocess.Popen(words, stdout=subprocess.PIPE, stderr=self.errors, stdin=subprocess.DEVNULL)
         self.said = self.process.stdout.readline().decode()
         self.port = int(re.search(r"127\.0\.0\.1:(\d+)", self.said)[1])
 
