@@ -30,7 +30,8 @@ def unchanged():
     check("of a text", run("sheet", june)[1], (ROOT / "examples" / "durham-june.sheet").read_bytes())
     check("of a text with an option", run("wear", june, "--clock", "+01:00")[1], b"dots 2653\n")
     status, printed, said = run("sheet", ROOT / "examples" / "cut.order")
-    check("a refused order's reason", said.splitlines()[0], "katchidul: cut.order is refused: at byte 20, the order ends inside latitude (tag 4), after 3 of 8 bytes")
+    check("a refused order's reason", said.splitlines()[0],
+          "katchidul: cut.order is refused: at byte 20, the order ends inside latitude (tag 4), after 3 of 8 bytes")
 
 
 def expected_table(order):
@@ -89,7 +90,8 @@ def pages():
     lines = printed.decode().splitlines()
     check("cells", (status, lines[0], lines[1][-40:], lines[-1]), (0, "page 1", " 01  01:05 04:36 13:05 17:31 21:33 01:04", "dots 2653"))
     status, printed, said = started("cells", ROOT / "examples" / "durham-clock.order", env={**os.environ, "PYTHONIOENCODING": "ascii"})
-    check("on a terminal of ASCII", (status, all(byte < 128 for byte in printed), printed.splitlines()[1][:9], "ASCII braille" in said), (0, True, b"#JA #JAJE", True))
+    check("on a terminal of ASCII", (status, all(byte < 128 for byte in printed), printed.splitlines()[1][:9], "ASCII braille" in said),
+          (0, True, b"#JA #JAJE", True))
     status, printed, _ = run("brf", ROOT / "examples" / "durham-clock.order")
     check("BRF", (status, printed.count(b"\r\n"), printed.count(b"\f"), printed[:10]), (0, 30, 2, b"#JA #JAJE "))
     check("no BRF of a refused order", run("brf", ROOT / "examples" / "cut.order")[:2], (1, b""))
@@ -102,7 +104,8 @@ def several():
     check("no plain cells of two", run("cells", "--plain", june, clock)[:2], (2, b""))
     text = b"town: Leeds\nmonth: 2026-10\nplace: 53.8008, -1.5491\nmethod: MWL\nzone: Europe/London\n"
     status, printed, said = run("brf", "-", given=text)
-    check("a text with a zone in one BRF", (status, printed.count(b"\r\n"), printed.count(b"\f"), "checked: the 186 times" in said), (0, 31, 2, True))
+    check("a text with a zone in one BRF", (status, printed.count(b"\r\n"), printed.count(b"\f"), "checked: the 186 times" in said),
+          (0, 31, 2, True))
     status, printed, said = run("table", "-", given=text)
     check("its table", (status, printed.count(b"clock: UTC"), b"\nSun 2026-10-25 04:54 " in printed), (0, 2, True))
     check("its orders in words", re.findall(rb"^(?:first day|clock): .*$", run("show", "-", given=text)[1], re.MULTILINE),
@@ -146,12 +149,14 @@ def help_everywhere():
         status, printed, said = run(command, "--help")
         check("help of " + command, (status, printed.decode().startswith("katchidul " + command), said), (0, True, ""))
     top = helps.help_of(None)
-    check("the top's help names every command", [name for name in [*COMMANDS, *APART] if "    %s " % name not in top and " %s  " % name not in top], [])
+    check("the top's help names every command",
+          [name for name in [*COMMANDS, *APART] if "    %s " % name not in top and " %s  " % name not in top], [])
     header = (ROOT / "include" / "katchidul.h").read_text()
     version = tuple(int(re.search(r"^#define KATCHIDUL_VERSION_%s (\d+)$" % part, header, re.MULTILINE)[1]) for part in ("MAJOR", "MINOR"))
     check("the version is the header's", run("--version"), (0, b"katchidul %d.%d\n" % version, ""))
     status, _, said = run("tabel", "x")
-    check("a command that is near one", (status, said), (2, "katchidul: 'tabel' is no command; did you mean table?; katchidul --help lists them\n"))
+    check("a command that is near one", (status, said),
+          (2, "katchidul: 'tabel' is no command; did you mean table?; katchidul --help lists them\n"))
 
 
 def guide():
