@@ -84,8 +84,7 @@ def proofs(checkout):
     (checkout.root / "fails").unlink()
     status, printed, said = checkout.run("sheet")
     check("the first time", (status, printed, len(checkout.proofs())), (0, GIVEN, 2))
-    check("progress", ("proving everything below the program sheet" in said, "rt: sheet proved (1 s)" in said, "fn sheet" in said),
-          (True, True, False))
+    check("progress", ("proving everything below the program sheet" in said, "rt: sheet proved (1 s)" in said, "fn sheet" in said), (True, True, False))
     (checkout.root / "crates" / ".#editor").symlink_to("nothing")
     os.utime(checkout.root / "crates", (0, 0))
     os.utime(checkout.root / "crates" / ".#editor", (0, 0), follow_symlinks=False)

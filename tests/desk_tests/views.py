@@ -149,14 +149,12 @@ def help_everywhere():
         status, printed, said = run(command, "--help")
         check("help of " + command, (status, printed.decode().startswith("katchidul " + command), said), (0, True, ""))
     top = helps.help_of(None)
-    check("the top's help names every command",
-          [name for name in [*COMMANDS, *APART] if "    %s " % name not in top and " %s  " % name not in top], [])
+    check("the top's help names every command", [name for name in [*COMMANDS, *APART] if "    %s " % name not in top and " %s  " % name not in top], [])
     header = (ROOT / "include" / "katchidul.h").read_text()
-    version = tuple(int(re.search(r"^#define KATCHIDUL_VERSION_%s (\d+)$" % part, header, re.MULTILINE)[1]) for part in ("MAJOR", "MINOR"))
-    check("the version is the header's", run("--version"), (0, b"katchidul %d.%d\n" % version, ""))
+    version = ".".join(re.findall(r"^#define KATCHIDUL_VERSION_M\w+ (\d+)", header, re.MULTILINE))
+    check("the version is the header's", run("--version"), (0, b"katchidul %s\n" % version.encode(), ""))
     status, _, said = run("tabel", "x")
-    check("a command that is near one", (status, said),
-          (2, "katchidul: 'tabel' is no command; did you mean table?; katchidul --help lists them\n"))
+    check("a command that is near one", (status, said), (2, "katchidul: 'tabel' is no command; did you mean table?; katchidul --help lists them\n"))
 
 
 def guide():
