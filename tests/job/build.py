@@ -93,7 +93,7 @@ class Library:
         return sum(self.write_page(order, at, scratch).dots for at in range(1, page + 1))
 
     def turns(self, pages):
-        """Job and page of each turn, where the jobs 1, 2, 3, .. have so many pages and all wait from the beginning."""
+        """Job and page of each turn, if the jobs 1, 2, 3, .. have so many pages and all wait from the beginning."""
         queue, turns = Queue(), []
         for job, count in enumerate(pages, 1):
             queue = self.calls["join"](queue, job, count).queue
@@ -152,7 +152,7 @@ class Built:
         """A host with one place of its text changed; the place must be there once."""
         text = (ROOT / "host" / file).read_text()
         if text.count(old) != 1:
-            raise ValueError(f"{name}: the text to change stands {text.count(old)} times in {file}")
+            raise ValueError(f"{name}: the text to change is there {text.count(old)} times in {file}")
         folder = self.folder / name.replace(" ", "-")
         folder.mkdir()
         (folder / file).write_text(text.replace(old, new))

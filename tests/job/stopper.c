@@ -1,7 +1,7 @@
 /* Preloaded into a host: counts its calls, and at the one whose number is STOPPER_AFTER does what STOPPER_HOW says:
        kill    lets it come to its end, and ends the process by its own id
-       torn    lets half of its bytes through, where it has any, and ends the process
-       fail    does nothing, and answers that it failed by STOPPER_ERROR, a number
+       torn    lets half of its bytes through, if it has any, and ends the process
+       fail    does nothing, and says that it failed by STOPPER_ERROR, a number
    kill and torn count the calls that write, to the disk, to the link or to a person; fail counts every call, or those of the one name that
    STOPPER_CALL says.
    STOPPER_SHORT: reads and writes take that many bytes at most, each time.
