@@ -132,7 +132,6 @@ def clerk(walk):
     walk.fill(town="York")
     changed = walk.browser.wait("return document.getElementById('changed').textContent")
     walk.check("pages of another form are marked", str(changed)[:20], "The form has changed")
-    small_screen(walk)
     narrow(walk)
     walk.quiet()
     paper(walk)
@@ -163,7 +162,8 @@ def small_screen(walk):
 
 
 def narrow(walk):
-    """As large as a reader with weak eyes makes it: a window of 640 pixels."""
+    """On a small screen, and as large as a reader with weak eyes makes it: a window of 640 pixels."""
+    small_screen(walk)
     walk.browser.ask("POST", "/window/rect", {"width": 640, "height": 900})
     walk.overflow("a narrow window")
     walk.picture("narrow")
