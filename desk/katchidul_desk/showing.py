@@ -116,7 +116,10 @@ def week(words):
     texts = []
     for given in inputs.given(arguments, "week"):
         given.check()
-        texts += [weeks.report(order) for _, order in given.orders()]
+        reports = [weeks.report(order) for _, order in given.orders()]
+        if len(reports) > 1:
+            streams.say("katchidul: note: each order has its own report, so seven days with a change of the clock among them are in none")
+        texts += reports
     return write_text("\n".join(texts), arguments.out)
 
 

@@ -140,6 +140,16 @@ def week():
             check("a window of " + path.name, re.sub(r" +", " ", line), " ".join(wanted))
 
 
+def weeks_by_a_zone():
+    text = b"town: Leeds\nmonth: 2026-10\nplace: 53.8008, -1.5491\nmethod: MWL\nzone: Europe/London\n"
+    status, printed, said = run("week", "-", given=text)
+    reported = printed.decode().splitlines()
+    check("a report for each clock", (status, [line[-9:] for line in reported if "by the clock" in line]), (0, ["UTC+01:00", "UTC+00:00"]))
+    check("the days of the change are in none", (reported[20][:24], reported[-1][:24], "a change of the clock among them are in none" in said),
+          ("2026-10-18 to 2026-10-24", "2026-10-25 to 2026-10-31", True))
+    check("without a change nothing is said", run("week", "-", "--month", "2026-06", given=text)[2], "")
+
+
 def minute(count):
     return "%02d:%02d" % (count % 1440 // 60, count % 60) + ("%+d" % (count // 1440) if count // 1440 else "")
 
@@ -170,4 +180,4 @@ def guide():
     check("the text of Ramadan", run("table", "-", given=chicago.encode())[0], 0)
 
 
-TESTS = [guide, unchanged, table, pages, several, week, help_everywhere]
+TESTS = [guide, unchanged, table, pages, several, week, weeks_by_a_zone, help_everywhere]
