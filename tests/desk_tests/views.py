@@ -145,8 +145,8 @@ def weeks_by_a_zone():
     status, printed, said = run("week", "-", given=text)
     reported = printed.decode().splitlines()
     check("a report for each clock", (status, [line[-9:] for line in reported if "by the clock" in line]), (0, ["UTC+01:00", "UTC+00:00"]))
-    check("the days of the change are in none", (reported[20][:24], reported[-1][:24], "a change of the clock among them are in none" in said),
-          ("2026-10-18 to 2026-10-24", "2026-10-25 to 2026-10-31", True))
+    check("the last seven days of each", (reported[20][:24], reported[-1][:24]), ("2026-10-18 to 2026-10-24", "2026-10-25 to 2026-10-31"))
+    check("the days of the change are told", "a change of the clock among them are in none" in said, True)
     check("without a change nothing is said", run("week", "-", "--month", "2026-06", given=text)[2], "")
 
 
