@@ -44,7 +44,7 @@ def machine_that_is_late(built):
         trial.start_embosser()
         trial.end(host)
         took = time.monotonic() - began
-        return trial.faults() + ([] if took < 5 else [f"it took {took:.1f} seconds"])  # a pause of the patience is 6
+        return trial.faults() + ([] if took < 5 else [f"it took {took:.1f} seconds"])  # a later pause alone takes 6
 
 
 def ends_between_two_messages(built, seed, trials):
