@@ -2,7 +2,8 @@
 //!
 //! ```
 //! # fn main() -> Result<(), katchidul::Refused> {
-//! let order = b"\x01\0\x06Durham\x02\0\x04\x07\xea\x06\x01\x03\0\x01\x1e\x04\0\x08@Kc=\x07\xc8K^\x05\0\x08\xbf\xf9[\xc0\x1a6\xe2\xeb\x06\0\x01\0";
+//! let order = b"\x01\0\x06Durham\x02\0\x04\x07\xea\x06\x01\x03\0\x01\x1e\
+//!     \x04\0\x08@Kc=\x07\xc8K^\x05\0\x08\xbf\xf9[\xc0\x1a6\xe2\xeb\x06\0\x01\0";
 //! let times = katchidul::work_day(order, 0)?;
 //! assert_eq!(times.fajr, 1780272300); // 2026-06-01T00:05:00 UTC
 //! assert_eq!(katchidul::prayer_at(order, 0, times.dhuhr.into())?, Some(katchidul::Prayer::Dhuhr));

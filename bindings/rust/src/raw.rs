@@ -156,15 +156,16 @@ mod tests {
     macro_rules! laid_out {
         ($($kind:ident { $($field:ident),+ })+) => {
             vec![$((size_of::<$kind>(), format!("sizeof(katchidul_{})", stringify!($kind).to_lowercase())),
-                $((offset_of!($kind, $field), format!("offsetof(katchidul_{}, {})", stringify!($kind).to_lowercase(), stringify!($field))),)+)+]
+                $((offset_of!($kind, $field),
+                    format!("offsetof(katchidul_{}, {})", stringify!($kind).to_lowercase(), stringify!($field))),)+)+]
         };
     }
 
     #[test]
     fn structs_have_the_header_s_layout() {
         let ours = laid_out! {
-            Order { number, place, town_at, town_length, year, month, day, rows, latitude, longitude, fajr_angle, isha_angle, method, madhab,
-                high_latitude_rule, rounding, shafaq, isha_interval, minutes, carry, clock, southern, ramadan, imsak, shift }
+            Order { number, place, town_at, town_length, year, month, day, rows, latitude, longitude, fajr_angle, isha_angle, method,
+                madhab, high_latitude_rule, rounding, shafaq, isha_interval, minutes, carry, clock, southern, ramadan, imsak, shift }
             Day { number, place, times }
             Prayer { number, place, prayer }
             Remaining { number, place, hours, minutes }

@@ -27,7 +27,8 @@ static bool has_its_times(const std::string &order) {
 
 static bool has_its_pages(const std::string &order) {
   const std::string row = katchidul::write_row(order, 0), cells = katchidul::write_cells(order, 0).cells;
-  return row.size() == KATCHIDUL_ROW_BYTES && row.back() == '\n' && cells == katchidul::write_page(order, 1).cells.substr(0, cells.size()) &&
+  const std::string page = katchidul::write_page(order, 1).cells;
+  return row.size() == KATCHIDUL_ROW_BYTES && row.back() == '\n' && cells == page.substr(0, cells.size()) &&
          katchidul::write_page(order, 2).rows == 5;
 }
 
@@ -38,7 +39,8 @@ static bool has_a_log() {
     log = katchidul::append(log.bytes, KATCHIDUL_RECORD_DONE, page, 25);
   }
   log = katchidul::append(log.bytes, KATCHIDUL_RECORD_SENT, 9, 25);
-  return log.sent == 9 && katchidul::read_log(log.bytes).finished == 8 && katchidul::restart(log.bytes, 9).bytes == std::string("\3\0\2\0\11", 5);
+  return log.sent == 9 && katchidul::read_log(log.bytes).finished == 8 &&
+         katchidul::restart(log.bytes, 9).bytes == std::string("\3\0\2\0\11", 5);
 }
 
 int main() {
