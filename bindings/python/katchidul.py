@@ -176,11 +176,11 @@ CALLS: Dict[str, Tuple[Any, List[Any]]] = {
 # What the calls return.
 
 class Refused(Exception):
-    """A refusal: its number and place. Its text is the library's sentence."""
+    """A refusal: its number, as Refusal has it, and place. Its text is the library's sentence. A later library may have more numbers."""
 
     def __init__(self, number: int, place: int, sentence: str):
         super().__init__(sentence)
-        self.number, self.place = Refusal(number), place
+        self.number, self.place = number, place
 
 
 class Remaining(NamedTuple):
@@ -327,10 +327,10 @@ class Library:
         length: int = self._ask("write_sentence", number, place, room).length
         return room.raw[:length].decode("ascii")
 
-    def read_sentence(self, sentence: str) -> Tuple[Refusal, int]:
+    def read_sentence(self, sentence: str) -> Tuple[int, int]:
         """The number and the place that a sentence says."""
         said = self._ask("read_sentence", sentence.encode("ascii", "replace"))
-        return Refusal(said.of_number), said.of_place
+        return said.of_number, said.of_place
 
     def map_latitude(self, degrees: float) -> Map:
         place: Map = self._ask("map_latitude", degrees)

@@ -1,4 +1,7 @@
 //! The header's structs and calls, field by field. The test at the end holds their layout to the C compiler's.
+//!
+//! A call asks one thing of its caller: that a pointer has as many bytes behind it as its length says, and that buffers do not overlap. The
+//! crate lends slices and vectors of its own, so each `unsafe` keeps that.
 
 #[repr(C)]
 #[derive(Clone, Copy, Default)]

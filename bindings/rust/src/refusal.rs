@@ -36,7 +36,7 @@ impl fmt::Display for Refused {
 impl std::error::Error for Refused {}
 
 fn known(number: u32) -> Refusal {
-    Refusal::from_number(number).expect("a library of the same major version has no other refusals")
+    Refusal::from_number(number).expect("the crate and the archive are of one version")
 }
 
 /// The value of a call that succeeded.
