@@ -55,13 +55,16 @@ def watched(root, name, log):
 
 
 def crates_below(root, name):
-    """The crates of this repository that the program stands on, itself among them. crates.txt goes from low to high."""
-    uses = {}
-    for line in (root / "crates.txt").read_text().splitlines():
-        crate, _, direct = line.partition(":")
-        if line and not line.startswith("#"):
-            uses[crate] = {crate}.union(*[uses.get(other, set()) for other in direct.split()])
-    return uses.get(name, {name})
+    """The crates of this repository that the program stands on, itself among them."""
+    lines = [line.partition(":") for line in (root / "crates.txt").read_text().splitlines() if ":" in line and not line.startswith("#")]
+    uses = {crate: direct.split() for crate, _, direct in lines}
+    found, left = set(), [name]
+    while left:
+        crate = left.pop()
+        if crate not in found:
+            found.add(crate)
+            left.extend(other for other in uses.get(crate, ()) if other in uses)
+    return found
 
 
 def lines_of(stream):
