@@ -37,8 +37,7 @@ def prove(root, name, checked):
 
 def watched(root, name, log):
     """Runs rt, keeps what it says, and tells of each crate that is done. Returns rt's exit status."""
-    progress = Progress(len(crates_below(root, name)))
-    say("proving the %d crates of the program %s, and building it; this is needed once, and after a change" % (progress.crates, name))
+    progress = Progress(name, len(crates_below(root, name)))
     with open(log, "wb") as kept, subprocess.Popen(["rt", "check", name], cwd=root, stdin=subprocess.DEVNULL, stdout=subprocess.PIPE,
                                                    stderr=subprocess.STDOUT) as proof:
         try:
@@ -84,10 +83,13 @@ def lines_of(stream):
 
 
 class Progress:
-    """How many crates are done, of how many, the last of them with its seconds, and the time so far."""
+    """How many crates are done, of how many, the last of them with its seconds, and the time so far.
 
-    def __init__(self, crates):
-        self.crates, self.done, self.last = crates, 0, None
+    Nothing is said as long as every crate was proved before: then rt has read their files only, which takes a moment."""
+
+    def __init__(self, name, crates):
+        self.name, self.crates, self.done, self.last = name, crates, 0, None
+        self.is_told = False
         self.started = time.monotonic()
         self.is_terminal = os.isatty(2)
         self.width = 0
@@ -96,15 +98,24 @@ class Progress:
         """A crate is done. It has no seconds if it was proved before, and then it gets no line of its own."""
         self.done += 1
         self.last = "%s (%s s)" % (crate, seconds) if seconds else crate
-        if self.is_terminal:
+        if seconds:
+            self.begin()
+            if not self.is_terminal:
+                say(self.line())
+        if self.is_terminal and self.is_told:
             self.rewrite()
-        elif seconds:
-            say(self.line())
 
     def go_on(self):
         """Only time went by."""
+        self.begin()
         if self.is_terminal and self.last:
             self.rewrite()
+
+    def begin(self):
+        """Says once what is being done."""
+        if not self.is_told:
+            say("proving the %d crates of the program %s, and building it; this is needed once, and after a change" % (self.crates, self.name))
+            self.is_told = True
 
     def line(self):
         return "proving %d of %d: %s, %s so far" % (self.done, self.crates, self.last, lasting(time.monotonic() - self.started))

@@ -151,7 +151,14 @@ def progress_on_a_terminal(checkout):
     first, _, rest = said.partition("\r\n")
     steps = [step.rstrip() for step in rest.rstrip("\r\n").split("\r")[1:]]
     check("one line", (first.startswith("proving the 3 crates"), rest.count("\n"), rest.endswith("\r\n")), (True, 1, True))
-    check("its steps", [step.split(", ")[0] for step in steps], ["proving 1 of 3: prelude", "proving 2 of 3: lines (61 s)", "proving 3 of 3: sheet (2 s)"])
+    check("its steps", [step.split(", ")[0] for step in steps], ["proving 2 of 3: lines (61 s)", "proving 3 of 3: sheet (2 s)"])
+
+
+@in_checkout
+def nothing_to_prove(checkout):
+    """A file is newer, but rt finds every crate as it was: nothing is said."""
+    (checkout.bin / "rt").write_text(RT.replace('echo "rt: $2 proved (1 s)"', 'echo "rt: $2 proved (unchanged since it was last proved)"'))
+    check("every crate as it was", checkout.run("sheet")[::2], (0, ""))
 
 
 @in_checkout
@@ -240,4 +247,4 @@ def installed():
         check("a program that is missing", (missing.returncode, missing.stdout, b"install Katchidul again" in missing.stderr), (2, b"", True))
 
 
-TESTS = [proofs, progress_in_lines, progress_on_a_terminal, progress_that_fails, durations, two_at_once, stopped, refused, installed]
+TESTS = [proofs, progress_in_lines, progress_on_a_terminal, nothing_to_prove, progress_that_fails, durations, two_at_once, stopped, refused, installed]
