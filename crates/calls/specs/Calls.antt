@@ -32,7 +32,7 @@ use Rattle.calls.specs.declared.in_force.TimeUntil.the-variants as until
 
 -- ---- a day
 abbrev pub workDateOf : Order → Date → Worked
-workDateOf order date = workedAt date (order .coordinates) (order .parameters) (order .rules)
+workDateOf order date = workedAt date (order .setting)
 
 -- "rows count from 0, and a row that the order lacks is 5, place 3"
 abbrev pub lacksRow : Refusal

@@ -13,14 +13,12 @@ use schedule::rolling::RowSuns;
 // The tag of an order's rows: the place of a row that it lacks.
 const ROWS_TAG: u32 = 3;
 
-// A date by the order's place, parameters and rules: the first row of a run of rows.
+// A date by the order's setting: the first row of a run of rows.
 pub fn work_date(order: Order, date: Date) -> Worked
     ensures { λ r. ⌜ r ≡ workDateOf order date ⌝ }
 {
-    let coordinates = order.coordinates;
-    let parameters = order.parameters;
-    let rules = order.rules;
-    RowSuns::new(date, coordinates, parameters, rules).work(coordinates.latitude, parameters, rules)
+    let setting = order.setting;
+    RowSuns::new(date, setting).work(setting)
 }
 
 pub fn lacks_row() -> Refusal

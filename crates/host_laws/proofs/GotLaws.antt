@@ -93,8 +93,8 @@ module _ (a b : List ℕ) (orders : LaterOrder a b) (row : ℕ) where
 pub later-orders-move-for-host : LaterOrdersMoveForHost
 unfolding moved
 later-orders-move-for-host a b orders row =
-    let p = orders .first .parameters in
-    let q = orders .second .parameters in
+    let p = orders .first .setting .parameters in
+    let q = orders .second .setting .parameters in
     let m = later-orders-move-their-rows a b orders row in
     record {
       refused = refused-same a b orders row (workDayOf a row) (workDayOf b row) refl refl;

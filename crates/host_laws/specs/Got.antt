@@ -26,7 +26,7 @@ pub record MovedForHost (a b : List ℕ) (orders : LaterOrder a b) (row : ℕ) :
   -- the two sums for it, and tomorrow's Fajr by exactly Fajr's difference"
   pub «none_earlier» : dayGot a row .refusal .number ≡ 0 → NoneEarlier (dayGot a row .times) (dayGot b row .times)
   pub «exactly_later» : dayGot a row .refusal .number ≡ 0
-      → ExactlyLater (orders .first .parameters) (orders .second .parameters) (dayGot a row .times) (dayGot b row .times)
+      → ExactlyLater (orders .first .setting .parameters) (orders .second .setting .parameters) (dayGot a row .times) (dayGot b row .times)
   -- "for any instants t and u, u not after t, the prayer in force at u under the second stands no later in the list of eight than at t under the first
   -- ("none" standing before Fajr)": none is 0, Fajr 1
   pub «in_force» : (t u : Instant) → instantFits t ≡ true → instantFits u ≡ true → NotAfter u t → prayerGot b row u .prayer ≤ prayerGot a row t .prayer

@@ -11,6 +11,7 @@ use Rattle.fields.specs.Values.{partIn, Values, valuesOf}
 use Rattle.hijri.specs.Ramadan.{ramadanStartOf}
 use Rattle.hijri.specs.declared.ramadan.Ramadan.{Ramadan}
 use Rattle.map_form.specs.Written as map
+use Rattle.models.specs.Chosen.{settingOf}
 use Rattle.refusals.specs.Refusals.{refusal, noRefusal, tagMissing, outOfRange, bothForms, notFirstOfRamadan}
 use Rattle.refusals.specs.declared.Refusal.{Refusal}
 use Rattle.unit.specs.Unit.{coordinatesOf}
@@ -58,9 +59,8 @@ orderOf v =
       town = v .part townTag;
       date = dateIn (v .value dateTag);
       rows = rowsIn (v .value rowsTag);
-      coordinates = coordinatesOf (coordinateIn v latitudeTag map.latitudeTag) (coordinateIn v longitudeTag map.longitudeTag);
-      parameters = parametersIn v;
-      rules = rulesIn v;
+      setting =
+          settingOf (coordinatesOf (coordinateIn v latitudeTag map.latitudeTag) (coordinateIn v longitudeTag map.longitudeTag)) (parametersIn v) (rulesIn v);
       clock = clockIn v;
       ramadan = ramadanIn v;
     }

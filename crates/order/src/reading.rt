@@ -20,8 +20,7 @@ use fields::values::bytes;
 use fields::values::value;
 use hijri::ramadan::Ramadan;
 use hijri::ramadan::is_ramadan_start;
-use models::parameters::Parameters;
-use models::rules::Rules;
+use models::setting::Setting;
 use refusals::BOTH_FORMS;
 use refusals::NOT_FIRST_OF_RAMADAN;
 use refusals::OUT_OF_RANGE;
@@ -47,9 +46,7 @@ pub struct Order {
     pub town: Part,
     pub date: Date,
     pub rows: u32,
-    pub coordinates: Coordinates,
-    pub parameters: Parameters,
-    pub rules: Rules,
+    pub setting: Setting,
     // Minutes from UTC to the clock that the cells show.
     pub clock: i32,
     pub ramadan: Ramadan,
@@ -130,12 +127,14 @@ fn record_in(order: &[u8], fields: Fields) -> Order
         town: fields.part(tags::TOWN),
         date: date_in(value(order, fields, tags::DATE)),
         rows: rows_in(value(order, fields, tags::ROWS)),
-        coordinates: Coordinates::new(
-            coordinate_in(order, fields, tags::LATITUDE, map_form::LATITUDE),
-            coordinate_in(order, fields, tags::LONGITUDE, map_form::LONGITUDE),
-        ),
-        parameters: parameters_in(order, fields),
-        rules: rules_in(order, fields),
+        setting: Setting {
+            coordinates: Coordinates::new(
+                coordinate_in(order, fields, tags::LATITUDE, map_form::LATITUDE),
+                coordinate_in(order, fields, tags::LONGITUDE, map_form::LONGITUDE),
+            ),
+            parameters: parameters_in(order, fields),
+            rules: rules_in(order, fields),
+        },
         clock: clock_in(order, fields),
         ramadan: ramadan_in(order, fields),
     }

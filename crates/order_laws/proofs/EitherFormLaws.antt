@@ -190,16 +190,16 @@ module _ (a b : List ℕ) (orders : SamePlace a b) where
   latitude-same : coordinateIn (valuesOf a) 4 18 ≡ coordinateIn (valuesOf b) 4 18
   unfolding orderOf
   latitude-same =
-      ap (λ (o : Order). o .coordinates .latitude) first-same
+      ap (λ (o : Order). o .setting .coordinates .latitude) first-same
       ∙ orders .latitude
-      ∙ sym (ap (λ (o : Order). o .coordinates .latitude) second-same)
+      ∙ sym (ap (λ (o : Order). o .setting .coordinates .latitude) second-same)
 
   longitude-same : coordinateIn (valuesOf a) 5 19 ≡ coordinateIn (valuesOf b) 5 19
   unfolding orderOf
   longitude-same =
-      ap (λ (o : Order). o .coordinates .longitude) first-same
+      ap (λ (o : Order). o .setting .coordinates .longitude) first-same
       ∙ orders .longitude
-      ∙ sym (ap (λ (o : Order). o .coordinates .longitude) second-same)
+      ∙ sym (ap (λ (o : Order). o .setting .coordinates .longitude) second-same)
 
   given-same : withTown (orderOf (valuesOf a)) (orderOf (valuesOf b) .town) ≡ orderOf (valuesOf b)
   unfolding orderOf
@@ -220,8 +220,8 @@ either-form-answers-alike a b orders =
     (same, answered-alike a b (orders .first) (orders .second) (orders .«first_read») (orders .«second_read») same (town-same a b orders))
 
 -- ---- demand 3
-moved-town : (f g : Order) (p q : Part) → withOwnMinutes f (g .town) (g .parameters .adjustments) ≡ g
-    → withOwnMinutes (withTown f p) q (withTown g q .parameters .adjustments) ≡ withTown g q
+moved-town : (f g : Order) (p q : Part) → withOwnMinutes f (g .town) (g .setting .parameters .adjustments) ≡ g
+    → withOwnMinutes (withTown f p) q (withTown g q .setting .parameters .adjustments) ≡ withTown g q
 moved-town f g p q e = ap (λ (o : Order). withTown o q) e
 
 pub either-form-moves-alike : EitherFormMovesAlike
@@ -237,11 +237,11 @@ either-form-moves-alike a b c d p q later =
       «second_read» = q .«second_read»;
       town = sym (town-same a c p) ∙ later .town ∙ town-same b d q;
       alike =
-          subst (λ (o : Order). withOwnMinutes o (q .second .town) (q .second .parameters .adjustments) ≡ q .second) x
-          (subst (λ (o : Order). withOwnMinutes (withTown (later .first) (p .second .town)) (q .second .town) (o .parameters .adjustments) ≡ o) y
+          subst (λ (o : Order). withOwnMinutes o (q .second .town) (q .second .setting .parameters .adjustments) ≡ q .second) x
+          (subst (λ (o : Order). withOwnMinutes (withTown (later .first) (p .second .town)) (q .second .town) (o .setting .parameters .adjustments) ≡ o) y
           (moved-town (later .first) (later .second) (p .second .town) (q .second .town) (later .alike)));
       more =
           λ (prayer : Prayer).
-          subst (λ (o : Order). leZ (timeAdjustmentsOf (o .parameters) prayer) (timeAdjustmentsOf (q .second .parameters) prayer) ≡ true) x
-          (subst (λ (o : Order). leZ (timeAdjustmentsOf (later .first .parameters) prayer) (timeAdjustmentsOf (o .parameters) prayer) ≡ true) y (later .more prayer));
+          subst (λ (o : Order). leZ (timeAdjustmentsOf (o .setting .parameters) prayer) (timeAdjustmentsOf (q .second .setting .parameters) prayer) ≡ true) x
+          (subst (λ (o : Order). leZ (timeAdjustmentsOf (later .first .setting .parameters) prayer) (timeAdjustmentsOf (o .setting .parameters) prayer) ≡ true) y (later .more prayer));
     }

@@ -24,7 +24,7 @@ use Rattle.schedule.specs.Times.{workedAt}
 use Rattle.schedule.specs.declared.prayer_times.Worked.{Worked}
 use Rattle.schedule.specs.declared.prayer_times.Worked.the-variants as worked
 use Rattle.calls.specs.Calls.{workRowOf}
-use Rattle.order_laws.specs.FormerRows.{formerLengthFits, formerFaultOf, formerWalkOf, formerCheckOf, formerRowsFit, formerInRange, cratesRules, noRamadan, formerOrderOf, formerReadingOf, formerLine, formerLines, formerText, newAt, OrdersAreAsBefore}
+use Rattle.order_laws.specs.FormerRows.{formerLengthFits, formerFaultOf, formerWalkOf, formerCheckOf, formerRowsFit, formerInRange, cratesRules, noRamadan, formerSetting, formerOrderOf, formerReadingOf, formerLine, formerLines, formerText, newAt, OrdersAreAsBefore}
 
 -- ---- the form of the fields: the same fault, or a field that was unknown and is new
 abbrev New : List ℕ → Refusal → Type 0
@@ -290,7 +290,7 @@ module _ (s : List ℕ) where
   lines-same zero h = refl
   lines-same (suc n) h =
       let date = rowDateOf (former .date) n in
-      rw (lines-same n (omega arith), lt-ltb n (former .rows) (omega arith), line-same date (workedAt date (former .coordinates) (former .parameters) cratesRules))
+      rw (lines-same n (omega arith), lt-ltb n (former .rows) (omega arith), line-same date (workedAt date (formerSetting former)))
 
   text-same : (town : List ℕ) → acceptedText town former ≡ formerText town former
   unfolding acceptedText formerText headText headerText formerOrderOf

@@ -24,8 +24,8 @@ use Rattle.calls.specs.Calls.{lacksRow, workRowOf, workReadingOf, workDayOf, le
 use Rattle.order_laws.specs.Minutes.{withOwnMinutes, LaterOrder, ImsakMoved, LaterOrdersMoveTheirRows}
 
 -- ---- what an accepted order's sums can be
-held : (order : Order) → Accepted order → (prayer : Prayer) → Near (2 ^ 32) (timeAdjustmentsOf (order .parameters) prayer)
-held order h = sums-held (order .parameters) (h .parameters)
+held : (order : Order) → Accepted order → (prayer : Prayer) → Near (2 ^ 32) (timeAdjustmentsOf (order .setting .parameters) prayer)
+held order h = sums-held (order .setting .parameters) (h .parameters)
 
 -- ---- a row that the order lacks
 alike-refused : (p q : Parameters) (r : Refusal) → Moved p q (worked.Refused r) (worked.Refused r)
@@ -47,13 +47,13 @@ module _ (first : Order) (town : Part) (minutes : TimeAdjustment) (row : ℕ) wh
   second = withOwnMinutes first town minutes
 
   row-moved : Accepted first → Accepted second
-      → ((prayer : Prayer) → leZ (timeAdjustmentsOf (first .parameters) prayer) (timeAdjustmentsOf (second .parameters) prayer) ≡ true)
-      → Moved (first .parameters) (second .parameters) (workRowOf first row) (workRowOf second row)
+      → ((prayer : Prayer) → leZ (timeAdjustmentsOf (first .setting .parameters) prayer) (timeAdjustmentsOf (second .setting .parameters) prayer) ≡ true)
+      → Moved (first .setting .parameters) (second .setting .parameters) (workRowOf first row) (workRowOf second row)
   unfolding workRowOf second
   row-moved h k more = by-test (ltb row (first .rows))
     where
       p : Parameters
-      p = first .parameters
+      p = first .setting .parameters
 
       q : Parameters
       q = withMinutes p minutes
@@ -61,9 +61,9 @@ module _ (first : Order) (town : Part) (minutes : TimeAdjustment) (row : ℕ) wh
       later : LaterMinutes p q
       later = record { alike = refl; more = more; «first_held» = held first h; «second_held» = held (withOwnMinutes first town minutes) k }
 
-      by-test : (b : Bool) → Moved p q (cond b (workedAt (rowDateOf (first .date) row) (first .coordinates) p (first .rules)) (worked.Refused lacksRow))
-          (cond b (workedAt (rowDateOf (first .date) row) (first .coordinates) q (first .rules)) (worked.Refused lacksRow))
-      by-test true = later-minutes-move-the-row (rowDateOf (first .date) row) (first .coordinates) (first .rules) p q later
+      by-test : (b : Bool) → Moved p q (cond b (workedAt (rowDateOf (first .date) row) (first .setting)) (worked.Refused lacksRow))
+          (cond b (workedAt (rowDateOf (first .date) row) (second .setting)) (worked.Refused lacksRow))
+      by-test true = later-minutes-move-the-row (rowDateOf (first .date) row) (first .setting .coordinates) (first .setting .rules) p q later
       by-test false = alike-refused p q lacksRow
 
 -- ---- what naming the prayer answers
@@ -105,10 +105,10 @@ less-than-a-second i h =
 -- ---- the theorem
 module _ (a b : List ℕ) (orders : LaterOrder a b) (row : ℕ) where
   p : Parameters
-  p = orders .first .parameters
+  p = orders .first .setting .parameters
 
   q : Parameters
-  q = orders .second .parameters
+  q = orders .second .setting .parameters
 
   day-of-first : workDayOf a row ≡ workRowOf (orders .first) row
   unfolding workDayOf workReadingOf
@@ -124,12 +124,12 @@ module _ (a b : List ℕ) (orders : LaterOrder a b) (row : ℕ) where
       let e = orders .alike in
       let h = read-accepted a (orders .first) (orders .«first_read») in
       let k = subst Accepted (sym e) (read-accepted b (orders .second) (orders .«second_read»)) in
-      let More : Order → Type 0 = λ o. (prayer : Prayer) → leZ (timeAdjustmentsOf (orders .first .parameters) prayer) (timeAdjustmentsOf (o .parameters) prayer) ≡ true in
+      let More : Order → Type 0 = λ o. (prayer : Prayer) → leZ (timeAdjustmentsOf (orders .first .setting .parameters) prayer) (timeAdjustmentsOf (o .setting .parameters) prayer) ≡ true in
       let more = subst More (sym e) (orders .more) in
-      let m = row-moved (orders .first) (orders .second .town) (orders .second .parameters .adjustments) row h k more in
-      let n = subst (λ (x : Order). Moved (orders .first .parameters) (x .parameters) (workRowOf (orders .first) row) (workRowOf x row)) e m in
-      subst (λ (w : Worked). Moved (orders .first .parameters) (orders .second .parameters) w (workDayOf b row)) (sym day-of-first)
-      (subst (λ (w : Worked). Moved (orders .first .parameters) (orders .second .parameters) (workRowOf (orders .first) row) w) (sym day-of-second) n)
+      let m = row-moved (orders .first) (orders .second .town) (orders .second .setting .parameters .adjustments) row h k more in
+      let n = subst (λ (x : Order). Moved (orders .first .parameters) (x .setting .parameters) (workRowOf (orders .first) row) (workRowOf x row)) e m in
+      subst (λ (w : Worked). Moved (orders .first .setting .parameters) (orders .second .setting .parameters) w (workDayOf b row)) (sym day-of-first)
+      (subst (λ (w : Worked). Moved (orders .first .setting .parameters) (orders .second .setting .parameters) (workRowOf (orders .first) row) w) (sym day-of-second) n)
 
 -- imsak is Fajr less the same minutes on both sheets
 shifted : (f g d : ℤ) (m : ℕ) → g ≡ f +ℤ d → g -ℤ pos m ≡ (f -ℤ pos m) +ℤ d
@@ -179,8 +179,8 @@ module _ (a b : List ℕ) (orders : LaterOrder a b) (row : ℕ) (t u : PrayerTim
             (subst (λ (z : ℤ). leZ (t .fajr -ℤ pos m) z ≡ true) (sym second-imsak) (kept (t .fajr) (u .fajr) m none));
         exactly =
             second-imsak
-            ∙ shifted (t .fajr) (u .fajr) (laterBy (orders .first .parameters) (orders .second .parameters) Fajr) m exact
-            ∙ ap (λ (z : ℤ). z +ℤ laterBy (orders .first .parameters) (orders .second .parameters) Fajr) (sym first-imsak);
+            ∙ shifted (t .fajr) (u .fajr) (laterBy (orders .first .setting .parameters) (orders .second .setting .parameters) Fajr) m exact
+            ∙ ap (λ (z : ℤ). z +ℤ laterBy (orders .first .setting .parameters) (orders .second .setting .parameters) Fajr) (sym first-imsak);
       }
 
 pub later-orders-move-their-rows : LaterOrdersMoveTheirRows

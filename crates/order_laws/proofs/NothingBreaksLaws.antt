@@ -26,7 +26,7 @@ use Rattle.refusals.specs.declared.Refusal.{Refusal}
 use Rattle.reports.specs.Reports.{reportIn}
 use Rattle.rows.proofs.Answers.{row-short, row-read, row-refused}
 use Rattle.rows.specs.Rows.{workedCallOf, readCallOf, rowCallOf, headText, linesText, acceptedText, sheetText}
-use Rattle.schedule.proofs.Schedule.{sunsOf, dayHoursOf, rowHoursOf, hoursOf, numbersOf, seasonOf, workedFrom, workedOf}
+use Rattle.schedule.proofs.Schedule.{sunsOf, hoursOf, numbersOf, seasonOf, workedFrom, workedOf}
 use Rattle.schedule.specs.declared.hours.RowHours.{RowHours}
 use Rattle.schedule.specs.declared.hours.RowNumbers.{RowNumbers}
 use Rattle.schedule.specs.declared.prayer_times.Worked.{Worked}
@@ -106,20 +106,20 @@ module _ (h : RowHours) (date : Date) (season : Season) (p : Parameters) (r : Re
 
 module _ (o : Order) (date : Date) (r : Refusal) where
   abbrev numbers : RowNumbers
-  numbers = numbersOf date (o .coordinates) (o .parameters)
+  numbers = numbersOf date (o .setting .coordinates) (o .setting .parameters)
 
   refused-day : workDateOf o date ≡ worked.Refused r → RefusedDay o date r
-  unfolding workedOf workedFrom hoursOf rowHoursOf dayHoursOf
+  unfolding workedOf workedFrom hoursOf
   refused-day e =
-      let rule = o .rules .midnight in
-      let f = by-days (hoursOf rule numbers) date (seasonOf (o .coordinates .latitude) (o .rules)) (o .parameters) r
+      let rule = o .setting .rules .midnight in
+      let f = by-days (hoursOf rule numbers) date (seasonOf (o .setting)) (o .setting .parameters) r
       (solarTimeOf rule (numbers .today)) (solarTimeOf rule (numbers .tomorrow)) (solarTimeOf rule (numbers .after))
       (lacks-number rule (numbers .today)) (lacks-number rule (numbers .tomorrow)) (lacks-number rule (numbers .after)) e in
       record { number = f .0; place = f .1; lacking = f .2 }
 
   lacking-day : FirstLacking (r .number) (r .place) (threeDays o date) → workDateOf o date ≡ worked.Refused r
-  unfolding workedOf workedFrom hoursOf rowHoursOf dayHoursOf
-  lacking-day l = by-lacking (hoursOf (o .rules .midnight) numbers) date (seasonOf (o .coordinates .latitude) (o .rules)) (o .parameters) r l
+  unfolding workedOf workedFrom hoursOf
+  lacking-day l = by-lacking (hoursOf (o .setting .rules .midnight) numbers) date (seasonOf (o .setting)) (o .setting .parameters) r l
 
 -- a row that the order has is its date's
 row-of : (s : List ℕ) (o : Order) (row : ℕ) → readingOf s ≡ reading.Read o → row < o .rows → workDayOf s row ≡ workDateOf o (rowDateOf (o .date) row)

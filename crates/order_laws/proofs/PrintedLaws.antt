@@ -58,10 +58,10 @@ by-its-date order row t h e = by-row (ltb row (order .rows)) e
     date = rowDateOf (order .date) row
 
     by-row : (b : Bool)
-        → cond b (workedAt date (order .coordinates) (order .parameters) (order .rules)) (Refused (refusal 5 3)) ≡ Times t
+        → cond b (workedAt date (order .setting)) (Refused (refusal 5 3)) ≡ Times t
         → AllOfDate date t
     by-row true w =
-        times-lie-by-their-date (order .rules .midnight) (numbersOf date (order .coordinates) (order .parameters)) date (seasonOf (order .coordinates .latitude) (order .rules)) (order .parameters) t (h .latitude) (h .parameters) w
+        times-lie-by-their-date (order .setting .rules .midnight) (numbersOf date (order .setting .coordinates) (order .setting .parameters)) date (seasonOf (order .setting)) (order .setting .parameters) t (h .latitude) (h .parameters) w
     by-row false w = absurd (subst isTimes (sym w) tt)
 
 pub days-are-printed-whole : DaysArePrintedWhole
@@ -94,7 +94,7 @@ unfolding workRowOf
 row-there order row t e = go (ltb row (order .rows)) refl e
   where
     go : (b : Bool) → ltb row (order .rows) ≡ b
-        → cond b (workedAt (rowDateOf (order .date) row) (order .coordinates) (order .parameters) (order .rules)) (Refused (refusal 5 3)) ≡ Times t
+        → cond b (workedAt (rowDateOf (order .date) row) (order .setting)) (Refused (refusal 5 3)) ≡ Times t
         → row < order .rows
     go true h w = ltb-true row (order .rows) h
     go false h w = absurd (subst isTimes (sym w) tt)

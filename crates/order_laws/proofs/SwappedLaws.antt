@@ -108,14 +108,14 @@ module _ (a b : List ℕ) (w : Swapped a b) where
   unfolding isGivenOf lookUp inRangeOf fitsOf
   latitude-fine =
       fine 4 18 90 (lit≤ tt) (lit≤ tt) (lit≤ tt) (lit≤ tt) (either-given 3 (lit≤ tt)) (one-each .0) (λ there fits. rw there fits)
-      (λ there lacks. rw there (float-fits 90 4 18 (w .order .coordinates .latitude) (accepted .latitude) (w .«same_latitude») lacks))
+      (λ there lacks. rw there (float-fits 90 4 18 (w .order .setting .coordinates .latitude) (accepted .latitude) (w .«same_latitude») lacks))
       (w .latitude)
 
   longitude-fine : Fine 5 19
   unfolding isGivenOf lookUp inRangeOf fitsOf
   longitude-fine =
       fine 5 19 180 (lit≤ tt) (lit≤ tt) (lit≤ tt) (lit≤ tt) (either-given 4 (lit≤ tt)) (one-each .1) (λ there fits. rw there fits)
-      (λ there lacks. rw there (float-fits 180 5 19 (w .order .coordinates .longitude) (accepted .longitude) (w .«same_longitude») lacks))
+      (λ there lacks. rw there (float-fits 180 5 19 (w .order .setting .coordinates .longitude) (accepted .longitude) (w .«same_longitude») lacks))
       (w .longitude)
 
   -- ---- the checks
@@ -199,13 +199,13 @@ module _ (s : List ℕ) (o : Order) (e : readingOf s ≡ Read o) where
   unfolding fitsOf lookUp
   longitude-fits h = fits-given (valuesOf s) (was-passed .ranges) 19 (lit≤ tt) (lit≤ tt) h
 
-  latitude-is : hasOf s 18 ≡ true → o .coordinates .latitude ≡ degreesOf (signedHundredthsOf (formIn (valueOf s 18)))
+  latitude-is : hasOf s 18 ≡ true → o .setting .coordinates .latitude ≡ degreesOf (signedHundredthsOf (formIn (valueOf s 18)))
   unfolding orderOf coordinateIn
-  latitude-is h = ap (λ (x : Order). x .coordinates .latitude) (sym (was-passed .same)) ∙ simp h
+  latitude-is h = ap (λ (x : Order). x .setting .coordinates .latitude) (sym (was-passed .same)) ∙ simp h
 
-  longitude-is : hasOf s 19 ≡ true → o .coordinates .longitude ≡ degreesOf (signedHundredthsOf (formIn (valueOf s 19)))
+  longitude-is : hasOf s 19 ≡ true → o .setting .coordinates .longitude ≡ degreesOf (signedHundredthsOf (formIn (valueOf s 19)))
   unfolding orderOf coordinateIn
-  longitude-is h = ap (λ (x : Order). x .coordinates .longitude) (sym (was-passed .same)) ∙ simp h
+  longitude-is h = ap (λ (x : Order). x .setting .coordinates .longitude) (sym (was-passed .same)) ∙ simp h
 
 pub read-is-written-back : ReadIsWrittenBack
 read-is-written-back s o e =

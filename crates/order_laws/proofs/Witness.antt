@@ -36,7 +36,7 @@ abbrev later : List ℕ
 later = onTheMap ++ (11 ∷ 0 ∷ 12 ∷ 0 ∷ 1 ∷ replicate 10 0)
 
 more-minutes : (prayer : Prayer)
-    → leZ (timeAdjustmentsOf (orderOf (valuesOf earlier) .parameters) prayer) (timeAdjustmentsOf (orderOf (valuesOf later) .parameters) prayer) ≡ true
+    → leZ (timeAdjustmentsOf (orderOf (valuesOf earlier) .setting .parameters) prayer) (timeAdjustmentsOf (orderOf (valuesOf later) .setting .parameters) prayer) ≡ true
 unfolding valuesIn fieldsOf collectOf lengthAt unsignedOf signedAtOf minutesIn minutesOr byteOr degreesOr roundingOr intervalOr parametersIn orderOf timeAdjustmentsOf preset presetOf methodOf minutesFor
 more-minutes Fajr = refl
 more-minutes Sunrise = refl

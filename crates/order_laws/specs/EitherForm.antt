@@ -30,8 +30,8 @@ pub record SamePlace (a b : List ℕ) : Type 0 where
   pub second : Order
   pub «first_read» : readingOf a ≡ Read first
   pub «second_read» : readingOf b ≡ Read second
-  pub latitude : first .coordinates .latitude ≡ second .coordinates .latitude
-  pub longitude : first .coordinates .longitude ≡ second .coordinates .longitude
+  pub latitude : first .setting .coordinates .latitude ≡ second .setting .coordinates .latitude
+  pub longitude : first .setting .coordinates .longitude ≡ second .setting .coordinates .longitude
   pub others : (tag : ℕ) → tag ≤ lastTag → saysPlace tag ≡ false → (hasOf a tag ≡ hasOf b tag) × (valueOf a tag ≡ valueOf b tag)
 
 -- an order whose town stands elsewhere in its bytes
@@ -41,9 +41,7 @@ withTown order town =
       town = town;
       date = order .date;
       rows = order .rows;
-      coordinates = order .coordinates;
-      parameters = order .parameters;
-      rules = order .rules;
+      setting = order .setting;
       clock = order .clock;
       ramadan = order .ramadan;
     }

@@ -19,9 +19,11 @@ use Rattle.fields.specs.Tags.{tags, lastTag, lengthFits}
 use Rattle.fields.specs.Values.{valueOf, Values, valuesOf}
 use Rattle.hijri.specs.declared.ramadan.Ramadan.{Ramadan}
 use Rattle.lines.specs.Lines.{nineOf, rowText, refusedDayText}
+use Rattle.models.specs.Chosen.{settingOf}
 use Rattle.models.specs.declared.rules.Rules.{Rules}
 use Rattle.models.specs.declared.rules.Midnight.the-variants.{Stops}
 use Rattle.models.specs.declared.rules.Southern.the-variants.{Unreduced}
+use Rattle.models.specs.declared.setting.Setting.{Setting}
 use Rattle.order.specs.Given.{dateIn, degreesIn, parametersIn}
 use Rattle.order.specs.Ranges.{between, lastYear, fitsOf}
 use Rattle.order.specs.Reading.{firstFailing, required, tagsFrom, firstOf, readingOf}
@@ -83,9 +85,7 @@ formerOrderOf v =
       town = v .part 1;
       date = dateIn (v .value 2);
       rows = byteOf (v .value 3) 0;
-      coordinates = coordinatesOf (degreesIn (v .value 4)) (degreesIn (v .value 5));
-      parameters = parametersIn v;
-      rules = cratesRules;
+      setting = settingOf (coordinatesOf (degreesIn (v .value 4)) (degreesIn (v .value 5))) (parametersIn v) cratesRules;
       clock = pos 0;
       ramadan = noRamadan;
     }
@@ -103,10 +103,12 @@ unfoldable pub formerLine : Date → Worked → List ℕ
 formerLine date (worked.Times t) = rowText date (nineOf t)
 formerLine date (worked.Refused r) = refusedDayText date r
 
+abbrev pub formerSetting : Order → Setting
+formerSetting o = settingOf (o .setting .coordinates) (o .setting .parameters) cratesRules
+
 unfoldable pub formerLines : Order → ℕ → List ℕ
 formerLines o zero = []
-formerLines o (suc n) =
-    let date = rowDateOf (o .date) n in formerLines o n ++ formerLine date (workedAt date (o .coordinates) (o .parameters) cratesRules)
+formerLines o (suc n) = let date = rowDateOf (o .date) n in formerLines o n ++ formerLine date (workedAt date (formerSetting o))
 
 unfoldable pub formerText : List ℕ → Order → List ℕ
 formerText town o = (town ++ ascii "\ndate fajr sunrise dhuhr asr maghrib isha middle qiyam tomorrow\n") ++ formerLines o (o .rows)

@@ -12,6 +12,7 @@ use Prim.Native.Nat.{ℕ, _≤_}
 use lib.IntN.{_+ℤ_}
 use lib.Signed.{leZ}
 use Rattle.fields.specs.declared.values.Part.{Part}
+use Rattle.models.specs.Chosen.{settingOf}
 use Rattle.models.specs.declared.adjustments.TimeAdjustment.{TimeAdjustment}
 use Rattle.models.specs.declared.prayer.Prayer.{Prayer}
 use Rattle.models.specs.declared.prayer.Prayer.the-variants.{Fajr}
@@ -37,9 +38,7 @@ withOwnMinutes order town minutes =
       town = town;
       date = order .date;
       rows = order .rows;
-      coordinates = order .coordinates;
-      parameters = withMinutes (order .parameters) minutes;
-      rules = order .rules;
+      setting = settingOf (order .setting .coordinates) (withMinutes (order .setting .parameters) minutes) (order .setting .rules);
       clock = order .clock;
       ramadan = order .ramadan;
     }
@@ -52,20 +51,20 @@ pub record LaterOrder (a b : List ℕ) : Type 0 where
   pub «first_read» : readingOf a ≡ Read first
   pub «second_read» : readingOf b ≡ Read second
   pub town : townOf a ≡ townOf b
-  pub alike : withOwnMinutes first (second .town) (second .parameters .adjustments) ≡ second
+  pub alike : withOwnMinutes first (second .town) (second .setting .parameters .adjustments) ≡ second
   -- "the six prayers are tag 11's"; Qiyam and tomorrow's Fajr have no minutes, so that their sums are equal
-  pub more : (prayer : Prayer) → leZ (timeAdjustmentsOf (first .parameters) prayer) (timeAdjustmentsOf (second .parameters) prayer) ≡ true
+  pub more : (prayer : Prayer) → leZ (timeAdjustmentsOf (first .setting .parameters) prayer) (timeAdjustmentsOf (second .setting .parameters) prayer) ≡ true
 
 -- imsak of each, as the sheet has it
 pub record ImsakMoved (first second : Order) (t u : PrayerTimes) : Type 0 where
   pub same : second .ramadan ≡ first .ramadan
   pub «not_earlier» : leZ (imsakOf (first .ramadan .imsak) (t .fajr)) (imsakOf (second .ramadan .imsak) (u .fajr)) ≡ true
   pub exactly : imsakOf (second .ramadan .imsak) (u .fajr)
-      ≡ imsakOf (first .ramadan .imsak) (t .fajr) +ℤ laterBy (first .parameters) (second .parameters) Fajr
+      ≡ imsakOf (first .ramadan .imsak) (t .fajr) +ℤ laterBy (first .setting .parameters) (second .setting .parameters) Fajr
 
 pub record MovedRow (a b : List ℕ) (orders : LaterOrder a b) (row : ℕ) : Type 0 where
   -- what working the row answers: refused alike, none earlier, six times and tomorrow's Fajr by exactly the difference (crates/schedule_laws/specs/Later)
-  pub day : Moved (orders .first .parameters) (orders .second .parameters) (workDayOf a row) (workDayOf b row)
+  pub day : Moved (orders .first .setting .parameters) (orders .second .setting .parameters) (workDayOf a row) (workDayOf b row)
   -- request 12: "Raising Fajr's minutes moves imsak by as much": imsak, which is no earlier, by exactly Fajr's difference
   pub imsak : (t u : PrayerTimes) → workDayOf a row ≡ Times t → workDayOf b row ≡ Times u
       → ImsakMoved (orders .first) (orders .second) t u

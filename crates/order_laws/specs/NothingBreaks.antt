@@ -50,8 +50,8 @@ dayNumbers = noTransit ∷ noSunrise ∷ noSunset ∷ []
 -- a date's own day and the next two: the sun's times of each, or the number of what it lacks
 abbrev pub threeDays : Order → Date → List SolarDay
 threeDays o date =
-    let numbers = numbersOf date (o .coordinates) (o .parameters) in
-    let rule = o .rules .midnight in
+    let numbers = numbersOf date (o .setting .coordinates) (o .setting .parameters) in
+    let rule = o .setting .rules .midnight in
     solarTimeOf rule (numbers .today) ∷ solarTimeOf rule (numbers .tomorrow) ∷ solarTimeOf rule (numbers .after) ∷ []
 
 -- of some days the first that lacks a time: what it lacks, and how many days stand before it

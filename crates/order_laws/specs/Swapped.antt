@@ -30,8 +30,8 @@ pub record Swapped (a b : List ℕ) : Type 0 where
   pub fields : checkOf b .number ≡ 0
   pub latitude : Sent a b 4 latitudeTag mostLatitude
   pub longitude : Sent a b 5 longitudeTag mostLongitude
-  pub «same_latitude» : order .coordinates .latitude ≡ coordinateIn (valuesOf b) 4 latitudeTag
-  pub «same_longitude» : order .coordinates .longitude ≡ coordinateIn (valuesOf b) 5 longitudeTag
+  pub «same_latitude» : order .setting .coordinates .latitude ≡ coordinateIn (valuesOf b) 4 latitudeTag
+  pub «same_longitude» : order .setting .coordinates .longitude ≡ coordinateIn (valuesOf b) 5 longitudeTag
   pub others : (tag : ℕ) → tag ≤ lastTag → saysPlace tag ≡ false → (hasOf a tag ≡ hasOf b tag) × (valueOf a tag ≡ valueOf b tag)
 
 -- then the second is read too, and what EitherForm says of the two holds
@@ -40,9 +40,9 @@ OtherFormIsRead = (a b : List ℕ) → Swapped a b → SamePlace a b
 
 -- ---- "writing back a read coordinate gives its bytes, where zero is written with sign 0": the parts of `formIn` are the bytes
 pub record BackOnTheMap (s : List ℕ) (o : Order) : Type 0 where
-  pub latitude : hasOf s latitudeTag ≡ true → writtenOf latitudeTag mostLatitude (o .coordinates .latitude)
+  pub latitude : hasOf s latitudeTag ≡ true → writtenOf latitudeTag mostLatitude (o .setting .coordinates .latitude)
       ≡ record { refusal = noRefusal; form = asWritten (formIn (valueOf s latitudeTag)) }
-  pub longitude : hasOf s longitudeTag ≡ true → writtenOf longitudeTag mostLongitude (o .coordinates .longitude)
+  pub longitude : hasOf s longitudeTag ≡ true → writtenOf longitudeTag mostLongitude (o .setting .coordinates .longitude)
       ≡ record { refusal = noRefusal; form = asWritten (formIn (valueOf s longitudeTag)) }
 
 abbrev pub ReadIsWrittenBack : Type 0

@@ -155,12 +155,12 @@ module _ (order : Order) (a : Accepted order) (g : Given order) where
   pub sayable : Sayable n
   unfolding orderRead
   sayable =
-      let p = order .parameters in
+      let p = order .setting .parameters in
       record {
         date = date-is (order .date) (a .date);
         rows = rows-is (order .rows) (a .rows .1);
-        latitude = degrees-is (order .coordinates .latitude) (g .latitude .f64) (g .latitude .other);
-        longitude = degrees-is (order .coordinates .longitude) (g .longitude .f64) (g .longitude .other);
+        latitude = degrees-is (order .setting .coordinates .latitude) (g .latitude .f64) (g .latitude .other);
+        longitude = degrees-is (order .setting .coordinates .longitude) (g .longitude .f64) (g .longitude .other);
         method = choice-told 6 (methodNumberOf (p .method)) (λ b. methodNumberOf (methodOf b)) tt (method-fits (p .method)) (ap methodNumberOf (method-back (p .method)));
         madhab = choice-told 7 (madhabNumberOf (p .madhab)) (λ b. madhabNumberOf (madhabOf b)) tt (madhab-fits (p .madhab)) (ap madhabNumberOf (madhab-back (p .madhab)));
         rule = choice-told 8 (ruleNumberOf (p .«high_latitude_rule»)) (λ b. ruleNumberOf (ruleOf b)) tt (rule-fits (p .«high_latitude_rule»)) (ap ruleNumberOf (rule-back (p .«high_latitude_rule»)));
@@ -170,9 +170,9 @@ module _ (order : Order) (a : Accepted order) (g : Given order) where
         fajr = degrees-is (p .«fajr_angle») (g .fajr .f64) (g .fajr .other);
         isha = degrees-is (p .«isha_angle») (g .isha .f64) (g .isha .other);
         interval = interval-is (P (p .«isha_interval»)) (omega (arith, a .parameters .«isha_interval» .to, a .parameters .«isha_interval» .from));
-        carry = choice-told 15 (midnightNumberOf (order .rules .midnight)) (λ b. midnightNumberOf (midnightOf b)) tt (midnight-fits (order .rules .midnight)) (ap midnightNumberOf (midnight-back (order .rules .midnight)));
+        carry = choice-told 15 (midnightNumberOf (order .setting .rules .midnight)) (λ b. midnightNumberOf (midnightOf b)) tt (midnight-fits (order .setting .rules .midnight)) (ap midnightNumberOf (midnight-back (order .setting .rules .midnight)));
         clock = clock-is (order .clock) (a .clock);
-        southern = choice-told 17 (southernNumberOf (order .rules .southern)) (λ b. southernNumberOf (southernOf b)) tt (southern-fits (order .rules .southern)) (ap southernNumberOf (southern-back (order .rules .southern)));
+        southern = choice-told 17 (southernNumberOf (order .setting .rules .southern)) (λ b. southernNumberOf (southernOf b)) tt (southern-fits (order .setting .rules .southern)) (ap southernNumberOf (southern-back (order .setting .rules .southern)));
         ramadan = ramadan-is (n .choices) one (a .imsak) (a .shift);
       }
 
@@ -212,7 +212,7 @@ module _ (order : Order) (a : Accepted order) (g : Given order) where
     fourteen-in : inRangeOf v 14 ≡ true
     unfolding orderRead fitsOf lookUp intervalFits standsIn valueIn
     fourteen-in =
-        let z = order .parameters .«isha_interval» in
+        let z = order .setting .parameters .«isha_interval» in
         let k = unsignedOf (twoBytes (wordFor (P z))) 0 in
         let l : k ≤ 1440 = omega (arith, sayable .interval, a .parameters .«isha_interval» .to, a .parameters .«isha_interval» .from) in
         let bytes = value 14 refl in
@@ -240,20 +240,20 @@ module _ (order : Order) (a : Accepted order) (g : Given order) where
           ranged 1 (λ t. ap printable (value 1 refl ∙ take-all 41 town (omega arith)) ∙ printed),
           ranged 2 (λ t. ap dateFits date-given ∙ date-fits (order .date) (a .date)),
           three-in,
-          ranged 4 (λ t. degrees-in (neg (dec 90 0)) (dec 90 0) (order .coordinates .latitude) 4 (value 4 refl) (sayable .latitude) (a .latitude)),
-          ranged 5 (λ t. degrees-in (neg (dec 180 0)) (dec 180 0) (order .coordinates .longitude) 5 (value 5 refl) (sayable .longitude) (a .longitude)),
-          ranged 6 (λ t. chosen 6 _ (value 6 refl) tt (method-fits (order .parameters .method))),
-          ranged 7 (λ t. chosen 7 _ (value 7 refl) tt (madhab-fits (order .parameters .madhab))),
-          ranged 8 (λ t. chosen 8 _ (value 8 refl) tt (rule-fits (order .parameters .«high_latitude_rule»))),
-          ranged 9 (λ t. chosen 9 _ (value 9 refl) tt (rounding-fits (order .parameters .rounding))),
-          ranged 10 (λ t. chosen 10 _ (value 10 refl) tt (shafaq-fits (order .parameters .shafaq))),
-          ranged 11 (λ t. ap (λ (x : List ℕ). minutesFit (minutesIn x)) (value 11 refl) ∙ ap minutesFit (sayable .minutes) ∙ minutes-fits (order .parameters .adjustments) (a .parameters .own)),
-          ranged 12 (λ t. degrees-in (dec 0 0) (dec 30 0) (order .parameters .«fajr_angle») 12 (value 12 refl) (sayable .fajr) (a .parameters .«fajr_angle»)),
-          ranged 13 (λ t. degrees-in (dec 0 0) (dec 30 0) (order .parameters .«isha_angle») 13 (value 13 refl) (sayable .isha) (a .parameters .«isha_angle»)),
+          ranged 4 (λ t. degrees-in (neg (dec 90 0)) (dec 90 0) (order .setting .coordinates .latitude) 4 (value 4 refl) (sayable .latitude) (a .latitude)),
+          ranged 5 (λ t. degrees-in (neg (dec 180 0)) (dec 180 0) (order .setting .coordinates .longitude) 5 (value 5 refl) (sayable .longitude) (a .longitude)),
+          ranged 6 (λ t. chosen 6 _ (value 6 refl) tt (method-fits (order .setting .parameters .method))),
+          ranged 7 (λ t. chosen 7 _ (value 7 refl) tt (madhab-fits (order .setting .parameters .madhab))),
+          ranged 8 (λ t. chosen 8 _ (value 8 refl) tt (rule-fits (order .setting .parameters .«high_latitude_rule»))),
+          ranged 9 (λ t. chosen 9 _ (value 9 refl) tt (rounding-fits (order .setting .parameters .rounding))),
+          ranged 10 (λ t. chosen 10 _ (value 10 refl) tt (shafaq-fits (order .setting .parameters .shafaq))),
+          ranged 11 (λ t. ap (λ (x : List ℕ). minutesFit (minutesIn x)) (value 11 refl) ∙ ap minutesFit (sayable .minutes) ∙ minutes-fits (order .setting .parameters .adjustments) (a .parameters .own)),
+          ranged 12 (λ t. degrees-in (dec 0 0) (dec 30 0) (order .setting .parameters .«fajr_angle») 12 (value 12 refl) (sayable .fajr) (a .parameters .«fajr_angle»)),
+          ranged 13 (λ t. degrees-in (dec 0 0) (dec 30 0) (order .setting .parameters .«isha_angle») 13 (value 13 refl) (sayable .isha) (a .parameters .«isha_angle»)),
           fourteen-in,
-          ranged 15 (λ t. chosen 15 _ (value 15 refl) tt (midnight-fits (order .rules .midnight))),
+          ranged 15 (λ t. chosen 15 _ (value 15 refl) tt (midnight-fits (order .setting .rules .midnight))),
           sixteen-in,
-          ranged 17 (λ t. chosen 17 _ (value 17 refl) tt (southern-fits (order .rules .southern))),
+          ranged 17 (λ t. chosen 17 _ (value 17 refl) tt (southern-fits (order .setting .rules .southern))),
           back.none-18 n town v has value,
           back.none-19 n town v has value,
           twenty-in,

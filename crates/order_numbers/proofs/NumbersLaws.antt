@@ -19,9 +19,9 @@ module _ (s : List ℕ) (order : Order) (e : readingOf s ≡ Read order) where
   town-length = rw e (read-town s order e .long)
 
   -- an interval that is read is never below 0
-  pub interval : pos (orderNumbersOf s .«isha_interval») ≡ order .parameters .«isha_interval»
+  pub interval : pos (orderNumbersOf s .«isha_interval») ≡ order .setting .parameters .«isha_interval»
   unfolding orderNumbersOf orderNumbersIn orderRead
   interval =
-      let z = order .parameters .«isha_interval» in
+      let z = order .setting .parameters .«isha_interval» in
       let from = read-accepted s order e .parameters .«isha_interval» .from in
       rw e (sym (natural z (omega arith)))

@@ -98,10 +98,10 @@ brings Other = record { fajr = tenths 0 refl; isha = tenths 0 refl }
 
 -- ---- the record that is read
 pub record Given (order : Order) : Type 0 where
-  pub latitude : Plain (order .coordinates .latitude)
-  pub longitude : Plain (order .coordinates .longitude)
-  pub fajr : Plain (order .parameters .«fajr_angle»)
-  pub isha : Plain (order .parameters .«isha_angle»)
+  pub latitude : Plain (order .setting .coordinates .latitude)
+  pub longitude : Plain (order .setting .coordinates .longitude)
+  pub fajr : Plain (order .setting .parameters .«fajr_angle»)
+  pub isha : Plain (order .setting .parameters .«isha_angle»)
   pub unset : order .ramadan .set ≡ false → (order .ramadan .imsak ≡ 0) × (order .ramadan .shift ≡ pos 0)
 
 module _ (v : Values) (ranges : outOfRangeOf v .number ≡ 0) where

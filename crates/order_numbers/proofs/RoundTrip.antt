@@ -82,11 +82,11 @@ module _ (n : OrderNumbers) (town : List ℕ) (v : Values) (has : (tag : ℕ) �
   unfolding orderOf standsIn valueIn
   rows-read = ap rowsIn (value 3 refl)
 
-  latitude-read : orderOf v .coordinates .latitude ≡ degreesIn (floatBytes (n .coordinates .latitude))
+  latitude-read : orderOf v .setting .coordinates .latitude ≡ degreesIn (floatBytes (n .coordinates .latitude))
   unfolding orderOf coordinateIn standsIn valueIn
   latitude-read = simp none-18 (ap degreesIn (value 4 refl))
 
-  longitude-read : orderOf v .coordinates .longitude ≡ degreesIn (floatBytes (n .coordinates .longitude))
+  longitude-read : orderOf v .setting .coordinates .longitude ≡ degreesIn (floatBytes (n .coordinates .longitude))
   unfolding orderOf coordinateIn standsIn valueIn
   longitude-read = simp none-19 (ap degreesIn (value 5 refl))
 
@@ -95,43 +95,43 @@ module _ (n : OrderNumbers) (town : List ℕ) (v : Values) (has : (tag : ℕ) �
   unfolding byteOr
   chosen tag missing k h e = simp h (ap (λ (x : List ℕ). byteOf x 0) e)
 
-  method-read : orderOf v .parameters .method ≡ methodOf (byteFor (n .method))
+  method-read : orderOf v .setting .parameters .method ≡ methodOf (byteFor (n .method))
   unfolding orderOf parametersIn standsIn valueIn
   method-read = brought (methodOf (byteOf (v .value 6) 0)) .named ∙ ap (λ (x : List ℕ). methodOf (byteOf x 0)) (value 6 refl)
 
-  madhab-read : orderOf v .parameters .madhab ≡ madhabOf (byteFor (n .madhab))
+  madhab-read : orderOf v .setting .parameters .madhab ≡ madhabOf (byteFor (n .madhab))
   unfolding orderOf parametersIn standsIn valueIn
   madhab-read = ap madhabOf (chosen 7 1 (byteFor (n .madhab)) (has 7) (value 7 refl))
 
-  rule-read : orderOf v .parameters .«high_latitude_rule» ≡ ruleOf (byteFor (n .«high_latitude_rule»))
+  rule-read : orderOf v .setting .parameters .«high_latitude_rule» ≡ ruleOf (byteFor (n .«high_latitude_rule»))
   unfolding orderOf parametersIn standsIn valueIn
   rule-read = ap ruleOf (chosen 8 0 (byteFor (n .«high_latitude_rule»)) (has 8) (value 8 refl))
 
-  rounding-read : orderOf v .parameters .rounding ≡ roundingOf (byteFor (n .rounding))
+  rounding-read : orderOf v .setting .parameters .rounding ≡ roundingOf (byteFor (n .rounding))
   unfolding orderOf parametersIn roundingOr standsIn valueIn
   rounding-read = simp (has 9) (ap (λ (x : List ℕ). roundingOf (byteOf x 0)) (value 9 refl))
 
-  shafaq-read : orderOf v .parameters .shafaq ≡ shafaqOf (byteFor (n .shafaq))
+  shafaq-read : orderOf v .setting .parameters .shafaq ≡ shafaqOf (byteFor (n .shafaq))
   unfolding orderOf parametersIn standsIn valueIn
   shafaq-read = ap shafaqOf (chosen 10 0 (byteFor (n .shafaq)) (has 10) (value 10 refl))
 
-  minutes-read : orderOf v .parameters .adjustments ≡ minutesIn (minutesBytes (n .minutes))
+  minutes-read : orderOf v .setting .parameters .adjustments ≡ minutesIn (minutesBytes (n .minutes))
   unfolding orderOf parametersIn minutesOr standsIn valueIn
   minutes-read = simp (has 11) (ap minutesIn (value 11 refl))
 
-  fajr-read : orderOf v .parameters .«fajr_angle» ≡ degreesIn (floatBytes (n .«fajr_angle»))
+  fajr-read : orderOf v .setting .parameters .«fajr_angle» ≡ degreesIn (floatBytes (n .«fajr_angle»))
   unfolding orderOf parametersIn degreesOr standsIn valueIn
   fajr-read = simp (has 12) (ap degreesIn (value 12 refl))
 
-  isha-read : orderOf v .parameters .«isha_angle» ≡ degreesIn (floatBytes (n .«isha_angle»))
+  isha-read : orderOf v .setting .parameters .«isha_angle» ≡ degreesIn (floatBytes (n .«isha_angle»))
   unfolding orderOf parametersIn degreesOr standsIn valueIn
   isha-read = simp (has 13) (ap degreesIn (value 13 refl))
 
-  interval-read : orderOf v .parameters .«isha_interval» ≡ pos (unsignedOf (twoBytes (wordFor (n .«isha_interval»))) 0)
+  interval-read : orderOf v .setting .parameters .«isha_interval» ≡ pos (unsignedOf (twoBytes (wordFor (n .«isha_interval»))) 0)
   unfolding orderOf parametersIn intervalOr standsIn valueIn
   interval-read = simp (has 14) (ap (λ (x : List ℕ). pos (unsignedOf x 0)) (value 14 refl))
 
-  carry-read : orderOf v .rules .midnight ≡ midnightOf (byteFor (n .choices .carry))
+  carry-read : orderOf v .setting .rules .midnight ≡ midnightOf (byteFor (n .choices .carry))
   unfolding orderOf rulesIn standsIn valueIn
   carry-read = ap midnightOf (chosen 15 0 (byteFor (n .choices .carry)) (has 15) (value 15 refl))
 
@@ -139,7 +139,7 @@ module _ (n : OrderNumbers) (town : List ℕ) (v : Values) (has : (tag : ℕ) �
   unfolding orderOf clockIn standsIn valueIn
   clock-read = simp (has 16) (ap (λ (x : List ℕ). signedAtOf x 0) (value 16 refl))
 
-  southern-read : orderOf v .rules .southern ≡ southernOf (byteFor (n .choices .southern))
+  southern-read : orderOf v .setting .rules .southern ≡ southernOf (byteFor (n .choices .southern))
   unfolding orderOf rulesIn standsIn valueIn
   southern-read = ap southernOf (chosen 17 0 (byteFor (n .choices .southern)) (has 17) (value 17 refl))
 

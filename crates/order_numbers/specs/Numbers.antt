@@ -25,20 +25,20 @@ setNumberOf set = cond set 1 0
 
 -- what tags 15 to 17 and 20 choose
 abbrev pub choicesNumbersOf : Order → Choices
-choicesNumbersOf o = record { carry = midnightNumberOf (o .rules .midnight); clock = o .clock; southern = southernNumberOf (o .rules .southern); ramadan = setNumberOf (o .ramadan .set); imsak = o .ramadan .imsak; shift = o .ramadan .shift }
+choicesNumbersOf o = record { carry = midnightNumberOf (o .setting .rules .midnight); clock = o .clock; southern = southernNumberOf (o .setting .rules .southern); ramadan = setNumberOf (o .ramadan .set); imsak = o .ramadan .imsak; shift = o .ramadan .shift }
 
 abbrev pub noChoicesNumbers : Choices
 noChoicesNumbers = record { carry = 0; clock = pos 0; southern = 0; ramadan = 0; imsak = 0; shift = pos 0 }
 
 unfoldable pub orderRead : Order → OrderNumbers
 orderRead o =
-    let p = o .parameters in
+    let p = o .setting .parameters in
     record {
       refusal = noRefusal;
       town = o .town;
       date = o .date;
       rows = o .rows;
-      coordinates = o .coordinates;
+      coordinates = o .setting .coordinates;
       «fajr_angle» = p .«fajr_angle»;
       «isha_angle» = p .«isha_angle»;
       method = methodNumberOf (p .method);

@@ -63,7 +63,8 @@ fn is_set(set: bool) -> u32
 fn choices_read(order: Order) -> Choices
     ensures { λ r. ⌜ r ≡ choicesNumbersOf order ⌝ }
 {
-    let rules = order.rules;
+    let setting = order.setting;
+    let rules = setting.rules;
     let midnight = rules.midnight;
     let southern = rules.southern;
     let ramadan = order.ramadan;
@@ -95,8 +96,9 @@ fn order_read(order: Order) -> OrderNumbers
 {
     let town = order.town;
     let date = order.date;
-    let coordinates = order.coordinates;
-    let parameters = order.parameters;
+    let setting = order.setting;
+    let coordinates = setting.coordinates;
+    let parameters = setting.parameters;
     let method = parameters.method;
     let madhab = parameters.madhab;
     let high_latitude_rule = parameters.high_latitude_rule;

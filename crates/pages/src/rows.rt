@@ -22,22 +22,19 @@ pub fn put_rows(buffer: &mut [u8], order: Order, row: u32, end: u32) -> u32
     ensures { λ _. ⌜ now (buffer .exit) ≡ frontOf (cellsOf (rowsFrom order row (end - row))) (now (buffer .entry)) ⌝ }
 {
     let first = order.date;
-    let coordinates = order.coordinates;
-    let parameters = order.parameters;
-    let rules = order.rules;
-    let latitude = coordinates.latitude;
-    let mut suns = RowSuns::new(first.row(row), coordinates, parameters, rules);
+    let setting = order.setting;
+    let mut suns = RowSuns::new(first.row(row), setting);
     let mut next = row;
     let mut dots = 0;
     loop {
-        let worked = suns.work(latitude, parameters, rules);
+        let worked = suns.work(setting);
         let at = ROW_CELLS * (next - row) as usize;
         dots = dots + put_cells(&mut buffer[..], at, suns.date, worked, order.clock);
         next = next + 1;
         if next >= end {
             return dots;
         }
-        suns = suns.next(coordinates, parameters, rules);
+        suns = suns.next(setting);
     }
 }
 

@@ -1,13 +1,17 @@
 -- A day's numbers, settings and answers as the exports take and hand them out.
 use mathlib.Core.Bool.{true, false}
 use lib.IntN.{pos}
+use lib.Ieee.{Float}
+use Rattle.models.specs.Chosen.{settingOf}
 use Rattle.models.specs.Minutes.{sixMinutesOf}
 use Rattle.models.specs.Numbers.{methodOf, methodNumberOf, madhabOf, madhabNumberOf, ruleOf, ruleNumberOf, roundingOf, roundingNumberOf, shafaqOf, shafaqNumberOf, midnightOf, southernOf}
 use Rattle.models.specs.Presets.{presetOf}
 use Rattle.models.specs.declared.adjustments.TimeAdjustment.{TimeAdjustment}
 use Rattle.models.specs.declared.parameters.Parameters.{Parameters}
 use Rattle.models.specs.declared.rules.Rules.{Rules}
+use Rattle.models.specs.declared.setting.Setting.{Setting}
 use Rattle.refusals.specs.Refusals.{noRefusal}
+use Rattle.unit.specs.Unit.{coordinatesOf}
 use Rattle.solar.specs.declared.hours.HourNumbers.{HourNumbers}
 use Rattle.schedule.specs.declared.hours.RowNumbers.{RowNumbers}
 use Rattle.schedule.specs.declared.prayer_times.PrayerTimes.{PrayerTimes}
@@ -51,6 +55,9 @@ parametersFrom s =
 
 abbrev pub rulesFrom : ProbeRules → Rules
 rulesFrom r = record { midnight = midnightOf (r .carry); southern = southernOf (r .southern) }
+
+abbrev pub settingFrom : Float → Float → ProbeSettings → ProbeRules → Setting
+settingFrom latitude longitude settings chosen = settingOf (coordinatesOf latitude longitude) (parametersFrom settings) (rulesFrom chosen)
 
 unfoldable pub settingsOf : Parameters → ProbeSettings
 settingsOf p =

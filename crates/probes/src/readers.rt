@@ -25,7 +25,8 @@ fn plain_read(order: Order) -> ProbePlain
 {
     let town = order.town;
     let date = order.date;
-    let coordinates = order.coordinates;
+    let setting = order.setting;
+    let coordinates = setting.coordinates;
     ProbePlain {
         refusal: Refusal::none(),
         town: town,

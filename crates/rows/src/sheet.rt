@@ -81,22 +81,19 @@ fn put_rows(buffer: &mut [u8], at: usize, order: Order) -> usize
     ensures { λ r. ⌜ r ≡ at + length (linesText order (order .rows)) ⌝ }
     ensures { λ _. ⌜ now (buffer .exit) ≡ putOf (now (buffer .entry)) at (linesText order (order .rows)) ⌝ }
 {
-    let coordinates = order.coordinates;
-    let parameters = order.parameters;
-    let rules = order.rules;
+    let setting = order.setting;
     let ramadan = order.ramadan;
-    let latitude = coordinates.latitude;
-    let mut suns = RowSuns::new(order.date, coordinates, parameters, rules);
+    let mut suns = RowSuns::new(order.date, setting);
     let mut row = 0;
     let mut end = at;
     loop {
-        let worked = suns.work(latitude, parameters, rules);
+        let worked = suns.work(setting);
         end = end + put_line(&mut buffer[..], end, ramadan, suns.date, worked);
         row = row + 1;
         if row >= order.rows {
             return end;
         }
-        suns = suns.next(coordinates, parameters, rules);
+        suns = suns.next(setting);
     }
 }
 

@@ -7,9 +7,8 @@ ghost use Rattle.models.specs.declared.prayer.Prayer.the-variants.{Fajr};
 ghost use Rattle.models.specs.declared.rounding.Rounding.the-variants.{Nearest};
 ghost use Rattle.models.specs.Settings.{timeAdjustmentsOf};
 ghost use Rattle.stride.specs.Times.{roundedOf, adjustedOf};
-ghost use Rattle.schedule.specs.Hours.{hoursOf};
 ghost use Rattle.schedule.specs.Fajr.{fajrAloneOf};
-ghost use Rattle.schedule.specs.Times.{startOf, finalOf, fajrTomorrowOf, middleOfTheNightOf, qiyamOf, fromMidnightOf, startedOf, seasonOf, workedOf};
+ghost use Rattle.schedule.specs.Times.{startOf, finalOf, fajrTomorrowOf, middleOfTheNightOf, qiyamOf, fromMidnightOf, startedOf, workedOf, workedBy};
 ghost use Rattle.schedule.specs.Each.{Each};
 ghost use Rattle.schedule.specs.Twilight.{unadjustedFajrOf};
 use super::hours::RowHours;
@@ -23,8 +22,8 @@ use calendar::dates::Date;
 use models::parameters::Parameters;
 use models::prayer::Prayer;
 use models::rounding::Rounding;
-use models::rules::Rules;
 use models::rules::Season;
+use models::setting::Setting;
 use night_portions::portions::last_third;
 use night_portions::portions::middle;
 use refusals::Refusal;
@@ -232,21 +231,12 @@ impl Suns {
 }
 
 impl PrayerTimes {
-    pub fn new(
-        numbers: RowNumbers,
-        date: Date,
-        latitude: f64,
-        parameters: Parameters,
-        rules: Rules,
-    ) -> Worked
-        ensures { λ r. ⌜ r ≡ workedOf (hoursOf (rules .midnight) numbers) date (seasonOf latitude rules) parameters ⌝ }
+    pub fn new(numbers: RowNumbers, date: Date, setting: Setting) -> Worked
+        ensures { λ r. ⌜ r ≡ workedBy numbers date setting ⌝ }
     {
+        let rules = setting.rules;
         let midnight = rules.midnight;
-        let southern = rules.southern;
-        let season = Season {
-            latitude: latitude,
-            southern: southern,
-        };
-        RowHours::new(midnight, numbers).work(date, season, parameters)
+        let hours = RowHours::new(midnight, numbers);
+        hours.work(date, setting.season(), setting.parameters)
     }
 }

@@ -10,7 +10,7 @@ use Rattle.schedule.specs.declared.{hours.Suns.Suns, hours.RowHours.RowHours, h
 use Rattle.schedule.specs.declared.hours.Suns.the-variants as suns
 use Rattle.schedule.specs.declared.prayer_times.Worked.the-variants.{Times, Refused}
 use Rattle.schedule.specs.InForce.{inSecond}
-use Rattle.schedule.proofs.Schedule.{hoursOf, NotAfter, numbersOf, workedFrom, seasonOf, workedOf}
+use Rattle.schedule.proofs.Schedule.{hoursOf, NotAfter, numbersOf, workedFrom, seasonOf, settingOf, workedOf}
 use Rattle.schedule_laws.specs.Later.{withMinutes, NoneEarlier, ExactlyLater, Moved, LaterMinutesMoveTheDay, LaterMinutesMoveTheRow}
 use Rattle.schedule_laws.proofs.SunSpans.{SunHour, Row, hours}
 use Rattle.schedule_laws.proofs.Moves.{exactly, none-earlier}
@@ -74,7 +74,8 @@ numbers-alike date place p minutes = refl
 pub later-minutes-move-the-row : LaterMinutesMoveTheRow
 later-minutes-move-the-row date place rules p q h =
     let rule = rules .midnight in
+    let season = seasonOf (settingOf place p rules) in
     let n = numbersOf date place p in
     let e : numbersOf date place q ≡ n = ap (numbersOf date place) (sym (h .alike)) ∙ numbers-alike date place p (q .adjustments) in
-    subst (λ (m : RowNumbers). Moved p q (workedOf (hoursOf rule n) date (seasonOf (place .latitude) rules) p) (workedOf (hoursOf rule m) date (seasonOf (place .latitude) rules) q)) (sym e)
-    (later-minutes-move-the-day rule n date (seasonOf (place .latitude) rules) p q h)
+    subst (λ (m : RowNumbers). Moved p q (workedOf (hoursOf rule n) date season p) (workedOf (hoursOf rule m) date season q)) (sym e)
+    (later-minutes-move-the-day rule n date season p q h)

@@ -15,6 +15,7 @@ use Rattle.models.specs.declared.rules.Midnight.{Midnight}
 use Rattle.models.specs.declared.rules.Rules.{Rules}
 use Rattle.models.specs.declared.rules.Season.{Season}
 use Rattle.refusals.specs.declared.Refusal.{Refusal}
+use Rattle.models.specs.Chosen.{settingOf}
 use Rattle.models.specs.Settings.{timeAdjustmentsOf}
 use Rattle.unit.specs.declared.Coordinates.{Coordinates}
 use Rattle.schedule.specs.declared.hours.RowNumbers.{RowNumbers}
@@ -103,4 +104,4 @@ LaterMinutesMoveTheDay =
 abbrev pub LaterMinutesMoveTheRow : Type 0
 LaterMinutesMoveTheRow =
     (date : Date) (place : Coordinates) (rules : Rules) (p q : Parameters) → LaterMinutes p q
-    → Moved p q (workedAt date place p rules) (workedAt date place q rules)
+    → Moved p q (workedAt date (settingOf place p rules)) (workedAt date (settingOf place q rules))

@@ -11,10 +11,10 @@ use Rattle.calendar.specs.declared.dates.Date.{Date}
 use Rattle.unit.specs.declared.Angle.{Angle}
 use Rattle.unit.specs.declared.Coordinates.{Coordinates}
 use Rattle.unit.specs.Unit.{angleOf, fromRadiansOf, radiansOf, longitudeAngleOf}
+use Rattle.ops.specs.declared.coordinates.SolarCoordinates.{SolarCoordinates}
+use Rattle.ops.specs.Coordinates.{positionOf}
 use Rattle.ops.specs.Transit.{approximateTransitOf, correctedTransitOf, correctedHourAngleOf}
-use Rattle.solar.specs.declared.coordinates.SolarCoordinates.{SolarCoordinates}
 use Rattle.solar.specs.declared.hours.HourNumbers.{HourNumbers}
-use Rattle.solar.specs.Coordinates.{positionOf}
 
 -- SolarTime: `observer`, `prev_solar`, `solar` and `next_solar`
 pub record Sun : Type 0 where

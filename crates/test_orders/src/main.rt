@@ -26,8 +26,9 @@ fn unsigned_numbers(order: Order) -> [u64; 16]
 {
     let town = order.town;
     let date = order.date;
-    let place = order.coordinates;
-    let p = order.parameters;
+    let setting = order.setting;
+    let place = setting.coordinates;
+    let p = setting.parameters;
     let method = p.method;
     let madhab = p.madhab;
     let rule = p.high_latitude_rule;
@@ -57,7 +58,8 @@ fn unsigned_numbers(order: Order) -> [u64; 16]
 fn signed_numbers(order: Order) -> [i32; 13]
     ensures { λ r. ⌜ r ≡ signedNumbersOf order ⌝ }
 {
-    let p = order.parameters;
+    let setting = order.setting;
+    let p = setting.parameters;
     let own = p.adjustments;
     let brought = p.method_adjustments;
     [
@@ -101,7 +103,8 @@ fn print_signed(m: i32) {
 }
 
 fn print_rules(order: Order) {
-    let rules = order.rules;
+    let setting = order.setting;
+    let rules = setting.rules;
     let midnight = rules.midnight;
     let southern = rules.southern;
     print(wide(midnight.number()));

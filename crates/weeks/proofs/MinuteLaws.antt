@@ -64,9 +64,9 @@ minute-is o row (Times t) = refl
 minute-is o row (Refused r) = refl
 
 pub state-minute : (o : Order) → Accepted o → (k : ℕ) → k < o .rows
-    → minuteFrom (rowSunsFajrOf (o .coordinates .latitude) (o .parameters) (o .rules) (stateOf o k)) ≡ rowMinute o k
+    → minuteFrom (rowSunsFajrOf (o .setting) (stateOf o k)) ≡ rowMinute o k
 unfolding rowSunsOf
 state-minute o a k h =
-    ap minuteFrom (suns-fajr (o .coordinates .latitude) (o .parameters) (o .rules) (stateOf o k))
+    ap minuteFrom (suns-fajr (o .setting) (stateOf o k))
     ∙ ap (λ (w : Worked). minuteFrom (fajrIn (rowDateOf (o .date) k) w)) (state-worked o a k h)
     ∙ minute-is o k (workRowOf o k)

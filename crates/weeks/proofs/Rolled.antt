@@ -49,7 +49,7 @@ module _ (o : Order) (a : Accepted o) (buffer : List ℕ) (room : longestWeek �
 
   pub run-line : (now : List ℕ) (suns : RowSuns) (week : Week) (row end : ℕ) → Run o buffer now suns week row end
       → (minute : Minute) (next : Week) (window : Window) (n : ℕ) (after : List ℕ)
-      → minute ≡ minuteFrom (rowSunsFajrOf (o .coordinates .latitude) (o .parameters) (o .rules) suns) → next ≡ pushedOf week minute → window ≡ windowIn next
+      → minute ≡ minuteFrom (rowSunsFajrOf (o .setting) suns) → next ≡ pushedOf week minute → window ≡ windowIn next
       → n ≡ length (lineOf window) → after ≡ putOf now end (lineOf window) → Next o buffer after next (row + 1) (end + n)
   run-line now suns week row end s minute next window n after m p w e q =
       let l = minutesOf o row in
@@ -58,7 +58,7 @@ module _ (o : Order) (a : Accepted o) (buffer : List ℕ) (room : longestWeek �
       let most = a .rows .1 in
       let c = minutes-length o row in
       let is : minute ≡ x =
-      m ∙ ap (λ (r : RowSuns). minuteFrom (rowSunsFajrOf (o .coordinates .latitude) (o .parameters) (o .rules) r)) (s .state) ∙ state-minute o a row h in
+      m ∙ ap (λ (r : RowSuns). minuteFrom (rowSunsFajrOf (o .setting) r)) (s .state) ∙ state-minute o a row h in
       let pushed : next ≡ pushedOf (weekOf l) x = p ∙ ap (λ (v : Week). pushedOf v minute) (s .last) ∙ ap (pushedOf (weekOf l)) is in
       let line : lineOf window ≡ lineOf (windowIn (pushedOf (weekOf l) x)) = ap lineOf (w ∙ ap windowIn pushed) in
       let more : reportOf l ++ lineOf window ≡ reportOf (minutesOf o (row + 1)) =

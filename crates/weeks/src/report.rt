@@ -27,22 +27,19 @@ fn put_windows(buffer: &mut [u8], order: Order) -> usize
     ensures { λ r. ⌜ r ≡ length (ordersReport order) ⌝ }
     ensures { λ _. ⌜ now (buffer .exit) ≡ frontOf (ordersReport order) (now (buffer .entry)) ⌝ }
 {
-    let coordinates = order.coordinates;
-    let parameters = order.parameters;
-    let rules = order.rules;
-    let latitude = coordinates.latitude;
-    let mut suns = RowSuns::new(order.date, coordinates, parameters, rules);
+    let setting = order.setting;
+    let mut suns = RowSuns::new(order.date, setting);
     let mut week = Week::new();
     let mut row = 0;
     let mut end = 0;
     loop {
-        week = week.push(minute_of(suns.fajr(latitude, parameters, rules)));
+        week = week.push(minute_of(suns.fajr(setting)));
         end = end + put_window(&mut buffer[..], end, week.window());
         row = row + 1;
         if row >= order.rows {
             return end;
         }
-        suns = suns.next(coordinates, parameters, rules);
+        suns = suns.next(setting);
     }
 }
 

@@ -45,7 +45,7 @@ loop-holds c =
     record {
       from = omega arith;
       within = t .pre .1;
-      state = c .new .ensures ∙ ap (λ (d : Date). rowSunsOf d (o .coordinates) (o .parameters) (o .rules)) (c .before .row .ensures);
+      state = c .new .ensures ∙ ap (λ (d : Date). rowSunsOf d (o .setting)) (c .before .row .ensures);
       cells = n .0;
       punched = n .1;
       same = refl;
@@ -68,7 +68,7 @@ loop-again c =
     record {
       from = omega (arith, l .inv .from);
       within = c .before .if1 .left;
-      state = c .next .ensures ∙ ap (nextRowSunsOf (o .coordinates) (o .parameters) (o .rules)) (l .inv .state)
+      state = c .next .ensures ∙ ap (nextRowSunsOf (o .setting)) (l .inv .state)
           ∙ next-state o (t .pre .0) (l .next) (omega (arith, l .inv .within, t .pre .2));
       cells = m .0;
       punched = m .1;

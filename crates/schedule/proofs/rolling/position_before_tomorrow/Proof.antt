@@ -1,5 +1,5 @@
 use Rattle.prelude.proofs.Logic.{_∙_, ap, sym}
-use Rattle.solar.specs.Coordinates.{positionOf}
+use Rattle.ops.specs.Coordinates.{positionOf}
 use Rattle.schedule.proofs.RowSunsLaws.{back-to}
 use Rattle.schedule.proofs.rolling.position_before_tomorrow as this
 

@@ -54,7 +54,7 @@ loop-again c =
     let n = line-holds (c .before .before .before .before .before) in
     record {
       within = c .before .if1 .left;
-      state = c .next .ensures ∙ ap (nextRowSunsOf (o .coordinates) (o .parameters) (o .rules)) (l .inv .state) ∙ next-state o (t .pre .0) (l .row)
+      state = c .next .ensures ∙ ap (nextRowSunsOf (o .setting)) (l .inv .state) ∙ next-state o (t .pre .0) (l .row)
           (l .inv .within);
       last = n .last;
       text = n .text;
