@@ -1,7 +1,7 @@
 use Rattle.prelude.proofs.Logic.{_≡_, refl, needs, w64}
 use Rattle.integers.proofs.Ranges.{readBack}
 use Rattle.weeks.proofs.MinuteLaws.{whole-fits, minutes-fit, minutes-read}
-use Rattle.weeks.proofs.minute.whole_minutes as this
+use Rattle.weeks.proofs.minutes.whole_minutes as this
 
 mul-result : this.Tie.Need-mul-result
 mul-result c =
