@@ -1,5 +1,5 @@
 -- A place sent either way: the record but for where the town stands, and from it all that is answered. Assumes nothing.
-use Rattle.prelude.proofs.Logic.{_≡_, refl, sym, ap, _∙_, subst, true, false, List, _∷_, _++_, ℕ, zero, suc, _+_, _≤_, lit≤, leZ}
+use Rattle.prelude.proofs.Logic.{_≡_, refl, sym, ap, _∙_, subst, fun-ext, true, false, List, _∷_, _++_, ℕ, zero, suc, _+_, _≤_, lit≤, leZ}
 use Rattle.calendar.specs.Answers.{rowDateOf}
 use Rattle.calls.specs.Calls.{workRowOf, workReadingOf, workDayOf, workAtOf, prayerAtOf, nextAtOf, remainingAtOf}
 use Rattle.fields.specs.Tags.{lastTag}
@@ -23,7 +23,8 @@ use Rattle.schedule.specs.declared.in_force.Instant.{Instant}
 use Rattle.schedule.specs.declared.prayer_times.Worked.{Worked}
 use Rattle.schedule.specs.declared.prayer_times.Worked.the-variants.{Times, Refused}
 use Rattle.weeks.specs.Lines.{reportOf}
-use Rattle.weeks.specs.Report.{minuteIn, minutesOf, ordersReport, weekText}
+use Rattle.weeks.specs.Report.{minuteIn, rowMinute, ordersReport, weekText}
+use Rattle.weeks.specs.declared.minutes.Minute.{Minute}
 use Rattle.order_laws.specs.Minutes.{withOwnMinutes}
 use Rattle.order_laws.specs.EitherForm.{saysPlace, SamePlace, withTown, SameAnswers, EitherFormAnswersAlike, EitherFormMovesAlike}
 
@@ -57,10 +58,9 @@ unfolding minuteIn
 minute-same o town row (Times t) = refl
 minute-same o town row (Refused r) = refl
 
-minutes-same : (o : Order) (town : Part) (n : ℕ) → minutesOf (withTown o town) n ≡ minutesOf o n
-unfolding minutesOf workRowOf
-minutes-same o town zero = refl
-minutes-same o town (suc n) = rw (minutes-same o town n, minute-same o town n (workRowOf o n))
+minutes-same : (o : Order) (town : Part) → rowMinute (withTown o town) ≡ rowMinute o
+unfolding workRowOf
+minutes-same o town = fun-ext (λ row. minute-same o town row (workRowOf o row))
 
 -- a call on some rows of an order that do not hang on its town
 module _ (asked : Order → Rows) (town-free : (o : Order) (town : Part) → asked (withTown o town) ≡ asked o) (least : ℕ) where
@@ -114,7 +114,7 @@ module _ (a b : List ℕ) (o p : Order) (x : readingOf a ≡ Read o) (y : readin
   unfolding reportIn
   week-same =
       rw (x, y)
-      (ap reportOf (sym (minutes-same o (p .town) (o .rows))) ∙ ap ordersReport given)
+      (ap (λ (f : ℕ → Minute). reportOf f (o .rows)) (sym (minutes-same o (p .town))) ∙ ap ordersReport given)
 
   module _ (asked : Order → Rows) (town-free : (o : Order) (town : Part) → asked (withTown o town) ≡ asked o) (buffer : List ℕ) where
     asked-same : askedCallOf asked rowLength a buffer ≡ askedCallOf asked rowLength b buffer
