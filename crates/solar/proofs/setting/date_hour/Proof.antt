@@ -15,7 +15,7 @@ returns c =
     let t = c .before .before .before .before in
     let n = normal (t .args .value) (t .pre .0) (t .pre .1) in
     let p = placed (t .args .value) (t .pre .0) (t .pre .1) in
-    simp (c .hour .ensures, c .before .minute .ensures, c .before .before .before .floor .ensures, n, p)
+    simp (c .hour .ensures, c .before .date-minute .ensures, c .before .before .before .floor .ensures, n, p)
 
 pub date-hour-spec : {M : Type 1} → this.Statement.statement M
 date-hour-spec = this.Tie.close (this.Tie.spec (λ c κs. tt) float-to-int-hour (λ c κs. tt) (λ c κs. tt) returns)
