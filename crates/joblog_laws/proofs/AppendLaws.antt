@@ -11,7 +11,7 @@ use Rattle.joblog.specs.Calls.{LogCall, refused, refusing, answered, readAnswer
 use Rattle.joblog.proofs.CompactLaws.{bytes-length, compacted-length, put-none}
 use Rattle.joblog.proofs.CallLaws.{with-length}
 use Rattle.joblog_laws.specs.Run.{inPlace}
-use Rattle.joblog_laws.specs.Appends.{Unchanged, RefusedChangesNothing, FirstBufferStays, FiveBytesChange, cutAt, CutAtAnyByte, NextTakesItsPlace, RoomIsEnough, CompactionSaysTheSame, SaysSo, LogSaysSo}
+use Rattle.joblog_laws.specs.Appends.{Unchanged, RefusedLogStays, FirstBufferStays, FiveBytesChange, cutAt, CutAtAnyByte, NextTakesItsPlace, LogRoomIsEnough, CompactionSaysTheSame, SaysSo, LogSaysSo}
 use Rattle.joblog_laws.proofs.ReadingLaws.{read-ordered, compacted-read}
 use Rattle.joblog_laws.proofs.HeldLaws.{Held, held-read, put-read, put-held, moved-held, restart-held, cut-before, Outcome, refusal, placed, moved, append-outcome}
 
@@ -55,7 +55,7 @@ restart-keeps log used count second =
         arms (Left log second) (leb (s .finished) count && leb count (s .sent))
         (λ t. (compacting-keeps (state count (s .sent)) (compactedOf (state count (s .sent))) count log second .0, refl)) (λ t. (λ n. (refl, refl), refl))
 
-pub refused-changes-nothing : RefusedChangesNothing
+pub refused-changes-nothing : RefusedLogStays
 unfolding Keeps Left
 refused-changes-nothing log used second =
     (λ tag page. append-keeps log used tag page second .0, λ count. restart-keeps log used count second .0)
@@ -222,7 +222,7 @@ enough-again log used count second true (Says s) f e room =
     let fits = le-leb (length (compactedOf (state count (s .sent)))) (length second) (omega arith) in
     arms NotShort (leb (s .finished) count && leb count (s .sent)) (λ t. rw fits refl) (λ t. refl)
 
-pub room-is-enough : RoomIsEnough
+pub room-is-enough : LogRoomIsEnough
 unfolding NotShort appendOf restartOf
 room-is-enough log used second = (
   λ tag page room. enough log used tag page second (leb used (length log)) (logReadingOf (take used log)) refl refl room,

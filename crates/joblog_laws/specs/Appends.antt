@@ -17,8 +17,8 @@ abbrev pub Unchanged : LogCall → List ℕ → List ℕ → Type 0
 Unchanged c log second = (c .log ≡ log) × (c .second ≡ second)
 
 -- a refused call changes no byte of either buffer
-abbrev pub RefusedChangesNothing : Type 0
-RefusedChangesNothing =
+abbrev pub RefusedLogStays : Type 0
+RefusedLogStays =
     (log : List ℕ) (used : ℕ) (second : List ℕ)
     → ((tag page : ℕ) → eqb (appendOf log used tag page second .answer .number) 0 ≡ false → Unchanged (appendOf log used tag page second) log second)
     × ((count : ℕ) → eqb (restartOf log used count second .answer .number) 0 ≡ false → Unchanged (restartOf log used count second) log second)
@@ -58,8 +58,8 @@ NextTakesItsPlace =
     (next .answer ≡ appendOf log used tag' page' second' .answer) × (eqb (next .answer .number) 0 ≡ true → next .log ≡ appendOf log used tag' page' second' .log)
 
 -- ---- a second buffer with room for one record and the open pages, and for an append one record more, is never too short
-abbrev pub RoomIsEnough : Type 0
-RoomIsEnough =
+abbrev pub LogRoomIsEnough : Type 0
+LogRoomIsEnough =
     (log : List ℕ) (used : ℕ) (second : List ℕ)
     → ((tag page : ℕ) → 10 + 5 * (readLogOf log used .sent - readLogOf log used .finished) ≤ length second
     → eqb (appendOf log used tag page second .answer .number) logSecondShort ≡ false)

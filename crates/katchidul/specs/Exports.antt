@@ -1,4 +1,5 @@
--- What a host gets from each call: number and place, 0 and 0 where nothing is refused, and each other field, 0 where the call is refused.
+-- Document 01: "A host program in C calls the port on numbers and bytes", "A refusal gives number and place, no times". Number and place
+-- are 0 if nothing is refused; every other field is 0 if the call is.
 use Prim.Native.Nat.{ℕ, _+_, _*_}
 use lib.IntN.{pos}
 use Rattle.models.specs.Numbers.{prayerNumberOf}
@@ -29,7 +30,7 @@ unfoldable pub dayAnswerOf : Worked → KatchidulDay
 dayAnswerOf (worked.Times t) = record { refusal = noRefusal; times = t }
 dayAnswerOf (worked.Refused r) = record { refusal = r; times = noTimes }
 
--- ---- a prayer: 0 is none, which is an answer
+-- ---- a prayer: "else none", which is 0 and no refusal
 unfoldable pub prayerAnswerOf : InForce → KatchidulPrayer
 prayerAnswerOf (force.Prayer p) = record { refusal = noRefusal; prayer = currentNumberOf p }
 prayerAnswerOf (force.Refused r) = record { refusal = r; prayer = 0 }
@@ -38,7 +39,7 @@ unfoldable pub nextAnswerOf : NextPrayer → KatchidulPrayer
 nextAnswerOf (next.Prayer p) = record { refusal = noRefusal; prayer = prayerNumberOf p }
 nextAnswerOf (next.Refused r) = record { refusal = r; prayer = 0 }
 
--- ---- the time until the next one
+-- ---- the time until the next one: "0 hours 60 minutes; passed, 0 and 0"
 unfoldable pub remainingAnswerOf : TimeUntil → KatchidulRemaining
 remainingAnswerOf (until.Time t) = record { refusal = noRefusal; time = t }
 remainingAnswerOf (until.Refused r) = record { refusal = r; time = record { hours = 0; minutes = 0 } }

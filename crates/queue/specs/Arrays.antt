@@ -1,4 +1,4 @@
--- The queue as a host keeps it, a list of jobs in two arrays, and what the two calls answer. Any numbers in it are answered.
+-- Request 10: "A queue of up to 16 jobs, each with an id .. and its pages left", in a host's two arrays, whatever numbers are in them.
 use mathlib.Core.Bool.{cond}
 use mathlib.Core.List.{List, [], _∷_, _++_, map}
 use Prim.Native.Nat.{ℕ, _-_}
@@ -50,7 +50,7 @@ refusalIn (refused r) = r
 refusalIn (sent j) = noRefusal
 refusalIn nothing = noRefusal
 
--- id 0 and 0 pages where nothing is sent
+-- "A turn answers the job's id and its pages then left; one with no job sends nothing": id 0 and 0 pages
 abbrev pub sentIn : Event → Job
 sentIn (admitted j) = job 0 0
 sentIn (refused r) = job 0 0

@@ -1,4 +1,4 @@
--- schedule.rs: PrayerSchedule, the builder of a date's times.
+-- schedule.rs: PrayerSchedule, the builder of a date's times. Document 01: "`&mut` builders: methods by value".
 use Rattle.calendar.specs.declared.dates.Date.{Date}
 use Rattle.models.specs.declared.parameters.Parameters.{Parameters}
 use Rattle.models.specs.Chosen.{sourceRules, settingOf}

@@ -1,9 +1,10 @@
 -- schedule.rs: Fajr and Isha, before their minutes are added. Each is the time of an angle, bounded by a portion of the night or by the season.
 -- Times are seconds from 0h of the date.
 use mathlib.Core.Bool.{Bool, true, false, _&&_, cond}
-use lib.IntN.{ℤ, pos, negsuc, _+ℤ_, _-ℤ_, _*ℤ_}
+use lib.IntN.{ℤ, pos, _+ℤ_, _-ℤ_, _*ℤ_}
 use lib.Signed.{ltZ}
 use lib.Ieee.{Float, le}
+use Rattle.integers.specs.Ends.{least32, most32}
 use Rattle.float64.specs.Ops.{dec}
 use Rattle.calendar.specs.Days.{ordinalOf}
 use Rattle.calendar.specs.declared.dates.Date.{Date}
@@ -63,13 +64,6 @@ bySeventhOf method latitude = le (dec 55 0) latitude && bySeasonOf method
 -- the time that its bound is held against. "Without an angle time the bound serves."
 unfoldable pub ownOf : Method → Float → ℤ → SolarHour → ℤ → ℤ
 ownOf method latitude seventh hour bound = cond (bySeventhOf method latitude) seventh (orOf hour bound)
-
--- the ends of an i32
-abbrev least32 : ℤ
-least32 = negsuc 2147483647
-
-abbrev most32 : ℤ
-most32 = pos 2147483647
 
 -- Seconds, held at the ends of an i32, so that every sum has its place. An order's are never near those ends (before-source and after-source of
 -- schedule_laws); the source panics where a sum leaves chrono's range.

@@ -9,8 +9,8 @@ use Rattle.sentences.specs.declared.Meaning.{Meaning}
 use Rattle.sentences.specs.Table.{texts, textOf, nameOf, known, widest, widestName}
 use Rattle.sentences.specs.Guess.{none, numberIn, placeIn, guessedOf}
 use Rattle.sentences.specs.Sentences.{endsInColon, wordsOf, sentenceOf, sentenceCallOf, meant, noSentence, same, amongPlaces, amongNumbers, meaningOf}
-use Rattle.sentences.specs.Promises.{EachHasASentence, Says, Different, Printed, ReadBack, ReadAs, ReadsOnlySentences, WrittenAndRead}
-use Rattle.sentences.specs.Promises.ReadAs.{says, other}
+use Rattle.sentences.specs.Promises.{EachHasASentence, Says, Different, Printed, ReadBack, ReadAsSentence, ReadsOnlySentences, WrittenAndRead}
+use Rattle.sentences.specs.Promises.ReadAsSentence.{says, other}
 use Rattle.sentences.proofs.Lines.{text-fine, name-fine, text-says}
 use Rattle.sentences.proofs.Guessing.{number-append, ten-digits, place-back}
 use Rattle.sentences.proofs.Comparing.{same-itself, same-only}
@@ -234,8 +234,8 @@ different bytes n m p q s u =
 pub reads-only-sentences : ReadsOnlySentences
 reads-only-sentences bytes =
     cases (test bytes)
-    (λ e. let s = accepted-bytes bytes e in subst (ReadAs bytes) (sym (read-back bytes (n bytes) (p bytes) s)) (says (n bytes) (p bytes) s))
-    (λ e. subst (ReadAs bytes) (sym (sym (guessed-right bytes) ∙ refused-bytes bytes e)) (other (λ m q s. never m q e s)))
+    (λ e. let s = accepted-bytes bytes e in subst (ReadAsSentence bytes) (sym (read-back bytes (n bytes) (p bytes) s)) (says (n bytes) (p bytes) s))
+    (λ e. subst (ReadAsSentence bytes) (sym (sym (guessed-right bytes) ∙ refused-bytes bytes e)) (other (λ m q s. never m q e s)))
   where
     never : (m q : ℕ) → test bytes ≡ false → Says bytes m q → ⊥
     never m q e s =

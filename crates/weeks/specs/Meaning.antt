@@ -1,4 +1,4 @@
--- Document 02, request 11: what a window's answer means, by the rows alone.
+-- Document 02, request 11: "the earliest and latest Fajr by the clock .. and the first row having each", said by the rows alone.
 use Prim.Native.Nat.{ℕ, _≤_, _<_}
 use mathlib.Core.Path.{_≡_}
 use mathlib.Core.Bool.{Bool, true, false}
