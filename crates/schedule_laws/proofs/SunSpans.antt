@@ -23,7 +23,7 @@ use Rattle.solar.specs.Times.{solarHourOf, solarTimeOf}
 use Rattle.solar.proofs.TimesLaws.{SunOfThreeDays, DayOfThreeDays, hour-range, day-held}
 use Rattle.schedule.specs.declared.{hours.ThreeSuns.ThreeSuns, hours.Suns.Suns, hours.RowHours.RowHours, hours.RowNumbers.RowNumbers}
 use Rattle.schedule.specs.declared.hours.Suns.the-variants.{Whole, Refused}
-use Rattle.schedule.proofs.Schedule.{sunsOf, dayHoursOf, rowHoursOf, hoursOf, nightOf, bySeasonOf, short-is, beforeSunriseOf, unadjustedFajrOf, afterSunsetOf, ishaBoundOf, boundedIshaOf, unadjustedIshaOf}
+use Rattle.schedule.proofs.Schedule.{sunsOf, hoursOf, nightOf, bySeasonOf, short-is, beforeSunriseOf, unadjustedFajrOf, afterSunsetOf, ishaBoundOf, boundedIshaOf, unadjustedIshaOf}
 use Rattle.order.specs.Ranges.{mostAngle}
 use Rattle.order.specs.Accepted.{LatitudeInOrder, ParametersInOrder}
 use Rattle.schedule_laws.proofs.Spans.{HourBetween, hour-wider, own-between, earlier-between, next-day-between, fajr-between}
@@ -72,7 +72,7 @@ pub record Hours (h : RowHours) : Type 0 where
   pub «fajr_tomorrow» : SunHour (h .«fajr_tomorrow»)
 
 pub hours : (rule : Midnight) (n : RowNumbers) → Hours (hoursOf rule n)
-unfolding hoursOf rowHoursOf dayHoursOf
+unfolding hoursOf
 hours rule n =
     record {
       suns = row (solarTimeOf rule (n .today)) (solarTimeOf rule (n .tomorrow)) (solarTimeOf rule (n .after)) (day-held rule (n .today)) (day-held rule (n .tomorrow)) (day-held rule (n .after));

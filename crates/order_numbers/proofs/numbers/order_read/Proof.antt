@@ -9,7 +9,7 @@ returns c =
     let read = n .before .before .before .before .before in
     let parts = read .before .before in
     let told = c .before .before .struct-told .given in
-    let f : SFits w32 (parts .before .before .before .before .args .order .setting .parameters .«isha_interval») = search needs in
+    let f : SFits w32 (parts .before .before .before .before .before .args .order .setting .parameters .«isha_interval») = search needs in
     simp (
       toZ-ofZ f,
       c .choices-read .ensures,

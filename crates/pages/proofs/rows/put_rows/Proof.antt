@@ -9,24 +9,24 @@ use Rattle.pages.proofs.Rolled.{clock-fits, Run, Behind, done-none, run
 use Rattle.pages.proofs.rows.put_rows as this
 
 abbrev Inv-loop : this.Tie.InvT-loop
-Inv-loop buffer₀ order row end coordinates parameters rules latitude suns₀ next₀ dots₀ buffer suns next dots =
+Inv-loop buffer₀ order row end setting suns₀ next₀ dots₀ buffer suns next dots =
     Run order row end buffer₀ buffer suns next dots
 
 abbrev μ-loop : this.Tie.MeasureT-loop
-μ-loop buffer₀ order row end coordinates parameters rules latitude suns₀ next₀ dots₀ buffer suns next dots =
+μ-loop buffer₀ order row end setting suns₀ next₀ dots₀ buffer suns next dots =
     end - next
 
 -- an order has few rows, so that every number here fits
 few : (c : this.Tie.At-loop Inv-loop μ-loop) → c .loop .next < 400
-few c = let p = c .before .before .before .before .before .before .before .before .pre in omega (arith, c .loop .inv .within, p .2, p .0 .rows .1)
+few c = let p = c .before .before .before .before .before .before .pre in omega (arith, c .loop .inv .within, p .2, p .0 .rows .1)
 
 -- behind the row that is put
 row-holds : (c : this.Tie.After-put-cells Inv-loop μ-loop)
-    → let a = c .before .before .before .before .before .before .before .before .before .before .before .before .args in
+    → let a = c .before .before .before .before .before .before .before .before .before .before .args in
     let l = c .before .before .before .before .loop in
     Behind (a .order) (a .row) (now (a .buffer)) (l .next + 1) (c .put-cells .last .0) (l .dots + c .put-cells .result)
 row-holds c =
-    let t = c .before .before .before .before .before .before .before .before .before .before .before .before in
+    let t = c .before .before .before .before .before .before .before .before .before .before in
     let l = c .before .before .before .before .loop in
     let o = t .args .order in
     let p = t .pre in
@@ -39,7 +39,7 @@ row-holds c =
 
 loop-holds : this.Tie.Need-loop-holds Inv-loop μ-loop
 loop-holds c =
-    let t = c .before .before .before .before .before .before .before in
+    let t = c .before .before .before .before .before in
     let o = t .args .order in
     let n = done-none o (t .args .row) (now (t .args .buffer)) in
     record {
@@ -55,13 +55,13 @@ returns : this.Tie.Need-returns Inv-loop μ-loop
 returns c =
     let l = c .before .before .before .before .before .before .before .loop in
     let m = row-holds (c .before .before .before) in
-    let t = c .before .before .before .before .before .before .before .before .before .before .before .before .before .before .before in
+    let t = c .before .before .before .before .before .before .before .before .before .before .before .before .before in
     let e : l .next + 1 ≡ t .args .end = omega (arith, c .if1 .taken, l .inv .within) in
     (rw e at (m .1), rw e at (m .0))
 
 loop-again : this.Tie.Need-loop-again Inv-loop μ-loop
 loop-again c =
-    let t = c .before .before .before .before .before .before .before .before .before .before .before .before .before .before .before .before in
+    let t = c .before .before .before .before .before .before .before .before .before .before .before .before .before .before in
     let l = c .before .before .before .before .before .before .before .before .loop in
     let o = t .args .order in
     let m = row-holds (c .before .before .before .before) in

@@ -7,17 +7,17 @@ use Rattle.rows.proofs.Rolled.{Run, Behind, run-line}
 use Rattle.rows.proofs.sheet.put_rows as this
 
 abbrev Inv-loop : this.Tie.InvT-loop
-Inv-loop buffer₀ at order coordinates parameters rules ramadan latitude rolling₀ row₀ end₀ buffer suns row end = Run order buffer₀ at buffer suns row end
+Inv-loop buffer₀ at order setting ramadan rolling₀ row₀ end₀ buffer suns row end = Run order buffer₀ at buffer suns row end
 
 abbrev μ-loop : this.Tie.MeasureT-loop
-μ-loop buffer₀ at order coordinates parameters rules ramadan latitude rolling₀ row₀ end₀ buffer suns row end = order .rows - row
+μ-loop buffer₀ at order setting ramadan rolling₀ row₀ end₀ buffer suns row end = order .rows - row
 
 -- behind the row whose line is put
-line-holds : (c : this.Tie.After-put-line Inv-loop μ-loop) → let a = c .before .before .before .before .before .before .before .before .before .before .args in
+line-holds : (c : this.Tie.After-put-line Inv-loop μ-loop) → let a = c .before .before .before .before .before .before .before .before .args in
     let l = c .before .before .before .loop in
     Behind (a .order) (now (a .buffer)) (a .at) (c .put-line .last .0) (l .row + 1) (l .end + c .put-line .result)
 line-holds c =
-    let t = c .before .before .before .before .before .before .before .before .before .before in
+    let t = c .before .before .before .before .before .before .before .before in
     let o = t .args .order in
     let l = c .before .before .before .loop in
     let put = c .put-line in
@@ -26,7 +26,7 @@ line-holds c =
 
 loop-holds : this.Tie.Need-loop-holds Inv-loop μ-loop
 loop-holds c =
-    let t = c .before .before .before .before .before .before in
+    let t = c .before .before .before .before in
     let o = t .args .order in
     let p = t .pre in
     let n = lines-none o (now (t .args .buffer)) (t .args .at) (omega (arith, p .1)) in
@@ -34,7 +34,7 @@ loop-holds c =
 
 add-end : this.Tie.Need-add-end Inv-loop μ-loop
 add-end c =
-    let t = c .before .before .before .before .before .before .before .before .before .before .before .before in
+    let t = c .before .before .before .before .before .before .before .before .before .before in
     let f : length (now (t .args .buffer)) < 2 ^ 64 = search needs in
     omega (arith, line-holds (c .before .before) .2)
 
@@ -42,13 +42,13 @@ returns : this.Tie.Need-returns Inv-loop μ-loop
 returns c =
     let l = c .before .before .before .before .before .before .before .loop in
     let n = line-holds (c .before .before .before .before) in
-    let t = c .before .before .before .before .before .before .before .before .before .before .before .before .before .before in
+    let t = c .before .before .before .before .before .before .before .before .before .before .before .before in
     let e : l .row + 1 ≡ t .args .order .rows = omega (arith, c .if1 .taken, l .inv .within) in
     (rw e at (n .1), rw e at (n .0))
 
 loop-again : this.Tie.Need-loop-again Inv-loop μ-loop
 loop-again c =
-    let t = c .before .before .before .before .before .before .before .before .before .before .before .before .before .before .before in
+    let t = c .before .before .before .before .before .before .before .before .before .before .before .before .before in
     let o = t .args .order in
     let l = c .before .before .before .before .before .before .before .before .loop in
     let n = line-holds (c .before .before .before .before .before) in
@@ -68,7 +68,7 @@ put-rows-spec =
     (λ c. omega (
       arith,
       c .before .before .before .before .before .loop .inv .within,
-      c .before .before .before .before .before .before .before .before .before .before .before .before .pre .0 .rows .1,
+      c .before .before .before .before .before .before .before .before .before .before .pre .0 .rows .1,
     ))
     (λ c. c .before .before .before .before .put-line .kept .0 ∙ c .before .before .before .before .before .before .before .loop .inv .same) returns
     (λ c κs. search needs) (λ c. omega (arith, c .before .before .before .before .before .before .before .before .loop .inv .within)) loop-again)
