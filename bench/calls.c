@@ -1,4 +1,4 @@
-/* Reads an order on standard input and works its first day, or with an argument only reads it: for bench/instructions, which counts the call. */
+/* Works the first day of an order on standard input, or with an argument only reads it. bench/instructions counts the call. */
 #include <stdio.h>
 
 #include "katchidul.h"

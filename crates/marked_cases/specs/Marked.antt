@@ -35,8 +35,8 @@ abbrev south : Float
 south = neg (dec 1 0)
 
 -- the count south of the equator where it starts again
-abbrev again : ℕ → ℕ → ℕ → Bool
-again day year count = eqb (daysByRule StartsAgain south day year) count
+abbrev southAgain : ℕ → ℕ → ℕ → Bool
+southAgain day year count = eqb (daysByRule StartsAgain south day year) count
 
 -- an hour number that gives a time, in seconds from 0h of the date, and one that gives none
 abbrev gives : SolarHour → ℤ → Bool
@@ -66,9 +66,9 @@ abbrev instant : ℕ → ℕ → Instant
 instant seconds nanoseconds = record { seconds = pos seconds; nanoseconds = nanoseconds }
 
 -- whether the prayer that stands n-th in the list is named, and none where n is 0
-abbrev names : Current → ℕ → Bool
-names (current.Some prayer) n = eqb (prayerNumberOf prayer) n
-names current.Nothing n = eqb n 0
+abbrev isNumbered : Current → ℕ → Bool
+isNumbered (current.Some prayer) n = eqb (prayerNumberOf prayer) n
+isNumbered current.Nothing n = eqb n 0
 
 abbrev lasts : Remaining → ℕ → ℕ → Bool
 lasts (remaining.Some r) hours minutes = eqb (r .hours) hours && eqb (r .minutes) minutes
@@ -86,14 +86,14 @@ marked =
     eqb (daysSinceSolsticeOf 172 2025 south) 365 ∷
     eqb (daysSinceSolsticeOf 365 2025 south) 558 ∷
     -- the southern count that starts again: on the solstice, the day before it, the first day and the last, of a common year and of a leap year
-    again 172 2025 0 ∷
-    again 171 2025 364 ∷
-    again 1 2025 194 ∷
-    again 365 2025 193 ∷
-    again 173 2024 0 ∷
-    again 172 2024 365 ∷
-    again 1 2024 194 ∷
-    again 366 2024 193 ∷
+    southAgain 172 2025 0 ∷
+    southAgain 171 2025 364 ∷
+    southAgain 1 2025 194 ∷
+    southAgain 365 2025 193 ∷
+    southAgain 173 2024 0 ∷
+    southAgain 172 2024 365 ∷
+    southAgain 1 2024 194 ∷
+    southAgain 366 2024 193 ∷
     -- and the equator stays northern
     eqb (daysByRule StartsAgain north 172 2025) 182 ∷
     eqb (daysByRule StartsAgain (neg north) 172 2025) 182 ∷
@@ -120,10 +120,10 @@ marked =
     -- and what needs no carrying stays
     gives (carriedHourOf (dec 55 1)) (pos 19800) ∷
     -- half a second before Fajr it is in force, a full second before it is not
-    names (currentTimeOf times (instant 3999 500000000)) 1 ∷
-    names (currentTimeOf times (instant 3999 0)) 0 ∷
+    isNumbered (currentTimeOf times (instant 3999 500000000)) 1 ∷
+    isNumbered (currentTimeOf times (instant 3999 0)) 0 ∷
     -- next after FajrTomorrow is FajrTomorrow
-    names (nextOf times (instant 32000 0)) 8 ∷
+    isNumbered (nextOf times (instant 32000 0)) 8 ∷
     -- `time_remaining` 3,599 s before sunrise is 0 hours 60 minutes; after FajrTomorrow, which is the next itself, it is 0 and 0
     lasts (timeRemainingOf times (instant 4401 0)) 0 60 ∷
     lasts (timeRemainingOf times (instant 32001 0)) 0 0 ∷

@@ -3,9 +3,9 @@ ghost use mathlib.Core.Path.{_≡_};
 ghost use mathlib.Core.Bool.{true, cond};
 ghost use lib.Dec.{ltb};
 ghost use Rattle.refusals.specs.Refusals.{refusal, outOfRange};
-ghost use Rattle.fields.specs.Values.{hasIn, partIn, partFor, valuesIn};
+ghost use Rattle.fields.specs.Values.{hasIn, partIn, valuesIn};
 ghost use Rattle.order.specs.Ranges.{fitsIn};
-ghost use Rattle.order.specs.Reading.{firstFailing, tagsFrom, isGivenOf, missingOf, bothFormsOf, outOfRangeOf, orderOf, wrongStartOf, firstOf, checksOf, readingOf, townIn};
+ghost use Rattle.order.specs.Reading.{isGivenOf, missingOf, bothFormsOf, outOfRangeOf, orderOf, wrongStartOf, firstOf, checksOf, readingOf, townIn};
 use super::given::clock_in;
 use super::given::coordinate_in;
 use super::given::date_in;
@@ -109,10 +109,12 @@ fn judged(tag: u32, order: &[u8], part: Part, date: Date, ramadan: bool, rest: R
     Refusal::new(OUT_OF_RANGE, tag)
 }
 
-// By the lowest tag from 11 on. Each line has its number, so that the compiler leaves that tag's test alone of `fits`.
-fn later_out_of_range(order: &[u8], fields: Fields, date: Date, ramadan: bool) -> Refusal
-    ensures { λ r. ⌜ r ≡ firstFailing outOfRange (λ tag. cond (hasIn fields tag) (fitsIn tag (partIn (now (order .entry)) (partFor fields tag)) date ramadan) true) (tagsFrom 10 11) ⌝ }
+// By the lowest tag whose value is out of range. Each line has its number, so that the compiler leaves of `fits` that tag's test alone.
+fn out_of_range(order: &[u8], fields: Fields) -> Refusal
+    ensures { λ r. ⌜ r ≡ outOfRangeOf (valuesIn (now (order .entry)) fields) ⌝ }
 {
+    let date = date_in(value(order, fields, tags::DATE));
+    let ramadan = fields.has(tags::RAMADAN);
     let rest = Refusal::none();
     let rest = judged(20, order, fields.part(20), date, ramadan, rest);
     let rest = judged(19, order, fields.part(19), date, ramadan, rest);
@@ -124,16 +126,6 @@ fn later_out_of_range(order: &[u8], fields: Fields, date: Date, ramadan: bool) -
     let rest = judged(13, order, fields.part(13), date, ramadan, rest);
     let rest = judged(12, order, fields.part(12), date, ramadan, rest);
     let rest = judged(11, order, fields.part(11), date, ramadan, rest);
-    rest
-}
-
-// By the lowest tag whose value is out of range.
-fn out_of_range(order: &[u8], fields: Fields) -> Refusal
-    ensures { λ r. ⌜ r ≡ outOfRangeOf (valuesIn (now (order .entry)) fields) ⌝ }
-{
-    let date = date_in(value(order, fields, tags::DATE));
-    let ramadan = fields.has(tags::RAMADAN);
-    let rest = later_out_of_range(order, fields, date, ramadan);
     let rest = judged(10, order, fields.part(10), date, ramadan, rest);
     let rest = judged(9, order, fields.part(9), date, ramadan, rest);
     let rest = judged(8, order, fields.part(8), date, ramadan, rest);
