@@ -16,15 +16,15 @@ abbrev μ-loop : this.Tie.MeasureT-loop
 -- behind the row that is stored
 stored : (c : this.Tie.After-store Inv-loop μ-loop)
     → (k : ℕ) → k < c .before .before .before .before .loop .row + 1
-    → minuteAt (c .store .last .1 .1 .0) (c .store .last .1 .1 .1 .0) k ≡ rowMinute (c .before .before .before .before .before .before .before .before .before .before .args .order) k
+    → minuteAt (c .store .last .1 .1 .0) (c .store .last .1 .1 .1 .0) k ≡ rowMinute (c .before .before .before .before .before .before .before .before .args .order) k
 stored c =
-    let start = c .before .before .before .before .before .before .before .before .before .before in
+    let start = c .before .before .before .before .before .before .before .before in
     let l = c .before .before .before .before .loop in
     row-done (start .args .order) (start .pre .0) (l .minutes) _ (l .refused) _ (l .suns) (l .row) (l .inv) _ (c .before .before .before .fajr .ensures) (c .store .ensures)
 
 loop-holds : this.Tie.Need-loop-holds Inv-loop μ-loop
 loop-holds c =
-    let start = c .before .before .before .before .before in
+    let start = c .before .before .before in
     record {
       within = start .pre .0 .rows .0;
       state = c .new .ensures ∙ first-state (start .args .order) (start .pre .0);
@@ -35,7 +35,7 @@ loop-holds c =
 store-requires : this.Tie.Need-store-requires Inv-loop μ-loop
 store-requires c κs =
     let inv = c .before .before .before .loop .inv in
-    let most = c .before .before .before .before .before .before .before .before .before .pre .0 .rows .1 in
+    let most = c .before .before .before .before .before .before .before .pre .0 .rows .1 in
     (omega (arith, inv .within, inv .long .0), omega (arith, inv .within, inv .long .1))
 
 returns : this.Tie.Need-returns Inv-loop μ-loop
@@ -43,7 +43,7 @@ returns c k h = stored (c .before .before .before .before .before) k (omega (ari
 
 loop-again : this.Tie.Need-loop-again Inv-loop μ-loop
 loop-again c =
-    let start = c .before .before .before .before .before .before .before .before .before .before .before .before .before .before .before .before in
+    let start = c .before .before .before .before .before .before .before .before .before .before .before .before .before .before in
     let o = start .args .order in
     let l = c .before .before .before .before .before .before .before .before .before .before .loop in
     let store = c .before .before .before .before .before .before .store in
@@ -59,8 +59,8 @@ pub work-minutes-spec : {M : Type 1} → this.Statement.statement M
 work-minutes-spec =
     this.Tie.close
     (this.Tie.spec Inv-loop μ-loop (λ c κs. search needs) loop-holds (λ c κs. search needs)
-    (λ c. record { fits = omega (arith, c .before .loop .inv .within, c .before .before .before .before .before .before .before .pre .0 .rows .1) }) store-requires
-    (λ c. omega (arith, c .before .before .before .before .before .before .before .loop .inv .within, c .before .before .before .before .before .before .before .before .before .before .before .before .before .pre .0 .rows .1))
-    (λ c. c .before .before .before .before .before .store .kept .1 .1 .0 ∙ c .before .before .before .before .before .before .before .before .before .loop .inv .long .0 ∙ sym (c .before .before .before .before .before .before .before .before .before .before .before .before .before .before .before .pre .1))
-    (λ c. c .before .before .before .before .before .store .kept .1 .1 .1 .0 ∙ c .before .before .before .before .before .before .before .before .before .loop .inv .long .1 ∙ sym (c .before .before .before .before .before .before .before .before .before .before .before .before .before .before .before .pre .2)) returns (λ c κs. search needs)
+    (λ c. record { fits = omega (arith, c .before .loop .inv .within, c .before .before .before .before .before .pre .0 .rows .1) }) store-requires
+    (λ c. omega (arith, c .before .before .before .before .before .before .before .loop .inv .within, c .before .before .before .before .before .before .before .before .before .before .before .pre .0 .rows .1))
+    (λ c. c .before .before .before .before .before .store .kept .1 .1 .0 ∙ c .before .before .before .before .before .before .before .before .before .loop .inv .long .0 ∙ sym (c .before .before .before .before .before .before .before .before .before .before .before .before .before .pre .1))
+    (λ c. c .before .before .before .before .before .store .kept .1 .1 .1 .0 ∙ c .before .before .before .before .before .before .before .before .before .loop .inv .long .1 ∙ sym (c .before .before .before .before .before .before .before .before .before .before .before .before .before .pre .2)) returns (λ c κs. search needs)
     (λ c. omega (arith, c .before .before .before .before .before .before .before .before .before .before .loop .inv .within)) loop-again)
