@@ -127,7 +127,7 @@ module _ (a b : List ℕ) (orders : LaterOrder a b) (row : ℕ) where
       let More : Order → Type 0 = λ o. (prayer : Prayer) → leZ (timeAdjustmentsOf (orders .first .setting .parameters) prayer) (timeAdjustmentsOf (o .setting .parameters) prayer) ≡ true in
       let more = subst More (sym e) (orders .more) in
       let m = row-moved (orders .first) (orders .second .town) (orders .second .setting .parameters .adjustments) row h k more in
-      let n = subst (λ (x : Order). Moved (orders .first .parameters) (x .setting .parameters) (workRowOf (orders .first) row) (workRowOf x row)) e m in
+      let n = subst (λ (x : Order). Moved (orders .first .setting .parameters) (x .setting .parameters) (workRowOf (orders .first) row) (workRowOf x row)) e m in
       subst (λ (w : Worked). Moved (orders .first .setting .parameters) (orders .second .setting .parameters) w (workDayOf b row)) (sym day-of-first)
       (subst (λ (w : Worked). Moved (orders .first .setting .parameters) (orders .second .setting .parameters) (workRowOf (orders .first) row) w) (sym day-of-second) n)
 
