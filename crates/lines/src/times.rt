@@ -153,6 +153,20 @@ fn two_digits(n: u32) -> TwoDigits
     }
 }
 
+// Nearly every time is a whole minute.
+fn second_digits(second: u32) -> TwoDigits
+    requires { ⌜ second < 60 ⌝ }
+    ensures { λ r. ⌜ (r .tens ≡ digitOf (second / 10)) × (r .units ≡ digitOf second) ⌝ }
+{
+    if second == 0 {
+        return TwoDigits {
+            tens: b'0',
+            units: b'0',
+        };
+    }
+    two_digits(second)
+}
+
 // A blank, then as +0T05:12:00.
 pub fn time_text(dated: Dated, time: i64) -> [u8; 12]
     requires { ⌜ (dated .day ≡ dayNumberOf (dated .date)) × (dated .start ≡ dayNumberOf (dated .date) *ℤ pos 86400) ⌝ }
@@ -164,7 +178,7 @@ pub fn time_text(dated: Dated, time: i64) -> [u8; 12]
     let hours = second / 3600;
     let hour = two_digits(hours);
     let minute = two_digits(minutes - 60 * hours);
-    let rest = two_digits(second - 60 * minutes);
+    let rest = second_digits(second - 60 * minutes);
     [
         b' ',
         moment.sign,

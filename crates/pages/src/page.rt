@@ -34,7 +34,7 @@ fn rows_on(order: Order, page: u32) -> u32
 }
 
 // The number of rows that fit and are left.
-fn least(room: usize, left: u32) -> u32
+fn rows_that_fit(room: usize, left: u32) -> u32
     ensures { λ r. ⌜ r ≡ min room left ⌝ }
 {
     if room < left as usize {
@@ -53,7 +53,7 @@ fn write_read(scratch: &mut [u8], order: Order, page: u32, first: u32) -> Punche
     if first >= count {
         return Punched::refused(lacks_row());
     }
-    let taken = least(scratch.len() / ROW_CELLS, count - first);
+    let taken = rows_that_fit(scratch.len() / ROW_CELLS, count - first);
     write_rows(
         &mut scratch[..],
         order,

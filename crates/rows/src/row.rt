@@ -35,7 +35,8 @@ fn write_worked(ramadan: Ramadan, date: Date, worked: Worked, buffer: &mut [u8])
     }
 }
 
-fn write_there(order: Order, row: u32, buffer: &mut [u8]) -> Refusal
+// Works the row and writes it. Returns 5 with the rows' tag if the order lacks it.
+fn work_and_write(order: Order, row: u32, buffer: &mut [u8]) -> Refusal
     requires { ⌜ rowRoom (order .ramadan) ≤ length (now buffer) ⌝ }
     ensures { λ r. ⌜ r ≡ workedCallOf (order .ramadan) (rowDateOf (order .date) row) (workRowOf order row) (now (buffer .entry)) .answer ⌝ }
     ensures { λ _. ⌜ now (buffer .exit) ≡ workedCallOf (order .ramadan) (rowDateOf (order .date) row) (workRowOf order row) (now (buffer .entry)) .buffer ⌝ }
@@ -57,7 +58,7 @@ fn write_read(order: Order, row: u32, buffer: &mut [u8]) -> Refusal
     if buffer.len() < bytes {
         return Refusal::new(BUFFER_SHORT, 0);
     }
-    write_there(order, row, &mut buffer[..])
+    work_and_write(order, row, &mut buffer[..])
 }
 
 // Returns 9 if the buffer is shorter than a full row without imsak. This is checked first.

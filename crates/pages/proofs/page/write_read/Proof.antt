@@ -13,13 +13,13 @@ returns c =
     (c .refused .ensures ∙ ap refusedOf (c .before .lacks-row .ensures) ∙ same-answer n, same-buffer n)
 
 -- what is written of a page that has the row
-piece-holds : (c : this.Tie.After-least) → let a = c .before .before .before .before .args in
-    Written (a .order) (a .page) (a .first) (length (now (a .scratch)) / 39) (c .least .result)
+piece-holds : (c : this.Tie.After-rows-that-fit) → let a = c .before .before .before .before .args in
+    Written (a .order) (a .page) (a .first) (length (now (a .scratch)) / 39) (c .rows-that-fit .result)
 piece-holds c =
     let t = c .before .before .before .before in
     let a = t .args in
     piece-written (a .order) (a .page) (a .first) (length (now (a .scratch)) / 39) _ _ (c .before .before .rows-on .ensures) (c .before .if1 .left)
-    (omega (arith, t .pre .1)) (c .least .ensures)
+    (omega (arith, t .pre .1)) (c .rows-that-fit .ensures)
 
 write-rows-requires : this.Tie.Need-write-rows-requires
 write-rows-requires c κs =
@@ -31,7 +31,7 @@ returns-2 : this.Tie.Need-returns-2
 returns-2 c =
     let a = c .before .before .before .before .before .before .before .before .args in
     let w = piece-holds (c .before .before .before .before) in
-    let taken = c .before .before .before .before .least .result in
+    let taken = c .before .before .before .before .rows-that-fit .result in
     let asked = pieceIn (a .page) (a .first) (now (a .scratch)) (a .order) in
     let l : taken ≡ length asked = sym (rows-length (a .order) (25 * (a .page - 1) + a .first) taken) ∙ ap length (w .rows) in
     let put = c .before .before .write-rows .ensures in

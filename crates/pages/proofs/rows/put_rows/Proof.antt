@@ -24,7 +24,7 @@ few c = let p = c .before .before .before .before .before .before .pre in omega 
 row-holds : (c : this.Tie.After-put-cells Inv-loop μ-loop)
     → let a = c .before .before .before .before .before .before .before .before .before .before .args in
     let l = c .before .before .before .before .loop in
-    Behind (a .order) (a .row) (now (a .buffer)) (l .next + 1) (c .put-cells .last .0) (l .dots + c .put-cells .result)
+    Behind (a .order) (a .row) (a .end) (now (a .buffer)) (l .next + 1) (c .put-cells .last .0) (l .dots + c .put-cells .result)
 row-holds c =
     let t = c .before .before .before .before .before .before .before .before .before .before in
     let l = c .before .before .before .before .loop in
@@ -32,7 +32,7 @@ row-holds c =
     let p = t .pre in
     let put = c .put-cells in
     let k = read w32 (o .clock) (clock-fits o (p .0)) in
-    run-row o (t .args .row) (t .args .end) (p .0) (p .2) (now (t .args .buffer)) (p .3) (l .buffer) (l .suns) (l .next) (l .dots) (l .inv)
+    run-row o (t .args .row) (t .args .end) (p .0) (p .2) (now (t .args .buffer)) (l .buffer) (l .suns) (l .next) (l .dots) (l .inv)
     _ (put .last .0) (put .result) _
     (ap (λ (w : Worked). rowCells (l .suns .date) w (o .clock)) (c .before .before .before .work .ensures)) (rw k at (put .ensures .0)) refl
     (rw k at (put .ensures .1))
@@ -46,7 +46,7 @@ loop-holds c =
       from = omega arith;
       within = t .pre .1;
       state = c .new .ensures ∙ ap (λ (d : Date). rowSunsOf d (o .setting)) (c .before .row .ensures);
-      cells = n .0;
+      cells = λ room. n .0;
       punched = n .1;
       same = refl;
     }
@@ -57,7 +57,7 @@ returns c =
     let m = row-holds (c .before .before .before) in
     let t = c .before .before .before .before .before .before .before .before .before .before .before .before .before in
     let e : l .next + 1 ≡ t .args .end = omega (arith, c .if1 .taken, l .inv .within) in
-    (rw e at (m .1), rw e at (m .0))
+    (rw e at (m .1), λ room. rw e at (m .0 room))
 
 loop-again : this.Tie.Need-loop-again Inv-loop μ-loop
 loop-again c =

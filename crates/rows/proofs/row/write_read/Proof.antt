@@ -12,7 +12,7 @@ returns-2 : this.Tie.Need-returns-2
 returns-2 c =
     let b = c .before .before .before .before .before in
     let a = b .before .before .args in
-    let w = c .before .before .write-there .ensures in
+    let w = c .before .before .work-and-write .ensures in
     let l = room-there (a .order) (a .row) (now (a .buffer)) (rw (b .row-bytes .ensures) at (c .before .before .before .before .if1 .left)) in
     (w .0 ∙ l .0, w .1 ∙ l .1)
 

@@ -1,6 +1,6 @@
 use Rattle.prelude.proofs.Logic.{_∙_, needs, now}
 use Rattle.rows.proofs.Answers.{row-there, row-lacking}
-use Rattle.rows.proofs.row.write_there as this
+use Rattle.rows.proofs.row.work_and_write as this
 
 returns : this.Tie.Need-returns
 returns c =
@@ -15,7 +15,7 @@ returns-2 c =
     let l = row-lacking (a .order) (a .row) (now (a .buffer)) (c .before .if1 .left) in
     (c .lacks-row .ensures ∙ l .0, l .1)
 
-pub write-there-spec : {M : Type 1} → this.Statement.statement M
-write-there-spec =
+pub work-and-write-spec : {M : Type 1} → this.Statement.statement M
+work-and-write-spec =
     this.Tie.close
     (this.Tie.spec (λ c κs. search needs) (λ c κs. search needs) (λ c κs. search needs) (λ c. search needs) returns (λ c κs. search needs) returns-2)
