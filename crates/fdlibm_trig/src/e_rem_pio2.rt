@@ -6,7 +6,6 @@ ghost use mathlib.Core.Path.{_≡_};
 ghost use Prim.Native.Nat.{_<_};
 ghost use Rattle.fdlibm_trig.specs.RemPio2.{npio2Of, exponentOf, lessOf, moreOf, iterationOf, refineOf, differenceOf, mediumOf, oppositeOf, nearOf, nearNegativeOf, remPio2Of};
 use float64::casts::to_u32;
-use float64::sizes::abs;
 use float64::words::high_word;
 
 const ZERO: f64 = 0.0;
@@ -200,8 +199,8 @@ pub fn rem_pio2(x: f64) -> Reduced
             less(1, near(x, ix))
         }
     } else if x < ZERO {
-        turned(medium(abs(x), ix))
+        turned(medium(-x, ix))
     } else {
-        medium(abs(x), ix)
+        medium(x, ix)
     }
 }
