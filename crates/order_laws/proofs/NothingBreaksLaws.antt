@@ -40,7 +40,7 @@ use Rattle.solar.specs.declared.setting.SolarHour.the-variants.{Some, Nothing}
 use Rattle.solar.specs.declared.times.SolarDay.{SolarDay}
 use Rattle.solar.specs.declared.times.SolarDay.the-variants as sun
 use Rattle.text.specs.Text.{frontOf}
-use Rattle.order_laws.specs.NothingBreaks.{orderNumbers, dayNumbers, FirstBroken, FirstLacking, threeDays, RefusedDay, lineOf, eachOf, insteadOf, OthersStay, Lent, writtenOf, NothingBreaksARun}
+use Rattle.order_laws.specs.NothingBreaks.{orderNumbers, dayNumbers, FirstBroken, FirstLacking, threeDays, RefusedDay, rowLine, eachOf, insteadOf, OthersStay, Lent, writtenFor, NothingBreaksARun}
 
 -- ---- an order's numbers
 is-listed : (n : ℕ) → Refusing n → listed orderNumbers n ≡ true
@@ -60,7 +60,7 @@ first-broken : (rules : List Refusal) (o : Order) (r : Refusal) → firstOf rule
 unfolding firstOf
 first-broken [] o r e = let z : _≡_ {A = ℕ} 0 1 = cc in absurd (omega arith)
 first-broken (q ∷ rest) o r e =
-    cases (eqb (q .number) 0) (λ h. FirstBroken.later h (first-broken rest o r (simp h at e)))
+    cases (eqb (q .number) 0) (λ h. FirstBroken.later {kept = q} h (first-broken rest o r (simp h at e)))
     (λ h. let same : q ≡ r = cc in subst (λ (x : Refusal). FirstBroken r (x ∷ rest)) (sym same) (FirstBroken.here (rw same at h)))
 
 -- ---- a day
@@ -127,12 +127,12 @@ unfolding workDayOf workReadingOf workRowOf
 row-of s o row e h = simp (e, lt-ltb row (o .rows) h)
 
 -- ---- the sheet
-lines-each : (o : Order) (n : ℕ) → n ≤ o .rows → linesText o n ≡ eachOf (lineOf o) n
+lines-each : (o : Order) (n : ℕ) → n ≤ o .rows → linesText o n ≡ eachOf (rowLine o) n
 unfolding linesText eachOf workRowOf
 lines-each o zero h = refl
 lines-each o (suc n) h = rw (lines-each o n (omega arith), lt-ltb n (o .rows) (omega arith))
 
-sheet-each : (s : List ℕ) (o : Order) → readingOf s ≡ reading.Read o → sheetText s ≡ headText (o .ramadan) (townOf s) ++ eachOf (lineOf o) (o .rows)
+sheet-each : (s : List ℕ) (o : Order) → readingOf s ≡ reading.Read o → sheetText s ≡ headText (o .ramadan) (townOf s) ++ eachOf (rowLine o) (o .rows)
 unfolding reportIn acceptedText
 sheet-each s o e = rw (e, lines-each o (o .rows) (omega arith))
 
@@ -159,7 +159,7 @@ module _ (o : Order) (row : ℕ) (buffer : List ℕ) where
   by-worked (worked.Times t) e h = written-lent (let l = columns-length (o .ramadan) (rowDateOf (o .date) row) t in omega arith)
   by-worked (worked.Refused r) e h = refused-lent (day-number (r .number) (refused-day o (rowDateOf (o .date) row) r e .number))
 
-  read-lent : Lent (readCallOf o row buffer .answer .number) (lineOf o row) buffer (readCallOf o row buffer .buffer)
+  read-lent : Lent (readCallOf o row buffer .answer .number) (rowLine o row) buffer (readCallOf o row buffer .buffer)
   unfolding readCallOf workRowOf workedCallOf
   read-lent =
       cases (ltb (length buffer) (rowRoom (o .ramadan))) (λ short. rw short (refused-lent refl))
@@ -168,14 +168,14 @@ module _ (o : Order) (row : ℕ) (buffer : List ℕ) where
       (λ h. rw h (refused-lent refl))))
 
 row-lent : (s : List ℕ) (row : ℕ) (buffer : List ℕ)
-    → Lent (rowCallOf s row buffer .answer .number) (writtenOf (λ o. lineOf o row) (readingOf s)) buffer (rowCallOf s row buffer .buffer)
+    → Lent (rowCallOf s row buffer .answer .number) (writtenFor (λ o. rowLine o row) (readingOf s)) buffer (rowCallOf s row buffer .buffer)
 row-lent s row buffer =
     cases (ltb (length buffer) fullRow)
     (λ h. let short = row-short s buffer row (ltb-true (length buffer) fullRow h) in rw (← short .0, ← short .1) (refused-lent refl))
     (λ h. by-reading (readingOf s) refl (ltb-false (length buffer) fullRow h))
   where
     by-reading : (x : Reading) → readingOf s ≡ x → fullRow ≤ length buffer
-        → Lent (rowCallOf s row buffer .answer .number) (writtenOf (λ o. lineOf o row) x) buffer (rowCallOf s row buffer .buffer)
+        → Lent (rowCallOf s row buffer .answer .number) (writtenFor (λ o. rowLine o row) x) buffer (rowCallOf s row buffer .buffer)
     by-reading (reading.Read o) e h = let read = row-read s buffer row h o e in rw (← read .0, ← read .1) (read-lent o row buffer)
     by-reading (reading.Refused r) e h = let no = row-refused s buffer row h r e in rw (← no .0, ← no .1) (refused-lent (order-number s r e))
 
@@ -187,7 +187,7 @@ module _ (asked : Order → Rows) (s buffer : List ℕ) (fit : (o : Order) → r
   rows-lent [] h = refused-lent refl
   rows-lent (row ∷ rows) h = written-lent h
 
-  cells-lent : Lent (askedCallOf asked rowLength s buffer .answer .refusal .number) (writtenOf (λ o. cellsOf (asked o)) (readingOf s)) buffer
+  cells-lent : Lent (askedCallOf asked rowLength s buffer .answer .refusal .number) (writtenFor (λ o. cellsOf (asked o)) (readingOf s)) buffer
       (askedCallOf asked rowLength s buffer .buffer)
   unfolding askedCallOf
   cells-lent =
@@ -195,7 +195,7 @@ module _ (asked : Order → Rows) (s buffer : List ℕ) (fit : (o : Order) → r
       (λ there. rw there (by-reading (ltb-false (length buffer) rowLength there) (readingOf s) refl))
     where
       by-reading : rowLength ≤ length buffer → (x : Reading) → readingOf s ≡ x
-          → Lent (pages.callIn asked x buffer .answer .refusal .number) (writtenOf (λ o. cellsOf (asked o)) x) buffer
+          → Lent (pages.callIn asked x buffer .answer .refusal .number) (writtenFor (λ o. cellsOf (asked o)) x) buffer
           (pages.callIn asked x buffer .buffer)
       by-reading h (reading.Read o) e = rows-lent (asked o) (fit o h)
       by-reading h (reading.Refused r) e = refused-lent (order-number s r e)
@@ -253,18 +253,18 @@ others-stay o row h =
     let left = o .rows - suc row in
     let n : o .rows ≡ suc row + left = omega arith in
     record {
-      before = eachOf (lineOf o) row;
-      after = fromOf (lineOf o) (suc row) left;
-      now = ap (eachOf (lineOf o)) n ∙ around (lineOf o) row left;
+      before = eachOf (rowLine o) row;
+      after = fromOf (rowLine o) (suc row) left;
+      now = ap (eachOf (rowLine o)) n ∙ around (rowLine o) row left;
       instead = λ w.
-          let alike : (k : ℕ) → eqb k row ≡ false → insteadOf o row w k ≡ lineOf o k = λ k e. rw e in
+          let alike : (k : ℕ) → eqb k row ≡ false → insteadOf o row w k ≡ rowLine o k = λ k e. rw e in
           let here : insteadOf o row w row ≡ lineText (o .ramadan) (rowDateOf (o .date) row) w = rw (eq-eqb row row refl) in
           ap (eachOf (insteadOf o row w)) n
           ∙ around (insteadOf o row w) row left
           ∙ rw (
-            before-same (lineOf o) (insteadOf o row w) row alike row (omega arith),
+            before-same (rowLine o) (insteadOf o row w) row alike row (omega arith),
             here,
-            after-same (lineOf o) (insteadOf o row w) row alike left,
+            after-same (rowLine o) (insteadOf o row w) row alike left,
           );
     }
 

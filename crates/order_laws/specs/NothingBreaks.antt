@@ -65,8 +65,8 @@ pub record RefusedDay (o : Order) (date : Date) (r : Refusal) : Type 0 where
   pub lacking : FirstLacking (r .number) (r .place) (threeDays o date)
 
 -- ---- "as that day only": the line of a row by its own date
-abbrev pub lineOf : Order → ℕ → List ℕ
-lineOf o row = let date = rowDateOf (o .date) row in lineText (o .ramadan) date (workDateOf o date)
+abbrev pub rowLine : Order → ℕ → List ℕ
+rowLine o row = let date = rowDateOf (o .date) row in lineText (o .ramadan) date (workDateOf o date)
 
 -- what each of the rows 0 to n - 1 gives, one behind another
 unfoldable pub eachOf : (ℕ → List ℕ) → ℕ → List ℕ
@@ -75,13 +75,13 @@ eachOf of (suc n) = eachOf of n ++ of n
 
 -- the lines, if working one row gave w
 abbrev pub insteadOf : Order → ℕ → Worked → ℕ → List ℕ
-insteadOf o one w row = cond (eqb row one) (lineText (o .ramadan) (rowDateOf (o .date) one) w) (lineOf o row)
+insteadOf o one w row = cond (eqb row one) (lineText (o .ramadan) (rowDateOf (o .date) one) w) (rowLine o row)
 
 -- whatever working that row gives, times or a refusal, the lines before and after its own are the same
 pub record OthersStay (o : Order) (one : ℕ) : Type 0 where
   pub before : List ℕ
   pub after : List ℕ
-  pub now : eachOf (lineOf o) (o .rows) ≡ before ++ lineOf o one ++ after
+  pub now : eachOf (rowLine o) (o .rows) ≡ before ++ rowLine o one ++ after
   pub instead : (w : Worked) → eachOf (insteadOf o one w) (o .rows) ≡ before ++ lineText (o .ramadan) (rowDateOf (o .date) one) w ++ after
 
 -- ---- "a refused call changes no lent byte"; else what is written is at the front, has room there, and the bytes behind it stay
@@ -90,9 +90,9 @@ pub record Lent (number : ℕ) (text before after : List ℕ) : Type 0 where
   pub written : eqb number 0 ≡ true → (length text ≤ length before) × (after ≡ frontOf text before)
 
 -- what is written of an order: of a refused one nothing
-abbrev pub writtenOf : (Order → List ℕ) → Reading → List ℕ
-writtenOf of (reading.Read o) = of o
-writtenOf of (reading.Refused r) = []
+abbrev pub writtenFor : (Order → List ℕ) → Reading → List ℕ
+writtenFor of (reading.Read o) = of o
+writtenFor of (reading.Refused r) = []
 
 -- ---- all of it
 pub record NothingBreaks (s : List ℕ) : Type 0 where
@@ -105,15 +105,15 @@ pub record NothingBreaks (s : List ℕ) : Type 0 where
   pub lacking : (o : Order) (row : ℕ) (r : Refusal) → readingOf s ≡ reading.Read o → row < o .rows
       → FirstLacking (r .number) (r .place) (threeDays o (rowDateOf (o .date) row)) → workDayOf s row ≡ worked.Refused r
   -- the sheet has a line for each row, which goes by that row alone
-  pub sheet : (o : Order) → readingOf s ≡ reading.Read o → sheetText s ≡ headText (o .ramadan) (townOf s) ++ eachOf (lineOf o) (o .rows)
+  pub sheet : (o : Order) → readingOf s ≡ reading.Read o → sheetText s ≡ headText (o .ramadan) (townOf s) ++ eachOf (rowLine o) (o .rows)
   pub only : (o : Order) (row : ℕ) → readingOf s ≡ reading.Read o → row < o .rows → OthersStay o row
   -- the calls that write: a row, a row of cells, a page of cells or a piece of it
   pub row : (row : ℕ) (buffer : List ℕ)
-      → Lent (rowCallOf s row buffer .answer .number) (writtenOf (λ o. lineOf o row) (readingOf s)) buffer (rowCallOf s row buffer .buffer)
+      → Lent (rowCallOf s row buffer .answer .number) (writtenFor (λ o. rowLine o row) (readingOf s)) buffer (rowCallOf s row buffer .buffer)
   pub cells : (row : ℕ) (buffer : List ℕ)
-      → Lent (cellsCallOf s row buffer .answer .refusal .number) (writtenOf (λ o. cellsOf (oneRow row o)) (readingOf s)) buffer (cellsCallOf s row buffer .buffer)
+      → Lent (cellsCallOf s row buffer .answer .refusal .number) (writtenFor (λ o. cellsOf (oneRow row o)) (readingOf s)) buffer (cellsCallOf s row buffer .buffer)
   pub page : (page first : ℕ) (scratch : List ℕ)
-      → Lent (pageCallOf s page first scratch .answer .refusal .number) (writtenOf (λ o. cellsOf (pieceIn page first scratch o)) (readingOf s)) scratch
+      → Lent (pageCallOf s page first scratch .answer .refusal .number) (writtenFor (λ o. cellsOf (pieceIn page first scratch o)) (readingOf s)) scratch
       (pageCallOf s page first scratch .buffer)
   -- and the sentence of a refusal
   pub sentence : (number place : ℕ) (buffer : List ℕ)
