@@ -1,4 +1,4 @@
--- What a host gets from each call: number and place, 0 and 0 where nothing is refused, and each other field, 0 where the call is refused.
+-- What a host gets from each call: number and place, 0 and 0 if nothing is refused, and each other field, 0 if the call is refused.
 use Prim.Native.Nat.{ℕ, _+_, _*_}
 use lib.IntN.{pos}
 use Rattle.models.specs.Numbers.{prayerNumberOf}
