@@ -1,4 +1,4 @@
--- How roundings add up: expressions, what they give where each operation is rounded, what they are exactly, and how far the one can be from the
+-- How roundings add up: expressions, what they give when each operation is rounded, what they are exactly, and how far the one can be from the
 -- other. Assumes nothing.
 use Rattle.prelude.proofs.Logic.{Bool, true, _&&_, ℕ, _+_, _*_, _/_, _≤_, add-comm, lt-div-mul-add, arith, T, leb, leb→le, eqb, eqb→eq, and-l, and-r}
 use Rattle.float64.proofs.Floats.{Float, binary64, add, sub, mul, finite}

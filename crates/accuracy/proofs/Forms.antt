@@ -1,5 +1,5 @@
 -- Polynomials in y / w with natural coefficients, compared for y / w from 0 to 9 / 16. With u = 9 w - 16 y, which is no less than 0, both are sums of
--- products of y and u. Where no coefficient of the one exceeds the other's, the one does not exceed the other. Assumes nothing.
+-- products of y and u. If no coefficient of the one exceeds the other's, the one does not exceed the other. Assumes nothing.
 use Rattle.prelude.proofs.Logic.{_≡_, _∙_, Bool, true, _&&_, List, [], _∷_, ℕ, zero, suc, _+_, _*_, _^_, _≤_, add-le-add, mul-pos, mul-le-mul-right, mul-le-mul-left, le-of-mul-le-mul-right, one-le-pow, pow-zero, pow-succ', arith, T, leb, leb→le, lit<, length, and-l, and-r}
 use Rattle.accuracy.proofs.Algebra.{ring, flat, mul-pow}
 
@@ -21,7 +21,7 @@ pub data Form : ℕ → Type 0 where
   _▸_ : {n : ℕ} → ℕ → Form n → Form (suc n)
 
 infixr 50 _▸_
--- f times 9 w = u + 16 y; p is what stands before f's first coefficient
+-- f times 9 w = u + 16 y; p is what comes before f's first coefficient
 abbrev times9w : {n : ℕ} → ℕ → Form n → Form (suc n)
 times9w p none = 16 * p ▸ none
 times9w p (c ▸ f) = (c + 16 * p) ▸ times9w c f

@@ -21,7 +21,7 @@ is-less {x} {y} h k =
 is-times : {x : ℤ} {p n : ℕ} (k : ℕ) → Is x p n → Is (x *ℤ pos k) (p * k) (n * k)
 is-times {x} k h = record { balance = omega (arith, ap (λ (z : ℕ). z * k) (h .balance), integers.times x k .over, integers.times x k .under) }
 
--- ---- the integer a, or -a where s, and its powers
+-- ---- the integer a, or -a if s, and its powers
 abbrev integer : Bool → ℕ → ℤ
 integer false a = pos a
 integer true a = negℤ (pos a)
@@ -49,7 +49,7 @@ power true a zero = rw (pow-zero a)
 power false a (suc k) = rw (power false a k, pow-suc a k)
 power true a (suc k) = rw (power true a k, pow-suc a k) (by-minus (odd k) a (a ^ k))
 
--- ---- the sum's two sides: what is added, and where b what is taken off
+-- ---- the sum's two sides: what is added, and what is taken off if b
 module _ (s : Bool) (n a d : ℕ) where
   abbrev pub sides : Bool → List ℕ → ℕ
   sides b [] = 0

@@ -1,4 +1,4 @@
--- A kernel's polynomial by Horner's rule, and the series that it stands for, both in the square z of the argument. Assumes nothing.
+-- A kernel's polynomial by Horner's rule, and the series that it approximates, both in the square z of the argument. Assumes nothing.
 use Rattle.prelude.proofs.Logic.{_≡_, refl, ap, Bool, _&&_, List, [], _∷_, ℕ, suc, _+_, _-_, _*_, _/_, _^_, _≤_, _<_, mul-pos, mul-le-mul-left, sub-add-cancel, one-le-pow, pow-succ', arith, T, length, pow-pos, and-l, and-r}
 use Rattle.float64.proofs.Floats.{Float}
 use Rattle.accuracy.proofs.Algebra.{ring, flat}
@@ -43,7 +43,7 @@ abbrev pub horner : {A : Type 0} → Expr A → Float → List Float → Expr A
 horner z k [] = const k (per k)
 horner z k (j ∷ l) = const k (per k) ⊕ z ⊗ horner z j l
 
--- each beside the series' coefficient, and nothing where the kernel has no more
+-- each beside the series' coefficient, and nothing if the kernel has no more
 pub data Row : Type 0 where
   row : (up down : ℕ) → Term → Row
 

@@ -21,7 +21,7 @@ abbrev pub from : ℕ → ℕ → List ℕ
 from k zero = []
 from k (suc m) = k ∷ from (suc (suc k)) m
 
--- n! / k! for each, with alternating signs, the first one taken off where b
+-- n! / k! for each, with alternating signs, the first one taken off if b
 abbrev pub terms : ℕ → Bool → List ℕ → List Term
 terms n b [] = []
 terms n b (k ∷ l) = cond b (minus (n ! / k !)) (plus (n ! / k !)) ∷ terms n (not b) l
@@ -45,7 +45,7 @@ module _ (n a d : ℕ) where
   abbrev pub amount : ℕ → ℕ
   amount k = a ^ k * (n ! / k ! * d ^ (n - k))
 
-  -- those that are added, or where b those that are taken off
+  -- those that are added, or those that are taken off if b
   abbrev pub side : Bool → List ℕ → ℕ
   side b [] = 0
   side b (k ∷ l) = cond b 0 (amount k) + side (not b) l

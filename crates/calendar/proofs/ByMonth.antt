@@ -7,7 +7,7 @@ use Rattle.calendar.proofs.MonthTables.{length-december}
 use Rattle.calendar.proofs.Existing.{exists-yes, to-exists, month-of-date}
 use Rattle.calendar.proofs.Successors.{from-is}
 
--- ---- a date that does not exist is its own answer
+-- ---- a date that does not exist gives itself
 pub before-first : (d : Date) → d .day < 1 → d ≡ tomorrowOf d
 unfolding fromOf existsOf
 before-first d l = rw (lt-leb 1 (d .day) l)

@@ -3,7 +3,7 @@
 use Rattle.prelude.proofs.Logic.{_≡_, sym, ap, _∙_, true, false, cond, ℕ, suc, _+_, _^_, _≤_, _<_, le-refl, arith, T, leb, ℤ, pos, negsuc, natAbs, _+ℤ_, _-ℤ_, ltZ, nonNeg, leb-true, le-leb, lt-leb, w64, SFits, Fits, toZ, cases}
 use Rattle.integers.proofs.Integers.{P, N, natural, not-negative, not-positive, sum, difference, lt-yes, lt-no, range, fits, readBack, read}
 
--- n, or the last where n is beyond it
+-- n, or the last if n is beyond it
 pub capped : (n last : ℕ) → cond (leb n last) n last ≤ last
 capped n last = cases (leb n last) (λ e. rw e (leb-true n last e)) (λ e. rw e (le-refl last))
 

@@ -1,4 +1,4 @@
--- The days before and after a date, and the dates of rows, where every year fits a u32. Assumes nothing.
+-- The days before and after a date, and the dates of rows, while every year fits a u32. Assumes nothing.
 use Rattle.prelude.proofs.Logic.{_≡_, sym, ap, subst, _∙_, true, ℕ, _+_, _≤_, _<_, arith, leb, ltb, pos, _+ℤ_, le-leb, cases, either}
 use Rattle.calendar.specs.Answers.{heldOf, fromOf, tomorrowOf, yesterdayOf, rowDateOf}
 use Rattle.calendar.specs.Days.{dayNumberOf, dateOfDayOf}

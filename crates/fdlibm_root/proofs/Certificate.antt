@@ -44,7 +44,7 @@ module _ (m s : ℕ) where
       rest : (j c : ℕ) → 0 < j → j * 2 ^ 27 - c % 2 ^ 27 + c % 2 ^ 27 ≡ j * 2 ^ 27
       rest j c h = omega arith
 
--- ---- where the residue z lies, s or a neighbour is the nearest
+-- ---- s or a neighbour is the nearest, by the size of the residue z
 bit : (b : Bool) → boolByte b ≤ 1
 bit true = lit≤ tt
 bit false = lit≤ tt

@@ -1,4 +1,4 @@
--- The root of d * 2 ^ (a - 2098), for a d of 53 digits: the exponent is halved, and d doubled first where it is odd.
+-- The root of d * 2 ^ (a - 2098), for a d of 53 digits: the exponent is halved, and d doubled first if it is odd.
 use Rattle.prelude.proofs.Logic.{_≡_, refl, ap, _∙_, ℕ, zero, suc, _+_, _-_, _*_, _/_, _%_, _^_, _≤_, _<_, mul-le-mul, arith, pow-add}
 use Rattle.prelude.proofs.Ieee.{binary64, ofBits}
 use Rattle.fdlibm_root.specs.Root.{roundedRoot}

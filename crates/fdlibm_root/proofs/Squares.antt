@@ -15,7 +15,7 @@ pub record Kept (m q left rest i : ℕ) : Type 0 where
 fits : (i q : ℕ) → i ≤ 54 → q < 2 ^ i → q < 2 ^ 54
 fits i q h l = lt-of-lt-of-le l (pow-le-pow-right (lit< tt) h)
 
--- the next digit is 1 where p, what is left with two more digits of m, is 4 * q + 1 at least, and 0 elsewhere
+-- the next digit is 1 if p, what is left with two more digits of m, is 4 * q + 1 at least, else 0
 one : (m q left rest w p : ℕ) → (q * q + left) * 2 ^ 54 + rest ≡ m * w → p ≡ left * 4 + rest / 2 ^ 52 → q * 4 + 1 ≤ p
     → ((q * 2 + 1) * (q * 2 + 1) + (p - (q * 4 + 1))) * 2 ^ 54 + rest % 2 ^ 52 * 4 ≡ m * (w * 4)
 one m q left rest w p e is h = omega arith

@@ -1,4 +1,4 @@
--- Where binary64's operations lose nothing: on known fractions each is one rounding of the exact result, on whole numbers, halves, quarters and so on
+-- When binary64's operations lose nothing: on known fractions each is one rounding of the exact result, on whole numbers, halves, quarters and so on
 -- it is exact, and a zero may be added or taken away. Assumes nothing.
 use Rattle.prelude.proofs.Logic.{_≡_, refl, sym, ap, _∙_, Bool, true, false, true≢false, ℕ, zero, suc, _+_, _-_, _*_, _^_, _≤_, _<_, mul-one, mul-assoc, mul-comm, mul-left-comm, mul-right-comm, add-mul, mul-pos, mul-le-mul-right, lt-of-le-of-lt, le-of-mul-le-mul-right, mul-sub, zero-lt-suc, arith, T, lit<, ℤ, pos, pow-pos, le-ltb, lt-ltb}
 use Rattle.prelude.proofs.Ieee.{Float, nan, inf, fin, Format, binary64, up, down, unlike, fits, ofBits, ofInt, round, neg, sum, add, sub, mul, HasValue, round-same, down-pos, up-pos}

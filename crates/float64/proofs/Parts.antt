@@ -84,7 +84,7 @@ still-far (fin true m e) f h k = absurd (false≢true h)
 still-far (fin false m (pos j)) f h k = (still false m (pos j) (mod-one (m * 2 ^ j)), still true m (pos j) (mod-one (m * 2 ^ j)))
 still-far (fin false m (negsuc j)) f h k = absurd (omega (arith, ltb-false (m * 1 * 1) (W * 2 ^ suc j) k, fraction-below false m j f))
 
--- the whole part as a float is x, where x has no fraction
+-- the whole part as a float is x, if x has no fraction
 pub own-whole : (m : ℕ) (e : ℤ) → T (fits binary64 (fin false m e)) → wholePart m e ≤ big → fraction m e ≡ 0 → at (wholePart m e) ≡ fin false m e
 own-whole m e f l z =
     let q = wholePart m e in let g = div-add-mod' (m * up e) (down e) in let v : m * up e * 1 ≡ q * down e = omega arith in

@@ -100,7 +100,7 @@ module _ (m : ℕ) (e : ℤ) (fit : T (fits binary64 (fin false m e))) (small : 
             let o = z-under in
             (omega arith, omega arith)
 
-    -- z, and one more where it lies below x
+    -- z, or one more if z is below x
     counted : (t u : Bool) → eqb (fraction m e) 0 ≡ t → ltb (z * d) (a * 1) ≡ u → z + boolByte u ≡ cond t q (suc q)
     counted true u h i =
         let r = eqb-true (fraction m e) 0 h in let g = div-add-mod' a d in let l = q-small in

@@ -5,7 +5,7 @@ use Rattle.float64.specs.Whole.{roundOf, wholePart, fraction, halfUp}
 use Rattle.float64.proofs.Values.{big}
 use Rattle.float64.proofs.Within.{Within, Signed, le-sizes, value-within, neg-within, widen}
 
--- the whole part of x's size; 0 where there is none
+-- the whole part of x's size; 0 if there is none
 abbrev pub wholeSize : Float → ℕ
 wholeSize nan = 0
 wholeSize (inf s) = 0
@@ -45,7 +45,7 @@ whole-neg nan = refl
 whole-neg (inf s) = refl
 whole-neg (fin s m e) = refl
 
--- where nothing saturates, a cast is the whole part with the sign
+-- if nothing saturates, a cast is the whole part with the sign
 pub cast-is : (h : ℕ) (s : Bool) (x : Float) → Signed s x → (a c : ℕ) → Within x a c → wholeSize x < 2 ^ h → toSigned h x ≡ signed s (wholeSize x)
 unfolding toSigned
 cast-is h s nan g a c w l = absurd w

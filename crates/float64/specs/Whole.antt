@@ -1,5 +1,5 @@
 -- Whole numbers near an f64: Rust's `floor`, `trunc` and `round`, "helpers" (document 01).
--- The size of `fin s m e` is m * up e / down e: the quotient is its whole part, and the remainder is 0 where it has no fraction.
+-- The size of `fin s m e` is m * up e / down e: the quotient is its whole part, and the remainder is 0 if it has no fraction.
 use Prim.Native.Nat.{ℕ, _+_, _*_, _/_, _%_}
 use mathlib.Core.Bool.{cond}
 use lib.IntN.{ℤ, pos, negsuc}

@@ -1,4 +1,4 @@
--- Two orders that are read as the same numbers have the same record, but for where the town is. Assumes nothing.
+-- Two orders that are read as the same numbers have the same record, except for the town's offset. Assumes nothing.
 use Rattle.prelude.proofs.Logic.{_≡_, refl, sym, ap, subst, _∙_, Bool, true, false, List, ℕ, _+_, _≤_, arith, ℤ, pos}
 use Rattle.integers.proofs.Integers.{P, N, natural}
 use Rattle.unit.specs.declared.Coordinates.{Coordinates}

@@ -82,7 +82,7 @@ new-fits s tag page h =
     by-tests false e false f false x y h = let z : _≡_ {A = ℕ} 0 1 = cc in absurd (omega arith)
 
 -- ---- restart
--- what it answers and writes does not hang on the first buffer's bytes but by what they say
+-- what it returns and writes depends on the first buffer only by what its log says
 pub restarted-any : (x : LogReading) (log : List ℕ) (count : ℕ) (second : List ℕ)
     → (restartedOf x [] count second .answer ≡ restartedOf x log count second .answer) × (restartedOf x [] count second .second ≡ restartedOf x log count second .second)
 unfolding restartedOf

@@ -32,7 +32,7 @@ recordAs tag page = record { tag = tag; length = 2; page = page }
 unfoldable pub bytesOf : ℕ → ℕ → List ℕ
 bytesOf tag page = tag ∷ 0 ∷ 2 ∷ page / 256 ∷ page % 256 ∷ []
 
--- records stand every five bytes; "a record cut at the end of the log is ignored"
+-- a record begins every five bytes; "a record cut at the end of the log is ignored"
 unfoldable pub recordsOf : List ℕ → List Record
 recordsOf [] = []
 recordsOf (a ∷ []) = []

@@ -124,7 +124,7 @@ restart-held s second ordered room =
     }
 
 -- ---- a cut at any byte of an append that fits. `k` of the record's five bytes are there.
--- Where `used` says less than the whole record, the log is as it was before.
+-- If `used` says less than the whole record, the log is as it was before.
 pub cut-before : (log : List ℕ) (used : ℕ) (s : State) → Held log used s → (tag page k u : ℕ) → k ≤ 5 → wholeOf used ≤ u → u < wholeOf used + 5
     → wholeOf used + 5 ≤ length log → Held (putOf log (wholeOf used) (take k (bytesOf tag page))) u s
 unfolding bytesOf

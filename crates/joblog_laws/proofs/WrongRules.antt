@@ -33,7 +33,7 @@ as-requested : ends asRequested one-lost .embosser .finished ≡ 1 ∷ 2 ∷ 3 �
 unfolding ends one-lost
 as-requested = refl
 
--- page 1's acknowledgement is lost and page 2's is heard, which stands for both: both dones are recorded
+-- page 1's acknowledgement is lost and page 2's is heard, which tells of both: both dones are recorded
 later-heard : List Step
 later-heard =
     appended 1 1 ++ (goes ∷ []) ++ appended 1 2 ++ (goes ∷ finishes ∷ finishes ∷ lost ∷ hears ∷ []) ++ appended 2 1 ++ appended 2 2

@@ -23,7 +23,7 @@ RefusedLogStays =
     → ((tag page : ℕ) → eqb (appendOf log used tag page second .answer .number) 0 ≡ false → Unchanged (appendOf log used tag page second) log second)
     × ((count : ℕ) → eqb (restartOf log used count second .answer .number) 0 ≡ false → Unchanged (restartOf log used count second) log second)
 
--- "the first buffer stays as it was", where an append compacts and at every restart
+-- "the first buffer stays as it was", when an append compacts and at every restart
 abbrev pub FirstBufferStays : Type 0
 FirstBufferStays =
     (log : List ℕ) (used : ℕ) (second : List ℕ)
@@ -43,13 +43,13 @@ FiveBytesChange =
 abbrev pub cutAt : List ℕ → ℕ → ℕ → ℕ → ℕ → List ℕ
 cutAt log used tag page k = putOf log (wholeOf used) (take k (bytesOf tag page))
 
--- reading then answers what it answered before, or what the append answers
+-- reading then returns what it returned before, or what the append returns
 abbrev pub CutAtAnyByte : Type 0
 CutAtAnyByte =
     (log : List ℕ) (used tag page : ℕ) (second : List ℕ) (k : ℕ) → inPlace (appendOf log used tag page second) ≡ true → k ≤ 5
     → readLogOf (cutAt log used tag page k) (wholeOf used + k) ≡ cond (ltb k 5) (readLogOf log used) (appendOf log used tag page second .answer)
 
--- and the next append, of whatever record, answers as if nothing had been cut, and where it is not refused leaves the same bytes
+-- and the next append, of any record, returns what it would if nothing had been cut, and leaves the same bytes if it is not refused
 abbrev pub NextTakesItsPlace : Type 0
 NextTakesItsPlace =
     (log : List ℕ) (used tag page : ℕ) (second : List ℕ) (k : ℕ) → inPlace (appendOf log used tag page second) ≡ true → k < 5
@@ -69,7 +69,7 @@ LogRoomIsEnough =
 abbrev pub CompactionSaysTheSame : Type 0
 CompactionSaysTheSame = (finished sent : ℕ) → finished ≤ sent → logReadingOf (compactedOf (state finished sent)) ≡ Says (state finished sent)
 
--- ---- what the log says after a call that is not refused: what the call answers
+-- ---- what the log says after a call that is not refused: what the call returns
 abbrev pub SaysSo : LogCall → ℕ → Type 0
 SaysSo c used =
     let now = readLogOf (logAfter c) (usedAfter c used) in

@@ -29,7 +29,7 @@ pub record Kept (w : World) : Type 0 where
   pub readable : readLogOf (w .host .log) (w .host .used) .number ≡ 0
   pub behind : readLogOf (w .host .log) (w .host .used) .finished ≤ length (w .embosser .finished)
   pub ahead : length (w .embosser .finished ++ w .embosser .tray) ≤ readLogOf (w .host .log) (w .host .used) .sent
-  -- a restart with the true count is accepted, or refused by 12 where the second buffer has no room for one record and the open pages
+  -- a restart with the true count is accepted, or refused by 12 if the second buffer has no room for one record and the open pages
   pub accepted : (second : List ℕ)
       → restartOf (w .host .log) (w .host .used) (length (w .embosser .finished)) second .answer .number
       ≡ cond (leb (5 + 5 * (readLogOf (w .host .log) (w .host .used) .sent - length (w .embosser .finished))) (length second)) 0 logSecondShort

@@ -10,7 +10,7 @@ use Rattle.map_form.specs.Promises.{WritingGivesBack}
 use Rattle.map_form.specs.Owed.{signFor}
 use Rattle.map_form.proofs.Rounding.{round-back}
 
--- ---- the rounding is in range where the count is, and has its sign
+-- ---- the rounding is in range if the count is, and has its sign
 within-at-most : (x : Float) (n : ℕ) → Within x n 1 → atMost n x ≡ true
 unfolding atMost
 within-at-most nan n w = absurd w

@@ -34,7 +34,7 @@ north = dec 0 0
 abbrev south : Float
 south = neg (dec 1 0)
 
--- the count south of the equator where it starts again
+-- the count south of the equator that starts again
 abbrev southAgain : ℕ → ℕ → ℕ → Bool
 southAgain day year count = eqb (daysByRule StartsAgain south day year) count
 
@@ -65,7 +65,7 @@ times =
 abbrev instant : ℕ → ℕ → Instant
 instant seconds nanoseconds = record { seconds = pos seconds; nanoseconds = nanoseconds }
 
--- whether the prayer that stands n-th in the list is named, and none where n is 0
+-- whether the n-th prayer of the list is named, and none if n is 0
 abbrev isNumbered : Current → ℕ → Bool
 isNumbered (current.Some prayer) n = eqb (prayerNumberOf prayer) n
 isNumbered current.Nothing n = eqb n 0

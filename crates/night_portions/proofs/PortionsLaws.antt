@@ -88,7 +88,7 @@ middle-inside z h = rw (middle-is z h, half-share z) (share-inside (λ (d : ℕ)
 pub last-third-inside : (z : ℤ) → Small z → Inside (lastThirdOf z) z
 last-third-inside z h = rw (third-share z h) (share-inside third third-steady z h)
 
--- never forward, where maghrib goes from m to m' and tomorrow's Fajr from f to f'
+-- never forward, if maghrib goes from m to m' and tomorrow's Fajr from f to f'
 pub middle-later : (m f m' f' : ℤ) → m ≼ m' → f ≼ f' → Small (f -ℤ m) → Small (f' -ℤ m') → m +ℤ middleOf (f -ℤ m) ≼ m' +ℤ middleOf (f' -ℤ m')
 middle-later m f m' f' hm hf hz hw =
     rw (middle-is (f -ℤ m) hz, middle-is (f' -ℤ m') hw, half-share (f -ℤ m), half-share (f' -ℤ m')) (share-later (λ (d : ℕ). d / 2) half-steady m f m' f' hm hf hz hw)

@@ -1,4 +1,4 @@
--- A day's numbers, settings and answers as the exports take and hand them out.
+-- A day's numbers, settings and results as the exports take and return them.
 use mathlib.Core.Bool.{true, false}
 use lib.IntN.{pos}
 use lib.Ieee.{Float}

@@ -1,4 +1,4 @@
--- What an order's reading gives, as the export of the plain reader hands it out.
+-- What an order's reading gives, as the export of the plain reader returns it.
 use Rattle.calendar.specs.Gregorian.{dateOf}
 use Rattle.float64.specs.Ops.{dec}
 use Rattle.order.specs.declared.reading.Order.{Order}

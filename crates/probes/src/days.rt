@@ -279,7 +279,7 @@ fn number(current: Current) -> u32
     }
 }
 
-// The number of the prayer in force, 0 where there is none.
+// The number of the prayer in force, or 0 if there is none.
 #[no_mangle]
 pub extern "C" fn probe_current(times: PrayerTimes, seconds: i64, nanoseconds: u32) -> u32
     ensures { λ r. ⌜ r ≡ currentNumberOf (currentTimeOf times (instantOf seconds nanoseconds)) ⌝ }
@@ -295,7 +295,7 @@ pub extern "C" fn probe_next(times: PrayerTimes, seconds: i64, nanoseconds: u32)
     number(times.next(instant(seconds, nanoseconds)))
 }
 
-// The time until the next prayer; zeros where none is in force.
+// The time until the next prayer, or zeros if none is in force.
 #[repr(C)]
 pub struct ProbeRemaining {
     pub found: bool,

@@ -189,7 +189,7 @@ pub extern "C" fn probe_hour_numbers(
     }
 }
 
-// The hour number at which the sun stands at an angle.
+// The hour number at which the sun is at an angle.
 #[no_mangle]
 pub extern "C" fn probe_angle_number(
     year: u32,

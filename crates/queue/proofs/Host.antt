@@ -77,7 +77,7 @@ hosts-keep-pages h =
     rw (held .0, held .1, left-shown (after [] h)) (pages-are-kept everyId h)
 
 -- ---- the turns
--- the job with k ahead of it stands at k in the arrays
+-- the job with k ahead of it is at k in the arrays
 array-at : (f : Job → ℕ) (l : List Job) (k : ℕ) (d : Job) → f d ≡ 0 → k < length l → getD (padded (map f l)) k 0 ≡ f (getD l k d)
 array-at f l k d z h =
     let n : length (map f l) ≡ length l = length-map l f in

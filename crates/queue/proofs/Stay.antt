@@ -7,7 +7,7 @@ use Rattle.queue.proofs.Steps.{join-cases}
 use Rattle.queue.proofs.Invariant.{neither, step-sound, sound-from, queues-are-sound}
 use Rattle.queue.proofs.Pages.{left-more, kept-from}
 
--- ---- an id has pages left where it waits
+-- ---- an id has pages left while it waits
 none-left : (id : ℕ) (q : List Job) → waits id q ≡ false → pagesLeft (onlyId id) q ≡ 0
 none-left id [] w = refl
 none-left id (x ∷ q) w =

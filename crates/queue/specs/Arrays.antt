@@ -13,7 +13,7 @@ use Rattle.queue.specs.declared.Turned.{Turned}
 use Rattle.queue.specs.Jobs.{Job, job, Event, admitted, refused, sent, nothing, QueueStep, mostJobs, joinOf, turnOf}
 
 -- ---- from the arrays to the list
--- of more than 16 jobs, as no calls leave them, the first 16 count
+-- of more than 16 jobs, which no calls leave, the first 16 count
 abbrev pub counted : ℕ → ℕ
 counted jobs = cond (ltb jobs mostJobs) jobs mostJobs
 
@@ -30,7 +30,7 @@ abbrev pub jobsOf : Queue → List Job
 jobsOf q = jobsIn q 0 (counted (q .jobs))
 
 -- ---- from the list to the arrays
--- zeros stand behind
+-- zeros behind them
 abbrev pub padded : List ℕ → List ℕ
 padded l = l ++ replicate (mostJobs - length l) 0
 
@@ -43,7 +43,7 @@ pagesOf j = j .pages
 abbrev pub queueOf : List Job → Queue
 queueOf l = record { jobs = length l; ids = padded (map idOf l); pages = padded (map pagesOf l) }
 
--- ---- what a step answers
+-- ---- what a step returns
 abbrev pub refusalIn : Event → Refusal
 refusalIn (admitted j) = noRefusal
 refusalIn (refused r) = r

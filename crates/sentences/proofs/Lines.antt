@@ -10,7 +10,7 @@ is-true : (b : Bool) → T b → b ≡ true
 is-true true t = refl
 is-true false t = absurd t
 
--- ---- a test at each line and its number, and at what stands for the others
+-- ---- a test at each line and its number, and at the line for all other numbers
 abbrev every : (ℕ → List ℕ → Bool) → ℕ → List (List ℕ) → Bool
 every f i [] = true
 every f i (t ∷ ts) = f i t && every f (suc i) ts

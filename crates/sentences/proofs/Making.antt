@@ -12,7 +12,7 @@ use Rattle.sentences.proofs.Lines.{Fine, text-fine, name-fine, filled-l
 use Rattle.sentences.proofs.Guessing.{ten-digits}
 use Rattle.sentences.proofs.Promises.{words-named, words-alone, words-short, words-long, sentence-known, sentence-unknown, sentence-length, printed, guessed-right}
 
--- ---- a row of a table, cut where its text ends
+-- ---- a row of a table, cut at its text's end
 pub record Cut (t row : List ℕ) (end : ℕ) : Type 0 where
   pub ends : end ≡ length t
   pub text : take end row ≡ t
@@ -105,7 +105,7 @@ line-of line made n p end e m l h =
       text = cut-front (sentenceOf n p) line made end e m;
     }
 
--- ---- what writing answers and leaves
+-- ---- what writing returns and leaves
 pub writes-unknown : (n p : ℕ) (buffer : List ℕ) → known n ≡ false → sentenceCallOf n p buffer ≡ refusing outOfRange buffer
 unfolding sentenceCallOf
 writes-unknown n p buffer k = rw k
@@ -122,7 +122,7 @@ writes n p end buffer k e h =
     let put = put-next buffer [] (sentenceOf n p) buffer (putOf buffer 0 (sentenceOf n p)) 0 refl refl refl (omega arith) in
     rw (k, le-leb (length (sentenceOf n p)) (length buffer) (omega arith), e, put)
 
--- ---- what reading answers
+-- ---- what reading returns
 module _ (bytes : List ℕ) (n p : ℕ) (e : n ≡ numberIn bytes) (q : p ≡ placeIn 0 bytes) where
   at-these : meaningOf bytes ≡ cond (ltb p none && known n && same (sentenceOf n p) bytes) (meant n p) noSentence
   unfolding guessedOf

@@ -31,7 +31,7 @@ unfoldable pub placeIn : ℕ → List ℕ → ℕ
 placeIn v [] = v
 placeIn v (b ∷ bs) = placeIn (longer v b) bs
 
--- the bytes say the number and the place that stand in them, if they are the sentence of these two, byte for byte
+-- the bytes say the number and the place found in them, if they are the sentence of these two, byte for byte
 unfoldable pub guessedOf : List ℕ → Meaning
 guessedOf bytes =
     let n = numberIn bytes in

@@ -1,4 +1,4 @@
--- Request 8, "Refusals in words": a refusal's sentence, what writing answers and leaves in the buffer, and what reading answers.
+-- Request 8, "Refusals in words": a refusal's sentence, what writing returns and leaves in the buffer, and what reading returns.
 use Prim.Native.Nat.{ℕ, zero, suc, _-_, _^_}
 use mathlib.Core.Bool.{Bool, true, false, cond}
 use mathlib.Core.List.{List, [], _∷_, _++_}
@@ -22,7 +22,7 @@ wordsOf n p = cond (endsInColon (textOf n)) (textOf n ++ nameOf p) (textOf n)
 unfoldable pub sentenceOf : ℕ → ℕ → List ℕ
 sentenceOf n p = cond (known n) (wordsOf n p ++ ascii " " ++ decimalOf p) []
 
--- ---- writing: what the call answers, and every byte of the lent buffer after it
+-- ---- writing: what the call returns, and every byte of the lent buffer after it
 pub record SentenceCall : Type 0 where
   pub answer : WrittenSentence
   pub buffer : List ℕ

@@ -21,7 +21,7 @@ fn ends_in_colon(row: [u8; 64], end: usize) -> bool
     row[end - 1] == 58
 }
 
-// What stands before the place; answers its length, 0 for a number that is not known.
+// Writes the words before the place. Returns their length, or 0 for a number that is not known.
 fn put_words(line: &mut [u8; 100], number: u32, place: u32) -> usize
     ensures { λ r. ⌜ r ≡ length (wordsOf number place) ⌝ }
     ensures { λ _. ⌜ now (line .exit) ≡ frontOf (wordsOf number place) (now (line .entry)) ⌝ }
@@ -38,7 +38,7 @@ fn put_words(line: &mut [u8; 100], number: u32, place: u32) -> usize
     end + length
 }
 
-// The sentence; answers its length, 0 for a number that is not known.
+// Writes the sentence. Returns its length, or 0 for a number that is not known.
 pub fn put_sentence(line: &mut [u8; 100], number: u32, place: u32) -> usize
     ensures { λ r. ⌜ r ≡ length (sentenceOf number place) ⌝ }
     ensures { λ _. ⌜ now (line .exit) ≡ frontOf (sentenceOf number place) (now (line .entry)) ⌝ }

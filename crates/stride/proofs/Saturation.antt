@@ -1,4 +1,4 @@
--- Where a sum of two i64 saturates, and where it fits. Assumes nothing.
+-- When a sum of two i64 saturates, and when it fits. Assumes nothing.
 use Rattle.prelude.proofs.Logic.{_≡_, sym, _∙_, true, false, _+_, _<_, arith, ℤ, pos, _+ℤ_, _-ℤ_, leZ, ltZ, w64, SFits, cases}
 use Rattle.integers.proofs.Integers.{P, N, not-negative, not-positive, sum, difference, le-yes, le-no, lt-yes, lt-no, to-lt, to-not-lt, readBack, read, range}
 use Rattle.integers.specs.Ends.{least64, most64}

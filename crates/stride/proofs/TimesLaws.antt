@@ -1,4 +1,4 @@
--- What rounding and adjusting keep, and where nothing saturates. Over the definitions of `Times`. Assumes nothing.
+-- What rounding and adjusting keep, and when nothing saturates. Over the definitions of `Times`. Assumes nothing.
 use Rattle.prelude.proofs.Logic.{_≡_, refl, sym, ap, _∙_, cond, ℕ, _+_, _*_, _^_, _≤_, _<_, arith, ltb, lit<, ℤ, pos, negsuc, _+ℤ_, _*ℤ_, +ℤ-idr, +ℤ-assoc, +ℤ-comm, ltb-true, ltb-false, lt-ltb, w64, SFits, cases, either}
 use Rattle.integers.proofs.Integers.{P, N, Between, Near, sum, difference, times, floorQuot, Floored, floored, _≼_, to-not-lt, range, sum-between, product-between, shifted-between, Held, held-fits}
 use Rattle.models.specs.declared.rounding.Rounding.{Rounding}
@@ -68,7 +68,7 @@ height-most Nearest s h = either (λ k. k ≤ 60) (ltb s 30) (omega arith) (omeg
 height-most Up s h = omega arith
 height-most None s h = omega arith
 
--- x stands h seconds above the start of t's minute
+-- x is h seconds after the start of t's minute
 abbrev Above : ℤ → ℤ → ℕ → Type 0
 Above t x h = P x + N (floorQuot t 60) * 60 ≡ N x + (P (floorQuot t 60) * 60 + h)
 

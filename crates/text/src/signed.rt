@@ -11,7 +11,7 @@ use integers::parts::below;
 // A minus and twenty digits.
 const MOST_BYTES: usize = 21;
 
-// A number at the front of its own room; answers how many bytes it has.
+// Writes a number at the front of its own room. Returns how many bytes it has.
 fn make_signed(text: &mut [u8], z: i64) -> usize
     requires { ⌜ length (now text) ≡ 21 ⌝ }
     ensures { λ r. ⌜ r ≡ length (signedOf z) ⌝ }

@@ -1,3 +1,4 @@
+-- The tests in their order: 17 for a job that is unfit or waits already, then 16 for a full queue.
 use Rattle.prelude.proofs.Logic.{sym, _∙_, needs}
 use Rattle.queue.proofs.Abstraction.{Whole}
 use Rattle.queue.proofs.Answers.{judged-waiting, judged-full, judged-free}

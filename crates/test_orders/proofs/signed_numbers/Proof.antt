@@ -1,3 +1,4 @@
+-- Each signed field is read back from its bits, in the list's order.
 use Rattle.prelude.proofs.Logic.{needs, w32, SFits, toZ-ofZ}
 use Rattle.test_orders.specs.Numbers.{signedNumbersOf}
 use Rattle.test_orders.proofs.signed_numbers as this

@@ -1,3 +1,4 @@
+-- Each number of the list is what its call returns.
 use Rattle.test_orders.specs.Numbers.{unsignedNumbersOf}
 use Rattle.test_orders.proofs.unsigned_numbers as this
 

@@ -1,3 +1,4 @@
+-- The row's cells are put at the front of the buffer, and their dots are counted.
 use Rattle.prelude.proofs.Logic.{sym, ap, subst, _∙_, arith, length, needs, w32}
 use Rattle.integers.proofs.Ranges.{read, readBack}
 use Rattle.braille.specs.Braille.{dotsOf, SixDots}

@@ -1,3 +1,4 @@
+-- The three tests in their order: below the least second, above the most, too many nanoseconds.
 use Rattle.prelude.proofs.Logic.{sym, ap, _∙_, ℤ, ltZ, w64}
 use Rattle.integers.proofs.Integers.{lt-yes, lt-no, to-le, to-not-le, read}
 use Rattle.calls.specs.Calls.{leastSeconds, mostSeconds, instantFits}

@@ -1,3 +1,4 @@
+-- The instant is asked first; then the answer is the day's.
 use Rattle.prelude.proofs.Logic.{_≡_, sym, ap, _∙_, true, false, ℤ, needs, w64, SFits}
 use Rattle.integers.proofs.Ranges.{read}
 use Rattle.schedule.specs.declared.prayer_times.Worked.the-variants as worked

@@ -1,3 +1,4 @@
+-- The tests of the code are those of `atan2Of`, in the same order.
 use Rattle.prelude.proofs.Logic.{sym, eq-eqb, ne-eqb}
 use Rattle.fdlibm_arc.specs.Atan2.{atan2Of}
 use Rattle.fdlibm_arc.proofs.e_atan2.atan2 as this

@@ -1,3 +1,4 @@
+-- Below 2 ^ 32 the whole part is cast by one instruction (`cast-below`); the ends are the definition's.
 use Rattle.prelude.proofs.Logic.{_≡_, refl, true, false, lit≤}
 use Rattle.prelude.proofs.Ieee.{Float, binary64, fits, ofBits, lt, HasValue, passes}
 use Rattle.float64.specs.Whole.{truncOf}

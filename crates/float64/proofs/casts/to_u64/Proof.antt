@@ -1,3 +1,4 @@
+-- Below 2 ^ 52 the whole part is cast by one instruction (`cast-below`), above it by std; the ends are the definition's.
 use Rattle.prelude.proofs.Logic.{_≡_, refl, sym, subst, true, false, T, lit≤}
 use Rattle.prelude.proofs.Ieee.{Float, binary64, fits, ofBits, lt, HasValue, passes}
 use Rattle.float64.specs.Whole.{truncOf}

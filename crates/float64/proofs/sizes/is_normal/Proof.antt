@@ -1,3 +1,4 @@
+-- The two tests on floats are the definition's test on the exponent: finite, and at least 2 ^ -1022.
 use Rattle.prelude.proofs.Logic.{_≡_, refl, sym, ap, _∙_, Bool, true, false, not, true≢false, false≢true, ℕ, _*_, _^_, one-mul, leb, ltb, ltb-true, ltb-false, lt-leb, le-leb}
 use Rattle.prelude.proofs.Ieee.{Float, nan, inf, fin, up, down, binary64, lt, div, round, ofBits}
 use Rattle.float64.specs.Sizes.{absOf, isNormalOf}

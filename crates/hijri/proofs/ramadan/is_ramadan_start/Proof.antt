@@ -1,3 +1,4 @@
+-- A day far outside the calendar is no start whatever the shift is; for the others the difference fits, and the date decides.
 use Rattle.prelude.proofs.Logic.{_≡_, sym, ap, _∙_, _-ℤ_, eq-eqb, ne-eqb}
 use Rattle.integers.proofs.Integers.{wide}
 use Rattle.hijri.specs.Days.{ofDayOf}

@@ -1,4 +1,4 @@
--- `probes::readers::probe_plain` meets its contract: a match on what reading answers.
+-- `probes::readers::probe_plain` meets its contract: a match on what reading returns.
 use Rattle.prelude.proofs.Logic.{needs}
 use Rattle.probes.specs.Readers.{plainIn}
 use Rattle.probes.proofs.readers.probe_plain as this

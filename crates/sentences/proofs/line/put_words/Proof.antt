@@ -1,3 +1,4 @@
+-- The row of the table, cut at its text's end, is the text; a text that ends in a colon is followed by the tag's name.
 use Rattle.prelude.proofs.Logic.{_≡_, sym, ap, _∙_, true, false, arith, length, needs, not-true, not-false, now}
 use Rattle.sentences.specs.Table.{textOf}
 use Rattle.sentences.specs.Sentences.{endsInColon}

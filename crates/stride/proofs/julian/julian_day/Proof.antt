@@ -1,3 +1,4 @@
+-- January and February are months 13 and 14 of the year before, in the code as in the definition.
 use Rattle.prelude.proofs.Logic.{_≡_, true, false, lit≤, pos, ltZ, needs, w32}
 use Rattle.float64.proofs.Floats.{round, ofBits, dec}
 use Rattle.integers.proofs.Integers.{read, wide, read-wide, constant, of-wide, held-sum, held-difference, held-fits, stored}

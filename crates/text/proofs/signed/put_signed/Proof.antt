@@ -1,3 +1,4 @@
+-- The number is made in an array of its own, and its bytes are put at the offset.
 use Rattle.prelude.proofs.Logic.{_≡_, sym, ap, _∙_, arith, length, needs, w64}
 use Rattle.integers.proofs.Ranges.{read}
 use Rattle.text.specs.Signed.{signedOf}

@@ -1,3 +1,4 @@
+-- The year of the count, and then the day of that year, are the date of the day (`ByCount`).
 use Rattle.prelude.proofs.Logic.{arith, needs, w64}
 use Rattle.integers.proofs.Integers.{read}
 use Rattle.calendar.specs.Days.{dateAtOf}
