@@ -1,5 +1,5 @@
-/* Katchidul: what a host in C or C++ calls. Link with libkatchidul.a, which `rt staticlib katchidul` builds under target/staticlib, for
-   x86-64 Linux. docs/ORDERS.md says how the bytes of an order are written.
+/* Katchidul: what a host in C or C++ calls, on x86-64 Linux. It links libkatchidul.so or libkatchidul.a: docs/HOST.md shows complete hosts.
+   docs/ORDERS.md, or katchidul-order(5), says how the bytes of an order are written.
 
    Each answer is a struct by value. `number` is 0 where the call succeeds; else it is the refusal's, `place` says where, and every
    other field is 0 (a print queue is handed back as it was; a turn refuses nothing and has no number). Any bytes are answered, and every

@@ -146,7 +146,7 @@ def help_everywhere():
     top = helps.help_of(None)
     check("the top's help names every command", [name for name in [*COMMANDS, *APART] if "    %s " % name not in top and " %s  " % name not in top], [])
     header = (ROOT / "include" / "katchidul.h").read_text()
-    version = re.search(r"^#define KATCHIDUL_VERSION (\S+)", header, re.MULTILINE)[1]
+    version = ".".join(re.findall(r"^#define KATCHIDUL_VERSION_M\w+ (\d+)", header, re.MULTILINE))
     check("the version is the header's", run("--version"), (0, b"katchidul %s\n" % version.encode(), ""))
     status, _, said = run("tabel", "x")
     check("a command that is near one", (status, said), (2, "katchidul: 'tabel' is no command; did you mean table?; katchidul --help lists them\n"))
