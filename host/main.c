@@ -10,12 +10,16 @@
 
 #define PATIENCE 60000        /* milliseconds, if -p is not given */
 #define PATIENCE_MAX 86400000 /* a day */
-#define TRIES 10              /* to reach the embosser, without -s */
+#define SOON 250              /* milliseconds between the first tries to reach the embosser */
+#define SOON_TRIES 4          /* with such a pause behind them: a driver that was started a moment ago listens soon */
+#define TRIES 14              /* in all, without -s */
 
 /* ---- the embosser comes and goes */
 
 /* Milliseconds between two tries: a tenth of the patience, and never nothing. */
 static int pause_of(const room *r) { return r->embosser.patience / 10 + 1; }
+
+static int pause_after(const room *r, int tries) { return tries <= SOON_TRIES && SOON < pause_of(r) ? SOON : pause_of(r); }
 
 /* The embosser says which spool it serves; it must be this one. */
 static course hear_serves(room *r) {
@@ -56,7 +60,7 @@ static course find_embosser(room *r, const char *path) {
       told = r->embosser.lost;
       say("%s; waiting for it", told.text);
     }
-    if (wait_until(after(pause_of(r)), -1, 0, true) == TOLD_TO_END) return TOLD_TO_END;
+    if (wait_until(after(pause_after(r, tries)), -1, 0, true) == TOLD_TO_END) return TOLD_TO_END;
   }
 }
 

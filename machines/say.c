@@ -30,16 +30,25 @@ void make_printable(char *text) {
     if (*text < ' ' || *text > '~') *text = '?';
 }
 
-void say(const char *format, ...) {
-  char words[1024], when[40], line[1200];
+/* 2026-06-01T05:12:00+01:00, as the host writes it: strftime has no colon in the offset. */
+static void write_time(char *when, size_t size) {
+  char offset[8];
   time_t now = time(NULL);
   struct tm local;
+  localtime_r(&now, &local);
+  strftime(offset, sizeof offset, "%z", &local);
+  size_t length = strftime(when, size, "%Y-%m-%dT%H:%M:%S", &local);
+  snprintf(when + length, size - length, "%.3s:%s", offset, offset + 3);
+}
+
+void say(const char *format, ...) {
+  char words[1024], when[40], line[1200];
   va_list rest;
   va_start(rest, format);
   vsnprintf(words, sizeof words, format, rest);
   va_end(rest);
   make_printable(words);
-  strftime(when, sizeof when, "%Y-%m-%dT%H:%M:%S%z", localtime_r(&now, &local));
+  write_time(when, sizeof when);
   int length = snprintf(line, sizeof line, "%s %s: %s\n", when, program, words);
   put(line, (size_t)length);
 }

@@ -30,10 +30,12 @@ def minutes(instant, zone):
     """The zone's clock at an instant, in minutes from UTC."""
     offset = instant.astimezone(zone).utcoffset()
     if offset % datetime.timedelta(minutes=1):
-        raise ZoneError("on %s the clocks of %s were %s from UTC, and an order's clock has whole minutes" % (instant.date(), zone.key, offset))
+        raise ZoneError("on %s the clocks of %s were %s from UTC, and an order's clock has whole minutes" % (
+            instant.date(), zone.key, offset))
     clock = offset // datetime.timedelta(minutes=1)
     if abs(clock) > MOST_MINUTES:
-        raise ZoneError("on %s the clocks of %s are %s, and an order's are at most 14 hours from UTC" % (instant.date(), zone.key, utc_offset(clock)))
+        raise ZoneError("on %s the clocks of %s are %s, and an order's are at most 14 hours from UTC" % (
+            instant.date(), zone.key, utc_offset(clock)))
     return clock
 
 

@@ -33,9 +33,9 @@ PRESETS = [
     Preset("Other", 0.0, 0.0, 0, "Nearest"),
 ]
 # The usual short names of methods. A name that means other angles elsewhere is not among them.
-SHORT = {"MWL": "MuslimWorldLeague", "Egypt": "Egyptian", "EGAS": "Egyptian", "UISK": "Karachi", "Makkah": "UmmAlQura", "Mecca": "UmmAlQura",
-         "UQU": "UmmAlQura", "MCW": "MoonsightingCommittee", "Moonsighting": "MoonsightingCommittee", "ISNA": "NorthAmerica",
-         "MUIS": "Singapore", "Diyanet": "Turkey"}
+SHORT = {"MWL": "MuslimWorldLeague", "Egypt": "Egyptian", "EGAS": "Egyptian", "UISK": "Karachi", "Makkah": "UmmAlQura",
+         "Mecca": "UmmAlQura", "UQU": "UmmAlQura", "MCW": "MoonsightingCommittee", "Moonsighting": "MoonsightingCommittee",
+         "ISNA": "NorthAmerica", "MUIS": "Singapore", "Diyanet": "Turkey"}
 
 # The value of a missing tag: a text, or one of these four.
 REFUSED, THE_METHODS, THE_OTHERS, NONE = object(), object(), object(), object()

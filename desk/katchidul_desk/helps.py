@@ -100,7 +100,8 @@ Prints how many dots the pages punch, a measure of the embosser's wear: a line f
 WEEK = """katchidul week ORDER... [--plain] [--out FILE]
 
 The earliest and the latest Fajr of every seven successive days, by the order's clock. --plain prints the program's own lines: the
-first row; the earliest, in minutes after its row's 0h UTC, and its row; the latest and its row.
+first row; the earliest, in minutes after its row's 0h UTC, and its row; the latest and its row. If the clocks of a zone change within the
+rows, each order has its own report, and seven days with the change among them are in none.
 
 """ + INPUT
 

@@ -27,6 +27,11 @@ class Given(NamedTuple):
         """Whether a text says nothing about its clock. An order that was made before is not asked again."""
         return self.is_made and not self.zone and CLOCK not in read(self.order).values
 
+    def check(self):
+        """Raises Refused, with the name of what was given, for an order that the programs refuse."""
+        if self.refusal:
+            raise Refused(self.refusal, self.name)
+
     def split(self):
         """The orders by the zone's clock, or None without a zone."""
         return zones.split(self.order, self.zone) if self.zone else None

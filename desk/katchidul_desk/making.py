@@ -3,7 +3,7 @@ import os
 
 from . import inputs, streams, zones
 from .arguments import parse
-from .errors import Refused, Unreadable, WrongTimes
+from .errors import Unreadable, WrongTimes
 from .orders import refused_lines
 
 
@@ -11,9 +11,9 @@ def make(words):
     arguments = parse("make", words, {"anyway"})
     given = inputs.one(arguments, "make")
     anyway = "anyway" in arguments.flags
+    if not anyway:
+        given.check()
     if given.refusal:
-        if not anyway:
-            raise Refused(given.refusal, given.name)
         for line in refused_lines(given.refusal, given.name):
             streams.say("katchidul: warning: %s" % line)
     tell_no_clock(given)
@@ -53,7 +53,8 @@ def numbered(out, number):
 def tell_no_clock(given):
     """Pages in UTC are seldom meant."""
     if given.lacks_clock and not given.refusal:
-        streams.say("katchidul: note: there is no zone and no clock, so the pages show UTC; write zone: Europe/London or its like, or clock: 0")
+        streams.say("katchidul: note: there is no zone and no clock, so the pages show UTC; "
+                    "write zone: Europe/London or its like, or clock: 0")
 
 
 def tell_wrong(made, anyway):

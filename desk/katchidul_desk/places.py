@@ -111,7 +111,16 @@ def why_no_coordinate(tidy, axis):
         return "lacks its letter, %s: write %s %s" % (letters, tidy.lstrip("+-"), axis.on_map.letters[tidy.startswith("-")])
     if re.fullmatch(r"\d+[° ] *\d+[' ] *\d+\.\d{3,} *\"? *[NSEW]", tidy):
         return "an order holds hundredths of a second, so two digits behind the point"
+    decimals = re.fullmatch(r"(\d{1,3})[° ] *(\d{1,2})\.(\d{1,9})'? *([NSEW])", tidy, re.ASCII)
+    if decimals:
+        return "decimals of a minute are written as seconds: write %s" % with_seconds(*decimals.groups())
     return "takes a number of degrees as 54.7753 or 54.7753 %s, or as on the map, 54 46 31.08 %s" % ((axis.on_map.letters[0],) * 2)
+
+
+def with_seconds(degrees, minutes, decimals, letter):
+    """53 48.048 N as 53 48 2.88 N; to the nearest hundredth of a second, a half up."""
+    hundredths = 6000 * (60 * int(degrees) + int(minutes)) + (12000 * int(decimals) // 10 ** len(decimals) + 1) // 2
+    return "%d %d %d.%02d %s" % (hundredths // IN_DEGREE, hundredths // 6000 % 60, hundredths // 100 % 60, hundredths % 100, letter)
 
 
 def place(text):
@@ -127,6 +136,9 @@ def place(text):
 def halves(text):
     """A place's two texts: by a comma, else behind the letter of the first, else by the blank between two numbers."""
     parts = re.split("[,;]", text)
+    with_commas = re.fullmatch(r"([+-]?\d+),(\d+) *[,; ] *([+-]?\d+),(\d+)", text)
+    if with_commas:
+        raise Unreadable("decimals are written behind a point: write %s.%s, %s.%s" % with_commas.groups())
     if len(parts) == 1:
         letters = re.fullmatch(r"(\S.*?[NSEW]) *([^NSEW]+[NSEW])", text, re.IGNORECASE) or \
             re.fullmatch(r"([NSEW][^NSEW]+) *([NSEW][^NSEW]+)", text, re.IGNORECASE)

@@ -1,7 +1,7 @@
 """The commands that show an order: in words, as its sheet, table, cells, BRF, dots and weeks."""
 from . import braille, inputs, orders, programs, streams, tables, weeks, zones
 from .arguments import parse
-from .errors import Refused, Unreadable
+from .errors import Unreadable
 from .making import tell_no_clock, tell_wrong
 from .orders import refused_lines
 from .sheets import reason
@@ -48,8 +48,7 @@ def table(words):
 
 def checked(given):
     """The split of a text with a zone, or None. Raises Refused before anything is printed."""
-    if given.refusal:
-        raise Refused(given.refusal, given.name)
+    given.check()
     return given.split()
 
 
@@ -79,7 +78,8 @@ def cells(words):
     shown = [pages for given in every for pages in pages_by_order(given, "anyway" in arguments.flags)]
     if "plain" in arguments.flags:
         if len(shown) > 1:
-            raise Unreadable("cells --plain writes one order, since nothing marks where the next one's pages begin; here are %d" % len(shown))
+            raise Unreadable("cells --plain writes one order, since nothing marks where the next one's pages begin; here are %d"
+                             % len(shown))
         streams.write_bytes(b"".join(row for page in shown[0][1] for row in page), arguments.out)
         return 0
     with_braille = arguments.out is not None or streams.has_letters("\u2800")
@@ -115,9 +115,11 @@ def week(words):
         return plain("week", arguments, orders_or_refused)
     texts = []
     for given in inputs.given(arguments, "week"):
-        if given.refusal:
-            raise Refused(given.refusal, given.name)
-        texts += [weeks.report(order) for _, order in given.orders()]
+        given.check()
+        reports = [weeks.report(order) for _, order in given.orders()]
+        if len(reports) > 1:
+            streams.say("katchidul: note: each order has its own report, so seven days with a change of the clock among them are in none")
+        texts += reports
     return write_text("\n".join(texts), arguments.out)
 
 

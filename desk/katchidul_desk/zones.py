@@ -137,5 +137,5 @@ def odd_noon_lines(made):
 def elsewhere_lines(made):
     for date, wrong in itertools.groupby(made.elsewhere, lambda one: one.date):
         wrong = list(wrong)
-        yield "%s, not on the pages: %s after the change, and the table shows %s" % (
-            date, listed("%s is %s" % (IN_WORDS.get(one.column, one.column), one.right) for one in wrong), listed(one.shown for one in wrong))
+        right = listed("%s is %s" % (IN_WORDS.get(one.column, one.column), one.right) for one in wrong)
+        yield "%s, not on the pages: %s after the change, and the table shows %s" % (date, right, listed(one.shown for one in wrong))

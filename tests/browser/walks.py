@@ -154,8 +154,16 @@ def downloaded(walk, name):
     return path.read_bytes() if path.exists() else None
 
 
+def small_screen(walk):
+    """On a screen of 1280 pixels the tables are seen whole, the braille's digits too."""
+    walk.browser.ask("POST", "/window/rect", {"width": 1280, "height": 900})
+    hidden = walk.browser.run("return [...document.querySelectorAll('.preview .scroll')].map((one) => one.scrollWidth - one.clientWidth)")
+    walk.check("a small screen: what is hidden of the tables", hidden, [0, 0])
+
+
 def narrow(walk):
-    """As large as a reader with weak eyes makes it: a window of 640 pixels."""
+    """On a small screen, and as large as a reader with weak eyes makes it: a window of 640 pixels."""
+    small_screen(walk)
     walk.browser.ask("POST", "/window/rect", {"width": 640, "height": 900})
     walk.overflow("a narrow window")
     walk.picture("narrow")

@@ -1,7 +1,7 @@
-# What crates/test_calendar must print, by Python's datetime alone: the count of the dates from 1899-12-31 to 2200-01-03, and a fold
-# over them of the next date, the previous one, the day of the year, the day from 1970-01-01, the date itself twice (as the date of that
-# day and as a row after the first), the day of the week from Sunday, and twice the Julian Day; then a fold over the seconds of the two hours
-# around 1970-01-01 0h, rounded to the nearest minute (up from second 30), up (a full minute at second 0), and not at all.
+# What crates/test_calendar must print, by Python's datetime alone: the count of the dates from 1899-12-31 to 2200-01-03, and a fold over
+# them of the next date, the previous one, the day of the year, the day from 1970-01-01, the date itself twice (as the date of that day and
+# as a row after the first), the day of the week from Sunday, and twice the Julian Day; then a fold over the seconds of the two hours around
+# 1970-01-01 0h, rounded to the nearest minute (up from second 30), up (a full minute at second 0), and not at all.
 from datetime import date, timedelta
 
 FIRST, LAST, EPOCH, DAY = date(1899, 12, 31), date(2200, 1, 3), date(1970, 1, 1).toordinal(), timedelta(days=1)

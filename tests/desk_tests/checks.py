@@ -1,31 +1,20 @@
 """What the tests of the desk have in common: counting, and running the command."""
-import importlib.machinery
-import importlib.util
 import os
-import pathlib
 import random
-import signal
 import subprocess
 import sys
 import tempfile
 import traceback
 
-sys.dont_write_bytecode = True
-ROOT = pathlib.Path(__file__).resolve().parent.parent.parent
+from shared import ROOT
+from shared.checks import Checks
+from shared.modules import module
+
 COMMAND = ROOT / "katchidul"
 sys.path.insert(0, str(ROOT / "desk"))
 PROGRAMS = os.environ.setdefault("KATCHIDUL_PROGRAMS", str(ROOT / "target" / "bin"))
-count = failed = 0
+check = Checks("desk")
 is_long = False
-
-
-def check(what, got, wanted):
-    global count, failed
-    count += 1
-    if got != wanted:
-        failed += 1
-        if failed <= 40:
-            print("%s: %.500r, not %.500r" % (what, got, wanted))
 
 
 def run(*words, given=b""):
@@ -60,11 +49,6 @@ def started(*words, given=b"", **more):
     return run.returncode, run.stdout, run.stderr.decode("utf-8", "replace")
 
 
-def hears_the_keyboard():
-    """Before a run that is to be stopped: a shell's background job has the keyboard's signal ignored, and so would its children."""
-    signal.signal(signal.SIGINT, signal.SIG_DFL)
-
-
 def program(name, order):
     """What a proved program itself prints."""
     return subprocess.run([os.path.join(PROGRAMS, name)], input=order, capture_output=True, check=True).stdout
@@ -72,13 +56,6 @@ def program(name, order):
 
 def draw(seed):
     return random.Random(seed)
-
-
-def module(name, *path):
-    loader = importlib.machinery.SourceFileLoader(name, str(ROOT.joinpath(*path)))
-    loaded = importlib.util.module_from_spec(importlib.util.spec_from_loader(name, loader))
-    loader.exec_module(loaded)
-    return loaded
 
 
 # The second reader of orders, written from the paper on its own.

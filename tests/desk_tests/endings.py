@@ -12,7 +12,7 @@ import time
 from katchidul_desk import orders, streams
 from katchidul_desk.errors import DeskError
 
-from .checks import COMMAND, PROGRAMS, ROOT, check, hears_the_keyboard, run, started
+from .checks import COMMAND, PROGRAMS, ROOT, check, run, started
 
 ORDER = ROOT / "examples" / "durham-clock.order"
 COMMANDS = ("show", "sheet", "table", "cells", "brf", "wear", "week", "make")
@@ -20,7 +20,8 @@ COMMANDS = ("show", "sheet", "table", "cells", "brf", "wear", "week", "make")
 
 def shell(line, **more):
     """A line of sh, with $K for the command and $O for an order: its status, and what it says on standard error."""
-    ended = subprocess.run(["sh", "-c", line], capture_output=True, env={**os.environ, "K": str(COMMAND), "O": str(ORDER), **more}, check=False)
+    ended = subprocess.run(["sh", "-c", line], capture_output=True, env={**os.environ, "K": str(COMMAND), "O": str(ORDER), **more},
+                           check=False)
     return ended.returncode, ended.stdout, ended.stderr.decode("utf-8", "replace")
 
 
@@ -37,13 +38,15 @@ def output():
     status, printed, said = shell("($K table examples/longest.order examples/longest.order; echo $? >&2) | head -n 1")
     check("a reader that leaves", (printed[:7], said in ("0\n", "141\n") or said), (b"Kampala", True))
     says("all closed", "$K sheet $O <&- >&- 2>&-", 2, "")
+    says("closed output of a spool's status", "$K spool -d /tmp status >&-", 1, "standard output is closed")
     says("closed errors", "$K sheet nothing 2>&-", 2, "")
     says("full errors", "$K sheet nothing 2>/dev/full", 2, "")
 
 
 def output_files():
     with tempfile.TemporaryDirectory() as folder:
-        for out, part in [(folder, "Is a directory"), (folder + "/none/leeds.brf", "No such file or directory"), ("/dev/full", "No space left on device"), ("a\0b", "can't be written"),
+        for out, part in [(folder, "Is a directory"), (folder + "/none/leeds.brf", "No such file or directory"),
+                          ("/dev/full", "No space left on device"), ("a\0b", "can't be written"),
                           ("", "can't be written")]:
             status, printed, said = run("brf", ORDER, "--out", out)
             check("--out %r" % out, (status, printed, part in said or said), (2, b"", True))
@@ -58,7 +61,8 @@ def output_files():
         try:
             streams.write_files(written)
         except DeskError as why:
-            check("of several files none is written", (str(why).endswith("No such file or directory"), os.listdir(folder)), (True, ["kept.brf"]))
+            check("of several files none is written", (str(why).endswith("No such file or directory"), os.listdir(folder)),
+                  (True, ["kept.brf"]))
         link = pathlib.Path(folder) / "link.brf"
         link.symlink_to("kept.brf")
         run("brf", ROOT / "examples" / "pole.order", "--out", link)
@@ -77,7 +81,8 @@ def inputs():
                 status, printed, said = run(command, named)
                 check("%s of %r" % (command, data[:5]), (status, printed, part in said or said), (2, b"", True))
         for command in COMMANDS:
-            for path, part in [(folder, "Is a directory"), (folder + "/nothing", "No such file or directory"), ("/dev/zero", "more than 65536 bytes"), ("a\0b", "can't be read"),
+            for path, part in [(folder, "Is a directory"), (folder + "/nothing", "No such file or directory"),
+                               ("/dev/zero", "more than 65536 bytes"), ("a\0b", "can't be read"),
                                ("/dev/null", "is empty")]:
                 status, printed, said = run(command, path)
                 check("%s %r" % (command, path), (status, printed, part in said or said), (2, b"", True))
@@ -86,7 +91,8 @@ def inputs():
 
 def ascii_terminals():
     """A terminal without letters outside ASCII, in messages and in what is printed."""
-    for environment in ({"LC_ALL": "C"}, {"LC_ALL": "POSIX", "PYTHONUTF8": "0", "PYTHONCOERCECLOCALE": "0"}, {"PYTHONIOENCODING": "ascii"}, {"PYTHONIOENCODING": "latin-1"}):
+    for environment in ({"LC_ALL": "C"}, {"LC_ALL": "POSIX", "PYTHONUTF8": "0", "PYTHONCOERCECLOCALE": "0"}, {"PYTHONIOENCODING": "ascii"},
+                        {"PYTHONIOENCODING": "latin-1"}):
         for words in (["cells", ORDER], ["make", "--tøwn", "x"]):
             status, _, said = started(*words, env={**os.environ, **environment})
             check("%s with %s" % (words, environment), (status in (0, 1, 2), "Traceback" in said), (True, False))
@@ -94,17 +100,20 @@ def ascii_terminals():
 
 def messages_can_not_command_a_terminal():
     for word in ("\x1b[2Jx", "a\nkatchidul: forged", "\x07", "\u202ereversed", "\udcff"):
-        for words in ([word], ["make", "--" + word, "1"], ["make", "--town", word], ["make", "--method", word], ["make", "--zone", word], ["sheet", word], ["-" + word],
+        for words in ([word], ["make", "--" + word, "1"], ["make", "--town", word], ["make", "--method", word], ["make", "--zone", word],
+                      ["sheet", word], ["-" + word],
                       ["make", "--minutes", word + " 1"], ["make", "--place", word], ["brf", ORDER, "--out", "/nothing/" + word]):
             status, printed, said = run(*words)
             check("what is said of %r" % words[-1], all(letter.isprintable() or letter == "\n" for letter in said), True)
-            check("and no forged line of %r" % words, all(line.startswith("katchidul: ") and "forged" not in line[:20] for line in said.splitlines()), True)
+            check("and no forged line of %r" % words,
+                  all(line.startswith("katchidul: ") and "forged" not in line[:20] for line in said.splitlines()), True)
 
 
 def long_values():
     """Bounded, and at once."""
     began = time.process_time()
-    for name in ("latitude", "place", "fajr angle", "rows", "clock", "method", "minutes", "first day", "month", "from", "to", "zone", "ramadan", "town", "nothing", "9" * 300000):
+    for name in ("latitude", "place", "fajr angle", "rows", "clock", "method", "minutes", "first day", "month", "from", "to", "zone",
+                 "ramadan", "town", "nothing", "9" * 300000):
         for digits in ("9" * 300000, "imsak 1" + " " * 300000, "-" * 300000, "1 " * 150000, "," * 300000):
             try:
                 orders.make("%s: %s" % (name, digits))
@@ -118,8 +127,8 @@ def long_values():
 def signals():
     """An order on the way is stopped by the keyboard without a word, and leaves no file."""
     with tempfile.TemporaryDirectory() as folder:
-        run = subprocess.Popen([COMMAND, "make", "-", "--out", os.path.join(folder, "x.order")], stdin=subprocess.PIPE, stderr=subprocess.PIPE,
-                               preexec_fn=hears_the_keyboard)
+        run = subprocess.Popen([COMMAND, "make", "-", "--out", os.path.join(folder, "x.order")], stdin=subprocess.PIPE,
+                               stderr=subprocess.PIPE)
         run.stdin.write(b"town: Leeds\n")
         run.stdin.flush()
         # When the pipe is empty the text is being read.
@@ -135,14 +144,15 @@ def signals():
 def printed():
     """tools/printed, which runs the installed programs: a closed or a folder's input is no empty order, and a signal leaves no file."""
     sheet = os.path.join(PROGRAMS, "sheet")
-    for line, status, part in [("tools/printed $S <&-", 2, "standard input is closed"), ("tools/printed $S </", 2, "standard input is a folder"),
-                               ("tools/printed $S <$O", 0, ""), ("tools/printed $S <examples/cut.order", 3, ""), ("tools/printed $S </dev/null", 3, ""),
+    for line, status, part in [("tools/printed $S <&-", 2, "standard input is closed"),
+                               ("tools/printed $S </", 2, "standard input is a folder"),
+                               ("tools/printed $S <$O", 0, ""), ("tools/printed $S <examples/cut.order", 3, ""),
+                               ("tools/printed $S </dev/null", 3, ""),
                                ("tools/printed $S <$O >/dev/full", 1, "No space left")]:
         says(line, "cd %s && %s" % (ROOT, line), status, part, S=sheet)
     with tempfile.TemporaryDirectory() as folder:
         for sent in (signal.SIGTERM, signal.SIGHUP, signal.SIGINT):
-            run = subprocess.Popen([ROOT / "tools" / "printed", sheet], stdin=subprocess.PIPE, env={**os.environ, "TMPDIR": folder},
-                                   preexec_fn=hears_the_keyboard)
+            run = subprocess.Popen([ROOT / "tools" / "printed", sheet], stdin=subprocess.PIPE, env={**os.environ, "TMPDIR": folder})
             for _ in range(500):
                 if os.listdir(folder):
                     break
@@ -156,7 +166,8 @@ def printed():
 def terminals():
     """An order's bytes don't go to a terminal; and a terminal is not waited on for an order."""
     master, slave = os.openpty()
-    for words, part in [(["make", ROOT / "examples" / "durham-clock.text"], b"give a file's name with --out"), (["cells", "--plain", ORDER], b"give a file's name with --out"),
+    for words, part in [(["make", ROOT / "examples" / "durham-clock.text"], b"give a file's name with --out"),
+                        (["cells", "--plain", ORDER], b"give a file's name with --out"),
                         (["sheet"], b"sheet takes an order, a text, or options")]:
         ended = subprocess.run([COMMAND, *words], stdin=slave, stdout=slave, stderr=subprocess.PIPE, check=False)
         check("%s at a terminal" % words[0], (ended.returncode, part in ended.stderr or ended.stderr), (2, True))

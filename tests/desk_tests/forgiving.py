@@ -36,7 +36,8 @@ def why(name, text, *parts):
 
 def coordinates():
     north = degrees(4, 53.8008)
-    for text in ["53.8008", "+53.8008", "53.8008 N", "53.8008N", "53.8008 n", "53.8008°", "53.8008 °", "53.8008° N", "53.8008°N", "N 53.8008", "N53.8008°",
+    for text in ["53.8008", "+53.8008", "53.8008 N", "53.8008N", "53.8008 n", "53.8008°", "53.8008 °", "53.8008° N", "53.8008°N",
+                 "N 53.8008", "N53.8008°",
                  "53.8008 north", "53.8008 degrees north".replace("degrees ", ""), "53.8008\u00ba N"]:
         check("latitude: " + text, tags("latitude", text), north)
     for text in ["-1.5491", "\u22121.5491", "\u20131.5491", "1.5491 W", "1.5491°W", "W 1.5491", "1.5491 west"]:
@@ -61,6 +62,9 @@ def refused_coordinates():
     why("latitude", "53 48 2.88", "lacks its letter, N or S", "write 53 48 2.88 N")
     why("longitude", "-1 32 56", "lacks its letter, E or W", "write 1 32 56 W")
     why("latitude", "54 46 31.080 N", "hundredths")
+    for text, seconds in [("53° 48.048' N", "53 48 2.88 N"), ("53 48.048 N", "53 48 2.88 N"), ("53°48.5'N", "53 48 30.00 N"),
+                          ("53 59.99999 N", "54 0 0.00 N"), ("53 48.123456 N", "53 48 7.41 N")]:
+        why("latitude", text, "decimals of a minute are written as seconds: write " + seconds)
     why("latitude", "north", "54.7753 N", "54 46 31.08 N")
     why("latitude", "9" * 300000, "too long")
     why("fajr angle", "9" * 300000, "too long")
@@ -69,7 +73,8 @@ def refused_coordinates():
 
 def places():
     both = degrees(4, 53.8008) + degrees(5, -1.5491)
-    for text in ["53.8008, -1.5491", "53.8008,-1.5491", "53.8008; \u22121.5491", "(53.8008, -1.5491)", "53.8008 -1.5491", "53.8008 N, 1.5491 W",
+    for text in ["53.8008, -1.5491", "53.8008,-1.5491", "53.8008; \u22121.5491", "(53.8008, -1.5491)", "53.8008 -1.5491",
+                 "53.8008 N, 1.5491 W",
                  "53.8008° N, 1.5491° W", "1.5491 W, 53.8008 N", "53.8008N 1.5491W", "N53.8008 W1.5491"]:
         check("place: " + text, tags("place", text), both)
     wiki = on_map(18, 0, 53, 47, 51, 0) + on_map(19, 1, 1, 32, 37, 0)
@@ -77,7 +82,8 @@ def places():
         check("place: " + text, tags("place", text), wiki)
     why("place", "53.8008", "with a comma between")
     why("place", "53.8008, -1.5491, 30", "with a comma between")
-    why("place", "53,8008, -1,5491", "with a comma between")
+    for text in ("53,8008, -1,5491", "53,8008; -1,5491", "53,8008 -1,5491", "53,8008,-1,5491"):
+        why("place", text, "decimals are written behind a point: write 53.8008, -1.5491")
     why("place", "Leeds", "with a comma between")
     why("place", "53.8008, 1.5491 N", "takes E or W")
     why("place", "", "with a comma between")
@@ -88,7 +94,8 @@ def methods():
     for short, name in SHORT.items():
         for text in (short, short.lower()):
             check("method: " + text, tags("method", text), [(6, bytes([names.index(name)]))])
-    for text, name in [("MWL", "MuslimWorldLeague"), ("ISNA", "NorthAmerica"), ("Umm al-Qura", "UmmAlQura"), ("Muslim World League", "MuslimWorldLeague")]:
+    for text, name in [("MWL", "MuslimWorldLeague"), ("ISNA", "NorthAmerica"), ("Umm al-Qura", "UmmAlQura"),
+                       ("Muslim World League", "MuslimWorldLeague")]:
         check("method: " + text, tags("method", text), [(6, bytes([names.index(name)]))])
     why("method", "Muslim World Leage", "did you mean MuslimWorldLeague?")
     why("method", "MLW", "did you mean MWL?")
@@ -113,11 +120,14 @@ def days():
     check("a first day and to", orders.make("first day: 2026-09-01\nto: 2027-07-31\n", BASE[:1] + BASE[2:]).order, year)
     check("an option over a month", orders.fields(orders.make("month: 2026-10", BASE[:1] + BASE[2:] + [("rows", "7")]).order)["rows"], "7")
     check("a month over a first day", orders.make("first day: 2026-01-01\nrows: 3\n", BASE).order, orders.make("", BASE).order)
-    for text, part in [("to: 2026-10-31", "needs the first day"), ("from: 2026-10-02\nto: 2026-10-01", "are 0 days"), ("from: 2025-01-01\nto: 2026-10-01", "are 639 days"),
+    for text, part in [("to: 2026-10-31", "needs the first day"), ("from: 2026-10-02\nto: 2026-10-01", "are 0 days"),
+                       ("from: 2025-01-01\nto: 2026-10-01", "are 639 days"),
                        ("to: 2026-06-31", "June has 30 days"), ("from: 2026-06-31\nto: 2026-07-01", "from: June has 30 days"),
-                       ("from: 0000-01-01\nto: 2026-07-01", "0 is no year"), ("month: 2026-10\nrows: 3", "month and rows both give the rows; leave one out"),
+                       ("from: 0000-01-01\nto: 2026-07-01", "0 is no year"),
+                       ("month: 2026-10\nrows: 3", "month and rows both give the rows; leave one out"),
                        ("from: 2026-10-01\nfirst day: 2026-10-01", "from and first day both give the first day"),
-                       ("rows: 3\nto: 2026-10-31", "rows and to both"), ("place: 1, 2\nlatitude: 1", "place and latitude both give the latitude"),
+                       ("rows: 3\nto: 2026-10-31", "rows and to both"),
+                       ("place: 1, 2\nlatitude: 1", "place and latitude both give the latitude"),
                        ("clock: 60\nzone: Europe/London", "clock and zone both give the clock")]:
         try:
             said = str(orders.make(text))
@@ -127,7 +137,8 @@ def days():
 
 
 def clocks():
-    for text, minutes in [("60", 60), ("+01:00", 60), ("-05:00", -300), ("\u221205:00", -300), ("+5:45", 345), ("00:00", 0), ("0", 0), ("+0", 0), ("15", 15), ("-15", -15),
+    for text, minutes in [("60", 60), ("+01:00", 60), ("-05:00", -300), ("\u221205:00", -300), ("+5:45", 345), ("00:00", 0), ("0", 0),
+                          ("+0", 0), ("15", 15), ("-15", -15),
                           ("1 minutes", 1), ("1 minute", 1), ("-14 minutes", -14), ("+1 hour", 60), ("2 hours", 120), ("840", 840)]:
         check("clock: " + text, tags("clock", text), [(16, struct.pack(">h", minutes))])
     for number in [*range(-14, 0), *range(1, 15)]:
@@ -148,25 +159,30 @@ def reasons():
     """The true reason of a refusal, by the field that is wrong."""
     fast = [("town", "Leeds"), ("first day", "2026-02-18"), ("place", "1, 2"), ("method", "0"), ("ramadan", "imsak 10, shift 0")]
     for options, part in [
-            (fast + [("rows", "29")], "a Ramadan sheet has 30 rows"), ([("town", "Leeds"), ("first day", "2026-06-31"), ("rows", "3"), *BASE[2:]], "June has 30 days"),
+            (fast + [("rows", "29")], "a Ramadan sheet has 30 rows"),
+            ([("town", "Leeds"), ("first day", "2026-06-31"), ("rows", "3"), *BASE[2:]], "June has 30 days"),
             ([("town", "Leeds"), ("first day", "2026-02-29"), ("rows", "3"), *BASE[2:]], "February 2026 has 28 days"),
             ([("town", "Leeds"), ("first day", "2026-13-01"), ("rows", "3"), *BASE[2:]], "there is no month 13"),
             ([("town", "Leeds"), ("first day", "1899-12-31"), ("rows", "3"), *BASE[2:]], "1899 is no year from 1900 to 2199"),
             ([("town", "Leeds"), ("first day", "2199-12-30"), ("rows", "3"), *BASE[2:]], "there is room for 2"),
             ([("town", "Leeds"), ("first day", "2026-06-01"), ("rows", "401"), *BASE[2:]], "401 rows are not 1 to 400"),
-            ([("town", "Leeds"), ("first day", "2026-06-01"), ("rows", "251, in one byte"), *BASE[2:]], "251 rows are not 1 to 250 in one byte"),
+            ([("town", "Leeds"), ("first day", "2026-06-01"), ("rows", "251, in one byte"), *BASE[2:]],
+             "251 rows are not 1 to 250 in one byte"),
             (fast + [("rows", "30"), ("ramadan", "imsak 31, shift 0")][:1] + [("minutes", "fajr 721")], "fajr has 721 minutes"),
             (at("91", "0"), "91.0 is not -90 to 90 degrees"), (at("0", "181 0 0 W"), "181 0 0.00 W is over 180 degrees"),
             (at("10 99 0 N", "0"), "minutes or seconds over 59"), (BASE + [("clock", "841")], "841 is out of range"),
-            (BASE + [("madhab", "3")], "3 is none of 1 Shafi, 2 Hanafi"), (BASE[:3], "method is missing"), (BASE[:2] + BASE[3:], "latitude is missing"),
+            (BASE + [("madhab", "3")], "3 is none of 1 Shafi, 2 Hanafi"), (BASE[:3], "method is missing"),
+            (BASE[:2] + BASE[3:], "latitude is missing"),
             ([("town", "Leeds"), ("month", "2026-11"), *BASE[2:], ("ramadan", "imsak 10, shift 0")], "no first of Ramadan")]:
         made = orders.make("", options)
         check("%s: %s" % (options[1:], part), part in made.refusal.why if made.refusal else made, True)
 
 
 def towns():
-    for town, part in [("Tromsø", "so write Tromso"), ("Malmö", "so write Malmo"), ("Łódź", "so write Lodz"), ("Şanlıurfa", "so write Sanliurfa"), ("Weißenburg", "so write Weissenburg"),
-                       ("O\u2019Fallon", "so write O'Fallon"), ("São Paulo", "so write Sao Paulo"), ("مكة", "write its name in the letters a to z"), ("Leeds\u200b", "control"),
+    for town, part in [("Tromsø", "so write Tromso"), ("Malmö", "so write Malmo"), ("Łódź", "so write Lodz"),
+                       ("Şanlıurfa", "so write Sanliurfa"), ("Weißenburg", "so write Weissenburg"),
+                       ("O\u2019Fallon", "so write O'Fallon"), ("São Paulo", "so write Sao Paulo"),
+                       ("مكة", "write its name in the letters a to z"), ("Leeds\u200b", "control"),
                        ("Le\x07eds", "control")]:
         made = orders.make("", [("town", town), *BASE[1:]])
         check("town: " + town, made.refusal and part in made.refusal.why or made.refusal, True)
@@ -180,10 +196,12 @@ def forms():
     check("no fault", orders.faults(BASE), {})
     wrong = orders.faults(BASE[:2] + [("place", "53,8, 1"), ("method", "MWX")])
     check("two faults", (sorted(wrong), wrong["method"].endswith("did you mean MWL?")), (["method", "place"], True))
-    check("one field by two names", orders.faults(BASE + [("latitude", "91")]), {"latitude": "place and latitude both give the latitude; leave one out"})
+    check("one field by two names", orders.faults(BASE + [("latitude", "91")]),
+          {"latitude": "place and latitude both give the latitude; leave one out"})
     check("a fault of the order", orders.faults(at("91", "0")), {"latitude": "latitude: 91.0 is not -90 to 90 degrees"})
     check("a field that is missing", orders.faults(BASE[1:]), {"town": "town is missing"})
-    check("days that end before they begin", list(orders.faults(BASE[:1] + [("from", "2026-10-02"), ("to", "2026-10-01")] + BASE[2:])), ["to"])
+    check("days that end before they begin", list(orders.faults(BASE[:1] + [("from", "2026-10-02"), ("to", "2026-10-01")] + BASE[2:])),
+          ["to"])
 
 
 def both_ways():
@@ -191,7 +209,9 @@ def both_ways():
     draw = checks.draw(40)
     for _ in range(5000 if checks.is_long else 300):
         latitude, longitude = round(draw.uniform(-90, 90), draw.randrange(8)), round(draw.uniform(-180, 180), draw.randrange(8))
-        lines = ["town: Leeds", draw.choice(["month: %d-%02d" % (draw.randint(1900, 2199), draw.randint(1, 12)), "from: 2026-09-01\nto: 2027-07-%02d" % draw.randint(1, 31)]),
+        lines = ["town: Leeds",
+                 draw.choice(["month: %d-%02d" % (draw.randint(1900, 2199), draw.randint(1, 12)),
+                              "from: 2026-09-01\nto: 2027-07-%02d" % draw.randint(1, 31)]),
                  draw.choice(["place: %r, %r" % (latitude, longitude), "latitude: %r\nlongitude: %r°" % (latitude, longitude),
                               "place: %s %s, %s %s" % (fixed(latitude), "SN"[latitude >= 0], fixed(longitude), "WE"[longitude >= 0])]),
                  "method: " + draw.choice(list(SHORT)), "clock: " + draw.choice(["+01:00", "-330", "7 minutes", "0"])]

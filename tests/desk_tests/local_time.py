@@ -11,13 +11,13 @@ import zoneinfo
 from katchidul_desk import orders, reading, zones
 from katchidul_desk.errors import ZoneError
 
-from . import checks
+from . import almanac, checks
 from .checks import cases, check, program, run
 from .tzif import Zone
 
 # Fifty zones with a town's place, and four whose clocks are across the date line from their place.
-TOWNS = """Europe/London 51.5 -0.12, Europe/Dublin 53.33 -6.25, Europe/Lisbon 38.72 -9.13, Europe/Paris 48.87 2.33, Europe/Berlin 52.5 13.37,
-Europe/Rome 41.9 12.48, Europe/Athens 37.97 23.72, Europe/Istanbul 41.02 28.97, Europe/Moscow 55.75 37.62, Europe/Helsinki 60.17 24.97,
+TOWNS = """Europe/London 51.5 -0.12, Europe/Dublin 53.33 -6.25, Europe/Lisbon 38.72 -9.13, Europe/Paris 48.87 2.33,
+Europe/Berlin 52.5 13.37, Europe/Rome 41.9 12.48, Europe/Athens 37.97 23.72, Europe/Istanbul 41.02 28.97, Europe/Moscow 55.75 37.62, Europe/Helsinki 60.17 24.97,
 Europe/Chisinau 47.0 28.83, Atlantic/Azores 37.73 -25.67, Africa/Casablanca 33.65 -7.58, Africa/Cairo 30.05 31.25, Africa/Lagos 6.45 3.4,
 Africa/Nairobi -1.28 36.82, Africa/Johannesburg -26.25 28.0, Africa/Tunis 36.8 10.18, Africa/Juba 4.85 31.62, Asia/Riyadh 24.63 46.72,
 Asia/Dubai 25.3 55.3, Asia/Tehran 35.67 51.43, Asia/Karachi 24.87 67.05, Asia/Kolkata 22.53 88.37, Asia/Kathmandu 27.72 85.32,
@@ -120,7 +120,8 @@ def splits():
     for name, latitude, longitude in towns(TOWNS):
         zone = Zone(name)
         for year in YEARS if checks.is_long else [draw.choice(YEARS)]:
-            order = an_order(latitude, longitude, ("from", "%d-09-01" % year), ("to", "%d-%s" % (year + 1, "07-31" if checks.is_long else "04-15")))
+            order = an_order(latitude, longitude, ("from", "%d-09-01" % year),
+                             ("to", "%d-%s" % (year + 1, "07-31" if checks.is_long else "04-15")))
             parts.add(compare(name, order, zone))
     check("years with one clock, and with several", {1, 3} <= parts, True)
     name, latitude, longitude = "Europe/Oslo", "69.6492", "18.9553"
@@ -139,13 +140,16 @@ def date_line():
 
 
 def leeds():
-    """October in Leeds from nothing, in one command: the sheet's UTC times by the proved program, the clock by the command date."""
+    """October in Leeds from nothing, in one command. The days around the change are held to other sources: the sun to the Astronomical
+    Almanac's formulas, the clock to the command date."""
     with tempfile.TemporaryDirectory() as folder:
         out = os.path.join(folder, "leeds.order")
         status, printed, said = run("make", *[word for name, value in LEEDS for word in ("--" + name, value)], "--out", out)
         check("leeds", (status, printed, sorted(os.listdir(folder))), (0, b"", ["leeds-1.order", "leeds-2.order"]))
-        for line in ["Europe/London changes its clock within these rows, so there are 2 orders:", "leeds-1.order: 2026-10-01 to 2026-10-24, rows: 24, clock: UTC+01:00",
-                     "leeds-2.order: 2026-10-25 to 2026-10-31, rows: 7, clock: UTC+00:00", "checked: the 186 times on the pages are right by the clocks of Europe/London"]:
+        for line in ["Europe/London changes its clock within these rows, so there are 2 orders:",
+                     "leeds-1.order: 2026-10-01 to 2026-10-24, rows: 24, clock: UTC+01:00",
+                     "leeds-2.order: 2026-10-25 to 2026-10-31, rows: 7, clock: UTC+00:00",
+                     "checked: the 186 times on the pages are right by the clocks of Europe/London"]:
             check("it says: " + line, line in said or said, True)
         written = [open(os.path.join(folder, "leeds-%d.order" % number), "rb").read() for number in (1, 2)]
         whole = orders.make("", LEEDS).order
@@ -153,13 +157,18 @@ def leeds():
         for row in range(23, 27):
             by_date = [by_the_command_date(at) for at in rows[row][1]]
             check("%s in Leeds" % rows[row][0], pages[row], (row + 1, by_date))
+            by_almanac = almanac.six_times(datetime.date.fromisoformat(rows[row][0]), 53.8008, -1.5491)
+            apart = [abs(at - second.timestamp()) for at, second in zip(rows[row][1], by_almanac)]
+            check("the sun of %s by the almanac, to half a minute and some seconds" % rows[row][0], [some for some in apart if some > 36],
+                  [])
         check("Fajr before the change and after it", (pages[23][1][0], pages[24][1][0]), ((5, 52), (4, 54)))
         status, _, said = run("make", *[word for name, value in LEEDS for word in ("--" + name, value)])
         check("several orders need a name", (status, "give a name for them with --out" in said), (2, True))
 
 
 def by_the_command_date(at):
-    said = subprocess.run(["date", "-d", "@%d" % at, "+%H %M"], env={"TZ": "Europe/London", "PATH": os.environ["PATH"]}, capture_output=True, check=True)
+    said = subprocess.run(["date", "-d", "@%d" % at, "+%H %M"], env={"TZ": "Europe/London", "PATH": os.environ["PATH"]},
+                          capture_output=True, check=True)
     return tuple(map(int, said.stdout.split()))
 
 
@@ -170,7 +179,9 @@ def one_clock():
     wanted = orders.make("", [*options[:-1], ("clock", "+01:00")]).order
     status, printed, said = run("make", *words)
     check("June in Leeds", (status, printed), (0, wanted))
-    check("what is said", said, "Europe/London is UTC+01:00 for all rows, 2026-06-01 to 2026-06-30\nchecked: the 180 times on the pages are right by the clocks of Europe/London\n")
+    check("what is said", said,
+          "Europe/London is UTC+01:00 for all rows, 2026-06-01 to 2026-06-30\n"
+          "checked: the 180 times on the pages are right by the clocks of Europe/London\n")
     with tempfile.TemporaryDirectory() as folder:
         open(os.path.join(folder, "leeds-1.order"), "w").close()
         status, _, said = run("make", *words, "--out", os.path.join(folder, "leeds.order"))
@@ -180,7 +191,8 @@ def one_clock():
 
 def ramadan():
     """Chicago's clocks change inside Ramadan 1447."""
-    text = b"town: Chicago\nfirst day: 2026-02-18\nrows: 30\nplace: 41.8781, -87.6298\nmethod: ISNA\nzone: America/Chicago\nramadan: imsak 10, shift 0\n"
+    text = (b"town: Chicago\nfirst day: 2026-02-18\nrows: 30\nplace: 41.8781, -87.6298\nmethod: ISNA\nzone: America/Chicago\n"
+            b"ramadan: imsak 10, shift 0\n")
     with tempfile.TemporaryDirectory() as folder:
         status, _, said = run("make", "-", "--out", os.path.join(folder, "fast.order"), given=text)
         check("three orders", (status, sorted(os.listdir(folder))), (0, ["fast-1.order", "fast-2.order", "fast.order"]))
@@ -188,7 +200,8 @@ def ramadan():
     for line in ["A Ramadan order can't be split. fast.order is for the sheet, which is in UTC and has imsak.",
                  "fast-1.order and fast-2.order are plain orders of the same rows, for the embosser: the cells have no imsak."]:
         check("it says: " + line, line in said or said, True)
-    check("the Ramadan order has imsak and no clock", (20 in cases.fields_of(made["fast.order"])[0], 16 in cases.fields_of(made["fast.order"])[0]), (True, False))
+    check("the Ramadan order has imsak and no clock",
+          (20 in cases.fields_of(made["fast.order"])[0], 16 in cases.fields_of(made["fast.order"])[0]), (True, False))
     check("its sheet", b"date imsak fajr" in program("sheet", made["fast.order"]), True)
     plain = [cases.fields_of(made["fast-%d.order" % number])[0] for number in (1, 2)]
     check("the plain ones have a clock and no imsak", [(20 in values, struct.unpack(">h", values[16])[0], values[3]) for values in plain],
@@ -209,15 +222,21 @@ def wrong_rows():
         out = os.path.join(folder, "tromso.order")
         status, printed, said = run("make", *words, "--out", out)
         check("nothing is written", (status, printed, os.listdir(folder)), (1, b"", []))
-        check("the row is named", "2026-03-29: one clock can't be right for all times of this row: fajr is 23:53 by the clocks there, and the page would show 00:53" in said, True)
-        check("--anyway writes it", (run("make", *words, "--anyway", "--out", out)[0], sorted(os.listdir(folder))), (0, ["tromso-1.order", "tromso-2.order"]))
+        check("the row is named",
+              "2026-03-29: one clock can't be right for all times of this row: fajr is 23:53 by the clocks there, "
+              "and the page would show 00:53" in said, True)
+        check("--anyway writes it", (run("make", *words, "--anyway", "--out", out)[0], sorted(os.listdir(folder))),
+              (0, ["tromso-1.order", "tromso-2.order"]))
     check("no BRF", run("brf", *words)[:2], (1, b""))
     check("--anyway has it", run("brf", *words, "--anyway")[1].count(b"\r\n"), 31)
 
 
 def names():
-    for name, part in [("Europe/Londn", "did you mean Europe/London?"), ("europe/london", "did you mean Europe/London?"), ("London", "did you mean Europe/London?"), ("Chicago", "did you mean America/Chicago?"), ("Leeds", "as Europe/London"), ("", "as Europe/London"),
-                       ("../../etc/passwd", "is no time zone"), ("Europe", "is no time zone"), ("right/Europe/London", "is no time zone"), ("zone.tab", "is no time zone"), ("/etc/localtime", "is no time zone"), ("a" * 300, "is no time zone"),
+    for name, part in [("Europe/Londn", "did you mean Europe/London?"), ("europe/london", "did you mean Europe/London?"),
+                       ("London", "did you mean Europe/London?"), ("Chicago", "did you mean America/Chicago?"),
+                       ("Leeds", "as Europe/London"), ("", "as Europe/London"),
+                       ("../../etc/passwd", "is no time zone"), ("Europe", "is no time zone"), ("right/Europe/London", "is no time zone"),
+                       ("zone.tab", "is no time zone"), ("/etc/localtime", "is no time zone"), ("a" * 300, "is no time zone"),
                        ("Eur\0ope", "is no time zone"), ("\udcff", "is no time zone")]:
         try:
             said = str(zones.find(name))
@@ -230,7 +249,8 @@ def names():
     try:
         zones.find("Europe/London")
     except ZoneError as told:
-        check("no time zone data", str(told), "this computer has no time zone data; install the package tzdata (on Debian: apt install tzdata)")
+        check("no time zone data", str(told),
+              "this computer has no time zone data; install the package tzdata (on Debian: apt install tzdata)")
     zoneinfo.available_timezones = known
     zoneinfo.reset_tzpath()
     order = an_order("6.3", "-10.78", ("month", "1950-06"))
@@ -238,9 +258,11 @@ def names():
         check("clocks with seconds", zones.split(order, "Africa/Monrovia").parts, "a fault")
     except ZoneError as told:
         check("clocks with seconds", "whole minutes" in str(told), True)
-    status, _, said = run("make", "--zone", "Europe/Oslo", "-", given="\n".join("%s: %s" % pair for pair in LEEDS[:-1]).encode() + b"\nclock: 60\n")
+    status, _, said = run("make", "--zone", "Europe/Oslo", "-",
+                          given="\n".join("%s: %s" % pair for pair in LEEDS[:-1]).encode() + b"\nclock: 60\n")
     check("a zone as an option replaces the text's clock", status, 2 if "--out" in said else 0)
-    far = [("place", "53.8008, 91.5491") if name == "place" else (name, value) for name, value in LEEDS if name != "month"] + [("month", "2026-06")]
+    far = [("place", "53.8008, 91.5491") if name == "place" else (name, value) for name,
+           value in LEEDS if name != "month"] + [("month", "2026-06")]
     status, _, said = run("make", *[word for name, value in far for word in ("--" + name, value)])
     check("a noon at night", (status, "do the place and the zone belong together?" in said), (0, True))
 

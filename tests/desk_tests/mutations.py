@@ -10,10 +10,13 @@ from .checks import ROOT, cases, check
 TEXTS = [path.read_text() for path in sorted((ROOT / "examples").glob("*.text"))] + [
     "town: Leeds\nmonth: 2026-10\nplace: 53.8008, -1.5491\nmethod: MWL\nzone: Europe/London\n",
     "town: Leeds\nfrom: 2026-09-01 to: 2027-07-31\nplace: 53°48'2.88\"N 1°32'56.76\"W\nmethod: ISNA\nclock: +01:00\n",
-    "town: Leeds\nfrom: 2026-09-01\nto: 2027-07-31\nlatitude: 53 48 N\nlongitude: 1.5491 W\nmethod: MWL\nclock: 1 minutes\nminutes: dhuhr 5\n",
+    "town: Leeds\nfrom: 2026-09-01\nto: 2027-07-31\nlatitude: 53 48 N\nlongitude: 1.5491 W\nmethod: MWL\nclock: 1 minutes\n"
+    "minutes: dhuhr 5\n",
     "fields: as listed\ntown: A\nfield 99: 00ff\nbytes: 0100\nramadan: imsak 10, shift 0\nrows: 30, in two bytes\n"]
-PIECES = ["", ":", "\n", " ", "-", "+", ".", ",", "°", "'", '"', "N", "W", "9" * 30, "1e999", "nan", "inf", "\u2212", "\u0663", "\u00b2", "\ufeff", "\0", "\udcff", "\\", "\\x4", "#",
-          "town:", "zone: Europe/", "zone: UTC\n", "clock: ", "month: ", "to: ", "rows: ", "2026-", "0", "é", "ﬁ", "½", "٣", "\u2028", "\x1b[2J", "method: ", "field ", "bytes: "]
+PIECES = ["", ":", "\n", " ", "-", "+", ".", ",", "°", "'", '"', "N", "W", "9" * 30, "1e999", "nan", "inf", "\u2212", "\u0663", "\u00b2",
+          "\ufeff", "\0", "\udcff", "\\", "\\x4", "#",
+          "town:", "zone: Europe/", "zone: UTC\n", "clock: ", "month: ", "to: ", "rows: ", "2026-", "0", "é", "ﬁ", "½", "٣", "\u2028",
+          "\x1b[2J", "method: ", "field ", "bytes: "]
 
 
 def mutated_text(draw):
@@ -25,7 +28,8 @@ def mutated_text(draw):
         elif kind == 1:
             text = text[:at] + text[at + draw.randint(1, 12):]
         elif kind == 2:
-            text = text[:at] + chr(draw.choice([draw.randrange(128), draw.randrange(0xd800), draw.randrange(0xd800, 0xe000)])) + text[at + 1:]
+            text = text[:at] + chr(draw.choice([draw.randrange(128), draw.randrange(0xd800),
+                                                draw.randrange(0xd800, 0xe000)])) + text[at + 1:]
         elif kind == 3:
             lines = text.split("\n")
             lines.insert(draw.randrange(len(lines) + 1), draw.choice(draw.choice(TEXTS).split("\n")))
@@ -107,7 +111,8 @@ def forms():
     """Fields of a form, each any text."""
     draw = checks.draw(44)
     for _ in range(3000 if checks.is_long else 100):
-        pairs = [(draw.choice(["town", "place", "month", "method", "clock", "zone", "rows", "from", "to", "field", "x"]), draw.choice(PIECES) + draw.choice(PIECES)) for _ in range(4)]
+        pairs = [(draw.choice(["town", "place", "month", "method", "clock", "zone", "rows", "from", "to", "field", "x"]),
+                  draw.choice(PIECES) + draw.choice(PIECES)) for _ in range(4)]
         no_traceback("form", pairs, lambda: orders.faults(pairs))
 
 

@@ -8,7 +8,7 @@ import sys
 import tempfile
 import time
 
-from .checks import ROOT, check, hears_the_keyboard
+from .checks import ROOT, check
 
 # It reads its input, to show that the order is not there; it keeps an old program, as rt does when a change does not touch it; it counts
 # its runs, and is slow while the file `slow` is there.
@@ -55,7 +55,7 @@ class Checkout:
 
     def start(self, *words):
         return subprocess.Popen([self.root / "katchidul", *words], stdin=subprocess.PIPE, stdout=subprocess.PIPE, stderr=subprocess.PIPE,
-                                env=self.environment(), cwd="/", preexec_fn=hears_the_keyboard)
+                                env=self.environment(), cwd="/")
 
     def run(self, *words, given=GIVEN):
         run = self.start(*words)
@@ -117,7 +117,8 @@ def two_at_once(checkout):
         before = len(checkout.proofs())
         runs = [checkout.start("sheet") for _ in range(3)]
         ended = [run.communicate(GIVEN)[0] for run in runs]
-        check("three at once, fails: %s" % fails, (ended, [run.returncode for run in runs]), ([b""] * 3, [2] * 3) if fails else ([GIVEN] * 3, [0] * 3))
+        check("three at once, fails: %s" % fails, (ended, [run.returncode for run in runs]),
+              ([b""] * 3, [2] * 3) if fails else ([GIVEN] * 3, [0] * 3))
         check("proofs, fails: %s" % fails, len(checkout.proofs()) - before, 3 if fails else 1)
 
 
@@ -144,13 +145,15 @@ def refused(checkout):
     """A refused order is told by its status. A town of that name, and a cell with a newline's byte, are not."""
     checkout.run("sheet")
     program = checkout.root / "target" / "bin" / "sheet"
-    for text, status in [("order refused 5 place 16\\n", 1), ("order refused 99 place 7\\n", 1), ("order refused 5 place 16\\ndate fajr\\n", 0), ("order refused 5 place 16", 0), ("", 0)]:
+    for text, status in [("order refused 5 place 16\\n", 1), ("order refused 99 place 7\\n", 1),
+                         ("order refused 5 place 16\\ndate fajr\\n", 0), ("order refused 5 place 16", 0), ("", 0)]:
         program.write_text("#!/bin/sh\ncat >/dev/null\nprintf '%s'\n" % text)
         wanted = text.replace("\\n", "\n").encode()
         check("a program that prints %r" % text, checkout.run("sheet")[:2], (status, wanted))
     program.write_text("#!/bin/sh\ncat >/dev/null\necho half a sheet\nexit 7\n")
     status, printed, said = checkout.run("sheet")
-    check("a program that fails", (status, printed, said), (2, b"", "katchidul: the program sheet ended with status 7, so nothing is printed\n"))
+    check("a program that fails", (status, printed, said),
+          (2, b"", "katchidul: the program sheet ended with status 7, so nothing is printed\n"))
     program.write_text("no program")
     check("a program that can't be run", checkout.run("sheet")[:2], (2, b""))
     for text in ["Pole\\n", "Pole\\ndate fajr\\n2026-06-21 +0T05:00\\n", "\\377\\n"]:
@@ -169,11 +172,13 @@ def installed():
         program.write_text("#!/bin/sh\nexec cat\n")
         program.chmod(0o755)
         environment = {name: value for name, value in os.environ.items() if name != "KATCHIDUL_PROGRAMS"}
-        run = lambda *words: subprocess.run([sys.executable, "-B", library, *words], input=GIVEN, capture_output=True, env=environment, check=False)
+        run = lambda *words: subprocess.run([sys.executable, "-B", library, *words], input=GIVEN, capture_output=True, env=environment,
+                                            check=False)
         check("the program beside the package", run("sheet").stdout, GIVEN)
         check("its version", run("--version").stdout, b"katchidul 12.3\n")
         missing = run("wear")
-        check("a program that is missing", (missing.returncode, missing.stdout, b"install Katchidul again" in missing.stderr), (2, b"", True))
+        check("a program that is missing", (missing.returncode, missing.stdout, b"install Katchidul again" in missing.stderr),
+              (2, b"", True))
 
 
 TESTS = [proofs, two_at_once, stopped, refused, installed]

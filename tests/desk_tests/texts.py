@@ -95,14 +95,17 @@ def written():
     check("a town that is not UTF-8", made(b"town: \xff\x85\x0b")[3:], b"\xff\x85\x0b")
     check("an empty town", made(b"town:"), b"\1\0\0")
     check("fields twice", made(b"field 99: 00 ff\nfield 99:\nrows: 1"), b"\3\0\1\1\x63\0\2\0\xff\x63\0\0")
-    for text, coded in [("250", b"\xfa"), ("251", b"\0\xfb"), ("400", b"\1\x90"), ("30, in two bytes", b"\0\x1e"), ("251, in one byte", b"\xfb")]:
+    for text, coded in [("250", b"\xfa"), ("251", b"\0\xfb"), ("400", b"\1\x90"), ("30, in two bytes", b"\0\x1e"),
+                        ("251, in one byte", b"\xfb")]:
         check("rows: " + text, made(b"rows: " + text.encode()), b"\3\0" + bytes([len(coded)]) + coded)
         check("shown", TAGS[3].kind.words(coded), text)
     for text in ["54 46 31.08 N", "54°46'31.08\"N", "54° 46' 31.08\" n", "54°46′31.08″N", "054 046 31.08N"]:
         check(text, made(("latitude: " + text).encode()), b"\x12\0\5\0\x36\x2e\x1f\x08")
-    for text, coded in [("1 35 5.64 W", b"\1\1\x23\5\x40"), ("0 0 0 E", bytes(5)), ("180 0 0.5 e", b"\0\xb4\0\0\x32"), ("200 99 99.99 W", b"\1\xc8ccc")]:
+    for text, coded in [("1 35 5.64 W", b"\1\1\x23\5\x40"), ("0 0 0 E", bytes(5)), ("180 0 0.5 e", b"\0\xb4\0\0\x32"),
+                        ("200 99 99.99 W", b"\1\xc8ccc")]:
         check(text, made(b"longitude: " + text.encode()), b"\x13\0\5" + coded)
-    for text, coded in [("imsak 10, shift 0", b"\x0a\1"), ("Imsak 0 Shift -1", b"\0\0"), ("imsak 30,shift 1", b"\x1e\2"), ("imsak 255, shift 254", b"\xff\xff")]:
+    for text, coded in [("imsak 10, shift 0", b"\x0a\1"), ("Imsak 0 Shift -1", b"\0\0"), ("imsak 30,shift 1", b"\x1e\2"),
+                        ("imsak 255, shift 254", b"\xff\xff")]:
         check("ramadan: " + text, made(b"ramadan: " + text.encode()), b"\x14\0\2" + coded)
     check("as listed", made(b"fields: as listed\nbytes: 09\nrows: 1\nfield 2: 00\n"), b"\x09\3\0\1\1\2\0\1\0")
     check("comments and a byte order mark", made(b"\xef\xbb\xbf# June\r\n\r\n  # rows: 2\r\n rows : 1 \r\n"), b"\3\0\1\1")
@@ -115,7 +118,8 @@ def tables():
         with open(os.path.join(ROOT, "crates", "models", "src", name + ".rt")) as file:
             numbers = file.read().partition("pub fn number(self)")[2].partition("of_number")[0]
         check("names of " + name, TAGS[tag].kind.names, {int(n): known for known, n in re.findall(r"::(\w+) => (\d+),", numbers)})
-    for preset, (fajr, isha, _, interval, rounding, _) in zip(PRESETS, cases.METHODS, strict=True):
+    check("as many methods", len(PRESETS), len(cases.METHODS))
+    for preset, (fajr, isha, _, interval, rounding, _) in zip(PRESETS, cases.METHODS):
         names = TAGS[9].kind.names
         check(preset.name, preset[1:], (fajr, isha, interval, names[rounding]))
     check("lengths", {tag: list(row.lengths) for tag, row in TAGS.items()}, {tag: list(lengths) for tag, lengths in cases.LENGTHS.items()})
@@ -155,10 +159,16 @@ def in_words():
 
 def unread_lines():
     """Each must be refused by its line's number, and nothing be written."""
-    for line in ["town Durham", "villages: 3", "first day: 1 June 2026", "first day: 2026-06", "first day: 70000-01-01", "first day: 2026-256-01", "rows: many",
-                 "rows: 65536", "rows: 256, in one byte", "rows: 3, in three bytes", "rows: -1", "rows: 1.0", "latitude: 54,7", "latitude: north", "latitude: 1_0", "latitude:", "latitude: 54 46 31.08", "latitude: 54 46 31.08 E", "latitude: 54 46 31.080 N", "longitude: 1 35 N", "latitude: 256 0 0 N", "fajr angle: 18 0 0 N", "method: Durham", "method:",
-                 "method: 1 Karachi", "method: 256", "minutes: 1 2 3 4 5", "minutes: noon 5", "minutes: dhuhr", "minutes: isha 1 isha 2", "minutes: 0 0 0 0 0 32768",
-                 "isha interval: 65536", "ramadan: 10 0", "ramadan: imsak 10", "ramadan: imsak 256, shift 0", "ramadan: imsak 10, shift -2", "ramadan: imsak 10, shift 255",
+    for line in ["town Durham", "villages: 3", "first day: 1 June 2026", "first day: 2026-06", "first day: 70000-01-01",
+                 "first day: 2026-256-01", "rows: many",
+                 "rows: 65536", "rows: 256, in one byte", "rows: 3, in three bytes", "rows: -1", "rows: 1.0", "latitude: 54,7",
+                 "latitude: north", "latitude: 1_0", "latitude:", "latitude: 54 46 31.08", "latitude: 54 46 31.08 E",
+                 "latitude: 54 46 31.080 N", "longitude: 1 35 N", "latitude: 256 0 0 N", "fajr angle: 18 0 0 N", "method: Durham",
+                 "method:",
+                 "method: 1 Karachi", "method: 256", "minutes: 1 2 3 4 5", "minutes: noon 5", "minutes: dhuhr", "minutes: isha 1 isha 2",
+                 "minutes: 0 0 0 0 0 32768",
+                 "isha interval: 65536", "ramadan: 10 0", "ramadan: imsak 10", "ramadan: imsak 256, shift 0", "ramadan: imsak 10, shift -2",
+                 "ramadan: imsak 10, shift 255",
                  r"town: a\b", r"town: \x4", "field 256: 00", "field 9: 0", "field: 00", "bytes: xy", "fields: sorted", "rows: \u0663",
                  "rows: " + "9" * 5000]:
         try:
@@ -186,8 +196,10 @@ def commands():
         options(text)
         refused(text, out)
         check("help", run("--help")[0], 0)
-        for words in [[], ["show", out + "3"], ["print", text], ["make", text, text], ["make", text, "--rows"], ["make", text, "--row", "2"],
-                      ["make", text, "--out"], ["make", text, "--rows", "--anyway"], ["show", "--anyway", out], ["show", "-x"], ["make"], ["show"]]:
+        for words in [[], ["show", out + "3"], ["print", text], ["make", text, text], ["make", text, "--rows"],
+                      ["make", text, "--row", "2"],
+                      ["make", text, "--out"], ["make", text, "--rows", "--anyway"], ["show", "--anyway", out], ["show", "-x"], ["make"],
+                      ["show"]]:
             status, printed, said = run(*words)
             check("usage %s" % words, (status, printed, said.count("\n")), (2, b"", 1))
 
@@ -196,12 +208,17 @@ def options(text):
     changed = POLE.replace(b"rows: 1", b"rows: 7").replace(b"longitude: 0", b"longitude: -1e-5")
     check("options over the text", run("make", "--rows", "7", text, "--longitude", "-1e-5"), (0, made(changed), NOTE))
     check("an option with its sign", run("make", "--anyway", text, "--latitude=-inf")[1], made(POLE.replace(b"90", b"-inf")))
-    check("options alone", run("make", "--town", "Pole", "--method", "0", "--rows", "1", "--first-day", "2026-06-21", "--latitude", "90", "--longitude", "0"),
+    check("options alone",
+          run("make", "--town", "Pole", "--method", "0", "--rows", "1", "--first-day", "2026-06-21", "--latitude", "90", "--longitude",
+              "0"),
           (0, POLE_ORDER, NOTE))
     listed = b"fields: as listed\nmethod: 0\nrows: 1\nfield 3:\ntown: A"
-    check("an option in the place of a field as listed", run("make", "--anyway", "-", "--rows=2", given=listed)[1], b"\6\0\1\0" b"\3\0\1\2" b"\1\0\1A")
-    check("one form as an option over the other", run("make", text, "--latitude", "90 0 0 N")[1], made(POLE.replace(b"latitude: 90", b"latitude: 90 0 0 N")))
-    check("and back", run("make", "-", "--latitude", "90", given=POLE.replace(b"latitude: 90", b"latitude: 1 2 3.04 S")), (0, POLE_ORDER, NOTE))
+    check("an option in the place of a field as listed", run("make", "--anyway", "-", "--rows=2", given=listed)[1],
+          b"\6\0\1\0" b"\3\0\1\2" b"\1\0\1A")
+    check("one form as an option over the other", run("make", text, "--latitude", "90 0 0 N")[1],
+          made(POLE.replace(b"latitude: 90", b"latitude: 90 0 0 N")))
+    check("and back", run("make", "-", "--latitude", "90", given=POLE.replace(b"latitude: 90", b"latitude: 1 2 3.04 S")),
+          (0, POLE_ORDER, NOTE))
     check("fields by tag as options", run("make", "--anyway", "--field", "99:00ff", "--field", "99:")[1], b"\x63\0\2\0\xff\x63\0\0")
     check("options over an order", run("make", "-", "--rows", "7", given=POLE_ORDER)[1], made(POLE.replace(b"rows: 1", b"rows: 7")))
 
@@ -236,15 +253,18 @@ def ramadan():
         for day in days:
             text = FAST.replace(b"2026-02-18", day.encode()).replace(b"shift 0", b"shift %d" % shift)
             check("read: %s with shift %d" % (day, shift), reading.read(made(text)).refusal, None)
-    check("an Islamic year", run("ramadan", "1447"), (0, b"Ramadan 1447, shift -1: first day 2026-02-17\nRamadan 1447, shift  0: first day 2026-02-18\n"
+    check("an Islamic year", run("ramadan", "1447"),
+          (0, b"Ramadan 1447, shift -1: first day 2026-02-17\nRamadan 1447, shift  0: first day 2026-02-18\n"
                                                          b"Ramadan 1447, shift  1: first day 2026-02-19\n", ""))
     check("the year it begins in", run("ramadan", "2026"), run("ramadan", "1447"))
     check("a year with two", run("ramadan", "2030")[1].count(b"\n"), 6)
-    for words in [["ramadan"], ["ramadan", "x"], ["ramadan", "1316"], ["ramadan", "1627"], ["ramadan", "1899"], ["ramadan", "2200"], ["ramadan", "1447", "2026"]]:
+    for words in [["ramadan"], ["ramadan", "x"], ["ramadan", "1316"], ["ramadan", "1627"], ["ramadan", "1899"], ["ramadan", "2200"],
+                  ["ramadan", "1447", "2026"]]:
         status, printed, said = run(*words)
         check("usage %s" % words, (status, printed, said.count("\n")), (2, b"", 1))
     lines, refusal = shown(made(FAST.replace(b"02-18", b"02-17")))
-    check("another day", (lines[-2:], refusal[:2]), (["# 2026-02-17 is no first of Ramadan with shift 0; katchidul ramadan 2026 prints those that are",
+    check("another day", (lines[-2:], refusal[:2]),
+          (["# 2026-02-17 is no first of Ramadan with shift 0; katchidul ramadan 2026 prints those that are",
           "# Refusal 18: the sheet does not begin on the 1st of Ramadan: first day, tag 2"], (18, 2)))
     lines, refusal = shown(made(FAST))
     check("a Ramadan sheet", (lines[6], refusal), ("ramadan: imsak 10, shift 0", None))

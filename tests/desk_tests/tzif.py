@@ -56,7 +56,8 @@ class Zone:
         if not found[4]:
             return [(-2**62, standard)]
         summer = -seconds(*found[5:9]) if found[6] else standard + 3600
-        return [(change(year, found[9]) - standard, summer) for year in years] + [(change(year, found[10]) - summer, standard) for year in years]
+        return [(change(year, found[9]) - standard, summer) for year in years] + [(change(year, found[10]) - summer,
+                                                                                   standard) for year in years]
 
     def changes(self, first, last):
         """The instants between two at which the clock may change."""

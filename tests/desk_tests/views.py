@@ -30,7 +30,8 @@ def unchanged():
     check("of a text", run("sheet", june)[1], (ROOT / "examples" / "durham-june.sheet").read_bytes())
     check("of a text with an option", run("wear", june, "--clock", "+01:00")[1], b"dots 2653\n")
     status, printed, said = run("sheet", ROOT / "examples" / "cut.order")
-    check("a refused order's reason", said.splitlines()[0], "katchidul: cut.order is refused: at byte 20, the order ends inside latitude (tag 4), after 3 of 8 bytes")
+    check("a refused order's reason", said.splitlines()[0],
+          "katchidul: cut.order is refused: at byte 20, the order ends inside latitude (tag 4), after 3 of 8 bytes")
 
 
 def expected_table(order):
@@ -80,14 +81,17 @@ def pages():
             continue
         order = path.read_bytes()
         rows = [braille.digits(row).split() for page in braille.pages(order) for row in page]
-        for row, (date, times) in zip(rows, expected_table(order), strict=True):
+        expected = list(expected_table(order))
+        check("rows of the table of " + path.name, len(rows), len(expected))
+        for row, (date, times) in zip(rows, expected):
             six = ["--:--"] * 6 if times.startswith("refused") else [time[:5] for time in times.split(" ")[-9:-3]]
             check("%s of %s" % (date, path.name), row, [date[8:], *six])
     status, printed, _ = run("cells", ROOT / "examples" / "durham-clock.order")
     lines = printed.decode().splitlines()
     check("cells", (status, lines[0], lines[1][-40:], lines[-1]), (0, "page 1", " 01  01:05 04:36 13:05 17:31 21:33 01:04", "dots 2653"))
     status, printed, said = started("cells", ROOT / "examples" / "durham-clock.order", env={**os.environ, "PYTHONIOENCODING": "ascii"})
-    check("on a terminal of ASCII", (status, all(byte < 128 for byte in printed), printed.splitlines()[1][:9], "ASCII braille" in said), (0, True, b"#JA #JAJE", True))
+    check("on a terminal of ASCII", (status, all(byte < 128 for byte in printed), printed.splitlines()[1][:9], "ASCII braille" in said),
+          (0, True, b"#JA #JAJE", True))
     status, printed, _ = run("brf", ROOT / "examples" / "durham-clock.order")
     check("BRF", (status, printed.count(b"\r\n"), printed.count(b"\f"), printed[:10]), (0, 30, 2, b"#JA #JAJE "))
     check("no BRF of a refused order", run("brf", ROOT / "examples" / "cut.order")[:2], (1, b""))
@@ -100,7 +104,8 @@ def several():
     check("no plain cells of two", run("cells", "--plain", june, clock)[:2], (2, b""))
     text = b"town: Leeds\nmonth: 2026-10\nplace: 53.8008, -1.5491\nmethod: MWL\nzone: Europe/London\n"
     status, printed, said = run("brf", "-", given=text)
-    check("a text with a zone in one BRF", (status, printed.count(b"\r\n"), printed.count(b"\f"), "checked: the 186 times" in said), (0, 31, 2, True))
+    check("a text with a zone in one BRF", (status, printed.count(b"\r\n"), printed.count(b"\f"), "checked: the 186 times" in said),
+          (0, 31, 2, True))
     status, printed, said = run("table", "-", given=text)
     check("its table", (status, printed.count(b"clock: UTC"), b"\nSun 2026-10-25 04:54 " in printed), (0, 2, True))
     check("its orders in words", re.findall(rb"^(?:first day|clock): .*$", run("show", "-", given=text)[1], re.MULTILINE),
@@ -135,6 +140,16 @@ def week():
             check("a window of " + path.name, re.sub(r" +", " ", line), " ".join(wanted))
 
 
+def weeks_by_a_zone():
+    text = b"town: Leeds\nmonth: 2026-10\nplace: 53.8008, -1.5491\nmethod: MWL\nzone: Europe/London\n"
+    status, printed, said = run("week", "-", given=text)
+    reported = printed.decode().splitlines()
+    check("a report for each clock", (status, [line[-9:] for line in reported if "by the clock" in line]), (0, ["UTC+01:00", "UTC+00:00"]))
+    check("the last seven days of each", (reported[20][:24], reported[-1][:24]), ("2026-10-18 to 2026-10-24", "2026-10-25 to 2026-10-31"))
+    check("the days of the change are told", "a change of the clock among them are in none" in said, True)
+    check("without a change nothing is said", run("week", "-", "--month", "2026-06", given=text)[2], "")
+
+
 def minute(count):
     return "%02d:%02d" % (count % 1440 // 60, count % 60) + ("%+d" % (count // 1440) if count // 1440 else "")
 
@@ -165,4 +180,4 @@ def guide():
     check("the text of Ramadan", run("table", "-", given=chicago.encode())[0], 0)
 
 
-TESTS = [guide, unchanged, table, pages, several, week, help_everywhere]
+TESTS = [guide, unchanged, table, pages, several, week, weeks_by_a_zone, help_everywhere]

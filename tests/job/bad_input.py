@@ -236,7 +236,7 @@ def embosser_dies(checks, built, seed, long):
 
 
 def asked(trial, stopped=False):
-    """What the embosser answers to a host that asks for job 1; nothing where it is stopped, and the host gone before it goes on."""
+    """What the embosser answers to a host that asks for job 1; nothing if it is stopped, and the host gone before it goes on."""
     with socket.socket(socket.AF_UNIX) as host:
         host.settimeout(5)
         host.connect(trial.socket)
@@ -249,7 +249,7 @@ def asked(trial, stopped=False):
 
 def gone_hosts(checks, built):
     """A host that asks and is gone before the embosser looks: it answers the next one, and has the pages that it had. Built so that the
-    compiler's checks end it where it goes beyond its buffer."""
+    compiler's checks end it if it goes beyond its buffer."""
     with Trial(built, [GOOD]) as trial:
         trial.run()
         trial.stop_embosser()

@@ -3,8 +3,11 @@ import ctypes
 import os
 import pathlib
 import subprocess
+import sys
 
-ROOT = pathlib.Path(__file__).resolve().parent.parent.parent
+sys.path.insert(0, str(pathlib.Path(__file__).resolve().parent.parent))
+from shared import ROOT, library  # noqa: E402
+
 FLAGS = ["gcc", "-std=c11", "-Wall", "-Wextra", "-Wpedantic", "-Werror", "-O2"]
 
 
@@ -90,7 +93,7 @@ class Library:
         return sum(self.write_page(order, at, scratch).dots for at in range(1, page + 1))
 
     def turns(self, pages):
-        """Job and page of each turn, where the jobs 1, 2, 3, .. have so many pages and all wait from the beginning."""
+        """Job and page of each turn, if the jobs 1, 2, 3, .. have so many pages and all wait from the beginning."""
         queue, turns = Queue(), []
         for job, count in enumerate(pages, 1):
             queue = self.calls["join"](queue, job, count).queue
@@ -114,14 +117,8 @@ class Library:
 class Built:
     def __init__(self, folder, sanitize=False):
         self.folder = pathlib.Path(folder)
-        archive = os.environ.get("LIBRARY")
-        if not archive:
-            subprocess.run(["rt", "staticlib", "katchidul"], cwd=ROOT, check=True)
-            archive = "target/staticlib/libkatchidul.a"
-        self.archive = str(ROOT / archive)
-        shared = str(self.folder / "library.so")
-        self.run(["gcc", "-shared", "-o", shared, "-Wl,--whole-archive", self.archive, "-Wl,--no-whole-archive"])
-        self.library = Library(shared)
+        self.archive = library.archive()
+        self.library = Library(library.shared_object(folder))
         self.stopper = self.made("stopper.so", [ROOT / "tests/job/stopper.c"], "-shared", "-fPIC")
         self.flags = "-g -fsanitize=address,undefined -fno-sanitize-recover -static-libasan -static-libubsan".split() if sanitize else []
         self.host, self.embosser = self.build("plain", ROOT / "host")
@@ -155,7 +152,7 @@ class Built:
         """A host with one place of its text changed; the place must be there once."""
         text = (ROOT / "host" / file).read_text()
         if text.count(old) != 1:
-            raise ValueError(f"{name}: the text to change stands {text.count(old)} times in {file}")
+            raise ValueError(f"{name}: the text to change is there {text.count(old)} times in {file}")
         folder = self.folder / name.replace(" ", "-")
         folder.mkdir()
         (folder / file).write_text(text.replace(old, new))

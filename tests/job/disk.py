@@ -1,5 +1,5 @@
-# What lasts of a spool where the power fails: a model of a disk that follows the calls of a host, line by line as stopper.c traces them. A
-# file has the bytes of its last flush, and a name lasts once the folder that it stands in is flushed; until then either may be as before or
+# What lasts of a spool when the power fails: a model of a disk that follows the calls of a host, line by line as stopper.c traces them. A
+# file has the bytes of its last flush, and a name lasts once the folder that it is in is flushed; until then either may be as before or
 # as after. A rename is in both of its folders or in neither, as on every file system that has a journal.
 import os
 
@@ -34,7 +34,7 @@ class Disk:
             file.lasts = b""
 
     def begin(self, folder, path):
-        """All that stands there at the beginning lasts."""
+        """All that is there at the beginning lasts."""
         for entry in os.scandir(path):
             if entry.is_dir():
                 node = Folder()
@@ -103,7 +103,7 @@ class Disk:
         return node.lasts if isinstance(node, File) else None
 
     def lay_down(self, spool, draw):
-        """Writes what a failure of power may leave, in place of what stands there."""
+        """Writes what a failure of power may leave, in place of what is there."""
         self.write(self.root, spool, self.names(draw), draw)
 
     def write(self, folder, path, names, draw):

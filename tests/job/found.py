@@ -49,17 +49,18 @@ def lost_when_a_job_comes_back(built):
 
 
 def each_failing(built, calls, lay, judge, error=errno.EIO):
-    """Each of these calls of a run fails, in turn, on a spool of its own; `judge` then gives the faults."""
+    """Each of these calls of a run fails, in turn, on a spool of its own; `judge` then gives the faults. The calls of each name are counted
+    apart: on a busy machine a host waits more often, and its hundredth call is another one."""
     with Trial(built, [FIRST, SECOND]) as trial:
         lay(trial)
         trial.run(count=trial.folder / "count")
         made = (trial.folder / "count").read_text().splitlines()
     wrong = []
-    for at in [at for at, call in enumerate(made, 1) if call in calls]:
+    for call, at in [(call, at) for call in sorted(calls) for at in range(1, made.count(call) + 1)]:
         with Trial(built, [FIRST, SECOND]) as trial:
             lay(trial)
-            trial.run(after=at, how="fail", error=error)
-            wrong += [f"{made[at - 1]}, call {at}: {fault}" for fault in judge(trial)]
+            trial.run(after=at, how="fail", call=call, error=error)
+            wrong += [f"{call} {at}: {fault}" for fault in judge(trial)]
     return wrong
 
 

@@ -114,6 +114,9 @@ def odd_orders(built):
             (here / name).write_bytes(SMALL)
         (here / ".dot").write_bytes(SMALL)
         (here / "big").write_bytes(b"\0" * 1025)
+        (here / "text").write_text("town: Ripon\n")
+        (here / "empty").touch()
+        (here / "cut").write_bytes(SMALL[:-1])
         os.mkfifo(here / "pipe")
         os.symlink("with blank", here / "link")
         back = os.getcwd()
@@ -121,8 +124,9 @@ def odd_orders(built):
         try:
             taken = [name for name in ("-p", "--help", long, "with blank", "café") if command(trial, "submit", "./" + name)[0] == 0]
             again_ = command(trial, "submit", "with blank")
-            refused = [name for name in (".dot", "big", "pipe", "link", "/dev/zero", "nowhere", ".", "")
+            refused = [name for name in (".dot", "big", "pipe", "link", "/dev/zero", "nowhere", ".", "", "text", "empty", "cut")
                        if command(trial, "submit", name)[0] != 1]
+            said = "".join(command(trial, "submit", name)[1] for name in ("text", "empty", "cut"))
             (here / "-spool").mkdir()
             with redirect_stdout(io.StringIO()):
                 dashed = package.main(["-d", "-spool", "submit", "-p"])
@@ -130,6 +134,8 @@ def odd_orders(built):
             os.chdir(back)
         wrong += [] if len(taken) == 5 else [f"taken are {taken}"]
         wrong += [f"{name} is submitted" for name in refused]
+        sentences = ("text is a text, and the spool takes orders", "empty is empty", "cut is refused: at byte ")
+        wrong += [f"not said: {part}: {said}" for part in sentences if part not in said]
         wrong += [] if again_[0] == 1 and "waits in the spool already" in again_[1] else [f"twice: {again_}"]
         wrong += [] if dashed == 0 and (here / "-spool/in/-p").read_bytes() == SMALL else ["a spool that begins with '-'"]
         left = [name for name in os.listdir(trial.spool / "in") if name.startswith(".")]

@@ -35,6 +35,18 @@ def stays_and_waits(built):
         return wrong + trial.faults()
 
 
+def machine_that_is_late(built):
+    """A machine that listens a moment after the host began is not waited for long, whatever the patience."""
+    with Trial(built, [GOOD], None, ["-t", 1]) as trial:
+        trial.stop_embosser()
+        began, host = time.monotonic(), trial.begin(patience=60000)
+        time.sleep(0.3)
+        trial.start_embosser()
+        trial.end(host)
+        took = time.monotonic() - began
+        return trial.faults() + ([] if took < 5 else [f"it took {took:.1f} seconds"])  # a later pause alone takes 6
+
+
 def ends_between_two_messages(built, seed, trials):
     wrong, ended = [], 0
     for number in range(trials):
@@ -117,6 +129,6 @@ def tells_what_it_does(built):
 
 
 def run(checks, built, seed, long):
-    for test in (stays_and_waits, another_spool, a_spool_keeps_its_name, odd_greetings, tells_what_it_does):
+    for test in (stays_and_waits, machine_that_is_late, another_spool, a_spool_keeps_its_name, odd_greetings, tells_what_it_does):
         checks.check(test.__name__.replace("_", " "), test(built))
     checks.check("ends between two messages", ends_between_two_messages(built, seed, 200 if long else 15))

@@ -1,8 +1,9 @@
 /* Preloaded into a host: counts its calls, and at the one whose number is STOPPER_AFTER does what STOPPER_HOW says:
        kill    lets it come to its end, and ends the process by its own id
-       torn    lets half of its bytes through, where it has any, and ends the process
-       fail    does nothing, and answers that it failed by STOPPER_ERROR, a number
-   kill and torn count the calls that write, to the disk, to the link or to a person; fail counts every call.
+       torn    lets half of its bytes through, if it has any, and ends the process
+       fail    does nothing, and says that it failed by STOPPER_ERROR, a number
+   kill and torn count the calls that write, to the disk, to the link or to a person; fail counts every call, or those of the one name that
+   STOPPER_CALL says.
    STOPPER_SHORT: reads and writes take that many bytes at most, each time.
    STOPPER_TRACE names a file to which each call that writes is appended when it came to its end, a line each, with names from the spool on:
    what the spool is, STOPPER_SPOOL says. STOPPER_COUNT names a file that gets a line for each call, of whatever kind.
@@ -28,7 +29,7 @@ static long calls, writes, stop_after;
 static char how = 'k';
 static int trace = -1, counted = -1, error = EIO;
 static size_t most = (size_t)-1;
-static const char *spool = "";
+static const char *spool = "", *only;
 
 typedef struct {
   char text[4096];
@@ -43,6 +44,7 @@ __attribute__((constructor)) static void read_settings(void) {
   const char *after = getenv("STOPPER_AFTER"), *way = getenv("STOPPER_HOW");
   if (after) stop_after = atol(after);
   if (way) how = way[0];
+  only = getenv("STOPPER_CALL");
   if (getenv("STOPPER_SPOOL")) spool = getenv("STOPPER_SPOOL");
   if (getenv("STOPPER_ERROR")) error = atoi(getenv("STOPPER_ERROR"));
   if (getenv("STOPPER_SHORT")) most = (size_t)atol(getenv("STOPPER_SHORT"));
@@ -93,12 +95,12 @@ static void note_bytes(const char *what, const char *name, const void *bytes, si
 
 /* True if the call has to fail. */
 static int fails(const char *call) {
-  calls++;
+  calls += only == NULL || strcmp(call, only) == 0;
   if (counted >= 0) {
     char line[64];
     syscall(SYS_write, counted, line, (size_t)snprintf(line, sizeof line, "%s\n", call));
   }
-  if (how != 'f' || calls != stop_after) return 0;
+  if (how != 'f' || calls != stop_after || (only != NULL && strcmp(call, only) != 0)) return 0;
   errno = error;
   return 1;
 }

@@ -98,7 +98,7 @@ class Trial:
         return self.status
 
     def run(self, **words):
-        """A host from its start to its end. On a busy machine the embosser may be late for ten tries in a row; then another is begun."""
+        """A host from its start to its end. On a busy machine the embosser may be late for all tries of a host; then another is begun."""
         for _ in range(20):
             self.end(self.begin(**words))
             if self.status != 3 or not self.embosser:

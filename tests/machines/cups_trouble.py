@@ -250,8 +250,15 @@ def check_killed_at_completion(check, place):
 
 
 def check_ended_in_order(check, place):
-    """CUPS is stopped in order while it prints a page, and started again: before the machine is connected, and while it finishes."""
+    """CUPS is stopped in order while it prints a page, and started again: before the machine is connected, while it finishes, and with a
+    new driver."""
     room = Room(place, "in-order", options=("--finish", "5"))
+    link = ended_while_it_finishes(check, room, ended_before_it_connects(check, room))
+    ended_with_the_driver(check, room, link)
+    room.end()
+
+
+def ended_before_it_connects(check, room):
     room.port.end()
     link = room.begin_page()
     wait_until(lambda: "Connecting to printer" in room.cups.log())
@@ -260,9 +267,13 @@ def check_ended_in_order(check, place):
     room.port.listen()
     check("in order: CUPS prints what it had not sent", link.hear(), ["done", "5", "1"])
     check("in order: once", len(room.port.arrived), 1)
+    return link
+
+
+def ended_while_it_finishes(check, room, link):
     room.port.pause = 1.5
     before = room.cups.log().count("cups-waiting-for-job-completed")
-    send_page(link, place.lib, 2, first=False)
+    send_page(link, room.lib, 2, first=False)
     wait_until(lambda: room.cups.log().count("cups-waiting-for-job-completed") > before and "sent 2" in room.record())
     time.sleep(0.4)
     room.cups.end()
@@ -278,7 +289,11 @@ def check_ended_in_order(check, place):
     room.cups.start()
     time.sleep(0.5)
     check("in order: the next CUPS does not print it", len(room.port.arrived), 2)
-    send_page(link, place.lib, 3)
+    return link
+
+
+def ended_with_the_driver(check, room, link):
+    send_page(link, room.lib, 3)
     wait_until(lambda: len(room.port.arrived) == 3)
     room.driver.kill()
     room.cups.end()
@@ -293,7 +308,6 @@ def check_ended_in_order(check, place):
     begun = len(re.findall(r"\[Job \d+\] Started backend", room.cups.log()))
     check("in order: no page that CUPS did not begin again is there twice", len(room.port.arrived) <= begun, True)
     link.close()
-    room.end()
 
 
 def check_cups_away(check, place):

@@ -1,7 +1,6 @@
-"""Orders for the tests, and their pages by the library itself, over a shared object that is made of the archive."""
+"""Orders for the tests, and their pages by the library itself, over a shared object of it."""
 import ctypes
 import struct
-import subprocess
 
 ROW, PAGE = 39, 25
 BRF = " A1B'K2L@CIF/MSP\"E3H9O6R^DJG>NTQ,*5<-U8V.%[$+X!&;:4\\0Z7(_?W]#Y)="
@@ -12,9 +11,8 @@ class Cells(ctypes.Structure):
 
 
 class Library:
-    def __init__(self, archive, shared):
-        subprocess.run(["gcc", "-shared", "-o", str(shared), "-Wl,--whole-archive", str(archive), "-Wl,--no-whole-archive"], check=True)
-        self.write = ctypes.CDLL(str(shared)).katchidul_write_page
+    def __init__(self, shared):
+        self.write = ctypes.CDLL(shared).katchidul_write_page
         self.write.restype = Cells
         self.write.argtypes = [ctypes.c_char_p, ctypes.c_size_t, ctypes.c_uint32, ctypes.c_uint32, ctypes.c_char_p, ctypes.c_size_t]
 

@@ -1,4 +1,5 @@
 """Whole jobs over each kind of machine, without accidents: every page once, in order, its rows as the library writes them."""
+import re
 import time
 
 import library
@@ -65,6 +66,9 @@ def over_port(check, place):
     run_host(driver, jobs)
     compare(check, "TCP", jobs, port.arrived)
     check("TCP: the driver ends with status 0", driver.end(), 0)
+    stamp = re.compile(r"\d{4}-\d\d-\d\dT\d\d:\d\d:\d\d[+-]\d\d:\d\d katchidul-port: ")
+    odd = [line for line in driver.said().splitlines() if not stamp.match(line)]
+    check("TCP: each line begins with its time, as the host's do", odd, [])
     port.end()
 
 

@@ -7,12 +7,16 @@ import random
 import struct
 import sys
 
-LENGTHS = {1: range(1, 41), 2: [4], 3: [1, 2], 4: [8], 5: [8], 6: [1], 7: [1], 8: [1], 9: [1], 10: [1], 11: [12], 12: [8], 13: [8], 14: [2], 15: [1],
+LENGTHS = {1: range(1, 41), 2: [4], 3: [1, 2], 4: [8], 5: [8], 6: [1], 7: [1], 8: [1], 9: [1], 10: [1], 11: [12], 12: [8], 13: [8], 14: [2],
+           15: [1],
            16: [2], 17: [1], 18: [5], 19: [5], 20: [2]}
 # By method: Fajr, Isha and Maghrib angle, interval, rounding, and the minutes for sunrise, Dhuhr, Asr and Maghrib.
-METHODS = [(18.0, 17.0, 0.0, 0, 0, (0, 1, 0, 0)), (19.5, 17.5, 0.0, 0, 0, (0, 1, 0, 0)), (18.0, 18.0, 0.0, 0, 0, (0, 1, 0, 0)), (18.5, 0.0, 0.0, 90, 0, (0, 0, 0, 0)),
-           (18.2, 18.2, 0.0, 0, 0, (-3, 3, 3, 3)), (18.0, 18.0, 0.0, 0, 0, (0, 5, 0, 3)), (15.0, 15.0, 0.0, 0, 0, (0, 1, 0, 0)), (18.0, 17.5, 0.0, 0, 0, (0, 0, 0, 0)),
-           (18.0, 0.0, 0.0, 90, 0, (0, 0, 0, 0)), (20.0, 18.0, 0.0, 0, 1, (0, 1, 0, 0)), (17.7, 14.0, 4.5, 0, 0, (0, 0, 0, 0)), (18.0, 17.0, 0.0, 0, 0, (-7, 5, 4, 7)),
+METHODS = [(18.0, 17.0, 0.0, 0, 0, (0, 1, 0, 0)), (19.5, 17.5, 0.0, 0, 0, (0, 1, 0, 0)), (18.0, 18.0, 0.0, 0, 0, (0, 1, 0, 0)),
+           (18.5, 0.0, 0.0, 90, 0, (0, 0, 0, 0)),
+           (18.2, 18.2, 0.0, 0, 0, (-3, 3, 3, 3)), (18.0, 18.0, 0.0, 0, 0, (0, 5, 0, 3)), (15.0, 15.0, 0.0, 0, 0, (0, 1, 0, 0)),
+           (18.0, 17.5, 0.0, 0, 0, (0, 0, 0, 0)),
+           (18.0, 0.0, 0.0, 90, 0, (0, 0, 0, 0)), (20.0, 18.0, 0.0, 0, 1, (0, 1, 0, 0)), (17.7, 14.0, 4.5, 0, 0, (0, 0, 0, 0)),
+           (18.0, 17.0, 0.0, 0, 0, (-7, 5, 4, 7)),
            (0.0, 0.0, 0.0, 0, 0, (0, 0, 0, 0))]
 LAST = datetime.date(2199, 12, 31)
 # The tags of a coordinate as a float and as on the map.
@@ -149,8 +153,10 @@ def line(order):
     own = struct.unpack(">6h", values.get(11, bytes(12)))
     minutes = struct.unpack(">H", values[14])[0] if 14 in values else interval
     town = next(at for at, tag in offsets(order) if tag == 1) + 3
-    numbers = [0, 0, town, len(values[1]), date.year, date.month, date.day, int.from_bytes(values[3], "big"), bits(coordinate(values, 4, 18)),
-               bits(coordinate(values, 5, 19)), method, one(7, 1), one(8, 0), one(9, rounding), one(10, 0), bits(angle(12, fajr)), bits(angle(13, isha)),
+    numbers = [0, 0, town, len(values[1]), date.year, date.month, date.day, int.from_bytes(values[3], "big"),
+               bits(coordinate(values, 4, 18)),
+               bits(coordinate(values, 5, 19)), method, one(7, 1), one(8, 0), one(9, rounding), one(10, 0), bits(angle(12, fajr)),
+               bits(angle(13, isha)),
                bits(maghrib), minutes, *own, 0, *brought, 0, one(15, 0), *struct.unpack(">h", values.get(16, bytes(2))), one(17, 0),
                *([1, values[20][0], values[20][1] - 1] if 20 in values else [0, 0, 0])]
     return b"".join(b"%d " % n for n in numbers) + values[1] + b"\n"
@@ -169,7 +175,8 @@ def good(draw):
               (2, struct.pack(">HBB", date.year, date.month, date.day)), (3, rows.to_bytes(size, "big")),
               draw.choice([(4, double(-90.0, 90.0)), (18, on_map(90))]), draw.choice([(5, double(-180.0, 180.0)), (19, on_map(180))]),
               (6, bytes([draw.randrange(13)]))]
-    more = [(7, bytes([draw.randint(1, 2)])), (8, bytes([draw.randrange(3)])), (9, bytes([draw.randrange(3)])), (10, bytes([draw.randrange(3)])),
+    more = [(7, bytes([draw.randint(1, 2)])), (8, bytes([draw.randrange(3)])), (9, bytes([draw.randrange(3)])),
+            (10, bytes([draw.randrange(3)])),
             (11, struct.pack(">6h", *[draw.choice([-720, 720, 0, draw.randint(-720, 720)]) for _ in range(6)])), (12, double(0.0, 30.0)),
             (13, double(0.0, 30.0)), (14, struct.pack(">H", draw.choice([0, 1440, draw.randint(0, 1440)]))),
             (15, bytes([draw.randrange(2)])), (16, struct.pack(">h", draw.choice([-840, 840, 0, draw.randint(-840, 840)]))),
@@ -206,7 +213,9 @@ def ramadan(draw, fields):
 
 def out_of_range(draw, tag, value):
     if tag in (4, 5, 12, 13):
-        return struct.pack(">d", draw.choice([float("nan"), float("inf"), float("-inf"), -90.00000000000001, 90.00000000000001, -180.00000000000003,
+        return struct.pack(">d",
+                           draw.choice([float("nan"), float("inf"), float("-inf"), -90.00000000000001, 90.00000000000001,
+                                        -180.00000000000003,
                                               180.00000000000003, -5e-324, 30.000000000000004]))
     return bytes(draw.choice([byte, byte ^ 1, byte ^ 128, 0, 255, draw.randrange(256)]) for byte in value)
 
@@ -296,7 +305,8 @@ def broken():
 
 def dates_and_rows():
     # a date: months and days that there are not, both ends of the years; before the rows
-    orders = [but({2: date_bytes(*day)}) for day in ((2026, 13, 1), (2026, 0, 1), (2026, 4, 31), (2026, 2, 29), (2023, 2, 29), (2024, 2, 29))]
+    orders = [but({2: date_bytes(*day)}) for day in ((2026, 13, 1), (2026, 0, 1), (2026, 4, 31), (2026, 2, 29), (2023, 2, 29),
+                                                     (2024, 2, 29))]
     orders += [but({2: date_bytes(*day)}) for day in ((1899, 12, 31), (1900, 1, 1), (2199, 12, 31), (2200, 1, 1))]
     orders += [but({2: date_bytes(2026, 4, day), 3: b"\0"}) for day in (31, 30)]
     # rows: 1 to 250, the last by 2199-12-31
@@ -311,12 +321,14 @@ def dates_and_rows():
 
 def numbers():
     # floats: both ends, the next beyond them, NaN, and -0.0, which is read as 0.0
-    orders = [but({tag: real_bytes(sign * x)}) for tag, most in ((4, 90.0), (5, 180.0)) for sign in (1, -1) for x in (most, after(most), 0.0)]
+    orders = [but({tag: real_bytes(sign * x)}) for tag,
+              most in ((4, 90.0), (5, 180.0)) for sign in (1, -1) for x in (most, after(most), 0.0)]
     orders += [but({tag: real_bytes(x)}) for tag in (12, 13) for x in (30.0, after(30.0), 0.0, -0.0, -after(0.0))]
     orders += [but({tag: real_bytes(float("nan"))}) for tag in (4, 5, 12, 13)]
     # choices: both ends and their neighbours
     orders += [but({6: bytes([number])}) for number in (12, 13)]
-    orders += [but({tag: bytes([number])}) for tag in (7, 8, 9, 10, 15, 17) for number in range(4)] + [but({tag: b"\xff"}) for tag in (15, 17)]
+    orders += [but({tag: bytes([number])}) for tag in (7, 8, 9, 10, 15, 17) for number in range(4)] + [but({tag: b"\xff"}) for tag in (15,
+                                                                                                                                       17)]
     # own minutes, signed 16-bit, which leave the method's; the interval, which leaves the Isha angle
     orders += [but({11: minutes_bytes(*pair)}) for pair in ((-720, 720), (-721, 0), (0, 721), (32767, 0), (0, -32768), (-1, 2))]
     orders += [but({14: struct.pack(">H", n)}) for n in (0, 1440, 1441)]
@@ -333,7 +345,8 @@ def on_the_map():
     given = [(tag, value) for tag, value in POLE.items() if tag not in (4, 5)]
     on_map = lambda *parts: join(given + [(tag, bytes(part)) for tag, part in parts])
     orders = [on_map((18, (sign, 21, 25, 21, 3)), (19, (1 - sign, 39, 49, 34, 32))) for sign in (0, 1)]
-    latitudes = ((0, 90, 0, 0, 0), (1, 90, 0, 0, 0), (0, 90, 0, 0, 1), (0, 89, 59, 59, 99), (1, 0, 0, 0, 0), (1, 0, 0, 0, 1), (2, 0, 0, 0, 0),
+    latitudes = ((0, 90, 0, 0, 0), (1, 90, 0, 0, 0), (0, 90, 0, 0, 1), (0, 89, 59, 59, 99), (1, 0, 0, 0, 0), (1, 0, 0, 0, 1),
+                 (2, 0, 0, 0, 0),
                  (0, 0, 60, 0, 0), (0, 0, 0, 60, 0), (0, 0, 0, 0, 100), (0, 255, 255, 255, 255), (0, 91, 0, 0, 0))
     orders += [on_map((18, part), (19, (0, 0, 0, 0, 0))) for part in latitudes]
     longitudes = ((0, 180, 0, 0, 0), (1, 180, 0, 0, 1), (1, 179, 59, 59, 99), (0, 181, 0, 0, 0), (1, 0, 60, 0, 0))
@@ -342,7 +355,8 @@ def on_the_map():
     # one coordinate in each form; both forms, which is 15 whatever stands in them, behind missing tags and before ranges, latitude first
     north, east, wild = field(18, bytes(5)), field(19, bytes(5)), field(18, b"\2\x63\x63\x63\x63")
     orders += [without(4) + north, without(5) + east, WHOLE + north, WHOLE + east, WHOLE + east + north, WHOLE + wild]
-    orders += [but({1: b"\37"}) + north, but({4: real_bytes(float("nan"))}) + wild, without(6) + north, without(5) + north, without(4) + east]
+    orders += [but({1: b"\37"}) + north, but({4: real_bytes(float("nan"))}) + wild, without(6) + north, without(5) + north,
+               without(4) + east]
     # the map form's range is judged in its own tag's turn, behind tag 5's
     return orders + [join([*given, (5, real_bytes(181.0)), (18, bytes([0, 91, 0, 0, 0]))])]
 

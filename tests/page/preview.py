@@ -142,7 +142,9 @@ def examples(check, desk, document_of, again, folder):
         order = path.read_bytes()
         if program("sheet", order).startswith(b"order refused"):
             out = folder / "refused.html"
-            check(path.name + ": a refused order has no page", (desk("preview", path, "--out", out).returncode, out.exists()), (1, False))
+            ended = desk("preview", path, "--out", out)
+            check(path.name + ": a refused order has no page", (ended.returncode, out.exists()), (1, False))
+            check(path.name + ": it is named", ended.stderr.decode().startswith("katchidul: %s is refused: " % path.name), True)
             continue
         text = document_of(order, path.stem)
         check_opened(check, path.name, order, again)

@@ -22,6 +22,7 @@ Exit status: 0 the page is written; 1 an order is refused; 2 nothing was written
 
 def one(given):
     """The timetable of what a file gave. Standard input and options have no name of their own."""
+    given.check()
     stem, suffix = os.path.splitext(given.name)
     return timetable(given.order, given.zone, stem if suffix else None)
 

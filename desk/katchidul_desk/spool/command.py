@@ -5,6 +5,7 @@ import os
 import pathlib
 import sys
 
+from .. import reading
 from . import again, asks, jobs
 from .errors import SpoolError
 from .files import read_regular, shown
@@ -60,6 +61,8 @@ def lines(found: list[jobs.Job]):
 def show_status(spool, words):
     if words not in ([], ["--all"]):
         raise Usage("status takes --all and nothing else")
+    if sys.stdout is None:
+        raise SpoolError("standard output is closed, so the status can't be shown")
     found = jobs.status(spool, None if words else 10)
     print("\n".join(lines(found)) if found else "the spool is empty")
     print("a host is at work here" if asks.host_is_at_work(spool) else "no host is at work here")
@@ -68,10 +71,23 @@ def show_status(spool, words):
 # ---- orders in
 
 
+def why_not(order):
+    """Why the host would refuse these bytes, or None: it is better told here than in the spool."""
+    if not order:
+        return "is empty"
+    if len(order) > ORDER_MAX:
+        return f"has over {ORDER_MAX:,} bytes: it is no order"
+    if b"\0" not in order:  # the length of a field begins with a zero byte, and no text has one
+        return "is a text, and the spool takes orders; katchidul make TEXT --out NAME.order makes them"
+    refusal = reading.read(order).refusal
+    return f"is refused: {refusal.why}" if refusal else None
+
+
 def submit_file(spool, word):
     order = read_regular(word, ORDER_MAX + 1)
-    if len(order) > ORDER_MAX:
-        raise SpoolError(f"{shown(word)} has over {ORDER_MAX:,} bytes: it is no order")
+    wrong = why_not(order)
+    if wrong:
+        raise SpoolError(f"{shown(word)} {wrong}")
     return submit(spool, os.path.basename(word), order)
 
 
