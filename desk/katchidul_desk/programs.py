@@ -6,19 +6,16 @@ import fcntl
 import os
 import pathlib
 import re
-import shutil
 import subprocess
 from typing import NamedTuple, Optional
 
 from .errors import ProgramError
 from .messages import Refusal
-from .streams import say
+from .proving import prove
 
 NAMES = ("sheet", "cells", "wear", "week")
 PACKAGE = pathlib.Path(__file__).resolve().parent
 REFUSED = re.compile(rb"order refused (\d+) place (\d+)\n")
-# rt's lines for what is proved one by one. Its line for each crate shows how far it is.
-SINGLE = re.compile(r"fn .*: proved$|logic |logic=proved |library |linked ")
 
 
 class Printed(NamedTuple):
@@ -94,21 +91,3 @@ def sources(root):
     for folder, _, files in os.walk(root / "crates"):
         yield pathlib.Path(folder)
         yield from (pathlib.Path(folder) / file for file in files)
-
-
-def prove(root, name, checked):
-    """Proves and builds a program. It tells of its way on standard error."""
-    if not shutil.which("rt"):
-        raise ProgramError("rt, the command of the Rattle kit, is not there; it proves and builds the program %s" % name)
-    say("proving everything below the program %s, and building it; this takes some minutes the first time" % name)
-    # Made before the proof, so that a file that changes meanwhile is newer.
-    begun = checked.with_suffix(".begun")
-    begun.write_bytes(b"")
-    with subprocess.Popen(["rt", "check", name], cwd=root, stdin=subprocess.DEVNULL, stdout=subprocess.PIPE, stderr=subprocess.STDOUT,
-                          text=True, errors="replace") as proof:
-        for line in proof.stdout:
-            if not SINGLE.match(line):
-                say(line.rstrip("\n"))
-    if proof.returncode != 0:
-        raise ProgramError("the program %s is not proved, so nothing is printed; the lines above say what rt found" % name)
-    begun.replace(checked)

@@ -1,6 +1,7 @@
 """Proving, building and running the programs, in a checkout of its own with a stand-in for rt whose programs copy their input."""
 import os
 import pathlib
+import re
 import shutil
 import signal
 import subprocess
@@ -84,7 +85,7 @@ def proofs(checkout):
     (checkout.root / "fails").unlink()
     status, printed, said = checkout.run("sheet")
     check("the first time", (status, printed, len(checkout.proofs())), (0, GIVEN, 2))
-    check("progress", ("proving everything below the program sheet" in said, "rt: sheet proved (1 s)" in said, "fn sheet" in said), (True, True, False))
+    check("progress", ("proving the 1 crates of the program sheet" in said, "proving 1 of 1: sheet (1 s)" in said, "fn sheet" in said), (True, True, False))
     (checkout.root / "crates" / ".#editor").symlink_to("nothing")
     os.utime(checkout.root / "crates", (0, 0))
     os.utime(checkout.root / "crates" / ".#editor", (0, 0), follow_symlinks=False)
@@ -104,6 +105,76 @@ def proofs(checkout):
     (checkout.bin / "rt").unlink()
     status, printed, said = checkout.run("sheet")
     check("without rt", (status, printed, "rt, the command of the Rattle kit, is not there" in said), (2, b"", True))
+
+
+# What rt says of three crates, with the prover's notes between; the first was proved before.
+SAYS = """rt: prelude proved (unchanged since it was last proved)
+note: a note of the prover
+fn lines::row: proved
+rt: lines proved (61 s)
+library lines: modules loaded=1 checked=0
+rt: sheet proved (2 s)
+rt: ok, 3 crates proved
+"""
+
+
+def told(checkout, is_terminal):
+    """What the command says while it proves three crates."""
+    (checkout.root / "crates.txt").write_text("# ground\nprelude:\nother: prelude\nlines: prelude\nsheet: prelude lines io libc\n")
+    (checkout.root / "says").write_text(SAYS)
+    (checkout.bin / "rt").write_text(RT.replace('echo "fn $2::main: proved"', "cat says").replace('echo "rt: $2 proved (1 s)" >&2\n', ""))
+    if not is_terminal:
+        return checkout.run("sheet")[2]
+    mine, its = os.openpty()
+    run = subprocess.Popen([checkout.root / "katchidul", "sheet"], stdin=subprocess.PIPE, stdout=subprocess.PIPE, stderr=its, env=checkout.environment())
+    os.close(its)
+    run.communicate(GIVEN)
+    said = os.read(mine, 65536).decode()
+    os.close(mine)
+    return said
+
+
+@in_checkout
+def progress_in_lines(checkout):
+    """A line a crate that was proved now, how many there are, and nothing of the prover's notes."""
+    said = told(checkout, False).splitlines()
+    check("lines of progress", len(said), 3)
+    check("how many crates", said[0].startswith("proving the 3 crates of the program sheet"), True)
+    check("the second crate", re.fullmatch(r"proving 2 of 3: lines \(61 s\), \d+ s so far", said[1]) is not None, True)
+    check("the last crate", re.fullmatch(r"proving 3 of 3: sheet \(2 s\), \d+ s so far", said[2]) is not None, True)
+
+
+@in_checkout
+def progress_on_a_terminal(checkout):
+    """One line, rewritten, and ended once."""
+    said = told(checkout, True)
+    first, _, rest = said.partition("\r\n")
+    steps = [step.rstrip() for step in rest.rstrip("\r\n").split("\r")[1:]]
+    check("one line", (first.startswith("proving the 3 crates"), rest.count("\n"), rest.endswith("\r\n")), (True, 1, True))
+    check("its steps", [step.split(", ")[0] for step in steps], ["proving 2 of 3: lines (61 s)", "proving 3 of 3: sheet (2 s)"])
+
+
+@in_checkout
+def nothing_to_prove(checkout):
+    """A file is newer, but rt finds every crate as it was: nothing is said."""
+    (checkout.bin / "rt").write_text(RT.replace('echo "rt: $2 proved (1 s)"', 'echo "rt: $2 proved (unchanged since it was last proved)"'))
+    check("every crate as it was", checkout.run("sheet")[::2], (0, ""))
+
+
+@in_checkout
+def progress_that_fails(checkout):
+    """The whole log's place, and rt's last lines."""
+    checkout.touch("fails")
+    said = told(checkout, False)
+    log = checkout.root / "target" / "sheet.proof.log"
+    check("the log's place", str(log) in said, True)
+    check("the log is whole", log.read_text(), SAYS)
+    check("rt's last line", "rt: ok, 3 crates proved" in said, True)
+
+
+def durations():
+    from katchidul_desk.proving import lasting
+    check("durations", [lasting(seconds) for seconds in (0, 59.9, 60, 110, 3600)], ["0 s", "59 s", "1 min 0 s", "1 min 50 s", "60 min 0 s"])
 
 
 @in_checkout
@@ -181,4 +252,4 @@ def installed():
               (2, b"", True))
 
 
-TESTS = [proofs, two_at_once, stopped, refused, installed]
+TESTS = [proofs, progress_in_lines, progress_on_a_terminal, nothing_to_prove, progress_that_fails, durations, two_at_once, stopped, refused, installed]

@@ -1,4 +1,4 @@
-/* A host whose job log lasts on a disk, by the five lines of the README: a process that ends before any one of its writes and is begun again.
+/* A host whose job log lasts on a disk, by the rules of docs/HOST.md: a process that ends before any one of its writes and is begun again.
    The embosser loses what it has not finished, and acknowledgements are lost too. At the end each page is finished once, in order. */
 #define _DEFAULT_SOURCE
 #include <fcntl.h>
