@@ -1,11 +1,9 @@
 -- How long the order's bytes are, and that the form of their fields is right. Assumes nothing.
 use Rattle.prelude.proofs.Logic.{_≡_, refl, Bool, true, List, ℕ, _+_, _≤_, arith, leb, eqb, lit≤, length, length-append, length-take, cases, arms}
-use Rattle.refusals.specs.Refusals.{noRefusal}
-use Rattle.fields.specs.Tags.{lengthFits}
-use Rattle.fields.specs.Fields.{checkOf}
+use Rattle.order_numbers.proofs.Reader.{noRefusal, lengthFits, checkOf}
 use Rattle.order_numbers.specs.declared.numbers.Choices.{Choices}
 use Rattle.order_numbers.specs.declared.numbers.OrderNumbers.{OrderNumbers}
-use Rattle.order_numbers.specs.Bytes.{twoBytes, eightBytes, fieldBytes, joined}
+use Rattle.order_numbers.specs.Bytes.{twoBytes, eightBytes, floatBytes, fieldBytes, joined}
 use Rattle.order_numbers.specs.Values.{townBytes, dateBytes, rowsBytes, minutesBytes, ramadanBytes, unsaid, ramadanFields, fieldsFor, encode}
 use Rattle.order_numbers.proofs.PutLaws.{rows-long}
 use Rattle.order_numbers.proofs.Found.{rising, form-right}
@@ -18,7 +16,7 @@ ramadan-long c =
 -- all but the town's bytes
 encoded-length : (n : OrderNumbers) (town : List ℕ)
     → length (encode n town) ≡ 110 + length (townBytes town) + length (rowsBytes (n .rows)) + length (joined (ramadanFields (n .choices)))
-unfolding encode joined fieldBytes dateBytes twoBytes eightBytes minutesBytes
+unfolding encode joined fieldBytes dateBytes twoBytes eightBytes floatBytes minutesBytes
 encoded-length n town = simp (length-append) (omega arith)
 
 -- 157 bytes, and one more if the town is too long
@@ -39,7 +37,7 @@ unfolding rowsBytes twoBytes lengthFits
 rows-fit n = arms (λ (x : List ℕ). lengthFits 3 (length x) ≡ true) (leb n 250) (λ t. refl) (λ t. refl)
 
 pub form-encoded : (n : OrderNumbers) (town : List ℕ) → lengthFits 1 (length (townBytes town)) ≡ true → checkOf (encode n town) ≡ noRefusal
-unfolding encode rising dateBytes twoBytes eightBytes minutesBytes lengthFits
+unfolding encode rising dateBytes twoBytes eightBytes floatBytes minutesBytes lengthFits
 form-encoded n town h =
     let l = encoded-short n town in
     let t = length-take 41 town in

@@ -43,24 +43,18 @@ joined-append [] b = refl
 joined-append (f ∷ a) b =
     ap (λ (l : List ℕ). fieldBytes (f .0) (f .1) ++ l) (joined-append a b) ∙ sym (append-assoc (fieldBytes (f .0) (f .1)) (joined a) (joined b))
 
-module _ (base : List ℕ) (fs : List (ℕ × List ℕ)) (taken : List ℕ) (before : taken ≡ base ++ joined fs) where
-  pub more-taken : (gs : List (ℕ × List ℕ)) (now : List ℕ) → now ≡ taken ++ joined gs → now ≡ base ++ joined (fs ++ gs)
-  more-taken gs now e =
-      e ∙ ap (λ (l : List ℕ). l ++ joined gs) before ∙ append-assoc base (joined fs) (joined gs)
-      ∙ ap (λ (l : List ℕ). base ++ l) (sym (joined-append fs gs))
+-- fields put behind what is there, one by one, and groups of fields
+abbrev behind : List ℕ → List (ℕ × List ℕ) → List ℕ
+behind base [] = base
+behind base (f ∷ fs) = behind (base ++ fieldBytes (f .0) (f .1)) fs
 
-  pub field-more : (tag : ℕ) (w v now : List ℕ) → w ≡ v → now ≡ taken ++ fieldBytes tag w → now ≡ base ++ joined (fs ++ ((tag, v) ∷ []))
-  unfolding joined
-  field-more tag w v now same e =
-      more-taken ((tag, v) ∷ []) now
-      (e ∙ ap (λ (x : List ℕ). taken ++ fieldBytes tag x) same ∙ ap (λ (l : List ℕ). taken ++ l) (sym (append-nil (fieldBytes tag v))))
-
-pub none-taken : (base : List ℕ) → base ≡ base ++ joined []
+pub laid : (base : List ℕ) (fs : List (ℕ × List ℕ)) → behind base fs ≡ base ++ joined fs
 unfolding joined
-none-taken base = sym (append-nil base)
+laid base [] = sym (append-nil base)
+laid base (f ∷ fs) = laid (base ++ fieldBytes (f .0) (f .1)) fs ∙ append-assoc base (fieldBytes (f .0) (f .1)) (joined fs)
 
-pub one-byte : {x y : ℕ} → x ≡ y → x ∷ [] ≡ y ∷ []
-one-byte e = ap (λ (n : ℕ). n ∷ []) e
+pub groups : (a b c d e : List (ℕ × List ℕ)) → joined a ++ joined b ++ joined c ++ joined d ++ joined e ≡ joined (a ++ b ++ c ++ d ++ e)
+groups a b c d e = simp joined-append
 
 pub rows-long : (n : ℕ) → (1 ≤ length (rowsBytes n)) × (length (rowsBytes n) ≤ 2)
 unfolding rowsBytes twoBytes
