@@ -1,5 +1,5 @@
 -- What was read from any bytes is written as bytes that are read, as the same struct. Assumes nothing.
-use Rattle.prelude.proofs.Logic.{_≡_, refl, sym, ap, subst, _∙_, Bool, true, false, not, _&&_, List, [], _∷_, ℕ, _+_, _-_, _≤_, _<_, arith, leb}
+use Rattle.prelude.proofs.Logic.{_≡_, refl, sym, ap, subst, _∙_, Bool, true, false, not, _&&_, List, _∷_, ℕ, _+_, _-_, _≤_, arith, leb}
 use Rattle.prelude.proofs.Logic.{ℤ, pos, negsuc, leZ, length, take-all, le-leb, leb-true, eq-eqb, cases, lit<}
 use Rattle.prelude.proofs.Ieee.{Float, neg}
 use Rattle.order_numbers.proofs.Reader.{dec, P, Near, to-le, Date, rowDateOf, byteOf, unsignedOf, longestTown, lengthFits}
@@ -101,7 +101,8 @@ module _ (order : Order) (a : Accepted order) (g : Given order) where
     unfolding ramadanRows
     thirty =
         cases (order .ramadan .set)
-        (λ t. simp t (eq-eqb (rowsIn (rowsBytes (order .rows))) 30 (rows (order .rows) .is (a .rows .1) ∙ a .ramadan t .rows))) (λ t. simp t)
+        (λ t. simp t (eq-eqb (rowsIn (rowsBytes (order .rows))) 30 (rows (order .rows) .is (a .rows .1) ∙ a .ramadan t .rows)))
+        (λ t. simp t)
 
     three-in : fitsOf v 3 ≡ true
     unfolding orderRead fitsOf lookUp standsIn valueIn
@@ -139,7 +140,8 @@ module _ (order : Order) (a : Accepted order) (g : Given order) where
           ranged 13 (degrees-fit (dec 0 0) (dec 30 0) (p .«isha_angle») (g .isha) (a .parameters .«isha_angle»)),
           ranged 14 (simp (i, le-leb 0 (P interval) (omega arith), le-leb (P interval) mostInterval (a .parameters .«isha_interval» .to))),
           ranged 15 (choice-is 15 _ (g .carry)),
-          ranged 16 (ap (within mostClock) (signed mostClock (order .clock) (lit< tt) .is (a .clock)) ∙ near-fits 839 (order .clock) (a .clock)),
+          ranged 16
+              (ap (within mostClock) (signed mostClock (order .clock) (lit< tt) .is (a .clock)) ∙ near-fits 839 (order .clock) (a .clock)),
           ranged 17 (choice-is 17 _ (g .southern)),
           absent 18 (map-said n town part (unsaid (n .choices)) .0),
           absent 19 (map-said n town part (unsaid (n .choices)) .1),
@@ -207,4 +209,5 @@ written-again bytes z =
       «isha_angle» = g .isha .f64;
     } in
     let again = encoded-read order (read-accepted bytes order (read .1)) g town (t .text) (t .size .0) (t .size .1) in
-    subst (λ (n : OrderNumbers). ReadAs (encode n town) n town) (sym (ap orderNumbersIn (read .1))) (round-trip (orderRead order) town floats again)
+    subst (λ (n : OrderNumbers). ReadAs (encode n town) n town) (sym (ap orderNumbersIn (read .1)))
+    (round-trip (orderRead order) town floats again)

@@ -1,5 +1,6 @@
 -- The promises of the call. Assumes nothing.
-use Rattle.prelude.proofs.Logic.{_≡_, refl, sym, ap, subst, _∙_, List, ℕ, _≤_, arith, leb, length, take, length-take, leb-true, le-leb, cases}
+use Rattle.prelude.proofs.Logic.{_≡_, refl, sym, ap, subst, _∙_, List, ℕ, _≤_, arith, leb, length, take, length-take, leb-true, le-leb}
+use Rattle.prelude.proofs.Logic.{cases}
 use Rattle.order_numbers.proofs.Reader.{frontOf, Order, Reading, Read, Refused, readingOf, townOf, refused-by, read-town}
 use Rattle.text.proofs.TextLaws.{take-front}
 use Rattle.order_numbers.specs.declared.numbers.OrderNumbers.{OrderNumbers}
@@ -35,7 +36,10 @@ called s buffer = by (readingOf s) refl
         record { written = λ z. let none : r .number ≡ 0 = simp e at z in absurd (omega arith); refused = λ h. simp e }
     by (Read o) e =
         cases (leb (length s) (length buffer))
-        (λ t. record { written = λ z. (o, e, leb-true (length s) (length buffer) t); refused = λ h. let l : 1 ≤ 0 = simp (e, t) at h in absurd (omega arith) })
+        (λ t. record {
+          written = λ z. (o, e, leb-true (length s) (length buffer) t);
+          refused = λ h. let l : 1 ≤ 0 = simp (e, t) at h in absurd (omega arith);
+        })
         (λ t. record { written = λ z. let l : _≡_ {A = ℕ} 9 0 = simp (e, t) at z in absurd (omega arith); refused = λ h. simp (e, t) })
 
 pub writes-what-is-read : WritesWhatIsRead

@@ -1,5 +1,5 @@
 -- What the bytes of a number are read as, by its kind: the number itself, if it is in range or what is read is. Assumes nothing.
-use Rattle.prelude.proofs.Logic.{_≡_, refl, sym, ap, _∙_, true, false, cond, ℕ, zero, suc, _+_, _-_, _*_, _/_, _%_, _^_, _≤_, _<_, div-add-mod'}
+use Rattle.prelude.proofs.Logic.{_≡_, refl, sym, ap, _∙_, true, false, ℕ, zero, suc, _+_, _-_, _*_, _%_, _^_, _≤_, _<_, div-add-mod'}
 use Rattle.prelude.proofs.Logic.{pow-pos, arith, T, leb, ltb, eqb, ℤ, pos, negsuc, _-ℤ_, lt-ltb, le-ltb, leb-false, ltb-true, ltb-false}
 use Rattle.prelude.proofs.Logic.{eqb→eq, eqb-true, eq-eqb, ne-eqb, cases, both}
 use Rattle.prelude.proofs.Ieee.{Float, nan, inf, fin, binary64, up, down, up-pos, fits, toBits, ofBits, ofFields, le, lt, eq, round}
@@ -64,7 +64,8 @@ pub shift : (z : ℤ) → Kept (Near 1) (pos (shiftByte z) -ℤ pos 1) z
 unfolding shiftFor
 shift z =
     cases (ltb 1 (N z)) (λ t. let over = ltb-true 1 (N z) t in simp t (neither (λ h. omega (arith, h .to)) (λ h. omega (arith, h .from))))
-    (λ t. cases (ltb 1 (P z)) (λ u. let over = ltb-true 1 (P z) u in simp (t, u) (neither (λ h. omega (arith, h .to)) (λ h. omega (arith, h .to))))
+    (λ t. cases (ltb 1 (P z))
+    (λ u. let over = ltb-true 1 (P z) u in simp (t, u) (neither (λ h. omega (arith, h .to)) (λ h. omega (arith, h .to))))
     (λ u. let few = ltb-false 1 (N z) t in
     let x = P z + 1 - N z in
     let d = difference (pos x) (pos 1) in

@@ -1,10 +1,11 @@
 -- How long the order's bytes are, and that the form of their fields is right. Assumes nothing.
-use Rattle.prelude.proofs.Logic.{_≡_, refl, Bool, true, List, ℕ, _+_, _≤_, arith, leb, eqb, lit≤, length, length-append, length-take, cases, arms}
+use Rattle.prelude.proofs.Logic.{_≡_, refl, true, List, ℕ, _+_, _≤_, arith, leb, eqb, lit≤, length, length-append, length-take, cases, arms}
 use Rattle.order_numbers.proofs.Reader.{noRefusal, lengthFits, checkOf}
 use Rattle.order_numbers.specs.declared.numbers.Choices.{Choices}
 use Rattle.order_numbers.specs.declared.numbers.OrderNumbers.{OrderNumbers}
 use Rattle.order_numbers.specs.Bytes.{twoBytes, eightBytes, floatBytes, fieldBytes, joined}
-use Rattle.order_numbers.specs.Values.{townBytes, dateBytes, rowsBytes, minutesBytes, ramadanBytes, unsaid, ramadanFields, fieldsFor, encode}
+use Rattle.order_numbers.specs.Values.{townBytes, dateBytes, rowsBytes, minutesBytes, ramadanBytes, unsaid, ramadanFields, fieldsFor}
+use Rattle.order_numbers.specs.Values.{encode}
 use Rattle.order_numbers.proofs.PutLaws.{rows-long}
 use Rattle.order_numbers.proofs.Found.{rising, form-right}
 

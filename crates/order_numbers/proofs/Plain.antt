@@ -1,7 +1,8 @@
 -- A record that was read: its floats are f64 and none is -0.0, and imsak and shift are 0 if its sheet is not Ramadan's. Assumes nothing.
-use Rattle.prelude.proofs.Logic.{_≡_, refl, sym, ap, subst, _∙_, Bool, true, false, not, cond, _||_, List, ℕ, zero, suc, _+_, _*_, _≤_, _<_, arith, T, eqb, lit≤, ℤ, pos, negsuc, eqb-false, eq-eqb, and-l, and-r, _&&_, cases, arms}
+use Rattle.prelude.proofs.Logic.{_≡_, refl, sym, ap, subst, _∙_, Bool, true, false, not, _||_, List, ℕ, zero, suc, _≤_, arith, T, eqb, lit≤}
+use Rattle.prelude.proofs.Logic.{pos, eqb-false, eq-eqb, and-l, and-r, _&&_, cases, arms}
 use Rattle.prelude.proofs.Computed.{below, at, when}
-use Rattle.prelude.proofs.Ieee.{Float, nan, inf, fin, binary64, fits, toBits, ofBits, ofFields, odd, eq, round, size, round-fits, ofBits-toBits}
+use Rattle.prelude.proofs.Ieee.{Float, fin, binary64, fits, toBits, ofBits, ofFields, odd, eq, round, size, round-fits, ofBits-toBits}
 use lib.Ieee.Bits.{ofBits-fits}
 use Rattle.order_numbers.proofs.Reader.{dec, bitsOf, floatOf, byteOf, Values, lastTag, choiceFits, Ramadan, methodOf, methodNumberOf}
 use Rattle.order_numbers.proofs.Reader.{madhabOf, madhabNumberOf, ruleOf, ruleNumberOf, roundingOf, roundingNumberOf, shafaqOf}
@@ -55,7 +56,10 @@ count-plain true n h some =
     let x = round binary64 true n inDegree in
     let f = round-fits binary64 true n inDegree in
     let l = some refl in
-    record { f64 = f; other = λ q. let z : 0 ≡ n = sym (ap hundredthsOf (minus-zero x f q)) ∙ round-back true n (omega arith) in omega arith }
+    record {
+      f64 = f;
+      other = λ q. let z : 0 ≡ n = sym (ap hundredthsOf (minus-zero x f q)) ∙ round-back true n (omega arith) in omega arith;
+    }
 
 map-plain : (most : ℕ) → most ≤ 180 → (f : MapForm) → formFits most f ≡ true → Plain (degreesOf (signedHundredthsOf f))
 unfolding degreesOf
@@ -75,7 +79,10 @@ isPlain x = fits binary64 x && not (eqb (toBits binary64 x) minusZero)
 pub plain : (x : Float) → T (isPlain x) → Plain x
 plain x t =
     let other = and-r (fits binary64 x) (not (eqb (toBits binary64 x) minusZero)) t in
-    record { f64 = and-l (fits binary64 x) _ t; other = λ q. subst (λ (b : Bool). T (not b)) (eq-eqb (toBits binary64 x) minusZero q) other }
+    record {
+      f64 = and-l (fits binary64 x) _ t;
+      other = λ q. subst (λ (b : Bool). T (not b)) (eq-eqb (toBits binary64 x) minusZero q) other;
+    }
 
 abbrev bringsPlain : ℕ → Bool
 bringsPlain b = not (choiceFits 6 b) || (isPlain (presetOf (methodOf b) .«fajr_angle») && isPlain (presetOf (methodOf b) .«isha_angle»))
@@ -121,13 +128,15 @@ pub record Given (order : Order) : Type 0 where
   pub unset : order .ramadan .set ≡ false → (order .ramadan .imsak ≡ 0) × (order .ramadan .shift ≡ pos 0)
 
 module _ (v : Values) (named : v .has 6 ≡ true) (ranges : outOfRangeOf v .number ≡ 0) where
-  choice-fits : (tag missing : ℕ) (f : ℕ → ℕ) → T (below (fitsAgain tag f) 256) → (v .has tag ≡ true → choiceFits tag (byteOf (v .value tag) 0) ≡ true)
+  choice-fits : (tag missing : ℕ) (f : ℕ → ℕ) → T (below (fitsAgain tag f) 256)
+      → (v .has tag ≡ true → choiceFits tag (byteOf (v .value tag) 0) ≡ true)
       → choiceFits tag missing ≡ true → choiceFits tag (f (byteOr v tag missing)) ≡ true
   unfolding byteOr
   choice-fits tag missing f t given else =
       again-fits tag f t (byteOr v tag missing) (arms (λ (b : ℕ). choiceFits tag b ≡ true) (v .has tag) given (λ u. else))
 
-  coordinate : (float map most : ℕ) → most ≤ 180 → (v .has map ≡ true → formFits most (formIn (v .value map)) ≡ true) → Plain (coordinateIn v float map)
+  coordinate : (float map most : ℕ) → most ≤ 180 → (v .has map ≡ true → formFits most (formIn (v .value map)) ≡ true)
+      → Plain (coordinateIn v float map)
   unfolding coordinateIn
   coordinate float map most small as-map =
       arms Plain (v .has map) (λ t. map-plain most small (formIn (v .value map)) (as-map t)) (λ t. degrees-plain (v .value float))
@@ -141,14 +150,16 @@ module _ (v : Values) (named : v .has 6 ≡ true) (ranges : outOfRangeOf v .numb
   none-set e = cases (v .has 20) (λ t. unequal (simp t at e)) (λ t. simp t (refl, refl))
 
   pub given : Given (orderOf v)
-  unfolding orderOf parametersIn rulesIn fitsOf lookUp choiceFits methodNumberOf methodOf madhabNumberOf madhabOf ruleNumberOf ruleOf roundingNumberOf roundingOf shafaqNumberOf shafaqOf midnightNumberOf midnightOf southernNumberOf southernOf
+  unfolding orderOf parametersIn rulesIn fitsOf lookUp choiceFits methodNumberOf methodOf madhabNumberOf madhabOf ruleNumberOf ruleOf
+      roundingNumberOf roundingOf shafaqNumberOf shafaqOf midnightNumberOf midnightOf southernNumberOf southernOf
   given =
       let method = methodOf (byteOf (v .value 6) 0) in
       let fits : (tag : ℕ) → 1 ≤ tag → tag ≤ lastTag → v .has tag ≡ true → fitsOf v tag ≡ true = fits-given v ranges in
       let first = fits 6 (lit≤ tt) (lit≤ tt) named in
       let b = brings (byteOf (v .value 6) 0) first in
       record {
-        method = ap (λ (m : Method). choiceFits 6 (methodNumberOf m)) (brought method .named) ∙ again-fits 6 (λ b. methodNumberOf (methodOf b)) tt (byteOf (v .value 6) 0) first;
+        method = ap (λ (m : Method). choiceFits 6 (methodNumberOf m)) (brought method .named)
+            ∙ again-fits 6 (λ b. methodNumberOf (methodOf b)) tt (byteOf (v .value 6) 0) first;
         madhab = choice-fits 7 1 (λ b. madhabNumberOf (madhabOf b)) tt (fits 7 (lit≤ tt) (lit≤ tt)) refl;
         rule = choice-fits 8 0 (λ b. ruleNumberOf (ruleOf b)) tt (fits 8 (lit≤ tt) (lit≤ tt)) refl;
         rounding = rounding-fits (roundingOr v (presetOf method .rounding));

@@ -1,16 +1,20 @@
 -- A field that is put at an offset is behind what is before it. Assumes nothing.
-use Rattle.prelude.proofs.Logic.{_≡_, refl, sym, ap, _∙_, List, [], _∷_, _++_, append-assoc, append-nil, ℕ, _+_, _≤_, arith, leb, lit≤, arms, length, take, drop, length-append, take-at, length-take-le, le-leb, ℤ, w32, w64, SFits, toZ, ofZ, toZ-ofZ}
+use Rattle.prelude.proofs.Logic.{_≡_, refl, sym, ap, _∙_, List, [], _∷_, _++_, append-assoc, append-nil, ℕ, _+_, _≤_, arith, leb, lit≤}
+use Rattle.prelude.proofs.Logic.{arms, length, take, drop, length-append, take-at, length-take-le, le-leb, ℤ, w32, w64, SFits, toZ, ofZ}
+use Rattle.prelude.proofs.Logic.{toZ-ofZ}
 use Rattle.integers.proofs.Integers.{P, N, read-wide}
 use Rattle.text.specs.Text.{putOf}
 use Rattle.text.proofs.TextLaws.{put-behind}
 use Rattle.order_numbers.specs.Bytes.{twoBytes, fieldBytes, joined, signedBytes}
 use Rattle.order_numbers.specs.Values.{rowsBytes}
 
-pub taken-put : (buffer text : List ℕ) (at : ℕ) → at + length text ≤ length buffer → take (at + length text) (putOf buffer at text) ≡ take at buffer ++ text
+pub taken-put : (buffer text : List ℕ) (at : ℕ) → at + length text ≤ length buffer
+    → take (at + length text) (putOf buffer at text) ≡ take at buffer ++ text
 unfolding putOf
 taken-put buffer text at room =
     let front = length-append (take at buffer) text ∙ ap (λ (k : ℕ). k + length text) (length-take-le at buffer (omega arith)) in
-    rw (le-leb (at + length text) (length buffer) room) (take-at (take at buffer ++ text) (drop (at + length text) buffer) (at + length text) front)
+    rw (le-leb (at + length text) (length buffer) room)
+    (take-at (take at buffer ++ text) (drop (at + length text) buffer) (at + length text) front)
 
 -- a header of three bytes and the value behind it are a field
 pub field-taken : (buffer one two : List ℕ) (at tag : ℕ) (header v : List ℕ) → header ++ v ≡ fieldBytes tag v → length header ≡ 3
@@ -21,7 +25,8 @@ field-taken buffer one two at tag header v whole three a b room =
     let size = length-append header v in
     let both : at + 3 + length v ≡ at + length (header ++ v) = omega arith in
     let put : two ≡ putOf buffer at (header ++ v) =
-    b ∙ ap (λ (l : List ℕ). putOf l (at + 3) v) a ∙ ap (λ (n : ℕ). putOf (putOf buffer at header) n v) k ∙ put-behind buffer header v at (omega arith) in
+    b ∙ ap (λ (l : List ℕ). putOf l (at + 3) v) a ∙ ap (λ (n : ℕ). putOf (putOf buffer at header) n v) k
+    ∙ put-behind buffer header v at (omega arith) in
     ap (λ (n : ℕ). take n two) both ∙ ap (take (at + length (header ++ v))) put ∙ taken-put buffer (header ++ v) at (omega arith)
     ∙ ap (λ (l : List ℕ). take at buffer ++ l) whole
 
@@ -41,7 +46,8 @@ pub joined-append : (a b : List (ℕ × List ℕ)) → joined (a ++ b) ≡ joine
 unfolding joined
 joined-append [] b = refl
 joined-append (f ∷ a) b =
-    ap (λ (l : List ℕ). fieldBytes (f .0) (f .1) ++ l) (joined-append a b) ∙ sym (append-assoc (fieldBytes (f .0) (f .1)) (joined a) (joined b))
+    ap (λ (l : List ℕ). fieldBytes (f .0) (f .1) ++ l) (joined-append a b)
+    ∙ sym (append-assoc (fieldBytes (f .0) (f .1)) (joined a) (joined b))
 
 -- fields put behind what is there, one by one, and groups of fields
 abbrev behind : List ℕ → List (ℕ × List ℕ) → List ℕ

@@ -1,5 +1,6 @@
 -- What the order's bytes are read as: each field of the struct, if what is read lies in its range. Assumes nothing.
-use Rattle.prelude.proofs.Logic.{_≡_, refl, sym, ap, subst, _∙_, Bool, true, false, not, cond, List, [], _∷_, _++_, ℕ, _+_, _≤_, arith, pos, length, T}
+use Rattle.prelude.proofs.Logic.{_≡_, refl, sym, ap, subst, _∙_, Bool, true, false, not, cond, List, [], _∷_, _++_, ℕ, _+_, _≤_, arith}
+use Rattle.prelude.proofs.Logic.{length, T}
 use Rattle.prelude.proofs.Logic.{lit<, lit≤}
 use Rattle.prelude.proofs.Ieee.{Float, binary64, fits, neg, le}
 use Rattle.order_numbers.proofs.Reader.{dec, noRefusal, Near, lastTag, longestTown, ramadanTag, choiceFits, checkOf, Values}
@@ -15,7 +16,8 @@ use Rattle.unit.specs.Unit.{coordinatesOf}
 use Rattle.order_numbers.specs.declared.numbers.OrderNumbers.{OrderNumbers}
 use Rattle.order_numbers.specs.Numbers.{setNumberOf, orderRead, orderRefused, orderNumbersIn, orderNumbersOf}
 use Rattle.order_numbers.specs.Bytes.{byteFor, floatBytes}
-use Rattle.order_numbers.specs.Values.{townBytes, startFields, settingFields, timeFields, ruleFields, ramadanBytes, unsaid, ramadanFields}
+use Rattle.order_numbers.specs.Values.{townBytes, startFields, settingFields, timeFields, ruleFields, ramadanBytes, unsaid}
+use Rattle.order_numbers.specs.Values.{ramadanFields}
 use Rattle.order_numbers.specs.Values.{fieldsFor, encode}
 use Rattle.order_numbers.specs.Promises.{Floats, again, ReadAs, RoundTrip}
 use Rattle.order_numbers.proofs.Found.{standsIn, valueIn, saidIn, values-joined, first-offset}
@@ -49,7 +51,8 @@ module _ (n : OrderNumbers) (town : List ℕ) (part : ℕ → Part) where
   ramadan-said false = refl
 
   -- ---- what is read in range is the struct
-  module _ (f : Floats n) (a : Accepted (orderOf (said (unsaid (n .choices))))) (ranges : outOfRangeOf (said (unsaid (n .choices))) .number ≡ 0) where
+  module _ (f : Floats n) (a : Accepted (orderOf (said (unsaid (n .choices)))))
+      (ranges : outOfRangeOf (said (unsaid (n .choices))) .number ≡ 0) where
     abbrev v : Values
     v = said (unsaid (n .choices))
 
@@ -63,11 +66,14 @@ module _ (n : OrderNumbers) (town : List ℕ) (part : ℕ → Part) where
     chosen = fits-given v ranges
 
     same-numbers : orderOf v .town ≡ record { at = 3; length = length town } → orderRead (orderOf v) ≡ again n town
-    unfolding orderRead orderOf parametersIn rulesIn clockIn byteOr degreesOr roundingOr minutesOr intervalOr standsIn valueIn fitsOf lookUp choiceFits methodNumberOf methodOf madhabNumberOf madhabOf ruleNumberOf ruleOf roundingNumberOf roundingOf shafaqNumberOf shafaqOf midnightNumberOf midnightOf southernNumberOf southernOf
+    unfolding orderRead orderOf parametersIn rulesIn clockIn byteOr degreesOr roundingOr minutesOr intervalOr standsIn valueIn fitsOf lookUp
+        choiceFits methodNumberOf methodOf madhabNumberOf madhabOf ruleNumberOf ruleOf roundingNumberOf roundingOf shafaqNumberOf shafaqOf
+        midnightNumberOf midnightOf southernNumberOf southernOf
     same-numbers t =
         let c = n .choices in
         let read = ramadan-said (unsaid c) in
-        let told = ramadan-held c (subst (λ (r : Ramadan). r .imsak ≤ mostImsak) read (a .imsak)) (subst (λ (r : Ramadan). Near 1 (r .shift)) read (a .shift)) in
+        let told = ramadan-held c (subst (λ (r : Ramadan). r .imsak ≤ mostImsak) read (a .imsak))
+        (subst (λ (r : Ramadan). Near 1 (r .shift)) read (a .shift)) in
         let method = choice 6 (λ b. methodNumberOf (methodOf b)) tt (n .method) (chosen 6 (lit≤ tt) (lit≤ tt) refl) in
         λ i. record {
           refusal = noRefusal;
@@ -76,7 +82,8 @@ module _ (n : OrderNumbers) (town : List ℕ) (part : ℕ → Part) where
           rows = rows (n .rows) .held (a .rows .1) i;
           coordinates = record {
             latitude = coordinate (neg (dec 90 0)) (n .coordinates .latitude) (λ c. c .latitude) (f .latitude) refl (a .latitude .0) i;
-            longitude = coordinate (neg (dec 180 0)) (n .coordinates .longitude) (λ c. c .longitude) (f .longitude) refl (a .longitude .0) i;
+            longitude =
+                coordinate (neg (dec 180 0)) (n .coordinates .longitude) (λ c. c .longitude) (f .longitude) refl (a .longitude .0) i;
           };
           «fajr_angle» = float-held (dec 0 0) (n .«fajr_angle») (f .«fajr_angle») (a .parameters .«fajr_angle» .0) i;
           «isha_angle» = float-held (dec 0 0) (n .«isha_angle») (f .«isha_angle») (a .parameters .«isha_angle» .0) i;
@@ -148,6 +155,7 @@ round-trip n town f z =
     let a = subst Accepted (sym (passed .same) ∙ ap orderOf is) (read-accepted s (read .0) (read .1)) in
     let ranges = subst (λ (v : Values). outOfRangeOf v .number ≡ 0) is (passed .ranges) in
     record {
-      numbers = ap orderNumbersIn (read .1) ∙ ap orderRead (sym (passed .same) ∙ ap orderOf is) ∙ same-numbers n town part f a ranges (town-part n town right);
+      numbers = ap orderNumbersIn (read .1) ∙ ap orderRead (sym (passed .same) ∙ ap orderOf is)
+          ∙ same-numbers n town part f a ranges (town-part n town right);
       named = town-value s (read .0) (read .1) ∙ town-whole n town right;
     }

@@ -1,6 +1,8 @@
 -- What the bytes of each value are read as: the value, if it is in range or what is read is. Assumes nothing.
-use Rattle.prelude.proofs.Logic.{_≡_, refl, sym, ap, subst, _∙_, Bool, true, false, not, cond, _&&_, _||_, List, ℕ, _≤_, _<_, arith, T, and-l, and-r}
-use Rattle.prelude.proofs.Logic.{leb, ltb, eqb, ℤ, pos, leZ, length, take, take-all, length-take, le-leb, leb-true, eqb-true, eqb→eq, ltb→lt, cases, both}
+use Rattle.prelude.proofs.Logic.{_≡_, refl, sym, ap, subst, _∙_, Bool, true, false, not, cond, _&&_, _||_, List, ℕ, _≤_, _<_, arith, T}
+use Rattle.prelude.proofs.Logic.{and-l, and-r}
+use Rattle.prelude.proofs.Logic.{leb, ltb, eqb, ℤ, pos, leZ, length, take-all, length-take, le-leb, leb-true, eqb-true, eqb→eq, ltb→lt}
+use Rattle.prelude.proofs.Logic.{cases, both}
 use Rattle.prelude.proofs.Logic.{lit<, lit≤}
 use Rattle.prelude.proofs.Computed.{below, at, when}
 use Rattle.order_numbers.proofs.Reader.{P, N, Near, same, le-yes, Date, dateOf, exists-yes, month-of-date, unsignedOf, signedAtOf}
@@ -55,7 +57,14 @@ abbrev again : ℤ → ℤ
 again z = withSign (sixteenFor (P z) (N z))
 
 abbrev each : (ℤ → ℤ) → TimeAdjustment → TimeAdjustment
-each f m = record { fajr = f (m .fajr); sunrise = f (m .sunrise); dhuhr = f (m .dhuhr); asr = f (m .asr); maghrib = f (m .maghrib); isha = f (m .isha) }
+each f m = record {
+  fajr = f (m .fajr);
+  sunrise = f (m .sunrise);
+  dhuhr = f (m .dhuhr);
+  asr = f (m .asr);
+  maghrib = f (m .maghrib);
+  isha = f (m .isha);
+}
 
 minutes-read : (m : TimeAdjustment) → minutesIn (minutesBytes m) ≡ each again m
 unfolding minutesIn minutesBytes signedAtOf unsignedOf twoBytes
@@ -81,7 +90,8 @@ minutes m =
     let one : (z : ℤ) → Kept (Near mostMinutes) (again z) z = λ z. sixteen mostMinutes z (lit< tt) in
     record {
       held = λ h. let o : Own (each again m) = subst Own (minutes-read m) h in
-          minutes-read m ∙ same-each m (λ z. Near mostMinutes (again z)) (λ z. one z .held) (o Fajr) (o Sunrise) (o Dhuhr) (o Asr) (o Maghrib) (o Isha);
+          minutes-read m ∙ same-each m (λ z. Near mostMinutes (again z)) (λ z. one z .held) (o Fajr) (o Sunrise) (o Dhuhr) (o Asr)
+          (o Maghrib) (o Isha);
       is = λ o. minutes-read m
           ∙ same-each m (Near mostMinutes) (λ z. one z .is) (o Fajr) (o Sunrise) (o Dhuhr) (o Asr) (o Maghrib) (o Isha);
     }

@@ -1,5 +1,6 @@
--- Document 01, "The order": "A float is read from its eight bytes, high byte first. Integers likewise; minutes are signed 16-bit." A number that the
--- bytes can't hold is written as one that is out of range for every tag that has such bytes, so that the reader refuses it: no number becomes another.
+-- Document 01, "The order": "A float is read from its eight bytes, high byte first. Integers likewise; minutes are signed 16-bit." A number
+-- that the bytes can't hold is written as one that is out of range for every tag that has such bytes, so that the reader refuses it: no
+-- number becomes another.
 use Prim.Native.Nat.{ℕ, _+_, _-_, _/_, _%_}
 use mathlib.Core.Bool.{cond}
 use mathlib.Core.List.{List, [], _∷_, _++_}

@@ -1,5 +1,5 @@
-// Numbers as the bytes of a field's value, high byte first, one function for each kind. A number that the bytes can't hold is written out of range,
-// so that the reader refuses it.
+// Numbers as the bytes of a field's value, high byte first, one function for each kind. A number that the bytes can't hold is written out
+// of range, so that the reader refuses it.
 ghost use mathlib.Core.Path.{_≡_};
 ghost use Prim.Native.Nat.{_≤_};
 ghost use Rattle.order_numbers.specs.Bytes.{upTo, byteFor, wordFor, twoBytes, sixteenFor, signedBytes, shiftFor, shiftByte};

@@ -1,7 +1,8 @@
 // What an order asks for, in numbers.
 ghost use mathlib.Core.Path.{_≡_};
 ghost use Rattle.integers.specs.Parts.{P};
-ghost use Rattle.order_numbers.specs.Numbers.{setNumberOf, choicesNumbersOf, noChoicesNumbers, orderRead, orderRefused, orderNumbersOf};
+ghost use Rattle.order_numbers.specs.Numbers.{setNumberOf, choicesNumbersOf, noChoicesNumbers, orderRead, orderRefused};
+ghost use Rattle.order_numbers.specs.Numbers.{orderNumbersOf};
 use calendar::dates::Date;
 use fields::values::Part;
 use integers::parts::above;

@@ -51,7 +51,8 @@ fn hand_out(text: &[u8], buffer: &mut [u8]) -> WrittenOrder
     }
 }
 
-// The order's bytes are made by themselves first. The refusal and the town's place in the struct are not looked at: the town is given by itself.
+// The order's bytes are made by themselves first. The refusal and the town's place in the struct are not looked at: the town is given by
+// itself.
 pub fn write_order(numbers: OrderNumbers, town: &[u8], buffer: &mut [u8]) -> WrittenOrder
     ensures { λ r. ⌜ r ≡ orderCallOf numbers (now (town .entry)) (now (buffer .entry)) .answer ⌝ }
     ensures { λ _. ⌜ now (buffer .exit) ≡ orderCallOf numbers (now (town .entry)) (now (buffer .entry)) .buffer ⌝ }

@@ -20,7 +20,8 @@ returns c =
         times .put-times .ensures .1,
         settings .put-settings .ensures .1,
         start .put-start .ensures .1,
-      ) (groups (startFields (a .n .date) (a .n .rows) (now (a .town))) (settingFields (a .n)) (timeFields (a .n)) (ruleFields (a .n .choices))
+      ) (groups (startFields (a .n .date) (a .n .rows) (now (a .town))) (settingFields (a .n)) (timeFields (a .n))
+          (ruleFields (a .n .choices))
           (ramadanFields (a .n .choices))),
     )
 

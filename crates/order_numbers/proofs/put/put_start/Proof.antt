@@ -12,8 +12,10 @@ returns c =
     let town = made .before .before .before in
     let a = town .before .before .before .before .args in
     let few = rows-long (a .rows) in
-    let taken = laid [] (startFields (a .date) (a .rows) (now (a .town))) in
-    (omega arith, simp (rows .put-rows .ensures .1, date .put-field .ensures .1, town .put-town .ensures .1, made .date-bytes .ensures) taken)
+    let taken = laid [] (startFields (a .date) (a .rows) (now (a .town))) in (
+      omega arith,
+      simp (rows .put-rows .ensures .1, date .put-field .ensures .1, town .put-town .ensures .1, made .date-bytes .ensures) taken,
+    )
 
 pub put-start-spec : {M : Type 1} → this.Statement.statement M
 put-start-spec =

@@ -20,8 +20,11 @@ cut-room c κs =
 
 returns-2 : this.Tie.Need-returns-2
 returns-2 c =
-    let put = c .before .before in
-    (omega (arith, put .put-field2 .ensures .0, length-take 41 (now (put .before .before .before .before .before .before .args .town))), put .put-field2 .ensures .1)
+    let put = c .before .before in (
+      omega (arith, put .put-field2 .ensures .0, length-take 41 (now (put .before .before .before .before .before .before .args .town))),
+      put .put-field2 .ensures .1,
+    )
 
 pub put-town-spec : {M : Type 1} → this.Statement.statement M
-put-town-spec = this.Tie.close (this.Tie.spec (λ c κs. search needs) (λ c. search needs) returns cut-length cut-room (λ c. search needs) returns-2)
+put-town-spec =
+    this.Tie.close (this.Tie.spec (λ c κs. search needs) (λ c. search needs) returns cut-length cut-room (λ c. search needs) returns-2)

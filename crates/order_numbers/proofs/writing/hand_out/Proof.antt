@@ -38,5 +38,6 @@ returns-3 c =
 
 pub hand-out-spec : {M : Type 1} → this.Statement.statement M
 hand-out-spec =
-    this.Tie.close (this.Tie.spec (λ c κs. tt) (λ c. search needs) (λ c κs. tt) (λ c. search needs) (λ c κs. tt) (λ c κs. tt) returns (λ c κs. tt)
+    this.Tie.close (this.Tie.spec (λ c κs. tt) (λ c. search needs) (λ c κs. tt) (λ c. search needs) (λ c κs. tt) (λ c κs. tt) returns
+    (λ c κs. tt)
     (λ c κs. tt) (λ c. search needs) returns-2 (λ c. search needs) returns-3)
