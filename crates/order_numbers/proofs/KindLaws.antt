@@ -75,7 +75,7 @@ pub stored-small : (x : ℕ) → Near 1 (pos x -ℤ pos 1) → x ≤ 2
 stored-small x h = let d = difference (pos x) (pos 1) in omega (arith, d .0, d .1, h .from, h .to)
 
 -- ---- a float: none but -0.0 is read as another
-no : {X : Type 0} → true ≡ false → X
+pub no : {X : Type 0} → true ≡ false → X
 no e = let z : _≡_ {A = ℕ} 0 1 = cc in absurd (omega arith)
 
 eight-back : (n : ℕ) → n < 2 ^ 64 → bitsOf (eightBytes n) ≡ n

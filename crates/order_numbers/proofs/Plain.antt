@@ -19,14 +19,12 @@ use Rattle.models.specs.declared.method.Method.{Method}
 use Rattle.models.specs.declared.rounding.Rounding.{Rounding}
 use Rattle.models.specs.declared.rounding.Rounding.the-variants.{Nearest, Up, None}
 use Rattle.order_numbers.specs.Bytes.{minusZero}
+use Rattle.order_numbers.proofs.KindLaws.{no}
 use Rattle.order_numbers.proofs.ValueLaws.{choice-small}
 
 pub record Plain (x : Float) : Type 0 where
   pub f64 : T (fits binary64 x)
   pub other : toBits binary64 x ≡ minusZero → ⊥
-
-unequal : {X : Type 0} → true ≡ false → X
-unequal e = let z : _≡_ {A = ℕ} 0 1 = cc in absurd (omega arith)
 
 minus-zero : (x : Float) → T (fits binary64 x) → toBits binary64 x ≡ minusZero → x ≡ fin true 0 (pos 0)
 unfolding ofBits ofFields odd
@@ -43,7 +41,7 @@ degrees-plain v =
     let x = ofBits binary64 (bitsOf v) in
     let f = ofBits-fits binary64 (bitsOf v) in
     arms Plain (eq x (dec 0 0)) (λ t. zero-plain)
-    (λ t. record { f64 = f; other = λ q. unequal (sym (ap (λ (y : Float). eq y (dec 0 0)) (minus-zero x f q)) ∙ t) })
+    (λ t. record { f64 = f; other = λ q. no (sym (ap (λ (y : Float). eq y (dec 0 0)) (minus-zero x f q)) ∙ t) })
 
 -- the sign of a count is that of its float, and only a count of 0 is read as a zero
 count-plain : (s : Bool) (n : ℕ) → n ≤ 64800000 → (s ≡ true → 1 ≤ n) → Plain (round binary64 s n inDegree)
@@ -51,7 +49,7 @@ unfolding hundredthsOf
 count-plain false n h some =
     let x = round binary64 false n inDegree in
     let f = round-fits binary64 false n inDegree in
-    record { f64 = f; other = λ q. unequal (subst (Signed false) (minus-zero x f q) (round-signed n inDegree false)) }
+    record { f64 = f; other = λ q. no (subst (Signed false) (minus-zero x f q) (round-signed n inDegree false)) }
 count-plain true n h some =
     let x = round binary64 true n inDegree in
     let f = round-fits binary64 true n inDegree in
@@ -68,8 +66,8 @@ map-plain most small f t =
     by-sign (eqb (f .sign) 1) (sizeOf f) (omega arith)
   where
     by-sign : (s : Bool) (n : ℕ) → n ≤ 64800000 → Plain (degreesOf (signed s n))
-    by-sign false n h = count-plain false n h (λ e. unequal (sym e))
-    by-sign true zero h = count-plain false 0 h (λ e. unequal (sym e))
+    by-sign false n h = count-plain false n h (λ e. no (sym e))
+    by-sign true zero h = count-plain false 0 h (λ e. no (sym e))
     by-sign true (suc n) h = count-plain true (suc n) h (λ e. omega arith)
 
 -- ---- what a method brings, tested at every byte that is a method's number
@@ -147,7 +145,7 @@ module _ (v : Values) (named : v .has 6 ≡ true) (ranges : outOfRangeOf v .numb
 
   none-set : ramadanIn v .set ≡ false → (ramadanIn v .imsak ≡ 0) × (ramadanIn v .shift ≡ pos 0)
   unfolding ramadanIn ramadanGiven
-  none-set e = cases (v .has 20) (λ t. unequal (simp t at e)) (λ t. simp t (refl, refl))
+  none-set e = cases (v .has 20) (λ t. no (simp t at e)) (λ t. simp t (refl, refl))
 
   pub given : Given (orderOf v)
   unfolding orderOf parametersIn rulesIn fitsOf lookUp choiceFits methodNumberOf methodOf madhabNumberOf madhabOf ruleNumberOf ruleOf
