@@ -14,19 +14,10 @@ unfolding ramadanFields ramadanBytes joined fieldBytes
 ramadan-long c =
     cases (unsaid c) (λ t. simp t (lit≤ tt)) (λ t. cases (eqb (c .ramadan) 1) (λ u. simp (t, u) (lit≤ tt)) (λ u. simp (t, u) (lit≤ tt)))
 
--- all but the town's bytes
-encoded-length : (n : OrderNumbers) (town : List ℕ)
-    → length (encode n town) ≡ 110 + length (townBytes town) + length (rowsBytes (n .rows)) + length (joined (ramadanFields (n .choices)))
-unfolding encode joined fieldBytes dateBytes twoBytes eightBytes floatBytes minutesBytes
-encoded-length n town = simp (length-append) (omega arith)
-
 -- 157 bytes, and one more if the town is too long
 pub encoded-short : (n : OrderNumbers) (town : List ℕ) → length (encode n town) ≤ 117 + length (townBytes town)
-encoded-short n town =
-    let e = encoded-length n town in
-    let r = rows-long (n .rows) in
-    let m = ramadan-long (n .choices) in
-    omega arith
+unfolding encode joined fieldBytes dateBytes twoBytes eightBytes floatBytes minutesBytes
+encoded-short n town = simp (length-append) (omega (arith, rows-long (n .rows), ramadan-long (n .choices)))
 
 -- ---- the form
 rising-ramadan : (c : Choices) → rising 18 (ramadanFields c) ≡ true
