@@ -15,7 +15,7 @@ use Rattle.calendar.specs.Answers.{rowDateOf}
 use Rattle.calendar.specs.declared.dates.Date.{Date}
 use Rattle.fields.specs.Fields.{lengthAt, nextFieldAt, longestOrder}
 use Rattle.fields.specs.Numbers.{byteOf}
-use Rattle.fields.specs.Tags.{tags, lastTag, lengthFits}
+use Rattle.fields.specs.Tags.{townTag, dateTag, rowsTag, latitudeTag, longitudeTag, midnightTag, tags, lastTag, lengthFits}
 use Rattle.fields.specs.Values.{valueOf, Values, valuesOf}
 use Rattle.hijri.specs.declared.ramadan.Ramadan.{Ramadan}
 use Rattle.lines.specs.Lines.{nineOf, rowText, refusedDayText}
@@ -70,7 +70,7 @@ unfoldable pub formerRowsFit : Date → List ℕ → Bool
 formerRowsFit date v = between 1 250 (byteOf v 0) && leb (rowDateOf date (byteOf v 0 - 1) .year) lastYear
 
 unfoldable pub formerInRange : Values → ℕ → Bool
-formerInRange v tag = cond (v .has tag) (cond (eqb tag 3) (formerRowsFit (dateIn (v .value 2)) (v .value 3)) (fitsOf v tag)) true
+formerInRange v tag = cond (v .has tag) (cond (eqb tag rowsTag) (formerRowsFit (dateIn (v .value dateTag)) (v .value rowsTag)) (fitsOf v tag)) true
 
 -- ---- the record
 abbrev pub cratesRules : Rules
@@ -82,10 +82,11 @@ noRamadan = record { set = false; imsak = 0; shift = pos 0 }
 unfoldable pub formerOrderOf : Values → Order
 formerOrderOf v =
     record {
-      town = v .part 1;
-      date = dateIn (v .value 2);
-      rows = byteOf (v .value 3) 0;
-      setting = settingOf (coordinatesOf (degreesIn (v .value 4)) (degreesIn (v .value 5))) (parametersIn v) cratesRules;
+      town = v .part townTag;
+      date = dateIn (v .value dateTag);
+      rows = byteOf (v .value rowsTag) 0;
+      setting =
+          settingOf (coordinatesOf (degreesIn (v .value latitudeTag)) (degreesIn (v .value longitudeTag))) (parametersIn v) cratesRules;
       clock = pos 0;
       ramadan = noRamadan;
     }
@@ -115,11 +116,11 @@ formerText town o = (town ++ ascii "\ndate fajr sunrise dhuhr asr maghrib isha m
 
 -- ---- a field at an offset that document 02 brought: tags 15 to 20, or rows in two bytes
 unfoldable pub newAt : List ℕ → ℕ → Bool
-newAt s at = between 15 lastTag (byteOf s at) || (eqb (byteOf s at) 3 && eqb (lengthAt s at) 2)
+newAt s at = between midnightTag lastTag (byteOf s at) || (eqb (byteOf s at) rowsTag && eqb (lengthAt s at) 2)
 
 pub record AsBefore (s : List ℕ) : Type 0 where
   -- "every order accepted before gives the same values and prints the same sheet"
-  pub accepted : (o : Order) → formerReadingOf s ≡ reading.Read o → (readingOf s ≡ reading.Read o) × (sheetText s ≡ formerText (valueOf s 1) o)
+  pub accepted : (o : Order) → formerReadingOf s ≡ reading.Read o → (readingOf s ≡ reading.Read o) × (sheetText s ≡ formerText (valueOf s townTag) o)
   -- and what was refused is refused by the same number and place, but for a field that was unknown and no longer is
   pub refused : (r : Refusal) → formerReadingOf s ≡ reading.Refused r
       → (readingOf s ≡ reading.Refused r) ⊎ ((r .number ≡ fieldUnknown) × (newAt s (r .place) ≡ true))

@@ -4,6 +4,8 @@ ghost use Prim.Native.Nat.{_≤_};
 ghost use lib.ListN.{length, take};
 ghost use Rattle.text.specs.Text.{frontOf};
 ghost use Rattle.sentences.specs.Sentences.{endsInColon, wordsOf, sentenceOf};
+ghost use Rattle.sentences.specs.Table.{widest};
+use super::table::WIDEST;
 use super::table::end_of;
 use super::table::name_row;
 use super::table::text_row;
@@ -11,8 +13,8 @@ use text::decimal::put_decimal;
 use text::put::put;
 
 // Whether the text that ends there has a tag as its place.
-fn ends_in_colon(row: [u8; 64], end: usize) -> bool
-    requires { ⌜ end ≤ 64 ⌝ }
+fn ends_in_colon(row: [u8; WIDEST], end: usize) -> bool
+    requires { ⌜ end ≤ widest ⌝ }
     ensures { λ r. ⌜ r ≡ endsInColon (take end row) ⌝ }
 {
     if end == 0 {
