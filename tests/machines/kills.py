@@ -13,7 +13,10 @@ from cups import ADVISED, Cups
 from driver import Driver
 from sinks import Port
 
-EVENT = re.compile(r'\[Job (\d+)\] (?:argv\[3\]="(katchidul [^"]*)"|(Started backend)|(Job completed)|(Job aborted|Aborting job))')
+# CUPS logs that a job is completed just before it removes the document, and then that its list of jobs has changed. If it is killed between
+# the two, it has told nobody, and the next CUPS prints the job anew like one that was in work. So both lines make a completed job.
+EVENT = re.compile(r'\[Job (\d+)\] (?:argv\[3\]="(katchidul [^"]*)"|(Started backend)|(Job completed\.\n.* cupsdMarkDirty)'
+                   r'|(Job aborted|Aborting job))')
 
 
 class Orders:
