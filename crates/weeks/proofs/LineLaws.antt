@@ -19,7 +19,8 @@ more buffer now after at end k text piece p q e room =
     let l = length-append text piece in
     let n = p .0 in (
       omega arith,
-      q ∙ ap (λ (b : List ℕ). putOf b end piece) (p .1) ∙ ap (λ (i : ℕ). putOf (putOf buffer at text) i piece) n ∙ put-behind buffer text piece at (omega arith),
+      q ∙ ap (λ (b : List ℕ). putOf b end piece) (p .1) ∙ ap (λ (i : ℕ). putOf (putOf buffer at text) i piece) n
+          ∙ put-behind buffer text piece at (omega arith),
     )
 
 -- the same by where the piece ends
@@ -33,7 +34,8 @@ unfolding pairText
 pair-bytes z row = simp length-append (omega arith)
 
 pub found-bytes : (first : ℕ) (x : Extremes)
-    → length (lineOf first (Found x)) ≡ length (decimalOf first) + length (pairText (x .earliest) (x .«earliest_row»)) + length (pairText (x .latest) (x .«latest_row»)) + 1
+    → length (lineOf first (Found x))
+    ≡ length (decimalOf first) + length (pairText (x .earliest) (x .«earliest_row»)) + length (pairText (x .latest) (x .«latest_row»)) + 1
 unfolding lineOf
 found-bytes first x = simp length-append (omega arith)
 
@@ -60,9 +62,11 @@ module _ (buffer : List ℕ) (at : ℕ) where
       let q = more buffer two three at _ 1 (ascii " " ++ signedOf z) (ascii " ") p c refl (omega arith) in
       more buffer three four at _ j (ascii " " ++ signedOf z ++ ascii " ") (decimalOf row) q d' d (omega arith)
 
-  pub found-made : (first : ℕ) (x : Extremes) → at + length (lineOf first (Found x)) ≤ length buffer → (one two three four : List ℕ) (k i j : ℕ)
+  pub found-made : (first : ℕ) (x : Extremes) → at + length (lineOf first (Found x)) ≤ length buffer
+      → (one two three four : List ℕ) (k i j : ℕ)
       → k ≡ length (decimalOf first) → one ≡ putOf buffer at (decimalOf first)
-      → i ≡ at + k + length (pairText (x .earliest) (x .«earliest_row»)) → two ≡ putOf one (at + k) (pairText (x .earliest) (x .«earliest_row»))
+      → i ≡ at + k + length (pairText (x .earliest) (x .«earliest_row»))
+      → two ≡ putOf one (at + k) (pairText (x .earliest) (x .«earliest_row»))
       → j ≡ i + length (pairText (x .latest) (x .«latest_row»)) → three ≡ putOf two i (pairText (x .latest) (x .«latest_row»))
       → four ≡ putOf three j (ascii "\n") → Put buffer at (lineOf first (Found x)) four (j + 1)
   unfolding lineOf

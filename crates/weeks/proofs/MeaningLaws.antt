@@ -25,7 +25,9 @@ module _ (before : ℤ → ℤ → Bool) (itself : (x : ℤ) → before x x ≡ 
         from = omega arith;
         to = omega arith;
         there = e;
-        none-before = below-more (λ (r : ℕ). first ≤ r → (n : ℤ) → f r ≡ Some n → before n m ≡ false) first (λ r h g. absurd (omega arith)) (λ g n d. subst (λ (x : ℤ). before x m ≡ false) (same-minute (f first) m n e d) (itself m));
+        none-before =
+            below-more (λ (r : ℕ). first ≤ r → (n : ℤ) → f r ≡ Some n → before n m ≡ false) first (λ r h g. absurd (omega arith))
+            (λ g n d. subst (λ (x : ℤ). before x m ≡ false) (same-minute (f first) m n e d) (itself m));
         is-first = λ r h g. absurd (omega arith);
       }
 
@@ -37,7 +39,8 @@ module _ (before : ℤ → ℤ → Bool) (itself : (x : ℤ) → before x x ≡ 
         to = omega arith;
         there = e;
         none-before =
-            below-more (λ (r : ℕ). first ≤ r → (n : ℤ) → f r ≡ Some n → before n m ≡ false) next (λ r h g n d. behind m b n t (k .none-before r h g n d))
+            below-more (λ (r : ℕ). first ≤ r → (n : ℤ) → f r ≡ Some n → before n m ≡ false) next
+            (λ r h g n d. behind m b n t (k .none-before r h g n d))
             (λ g n d. subst (λ (x : ℤ). before x m ≡ false) (same-minute (f next) m n e d) (itself m));
         is-first = λ r h g n d. ahead m b n t (k .none-before r h g n d);
       }
@@ -50,7 +53,8 @@ module _ (before : ℤ → ℤ → Bool) (itself : (x : ℤ) → before x x ≡ 
         to = let y = k .to in omega arith;
         there = k .there;
         none-before =
-            below-more (λ (r : ℕ). first ≤ r → (n : ℤ) → f r ≡ Some n → before n b ≡ false) next (λ r h g n d. k .none-before r h g n d) (λ g n d. subst (λ (x : ℤ). before x b ≡ false) (same-minute (f next) m n e d) t);
+            below-more (λ (r : ℕ). first ≤ r → (n : ℤ) → f r ≡ Some n → before n b ≡ false) next (λ r h g n d. k .none-before r h g n d)
+            (λ g n d. subst (λ (x : ℤ). before x b ≡ false) (same-minute (f next) m n e d) t);
         is-first = k .is-first;
       }
 
@@ -74,7 +78,8 @@ answers-begin : (f : ℕ → Minute) (first : ℕ) (x : Minute) → f first ≡ 
 answers-begin f first Nothing e = record { row = first; from = omega arith; to = omega arith; is = e }
 answers-begin f first (Some m) e =
     record {
-      none-refused = below-more (λ (r : ℕ). first ≤ r → f r ≡ Nothing → ⊥) first (λ r h g. absurd (omega arith)) (λ g d. not-both (f first) m e d);
+      none-refused =
+          below-more (λ (r : ℕ). first ≤ r → f r ≡ Nothing → ⊥) first (λ r h g. absurd (omega arith)) (λ g d. not-both (f first) m e d);
       early = best-begin earlier lt-itself lt-ahead lt-behind f first m e;
       late = best-begin later lt-itself gt-ahead gt-behind f first m e;
     }
@@ -124,4 +129,5 @@ answers-look f first w row (suc k) last e h a =
 pub window-answers : (f : ℕ → Minute) (first : ℕ) → Answers f first (first + 7) (windowOf f first)
 unfolding windowOf
 window-answers f first =
-    answers-look f first (beginOf first (f first)) (first + 1) 6 (first + 7) (omega arith) (omega arith) (answers-begin f first (f first) refl)
+    answers-look f first (beginOf first (f first)) (first + 1) 6 (first + 7) (omega arith) (omega arith)
+    (answers-begin f first (f first) refl)

@@ -83,7 +83,8 @@ module _ (minutes : List ℤ) (refused : List Bool) (row : ℕ) (b : row < lengt
   stored-minute z a k =
       cases (eqb k row)
       (λ t. simp (eqb-true k row t, eq-eqb row row refl, getD-set-same refused row false false b, getD-set-same minutes row z (pos 0) a))
-      (λ t. simp (t, getD-set-other refused row k false false (eqb-false k row t), getD-set-other minutes row k z (pos 0) (eqb-false k row t)))
+      (λ t. let other = eqb-false k row t in
+      simp (t, getD-set-other refused row k false false other, getD-set-other minutes row k z (pos 0) other))
 
   pub stored-refused : (k : ℕ) → minuteAt minutes (set refused row true) k ≡ cond (eqb k row) Nothing (minuteAt minutes refused k)
   unfolding minuteAt
@@ -99,12 +100,13 @@ pub record Run (o : Order) (minutes : List ℤ) (refused : List Bool) (suns : Ro
   pub done : (k : ℕ) → k < row → minuteAt minutes refused k ≡ rowMinute o k
 
 -- and that of the row behind it
-pub row-done : (o : Order) → Accepted o → (minutes after : List ℤ) (refused after' : List Bool) (suns : RowSuns) (row : ℕ) → Run o minutes refused suns row
-    → (fajr : FajrAlone) → fajr ≡ rowSunsFajrOf (o .setting) suns
+pub row-done : (o : Order) → Accepted o → (minutes after : List ℤ) (refused after' : List Bool) (suns : RowSuns) (row : ℕ)
+    → Run o minutes refused suns row → (fajr : FajrAlone) → fajr ≡ rowSunsFajrOf (o .setting) suns
     → ((k : ℕ) → minuteAt after after' k ≡ cond (eqb k row) (minuteFrom fajr) (minuteAt minutes refused k))
     → (k : ℕ) → k < row + 1 → minuteAt after after' k ≡ rowMinute o k
 row-done o a minutes after refused after' suns row r fajr f s =
     below-more (λ (k : ℕ). minuteAt after after' k ≡ rowMinute o k) row
     (λ k h. s k ∙ ap (λ (t : Bool). cond t (minuteFrom fajr) (minuteAt minutes refused k)) (ne-eqb k row (λ e. omega arith)) ∙ r .done k h)
     (s row ∙ ap (λ (t : Bool). cond t (minuteFrom fajr) (minuteAt minutes refused row)) (eq-eqb row row refl)
-    ∙ ap minuteFrom (f ∙ ap (rowSunsFajrOf (o .setting)) (r .state)) ∙ state-minute o a row (r .within))
+    ∙ ap minuteFrom (f ∙ ap (rowSunsFajrOf (o .setting)) (r .state))
+    ∙ state-minute o a row (r .within))

@@ -6,7 +6,8 @@ use Rattle.text.specs.Printed.{printedLength}
 use Rattle.weeks.specs.Report.{rowMinute, ordersReport, weekText, longestWeek}
 use Rattle.weeks.proofs.ReportLaws.{lines-length}
 
-pub week-fits : (s buffer after : List ℕ) (n : ℕ) → n ≡ printedLength longestWeek (weekText s) buffer → length after ≡ length buffer → n ≤ length after
+pub week-fits : (s buffer after : List ℕ) (n : ℕ) → n ≡ printedLength longestWeek (weekText s) buffer → length after ≡ length buffer
+    → n ≤ length after
 week-fits s =
     report-fits ordersReport longestWeek s
     (λ o e. let most = read-accepted s o e .rows .1 in

@@ -41,7 +41,8 @@ module _ (f g : ℕ → Minute) (rows : ℕ) (same : (r : ℕ) → r < rows → 
   look-same : (w : Window) (row k : ℕ) → row + k ≤ rows → lookOf f w row k ≡ lookOf g w row k
   look-same w row zero h = refl
   look-same w row (suc k) h =
-      ap (λ (m : Minute). lookOf f (seenOf w row m) (row + 1) k) (same row (omega arith)) ∙ look-same (seenOf w row (g row)) (row + 1) k (omega arith)
+      ap (λ (m : Minute). lookOf f (seenOf w row m) (row + 1) k) (same row (omega arith))
+      ∙ look-same (seenOf w row (g row)) (row + 1) k (omega arith)
 
   window-same : (first : ℕ) → first + 7 ≤ rows → windowOf f first ≡ windowOf g first
   unfolding windowOf
@@ -75,7 +76,8 @@ pair-length : (z : ℤ) (row : ℕ) → row < 1000 → length (pairText z row) �
 unfolding pairText
 pair-length z row h = let s = signed-length z in let d = row-digits row h in simp length-append (omega arith)
 
-line-length : (f : ℕ → Minute) (first next : ℕ) (w : Window) → next ≤ 1000 → first < next → Answers f first next w → length (lineOf first w) ≤ 56
+line-length : (f : ℕ → Minute) (first next : ℕ) (w : Window) → next ≤ 1000 → first < next → Answers f first next w
+    → length (lineOf first w) ≤ 56
 unfolding lineOf
 line-length f first next Refused h l a = let d = row-digits first (omega arith) in simp length-append (omega arith)
 line-length f first next (Found x) h l a =
@@ -104,8 +106,8 @@ pub no-lines : (f : ℕ → Minute) (rows : ℕ) (buffer : List ℕ) → Lined f
 unfolding linesOf
 no-lines f rows buffer = record { within = omega arith; text = refl; place = refl; same = refl }
 
-module _ (f : ℕ → Minute) (rows : ℕ) (most : rows ≤ 400) (buffer : List ℕ) (room : longestWeek ≤ length buffer) (now : List ℕ) (first end : ℕ)
-    (l : Lined f rows buffer now first end) (more : first + 6 < rows) where
+module _ (f : ℕ → Minute) (rows : ℕ) (most : rows ≤ 400) (buffer : List ℕ) (room : longestWeek ≤ length buffer)
+    (now : List ℕ) (first end : ℕ) (l : Lined f rows buffer now first end) (more : first + 6 < rows) where
   pub line-room : end + length (lineOf first (windowOf f first)) ≤ length now
   line-room =
       let i = lines-length f first (omega (arith, l .within)) in
@@ -122,7 +124,8 @@ module _ (f : ℕ → Minute) (rows : ℕ) (most : rows ≤ 400) (buffer : List 
       let same = l .same in
       record {
         within = omega arith;
-        text = rw (add-one first) (put-next buffer (linesOf f first) (lineOf first (windowOf f first)) now after end (l .text) at p (omega arith));
+        text = rw (add-one first)
+            (put-next buffer (linesOf f first) (lineOf first (windowOf f first)) now after end (l .text) at p (omega arith));
         place = rw (add-one first) (omega arith);
         same = k ∙ same;
       }

@@ -1,16 +1,14 @@
 -- `weeks::line::put_window` meets its contract: the pieces of either line, each put where the one before it ends.
-use Rattle.prelude.proofs.Logic.{_≡_, sym, _+_, _≤_, arith, length, needs, w64, SFits, now, subst, ℕ, List}
+use Rattle.prelude.proofs.Logic.{_≡_, arith, length, needs, w64, SFits, now}
 use Rattle.integers.proofs.Ranges.{read}
-use Rattle.text.specs.Text.{putOf}
-use Rattle.weeks.specs.declared.window.Window.{Window}
-use Rattle.weeks.specs.Lines.{lineOf}
 use Rattle.weeks.proofs.LineLaws.{line-front, found-bytes, refused-bytes, found-made, refused-made}
 use Rattle.weeks.proofs.line.put_window as this
 
 add-end : this.Tie.Need-add-end
 add-end c =
     let start = c .before .before .before .before .before in
-    record { fits = omega (arith, start .pre, line-front (start .args .first) (start .args .window), c .before .before .put-decimal .ensures .0) }
+    let front = line-front (start .args .first) (start .args .window) in
+    record { fits = omega (arith, start .pre, c .before .before .put-decimal .ensures .0) }
 
 put-pair-requires : this.Tie.Need-put-pair-requires
 put-pair-requires c κs =
@@ -69,7 +67,8 @@ returns c =
     let x = read w64 (matched .0 .0 .earliest) fits in
     let y = read w64 (matched .0 .0 .latest) fits2 in
     rw (matched .1)
-    (found-made (now (start .args .buffer)) (start .args .at) (start .args .first) (matched .0 .0) room _ _ _ _ _ _ _ (number .ensures .0) (number .ensures .1)
+    (found-made (now (start .args .buffer)) (start .args .at) (start .args .first) (matched .0 .0) room _ _ _ _ _ _ _
+    (number .ensures .0) (number .ensures .1)
     (rw x at (earliest .ensures .0)) (rw x at (earliest .ensures .1)) (rw y at (latest .ensures .0)) (rw y at (latest .ensures .1))
     (c .before .before .put .ensures))
 
@@ -87,10 +86,12 @@ returns-2 c =
     let number = c .before .before .before .before .before .before .before .before .before .put-decimal .ensures in
     let told = c .before .before .before .before .before .enum-told .given .1 in
     let room = rw told at (start .pre) in
-    rw told (refused-made (now (start .args .buffer)) (start .args .at) (start .args .first) room _ _ _ (number .0) (number .1) (c .before .before .put2 .ensures))
+    rw told
+    (refused-made (now (start .args .buffer)) (start .args .at) (start .args .first) room _ _ _ (number .0) (number .1) (c .before .before .put2 .ensures))
 
 pub put-window-spec : {M : Type 1} → this.Statement.statement M
 put-window-spec =
     this.Tie.close
-    (this.Tie.spec (λ c κs. search needs) add-end (λ c. search needs) put-pair-requires put-pair-requires-2 (λ c. search needs) (λ c κs. search needs)
-    add-result (λ c. search needs) (λ c. search needs) (λ c κs. search needs) add-result-2 (λ c. search needs) returns (λ c. search needs) returns-2)
+    (this.Tie.spec (λ c κs. search needs) add-end (λ c. search needs) put-pair-requires put-pair-requires-2 (λ c. search needs)
+    (λ c κs. search needs) add-result (λ c. search needs) (λ c. search needs) (λ c κs. search needs) add-result-2 (λ c. search needs) returns
+    (λ c. search needs) returns-2)

@@ -23,7 +23,8 @@ loop-again c =
     let a = c .before .before .before .before .before .before .args in
     let l = c .before .before .before .loop in
     rw (c .seen .ensures, c .before .minute-at2 .ensures)
-    (look-next (minuteAt (now (a .minutes)) (now (a .refused))) (a .first) (l .window) (l .row) (l .inv) (c .before .before .loop-test .taken))
+    (look-next (minuteAt (now (a .minutes)) (now (a .refused))) (a .first) (l .window) (l .row) (l .inv)
+    (c .before .before .loop-test .taken))
 
 returns : this.Tie.Need-returns Inv-loop μ-loop
 returns c =

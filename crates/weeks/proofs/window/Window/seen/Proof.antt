@@ -5,10 +5,11 @@ returns : this.Tie.Need-returns
 returns c =
     let given = c .before .before .before .minute .given in
     let x : toZ w64 (ofZ w64 (given .0 .0)) ≡ given .0 .0 = search needs in
-    rw (c .before .before .before .before .before .before .self .given .1, given .1, c .with-latest .ensures, c .before .with-earliest .ensures, x)
+    let self-given = c .before .before .before .before .before .before .self .given in
+    rw (self-given .1, given .1, c .with-latest .ensures, c .before .with-earliest .ensures, x)
 
 pub seen-spec : {M : Type 1} → this.Statement.statement M
 seen-spec =
     this.Tie.close
-    (this.Tie.spec (λ c. search needs) (λ c. search needs) (λ c κs. search needs) (λ c κs. search needs) (λ c. search needs) (λ c. search needs) returns
-    (λ c. search needs) (λ c. search needs))
+    (this.Tie.spec (λ c. search needs) (λ c. search needs) (λ c κs. search needs) (λ c κs. search needs) (λ c. search needs) (λ c. search needs)
+    returns (λ c. search needs) (λ c. search needs))
