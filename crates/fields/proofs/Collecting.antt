@@ -21,11 +21,6 @@ pub fault-is : (s : List ℕ) (at : ℕ) (seen : List Bool) (tag size n : ℕ) (
 unfolding faultOf
 fault-is s at seen tag size n again t z a e = e ∙ rw (a, t, z) refl
 
--- if the header is cut, whatever its bytes would say
-pub header-cut : (s : List ℕ) (at : ℕ) (seen : List Bool) → length s - at < 3 → 1 ≡ faultOf s seen at
-unfolding faultOf faultIn
-header-cut s at seen h = simp (lt-ltb _ _ h)
-
 pub record Checking (s : List ℕ) (at : ℕ) (seen : List Bool) : Type 0 where
   pub left : ℕ
   pub enough : length s ≤ at + left
@@ -129,12 +124,6 @@ pub checked-not : (s : List ℕ) (n at : ℕ) → checkOf s ≡ refusal n at →
     → _≡_ {A = Checked} (record { refusal = refusal n at; fields = noFields }) (checkedOf s)
 unfolding checkedOf
 checked-not s n at e f = rw e (simp (ne-eqb n 0 f))
-
-pub refused-field : (s : List ℕ) (at : ℕ) (starts lengths : List ℕ) → Collecting s at starts lengths → length s ≤ 1024 → at < length s
-    → (n : ℕ) → n ≡ faultOf s (seenIn starts) at → (n ≡ 0 → ⊥) → _≡_ {A = Checked} (record { refusal = refusal n at; fields = noFields }) (checkedOf s)
-refused-field s at starts lengths c short l n e f =
-    checked-not s n at
-    (check-walk s short ∙ refused-here s at starts lengths c l (λ z. f (e ∙ z)) ∙ ap (λ (m : ℕ). refusal m at) (sym e)) f
 
 pub checked-all : (s : List ℕ) (fields : Fields) → checkOf s ≡ noRefusal → fields ≡ fieldsOf s
     → _≡_ {A = Checked} (record { refusal = noRefusal; fields = fields }) (checkedOf s)

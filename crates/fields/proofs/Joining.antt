@@ -1,17 +1,11 @@
 -- Laws of the numbers that bytes write: a byte put behind others by a shift, and sixteen bits with a sign in an i32.
-use Rattle.prelude.proofs.Logic.{_≡_, refl, sym, ap, _∙_, List, ℕ, zero, suc, _≤_, _<_, _+_, _*_, _^_, _%_, mod-eq-of-lt, lt-of-lt-of-le, add-one, arith, pos, _-ℤ_, pow-mono, pow-add, lt-ltb, le-ltb, take, getD-take, w32, toZ, ofZ, SFits, toZ-pos, toZ-ofZ}
+use Rattle.prelude.proofs.Logic.{_≡_, sym, ap, _∙_, List, ℕ, _≤_, _<_, _+_, _*_, _^_, _%_, mod-eq-of-lt, lt-of-lt-of-le, add-one, arith, pos, _-ℤ_, pow-mono, pow-add, lt-ltb, le-ltb, w32, toZ, ofZ, SFits, toZ-pos, toZ-ofZ}
 use lib.Bits.{bitOr, or-shifted}
 use Rattle.fields.specs.Numbers.{byteOf, unsignedOf, signedAtOf, bytesNumberOf}
 
 pub join-on : (v : List ℕ) (i : ℕ) → bytesNumberOf (i + 1) v ≡ bytesNumberOf i v * 256 + byteOf v i
 unfolding bytesNumberOf
 join-on v i = rw add-one
-
--- the first bytes of a longer part are the part's
-pub join-take : (k n : ℕ) (v : List ℕ) → k ≤ n → bytesNumberOf k (take n v) ≡ bytesNumberOf k v
-unfolding bytesNumberOf
-join-take zero n v h = refl
-join-take (suc k) n v h = rw (join-take k n v (omega arith), getD-take n v k 0 (omega arith)) refl
 
 -- a shift by a byte and an or put a byte behind fewer than eight
 pub shift-in : (x b i : ℕ) → i < 8 → x < 2 ^ (8 * i) → b < 256 → bitOr (x * 2 ^ 8 % 2 ^ 64) b ≡ x * 256 + b

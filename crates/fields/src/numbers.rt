@@ -39,7 +39,8 @@ pub fn signed(bytes: &[u8], at: usize) -> i32
     }
 }
 
-fn joined(bytes: &[u8]) -> u64
+// The first eight bytes.
+pub fn bits(bytes: &[u8]) -> u64
     ensures { λ r. ⌜ r ≡ bitsOf (now (bytes .entry)) ⌝ }
 {
     let mut x: u64 = 0;
@@ -49,16 +50,6 @@ fn joined(bytes: &[u8]) -> u64
         i = i + 1;
     }
     x
-}
-
-// The first eight bytes. If they are there, which the compiler then knows, they are one load.
-pub fn bits(bytes: &[u8]) -> u64
-    ensures { λ r. ⌜ r ≡ bitsOf (now (bytes .entry)) ⌝ }
-{
-    if 8 <= bytes.len() {
-        return joined(&bytes[0..8]);
-    }
-    joined(bytes)
 }
 
 // The float whose bit pattern is the first eight bytes.

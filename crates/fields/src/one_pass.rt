@@ -45,13 +45,9 @@ fn pass(order: &[u8]) -> Checked
     let mut lengths = [0u8; TAGS];
     let mut at = 0;
     while at < order.len() {
-        let left = order.len() - at;
-        if left < HEADER_LENGTH {
-            return refused(FIELD_CUT, at as u32);
-        }
         let tag = byte(order, at);
         let length = unsigned(order, at + 1);
-        let number = fault(tag, length, stands(&starts, tag), left);
+        let number = fault(tag, length, stands(&starts, tag), order.len() - at);
         if number != 0 {
             return refused(number, at as u32);
         }

@@ -1,7 +1,6 @@
 // The tags by what they give, and their table: a new tag is a new name, a new row and a new last tag. The names of tags 18 and 19 are map_form's.
 ghost use mathlib.Core.Path.{_≡_};
-ghost use Prim.Native.Nat.{_≤_};
-ghost use Rattle.fields.specs.Tags.{lastTag, column, knownTag, lengthFits, choiceFits};
+ghost use Rattle.fields.specs.Tags.{knownTag, lengthFits, choiceFits};
 
 pub const TOWN: u32 = 1;
 
@@ -41,43 +40,46 @@ pub const RAMADAN: u32 = 20;
 
 pub const LAST_TAG: u32 = 20;
 
-// There is no tag 0, but a row stands for it.
+// There is no tag 0, but the table has a row for it.
 pub const TAGS: usize = LAST_TAG as usize + 1;
 
 pub const LONGEST_TOWN: u32 = 40;
 
-// The shortest and the longest value, and the lowest and the highest number if the value is one byte that chooses.
-struct Limits(u32, u32, u32, u32);
-
-// By tag: a constant array would be stored anew at each use. Nothing fits the row of 0, which is no tag.
-fn row(tag: u32) -> Limits
-    requires { ⌜ tag ≤ lastTag ⌝ }
-    ensures { λ r. ⌜ (r .0 ≡ column tag 0) × (r .1 ≡ column tag 1) × (r .2 ≡ column tag 2) × (r .3 ≡ column tag 3) ⌝ }
-{
-    match tag {
-        TOWN => Limits(1, LONGEST_TOWN, 0, 0),
-        DATE => Limits(4, 4, 0, 0),
-        ROWS => Limits(1, 2, 0, 0),
-        LATITUDE => Limits(8, 8, 0, 0),
-        LONGITUDE => Limits(8, 8, 0, 0),
-        METHOD => Limits(1, 1, 0, 12),
-        MADHAB => Limits(1, 1, 1, 2),
-        HIGH_LATITUDE_RULE => Limits(1, 1, 0, 2),
-        ROUNDING => Limits(1, 1, 0, 2),
-        SHAFAQ => Limits(1, 1, 0, 2),
-        MINUTES => Limits(12, 12, 0, 0),
-        FAJR_ANGLE => Limits(8, 8, 0, 0),
-        ISHA_ANGLE => Limits(8, 8, 0, 0),
-        ISHA_INTERVAL => Limits(2, 2, 0, 0),
-        MIDNIGHT => Limits(1, 1, 0, 1),
-        CLOCK => Limits(2, 2, 0, 0),
-        SOUTHERN => Limits(1, 1, 0, 1),
-        18 => Limits(5, 5, 0, 0),
-        19 => Limits(5, 5, 0, 0),
-        RAMADAN => Limits(2, 2, 0, 0),
-        _ => Limits(1, 0, 1, 0),
-    }
-}
+// By tag: the shortest and the longest value, and the lowest and the highest number if the value is one byte that chooses.
+const TABLE: [[u8; 4]; TAGS] = [
+    [1, 0, 1, 0],
+    // Town, date, rows.
+    [1, LONGEST_TOWN as u8, 0, 0],
+    [4, 4, 0, 0],
+    [1, 2, 0, 0],
+    // Latitude, longitude.
+    [8, 8, 0, 0],
+    [8, 8, 0, 0],
+    // Method, madhab, high latitude rule, rounding, shafaq.
+    [1, 1, 0, 12],
+    [1, 1, 1, 2],
+    [1, 1, 0, 2],
+    [1, 1, 0, 2],
+    [1, 1, 0, 2],
+    // Six minutes.
+    [12, 12, 0, 0],
+    // Fajr angle, Isha angle.
+    [8, 8, 0, 0],
+    [8, 8, 0, 0],
+    // Isha interval.
+    [2, 2, 0, 0],
+    // At midnight.
+    [1, 1, 0, 1],
+    // Clock.
+    [2, 2, 0, 0],
+    // The southern season.
+    [1, 1, 0, 1],
+    // Latitude and longitude as on the map.
+    [5, 5, 0, 0],
+    [5, 5, 0, 0],
+    // Imsak and shift.
+    [2, 2, 0, 0],
+];
 
 pub(crate) fn known(tag: u32) -> bool
     ensures { λ r. ⌜ r ≡ knownTag tag ⌝ }
@@ -91,8 +93,8 @@ pub(crate) fn length_fits(tag: u32, length: u32) -> bool
     if LAST_TAG < tag {
         return false;
     }
-    let row = row(tag);
-    (row.0 <= length) & (length <= row.1)
+    let row = TABLE[tag as usize];
+    (row[0] as u32 <= length) & (length <= row[1] as u32)
 }
 
 pub fn choice_fits(tag: u32, number: u32) -> bool
@@ -101,6 +103,6 @@ pub fn choice_fits(tag: u32, number: u32) -> bool
     if LAST_TAG < tag {
         return false;
     }
-    let row = row(tag);
-    (row.2 <= number) & (number <= row.3)
+    let row = TABLE[tag as usize];
+    (row[2] as u32 <= number) & (number <= row[3] as u32)
 }

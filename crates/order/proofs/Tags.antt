@@ -1,11 +1,7 @@
 -- The first of some tags that does not pass, tag by tag: what the reader's two loops go by. Assumes nothing.
-use Rattle.prelude.proofs.Logic.{_≡_, refl, ap, _∙_, Bool, true, false, cond, List, [], _∷_, ℕ, zero, suc, _+_, _≤_, _<_, add-one, arith, ltb, length, getD, drop, drop-of-length-le, drop-cons, arms}
-use Rattle.calendar.specs.declared.dates.Date.{Date}
-use Rattle.fields.specs.declared.{values.Fields.Fields, values.Part.Part}
-use Rattle.fields.specs.Values.{partIn, partFor, hasIn}
-use Rattle.refusals.specs.Refusals.{refusal, noRefusal, outOfRange}
+use Rattle.prelude.proofs.Logic.{_≡_, refl, ap, _∙_, Bool, true, false, cond, List, [], _∷_, ℕ, zero, suc, _+_, _≤_, _<_, add-one, arith, length, getD, drop, drop-of-length-le, drop-cons, arms}
+use Rattle.refusals.specs.Refusals.{refusal, noRefusal}
 use Rattle.refusals.specs.declared.Refusal.{Refusal}
-use Rattle.order.specs.Ranges.{fitsIn}
 use Rattle.order.specs.Reading.{firstFailing, tagsFrom}
 
 module _ (number : ℕ) (passes : ℕ → Bool) (tags : List ℕ) (i : ℕ) where
@@ -60,15 +56,3 @@ pub tags-length : (k from : ℕ) → length (tagsFrom k from) ≡ k
 unfolding tagsFrom
 tags-length zero from = refl
 tags-length (suc k) from = ap suc (tags-length k (from + 1))
-
--- ---- the tags by their ranges, one before those that are judged already
-module _ (s : List ℕ) (fields : Fields) (date : Date) (ramadan : Bool) where
-  abbrev pub passes-range : ℕ → Bool
-  passes-range tag = cond (hasIn fields tag) (fitsIn tag (partIn s (partFor fields tag)) date ramadan) true
-
-  pub judge : (k tag : ℕ) (part : Part) (rest r : Refusal) → part ≡ partFor fields tag
-      → rest ≡ firstFailing outOfRange passes-range (tagsFrom k (tag + 1))
-      → r ≡ cond (cond (ltb 0 (part .at)) (fitsIn tag (partIn s part) date ramadan) true) rest (refusal outOfRange tag)
-      → r ≡ firstFailing outOfRange passes-range (tagsFrom (suc k) tag)
-  unfolding firstFailing tagsFrom
-  judge k tag part rest r p e h = h ∙ rw (p, e) refl

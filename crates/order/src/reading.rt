@@ -1,10 +1,6 @@
 // Reading an order: the form of its fields, then missing tags, then coordinates in both forms, then ranges, then the first day of a Ramadan sheet.
 ghost use mathlib.Core.Path.{_≡_};
-ghost use mathlib.Core.Bool.{true, cond};
-ghost use lib.Dec.{ltb};
-ghost use Rattle.refusals.specs.Refusals.{refusal, outOfRange};
-ghost use Rattle.fields.specs.Values.{hasIn, partIn, valuesIn};
-ghost use Rattle.order.specs.Ranges.{fitsIn};
+ghost use Rattle.fields.specs.Values.{hasIn, valuesIn};
 ghost use Rattle.order.specs.Reading.{isGivenOf, missingOf, bothFormsOf, outOfRangeOf, orderOf, wrongStartOf, firstOf, checksOf, readingOf, townIn};
 use super::given::clock_in;
 use super::given::coordinate_in;
@@ -17,6 +13,7 @@ use super::ranges::in_range;
 use calendar::dates::Date;
 use fields::one_pass::fields_of;
 use fields::tags;
+use fields::tags::LAST_TAG;
 use fields::values::Fields;
 use fields::values::Part;
 use fields::values::bytes;
@@ -99,44 +96,28 @@ fn both_forms(fields: Fields) -> Refusal
     Refusal::none()
 }
 
-// `rest`, or the refusal of the tag if its value is out of range.
-fn judged(tag: u32, order: &[u8], part: Part, date: Date, ramadan: bool, rest: Refusal) -> Refusal
-    ensures { λ r. ⌜ r ≡ cond (cond (ltb 0 (part .at)) (fitsIn tag (partIn (now (order .entry)) part) date ramadan) true) rest (refusal outOfRange tag) ⌝ }
-{
-    if in_range(tag, order, part, date, ramadan) {
-        return rest;
-    }
-    Refusal::new(OUT_OF_RANGE, tag)
-}
-
-// By the lowest tag whose value is out of range. Each line has its number, so that the compiler leaves of `fits` that tag's test alone.
+// By the lowest tag whose value is out of range.
 fn out_of_range(order: &[u8], fields: Fields) -> Refusal
     ensures { λ r. ⌜ r ≡ outOfRangeOf (valuesIn (now (order .entry)) fields) ⌝ }
 {
+    let starts = fields.at;
+    let lengths = fields.length;
     let date = date_in(value(order, fields, tags::DATE));
     let ramadan = fields.has(tags::RAMADAN);
-    let rest = Refusal::none();
-    let rest = judged(20, order, fields.part(20), date, ramadan, rest);
-    let rest = judged(19, order, fields.part(19), date, ramadan, rest);
-    let rest = judged(18, order, fields.part(18), date, ramadan, rest);
-    let rest = judged(17, order, fields.part(17), date, ramadan, rest);
-    let rest = judged(16, order, fields.part(16), date, ramadan, rest);
-    let rest = judged(15, order, fields.part(15), date, ramadan, rest);
-    let rest = judged(14, order, fields.part(14), date, ramadan, rest);
-    let rest = judged(13, order, fields.part(13), date, ramadan, rest);
-    let rest = judged(12, order, fields.part(12), date, ramadan, rest);
-    let rest = judged(11, order, fields.part(11), date, ramadan, rest);
-    let rest = judged(10, order, fields.part(10), date, ramadan, rest);
-    let rest = judged(9, order, fields.part(9), date, ramadan, rest);
-    let rest = judged(8, order, fields.part(8), date, ramadan, rest);
-    let rest = judged(7, order, fields.part(7), date, ramadan, rest);
-    let rest = judged(6, order, fields.part(6), date, ramadan, rest);
-    let rest = judged(5, order, fields.part(5), date, ramadan, rest);
-    let rest = judged(4, order, fields.part(4), date, ramadan, rest);
-    let rest = judged(3, order, fields.part(3), date, ramadan, rest);
-    let rest = judged(2, order, fields.part(2), date, ramadan, rest);
-    let rest = judged(1, order, fields.part(1), date, ramadan, rest);
-    rest
+    let mut passed = 0;
+    while passed < LAST_TAG {
+        let tag = passed + 1;
+        let row = tag as usize;
+        let part = Part {
+            at: starts[row] as u32,
+            length: lengths[row] as u32,
+        };
+        if !in_range(tag, order, part, date, ramadan) {
+            return Refusal::new(OUT_OF_RANGE, tag);
+        }
+        passed = tag;
+    }
+    Refusal::none()
 }
 
 fn record_in(order: &[u8], fields: Fields) -> Order

@@ -1,9 +1,10 @@
 -- `fields::one_pass::pass` meets its contract. The invariant: with what was collected, which says the tags seen, both passes of the definition answer
 -- from here on what they answer from the start.
-use Rattle.prelude.proofs.Logic.{_≡_, sym, _∙_, _-_, arith, length, needs, now}
+use Rattle.prelude.proofs.Logic.{_≡_, sym, ap, _∙_, ℕ, _-_, arith, length, needs, now}
+use Rattle.refusals.specs.Refusals.{refusal}
 use Rattle.fields.specs.Fields.{lengthAt, longestOrder, faultOf}
 use Rattle.fields.proofs.FieldsLaws.{Good, fault-none, good-row, good-short}
-use Rattle.fields.proofs.Collecting.{Collecting, seenIn, seen-collected, collect-first, fault-is, header-cut, refused-field, nothing-refused, collected-on, collected-all, check-walk, checked-all}
+use Rattle.fields.proofs.Collecting.{Collecting, seenIn, seen-collected, collect-first, fault-is, refused-here, nothing-refused, collected-on, collected-all, check-walk, checked-not, checked-all}
 use Rattle.fields.proofs.one_pass.pass as this
 
 abbrev Inv-loop : this.Tie.InvT-loop
@@ -14,7 +15,7 @@ abbrev μ-loop : this.Tie.MeasureT-loop
 
 -- the field's offset, and before it the loop's start and the function's
 abbrev in-loop : this.Tie.After-fault Inv-loop μ-loop → this.Tie.In-loop Inv-loop μ-loop
-in-loop f = f .before .before .before .before .before .before
+in-loop f = f .before .before .before .before .before
 
 abbrev start : this.Tie.After-fault Inv-loop μ-loop → this.Tie.Start Inv-loop μ-loop
 start f = in-loop f .before .before .before
@@ -40,31 +41,23 @@ good f none =
 
 returns : this.Tie.Need-returns Inv-loop μ-loop
 returns c =
-    let i = c .before .before in
-    let l = i .before .loop in
-    let first = i .before .before .before in
-    let s = now (first .args .order) in
-    c .refused .ensures
-    ∙ refused-field s (l .at) (l .starts) (l .lengths) (l .inv) (first .pre) (i .loop-test .taken) 1
-    (header-cut s (l .at) (seenIn (l .starts)) (c .before .if1 .taken)) (λ z. absurd (omega arith))
-
-returns-2 : this.Tie.Need-returns-2 Inv-loop μ-loop
-returns-2 c =
     let f = c .before .before in
     let l = in-loop f .before .loop in
-    c .refused2 .ensures
-    ∙ refused-field (now (start f .args .order)) (l .at) (l .starts) (l .lengths) (l .inv) (start f .pre) (in-loop f .loop-test .taken)
-    (f .fault .result) (fault-holds f) (c .before .if2 .taken)
+    let s = now (start f .args .order) in
+    let e = fault-holds f in
+    let stop = refused-here s (l .at) (l .starts) (l .lengths) (l .inv) (in-loop f .loop-test .taken) (λ z. c .before .if1 .taken (e ∙ z)) in
+    c .refused .ensures
+    ∙ checked-not s (f .fault .result) (l .at) (check-walk s (start f .pre) ∙ stop ∙ ap (λ (n : ℕ). refusal n (l .at)) (sym e)) (c .before .if1 .taken)
 
 room : this.Tie.Need-array-write-starts Inv-loop μ-loop
 room c =
     let f = c .before in
-    rw (f .before .before .before .before .byte .ensures .0) (good-row (now (start f .args .order)) (in-loop f .before .loop .at) (good f (c .if2 .left)))
+    rw (f .before .before .before .before .byte .ensures .0) (good-row (now (start f .args .order)) (in-loop f .before .loop .at) (good f (c .if1 .left)))
 
 short : this.Tie.Need-cast-lengths Inv-loop μ-loop
 short c =
     let f = c .before in
-    let n = good-short (now (start f .args .order)) (in-loop f .before .loop .at) (good f (c .if2 .left)) in
+    let n = good-short (now (start f .args .order)) (in-loop f .before .loop .at) (good f (c .if1 .left)) in
     omega (arith, n, size-here f)
 
 loop-again : this.Tie.Need-loop-again Inv-loop μ-loop
@@ -72,10 +65,10 @@ loop-again c =
     let f = c .before in
     let l = in-loop f .before .loop in
     rw (f .before .before .before .before .byte .ensures .0, size-here f)
-    (collected-on (now (start f .args .order)) (l .at) (l .starts) (l .lengths) (l .inv) (in-loop f .loop-test .taken) (sym (fault-holds f) ∙ c .if2 .left))
+    (collected-on (now (start f .args .order)) (l .at) (l .starts) (l .lengths) (l .inv) (in-loop f .loop-test .taken) (sym (fault-holds f) ∙ c .if1 .left))
 
-returns-3 : this.Tie.Need-returns-3 Inv-loop μ-loop
-returns-3 c =
+returns-2 : this.Tie.Need-returns-2 Inv-loop μ-loop
+returns-2 c =
     let l = c .before .before .loop in
     let first = c .before .before .before .before in
     let s = now (first .args .order) in
@@ -85,8 +78,8 @@ returns-3 c =
     (collected-all s (l .at) (l .starts) (l .lengths) (l .inv) ended))
 
 pub pass-spec : {M : Type 1} → this.Statement.statement M
-pass-spec = this.Tie.close (this.Tie.spec Inv-loop μ-loop (λ c. collect-first (now (c .before .args .order))) (λ c. search needs) (λ c. search needs)
-    (λ c κs. search needs) returns (λ c κs. search needs) (λ c. search needs) (λ c κs. search needs)
-    (λ c. sym (c .before .before .before .before .before .loop .inv .sizes .0)) (λ c κs. search needs) (λ c κs. search needs) (λ c. search needs)
-    (λ c κs. search needs) returns-2 (λ c. search needs) (λ c. search needs) (λ c. search needs) (λ c. search needs) room short (λ c. search needs)
-    room (λ c. search needs) (λ c. search needs) (λ c. search needs) (λ c. search needs) loop-again (λ c κs. search needs) returns-3)
+pass-spec = this.Tie.close (this.Tie.spec Inv-loop μ-loop (λ c. collect-first (now (c .before .args .order))) (λ c κs. search needs)
+    (λ c. search needs) (λ c κs. search needs) (λ c. sym (c .before .before .before .before .loop .inv .sizes .0)) (λ c κs. search needs)
+    (λ c. search needs) (λ c κs. search needs) (λ c. search needs) (λ c κs. search needs) returns (λ c. search needs) (λ c. search needs)
+    (λ c. search needs) (λ c. search needs) room short (λ c. search needs) room (λ c. search needs) (λ c. search needs) (λ c. search needs)
+    (λ c. search needs) loop-again (λ c κs. search needs) returns-2)

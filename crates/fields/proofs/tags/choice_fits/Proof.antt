@@ -1,12 +1,14 @@
--- `fields::tags::choice_fits` meets its contract.
-use Rattle.prelude.proofs.Logic.{sym, needs, le-leb, lt-leb}
+-- `fields::tags::choice_fits` meets its contract: the code's table is the definition's, and each of its numbers fits a byte.
+use Rattle.prelude.proofs.Logic.{arith, needs, le-leb, lt-leb}
 use Rattle.fields.specs.Tags.{choiceFits}
+use Rattle.fields.proofs.FieldsLaws.{column-small}
 use Rattle.fields.proofs.tags.choice_fits as this
 
 pub choice-fits-spec : {M : Type 1} → this.Statement.statement M
 unfolding choiceFits
 choice-fits-spec =
     let returns : this.Tie.Need-returns = λ c. simp (lt-leb _ _ (c .if1 .taken)) in
-    let returns-2 : this.Tie.Need-returns-2 = λ c.
-    simp (le-leb _ _ (c .before .before .before .if1 .left), c .before .before .row .ensures .2, c .before .before .row .ensures .3) in
-    this.Tie.close (this.Tie.spec returns (λ c κs. search needs) returns-2)
+    let low : this.Tie.Need-cast-result = λ c. record { fits = omega (arith, column-small (c .before .before .args .tag) 2) } in
+    let high : this.Tie.Need-cast-result-2 = λ c. record { fits = omega (arith, column-small (c .before .before .args .tag) 3) } in
+    let returns-2 : this.Tie.Need-returns-2 = λ c. simp (le-leb _ _ (c .before .if1 .left)) in
+    this.Tie.close (this.Tie.spec returns (λ c. search needs) (λ c. search needs) (λ c. search needs) low (λ c. search needs) high returns-2)

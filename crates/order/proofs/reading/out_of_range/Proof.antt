@@ -1,52 +1,83 @@
--- `order::reading::out_of_range` meets its contract: a line for each tag.
-use Rattle.prelude.proofs.Logic.{refl, _∙_, now}
-use Rattle.fields.specs.Values.{valuesIn}
-use Rattle.order.specs.Ranges.{fitsOf, inRangeOf}
+-- `order::reading::out_of_range` meets its contract. The invariant: the first that fails from here on is the first of all.
+use Rattle.prelude.proofs.Logic.{_≡_, refl, sym, _∙_, Bool, true, cond, List, ℕ, _-_, _≤_, arith, ltb, length, drop, getD, needs, not-true, not-false, now}
+use Rattle.calendar.specs.declared.dates.Date.{Date}
+use Rattle.fields.specs.Tags.{lastTag}
+use Rattle.fields.specs.declared.values.Fields.{Fields}
+use Rattle.fields.specs.Values.{partIn, partFor, hasIn, valuesIn}
+use Rattle.order.specs.Given.{dateIn}
+use Rattle.order.specs.Ranges.{fitsIn, fitsOf, inRangeOf}
 use Rattle.order.specs.Reading.{firstFailing, tagsFrom, outOfRangeOf}
-use Rattle.order.proofs.Tags.{judge}
+use Rattle.order.proofs.Tags.{fails, on, none, tags-from, tags-length}
 use Rattle.order.proofs.reading.out_of_range as this
 
-returns : this.Tie.Need-returns
-unfolding outOfRangeOf inRangeOf fitsOf valuesIn firstFailing tagsFrom
+-- as many as there are
+all : length (tagsFrom lastTag 1) ≡ lastTag
+all = tags-length lastTag 1
+
+-- whether a tag passes, by what the code holds in the loop
+abbrev passes : List ℕ → List ℕ → List ℕ → Date → Bool → ℕ → Bool
+passes s starts lengths date ramadan tag =
+    cond (ltb 0 (getD starts tag 0)) (fitsIn tag (partIn s (record { at = getD starts tag 0; length = getD lengths tag 0 })) date ramadan) true
+
+held : (s : List ℕ) (f : Fields) (date : Date) (ramadan : Bool) → date ≡ dateIn (partIn s (partFor f 2)) → ramadan ≡ hasIn f 20
+    → firstFailing 5 (passes s (f .at) (f .length) date ramadan) (tagsFrom lastTag 1) ≡ outOfRangeOf (valuesIn s f)
+unfolding outOfRangeOf inRangeOf fitsOf valuesIn
+held s f date ramadan d r = rw (d, r) refl
+
+abbrev Inv-loop : this.Tie.InvT-loop
+Inv-loop order starts lengths date ramadan passed₀ passed =
+    (passed ≤ lastTag)
+    × (firstFailing 5 (passes order starts lengths date ramadan) (drop passed (tagsFrom lastTag 1)) ≡ firstFailing 5 (passes order starts lengths date ramadan) (tagsFrom lastTag 1))
+
+abbrev μ-loop : this.Tie.MeasureT-loop
+μ-loop order starts lengths date ramadan passed₀ passed = lastTag - passed
+
+-- whether a tag passes, and what the first that does not means, at the loop
+passing : (c : this.Tie.At-loop Inv-loop μ-loop) → ℕ → Bool
+passing c =
+    let a = c .before .before .before .before .before .before .before .args in
+    passes (now (a .order)) (a .fields .at) (a .fields .length) (c .before .before .date-in .result) (c .before .has .result)
+
+first : (c : this.Tie.At-loop Inv-loop μ-loop) → let a = c .before .before .before .before .before .before .before .args in
+    firstFailing 5 (passing c) (drop (c .loop .passed) (tagsFrom lastTag 1)) ≡ outOfRangeOf (valuesIn (now (a .order)) (a .fields))
+unfolding passing valuesIn
+first c =
+    let d = c .before .before in
+    let a = d .before .before .before .before .before .args in
+    c .loop .inv .1
+    ∙ held (now (a .order)) (a .fields) (d .date-in .result) (c .before .has .result) (rw (← d .before .value .ensures) (d .date-in .ensures))
+    (c .before .has .ensures)
+
+returns : this.Tie.Need-returns Inv-loop μ-loop
+unfolding passing
 returns c =
-    let c2 = c .before .before in let c3 = c2 .before .before in let c4 = c3 .before .before in
-    let c5 = c4 .before .before in let c6 = c5 .before .before in let c7 = c6 .before .before in
-    let c8 = c7 .before .before in let c9 = c8 .before .before in let c10 = c9 .before .before in
-    let c11 = c10 .before .before in let c12 = c11 .before .before in let c13 = c12 .before .before in
-    let c14 = c13 .before .before in let c15 = c14 .before .before in let c16 = c15 .before .before in
-    let c17 = c16 .before .before in let c18 = c17 .before .before in let c19 = c18 .before .before in
-    let c20 = c19 .before .before in
-    let d = c20 .before .before in
-    let h = d .before in
-    let g = h .before in
-    let a = g .before .before .before .args in
-    let s = now (a .order) in
-    let date = g .date-in .result in
-    let ramadan = h .has .result in
-    let go = judge s (a .fields) date ramadan in
-    let e20 = go 0 20 _ _ _ (c20 .before .part .ensures) (d .none .ensures) (c20 .judged .ensures) in
-    let e19 = go 1 19 _ _ _ (c19 .before .part2 .ensures) e20 (c19 .judged2 .ensures) in
-    let e18 = go 2 18 _ _ _ (c18 .before .part3 .ensures) e19 (c18 .judged3 .ensures) in
-    let e17 = go 3 17 _ _ _ (c17 .before .part4 .ensures) e18 (c17 .judged4 .ensures) in
-    let e16 = go 4 16 _ _ _ (c16 .before .part5 .ensures) e17 (c16 .judged5 .ensures) in
-    let e15 = go 5 15 _ _ _ (c15 .before .part6 .ensures) e16 (c15 .judged6 .ensures) in
-    let e14 = go 6 14 _ _ _ (c14 .before .part7 .ensures) e15 (c14 .judged7 .ensures) in
-    let e13 = go 7 13 _ _ _ (c13 .before .part8 .ensures) e14 (c13 .judged8 .ensures) in
-    let e12 = go 8 12 _ _ _ (c12 .before .part9 .ensures) e13 (c12 .judged9 .ensures) in
-    let e11 = go 9 11 _ _ _ (c11 .before .part10 .ensures) e12 (c11 .judged10 .ensures) in
-    let e10 = go 10 10 _ _ _ (c10 .before .part11 .ensures) e11 (c10 .judged11 .ensures) in
-    let e9 = go 11 9 _ _ _ (c9 .before .part12 .ensures) e10 (c9 .judged12 .ensures) in
-    let e8 = go 12 8 _ _ _ (c8 .before .part13 .ensures) e9 (c8 .judged13 .ensures) in
-    let e7 = go 13 7 _ _ _ (c7 .before .part14 .ensures) e8 (c7 .judged14 .ensures) in
-    let e6 = go 14 6 _ _ _ (c6 .before .part15 .ensures) e7 (c6 .judged15 .ensures) in
-    let e5 = go 15 5 _ _ _ (c5 .before .part16 .ensures) e6 (c5 .judged16 .ensures) in
-    let e4 = go 16 4 _ _ _ (c4 .before .part17 .ensures) e5 (c4 .judged17 .ensures) in
-    let e3 = go 17 3 _ _ _ (c3 .before .part18 .ensures) e4 (c3 .judged18 .ensures) in
-    let e2 = go 18 2 _ _ _ (c2 .before .part19 .ensures) e3 (c2 .judged19 .ensures) in
-    let e1 = go 19 1 _ _ _ (c .before .part20 .ensures) e2 (c .judged20 .ensures) in
-    e1 ∙ rw (g .date-in .ensures, g .before .value .ensures, h .has .ensures) refl
+    let h = c .before .before in
+    let l = h .before .before in
+    let t = h .before .loop-test .taken in
+    c .new .ensures
+    ∙ sym (fails 5 (passing l) (tagsFrom lastTag 1) (l .loop .passed) (omega (arith, all)) _ (tags-from lastTag 1 (l .loop .passed) t)
+    (sym (h .in-range .ensures) ∙ not-true _ (c .before .if1 .taken)))
+    ∙ first l
+
+loop-again : this.Tie.Need-loop-again Inv-loop μ-loop
+unfolding passing
+loop-again c =
+    let h = c .before in
+    let l = h .before .before in
+    let t = h .before .loop-test .taken in (
+      search needs,
+      sym (on 5 (passing l) (tagsFrom lastTag 1) (l .loop .passed) (omega (arith, all)) _ (tags-from lastTag 1 (l .loop .passed) t)
+          (sym (h .in-range .ensures) ∙ not-false _ (c .if1 .left))) ∙ l .loop .inv .1,
+    )
+
+returns-2 : this.Tie.Need-returns-2 Inv-loop μ-loop
+returns-2 c =
+    let l = c .before .before in
+    c .none .ensures ∙ sym (none 5 (passing l) (tagsFrom lastTag 1) (l .loop .passed) (omega (arith, all, c .before .loop-test .left))) ∙ first l
 
 pub out-of-range-spec : {M : Type 1} → this.Statement.statement M
 out-of-range-spec =
-    this.Tie.close
-    (this.Tie.spec (λ c κs. tt) (λ c κs. tt) (λ c κs. tt) (λ c κs. tt) (λ c κs. tt) (λ c κs. tt) (λ c κs. tt) (λ c κs. tt) (λ c κs. tt) (λ c κs. tt) (λ c κs. tt) (λ c κs. tt) (λ c κs. tt) (λ c κs. tt) (λ c κs. tt) (λ c κs. tt) (λ c κs. tt) (λ c κs. tt) (λ c κs. tt) (λ c κs. tt) (λ c κs. tt) (λ c κs. tt) (λ c κs. tt) (λ c κs. tt) (λ c κs. tt) (λ c κs. tt) (λ c κs. tt) (λ c κs. tt) (λ c κs. tt) (λ c κs. tt) (λ c κs. tt) (λ c κs. tt) (λ c κs. tt) (λ c κs. tt) (λ c κs. tt) (λ c κs. tt) (λ c κs. tt) (λ c κs. tt) (λ c κs. tt) (λ c κs. tt) (λ c κs. tt) (λ c κs. tt) (λ c κs. tt) (λ c κs. tt) returns)
+    let loop-holds : this.Tie.Need-loop-holds Inv-loop μ-loop = λ c. (omega arith, refl) in
+    this.Tie.close (this.Tie.spec Inv-loop μ-loop (λ c κs. tt) (λ c κs. tt) (λ c κs. tt) loop-holds (λ c. search needs) (λ c. search needs)
+    (λ c. search needs) (λ c. search needs) (λ c. search needs) (λ c. search needs) (λ c. search needs) (λ c κs. tt) (λ c κs. tt) returns
+    (λ c. search needs) loop-again (λ c κs. tt) returns-2)
