@@ -1,5 +1,5 @@
-// ops.rs: the formulas of the sun and of the season. Its formulas of dates are the crates calendar's and stride's. `coordinates`, the sun's position,
-// is solar.rs's: a course is made from three positions.
+// ops.rs: the formulas of the sun and of the season. Its formulas of dates are the crates calendar's and stride's. `coordinates`, the sun's
+// position, is solar.rs's: a course is made from three positions.
 pub mod coordinates;
 pub mod interpolation;
 pub mod season;
