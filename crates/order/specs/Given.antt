@@ -96,5 +96,8 @@ clockIn v = cond (v .has clockTag) (signedAtOf (v .value clockTag) 0) (pos 0)
 unfoldable pub ramadanGiven : List ℕ → Ramadan
 ramadanGiven v = record { set = true; imsak = byteOf v 0; shift = pos (byteOf v 1) -ℤ pos 1 }
 
+abbrev pub noRamadan : Ramadan
+noRamadan = record { set = false; imsak = 0; shift = pos 0 }
+
 unfoldable pub ramadanIn : Values → Ramadan
-ramadanIn v = cond (v .has ramadanTag) (ramadanGiven (v .value ramadanTag)) (record { set = false; imsak = 0; shift = pos 0 })
+ramadanIn v = cond (v .has ramadanTag) (ramadanGiven (v .value ramadanTag)) noRamadan

@@ -10,7 +10,7 @@ use Rattle.fields.proofs.LookupLaws.{first, has-good, whole-length, value-missi
 use Rattle.lines.specs.Lines.{columnsOf, lineText}
 use Rattle.models.proofs.Models.{midnightOf, southernOf}
 use Rattle.calendar.specs.declared.dates.Date.{Date}
-use Rattle.order.specs.Given.{dateIn, rowsIn, coordinateIn, byteOr, rulesIn, clockIn, ramadanIn}
+use Rattle.order.specs.Given.{dateIn, rowsIn, coordinateIn, byteOr, rulesIn, clockIn, noRamadan, ramadanIn}
 use Rattle.order.specs.Ranges.{between, rowsFit, ramadanRows, lookUp, fitsOf, inRangeOf}
 use Rattle.order.specs.Reading.{firstFailing, required, isGivenOf, missingOf, bothFormsOf, tagsFrom, outOfRangeOf, orderOf, wrongStartOf, firstOf, readingOf}
 use Rattle.order.specs.declared.reading.Order.{Order}
@@ -24,7 +24,7 @@ use Rattle.schedule.specs.Times.{workedAt}
 use Rattle.schedule.specs.declared.prayer_times.Worked.{Worked}
 use Rattle.schedule.specs.declared.prayer_times.Worked.the-variants as worked
 use Rattle.calls.specs.Calls.{workRowOf}
-use Rattle.order_laws.specs.FormerRows.{formerLengthFits, formerFaultOf, formerWalkOf, formerCheckOf, formerRowsFit, formerInRange, cratesRules, noRamadan, formerSetting, formerOrderOf, formerReadingOf, formerLine, formerLines, formerText, newAt, OrdersAreAsBefore}
+use Rattle.order_laws.specs.FormerRows.{formerLengthFits, formerFaultOf, formerWalkOf, formerCheckOf, formerRowsFit, formerInRange, formerSetting, formerOrderOf, formerReadingOf, formerLine, formerLines, formerText, newAt, OrdersAreAsBefore}
 
 -- ---- the form of the fields: the same fault, or a field that was unknown and is new
 abbrev New : List ℕ → Refusal → Type 0

@@ -17,14 +17,10 @@ use Rattle.fields.specs.Fields.{lengthAt, nextFieldAt, longestOrder}
 use Rattle.fields.specs.Numbers.{byteOf}
 use Rattle.fields.specs.Tags.{townTag, dateTag, rowsTag, latitudeTag, longitudeTag, midnightTag, tags, lastTag, lengthFits}
 use Rattle.fields.specs.Values.{valueOf, Values, valuesOf}
-use Rattle.hijri.specs.declared.ramadan.Ramadan.{Ramadan}
 use Rattle.lines.specs.Lines.{nineOf, rowText, refusedDayText}
-use Rattle.models.specs.Chosen.{settingOf}
-use Rattle.models.specs.declared.rules.Rules.{Rules}
-use Rattle.models.specs.declared.rules.Midnight.the-variants.{Stops}
-use Rattle.models.specs.declared.rules.Southern.the-variants.{Unreduced}
+use Rattle.models.specs.Chosen.{sourceRules, settingOf}
 use Rattle.models.specs.declared.setting.Setting.{Setting}
-use Rattle.order.specs.Given.{dateIn, degreesIn, parametersIn}
+use Rattle.order.specs.Given.{dateIn, degreesIn, parametersIn, noRamadan}
 use Rattle.order.specs.Ranges.{between, lastYear, fitsOf}
 use Rattle.order.specs.Reading.{firstFailing, required, tagsFrom, firstOf, readingOf}
 use Rattle.order.specs.declared.reading.Order.{Order}
@@ -73,12 +69,6 @@ unfoldable pub formerInRange : Values → ℕ → Bool
 formerInRange v tag = cond (v .has tag) (cond (eqb tag rowsTag) (formerRowsFit (dateIn (v .value dateTag)) (v .value rowsTag)) (fitsOf v tag)) true
 
 -- ---- the record
-abbrev pub cratesRules : Rules
-cratesRules = record { midnight = Stops; southern = Unreduced }
-
-abbrev pub noRamadan : Ramadan
-noRamadan = record { set = false; imsak = 0; shift = pos 0 }
-
 unfoldable pub formerOrderOf : Values → Order
 formerOrderOf v =
     record {
@@ -86,7 +76,7 @@ formerOrderOf v =
       date = dateIn (v .value dateTag);
       rows = byteOf (v .value rowsTag) 0;
       setting =
-          settingOf (coordinatesOf (degreesIn (v .value latitudeTag)) (degreesIn (v .value longitudeTag))) (parametersIn v) cratesRules;
+          settingOf (coordinatesOf (degreesIn (v .value latitudeTag)) (degreesIn (v .value longitudeTag))) (parametersIn v) sourceRules;
       clock = pos 0;
       ramadan = noRamadan;
     }
@@ -105,7 +95,7 @@ formerLine date (worked.Times t) = rowText date (nineOf t)
 formerLine date (worked.Refused r) = refusedDayText date r
 
 abbrev pub formerSetting : Order → Setting
-formerSetting o = settingOf (o .setting .coordinates) (o .setting .parameters) cratesRules
+formerSetting o = settingOf (o .setting .coordinates) (o .setting .parameters) sourceRules
 
 unfoldable pub formerLines : Order → ℕ → List ℕ
 formerLines o zero = []
