@@ -73,9 +73,13 @@ acceptedText town o = headText (o .ramadan) town ++ linesText o (o .rows)
 abbrev pub sheetText : List ℕ → List ℕ
 sheetText s = reportText (acceptedText (townOf s)) s
 
--- the longest sheet: a town of 40 bytes, the header with its two newlines, and all full rows that an order can have; a Ramadan sheet has thirty
+-- the header, its newline and the town's
+abbrev headerBytes : ℕ
+headerBytes = 64
+
+-- the longest sheet: the longest town, the header, and all full rows that an order can have; a Ramadan sheet has thirty
 abbrev pub longestSheet : ℕ
-longestSheet = longestTown + 64 + fullRow * mostRows
+longestSheet = longestTown + headerBytes + fullRow * mostRows
 
 -- a buffer that it might not fit is left as it was, and the answer is 0
 abbrev pub sheetLengthOf : List ℕ → List ℕ → ℕ

@@ -23,11 +23,13 @@ pub enum Minute {
     Nothing,
 }
 
+const MINUTES_IN_DAY: i64 = 1440;
+
 // Whole minutes, rounded down, also below zero.
 fn whole_minutes(seconds: i64) -> i64
     ensures { λ r. ⌜ r ≡ floorQuot seconds 60 ⌝ }
 {
-    day_of(seconds) * 1440 + (second_of_day(seconds) / 60) as i64
+    day_of(seconds) * MINUTES_IN_DAY + (second_of_day(seconds) / 60) as i64
 }
 
 fn store(fajr: FajrAlone, row: usize, minutes: &mut [i64], refused: &mut [bool])
