@@ -4,7 +4,7 @@ use Prim.Native.Nat.{ℕ, _≤_}
 use mathlib.Core.Path.{_≡_}
 use mathlib.Core.Bool.{true}
 use mathlib.Core.List.{List}
-use Rattle.calls.specs.Calls.{workDayOf, instantFits, prayerAtOf}
+use Rattle.days.specs.Calls.{workDayOf, instantFits, prayerAtOf}
 use Rattle.katchidul.specs.Exports.{dayAnswerOf, prayerAnswerOf}
 use Rattle.katchidul.specs.declared.prayer_at.KatchidulPrayer.{KatchidulPrayer}
 use Rattle.katchidul.specs.declared.work_day.KatchidulDay.{KatchidulDay}

@@ -8,12 +8,12 @@ use Rattle.schedule.specs.InForce.{currentNumberOf}
 use Rattle.schedule.specs.declared.prayer_times.PrayerTimes.{PrayerTimes}
 use Rattle.schedule.specs.declared.prayer_times.Worked.{Worked}
 use Rattle.schedule.specs.declared.prayer_times.Worked.the-variants as worked
-use Rattle.calls.specs.declared.in_force.InForce.{InForce}
-use Rattle.calls.specs.declared.in_force.InForce.the-variants as force
-use Rattle.calls.specs.declared.in_force.NextPrayer.{NextPrayer}
-use Rattle.calls.specs.declared.in_force.NextPrayer.the-variants as next
-use Rattle.calls.specs.declared.in_force.TimeUntil.{TimeUntil}
-use Rattle.calls.specs.declared.in_force.TimeUntil.the-variants as until
+use Rattle.days.specs.declared.in_force.InForce.{InForce}
+use Rattle.days.specs.declared.in_force.InForce.the-variants as force
+use Rattle.days.specs.declared.in_force.NextPrayer.{NextPrayer}
+use Rattle.days.specs.declared.in_force.NextPrayer.the-variants as next
+use Rattle.days.specs.declared.in_force.TimeUntil.{TimeUntil}
+use Rattle.days.specs.declared.in_force.TimeUntil.the-variants as until
 use Rattle.katchidul.specs.declared.work_day.KatchidulDay.{KatchidulDay}
 use Rattle.katchidul.specs.declared.prayer_at.KatchidulPrayer.{KatchidulPrayer}
 use Rattle.katchidul.specs.declared.remaining_at.KatchidulRemaining.{KatchidulRemaining}

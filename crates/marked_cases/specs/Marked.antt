@@ -9,7 +9,7 @@ use lib.Ieee.{Float, nan, binary64, eq, le, lt, add, sub, mul, div, neg, round, 
 use Rattle.float64.specs.Ops.{dec}
 use Rattle.calendar.specs.Gregorian.{dateOf, leapOf}
 use Rattle.calendar.specs.Days.{daysInYearOf}
-use Rattle.stride.specs.Julian.{dateJulianDayOf, julianDayOf, fromMarchOf, yearProductOf, monthProductOf, correctionOf, toI32Of}
+use Rattle.julian.specs.Julian.{dateJulianDayOf, julianDayOf, fromMarchOf, yearProductOf, monthProductOf, correctionOf, toI32Of}
 use Rattle.float64.specs.Sizes.{isNormalOf}
 use Rattle.float64.specs.Whole.{floorOf, truncOf, roundOf}
 use Rattle.models.specs.Numbers.{prayerNumberOf, prayerOf}

@@ -5,7 +5,7 @@ use Rattle.fdlibm_trig.specs.Trig.{sinOf, cosOf}
 use Rattle.fdlibm_arc.specs.Asin.{asinOf}
 use Rattle.fdlibm_arc.specs.Atan2.{atan2Of}
 use Rattle.calendar.specs.declared.dates.Date.{Date}
-use Rattle.stride.specs.Julian.{dateJulianDayOf}
+use Rattle.julian.specs.Julian.{dateJulianDayOf}
 use Rattle.unit.specs.declared.Angle.{Angle}
 use Rattle.unit.specs.Unit.{angleOf, fromRadiansOf, radiansOf, unwoundOf}
 use Rattle.ops.specs.Sun.{julianCenturyOf, meanSolarLongitudeOf, meanLunarLongitudeOf, ascendingLunarNodeLongitudeOf, apparentSolarLongitudeOf, meanObliquityOfTheEclipticOf, apparentObliquityOfTheEclipticOf, meanSiderealTimeOf, nutationInLongitudeOf, nutationInObliquityOf}

@@ -15,7 +15,7 @@ use fdlibm_arc::e_asin::asin;
 use fdlibm_arc::e_atan2::atan2;
 use fdlibm_trig::s_cos::cos;
 use fdlibm_trig::s_sincos::sincos;
-use stride::julian::date_julian_day;
+use julian::day::date_julian_day;
 use unit::Angle;
 
 pub struct SolarCoordinates {

@@ -11,8 +11,8 @@ use models::rounding::Rounding;
 use models::rules::Season;
 use models::rules::Southern;
 use models::shafaq::Shafaq;
-use stride::times::plus;
-use stride::times::rounded_minute;
+use rounding::times::plus;
+use rounding::times::rounded_minute;
 
 pub enum AdjustmentDaytime {
     Morning,

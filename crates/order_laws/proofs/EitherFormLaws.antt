@@ -1,7 +1,7 @@
 -- A place sent either way: the record but for where the town stands, and from it all that is answered. Assumes nothing.
 use Rattle.prelude.proofs.Logic.{_≡_, refl, sym, ap, _∙_, subst, fun-ext, true, false, List, _∷_, _++_, ℕ, zero, suc, _+_, _≤_, lit≤, leZ}
 use Rattle.calendar.specs.Answers.{rowDateOf}
-use Rattle.calls.specs.Calls.{workRowOf, workReadingOf, workDayOf, workAtOf, prayerAtOf, nextAtOf, remainingAtOf}
+use Rattle.days.specs.Calls.{workRowOf, workReadingOf, workDayOf, workAtOf, prayerAtOf, nextAtOf, remainingAtOf}
 use Rattle.fields.specs.Tags.{lastTag}
 use Rattle.fields.specs.Values.{hasOf, valueOf, valuesOf}
 use Rattle.fields.specs.declared.values.Part.{Part}
@@ -18,7 +18,7 @@ use Rattle.pages.specs.Pages.{Rows, rowOf, rowsFrom, pageOf, pageCount, pagesCe
 use Rattle.pages.specs.Answers.{askedCallOf, oneRow, pieceIn}
 use Rattle.pages.specs.Reports.{wearText, cellsText}
 use Rattle.reports.specs.Reports.{reportIn}
-use Rattle.rows.specs.Rows.{linesText, acceptedText, sheetText, readCallOf, rowCallOf}
+use Rattle.sheets.specs.Rows.{linesText, acceptedText, sheetText, readCallOf, rowCallOf}
 use Rattle.schedule.specs.declared.in_force.Instant.{Instant}
 use Rattle.schedule.specs.declared.prayer_times.Worked.{Worked}
 use Rattle.schedule.specs.declared.prayer_times.Worked.the-variants.{Times, Refused}

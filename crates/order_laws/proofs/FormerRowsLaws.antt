@@ -19,11 +19,11 @@ use Rattle.order.proofs.ReadingLaws.{passed-on, town-value}
 use Rattle.refusals.specs.Refusals.{noRefusal}
 use Rattle.refusals.specs.declared.Refusal.{Refusal}
 use Rattle.reports.specs.Reports.{reportIn}
-use Rattle.rows.specs.Rows.{headerText, headText, linesText, acceptedText, sheetText}
+use Rattle.sheets.specs.Rows.{headerText, headText, linesText, acceptedText, sheetText}
 use Rattle.schedule.specs.Times.{workedAt}
 use Rattle.schedule.specs.declared.prayer_times.Worked.{Worked}
 use Rattle.schedule.specs.declared.prayer_times.Worked.the-variants as worked
-use Rattle.calls.specs.Calls.{workRowOf}
+use Rattle.days.specs.Calls.{workRowOf}
 use Rattle.order_laws.specs.FormerRows.{formerLengthFits, formerFaultOf, formerWalkOf, formerCheckOf, formerRowsFit, formerInRange, formerSetting, formerOrderOf, formerReadingOf, formerLine, formerLines, formerText, newAt, OrdersAreAsBefore}
 
 -- ---- the form of the fields: the same fault, or a field that was unknown and is new

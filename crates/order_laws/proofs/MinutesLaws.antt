@@ -19,8 +19,8 @@ use Rattle.schedule_laws.specs.Later.{withMinutes, laterBy, LaterMinutes, Moved
 use Rattle.schedule_laws.proofs.OrderMinutes.{sums-held}
 use Rattle.order_laws.proofs.PrintedLaws.{imsak-is-printed-whole}
 use Rattle.schedule_laws.proofs.LaterLaws.{later-minutes-move-the-row}
-use Rattle.calls.specs.declared.in_force.InForce.the-variants as force
-use Rattle.calls.specs.Calls.{lacksRow, workRowOf, workReadingOf, workDayOf, leastSeconds, mostSeconds, mostNanoseconds, instantFits, workAtOf, inForceOf, prayerAtOf}
+use Rattle.days.specs.declared.in_force.InForce.the-variants as force
+use Rattle.days.specs.Calls.{lacksRow, workRowOf, workReadingOf, workDayOf, leastSeconds, mostSeconds, mostNanoseconds, instantFits, workAtOf, inForceOf, prayerAtOf}
 use Rattle.order_laws.specs.Minutes.{withOwnMinutes, LaterOrder, ImsakMoved, LaterOrdersMoveTheirRows}
 
 -- ---- what an accepted order's sums can be

@@ -4,7 +4,7 @@ use Rattle.prelude.specs.Lists.{listed}
 use Rattle.braille.specs.Cells.{rowLength}
 use Rattle.calendar.specs.Answers.{rowDateOf}
 use Rattle.calendar.specs.declared.dates.Date.{Date}
-use Rattle.calls.specs.Calls.{workDateOf, workRowOf, workReadingOf, workDayOf}
+use Rattle.days.specs.Calls.{workDateOf, workRowOf, workReadingOf, workDayOf}
 use Rattle.fields.specs.Fields.{checkOf}
 use Rattle.fields.specs.Values.{valuesOf}
 use Rattle.lines.specs.Lines.{fullRow, rowRoom, lineText}
@@ -24,8 +24,8 @@ use Rattle.pages.proofs.RowsLaws.{cells-length, take-rows, drop-rows}
 use Rattle.refusals.specs.Refusals.{refusal}
 use Rattle.refusals.specs.declared.Refusal.{Refusal}
 use Rattle.reports.specs.Reports.{reportIn}
-use Rattle.rows.proofs.Answers.{row-short, row-read, row-refused}
-use Rattle.rows.specs.Rows.{workedCallOf, readCallOf, rowCallOf, headText, linesText, acceptedText, sheetText}
+use Rattle.sheets.proofs.Answers.{row-short, row-read, row-refused}
+use Rattle.sheets.specs.Rows.{workedCallOf, readCallOf, rowCallOf, headText, linesText, acceptedText, sheetText}
 use Rattle.schedule.proofs.Schedule.{sunsOf, hoursOf, numbersOf, seasonOf, workedFrom, workedOf}
 use Rattle.schedule.specs.declared.hours.RowHours.{RowHours}
 use Rattle.schedule.specs.declared.hours.RowNumbers.{RowNumbers}

@@ -4,7 +4,7 @@ use Rattle.integers.specs.Ends.{least64}
 use Rattle.integers.proofs.Integers.{P, N, floorQuot, to-le, floored, difference, times}
 use Rattle.calendar.proofs.Calendar.{rowDateOf, dayNumberOf}
 use Rattle.calendar.specs.declared.dates.Date.{Date}
-use Rattle.calls.specs.Calls.{workRowOf}
+use Rattle.days.specs.Calls.{workRowOf}
 use Rattle.refusals.specs.Refusals.{refusal}
 use Rattle.lines.specs.Lines.{daysOf, nineOf, imsakOf}
 use Rattle.order.specs.Accepted.{Accepted}

@@ -5,7 +5,7 @@ use mathlib.Core.Path.{_≡_}
 use mathlib.Core.Bool.{Bool, false, _||_}
 use mathlib.Core.List.{List}
 use lib.Dec.{eqb}
-use Rattle.calls.specs.Calls.{workDayOf, prayerAtOf, nextAtOf, remainingAtOf}
+use Rattle.days.specs.Calls.{workDayOf, prayerAtOf, nextAtOf, remainingAtOf}
 use Rattle.fields.specs.Tags.{lastTag}
 use Rattle.fields.specs.Values.{hasOf, valueOf}
 use Rattle.fields.specs.declared.values.Part.{Part}
@@ -15,7 +15,7 @@ use Rattle.order.specs.declared.reading.Reading.the-variants.{Read}
 use Rattle.order.specs.Reading.{readingOf, townOf}
 use Rattle.pages.specs.Answers.{cellsCallOf, pageCallOf}
 use Rattle.pages.specs.Reports.{wearText, cellsText}
-use Rattle.rows.specs.Rows.{rowCallOf, sheetText}
+use Rattle.sheets.specs.Rows.{rowCallOf, sheetText}
 use Rattle.schedule.specs.declared.in_force.Instant.{Instant}
 use Rattle.weeks.specs.Report.{weekText}
 use Rattle.order_laws.specs.Minutes.{LaterOrder}

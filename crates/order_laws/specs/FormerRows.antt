@@ -26,7 +26,7 @@ use Rattle.order.specs.Reading.{firstFailing, required, tagsFrom, firstOf, read
 use Rattle.order.specs.declared.reading.Order.{Order}
 use Rattle.order.specs.declared.reading.Reading.{Reading}
 use Rattle.order.specs.declared.reading.Reading.the-variants as reading
-use Rattle.rows.specs.Rows.{sheetText}
+use Rattle.sheets.specs.Rows.{sheetText}
 use Rattle.schedule.specs.Times.{workedAt}
 use Rattle.schedule.specs.declared.prayer_times.Worked.{Worked}
 use Rattle.schedule.specs.declared.prayer_times.Worked.the-variants as worked

@@ -28,8 +28,8 @@ use Rattle.schedule.specs.declared.prayer_times.PrayerTimes.{PrayerTimes}
 use Rattle.schedule.specs.declared.prayer_times.Worked.the-variants.{Times}
 use Rattle.schedule.specs.InForce.{NotAfter, currentNumberOf}
 use Rattle.schedule_laws.specs.Later.{withMinutes, laterBy, Moved}
-use Rattle.calls.specs.declared.in_force.InForce.the-variants as force
-use Rattle.calls.specs.Calls.{workDayOf, instantFits, prayerAtOf}
+use Rattle.days.specs.declared.in_force.InForce.the-variants as force
+use Rattle.days.specs.Calls.{workDayOf, instantFits, prayerAtOf}
 
 -- an order with other own minutes, tag 11's, whose town stands elsewhere in its bytes, and all else as it was
 abbrev pub withOwnMinutes : Order → Part → TimeAdjustment → Order

@@ -13,7 +13,7 @@ use Rattle.refusals.specs.Refusals.{fieldCut, fieldUnknown, fieldAgain, tagMiss
 use Rattle.refusals.specs.declared.Refusal.{Refusal}
 use Rattle.calendar.specs.Answers.{rowDateOf}
 use Rattle.calendar.specs.declared.dates.Date.{Date}
-use Rattle.calls.specs.Calls.{workDateOf, workDayOf}
+use Rattle.days.specs.Calls.{workDateOf, workDayOf}
 use Rattle.fields.specs.Fields.{checkOf}
 use Rattle.fields.specs.Values.{valuesOf}
 use Rattle.lines.specs.Lines.{lineText}
@@ -23,7 +23,7 @@ use Rattle.order.specs.declared.reading.Reading.{Reading}
 use Rattle.order.specs.declared.reading.Reading.the-variants as reading
 use Rattle.pages.specs.Answers.{oneRow, pieceIn, cellsCallOf, pageCallOf}
 use Rattle.pages.specs.Pages.{cellsOf}
-use Rattle.rows.specs.Rows.{rowCallOf, headText, sheetText}
+use Rattle.sheets.specs.Rows.{rowCallOf, headText, sheetText}
 use Rattle.schedule.specs.Numbers.{numbersOf}
 use Rattle.schedule.specs.declared.prayer_times.Worked.{Worked}
 use Rattle.schedule.specs.declared.prayer_times.Worked.the-variants as worked

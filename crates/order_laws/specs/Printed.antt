@@ -5,7 +5,7 @@ use Prim.Native.Nat.{ℕ, _≤_, _<_}
 use lib.IntN.{pos, natAbs}
 use lib.ListN.{getD}
 use Rattle.calendar.specs.Answers.{rowDateOf}
-use Rattle.calls.specs.Calls.{workRowOf}
+use Rattle.days.specs.Calls.{workRowOf}
 use Rattle.lines.specs.Lines.{daysOf, nineOf}
 use Rattle.order.specs.Accepted.{Accepted}
 use Rattle.order.specs.declared.reading.Order.{Order}

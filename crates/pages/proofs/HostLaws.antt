@@ -1,7 +1,7 @@
 -- A host's calls on a page, whatever scratches it lends, give the page. Assumes nothing.
 use Rattle.prelude.proofs.Logic.{_≡_, refl, sym, ap, _∙_, List, [], _∷_, _++_, ℕ, zero, suc, _+_, _-_, _*_, _/_, _≤_, _<_, min, arith, ltb, length, take, drop, drop-of-length-le, take-all, take-at, drop-drop, ltb-true, ltb-false, cases}
 use Rattle.braille.specs.Braille.{dotsOf}
-use Rattle.calls.specs.Calls.{lacksRow}
+use Rattle.days.specs.Calls.{lacksRow}
 use Rattle.order.specs.declared.reading.Order.{Order}
 use Rattle.order.specs.declared.reading.Reading.{Reading}
 use Rattle.order.specs.declared.reading.Reading.the-variants.{Read, Refused}

@@ -5,8 +5,8 @@ use Rattle.braille.proofs.Parts.{row-length}
 use Rattle.braille.specs.Braille.{dotsOf}
 use Rattle.braille.specs.Cells.{rowLength, rowCells}
 use Rattle.calendar.specs.Answers.{rowDateOf}
-use Rattle.calls.proofs.RowStates.{stateOf, workedBySuns, state-worked}
-use Rattle.calls.specs.Calls.{workRowOf}
+use Rattle.days.proofs.RowStates.{stateOf, workedBySuns, state-worked}
+use Rattle.days.specs.Calls.{workRowOf}
 use Rattle.integers.proofs.Ranges.{fits}
 use Rattle.order.specs.Accepted.{Accepted}
 use Rattle.order.specs.declared.reading.Order.{Order}

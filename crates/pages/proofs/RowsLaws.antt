@@ -5,7 +5,7 @@ use Rattle.braille.proofs.Parts.{row-length}
 use Rattle.braille.specs.Braille.{dotsOf, SixDots}
 use Rattle.braille.specs.Cells.{rowLength}
 use Rattle.calendar.specs.Answers.{rowDateOf}
-use Rattle.calls.specs.Calls.{workRowOf}
+use Rattle.days.specs.Calls.{workRowOf}
 use Rattle.order.specs.declared.reading.Order.{Order}
 use Rattle.pages.specs.Pages.{Rows, rowOf, rowsFrom, cellsOf}
 

@@ -5,7 +5,7 @@ use mathlib.Core.Path.{_≡_}
 use mathlib.Core.List.{List, [], _++_}
 use lib.ListN.{length, take}
 use Rattle.braille.specs.Cells.{rowLength}
-use Rattle.calls.specs.Calls.{lacksRow}
+use Rattle.days.specs.Calls.{lacksRow}
 use Rattle.order.specs.declared.reading.Order.{Order}
 use Rattle.order.specs.declared.reading.Reading.the-variants.{Read}
 use Rattle.order.specs.Reading.{readingOf}

@@ -6,7 +6,7 @@ ghost use Rattle.models.specs.Presets.{presetOf};
 ghost use Rattle.float64.specs.Ops.{dec};
 ghost use Rattle.schedule.specs.Times.{workedBy, workedAt};
 ghost use Rattle.schedule.specs.InForce.{currentTimeOf, currentNumberOf, nextOf, timeRemainingOf};
-ghost use Rattle.calls.specs.Calls.{instantOf};
+ghost use Rattle.days.specs.Calls.{instantOf};
 ghost use Rattle.probes.specs.Days.{sunOf, rowNumbersOf, minutesFrom, parametersFrom, rulesFrom, settingFrom, settingsOf, noTimes, probeDayOf, probeRemainingOf};
 use calendar::dates::Date;
 use models::adjustments::TimeAdjustment;

@@ -8,8 +8,8 @@ use Rattle.models.specs.declared.{adjustments.TimeAdjustment.TimeAdjustment, pa
 use Rattle.models.specs.declared.prayer.Prayer.the-variants.{Fajr, Sunrise, Dhuhr, Asr, Maghrib, Isha}
 use Rattle.models.specs.declared.rounding.Rounding.the-variants.{Nearest}
 use Rattle.models.specs.Settings.{timeAdjustmentsOf}
-use Rattle.stride.specs.Times.{roundedOf, adjustedOf}
-use Rattle.stride.proofs.TimesLaws.{rounded-adjusted, rounded-mono, adjusted-between}
+use Rattle.rounding.specs.Times.{roundedOf, adjustedOf}
+use Rattle.rounding.proofs.TimesLaws.{rounded-adjusted, rounded-mono, adjusted-between}
 use Rattle.night_portions.specs.Portions.{middleOf, lastThirdOf}
 use Rattle.night_portions.proofs.Steady.{Small}
 use Rattle.night_portions.proofs.PortionsLaws.{middle-later, last-third-later}

@@ -7,7 +7,7 @@ use Rattle.models.specs.declared.{parameters.Parameters.Parameters, rules.Seaso
 use Rattle.models.specs.declared.prayer.Prayer.the-variants.{Fajr, Sunrise, Dhuhr, Asr, Maghrib, Isha, Qiyam, FajrTomorrow}
 use Rattle.models.specs.declared.rounding.Rounding.the-variants.{Nearest}
 use Rattle.models.specs.Settings.{timeAdjustmentsOf}
-use Rattle.stride.proofs.TimesLaws.{rounded-between, adjusted-between}
+use Rattle.rounding.proofs.TimesLaws.{rounded-between, adjusted-between}
 use Rattle.night_portions.specs.Portions.{middleOf, lastThirdOf}
 use Rattle.night_portions.proofs.PortionsLaws.{middle-inside, last-third-inside}
 use Rattle.solar.specs.declared.{setting.SolarHour.SolarHour, times.SolarTime.SolarTime}

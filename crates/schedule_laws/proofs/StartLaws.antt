@@ -5,8 +5,8 @@ use Rattle.integers.proofs.Integers.{same, times}
 use Rattle.calendar.specs.Days.{dayNumberOf}
 use Rattle.calendar.specs.declared.dates.Date.{Date}
 use Rattle.models.specs.declared.rounding.Rounding.{Rounding}
-use Rattle.stride.specs.Times.{roundedOf, adjustedOf}
-use Rattle.stride.proofs.TimesLaws.{rounded-adjusted}
+use Rattle.rounding.specs.Times.{roundedOf, adjustedOf}
+use Rattle.rounding.proofs.TimesLaws.{rounded-adjusted}
 use Rattle.schedule.specs.Times.{startOf}
 
 -- 0h of a date is so many whole minutes from 1970

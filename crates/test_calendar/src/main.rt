@@ -5,11 +5,11 @@ use calendar::dates::Date;
 use calendar::dates::weekday;
 use float64::casts::to_i64;
 use float64::casts::to_u64;
+use julian::day::date_julian_day;
 use libc::STDOUT_FILENO;
 use models::rounding::Rounding;
+use rounding::times::rounded_minute;
 use std::num::nearest_i64_to_f64;
-use stride::julian::date_julian_day;
-use stride::times::rounded_minute;
 
 // What is folded of each date, in the order in which it is printed.
 struct Folds {

@@ -1,8 +1,8 @@
 -- A row's minute, as it is worked and as it is defined. Assumes nothing.
 use Rattle.prelude.proofs.Logic.{_≡_, refl, ap, _∙_, Bool, true, false, cond, List, ℕ, _+_, _*_, _/_, _%_, _^_, _<_, arith, lit≤, lit<, ℤ, pos, negsuc, _+ℤ_, _*ℤ_, w64, SFits, toZ, toZ-pos, length, set, getD-set-same, getD-set-other, eqb, eqb-true, eqb-false, eq-eqb, ne-eqb, cases}
 use Rattle.calendar.specs.Answers.{rowDateOf}
-use Rattle.calls.proofs.RowStates.{stateOf, state-worked}
-use Rattle.calls.specs.Calls.{workRowOf}
+use Rattle.days.proofs.RowStates.{stateOf, state-worked}
+use Rattle.days.specs.Calls.{workRowOf}
 use Rattle.integers.proofs.Integers.{Near, floorQuot, floorRem, Held, held-sum, held-product, held-fits, stored, same, floored, range, read, readBack, sum, times}
 use Rattle.order.specs.Accepted.{Accepted}
 use Rattle.order.specs.declared.reading.Order.{Order}

@@ -3,7 +3,7 @@ use Prim.Native.Nat.{ℕ, _-_, _*_}
 use mathlib.Core.List.{List}
 use lib.IntN.{_-ℤ_}
 use Rattle.calendar.specs.Answers.{rowDateOf}
-use Rattle.calls.specs.Calls.{workRowOf}
+use Rattle.days.specs.Calls.{workRowOf}
 use Rattle.integers.specs.Quotients.{floorQuot}
 use Rattle.order.specs.declared.reading.Order.{Order}
 use Rattle.order.specs.Ranges.{mostRows}

@@ -1,5 +1,5 @@
 use Rattle.prelude.proofs.Logic.{sym, length-take-le, needs}
-use Rattle.rows.proofs.SheetLaws.{answer-fits}
+use Rattle.sheets.proofs.SheetLaws.{answer-fits}
 use Rattle.sheet.proofs.main as this
 
 array-share-prefix-sheet : this.Tie.Need-array-share-prefix-sheet

@@ -1,7 +1,7 @@
 use Rattle.prelude.proofs.Logic.{_≡_, refl, ap, _∙_, _+_, _-_, _<_, arith, needs, w32, now}
 use Rattle.braille.specs.Cells.{rowCells}
 use Rattle.calendar.specs.declared.dates.Date.{Date}
-use Rattle.calls.proofs.RowStates.{next-state}
+use Rattle.days.proofs.RowStates.{next-state}
 use Rattle.integers.proofs.Ranges.{read}
 use Rattle.schedule.specs.RowSuns.{rowSunsOf, nextRowSunsOf}
 use Rattle.schedule.specs.declared.prayer_times.Worked.{Worked}

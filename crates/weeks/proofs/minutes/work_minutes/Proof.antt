@@ -1,6 +1,6 @@
 -- `weeks::minutes::work_minutes` meets its contract. The loop's invariant: the suns are the row's, and the rows before it are stored.
 use Rattle.prelude.proofs.Logic.{_≡_, sym, ap, _∙_, ℕ, _+_, _-_, _<_, arith, length, needs, now}
-use Rattle.calls.proofs.RowStates.{first-state, next-state}
+use Rattle.days.proofs.RowStates.{first-state, next-state}
 use Rattle.schedule.specs.RowSuns.{nextRowSunsOf}
 use Rattle.weeks.specs.Kept.{minuteAt}
 use Rattle.weeks.specs.Report.{rowMinute}
