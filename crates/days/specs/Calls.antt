@@ -1,5 +1,5 @@
--- Document 01, "What each call owes": what each call answers on the bytes of an order, a row and an instant. "Buffer and instant are checked before
--- anything else in their calls. Then the order is read, then the row .. Then comes the day, then 11."
+-- Document 01, "What each call owes": what each call answers on the bytes of an order, a row and an instant. "Buffer and instant are
+-- checked before anything else in their calls. Then the order is read, then the row .. Then comes the day, then 11."
 use Prim.Native.Nat.{ℕ}
 use mathlib.Core.Bool.{Bool, _&&_, cond}
 use mathlib.Core.List.{List}

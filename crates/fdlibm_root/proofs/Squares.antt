@@ -1,5 +1,6 @@
 -- What a turn of the digit loop keeps, what it gives at the end, and how its last digit rounds.
-use Rattle.prelude.proofs.Logic.{_≡_, refl, ap, _⊎_, inl, inr, ℕ, zero, suc, _+_, _-_, _*_, _/_, _%_, _^_, _≤_, _<_, lt-of-lt-of-le, pow-le-pow-right, pow-suc, add-one, arith, lit<}
+use Rattle.prelude.proofs.Logic.{_≡_, refl, ap, _⊎_, inl, inr, ℕ, zero, suc, _+_, _-_, _*_, _/_, _%_, _^_, _≤_, _<_, lt-of-lt-of-le}
+use Rattle.prelude.proofs.Logic.{pow-le-pow-right, pow-suc, add-one, arith, lit<}
 use Rattle.fdlibm_root.specs.Root.{Root}
 use Rattle.fdlibm_root.specs.Near.{NearRoot}
 
@@ -75,5 +76,6 @@ even-or-odd q s (suc r) e h = inl (omega arith)
 pub rounded : (m q s : ℕ) → 0 < m → Root (m * 2 ^ 54) q → s ≡ (q + 1) / 2 → NearRoot m s
 rounded m q s h root e =
     let least : 0 < q = some (m * 2 ^ 54) q (omega arith) (root .above) in
-    let bounds = halves (m * 2 ^ 52) q s (omega (arith, root .within)) (omega (arith, root .above)) (omega arith) (even-or-odd q s ((q + 1) % 2) e refl) in
+    let bounds = halves (m * 2 ^ 52) q s (omega (arith, root .within)) (omega (arith, root .above)) (omega arith)
+    (even-or-odd q s ((q + 1) % 2) e refl) in
     record { low = bounds .0; high = bounds .1 }

@@ -1,4 +1,5 @@
-// A candidate for the whole number nearest to the root of m * 2^52, by floats, and whole-number arithmetic that decides whether it is right.
+// A candidate for the whole number nearest to the root of m * 2^52, by floats, and whole-number arithmetic that decides whether it is
+// right.
 ghost use mathlib.Core.Path.{_≡_};
 ghost use Prim.Native.Nat.{_+_, _*_, _^_, _<_};
 ghost use Rattle.fdlibm_root.specs.Near.{NearRoot};

@@ -33,7 +33,8 @@ fn nearest(significand: u64, odd: u64) -> u64
     if s == 0 { by_digits(m) } else { s }
 }
 
-// The pattern of the root of significand * 2^(exponent - 2098). The leading digit of the root's significand adds one to the exponent's field.
+// The pattern of the root of significand * 2^(exponent - 2098). The leading digit of the root's significand adds one to the exponent's
+// field.
 fn root_pattern(significand: u64, exponent: u64) -> u64
     requires { ⌜ (2 ^ 52 ≤ significand) × (significand < 2 ^ 53) × (972 ≤ exponent) × (exponent < 3900) ⌝ }
     ensures { λ r. ⌜ (ofBits binary64 r ≡ roundedRoot (significand * 2 ^ (exponent - 898))) × (r < 0x7ff0_0000_0000_0000) ⌝ }

@@ -1,5 +1,7 @@
 -- A size by the number itself: its test against 70 as two comparisons, and `abs` by the sign that a test has found. Assumes nothing.
-use Rattle.prelude.proofs.Logic.{_≡_, refl, sym, ap, _∙_, Bool, true, false, false≢true, true≢false, _&&_, _||_, inl, inr, ℕ, _+_, _-_, _*_, _/_, _%_, _^_, _≤_, mul-pos, eq-zero-or-pos, zero-mul, zero-div, arith, ltb, eqb, ℤ, eq-eqb, ltb-true, ltb-false, eqb-true, cases}
+use Rattle.prelude.proofs.Logic.{_≡_, refl, sym, ap, _∙_, Bool, true, false, false≢true, true≢false, _&&_, _||_, inl, inr, ℕ, _+_, _-_, _*_}
+use Rattle.prelude.proofs.Logic.{_/_, _%_, _^_, _≤_, mul-pos, eq-zero-or-pos, zero-mul, zero-div, arith, ltb, eqb, ℤ, eq-eqb, ltb-true}
+use Rattle.prelude.proofs.Logic.{ltb-false, eqb-true, cases}
 use Rattle.float64.proofs.Floats.{Float, nan, inf, fin, up, down, up-pos, neg, le, lt, toBits, size, ofBits, absOf, highOf}
 use Rattle.fdlibm_trig.specs.KTan.{zero}
 use Rattle.fdlibm_trig.specs.Trig.{seventy}
@@ -8,7 +10,8 @@ use Rattle.fdlibm_trig.specs.Trig.{seventy}
 low-high : (a b : ℕ) → (ltb 0 (a + b) || (eqb a b && (false || eqb a 0))) ≡ true
 low-high a b =
     cases (ltb 0 (a + b)) (λ h. rw h refl)
-    (λ h. let l = ltb-false 0 (a + b) h in let z : a ≡ 0 = omega arith in let e : a ≡ b = omega arith in simp (h, eq-eqb a b e, eq-eqb a 0 z))
+    (λ h. let l = ltb-false 0 (a + b) h in let z : a ≡ 0 = omega arith in let e : a ≡ b = omega arith in
+    simp (h, eq-eqb a b e, eq-eqb a 0 z))
 
 same : (a b : ℕ) → eqb a b ≡ eqb b a
 same a b =
@@ -25,7 +28,8 @@ between-limits n d nan = refl
 between-limits n d (inf true) = refl
 between-limits n d (inf false) = refl
 between-limits n d (fin false m e) = rw (low-high (n * up d * down e) (m * up e * down d)) refl
-between-limits n d (fin true m e) = rw (low-high (m * up e * down d) (n * up d * down e), same (m * up e * down d) (n * up d * down e)) (and-true _)
+between-limits n d (fin true m e) =
+    rw (low-high (m * up e * down d) (n * up d * down e), same (m * up e * down d) (n * up d * down e)) (and-true _)
 
 pub within-seventy : (x : Float) → le (absOf x) seventy ≡ (le (neg seventy) x && le x seventy)
 unfolding ofBits neg

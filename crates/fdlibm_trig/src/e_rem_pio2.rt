@@ -4,7 +4,8 @@
 // fdlibm's medium case goes on to 2^19 π/2. Its large case is not here: sin, cos and tan ask for no x beyond 70.
 ghost use mathlib.Core.Path.{_≡_};
 ghost use Prim.Native.Nat.{_<_};
-ghost use Rattle.fdlibm_trig.specs.RemPio2.{npio2Of, exponentOf, lessOf, moreOf, iterationOf, refineOf, differenceOf, mediumOf, oppositeOf, nearOf, nearNegativeOf, remPio2Of};
+ghost use Rattle.fdlibm_trig.specs.RemPio2.{npio2Of, exponentOf, lessOf, moreOf, iterationOf, refineOf, differenceOf, mediumOf};
+ghost use Rattle.fdlibm_trig.specs.RemPio2.{oppositeOf, nearOf, nearNegativeOf, remPio2Of};
 use float64::casts::to_u32;
 use float64::words::high_word;
 
@@ -39,8 +40,8 @@ pub struct Reduced {
     pub y1: f64,
 }
 
-// The high word of n * π/2, n from 1 to 32: fdlibm's npio2_hw[n - 1]. The first part of π/2 alone gives each of them. 0 is taken as 1, and beyond
-// its end the row has 0.
+// The high word of n * π/2, n from 1 to 32: fdlibm's npio2_hw[n - 1]. The first part of π/2 alone gives each of them. 0 is taken as 1, and
+// beyond its end the row has 0.
 fn npio2(n: u32) -> u32
     ensures { λ r. ⌜ r ≡ npio2Of n ⌝ }
 {

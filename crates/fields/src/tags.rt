@@ -1,4 +1,5 @@
-// The tags by what they give, and their table: a new tag is a new name, a new row and a new last tag. The names of tags 18 and 19 are map_form's.
+// The tags by what they give, and their table: a new tag is a new name, a new row and a new last tag. The names of tags 18 and 19 are
+// map_form's.
 ghost use mathlib.Core.Path.{_≡_};
 ghost use Rattle.fields.specs.Tags.{knownTag, lengthFits, choiceFits};
 

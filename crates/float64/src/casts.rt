@@ -3,7 +3,8 @@ ghost use mathlib.Core.Path.{_≡_};
 ghost use lib.Ieee.{toSigned, toUnsigned};
 use crate::whole::trunc;
 
-// Rust's `x as u64`. Below 2^52 the whole part is a float that one instruction casts; std's function, which shifts the bit pattern, is used above that.
+// Rust's `x as u64`. Below 2^52 the whole part is a float that one instruction casts; std's function, which shifts the bit pattern, is used
+// above that.
 pub fn to_u64(x: f64) -> u64
     ensures { λ r. ⌜ r ≡ toUnsigned 64 x ⌝ }
 {

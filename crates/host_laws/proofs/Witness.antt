@@ -1,5 +1,5 @@
--- A struct that the writer takes, so that what its promises ask for can be met: what the first order of order_laws' Witness is read as. Assumes
--- nothing.
+-- A struct that the writer takes, so that what its promises ask for can be met: what the first order of order_laws' Witness is read as.
+-- Assumes nothing.
 use Rattle.prelude.proofs.Logic.{_≡_, ap, List, ℕ, _≤_, length}
 use Rattle.order.specs.declared.reading.Reading.{Reading}
 use Rattle.order.specs.Reading.{townOf}

@@ -8,7 +8,8 @@ ghost use lib.ListN.{length};
 ghost use Rattle.text.specs.Text.{putOf};
 ghost use Rattle.joblog.specs.Records.{recordAs, bytesOf, wholeOf, afterOf, compactedOf};
 ghost use Rattle.joblog.specs.Parts.{Bounded};
-ghost use Rattle.joblog.specs.Calls.{refused, answered, readAnswer, readLogOf, compactAnswer, newInTurn, loggedOf, appendedOf, appendOf, restartedOf, restartOf};
+ghost use Rattle.joblog.specs.Calls.{refused, answered, readAnswer, readLogOf, compactAnswer, newInTurn, loggedOf, appendedOf};
+ghost use Rattle.joblog.specs.Calls.{appendOf, restartedOf, restartOf};
 use super::records::LogReading;
 use super::records::State;
 use super::records::after;
@@ -23,7 +24,8 @@ use refusals::LOG_COUNT_OUTSIDE;
 use refusals::LOG_OUT_OF_TURN;
 use refusals::LOG_SECOND_SHORT;
 
-// What each call returns: number 0, or a refusal with its place and every other field 0. `moved` is 1 if the log is now in the second buffer.
+// What each call returns: number 0, or a refusal with its place and every other field 0. `moved` is 1 if the log is now in the second
+// buffer.
 #[repr(C)]
 pub struct Log {
     pub number: u32,

@@ -1,7 +1,9 @@
 -- Meeus's formula counts the days of the calendar, in every year from 1 on. Assumes nothing.
-use Rattle.prelude.proofs.Logic.{_≡_, refl, ap, Bool, true, false, cond, not, _||_, ℕ, _+_, _-_, _*_, _/_, _≤_, _<_, arith, eqb, ltb, eqb→eq, lt→ltb, pos, _+ℤ_, _-ℤ_, _*ℤ_, ltb-true, ltb-false, cases}
+use Rattle.prelude.proofs.Logic.{_≡_, refl, ap, Bool, true, false, cond, not, _||_, ℕ, _+_, _-_, _*_, _/_, _≤_, _<_, arith, eqb, ltb}
+use Rattle.prelude.proofs.Logic.{eqb→eq, lt→ltb, pos, _+ℤ_, _-ℤ_, _*ℤ_, ltb-true, ltb-false, cases}
 use Rattle.integers.proofs.Integers.{same, sum, difference, times}
-use Rattle.calendar.proofs.Calendar.{leapOf, existsOf, daysBeforeOf, daysInYearOf, daysBeforeYearOf, dayNumberOf, tested, when, year-step, exists-yes, month-of-date, ordinal-is, count}
+use Rattle.calendar.proofs.Calendar.{leapOf, existsOf, daysBeforeOf, daysInYearOf, daysBeforeYearOf, dayNumberOf, tested, when, year-step}
+use Rattle.calendar.proofs.Calendar.{exists-yes, month-of-date, ordinal-is, count}
 use Rattle.calendar.specs.declared.dates.Date.{Date}
 use Rattle.julian.specs.Meeus.{yearDaysOf, monthTermOf, meeusOf}
 
@@ -41,7 +43,8 @@ year-days false = refl
 
 -- ---- the day
 -- u and v are the terms of the year and the month, a the century, c a quarter of it, w the days before the next year
-gathered : (u v a c day w n : ℕ) → u + 2 + c - a ≡ w + 1722155 → w + v + day ≡ n + 428 → 2 * (u + v + day + 2 + c - a) - 3049 ≡ 2 * n + 3442117
+gathered : (u v a c day w n : ℕ) → u + 2 + c - a ≡ w + 1722155 → w + v + day ≡ n + 428
+    → 2 * (u + v + day + 2 + c - a) - 3049 ≡ 2 * n + 3442117
 gathered u v a c day w n p q = omega arith
 
 counted : (d : Date) → existsOf d ≡ true → 1 ≤ d .year → meeusOf d ≡ 2 * count d + 3442117
@@ -49,10 +52,12 @@ unfolding meeusOf
 counted d h l =
     let y = d .year in let i = exists-yes d h in let m = month-of-date d i in
     cases (ltb 2 (d .month))
-    (λ e. rw e (gathered (yearDaysOf y) (monthTermOf (d .month)) (y / 100) (y / 100 / 4) (d .day) (daysBeforeYearOf (y + 1)) (count d) (years y)
+    (λ e. rw e
+    (gathered (yearDaysOf y) (monthTermOf (d .month)) (y / 100) (y / 100 / 4) (d .day) (daysBeforeYearOf (y + 1)) (count d) (years y)
     (late-days (monthTermOf (d .month)) (late (leapOf y) (d .month) (ltb-true 2 (d .month) e) (omega arith)))))
     (λ e. let f = ltb-false 2 (d .month) e in
-    rw e (gathered (yearDaysOf (y - 1)) (monthTermOf (d .month + 12)) ((y - 1) / 100) ((y - 1) / 100 / 4) (d .day) (daysBeforeYearOf (y - 1 + 1))
+    rw e (gathered (yearDaysOf (y - 1)) (monthTermOf (d .month + 12)) ((y - 1) / 100) ((y - 1) / 100 / 4) (d .day)
+    (daysBeforeYearOf (y - 1 + 1))
     (count d) (years (y - 1))
     (early-days (monthTermOf (d .month + 12)) (early (leapOf y) (d .month) (m .first) (omega arith)))))
   where
@@ -60,7 +65,8 @@ counted d h l =
         daysBeforeYearOf (d .year + 1) + v + d .day ≡ count d + 428
     late-days v k = unfold daysInYearOf in omega (arith, year-step (d .year), ordinal-is d h, year-days (leapOf (d .year)))
 
-    early-days : (v : ℕ) → v ≡ daysBeforeOf (leapOf (d .year)) (d .month) + 428 → daysBeforeYearOf (d .year - 1 + 1) + v + d .day ≡ count d + 428
+    early-days : (v : ℕ) → v ≡ daysBeforeOf (leapOf (d .year)) (d .month) + 428
+        → daysBeforeYearOf (d .year - 1 + 1) + v + d .day ≡ count d + 428
     early-days v k = let z : d .year - 1 + 1 ≡ d .year = omega arith in omega (arith, ordinal-is d h, ap daysBeforeYearOf z)
 
 -- twice the Julian Day is twice the number of the day, and 4881175: day 0 begins at 2440587.5

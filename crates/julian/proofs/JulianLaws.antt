@@ -1,7 +1,9 @@
--- The Julian Day of the f64 formula is the one of Meeus's whole numbers and of the calendar's count of days, for every date of the years 1899
--- to 2200: its sums of whole numbers and halves lose nothing. Assumes nothing.
-use Rattle.prelude.proofs.Logic.{_≡_, refl, ap, _∙_, true, ℕ, suc, _+_, _-_, _*_, _/_, _≤_, _<_, arith, ltb, lit<, lit≤, ℤ, pos, negsuc, _+ℤ_, _-ℤ_, _*ℤ_, ltb-true, ltb-false, lt-ltb, cases}
-use Rattle.float64.proofs.Floats.{Float, binary64, ofInt, round, sub, div, _+ᶠ_, _-ᶠ_, _/ᶠ_, dec, dyadic, int-dyadic, add-dyadic, sub-dyadic, neg-at}
+-- The Julian Day of the f64 formula is the one of Meeus's whole numbers and of the calendar's count of days, for every date of the years
+-- 1899 to 2200: its sums of whole numbers and halves lose nothing. Assumes nothing.
+use Rattle.prelude.proofs.Logic.{_≡_, refl, ap, _∙_, true, ℕ, suc, _+_, _-_, _*_, _/_, _≤_, _<_, arith, ltb, lit<, lit≤, ℤ, pos, negsuc}
+use Rattle.prelude.proofs.Logic.{_+ℤ_, _-ℤ_, _*ℤ_, ltb-true, ltb-false, lt-ltb, cases}
+use Rattle.float64.proofs.Floats.{Float, binary64, ofInt, round, sub, div, _+ᶠ_, _-ᶠ_, _/ᶠ_, dec, dyadic, int-dyadic, add-dyadic}
+use Rattle.float64.proofs.Floats.{sub-dyadic, neg-at}
 use Rattle.integers.proofs.Integers.{P, same, sum, difference}
 use Rattle.calendar.proofs.Calendar.{existsOf, dayNumberOf, exists-yes, month-of-date}
 use Rattle.calendar.specs.declared.dates.Date.{Date}
@@ -42,11 +44,14 @@ exact : (u v day b : ℕ) → u + v + day < 10000000 → 0 < b → b + 1525 ≤ 
     ≡ halves (2 * (u + v + day - b) - 3049)
 exact u v day b small p large =
     let e0 : halves (day * 2) +ᶠ halves 0 ≡ halves (day * 2 + 0) = add-dyadic 1 (day * 2) 0 (lit≤ tt) (omega arith) (lit< tt) in
-    let e1 : halves (u * 2) +ᶠ halves (v * 2) ≡ halves (u * 2 + v * 2) = add-dyadic 1 (u * 2) (v * 2) (lit≤ tt) (omega arith) (omega arith) in
-    let e2 : halves (u * 2 + v * 2) +ᶠ halves (day * 2 + 0) ≡ halves (u * 2 + v * 2 + (day * 2 + 0)) = add-dyadic 1 (u * 2 + v * 2) (day * 2 + 0) (lit≤ tt) (omega arith) (omega arith) in
+    let e1 : halves (u * 2) +ᶠ halves (v * 2) ≡ halves (u * 2 + v * 2) =
+    add-dyadic 1 (u * 2) (v * 2) (lit≤ tt) (omega arith) (omega arith) in
+    let e2 : halves (u * 2 + v * 2) +ᶠ halves (day * 2 + 0) ≡ halves (u * 2 + v * 2 + (day * 2 + 0)) =
+    add-dyadic 1 (u * 2 + v * 2) (day * 2 + 0) (lit≤ tt) (omega arith) (omega arith) in
     let x = u * 2 + v * 2 + (day * 2 + 0) in
     let e3 = taken x b (omega arith) p (omega arith) in
-    let e4 : halves (x - b * 2) -ᶠ halves 3049 ≡ halves (x - b * 2 - 3049) = sub-dyadic 1 (x - b * 2) 3049 (lit≤ tt) (omega arith) (omega arith) in
+    let e4 : halves (x - b * 2) -ᶠ halves 3049 ≡ halves (x - b * 2 - 3049) =
+    sub-dyadic 1 (x - b * 2) 3049 (lit≤ tt) (omega arith) (omega arith) in
     let e5 : x - b * 2 - 3049 ≡ 2 * (u + v + day - b) - 3049 = omega arith in
     rw (whole u, whole v, whole day, no-hours, offset, e0, e1, e2, e3, e4) (ap halves e5)
 
@@ -97,5 +102,6 @@ julian-meeus d h p q =
     (from-march (d .year - 1) (d .month + 12) (d .day) (omega arith) (omega arith) (omega arith) (omega arith) (omega arith))))
 
 -- and the calendar's count of days: day 0 begins at 2440587.5
-pub julian-number : (d : Date) → existsOf d ≡ true → 1899 ≤ d .year → d .year ≤ 2200 → dateJulianDayOf d ≡ halves (P (dayNumberOf d *ℤ pos 2 +ℤ pos 4881175))
+pub julian-number : (d : Date) → existsOf d ≡ true → 1899 ≤ d .year → d .year ≤ 2200
+    → dateJulianDayOf d ≡ halves (P (dayNumberOf d *ℤ pos 2 +ℤ pos 4881175))
 julian-number d h p q = julian-meeus d h p q ∙ ap (λ (z : ℤ). halves (P z)) (meeus-number d h (omega arith))

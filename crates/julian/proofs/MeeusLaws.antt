@@ -20,6 +20,7 @@ meeus-small d h p q =
 pub julian-days-are-meeus : JulianDaysAreMeeus
 julian-days-are-meeus d h p q =
     record {
-      meeus = subst (λ (x : Float). HasValue x false (meeusOf d) 2) (sym (julian-meeus d h p q)) (dyadic-value false (meeusOf d) 1 (meeus-small d h p q) (lit≤ tt));
+      meeus = subst (λ (x : Float). HasValue x false (meeusOf d) 2) (sym (julian-meeus d h p q))
+          (dyadic-value false (meeusOf d) 1 (meeus-small d h p q) (lit≤ tt));
       counted = meeus-number d h (omega arith);
     }

@@ -1,4 +1,5 @@
--- ops.rs's julian_day, operation by operation in f64: Meeus, Astronomical Algorithms, page 60. Whole numbers are integers that nothing wraps.
+-- ops.rs's julian_day, operation by operation in f64: Meeus, Astronomical Algorithms, page 60. Whole numbers are integers that nothing
+-- wraps.
 use Prim.Native.Nat.{ℕ}
 use mathlib.Core.Bool.{cond}
 use lib.Dec.{ltb}

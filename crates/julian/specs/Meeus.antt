@@ -1,4 +1,5 @@
--- Meeus, Astronomical Algorithms, page 60, on whole numbers: INT is division without remainder, and the Julian Day at 0 h is a number of halves.
+-- Meeus, Astronomical Algorithms, page 60, on whole numbers: INT is division without remainder, and the Julian Day at 0 h is a number of
+-- halves.
 use Prim.Native.Nat.{ℕ, _+_, _-_, _*_, _/_, _≤_}
 use mathlib.Core.Path.{_≡_}
 use mathlib.Core.Bool.{true, false, cond}
@@ -29,8 +30,8 @@ monthTermOf m = 306001 * (m + 1) / 10000
 unfoldable pub meeusOf : Date → ℕ
 meeusOf d = let a = yOf d / 100 in 2 * (yearDaysOf (yOf d) + monthTermOf (mOf d) + d .day + 2 + a / 4 - a) - 3049
 
--- Demand 2: "the Julian Day is Meeus's"; document 01: "the whole-number formula and the f64 one give the same Julian Day". For every date of
--- the years 1899 to 2200 the f64's exact value is Meeus's number, and day 0 begins at 2440587.5. Proved in proofs/MeeusLaws.
+-- Demand 2: "the Julian Day is Meeus's"; document 01: "the whole-number formula and the f64 one give the same Julian Day". For every date
+-- of the years 1899 to 2200 the f64's exact value is Meeus's number, and day 0 begins at 2440587.5. Proved in proofs/MeeusLaws.
 pub record JulianDayIsMeeus (d : Date) : Type 0 where
   pub meeus : HasValue (dateJulianDayOf d) false (meeusOf d) 2
   pub counted : pos (meeusOf d) ≡ dayNumberOf d *ℤ pos 2 +ℤ pos 4881175

@@ -82,7 +82,8 @@ struct Moment {
 // Any time, by divisions.
 fn divided(dated: Dated, time: i64) -> Moment
     requires { ⌜ dated .day ≡ dayNumberOf (dated .date) ⌝ }
-    ensures { λ r. ⌜ (r .sign ≡ signOf (daysOf (dated .date) time)) × (r .days ≡ digitOf (natAbs (daysOf (dated .date) time))) × (r .second ≡ floorRem time 86400) ⌝ }
+    ensures { λ r. ⌜ (r .sign ≡ signOf (daysOf (dated .date) time)) × (r .days ≡ digitOf (natAbs (daysOf (dated .date) time)))
+        × (r .second ≡ floorRem time 86400) ⌝ }
 {
     let days = days_from(dated, time);
     Moment {
@@ -103,7 +104,8 @@ fn second_from(start: i64, time: i64) -> u32
 // Nearly every time is on the date or on a day beside it: there comparisons are enough.
 fn compared(dated: Dated, time: i64) -> Moment
     requires { ⌜ (dated .day ≡ dayNumberOf (dated .date)) × (dated .start ≡ dayNumberOf (dated .date) *ℤ pos 86400) ⌝ }
-    ensures { λ r. ⌜ (r .sign ≡ signOf (daysOf (dated .date) time)) × (r .days ≡ digitOf (natAbs (daysOf (dated .date) time))) × (r .second ≡ floorRem time 86400) ⌝ }
+    ensures { λ r. ⌜ (r .sign ≡ signOf (daysOf (dated .date) time)) × (r .days ≡ digitOf (natAbs (daysOf (dated .date) time)))
+        × (r .second ≡ floorRem time 86400) ⌝ }
 {
     let today = dated.start;
     let yesterday = today - 86400;

@@ -6,8 +6,10 @@ use Rattle.unit.specs.declared.Coordinates.{Coordinates}
 use Rattle.unit.specs.Unit.{longitudeAngleOf}
 use Rattle.ops.specs.declared.coordinates.SolarCoordinates.{SolarCoordinates}
 use Rattle.ops.specs.declared.transit.Course.{Course}
-use Rattle.ops.specs.Transit.{interpolateOf, interpolateAnglesOf, altitudeOfCelestialBodyOf, hourAngleAtOf, correctedTransitOf, correctedHourAngleOf}
-use Rattle.ops.specs.Shared.{interpolatedOf, observerOf, courseThroughOf, hourAngleOf, courseTransitNumberOf, arcToSineOf, halfArcOf, movedTransitOf, hourNumberOf}
+use Rattle.ops.specs.Transit.{interpolateOf, interpolateAnglesOf, altitudeOfCelestialBodyOf, hourAngleAtOf, correctedTransitOf}
+use Rattle.ops.specs.Transit.{correctedHourAngleOf}
+use Rattle.ops.specs.Shared.{interpolatedOf, observerOf, courseThroughOf, hourAngleOf, courseTransitNumberOf, arcToSineOf, halfArcOf}
+use Rattle.ops.specs.Shared.{movedTransitOf, hourNumberOf}
 
 module _ (transit : Float) (place : Coordinates) (previous today next : SolarCoordinates) where
   abbrev course : Course
@@ -23,5 +25,6 @@ module _ (transit : Float) (place : Coordinates) (previous today next : SolarCoo
       ≡ correctedHourAngleOf transit angle place after (today .«apparent_sidereal_time»)
       (today .«right_ascension») (previous .«right_ascension») (next .«right_ascension»)
       (today .declination) (previous .declination) (next .declination)
-  unfolding hourNumberOf movedTransitOf halfArcOf arcToSineOf correctedHourAngleOf hourAngleOf hourAngleAtOf interpolatedOf interpolateAnglesOf interpolateOf altitudeOfCelestialBodyOf
+  unfolding hourNumberOf movedTransitOf halfArcOf arcToSineOf correctedHourAngleOf hourAngleOf hourAngleAtOf interpolatedOf
+      interpolateAnglesOf interpolateOf altitudeOfCelestialBodyOf
   hour-number-shared angle after = refl

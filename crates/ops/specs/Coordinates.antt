@@ -8,7 +8,9 @@ use Rattle.calendar.specs.declared.dates.Date.{Date}
 use Rattle.julian.specs.Julian.{dateJulianDayOf}
 use Rattle.unit.specs.declared.Angle.{Angle}
 use Rattle.unit.specs.Unit.{angleOf, fromRadiansOf, radiansOf, unwoundOf}
-use Rattle.ops.specs.Sun.{julianCenturyOf, meanSolarLongitudeOf, meanLunarLongitudeOf, ascendingLunarNodeLongitudeOf, apparentSolarLongitudeOf, meanObliquityOfTheEclipticOf, apparentObliquityOfTheEclipticOf, meanSiderealTimeOf, nutationInLongitudeOf, nutationInObliquityOf}
+use Rattle.ops.specs.Sun.{julianCenturyOf, meanSolarLongitudeOf, meanLunarLongitudeOf, ascendingLunarNodeLongitudeOf}
+use Rattle.ops.specs.Sun.{apparentSolarLongitudeOf, meanObliquityOfTheEclipticOf, apparentObliquityOfTheEclipticOf}
+use Rattle.ops.specs.Sun.{meanSiderealTimeOf, nutationInLongitudeOf, nutationInObliquityOf}
 use Rattle.ops.specs.declared.coordinates.SolarCoordinates.{SolarCoordinates}
 
 -- page 165, from the apparent obliquity and longitude in radians

@@ -1,5 +1,5 @@
--- This file need not be believed: it is Sun's and Transit's formulas over what several calls share and is worked once: the sine and cosine of an angle,
--- the differences of an interpolation, the products of sines and of cosines. proofs/SharedLaws.antt says so of Transit's.
+-- This file need not be believed: it is Sun's and Transit's formulas over what several calls share and is worked once: the sine and cosine
+-- of an angle, the differences of an interpolation, the products of sines and of cosines. proofs/SharedLaws.antt says so of Transit's.
 use mathlib.Core.Bool.{Bool, cond}
 use lib.Ieee.{Float, neg}
 use Rattle.float64.specs.Ops.{_+ᶠ_, _-ᶠ_, _*ᶠ_, _/ᶠ_, dec}
@@ -8,7 +8,8 @@ use Rattle.fdlibm_arc.specs.Asin.{asinOf}
 use Rattle.fdlibm_arc.specs.Acos.{acosOf}
 use Rattle.unit.specs.declared.Angle.{Angle}
 use Rattle.unit.specs.declared.Coordinates.{Coordinates}
-use Rattle.unit.specs.Unit.{angleOf, fromRadiansOf, radiansOf, unwoundOf, quadrantShiftedOf, plusOf, minusOf, overOf, latitudeAngleOf, longitudeAngleOf, normalizedToScaleOf}
+use Rattle.unit.specs.Unit.{angleOf, fromRadiansOf, radiansOf, unwoundOf, quadrantShiftedOf, plusOf, minusOf, overOf, latitudeAngleOf}
+use Rattle.unit.specs.Unit.{longitudeAngleOf, normalizedToScaleOf}
 use Rattle.ops.specs.declared.coordinates.Equatorial.{Equatorial}
 use Rattle.ops.specs.declared.coordinates.SolarCoordinates.{SolarCoordinates}
 use Rattle.ops.specs.declared.interpolation.Interpolation.{Interpolation}
@@ -22,7 +23,8 @@ use Rattle.ops.specs.Transit.{westOf}
 
 -- what the sine and the cosine of one angle correct together
 abbrev pub nutationsOf : Angle → Angle → Angle → Nutation
-nutationsOf solar lunar node = record { longitude = nutationInLongitudeOf solar lunar node; obliquity = nutationInObliquityOf solar lunar node }
+nutationsOf solar lunar node =
+    record { longitude = nutationInLongitudeOf solar lunar node; obliquity = nutationInObliquityOf solar lunar node }
 
 abbrev pub apparentPositionOf : Float → Angle → Angle → Apparent
 apparentPositionOf t longitude obliquity =
@@ -30,7 +32,8 @@ apparentPositionOf t longitude obliquity =
 
 -- what the sines and cosines of the obliquity and of the longitude give together
 abbrev pub equatorialOf : Float → Float → Equatorial
-equatorialOf obliquity longitude = record { declination = declinationOf obliquity longitude; «right_ascension» = rightAscensionOf obliquity longitude }
+equatorialOf obliquity longitude =
+    record { declination = declinationOf obliquity longitude; «right_ascension» = rightAscensionOf obliquity longitude }
 
 -- the differences of an interpolation: a + b and c
 abbrev pub differencesOf : Float → Float → Float → Interpolation
@@ -76,7 +79,8 @@ courseThroughOf transit observer previous today next =
 
 abbrev pub courseOf : Observer → SolarCoordinates → SolarCoordinates → SolarCoordinates → Course
 courseOf observer previous today next =
-    courseThroughOf (transitFromOf (observer .west) (today .«apparent_sidereal_time») (today .«right_ascension»)) observer previous today next
+    courseThroughOf (transitFromOf (observer .west) (today .«apparent_sidereal_time») (today .«right_ascension»)) observer previous today
+    next
 
 -- the sun's hour angle at m
 unfoldable pub hourAngleOf : Course → Float → Angle

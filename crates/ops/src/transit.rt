@@ -2,8 +2,10 @@
 // What several hour numbers of a day share is worked once: the sine and cosine of the latitude (Observer), the differences
 // of the interpolations and the products of the sines and of the cosines (Course).
 ghost use mathlib.Core.Path.{_≡_};
-ghost use Rattle.ops.specs.Transit.{altitudeOfCelestialBodyOf, westOf, approximateTransitOf, correctedTransitOf, correctedHourAngleOf};
-ghost use Rattle.ops.specs.Shared.{observerOf, transitFromOf, courseThroughOf, courseOf, hourAngleOf, movedTransitOf, courseTransitNumberOf, arcToSineOf, halfArcOf, hourNumberOf};
+ghost use Rattle.ops.specs.Transit.{altitudeOfCelestialBodyOf, westOf, approximateTransitOf, correctedTransitOf};
+ghost use Rattle.ops.specs.Transit.{correctedHourAngleOf};
+ghost use Rattle.ops.specs.Shared.{observerOf, transitFromOf, courseThroughOf, courseOf, hourAngleOf, movedTransitOf};
+ghost use Rattle.ops.specs.Shared.{courseTransitNumberOf, arcToSineOf, halfArcOf, hourNumberOf};
 use super::coordinates::SolarCoordinates;
 use super::interpolation::Interpolation;
 use super::interpolation::interpolate_angles;
@@ -158,7 +160,8 @@ impl Course {
         (transit + angle_delta.degrees) * 24.0
     }
 
-    // How much of a turn lies between the transit and an altitude, in degrees, from the altitude's sine: one that several days share is worked once.
+    // How much of a turn lies between the transit and an altitude, in degrees, from the altitude's sine: one that several days share is
+    // worked once.
     pub fn arc_to_sine(self, sine: f64) -> f64
         ensures { λ r. ⌜ r ≡ arcToSineOf self sine ⌝ }
     {
@@ -210,7 +213,8 @@ pub fn corrected_transit(
     previous_right_ascension: Angle,
     next_right_ascension: Angle,
 ) -> f64
-    ensures { λ r. ⌜ r ≡ correctedTransitOf «approximate_transit» longitude «sidereal_time» «right_ascension» «previous_right_ascension» «next_right_ascension» ⌝ }
+    ensures { λ r. ⌜ r ≡ correctedTransitOf «approximate_transit» longitude «sidereal_time» «right_ascension» «previous_right_ascension»
+        «next_right_ascension» ⌝ }
 {
     let plane_angle = Angle::new(
         sidereal_time.degrees + (360.985647 * approximate_transit),
@@ -242,7 +246,8 @@ pub fn corrected_hour_angle(
     previous_declination: Angle,
     next_declination: Angle,
 ) -> f64
-    ensures { λ r. ⌜ r ≡ correctedHourAngleOf «approximate_transit» angle coordinates «after_transit» «sidereal_time» «right_ascension» «previous_right_ascension» «next_right_ascension» declination «previous_declination» «next_declination» ⌝ }
+    ensures { λ r. ⌜ r ≡ correctedHourAngleOf «approximate_transit» angle coordinates «after_transit» «sidereal_time» «right_ascension»
+        «previous_right_ascension» «next_right_ascension» declination «previous_declination» «next_declination» ⌝ }
 {
     let previous = SolarCoordinates {
         declination: previous_declination,

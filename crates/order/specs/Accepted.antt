@@ -17,7 +17,8 @@ use Rattle.models.specs.Presets.{presetOf}
 use Rattle.models.specs.Settings.{minutesFor}
 use Rattle.order.specs.declared.reading.Order.{Order}
 use Rattle.map_form.specs.Hundredths.{mostLatitude, mostLongitude}
-use Rattle.order.specs.Ranges.{firstYear, lastYear, mostRows, mostAngle, mostMinutes, mostInterval, mostClock, mostImsak, rowsOfRamadan}
+use Rattle.order.specs.Ranges.{firstYear, lastYear, mostRows, mostAngle, mostMinutes, mostInterval, mostClock, mostImsak}
+use Rattle.order.specs.Ranges.{rowsOfRamadan}
 
 -- a date of the calendar, from 1900-01-01 to 2199-12-31
 pub record DateInOrder (date : Date) : Type 0 where

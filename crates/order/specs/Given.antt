@@ -10,7 +10,8 @@ use Rattle.float64.specs.Ops.{dec}
 use Rattle.calendar.specs.declared.dates.Date.{Date}
 use Rattle.calendar.specs.Gregorian.{dateOf}
 use Rattle.fields.specs.Numbers.{byteOf, unsignedOf, signedAtOf, floatOf}
-use Rattle.fields.specs.Tags.{methodTag, madhabTag, highLatitudeTag, roundingTag, shafaqTag, minutesTag, fajrAngleTag, ishaAngleTag, ishaIntervalTag, midnightTag, clockTag, southernTag, ramadanTag}
+use Rattle.fields.specs.Tags.{methodTag, madhabTag, highLatitudeTag, roundingTag, shafaqTag, minutesTag, fajrAngleTag, ishaAngleTag}
+use Rattle.fields.specs.Tags.{ishaIntervalTag, midnightTag, clockTag, southernTag, ramadanTag}
 use Rattle.fields.specs.Values.{Values}
 use Rattle.hijri.specs.declared.ramadan.Ramadan.{Ramadan}
 use Rattle.map_form.specs.declared.MapForm.{MapForm}
@@ -83,8 +84,8 @@ parametersIn v =
       shafaq = shafaqOf (byteOr v shafaqTag 0);
     }
 
--- Request 1: "Tag 15 (one byte, 0 or 1, missing is 0) chooses: 0 is today's rule, 1 carries." Request 3: "Tag 17 (one byte, 0 or 1, missing is 0)
--- chooses their rule with 1."
+-- Request 1: "Tag 15 (one byte, 0 or 1, missing is 0) chooses: 0 is today's rule, 1 carries." Request 3: "Tag 17 (one byte, 0 or 1, missing
+-- is 0) chooses their rule with 1."
 unfoldable pub rulesIn : Values → Rules
 rulesIn v = record { midnight = midnightOf (byteOr v midnightTag 0); southern = southernOf (byteOr v southernTag 0) }
 

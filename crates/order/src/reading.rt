@@ -1,7 +1,9 @@
-// Reading an order: the form of its fields, then missing tags, then coordinates in both forms, then ranges, then the first day of a Ramadan sheet.
+// Reading an order: the form of its fields, then missing tags, then coordinates in both forms, then ranges, then the first day of a Ramadan
+// sheet.
 ghost use mathlib.Core.Path.{_≡_};
 ghost use Rattle.fields.specs.Values.{hasIn, valuesIn};
-ghost use Rattle.order.specs.Reading.{isGivenOf, missingOf, bothFormsOf, outOfRangeOf, orderOf, wrongStartOf, firstOf, checksOf, readingOf, townIn};
+ghost use Rattle.order.specs.Reading.{isGivenOf, missingOf, bothFormsOf, outOfRangeOf, orderOf, wrongStartOf, firstOf, checksOf};
+ghost use Rattle.order.specs.Reading.{readingOf, townIn};
 use super::given::clock_in;
 use super::given::coordinate_in;
 use super::given::date_in;

@@ -73,7 +73,8 @@ one-same : (row : ℕ) (o : Order) (town : Part) → oneRow row (withTown o town
 unfolding oneRow workRowOf
 one-same row o town = refl
 
-piece-same : (page first : ℕ) (scratch : List ℕ) (o : Order) (town : Part) → pieceIn page first scratch (withTown o town) ≡ pieceIn page first scratch o
+piece-same : (page first : ℕ) (scratch : List ℕ) (o : Order) (town : Part)
+    → pieceIn page first scratch (withTown o town) ≡ pieceIn page first scratch o
 piece-same page first scratch o town = rw (page-same o town page)
 
 -- ---- what is answered, of two orders whose records are the same but for where the town is
@@ -204,7 +205,16 @@ module _ (a b : List ℕ) (orders : SamePlace a b) where
   given-same : withTown (orderOf (valuesOf a)) (orderOf (valuesOf b) .town) ≡ orderOf (valuesOf b)
   unfolding orderOf
   given-same =
-      rw (value 2 (lit≤ tt) refl, value 3 (lit≤ tt) refl, latitude-same, longitude-same, parameters-same, rules-same, clock-same, ramadan-same)
+      rw (
+        value 2 (lit≤ tt) refl,
+        value 3 (lit≤ tt) refl,
+        latitude-same,
+        longitude-same,
+        parameters-same,
+        rules-same,
+        clock-same,
+        ramadan-same,
+      )
 
   given : withTown (orders .first) (orders .second .town) ≡ orders .second
   given =
@@ -212,7 +222,8 @@ module _ (a b : List ℕ) (orders : SamePlace a b) where
       (subst (λ (o : Order). withTown (orderOf (valuesOf a)) (o .town) ≡ o) second-same given-same)
 
   town-same : townOf a ≡ townOf b
-  town-same = town-value a (orders .first) (orders .«first_read») ∙ value 1 (lit≤ tt) refl ∙ sym (town-value b (orders .second) (orders .«second_read»))
+  town-same = town-value a (orders .first) (orders .«first_read») ∙ value 1 (lit≤ tt) refl
+      ∙ sym (town-value b (orders .second) (orders .«second_read»))
 
 pub either-form-answers-alike : EitherFormAnswersAlike
 either-form-answers-alike a b orders =
@@ -238,10 +249,13 @@ either-form-moves-alike a b c d p q later =
       town = sym (town-same a c p) ∙ later .town ∙ town-same b d q;
       alike =
           subst (λ (o : Order). withOwnMinutes o (q .second .town) (q .second .setting .parameters .adjustments) ≡ q .second) x
-          (subst (λ (o : Order). withOwnMinutes (withTown (later .first) (p .second .town)) (q .second .town) (o .setting .parameters .adjustments) ≡ o) y
+          (subst (λ (o : Order). withOwnMinutes (withTown (later .first) (p .second .town)) (q .second .town)
+          (o .setting .parameters .adjustments) ≡ o) y
           (moved-town (later .first) (later .second) (p .second .town) (q .second .town) (later .alike)));
       more =
           λ (prayer : Prayer).
-          subst (λ (o : Order). leZ (timeAdjustmentsOf (o .setting .parameters) prayer) (timeAdjustmentsOf (q .second .setting .parameters) prayer) ≡ true) x
-          (subst (λ (o : Order). leZ (timeAdjustmentsOf (later .first .setting .parameters) prayer) (timeAdjustmentsOf (o .setting .parameters) prayer) ≡ true) y (later .more prayer));
+          subst (λ (o : Order). leZ (timeAdjustmentsOf (o .setting .parameters) prayer)
+          (timeAdjustmentsOf (q .second .setting .parameters) prayer) ≡ true) x
+          (subst (λ (o : Order). leZ (timeAdjustmentsOf (later .first .setting .parameters) prayer)
+          (timeAdjustmentsOf (o .setting .parameters) prayer) ≡ true) y (later .more prayer));
     }

@@ -1,5 +1,6 @@
--- Request 7: "a place sent either way with the same f64 gets the same sheet, shifts by minutes included." About the bytes of any two orders, over the
--- record, the sheet and what the calls answer; and demand 3's two orders may differ in the form. Proved in proofs/EitherFormLaws.
+-- Request 7: "a place sent either way with the same f64 gets the same sheet, shifts by minutes included." About the bytes of any two
+-- orders, over the record, the sheet and what the calls answer; and demand 3's two orders may differ in the form. Proved in
+-- proofs/EitherFormLaws.
 use Prim.Native.Nat.{ℕ, _≤_}
 use mathlib.Core.Path.{_≡_}
 use mathlib.Core.Bool.{Bool, false, _||_}

@@ -1,5 +1,6 @@
--- Request 7: "Tags 18 and 19 stand for latitude and longitude". An order that is read stays one if a coordinate is sent in the other form, beside
--- EitherForm, which is of two orders that are read; and the coordinates of one that is read are written back. Proved in proofs/SwappedLaws.
+-- Request 7: "Tags 18 and 19 stand for latitude and longitude". An order that is read stays one if a coordinate is sent in the other form,
+-- beside EitherForm, which is of two orders that are read; and the coordinates of one that is read are written back. Proved in
+-- proofs/SwappedLaws.
 use Prim.Native.Nat.{ℕ, _≤_}
 use mathlib.Core.Path.{_≡_}
 use mathlib.Core.Bool.{true, false}
@@ -19,7 +20,8 @@ use Rattle.order_laws.specs.EitherForm.{SamePlace, saysPlace}
 
 -- a coordinate, by its two tags: the second order gives it as the first does, or on the map by a value that fits, or by a float
 pub data Sent (a b : List ℕ) (float map most : ℕ) : Type 0 where
-  alike : hasOf a float ≡ hasOf b float → valueOf a float ≡ valueOf b float → hasOf a map ≡ hasOf b map → valueOf a map ≡ valueOf b map → Sent a b float map most
+  alike : hasOf a float ≡ hasOf b float → valueOf a float ≡ valueOf b float → hasOf a map ≡ hasOf b map → valueOf a map ≡ valueOf b map
+      → Sent a b float map most
   mapped : hasOf b float ≡ false → hasOf b map ≡ true → formFits most (formIn (valueOf b map)) ≡ true → Sent a b float map most
   floated : hasOf b float ≡ true → hasOf b map ≡ false → Sent a b float map most
 

@@ -62,8 +62,8 @@ fn write_read(scratch: &mut [u8], order: Order, page: u32, first: u32) -> Punche
     )
 }
 
-// Writes the rows of a page from its row `first` on, as many as fit the scratch and are left. Returns 9 if the scratch is shorter than a row of cells.
-// This is checked first.
+// Writes the rows of a page from its row `first` on, as many as fit the scratch and are left. Returns 9 if the scratch is shorter than a
+// row of cells. This is checked first.
 pub fn write_page(order: &[u8], page: u32, first: u32, scratch: &mut [u8]) -> Punched
     ensures { λ r. ⌜ r ≡ pageCallOf (now (order .entry)) page first (now (scratch .entry)) .answer ⌝ }
     ensures { λ _. ⌜ now (scratch .exit) ≡ pageCallOf (now (order .entry)) page first (now (scratch .entry)) .buffer ⌝ }

@@ -15,12 +15,13 @@ use order::reading::Order;
 use refusals::Refusal;
 use schedule::rolling::RowSuns;
 
-// Writes the rows from `row` to before `end`, if the buffer has room for them, and returns their dots, if it has or not. Each row takes over what it
-// can from the one before it.
+// Writes the rows from `row` to before `end`, if the buffer has room for them, and returns their dots, if it has or not. Each row takes
+// over what it can from the one before it.
 pub fn put_rows(buffer: &mut [u8], order: Order, row: u32, end: u32) -> u32
     requires { ⌜ Accepted order × (row < end) × (end ≤ order .rows) ⌝ }
     ensures { λ r. ⌜ r ≡ dotsOf (cellsOf (rowsFrom order row (end - row))) ⌝ }
-    ensures { λ _. ⌜ (rowLength * (end - row) ≤ length (now (buffer .entry)) → now (buffer .exit) ≡ frontOf (cellsOf (rowsFrom order row (end - row))) (now (buffer .entry))) ⌝ }
+    ensures { λ _. ⌜ (rowLength * (end - row) ≤ length (now (buffer .entry))
+        → now (buffer .exit) ≡ frontOf (cellsOf (rowsFrom order row (end - row))) (now (buffer .entry))) ⌝ }
 {
     let first = order.date;
     let setting = order.setting;

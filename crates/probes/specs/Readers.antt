@@ -13,7 +13,13 @@ unfoldable pub plainRead : Order → ProbePlain
 plainRead o = record { refusal = noRefusal; town = o .town; date = o .date; rows = o .rows; coordinates = o .setting .coordinates }
 
 unfoldable pub plainRefused : Refusal → ProbePlain
-plainRefused r = record { refusal = r; town = record { at = 0; length = 0 }; date = dateOf 0 0 0; rows = 0; coordinates = coordinatesOf (dec 0 0) (dec 0 0) }
+plainRefused r = record {
+  refusal = r;
+  town = record { at = 0; length = 0 };
+  date = dateOf 0 0 0;
+  rows = 0;
+  coordinates = coordinatesOf (dec 0 0) (dec 0 0);
+}
 
 unfoldable pub plainIn : Reading → ProbePlain
 plainIn (Read o) = plainRead o

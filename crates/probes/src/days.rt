@@ -7,7 +7,8 @@ ghost use Rattle.float64.specs.Ops.{dec};
 ghost use Rattle.schedule.specs.Times.{workedBy, workedAt};
 ghost use Rattle.schedule.specs.InForce.{currentTimeOf, currentNumberOf, nextOf, timeRemainingOf};
 ghost use Rattle.days.specs.Calls.{instantOf};
-ghost use Rattle.probes.specs.Days.{sunOf, rowNumbersOf, minutesFrom, parametersFrom, rulesFrom, settingFrom, settingsOf, noTimes, probeDayOf, probeRemainingOf};
+ghost use Rattle.probes.specs.Days.{sunOf, rowNumbersOf, minutesFrom, parametersFrom, rulesFrom, settingFrom, settingsOf, noTimes};
+ghost use Rattle.probes.specs.Days.{probeDayOf, probeRemainingOf};
 use calendar::dates::Date;
 use models::adjustments::TimeAdjustment;
 use models::high_altitude_rule::HighLatitudeRule;
@@ -234,7 +235,8 @@ pub extern "C" fn probe_day(
     settings: ProbeSettings,
     chosen: ProbeRules,
 ) -> ProbeDay
-    ensures { λ r. ⌜ r ≡ probeDayOf (workedBy (rowNumbersOf numbers) (dateOf year month day) (settingFrom latitude (dec 0 0) settings chosen)) ⌝ }
+    ensures { λ r.
+        ⌜ r ≡ probeDayOf (workedBy (rowNumbersOf numbers) (dateOf year month day) (settingFrom latitude (dec 0 0) settings chosen)) ⌝ }
 {
     answered(PrayerTimes::new(
         row(numbers),

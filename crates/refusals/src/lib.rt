@@ -1,4 +1,5 @@
-// Refusals (added): a number, 0 if nothing is refused, and a place. This is the one table of the numbers. A test compares the header with it.
+// Refusals (added): a number, 0 if nothing is refused, and a place. This is the one table of the numbers. A test compares the header with
+// it.
 ghost use mathlib.Core.Path.{_≡_};
 ghost use Rattle.refusals.specs.Refusals.{refusal, noRefusal, orOf};
 

@@ -1,5 +1,6 @@
 -- The second of the minute, what rounding adds, and minutes as two halves, as the code works them. Assumes nothing.
-use Rattle.prelude.proofs.Logic.{_≡_, ap, _∙_, true, false, ℕ, suc, _-_, _%_, _≤_, arith, T, lit<, ℤ, pos, negsuc, negℤ, natAbs, _+ℤ_, _-ℤ_, _*ℤ_, ltZ, quotZ, remZ, nonNeg, w32, w64, SFits, Fits, toZ}
+use Rattle.prelude.proofs.Logic.{_≡_, ap, _∙_, true, false, ℕ, suc, _-_, _%_, _≤_, arith, T, lit<, ℤ, pos, negsuc, negℤ, natAbs, _+ℤ_, _-ℤ_}
+use Rattle.prelude.proofs.Logic.{_*ℤ_, ltZ, quotZ, remZ, nonNeg, w32, w64, SFits, Fits, toZ}
 use Rattle.integers.proofs.Integers.{same, sum, difference, times, flip, divided, floored, lt-yes, lt-no, readBack, read, range, fits}
 use Rattle.integers.specs.Ends.{least64, most64}
 use Rattle.rounding.specs.Times.{satOf, secondOf, adjustedOf}
@@ -20,7 +21,8 @@ rem-up (negsuc n) h =
 rem-is : (t : ℤ) → ltZ (rem t) (pos 0) ≡ false → rem t ≡ pos (secondOf t)
 rem-is (pos n) h = ap pos (omega arith)
 rem-is (negsuc n) h =
-    same (negℤ (pos (suc n % 60))) (pos (60 - 1 - n % 60)) (omega (arith, flip (pos (suc n % 60)), lt-no (negℤ (pos (suc n % 60))) (pos 0) h))
+    same (negℤ (pos (suc n % 60))) (pos (60 - 1 - n % 60))
+    (omega (arith, flip (pos (suc n % 60)), lt-no (negℤ (pos (suc n % 60))) (pos 0) h))
 
 module _ (t : ℤ) (h : SFits w64 t) where
   rt : readBack w64 t ≡ t
@@ -56,7 +58,8 @@ pub less-fits : (k s : ℕ) → k ≤ 60 → Fits w32 s → SFits w64 (pos k -�
 less-fits k s h f =
     let l = f .fits in
     let d = difference (pos k) (pos s) in
-    rw (read w64 (pos s) (record { sfits = omega arith })) (fits w64 (pos k -ℤ pos s) (omega (arith, d .0, d .1)) (omega (arith, d .0, d .1)))
+    rw (read w64 (pos s) (record { sfits = omega arith }))
+    (fits w64 (pos k -ℤ pos s) (omega (arith, d .0, d .1)) (omega (arith, d .0, d .1)))
 
 pub less-is : (k s : ℕ) → k ≤ 60 → Fits w32 s → readBack w64 (pos k -ℤ toZ w64 s) ≡ pos k -ℤ pos s
 less-is k s h f = read w64 (pos k -ℤ toZ w64 s) (less-fits k s h f) ∙ rw (read w64 (pos s) (record { sfits = omega (arith, f .fits) }))
@@ -100,7 +103,8 @@ module _ (t k : ℤ) (ht : SFits w64 t) (hk : SFits w64 k) where
 
   pub adjusted-is :
       (x r : ℤ) → SFits w64 half → readBack w64 x ≡ x → readBack w64 r ≡ r →
-      x ≡ satOf (readBack w64 t +ℤ readBack w64 half) → r ≡ satOf (readBack w64 x +ℤ readBack w64 half) → readBack w64 r ≡ satOf (adjustedOf t k)
+      x ≡ satOf (readBack w64 t +ℤ readBack w64 half) → r ≡ satOf (readBack w64 x +ℤ readBack w64 half)
+      → readBack w64 r ≡ satOf (adjustedOf t k)
   unfolding adjustedOf
   adjusted-is x r f p q d e =
       let h : readBack w64 half ≡ k *ℤ pos 30 = read w64 half f ∙ rw rk in

@@ -1,6 +1,7 @@
 -- When a sum of two i64 saturates, and when it fits. Assumes nothing.
 use Rattle.prelude.proofs.Logic.{_≡_, sym, _∙_, true, false, _+_, _<_, arith, ℤ, pos, _+ℤ_, _-ℤ_, leZ, ltZ, w64, SFits, cases}
-use Rattle.integers.proofs.Integers.{P, N, not-negative, not-positive, sum, difference, le-yes, le-no, lt-yes, lt-no, to-lt, to-not-lt, readBack, read, range}
+use Rattle.integers.proofs.Integers.{P, N, not-negative, not-positive, sum, difference, le-yes, le-no, lt-yes, lt-no, to-lt, to-not-lt}
+use Rattle.integers.proofs.Integers.{readBack, read, range}
 use Rattle.integers.specs.Ends.{least64, most64}
 use Rattle.rounding.specs.Times.{satOf}
 use Rattle.rounding.proofs.TimesLaws.{between, sat-in}
@@ -36,7 +37,8 @@ module _ (a b : ℤ) (ha : SFits w64 a) (hb : SFits w64 b) where
     up = let l = le-yes (pos 0) b (rw rb at t) in not-negative b (omega arith)
 
     room : SFits w64 (most64 -ℤ b)
-    room = let u = up in let r = range w64 b hb in let d = difference most64 b in between (most64 -ℤ b) (omega (arith, d .0, d .1)) (omega (arith, d .0, d .1))
+    room = let u = up in let r = range w64 b hb in let d = difference most64 b in
+        between (most64 -ℤ b) (omega (arith, d .0, d .1)) (omega (arith, d .0, d .1))
 
     pub room-fits : SFits w64 (most64 -ℤ b′)
     room-fits = rw rb room
@@ -61,7 +63,8 @@ module _ (a b : ℤ) (ha : SFits w64 a) (hb : SFits w64 b) where
     down = let l = le-no (pos 0) b (rw rb at t) in not-positive b (omega arith)
 
     room′ : SFits w64 (least64 -ℤ b)
-    room′ = let u = down in let r = range w64 b hb in let d = difference least64 b in between (least64 -ℤ b) (omega (arith, d .0, d .1)) (omega (arith, d .0, d .1))
+    room′ = let u = down in let r = range w64 b hb in let d = difference least64 b in
+        between (least64 -ℤ b) (omega (arith, d .0, d .1)) (omega (arith, d .0, d .1))
 
     pub room-fits′ : SFits w64 (least64 -ℤ b′)
     room-fits′ = rw rb room′

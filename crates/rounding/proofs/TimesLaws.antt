@@ -1,6 +1,8 @@
 -- What rounding and adjusting keep, and when nothing saturates. Over the definitions of `Times`. Assumes nothing.
-use Rattle.prelude.proofs.Logic.{_≡_, refl, sym, ap, _∙_, cond, ℕ, _+_, _*_, _^_, _≤_, _<_, arith, ltb, lit<, ℤ, pos, negsuc, _+ℤ_, _*ℤ_, +ℤ-idr, +ℤ-assoc, +ℤ-comm, ltb-true, ltb-false, lt-ltb, w64, SFits, cases, either}
-use Rattle.integers.proofs.Integers.{P, N, Between, Near, sum, difference, times, floorQuot, Floored, floored, _≼_, to-not-lt, range, sum-between, product-between, shifted-between, Held, held-fits}
+use Rattle.prelude.proofs.Logic.{_≡_, refl, sym, ap, _∙_, cond, ℕ, _+_, _*_, _^_, _≤_, _<_, arith, ltb, lit<, ℤ, pos, negsuc, _+ℤ_, _*ℤ_}
+use Rattle.prelude.proofs.Logic.{+ℤ-idr, +ℤ-assoc, +ℤ-comm, ltb-true, ltb-false, lt-ltb, w64, SFits, cases, either}
+use Rattle.integers.proofs.Integers.{P, N, Between, Near, sum, difference, times, floorQuot, Floored, floored, _≼_, to-not-lt, range}
+use Rattle.integers.proofs.Integers.{sum-between, product-between, shifted-between, Held, held-fits}
 use Rattle.models.specs.declared.rounding.Rounding.{Rounding}
 use Rattle.models.specs.declared.rounding.Rounding.the-variants.{Nearest, Up, None}
 use Rattle.integers.specs.Ends.{least64, most64}
@@ -38,7 +40,8 @@ unfolding roundedOf adjustedOf
 rounded-adjusted r t k =
     let m = k *ℤ pos 60 in
     let d = shiftOf r (secondOf t) in
-    ap (λ (s : ℕ). t +ℤ m +ℤ shiftOf r s) (second-adjusted t k) ∙ +ℤ-assoc t m d ∙ ap (λ (z : ℤ). t +ℤ z) (+ℤ-comm m d) ∙ sym (+ℤ-assoc t d m)
+    ap (λ (s : ℕ). t +ℤ m +ℤ shiftOf r s) (second-adjusted t k) ∙ +ℤ-assoc t m d ∙ ap (λ (z : ℤ). t +ℤ z) (+ℤ-comm m d)
+    ∙ sym (+ℤ-assoc t d m)
 
 -- how far above the start of its minute a time at second s is rounded to
 heightOf : Rounding → ℕ → ℕ
@@ -129,7 +132,12 @@ held-rounded {n} {z} {t} r h l =
     let k = rounded-between r (h .near) in
     record { is = ap (λ (x : ℤ). satOf (roundedOf r x)) (h .is) ∙ sat-in (roundedOf r t) (near-fits k l); near = k }
 
-pub held-adjusted : {m n : ℕ} {x y t k : ℤ} → Held m x t → Held n y k → m + n * 60 ≤ 2 ^ 62 → Held (m + n * 60) (satOf (adjustedOf x y)) (adjustedOf t k)
+pub held-adjusted : {m n : ℕ} {x y t k : ℤ} → Held m x t → Held n y k → m + n * 60 ≤ 2 ^ 62
+    → Held (m + n * 60) (satOf (adjustedOf x y)) (adjustedOf t k)
 held-adjusted {m} {n} {x} {y} {t} {k} h g l =
     let b = adjusted-between (h .near) (g .near) in
-    record { is = ap (λ (z : ℤ). satOf (adjustedOf z y)) (h .is) ∙ ap (λ (z : ℤ). satOf (adjustedOf t z)) (g .is) ∙ sat-in (adjustedOf t k) (near-fits b l); near = b }
+    record {
+      is = ap (λ (z : ℤ). satOf (adjustedOf z y)) (h .is) ∙ ap (λ (z : ℤ). satOf (adjustedOf t z)) (g .is)
+          ∙ sat-in (adjustedOf t k) (near-fits b l);
+      near = b;
+    }

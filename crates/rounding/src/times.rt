@@ -1,5 +1,5 @@
-// unit.rs's rounded_minute and adjust_time. A time is whole seconds from 1970-01-01 0h UTC. If the result would leave an i64's range, it is the
-// range's end: chrono's own range ends earlier, and there it panics.
+// unit.rs's rounded_minute and adjust_time. A time is whole seconds from 1970-01-01 0h UTC. If the result would leave an i64's range, it is
+// the range's end: chrono's own range ends earlier, and there it panics.
 ghost use mathlib.Core.Path.{_≡_};
 ghost use lib.IntN.{_+ℤ_};
 ghost use Rattle.rounding.specs.Times.{satOf, secondOf, shiftOf, roundedOf, adjustedOf};

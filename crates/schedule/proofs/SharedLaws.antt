@@ -1,5 +1,5 @@
--- A row's times from the courses of its three days are those of its hour numbers. What is shared changes no number, and what is left out changes no
--- time. Assumes nothing.
+-- A row's times from the courses of its three days are those of its hour numbers. What is shared changes no number, and what is left out
+-- changes no time. Assumes nothing.
 use Rattle.prelude.proofs.Logic.{_≡_, refl, ap, true, false, cases, ltZ, pos}
 use Rattle.calendar.specs.Answers.{tomorrowOf}
 use Rattle.calendar.specs.declared.dates.Date.{Date}
@@ -29,11 +29,13 @@ use Rattle.schedule.specs.Twilight.{bySeventhOf, ownOf, unadjustedFajrOf
 
 -- ---- no time depends on an hour that is left out
 module _ (p : Parameters) (season : Season) (date : Date) (today next : SolarTime) (hour : SolarHour) where
-  fajr-unasked : unadjustedFajrOf p season date today next (fajrAskedOf p (season .latitude) hour) ≡ unadjustedFajrOf p season date today next hour
+  fajr-unasked : unadjustedFajrOf p season date today next (fajrAskedOf p (season .latitude) hour)
+      ≡ unadjustedFajrOf p season date today next hour
   unfolding unadjustedFajrOf ownOf fajrAskedOf
   fajr-unasked = cases (bySeventhOf (p .method) (season .latitude)) (λ seventh. rw seventh refl) (λ angle. rw angle refl)
 
-  isha-unasked : unadjustedIshaOf p season date today next (ishaAskedOf p (season .latitude) hour) ≡ unadjustedIshaOf p season date today next hour
+  isha-unasked : unadjustedIshaOf p season date today next (ishaAskedOf p (season .latitude) hour)
+      ≡ unadjustedIshaOf p season date today next hour
   unfolding unadjustedIshaOf boundedIshaOf ownOf ishaAskedOf
   isha-unasked =
       cases (ltZ (pos 0) (p .«isha_interval»)) (λ interval. rw interval refl)
@@ -65,12 +67,14 @@ module _ (h : RowHours) (date : Date) (season : Season) (p : Parameters) where
 -- ---- an hour from the angle's sine is the angle's
 module _ (s : Setting) (c : Course) where
   fajr-by-sine : fajrHourOf s (twilightSinesOf (s .parameters) .fajr) c
-      ≡ fajrAskedOf (s .parameters) (s .coordinates .latitude) (solarHourOf (s .rules .midnight) (courseAngleNumberOf c (fajrAngleOf (s .parameters)) false))
+      ≡ fajrAskedOf (s .parameters) (s .coordinates .latitude)
+      (solarHourOf (s .rules .midnight) (courseAngleNumberOf c (fajrAngleOf (s .parameters)) false))
   unfolding courseSineNumberOf courseAngleNumberOf halfArcOf
   fajr-by-sine = refl
 
   isha-by-sine : ishaHourOf s (twilightSinesOf (s .parameters) .isha) c
-      ≡ ishaAskedOf (s .parameters) (s .coordinates .latitude) (solarHourOf (s .rules .midnight) (courseAngleNumberOf c (ishaAngleOf (s .parameters)) true))
+      ≡ ishaAskedOf (s .parameters) (s .coordinates .latitude)
+      (solarHourOf (s .rules .midnight) (courseAngleNumberOf c (ishaAngleOf (s .parameters)) true))
   unfolding courseSineNumberOf courseAngleNumberOf halfArcOf
   isha-by-sine = refl
 

@@ -1,5 +1,5 @@
--- This file need not be believed: the hours of Fajr, Asr and Isha as the code works them. One that no time asks for is left out, and Fajr's and Isha's
--- start from the sines of their angles. proofs/SharedLaws.antt says that the times are those of Numbers.
+-- This file need not be believed: the hours of Fajr, Asr and Isha as the code works them. One that no time asks for is left out, and Fajr's
+-- and Isha's start from the sines of their angles. proofs/SharedLaws.antt says that the times are those of Numbers.
 use mathlib.Core.Bool.{true, false, cond}
 use lib.IntN.{pos}
 use lib.Signed.{ltZ}

@@ -8,7 +8,8 @@ ghost use Rattle.models.specs.declared.rounding.Rounding.the-variants.{Nearest}
 ghost use Rattle.models.specs.Settings.{timeAdjustmentsOf};
 ghost use Rattle.rounding.specs.Times.{roundedOf, adjustedOf};
 ghost use Rattle.schedule.specs.Fajr.{fajrAloneOf};
-ghost use Rattle.schedule.specs.Times.{startOf, finalOf, fajrTomorrowOf, middleOfTheNightOf, qiyamOf, fromMidnightOf, startedOf, workedOf, workedBy};
+ghost use Rattle.schedule.specs.Times.{startOf, finalOf, fajrTomorrowOf, middleOfTheNightOf, qiyamOf, fromMidnightOf, startedOf};
+ghost use Rattle.schedule.specs.Times.{workedOf, workedBy};
 ghost use Rattle.schedule.specs.Each.{Each};
 ghost use Rattle.schedule.specs.Twilight.{unadjustedFajrOf};
 use super::hours::RowHours;
@@ -101,7 +102,8 @@ fn into_the_night(maghrib: i64, seconds: i64) -> i64
 
 fn calculate_qiyam(maghrib: i64, fajr: i64) -> Night
     requires { ⌜ Near (2 ^ 40) maghrib × Near (2 ^ 41) fajr ⌝ }
-    ensures { λ r. ⌜ ((r .middle ≡ middleOfTheNightOf maghrib fajr) × Near (2 ^ 43) (r .middle)) × ((r .«last_third» ≡ qiyamOf maghrib fajr) × Near (2 ^ 43) (r .«last_third»)) ⌝ }
+    ensures { λ r. ⌜ ((r .middle ≡ middleOfTheNightOf maghrib fajr) × Near (2 ^ 43) (r .middle))
+        × ((r .«last_third» ≡ qiyamOf maghrib fajr) × Near (2 ^ 43) (r .«last_third»)) ⌝ }
 {
     let night = fajr - maghrib;
     Night {

@@ -1,5 +1,5 @@
-// Rows that follow one another (added). The date of the next row is worked from the next position of the sun alone: two of its three days, and
-// the hour of its Fajr, are the row's own. What depends on the place or on the parameters alone is worked with the first row's.
+// Rows that follow one another (added). The date of the next row is worked from the next position of the sun alone: two of its three days,
+// and the hour of its Fajr, are the row's own. What depends on the place or on the parameters alone is worked with the first row's.
 ghost use mathlib.Core.Path.{_≡_};
 ghost use Rattle.calendar.specs.Answers.{yesterdayOf, tomorrowOf};
 ghost use Rattle.ops.specs.Coordinates.{positionOf};
@@ -28,8 +28,8 @@ pub struct DaySun {
     pub times: SolarDay,
 }
 
-// What a row is worked from: the sun of its date and of the two days after it, and the hours of Fajr's angle on the date and on the next. The
-// positions at 0h of the second and the third day after the date are kept for the next row.
+// What a row is worked from: the sun of its date and of the two days after it, and the hours of Fajr's angle on the date and on the next.
+// The positions at 0h of the second and the third day after the date are kept for the next row.
 pub struct RowSuns {
     pub date: Date,
     pub third: Date,

@@ -1,4 +1,5 @@
--- This file need not be believed: where the code looks for the number and the place that bytes say, before it compares their whole sentence.
+-- This file need not be believed: where the code looks for the number and the place that bytes say, before it compares their whole
+-- sentence.
 use Prim.Native.Nat.{ℕ, _+_, _*_, _-_, _^_}
 use mathlib.Core.Bool.{Bool, cond, _&&_}
 use mathlib.Core.List.{List, [], _∷_}

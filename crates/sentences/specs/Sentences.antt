@@ -37,13 +37,14 @@ written length = record { number = 0; place = 0; length = length }
 abbrev pub refusing : ℕ → List ℕ → SentenceCall
 refusing number buffer = record { answer = unwritten number; buffer = buffer }
 
--- "An unknown number gets 5, place 0, before the buffer is checked. A buffer shorter than the sentence gets 9." Else it is "at the front of a lent
--- buffer", and the bytes after it stay
+-- "An unknown number gets 5, place 0, before the buffer is checked. A buffer shorter than the sentence gets 9." Else it is "at the front of
+-- a lent buffer", and the bytes after it stay
 unfoldable pub sentenceCallOf : ℕ → ℕ → List ℕ → SentenceCall
 sentenceCallOf n p buffer =
     let sentence = sentenceOf n p in
     cond (known n)
-    (cond (leb (length sentence) (length buffer)) (record { answer = written (length sentence); buffer = frontOf sentence buffer }) (refusing bufferShort buffer))
+    (cond (leb (length sentence) (length buffer)) (record { answer = written (length sentence); buffer = frontOf sentence buffer })
+    (refusing bufferShort buffer))
     (refusing outOfRange buffer)
 
 -- ---- reading

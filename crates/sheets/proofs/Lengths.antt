@@ -1,5 +1,6 @@
 -- The sheet's text, part by part, and the room that it takes. Assumes nothing.
-use Rattle.prelude.proofs.Logic.{_≡_, refl, sym, ap, _∙_, List, [], _++_, ℕ, zero, suc, _+_, _*_, _≤_, add-one, arith, lit≤, length, length-append, arms, cases}
+use Rattle.prelude.proofs.Logic.{_≡_, refl, sym, ap, _∙_, List, [], _++_, ℕ, zero, suc, _+_, _*_, _≤_, add-one, arith, lit≤, length}
+use Rattle.prelude.proofs.Logic.{length-append, arms, cases}
 use Rattle.calendar.specs.Answers.{rowDateOf}
 use Rattle.days.specs.Calls.{workRowOf}
 use Rattle.hijri.specs.declared.ramadan.Ramadan.{Ramadan}
@@ -26,11 +27,13 @@ pub head-length : (ramadan : Ramadan) (town : List ℕ) → length (headText ram
 unfolding headText
 head-length ramadan town = length-append town (headerText ramadan)
 
-pub head-made : (ramadan : Ramadan) (town buffer one two : List ℕ) → length town + length (headerText ramadan) ≤ length buffer → one ≡ putOf buffer 0 town
+pub head-made : (ramadan : Ramadan) (town buffer one two : List ℕ) → length town + length (headerText ramadan) ≤ length buffer
+    → one ≡ putOf buffer 0 town
     → two ≡ putOf one (length town) (headerText ramadan) → two ≡ frontOf (headText ramadan town) buffer
 unfolding headText
 head-made ramadan town buffer one two room a b =
-    put-next buffer town (headerText ramadan) one two (length town) (put-next buffer [] town buffer one 0 refl refl a (omega arith)) refl b room
+    put-next buffer town (headerText ramadan) one two (length town)
+    (put-next buffer [] town buffer one 0 refl refl a (omega arith)) refl b room
 
 abbrev pub lineOf : Order → ℕ → List ℕ
 lineOf o k = lineText (o .ramadan) (rowDateOf (o .date) k) (workRowOf o k)
@@ -49,7 +52,8 @@ lines-length o (suc k) =
     omega arith
 
 -- no line yet
-pub lines-none : (o : Order) (buffer : List ℕ) (at : ℕ) → at ≤ length buffer → (buffer ≡ putOf buffer at (linesText o 0)) × (at ≡ at + length (linesText o 0))
+pub lines-none : (o : Order) (buffer : List ℕ) (at : ℕ) → at ≤ length buffer
+    → (buffer ≡ putOf buffer at (linesText o 0)) × (at ≡ at + length (linesText o 0))
 unfolding linesText
 lines-none o buffer at room = (sym (put-nothing buffer at room), omega arith)
 
@@ -74,7 +78,8 @@ line-made o k buffer before after line at end n room b e l m p =
       omega arith,
     )
 
-pub sheet-made : (town buffer head after : List ℕ) (o : Order) (n r : ℕ) → length town + (length (headerText (o .ramadan)) + o .rows * rowRoom (o .ramadan)) ≤ length buffer
+pub sheet-made : (town buffer head after : List ℕ) (o : Order) (n r : ℕ)
+    → length town + (length (headerText (o .ramadan)) + o .rows * rowRoom (o .ramadan)) ≤ length buffer
     → n ≡ length (headText (o .ramadan) town) → head ≡ frontOf (headText (o .ramadan) town) buffer
     → r ≡ n + length (linesText o (o .rows)) → after ≡ putOf head n (linesText o (o .rows))
     → (r ≡ length (acceptedText town o)) × (after ≡ frontOf (acceptedText town o) buffer)

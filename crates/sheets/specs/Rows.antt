@@ -34,7 +34,8 @@ refusing r buffer = record { answer = r; buffer = buffer }
 
 -- "a full row has 119 bytes with its newline, at the front of the row buffer; the bytes after them stay"
 unfoldable pub workedCallOf : Ramadan → Date → Worked → List ℕ → RowCall
-workedCallOf ramadan date (worked.Times t) buffer = record { answer = noRefusal; buffer = frontOf (rowText date (columnsOf ramadan t)) buffer }
+workedCallOf ramadan date (worked.Times t) buffer =
+    record { answer = noRefusal; buffer = frontOf (rowText date (columnsOf ramadan t)) buffer }
 workedCallOf ramadan date (worked.Refused r) buffer = refusing r buffer
 
 -- of an order that is read. Request 12: a buffer "of 119 to 130" bytes is 9 "once the order is accepted with tag 20, before the row"

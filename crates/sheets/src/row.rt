@@ -39,7 +39,8 @@ fn write_worked(ramadan: Ramadan, date: Date, worked: Worked, buffer: &mut [u8])
 fn work_and_write(order: Order, row: u32, buffer: &mut [u8]) -> Refusal
     requires { ⌜ rowRoom (order .ramadan) ≤ length (now buffer) ⌝ }
     ensures { λ r. ⌜ r ≡ workedCallOf (order .ramadan) (rowDateOf (order .date) row) (workRowOf order row) (now (buffer .entry)) .answer ⌝ }
-    ensures { λ _. ⌜ now (buffer .exit) ≡ workedCallOf (order .ramadan) (rowDateOf (order .date) row) (workRowOf order row) (now (buffer .entry)) .buffer ⌝ }
+    ensures { λ _. ⌜ now (buffer .exit) ≡ workedCallOf (order .ramadan) (rowDateOf (order .date) row) (workRowOf order row)
+        (now (buffer .entry)) .buffer ⌝ }
 {
     if row < order.rows {
         let first = order.date;

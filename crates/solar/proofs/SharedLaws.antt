@@ -6,7 +6,8 @@ use Rattle.ops.specs.declared.transit.Course.{Course}
 use Rattle.ops.specs.Shared.{observerOf, transitFromOf, courseOf, courseTransitNumberOf}
 use Rattle.ops.specs.Transit.{approximateTransitOf}
 use Rattle.ops.proofs.SharedLaws.{transit-shared, hour-number-shared}
-use Rattle.solar.specs.Hours.{Sun, approxTransitOf, solarAltitude, transitNumberOf, angleNumberOf, hourNumbersOf, shadowAngleOf, afternoonNumberOf}
+use Rattle.solar.specs.Hours.{Sun, approxTransitOf, solarAltitude, transitNumberOf, angleNumberOf, hourNumbersOf, shadowAngleOf}
+use Rattle.solar.specs.Hours.{afternoonNumberOf}
 use Rattle.solar.specs.Shared.{courseAngleNumberOf, courseNumbersOf, courseAfternoonNumberOf}
 
 -- a sun's course

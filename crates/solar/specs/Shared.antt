@@ -1,4 +1,5 @@
--- This file need not be believed: proofs/SharedLaws.antt says that it gives the hour numbers of Hours. What a day's numbers share is worked once.
+-- This file need not be believed: proofs/SharedLaws.antt says that it gives the hour numbers of Hours. What a day's numbers share is worked
+-- once.
 use mathlib.Core.Bool.{Bool, true, false}
 use lib.Ieee.{Float}
 use Rattle.calendar.specs.Answers.{yesterdayOf, tomorrowOf}

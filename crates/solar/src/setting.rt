@@ -52,8 +52,8 @@ pub(crate) fn minute(value: f64, calculated_hours: f64) -> u32
     to_u32(round(calculated_minutes + floor(seconds) / 60.0))
 }
 
-// The same. If minutes and seconds both lie between 0 and 60, which is nearly always, there is one minute more from 30 seconds on, and nothing is
-// divided and rounded to find it. The tests are before the floor, which then needs none of its own.
+// The same. If minutes and seconds both lie between 0 and 60, which is nearly always, there is one minute more from 30 seconds on, and
+// nothing is divided and rounded to find it. The tests are before the floor, which then needs none of its own.
 fn date_minute(value: f64, calculated_hours: f64) -> u32
     ensures { λ r. ⌜ r ≡ minuteOf value «calculated_hours» ⌝ }
 {

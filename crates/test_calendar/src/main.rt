@@ -1,5 +1,5 @@
-// Walks every date from 1899-12-31 to 2200-01-03 by tomorrow() and folds what the calendar says of each into a few numbers; and the seconds of the two
-// hours around 1970-01-01 0h, each rounded in the three ways. The expected numbers are those of Python's datetime:
+// Walks every date from 1899-12-31 to 2200-01-03 by tomorrow() and folds what the calendar says of each into a few numbers; and the seconds
+// of the two hours around 1970-01-01 0h, each rounded in the three ways. The expected numbers are those of Python's datetime:
 //     python3 tests/calendar/dates.py > crates/test_calendar/stdout
 use calendar::dates::Date;
 use calendar::dates::weekday;

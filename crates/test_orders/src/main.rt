@@ -1,7 +1,7 @@
 // Reads orders, good and damaged, each behind two bytes of its length, made by
 //     tests/orders/cases.py stdin stdout
-// and writes two lines for each, what the reader answers and what the plain reader does: number and place of its refusal; or 0, 0 and what it
-// gives. A float stands by its bits.
+// and writes two lines for each, what the reader answers and what the plain reader does: number and place of its refusal; or 0, 0 and what
+// it gives. A float stands by its bits.
 ghost use mathlib.Core.Path.{_≡_};
 ghost use lib.IntN.{natAbs};
 ghost use Rattle.test_orders.specs.Numbers.{unsignedNumbersOf, signedNumbersOf};

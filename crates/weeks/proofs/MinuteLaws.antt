@@ -1,9 +1,12 @@
 -- A row's minute, as it is worked and as it is defined. Assumes nothing.
-use Rattle.prelude.proofs.Logic.{_≡_, refl, ap, _∙_, Bool, true, false, cond, List, ℕ, _+_, _*_, _/_, _%_, _^_, _<_, arith, lit≤, lit<, ℤ, pos, negsuc, _+ℤ_, _*ℤ_, w64, SFits, toZ, toZ-pos, length, set, getD-set-same, getD-set-other, eqb, eqb-true, eqb-false, eq-eqb, ne-eqb, cases}
+use Rattle.prelude.proofs.Logic.{_≡_, refl, ap, _∙_, Bool, true, false, cond, List, ℕ, _+_, _*_, _/_, _%_, _^_, _<_, arith, lit≤, lit<, ℤ}
+use Rattle.prelude.proofs.Logic.{pos, negsuc, _+ℤ_, _*ℤ_, w64, SFits, toZ, toZ-pos, length, set, getD-set-same, getD-set-other, eqb}
+use Rattle.prelude.proofs.Logic.{eqb-true, eqb-false, eq-eqb, ne-eqb, cases}
 use Rattle.calendar.specs.Answers.{rowDateOf}
 use Rattle.days.proofs.RowStates.{stateOf, state-worked}
 use Rattle.days.specs.Calls.{workRowOf}
-use Rattle.integers.proofs.Integers.{Near, floorQuot, floorRem, Held, held-sum, held-product, held-fits, stored, same, floored, range, read, readBack, sum, times}
+use Rattle.integers.proofs.Integers.{Near, floorQuot, floorRem, Held, held-sum, held-product, held-fits, stored, same, floored, range, read}
+use Rattle.integers.proofs.Integers.{readBack, sum, times}
 use Rattle.order.specs.Accepted.{Accepted}
 use Rattle.order.specs.declared.reading.Order.{Order}
 use Rattle.schedule.proofs.RowSunsLaws.{suns-fajr}
@@ -36,7 +39,8 @@ days-near (pos a) h = let r = range w64 (pos a) h in record { from = omega arith
 days-near (negsuc a) h = let r = range w64 (negsuc a) h in record { from = omega (arith, r); to = omega arith }
 
 -- the same at the values that the machine reads back: `d` the days, `n` the seconds that are left of one
-module _ (z : ℤ) (f : SFits w64 z) (d : ℤ) (n : ℕ) (k : readBack w64 d ≡ d) (days : d ≡ floorQuot (readBack w64 z) 86400) (rest : n ≡ floorRem (readBack w64 z) 86400) where
+module _ (z : ℤ) (f : SFits w64 z) (d : ℤ) (n : ℕ) (k : readBack w64 d ≡ d) (days : d ≡ floorQuot (readBack w64 z) 86400)
+    (rest : n ≡ floorRem (readBack w64 z) 86400) where
   whole : Held (2 ^ 48) (readBack w64 d) (floorQuot z 86400)
   whole = record { is = k ∙ days ∙ ap (λ (i : ℤ). floorQuot i 86400) (read w64 z f); near = days-near z f }
 
@@ -52,7 +56,8 @@ module _ (z : ℤ) (f : SFits w64 z) (d : ℤ) (n : ℕ) (k : readBack w64 d ≡
         near = record { from = omega arith; to = omega arith };
       }
 
-  minutes : Held (2 ^ 48 * 1440 + 1440) (readBack w64 (readBack w64 d *ℤ pos 1440) +ℤ toZ w64 (n / 60)) (floorQuot z 86400 *ℤ pos 1440 +ℤ pos (floorRem z 86400 / 60))
+  minutes : Held (2 ^ 48 * 1440 + 1440) (readBack w64 (readBack w64 d *ℤ pos 1440) +ℤ toZ w64 (n / 60))
+      (floorQuot z 86400 *ℤ pos 1440 +ℤ pos (floorRem z 86400 / 60))
   minutes = held-sum (stored (held-product whole 1440) (lit≤ tt)) left
 
   pub minutes-fit : SFits w64 (readBack w64 (readBack w64 d *ℤ pos 1440) +ℤ toZ w64 (n / 60))

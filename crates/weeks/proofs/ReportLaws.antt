@@ -1,5 +1,6 @@
 -- Windows and lines by the rows that they look at, and how long lines can be. Assumes nothing.
-use Rattle.prelude.proofs.Logic.{_≡_, refl, ap, _∙_, List, [], _∷_, _++_, ℕ, zero, suc, _+_, _-_, _*_, _/_, _≤_, _<_, add-one, arith, ltb, length, length-append, lt-ltb, arms, ℤ}
+use Rattle.prelude.proofs.Logic.{_≡_, refl, ap, _∙_, List, [], _∷_, _++_, ℕ, zero, suc, _+_, _-_, _*_, _/_, _≤_, _<_, add-one, arith, ltb}
+use Rattle.prelude.proofs.Logic.{length, length-append, lt-ltb, arms, ℤ}
 use Rattle.text.proofs.SignedLaws.{signed-length}
 use Rattle.text.proofs.TextLaws.{put-next}
 use Rattle.text.specs.Text.{digitOf, digitsOf, decimalOf, putOf, frontOf}

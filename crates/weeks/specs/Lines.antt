@@ -1,5 +1,5 @@
--- Document 02, request 11: the report's lines. "prints a line a window: its first row, the earliest, that one's row, the latest, that one's row, in
--- decimal (a minus only below zero), a blank between; a window with a refused day prints its first row, a blank and `refused`".
+-- Document 02, request 11: the report's lines. "prints a line a window: its first row, the earliest, that one's row, the latest, that one's
+-- row, in decimal (a minus only below zero), a blank between; a window with a refused day prints its first row, a blank and `refused`".
 use Prim.Native.Nat.{ℕ, zero, suc, _+_, _-_}
 use mathlib.Core.List.{List, [], _++_}
 use lib.IntN.{ℤ}
@@ -16,7 +16,8 @@ pairText minute row = ascii " " ++ signedOf minute ++ ascii " " ++ decimalOf row
 
 -- `0 -2 0 -1 2`, or `0 refused`
 unfoldable pub lineOf : ℕ → Window → List ℕ
-lineOf first (Found x) = decimalOf first ++ pairText (x .earliest) (x .«earliest_row») ++ pairText (x .latest) (x .«latest_row») ++ ascii "\n"
+lineOf first (Found x) = decimalOf first ++ pairText (x .earliest) (x .«earliest_row») ++ pairText (x .latest) (x .«latest_row»)
+    ++ ascii "\n"
 lineOf first Refused = decimalOf first ++ ascii " refused\n"
 
 -- the lines of the first n windows

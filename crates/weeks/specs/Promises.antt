@@ -1,5 +1,5 @@
--- Document 02, request 11: what is stated of the windows of an order beyond what the report prints: "earliest", "latest" and "the first row having each"
--- mean it.
+-- Document 02, request 11: what is stated of the windows of an order beyond what the report prints: "earliest", "latest" and "the first row
+-- having each" mean it.
 use Prim.Native.Nat.{ℕ, _+_, _≤_}
 use Rattle.order.specs.declared.reading.Order.{Order}
 use Rattle.weeks.specs.Meaning.{Answers}

@@ -15,8 +15,8 @@ use Rattle.weeks.specs.declared.minutes.Minute.{Minute}
 use Rattle.weeks.specs.declared.minutes.Minute.the-variants.{Some, Nothing}
 use Rattle.weeks.specs.Lines.{reportOf}
 
--- "Fajr by the clock, in minutes after the row's own 0h UTC .. The minute is the second count divided by 60 and rounded down, also below zero." Tag 16
--- has no part in it.
+-- "Fajr by the clock, in minutes after the row's own 0h UTC .. The minute is the second count divided by 60 and rounded down, also below
+-- zero." Tag 16 has no part in it.
 unfoldable pub minuteIn : Order → ℕ → Worked → Minute
 minuteIn o row (worked.Times t) = Some (floorQuot (t .fajr -ℤ startOf (rowDateOf (o .date) row)) 60)
 minuteIn o row (worked.Refused r) = Nothing

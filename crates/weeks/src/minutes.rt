@@ -34,7 +34,8 @@ fn whole_minutes(seconds: i64) -> i64
 
 fn store(fajr: FajrAlone, row: usize, minutes: &mut [i64], refused: &mut [bool])
     requires { ⌜ (row < length (now minutes)) × (row < length (now refused)) ⌝ }
-    ensures { λ _. ⌜ ((k : ℕ) → minuteAt (now (minutes .exit)) (now (refused .exit)) k ≡ cond (eqb k row) (minuteFrom fajr) (minuteAt (now (minutes .entry)) (now (refused .entry)) k)) ⌝ }
+    ensures { λ _. ⌜ ((k : ℕ) → minuteAt (now (minutes .exit)) (now (refused .exit)) k
+        ≡ cond (eqb k row) (minuteFrom fajr) (minuteAt (now (minutes .entry)) (now (refused .entry)) k)) ⌝ }
 {
     match fajr {
         FajrAlone::Some(seconds) => {

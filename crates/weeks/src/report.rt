@@ -32,7 +32,8 @@ fn put_windows(
 ) -> usize
     requires { ⌜ (rows ≤ 400) × (longestWeek ≤ length (now buffer)) ⌝ }
     ensures { λ r. ⌜ r ≡ length (reportOf (minuteAt (now (minutes .entry)) (now (refused .entry))) rows) ⌝ }
-    ensures { λ _. ⌜ now (buffer .exit) ≡ frontOf (reportOf (minuteAt (now (minutes .entry)) (now (refused .entry))) rows) (now (buffer .entry)) ⌝ }
+    ensures { λ _.
+        ⌜ now (buffer .exit) ≡ frontOf (reportOf (minuteAt (now (minutes .entry)) (now (refused .entry))) rows) (now (buffer .entry)) ⌝ }
 {
     let mut first = 0;
     let mut end = 0;

@@ -39,5 +39,6 @@ returns-2 c =
 pub is-listed-spec : {M : Type 1} → this.Statement.statement M
 is-listed-spec =
     this.Tie.close
-    (this.Tie.spec Inv-loop μ-loop (λ c. search needs) (λ c. search needs) (λ c. search needs) returns (λ c. search needs) (λ c. search needs)
+    (this.Tie.spec Inv-loop μ-loop (λ c. search needs) (λ c. search needs) (λ c. search needs) returns (λ c. search needs)
+    (λ c. search needs)
     loop-again returns-2)

@@ -20,10 +20,12 @@ returns : this.Tie.Need-returns
 returns c =
     let t = c .before .before .before .before .before .before .before .before .before in
     let a = t .args in
-    let row = c .before .before .before .before .before .before .before .row-cells .ensures ∙ ap (rowCells (a .date) (a .worked)) (read w32 (a .clock) (t .fits .clock)) in
+    let row = c .before .before .before .before .before .before .before .row-cells .ensures
+    ∙ ap (rowCells (a .date) (a .worked)) (read w32 (a .clock) (t .fits .clock)) in
     (c .dots .ensures ∙ ap dotsOf row, rw row at (c .before .before .before .before .put .ensures))
 
 pub put-cells-spec : {M : Type 1} → this.Statement.statement M
 put-cells-spec =
     this.Tie.close
-    (this.Tie.spec (λ c κs. search needs) (λ c. search needs) (λ c κs. search needs) (λ c. search needs) dots-requires (λ c. search needs) returns)
+    (this.Tie.spec (λ c κs. search needs) (λ c. search needs) (λ c κs. search needs) (λ c. search needs) dots-requires
+    (λ c. search needs) returns)

@@ -23,4 +23,5 @@ returns-2 c =
     rw (rw r at (c .above .ensures)) (remainders.from-zero (t .args .seconds) (rw r at (c .before .if1 .left)))
 
 pub second-of-day-spec : {M : Type 1} → this.Statement.statement M
-second-of-day-spec = this.Tie.close (this.Tie.spec (λ c κs. search needs) sub-result (λ c. search needs) returns (λ c κs. search needs) returns-2)
+second-of-day-spec =
+    this.Tie.close (this.Tie.spec (λ c κs. search needs) sub-result (λ c. search needs) returns (λ c κs. search needs) returns-2)

@@ -7,7 +7,8 @@ returns : this.Tie.Need-returns
 unfolding workDayOf workReadingOf
 returns c =
     let t = c .before .before .before .before .before .before in
-    c .work-row .ensures ∙ ap (λ (x : Reading). workReadingOf x (t .args .row)) (sym (c .before .before .order .given .1) ∙ c .before .before .before .before .read .ensures)
+    c .work-row .ensures ∙ ap (λ (x : Reading). workReadingOf x (t .args .row))
+    (sym (c .before .before .order .given .1) ∙ c .before .before .before .before .read .ensures)
 
 returns-2 : this.Tie.Need-returns-2
 unfolding workDayOf workReadingOf

@@ -10,7 +10,8 @@ unfolding workAtOf
 returns c =
     let i = c .before .before .before .before .before .args .instant in
     let held : SFits w64 (i .seconds) = search needs in
-    let asked = c .before .before .instant-fits .ensures ∙ ap (λ (z : ℤ). instantFits (instantOf z (i .nanoseconds))) (read w64 (i .seconds) held) in
+    let asked = c .before .before .instant-fits .ensures
+    ∙ ap (λ (z : ℤ). instantFits (instantOf z (i .nanoseconds))) (read w64 (i .seconds) held) in
     let f : instantFits i ≡ true = sym asked ∙ c .before .if1 .taken in
     c .work-day .ensures ∙ simp f
 
@@ -19,7 +20,8 @@ unfolding workAtOf
 returns-2 c =
     let i = c .before .before .before .before .before .args .instant in
     let held : SFits w64 (i .seconds) = search needs in
-    let asked = c .before .before .instant-fits .ensures ∙ ap (λ (z : ℤ). instantFits (instantOf z (i .nanoseconds))) (read w64 (i .seconds) held) in
+    let asked = c .before .before .instant-fits .ensures
+    ∙ ap (λ (z : ℤ). instantFits (instantOf z (i .nanoseconds))) (read w64 (i .seconds) held) in
     let f : instantFits i ≡ false = sym asked ∙ c .before .if1 .left in
     ap worked.Refused (c .new .ensures) ∙ simp f
 

@@ -31,5 +31,6 @@ julian-day-spec = this.Tie.close (this.Tie.spec (λ c. search needs) (λ c. let 
     (λ c. let s = c .before .before in wide (s .args .year) (s .fits .year))
     (λ c. let s = c .before .before in held-fits (held-difference (of-wide (s .args .year) (s .fits .year)) (constant 1)) (lit≤ tt))
     (λ c. let s = c .before .before in wide (s .args .month) (s .fits .month))
-    (λ c. let s = c .before .before in held-fits (held-sum (of-wide (s .args .month) (s .fits .month)) (constant 12)) (lit≤ tt)) (λ c κs. tt) returns
+    (λ c. let s = c .before .before in held-fits (held-sum (of-wide (s .args .month) (s .fits .month)) (constant 12)) (lit≤ tt))
+    (λ c κs. tt) returns
     returns-2)

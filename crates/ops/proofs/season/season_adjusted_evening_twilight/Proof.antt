@@ -16,7 +16,8 @@ returns c =
     let e = seconds ∙ s .evening-twilight-seconds .ensures
     ∙ ap (λ (x : Season). eveningSecondsOf x (t .args .day) (t .args .year) (t .args .shafaq)) (s .before .source-season .ensures) in
     k ∙ c .rounded-minute .ensures
-    ∙ ap (λ (x : ℤ). satOf (roundedOf Nearest x)) (p ∙ c .before .plus .ensures ∙ ap satOf (summands (read w64 (t .args .sunset) (t .fits .sunset)) e))
+    ∙ ap (λ (x : ℤ). satOf (roundedOf Nearest x))
+    (p ∙ c .before .plus .ensures ∙ ap satOf (summands (read w64 (t .args .sunset) (t .fits .sunset)) e))
 
 pub season-adjusted-evening-twilight-spec : {M : Type 1} → this.Statement.statement M
 season-adjusted-evening-twilight-spec = this.Tie.close (this.Tie.spec (λ c κs. tt) (λ c κs. tt) (λ c κs. tt) (λ c κs. tt) returns)

@@ -11,9 +11,15 @@ unfolding at
 returns c =
     let a = c .before .before .before .before .args in
     let sidereal = a .sidereal-time in
-    simp (c .hour-number .ensures, c .before .half-arc .ensures, c .before .before .through .ensures, c .before .before .before .new .ensures)
+    simp (
+      c .hour-number .ensures,
+      c .before .half-arc .ensures,
+      c .before .before .through .ensures,
+      c .before .before .before .new .ensures,
+    )
     (hour-number-shared (a .approximate-transit) (a .coordinates) (at (a .previous-declination) (a .previous-right-ascension) sidereal)
-    (at (a .declination) (a .right-ascension) sidereal) (at (a .next-declination) (a .next-right-ascension) sidereal) (a .angle) (a .after-transit))
+    (at (a .declination) (a .right-ascension) sidereal) (at (a .next-declination) (a .next-right-ascension) sidereal) (a .angle)
+    (a .after-transit))
 
 pub corrected-hour-angle-spec : {M : Type 1} → this.Statement.statement M
 corrected-hour-angle-spec = this.Tie.close (this.Tie.spec (λ c κs. tt) (λ c κs. tt) (λ c κs. tt) (λ c κs. tt) returns)

@@ -78,9 +78,12 @@ loop-again c =
 pub put-rows-spec : {M : Type 1} → this.Statement.statement M
 put-rows-spec =
     this.Tie.close
-    (this.Tie.spec Inv-loop μ-loop (λ c κs. search needs) (λ c κs. search needs) loop-holds (λ c κs. search needs) (λ c. c .before .loop .inv .from)
+    (this.Tie.spec Inv-loop μ-loop (λ c κs. search needs) (λ c κs. search needs) loop-holds (λ c κs. search needs)
+    (λ c. c .before .loop .inv .from)
     (λ c. omega (arith, few (c .before))) (λ c. omega (arith, few (c .before))) (λ c κs. search needs)
     (λ c. omega (arith, row-holds (c .before .before) .2, few (c .before .before .before .before .before .before)))
     (λ c. omega (arith, few (c .before .before .before .before .before .before)))
-    (λ c. c .before .before .before .put-cells .kept .0 ∙ c .before .before .before .before .before .before .before .loop .inv .same) returns
-    (λ c κs. search needs) (λ c. omega (arith, c .before .before .before .before .before .before .before .before .loop .inv .within)) loop-again)
+    (λ c. c .before .before .before .put-cells .kept .0 ∙ c .before .before .before .before .before .before .before .loop .inv .same)
+    returns
+    (λ c κs. search needs)
+    (λ c. omega (arith, c .before .before .before .before .before .before .before .before .loop .inv .within)) loop-again)

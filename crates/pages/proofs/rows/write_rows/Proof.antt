@@ -10,4 +10,5 @@ returns c =
     rows-counted (a .order) (a .row) (a .count) _ _ (now (a .buffer)) _ (c .none .ensures) (put .0) (put .1 (omega (arith, start .pre .3)))
 
 pub write-rows-spec : {M : Type 1} → this.Statement.statement M
-write-rows-spec = this.Tie.close (this.Tie.spec (λ c. search needs) (λ c κs. search needs) (λ c κs. search needs) (λ c. search needs) returns)
+write-rows-spec =
+    this.Tie.close (this.Tie.spec (λ c. search needs) (λ c κs. search needs) (λ c κs. search needs) (λ c. search needs) returns)

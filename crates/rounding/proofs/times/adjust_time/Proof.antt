@@ -4,7 +4,8 @@ use Rattle.rounding.proofs.Minutes as minutes
 use Rattle.rounding.proofs.times.adjust_time as this
 
 mul-half : this.Tie.Need-mul-half
-mul-half c = let s = c .before .before in minutes.half-fits (s .args .t) (s .args .minutes) (s .fits .t) (s .fits .minutes) (c .before .if1 .left) (c .if2 .left)
+mul-half c = let s = c .before .before in
+    minutes.half-fits (s .args .t) (s .args .minutes) (s .fits .t) (s .fits .minutes) (c .before .if1 .left) (c .if2 .left)
 
 returns-3 : this.Tie.Need-returns-3
 returns-3 c =
@@ -13,7 +14,8 @@ returns-3 c =
     let r = c .plus2 .result in
     let p : readBack w64 x ≡ x = search needs in
     let q : readBack w64 r ≡ r = search needs in
-    minutes.adjusted-is (s .args .t) (s .args .minutes) (s .fits .t) (s .fits .minutes) x r (mul-half (c .before .before)) p q (c .before .plus .ensures) (c .plus2 .ensures)
+    minutes.adjusted-is (s .args .t) (s .args .minutes) (s .fits .t) (s .fits .minutes) x r (mul-half (c .before .before)) p q
+    (c .before .plus .ensures) (c .plus2 .ensures)
 
 pub adjust-time-spec : {M : Type 1} → this.Statement.statement M
 adjust-time-spec =

@@ -9,4 +9,5 @@ second-spec =
     this.Tie.close (this.Tie.spec (λ c. (lit< tt, minutes.quot-fits (c .args .t) (c .fits .t)))
     (λ c. minutes.up-fits (c .before .args .t) (c .before .fits .t))
     (λ c. minutes.as-u32 (c .before .args .t) _ (minutes.negative (c .before .args .t) (c .before .fits .t) (c .if1 .taken)))
-    (λ c. minutes.as-u32 (c .before .args .t) _ (minutes.positive (c .before .args .t) (c .before .fits .t) (c .if1 .left))) returns returns-2)
+    (λ c. minutes.as-u32 (c .before .args .t) _ (minutes.positive (c .before .args .t) (c .before .fits .t) (c .if1 .left))) returns
+    returns-2)

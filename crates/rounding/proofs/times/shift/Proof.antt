@@ -16,4 +16,5 @@ shift-spec =
     this.Tie.close (this.Tie.spec (λ c. search needs) (λ c. search needs)
     (λ c. let s = c .before .before .before in minutes.less-fits _ (s .args .s) (lit≤ tt) (s .fits .s)) returns
     (λ c. let s = c .before .before .before in minutes.less-fits _ (s .args .s) (lit≤ tt) (s .fits .s)) (λ c. search needs)
-    (λ c. let s = c .before .before in minutes.less-fits _ (s .args .s) (lit≤ tt) (s .fits .s)) (λ c. search needs) returns-2 returns-3 returns-4)
+    (λ c. let s = c .before .before in minutes.less-fits _ (s .args .s) (lit≤ tt) (s .fits .s))
+    (λ c. search needs) returns-2 returns-3 returns-4)

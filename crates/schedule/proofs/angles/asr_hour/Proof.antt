@@ -13,7 +13,8 @@ returns c =
     let k : readBack w32 (shadow .shadow .result) ≡ shadow .shadow .result = search needs in
     c .solar-hour .ensures
     ∙ ap (solarHourOf (s .rules .midnight))
-    (c .before .afternoon-number .ensures ∙ ap (λ (z : ℤ). courseAfternoonNumberOf (t .args .course) (s .coordinates .latitude) (ofInt binary64 z)) (k ∙ shadow .shadow .ensures))
+    (c .before .afternoon-number .ensures ∙ ap
+    (λ (z : ℤ). courseAfternoonNumberOf (t .args .course) (s .coordinates .latitude) (ofInt binary64 z)) (k ∙ shadow .shadow .ensures))
 
 pub asr-hour-spec : {M : Type 1} → this.Statement.statement M
 asr-hour-spec = this.Tie.close (this.Tie.spec (λ c κs. tt) (λ c. search needs) (λ c κs. tt) (λ c κs. tt) returns)

@@ -14,9 +14,11 @@ returns c =
     let t = c .before .before .before in
     let p = t .args .parameters in
     let u = of-near (c .before .unadjusted-fajr .ensures) (lit≤ tt) in
-    let fajr = u .is ∙ ap (λ (d : Date). unadjustedFajrOf p (t .args .season) d (t .args .tomorrow) (t .args .after) (t .args .hour)) (c .before .before .tomorrow .ensures) in
+    let fajr = u .is ∙ ap (λ (d : Date). unadjustedFajrOf p (t .args .season) d (t .args .tomorrow) (t .args .after) (t .args .hour))
+    (c .before .before .tomorrow .ensures) in
     let adjusted = none-stays _ ∙ ap (λ (z : ℤ). adjustedOf z (timeAdjustmentsOf p Fajr)) fajr in
-    promised (held-as (stored (held-sum (of-near (c .final-time .ensures) (lit≤ tt)) (constant 86400)) (lit≤ tt)) (ap nextDayOf adjusted)) (lit≤ tt)
+    promised (held-as (stored (held-sum (of-near (c .final-time .ensures) (lit≤ tt)) (constant 86400)) (lit≤ tt)) (ap nextDayOf adjusted))
+    (lit≤ tt)
 
 pub next-fajr-spec : {M : Type 1} → this.Statement.statement M
 next-fajr-spec =

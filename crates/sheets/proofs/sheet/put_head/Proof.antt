@@ -17,7 +17,8 @@ returns c =
     let n = header-short (a .ramadan) in
     let l = head-length (a .ramadan) (now (a .town)) in (
       omega (arith, h .0),
-      head-made (a .ramadan) (now (a .town)) (now (a .buffer)) _ _ (omega (arith, t .pre .0, t .pre .1)) (c .before .before .before .before .before .before .put .ensures) (h .1),
+      head-made (a .ramadan) (now (a .town)) (now (a .buffer)) _ _ (omega (arith, t .pre .0, t .pre .1))
+          (c .before .before .before .before .before .before .put .ensures) (h .1),
     )
 
 pub put-head-spec : {M : Type 1} → this.Statement.statement M

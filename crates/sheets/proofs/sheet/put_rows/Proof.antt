@@ -13,7 +13,8 @@ abbrev μ-loop : this.Tie.MeasureT-loop
 μ-loop buffer₀ at order setting ramadan rolling₀ row₀ end₀ buffer suns row end = order .rows - row
 
 -- behind the row whose line is put
-line-holds : (c : this.Tie.After-put-line Inv-loop μ-loop) → let a = c .before .before .before .before .before .before .before .before .args in
+line-holds : (c : this.Tie.After-put-line Inv-loop μ-loop) → let a =
+    c .before .before .before .before .before .before .before .before .args in
     let l = c .before .before .before .loop in
     Behind (a .order) (now (a .buffer)) (a .at) (c .put-line .last .0) (l .row + 1) (l .end + c .put-line .result)
 line-holds c =
@@ -21,7 +22,8 @@ line-holds c =
     let o = t .args .order in
     let l = c .before .before .before .loop in
     let put = c .put-line in
-    run-line o (t .pre .0) (now (t .args .buffer)) (t .args .at) (t .pre .1) (l .buffer) (l .suns) (l .row) (l .end) (l .inv) _ (put .last .0) (put .result)
+    run-line o (t .pre .0) (now (t .args .buffer)) (t .args .at) (t .pre .1) (l .buffer) (l .suns) (l .row) (l .end) (l .inv) _
+    (put .last .0) (put .result)
     (ap (lineText (o .ramadan) (l .suns .date)) (c .before .before .work .ensures)) (put .ensures .0) (put .ensures .1)
 
 loop-holds : this.Tie.Need-loop-holds Inv-loop μ-loop
@@ -70,5 +72,7 @@ put-rows-spec =
       c .before .before .before .before .before .loop .inv .within,
       c .before .before .before .before .before .before .before .before .before .before .pre .0 .rows .1,
     ))
-    (λ c. c .before .before .before .before .put-line .kept .0 ∙ c .before .before .before .before .before .before .before .loop .inv .same) returns
-    (λ c κs. search needs) (λ c. omega (arith, c .before .before .before .before .before .before .before .before .loop .inv .within)) loop-again)
+    (λ c. c .before .before .before .before .put-line .kept .0 ∙ c .before .before .before .before .before .before .before .loop .inv .same)
+    returns
+    (λ c κs. search needs)
+    (λ c. omega (arith, c .before .before .before .before .before .before .before .before .loop .inv .within)) loop-again)

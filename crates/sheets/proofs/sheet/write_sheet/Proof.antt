@@ -29,11 +29,13 @@ returns-3 : this.Tie.Need-returns-3
 returns-3 c =
     let taken = c .before .before .before .before .before in
     let called = taken .before .before in
-    report-refused _ _ _ _ (called .before .before .if1 .left) _ _ (lit≤ tt) _ (sym (called .before .read .ensures) ∙ taken .reading2 .given .1)
+    report-refused _ _ _ _ (called .before .before .if1 .left) _ _ (lit≤ tt) _
+    (sym (called .before .read .ensures) ∙ taken .reading2 .given .1)
     (c .before .before .put-refused-order .ensures)
 
 pub write-sheet-spec : {M : Type 1} → this.Statement.statement M
 write-sheet-spec =
     this.Tie.close
-    (this.Tie.spec (λ c. printed-short _ _ _ (c .if1 .taken)) (λ c κs. search needs) (λ c κs. search needs) (λ c. search needs) put-accepted-requires
+    (this.Tie.spec (λ c. printed-short _ _ _ (c .if1 .taken)) (λ c κs. search needs) (λ c κs. search needs)
+    (λ c. search needs) put-accepted-requires
     (λ c. search needs) (λ c κs. search needs) (λ c. search needs) returns-2 (λ c. search needs) returns-3)

@@ -7,7 +7,8 @@ use Rattle.solar.proofs.setting.date_hour as this
 float-to-int-hour : this.Tie.Need-float-to-int-hour
 float-to-int-hour c =
     let t = c .before .before in
-    subst (λ (x : Float). T (inUnsigned binary64 32 x)) (sym (c .before .floor .ensures)) (hours-cast (t .args .value) (t .pre .0) (t .pre .1))
+    subst (λ (x : Float). T (inUnsigned binary64 32 x)) (sym (c .before .floor .ensures))
+    (hours-cast (t .args .value) (t .pre .0) (t .pre .1))
 
 returns : this.Tie.Need-returns
 unfolding settingHourOf

@@ -34,4 +34,5 @@ returns c =
 pub put-signed-spec : {M : Type 1} → this.Statement.statement M
 put-signed-spec =
     this.Tie.close
-    (this.Tie.spec (λ c. search needs) (λ c κs. search needs) array-share-prefix-text slice-aggregate-put (λ c κs. search needs) (λ c. search needs) returns)
+    (this.Tie.spec (λ c. search needs) (λ c κs. search needs) array-share-prefix-text slice-aggregate-put (λ c κs. search needs)
+    (λ c. search needs) returns)

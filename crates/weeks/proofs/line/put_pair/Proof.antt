@@ -10,7 +10,8 @@ use Rattle.weeks.proofs.line.put_pair as this
 signed-bytes : (c : this.Tie.After-put-signed)
     → let start = c .before .before .before .before .before .before .before .before in
     (c .put-signed .result ≡ length (signedOf (start .args .minute)))
-    × (start .args .at + (2 + length (signedOf (start .args .minute)) + length (decimalOf (start .args .row))) ≤ length (now (start .args .buffer)))
+    × (start .args .at + (2 + length (signedOf (start .args .minute)) + length (decimalOf (start .args .row)))
+    ≤ length (now (start .args .buffer)))
 signed-bytes c =
     let start = c .before .before .before .before .before .before .before .before in
     let bytes = pair-bytes (start .args .minute) (start .args .row) in
@@ -24,7 +25,8 @@ add-end-3 : this.Tie.Need-add-end-3
 add-end-3 c = let s = signed-bytes (c .before .before .before .before .before .before .before) in record { fits = omega arith }
 
 add-result : this.Tie.Need-add-result
-add-result c = let s = signed-bytes (c .before .before .before .before .before .before .before .before .before .before .before) in record { fits = omega (arith, c .before .before .put-decimal .ensures .0) }
+add-result c = let s = signed-bytes (c .before .before .before .before .before .before .before .before .before .before .before) in
+    record { fits = omega (arith, c .before .before .put-decimal .ensures .0) }
 
 returns : this.Tie.Need-returns
 returns c =
@@ -36,7 +38,8 @@ returns c =
     let a = start .args in
     let decimal = row-put .put-decimal .ensures in
     pair-made (now (a .buffer)) (a .at) (a .minute) (a .row) (start .pre) _ _ _ _ _ _ (first-put .put .ensures) (signed-bytes minute-put .0)
-    (rw (read w64 (a .minute) (start .fits .minute)) at (minute-put .put-signed .ensures .1)) (blank-put .put2 .ensures) (decimal .0) (decimal .1)
+    (rw (read w64 (a .minute) (start .fits .minute)) at (minute-put .put-signed .ensures .1)) (blank-put .put2 .ensures) (decimal .0)
+    (decimal .1)
 
 pub put-pair-spec : {M : Type 1} → this.Statement.statement M
 put-pair-spec =

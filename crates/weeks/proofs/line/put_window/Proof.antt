@@ -42,9 +42,12 @@ add-result : this.Tie.Need-add-result
 add-result c =
     let earliest = c .before .before .before .before .before .before .before .before .before .before .before .before .put-pair in
     let latest = c .before .before .before .before .before .before .before .put-pair2 in
-    let matched = c .before .before .before .before .before .before .before .before .before .before .before .before .before .before .before .before .window .given in
-    let number = c .before .before .before .before .before .before .before .before .before .before .before .before .before .before .before .before .before .before .before .before .put-decimal in
-    let start = c .before .before .before .before .before .before .before .before .before .before .before .before .before .before .before .before .before .before .before .before .before .before .before in
+    let matched = c .before .before .before .before .before .before .before .before .before .before .before .before .before .before .before
+    .before .window .given in
+    let number = c .before .before .before .before .before .before .before .before .before .before .before .before .before .before .before
+    .before .before .before .before .before .put-decimal in
+    let start = c .before .before .before .before .before .before .before .before .before .before .before .before .before .before .before
+    .before .before .before .before .before .before .before .before in
     let room = rw (matched .1) at (start .pre) in
     let bytes = found-bytes (start .args .first) (matched .0 .0) in
     let fits : SFits w64 (matched .0 .0 .earliest) = search needs in
@@ -58,9 +61,12 @@ returns : this.Tie.Need-returns
 returns c =
     let earliest = c .before .before .before .before .before .before .before .before .before .before .before .before .put-pair in
     let latest = c .before .before .before .before .before .before .before .put-pair2 in
-    let matched = c .before .before .before .before .before .before .before .before .before .before .before .before .before .before .before .before .window .given in
-    let number = c .before .before .before .before .before .before .before .before .before .before .before .before .before .before .before .before .before .before .before .before .put-decimal in
-    let start = c .before .before .before .before .before .before .before .before .before .before .before .before .before .before .before .before .before .before .before .before .before .before .before in
+    let matched = c .before .before .before .before .before .before .before .before .before .before .before .before .before .before .before
+    .before .window .given in
+    let number = c .before .before .before .before .before .before .before .before .before .before .before .before .before .before .before
+    .before .before .before .before .before .put-decimal in
+    let start = c .before .before .before .before .before .before .before .before .before .before .before .before .before .before .before
+    .before .before .before .before .before .before .before .before in
     let room = rw (matched .1) at (start .pre) in
     let fits : SFits w64 (matched .0 .0 .earliest) = search needs in
     let fits2 : SFits w64 (matched .0 .0 .latest) = search needs in
@@ -87,11 +93,13 @@ returns-2 c =
     let told = c .before .before .before .before .before .enum-told .given .1 in
     let room = rw told at (start .pre) in
     rw told
-    (refused-made (now (start .args .buffer)) (start .args .at) (start .args .first) room _ _ _ (number .0) (number .1) (c .before .before .put2 .ensures))
+    (refused-made (now (start .args .buffer)) (start .args .at) (start .args .first) room _ _ _ (number .0) (number .1)
+    (c .before .before .put2 .ensures))
 
 pub put-window-spec : {M : Type 1} → this.Statement.statement M
 put-window-spec =
     this.Tie.close
     (this.Tie.spec (λ c κs. search needs) add-end (λ c. search needs) put-pair-requires put-pair-requires-2 (λ c. search needs)
-    (λ c κs. search needs) add-result (λ c. search needs) (λ c. search needs) (λ c κs. search needs) add-result-2 (λ c. search needs) returns
+    (λ c κs. search needs) add-result (λ c. search needs) (λ c. search needs) (λ c κs. search needs) add-result-2
+    (λ c. search needs) returns
     (λ c. search needs) returns-2)

@@ -22,4 +22,5 @@ returns c =
     minutes-read (s .args .seconds) (s .fits .seconds) _ _ k (c .before .day-of .ensures) (c .second-of-day .ensures)
 
 pub whole-minutes-spec : {M : Type 1} → this.Statement.statement M
-whole-minutes-spec = this.Tie.close (this.Tie.spec (λ c κs. search needs) mul-result (λ c κs. search needs) (λ c. search needs) add-result returns)
+whole-minutes-spec =
+    this.Tie.close (this.Tie.spec (λ c κs. search needs) mul-result (λ c κs. search needs) (λ c. search needs) add-result returns)

@@ -17,7 +17,8 @@ abbrev μ-loop : this.Tie.MeasureT-loop
 -- behind the row that is stored
 stored : (c : this.Tie.After-store Inv-loop μ-loop)
     → let order = c .before .before .before .before .before .before .before .before .args .order in
-    (k : ℕ) → k < c .before .before .before .before .loop .row + 1 → minuteAt (c .store .last .1 .1 .0) (c .store .last .1 .1 .1 .0) k ≡ rowMinute order k
+    (k : ℕ) → k < c .before .before .before .before .loop .row + 1
+    → minuteAt (c .store .last .1 .1 .0) (c .store .last .1 .1 .1 .0) k ≡ rowMinute order k
 stored c =
     let start = c .before .before .before .before .before .before .before .before in
     let l = c .before .before .before .before .loop in
@@ -67,7 +68,8 @@ loop-again c =
 pub work-minutes-spec : {M : Type 1} → this.Statement.statement M
 work-minutes-spec =
     this.Tie.close
-    (this.Tie.spec Inv-loop μ-loop (λ c κs. search needs) loop-holds (λ c κs. search needs) (λ c. omega (arith, few (c .before))) store-requires
+    (this.Tie.spec Inv-loop μ-loop (λ c κs. search needs) loop-holds (λ c κs. search needs)
+    (λ c. omega (arith, few (c .before))) store-requires
     (λ c. omega (arith, few (c .before .before .before .before .before .before .before)))
     (λ c. let start = c .before .before .before .before .before .before .before .before .before .before .before .before .before in
     long (c .before .before .before .before .before) .0 ∙ sym (start .pre .1))

@@ -22,7 +22,8 @@ put-window-requires c κs =
     let a = start .args in
     let l = c .before .before .before .loop in
     rw (c .before .new .ensures)
-    (line-room (minuteAt (now (a .minutes)) (now (a .refused))) (a .rows) (start .pre .0) (now (a .buffer)) (start .pre .1) (l .buffer) (l .first)
+    (line-room (minuteAt (now (a .minutes)) (now (a .refused))) (a .rows) (start .pre .0) (now (a .buffer)) (start .pre .1) (l .buffer)
+    (l .first)
     (l .end) (l .inv) (c .before .before .loop-test .taken))
 
 loop-again : this.Tie.Need-loop-again Inv-loop μ-loop
@@ -32,7 +33,8 @@ loop-again c =
     let l = c .before .before .before .before .before .before .loop in
     let put = c .before .before .put-window in
     let is = c .before .before .before .before .new .ensures in
-    lined-next (minuteAt (now (a .minutes)) (now (a .refused))) (a .rows) (start .pre .0) (now (a .buffer)) (start .pre .1) (l .buffer) (l .first)
+    lined-next (minuteAt (now (a .minutes)) (now (a .refused))) (a .rows) (start .pre .0) (now (a .buffer)) (start .pre .1) (l .buffer)
+    (l .first)
     (l .end) (l .inv) (c .before .before .before .before .before .loop-test .taken) _ _ (put .kept .0) (rw is at (put .ensures .0))
     (rw is at (put .ensures .1))
 
@@ -47,5 +49,6 @@ put-windows-spec =
     this.Tie.close
     (this.Tie.spec Inv-loop μ-loop loop-holds (λ c. omega (arith, c .loop .inv .within, c .before .before .pre .0))
     (λ c κs. omega (arith, c .loop-test .taken, c .before .before .before .pre .0)) put-window-requires
-    (λ c. omega (arith, c .before .before .before .before .before .loop-test .taken)) (λ c. omega (arith, c .before .before .before .before .before .loop-test .taken)) loop-again
+    (λ c. omega (arith, c .before .before .before .before .before .loop-test .taken))
+    (λ c. omega (arith, c .before .before .before .before .before .loop-test .taken)) loop-again
     (λ c. c .before .loop .inv .same) returns)

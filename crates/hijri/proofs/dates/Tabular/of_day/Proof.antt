@@ -16,9 +16,13 @@ returns c =
 
 pub of-day-spec : {M : Type 1} → this.Statement.statement M
 of-day-spec = this.Tie.close (this.Tie.spec (λ c κs. tt) (λ c κs. days-fit _ (c .since-first .result) (c .since-first .ensures))
-    (λ c. let y = year-fits _ (c .before .since-first .result) (c .before .since-first .ensures) (c .year-of .result) (c .year-of .ensures) in omega arith)
+    (λ c. let y = year-fits _ (c .before .since-first .result) (c .before .since-first .ensures) (c .year-of .result)
+    (c .year-of .ensures) in omega arith)
     (λ c. let d = days-fit _ (c .before .since-first .result) (c .before .since-first .ensures) in omega arith)
-    (λ c κs. let y = year-fits _ (c .before .since-first .result) (c .before .since-first .ensures) (c .year-of .result) (c .year-of .ensures) in omega arith)
-    (λ c. rest _ (c .before .before .since-first .result) (c .before .before .since-first .ensures) (c .before .year-of .result) (c .before .year-of .ensures) (c .year-start .result) (c .year-start .ensures) .less)
-    (λ c κs. rest _ (c .before .before .since-first .result) (c .before .before .since-first .ensures) (c .before .year-of .result) (c .before .year-of .ensures) (c .year-start .result) (c .year-start .ensures) .short)
+    (λ c κs. let y = year-fits _ (c .before .since-first .result) (c .before .since-first .ensures) (c .year-of .result)
+    (c .year-of .ensures) in omega arith)
+    (λ c. rest _ (c .before .before .since-first .result) (c .before .before .since-first .ensures) (c .before .year-of .result)
+    (c .before .year-of .ensures) (c .year-start .result) (c .year-start .ensures) .less)
+    (λ c κs. rest _ (c .before .before .since-first .result) (c .before .before .since-first .ensures) (c .before .year-of .result)
+    (c .before .year-of .ensures) (c .year-start .result) (c .year-start .ensures) .short)
     returns)

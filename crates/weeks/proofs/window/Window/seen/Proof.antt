@@ -11,5 +11,6 @@ returns c =
 pub seen-spec : {M : Type 1} → this.Statement.statement M
 seen-spec =
     this.Tie.close
-    (this.Tie.spec (λ c. search needs) (λ c. search needs) (λ c κs. search needs) (λ c κs. search needs) (λ c. search needs) (λ c. search needs)
+    (this.Tie.spec (λ c. search needs) (λ c. search needs) (λ c κs. search needs) (λ c κs. search needs) (λ c. search needs)
+    (λ c. search needs)
     returns (λ c. search needs) (λ c. search needs))
