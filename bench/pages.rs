@@ -8,7 +8,7 @@ use std::hint::black_box;
 const ROW_CELLS: usize = 39;
 const PAGE_CELLS: usize = 975;
 const WEAR: usize = 62;
-const WEEK: usize = 51200;
+const WEEK: usize = 22064;
 const ROUNDS: usize = 101;
 
 #[repr(C)]

@@ -1,5 +1,7 @@
 -- Rules that bring sums of products of natural numbers to one form, and two laws of powers. Assumes nothing.
-use Rattle.prelude.proofs.Logic.{_≡_, sym, _∙_, ℕ, zero, suc, _+_, _*_, _^_, add-assoc, add-comm, add-left-comm, add-zero, zero-add, mul-assoc, mul-comm, mul-left-comm, mul-add, add-mul, mul-zero, zero-mul, mul-one, one-mul, pow-zero, pow-succ', pow-add}
+use Rattle.prelude.proofs.Logic.{_≡_, sym, _∙_, ℕ, zero, suc, _+_, _*_, _^_, add-assoc, add-comm, add-left-comm, add-zero, zero-add}
+use Rattle.prelude.proofs.Logic.{mul-assoc, mul-comm, mul-left-comm, mul-add, add-mul, mul-zero, zero-mul, mul-one, one-mul, pow-zero}
+use Rattle.prelude.proofs.Logic.{pow-succ', pow-add}
 
 -- `omega` multiplies out up to four factors. Past that both sides are multiplied out by these first.
 pub ruleset ring = (mul-assoc, mul-comm, mul-left-comm, mul-add, add-mul)

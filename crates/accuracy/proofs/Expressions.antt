@@ -1,8 +1,10 @@
--- How roundings add up: expressions, what they give where each operation is rounded, what they are exactly, and how far the one can be from the
--- other. Assumes nothing.
-use Rattle.prelude.proofs.Logic.{Bool, true, _&&_, ℕ, _+_, _*_, _/_, _≤_, add-comm, lt-div-mul-add, arith, T, leb, leb→le, eqb, eqb→eq, and-l, and-r}
+-- How roundings add up: expressions, what they give when each operation is rounded, what they are exactly, and how far the one can be from
+-- the other. Assumes nothing.
+use Rattle.prelude.proofs.Logic.{Bool, true, _&&_, ℕ, _+_, _*_, _/_, _≤_, add-comm, lt-div-mul-add, arith, T, leb, leb→le, eqb, eqb→eq}
+use Rattle.prelude.proofs.Logic.{and-l, and-r}
 use Rattle.float64.proofs.Floats.{Float, binary64, add, sub, mul, finite}
-use Rattle.accuracy.proofs.Fractions.{Fraction, _⊞_, _⊠_, ⊟_, unit, unit-pos, same-close, through, sum, flip, times, times-right, Sized, sized-sum, sized-times}
+use Rattle.accuracy.proofs.Fractions.{Fraction, _⊞_, _⊠_, ⊟_, unit, unit-pos, same-close, through, sum, flip, times, times-right}
+use Rattle.accuracy.proofs.Fractions.{Sized, sized-sum, sized-times}
 use Rattle.accuracy.proofs.Rounding.{value, NearFraction, halfPlace}
 use Rattle.accuracy.proofs.Operations.{add-near, sub-near, mul-near}
 
@@ -105,10 +107,12 @@ module _ {x y : Float} {f g : Fraction} {S E R F : ℕ} (p : Known x f S E) (q :
       let n = sub-near x y (E + F + (S + R)) (p .near .real) (q .near .real) (through c z) t in
       record { near = record { real = n .real; close = through (n .close) c }; sized = z }
 
-  multiplied : productOff S E R F + units (S * R) ≤ 2 * unit → Known (mul binary64 x y) (f ⊠ g) (units (S * R)) (rounded (units (S * R)) (productOff S E R F))
+  multiplied : productOff S E R F + units (S * R) ≤ 2 * unit
+      → Known (mul binary64 x y) (f ⊠ g) (units (S * R)) (rounded (units (S * R)) (productOff S E R F))
   multiplied t =
       let x-sized : Sized (value x) (S + E) = rw (add-comm S E) (through (p .near .close) (p .sized)) in
-      let c = through (times x-sized (q .near .close) (units-enough ((S + E) * F))) (times-right (q .sized) (p .near .close) (units-enough (R * E))) in
+      let c = through (times x-sized (q .near .close) (units-enough ((S + E) * F)))
+      (times-right (q .sized) (p .near .close) (units-enough (R * E))) in
       let z = sized-times (p .sized) (q .sized) (units-enough (S * R)) in
       let n = mul-near x y (productOff S E R F + units (S * R)) (p .near .real) (q .near .real) (through c z) t in
       record { near = record { real = n .real; close = through (n .close) c }; sized = z }
@@ -116,7 +120,8 @@ module _ {x y : Float} {f g : Fraction} {S E R F : ℕ} (p : Known x f S E) (q :
 -- ---- the whole of it: run with rounding, an expression that is fine is at most its error off
 module _ {A : Type 0} (x : A → Float) (f : A → Fraction) (s : A → ℕ) (given : (v : A) → Known (x v) (f v) (s v) 0) where
   both : (a b : Expr A) (t : Bool) → T (fine s a && fine s b && t) → T (fine s a) × T (fine s b) × T t
-  both a b t h = let u = and-l (fine s a && fine s b) t h in (and-l (fine s a) (fine s b) u, and-r (fine s a) (fine s b) u, and-r (fine s a && fine s b) t h)
+  both a b t h = let u = and-l (fine s a && fine s b) t h in
+      (and-l (fine s a) (fine s b) u, and-r (fine s a) (fine s b) u, and-r (fine s a && fine s b) t h)
 
   pub known : (e : Expr A) → T (fine s e) → Known (run x e) (exact f e) (bound s e) (error s e)
   unfolding fine bound error

@@ -1,6 +1,8 @@
--- Polynomials in y / w with natural coefficients, compared for y / w from 0 to 9 / 16. With u = 9 w - 16 y, which is no less than 0, both are sums of
--- products of y and u. Where no coefficient of the one exceeds the other's, the one does not exceed the other. Assumes nothing.
-use Rattle.prelude.proofs.Logic.{_≡_, _∙_, Bool, true, _&&_, List, [], _∷_, ℕ, zero, suc, _+_, _*_, _^_, _≤_, add-le-add, mul-pos, mul-le-mul-right, mul-le-mul-left, le-of-mul-le-mul-right, one-le-pow, pow-zero, pow-succ', arith, T, leb, leb→le, lit<, length, and-l, and-r}
+-- Polynomials in y / w with natural coefficients, compared for y / w from 0 to 9 / 16. With u = 9 w - 16 y, which is no less than 0, both
+-- are sums of products of y and u. If no coefficient of the one exceeds the other's, the one does not exceed the other. Assumes nothing.
+use Rattle.prelude.proofs.Logic.{_≡_, _∙_, Bool, true, _&&_, List, [], _∷_, ℕ, zero, suc, _+_, _*_, _^_, _≤_, add-le-add, mul-pos}
+use Rattle.prelude.proofs.Logic.{mul-le-mul-right, mul-le-mul-left, le-of-mul-le-mul-right, one-le-pow, pow-zero, pow-succ', arith, T, leb}
+use Rattle.prelude.proofs.Logic.{leb→le, lit<, length, and-l, and-r}
 use Rattle.accuracy.proofs.Algebra.{ring, flat, mul-pow}
 
 -- ---- the polynomial with the coefficients that f picks, times w ^ n for n of them
@@ -8,7 +10,8 @@ abbrev pub poly : {A : Type 0} → (y w : ℕ) → (A → ℕ) → List A → �
 poly y w f [] = 0
 poly y w f (a ∷ l) = f a * w ^ length (a ∷ l) + y * poly y w f l
 
-pub poly-sum : {A : Type 0} (y w : ℕ) (f g : A → ℕ) (a b : ℕ) (l : List A) → poly y w (λ r. f r * a + g r * b) l ≡ poly y w f l * a + poly y w g l * b
+pub poly-sum : {A : Type 0} (y w : ℕ) (f g : A → ℕ) (a b : ℕ) (l : List A)
+    → poly y w (λ r. f r * a + g r * b) l ≡ poly y w f l * a + poly y w g l * b
 poly-sum y w f g a b [] = omega arith
 poly-sum y w f g a b (r ∷ l) = rw (poly-sum y w f g a b l) (regroup (f r) (g r) (w ^ length (r ∷ l)) (poly y w f l) (poly y w g l))
   where
@@ -21,7 +24,7 @@ pub data Form : ℕ → Type 0 where
   _▸_ : {n : ℕ} → ℕ → Form n → Form (suc n)
 
 infixr 50 _▸_
--- f times 9 w = u + 16 y; p is what stands before f's first coefficient
+-- f times 9 w = u + 16 y; p is what comes before f's first coefficient
 abbrev times9w : {n : ℕ} → ℕ → Form n → Form (suc n)
 times9w p none = 16 * p ▸ none
 times9w p (c ▸ f) = (c + 16 * p) ▸ times9w c f
@@ -86,7 +89,8 @@ module _ (y u : ℕ) where
   under-at : {n : ℕ} (f g : Form n) → T (under f g) → at f ≤ at g
   under-at none none t = omega arith
   under-at {n = suc n} (b ▸ f) (c ▸ g) t =
-      add-le-add (mul-le-mul-right (u ^ n) (leb→le b c (and-l (leb b c) (under f g) t))) (mul-le-mul-left y (under-at f g (and-r (leb b c) (under f g) t)))
+      add-le-add (mul-le-mul-right (u ^ n) (leb→le b c (and-l (leb b c) (under f g) t)))
+      (mul-le-mul-left y (under-at f g (and-r (leb b c) (under f g) t)))
 
 module _ {A : Type 0} (y w u : ℕ) (e : u + 16 * y ≡ 9 * w) where
   form-at : (f : A → ℕ) (l : List A) → at y u (form f l) ≡ 9 ^ length l * poly y w f l
@@ -102,6 +106,14 @@ module _ {A : Type 0} (y w u : ℕ) (e : u + 16 * y ≡ 9 * w) where
   pub poly-le : (f g : A → ℕ) (d : ℕ) (l : List A) → T (notAbove f g d l) → poly y w f l ≤ poly y w g l + d * w ^ length l
   poly-le f g d l t =
       let n = length l in
-      let h = rw (mix-at y u 0 (power9w n) (form f l), mix-at y u (9 * d) (power9w n) (form g l), power9w-at y u n, form-at f l, form-at g l, e, mul-pow 9 w n) at
+      let h = rw (
+        mix-at y u 0 (power9w n) (form f l),
+        mix-at y u (9 * d) (power9w n) (form g l),
+        power9w-at y u n,
+        form-at f l,
+        form-at g l,
+        e,
+        mul-pow 9 w n,
+      ) at
       (under-at y u (mix 0 (power9w n) (form f l)) (mix (9 * d) (power9w n) (form g l)) t) in
       le-of-mul-le-mul-right {k = 9 ^ n * 9} (simp ring (omega (arith, simp ring at h))) (mul-pos (one-le-pow n 9 (lit< tt)) (lit< tt))

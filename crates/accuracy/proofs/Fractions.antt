@@ -1,6 +1,8 @@
--- Signed fractions over natural numbers: their sums and products, how far two of them are apart, and how large one is. Nothing here is about
--- floats. Assumes nothing.
-use Rattle.prelude.proofs.Logic.{_≡_, ap, Bool, true, false, not, ℕ, _+_, _-_, _*_, _^_, _≤_, _<_, add-comm, add-zero, zero-add, le-of-lt, add-sub-of-le, mul-comm, mul-pos, mul-le-mul-right, le-of-mul-le-mul-right, arith, T, ltb, ltb→lt, nltb→le, lit<, pow-pos}
+-- Signed fractions over natural numbers: their sums and products, how far two of them are apart, and how large one is. Nothing here is
+-- about floats. Assumes nothing.
+use Rattle.prelude.proofs.Logic.{_≡_, ap, Bool, true, false, not, ℕ, _+_, _-_, _*_, _^_, _≤_, _<_, add-comm, add-zero, zero-add, le-of-lt}
+use Rattle.prelude.proofs.Logic.{add-sub-of-le, mul-comm, mul-pos, mul-le-mul-right, le-of-mul-le-mul-right, arith, T, ltb, ltb→lt, nltb→le}
+use Rattle.prelude.proofs.Logic.{lit<, pow-pos}
 use Rattle.accuracy.proofs.Algebra.{ring, flat}
 
 -- the number (more - less) / parts
@@ -14,10 +16,20 @@ infixl 60 _⊞_
 infixl 70 _⊠_
 infixl 80 ⊟_
 abbrev pub _⊞_ : Fraction → Fraction → Fraction
-f ⊞ g = record { more = f .more * g .parts + g .more * f .parts; less = f .less * g .parts + g .less * f .parts; parts = f .parts * g .parts; some = mul-pos (f .some) (g .some) }
+f ⊞ g = record {
+  more = f .more * g .parts + g .more * f .parts;
+  less = f .less * g .parts + g .less * f .parts;
+  parts = f .parts * g .parts;
+  some = mul-pos (f .some) (g .some);
+}
 
 abbrev pub _⊠_ : Fraction → Fraction → Fraction
-f ⊠ g = record { more = f .more * g .more + f .less * g .less; less = f .more * g .less + f .less * g .more; parts = f .parts * g .parts; some = mul-pos (f .some) (g .some) }
+f ⊠ g = record {
+  more = f .more * g .more + f .less * g .less;
+  less = f .more * g .less + f .less * g .more;
+  parts = f .parts * g .parts;
+  some = mul-pos (f .some) (g .some);
+}
 
 abbrev pub ⊟_ : Fraction → Fraction
 ⊟ f = record { more = f .less; less = f .more; parts = f .parts; some = f .some }
@@ -38,7 +50,8 @@ unit-pos = pow-pos 64
 
 -- f is at most g and E units
 abbrev AtMost : Fraction → Fraction → ℕ → Type 0
-AtMost f g E = unit * (f .more * g .parts + g .less * f .parts) ≤ unit * (f .less * g .parts + g .more * f .parts) + E * (f .parts * g .parts)
+AtMost f g E =
+    unit * (f .more * g .parts + g .less * f .parts) ≤ unit * (f .less * g .parts + g .more * f .parts) + E * (f .parts * g .parts)
 
 -- f and g are at most E units apart
 pub record Close (f g : Fraction) (E : ℕ) : Type 0 where
@@ -56,10 +69,14 @@ looser {f} {g} {E} {F} l h = record { upper = at-most-looser f g E F l (h .upper
 
 at-most-through : (f g h : Fraction) (E F : ℕ) → AtMost f g E → AtMost g h F → AtMost f h (E + F)
 at-most-through f g h E F p q =
-    le-of-mul-le-mul-right {k = g .parts} (simp ring (omega (arith, simp ring at (mul-le-mul-right (h .parts) p), simp ring at (mul-le-mul-right (f .parts) q)))) (g .some)
+    le-of-mul-le-mul-right {k = g .parts}
+    (simp ring (omega (arith, simp ring at (mul-le-mul-right (h .parts) p), simp ring at (mul-le-mul-right (f .parts) q)))) (g .some)
 
 pub through : {f g h : Fraction} {E F : ℕ} → Close f g E → Close g h F → Close f h (E + F)
-through {f} {g} {h} {E} {F} p q = record { upper = at-most-through f g h E F (p .upper) (q .upper); lower = rw (add-comm E F) (at-most-through h g f F E (q .lower) (p .lower)) }
+through {f} {g} {h} {E} {F} p q = record {
+  upper = at-most-through f g h E F (p .upper) (q .upper);
+  lower = rw (add-comm E F) (at-most-through h g f F E (q .lower) (p .lower));
+}
 
 -- ---- the same number, written in two ways
 pub record Same (f g : Fraction) : Type 0 where
@@ -70,7 +87,8 @@ pub scaled : (f g : Fraction) (k : ℕ) → f .more ≡ g .more * k → f .less 
 scaled f g k e i p = record { balance = rw (e, i, p) (simp ring (omega arith)) }
 
 pub same-close : {f g : Fraction} → Same f g → Close f g 0
-same-close {f} {g} s = record { upper = omega (arith, ap (λ (z : ℕ). unit * z) (s .balance)); lower = omega (arith, ap (λ (z : ℕ). unit * z) (s .balance)) }
+same-close {f} {g} s =
+    record { upper = omega (arith, ap (λ (z : ℕ). unit * z) (s .balance)); lower = omega (arith, ap (λ (z : ℕ). unit * z) (s .balance)) }
 
 pub itself : (f : Fraction) → Close f f 0
 itself f = same-close (record { balance = omega arith })
@@ -80,10 +98,12 @@ written {f} {g} {h} {E} p s = rw (add-zero E) at (through p (same-close s))
 
 -- ---- sums
 at-most-sum : (f g h k : Fraction) (E F : ℕ) → AtMost f g E → AtMost h k F → AtMost (f ⊞ h) (g ⊞ k) (E + F)
-at-most-sum f g h k E F p q = simp ring (omega (arith, simp ring at (mul-le-mul-right (h .parts * k .parts) p), simp ring at (mul-le-mul-right (f .parts * g .parts) q)))
+at-most-sum f g h k E F p q = simp ring
+    (omega (arith, simp ring at (mul-le-mul-right (h .parts * k .parts) p), simp ring at (mul-le-mul-right (f .parts * g .parts) q)))
 
 pub sum : {f g h k : Fraction} {E F : ℕ} → Close f g E → Close h k F → Close (f ⊞ h) (g ⊞ k) (E + F)
-sum {f} {g} {h} {k} {E} {F} p q = record { upper = at-most-sum f g h k E F (p .upper) (q .upper); lower = at-most-sum g f k h E F (p .lower) (q .lower) }
+sum {f} {g} {h} {k} {E} {F} p q =
+    record { upper = at-most-sum f g h k E F (p .upper) (q .upper); lower = at-most-sum g f k h E F (p .lower) (q .lower) }
 
 at-most-flip : (f g : Fraction) (E : ℕ) → AtMost g f E → AtMost (⊟ f) (⊟ g) E
 at-most-flip f g E p = omega (arith, mul-comm (f .parts) (g .parts))
@@ -104,14 +124,17 @@ beside f {g} {S} z = turned (written (rw (zero-add S) at (sum (itself f) z)) (re
 
 -- ---- products: two fractions that are F units apart, each times f, which is d / parts
 few : (d p S F G : ℕ) → unit * d ≤ S * p → S * F ≤ G * unit → d * F ≤ G * p
-few d p S F G h l = le-of-mul-le-mul-right {k = unit} (simp ring (omega (arith, simp ring at (mul-le-mul-right F h), simp ring at (mul-le-mul-right p l)))) unit-pos
+few d p S F G h l = le-of-mul-le-mul-right {k = unit}
+    (simp ring (omega (arith, simp ring at (mul-le-mul-right F h), simp ring at (mul-le-mul-right p l)))) unit-pos
 
 at-most-times : (f h k : Fraction) (d F G : ℕ) → d * F ≤ G * f .parts → f .less + d ≡ f .more → AtMost h k F → AtMost (f ⊠ h) (f ⊠ k) G
-at-most-times f h k d F G l e p = rw (← e) (simp ring (omega (arith, simp ring at (mul-le-mul-right (f .parts * d) p), simp ring at (mul-le-mul-right (f .parts * h .parts * k .parts) l))))
+at-most-times f h k d F G l e p = rw (← e) (simp ring
+    (omega (arith, simp ring at (mul-le-mul-right (f .parts * d) p), simp ring at (mul-le-mul-right (f .parts * h .parts * k .parts) l))))
 
 -- where f is -d / parts
 at-most-times-less : (f h k : Fraction) (d F G : ℕ) → d * F ≤ G * f .parts → f .more + d ≡ f .less → AtMost k h F → AtMost (f ⊠ h) (f ⊠ k) G
-at-most-times-less f h k d F G l e p = rw (← e) (simp ring (omega (arith, simp ring at (mul-le-mul-right (f .parts * d) p), simp ring at (mul-le-mul-right (f .parts * h .parts * k .parts) l))))
+at-most-times-less f h k d F G l e p = rw (← e) (simp ring
+    (omega (arith, simp ring at (mul-le-mul-right (f .parts * d) p), simp ring at (mul-le-mul-right (f .parts * h .parts * k .parts) l))))
 
 pub times : {f h k : Fraction} {S F G : ℕ} → Sized f S → Close h k F → S * F ≤ G * unit → Close (f ⊠ h) (f ⊠ k) G
 times {f} {h} {k} {S} {F} {G} z p l = by-sign (ltb (f .more) (f .less)) (ltb→lt (f .more) (f .less)) (nltb→le (f .more) (f .less))

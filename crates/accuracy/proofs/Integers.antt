@@ -1,5 +1,8 @@
--- From fractions to the statement: the sides of an alternating sum of integers, and what a float near a fraction is within. Assumes nothing.
-use Rattle.prelude.proofs.Logic.{_≡_, refl, ap, Bool, true, false, not, _&&_, cond, List, [], _∷_, ℕ, zero, suc, _+_, _-_, _*_, _/_, _^_, _≤_, le-trans, zero-mul, mul-zero, mul-le-mul-right, le-of-mul-le-mul-right, pow-zero, pow-suc, arith, ℤ, pos, negsuc, negℤ, natAbs, _-ℤ_, _*ℤ_, pow-mono}
+-- From fractions to the statement: the sides of an alternating sum of integers, and what a float near a fraction is within. Assumes
+-- nothing.
+use Rattle.prelude.proofs.Logic.{_≡_, refl, ap, Bool, true, false, not, _&&_, cond, List, [], _∷_, ℕ, zero, suc, _+_, _-_, _*_, _/_, _^_}
+use Rattle.prelude.proofs.Logic.{_≤_, le-trans, zero-mul, mul-zero, mul-le-mul-right, le-of-mul-le-mul-right, pow-zero, pow-suc, arith, ℤ}
+use Rattle.prelude.proofs.Logic.{pos, negsuc, negℤ, natAbs, _-ℤ_, _*ℤ_, pow-mono}
 use lib.IntN.{pow, one}
 use Rattle.float64.proofs.Floats.{Float, nan, inf, fin, up}
 use Rattle.integers.proofs.Integers.{P, N}
@@ -19,9 +22,10 @@ is-less {x} {y} h k =
     record { balance = omega (arith, h .balance, k .balance, d .0 .balance, d .1 .over, d .1 .under) }
 
 is-times : {x : ℤ} {p n : ℕ} (k : ℕ) → Is x p n → Is (x *ℤ pos k) (p * k) (n * k)
-is-times {x} k h = record { balance = omega (arith, ap (λ (z : ℕ). z * k) (h .balance), integers.times x k .over, integers.times x k .under) }
+is-times {x} k h =
+    record { balance = omega (arith, ap (λ (z : ℕ). z * k) (h .balance), integers.times x k .over, integers.times x k .under) }
 
--- ---- the integer a, or -a where s, and its powers
+-- ---- the integer a, or -a if s, and its powers
 abbrev integer : Bool → ℕ → ℤ
 integer false a = pos a
 integer true a = negℤ (pos a)
@@ -49,7 +53,7 @@ power true a zero = rw (pow-zero a)
 power false a (suc k) = rw (power false a k, pow-suc a k)
 power true a (suc k) = rw (power true a k, pow-suc a k) (by-minus (odd k) a (a ^ k))
 
--- ---- the sum's two sides: what is added, and where b what is taken off
+-- ---- the sum's two sides: what is added, and what is taken off if b
 module _ (s : Bool) (n a d : ℕ) where
   abbrev pub sides : Bool → List ℕ → ℕ
   sides b [] = 0
@@ -58,7 +62,8 @@ module _ (s : Bool) (n a d : ℕ) where
   is-term : (k : ℕ) → Is (term n (integer s a) d k) (cond (s && odd k) 0 (amount n a d k)) (cond (s && odd k) (amount n a d k) 0)
   is-term k = rw (power s a k) (by-sign (s && odd k) (is-times (n ! / k ! * d ^ (n - k)) (is-integer (s && odd k) (a ^ k))))
     where
-      by-sign : (t : Bool) {z : ℤ} → Is z (cond t 0 (a ^ k) * (n ! / k ! * d ^ (n - k))) (cond t (a ^ k) 0 * (n ! / k ! * d ^ (n - k))) → Is z (cond t 0 (amount n a d k)) (cond t (amount n a d k) 0)
+      by-sign : (t : Bool) {z : ℤ} → Is z (cond t 0 (a ^ k) * (n ! / k ! * d ^ (n - k))) (cond t (a ^ k) 0 * (n ! / k ! * d ^ (n - k)))
+          → Is z (cond t 0 (amount n a d k)) (cond t (amount n a d k) 0)
       by-sign false h = rw (zero-mul (n ! / k ! * d ^ (n - k))) at h
       by-sign true h = rw (zero-mul (n ! / k ! * d ^ (n - k))) at h
 
@@ -86,11 +91,13 @@ small (negsuc v) p n m h i j = omega (arith, ap (λ (z : ℕ). unit * z) (h .bal
 counted : (K v E m : ℕ) → unit * v ≤ E * m → E * K ≤ unit → K * v ≤ m
 counted K v E m h l = le-of-mul-le-mul-right {k = unit} (omega (arith, mul-le-mul-right K h, mul-le-mul-right m l)) unit-pos
 
-pub within : (k : ℕ) {y : Float} {f : Fraction} {z : ℤ} {E : ℕ} → Is z (f .more) (f .less) → NearFraction y f E → E * 2 ^ k ≤ unit → WithinSum k y z (f .parts)
+pub within : (k : ℕ) {y : Float} {f : Fraction} {z : ℤ} {E : ℕ} → Is z (f .more) (f .less) → NearFraction y f E → E * 2 ^ k ≤ unit
+    → WithinSum k y z (f .parts)
 within k {y} {f} {z} {E} h n l =
     let v = value y in
     let d = is-less (is-times (f .parts) (is-top y)) (is-times (v .parts) h) in
-    let s = small _ (v .more * f .parts + f .less * v .parts) (v .less * f .parts + f .more * v .parts) (E * (f .parts * v .parts)) d (omega (arith, n .close .upper)) (omega (arith, n .close .lower)) in
+    let s = small _ (v .more * f .parts + f .less * v .parts) (v .less * f .parts + f .more * v .parts) (E * (f .parts * v .parts)) d
+    (omega (arith, n .close .upper)) (omega (arith, n .close .lower)) in
     record { real = n .real; near = rw (bottom-is y) (counted (2 ^ k) _ E (f .parts * v .parts) s l) }
 
 pub wider : {j k : ℕ} {y : Float} {z : ℤ} {w : ℕ} → j ≤ k → WithinSum k y z w → WithinSum j y z w

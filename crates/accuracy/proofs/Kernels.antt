@@ -1,9 +1,11 @@
--- What the two kernels share: an argument x of at most 3 / 4 in size, a second float q of at most 1 / 4, the square z of x, and a polynomial
--- 1 + z * (k + z * ..) beside the first ten terms of a series. Assumes nothing.
-use Rattle.prelude.proofs.Logic.{_≡_, refl, sym, _∙_, Bool, true, false, List, _∷_, ℕ, _+_, _*_, _^_, _≤_, _<_, zero-add, one-mul, mul-one, zero-mul, mul-le-mul, mul-le-mul-right, mul-le-mul-left, le-of-mul-le-mul-right, arith, T, lit<, lit≤, ℤ}
+-- What the two kernels share: an argument x of at most 3 / 4 in size, a second float q of at most 1 / 4, the square z of x, and a
+-- polynomial 1 + z * (k + z * ..) beside the first ten terms of a series. Assumes nothing.
+use Rattle.prelude.proofs.Logic.{_≡_, refl, sym, _∙_, Bool, true, false, List, _∷_, ℕ, _+_, _*_, _^_, _≤_, _<_, zero-add, one-mul, mul-one}
+use Rattle.prelude.proofs.Logic.{zero-mul, mul-le-mul, mul-le-mul-right, mul-le-mul-left, le-of-mul-le-mul-right, arith, T, lit<, lit≤, ℤ}
 use Rattle.float64.proofs.Floats.{Float, nan, inf, fin, up, down, size, round, HasValue, dec, within-limits, Within}
 use Rattle.accuracy.specs.Accuracy.{Moderate}
-use Rattle.accuracy.proofs.Fractions.{Fraction, _⊞_, _⊠_, unity, unit, Close, itself, looser, turned, through, Same, written, sum, times, beside, Sized, sized-times}
+use Rattle.accuracy.proofs.Fractions.{Fraction, _⊞_, _⊠_, unity, unit, Close, itself, looser, turned, through, Same, written, sum}
+use Rattle.accuracy.proofs.Fractions.{times, beside, Sized, sized-times}
 use Rattle.accuracy.proofs.Rounding.{value, NearFraction}
 use Rattle.accuracy.proofs.Expressions.{Expr, var, _⊗_, Known, run, exact, units, units-enough, bound, error, fine, known}
 use Rattle.accuracy.proofs.Series.{Term, plus}
@@ -18,7 +20,8 @@ moderate : (x : Float) → Moderate x → Within x 3 4
 moderate x h = within-limits x (dec 75 2) 3 4 (lit< tt) three-quarters (h .0) (h .1)
 
 -- what holds of each finite one of at most 3 / 4 in size, holds of each
-pub for-moderate : (P : Float → Type 0) → ((s : Bool) (m : ℕ) (e : ℤ) → Within (fin s m e) 3 4 → P (fin s m e)) → (x : Float) → Moderate x → P x
+pub for-moderate : (P : Float → Type 0) → ((s : Bool) (m : ℕ) (e : ℤ) → Within (fin s m e) 3 4 → P (fin s m e)) → (x : Float) → Moderate x
+    → P x
 for-moderate P f nan h = absurd (moderate nan h)
 for-moderate P f (inf s) h = absurd (moderate (inf s) h)
 for-moderate P f (fin s m e) h = f s m e (moderate (fin s m e) h)
@@ -101,7 +104,8 @@ module _ (i : Inputs) where
   knows : (e : Expr Input) → T (fine sizes e) → Known (run floats e) (exact of e) (bound sizes e) (error sizes e)
   knows e t = known floats of sizes given e t
 
-  pub run-near : (e : Expr Input) → T (fine sizes e) → {f : Fraction} {E G : ℕ} → Close (exact of e) f E → error sizes e + E ≤ G → NearFraction (run floats e) f G
+  pub run-near : (e : Expr Input) → T (fine sizes e) → {f : Fraction} {E G : ℕ} → Close (exact of e) f E → error sizes e + E ≤ G
+      → NearFraction (run floats e) f G
   run-near e t c l = let k = knows e t in record { real = k .near .real; close = looser l (through (k .near .close) c) }
 
   z-sized : Sized (exact of z) (bound sizes z)
@@ -116,11 +120,13 @@ module _ (i : Inputs) where
     nine = polynomial (exact of z) added taken (c .n) (c .some) (rows (c .k ∷ c .l) (c .ts))
 
     nine-near : Close inner nine (c .off)
-    nine-near = rw (zero-add (c .off)) at (horner-near of z z-sized (square-even (i .argument)) (square-small (i .argument) (i .moderately)) (c .k) (c .l) (c .ts) (c .n) (c .some) (c .off) (c .close))
+    nine-near = rw (zero-add (c .off)) at (horner-near of z z-sized (square-even (i .argument)) (square-small (i .argument) (i .moderately))
+        (c .k) (c .l) (c .ts) (c .n) (c .some) (c .off) (c .close))
 
     ten-is : Same (unity ⊞ exact of z ⊠ nine) (ten c (exact of z))
     ten-is =
-        in-front (exact of z) (square-even (i .argument)) added taken (c .n) (c .some) unity (row 0 0 (plus (c .n))) (rows (c .k ∷ c .l) (c .ts))
+        in-front (exact of z) (square-even (i .argument)) added taken (c .n) (c .some) unity (row 0 0 (plus (c .n)))
+        (rows (c .k ∷ c .l) (c .ts))
         (one-mul (c .n) ∙ sym (mul-one (c .n))) (zero-mul (c .n))
 
     -- the polynomial, done exactly, beside the ten terms

@@ -1,7 +1,11 @@
 -- One rounding: a fraction of up to S units, at most 2 in size, goes to a finite float that is no further off than half of S's last place.
 -- Assumes nothing.
-use Rattle.prelude.proofs.Logic.{_≡_, refl, sym, ap, _∙_, subst, Bool, true, false, not, ℕ, _+_, _-_, _*_, _/_, _%_, _^_, _≤_, _<_, compare, Ordering, Ordering·lt, Ordering·eq, Ordering·gt, le-trans, le-of-eq, lt-of-le-of-lt, add-le-add, mul-assoc, mul-pos, mul-le-mul-right, mul-le-mul-left, le-of-mul-le-mul-right, div-add-mod', mod-lt, div-lt-iff-lt-mul, arith, T, isLe, isEq, leb→le, nleb→lt, eqb→eq, lit<, ℤ, pow-pos, pow-mono, pow-add}
-use Rattle.float64.proofs.Floats.{Float, nan, inf, fin, binary64, up, down, size, nearest, round, size-lt, size-le, HasValue, units-val, down-pos, round-is, closest, drop, kept, grid, finite}
+use Rattle.prelude.proofs.Logic.{_≡_, refl, sym, ap, _∙_, subst, Bool, true, false, not, ℕ, _+_, _-_, _*_, _/_, _%_, _^_, _≤_, _<_, compare}
+use Rattle.prelude.proofs.Logic.{Ordering, Ordering·lt, Ordering·eq, Ordering·gt, le-trans, le-of-eq, lt-of-le-of-lt, add-le-add, mul-assoc}
+use Rattle.prelude.proofs.Logic.{mul-pos, mul-le-mul-right, mul-le-mul-left, le-of-mul-le-mul-right, div-add-mod', mod-lt}
+use Rattle.prelude.proofs.Logic.{div-lt-iff-lt-mul, arith, T, isLe, isEq, leb→le, nleb→lt, eqb→eq, lit<, ℤ, pow-pos, pow-mono, pow-add}
+use Rattle.float64.proofs.Floats.{Float, nan, inf, fin, binary64, up, down, size, nearest, round, size-lt, size-le, HasValue, units-val}
+use Rattle.float64.proofs.Floats.{down-pos, round-is, closest, drop, kept, grid, finite}
 use Rattle.accuracy.proofs.Fractions.{Fraction, nought, unit, Close}
 
 -- ---- a float as a fraction
@@ -19,7 +23,8 @@ pub record NearFraction (x : Float) (f : Fraction) (E : ℕ) : Type 0 where
   pub real : T (finite x)
   pub close : Close (value x) f E
 
--- A number of up to S units has `size S` binary digits, and a float keeps 53 of them: half of the last one's place, in units, and no less than one.
+-- A number of up to S units has `size S` binary digits, and a float keeps 53 of them: half of the last one's place, in units, and no less
+-- than one.
 abbrev halfDigits : ℕ → ℕ
 halfDigits S = size S - 54
 
@@ -58,7 +63,8 @@ module _ (a c S : ℕ) (C : 0 < c) (h : a * unit ≤ S * c) (t : S ≤ 2 * unit)
   places = drop 53 n c
 
   digits : size (n / c) ≤ size S + 1010
-  digits = size-le (n / c) (size S + 1010) (div-lt-iff-lt-mul C .1 (rw (low-units, pow-add 2 (size S) 1010) (below low (pow-pos 1010) (2 ^ size S) (size-lt S))))
+  digits = size-le (n / c) (size S + 1010)
+      (div-lt-iff-lt-mul C .1 (rw (low-units, pow-add 2 (size S) 1010) (below low (pow-pos 1010) (2 ^ size S) (size-lt S))))
     where
       below : (M : ℕ) → 0 < M → (W : ℕ) → S < W → a * (unit * M) < W * M * c
       below M P W l = omega (arith, mul-le-mul-right M h, mul-le-mul-right (M * c) l, mul-pos P C)
@@ -72,13 +78,15 @@ module _ (a c S : ℕ) (C : 0 < c) (h : a * unit ≤ S * c) (t : S ≤ 2 * unit)
   grid-near : (grid binary64 a c * c ≤ n + c * (low * halfPlace S)) × (n ≤ grid binary64 a c * c + c * (low * halfPlace S))
   grid-near = halved (kept 53 n c) n (2 ^ places) (low * halfPlace S) place (closest-half n (c * 2 ^ places) (mul-pos C (pow-pos places)))
     where
-      halved : (q n P M : ℕ) → P ≤ 2 * M → (q * (c * P) * 2 ≤ n * 2 + c * P) × (n * 2 ≤ q * (c * P) * 2 + c * P) → (q * P * c ≤ n + c * M) × (n ≤ q * P * c + c * M)
+      halved : (q n P M : ℕ) → P ≤ 2 * M → (q * (c * P) * 2 ≤ n * 2 + c * P) × (n * 2 ≤ q * (c * P) * 2 + c * P)
+          → (q * P * c ≤ n + c * M) × (n ≤ q * P * c + c * M)
       halved q n P M l h = (omega (arith, h .0, mul-le-mul-left c l), omega (arith, h .1, mul-le-mul-left c l))
 
   no-overflow : grid binary64 a c < 2 ^ 2098
   unfolding unit
   no-overflow =
-      lt-of-le-of-lt (le-of-mul-le-mul-right {k = c} (under (grid binary64 a c) (2 ^ 1074) unit low (halfPlace S) low-units h (grid-near .0)) C)
+      lt-of-le-of-lt (le-of-mul-le-mul-right {k = c}
+      (under (grid binary64 a c) (2 ^ 1074) unit low (halfPlace S) low-units h (grid-near .0)) C)
       (lt-of-le-of-lt (mul-le-mul-left low (add-le-add t (pow-mono (short (size-le S 66 (lt-of-le-of-lt t (lit< tt))))))) (lit< tt))
     where
       short : size S ≤ 66 → halfDigits S ≤ 12
@@ -88,8 +96,10 @@ module _ (a c S : ℕ) (C : 0 < c) (h : a * unit ≤ S * c) (t : S ≤ 2 * unit)
       under G L U M E e h l = omega (arith, mul-le-mul-right M h, ap (λ (z : ℕ). a * z) e)
 
   -- the float that is that many smallest values
-  of-grid : (s : Bool) (m : ℕ) (e : ℤ) → m * up e * 2 ^ 1074 ≡ grid binary64 a c * down e → NearFraction (fin s m e) (signed s a c C) (halfPlace S)
-  of-grid s m e v = by-sign s (bounds (m * up e) (down e) (2 ^ 1074) (grid binary64 a c) low (halfPlace S) (pow-pos 1010) low-units v grid-near)
+  of-grid : (s : Bool) (m : ℕ) (e : ℤ) → m * up e * 2 ^ 1074 ≡ grid binary64 a c * down e
+      → NearFraction (fin s m e) (signed s a c C) (halfPlace S)
+  of-grid s m e v =
+      by-sign s (bounds (m * up e) (down e) (2 ^ 1074) (grid binary64 a c) low (halfPlace S) (pow-pos 1010) low-units v grid-near)
     where
       bounds : (A d L G M E : ℕ) → 0 < M → L ≡ unit * M → A * L ≡ G * d → (G * c ≤ a * L + c * (M * E)) × (a * L ≤ G * c + c * (M * E))
           → (unit * (A * c) ≤ unit * (a * d) + E * (d * c)) × (unit * (a * d) ≤ unit * (A * c) + E * (d * c))
@@ -98,7 +108,8 @@ module _ (a c S : ℕ) (C : 0 < c) (h : a * unit ≤ S * c) (t : S ≤ 2 * unit)
         to-units (a * d) (A * c) (d * c) L M E P e (omega (arith, mul-le-mul-right d (g .1), ap (λ (z : ℕ). z * c) v)),
       )
 
-      by-sign : (s : Bool) → (unit * (m * up e * c) ≤ unit * (a * down e) + halfPlace S * (down e * c)) × (unit * (a * down e) ≤ unit * (m * up e * c) + halfPlace S * (down e * c))
+      by-sign : (s : Bool) → (unit * (m * up e * c) ≤ unit * (a * down e) + halfPlace S * (down e * c))
+          × (unit * (a * down e) ≤ unit * (m * up e * c) + halfPlace S * (down e * c))
           → NearFraction (fin s m e) (signed s a c C) (halfPlace S)
       by-sign false b = record { real = tt; close = record { upper = omega (arith, b .0); lower = omega (arith, b .1) } }
       by-sign true b = record { real = tt; close = record { upper = omega (arith, b .1); lower = omega (arith, b .0) } }
@@ -106,7 +117,8 @@ module _ (a c S : ℕ) (C : 0 < c) (h : a * unit ≤ S * c) (t : S ≤ 2 * unit)
   of-value : (x : Float) (s : Bool) → HasValue x s (grid binary64 a c) (2 ^ 1074) → NearFraction x (signed s a c C) (halfPlace S)
   of-value nan s v = absurd v
   of-value (inf t) s v = absurd v
-  of-value (fin t m e) s v = subst (λ (b : Bool). NearFraction (fin b m e) (signed s a c C) (halfPlace S)) (sym (v .0)) (of-grid s m e (v .1))
+  of-value (fin t m e) s v =
+      subst (λ (b : Bool). NearFraction (fin b m e) (signed s a c C) (halfPlace S)) (sym (v .0)) (of-grid s m e (v .1))
 
   pub round-near : (s : Bool) → NearFraction (round binary64 s a c) (signed s a c C) (halfPlace S)
   round-near s = rw (round-is binary64 s a c) (of-value _ s (units-val binary64 s (kept 53 n c) places no-overflow))

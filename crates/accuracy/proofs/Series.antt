@@ -1,5 +1,6 @@
 -- The statement's sums as polynomials: the terms of the powers k, k + 2, .. n of a / d, in y = a a and w = d d. Assumes nothing.
-use Rattle.prelude.proofs.Logic.{_≡_, refl, ap, Bool, true, false, not, cond, List, [], _∷_, ℕ, zero, suc, _+_, _-_, _*_, _/_, _^_, pow-succ', arith, length}
+use Rattle.prelude.proofs.Logic.{_≡_, refl, ap, Bool, true, false, not, cond, List, [], _∷_, ℕ, zero, suc, _+_, _-_, _*_, _/_, _^_}
+use Rattle.prelude.proofs.Logic.{pow-succ', arith, length}
 use Rattle.accuracy.specs.Accuracy.{_! }
 use Rattle.accuracy.proofs.Algebra.{ring, square-power}
 use Rattle.accuracy.proofs.Forms.{poly}
@@ -21,7 +22,7 @@ abbrev pub from : ℕ → ℕ → List ℕ
 from k zero = []
 from k (suc m) = k ∷ from (suc (suc k)) m
 
--- n! / k! for each, with alternating signs, the first one taken off where b
+-- n! / k! for each, with alternating signs, the first one taken off if b
 abbrev pub terms : ℕ → Bool → List ℕ → List Term
 terms n b [] = []
 terms n b (k ∷ l) = cond b (minus (n ! / k !)) (plus (n ! / k !)) ∷ terms n (not b) l
@@ -45,7 +46,7 @@ module _ (n a d : ℕ) where
   abbrev pub amount : ℕ → ℕ
   amount k = a ^ k * (n ! / k ! * d ^ (n - k))
 
-  -- those that are added, or where b those that are taken off
+  -- those that are added, or those that are taken off if b
   abbrev pub side : Bool → List ℕ → ℕ
   side b [] = 0
   side b (k ∷ l) = cond b 0 (amount k) + side (not b) l
@@ -58,9 +59,11 @@ module _ (n a d : ℕ) where
       let i : n - k ≡ m + m = omega arith in
       let l = from (suc (suc k)) m in
       rw (i, square-power d m, terms-length n (not b) l, from-length (suc (suc k)) m, pow-succ' (d * d) m)
-      (by-sign b (side (not b) l) (poly y (d * d) rise (terms n (not b) l)) (rw (pow-succ' a (suc k), pow-succ' a k) at (side-is y Y (not b) m (suc (suc k)) (omega arith))))
+      (by-sign b (side (not b) l) (poly y (d * d) rise (terms n (not b) l))
+      (rw (pow-succ' a (suc k), pow-succ' a k) at (side-is y Y (not b) m (suc (suc k)) (omega arith))))
     where
       by-sign : (b : Bool) (S R : ℕ) → S * (d * d) ≡ a * (a * a ^ k) * R
-          → (cond b 0 (a ^ k * (n ! / k ! * (d * d) ^ m)) + S) * (d * d) ≡ a ^ k * (rise (cond b (minus (n ! / k !)) (plus (n ! / k !))) * (d * d * (d * d) ^ m) + y * R)
+          → (cond b 0 (a ^ k * (n ! / k ! * (d * d) ^ m)) + S) * (d * d)
+          ≡ a ^ k * (rise (cond b (minus (n ! / k !)) (plus (n ! / k !))) * (d * d * (d * d) ^ m) + y * R)
       by-sign true S R p = rw Y (simp ring (omega (arith, simp ring at p)))
       by-sign false S R p = rw Y (simp ring (omega (arith, simp ring at p)))

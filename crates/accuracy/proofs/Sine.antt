@@ -1,7 +1,8 @@
--- The bound of the sine, in units of 2 ^ -64. k_sin.c gives x + z x (S1 + z (S2 + ..)) with z = x x, which roundings put at most 1,493 units off.
--- Done exactly it is x (1 + z p), and p lies within 2 ^ 13 units of nine terms of the series, which makes at most 3,457 units more. Together they are
--- less than 2 ^ 13 units, 2 ^ -51. Assumes nothing.
-use Rattle.prelude.proofs.Logic.{_≡_, refl, _∙_, Bool, true, false, not, cond, List, [], _∷_, ℕ, _+_, _*_, _^_, _≤_, _<_, le-trans, add-comm, mul-pos, one-le-pow, pow-zero, pow-succ', arith, T, ltb, lit<, lit≤, ℤ, pos, le-leb}
+-- The bound of the sine, in units of 2 ^ -64. k_sin.c gives x + z x (S1 + z (S2 + ..)) with z = x x, which roundings put at most 1,493
+-- units off. Done exactly it is x (1 + z p), and p lies within 2 ^ 13 units of nine terms of the series, which makes at most 3,457 units
+-- more. Together they are less than 2 ^ 13 units, 2 ^ -51. Assumes nothing.
+use Rattle.prelude.proofs.Logic.{_≡_, refl, _∙_, Bool, true, false, not, cond, List, [], _∷_, ℕ, _+_, _*_, _^_, _≤_, _<_, le-trans}
+use Rattle.prelude.proofs.Logic.{add-comm, mul-pos, one-le-pow, pow-zero, pow-succ', arith, T, ltb, lit<, lit≤, ℤ, pos, le-leb}
 use Rattle.float64.proofs.Floats.{Float, fin, up, down, size, ofBits, down-pos, highOf, Within}
 use Rattle.fdlibm_trig.specs.KSin.{S1, S2, S3, S4, S5, S6, kernelSinOf}
 use Rattle.fdlibm_trig.specs.KTan as KTan
@@ -9,7 +10,8 @@ use Rattle.fdlibm_trig.specs.Trig.{sinOf}
 use Rattle.accuracy.specs.Accuracy.{top, _!, sineSum, SineWithin}
 use Rattle.accuracy.specs.Accuracy as Accuracy
 use Rattle.accuracy.proofs.Algebra.{flat, ring, sorted, square-power}
-use Rattle.accuracy.proofs.Fractions.{Fraction, _⊞_, _⊠_, unity, unit, Close, looser, through, Same, scaled, written, times, same-close}
+use Rattle.accuracy.proofs.Fractions.{Fraction, _⊞_, _⊠_, unity, unit, Close, looser, through, Same, scaled, written, times}
+use Rattle.accuracy.proofs.Fractions.{same-close}
 use Rattle.accuracy.proofs.Rounding.{signed, value, NearFraction}
 use Rattle.accuracy.proofs.Expressions.{Expr, var, _⊕_, _⊗_, run, exact, units, units-enough, bound, error, fine}
 use Rattle.accuracy.proofs.Forms.{poly}
@@ -17,7 +19,8 @@ use Rattle.accuracy.proofs.Series.{rise, fall, from, terms, fall-is, si
 use Rattle.accuracy.proofs.Polynomials.{horner, rows, near}
 use Rattle.accuracy.proofs.Words.{high-le, high-tiny}
 use Rattle.accuracy.proofs.Integers.{is-sum, within}
-use Rattle.accuracy.proofs.Kernels.{for-moderate, exactly, Inputs, Input, x, sizes, z, Kernel, ten, tenOff, floats, given, of, run-near, ten-near, ten-tiny}
+use Rattle.accuracy.proofs.Kernels.{for-moderate, exactly, Inputs, Input, x, sizes, z, Kernel, ten, tenOff, floats, given, of}
+use Rattle.accuracy.proofs.Kernels.{run-near, ten-near, ten-tiny}
 
 -- ---- k_sin.c's polynomial, x + z x (S1 + z ..), and the series x - x ^ 3 / 3! + ..
 abbrev higher : List Float
@@ -39,7 +42,17 @@ unfolding bound unit ofBits
 kernel-small = lit≤ tt
 
 abbrev kernel : Kernel
-kernel = record { k = S1; l = higher; n = 19 !; some = lit< tt; ts = terms 19 true (from 3 9); off = 2 ^ 13; close = kernel-close; runs = kernel-runs; small = kernel-small }
+kernel = record {
+  k = S1;
+  l = higher;
+  n = 19 !;
+  some = lit< tt;
+  ts = terms 19 true (from 3 9);
+  off = 2 ^ 13;
+  close = kernel-close;
+  runs = kernel-runs;
+  small = kernel-small;
+}
 
 -- x times ten terms in x ^ 2
 abbrev series : Fraction → Fraction
@@ -53,7 +66,8 @@ module _ (a : Float) (h : Within a 3 4) where
   i = record { argument = a; second = fin false 0 (pos 0); moderately = h; slightly = lit≤ tt }
 
   exact-near : Close (exact (of i) code) (series (value a)) (0 + units (sizes x * tenOff kernel))
-  exact-near = through (same-close (taken-out (value a) (exact (of i) (horner z S1 higher)))) (times (given i x .sized) (ten-near i kernel) (units-enough (sizes x * tenOff kernel)))
+  exact-near = through (same-close (taken-out (value a) (exact (of i) (horner z S1 higher))))
+      (times (given i x .sized) (ten-near i kernel) (units-enough (sizes x * tenOff kernel)))
 
   code-near : NearFraction (run (floats i) code) (series (value a)) (2 ^ 13)
   unfolding fine bound error unit ofBits size
@@ -68,7 +82,12 @@ module _ (a : Float) (h : Within a 3 4) where
 
 -- ---- the statement's sum of the powers 1, 3, .. 19, which x's sign turns
 abbrev stated : Bool → (A D : ℕ) → 0 < D → Fraction
-stated s A D p = record { more = side 19 A D s (from 1 10); less = side 19 A D (not s) (from 1 10); parts = 19 ! * D ^ 19; some = mul-pos (lit< tt) (one-le-pow 19 D p) }
+stated s A D p = record {
+  more = side 19 A D s (from 1 10);
+  less = side 19 A D (not s) (from 1 10);
+  parts = 19 ! * D ^ 19;
+  some = mul-pos (lit< tt) (one-le-pow 19 D p);
+}
 
 -- x is A / D, y is its square
 module _ (A D y : ℕ) (Y : y ≡ A * A) where
@@ -91,9 +110,11 @@ whole : (D : ℕ) → D * (19 ! * (D * D) ^ 10) ≡ 19 ! * D ^ 19 * (D * D)
 whole D = rw (pow-succ' (D * D) 9, pow-succ' D 18, square-power D 9) (simp ring)
 
 series-stated : (s : Bool) (A D : ℕ) (p : 0 < D) → Same (series (signed s A D p)) (stated s A D p)
-series-stated false A D p = scaled (series (signed false A D p)) (stated false A D p) (D * D) (rises A D _ (omega arith)) (falls A D _ (omega arith)) (whole D)
+series-stated false A D p =
+    scaled (series (signed false A D p)) (stated false A D p) (D * D) (rises A D _ (omega arith)) (falls A D _ (omega arith)) (whole D)
 series-stated true A D p =
-    scaled (series (signed true A D p)) (stated true A D p) (D * D) (add-comm _ _ ∙ falls A D _ (omega arith)) (add-comm _ _ ∙ rises A D _ (omega arith)) (whole D)
+    scaled (series (signed true A D p)) (stated true A D p) (D * D) (add-comm _ _ ∙ falls A D _ (omega arith))
+    (add-comm _ _ ∙ rises A D _ (omega arith)) (whole D)
 
 -- ---- which way sin takes
 module _ (s : Bool) (m : ℕ) (e : ℤ) (h : Within (fin s m e) 3 4) where
@@ -101,7 +122,8 @@ module _ (s : Bool) (m : ℕ) (e : ℤ) (h : Within (fin s m e) 3 4) where
   unfolding kernelSinOf
   kernel-near = by-word (ltb (highOf (fin s m e)) 0x3e40_0000) (high-tiny s m e h)
     where
-      by-word : (b : Bool) → (T b → Within (fin s m e) 1 (2 ^ 26)) → NearFraction (cond b (fin s m e) (run (floats (i (fin s m e) h)) code)) (series (value (fin s m e))) (2 ^ 13)
+      by-word : (b : Bool) → (T b → Within (fin s m e) 1 (2 ^ 26))
+          → NearFraction (cond b (fin s m e) (run (floats (i (fin s m e) h)) code)) (series (value (fin s m e))) (2 ^ 13)
       by-word true t = tiny-near (fin s m e) h (t tt)
       by-word false t = code-near (fin s m e) h
 
@@ -112,7 +134,8 @@ module _ (s : Bool) (m : ℕ) (e : ℤ) (h : Within (fin s m e) 3 4) where
       rw (le-leb (highOf (fin s m e)) 0x3fe9_21fb (le-trans (high-le s m e h) (lit≤ tt)))
       (record { real = n .real; close = written (n .close) (series-stated s (m * up e) (down e) (down-pos e)) })
 
-sine-by-sign : (s : Bool) (m : ℕ) (e : ℤ) → Within (fin s m e) 3 4 → Accuracy.WithinSum 51 (sinOf (fin s m e)) (sineSum (top (fin s m e)) (down e)) (19 ! * down e ^ 19)
+sine-by-sign : (s : Bool) (m : ℕ) (e : ℤ) → Within (fin s m e) 3 4
+    → Accuracy.WithinSum 51 (sinOf (fin s m e)) (sineSum (top (fin s m e)) (down e)) (19 ! * down e ^ 19)
 unfolding unit
 sine-by-sign false m e h = within 51 (is-sum false 19 (m * up e) (down e) (from 1 10)) (sine-near false m e h) (lit≤ tt)
 sine-by-sign true m e h = within 51 (is-sum true 19 (m * up e) (down e) (from 1 10)) (sine-near true m e h) (lit≤ tt)

@@ -1,8 +1,8 @@
 -- How near the sine and the cosine lie to their series, request 13 of document 02:
--- "For each f64 argument from -0.75 to 0.75, the sine that we added lies within 2^-40 of the sum of the first ten terms of its series, up to the
--- nineteenth power over 19 factorial with alternating signs. The statement is over whole numbers: the argument and answer are whole numbers scaled by
--- powers of two, with every denominator multiplied out. The same is wanted of the cosine with its first ten terms. The two bounds share one account of
--- the rounding."
+-- "For each f64 argument from -0.75 to 0.75, the sine that we added lies within 2^-40 of the sum of the first ten terms of its series, up
+-- to the nineteenth power over 19 factorial with alternating signs. The statement is over whole numbers: the argument and answer are whole
+-- numbers scaled by powers of two, with every denominator multiplied out. The same is wanted of the cosine with its first ten terms. The
+-- two bounds share one account of the rounding."
 -- Proved in proofs/AccuracyLaws; the account of the rounding is proofs/Expressions.
 use mathlib.Core.Bool.{true, false}
 use mathlib.Core.List.{List, [], _∷_}
@@ -16,7 +16,8 @@ use Rattle.float64.specs.Ranges.{Inside}
 use Rattle.fdlibm_trig.specs.Trig.{sinOf, cosOf}
 
 -- ---- argument and answer
--- A finite float `fin s m e` is m * 2 ^ e, negative where s: the whole number `top` over the power of two `bottom`, for 2 ^ e is `up e` / `down e`.
+-- A finite float `fin s m e` is m * 2 ^ e, negative if s: the whole number `top` over the power of two `bottom`, for 2 ^ e is `up e` /
+-- `down e`.
 abbrev pub top : Float → ℤ
 top nan = pos 0
 top (inf s) = pos 0

@@ -1,5 +1,6 @@
 -- The set bits of a cell are its raised dots, and a row's cells have no other bits. Assumes nothing.
-use Rattle.prelude.proofs.Logic.{_≡_, ap, _∙_, List, [], _∷_, _++_, ℕ, zero, suc, _+_, _*_, _/_, _%_, _<_, _≤_, add-one, arith, ℤ, length, getD, take, replicate}
+use Rattle.prelude.proofs.Logic.{_≡_, ap, _∙_, List, [], _∷_, _++_, ℕ, zero, suc, _+_, _*_, _/_, _%_, _<_, _≤_, add-one, arith, ℤ, length}
+use Rattle.prelude.proofs.Logic.{getD, take, replicate}
 use lib.Count.{ones, ones-step}
 use Rattle.calendar.specs.declared.dates.Date.{Date}
 use Rattle.schedule.specs.declared.prayer_times.Worked.{Worked}
@@ -8,7 +9,8 @@ use Rattle.braille.specs.Braille.{digitCells, digitCell, dotsIn, dotsOf,
 use Rattle.braille.specs.Cells.{dayCells, timeCells, timesCells, clockMinuteOf, sixOf, refusedCells, rowCells}
 
 -- six sums, one after another
-six-sums : (a b c d e f g p q r s t u : ℕ) → a ≡ p + b → b ≡ q + c → c ≡ r + d → d ≡ s + e → e ≡ t + f → f ≡ u + g → g ≡ 0 → a ≡ p + q + r + s + t + u
+six-sums : (a b c d e f g p q r s t u : ℕ) → a ≡ p + b → b ≡ q + c → c ≡ r + d → d ≡ s + e → e ≡ t + f → f ≡ u + g → g ≡ 0
+    → a ≡ p + q + r + s + t + u
 six-sums a b c d e f g p q r s t u i j k l m n o = omega arith
 
 pub ones-dots : (c : ℕ) → c < 64 → ones c ≡ dotsIn c
@@ -82,8 +84,13 @@ day-six date = (omega arith, (digit-six (date .day / 10), (digit-six (date .day)
 time-six : (clock time : ℤ) → SixDots (timeCells clock time)
 unfolding SixDots timeCells
 time-six clock time =
-    let minute = clockMinuteOf clock time in
-    (omega arith, (omega arith, (digit-six (minute / 60 / 10), (digit-six (minute / 60), (digit-six (minute % 60 / 10), (digit-six (minute % 60), tt))))))
+    let minute = clockMinuteOf clock time in (
+      omega arith,
+      (
+        omega arith,
+        (digit-six (minute / 60 / 10), (digit-six (minute / 60), (digit-six (minute % 60 / 10), (digit-six (minute % 60), tt)))),
+      ),
+    )
 
 times-six : (clock : ℤ) (times : List ℤ) → SixDots (timesCells clock times)
 unfolding SixDots timesCells

@@ -1,5 +1,6 @@
 -- The cells of a row, one time after another. Assumes nothing.
-use Rattle.prelude.proofs.Logic.{_≡_, refl, sym, ap, _∙_, List, [], _∷_, _++_, append-assoc, append-nil, ℕ, _+_, _*_, _<_, add-one, arith, ℤ, length, getD, take, drop, replicate, length-append, take-suc, length-take-le}
+use Rattle.prelude.proofs.Logic.{_≡_, refl, sym, ap, _∙_, List, [], _∷_, _++_, append-assoc, append-nil, ℕ, _+_, _*_, _<_, add-one, arith}
+use Rattle.prelude.proofs.Logic.{ℤ, length, getD, take, drop, replicate, length-append, take-suc, length-take-le}
 use Rattle.calendar.specs.declared.dates.Date.{Date}
 use Rattle.schedule.specs.declared.prayer_times.PrayerTimes.{PrayerTimes}
 use Rattle.schedule.specs.declared.prayer_times.Worked.{Worked}
@@ -40,7 +41,8 @@ row-length date (Refused r) clock =
 times-append : (clock : ℤ) (xs ys : List ℤ) → timesCells clock (xs ++ ys) ≡ timesCells clock xs ++ timesCells clock ys
 unfolding timesCells
 times-append clock [] ys = refl
-times-append clock (x ∷ xs) ys = rw (times-append clock xs ys) (sym (append-assoc (timeCells clock x) (timesCells clock xs) (timesCells clock ys)))
+times-append clock (x ∷ xs) ys =
+    rw (times-append clock xs ys) (sym (append-assoc (timeCells clock x) (timesCells clock xs) (timesCells clock ys)))
 
 times-next : (clock : ℤ) (times : List ℤ) (i : ℕ) (z : ℤ) → i < length times
     → timesCells clock (take i times) ++ timeCells clock (getD times i z) ≡ timesCells clock (take (i + 1) times)
@@ -58,7 +60,8 @@ times-none clock times row l = sym (put-nothing row 3 (omega arith))
 
 -- the row of i times becomes that of i + 1
 pub time-put : (clock : ℤ) (times : List ℤ) (i : ℕ) (z : ℤ) (row before after cells : List ℕ) → i < 6 → length times ≡ 6 → length row ≡ 39
-    → before ≡ putOf row 3 (timesCells clock (take i times)) → cells ≡ timeCells clock (getD times i z) → after ≡ putOf before (3 + 6 * i) cells
+    → before ≡ putOf row 3 (timesCells clock (take i times)) → cells ≡ timeCells clock (getD times i z)
+    → after ≡ putOf before (3 + 6 * i) cells
     → after ≡ putOf row 3 (timesCells clock (take (i + 1) times))
 time-put clock times i z row before after cells h n l b e p =
     let done = timesCells clock (take i times) in
@@ -86,7 +89,8 @@ unfolding refusedCells dayCells
 refused-done date row b = b
 
 pub row-done : (date : Date) (t : PrayerTimes) (clock : ℤ) (six : List ℤ) (i : ℕ) (day row : List ℕ) → six ≡ sixOf t → i ≡ 6
-    → day ≡ frontOf (dayCells date) (replicate 39 0) → row ≡ putOf day 3 (timesCells clock (take i six)) → row ≡ rowCells date (Times t) clock
+    → day ≡ frontOf (dayCells date) (replicate 39 0) → row ≡ putOf day 3 (timesCells clock (take i six))
+    → row ≡ rowCells date (Times t) clock
 unfolding rowCells
 row-done date t clock six i day row e n f b =
     let text = timesCells clock (sixOf t) in

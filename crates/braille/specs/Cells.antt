@@ -21,9 +21,12 @@ twoCells n = digitCell (n / 10) ∷ digitCell n ∷ []
 unfoldable pub dayCells : Date → List ℕ
 dayCells date = numberSign ∷ twoCells (date .day)
 
+abbrev minutesInDay : ℕ
+minutesInDay = 1440
+
 -- the clock's minutes are "added to the UTC instant before the hour is taken; seconds are dropped", down, also before 1970
 unfoldable pub clockMinuteOf : ℤ → ℤ → ℕ
-clockMinuteOf clock time = floorRem (floorQuot (time +ℤ clock *ℤ pos 60) 60) 1440
+clockMinuteOf clock time = floorRem (floorQuot (time +ℤ clock *ℤ pos 60) 60) minutesInDay
 
 -- "a blank cell, number sign, hour and minute as four digits"
 unfoldable pub timeCells : ℤ → ℤ → List ℕ

@@ -86,7 +86,7 @@ fn dots(cells: &[u8]) -> u32
     sum
 }
 
-// As `put` does; answers the row's dots.
+// As `put` does. Returns the row's dots.
 pub fn put_cells(buffer: &mut [u8], at: usize, date: Date, worked: Worked, clock: i32) -> u32
     ensures { λ r. ⌜ r ≡ dotsOf (rowCells date worked clock) ⌝ }
     ensures { λ _. ⌜ now (buffer .exit) ≡ putOf (now (buffer .entry)) at (rowCells date worked clock) ⌝ }

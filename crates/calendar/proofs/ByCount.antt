@@ -1,5 +1,6 @@
 -- The date of a day by its number, within the years that a u32 holds. Assumes nothing.
-use Rattle.prelude.proofs.Logic.{_≡_, refl, ap, cond, ℕ, _+_, _-_, _≤_, _<_, arith, leb, ℤ, pos, _+ℤ_, leb-true, leb-false, le-leb, lt-leb, cases}
+use Rattle.prelude.proofs.Logic.{_≡_, refl, ap, cond, ℕ, _+_, _-_, _≤_, _<_, arith, leb, ℤ, pos, _+ℤ_, leb-true, leb-false, le-leb, lt-leb}
+use Rattle.prelude.proofs.Logic.{cases}
 use Rattle.integers.proofs.Integers.{P}
 use Rattle.calendar.specs.Gregorian.{dateOf, leapOf}
 use Rattle.calendar.specs.Days.{daysInYearOf, daysBeforeYearOf, ofOrdinalOf, yearOf, dateAtOf, dateOfDayOf}
@@ -58,7 +59,8 @@ pub since-held : (z : ℤ) → dateAtOf (sinceFirstOf z) ≡ ofDayOf z
 unfolding sinceFirstOf heldOf dateOfDayOf
 since-held z = by-test (P (z +ℤ pos 719528))
   where
-    by-test : (n : ℕ) → dateAtOf (cond (leb n 1568704592609) n 1568704592609) ≡ cond (leb (dateAtOf n .year) 4294967295) (dateAtOf n) (dateOf 4294967295 12 31)
+    by-test : (n : ℕ) → dateAtOf (cond (leb n 1568704592609) n 1568704592609) ≡ cond (leb (dateAtOf n .year) 4294967295) (dateAtOf n)
+        (dateOf 4294967295 12 31)
     by-test n =
         cases (leb n 1568704592609)
         (λ e. let l = leb-true n 1568704592609 e in rw (e, year-at n, le-leb (yearOf n) 4294967295 (year-held n (omega arith))))

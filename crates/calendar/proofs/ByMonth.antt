@@ -7,7 +7,7 @@ use Rattle.calendar.proofs.MonthTables.{length-december}
 use Rattle.calendar.proofs.Existing.{exists-yes, to-exists, month-of-date}
 use Rattle.calendar.proofs.Successors.{from-is}
 
--- ---- a date that does not exist is its own answer
+-- ---- a date that does not exist gives itself
 pub before-first : (d : Date) → d .day < 1 → d ≡ tomorrowOf d
 unfolding fromOf existsOf
 before-first d l = rw (lt-leb 1 (d .day) l)
@@ -24,7 +24,8 @@ module _ (d : Date) (first : 1 ≤ d .day) (small : d .year ≤ 4294967295) wher
   pub within : d .day < daysInMonthOf (d .year) (d .month) → dateOf (d .year) (d .month) (d .day + 1) ≡ tomorrowOf d
   unfolding dayAfterOf
   within l =
-      stepped (to-exists d (record { from = first; to = omega arith })) (dateOf (d .year) (d .month) (d .day + 1)) (rw (lt-ltb (d .day) (daysInMonthOf (d .year) (d .month)) l)) small
+      stepped (to-exists d (record { from = first; to = omega arith })) (dateOf (d .year) (d .month) (d .day + 1))
+      (rw (lt-ltb (d .day) (daysInMonthOf (d .year) (d .month)) l)) small
 
   module _ (last : d .day ≡ daysInMonthOf (d .year) (d .month)) where
     here : existsOf d ≡ true
@@ -33,7 +34,8 @@ module _ (d : Date) (first : 1 ≤ d .day) (small : d .year ≤ 4294967295) wher
     pub next-month : d .month < 12 → dateOf (d .year) (d .month + 1) 1 ≡ tomorrowOf d
     unfolding dayAfterOf
     next-month m =
-        stepped here (dateOf (d .year) (d .month + 1) 1) (rw (le-ltb (d .day) (daysInMonthOf (d .year) (d .month)) (omega arith), lt-ltb (d .month) 12 m)) small
+        stepped here (dateOf (d .year) (d .month + 1) 1)
+        (rw (le-ltb (d .day) (daysInMonthOf (d .year) (d .month)) (omega arith), lt-ltb (d .month) 12 m)) small
 
     over : 12 ≤ d .month → dateOf (d .year + 1) 1 1 ≡ dayAfterOf d
     unfolding dayAfterOf

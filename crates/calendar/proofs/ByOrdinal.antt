@@ -48,7 +48,8 @@ module _ (d : Date) (some : ordinalOf d ≡ 0 → ⊥) (small : d .year ≤ 4294
       let o = ordinal-within d here in let e = dateOf (d .year - 1) 12 31 in
       let b = before d here (λ z. n (ap (λ (x : Date). x .year) z)) in let g = b .next in
       let y : d .year - 1 + 1 ≡ d .year = omega arith in let s = year-step (d .year - 1) in
-      let i : e ≡ dayBeforeOf d = count-injective e (dayBeforeOf d) (year-end (d .year - 1)) (b .there) (omega (arith, ordinal-last (d .year - 1), ap daysBeforeYearOf y)) in
+      let i : e ≡ dayBeforeOf d = count-injective e (dayBeforeOf d) (year-end (d .year - 1)) (b .there)
+      (omega (arith, ordinal-last (d .year - 1), ap daysBeforeYearOf y)) in
       i ∙ from-there d (dayBeforeOf d) here (subst (λ (x : Date). x .year ≤ 4294967295) i (omega arith))
 
   -- the first date of all
@@ -56,5 +57,6 @@ module _ (d : Date) (some : ordinalOf d ≡ 0 → ⊥) (small : d .year ≤ 4294
   unfolding dayBeforeOf
   yesterday-first l n =
       let o = ordinal-within d here in
-      let e : dateOf 0 1 1 ≡ d = count-injective (dateOf 0 1 1) d (new-year 0) here (omega (arith, ordinal-first 0, ap daysBeforeYearOf n)) in
+      let e : dateOf 0 1 1 ≡ d =
+      count-injective (dateOf 0 1 1) d (new-year 0) here (omega (arith, ordinal-first 0, ap daysBeforeYearOf n)) in
       subst (λ (x : Date). x ≡ yesterdayOf x) e (from-there (dateOf 0 1 1) (dateOf 0 1 1) (new-year 0) (omega arith))

@@ -6,6 +6,7 @@ pub use Rattle.calendar.proofs.Successors.{row-is, row-tomorrow, year-a
 pub use Rattle.calendar.proofs.YearSteps.{year-mono, year-step}
 unfoldable pub use Rattle.calendar.specs.Answers.{heldOf, fromOf}
 pub use Rattle.calendar.specs.Answers.{rowDateOf, tomorrowOf}
-unfoldable pub use Rattle.calendar.specs.Days.{daysBeforeOf, ordinalOf, daysBeforeYearOf, dayNumberOf, daysInYearOf, dateOfDayOf, countBelow, monthOf, ofOrdinalOf, lastBy, yearOf, dateAtOf}
+unfoldable pub use Rattle.calendar.specs.Days.{daysBeforeOf, ordinalOf, daysBeforeYearOf, dayNumberOf, daysInYearOf, dateOfDayOf}
+unfoldable pub use Rattle.calendar.specs.Days.{countBelow, monthOf, ofOrdinalOf, lastBy, yearOf, dateAtOf}
 unfoldable pub use Rattle.calendar.specs.Gregorian.{leapOf, lengthOf, existsOf, dayAfterOf}
 pub use Rattle.calendar.specs.Gregorian.{dateOf}

@@ -82,7 +82,8 @@ date-of-day-exists z = count-forth (P (z +ℤ pos 719528)) .there
 pub row-first : (d : Date) → existsOf d ≡ true → dateOfDayOf (dayNumberOf d +ℤ pos 0) ≡ d
 row-first d h = ap dateOfDayOf (+ℤ-idr (dayNumberOf d)) ∙ date-of-number d h
 
-pub row-next : (d : Date) (k : ℕ) → existsOf d ≡ true → dateOfDayOf (dayNumberOf d +ℤ pos (k + 1)) ≡ dayAfterOf (dateOfDayOf (dayNumberOf d +ℤ pos k))
+pub row-next : (d : Date) (k : ℕ) → existsOf d ≡ true
+    → dateOfDayOf (dayNumberOf d +ℤ pos (k + 1)) ≡ dayAfterOf (dateOfDayOf (dayNumberOf d +ℤ pos k))
 row-next d k h =
     let z = dayNumberOf d in let e = dateOfDayOf (z +ℤ pos k) in let t = date-of-day-exists (z +ℤ pos k) in
     let o = ordinal-within d h in let b = balance d in let s = sum z (pos k) in let r = sum z (pos (k + 1)) in

@@ -1,5 +1,6 @@
 -- Dates that exist: their place in the year and in the count of days, and the way back from there. Assumes nothing.
-use Rattle.prelude.proofs.Logic.{_≡_, refl, sym, ap, _∙_, subst, true, and-eq-true-iff, ℕ, _+_, _-_, _≤_, _<_, arith, leb, lit≤, leb-true, le-leb, cases}
+use Rattle.prelude.proofs.Logic.{_≡_, refl, sym, ap, _∙_, subst, true, and-eq-true-iff, ℕ, _+_, _-_, _≤_, _<_, arith, leb, lit≤, leb-true}
+use Rattle.prelude.proofs.Logic.{le-leb, cases}
 use Rattle.calendar.specs.Gregorian.{dateOf, leapOf, daysInMonthOf, existsOf}
 use Rattle.calendar.specs.Days.{daysBeforeOf, daysInYearOf, ordinalOf, ofOrdinalOf, monthOf, daysBeforeYearOf, dateAtOf, yearOf}
 use Rattle.calendar.specs.declared.dates.Date.{Date}
@@ -42,14 +43,16 @@ ordinal-within d h =
 pub ordinal-short : (d : Date) → ordinalOf d ≤ 366
 unfolding ordinalOf
 ordinal-short d =
-    cases (existsOf d) (λ h. let e = exists-yes d h in let m = month-of-date d e in rw h (omega (arith, year-short (leapOf (d .year))))) (λ h. rw h (lit≤ tt))
+    cases (existsOf d) (λ h. let e = exists-yes d h in let m = month-of-date d e in rw h (omega (arith, year-short (leapOf (d .year)))))
+    (λ h. rw h (lit≤ tt))
 
 -- a date is found again by its year and its ordinal
 pub ordinal-back : (d : Date) → existsOf d ≡ true → ofOrdinalOf (d .year) (ordinalOf d) ≡ d
 unfolding ofOrdinalOf
 ordinal-back d h =
     let e = exists-yes d h in let leap = leapOf (d .year) in
-    let f : monthOf leap (ordinalOf d) ≡ d .month = ap (monthOf leap) (ordinal-is d h) ∙ month-found leap (d .month) (d .day) (e .from) (e .to) in
+    let f : monthOf leap (ordinalOf d) ≡ d .month = ap (monthOf leap) (ordinal-is d h)
+    ∙ month-found leap (d .month) (d .day) (e .from) (e .to) in
     let o = ordinal-is d h in let g : ordinalOf d - daysBeforeOf leap (d .month) ≡ d .day = omega arith in
     rw (f, g)
 

@@ -1,5 +1,6 @@
--- A quotient toward zero, less one where the remainder is negative, is the quotient rounded down; and it fits. Assumes nothing.
-use Rattle.prelude.proofs.Logic.{_≡_, refl, sym, ap, subst, _∙_, true, false, suc, _/_, _%_, arith, lit<, ℤ, pos, negsuc, negℤ, _-ℤ_, ltZ, quotZ, remZ, w64, SFits}
+-- A quotient toward zero, less one if the remainder is negative, is the quotient rounded down; and it fits. Assumes nothing.
+use Rattle.prelude.proofs.Logic.{_≡_, refl, sym, ap, subst, _∙_, true, false, suc, _/_, _%_, arith, lit<, ℤ, pos, negsuc, negℤ, _-ℤ_, ltZ}
+use Rattle.prelude.proofs.Logic.{quotZ, remZ, w64, SFits}
 use Rattle.integers.proofs.Integers.{same, flip, difference, floorQuot, divided, lt-yes, lt-no, readBack, read, range, fits}
 
 abbrev day : ℤ
@@ -43,8 +44,10 @@ module _ (t : ℤ) (h : SFits w64 t) where
   pub one-less-fits : SFits w64 (readBack w64 (quotZ (readBack w64 t) day) -ℤ pos 1)
   one-less-fits = subst (λ (z : ℤ). SFits w64 (z -ℤ pos 1)) (sym quotient) less-fits
 
-  pub rounded-down : ltZ (readBack w64 (remZ (readBack w64 t) day)) (pos 0) ≡ true → readBack w64 (readBack w64 (quotZ (readBack w64 t) day) -ℤ pos 1) ≡ floorQuot t 86400
-  rounded-down l = read w64 _ one-less-fits ∙ ap (λ (z : ℤ). z -ℤ pos 1) quotient ∙ lower t (ap (λ (z : ℤ). ltZ z (pos 0)) (sym remainder) ∙ l)
+  pub rounded-down : ltZ (readBack w64 (remZ (readBack w64 t) day)) (pos 0) ≡ true
+      → readBack w64 (readBack w64 (quotZ (readBack w64 t) day) -ℤ pos 1) ≡ floorQuot t 86400
+  rounded-down l = read w64 _ one-less-fits ∙ ap (λ (z : ℤ). z -ℤ pos 1) quotient
+      ∙ lower t (ap (λ (z : ℤ). ltZ z (pos 0)) (sym remainder) ∙ l)
 
   pub kept : ltZ (readBack w64 (remZ (readBack w64 t) day)) (pos 0) ≡ false → readBack w64 (quotZ (readBack w64 t) day) ≡ floorQuot t 86400
   kept l = quotient ∙ level t (ap (λ (z : ℤ). ltZ z (pos 0)) (sym remainder) ∙ l)

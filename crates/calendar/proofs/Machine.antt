@@ -1,5 +1,6 @@
 -- Day numbers as i64: no step of the code loses anything. Assumes nothing.
-use Rattle.prelude.proofs.Logic.{_≡_, ap, _∙_, ℕ, _+_, _%_, _^_, _≤_, _<_, arith, T, lit<, ℤ, pos, natAbs, _+ℤ_, _-ℤ_, quotZ, remZ, nonNeg, w64, w32, SFits, Fits, toZ}
+use Rattle.prelude.proofs.Logic.{_≡_, ap, _∙_, ℕ, _+_, _%_, _^_, _≤_, _<_, arith, T, lit<, ℤ, pos, natAbs, _+ℤ_, _-ℤ_, quotZ, remZ, nonNeg}
+use Rattle.prelude.proofs.Logic.{w64, w32, SFits, Fits, toZ}
 use Rattle.integers.proofs.Integers.{P, N, natural, sum, difference, divided, floored, range, fits, readBack, read}
 use Rattle.calendar.specs.Days.{daysBeforeYearOf, ordinalOf, dayNumberOf, weekdayOf}
 use Rattle.calendar.specs.declared.dates.Date.{Date}
@@ -54,10 +55,12 @@ module _ (z : ℤ) (f : SFits w64 z) where
   k-small = let d = divided z 7 (lit< tt) in let s = sum (remZ z (pos 7)) (pos 11) in omega arith
 
   rest : readBack w64 (remZ (readBack w64 z) (pos 7)) ≡ remZ z (pos 7)
-  rest = let d = divided z 7 (lit< tt) in rw (read w64 z f) (read w64 (remZ z (pos 7)) (fits w64 (remZ z (pos 7)) (omega arith) (omega arith)))
+  rest = let d = divided z 7 (lit< tt) in
+      rw (read w64 z f) (read w64 (remZ z (pos 7)) (fits w64 (remZ z (pos 7)) (omega arith) (omega arith)))
 
   pub week-quotient : SFits w64 (quotZ (readBack w64 z) (pos 7))
-  week-quotient = let d = divided z 7 (lit< tt) in let r = range w64 z f in rw (read w64 z f) (fits w64 (quotZ z (pos 7)) (omega arith) (omega arith))
+  week-quotient = let d = divided z 7 (lit< tt) in let r = range w64 z f in
+      rw (read w64 z f) (fits w64 (quotZ z (pos 7)) (omega arith) (omega arith))
 
   pub week-sum : SFits w64 (readBack w64 (remZ (readBack w64 z) (pos 7)) +ℤ pos 11)
   week-sum = let l = k-small in rw (rest, eleven) (record { sfits = omega arith })
@@ -71,7 +74,8 @@ module _ (z : ℤ) (f : SFits w64 z) where
   day : readBack w64 (remZ (readBack w64 (readBack w64 (remZ (readBack w64 z) (pos 7)) +ℤ pos 11)) (pos 7)) ≡ pos (k % 7)
   day = rw again (read w64 (pos (k % 7)) (record { sfits = omega arith }))
 
-  pub week-cast : (let w = readBack w64 (remZ (readBack w64 (readBack w64 (remZ (readBack w64 z) (pos 7)) +ℤ pos 11)) (pos 7)) in T (nonNeg w) × Fits w32 (natAbs w))
+  pub week-cast : (let w = readBack w64 (remZ (readBack w64 (readBack w64 (remZ (readBack w64 z) (pos 7)) +ℤ pos 11)) (pos 7)) in
+      T (nonNeg w) × Fits w32 (natAbs w))
   week-cast = rw day (tt, record { fits = omega arith })
 
   pub week-day : natAbs (readBack w64 (remZ (readBack w64 (readBack w64 (remZ (readBack w64 z) (pos 7)) +ℤ pos 11)) (pos 7))) ≡ weekdayOf z

@@ -1,5 +1,7 @@
 -- The rows of days before each month, held to the months' lengths by tests that antt computes. Assumes nothing.
-use Rattle.prelude.proofs.Logic.{_≡_, refl, sym, Bool, true, false, cond, not, _&&_, _||_, ℕ, zero, suc, _+_, _-_, _/_, _≤_, _<_, arith, T, eqb, ltb, leb, eqb→eq, leb→le, ltb→lt, le→leb, lit≤, List·getD-eq-default, ltb-true, ltb-false, and-l, and-r, cases}
+use Rattle.prelude.proofs.Logic.{_≡_, refl, sym, Bool, true, false, cond, not, _&&_, _||_, ℕ, zero, suc, _+_, _-_, _/_, _≤_, _<_, arith, T}
+use Rattle.prelude.proofs.Logic.{eqb, ltb, leb, eqb→eq, leb→le, ltb→lt, le→leb, lit≤, List·getD-eq-default, ltb-true, ltb-false, and-l}
+use Rattle.prelude.proofs.Logic.{and-r, cases}
 use Rattle.calendar.specs.Gregorian.{lengthsOf, lengthOf}
 use Rattle.calendar.specs.Days.{monthStartsOf, daysBeforeOf, countBelow, monthOf}
 use Rattle.prelude.proofs.Computed.{below, at, tested, when}
@@ -101,7 +103,8 @@ pub record Place (leap : Bool) (n m : ℕ) : Type 0 where
 placeTest : Bool → ℕ → Bool
 placeTest leap n =
     let m = monthOf leap n in
-    not (leb 1 n) || (not (leb n (cond leap 366 365)) || (ltb 0 m && leb m 12 && ltb (daysBeforeOf leap m) n && leb n (daysBeforeOf leap m + lengthOf leap m)))
+    not (leb 1 n) || (not (leb n (cond leap 366 365))
+    || (ltb 0 m && leb m 12 && ltb (daysBeforeOf leap m) n && leb n (daysBeforeOf leap m + lengthOf leap m)))
 
 pub month-place : (leap : Bool) (n : ℕ) → 0 < n → n ≤ cond leap 366 365 → Place leap n (monthOf leap n)
 unfolding placeTest daysBeforeOf lengthOf monthOf countBelow
@@ -109,7 +112,8 @@ month-place leap n p q =
     let m = monthOf leap n in let a = ltb 0 m in let b = leb m 12 in let c = ltb (daysBeforeOf leap m) n in
     let d = leb n (daysBeforeOf leap m + lengthOf leap m) in
     let k = tested placeTest 367 tt leap n (let y = year-short leap in omega arith) in
-    let t : T (a && b && c && d) = when (leb n (cond leap 366 365)) _ (when (leb 1 n) _ k (le→leb 1 n p)) (le→leb n (cond leap 366 365) q) in
+    let t : T (a && b && c && d) =
+    when (leb n (cond leap 366 365)) _ (when (leb 1 n) _ k (le→leb 1 n p)) (le→leb n (cond leap 366 365) q) in
     record {
       first = ltb→lt 0 m (and-l a b (and-l (a && b) c (and-l (a && b && c) d t)));
       last = leb→le m 12 (and-r a b (and-l (a && b) c (and-l (a && b && c) d t)));

@@ -13,7 +13,8 @@ pub record Follows (d e : Date) : Type 0 where
   pub number : count e ≡ count d + 1
 
 -- the first day of a month after the last of the month before, in one year
-next-month : (y m : ℕ) → 0 < m → m < 12 → (d : ℕ) → d ≡ daysInMonthOf y m → existsOf (dateOf y m d) ≡ true → Follows (dateOf y m d) (dateOf y (m + 1) 1)
+next-month : (y m : ℕ) → 0 < m → m < 12 → (d : ℕ) → d ≡ daysInMonthOf y m → existsOf (dateOf y m d) ≡ true
+    → Follows (dateOf y m d) (dateOf y (m + 1) 1)
 next-month y m p q d e h =
     let t = to-exists (dateOf y (m + 1) 1) (record { from = omega arith; to = length-some (leapOf y) m q }) in
     record { there = t; number = omega (arith, before-next (leapOf y) m q, ordinal-is (dateOf y m d) h, ordinal-is (dateOf y (m + 1) 1) t) }
@@ -30,8 +31,14 @@ next-year y =
     record {
       there = new-year (y + 1);
       number =
-          omega
-          (arith, ordinal-is (dateOf y 12 31) (year-end y), ordinal-is (dateOf (y + 1) 1 1) (new-year (y + 1)), year-step y, before-december (leapOf y), before-january (leapOf (y + 1)));
+          omega (
+            arith,
+            ordinal-is (dateOf y 12 31) (year-end y),
+            ordinal-is (dateOf (y + 1) 1 1) (new-year (y + 1)),
+            year-step y,
+            before-december (leapOf y),
+            before-january (leapOf (y + 1)),
+          );
     }
 
 pub after : (d : Date) → existsOf d ≡ true → Follows d (dayAfterOf d)
@@ -43,7 +50,8 @@ after d h =
     let t = to-exists e (record { from = omega arith; to = omega arith }) in
     rw p (record { there = t; number = omega (arith, ordinal-is d h, ordinal-is e t) }))
     (λ p. let l = ltb-false (d .day) days p in
-    cases (ltb (d .month) 12) (λ q. rw (p, q) (next-month (d .year) (d .month) (m .first) (ltb-true (d .month) 12 q) (d .day) (omega arith) h))
+    cases (ltb (d .month) 12)
+    (λ q. rw (p, q) (next-month (d .year) (d .month) (m .first) (ltb-true (d .month) 12 q) (d .day) (omega arith) h))
     (λ q. let m12 : d .month ≡ 12 = omega (arith, ltb-false (d .month) 12 q) in
     let d31 : d .day ≡ 31 = omega (arith, length-december (leapOf (d .year)), ap (lengthOf (leapOf (d .year))) m12) in
     let e : dateOf (d .year) 12 31 ≡ d = rw (m12, d31) in
@@ -70,11 +78,18 @@ before d h n =
     let s : 0 < days = subst (λ (i : ℕ). 0 < daysInMonthOf (d .year) i) k (length-some (leapOf (d .year)) (d .month - 2) (omega arith)) in
     let t = to-exists e (record { from = s; to = omega arith }) in let i : d .month - 1 + 1 ≡ d .month = omega arith in
     let f : dateOf (d .year) (d .month - 1 + 1) 1 ≡ d = rw (i, j) in
-    rw (p, q) (record { there = t; next = subst (λ (g : Date). Follows e g) f (next-month (d .year) (d .month - 1) (omega arith) (omega arith) days refl t) }))
+    rw (p, q) (record {
+      there = t;
+      next = subst (λ (g : Date). Follows e g) f (next-month (d .year) (d .month - 1) (omega arith) (omega arith) days refl t);
+    }))
     (λ q. let i : 1 ≡ d .month = omega (arith, ltb-false 1 (d .month) q) in
     cases (ltb 0 (d .year))
     (λ r. let l = ltb-true 0 (d .year) r in let y : d .year - 1 + 1 ≡ d .year = omega arith in
-    let f : dateOf (d .year - 1 + 1) 1 1 ≡ d = ap (λ (z : ℕ). dateOf z 1 1) y ∙ ap (λ (z : ℕ). dateOf (d .year) z 1) i ∙ ap (dateOf (d .year) (d .month)) j in
-    rw (p, q, r) (record { there = year-end (d .year - 1); next = subst (λ (g : Date). Follows (dateOf (d .year - 1) 12 31) g) f (next-year (d .year - 1)) }))
+    let f : dateOf (d .year - 1 + 1) 1 1 ≡ d = ap (λ (z : ℕ). dateOf z 1 1) y ∙ ap (λ (z : ℕ). dateOf (d .year) z 1) i
+    ∙ ap (dateOf (d .year) (d .month)) j in
+    rw (p, q, r) (record {
+      there = year-end (d .year - 1);
+      next = subst (λ (g : Date). Follows (dateOf (d .year - 1) 12 31) g) f (next-year (d .year - 1));
+    }))
     (λ r. let y : d .year ≡ 0 = omega (arith, ltb-false 0 (d .year) r) in
     absurd (n (ap (λ (z : ℕ). dateOf z (d .month) (d .day)) y ∙ ap (λ (z : ℕ). dateOf 0 z (d .day)) (sym i) ∙ ap (dateOf 0 1) (sym j))))))

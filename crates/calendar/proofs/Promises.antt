@@ -1,7 +1,9 @@
 -- The calendar is the Gregorian one. Assumes nothing.
 use Rattle.calendar.specs.Promises.{CalendarIsGregorian}
 use Rattle.calendar.proofs.Successors.{row-zero, row-after}
-use Rattle.calendar.proofs.CalendarLaws.{ordinal-first, ordinal-last, ordinal-next, day-zero, day-after, day-after-exists, day-before-exists, after-before, before-after, date-of-number, number-of-date, date-of-day-exists, weekday-zero, weekday-next}
+use Rattle.calendar.proofs.CalendarLaws.{ordinal-first, ordinal-last, ordinal-next, day-zero, day-after, day-after-exists}
+use Rattle.calendar.proofs.CalendarLaws.{day-before-exists, after-before, before-after, date-of-number, number-of-date}
+use Rattle.calendar.proofs.CalendarLaws.{date-of-day-exists, weekday-zero, weekday-next}
 
 pub calendar-is-gregorian : CalendarIsGregorian
 calendar-is-gregorian =

@@ -1,4 +1,4 @@
--- The days before and after a date, and the dates of rows, where every year fits a u32. Assumes nothing.
+-- The days before and after a date, and the dates of rows, while every year fits a u32. Assumes nothing.
 use Rattle.prelude.proofs.Logic.{_≡_, sym, ap, subst, _∙_, true, ℕ, _+_, _≤_, _<_, arith, leb, ltb, pos, _+ℤ_, le-leb, cases, either}
 use Rattle.calendar.specs.Answers.{heldOf, fromOf, tomorrowOf, yesterdayOf, rowDateOf}
 use Rattle.calendar.specs.Days.{dayNumberOf, dateOfDayOf}
@@ -34,14 +34,16 @@ module _ (d : Date) (h : existsOf d ≡ true) (l : d .year + 1 ≤ 4294967295) w
   pub back : yesterdayOf (tomorrowOf d) ≡ d
   back =
       let e : dayBeforeOf (tomorrowOf d) ≡ d = ap dayBeforeOf tomorrow-is ∙ before-after d h in
-      from-is (tomorrowOf d) (dayBeforeOf (tomorrowOf d)) tomorrow-exists (subst (λ (x : Date). x .year ≤ 4294967295) (sym e) (omega arith)) ∙ e
+      from-is (tomorrowOf d) (dayBeforeOf (tomorrowOf d)) tomorrow-exists (subst (λ (x : Date). x .year ≤ 4294967295) (sym e) (omega arith))
+      ∙ e
 
 -- a row's date is so many days later, and the next row's is the day after it
 module _ (d : Date) (h : existsOf d ≡ true) where
   pub row-is : (k : ℕ) → dateOfDayOf (dayNumberOf d +ℤ pos k) .year ≤ 4294967295 → rowDateOf d k ≡ dateOfDayOf (dayNumberOf d +ℤ pos k)
   row-is k l = from-is d (dateOfDayOf (dayNumberOf d +ℤ pos k)) h l
 
-  pub row-tomorrow : (k : ℕ) → dateOfDayOf (dayNumberOf d +ℤ pos k) .year + 1 ≤ 4294967295 → rowDateOf d (k + 1) ≡ tomorrowOf (rowDateOf d k)
+  pub row-tomorrow : (k : ℕ) → dateOfDayOf (dayNumberOf d +ℤ pos k) .year + 1 ≤ 4294967295
+      → rowDateOf d (k + 1) ≡ tomorrowOf (rowDateOf d k)
   row-tomorrow k l =
       let e : Date = dateOfDayOf (dayNumberOf d +ℤ pos k) in
       let n : dateOfDayOf (dayNumberOf d +ℤ pos (k + 1)) ≡ dayAfterOf e = row-next d k h in let y = year-after e .1 in

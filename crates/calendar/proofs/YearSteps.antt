@@ -1,5 +1,7 @@
 -- Years follow each other without a gap in the count of days, and the quotient finds the year of each day. Assumes nothing.
-use Rattle.prelude.proofs.Logic.{_≡_, refl, sym, subst, Bool, true, false, cond, not, _&&_, _||_, ℕ, zero, suc, _+_, _-_, _*_, _/_, _%_, _≤_, _<_, zero-add, le-refl, lt-of-not-le, add-one, arith, T, leb, eqb-true, eqb-false, leb-true, leb-false, cases}
+use Rattle.prelude.proofs.Logic.{_≡_, refl, sym, subst, Bool, true, false, cond, not, _&&_, _||_, ℕ, zero, suc, _+_, _-_, _*_, _/_, _%_}
+use Rattle.prelude.proofs.Logic.{_≤_, _<_, zero-add, le-refl, lt-of-not-le, add-one, arith, T, leb, eqb-true, eqb-false, leb-true}
+use Rattle.prelude.proofs.Logic.{leb-false, cases}
 use Rattle.calendar.specs.Gregorian.{divides, leapOf}
 use Rattle.calendar.specs.Days.{daysInYearOf, daysBeforeYearOf, lastBy, yearOf}
 
@@ -82,7 +84,8 @@ pub record In (n y : ℕ) : Type 0 where
 -- a year's share of 400 years, which have 146097 days
 spread : (y : ℕ) → (146097 * y ≤ 400 * daysBeforeYearOf y + 396) × (400 * daysBeforeYearOf y ≤ 146097 * y + 699)
 unfolding daysBeforeYearOf
-spread y = shares ((y + 3) / 4) ((y + 99) / 100) ((y + 399) / 400) (omega arith) (omega arith) (omega arith) (omega arith) (omega arith) (omega arith)
+spread y = shares ((y + 3) / 4) ((y + 99) / 100) ((y + 399) / 400) (omega arith) (omega arith) (omega arith) (omega arith) (omega arith)
+    (omega arith)
   where
     shares : (i j k : ℕ) → y ≤ 4 * i → 4 * i ≤ y + 3 → y ≤ 100 * j → 100 * j ≤ y + 99 → y ≤ 400 * k → 400 * k ≤ y + 399 →
         (146097 * y ≤ 400 * (365 * y + i - j + k) + 396) × (400 * (365 * y + i - j + k) ≤ 146097 * y + 699)
@@ -108,7 +111,8 @@ pub year-before : (n y z : ℕ) → daysBeforeYearOf y ≤ n → n < daysBeforeY
 year-before n y z p q = lt-of-not-le (λ l. let m = year-mono z y l in omega arith)
 
 pub year-unique : (n y z : ℕ) → In n y → In n z → y ≡ z
-year-unique n y z p q = let l = year-before n y (z + 1) (p .from) (q .before) in let m = year-before n z (y + 1) (q .from) (p .before) in omega arith
+year-unique n y z p q = let l = year-before n y (z + 1) (p .from) (q .before) in let m = year-before n z (y + 1) (q .from) (p .before) in
+    omega arith
 
 -- ---- the quotient is the year or the one after it
 module _ (n guess : ℕ) (is : guess ≡ (n + 1) * 400 / 146097) where
@@ -118,4 +122,5 @@ module _ (n guess : ℕ) (is : guess ≡ (n + 1) * 400 / 146097) where
   pub guess-over : n < daysBeforeYearOf guess → guess - 1 ≡ yearOf n
   guess-over h =
       let first = year-above guess n h in let e : guess - 1 + 1 ≡ guess = omega arith in let s = spread (guess - 1) in
-      year-unique n (guess - 1) (yearOf n) (record { from = omega (arith, s .1); before = subst (λ (x : ℕ). n < daysBeforeYearOf x) (sym e) h }) (year-found n)
+      year-unique n (guess - 1) (yearOf n)
+      (record { from = omega (arith, s .1); before = subst (λ (x : ℕ). n < daysBeforeYearOf x) (sym e) h }) (year-found n)

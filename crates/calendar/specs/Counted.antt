@@ -1,4 +1,5 @@
--- This file need not be believed: the days that the code counts from 0000-01-01. proofs/ByCount.antt says that they give the date of Answers.
+-- This file need not be believed: the days that the code counts from 0000-01-01. proofs/ByCount.antt says that they give the date of
+-- Answers.
 use Prim.Native.Nat.{ℕ}
 use mathlib.Core.Bool.{cond}
 use lib.Dec.{leb}

@@ -1,5 +1,5 @@
--- "The Gregorian calendar decides" (document 01): its rule, for every year from 0 on, also before it was decreed. Promises holds the numbers
--- of Days to it.
+-- "The Gregorian calendar decides" (document 01): its rule, for every year from 0 on, also before it was decreed. Promises holds the
+-- numbers of Days to it.
 use Prim.Native.Nat.{ℕ, _+_, _-_, _%_}
 use mathlib.Core.Bool.{Bool, cond, not, _&&_, _||_}
 use mathlib.Core.List.{List, [], _∷_}

@@ -1,4 +1,5 @@
--- Demand 2: "the calendar is the Gregorian one". What Days counts is the calendar of Gregorian, from 0000-01-01 on. Proved in proofs/Promises.
+-- Demand 2: "the calendar is the Gregorian one". What Days counts is the calendar of Gregorian, from 0000-01-01 on. Proved in
+-- proofs/Promises.
 use Prim.Native.Nat.{ℕ, _+_, _%_, _≤_, _<_}
 use mathlib.Core.Path.{_≡_}
 use mathlib.Core.Bool.{true}
@@ -25,7 +26,8 @@ pub record CalendarIsGregorian : Type 0 where
   pub «ordinal_last» : (year : ℕ) → ordinalOf (dateOf year 12 31) ≡ daysInYearOf year
   -- the dates of rows: the first is the date itself, and they follow one another as far as a u32 holds the year
   pub «row_first» : (d : Date) → existsOf d ≡ true → d .year ≤ 4294967295 → rowDateOf d 0 ≡ d
-  pub «row_next» : (d : Date) (k : ℕ) → existsOf d ≡ true → rowDateOf d k .year < 4294967295 → rowDateOf d (k + 1) ≡ dayAfterOf (rowDateOf d k)
+  pub «row_next» : (d : Date) (k : ℕ) → existsOf d ≡ true → rowDateOf d k .year < 4294967295
+      → rowDateOf d (k + 1) ≡ dayAfterOf (rowDateOf d k)
   -- day 0 is a Thursday, and weekdays follow one another
   pub «weekday_zero» : weekdayOf (pos 0) ≡ 4
   pub «weekday_next» : (z : ℤ) → weekdayOf (z +ℤ pos 1) ≡ (weekdayOf z + 1) % 7

@@ -1,4 +1,4 @@
-// Dates and the days they stand for: unit.rs's Stride on a date, with the functions that chrono gave it.
+// Dates and the numbers of their days: unit.rs's Stride on a date, with the functions that chrono gave it.
 ghost use mathlib.Core.Path.{_≡_};
 ghost use Prim.Native.Nat.{_≤_, _<_};
 ghost use Rattle.calendar.specs.Gregorian.{dateOf, existsOf};

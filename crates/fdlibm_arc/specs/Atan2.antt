@@ -46,7 +46,7 @@ infiniteOf xs ys ix iy =
     (quadrantOf xs ys zero (minus-one *ᶠ zero) (pi +ᶠ tiny) (neg pi -ᶠ tiny)))
     (uprightOf ys)
 
--- atan |y / x|, both finite and neither 0: π/2 where y is over 2 ^ 60 times x, and 0 where x is below 0 and over 2 ^ 60 times y
+-- atan |y / x|, both finite and neither 0: π/2 if y is over 2 ^ 60 times x, and 0 if x is below 0 and over 2 ^ 60 times y
 unfoldable pub quotientOf : Float → Float → Bool → ℕ → ℕ → Float
 quotientOf y x xs ix iy =
     cond (leb (ix + 0x03d0_0000) iy) (pi-o-2 +ᶠ half *ᶠ pi-lo)

@@ -71,7 +71,7 @@ fn infinite(xs: bool, ys: bool, ix: u32, iy: u32) -> f64
     }
 }
 
-// The angle of (|x|, |y|); at most a zero where that is lost beside π.
+// The angle of (|x|, |y|), or 0 if it is so small that adding it to π changes nothing.
 fn quotient(y: f64, x: f64, xs: bool, ix: u32, iy: u32) -> f64
     ensures { λ r. ⌜ r ≡ quotientOf y x xs ix iy ⌝ }
 {

@@ -1,5 +1,6 @@
 -- The whole-number arithmetic that decides on a candidate s.
-use Rattle.prelude.proofs.Logic.{_≡_, refl, ap, Bool, true, false, ℕ, _+_, _-_, _*_, _/_, _%_, _^_, _≤_, _<_, div-add-mod', mul-le-mul, arith, leb, ltb, lit≤, leb-true, leb-false, ltb-true, ltb-false, boolByte}
+use Rattle.prelude.proofs.Logic.{_≡_, refl, ap, Bool, true, false, ℕ, _+_, _-_, _*_, _/_, _%_, _^_, _≤_, _<_, div-add-mod', mul-le-mul}
+use Rattle.prelude.proofs.Logic.{arith, leb, ltb, lit≤, leb-true, leb-false, ltb-true, ltb-false, boolByte}
 use Rattle.fdlibm_root.specs.Near.{NearRoot}
 
 -- ---- the products of the two halves of an s of 53 digits fit
@@ -18,7 +19,8 @@ halves s h = products (s / 2 ^ 27) (s % 2 ^ 27) (omega arith) (omega arith)
         record { high = omega arith; mixed = omega arith; low = omega arith }
 
 -- ---- what `residue` returns: `over` is e * 2 ^ 25 + 2 ^ 28 and `under` is 2 * a * b + k, where b * b is k * 2 ^ 27 + l
-sum : (m s a b e j k l z : ℕ) → a * 2 ^ 27 + b ≡ s → 4 * a * a + e ≡ m → k * 2 ^ 27 + l ≡ b * b → j + (2 * a * b + k) ≡ e * 2 ^ 25 + 2 ^ 28 → z + l ≡ j * 2 ^ 27
+sum : (m s a b e j k l z : ℕ) → a * 2 ^ 27 + b ≡ s → 4 * a * a + e ≡ m → k * 2 ^ 27 + l ≡ b * b → j + (2 * a * b + k) ≡ e * 2 ^ 25 + 2 ^ 28
+    → z + l ≡ j * 2 ^ 27
     → z + s * s ≡ 2 ^ 55 + m * 2 ^ 52
 sum m s a b e j k l z parts top low middle is =
     let square : (a * 2 ^ 27 + b) * (a * 2 ^ 27 + b) ≡ s * s = ap (λ (x : ℕ). x * x) parts in
@@ -44,7 +46,7 @@ module _ (m s : ℕ) where
       rest : (j c : ℕ) → 0 < j → j * 2 ^ 27 - c % 2 ^ 27 + c % 2 ^ 27 ≡ j * 2 ^ 27
       rest j c h = omega arith
 
--- ---- where the residue z lies, s or a neighbour is the nearest
+-- ---- s or a neighbour is the nearest, by the size of the residue z
 bit : (b : Bool) → boolByte b ≤ 1
 bit true = lit≤ tt
 bit false = lit≤ tt
@@ -52,7 +54,8 @@ bit false = lit≤ tt
 pub up-fits : (s z : ℕ) → s < 2 ^ 53 → s + boolByte (ltb (2 ^ 55 + s) z) < 2 ^ 64
 up-fits s z h = omega (arith, bit (ltb (2 ^ 55 + s) z))
 
-pub down-fits : (s z : ℕ) → 2 ^ 55 + 2 < z + 3 * s → z ≤ 2 ^ 55 + 3 * s + 2 → boolByte (leb (z + s) (2 ^ 55)) ≤ s + boolByte (ltb (2 ^ 55 + s) z)
+pub down-fits : (s z : ℕ) → 2 ^ 55 + 2 < z + 3 * s → z ≤ 2 ^ 55 + 3 * s + 2
+    → boolByte (leb (z + s) (2 ^ 55)) ≤ s + boolByte (ltb (2 ^ 55 + s) z)
 down-fits s z lo hi = omega (arith, bit (leb (z + s) (2 ^ 55)))
 
 module _ (m s z : ℕ) (is : z + s * s ≡ 2 ^ 55 + m * 2 ^ 52) (lo : 2 ^ 55 + 2 < z + 3 * s) (hi : z ≤ 2 ^ 55 + 3 * s + 2) where

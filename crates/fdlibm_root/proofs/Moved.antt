@@ -1,5 +1,6 @@
 -- A subnormal significand t, moved up by k places to d: what the loop of `subnormal_pattern` keeps.
-use Rattle.prelude.proofs.Logic.{_≡_, sym, ap, _∙_, ℕ, _+_, _-_, _*_, _^_, _≤_, _<_, mul-assoc, mul-le-mul-right, pow-suc, add-one, arith, pow-add, pow-mono}
+use Rattle.prelude.proofs.Logic.{_≡_, sym, ap, _∙_, ℕ, _+_, _-_, _*_, _^_, _≤_, _<_, mul-assoc, mul-le-mul-right, pow-suc, add-one, arith}
+use Rattle.prelude.proofs.Logic.{pow-add, pow-mono}
 
 pub record Shifted53 (t d k : ℕ) : Type 0 where
   pub is : d ≡ t * 2 ^ k

@@ -1,7 +1,12 @@
 -- The root is the float that is nearest to the exact root: specs/Nearest.antt's `SqrtIsNearest`.
 -- In units of w = 2 ^ j the exact root is √M and the float is s, where s * (s - 1) < M ≤ s * (s + 1). Another float is a multiple of w,
--- so that the middle is s - 1/2 at most or s + 1/2 at least; or it lies below 2 ^ 52 * w, where floats are closer to each other, and s is then 2 ^ 52 at least.
-use Rattle.prelude.proofs.Logic.{_≡_, refl, sym, ap, _∙_, subst, Bool, true, false, _⊎_, inl, inr, ℕ, zero, suc, _+_, _-_, _*_, _/_, _%_, _^_, _≤_, _<_, le-trans, le-add-left, lt-irrefl, lt-of-not-le, not-le-of-lt, zero-lt-suc, zero-mul, suc-mul, le-of-lt, lt-of-le-of-lt, lt-of-lt-of-le, lt-of-mul-lt-mul-right, mul-assoc, mul-comm, mul-left-comm, add-mul, mul-le-mul, mul-le-mul-right, mul-lt-mul-of-pos-right, arith, leb, pow-add, pow-pos, pow-mono, leb-true, leb-false}
+-- so that the middle is s - 1/2 at most or s + 1/2 at least; or it lies below 2 ^ 52 * w, where floats are closer to each other, and s is
+-- then 2 ^ 52 at least.
+use Rattle.prelude.proofs.Logic.{_≡_, refl, sym, ap, _∙_, subst, Bool, true, false, _⊎_, inl, inr, ℕ, zero, suc, _+_, _-_, _*_, _/_, _%_}
+use Rattle.prelude.proofs.Logic.{_^_, _≤_, _<_, le-trans, le-add-left, lt-irrefl, lt-of-not-le, not-le-of-lt, zero-lt-suc, zero-mul}
+use Rattle.prelude.proofs.Logic.{suc-mul, le-of-lt, lt-of-le-of-lt, lt-of-lt-of-le, lt-of-mul-lt-mul-right, mul-assoc, mul-comm}
+use Rattle.prelude.proofs.Logic.{mul-left-comm, add-mul, mul-le-mul, mul-le-mul-right, mul-lt-mul-of-pos-right, arith, leb, pow-add}
+use Rattle.prelude.proofs.Logic.{pow-pos, pow-mono, leb-true, leb-false}
 use Rattle.prelude.proofs.Ieee.{binary64, units}
 use Rattle.fdlibm_root.specs.Root.{wholeRoot, sqrtOf}
 use Rattle.fdlibm_root.proofs.RootLaws.{whole-root}
@@ -61,7 +66,8 @@ module _ (s M : ℕ) (low : s * s < M + s) (high : M ≤ s * s + s) where
             lesser : (a b : ℕ) → a < b → b * a < b * b
             lesser a b h = rw (mul-comm b a) (mul-lt-mul-of-pos-right h (omega arith))
 
-    side : (b : ℕ) → (k * w ≤ b → (u : ℕ) × (b ≡ u * w)) → ((b < s * w → (s * w + b) * (s * w + b) < n) × (s * w < b → n < (s * w + b) * (s * w + b)))
+    side : (b : ℕ) → (k * w ≤ b → (u : ℕ) × (b ≡ u * w))
+        → ((b < s * w → (s * w + b) * (s * w + b) < n) × (s * w < b → n < (s * w + b) * (s * w + b)))
     side b whole =
         elim (split (k * w) b) [
           | inl g ↦ let u = whole g in rw (u .1) (multiple-below (u .0), multiple-above (u .0))
@@ -108,12 +114,14 @@ sqrt-is-nearest x a fit value some =
     ap (λ (z : ℕ). z * 2 ^ 126) (x-is .is) ∙ sym (moved q k p (wide .few)) ∙ halved D E i (omega (arith, wide .few)) refl in
     let root : sqrtOf x ≡ units binary64 false s (i + 475) = value-root x a some value ∙ rounded-units m s i (a * 2 ^ 126) near m-lo d is in
     let square : 4 * (a * 2 ^ 1074) ≡ 4 * (m * 2 ^ 52) * (w * w) =
-    ap (λ (z : ℕ). 4 * z) (sym (mul-assoc a (2 ^ 126) (2 ^ 948))) ∙ scaled (a * 2 ^ 126) (m * 2 ^ 52) (2 ^ i) (2 ^ 475) (2 ^ 948) w is refl (pow-add 2 i 475) in
+    ap (λ (z : ℕ). 4 * z) (sym (mul-assoc a (2 ^ 126) (2 ^ 948)))
+    ∙ scaled (a * 2 ^ 126) (m * 2 ^ 52) (2 ^ i) (2 ^ 475) (2 ^ 948) w is refl (pow-add 2 i 475) in
     record {
       size = s * w;
       value = rw root (units-value s (i + 475) d);
       nearest = λ y b y-fit y-value.
-          let sides = side s (m * 2 ^ 52) (near .low) (near .high) (2 ^ 52) w (4 * (a * 2 ^ 1074)) (pow-pos (i + 475)) (d .low) (mul-le-mul-right (2 ^ 52) m-lo) square b (multiple b (i + 475) (written y b y-fit y-value)) in
+          let sides = side s (m * 2 ^ 52) (near .low) (near .high) (2 ^ 52) w (4 * (a * 2 ^ 1074)) (pow-pos (i + 475)) (d .low)
+          (mul-le-mul-right (2 ^ 52) m-lo) square b (multiple b (i + 475) (written y b y-fit y-value)) in
           record { from-below = sides .0; from-above = sides .1 };
     }
   where

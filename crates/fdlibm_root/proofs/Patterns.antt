@@ -1,6 +1,9 @@
 -- From the pattern of a float above 0 to the whole number whose root `sqrtOf` takes.
-use Rattle.prelude.proofs.Logic.{_≡_, refl, sym, ap, _∙_, subst, Bool, true, false, cond, false≢true, inl, inr, ℕ, zero, suc, _+_, _-_, _*_, _/_, _%_, _^_, _≤_, _<_, add-comm, eq-zero-or-pos, lt-irrefl, mod-eq-of-lt, mul-assoc, mul-div-cancel, mul-one, mul-pos, mul-right-comm, arith, T, leb, eqb, pos, pow-add, pow-pos, leb-false, eqb-true}
-use Rattle.prelude.proofs.Ieee.{Float, nan, inf, fin, binary64, up, down, fits, lt, odd, ofFields, ofBits, toBits, down-pos, HasValue, odd-sign, ofBits-toBits, positive, positive-of-value}
+use Rattle.prelude.proofs.Logic.{_≡_, refl, sym, ap, _∙_, subst, Bool, true, false, cond, false≢true, inl, inr, ℕ, zero, suc, _+_, _-_, _*_}
+use Rattle.prelude.proofs.Logic.{_/_, _%_, _^_, _≤_, _<_, add-comm, eq-zero-or-pos, lt-irrefl, mod-eq-of-lt, mul-assoc, mul-div-cancel}
+use Rattle.prelude.proofs.Logic.{mul-one, mul-pos, mul-right-comm, arith, T, leb, eqb, pos, pow-add, pow-pos, leb-false, eqb-true}
+use Rattle.prelude.proofs.Ieee.{Float, nan, inf, fin, binary64, up, down, fits, lt, odd, ofFields, ofBits, toBits, down-pos, HasValue}
+use Rattle.prelude.proofs.Ieee.{odd-sign, ofBits-toBits, positive, positive-of-value}
 use Rattle.fdlibm_root.specs.Root.{roundedRoot, sqrtOf}
 
 -- ---- what the fields of a pattern say of a float above 0
@@ -31,7 +34,8 @@ normal-value : (E t : ℕ) → 0 < E → E < 2047 → HasValue (ofFields binary6
 unfolding ofFields
 normal-value zero t h k = absurd (lt-irrefl 0 h)
 normal-value (suc E) t h k =
-    subst (λ (z : ℕ). HasValue (ofFields binary64 false (suc E) t) false ((2 ^ 52 + t) * 2 ^ z) (2 ^ 1074)) (less E) (go (eqb (suc E) 2047) refl)
+    subst (λ (z : ℕ). HasValue (ofFields binary64 false (suc E) t) false ((2 ^ 52 + t) * 2 ^ z) (2 ^ 1074)) (less E)
+    (go (eqb (suc E) 2047) refl)
   where
     less : (E : ℕ) → E ≡ suc E - 1
     less E = omega arith
@@ -97,7 +101,8 @@ module _ (x : Float) (h : fits binary64 x ≡ true) (up : Above x) where
   subnormal-root small =
       let b = toBits binary64 x in let E : b / 2 ^ 52 ≡ 0 = omega arith in
       let is : x ≡ ofFields binary64 false 0 b =
-      fields-of x h up .1 ∙ ap (λ (z : ℕ). ofFields binary64 false z (b % 2 ^ 52)) E ∙ ap (λ (z : ℕ). ofFields binary64 false 0 z) (mod-eq-of-lt small) in
+      fields-of x h up .1 ∙ ap (λ (z : ℕ). ofFields binary64 false z (b % 2 ^ 52)) E
+      ∙ ap (λ (z : ℕ). ofFields binary64 false 0 z) (mod-eq-of-lt small) in
       value-root x b not-zero (subst (λ (z : Float). HasValue z false b (2 ^ 1074)) (sym is) (subnormal-value b))
 
   pub normal-root : 2 ^ 52 ≤ toBits binary64 x → toBits binary64 x < 0x7ff0_0000_0000_0000
@@ -108,13 +113,15 @@ module _ (x : Float) (h : fits binary64 x ≡ true) (up : Above x) where
       subst (λ (z : Float). HasValue z false w (2 ^ 1074)) (sym (fields-of x h up .1)) (normal-value E t (omega arith) (omega arith)) in
       let exponent : E - 1 + 126 ≡ E + 1023 - 898 = omega arith in
       let scaled : w * 2 ^ 126 ≡ (2 ^ 52 + t) * 2 ^ (E + 1023 - 898) =
-      mul-assoc (2 ^ 52 + t) (2 ^ (E - 1)) (2 ^ 126) ∙ ap (λ (z : ℕ). (2 ^ 52 + t) * z) (sym (pow-add 2 (E - 1) 126) ∙ ap (λ (z : ℕ). 2 ^ z) exponent) in
+      mul-assoc (2 ^ 52 + t) (2 ^ (E - 1)) (2 ^ 126)
+      ∙ ap (λ (z : ℕ). (2 ^ 52 + t) * z) (sym (pow-add 2 (E - 1) 126) ∙ ap (λ (z : ℕ). 2 ^ z) exponent) in
       value-root x w (mul-pos (omega arith) (pow-pos (E - 1))) value
       ∙ ap roundedRoot (scaled ∙ ap (λ (z : ℕ). z * 2 ^ (E + 1023 - 898)) (add-comm (2 ^ 52) t))
 
   pub infinite-root : 0x7ff0_0000_0000_0000 ≤ toBits binary64 x → x ≡ sqrtOf x
   infinite-root lo =
       let b = toBits binary64 x in let E : b / 2 ^ 52 ≡ 2047 = omega (arith, fields-of x h up .0) in
-      let is : x ≡ ofFields binary64 false 2047 (b % 2 ^ 52) = fields-of x h up .1 ∙ ap (λ (z : ℕ). ofFields binary64 false z (b % 2 ^ 52)) E in
+      let is : x ≡ ofFields binary64 false 2047 (b % 2 ^ 52) = fields-of x h up .1
+      ∙ ap (λ (z : ℕ). ofFields binary64 false z (b % 2 ^ 52)) E in
       let inf : x ≡ inf false = is ∙ infinite (b % 2 ^ 52) (subst Above is up) in
       inf ∙ own ∙ ap sqrtOf (sym inf)

@@ -1,5 +1,6 @@
 -- `wholeRoot n` is the whole part of n's square root, and a number has only one.
-use Rattle.prelude.proofs.Logic.{_≡_, refl, Bool, true, false, cond, ℕ, zero, suc, _+_, _*_, _/_, _^_, _≤_, _<_, lt-of-le-of-lt, lt-of-lt-of-le, mul-le-mul, pow-suc, pow-le-pow-left, arith, leb, lit≤, leb-true, leb-false}
+use Rattle.prelude.proofs.Logic.{_≡_, refl, Bool, true, false, cond, ℕ, zero, suc, _+_, _*_, _/_, _^_, _≤_, _<_, lt-of-le-of-lt}
+use Rattle.prelude.proofs.Logic.{lt-of-lt-of-le, mul-le-mul, pow-suc, pow-le-pow-left, arith, leb, lit≤, leb-true, leb-false}
 use Rattle.prelude.proofs.Ieee.{size, size-lt}
 use Rattle.fdlibm_root.specs.Root.{Root, digits, wholeRoot}
 

@@ -1,7 +1,11 @@
 -- `round` of a number in the binade of s, and within half a unit of s, is s; and the pattern of that float.
-use Rattle.prelude.proofs.Logic.{_≡_, sym, ap, _∙_, subst, true, false, not, true≢false, ℕ, _+_, _-_, _*_, _/_, _%_, _^_, _≤_, _<_, compare, Ordering, Ordering·lt, Ordering·eq, Ordering·gt, lt-of-lt-of-le, lt-of-not-le, not-le-of-lt, lt-of-mul-lt-mul-right, mul-assoc, mul-pos, mul-div-cancel, mul-le-mul-right, div-add-mod', mod-lt, arith, T, isLe, isEq, leb→le, nleb→lt, eqb→eq, eqb-refl, eqb, pow-add, pow-pos, pow-mono, shl-lt}
+use Rattle.prelude.proofs.Logic.{_≡_, sym, ap, _∙_, subst, true, false, not, true≢false, ℕ, _+_, _-_, _*_, _/_, _%_, _^_, _≤_, _<_, compare}
+use Rattle.prelude.proofs.Logic.{Ordering, Ordering·lt, Ordering·eq, Ordering·gt, lt-of-lt-of-le, lt-of-not-le, not-le-of-lt}
+use Rattle.prelude.proofs.Logic.{lt-of-mul-lt-mul-right, mul-assoc, mul-pos, mul-div-cancel, mul-le-mul-right, div-add-mod', mod-lt, arith}
+use Rattle.prelude.proofs.Logic.{T, isLe, isEq, leb→le, nleb→lt, eqb→eq, eqb-refl, eqb, pow-add, pow-pos, pow-mono, shl-lt}
 use lib.Arith.{lt-of-le-ne}
-use Rattle.prelude.proofs.Ieee.{Float, fin, binary64, up, down, size, nearest, units, round, fits, toBits, ofBits, size-lt, size-le, round-is, down-pos, closest, closest-same, HasValue, units-val, ofBits-toBits}
+use Rattle.prelude.proofs.Ieee.{Float, fin, binary64, up, down, size, nearest, units, round, fits, toBits, ofBits, size-lt, size-le}
+use Rattle.prelude.proofs.Ieee.{round-is, down-pos, closest, closest-same, HasValue, units-val, ofBits-toBits}
 
 -- ---- the whole number nearest to a / b
 abbrev Compared : Ordering → ℕ → ℕ → Type 0
@@ -49,7 +53,8 @@ dropped n j lo hi =
     let least : 52 + j < size n = lt-of-not-le (λ (g : size n ≤ 52 + j). not-le-of-lt (lt-of-lt-of-le (size-lt n) (pow-mono g)) lo) in
     omega arith
 
-pub round-to : (U D s j : ℕ) → D ≡ 2 ^ 1074 → 2 ^ (52 + j) ≤ U → U < 2 ^ (53 + j) → 2 * s * 2 ^ j < 2 * U + 2 ^ j → 2 * U < 2 * s * 2 ^ j + 2 ^ j
+pub round-to : (U D s j : ℕ) → D ≡ 2 ^ 1074 → 2 ^ (52 + j) ≤ U → U < 2 ^ (53 + j) → 2 * s * 2 ^ j < 2 * U + 2 ^ j
+    → 2 * U < 2 * s * 2 ^ j + 2 ^ j
     → round binary64 false U D ≡ units binary64 false s j
 round-to U D s j e lo hi near-lo near-hi =
     let P : 0 < D = rw e (pow-pos 1074) in let whole : U * 2 ^ 1074 / D ≡ U = rw (← e) (mul-div-cancel U P) in
@@ -58,7 +63,8 @@ round-to U D s j e lo hi near-lo near-hi =
     round-is binary64 false U D
     ∙ ap (λ (z : ℕ). units binary64 false (closest (U * 2 ^ 1074) (D * 2 ^ z)) z) k
     ∙ ap (λ (z : ℕ). units binary64 false z j)
-    (closest-same (U * 2 ^ 1074) (D * 2 ^ j) U (2 ^ j) (mul-pos P (pow-pos j)) (pow-pos j) scaled ∙ closest-is U (2 ^ j) s (pow-pos j) near-lo near-hi)
+    (closest-same (U * 2 ^ 1074) (D * 2 ^ j) U (2 ^ j) (mul-pos P (pow-pos j)) (pow-pos j) scaled
+    ∙ closest-is U (2 ^ j) s (pow-pos j) near-lo near-hi)
 
 -- ---- the pattern of s * 2 ^ j smallest floats, s having 53 digits
 pattern-is : (v : Float) (s j : ℕ) → 2 ^ (52 + j) ≤ s * 2 ^ j → s * 2 ^ j < 2 ^ (53 + j) → HasValue v false (s * 2 ^ j) (2 ^ 1074)
@@ -88,7 +94,8 @@ units-value s j d = units-val binary64 false s j (lt-of-lt-of-le (shl-lt 53 j (d
     fewer : (j : ℕ) → j < 2045 → 53 + j ≤ 2098
     fewer j h = omega arith
 
-pub units-pattern : (s j : ℕ) → FullWidth s j → T (fits binary64 (units binary64 false s j)) → units binary64 false s j ≡ ofBits binary64 (j * 2 ^ 52 + s)
+pub units-pattern : (s j : ℕ) → FullWidth s j → T (fits binary64 (units binary64 false s j))
+    → units binary64 false s j ≡ ofBits binary64 (j * 2 ^ 52 + s)
 units-pattern s j d fine =
     let bottom : 2 ^ (52 + j) ≤ s * 2 ^ j = rw (pow-add 2 52 j) (mul-le-mul-right (2 ^ j) (d .low)) in
     sym (ofBits-toBits binary64 (units binary64 false s j) fine)

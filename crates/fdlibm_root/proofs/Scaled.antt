@@ -1,4 +1,4 @@
--- The root of d * 2 ^ (a - 2098), for a d of 53 digits: the exponent is halved, and d doubled first where it is odd.
+-- The root of d * 2 ^ (a - 2098), for a d of 53 digits: the exponent is halved, and d doubled first if it is odd.
 use Rattle.prelude.proofs.Logic.{_≡_, refl, ap, _∙_, ℕ, zero, suc, _+_, _-_, _*_, _/_, _%_, _^_, _≤_, _<_, mul-le-mul, arith, pow-add}
 use Rattle.prelude.proofs.Ieee.{binary64, ofBits}
 use Rattle.fdlibm_root.specs.Root.{roundedRoot}
@@ -33,7 +33,8 @@ pub scaled-root : (d a s : ℕ) → 2 ^ 52 ≤ d → d < 2 ^ 53 → 972 ≤ a �
     → roundedRoot (d * 2 ^ (a - 898)) ≡ ofBits binary64 ((a / 2 - 1) * 2 ^ 52 + s)
 scaled-root d a s d-lo d-hi a-lo a-hi near =
     let m = d * (1 + a % 2) in let i = a / 2 - 476 in let same : i + 475 ≡ a / 2 - 1 = omega arith in
-    rounded-root m s i (d * 2 ^ (a - 898)) near (omega arith) (doubled d (a % 2) d-hi (omega arith)) (omega arith) (halved d a i (omega arith) refl)
+    rounded-root m s i (d * 2 ^ (a - 898)) near (omega arith) (doubled d (a % 2) d-hi (omega arith)) (omega arith)
+    (halved d a i (omega arith) refl)
     ∙ ap (λ (z : ℕ). ofBits binary64 (z * 2 ^ 52 + s)) same
 
 pub scaled-fits : (d a s : ℕ) → d < 2 ^ 53 → a < 3900 → NearRoot (d * (1 + a % 2)) s → (a / 2 - 1) * 2 ^ 52 + s < 0x7ff0_0000_0000_0000

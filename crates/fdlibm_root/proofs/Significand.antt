@@ -1,5 +1,8 @@
 -- Each float is a significand of at most 53 digits, moved up by some places: how many smallest floats it is, as that product.
-use Rattle.prelude.proofs.Logic.{_≡_, sym, ap, _∙_, subst, Bool, false, _&&_, ℕ, zero, suc, _+_, _-_, _*_, _%_, _^_, _≤_, _<_, lt-of-lt-of-le, not-le-of-lt, zero-mul, mul-one, mul-assoc, mul-right-comm, mul-pos, mul-le-mul-right, mul-lt-mul-of-pos-right, lt-of-mul-lt-mul-right, eq-of-mul-eq-mul-right, arith, T, eqb, leb, ltb, leb→le, ltb→lt, pos, negsuc, pow-add, pow-pos, pow-mono, pow-lt, shl-lt, and-l, and-r}
+use Rattle.prelude.proofs.Logic.{_≡_, sym, ap, _∙_, subst, Bool, false, _&&_, ℕ, zero, suc, _+_, _-_, _*_, _%_, _^_, _≤_, _<_}
+use Rattle.prelude.proofs.Logic.{lt-of-lt-of-le, not-le-of-lt, zero-mul, mul-one, mul-assoc, mul-right-comm, mul-pos, mul-le-mul-right}
+use Rattle.prelude.proofs.Logic.{mul-lt-mul-of-pos-right, lt-of-mul-lt-mul-right, eq-of-mul-eq-mul-right, arith, T, eqb, leb, ltb, leb→le}
+use Rattle.prelude.proofs.Logic.{ltb→lt, pos, negsuc, pow-add, pow-pos, pow-mono, pow-lt, shl-lt, and-l, and-r}
 use Rattle.prelude.proofs.Ieee.{Float, fin, binary64, up, down, size, fits, size-lt, size-le, size-reaches, down-pos, HasValue}
 
 pub record Written (a : ℕ) : Type 0 where
@@ -14,7 +17,8 @@ down-to m a k l h e =
     let over : l < k → ⊥ = λ g. not-le-of-lt (pow-lt g) h in let k-le : k ≤ l = omega (arith, over) in
     let whole : l - k + k ≡ l = omega arith in
     eq-of-mul-eq-mul-right (2 ^ k) (pow-pos k) a (m * 2 ^ (l - k))
-    (sym e ∙ ap (λ (z : ℕ). z * 2 ^ l) (mul-one m) ∙ ap (λ (z : ℕ). m * 2 ^ z) (sym whole) ∙ ap (λ (z : ℕ). m * z) (pow-add 2 (l - k) k) ∙ sym (mul-assoc m (2 ^ (l - k)) (2 ^ k)))
+    (sym e ∙ ap (λ (z : ℕ). z * 2 ^ l) (mul-one m) ∙ ap (λ (z : ℕ). m * 2 ^ z) (sym whole) ∙ ap (λ (z : ℕ). m * z) (pow-add 2 (l - k) k)
+    ∙ sym (mul-assoc m (2 ^ (l - k)) (2 ^ k)))
 
 -- the four tests of `fits`
 tests : (a b c d : Bool) → T (a && b && c && d) → T b × T c × T d
@@ -37,7 +41,8 @@ written (fin s (suc m) (pos k)) a h v =
       digits = suc m;
       places = k + 1074;
       is = sym (mul-one a) ∙ sym (v .1) ∙ mul-assoc (suc m) (2 ^ k) (2 ^ 1074) ∙ ap (λ (z : ℕ). suc m * z) (sym (pow-add 2 k 1074));
-      few = ltb→lt (suc m) (2 ^ 53) (tests (eqb (suc m % 2) 1) (ltb (suc m) (2 ^ 53)) (leb 1 (2 ^ 1074)) (ltb (suc m * 2 ^ k) (2 ^ 1024 * 1)) h .0);
+      few = ltb→lt (suc m) (2 ^ 53)
+          (tests (eqb (suc m % 2) 1) (ltb (suc m) (2 ^ 53)) (leb 1 (2 ^ 1074)) (ltb (suc m * 2 ^ k) (2 ^ 1024 * 1)) h .0);
     }
 written (fin s (suc m) (negsuc k)) a h v =
     let t = tests (eqb (suc m % 2) 1) (ltb (suc m) (2 ^ 53)) (leb (2 ^ suc k) (2 ^ 1074)) (ltb (suc m * 1) (2 ^ 1024 * 2 ^ suc k)) h in
@@ -74,8 +79,10 @@ widened q some few =
 pub multiple : (b j : ℕ) → Written b → 2 ^ 52 * 2 ^ j ≤ b → (u : ℕ) × (b ≡ u * 2 ^ j)
 multiple b j w h =
     let q = w .digits in let k = w .places in let less : k < j → ⊥ = λ g. not-le-of-lt (small q k (w .few) (w .is) g) h in
-    let j-le : j ≤ k = omega (arith, less) in let whole : k - j + j ≡ k = omega arith in
-    (q * 2 ^ (k - j), w .is ∙ ap (λ (z : ℕ). q * 2 ^ z) (sym whole) ∙ ap (λ (z : ℕ). q * z) (pow-add 2 (k - j) j) ∙ sym (mul-assoc q (2 ^ (k - j)) (2 ^ j)))
+    let j-le : j ≤ k = omega (arith, less) in let whole : k - j + j ≡ k = omega arith in (
+      q * 2 ^ (k - j),
+      w .is ∙ ap (λ (z : ℕ). q * 2 ^ z) (sym whole) ∙ ap (λ (z : ℕ). q * z) (pow-add 2 (k - j) j) ∙ sym (mul-assoc q (2 ^ (k - j)) (2 ^ j)),
+    )
   where
     small : (q k : ℕ) → q < 2 ^ 53 → b ≡ q * 2 ^ k → k < j → b < 2 ^ 52 * 2 ^ j
     small q k few is g =
@@ -86,8 +93,11 @@ multiple b j w h =
 pub bounded : (x : Float) (a : ℕ) → T (fits binary64 x) → HasValue x false a (2 ^ 1074) → a < 2 ^ 2098
 unfolding fits
 bounded (fin s zero e) a h v =
-    lt-of-mul-lt-mul-right (down e) (subst (λ (z : ℕ). z < 2 ^ 2098 * down e) (v .1) (rw (zero-mul (up e)) (mul-pos (pow-pos 2098) (down-pos e))))
+    lt-of-mul-lt-mul-right (down e)
+    (subst (λ (z : ℕ). z < 2 ^ 2098 * down e) (v .1) (rw (zero-mul (up e)) (mul-pos (pow-pos 2098) (down-pos e))))
 bounded (fin s (suc m) e) a h v =
     let t = tests (eqb (suc m % 2) 1) (ltb (suc m) (2 ^ 53)) (leb (down e) (2 ^ 1074)) (ltb (suc m * up e) (2 ^ 1024 * down e)) h in
-    let less : suc m * up e * 2 ^ 1074 < 2 ^ 1024 * down e * 2 ^ 1074 = mul-lt-mul-of-pos-right (ltb→lt (suc m * up e) (2 ^ 1024 * down e) (t .2)) (pow-pos 1074) in
-    lt-of-mul-lt-mul-right (down e) (rw (← v .1) (subst (λ (z : ℕ). suc m * up e * 2 ^ 1074 < z) (mul-right-comm (2 ^ 1024) (down e) (2 ^ 1074)) less))
+    let less : suc m * up e * 2 ^ 1074 < 2 ^ 1024 * down e * 2 ^ 1074 =
+    mul-lt-mul-of-pos-right (ltb→lt (suc m * up e) (2 ^ 1024 * down e) (t .2)) (pow-pos 1074) in
+    lt-of-mul-lt-mul-right (down e)
+    (rw (← v .1) (subst (λ (z : ℕ). suc m * up e * 2 ^ 1074 < z) (mul-right-comm (2 ^ 1024) (down e) (2 ^ 1074)) less))

@@ -1,5 +1,6 @@
 -- The roots that are no numbers above 0: a zero's is the zero itself, and what is neither above 0 nor a zero has none.
-use Rattle.prelude.proofs.Logic.{_≡_, refl, sym, ap, _∙_, subst, Bool, true, false, _&&_, _||_, Bool·beq, false≢true, true≢false, ℕ, zero, suc, _*_, _<_, lt-irrefl, mul-pos, zero-lt-suc, zero-mul, T, eqb, ltb, eqb→eq, lt→ltb, ℤ, pos, and-l}
+use Rattle.prelude.proofs.Logic.{_≡_, refl, sym, ap, _∙_, subst, Bool, true, false, _&&_, _||_, Bool·beq, false≢true, true≢false, ℕ, zero}
+use Rattle.prelude.proofs.Logic.{suc, _*_, _<_, lt-irrefl, mul-pos, zero-lt-suc, zero-mul, T, eqb, ltb, eqb→eq, lt→ltb, ℤ, pos, and-l}
 use Rattle.prelude.proofs.Ieee.{Float, nan, inf, fin, up, down, lt, eq, is-true, up-pos}
 use Rattle.fdlibm_root.specs.Root.{sqrtOf}
 
@@ -18,7 +19,8 @@ zero-root (inf false) h = refl
 zero-root (fin s zero e) h = refl
 zero-root (fin s (suc m) e) h =
     let a = suc m * up e * 1 in
-    let same : a ≡ 0 * 1 * down e = eqb→eq a (0 * 1 * down e) (and-l (eqb a (0 * 1 * down e)) (Bool·beq s false || eqb a 0) (subst T (sym h) tt)) in
+    let same : a ≡ 0 * 1 * down e =
+    eqb→eq a (0 * 1 * down e) (and-l (eqb a (0 * 1 * down e)) (Bool·beq s false || eqb a 0) (subst T (sym h) tt)) in
     absurd (lt-irrefl 0 (subst (λ (z : ℕ). 0 < z) (same ∙ size-zero 1 (down e)) (size-above m e)))
 
 pub no-root : (x : Float) → lt (fin false 0 (pos 0)) x ≡ false → eq x (fin false 0 (pos 0)) ≡ false → nan ≡ sqrtOf x
@@ -26,7 +28,8 @@ unfolding lt eq sqrtOf
 no-root nan h k = refl
 no-root (inf true) h k = refl
 no-root (inf false) h k = absurd (true≢false h)
-no-root (fin s zero e) h k = absurd (true≢false (sym (equal s (0 * up e * 1) (0 * 1 * down e) (size-zero (up e) 1) (size-zero 1 (down e))) ∙ k))
+no-root (fin s zero e) h k =
+    absurd (true≢false (sym (equal s (0 * up e * 1) (0 * 1 * down e) (size-zero (up e) 1) (size-zero 1 (down e))) ∙ k))
   where
     equal : (s : Bool) (a b : ℕ) → a ≡ 0 → b ≡ 0 → (eqb a b && (Bool·beq s false || eqb a 0)) ≡ true
     equal true a b p q = simp (p, q)

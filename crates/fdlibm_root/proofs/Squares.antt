@@ -1,5 +1,6 @@
 -- What a turn of the digit loop keeps, what it gives at the end, and how its last digit rounds.
-use Rattle.prelude.proofs.Logic.{_≡_, refl, ap, _⊎_, inl, inr, ℕ, zero, suc, _+_, _-_, _*_, _/_, _%_, _^_, _≤_, _<_, lt-of-lt-of-le, pow-le-pow-right, pow-suc, add-one, arith, lit<}
+use Rattle.prelude.proofs.Logic.{_≡_, refl, ap, _⊎_, inl, inr, ℕ, zero, suc, _+_, _-_, _*_, _/_, _%_, _^_, _≤_, _<_, lt-of-lt-of-le}
+use Rattle.prelude.proofs.Logic.{pow-le-pow-right, pow-suc, add-one, arith, lit<}
 use Rattle.fdlibm_root.specs.Root.{Root}
 use Rattle.fdlibm_root.specs.Near.{NearRoot}
 
@@ -15,7 +16,7 @@ pub record Kept (m q left rest i : ℕ) : Type 0 where
 fits : (i q : ℕ) → i ≤ 54 → q < 2 ^ i → q < 2 ^ 54
 fits i q h l = lt-of-lt-of-le l (pow-le-pow-right (lit< tt) h)
 
--- the next digit is 1 where p, what is left with two more digits of m, is 4 * q + 1 at least, and 0 elsewhere
+-- the next digit is 1 if p, what is left with two more digits of m, is 4 * q + 1 at least, else 0
 one : (m q left rest w p : ℕ) → (q * q + left) * 2 ^ 54 + rest ≡ m * w → p ≡ left * 4 + rest / 2 ^ 52 → q * 4 + 1 ≤ p
     → ((q * 2 + 1) * (q * 2 + 1) + (p - (q * 4 + 1))) * 2 ^ 54 + rest % 2 ^ 52 * 4 ≡ m * (w * 4)
 one m q left rest w p e is h = omega arith
@@ -75,5 +76,6 @@ even-or-odd q s (suc r) e h = inl (omega arith)
 pub rounded : (m q s : ℕ) → 0 < m → Root (m * 2 ^ 54) q → s ≡ (q + 1) / 2 → NearRoot m s
 rounded m q s h root e =
     let least : 0 < q = some (m * 2 ^ 54) q (omega arith) (root .above) in
-    let bounds = halves (m * 2 ^ 52) q s (omega (arith, root .within)) (omega (arith, root .above)) (omega arith) (even-or-odd q s ((q + 1) % 2) e refl) in
+    let bounds = halves (m * 2 ^ 52) q s (omega (arith, root .within)) (omega (arith, root .above)) (omega arith)
+    (even-or-odd q s ((q + 1) % 2) e refl) in
     record { low = bounds .0; high = bounds .1 }

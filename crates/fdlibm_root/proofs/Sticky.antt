@@ -1,7 +1,10 @@
 -- From the whole number s nearest to the root of m * 2 ^ 52 to the float that `roundedRoot` defines.
 -- With n = 4 * m * 2 ^ 52 * P * P the root of n lies strictly between (2 s - 1) * P and (2 s + 1) * P,
 -- and so does half of what is rounded, the cut root with the digit that stands for the rest.
-use Rattle.prelude.proofs.Logic.{_≡_, refl, sym, ap, _∙_, Bool, true, false, cond, ℕ, _+_, _-_, _*_, _^_, _≤_, _<_, lt-trans, lt-of-le-of-lt, lt-of-not-le, mul-comm, mul-assoc, mul-left-comm, mul-add, add-mul, mul-pos, mul-le-mul, mul-le-mul-left, mul-le-mul-right, mul-lt-mul-of-pos-right, arith, T, eqb, lit≤, pow-add, pow-pos, eqb-true}
+use Rattle.prelude.proofs.Logic.{_≡_, refl, sym, ap, _∙_, Bool, true, false, cond, ℕ, _+_, _-_, _*_, _^_, _≤_, _<_, lt-trans}
+use Rattle.prelude.proofs.Logic.{lt-of-le-of-lt, lt-of-not-le, mul-comm, mul-assoc, mul-left-comm, mul-add, add-mul, mul-pos, mul-le-mul}
+use Rattle.prelude.proofs.Logic.{mul-le-mul-left, mul-le-mul-right, mul-lt-mul-of-pos-right, arith, T, eqb, lit≤, pow-add, pow-pos}
+use Rattle.prelude.proofs.Logic.{eqb-true}
 use Rattle.prelude.proofs.Ieee.{binary64, units, fits, ofBits, round-fits, round-same}
 use Rattle.fdlibm_root.specs.Root.{Root, wholeRoot, rest, roundedRoot}
 use Rattle.fdlibm_root.proofs.RootLaws.{whole-root, smaller}
@@ -94,8 +97,10 @@ rounded-units m s i n near m-lo d is =
     let root = whole-root n in let t = 2 * s - 1 in let w = 2 ^ (i + 475) in let odd : t + 1 ≡ 2 * s = twice s (d .low) in
     let unit : w ≡ 4 * (P * Q) = pow-add 2 i 475 ∙ mul-left-comm P 4 Q in
     let lo : 2 * (t * P) < v = below-root n r (t * P) root (square-above M P n (pow-pos i) is t (odd-below s t M odd (near .low))) in
-    let hi : v < 2 * ((2 * s + 1) * P) = above-root n r ((2 * s + 1) * P) root (square-below M P n (pow-pos i) is (2 * s + 1) (odd-above s M (near .high))) in
-    let leading : 2 ^ 53 * P * (2 ^ 53 * P) ≤ n = square-within M P n (pow-pos i) is (2 ^ 53) (mul-le-mul-left 4 (mul-le-mul-right (2 ^ 52) m-lo)) in
+    let hi : v < 2 * ((2 * s + 1) * P) =
+    above-root n r ((2 * s + 1) * P) root (square-below M P n (pow-pos i) is (2 * s + 1) (odd-above s M (near .high))) in
+    let leading : 2 ^ 53 * P * (2 ^ 53 * P) ≤ n =
+    square-within M P n (pow-pos i) is (2 ^ 53) (mul-le-mul-left 4 (mul-le-mul-right (2 ^ 52) m-lo)) in
     let first : 2 ^ 53 * P < r + 1 = smaller (2 ^ 53 * P) (r + 1) (lt-of-le-of-lt leading (root .above)) in
     round-same binary64 false v (2 ^ 601) (v * Q) (2 ^ 1074) (pow-pos 601) (pow-pos 1074) (sym (mul-assoc v Q (2 ^ 601)))
     ∙ round-to (v * Q) (2 ^ 1074) s (i + 475) refl

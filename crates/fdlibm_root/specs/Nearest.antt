@@ -1,5 +1,5 @@
--- What the root promises over whole numbers alone, so that nothing of how `sqrtOf` rounds need be believed: no other float is as near to the exact root.
--- Sizes are counted in the smallest float, 2 ^ -1074. Of an x that is a of them, the exact root is √(a * 2 ^ 1074) of them.
+-- What the root promises over whole numbers alone, so that nothing of how `sqrtOf` rounds need be believed: no other float is as near to
+-- the exact root. Sizes are counted in the smallest float, 2 ^ -1074. Of an x that is a of them, the exact root is √(a * 2 ^ 1074) of them.
 use Prim.Native.Nat.{ℕ, _+_, _*_, _^_, _<_}
 use mathlib.Core.Bool.{false}
 use lib.Dec.{T}

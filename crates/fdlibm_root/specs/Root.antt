@@ -10,7 +10,7 @@ pub record Root (n r : ℕ) : Type 0 where
   pub above : n < (r + 1) * (r + 1)
 
 -- The whole part of the square root of an n below 4 ^ k, a binary digit at a time:
--- twice the root of a quarter of n, or one more where the square of that is still within n.
+-- twice the root of a quarter of n, or one more if the square of that is still within n.
 unfoldable pub digits : ℕ → ℕ → ℕ
 digits zero n = 0
 digits (suc k) n = let r = 2 * digits k (n / 4) in cond (leb ((r + 1) * (r + 1)) n) (r + 1) r
@@ -19,7 +19,7 @@ digits (suc k) n = let r = 2 * digits k (n / 4) in cond (leb ((r + 1) * (r + 1))
 unfoldable pub wholeRoot : ℕ → ℕ
 wholeRoot n = digits (size n) n
 
--- 0 where r is all of n's root, and 1 where something was cut off
+-- 0 if r is all of n's root, and 1 if something was cut off
 abbrev pub rest : ℕ → ℕ → ℕ
 rest n r = cond (eqb (r * r) n) 0 1
 

@@ -1,4 +1,5 @@
-// A candidate for the whole number nearest to the root of m * 2^52, by floats, and whole-number arithmetic that decides whether it is right.
+// A candidate for the whole number nearest to the root of m * 2^52, by floats, and whole-number arithmetic that decides whether it is
+// right.
 ghost use mathlib.Core.Path.{_≡_};
 ghost use Prim.Native.Nat.{_+_, _*_, _^_, _<_};
 ghost use Rattle.fdlibm_root.specs.Near.{NearRoot};
@@ -33,7 +34,7 @@ pub fn estimate(pattern: u64) -> u64
     }
 }
 
-// OFFSET + m * 2^52 - s * s, or 0 where the tests do not show that it is near OFFSET and can be worked out without a carry.
+// OFFSET + m * 2^52 - s * s, or 0 if the tests do not show that it is near OFFSET and can be worked out without a carry.
 // With s = a * 2^27 + b the difference is e * 2^52 - 2 * a * b * 2^27 - b * b, where e = m - 4 * a * a.
 // `over` and `under` count the multiples of 2^27 in OFFSET and e * 2^52, and in the rest.
 fn residue(m: u64, s: u64) -> u64
@@ -56,7 +57,7 @@ fn residue(m: u64, s: u64) -> u64
     0
 }
 
-// The whole number nearest to the root of m * 2^52 where it is s or next to s, and 0 elsewhere. For s + 1 it is, for example, where
+// The whole number nearest to the root of m * 2^52 if that is s or a neighbour of s, else 0. It is s + 1, for example, if
 // m * 2^52 - s * s is above s, from s * (s + 1) on, and at most 3 * s + 2, up to (s + 1) * (s + 2).
 pub fn corrected(m: u64, s: u64) -> u64
     requires { ⌜ (m < 2 ^ 54) × (s < 2 ^ 53) ⌝ }

@@ -2,13 +2,13 @@
 //
 // Method.
 //   1. A NaN and a number below zero have no root; a zero and the infinity are their own.
-//   2. Any other x is m * 4^k for a whole m with 2^52 <= m < 2^54: its significand, moved up to 53 digits where x is subnormal, and
-//      doubled where the exponent is odd. The root is sqrt(m * 2^52) * 2^(k - 26), and sqrt(m * 2^52) lies in [2^52, 2^53).
+//   2. Any other x is m * 4^k for a whole m with 2^52 <= m < 2^54: its significand, moved up to 53 digits if x is subnormal, and
+//      doubled if the exponent is odd. The root is sqrt(m * 2^52) * 2^(k - 26), and sqrt(m * 2^52) lies in [2^52, 2^53).
 //      So the significand of the rounded root is the whole number s nearest to it: s * (s - 1) < m * 2^52 <= s * (s + 1).
 //      It is never a tie, since the square of s + 1/2 is not whole.
 //   3. certify.rt has a candidate for s, made by floats with no bound on their errors, and the exact difference of its square and
 //      m * 2^52 in whole numbers, which tells whether the candidate or a neighbour of it is s.
-//   4. Where neither is, which is rare, digits.rt finds s one binary digit at a time.
+//   4. If neither is, which is rare, digits.rt finds s one binary digit at a time.
 //   Both promise of s what step 2 says, and the proof takes no more of them: the result does not depend on the candidate.
 ghost use mathlib.Core.Path.{_≡_};
 ghost use Prim.Native.Nat.{_+_, _*_, _-_, _^_, _≤_, _<_};
@@ -23,7 +23,7 @@ use crate::digits::by_digits;
 // the infinity's pattern
 const INFINITY: u64 = 0x7ff0_0000_0000_0000;
 
-// The whole number nearest to the root of m * 2^52, where m is the significand, doubled where `odd` is 1.
+// The whole number nearest to the root of m * 2^52, where m is the significand, doubled if `odd` is 1.
 fn nearest(significand: u64, odd: u64) -> u64
     requires { ⌜ (2 ^ 52 ≤ significand) × (significand < 2 ^ 53) × (odd < 2) ⌝ }
     ensures { λ r. ⌜ NearRoot (significand * (1 + odd)) r ⌝ }
@@ -33,7 +33,8 @@ fn nearest(significand: u64, odd: u64) -> u64
     if s == 0 { by_digits(m) } else { s }
 }
 
-// The pattern of the root of significand * 2^(exponent - 2098). The leading digit of the root's significand adds one to the exponent's field.
+// The pattern of the root of significand * 2^(exponent - 2098). The leading digit of the root's significand adds one to the exponent's
+// field.
 fn root_pattern(significand: u64, exponent: u64) -> u64
     requires { ⌜ (2 ^ 52 ≤ significand) × (significand < 2 ^ 53) × (972 ≤ exponent) × (exponent < 3900) ⌝ }
     ensures { λ r. ⌜ (ofBits binary64 r ≡ roundedRoot (significand * 2 ^ (exponent - 898))) × (r < 0x7ff0_0000_0000_0000) ⌝ }

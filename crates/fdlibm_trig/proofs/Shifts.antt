@@ -9,4 +9,5 @@ shifted n h = mod-eq-of-lt (omega arith)
 pub below-inf : (n : ℕ) → n < 0x7ff0_0000_0000_0000 → T (not (nanBits binary64 n))
 below-inf n h =
     let m : n % 0x8000_0000_0000_0000 ≤ n = mod-le n 0x8000_0000_0000_0000 in
-    subst (λ (b : Bool). T (not b)) (sym (nanBits-above binary64 n ∙ le-ltb 0x7ff0_0000_0000_0000 (n % 0x8000_0000_0000_0000) (omega arith))) tt
+    subst (λ (b : Bool). T (not b))
+    (sym (nanBits-above binary64 n ∙ le-ltb 0x7ff0_0000_0000_0000 (n % 0x8000_0000_0000_0000) (omega arith))) tt

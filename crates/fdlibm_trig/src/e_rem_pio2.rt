@@ -4,9 +4,9 @@
 // fdlibm's medium case goes on to 2^19 π/2. Its large case is not here: sin, cos and tan ask for no x beyond 70.
 ghost use mathlib.Core.Path.{_≡_};
 ghost use Prim.Native.Nat.{_<_};
-ghost use Rattle.fdlibm_trig.specs.RemPio2.{npio2Of, exponentOf, lessOf, moreOf, iterationOf, refineOf, differenceOf, mediumOf, oppositeOf, nearOf, nearNegativeOf, remPio2Of};
+ghost use Rattle.fdlibm_trig.specs.RemPio2.{npio2Of, exponentOf, lessOf, moreOf, iterationOf, refineOf, differenceOf, mediumOf};
+ghost use Rattle.fdlibm_trig.specs.RemPio2.{oppositeOf, nearOf, nearNegativeOf, remPio2Of};
 use float64::casts::to_u32;
-use float64::sizes::abs;
 use float64::words::high_word;
 
 const ZERO: f64 = 0.0;
@@ -40,8 +40,8 @@ pub struct Reduced {
     pub y1: f64,
 }
 
-// The high word of n * π/2, n from 1 to 32: fdlibm's npio2_hw[n - 1]. The first part of π/2 alone gives each of them. 0 is taken as 1, and beyond
-// its end the row has 0.
+// The high word of n * π/2, n from 1 to 32: fdlibm's npio2_hw[n - 1]. The first part of π/2 alone gives each of them. 0 is taken as 1, and
+// beyond its end the row has 0.
 fn npio2(n: u32) -> u32
     ensures { λ r. ⌜ r ≡ npio2Of n ⌝ }
 {
@@ -200,8 +200,8 @@ pub fn rem_pio2(x: f64) -> Reduced
             less(1, near(x, ix))
         }
     } else if x < ZERO {
-        turned(medium(abs(x), ix))
+        turned(medium(-x, ix))
     } else {
-        medium(abs(x), ix)
+        medium(x, ix)
     }
 }

@@ -4,7 +4,6 @@ ghost use Rattle.fdlibm_trig.specs.Trig.{cosOf};
 use super::e_rem_pio2::rem_pio2;
 use super::k_cos::kernel_cos;
 use super::s_sin::quarter_turns;
-use float64::sizes::abs;
 use float64::words::high_word;
 use float64::words::not_a_number;
 
@@ -18,7 +17,7 @@ pub fn cos(x: f64) -> f64
 {
     if high_word(x) <= 0x3fe9_21fb {
         kernel_cos(x, ZERO)
-    } else if abs(x) <= SEVENTY {
+    } else if (-SEVENTY <= x) & (x <= SEVENTY) {
         let p = rem_pio2(x);
         quarter_turns((p.n % 4 + 1) % 4, p.y0, p.y1)
     } else {

@@ -4,7 +4,6 @@ ghost use Rattle.fdlibm_trig.specs.Trig.{quarterTurnsOf, sinOf};
 use super::e_rem_pio2::rem_pio2;
 use super::k_cos::kernel_cos;
 use super::k_sin::kernel_sin;
-use float64::sizes::abs;
 use float64::words::high_word;
 use float64::words::not_a_number;
 
@@ -33,7 +32,7 @@ pub fn sin(x: f64) -> f64
 {
     if high_word(x) <= 0x3fe9_21fb {
         kernel_sin(x, ZERO, false)
-    } else if abs(x) <= SEVENTY {
+    } else if (-SEVENTY <= x) & (x <= SEVENTY) {
         let p = rem_pio2(x);
         quarter_turns(p.n, p.y0, p.y1)
     } else {

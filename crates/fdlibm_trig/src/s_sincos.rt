@@ -6,7 +6,6 @@ ghost use Rattle.fdlibm_trig.specs.Trig.{sincosOf};
 use super::e_rem_pio2::rem_pio2;
 use super::k_cos::cos_polynomial;
 use super::k_sin::sin_polynomial;
-use float64::sizes::abs;
 use float64::words::high_word;
 use float64::words::not_a_number;
 
@@ -73,7 +72,7 @@ pub fn sincos(x: f64) -> Both
 {
     if high_word(x) <= 0x3fe9_21fb {
         kernels(x, ZERO, false)
-    } else if abs(x) <= SEVENTY {
+    } else if (-SEVENTY <= x) & (x <= SEVENTY) {
         let p = rem_pio2(x);
         both_turns(p.n, p.y0, p.y1)
     } else {

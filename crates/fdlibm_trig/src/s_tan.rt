@@ -3,7 +3,6 @@ ghost use mathlib.Core.Path.{_≡_};
 ghost use Rattle.fdlibm_trig.specs.Trig.{tanOf};
 use super::e_rem_pio2::rem_pio2;
 use super::k_tan::kernel_tan;
-use float64::sizes::abs;
 use float64::words::high_word;
 use float64::words::not_a_number;
 
@@ -17,7 +16,7 @@ pub fn tan(x: f64) -> f64
 {
     if high_word(x) <= 0x3fe9_21fb {
         kernel_tan(x, ZERO, false)
-    } else if abs(x) <= SEVENTY {
+    } else if (-SEVENTY <= x) & (x <= SEVENTY) {
         let p = rem_pio2(x);
         kernel_tan(p.y0, p.y1, p.n % 2 == 1)
     } else {

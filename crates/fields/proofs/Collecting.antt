@@ -1,6 +1,7 @@
--- Where the walks of the two readers have come to: what is left of them, from here on, gives what the whole gives. What was collected says which tags
--- were seen, so one walk serves as both. Assumes nothing.
-use Rattle.prelude.proofs.Logic.{_≡_, refl, sym, ap, _∙_, Bool, true, false, List, [], _∷_, ℕ, zero, suc, _≤_, _<_, _+_, _-_, arith, ltb, map, length, getD, set, replicate, length-set, List·getD-map, lt-ltb, le-ltb, eq-eqb, ne-eqb}
+-- Where the walks of the two readers have come to: what is left of them, from here on, gives what the whole gives. What was collected says
+-- which tags were seen, so one walk serves as both. Assumes nothing.
+use Rattle.prelude.proofs.Logic.{_≡_, refl, sym, ap, _∙_, Bool, true, false, List, [], _∷_, ℕ, zero, suc, _≤_, _<_, _+_, _-_, arith, ltb}
+use Rattle.prelude.proofs.Logic.{map, length, getD, set, replicate, length-set, List·getD-map, lt-ltb, le-ltb, eq-eqb, ne-eqb}
 use Rattle.refusals.specs.Refusals.{refusal, noRefusal}
 use Rattle.refusals.specs.declared.Refusal.{Refusal}
 use Rattle.fields.specs.declared.{values.Checked.Checked, values.Fields.Fields}
@@ -40,7 +41,8 @@ module _ (s : List ℕ) (at : ℕ) (seen : List Bool) (c : Checking s at seen) w
   pub checked-on : at < length s → faultOf s seen at ≡ 0 → Checking s (nextFieldAt s at) (set seen (byteOf s at) true)
   checked-on l f = go (c .left) (c .enough) (c .rest)
     where
-      go : (k : ℕ) → length s ≤ at + k → walkOf k s seen at ≡ walkOf (length s) s noneSeen 0 → Checking s (nextFieldAt s at) (set seen (byteOf s at) true)
+      go : (k : ℕ) → length s ≤ at + k → walkOf k s seen at ≡ walkOf (length s) s noneSeen 0
+          → Checking s (nextFieldAt s at) (set seen (byteOf s at) true)
       go zero h r = absurd (omega arith)
       go (suc k) h r =
           record {
@@ -74,7 +76,8 @@ unfolding fieldsOf
 collect-first s = record { left = length s; enough = omega arith; rest = refl; fields = refl; sizes = (refl, refl) }
 
 module _ (s : List ℕ) (at : ℕ) (starts lengths : List ℕ) (c : Collecting s at starts lengths) where
-  pub refused-here : at < length s → (faultOf s (seenIn starts) at ≡ 0 → ⊥) → walkOf (length s) s noneSeen 0 ≡ refusal (faultOf s (seenIn starts) at) at
+  pub refused-here : at < length s → (faultOf s (seenIn starts) at ≡ 0 → ⊥)
+      → walkOf (length s) s noneSeen 0 ≡ refusal (faultOf s (seenIn starts) at) at
   refused-here l f = sym (c .rest) ∙ walk-stop s at (c .left) (seenIn starts) (c .enough) l f
 
   pub nothing-refused : length s ≤ at → walkOf (length s) s noneSeen 0 ≡ noRefusal

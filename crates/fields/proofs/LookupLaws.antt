@@ -1,6 +1,9 @@
--- What is collected of an order whose form is right, tag by tag: the value of the first field with the tag, whole, and nothing if there is none. The
--- law goes by recursion over both walks and the search. Assumes nothing.
-use Rattle.prelude.proofs.Logic.{_≡_, refl, sym, ap, _∙_, Bool, true, false, List, [], ℕ, zero, suc, _≤_, _<_, _+_, arith, ltb, eqb, length, getD, set, take, drop, replicate, getD-replicate, length-set, List·getD-eq-default, length-take, length-drop, drop-of-length-le, take-nil, getD-set-same, getD-set-other, lt-ltb, le-ltb, eq-eqb, ne-eqb, ltb-true, ltb-false, eqb-true, eqb-false, cases}
+-- What is collected of an order whose form is right, tag by tag: the value of the first field with the tag, whole, and nothing if there is
+-- none. The law goes by recursion over both walks and the search. Assumes nothing.
+use Rattle.prelude.proofs.Logic.{_≡_, refl, sym, ap, _∙_, Bool, true, false, List, [], ℕ, zero, suc, _≤_, _<_, _+_, arith, ltb, eqb, length}
+use Rattle.prelude.proofs.Logic.{getD, set, take, drop, replicate, getD-replicate, length-set, List·getD-eq-default, length-take}
+use Rattle.prelude.proofs.Logic.{length-drop, drop-of-length-le, take-nil, getD-set-same, getD-set-other, lt-ltb, le-ltb, eq-eqb, ne-eqb}
+use Rattle.prelude.proofs.Logic.{ltb-true, ltb-false, eqb-true, eqb-false, cases}
 use Rattle.fields.specs.declared.{values.Fields.Fields, values.Part.Part}
 use Rattle.fields.specs.Numbers.{byteOf}
 use Rattle.fields.specs.Tags.{tags, lengthFits}
@@ -17,7 +20,8 @@ unfolding firstFrom
 find-here zero s tag at h l e = absurd (omega arith)
 find-here (suc k) s tag at h l e = simp (lt-ltb _ _ l, eq-eqb _ _ e)
 
-pub find-on : (k : ℕ) (s : List ℕ) (tag at : ℕ) → at < length s → (byteOf s at ≡ tag → ⊥) → firstFrom (suc k) s tag at ≡ firstFrom k s tag (nextFieldAt s at)
+pub find-on : (k : ℕ) (s : List ℕ) (tag at : ℕ) → at < length s → (byteOf s at ≡ tag → ⊥)
+    → firstFrom (suc k) s tag at ≡ firstFrom k s tag (nextFieldAt s at)
 unfolding firstFrom
 find-on k s tag at l e = simp (lt-ltb _ _ l, ne-eqb _ _ e)
 
@@ -33,7 +37,8 @@ part at length = record { at = at; length = length }
 -- no field has the tag, and its part stays; or one has, and its part was none before
 data Under (s : List ℕ) (tag found : ℕ) (before after : Part) : Type 0 where
   stays : found ≡ length s → after ≡ before → Under s tag found before after
-  comes : found < length s → byteOf s found ≡ tag → Good s found → before .at ≡ 0 → after ≡ part (found + 3) (lengthAt s found) → Under s tag found before after
+  comes : found < length s → byteOf s found ≡ tag → Good s found → before .at ≡ 0 → after ≡ part (found + 3) (lengthAt s found)
+      → Under s tag found before after
 
 -- the field at an offset has the tag, so no later one has
 first-comes : (s : List ℕ) (tag at later : ℕ) (before own after : Part) → at < length s → byteOf s at ≡ tag → Good s at → before .at ≡ 0
@@ -68,12 +73,14 @@ module _ (s : List ℕ) (tag k at : ℕ) (fields : Fields) (l : at < length s) (
   has-other differ rest =
       let other : (kept : List ℕ) (x : ℕ) → getD (set kept (byteOf s at) x) tag 0 ≡ getD kept tag 0 =
       λ kept x. getD-set-other kept (byteOf s at) tag x 0 (λ e. differ (sym e)) in
-      rw (find-on k s tag at l differ, collect-on s at k fields l) (rw (other (fields .at) (at + 3), other (fields .length) (lengthAt s at)) at rest)
+      rw (find-on k s tag at l differ, collect-on s at k fields l)
+      (rw (other (fields .at) (at + 3), other (fields .length) (lengthAt s at)) at rest)
 
 under : (k : ℕ) (s : List ℕ) (tag at : ℕ) (fields : Fields) → length s ≤ at + k → length (fields .at) ≡ length tags
     → length (fields .length) ≡ length tags → walkOf k s (seenIn (fields .at)) at .number ≡ 0
     → Under s tag (firstFrom k s tag at) (partFor fields tag) (partFor (collectOf k s fields at) tag)
-under zero s tag at fields enough starts lengths e = rw (find-none zero s tag at (omega arith), collect-end s at zero fields (omega arith)) (stays refl refl)
+under zero s tag at fields enough starts lengths e =
+    rw (find-none zero s tag at (omega arith), collect-end s at zero fields (omega arith)) (stays refl refl)
 under (suc k) s tag at fields enough starts lengths e =
     cases (ltb at (length s))
     (λ h. let l = ltb-true at (length s) h in
@@ -81,7 +88,8 @@ under (suc k) s tag at fields enough starts lengths e =
     let f = fault-none s (seenIn (fields .at)) at (w .0) in
     let own = byteOf s at in
     let rest : Rest s tag k at fields l enough =
-    under k s tag (nextFieldAt s at) (putOf fields own (at + 3) (lengthAt s at)) (omega arith) (length-set (fields .at) own (at + 3) ∙ starts)
+    under k s tag (nextFieldAt s at) (putOf fields own (at + 3) (lengthAt s at)) (omega arith)
+    (length-set (fields .at) own (at + 3) ∙ starts)
     (length-set (fields .length) own (lengthAt s at) ∙ lengths) (rw (seen-set (fields .at) own (at + 3) (omega arith)) (w .1)) in
     cases (eqb own tag)
     (λ t. has-tag s tag k at fields l enough (eqb-true own tag t) (f .0) (seen-collected (fields .at) own ∙ f .1) starts lengths rest)

@@ -1,5 +1,6 @@
 -- The slices that `fields::values::bytes` may hand out are the bytes of the part. Assumes nothing.
-use Rattle.prelude.proofs.Logic.{_≡_, sym, ap, _∙_, List, ℕ, _≤_, _+_, _-_, add-sub-cancel-left, arith, length, take, drop, drop-of-length-le, length-drop, take-nil, take-all, drop-length}
+use Rattle.prelude.proofs.Logic.{_≡_, sym, ap, _∙_, List, ℕ, _≤_, _+_, _-_, add-sub-cancel-left, arith, length, take, drop}
+use Rattle.prelude.proofs.Logic.{drop-of-length-le, length-drop, take-nil, take-all, drop-length}
 
 module _ (s : List ℕ) (at n : ℕ) where
   pub part-none : length s ≤ at → take (length s - length s) (drop (length s) s) ≡ take n (drop at s)

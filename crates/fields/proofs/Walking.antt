@@ -1,5 +1,6 @@
 -- One step of each walk over the fields. Assumes nothing.
-use Rattle.prelude.proofs.Logic.{_≡_, refl, Bool, true, List, ℕ, zero, suc, _≤_, _<_, _+_, arith, length, set, lt-ltb, le-ltb, eq-eqb, ne-eqb}
+use Rattle.prelude.proofs.Logic.{_≡_, refl, Bool, true, List, ℕ, zero, suc, _≤_, _<_, _+_, arith, length, set, lt-ltb, le-ltb, eq-eqb}
+use Rattle.prelude.proofs.Logic.{ne-eqb}
 use Rattle.refusals.specs.Refusals.{refusal, noRefusal}
 use Rattle.fields.specs.declared.values.Fields.{Fields}
 use Rattle.fields.specs.Numbers.{byteOf}

@@ -21,8 +21,8 @@ lengthAt s at = unsignedOf s (at + 1)
 abbrev pub nextFieldAt : List ℕ → ℕ → ℕ
 nextFieldAt s at = at + headerLength + lengthAt s at
 
--- "field by field: header cut, unknown tag, tag again, wrong length, value cut": what a field is refused by, or 0. Its value has n bytes, as it says
--- itself; `again` if a field before it has its tag; `left` bytes remain from its tag byte on
+-- "field by field: header cut, unknown tag, tag again, wrong length, value cut": what a field is refused by, or 0. Its value has n bytes,
+-- as it says itself; `again` if a field before it has its tag; `left` bytes remain from its tag byte on
 unfoldable pub faultIn : (tag n : ℕ) → (again : Bool) → (left : ℕ) → ℕ
 faultIn tag n again left =
     cond (ltb left headerLength) fieldCut  -- header cut
@@ -37,9 +37,9 @@ faultOf s seen at =
     let tag = byteOf s at in
     faultIn tag (lengthAt s at) (getD seen tag false) (length s - at)
 
--- Request 5: "A plain reader, which checks in one pass and collects in another, is kept beside it as its definition". This pass checks: the first
--- field that is refused, from an offset on. "Offsets are those of a field's tag byte." k counts the fields that may follow: there are no more than
--- the order has bytes.
+-- Request 5: "A plain reader, which checks in one pass and collects in another, is kept beside it as its definition". This pass checks: the
+-- first field that is refused, from an offset on. "Offsets are those of a field's tag byte." k counts the fields that may follow: there are
+-- no more than the order has bytes.
 unfoldable pub walkOf : (k : ℕ) → List ℕ → (seen : List Bool) → (at : ℕ) → Refusal
 walkOf zero s seen at = noRefusal
 walkOf (suc k) s seen at =

@@ -1,5 +1,5 @@
--- Request 5's second pass, which collects, and what it gives by tag: document 01's column "missing" and its "that part of the order itself".
--- Of an order whose form is right a tag's part is the value of its first field, which is its only one (Lookup.antt).
+-- Request 5's second pass, which collects, and what it gives by tag: document 01's column "missing" and its "that part of the order
+-- itself". Of an order whose form is right a tag's part is the value of its first field, which is its only one (Lookup.antt).
 use Prim.Native.Nat.{ℕ, zero, suc, _+_}
 use mathlib.Core.List.{List}
 use mathlib.Core.Bool.{Bool, cond}

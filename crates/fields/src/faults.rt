@@ -1,4 +1,5 @@
-// What the form of a single field is refused by. Both readers ask in the same order: header cut, unknown tag, tag again, wrong length, value cut.
+// What the form of a single field is refused by. Both readers ask in the same order: header cut, unknown tag, tag again, wrong length,
+// value cut.
 ghost use mathlib.Core.Path.{_≡_};
 ghost use Rattle.fields.specs.Fields.{faultIn};
 use super::tags::known;

@@ -1,4 +1,5 @@
-// The numbers that bytes write, high byte first. A byte past the end counts as 0, so every call has an answer and no caller has an index to prove.
+// The numbers that bytes write, high byte first. A byte past the end counts as 0, so every call has an answer and no caller has an index to
+// prove.
 ghost use mathlib.Core.Path.{_≡_};
 ghost use Prim.Native.Nat.{_<_};
 ghost use Rattle.fields.specs.Numbers.{byteOf, unsignedOf, signedAtOf, bitsOf, floatOf};

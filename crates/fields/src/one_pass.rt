@@ -1,4 +1,5 @@
-// The reader of the fields (request 5): it goes over them once and collects as it checks. What it has collected says which tags it has seen.
+// The reader of the fields (request 5): it goes over them once and collects as it checks. What it has collected says which tags it has
+// seen.
 ghost use mathlib.Core.Path.{_≡_};
 ghost use Prim.Native.Nat.{_≤_};
 ghost use lib.Dec.{ltb};

@@ -1,4 +1,5 @@
-// The plain reader of the fields (request 5), and their definition line by line: one pass checks, another collects. `one_pass` is proved equal to it.
+// The plain reader of the fields (request 5), and their definition line by line: one pass checks, another collects. `one_pass` is proved
+// equal to it.
 ghost use mathlib.Core.Path.{_≡_};
 ghost use mathlib.Core.Bool.{false};
 ghost use Prim.Native.Nat.{_≤_, _<_};

@@ -1,4 +1,5 @@
-// The tags by what they give, and their table: a new tag is a new name, a new row and a new last tag. The names of tags 18 and 19 are map_form's.
+// The tags by what they give, and their table: a new tag is a new name, a new row and a new last tag. The names of tags 18 and 19 are
+// map_form's.
 ghost use mathlib.Core.Path.{_≡_};
 ghost use Rattle.fields.specs.Tags.{knownTag, lengthFits, choiceFits};
 
@@ -40,7 +41,7 @@ pub const RAMADAN: u32 = 20;
 
 pub const LAST_TAG: u32 = 20;
 
-// There is no tag 0, but a row stands for it.
+// There is no tag 0, but the table has a row for it.
 pub const TAGS: usize = LAST_TAG as usize + 1;
 
 pub const LONGEST_TOWN: u32 = 40;

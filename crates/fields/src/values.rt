@@ -1,4 +1,5 @@
-// What an order's fields give: by tag, the part of the order that is the tag's value. Reading uses nothing else once the fields are collected.
+// What an order's fields give: by tag, the part of the order that is the tag's value. Reading uses nothing else once the fields are
+// collected.
 ghost use mathlib.Core.Path.{_≡_};
 ghost use Rattle.fields.specs.Values.{noFields, hasIn, partFor, partIn, valuesIn};
 use super::tags::TAGS;

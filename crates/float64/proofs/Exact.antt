@@ -1,7 +1,11 @@
--- Where binary64's operations lose nothing: on known fractions each is one rounding of the exact result, on whole numbers, halves, quarters and so on
--- it is exact, and a zero may be added or taken away. Assumes nothing.
-use Rattle.prelude.proofs.Logic.{_≡_, refl, sym, ap, _∙_, Bool, true, false, true≢false, ℕ, zero, suc, _+_, _-_, _*_, _^_, _≤_, _<_, mul-one, mul-assoc, mul-comm, mul-left-comm, mul-right-comm, add-mul, mul-pos, mul-le-mul-right, lt-of-le-of-lt, le-of-mul-le-mul-right, mul-sub, zero-lt-suc, arith, T, lit<, ℤ, pos, pow-pos, le-ltb, lt-ltb}
-use Rattle.prelude.proofs.Ieee.{Float, nan, inf, fin, Format, binary64, up, down, unlike, fits, ofBits, ofInt, round, neg, sum, add, sub, mul, HasValue, round-same, down-pos, up-pos}
+-- When binary64's operations lose nothing: on known fractions each is one rounding of the exact result, on whole numbers, halves, quarters
+-- and so on it is exact, and a zero may be added or taken away. Assumes nothing.
+use Rattle.prelude.proofs.Logic.{_≡_, refl, sym, ap, _∙_, Bool, true, false, true≢false, ℕ, zero, suc, _+_, _-_, _*_, _^_, _≤_, _<_}
+use Rattle.prelude.proofs.Logic.{mul-one, mul-assoc, mul-comm, mul-left-comm, mul-right-comm, add-mul, mul-pos, mul-le-mul-right}
+use Rattle.prelude.proofs.Logic.{lt-of-le-of-lt, le-of-mul-le-mul-right, mul-sub, zero-lt-suc, arith, T, lit<, ℤ, pos, pow-pos, le-ltb}
+use Rattle.prelude.proofs.Logic.{lt-ltb}
+use Rattle.prelude.proofs.Ieee.{Float, nan, inf, fin, Format, binary64, up, down, unlike, fits, ofBits, ofInt, round, neg, sum, add, sub}
+use Rattle.prelude.proofs.Ieee.{mul, HasValue, round-same, down-pos, up-pos}
 use Rattle.float64.proofs.Values.{big, value-unique, dyadic-value, round-own}
 
 -- ---- the operations on values that are not negative: one rounding of the exact result
@@ -12,7 +16,8 @@ module _ (f : Format) (a b c : ℕ) (p : 0 < c) where
     first = mul-right-comm (m * up e) (down d) c ∙ ap (λ (z : ℕ). z * down d) v ∙ mul-assoc a (down e) (down d)
 
     second : n * up d * down e * c ≡ b * (down e * down d)
-    second = mul-right-comm (n * up d) (down e) c ∙ ap (λ (z : ℕ). z * down e) w ∙ mul-assoc b (down d) (down e) ∙ ap (λ (z : ℕ). b * z) (mul-comm (down d) (down e))
+    second = mul-right-comm (n * up d) (down e) c ∙ ap (λ (z : ℕ). z * down e) w ∙ mul-assoc b (down d) (down e)
+        ∙ ap (λ (z : ℕ). b * z) (mul-comm (down d) (down e))
 
   pub add-same : (x y : Float) → HasValue x false a c → HasValue y false b c → add f x y ≡ round f false (a + b) c
   unfolding add sum
@@ -45,7 +50,8 @@ module _ (f : Format) (a b c : ℕ) (p : 0 < c) where
       sub-mul : (a b c : ℕ) → (a - b) * c ≡ a * c - b * c
       sub-mul a b c = mul-comm (a - b) c ∙ mul-sub c a b ∙ rw (mul-comm c a, mul-comm c b)
 
-pub mul-same : (f : Format) (x y : Float) (s t : Bool) (a b c d : ℕ) → 0 < c → 0 < d → HasValue x s a c → HasValue y t b d → mul f x y ≡ round f (unlike s t) (a * b) (c * d)
+pub mul-same : (f : Format) (x y : Float) (s t : Bool) (a b c d : ℕ) → 0 < c → 0 < d → HasValue x s a c → HasValue y t b d
+    → mul f x y ≡ round f (unlike s t) (a * b) (c * d)
 unfolding mul
 mul-same f nan y s t a b c d p q v w = absurd v
 mul-same f (inf u) y s t a b c d p q v w = absurd v
@@ -68,13 +74,16 @@ unfolding ofInt
 int-dyadic k n = round-same binary64 false n 1 (n * 2 ^ k) (2 ^ k) (lit< tt) (pow-pos k) (sym (mul-one (n * 2 ^ k)))
 
 pub add-dyadic : (k p q : ℕ) → k ≤ 1074 → p < big → q < big → add binary64 (dyadic k p) (dyadic k q) ≡ dyadic k (p + q)
-add-dyadic k p q h i j = add-same binary64 p q (2 ^ k) (pow-pos k) (dyadic k p) (dyadic k q) (dyadic-value false p k i h) (dyadic-value false q k j h)
+add-dyadic k p q h i j =
+    add-same binary64 p q (2 ^ k) (pow-pos k) (dyadic k p) (dyadic k q) (dyadic-value false p k i h) (dyadic-value false q k j h)
 
 pub sub-dyadic : (k p q : ℕ) → k ≤ 1074 → p < big → q ≤ p → sub binary64 (dyadic k p) (dyadic k q) ≡ dyadic k (p - q)
-sub-dyadic k p q h i l = sub-same binary64 p q (2 ^ k) (pow-pos k) l (dyadic k p) (dyadic k q) (dyadic-value false p k i h) (dyadic-value false q k (lt-of-le-of-lt l i) h)
+sub-dyadic k p q h i l = sub-same binary64 p q (2 ^ k) (pow-pos k) l (dyadic k p) (dyadic k q) (dyadic-value false p k i h)
+    (dyadic-value false q k (lt-of-le-of-lt l i) h)
 
 -- ---- adding nothing
-own-again : (s : Bool) (m : ℕ) (e : ℤ) → T (fits binary64 (fin s m e)) → (a c : ℕ) → a ≡ m * up e → c ≡ down e → round binary64 s a c ≡ fin s m e
+own-again : (s : Bool) (m : ℕ) (e : ℤ) → T (fits binary64 (fin s m e)) → (a c : ℕ) → a ≡ m * up e → c ≡ down e
+    → round binary64 s a c ≡ fin s m e
 own-again s m e h a c p q = ap (λ (z : ℕ). round binary64 s z c) p ∙ ap (round binary64 s (m * up e)) q ∙ round-own s m e h
 
 abbrev zero64 : Float
@@ -86,7 +95,8 @@ sub-zero64 nan h = refl
 sub-zero64 (inf s) h = refl
 sub-zero64 (fin true m e) h = own-again true m e h (m * up e * 1 + 0 * down e) (down e * 1) (omega arith) (mul-one (down e))
 sub-zero64 (fin false m e) h =
-    rw (le-ltb (m * up e * 1) (0 * down e) (omega arith)) (own-again false m e h (m * up e * 1 - 0 * down e) (down e * 1) (omega arith) (mul-one (down e)))
+    rw (le-ltb (m * up e * 1) (0 * down e) (omega arith))
+    (own-again false m e h (m * up e * 1 - 0 * down e) (down e * 1) (omega arith) (mul-one (down e)))
 
 pub add-zero64 : (x : Float) → T (fits binary64 x) → (x ≡ neg zero64 → ⊥) → add binary64 x zero64 ≡ x
 unfolding add sum neg ofBits
@@ -94,7 +104,8 @@ add-zero64 nan h n = refl
 add-zero64 (inf s) h n = refl
 add-zero64 (fin false m e) h n = own-again false m e h (m * up e * 1 + 0 * down e) (down e * 1) (omega arith) (mul-one (down e))
 add-zero64 (fin true zero e) h n =
-    absurd (n (value-unique binary64 (fin true zero e) (fin true zero (pos 0)) true 0 1 (lit< tt) h (unfold fits in tt) (refl, omega arith) (refl, refl)))
+    absurd (n (value-unique binary64 (fin true zero e) (fin true zero (pos 0)) true 0 1 (lit< tt) h (unfold fits in tt) (refl, omega arith)
+    (refl, refl)))
 add-zero64 (fin true (suc m) e) h n =
     let p : 0 < suc m * up e = mul-pos (zero-lt-suc m) (up-pos e) in
     rw (le-ltb (suc m * up e * 1) (0 * down e) (omega arith), lt-ltb (0 * down e) (suc m * up e * 1) (omega arith))

@@ -1,6 +1,9 @@
 -- What tests against limits say of a float's size, and back. Assumes nothing.
-use Rattle.prelude.proofs.Logic.{_≡_, refl, sym, ap, _∙_, subst, Bool, true, false, _&&_, _||_, true≢false, false≢true, inl, inr, ℕ, _+_, _*_, _≤_, _<_, mul-pos, le-of-mul-le-mul-right, le-of-lt, le-of-eq, eq-zero-or-pos, zero-mul, arith, T, ltb, eqb, eqb→eq, lit<, pos, ltb-true, ltb-false, eq-eqb, and-l}
-use Rattle.prelude.proofs.Ieee.{Float, nan, inf, fin, binary64, up, down, round, neg, le, ofInt, HasValue, round-whole, is-true, down-pos, up-pos, transfer, le-of-values}
+use Rattle.prelude.proofs.Logic.{_≡_, refl, sym, ap, _∙_, subst, Bool, true, false, _&&_, _||_, true≢false, false≢true, inl, inr, ℕ, _+_}
+use Rattle.prelude.proofs.Logic.{_*_, _≤_, _<_, mul-pos, le-of-mul-le-mul-right, le-of-lt, le-of-eq, eq-zero-or-pos, zero-mul, arith, T}
+use Rattle.prelude.proofs.Logic.{ltb, eqb, eqb→eq, lit<, pos, ltb-true, ltb-false, eq-eqb, and-l}
+use Rattle.prelude.proofs.Ieee.{Float, nan, inf, fin, binary64, up, down, round, neg, le, ofInt, HasValue, round-whole, is-true, down-pos}
+use Rattle.prelude.proofs.Ieee.{up-pos, transfer, le-of-values}
 use Rattle.float64.specs.Ops.{dec}
 use Rattle.float64.proofs.Values.{big}
 use Rattle.float64.proofs.Within.{Within, le-sizes, under-value, round-signed}
@@ -26,9 +29,11 @@ within-limits nan (fin false n d) a c p v i j = absurd (false≢true j)
 within-limits (inf true) (fin false n d) a c p v i j = absurd (false≢true i)
 within-limits (inf false) (fin false n d) a c p v i j = absurd (false≢true j)
 within-limits (fin true m e) (fin false n d) a c p v i j =
-    transfer (m * up e) a (down e) c (m * up e) (n * up d) (down e) (down d) (down-pos e) (down-pos d) refl (sym (v .1)) (ge-sizes (n * up d * down e) (m * up e * down d) true (holds _ i))
+    transfer (m * up e) a (down e) c (m * up e) (n * up d) (down e) (down d) (down-pos e) (down-pos d) refl (sym (v .1))
+    (ge-sizes (n * up d * down e) (m * up e * down d) true (holds _ i))
 within-limits (fin false m e) (fin false n d) a c p v i j =
-    transfer (m * up e) a (down e) c (m * up e) (n * up d) (down e) (down d) (down-pos e) (down-pos d) refl (sym (v .1)) (le-sizes (m * up e * down d) (n * up d * down e) true (holds _ j))
+    transfer (m * up e) a (down e) c (m * up e) (n * up d) (down e) (down d) (down-pos e) (down-pos d) refl (sym (v .1))
+    (le-sizes (m * up e * down d) (n * up d * down e) true (holds _ j))
 
 -- from 0 to a / c, where a zero may have either sign
 abbrev pub FromZero : Float → ℕ → ℕ → Type 0
@@ -49,7 +54,8 @@ from-fin (inf false) nan a c p v i j = absurd v
 from-fin (inf false) (inf t) a c p v i j = absurd v
 from-fin (inf false) (fin t n d) a c p v i j = absurd (false≢true j)
 from-fin (fin true m e) h a c p v i j =
-    let g : 0 * 1 * down e ≡ m * up e * 1 = eqb→eq (0 * 1 * down e) (m * up e * 1) (and-l (eqb (0 * 1 * down e) (m * up e * 1)) _ (holds _ i)) in
+    let g : 0 * 1 * down e ≡ m * up e * 1 =
+    eqb→eq (0 * 1 * down e) (m * up e * 1) (and-l (eqb (0 * 1 * down e) (m * up e * 1)) _ (holds _ i)) in
     elim (eq-zero-or-pos m) [ inl z ↦ z | inr q ↦ let r = mul-pos q (up-pos e) in absurd (omega arith) ]
 from-fin (fin false m e) h a c p v i j = under-value (fin false m e) h a c p refl v (holds _ j)
 
@@ -77,7 +83,8 @@ to-fin (fin true m e) (fin false n d) a c p v f =
       zero-under (m * up e * down d) (n * up d * down e) (ap (λ (i : ℕ). i * down d) z ∙ zero-mul (down d)),
     )
 to-fin (fin false m e) h a c p v f = (
-  is-true _ (le-of-values (fin false 0 (pos 0)) (fin false m e) 0 1 (m * up e) (down e) (lit< tt) (down-pos e) (refl, refl) (refl, refl) (omega arith)),
+  is-true _ (le-of-values (fin false 0 (pos 0)) (fin false m e) 0 1 (m * up e) (down e) (lit< tt) (down-pos e) (refl, refl) (refl, refl)
+      (omega arith)),
   is-true _ (le-of-values (fin false m e) h (m * up e) (down e) a c (down-pos e) p (refl, refl) v f),
 )
 
@@ -89,7 +96,8 @@ pub le-whole : (a b : ℕ) → a ≤ big → b ≤ big → le (ofInt binary64 (p
 unfolding ofInt
 le-whole a b p q h =
     let x = round binary64 false a 1 in
-    exact x (round-whole binary64 false a p) (under-value x (round binary64 false b 1) b 1 (lit< tt) (round-signed a 1 false) (round-whole binary64 false b q) (holds _ h))
+    exact x (round-whole binary64 false a p)
+    (under-value x (round binary64 false b 1) b 1 (lit< tt) (round-signed a 1 false) (round-whole binary64 false b q) (holds _ h))
   where
     exact : (x : Float) → HasValue x false a 1 → Within x b 1 → a ≤ b
     exact nan v w = absurd v

@@ -1,7 +1,10 @@
 -- (x + 2 ^ 52) - 2 ^ 52, for 0 ≤ x < 2 ^ 52: a whole number that lies on the same side of every whole number as x.
--- The sum is rounded into [2 ^ 52, 2 ^ 53], where all floats are whole numbers, and rounding keeps the order; the difference is exact. Assumes nothing.
-use Rattle.prelude.proofs.Logic.{_≡_, refl, sym, true, false, ℕ, suc, _+_, _-_, _*_, _^_, _≤_, _<_, mul-one, add-mul, le-of-mul-le-mul-right, arith, T, lit<, lit≤, ℤ, pos, negsuc}
-use Rattle.prelude.proofs.Ieee.{Float, nan, inf, fin, binary64, up, down, fits, ofBits, round, add, sub, le, HasValue, round-whole, down-pos, round-fits, round-mono, positive, positive-of-value, values-of-le, between}
+-- The sum is rounded into [2 ^ 52, 2 ^ 53], where all floats are whole numbers, and rounding keeps the order; the difference is exact.
+-- Assumes nothing.
+use Rattle.prelude.proofs.Logic.{_≡_, refl, sym, true, false, ℕ, suc, _+_, _-_, _*_, _^_, _≤_, _<_, mul-one, add-mul}
+use Rattle.prelude.proofs.Logic.{le-of-mul-le-mul-right, arith, T, lit<, lit≤, ℤ, pos, negsuc}
+use Rattle.prelude.proofs.Ieee.{Float, nan, inf, fin, binary64, up, down, fits, ofBits, round, add, sub, le, HasValue, round-whole}
+use Rattle.prelude.proofs.Ieee.{down-pos, round-fits, round-mono, positive, positive-of-value, values-of-le, between}
 use Rattle.float64.proofs.Values.{big, fraction-below}
 use Rattle.float64.proofs.Exact.{add-same, sub-same}
 
@@ -34,7 +37,8 @@ whole-from (inf s) h p l = absurd p
 whole-from (fin true m e) h p l = absurd p
 whole-from (fin false m (pos k)) h p l = (m * 2 ^ k, (refl, refl))
 whole-from (fin false m (negsuc k)) h p l =
-    let v = values-of-le (at W) (fin false m (negsuc k)) W 1 (m * 1) (2 ^ suc k) (at-positive W (lit< tt) (lit≤ tt)) p (at-value W (lit≤ tt)) (refl, refl) l in
+    let v = values-of-le (at W) (fin false m (negsuc k)) W 1 (m * 1) (2 ^ suc k) (at-positive W (lit< tt) (lit≤ tt)) p
+    (at-value W (lit≤ tt)) (refl, refl) l in
     absurd (omega (arith, fraction-below false m k h))
 
 -- k is a whole number, and every whole number that is on one side of a / d is on that side of k
@@ -69,7 +73,8 @@ module _ (m : ℕ) (e : ℤ) (small : m * up e < W * down e) where
 
   s-positive : T (positive s)
   unfolding a d s
-  s-positive = between (at W) s (at (W + W)) (at-positive W (lit< tt) (lit≤ tt)) (at-positive (W + W) (lit< tt) (lit≤ tt)) (over 0 (omega arith)) (under W (omega arith))
+  s-positive = between (at W) s (at (W + W)) (at-positive W (lit< tt) (lit≤ tt)) (at-positive (W + W) (lit< tt) (lit≤ tt))
+      (over 0 (omega arith)) (under W (omega arith))
 
   w : (n : ℕ) × HasValue s false n 1
   unfolding a d s
@@ -85,7 +90,8 @@ module _ (m : ℕ) (e : ℤ) (small : m * up e < W * down e) where
       let v = w .1 in
       let least : (n : ℕ) → n * d ≤ a → n + W ≤ w .0 = λ n h.
       let l = reach n h in
-      let g = values-of-le (at (n + W)) s (n + W) 1 (w .0) 1 (at-positive (n + W) (omega arith) (omega arith)) s-positive (at-value (n + W) (omega arith)) v (over n h) in
+      let g = values-of-le (at (n + W)) s (n + W) 1 (w .0) 1 (at-positive (n + W) (omega arith) (omega arith)) s-positive
+      (at-value (n + W) (omega arith)) v (over n h) in
       omega arith in
       let base = least 0 (omega arith) in
       record {
@@ -93,6 +99,7 @@ module _ (m : ℕ) (e : ℤ) (small : m * up e < W * down e) where
         is = rw s-is (sub-same binary64 (w .0) W 1 (lit< tt) (omega arith) s whole64 v (whole64-value 1));
         least = λ n h. let l = least n h in omega arith;
         most = λ n l h.
-            let g = values-of-le s (at (n + W)) (w .0) 1 (n + W) 1 s-positive (at-positive (n + W) (omega arith) (omega arith)) v (at-value (n + W) (omega arith)) (under n h) in
+            let g = values-of-le s (at (n + W)) (w .0) 1 (n + W) 1 s-positive (at-positive (n + W) (omega arith) (omega arith)) v
+            (at-value (n + W) (omega arith)) (under n h) in
             omega arith;
       }

@@ -1,5 +1,7 @@
--- What the three definitions of specs/Whole.antt have in common: a number with no fraction is its own result, and two of them are odd. Assumes nothing.
-use Rattle.prelude.proofs.Logic.{_≡_, refl, sym, ap, _∙_, Bool, true, false, cond, false≢true, ℕ, suc, _+_, _*_, _%_, _^_, _≤_, zero-mod, mod-one, div-add-mod', arith, T, eqb, lit<, ℤ, pos, negsuc, ltb-true, ltb-false, lt-ltb, eq-eqb}
+-- What the three definitions of specs/Whole.antt have in common: a number with no fraction is its own result, and two of them are odd.
+-- Assumes nothing.
+use Rattle.prelude.proofs.Logic.{_≡_, refl, sym, ap, _∙_, Bool, true, false, cond, false≢true, ℕ, suc, _+_, _*_, _%_, _^_, _≤_, zero-mod}
+use Rattle.prelude.proofs.Logic.{mod-one, div-add-mod', arith, T, eqb, lit<, ℤ, pos, negsuc, ltb-true, ltb-false, lt-ltb, eq-eqb}
 use Rattle.prelude.proofs.Ieee.{Float, nan, inf, fin, binary64, up, down, fits, ofBits, ofInt, neg, lt, round-fits}
 use Rattle.float64.specs.Whole.{floorOf, truncOf, roundOf, wholePart, fraction, halfUp}
 use Rattle.float64.proofs.Values.{big, value-unique, fraction-below}
@@ -84,8 +86,9 @@ still-far (fin true m e) f h k = absurd (false≢true h)
 still-far (fin false m (pos j)) f h k = (still false m (pos j) (mod-one (m * 2 ^ j)), still true m (pos j) (mod-one (m * 2 ^ j)))
 still-far (fin false m (negsuc j)) f h k = absurd (omega (arith, ltb-false (m * 1 * 1) (W * 2 ^ suc j) k, fraction-below false m j f))
 
--- the whole part as a float is x, where x has no fraction
-pub own-whole : (m : ℕ) (e : ℤ) → T (fits binary64 (fin false m e)) → wholePart m e ≤ big → fraction m e ≡ 0 → at (wholePart m e) ≡ fin false m e
+-- the whole part as a float is x, if x has no fraction
+pub own-whole : (m : ℕ) (e : ℤ) → T (fits binary64 (fin false m e)) → wholePart m e ≤ big → fraction m e ≡ 0
+    → at (wholePart m e) ≡ fin false m e
 own-whole m e f l z =
     let q = wholePart m e in let g = div-add-mod' (m * up e) (down e) in let v : m * up e * 1 ≡ q * down e = omega arith in
     value-unique binary64 (at q) (fin false m e) false q 1 (lit< tt) (round-fits binary64 false q 1) f (at-value q l) (refl, v)

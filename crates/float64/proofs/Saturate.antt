@@ -1,7 +1,13 @@
--- Saturating casts: of x > 0 to an unsigned number, by its whole part as a float; and from that to a signed one of as many bits. Assumes nothing.
-use Rattle.prelude.proofs.Logic.{_≡_, refl, sym, ap, _∙_, subst, Bool, true, false, false≢true, ℕ, zero, suc, _+_, _-_, _*_, _/_, _^_, _≤_, _<_, min, zero-le, min-eq-left, min-eq-right, le-of-lt, lt-of-lt-of-le, zero-div, mul-le-mul-right, div-lt-iff-lt-mul, le-div-iff-mul-le, arith, T, leb, le→leb, lt→ltb, lit<, ℤ, pos, negℤ, _-ℤ_, +ℤ-idl, pow-mono, pow-lt, le-ones, mag, leb-true, leb-false, ltb-true, ltb-false, Width, w8, w16, w32, w64, w128, SFits, toZ, ofZ, bits, hbits}
+-- Saturating casts: of x > 0 to an unsigned number, by its whole part as a float; and from that to a signed one of as many bits. Assumes
+-- nothing.
+use Rattle.prelude.proofs.Logic.{_≡_, refl, sym, ap, _∙_, subst, Bool, true, false, false≢true, ℕ, zero, suc, _+_, _-_, _*_, _/_, _^_, _≤_}
+use Rattle.prelude.proofs.Logic.{_<_, min, zero-le, min-eq-left, min-eq-right, le-of-lt, lt-of-lt-of-le, zero-div, mul-le-mul-right}
+use Rattle.prelude.proofs.Logic.{div-lt-iff-lt-mul, le-div-iff-mul-le, arith, T, leb, le→leb, lt→ltb, lit<, ℤ, pos, negℤ, _-ℤ_, +ℤ-idl}
+use Rattle.prelude.proofs.Logic.{pow-mono, pow-lt, le-ones, mag, leb-true, leb-false, ltb-true, ltb-false, Width, w8, w16, w32, w64, w128}
+use Rattle.prelude.proofs.Logic.{SFits, toZ, ofZ, bits, hbits}
 use mir.ValLaws.{toZ-pos, toZ-ofZ}
-use Rattle.prelude.proofs.Ieee.{Float, nan, inf, fin, up, down, binary64, fits, neg, ofBits, ofInt, lt, toSigned, toUnsigned, inUnsigned, inFloat, HasValue, unsigned-back, down-pos}
+use Rattle.prelude.proofs.Ieee.{Float, nan, inf, fin, up, down, binary64, fits, neg, ofBits, ofInt, lt, toSigned, toUnsigned, inUnsigned}
+use Rattle.prelude.proofs.Ieee.{inFloat, HasValue, unsigned-back, down-pos}
 use Rattle.float64.specs.Whole.{truncOf}
 use Rattle.float64.proofs.Values.{big, lt-values}
 use Rattle.float64.proofs.Near.{W}
@@ -13,7 +19,8 @@ min-min a b c h = go (leb a b) refl
   where
     go : (t : Bool) → leb a b ≡ t → min (min a b) c ≡ min a c
     go true l = ap (λ (z : ℕ). min z c) (min-eq-left (leb-true a b l))
-    go false l = let k = leb-false a b l in ap (λ (z : ℕ). min z c) (min-eq-right (le-of-lt k)) ∙ min-eq-right h ∙ sym (min-eq-right {n = c} {m = a} (omega arith))
+    go false l = let k = leb-false a b l in ap (λ (z : ℕ). min z c) (min-eq-right (le-of-lt k)) ∙ min-eq-right h
+        ∙ sym (min-eq-right {n = c} {m = a} (omega arith))
 
 -- ---- an unsigned cast
 -- below 2 ^ 52 and 2 ^ w the whole part is a float that `as` takes
@@ -31,14 +38,16 @@ cast-below w b y v small room r x e f h k = rw e (inside (λ x. Casts w (truncOf
         let i = unsigned-back binary64 w q (unfold inFloat in le→leb q big (omega arith)) (omega arith) in
         rw (trunc-at m e f (omega arith)) (unfold ofInt toUnsigned in (i .0, i .1 ∙ sym (min-eq-left (le-ones w (lt-of-lt-of-le p room)))))
 
-pub cast-end : (w : ℕ) (y : Float) → HasValue y false (2 ^ w) 1 → (x : Float) → lt zero64 x ≡ true → lt x y ≡ false → 2 ^ w - 1 ≡ toUnsigned w x
+pub cast-end : (w : ℕ) (y : Float) → HasValue y false (2 ^ w) 1 → (x : Float) → lt zero64 x ≡ true → lt x y ≡ false
+    → 2 ^ w - 1 ≡ toUnsigned w x
 unfolding lt ofBits toUnsigned
 cast-end w y v nan h k = absurd (false≢true h)
 cast-end w y v (inf true) h k = absurd (false≢true h)
 cast-end w y v (inf false) h k = refl
 cast-end w y v (fin true m e) h k = absurd (false≢true h)
 cast-end w y v (fin false m e) h k =
-    let l = ltb-false (m * up e * 1) (2 ^ w * down e) (sym (lt-values (fin false m e) y (m * up e) (2 ^ w) (down e) 1 (down-pos e) (lit< tt) (refl, refl) v) ∙ k) in
+    let l = ltb-false (m * up e * 1) (2 ^ w * down e)
+    (sym (lt-values (fin false m e) y (m * up e) (2 ^ w) (down e) 1 (down-pos e) (lit< tt) (refl, refl) v) ∙ k) in
     let g : 2 ^ w ≤ m * up e / down e = le-div-iff-mul-le (down-pos e) .1 (omega arith) in
     sym (min-eq-right {n = 2 ^ w - 1} {m = m * up e / down e} (omega arith))
 
@@ -77,7 +86,8 @@ unfolding toUnsigned toSigned lt ofBits neg
 negative h w nan g t = absurd (false≢true t)
 negative h w (inf true) g t = let p = pow-lt g in ap (λ (n : ℕ). negℤ (pos n)) (min-eq-right {n = 2 ^ h} {m = 2 ^ w - 1} (omega arith))
 negative h w (inf false) g t = absurd (false≢true t)
-negative h w (fin true m e) g t = let p = pow-lt g in ap (λ (n : ℕ). negℤ (pos n)) (min-min (m * up e / down e) (2 ^ w - 1) (2 ^ h) (omega arith))
+negative h w (fin true m e) g t = let p = pow-lt g in
+    ap (λ (n : ℕ). negℤ (pos n)) (min-min (m * up e / down e) (2 ^ w - 1) (2 ^ h) (omega arith))
 negative h w (fin false m e) g t = absurd (omega (arith, ltb-true (m * up e * 1) (0 * down e) t))
 
 -- ---- a signed cast, as the code makes it: n is the unsigned one of x's size
@@ -114,7 +124,8 @@ module _ (w : Width) (x : Float) (n : ℕ) where
     is-minus = ap (λ (k : ℕ). negℤ (pos (min k (2 ^ hbits w)))) e ∙ negative (hbits w) (bits w) x (shorter w) s
 
     pub below : n < 2 ^ hbits w → toZ w (ofZ w (pos 0 -ℤ toZ w n)) ≡ toSigned (hbits w) x
-    below l = toZ-ofZ w (pos 0 -ℤ toZ w n) (minus-fits l) ∙ minus l ∙ ap (λ (k : ℕ). negℤ (pos k)) (sym (min-eq-left (le-of-lt l))) ∙ is-minus
+    below l = toZ-ofZ w (pos 0 -ℤ toZ w n) (minus-fits l) ∙ minus l ∙ ap (λ (k : ℕ). negℤ (pos k)) (sym (min-eq-left (le-of-lt l)))
+        ∙ is-minus
 
     pub bottom : 2 ^ hbits w ≤ n → negℤ (pos (2 ^ hbits w)) ≡ toSigned (hbits w) x
     bottom l = ap (λ (k : ℕ). negℤ (pos k)) (sym (min-eq-right l)) ∙ is-minus

@@ -1,6 +1,11 @@
--- From the whole number near x to the one below, the one above and the nearest, for 0 < x < 2 ^ 52. A test is added as 0 or 1. Assumes nothing.
-use Rattle.prelude.proofs.Logic.{_≡_, refl, sym, ap, _∙_, Bool, true, false, not, cond, false≢true, ℕ, suc, _+_, _-_, _*_, _%_, _^_, _≤_, _<_, one-mul, mul-comm, mod-one, mod-le, div-add-mod', div-mul-le-self, le-div-iff-mul-le, div-lt-iff-lt-mul, mul-le-mul-right, lt-of-mul-lt-mul-right, pos-of-ne-zero, add-zero, arith, T, ltb, eqb, lit<, lit≤, ℤ, pos, negsuc, ltb-true, ltb-false, eqb-true, eqb-false, le-ltb, boolByte}
-use Rattle.prelude.proofs.Ieee.{Float, nan, inf, fin, binary64, up, down, fits, ofBits, ofInt, round, neg, lt, add, sub, HasValue, round-whole, down-pos, round-fits, neg-fits}
+-- From the whole number near x to the one below, the one above and the nearest, for 0 < x < 2 ^ 52. A test is added as 0 or 1. Assumes
+-- nothing.
+use Rattle.prelude.proofs.Logic.{_≡_, refl, sym, ap, _∙_, Bool, true, false, not, cond, false≢true, ℕ, suc, _+_, _-_, _*_, _%_, _^_, _≤_}
+use Rattle.prelude.proofs.Logic.{_<_, one-mul, mul-comm, mod-one, mod-le, div-add-mod', div-mul-le-self, le-div-iff-mul-le}
+use Rattle.prelude.proofs.Logic.{div-lt-iff-lt-mul, mul-le-mul-right, lt-of-mul-lt-mul-right, pos-of-ne-zero, add-zero, arith, T, ltb, eqb}
+use Rattle.prelude.proofs.Logic.{lit<, lit≤, ℤ, pos, negsuc, ltb-true, ltb-false, eqb-true, eqb-false, le-ltb, boolByte}
+use Rattle.prelude.proofs.Ieee.{Float, nan, inf, fin, binary64, up, down, fits, ofBits, ofInt, round, neg, lt, add, sub, HasValue}
+use Rattle.prelude.proofs.Ieee.{round-whole, down-pos, round-fits, neg-fits}
 use Rattle.float64.specs.Whole.{floorOf, truncOf, roundOf, wholePart, fraction, halfUp}
 use Rattle.float64.proofs.Values.{big, value-unique, dyadic-value, digits, places, over, lt-values}
 use Rattle.float64.proofs.Exact.{sub-same, add-dyadic, sub-dyadic}
@@ -34,7 +39,8 @@ neg-value (fin s m e) a c v = (ap not (v .0), v .1)
 
 pub neg-at : (n : ℕ) → n ≤ big → neg (at n) ≡ round binary64 true n 1
 neg-at n h =
-    value-unique binary64 (neg (at n)) (round binary64 true n 1) true n 1 (lit< tt) (neg-fits binary64 (at n) (round-fits binary64 false n 1)) (round-fits binary64 true n 1)
+    value-unique binary64 (neg (at n)) (round binary64 true n 1) true n 1 (lit< tt)
+    (neg-fits binary64 (at n) (round-fits binary64 false n 1)) (round-fits binary64 true n 1)
     (neg-value (at n) n 1 (at-value n h)) (round-whole binary64 true n h)
 
 module _ (m : ℕ) (e : ℤ) (fit : T (fits binary64 (fin false m e))) (small : m * up e < W * down e) where
@@ -100,7 +106,7 @@ module _ (m : ℕ) (e : ℤ) (fit : T (fits binary64 (fin false m e))) (small : 
             let o = z-under in
             (omega arith, omega arith)
 
-    -- z, and one more where it lies below x
+    -- z, or one more if z is below x
     counted : (t u : Bool) → eqb (fraction m e) 0 ≡ t → ltb (z * d) (a * 1) ≡ u → z + boolByte u ≡ cond t q (suc q)
     counted true u h i =
         let r = eqb-true (fraction m e) 0 h in let g = div-add-mod' a d in let l = q-small in
@@ -133,14 +139,17 @@ module _ (m : ℕ) (e : ℤ) (fit : T (fits binary64 (fin false m e))) (small : 
   rest-is =
       let l = q-small in let v = at-value q (omega arith) in let g = div-add-mod' a d in
       let r : a - q * d ≡ fraction m e = omega arith in
-      sub-same binary64 a (q * d) d (down-pos e) q-under (fin false m e) (at q) (refl, refl) (over (at q) false q d v) ∙ ap (λ (i : ℕ). round binary64 false i d) r
+      sub-same binary64 a (q * d) d (down-pos e) q-under (fin false m e) (at q) (refl, refl) (over (at q) false q d v)
+      ∙ ap (λ (i : ℕ). round binary64 false i d) r
 
   rest-value : HasValue rest false (fraction m e) (down e)
   rest-value = go e fit
     where
-      go : (e : ℤ) → T (fits binary64 (fin false m e)) → HasValue (round binary64 false (fraction m e) (down e)) false (fraction m e) (down e)
+      go : (e : ℤ) → T (fits binary64 (fin false m e))
+          → HasValue (round binary64 false (fraction m e) (down e)) false (fraction m e) (down e)
       go (pos j) f = rw (mod-one (m * 2 ^ j)) (dyadic-value false 0 0 (lit< tt) (lit≤ tt))
-      go (negsuc j) f = dyadic-value false (m * 1 % 2 ^ suc j) (suc j) (let h = digits false m (negsuc j) f in let l = mod-le (m * 1) (2 ^ suc j) in omega arith) (places false m j f)
+      go (negsuc j) f = dyadic-value false (m * 1 % 2 ^ suc j) (suc j)
+          (let h = digits false m (negsuc j) f in let l = mod-le (m * 1) (2 ^ suc j) in omega arith) (places false m j f)
 
   half-up-is : add binary64 (at q) (bit (not (lt (sub binary64 (fin false m e) (at q)) half))) ≡ roundOf (fin false m e)
   unfolding roundOf ofInt ofBits
@@ -153,15 +162,18 @@ module _ (m : ℕ) (e : ℤ) (fit : T (fits binary64 (fin false m e))) (small : 
       last true = add-zero q
       last false = refl
 
-      go : (t u : Bool) → eqb (fraction m e) 0 ≡ t → ltb (fraction m e * 2) (1 * d) ≡ u → at (q + boolByte (not u)) ≡ cond t (fin false m e) (at (halfUp m e))
+      go : (t u : Bool) → eqb (fraction m e) 0 ≡ t → ltb (fraction m e * 2) (1 * d) ≡ u
+          → at (q + boolByte (not u)) ≡ cond t (fin false m e) (at (halfUp m e))
       go true true h i = ap at (add-zero q) ∙ whole (eqb-true (fraction m e) 0 h)
       go true false h i = absurd (omega (arith, eqb-true (fraction m e) 0 h, ltb-false (fraction m e * 2) (1 * d) i, down-pos e))
       go false u h i =
-          let g : ltb (2 * fraction m e) d ≡ u = ap (λ (j : ℕ). ltb j d) (mul-comm 2 (fraction m e)) ∙ ap (ltb (fraction m e * 2)) (sym (one-mul d)) ∙ i in
+          let g : ltb (2 * fraction m e) d ≡ u = ap (λ (j : ℕ). ltb j d) (mul-comm 2 (fraction m e))
+          ∙ ap (ltb (fraction m e * 2)) (sym (one-mul d)) ∙ i in
           rw g (ap at (last u))
 
 -- ---- the same of a float that passed the code's tests
-pub inside : (P : Float → Type 0) (b : ℕ) (y : Float) → HasValue y false b 1 → ((m : ℕ) (e : ℤ) → T (fits binary64 (fin false m e)) → m * up e < b * down e → P (fin false m e))
+pub inside : (P : Float → Type 0) (b : ℕ) (y : Float) → HasValue y false b 1
+    → ((m : ℕ) (e : ℤ) → T (fits binary64 (fin false m e)) → m * up e < b * down e → P (fin false m e))
     → (x : Float) → T (fits binary64 x) → lt zero64 x ≡ true → lt x y ≡ true → P x
 unfolding lt ofBits
 inside P b y v g nan f h k = absurd (false≢true h)
@@ -169,20 +181,26 @@ inside P b y v g (inf true) f h k = absurd (false≢true h)
 inside P b (fin s n c) v g (inf false) f h k = absurd (false≢true k)
 inside P b y v g (fin true m e) f h k = absurd (false≢true h)
 inside P b y v g (fin false m e) f h k =
-    let l = ltb-true (m * up e * 1) (b * down e) (sym (lt-values (fin false m e) y (m * up e) b (down e) 1 (down-pos e) (lit< tt) (refl, refl) v) ∙ k) in
+    let l = ltb-true (m * up e * 1) (b * down e)
+    (sym (lt-values (fin false m e) y (m * up e) b (down e) 1 (down-pos e) (lit< tt) (refl, refl) v) ∙ k) in
     g m e f (omega arith)
 
 abbrev near64 : Float → Float
 near64 x = sub binary64 (add binary64 x whole64) whole64
 
-pub lower-at : (x : Float) → T (fits binary64 x) → lt zero64 x ≡ true → lt x whole64 ≡ true → sub binary64 (near64 x) (bit (lt x (near64 x))) ≡ truncOf x
-lower-at = inside (λ x. sub binary64 (near64 x) (bit (lt x (near64 x))) ≡ truncOf x) W whole64 (whole64-value 1) (λ m e f l. lower-is m e f l (near64 (fin false m e)) (near m e l))
+pub lower-at : (x : Float) → T (fits binary64 x) → lt zero64 x ≡ true → lt x whole64 ≡ true
+    → sub binary64 (near64 x) (bit (lt x (near64 x))) ≡ truncOf x
+lower-at = inside (λ x. sub binary64 (near64 x) (bit (lt x (near64 x))) ≡ truncOf x) W whole64 (whole64-value 1)
+    (λ m e f l. lower-is m e f l (near64 (fin false m e)) (near m e l))
 
-pub upper-at : (x : Float) → T (fits binary64 x) → lt zero64 x ≡ true → lt x whole64 ≡ true → neg (add binary64 (near64 x) (bit (lt (near64 x) x))) ≡ floorOf (neg x)
+pub upper-at : (x : Float) → T (fits binary64 x) → lt zero64 x ≡ true → lt x whole64 ≡ true
+    → neg (add binary64 (near64 x) (bit (lt (near64 x) x))) ≡ floorOf (neg x)
 unfolding neg
-upper-at = inside (λ x. neg (add binary64 (near64 x) (bit (lt (near64 x) x))) ≡ floorOf (neg x)) W whole64 (whole64-value 1) (λ m e f l. upper-is m e f l (near64 (fin false m e)) (near m e l))
+upper-at = inside (λ x. neg (add binary64 (near64 x) (bit (lt (near64 x) x))) ≡ floorOf (neg x)) W whole64 (whole64-value 1)
+    (λ m e f l. upper-is m e f l (near64 (fin false m e)) (near m e l))
 
-pub half-up-at : (k x : Float) → k ≡ truncOf x → T (fits binary64 x) → lt zero64 x ≡ true → lt x whole64 ≡ true → add binary64 k (bit (not (lt (sub binary64 x k) half))) ≡ roundOf x
+pub half-up-at : (k x : Float) → k ≡ truncOf x → T (fits binary64 x) → lt zero64 x ≡ true → lt x whole64 ≡ true
+    → add binary64 k (bit (not (lt (sub binary64 x k) half))) ≡ roundOf x
 half-up-at k x e f h l =
     rw e
     (inside (λ x. add binary64 (truncOf x) (bit (not (lt (sub binary64 x (truncOf x)) half))) ≡ roundOf x) W whole64 (whole64-value 1)

@@ -1,7 +1,12 @@
 -- A float's value as a fraction: `HasValue x s a c` says that x is a / c with the sign s. Two floats with one value are the same float,
 -- the rounding of n / 2 ^ k is exact for n below 2 ^ 53, and a float is the rounding of its own value. Assumes nothing.
-use Rattle.prelude.proofs.Logic.{_≡_, refl, sym, ap, _∙_, subst, Bool, true, false, cond, _&&_, true≢false, ℕ, zero, suc, _+_, _-_, _*_, _/_, _%_, _^_, _≤_, _<_, mul-one, zero-mul, mul-assoc, mul-right-comm, mul-le-mul-left, mul-lt-mul-of-pos-right, lt-of-lt-of-le, le-trans, not-le-of-lt, pow-succ', arith, T, ltb, leb, eqb, ltb→lt, leb→le, eqb→eq, lit<, lit≤, ℤ, pos, negsuc, pow-pos, pow-add, pow-mono, pow-lt, ltb-true, ltb-false, and-l, and-r}
-use Rattle.prelude.proofs.Ieee.{Float, nan, inf, fin, Format, binary64, prec, low, hid, top, up, down, size, fits, toBits, ofBits, round, lt, ofBits-toBits, HasValue, round-exact, transfer, div-same, down-pos, round-fits}
+use Rattle.prelude.proofs.Logic.{_≡_, refl, sym, ap, _∙_, subst, Bool, true, false, cond, _&&_, true≢false, ℕ, zero, suc, _+_, _-_, _*_}
+use Rattle.prelude.proofs.Logic.{_/_, _%_, _^_, _≤_, _<_, mul-one, zero-mul, mul-assoc, mul-right-comm, mul-le-mul-left}
+use Rattle.prelude.proofs.Logic.{mul-lt-mul-of-pos-right, lt-of-lt-of-le, le-trans, not-le-of-lt, pow-succ', arith, T, ltb, leb, eqb}
+use Rattle.prelude.proofs.Logic.{ltb→lt, leb→le, eqb→eq, lit<, lit≤, ℤ, pos, negsuc, pow-pos, pow-add, pow-mono, pow-lt, ltb-true}
+use Rattle.prelude.proofs.Logic.{ltb-false, and-l, and-r}
+use Rattle.prelude.proofs.Ieee.{Float, nan, inf, fin, Format, binary64, prec, low, hid, top, up, down, size, fits, toBits, ofBits, round}
+use Rattle.prelude.proofs.Ieee.{lt, ofBits-toBits, HasValue, round-exact, transfer, div-same, down-pos, round-fits}
 
 -- ---- a value is written in one way
 pattern : Format → Bool → ℕ → ℕ
@@ -17,7 +22,8 @@ pattern-is f (fin t m e) s a c p v =
     (mul-right-comm (m * up e) l c ∙ ap (λ (n : ℕ). n * l) (v .1) ∙ mul-right-comm a (down e) l) in
     ap (λ (b : Bool). pattern f b (m * up e * l / down e)) (v .0) ∙ ap (pattern f s) q
 
-pub value-unique : (f : Format) (x y : Float) (s : Bool) (a c : ℕ) → 0 < c → T (fits f x) → T (fits f y) → HasValue x s a c → HasValue y s a c → x ≡ y
+pub value-unique : (f : Format) (x y : Float) (s : Bool) (a c : ℕ) → 0 < c → T (fits f x) → T (fits f y) → HasValue x s a c
+    → HasValue y s a c → x ≡ y
 value-unique f x y s a c p h k v w =
     sym (ofBits-toBits f x h) ∙ ap (ofBits f) (pattern-is f x s a c p v ∙ sym (pattern-is f y s a c p w)) ∙ ofBits-toBits f y k
 
@@ -47,12 +53,16 @@ large-value s m k h g =
     shift = mul-assoc m (2 ^ k) (2 ^ 1074) ∙ ap (λ (z : ℕ). m * z) (sym (pow-add 2 k 1074))
 
 -- ---- what `fits` says
-parts : (s : Bool) (m : ℕ) (e : ℤ) → T (fits binary64 (fin s (suc m) e)) → (suc m < big) × (down e ≤ 2 ^ 1074) × (suc m * up e < 2 ^ 1024 * down e)
+parts : (s : Bool) (m : ℕ) (e : ℤ) → T (fits binary64 (fin s (suc m) e))
+    → (suc m < big) × (down e ≤ 2 ^ 1074) × (suc m * up e < 2 ^ 1024 * down e)
 unfolding fits
 parts s m e t =
     let o = eqb (suc m % 2) 1 in let d = ltb (suc m) big in let p = leb (down e) (2 ^ 1074) in
-    let r = ltb (suc m * up e) (2 ^ 1024 * down e) in let u = and-l (o && d && p) r t in
-    (ltb→lt (suc m) big (and-r o d (and-l (o && d) p u)), leb→le (down e) (2 ^ 1074) (and-r (o && d) p u), ltb→lt (suc m * up e) (2 ^ 1024 * down e) (and-r (o && d && p) r t))
+    let r = ltb (suc m * up e) (2 ^ 1024 * down e) in let u = and-l (o && d && p) r t in (
+      ltb→lt (suc m) big (and-r o d (and-l (o && d) p u)),
+      leb→le (down e) (2 ^ 1074) (and-r (o && d) p u),
+      ltb→lt (suc m * up e) (2 ^ 1024 * down e) (and-r (o && d && p) r t),
+    )
 
 pub digits : (s : Bool) (m : ℕ) (e : ℤ) → T (fits binary64 (fin s m e)) → m < big
 digits s zero e t = lit< tt
@@ -78,7 +88,8 @@ own : (s : Bool) (m : ℕ) (e : ℤ) → T (fits binary64 (fin s m e)) → HasVa
 own s zero e t =
     round-exact binary64 s (0 * up e) (down e) 0 0 (down-pos e) (lit< tt) (lit< tt)
     (ap (λ (z : ℕ). z * 2 ^ 1074) (zero-mul (up e)) ∙ zero-mul (2 ^ 1074) ∙ sym (zero-mul (down e)))
-own s (suc m) (pos k) t = large-value s (suc m) k (digits s (suc m) (pos k) t) (let l = parts s m (pos k) t .2 in subst (λ (z : ℕ). suc m * 2 ^ k < z) (mul-one (2 ^ 1024)) l)
+own s (suc m) (pos k) t = large-value s (suc m) k (digits s (suc m) (pos k) t)
+    (let l = parts s m (pos k) t .2 in subst (λ (z : ℕ). suc m * 2 ^ k < z) (mul-one (2 ^ 1024)) l)
 own s (suc m) (negsuc k) t =
     subst (λ (z : ℕ). HasValue (round binary64 s z (2 ^ suc k)) s z (2 ^ suc k)) (sym (mul-one (suc m)))
     (dyadic-value s (suc m) (suc k) (digits s (suc m) (negsuc k) t) (places s (suc m) k t))

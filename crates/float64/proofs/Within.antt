@@ -1,7 +1,11 @@
--- Sizes through the operations: a float is finite, and no more than a / c in size. Each bound is n / 2 ^ k with n below 2 ^ 53, a float itself, so
--- rounding, which keeps the order, does not pass it. Assumes nothing.
-use Rattle.prelude.proofs.Logic.{_≡_, refl, sym, ap, _∙_, subst, Bool, true, false, _&&_, _||_, cond, true≢false, ℕ, zero, suc, _+_, _-_, _*_, _/_, _%_, _^_, _≤_, _<_, compare, mul-one, mul-assoc, mul-comm, mul-left-comm, add-mul, mul-pos, mul-le-mul, mul-le-mul-right, le-of-mul-le-mul-right, le-trans, le-of-eq, le-of-lt, arith, T, ltb, eqb, eqb→eq, lit≤, pow-pos, ltb-true, ne-eqb, and-l}
-use Rattle.prelude.proofs.Ieee.{Float, nan, inf, fin, binary64, up, down, unlike, nearest, size, odd, units, round, neg, sum, add, sub, mul, div, le, HasValue, down-pos, round-mono, transfer, first-pos}
+-- Sizes through the operations: a float is finite, and no more than a / c in size. Each bound is n / 2 ^ k with n below 2 ^ 53, a float
+-- itself, so rounding, which keeps the order, does not pass it. Assumes nothing.
+use Rattle.prelude.proofs.Logic.{_≡_, refl, sym, ap, _∙_, subst, Bool, true, false, _&&_, _||_, cond, true≢false, ℕ, zero, suc, _+_, _-_}
+use Rattle.prelude.proofs.Logic.{_*_, _/_, _%_, _^_, _≤_, _<_, compare, mul-one, mul-assoc, mul-comm, mul-left-comm, add-mul, mul-pos}
+use Rattle.prelude.proofs.Logic.{mul-le-mul, mul-le-mul-right, le-of-mul-le-mul-right, le-trans, le-of-eq, le-of-lt, arith, T, ltb, eqb}
+use Rattle.prelude.proofs.Logic.{eqb→eq, lit≤, pow-pos, ltb-true, ne-eqb, and-l}
+use Rattle.prelude.proofs.Ieee.{Float, nan, inf, fin, binary64, up, down, unlike, nearest, size, odd, units, round, neg, sum, add, sub, mul}
+use Rattle.prelude.proofs.Ieee.{div, le, HasValue, down-pos, round-mono, transfer, first-pos}
 use Rattle.float64.specs.Sizes.{absOf}
 use Rattle.float64.specs.Words.{isNegativeOf}
 use Rattle.float64.proofs.Values.{big, dyadic-value}
@@ -104,18 +108,21 @@ under-value (fin false m e) nan a c p n v h = absurd v
 under-value (fin false m e) (inf t) a c p n v h = absurd v
 under-value (fin false m e) (fin true l d) a c p n v h = absurd (true≢false (v .0))
 under-value (fin false m e) (fin false l d) a c p n v h =
-    transfer (m * up e) a (down e) c (m * up e) (l * up d) (down e) (down d) (down-pos e) (down-pos d) refl (sym (v .1)) (le-sizes (m * up e * down d) (l * up d * down e) true h)
+    transfer (m * up e) a (down e) c (m * up e) (l * up d) (down e) (down d) (down-pos e) (down-pos d) refl (sym (v .1))
+    (le-sizes (m * up e * down d) (l * up d * down e) true h)
 
 -- rounding does not pass a bound that is a float
 module _ (a b n k : ℕ) (p : 0 < b) (h : n < big) (g : k ≤ 1074) (l : a * 2 ^ k ≤ n * b) where
   plain-within : Within (round binary64 false a b) n (2 ^ k)
   plain-within =
-      under-value (round binary64 false a b) (round binary64 false n (2 ^ k)) n (2 ^ k) (pow-pos k) (round-signed a b false) (dyadic-value false n k h g)
+      under-value (round binary64 false a b) (round binary64 false n (2 ^ k)) n (2 ^ k) (pow-pos k) (round-signed a b false)
+      (dyadic-value false n k h g)
       (round-mono binary64 a b n (2 ^ k) p (pow-pos k) l)
 
   pub round-within : (s : Bool) → Within (round binary64 s a b) n (2 ^ k)
   round-within false = plain-within
-  round-within true = subst (λ (x : Float). Within x n (2 ^ k)) (sym (round-neg a b)) (neg-within (round binary64 false a b) n (2 ^ k) plain-within)
+  round-within true =
+      subst (λ (x : Float). Within x n (2 ^ k)) (sym (round-neg a b)) (neg-within (round binary64 false a b) n (2 ^ k) plain-within)
 
 -- ---- the operations
 ruleset ring = (mul-assoc, mul-comm, mul-left-comm)
@@ -127,21 +134,25 @@ product M N E D a b c d q w C D' h k l =
     let v : a * E * (b * D) * w ≡ a * b * w * (E * D) = simp ring in
     let x : q * (c * d) * (E * D) ≡ q * (E * D) * (c * d) = simp ring in
     le-of-mul-le-mul-right
-    (le-trans (le-of-eq u) (le-trans (mul-le-mul-right w (mul-le-mul h k)) (le-trans (le-of-eq v) (le-trans (mul-le-mul-right (E * D) l) (le-of-eq x)))))
+    (le-trans (le-of-eq u)
+    (le-trans (mul-le-mul-right w (mul-le-mul h k)) (le-trans (le-of-eq v) (le-trans (mul-le-mul-right (E * D) l) (le-of-eq x)))))
     (mul-pos C D')
 
-pub mul-within : (x y : Float) (a b c d n k : ℕ) → 0 < c → 0 < d → Within x a c → Within y b d → n < big → k ≤ 1074 → a * b * 2 ^ k ≤ n * (c * d) → Within (mul binary64 x y) n (2 ^ k)
+pub mul-within : (x y : Float) (a b c d n k : ℕ) → 0 < c → 0 < d → Within x a c → Within y b d → n < big → k ≤ 1074
+    → a * b * 2 ^ k ≤ n * (c * d) → Within (mul binary64 x y) n (2 ^ k)
 unfolding mul
 mul-within nan y a b c d n k C D h i p q l = absurd h
 mul-within (inf s) y a b c d n k C D h i p q l = absurd h
 mul-within (fin s m e) nan a b c d n k C D h i p q l = absurd i
 mul-within (fin s m e) (inf t) a b c d n k C D h i p q l = absurd i
 mul-within (fin s m e) (fin t r f) a b c d n k C D h i p q l =
-    round-within (m * up e * (r * up f)) (down e * down f) n k (mul-pos (down-pos e) (down-pos f)) p q (product (m * up e) (r * up f) (down e) (down f) a b c d n (2 ^ k) C D h i l)
+    round-within (m * up e * (r * up f)) (down e * down f) n k (mul-pos (down-pos e) (down-pos f)) p q
+    (product (m * up e) (r * up f) (down e) (down f) a b c d n (2 ^ k) C D h i l)
     (unlike s t)
 
 -- by a divisor that is b / d
-pub div-within : (x y : Float) (t : Bool) (a b c d n k : ℕ) → 0 < b → 0 < c → 0 < d → Within x a c → HasValue y t b d → n < big → k ≤ 1074 → a * d * 2 ^ k ≤ n * (b * c) → Within (div binary64 x y) n (2 ^ k)
+pub div-within : (x y : Float) (t : Bool) (a b c d n k : ℕ) → 0 < b → 0 < c → 0 < d → Within x a c → HasValue y t b d → n < big → k ≤ 1074
+    → a * d * 2 ^ k ≤ n * (b * c) → Within (div binary64 x y) n (2 ^ k)
 unfolding div
 div-within nan y t a b c d n k B C D h v p q l = absurd h
 div-within (inf s) y t a b c d n k B C D h v p q l = absurd h
@@ -153,7 +164,8 @@ div-within (fin s m e) (fin u r f) t a b c d n k B C D h v p q l =
     rw (ne-eqb r 0 (λ (i : r ≡ 0). omega arith))
     (round-within (m * up e * down f) (r * up f * down e) n k (mul-pos z (down-pos e)) p q
     (subst (λ (i : ℕ). m * up e * down f * 2 ^ k ≤ n * i) (mul-comm (down e) (r * up f))
-    (product (m * up e) (down f) (down e) (r * up f) a d c b n (2 ^ k) C B h (le-of-eq (mul-comm (down f) b ∙ sym (v .1) ∙ mul-comm (r * up f) d)) (subst (λ (i : ℕ). a * d * 2 ^ k ≤ n * i) (mul-comm b c) l)))
+    (product (m * up e) (down f) (down e) (r * up f) a d c b n (2 ^ k) C B h
+    (le-of-eq (mul-comm (down f) b ∙ sym (v .1) ∙ mul-comm (r * up f) d)) (subst (λ (i : ℕ). a * d * 2 ^ k ≤ n * i) (mul-comm b c) l)))
     (unlike s u))
 
 -- sums and differences, for whole bounds
@@ -182,7 +194,8 @@ add-within (fin s m e) (fin t n d) a b h k p = by-sign s t
     D = down e * down d
 
     at : (u : Bool) (c : ℕ) → c ≤ A + B → Within (round binary64 u c D) (a + b) 1
-    at u c l = let w = within-sum (m * up e) (n * up d) (down e) (down d) a b h k in round-within c D (a + b) 0 (mul-pos (down-pos e) (down-pos d)) p (lit≤ tt) (omega arith) u
+    at u c l = let w = within-sum (m * up e) (n * up d) (down e) (down d) a b h k in
+        round-within c D (a + b) 0 (mul-pos (down-pos e) (down-pos d)) p (lit≤ tt) (omega arith) u
 
     apart : (t u r : Bool) → Within (cond r (round binary64 t (B - A) D) (round binary64 u (A - B) D)) (a + b) 1
     apart t u true = at t (B - A) (omega arith)
@@ -199,7 +212,8 @@ unfolding sub
 sub-within x y a b h k p = add-within x (neg y) a b h (neg-within y b 1 k) p
 
 -- the difference of two whole numbers that are no more than c apart
-pub apart-within : (x y : Float) (a b c : ℕ) → HasValue x false a 1 → HasValue y false b 1 → a ≤ b + c → b ≤ a + c → c < big → Within (sub binary64 x y) c 1
+pub apart-within : (x y : Float) (a b c : ℕ) → HasValue x false a 1 → HasValue y false b 1 → a ≤ b + c → b ≤ a + c → c < big
+    → Within (sub binary64 x y) c 1
 unfolding sub neg add sum
 apart-within nan y a b c v w h k p = absurd v
 apart-within (inf s) y a b c v w h k p = absurd v
@@ -222,7 +236,8 @@ apart-within (fin false m e) (fin false n d) a b c v w h k p = by-test (ltb A B)
     a-is = ap (λ (z : ℕ). z * down d) (sym (mul-one (m * up e)) ∙ v .1) ∙ mul-assoc a (down e) (down d)
 
     b-is : B ≡ b * D
-    b-is = ap (λ (z : ℕ). z * down e) (sym (mul-one (n * up d)) ∙ w .1) ∙ mul-assoc b (down d) (down e) ∙ ap (λ (z : ℕ). b * z) (mul-comm (down d) (down e))
+    b-is = ap (λ (z : ℕ). z * down e) (sym (mul-one (n * up d)) ∙ w .1) ∙ mul-assoc b (down d) (down e)
+        ∙ ap (λ (z : ℕ). b * z) (mul-comm (down d) (down e))
 
     at : (u : Bool) (q : ℕ) → q ≤ c * D → Within (round binary64 u q D) c 1
     at u q l = round-within q D c 0 (mul-pos (down-pos e) (down-pos d)) p (lit≤ tt) (omega arith) u

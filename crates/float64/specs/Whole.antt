@@ -1,5 +1,5 @@
 -- Whole numbers near an f64: Rust's `floor`, `trunc` and `round`, "helpers" (document 01).
--- The size of `fin s m e` is m * up e / down e: the quotient is its whole part, and the remainder is 0 where it has no fraction.
+-- The size of `fin s m e` is m * up e / down e: the quotient is its whole part, and the remainder is 0 if it has no fraction.
 use Prim.Native.Nat.{ℕ, _+_, _*_, _/_, _%_}
 use mathlib.Core.Bool.{cond}
 use lib.IntN.{ℤ, pos, negsuc}
@@ -22,7 +22,8 @@ floorOf (fin s m e) = cond (eqb (fraction m e) 0) (fin s m e) (ofInt binary64 (c
 unfoldable pub truncOf : Float → Float
 truncOf nan = nan
 truncOf (inf s) = inf s
-truncOf (fin s m e) = cond (eqb (fraction m e) 0) (fin s m e) (cond s (neg (ofInt binary64 (pos (wholePart m e)))) (ofInt binary64 (pos (wholePart m e))))
+truncOf (fin s m e) =
+    cond (eqb (fraction m e) 0) (fin s m e) (cond s (neg (ofInt binary64 (pos (wholePart m e)))) (ofInt binary64 (pos (wholePart m e))))
 
 -- the whole part, and one more from a half on
 abbrev pub halfUp : ℕ → ℤ → ℕ
@@ -32,4 +33,5 @@ halfUp m e = cond (ltb (2 * fraction m e) (down e)) (wholePart m e) (wholePart m
 unfoldable pub roundOf : Float → Float
 roundOf nan = nan
 roundOf (inf s) = inf s
-roundOf (fin s m e) = cond (eqb (fraction m e) 0) (fin s m e) (cond s (neg (ofInt binary64 (pos (halfUp m e)))) (ofInt binary64 (pos (halfUp m e))))
+roundOf (fin s m e) =
+    cond (eqb (fraction m e) 0) (fin s m e) (cond s (neg (ofInt binary64 (pos (halfUp m e)))) (ofInt binary64 (pos (halfUp m e))))

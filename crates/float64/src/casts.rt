@@ -3,7 +3,8 @@ ghost use mathlib.Core.Path.{_≡_};
 ghost use lib.Ieee.{toSigned, toUnsigned};
 use crate::whole::trunc;
 
-// Rust's `x as u64`. Below 2^52 the whole part is a float that one instruction casts; std's function, which shifts the bit pattern, serves the rest.
+// Rust's `x as u64`. Below 2^52 the whole part is a float that one instruction casts; std's function, which shifts the bit pattern, is used
+// above that.
 pub fn to_u64(x: f64) -> u64
     ensures { λ r. ⌜ r ≡ toUnsigned 64 x ⌝ }
 {
@@ -19,7 +20,7 @@ pub fn to_u64(x: f64) -> u64
     0
 }
 
-// Rust's `x as u32`. Here the instruction serves the whole range.
+// Rust's `x as u32`. One instruction covers the whole range.
 pub fn to_u32(x: f64) -> u32
     ensures { λ r. ⌜ r ≡ toUnsigned 32 x ⌝ }
 {

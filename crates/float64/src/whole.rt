@@ -1,5 +1,5 @@
-// Whole numbers near a float. The work is done on positive numbers: a negative x is taken by its opposite, and a zero, whose sign must stay, and a NaN
-// are their own results.
+// Whole numbers near a float. The work is done on positive numbers: a negative x is taken by its opposite, and a zero, whose sign must
+// stay, and a NaN are their own results.
 ghost use mathlib.Core.Path.{_≡_};
 ghost use mathlib.Core.Bool.{true};
 ghost use lib.Ieee.{lt, neg};

@@ -1,32 +1,57 @@
 -- The date of a day by its number, within the years that a u32 holds. Assumes nothing.
-use Rattle.prelude.proofs.Logic.{_≡_, ap, true, ℕ, _+_, _-_, _≤_, _<_, arith, ℤ, pos, _+ℤ_, le-leb, lt-leb}
+use Rattle.prelude.proofs.Logic.{_≡_, refl, sym, ap, _∙_, true, cond, ℕ, _+_, _-_, _≤_, _<_, arith, leb, ℤ, pos, _+ℤ_, leb-true, leb-false}
+use Rattle.prelude.proofs.Logic.{le-leb, lt-leb, cases}
 use Rattle.integers.proofs.Integers.{P, N, not-positive, sum}
 use Rattle.calendar.proofs.Counting.{capped}
-use Rattle.hijri.specs.Rule.{leapOf}
-use Rattle.hijri.specs.Days.{yearStartOf, monthStartOf, yearOf, monthOf, sinceFirstOf, dateOfDayOf, ofDayOf}
-use Rattle.hijri.proofs.YearSteps.{year-step, year-found, year-held}
+use Rattle.hijri.specs.Rule.{dateOf, leapOf}
+use Rattle.hijri.specs.Days.{yearStartOf, monthStartOf, yearOf, monthOf, inYearOf, dateAtOf, dateOfDayOf, heldOf, ofDayOf}
+use Rattle.hijri.specs.Counted.{sinceFirstOf}
+use Rattle.hijri.proofs.YearSteps.{year-step, year-found, year-held, year-past}
 use Rattle.hijri.proofs.MonthSteps.{year-short, month-place}
 
 pub since-small : (z : ℤ) → sinceFirstOf z ≤ 1521993243770
 unfolding sinceFirstOf
 since-small z = capped (P (z +ℤ pos 492148)) 1521993243770
 
+year-at : (n : ℕ) → dateAtOf n .year ≡ yearOf n
+unfolding dateAtOf inYearOf
+year-at n = refl
+
+last-date : dateAtOf 1521993243770 ≡ dateOf 4294967295 12 29
+unfolding dateAtOf inYearOf yearOf monthOf yearStartOf monthStartOf
+last-date = refl
+
+-- what the code returns is the calendar's date, up to the last date of the year 4294967295
+pub of-day-is : (z : ℤ) → P (z +ℤ pos 492148) ≤ 1521993243770 → ofDayOf z ≡ dateOfDayOf z
+unfolding heldOf dateOfDayOf
+of-day-is z h =
+    let n = P (z +ℤ pos 492148) in
+    rw (year-at n, le-leb (yearOf n) 4294967295 (year-held n h))
+
+-- and from there on that date
+of-day-last : (z : ℤ) → 1521993243770 < P (z +ℤ pos 492148) → ofDayOf z ≡ dateAtOf 1521993243770
+unfolding heldOf dateOfDayOf
+of-day-last z h =
+    let n = P (z +ℤ pos 492148) in
+    rw (year-at n, lt-leb (yearOf n) 4294967295 (year-past n h)) (sym last-date)
+
+pub since-held : (z : ℤ) → dateAtOf (sinceFirstOf z) ≡ ofDayOf z
+unfolding sinceFirstOf dateOfDayOf
+since-held z =
+    let n = P (z +ℤ pos 492148) in
+    cases (leb n 1521993243770) (λ e. rw e (sym (of-day-is z (leb-true n 1521993243770 e))))
+    (λ e. rw e (sym (of-day-last z (leb-false n 1521993243770 e))))
+
 -- outside the calendar it is the nearer end
-pub since-below : (z : ℤ) → P z + 492148 ≤ N z → sinceFirstOf z ≡ 0
-unfolding sinceFirstOf
-since-below z h =
+pub of-day-below : (z : ℤ) → P z + 492148 ≤ N z → ofDayOf z ≡ dateAtOf 0
+unfolding dateOfDayOf
+of-day-below z h =
     let s = sum z (pos 492148) in
     let n = not-positive (z +ℤ pos 492148) (omega arith) in
-    rw n
+    of-day-is z (omega arith) ∙ ap dateAtOf n
 
-pub since-above : (z : ℤ) → N z + 1521992751622 < P z → sinceFirstOf z ≡ 1521993243770
-unfolding sinceFirstOf
-since-above z h = let s = sum z (pos 492148) in rw (lt-leb (P (z +ℤ pos 492148)) 1521993243770 (omega arith))
-
--- what the code answers is the calendar's date, up to the last date of the year 4294967295
-pub of-day-is : (z : ℤ) → P (z +ℤ pos 492148) ≤ 1521993243770 → ofDayOf z ≡ dateOfDayOf z
-unfolding sinceFirstOf dateOfDayOf
-of-day-is z h = rw (le-leb (P (z +ℤ pos 492148)) 1521993243770 h)
+pub of-day-above : (z : ℤ) → N z + 1521992751622 < P z → ofDayOf z ≡ dateAtOf 1521993243770
+of-day-above z h = let s = sum z (pos 492148) in of-day-last z (omega arith)
 
 -- the code's numbers: the n days of a day z, their year y and the days b before it
 module _ (z : ℤ) (n : ℕ) (s : n ≡ sinceFirstOf z) where

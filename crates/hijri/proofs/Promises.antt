@@ -2,7 +2,8 @@
 use Rattle.hijri.specs.Promises.{CalendarIsTabular}
 use Rattle.hijri.proofs.RamadanLaws.{start-yes, start-only}
 use Rattle.hijri.proofs.ThereAndBack.{back-and-there, order-date}
-use Rattle.hijri.proofs.TabularLaws.{first-day, first-exists, day-after, day-after-exists, date-of-number, number-of-date, date-of-day-exists}
+use Rattle.hijri.proofs.TabularLaws.{first-day, first-exists, day-after, day-after-exists, date-of-number, number-of-date}
+use Rattle.hijri.proofs.TabularLaws.{date-of-day-exists}
 
 pub calendar-is-tabular : CalendarIsTabular
 calendar-is-tabular =

@@ -1,13 +1,15 @@
--- The code's test for the first day of Ramadan: it says yes of each year's first of month 9, moved by the shift, and of no other day. Assumes nothing.
-use Rattle.prelude.proofs.Logic.{_≡_, refl, sym, ap, _∙_, true, true≢false, and-eq-true-iff, ℕ, _≤_, arith, eqb, ℤ, pos, negsuc, _+ℤ_, _-ℤ_, leZ, eqb-true, cases}
+-- The code's test for the first day of Ramadan: it says yes of each year's first of month 9, moved by the shift, and of no other day.
+-- Assumes nothing.
+use Rattle.prelude.proofs.Logic.{_≡_, refl, sym, ap, _∙_, true, true≢false, and-eq-true-iff, ℕ, _≤_, arith, eqb, ℤ, pos, negsuc, _+ℤ_, _-ℤ_}
+use Rattle.prelude.proofs.Logic.{leZ, eqb-true, cases}
 use Rattle.integers.proofs.Integers.{same, sum, difference, le-no}
 use Rattle.hijri.specs.Rule.{dateOf, leapOf, existsOf}
-use Rattle.hijri.specs.Days.{yearStartOf, monthStartOf, countOf, dayNumberOf, dateAtOf, ofDayOf}
+use Rattle.hijri.specs.Days.{yearStartOf, monthStartOf, countOf, dayNumberOf, ofDayOf}
 use Rattle.hijri.specs.Ramadan.{firstOfRamadanOf, shiftedStartOf, opensRamadan, ramadanStartOf}
 use Rattle.hijri.specs.declared.dates.Tabular.{Tabular}
 use Rattle.hijri.proofs.MonthSteps.{length-some}
 use Rattle.hijri.proofs.Existing.{to-exists}
-use Rattle.hijri.proofs.ByCount.{since-below, since-above}
+use Rattle.hijri.proofs.ByCount.{of-day-below, of-day-above}
 use Rattle.hijri.proofs.RamadanStart.{first-not, last-not}
 use Rattle.hijri.proofs.ThereAndBack.{of-day-back, of-day-forth}
 
@@ -44,6 +46,6 @@ start-only z shift h = by-place (z -ℤ shift) h
         cases (leZ (negsuc 492147) x)
         (λ p. cases (leZ x (pos 1521992751622)) (λ q. ap dayNumberOf (opened (ofDayOf x) h) ∙ of-day-forth x p q)
         (λ q. let l = le-no x (pos 1521992751622) q in
-        absurd (true≢false (sym h ∙ ap (λ (n : ℕ). opensRamadan (dateAtOf n)) (since-above x (omega arith)) ∙ last-not))))
+        absurd (true≢false (sym h ∙ ap opensRamadan (of-day-above x (omega arith)) ∙ last-not))))
         (λ p. let l = le-no (negsuc 492147) x p in
-        absurd (true≢false (sym h ∙ ap (λ (n : ℕ). opensRamadan (dateAtOf n)) (since-below x (omega arith)) ∙ first-not)))
+        absurd (true≢false (sym h ∙ ap opensRamadan (of-day-below x (omega arith)) ∙ first-not)))

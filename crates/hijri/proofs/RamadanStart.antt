@@ -3,7 +3,7 @@ use Rattle.prelude.proofs.Logic.{_≡_, refl, sym, ap, _∙_, true, false, ℕ,
 use Rattle.integers.proofs.Integers.{P, N, difference, lt-yes, lt-no, range, fits, readBack, read, read-wide}
 use Rattle.hijri.specs.Days.{yearStartOf, monthStartOf, yearOf, monthOf, inYearOf, dateAtOf}
 use Rattle.hijri.specs.Ramadan.{opensRamadan, ramadanStartOf}
-use Rattle.hijri.proofs.ByCount.{since-below, since-above}
+use Rattle.hijri.proofs.ByCount.{of-day-below, of-day-above}
 
 -- neither the first date of the calendar nor the last
 pub first-not : opensRamadan (dateAtOf 0) ≡ false
@@ -34,13 +34,13 @@ module _ (z : ℤ) (f : SFits w64 z) (s : ℤ) (g : SFits w32 s) where
   unfolding ramadanStartOf
   far-below t =
       let l = lt-yes z (negsuc 999999999999) (ap (λ (x : ℤ). ltZ x (negsuc 999999999999)) (sym same-read) ∙ t) in
-      rw (since-below (z -ℤ s) (omega (arith, range w32 s g, difference z s .0, difference z s .1))) (sym first-not)
+      rw (of-day-below (z -ℤ s) (omega (arith, range w32 s g, difference z s .0, difference z s .1))) (sym first-not)
 
   pub far-above : ltZ (pos 2000000000000) (readBack w64 z) ≡ true → false ≡ ramadanStartOf z s
   unfolding ramadanStartOf
   far-above t =
       let l = lt-yes (pos 2000000000000) z (ap (ltZ (pos 2000000000000)) (sym same-read) ∙ t) in
-      rw (since-above (z -ℤ s) (omega (arith, range w32 s g, difference z s .0, difference z s .1))) (sym last-not)
+      rw (of-day-above (z -ℤ s) (omega (arith, range w32 s g, difference z s .0, difference z s .1))) (sym last-not)
 
   module _ (a : ltZ (readBack w64 z) (negsuc 999999999999) ≡ false) (b : ltZ (pos 2000000000000) (readBack w64 z) ≡ false) where
     near-fits : SFits w64 (z -ℤ s)

@@ -20,7 +20,10 @@ after d h =
     let leap = leapOf (d .year) in let x = exists-yes d h in let m = month-of-date d x in
     cases (ltb (d .day) (monthDaysOf (d .year) (d .month)))
     (λ p. let e = dateOf (d .year) (d .month) (d .day + 1) in let l = ltb-true (d .day) (monthDaysOf (d .year) (d .month)) p in
-    rw p (record { there = to-exists e (record { year = x .year; from = omega arith; to = omega arith }); number = omega (arith, count-is d, count-is e) }))
+    rw p (record {
+      there = to-exists e (record { year = x .year; from = omega arith; to = omega arith });
+      number = omega (arith, count-is d, count-is e);
+    }))
     (λ p. let l = ltb-false (d .day) (monthDaysOf (d .year) (d .month)) p in
     cases (ltb (d .month) 12)
     (λ q. let e = dateOf (d .year) (d .month + 1) 1 in let u = ltb-true (d .month) 12 q in
@@ -31,7 +34,8 @@ after d h =
     (λ q. let e = dateOf (d .year + 1) 1 1 in let t : d .month ≡ 12 = omega (arith, ltb-false (d .month) 12 q) in
     rw (p, q) (record {
       there = to-exists e (record { year = omega arith; from = omega arith; to = length-some (leapOf (d .year + 1)) 0 (omega arith) });
-      number = omega (arith, year-step (d .year), month-last leap, count-is d, count-is e, ap monthStartOf t, ap (lengthOf leap) t, month-first);
+      number =
+          omega (arith, year-step (d .year), month-last leap, count-is d, count-is e, ap monthStartOf t, ap (lengthOf leap) t, month-first);
     })))
 
 -- ---- day numbers

@@ -44,11 +44,13 @@ there-and-back d h l =
     ap gregorian-days.dateOfDayOf (number-of-date (gregorian-days.dayNumberOf d) l) ∙ gregorian-laws.date-of-number d h
 
 -- tabular, Gregorian, tabular: for every date
-pub back-and-there : (d : Tabular) → existsOf d ≡ true → dateOfDayOf (gregorian-days.dayNumberOf (gregorian-days.dateOfDayOf (dayNumberOf d))) ≡ d
+pub back-and-there : (d : Tabular) → existsOf d ≡ true
+    → dateOfDayOf (gregorian-days.dayNumberOf (gregorian-days.dateOfDayOf (dayNumberOf d))) ≡ d
 back-and-there d h =
     let l = count-least d h in
     let b = balance d in
-    ap dateOfDayOf (gregorian-laws.number-of-date (dayNumberOf d) (to-le (negsuc 719527) (dayNumberOf d) (omega arith))) ∙ date-of-number d h
+    ap dateOfDayOf (gregorian-laws.number-of-date (dayNumberOf d) (to-le (negsuc 719527) (dayNumberOf d) (omega arith)))
+    ∙ date-of-number d h
 
 -- ---- the same by the functions of the code, for every date of 1899 to 2200: an order's dates, with those that a shift and 30 rows reach
 module _ (d : Date) (h : gregorian.existsOf d ≡ true) (p : 1899 ≤ d .year) (q : d .year ≤ 2200) where

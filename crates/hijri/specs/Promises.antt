@@ -1,5 +1,5 @@
--- Request 12: the tabular Islamic calendar. What Days counts is the calendar of Rule, from 1-1-1 on, which is Julian Day 1948439.5; and a start of
--- Ramadan is the first of its ninth month, moved by the shift. Proved in proofs/Promises.
+-- Request 12: the tabular Islamic calendar. What Days counts is the calendar of Rule, from 1-1-1 on, which is Julian Day 1948439.5; and a
+-- start of Ramadan is the first of its ninth month, moved by the shift. Proved in proofs/Promises.
 use Prim.Native.Nat.{ℕ, _≤_}
 use mathlib.Core.Path.{_≡_}
 use mathlib.Core.Bool.{true}
@@ -21,8 +21,8 @@ pub record CalendarIsTabular : Type 0 where
   -- from date to number and back; every day from 1-1-1 on has a date
   pub date : (d : Tabular) → existsOf d ≡ true → dateOfDayOf (dayNumberOf d) ≡ d
   pub number : (z : ℤ) → leZ (negsuc 492147) z ≡ true → (existsOf (dateOfDayOf z) ≡ true) × (dayNumberOf (dateOfDayOf z) ≡ z)
-  -- "Conversion goes from Gregorian and back without loss for every date an order may have", by the functions of the code; and the other way for
-  -- every date, by the rule
+  -- "Conversion goes from Gregorian and back without loss for every date an order may have", by the functions of the code; and the other
+  -- way for every date, by the rule
   pub «there_and_back» : (d : Date) → gregorian.existsOf d ≡ true → 1899 ≤ d .year → d .year ≤ 2200
       → answers.ofDayOf (dayNumberOf (ofDayOf (days.dayNumberOf d))) ≡ d
   pub «back_and_there» : (d : Tabular) → existsOf d ≡ true → dateOfDayOf (days.dayNumberOf (days.dateOfDayOf (dayNumberOf d))) ≡ d

@@ -1,9 +1,10 @@
 -- Demand 3 over what a host gets: each answer is one of a call's two cases, and order_laws has proved it of those. Assumes nothing.
-use Rattle.prelude.proofs.Logic.{_≡_, refl, sym, ap, _∙_, subst, true, List, ℕ, _≤_, arith, ltb, ltb-true, ltb-false, le-ltb, cases, true≢false}
+use Rattle.prelude.proofs.Logic.{_≡_, refl, sym, ap, _∙_, subst, true, List, ℕ, _≤_, arith, ltb, ltb-true, ltb-false, le-ltb, cases}
+use Rattle.prelude.proofs.Logic.{true≢false}
 use Rattle.prelude.specs.Lists.{listed}
-use Rattle.calls.specs.Calls.{lacksRow, workRowOf, workReadingOf, workDayOf, instantFits, prayerAtOf}
-use Rattle.calls.specs.declared.in_force.InForce.{InForce}
-use Rattle.calls.specs.declared.in_force.InForce.the-variants as force
+use Rattle.days.specs.Calls.{lacksRow, workRowOf, workReadingOf, workDayOf, instantFits, prayerAtOf}
+use Rattle.days.specs.declared.in_force.InForce.{InForce}
+use Rattle.days.specs.declared.in_force.InForce.the-variants as force
 use Rattle.katchidul.specs.Exports.{dayAnswerOf, prayerAnswerOf}
 use Rattle.order_laws.specs.Minutes.{LaterOrder, MovedRow}
 use Rattle.order_laws.specs.NothingBreaks.{dayNumbers}
@@ -93,8 +94,8 @@ module _ (a b : List ℕ) (orders : LaterOrder a b) (row : ℕ) where
 pub later-orders-move-for-host : LaterOrdersMoveForHost
 unfolding moved
 later-orders-move-for-host a b orders row =
-    let p = orders .first .parameters in
-    let q = orders .second .parameters in
+    let p = orders .first .setting .parameters in
+    let q = orders .second .setting .parameters in
     let m = later-orders-move-their-rows a b orders row in
     record {
       refused = refused-same a b orders row (workDayOf a row) (workDayOf b row) refl refl;

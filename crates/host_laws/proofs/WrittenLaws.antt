@@ -1,4 +1,4 @@
--- Two orders that are read as the same numbers have the same record, but for where the town is. Assumes nothing.
+-- Two orders that are read as the same numbers have the same record, except for the town's offset. Assumes nothing.
 use Rattle.prelude.proofs.Logic.{_≡_, refl, sym, ap, subst, _∙_, Bool, true, false, List, ℕ, _+_, _≤_, arith, ℤ, pos}
 use Rattle.integers.proofs.Integers.{P, N, natural}
 use Rattle.unit.specs.declared.Coordinates.{Coordinates}
@@ -26,7 +26,8 @@ use Rattle.order_laws.proofs.EitherFormLaws.{answered-alike}
 use Rattle.host_laws.specs.Written.{WrittenAnswersAlike}
 
 -- what a method brings and no tag changes
-maghrib-own : (v : Values) → orderOf v .parameters .«maghrib_angle» ≡ presetOf (orderOf v .parameters .method) .«maghrib_angle»
+maghrib-own : (v : Values)
+    → orderOf v .setting .parameters .«maghrib_angle» ≡ presetOf (orderOf v .setting .parameters .method) .«maghrib_angle»
 unfolding orderOf parametersIn
 maghrib-own v = ap (λ (m : Method). presetOf m .«maghrib_angle») (sym (brought (methodOf (byteOf (v .value 6) 0)) .named))
 
@@ -39,24 +40,29 @@ set-told false true e = absurd (omega (arith, e))
 
 module _ (s t : List ℕ) (o p : Order) (x : readingOf s ≡ Read o) (y : readingOf t ≡ Read p) (town : List ℕ)
     (e : orderRead p ≡ again (orderRead o) town) where
-  own : (q : Order) (l : List ℕ) → readingOf l ≡ Read q → q .parameters .«maghrib_angle» ≡ presetOf (q .parameters .method) .«maghrib_angle»
-  own q l z = subst (λ (r : Order). r .parameters .«maghrib_angle» ≡ presetOf (r .parameters .method) .«maghrib_angle») (read-passed l q z .same) (maghrib-own (valuesOf l))
+  own : (q : Order) (l : List ℕ) → readingOf l ≡ Read q
+      → q .setting .parameters .«maghrib_angle» ≡ presetOf (q .setting .parameters .method) .«maghrib_angle»
+  own q l z = subst (λ (r : Order). r .setting .parameters .«maghrib_angle» ≡ presetOf (r .setting .parameters .method) .«maghrib_angle»)
+      (read-passed l q z .same) (maghrib-own (valuesOf l))
 
   -- an interval that is read is its number
-  interval : (q : Order) (l : List ℕ) → readingOf l ≡ Read q → q .parameters .«isha_interval» ≡ pos (P (q .parameters .«isha_interval»))
+  interval : (q : Order) (l : List ℕ) → readingOf l ≡ Read q
+      → q .setting .parameters .«isha_interval» ≡ pos (P (q .setting .parameters .«isha_interval»))
   interval q l z =
       let from = read-accepted l q z .parameters .«isha_interval» .from in
-      natural (q .parameters .«isha_interval») (omega arith)
+      natural (q .setting .parameters .«isha_interval») (omega arith)
 
-  parameters-told : p .parameters ≡ o .parameters
+  parameters-told : p .setting .parameters ≡ o .setting .parameters
   unfolding orderRead
   parameters-told =
-      let a = p .parameters in
-      let b = o .parameters in
+      let a = p .setting .parameters in
+      let b = o .setting .parameters in
       let method = sym (method-back (a .method)) ∙ ap (λ (n : OrderNumbers). methodOf (n .method)) e ∙ method-back (b .method) in
       let madhab = sym (madhab-back (a .madhab)) ∙ ap (λ (n : OrderNumbers). madhabOf (n .madhab)) e ∙ madhab-back (b .madhab) in
-      let rule = sym (rule-back (a .«high_latitude_rule»)) ∙ ap (λ (n : OrderNumbers). ruleOf (n .«high_latitude_rule»)) e ∙ rule-back (b .«high_latitude_rule») in
-      let rounding = sym (rounding-back (a .rounding)) ∙ ap (λ (n : OrderNumbers). roundingOf (n .rounding)) e ∙ rounding-back (b .rounding) in
+      let rule = sym (rule-back (a .«high_latitude_rule»)) ∙ ap (λ (n : OrderNumbers). ruleOf (n .«high_latitude_rule»)) e
+      ∙ rule-back (b .«high_latitude_rule») in
+      let rounding = sym (rounding-back (a .rounding)) ∙ ap (λ (n : OrderNumbers). roundingOf (n .rounding)) e
+      ∙ rounding-back (b .rounding) in
       let shafaq = sym (shafaq-back (a .shafaq)) ∙ ap (λ (n : OrderNumbers). shafaqOf (n .shafaq)) e ∙ shafaq-back (b .shafaq) in
       let fajr = ap (λ (n : OrderNumbers). n .«fajr_angle») e in
       let isha = ap (λ (n : OrderNumbers). n .«isha_angle») e in
@@ -64,7 +70,8 @@ module _ (s t : List ℕ) (o p : Order) (x : readingOf s ≡ Read o) (y : readin
       let maghrib = own p t y ∙ ap (λ (m : Method). presetOf m .«maghrib_angle») method ∙ sym (own o s x) in
       let adjustments = ap (λ (n : OrderNumbers). n .minutes) e in
       let preset =
-      read-accepted t p y .parameters .preset ∙ ap (λ (m : Method). presetOf m .«method_adjustments») method ∙ sym (read-accepted s o x .parameters .preset) in
+      read-accepted t p y .parameters .preset ∙ ap (λ (m : Method). presetOf m .«method_adjustments») method
+      ∙ sym (read-accepted s o x .parameters .preset) in
       λ i. record {
         method = method i;
         «fajr_angle» = fajr i;
@@ -86,8 +93,10 @@ module _ (s t : List ℕ) (o p : Order) (x : readingOf s ≡ Read o) (y : readin
       let rows = ap (λ (n : OrderNumbers). n .rows) e in
       let coordinates = ap (λ (n : OrderNumbers). n .coordinates) e in
       let parameters = parameters-told in
-      let midnight = sym (midnight-back (p .rules .midnight)) ∙ ap (λ (n : OrderNumbers). midnightOf (n .choices .carry)) e ∙ midnight-back (o .rules .midnight) in
-      let southern = sym (southern-back (p .rules .southern)) ∙ ap (λ (n : OrderNumbers). southernOf (n .choices .southern)) e ∙ southern-back (o .rules .southern) in
+      let midnight = sym (midnight-back (p .setting .rules .midnight)) ∙ ap (λ (n : OrderNumbers). midnightOf (n .choices .carry)) e
+      ∙ midnight-back (o .setting .rules .midnight) in
+      let southern = sym (southern-back (p .setting .rules .southern)) ∙ ap (λ (n : OrderNumbers). southernOf (n .choices .southern)) e
+      ∙ southern-back (o .setting .rules .southern) in
       let clock = ap (λ (n : OrderNumbers). n .choices .clock) e in
       let set = set-told (p .ramadan .set) (o .ramadan .set) (ap (λ (n : OrderNumbers). n .choices .ramadan) e) in
       let imsak = ap (λ (n : OrderNumbers). n .choices .imsak) e in
@@ -96,9 +105,11 @@ module _ (s t : List ℕ) (o p : Order) (x : readingOf s ≡ Read o) (y : readin
         town = p .town;
         date = date i;
         rows = rows i;
-        coordinates = coordinates i;
-        parameters = parameters i;
-        rules = record { midnight = midnight i; southern = southern i };
+        setting = record {
+          coordinates = coordinates i;
+          parameters = parameters i;
+          rules = record { midnight = midnight i; southern = southern i };
+        };
         clock = clock i;
         ramadan = record { set = set i; imsak = imsak i; shift = shift i };
       })

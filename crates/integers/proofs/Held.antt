@@ -1,5 +1,5 @@
--- Signed sums as the machine works them. `Held n z w`: z, which the machine works, is w, and w lies within n. From the laws here the i64 that a sum
--- needs, the number that is read back and what a contract promises follow, for sums up to 2 ^ 62. Assumes nothing.
+-- Signed sums as the machine works them. `Held n z w`: z, which the machine works, is w, and w lies within n. From the laws here the i64
+-- that a sum needs, the number that is read back and what a contract promises follow, for sums up to 2 ^ 62. Assumes nothing.
 use Rattle.prelude.proofs.Logic.{_≡_, refl, sym, subst, ap, _∙_, ℕ, _+_, _*_, _^_, _≤_, arith, ℤ, pos, _+ℤ_, _-ℤ_, _*ℤ_, w32, w64, SFits}
 use Rattle.integers.specs.Parts.{Near}
 use Rattle.integers.proofs.Sums.{summands, differences}

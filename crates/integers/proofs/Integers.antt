@@ -1,6 +1,8 @@
 -- What the crates above use of this one, from one place. Nothing is added.
-pub use Rattle.integers.proofs.Held.{Held, held-sum, stored, constant, held-as, held-fits, promised, of-i64, held-by, held-difference, asked, of-wide, held-product}
-pub use Rattle.integers.proofs.Intervals.{by-balance, Inside, wider, natural-between, sum-between, difference-between, either-between, product-between, toward-between, inside-between, shifted-between}
+pub use Rattle.integers.proofs.Held.{Held, held-sum, stored, constant, held-as, held-fits, promised, of-i64, held-by}
+pub use Rattle.integers.proofs.Held.{held-difference, asked, of-wide, held-product}
+pub use Rattle.integers.proofs.Intervals.{by-balance, Inside, wider, natural-between, sum-between, difference-between}
+pub use Rattle.integers.proofs.Intervals.{either-between, product-between, toward-between, inside-between, shifted-between}
 pub use Rattle.integers.proofs.OrderLaws.{le-yes, lt-yes, lt-no, le-no, to-le, to-not-le, to-lt, to-not-lt}
 pub use Rattle.integers.proofs.PartsLaws.{same, not-negative, not-positive, natural}
 pub use Rattle.integers.proofs.QuotientLaws.{divided, floored, Floored}

@@ -19,7 +19,8 @@ pub sum-between : {a b c d : ℕ} {x y : ℤ} → Between a b x → Between c d 
 sum-between {a} {b} {c} {d} {x} {y} h k = let s = sum x y in record { from = omega arith; to = omega arith }
 
 pub difference-between : {a b c d : ℕ} {x y : ℤ} → Between a b x → Between c d y → Between (a + d) (b + c) (x -ℤ y)
-difference-between {a} {b} {c} {d} {x} {y} h k = let s = difference x y in record { from = omega (arith, s .0, s .1); to = omega (arith, s .0, s .1) }
+difference-between {a} {b} {c} {d} {x} {y} h k = let s = difference x y in
+    record { from = omega (arith, s .0, s .1); to = omega (arith, s .0, s .1) }
 
 pub product-between : {a b : ℕ} {x : ℤ} → Between a b x → (k : ℕ) → Between (a * k) (b * k) (x *ℤ pos k)
 product-between {a} {b} {x} h k =
@@ -32,7 +33,8 @@ either-between false h k = k
 
 -- what lies within k of a number of an interval
 pub shifted-between : {a b : ℕ} {t : ℤ} (k : ℕ) (x : ℤ) → Between a b t → x ≼ t +ℤ pos k → t ≼ x +ℤ pos k → Between (a + k) (b + k) x
-shifted-between {a} {b} {t} k x h u v = let s = sum t (pos k) in let r = sum x (pos k) in by-balance (a + k) (b + k) x (omega arith) (omega arith)
+shifted-between {a} {b} {t} k x h u v = let s = sum t (pos k) in let r = sum x (pos k) in
+    by-balance (a + k) (b + k) x (omega arith) (omega arith)
 
 -- ---- w goes from 0 toward z, and no further
 pub record Inside (w z : ℤ) : Type 0 where

@@ -1,5 +1,6 @@
 -- What a test of the order that passed or failed says of the parts, and back. Assumes nothing.
-use Rattle.prelude.proofs.Logic.{_≡_, refl, subst, Bool, true, false, not, _+_, _<_, arith, T, ℤ, pos, negsuc, leZ, ltZ, ltb-true, ltb-false, leb-true, leb-false, lt-ltb, le-ltb, le-leb, lt-leb}
+use Rattle.prelude.proofs.Logic.{_≡_, refl, subst, Bool, true, false, not, _+_, _<_, arith, T, ℤ, pos, negsuc, leZ, ltZ, ltb-true}
+use Rattle.prelude.proofs.Logic.{ltb-false, leb-true, leb-false, lt-ltb, le-ltb, le-leb, lt-leb}
 use Rattle.integers.specs.Parts.{P, N}
 use Rattle.integers.specs.Order.{_≼_}
 

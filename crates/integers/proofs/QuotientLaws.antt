@@ -1,5 +1,6 @@
 -- Quotients and remainders by a natural number above 0, toward zero and rounded down, by their parts. Assumes nothing.
-use Rattle.prelude.proofs.Logic.{_≡_, sym, ap, subst, _∙_, ℕ, suc, _+_, _*_, _/_, _%_, _<_, zero-mul, div-add-mod', mod-lt, arith, ℤ, pos, negsuc, negℤ, quotZ, remZ}
+use Rattle.prelude.proofs.Logic.{_≡_, sym, ap, subst, _∙_, ℕ, suc, _+_, _*_, _/_, _%_, _<_, zero-mul, div-add-mod', mod-lt, arith, ℤ, pos}
+use Rattle.prelude.proofs.Logic.{negsuc, negℤ, quotZ, remZ}
 use Rattle.integers.specs.Parts.{P, N}
 use Rattle.integers.specs.Quotients.{floorQuot, floorRem}
 use Rattle.integers.proofs.Sums.{flip}
@@ -17,8 +18,10 @@ divided (negsuc n) k h =
     let f = flip (pos (suc n / k)) in
     let g = flip (pos (suc n % k)) in
     record {
-      over = ap (λ (z : ℕ). z * k + P (negℤ (pos (suc n % k)))) (f .over) ∙ ap (λ (z : ℕ). 0 * k + z) (g .over) ∙ ap (λ (z : ℕ). z + 0) (zero-mul k);
-      under = ap (λ (z : ℕ). z * k + N (negℤ (pos (suc n % k)))) (f .under) ∙ ap (λ (z : ℕ). suc n / k * k + z) (g .under) ∙ div-add-mod' (suc n) k;
+      over = ap (λ (z : ℕ). z * k + P (negℤ (pos (suc n % k)))) (f .over) ∙ ap (λ (z : ℕ). 0 * k + z) (g .over)
+          ∙ ap (λ (z : ℕ). z + 0) (zero-mul k);
+      under = ap (λ (z : ℕ). z * k + N (negℤ (pos (suc n % k)))) (f .under) ∙ ap (λ (z : ℕ). suc n / k * k + z) (g .under)
+          ∙ div-add-mod' (suc n) k;
       high = subst (λ (z : ℕ). z < k) (sym (g .over)) h;
       low = subst (λ (z : ℕ). z < k) (sym (g .under)) (mod-lt (suc n) h);
     }

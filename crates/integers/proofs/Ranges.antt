@@ -1,5 +1,6 @@
 -- Which integers an i32 or an i64 holds, by their parts, and what the machine reads back of one that it holds. Assumes nothing.
-use Rattle.prelude.proofs.Logic.{_≡_, sym, subst, _∙_, _^_, _≤_, _<_, arith, ℤ, pos, negsuc, Width, w32, w64, SFits, toZ, ofZ, hbits, sfits-widen}
+use Rattle.prelude.proofs.Logic.{_≡_, sym, subst, _∙_, _^_, _≤_, _<_, arith, ℤ, pos, negsuc, Width, w32, w64, SFits, toZ, ofZ, hbits}
+use Rattle.prelude.proofs.Logic.{sfits-widen}
 use mir.ValLaws.{toZ-ofZ}
 use Rattle.integers.specs.Parts.{P, N}
 

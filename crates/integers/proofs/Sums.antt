@@ -1,5 +1,6 @@
 -- Sums, differences, and products by a natural number, by their parts. Assumes nothing.
-use Rattle.prelude.proofs.Logic.{_≡_, refl, sym, ap, _∙_, Bool, true, false, cond, ℕ, zero, suc, _+_, _-_, _*_, _≤_, zero-mul, arith, ltb, ℤ, pos, negsuc, negℤ, subℕ, _+ℤ_, _-ℤ_, _*ℤ_, ltb-true, ltb-false}
+use Rattle.prelude.proofs.Logic.{_≡_, refl, sym, ap, _∙_, Bool, true, false, cond, ℕ, zero, suc, _+_, _-_, _*_, _≤_, zero-mul, arith, ltb}
+use Rattle.prelude.proofs.Logic.{ℤ, pos, negsuc, negℤ, subℕ, _+ℤ_, _-ℤ_, _*ℤ_, ltb-true, ltb-false}
 use Rattle.integers.specs.Parts.{P, N}
 
 -- s is x + y: the balance, and no part grows beyond the parts' sum
@@ -23,8 +24,10 @@ less a b = by-test (ltb a b) refl
 
 pub sum : (x y : ℤ) → Sum x y (x +ℤ y)
 sum (pos a) (pos b) = record { balance = omega arith; high = omega arith; low = omega arith }
-sum (pos a) (negsuc b) = let d = less a (suc b) in record { balance = omega (arith, d .balance); high = omega (arith, d .high); low = omega (arith, d .low) }
-sum (negsuc a) (pos b) = let d = less b (suc a) in record { balance = omega (arith, d .balance); high = omega (arith, d .high); low = omega (arith, d .low) }
+sum (pos a) (negsuc b) = let d = less a (suc b) in
+    record { balance = omega (arith, d .balance); high = omega (arith, d .high); low = omega (arith, d .low) }
+sum (negsuc a) (pos b) = let d = less b (suc a) in
+    record { balance = omega (arith, d .balance); high = omega (arith, d .high); low = omega (arith, d .low) }
 sum (negsuc a) (negsuc b) = record { balance = omega arith; high = omega arith; low = omega arith }
 
 -- sums of equal summands

@@ -1,5 +1,6 @@
 -- Compaction, put record by record. Assumes nothing.
-use Rattle.prelude.proofs.Logic.{_≡_, refl, sym, ap, _∙_, List, _++_, append-assoc, append-nil, ℕ, zero, suc, _+_, _-_, _*_, _≤_, _<_, arith, leb, length, length-append, length-drop, length-take-le, lt-leb, leb-true, arms}
+use Rattle.prelude.proofs.Logic.{_≡_, refl, sym, ap, _∙_, List, _++_, append-assoc, append-nil, ℕ, zero, suc, _+_, _-_, _*_, _≤_, _<_}
+use Rattle.prelude.proofs.Logic.{arith, leb, length, length-append, length-drop, length-take-le, lt-leb, leb-true, arms}
 use Rattle.text.specs.Text.{putOf}
 use Rattle.text.proofs.TextLaws.{put-behind, put-nothing}
 use Rattle.joblog.specs.declared.records.State.{State}
@@ -49,7 +50,8 @@ put-none-open buffer page h =
     rw e (sym (put-nothing buffer 5 h))
 
 -- one open page more
-pub put-open : (buffer now : List ℕ) (first page at : ℕ) → now ≡ putOf buffer 5 (openOf first (page - first)) → at ≡ 5 + 5 * (page - first) → first ≤ page
+pub put-open : (buffer now : List ℕ) (first page at : ℕ) → now ≡ putOf buffer 5 (openOf first (page - first)) → at ≡ 5 + 5 * (page - first)
+    → first ≤ page
     → at + 5 ≤ length buffer → putOf now at (bytesOf 1 (page + 1)) ≡ putOf buffer 5 (openOf first (page + 1 - first))
 put-open buffer now first page at e a low room =
     let n = page - first in

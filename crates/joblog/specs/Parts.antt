@@ -8,7 +8,11 @@ use Rattle.joblog.specs.declared.records.LogReading.the-variants.{Says, 
 
 -- the record at an offset
 abbrev pub recordAt : List ℕ → ℕ → Record
-recordAt log at = record { tag = getD log at 0; length = getD log (at + 1) 0 * 256 + getD log (at + 2) 0; page = getD log (at + 3) 0 * 256 + getD log (at + 4) 0 }
+recordAt log at = record {
+  tag = getD log at 0;
+  length = getD log (at + 1) 0 * 256 + getD log (at + 2) 0;
+  page = getD log (at + 3) 0 * 256 + getD log (at + 4) 0;
+}
 
 -- two bytes hold each page of a log of bytes
 abbrev pub Bounded : LogReading → Type 0

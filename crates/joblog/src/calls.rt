@@ -8,7 +8,8 @@ ghost use lib.ListN.{length};
 ghost use Rattle.text.specs.Text.{putOf};
 ghost use Rattle.joblog.specs.Records.{recordAs, bytesOf, wholeOf, afterOf, compactedOf};
 ghost use Rattle.joblog.specs.Parts.{Bounded};
-ghost use Rattle.joblog.specs.Calls.{refused, answered, readAnswer, readLogOf, compactAnswer, newInTurn, loggedOf, appendedOf, appendOf, restartedOf, restartOf};
+ghost use Rattle.joblog.specs.Calls.{refused, answered, readAnswer, readLogOf, compactAnswer, newInTurn, loggedOf, appendedOf};
+ghost use Rattle.joblog.specs.Calls.{appendOf, restartedOf, restartOf};
 use super::records::LogReading;
 use super::records::State;
 use super::records::after;
@@ -23,7 +24,8 @@ use refusals::LOG_COUNT_OUTSIDE;
 use refusals::LOG_OUT_OF_TURN;
 use refusals::LOG_SECOND_SHORT;
 
-// What each call answers: number 0, or a refusal with its place and every other field 0. `moved` is 1 where the log is now in the second buffer.
+// What each call returns: number 0, or a refusal with its place and every other field 0. `moved` is 1 if the log is now in the second
+// buffer.
 #[repr(C)]
 pub struct Log {
     pub number: u32,
@@ -113,7 +115,7 @@ fn compact_with(s: State, tag: u32, page: u32, second: &mut [u8]) -> Log
     answer(1, after(s, new_record(tag, page)), at + 5)
 }
 
-// The new record in its place, or into the second buffer where the log is full.
+// Writes the new record in its place, or into the second buffer if the log is full.
 fn write(s: State, log: &mut [u8], used: usize, tag: u32, page: u32, second: &mut [u8]) -> Log
     requires { ⌜ (s .finished ≤ 65535) × (s .sent ≤ 65535) × (tag ≤ 255) × (page ≤ 65535) × (used ≤ length (now log)) ⌝ }
     ensures { λ r. ⌜ r ≡ loggedOf s (now (log .entry)) used tag page (now (second .entry)) .answer ⌝ }

@@ -1,12 +1,15 @@
 -- What a log says after an append, after one that is cut, and after a restart. Assumes nothing.
-use Rattle.prelude.proofs.Logic.{_≡_, refl, sym, ap, subst, _∙_, Bool, true, false, cond, _&&_, _||_, List, [], _∷_, _++_, append-assoc, append-nil, ℕ, _+_, _/_, _≤_, _<_, arith, leb, ltb, eqb, length, take, drop, length-append, length-drop, take-at, length-take-le, le-leb, lt-leb, leb-true, ltb-true, ltb-false, eqb-true, arms, cases, both}
+use Rattle.prelude.proofs.Logic.{_≡_, refl, sym, ap, subst, _∙_, Bool, true, false, cond, _&&_, _||_, List, [], _∷_, _++_, append-assoc}
+use Rattle.prelude.proofs.Logic.{append-nil, ℕ, _+_, _/_, _≤_, _<_, arith, leb, ltb, eqb, length, take, drop, length-append, length-drop}
+use Rattle.prelude.proofs.Logic.{take-at, length-take-le, le-leb, lt-leb, leb-true, ltb-true, ltb-false, eqb-true, arms, cases, both}
 use Rattle.refusals.specs.Refusals.{logSecondShort, logOutOfTurn}
 use Rattle.text.specs.Text.{putOf}
 use Rattle.joblog.specs.declared.records.State.{State}
 use Rattle.joblog.specs.declared.records.Record.{Record}
 use Rattle.joblog.specs.declared.records.LogReading.the-variants.{Says}
 use Rattle.joblog.specs.Records.{state, recordAs, bytesOf, recordsOf, wholeOf, inTurn, afterOf, readOf, logReadingOf, compactedOf}
-use Rattle.joblog.specs.Calls.{LogCall, refused, refusing, answered, readLogOf, readAnswer, newInTurn, compactAnswer, compactingOf, loggedOf, appendedOf, appendOf, restartedOf, restartOf}
+use Rattle.joblog.specs.Calls.{LogCall, refused, refusing, answered, readLogOf, readAnswer, newInTurn, compactAnswer, compactingOf}
+use Rattle.joblog.specs.Calls.{loggedOf, appendedOf, appendOf, restartedOf, restartOf}
 use Rattle.joblog_laws.specs.Run.{logAfter, usedAfter, inPlace, mayBeUsed}
 use Rattle.joblog_laws.proofs.ReadingLaws.{whole-records, cut-records, record-back, read-more, compacted-read}
 
@@ -25,14 +28,16 @@ unfolding readLogOf readAnswer
 held-read log used s h = rw (le-leb used (length log) (h .fits), h .reads)
 
 -- ---- bytes that are put
-put-front-read : (text buffer : List ℕ) → length text ≤ length buffer → (take (length text) (putOf buffer 0 text) ≡ text) × (length text ≤ length (putOf buffer 0 text))
+put-front-read : (text buffer : List ℕ) → length text ≤ length buffer → (take (length text) (putOf buffer 0 text) ≡ text)
+    × (length text ≤ length (putOf buffer 0 text))
 unfolding putOf
 put-front-read text buffer h =
     let e : putOf buffer 0 text ≡ text ++ drop (0 + length text) buffer = rw (le-leb (0 + length text) (length buffer) (omega arith)) in
     let l = length-append text (drop (0 + length text) buffer) in
     (ap (take (length text)) e ∙ take-at text (drop (0 + length text) buffer) (length text) refl, rw e (omega arith))
 
-pub put-read : (buffer text : List ℕ) (at : ℕ) → at + length text ≤ length buffer → (take (at + length text) (putOf buffer at text) ≡ take at buffer ++ text)
+pub put-read : (buffer text : List ℕ) (at : ℕ) → at + length text ≤ length buffer
+    → (take (at + length text) (putOf buffer at text) ≡ take at buffer ++ text)
     × (length (putOf buffer at text) ≡ length buffer) × (take at (putOf buffer at text) ≡ take at buffer)
 unfolding putOf
 put-read buffer text at h =
@@ -83,7 +88,8 @@ whole-reads log used s h =
 
 module _ (log : List ℕ) (used : ℕ) (s : State) (h : Held log used s) (tag page : ℕ) (turn : inTurn false s (recordAs tag page) ≡ true) where
   -- a record behind the last whole one
-  pub put-held : wholeOf used + 5 ≤ length log → Held (putOf log (wholeOf used) (bytesOf tag page)) (wholeOf used + 5) (afterOf s (recordAs tag page))
+  pub put-held : wholeOf used + 5 ≤ length log
+      → Held (putOf log (wholeOf used) (bytesOf tag page)) (wholeOf used + 5) (afterOf s (recordAs tag page))
   unfolding bytesOf
   put-held room =
       let p = put-read log (bytesOf tag page) (wholeOf used) room in
@@ -93,21 +99,24 @@ module _ (log : List ℕ) (used : ℕ) (s : State) (h : Held log used s) (tag pa
         fits = omega arith;
         reads =
             ap logReadingOf (p .0)
-            ∙ ap (readOf true (state 0 0)) (whole-records (used / 5) (take (wholeOf used) log) (bytesOf tag page) n ∙ ap (λ (rs : List Record). recordsOf (take (wholeOf used) log) ++ rs) (record-back tag page))
+            ∙ ap (readOf true (state 0 0)) (whole-records (used / 5) (take (wholeOf used) log) (bytesOf tag page) n
+            ∙ ap (λ (rs : List Record). recordsOf (take (wholeOf used) log) ++ rs) (record-back tag page))
             ∙ read-more true (state 0 0) s (recordsOf (take (wholeOf used) log)) (recordAs tag page) (whole-reads log used s h) turn;
         ordered = change-ordered (in-turn-change s tag page turn) (h .ordered);
       }
 
   -- compacted, with the record behind the open pages
   pub moved-held : (second : List ℕ) → length (compactedOf s ++ bytesOf tag page) ≤ length second
-      → Held (putOf second 0 (compactedOf s ++ bytesOf tag page)) (length (compactedOf s ++ bytesOf tag page)) (afterOf s (recordAs tag page))
+      → Held (putOf second 0 (compactedOf s ++ bytesOf tag page)) (length (compactedOf s ++ bytesOf tag page))
+      (afterOf s (recordAs tag page))
   unfolding readOf
   moved-held second room =
       let p = put-front-read (compactedOf s ++ bytesOf tag page) second room in
       let one : readOf false s (recordAs tag page ∷ []) ≡ Says (afterOf s (recordAs tag page)) = rw turn in
       record {
         fits = p .1;
-        reads = ap logReadingOf (p .0) ∙ compacted-read s (bytesOf tag page) (h .ordered) ∙ ap (readOf false s) (record-back tag page) ∙ one;
+        reads = ap logReadingOf (p .0) ∙ compacted-read s (bytesOf tag page) (h .ordered) ∙ ap (readOf false s) (record-back tag page)
+            ∙ one;
         ordered = change-ordered (in-turn-change s tag page turn) (h .ordered);
       }
 
@@ -124,8 +133,9 @@ restart-held s second ordered room =
     }
 
 -- ---- a cut at any byte of an append that fits. `k` of the record's five bytes are there.
--- Where `used` says less than the whole record, the log is as it was before.
-pub cut-before : (log : List ℕ) (used : ℕ) (s : State) → Held log used s → (tag page k u : ℕ) → k ≤ 5 → wholeOf used ≤ u → u < wholeOf used + 5
+-- If `used` says less than the whole record, the log is as it was before.
+pub cut-before : (log : List ℕ) (used : ℕ) (s : State) → Held log used s → (tag page k u : ℕ) → k ≤ 5 → wholeOf used ≤ u
+    → u < wholeOf used + 5
     → wholeOf used + 5 ≤ length log → Held (putOf log (wholeOf used) (take k (bytesOf tag page))) u s
 unfolding bytesOf
 cut-before log used s h tag page k u short low high room =
@@ -135,7 +145,8 @@ cut-before log used s h tag page k u short low high room =
     record {
       fits = omega arith;
       reads =
-          ap (readOf true (state 0 0)) (cut-records (used / 5) (putOf log (wholeOf used) (take k (bytesOf tag page))) u low high (omega arith) ∙ ap recordsOf (p .2))
+          ap (readOf true (state 0 0))
+          (cut-records (used / 5) (putOf log (wholeOf used) (take k (bytesOf tag page))) u low high (omega arith) ∙ ap recordsOf (p .2))
           ∙ whole-reads log used s h;
       ordered = h .ordered;
     }
@@ -158,9 +169,17 @@ module _ (log : List ℕ) (used : ℕ) (s : State) (tag page : ℕ) (second : Li
   pub data Outcome : LogCall → Type 0 where
     refusal : (number : ℕ) (after : List ℕ) → eqb number 0 ≡ false → Outcome (refusing number page log after)
     placed : inTurn false s (recordAs tag page) ≡ true → wholeOf used + 5 ≤ length log
-        → Outcome (record { answer = answered 0 (afterOf s (recordAs tag page)) (wholeOf used + 5); log = putOf log (wholeOf used) (bytesOf tag page); second = second })
+        → Outcome (record {
+          answer = answered 0 (afterOf s (recordAs tag page)) (wholeOf used + 5);
+          log = putOf log (wholeOf used) (bytesOf tag page);
+          second = second;
+        })
     moved : inTurn false s (recordAs tag page) ≡ true → length (compactedOf s ++ bytesOf tag page) ≤ length second
-        → Outcome (record { answer = answered 1 (afterOf s (recordAs tag page)) (length (compactedOf s ++ bytesOf tag page)); log = log; second = putOf second 0 (compactedOf s ++ bytesOf tag page) })
+        → Outcome (record {
+          answer = answered 1 (afterOf s (recordAs tag page)) (length (compactedOf s ++ bytesOf tag page));
+          log = log;
+          second = putOf second 0 (compactedOf s ++ bytesOf tag page);
+        })
 
   pub append-outcome : Held log used s → Outcome (appendOf log used tag page second)
   unfolding appendOf appendedOf newInTurn loggedOf compactAnswer
@@ -172,10 +191,12 @@ module _ (log : List ℕ) (used : ℕ) (s : State) (tag page : ℕ) (second : Li
       (λ f. by-room turn (leb (length (compactedOf s ++ bytesOf tag page)) (length second)) refl))
       (λ e. refusal logOutOfTurn second refl))
     where
-      by-room : inTurn false s (recordAs tag page) ≡ true → (b : Bool) → leb (length (compactedOf s ++ bytesOf tag page)) (length second) ≡ b
+      by-room : inTurn false s (recordAs tag page) ≡ true → (b : Bool)
+          → leb (length (compactedOf s ++ bytesOf tag page)) (length second) ≡ b
           → Outcome
           (record {
-            answer = cond b (answered 1 (afterOf s (recordAs tag page)) (length (compactedOf s ++ bytesOf tag page))) (refused logSecondShort page);
+            answer = cond b (answered 1 (afterOf s (recordAs tag page)) (length (compactedOf s ++ bytesOf tag page)))
+                (refused logSecondShort page);
             log = log;
             second = putOf second 0 (compactedOf s ++ bytesOf tag page);
           })
@@ -185,8 +206,13 @@ module _ (log : List ℕ) (used : ℕ) (s : State) (tag page : ℕ) (second : Li
   -- an append that returns
   pub append-after : Held log used s → {c : LogCall} → Outcome c → After s tag page (logAfter c) (usedAfter c used)
   append-after h (refusal number after e) = rw e (unchanged h)
-  append-after h (placed turn room) = record { to = afterOf s (recordAs tag page); held = put-held log used s h tag page turn room; how = in-turn-change s tag page turn }
-  append-after h (moved turn room) = record { to = afterOf s (recordAs tag page); held = moved-held log used s h tag page turn second room; how = in-turn-change s tag page turn }
+  append-after h (placed turn room) =
+      record { to = afterOf s (recordAs tag page); held = put-held log used s h tag page turn room; how = in-turn-change s tag page turn }
+  append-after h (moved turn room) = record {
+    to = afterOf s (recordAs tag page);
+    held = moved-held log used s h tag page turn second room;
+    how = in-turn-change s tag page turn;
+  }
 
   -- one that is under way, with k of the record's bytes there
   pub cut-now : Held log used s → {c : LogCall} → Outcome c → (k : ℕ) → k ≤ 5 → Held (cutLog log used c tag page k) used s
@@ -209,11 +235,16 @@ module _ (log : List ℕ) (used : ℕ) (s : State) (tag page : ℕ) (second : Li
       let more = leb-true u (wholeOf used + k) (second-of (leb u used) (leb u (wholeOf used + k)) (lt-leb u used (omega arith)) (p .1)) in
       let k5 : k ≡ 5 = omega arith in
       let u5 : u ≡ wholeOf used + 5 = omega arith in
-      rw (k5, u5) (record { to = afterOf s (recordAs tag page); held = put-held log used s h tag page turn room; how = in-turn-change s tag page turn })))
+      rw (k5, u5) (record {
+        to = afterOf s (recordAs tag page);
+        held = put-held log used s h tag page turn room;
+        how = in-turn-change s tag page turn;
+      })))
       (λ m. unchanged (cut-before log used s h tag page k used five (omega arith) (omega arith) room))
 
 -- ---- restart, with a count between the log's finished and sent pages
-pub restart-outcome : (log : List ℕ) (used : ℕ) (s : State) → Held log used s → (count : ℕ) (second : List ℕ) → s .finished ≤ count → count ≤ s .sent
+pub restart-outcome : (log : List ℕ) (used : ℕ) (s : State) → Held log used s → (count : ℕ) (second : List ℕ) → s .finished ≤ count
+    → count ≤ s .sent
     → restartOf log used count second ≡ compactingOf (state count (s .sent)) (compactedOf (state count (s .sent))) count log second
 unfolding restartOf restartedOf
 restart-outcome log used s h count second low high = rw (le-leb used (length log) (h .fits), h .reads, le-leb _ _ low, le-leb _ _ high)

@@ -1,5 +1,6 @@
 -- Request 6's promise, over every history. Assumes nothing.
-use Rattle.prelude.proofs.Logic.{_≡_, refl, sym, ap, subst, _∙_, Bool, true, false, cond, List, [], _∷_, _++_, ℕ, zero, suc, _+_, _-_, _*_, _≤_, arith, leb, length, length-append, le-leb, cases}
+use Rattle.prelude.proofs.Logic.{_≡_, refl, sym, ap, subst, _∙_, Bool, true, false, cond, List, [], _∷_, _++_, ℕ, zero, suc, _+_, _-_, _*_}
+use Rattle.prelude.proofs.Logic.{_≤_, arith, leb, length, length-append, le-leb, cases}
 use Rattle.text.specs.Text.{putOf}
 use Rattle.joblog.specs.declared.records.State.{State}
 use Rattle.joblog.specs.Records.{state, compactedOf}
@@ -59,7 +60,8 @@ resting log used out heard tray finished coming =
     (record { tray = tray; finished = finished; coming = coming })
 
 one-out : (log : List ℕ) (used out : ℕ) (heard finished coming : List ℕ) → out + 1 ≤ readLogOf log used .sent
-    → next asRequested (resting log used out heard [] finished coming) goes ≡ resting log used (out + 1) heard ((out + 1) ∷ []) finished coming
+    → next asRequested (resting log used out heard [] finished coming) goes
+    ≡ resting log used (out + 1) heard ((out + 1) ∷ []) finished coming
 unfolding next isIdle
 one-out log used out heard finished coming h = rw (le-leb (out + 1) (readLogOf log used .sent) h)
 
@@ -84,7 +86,8 @@ unfolding next compactAnswer
 restart-world w i second room = rw (restarted w i second, le-leb _ _ room)
 
 come : (w : World) (i : Inv w) (second : List ℕ) → 5 + 5 * (i .says .sent - count w) ≤ length second
-    → run asRequested (next asRequested w (restart second)) (sendAll (i .says .sent - count w)) .embosser .finished ≡ pagesTo (i .says .sent)
+    → run asRequested (next asRequested w (restart second)) (sendAll (i .says .sent - count w)) .embosser .finished
+    ≡ pagesTo (i .says .sent)
 come w i second room =
     let n = count w in
     let s = i .says .sent in
@@ -94,9 +97,11 @@ come w i second room =
     let h = restart-held t second (b .1) (omega arith) in
     let r = ap (λ (a : Log). a .sent) (held-read (putOf second 0 (compactedOf t)) (length (compactedOf t)) t h) in
     let e = restart-world w i second (omega arith) in
-    let z = sent-out (s - n) (putOf second 0 (compactedOf t)) (length (compactedOf t)) n (w .host .heard) (w .embosser .finished) (w .embosser .coming) (omega arith) in
+    let z = sent-out (s - n) (putOf second 0 (compactedOf t)) (length (compactedOf t)) n (w .host .heard) (w .embosser .finished)
+    (w .embosser .coming) (omega arith) in
     let m : length (run asRequested (next asRequested w (restart second)) (sendAll (s - n)) .embosser .finished) ≡ s = rw e (omega arith) in
-    kept (run asRequested (next asRequested w (restart second)) (sendAll (s - n))) (run-kept (next asRequested w (restart second)) (restart-kept w i second) (sendAll (s - n))) .«in_order» ∙ ap pagesTo m
+    kept (run asRequested (next asRequested w (restart second)) (sendAll (s - n)))
+    (run-kept (next asRequested w (restart second)) (restart-kept w i second) (sendAll (s - n))) .«in_order» ∙ ap pagesTo m
 
 pub open-pages-come : OpenPagesCome
 unfolding run

@@ -1,5 +1,7 @@
 -- What every step of a run keeps. Assumes nothing.
-use Rattle.prelude.proofs.Logic.{_≡_, refl, sym, ap, subst, _∙_, Bool, true, false, cond, _&&_, false≢true, List, [], _∷_, _++_, append-assoc, append-nil, ℕ, suc, _+_, _≤_, _<_, arith, leb, ltb, eqb, length, take, drop, length-append, length-drop, take-append-drop, take-add, length-take-le, leb-true, ltb-true, arms, cases, both}
+use Rattle.prelude.proofs.Logic.{_≡_, refl, sym, ap, subst, _∙_, Bool, true, false, cond, _&&_, false≢true, List, [], _∷_, _++_}
+use Rattle.prelude.proofs.Logic.{append-assoc, append-nil, ℕ, suc, _+_, _≤_, _<_, arith, leb, ltb, eqb, length, take, drop, length-append}
+use Rattle.prelude.proofs.Logic.{length-drop, take-append-drop, take-add, length-take-le, leb-true, ltb-true, arms, cases, both}
 use Rattle.refusals.specs.Refusals.{logSecondShort}
 use Rattle.text.specs.Text.{putOf}
 use Rattle.text.proofs.TextLaws.{put-behind, put-nothing}
@@ -7,9 +9,13 @@ use Rattle.joblog.specs.declared.records.State.{State}
 use Rattle.joblog.specs.Records.{state, bytesOf, wholeOf, recordsOf, readOf, compactedOf}
 use Rattle.joblog.proofs.CompactLaws.{bytes-length}
 use Rattle.joblog.specs.Calls.{LogCall, answered, refused, readLogOf, compactAnswer, compactingOf, appendOf, restartOf}
-use Rattle.joblog_laws.specs.Run.{Writing, idle, within, Host, Embosser, World, world, begun, writes, hasHeard, holds, maySend, Step, begins, byte, completes, goes, finishes, hears, lost, crash, restart, acknowledged, asRequested, logAfter, usedAfter, inPlace, mayAppend, beginning, withByte, writingByte, completing, mayBeUsed, crashUsed, isIdle, finishing, arriving, next, run}
+use Rattle.joblog_laws.specs.Run.{Writing, idle, within, Host, Embosser, World, world, begun, writes, hasHeard, holds, maySend, Step}
+use Rattle.joblog_laws.specs.Run.{begins, byte, completes, goes, finishes, hears, lost, crash, restart, acknowledged, asRequested}
+use Rattle.joblog_laws.specs.Run.{logAfter, usedAfter, inPlace, mayAppend, beginning, withByte, writingByte, completing, mayBeUsed}
+use Rattle.joblog_laws.specs.Run.{crashUsed, isIdle, finishing, arriving, next, run}
 use Rattle.joblog_laws.specs.Histories.{pagesTo}
-use Rattle.joblog_laws.proofs.HeldLaws.{Held, held-read, cutLog, Change, same, sent, done, Outcome, refusal, placed, moved, append-outcome, append-after, cut-now, cut-after, restart-outcome, restart-held}
+use Rattle.joblog_laws.proofs.HeldLaws.{Held, held-read, cutLog, Change, same, sent, done, Outcome, refusal, placed, moved}
+use Rattle.joblog_laws.proofs.HeldLaws.{append-outcome, append-after, cut-now, cut-after, restart-outcome, restart-held}
 use Rattle.joblog_laws.proofs.PageLaws.{pages-length, pages-front, first-page}
 
 -- ---- an append that is under way: `base` is the buffer when it began
@@ -24,12 +30,14 @@ abbrev pub Flight : (base log : List ℕ) (used : ℕ) (s : State) (count : ℕ)
 Flight base log used s count idle = log ≡ base
 Flight base log used s count (within tag page c k) = Within base log used s count tag page c k
 
-flight-held : (base log : List ℕ) (used : ℕ) (s : State) (count : ℕ) (x : Writing) → Held base used s → Flight base log used s count x → Held log used s
+flight-held : (base log : List ℕ) (used : ℕ) (s : State) (count : ℕ) (x : Writing) → Held base used s → Flight base log used s count x
+    → Held log used s
 flight-held base log used s count idle h f = subst (λ (l : List ℕ). Held l used s) (sym f) h
 flight-held base log used s count (within tag page c k) h f =
     subst (λ (l : List ℕ). Held l used s) (sym (f .there)) (cut-now base used s tag page (f .second) h (f .outcome) k (f .few))
 
-flight-more : (base log : List ℕ) (used : ℕ) (s : State) (n m : ℕ) (x : Writing) → n ≤ m → Flight base log used s n x → Flight base log used s m x
+flight-more : (base log : List ℕ) (used : ℕ) (s : State) (n m : ℕ) (x : Writing) → n ≤ m → Flight base log used s n x
+    → Flight base log used s m x
 flight-more base log used s n m idle h f = f
 flight-more base log used s n m (within tag page c k) h f =
     record { second = f .second; outcome = f .outcome; there = f .there; few = f .few; told = λ two. let t = f .told two in omega arith }
@@ -43,7 +51,8 @@ below-acknowledged : (n : ℕ) (pages : List ℕ) (page : ℕ) → Below n pages
 unfolding acknowledged
 below-acknowledged n [] page b h = absurd (false≢true h)
 below-acknowledged n (p ∷ pages) page b h =
-    cases (leb page p) (λ e. let q = leb-true page p e in let l = b .0 in omega arith) (λ e. below-acknowledged n pages page (b .1) (rw e at h))
+    cases (leb page p) (λ e. let q = leb-true page p e in let l = b .0 in omega arith)
+    (λ e. below-acknowledged n pages page (b .1) (rw e at h))
 
 below-more : (n m : ℕ) (pages : List ℕ) → n ≤ m → Below n pages → Below m pages
 below-more n m [] l b = tt
@@ -87,7 +96,8 @@ pub held-now : (w : World) (i : Inv w) → Held (w .host .log) (w .host .used) (
 held-now w i = flight-held (i .base) (w .host .log) (w .host .used) (i .says) (count w) (w .host .writing) (i .held) (i .flight)
 
 -- a done is of a finished page, so that the count stays between
-change-between : {s t : State} {tag page : ℕ} → Change s tag page t → (n : ℕ) → s .finished ≤ n → (tag ≡ 2 → page ≤ n) → (t .finished ≤ n) × (s .sent ≤ t .sent)
+change-between : {s t : State} {tag page : ℕ} → Change s tag page t → (n : ℕ) → s .finished ≤ n → (tag ≡ 2 → page ≤ n)
+    → (t .finished ≤ n) × (s .sent ≤ t .sent)
 change-between same n h d = (h, omega arith)
 change-between sent n h d = (h, omega arith)
 change-between (done a b c) n h d = let k = d a in (omega arith, omega arith)
@@ -122,7 +132,8 @@ pages-kept w i {finished = finished} more all h c =
       says = i .says;
       base = i .base;
       held = i .held;
-      flight = flight-more (i .base) (w .host .log) (w .host .used) (i .says) (count w) (length finished) (w .host .writing) more (i .flight);
+      flight =
+          flight-more (i .base) (w .host .log) (w .host .used) (i .says) (count w) (length finished) (w .host .writing) more (i .flight);
       last = i .last;
       here = all ∙ i .here;
       behind = omega arith;
@@ -144,7 +155,8 @@ may-append w i tag page h two =
     below-acknowledged (count w) (w .host .heard) page (i .heard) (rw two at (k .1))
 
 no-bytes : (log : List ℕ) (used : ℕ) (c : LogCall) (tag page : ℕ) → used ≤ length log → log ≡ cutLog log used c tag page 0
-no-bytes log used c tag page fits = arms (λ (x : List ℕ). log ≡ x) (inPlace c) (λ b. sym (put-nothing log (wholeOf used) (omega arith))) (λ b. refl)
+no-bytes log used c tag page fits =
+    arms (λ (x : List ℕ). log ≡ x) (inPlace c) (λ b. sym (put-nothing log (wholeOf used) (omega arith))) (λ b. refl)
 
 begins-kept : (w : World) → Inv w → (x : Writing) → w .host .writing ≡ x → (tag page : ℕ) (second : List ℕ)
     → Inv (world (beginning asRequested (w .host) x tag page second) (w .embosser))
@@ -165,7 +177,8 @@ begins-kept w i idle e tag page second =
     (λ m. i)
 
 -- ---- one byte more
-byte-there : (base log : List ℕ) (used : ℕ) (s : State) (tag page : ℕ) (second : List ℕ) (c : LogCall) (k : ℕ) → Outcome base used s tag page second c
+byte-there : (base log : List ℕ) (used : ℕ) (s : State) (tag page : ℕ) (second : List ℕ) (c : LogCall) (k : ℕ)
+    → Outcome base used s tag page second c
     → log ≡ cutLog base used c tag page k → k < 5 → inPlace c ≡ true → withByte log used tag page k ≡ cutLog base used c tag page (k + 1)
 byte-there base log used s tag page second c k (refusal number after e) f short i = let z : _≡_ {A = ℕ} 0 1 = cc in absurd (omega arith)
 byte-there base log used s tag page second c k (moved turn room) f short i = let z : _≡_ {A = ℕ} 0 1 = cc in absurd (omega arith)
@@ -300,9 +313,11 @@ goes-kept : (w : World) → Inv w → Inv (next asRequested w goes)
 unfolding next
 goes-kept w i =
     arms Inv (maySend asRequested (w .host))
-    (λ e. let j = both (w .host .up && isIdle (w .host .writing)) (leb (w .host .out + 1) (readLogOf (w .host .log) (w .host .used) .sent)) e in
+    (λ e. let j =
+    both (w .host .up && isIdle (w .host .writing)) (leb (w .host .out + 1) (readLogOf (w .host .log) (w .host .used) .sent)) e in
     let o : w .host .out ≡ i .last = i .out (both (w .host .up) (isIdle (w .host .writing)) (j .0) .0) in
-    let l : leb (w .host .out + 1) (i .says .sent) ≡ true = rw (held-read (w .host .log) (w .host .used) (i .says) (held-now w i)) at (j .1) in
+    let l : leb (w .host .out + 1) (i .says .sent) ≡ true =
+    rw (held-read (w .host .log) (w .host .used) (i .says) (held-now w i)) at (j .1) in
     let m = leb-true (w .host .out + 1) (i .says .sent) l in
     let p : w .host .out + 1 ≡ suc (i .last) = omega arith in
     record {

@@ -1,10 +1,13 @@
--- Other rules than the request's, under which the promise fails: for each a short history that breaks it. So `Kept` says something, and each rule of
--- `asRequested` is needed. Assumes nothing.
+-- Other rules than the request's, under which the promise fails: for each a short history that breaks it. So `Kept` says something, and
+-- each rule of `asRequested` is needed. Assumes nothing.
 use Rattle.prelude.proofs.Logic.{_≡_, refl, ap, true, List, [], _∷_, _++_, ℕ, arith, leb, getD, replicate}
 use Rattle.text.specs.Text.{putOf}
 use Rattle.joblog.specs.Records.{state, bytesOf, recordsOf, inTurn, afterOf, readOf, openOf, compactedOf}
-use Rattle.joblog.specs.Calls.{answered, readLogOf, readAnswer, newInTurn, compactAnswer, loggedOf, appendedOf, appendOf, restartedOf, restartOf}
-use Rattle.joblog_laws.specs.Run.{World, begun, Step, begins, byte, completes, goes, finishes, hears, lost, crash, restart, HostRules, acknowledged, asRequested, beginning, writingByte, completing, finishing, arriving, crashUsed, isIdle, next, run}
+use Rattle.joblog.specs.Calls.{answered, readLogOf, readAnswer, newInTurn, compactAnswer, loggedOf, appendedOf, appendOf, restartedOf}
+use Rattle.joblog.specs.Calls.{restartOf}
+use Rattle.joblog_laws.specs.Run.{World, begun, Step, begins, byte, completes, goes, finishes, hears, lost, crash, restart, HostRules}
+use Rattle.joblog_laws.specs.Run.{acknowledged, asRequested, beginning, writingByte, completing, finishing, arriving, crashUsed}
+use Rattle.joblog_laws.specs.Run.{isIdle, next, run}
 use Rattle.joblog_laws.specs.Histories.{pagesTo, KeptBy}
 
 abbrev buffer : List ℕ
@@ -19,11 +22,12 @@ appended tag page = started tag page ++ (byte ∷ completes ∷ [])
 
 -- where a history ends; to unfold this is to unfold all that a run computes
 ends : HostRules → List Step → World
-unfolding run next beginning writingByte completing finishing arriving crashUsed isIdle acknowledged putOf bytesOf recordsOf inTurn afterOf readOf openOf compactedOf readLogOf readAnswer newInTurn compactAnswer loggedOf appendedOf appendOf restartedOf restartOf pagesTo
+unfolding run next beginning writingByte completing finishing arriving crashUsed isIdle acknowledged putOf bytesOf recordsOf inTurn afterOf
+    readOf openOf compactedOf readLogOf readAnswer newInTurn compactAnswer loggedOf appendedOf appendOf restartedOf restartOf pagesTo
 ends rules steps = run rules (begun buffer) steps
 
--- ---- by the request: pages 1 and 2 go out and are finished, page 1's done is recorded, page 2's acknowledgement is lost, the host crashes in the append
--- of page 3's sent record, and after the restart page 3 goes out
+-- ---- by the request: pages 1 and 2 go out and are finished, page 1's done is recorded, page 2's acknowledgement is lost, the host crashes
+-- in the append of page 3's sent record, and after the restart page 3 goes out
 one-lost : List Step
 one-lost =
     appended 1 1 ++ (goes ∷ []) ++ appended 1 2 ++ (goes ∷ finishes ∷ finishes ∷ hears ∷ lost ∷ []) ++ appended 2 1 ++ started 1 3
@@ -33,7 +37,7 @@ as-requested : ends asRequested one-lost .embosser .finished ≡ 1 ∷ 2 ∷ 3 �
 unfolding ends one-lost
 as-requested = refl
 
--- page 1's acknowledgement is lost and page 2's is heard, which stands for both: both dones are recorded
+-- page 1's acknowledgement is lost and page 2's is heard, which tells of both: both dones are recorded
 later-heard : List Step
 later-heard =
     appended 1 1 ++ (goes ∷ []) ++ appended 1 2 ++ (goes ∷ finishes ∷ finishes ∷ lost ∷ hears ∷ []) ++ appended 2 1 ++ appended 2 2
@@ -83,7 +87,8 @@ done-before-finished = record { told = λ heard page. true; ready = leb; resume 
 too-early : List Step
 too-early = appended 1 1 ++ (goes ∷ []) ++ appended 2 1 ++ (crash 0 0 ∷ [])
 
-refused-then : restartOf (ends done-before-finished too-early .host .log) (ends done-before-finished too-early .host .used) 0 buffer .answer .number ≡ 14
+refused-then : restartOf (ends done-before-finished too-early .host .log)
+    (ends done-before-finished too-early .host .used) 0 buffer .answer .number ≡ 14
 unfolding ends too-early
 refused-then = refl
 

@@ -1,18 +1,20 @@
--- Request 6, a run: a host with its log, and an embosser. What the calls write and answer is crates/joblog's definitions, which its code equals.
+-- Request 6, a run: a host with its log, and an embosser. What the calls write and return are crates/joblog's definitions, which its code
+-- equals.
 --
--- What the request's promise rests on, beside the log (each is a choice of this model, to hold against the request). What the host may record and send,
--- what it sends again and what the embosser drops are a value, `HostRules`; the others are how the steps go:
---   the link    pages reach the embosser in the order in which they go out. What is lost is lost from the end, and then nothing more gets through
---               until a restart (the step `crash`, also where only the link or the embosser failed).
---   embosser    it finishes its pages in the order in which they reached it, also while the host is down, and no crash takes a finished page back.
---   a count     it is true where it is the number of pages finished, and the embosser drops what it has not finished when it reports it: the open
+-- What the request's promise rests on, beside the log (each is a choice of this model, to hold against the request). What the host may
+-- record and send, what it sends again and what the embosser drops are a value, `HostRules`; the others are how the steps go:
+--   the link    pages reach the embosser in the order in which they go out. What is lost is lost from the end, and then nothing more gets
+--               through until a restart (the step `crash`, also if only the link or the embosser failed).
+--   embosser    it finishes its pages in the order in which they reached it, also while the host is down, and no crash takes a finished
+--   page back. a count     it is true if it is the number of pages finished, and the embosser drops what it has not finished when it
+--   reports it: the open
 --               pages go out again, and one still in its tray would be finished twice (`keeps-its-tray` in proofs/WrongRules).
 --   the host    after any crash it restarts before it appends or sends: `up` says so. It sends no page while it is in an append.
---   a done      is recorded only of a page that an acknowledgement stands for which the host has heard: its own or a later page's, since pages are
---               finished in order. The embosser gives one when it has finished a page; it may be lost on its way, or come late, after a crash and a
---               restart too (the steps `hears` and `lost`).
---   the buffer  an append's bytes become lasting one by one, from the first on, and `used` never counts a byte that is not lasting; the move to the
---               second buffer is lasting at once, when the call has returned and before a page goes out.
+--   a done      is recorded only of a page whose acknowledgement, or a later page's, the host has heard. A later one will do, since pages
+--               are finished in order. The embosser gives one when it has finished a page; it may be lost on its way, or come late, after a
+--               crash and a restart too (the steps `hears` and `lost`).
+--   the buffer  an append's bytes become lasting one by one, from the first on, and `used` never counts a byte that is not lasting; the
+--               move to the second buffer is lasting at once, when the call has returned and before a page goes out.
 use Prim.Native.Nat.{ℕ, _+_}
 use mathlib.Core.Bool.{Bool, true, false, cond, _&&_, _||_}
 use mathlib.Core.List.{List, [], _∷_, _++_}
@@ -23,7 +25,8 @@ use Rattle.joblog.specs.Records.{doneTag, bytesOf, wholeOf}
 use Rattle.joblog.specs.Calls.{LogCall, readLogOf, appendOf, restartOf}
 
 -- ---- what there is at a moment
--- whether the host is in an append: its record's tag and page, what the call answers and leaves, and how many of the record's bytes are lasting
+-- whether the host is in an append: its record's tag and page, what the call returns and leaves, and how many of the record's bytes are
+-- lasting
 pub data Writing : Type 0 where
   idle : Writing
   within : ℕ → ℕ → LogCall → ℕ → Writing
@@ -32,8 +35,8 @@ pub record Host : Type 0 where
   -- lasting: the buffer that is the log now, and how many of its bytes are the log
   pub log : List ℕ
   pub used : ℕ
-  -- its memory: whether it runs and has restarted since the last crash, the last page that went out, the append that it is in, and the pages whose
-  -- acknowledgement it has heard
+  -- its memory: whether it runs and has restarted since the last crash, the last page that went out, the append that it is in, and the
+  -- pages whose acknowledgement it has heard
   pub up : Bool
   pub out : ℕ
   pub writing : Writing
@@ -55,7 +58,8 @@ world host embosser = record { host = host; embosser = embosser }
 
 -- a job begins: any buffer, and an empty log in it
 abbrev pub begun : List ℕ → World
-begun buffer = world (record { log = buffer; used = 0; up = true; out = 0; writing = idle; heard = [] }) (record { tray = []; finished = []; coming = [] })
+begun buffer = world (record { log = buffer; used = 0; up = true; out = 0; writing = idle; heard = [] })
+    (record { tray = []; finished = []; coming = [] })
 
 pub data Step : Type 0 where
   -- the host calls append with a record, its tag and page, and lends a second buffer
@@ -71,8 +75,8 @@ pub data Step : Type 0 where
   -- the first acknowledgement on its way reaches the host; it is lost
   hears : Step
   lost : Step
-  -- host, link or embosser fail: of the tray the first pages are left, that many; where the host was in an append, `used` may be any number of the
-  -- bytes that are there
+  -- host, link or embosser fail: of the tray that many pages are left, the first ones; if the host was in an append, `used` may be any
+  -- number of the bytes that are there
   crash : ℕ → ℕ → Step
   -- the embosser reports its count, and the host restarts with it (the second buffer that it lends)
   restart : List ℕ → Step
@@ -88,7 +92,7 @@ pub record HostRules : Type 0 where
   -- what is left of the embosser's tray once it has reported its count
   pub kept : List ℕ → List ℕ
 
--- an acknowledgement stands for its page and those before it, whose own may be lost
+-- an acknowledgement of a page tells that it and those before it are finished; theirs may be lost
 unfoldable pub acknowledged : List ℕ → ℕ → Bool
 acknowledged [] page = false
 acknowledged (p ∷ heard) page = leb page p || acknowledged heard page
@@ -161,7 +165,7 @@ unfoldable pub finishing : Embosser → List ℕ → Embosser
 finishing e [] = e
 finishing e (page ∷ rest) = record { tray = rest; finished = e .finished ++ (page ∷ []); coming = e .coming ++ (page ∷ []) }
 
--- the first acknowledgement on its way: the pages that the host has then heard of, and where it is lost those of before
+-- the first acknowledgement on its way: the pages that the host has then heard of, or those of before if it is lost
 unfoldable pub arriving : World → (List ℕ → ℕ → List ℕ) → List ℕ → World
 arriving w heard [] = w
 arriving w heard (page ∷ rest) = world (hasHeard (w .host) (heard (w .host .heard) page)) (awaits (w .embosser) rest)

@@ -1,4 +1,5 @@
--- What a host gets from each call: number and place, 0 and 0 where nothing is refused, and each other field, 0 where the call is refused.
+-- Document 01: "A host program in C calls the port on numbers and bytes", "A refusal gives number and place, no times". Number and place
+-- are 0 if nothing is refused; every other field is 0 if the call is.
 use Prim.Native.Nat.{ℕ, _+_, _*_}
 use lib.IntN.{pos}
 use Rattle.models.specs.Numbers.{prayerNumberOf}
@@ -7,12 +8,12 @@ use Rattle.schedule.specs.InForce.{currentNumberOf}
 use Rattle.schedule.specs.declared.prayer_times.PrayerTimes.{PrayerTimes}
 use Rattle.schedule.specs.declared.prayer_times.Worked.{Worked}
 use Rattle.schedule.specs.declared.prayer_times.Worked.the-variants as worked
-use Rattle.calls.specs.declared.in_force.InForce.{InForce}
-use Rattle.calls.specs.declared.in_force.InForce.the-variants as force
-use Rattle.calls.specs.declared.in_force.NextPrayer.{NextPrayer}
-use Rattle.calls.specs.declared.in_force.NextPrayer.the-variants as next
-use Rattle.calls.specs.declared.in_force.TimeUntil.{TimeUntil}
-use Rattle.calls.specs.declared.in_force.TimeUntil.the-variants as until
+use Rattle.days.specs.declared.in_force.InForce.{InForce}
+use Rattle.days.specs.declared.in_force.InForce.the-variants as force
+use Rattle.days.specs.declared.in_force.NextPrayer.{NextPrayer}
+use Rattle.days.specs.declared.in_force.NextPrayer.the-variants as next
+use Rattle.days.specs.declared.in_force.TimeUntil.{TimeUntil}
+use Rattle.days.specs.declared.in_force.TimeUntil.the-variants as until
 use Rattle.katchidul.specs.declared.work_day.KatchidulDay.{KatchidulDay}
 use Rattle.katchidul.specs.declared.prayer_at.KatchidulPrayer.{KatchidulPrayer}
 use Rattle.katchidul.specs.declared.remaining_at.KatchidulRemaining.{KatchidulRemaining}
@@ -23,13 +24,23 @@ version = 1 * 65536 + 0
 
 -- ---- a day
 abbrev pub noTimes : PrayerTimes
-noTimes = record { fajr = pos 0; sunrise = pos 0; dhuhr = pos 0; asr = pos 0; maghrib = pos 0; isha = pos 0; «middle_of_the_night» = pos 0; qiyam = pos 0; «fajr_tomorrow» = pos 0 }
+noTimes = record {
+  fajr = pos 0;
+  sunrise = pos 0;
+  dhuhr = pos 0;
+  asr = pos 0;
+  maghrib = pos 0;
+  isha = pos 0;
+  «middle_of_the_night» = pos 0;
+  qiyam = pos 0;
+  «fajr_tomorrow» = pos 0;
+}
 
 unfoldable pub dayAnswerOf : Worked → KatchidulDay
 dayAnswerOf (worked.Times t) = record { refusal = noRefusal; times = t }
 dayAnswerOf (worked.Refused r) = record { refusal = r; times = noTimes }
 
--- ---- a prayer: 0 is none, which is an answer
+-- ---- a prayer: "else none", which is 0 and no refusal
 unfoldable pub prayerAnswerOf : InForce → KatchidulPrayer
 prayerAnswerOf (force.Prayer p) = record { refusal = noRefusal; prayer = currentNumberOf p }
 prayerAnswerOf (force.Refused r) = record { refusal = r; prayer = 0 }
@@ -38,7 +49,7 @@ unfoldable pub nextAnswerOf : NextPrayer → KatchidulPrayer
 nextAnswerOf (next.Prayer p) = record { refusal = noRefusal; prayer = prayerNumberOf p }
 nextAnswerOf (next.Refused r) = record { refusal = r; prayer = 0 }
 
--- ---- the time until the next one
+-- ---- the time until the next one: "0 hours 60 minutes; passed, 0 and 0"
 unfoldable pub remainingAnswerOf : TimeUntil → KatchidulRemaining
 remainingAnswerOf (until.Time t) = record { refusal = noRefusal; time = t }
 remainingAnswerOf (until.Refused r) = record { refusal = r; time = record { hours = 0; minutes = 0 } }

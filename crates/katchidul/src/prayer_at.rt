@@ -1,12 +1,12 @@
 // The prayer in force at an instant, and the next one.
 ghost use mathlib.Core.Path.{_≡_};
-ghost use Rattle.calls.specs.Calls.{instantOf, prayerAtOf, nextAtOf};
+ghost use Rattle.days.specs.Calls.{instantOf, prayerAtOf, nextAtOf};
 ghost use Rattle.katchidul.specs.Exports.{prayerAnswerOf, nextAnswerOf};
 ghost use Rattle.schedule.specs.InForce.{currentNumberOf};
-use calls::in_force::InForce;
-use calls::in_force::NextPrayer;
-use calls::in_force::next_at;
-use calls::in_force::prayer_at;
+use days::in_force::InForce;
+use days::in_force::NextPrayer;
+use days::in_force::next_at;
+use days::in_force::prayer_at;
 use refusals::Refusal;
 use schedule::in_force::Current;
 use schedule::in_force::Instant;

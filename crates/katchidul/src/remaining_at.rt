@@ -1,10 +1,10 @@
 // The time until the next prayer.
 ghost use mathlib.Core.Path.{_≡_};
-ghost use Rattle.calls.specs.Calls.{instantOf, remainingAtOf};
+ghost use Rattle.days.specs.Calls.{instantOf, remainingAtOf};
 ghost use Rattle.katchidul.specs.Exports.{remainingAnswerOf};
 use super::prayer_at::instant;
-use calls::in_force::TimeUntil;
-use calls::in_force::remaining_at;
+use days::in_force::TimeUntil;
+use days::in_force::remaining_at;
 use refusals::Refusal;
 use schedule::in_force::HoursMinutes;
 

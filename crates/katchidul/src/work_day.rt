@@ -1,8 +1,8 @@
 // Working the day of a row.
 ghost use mathlib.Core.Path.{_≡_};
-ghost use Rattle.calls.specs.Calls.{workDayOf};
+ghost use Rattle.days.specs.Calls.{workDayOf};
 ghost use Rattle.katchidul.specs.Exports.{noTimes, dayAnswerOf};
-use calls::day::work_day;
+use days::day::work_day;
 use refusals::Refusal;
 use schedule::prayer_times::PrayerTimes;
 use schedule::prayer_times::Worked;

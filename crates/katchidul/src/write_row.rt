@@ -1,8 +1,8 @@
 // A row's line in a lent buffer.
 ghost use mathlib.Core.Path.{_≡_};
-ghost use Rattle.rows.specs.Rows.{rowCallOf};
+ghost use Rattle.sheets.specs.Rows.{rowCallOf};
 use refusals::Refusal;
-use rows::row::write_row;
+use sheets::row::write_row;
 
 #[no_mangle]
 pub extern "C" fn katchidul_write_row(order: &[u8], row: u32, buffer: &mut [u8]) -> Refusal

@@ -1,6 +1,7 @@
 -- Imsak in the machine's numbers: 60 times a u32, and what is left of an instant. Assumes nothing.
 use Rattle.prelude.proofs.Logic.{_≡_, sym, ap, _∙_, true, false, ℕ, _*_, _^_, _<_, arith, ℤ, pos, _+ℤ_, _-ℤ_, _*ℤ_, ltZ, w64, SFits, toZ}
-use Rattle.integers.proofs.Integers.{by-balance, lt-yes, lt-no, to-le, to-not-le, same, range, fits, readBack, read, sum, difference, differences, times}
+use Rattle.integers.proofs.Integers.{by-balance, lt-yes, lt-no, to-le, to-not-le, same, range, fits, readBack, read, sum, difference}
+use Rattle.integers.proofs.Integers.{differences, times}
 use Rattle.integers.specs.Ends.{least64}
 use Rattle.lines.specs.Lines.{imsakOf}
 
@@ -52,7 +53,8 @@ module _ (m : ℕ) (small : m < 2 ^ 32) where
           let s = sum least64 (pos (60 * m)) in
           let d = difference fajr (pos (60 * m)) in
           let r = range w64 fajr f in
-          let b = by-balance 9223372036854775808 9223372036854775807 (fajr -ℤ pos (60 * m)) (omega (arith, d .0, d .1, r .low)) (omega (arith, d .0, d .1, r .high)) in
+          let b = by-balance 9223372036854775808 9223372036854775807 (fajr -ℤ pos (60 * m)) (omega (arith, d .0, d .1, r .low))
+          (omega (arith, d .0, d .1, r .high)) in
           rw left-is (fits w64 (fajr -ℤ pos (60 * m)) (omega (arith, b .to)) (omega (arith, b .from)))
 
       pub left : readBack w64 (readBack w64 fajr -ℤ readBack w64 worked) ≡ imsakOf m fajr

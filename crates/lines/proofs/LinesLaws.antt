@@ -1,5 +1,6 @@
 -- How long the lines are. Assumes nothing.
-use Rattle.prelude.proofs.Logic.{_≡_, refl, Bool, true, false, cond, List, [], _∷_, _++_, ℕ, _+_, _*_, _≤_, arith, lit≤, ℤ, length, length-append}
+use Rattle.prelude.proofs.Logic.{_≡_, refl, Bool, true, false, cond, List, [], _∷_, _++_, ℕ, _+_, _*_, _≤_, arith, lit≤, ℤ, length}
+use Rattle.prelude.proofs.Logic.{length-append}
 use Rattle.calendar.specs.declared.dates.Date.{Date}
 use Rattle.hijri.specs.declared.ramadan.Ramadan.{Ramadan}
 use Rattle.schedule.specs.declared.{prayer_times.PrayerTimes.PrayerTimes, prayer_times.Worked.Worked}
@@ -7,7 +8,8 @@ use Rattle.refusals.specs.declared.Refusal.{Refusal}
 use Rattle.schedule.specs.declared.prayer_times.Worked.the-variants.{Times, Refused}
 use Rattle.text.specs.Text.{ascii, decimalOf}
 use Rattle.text.proofs.TextLaws.{digits-short}
-use Rattle.lines.specs.Lines.{dateText, timeText, timesText, imsakOf, nineOf, columnsOf, rowText, rowBytes, fullRow, rowRoom, numberText, refusedText, lineText}
+use Rattle.lines.specs.Lines.{dateText, timeText, timesText, imsakOf, nineOf, columnsOf, rowText, rowBytes, fullRow, rowRoom}
+use Rattle.lines.specs.Lines.{numberText, refusedText, lineText}
 
 pub date-length : (date : Date) → length (dateText date) ≡ 10
 unfolding dateText

@@ -1,6 +1,8 @@
 -- A time on the date or on a day beside it, in the machine's numbers. Assumes nothing.
-use Rattle.prelude.proofs.Logic.{_≡_, sym, ap, subst, _∙_, true, false, ℕ, _+_, _*_, _^_, _≤_, _<_, arith, lit<, T, ℤ, pos, negsuc, natAbs, _+ℤ_, _-ℤ_, _*ℤ_, ltZ, nonNeg, w32, w64, SFits, Fits}
-use Rattle.integers.proofs.Integers.{P, N, Near, floorQuot, floorRem, by-balance, lt-yes, lt-no, same, natural, floored, fits, readBack, read, sum, difference, differences, times}
+use Rattle.prelude.proofs.Logic.{_≡_, sym, ap, subst, _∙_, true, false, ℕ, _+_, _*_, _^_, _≤_, _<_, arith, lit<, T, ℤ, pos, negsuc, natAbs}
+use Rattle.prelude.proofs.Logic.{_+ℤ_, _-ℤ_, _*ℤ_, ltZ, nonNeg, w32, w64, SFits, Fits}
+use Rattle.integers.proofs.Integers.{P, N, Near, floorQuot, floorRem, by-balance, lt-yes, lt-no, same, natural, floored, fits, readBack}
+use Rattle.integers.proofs.Integers.{read, sum, difference, differences, times}
 use Rattle.calendar.specs.Days.{dayNumberOf}
 use Rattle.calendar.specs.declared.dates.Date.{Date}
 use Rattle.schedule.proofs.Starts.{start-near}
@@ -8,11 +10,13 @@ use Rattle.text.specs.Text.{digitOf}
 use Rattle.lines.specs.Lines.{daysOf, signOf}
 
 -- ---- the second of a day that begins at `start`
-module _ (start time x y : ℤ) (a : x ≡ start) (b : y ≡ time) (from : P start + N time ≤ P time + N start) (to : P time + N start < P start + N time + 86400) where
+module _ (start time x y : ℤ) (a : x ≡ start) (b : y ≡ time) (from : P start + N time ≤ P time + N start)
+    (to : P time + N start < P start + N time + 86400) where
   held : (N (y -ℤ x) ≤ 0) × (P (y -ℤ x) ≤ 86399)
   held =
       let d = difference time start in
-      let h = by-balance 0 86399 (time -ℤ start) (omega (arith, d .0 .balance, d .1 .over, d .1 .under)) (omega (arith, d .0 .balance, d .1 .over, d .1 .under)) in
+      let h = by-balance 0 86399 (time -ℤ start) (omega (arith, d .0 .balance, d .1 .over, d .1 .under))
+      (omega (arith, d .0 .balance, d .1 .over, d .1 .under)) in
       subst (λ (z : ℤ). (N z ≤ 0) × (P z ≤ 86399)) (sym (differences b a)) (h .from, h .to)
 
   pub second-fits : SFits w64 (y -ℤ x)
@@ -29,7 +33,8 @@ module _ (start time x y : ℤ) (a : x ≡ start) (b : y ≡ time) (from : P sta
       let d = difference time start in
       let z = ap P (differences b a) in
       let n = ap N (differences b a) in
-      subst (λ (z : ℤ). (natAbs z < 86400) × (P time + N start ≡ N time + P start + natAbs z)) (sym second-is) (omega (arith, held .1), omega (arith, held .0, d .0 .balance, d .1 .over, d .1 .under, z, n))
+      subst (λ (z : ℤ). (natAbs z < 86400) × (P time + N start ≡ N time + P start + natAbs z)) (sym second-is)
+      (omega (arith, held .1), omega (arith, held .0, d .0 .balance, d .1 .over, d .1 .under, z, n))
 
 -- ---- so many seconds into the day that lies k days from the date
 on-day : (date : Date) (time k : ℤ) (s : ℕ) → s < 86400
@@ -38,15 +43,18 @@ on-day : (date : Date) (time k : ℤ) (s : ℕ) → s < 86400
 on-day date time k s small e =
     let d = dayNumberOf date in
     let f = floored time 86400 (lit< tt) in
-    let b = difference (floorQuot time 86400) d in
-    (same (daysOf date time) k (omega (arith, f .balance, f .below, b .0 .balance, b .1 .over, b .1 .under)), omega (arith, f .balance, f .below))
+    let b = difference (floorQuot time 86400) d in (
+      same (daysOf date time) k (omega (arith, f .balance, f .below, b .0 .balance, b .1 .over, b .1 .under)),
+      omega (arith, f .balance, f .below),
+    )
 
 -- sign, digit and second are those of a time on a date
 abbrev Told : Date → ℤ → ℕ → ℕ → ℕ → Type 0
 Told date time sign digit second =
     (sign ≡ signOf (daysOf date time)) × (digit ≡ digitOf (natAbs (daysOf date time))) × (second ≡ floorRem time 86400)
 
-pub told-by : (date : Date) (time t : ℤ) (sign digit second : ℕ) → t ≡ time → Told date t sign digit second → Told date time sign digit second
+pub told-by : (date : Date) (time t : ℤ) (sign digit second : ℕ) → t ≡ time → Told date t sign digit second
+    → Told date time sign digit second
 told-by date time t sign digit second r h = subst (λ (z : ℤ). Told date z sign digit second) r h
 
 -- ---- 0h of the date and of the days beside it
@@ -69,12 +77,14 @@ module _ (date : Date) (year : date .year < 2 ^ 32) (start : ℤ) (is : start �
   pub before-fits : SFits w64 (readBack w64 start -ℤ pos 86400)
   before-fits =
       let d = difference start (pos 86400) in
-      subst (λ (z : ℤ). SFits w64 (z -ℤ pos 86400)) (sym read-start) (fits w64 (start -ℤ pos 86400) (omega (arith, near .to, d .0 .high)) (omega (arith, near .from, d .0 .low)))
+      subst (λ (z : ℤ). SFits w64 (z -ℤ pos 86400)) (sym read-start)
+      (fits w64 (start -ℤ pos 86400) (omega (arith, near .to, d .0 .high)) (omega (arith, near .from, d .0 .low)))
 
   pub after-fits : (n : ℕ) → n ≤ 172800 → SFits w64 (readBack w64 start +ℤ pos n)
   after-fits n h =
       let d = sum start (pos n) in
-      subst (λ (z : ℤ). SFits w64 (z +ℤ pos n)) (sym read-start) (fits w64 (start +ℤ pos n) (omega (arith, near .to, d .high)) (omega (arith, near .from, d .low)))
+      subst (λ (z : ℤ). SFits w64 (z +ℤ pos n)) (sym read-start)
+      (fits w64 (start +ℤ pos n) (omega (arith, near .to, d .high)) (omega (arith, near .from, d .low)))
 
   -- `from` is 0h of the day k days from the date
   abbrev Begins : ℤ → ℤ → Type 0

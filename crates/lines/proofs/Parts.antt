@@ -1,5 +1,7 @@
 -- The times of a row, one after another. Assumes nothing.
-use Rattle.prelude.proofs.Logic.{_≡_, refl, sym, ap, _∙_, List, [], _∷_, _++_, append-assoc, append-nil, ℕ, _+_, _*_, _<_, _≤_, add-one, arith, ℤ, length, getD, take, drop, length-append, length-drop, drop-drop, le-leb, lt-leb, drop-of-length-le, take-suc, take-length, length-take-le}
+use Rattle.prelude.proofs.Logic.{_≡_, refl, sym, ap, _∙_, List, [], _∷_, _++_, append-assoc, append-nil, ℕ, _+_, _*_, _<_, _≤_, add-one}
+use Rattle.prelude.proofs.Logic.{arith, ℤ, length, getD, take, drop, length-append, length-drop, drop-drop, le-leb, lt-leb}
+use Rattle.prelude.proofs.Logic.{drop-of-length-le, take-suc, take-length, length-take-le}
 use Rattle.calendar.specs.declared.dates.Date.{Date}
 use Rattle.text.specs.Text.{ascii, putOf, frontOf}
 use Rattle.text.proofs.TextLaws.{put-next}
@@ -23,13 +25,16 @@ part-length date times i h =
     let a = length-append (dateText date) (timesText date (take i times)) in
     omega arith
 
-pub part-next : (date : Date) (times : List ℤ) (i : ℕ) (z : ℤ) → i < length times → partText date times i ++ timeText date (getD times i z) ≡ partText date times (i + 1)
+pub part-next : (date : Date) (times : List ℤ) (i : ℕ) (z : ℤ) → i < length times → partText date times i
+    ++ timeText date (getD times i z) ≡ partText date times (i + 1)
 unfolding timesText
 part-next date times i z h =
     let c : timesText date (getD times i z ∷ []) ≡ timeText date (getD times i z) = append-nil (timeText date (getD times i z)) in
     let e : timesText date (take (i + 1) times) ≡ timesText date (take i times) ++ timeText date (getD times i z) =
-    rw (add-one i, take-suc times i z h) (times-append date (take i times) (getD times i z ∷ []) ∙ ap (λ (l : List ℕ). timesText date (take i times) ++ l) c) in
-    append-assoc (dateText date) (timesText date (take i times)) (timeText date (getD times i z)) ∙ ap (λ (l : List ℕ). dateText date ++ l) (sym e)
+    rw (add-one i, take-suc times i z h)
+    (times-append date (take i times) (getD times i z ∷ []) ∙ ap (λ (l : List ℕ). timesText date (take i times) ++ l) c) in
+    append-assoc (dateText date) (timesText date (take i times)) (timeText date (getD times i z))
+    ∙ ap (λ (l : List ℕ). dateText date ++ l) (sym e)
 
 -- text that fills a part of a buffer is put into the whole
 pub filled-put : (buffer text : List ℕ) (at k : ℕ) → k ≡ length text → at + k ≤ length buffer
@@ -41,7 +46,8 @@ filled-put buffer text at k e room =
     ∙ sym (rw (le-leb (at + length text) (length buffer) (omega arith)))
 
 -- text that is put into a part of its own length fills it
-pub part-put : (buffer text part : List ℕ) (at k : ℕ) → k ≡ length text → at + k ≤ length buffer → part ≡ putOf (take k (drop at buffer)) 0 text
+pub part-put : (buffer text part : List ℕ) (at k : ℕ) → k ≡ length text → at + k ≤ length buffer
+    → part ≡ putOf (take k (drop at buffer)) 0 text
     → take at buffer ++ (part ++ drop k (drop at buffer)) ≡ putOf buffer at text
 part-put buffer text part at k e room p =
     let mid = take k (drop at buffer) in
@@ -58,13 +64,15 @@ unfolding putOf
 no-room buffer text at h = rw (lt-leb (at + length text) (length buffer) h)
 
 -- the line of i times becomes that of i + 1
-pub time-put : (date : Date) (times : List ℤ) (i : ℕ) (z : ℤ) (line before after text : List ℕ) → i < length times → length line ≡ rowBytes (length times)
+pub time-put : (date : Date) (times : List ℤ) (i : ℕ) (z : ℤ) (line before after text : List ℕ) → i < length times
+    → length line ≡ rowBytes (length times)
     → before ≡ frontOf (partText date times i) line → text ≡ timeText date (getD times i z) → after ≡ putOf before (10 + 12 * i) text
     → after ≡ frontOf (partText date times (i + 1)) line
 time-put date times i z line before after text h l b e p =
     let d = part-length date times i (omega arith) in
     let c = time-length date (getD times i z) in
-    put-next line (partText date times i) (timeText date (getD times i z)) before after (10 + 12 * i) b (sym d) (p ∙ ap (putOf before (10 + 12 * i)) e) (omega arith)
+    put-next line (partText date times i) (timeText date (getD times i z)) before after (10 + 12 * i) b (sym d)
+    (p ∙ ap (putOf before (10 + 12 * i)) e) (omega arith)
     ∙ ap (λ (t : List ℕ). frontOf t line) (part-next date times i z (omega arith))
 
 -- the line of no times
@@ -77,7 +85,8 @@ date-put date times line after text l e p =
     ∙ ap (λ (t : List ℕ). frontOf t line) (sym (append-nil (dateText date)))
 
 -- the newline behind all times is the line's last byte
-pub newline-put : (date : Date) (times : List ℤ) (i : ℕ) (line before after : List ℕ) → i ≡ length times → length line ≡ rowBytes (length times)
+pub newline-put : (date : Date) (times : List ℤ) (i : ℕ) (line before after : List ℕ) → i ≡ length times
+    → length line ≡ rowBytes (length times)
     → before ≡ frontOf (partText date times i) line → after ≡ putOf before (10 + 12 * i) (ascii "\n") → after ≡ rowText date times
 unfolding rowText
 newline-put date times i line before after h l b p =

@@ -46,8 +46,8 @@ abbrev pub nineOf : PrayerTimes → List ℤ
 nineOf t =
     t .fajr ∷ t .sunrise ∷ t .dhuhr ∷ t .asr ∷ t .maghrib ∷ t .isha ∷ t .«middle_of_the_night» ∷ t .qiyam ∷ t .«fajr_tomorrow» ∷ []
 
--- request 12: "Imsak is the printed Fajr less those minutes". An instant that 64 bits do not hold gives way to the earliest that they do; no order's
--- imsak is one (crates/order_laws/specs/Imsak.antt)
+-- request 12: "Imsak is the printed Fajr less those minutes". An instant that 64 bits do not hold gives way to the earliest that they do;
+-- no order's imsak is one (crates/order_laws/specs/Imsak.antt)
 unfoldable pub imsakOf : ℕ → ℤ → ℤ
 imsakOf minutes fajr = let time = fajr -ℤ pos (60 * minutes) in cond (leZ least64 time) time least64
 

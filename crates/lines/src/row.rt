@@ -48,23 +48,7 @@ fn imsak(minutes: u32, fajr: i64) -> i64
     fajr - seconds
 }
 
-// In the header's order.
-fn nine(times: PrayerTimes) -> [i64; 9]
-    ensures { λ r. ⌜ r ≡ nineOf times ⌝ }
-{
-    [
-        times.fajr,
-        times.sunrise,
-        times.dhuhr,
-        times.asr,
-        times.maghrib,
-        times.isha,
-        times.middle_of_the_night,
-        times.qiyam,
-        times.fajr_tomorrow,
-    ]
-}
-
+// Imsak and the nine, in the header's order.
 fn ten(imsak: i64, times: PrayerTimes) -> [i64; 10]
     ensures { λ r. ⌜ r ≡ imsak ∷ nineOf times ⌝ }
 {
@@ -116,26 +100,7 @@ fn put_columns(buffer: &mut [u8], at: usize, date: Date, times: &[i64]) -> usize
     bytes
 }
 
-fn put_nine(buffer: &mut [u8], at: usize, date: Date, times: PrayerTimes) -> usize
-    ensures { λ r. ⌜ r ≡ length (rowText date (nineOf times)) ⌝ }
-    ensures { λ _. ⌜ now (buffer .exit) ≡ putOf (now (buffer .entry)) at (rowText date (nineOf times)) ⌝ }
-{
-    put_columns(&mut buffer[..], at, date, &nine(times))
-}
-
-fn put_ten(buffer: &mut [u8], at: usize, date: Date, minutes: u32, times: PrayerTimes) -> usize
-    ensures { λ r. ⌜ r ≡ length (rowText date (imsakOf minutes (times .fajr) ∷ nineOf times)) ⌝ }
-    ensures { λ _. ⌜ now (buffer .exit) ≡ putOf (now (buffer .entry)) at (rowText date (imsakOf minutes (times .fajr) ∷ nineOf times)) ⌝ }
-{
-    put_columns(
-        &mut buffer[..],
-        at,
-        date,
-        &ten(imsak(minutes, times.fajr), times),
-    )
-}
-
-// As `put` does; answers the line's length.
+// As `put` does; returns the line's length. A row without imsak has the nine times behind it.
 pub fn put_row(
     buffer: &mut [u8],
     at: usize,
@@ -146,8 +111,9 @@ pub fn put_row(
     ensures { λ r. ⌜ r ≡ length (rowText date (columnsOf ramadan times)) ⌝ }
     ensures { λ _. ⌜ now (buffer .exit) ≡ putOf (now (buffer .entry)) at (rowText date (columnsOf ramadan times)) ⌝ }
 {
+    let ten = ten(imsak(ramadan.imsak, times.fajr), times);
     if ramadan.set {
-        return put_ten(&mut buffer[..], at, date, ramadan.imsak, times);
+        return put_columns(&mut buffer[..], at, date, &ten);
     }
-    put_nine(&mut buffer[..], at, date, times)
+    put_columns(&mut buffer[..], at, date, &ten[1..])
 }

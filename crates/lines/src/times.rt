@@ -82,7 +82,8 @@ struct Moment {
 // Any time, by divisions.
 fn divided(dated: Dated, time: i64) -> Moment
     requires { ⌜ dated .day ≡ dayNumberOf (dated .date) ⌝ }
-    ensures { λ r. ⌜ (r .sign ≡ signOf (daysOf (dated .date) time)) × (r .days ≡ digitOf (natAbs (daysOf (dated .date) time))) × (r .second ≡ floorRem time 86400) ⌝ }
+    ensures { λ r. ⌜ (r .sign ≡ signOf (daysOf (dated .date) time)) × (r .days ≡ digitOf (natAbs (daysOf (dated .date) time)))
+        × (r .second ≡ floorRem time 86400) ⌝ }
 {
     let days = days_from(dated, time);
     Moment {
@@ -103,7 +104,8 @@ fn second_from(start: i64, time: i64) -> u32
 // Nearly every time is on the date or on a day beside it: there comparisons are enough.
 fn compared(dated: Dated, time: i64) -> Moment
     requires { ⌜ (dated .day ≡ dayNumberOf (dated .date)) × (dated .start ≡ dayNumberOf (dated .date) *ℤ pos 86400) ⌝ }
-    ensures { λ r. ⌜ (r .sign ≡ signOf (daysOf (dated .date) time)) × (r .days ≡ digitOf (natAbs (daysOf (dated .date) time))) × (r .second ≡ floorRem time 86400) ⌝ }
+    ensures { λ r. ⌜ (r .sign ≡ signOf (daysOf (dated .date) time)) × (r .days ≡ digitOf (natAbs (daysOf (dated .date) time)))
+        × (r .second ≡ floorRem time 86400) ⌝ }
 {
     let today = dated.start;
     let yesterday = today - 86400;
@@ -153,6 +155,20 @@ fn two_digits(n: u32) -> TwoDigits
     }
 }
 
+// Nearly every time is a whole minute.
+fn second_digits(second: u32) -> TwoDigits
+    requires { ⌜ second < 60 ⌝ }
+    ensures { λ r. ⌜ (r .tens ≡ digitOf (second / 10)) × (r .units ≡ digitOf second) ⌝ }
+{
+    if second == 0 {
+        return TwoDigits {
+            tens: b'0',
+            units: b'0',
+        };
+    }
+    two_digits(second)
+}
+
 // A blank, then as +0T05:12:00.
 pub fn time_text(dated: Dated, time: i64) -> [u8; 12]
     requires { ⌜ (dated .day ≡ dayNumberOf (dated .date)) × (dated .start ≡ dayNumberOf (dated .date) *ℤ pos 86400) ⌝ }
@@ -164,7 +180,7 @@ pub fn time_text(dated: Dated, time: i64) -> [u8; 12]
     let hours = second / 3600;
     let hour = two_digits(hours);
     let minute = two_digits(minutes - 60 * hours);
-    let rest = two_digits(second - 60 * minutes);
+    let rest = second_digits(second - 60 * minutes);
     [
         b' ',
         moment.sign,

@@ -1,6 +1,12 @@
--- From a bit pattern to the nearest count: what the pattern's fields say of a float up to 180, and the whole-number arithmetic on them. Assumes nothing.
-use Rattle.prelude.proofs.Logic.{_≡_, sym, ap, _∙_, subst, Bool, true, false, cond, false≢true, ℕ, zero, suc, _+_, _-_, _*_, _/_, _%_, _^_, _≤_, _<_, mul-one, mul-assoc, mul-comm, mul-left-comm, mul-add, add-mul, mul-pos, mul-le-mul, mul-le-mul-right, le-trans, lt-of-lt-of-le, not-le-of-lt, le-of-mul-le-mul-right, div-eq-of-lt, add-div-right, div-div-eq-div-mul, mul-div-mul-left, mul-div-mul-right, arith, T, leb, eqb, lit<, lit≤, pow-add, pow-pos, pow-mono, shl-lt, leb-true}
-use Rattle.float64.proofs.Floats.{Float, nan, inf, fin, binary64, up, down, fits, odd, ofFields, ofBits, toBits, down-pos, HasValue, odd-sign, div-same, ofBits-toBits}
+-- From a bit pattern to the nearest count: what the pattern's fields say of a float up to 180, and the whole-number arithmetic on them.
+-- Assumes nothing.
+use Rattle.prelude.proofs.Logic.{_≡_, sym, ap, _∙_, subst, Bool, true, false, cond, false≢true, ℕ, zero, suc, _+_, _-_, _*_, _/_, _%_, _^_}
+use Rattle.prelude.proofs.Logic.{_≤_, _<_, mul-one, mul-assoc, mul-comm, mul-left-comm, mul-add, add-mul, mul-pos, mul-le-mul}
+use Rattle.prelude.proofs.Logic.{mul-le-mul-right, le-trans, lt-of-lt-of-le, not-le-of-lt, le-of-mul-le-mul-right, div-eq-of-lt}
+use Rattle.prelude.proofs.Logic.{add-div-right, div-div-eq-div-mul, mul-div-mul-left, mul-div-mul-right, arith, T, leb, eqb, lit<, lit≤}
+use Rattle.prelude.proofs.Logic.{pow-add, pow-pos, pow-mono, shl-lt, leb-true}
+use Rattle.float64.proofs.Floats.{Float, nan, inf, fin, binary64, up, down, fits, odd, ofFields, ofBits, toBits, down-pos, HasValue}
+use Rattle.float64.proofs.Floats.{odd-sign, div-same, ofBits-toBits}
 use Rattle.map_form.specs.Hundredths.{atMost}
 use Rattle.map_form.specs.Written.{nearestTo, hundredthsOf}
 
@@ -14,7 +20,8 @@ count-by-value (inf t) s a c p v = absurd v
 count-by-value (fin t m e) s a c p v = go (m * up e) (down e) (down-pos e) (v .1)
   where
     go : (A d : ℕ) → 0 < d → A * c ≡ a * d → nearestTo (A * 360000) d ≡ nearestTo (a * 360000) c
-    go A d q e = div-same (2 * (A * 360000) + d) (2 * d) (2 * (a * 360000) + c) (2 * c) (omega arith) (omega arith) (simp ring (omega (arith, simp ring at e)))
+    go A d q e = div-same (2 * (A * 360000) + d) (2 * d) (2 * (a * 360000) + c) (2 * c) (omega arith) (omega arith)
+        (simp ring (omega (arith, simp ring at e)))
 
 pub size-by-value : (x : Float) (s : Bool) (n a c : ℕ) → atMost n x ≡ true → HasValue x s a c → a ≤ n * c
 unfolding atMost
@@ -30,7 +37,8 @@ abbrev pub units : ℕ → ℕ → ℕ
 units zero t = t
 units (suc E) t = (2 ^ 52 + t) * 2 ^ E
 
-fields-value : (n : ℕ) (s : Bool) (E t : ℕ) → atMost n (ofFields binary64 s E t) ≡ true → HasValue (ofFields binary64 s E t) s (units E t) (2 ^ 1074)
+fields-value : (n : ℕ) (s : Bool) (E t : ℕ) → atMost n (ofFields binary64 s E t) ≡ true
+    → HasValue (ofFields binary64 s E t) s (units E t) (2 ^ 1074)
 unfolding ofFields atMost
 fields-value n s zero t h = subst (λ (z : ℕ). HasValue (odd 53 s t 0 1074) s z (2 ^ 1074)) (mul-one t) (odd-sign 53 s t 0 1074)
 fields-value n s (suc E) t h = go (eqb (suc E) 2047) (eqb t 0) h
@@ -79,7 +87,8 @@ halved : (a r : ℕ) → 0 < r → nearestTo a (2 * r) ≡ (a / r + 1) / 2
 halved a r p =
     let u : 2 * a + 2 * r ≡ 2 * (a + r) = omega arith in
     let v : 2 * (2 * r) ≡ 2 * (r * 2) = omega arith in
-    rw (u, v) (mul-div-mul-left (a + r) (r * 2) (lit< tt) ∙ sym (div-div-eq-div-mul (a + r) r 2) ∙ ap (λ (z : ℕ). z / 2) (add-div-right a p))
+    rw (u, v)
+    (mul-div-mul-left (a + r) (r * 2) (lit< tt) ∙ sym (div-div-eq-div-mul (a + r) r 2) ∙ ap (λ (z : ℕ). z / 2) (add-div-right a p))
 
 -- a common factor goes
 reduced : (a d k : ℕ) → 0 < k → nearestTo (a * k) (d * k) ≡ nearestTo a d
@@ -95,7 +104,8 @@ powers E h =
     ∙ pow-add 2 (1 + (20 + (1053 - E))) E
     ∙ ap (λ (z : ℕ). z * 2 ^ E) (pow-add 2 1 (20 + (1053 - E)) ∙ ap (λ (z : ℕ). 2 * z) (pow-add 2 20 (1053 - E)))
 
-shifted : (E t : ℕ) → 0 < E → E ≤ 1030 → nearestTo (units E t * 360000) (2 ^ 1074) ≡ ((t + 2 ^ 52) * 360000 / 2 ^ 20 / 2 ^ (1054 - E) + 1) / 2
+shifted : (E t : ℕ) → 0 < E → E ≤ 1030
+    → nearestTo (units E t * 360000) (2 ^ 1074) ≡ ((t + 2 ^ 52) * 360000 / 2 ^ 20 / 2 ^ (1054 - E) + 1) / 2
 shifted zero t p h = absurd (omega arith)
 shifted (suc E) t p h =
     let m = 2 ^ 52 + t in
@@ -125,7 +135,8 @@ module _ (x : Float) (f : fits binary64 x ≡ true) (h : atMost 180 x ≡ true) 
   none l =
       let b = toBits binary64 x in
       let t : b % 2 ^ 52 < 2 ^ 52 = omega arith in
-      sym (from-units ∙ tiny (units (b % 2 ^ 63 / 2 ^ 52) (b % 2 ^ 52)) (2 ^ 1052) (2 ^ 1074) (few-units (b % 2 ^ 63 / 2 ^ 52) (b % 2 ^ 52) l t) (lit≤ tt))
+      sym (from-units ∙ tiny (units (b % 2 ^ 63 / 2 ^ 52) (b % 2 ^ 52)) (2 ^ 1052) (2 ^ 1074)
+      (few-units (b % 2 ^ 63 / 2 ^ 52) (b % 2 ^ 52) l t) (lit≤ tt))
 
   pub some : 1000 ≤ toBits binary64 x % 2 ^ 63 / 2 ^ 52 → (n : ℕ) → n ≡ (toBits binary64 x % 2 ^ 63 % 2 ^ 52 + 2 ^ 52) * 360000 / 2 ^ 20
       → (n / 2 ^ (1054 - toBits binary64 x % 2 ^ 63 / 2 ^ 52) + 1) / 2 ≡ hundredthsOf x

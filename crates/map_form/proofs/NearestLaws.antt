@@ -1,5 +1,6 @@
 -- The law of the writer: the answer's parts are the hundredths nearest to x, a half away from zero, with x's sign. Assumes nothing.
-use Rattle.prelude.proofs.Logic.{_≡_, refl, sym, ap, _∙_, subst, Bool, true, false, cond, false≢true, ℕ, zero, suc, _+_, _*_, _/_, _%_, _≤_, _<_, div-mul-le-self, lt-div-mul-add, lt-of-mul-lt-mul-right, arith, le-leb, cases}
+use Rattle.prelude.proofs.Logic.{_≡_, refl, sym, ap, _∙_, subst, Bool, true, false, cond, false≢true, ℕ, zero, suc, _+_, _*_, _/_, _%_, _≤_}
+use Rattle.prelude.proofs.Logic.{_<_, div-mul-le-self, lt-div-mul-add, lt-of-mul-lt-mul-right, arith, le-leb, cases}
 use Rattle.float64.proofs.Floats.{Float, nan, inf, fin, up, down, down-pos, isNegativeOf}
 use Rattle.refusals.specs.Refusals.{refusal}
 use Rattle.map_form.specs.declared.MapForm.{MapForm}
@@ -63,7 +64,13 @@ parts-fit most sign n s h =
     let t : n / 100 % 60 ≤ 59 = omega arith in
     let c : n % 100 ≤ 99 = omega arith in
     let w : sizeOf (partsOf sign n) ≤ most * 360000 = omega (arith, whole sign n) in
-    simp (le-leb sign 1 s, le-leb (n / 6000 % 60) 59 m, le-leb (n / 100 % 60) 59 t, le-leb (n % 100) 99 c, le-leb (sizeOf (partsOf sign n)) (most * 360000) w)
+    simp (
+      le-leb sign 1 s,
+      le-leb (n / 6000 % 60) 59 m,
+      le-leb (n / 100 % 60) 59 t,
+      le-leb (n % 100) 99 c,
+      le-leb (sizeOf (partsOf sign n)) (most * 360000) w,
+    )
 
 form-fits : (most : ℕ) (s : Bool) (n : ℕ) → n ≤ most * inDegree → formFits most (formOf (signed s n)) ≡ true
 form-fits most true zero h = parts-fit most 0 0 (omega arith) h
@@ -84,13 +91,17 @@ parts-of : (most : ℕ) (f g : MapForm) → formFits most f ≡ true → formFit
 parts-of most f g p q s e =
     let a = fits most f p in
     let b = fits most g q in
-    let m : f .minutes ≡ g .minutes = omega (arith, e, a .minutes-in, b .minutes-in, a .seconds-in, b .seconds-in, a .hundredths-in, b .hundredths-in) in
-    let t : f .seconds ≡ g .seconds = omega (arith, e, a .minutes-in, b .minutes-in, a .seconds-in, b .seconds-in, a .hundredths-in, b .hundredths-in) in
-    let h : f .hundredths ≡ g .hundredths = omega (arith, e, a .minutes-in, b .minutes-in, a .seconds-in, b .seconds-in, a .hundredths-in, b .hundredths-in) in
+    let m : f .minutes ≡ g .minutes =
+    omega (arith, e, a .minutes-in, b .minutes-in, a .seconds-in, b .seconds-in, a .hundredths-in, b .hundredths-in) in
+    let t : f .seconds ≡ g .seconds =
+    omega (arith, e, a .minutes-in, b .minutes-in, a .seconds-in, b .seconds-in, a .hundredths-in, b .hundredths-in) in
+    let h : f .hundredths ≡ g .hundredths =
+    omega (arith, e, a .minutes-in, b .minutes-in, a .seconds-in, b .seconds-in, a .hundredths-in, b .hundredths-in) in
     let d : f .degrees ≡ g .degrees = omega (arith, e, m, t, h) in
     λ i. record { sign = s i; degrees = d i; minutes = m i; seconds = t i; hundredths = h i }
 
-right-once : (x : Float) (most : ℕ) (f g : MapForm) → formFits most f ≡ true → formFits most g ≡ true → NearestParts x f → NearestParts x g → f ≡ g
+right-once : (x : Float) (most : ℕ) (f g : MapForm) → formFits most f ≡ true → formFits most g ≡ true → NearestParts x f → NearestParts x g
+    → f ≡ g
 right-once nan most f g p q a b = absurd a
 right-once (inf s) most f g p q a b = absurd a
 right-once (fin s m e) most f g p q a b =

@@ -1,6 +1,7 @@
 -- The reader's division: both numbers are exact as floats, so the quotient is n / 360,000 rounded once. Assumes nothing.
 use Rattle.prelude.proofs.Logic.{_≡_, refl, sym, true, false, ℕ, zero, suc, _*_, _≤_, _<_, arith, eqb, lit<, pos, eq-eqb, ne-eqb}
-use Rattle.float64.proofs.Floats.{Float, nan, inf, fin, binary64, up, down, round, ofInt, ofBits, div, neg, HasValue, down-pos, round-whole, round-same, big, round-neg}
+use Rattle.float64.proofs.Floats.{Float, nan, inf, fin, binary64, up, down, round, ofInt, ofBits, div, neg, HasValue, down-pos, round-whole}
+use Rattle.float64.proofs.Floats.{round-same, big, round-neg}
 use Rattle.map_form.specs.Hundredths.{signed, degreesOf}
 
 -- 360,000 as the source has it

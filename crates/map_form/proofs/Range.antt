@@ -1,6 +1,8 @@
 -- A float's range: the code's test is that of the exact value, and what it says of the float and of its hundredths. Assumes nothing.
-use Rattle.prelude.proofs.Logic.{_≡_, refl, Bool, true, false, not, false≢true, ℕ, _+_, _*_, _≤_, _<_, mul-le-mul-right, div-lt-iff-lt-mul, arith, T, leb, leb→le, le→leb, lit<, pos, leb-true, le-leb}
-use Rattle.float64.proofs.Floats.{Float, nan, inf, fin, binary64, up, down, ofInt, le, lt, eq, isNan, HasValue, down-pos, round-whole, le-of-values, absOf, under-value}
+use Rattle.prelude.proofs.Logic.{_≡_, refl, Bool, true, false, not, false≢true, ℕ, _+_, _*_, _≤_, _<_, mul-le-mul-right, div-lt-iff-lt-mul}
+use Rattle.prelude.proofs.Logic.{arith, T, leb, leb→le, le→leb, lit<, pos, leb-true, le-leb}
+use Rattle.float64.proofs.Floats.{Float, nan, inf, fin, binary64, up, down, ofInt, le, lt, eq, isNan, HasValue, down-pos, round-whole}
+use Rattle.float64.proofs.Floats.{le-of-values, absOf, under-value}
 use Rattle.map_form.specs.Hundredths.{atMost}
 use Rattle.map_form.specs.Written.{nearestTo, hundredthsOf}
 
@@ -23,7 +25,8 @@ at-most (inf s) h n v = not-infinite h n v
 at-most (fin s m e) h n v =
     same (le (fin false m e) h) (leb (m * up e) (n * down e))
     (λ t. let w = under-value (fin false m e) h n 1 (lit< tt) refl v t in le→leb (m * up e) (n * down e) (omega arith))
-    (λ t. let w = leb→le (m * up e) (n * down e) t in le-of-values (fin false m e) h (m * up e) (down e) n 1 (down-pos e) (lit< tt) (refl, refl) v (omega arith))
+    (λ t. let w = leb→le (m * up e) (n * down e) t in
+    le-of-values (fin false m e) h (m * up e) (down e) n 1 (down-pos e) (lit< tt) (refl, refl) v (omega arith))
 
 pub whole-value : (n : ℕ) → n ≤ 180 → HasValue (ofInt binary64 (pos n)) false n 1
 unfolding ofInt

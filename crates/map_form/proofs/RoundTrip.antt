@@ -1,5 +1,6 @@
 -- Reading and then writing gives the five parts back. Assumes nothing.
-use Rattle.prelude.proofs.Logic.{_≡_, refl, _∙_, ap, Bool, true, false, _&&_, and-eq-true-iff, ℕ, zero, suc, _*_, _/_, _%_, _≤_, arith, leb, eqb, lit<, lit≤, ℤ, pos, negsuc, le-leb, leb-true}
+use Rattle.prelude.proofs.Logic.{_≡_, refl, _∙_, ap, Bool, true, false, _&&_, and-eq-true-iff, ℕ, zero, suc, _*_, _/_, _%_, _≤_, arith, leb}
+use Rattle.prelude.proofs.Logic.{eqb, lit<, lit≤, ℤ, pos, negsuc, le-leb, leb-true}
 use Rattle.float64.proofs.Floats.{Float, nan, inf, fin, binary64, up, down, round, isNegativeOf, Within, Signed, round-within, round-signed}
 use Rattle.refusals.specs.Refusals.{noRefusal}
 use Rattle.map_form.specs.declared.MapForm.{MapForm}
@@ -10,7 +11,7 @@ use Rattle.map_form.specs.Promises.{WritingGivesBack}
 use Rattle.map_form.specs.Owed.{signFor}
 use Rattle.map_form.proofs.Rounding.{round-back}
 
--- ---- the rounding is in range where the count is, and has its sign
+-- ---- the rounding is in range if the count is, and has its sign
 within-at-most : (x : Float) (n : ℕ) → Within x n 1 → atMost n x ≡ true
 unfolding atMost
 within-at-most nan n w = absurd w
@@ -28,10 +29,12 @@ accepted f = record { refusal = noRefusal; form = f }
 
 module _ (most : ℕ) (small : most ≤ 180) where
   in-range : (s : Bool) (n : ℕ) → n ≤ most * inDegree → atMost most (round binary64 s n inDegree) ≡ true
-  in-range s n h = within-at-most (round binary64 s n inDegree) most (round-within n inDegree most 0 (lit< tt) (omega arith) (lit≤ tt) (omega arith) s)
+  in-range s n h =
+      within-at-most (round binary64 s n inDegree) most (round-within n inDegree most 0 (lit< tt) (omega arith) (lit≤ tt) (omega arith) s)
 
   -- ---- a count in range comes back
-  written-back : (tag : ℕ) (s : Bool) (n : ℕ) → n ≤ most * inDegree → writtenOf tag most (round binary64 s n inDegree) ≡ accepted (formOf (signed s n))
+  written-back : (tag : ℕ) (s : Bool) (n : ℕ) → n ≤ most * inDegree
+      → writtenOf tag most (round binary64 s n inDegree) ≡ accepted (formOf (signed s n))
   unfolding writtenOf
   written-back tag s n h =
       rw (in-range s n h, signed-negative (round binary64 s n inDegree) s (round-signed n inDegree s), round-back s n (omega arith))
@@ -58,7 +61,8 @@ module _ (most : ℕ) (small : most ≤ 180) where
 
 -- ---- the parts of a count
 parts-back : (sign : ℕ) (f : MapForm) → f .minutes ≤ 59 → f .seconds ≤ 59 → f .hundredths ≤ 99
-    → partsOf sign (sizeOf f) ≡ record { sign = sign; degrees = f .degrees; minutes = f .minutes; seconds = f .seconds; hundredths = f .hundredths }
+    → partsOf sign (sizeOf f)
+    ≡ record { sign = sign; degrees = f .degrees; minutes = f .minutes; seconds = f .seconds; hundredths = f .hundredths }
 parts-back sign f M S H =
     let n = sizeOf f in
     let a : n / 360000 ≡ f .degrees = omega arith in

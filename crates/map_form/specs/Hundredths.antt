@@ -1,5 +1,5 @@
--- Request 7: "five bytes, sign (0 or 1, 1 is south or west) and those four, the last three at most 59, 59 and 99. The f64 is the signed count of
--- hundredths divided by 360,000, rounded once." A coordinate as on the map, as a count of hundredths and as an f64.
+-- Request 7: "five bytes, sign (0 or 1, 1 is south or west) and those four, the last three at most 59, 59 and 99. The f64 is the signed
+-- count of hundredths divided by 360,000, rounded once." A coordinate as on the map, as a count of hundredths and as an f64.
 use Prim.Native.Nat.{ℕ, suc, _+_, _*_}
 use mathlib.Core.Bool.{Bool, true, false, cond, _&&_}
 use lib.Dec.{leb, eqb}

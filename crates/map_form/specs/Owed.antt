@@ -1,6 +1,6 @@
--- Request 7: "A writer gives the nearest hundredth, a half going away from zero, .. where zero is written with sign 0", and "a number out of range by
--- the writer" is refused by 5, "with place 18 or 19". What the writer owes, as a relation over whole numbers: only one answer meets it
--- (specs/Promises), and specs/Written works it out.
+-- Request 7: "A writer gives the nearest hundredth, a half going away from zero, .. where zero is written with sign 0", and "a number out
+-- of range by the writer" is refused by 5, "with place 18 or 19". What the writer owes, as a relation over whole numbers: only one answer
+-- meets it (specs/Promises), and specs/Written works it out.
 use Prim.Native.Nat.{ℕ, zero, suc, _+_, _*_, _≤_}
 use mathlib.Core.Path.{_≡_}
 use mathlib.Core.Bool.{true, false, cond}
@@ -24,7 +24,8 @@ pub record Nearest (a d c : ℕ) : Type 0 where
   pub «not_below» : 2 * a ≤ 2 * (c * d) + d
   pub «half_up» : 2 * a ≡ 2 * (c * d) + d → ⊥
 
--- x is finite, the parts are the hundredths nearest to the size of its exact value, a half away from zero, and the sign is x's, or 0 with a zero
+-- x is finite, the parts are the hundredths nearest to the size of its exact value, a half away from zero, and the sign is x's, or 0 with a
+-- zero
 abbrev pub NearestParts : Float → MapForm → Type 0
 NearestParts nan f = ⊥
 NearestParts (inf s) f = ⊥

@@ -28,8 +28,8 @@ OneIsOwed = (tag most : ℕ) (x : Float) (v w : Written) → Owed tag most x v �
 abbrev pub asWritten : MapForm → MapForm
 asWritten f = record { sign = signFor (sizeOf f) (f .sign); degrees = f .degrees; minutes = f .minutes; seconds = f .seconds; hundredths = f .hundredths }
 
--- "writing back a read coordinate gives its bytes, where zero is written with sign 0": of every coordinate that is taken for a latitude (most is 90)
--- or a longitude (180)
+-- "writing back a read coordinate gives its bytes, where zero is written with sign 0": of every coordinate that is taken for a latitude
+-- (most is 90) or a longitude (180)
 abbrev pub WritingGivesBack : Type 0
 WritingGivesBack =
     (tag most : ℕ) (f : MapForm) → most ≤ 180 → formFits most f ≡ true

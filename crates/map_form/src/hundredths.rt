@@ -18,8 +18,8 @@ fn scaled(m: u64) -> u64
     m / 1048576 * 360000 + m % 1048576 * 360000 / 1048576
 }
 
-// A half goes up. x is m / 2^s in size, with s = 1075 - e, so that twice x * 360,000 is m * 360,000 / 2^20 / 2^(s - 21). To its whole part one is
-// added, and half of the sum is taken. Below 2^-23 the count is 0; an e of up to 1030, which 180 has, keeps the shift from 24 to 54.
+// A half goes up. x is m / 2^s in size, with s = 1075 - e, so that twice x * 360,000 is m * 360,000 / 2^20 / 2^(s - 21). To its whole part
+// one is added, and half of the sum is taken. Below 2^-23 the count is 0; an e of up to 1030, which 180 has, keeps the shift from 24 to 54.
 pub(crate) fn nearest(x: f64) -> u64
     requires { ⌜ atMost 180 x ≡ true ⌝ }
     ensures { λ r. ⌜ (r ≡ hundredthsOf x) × (r ≤ 64800000) ⌝ }

@@ -16,7 +16,7 @@ const MOST_LONGITUDE: u64 = 180;
 // Hundredths of a second in a degree.
 const IN_DEGREE: u64 = 360000;
 
-// The sign 1 is south or west. A number of any size may stand in each part: `latitude_fits` and `longitude_fits` say which are allowed.
+// The sign 1 is south or west. Each part may be any number; `latitude_fits` and `longitude_fits` say which are allowed.
 #[repr(C)]
 pub struct MapForm {
     pub sign: u32,

@@ -9,7 +9,7 @@ use lib.Ieee.{Float, nan, binary64, eq, le, lt, add, sub, mul, div, neg, round, 
 use Rattle.float64.specs.Ops.{dec}
 use Rattle.calendar.specs.Gregorian.{dateOf, leapOf}
 use Rattle.calendar.specs.Days.{daysInYearOf}
-use Rattle.stride.specs.Julian.{dateJulianDayOf, julianDayOf, fromMarchOf, yearProductOf, monthProductOf, correctionOf, toI32Of}
+use Rattle.julian.specs.Julian.{dateJulianDayOf, julianDayOf, fromMarchOf, yearProductOf, monthProductOf, correctionOf, toI32Of}
 use Rattle.float64.specs.Sizes.{isNormalOf}
 use Rattle.float64.specs.Whole.{floorOf, truncOf, roundOf}
 use Rattle.models.specs.Numbers.{prayerNumberOf, prayerOf}
@@ -19,7 +19,8 @@ use Rattle.schedule.specs.declared.in_force.Instant.{Instant}
 use Rattle.schedule.specs.declared.in_force.Remaining.{Remaining}
 use Rattle.schedule.specs.declared.in_force.Remaining.the-variants as remaining
 use Rattle.schedule.specs.declared.prayer_times.PrayerTimes.{PrayerTimes}
-use Rattle.schedule.specs.InForce.{timeOf, nanosecondsOf, aheadOf, lastOf, currentTimeOf, followingOf, followingCurrentOf, nextOf, hoursMinutesOf, untilOf, timeRemainingOf}
+use Rattle.schedule.specs.InForce.{timeOf, nanosecondsOf, aheadOf, lastOf, currentTimeOf, followingOf, followingCurrentOf, nextOf}
+use Rattle.schedule.specs.InForce.{hoursMinutesOf, untilOf, timeRemainingOf}
 use Rattle.models.specs.declared.rules.Southern.the-variants.{StartsAgain}
 use Rattle.ops.specs.Season.{daysSinceSolsticeOf, southernOffsetOf, southernCountOf, daysByRule}
 use Rattle.solar.specs.declared.setting.SolarHour.{SolarHour}
@@ -34,9 +35,9 @@ north = dec 0 0
 abbrev south : Float
 south = neg (dec 1 0)
 
--- the count south of the equator where it starts again
-abbrev again : ℕ → ℕ → ℕ → Bool
-again day year count = eqb (daysByRule StartsAgain south day year) count
+-- the count south of the equator that starts again
+abbrev southAgain : ℕ → ℕ → ℕ → Bool
+southAgain day year count = eqb (daysByRule StartsAgain south day year) count
 
 -- an hour number that gives a time, in seconds from 0h of the date, and one that gives none
 abbrev gives : SolarHour → ℤ → Bool
@@ -65,10 +66,10 @@ times =
 abbrev instant : ℕ → ℕ → Instant
 instant seconds nanoseconds = record { seconds = pos seconds; nanoseconds = nanoseconds }
 
--- whether the prayer that stands n-th in the list is named, and none where n is 0
-abbrev names : Current → ℕ → Bool
-names (current.Some prayer) n = eqb (prayerNumberOf prayer) n
-names current.Nothing n = eqb n 0
+-- whether the n-th prayer of the list is named, and none if n is 0
+abbrev isNumbered : Current → ℕ → Bool
+isNumbered (current.Some prayer) n = eqb (prayerNumberOf prayer) n
+isNumbered current.Nothing n = eqb n 0
 
 abbrev lasts : Remaining → ℕ → ℕ → Bool
 lasts (remaining.Some r) hours minutes = eqb (r .hours) hours && eqb (r .minutes) minutes
@@ -85,15 +86,16 @@ marked =
     eqb (daysSinceSolsticeOf 171 2025 south) 364 ∷
     eqb (daysSinceSolsticeOf 172 2025 south) 365 ∷
     eqb (daysSinceSolsticeOf 365 2025 south) 558 ∷
-    -- the southern count that starts again: on the solstice, the day before it, the first day and the last, of a common year and of a leap year
-    again 172 2025 0 ∷
-    again 171 2025 364 ∷
-    again 1 2025 194 ∷
-    again 365 2025 193 ∷
-    again 173 2024 0 ∷
-    again 172 2024 365 ∷
-    again 1 2024 194 ∷
-    again 366 2024 193 ∷
+    -- the southern count that starts again: on the solstice, the day before it, the first day and the last, of a common year and of a leap
+    -- year
+    southAgain 172 2025 0 ∷
+    southAgain 171 2025 364 ∷
+    southAgain 1 2025 194 ∷
+    southAgain 365 2025 193 ∷
+    southAgain 173 2024 0 ∷
+    southAgain 172 2024 365 ∷
+    southAgain 1 2024 194 ∷
+    southAgain 366 2024 193 ∷
     -- and the equator stays northern
     eqb (daysByRule StartsAgain north 172 2025) 182 ∷
     eqb (daysByRule StartsAgain (neg north) 172 2025) 182 ∷
@@ -109,7 +111,8 @@ marked =
     gives (carriedHourOf (dec 23995 3)) (pos 86400) ∷
     gives (carriedHourOf (neg (dec 1 4))) (pos 0) ∷
     gives (carriedHourOf (dec 47995 3)) (pos 172800) ∷
-    -- both zeros and the smallest subnormal are 00:00 of the date; yesterday's 00:00 is the first time, and what lies beyond, or is no number, has none
+    -- both zeros and the smallest subnormal are 00:00 of the date; yesterday's 00:00 is the first time, and what lies beyond, or is no
+    -- number, has none
     gives (carriedHourOf (dec 0 0)) (pos 0) ∷
     gives (carriedHourOf (neg (dec 0 0))) (pos 0) ∷
     gives (carriedHourOf (ofBits binary64 1)) (pos 0) ∷
@@ -120,10 +123,10 @@ marked =
     -- and what needs no carrying stays
     gives (carriedHourOf (dec 55 1)) (pos 19800) ∷
     -- half a second before Fajr it is in force, a full second before it is not
-    names (currentTimeOf times (instant 3999 500000000)) 1 ∷
-    names (currentTimeOf times (instant 3999 0)) 0 ∷
+    isNumbered (currentTimeOf times (instant 3999 500000000)) 1 ∷
+    isNumbered (currentTimeOf times (instant 3999 0)) 0 ∷
     -- next after FajrTomorrow is FajrTomorrow
-    names (nextOf times (instant 32000 0)) 8 ∷
+    isNumbered (nextOf times (instant 32000 0)) 8 ∷
     -- `time_remaining` 3,599 s before sunrise is 0 hours 60 minutes; after FajrTomorrow, which is the next itself, it is 0 and 0
     lasts (timeRemainingOf times (instant 4401 0)) 0 60 ∷
     lasts (timeRemainingOf times (instant 32001 0)) 0 0 ∷
@@ -134,5 +137,8 @@ all [] = true
 all (t ∷ ts) = t && all ts
 
 pub all-hold : T (all marked)
-unfolding marked all timeOf nanosecondsOf aheadOf lastOf followingOf followingCurrentOf hoursMinutesOf untilOf prayerNumberOf prayerOf truncOf settingHourOf hourOf hourAdjustmentOf minuteOf hasTimeOf carriedOf carriedHourOf isNormalOf floorOf roundOf toUnsigned dec round ofBits eq le lt add sub mul div neg ofInt toSigned dateJulianDayOf julianDayOf fromMarchOf yearProductOf monthProductOf correctionOf toI32Of daysSinceSolsticeOf southernOffsetOf southernCountOf daysByRule daysInYearOf leapOf
+unfolding marked all timeOf nanosecondsOf aheadOf lastOf followingOf followingCurrentOf hoursMinutesOf untilOf prayerNumberOf prayerOf
+    truncOf settingHourOf hourOf hourAdjustmentOf minuteOf hasTimeOf carriedOf carriedHourOf isNormalOf floorOf roundOf toUnsigned dec round
+    ofBits eq le lt add sub mul div neg ofInt toSigned dateJulianDayOf julianDayOf fromMarchOf yearProductOf monthProductOf correctionOf
+    toI32Of daysSinceSolsticeOf southernOffsetOf southernCountOf daysByRule daysInYearOf leapOf
 all-hold = tt

@@ -1,6 +1,12 @@
 -- Each case's number names that case.
 use Rattle.prelude.proofs.Logic.{_≡_, refl}
-use Rattle.models.proofs.Models.{Rounding, Nearest, Up, None, Shafaq, General, Ahmer, Abyad, Madhab, Shafi, Hanafi, HighLatitudeRule, MiddleOfTheNight, SeventhOfTheNight, TwilightAngle, Method, MuslimWorldLeague, Egyptian, Karachi, UmmAlQura, Dubai, MoonsightingCommittee, NorthAmerica, Kuwait, Qatar, Singapore, Tehran, Turkey, Other, Midnight, Stops, Carries, Southern, Unreduced, StartsAgain, Prayer, Fajr, Sunrise, Dhuhr, Asr, Maghrib, Isha, Qiyam, FajrTomorrow, roundingNumberOf, roundingOf, shafaqNumberOf, shafaqOf, madhabNumberOf, madhabOf, ruleNumberOf, ruleOf, midnightNumberOf, midnightOf, southernNumberOf, southernOf, methodNumberOf, methodOf, prayerNumberOf, prayerOf}
+use Rattle.models.proofs.Models.{Rounding, Nearest, Up, None, Shafaq, General, Ahmer, Abyad, Madhab, Shafi, Hanafi, HighLatitudeRule}
+use Rattle.models.proofs.Models.{MiddleOfTheNight, SeventhOfTheNight, TwilightAngle, Method, MuslimWorldLeague, Egyptian, Karachi}
+use Rattle.models.proofs.Models.{UmmAlQura, Dubai, MoonsightingCommittee, NorthAmerica, Kuwait, Qatar, Singapore, Tehran, Turkey}
+use Rattle.models.proofs.Models.{Other, Midnight, Stops, Carries, Southern, Unreduced, StartsAgain, Prayer, Fajr, Sunrise, Dhuhr}
+use Rattle.models.proofs.Models.{Asr, Maghrib, Isha, Qiyam, FajrTomorrow, roundingNumberOf, roundingOf, shafaqNumberOf, shafaqOf}
+use Rattle.models.proofs.Models.{madhabNumberOf, madhabOf, ruleNumberOf, ruleOf, midnightNumberOf, midnightOf, southernNumberOf}
+use Rattle.models.proofs.Models.{southernOf, methodNumberOf, methodOf, prayerNumberOf, prayerOf}
 
 pub rounding-back : (c : Rounding) → roundingOf (roundingNumberOf c) ≡ c
 unfolding roundingNumberOf roundingOf

@@ -1,5 +1,6 @@
 -- A row of cases by their numbers, and one case for every number beyond it. Assumes nothing.
-use Rattle.prelude.proofs.Logic.{_≡_, refl, sym, List, [], _∷_, ℕ, zero, suc, _≤_, _<_, le-of-suc-le-suc, not-suc-le-zero, getD, length, List·getD-eq-default}
+use Rattle.prelude.proofs.Logic.{_≡_, refl, sym, List, [], _∷_, ℕ, zero, suc, _≤_, _<_, le-of-suc-le-suc, not-suc-le-zero, getD, length}
+use Rattle.prelude.proofs.Logic.{List·getD-eq-default}
 
 pub inside : {A : Type 0} (row : List A) (d e : A) (n : ℕ) → n < length row → getD row n d ≡ getD row n e
 inside [] d e n h = absurd (not-suc-le-zero h)

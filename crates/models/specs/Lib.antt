@@ -1,7 +1,7 @@
 pub mod Numbers
 pub mod Names
 pub mod Minutes
-pub mod Rules
+pub mod Recommended
 pub mod Settings
 pub mod Builder
 pub mod Presets

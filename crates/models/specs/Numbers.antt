@@ -1,5 +1,5 @@
--- The numbers by which an order and an answer name the cases of each enum, in the words of document 01's table, and the case of each number.
--- A number that names no case gives the last one. An order with such a number is refused before.
+-- The numbers by which an order and an answer name the cases of each enum, in the words of document 01's table, and the case of each
+-- number. A number that names no case gives the last one. An order with such a number is refused before.
 use Prim.Native.Nat.{ℕ}
 use mathlib.Core.List.{List, [], _∷_}
 use lib.ListN.{getD}
@@ -12,7 +12,9 @@ use Rattle.models.specs.declared.madhab.Madhab.the-variants.{Shafi, Hana
 use Rattle.models.specs.declared.high_altitude_rule.HighLatitudeRule.{HighLatitudeRule}
 use Rattle.models.specs.declared.high_altitude_rule.HighLatitudeRule.the-variants.{MiddleOfTheNight, SeventhOfTheNight, TwilightAngle}
 use Rattle.models.specs.declared.method.Method.{Method}
-use Rattle.models.specs.declared.method.Method.the-variants.{MuslimWorldLeague, Egyptian, Karachi, UmmAlQura, Dubai, MoonsightingCommittee, NorthAmerica, Kuwait, Qatar, Singapore, Tehran, Turkey, Other}
+use Rattle.models.specs.declared.method.Method.the-variants.{MuslimWorldLeague, Egyptian, Karachi, UmmAlQura, Dubai}
+use Rattle.models.specs.declared.method.Method.the-variants.{MoonsightingCommittee, NorthAmerica, Kuwait, Qatar, Singapore, Tehran}
+use Rattle.models.specs.declared.method.Method.the-variants.{Turkey, Other}
 use Rattle.models.specs.declared.rules.Midnight.{Midnight}
 use Rattle.models.specs.declared.rules.Midnight.the-variants.{Stops, Carries}
 use Rattle.models.specs.declared.rules.Southern.{Southern}
@@ -88,7 +90,8 @@ methodNumberOf Turkey = 11
 methodNumberOf Other = 12
 
 abbrev pub methods : List Method
-methods = MuslimWorldLeague ∷ Egyptian ∷ Karachi ∷ UmmAlQura ∷ Dubai ∷ MoonsightingCommittee ∷ NorthAmerica ∷ Kuwait ∷ Qatar ∷ Singapore ∷ Tehran ∷ Turkey ∷ Other ∷ []
+methods = MuslimWorldLeague ∷ Egyptian ∷ Karachi ∷ UmmAlQura ∷ Dubai ∷ MoonsightingCommittee ∷ NorthAmerica ∷ Kuwait ∷ Qatar ∷ Singapore
+    ∷ Tehran ∷ Turkey ∷ Other ∷ []
 
 unfoldable pub methodOf : ℕ → Method
 methodOf n = getD methods n Other

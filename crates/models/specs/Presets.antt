@@ -5,7 +5,9 @@ use Rattle.float64.specs.Ops.{dec}
 use Rattle.models.specs.declared.adjustments.TimeAdjustment.{TimeAdjustment}
 use Rattle.models.specs.declared.madhab.Madhab.{Madhab}
 use Rattle.models.specs.declared.method.Method.{Method}
-use Rattle.models.specs.declared.method.Method.the-variants.{MuslimWorldLeague, Egyptian, Karachi, UmmAlQura, Dubai, MoonsightingCommittee, NorthAmerica, Kuwait, Qatar, Singapore, Tehran, Turkey, Other}
+use Rattle.models.specs.declared.method.Method.the-variants.{MuslimWorldLeague, Egyptian, Karachi, UmmAlQura, Dubai}
+use Rattle.models.specs.declared.method.Method.the-variants.{MoonsightingCommittee, NorthAmerica, Kuwait, Qatar, Singapore, Tehran}
+use Rattle.models.specs.declared.method.Method.the-variants.{Turkey, Other}
 use Rattle.models.specs.declared.parameters.Parameters.{Parameters}
 use Rattle.models.specs.declared.rounding.Rounding.{Rounding}
 use Rattle.models.specs.declared.rounding.Rounding.the-variants.{Nearest, Up}
@@ -13,7 +15,8 @@ use Rattle.models.specs.Builder.{chosenOf, numberedOf}
 use Rattle.models.specs.Minutes.{sixMinutesOf}
 use Rattle.models.specs.Settings.{parametersNewOf}
 
--- the Fajr, Isha and Maghrib angles in tenths of a degree, the Isha interval, the method's minutes and its rounding; the rest as in Parameters::new
+-- the Fajr, Isha and Maghrib angles in tenths of a degree, the Isha interval, the method's minutes and its rounding; the rest as in
+-- Parameters::new
 unfoldable pub preset : Method → ℕ → ℕ → ℕ → ℕ → TimeAdjustment → Rounding → Parameters
 unfolding dec parametersNewOf
 preset method fajr isha maghrib interval minutes rounding =

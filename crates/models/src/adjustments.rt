@@ -64,7 +64,8 @@ impl Adjustment {
     }
 
     pub fn fajr(self, fajr: i32) -> Adjustment
-        ensures { λ r. ⌜ r ≡ builderOf (sixMinutesOf fajr (self .minutes .sunrise) (self .minutes .dhuhr) (self .minutes .asr) (self .minutes .maghrib) (self .minutes .isha)) ⌝ }
+        ensures { λ r. ⌜ r ≡ builderOf (sixMinutesOf fajr (self .minutes .sunrise) (self .minutes .dhuhr) (self .minutes .asr)
+            (self .minutes .maghrib) (self .minutes .isha)) ⌝ }
     {
         let mut minutes = self.minutes;
         minutes.fajr = fajr;
@@ -72,7 +73,8 @@ impl Adjustment {
     }
 
     pub fn sunrise(self, sunrise: i32) -> Adjustment
-        ensures { λ r. ⌜ r ≡ builderOf (sixMinutesOf (self .minutes .fajr) sunrise (self .minutes .dhuhr) (self .minutes .asr) (self .minutes .maghrib) (self .minutes .isha)) ⌝ }
+        ensures { λ r. ⌜ r ≡ builderOf (sixMinutesOf (self .minutes .fajr) sunrise (self .minutes .dhuhr) (self .minutes .asr)
+            (self .minutes .maghrib) (self .minutes .isha)) ⌝ }
     {
         let mut minutes = self.minutes;
         minutes.sunrise = sunrise;
@@ -80,7 +82,8 @@ impl Adjustment {
     }
 
     pub fn dhuhr(self, dhuhr: i32) -> Adjustment
-        ensures { λ r. ⌜ r ≡ builderOf (sixMinutesOf (self .minutes .fajr) (self .minutes .sunrise) dhuhr (self .minutes .asr) (self .minutes .maghrib) (self .minutes .isha)) ⌝ }
+        ensures { λ r. ⌜ r ≡ builderOf (sixMinutesOf (self .minutes .fajr) (self .minutes .sunrise) dhuhr (self .minutes .asr)
+            (self .minutes .maghrib) (self .minutes .isha)) ⌝ }
     {
         let mut minutes = self.minutes;
         minutes.dhuhr = dhuhr;
@@ -88,7 +91,8 @@ impl Adjustment {
     }
 
     pub fn asr(self, asr: i32) -> Adjustment
-        ensures { λ r. ⌜ r ≡ builderOf (sixMinutesOf (self .minutes .fajr) (self .minutes .sunrise) (self .minutes .dhuhr) asr (self .minutes .maghrib) (self .minutes .isha)) ⌝ }
+        ensures { λ r. ⌜ r ≡ builderOf (sixMinutesOf (self .minutes .fajr) (self .minutes .sunrise) (self .minutes .dhuhr) asr
+            (self .minutes .maghrib) (self .minutes .isha)) ⌝ }
     {
         let mut minutes = self.minutes;
         minutes.asr = asr;
@@ -96,7 +100,8 @@ impl Adjustment {
     }
 
     pub fn maghrib(self, maghrib: i32) -> Adjustment
-        ensures { λ r. ⌜ r ≡ builderOf (sixMinutesOf (self .minutes .fajr) (self .minutes .sunrise) (self .minutes .dhuhr) (self .minutes .asr) maghrib (self .minutes .isha)) ⌝ }
+        ensures { λ r. ⌜ r ≡ builderOf (sixMinutesOf (self .minutes .fajr) (self .minutes .sunrise) (self .minutes .dhuhr)
+            (self .minutes .asr) maghrib (self .minutes .isha)) ⌝ }
     {
         let mut minutes = self.minutes;
         minutes.maghrib = maghrib;
@@ -104,7 +109,8 @@ impl Adjustment {
     }
 
     pub fn isha(self, isha: i32) -> Adjustment
-        ensures { λ r. ⌜ r ≡ builderOf (sixMinutesOf (self .minutes .fajr) (self .minutes .sunrise) (self .minutes .dhuhr) (self .minutes .asr) (self .minutes .maghrib) isha) ⌝ }
+        ensures { λ r. ⌜ r ≡ builderOf (sixMinutesOf (self .minutes .fajr) (self .minutes .sunrise) (self .minutes .dhuhr)
+            (self .minutes .asr) (self .minutes .maghrib) isha) ⌝ }
     {
         let mut minutes = self.minutes;
         minutes.isha = isha;

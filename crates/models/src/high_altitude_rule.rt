@@ -1,7 +1,7 @@
-// high_altitude_rule.rs: how Fajr and Isha are bounded where the night is short.
+// high_altitude_rule.rs: how Fajr and Isha are bounded when the night is short.
 ghost use mathlib.Core.Path.{_≡_};
 ghost use Rattle.models.specs.Numbers.{ruleNumberOf, ruleOf};
-ghost use Rattle.models.specs.Rules.{recommendedOf};
+ghost use Rattle.models.specs.Recommended.{recommendedOf};
 use unit::Coordinates;
 
 pub enum HighLatitudeRule {

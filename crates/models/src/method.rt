@@ -164,7 +164,8 @@ impl Method {
     }
 
     fn preset(self, angles: [f64; 2], minutes: TimeAdjustment) -> Configuration
-        ensures { λ r. ⌜ r ≡ setMethodAdjustments (setMethod (configurationOf (parametersNewOf (getD angles 0 nan) (getD angles 1 nan))) self) minutes ⌝ }
+        ensures { λ r. ⌜ r
+            ≡ setMethodAdjustments (setMethod (configurationOf (parametersNewOf (getD angles 0 nan) (getD angles 1 nan))) self) minutes ⌝ }
     {
         Configuration::new(angles[0], angles[1])
             .method(self)

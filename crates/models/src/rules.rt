@@ -37,7 +37,7 @@ impl Midnight {
 pub enum Southern {
     // From the June solstice, and not reduced: the source's count.
     Unreduced,
-    // From the June solstice, where it starts again at 0.
+    // From the June solstice, at which it starts again at 0.
     StartsAgain,
 }
 

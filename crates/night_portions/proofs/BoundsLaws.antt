@@ -1,6 +1,7 @@
--- The portions by which Fajr and Isha are bounded: what an order's parameters give is no more than half, so a bound lies in its half of the night. Over the
--- definitions of `Portions`. Assumes nothing.
-use Rattle.prelude.proofs.Logic.{_≡_, refl, sym, ap, _∙_, Bool, true, false, not, ℕ, suc, _*_, _^_, _≤_, le-trans, arith, lit<, lit≤, ℤ, pos, negsuc, negℤ, negℤ-negℤ}
+-- The portions by which Fajr and Isha are bounded: what an order's parameters give is no more than half, so a bound lies in its half of the
+-- night. Over the definitions of `Portions`. Assumes nothing.
+use Rattle.prelude.proofs.Logic.{_≡_, refl, sym, ap, _∙_, Bool, true, false, not, ℕ, suc, _*_, _^_, _≤_, le-trans, arith, lit<, lit≤, ℤ}
+use Rattle.prelude.proofs.Logic.{pos, negsuc, negℤ, negℤ-negℤ}
 use Rattle.float64.proofs.Floats.{Float, round, le, ofInt, HasValue, dec, from-zero, signed}
 use Rattle.integers.proofs.Integers.{P, N, Near, flip}
 use Rattle.night_portions.specs.Portions.{nightFractionOf, portionAfterOf, portionBeforeOf}
@@ -39,7 +40,8 @@ after-parts : (n : ℤ) (w : ℕ) → w * 2 ≤ seconds n → (P (signed (negati
 after-parts (pos d) w l = (l, lit≤ tt)
 after-parts (negsuc d) w l = let f = flip (pos w) in (omega arith, omega arith)
 
-before-parts : (n : ℤ) (w : ℕ) → w * 2 ≤ seconds n → (P (signed (not (negative n)) w) * 2 ≤ N n) × (N (signed (not (negative n)) w) * 2 ≤ P n)
+before-parts : (n : ℤ) (w : ℕ) → w * 2 ≤ seconds n
+    → (P (signed (not (negative n)) w) * 2 ≤ N n) × (N (signed (not (negative n)) w) * 2 ≤ P n)
 before-parts (pos d) w l = let f = flip (pos w) in (omega arith, omega arith)
 before-parts (negsuc d) w l = (l, lit≤ tt)
 

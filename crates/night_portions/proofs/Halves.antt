@@ -1,7 +1,10 @@
--- A portion of d seconds that is from 0 to a half: whatever it is, it is cut to no more than half of d, the same by each cast, and with the sign of the
--- night. Assumes nothing.
-use Rattle.prelude.proofs.Logic.{_≡_, refl, sym, ap, _∙_, subst, Bool, true, false, not, ℕ, _*_, _^_, _≤_, _<_, zero-mul, arith, lit<, lit≤, ℤ}
-use Rattle.float64.proofs.Floats.{Float, nan, inf, fin, binary64, up, down, unlike, round, neg, toSigned, HasValue, round-whole, down-pos, _*ᶠ_, mul-same, Within, Signed, round-signed, value-within, neg-within, mul-within, FromZero, wholeSize, signed, whole-most, whole-neg, cast-is}
+-- A portion of d seconds that is from 0 to a half: whatever it is, it is cut to no more than half of d, the same by each cast, and with the
+-- sign of the night. Assumes nothing.
+use Rattle.prelude.proofs.Logic.{_≡_, refl, sym, ap, _∙_, subst, Bool, true, false, not, ℕ, _*_, _^_, _≤_, _<_, zero-mul, arith, lit<, lit≤}
+use Rattle.prelude.proofs.Logic.{ℤ}
+use Rattle.float64.proofs.Floats.{Float, nan, inf, fin, binary64, up, down, unlike, round, neg, toSigned, HasValue, round-whole, down-pos}
+use Rattle.float64.proofs.Floats.{_*ᶠ_, mul-same, Within, Signed, round-signed, value-within, neg-within, mul-within, FromZero, wholeSize}
+use Rattle.float64.proofs.Floats.{signed, whole-most, whole-neg, cast-is}
 
 -- x is d / 2 or less in size: its casts, and those of its opposite, to any integers that hold d
 pub record Halved (x : Float) (s : Bool) (d : ℕ) : Type 0 where
@@ -23,7 +26,8 @@ halved s x d g w =
       whole = wholeSize x;
       half = l;
       cast = λ h r p. cast-is h s x g d 2 w (omega arith);
-      opposite = λ h r p. cast-is h (not s) (neg x) (neg-signed s x g) d 2 (neg-within x d 2 w) (rw (whole-neg x) (omega arith)) ∙ ap (signed (not s)) (whole-neg x);
+      opposite = λ h r p. cast-is h (not s) (neg x) (neg-signed s x g) d 2 (neg-within x d 2 w) (rw (whole-neg x) (omega arith))
+          ∙ ap (signed (not s)) (whole-neg x);
     }
 
 -- a zero's sign is lost
@@ -56,7 +60,8 @@ module _ (t : Bool) (d : ℕ) (r : d ≤ 2 ^ 31) where
   product-signed : (s : Bool) (m : ℕ) (e : ℤ) → Signed (unlike s t) (fin s m e *ᶠ night)
   unfolding night
   product-signed s m e =
-      subst (Signed (unlike s t)) (sym (mul-same binary64 (fin s m e) night s t (m * up e) d (down e) 1 (down-pos e) (lit< tt) (refl, refl) night-value))
+      subst (Signed (unlike s t))
+      (sym (mul-same binary64 (fin s m e) night s t (m * up e) d (down e) 1 (down-pos e) (lit< tt) (refl, refl) night-value))
       (round-signed (m * up e * d) (down e * 1) (unlike s t))
 
   pub product-halved : (p : Float) → FromZero p 1 2 → Halved (p *ᶠ night) t d
@@ -64,8 +69,10 @@ module _ (t : Bool) (d : ℕ) (r : d ≤ 2 ^ 31) where
   product-halved nan f = absurd f
   product-halved (inf s) f = absurd f
   product-halved (fin false m e) f =
-      halved t (fin false m e *ᶠ night) d (subst (λ (u : Bool). Signed u (fin false m e *ᶠ night)) (unlike-plus t) (product-signed false m e))
-      (mul-within (fin false m e) night 1 d 2 1 d 1 (lit< tt) (lit< tt) f (value-within night t d 1 night-value) (omega arith) (lit≤ tt) (omega arith))
+      halved t (fin false m e *ᶠ night) d
+      (subst (λ (u : Bool). Signed u (fin false m e *ᶠ night)) (unlike-plus t) (product-signed false m e))
+      (mul-within (fin false m e) night 1 d 2 1 d 1 (lit< tt) (lit< tt) f (value-within night t d 1 night-value) (omega arith) (lit≤ tt)
+      (omega arith))
     where
       unlike-plus : (s : Bool) → unlike false s ≡ s
       unlike-plus true = refl
@@ -73,4 +80,5 @@ module _ (t : Bool) (d : ℕ) (r : d ≤ 2 ^ 31) where
   product-halved (fin true m e) f =
       halved-zero (unlike true t) t (fin true m e *ᶠ night) d
       (halved (unlike true t) (fin true m e *ᶠ night) 0 (product-signed true m e)
-      (mul-within (fin true m e) night 0 d 1 1 0 1 (lit< tt) (lit< tt) (let z = ap (λ (i : ℕ). i * up e) f ∙ zero-mul (up e) in omega arith) (value-within night t d 1 night-value) (lit< tt) (lit≤ tt) (omega arith)))
+      (mul-within (fin true m e) night 0 d 1 1 0 1 (lit< tt) (lit< tt) (let z = ap (λ (i : ℕ). i * up e) f ∙ zero-mul (up e) in omega arith)
+      (value-within night t d 1 night-value) (lit< tt) (lit≤ tt) (omega arith)))

@@ -1,6 +1,8 @@
 -- The portions that an order's parameters give are from 0 to a half. Assumes nothing.
-use Rattle.prelude.proofs.Logic.{_≡_, refl, ap, _∙_, Bool, true, false, true≢false, false≢true, inl, inr, ℕ, _*_, mul-pos, zero-mul, eq-zero-or-pos, arith, lit<, lit≤, ℤ}
-use Rattle.float64.proofs.Floats.{Float, nan, inf, fin, binary64, up, down, round, div, le, HasValue, round-whole, up-pos, _/ᶠ_, dec, Within, Signed, round-signed, div-within, FromZero, from-zero, to-tests}
+use Rattle.prelude.proofs.Logic.{_≡_, refl, ap, _∙_, Bool, true, false, true≢false, false≢true, inl, inr, ℕ, _*_, mul-pos, zero-mul}
+use Rattle.prelude.proofs.Logic.{eq-zero-or-pos, arith, lit<, lit≤, ℤ}
+use Rattle.float64.proofs.Floats.{Float, nan, inf, fin, binary64, up, down, round, div, le, HasValue, round-whole, up-pos, _/ᶠ_, dec}
+use Rattle.float64.proofs.Floats.{Within, Signed, round-signed, div-within, FromZero, from-zero, to-tests}
 use Rattle.night_portions.proofs.BoundsLaws.{Portion, half-value}
 
 -- by the middle of the night, and by its seventh
@@ -46,7 +48,9 @@ quotient (fin false m e) f =
     (div-within (fin false m e) (dec 60 0) false 30 60 1 1 1 1 (lit< tt) (lit< tt) (lit< tt) f sixty-value (lit< tt) (lit≤ tt) (lit≤ tt))
 quotient (fin true m e) f =
     nothing (fin true m e /ᶠ dec 60 0) (quotient-signed true m e)
-    (div-within (fin true m e) (dec 60 0) false 0 60 1 1 0 1 (lit< tt) (lit< tt) (lit< tt) (let z = ap (λ (i : ℕ). i * up e) f ∙ zero-mul (up e) in omega arith) sixty-value (lit< tt) (lit≤ tt) (lit≤ tt))
+    (div-within (fin true m e) (dec 60 0) false 0 60 1 1 0 1 (lit< tt) (lit< tt) (lit< tt)
+    (let z = ap (λ (i : ℕ). i * up e) f ∙ zero-mul (up e) in omega arith) sixty-value (lit< tt) (lit≤ tt) (lit≤ tt))
 
 pub angle-portion : (a : Float) → le (dec 0 0) a ≡ true → le a (dec 30 0) ≡ true → Portion (a /ᶠ dec 60 0)
-angle-portion a h k = to-tests (a /ᶠ dec 60 0) (dec 5 1) 1 2 (lit< tt) half-value (quotient a (from-zero a (dec 30 0) 30 1 (lit< tt) thirty-value h k))
+angle-portion a h k =
+    to-tests (a /ᶠ dec 60 0) (dec 5 1) 1 2 (lit< tt) half-value (quotient a (from-zero a (dec 30 0) 30 1 (lit< tt) thirty-value h k))

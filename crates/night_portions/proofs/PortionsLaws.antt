@@ -1,7 +1,10 @@
--- A seventh of a night, its middle and its last third lie in the night, and a later maghrib and a later Fajr never bring the last two forward. Over the
--- definitions of `Portions`. Assumes nothing.
-use Rattle.prelude.proofs.Logic.{_≡_, refl, ap, _∙_, Bool, true, false, ℕ, suc, _+_, _*_, _/_, _^_, _≤_, _<_, arith, lit<, lit≤, ℤ, pos, negsuc, _+ℤ_, _-ℤ_, quotZ}
-use Rattle.float64.proofs.Floats.{Float, nan, inf, fin, binary64, up, down, unlike, round, div, ofInt, toSigned, HasValue, round-whole, down-pos, round-same, _*ᶠ_, _/ᶠ_, dec, dyadic-value, mul-same, Within, round-signed, round-neg, value-within, wholeSize, signed, whole-most, whole-value, whole-neg, cast-is}
+-- A seventh of a night, its middle and its last third lie in the night, and a later maghrib and a later Fajr never bring the last two
+-- forward. Over the definitions of `Portions`. Assumes nothing.
+use Rattle.prelude.proofs.Logic.{_≡_, refl, ap, _∙_, Bool, true, false, ℕ, suc, _+_, _*_, _/_, _^_, _≤_, _<_, arith, lit<, lit≤, ℤ, pos}
+use Rattle.prelude.proofs.Logic.{negsuc, _+ℤ_, _-ℤ_, quotZ}
+use Rattle.float64.proofs.Floats.{Float, nan, inf, fin, binary64, up, down, unlike, round, div, ofInt, toSigned, HasValue, round-whole}
+use Rattle.float64.proofs.Floats.{down-pos, round-same, _*ᶠ_, _/ᶠ_, dec, dyadic-value, mul-same, Within, round-signed, round-neg}
+use Rattle.float64.proofs.Floats.{value-within, wholeSize, signed, whole-most, whole-value, whole-neg, cast-is}
 use Rattle.integers.proofs.Integers.{divided, Inside, _≼_}
 use Rattle.night_portions.specs.Portions.{seventhOf, middleOf, lastThirdOf}
 use Rattle.night_portions.proofs.Steady.{longest, Small, Steady, share, share-inside, share-later}
@@ -12,7 +15,8 @@ unlike-plus true = refl
 unlike-plus false = refl
 
 -- a rounded fraction cut to whole seconds: the sign aside, the same for both signs
-cut-signed : (s : Bool) (a b n c : ℕ) → Within (round binary64 s a b) n c → wholeSize (round binary64 s a b) < 2 ^ 63 → toSigned 63 (round binary64 s a b) ≡ signed s (wholeSize (round binary64 false a b))
+cut-signed : (s : Bool) (a b n c : ℕ) → Within (round binary64 s a b) n c → wholeSize (round binary64 s a b) < 2 ^ 63
+    → toSigned 63 (round binary64 s a b) ≡ signed s (wholeSize (round binary64 false a b))
 cut-signed s a b n c w l = cast-is 63 s (round binary64 s a b) (round-signed a b s) n c w l ∙ ap (signed s) (same s)
   where
     same : (s : Bool) → wholeSize (round binary64 s a b) ≡ wholeSize (round binary64 false a b)
@@ -61,7 +65,8 @@ two-thirds-value = (refl, refl)
 module _ (s : Bool) (d : ℕ) (h : d ≤ longest) where
   third-is : round binary64 s d 1 *ᶠ (dec 2 0 /ᶠ dec 3 0) ≡ round binary64 s (d * twoThirds) 9007199254740992
   third-is =
-      mul-same binary64 (round binary64 s d 1) (dec 2 0 /ᶠ dec 3 0) s false d twoThirds 1 9007199254740992 (lit< tt) (lit< tt) (round-whole binary64 s d (omega arith)) two-thirds-value
+      mul-same binary64 (round binary64 s d 1) (dec 2 0 /ᶠ dec 3 0) s false d twoThirds 1 9007199254740992 (lit< tt) (lit< tt)
+      (round-whole binary64 s d (omega arith)) two-thirds-value
       ∙ ap (λ (u : Bool). round binary64 u (d * twoThirds) 9007199254740992) (unlike-plus s)
 
   third-cut : toSigned 63 (round binary64 s d 1 *ᶠ (dec 2 0 /ᶠ dec 3 0)) ≡ signed s (third d)
@@ -88,10 +93,14 @@ middle-inside z h = rw (middle-is z h, half-share z) (share-inside (λ (d : ℕ)
 pub last-third-inside : (z : ℤ) → Small z → Inside (lastThirdOf z) z
 last-third-inside z h = rw (third-share z h) (share-inside third third-steady z h)
 
--- never forward, where maghrib goes from m to m' and tomorrow's Fajr from f to f'
-pub middle-later : (m f m' f' : ℤ) → m ≼ m' → f ≼ f' → Small (f -ℤ m) → Small (f' -ℤ m') → m +ℤ middleOf (f -ℤ m) ≼ m' +ℤ middleOf (f' -ℤ m')
+-- never forward, if maghrib goes from m to m' and tomorrow's Fajr from f to f'
+pub middle-later : (m f m' f' : ℤ) → m ≼ m' → f ≼ f' → Small (f -ℤ m) → Small (f' -ℤ m')
+    → m +ℤ middleOf (f -ℤ m) ≼ m' +ℤ middleOf (f' -ℤ m')
 middle-later m f m' f' hm hf hz hw =
-    rw (middle-is (f -ℤ m) hz, middle-is (f' -ℤ m') hw, half-share (f -ℤ m), half-share (f' -ℤ m')) (share-later (λ (d : ℕ). d / 2) half-steady m f m' f' hm hf hz hw)
+    rw (middle-is (f -ℤ m) hz, middle-is (f' -ℤ m') hw, half-share (f -ℤ m), half-share (f' -ℤ m'))
+    (share-later (λ (d : ℕ). d / 2) half-steady m f m' f' hm hf hz hw)
 
-pub last-third-later : (m f m' f' : ℤ) → m ≼ m' → f ≼ f' → Small (f -ℤ m) → Small (f' -ℤ m') → m +ℤ lastThirdOf (f -ℤ m) ≼ m' +ℤ lastThirdOf (f' -ℤ m')
-last-third-later m f m' f' hm hf hz hw = rw (third-share (f -ℤ m) hz, third-share (f' -ℤ m') hw) (share-later third third-steady m f m' f' hm hf hz hw)
+pub last-third-later : (m f m' f' : ℤ) → m ≼ m' → f ≼ f' → Small (f -ℤ m) → Small (f' -ℤ m')
+    → m +ℤ lastThirdOf (f -ℤ m) ≼ m' +ℤ lastThirdOf (f' -ℤ m')
+last-third-later m f m' f' hm hf hz hw =
+    rw (third-share (f -ℤ m) hz, third-share (f' -ℤ m') hw) (share-later third third-steady m f m' f' hm hf hz hw)

@@ -5,7 +5,8 @@ use Rattle.night_portions.specs.Portions.{seventhOf}
 
 module _ (night : ℤ) (f : SFits w64 night) where
   fits-seventh : SFits w64 (quotZ night (pos 7))
-  fits-seventh = let d = divided night 7 (lit< tt) in let r = range w64 night f in fits w64 (quotZ night (pos 7)) (omega arith) (omega arith)
+  fits-seventh = let d = divided night 7 (lit< tt) in let r = range w64 night f in
+      fits w64 (quotZ night (pos 7)) (omega arith) (omega arith)
 
   pub seventh-fits : SFits w64 (quotZ (readBack w64 night) (pos 7))
   seventh-fits = rw (read w64 night f) fits-seventh

@@ -1,6 +1,7 @@
--- A share of a night that grows with the night, and no faster. The instant that it marks lies in the night, and later ends of the night never bring it
--- forward. Assumes nothing.
-use Rattle.prelude.proofs.Logic.{_≡_, refl, Bool, true, false, _⊎_, inl, inr, ⊎-elim, ℕ, suc, _+_, _-_, _≤_, zero-le, le-of-lt, arith, leb, ℤ, pos, negsuc, negℤ, _+ℤ_, _-ℤ_, leb-true, leb-false}
+-- A share of a night that grows with the night, and no faster. The instant that it marks lies in the night, and later ends of the night
+-- never bring it forward. Assumes nothing.
+use Rattle.prelude.proofs.Logic.{_≡_, refl, Bool, true, false, _⊎_, inl, inr, ⊎-elim, ℕ, suc, _+_, _-_, _≤_, zero-le, le-of-lt, arith, leb}
+use Rattle.prelude.proofs.Logic.{ℤ, pos, negsuc, negℤ, _+ℤ_, _-ℤ_, leb-true, leb-false}
 use Rattle.integers.proofs.Integers.{P, N, Near, sum, flip, difference, _≼_, Inside}
 
 -- 2 ^ 50 seconds: no night is longer
@@ -40,9 +41,11 @@ module _ (f : ℕ → ℕ) (s : Steady f) where
       record { over = omega arith; under = omega arith }
 
   -- w is z + b - a
-  step : (z w : ℤ) (a b : ℕ) → Small z → Small w → P w + N z + a ≡ P z + N w + b → P (share f z) + N (share f w) ≤ P (share f w) + N (share f z) + a
+  step : (z w : ℤ) (a b : ℕ) → Small z → Small w → P w + N z + a ≡ P z + N w + b
+      → P (share f z) + N (share f w) ≤ P (share f w) + N (share f z) + a
   step (pos d) (pos e) a b hz hw q =
-      ⊎-elim (λ (l : d ≤ e). let r = s .grows d e (hw .to) l in omega arith) (λ (l : e ≤ d). let r = s .slow e d (hz .to) l in omega arith) (either d e)
+      ⊎-elim (λ (l : d ≤ e). let r = s .grows d e (hw .to) l in omega arith) (λ (l : e ≤ d). let r = s .slow e d (hz .to) l in omega arith)
+      (either d e)
   step (pos d) (negsuc k) a b hz hw q =
       let g = flip (pos (f (suc k))) in
       let u = part d (hz .to) in
@@ -52,7 +55,8 @@ module _ (f : ℕ → ℕ) (s : Steady f) where
   step (negsuc j) (negsuc k) a b hz hw q =
       let g = flip (pos (f (suc j))) in
       let h = flip (pos (f (suc k))) in
-      ⊎-elim (λ (l : suc k ≤ suc j). let r = s .grows (suc k) (suc j) (hz .from) l in omega arith) (λ (l : suc j ≤ suc k). let r = s .slow (suc j) (suc k) (hw .from) l in omega arith) (either (suc k) (suc j))
+      ⊎-elim (λ (l : suc k ≤ suc j). let r = s .grows (suc k) (suc j) (hz .from) l in omega arith)
+      (λ (l : suc j ≤ suc k). let r = s .slow (suc j) (suc k) (hw .from) l in omega arith) (either (suc k) (suc j))
 
   -- the night is from m to e, and then from m' to e'
   pub share-later : (m e m' e' : ℤ) → m ≼ m' → e ≼ e' → Small (e -ℤ m) → Small (e' -ℤ m') → m +ℤ share f (e -ℤ m) ≼ m' +ℤ share f (e' -ℤ m')

@@ -1,6 +1,9 @@
--- Two thirds of d seconds in f64, cut to whole seconds: between the bounds that whole numbers give, so they grow with d and no faster. Assumes nothing.
-use Rattle.prelude.proofs.Logic.{_≡_, ap, subst, Bool, false, ⊎-elim, ℕ, _+_, _-_, _*_, _/_, _≤_, _<_, zero-le, le-refl, eq-or-lt-of-le, arith, lit<, lit≤}
-use Rattle.float64.proofs.Floats.{binary64, round, round-whole, round-mono, Within, round-within, round-signed, wholeSize, whole-most, whole-least}
+-- Two thirds of d seconds in f64, cut to whole seconds: between the bounds that whole numbers give, so they grow with d and no faster.
+-- Assumes nothing.
+use Rattle.prelude.proofs.Logic.{_≡_, ap, subst, Bool, false, ⊎-elim, ℕ, _+_, _-_, _*_, _/_, _≤_, _<_, zero-le, le-refl, eq-or-lt-of-le}
+use Rattle.prelude.proofs.Logic.{arith, lit<, lit≤}
+use Rattle.float64.proofs.Floats.{binary64, round, round-whole, round-mono, Within, round-within, round-signed, wholeSize, whole-most}
+use Rattle.float64.proofs.Floats.{whole-least}
 use Rattle.night_portions.proofs.Steady.{longest, Steady, either}
 
 -- 2.0 / 3.0 is this over 2 ^ 53
@@ -26,11 +29,13 @@ unfolding third
 third-least d m h g =
     let y = round binary64 false (d * twoThirds) 9007199254740992 in
     whole-least (round binary64 false m 1) y m (4 * (2 * d / 3) + 3) 4 (round-whole binary64 false m (omega arith))
-    (round-mono binary64 m 1 (d * twoThirds) 9007199254740992 (lit< tt) (lit< tt) (omega arith)) (round-signed (d * twoThirds) 9007199254740992 false) (third-within d false h)
+    (round-mono binary64 m 1 (d * twoThirds) 9007199254740992 (lit< tt) (lit< tt) (omega arith))
+    (round-signed (d * twoThirds) 9007199254740992 false) (third-within d false h)
 
 grows : (d e : ℕ) → e ≤ longest → d ≤ e → third d ≤ third e
 grows d e h l =
-    ⊎-elim (λ (q : d ≡ e). subst (λ (z : ℕ). third d ≤ third z) q (le-refl (third d))) (λ (q : d < e). let u = third-most d (omega arith) in third-least e (third d) h (omega arith)) (eq-or-lt-of-le l)
+    ⊎-elim (λ (q : d ≡ e). subst (λ (z : ℕ). third d ≤ third z) q (le-refl (third d))) (λ (q : d < e). let u = third-most d (omega arith) in
+    third-least e (third d) h (omega arith)) (eq-or-lt-of-le l)
 
 slow : (d e : ℕ) → e ≤ longest → d ≤ e → third e ≤ third d + (e - d)
 slow d e h l =
@@ -38,7 +43,8 @@ slow d e h l =
     (λ (q : d ≡ e). let r = ap third q in omega arith)
     (λ (q : d < e).
     let u = third-most e h in
-    ⊎-elim (λ (w : third e ≤ e - d). omega arith) (λ (w : e - d ≤ third e). let v = third-least d (third e - (e - d)) (omega arith) (omega arith) in omega arith) (either (third e) (e - d)))
+    ⊎-elim (λ (w : third e ≤ e - d). omega arith) (λ (w : e - d ≤ third e). let v =
+    third-least d (third e - (e - d)) (omega arith) (omega arith) in omega arith) (either (third e) (e - d)))
     (eq-or-lt-of-le l)
 
 pub third-steady : Steady third

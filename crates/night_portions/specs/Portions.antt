@@ -1,5 +1,5 @@
--- schedule.rs: portions of a night in f64, cut toward zero to whole seconds. A night is a number of seconds: "the portion is cut toward zero, also when
--- the night is negative".
+-- schedule.rs: portions of a night in f64, cut toward zero to whole seconds. A night is a number of seconds: "the portion is cut toward
+-- zero, also when the night is negative".
 use lib.IntN.{ℤ, pos}
 use lib.Signed.{quotZ}
 use lib.Ieee.{Float, binary64, neg, ofInt, toSigned}

@@ -1,4 +1,4 @@
-// schedule.rs: portions of a night, cut toward zero to whole seconds, also where the night is negative.
+// schedule.rs: portions of a night, cut toward zero to whole seconds, also when the night is negative.
 ghost use mathlib.Core.Path.{_≡_};
 ghost use Rattle.night_portions.specs.Portions.{portionAfterOf, portionBeforeOf, seventhOf, middleOf, lastThirdOf};
 use float64::casts::to_i64;

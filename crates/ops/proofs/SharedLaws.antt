@@ -4,19 +4,27 @@ use Rattle.float64.proofs.Floats.{Float}
 use Rattle.unit.specs.declared.Angle.{Angle}
 use Rattle.unit.specs.declared.Coordinates.{Coordinates}
 use Rattle.unit.specs.Unit.{longitudeAngleOf}
+use Rattle.ops.specs.declared.coordinates.SolarCoordinates.{SolarCoordinates}
 use Rattle.ops.specs.declared.transit.Course.{Course}
-use Rattle.ops.specs.Transit.{interpolateOf, interpolateAnglesOf, altitudeOfCelestialBodyOf, hourAngleAtOf, correctedTransitOf, correctedHourAngleOf}
-use Rattle.ops.specs.Shared.{interpolatedOf, observerOf, courseOf, hourAngleOf, courseTransitNumberOf, arcToSineOf, halfArcOf, movedTransitOf, hourNumberOf}
+use Rattle.ops.specs.Transit.{interpolateOf, interpolateAnglesOf, altitudeOfCelestialBodyOf, hourAngleAtOf, correctedTransitOf}
+use Rattle.ops.specs.Transit.{correctedHourAngleOf}
+use Rattle.ops.specs.Shared.{interpolatedOf, observerOf, courseThroughOf, hourAngleOf, courseTransitNumberOf, arcToSineOf, halfArcOf}
+use Rattle.ops.specs.Shared.{movedTransitOf, hourNumberOf}
 
-module _ (transit : Float) (place : Coordinates) (sidereal ascension previous next declination previous-declination next-declination : Angle) where
+module _ (transit : Float) (place : Coordinates) (previous today next : SolarCoordinates) where
   abbrev course : Course
-  course = courseOf transit (observerOf place) sidereal ascension previous next declination previous-declination next-declination
+  course = courseThroughOf transit (observerOf place) previous today next
 
-  pub transit-shared : courseTransitNumberOf course ≡ correctedTransitOf transit (longitudeAngleOf place) sidereal ascension previous next
+  pub transit-shared : courseTransitNumberOf course
+      ≡ correctedTransitOf transit (longitudeAngleOf place) (today .«apparent_sidereal_time»)
+      (today .«right_ascension») (previous .«right_ascension») (next .«right_ascension»)
   unfolding courseTransitNumberOf correctedTransitOf hourAngleOf hourAngleAtOf interpolatedOf interpolateAnglesOf
   transit-shared = refl
 
   pub hour-number-shared : (angle : Angle) (after : Bool) → hourNumberOf course angle (halfArcOf course angle) after
-      ≡ correctedHourAngleOf transit angle place after sidereal ascension previous next declination previous-declination next-declination
-  unfolding hourNumberOf movedTransitOf halfArcOf arcToSineOf correctedHourAngleOf hourAngleOf hourAngleAtOf interpolatedOf interpolateAnglesOf interpolateOf altitudeOfCelestialBodyOf
+      ≡ correctedHourAngleOf transit angle place after (today .«apparent_sidereal_time»)
+      (today .«right_ascension») (previous .«right_ascension») (next .«right_ascension»)
+      (today .declination) (previous .declination) (next .declination)
+  unfolding hourNumberOf movedTransitOf halfArcOf arcToSineOf correctedHourAngleOf hourAngleOf hourAngleAtOf interpolatedOf
+      interpolateAnglesOf interpolateOf altitudeOfCelestialBodyOf
   hour-number-shared angle after = refl

@@ -1,5 +1,6 @@
 -- The southern count that starts again at the solstice, over the days of every year; and how far either count goes. Assumes nothing.
-use Rattle.prelude.proofs.Logic.{_≡_, refl, sym, ap, _∙_, Bool, true, false, cond, ℕ, _+_, _-_, _≤_, _<_, arith, leb, lit≤, leb-true, leb-false, le-leb}
+use Rattle.prelude.proofs.Logic.{_≡_, refl, sym, ap, _∙_, Bool, true, false, cond, ℕ, _+_, _-_, _≤_, _<_, arith, leb, lit≤, leb-true}
+use Rattle.prelude.proofs.Logic.{leb-false, le-leb}
 use Rattle.float64.proofs.Floats.{Float, le, dec}
 use Rattle.calendar.proofs.Calendar.{leapOf, daysInYearOf}
 use Rattle.models.specs.declared.rules.Southern.{Southern}
@@ -88,7 +89,8 @@ southern-count year =
       starts = starts o d g k;
       «starts_once» = λ (day : ℕ) (h : DayOfYear day year) (e : countOf o d day ≡ 0). starts-once o d g k day e;
       rises = λ (day : ℕ) (h : DayOfYear day year) (j : DayOfYear (day + 1) year) (n : day + 1 ≡ o → ⊥). rises o d g k day n;
-      «goes_on» = first (southernOffsetOf (year + 1)) (daysInYearOf (year + 1)) (year-gap (year + 1)) (let m = late (year + 1) in omega arith) (late (year + 1)) ∙ sym (ap (λ (n : ℕ). n + 1) (last o d g k));
+      «goes_on» = first (southernOffsetOf (year + 1)) (daysInYearOf (year + 1)) (year-gap (year + 1))
+          (let m = late (year + 1) in omega arith) (late (year + 1)) ∙ sym (ap (λ (n : ℕ). n + 1) (last o d g k));
     }
 
 -- ---- neither count goes further than the source's in the south

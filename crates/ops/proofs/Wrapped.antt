@@ -11,7 +11,8 @@ within-year year = by-test (leapOf year)
     by-test true = omega arith
     by-test false = omega arith
 
-back : (r day days offset : ℕ) → r < 4294967296 → day < 4294967296 → offset ≤ days → (r + offset) % 4294967296 ≡ day → (r + days) % 4294967296 ≡ (day + days - offset) % 4294967296
+back : (r day days offset : ℕ) → r < 4294967296 → day < 4294967296 → offset ≤ days → (r + offset) % 4294967296 ≡ day
+    → (r + days) % 4294967296 ≡ (day + days - offset) % 4294967296
 back r day days offset a b h e = omega arith
 
 pub wrapped : (r day year : ℕ) → r < 4294967296 → day < 4294967296 → (r + southernOffsetOf year) % 4294967296 ≡ day

@@ -1,3 +1,4 @@
+pub mod Coordinates
 pub mod Season
 pub mod Southern
 pub mod Shared

@@ -1,5 +1,5 @@
--- This file need not be believed: it is Sun's and Transit's formulas over what several calls share and is worked once: the sine and cosine of an angle,
--- the differences of an interpolation, the products of sines and of cosines. proofs/SharedLaws.antt says so of Transit's.
+-- This file need not be believed: it is Sun's and Transit's formulas over what several calls share and is worked once: the sine and cosine
+-- of an angle, the differences of an interpolation, the products of sines and of cosines. proofs/SharedLaws.antt says so of Transit's.
 use mathlib.Core.Bool.{Bool, cond}
 use lib.Ieee.{Float, neg}
 use Rattle.float64.specs.Ops.{_+ᶠ_, _-ᶠ_, _*ᶠ_, _/ᶠ_, dec}
@@ -8,22 +8,32 @@ use Rattle.fdlibm_arc.specs.Asin.{asinOf}
 use Rattle.fdlibm_arc.specs.Acos.{acosOf}
 use Rattle.unit.specs.declared.Angle.{Angle}
 use Rattle.unit.specs.declared.Coordinates.{Coordinates}
-use Rattle.unit.specs.Unit.{angleOf, fromRadiansOf, radiansOf, unwoundOf, quadrantShiftedOf, minusOf, overOf, latitudeAngleOf, longitudeAngleOf}
+use Rattle.unit.specs.Unit.{angleOf, fromRadiansOf, radiansOf, unwoundOf, quadrantShiftedOf, plusOf, minusOf, overOf, latitudeAngleOf}
+use Rattle.unit.specs.Unit.{longitudeAngleOf, normalizedToScaleOf}
+use Rattle.ops.specs.declared.coordinates.Equatorial.{Equatorial}
+use Rattle.ops.specs.declared.coordinates.SolarCoordinates.{SolarCoordinates}
 use Rattle.ops.specs.declared.interpolation.Interpolation.{Interpolation}
 use Rattle.ops.specs.declared.sun.Nutation.{Nutation}
 use Rattle.ops.specs.declared.sun.Apparent.{Apparent}
 use Rattle.ops.specs.declared.transit.Observer.{Observer}
 use Rattle.ops.specs.declared.transit.Course.{Course}
+use Rattle.ops.specs.Coordinates.{declinationOf, rightAscensionOf}
 use Rattle.ops.specs.Sun.{apparentSolarLongitudeOf, apparentObliquityOfTheEclipticOf, nutationInLongitudeOf, nutationInObliquityOf}
 use Rattle.ops.specs.Transit.{westOf}
 
 -- what the sine and the cosine of one angle correct together
 abbrev pub nutationsOf : Angle → Angle → Angle → Nutation
-nutationsOf solar lunar node = record { longitude = nutationInLongitudeOf solar lunar node; obliquity = nutationInObliquityOf solar lunar node }
+nutationsOf solar lunar node =
+    record { longitude = nutationInLongitudeOf solar lunar node; obliquity = nutationInObliquityOf solar lunar node }
 
 abbrev pub apparentPositionOf : Float → Angle → Angle → Apparent
 apparentPositionOf t longitude obliquity =
     record { longitude = apparentSolarLongitudeOf t longitude; obliquity = apparentObliquityOfTheEclipticOf t obliquity }
+
+-- what the sines and cosines of the obliquity and of the longitude give together
+abbrev pub equatorialOf : Float → Float → Equatorial
+equatorialOf obliquity longitude =
+    record { declination = declinationOf obliquity longitude; «right_ascension» = rightAscensionOf obliquity longitude }
 
 -- the differences of an interpolation: a + b and c
 abbrev pub differencesOf : Float → Float → Float → Interpolation
@@ -48,18 +58,29 @@ observerOf place =
     let latitude = radiansOf (latitudeAngleOf place) in
     record { west = westOf (longitudeAngleOf place); sine = sinOf latitude; cosine = cosOf latitude }
 
--- the sun's course over a place on a day, from its transit and its position on three days
-abbrev pub courseOf : Float → Observer → Angle → Angle → Angle → Angle → Angle → Angle → Angle → Course
-courseOf transit observer sidereal ascension previous next declination previous-declination next-declination =
+-- the approximate transit, from the longitude counted to the west
+unfoldable pub transitFromOf : Angle → Angle → Angle → Float
+unfolding dec
+transitFromOf west sidereal ascension =
+    normalizedToScaleOf ((overOf (minusOf (plusOf ascension west) sidereal) (angleOf (dec 360 0))) .degrees) (dec 1 0)
+
+-- the sun's course over a place on a day, from its transit and its position on the day before, on the day and on the day after
+abbrev pub courseThroughOf : Float → Observer → SolarCoordinates → SolarCoordinates → SolarCoordinates → Course
+courseThroughOf transit observer previous today next =
     record {
       observer = observer;
       transit = transit;
-      «sidereal_time» = sidereal;
-      «right_ascension» = angleDifferencesOf ascension previous next;
-      declination = differencesOf (declination .degrees) (previous-declination .degrees) (next-declination .degrees);
-      sines = observer .sine *ᶠ sinOf (radiansOf declination);
-      cosines = observer .cosine *ᶠ cosOf (radiansOf declination);
+      «sidereal_time» = today .«apparent_sidereal_time»;
+      «right_ascension» = angleDifferencesOf (today .«right_ascension») (previous .«right_ascension») (next .«right_ascension»);
+      declination = differencesOf (today .declination .degrees) (previous .declination .degrees) (next .declination .degrees);
+      sines = observer .sine *ᶠ sinOf (radiansOf (today .declination));
+      cosines = observer .cosine *ᶠ cosOf (radiansOf (today .declination));
     }
+
+abbrev pub courseOf : Observer → SolarCoordinates → SolarCoordinates → SolarCoordinates → Course
+courseOf observer previous today next =
+    courseThroughOf (transitFromOf (observer .west) (today .«apparent_sidereal_time») (today .«right_ascension»)) observer previous today
+    next
 
 -- the sun's hour angle at m
 unfoldable pub hourAngleOf : Course → Float → Angle

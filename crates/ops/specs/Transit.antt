@@ -8,7 +8,8 @@ use Rattle.fdlibm_arc.specs.Asin.{asinOf}
 use Rattle.fdlibm_arc.specs.Acos.{acosOf}
 use Rattle.unit.specs.declared.Angle.{Angle}
 use Rattle.unit.specs.declared.Coordinates.{Coordinates}
-use Rattle.unit.specs.Unit.{angleOf, fromRadiansOf, radiansOf, unwoundOf, quadrantShiftedOf, plusOf, minusOf, productOf, overOf, latitudeAngleOf, longitudeAngleOf, normalizedToScaleOf}
+use Rattle.unit.specs.Unit.{angleOf, fromRadiansOf, radiansOf, unwoundOf, quadrantShiftedOf, plusOf, minusOf, productOf, overOf}
+use Rattle.unit.specs.Unit.{latitudeAngleOf, longitudeAngleOf, normalizedToScaleOf}
 
 -- page 24: between three equidistant values
 unfoldable pub interpolateOf : Float → Float → Float → Float → Float

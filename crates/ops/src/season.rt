@@ -1,7 +1,10 @@
 // ops.rs: the season, by which the MoonsightingCommittee method bounds Fajr and Isha.
 ghost use mathlib.Core.Path.{_≡_};
 ghost use Rattle.float64.specs.Ranges.{insideOf};
-ghost use Rattle.ops.specs.Season.{southernOffsetOf, daysSinceSolsticeOf, southernCountOf, seasonDaysOf, sourceSeason, eveningValuesOf, twilightAdjustmentValuesOf, onTheWayOf, twilightAdjustmentsOf, seasonMinutesOf, morningSecondsOf, eveningSecondsOf, seasonAdjustedMorningTwilightOf, seasonAdjustedEveningTwilightOf};
+ghost use Rattle.ops.specs.Season.{southernOffsetOf, daysSinceSolsticeOf, southernCountOf, seasonDaysOf, sourceSeason};
+ghost use Rattle.ops.specs.Season.{eveningValuesOf, twilightAdjustmentValuesOf, onTheWayOf, twilightAdjustmentsOf, seasonMinutesOf};
+ghost use Rattle.ops.specs.Season.{morningSecondsOf, eveningSecondsOf, seasonAdjustedMorningTwilightOf};
+ghost use Rattle.ops.specs.Season.{seasonAdjustedEveningTwilightOf};
 use calendar::years::days_in_year;
 use calendar::years::is_leap_year;
 use float64::casts::to_i64;
@@ -11,8 +14,8 @@ use models::rounding::Rounding;
 use models::rules::Season;
 use models::rules::Southern;
 use models::shafaq::Shafaq;
-use stride::times::plus;
-use stride::times::rounded_minute;
+use rounding::times::plus;
+use rounding::times::rounded_minute;
 
 pub enum AdjustmentDaytime {
     Morning,

@@ -1,6 +1,9 @@
 // ops.rs: where the sun is, by the formulas of Meeus, Astronomical Algorithms.
 ghost use mathlib.Core.Path.{_≡_};
-ghost use Rattle.ops.specs.Sun.{square, cube, julianCenturyOf, meanSolarLongitudeOf, meanLunarLongitudeOf, ascendingLunarNodeLongitudeOf, meanSolarAnomalyOf, solarEquationOfTheCenterOf, omegaOf, apparentSolarLongitudeOf, meanObliquityOfTheEclipticOf, apparentObliquityOfTheEclipticOf, meanSiderealTimeOf, nutationInLongitudeOf, nutationInObliquityOf};
+ghost use Rattle.ops.specs.Sun.{square, cube, julianCenturyOf, meanSolarLongitudeOf, meanLunarLongitudeOf};
+ghost use Rattle.ops.specs.Sun.{ascendingLunarNodeLongitudeOf, meanSolarAnomalyOf, solarEquationOfTheCenterOf, omegaOf};
+ghost use Rattle.ops.specs.Sun.{apparentSolarLongitudeOf, meanObliquityOfTheEclipticOf, apparentObliquityOfTheEclipticOf};
+ghost use Rattle.ops.specs.Sun.{meanSiderealTimeOf, nutationInLongitudeOf, nutationInObliquityOf};
 ghost use Rattle.ops.specs.Shared.{nutationsOf, apparentPositionOf};
 ghost use Rattle.fdlibm_trig.specs.Trig.{sinOf, cosOf};
 ghost use Rattle.unit.specs.Unit.{radiansOf};

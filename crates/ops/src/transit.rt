@@ -2,8 +2,11 @@
 // What several hour numbers of a day share is worked once: the sine and cosine of the latitude (Observer), the differences
 // of the interpolations and the products of the sines and of the cosines (Course).
 ghost use mathlib.Core.Path.{_≡_};
-ghost use Rattle.ops.specs.Transit.{altitudeOfCelestialBodyOf, westOf, approximateTransitOf, correctedTransitOf, correctedHourAngleOf};
-ghost use Rattle.ops.specs.Shared.{observerOf, courseOf, hourAngleOf, movedTransitOf, courseTransitNumberOf, arcToSineOf, halfArcOf, hourNumberOf};
+ghost use Rattle.ops.specs.Transit.{altitudeOfCelestialBodyOf, westOf, approximateTransitOf, correctedTransitOf};
+ghost use Rattle.ops.specs.Transit.{correctedHourAngleOf};
+ghost use Rattle.ops.specs.Shared.{observerOf, transitFromOf, courseThroughOf, courseOf, hourAngleOf, movedTransitOf};
+ghost use Rattle.ops.specs.Shared.{courseTransitNumberOf, arcToSineOf, halfArcOf, hourNumberOf};
+use super::coordinates::SolarCoordinates;
 use super::interpolation::Interpolation;
 use super::interpolation::interpolate_angles;
 use fdlibm_arc::e_acos::acos;
@@ -36,11 +39,18 @@ fn west(longitude: Angle) -> Angle
     longitude.mul(Angle::new(-1.0))
 }
 
+// The approximate transit from the longitude counted to the west.
+fn transit_from(west: Angle, sidereal_time: Angle, right_ascension: Angle) -> f64
+    ensures { λ r. ⌜ r ≡ transitFromOf west «sidereal_time» «right_ascension» ⌝ }
+{
+    let angle = right_ascension.add(west).sub(sidereal_time);
+    normalized_to_scale(angle.div(Angle::new(360.0)).degrees, 1.0)
+}
+
 pub fn approximate_transit(longitude: Angle, sidereal_time: Angle, right_ascension: Angle) -> f64
     ensures { λ r. ⌜ r ≡ approximateTransitOf longitude «sidereal_time» «right_ascension» ⌝ }
 {
-    let angle = right_ascension.add(west(longitude)).sub(sidereal_time);
-    normalized_to_scale(angle.div(Angle::new(360.0)).degrees, 1.0)
+    transit_from(west(longitude), sidereal_time, right_ascension)
 }
 
 // A place, with what its latitude brings.
@@ -76,38 +86,55 @@ pub struct Course {
 }
 
 impl Course {
-    // From the transit, a place, and the sun's position on the day, the day before and the day after.
-    pub fn new(
+    // With a given transit.
+    fn through(
         transit: f64,
         observer: Observer,
-        sidereal_time: Angle,
-        right_ascension: Angle,
-        previous_right_ascension: Angle,
-        next_right_ascension: Angle,
-        declination: Angle,
-        previous_declination: Angle,
-        next_declination: Angle,
+        previous: SolarCoordinates,
+        today: SolarCoordinates,
+        next: SolarCoordinates,
     ) -> Course
-        ensures { λ r. ⌜ r ≡ courseOf transit observer «sidereal_time» «right_ascension» «previous_right_ascension» «next_right_ascension» declination «previous_declination» «next_declination» ⌝ }
+        ensures { λ r. ⌜ r ≡ courseThroughOf transit observer previous today next ⌝ }
     {
+        let sidereal_time = today.apparent_sidereal_time;
+        let declination = today.declination;
+        let declination_before = previous.declination;
+        let declination_after = next.declination;
         let inclination = sincos(declination.radians());
         Course {
             observer: observer,
             transit: transit,
             sidereal_time: sidereal_time,
             right_ascension: Interpolation::of_angles(
-                right_ascension,
-                previous_right_ascension,
-                next_right_ascension,
+                today.right_ascension,
+                previous.right_ascension,
+                next.right_ascension,
             ),
             declination: Interpolation::new(
                 declination.degrees,
-                previous_declination.degrees,
-                next_declination.degrees,
+                declination_before.degrees,
+                declination_after.degrees,
             ),
             sines: observer.sine * inclination.sin,
             cosines: observer.cosine * inclination.cos,
         }
+    }
+
+    // From the sun's position on the day before, on the day and on the day after.
+    pub fn new(
+        observer: Observer,
+        previous: SolarCoordinates,
+        today: SolarCoordinates,
+        next: SolarCoordinates,
+    ) -> Course
+        ensures { λ r. ⌜ r ≡ courseOf observer previous today next ⌝ }
+    {
+        let transit = transit_from(
+            observer.west,
+            today.apparent_sidereal_time,
+            today.right_ascension,
+        );
+        Course::through(transit, observer, previous, today, next)
     }
 
     // The sun's hour angle at a fraction of the day.
@@ -133,7 +160,8 @@ impl Course {
         (transit + angle_delta.degrees) * 24.0
     }
 
-    // How much of a turn lies between the transit and an altitude, in degrees, from the altitude's sine: one that several days share is worked once.
+    // How much of a turn lies between the transit and an altitude, in degrees, from the altitude's sine: one that several days share is
+    // worked once.
     pub fn arc_to_sine(self, sine: f64) -> f64
         ensures { λ r. ⌜ r ≡ arcToSineOf self sine ⌝ }
     {
@@ -185,7 +213,8 @@ pub fn corrected_transit(
     previous_right_ascension: Angle,
     next_right_ascension: Angle,
 ) -> f64
-    ensures { λ r. ⌜ r ≡ correctedTransitOf «approximate_transit» longitude «sidereal_time» «right_ascension» «previous_right_ascension» «next_right_ascension» ⌝ }
+    ensures { λ r. ⌜ r ≡ correctedTransitOf «approximate_transit» longitude «sidereal_time» «right_ascension» «previous_right_ascension»
+        «next_right_ascension» ⌝ }
 {
     let plane_angle = Angle::new(
         sidereal_time.degrees + (360.985647 * approximate_transit),
@@ -217,18 +246,25 @@ pub fn corrected_hour_angle(
     previous_declination: Angle,
     next_declination: Angle,
 ) -> f64
-    ensures { λ r. ⌜ r ≡ correctedHourAngleOf «approximate_transit» angle coordinates «after_transit» «sidereal_time» «right_ascension» «previous_right_ascension» «next_right_ascension» declination «previous_declination» «next_declination» ⌝ }
+    ensures { λ r. ⌜ r ≡ correctedHourAngleOf «approximate_transit» angle coordinates «after_transit» «sidereal_time» «right_ascension»
+        «previous_right_ascension» «next_right_ascension» declination «previous_declination» «next_declination» ⌝ }
 {
-    let course = Course::new(
-        approximate_transit,
-        Observer::new(coordinates),
-        sidereal_time,
-        right_ascension,
-        previous_right_ascension,
-        next_right_ascension,
-        declination,
-        previous_declination,
-        next_declination,
-    );
+    let previous = SolarCoordinates {
+        declination: previous_declination,
+        right_ascension: previous_right_ascension,
+        apparent_sidereal_time: sidereal_time,
+    };
+    let today = SolarCoordinates {
+        declination: declination,
+        right_ascension: right_ascension,
+        apparent_sidereal_time: sidereal_time,
+    };
+    let next = SolarCoordinates {
+        declination: next_declination,
+        right_ascension: next_right_ascension,
+        apparent_sidereal_time: sidereal_time,
+    };
+    let observer = Observer::new(coordinates);
+    let course = Course::through(approximate_transit, observer, previous, today, next);
     course.hour_number(angle, course.half_arc(angle), after_transit)
 }

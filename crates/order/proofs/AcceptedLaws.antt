@@ -1,5 +1,6 @@
 -- What a caller may rely on once an order is read: its record is one of Accepted.antt. Assumes nothing.
-use Rattle.prelude.proofs.Logic.{_≡_, refl, sym, ap, subst, true, _&&_, _||_, List, ℕ, _+_, _-_, _≤_, _<_, arith, leb, lit≤, ℤ, pos, negsuc, _-ℤ_, getD, leZ, leb-true, eqb-true, arms, cases, both}
+use Rattle.prelude.proofs.Logic.{_≡_, refl, sym, ap, subst, true, _&&_, _||_, List, ℕ, _+_, _-_, _≤_, _<_, arith, leb, lit≤, ℤ, pos, negsuc}
+use Rattle.prelude.proofs.Logic.{_-ℤ_, getD, leZ, leb-true, eqb-true, arms, cases, both}
 use Rattle.float64.proofs.Floats.{Float, neg, le, round, dec, Inside}
 use Rattle.integers.proofs.Integers.{P, N, Between, Near, by-balance, le-yes, difference}
 use Rattle.calendar.specs.declared.dates.Date.{Date}
@@ -13,13 +14,16 @@ use Rattle.map_form.specs.Hundredths.{signedHundredthsOf, degreesOf, formFits}
 use Rattle.map_form.proofs.Limits.{in-limits}
 use Rattle.map_form.proofs.RoundTrip.{read-in-range}
 use Rattle.models.specs.declared.{adjustments.TimeAdjustment.TimeAdjustment, method.Method.Method, prayer.Prayer.Prayer}
-use Rattle.models.specs.declared.method.Method.the-variants.{MuslimWorldLeague, Egyptian, Karachi, UmmAlQura, Dubai, MoonsightingCommittee, NorthAmerica, Kuwait, Qatar, Singapore, Tehran, Turkey, Other}
+use Rattle.models.specs.declared.method.Method.the-variants.{MuslimWorldLeague, Egyptian, Karachi, UmmAlQura, Dubai, MoonsightingCommittee}
+use Rattle.models.specs.declared.method.Method.the-variants.{NorthAmerica, Kuwait, Qatar, Singapore, Tehran, Turkey, Other}
 use Rattle.models.specs.declared.prayer.Prayer.the-variants.{Fajr, Sunrise, Dhuhr, Asr, Maghrib, Isha, Qiyam, FajrTomorrow}
 use Rattle.models.proofs.Models.{noMinutes, methodOf, preset, presetOf, minutesFor}
 use Rattle.order.specs.declared.reading.Order.{Order}
 use Rattle.order.specs.declared.reading.Reading.the-variants.{Read}
-use Rattle.order.specs.Given.{dateIn, rowsIn, degreesIn, formIn, coordinateIn, minutesIn, degreesOr, minutesOr, intervalOr, parametersIn, clockIn, ramadanGiven, ramadanIn}
-use Rattle.order.specs.Ranges.{mostRows, mostIn, dateFits, rowsFit, degreesFit, minuteFits, minutesFit, intervalFits, clockFits, ramadanFits, ramadanRows, lookUp, fitsOf}
+use Rattle.order.specs.Given.{dateIn, rowsIn, degreesIn, formIn, coordinateIn, minutesIn, degreesOr, minutesOr, intervalOr}
+use Rattle.order.specs.Given.{parametersIn, clockIn, ramadanGiven, ramadanIn}
+use Rattle.order.specs.Ranges.{mostRows, mostIn, dateFits, rowsFit, degreesFit, minuteFits, minutesFit, intervalFits, clockFits}
+use Rattle.order.specs.Ranges.{ramadanFits, ramadanRows, lookUp, fitsOf}
 use Rattle.order.specs.Reading.{required, isGivenOf, missingOf, outOfRangeOf, orderOf, wrongStartOf, readingOf}
 use Rattle.order.specs.Accepted.{DateInOrder, Accepted}
 use Rattle.order.proofs.RowDates.{row-in-order, most-few}
@@ -66,8 +70,10 @@ minute-within m e = signed-within 719 m e
 minutes-within : (m : TimeAdjustment) → minutesFit m ≡ true → (prayer : Prayer) → Near 720 (minutesFor prayer m)
 unfolding minutesFit minutesFor
 minutes-within m e prayer =
-    let isha = both (minuteFits (m .fajr) && minuteFits (m .sunrise) && minuteFits (m .dhuhr) && minuteFits (m .asr) && minuteFits (m .maghrib)) (minuteFits (m .isha)) e in
-    let maghrib = both (minuteFits (m .fajr) && minuteFits (m .sunrise) && minuteFits (m .dhuhr) && minuteFits (m .asr)) (minuteFits (m .maghrib)) (isha .0) in
+    let isha = both (minuteFits (m .fajr) && minuteFits (m .sunrise) && minuteFits (m .dhuhr) && minuteFits (m .asr)
+    && minuteFits (m .maghrib)) (minuteFits (m .isha)) e in
+    let maghrib = both (minuteFits (m .fajr) && minuteFits (m .sunrise) && minuteFits (m .dhuhr) && minuteFits (m .asr))
+    (minuteFits (m .maghrib)) (isha .0) in
     let asr = both (minuteFits (m .fajr) && minuteFits (m .sunrise) && minuteFits (m .dhuhr)) (minuteFits (m .asr)) (maghrib .0) in
     let dhuhr = both (minuteFits (m .fajr) && minuteFits (m .sunrise)) (minuteFits (m .dhuhr)) (asr .0) in
     let first = both (minuteFits (m .fajr)) (minuteFits (m .sunrise)) (dhuhr .0) in
@@ -100,10 +106,12 @@ module _ (v : Values) where
   unfolding coordinateIn
   coordinate float map most small either as-float as-map =
       arms (Inside (neg (dec most 0)) (dec most 0)) (v .has map)
-      (λ m. in-limits (degreesOf (signedHundredthsOf (formIn (v .value map)))) most small (read-in-range most small (formIn (v .value map)) (as-map m)))
+      (λ m. in-limits (degreesOf (signedHundredthsOf (formIn (v .value map)))) most small
+      (read-in-range most small (formIn (v .value map)) (as-map m)))
       (λ m. degrees-inside (neg (dec most 0)) (dec most 0) (v .value float) (as-float (one-form (v .has) float map either m)))
 
-  interval-or : (missing : ℤ) → (v .has 14 ≡ true → intervalFits (v .value 14) ≡ true) → Between 0 1440 missing → Between 0 1440 (intervalOr v missing)
+  interval-or : (missing : ℤ) → (v .has 14 ≡ true → intervalFits (v .value 14) ≡ true) → Between 0 1440 missing
+      → Between 0 1440 (intervalOr v missing)
   unfolding intervalOr intervalFits
   interval-or missing fits otherwise =
       let n = unsignedOf (v .value 14) 0 in
@@ -112,9 +120,11 @@ module _ (v : Values) where
   clock-in : (v .has 16 ≡ true → clockFits (v .value 16) ≡ true) → Near 840 (clockIn v)
   unfolding clockIn clockFits
   clock-in fits =
-      arms (Near 840) (v .has 16) (λ t. signed-within 839 (signedAtOf (v .value 16) 0) (fits t)) (λ t. record { from = lit≤ tt; to = lit≤ tt })
+      arms (Near 840) (v .has 16) (λ t. signed-within 839 (signedAtOf (v .value 16) 0) (fits t))
+      (λ t. record { from = lit≤ tt; to = lit≤ tt })
 
-  minutes-or : (v .has 11 ≡ true → minutesFit (minutesIn (v .value 11)) ≡ true) → (prayer : Prayer) → Near 720 (minutesFor prayer (minutesOr v noMinutes))
+  minutes-or : (v .has 11 ≡ true → minutesFit (minutesIn (v .value 11)) ≡ true) → (prayer : Prayer)
+      → Near 720 (minutesFor prayer (minutesOr v noMinutes))
   unfolding minutesOr minutesFit minuteFits
   minutes-or fits prayer =
       arms (λ (m : TimeAdjustment). Near 720 (minutesFor prayer m)) (v .has 11)
@@ -178,14 +188,16 @@ unfolding orderOf parametersIn fitsOf lookUp isGivenOf
 accepted v given ranges start =
     let method = methodOf (byteOf (v .value 6) 0) in
     let from = brought method in
-    let three = both (rowsFit (dateIn (v .value 2)) (v .value 3)) (ramadanRows (v .has 20) (v .value 3)) (fits 3 (lit≤ tt) (lit≤ tt) (has 2 (lit≤ tt))) in
+    let three = both (rowsFit (dateIn (v .value 2)) (v .value 3)) (ramadanRows (v .has 20) (v .value 3))
+    (fits 3 (lit≤ tt) (lit≤ tt) (has 2 (lit≤ tt))) in
     let rows = rows-in (dateIn (v .value 2)) (v .value 3) (three .0) in
     let ramadan = ramadan-in v (fits 20 (lit≤ tt) (lit≤ tt)) in
     let date = date-in (dateIn (v .value 2)) (fits 2 (lit≤ tt) (lit≤ tt) (has 1 (lit≤ tt))) in
     record {
       date = date;
       rows = rows .0;
-      row = λ (row : ℕ) (l : row < rowsIn (v .value 3)). row-in-order (dateIn (v .value 2)) (date .there) (date .from) (rowsIn (v .value 3) - 1) row (rows .1) (omega arith);
+      row = λ (row : ℕ) (l : row < rowsIn (v .value 3)). row-in-order (dateIn (v .value 2)) (date .there) (date .from)
+          (rowsIn (v .value 3) - 1) row (rows .1) (omega arith);
       latitude = coordinate v 4 18 90 (lit≤ tt) (has 3 (lit≤ tt)) (fits 4 (lit≤ tt) (lit≤ tt)) (fits 18 (lit≤ tt) (lit≤ tt));
       longitude = coordinate v 5 19 180 (lit≤ tt) (has 4 (lit≤ tt)) (fits 5 (lit≤ tt) (lit≤ tt)) (fits 19 (lit≤ tt) (lit≤ tt));
       parameters = record {

@@ -37,5 +37,6 @@ module _ (s : List ℕ) (checked : Checked) (is-checked : checked ≡ checkedOf 
       → firstOf (checksOf (valuesIn s (checked .fields))) (orderOf (valuesIn s (checked .fields))) ≡ readingOf s
   unfolding readingOf
   by-values p =
-      let e : firstOf (checkOf s ∷ checksOf (valuesOf s)) (orderOf (valuesOf s)) ≡ firstOf (checksOf (valuesOf s)) (orderOf (valuesOf s)) = unfold firstOf in simp (broken, eq-eqb _ _ p) in
+      let e : firstOf (checkOf s ∷ checksOf (valuesOf s)) (orderOf (valuesOf s)) ≡ firstOf (checksOf (valuesOf s)) (orderOf (valuesOf s)) =
+      unfold firstOf in simp (broken, eq-eqb _ _ p) in
       ap (λ (v : Values). firstOf (checksOf v) (orderOf v)) (checked-values s checked is-checked p) ∙ sym e

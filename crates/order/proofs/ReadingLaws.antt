@@ -1,5 +1,6 @@
 -- What reading an order and refusing one say of the checks, and of the town. Assumes nothing.
-use Rattle.prelude.proofs.Logic.{_≡_, refl, sym, ap, subst, _∙_, Bool, true, false, not, _&&_, _||_, List, [], _∷_, ℕ, _+_, _-_, _≤_, _<_, arith, eqb, lit≤, length, getD, eqb-true, eqb-false, arms, cases}
+use Rattle.prelude.proofs.Logic.{_≡_, refl, sym, ap, subst, _∙_, Bool, true, false, not, _&&_, _||_, List, [], _∷_, ℕ, _+_, _-_, _≤_, _<_}
+use Rattle.prelude.proofs.Logic.{arith, eqb, lit≤, length, getD, eqb-true, eqb-false, arms, cases}
 use Rattle.calendar.specs.Days.{dayNumberOf}
 use Rattle.calendar.specs.declared.dates.Date.{Date}
 use Rattle.fields.specs.Fields.{checkOf}
@@ -15,7 +16,8 @@ use Rattle.order.specs.declared.reading.Order.{Order}
 use Rattle.order.specs.declared.reading.Reading.the-variants.{Read, Refused}
 use Rattle.text.specs.Text.{printable}
 use Rattle.order.specs.Ranges.{lookUp, fitsOf, inRangeOf}
-use Rattle.order.specs.Reading.{required, isGivenOf, missingOf, bothFormsOf, outOfRangeOf, tagsFrom, orderOf, wrongStartOf, firstOf, readingOf, townIn, townOf}
+use Rattle.order.specs.Reading.{required, isGivenOf, missingOf, bothFormsOf, outOfRangeOf, tagsFrom, orderOf, wrongStartOf, firstOf}
+use Rattle.order.specs.Reading.{readingOf, townIn, townOf}
 use Rattle.order.proofs.Tags.{all-pass, failing-number, tags-from, tags-length}
 
 -- 15 or 18
@@ -79,7 +81,8 @@ both-forms-number : (has : ℕ → Bool) → Small (bothFormsOf has .number)
 unfolding bothFormsOf
 both-forms-number has =
     arms (λ (x : Refusal). Small (x .number)) (has 4 && has 18) (λ t l. record { most = lit≤ tt; otherwise = λ h. refl })
-    (λ t. arms (λ (x : Refusal). Small (x .number)) (has 5 && has 19) (λ u l. record { most = lit≤ tt; otherwise = λ h. refl }) (λ u l. absurd (omega arith)))
+    (λ t. arms (λ (x : Refusal). Small (x .number)) (has 5 && has 19) (λ u l. record { most = lit≤ tt; otherwise = λ h. refl })
+    (λ u l. absurd (omega arith)))
 
 start-number : (ramadan : Ramadan) (date : Date) → Small (wrongStartOf ramadan date .number)
 unfolding wrongStartOf
@@ -95,11 +98,15 @@ refused-by s r e =
     let f = check-small s in
     let m = failing-number 4 (isGivenOf (hasOf s)) required in
     let start = wrongStartOf (orderOf v .ramadan) (orderOf v .date) in
-    refused-one (checkOf s) (missingOf (hasOf s) ∷ bothFormsOf (hasOf s) ∷ outOfRangeOf v ∷ start ∷ []) (orderOf v) r (up-to-five (checkOf s .number) (omega arith))
-    (refused-one (missingOf (hasOf s)) (bothFormsOf (hasOf s) ∷ outOfRangeOf v ∷ start ∷ []) (orderOf v) r (up-to-five (missingOf (hasOf s) .number) (omega arith))
+    refused-one (checkOf s) (missingOf (hasOf s) ∷ bothFormsOf (hasOf s) ∷ outOfRangeOf v ∷ start ∷ []) (orderOf v) r
+    (up-to-five (checkOf s .number) (omega arith))
+    (refused-one (missingOf (hasOf s)) (bothFormsOf (hasOf s) ∷ outOfRangeOf v ∷ start ∷ []) (orderOf v) r
+    (up-to-five (missingOf (hasOf s) .number) (omega arith))
     (refused-one (bothFormsOf (hasOf s)) (outOfRangeOf v ∷ start ∷ []) (orderOf v) r (both-forms-number (hasOf s))
-    (refused-one (outOfRangeOf v) (start ∷ []) (orderOf v) r (up-to-five (outOfRangeOf v .number) (failing-number 5 (inRangeOf v) (tagsFrom lastTag 1)))
-    (refused-one start [] (orderOf v) r (start-number (orderOf v .ramadan) (orderOf v .date)) (λ no. let z : _≡_ {A = ℕ} 0 1 = cc in absurd (omega arith))))))
+    (refused-one (outOfRangeOf v) (start ∷ []) (orderOf v) r
+    (up-to-five (outOfRangeOf v .number) (failing-number 5 (inRangeOf v) (tagsFrom lastTag 1)))
+    (refused-one start [] (orderOf v) r (start-number (orderOf v .ramadan) (orderOf v .date))
+    (λ no. let z : _≡_ {A = ℕ} 0 1 = cc in absurd (omega arith))))))
     e
 
 -- ---- where no tag fails, each passes

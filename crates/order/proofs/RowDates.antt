@@ -1,8 +1,11 @@
 -- The dates of an order's rows: where the first and the last lie in an order's years, all do. Assumes nothing.
-use Rattle.prelude.proofs.Logic.{_≡_, refl, sym, ap, subst, true, List, ℕ, zero, suc, _+_, _-_, _≤_, _<_, arith, leb, ltb, eqb, pos, negsuc, _+ℤ_, length, le-leb, ltb-true, ltb-false, arms, cases}
+use Rattle.prelude.proofs.Logic.{_≡_, refl, sym, ap, subst, true, List, ℕ, zero, suc, _+_, _-_, _≤_, _<_, arith, leb, ltb, eqb, pos, negsuc}
+use Rattle.prelude.proofs.Logic.{_+ℤ_, length, le-leb, ltb-true, ltb-false, arms, cases}
 use Rattle.integers.proofs.Integers.{P, N, sum, difference, to-le}
 use Rattle.calendar.specs.declared.dates.Date.{Date}
-use Rattle.calendar.proofs.Calendar.{existsOf, dayAfterOf, daysBeforeYearOf, dayNumberOf, dateOfDayOf, heldOf, fromOf, rowDateOf, row-first, row-next, number-of-date, date-of-day-exists, count, ordinal-within, ordinal-short, year-mono, year-after, row-is}
+use Rattle.calendar.proofs.Calendar.{existsOf, dayAfterOf, daysBeforeYearOf, dayNumberOf, dateOfDayOf, heldOf, fromOf, rowDateOf, row-first}
+use Rattle.calendar.proofs.Calendar.{row-next, number-of-date, date-of-day-exists, count, ordinal-within, ordinal-short, year-mono}
+use Rattle.calendar.proofs.Calendar.{year-after, row-is}
 use Rattle.order.specs.Given.{rowsIn}
 use Rattle.order.specs.Ranges.{mostIn, rowsFit}
 use Rattle.order.specs.Accepted.{DateInOrder}
@@ -13,10 +16,12 @@ daysAfter d k = dateOfDayOf (dayNumberOf d +ℤ pos k)
 
 module _ (d : Date) (there : existsOf d ≡ true) where
   years-rise : (k j : ℕ) → daysAfter d k .year ≤ daysAfter d (k + j) .year
-  years-rise k zero = let e : daysAfter d (k + 0) .year ≡ daysAfter d k .year = ap (λ (i : ℕ). daysAfter d i .year) (omega arith) in omega arith
+  years-rise k zero = let e : daysAfter d (k + 0) .year ≡ daysAfter d k .year = ap (λ (i : ℕ). daysAfter d i .year) (omega arith) in
+      omega arith
   years-rise k (suc j) =
       let i = years-rise k j in
-      let n : daysAfter d (k + j + 1) .year ≡ dayAfterOf (daysAfter d (k + j)) .year = ap (λ (x : Date). x .year) (row-next d (k + j) there) in
+      let n : daysAfter d (k + j + 1) .year ≡ dayAfterOf (daysAfter d (k + j)) .year =
+      ap (λ (x : Date). x .year) (row-next d (k + j) there) in
       let y = year-after (daysAfter d (k + j)) .0 in
       let e : daysAfter d (k + suc j) .year ≡ daysAfter d (k + j + 1) .year = ap (λ (x : ℕ). daysAfter d x .year) (omega arith) in
       omega arith
@@ -24,7 +29,8 @@ module _ (d : Date) (there : existsOf d ≡ true) where
   pub row-year : (k : ℕ) → rowDateOf d k .year ≤ 2199 → daysAfter d k .year ≤ 2199
   unfolding fromOf heldOf
   row-year k h =
-      arms (λ (x : Date). x .year ≤ 2199 → daysAfter d k .year ≤ 2199) (leb (daysAfter d k .year) 4294967295) (λ t g. g) (λ t g. absurd (omega arith))
+      arms (λ (x : Date). x .year ≤ 2199 → daysAfter d k .year ≤ 2199) (leb (daysAfter d k .year) 4294967295) (λ t g. g)
+      (λ t g. absurd (omega arith))
       (simp there at h)
 
   pub row-in-order : 1900 ≤ d .year → (last row : ℕ) → rowDateOf d last .year ≤ 2199 → row ≤ last → DateInOrder (rowDateOf d row)
@@ -37,7 +43,8 @@ module _ (d : Date) (there : existsOf d ≡ true) where
       let g = row-year last to in
       let low : 1900 ≤ daysAfter d row .year = omega arith in
       let high : daysAfter d row .year ≤ 2199 = omega arith in
-      subst DateInOrder (sym (row-is d there row (omega arith))) (record { there = date-of-day-exists (dayNumberOf d +ℤ pos row); from = low; to = high })
+      subst DateInOrder (sym (row-is d there row (omega arith)))
+      (record { there = date-of-day-exists (dayNumberOf d +ℤ pos row); from = low; to = high })
 
 -- ---- an order has 400 rows at most, so that one which begins before 2198 ends by 2199
 balance : (d : Date) → P (dayNumberOf d) + 719529 ≡ N (dayNumberOf d) + count d
@@ -46,7 +53,8 @@ balance d = let s = difference (pos (count d)) (pos 719529) in omega arith
 
 days-before-2198 : (year : ℕ) → year ≤ 2197 → daysBeforeYearOf year + 1096 ≤ daysBeforeYearOf 2200 + 1
 unfolding daysBeforeYearOf
-days-before-2198 year h = let m : daysBeforeYearOf year ≤ daysBeforeYearOf 2197 = year-mono year 2197 h in let l : daysBeforeYearOf 2197 + 1095 ≡ daysBeforeYearOf 2200 = refl in omega arith
+days-before-2198 year h = let m : daysBeforeYearOf year ≤ daysBeforeYearOf 2197 = year-mono year 2197 h in
+    let l : daysBeforeYearOf 2197 + 1095 ≡ daysBeforeYearOf 2200 = refl in omega arith
 
 ends-early : (d : Date) → existsOf d ≡ true → d .year ≤ 2197 → (k : ℕ) → k ≤ 399 → daysAfter d k .year ≤ 2199
 ends-early d there early k few =
@@ -76,7 +84,8 @@ row-early d early k few =
 pub most-few : (v : List ℕ) → mostIn v ≤ 400
 most-few v = arms (λ (n : ℕ). n ≤ 400) (eqb (length v) 2) (λ t. omega arith) (λ t. omega arith)
 
-pub rows-early : (d : Date) (v : List ℕ) (rows most : ℕ) → rows ≡ rowsIn v → most ≡ mostIn v → d .year < 2198 → 1 ≤ rows → rows ≤ most → rowsFit d v ≡ true
+pub rows-early : (d : Date) (v : List ℕ) (rows most : ℕ) → rows ≡ rowsIn v → most ≡ mostIn v → d .year < 2198 → 1 ≤ rows → rows ≤ most
+    → rowsFit d v ≡ true
 unfolding rowsFit
 rows-early d v rows most is-rows is-most early some few =
     let m = most-few v in

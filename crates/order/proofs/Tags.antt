@@ -1,5 +1,6 @@
 -- The first of some tags that does not pass, tag by tag: what the reader's two loops go by. Assumes nothing.
-use Rattle.prelude.proofs.Logic.{_≡_, refl, ap, _∙_, Bool, true, false, cond, List, [], _∷_, ℕ, zero, suc, _+_, _≤_, _<_, add-one, arith, length, getD, drop, drop-of-length-le, drop-cons, arms}
+use Rattle.prelude.proofs.Logic.{_≡_, refl, ap, _∙_, Bool, true, false, cond, List, [], _∷_, ℕ, zero, suc, _+_, _≤_, _<_, add-one, arith}
+use Rattle.prelude.proofs.Logic.{length, getD, drop, drop-of-length-le, drop-cons, arms}
 use Rattle.refusals.specs.Refusals.{refusal, noRefusal}
 use Rattle.refusals.specs.declared.Refusal.{Refusal}
 use Rattle.order.specs.Reading.{firstFailing, tagsFrom}

@@ -1,5 +1,6 @@
 -- A text from one of its bytes on: what the loop over a town's bytes goes by. Assumes nothing.
-use Rattle.prelude.proofs.Logic.{_≡_, true, false, List, ℕ, _+_, _≤_, _<_, add-one, length, getD, drop, drop-of-length-le, drop-cons, le-leb, lt-leb}
+use Rattle.prelude.proofs.Logic.{_≡_, true, false, List, ℕ, _+_, _≤_, _<_, add-one, length, getD, drop, drop-of-length-le, drop-cons}
+use Rattle.prelude.proofs.Logic.{le-leb, lt-leb}
 use Rattle.text.specs.Text.{printable}
 
 pub byte-low : (s : List ℕ) (i : ℕ) → i < length s → getD s i 0 < 32 → printable (drop i s) ≡ false

@@ -17,7 +17,8 @@ use Rattle.models.specs.Presets.{presetOf}
 use Rattle.models.specs.Settings.{minutesFor}
 use Rattle.order.specs.declared.reading.Order.{Order}
 use Rattle.map_form.specs.Hundredths.{mostLatitude, mostLongitude}
-use Rattle.order.specs.Ranges.{firstYear, lastYear, mostRows, mostAngle, mostMinutes, mostInterval, mostClock, mostImsak, rowsOfRamadan}
+use Rattle.order.specs.Ranges.{firstYear, lastYear, mostRows, mostAngle, mostMinutes, mostInterval, mostClock, mostImsak}
+use Rattle.order.specs.Ranges.{rowsOfRamadan}
 
 -- a date of the calendar, from 1900-01-01 to 2199-12-31
 pub record DateInOrder (date : Date) : Type 0 where
@@ -46,9 +47,9 @@ pub record Accepted (order : Order) : Type 0 where
   pub rows : (1 ≤ order .rows) × (order .rows ≤ mostRows)
   -- the date of each row, the first and the last among them
   pub row : (row : ℕ) → row < order .rows → DateInOrder (rowDateOf (order .date) row)
-  pub latitude : LatitudeInOrder (order .coordinates .latitude)
-  pub longitude : Inside (neg (dec mostLongitude 0)) (dec mostLongitude 0) (order .coordinates .longitude)
-  pub parameters : ParametersInOrder (order .parameters)
+  pub latitude : LatitudeInOrder (order .setting .coordinates .latitude)
+  pub longitude : Inside (neg (dec mostLongitude 0)) (dec mostLongitude 0) (order .setting .coordinates .longitude)
+  pub parameters : ParametersInOrder (order .setting .parameters)
   pub clock : Near mostClock (order .clock)
   -- 0 and 0 if the sheet is not Ramadan's
   pub imsak : order .ramadan .imsak ≤ mostImsak

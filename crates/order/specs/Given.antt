@@ -10,7 +10,8 @@ use Rattle.float64.specs.Ops.{dec}
 use Rattle.calendar.specs.declared.dates.Date.{Date}
 use Rattle.calendar.specs.Gregorian.{dateOf}
 use Rattle.fields.specs.Numbers.{byteOf, unsignedOf, signedAtOf, floatOf}
-use Rattle.fields.specs.Tags.{methodTag, madhabTag, highLatitudeTag, roundingTag, shafaqTag, minutesTag, fajrAngleTag, ishaAngleTag, ishaIntervalTag, midnightTag, clockTag, southernTag, ramadanTag}
+use Rattle.fields.specs.Tags.{methodTag, madhabTag, highLatitudeTag, roundingTag, shafaqTag, minutesTag, fajrAngleTag, ishaAngleTag}
+use Rattle.fields.specs.Tags.{ishaIntervalTag, midnightTag, clockTag, southernTag, ramadanTag}
 use Rattle.fields.specs.Values.{Values}
 use Rattle.hijri.specs.declared.ramadan.Ramadan.{Ramadan}
 use Rattle.map_form.specs.declared.MapForm.{MapForm}
@@ -83,8 +84,8 @@ parametersIn v =
       shafaq = shafaqOf (byteOr v shafaqTag 0);
     }
 
--- Request 1: "Tag 15 (one byte, 0 or 1, missing is 0) chooses: 0 is today's rule, 1 carries." Request 3: "Tag 17 (one byte, 0 or 1, missing is 0)
--- chooses their rule with 1."
+-- Request 1: "Tag 15 (one byte, 0 or 1, missing is 0) chooses: 0 is today's rule, 1 carries." Request 3: "Tag 17 (one byte, 0 or 1, missing
+-- is 0) chooses their rule with 1."
 unfoldable pub rulesIn : Values → Rules
 rulesIn v = record { midnight = midnightOf (byteOr v midnightTag 0); southern = southernOf (byteOr v southernTag 0) }
 
@@ -96,5 +97,8 @@ clockIn v = cond (v .has clockTag) (signedAtOf (v .value clockTag) 0) (pos 0)
 unfoldable pub ramadanGiven : List ℕ → Ramadan
 ramadanGiven v = record { set = true; imsak = byteOf v 0; shift = pos (byteOf v 1) -ℤ pos 1 }
 
+abbrev pub noRamadan : Ramadan
+noRamadan = record { set = false; imsak = 0; shift = pos 0 }
+
 unfoldable pub ramadanIn : Values → Ramadan
-ramadanIn v = cond (v .has ramadanTag) (ramadanGiven (v .value ramadanTag)) (record { set = false; imsak = 0; shift = pos 0 })
+ramadanIn v = cond (v .has ramadanTag) (ramadanGiven (v .value ramadanTag)) noRamadan

@@ -13,7 +13,8 @@ use Rattle.calendar.specs.declared.dates.Date.{Date}
 use Rattle.calendar.specs.Gregorian.{existsOf}
 use Rattle.calendar.specs.Answers.{rowDateOf}
 use Rattle.fields.specs.Numbers.{byteOf, unsignedOf, signedAtOf}
-use Rattle.fields.specs.Tags.{townTag, dateTag, rowsTag, latitudeTag, longitudeTag, minutesTag, fajrAngleTag, ishaAngleTag, ishaIntervalTag, clockTag, ramadanTag, choiceFits}
+use Rattle.fields.specs.Tags.{townTag, dateTag, rowsTag, latitudeTag, longitudeTag, minutesTag, fajrAngleTag, ishaAngleTag, ishaIntervalTag}
+use Rattle.fields.specs.Tags.{clockTag, ramadanTag, choiceFits}
 use Rattle.fields.specs.Values.{Values}
 use Rattle.map_form.specs.Hundredths.{mostLatitude, mostLongitude, formFits}
 use Rattle.map_form.specs.Written as map
@@ -89,8 +90,8 @@ rowsOfRamadan = 30
 unfoldable pub ramadanRows : Bool → List ℕ → Bool
 ramadanRows set v = cond set (eqb (rowsIn v) rowsOfRamadan) true
 
--- the ranges by tag of a value; those of a choice's number are in the table of tags. The range of rows depends on the order's date too, and on
--- whether it has tag 20. A town's length is the fields' matter.
+-- the ranges by tag of a value; those of a choice's number are in the table of tags. The range of rows depends on the order's date too, and
+-- on whether it has tag 20. A town's length is the fields' matter.
 abbrev pub ranges : List ℕ → (date : Date) → (ramadan : Bool) → List (ℕ × Bool)
 ranges v date ramadan =
     (townTag, printable v)

@@ -11,6 +11,7 @@ use Rattle.fields.specs.Values.{partIn, Values, valuesOf}
 use Rattle.hijri.specs.Ramadan.{ramadanStartOf}
 use Rattle.hijri.specs.declared.ramadan.Ramadan.{Ramadan}
 use Rattle.map_form.specs.Written as map
+use Rattle.models.specs.Chosen.{settingOf}
 use Rattle.refusals.specs.Refusals.{refusal, noRefusal, tagMissing, outOfRange, bothForms, notFirstOfRamadan}
 use Rattle.refusals.specs.declared.Refusal.{Refusal}
 use Rattle.unit.specs.Unit.{coordinatesOf}
@@ -32,7 +33,8 @@ required = townTag ∷ dateTag ∷ rowsTag ∷ latitudeTag ∷ longitudeTag ∷ 
 -- request 7: "Either form keeps a coordinate from being missing"
 unfoldable pub isGivenOf : (ℕ → Bool) → ℕ → Bool
 isGivenOf has tag =
-    lookUp tag ((latitudeTag, has latitudeTag || has map.latitudeTag) ∷ (longitudeTag, has longitudeTag || has map.longitudeTag) ∷ []) (has tag)
+    lookUp tag ((latitudeTag, has latitudeTag || has map.latitudeTag) ∷ (longitudeTag, has longitudeTag || has map.longitudeTag) ∷ [])
+    (has tag)
 
 unfoldable pub missingOf : (ℕ → Bool) → Refusal
 missingOf has = firstFailing tagMissing (isGivenOf has) required
@@ -58,9 +60,9 @@ orderOf v =
       town = v .part townTag;
       date = dateIn (v .value dateTag);
       rows = rowsIn (v .value rowsTag);
-      coordinates = coordinatesOf (coordinateIn v latitudeTag map.latitudeTag) (coordinateIn v longitudeTag map.longitudeTag);
-      parameters = parametersIn v;
-      rules = rulesIn v;
+      setting =
+          settingOf (coordinatesOf (coordinateIn v latitudeTag map.latitudeTag) (coordinateIn v longitudeTag map.longitudeTag))
+          (parametersIn v) (rulesIn v);
       clock = clockIn v;
       ramadan = ramadanIn v;
     }
@@ -75,8 +77,8 @@ unfoldable pub firstOf : List Refusal → Order → Reading
 firstOf [] order = Read order
 firstOf (r ∷ rest) order = cond (eqb (r .number) 0) (firstOf rest order) (Refused r)
 
--- "then missing tags", then both forms of a coordinate, "after missing tags and before ranges", "then ranges", then the start of a Ramadan sheet,
--- "after all ranges and before the day"
+-- "then missing tags", then both forms of a coordinate, "after missing tags and before ranges", "then ranges", then the start of a Ramadan
+-- sheet, "after all ranges and before the day"
 abbrev pub checksOf : Values → List Refusal
 checksOf v = missingOf (v .has) ∷ bothFormsOf (v .has) ∷ outOfRangeOf v ∷ wrongStartOf (orderOf v .ramadan) (orderOf v .date) ∷ []
 

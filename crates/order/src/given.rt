@@ -1,7 +1,8 @@
 // What each tag gives if its value is in range, and what a missing one means.
 ghost use mathlib.Core.Path.{_≡_};
 ghost use Rattle.fields.specs.Values.{valuesIn};
-ghost use Rattle.order.specs.Given.{dateIn, rowsIn, degreesIn, formIn, coordinateIn, minutesIn, byteOr, degreesOr, roundingOr, minutesOr, intervalOr, parametersIn, rulesIn, clockIn, ramadanIn};
+ghost use Rattle.order.specs.Given.{dateIn, rowsIn, degreesIn, formIn, coordinateIn, minutesIn, byteOr, degreesOr, roundingOr};
+ghost use Rattle.order.specs.Given.{minutesOr, intervalOr, parametersIn, rulesIn, clockIn, ramadanIn};
 use calendar::dates::Date;
 use fields::numbers::byte;
 use fields::numbers::float;

@@ -4,7 +4,8 @@ ghost use mathlib.Core.Bool.{true, cond};
 ghost use lib.Dec.{ltb};
 ghost use Rattle.fields.specs.Values.{partIn};
 ghost use Rattle.text.specs.Text.{printable};
-ghost use Rattle.order.specs.Ranges.{dateFits, mostIn, rowsFit, degreesFit, minuteFits, minutesFit, intervalFits, clockFits, ramadanFits, ramadanRows, fitsIn};
+ghost use Rattle.order.specs.Ranges.{dateFits, mostIn, rowsFit, degreesFit, minuteFits, minutesFit, intervalFits, clockFits};
+ghost use Rattle.order.specs.Ranges.{ramadanFits, ramadanRows, fitsIn};
 use super::given::date_in;
 use super::given::degrees_in;
 use super::given::form_in;
@@ -30,7 +31,8 @@ const LAST_YEAR: u32 = 2199;
 // Rows whose number has one byte, as every order had them once.
 const MOST_IN_ONE_BYTE: u32 = 250;
 
-// The most minutes that a school adds to a prayer or takes from it, those of an Isha interval, and those from UTC to a clock, ahead or behind.
+// The most minutes that a school adds to a prayer or takes from it, those of an Isha interval, and those from UTC to a clock, ahead or
+// behind.
 const MOST_MINUTES: i32 = 720;
 
 const MOST_INTERVAL: u32 = 1440;

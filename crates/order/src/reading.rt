@@ -1,7 +1,9 @@
-// Reading an order: the form of its fields, then missing tags, then coordinates in both forms, then ranges, then the first day of a Ramadan sheet.
+// Reading an order: the form of its fields, then missing tags, then coordinates in both forms, then ranges, then the first day of a Ramadan
+// sheet.
 ghost use mathlib.Core.Path.{_≡_};
 ghost use Rattle.fields.specs.Values.{hasIn, valuesIn};
-ghost use Rattle.order.specs.Reading.{isGivenOf, missingOf, bothFormsOf, outOfRangeOf, orderOf, wrongStartOf, firstOf, checksOf, readingOf, townIn};
+ghost use Rattle.order.specs.Reading.{isGivenOf, missingOf, bothFormsOf, outOfRangeOf, orderOf, wrongStartOf, firstOf, checksOf};
+ghost use Rattle.order.specs.Reading.{readingOf, townIn};
 use super::given::clock_in;
 use super::given::coordinate_in;
 use super::given::date_in;
@@ -20,8 +22,7 @@ use fields::values::bytes;
 use fields::values::value;
 use hijri::ramadan::Ramadan;
 use hijri::ramadan::is_ramadan_start;
-use models::parameters::Parameters;
-use models::rules::Rules;
+use models::setting::Setting;
 use refusals::BOTH_FORMS;
 use refusals::NOT_FIRST_OF_RAMADAN;
 use refusals::OUT_OF_RANGE;
@@ -47,9 +48,7 @@ pub struct Order {
     pub town: Part,
     pub date: Date,
     pub rows: u32,
-    pub coordinates: Coordinates,
-    pub parameters: Parameters,
-    pub rules: Rules,
+    pub setting: Setting,
     // Minutes from UTC to the clock that the cells show.
     pub clock: i32,
     pub ramadan: Ramadan,
@@ -130,12 +129,14 @@ fn record_in(order: &[u8], fields: Fields) -> Order
         town: fields.part(tags::TOWN),
         date: date_in(value(order, fields, tags::DATE)),
         rows: rows_in(value(order, fields, tags::ROWS)),
-        coordinates: Coordinates::new(
-            coordinate_in(order, fields, tags::LATITUDE, map_form::LATITUDE),
-            coordinate_in(order, fields, tags::LONGITUDE, map_form::LONGITUDE),
-        ),
-        parameters: parameters_in(order, fields),
-        rules: rules_in(order, fields),
+        setting: Setting {
+            coordinates: Coordinates::new(
+                coordinate_in(order, fields, tags::LATITUDE, map_form::LATITUDE),
+                coordinate_in(order, fields, tags::LONGITUDE, map_form::LONGITUDE),
+            ),
+            parameters: parameters_in(order, fields),
+            rules: rules_in(order, fields),
+        },
         clock: clock_in(order, fields),
         ramadan: ramadan_in(order, fields),
     }

@@ -1,7 +1,7 @@
 -- A place sent either way: the record but for where the town stands, and from it all that is answered. Assumes nothing.
-use Rattle.prelude.proofs.Logic.{_≡_, refl, sym, ap, _∙_, subst, true, false, List, _∷_, _++_, ℕ, zero, suc, _+_, _≤_, lit≤, leZ}
+use Rattle.prelude.proofs.Logic.{_≡_, refl, sym, ap, _∙_, subst, fun-ext, true, false, List, _∷_, _++_, ℕ, zero, suc, _+_, _≤_, lit≤, leZ}
 use Rattle.calendar.specs.Answers.{rowDateOf}
-use Rattle.calls.specs.Calls.{workRowOf, workReadingOf, workDayOf, workAtOf, prayerAtOf, nextAtOf, remainingAtOf}
+use Rattle.days.specs.Calls.{workRowOf, workReadingOf, workDayOf, workAtOf, prayerAtOf, nextAtOf, remainingAtOf}
 use Rattle.fields.specs.Tags.{lastTag}
 use Rattle.fields.specs.Values.{hasOf, valueOf, valuesOf}
 use Rattle.fields.specs.declared.values.Part.{Part}
@@ -18,12 +18,13 @@ use Rattle.pages.specs.Pages.{Rows, rowOf, rowsFrom, pageOf, pageCount, pagesCe
 use Rattle.pages.specs.Answers.{askedCallOf, oneRow, pieceIn}
 use Rattle.pages.specs.Reports.{wearText, cellsText}
 use Rattle.reports.specs.Reports.{reportIn}
-use Rattle.rows.specs.Rows.{linesText, acceptedText, sheetText, readCallOf, rowCallOf}
+use Rattle.sheets.specs.Rows.{linesText, acceptedText, sheetText, readCallOf, rowCallOf}
 use Rattle.schedule.specs.declared.in_force.Instant.{Instant}
 use Rattle.schedule.specs.declared.prayer_times.Worked.{Worked}
 use Rattle.schedule.specs.declared.prayer_times.Worked.the-variants.{Times, Refused}
 use Rattle.weeks.specs.Lines.{reportOf}
-use Rattle.weeks.specs.Report.{minuteIn, minutesOf, ordersReport, weekText}
+use Rattle.weeks.specs.Report.{minuteIn, rowMinute, ordersReport, weekText}
+use Rattle.weeks.specs.declared.minutes.Minute.{Minute}
 use Rattle.order_laws.specs.Minutes.{withOwnMinutes}
 use Rattle.order_laws.specs.EitherForm.{saysPlace, SamePlace, withTown, SameAnswers, EitherFormAnswersAlike, EitherFormMovesAlike}
 
@@ -57,10 +58,9 @@ unfolding minuteIn
 minute-same o town row (Times t) = refl
 minute-same o town row (Refused r) = refl
 
-minutes-same : (o : Order) (town : Part) (n : ℕ) → minutesOf (withTown o town) n ≡ minutesOf o n
-unfolding minutesOf workRowOf
-minutes-same o town zero = refl
-minutes-same o town (suc n) = rw (minutes-same o town n, minute-same o town n (workRowOf o n))
+minutes-same : (o : Order) (town : Part) → rowMinute (withTown o town) ≡ rowMinute o
+unfolding workRowOf
+minutes-same o town = fun-ext (λ row. minute-same o town row (workRowOf o row))
 
 -- a call on some rows of an order that do not hang on its town
 module _ (asked : Order → Rows) (town-free : (o : Order) (town : Part) → asked (withTown o town) ≡ asked o) (least : ℕ) where
@@ -73,7 +73,8 @@ one-same : (row : ℕ) (o : Order) (town : Part) → oneRow row (withTown o town
 unfolding oneRow workRowOf
 one-same row o town = refl
 
-piece-same : (page first : ℕ) (scratch : List ℕ) (o : Order) (town : Part) → pieceIn page first scratch (withTown o town) ≡ pieceIn page first scratch o
+piece-same : (page first : ℕ) (scratch : List ℕ) (o : Order) (town : Part)
+    → pieceIn page first scratch (withTown o town) ≡ pieceIn page first scratch o
 piece-same page first scratch o town = rw (page-same o town page)
 
 -- ---- what is answered, of two orders whose records are the same but for where the town is
@@ -114,7 +115,7 @@ module _ (a b : List ℕ) (o p : Order) (x : readingOf a ≡ Read o) (y : readin
   unfolding reportIn
   week-same =
       rw (x, y)
-      (ap reportOf (sym (minutes-same o (p .town) (o .rows))) ∙ ap ordersReport given)
+      (ap (λ (f : ℕ → Minute). reportOf f (o .rows)) (sym (minutes-same o (p .town))) ∙ ap ordersReport given)
 
   module _ (asked : Order → Rows) (town-free : (o : Order) (town : Part) → asked (withTown o town) ≡ asked o) (buffer : List ℕ) where
     asked-same : askedCallOf asked rowLength a buffer ≡ askedCallOf asked rowLength b buffer
@@ -190,21 +191,30 @@ module _ (a b : List ℕ) (orders : SamePlace a b) where
   latitude-same : coordinateIn (valuesOf a) 4 18 ≡ coordinateIn (valuesOf b) 4 18
   unfolding orderOf
   latitude-same =
-      ap (λ (o : Order). o .coordinates .latitude) first-same
+      ap (λ (o : Order). o .setting .coordinates .latitude) first-same
       ∙ orders .latitude
-      ∙ sym (ap (λ (o : Order). o .coordinates .latitude) second-same)
+      ∙ sym (ap (λ (o : Order). o .setting .coordinates .latitude) second-same)
 
   longitude-same : coordinateIn (valuesOf a) 5 19 ≡ coordinateIn (valuesOf b) 5 19
   unfolding orderOf
   longitude-same =
-      ap (λ (o : Order). o .coordinates .longitude) first-same
+      ap (λ (o : Order). o .setting .coordinates .longitude) first-same
       ∙ orders .longitude
-      ∙ sym (ap (λ (o : Order). o .coordinates .longitude) second-same)
+      ∙ sym (ap (λ (o : Order). o .setting .coordinates .longitude) second-same)
 
   given-same : withTown (orderOf (valuesOf a)) (orderOf (valuesOf b) .town) ≡ orderOf (valuesOf b)
   unfolding orderOf
   given-same =
-      rw (value 2 (lit≤ tt) refl, value 3 (lit≤ tt) refl, latitude-same, longitude-same, parameters-same, rules-same, clock-same, ramadan-same)
+      rw (
+        value 2 (lit≤ tt) refl,
+        value 3 (lit≤ tt) refl,
+        latitude-same,
+        longitude-same,
+        parameters-same,
+        rules-same,
+        clock-same,
+        ramadan-same,
+      )
 
   given : withTown (orders .first) (orders .second .town) ≡ orders .second
   given =
@@ -212,7 +222,8 @@ module _ (a b : List ℕ) (orders : SamePlace a b) where
       (subst (λ (o : Order). withTown (orderOf (valuesOf a)) (o .town) ≡ o) second-same given-same)
 
   town-same : townOf a ≡ townOf b
-  town-same = town-value a (orders .first) (orders .«first_read») ∙ value 1 (lit≤ tt) refl ∙ sym (town-value b (orders .second) (orders .«second_read»))
+  town-same = town-value a (orders .first) (orders .«first_read») ∙ value 1 (lit≤ tt) refl
+      ∙ sym (town-value b (orders .second) (orders .«second_read»))
 
 pub either-form-answers-alike : EitherFormAnswersAlike
 either-form-answers-alike a b orders =
@@ -220,8 +231,8 @@ either-form-answers-alike a b orders =
     (same, answered-alike a b (orders .first) (orders .second) (orders .«first_read») (orders .«second_read») same (town-same a b orders))
 
 -- ---- demand 3
-moved-town : (f g : Order) (p q : Part) → withOwnMinutes f (g .town) (g .parameters .adjustments) ≡ g
-    → withOwnMinutes (withTown f p) q (withTown g q .parameters .adjustments) ≡ withTown g q
+moved-town : (f g : Order) (p q : Part) → withOwnMinutes f (g .town) (g .setting .parameters .adjustments) ≡ g
+    → withOwnMinutes (withTown f p) q (withTown g q .setting .parameters .adjustments) ≡ withTown g q
 moved-town f g p q e = ap (λ (o : Order). withTown o q) e
 
 pub either-form-moves-alike : EitherFormMovesAlike
@@ -237,11 +248,14 @@ either-form-moves-alike a b c d p q later =
       «second_read» = q .«second_read»;
       town = sym (town-same a c p) ∙ later .town ∙ town-same b d q;
       alike =
-          subst (λ (o : Order). withOwnMinutes o (q .second .town) (q .second .parameters .adjustments) ≡ q .second) x
-          (subst (λ (o : Order). withOwnMinutes (withTown (later .first) (p .second .town)) (q .second .town) (o .parameters .adjustments) ≡ o) y
+          subst (λ (o : Order). withOwnMinutes o (q .second .town) (q .second .setting .parameters .adjustments) ≡ q .second) x
+          (subst (λ (o : Order). withOwnMinutes (withTown (later .first) (p .second .town)) (q .second .town)
+          (o .setting .parameters .adjustments) ≡ o) y
           (moved-town (later .first) (later .second) (p .second .town) (q .second .town) (later .alike)));
       more =
           λ (prayer : Prayer).
-          subst (λ (o : Order). leZ (timeAdjustmentsOf (o .parameters) prayer) (timeAdjustmentsOf (q .second .parameters) prayer) ≡ true) x
-          (subst (λ (o : Order). leZ (timeAdjustmentsOf (later .first .parameters) prayer) (timeAdjustmentsOf (o .parameters) prayer) ≡ true) y (later .more prayer));
+          subst (λ (o : Order). leZ (timeAdjustmentsOf (o .setting .parameters) prayer)
+          (timeAdjustmentsOf (q .second .setting .parameters) prayer) ≡ true) x
+          (subst (λ (o : Order). leZ (timeAdjustmentsOf (later .first .setting .parameters) prayer)
+          (timeAdjustmentsOf (o .setting .parameters) prayer) ≡ true) y (later .more prayer));
     }

@@ -1,5 +1,7 @@
 -- What document 01 alone read is read as it was. Assumes nothing.
-use Rattle.prelude.proofs.Logic.{_≡_, refl, sym, ap, _∙_, Bool, true, false, not, cond, _&&_, _||_, true≢false, List, [], _∷_, ℕ, zero, suc, _-_, _≤_, _<_, arith, leb, ltb, eqb, lit≤, length, getD, set, replicate, inl, inr, _⊎_, ltb-true, lt-ltb, leb-true, leb-false, eq-eqb, eqb-true, eqb-false, le-leb, lt-leb, not-false, cases, both, ⊎-elim}
+use Rattle.prelude.proofs.Logic.{_≡_, refl, sym, ap, _∙_, Bool, true, false, not, cond, _&&_, _||_, true≢false, List, [], _∷_, ℕ, zero, suc}
+use Rattle.prelude.proofs.Logic.{_-_, _≤_, _<_, arith, leb, ltb, eqb, lit≤, length, getD, set, replicate, inl, inr, _⊎_, ltb-true, lt-ltb}
+use Rattle.prelude.proofs.Logic.{leb-true, leb-false, eq-eqb, eqb-true, eqb-false, le-leb, lt-leb, not-false, cases, both, ⊎-elim}
 use Rattle.calendar.specs.Answers.{rowDateOf}
 use Rattle.fields.specs.Fields.{lengthAt, nextFieldAt, faultIn, faultOf, walkOf, checkOf}
 use Rattle.fields.specs.Numbers.{byteOf}
@@ -10,21 +12,24 @@ use Rattle.fields.proofs.LookupLaws.{first, has-good, whole-length, value-missi
 use Rattle.lines.specs.Lines.{columnsOf, lineText}
 use Rattle.models.proofs.Models.{midnightOf, southernOf}
 use Rattle.calendar.specs.declared.dates.Date.{Date}
-use Rattle.order.specs.Given.{dateIn, rowsIn, coordinateIn, byteOr, rulesIn, clockIn, ramadanIn}
+use Rattle.order.specs.Given.{dateIn, rowsIn, coordinateIn, byteOr, rulesIn, clockIn, noRamadan, ramadanIn}
 use Rattle.order.specs.Ranges.{between, rowsFit, ramadanRows, lookUp, fitsOf, inRangeOf}
-use Rattle.order.specs.Reading.{firstFailing, required, isGivenOf, missingOf, bothFormsOf, tagsFrom, outOfRangeOf, orderOf, wrongStartOf, firstOf, readingOf}
+use Rattle.order.specs.Reading.{firstFailing, required, isGivenOf, missingOf, bothFormsOf, tagsFrom, outOfRangeOf, orderOf, wrongStartOf}
+use Rattle.order.specs.Reading.{firstOf, readingOf}
 use Rattle.order.specs.declared.reading.Order.{Order}
 use Rattle.order.specs.declared.reading.Reading.the-variants as reading
 use Rattle.order.proofs.ReadingLaws.{passed-on, town-value}
 use Rattle.refusals.specs.Refusals.{noRefusal}
 use Rattle.refusals.specs.declared.Refusal.{Refusal}
 use Rattle.reports.specs.Reports.{reportIn}
-use Rattle.rows.specs.Rows.{headerText, headText, linesText, acceptedText, sheetText}
+use Rattle.sheets.specs.Rows.{headerText, headText, linesText, acceptedText, sheetText}
 use Rattle.schedule.specs.Times.{workedAt}
 use Rattle.schedule.specs.declared.prayer_times.Worked.{Worked}
 use Rattle.schedule.specs.declared.prayer_times.Worked.the-variants as worked
-use Rattle.calls.specs.Calls.{workRowOf}
-use Rattle.order_laws.specs.FormerRows.{formerLengthFits, formerFaultOf, formerWalkOf, formerCheckOf, formerRowsFit, formerInRange, cratesRules, noRamadan, formerOrderOf, formerReadingOf, formerLine, formerLines, formerText, newAt, OrdersAreAsBefore}
+use Rattle.days.specs.Calls.{workRowOf}
+use Rattle.order_laws.specs.FormerRows.{formerLengthFits, formerFaultOf, formerWalkOf, formerCheckOf, formerRowsFit, formerInRange}
+use Rattle.order_laws.specs.FormerRows.{formerSetting, formerOrderOf, formerReadingOf, formerLine, formerLines, formerText, newAt}
+use Rattle.order_laws.specs.FormerRows.{OrdersAreAsBefore}
 
 -- ---- the form of the fields: the same fault, or a field that was unknown and is new
 abbrev New : List ℕ → Refusal → Type 0
@@ -42,21 +47,25 @@ length-three (suc (suc zero)) e = inr refl
 length-three (suc (suc (suc n))) e =
     inl (rw (le-leb 1 (suc (suc (suc n))) (omega arith), lt-leb (suc (suc (suc n))) 2 (omega arith)) refl)
 
-fits-same : (tag n : ℕ) → (formerLengthFits tag n ≡ lengthFits tag n) ⊎ ((formerLengthFits tag n ≡ false) × (eqb tag 3 ≡ true) × (eqb n 2 ≡ true))
+fits-same : (tag n : ℕ)
+    → (formerLengthFits tag n ≡ lengthFits tag n) ⊎ ((formerLengthFits tag n ≡ false) × (eqb tag 3 ≡ true) × (eqb n 2 ≡ true))
 unfolding formerLengthFits
 fits-same tag n = cases (eqb tag 3) three (λ t. inl (simp t))
   where
-    three : eqb tag 3 ≡ true → (cond (eqb tag 3) (eqb n 1) (lengthFits tag n) ≡ lengthFits tag n) ⊎ ((cond (eqb tag 3) (eqb n 1) (lengthFits tag n) ≡ false) × (eqb tag 3 ≡ true) × (eqb n 2 ≡ true))
+    three : eqb tag 3 ≡ true → (cond (eqb tag 3) (eqb n 1) (lengthFits tag n) ≡ lengthFits tag n) ⊎
+        ((cond (eqb tag 3) (eqb n 1) (lengthFits tag n) ≡ false) × (eqb tag 3 ≡ true) × (eqb n 2 ≡ true))
     three t =
         let is : tag ≡ 3 = eqb-true tag 3 t in
         cases (eqb n 1) (λ e. let one : n ≡ 1 = eqb-true n 1 e in inl (rw (is, one) one-fits))
-        (λ e. ⊎-elim (λ (f : lengthFits 3 n ≡ false). inl (rw is (e ∙ sym f))) (λ (f : eqb n 2 ≡ true). inr (rw t e, t, f)) (length-three n e))
+        (λ e. ⊎-elim (λ (f : lengthFits 3 n ≡ false). inl (rw is (e ∙ sym f))) (λ (f : eqb n 2 ≡ true). inr (rw t e, t, f))
+        (length-three n e))
 
 -- by a field's tag and length, whether its tag stands before it, and how many bytes are left
 module _ (tag n left : ℕ) (again : Bool) where
   abbrev formerIn : ℕ
   formerIn =
-      cond (ltb left 3) 1 (cond (not (between 1 14 tag)) 2 (cond again 3 (cond (not (formerLengthFits tag n)) 2 (cond (ltb (left - 3) n) 1 0))))
+      cond (ltb left 3) 1
+      (cond (not (between 1 14 tag)) 2 (cond again 3 (cond (not (formerLengthFits tag n)) 2 (cond (ltb (left - 3) n) 1 0))))
 
   abbrev Alike : Type 0
   Alike = (formerIn ≡ faultIn tag n again left) ⊎ ((formerIn ≡ 2) × ((between 15 20 tag || (eqb tag 3 && eqb n 2)) ≡ true))
@@ -270,7 +279,15 @@ module _ (s : List ℕ) where
     passed-same : readingOf s ≡ formerReadingOf s
     unfolding readingOf formerReadingOf firstOf
     passed-same =
-        rw (missing-same, both-none, ranges-same, start-none, order-same, eq-eqb (checkOf s .number) 0 check-none, eq-eqb (formerCheckOf s .number) 0 e)
+        rw (
+          missing-same,
+          both-none,
+          ranges-same,
+          start-none,
+          order-same,
+          eq-eqb (checkOf s .number) 0 check-none,
+          eq-eqb (formerCheckOf s .number) 0 e,
+        )
 
   -- ---- what was read, whether it was accepted or not
   refused-same : eqb (formerCheckOf s .number) 0 ≡ false → formerCheckOf s ≡ checkOf s → readingOf s ≡ formerReadingOf s
@@ -290,7 +307,7 @@ module _ (s : List ℕ) where
   lines-same zero h = refl
   lines-same (suc n) h =
       let date = rowDateOf (former .date) n in
-      rw (lines-same n (omega arith), lt-ltb n (former .rows) (omega arith), line-same date (workedAt date (former .coordinates) (former .parameters) cratesRules))
+      rw (lines-same n (omega arith), lt-ltb n (former .rows) (omega arith), line-same date (workedAt date (formerSetting former)))
 
   text-same : (town : List ℕ) → acceptedText town former ≡ formerText town former
   unfolding acceptedText formerText headText headerText formerOrderOf

@@ -1,5 +1,6 @@
 -- Demand 3: from the bytes of two orders to the parameters of one row's day, where crates/schedule_laws has proved it. Assumes nothing.
-use Rattle.prelude.proofs.Logic.{_≡_, refl, sym, ap, subst, _∙_, Bool, true, false, cond, _&&_, List, ℕ, _*_, _≤_, _<_, _^_, arith, ltb, leb, ℤ, pos, negsuc, _+ℤ_, _-ℤ_, leZ, leb-true, both}
+use Rattle.prelude.proofs.Logic.{_≡_, refl, sym, ap, subst, _∙_, Bool, true, false, cond, _&&_, List, ℕ, _*_, _≤_, _<_, _^_, arith, ltb}
+use Rattle.prelude.proofs.Logic.{leb, ℤ, pos, negsuc, _+ℤ_, _-ℤ_, leZ, leb-true, both}
 use Rattle.integers.proofs.Integers.{P, N, Near, same, sum, difference, le-yes, to-le}
 use Rattle.calendar.specs.Answers.{rowDateOf}
 use Rattle.fields.specs.declared.values.Part.{Part}
@@ -12,20 +13,22 @@ use Rattle.models.specs.Settings.{timeAdjustmentsOf}
 use Rattle.order.specs.declared.{reading.Order.Order, reading.Reading.Reading}
 use Rattle.order.specs.Accepted.{Accepted}
 use Rattle.order.proofs.AcceptedLaws.{read-accepted}
-use Rattle.schedule.specs.declared.{in_force.Current.Current, in_force.Instant.Instant, prayer_times.PrayerTimes.PrayerTimes, prayer_times.Worked.Worked}
+use Rattle.schedule.specs.declared.{in_force.Current.Current, in_force.Instant.Instant, prayer_times.PrayerTimes.PrayerTimes}
+use Rattle.schedule.specs.declared.{prayer_times.Worked.Worked}
 use Rattle.schedule.specs.declared.prayer_times.Worked.the-variants as worked
 use Rattle.schedule.proofs.Schedule.{currentTimeOf, currentNumberOf, workedAt}
 use Rattle.schedule_laws.specs.Later.{withMinutes, laterBy, LaterMinutes, Moved}
 use Rattle.schedule_laws.proofs.OrderMinutes.{sums-held}
 use Rattle.order_laws.proofs.PrintedLaws.{imsak-is-printed-whole}
 use Rattle.schedule_laws.proofs.LaterLaws.{later-minutes-move-the-row}
-use Rattle.calls.specs.declared.in_force.InForce.the-variants as force
-use Rattle.calls.specs.Calls.{lacksRow, workRowOf, workReadingOf, workDayOf, leastSeconds, mostSeconds, mostNanoseconds, instantFits, workAtOf, inForceOf, prayerAtOf}
+use Rattle.days.specs.declared.in_force.InForce.the-variants as force
+use Rattle.days.specs.Calls.{lacksRow, workRowOf, workReadingOf, workDayOf, leastSeconds, mostSeconds, mostNanoseconds, instantFits}
+use Rattle.days.specs.Calls.{workAtOf, inForceOf, prayerAtOf}
 use Rattle.order_laws.specs.Minutes.{withOwnMinutes, LaterOrder, ImsakMoved, LaterOrdersMoveTheirRows}
 
 -- ---- what an accepted order's sums can be
-held : (order : Order) → Accepted order → (prayer : Prayer) → Near (2 ^ 32) (timeAdjustmentsOf (order .parameters) prayer)
-held order h = sums-held (order .parameters) (h .parameters)
+held : (order : Order) → Accepted order → (prayer : Prayer) → Near (2 ^ 32) (timeAdjustmentsOf (order .setting .parameters) prayer)
+held order h = sums-held (order .setting .parameters) (h .parameters)
 
 -- ---- a row that the order lacks
 alike-refused : (p q : Parameters) (r : Refusal) → Moved p q (worked.Refused r) (worked.Refused r)
@@ -47,13 +50,14 @@ module _ (first : Order) (town : Part) (minutes : TimeAdjustment) (row : ℕ) wh
   second = withOwnMinutes first town minutes
 
   row-moved : Accepted first → Accepted second
-      → ((prayer : Prayer) → leZ (timeAdjustmentsOf (first .parameters) prayer) (timeAdjustmentsOf (second .parameters) prayer) ≡ true)
-      → Moved (first .parameters) (second .parameters) (workRowOf first row) (workRowOf second row)
+      → ((prayer : Prayer)
+      → leZ (timeAdjustmentsOf (first .setting .parameters) prayer) (timeAdjustmentsOf (second .setting .parameters) prayer) ≡ true)
+      → Moved (first .setting .parameters) (second .setting .parameters) (workRowOf first row) (workRowOf second row)
   unfolding workRowOf second
   row-moved h k more = by-test (ltb row (first .rows))
     where
       p : Parameters
-      p = first .parameters
+      p = first .setting .parameters
 
       q : Parameters
       q = withMinutes p minutes
@@ -61,9 +65,10 @@ module _ (first : Order) (town : Part) (minutes : TimeAdjustment) (row : ℕ) wh
       later : LaterMinutes p q
       later = record { alike = refl; more = more; «first_held» = held first h; «second_held» = held (withOwnMinutes first town minutes) k }
 
-      by-test : (b : Bool) → Moved p q (cond b (workedAt (rowDateOf (first .date) row) (first .coordinates) p (first .rules)) (worked.Refused lacksRow))
-          (cond b (workedAt (rowDateOf (first .date) row) (first .coordinates) q (first .rules)) (worked.Refused lacksRow))
-      by-test true = later-minutes-move-the-row (rowDateOf (first .date) row) (first .coordinates) (first .rules) p q later
+      by-test : (b : Bool) → Moved p q (cond b (workedAt (rowDateOf (first .date) row) (first .setting)) (worked.Refused lacksRow))
+          (cond b (workedAt (rowDateOf (first .date) row) (second .setting)) (worked.Refused lacksRow))
+      by-test true =
+          later-minutes-move-the-row (rowDateOf (first .date) row) (first .setting .coordinates) (first .setting .rules) p q later
       by-test false = alike-refused p q lacksRow
 
 -- ---- what naming the prayer answers
@@ -92,23 +97,25 @@ asked s row i h = rw h
 
 -- a day that is refused at one instant is refused at every other
 refused-alike : (s z : List ℕ) (row : ℕ) (i j : Instant) (r : Refusal) → instantFits i ≡ true → instantFits j ≡ true
-    → (workDayOf s row ≡ worked.Refused r → workDayOf z row ≡ worked.Refused r) → prayerAtOf s row i ≡ force.Refused r → prayerAtOf z row j ≡ force.Refused r
+    → (workDayOf s row ≡ worked.Refused r → workDayOf z row ≡ worked.Refused r) → prayerAtOf s row i ≡ force.Refused r
+    → prayerAtOf z row j ≡ force.Refused r
 refused-alike s z row i j r hi hj alike e =
     asked z row j hj ∙ day-refused (workDayOf z row) j r (alike (refused-day (workDayOf s row) i r (sym (asked s row i hi) ∙ e)))
 
 less-than-a-second : (i : Instant) → instantFits i ≡ true → i .nanoseconds < 1000000000
 unfolding instantFits
 less-than-a-second i h =
-    let l = leb-true (i .nanoseconds) mostNanoseconds (both (leZ leastSeconds (i .seconds) && leZ (i .seconds) mostSeconds) (leb (i .nanoseconds) mostNanoseconds) h .1) in
+    let l = leb-true (i .nanoseconds) mostNanoseconds
+    (both (leZ leastSeconds (i .seconds) && leZ (i .seconds) mostSeconds) (leb (i .nanoseconds) mostNanoseconds) h .1) in
     omega arith
 
 -- ---- the theorem
 module _ (a b : List ℕ) (orders : LaterOrder a b) (row : ℕ) where
   p : Parameters
-  p = orders .first .parameters
+  p = orders .first .setting .parameters
 
   q : Parameters
-  q = orders .second .parameters
+  q = orders .second .setting .parameters
 
   day-of-first : workDayOf a row ≡ workRowOf (orders .first) row
   unfolding workDayOf workReadingOf
@@ -124,12 +131,16 @@ module _ (a b : List ℕ) (orders : LaterOrder a b) (row : ℕ) where
       let e = orders .alike in
       let h = read-accepted a (orders .first) (orders .«first_read») in
       let k = subst Accepted (sym e) (read-accepted b (orders .second) (orders .«second_read»)) in
-      let More : Order → Type 0 = λ o. (prayer : Prayer) → leZ (timeAdjustmentsOf (orders .first .parameters) prayer) (timeAdjustmentsOf (o .parameters) prayer) ≡ true in
+      let More : Order → Type 0 = λ o. (prayer : Prayer) → leZ (timeAdjustmentsOf (orders .first .setting .parameters) prayer)
+      (timeAdjustmentsOf (o .setting .parameters) prayer) ≡ true in
       let more = subst More (sym e) (orders .more) in
-      let m = row-moved (orders .first) (orders .second .town) (orders .second .parameters .adjustments) row h k more in
-      let n = subst (λ (x : Order). Moved (orders .first .parameters) (x .parameters) (workRowOf (orders .first) row) (workRowOf x row)) e m in
-      subst (λ (w : Worked). Moved (orders .first .parameters) (orders .second .parameters) w (workDayOf b row)) (sym day-of-first)
-      (subst (λ (w : Worked). Moved (orders .first .parameters) (orders .second .parameters) (workRowOf (orders .first) row) w) (sym day-of-second) n)
+      let m = row-moved (orders .first) (orders .second .town) (orders .second .setting .parameters .adjustments) row h k more in
+      let n = subst (λ (x : Order). Moved (orders .first .setting .parameters) (x .setting .parameters) (workRowOf (orders .first) row)
+      (workRowOf x row)) e m in
+      subst (λ (w : Worked). Moved (orders .first .setting .parameters) (orders .second .setting .parameters) w (workDayOf b row))
+      (sym day-of-first)
+      (subst (λ (w : Worked). Moved (orders .first .setting .parameters) (orders .second .setting .parameters)
+      (workRowOf (orders .first) row) w) (sym day-of-second) n)
 
 -- imsak is Fajr less the same minutes on both sheets
 shifted : (f g d : ℤ) (m : ℕ) → g ≡ f +ℤ d → g -ℤ pos m ≡ (f -ℤ pos m) +ℤ d
@@ -158,12 +169,14 @@ module _ (a b : List ℕ) (orders : LaterOrder a b) (row : ℕ) (t u : PrayerTim
   first-imsak : imsakOf (orders .first .ramadan .imsak) (t .fajr) ≡ t .fajr -ℤ pos m
   unfolding m
   first-imsak =
-      imsak-is-printed-whole (orders .first) row t (read-accepted a (orders .first) (orders .«first_read»)) (sym (day-of-first a b orders row) ∙ at) .exact
+      imsak-is-printed-whole (orders .first) row t (read-accepted a (orders .first) (orders .«first_read»))
+      (sym (day-of-first a b orders row) ∙ at) .exact
 
   second-imsak : imsakOf (orders .second .ramadan .imsak) (u .fajr) ≡ u .fajr -ℤ pos m
   unfolding m
   second-imsak =
-      imsak-is-printed-whole (orders .second) row u (read-accepted b (orders .second) (orders .«second_read»)) (sym (day-of-second a b orders row) ∙ bu) .exact
+      imsak-is-printed-whole (orders .second) row u (read-accepted b (orders .second) (orders .«second_read»))
+      (sym (day-of-second a b orders row) ∙ bu) .exact
       ∙ ap (λ (r : Ramadan). u .fajr -ℤ pos (60 * r .imsak)) ramadan-same
 
   imsak-moved : ImsakMoved (orders .first) (orders .second) t u
@@ -179,8 +192,9 @@ module _ (a b : List ℕ) (orders : LaterOrder a b) (row : ℕ) (t u : PrayerTim
             (subst (λ (z : ℤ). leZ (t .fajr -ℤ pos m) z ≡ true) (sym second-imsak) (kept (t .fajr) (u .fajr) m none));
         exactly =
             second-imsak
-            ∙ shifted (t .fajr) (u .fajr) (laterBy (orders .first .parameters) (orders .second .parameters) Fajr) m exact
-            ∙ ap (λ (z : ℤ). z +ℤ laterBy (orders .first .parameters) (orders .second .parameters) Fajr) (sym first-imsak);
+            ∙ shifted (t .fajr) (u .fajr) (laterBy (orders .first .setting .parameters) (orders .second .setting .parameters) Fajr) m exact
+            ∙ ap (λ (z : ℤ). z +ℤ laterBy (orders .first .setting .parameters) (orders .second .setting .parameters) Fajr)
+            (sym first-imsak);
       }
 
 pub later-orders-move-their-rows : LaterOrdersMoveTheirRows
@@ -194,7 +208,8 @@ later-orders-move-their-rows a b orders row =
           let f = prayer-times (workDayOf a row) t x (sym (asked a row t ht) ∙ ex) in
           let g = prayer-times (workDayOf b row) u y (sym (asked b row u hu) ∙ ey) in
           let l = moved .«in_force» (f .times) (g .times) (f .worked-are) (g .worked-are) t u (less-than-a-second u hu) after in
-          subst (λ (z : Current). currentNumberOf y ≤ currentNumberOf z) (f .current-is) (subst (λ (z : Current). currentNumberOf z ≤ currentNumberOf (currentTimeOf (f .times) t)) (g .current-is) l);
+          subst (λ (z : Current). currentNumberOf y ≤ currentNumberOf z) (f .current-is)
+          (subst (λ (z : Current). currentNumberOf z ≤ currentNumberOf (currentTimeOf (f .times) t)) (g .current-is) l);
       «in_force_refused» = λ t u ht hu r e. refused-alike a b row t u r ht hu (moved .refused r) e;
       «in_force_refused_too» = λ t u ht hu r e. refused-alike b a row u t r hu ht (moved .«refused_too» r) e;
     }

@@ -1,10 +1,12 @@
 -- Nothing that a school sends breaks a run. Assumes nothing.
-use Rattle.prelude.proofs.Logic.{_≡_, refl, sym, ap, _∙_, subst, true, false, true≢false, List, [], _∷_, _++_, append-assoc, append-nil, ℕ, zero, suc, _+_, _-_, _/_, _≤_, _<_, arith, leb, ltb, eqb, lit≤, length, take, drop, ltb-true, ltb-false, lt-ltb, leb-true, eq-eqb, ne-eqb, eqb-true, eqb-false, take-nil, drop-of-length-le, cases, arms}
+use Rattle.prelude.proofs.Logic.{_≡_, refl, sym, ap, _∙_, subst, true, false, true≢false, List, [], _∷_, _++_, append-assoc, append-nil, ℕ}
+use Rattle.prelude.proofs.Logic.{zero, suc, _+_, _-_, _/_, _≤_, _<_, arith, leb, ltb, eqb, lit≤, length, take, drop, ltb-true, ltb-false}
+use Rattle.prelude.proofs.Logic.{lt-ltb, leb-true, eq-eqb, ne-eqb, eqb-true, eqb-false, take-nil, drop-of-length-le, cases, arms}
 use Rattle.prelude.specs.Lists.{listed}
 use Rattle.braille.specs.Cells.{rowLength}
 use Rattle.calendar.specs.Answers.{rowDateOf}
 use Rattle.calendar.specs.declared.dates.Date.{Date}
-use Rattle.calls.specs.Calls.{workDateOf, workRowOf, workReadingOf, workDayOf}
+use Rattle.days.specs.Calls.{workDateOf, workRowOf, workReadingOf, workDayOf}
 use Rattle.fields.specs.Fields.{checkOf}
 use Rattle.fields.specs.Values.{valuesOf}
 use Rattle.lines.specs.Lines.{fullRow, rowRoom, lineText}
@@ -24,9 +26,9 @@ use Rattle.pages.proofs.RowsLaws.{cells-length, take-rows, drop-rows}
 use Rattle.refusals.specs.Refusals.{refusal}
 use Rattle.refusals.specs.declared.Refusal.{Refusal}
 use Rattle.reports.specs.Reports.{reportIn}
-use Rattle.rows.proofs.Answers.{row-short, row-read, row-refused}
-use Rattle.rows.specs.Rows.{workedCallOf, readCallOf, rowCallOf, headText, linesText, acceptedText, sheetText}
-use Rattle.schedule.proofs.Schedule.{sunsOf, dayHoursOf, rowHoursOf, hoursOf, numbersOf, seasonOf, workedFrom, workedOf}
+use Rattle.sheets.proofs.Answers.{row-short, row-read, row-refused}
+use Rattle.sheets.specs.Rows.{workedCallOf, readCallOf, rowCallOf, headText, linesText, acceptedText, sheetText}
+use Rattle.schedule.proofs.Schedule.{sunsOf, hoursOf, numbersOf, seasonOf, workedFrom, workedOf}
 use Rattle.schedule.specs.declared.hours.RowHours.{RowHours}
 use Rattle.schedule.specs.declared.hours.RowNumbers.{RowNumbers}
 use Rattle.schedule.specs.declared.prayer_times.Worked.{Worked}
@@ -40,7 +42,8 @@ use Rattle.solar.specs.declared.setting.SolarHour.the-variants.{Some, Nothing}
 use Rattle.solar.specs.declared.times.SolarDay.{SolarDay}
 use Rattle.solar.specs.declared.times.SolarDay.the-variants as sun
 use Rattle.text.specs.Text.{frontOf}
-use Rattle.order_laws.specs.NothingBreaks.{orderNumbers, dayNumbers, FirstBroken, FirstLacking, threeDays, RefusedDay, lineOf, eachOf, insteadOf, OthersStay, Lent, writtenOf, NothingBreaksARun}
+use Rattle.order_laws.specs.NothingBreaks.{orderNumbers, dayNumbers, FirstBroken, FirstLacking, threeDays, RefusedDay, rowLine}
+use Rattle.order_laws.specs.NothingBreaks.{eachOf, insteadOf, OthersStay, Lent, writtenFor, NothingBreaksARun}
 
 -- ---- an order's numbers
 is-listed : (n : ℕ) → Refusing n → listed orderNumbers n ≡ true
@@ -60,7 +63,7 @@ first-broken : (rules : List Refusal) (o : Order) (r : Refusal) → firstOf rule
 unfolding firstOf
 first-broken [] o r e = let z : _≡_ {A = ℕ} 0 1 = cc in absurd (omega arith)
 first-broken (q ∷ rest) o r e =
-    cases (eqb (q .number) 0) (λ h. FirstBroken.later h (first-broken rest o r (simp h at e)))
+    cases (eqb (q .number) 0) (λ h. FirstBroken.later {kept = q} h (first-broken rest o r (simp h at e)))
     (λ h. let same : q ≡ r = cc in subst (λ (x : Refusal). FirstBroken r (x ∷ rest)) (sym same) (FirstBroken.here (rw same at h)))
 
 -- ---- a day
@@ -85,15 +88,18 @@ module _ (h : RowHours) (date : Date) (season : Season) (p : Parameters) (r : Re
   unfolding workedFrom sunsOf
   by-days (sun.Lacks n) b c x y z e =
       let same : refusal n 0 ≡ r = cc in
-      subst (λ (q : Refusal). (listed dayNumbers (q .number) ≡ true) × (q .place ≤ 2) × FirstLacking (q .number) (q .place) (sun.Lacks n ∷ b ∷ c ∷ [])) same
+      subst (λ (q : Refusal). (listed dayNumbers (q .number) ≡ true) × (q .place ≤ 2)
+      × FirstLacking (q .number) (q .place) (sun.Lacks n ∷ b ∷ c ∷ [])) same
       (x n refl, lit≤ tt, FirstLacking.here)
   by-days (sun.Whole t) (sun.Lacks n) c x y z e =
       let same : refusal n 1 ≡ r = cc in
-      subst (λ (q : Refusal). (listed dayNumbers (q .number) ≡ true) × (q .place ≤ 2) × FirstLacking (q .number) (q .place) (sun.Whole t ∷ sun.Lacks n ∷ c ∷ [])) same
+      subst (λ (q : Refusal). (listed dayNumbers (q .number) ≡ true) × (q .place ≤ 2)
+      × FirstLacking (q .number) (q .place) (sun.Whole t ∷ sun.Lacks n ∷ c ∷ [])) same
       (y n refl, lit≤ tt, FirstLacking.later FirstLacking.here)
   by-days (sun.Whole t) (sun.Whole u) (sun.Lacks n) x y z e =
       let same : refusal n 2 ≡ r = cc in
-      subst (λ (q : Refusal). (listed dayNumbers (q .number) ≡ true) × (q .place ≤ 2) × FirstLacking (q .number) (q .place) (sun.Whole t ∷ sun.Whole u ∷ sun.Lacks n ∷ [])) same
+      subst (λ (q : Refusal). (listed dayNumbers (q .number) ≡ true) × (q .place ≤ 2)
+      × FirstLacking (q .number) (q .place) (sun.Whole t ∷ sun.Whole u ∷ sun.Lacks n ∷ [])) same
       (z n refl, lit≤ tt, FirstLacking.later (FirstLacking.later FirstLacking.here))
   by-days (sun.Whole t) (sun.Whole u) (sun.Whole v) x y z e = let w : _≡_ {A = ℕ} 0 1 = cc in absurd (omega arith)
 
@@ -106,33 +112,35 @@ module _ (h : RowHours) (date : Date) (season : Season) (p : Parameters) (r : Re
 
 module _ (o : Order) (date : Date) (r : Refusal) where
   abbrev numbers : RowNumbers
-  numbers = numbersOf date (o .coordinates) (o .parameters)
+  numbers = numbersOf date (o .setting .coordinates) (o .setting .parameters)
 
   refused-day : workDateOf o date ≡ worked.Refused r → RefusedDay o date r
-  unfolding workedOf workedFrom hoursOf rowHoursOf dayHoursOf
+  unfolding workedOf workedFrom hoursOf
   refused-day e =
-      let rule = o .rules .midnight in
-      let f = by-days (hoursOf rule numbers) date (seasonOf (o .coordinates .latitude) (o .rules)) (o .parameters) r
+      let rule = o .setting .rules .midnight in
+      let f = by-days (hoursOf rule numbers) date (seasonOf (o .setting)) (o .setting .parameters) r
       (solarTimeOf rule (numbers .today)) (solarTimeOf rule (numbers .tomorrow)) (solarTimeOf rule (numbers .after))
       (lacks-number rule (numbers .today)) (lacks-number rule (numbers .tomorrow)) (lacks-number rule (numbers .after)) e in
       record { number = f .0; place = f .1; lacking = f .2 }
 
   lacking-day : FirstLacking (r .number) (r .place) (threeDays o date) → workDateOf o date ≡ worked.Refused r
-  unfolding workedOf workedFrom hoursOf rowHoursOf dayHoursOf
-  lacking-day l = by-lacking (hoursOf (o .rules .midnight) numbers) date (seasonOf (o .coordinates .latitude) (o .rules)) (o .parameters) r l
+  unfolding workedOf workedFrom hoursOf
+  lacking-day l = by-lacking (hoursOf (o .setting .rules .midnight) numbers) date (seasonOf (o .setting)) (o .setting .parameters) r l
 
 -- a row that the order has is its date's
-row-of : (s : List ℕ) (o : Order) (row : ℕ) → readingOf s ≡ reading.Read o → row < o .rows → workDayOf s row ≡ workDateOf o (rowDateOf (o .date) row)
+row-of : (s : List ℕ) (o : Order) (row : ℕ) → readingOf s ≡ reading.Read o → row < o .rows
+    → workDayOf s row ≡ workDateOf o (rowDateOf (o .date) row)
 unfolding workDayOf workReadingOf workRowOf
 row-of s o row e h = simp (e, lt-ltb row (o .rows) h)
 
 -- ---- the sheet
-lines-each : (o : Order) (n : ℕ) → n ≤ o .rows → linesText o n ≡ eachOf (lineOf o) n
+lines-each : (o : Order) (n : ℕ) → n ≤ o .rows → linesText o n ≡ eachOf (rowLine o) n
 unfolding linesText eachOf workRowOf
 lines-each o zero h = refl
 lines-each o (suc n) h = rw (lines-each o n (omega arith), lt-ltb n (o .rows) (omega arith))
 
-sheet-each : (s : List ℕ) (o : Order) → readingOf s ≡ reading.Read o → sheetText s ≡ headText (o .ramadan) (townOf s) ++ eachOf (lineOf o) (o .rows)
+sheet-each : (s : List ℕ) (o : Order) → readingOf s ≡ reading.Read o → sheetText s ≡ headText (o .ramadan) (townOf s)
+    ++ eachOf (rowLine o) (o .rows)
 unfolding reportIn acceptedText
 sheet-each s o e = rw (e, lines-each o (o .rows) (omega arith))
 
@@ -154,40 +162,45 @@ day-number (suc n) e = ne-eqb (suc n) 0 (omega arith)
 
 module _ (o : Order) (row : ℕ) (buffer : List ℕ) where
   by-worked : (w : Worked) → workDateOf o (rowDateOf (o .date) row) ≡ w → rowRoom (o .ramadan) ≤ length buffer
-      → Lent (workedCallOf (o .ramadan) (rowDateOf (o .date) row) w buffer .answer .number) (lineText (o .ramadan) (rowDateOf (o .date) row) w) buffer (workedCallOf (o .ramadan) (rowDateOf (o .date) row) w buffer .buffer)
+      → Lent (workedCallOf (o .ramadan) (rowDateOf (o .date) row) w buffer .answer .number)
+      (lineText (o .ramadan) (rowDateOf (o .date) row) w) buffer (workedCallOf (o .ramadan) (rowDateOf (o .date) row) w buffer .buffer)
   unfolding workedCallOf lineText
   by-worked (worked.Times t) e h = written-lent (let l = columns-length (o .ramadan) (rowDateOf (o .date) row) t in omega arith)
   by-worked (worked.Refused r) e h = refused-lent (day-number (r .number) (refused-day o (rowDateOf (o .date) row) r e .number))
 
-  read-lent : Lent (readCallOf o row buffer .answer .number) (lineOf o row) buffer (readCallOf o row buffer .buffer)
+  read-lent : Lent (readCallOf o row buffer .answer .number) (rowLine o row) buffer (readCallOf o row buffer .buffer)
   unfolding readCallOf workRowOf workedCallOf
   read-lent =
       cases (ltb (length buffer) (rowRoom (o .ramadan))) (λ short. rw short (refused-lent refl))
       (λ there. rw there
-      (cases (ltb row (o .rows)) (λ h. rw h (by-worked (workDateOf o (rowDateOf (o .date) row)) refl (ltb-false (length buffer) (rowRoom (o .ramadan)) there)))
+      (cases (ltb row (o .rows))
+      (λ h. rw h (by-worked (workDateOf o (rowDateOf (o .date) row)) refl (ltb-false (length buffer) (rowRoom (o .ramadan)) there)))
       (λ h. rw h (refused-lent refl))))
 
 row-lent : (s : List ℕ) (row : ℕ) (buffer : List ℕ)
-    → Lent (rowCallOf s row buffer .answer .number) (writtenOf (λ o. lineOf o row) (readingOf s)) buffer (rowCallOf s row buffer .buffer)
+    → Lent (rowCallOf s row buffer .answer .number) (writtenFor (λ o. rowLine o row) (readingOf s)) buffer (rowCallOf s row buffer .buffer)
 row-lent s row buffer =
     cases (ltb (length buffer) fullRow)
     (λ h. let short = row-short s buffer row (ltb-true (length buffer) fullRow h) in rw (← short .0, ← short .1) (refused-lent refl))
     (λ h. by-reading (readingOf s) refl (ltb-false (length buffer) fullRow h))
   where
     by-reading : (x : Reading) → readingOf s ≡ x → fullRow ≤ length buffer
-        → Lent (rowCallOf s row buffer .answer .number) (writtenOf (λ o. lineOf o row) x) buffer (rowCallOf s row buffer .buffer)
+        → Lent (rowCallOf s row buffer .answer .number) (writtenFor (λ o. rowLine o row) x) buffer (rowCallOf s row buffer .buffer)
     by-reading (reading.Read o) e h = let read = row-read s buffer row h o e in rw (← read .0, ← read .1) (read-lent o row buffer)
-    by-reading (reading.Refused r) e h = let no = row-refused s buffer row h r e in rw (← no .0, ← no .1) (refused-lent (order-number s r e))
+    by-reading (reading.Refused r) e h = let no = row-refused s buffer row h r e in
+        rw (← no .0, ← no .1) (refused-lent (order-number s r e))
 
 -- ---- rows of cells: those that are asked for have room
-module _ (asked : Order → Rows) (s buffer : List ℕ) (fit : (o : Order) → rowLength ≤ length buffer → length (cellsOf (asked o)) ≤ length buffer) where
+module _ (asked : Order → Rows) (s buffer : List ℕ)
+    (fit : (o : Order) → rowLength ≤ length buffer → length (cellsOf (asked o)) ≤ length buffer) where
   rows-lent : (rows : Rows) → length (cellsOf rows) ≤ length buffer
       → Lent (putCallOf rows buffer .answer .refusal .number) (cellsOf rows) buffer (putCallOf rows buffer .buffer)
   unfolding putCallOf
   rows-lent [] h = refused-lent refl
   rows-lent (row ∷ rows) h = written-lent h
 
-  cells-lent : Lent (askedCallOf asked rowLength s buffer .answer .refusal .number) (writtenOf (λ o. cellsOf (asked o)) (readingOf s)) buffer
+  cells-lent : Lent (askedCallOf asked rowLength s buffer .answer .refusal .number)
+      (writtenFor (λ o. cellsOf (asked o)) (readingOf s)) buffer
       (askedCallOf asked rowLength s buffer .buffer)
   unfolding askedCallOf
   cells-lent =
@@ -195,7 +208,7 @@ module _ (asked : Order → Rows) (s buffer : List ℕ) (fit : (o : Order) → r
       (λ there. rw there (by-reading (ltb-false (length buffer) rowLength there) (readingOf s) refl))
     where
       by-reading : rowLength ≤ length buffer → (x : Reading) → readingOf s ≡ x
-          → Lent (pages.callIn asked x buffer .answer .refusal .number) (writtenOf (λ o. cellsOf (asked o)) x) buffer
+          → Lent (pages.callIn asked x buffer .answer .refusal .number) (writtenFor (λ o. cellsOf (asked o)) x) buffer
           (pages.callIn asked x buffer .buffer)
       by-reading h (reading.Read o) e = rows-lent (asked o) (fit o h)
       by-reading h (reading.Refused r) e = refused-lent (order-number s r e)
@@ -203,13 +216,16 @@ module _ (asked : Order → Rows) (s buffer : List ℕ) (fit : (o : Order) → r
 one-fits : (row : ℕ) (buffer : List ℕ) (o : Order) → rowLength ≤ length buffer → length (cellsOf (oneRow row o)) ≤ length buffer
 unfolding oneRow cellsOf rowsFrom
 one-fits row buffer o h =
-    arms (λ (rows : Rows). length (cellsOf rows) ≤ length buffer) (ltb row (o .rows)) (λ t. let l = cells-length o row 1 in omega arith) (λ t. omega arith)
+    arms (λ (rows : Rows). length (cellsOf rows) ≤ length buffer) (ltb row (o .rows)) (λ t. let l = cells-length o row 1 in omega arith)
+    (λ t. omega arith)
 
-piece-fits : (page first : ℕ) (scratch : List ℕ) (o : Order) → rowLength ≤ length scratch → length (cellsOf (pieceIn page first scratch o)) ≤ length scratch
+piece-fits : (page first : ℕ) (scratch : List ℕ) (o : Order) → rowLength ≤ length scratch
+    → length (cellsOf (pieceIn page first scratch o)) ≤ length scratch
 unfolding pageOf cellsOf
 piece-fits zero first scratch o h =
     let d : _≡_ {A = Rows} (drop first []) [] = drop-of-length-le [] {i = first} (omega arith) in
-    let e : pieceOf [] first (length scratch / rowLength) ≡ [] = ap (take (length scratch / rowLength)) d ∙ take-nil {A = List ℕ} (length scratch / rowLength) in
+    let e : pieceOf [] first (length scratch / rowLength) ≡ [] = ap (take (length scratch / rowLength)) d
+    ∙ take-nil {A = List ℕ} (length scratch / rowLength) in
     rw e (omega arith)
 piece-fits (suc p) first scratch o h =
     rw (drop-rows, take-rows, drop-rows, take-rows, cells-length) (omega arith)
@@ -253,18 +269,18 @@ others-stay o row h =
     let left = o .rows - suc row in
     let n : o .rows ≡ suc row + left = omega arith in
     record {
-      before = eachOf (lineOf o) row;
-      after = fromOf (lineOf o) (suc row) left;
-      now = ap (eachOf (lineOf o)) n ∙ around (lineOf o) row left;
+      before = eachOf (rowLine o) row;
+      after = fromOf (rowLine o) (suc row) left;
+      now = ap (eachOf (rowLine o)) n ∙ around (rowLine o) row left;
       instead = λ w.
-          let alike : (k : ℕ) → eqb k row ≡ false → insteadOf o row w k ≡ lineOf o k = λ k e. rw e in
+          let alike : (k : ℕ) → eqb k row ≡ false → insteadOf o row w k ≡ rowLine o k = λ k e. rw e in
           let here : insteadOf o row w row ≡ lineText (o .ramadan) (rowDateOf (o .date) row) w = rw (eq-eqb row row refl) in
           ap (eachOf (insteadOf o row w)) n
           ∙ around (insteadOf o row w) row left
           ∙ rw (
-            before-same (lineOf o) (insteadOf o row w) row alike row (omega arith),
+            before-same (rowLine o) (insteadOf o row w) row alike row (omega arith),
             here,
-            after-same (lineOf o) (insteadOf o row w) row alike left,
+            after-same (rowLine o) (insteadOf o row w) row alike left,
           );
     }
 

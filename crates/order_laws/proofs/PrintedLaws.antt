@@ -1,10 +1,11 @@
 -- Times that lie by their date have days of one digit, and so has imsak. Assumes nothing.
-use Rattle.prelude.proofs.Logic.{_≡_, refl, sym, subst, Bool, true, false, cond, ℕ, zero, suc, _+_, _*_, _^_, _≤_, _<_, arith, T, ltb, lit<, ℤ, pos, negsuc, natAbs, _-ℤ_, _*ℤ_, getD, ltb-true}
+use Rattle.prelude.proofs.Logic.{_≡_, refl, sym, subst, Bool, true, false, cond, ℕ, zero, suc, _+_, _*_, _^_, _≤_, _<_, arith, T, ltb, lit<}
+use Rattle.prelude.proofs.Logic.{ℤ, pos, negsuc, natAbs, _-ℤ_, _*ℤ_, getD, ltb-true}
 use Rattle.integers.specs.Ends.{least64}
 use Rattle.integers.proofs.Integers.{P, N, floorQuot, to-le, floored, difference, times}
 use Rattle.calendar.proofs.Calendar.{rowDateOf, dayNumberOf}
 use Rattle.calendar.specs.declared.dates.Date.{Date}
-use Rattle.calls.specs.Calls.{workRowOf}
+use Rattle.days.specs.Calls.{workRowOf}
 use Rattle.refusals.specs.Refusals.{refusal}
 use Rattle.lines.specs.Lines.{daysOf, nineOf, imsakOf}
 use Rattle.order.specs.Accepted.{Accepted}
@@ -30,7 +31,8 @@ one-digit date time h =
     let d = difference (floorQuot time 86400) (dayNumberOf date) in
     let m = times (dayNumberOf date) 86400 in
     let s = difference time (dayNumberOf date *ℤ pos 86400) in
-    small 4 (daysOf date time) (omega (arith, f .balance, f .below, d .0, d .1, m, s .0, s .1, h .from, h .before)) (omega (arith, f .balance, f .below, d .0, d .1, m, s .0, s .1, h .from, h .before))
+    small 4 (daysOf date time) (omega (arith, f .balance, f .below, d .0, d .1, m, s .0, s .1, h .from, h .before))
+    (omega (arith, f .balance, f .below, d .0, d .1, m, s .0, s .1, h .from, h .before))
 
 nine-digits : (date : Date) (t : PrayerTimes) → AllOfDate date t → (i : ℕ) → i < 9 → natAbs (daysOf date (getD (nineOf t) i (pos 0))) ≤ 4
 unfolding timeOf
@@ -50,7 +52,8 @@ isTimes (Times t) = T true
 isTimes (Refused r) = T false
 
 -- the times of a row lie by its date
-pub by-its-date : (order : Order) (row : ℕ) (t : PrayerTimes) → Accepted order → workRowOf order row ≡ Times t → AllOfDate (rowDateOf (order .date) row) t
+pub by-its-date : (order : Order) (row : ℕ) (t : PrayerTimes) → Accepted order → workRowOf order row ≡ Times t
+    → AllOfDate (rowDateOf (order .date) row) t
 unfolding workRowOf
 by-its-date order row t h e = by-row (ltb row (order .rows)) e
   where
@@ -58,10 +61,11 @@ by-its-date order row t h e = by-row (ltb row (order .rows)) e
     date = rowDateOf (order .date) row
 
     by-row : (b : Bool)
-        → cond b (workedAt date (order .coordinates) (order .parameters) (order .rules)) (Refused (refusal 5 3)) ≡ Times t
+        → cond b (workedAt date (order .setting)) (Refused (refusal 5 3)) ≡ Times t
         → AllOfDate date t
     by-row true w =
-        times-lie-by-their-date (order .rules .midnight) (numbersOf date (order .coordinates) (order .parameters)) date (seasonOf (order .coordinates .latitude) (order .rules)) (order .parameters) t (h .latitude) (h .parameters) w
+        times-lie-by-their-date (order .setting .rules .midnight) (numbersOf date (order .setting .coordinates)
+        (order .setting .parameters)) date (seasonOf (order .setting)) (order .setting .parameters) t (h .latitude) (h .parameters) w
     by-row false w = absurd (subst isTimes (sym w) tt)
 
 pub days-are-printed-whole : DaysArePrintedWhole
@@ -86,7 +90,8 @@ imsak-digit date fajr m l h =
     let k = times (dayNumberOf date) 86400 in
     let s = difference fajr (dayNumberOf date *ℤ pos 86400) in
     let e = difference fajr (pos (60 * m)) in
-    small 5 (daysOf date time) (omega (arith, f .balance, f .below, d .0, d .1, k, s .0, s .1, e .0, e .1, h .from, h .before)) (omega (arith, f .balance, f .below, d .0, d .1, k, s .0, s .1, e .0, e .1, h .from, h .before))
+    small 5 (daysOf date time) (omega (arith, f .balance, f .below, d .0, d .1, k, s .0, s .1, e .0, e .1, h .from, h .before))
+    (omega (arith, f .balance, f .below, d .0, d .1, k, s .0, s .1, e .0, e .1, h .from, h .before))
 
 -- a row with times is one that the order has
 row-there : (order : Order) (row : ℕ) (t : PrayerTimes) → workRowOf order row ≡ Times t → row < order .rows
@@ -94,7 +99,7 @@ unfolding workRowOf
 row-there order row t e = go (ltb row (order .rows)) refl e
   where
     go : (b : Bool) → ltb row (order .rows) ≡ b
-        → cond b (workedAt (rowDateOf (order .date) row) (order .coordinates) (order .parameters) (order .rules)) (Refused (refusal 5 3)) ≡ Times t
+        → cond b (workedAt (rowDateOf (order .date) row) (order .setting)) (Refused (refusal 5 3)) ≡ Times t
         → row < order .rows
     go true h w = ltb-true row (order .rows) h
     go false h w = absurd (subst isTimes (sym w) tt)
@@ -107,4 +112,7 @@ imsak-is-printed-whole order row t h e =
     let a = by-its-date order row t h e in
     let y = h .row row (row-there order row t e) .to in
     let exact = imsak-exact date (t .fajr) m (omega arith) (h .imsak) (a .named Fajr) in
-    record { exact = exact; days = subst (λ (z : ℤ). natAbs (daysOf date z) ≤ 5) (sym exact) (imsak-digit date (t .fajr) m (h .imsak) (a .named Fajr)) }
+    record {
+      exact = exact;
+      days = subst (λ (z : ℤ). natAbs (daysOf date z) ≤ 5) (sym exact) (imsak-digit date (t .fajr) m (h .imsak) (a .named Fajr));
+    }

@@ -8,7 +8,8 @@ use Rattle.map_form.specs.Written.{writtenOf}
 use Rattle.map_form.proofs.RoundTrip.{writing-gives-back}
 use Rattle.order.specs.Given.{formIn, coordinateIn, ramadanIn}
 use Rattle.order.specs.Ranges.{degreesFit, lookUp, fitsOf, inRangeOf}
-use Rattle.order.specs.Reading.{firstFailing, required, isGivenOf, missingOf, bothFormsOf, tagsFrom, outOfRangeOf, orderOf, wrongStartOf, firstOf, readingOf}
+use Rattle.order.specs.Reading.{firstFailing, required, isGivenOf, missingOf, bothFormsOf, tagsFrom, outOfRangeOf, orderOf, wrongStartOf}
+use Rattle.order.specs.Reading.{firstOf, readingOf}
 use Rattle.order.specs.Accepted.{Accepted}
 use Rattle.order.specs.declared.reading.Order.{Order}
 use Rattle.order.specs.declared.reading.Reading.the-variants.{Read}
@@ -38,7 +39,8 @@ module _ (a b : List ℕ) (w : Swapped a b) where
       let t : getD (tagsFrom 20 1) (tag - 1) 0 ≡ tag = tags-from 20 1 (tag - 1) (omega arith) ∙ omega arith in
       rw t at p
 
-  same-range : (tag : ℕ) → hasOf a tag ≡ hasOf b tag → valueOf a tag ≡ valueOf b tag → inRangeOf (valuesOf a) tag ≡ inRangeOf (valuesOf b) tag
+  same-range : (tag : ℕ) → hasOf a tag ≡ hasOf b tag → valueOf a tag ≡ valueOf b tag
+      → inRangeOf (valuesOf a) tag ≡ inRangeOf (valuesOf b) tag
   unfolding inRangeOf fitsOf
   same-range tag h v =
       let d = value 2 (lit≤ tt) refl in
@@ -59,7 +61,8 @@ module _ (a b : List ℕ) (w : Swapped a b) where
     in-float : inRangeOf (valuesOf b) float ≡ true
     in-map : inRangeOf (valuesOf b) map ≡ true
 
-  fine : (float map most : ℕ) → 1 ≤ float → float ≤ 20 → 1 ≤ map → map ≤ 20 → (hasOf a float || hasOf a map) ≡ true → (hasOf a float && hasOf a map) ≡ false
+  fine : (float map most : ℕ) → 1 ≤ float → float ≤ 20 → 1 ≤ map → map ≤ 20 → (hasOf a float || hasOf a map) ≡ true
+      → (hasOf a float && hasOf a map) ≡ false
       → (hasOf b map ≡ true → formFits most (formIn (valueOf b map)) ≡ true → inRangeOf (valuesOf b) map ≡ true)
       → (hasOf b float ≡ true → hasOf b map ≡ false → inRangeOf (valuesOf b) float ≡ true) → Sent a b float map most → Fine float map
   fine float map most l h k m given single in-range float-range (Sent.alike x v y u) =
@@ -108,14 +111,16 @@ module _ (a b : List ℕ) (w : Swapped a b) where
   unfolding isGivenOf lookUp inRangeOf fitsOf
   latitude-fine =
       fine 4 18 90 (lit≤ tt) (lit≤ tt) (lit≤ tt) (lit≤ tt) (either-given 3 (lit≤ tt)) (one-each .0) (λ there fits. rw there fits)
-      (λ there lacks. rw there (float-fits 90 4 18 (w .order .coordinates .latitude) (accepted .latitude) (w .«same_latitude») lacks))
+      (λ there lacks. rw there
+      (float-fits 90 4 18 (w .order .setting .coordinates .latitude) (accepted .latitude) (w .«same_latitude») lacks))
       (w .latitude)
 
   longitude-fine : Fine 5 19
   unfolding isGivenOf lookUp inRangeOf fitsOf
   longitude-fine =
       fine 5 19 180 (lit≤ tt) (lit≤ tt) (lit≤ tt) (lit≤ tt) (either-given 4 (lit≤ tt)) (one-each .1) (λ there fits. rw there fits)
-      (λ there lacks. rw there (float-fits 180 5 19 (w .order .coordinates .longitude) (accepted .longitude) (w .«same_longitude») lacks))
+      (λ there lacks. rw there
+      (float-fits 180 5 19 (w .order .setting .coordinates .longitude) (accepted .longitude) (w .«same_longitude») lacks))
       (w .longitude)
 
   -- ---- the checks
@@ -199,13 +204,13 @@ module _ (s : List ℕ) (o : Order) (e : readingOf s ≡ Read o) where
   unfolding fitsOf lookUp
   longitude-fits h = fits-given (valuesOf s) (was-passed .ranges) 19 (lit≤ tt) (lit≤ tt) h
 
-  latitude-is : hasOf s 18 ≡ true → o .coordinates .latitude ≡ degreesOf (signedHundredthsOf (formIn (valueOf s 18)))
+  latitude-is : hasOf s 18 ≡ true → o .setting .coordinates .latitude ≡ degreesOf (signedHundredthsOf (formIn (valueOf s 18)))
   unfolding orderOf coordinateIn
-  latitude-is h = ap (λ (x : Order). x .coordinates .latitude) (sym (was-passed .same)) ∙ simp h
+  latitude-is h = ap (λ (x : Order). x .setting .coordinates .latitude) (sym (was-passed .same)) ∙ simp h
 
-  longitude-is : hasOf s 19 ≡ true → o .coordinates .longitude ≡ degreesOf (signedHundredthsOf (formIn (valueOf s 19)))
+  longitude-is : hasOf s 19 ≡ true → o .setting .coordinates .longitude ≡ degreesOf (signedHundredthsOf (formIn (valueOf s 19)))
   unfolding orderOf coordinateIn
-  longitude-is h = ap (λ (x : Order). x .coordinates .longitude) (sym (was-passed .same)) ∙ simp h
+  longitude-is h = ap (λ (x : Order). x .setting .coordinates .longitude) (sym (was-passed .same)) ∙ simp h
 
 pub read-is-written-back : ReadIsWrittenBack
 read-is-written-back s o e =
@@ -213,5 +218,6 @@ read-is-written-back s o e =
     let longitude = formIn (valueOf s 19) in
     record {
       latitude = λ h. ap (writtenOf 18 90) (latitude-is s o e h) ∙ writing-gives-back 18 90 latitude (lit≤ tt) (latitude-fits s o e h);
-      longitude = λ h. ap (writtenOf 19 180) (longitude-is s o e h) ∙ writing-gives-back 19 180 longitude (lit≤ tt) (longitude-fits s o e h);
+      longitude = λ h. ap (writtenOf 19 180) (longitude-is s o e h)
+          ∙ writing-gives-back 19 180 longitude (lit≤ tt) (longitude-fits s o e h);
     }

@@ -1,9 +1,11 @@
--- Two orders of which demand 3 speaks, so that its hypothesis can be met: town P, 2026-06-21, one row, 10.0, 20.0, method 0; the second with a
--- minute more for Fajr, and with its place as on the map, 10 degrees north and 20 degrees east. And the first with its place so, all else the same. The
--- first is one that document 01 alone accepts.
-use Rattle.prelude.proofs.Logic.{_≡_, refl, sym, subst, Bool, true, false, true≢false, List, [], _∷_, _++_, ℕ, zero, suc, _≤_, arith, leb, leZ, replicate, leb-true, leb-false}
+-- Two orders of which demand 3 speaks, so that its hypothesis can be met: town P, 2026-06-21, one row, 10.0, 20.0, method 0; the second
+-- with a minute more for Fajr, and with its place as on the map, 10 degrees north and 20 degrees east. And the first with its place so, all
+-- else the same. The first is one that document 01 alone accepts.
+use Rattle.prelude.proofs.Logic.{_≡_, refl, sym, subst, Bool, true, false, true≢false, List, [], _∷_, _++_, ℕ, zero, suc, _≤_, arith, leb}
+use Rattle.prelude.proofs.Logic.{leZ, replicate, leb-true, leb-false}
 use Rattle.float64.proofs.Floats.{le, neg, ofBits, round, dec}
-use Rattle.calendar.proofs.Calendar.{leapOf, lengthOf, existsOf, daysBeforeOf, ordinalOf, countBelow, monthOf, ofOrdinalOf, daysBeforeYearOf, dayNumberOf, lastBy, yearOf, dateAtOf, dateOfDayOf, heldOf, fromOf}
+use Rattle.calendar.proofs.Calendar.{leapOf, lengthOf, existsOf, daysBeforeOf, ordinalOf, countBelow, monthOf, ofOrdinalOf}
+use Rattle.calendar.proofs.Calendar.{daysBeforeYearOf, dayNumberOf, lastBy, yearOf, dateAtOf, dateOfDayOf, heldOf, fromOf}
 use Rattle.fields.specs.Numbers.{unsignedOf, signedAtOf, bytesNumberOf, bitsOf, floatOf}
 use Rattle.fields.specs.Tags.{lengthFits, choiceFits}
 use Rattle.fields.specs.Fields.{lengthAt, faultIn, faultOf, walkOf, checkOf}
@@ -12,20 +14,23 @@ use Rattle.map_form.specs.Hundredths.{degreesOf, formFits}
 use Rattle.models.specs.declared.prayer.Prayer.{Prayer}
 use Rattle.models.specs.declared.prayer.Prayer.the-variants.{Fajr, Sunrise, Dhuhr, Asr, Maghrib, Isha, Qiyam, FajrTomorrow}
 use Rattle.models.proofs.Models.{methodOf, preset, presetOf, minutesFor, timeAdjustmentsOf}
-use Rattle.order.specs.Given.{dateIn, rowsIn, degreesIn, formIn, coordinateIn, minutesIn, byteOr, degreesOr, roundingOr, minutesOr, intervalOr, parametersIn, rulesIn, clockIn, ramadanIn}
+use Rattle.order.specs.Given.{dateIn, rowsIn, degreesIn, formIn, coordinateIn, minutesIn, byteOr, degreesOr, roundingOr, minutesOr}
+use Rattle.order.specs.Given.{intervalOr, parametersIn, rulesIn, clockIn, ramadanIn}
 use Rattle.text.specs.Text.{printable}
 use Rattle.order.specs.Ranges.{rowsFit, ramadanRows, minuteFits, minutesFit, intervalFits, lookUp, fitsOf, inRangeOf}
-use Rattle.order.specs.Reading.{firstFailing, isGivenOf, missingOf, bothFormsOf, tagsFrom, outOfRangeOf, orderOf, wrongStartOf, firstOf, readingOf, townIn, townOf}
+use Rattle.order.specs.Reading.{firstFailing, isGivenOf, missingOf, bothFormsOf, tagsFrom, outOfRangeOf, orderOf, wrongStartOf, firstOf}
+use Rattle.order.specs.Reading.{readingOf, townIn, townOf}
 use Rattle.order.specs.declared.reading.Reading.the-variants.{Read}
-use Rattle.order_laws.specs.FormerRows.{formerLengthFits, formerFaultOf, formerWalkOf, formerCheckOf, formerRowsFit, formerInRange, formerOrderOf, formerReadingOf}
+use Rattle.order_laws.specs.FormerRows.{formerLengthFits, formerFaultOf, formerWalkOf, formerCheckOf, formerRowsFit, formerInRange}
+use Rattle.order_laws.specs.FormerRows.{formerOrderOf, formerReadingOf}
 use Rattle.order_laws.specs.Minutes.{LaterOrder}
 use Rattle.order_laws.specs.EitherForm.{saysPlace, SamePlace}
 use Rattle.order_laws.specs.Swapped.{Sent, Swapped}
 
-abbrev begun : List ℕ
+abbrev pub begun : List ℕ
 begun = (1 ∷ 0 ∷ 1 ∷ 80 ∷ []) ++ (2 ∷ 0 ∷ 4 ∷ 7 ∷ 234 ∷ 6 ∷ 21 ∷ []) ++ (3 ∷ 0 ∷ 1 ∷ 1 ∷ [])
 
-abbrev earlier : List ℕ
+abbrev pub earlier : List ℕ
 earlier =
     begun ++ (4 ∷ 0 ∷ 8 ∷ 64 ∷ 36 ∷ replicate 6 0) ++ (5 ∷ 0 ∷ 8 ∷ 64 ∷ 52 ∷ replicate 6 0) ++ (6 ∷ 0 ∷ 1 ∷ 0 ∷ [])
 
@@ -36,8 +41,10 @@ abbrev later : List ℕ
 later = onTheMap ++ (11 ∷ 0 ∷ 12 ∷ 0 ∷ 1 ∷ replicate 10 0)
 
 more-minutes : (prayer : Prayer)
-    → leZ (timeAdjustmentsOf (orderOf (valuesOf earlier) .parameters) prayer) (timeAdjustmentsOf (orderOf (valuesOf later) .parameters) prayer) ≡ true
-unfolding valuesIn fieldsOf collectOf lengthAt unsignedOf signedAtOf minutesIn minutesOr byteOr degreesOr roundingOr intervalOr parametersIn orderOf timeAdjustmentsOf preset presetOf methodOf minutesFor
+    → leZ (timeAdjustmentsOf (orderOf (valuesOf earlier) .setting .parameters) prayer)
+    (timeAdjustmentsOf (orderOf (valuesOf later) .setting .parameters) prayer) ≡ true
+unfolding valuesIn fieldsOf collectOf lengthAt unsignedOf signedAtOf minutesIn minutesOr byteOr degreesOr roundingOr intervalOr parametersIn
+    orderOf timeAdjustmentsOf preset presetOf methodOf minutesFor
 more-minutes Fajr = refl
 more-minutes Sunrise = refl
 more-minutes Dhuhr = refl
@@ -48,7 +55,12 @@ more-minutes Qiyam = refl
 more-minutes FajrTomorrow = refl
 
 pub can-be-met : LaterOrder earlier later
-unfolding readingOf firstOf isGivenOf bothFormsOf formIn coordinateIn formFits degreesOf checkOf walkOf faultOf faultIn lengthAt unsignedOf lengthFits choiceFits valuesIn fieldsOf collectOf missingOf firstFailing tagsFrom outOfRangeOf inRangeOf fitsOf lookUp printable rowsFit ramadanRows minuteFits minutesFit intervalFits dateIn rowsIn degreesIn minutesIn byteOr degreesOr roundingOr minutesOr intervalOr parametersIn rulesIn clockIn ramadanIn orderOf wrongStartOf townIn townOf signedAtOf bytesNumberOf bitsOf floatOf timeAdjustmentsOf existsOf leapOf lengthOf daysBeforeOf ordinalOf countBelow monthOf ofOrdinalOf daysBeforeYearOf dayNumberOf lastBy yearOf dateAtOf dateOfDayOf heldOf fromOf le neg ofBits round dec
+unfolding readingOf firstOf isGivenOf bothFormsOf formIn coordinateIn formFits degreesOf checkOf walkOf faultOf faultIn lengthAt unsignedOf
+    lengthFits choiceFits valuesIn fieldsOf collectOf missingOf firstFailing tagsFrom outOfRangeOf inRangeOf fitsOf lookUp printable rowsFit
+    ramadanRows minuteFits minutesFit intervalFits dateIn rowsIn degreesIn minutesIn byteOr degreesOr roundingOr minutesOr intervalOr
+    parametersIn rulesIn clockIn ramadanIn orderOf wrongStartOf townIn townOf signedAtOf bytesNumberOf bitsOf floatOf timeAdjustmentsOf
+    existsOf leapOf lengthOf daysBeforeOf ordinalOf countBelow monthOf ofOrdinalOf daysBeforeYearOf dayNumberOf lastBy yearOf dateAtOf
+    dateOfDayOf heldOf fromOf le neg ofBits round dec
 can-be-met =
     record {
       first = orderOf (valuesOf earlier);
@@ -79,11 +91,66 @@ Same tag = saysPlace tag ≡ false → (hasOf earlier tag ≡ hasOf onTheMap tag
 -- from tag 20 down
 each-same : UpTo 20 Same
 unfolding valuesIn fieldsOf collectOf lengthAt unsignedOf
-each-same =
-    (λ e. (refl, refl), (λ e. absurd (true≢false e), (λ e. absurd (true≢false e), (λ e. (refl, refl), (λ e. (refl, refl), (λ e. (refl, refl), (λ e. (refl, refl), (λ e. (refl, refl), (λ e. (refl, refl), (λ e. (refl, refl), (λ e. (refl, refl), (λ e. (refl, refl), (λ e. (refl, refl), (λ e. (refl, refl), (λ e. (refl, refl), (λ e. absurd (true≢false e), (λ e. absurd (true≢false e), (λ e. (refl, refl), (λ e. (refl, refl), (λ e. (refl, refl), λ e. (refl, refl)))))))))))))))))))))
+each-same = (
+  λ e. (refl, refl),
+  (
+    λ e. absurd (true≢false e),
+    (
+      λ e. absurd (true≢false e),
+      (
+        λ e. (refl, refl),
+        (
+          λ e. (refl, refl),
+          (
+            λ e. (refl, refl),
+            (
+              λ e. (refl, refl),
+              (
+                λ e. (refl, refl),
+                (
+                  λ e. (refl, refl),
+                  (
+                    λ e. (refl, refl),
+                    (
+                      λ e. (refl, refl),
+                      (
+                        λ e. (refl, refl),
+                        (
+                          λ e. (refl, refl),
+                          (
+                            λ e. (refl, refl),
+                            (
+                              λ e. (refl, refl),
+                              (
+                                λ e. absurd (true≢false e),
+                                (
+                                  λ e. absurd (true≢false e),
+                                  (λ e. (refl, refl), (λ e. (refl, refl), (λ e. (refl, refl), λ e. (refl, refl)))),
+                                ),
+                              ),
+                            ),
+                          ),
+                        ),
+                      ),
+                    ),
+                  ),
+                ),
+              ),
+            ),
+          ),
+        ),
+      ),
+    ),
+  ),
+)
 
 pub can-be-sent-either-way : SamePlace earlier onTheMap
-unfolding readingOf firstOf isGivenOf bothFormsOf formIn coordinateIn formFits degreesOf checkOf walkOf faultOf faultIn lengthAt unsignedOf lengthFits choiceFits valuesIn fieldsOf collectOf missingOf firstFailing tagsFrom outOfRangeOf inRangeOf fitsOf lookUp printable rowsFit ramadanRows minuteFits minutesFit intervalFits dateIn rowsIn degreesIn minutesIn byteOr degreesOr roundingOr minutesOr intervalOr parametersIn rulesIn clockIn ramadanIn orderOf wrongStartOf townIn townOf signedAtOf bytesNumberOf bitsOf floatOf timeAdjustmentsOf existsOf leapOf lengthOf daysBeforeOf ordinalOf countBelow monthOf ofOrdinalOf daysBeforeYearOf dayNumberOf lastBy yearOf dateAtOf dateOfDayOf heldOf fromOf le neg ofBits round dec
+unfolding readingOf firstOf isGivenOf bothFormsOf formIn coordinateIn formFits degreesOf checkOf walkOf faultOf faultIn lengthAt unsignedOf
+    lengthFits choiceFits valuesIn fieldsOf collectOf missingOf firstFailing tagsFrom outOfRangeOf inRangeOf fitsOf lookUp printable rowsFit
+    ramadanRows minuteFits minutesFit intervalFits dateIn rowsIn degreesIn minutesIn byteOr degreesOr roundingOr minutesOr intervalOr
+    parametersIn rulesIn clockIn ramadanIn orderOf wrongStartOf townIn townOf signedAtOf bytesNumberOf bitsOf floatOf timeAdjustmentsOf
+    existsOf leapOf lengthOf daysBeforeOf ordinalOf countBelow monthOf ofOrdinalOf daysBeforeYearOf dayNumberOf lastBy yearOf dateAtOf
+    dateOfDayOf heldOf fromOf le neg ofBits round dec
 can-be-sent-either-way =
     record {
       first = orderOf (valuesOf earlier);
@@ -96,7 +163,12 @@ can-be-sent-either-way =
     }
 
 pub can-be-swapped : Swapped earlier onTheMap
-unfolding readingOf firstOf isGivenOf bothFormsOf formIn coordinateIn formFits degreesOf checkOf walkOf faultOf faultIn lengthAt unsignedOf lengthFits choiceFits valuesIn fieldsOf collectOf missingOf firstFailing tagsFrom outOfRangeOf inRangeOf fitsOf lookUp printable rowsFit ramadanRows minuteFits minutesFit intervalFits dateIn rowsIn degreesIn minutesIn byteOr degreesOr roundingOr minutesOr intervalOr parametersIn rulesIn clockIn ramadanIn orderOf wrongStartOf townIn townOf signedAtOf bytesNumberOf bitsOf floatOf timeAdjustmentsOf existsOf leapOf lengthOf daysBeforeOf ordinalOf countBelow monthOf ofOrdinalOf daysBeforeYearOf dayNumberOf lastBy yearOf dateAtOf dateOfDayOf heldOf fromOf le neg ofBits round dec
+unfolding readingOf firstOf isGivenOf bothFormsOf formIn coordinateIn formFits degreesOf checkOf walkOf faultOf faultIn lengthAt unsignedOf
+    lengthFits choiceFits valuesIn fieldsOf collectOf missingOf firstFailing tagsFrom outOfRangeOf inRangeOf fitsOf lookUp printable rowsFit
+    ramadanRows minuteFits minutesFit intervalFits dateIn rowsIn degreesIn minutesIn byteOr degreesOr roundingOr minutesOr intervalOr
+    parametersIn rulesIn clockIn ramadanIn orderOf wrongStartOf townIn townOf signedAtOf bytesNumberOf bitsOf floatOf timeAdjustmentsOf
+    existsOf leapOf lengthOf daysBeforeOf ordinalOf countBelow monthOf ofOrdinalOf daysBeforeYearOf dayNumberOf lastBy yearOf dateAtOf
+    dateOfDayOf heldOf fromOf le neg ofBits round dec
 can-be-swapped =
     record {
       order = orderOf (valuesOf earlier);
@@ -110,7 +182,12 @@ can-be-swapped =
     }
 
 pub and-back : Swapped onTheMap earlier
-unfolding readingOf firstOf isGivenOf bothFormsOf formIn coordinateIn formFits degreesOf checkOf walkOf faultOf faultIn lengthAt unsignedOf lengthFits choiceFits valuesIn fieldsOf collectOf missingOf firstFailing tagsFrom outOfRangeOf inRangeOf fitsOf lookUp printable rowsFit ramadanRows minuteFits minutesFit intervalFits dateIn rowsIn degreesIn minutesIn byteOr degreesOr roundingOr minutesOr intervalOr parametersIn rulesIn clockIn ramadanIn orderOf wrongStartOf townIn townOf signedAtOf bytesNumberOf bitsOf floatOf timeAdjustmentsOf existsOf leapOf lengthOf daysBeforeOf ordinalOf countBelow monthOf ofOrdinalOf daysBeforeYearOf dayNumberOf lastBy yearOf dateAtOf dateOfDayOf heldOf fromOf le neg ofBits round dec
+unfolding readingOf firstOf isGivenOf bothFormsOf formIn coordinateIn formFits degreesOf checkOf walkOf faultOf faultIn lengthAt unsignedOf
+    lengthFits choiceFits valuesIn fieldsOf collectOf missingOf firstFailing tagsFrom outOfRangeOf inRangeOf fitsOf lookUp printable rowsFit
+    ramadanRows minuteFits minutesFit intervalFits dateIn rowsIn degreesIn minutesIn byteOr degreesOr roundingOr minutesOr intervalOr
+    parametersIn rulesIn clockIn ramadanIn orderOf wrongStartOf townIn townOf signedAtOf bytesNumberOf bitsOf floatOf timeAdjustmentsOf
+    existsOf leapOf lengthOf daysBeforeOf ordinalOf countBelow monthOf ofOrdinalOf daysBeforeYearOf dayNumberOf lastBy yearOf dateAtOf
+    dateOfDayOf heldOf fromOf le neg ofBits round dec
 and-back =
     record {
       order = orderOf (valuesOf onTheMap);
@@ -125,5 +202,11 @@ and-back =
 
 -- ---- the first was accepted when document 01 stood alone
 pub was-accepted : formerReadingOf earlier ≡ Read (formerOrderOf (valuesOf earlier))
-unfolding formerReadingOf formerCheckOf formerWalkOf formerFaultOf formerLengthFits formerRowsFit formerInRange formerOrderOf readingOf firstOf isGivenOf bothFormsOf formIn coordinateIn formFits degreesOf checkOf walkOf faultOf faultIn lengthAt unsignedOf lengthFits choiceFits valuesIn fieldsOf collectOf missingOf firstFailing tagsFrom outOfRangeOf inRangeOf fitsOf lookUp printable rowsFit ramadanRows minuteFits minutesFit intervalFits dateIn rowsIn degreesIn minutesIn byteOr degreesOr roundingOr minutesOr intervalOr parametersIn rulesIn clockIn ramadanIn orderOf wrongStartOf townIn townOf signedAtOf bytesNumberOf bitsOf floatOf timeAdjustmentsOf existsOf leapOf lengthOf daysBeforeOf ordinalOf countBelow monthOf ofOrdinalOf daysBeforeYearOf dayNumberOf lastBy yearOf dateAtOf dateOfDayOf heldOf fromOf le neg ofBits round dec
+unfolding formerReadingOf formerCheckOf formerWalkOf formerFaultOf formerLengthFits formerRowsFit formerInRange formerOrderOf
+    readingOf firstOf isGivenOf bothFormsOf formIn coordinateIn formFits degreesOf checkOf walkOf faultOf faultIn lengthAt unsignedOf
+    lengthFits choiceFits valuesIn fieldsOf collectOf missingOf firstFailing tagsFrom outOfRangeOf inRangeOf fitsOf lookUp printable rowsFit
+    ramadanRows minuteFits minutesFit intervalFits dateIn rowsIn degreesIn minutesIn byteOr degreesOr roundingOr minutesOr intervalOr
+    parametersIn rulesIn clockIn ramadanIn orderOf wrongStartOf townIn townOf signedAtOf bytesNumberOf bitsOf floatOf timeAdjustmentsOf
+    existsOf leapOf lengthOf daysBeforeOf ordinalOf countBelow monthOf ofOrdinalOf daysBeforeYearOf dayNumberOf lastBy yearOf dateAtOf
+    dateOfDayOf heldOf fromOf le neg ofBits round dec
 was-accepted = refl

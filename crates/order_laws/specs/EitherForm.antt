@@ -1,11 +1,12 @@
--- Request 7: "a place sent either way with the same f64 gets the same sheet, shifts by minutes included." About the bytes of any two orders, over the
--- record, the sheet and what the calls answer; and demand 3's two orders may differ in the form. Proved in proofs/EitherFormLaws.
+-- Request 7: "a place sent either way with the same f64 gets the same sheet, shifts by minutes included." About the bytes of any two
+-- orders, over the record, the sheet and what the calls answer; and demand 3's two orders may differ in the form. Proved in
+-- proofs/EitherFormLaws.
 use Prim.Native.Nat.{ℕ, _≤_}
 use mathlib.Core.Path.{_≡_}
 use mathlib.Core.Bool.{Bool, false, _||_}
 use mathlib.Core.List.{List}
 use lib.Dec.{eqb}
-use Rattle.calls.specs.Calls.{workDayOf, prayerAtOf, nextAtOf, remainingAtOf}
+use Rattle.days.specs.Calls.{workDayOf, prayerAtOf, nextAtOf, remainingAtOf}
 use Rattle.fields.specs.Tags.{lastTag}
 use Rattle.fields.specs.Values.{hasOf, valueOf}
 use Rattle.fields.specs.declared.values.Part.{Part}
@@ -15,7 +16,7 @@ use Rattle.order.specs.declared.reading.Reading.the-variants.{Read}
 use Rattle.order.specs.Reading.{readingOf, townOf}
 use Rattle.pages.specs.Answers.{cellsCallOf, pageCallOf}
 use Rattle.pages.specs.Reports.{wearText, cellsText}
-use Rattle.rows.specs.Rows.{rowCallOf, sheetText}
+use Rattle.sheets.specs.Rows.{rowCallOf, sheetText}
 use Rattle.schedule.specs.declared.in_force.Instant.{Instant}
 use Rattle.weeks.specs.Report.{weekText}
 use Rattle.order_laws.specs.Minutes.{LaterOrder}
@@ -30,8 +31,8 @@ pub record SamePlace (a b : List ℕ) : Type 0 where
   pub second : Order
   pub «first_read» : readingOf a ≡ Read first
   pub «second_read» : readingOf b ≡ Read second
-  pub latitude : first .coordinates .latitude ≡ second .coordinates .latitude
-  pub longitude : first .coordinates .longitude ≡ second .coordinates .longitude
+  pub latitude : first .setting .coordinates .latitude ≡ second .setting .coordinates .latitude
+  pub longitude : first .setting .coordinates .longitude ≡ second .setting .coordinates .longitude
   pub others : (tag : ℕ) → tag ≤ lastTag → saysPlace tag ≡ false → (hasOf a tag ≡ hasOf b tag) × (valueOf a tag ≡ valueOf b tag)
 
 -- an order whose town stands elsewhere in its bytes
@@ -41,9 +42,7 @@ withTown order town =
       town = town;
       date = order .date;
       rows = order .rows;
-      coordinates = order .coordinates;
-      parameters = order .parameters;
-      rules = order .rules;
+      setting = order .setting;
       clock = order .clock;
       ramadan = order .ramadan;
     }

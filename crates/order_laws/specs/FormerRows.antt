@@ -1,6 +1,6 @@
--- Request 4: "A one-byte value means what it did, and every order accepted before gives the same values and prints the same sheet." What document 01
--- alone read and printed: tags 1 to 14, "rows, 1 byte, 1 to 250", the crate's own rules, nine columns; and the statement. Proved in
--- proofs/FormerRowsLaws.
+-- Request 4: "A one-byte value means what it did, and every order accepted before gives the same values and prints the same sheet." What
+-- document 01 alone read and printed: tags 1 to 14, "rows, 1 byte, 1 to 250", the crate's own rules, nine columns; and the statement.
+-- Proved in proofs/FormerRowsLaws.
 use Prim.Native.Nat.{ℕ, zero, suc, _-_}
 use mathlib.Core.Path.{_≡_}
 use mathlib.Core.Bool.{Bool, true, false, cond, not, _&&_, _||_}
@@ -15,20 +15,18 @@ use Rattle.calendar.specs.Answers.{rowDateOf}
 use Rattle.calendar.specs.declared.dates.Date.{Date}
 use Rattle.fields.specs.Fields.{lengthAt, nextFieldAt, longestOrder}
 use Rattle.fields.specs.Numbers.{byteOf}
-use Rattle.fields.specs.Tags.{tags, lastTag, lengthFits}
+use Rattle.fields.specs.Tags.{townTag, dateTag, rowsTag, latitudeTag, longitudeTag, midnightTag, tags, lastTag, lengthFits}
 use Rattle.fields.specs.Values.{valueOf, Values, valuesOf}
-use Rattle.hijri.specs.declared.ramadan.Ramadan.{Ramadan}
 use Rattle.lines.specs.Lines.{nineOf, rowText, refusedDayText}
-use Rattle.models.specs.declared.rules.Rules.{Rules}
-use Rattle.models.specs.declared.rules.Midnight.the-variants.{Stops}
-use Rattle.models.specs.declared.rules.Southern.the-variants.{Unreduced}
-use Rattle.order.specs.Given.{dateIn, degreesIn, parametersIn}
+use Rattle.models.specs.Chosen.{sourceRules, settingOf}
+use Rattle.models.specs.declared.setting.Setting.{Setting}
+use Rattle.order.specs.Given.{dateIn, degreesIn, parametersIn, noRamadan}
 use Rattle.order.specs.Ranges.{between, lastYear, fitsOf}
 use Rattle.order.specs.Reading.{firstFailing, required, tagsFrom, firstOf, readingOf}
 use Rattle.order.specs.declared.reading.Order.{Order}
 use Rattle.order.specs.declared.reading.Reading.{Reading}
 use Rattle.order.specs.declared.reading.Reading.the-variants as reading
-use Rattle.rows.specs.Rows.{sheetText}
+use Rattle.sheets.specs.Rows.{sheetText}
 use Rattle.schedule.specs.Times.{workedAt}
 use Rattle.schedule.specs.declared.prayer_times.Worked.{Worked}
 use Rattle.schedule.specs.declared.prayer_times.Worked.the-variants as worked
@@ -57,7 +55,8 @@ unfoldable pub formerWalkOf : ℕ → List ℕ → (seen : List Bool) → ℕ �
 formerWalkOf zero s seen at = noRefusal
 formerWalkOf (suc k) s seen at =
     cond (ltb at (length s))
-    (cond (eqb (formerFaultOf s seen at) 0) (formerWalkOf k s (set seen (byteOf s at) true) (nextFieldAt s at)) (refusal (formerFaultOf s seen at) at))
+    (cond (eqb (formerFaultOf s seen at) 0) (formerWalkOf k s (set seen (byteOf s at) true) (nextFieldAt s at))
+    (refusal (formerFaultOf s seen at) at))
     noRefusal
 
 unfoldable pub formerCheckOf : List ℕ → Refusal
@@ -68,24 +67,18 @@ unfoldable pub formerRowsFit : Date → List ℕ → Bool
 formerRowsFit date v = between 1 250 (byteOf v 0) && leb (rowDateOf date (byteOf v 0 - 1) .year) lastYear
 
 unfoldable pub formerInRange : Values → ℕ → Bool
-formerInRange v tag = cond (v .has tag) (cond (eqb tag 3) (formerRowsFit (dateIn (v .value 2)) (v .value 3)) (fitsOf v tag)) true
+formerInRange v tag =
+    cond (v .has tag) (cond (eqb tag rowsTag) (formerRowsFit (dateIn (v .value dateTag)) (v .value rowsTag)) (fitsOf v tag)) true
 
 -- ---- the record
-abbrev pub cratesRules : Rules
-cratesRules = record { midnight = Stops; southern = Unreduced }
-
-abbrev pub noRamadan : Ramadan
-noRamadan = record { set = false; imsak = 0; shift = pos 0 }
-
 unfoldable pub formerOrderOf : Values → Order
 formerOrderOf v =
     record {
-      town = v .part 1;
-      date = dateIn (v .value 2);
-      rows = byteOf (v .value 3) 0;
-      coordinates = coordinatesOf (degreesIn (v .value 4)) (degreesIn (v .value 5));
-      parameters = parametersIn v;
-      rules = cratesRules;
+      town = v .part townTag;
+      date = dateIn (v .value dateTag);
+      rows = byteOf (v .value rowsTag) 0;
+      setting =
+          settingOf (coordinatesOf (degreesIn (v .value latitudeTag)) (degreesIn (v .value longitudeTag))) (parametersIn v) sourceRules;
       clock = pos 0;
       ramadan = noRamadan;
     }
@@ -103,21 +96,24 @@ unfoldable pub formerLine : Date → Worked → List ℕ
 formerLine date (worked.Times t) = rowText date (nineOf t)
 formerLine date (worked.Refused r) = refusedDayText date r
 
+abbrev pub formerSetting : Order → Setting
+formerSetting o = settingOf (o .setting .coordinates) (o .setting .parameters) sourceRules
+
 unfoldable pub formerLines : Order → ℕ → List ℕ
 formerLines o zero = []
-formerLines o (suc n) =
-    let date = rowDateOf (o .date) n in formerLines o n ++ formerLine date (workedAt date (o .coordinates) (o .parameters) cratesRules)
+formerLines o (suc n) = let date = rowDateOf (o .date) n in formerLines o n ++ formerLine date (workedAt date (formerSetting o))
 
 unfoldable pub formerText : List ℕ → Order → List ℕ
 formerText town o = (town ++ ascii "\ndate fajr sunrise dhuhr asr maghrib isha middle qiyam tomorrow\n") ++ formerLines o (o .rows)
 
 -- ---- a field at an offset that document 02 brought: tags 15 to 20, or rows in two bytes
 unfoldable pub newAt : List ℕ → ℕ → Bool
-newAt s at = between 15 lastTag (byteOf s at) || (eqb (byteOf s at) 3 && eqb (lengthAt s at) 2)
+newAt s at = between midnightTag lastTag (byteOf s at) || (eqb (byteOf s at) rowsTag && eqb (lengthAt s at) 2)
 
 pub record AsBefore (s : List ℕ) : Type 0 where
   -- "every order accepted before gives the same values and prints the same sheet"
-  pub accepted : (o : Order) → formerReadingOf s ≡ reading.Read o → (readingOf s ≡ reading.Read o) × (sheetText s ≡ formerText (valueOf s 1) o)
+  pub accepted : (o : Order) → formerReadingOf s ≡ reading.Read o
+      → (readingOf s ≡ reading.Read o) × (sheetText s ≡ formerText (valueOf s townTag) o)
   -- and what was refused is refused by the same number and place, but for a field that was unknown and no longer is
   pub refused : (r : Refusal) → formerReadingOf s ≡ reading.Refused r
       → (readingOf s ≡ reading.Refused r) ⊎ ((r .number ≡ fieldUnknown) × (newAt s (r .place) ≡ true))

@@ -1,9 +1,9 @@
 -- Demand 3, whole, about the bytes of any two orders, any row and any two instants that 10 does not refuse, over what the calls answer:
--- "If two accepted orders differ only in schools' own minutes, and the second's sum (own plus method's) for each of the six prayers is at least the
--- first's, then the same days are refused, with the same number and place. On every other day none of the second's nine times is earlier than the
--- first's; each of its six daily times is later by exactly the difference of the two sums for it, and tomorrow's Fajr by exactly Fajr's difference;
--- and for any instants t and u, u not after t, the prayer in force at u under the second stands no later in the list of eight than at t under the
--- first ("none" standing before Fajr)."
+-- "If two accepted orders differ only in schools' own minutes, and the second's sum (own plus method's) for each of the six prayers is at
+-- least the first's, then the same days are refused, with the same number and place. On every other day none of the second's nine times is
+-- earlier than the first's; each of its six daily times is later by exactly the difference of the two sums for it, and tomorrow's Fajr by
+-- exactly Fajr's difference; and for any instants t and u, u not after t, the prayer in force at u under the second stands no later in the
+-- list of eight than at t under the first ("none" standing before Fajr)."
 -- Proved in proofs/MinutesLaws.
 use mathlib.Core.Path.{_≡_}
 use mathlib.Core.Bool.{true}
@@ -12,6 +12,7 @@ use Prim.Native.Nat.{ℕ, _≤_}
 use lib.IntN.{_+ℤ_}
 use lib.Signed.{leZ}
 use Rattle.fields.specs.declared.values.Part.{Part}
+use Rattle.models.specs.Chosen.{settingOf}
 use Rattle.models.specs.declared.adjustments.TimeAdjustment.{TimeAdjustment}
 use Rattle.models.specs.declared.prayer.Prayer.{Prayer}
 use Rattle.models.specs.declared.prayer.Prayer.the-variants.{Fajr}
@@ -27,8 +28,8 @@ use Rattle.schedule.specs.declared.prayer_times.PrayerTimes.{PrayerTimes}
 use Rattle.schedule.specs.declared.prayer_times.Worked.the-variants.{Times}
 use Rattle.schedule.specs.InForce.{NotAfter, currentNumberOf}
 use Rattle.schedule_laws.specs.Later.{withMinutes, laterBy, Moved}
-use Rattle.calls.specs.declared.in_force.InForce.the-variants as force
-use Rattle.calls.specs.Calls.{workDayOf, instantFits, prayerAtOf}
+use Rattle.days.specs.declared.in_force.InForce.the-variants as force
+use Rattle.days.specs.Calls.{workDayOf, instantFits, prayerAtOf}
 
 -- an order with other own minutes, tag 11's, whose town stands elsewhere in its bytes, and all else as it was
 abbrev pub withOwnMinutes : Order → Part → TimeAdjustment → Order
@@ -37,35 +38,36 @@ withOwnMinutes order town minutes =
       town = town;
       date = order .date;
       rows = order .rows;
-      coordinates = order .coordinates;
-      parameters = withMinutes (order .parameters) minutes;
-      rules = order .rules;
+      setting = settingOf (order .setting .coordinates) (withMinutes (order .setting .parameters) minutes) (order .setting .rules);
       clock = order .clock;
       ramadan = order .ramadan;
     }
 
--- "accepted when its bytes pass every check before the day"; "differ only in schools' own minutes when all that the tags other than 11 give, a
--- missing one as in the table, is the same; tag 11 may be equal too": the town, wherever it stands, and the record but for its own minutes
+-- "accepted when its bytes pass every check before the day"; "differ only in schools' own minutes when all that the tags other than 11
+-- give, a missing one as in the table, is the same; tag 11 may be equal too": the town, wherever it stands, and the record but for its own
+-- minutes
 pub record LaterOrder (a b : List ℕ) : Type 0 where
   pub first : Order
   pub second : Order
   pub «first_read» : readingOf a ≡ Read first
   pub «second_read» : readingOf b ≡ Read second
   pub town : townOf a ≡ townOf b
-  pub alike : withOwnMinutes first (second .town) (second .parameters .adjustments) ≡ second
+  pub alike : withOwnMinutes first (second .town) (second .setting .parameters .adjustments) ≡ second
   -- "the six prayers are tag 11's"; Qiyam and tomorrow's Fajr have no minutes, so that their sums are equal
-  pub more : (prayer : Prayer) → leZ (timeAdjustmentsOf (first .parameters) prayer) (timeAdjustmentsOf (second .parameters) prayer) ≡ true
+  pub more : (prayer : Prayer)
+      → leZ (timeAdjustmentsOf (first .setting .parameters) prayer) (timeAdjustmentsOf (second .setting .parameters) prayer) ≡ true
 
 -- imsak of each, as the sheet has it
 pub record ImsakMoved (first second : Order) (t u : PrayerTimes) : Type 0 where
   pub same : second .ramadan ≡ first .ramadan
   pub «not_earlier» : leZ (imsakOf (first .ramadan .imsak) (t .fajr)) (imsakOf (second .ramadan .imsak) (u .fajr)) ≡ true
   pub exactly : imsakOf (second .ramadan .imsak) (u .fajr)
-      ≡ imsakOf (first .ramadan .imsak) (t .fajr) +ℤ laterBy (first .parameters) (second .parameters) Fajr
+      ≡ imsakOf (first .ramadan .imsak) (t .fajr) +ℤ laterBy (first .setting .parameters) (second .setting .parameters) Fajr
 
 pub record MovedRow (a b : List ℕ) (orders : LaterOrder a b) (row : ℕ) : Type 0 where
-  -- what working the row answers: refused alike, none earlier, six times and tomorrow's Fajr by exactly the difference (crates/schedule_laws/specs/Later)
-  pub day : Moved (orders .first .parameters) (orders .second .parameters) (workDayOf a row) (workDayOf b row)
+  -- what working the row answers: refused alike, none earlier, six times and tomorrow's Fajr by exactly the difference
+  -- (crates/schedule_laws/specs/Later)
+  pub day : Moved (orders .first .setting .parameters) (orders .second .setting .parameters) (workDayOf a row) (workDayOf b row)
   -- request 12: "Raising Fajr's minutes moves imsak by as much": imsak, which is no earlier, by exactly Fajr's difference
   pub imsak : (t u : PrayerTimes) → workDayOf a row ≡ Times t → workDayOf b row ≡ Times u
       → ImsakMoved (orders .first) (orders .second) t u

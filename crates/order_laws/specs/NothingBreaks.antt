@@ -1,7 +1,7 @@
--- Demand 1, whole, for any bytes that a school sends: "Nothing that a school sends breaks a run: every order is read or refused by number; a day lacking
--- transit, sunrise or sunset, its own or the next two days', is refused as that day only; the first broken rule in the stated order gives the number;
--- a refused call changes no lent byte; every call returns." That every call returns is a matter of the language: no function is built that is not
--- proved to end. Proved in proofs/NothingBreaksLaws.
+-- Demand 1, whole, for any bytes that a school sends: "Nothing that a school sends breaks a run: every order is read or refused by number;
+-- a day lacking transit, sunrise or sunset, its own or the next two days', is refused as that day only; the first broken rule in the stated
+-- order gives the number; a refused call changes no lent byte; every call returns." That every call returns is a matter of the language: no
+-- function is built that is not proved to end. Proved in proofs/NothingBreaksLaws.
 use Prim.Native.Nat.{ℕ, zero, suc, _≤_, _<_}
 use mathlib.Core.Path.{_≡_}
 use mathlib.Core.Bool.{true, false, cond}
@@ -9,11 +9,12 @@ use mathlib.Core.List.{List, [], _∷_, _++_}
 use lib.Dec.{eqb}
 use lib.ListN.{length}
 use Rattle.prelude.specs.Lists.{listed}
-use Rattle.refusals.specs.Refusals.{fieldCut, fieldUnknown, fieldAgain, tagMissing, outOfRange, noTransit, noSunrise, noSunset, bothForms, notFirstOfRamadan}
+use Rattle.refusals.specs.Refusals.{fieldCut, fieldUnknown, fieldAgain, tagMissing, outOfRange, noTransit, noSunrise, noSunset, bothForms}
+use Rattle.refusals.specs.Refusals.{notFirstOfRamadan}
 use Rattle.refusals.specs.declared.Refusal.{Refusal}
 use Rattle.calendar.specs.Answers.{rowDateOf}
 use Rattle.calendar.specs.declared.dates.Date.{Date}
-use Rattle.calls.specs.Calls.{workDateOf, workDayOf}
+use Rattle.days.specs.Calls.{workDateOf, workDayOf}
 use Rattle.fields.specs.Fields.{checkOf}
 use Rattle.fields.specs.Values.{valuesOf}
 use Rattle.lines.specs.Lines.{lineText}
@@ -23,7 +24,7 @@ use Rattle.order.specs.declared.reading.Reading.{Reading}
 use Rattle.order.specs.declared.reading.Reading.the-variants as reading
 use Rattle.pages.specs.Answers.{oneRow, pieceIn, cellsCallOf, pageCallOf}
 use Rattle.pages.specs.Pages.{cellsOf}
-use Rattle.rows.specs.Rows.{rowCallOf, headText, sheetText}
+use Rattle.sheets.specs.Rows.{rowCallOf, headText, sheetText}
 use Rattle.schedule.specs.Numbers.{numbersOf}
 use Rattle.schedule.specs.declared.prayer_times.Worked.{Worked}
 use Rattle.schedule.specs.declared.prayer_times.Worked.the-variants as worked
@@ -50,14 +51,15 @@ dayNumbers = noTransit ∷ noSunrise ∷ noSunset ∷ []
 -- a date's own day and the next two: the sun's times of each, or the number of what it lacks
 abbrev pub threeDays : Order → Date → List SolarDay
 threeDays o date =
-    let numbers = numbersOf date (o .coordinates) (o .parameters) in
-    let rule = o .rules .midnight in
+    let numbers = numbersOf date (o .setting .coordinates) (o .setting .parameters) in
+    let rule = o .setting .rules .midnight in
     solarTimeOf rule (numbers .today) ∷ solarTimeOf rule (numbers .tomorrow) ∷ solarTimeOf rule (numbers .after) ∷ []
 
 -- of some days the first that lacks a time: what it lacks, and how many days stand before it
 pub data FirstLacking (number : ℕ) : ℕ → List SolarDay → Type 0 where
   here : {rest : List SolarDay} → FirstLacking number 0 (sun.Lacks number ∷ rest)
-  later : {place : ℕ} {whole : SolarTime} {rest : List SolarDay} → FirstLacking number place rest → FirstLacking number (suc place) (sun.Whole whole ∷ rest)
+  later : {place : ℕ} {whole : SolarTime} {rest : List SolarDay} → FirstLacking number place rest
+      → FirstLacking number (suc place) (sun.Whole whole ∷ rest)
 
 pub record RefusedDay (o : Order) (date : Date) (r : Refusal) : Type 0 where
   pub number : listed dayNumbers (r .number) ≡ true
@@ -65,8 +67,8 @@ pub record RefusedDay (o : Order) (date : Date) (r : Refusal) : Type 0 where
   pub lacking : FirstLacking (r .number) (r .place) (threeDays o date)
 
 -- ---- "as that day only": the line of a row by its own date
-abbrev pub lineOf : Order → ℕ → List ℕ
-lineOf o row = let date = rowDateOf (o .date) row in lineText (o .ramadan) date (workDateOf o date)
+abbrev pub rowLine : Order → ℕ → List ℕ
+rowLine o row = let date = rowDateOf (o .date) row in lineText (o .ramadan) date (workDateOf o date)
 
 -- what each of the rows 0 to n - 1 gives, one behind another
 unfoldable pub eachOf : (ℕ → List ℕ) → ℕ → List ℕ
@@ -75,13 +77,13 @@ eachOf of (suc n) = eachOf of n ++ of n
 
 -- the lines, if working one row gave w
 abbrev pub insteadOf : Order → ℕ → Worked → ℕ → List ℕ
-insteadOf o one w row = cond (eqb row one) (lineText (o .ramadan) (rowDateOf (o .date) one) w) (lineOf o row)
+insteadOf o one w row = cond (eqb row one) (lineText (o .ramadan) (rowDateOf (o .date) one) w) (rowLine o row)
 
 -- whatever working that row gives, times or a refusal, the lines before and after its own are the same
 pub record OthersStay (o : Order) (one : ℕ) : Type 0 where
   pub before : List ℕ
   pub after : List ℕ
-  pub now : eachOf (lineOf o) (o .rows) ≡ before ++ lineOf o one ++ after
+  pub now : eachOf (rowLine o) (o .rows) ≡ before ++ rowLine o one ++ after
   pub instead : (w : Worked) → eachOf (insteadOf o one w) (o .rows) ≡ before ++ lineText (o .ramadan) (rowDateOf (o .date) one) w ++ after
 
 -- ---- "a refused call changes no lent byte"; else what is written is at the front, has room there, and the bytes behind it stay
@@ -90,9 +92,9 @@ pub record Lent (number : ℕ) (text before after : List ℕ) : Type 0 where
   pub written : eqb number 0 ≡ true → (length text ≤ length before) × (after ≡ frontOf text before)
 
 -- what is written of an order: of a refused one nothing
-abbrev pub writtenOf : (Order → List ℕ) → Reading → List ℕ
-writtenOf of (reading.Read o) = of o
-writtenOf of (reading.Refused r) = []
+abbrev pub writtenFor : (Order → List ℕ) → Reading → List ℕ
+writtenFor of (reading.Read o) = of o
+writtenFor of (reading.Refused r) = []
 
 -- ---- all of it
 pub record NothingBreaks (s : List ℕ) : Type 0 where
@@ -105,19 +107,23 @@ pub record NothingBreaks (s : List ℕ) : Type 0 where
   pub lacking : (o : Order) (row : ℕ) (r : Refusal) → readingOf s ≡ reading.Read o → row < o .rows
       → FirstLacking (r .number) (r .place) (threeDays o (rowDateOf (o .date) row)) → workDayOf s row ≡ worked.Refused r
   -- the sheet has a line for each row, which goes by that row alone
-  pub sheet : (o : Order) → readingOf s ≡ reading.Read o → sheetText s ≡ headText (o .ramadan) (townOf s) ++ eachOf (lineOf o) (o .rows)
+  pub sheet : (o : Order) → readingOf s ≡ reading.Read o → sheetText s ≡ headText (o .ramadan) (townOf s) ++ eachOf (rowLine o) (o .rows)
   pub only : (o : Order) (row : ℕ) → readingOf s ≡ reading.Read o → row < o .rows → OthersStay o row
   -- the calls that write: a row, a row of cells, a page of cells or a piece of it
   pub row : (row : ℕ) (buffer : List ℕ)
-      → Lent (rowCallOf s row buffer .answer .number) (writtenOf (λ o. lineOf o row) (readingOf s)) buffer (rowCallOf s row buffer .buffer)
+      → Lent (rowCallOf s row buffer .answer .number) (writtenFor (λ o. rowLine o row) (readingOf s)) buffer
+      (rowCallOf s row buffer .buffer)
   pub cells : (row : ℕ) (buffer : List ℕ)
-      → Lent (cellsCallOf s row buffer .answer .refusal .number) (writtenOf (λ o. cellsOf (oneRow row o)) (readingOf s)) buffer (cellsCallOf s row buffer .buffer)
+      → Lent (cellsCallOf s row buffer .answer .refusal .number) (writtenFor (λ o. cellsOf (oneRow row o)) (readingOf s)) buffer
+      (cellsCallOf s row buffer .buffer)
   pub page : (page first : ℕ) (scratch : List ℕ)
-      → Lent (pageCallOf s page first scratch .answer .refusal .number) (writtenOf (λ o. cellsOf (pieceIn page first scratch o)) (readingOf s)) scratch
+      → Lent (pageCallOf s page first scratch .answer .refusal .number)
+      (writtenFor (λ o. cellsOf (pieceIn page first scratch o)) (readingOf s)) scratch
       (pageCallOf s page first scratch .buffer)
   -- and the sentence of a refusal
   pub sentence : (number place : ℕ) (buffer : List ℕ)
-      → Lent (sentenceCallOf number place buffer .answer .number) (sentenceOf number place) buffer (sentenceCallOf number place buffer .buffer)
+      → Lent (sentenceCallOf number place buffer .answer .number) (sentenceOf number place) buffer
+      (sentenceCallOf number place buffer .buffer)
 
 abbrev pub NothingBreaksARun : Type 0
 NothingBreaksARun = (s : List ℕ) → NothingBreaks s

@@ -1,11 +1,11 @@
--- Document 01, "The sheet": "each as signed days from the row's date". The days of every time that a sheet prints are one digit, so nothing of them is
--- cut. Proved in proofs/PrintedLaws.
+-- Document 01, "The sheet": "each as signed days from the row's date". The days of every time that a sheet prints are one digit, so nothing
+-- of them is cut. Proved in proofs/PrintedLaws.
 use mathlib.Core.Path.{_≡_}
 use Prim.Native.Nat.{ℕ, _≤_, _<_}
 use lib.IntN.{pos, natAbs}
 use lib.ListN.{getD}
 use Rattle.calendar.specs.Answers.{rowDateOf}
-use Rattle.calls.specs.Calls.{workRowOf}
+use Rattle.days.specs.Calls.{workRowOf}
 use Rattle.lines.specs.Lines.{daysOf, nineOf}
 use Rattle.order.specs.Accepted.{Accepted}
 use Rattle.order.specs.declared.reading.Order.{Order}

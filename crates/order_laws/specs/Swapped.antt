@@ -1,5 +1,6 @@
--- Request 7: "Tags 18 and 19 stand for latitude and longitude". An order that is read stays one if a coordinate is sent in the other form, beside
--- EitherForm, which is of two orders that are read; and the coordinates of one that is read are written back. Proved in proofs/SwappedLaws.
+-- Request 7: "Tags 18 and 19 stand for latitude and longitude". An order that is read stays one if a coordinate is sent in the other form,
+-- beside EitherForm, which is of two orders that are read; and the coordinates of one that is read are written back. Proved in
+-- proofs/SwappedLaws.
 use Prim.Native.Nat.{ℕ, _≤_}
 use mathlib.Core.Path.{_≡_}
 use mathlib.Core.Bool.{true, false}
@@ -19,7 +20,8 @@ use Rattle.order_laws.specs.EitherForm.{SamePlace, saysPlace}
 
 -- a coordinate, by its two tags: the second order gives it as the first does, or on the map by a value that fits, or by a float
 pub data Sent (a b : List ℕ) (float map most : ℕ) : Type 0 where
-  alike : hasOf a float ≡ hasOf b float → valueOf a float ≡ valueOf b float → hasOf a map ≡ hasOf b map → valueOf a map ≡ valueOf b map → Sent a b float map most
+  alike : hasOf a float ≡ hasOf b float → valueOf a float ≡ valueOf b float → hasOf a map ≡ hasOf b map → valueOf a map ≡ valueOf b map
+      → Sent a b float map most
   mapped : hasOf b float ≡ false → hasOf b map ≡ true → formFits most (formIn (valueOf b map)) ≡ true → Sent a b float map most
   floated : hasOf b float ≡ true → hasOf b map ≡ false → Sent a b float map most
 
@@ -30,8 +32,8 @@ pub record Swapped (a b : List ℕ) : Type 0 where
   pub fields : checkOf b .number ≡ 0
   pub latitude : Sent a b 4 latitudeTag mostLatitude
   pub longitude : Sent a b 5 longitudeTag mostLongitude
-  pub «same_latitude» : order .coordinates .latitude ≡ coordinateIn (valuesOf b) 4 latitudeTag
-  pub «same_longitude» : order .coordinates .longitude ≡ coordinateIn (valuesOf b) 5 longitudeTag
+  pub «same_latitude» : order .setting .coordinates .latitude ≡ coordinateIn (valuesOf b) 4 latitudeTag
+  pub «same_longitude» : order .setting .coordinates .longitude ≡ coordinateIn (valuesOf b) 5 longitudeTag
   pub others : (tag : ℕ) → tag ≤ lastTag → saysPlace tag ≡ false → (hasOf a tag ≡ hasOf b tag) × (valueOf a tag ≡ valueOf b tag)
 
 -- then the second is read too, and what EitherForm says of the two holds
@@ -40,9 +42,9 @@ OtherFormIsRead = (a b : List ℕ) → Swapped a b → SamePlace a b
 
 -- ---- "writing back a read coordinate gives its bytes, where zero is written with sign 0": the parts of `formIn` are the bytes
 pub record BackOnTheMap (s : List ℕ) (o : Order) : Type 0 where
-  pub latitude : hasOf s latitudeTag ≡ true → writtenOf latitudeTag mostLatitude (o .coordinates .latitude)
+  pub latitude : hasOf s latitudeTag ≡ true → writtenOf latitudeTag mostLatitude (o .setting .coordinates .latitude)
       ≡ record { refusal = noRefusal; form = asWritten (formIn (valueOf s latitudeTag)) }
-  pub longitude : hasOf s longitudeTag ≡ true → writtenOf longitudeTag mostLongitude (o .coordinates .longitude)
+  pub longitude : hasOf s longitudeTag ≡ true → writtenOf longitudeTag mostLongitude (o .setting .coordinates .longitude)
       ≡ record { refusal = noRefusal; form = asWritten (formIn (valueOf s longitudeTag)) }
 
 abbrev pub ReadIsWrittenBack : Type 0

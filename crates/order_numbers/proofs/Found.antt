@@ -1,15 +1,15 @@
 -- Where the fields of joined fields stand, and that their form is right where their tags rise. Assumes nothing.
-use Rattle.prelude.proofs.Logic.{_≡_, refl, sym, ap, _∙_, Bool, true, false, cond, _&&_, List, [], _∷_, _++_, ℕ, zero, suc, _+_, _-_, _*_, _/_, _%_, _≤_, _<_, div-add-mod', arith, leb, ltb, eqb, length, getD, take, drop, set, replicate, getD-replicate, length-append, length-drop, drop-drop, drop-at, take-at, getD-set-other, lt-ltb, le-ltb, le-leb, leb-true, eqb-true, eqb-false, ltb-true, ltb-false, List·getD-eq-default, cases, both, lit≤}
+use Rattle.prelude.proofs.Logic.{_≡_, refl, sym, ap, _∙_, Bool, true, false, cond, _&&_, List, [], _∷_, _++_, ℕ, zero, suc, _+_, _-_, _*_}
+use Rattle.prelude.proofs.Logic.{_/_, _%_, _≤_, _<_, div-add-mod', arith, leb, ltb, eqb, length, getD, take, drop, set, replicate}
+use Rattle.prelude.proofs.Logic.{getD-replicate, length-append, length-drop, drop-drop, drop-at, drop-of-length-le, take-nil, take-at}
+use Rattle.prelude.proofs.Logic.{getD-set-other, lt-ltb, le-ltb, le-leb, leb-true, eqb-true, eqb-false, ltb-true, ltb-false}
+use Rattle.prelude.proofs.Logic.{List·getD-eq-default, cases, both, lit≤}
 use lib.Seq.{getD-drop}
-use Rattle.refusals.specs.Refusals.{noRefusal}
-use Rattle.fields.specs.Numbers.{byteOf, unsignedOf}
-use Rattle.fields.specs.Tags.{tags, lastTag, lengthFits}
-use Rattle.fields.specs.Fields.{lengthAt, nextFieldAt, faultIn, walkOf, checkOf}
-use Rattle.fields.specs.Values.{hasOf, valueOf}
-use Rattle.fields.specs.Lookup.{firstFrom, offsetOf}
+use Rattle.order_numbers.proofs.Reader.{noRefusal, byteOf, unsignedOf, tags, lastTag, lengthFits, lengthAt, nextFieldAt, faultIn}
+use Rattle.order_numbers.proofs.Reader.{walkOf, checkOf, hasOf, valueOf, Values, valuesOf, Part, firstFrom, offsetOf, find-here}
+use Rattle.order_numbers.proofs.Reader.{find-on, find-none, first}
 use Rattle.fields.proofs.Walking.{walk-on, walk-end}
 use Rattle.fields.proofs.Collecting.{fault-is, check-walk}
-use Rattle.fields.proofs.LookupLaws.{find-here, find-on, find-none, first}
 use Rattle.order_numbers.specs.Bytes.{fieldBytes, joined}
 
 -- whether the fields have a tag, and its value
@@ -59,7 +59,7 @@ here s at tag v rest e =
 -- ---- a tag is found where the fields have it
 record Finding (s : List ℕ) (tag at : ℕ) (fs : List (ℕ × List ℕ)) : Type 0 where
   has : ltb at (length s) ≡ standsIn fs tag
-  value : standsIn fs tag ≡ true → take (lengthAt s at) (drop (at + 3) s) ≡ valueIn fs tag
+  value : take (lengthAt s at) (drop (at + 3) s) ≡ valueIn fs tag
 
 finding : (fs : List (ℕ × List ℕ)) (k : ℕ) (s : List ℕ) (tag at : ℕ) → drop at s ≡ joined fs → length s ≤ at + k
     → Finding s tag (firstFrom k s tag at) fs
@@ -67,28 +67,40 @@ unfolding joined standsIn valueIn
 finding [] k s tag at e h =
     let l = length-drop at s in
     let a = ap (length {A = ℕ}) e in
-    rw (find-none k s tag at (omega arith)) (record { has = le-ltb (length s) (length s) (omega arith); value = λ t. cc })
+    let end : length s ≤ length s + 3 = omega arith in
+    rw (find-none k s tag at (omega arith))
+    (record { has = le-ltb (length s) (length s) (omega arith); value = simp (drop-of-length-le s end, take-nil) })
 finding (f ∷ rest) zero s tag at e h =
     let i = here s at (f .0) (f .1) (joined rest) e in absurd (omega (arith, i .inside))
 finding (f ∷ rest) (suc k) s tag at e h =
     let i = here s at (f .0) (f .1) (joined rest) e in
     let inside : at < length s = omega (arith, i .inside) in
     cases (eqb (f .0) tag)
-    (λ t. rw (find-here (suc k) s tag at h inside (i .named ∙ eqb-true (f .0) tag t)) (record { has = lt-ltb at (length s) inside ∙ simp t; value = λ u. i .value ∙ simp t }))
+    (λ t. rw (find-here (suc k) s tag at h inside (i .named ∙ eqb-true (f .0) tag t))
+    (record { has = lt-ltb at (length s) inside ∙ simp t; value = i .value ∙ simp t }))
     (λ t. let next = finding rest k s tag (nextFieldAt s at) (i .next) (omega arith) in
     rw (find-on k s tag at inside (λ q. eqb-false (f .0) tag t (sym (i .named) ∙ q)))
-    (record { has = next .has ∙ simp t; value = λ u. next .value (simp t at u) ∙ simp t }))
+    (record { has = next .has ∙ simp t; value = next .value ∙ simp t }))
 
 module _ (fs : List (ℕ × List ℕ)) (right : checkOf (joined fs) .number ≡ 0) (tag : ℕ) where
   found : Finding (joined fs) tag (offsetOf (joined fs) tag) fs
   unfolding offsetOf
   found = finding fs (length (joined fs)) (joined fs) tag 0 refl (omega arith)
 
-  pub has-joined : hasOf (joined fs) tag ≡ standsIn fs tag
+  has-joined : hasOf (joined fs) tag ≡ standsIn fs tag
   has-joined = first (joined fs) tag right .has ∙ found .has
 
-  pub value-joined : standsIn fs tag ≡ true → valueOf (joined fs) tag ≡ valueIn fs tag
-  value-joined t = first (joined fs) tag right .value ∙ found .value t
+  value-joined : valueOf (joined fs) tag ≡ valueIn fs tag
+  value-joined = first (joined fs) tag right .value ∙ found .value
+
+-- so what they give by tag is known
+abbrev pub saidIn : List (ℕ × List ℕ) → (ℕ → Part) → Values
+saidIn fs part = record { has = standsIn fs; value = valueIn fs; part = part }
+
+pub values-joined : (fs : List (ℕ × List ℕ)) → checkOf (joined fs) .number ≡ 0
+    → valuesOf (joined fs) ≡ saidIn fs (valuesOf (joined fs) .part)
+values-joined fs right =
+    λ i. record { has = λ tag. has-joined fs right tag i; value = λ tag. value-joined fs right tag i; part = valuesOf (joined fs) .part }
 
 -- the first field is the first of its tag
 pub first-offset : (tag : ℕ) (v : List ℕ) (rest : List (ℕ × List ℕ)) → offsetOf (joined ((tag, v) ∷ rest)) tag ≡ 0
@@ -122,7 +134,8 @@ running (f ∷ rest) (suc k) s at seen low h e one r new =
     let inside : at < length s = omega (arith, i .inside) in
     let other : (t : ℕ) → f .0 + 1 ≤ t → t ≡ byteOf s at → ⊥ = λ t l q. let n = i .named in omega arith in
     let none = no-fault (f .0) (length (f .1)) (length s - at) (omega arith) (fits .0) (omega (arith, i .inside)) in
-    let fault = sym (fault-is s at seen (f .0) (length (f .1)) 0 false (sym (i .named)) (sym (i .size)) (sym (new (f .0) over)) (sym none)) in
+    let fault =
+    sym (fault-is s at seen (f .0) (length (f .1)) 0 false (sym (i .named)) (sym (i .size)) (sym (new (f .0) over)) (sym none)) in
     walk-on s at k seen inside fault
     ∙ running rest k s (nextFieldAt s at) (set seen (byteOf s at) true) (f .0 + 1) (omega arith) (i .next) (omega arith) (fits .1)
     (λ t l. getD-set-other seen (byteOf s at) t true false (other t l) ∙ new t (omega arith))

@@ -1,12 +1,11 @@
 -- How long the order's bytes are, and that the form of their fields is right. Assumes nothing.
-use Rattle.prelude.proofs.Logic.{_≡_, refl, Bool, true, List, ℕ, _+_, _≤_, arith, leb, eqb, lit≤, length, length-append, length-take, cases, arms}
-use Rattle.refusals.specs.Refusals.{noRefusal}
-use Rattle.fields.specs.Tags.{lengthFits}
-use Rattle.fields.specs.Fields.{checkOf}
+use Rattle.prelude.proofs.Logic.{_≡_, refl, true, List, ℕ, _+_, _≤_, arith, leb, eqb, lit≤, length, length-append, length-take, cases, arms}
+use Rattle.order_numbers.proofs.Reader.{noRefusal, lengthFits, checkOf}
 use Rattle.order_numbers.specs.declared.numbers.Choices.{Choices}
 use Rattle.order_numbers.specs.declared.numbers.OrderNumbers.{OrderNumbers}
-use Rattle.order_numbers.specs.Bytes.{twoBytes, eightBytes, fieldBytes, joined}
-use Rattle.order_numbers.specs.Values.{townBytes, dateBytes, rowsBytes, minutesBytes, ramadanBytes, unsaid, ramadanFields, fieldsFor, encode}
+use Rattle.order_numbers.specs.Bytes.{twoBytes, eightBytes, floatBytes, fieldBytes, joined}
+use Rattle.order_numbers.specs.Values.{townBytes, dateBytes, rowsBytes, minutesBytes, ramadanBytes, unsaid, ramadanFields, fieldsFor}
+use Rattle.order_numbers.specs.Values.{encode}
 use Rattle.order_numbers.proofs.PutLaws.{rows-long}
 use Rattle.order_numbers.proofs.Found.{rising, form-right}
 
@@ -15,19 +14,10 @@ unfolding ramadanFields ramadanBytes joined fieldBytes
 ramadan-long c =
     cases (unsaid c) (λ t. simp t (lit≤ tt)) (λ t. cases (eqb (c .ramadan) 1) (λ u. simp (t, u) (lit≤ tt)) (λ u. simp (t, u) (lit≤ tt)))
 
--- all but the town's bytes
-encoded-length : (n : OrderNumbers) (town : List ℕ)
-    → length (encode n town) ≡ 110 + length (townBytes town) + length (rowsBytes (n .rows)) + length (joined (ramadanFields (n .choices)))
-unfolding encode joined fieldBytes dateBytes twoBytes eightBytes minutesBytes
-encoded-length n town = simp (length-append) (omega arith)
-
 -- 157 bytes, and one more if the town is too long
 pub encoded-short : (n : OrderNumbers) (town : List ℕ) → length (encode n town) ≤ 117 + length (townBytes town)
-encoded-short n town =
-    let e = encoded-length n town in
-    let r = rows-long (n .rows) in
-    let m = ramadan-long (n .choices) in
-    omega arith
+unfolding encode joined fieldBytes dateBytes twoBytes eightBytes floatBytes minutesBytes
+encoded-short n town = simp (length-append) (omega (arith, rows-long (n .rows), ramadan-long (n .choices)))
 
 -- ---- the form
 rising-ramadan : (c : Choices) → rising 18 (ramadanFields c) ≡ true
@@ -39,7 +29,7 @@ unfolding rowsBytes twoBytes lengthFits
 rows-fit n = arms (λ (x : List ℕ). lengthFits 3 (length x) ≡ true) (leb n 250) (λ t. refl) (λ t. refl)
 
 pub form-encoded : (n : OrderNumbers) (town : List ℕ) → lengthFits 1 (length (townBytes town)) ≡ true → checkOf (encode n town) ≡ noRefusal
-unfolding encode rising dateBytes twoBytes eightBytes minutesBytes lengthFits
+unfolding encode rising dateBytes twoBytes eightBytes floatBytes minutesBytes lengthFits
 form-encoded n town h =
     let l = encoded-short n town in
     let t = length-take 41 town in

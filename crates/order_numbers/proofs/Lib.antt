@@ -1,10 +1,8 @@
-pub mod Unsigned
+pub mod Reader
 pub mod NumbersLaws
 pub mod PutLaws
-pub mod CallLaws
 pub mod Found
-pub mod NumberLaws
-pub mod FloatLaws
+pub mod KindLaws
 pub mod ValueLaws
 pub mod Lengths
 pub mod RoundTrip

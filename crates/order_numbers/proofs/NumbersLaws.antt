@@ -1,12 +1,8 @@
--- Of an order that is read, town_at and town_length are the town's own offset and length, and the Isha interval is the record's. Assumes nothing.
+-- Of an order that is read, town_at and town_length are the town's own offset and length, and the Isha interval is the record's. Assumes
+-- nothing.
 use Rattle.prelude.proofs.Logic.{_≡_, sym, List, ℕ, _+_, arith, pos, length}
+use Rattle.order_numbers.proofs.Reader.{offsetOf, Order, Read, readingOf, townOf, read-accepted, read-town}
 use Rattle.integers.proofs.PartsLaws.{natural}
-use Rattle.fields.specs.Lookup.{offsetOf}
-use Rattle.order.specs.declared.reading.Order.{Order}
-use Rattle.order.specs.declared.reading.Reading.the-variants.{Read}
-use Rattle.order.specs.Reading.{readingOf, townOf}
-use Rattle.order.proofs.AcceptedLaws.{read-accepted}
-use Rattle.order.proofs.ReadingLaws.{read-town}
 use Rattle.order_numbers.specs.Numbers.{orderRead, orderNumbersIn, orderNumbersOf}
 
 module _ (s : List ℕ) (order : Order) (e : readingOf s ≡ Read order) where
@@ -19,9 +15,9 @@ module _ (s : List ℕ) (order : Order) (e : readingOf s ≡ Read order) where
   town-length = rw e (read-town s order e .long)
 
   -- an interval that is read is never below 0
-  pub interval : pos (orderNumbersOf s .«isha_interval») ≡ order .parameters .«isha_interval»
+  pub interval : pos (orderNumbersOf s .«isha_interval») ≡ order .setting .parameters .«isha_interval»
   unfolding orderNumbersOf orderNumbersIn orderRead
   interval =
-      let z = order .parameters .«isha_interval» in
+      let z = order .setting .parameters .«isha_interval» in
       let from = read-accepted s order e .parameters .«isha_interval» .from in
       rw e (sym (natural z (omega arith)))

@@ -1,16 +1,20 @@
 -- A field that is put at an offset is behind what is before it. Assumes nothing.
-use Rattle.prelude.proofs.Logic.{_≡_, refl, sym, ap, _∙_, List, [], _∷_, _++_, append-assoc, append-nil, ℕ, _+_, _≤_, arith, leb, lit≤, arms, length, take, drop, length-append, take-at, length-take-le, le-leb, ℤ, w32, w64, SFits, toZ, ofZ, toZ-ofZ}
+use Rattle.prelude.proofs.Logic.{_≡_, refl, sym, ap, _∙_, List, [], _∷_, _++_, append-assoc, append-nil, ℕ, _+_, _≤_, arith, leb, lit≤}
+use Rattle.prelude.proofs.Logic.{arms, length, take, drop, length-append, take-at, length-take-le, le-leb, ℤ, w32, w64, SFits, toZ, ofZ}
+use Rattle.prelude.proofs.Logic.{toZ-ofZ}
 use Rattle.integers.proofs.Integers.{P, N, read-wide}
 use Rattle.text.specs.Text.{putOf}
 use Rattle.text.proofs.TextLaws.{put-behind}
 use Rattle.order_numbers.specs.Bytes.{twoBytes, fieldBytes, joined, signedBytes}
 use Rattle.order_numbers.specs.Values.{rowsBytes}
 
-pub taken-put : (buffer text : List ℕ) (at : ℕ) → at + length text ≤ length buffer → take (at + length text) (putOf buffer at text) ≡ take at buffer ++ text
+pub taken-put : (buffer text : List ℕ) (at : ℕ) → at + length text ≤ length buffer
+    → take (at + length text) (putOf buffer at text) ≡ take at buffer ++ text
 unfolding putOf
 taken-put buffer text at room =
     let front = length-append (take at buffer) text ∙ ap (λ (k : ℕ). k + length text) (length-take-le at buffer (omega arith)) in
-    rw (le-leb (at + length text) (length buffer) room) (take-at (take at buffer ++ text) (drop (at + length text) buffer) (at + length text) front)
+    rw (le-leb (at + length text) (length buffer) room)
+    (take-at (take at buffer ++ text) (drop (at + length text) buffer) (at + length text) front)
 
 -- a header of three bytes and the value behind it are a field
 pub field-taken : (buffer one two : List ℕ) (at tag : ℕ) (header v : List ℕ) → header ++ v ≡ fieldBytes tag v → length header ≡ 3
@@ -21,7 +25,8 @@ field-taken buffer one two at tag header v whole three a b room =
     let size = length-append header v in
     let both : at + 3 + length v ≡ at + length (header ++ v) = omega arith in
     let put : two ≡ putOf buffer at (header ++ v) =
-    b ∙ ap (λ (l : List ℕ). putOf l (at + 3) v) a ∙ ap (λ (n : ℕ). putOf (putOf buffer at header) n v) k ∙ put-behind buffer header v at (omega arith) in
+    b ∙ ap (λ (l : List ℕ). putOf l (at + 3) v) a ∙ ap (λ (n : ℕ). putOf (putOf buffer at header) n v) k
+    ∙ put-behind buffer header v at (omega arith) in
     ap (λ (n : ℕ). take n two) both ∙ ap (take (at + length (header ++ v))) put ∙ taken-put buffer (header ++ v) at (omega arith)
     ∙ ap (λ (l : List ℕ). take at buffer ++ l) whole
 
@@ -41,26 +46,21 @@ pub joined-append : (a b : List (ℕ × List ℕ)) → joined (a ++ b) ≡ joine
 unfolding joined
 joined-append [] b = refl
 joined-append (f ∷ a) b =
-    ap (λ (l : List ℕ). fieldBytes (f .0) (f .1) ++ l) (joined-append a b) ∙ sym (append-assoc (fieldBytes (f .0) (f .1)) (joined a) (joined b))
+    ap (λ (l : List ℕ). fieldBytes (f .0) (f .1) ++ l) (joined-append a b)
+    ∙ sym (append-assoc (fieldBytes (f .0) (f .1)) (joined a) (joined b))
 
-module _ (base : List ℕ) (fs : List (ℕ × List ℕ)) (taken : List ℕ) (before : taken ≡ base ++ joined fs) where
-  pub more-taken : (gs : List (ℕ × List ℕ)) (now : List ℕ) → now ≡ taken ++ joined gs → now ≡ base ++ joined (fs ++ gs)
-  more-taken gs now e =
-      e ∙ ap (λ (l : List ℕ). l ++ joined gs) before ∙ append-assoc base (joined fs) (joined gs)
-      ∙ ap (λ (l : List ℕ). base ++ l) (sym (joined-append fs gs))
+-- fields put behind what is there, one by one, and groups of fields
+abbrev behind : List ℕ → List (ℕ × List ℕ) → List ℕ
+behind base [] = base
+behind base (f ∷ fs) = behind (base ++ fieldBytes (f .0) (f .1)) fs
 
-  pub field-more : (tag : ℕ) (w v now : List ℕ) → w ≡ v → now ≡ taken ++ fieldBytes tag w → now ≡ base ++ joined (fs ++ ((tag, v) ∷ []))
-  unfolding joined
-  field-more tag w v now same e =
-      more-taken ((tag, v) ∷ []) now
-      (e ∙ ap (λ (x : List ℕ). taken ++ fieldBytes tag x) same ∙ ap (λ (l : List ℕ). taken ++ l) (sym (append-nil (fieldBytes tag v))))
-
-pub none-taken : (base : List ℕ) → base ≡ base ++ joined []
+pub laid : (base : List ℕ) (fs : List (ℕ × List ℕ)) → behind base fs ≡ base ++ joined fs
 unfolding joined
-none-taken base = sym (append-nil base)
+laid base [] = sym (append-nil base)
+laid base (f ∷ fs) = laid (base ++ fieldBytes (f .0) (f .1)) fs ∙ append-assoc base (fieldBytes (f .0) (f .1)) (joined fs)
 
-pub one-byte : {x y : ℕ} → x ≡ y → x ∷ [] ≡ y ∷ []
-one-byte e = ap (λ (n : ℕ). n ∷ []) e
+pub groups : (a b c d e : List (ℕ × List ℕ)) → joined a ++ joined b ++ joined c ++ joined d ++ joined e ≡ joined (a ++ b ++ c ++ d ++ e)
+groups a b c d e = simp joined-append
 
 pub rows-long : (n : ℕ) → (1 ≤ length (rowsBytes n)) × (length (rowsBytes n) ≤ 2)
 unfolding rowsBytes twoBytes

@@ -1,6 +1,7 @@
--- Document 01, "The order": "A float is read from its eight bytes, high byte first. Integers likewise; minutes are signed 16-bit." A number that the
--- bytes can't hold is written as one that is out of range for every tag that has such bytes, so that the reader refuses it: no number becomes another.
-use Prim.Native.Nat.{ℕ, _+_, _-_, _*_, _/_, _%_, _^_}
+-- Document 01, "The order": "A float is read from its eight bytes, high byte first. Integers likewise; minutes are signed 16-bit." A number
+-- that the bytes can't hold is written as one that is out of range for every tag that has such bytes, so that the reader refuses it: no
+-- number becomes another.
+use Prim.Native.Nat.{ℕ, _+_, _-_, _/_, _%_}
 use mathlib.Core.Bool.{cond}
 use mathlib.Core.List.{List, [], _∷_, _++_}
 use lib.Dec.{leb, ltb, eqb}
@@ -9,27 +10,32 @@ use lib.IntN.{ℤ}
 use lib.ListN.{length}
 use Rattle.integers.specs.Parts.{P, N}
 
--- one byte, and two
-unfoldable pub byteFor : ℕ → ℕ
-byteFor n = cond (leb n 255) n 255
+-- a number without a sign, in one byte and in two
+unfoldable pub upTo : (most n : ℕ) → ℕ
+upTo most n = cond (leb n most) n most
 
-unfoldable pub wordFor : ℕ → ℕ
-wordFor n = cond (leb n 65535) n 65535
+abbrev pub byteFor : ℕ → ℕ
+byteFor n = upTo 255 n
+
+abbrev pub wordFor : ℕ → ℕ
+wordFor n = upTo 65535 n
 
 unfoldable pub twoBytes : ℕ → List ℕ
 twoBytes n = n / 256 ∷ n % 256 ∷ []
 
--- sixteen bits with a sign, of a number by its parts: below zero they are counted from 65,536 down
+-- sixteen bits with a sign, of a number by how far it is above and below zero: they count around at 65,536
 unfoldable pub sixteenFor : (above below : ℕ) → ℕ
-sixteenFor above below =
-    cond (ltb 0 below) (cond (leb below 32768) (65536 - below) 32768) (cond (leb above 32767) above 32767)
+sixteenFor above below = cond (ltb 32768 below) 32767 (cond (ltb 32767 above) 32767 ((above + (65536 - below)) % 65536))
 
 abbrev pub signedBytes : ℤ → List ℕ
 signedBytes z = twoBytes (sixteenFor (P z) (N z))
 
 -- a shift of -1, 0 or 1, "stored plus 1"
 unfoldable pub shiftFor : (above below : ℕ) → ℕ
-shiftFor above below = cond (ltb 0 below) (cond (eqb below 1) 0 255) (cond (leb above 1) (above + 1) 255)
+shiftFor above below = cond (ltb 1 below) 255 (cond (ltb 1 above) 255 (above + 1 - below))
+
+abbrev pub shiftByte : ℤ → ℕ
+shiftByte z = shiftFor (P z) (N z)
 
 -- the eight bytes of a bit pattern
 unfoldable pub eightBytes : ℕ → List ℕ
@@ -44,11 +50,14 @@ eightBytes n =
     h % 256 ∷ g % 256 ∷ f % 256 ∷ e % 256 ∷ d % 256 ∷ c % 256 ∷ b % 256 ∷ n % 256 ∷ []
 
 -- -0.0, which is read as 0.0, is written as a NaN, which is out of range
-unfoldable pub patternFor : ℕ → ℕ
-patternFor n = cond (eqb n 0x8000_0000_0000_0000) 0x7ff8_0000_0000_0000 n
+abbrev pub minusZero : ℕ
+minusZero = 0x8000_0000_0000_0000
 
-abbrev pub floatBytes : Float → List ℕ
-floatBytes x = eightBytes (patternFor (toBits binary64 x))
+abbrev pub notANumber : ℕ
+notANumber = 0x7ff8_0000_0000_0000
+
+unfoldable pub floatBytes : Float → List ℕ
+floatBytes x = eightBytes (cond (eqb (toBits binary64 x) minusZero) notANumber (toBits binary64 x))
 
 -- "Fields: one-byte tag, two-byte length (high byte first), value."
 unfoldable pub fieldBytes : ℕ → List ℕ → List ℕ

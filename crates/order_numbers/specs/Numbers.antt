@@ -1,12 +1,13 @@
--- What an order asks for, in numbers: what a host gets of its bytes. Number and place are 0 and 0 if nothing is refused; each other field is 0 if the
--- order is refused.
+-- What an order asks for, in numbers: what a host gets of its bytes. Number and place are 0 and 0 if nothing is refused; each other field
+-- is 0 if the order is refused.
 use Prim.Native.Nat.{ℕ}
 use mathlib.Core.Bool.{Bool, cond}
 use mathlib.Core.List.{List}
 use lib.IntN.{pos}
 use Rattle.integers.specs.Parts.{P}
 use Rattle.float64.specs.Ops.{dec}
-use Rattle.models.specs.Numbers.{methodNumberOf, madhabNumberOf, ruleNumberOf, roundingNumberOf, shafaqNumberOf, midnightNumberOf, southernNumberOf}
+use Rattle.models.specs.Numbers.{methodNumberOf, madhabNumberOf, ruleNumberOf, roundingNumberOf, shafaqNumberOf, midnightNumberOf}
+use Rattle.models.specs.Numbers.{southernNumberOf}
 use Rattle.calendar.specs.Gregorian.{dateOf}
 use Rattle.unit.specs.Unit.{coordinatesOf}
 use Rattle.models.specs.Minutes.{noMinutes}
@@ -25,20 +26,27 @@ setNumberOf set = cond set 1 0
 
 -- what tags 15 to 17 and 20 choose
 abbrev pub choicesNumbersOf : Order → Choices
-choicesNumbersOf o = record { carry = midnightNumberOf (o .rules .midnight); clock = o .clock; southern = southernNumberOf (o .rules .southern); ramadan = setNumberOf (o .ramadan .set); imsak = o .ramadan .imsak; shift = o .ramadan .shift }
+choicesNumbersOf o = record {
+  carry = midnightNumberOf (o .setting .rules .midnight);
+  clock = o .clock;
+  southern = southernNumberOf (o .setting .rules .southern);
+  ramadan = setNumberOf (o .ramadan .set);
+  imsak = o .ramadan .imsak;
+  shift = o .ramadan .shift;
+}
 
 abbrev pub noChoicesNumbers : Choices
 noChoicesNumbers = record { carry = 0; clock = pos 0; southern = 0; ramadan = 0; imsak = 0; shift = pos 0 }
 
 unfoldable pub orderRead : Order → OrderNumbers
 orderRead o =
-    let p = o .parameters in
+    let p = o .setting .parameters in
     record {
       refusal = noRefusal;
       town = o .town;
       date = o .date;
       rows = o .rows;
-      coordinates = o .coordinates;
+      coordinates = o .setting .coordinates;
       «fajr_angle» = p .«fajr_angle»;
       «isha_angle» = p .«isha_angle»;
       method = methodNumberOf (p .method);

@@ -47,7 +47,8 @@ pub record ReadAs (bytes : List ℕ) (n : OrderNumbers) (town : List ℕ) : Type
 
 -- what the bytes of a struct are read as, if they are not refused
 abbrev pub RoundTrip : Type 0
-RoundTrip = (n : OrderNumbers) (town : List ℕ) → Floats n → orderNumbersOf (encode n town) .refusal .number ≡ 0 → ReadAs (encode n town) n town
+RoundTrip = (n : OrderNumbers) (town : List ℕ) → Floats n → orderNumbersOf (encode n town) .refusal .number ≡ 0
+    → ReadAs (encode n town) n town
 
 -- "reading what was written returns the same struct"
 abbrev pub WritesWhatIsRead : Type 0

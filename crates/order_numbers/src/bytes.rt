@@ -1,36 +1,45 @@
-// Numbers as the bytes of a field's value, high byte first. What the bytes can't hold is written out of range, so that the reader refuses it.
+// Numbers as the bytes of a field's value, high byte first, one function for each kind. A number that the bytes can't hold is written out
+// of range, so that the reader refuses it.
 ghost use mathlib.Core.Path.{_≡_};
 ghost use Prim.Native.Nat.{_≤_};
-ghost use Rattle.integers.specs.Parts.{P, N};
-ghost use Rattle.order_numbers.specs.Bytes.{byteFor, wordFor, twoBytes, signedBytes, sixteenFor, shiftFor, eightBytes, patternFor, floatBytes};
+ghost use Rattle.order_numbers.specs.Bytes.{upTo, byteFor, wordFor, twoBytes, sixteenFor, signedBytes, shiftFor, shiftByte};
+ghost use Rattle.order_numbers.specs.Bytes.{eightBytes, floatBytes};
 use float64::bits::to_bits;
 use integers::parts::above;
 use integers::parts::below;
 
+// -0.0, and the NaN that is written for it: -0.0 would be read as 0.0.
+const MINUS_ZERO: u64 = 0x8000_0000_0000_0000;
+
+const NAN: u64 = 0x7ff8_0000_0000_0000;
+
+fn up_to(most: u32, n: u32) -> u32
+    ensures { λ r. ⌜ r ≡ upTo most n ⌝ }
+    ensures { λ r. ⌜ r ≤ most ⌝ }
+{
+    if n <= most {
+        return n;
+    }
+    most
+}
+
 pub fn byte_for(n: u32) -> u8
     ensures { λ r. ⌜ r ≡ byteFor n ⌝ }
 {
-    if n <= 255 {
-        return n as u8;
-    }
-    255
+    up_to(255, n) as u8
 }
 
-pub fn word_for(n: u32) -> u32
-    ensures { λ r. ⌜ r ≡ wordFor n ⌝ }
-    ensures { λ r. ⌜ r ≤ 65535 ⌝ }
-{
-    if n <= 65535 {
-        return n;
-    }
-    65535
-}
-
-pub fn two_bytes(n: u32) -> [u8; 2]
+fn two_bytes(n: u32) -> [u8; 2]
     requires { ⌜ n ≤ 65535 ⌝ }
     ensures { λ r. ⌜ r ≡ twoBytes n ⌝ }
 {
     [(n / 256) as u8, (n % 256) as u8]
+}
+
+pub fn word_bytes(n: u32) -> [u8; 2]
+    ensures { λ r. ⌜ r ≡ twoBytes (wordFor n) ⌝ }
+{
+    two_bytes(up_to(65535, n))
 }
 
 // Sixteen bits with a sign, of a number by how far it is above and below zero.
@@ -38,16 +47,13 @@ fn sixteen_for(above: u64, below: u64) -> u32
     ensures { λ r. ⌜ r ≡ sixteenFor above below ⌝ }
     ensures { λ r. ⌜ r ≤ 65535 ⌝ }
 {
-    if 0 < below {
-        if below <= 32768 {
-            return 65536 - below as u32;
-        }
-        return 32768;
+    if below > 32768 {
+        return 32767;
     }
-    if above <= 32767 {
-        return above as u32;
+    if above > 32767 {
+        return 32767;
     }
-    32767
+    ((above + (65536 - below)) % 65536) as u32
 }
 
 pub fn signed_bytes(z: i32) -> [u8; 2]
@@ -56,26 +62,23 @@ pub fn signed_bytes(z: i32) -> [u8; 2]
     two_bytes(sixteen_for(above(z as i64), below(z as i64)))
 }
 
-fn shift_from(above: u64, below: u64) -> u8
+fn shift_for(above: u64, below: u64) -> u8
     ensures { λ r. ⌜ r ≡ shiftFor above below ⌝ }
 {
-    if 0 < below {
-        if below == 1 {
-            return 0;
-        }
+    if below > 1 {
         return 255;
     }
-    if above <= 1 {
-        return above as u8 + 1;
+    if above > 1 {
+        return 255;
     }
-    255
+    (above + 1 - below) as u8
 }
 
 // A shift of -1, 0 or 1, stored plus 1.
 pub fn shift_byte(z: i32) -> u8
-    ensures { λ r. ⌜ r ≡ shiftFor (P z) (N z) ⌝ }
+    ensures { λ r. ⌜ r ≡ shiftByte z ⌝ }
 {
-    shift_from(above(z as i64), below(z as i64))
+    shift_for(above(z as i64), below(z as i64))
 }
 
 fn eight_bytes(n: u64) -> [u8; 8]
@@ -100,18 +103,12 @@ fn eight_bytes(n: u64) -> [u8; 8]
     ]
 }
 
-// -0.0 has no bytes of its own: it would be read as 0.0.
-fn pattern_for(n: u64) -> u64
-    ensures { λ r. ⌜ r ≡ patternFor n ⌝ }
-{
-    if n == 0x8000_0000_0000_0000 {
-        return 0x7ff8_0000_0000_0000;
-    }
-    n
-}
-
 pub fn float_bytes(x: f64) -> [u8; 8]
     ensures { λ r. ⌜ r ≡ floatBytes x ⌝ }
 {
-    eight_bytes(pattern_for(to_bits(x)))
+    let n = to_bits(x);
+    if n == MINUS_ZERO {
+        return eight_bytes(NAN);
+    }
+    eight_bytes(n)
 }

@@ -1,9 +1,11 @@
 // What an order asks for, in numbers.
 ghost use mathlib.Core.Path.{_≡_};
 ghost use Rattle.integers.specs.Parts.{P};
-ghost use Rattle.order_numbers.specs.Numbers.{setNumberOf, choicesNumbersOf, noChoicesNumbers, orderRead, orderRefused, orderNumbersOf};
+ghost use Rattle.order_numbers.specs.Numbers.{setNumberOf, choicesNumbersOf, noChoicesNumbers, orderRead, orderRefused};
+ghost use Rattle.order_numbers.specs.Numbers.{orderNumbersOf};
 use calendar::dates::Date;
 use fields::values::Part;
+use integers::parts::above;
 use models::adjustments::TimeAdjustment;
 use order::reading::Order;
 use order::reading::Reading;
@@ -41,14 +43,11 @@ pub struct OrderNumbers {
     pub minutes: TimeAdjustment,
     pub choices: Choices,
 }
-// An interval that is read is never below 0 (the law `interval` of proofs/NumbersLaws.antt): the test shows that the cast loses nothing.
+// An interval that is read is never below 0 (the law `interval` of proofs/NumbersLaws.antt).
 fn interval(minutes: i32) -> u32
     ensures { λ r. ⌜ r ≡ P minutes ⌝ }
 {
-    if minutes < 0 {
-        return 0;
-    }
-    minutes as u32
+    above(minutes as i64) as u32
 }
 
 fn is_set(set: bool) -> u32
@@ -63,7 +62,8 @@ fn is_set(set: bool) -> u32
 fn choices_read(order: Order) -> Choices
     ensures { λ r. ⌜ r ≡ choicesNumbersOf order ⌝ }
 {
-    let rules = order.rules;
+    let setting = order.setting;
+    let rules = setting.rules;
     let midnight = rules.midnight;
     let southern = rules.southern;
     let ramadan = order.ramadan;
@@ -95,8 +95,9 @@ fn order_read(order: Order) -> OrderNumbers
 {
     let town = order.town;
     let date = order.date;
-    let coordinates = order.coordinates;
-    let parameters = order.parameters;
+    let setting = order.setting;
+    let coordinates = setting.coordinates;
+    let parameters = setting.parameters;
     let method = parameters.method;
     let madhab = parameters.madhab;
     let high_latitude_rule = parameters.high_latitude_rule;

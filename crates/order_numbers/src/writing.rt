@@ -1,8 +1,12 @@
 // Writing an order.
 ghost use mathlib.Core.Path.{_≡_};
-ghost use Rattle.order_numbers.specs.Writing.{refusedOf, orderCallOf};
+ghost use Prim.Native.Nat.{_≤_};
+ghost use lib.ListN.{length};
+ghost use Rattle.order.specs.Reading.{readingOf};
+ghost use Rattle.order_numbers.specs.Values.{lineLength};
+ghost use Rattle.order_numbers.specs.Writing.{refusedOf, callIn, orderCallOf};
 use super::numbers::OrderNumbers;
-use super::put::MOST_BYTES;
+use super::put::LINE_LENGTH;
 use super::put::put_order;
 use order::reading::Reading;
 use order::reading::read;
@@ -26,25 +30,34 @@ fn refuse(refusal: Refusal) -> WrittenOrder
     }
 }
 
-// The order's bytes are made by themselves first and read back: what the reader refuses is refused, before the buffer is looked at. The refusal and
-// the town's place in the struct are not looked at: the town is given by itself.
+// An order's bytes are read back: what the reader refuses is refused, before the buffer is looked at.
+fn hand_out(text: &[u8], buffer: &mut [u8]) -> WrittenOrder
+    requires { ⌜ length (now text) ≤ lineLength ⌝ }
+    ensures { λ r. ⌜ r ≡ callIn (readingOf (now (text .entry))) (now (text .entry)) (now (buffer .entry)) .answer ⌝ }
+    ensures { λ _. ⌜ now (buffer .exit) ≡ callIn (readingOf (now (text .entry))) (now (text .entry)) (now (buffer .entry)) .buffer ⌝ }
+{
+    match read(text) {
+        Reading::Refused(refusal) => refuse(refusal),
+        Reading::Read(_) => {
+            if text.len() > buffer.len() {
+                return refuse(Refusal::new(BUFFER_SHORT, 0));
+            }
+            put(&mut buffer[..], 0, text);
+            WrittenOrder {
+                refusal: Refusal::none(),
+                length: text.len() as u32,
+            }
+        }
+    }
+}
+
+// The order's bytes are made by themselves first. The refusal and the town's place in the struct are not looked at: the town is given by
+// itself.
 pub fn write_order(numbers: OrderNumbers, town: &[u8], buffer: &mut [u8]) -> WrittenOrder
     ensures { λ r. ⌜ r ≡ orderCallOf numbers (now (town .entry)) (now (buffer .entry)) .answer ⌝ }
     ensures { λ _. ⌜ now (buffer .exit) ≡ orderCallOf numbers (now (town .entry)) (now (buffer .entry)) .buffer ⌝ }
 {
-    let mut line = [0u8; MOST_BYTES];
+    let mut line = [0u8; LINE_LENGTH];
     let length = put_order(&mut line, numbers, town);
-    match read(&line[..length]) {
-        Reading::Refused(refusal) => refuse(refusal),
-        Reading::Read(_) => {
-            if length > buffer.len() {
-                return refuse(Refusal::new(BUFFER_SHORT, 0));
-            }
-            put(&mut buffer[..], 0, &line[..length]);
-            WrittenOrder {
-                refusal: Refusal::none(),
-                length: length as u32,
-            }
-        }
-    }
+    hand_out(&line[..length], &mut buffer[..])
 }

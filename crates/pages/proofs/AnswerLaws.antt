@@ -1,7 +1,7 @@
 -- What a call that asks for rows answers, case by case. Assumes nothing.
 use Rattle.prelude.proofs.Logic.{_≡_, refl, sym, ap, _∙_, List, [], _∷_, ℕ, _+_, _-_, _≤_, _<_, arith, length, lt-ltb, le-ltb}
 use Rattle.braille.specs.Braille.{dotsOf}
-use Rattle.calls.specs.Calls.{lacksRow}
+use Rattle.days.specs.Calls.{lacksRow}
 use Rattle.order.specs.declared.reading.Order.{Order}
 use Rattle.order.specs.declared.reading.Reading.the-variants.{Read, Refused}
 use Rattle.order.specs.Reading.{readingOf}
@@ -33,7 +33,8 @@ rows-none [] buffer e = refl
 rows-none (row ∷ rows) buffer e = absurd (omega arith)
 
 -- rows that were written are those that were asked for
-pub rows-answered : (rows asked : Rows) (result : Punched) (buffer after : List ℕ) → 1 ≤ length asked → rows ≡ asked → result ≡ punchedOf rows
+pub rows-answered : (rows asked : Rows) (result : Punched) (buffer after : List ℕ) → 1 ≤ length asked → rows ≡ asked
+    → result ≡ punchedOf rows
     → after ≡ frontOf (cellsOf rows) buffer → (result ≡ putCallOf asked buffer .answer) × (after ≡ putCallOf asked buffer .buffer)
 rows-answered rows asked result buffer after h e r f =
     let some = sym (rows-some asked buffer h) in (
@@ -44,7 +45,8 @@ rows-answered rows asked result buffer after h e r f =
 -- rows by their first and the one behind their last
 pub rows-counted : (o : Order) (row count dots : ℕ) (none : Refusal) (buffer after : List ℕ) → none ≡ noRefusal
     → dots ≡ dotsOf (cellsOf (rowsFrom o row (row + count - row))) → after ≡ frontOf (cellsOf (rowsFrom o row (row + count - row))) buffer
-    → (record { refusal = none; rows = count; dots = dots } ≡ punchedOf (rowsFrom o row count)) × (after ≡ frontOf (cellsOf (rowsFrom o row count)) buffer)
+    → (record { refusal = none; rows = count; dots = dots } ≡ punchedOf (rowsFrom o row count))
+    × (after ≡ frontOf (cellsOf (rowsFrom o row count)) buffer)
 rows-counted o row count dots none buffer after n d f =
     let e : row + count - row ≡ count = omega arith in
     let l = rows-length o row count in

@@ -1,7 +1,8 @@
 -- A host's calls on a page, whatever scratches it lends, give the page. Assumes nothing.
-use Rattle.prelude.proofs.Logic.{_≡_, refl, sym, ap, _∙_, List, [], _∷_, _++_, ℕ, zero, suc, _+_, _-_, _*_, _/_, _≤_, _<_, min, arith, ltb, length, take, drop, drop-of-length-le, take-all, take-at, drop-drop, ltb-true, ltb-false, cases}
+use Rattle.prelude.proofs.Logic.{_≡_, refl, sym, ap, _∙_, List, [], _∷_, _++_, ℕ, zero, suc, _+_, _-_, _*_, _/_, _≤_, _<_, min, arith, ltb}
+use Rattle.prelude.proofs.Logic.{length, take, drop, drop-of-length-le, take-all, take-at, drop-drop, ltb-true, ltb-false, cases}
 use Rattle.braille.specs.Braille.{dotsOf}
-use Rattle.calls.specs.Calls.{lacksRow}
+use Rattle.days.specs.Calls.{lacksRow}
 use Rattle.order.specs.declared.reading.Order.{Order}
 use Rattle.order.specs.declared.reading.Reading.{Reading}
 use Rattle.order.specs.declared.reading.Reading.the-variants.{Read, Refused}
@@ -24,7 +25,8 @@ took (suc k) [] = refl
 took (suc k) (row ∷ rows) = ap (λ (l : Rows). row ∷ l) (took k rows)
 
 -- a piece, and the rest from the row behind it
-rest : (rows : Rows) (first room : ℕ) → cellsOf (pieceOf rows first room) ++ cellsOf (drop (first + length (pieceOf rows first room)) rows) ≡ cellsOf (drop first rows)
+rest : (rows : Rows) (first room : ℕ) → cellsOf (pieceOf rows first room)
+    ++ cellsOf (drop (first + length (pieceOf rows first room)) rows) ≡ cellsOf (drop first rows)
 rest rows first room =
     let piece = pieceOf rows first room in
     ap (λ (l : Rows). cellsOf piece ++ cellsOf l) (sym (drop-drop (length piece) first rows))
@@ -53,7 +55,8 @@ module _ (s : List ℕ) (page : ℕ) (o : Order) (e : readingOf s ≡ Read o) wh
       let put = r ∙ rows-some piece scratch (omega (arith, w .some)) in
       let a : pageCallOf s page first scratch .answer ≡ punchedOf piece = same-answer put in
       let k : pageCallOf s page first scratch .answer .rows ≡ length piece = ap (λ (p : Punched). p .rows) a in
-      let c : length (cellsOf piece) ≡ 39 * length piece = ap (λ (x : Rows). length (cellsOf x)) (sym (w .rows)) ∙ cells-length o row taken ∙ ap (λ (n : ℕ). 39 * n) l in
+      let c : length (cellsOf piece) ≡ 39 * length piece = ap (λ (x : Rows). length (cellsOf x)) (sym (w .rows)) ∙ cells-length o row taken
+      ∙ ap (λ (n : ℕ). 39 * n) l in
       record {
         none = ap (λ (p : Punched). p .refusal) a;
         some = omega (arith, w .some);
@@ -164,7 +167,8 @@ module _ (s : List ℕ) (page : ℕ) (r : Refusal) (e : readingOf s ≡ Refused 
       let a = refused-answer first scratch long in
       (ap (λ (p : Punched). take (39 * p .rows) (pageCallOf s page first scratch .buffer)) a, ap (λ (p : Punched). p .dots) a)
 
-  nothing-in-all : (lent : ℕ → List ℕ) → ((n : ℕ) → 39 ≤ length (lent n)) → {n first dots : ℕ} {cells : List ℕ} → Calls s page lent n first cells dots
+  nothing-in-all : (lent : ℕ → List ℕ) → ((n : ℕ) → 39 ≤ length (lent n)) → {n first dots : ℕ} {cells : List ℕ}
+      → Calls s page lent n first cells dots
       → (cells ≡ []) × (dots ≡ 0)
   nothing-in-all lent long (ended z) = (refl, refl)
   nothing-in-all lent long (called {n} {first} {dots} {cells} z calls) =
@@ -202,4 +206,5 @@ at-once-as-before s page scratch room = by-reading (readingOf s) refl
         ∙ ap (λ (l : Rows). putCallOf l scratch) (whole-piece s page o e scratch room)
         ∙ sym (order-read (λ o. pageOf o page) 975 s scratch room o e)
     by-reading (Refused r) e =
-        order-refused (pieceIn page 0 scratch) 39 s scratch (omega arith) r e ∙ sym (order-refused (λ o. pageOf o page) 975 s scratch room r e)
+        order-refused (pieceIn page 0 scratch) 39 s scratch (omega arith) r e
+        ∙ sym (order-refused (λ o. pageOf o page) 975 s scratch room r e)

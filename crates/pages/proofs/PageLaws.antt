@@ -1,5 +1,6 @@
 -- The rows of a page, and those of all pages. Assumes nothing.
-use Rattle.prelude.proofs.Logic.{_≡_, refl, sym, ap, subst, _∙_, List, [], _∷_, _++_, ℕ, zero, suc, _+_, _-_, _*_, _≤_, _<_, min, arith, length, take, drop, drop-of-length-le, take-all, take-add, take-nil}
+use Rattle.prelude.proofs.Logic.{_≡_, refl, sym, ap, subst, _∙_, List, [], _∷_, _++_, ℕ, zero, suc, _+_, _-_, _*_, _≤_, _<_, min, arith}
+use Rattle.prelude.proofs.Logic.{length, take, drop, drop-of-length-le, take-all, take-add, take-nil}
 use Rattle.braille.specs.Braille.{SixDots}
 use Rattle.order.specs.declared.reading.Order.{Order}
 use Rattle.pages.specs.Pages.{Rows, rowsFrom, rowsOf, cellsOf, pageOf, pieceOf, pageCount, pagesCells, allCells}
@@ -36,7 +37,8 @@ module _ (o : Order) where
       ∙ ap (λ (k : ℕ). rowsFrom o k (length (pageOf o (suc p)))) e
 
   -- where a page has rows it is a page of the order, and they are the order's
-  pub page-within : (page : ℕ) → 1 ≤ length (pageOf o page) → (1 ≤ page) × (25 * (page - 1) + length (pageOf o page) ≤ o .rows) × (length (pageOf o page) ≤ 25)
+  pub page-within : (page : ℕ) → 1 ≤ length (pageOf o page) → (1 ≤ page) × (25 * (page - 1) + length (pageOf o page) ≤ o .rows)
+      × (length (pageOf o page) ≤ 25)
   unfolding pageOf
   page-within zero h = absurd (omega arith)
   page-within (suc p) h = let e = suc-length p in (omega arith, omega arith, omega arith)
@@ -67,7 +69,8 @@ module _ (o : Order) where
     pub within : 25 * (page - 1) + first + taken ≤ o .rows
     pub rows : rowsFrom o (25 * (page - 1) + first) taken ≡ pieceOf (pageOf o page) first room
 
-  pub piece-written : (page first room count taken : ℕ) → count ≡ length (pageOf o page) → first < count → 1 ≤ room → taken ≡ min room (count - first)
+  pub piece-written : (page first room count taken : ℕ) → count ≡ length (pageOf o page) → first < count → 1 ≤ room
+      → taken ≡ min room (count - first)
       → Written page first room taken
   piece-written page first room count taken e has one t =
       let w = page-within page (omega arith) in
@@ -76,7 +79,8 @@ module _ (o : Order) where
         some = omega arith;
         fit = omega arith;
         within = omega (arith, w .1);
-        rows = ap (rowsFrom o (25 * (page - 1) + first)) (t ∙ ap (λ (n : ℕ). min room (n - first)) e) ∙ sym (piece-rows page first room (w .0));
+        rows = ap (rowsFrom o (25 * (page - 1) + first)) (t ∙ ap (λ (n : ℕ). min room (n - first)) e)
+            ∙ sym (piece-rows page first room (w .0));
       }
 
   pages-taken : (n : ℕ) → pagesCells o n ≡ cellsOf (take (25 * n) (rowsOf o))

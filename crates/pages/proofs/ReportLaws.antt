@@ -24,7 +24,8 @@ total-length dots k e =
     (omega arith, omega arith)
 
 pub total-made : (buffer one two three : List ℕ) (dots k : ℕ) → longestWear ≤ length buffer → one ≡ putOf buffer 0 (ascii "dots ")
-    → k ≡ length (decimalOf dots) → two ≡ putOf one 5 (decimalOf dots) → three ≡ putOf two (5 + k) (ascii "\n") → three ≡ frontOf (totalText dots) buffer
+    → k ≡ length (decimalOf dots) → two ≡ putOf one 5 (decimalOf dots) → three ≡ putOf two (5 + k) (ascii "\n")
+    → three ≡ frontOf (totalText dots) buffer
 unfolding totalText numberText
 total-made buffer one two three dots k room p e q r =
     let a = length-append (ascii "dots ") (decimalOf dots) in
@@ -44,7 +45,8 @@ all-length o = ap length (all-cells o) ∙ cells-length o 0 (o .rows)
 
 module _ (s buffer after : List ℕ) (n : ℕ) where
   pub wear-fits : n ≡ printedLength longestWear (wearText s) buffer → length after ≡ length buffer → n ≤ length after
-  wear-fits = report-fits wearOf longestWear s (λ o e. let t = total-length (dotsOf (allCells o)) _ refl in omega (arith, t .1)) (lit≤ tt) buffer after n
+  wear-fits = report-fits wearOf longestWear s (λ o e. let t = total-length (dotsOf (allCells o)) _ refl in omega (arith, t .1))
+      (lit≤ tt) buffer after n
 
   pub pages-fit : n ≡ printedLength longestCells (cellsText s) buffer → length after ≡ length buffer → n ≤ length after
   pages-fit =

@@ -1,12 +1,13 @@
 -- Rows that roll, and their cells behind one another. Assumes nothing.
-use Rattle.prelude.proofs.Logic.{_≡_, refl, sym, ap, _∙_, List, [], _∷_, _++_, append-nil, ℕ, _+_, _-_, _*_, _≤_, _<_, arith, length, w32, SFits}
+use Rattle.prelude.proofs.Logic.{_≡_, refl, sym, ap, _∙_, List, [], _∷_, _++_, append-nil, ℕ, _+_, _-_, _*_, _≤_, _<_, arith, length, w32}
+use Rattle.prelude.proofs.Logic.{SFits}
 use Rattle.braille.proofs.Bits.{dots-bound}
 use Rattle.braille.proofs.Parts.{row-length}
 use Rattle.braille.specs.Braille.{dotsOf}
 use Rattle.braille.specs.Cells.{rowLength, rowCells}
 use Rattle.calendar.specs.Answers.{rowDateOf}
-use Rattle.calls.proofs.RowStates.{stateOf, workedBySuns, state-worked}
-use Rattle.calls.specs.Calls.{workRowOf}
+use Rattle.days.proofs.RowStates.{stateOf, workedBySuns, state-worked}
+use Rattle.days.specs.Calls.{workRowOf}
 use Rattle.integers.proofs.Ranges.{fits}
 use Rattle.order.specs.Accepted.{Accepted}
 use Rattle.order.specs.declared.reading.Order.{Order}
@@ -39,14 +40,15 @@ pub record Run (o : Order) (row end : ℕ) (buffer now : List ℕ) (suns : RowSu
   pub from : row ≤ next
   pub within : next < end
   pub state : suns ≡ stateOf o next
-  pub cells : now ≡ frontOf (cellsBefore o row next) buffer
+  pub cells : rowLength * (end - row) ≤ length buffer → now ≡ frontOf (cellsBefore o row next) buffer
   pub punched : dots ≡ dotsOf (cellsBefore o row next)
   pub same : length now ≡ length buffer
 
 -- behind a row: the cells up to it, their dots, and that these are not many
-abbrev pub Behind : Order → ℕ → List ℕ → ℕ → List ℕ → ℕ → Type 0
-Behind o row buffer next now dots =
-    (now ≡ frontOf (cellsBefore o row next) buffer) × (dots ≡ dotsOf (cellsBefore o row next)) × (dots ≤ 6 * (rowLength * (next - row)))
+abbrev pub Behind : Order → ℕ → ℕ → List ℕ → ℕ → List ℕ → ℕ → Type 0
+Behind o row end buffer next now dots =
+    (rowLength * (end - row) ≤ length buffer → now ≡ frontOf (cellsBefore o row next) buffer) × (dots ≡ dotsOf (cellsBefore o row next))
+    × (dots ≤ 6 * (rowLength * (next - row)))
 
 module _ (o : Order) (row : ℕ) where
   -- no row yet
@@ -74,10 +76,11 @@ module _ (o : Order) (row : ℕ) where
       let l = cells-length o row (next - row) in
       omega arith
 
-  module _ (end : ℕ) (a : Accepted o) (most : end ≤ o .rows) (buffer : List ℕ) (room : rowLength * (end - row) ≤ length buffer) where
+  module _ (end : ℕ) (a : Accepted o) (most : end ≤ o .rows) (buffer : List ℕ) where
     pub run-row : (now : List ℕ) (suns : RowSuns) (next dots : ℕ) → Run o row end buffer now suns next dots
-        → (cells after : List ℕ) (n at : ℕ) → cells ≡ madeRow o suns → n ≡ dotsOf cells → at ≡ rowLength * (next - row) → after ≡ putOf now at cells
-        → Behind o row buffer (next + 1) after (dots + n)
+        → (cells after : List ℕ) (n at : ℕ) → cells ≡ madeRow o suns → n ≡ dotsOf cells → at ≡ rowLength * (next - row)
+        → after ≡ putOf now at cells
+        → Behind o row end buffer (next + 1) after (dots + n)
     run-row now suns next dots s cells after n at m q t p =
         let w = s .within in
         let from = s .from in
@@ -90,7 +93,8 @@ module _ (o : Order) (row : ℕ) where
         let g : n ≡ dotsOf (rowOf o next) = q ∙ ap dotsOf e in
         let u = s .punched in
         let most-dots = done-dots (next + 1) in (
-          put-next buffer (cellsBefore o row next) (rowOf o next) now after at (s .cells) (t ∙ sym l) (p ∙ ap (putOf now at) e) (omega arith)
+          λ room. put-next buffer (cellsBefore o row next) (rowOf o next) now after at (s .cells room) (t ∙ sym l) (p ∙ ap (putOf now at) e)
+              (omega arith)
               ∙ ap (λ (x : List ℕ). frontOf x buffer) j,
           omega arith,
           omega arith,

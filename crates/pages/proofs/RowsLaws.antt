@@ -1,11 +1,12 @@
 -- The rows of an order as a list, and their cells. Assumes nothing.
-use Rattle.prelude.proofs.Logic.{_≡_, refl, sym, ap, _∙_, List, [], _∷_, _++_, append-assoc, ℕ, zero, suc, _+_, _-_, _*_, min, add-one, arith, length, take, drop, length-append}
+use Rattle.prelude.proofs.Logic.{_≡_, refl, sym, ap, _∙_, List, [], _∷_, _++_, append-assoc, ℕ, zero, suc, _+_, _-_, _*_, min, add-one}
+use Rattle.prelude.proofs.Logic.{arith, length, take, drop, length-append}
 use Rattle.braille.proofs.Bits.{six-append, row-six}
 use Rattle.braille.proofs.Parts.{row-length}
 use Rattle.braille.specs.Braille.{dotsOf, SixDots}
 use Rattle.braille.specs.Cells.{rowLength}
 use Rattle.calendar.specs.Answers.{rowDateOf}
-use Rattle.calls.specs.Calls.{workRowOf}
+use Rattle.days.specs.Calls.{workRowOf}
 use Rattle.order.specs.declared.reading.Order.{Order}
 use Rattle.pages.specs.Pages.{Rows, rowOf, rowsFrom, cellsOf}
 
@@ -37,7 +38,8 @@ module _ (o : Order) where
   pub cells-six : (k n : ℕ) → SixDots (cellsOf (rowsFrom o k n))
   unfolding rowsFrom cellsOf SixDots
   cells-six k zero = tt
-  cells-six k (suc n) = six-append (rowOf o k) (cellsOf (rowsFrom o (k + 1) n)) (row-six (rowDateOf (o .date) k) (workRowOf o k) (o .clock)) (cells-six (k + 1) n)
+  cells-six k (suc n) = six-append (rowOf o k) (cellsOf (rowsFrom o (k + 1) n)) (row-six (rowDateOf (o .date) k) (workRowOf o k) (o .clock))
+      (cells-six (k + 1) n)
 
   -- one row more
   rows-suc : (k n : ℕ) → rowsFrom o k (suc n) ≡ rowsFrom o k n ++ (rowOf o (k + n) ∷ [])

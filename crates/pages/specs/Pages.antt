@@ -4,7 +4,7 @@ use mathlib.Core.List.{List, [], _∷_, _++_}
 use lib.ListN.{take, drop}
 use Rattle.braille.specs.Cells.{rowCells}
 use Rattle.calendar.specs.Answers.{rowDateOf}
-use Rattle.calls.specs.Calls.{workRowOf}
+use Rattle.days.specs.Calls.{workRowOf}
 use Rattle.order.specs.declared.reading.Order.{Order}
 
 -- the cells of a row: of its own date and its day's times, or of its date alone where the day is refused

@@ -10,8 +10,8 @@ use Rattle.reports.specs.Reports.{reportText, longestRefused}
 use Rattle.text.specs.Text.{ascii}
 use Rattle.pages.specs.Pages.{allCells}
 
--- "The wear report reads an order as the sheet program does, prints a refused one alike, and else prints `dots`, a blank and the dots punched: ..
--- the printed total equals the sum over the cells of all its pages."
+-- "The wear report reads an order as the sheet program does, prints a refused one alike, and else prints `dots`, a blank and the dots
+-- punched: .. the printed total equals the sum over the cells of all its pages."
 unfoldable pub totalText : ℕ → List ℕ
 totalText dots = numberText (ascii "dots ") dots ++ ascii "\n"
 

@@ -9,7 +9,7 @@ ghost use Rattle.pages.specs.Answers.{putCallOf, pieceIn, pageCallOf};
 use super::answer::Punched;
 use super::rows::write_rows;
 use braille::row::ROW_CELLS;
-use calls::day::lacks_row;
+use days::day::lacks_row;
 use order::reading::Order;
 use order::reading::Reading;
 use order::reading::read;
@@ -34,7 +34,7 @@ fn rows_on(order: Order, page: u32) -> u32
 }
 
 // The number of rows that fit and are left.
-fn least(room: usize, left: u32) -> u32
+fn rows_that_fit(room: usize, left: u32) -> u32
     ensures { λ r. ⌜ r ≡ min room left ⌝ }
 {
     if room < left as usize {
@@ -53,7 +53,7 @@ fn write_read(scratch: &mut [u8], order: Order, page: u32, first: u32) -> Punche
     if first >= count {
         return Punched::refused(lacks_row());
     }
-    let taken = least(scratch.len() / ROW_CELLS, count - first);
+    let taken = rows_that_fit(scratch.len() / ROW_CELLS, count - first);
     write_rows(
         &mut scratch[..],
         order,
@@ -62,8 +62,8 @@ fn write_read(scratch: &mut [u8], order: Order, page: u32, first: u32) -> Punche
     )
 }
 
-// Writes the rows of a page from its row `first` on, as many as fit the scratch and are left. Returns 9 if the scratch is shorter than a row of cells.
-// This is checked first.
+// Writes the rows of a page from its row `first` on, as many as fit the scratch and are left. Returns 9 if the scratch is shorter than a
+// row of cells. This is checked first.
 pub fn write_page(order: &[u8], page: u32, first: u32, scratch: &mut [u8]) -> Punched
     ensures { λ r. ⌜ r ≡ pageCallOf (now (order .entry)) page first (now (scratch .entry)) .answer ⌝ }
     ensures { λ _. ⌜ now (scratch .exit) ≡ pageCallOf (now (order .entry)) page first (now (scratch .entry)) .buffer ⌝ }

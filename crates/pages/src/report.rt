@@ -23,12 +23,12 @@ pub const WEAR_BYTES: usize = 62;
 
 pub const CELLS_BYTES: usize = ROW_CELLS * MOST_ROWS as usize;
 
-// The dots of all pages: those of all rows, whatever page each is on.
+// The dots of all pages: those of all rows, whatever page each is on. No cell is kept.
 fn all_dots(order: Order) -> u32
     requires { ⌜ Accepted order ⌝ }
     ensures { λ r. ⌜ r ≡ dotsOf (allCells order) ⌝ }
 {
-    let mut cells = [0u8; CELLS_BYTES];
+    let mut cells = [0u8; 0];
     put_rows(&mut cells, order, 0, order.rows)
 }
 

@@ -8,7 +8,7 @@ ghost use Rattle.pages.specs.Answers.{oneRow, putCallOf, cellsCallOf};
 use super::answer::Punched;
 use super::rows::write_rows;
 use braille::row::ROW_CELLS;
-use calls::day::lacks_row;
+use days::day::lacks_row;
 use order::reading::Order;
 use order::reading::Reading;
 use order::reading::read;

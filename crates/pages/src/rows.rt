@@ -15,29 +15,28 @@ use order::reading::Order;
 use refusals::Refusal;
 use schedule::rolling::RowSuns;
 
-// Writes the rows from `row` to before `end` and returns their dots. Each row takes over what it can from the one before it.
+// Writes the rows from `row` to before `end`, if the buffer has room for them, and returns their dots, if it has or not. Each row takes
+// over what it can from the one before it.
 pub fn put_rows(buffer: &mut [u8], order: Order, row: u32, end: u32) -> u32
-    requires { ⌜ Accepted order × (row < end) × (end ≤ order .rows) × (rowLength * (end - row) ≤ length (now buffer)) ⌝ }
+    requires { ⌜ Accepted order × (row < end) × (end ≤ order .rows) ⌝ }
     ensures { λ r. ⌜ r ≡ dotsOf (cellsOf (rowsFrom order row (end - row))) ⌝ }
-    ensures { λ _. ⌜ now (buffer .exit) ≡ frontOf (cellsOf (rowsFrom order row (end - row))) (now (buffer .entry)) ⌝ }
+    ensures { λ _. ⌜ (rowLength * (end - row) ≤ length (now (buffer .entry))
+        → now (buffer .exit) ≡ frontOf (cellsOf (rowsFrom order row (end - row))) (now (buffer .entry))) ⌝ }
 {
     let first = order.date;
-    let coordinates = order.coordinates;
-    let parameters = order.parameters;
-    let rules = order.rules;
-    let latitude = coordinates.latitude;
-    let mut suns = RowSuns::new(first.row(row), coordinates, parameters, rules);
+    let setting = order.setting;
+    let mut suns = RowSuns::new(first.row(row), setting);
     let mut next = row;
     let mut dots = 0;
     loop {
-        let worked = suns.work(latitude, parameters, rules);
+        let worked = suns.work(setting);
         let at = ROW_CELLS * (next - row) as usize;
         dots = dots + put_cells(&mut buffer[..], at, suns.date, worked, order.clock);
         next = next + 1;
         if next >= end {
             return dots;
         }
-        suns = suns.next(coordinates, parameters, rules);
+        suns = suns.next(setting);
     }
 }
 

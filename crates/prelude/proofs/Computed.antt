@@ -1,5 +1,6 @@
 -- A rule for each number below n, by one test that antt computes. Assumes nothing.
-use Rattle.prelude.proofs.Logic.{_≡_, subst, sym, Bool, true, false, not, _&&_, _||_, ⊎-elim, ℕ, zero, suc, _<_, eq-or-lt-of-le, le-of-suc-le-suc, not-suc-le-zero, T, and-l, and-r}
+use Rattle.prelude.proofs.Logic.{_≡_, subst, sym, Bool, true, false, not, _&&_, _||_, ⊎-elim, ℕ, zero, suc, _<_, eq-or-lt-of-le}
+use Rattle.prelude.proofs.Logic.{le-of-suc-le-suc, not-suc-le-zero, T, and-l, and-r}
 
 -- the test f passes at each number below n
 abbrev pub below : (ℕ → Bool) → ℕ → Bool

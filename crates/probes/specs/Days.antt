@@ -1,13 +1,18 @@
--- A day's numbers, settings and answers as the exports take and hand them out.
+-- A day's numbers, settings and results as the exports take and return them.
 use mathlib.Core.Bool.{true, false}
 use lib.IntN.{pos}
+use lib.Ieee.{Float}
+use Rattle.models.specs.Chosen.{settingOf}
 use Rattle.models.specs.Minutes.{sixMinutesOf}
-use Rattle.models.specs.Numbers.{methodOf, methodNumberOf, madhabOf, madhabNumberOf, ruleOf, ruleNumberOf, roundingOf, roundingNumberOf, shafaqOf, shafaqNumberOf, midnightOf, southernOf}
+use Rattle.models.specs.Numbers.{methodOf, methodNumberOf, madhabOf, madhabNumberOf, ruleOf, ruleNumberOf, roundingOf, roundingNumberOf}
+use Rattle.models.specs.Numbers.{shafaqOf, shafaqNumberOf, midnightOf, southernOf}
 use Rattle.models.specs.Presets.{presetOf}
 use Rattle.models.specs.declared.adjustments.TimeAdjustment.{TimeAdjustment}
 use Rattle.models.specs.declared.parameters.Parameters.{Parameters}
 use Rattle.models.specs.declared.rules.Rules.{Rules}
+use Rattle.models.specs.declared.setting.Setting.{Setting}
 use Rattle.refusals.specs.Refusals.{noRefusal}
+use Rattle.unit.specs.Unit.{coordinatesOf}
 use Rattle.solar.specs.declared.hours.HourNumbers.{HourNumbers}
 use Rattle.schedule.specs.declared.hours.RowNumbers.{RowNumbers}
 use Rattle.schedule.specs.declared.prayer_times.PrayerTimes.{PrayerTimes}
@@ -26,7 +31,15 @@ abbrev pub sunOf : ProbeSun → HourNumbers
 sunOf s = record { transit = s .transit; sunrise = s .sunrise; sunset = s .sunset }
 
 abbrev pub rowNumbersOf : ProbeNumbers → RowNumbers
-rowNumbersOf n = record { today = sunOf (n .today); tomorrow = sunOf (n .tomorrow); after = sunOf (n .after); fajr = n .fajr; asr = n .asr; isha = n .isha; «fajr_tomorrow» = n .«fajr_tomorrow» }
+rowNumbersOf n = record {
+  today = sunOf (n .today);
+  tomorrow = sunOf (n .tomorrow);
+  after = sunOf (n .after);
+  fajr = n .fajr;
+  asr = n .asr;
+  isha = n .isha;
+  «fajr_tomorrow» = n .«fajr_tomorrow»;
+}
 
 abbrev pub minutesFrom : ProbeSettings → TimeAdjustment
 minutesFrom s = sixMinutesOf (s .fajr) (s .sunrise) (s .dhuhr) (s .asr) (s .maghrib) (s .isha)
@@ -52,6 +65,9 @@ parametersFrom s =
 abbrev pub rulesFrom : ProbeRules → Rules
 rulesFrom r = record { midnight = midnightOf (r .carry); southern = southernOf (r .southern) }
 
+abbrev pub settingFrom : Float → Float → ProbeSettings → ProbeRules → Setting
+settingFrom latitude longitude settings chosen = settingOf (coordinatesOf latitude longitude) (parametersFrom settings) (rulesFrom chosen)
+
 unfoldable pub settingsOf : Parameters → ProbeSettings
 settingsOf p =
     let m = p .adjustments in
@@ -73,7 +89,17 @@ settingsOf p =
     }
 
 abbrev pub noTimes : PrayerTimes
-noTimes = record { fajr = pos 0; sunrise = pos 0; dhuhr = pos 0; asr = pos 0; maghrib = pos 0; isha = pos 0; «middle_of_the_night» = pos 0; qiyam = pos 0; «fajr_tomorrow» = pos 0 }
+noTimes = record {
+  fajr = pos 0;
+  sunrise = pos 0;
+  dhuhr = pos 0;
+  asr = pos 0;
+  maghrib = pos 0;
+  isha = pos 0;
+  «middle_of_the_night» = pos 0;
+  qiyam = pos 0;
+  «fajr_tomorrow» = pos 0;
+}
 
 unfoldable pub probeDayOf : Worked → ProbeDay
 probeDayOf (Times t) = record { refusal = noRefusal; times = t }

@@ -3,12 +3,12 @@ ghost use mathlib.Core.Path.{_≡_};
 ghost use Rattle.calendar.specs.Gregorian.{dateOf};
 ghost use Rattle.models.specs.Numbers.{methodOf};
 ghost use Rattle.models.specs.Presets.{presetOf};
-ghost use Rattle.unit.specs.Unit.{coordinatesOf};
-ghost use Rattle.schedule.specs.Hours.{hoursOf};
-ghost use Rattle.schedule.specs.Times.{seasonOf, workedOf, workedAt};
+ghost use Rattle.float64.specs.Ops.{dec};
+ghost use Rattle.schedule.specs.Times.{workedBy, workedAt};
 ghost use Rattle.schedule.specs.InForce.{currentTimeOf, currentNumberOf, nextOf, timeRemainingOf};
-ghost use Rattle.calls.specs.Calls.{instantOf};
-ghost use Rattle.probes.specs.Days.{sunOf, rowNumbersOf, minutesFrom, parametersFrom, rulesFrom, settingsOf, noTimes, probeDayOf, probeRemainingOf};
+ghost use Rattle.days.specs.Calls.{instantOf};
+ghost use Rattle.probes.specs.Days.{sunOf, rowNumbersOf, minutesFrom, parametersFrom, rulesFrom, settingFrom, settingsOf, noTimes};
+ghost use Rattle.probes.specs.Days.{probeDayOf, probeRemainingOf};
 use calendar::dates::Date;
 use models::adjustments::TimeAdjustment;
 use models::high_altitude_rule::HighLatitudeRule;
@@ -19,6 +19,7 @@ use models::rounding::Rounding;
 use models::rules::Midnight;
 use models::rules::Rules;
 use models::rules::Southern;
+use models::setting::Setting;
 use models::shafaq::Shafaq;
 use refusals::Refusal;
 use schedule::hours::RowNumbers;
@@ -152,6 +153,16 @@ fn rules(r: ProbeRules) -> Rules
     }
 }
 
+fn setting(latitude: f64, longitude: f64, settings: ProbeSettings, chosen: ProbeRules) -> Setting
+    ensures { λ r. ⌜ r ≡ settingFrom latitude longitude settings chosen ⌝ }
+{
+    Setting {
+        coordinates: Coordinates::new(latitude, longitude),
+        parameters: parameters(settings),
+        rules: rules(chosen),
+    }
+}
+
 // A method's own settings.
 #[no_mangle]
 pub extern "C" fn probe_preset(method: u32) -> ProbeSettings
@@ -213,7 +224,7 @@ fn answered(worked: Worked) -> ProbeDay
     }
 }
 
-// The day of a date, from the hour numbers.
+// The day of a date, from the hour numbers. Beside them no longitude is needed.
 #[no_mangle]
 pub extern "C" fn probe_day(
     numbers: ProbeNumbers,
@@ -224,14 +235,13 @@ pub extern "C" fn probe_day(
     settings: ProbeSettings,
     chosen: ProbeRules,
 ) -> ProbeDay
-    ensures { λ r. ⌜ r ≡ probeDayOf (workedOf (hoursOf (rulesFrom chosen .midnight) (rowNumbersOf numbers)) (dateOf year month day) (seasonOf latitude (rulesFrom chosen)) (parametersFrom settings)) ⌝ }
+    ensures { λ r.
+        ⌜ r ≡ probeDayOf (workedBy (rowNumbersOf numbers) (dateOf year month day) (settingFrom latitude (dec 0 0) settings chosen)) ⌝ }
 {
     answered(PrayerTimes::new(
         row(numbers),
         Date::new(year, month, day),
-        latitude,
-        parameters(settings),
-        rules(chosen),
+        setting(latitude, 0.0, settings, chosen),
     ))
 }
 
@@ -246,18 +256,11 @@ pub extern "C" fn probe_row(
     settings: ProbeSettings,
     chosen: ProbeRules,
 ) -> ProbeDay
-    ensures { λ r. ⌜ r ≡ probeDayOf (workedAt (dateOf year month day) (coordinatesOf latitude longitude) (parametersFrom settings) (rulesFrom chosen)) ⌝ }
+    ensures { λ r. ⌜ r ≡ probeDayOf (workedAt (dateOf year month day) (settingFrom latitude longitude settings chosen)) ⌝ }
 {
     let date = Date::new(year, month, day);
-    let parameters = parameters(settings);
-    let chosen = rules(chosen);
-    let suns = RowSuns::new(
-        date,
-        Coordinates::new(latitude, longitude),
-        parameters,
-        chosen,
-    );
-    answered(suns.work(latitude, parameters, chosen))
+    let setting = setting(latitude, longitude, settings, chosen);
+    answered(RowSuns::new(date, setting).work(setting))
 }
 
 fn instant(seconds: i64, nanoseconds: u32) -> Instant
@@ -278,7 +281,7 @@ fn number(current: Current) -> u32
     }
 }
 
-// The number of the prayer in force, 0 where there is none.
+// The number of the prayer in force, or 0 if there is none.
 #[no_mangle]
 pub extern "C" fn probe_current(times: PrayerTimes, seconds: i64, nanoseconds: u32) -> u32
     ensures { λ r. ⌜ r ≡ currentNumberOf (currentTimeOf times (instantOf seconds nanoseconds)) ⌝ }
@@ -294,7 +297,7 @@ pub extern "C" fn probe_next(times: PrayerTimes, seconds: i64, nanoseconds: u32)
     number(times.next(instant(seconds, nanoseconds)))
 }
 
-// The time until the next prayer; zeros where none is in force.
+// The time until the next prayer, or zeros if none is in force.
 #[repr(C)]
 pub struct ProbeRemaining {
     pub found: bool,

@@ -27,7 +27,7 @@ use ops::season::season_adjusted_morning_twilight;
 use ops::transit::Course;
 use solar::hours::afternoon_number;
 use solar::hours::angle_number;
-use solar::hours::date_sun;
+use solar::hours::date_course;
 use solar::hours::hour_numbers;
 use solar::setting::SolarHour;
 use solar::setting::setting_hour;
@@ -164,7 +164,7 @@ pub struct ProbeHours {
 fn course(year: u32, month: u32, day: u32, latitude: f64, longitude: f64) -> Course
     ensures { λ r. ⌜ r ≡ dateCourseOf (dateOf year month day) (coordinatesOf latitude longitude) ⌝ }
 {
-    date_sun(
+    date_course(
         Date::new(year, month, day),
         Coordinates::new(latitude, longitude),
     )
@@ -189,7 +189,7 @@ pub extern "C" fn probe_hour_numbers(
     }
 }
 
-// The hour number at which the sun stands at an angle.
+// The hour number at which the sun is at an angle.
 #[no_mangle]
 pub extern "C" fn probe_angle_number(
     year: u32,

@@ -1,4 +1,4 @@
-// What the plain reader answers as an export, for the runs on drawn and damaged orders: a host asks the other one.
+// What the plain reader returns, as an export for the runs on drawn and damaged orders: a host asks the other one.
 ghost use mathlib.Core.Path.{_≡_};
 ghost use Rattle.order.specs.Reading.{readingOf};
 ghost use Rattle.probes.specs.Readers.{plainRead, plainRefused, plainIn};
@@ -25,7 +25,8 @@ fn plain_read(order: Order) -> ProbePlain
 {
     let town = order.town;
     let date = order.date;
-    let coordinates = order.coordinates;
+    let setting = order.setting;
+    let coordinates = setting.coordinates;
     ProbePlain {
         refusal: Refusal::none(),
         town: town,

@@ -1,11 +1,11 @@
 // The whole sheet, the wear report and the week's as exports, for the runs against the crate and the benchmark.
 ghost use mathlib.Core.Path.{_≡_};
 ghost use Rattle.pages.specs.Reports.{wearText, longestWear};
-ghost use Rattle.rows.specs.Rows.{sheetLengthOf, sheetBufferOf};
+ghost use Rattle.sheets.specs.Rows.{sheetLengthOf, sheetBufferOf};
 ghost use Rattle.text.specs.Printed.{printedLength, printedBuffer};
 ghost use Rattle.weeks.specs.Report.{weekText, longestWeek};
 use pages::report::write_wear;
-use rows::sheet::write_sheet;
+use sheets::sheet::write_sheet;
 use weeks::report::write_week;
 
 #[no_mangle]

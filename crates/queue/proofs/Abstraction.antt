@@ -1,5 +1,7 @@
 -- The arrays and the list of jobs: `shown`, a list comes back from its arrays; what the parts of the code make, as lists. Assumes nothing.
-use Rattle.prelude.proofs.Logic.{_≡_, refl, sym, ap, _∙_, Bool, _||_, List, [], _∷_, _++_, map, ℕ, suc, _-_, _≤_, _<_, arith, ltb, eqb, lit≤, length, getD, set, replicate, length-append, length-map, slice, slice-cons, length-slice, take-at, ltb-true, ltb-false, arms}
+use Rattle.prelude.proofs.Logic.{_≡_, refl, sym, ap, _∙_, Bool, _||_, List, [], _∷_, _++_, map, ℕ, suc, _-_, _≤_, _<_, arith, ltb, eqb}
+use Rattle.prelude.proofs.Logic.{lit≤, length, getD, set, replicate, length-append, length-map, slice, slice-cons, length-slice, take-at}
+use Rattle.prelude.proofs.Logic.{ltb-true, ltb-false, arms}
 use Rattle.queue.specs.declared.Queue.{Queue}
 use Rattle.queue.specs.Jobs.{Job, job, waits, atBack, mostJobs}
 use Rattle.queue.specs.Arrays.{counted, paired, jobsIn, jobsOf, padded, idOf, pagesOf, queueOf}
@@ -58,10 +60,16 @@ module _ (q : Queue) (w : Whole q) (from to : ℕ) (up : to ≤ 16) where
   jobs-waits id = paired-waits id (slice from to (q .ids)) (slice from to (q .pages)) (ids-long ∙ sym pages-long)
 
   -- what `lined` makes
-  pub lined-jobs : _≡_ {A = Queue} (record { jobs = to - from; ids = padded (slice from to (q .ids)); pages = padded (slice from to (q .pages)) }) (queueOf (jobsIn q from to))
+  pub lined-jobs : _≡_
+      {A = Queue} (record { jobs = to - from; ids = padded (slice from to (q .ids)); pages = padded (slice from to (q .pages)) })
+      (queueOf (jobsIn q from to))
   lined-jobs =
       let e = ids-long ∙ sym pages-long in
-      rw (jobs-length, paired-ids (slice from to (q .ids)) (slice from to (q .pages)) e, paired-pages (slice from to (q .ids)) (slice from to (q .pages)) e)
+      rw (
+        jobs-length,
+        paired-ids (slice from to (q .ids)) (slice from to (q .pages)) e,
+        paired-pages (slice from to (q .ids)) (slice from to (q .pages)) e,
+      )
 
   -- the job at the front of them
   pub jobs-first : from < to → jobsIn q from to ≡ job (getD (q .ids) from 0) (getD (q .pages) from 0) ∷ jobsIn q (suc from) to
@@ -92,4 +100,8 @@ padded-take l n e = take-at l (replicate (16 - length l) 0) n e
 
 pub shown : (l : List Job) → length l ≤ 16 → jobsOf (queueOf l) ≡ l
 shown l h =
-    rw (counted-small (length l) h, padded-take (map idOf l) (length l) (length-map l idOf), padded-take (map pagesOf l) (length l) (length-map l pagesOf)) (paired-back l)
+    rw (
+      counted-small (length l) h,
+      padded-take (map idOf l) (length l) (length-map l idOf),
+      padded-take (map pagesOf l) (length l) (length-map l pagesOf),
+    ) (paired-back l)

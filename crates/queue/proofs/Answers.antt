@@ -12,13 +12,17 @@ use Rattle.queue.proofs.Steps.{join-cases}
 use Rattle.queue.proofs.Abstraction.{Whole, counted-most, jobs-length, jobs-waits, jobs-first, last-jobs}
 
 -- ---- joins of a list of jobs
-admitted-when : (l : List Job) (id pages : ℕ) → refusalIn (joinOf l id pages .event) .number ≡ 0 → (length l < mostJobs) × (joinOf l id pages ≡ admits l id pages)
+admitted-when : (l : List Job) (id pages : ℕ) → refusalIn (joinOf l id pages .event) .number ≡ 0
+    → (length l < mostJobs) × (joinOf l id pages ≡ admits l id pages)
 admitted-when l id pages =
-    join-cases (λ (s : QueueStep). refusalIn (s .event) .number ≡ 0 → (length l < mostJobs) × (s ≡ admits l id pages)) l id pages (λ n o h. absurd (omega arith)) (λ r v k h. (k, refl))
+    join-cases (λ (s : QueueStep). refusalIn (s .event) .number ≡ 0 → (length l < mostJobs) × (s ≡ admits l id pages)) l id pages
+    (λ n o h. absurd (omega arith)) (λ r v k h. (k, refl))
 
-kept-when : (q : Queue) (l : List Job) (id pages : ℕ) → (refusalIn (joinOf l id pages .event) .number ≡ 0 → ⊥) → heldAfter q (joinOf l id pages .event) (joinOf l id pages .queue) ≡ q
+kept-when : (q : Queue) (l : List Job) (id pages : ℕ) → (refusalIn (joinOf l id pages .event) .number ≡ 0 → ⊥)
+    → heldAfter q (joinOf l id pages .event) (joinOf l id pages .queue) ≡ q
 kept-when q l id pages =
-    join-cases (λ (s : QueueStep). (refusalIn (s .event) .number ≡ 0 → ⊥) → heldAfter q (s .event) (s .queue) ≡ q) l id pages (λ n o h. refl) (λ r v k h. absurd (h refl))
+    join-cases (λ (s : QueueStep). (refusalIn (s .event) .number ≡ 0 → ⊥) → heldAfter q (s .event) (s .queue) ≡ q) l id pages
+    (λ n o h. refl) (λ r v k h. absurd (h refl))
 
 pub join-refused : (q : Queue) (id pages : ℕ) → (refusalIn (joinOf (jobsOf q) id pages .event) .number ≡ 0 → ⊥)
     → _≡_ {A = Joined} (record { refusal = refusalIn (joinOf (jobsOf q) id pages .event); queue = q }) (joinedOf q id pages)
@@ -71,7 +75,8 @@ module _ (q : Queue) (w : Whole q) (n : ℕ) (e : n ≡ counted (q .jobs)) where
     first : jobsOf q ≡ job (getD (q .ids) 0 0) (getD (q .pages) 0 0) ∷ jobsIn q 1 n
     first = rw (sym e) (jobs-first q w 0 n small one)
 
-    pub turn-leaves : getD (q .pages) 0 0 ≤ 1 → _≡_ {A = Turned} (record { id = getD (q .ids) 0 0; pages = 0; queue = queueOf (jobsIn q 1 n) }) (turnedOf q)
+    pub turn-leaves : getD (q .pages) 0 0 ≤ 1
+        → _≡_ {A = Turned} (record { id = getD (q .ids) 0 0; pages = 0; queue = queueOf (jobsIn q 1 n) }) (turnedOf q)
     unfolding turnedOf turnOf
     turn-leaves h =
         let z : getD (q .pages) 0 0 - 1 ≡ 0 = omega arith in
@@ -79,10 +84,18 @@ module _ (q : Queue) (w : Whole q) (n : ℕ) (e : n ≡ counted (q .jobs)) where
 
     pub turn-back : 1 < getD (q .pages) 0 0
         → _≡_ {A = Turned}
-        (record { id = getD (q .ids) 0 0; pages = getD (q .pages) 0 0 - 1; queue = withLast (queueOf (jobsIn q 1 n)) (getD (q .ids) 0 0) (getD (q .pages) 0 0 - 1) })
+        (record {
+          id = getD (q .ids) 0 0;
+          pages = getD (q .pages) 0 0 - 1;
+          queue = withLast (queueOf (jobsIn q 1 n)) (getD (q .ids) 0 0) (getD (q .pages) 0 0 - 1);
+        })
         (turnedOf q)
     unfolding turnedOf turnOf
     turn-back h =
         let l = jobs-length q w 1 n small in
         let k = small in
-        rw (first, lt-ltb 0 (getD (q .pages) 0 0 - 1) (omega arith), last-jobs (jobsIn q 1 n) (getD (q .ids) 0 0) (getD (q .pages) 0 0 - 1) (omega arith))
+        rw (
+          first,
+          lt-ltb 0 (getD (q .pages) 0 0 - 1) (omega arith),
+          last-jobs (jobsIn q 1 n) (getD (q .ids) 0 0) (getD (q .pages) 0 0 - 1) (omega arith),
+        )

@@ -1,4 +1,4 @@
--- `turns-are-fair`: whoever joins stands behind, and a turn takes one job from ahead. Assumes nothing.
+-- `turns-are-fair`: a job that joins is behind, and a turn takes one job from ahead. Assumes nothing.
 use Rattle.prelude.proofs.Logic.{_≡_, refl, List, [], _∷_, _++_, append-assoc, ℕ, suc, arith, length}
 use Rattle.queue.specs.Jobs.{Job, job, less, sent, QueueStep, atBack, joinOf, turnOf}
 use Rattle.queue.specs.History.{Call, join, turn, after, turns}
@@ -14,7 +14,8 @@ ahead-more q a j x (b, e) = (atBack b x, rw e (append-assoc a (j ∷ b) (x ∷ [
 
 -- the same jobs are ahead after a join, and one fewer after a turn
 join-ahead : (q a : List Job) (j : Job) (id pages : ℕ) → Ahead q a j → Ahead (joinOf q id pages .queue) a j
-join-ahead q a j id pages h = join-cases (λ (s : QueueStep). Ahead (s .queue) a j) q id pages (λ n o. h) (λ r w l. ahead-more q a j (job id pages) h)
+join-ahead q a j id pages h =
+    join-cases (λ (s : QueueStep). Ahead (s .queue) a j) q id pages (λ n o. h) (λ r w l. ahead-more q a j (job id pages) h)
 
 turn-ahead : (x : Job) (q a : List Job) (j : Job) → Ahead q a j → Ahead (turnOf (x ∷ q) .queue) a j
 turn-ahead x q a j h = turn-cases (λ (s : QueueStep). Ahead (s .queue) a j) x q (λ l. h) (λ l. ahead-more q a j (less x) h)

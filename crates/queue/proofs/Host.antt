@@ -1,6 +1,7 @@
--- A host's calls do to its arrays what the steps do to the list, so what holds of every history holds of what a host keeps and is told: `hosts-hold-the-queue`,
--- `hosts-keep-pages`, `hosts-turn-fairly`. Assumes nothing.
-use Rattle.prelude.proofs.Logic.{_≡_, refl, sym, ap, _∙_, cond, List, [], _∷_, _++_, map, ℕ, zero, suc, _+_, _-_, _<_, arith, eqb, length, getD, take, drop, replicate, length-map, List·getD-append, List·getD-map, split-at, length-take-le, ne-eqb}
+-- A host's calls do to its arrays what the steps do to the list, so what holds of every history holds of what a host keeps and is told:
+-- `hosts-hold-the-queue`, `hosts-keep-pages`, `hosts-turn-fairly`. Assumes nothing.
+use Rattle.prelude.proofs.Logic.{_≡_, refl, sym, ap, _∙_, cond, List, [], _∷_, _++_, map, ℕ, zero, suc, _+_, _-_, _<_, arith, eqb, length}
+use Rattle.prelude.proofs.Logic.{getD, take, drop, replicate, length-map, List·getD-append, List·getD-map, split-at, length-take-le, ne-eqb}
 use Rattle.queue.specs.declared.Joined.{Joined}
 use Rattle.queue.specs.declared.Turned.{Turned}
 use Rattle.queue.specs.Jobs.{Job, job, less, admitted, refused, sent, QueueStep, joinOf, turnOf}
@@ -35,7 +36,8 @@ one-told : (l : List Job) (c : Call) → Sound l → told (queueOf l) c ≡ step
 unfolding turnOf
 one-told l (join id pages) s =
     rw (join-shown l id pages s)
-    (join-cases (λ (x : QueueStep). cond (eqb (joinedBy (queueOf l) x .refusal .number) 0) (admitted (job id pages)) (refused (joinedBy (queueOf l) x .refusal)) ≡ x .event) l id pages
+    (join-cases (λ (x : QueueStep). cond (eqb (joinedBy (queueOf l) x .refusal .number) 0) (admitted (job id pages))
+    (refused (joinedBy (queueOf l) x .refusal)) ≡ x .event) l id pages
     (λ n o. rw (ne-eqb n 0 (λ e. omega arith))) (λ r w k. refl))
 one-told [] turn s = rw (turn-shown [] s)
 one-told (j ∷ l) turn s = let p = s .proper .0 in rw (turn-shown (j ∷ l) s, ne-eqb (j .id) 0 (λ e. omega arith))
@@ -77,13 +79,15 @@ hosts-keep-pages h =
     rw (held .0, held .1, left-shown (after [] h)) (pages-are-kept everyId h)
 
 -- ---- the turns
--- the job with k ahead of it stands at k in the arrays
+-- the job with k ahead of it is at k in the arrays
 array-at : (f : Job → ℕ) (l : List Job) (k : ℕ) (d : Job) → f d ≡ 0 → k < length l → getD (padded (map f l)) k 0 ≡ f (getD l k d)
 array-at f l k d z h =
     let n : length (map f l) ≡ length l = length-map l f in
-    List·getD-append (map f l) (replicate (16 - length (map f l)) 0) 0 k (omega arith) ∙ ap (getD (map f l) k) (sym z) ∙ List·getD-map f l k d
+    List·getD-append (map f l) (replicate (16 - length (map f l)) 0) 0 k (omega arith) ∙ ap (getD (map f l) k) (sym z)
+    ∙ List·getD-map f l k d
 
-fair-at : (h c : List Call) (k : ℕ) → k < length (after [] h) → turns c ≡ k → turnOf (after (after [] h) c) .event ≡ sent (less (getD (after [] h) k (job 0 0)))
+fair-at : (h c : List Call) (k : ℕ) → k < length (after [] h) → turns c ≡ k
+    → turnOf (after (after [] h) c) .event ≡ sent (less (getD (after [] h) k (job 0 0)))
 fair-at h c k i t =
     let l = after [] h in
     let n : length (take k l) ≡ k = length-take-le k l (omega arith) in
@@ -93,7 +97,8 @@ pub hosts-turn-fairly : HostsTurnFairly
 hosts-turn-fairly h c k = rw (held-from [] h empty-sound) (λ i t.
     let l = after [] h in
     let s : Sound (after l c) = sound-from l c (queues-are-sound h) in
-    let e : turnedOf (heldAfterAll (queueOf l) c) ≡ turnedBy (queueOf (after l c)) (turnOf (after l c)) = ap turnedOf (held-from l c (queues-are-sound h)) ∙ turn-shown (after l c) s in
+    let e : turnedOf (heldAfterAll (queueOf l) c) ≡ turnedBy (queueOf (after l c)) (turnOf (after l c)) =
+    ap turnedOf (held-from l c (queues-are-sound h)) ∙ turn-shown (after l c) s in
     let f = ap sentIn (fair-at h c k i t) in (
       ap (λ (x : Turned). x .id) e ∙ ap idOf f ∙ sym (array-at idOf l k (job 0 0) refl i),
       ap (λ (x : Turned). x .pages) e ∙ ap pagesOf f ∙ ap (λ (n : ℕ). n - 1) (sym (array-at pagesOf l k (job 0 0) refl i)),

@@ -1,5 +1,6 @@
 -- `queues-are-sound`, since each step keeps it. Assumes nothing.
-use Rattle.prelude.proofs.Logic.{_≡_, refl, sym, Bool, true, false, true≢false, _||_, List, [], _∷_, ℕ, _<_, arith, eqb, lit≤, length, length-append, eqb-false, ne-eqb}
+use Rattle.prelude.proofs.Logic.{_≡_, refl, sym, Bool, true, false, true≢false, _||_, List, [], _∷_, ℕ, _<_, arith, eqb, lit≤, length}
+use Rattle.prelude.proofs.Logic.{length-append, eqb-false, ne-eqb}
 use Rattle.queue.specs.Jobs.{Job, job, less, QueueStep, waits, atBack, turnOf, mostJobs}
 use Rattle.queue.specs.History.{Call, join, turn, stepOf, after, NoIdTwice, AllProper, Sound}
 use Rattle.queue.specs.Promises.{QueuesAreSound}
@@ -29,14 +30,16 @@ proper-more : (q : List Job) (j : Job) → AllProper q → InRange (j .id) (j .p
 proper-more [] j a r = (r .0, r .1, r .2, r .3, tt)
 proper-more (x ∷ q) j a r = (a .0, a .1, a .2, a .3, proper-more q j (a .4) r)
 
-sound-more : (q : List Job) (j : Job) → NoIdTwice q → AllProper q → length q < mostJobs → waits (j .id) q ≡ false → InRange (j .id) (j .pages) → Sound (atBack q j)
+sound-more : (q : List Job) (j : Job) → NoIdTwice q → AllProper q → length q < mostJobs → waits (j .id) q ≡ false
+    → InRange (j .id) (j .pages) → Sound (atBack q j)
 sound-more q j o a l w r = record { few = simp length-append (omega arith); once = once-more q j o w; proper = proper-more q j a r }
 
 -- ---- each step keeps it
 pub step-sound : (q : List Job) (c : Call) → Sound q → Sound (stepOf q c .queue)
 unfolding turnOf
 step-sound q (join id pages) s =
-    join-cases (λ (x : QueueStep). Sound (x .queue)) q id pages (λ n o. s) (λ r w l. sound-more q (job id pages) (s .once) (s .proper) l w r)
+    join-cases (λ (x : QueueStep). Sound (x .queue)) q id pages (λ n o. s)
+    (λ r w l. sound-more q (job id pages) (s .once) (s .proper) l w r)
 step-sound [] turn s = s
 step-sound (j ∷ q) turn s =
     turn-cases (λ (x : QueueStep). Sound (x .queue)) j q

@@ -1,7 +1,8 @@
 -- `pages-are-kept`, by a law of one step. Assumes nothing.
 use Rattle.prelude.proofs.Logic.{_≡_, refl, sym, ap, _∙_, Bool, true, false, List, [], _∷_, ℕ, _+_, _-_, _≤_, arith}
 use Rattle.queue.specs.Jobs.{Job, job, less, QueueStep, atBack, turnOf}
-use Rattle.queue.specs.History.{Call, join, turn, stepOf, after, events, Ids, when, admittedBy, sentBy, pagesAdmitted, pagesSent, pagesLeft, Sound}
+use Rattle.queue.specs.History.{Call, join, turn, stepOf, after, events, Ids, when, admittedBy, sentBy, pagesAdmitted, pagesSent}
+use Rattle.queue.specs.History.{pagesLeft, Sound}
 use Rattle.queue.specs.Promises.{PagesAreKept}
 use Rattle.queue.proofs.Steps.{join-cases, turn-cases}
 use Rattle.queue.proofs.Invariant.{step-sound, empty-sound}
@@ -24,7 +25,8 @@ Kept of q s = sentBy of (s .event) + pagesLeft of (s .queue) ≡ pagesLeft of q 
 
 step-kept : (of : Ids) (q : List Job) (c : Call) → Sound q → Kept of q (stepOf q c)
 unfolding turnOf
-step-kept of q (join id pages) s = join-cases (Kept of q) q id pages (λ n o. omega arith) (λ r w l. omega (arith, left-more of q (job id pages)))
+step-kept of q (join id pages) s =
+    join-cases (Kept of q) q id pages (λ n o. omega arith) (λ r w l. omega (arith, left-more of q (job id pages)))
 step-kept of [] turn s = refl
 step-kept of (j ∷ q) turn s =
     let e = one-less (of (j .id)) (j .pages) (s .proper .2) in
@@ -32,7 +34,8 @@ step-kept of (j ∷ q) turn s =
     (λ l. let one : 1 ≡ j .pages = omega (arith, s .proper .2) in omega (arith, ap (when (of (j .id))) one))
     (λ l. omega (arith, left-more of q (less j)))
 
-pub kept-from : (of : Ids) (q : List Job) (h : List Call) → Sound q → pagesSent of (events q h) + pagesLeft of (after q h) ≡ pagesLeft of q + pagesAdmitted of (events q h)
+pub kept-from : (of : Ids) (q : List Job) (h : List Call) → Sound q
+    → pagesSent of (events q h) + pagesLeft of (after q h) ≡ pagesLeft of q + pagesAdmitted of (events q h)
 kept-from of q [] s = omega arith
 kept-from of q (c ∷ h) s =
     let e = step-kept of q c s in

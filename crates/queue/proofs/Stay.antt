@@ -1,13 +1,16 @@
--- `jobs-leave-when-sent`: while an id waits it is not admitted again, so what is sent of it and left of it is what it joined with. Assumes nothing.
-use Rattle.prelude.proofs.Logic.{_≡_, refl, sym, ap, _∙_, Bool, true, false, true≢false, false≢true, _||_, List, [], _∷_, ℕ, _+_, _≤_, arith, eqb, ltb, eqb-true, eq-eqb, lt-ltb, le-ltb, arms}
+-- `jobs-leave-when-sent`: while an id waits it is not admitted again, so what is sent of it and left of it is what it joined with. Assumes
+-- nothing.
+use Rattle.prelude.proofs.Logic.{_≡_, refl, sym, ap, _∙_, Bool, true, false, true≢false, false≢true, _||_, List, [], _∷_, ℕ, _+_, _≤_}
+use Rattle.prelude.proofs.Logic.{arith, eqb, ltb, eqb-true, eq-eqb, lt-ltb, le-ltb, arms}
 use Rattle.queue.specs.Jobs.{Job, job, Event, admitted, refused, sent, nothing, QueueStep, waits, joinOf, turnOf}
-use Rattle.queue.specs.History.{Call, join, turn, stepOf, after, events, onlyId, when, admittedBy, pagesAdmitted, pagesSent, pagesLeft, WaitsThrough, AllProper, Sound}
+use Rattle.queue.specs.History.{Call, join, turn, stepOf, after, events, onlyId, when, admittedBy, pagesAdmitted, pagesSent}
+use Rattle.queue.specs.History.{pagesLeft, WaitsThrough, AllProper, Sound}
 use Rattle.queue.specs.Promises.{JobsLeaveWhenSent}
 use Rattle.queue.proofs.Steps.{join-cases}
 use Rattle.queue.proofs.Invariant.{neither, step-sound, sound-from, queues-are-sound}
 use Rattle.queue.proofs.Pages.{left-more, kept-from}
 
--- ---- an id has pages left where it waits
+-- ---- an id has pages left while it waits
 none-left : (id : ℕ) (q : List Job) → waits id q ≡ false → pagesLeft (onlyId id) q ≡ 0
 none-left id [] w = refl
 none-left id (x ∷ q) w =
@@ -19,7 +22,8 @@ some-left : (id : ℕ) (q : List Job) → AllProper q → waits id q ≡ true �
 some-left id [] a w = absurd (false≢true w)
 some-left id (x ∷ q) a w = go (eqb (x .id) id) w (some-left id q (a .4))
   where
-    go : (t : Bool) → (t || waits id q) ≡ true → (waits id q ≡ true → 1 ≤ pagesLeft (onlyId id) q) → 1 ≤ when t (x .pages) + pagesLeft (onlyId id) q
+    go : (t : Bool) → (t || waits id q) ≡ true → (waits id q ≡ true → 1 ≤ pagesLeft (onlyId id) q)
+        → 1 ≤ when t (x .pages) + pagesLeft (onlyId id) q
     go true v rest = omega (arith, a .2)
     go false v rest = omega (arith, rest v)
 
@@ -51,10 +55,13 @@ isAdmitted (refused r) = false
 isAdmitted (sent j) = false
 isAdmitted nothing = false
 
-admitted-left : (q : List Job) (id pages : ℕ) → isAdmitted (joinOf q id pages .event) ≡ true → pagesLeft (onlyId id) (joinOf q id pages .queue) ≡ pages
-admitted-left q id pages = join-cases (λ (s : QueueStep). isAdmitted (s .event) ≡ true → pagesLeft (onlyId id) (s .queue) ≡ pages) q id pages
+admitted-left : (q : List Job) (id pages : ℕ) → isAdmitted (joinOf q id pages .event) ≡ true
+    → pagesLeft (onlyId id) (joinOf q id pages .queue) ≡ pages
+admitted-left q id pages =
+    join-cases (λ (s : QueueStep). isAdmitted (s .event) ≡ true → pagesLeft (onlyId id) (s .queue) ≡ pages) q id pages
     (λ n o e. absurd (false≢true e))
-    (λ r w l e. let a = left-more (onlyId id) q (job id pages) in let b = none-left id q w in let c : when (onlyId id id) pages ≡ pages = rw (eq-eqb id id refl) in omega arith)
+    (λ r w l e. let a = left-more (onlyId id) q (job id pages) in let b = none-left id q w in
+    let c : when (onlyId id id) pages ≡ pages = rw (eq-eqb id id refl) in omega arith)
 
 -- it waits as long as fewer pages are sent than it joined with
 waits-until : (id gone pages : ℕ) (q : List Job) → AllProper q → gone + pagesLeft (onlyId id) q ≡ pages → waits id q ≡ ltb gone pages

@@ -1,5 +1,6 @@
 -- The cases of a step: what holds of each outcome of a join, and of a turn, holds of the step. Assumes nothing.
-use Rattle.prelude.proofs.Logic.{_≡_, true, false, not, _&&_, List, _∷_, ℕ, _-_, _≤_, _<_, arith, ltb, lit<, length, ltb-true, ltb-false, leb-true, not-true, arms, both}
+use Rattle.prelude.proofs.Logic.{_≡_, true, false, not, _&&_, List, _∷_, ℕ, _-_, _≤_, _<_, arith, ltb, lit<, length, ltb-true, ltb-false}
+use Rattle.prelude.proofs.Logic.{leb-true, not-true, arms, both}
 use Rattle.queue.specs.Jobs.{Job, sent, QueueStep, mostJobs, waits, proper, atBack, admits, refuses, less, joinOf, turnOf}
 
 -- an id and pages in range
@@ -26,7 +27,8 @@ join-cases P q id pages r a =
 abbrev pub sends : Job → List Job → QueueStep
 sends j q = record { event = sent (less j); queue = q }
 
-pub turn-cases : (P : QueueStep → Type 0) (j : Job) (q : List Job) → (j .pages ≤ 1 → P (sends j q)) → (1 < j .pages → P (sends j (atBack q (less j)))) → P (turnOf (j ∷ q))
+pub turn-cases : (P : QueueStep → Type 0) (j : Job) (q : List Job) → (j .pages ≤ 1 → P (sends j q))
+    → (1 < j .pages → P (sends j (atBack q (less j)))) → P (turnOf (j ∷ q))
 unfolding turnOf
 turn-cases P j q l b =
     arms (λ (x : List Job). P (sends j x)) (ltb 0 (j .pages - 1))

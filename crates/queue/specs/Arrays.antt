@@ -1,4 +1,4 @@
--- The queue as a host keeps it, a list of jobs in two arrays, and what the two calls answer. Any numbers in it are answered.
+-- Request 10: "A queue of up to 16 jobs, each with an id .. and its pages left", in a host's two arrays, whatever numbers are in them.
 use mathlib.Core.Bool.{cond}
 use mathlib.Core.List.{List, [], _∷_, _++_, map}
 use Prim.Native.Nat.{ℕ, _-_}
@@ -13,7 +13,7 @@ use Rattle.queue.specs.declared.Turned.{Turned}
 use Rattle.queue.specs.Jobs.{Job, job, Event, admitted, refused, sent, nothing, QueueStep, mostJobs, joinOf, turnOf}
 
 -- ---- from the arrays to the list
--- of more than 16 jobs, as no calls leave them, the first 16 count
+-- of more than 16 jobs, which no calls leave, the first 16 count
 abbrev pub counted : ℕ → ℕ
 counted jobs = cond (ltb jobs mostJobs) jobs mostJobs
 
@@ -30,7 +30,7 @@ abbrev pub jobsOf : Queue → List Job
 jobsOf q = jobsIn q 0 (counted (q .jobs))
 
 -- ---- from the list to the arrays
--- zeros stand behind
+-- zeros behind them
 abbrev pub padded : List ℕ → List ℕ
 padded l = l ++ replicate (mostJobs - length l) 0
 
@@ -43,14 +43,14 @@ pagesOf j = j .pages
 abbrev pub queueOf : List Job → Queue
 queueOf l = record { jobs = length l; ids = padded (map idOf l); pages = padded (map pagesOf l) }
 
--- ---- what a step answers
+-- ---- what a step returns
 abbrev pub refusalIn : Event → Refusal
 refusalIn (admitted j) = noRefusal
 refusalIn (refused r) = r
 refusalIn (sent j) = noRefusal
 refusalIn nothing = noRefusal
 
--- id 0 and 0 pages where nothing is sent
+-- "A turn answers the job's id and its pages then left; one with no job sends nothing": id 0 and 0 pages
 abbrev pub sentIn : Event → Job
 sentIn (admitted j) = job 0 0
 sentIn (refused r) = job 0 0

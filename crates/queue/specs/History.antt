@@ -5,7 +5,8 @@ use mathlib.Core.List.{List, [], _∷_}
 use Prim.Native.Nat.{ℕ, _+_, _≤_}
 use lib.Dec.{eqb}
 use lib.ListN.{length}
-use Rattle.queue.specs.Jobs.{Job, Event, admitted, refused, sent, nothing, QueueStep, waits, mostJobs, mostId, mostPages, joinOf, turnOf}
+use Rattle.queue.specs.Jobs.{Job, Event, admitted, refused, sent, nothing, QueueStep, waits, mostJobs, mostId, mostPages, joinOf}
+use Rattle.queue.specs.Jobs.{turnOf}
 
 pub data Call : Type 0 where
   -- an id and its pages

@@ -20,9 +20,10 @@ abbrev pub heldAfterAll : Queue → List Call → Queue
 heldAfterAll q [] = q
 heldAfterAll q (c ∷ h) = heldAfterAll (heldAfterOne q c) h
 
--- a job is admitted where the number is 0, and a page is sent where the id is not
+-- a job is admitted if the number is 0; a page is sent if the id is not 0
 abbrev pub told : Queue → Call → Event
-told q (join id pages) = cond (eqb (joinedOf q id pages .refusal .number) 0) (admitted (job id pages)) (refused (joinedOf q id pages .refusal))
+told q (join id pages) =
+    cond (eqb (joinedOf q id pages .refusal .number) 0) (admitted (job id pages)) (refused (joinedOf q id pages .refusal))
 told q turn = cond (eqb (turnedOf q .id) 0) nothing (sent (job (turnedOf q .id) (turnedOf q .pages)))
 
 abbrev pub toldAll : Queue → List Call → List Event

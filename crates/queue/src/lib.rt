@@ -16,7 +16,7 @@ const MOST_ID: u32 = 65535;
 
 const MOST_PAGES: u32 = 16;
 
-// How many jobs wait, and of each its id and its pages left, the front first. Zeros stand behind them.
+// How many jobs wait, and the id and the pages left of each, the front first. The rest of the arrays is 0.
 #[repr(C)]
 pub struct Queue {
     pub jobs: u32,
@@ -30,7 +30,7 @@ pub struct Joined {
     pub queue: Queue,
 }
 
-// The job that a page was sent of and its pages then left. Both are 0 where no job waits.
+// The job whose page was sent, and its pages then left. Both are 0 if no job waits.
 #[repr(C)]
 pub struct Turned {
     pub id: u32,
@@ -38,7 +38,7 @@ pub struct Turned {
     pub queue: Queue,
 }
 
-// A queue that no calls leave may say more than its arrays hold.
+// The jobs that are counted: at most 16, since a host may pass any count.
 fn count(jobs: u32) -> usize
     ensures { λ r. ⌜ (r ≡ counted jobs) × (r ≤ mostJobs) ⌝ }
 {

@@ -1,4 +1,5 @@
--- Document 01's table of refusals, and the numbers that document 02 adds: a number and a place. The numbers under the names that the code gives them.
+-- Document 01's table of refusals, and the numbers that document 02 adds: a number and a place. The numbers under the names that the code
+-- gives them.
 use Prim.Native.Nat.{ℕ}
 use mathlib.Core.Bool.{cond}
 use mathlib.Core.List.{List, [], _∷_}

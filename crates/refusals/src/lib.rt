@@ -1,4 +1,5 @@
-// Refusals (added): a number, 0 where nothing is refused, and a place. This is the one table of the numbers; the header's is held to it.
+// Refusals (added): a number, 0 if nothing is refused, and a place. This is the one table of the numbers. A test compares the header with
+// it.
 ghost use mathlib.Core.Path.{_≡_};
 ghost use Rattle.refusals.specs.Refusals.{refusal, noRefusal, orOf};
 
@@ -79,7 +80,7 @@ impl Refusal {
             place: 0,
         }
     }
-    // This one, or where it refuses nothing the other.
+    // This refusal, or the other if this one refuses nothing.
     pub fn or(self, other: Refusal) -> Refusal
         ensures { λ r. ⌜ r ≡ orOf self other ⌝ }
     {

@@ -30,7 +30,8 @@ module _ (text : Order → List ℕ) (most : ℕ) (s : List ℕ) where
     unfolding reportIn
     report-refused m r e p =
         let l = refused-short r in
-        rw e (printed most (refusedOrderText r) buffer room n after (p .0) (put-next buffer [] (refusedOrderText r) buffer after 0 refl refl (p .1) (omega arith)))
+        rw e (printed most (refusedOrderText r) buffer room n after (p .0)
+        (put-next buffer [] (refusedOrderText r) buffer after 0 refl refl (p .1) (omega arith)))
 
   -- what is printed is no longer than the longest text of a read order
   module _ (fits : (o : Order) → readingOf s ≡ Read o → length (text o) ≤ most) (m : longestRefused ≤ most) where
@@ -43,5 +44,6 @@ module _ (text : Order → List ℕ) (most : ℕ) (s : List ℕ) where
         by-reading (Refused r) e = let l = refused-short r in omega arith
 
     -- what is answered fits the buffer after the call
-    pub report-fits : (buffer after : List ℕ) (n : ℕ) → n ≡ printedLength most (reportText text s) buffer → length after ≡ length buffer → n ≤ length after
+    pub report-fits : (buffer after : List ℕ) (n : ℕ) → n ≡ printedLength most (reportText text s) buffer → length after ≡ length buffer
+        → n ≤ length after
     report-fits buffer after n e l = let f = printed-fits most (reportText text s) buffer report-length in omega arith

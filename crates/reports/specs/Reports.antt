@@ -1,4 +1,5 @@
--- Documents 01 and 02: each program "reads an order as the sheet program does, prints a refused one alike", and of one that is read its own text.
+-- Documents 01 and 02: each program "reads an order as the sheet program does, prints a refused one alike", and of one that is read its own
+-- text.
 use Prim.Native.Nat.{ℕ}
 use mathlib.Core.List.{List}
 use Rattle.lines.specs.Lines.{refusedOrderText}

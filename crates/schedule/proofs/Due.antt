@@ -1,5 +1,6 @@
 -- Whole seconds ahead of an instant, and one step of the search for the prayer in force. Assumes nothing.
-use Rattle.prelude.proofs.Logic.{_≡_, refl, sym, ap, _∙_, Bool, cond, ℕ, zero, suc, _+_, _-_, _*_, _/_, _≤_, _<_, arith, eqb, ℤ, pos, negsuc, _+ℤ_, _-ℤ_, _*ℤ_, eq-eqb, ne-eqb, w64, SFits, Fits}
+use Rattle.prelude.proofs.Logic.{_≡_, refl, sym, ap, _∙_, Bool, cond, ℕ, zero, suc, _+_, _-_, _*_, _/_, _≤_, _<_, arith, eqb, ℤ, pos}
+use Rattle.prelude.proofs.Logic.{negsuc, _+ℤ_, _-ℤ_, _*ℤ_, eq-eqb, ne-eqb, w64, SFits, Fits}
 use Rattle.integers.proofs.Integers.{P, N, sum, difference, times, range, fits}
 use Rattle.models.specs.Numbers.{prayerOf}
 use Rattle.schedule.specs.InForce.{inSecond, nanosecondsOf, aheadOf, timeOf, lastOf}
@@ -31,11 +32,13 @@ ahead-is t i =
     let y = times s 1000000000 in
     let w = sum (s *ℤ pos inSecond) (pos n) in
     let d = difference (t *ℤ pos inSecond) (s *ℤ pos inSecond +ℤ pos n) in
-    let p = positive-part (t *ℤ pos inSecond -ℤ (s *ℤ pos inSecond +ℤ pos n)) (a * 1000000000) (b * 1000000000 + n) (omega (arith, d .0, d .1)) in
+    let p = positive-part (t *ℤ pos inSecond -ℤ (s *ℤ pos inSecond +ℤ pos n)) (a * 1000000000) (b * 1000000000 + n)
+    (omega (arith, d .0, d .1)) in
     ap (λ (z : ℕ). z / 1000000000) p ∙ whole-seconds a b n ∙ ap (λ (z : ℕ). z - (n + 999999999) / 1000000000) (sym (between-is t s))
 
 -- ---- one step of the search
-found-at : (t : PrayerTimes) (i : Instant) (n : ℕ) → 0 < n → lastOf t i n ≡ cond (eqb (aheadOf (timeOf t (prayerOf n)) i) 0) (Some (prayerOf n)) (lastOf t i (n - 1))
+found-at : (t : PrayerTimes) (i : Instant) (n : ℕ) → 0 < n
+    → lastOf t i n ≡ cond (eqb (aheadOf (timeOf t (prayerOf n)) i) 0) (Some (prayerOf n)) (lastOf t i (n - 1))
 unfolding lastOf
 found-at t i zero h = absurd (omega arith)
 found-at t i (suc n) h =
@@ -43,10 +46,13 @@ found-at t i (suc n) h =
     ap (λ (m : ℕ). cond (eqb (aheadOf (timeOf t (prayerOf (suc n))) i) 0) (Some (prayerOf (suc n))) (lastOf t i m)) e
 
 pub found : (t : PrayerTimes) (i : Instant) (n : ℕ) → 0 < n → aheadOf (timeOf t (prayerOf n)) i ≡ 0 → lastOf t i n ≡ Some (prayerOf n)
-found t i n h e = found-at t i n h ∙ ap (λ (b : Bool). cond b (Some (prayerOf n)) (lastOf t i (n - 1))) (eq-eqb (aheadOf (timeOf t (prayerOf n)) i) 0 e)
+found t i n h e = found-at t i n h
+    ∙ ap (λ (b : Bool). cond b (Some (prayerOf n)) (lastOf t i (n - 1))) (eq-eqb (aheadOf (timeOf t (prayerOf n)) i) 0 e)
 
-pub passed : (t : PrayerTimes) (i : Instant) (n : ℕ) → 0 < n → (aheadOf (timeOf t (prayerOf n)) i ≡ 0 → ⊥) → lastOf t i n ≡ lastOf t i (n - 1)
-passed t i n h e = found-at t i n h ∙ ap (λ (b : Bool). cond b (Some (prayerOf n)) (lastOf t i (n - 1))) (ne-eqb (aheadOf (timeOf t (prayerOf n)) i) 0 e)
+pub passed : (t : PrayerTimes) (i : Instant) (n : ℕ) → 0 < n → (aheadOf (timeOf t (prayerOf n)) i ≡ 0 → ⊥)
+    → lastOf t i n ≡ lastOf t i (n - 1)
+passed t i n h e = found-at t i n h
+    ∙ ap (λ (b : Bool). cond b (Some (prayerOf n)) (lastOf t i (n - 1))) (ne-eqb (aheadOf (timeOf t (prayerOf n)) i) 0 e)
 
 pub exhausted : (t : PrayerTimes) (i : Instant) (n : ℕ) → n ≤ 0 → lastOf t i n ≡ Nothing
 unfolding lastOf

@@ -24,7 +24,8 @@ module _ (h : RowHours) (date : Date) (season : Season) (p : Parameters) where
   by-suns : (suns : Suns) → fajrAloneOf suns date season p (h .fajr) ≡ fajrIn date (workedFrom suns h date season p)
   unfolding fajrAloneOf fajrIn workedFrom startedOf fromMidnightOf
   by-suns (Refused r) = refl
-  by-suns (Whole suns) = ap Some (sym (back-off (startOf date) (finalOf p Fajr (unadjustedFajrOf p season date (suns .today) (suns .tomorrow) (h .fajr)))))
+  by-suns (Whole suns) =
+      ap Some (sym (back-off (startOf date) (finalOf p Fajr (unadjustedFajrOf p season date (suns .today) (suns .tomorrow) (h .fajr)))))
 
   pub fajr-alone : fajrAloneOf (h .suns) date season p (h .fajr) ≡ fajrIn date (workedOf h date season p)
   unfolding workedOf

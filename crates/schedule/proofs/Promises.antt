@@ -13,7 +13,8 @@ pub of-near : {n : ℕ} {r w : ℤ} → (r ≡ w) × Near n r → n ≤ 2 ^ 62 �
 of-near {n} p l = stored (record { is = p .0; near = subst (Near n) (p .0) (p .1) }) l
 
 -- a time from 1970 on: the start of its date, and the time from there
-pub on-start : {s r x : ℤ} → (r ≡ s) × Near (2 ^ 58) r → Near (2 ^ 43) x → Held (2 ^ 58 + 2 ^ 43) (readBack w64 r +ℤ readBack w64 x) (s +ℤ x)
+pub on-start : {s r x : ℤ} → (r ≡ s) × Near (2 ^ 58) r → Near (2 ^ 43) x
+    → Held (2 ^ 58 + 2 ^ 43) (readBack w64 r +ℤ readBack w64 x) (s +ℤ x)
 on-start p h = held-sum (of-near p (lit≤ tt)) (of-near (refl, h) (lit≤ tt))
 
 pub held-seventh : {n : ℕ} {z w : ℤ} → Held n z w → Held n (seventhOf z) (seventhOf w)
@@ -23,4 +24,5 @@ pub held-middle : {n : ℕ} {z w : ℤ} → Held n z w → n ≤ longest → Hel
 held-middle {n} {z} {w} h l = record { is = ap middleOf (h .is); near = inside-between (middle-inside w (wider (h .near) l l)) (h .near) }
 
 pub held-last-third : {n : ℕ} {z w : ℤ} → Held n z w → n ≤ longest → Held n (lastThirdOf z) (lastThirdOf w)
-held-last-third {n} {z} {w} h l = record { is = ap lastThirdOf (h .is); near = inside-between (last-third-inside w (wider (h .near) l l)) (h .near) }
+held-last-third {n} {z} {w} h l =
+    record { is = ap lastThirdOf (h .is); near = inside-between (last-third-inside w (wider (h .near) l l)) (h .near) }

@@ -1,18 +1,22 @@
 -- What the functions of this crate and the crates above use of it, from one place. Nothing is added.
 pub use Rattle.schedule.proofs.FajrLaws.{fajr-alone}
 pub use Rattle.schedule.proofs.Promises.{of-near, held-middle, held-last-third, both, on-start, held-seventh}
-pub use Rattle.schedule.proofs.SharedLaws.{courseRowOf, row-shared, worked-unasked}
+pub use Rattle.schedule.proofs.SharedLaws.{row-shared, worked-unasked}
 pub use Rattle.schedule.proofs.Short.{short-near, short-is}
 pub use Rattle.schedule.proofs.Starts.{start-near}
 unfoldable pub use Rattle.schedule.specs.Fajr.{fajrIn, fajrAloneOf}
 unfoldable pub use Rattle.schedule.specs.Hours.{hoursOf, sunsOf}
-unfoldable pub use Rattle.schedule.specs.RowSuns.{dayHoursOf, rowHoursOf}
-unfoldable pub use Rattle.schedule.specs.InForce.{currentNumberOf, lastOf, aheadOf, timeOf, followingCurrentOf, hoursMinutesOf, untilOf}
+unfoldable pub use Rattle.schedule.specs.InForce.{currentNumberOf, lastOf, aheadOf, timeOf, followingCurrentOf, hoursMinutesOf}
+unfoldable pub use Rattle.schedule.specs.InForce.{untilOf}
 pub use Rattle.schedule.specs.InForce.{currentTimeOf, nextOf, NotAfter}
 unfoldable pub use Rattle.schedule.specs.Numbers.{numbersOf}
-unfoldable pub use Rattle.schedule.specs.Times.{startOf, workedOf, workedFrom, finalOf, fajrTomorrowOf, middleOfTheNightOf, qiyamOf, fromMidnightOf, startedOf}
-pub use Rattle.schedule.specs.Times.{workedAt, seasonOf, timesOf}
+unfoldable pub use Rattle.schedule.specs.Times.{startOf, workedOf, workedFrom, finalOf, fajrTomorrowOf, middleOfTheNightOf, qiyamOf}
+unfoldable pub use Rattle.schedule.specs.Times.{fromMidnightOf, startedOf}
+pub use Rattle.models.specs.Chosen.{seasonOf, settingOf}
+pub use Rattle.schedule.specs.Times.{workedBy, workedAt, timesOf}
 pub use Rattle.schedule.specs.Each.{Each}
-unfoldable pub use Rattle.schedule.specs.Twilight.{nightOf, orOf, bySeasonOf, shortOf, beforeSunriseOf, unadjustedFajrOf, afterSunsetOf, ishaBoundOf, boundedIshaOf, unadjustedIshaOf, laterOf, earlierOf, bySeventhOf, ownOf}
+unfoldable pub use Rattle.schedule.specs.Twilight.{nightOf, orOf, bySeasonOf, shortOf, beforeSunriseOf, unadjustedFajrOf}
+unfoldable pub use Rattle.schedule.specs.Twilight.{afterSunsetOf, ishaBoundOf, boundedIshaOf, unadjustedIshaOf, laterOf, earlierOf}
+unfoldable pub use Rattle.schedule.specs.Twilight.{bySeventhOf, ownOf}
 pub use Rattle.schedule.specs.Twilight.{nextDayOf, fajrBoundOf}
 pub use Rattle.schedule.specs.declared.in_force.Current.the-variants.{Some}

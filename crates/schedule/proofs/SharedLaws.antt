@@ -1,24 +1,21 @@
--- A row's times from the courses of its three suns are those of its hour numbers. What is shared changes no number, and what is left out changes no
--- time. Assumes nothing.
-use Rattle.prelude.proofs.Logic.{_≡_, refl, ap, true, false, cases, cond, ltZ, pos}
-use lib.Ieee.{Float, nan}
+-- A row's times from the courses of its three days are those of its hour numbers. What is shared changes no number, and what is left out
+-- changes no time. Assumes nothing.
+use Rattle.prelude.proofs.Logic.{_≡_, refl, ap, true, false, cases, ltZ, pos}
 use Rattle.calendar.specs.Answers.{tomorrowOf}
 use Rattle.calendar.specs.declared.dates.Date.{Date}
 use Rattle.models.specs.declared.parameters.Parameters.{Parameters}
-use Rattle.models.specs.declared.rules.Midnight.{Midnight}
 use Rattle.models.specs.declared.rules.Season.{Season}
+use Rattle.models.specs.declared.setting.Setting.{Setting}
 use Rattle.ops.specs.declared.transit.Course.{Course}
 use Rattle.ops.specs.Shared.{halfArcOf}
 use Rattle.solar.specs.declared.setting.SolarHour.{SolarHour}
 use Rattle.solar.specs.declared.times.SolarTime.{SolarTime}
 use Rattle.solar.specs.Hours.{sunOn}
-use Rattle.solar.specs.Shared.{dateCourseOf, courseSineNumberOf, courseAngleNumberOf, courseNumbersOf, courseAfternoonNumberOf}
+use Rattle.solar.specs.Shared.{dateCourseOf, courseSineNumberOf, courseAngleNumberOf}
 use Rattle.solar.specs.Times.{solarHourOf}
 use Rattle.solar.proofs.SharedLaws.{angle-shared, numbers-shared, afternoon-shared}
-use Rattle.unit.specs.declared.Coordinates.{Coordinates}
-use Rattle.schedule.specs.Asked.{fajrAskedOf, ishaAskedOf, askedOf, twilightSinesOf, fajrBySineOf, ishaBySineOf}
+use Rattle.schedule.specs.Asked.{fajrAskedOf, ishaAskedOf, askedOf, twilightSinesOf, fajrHourOf, ishaHourOf}
 use Rattle.schedule.specs.declared.hours.RowHours.{RowHours}
-use Rattle.schedule.specs.declared.hours.RowNumbers.{RowNumbers}
 use Rattle.schedule.specs.declared.hours.Suns.{Suns}
 use Rattle.schedule.specs.declared.hours.Suns.the-variants.{Whole, Refused}
 use Rattle.schedule.specs.declared.hours.ThreeSuns.{ThreeSuns}
@@ -26,86 +23,76 @@ use Rattle.schedule.specs.declared.prayer_times.PrayerTimes.{PrayerTimes
 use Rattle.schedule.specs.declared.prayer_times.Worked.the-variants.{Times}
 use Rattle.schedule.specs.Hours.{hoursOf}
 use Rattle.schedule.specs.Numbers.{fajrAngleOf, ishaAngleOf, shadowOf, numbersOf}
+use Rattle.schedule.specs.RowSuns.{daySunOf, rowSunsOf, rowSunsHoursOf}
 use Rattle.schedule.specs.Times.{startOf, fajrTomorrowOf, fromMidnightOf, startedOf, workedFrom, workedOf}
 use Rattle.schedule.specs.Twilight.{bySeventhOf, ownOf, unadjustedFajrOf, boundedIshaOf, unadjustedIshaOf}
 
--- ---- no time depends on a number that is left out
-module _ (rule : Midnight) (p : Parameters) (season : Season) (date : Date) (today next : SolarTime) (number : Float) where
-  pub fajr-unasked : unadjustedFajrOf p season date today next (solarHourOf rule (fajrAskedOf p (season .latitude) number))
-      ≡ unadjustedFajrOf p season date today next (solarHourOf rule number)
+-- ---- no time depends on an hour that is left out
+module _ (p : Parameters) (season : Season) (date : Date) (today next : SolarTime) (hour : SolarHour) where
+  fajr-unasked : unadjustedFajrOf p season date today next (fajrAskedOf p (season .latitude) hour)
+      ≡ unadjustedFajrOf p season date today next hour
   unfolding unadjustedFajrOf ownOf fajrAskedOf
   fajr-unasked = cases (bySeventhOf (p .method) (season .latitude)) (λ seventh. rw seventh refl) (λ angle. rw angle refl)
 
-  pub isha-unasked : unadjustedIshaOf p season date today next (solarHourOf rule (ishaAskedOf p (season .latitude) number))
-      ≡ unadjustedIshaOf p season date today next (solarHourOf rule number)
+  isha-unasked : unadjustedIshaOf p season date today next (ishaAskedOf p (season .latitude) hour)
+      ≡ unadjustedIshaOf p season date today next hour
   unfolding unadjustedIshaOf boundedIshaOf ownOf ishaAskedOf
   isha-unasked =
       cases (ltZ (pos 0) (p .«isha_interval»)) (λ interval. rw interval refl)
       (λ rule. cases (bySeventhOf (p .method) (season .latitude)) (λ seventh. rw (rule, seventh) refl) (λ angle. rw (rule, angle) refl))
 
-module _ (rule : Midnight) (n : RowNumbers) (date : Date) (season : Season) (p : Parameters) where
+module _ (h : RowHours) (date : Date) (season : Season) (p : Parameters) where
   abbrev asked : RowHours
-  asked = hoursOf rule (askedOf p (season .latitude) n)
+  asked = askedOf p (season .latitude) h
 
-  nine-unasked : (suns : ThreeSuns) → fromMidnightOf p season date suns asked ≡ fromMidnightOf p season date suns (hoursOf rule n)
-  unfolding fromMidnightOf fajrTomorrowOf hoursOf
+  nine-unasked : (suns : ThreeSuns) → fromMidnightOf p season date suns asked ≡ fromMidnightOf p season date suns h
+  unfolding fromMidnightOf fajrTomorrowOf
   nine-unasked suns =
       simp (
-        fajr-unasked rule p season date (suns .today) (suns .tomorrow) (n .fajr),
-        fajr-unasked rule p season (tomorrowOf date) (suns .tomorrow) (suns .after) (n .«fajr_tomorrow»),
-        isha-unasked rule p season date (suns .today) (suns .tomorrow) (n .isha),
+        fajr-unasked p season date (suns .today) (suns .tomorrow) (h .fajr),
+        fajr-unasked p season (tomorrowOf date) (suns .tomorrow) (suns .after) (h .«fajr_tomorrow»),
+        isha-unasked p season date (suns .today) (suns .tomorrow) (h .isha),
       )
 
-  by-suns : (suns : Suns) → workedFrom suns asked date season p ≡ workedFrom suns (hoursOf rule n) date season p
+  by-suns : (suns : Suns) → workedFrom suns asked date season p ≡ workedFrom suns h date season p
   unfolding workedFrom
   by-suns (Refused r) = refl
   by-suns (Whole suns) = ap (λ (t : PrayerTimes). Times (startedOf (startOf date) t)) (nine-unasked suns)
 
-  -- a row's times are the same from the numbers that are asked for
-  pub worked-unasked : workedOf asked date season p ≡ workedOf (hoursOf rule n) date season p
-  unfolding workedOf hoursOf
-  worked-unasked = by-suns (hoursOf rule n .suns)
+  -- a row's times are the same from the hours that are asked for
+  pub worked-unasked : workedOf asked date season p ≡ workedOf h date season p
+  unfolding workedOf
+  worked-unasked = by-suns (h .suns)
 
--- ---- a number from the angle's sine is the angle's
-module _ (p : Parameters) (latitude : Float) (c : Course) where
-  fajr-by-sine : fajrBySineOf p latitude (twilightSinesOf p .fajr) c ≡ fajrAskedOf p latitude (courseAngleNumberOf c (fajrAngleOf p) false)
+-- ---- an hour from the angle's sine is the angle's
+module _ (s : Setting) (c : Course) where
+  fajr-by-sine : fajrHourOf s (twilightSinesOf (s .parameters) .fajr) c
+      ≡ fajrAskedOf (s .parameters) (s .coordinates .latitude)
+      (solarHourOf (s .rules .midnight) (courseAngleNumberOf c (fajrAngleOf (s .parameters)) false))
   unfolding courseSineNumberOf courseAngleNumberOf halfArcOf
   fajr-by-sine = refl
 
-  isha-by-sine : ishaBySineOf p latitude (twilightSinesOf p .isha) c ≡ ishaAskedOf p latitude (courseAngleNumberOf c (ishaAngleOf p) true)
+  isha-by-sine : ishaHourOf s (twilightSinesOf (s .parameters) .isha) c
+      ≡ ishaAskedOf (s .parameters) (s .coordinates .latitude)
+      (solarHourOf (s .rules .midnight) (courseAngleNumberOf c (ishaAngleOf (s .parameters)) true))
   unfolding courseSineNumberOf courseAngleNumberOf halfArcOf
   isha-by-sine = refl
 
 -- ---- the row
-abbrev pub courseRowOf : Date → Coordinates → Parameters → RowNumbers
-courseRowOf date place p =
-    let next = tomorrowOf date in
-    let today = dateCourseOf date place in
-    let tomorrow = dateCourseOf next place in
-    record {
-      today = courseNumbersOf today;
-      tomorrow = courseNumbersOf tomorrow;
-      after = courseNumbersOf (dateCourseOf (tomorrowOf next) place);
-      fajr = fajrBySineOf p (place .latitude) (twilightSinesOf p .fajr) today;
-      asr = courseAfternoonNumberOf today (place .latitude) (shadowOf p);
-      isha = ishaBySineOf p (place .latitude) (twilightSinesOf p .isha) today;
-      «fajr_tomorrow» = fajrBySineOf p (place .latitude) (twilightSinesOf p .fajr) tomorrow;
-    }
-
-pub row-shared : (date : Date) (place : Coordinates) (p : Parameters) → courseRowOf date place p ≡ askedOf p (place .latitude) (numbersOf date place p)
-unfolding numbersOf
-row-shared date place p =
+pub row-shared : (date : Date) (s : Setting) → rowSunsHoursOf s (rowSunsOf date s)
+    ≡ askedOf (s .parameters) (s .coordinates .latitude) (hoursOf (s .rules .midnight) (numbersOf date (s .coordinates) (s .parameters)))
+unfolding rowSunsHoursOf rowSunsOf daySunOf hoursOf numbersOf
+row-shared date s =
+    let place = s .coordinates in
+    let p = s .parameters in
     let next = tomorrowOf date in
     let today = sunOn place date in
     let tomorrow = sunOn place next in
     let after = sunOn place (tomorrowOf next) in
-    let latitude = place .latitude in
-    let day = dateCourseOf date place in
-    let follows = dateCourseOf next place in
     simp (
-      fajr-by-sine p latitude day,
-      fajr-by-sine p latitude follows,
-      isha-by-sine p latitude day,
+      fajr-by-sine s (dateCourseOf date place),
+      fajr-by-sine s (dateCourseOf next place),
+      isha-by-sine s (dateCourseOf date place),
       numbers-shared today,
       numbers-shared tomorrow,
       numbers-shared after,

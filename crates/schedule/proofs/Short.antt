@@ -27,7 +27,8 @@ between z not-over not-under =
 pub short-near : (z : ℤ) → Near (2 ^ 31) (shortOf z)
 short-near z =
     cases (ltZ (pos 2147483647) z) (λ over. near (high z over))
-    (λ not-over. cases (ltZ z (negsuc 2147483647)) (λ under. near (low z not-over under)) (λ not-under. near (between z not-over not-under)))
+    (λ not-over. cases (ltZ z (negsuc 2147483647)) (λ under. near (low z not-over under))
+    (λ not-under. near (between z not-over not-under)))
   where
     near : {r : ℤ} → Short r z → Near (2 ^ 31) (shortOf z)
     near h = subst (Near (2 ^ 31)) (h .0) (h .1)

@@ -1,7 +1,7 @@
--- schedule.rs: PrayerSchedule, the builder of a date's times.
+-- schedule.rs: PrayerSchedule, the builder of a date's times. Document 01: "`&mut` builders: methods by value".
 use Rattle.calendar.specs.declared.dates.Date.{Date}
 use Rattle.models.specs.declared.parameters.Parameters.{Parameters}
-use Rattle.models.specs.Chosen.{sourceRules}
+use Rattle.models.specs.Chosen.{sourceRules, settingOf}
 use Rattle.unit.specs.declared.Coordinates.{Coordinates}
 use Rattle.schedule.specs.declared.prayer_schedule.ChosenDate.{ChosenDate}
 use Rattle.schedule.specs.declared.prayer_schedule.ChosenDate.the-variants as date
@@ -28,7 +28,7 @@ withConfigurationOf s p = record { date = s .date; coordinates = s .coordinates;
 
 -- `Ok(PrayerTimes::new(..))` if all three are there
 unfoldable pub calculatedFrom : ChosenDate → ChosenPlace → ChosenParameters → Calculated
-calculatedFrom (date.Some d) (place.Some c) (parameters.Some p) = Some (workedAt d c p sourceRules)
+calculatedFrom (date.Some d) (place.Some c) (parameters.Some p) = Some (workedAt d (settingOf c p sourceRules))
 calculatedFrom date.Nothing c p = Nothing
 calculatedFrom (date.Some d) place.Nothing p = Nothing
 calculatedFrom (date.Some d) (place.Some c) parameters.Nothing = Nothing

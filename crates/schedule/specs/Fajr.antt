@@ -1,5 +1,5 @@
--- A date's Fajr by itself, in seconds from 0h of the date. What the code works need not be believed: proofs/FajrLaws.antt says that it is the Fajr of
--- the nine.
+-- A date's Fajr by itself, in seconds from 0h of the date. What the code works need not be believed: proofs/FajrLaws.antt says that it is
+-- the Fajr of the nine.
 use lib.IntN.{_-ℤ_}
 use Rattle.calendar.specs.declared.dates.Date.{Date}
 use Rattle.models.specs.declared.parameters.Parameters.{Parameters}
@@ -23,4 +23,5 @@ fajrIn date (worked.Refused r) = alone.Nothing
 -- as it is worked
 unfoldable pub fajrAloneOf : Suns → Date → Season → Parameters → SolarHour → FajrAlone
 fajrAloneOf (Refused r) date season p hour = alone.Nothing
-fajrAloneOf (Whole suns) date season p hour = alone.Some (finalOf p prayer.Fajr (unadjustedFajrOf p season date (suns .today) (suns .tomorrow) hour))
+fajrAloneOf (Whole suns) date season p hour =
+    alone.Some (finalOf p prayer.Fajr (unadjustedFajrOf p season date (suns .today) (suns .tomorrow) hour))

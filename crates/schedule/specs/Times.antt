@@ -1,6 +1,5 @@
 -- schedule.rs: the nine times of a date. Inside, times are seconds from 0h of the date; in the end its 0h is added.
 use lib.IntN.{ℤ, pos, _+ℤ_, _-ℤ_, _*ℤ_}
-use lib.Ieee.{Float}
 use Rattle.calendar.specs.Answers.{tomorrowOf}
 use Rattle.calendar.specs.Days.{dayNumberOf}
 use Rattle.calendar.specs.declared.dates.Date.{Date}
@@ -8,18 +7,19 @@ use Rattle.models.specs.declared.parameters.Parameters.{Parameters}
 use Rattle.models.specs.declared.prayer.Prayer.{Prayer}
 use Rattle.models.specs.declared.prayer.Prayer.the-variants.{Fajr, Sunrise, Dhuhr, Asr, Maghrib, Isha}
 use Rattle.models.specs.declared.rounding.Rounding.the-variants.{Nearest}
-use Rattle.models.specs.declared.rules.Rules.{Rules}
 use Rattle.models.specs.declared.rules.Season.{Season}
+use Rattle.models.specs.declared.setting.Setting.{Setting}
+use Rattle.models.specs.Chosen.{seasonOf}
 use Rattle.models.specs.Settings.{timeAdjustmentsOf}
-use Rattle.stride.specs.Times.{roundedOf, adjustedOf}
+use Rattle.rounding.specs.Times.{roundedOf, adjustedOf}
 use Rattle.night_portions.specs.Portions.{middleOf, lastThirdOf}
 use Rattle.solar.specs.declared.setting.SolarHour.{SolarHour}
 use Rattle.solar.specs.declared.times.SolarTime.{SolarTime}
-use Rattle.unit.specs.declared.Coordinates.{Coordinates}
 use Rattle.schedule.specs.declared.hours.ThreeSuns.{ThreeSuns}
 use Rattle.schedule.specs.declared.hours.Suns.{Suns}
 use Rattle.schedule.specs.declared.hours.Suns.the-variants as suns
 use Rattle.schedule.specs.declared.hours.RowHours.{RowHours}
+use Rattle.schedule.specs.declared.hours.RowNumbers.{RowNumbers}
 use Rattle.schedule.specs.declared.prayer_times.PrayerTimes.{PrayerTimes}
 use Rattle.schedule.specs.declared.prayer_times.Worked.{Worked}
 use Rattle.schedule.specs.declared.prayer_times.Worked.the-variants.{Times, Refused}
@@ -37,9 +37,11 @@ finalOf p prayer t = roundedOf (p .rounding) (adjustedOf t (timeAdjustmentsOf p 
 
 -- "Tomorrow's Fajr is worked as the next date's, from that date's sun and the night after it; it is adjusted, not rounded."
 unfoldable pub fajrTomorrowOf : Parameters → Season → Date → SolarTime → SolarTime → SolarHour → ℤ
-fajrTomorrowOf p season date tomorrow after hour = nextDayOf (adjustedOf (unadjustedFajrOf p season (tomorrowOf date) tomorrow after hour) (timeAdjustmentsOf p Fajr))
+fajrTomorrowOf p season date tomorrow after hour =
+    nextDayOf (adjustedOf (unadjustedFajrOf p season (tomorrowOf date) tomorrow after hour) (timeAdjustmentsOf p Fajr))
 
--- "Middle of night and qiyam start at rounded maghrib, go 1/2 and 2.0/3.0 (f64) of the seconds to tomorrow's Fajr, cut toward zero, and round to Nearest."
+-- "Middle of night and qiyam start at rounded maghrib, go 1/2 and 2.0/3.0 (f64) of the seconds to tomorrow's Fajr, cut toward zero, and
+-- round to Nearest."
 unfoldable pub middleOfTheNightOf : ℤ → ℤ → ℤ
 middleOfTheNightOf maghrib tomorrow = roundedOf Nearest (maghrib +ℤ middleOf (tomorrow -ℤ maghrib))
 
@@ -91,10 +93,10 @@ workedFrom (suns.Whole three) h date season p = Times (timesOf p season date thr
 unfoldable pub workedOf : RowHours → Date → Season → Parameters → Worked
 workedOf h date season p = workedFrom (h .suns) h date season p
 
--- by what the season goes beside the date
-abbrev pub seasonOf : Float → Rules → Season
-seasonOf latitude rules = record { latitude = latitude; southern = rules .southern }
+-- from hour numbers
+abbrev pub workedBy : RowNumbers → Date → Setting → Worked
+workedBy numbers date s = workedOf (hoursOf (s .rules .midnight) numbers) date (seasonOf s) (s .parameters)
 
--- the whole way: from date, place, parameters and rules
-abbrev pub workedAt : Date → Coordinates → Parameters → Rules → Worked
-workedAt date place p rules = workedOf (hoursOf (rules .midnight) (numbersOf date place p)) date (seasonOf (place .latitude) rules) p
+-- the whole way: from a date and its setting
+abbrev pub workedAt : Date → Setting → Worked
+workedAt date s = workedBy (numbersOf date (s .coordinates) (s .parameters)) date s

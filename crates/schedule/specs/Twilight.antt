@@ -1,19 +1,21 @@
--- schedule.rs: Fajr and Isha, before their minutes are added. Each is the time of an angle, bounded by a portion of the night or by the season.
--- Times are seconds from 0h of the date.
+-- schedule.rs: Fajr and Isha, before their minutes are added. Each is the time of an angle, bounded by a portion of the night or by the
+-- season. Times are seconds from 0h of the date.
 use mathlib.Core.Bool.{Bool, true, false, _&&_, cond}
-use lib.IntN.{ℤ, pos, negsuc, _+ℤ_, _-ℤ_, _*ℤ_}
+use lib.IntN.{ℤ, pos, _+ℤ_, _-ℤ_, _*ℤ_}
 use lib.Signed.{ltZ}
 use lib.Ieee.{Float, le}
+use Rattle.integers.specs.Ends.{least32, most32}
 use Rattle.float64.specs.Ops.{dec}
 use Rattle.calendar.specs.Days.{ordinalOf}
 use Rattle.calendar.specs.declared.dates.Date.{Date}
 use Rattle.models.specs.declared.method.Method.{Method}
-use Rattle.models.specs.declared.method.Method.the-variants.{MuslimWorldLeague, Egyptian, Karachi, UmmAlQura, Dubai, MoonsightingCommittee, NorthAmerica, Kuwait, Qatar, Singapore, Tehran, Turkey, Other}
+use Rattle.models.specs.declared.method.Method.the-variants.{MuslimWorldLeague, Egyptian, Karachi, UmmAlQura, Dubai, MoonsightingCommittee}
+use Rattle.models.specs.declared.method.Method.the-variants.{NorthAmerica, Kuwait, Qatar, Singapore, Tehran, Turkey, Other}
 use Rattle.models.specs.declared.parameters.Parameters.{Parameters}
 use Rattle.models.specs.declared.rounding.Rounding.the-variants.{Nearest}
 use Rattle.models.specs.declared.rules.Season.{Season}
 use Rattle.models.specs.Settings.{nightPortionsOf}
-use Rattle.stride.specs.Times.{roundedOf}
+use Rattle.rounding.specs.Times.{roundedOf}
 use Rattle.night_portions.specs.Portions.{portionBeforeOf, portionAfterOf, seventhOf}
 use Rattle.ops.specs.Season.{morningSecondsOf, eveningSecondsOf}
 use Rattle.solar.specs.declared.setting.SolarHour.{SolarHour}
@@ -64,15 +66,8 @@ bySeventhOf method latitude = le (dec 55 0) latitude && bySeasonOf method
 unfoldable pub ownOf : Method → Float → ℤ → SolarHour → ℤ → ℤ
 ownOf method latitude seventh hour bound = cond (bySeventhOf method latitude) seventh (orOf hour bound)
 
--- the ends of an i32
-abbrev least32 : ℤ
-least32 = negsuc 2147483647
-
-abbrev most32 : ℤ
-most32 = pos 2147483647
-
--- Seconds, held at the ends of an i32, so that every sum has its place. An order's are never near those ends (before-source and after-source of
--- schedule_laws); the source panics where a sum leaves chrono's range.
+-- Seconds, held at the ends of an i32, so that every sum has its place. An order's are never near those ends (before-source and
+-- after-source of schedule_laws); the source panics where a sum leaves chrono's range.
 unfoldable pub shortOf : ℤ → ℤ
 shortOf z = cond (ltZ most32 z) most32 (cond (ltZ z least32) least32 z)
 
@@ -80,7 +75,8 @@ shortOf z = cond (ltZ most32 z) most32 (cond (ltZ z least32) least32 z)
 -- from sunrise to its bound
 unfoldable pub beforeSunriseOf : Parameters → Season → Date → ℤ → ℤ
 beforeSunriseOf p season date night =
-    shortOf (cond (bySeasonOf (p .method)) (morningSecondsOf season (ordinalOf date) (date .year)) (portionBeforeOf (nightPortionsOf p .fajr) night))
+    shortOf (cond (bySeasonOf (p .method)) (morningSecondsOf season (ordinalOf date) (date .year))
+    (portionBeforeOf (nightPortionsOf p .fajr) night))
 
 abbrev pub fajrBoundOf : Parameters → Season → Date → SolarTime → ℤ → ℤ
 fajrBoundOf p season date today night = today .sunrise +ℤ beforeSunriseOf p season date night
@@ -96,7 +92,8 @@ unadjustedFajrOf p season date today next hour =
 -- from sunset to its bound
 unfoldable pub afterSunsetOf : Parameters → Season → Date → ℤ → ℤ
 afterSunsetOf p season date night =
-    shortOf (cond (bySeasonOf (p .method)) (eveningSecondsOf season (ordinalOf date) (date .year) (p .shafaq)) (portionAfterOf (nightPortionsOf p .isha) night))
+    shortOf (cond (bySeasonOf (p .method)) (eveningSecondsOf season (ordinalOf date) (date .year) (p .shafaq))
+    (portionAfterOf (nightPortionsOf p .isha) night))
 
 -- "Only the evening season bound is itself rounded (Nearest)."
 unfoldable pub ishaBoundOf : Parameters → Season → Date → SolarTime → ℤ → ℤ

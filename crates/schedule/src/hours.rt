@@ -1,8 +1,6 @@
-// The hour numbers that a row's times are worked from, and the sun's times that they give. A row by itself and rows that follow one another build
-// them here.
+// The hour numbers that a row's times are worked from, and the sun's times that they give.
 ghost use mathlib.Core.Path.{_≡_};
 ghost use Rattle.schedule.specs.Hours.{sunsOf, hoursOf};
-ghost use Rattle.schedule.specs.RowSuns.{dayHoursOf, rowHoursOf};
 use models::rules::Midnight;
 use refusals::Refusal;
 use solar::hours::HourNumbers;
@@ -20,12 +18,6 @@ pub struct RowNumbers {
     pub asr: f64,
     pub isha: f64,
     pub fajr_tomorrow: f64,
-}
-
-// What a day's sun gives to each row that it serves: its own times, and the time of Fajr's angle.
-pub struct DayHours {
-    pub sun: SolarDay,
-    pub fajr: SolarHour,
 }
 
 // Of the date, the next one and the one after that.
@@ -71,52 +63,20 @@ impl Suns {
     }
 }
 
-impl DayHours {
-    pub fn new(rule: Midnight, numbers: HourNumbers, fajr: f64) -> DayHours
-        ensures { λ r. ⌜ r ≡ dayHoursOf rule numbers fajr ⌝ }
-    {
-        DayHours {
-            sun: SolarTime::new(rule, numbers),
-            fajr: solar_hour(rule, fajr),
-        }
-    }
-}
-
 impl RowHours {
-    // From the date's day, the next one and the sun of the one after that, and the numbers of the date's Asr and Isha.
-    pub fn of_days(
-        rule: Midnight,
-        today: DayHours,
-        tomorrow: DayHours,
-        after: SolarDay,
-        asr: f64,
-        isha: f64,
-    ) -> RowHours
-        ensures { λ r. ⌜ r ≡ rowHoursOf rule today tomorrow after asr isha ⌝ }
-    {
-        let sun = today.sun;
-        let next = tomorrow.sun;
-        let fajr = today.fajr;
-        let fajr_tomorrow = tomorrow.fajr;
-        RowHours {
-            suns: Suns::new(sun, next, after),
-            fajr: fajr,
-            asr: solar_hour(rule, asr),
-            isha: solar_hour(rule, isha),
-            fajr_tomorrow: fajr_tomorrow,
-        }
-    }
-
     pub fn new(rule: Midnight, numbers: RowNumbers) -> RowHours
         ensures { λ r. ⌜ r ≡ hoursOf rule numbers ⌝ }
     {
-        RowHours::of_days(
-            rule,
-            DayHours::new(rule, numbers.today, numbers.fajr),
-            DayHours::new(rule, numbers.tomorrow, numbers.fajr_tomorrow),
-            SolarTime::new(rule, numbers.after),
-            numbers.asr,
-            numbers.isha,
-        )
+        RowHours {
+            suns: Suns::new(
+                SolarTime::new(rule, numbers.today),
+                SolarTime::new(rule, numbers.tomorrow),
+                SolarTime::new(rule, numbers.after),
+            ),
+            fajr: solar_hour(rule, numbers.fajr),
+            asr: solar_hour(rule, numbers.asr),
+            isha: solar_hour(rule, numbers.isha),
+            fajr_tomorrow: solar_hour(rule, numbers.fajr_tomorrow),
+        }
     }
 }

@@ -1,5 +1,5 @@
-// schedule.rs: the prayer in force, the next one and the time until it. Where the crate reads the clock, the instant is given; where it panics,
-// since no prayer is in force, there is an answer that says so.
+// schedule.rs: the prayer in force, the next one and the time until it. Where the crate reads the clock, the instant is given; where it
+// panics, since no prayer is in force, there is an answer that says so.
 ghost use mathlib.Core.Path.{_≡_};
 ghost use lib.IntN.{_-ℤ_};
 ghost use Rattle.integers.specs.Parts.{P};

@@ -6,6 +6,7 @@ use super::rolling::RowSuns;
 use calendar::dates::Date;
 use models::parameters::Parameters;
 use models::rules::Rules;
+use models::setting::Setting;
 use unit::Coordinates;
 
 pub enum ChosenDate {
@@ -97,8 +98,11 @@ impl PrayerSchedule {
         let ChosenParameters::Some(parameters) = params else {
             return Calculated::Nothing;
         };
-        let rules = Rules::source();
-        let suns = RowSuns::new(date, coordinates, parameters, rules);
-        Calculated::Some(suns.work(coordinates.latitude, parameters, rules))
+        let setting = Setting {
+            coordinates: coordinates,
+            parameters: parameters,
+            rules: Rules::source(),
+        };
+        Calculated::Some(RowSuns::new(date, setting).work(setting))
     }
 }

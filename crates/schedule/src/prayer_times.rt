@@ -6,10 +6,10 @@ ghost use Rattle.integers.specs.Parts.{Near};
 ghost use Rattle.models.specs.declared.prayer.Prayer.the-variants.{Fajr};
 ghost use Rattle.models.specs.declared.rounding.Rounding.the-variants.{Nearest};
 ghost use Rattle.models.specs.Settings.{timeAdjustmentsOf};
-ghost use Rattle.stride.specs.Times.{roundedOf, adjustedOf};
-ghost use Rattle.schedule.specs.Hours.{hoursOf};
+ghost use Rattle.rounding.specs.Times.{roundedOf, adjustedOf};
 ghost use Rattle.schedule.specs.Fajr.{fajrAloneOf};
-ghost use Rattle.schedule.specs.Times.{startOf, finalOf, fajrTomorrowOf, middleOfTheNightOf, qiyamOf, fromMidnightOf, startedOf, seasonOf, workedOf};
+ghost use Rattle.schedule.specs.Times.{startOf, finalOf, fajrTomorrowOf, middleOfTheNightOf, qiyamOf, fromMidnightOf, startedOf};
+ghost use Rattle.schedule.specs.Times.{workedOf, workedBy};
 ghost use Rattle.schedule.specs.Each.{Each};
 ghost use Rattle.schedule.specs.Twilight.{unadjustedFajrOf};
 use super::hours::RowHours;
@@ -23,15 +23,15 @@ use calendar::dates::Date;
 use models::parameters::Parameters;
 use models::prayer::Prayer;
 use models::rounding::Rounding;
-use models::rules::Rules;
 use models::rules::Season;
+use models::setting::Setting;
 use night_portions::portions::last_third;
 use night_portions::portions::middle;
 use refusals::Refusal;
+use rounding::times::adjust_time;
+use rounding::times::rounded_minute;
 use solar::setting::SolarHour;
 use solar::times::SolarTime;
-use stride::times::adjust_time;
-use stride::times::rounded_minute;
 
 // In seconds from 1970-01-01 0h UTC. They stand in this order and are not sorted.
 #[repr(C)]
@@ -102,7 +102,8 @@ fn into_the_night(maghrib: i64, seconds: i64) -> i64
 
 fn calculate_qiyam(maghrib: i64, fajr: i64) -> Night
     requires { ⌜ Near (2 ^ 40) maghrib × Near (2 ^ 41) fajr ⌝ }
-    ensures { λ r. ⌜ ((r .middle ≡ middleOfTheNightOf maghrib fajr) × Near (2 ^ 43) (r .middle)) × ((r .«last_third» ≡ qiyamOf maghrib fajr) × Near (2 ^ 43) (r .«last_third»)) ⌝ }
+    ensures { λ r. ⌜ ((r .middle ≡ middleOfTheNightOf maghrib fajr) × Near (2 ^ 43) (r .middle))
+        × ((r .«last_third» ≡ qiyamOf maghrib fajr) × Near (2 ^ 43) (r .«last_third»)) ⌝ }
 {
     let night = fajr - maghrib;
     Night {
@@ -232,21 +233,12 @@ impl Suns {
 }
 
 impl PrayerTimes {
-    pub fn new(
-        numbers: RowNumbers,
-        date: Date,
-        latitude: f64,
-        parameters: Parameters,
-        rules: Rules,
-    ) -> Worked
-        ensures { λ r. ⌜ r ≡ workedOf (hoursOf (rules .midnight) numbers) date (seasonOf latitude rules) parameters ⌝ }
+    pub fn new(numbers: RowNumbers, date: Date, setting: Setting) -> Worked
+        ensures { λ r. ⌜ r ≡ workedBy numbers date setting ⌝ }
     {
+        let rules = setting.rules;
         let midnight = rules.midnight;
-        let southern = rules.southern;
-        let season = Season {
-            latitude: latitude,
-            southern: southern,
-        };
-        RowHours::new(midnight, numbers).work(date, season, parameters)
+        let hours = RowHours::new(midnight, numbers);
+        hours.work(date, setting.season(), setting.parameters)
     }
 }

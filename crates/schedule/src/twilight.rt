@@ -1,10 +1,11 @@
-// schedule.rs: Fajr and Isha, before their minutes are added. Each is the time of an angle, bounded by a portion of the night or by the season. Times
-// are seconds from 0h of the date. The sun's are i32, so that an i64 holds every sum here, whatever the parameters.
+// schedule.rs: Fajr and Isha, before their minutes are added. Each is the time of an angle, bounded by a portion of the night or by the
+// season. Times are seconds from 0h of the date. The sun's are i32, so that an i64 holds every sum here, whatever the parameters.
 ghost use mathlib.Core.Path.{_≡_};
 ghost use Prim.Native.Nat.{_^_};
 ghost use lib.IntN.{_+ℤ_};
 ghost use Rattle.integers.specs.Parts.{Near};
-ghost use Rattle.schedule.specs.Twilight.{nightOf, laterOf, earlierOf, orOf, bySeasonOf, bySeventhOf, ownOf, shortOf, fajrBoundOf, unadjustedFajrOf, ishaBoundOf, boundedIshaOf, unadjustedIshaOf};
+ghost use Rattle.schedule.specs.Twilight.{nightOf, laterOf, earlierOf, orOf, bySeasonOf, bySeventhOf, ownOf, shortOf, fajrBoundOf};
+ghost use Rattle.schedule.specs.Twilight.{unadjustedFajrOf, ishaBoundOf, boundedIshaOf, unadjustedIshaOf};
 use calendar::dates::Date;
 use models::method::Method;
 use models::parameters::Parameters;
@@ -15,9 +16,9 @@ use night_portions::portions::portion_before;
 use night_portions::portions::seventh;
 use ops::season::evening_twilight_seconds;
 use ops::season::morning_twilight_seconds;
+use rounding::times::rounded_minute;
 use solar::setting::SolarHour;
 use solar::times::SolarTime;
-use stride::times::rounded_minute;
 
 const MOST32: i64 = 2147483647;
 

@@ -1,5 +1,7 @@
--- The prayer in force where no time is earlier and the instant is not after: what is due under the second is due under the first. Assumes nothing.
-use Rattle.prelude.proofs.Logic.{_≡_, refl, ap, Bool, true, false, cond, inl, inr, ⊎-elim, ℕ, zero, suc, _≤_, _<_, arith, eqb, eqb→eq, lit≤, ℤ, pos, negsuc, _+ℤ_, _-ℤ_, _*ℤ_, ltZ, eqb-true, eqb-false}
+-- The prayer in force where no time is earlier and the instant is not after: what is due under the second is due under the first. Assumes
+-- nothing.
+use Rattle.prelude.proofs.Logic.{_≡_, refl, ap, Bool, true, false, cond, inl, inr, ⊎-elim, ℕ, zero, suc, _≤_, _<_, arith, eqb, eqb→eq, lit≤}
+use Rattle.prelude.proofs.Logic.{ℤ, pos, negsuc, _+ℤ_, _-ℤ_, _*ℤ_, ltZ, eqb-true, eqb-false}
 use Rattle.integers.proofs.Integers.{P, N, same, sum, difference, times, le-yes, lt-yes, lt-no, to-le, _≼_}
 use Rattle.prelude.proofs.Computed.{at}
 use Rattle.models.specs.declared.prayer.Prayer.{Prayer}
@@ -20,7 +22,8 @@ module _ (j i : Instant) where
       let c = sum (j .seconds *ℤ pos inSecond) (pos (j .nanoseconds)) in
       let d = sum (i .seconds *ℤ pos inSecond) (pos (i .nanoseconds)) in
       ⊎-elim (λ (l : ltZ (j .seconds) (i .seconds) ≡ true). omega (arith, lt-yes (j .seconds) (i .seconds) l))
-      (λ (l : (j .seconds ≡ i .seconds) × (j .nanoseconds ≤ i .nanoseconds)). let x = ap P (l .0) in let y = ap N (l .0) in omega (arith, l .1))
+      (λ (l : (j .seconds ≡ i .seconds) × (j .nanoseconds ≤ i .nanoseconds)). let x = ap P (l .0) in let y = ap N (l .0) in
+      omega (arith, l .1))
       o
 
   from-nanoseconds : i .nanoseconds < inSecond → nanosecondsOf j ≼ nanosecondsOf i → NotAfter j i
@@ -64,7 +67,8 @@ ahead-grows s t i j h k =
     let b = times t 1000000000 in
     let c = difference (s *ℤ pos inSecond) (nanosecondsOf i) in
     let d = difference (t *ℤ pos inSecond) (nanosecondsOf j) in
-    let g = positive-grows (s *ℤ pos inSecond -ℤ nanosecondsOf i) (t *ℤ pos inSecond -ℤ nanosecondsOf j) (omega (arith, c .0, c .1, d .0, d .1)) in
+    let g = positive-grows (s *ℤ pos inSecond -ℤ nanosecondsOf i) (t *ℤ pos inSecond -ℤ nanosecondsOf j)
+    (omega (arith, c .0, c .1, d .0, d .1)) in
     omega (arith, g)
 
 -- ---- the list
@@ -100,10 +104,13 @@ module _ (t u : PrayerTimes) (i j : Instant) (h : NoneEarlier t u) (k : nanoseco
   places : (n : ℕ) → n ≤ 8 → currentNumberOf (lastOf u j n) ≤ currentNumberOf (lastOf t i n)
   unfolding lastOf currentNumberOf
   places zero l = lit≤ tt
-  places (suc n) l = by-tests (eqb (aheadOf (timeOf u (prayerOf (suc n))) j) 0) (eqb (aheadOf (timeOf t (prayerOf (suc n))) i) 0) refl refl (places n (omega arith))
+  places (suc n) l = by-tests (eqb (aheadOf (timeOf u (prayerOf (suc n))) j) 0) (eqb (aheadOf (timeOf t (prayerOf (suc n))) i) 0) refl refl
+      (places n (omega arith))
     where
-      by-tests : (b c : Bool) → eqb (aheadOf (timeOf u (prayerOf (suc n))) j) 0 ≡ b → eqb (aheadOf (timeOf t (prayerOf (suc n))) i) 0 ≡ c → currentNumberOf (lastOf u j n) ≤ currentNumberOf (lastOf t i n)
-          → currentNumberOf (cond b (Some (prayerOf (suc n))) (lastOf u j n)) ≤ currentNumberOf (cond c (Some (prayerOf (suc n))) (lastOf t i n))
+      by-tests : (b c : Bool) → eqb (aheadOf (timeOf u (prayerOf (suc n))) j) 0 ≡ b → eqb (aheadOf (timeOf t (prayerOf (suc n))) i) 0 ≡ c
+          → currentNumberOf (lastOf u j n) ≤ currentNumberOf (lastOf t i n)
+          → currentNumberOf (cond b (Some (prayerOf (suc n))) (lastOf u j n))
+          ≤ currentNumberOf (cond c (Some (prayerOf (suc n))) (lastOf t i n))
       by-tests true true p q before = omega arith
       by-tests true false p q before =
           let g = ahead-grows (timeOf t (prayerOf (suc n))) (timeOf u (prayerOf (suc n))) i j (time-grows t u h (prayerOf (suc n))) k in
@@ -112,5 +119,6 @@ module _ (t u : PrayerTimes) (i j : Instant) (h : NoneEarlier t u) (k : nanoseco
       by-tests false true p q before = omega (arith, first-places u j n (omega arith), place-is n l)
       by-tests false false p q before = before
 
-pub in-force-no-later : (t u : PrayerTimes) (i j : Instant) → NoneEarlier t u → nanosecondsOf j ≼ nanosecondsOf i → currentNumberOf (currentTimeOf u j) ≤ currentNumberOf (currentTimeOf t i)
+pub in-force-no-later : (t u : PrayerTimes) (i j : Instant) → NoneEarlier t u → nanosecondsOf j ≼ nanosecondsOf i
+    → currentNumberOf (currentTimeOf u j) ≤ currentNumberOf (currentTimeOf t i)
 in-force-no-later t u i j h k = places t u i j h k 8 (lit≤ tt)

@@ -1,21 +1,25 @@
--- Where a school's minutes are later and nothing else changes: each time is later by exactly their seconds, and none of the nine is earlier. Assumes
--- nothing.
+-- Where a school's minutes are later and nothing else changes: each time is later by exactly their seconds, and none of the nine is
+-- earlier. Assumes nothing.
 use Rattle.prelude.proofs.Logic.{_≡_, refl, sym, ap, subst, _∙_, _^_, _<_, arith, lit≤, ℤ, pos, negsuc, _+ℤ_, _-ℤ_, _*ℤ_, +ℤ-assoc}
-use Rattle.integers.proofs.Integers.{Near, _≼_, same, sum, difference, times, wider, natural-between, sum-between, difference-between, to-le}
+use Rattle.integers.proofs.Integers.{Near, _≼_, same, sum, difference, times, wider, natural-between, sum-between, difference-between}
+use Rattle.integers.proofs.Integers.{to-le}
 use Rattle.calendar.specs.Answers.{tomorrowOf}
 use Rattle.calendar.specs.declared.dates.Date.{Date}
-use Rattle.models.specs.declared.{adjustments.TimeAdjustment.TimeAdjustment, parameters.Parameters.Parameters, rules.Season.Season, prayer.Prayer.Prayer, rounding.Rounding.Rounding}
+use Rattle.models.specs.declared.{adjustments.TimeAdjustment.TimeAdjustment, parameters.Parameters.Parameters, rules.Season.Season}
+use Rattle.models.specs.declared.{prayer.Prayer.Prayer, rounding.Rounding.Rounding}
 use Rattle.models.specs.declared.prayer.Prayer.the-variants.{Fajr, Sunrise, Dhuhr, Asr, Maghrib, Isha}
 use Rattle.models.specs.declared.rounding.Rounding.the-variants.{Nearest}
 use Rattle.models.specs.Settings.{timeAdjustmentsOf}
-use Rattle.stride.specs.Times.{roundedOf, adjustedOf}
-use Rattle.stride.proofs.TimesLaws.{rounded-adjusted, rounded-mono, adjusted-between}
+use Rattle.rounding.specs.Times.{roundedOf, adjustedOf}
+use Rattle.rounding.proofs.TimesLaws.{rounded-adjusted, rounded-mono, adjusted-between}
 use Rattle.night_portions.specs.Portions.{middleOf, lastThirdOf}
 use Rattle.night_portions.proofs.Steady.{Small}
 use Rattle.night_portions.proofs.PortionsLaws.{middle-later, last-third-later}
 use Rattle.solar.specs.declared.{setting.SolarHour.SolarHour, times.SolarTime.SolarTime}
 use Rattle.schedule.specs.declared.{hours.ThreeSuns.ThreeSuns, hours.RowHours.RowHours, prayer_times.PrayerTimes.PrayerTimes}
-use Rattle.schedule.proofs.Schedule.{startOf, finalOf, fajrTomorrowOf, middleOfTheNightOf, qiyamOf, fromMidnightOf, startedOf, timesOf, nightOf, nextDayOf, orOf, beforeSunriseOf, short-near, unadjustedFajrOf, afterSunsetOf, ishaBoundOf, boundedIshaOf, unadjustedIshaOf}
+use Rattle.schedule.proofs.Schedule.{startOf, finalOf, fajrTomorrowOf, middleOfTheNightOf, qiyamOf, fromMidnightOf, startedOf, timesOf}
+use Rattle.schedule.proofs.Schedule.{nightOf, nextDayOf, orOf, beforeSunriseOf, short-near, unadjustedFajrOf, afterSunsetOf, ishaBoundOf}
+use Rattle.schedule.proofs.Schedule.{boundedIshaOf, unadjustedIshaOf}
 use Rattle.schedule_laws.specs.Later.{withMinutes, NoneEarlier, laterBy, ExactlyLater}
 use Rattle.schedule_laws.proofs.Spans.{fajr-between, final-between}
 use Rattle.schedule_laws.proofs.SunSpans.{Days, SunHour, Sun, Three, night-days, seventh-days}
@@ -66,7 +70,8 @@ module _ (p : Parameters) (held : (prayer : Prayer) → Near (2 ^ 32) (timeAdjus
   unfolding fajrTomorrowOf
   tomorrow-near season date tomorrow after hour a b h =
       let seventh = seventh-days (nightOf tomorrow after) (night-days tomorrow after a b) in
-      let fajr = fajr-between p season (tomorrowOf date) tomorrow after hour h (a .sunrise) (wider seventh (lit≤ tt) (lit≤ tt)) (before-near p season (tomorrowOf date) (nightOf tomorrow after)) in
+      let fajr = fajr-between p season (tomorrowOf date) tomorrow after hour h (a .sunrise) (wider seventh (lit≤ tt) (lit≤ tt))
+      (before-near p season (tomorrowOf date) (nightOf tomorrow after)) in
       wider (sum-between (adjusted-between fajr (held Fajr)) (natural-between 86400)) (lit≤ tt) (lit≤ tt)
 
 short-night : {m f : ℤ} → Near (2 ^ 39) m → Near (2 ^ 39) f → Small (f -ℤ m)
@@ -80,7 +85,8 @@ module _ (m f m' f' : ℤ) (later : m ≼ m') (later-fajr : f ≼ f') (h : Small
 
   qiyam-moved : qiyamOf m f ≼ qiyamOf m' f'
   unfolding qiyamOf
-  qiyam-moved = rounded-mono Nearest (m +ℤ lastThirdOf (f -ℤ m)) (m' +ℤ lastThirdOf (f' -ℤ m')) (last-third-later m f m' f' later later-fajr h h')
+  qiyam-moved =
+      rounded-mono Nearest (m +ℤ lastThirdOf (f -ℤ m)) (m' +ℤ lastThirdOf (f' -ℤ m')) (last-third-later m f m' f' later later-fajr h h')
 
 -- ---- each time, where the minutes are others and nothing else is
 module _ (p : Parameters) (minutes : TimeAdjustment) where
@@ -100,10 +106,12 @@ module _ (p : Parameters) (minutes : TimeAdjustment) where
     unfolding unadjustedIshaOf boundedIshaOf ishaBoundOf afterSunsetOf
     unadjusted-isha = refl
 
-    fajr-moved : finalOf q Fajr (unadjustedFajrOf q season date today next hour) ≡ finalOf p Fajr (unadjustedFajrOf p season date today next hour) +ℤ laterBy p q Fajr
+    fajr-moved : finalOf q Fajr (unadjustedFajrOf q season date today next hour)
+        ≡ finalOf p Fajr (unadjustedFajrOf p season date today next hour) +ℤ laterBy p q Fajr
     fajr-moved = ap (finalOf q Fajr) unadjusted-fajr ∙ final-moved Fajr (unadjustedFajrOf p season date today next hour)
 
-    isha-moved : finalOf q Isha (unadjustedIshaOf q season date today next hour) ≡ finalOf p Isha (unadjustedIshaOf p season date today next hour) +ℤ laterBy p q Isha
+    isha-moved : finalOf q Isha (unadjustedIshaOf q season date today next hour)
+        ≡ finalOf p Isha (unadjustedIshaOf p season date today next hour) +ℤ laterBy p q Isha
     isha-moved = ap (finalOf q Isha) unadjusted-isha ∙ final-moved Isha (unadjustedIshaOf p season date today next hour)
 
   tomorrow-moved : (season : Season) (date : Date) (tomorrow after : SolarTime) (hour : SolarHour)
@@ -113,7 +121,8 @@ module _ (p : Parameters) (minutes : TimeAdjustment) where
       let u = unadjustedFajrOf p season (tomorrowOf date) tomorrow after hour in
       let x = adjustedOf u (timeAdjustmentsOf p Fajr) in
       let d = laterBy p q Fajr in
-      let e = ap (λ (z : ℤ). adjustedOf z (timeAdjustmentsOf q Fajr)) (unadjusted-fajr season (tomorrowOf date) tomorrow after hour) ∙ adjusted-again u (timeAdjustmentsOf p Fajr) (timeAdjustmentsOf q Fajr) in
+      let e = ap (λ (z : ℤ). adjustedOf z (timeAdjustmentsOf q Fajr)) (unadjusted-fajr season (tomorrowOf date) tomorrow after hour)
+      ∙ adjusted-again u (timeAdjustmentsOf p Fajr) (timeAdjustmentsOf q Fajr) in
       let a = sum x d in
       let b = sum (x +ℤ d) (pos 86400) in
       let c = sum x (pos 86400) in
@@ -142,18 +151,21 @@ module _ (p : Parameters) (minutes : TimeAdjustment) where
           asr = moved-on start _ _ (laterBy p q Asr) (final-moved Asr (orOf (h .asr) (sun .transit)));
           maghrib = moved-on start _ _ (laterBy p q Maghrib) (final-moved Maghrib (sun .sunset));
           isha = moved-on start _ _ (laterBy p q Isha) (isha-moved season date sun (suns .tomorrow) (h .isha));
-          «fajr_tomorrow» = moved-on start _ _ (laterBy p q Fajr) (tomorrow-moved season date (suns .tomorrow) (suns .after) (h .«fajr_tomorrow»));
+          «fajr_tomorrow» =
+              moved-on start _ _ (laterBy p q Fajr) (tomorrow-moved season date (suns .tomorrow) (suns .after) (h .«fajr_tomorrow»));
         }
 
     module _ (more : (prayer : Prayer) → timeAdjustmentsOf p prayer ≼ timeAdjustmentsOf q prayer)
-        (held : (prayer : Prayer) → Near (2 ^ 32) (timeAdjustmentsOf p prayer)) (held-q : (prayer : Prayer) → Near (2 ^ 32) (timeAdjustmentsOf q prayer))
+        (held : (prayer : Prayer) → Near (2 ^ 32) (timeAdjustmentsOf p prayer))
+        (held-q : (prayer : Prayer) → Near (2 ^ 32) (timeAdjustmentsOf q prayer))
         (three : Three suns) (placed : SunHour (h .«fajr_tomorrow»)) where
       by-more : (prayer : Prayer) (x y : ℤ) → y ≡ x +ℤ laterBy p q prayer → x ≼ y
       by-more prayer x y e = not-earlier x y (timeAdjustmentsOf p prayer) (timeAdjustmentsOf q prayer) (more prayer) e
 
       short : (r : Parameters) → ((prayer : Prayer) → Near (2 ^ 32) (timeAdjustmentsOf r prayer))
           → Small (fajrTomorrowOf r season date (suns .tomorrow) (suns .after) (h .«fajr_tomorrow») -ℤ finalOf r Maghrib (sun .sunset))
-      short r held = short-night (maghrib-near r held (three .today .sunset)) (tomorrow-near r held season date (suns .tomorrow) (suns .after) (h .«fajr_tomorrow») (three .tomorrow) (three .after) placed)
+      short r held = short-night (maghrib-near r held (three .today .sunset))
+          (tomorrow-near r held season date (suns .tomorrow) (suns .after) (h .«fajr_tomorrow») (three .tomorrow) (three .after) placed)
 
       pub none-earlier : NoneEarlier first second
       unfolding fromMidnightOf startedOf
@@ -172,7 +184,10 @@ module _ (p : Parameters) (minutes : TimeAdjustment) where
             asr = to-le (first .asr) (second .asr) (by-more Asr (first .asr) (second .asr) (exactly .asr));
             maghrib = to-le (first .maghrib) (second .maghrib) (by-more Maghrib (first .maghrib) (second .maghrib) (exactly .maghrib));
             isha = to-le (first .isha) (second .isha) (by-more Isha (first .isha) (second .isha) (exactly .isha));
-            «middle_of_the_night» = to-le (first .«middle_of_the_night») (second .«middle_of_the_night») (later-on start (middleOfTheNightOf m f) (middleOfTheNightOf m' f') (middle-moved m f m' f' later later-fajr (short p held) (short q held-q)));
-            qiyam = to-le (first .qiyam) (second .qiyam) (later-on start (qiyamOf m f) (qiyamOf m' f') (qiyam-moved m f m' f' later later-fajr (short p held) (short q held-q)));
-            «fajr_tomorrow» = to-le (first .«fajr_tomorrow») (second .«fajr_tomorrow») (by-more Fajr (first .«fajr_tomorrow») (second .«fajr_tomorrow») (exactly .«fajr_tomorrow»));
+            «middle_of_the_night» = to-le (first .«middle_of_the_night») (second .«middle_of_the_night») (later-on start (middleOfTheNightOf
+                m f) (middleOfTheNightOf m' f') (middle-moved m f m' f' later later-fajr (short p held) (short q held-q)));
+            qiyam = to-le (first .qiyam) (second .qiyam)
+                (later-on start (qiyamOf m f) (qiyamOf m' f') (qiyam-moved m f m' f' later later-fajr (short p held) (short q held-q)));
+            «fajr_tomorrow» = to-le (first .«fajr_tomorrow») (second .«fajr_tomorrow»)
+                (by-more Fajr (first .«fajr_tomorrow») (second .«fajr_tomorrow») (exactly .«fajr_tomorrow»));
           }

@@ -1,14 +1,17 @@
 -- How large the sums of an order's minutes can be: no method brings more than 7 minutes, and no order more than 720. Assumes nothing.
 use Rattle.prelude.proofs.Logic.{_≡_, sym, subst, ℕ, _^_, _≤_, arith, lit≤, pos}
 use Rattle.integers.proofs.Integers.{Near, flip, wider, sum-between}
-use Rattle.models.specs.declared.{adjustments.TimeAdjustment.TimeAdjustment, method.Method.Method, parameters.Parameters.Parameters, prayer.Prayer.Prayer}
-use Rattle.models.specs.declared.method.Method.the-variants.{MuslimWorldLeague, Egyptian, Karachi, UmmAlQura, Dubai, MoonsightingCommittee, NorthAmerica, Kuwait, Qatar, Singapore, Tehran, Turkey, Other}
+use Rattle.models.specs.declared.{adjustments.TimeAdjustment.TimeAdjustment, method.Method.Method, parameters.Parameters.Parameters}
+use Rattle.models.specs.declared.{prayer.Prayer.Prayer}
+use Rattle.models.specs.declared.method.Method.the-variants.{MuslimWorldLeague, Egyptian, Karachi, UmmAlQura, Dubai, MoonsightingCommittee}
+use Rattle.models.specs.declared.method.Method.the-variants.{NorthAmerica, Kuwait, Qatar, Singapore, Tehran, Turkey, Other}
 use Rattle.models.specs.declared.prayer.Prayer.the-variants.{Fajr, Sunrise, Dhuhr, Asr, Maghrib, Isha, Qiyam, FajrTomorrow}
 use Rattle.models.proofs.Models.{preset, presetOf, offset, minutesFor, timeAdjustmentsOf}
 use Rattle.order.specs.Accepted.{ParametersInOrder}
 
 -- six minutes in range
-pub minutes-near : (n : ℕ) (m : TimeAdjustment) → Near n (m .fajr) → Near n (m .sunrise) → Near n (m .dhuhr) → Near n (m .asr) → Near n (m .maghrib) → Near n (m .isha)
+pub minutes-near : (n : ℕ) (m : TimeAdjustment) → Near n (m .fajr) → Near n (m .sunrise) → Near n (m .dhuhr) → Near n (m .asr)
+    → Near n (m .maghrib) → Near n (m .isha)
     → (prayer : Prayer) → Near n (minutesFor prayer m)
 unfolding minutesFor
 minutes-near n m f s d a g i Fajr = f
@@ -25,7 +28,8 @@ offset-near : (sunrise dhuhr asr sunset : ℕ) → sunrise ≤ 7 → dhuhr ≤ 7
 offset-near sunrise dhuhr asr sunset s d a m =
     let g = flip (pos sunrise) in
     let none : Near 7 (pos 0) = record { from = lit≤ tt; to = lit≤ tt } in
-    minutes-near 7 (offset sunrise dhuhr asr sunset) none (record { from = omega arith; to = omega arith }) (record { from = lit≤ tt; to = d })
+    minutes-near 7 (offset sunrise dhuhr asr sunset) none (record { from = omega arith; to = omega arith })
+    (record { from = lit≤ tt; to = d })
     (record { from = lit≤ tt; to = a }) (record { from = lit≤ tt; to = m }) none
 
 presets-near : (method : Method) (prayer : Prayer) → Near 7 (minutesFor prayer (presetOf method .«method_adjustments»))

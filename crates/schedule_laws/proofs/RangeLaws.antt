@@ -1,20 +1,23 @@
 -- Every time lies by its date, and its days print as one digit: the statements of specs/Range. Assumes nothing.
 use Rattle.prelude.proofs.Logic.{_≡_, subst, ℕ, _-_, _*_, _≤_, _<_, arith, lit≤, ℤ, pos, negsuc, _+ℤ_, _-ℤ_}
-use Rattle.integers.proofs.Integers.{P, N, Between, Near, floorQuot, same, sum, difference, wider, sum-between, difference-between, natural-between, toward-between}
+use Rattle.integers.proofs.Integers.{P, N, Between, Near, floorQuot, same, sum, difference, wider, sum-between, difference-between}
+use Rattle.integers.proofs.Integers.{natural-between, toward-between}
 use Rattle.calendar.specs.Answers.{tomorrowOf}
 use Rattle.calendar.specs.declared.dates.Date.{Date}
 use Rattle.models.specs.declared.{parameters.Parameters.Parameters, rules.Season.Season, prayer.Prayer.Prayer}
 use Rattle.models.specs.declared.prayer.Prayer.the-variants.{Fajr, Sunrise, Dhuhr, Asr, Maghrib, Isha, Qiyam, FajrTomorrow}
 use Rattle.models.specs.declared.rounding.Rounding.the-variants.{Nearest}
 use Rattle.models.specs.Settings.{timeAdjustmentsOf}
-use Rattle.stride.proofs.TimesLaws.{rounded-between, adjusted-between}
+use Rattle.rounding.proofs.TimesLaws.{rounded-between, adjusted-between}
 use Rattle.night_portions.specs.Portions.{middleOf, lastThirdOf}
 use Rattle.night_portions.proofs.PortionsLaws.{middle-inside, last-third-inside}
 use Rattle.solar.specs.declared.{setting.SolarHour.SolarHour, times.SolarTime.SolarTime}
-use Rattle.schedule.specs.declared.{hours.ThreeSuns.ThreeSuns, hours.Suns.Suns, hours.RowHours.RowHours, prayer_times.PrayerTimes.PrayerTimes}
+use Rattle.schedule.specs.declared.{hours.ThreeSuns.ThreeSuns, hours.Suns.Suns, hours.RowHours.RowHours}
+use Rattle.schedule.specs.declared.{prayer_times.PrayerTimes.PrayerTimes}
 use Rattle.schedule.specs.declared.hours.Suns.the-variants.{Whole, Refused}
 use Rattle.schedule.specs.declared.prayer_times.Worked.the-variants.{Times}
-use Rattle.schedule.proofs.Schedule.{hoursOf, startOf, finalOf, fajrTomorrowOf, middleOfTheNightOf, qiyamOf, fromMidnightOf, startedOf, timesOf, workedFrom, workedOf, timeOf, Each}
+use Rattle.schedule.proofs.Schedule.{hoursOf, startOf, finalOf, fajrTomorrowOf, middleOfTheNightOf, qiyamOf, fromMidnightOf, startedOf}
+use Rattle.schedule.proofs.Schedule.{timesOf, workedFrom, workedOf, timeOf, Each}
 use Rattle.order.specs.Accepted.{LatitudeInOrder, ParametersInOrder}
 use Rattle.schedule_laws.specs.Range.{OfDate, AllOfDate, TimesLieByTheirDate, DaysAreOneDigit}
 use Rattle.schedule_laws.proofs.OrderMinutes.{sums-near}
@@ -33,7 +36,8 @@ on-date date {x} h =
     let e : z +ℤ x -ℤ z ≡ x = same (z +ℤ x -ℤ z) x (omega (arith, d .0, d .1)) in
     record { from = rw e (h .from); before = rw e (omega arith) }
 
-started-named : (date : Date) (t : PrayerTimes) → Each Close t → (prayer : Prayer) → OfDate date (timeOf (startedOf (startOf date) t) prayer)
+started-named : (date : Date) (t : PrayerTimes) → Each Close t → (prayer : Prayer)
+    → OfDate date (timeOf (startedOf (startOf date) t) prayer)
 unfolding startedOf timeOf
 started-named date t h Fajr = on-date date (h .fajr)
 started-named date t h Sunrise = on-date date (h .sunrise)
@@ -46,7 +50,8 @@ started-named date t h FajrTomorrow = on-date date (h .«fajr_tomorrow»)
 
 started-close : (date : Date) (t : PrayerTimes) → Each Close t → AllOfDate date (startedOf (startOf date) t)
 unfolding startedOf
-started-close date t h = record { named = λ prayer. started-named date t h prayer; «middle_of_the_night» = on-date date (h .«middle_of_the_night») }
+started-close date t h =
+    record { named = λ prayer. started-named date t h prayer; «middle_of_the_night» = on-date date (h .«middle_of_the_night») }
 
 -- ---- what lies between maghrib and tomorrow's Fajr, and is rounded
 abbrev Closer : ℤ → Type 0
@@ -75,10 +80,12 @@ module _ (p : Parameters) (allowed : ParametersInOrder p) (season : Season) (the
   final prayer h = wider (final-between p prayer h (minutes prayer)) (lit≤ tt) (lit≤ tt)
 
   -- of the next date, from 0h of this one
-  tomorrow : (today next : SolarTime) (hour : SolarHour) → Sun today → Sun next → SunHour hour → Closer (fajrTomorrowOf p season date today next hour)
+  tomorrow : (today next : SolarTime) (hour : SolarHour) → Sun today → Sun next → SunHour hour
+      → Closer (fajrTomorrowOf p season date today next hour)
   unfolding fajrTomorrowOf
   tomorrow today next hour a b h =
-      wider (sum-between (adjusted-between (fajr-days p season allowed there (tomorrowOf date) today next a b hour h) (minutes Fajr)) (natural-between 86400)) (lit≤ tt) (lit≤ tt)
+      wider (sum-between (adjusted-between (fajr-days p season allowed there (tomorrowOf date) today next a b hour h) (minutes Fajr))
+      (natural-between 86400)) (lit≤ tt) (lit≤ tt)
 
   nine : (suns : ThreeSuns) (h : RowHours) → Three suns → Hours h → Each Close (fromMidnightOf p season date suns h)
   unfolding fromMidnightOf
@@ -88,12 +95,14 @@ module _ (p : Parameters) (allowed : ParametersInOrder p) (season : Season) (the
       let m = final Maghrib (sun .sunset) in
       let f = tomorrow (suns .tomorrow) (suns .after) (h .«fajr_tomorrow») next (three .after) (k .«fajr_tomorrow») in
       record {
-        fajr = wider (final-between p Fajr (fajr-days p season allowed there date (suns .today) (suns .tomorrow) sun next (h .fajr) (k .fajr)) (minutes Fajr)) (lit≤ tt) (lit≤ tt);
+        fajr = wider (final-between p Fajr (fajr-days p season allowed there date (suns .today) (suns .tomorrow) sun next (h .fajr)
+            (k .fajr)) (minutes Fajr)) (lit≤ tt) (lit≤ tt);
         sunrise = wider (final Sunrise (sun .sunrise)) (lit≤ tt) (lit≤ tt);
         dhuhr = wider (final Dhuhr (sun .transit)) (lit≤ tt) (lit≤ tt);
         asr = wider (final Asr (or-between (h .asr) (k .asr) (sun .transit))) (lit≤ tt) (lit≤ tt);
         maghrib = wider m (lit≤ tt) (lit≤ tt);
-        isha = wider (final-between p Isha (isha-days p season allowed there date (suns .today) (suns .tomorrow) sun next (h .isha) (k .isha)) (minutes Isha)) (lit≤ tt) (lit≤ tt);
+        isha = wider (final-between p Isha (isha-days p season allowed there date (suns .today) (suns .tomorrow) sun next (h .isha)
+            (k .isha)) (minutes Isha)) (lit≤ tt) (lit≤ tt);
         «middle_of_the_night» = middle-close m f;
         qiyam = qiyam-close m f;
         «fajr_tomorrow» = wider f (lit≤ tt) (lit≤ tt);

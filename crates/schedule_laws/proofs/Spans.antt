@@ -5,11 +5,12 @@ use Rattle.integers.proofs.Integers.{Between, Near, sum, by-balance, wider, sum
 use Rattle.calendar.specs.declared.dates.Date.{Date}
 use Rattle.models.specs.declared.{method.Method.Method, parameters.Parameters.Parameters, rules.Season.Season, prayer.Prayer.Prayer}
 use Rattle.models.specs.Settings.{timeAdjustmentsOf}
-use Rattle.stride.proofs.TimesLaws.{rounded-between, adjusted-between}
+use Rattle.rounding.proofs.TimesLaws.{rounded-between, adjusted-between}
 use Rattle.night_portions.specs.Portions.{seventhOf}
 use Rattle.solar.specs.declared.{setting.SolarHour.SolarHour, times.SolarTime.SolarTime}
 use Rattle.solar.specs.declared.setting.SolarHour.the-variants.{Some, Nothing}
-use Rattle.schedule.proofs.Schedule.{finalOf, nextDayOf, nightOf, laterOf, earlierOf, orOf, bySeventhOf, ownOf, beforeSunriseOf, unadjustedFajrOf}
+use Rattle.schedule.proofs.Schedule.{finalOf, nextDayOf, nightOf, laterOf, earlierOf, orOf, bySeventhOf, ownOf, beforeSunriseOf}
+use Rattle.schedule.proofs.Schedule.{unadjustedFajrOf}
 
 -- an hour's time, where it has one
 pub record HourBetween (a b : ℕ) (hour : SolarHour) : Type 0 where
@@ -23,7 +24,8 @@ unfolding orOf
 or-between (Some t) h k = h .at t refl
 or-between Nothing h k = k
 
-pub own-between : {a b : ℕ} {x y : ℤ} (method : Method) (latitude : Float) (hour : SolarHour) → HourBetween a b hour → Between a b x → Between a b y → Between a b (ownOf method latitude x hour y)
+pub own-between : {a b : ℕ} {x y : ℤ} (method : Method) (latitude : Float) (hour : SolarHour) → HourBetween a b hour → Between a b x
+    → Between a b y → Between a b (ownOf method latitude x hour y)
 unfolding ownOf
 own-between method latitude hour h k l = either-between (bySeventhOf method latitude) k (or-between hour h l)
 
@@ -40,14 +42,18 @@ pub next-day-between : (a : ℕ) {b : ℕ} {x : ℤ} → Between (86400 + a) b x
 next-day-between a {b} {x} h = let s = sum x (pos 86400) in by-balance a (b + 86400) (x +ℤ pos 86400) (omega arith) (omega arith)
 
 -- what is added to sunrise lies from -c to d, and so does what a seventh of the night adds
-pub fajr-between : {a b c d : ℕ} (p : Parameters) (season : Season) (date : Date) (today next : SolarTime) (hour : SolarHour) → HourBetween a b hour → Between a b (today .sunrise)
-    → Between d c (seventhOf (nightOf today next)) → Between c d (beforeSunriseOf p season date (nightOf today next)) → Between (a + c) (b + d) (unadjustedFajrOf p season date today next hour)
+pub fajr-between : {a b c d : ℕ} (p : Parameters) (season : Season) (date : Date) (today next : SolarTime) (hour : SolarHour)
+    → HourBetween a b hour → Between a b (today .sunrise)
+    → Between d c (seventhOf (nightOf today next)) → Between c d (beforeSunriseOf p season date (nightOf today next))
+    → Between (a + c) (b + d) (unadjustedFajrOf p season date today next hour)
 unfolding unadjustedFajrOf
 fajr-between p season date today next hour h r v m =
     let bound = sum-between r m in
-    later-between (own-between (p .method) (season .latitude) hour (hour-wider h (omega arith) (omega arith)) (difference-between r v) bound) bound
+    later-between (own-between (p .method) (season .latitude) hour (hour-wider h (omega arith) (omega arith))
+    (difference-between r v) bound) bound
 
 -- adjusted and rounded
-pub final-between : {a b k : ℕ} {x : ℤ} (p : Parameters) (prayer : Prayer) → Between a b x → Near k (timeAdjustmentsOf p prayer) → Between (a + k * 60 + 60) (b + k * 60 + 60) (finalOf p prayer x)
+pub final-between : {a b k : ℕ} {x : ℤ} (p : Parameters) (prayer : Prayer) → Between a b x → Near k (timeAdjustmentsOf p prayer)
+    → Between (a + k * 60 + 60) (b + k * 60 + 60) (finalOf p prayer x)
 unfolding finalOf
 final-between p prayer h k = rounded-between (p .rounding) (adjusted-between h k)

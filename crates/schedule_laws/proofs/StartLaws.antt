@@ -1,12 +1,12 @@
--- The definitions round a time counted from 0h of its date, and add the date in the end. Counted from 1970 on, as the papers and the crate count, it
--- is rounded to the same. Assumes nothing.
+-- The definitions round a time counted from 0h of its date, and add the date in the end. Counted from 1970 on, as the papers and the crate
+-- count, it is rounded to the same. Assumes nothing.
 use Rattle.prelude.proofs.Logic.{_≡_, sym, ap, _∙_, arith, ℤ, pos, _+ℤ_, _*ℤ_, +ℤ-comm}
 use Rattle.integers.proofs.Integers.{same, times}
 use Rattle.calendar.specs.Days.{dayNumberOf}
 use Rattle.calendar.specs.declared.dates.Date.{Date}
 use Rattle.models.specs.declared.rounding.Rounding.{Rounding}
-use Rattle.stride.specs.Times.{roundedOf, adjustedOf}
-use Rattle.stride.proofs.TimesLaws.{rounded-adjusted}
+use Rattle.rounding.specs.Times.{roundedOf, adjustedOf}
+use Rattle.rounding.proofs.TimesLaws.{rounded-adjusted}
 use Rattle.schedule.specs.Times.{startOf}
 
 -- 0h of a date is so many whole minutes from 1970
@@ -24,4 +24,5 @@ unfolding adjustedOf
 started date x = +ℤ-comm (startOf date) x ∙ ap (λ (z : ℤ). x +ℤ z) (minutes-to date)
 
 pub rounded-from-1970 : (r : Rounding) (date : Date) (x : ℤ) → roundedOf r (startOf date +ℤ x) ≡ startOf date +ℤ roundedOf r x
-rounded-from-1970 r date x = ap (roundedOf r) (started date x) ∙ rounded-adjusted r x (dayNumberOf date *ℤ pos 1440) ∙ sym (started date (roundedOf r x))
+rounded-from-1970 r date x = ap (roundedOf r) (started date x) ∙ rounded-adjusted r x (dayNumberOf date *ℤ pos 1440)
+    ∙ sym (started date (roundedOf r x))

@@ -1,5 +1,5 @@
--- How far the sun's times, Fajr and Isha lie from 0h of their date, for what an order can hold. All in whole days: the sun's times go no further than a
--- day back and two days on. Assumes nothing.
+-- How far the sun's times, Fajr and Isha lie from 0h of their date, for what an order can hold. All in whole days: the sun's times go no
+-- further than a day back and two days on. Assumes nothing.
 use Rattle.prelude.proofs.Logic.{_≡_, sym, subst, cond, ℕ, _+_, _*_, _≤_, arith, lit<, lit≤, ℤ, pos, ltZ, cases}
 use lib.Ieee.{Float}
 use Rattle.float64.specs.Ops.{dec}
@@ -7,11 +7,12 @@ use Rattle.float64.specs.Ranges.{Inside}
 use Rattle.integers.proofs.Integers.{Between, divided, wider, sum-between, difference-between, product-between, either-between}
 use Rattle.calendar.proofs.Calendar.{ordinalOf, ordinal-short}
 use Rattle.calendar.specs.declared.dates.Date.{Date}
-use Rattle.models.specs.declared.{high_altitude_rule.HighLatitudeRule.HighLatitudeRule, parameters.Parameters.Parameters, rules.Season.Season, rules.Midnight.Midnight}
+use Rattle.models.specs.declared.{high_altitude_rule.HighLatitudeRule.HighLatitudeRule, parameters.Parameters.Parameters}
+use Rattle.models.specs.declared.{rules.Season.Season, rules.Midnight.Midnight}
 use Rattle.models.specs.declared.high_altitude_rule.HighLatitudeRule.the-variants.{MiddleOfTheNight, SeventhOfTheNight, TwilightAngle}
 use Rattle.models.specs.declared.rounding.Rounding.the-variants.{Nearest}
 use Rattle.models.specs.Settings.{portionsOf, nightPortionsOf}
-use Rattle.stride.proofs.TimesLaws.{rounded-between}
+use Rattle.rounding.proofs.TimesLaws.{rounded-between}
 use Rattle.night_portions.specs.Portions.{portionBeforeOf, portionAfterOf, seventhOf}
 use Rattle.night_portions.proofs.BoundsLaws.{Portion, after-half, before-half}
 use Rattle.night_portions.proofs.OrderPortions.{half-portion, seventh-portion, angle-portion}
@@ -23,7 +24,8 @@ use Rattle.solar.specs.Times.{solarHourOf, solarTimeOf}
 use Rattle.solar.proofs.TimesLaws.{SunOfThreeDays, DayOfThreeDays, hour-range, day-held}
 use Rattle.schedule.specs.declared.{hours.ThreeSuns.ThreeSuns, hours.Suns.Suns, hours.RowHours.RowHours, hours.RowNumbers.RowNumbers}
 use Rattle.schedule.specs.declared.hours.Suns.the-variants.{Whole, Refused}
-use Rattle.schedule.proofs.Schedule.{sunsOf, dayHoursOf, rowHoursOf, hoursOf, nightOf, bySeasonOf, short-is, beforeSunriseOf, unadjustedFajrOf, afterSunsetOf, ishaBoundOf, boundedIshaOf, unadjustedIshaOf}
+use Rattle.schedule.proofs.Schedule.{sunsOf, hoursOf, nightOf, bySeasonOf, short-is, beforeSunriseOf, unadjustedFajrOf, afterSunsetOf}
+use Rattle.schedule.proofs.Schedule.{ishaBoundOf, boundedIshaOf, unadjustedIshaOf}
 use Rattle.order.specs.Ranges.{mostAngle}
 use Rattle.order.specs.Accepted.{LatitudeInOrder, ParametersInOrder}
 use Rattle.schedule_laws.proofs.Spans.{HourBetween, hour-wider, own-between, earlier-between, next-day-between, fajr-between}
@@ -45,7 +47,11 @@ pub record Sun (sun : SolarTime) : Type 0 where
   pub sunset : Days 1 2 (sun .sunset)
 
 sun-days : (sun : SolarTime) → SunOfThreeDays sun → Sun sun
-sun-days sun h = record { transit = wider (h .transit) (lit≤ tt) (lit≤ tt); sunrise = wider (h .sunrise) (lit≤ tt) (lit≤ tt); sunset = wider (h .sunset) (lit≤ tt) (lit≤ tt) }
+sun-days sun h = record {
+  transit = wider (h .transit) (lit≤ tt) (lit≤ tt);
+  sunrise = wider (h .sunrise) (lit≤ tt) (lit≤ tt);
+  sunset = wider (h .sunset) (lit≤ tt) (lit≤ tt);
+}
 
 pub record Three (suns : ThreeSuns) : Type 0 where
   pub today : Sun (suns .today)
@@ -72,10 +78,11 @@ pub record Hours (h : RowHours) : Type 0 where
   pub «fajr_tomorrow» : SunHour (h .«fajr_tomorrow»)
 
 pub hours : (rule : Midnight) (n : RowNumbers) → Hours (hoursOf rule n)
-unfolding hoursOf rowHoursOf dayHoursOf
+unfolding hoursOf
 hours rule n =
     record {
-      suns = row (solarTimeOf rule (n .today)) (solarTimeOf rule (n .tomorrow)) (solarTimeOf rule (n .after)) (day-held rule (n .today)) (day-held rule (n .tomorrow)) (day-held rule (n .after));
+      suns = row (solarTimeOf rule (n .today)) (solarTimeOf rule (n .tomorrow)) (solarTimeOf rule (n .after)) (day-held rule (n .today))
+          (day-held rule (n .tomorrow)) (day-held rule (n .after));
       fajr = sun-hour rule (n .fajr);
       asr = sun-hour rule (n .asr);
       isha = sun-hour rule (n .isha);
@@ -91,20 +98,23 @@ pub seventh-days : (night : ℤ) → Days 2 4 night → Days 1 1 (seventhOf nigh
 unfolding seventhOf
 seventh-days night h = let d = divided night 7 (lit< tt) in record { from = omega arith; to = omega arith }
 
-fajr-portion : (rule : HighLatitudeRule) (fajr isha : Float) → Inside (dec 0 0) (dec mostAngle 0) fajr → Portion (portionsOf rule fajr isha .fajr)
+fajr-portion : (rule : HighLatitudeRule) (fajr isha : Float) → Inside (dec 0 0) (dec mostAngle 0) fajr
+    → Portion (portionsOf rule fajr isha .fajr)
 unfolding portionsOf
 fajr-portion MiddleOfTheNight fajr isha h = half-portion
 fajr-portion SeventhOfTheNight fajr isha h = seventh-portion
 fajr-portion TwilightAngle fajr isha h = angle-portion fajr (h .0) (h .1)
 
-isha-portion : (rule : HighLatitudeRule) (fajr isha : Float) → Inside (dec 0 0) (dec mostAngle 0) isha → Portion (portionsOf rule fajr isha .isha)
+isha-portion : (rule : HighLatitudeRule) (fajr isha : Float) → Inside (dec 0 0) (dec mostAngle 0) isha
+    → Portion (portionsOf rule fajr isha .isha)
 unfolding portionsOf
 isha-portion MiddleOfTheNight fajr isha h = half-portion
 isha-portion SeventhOfTheNight fajr isha h = seventh-portion
 isha-portion TwilightAngle fajr isha h = angle-portion isha (h .0) (h .1)
 
 -- ---- Fajr and Isha, not adjusted yet
-module _ (p : Parameters) (season : Season) (allowed : ParametersInOrder p) (there : LatitudeInOrder (season .latitude)) (date : Date) (today next : SolarTime) (sun : Sun today) (sun-next : Sun next)
+module _ (p : Parameters) (season : Season) (allowed : ParametersInOrder p) (there : LatitudeInOrder (season .latitude)) (date : Date)
+    (today next : SolarTime) (sun : Sun today) (sun-next : Sun next)
     (hour : SolarHour) (placed : SunHour hour) where
   abbrev night : ℤ
   night = nightOf today next
@@ -114,17 +124,21 @@ module _ (p : Parameters) (season : Season) (allowed : ParametersInOrder p) (the
 
   -- what the source's casts give
   abbrev before-cast : ℤ
-  before-cast = cond (bySeasonOf (p .method)) (morningSecondsOf season (ordinalOf date) (date .year)) (portionBeforeOf (nightPortionsOf p .fajr) night)
+  before-cast = cond (bySeasonOf (p .method)) (morningSecondsOf season (ordinalOf date) (date .year))
+      (portionBeforeOf (nightPortionsOf p .fajr) night)
 
   abbrev after-cast : ℤ
-  after-cast = cond (bySeasonOf (p .method)) (eveningSecondsOf season (ordinalOf date) (date .year) (p .shafaq)) (portionAfterOf (nightPortionsOf p .isha) night)
+  after-cast = cond (bySeasonOf (p .method)) (eveningSecondsOf season (ordinalOf date) (date .year) (p .shafaq))
+      (portionAfterOf (nightPortionsOf p .isha) night)
 
   before-days : Days 2 1 before-cast
   before-days =
       let l = long in
       let m = morning-small season (ordinalOf date) (date .year) (there .0) (there .1) (ordinal-short date) in
-      let b = before-half (nightPortionsOf p .fajr) night (fajr-portion (p .«high_latitude_rule») (p .«fajr_angle») (p .«isha_angle») (allowed .«fajr_angle»)) (wider l (lit≤ tt) (lit≤ tt)) in
-      either-between (bySeasonOf (p .method)) (record { from = omega (arith, m .1); to = m .0 }) (record { from = omega (arith, b .1); to = omega (arith, b .0) })
+      let b = before-half (nightPortionsOf p .fajr) night (fajr-portion (p .«high_latitude_rule») (p .«fajr_angle») (p .«isha_angle»)
+      (allowed .«fajr_angle»)) (wider l (lit≤ tt) (lit≤ tt)) in
+      either-between (bySeasonOf (p .method)) (record { from = omega (arith, m .1); to = m .0 })
+      (record { from = omega (arith, b .1); to = omega (arith, b .0) })
 
   evening : Days 1 1 (eveningSecondsOf season (ordinalOf date) (date .year) (p .shafaq))
   evening =
@@ -134,7 +148,8 @@ module _ (p : Parameters) (season : Season) (allowed : ParametersInOrder p) (the
   portion : Days 1 2 (portionAfterOf (nightPortionsOf p .isha) night)
   portion =
       let l = long in
-      let b = after-half (nightPortionsOf p .isha) night (isha-portion (p .«high_latitude_rule») (p .«fajr_angle») (p .«isha_angle») (allowed .«isha_angle»)) (wider l (lit≤ tt) (lit≤ tt)) in
+      let b = after-half (nightPortionsOf p .isha) night (isha-portion (p .«high_latitude_rule») (p .«fajr_angle») (p .«isha_angle»)
+      (allowed .«isha_angle»)) (wider l (lit≤ tt) (lit≤ tt)) in
       record { from = omega (arith, b .1); to = omega (arith, b .0) }
 
   -- an i32 holds them: the bounds go by the source's seconds
@@ -144,7 +159,8 @@ module _ (p : Parameters) (season : Season) (allowed : ParametersInOrder p) (the
 
   pub after-source : afterSunsetOf p season date night ≡ after-cast
   unfolding afterSunsetOf
-  after-source = short-is after-cast (either-between (bySeasonOf (p .method)) (wider evening (lit≤ tt) (lit≤ tt)) (wider portion (lit≤ tt) (lit≤ tt)))
+  after-source =
+      short-is after-cast (either-between (bySeasonOf (p .method)) (wider evening (lit≤ tt) (lit≤ tt)) (wider portion (lit≤ tt) (lit≤ tt)))
 
   before : Days 2 1 (beforeSunriseOf p season date night)
   before = subst (Days 2 1) (sym before-source) before-days
@@ -158,14 +174,17 @@ module _ (p : Parameters) (season : Season) (allowed : ParametersInOrder p) (the
   bound : IshaSpan (ishaBoundOf p season date today night)
   unfolding ishaBoundOf
   bound =
-      cases (bySeasonOf (p .method)) (λ by-season. rw (after-source, by-season) (wider (rounded-between Nearest (sum-between (sun .sunset) evening)) (lit≤ tt) (lit≤ tt)))
+      cases (bySeasonOf (p .method)) (λ by-season. rw (after-source, by-season)
+      (wider (rounded-between Nearest (sum-between (sun .sunset) evening)) (lit≤ tt) (lit≤ tt)))
       (λ by-night. rw (after-source, by-night) (wider (sum-between (sun .sunset) portion) (lit≤ tt) (lit≤ tt)))
 
   bounded : IshaSpan (boundedIshaOf p season date today next hour)
   unfolding boundedIshaOf
   bounded =
-      earlier-between (own-between (p .method) (season .latitude) hour (hour-wider placed (lit≤ tt) (lit≤ tt)) (wider (sum-between (sun .sunset) (seventh-days night long)) (lit≤ tt) (lit≤ tt)) bound) bound
+      earlier-between (own-between (p .method) (season .latitude) hour (hour-wider placed (lit≤ tt) (lit≤ tt))
+      (wider (sum-between (sun .sunset) (seventh-days night long)) (lit≤ tt) (lit≤ tt)) bound) bound
 
   pub isha-days : IshaSpan (unadjustedIshaOf p season date today next hour)
   unfolding unadjustedIshaOf
-  isha-days = either-between (ltZ (pos 0) (p .«isha_interval»)) (wider (sum-between (sun .sunset) (product-between (allowed .«isha_interval») 60)) (lit≤ tt) (lit≤ tt)) bounded
+  isha-days = either-between (ltZ (pos 0) (p .«isha_interval»))
+      (wider (sum-between (sun .sunset) (product-between (allowed .«isha_interval») 60)) (lit≤ tt) (lit≤ tt)) bounded

@@ -1,5 +1,6 @@
--- Two sets of parameters that differ only in a school's own minutes (demand 3): what the second's larger sums do to the days that are refused, to
--- the nine times and to the prayer in force. For all hour numbers, either rule at midnight and in the south, every date and every latitude. Proved in proofs/LaterLaws.
+-- Two sets of parameters that differ only in a school's own minutes (demand 3): what the second's larger sums do to the days that are
+-- refused, to the nine times and to the prayer in force. For all hour numbers, either rule at midnight and in the south, every date and
+-- every latitude. Proved in proofs/LaterLaws.
 use mathlib.Core.Path.{_≡_}
 use Prim.Native.Nat.{_^_, _≤_, _<_}
 use mathlib.Core.Bool.{true}
@@ -15,6 +16,7 @@ use Rattle.models.specs.declared.rules.Midnight.{Midnight}
 use Rattle.models.specs.declared.rules.Rules.{Rules}
 use Rattle.models.specs.declared.rules.Season.{Season}
 use Rattle.refusals.specs.declared.Refusal.{Refusal}
+use Rattle.models.specs.Chosen.{settingOf}
 use Rattle.models.specs.Settings.{timeAdjustmentsOf}
 use Rattle.unit.specs.declared.Coordinates.{Coordinates}
 use Rattle.schedule.specs.declared.hours.RowNumbers.{RowNumbers}
@@ -62,8 +64,8 @@ pub record NoneEarlier (t u : PrayerTimes) : Type 0 where
   pub qiyam : leZ (t .qiyam) (u .qiyam) ≡ true
   pub «fajr_tomorrow» : leZ (t .«fajr_tomorrow») (u .«fajr_tomorrow») ≡ true
 
--- ---- "each of its six daily times is later by exactly the difference of the two sums for it, and tomorrow's Fajr by exactly Fajr's difference"
--- 60 seconds for each minute of difference
+-- ---- "each of its six daily times is later by exactly the difference of the two sums for it, and tomorrow's Fajr by exactly Fajr's
+-- difference" 60 seconds for each minute of difference
 abbrev pub laterBy : Parameters → Parameters → Prayer → ℤ
 laterBy p q prayer = (timeAdjustmentsOf q prayer -ℤ timeAdjustmentsOf p prayer) *ℤ pos 60
 
@@ -76,7 +78,8 @@ pub record ExactlyLater (p q : Parameters) (t u : PrayerTimes) : Type 0 where
   pub isha : u .isha ≡ t .isha +ℤ laterBy p q Isha
   pub «fajr_tomorrow» : u .«fajr_tomorrow» ≡ t .«fajr_tomorrow» +ℤ laterBy p q Fajr
 
--- ---- "an instant .. ordered by whole seconds, then nanoseconds": which is the order by the nanoseconds from 1970 on, since an instant's are less than a second
+-- ---- "an instant .. ordered by whole seconds, then nanoseconds": which is the order by the nanoseconds from 1970 on, since an instant's
+-- are less than a second
 abbrev pub NotAfterByNanoseconds : Type 0
 NotAfterByNanoseconds =
     (j i : Instant) → j .nanoseconds < inSecond → i .nanoseconds < inSecond
@@ -103,4 +106,4 @@ LaterMinutesMoveTheDay =
 abbrev pub LaterMinutesMoveTheRow : Type 0
 LaterMinutesMoveTheRow =
     (date : Date) (place : Coordinates) (rules : Rules) (p q : Parameters) → LaterMinutes p q
-    → Moved p q (workedAt date place p rules) (workedAt date place q rules)
+    → Moved p q (workedAt date (settingOf place p rules)) (workedAt date (settingOf place q rules))

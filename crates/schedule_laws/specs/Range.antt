@@ -1,5 +1,5 @@
--- Where the nine times of a date lie, and that a sheet can print each one's days as one signed digit: for all hour numbers, either rule at midnight and in the
--- south, every date, and every latitude and parameters that an order can hold. Proved in proofs/RangeLaws.
+-- Document 01: nine times, "each as signed days from the row's date". Those days have one digit: for all hour numbers, either rule at
+-- midnight and in the south, every date, and every latitude and parameters that an order can hold. Proved in proofs/RangeLaws.
 use mathlib.Core.Path.{_≡_}
 use Prim.Native.Nat.{_*_, _≤_, _<_}
 use lib.IntN.{ℤ, _-ℤ_}

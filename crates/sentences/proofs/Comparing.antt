@@ -1,5 +1,6 @@
 -- Two byte strings that are the same. Assumes nothing.
-use Rattle.prelude.proofs.Logic.{_≡_, refl, sym, ap, _∙_, Bool, true, false, cond, false≢true, List, [], _∷_, ℕ, _+_, _<_, add-one, eqb, length, getD, drop, drop-cons, drop-length, eq-eqb, ne-eqb, eqb-true, cases}
+use Rattle.prelude.proofs.Logic.{_≡_, refl, sym, ap, _∙_, Bool, true, false, cond, false≢true, List, [], _∷_, ℕ, _+_, _<_, add-one, eqb}
+use Rattle.prelude.proofs.Logic.{length, getD, drop, drop-cons, drop-length, eq-eqb, ne-eqb, eqb-true, cases}
 use Rattle.sentences.specs.Sentences.{same}
 
 pub same-itself : (t : List ℕ) → same t t ≡ true
@@ -20,15 +21,19 @@ longer-differs t s h = cases (same t s) (λ e. absurd (h (ap length (same-only t
 
 -- ---- the comparing loop: from an index on
 module _ (t s : List ℕ) (i : ℕ) where
-  compared : i < length t → i < length s → same (drop i t) (drop i s) ≡ cond (eqb (getD t i 0) (getD s i 0)) (same (drop (i + 1) t) (drop (i + 1) s)) false
+  compared : i < length t → i < length s
+      → same (drop i t) (drop i s) ≡ cond (eqb (getD t i 0) (getD s i 0)) (same (drop (i + 1) t) (drop (i + 1) s)) false
   unfolding same
   compared h k = rw (add-one i, drop-cons t i 0 h, drop-cons s i 0 k)
 
-  pub same-next : i < length t → i < length s → getD t i 0 ≡ getD s i 0 → same (drop (i + 1) t) (drop (i + 1) s) ≡ same (drop i t) (drop i s)
-  same-next h k e = sym (compared h k ∙ ap (λ (b : Bool). cond b (same (drop (i + 1) t) (drop (i + 1) s)) false) (eq-eqb (getD t i 0) (getD s i 0) e))
+  pub same-next : i < length t → i < length s → getD t i 0 ≡ getD s i 0
+      → same (drop (i + 1) t) (drop (i + 1) s) ≡ same (drop i t) (drop i s)
+  same-next h k e =
+      sym (compared h k ∙ ap (λ (b : Bool). cond b (same (drop (i + 1) t) (drop (i + 1) s)) false) (eq-eqb (getD t i 0) (getD s i 0) e))
 
   pub same-differs : i < length t → i < length s → (getD t i 0 ≡ getD s i 0 → ⊥) → same (drop i t) (drop i s) ≡ false
-  same-differs h k e = compared h k ∙ ap (λ (b : Bool). cond b (same (drop (i + 1) t) (drop (i + 1) s)) false) (ne-eqb (getD t i 0) (getD s i 0) e)
+  same-differs h k e = compared h k
+      ∙ ap (λ (b : Bool). cond b (same (drop (i + 1) t) (drop (i + 1) s)) false) (ne-eqb (getD t i 0) (getD s i 0) e)
 
   pub same-ends : i ≡ length t → i ≡ length s → same (drop i t) (drop i s) ≡ true
   unfolding same

@@ -1,5 +1,6 @@
 -- A sentence has its number and its place where they are looked for; a place has ten digits at most. Assumes nothing.
-use Rattle.prelude.proofs.Logic.{_≡_, refl, ap, subst, _∙_, true, cond, List, [], _∷_, _++_, ℕ, zero, suc, _+_, _-_, _*_, _/_, _^_, _≤_, _<_, pow-suc, div-lt-iff-lt-mul, arith, ltb, length, List·getD-append, lt-ltb, le-leb, ltb-true, cases}
+use Rattle.prelude.proofs.Logic.{_≡_, refl, ap, subst, _∙_, true, cond, List, [], _∷_, _++_, ℕ, zero, suc, _+_, _-_, _*_, _/_, _^_, _≤_}
+use Rattle.prelude.proofs.Logic.{_<_, pow-suc, div-lt-iff-lt-mul, arith, ltb, length, List·getD-append, lt-ltb, le-leb, ltb-true, cases}
 use Rattle.text.specs.Text.{ascii, digitOf, digitsOf, decimalOf}
 use Rattle.text.proofs.TextLaws.{digits-short}
 use Rattle.sentences.specs.Guess.{isDigit, numberIn, none, longer, placeIn}
@@ -16,7 +17,8 @@ unfolding digitsOf
 more zero n h = rw (lt-ltb n 10 (omega arith))
 more (suc k) n h =
     let below : n < 10 ^ suc k * 10 = subst (λ (m : ℕ). n < m) (pow-suc 10 (suc k)) h in
-    ap (λ (l : List ℕ). cond (ltb n 10) (digitOf n ∷ []) (l ++ (digitOf n ∷ []))) (more k (n / 10) (div-lt-iff-lt-mul (omega arith) .1 below))
+    ap (λ (l : List ℕ). cond (ltb n 10) (digitOf n ∷ []) (l ++ (digitOf n ∷ [])))
+    (more k (n / 10) (div-lt-iff-lt-mul (omega arith) .1 below))
 
 abbrev up : ℕ → ℕ → ℕ
 up zero k = k

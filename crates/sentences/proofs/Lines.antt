@@ -1,5 +1,7 @@
 -- What holds of each line of the two tables, by tests that antt computes over them: a new line needs no new proof. Assumes nothing.
-use Rattle.prelude.proofs.Logic.{_≡_, refl, sym, ap, subst, _∙_, Bool, true, false, _&&_, List, [], _∷_, ℕ, zero, suc, _+_, _≤_, _<_, zero-add, add-zero, suc-add, add-suc, arith, T, leb, eqb, leb→le, eqb→eq, length, getD, take, ltb-true, and-l, and-r}
+use Rattle.prelude.proofs.Logic.{_≡_, refl, sym, ap, subst, _∙_, Bool, true, false, _&&_, List, [], _∷_, ℕ, zero, suc, _+_, _≤_, _<_}
+use Rattle.prelude.proofs.Logic.{zero-add, add-zero, suc-add, add-suc, arith, T, leb, eqb, leb→le, eqb→eq, length, getD, take, ltb-true}
+use Rattle.prelude.proofs.Logic.{and-l, and-r}
 use Rattle.text.specs.Text.{ascii}
 use Rattle.sentences.specs.Table.{texts, names, textOf, nameOf, known, widest, widestName}
 use Rattle.sentences.specs.Rows.{filled, endOf}
@@ -10,18 +12,21 @@ is-true : (b : Bool) → T b → b ≡ true
 is-true true t = refl
 is-true false t = absurd t
 
--- ---- a test at each line and its number, and at what stands for the others
+-- ---- a test at each line and its number, and at the line for all other numbers
 abbrev every : (ℕ → List ℕ → Bool) → ℕ → List (List ℕ) → Bool
 every f i [] = true
 every f i (t ∷ ts) = f i t && every f (suc i) ts
 
-from : (f : ℕ → List ℕ → Bool) (d : List ℕ) → ((n : ℕ) → T (f n d)) → (ts : List (List ℕ)) (i : ℕ) → T (every f i ts) → (k : ℕ) → T (f (i + k) (getD ts k d))
+from : (f : ℕ → List ℕ → Bool) (d : List ℕ) → ((n : ℕ) → T (f n d)) → (ts : List (List ℕ)) (i : ℕ) → T (every f i ts) → (k : ℕ)
+    → T (f (i + k) (getD ts k d))
 from f d e [] i t k = e (i + k)
 from f d e (x ∷ ts) i t zero = subst (λ (m : ℕ). T (f m x)) (sym (add-zero i)) (and-l (f i x) (every f (suc i) ts) t)
 from f d e (x ∷ ts) i t (suc k) =
-    subst (λ (m : ℕ). T (f m (getD ts k d))) (suc-add i k ∙ sym (add-suc i k)) (from f d e ts (suc i) (and-r (f i x) (every f (suc i) ts) t) k)
+    subst (λ (m : ℕ). T (f m (getD ts k d))) (suc-add i k ∙ sym (add-suc i k))
+    (from f d e ts (suc i) (and-r (f i x) (every f (suc i) ts) t) k)
 
-at : (f : ℕ → List ℕ → Bool) (d : List ℕ) → ((n : ℕ) → T (f n d)) → (ts : List (List ℕ)) → T (every f 0 ts) → (n : ℕ) → T (f n (getD ts n d))
+at : (f : ℕ → List ℕ → Bool) (d : List ℕ) → ((n : ℕ) → T (f n d)) → (ts : List (List ℕ)) → T (every f 0 ts) → (n : ℕ)
+    → T (f n (getD ts n d))
 at f d e ts t n = subst (λ (m : ℕ). T (f m (getD ts n d))) (zero-add n) (from f d e ts 0 t n)
 
 -- ---- a line is short enough, printable, and ends where the code finds its end
@@ -39,7 +44,8 @@ is-fine k t h =
     record {
       short = leb→le (length t) k (and-l (leb (length t) k) (printable t) both);
       clean = is-true (printable t) (and-r (leb (length t) k) (printable t) both);
-      ends = eqb→eq (endOf (filled widest t) widest) (length t) (and-r (leb (length t) k && printable t) (eqb (endOf (filled widest t) widest) (length t)) h);
+      ends = eqb→eq (endOf (filled widest t) widest) (length t)
+          (and-r (leb (length t) k && printable t) (eqb (endOf (filled widest t) widest) (length t)) h);
     }
 
 pub text-fine : (n : ℕ) → Fine widest (textOf n)
@@ -62,8 +68,10 @@ all-say n = at says [] (λ m. tt) texts tt n
 says-both : (n : ℕ) (t : List ℕ) → T (says n t) → 0 < length t → (numberIn t ≡ n) × (10 ≤ length t)
 says-both n [] s h = absurd (omega arith)
 says-both n (b ∷ bs) s h =
-    let t = b ∷ bs in
-    (eqb→eq (numberIn t) n (and-l (eqb (numberIn t) n) (leb 10 (length t)) s), leb→le 10 (length t) (and-r (eqb (numberIn t) n) (leb 10 (length t)) s))
+    let t = b ∷ bs in (
+      eqb→eq (numberIn t) n (and-l (eqb (numberIn t) n) (leb 10 (length t)) s),
+      leb→le 10 (length t) (and-r (eqb (numberIn t) n) (leb 10 (length t)) s),
+    )
 
 pub text-says : (n : ℕ) → known n ≡ true → (numberIn (textOf n) ≡ n) × (10 ≤ length (textOf n))
 text-says n k = says-both n (textOf n) (all-say n) (ltb-true 0 (length (textOf n)) k)

@@ -1,5 +1,6 @@
 -- The line that is made of the words, a blank and the place's digits, and the answers of the two calls. Assumes nothing.
-use Rattle.prelude.proofs.Logic.{_≡_, refl, sym, ap, _∙_, true, false, cond, _&&_, List, [], _∷_, _++_, ℕ, _+_, _≤_, _<_, arith, ltb, length, take, drop, length-append, length-drop, lt-ltb, le-ltb, le-leb, lt-leb, ltb-false, cases}
+use Rattle.prelude.proofs.Logic.{_≡_, refl, sym, ap, _∙_, true, false, cond, _&&_, List, [], _∷_, _++_, ℕ, _+_, _≤_, _<_, arith, ltb}
+use Rattle.prelude.proofs.Logic.{length, take, drop, length-append, length-drop, lt-ltb, le-ltb, le-leb, lt-leb, ltb-false, cases}
 use Rattle.text.specs.Text.{ascii, decimalOf, putOf, frontOf}
 use Rattle.text.proofs.TextLaws.{put-next, put-nothing, cut-front}
 use Rattle.text.proofs.TextLaws as laws
@@ -7,12 +8,14 @@ use Rattle.refusals.specs.Refusals.{outOfRange, bufferShort}
 use Rattle.sentences.specs.Table.{textOf, nameOf, known, widest, widestName}
 use Rattle.sentences.specs.Rows.{filled, endOf}
 use Rattle.sentences.specs.Guess.{none, numberIn, placeIn, guessedOf}
-use Rattle.sentences.specs.Sentences.{endsInColon, wordsOf, sentenceOf, written, refusing, sentenceCallOf, meant, noSentence, same, meaningOf}
+use Rattle.sentences.specs.Sentences.{endsInColon, wordsOf, sentenceOf, written, refusing, sentenceCallOf, meant, noSentence, same}
+use Rattle.sentences.specs.Sentences.{meaningOf}
 use Rattle.sentences.proofs.Lines.{Fine, text-fine, name-fine, filled-length, take-filled}
 use Rattle.sentences.proofs.Guessing.{ten-digits}
-use Rattle.sentences.proofs.Promises.{words-named, words-alone, words-short, words-long, sentence-known, sentence-unknown, sentence-length, printed, guessed-right}
+use Rattle.sentences.proofs.Promises.{words-named, words-alone, words-short, words-long, sentence-known, sentence-unknown}
+use Rattle.sentences.proofs.Promises.{sentence-length, printed, guessed-right}
 
--- ---- a row of a table, cut where its text ends
+-- ---- a row of a table, cut at its text's end
 pub record Cut (t row : List ℕ) (end : ℕ) : Type 0 where
   pub ends : end ≡ length t
   pub text : take end row ≡ t
@@ -46,7 +49,8 @@ words-of-text n p line a e f =
     (ap length w, f ∙ ap (λ (t : List ℕ). frontOf t line) w)
 
 pub words-of-both : (n p : ℕ) (line a b : List ℕ) → endsInColon (textOf n) ≡ true → length line ≡ 100 → a ≡ frontOf (textOf n) line
-    → b ≡ putOf a (length (textOf n)) (nameOf p) → (length (textOf n) + length (nameOf p) ≡ length (wordsOf n p)) × (b ≡ frontOf (wordsOf n p) line)
+    → b ≡ putOf a (length (textOf n)) (nameOf p) → (length (textOf n) + length (nameOf p) ≡ length (wordsOf n p))
+    × (b ≡ frontOf (wordsOf n p) line)
 words-of-both n p line a b e l f q =
     let w = sym (words-named n p e) in let x = text-fine n .short in let y = name-fine p .short in (
       sym (length-append (textOf n) (nameOf p)) ∙ ap length w,
@@ -80,10 +84,12 @@ unknown-by-sentence n p h = cases (known n) (λ k. let e = sentence-length n p k
 
 -- ---- the sentence's line
 pub sentence-made : (line a b c : List ℕ) (n p : ℕ) → length line ≡ 100 → known n ≡ true → p < none → a ≡ frontOf (wordsOf n p) line
-    → b ≡ putOf a (length (wordsOf n p)) (ascii " ") → c ≡ putOf b (length (wordsOf n p) + 1) (decimalOf p) → c ≡ frontOf (sentenceOf n p) line
+    → b ≡ putOf a (length (wordsOf n p)) (ascii " ") → c ≡ putOf b (length (wordsOf n p) + 1) (decimalOf p)
+    → c ≡ frontOf (sentenceOf n p) line
 sentence-made line a b c n p l k h f q r =
     let s = words-short n p in let d = ten-digits p h in let e = length-append (wordsOf n p) (ascii " ") in
-    let g : b ≡ frontOf (wordsOf n p ++ ascii " ") line = put-next line (wordsOf n p) (ascii " ") a b (length (wordsOf n p)) f refl q (omega arith) in
+    let g : b ≡ frontOf (wordsOf n p ++ ascii " ") line =
+    put-next line (wordsOf n p) (ascii " ") a b (length (wordsOf n p)) f refl q (omega arith) in
     put-next line (wordsOf n p ++ ascii " ") (decimalOf p) b c (length (wordsOf n p) + 1) g (sym e) r (omega arith)
     ∙ ap (λ (t : List ℕ). frontOf t line) (sym (sentence-known n p k))
 
@@ -94,7 +100,8 @@ pub record Line (n p end : ℕ) (line : List ℕ) : Type 0 where
   pub long : length line ≡ 100
   pub text : take end line ≡ sentenceOf n p
 
-pub line-of : (line made : List ℕ) (n p end : ℕ) → end ≡ length (sentenceOf n p) → made ≡ frontOf (sentenceOf n p) line → length line ≡ 100 → p < none
+pub line-of : (line made : List ℕ) (n p end : ℕ) → end ≡ length (sentenceOf n p) → made ≡ frontOf (sentenceOf n p) line → length line ≡ 100
+    → p < none
     → Line n p end made
 line-of line made n p end e m l h =
     let s = printed n p h .0 in
@@ -105,7 +112,7 @@ line-of line made n p end e m l h =
       text = cut-front (sentenceOf n p) line made end e m;
     }
 
--- ---- what writing answers and leaves
+-- ---- what writing returns and leaves
 pub writes-unknown : (n p : ℕ) (buffer : List ℕ) → known n ≡ false → sentenceCallOf n p buffer ≡ refusing outOfRange buffer
 unfolding sentenceCallOf
 writes-unknown n p buffer k = rw k
@@ -122,7 +129,7 @@ writes n p end buffer k e h =
     let put = put-next buffer [] (sentenceOf n p) buffer (putOf buffer 0 (sentenceOf n p)) 0 refl refl refl (omega arith) in
     rw (k, le-leb (length (sentenceOf n p)) (length buffer) (omega arith), e, put)
 
--- ---- what reading answers
+-- ---- what reading returns
 module _ (bytes : List ℕ) (n p : ℕ) (e : n ≡ numberIn bytes) (q : p ≡ placeIn 0 bytes) where
   at-these : meaningOf bytes ≡ cond (ltb p none && known n && same (sentenceOf n p) bytes) (meant n p) noSentence
   unfolding guessedOf

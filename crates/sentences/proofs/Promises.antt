@@ -1,5 +1,9 @@
--- The promises of request 8: `each-has-a-sentence`, `printed`, `read-back`, `different`, `reads-only-sentences`, `written-and-read`. Assumes nothing.
-use Rattle.prelude.proofs.Logic.{_≡_, refl, sym, ap, subst, _∙_, Bool, true, false, false≢true, not, cond, _&&_, and-eq-true-iff, List, [], _∷_, _++_, append-assoc, ℕ, zero, suc, _+_, _/_, _≤_, _<_, arith, leb, ltb, eqb, T, length, getD, take, List·getD-eq-default, length-append, le-leb, lt-ltb, ltb-true, ltb-false, leb-true, eq-eqb, ne-eqb, eqb-true, cases, either}
+-- The promises of request 8: `each-has-a-sentence`, `printed`, `read-back`, `different`, `reads-only-sentences`, `written-and-read`.
+-- Assumes nothing.
+use Rattle.prelude.proofs.Logic.{_≡_, refl, sym, ap, subst, _∙_, Bool, true, false, false≢true, not, cond, _&&_, and-eq-true-iff, List, []}
+use Rattle.prelude.proofs.Logic.{_∷_, _++_, append-assoc, ℕ, zero, suc, _+_, _/_, _≤_, _<_, arith, leb, ltb, eqb, T, length, getD, take}
+use Rattle.prelude.proofs.Logic.{List·getD-eq-default, length-append, le-leb, lt-ltb, ltb-true, ltb-false, leb-true, eq-eqb, ne-eqb}
+use Rattle.prelude.proofs.Logic.{eqb-true, cases, either}
 use Rattle.prelude.specs.Lists.{listed}
 use Rattle.prelude.proofs.Computed.{at}
 use Rattle.refusals.specs.Refusals.{numbers}
@@ -8,9 +12,11 @@ use Rattle.text.proofs.TextLaws.{cut-front}
 use Rattle.sentences.specs.declared.Meaning.{Meaning}
 use Rattle.sentences.specs.Table.{texts, textOf, nameOf, known, widest, widestName}
 use Rattle.sentences.specs.Guess.{none, numberIn, placeIn, guessedOf}
-use Rattle.sentences.specs.Sentences.{endsInColon, wordsOf, sentenceOf, sentenceCallOf, meant, noSentence, same, amongPlaces, amongNumbers, meaningOf}
-use Rattle.sentences.specs.Promises.{EachHasASentence, Says, Different, Printed, ReadBack, ReadAs, ReadsOnlySentences, WrittenAndRead}
-use Rattle.sentences.specs.Promises.ReadAs.{says, other}
+use Rattle.sentences.specs.Sentences.{endsInColon, wordsOf, sentenceOf, sentenceCallOf, meant, noSentence, same, amongPlaces}
+use Rattle.sentences.specs.Sentences.{amongNumbers, meaningOf}
+use Rattle.sentences.specs.Promises.{EachHasASentence, Says, Different, Printed, ReadBack, ReadAsSentence, ReadsOnlySentences}
+use Rattle.sentences.specs.Promises.{WrittenAndRead}
+use Rattle.sentences.specs.Promises.ReadAsSentence.{says, other}
 use Rattle.sentences.proofs.Lines.{text-fine, name-fine, text-says}
 use Rattle.sentences.proofs.Guessing.{number-append, ten-digits, place-back}
 use Rattle.sentences.proofs.Comparing.{same-itself, same-only}
@@ -38,7 +44,8 @@ equal false false t = refl
 pub each-has-a-sentence : EachHasASentence
 unfolding textOf texts listed upTo
 each-has-a-sentence n =
-    cases (ltb n 19) (λ h. equal (known n) (listed numbers n) (at (λ k. cond (known k) (listed numbers k) (not (listed numbers k))) 19 tt n (ltb-true n 19 h)))
+    cases (ltb n 19) (λ h. equal (known n) (listed numbers n)
+    (at (λ k. cond (known k) (listed numbers k) (not (listed numbers k))) 19 tt n (ltb-true n 19 h)))
     (λ h. let l = ltb-false n 19 h in
     let e : getD texts n [] ≡ [] = List·getD-eq-default texts [] l in
     rw (e, none-over 18 n numbers refl (omega arith)))
@@ -121,7 +128,8 @@ printed n p h =
     (λ k. rw (sentence-unknown n p k) (omega arith, refl))
 
 -- ---- a sentence is read back, by what the code does
-guessed-at : (bytes : List ℕ) (n p : ℕ) → numberIn bytes ≡ n → placeIn 0 bytes ≡ p → p < none → known n ≡ true → same (sentenceOf n p) bytes ≡ true
+guessed-at : (bytes : List ℕ) (n p : ℕ) → numberIn bytes ≡ n → placeIn 0 bytes ≡ p → p < none → known n ≡ true
+    → same (sentenceOf n p) bytes ≡ true
     → guessedOf bytes ≡ meant n p
 unfolding guessedOf
 guessed-at bytes n p e d h k s = rw (e, d, k, s, lt-ltb p none h)
@@ -161,22 +169,25 @@ module _ (bytes : List ℕ) where
 
   accepted-bytes : test ≡ true → Says bytes n p
   accepted-bytes e =
-      let t = and-eq-true-iff (ltb p none && known n) (same (sentenceOf n p) bytes) .0 e in let u = and-eq-true-iff (ltb p none) (known n) .0 (t .0) in
+      let t = and-eq-true-iff (ltb p none && known n) (same (sentenceOf n p) bytes) .0 e in
+      let u = and-eq-true-iff (ltb p none) (known n) .0 (t .0) in
       record { number = u .1; place = ltb-true p none (u .0); sentence = sym (same-only (sentenceOf n p) bytes (t .1)) }
 
--- ---- which is what the definition finds among all sentences. A sentence that it meets is the guessed one, since that is read back; so going on changes
--- nothing, and the guessed one is met.
+-- ---- which is what the definition finds among all sentences. A sentence that it meets is the guessed one, since that is read back; so
+-- going on changes nothing, and the guessed one is met.
 module _ (bytes : List ℕ) where
   met : (n p : ℕ) → known n ≡ true → p < none → same (sentenceOf n p) bytes ≡ true → meant n p ≡ guessedOf bytes
   met n p k h s = sym (guessed-back bytes n p (record { number = k; place = h; sentence = sym (same-only (sentenceOf n p) bytes s) }))
 
-  places-after : (n k : ℕ) (after : Meaning) → known n ≡ true → k ≤ none → after ≡ guessedOf bytes → amongPlaces bytes n k after ≡ guessedOf bytes
+  places-after : (n k : ℕ) (after : Meaning) → known n ≡ true → k ≤ none → after ≡ guessedOf bytes
+      → amongPlaces bytes n k after ≡ guessedOf bytes
   unfolding amongPlaces
   places-after n zero after y h e = e
   places-after n (suc k) after y h e =
       cases (same (sentenceOf n k) bytes) (λ s. rw s (met n k y (omega arith) s)) (λ s. rw s (places-after n k after y (omega arith) e))
 
-  places-meet : (n p k : ℕ) (after : Meaning) → known n ≡ true → k ≤ none → p < k → same (sentenceOf n p) bytes ≡ true → amongPlaces bytes n k after ≡ guessedOf bytes
+  places-meet : (n p k : ℕ) (after : Meaning) → known n ≡ true → k ≤ none → p < k → same (sentenceOf n p) bytes ≡ true
+      → amongPlaces bytes n k after ≡ guessedOf bytes
   unfolding amongPlaces
   places-meet n p zero after y h l s = absurd (omega arith)
   places-meet n p (suc k) after y h l s =
@@ -201,13 +212,15 @@ module _ (bytes : List ℕ) where
   numbers-without (x ∷ xs) y e =
       places-after x none (amongNumbers bytes xs) (first-known x xs y) (omega arith) (numbers-without xs (rest-known x xs y) e)
 
-  numbers-meet : (xs : List ℕ) (n p : ℕ) → allKnown xs → listed xs n ≡ true → p < none → same (sentenceOf n p) bytes ≡ true → amongNumbers bytes xs ≡ guessedOf bytes
+  numbers-meet : (xs : List ℕ) (n p : ℕ) → allKnown xs → listed xs n ≡ true → p < none → same (sentenceOf n p) bytes ≡ true
+      → amongNumbers bytes xs ≡ guessedOf bytes
   unfolding amongNumbers listed
   numbers-meet [] n p y l h s = absurd (false≢true l)
   numbers-meet (x ∷ xs) n p y l h s =
       cases (eqb x n)
       (λ e. places-meet x p none (amongNumbers bytes xs) (first-known x xs y) (omega arith) h (rw (← eqb-true x n e) at s))
-      (λ e. places-after x none (amongNumbers bytes xs) (first-known x xs y) (omega arith) (numbers-meet xs n p (rest-known x xs y) (rw e at l) h s))
+      (λ e. places-after x none (amongNumbers bytes xs) (first-known x xs y) (omega arith)
+      (numbers-meet xs n p (rest-known x xs y) (rw e at l) h s))
 
   numbers-known : allKnown numbers
   numbers-known n l = each-has-a-sentence n ∙ l
@@ -234,12 +247,14 @@ different bytes n m p q s u =
 pub reads-only-sentences : ReadsOnlySentences
 reads-only-sentences bytes =
     cases (test bytes)
-    (λ e. let s = accepted-bytes bytes e in subst (ReadAs bytes) (sym (read-back bytes (n bytes) (p bytes) s)) (says (n bytes) (p bytes) s))
-    (λ e. subst (ReadAs bytes) (sym (sym (guessed-right bytes) ∙ refused-bytes bytes e)) (other (λ m q s. never m q e s)))
+    (λ e. let s = accepted-bytes bytes e in
+    subst (ReadAsSentence bytes) (sym (read-back bytes (n bytes) (p bytes) s)) (says (n bytes) (p bytes) s))
+    (λ e. subst (ReadAsSentence bytes) (sym (sym (guessed-right bytes) ∙ refused-bytes bytes e)) (other (λ m q s. never m q e s)))
   where
     never : (m q : ℕ) → test bytes ≡ false → Says bytes m q → ⊥
     never m q e s =
-        let z : _≡_ {A = ℕ} 5 0 = ap (λ (r : Meaning). r .number) (sym (sym (guessed-right bytes) ∙ refused-bytes bytes e) ∙ read-back bytes m q s) in
+        let z : _≡_ {A = ℕ} 5 0 =
+        ap (λ (r : Meaning). r .number) (sym (sym (guessed-right bytes) ∙ refused-bytes bytes e) ∙ read-back bytes m q s) in
         omega arith
 
 -- ---- what was written is read back

@@ -1,5 +1,7 @@
 -- One step of each loop, and the look into a table. Assumes nothing.
-use Rattle.prelude.proofs.Logic.{_≡_, refl, sym, ap, _∙_, false, true, List, [], _∷_, map, ℕ, zero, suc, _+_, _-_, _*_, _≤_, _<_, add-one, arith, eqb, length, getD, drop, take, drop-cons, drop-length, getD-take, length-take-le, eq-eqb, ne-eqb, lt-ltb, le-ltb}
+use Rattle.prelude.proofs.Logic.{_≡_, refl, sym, ap, _∙_, false, true, List, [], _∷_, map, ℕ, zero, suc, _+_, _-_, _*_, _≤_, _<_, add-one}
+use Rattle.prelude.proofs.Logic.{arith, eqb, length, getD, drop, take, drop-cons, drop-length, getD-take, length-take-le, eq-eqb, ne-eqb}
+use Rattle.prelude.proofs.Logic.{lt-ltb, le-ltb}
 use Rattle.sentences.specs.Rows.{endOf}
 use Rattle.sentences.specs.Guess.{isDigit, numberIn, none, longer, placeIn}
 use Rattle.sentences.specs.Sentences.{endsInColon}
@@ -48,7 +50,8 @@ pub longer-other : (v b : ℕ) → isDigit b ≡ false → 0 ≡ longer v b
 longer-other v b d = rw d
 
 -- ---- the number at the end of bytes
-pub place-next : (bytes : List ℕ) (v w i : ℕ) → i < length bytes → w ≡ longer v (getD bytes i 0) → placeIn w (drop (i + 1) bytes) ≡ placeIn v (drop i bytes)
+pub place-next : (bytes : List ℕ) (v w i : ℕ) → i < length bytes → w ≡ longer v (getD bytes i 0)
+    → placeIn w (drop (i + 1) bytes) ≡ placeIn v (drop i bytes)
 unfolding placeIn
 place-next bytes v w i h e = rw (e, add-one i, drop-cons bytes i 0 h)
 
@@ -57,7 +60,8 @@ unfolding placeIn
 place-end bytes v i e = rw (ap (λ (k : ℕ). drop k bytes) e ∙ drop-length bytes)
 
 -- ---- the number that a sentence would say
-pub two-digits : (bytes : List ℕ) (x y a b : ℕ) → x ≡ getD bytes 8 0 → y ≡ getD bytes 9 0 → a ≡ x - 48 → b ≡ y - 48 → isDigit y ≡ true → 10 * a + b ≡ numberIn bytes
+pub two-digits : (bytes : List ℕ) (x y a b : ℕ) → x ≡ getD bytes 8 0 → y ≡ getD bytes 9 0 → a ≡ x - 48 → b ≡ y - 48 → isDigit y ≡ true
+    → 10 * a + b ≡ numberIn bytes
 unfolding numberIn
 two-digits bytes x y a b e f g h d = rw (sym f, sym e, d, g, h)
 

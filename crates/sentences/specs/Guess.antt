@@ -1,4 +1,5 @@
--- This file need not be believed: where the code looks for the number and the place that bytes say, before it compares their whole sentence.
+-- This file need not be believed: where the code looks for the number and the place that bytes say, before it compares their whole
+-- sentence.
 use Prim.Native.Nat.{ℕ, _+_, _*_, _-_, _^_}
 use mathlib.Core.Bool.{Bool, cond, _&&_}
 use mathlib.Core.List.{List, [], _∷_}
@@ -31,7 +32,7 @@ unfoldable pub placeIn : ℕ → List ℕ → ℕ
 placeIn v [] = v
 placeIn v (b ∷ bs) = placeIn (longer v b) bs
 
--- the bytes say the number and the place that stand in them, if they are the sentence of these two, byte for byte
+-- the bytes say the number and the place found in them, if they are the sentence of these two, byte for byte
 unfoldable pub guessedOf : List ℕ → Meaning
 guessedOf bytes =
     let n = numberIn bytes in

@@ -34,12 +34,12 @@ abbrev pub ReadBack : Type 0
 ReadBack = (bytes : List ℕ) (n p : ℕ) → Says bytes n p → meaningOf bytes ≡ meant n p
 
 -- "and refuses all other bytes by 5, place 0"
-pub data ReadAs (bytes : List ℕ) : Meaning → Type 0 where
-  says : (n p : ℕ) → Says bytes n p → ReadAs bytes (meant n p)
-  other : ((n p : ℕ) → Says bytes n p → ⊥) → ReadAs bytes noSentence
+pub data ReadAsSentence (bytes : List ℕ) : Meaning → Type 0 where
+  says : (n p : ℕ) → Says bytes n p → ReadAsSentence bytes (meant n p)
+  other : ((n p : ℕ) → Says bytes n p → ⊥) → ReadAsSentence bytes noSentence
 
 abbrev pub ReadsOnlySentences : Type 0
-ReadsOnlySentences = (bytes : List ℕ) → ReadAs bytes (meaningOf bytes)
+ReadsOnlySentences = (bytes : List ℕ) → ReadAsSentence bytes (meaningOf bytes)
 
 -- "is written at the front of a lent buffer": a buffer with room has the sentence there and else its own bytes, and it is read back
 abbrev pub WrittenAndRead : Type 0

@@ -1,4 +1,4 @@
--- Request 8, "Refusals in words": a refusal's sentence, what writing answers and leaves in the buffer, and what reading answers.
+-- Request 8, "Refusals in words": a refusal's sentence, what writing returns and leaves in the buffer, and what reading returns.
 use Prim.Native.Nat.{ℕ, zero, suc, _-_, _^_}
 use mathlib.Core.Bool.{Bool, true, false, cond}
 use mathlib.Core.List.{List, [], _∷_, _++_}
@@ -22,7 +22,7 @@ wordsOf n p = cond (endsInColon (textOf n)) (textOf n ++ nameOf p) (textOf n)
 unfoldable pub sentenceOf : ℕ → ℕ → List ℕ
 sentenceOf n p = cond (known n) (wordsOf n p ++ ascii " " ++ decimalOf p) []
 
--- ---- writing: what the call answers, and every byte of the lent buffer after it
+-- ---- writing: what the call returns, and every byte of the lent buffer after it
 pub record SentenceCall : Type 0 where
   pub answer : WrittenSentence
   pub buffer : List ℕ
@@ -37,13 +37,14 @@ written length = record { number = 0; place = 0; length = length }
 abbrev pub refusing : ℕ → List ℕ → SentenceCall
 refusing number buffer = record { answer = unwritten number; buffer = buffer }
 
--- "An unknown number gets 5, place 0, before the buffer is checked. A buffer shorter than the sentence gets 9." Else it is "at the front of a lent
--- buffer", and the bytes after it stay
+-- "An unknown number gets 5, place 0, before the buffer is checked. A buffer shorter than the sentence gets 9." Else it is "at the front of
+-- a lent buffer", and the bytes after it stay
 unfoldable pub sentenceCallOf : ℕ → ℕ → List ℕ → SentenceCall
 sentenceCallOf n p buffer =
     let sentence = sentenceOf n p in
     cond (known n)
-    (cond (leb (length sentence) (length buffer)) (record { answer = written (length sentence); buffer = frontOf sentence buffer }) (refusing bufferShort buffer))
+    (cond (leb (length sentence) (length buffer)) (record { answer = written (length sentence); buffer = frontOf sentence buffer })
+    (refusing bufferShort buffer))
     (refusing outOfRange buffer)
 
 -- ---- reading

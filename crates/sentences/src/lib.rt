@@ -4,7 +4,7 @@ mod reading;
 pub mod sentence;
 mod table;
 
-// What writing answers.
+// What writing returns.
 #[repr(C)]
 pub struct WrittenSentence {
     pub number: u32,
@@ -12,7 +12,7 @@ pub struct WrittenSentence {
     pub length: u32,
 }
 
-// What reading answers: the number and the place that the sentence says, or why it says none.
+// What reading returns: the number and the place that the sentence says, or why it says none.
 #[repr(C)]
 pub struct Meaning {
     pub number: u32,

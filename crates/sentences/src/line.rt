@@ -4,6 +4,8 @@ ghost use Prim.Native.Nat.{_≤_};
 ghost use lib.ListN.{length, take};
 ghost use Rattle.text.specs.Text.{frontOf};
 ghost use Rattle.sentences.specs.Sentences.{endsInColon, wordsOf, sentenceOf};
+ghost use Rattle.sentences.specs.Table.{widest};
+use super::table::WIDEST;
 use super::table::end_of;
 use super::table::name_row;
 use super::table::text_row;
@@ -11,8 +13,8 @@ use text::decimal::put_decimal;
 use text::put::put;
 
 // Whether the text that ends there has a tag as its place.
-fn ends_in_colon(row: [u8; 64], end: usize) -> bool
-    requires { ⌜ end ≤ 64 ⌝ }
+fn ends_in_colon(row: [u8; WIDEST], end: usize) -> bool
+    requires { ⌜ end ≤ widest ⌝ }
     ensures { λ r. ⌜ r ≡ endsInColon (take end row) ⌝ }
 {
     if end == 0 {
@@ -21,7 +23,7 @@ fn ends_in_colon(row: [u8; 64], end: usize) -> bool
     row[end - 1] == 58
 }
 
-// What stands before the place; answers its length, 0 for a number that is not known.
+// Writes the words before the place. Returns their length, or 0 for a number that is not known.
 fn put_words(line: &mut [u8; 100], number: u32, place: u32) -> usize
     ensures { λ r. ⌜ r ≡ length (wordsOf number place) ⌝ }
     ensures { λ _. ⌜ now (line .exit) ≡ frontOf (wordsOf number place) (now (line .entry)) ⌝ }
@@ -38,7 +40,7 @@ fn put_words(line: &mut [u8; 100], number: u32, place: u32) -> usize
     end + length
 }
 
-// The sentence; answers its length, 0 for a number that is not known.
+// Writes the sentence. Returns its length, or 0 for a number that is not known.
 pub fn put_sentence(line: &mut [u8; 100], number: u32, place: u32) -> usize
     ensures { λ r. ⌜ r ≡ length (sentenceOf number place) ⌝ }
     ensures { λ _. ⌜ now (line .exit) ≡ frontOf (sentenceOf number place) (now (line .entry)) ⌝ }

@@ -1,4 +1,4 @@
-// The number and the place that stand in bytes, and whether two byte strings are the same.
+// The number and the place that bytes say, and whether two byte strings are the same.
 ghost use mathlib.Core.Path.{_≡_};
 ghost use Prim.Native.Nat.{_-_, _≤_};
 ghost use lib.ListN.{getD};
@@ -14,7 +14,7 @@ fn is_digit(b: u8) -> bool
     (48 <= b) & (b <= 57)
 }
 
-// A digit's number; 0 for what stands before the digits.
+// A digit's number; 0 for a byte before the digits.
 fn value(b: u8) -> u64
     ensures { λ r. ⌜ (r ≡ b - 48) × (r ≤ 207) ⌝ }
 {

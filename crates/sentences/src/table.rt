@@ -8,7 +8,10 @@ const NUMBERS: usize = 19;
 
 const TAGS: usize = 21;
 
-const TEXTS: [[u8; 64]; NUMBERS] = [
+// The longest that a text can be.
+pub const WIDEST: usize = 64;
+
+const TEXTS: [[u8; WIDEST]; NUMBERS] = [
     *b"                                                                ",
     *b"Refusal 1: over 1,024 bytes, or cut in the field at byte        ",
     *b"Refusal 2: unknown tag or wrong length in the field at byte     ",
@@ -30,7 +33,7 @@ const TEXTS: [[u8; 64]; NUMBERS] = [
     *b"Refusal 18: the sheet does not begin on the 1st of Ramadan:     ",
 ];
 
-const NAMES: [[u8; 64]; TAGS] = [
+const NAMES: [[u8; WIDEST]; TAGS] = [
     *b" tag                                                            ",
     *b" town, tag                                                      ",
     *b" first day, tag                                                 ",
@@ -55,7 +58,7 @@ const NAMES: [[u8; 64]; TAGS] = [
 ];
 
 // A number's text; blanks alone for a number that is not known.
-pub fn text_row(number: u32) -> [u8; 64]
+pub fn text_row(number: u32) -> [u8; WIDEST]
     ensures { λ r. ⌜ r ≡ filled widest (textOf number) ⌝ }
 {
     let line = number as usize;
@@ -66,7 +69,7 @@ pub fn text_row(number: u32) -> [u8; 64]
 }
 
 // A tag's name.
-pub fn name_row(tag: u32) -> [u8; 64]
+pub fn name_row(tag: u32) -> [u8; WIDEST]
     ensures { λ r. ⌜ r ≡ filled widest (nameOf tag) ⌝ }
 {
     let line = tag as usize;
@@ -77,10 +80,10 @@ pub fn name_row(tag: u32) -> [u8; 64]
 }
 
 // Where a row's text ends: behind the last byte that is not a blank.
-pub fn end_of(row: [u8; 64]) -> usize
+pub fn end_of(row: [u8; WIDEST]) -> usize
     ensures { λ r. ⌜ r ≡ endOf row widest ⌝ }
 {
-    let mut end: usize = 64;
+    let mut end: usize = WIDEST;
     while end > 0 {
         if row[end - 1] != 32 {
             return end;

@@ -1,5 +1,5 @@
 // Reads an order on standard input and prints its sheet. One byte more than an order may have is enough to know that it is too long.
-use rows::sheet::write_sheet;
+use sheets::sheet::write_sheet;
 
 fn main() {
     let mut order = [0u8; 1025];

@@ -1,5 +1,6 @@
 -- The arithmetic of `hour` and `next_midnight` at what the machine reads, and their times. Assumes nothing.
-use Rattle.prelude.proofs.Logic.{_≡_, sym, ap, subst, _∙_, ℕ, _+_, _*_, _≤_, _<_, arith, ℤ, pos, negsuc, _-ℤ_, lt-ltb, le-ltb, w32, SFits, toZ, ofZ}
+use Rattle.prelude.proofs.Logic.{_≡_, sym, ap, subst, _∙_, ℕ, _+_, _*_, _≤_, _<_, arith, ℤ, pos, negsuc, _-ℤ_, lt-ltb, le-ltb, w32, SFits}
+use Rattle.prelude.proofs.Logic.{toZ, ofZ}
 use Rattle.integers.proofs.Integers.{same, sum, difference, fits, read}
 use Rattle.solar.specs.Setting.{hourOf}
 use Rattle.solar.specs.PastMidnight.{nextMidnightOf}

@@ -1,5 +1,7 @@
--- The nearest minute where minutes and seconds both lie between 0 and 60: the whole minutes, and one more from 30 seconds on. Assumes nothing.
-use Rattle.prelude.proofs.Logic.{_≡_, refl, sym, _∙_, Bool, true, false, not, ℕ, _+_, _*_, _^_, _<_, div-lt-iff-lt-mul, arith, T, ltb, eqb, eqb→eq, le→leb, lit<, boolByte}
+-- The nearest minute where minutes and seconds both lie between 0 and 60: the whole minutes, and one more from 30 seconds on. Assumes
+-- nothing.
+use Rattle.prelude.proofs.Logic.{_≡_, refl, sym, _∙_, Bool, true, false, not, ℕ, _+_, _*_, _^_, _<_, div-lt-iff-lt-mul, arith, T, ltb, eqb}
+use Rattle.prelude.proofs.Logic.{eqb→eq, le→leb, lit<, boolByte}
 use lib.Ieee.{Float, fin, binary64, up, down, round, add, div, ofInt, inUnsigned, inFloat, toUnsigned, fits, lt}
 use lib.Ieee.Back.{unsigned-back}
 use lib.Ieee.Exact.{HasValue}
@@ -23,7 +25,8 @@ all-nearest = tt
 
 nearest-whole : (k q : ℕ) → k < 60 → q < 60 → k + boolByte (not (ltb q 30)) ≡ toUnsigned 32 (roundOf (at k +ᶠ at q /ᶠ dec 60 0))
 unfolding nearestTest
-nearest-whole k q h l = eqb→eq _ _ (Computed.at (nearestTest k) 60 (Computed.at (λ k. Computed.below (nearestTest k) 60) 60 all-nearest k h) q l)
+nearest-whole k q h l =
+    eqb→eq _ _ (Computed.at (nearestTest k) 60 (Computed.at (λ k. Computed.below (nearestTest k) 60) 60 all-nearest k h) q l)
 
 -- ---- a float between 0 and 60 has a whole part n below 60
 minute-value : HasValue (dec 60 0) false 60 1
@@ -46,7 +49,8 @@ under60 = inside Under60 60 (dec 60 0) minute-value
       n = wholePart m e;
       small = div-lt-iff-lt-mul (down-pos e) .1 l;
       is = trunc-at m e f (omega (arith, l));
-      early = lt-values (fin false m e) (dec 30 0) (m * up e) 30 (down e) 1 (down-pos e) (lit< tt) (refl, refl) half-value ∙ below-whole 30 m e;
+      early = lt-values (fin false m e) (dec 30 0) (m * up e) 30 (down e) 1 (down-pos e) (lit< tt) (refl, refl) half-value
+          ∙ below-whole 30 m e;
     })
 
 -- ---- the floored minutes are cast as they are, and with one more from 30 seconds on they are the nearest
@@ -60,13 +64,15 @@ boolByte-small true = lit< tt
 boolByte-small false = lit< tt
 
 pub nearest-minute : (a b c d k : Float) → k ≡ floorOf (a *ᶠ b)
-    → lt zero64 (a *ᶠ b) ≡ true → lt (a *ᶠ b) (dec 60 0) ≡ true → lt zero64 (c *ᶠ d) ≡ true → lt (c *ᶠ d) (dec 60 0) ≡ true → Minute k (c *ᶠ d)
+    → lt zero64 (a *ᶠ b) ≡ true → lt (a *ᶠ b) (dec 60 0) ≡ true → lt zero64 (c *ᶠ d) ≡ true → lt (c *ᶠ d) (dec 60 0) ≡ true
+    → Minute k (c *ᶠ d)
 nearest-minute a b c d k e m0 m60 s0 s60 =
     let m = under60 (a *ᶠ b) (mul-fits binary64 a b) m0 m60 in
     let s = under60 (c *ᶠ d) (mul-fits binary64 c d) s0 s60 in
     let i : k ≡ at (m .n) = e ∙ sym (floor-positive (a *ᶠ b) m0) ∙ m .is in
     let j : floorOf (c *ᶠ d) ≡ at (s .n) = sym (floor-positive (c *ᶠ d) s0) ∙ s .is in
-    let u = unsigned-back binary64 32 (m .n) (unfold inFloat in le→leb (m .n) (2 ^ 53) (omega (arith, m .small))) (omega (arith, m .small)) in
+    let u =
+    unsigned-back binary64 32 (m .n) (unfold inFloat in le→leb (m .n) (2 ^ 53) (omega (arith, m .small))) (omega (arith, m .small)) in
     let v : toUnsigned 32 (at (m .n)) ≡ m .n = unfold ofInt in u .1 in
     record {
       cast = rw i (unfold ofInt in u .0);

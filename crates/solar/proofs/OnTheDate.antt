@@ -1,7 +1,10 @@
--- An hour number above 1 and below 24 is normal, and its floored hours are placed on the date, a whole number that a cast takes as it is. Assumes
--- nothing.
-use Rattle.prelude.proofs.Logic.{_≡_, refl, sym, ap, _∙_, true, false, true≢false, false≢true, ℕ, _*_, _/_, _%_, _^_, _≤_, _<_, mul-div-cancel, mul-le-mul-left, div-add-mod', div-lt-iff-lt-mul, arith, T, lit<, ℤ, pow-pos, ltb-true, le-ltb, lt-ltb, le-leb}
-use Rattle.float64.proofs.Floats.{Float, nan, inf, fin, binary64, up, down, round, whole, inUnsigned, toUnsigned, lt, HasValue, down-pos, dec, isNormalOf, floorOf, wholePart, lt-values}
+-- An hour number above 1 and below 24 is normal, and its floored hours are placed on the date, a whole number that a cast takes as it is.
+-- Assumes nothing.
+use Rattle.prelude.proofs.Logic.{_≡_, refl, sym, ap, _∙_, true, false, true≢false, false≢true, ℕ, _*_, _/_, _%_, _^_, _≤_, _<_}
+use Rattle.prelude.proofs.Logic.{mul-div-cancel, mul-le-mul-left, div-add-mod', div-lt-iff-lt-mul, arith, T, lit<, ℤ, pow-pos, ltb-true}
+use Rattle.prelude.proofs.Logic.{le-ltb, lt-ltb, le-leb}
+use Rattle.float64.proofs.Floats.{Float, nan, inf, fin, binary64, up, down, round, whole, inUnsigned, toUnsigned, lt, HasValue, down-pos}
+use Rattle.float64.proofs.Floats.{dec, isNormalOf, floorOf, wholePart, lt-values}
 use Rattle.solar.specs.Setting.{hourAdjustmentOf}
 use Rattle.solar.proofs.Taken.{zero-value, day-value, floor-up}
 
@@ -19,8 +22,10 @@ module _ (P : Float → Type 0) (a b : ℕ) (low high : Float) (v : HasValue low
       go (fin true m e) (fin true n d) high v w h k = absurd (true≢false (v .0))
       go (fin true m e) (fin false n d) high v w h k = absurd (false≢true h)
       go (fin false m e) low high v w h k =
-          let l = ltb-true (a * down e) (m * up e * 1) (sym (lt-values low (fin false m e) a (m * up e) 1 (down e) (lit< tt) (down-pos e) v (refl, refl)) ∙ h) in
-          let u = ltb-true (m * up e * 1) (b * down e) (sym (lt-values (fin false m e) high (m * up e) b (down e) 1 (down-pos e) (lit< tt) (refl, refl) w) ∙ k) in
+          let l = ltb-true (a * down e) (m * up e * 1)
+          (sym (lt-values low (fin false m e) a (m * up e) 1 (down e) (lit< tt) (down-pos e) v (refl, refl)) ∙ h) in
+          let u = ltb-true (m * up e * 1) (b * down e)
+          (sym (lt-values (fin false m e) high (m * up e) b (down e) 1 (down-pos e) (lit< tt) (refl, refl) w) ∙ k) in
           g m e (omega arith) (omega arith)
 
 -- ---- a whole number is cast as it is
@@ -46,7 +51,8 @@ more a d w p h = let z = mul-le-mul-left a p in omega arith
 
 pub normal : (value : Float) → lt (dec 1 0) value ≡ true → lt value (dec 24 0) ≡ true → isNormalOf value ≡ true
 unfolding isNormalOf
-normal = between (λ x. isNormalOf x ≡ true) 1 24 (dec 1 0) (dec 24 0) one-value day-value (λ m e l u. le-leb (down e) (m * up e * 2 ^ 1022) (more (m * up e) (down e) (2 ^ 1022) (pow-pos 1022) (omega arith)))
+normal = between (λ x. isNormalOf x ≡ true) 1 24 (dec 1 0) (dec 24 0) one-value day-value
+    (λ m e l u. le-leb (down e) (m * up e * 2 ^ 1022) (more (m * up e) (down e) (2 ^ 1022) (pow-pos 1022) (omega arith)))
 
 hours-value : (m : ℕ) (e : ℤ) → m * up e < 24 * down e → HasValue (floorOf (fin false m e)) false (wholePart m e) 1 × (wholePart m e < 24)
 hours-value m e u =
@@ -62,7 +68,8 @@ pub placed : (value : Float) → lt (dec 1 0) value ≡ true → lt value (dec 2
     → hourAdjustmentOf (floorOf value) ≡ record { ahead = 1; hour = toUnsigned 32 (floorOf value) }
 unfolding hourAdjustmentOf
 placed =
-    between (λ x. hourAdjustmentOf (floorOf x) ≡ record { ahead = 1; hour = toUnsigned 32 (floorOf x) }) 1 24 (dec 1 0) (dec 24 0) one-value day-value at
+    between (λ x. hourAdjustmentOf (floorOf x) ≡ record { ahead = 1; hour = toUnsigned 32 (floorOf x) }) 1 24 (dec 1 0)
+    (dec 24 0) one-value day-value at
   where
     at : (m : ℕ) (e : ℤ) → 1 * down e < m * up e → m * up e < 24 * down e
         → hourAdjustmentOf (floorOf (fin false m e)) ≡ record { ahead = 1; hour = toUnsigned 32 (floorOf (fin false m e)) }
@@ -70,6 +77,8 @@ placed =
         let v = hours-value m e u in
         let y = floorOf (fin false m e) in
         let k = wholePart m e in
-        let a : lt y (dec 0 0) ≡ false = lt-values y (dec 0 0) k 0 1 1 (lit< tt) (lit< tt) (v .0) zero-value ∙ le-ltb (k * 1) (0 * 1) (omega arith) in
-        let b : lt y (dec 24 0) ≡ true = lt-values y (dec 24 0) k 24 1 1 (lit< tt) (lit< tt) (v .0) day-value ∙ lt-ltb (k * 1) (24 * 1) (omega (arith, v .1)) in
+        let a : lt y (dec 0 0) ≡ false = lt-values y (dec 0 0) k 0 1 1 (lit< tt) (lit< tt) (v .0) zero-value
+        ∙ le-ltb (k * 1) (0 * 1) (omega arith) in
+        let b : lt y (dec 24 0) ≡ true = lt-values y (dec 24 0) k 24 1 1 (lit< tt) (lit< tt) (v .0) day-value
+        ∙ lt-ltb (k * 1) (24 * 1) (omega (arith, v .1)) in
         rw (a, b)

@@ -1,5 +1,6 @@
 -- What the carried times are: where they lie, where they are document 01's, and what they are where it has none. Assumes nothing.
-use Rattle.prelude.proofs.Logic.{_≡_, refl, sym, ap, subst, _∙_, Bool, true, false, cond, ℕ, _+_, _*_, _≤_, arith, ltb, lit≤, ℤ, pos, ltb-true}
+use Rattle.prelude.proofs.Logic.{_≡_, refl, sym, ap, subst, _∙_, Bool, true, false, cond, ℕ, _+_, _*_, _≤_, arith, ltb, lit≤, ℤ, pos}
+use Rattle.prelude.proofs.Logic.{ltb-true}
 use Rattle.float64.proofs.Floats.{Float, isNormalOf, floorOf}
 use Rattle.solar.specs.declared.setting.SolarHour.{SolarHour}
 use Rattle.solar.specs.declared.setting.SolarHour.the-variants.{Some, Nothing}
@@ -16,7 +17,8 @@ carry-held p minute h = by-test (ltb hour 24) refl
     hour : ℕ
     hour = sumOf (p .hour) minute
 
-    by-test : (b : Bool) → ltb hour 24 ≡ b → HourOfThreeDays (cond b (Some (daySecondOf (p .ahead) hour (restOf minute))) (nextMidnightOf (p .ahead)))
+    by-test : (b : Bool) → ltb hour 24 ≡ b
+        → HourOfThreeDays (cond b (Some (daySecondOf (p .ahead) hour (restOf minute))) (nextMidnightOf (p .ahead)))
     by-test true e =
         counted (p .ahead * 86400 + hour * 3600 + restOf minute * 60) (omega (arith, ltb-true hour 24 e, rest-held minute))
     by-test false e = counted ((p .ahead + 1) * 86400 + 0 * 3600 + 0 * 60) (omega arith)
@@ -25,7 +27,8 @@ pub carried-held : (value : Float) → HourOfThreeDays (carriedHourOf value)
 unfolding carriedHourOf
 carried-held value = by-tests (hasTimeOf value) (isNormalOf value)
   where
-    by-tests : (a b : Bool) → HourOfThreeDays (cond a (cond b (carriedOf (hourAdjustmentOf (floorOf value)) (minuteOf value (floorOf value))) (Some (pos 0))) Nothing)
+    by-tests : (a b : Bool) → HourOfThreeDays
+        (cond a (cond b (carriedOf (hourAdjustmentOf (floorOf value)) (minuteOf value (floorOf value))) (Some (pos 0))) Nothing)
     by-tests true true = carry-held (hourAdjustmentOf (floorOf value)) (minuteOf value (floorOf value)) (ahead-held (floorOf value))
     by-tests true false = record { from = lit≤ tt; to = lit≤ tt }
     by-tests false b = lit≤ tt
@@ -55,7 +58,8 @@ abbrev pub takenOf : Float → ℕ
 takenOf value = hourAdjustmentOf (floorOf value) .ahead
 
 -- a normal number from -24 to below 48 has document 01's time, and where that rule has none, 0h of the date after the one taken
-pub carried-from : (value : Float) → hasTimeOf value ≡ true → isNormalOf value ≡ true → carriedHourOf value ≡ carriedFrom (settingHourOf value) (takenOf value)
+pub carried-from : (value : Float) → hasTimeOf value ≡ true → isNormalOf value ≡ true
+    → carriedHourOf value ≡ carriedFrom (settingHourOf value) (takenOf value)
 unfolding carriedHourOf settingHourOf
 carried-from value h n = rw (h, n) (carry-from (hourAdjustmentOf (floorOf value)) (minuteOf value (floorOf value)))
 
@@ -79,7 +83,8 @@ carried-agrees value t h e = by-test (isNormalOf value) refl
         none-not-at u q = subst Timed q (lit≤ tt)
 
 -- where document 01 has none for a normal number from -24 to below 48, it is 0h of the date after the one taken
-pub carried-past : (value : Float) → hasTimeOf value ≡ true → isNormalOf value ≡ true → settingHourOf value ≡ Nothing → carriedHourOf value ≡ nextMidnightOf (takenOf value)
+pub carried-past : (value : Float) → hasTimeOf value ≡ true → isNormalOf value ≡ true → settingHourOf value ≡ Nothing
+    → carriedHourOf value ≡ nextMidnightOf (takenOf value)
 carried-past value h n e = carried-from value h n ∙ ap (λ (r : SolarHour). carriedFrom r (takenOf value)) e
 
 -- any other number that has a time has 0h of the date, and what has none has none

@@ -6,7 +6,8 @@ use Rattle.solar.specs.declared.{setting.SolarHour.SolarHour, setting.Pl
 use Rattle.solar.specs.declared.setting.SolarHour.the-variants.{Some, Nothing}
 use Rattle.solar.specs.Setting.{hourAdjustmentOf, minuteOf, daySecondOf, sumOf, restOf, hourOf, settingHourOf}
 
--- the earliest time of the sun, in seconds before 0h of its date, and the latest, which only a number that is carried past midnight comes to
+-- the earliest time of the sun, in seconds before 0h of its date, and the latest, which only a number that is carried past midnight comes
+-- to
 abbrev pub earliestSun : ℕ
 earliestSun = 86400
 
@@ -23,7 +24,8 @@ HourOfThreeDays Nothing = 0 ≤ 0
 
 -- so many seconds from 0h of yesterday
 pub counted : (n : ℕ) → n ≤ earliestSun + latestSun → OfThreeDays (pos n -ℤ pos 86400)
-counted n h = let d = difference (pos n) (pos 86400) in by-balance earliestSun latestSun (pos n -ℤ pos 86400) (omega (arith, d .0, d .1)) (omega (arith, d .0, d .1))
+counted n h = let d = difference (pos n) (pos 86400) in
+    by-balance earliestSun latestSun (pos n -ℤ pos 86400) (omega (arith, d .0, d .1)) (omega (arith, d .0, d .1))
 
 where-so : (b : Bool) (t : ℤ) → (b ≡ true → OfThreeDays t) → HourOfThreeDays (cond b (Some t) Nothing)
 where-so true t h = h refl
@@ -47,7 +49,8 @@ pub ahead-held : (hours : Float) → hourAdjustmentOf hours .ahead ≤ 2
 unfolding hourAdjustmentOf
 ahead-held hours = by-tests (lt hours (dec 0 0)) (lt hours (dec 24 0)) _ _ _
   where
-    by-tests : (a b : Bool) (x y z : ℕ) → cond {A = Placed} a (record { ahead = 0; hour = x }) (cond b (record { ahead = 1; hour = y }) (record { ahead = 2; hour = z })) .ahead ≤ 2
+    by-tests : (a b : Bool) (x y z : ℕ) → cond {A = Placed} a (record { ahead = 0; hour = x })
+        (cond b (record { ahead = 1; hour = y }) (record { ahead = 2; hour = z })) .ahead ≤ 2
     by-tests true b x y z = lit≤ tt
     by-tests false true x y z = lit≤ tt
     by-tests false false x y z = lit≤ tt

@@ -3,27 +3,25 @@ use Rattle.prelude.proofs.Logic.{_≡_, Bool, true, false}
 use lib.Ieee.{Float}
 use Rattle.unit.specs.declared.Angle.{Angle}
 use Rattle.ops.specs.declared.transit.Course.{Course}
-use Rattle.ops.specs.Shared.{observerOf, courseTransitNumberOf}
+use Rattle.ops.specs.Shared.{observerOf, transitFromOf, courseOf, courseTransitNumberOf}
+use Rattle.ops.specs.Transit.{approximateTransitOf}
 use Rattle.ops.proofs.SharedLaws.{transit-shared, hour-number-shared}
-use Rattle.solar.specs.Hours.{Sun, approxTransitOf, solarAltitude, transitNumberOf, angleNumberOf, hourNumbersOf, shadowAngleOf, afternoonNumberOf}
-use Rattle.solar.specs.Shared.{courseOver, courseAngleNumberOf, courseNumbersOf, courseAfternoonNumberOf}
+use Rattle.solar.specs.Hours.{Sun, approxTransitOf, solarAltitude, transitNumberOf, angleNumberOf, hourNumbersOf, shadowAngleOf}
+use Rattle.solar.specs.Hours.{afternoonNumberOf}
+use Rattle.solar.specs.Shared.{courseAngleNumberOf, courseNumbersOf, courseAfternoonNumberOf}
 
 -- a sun's course
 abbrev pub courseOfSun : Sun → Course
-courseOfSun s = courseOver (s .place) (observerOf (s .place)) (s .previous) (s .today) (s .next)
+courseOfSun s = courseOf (observerOf (s .place)) (s .previous) (s .today) (s .next)
 
 module _ (s : Sun) where
   transit-number-shared : courseTransitNumberOf (courseOfSun s) ≡ transitNumberOf s
-  unfolding transitNumberOf
-  transit-number-shared =
-      transit-shared (approxTransitOf s) (s .place) (s .today .«apparent_sidereal_time») (s .today .«right_ascension») (s .previous .«right_ascension») (s .next .«right_ascension»)
-      (s .today .declination) (s .previous .declination) (s .next .declination)
+  unfolding transitNumberOf approximateTransitOf transitFromOf
+  transit-number-shared = transit-shared (approxTransitOf s) (s .place) (s .previous) (s .today) (s .next)
 
   pub angle-shared : (angle : Angle) (after : Bool) → courseAngleNumberOf (courseOfSun s) angle after ≡ angleNumberOf s angle after
-  unfolding courseAngleNumberOf angleNumberOf
-  angle-shared angle after =
-      hour-number-shared (approxTransitOf s) (s .place) (s .today .«apparent_sidereal_time») (s .today .«right_ascension») (s .previous .«right_ascension») (s .next .«right_ascension»)
-      (s .today .declination) (s .previous .declination) (s .next .declination) angle after
+  unfolding courseAngleNumberOf angleNumberOf approximateTransitOf transitFromOf
+  angle-shared angle after = hour-number-shared (approxTransitOf s) (s .place) (s .previous) (s .today) (s .next) angle after
 
   pub numbers-shared : courseNumbersOf (courseOfSun s) ≡ hourNumbersOf s
   unfolding courseNumbersOf hourNumbersOf

@@ -1,7 +1,12 @@
 -- The date that an hour number takes, told by the number itself, and its hour in that date: for every number that has a time the hour is at
 -- most 23, so that the sum with minute 60 is at most 24. Assumes nothing.
-use Rattle.prelude.proofs.Logic.{_≡_, refl, sym, ap, subst, _∙_, Bool, true, false, cond, _&&_, _||_, true≢false, false≢true, ℕ, suc, _+_, _-_, _*_, _/_, _^_, _≤_, _<_, div-one, min-eq-left, div-add-mod', mod-lt, mul-one, mul-le-mul-right, lt-of-mul-lt-mul-right, div-lt-iff-lt-mul, arith, ltb, eqb, lit<, ℤ, pos, ltb-true, ltb-false, lt-ltb, le-ltb, eqb-true, eqb-false}
-use Rattle.float64.proofs.Floats.{Float, nan, inf, fin, binary64, up, down, round, ofInt, neg, sum, add, sub, le, lt, eq, toUnsigned, HasValue, round-whole, round-same, down-pos, dec, floorOf, wholePart, fraction, big, lt-values, sub-same, whole-value}
+use Rattle.prelude.proofs.Logic.{_≡_, refl, sym, ap, subst, _∙_, Bool, true, false, cond, _&&_, _||_, true≢false, false≢true, ℕ, suc, _+_}
+use Rattle.prelude.proofs.Logic.{_-_, _*_, _/_, _^_, _≤_, _<_, div-one, min-eq-left, div-add-mod', mod-lt, mul-one, mul-le-mul-right}
+use Rattle.prelude.proofs.Logic.{lt-of-mul-lt-mul-right, div-lt-iff-lt-mul, arith, ltb, eqb, lit<, ℤ, pos, ltb-true, ltb-false, lt-ltb}
+use Rattle.prelude.proofs.Logic.{le-ltb, eqb-true, eqb-false}
+use Rattle.float64.proofs.Floats.{Float, nan, inf, fin, binary64, up, down, round, ofInt, neg, sum, add, sub, le, lt, eq, toUnsigned}
+use Rattle.float64.proofs.Floats.{HasValue, round-whole, round-same, down-pos, dec, floorOf, wholePart, fraction, big, lt-values, sub-same}
+use Rattle.float64.proofs.Floats.{whole-value}
 use Rattle.solar.specs.declared.setting.Placed.{Placed}
 use Rattle.solar.specs.Setting.{hourAdjustmentOf}
 use Rattle.solar.specs.PastMidnight.{hasTimeOf}
@@ -36,14 +41,18 @@ low-limit m e h = omega (arith, either (m * up e * 1) (3 * 2 ^ 3 * down e) true 
 
 high-limit : (m : ℕ) (e : ℤ) → hasTimeOf (fin false m e) ≡ true → m * up e < 48 * down e
 unfolding hasTimeOf dec round neg le lt eq
-high-limit m e h = omega (arith, ltb-true (m * up e * 1) (3 * 2 ^ 4 * down e) (both (le (neg (dec 24 0)) (fin false m e)) (ltb (m * up e * 1) (3 * 2 ^ 4 * down e)) h .1))
+high-limit m e h = omega (
+  arith,
+  ltb-true (m * up e * 1) (3 * 2 ^ 4 * down e) (both (le (neg (dec 24 0)) (fin false m e)) (ltb (m * up e * 1) (3 * 2 ^ 4 * down e)) h .1),
+)
 
 -- ---- floors
 pub floor-up : (m : ℕ) (e : ℤ) → wholePart m e ≤ big → HasValue (floorOf (fin false m e)) false (wholePart m e) 1
 unfolding floorOf ofInt
 floor-up m e h = go (eqb (fraction m e) 0) refl
   where
-    go : (b : Bool) → eqb (fraction m e) 0 ≡ b → HasValue (cond b (fin false m e) (round binary64 false (wholePart m e) 1)) false (wholePart m e) 1
+    go : (b : Bool) → eqb (fraction m e) 0 ≡ b
+        → HasValue (cond b (fin false m e) (round binary64 false (wholePart m e) 1)) false (wholePart m e) 1
     go true z = (refl, omega (arith, div-add-mod' (m * up e) (down e), eqb-true (fraction m e) 0 z))
     go false z = round-whole binary64 false (wholePart m e) h
 
@@ -68,7 +77,8 @@ unfolding floorOf ofInt
 floor-down m e h = go (eqb (fraction m e) 0) refl
   where
     go : (b : Bool) → eqb (fraction m e) 0 ≡ b
-        → HasValue (cond b (fin true m e) (round binary64 true (suc (wholePart m e)) 1)) true (cond b (wholePart m e) (suc (wholePart m e))) 1
+        → HasValue (cond b (fin true m e) (round binary64 true (suc (wholePart m e)) 1)) true
+        (cond b (wholePart m e) (suc (wholePart m e))) 1
     go true z = (refl, omega (arith, div-add-mod' (m * up e) (down e), eqb-true (fraction m e) 0 z))
     go false z = round-whole binary64 true (suc (wholePart m e)) h
 
@@ -76,7 +86,8 @@ ceiling-ends : (m : ℕ) (e : ℤ) → (m * up e ≤ ceiling m e * down e) × (c
 ceiling-ends m e = go (eqb (fraction m e) 0) refl
   where
     go : (b : Bool) → eqb (fraction m e) 0 ≡ b
-        → (m * up e ≤ cond b (wholePart m e) (suc (wholePart m e)) * down e) × (cond b (wholePart m e) (suc (wholePart m e)) * down e < m * up e + down e)
+        → (m * up e ≤ cond b (wholePart m e) (suc (wholePart m e)) * down e)
+        × (cond b (wholePart m e) (suc (wholePart m e)) * down e < m * up e + down e)
     go true z =
         let g = div-add-mod' (m * up e) (down e) in
         let r = eqb-true (fraction m e) 0 z in
@@ -102,22 +113,27 @@ record PlacedAs (p : Placed) (ahead hour : ℕ) : Type 0 where
   taken : p .ahead ≡ ahead
   hours : p .hour ≡ hour
 
-place-up : (y : Float) (k : ℕ) → HasValue y false k 1 → k < 48 → PlacedAs (hourAdjustmentOf y) (cond (ltb k 24) 1 2) (cond (ltb k 24) k (k - 24))
+place-up : (y : Float) (k : ℕ) → HasValue y false k 1 → k < 48
+    → PlacedAs (hourAdjustmentOf y) (cond (ltb k 24) 1 2) (cond (ltb k 24) k (k - 24))
 unfolding hourAdjustmentOf
 place-up y k v h =
-    let a : lt y (dec 0 0) ≡ false = lt-values y (dec 0 0) k 0 1 1 (lit< tt) (lit< tt) v zero-value ∙ le-ltb (k * 1) (0 * 1) (omega arith) in
-    let b : lt y (dec 24 0) ≡ ltb k 24 = lt-values y (dec 24 0) k 24 1 1 (lit< tt) (lit< tt) v day-value ∙ ap (λ (n : ℕ). ltb n 24) (mul-one k) in
+    let a : lt y (dec 0 0) ≡ false = lt-values y (dec 0 0) k 0 1 1 (lit< tt) (lit< tt) v zero-value
+    ∙ le-ltb (k * 1) (0 * 1) (omega arith) in
+    let b : lt y (dec 24 0) ≡ ltb k 24 = lt-values y (dec 24 0) k 24 1 1 (lit< tt) (lit< tt) v day-value
+    ∙ ap (λ (n : ℕ). ltb n 24) (mul-one k) in
     rw (a, b) (go (ltb k 24) refl)
   where
     go : (t : Bool) → ltb k 24 ≡ t
-        → PlacedAs (cond t (record { ahead = 1; hour = toUnsigned 32 y }) (record { ahead = 2; hour = toUnsigned 32 (sub binary64 y (dec 24 0)) })) (cond t 1 2) (cond t k (k - 24))
+        → PlacedAs (cond t (record { ahead = 1; hour = toUnsigned 32 y })
+        (record { ahead = 2; hour = toUnsigned 32 (sub binary64 y (dec 24 0)) })) (cond t 1 2) (cond t k (k - 24))
     go true e = record { taken = refl; hours = cast-whole y k v h }
     go false e =
         let l = ltb-false k 24 e in
         let s = sub-same binary64 k 24 1 (lit< tt) l y (dec 24 0) v day-value in
         record {
           taken = refl;
-          hours = ap (toUnsigned 32) s ∙ cast-whole (round binary64 false (k - 24) 1) (k - 24) (round-whole binary64 false (k - 24) (omega arith)) (omega arith);
+          hours = ap (toUnsigned 32) s
+              ∙ cast-whole (round binary64 false (k - 24) 1) (k - 24) (round-whole binary64 false (k - 24) (omega arith)) (omega arith);
         }
 
 -- -a / c + b / c, for a up to b
@@ -126,7 +142,8 @@ module _ (a b c : ℕ) (h : a ≤ b) where
   unfolding sum
   sum-is = go (ltb a b) refl
     where
-      go : (t : Bool) → ltb a b ≡ t → cond t (round binary64 false (b - a) c) (round binary64 (true && ltb b a) (a - b) c) ≡ round binary64 false (b - a) c
+      go : (t : Bool) → ltb a b ≡ t
+          → cond t (round binary64 false (b - a) c) (round binary64 (true && ltb b a) (a - b) c) ≡ round binary64 false (b - a) c
       go true e = refl
       go false e =
           let l = ltb-false a b e in
@@ -141,7 +158,8 @@ zero-is : dec 0 0 ≡ fin false 0 (pos 0)
 unfolding dec round
 zero-is = refl
 
-add-day : (m : ℕ) (e : ℤ) (k : ℕ) → m * up e * 1 ≡ k * down e → k ≤ 24 → add binary64 (fin true m e) (dec 24 0) ≡ round binary64 false (24 - k) 1
+add-day : (m : ℕ) (e : ℤ) (k : ℕ) → m * up e * 1 ≡ k * down e → k ≤ 24
+    → add binary64 (fin true m e) (dec 24 0) ≡ round binary64 false (24 - k) 1
 unfolding add
 add-day m e k v h =
     let j = 24 - k in
@@ -163,7 +181,8 @@ place-down (fin true m e) k v h g =
     let a : lt (fin true m e) (dec 0 0) ≡ true = ap (lt (fin true m e)) zero-is ∙ below-zero in
     rw a (record {
       taken = refl;
-      hours = ap (toUnsigned 32) (add-day m e k (v .1) g) ∙ cast-whole (round binary64 false (24 - k) 1) (24 - k) (round-whole binary64 false (24 - k) (omega arith)) (omega arith);
+      hours = ap (toUnsigned 32) (add-day m e k (v .1) g)
+          ∙ cast-whole (round binary64 false (24 - k) 1) (24 - k) (round-whole binary64 false (24 - k) (omega arith)) (omega arith);
     })
   where
     below-zero : lt (fin true m e) (fin false 0 (pos 0)) ≡ true
@@ -201,8 +220,10 @@ right-up m e h =
     let i = high-limit m e h in
     let k : q < 48 = div-lt-iff-lt-mul d .1 i in
     let p = place-up (floorOf x) q (floor-up m e (omega arith)) k in
-    let a : lt x (dec 0 0) ≡ false = lt-values x (dec 0 0) (m * up e) 0 (down e) 1 d (lit< tt) (refl, refl) zero-value ∙ le-ltb (m * up e * 1) (0 * down e) (omega arith) in
-    let b : lt x (dec 24 0) ≡ ltb (m * up e * 1) (24 * down e) = lt-values x (dec 24 0) (m * up e) 24 (down e) 1 d (lit< tt) (refl, refl) day-value in
+    let a : lt x (dec 0 0) ≡ false = lt-values x (dec 0 0) (m * up e) 0 (down e) 1 d (lit< tt) (refl, refl) zero-value
+    ∙ le-ltb (m * up e * 1) (0 * down e) (omega arith) in
+    let b : lt x (dec 24 0) ≡ ltb (m * up e * 1) (24 * down e) =
+    lt-values x (dec 24 0) (m * up e) 24 (down e) 1 d (lit< tt) (refl, refl) day-value in
     (p .taken ∙ rw (a, b, below-whole 24 m e) refl, subst (λ (n : ℕ). n < 24) (sym (p .hours)) (hour-less q k))
   where
     hour-less : (q : ℕ) → q < 48 → cond (ltb q 24) q (q - 24) < 24
@@ -244,7 +265,8 @@ right-down m e h = go (ltb 0 (m * up e * 1 + 0 * down e)) refl
         let o : ceiling m e ≡ 0 = omega arith in
         let p = place-zero (floorOf x) (subst (λ (n : ℕ). HasValue (floorOf x) true n 1) o v) in
         let s : lt x (dec 0 0) ≡ false = ap (lt x) zero-is ∙ (unfold lt in l) in
-        let t : lt x (dec 24 0) ≡ true = ap (lt x) day-is ∙ (unfold lt in lt-ltb 0 (m * up e * 1 + 3 * 2 ^ 3 * down e) (omega (arith, down-pos e))) in
+        let t : lt x (dec 24 0) ≡ true = ap (lt x) day-is
+        ∙ (unfold lt in lt-ltb 0 (m * up e * 1 + 3 * 2 ^ 3 * down e) (omega (arith, down-pos e))) in
         (p .taken ∙ rw (s, t) refl, subst (λ (n : ℕ). n < 24) (sym (p .hours)) (omega arith))
 
 right : (value : Float) → hasTimeOf value ≡ true → Right value

@@ -1,4 +1,3 @@
-pub mod Coordinates
 pub mod Hours
 pub mod Setting
 pub mod Shared

@@ -1,6 +1,6 @@
--- Request 1, carry past midnight: an hour number as a time, in seconds from 0h of its date. "An hour number that rounds to hour 24 is 00:00 of the
--- date after the one taken. This also holds when the floored hour was below 0 or reached 47. Zero and subnormal numbers are 00:00 of the date. Numbers
--- below -24 or from 48 on have no time."
+-- Request 1, carry past midnight: an hour number as a time, in seconds from 0h of its date. "An hour number that rounds to hour 24 is 00:00
+-- of the date after the one taken. This also holds when the floored hour was below 0 or reached 47. Zero and subnormal numbers are 00:00 of
+-- the date. Numbers below -24 or from 48 on have no time."
 use Prim.Native.Nat.{ℕ, _+_}
 use mathlib.Core.Bool.{Bool, cond, _&&_}
 use lib.IntN.{pos}

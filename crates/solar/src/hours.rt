@@ -1,16 +1,14 @@
-// solar.rs: the sun's hour numbers over a place on a day. The three positions are handed in, so that neighbouring days share them.
+// solar.rs: the sun's hour numbers over a place on a day.
 ghost use mathlib.Core.Path.{_≡_};
 ghost use Rattle.solar.specs.Hours.{solarAltitude, shadowAngleOf};
-ghost use Rattle.solar.specs.Shared.{courseOver, dateCourseOf, courseSineNumberOf, courseAngleNumberOf, courseNumbersOf, courseAfternoonNumberOf};
-use super::coordinates::SolarCoordinates;
-use super::coordinates::position;
+ghost use Rattle.solar.specs.Shared.{dateCourseOf, courseSineNumberOf, courseAngleNumberOf, courseNumbersOf, courseAfternoonNumberOf};
 use calendar::dates::Date;
 use fdlibm_arc::s_atan::atan;
 use fdlibm_trig::s_tan::tan;
 use float64::sizes::abs;
+use ops::coordinates::position;
 use ops::transit::Course;
 use ops::transit::Observer;
-use ops::transit::approximate_transit;
 use unit::Angle;
 use unit::Coordinates;
 
@@ -31,55 +29,14 @@ fn solar_altitude() -> Angle
     Angle::new(-50.0 / 60.0)
 }
 
-// The sun's course over the place of an observer, from its position on the day, the day before and the day after.
-pub fn sun(
-    coordinates: Coordinates,
-    observer: Observer,
-    previous: SolarCoordinates,
-    today: SolarCoordinates,
-    next: SolarCoordinates,
-) -> Course
-    ensures { λ r. ⌜ r ≡ courseOver coordinates observer previous today next ⌝ }
-{
-    let sidereal_time = today.apparent_sidereal_time;
-    let right_ascension = today.right_ascension;
-    let transit = approximate_transit(
-        coordinates.longitude_angle(),
-        sidereal_time,
-        right_ascension,
-    );
-    let previous_right_ascension = previous.right_ascension;
-    let next_right_ascension = next.right_ascension;
-    let declination = today.declination;
-    let previous_declination = previous.declination;
-    let next_declination = next.declination;
-    Course::new(
-        transit,
-        observer,
-        sidereal_time,
-        right_ascension,
-        previous_right_ascension,
-        next_right_ascension,
-        declination,
-        previous_declination,
-        next_declination,
-    )
-}
-
 // The sun's course over a place on a date, by itself: rows that follow one another hand their positions on instead.
-pub fn date_sun(date: Date, coordinates: Coordinates) -> Course
+pub fn date_course(date: Date, coordinates: Coordinates) -> Course
     ensures { λ r. ⌜ r ≡ dateCourseOf date coordinates ⌝ }
 {
     let previous = position(date.yesterday());
     let today = position(date);
     let next = position(date.tomorrow());
-    sun(
-        coordinates,
-        Observer::new(coordinates),
-        previous,
-        today,
-        next,
-    )
+    Course::new(Observer::new(coordinates), previous, today, next)
 }
 
 // The hour number at which the sun stands at an angle whose sine is at hand.

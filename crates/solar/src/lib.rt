@@ -1,6 +1,5 @@
-// solar.rs: where the sun stands on a day, its hour numbers over a place, and an hour number as a time.
+// solar.rs: the sun's hour numbers over a place on a day, and an hour number as a time. The sun's position is ops::coordinates.
 // Hour numbers are floats, from date and place alone; times are whole seconds, from hour numbers and the date.
-pub mod coordinates;
 pub mod hours;
 mod past_midnight;
 pub mod setting;

@@ -43,16 +43,25 @@ pub fn hour_adjustment(calculated_hours: f64) -> Placed
     }
 }
 
-// The nearest minute. Where minutes and seconds both lie between 0 and 60, which is nearly always, there is one minute more from 30 seconds on, and
-// nothing is divided and rounded to find it. Elsewhere all stays in floats, since the floored seconds can be -1.
+// The nearest minute. All stays in floats, since the floored seconds can be -1.
 pub(crate) fn minute(value: f64, calculated_hours: f64) -> u32
     ensures { λ r. ⌜ r ≡ minuteOf value «calculated_hours» ⌝ }
 {
-    let minutes = (value - calculated_hours) * 60.0;
-    let calculated_minutes = floor(minutes);
+    let calculated_minutes = floor((value - calculated_hours) * 60.0);
     let seconds = (value - (calculated_hours + calculated_minutes / 60.0)) * 60.0 * 60.0;
+    to_u32(round(calculated_minutes + floor(seconds) / 60.0))
+}
+
+// The same. If minutes and seconds both lie between 0 and 60, which is nearly always, there is one minute more from 30 seconds on, and
+// nothing is divided and rounded to find it. The tests are before the floor, which then needs none of its own.
+fn date_minute(value: f64, calculated_hours: f64) -> u32
+    ensures { λ r. ⌜ r ≡ minuteOf value «calculated_hours» ⌝ }
+{
+    let minutes = (value - calculated_hours) * 60.0;
     if 0.0 < minutes {
         if minutes < 60.0 {
+            let calculated_minutes = floor(minutes);
+            let seconds = (value - (calculated_hours + calculated_minutes / 60.0)) * 60.0 * 60.0;
             if 0.0 < seconds {
                 if seconds < 60.0 {
                     return calculated_minutes as u32 + !(seconds < 30.0) as u32;
@@ -60,7 +69,7 @@ pub(crate) fn minute(value: f64, calculated_hours: f64) -> u32
             }
         }
     }
-    to_u32(round(calculated_minutes + floor(seconds) / 60.0))
+    minute(value, calculated_hours)
 }
 
 pub(crate) fn hour(p: Placed, minute: u32) -> SolarHour
@@ -92,7 +101,7 @@ fn date_hour(value: f64) -> SolarHour
         ahead: 1,
         hour: calculated_hours as u32,
     };
-    hour(placed, minute(value, calculated_hours))
+    hour(placed, date_minute(value, calculated_hours))
 }
 
 // The time of an hour number, where it has one.

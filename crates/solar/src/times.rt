@@ -6,7 +6,7 @@ ghost use Rattle.solar.specs.Times.{solarHourOf, dayOf, solarTimeOf, tim
 use super::hours::HourNumbers;
 use super::hours::afternoon_number;
 use super::hours::angle_number;
-use super::hours::date_sun;
+use super::hours::date_course;
 use super::past_midnight::carried_hour;
 use super::setting::SolarHour;
 use super::setting::setting_hour;
@@ -82,7 +82,7 @@ pub fn time_for_solar_angle(
 ) -> SolarHour
     ensures { λ r. ⌜ r ≡ timeForSolarAngleOf rule (sunOn coordinates date) angle «after_transit» ⌝ }
 {
-    let course = date_sun(date, coordinates);
+    let course = date_course(date, coordinates);
     solar_hour(rule, angle_number(course, angle, after_transit))
 }
 
@@ -95,7 +95,7 @@ pub fn afternoon(
 ) -> SolarHour
     ensures { λ r. ⌜ r ≡ afternoonOf rule (sunOn coordinates date) «shadow_length» ⌝ }
 {
-    let course = date_sun(date, coordinates);
+    let course = date_course(date, coordinates);
     solar_hour(
         rule,
         afternoon_number(course, coordinates.latitude, shadow_length),

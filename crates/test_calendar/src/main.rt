@@ -1,15 +1,15 @@
-// Walks every date from 1899-12-31 to 2200-01-03 by tomorrow() and folds what the calendar says of each into a few numbers; and the seconds of the two
-// hours around 1970-01-01 0h, each rounded in the three ways. The expected numbers are those of Python's datetime:
+// Walks every date from 1899-12-31 to 2200-01-03 by tomorrow() and folds what the calendar says of each into a few numbers; and the seconds
+// of the two hours around 1970-01-01 0h, each rounded in the three ways. The expected numbers are those of Python's datetime:
 //     python3 tests/calendar/dates.py > crates/test_calendar/stdout
 use calendar::dates::Date;
 use calendar::dates::weekday;
 use float64::casts::to_i64;
 use float64::casts::to_u64;
+use julian::day::date_julian_day;
 use libc::STDOUT_FILENO;
 use models::rounding::Rounding;
+use rounding::times::rounded_minute;
 use std::num::nearest_i64_to_f64;
-use stride::julian::date_julian_day;
-use stride::times::rounded_minute;
 
 // What is folded of each date, in the order in which it is printed.
 struct Folds {

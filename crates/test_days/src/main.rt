@@ -112,7 +112,7 @@ fn timed(before: Counts, times: PrayerTimes, line: &[u8]) -> Counts {
     counted(c, times.fajr_tomorrow == time(line, 424))
 }
 
-// The prayer in force, the next one and the time remaining at an instant. Where none is in force, nothing remains.
+// The prayer in force, the next one and the time remaining at an instant. If none is in force, nothing remains.
 fn at_instant(before: Counts, times: PrayerTimes, instant: u64, answer: u64) -> Counts {
     let whole = seconds(instant / 1000000000);
     let nanoseconds = (instant % 1000000000) as u32;

@@ -1,6 +1,6 @@
-// Walks every date from 1899-12-31 to 2200-01-03 and folds into a few numbers what the tabular calendar says of each: its date there, the day of that date
-// again, the Gregorian date of that day, the days that begin a Ramadan with each shift, and the first of Ramadan of the date's year. The expected
-// numbers are those of node's calendar `islamic-civil`, which is another program's:
+// Walks every date from 1899-12-31 to 2200-01-03 and folds into a few numbers what the tabular calendar says of each: its date there, the
+// day of that date again, the Gregorian date of that day, the days that begin a Ramadan with each shift, and the first of Ramadan of the
+// date's year. The expected numbers are those of node's calendar `islamic-civil`, which is another program's:
 //     node tests/hijri/dates.mjs > crates/test_hijri/stdout
 use calendar::dates::Date;
 use float64::casts::to_u64;

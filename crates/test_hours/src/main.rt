@@ -10,7 +10,7 @@ use libc::STDIN_FILENO;
 use libc::STDOUT_FILENO;
 use solar::hours::afternoon_number;
 use solar::hours::angle_number;
-use solar::hours::date_sun;
+use solar::hours::date_course;
 use solar::hours::hour_numbers;
 use std::num::wrapping_add_u64;
 use test_lists::decimal;
@@ -73,14 +73,14 @@ fn real(line: &[u8], at: usize) -> f64 {
 fn replayed(before: Counts, line: &[u8]) -> Counts {
     let latitude = real(line, 9);
     let angle = Angle::new(real(line, 43));
-    let sun = date_sun(date(line), Coordinates::new(latitude, real(line, 26)));
-    let numbers = hour_numbers(sun);
+    let course = date_course(date(line), Coordinates::new(latitude, real(line, 26)));
+    let numbers = hour_numbers(course);
     let mut c = counted(before, numbers.transit, hex(line, 60));
     c = counted(c, numbers.sunrise, hex(line, 77));
     c = counted(c, numbers.sunset, hex(line, 94));
-    c = counted(c, angle_number(sun, angle, false), hex(line, 111));
-    c = counted(c, angle_number(sun, angle, true), hex(line, 128));
-    counted(c, afternoon_number(sun, latitude, 1.0), hex(line, 145))
+    c = counted(c, angle_number(course, angle, false), hex(line, 111));
+    c = counted(c, angle_number(course, angle, true), hex(line, 128));
+    counted(c, afternoon_number(course, latitude, 1.0), hex(line, 145))
 }
 
 fn print(number: u64, what: &[u8]) {

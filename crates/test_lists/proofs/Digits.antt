@@ -1,8 +1,10 @@
 -- What a loop over digits needs: the number grows by one digit, and k digits keep it below 16 ^ k. Assumes nothing.
-use Rattle.prelude.proofs.Logic.{_≡_, Bool, true, false, cond, List, ℕ, _+_, _-_, _*_, _%_, _^_, _≤_, _<_, le-refl, lt-of-lt-of-le, mul-le-mul, zero-lt-suc, pow-suc, pow-le-pow-right, add-one, arith, ltb, getD}
+use Rattle.prelude.proofs.Logic.{_≡_, Bool, true, false, cond, List, ℕ, _+_, _-_, _*_, _%_, _^_, _≤_, _<_, le-refl, lt-of-lt-of-le}
+use Rattle.prelude.proofs.Logic.{mul-le-mul, zero-lt-suc, pow-suc, pow-le-pow-right, add-one, arith, ltb, getD}
 use Rattle.test_lists.specs.Listed.{digitValueOf, numberOf}
 
-pub number-on : (base : ℕ) (line : List ℕ) (at k : ℕ) → numberOf base line at (k + 1) ≡ numberOf base line at k * base + digitValueOf (getD line (at + k) 0)
+pub number-on : (base : ℕ) (line : List ℕ) (at k : ℕ)
+    → numberOf base line at (k + 1) ≡ numberOf base line at k * base + digitValueOf (getD line (at + k) 0)
 unfolding numberOf
 number-on base line at k = rw add-one
 

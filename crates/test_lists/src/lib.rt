@@ -4,7 +4,7 @@ ghost use Prim.Native.Nat.{_+_, _≤_};
 ghost use lib.ListN.{getD};
 ghost use Rattle.test_lists.specs.Listed.{digitValueOf, numberOf, hexAt, decimalAt};
 
-// The byte k places after `at`. The sum of the two is worked only where it lies in the line, so that it cannot wrap.
+// The byte k places after `at`. The sum of the two is worked only if it lies in the line, so that it cannot wrap.
 fn byte(line: &[u8], at: usize, k: usize) -> u64
     ensures { λ r. ⌜ r ≡ getD (now (line .entry)) (at + k) 0 ⌝ }
 {

@@ -1,6 +1,8 @@
 -- The size of an i32, worked as an i64, as a u64. Assumes nothing.
-use Rattle.prelude.proofs.Logic.{_≡_, sym, ap, _∙_, true, false, _+_, _<_, arith, T, ℤ, pos, negsuc, natAbs, _-ℤ_, ltZ, nonNeg, w32, w64, SFits, Fits}
-use Rattle.integers.proofs.Integers.{P, N, same, natural, not-positive, lt-yes, lt-no, range, fits, readBack, read, wide, read-wide, difference}
+use Rattle.prelude.proofs.Logic.{_≡_, sym, ap, _∙_, true, false, _+_, _<_, arith, T, ℤ, pos, negsuc, natAbs, _-ℤ_, ltZ, nonNeg, w32, w64}
+use Rattle.prelude.proofs.Logic.{SFits, Fits}
+use Rattle.integers.proofs.Integers.{P, N, same, natural, not-positive, lt-yes, lt-no, range, fits, readBack, read, wide, read-wide}
+use Rattle.integers.proofs.Integers.{difference}
 
 size-parts : (z : ℤ) → natAbs z ≡ P z + N z
 size-parts (pos n) = omega arith
@@ -29,7 +31,8 @@ module _ (z : ℤ) (f : SFits w32 z) where
     read-turned : readBack w64 (pos 0 -ℤ readBack w64 (readBack w32 z)) ≡ pos (N z)
     read-turned = read w64 (pos 0 -ℤ readBack w64 (readBack w32 z)) turned-fits ∙ turned
 
-    pub turned-cast : T (nonNeg (readBack w64 (pos 0 -ℤ readBack w64 (readBack w32 z)))) × Fits w64 (natAbs (readBack w64 (pos 0 -ℤ readBack w64 (readBack w32 z))))
+    pub turned-cast : T (nonNeg (readBack w64 (pos 0 -ℤ readBack w64 (readBack w32 z))))
+        × Fits w64 (natAbs (readBack w64 (pos 0 -ℤ readBack w64 (readBack w32 z))))
     turned-cast = let r = range w32 z f in rw read-turned (tt, record { fits = omega (arith, r .low) })
 
     pub turned-size : natAbs (readBack w64 (pos 0 -ℤ readBack w64 (readBack w32 z))) ≡ natAbs z

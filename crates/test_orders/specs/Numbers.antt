@@ -9,15 +9,15 @@ use Rattle.order.specs.declared.reading.Order.{Order}
 -- where tag 1's value stands, tags 2 to 10, 12 and 13, and the angle that no tag sets
 unfoldable pub unsignedNumbersOf : Order → List ℕ
 unsignedNumbersOf order =
-    let p = order .parameters in
+    let p = order .setting .parameters in
     order .town .at
     ∷ order .town .length
     ∷ order .date .year
     ∷ order .date .month
     ∷ order .date .day
     ∷ order .rows
-    ∷ toBits binary64 (order .coordinates .latitude)
-    ∷ toBits binary64 (order .coordinates .longitude)
+    ∷ toBits binary64 (order .setting .coordinates .latitude)
+    ∷ toBits binary64 (order .setting .coordinates .longitude)
     ∷ methodNumberOf (p .method)
     ∷ madhabNumberOf (p .madhab)
     ∷ ruleNumberOf (p .«high_latitude_rule»)
@@ -31,7 +31,7 @@ unsignedNumbersOf order =
 -- tags 14 and 11, and the method's own minutes
 unfoldable pub signedNumbersOf : Order → List ℤ
 signedNumbersOf order =
-    let p = order .parameters in
+    let p = order .setting .parameters in
     p .«isha_interval»
     ∷ p .adjustments .fajr
     ∷ p .adjustments .sunrise

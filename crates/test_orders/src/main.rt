@@ -1,7 +1,7 @@
 // Reads orders, good and damaged, each behind two bytes of its length, made by
 //     tests/orders/cases.py stdin stdout
-// and writes two lines for each, what the reader answers and what the plain reader does: number and place of its refusal; or 0, 0 and what it
-// gives. A float stands by its bits.
+// and writes two lines for each, what the reader answers and what the plain reader does: number and place of its refusal; or 0, 0 and what
+// it gives. A float stands by its bits.
 ghost use mathlib.Core.Path.{_≡_};
 ghost use lib.IntN.{natAbs};
 ghost use Rattle.test_orders.specs.Numbers.{unsignedNumbersOf, signedNumbersOf};
@@ -26,8 +26,9 @@ fn unsigned_numbers(order: Order) -> [u64; 16]
 {
     let town = order.town;
     let date = order.date;
-    let place = order.coordinates;
-    let p = order.parameters;
+    let setting = order.setting;
+    let place = setting.coordinates;
+    let p = setting.parameters;
     let method = p.method;
     let madhab = p.madhab;
     let rule = p.high_latitude_rule;
@@ -57,7 +58,8 @@ fn unsigned_numbers(order: Order) -> [u64; 16]
 fn signed_numbers(order: Order) -> [i32; 13]
     ensures { λ r. ⌜ r ≡ signedNumbersOf order ⌝ }
 {
-    let p = order.parameters;
+    let setting = order.setting;
+    let p = setting.parameters;
     let own = p.adjustments;
     let brought = p.method_adjustments;
     [
@@ -101,7 +103,8 @@ fn print_signed(m: i32) {
 }
 
 fn print_rules(order: Order) {
-    let rules = order.rules;
+    let setting = order.setting;
+    let rules = setting.rules;
     let midnight = rules.midnight;
     let southern = rules.southern;
     print(wide(midnight.number()));

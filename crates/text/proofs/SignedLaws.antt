@@ -1,5 +1,6 @@
 -- A number with a sign, by what is put. Assumes nothing.
-use Rattle.prelude.proofs.Logic.{_≡_, refl, sym, ap, _∙_, true, false, List, [], _++_, ℕ, suc, _+_, _≤_, arith, ℤ, pos, negsuc, length, length-append, ltZ}
+use Rattle.prelude.proofs.Logic.{_≡_, refl, sym, ap, _∙_, true, false, List, [], _++_, ℕ, suc, _+_, _≤_, arith, ℤ, pos, negsuc, length}
+use Rattle.prelude.proofs.Logic.{length-append, ltZ}
 use Rattle.integers.proofs.Integers.{P, N, lt-yes, lt-no}
 use Rattle.text.specs.Text.{ascii, decimalOf, putOf, frontOf}
 use Rattle.text.specs.Signed.{signedOf}
@@ -28,7 +29,8 @@ module _ (text : List ℕ) (room : length text ≡ 21) (z x : ℤ) (is : x ≡ z
   pub minus-made : (one two : List ℕ) (n k : ℕ) → ltZ x (pos 0) ≡ true → n ≡ N x → one ≡ putOf text 0 (ascii "-") → k ≡ length (decimalOf n)
       → two ≡ putOf one 1 (decimalOf n) → (1 + k ≡ length (signedOf z)) × (two ≡ frontOf (signedOf z) text)
   minus-made one two n k t e p l q =
-      let m : ascii "-" ++ decimalOf n ≡ signedOf z = ap (λ (i : ℕ). ascii "-" ++ decimalOf i) (e ∙ ap N is) ∙ minus z (ap (λ (i : ℤ). ltZ i (pos 0)) (sym is) ∙ t) in
+      let m : ascii "-" ++ decimalOf n ≡ signedOf z = ap (λ (i : ℕ). ascii "-" ++ decimalOf i) (e ∙ ap N is)
+      ∙ minus z (ap (λ (i : ℤ). ltZ i (pos 0)) (sym is) ∙ t) in
       let a = length-append (ascii "-") (decimalOf n) in
       let b = ap length m in
       let d = digits-short 20 n in

@@ -1,4 +1,5 @@
--- A whole text at the front of a lent buffer. One that is shorter than the longest text of its kind is left as it was, and the answer is 0.
+-- A whole text at the front of a lent buffer. A buffer that is shorter than the longest text of its kind stays as it was, and the call
+-- returns 0.
 use Prim.Native.Nat.{ℕ}
 use mathlib.Core.Bool.{cond}
 use mathlib.Core.List.{List}

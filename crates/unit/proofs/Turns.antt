@@ -1,6 +1,9 @@
 -- An angle above 0 and below 359 degrees is unwound as it stands: a full turn goes into it no time. Assumes nothing.
-use Rattle.prelude.proofs.Logic.{_≡_, refl, sym, ap, _∙_, Bool, true, false, cond, true≢false, ℕ, _*_, _^_, _<_, div-add-mod', div-eq-of-lt, arith, T, eqb, lit<, lit≤, ℤ, eqb-true}
-use Rattle.float64.proofs.Floats.{Float, nan, inf, fin, binary64, up, down, round, ofBits, ofInt, mul, sub, div, fits, lt, HasValue, down-pos, dec, floorOf, fraction, wholePart, mul-same, sub-zero64, zero64, inside, Within, Signed, round-signed, div-within}
+use Rattle.prelude.proofs.Logic.{_≡_, refl, sym, ap, _∙_, Bool, true, false, cond, true≢false, ℕ, _*_, _^_, _<_, div-add-mod', div-eq-of-lt}
+use Rattle.prelude.proofs.Logic.{arith, T, eqb, lit<, lit≤, ℤ, eqb-true}
+use Rattle.float64.proofs.Floats.{Float, nan, inf, fin, binary64, up, down, round, ofBits, ofInt, mul, sub, div, fits, lt, HasValue}
+use Rattle.float64.proofs.Floats.{down-pos, dec, floorOf, fraction, wholePart, mul-same, sub-zero64, zero64, inside, Within, Signed}
+use Rattle.float64.proofs.Floats.{round-signed, div-within}
 use Rattle.unit.specs.Unit.{full-turn, normalizedToScaleOf}
 
 turn-value : HasValue full-turn false 360 1
@@ -39,8 +42,10 @@ quotient-signed m e = round-signed (m * up e * 1) (45 * 2 ^ 3 * down e) false
 turns-zero : (m : ℕ) (e : ℤ) → m * up e < 359 * down e → mul binary64 full-turn (floorOf (div binary64 (fin false m e) full-turn)) ≡ zero64
 unfolding round ofBits
 turns-zero m e l =
-    let w = div-within (fin false m e) full-turn false 359 360 1 1 1022 10 (lit< tt) (lit< tt) (lit< tt) (omega arith) turn-value (lit< tt) (lit≤ tt) (lit≤ tt) in
-    mul-same binary64 full-turn (floorOf (div binary64 (fin false m e) full-turn)) false false 360 0 1 1 (lit< tt) (lit< tt) turn-value (floor-zero (div binary64 (fin false m e) full-turn) w (quotient-signed m e))
+    let w = div-within (fin false m e) full-turn false 359 360 1 1 1022 10 (lit< tt) (lit< tt) (lit< tt) (omega arith) turn-value (lit< tt)
+    (lit≤ tt) (lit≤ tt) in
+    mul-same binary64 full-turn (floorOf (div binary64 (fin false m e) full-turn)) false false 360 0 1 1 (lit< tt) (lit< tt) turn-value
+    (floor-zero (div binary64 (fin false m e) full-turn) w (quotient-signed m e))
 
 pub unturned : (x : Float) → T (fits binary64 x) → lt zero64 x ≡ true → lt x nearly ≡ true → x ≡ normalizedToScaleOf x full-turn
 unfolding normalizedToScaleOf

@@ -1,7 +1,8 @@
 // unit.rs: angles in degrees and places on the earth. The operators on Angle are functions of the type; dates and
-// times (Stride) are the crate stride's.
+// times (Stride) are the crates calendar's, julian's and rounding's.
 ghost use mathlib.Core.Path.{_≡_};
-ghost use Rattle.unit.specs.Unit.{normalizedToScaleOf, angleOf, fromRadiansOf, radiansOf, unwoundOf, quadrantShiftedOf, plusOf, minusOf, productOf, overOf, coordinatesOf, latitudeAngleOf, longitudeAngleOf};
+ghost use Rattle.unit.specs.Unit.{normalizedToScaleOf, angleOf, fromRadiansOf, radiansOf, unwoundOf, quadrantShiftedOf, plusOf};
+ghost use Rattle.unit.specs.Unit.{minusOf, productOf, overOf, coordinatesOf, latitudeAngleOf, longitudeAngleOf};
 use float64::whole::floor;
 use float64::whole::round;
 

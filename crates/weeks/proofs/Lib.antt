@@ -1,9 +1,6 @@
-pub mod Steps
-pub mod StateLaws
 pub mod MeaningLaws
 pub mod LineLaws
 pub mod ReportLaws
 pub mod MinuteLaws
-pub mod Rolled
 pub mod PrintedLaws
 pub mod PromisesLaws

@@ -1,11 +1,13 @@
 -- A window that is looked through row by row answers what the rows say. Assumes nothing.
-use Rattle.prelude.proofs.Logic.{_≡_, refl, sym, ap, subst, _∙_, Bool, true, false, cond, List, inl, inr, ℕ, zero, suc, _+_, _≤_, arith, ℤ, length, ltZ, le-leb}
+use Rattle.prelude.proofs.Logic.{_≡_, refl, subst, Bool, true, false, cond, ℕ, zero, suc, _+_, _≤_, _<_, arith, ℤ, ltZ}
 use borrow.Author.Count.{below-more}
 use Rattle.integers.proofs.OrderLaws.{lt-yes, lt-no, to-lt, to-not-lt}
-use Rattle.weeks.specs.declared.minute.Minute.{Minute}
-use Rattle.weeks.specs.declared.minute.Minute.the-variants.{Some, Nothing}
+use Rattle.weeks.specs.declared.minutes.Minute.{Minute}
+use Rattle.weeks.specs.declared.minutes.Minute.the-variants.{Some, Nothing}
+use Rattle.weeks.specs.declared.window.Extremes.{Extremes}
 use Rattle.weeks.specs.declared.window.Window.{Window}
-use Rattle.weeks.specs.Windows.{rowAt, noWindow, refusedWindow, beginOf, withEarliest, withLatest, earlierIn, laterIn, seenOf, lookOf, lookedOf, windowOf}
+use Rattle.weeks.specs.declared.window.Window.the-variants.{Found, Refused}
+use Rattle.weeks.specs.Windows.{extremes, beginOf, earlierIn, laterIn, seenOf, lookOf, windowOf}
 use Rattle.weeks.specs.Meaning.{Best, earlier, later, RightWindow, Answers}
 
 same-minute : (x : Minute) (m n : ℤ) → x ≡ Some m → x ≡ Some n → m ≡ n
@@ -23,7 +25,9 @@ module _ (before : ℤ → ℤ → Bool) (itself : (x : ℤ) → before x x ≡ 
         from = omega arith;
         to = omega arith;
         there = e;
-        none-before = below-more (λ (r : ℕ). first ≤ r → (n : ℤ) → f r ≡ Some n → before n m ≡ false) first (λ r h g. absurd (omega arith)) (λ g n d. subst (λ (x : ℤ). before x m ≡ false) (same-minute (f first) m n e d) (itself m));
+        none-before =
+            below-more (λ (r : ℕ). first ≤ r → (n : ℤ) → f r ≡ Some n → before n m ≡ false) first (λ r h g. absurd (omega arith))
+            (λ g n d. subst (λ (x : ℤ). before x m ≡ false) (same-minute (f first) m n e d) (itself m));
         is-first = λ r h g. absurd (omega arith);
       }
 
@@ -35,7 +39,8 @@ module _ (before : ℤ → ℤ → Bool) (itself : (x : ℤ) → before x x ≡ 
         to = omega arith;
         there = e;
         none-before =
-            below-more (λ (r : ℕ). first ≤ r → (n : ℤ) → f r ≡ Some n → before n m ≡ false) next (λ r h g n d. behind m b n t (k .none-before r h g n d))
+            below-more (λ (r : ℕ). first ≤ r → (n : ℤ) → f r ≡ Some n → before n m ≡ false) next
+            (λ r h g n d. behind m b n t (k .none-before r h g n d))
             (λ g n d. subst (λ (x : ℤ). before x m ≡ false) (same-minute (f next) m n e d) (itself m));
         is-first = λ r h g n d. ahead m b n t (k .none-before r h g n d);
       }
@@ -48,7 +53,8 @@ module _ (before : ℤ → ℤ → Bool) (itself : (x : ℤ) → before x x ≡ 
         to = let y = k .to in omega arith;
         there = k .there;
         none-before =
-            below-more (λ (r : ℕ). first ≤ r → (n : ℤ) → f r ≡ Some n → before n b ≡ false) next (λ r h g n d. k .none-before r h g n d) (λ g n d. subst (λ (x : ℤ). before x b ≡ false) (same-minute (f next) m n e d) t);
+            below-more (λ (r : ℕ). first ≤ r → (n : ℤ) → f r ≡ Some n → before n b ≡ false) next (λ r h g n d. k .none-before r h g n d)
+            (λ g n d. subst (λ (x : ℤ). before x b ≡ false) (same-minute (f next) m n e d) t);
         is-first = k .is-first;
       }
 
@@ -69,127 +75,59 @@ gt-behind x y z a b = let p = lt-yes y x a in let q = lt-no y z b in to-not-lt x
 
 -- ---- the first row
 answers-begin : (f : ℕ → Minute) (first : ℕ) (x : Minute) → f first ≡ x → Answers f first (first + 1) (beginOf first x)
-answers-begin f first Nothing e = inl (refl, record { row = first; from = omega arith; to = omega arith; is = e })
+answers-begin f first Nothing e = record { row = first; from = omega arith; to = omega arith; is = e }
 answers-begin f first (Some m) e =
-    inr
-    (record {
-      accepted = refl;
-      none-refused = below-more (λ (r : ℕ). first ≤ r → f r ≡ Nothing → ⊥) first (λ r h g. absurd (omega arith)) (λ g d. not-both (f first) m e d);
+    record {
+      none-refused =
+          below-more (λ (r : ℕ). first ≤ r → f r ≡ Nothing → ⊥) first (λ r h g. absurd (omega arith)) (λ g d. not-both (f first) m e d);
       early = best-begin earlier lt-itself lt-ahead lt-behind f first m e;
       late = best-begin later lt-itself gt-ahead gt-behind f first m e;
-    })
+    }
 
 -- ---- a row more
-early-step : (f : ℕ → Minute) (first next : ℕ) (w : Window) (m : ℤ) → f next ≡ Some m → Best earlier f first next (w .earliest) (w .«earliest_row»)
-    → (b : Bool) → ltZ m (w .earliest) ≡ b
-    → Best earlier f first (next + 1) (cond b (withEarliest w next m) w .earliest) (cond b (withEarliest w next m) w .«earliest_row»)
-early-step f first next w m e k true t = best-taken earlier lt-itself lt-ahead lt-behind f first next _ _ m e t k
-early-step f first next w m e k false t = best-left earlier lt-itself lt-ahead lt-behind f first next _ _ m e t k
+module _ (f : ℕ → Minute) (first next : ℕ) (x : Extremes) (m : ℤ) (e : f next ≡ Some m) (k : RightWindow f first next x) where
+  none-refused : (r : ℕ) → r < next + 1 → first ≤ r → f r ≡ Nothing → ⊥
+  none-refused = below-more (λ (r : ℕ). first ≤ r → f r ≡ Nothing → ⊥) next (k .none-refused) (λ g z. not-both (f next) m e z)
 
-late-step : (f : ℕ → Minute) (first next : ℕ) (w : Window) (m : ℤ) → f next ≡ Some m → Best later f first next (w .latest) (w .«latest_row»)
-    → (b : Bool) → ltZ (w .latest) m ≡ b
-    → Best later f first (next + 1) (cond b (withLatest w next m) w .latest) (cond b (withLatest w next m) w .«latest_row»)
-late-step f first next w m e k true t = best-taken later lt-itself gt-ahead gt-behind f first next _ _ m e t k
-late-step f first next w m e k false t = best-left later lt-itself gt-ahead gt-behind f first next _ _ m e t k
+  early-taken : ltZ m (x .earliest) ≡ true → Best earlier f first (next + 1) m next
+  early-taken t = best-taken earlier lt-itself lt-ahead lt-behind f first next _ _ m e t (k .early)
 
--- what the one leaves, the other keeps
-kept-late : (b : Bool) (w : Window) (row : ℕ) (m : ℤ)
-    → (cond b (withEarliest w row m) w .latest ≡ w .latest) × (cond b (withEarliest w row m) w .«latest_row» ≡ w .«latest_row») × (cond b (withEarliest w row m) w .refused ≡ w .refused)
-kept-late true w row m = (refl, refl, refl)
-kept-late false w row m = (refl, refl, refl)
+  early-left : ltZ m (x .earliest) ≡ false → Best earlier f first (next + 1) (x .earliest) (x .«earliest_row»)
+  early-left t = best-left earlier lt-itself lt-ahead lt-behind f first next _ _ m e t (k .early)
 
-kept-early : (b : Bool) (w : Window) (row : ℕ) (m : ℤ)
-    → (cond b (withLatest w row m) w .earliest ≡ w .earliest) × (cond b (withLatest w row m) w .«earliest_row» ≡ w .«earliest_row») × (cond b (withLatest w row m) w .refused ≡ w .refused)
-kept-early true w row m = (refl, refl, refl)
-kept-early false w row m = (refl, refl, refl)
+  late-taken : ltZ (x .latest) m ≡ true → Best later f first (next + 1) m next
+  late-taken t = best-taken later lt-itself gt-ahead gt-behind f first next _ _ m e t (k .late)
 
-right-step : (f : ℕ → Minute) (first next : ℕ) (w : Window) (m : ℤ) → f next ≡ Some m → RightWindow f first next w
-    → RightWindow f first (next + 1) (laterIn (earlierIn w next m) next m)
-unfolding earlierIn laterIn
-right-step f first next w m e k =
-    let b = ltZ m (w .earliest) in
-    let u = cond b (withEarliest w next m) w in
-    let d = ltZ (u .latest) m in
-    let p = kept-late b w next m in
-    let q = kept-early d u next m in
-    record {
-      accepted = q .2 ∙ p .2 ∙ k .accepted;
-      none-refused = below-more (λ (r : ℕ). first ≤ r → f r ≡ Nothing → ⊥) next (k .none-refused) (λ g z. not-both (f next) m e z);
-      early =
-          subst (λ (x : ℤ). Best earlier f first (next + 1) x (cond d (withLatest u next m) u .«earliest_row»)) (sym (q .0))
-          (subst (λ (x : ℕ). Best earlier f first (next + 1) (u .earliest) x) (sym (q .1)) (early-step f first next w m e (k .early) b refl));
-      late =
-          late-step f first next u m e
-          (subst (λ (x : ℤ). Best later f first next x (u .«latest_row»)) (sym (p .0))
-          (subst (λ (x : ℕ). Best later f first next (w .latest) x) (sym (p .1)) (k .late))) d refl;
-    }
+  late-left : ltZ (x .latest) m ≡ false → Best later f first (next + 1) (x .latest) (x .«latest_row»)
+  late-left t = best-left later lt-itself gt-ahead gt-behind f first next _ _ m e t (k .late)
+
+  by-tests : (a b : Bool) → ltZ m (x .earliest) ≡ a → ltZ (cond a (extremes m next (x .latest) (x .«latest_row»)) x .latest) m ≡ b
+      → let u = cond a (extremes m next (x .latest) (x .«latest_row»)) x in
+      RightWindow f first (next + 1) (cond b (extremes (u .earliest) (u .«earliest_row») m next) u)
+  by-tests true true s t = record { none-refused = none-refused; early = early-taken s; late = late-taken t }
+  by-tests true false s t = record { none-refused = none-refused; early = early-taken s; late = late-left t }
+  by-tests false true s t = record { none-refused = none-refused; early = early-left s; late = late-taken t }
+  by-tests false false s t = record { none-refused = none-refused; early = early-left s; late = late-left t }
+
+  right-step : RightWindow f first (next + 1) (laterIn (earlierIn x next m) next m)
+  unfolding earlierIn laterIn
+  right-step = by-tests _ _ refl refl
 
 answers-step : (f : ℕ → Minute) (first next : ℕ) (w : Window) (x : Minute) → f next ≡ x → first ≤ next → Answers f first next w
     → Answers f first (next + 1) (seenOf w next x)
-unfolding seenOf
-answers-step f first next w Nothing e h k = inl (refl, record { row = next; from = h; to = omega arith; is = e })
-answers-step f first next w (Some m) e h (inl (r, s)) =
-    inl (
-      ap (λ (b : Bool). cond b (refusedWindow (w .first)) (laterIn (earlierIn w next m) next m) .refused) r,
-      record { row = s .row; from = s .from; to = let y = s .to in omega arith; is = s .is },
-    )
-answers-step f first next w (Some m) e h (inr k) =
-    inr
-    (subst (λ (b : Bool). RightWindow f first (next + 1) (cond b (refusedWindow (w .first)) (laterIn (earlierIn w next m) next m))) (sym (k .accepted))
-    (right-step f first next w m e k))
+answers-step f first next Refused x e h k = record { row = k .row; from = k .from; to = let y = k .to in omega arith; is = k .is }
+answers-step f first next (Found x) Nothing e h k = record { row = next; from = h; to = omega arith; is = e }
+answers-step f first next (Found x) (Some m) e h k = right-step f first next x m e k
 
-answers-look : (f : ℕ → Minute) (first : ℕ) (w : Window) (i k n : ℕ) → n ≡ i + k → Answers f first (first + i) w
-    → Answers f first (first + n) (lookOf f first w i k)
-answers-look f first w i zero n e a = subst (λ (x : ℕ). Answers f first (first + x) w) (omega arith) a
-answers-look f first w i (suc k) n e a =
-    answers-look f first (seenOf w (first + i) (f (first + i))) (i + 1) k n (omega arith)
-    (subst (λ (x : ℕ). Answers f first x (seenOf w (first + i) (f (first + i)))) (omega arith)
-    (answers-step f first (first + i) w (f (first + i)) refl (omega arith) a))
+answers-look : (f : ℕ → Minute) (first : ℕ) (w : Window) (row k last : ℕ) → last ≡ row + k → first ≤ row → Answers f first row w
+    → Answers f first last (lookOf f w row k)
+answers-look f first w row zero last e h a = subst (λ (n : ℕ). Answers f first n w) (omega arith) a
+answers-look f first w row (suc k) last e h a =
+    answers-look f first (seenOf w row (f row)) (row + 1) k last (omega arith) (omega arith) (answers-step f first row w (f row) refl h a)
 
-pub looked-answers : (f : ℕ → Minute) (first : ℕ) → Answers f first (first + 7) (lookedOf f first)
-unfolding lookedOf
-looked-answers f first = answers-look f first (beginOf first (f first)) 1 6 7 refl (answers-begin f first (f first) refl)
-
--- of a list that has the seven rows, the window is refused where one of them is, and else has the earliest and the latest and the
--- first row of each
-pub window-answers : (l : List Minute) (first : ℕ) → first + 7 ≤ length l → Answers (rowAt l) first (first + 7) (windowOf l first)
+-- a window is refused if one of its seven rows is, or else has the earliest and the latest and the first row of each
+pub window-answers : (f : ℕ → Minute) (first : ℕ) → Answers f first (first + 7) (windowOf f first)
 unfolding windowOf
-window-answers l first h =
-    subst (λ (b : Bool). Answers (rowAt l) first (first + 7) (cond b (lookedOf (rowAt l) first) noWindow)) (sym (le-leb (first + 7) (length l) h))
-    (looked-answers (rowAt l) first)
-
--- ---- the window says which it is
-first-kept : (w : Window) (row : ℕ) (m : ℤ) (a b c : Bool) → w .ready ≡ true
-    → (cond c (refusedWindow (w .first)) (cond b (withLatest (cond a (withEarliest w row m) w) row m) (cond a (withEarliest w row m) w)) .ready ≡ true)
-    × (cond c (refusedWindow (w .first)) (cond b (withLatest (cond a (withEarliest w row m) w) row m) (cond a (withEarliest w row m) w)) .first ≡ w .first)
-first-kept w row m a b true r = (refl, refl)
-first-kept w row m true true false r = (r, refl)
-first-kept w row m true false false r = (r, refl)
-first-kept w row m false true false r = (r, refl)
-first-kept w row m false false false r = (r, refl)
-
-seen-kept : (w : Window) (row : ℕ) (x : Minute) → w .ready ≡ true → (seenOf w row x .ready ≡ true) × (seenOf w row x .first ≡ w .first)
-unfolding seenOf earlierIn laterIn
-seen-kept w row Nothing r = (refl, refl)
-seen-kept w row (Some m) r = first-kept w row m (ltZ m (w .earliest)) (ltZ (cond (ltZ m (w .earliest)) (withEarliest w row m) w .latest) m) (w .refused) r
-
-look-kept : (f : ℕ → Minute) (first : ℕ) (w : Window) (i k : ℕ) → w .ready ≡ true → w .first ≡ first
-    → (lookOf f first w i k .ready ≡ true) × (lookOf f first w i k .first ≡ first)
-look-kept f first w i zero r e = (r, e)
-look-kept f first w i (suc k) r e =
-    let s = seen-kept w (first + i) (f (first + i)) r in
-    look-kept f first (seenOf w (first + i) (f (first + i))) (i + 1) k (s .0) (s .1 ∙ e)
-
-begin-kept : (first : ℕ) (x : Minute) → (beginOf first x .ready ≡ true) × (beginOf first x .first ≡ first)
-begin-kept first Nothing = (refl, refl)
-begin-kept first (Some m) = (refl, refl)
-
-looked-first : (f : ℕ → Minute) (first : ℕ) → (lookedOf f first .ready ≡ true) × (lookedOf f first .first ≡ first)
-unfolding lookedOf
-looked-first f first = let b = begin-kept first (f first) in look-kept f first (beginOf first (f first)) 1 6 (b .0) (b .1)
-
-pub window-first : (l : List Minute) (first : ℕ) → first + 7 ≤ length l → (windowOf l first .ready ≡ true) × (windowOf l first .first ≡ first)
-unfolding windowOf
-window-first l first h =
-    subst (λ (b : Bool). (cond b (lookedOf (rowAt l) first) noWindow .ready ≡ true) × (cond b (lookedOf (rowAt l) first) noWindow .first ≡ first))
-    (sym (le-leb (first + 7) (length l) h)) (looked-first (rowAt l) first)
+window-answers f first =
+    answers-look f first (beginOf first (f first)) (first + 1) 6 (first + 7) (omega arith) (omega arith)
+    (answers-begin f first (f first) refl)

@@ -1,86 +1,132 @@
--- A row more is a line more, the one that the last seven rows give. Assumes nothing.
-use Rattle.prelude.proofs.Logic.{_≡_, refl, sym, ap, _∙_, Bool, cond, List, [], _∷_, _++_, append-assoc, append-nil, ℕ, zero, suc, _+_, _-_, _*_, _≤_, _<_, arith, ltb, length, length-append, ltb-true, ltb-false, le-leb, lt-leb, cases}
-use Rattle.weeks.specs.declared.minute.Minute.{Minute}
-use Rattle.weeks.specs.declared.week.Week.{Week}
+-- Windows and lines by the rows that they look at, and how long lines can be. Assumes nothing.
+use Rattle.prelude.proofs.Logic.{_≡_, refl, ap, _∙_, List, [], _∷_, _++_, ℕ, zero, suc, _+_, _-_, _*_, _/_, _≤_, _<_, add-one, arith, ltb}
+use Rattle.prelude.proofs.Logic.{length, length-append, lt-ltb, arms, ℤ}
+use Rattle.text.proofs.SignedLaws.{signed-length}
+use Rattle.text.proofs.TextLaws.{put-next}
+use Rattle.text.specs.Text.{digitOf, digitsOf, decimalOf, putOf, frontOf}
+use Rattle.weeks.specs.declared.minutes.Minute.{Minute}
 use Rattle.weeks.specs.declared.window.Window.{Window}
-use Rattle.weeks.specs.Lines.{lineOf, linesFrom, reportOf}
-use Rattle.weeks.specs.State.{weekOf, pushedOf, windowIn}
-use Rattle.weeks.specs.Windows.{rowAt, noWindow, lookedOf, windowOf}
-use Rattle.weeks.proofs.LineLaws.{line-length}
-use Rattle.weeks.proofs.StateLaws.{row-before, one-more, push-holds, looked-is, window-right}
+use Rattle.weeks.specs.declared.window.Window.the-variants.{Found, Refused}
+use Rattle.weeks.specs.Lines.{pairText, lineOf, linesOf, reportOf}
+use Rattle.weeks.specs.Meaning.{Answers}
+use Rattle.weeks.specs.Report.{longestWeek}
+use Rattle.weeks.specs.Windows.{beginOf, seenOf, lookOf, windowOf}
+use Rattle.weeks.proofs.MeaningLaws.{window-answers}
 
--- a window has its rows alone to look at
-window-more : (l k : List Minute) (first : ℕ) → first + 7 ≤ length l → windowOf l first ≡ windowOf (l ++ k) first
-unfolding windowOf
-window-more l k first h =
-    let n = length-append l k in
-    ap (λ (b : Bool). cond b (lookedOf (rowAt l) first) noWindow) (le-leb (first + 7) (length l) h)
-    ∙ sym (looked-is (rowAt l) first 0 _ _ _ _ _ _ _ refl refl refl refl refl refl refl)
-    ∙ looked-is (rowAt (l ++ k)) first 0 _ _ _ _ _ _ _ (at first (omega arith)) (at (first + 1) (omega arith)) (at (first + 2) (omega arith)) (at (first + 3) (omega arith))
-    (at (first + 4) (omega arith))
-    (at (first + 5) (omega arith))
-    (at (first + 6) (omega arith))
-    ∙ sym (ap (λ (b : Bool). cond b (lookedOf (rowAt (l ++ k)) first) noWindow) (le-leb (first + 7) (length (l ++ k)) (omega arith)))
-  where
-    at : (i : ℕ) → i < length l → rowAt l i ≡ rowAt (l ++ k) i
-    at i g = sym (row-before l k i g)
+-- ---- a window while it is looked through
+pub record Looking (f : ℕ → Minute) (first : ℕ) (w : Window) (row : ℕ) : Type 0 where
+  pub left : ℕ
+  pub to : row + left ≡ first + 7
+  pub is : lookOf f w row left ≡ windowOf f first
 
-window-none : (l : List Minute) → length l < 7 → lineOf (windowOf l (length l - 7)) ≡ []
-unfolding windowOf lineOf
-window-none l h = ap (λ (b : Bool). lineOf (cond b (lookedOf (rowAt l) (length l - 7)) noWindow)) (lt-leb (length l - 7 + 7) (length l) (omega arith))
+module _ (f : ℕ → Minute) (first : ℕ) where
+  pub look-first : Looking f first (beginOf first (f first)) (first + 1)
+  unfolding windowOf
+  look-first = record { left = 6; to = omega arith; is = refl }
 
--- lines of windows that rows behind them do not change, and one line more at the end
-lines-more : (l k : List Minute) (first n : ℕ) → first + n + 6 ≤ length l → linesFrom l first n ≡ linesFrom (l ++ k) first n
-unfolding linesFrom
-lines-more l k first zero h = refl
-lines-more l k first (suc n) h =
-    ap (λ (w : Window). lineOf w ++ linesFrom l (first + 1) n) (window-more l k first (omega arith))
-    ∙ ap (λ (t : List ℕ). lineOf (windowOf (l ++ k) first) ++ t) (lines-more l k (first + 1) n (omega arith))
+  pub look-next : (w : Window) (row : ℕ) → Looking f first w row → row < first + 7 → Looking f first (seenOf w row (f row)) (row + 1)
+  look-next w row l h = by-left (l .left) (l .to) (l .is)
+    where
+      by-left : (k : ℕ) → row + k ≡ first + 7 → lookOf f w row k ≡ windowOf f first → Looking f first (seenOf w row (f row)) (row + 1)
+      by-left zero e i = absurd (omega arith)
+      by-left (suc k) e i = record { left = k; to = omega arith; is = i }
 
-lines-last : (l : List Minute) (first n : ℕ) → linesFrom l first (suc n) ≡ linesFrom l first n ++ lineOf (windowOf l (first + n))
-unfolding linesFrom
-lines-last l first zero =
-    let e : first ≡ first + 0 = omega arith in
-    append-nil (lineOf (windowOf l first)) ∙ ap (λ (j : ℕ). lineOf (windowOf l j)) e
-lines-last l first (suc n) =
-    let e : first + 1 + n ≡ first + suc n = omega arith in
-    ap (λ (t : List ℕ). lineOf (windowOf l first) ++ t)
-    (lines-last l (first + 1) n ∙ ap (λ (j : ℕ). linesFrom l (first + 1) n ++ lineOf (windowOf l j)) e)
-    ∙ sym (append-assoc (lineOf (windowOf l first)) (linesFrom l (first + 1) n) (lineOf (windowOf l (first + suc n))))
+  pub look-last : (w : Window) (row : ℕ) → Looking f first w row → first + 7 ≤ row → w ≡ windowOf f first
+  look-last w row l h =
+      let to = l .to in
+      let none : 0 ≡ l .left = omega arith in
+      ap (lookOf f w row) none ∙ l .is
 
-lines-length : (l : List Minute) (first n : ℕ) → length (linesFrom l first n) ≤ 128 * n
-unfolding linesFrom
-lines-length l first zero = omega arith
-lines-length l first (suc n) =
-    let i = lines-length l (first + 1) n in
-    let w = line-length (windowOf l first) in
-    let a = length-append (lineOf (windowOf l first)) (linesFrom l (first + 1) n) in
+-- ---- rows that are the same give the same report
+module _ (f g : ℕ → Minute) (rows : ℕ) (same : (r : ℕ) → r < rows → f r ≡ g r) where
+  look-same : (w : Window) (row k : ℕ) → row + k ≤ rows → lookOf f w row k ≡ lookOf g w row k
+  look-same w row zero h = refl
+  look-same w row (suc k) h =
+      ap (λ (m : Minute). lookOf f (seenOf w row m) (row + 1) k) (same row (omega arith))
+      ∙ look-same (seenOf w row (g row)) (row + 1) k (omega arith)
+
+  window-same : (first : ℕ) → first + 7 ≤ rows → windowOf f first ≡ windowOf g first
+  unfolding windowOf
+  window-same first h =
+      ap (λ (m : Minute). lookOf f (beginOf first m) (first + 1) 6) (same first (omega arith))
+      ∙ look-same (beginOf first (g first)) (first + 1) 6 (omega arith)
+
+  lines-same : (n : ℕ) → n ≤ rows - 6 → linesOf f n ≡ linesOf g n
+  unfolding linesOf
+  lines-same zero h = refl
+  lines-same (suc n) h = rw (lines-same n (omega arith), window-same n (omega arith))
+
+  pub report-same : reportOf f rows ≡ reportOf g rows
+  report-same = lines-same (rows - 6) (omega arith)
+
+-- ---- lengths
+digits-most : (k n most : ℕ) → length (digitsOf k (n / 10)) ≤ most → 1 ≤ most → length (digitsOf (suc k) n) ≤ most + 1
+unfolding digitsOf
+digits-most k n most h one =
+    arms (λ (t : List ℕ). length t ≤ most + 1) (ltb n 10) (λ e. omega arith)
+    (λ e. let a = length-append (digitsOf k (n / 10)) (digitOf n ∷ []) in omega arith)
+
+-- a row's number
+row-digits : (n : ℕ) → n < 1000 → length (decimalOf n) ≤ 3
+unfolding digitsOf
+row-digits n h =
+    let last : length (digitsOf 18 (n / 10 / 10)) ≤ 1 = rw (lt-ltb (n / 10 / 10) 10 (omega arith)) (omega arith) in
+    digits-most 19 n 2 (digits-most 18 (n / 10) 1 last (omega arith)) (omega arith)
+
+pair-length : (z : ℤ) (row : ℕ) → row < 1000 → length (pairText z row) ≤ 26
+unfolding pairText
+pair-length z row h = let s = signed-length z in let d = row-digits row h in simp length-append (omega arith)
+
+line-length : (f : ℕ → Minute) (first next : ℕ) (w : Window) → next ≤ 1000 → first < next → Answers f first next w
+    → length (lineOf first w) ≤ 56
+unfolding lineOf
+line-length f first next Refused h l a = let d = row-digits first (omega arith) in simp length-append (omega arith)
+line-length f first next (Found x) h l a =
+    let d = row-digits first (omega arith) in
+    let e = pair-length (x .earliest) (x .«earliest_row») (omega (arith, a .early .to)) in
+    let g = pair-length (x .latest) (x .«latest_row») (omega (arith, a .late .to)) in
+    simp length-append (omega arith)
+
+pub lines-length : (f : ℕ → Minute) (n : ℕ) → n ≤ 900 → length (linesOf f n) ≤ 56 * n
+unfolding linesOf
+lines-length f zero h = omega arith
+lines-length f (suc n) h =
+    let i = lines-length f n (omega arith) in
+    let w = line-length f n (n + 7) (windowOf f n) (omega arith) (omega arith) (window-answers f n) in
+    let a = length-append (linesOf f n) (lineOf n (windowOf f n)) in
     omega arith
 
-pub report-length : (l : List Minute) → length (reportOf l) ≤ 128 * length l
-report-length l = let n = lines-length l 0 (length l - 6) in omega arith
+-- ---- the lines of the windows before `first` are there
+pub record Lined (f : ℕ → Minute) (rows : ℕ) (buffer now : List ℕ) (first end : ℕ) : Type 0 where
+  pub within : first ≤ rows - 6
+  pub text : now ≡ frontOf (linesOf f first) buffer
+  pub place : end ≡ length (linesOf f first)
+  pub same : length now ≡ length buffer
 
-module _ (l : List Minute) (m : Minute) (h : length l < 4294967295) where
-  -- the line behind a row
-  line-now : lineOf (windowIn (pushedOf (weekOf l) m)) ≡ lineOf (windowOf (l ++ (m ∷ [])) (length (l ++ (m ∷ [])) - 7))
-  line-now = ap (λ (w : Week). lineOf (windowIn w)) (push-holds l m h) ∙ ap lineOf (window-right (l ++ (m ∷ [])))
+pub no-lines : (f : ℕ → Minute) (rows : ℕ) (buffer : List ℕ) → Lined f rows buffer buffer 0 0
+unfolding linesOf
+no-lines f rows buffer = record { within = omega arith; text = refl; place = refl; same = refl }
 
-  pub report-next : reportOf (l ++ (m ∷ [])) ≡ reportOf l ++ lineOf (windowIn (pushedOf (weekOf l) m))
-  unfolding linesFrom
-  report-next =
-      let n = one-more l m in
-      let k = length l - 6 in
-      cases (ltb (length l) 6)
-      (λ t. let z = ltb-true (length l) 6 t in
-      let a : length (l ++ (m ∷ [])) - 6 ≡ 0 = omega arith in
-      let b : length l - 6 ≡ 0 = omega arith in
-      ap (linesFrom (l ++ (m ∷ [])) 0) a ∙ sym (line-now ∙ window-none (l ++ (m ∷ [])) (omega arith))
-      ∙ ap (λ (j : ℕ). linesFrom l 0 j ++ lineOf (windowIn (pushedOf (weekOf l) m))) (sym b))
-      (λ t. let z = ltb-false (length l) 6 t in
-      let a : length (l ++ (m ∷ [])) - 6 ≡ suc k = omega arith in
-      let b : 0 + k ≡ length (l ++ (m ∷ [])) - 7 = omega arith in
-      ap (linesFrom (l ++ (m ∷ [])) 0) a
-      ∙ lines-last (l ++ (m ∷ [])) 0 k
-      ∙ ap (λ (t : List ℕ). t ++ lineOf (windowOf (l ++ (m ∷ [])) (0 + k))) (sym (lines-more l (m ∷ []) 0 k (omega arith)))
-      ∙ ap (λ (j : ℕ). linesFrom l 0 k ++ lineOf (windowOf (l ++ (m ∷ [])) j)) b
-      ∙ ap (λ (t : List ℕ). linesFrom l 0 k ++ t) (sym line-now))
+module _ (f : ℕ → Minute) (rows : ℕ) (most : rows ≤ 400) (buffer : List ℕ) (room : longestWeek ≤ length buffer)
+    (now : List ℕ) (first end : ℕ) (l : Lined f rows buffer now first end) (more : first + 6 < rows) where
+  pub line-room : end + length (lineOf first (windowOf f first)) ≤ length now
+  line-room =
+      let i = lines-length f first (omega (arith, l .within)) in
+      let w = line-length f first (first + 7) (windowOf f first) (omega arith) (omega arith) (window-answers f first) in
+      omega (arith, l .place, l .same)
+
+  pub lined-next : (after : List ℕ) (n : ℕ) → length after ≡ length now → n ≡ end + length (lineOf first (windowOf f first))
+      → after ≡ putOf now end (lineOf first (windowOf f first)) → Lined f rows buffer after (first + 1) n
+  unfolding linesOf
+  lined-next after n k e p =
+      let a = length-append (linesOf f first) (lineOf first (windowOf f first)) in
+      let at = l .place in
+      let fits = line-room in
+      let same = l .same in
+      record {
+        within = omega arith;
+        text = rw (add-one first)
+            (put-next buffer (linesOf f first) (lineOf first (windowOf f first)) now after end (l .text) at p (omega arith));
+        place = rw (add-one first) (omega arith);
+        same = k ∙ same;
+      }

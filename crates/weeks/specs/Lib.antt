@@ -3,4 +3,4 @@ pub mod Meaning
 pub mod Lines
 pub mod Report
 pub mod Promises
-pub mod State
+pub mod Kept

@@ -1,15 +1,16 @@
--- Document 02, request 11: what a window's answer means, by the rows alone.
+-- Document 02, request 11: "the earliest and latest Fajr by the clock .. and the first row having each", said by the rows alone.
 use Prim.Native.Nat.{ℕ, _≤_, _<_}
 use mathlib.Core.Path.{_≡_}
 use mathlib.Core.Bool.{Bool, true, false}
-use mathlib.Core.Logic.{_⊎_}
 use lib.IntN.{ℤ}
 use lib.Signed.{ltZ}
-use Rattle.weeks.specs.declared.minute.Minute.{Minute}
-use Rattle.weeks.specs.declared.minute.Minute.the-variants.{Some, Nothing}
+use Rattle.weeks.specs.declared.minutes.Minute.{Minute}
+use Rattle.weeks.specs.declared.minutes.Minute.the-variants.{Some, Nothing}
+use Rattle.weeks.specs.declared.window.Extremes.{Extremes}
 use Rattle.weeks.specs.declared.window.Window.{Window}
+use Rattle.weeks.specs.declared.window.Window.the-variants.{Found, Refused}
 
--- of the rows from `first` to before `next`: `minute` stands in `row`, no row goes before it, and it goes before each row above its own
+-- of the rows from `first` to before `next`: `minute` is in `row`, no row goes before it, and it goes before each row above its own
 pub record Best (before : ℤ → ℤ → Bool) (f : ℕ → Minute) (first next : ℕ) (minute : ℤ) (row : ℕ) : Type 0 where
   pub from : first ≤ row
   pub to : row < next
@@ -29,12 +30,12 @@ pub record SomeRefused (f : ℕ → Minute) (first next : ℕ) : Type 0 where
   pub to : row < next
   pub is : f row ≡ Nothing
 
-pub record RightWindow (f : ℕ → Minute) (first next : ℕ) (w : Window) : Type 0 where
-  pub accepted : w .refused ≡ false
+pub record RightWindow (f : ℕ → Minute) (first next : ℕ) (x : Extremes) : Type 0 where
   pub none-refused : (r : ℕ) → r < next → first ≤ r → f r ≡ Nothing → ⊥
-  pub early : Best earlier f first next (w .earliest) (w .«earliest_row»)
-  pub late : Best later f first next (w .latest) (w .«latest_row»)
+  pub early : Best earlier f first next (x .earliest) (x .«earliest_row»)
+  pub late : Best later f first next (x .latest) (x .«latest_row»)
 
 -- a window's answer: refused, and a row is; or right, and none is
 abbrev pub Answers : (ℕ → Minute) → ℕ → ℕ → Window → Type 0
-Answers f first next w = ((w .refused ≡ true) × SomeRefused f first next) ⊎ RightWindow f first next w
+Answers f first next Refused = SomeRefused f first next
+Answers f first next (Found x) = RightWindow f first next x

@@ -5,57 +5,55 @@ ghost use lib.ListN.{length};
 ghost use Rattle.order.specs.Accepted.{Accepted};
 ghost use Rattle.text.specs.Printed.{printedLength, printedBuffer};
 ghost use Rattle.text.specs.Text.{frontOf};
+ghost use Rattle.weeks.specs.Kept.{minuteAt};
+ghost use Rattle.weeks.specs.Lines.{reportOf};
 ghost use Rattle.weeks.specs.Report.{ordersReport, weekText, longestWeek};
 use super::line::put_window;
-use super::minute::minute_of;
-use super::week::Week;
+use super::minutes::ROWS;
+use super::minutes::work_minutes;
+use super::window::Window;
 use lines::refused::put_refused_order;
-use order::reading::MOST_ROWS;
 use order::reading::Order;
 use order::reading::Reading;
 use order::reading::read;
-use schedule::rolling::RowSuns;
 
-const LINE_BYTES: usize = 128;
+// Three digits of a row, twice a minute and its row behind blanks, and the newline.
+const LINE_BYTES: usize = 56;
 
 // What the longest report takes.
-pub const WEEK_BYTES: usize = LINE_BYTES * MOST_ROWS as usize;
+pub const WEEK_BYTES: usize = LINE_BYTES * (ROWS - 6);
 
-// A line behind each row from the seventh on. Each row takes over what it can from the one before it.
-fn put_windows(buffer: &mut [u8], order: Order) -> usize
-    requires { ⌜ Accepted order × (longestWeek ≤ length (now buffer)) ⌝ }
-    ensures { λ r. ⌜ r ≡ length (ordersReport order) ⌝ }
-    ensures { λ _. ⌜ now (buffer .exit) ≡ frontOf (ordersReport order) (now (buffer .entry)) ⌝ }
+// A line for every row that has six rows behind it.
+fn put_windows(
+    buffer: &mut [u8],
+    minutes: &[i64; ROWS],
+    refused: &[bool; ROWS],
+    rows: usize,
+) -> usize
+    requires { ⌜ (rows ≤ 400) × (longestWeek ≤ length (now buffer)) ⌝ }
+    ensures { λ r. ⌜ r ≡ length (reportOf (minuteAt (now (minutes .entry)) (now (refused .entry))) rows) ⌝ }
+    ensures { λ _.
+        ⌜ now (buffer .exit) ≡ frontOf (reportOf (minuteAt (now (minutes .entry)) (now (refused .entry))) rows) (now (buffer .entry)) ⌝ }
 {
-    let coordinates = order.coordinates;
-    let parameters = order.parameters;
-    let rules = order.rules;
-    let latitude = coordinates.latitude;
-    let mut suns = RowSuns::new(order.date, coordinates, parameters, rules);
-    let mut week = Week::new();
-    let mut row = 0;
+    let mut first = 0;
     let mut end = 0;
-    loop {
-        week = week.push(minute_of(suns.fajr(latitude, parameters, rules)));
-        end = end + put_window(&mut buffer[..], end, week.window());
-        row = row + 1;
-        if row >= order.rows {
-            return end;
-        }
-        suns = suns.next(coordinates, parameters, rules);
+    while first + 6 < rows {
+        let window = Window::new(minutes, refused, first);
+        end = put_window(&mut buffer[..], end, first, window);
+        first = first + 1;
     }
+    end
 }
 
-// Under seven rows no row is worked.
 fn put_report(buffer: &mut [u8], order: Order) -> usize
     requires { ⌜ Accepted order × (longestWeek ≤ length (now buffer)) ⌝ }
     ensures { λ r. ⌜ r ≡ length (ordersReport order) ⌝ }
     ensures { λ _. ⌜ now (buffer .exit) ≡ frontOf (ordersReport order) (now (buffer .entry)) ⌝ }
 {
-    if order.rows < 7 {
-        return 0;
-    }
-    put_windows(&mut buffer[..], order)
+    let mut minutes = [0i64; ROWS];
+    let mut refused = [false; ROWS];
+    work_minutes(order, &mut minutes, &mut refused);
+    put_windows(&mut buffer[..], &minutes, &refused, order.rows as usize)
 }
 
 // Returns the length of the text, which may be 0. A buffer under WEEK_BYTES, which might not hold it, is left as it was, and 0 is returned.

@@ -1,98 +1,91 @@
 // Seven successive rows, looked through one by one: the earliest and the latest Fajr, and the first row that has each.
 ghost use mathlib.Core.Path.{_≡_};
-ghost use Rattle.weeks.specs.Windows.{noWindow, refusedWindow, beginOf, earlierIn, laterIn, seenOf};
-use super::minute::Minute;
+ghost use Prim.Native.Nat.{_+_, _≤_};
+ghost use Rattle.weeks.specs.Kept.{minuteAt};
+ghost use Rattle.weeks.specs.Windows.{beginOf, earlierIn, laterIn, seenOf, windowOf};
+use super::minutes::Minute;
+use super::minutes::ROWS;
+use super::minutes::minute_at;
 
-// The seven rows from `first` on; not ready while there are fewer.
-pub struct Window {
-    pub ready: bool,
-    pub refused: bool,
-    pub first: u32,
+pub struct Extremes {
     pub earliest: i64,
-    pub earliest_row: u32,
+    pub earliest_row: usize,
     pub latest: i64,
-    pub latest_row: u32,
+    pub latest_row: usize,
 }
 
-pub fn not_ready() -> Window
-    ensures { λ r. ⌜ r ≡ noWindow ⌝ }
-{
-    Window {
-        ready: false,
-        refused: false,
-        first: 0,
-        earliest: 0,
-        earliest_row: 0,
-        latest: 0,
-        latest_row: 0,
-    }
+// Refused if one of its days is.
+pub enum Window {
+    Found(Extremes),
+    Refused,
 }
 
-pub fn refused(first: u32) -> Window
-    ensures { λ r. ⌜ r ≡ refusedWindow first ⌝ }
-{
-    Window {
-        ready: true,
-        refused: true,
-        first: first,
-        earliest: 0,
-        earliest_row: 0,
-        latest: 0,
-        latest_row: 0,
-    }
-}
-
-pub fn begin(first: u32, minute: Minute) -> Window
-    ensures { λ r. ⌜ r ≡ beginOf first minute ⌝ }
-{
-    match minute {
-        Minute::Some(m) => Window {
-            ready: true,
-            refused: false,
-            first: first,
-            earliest: m,
-            earliest_row: first,
-            latest: m,
-            latest_row: first,
-        },
-        Minute::Nothing => refused(first),
-    }
-}
-
-fn with_earliest(window: Window, row: u32, m: i64) -> Window
-    ensures { λ r. ⌜ r ≡ earlierIn window row m ⌝ }
-{
-    if m < window.earliest {
-        let mut w = window;
-        w.earliest = m;
-        w.earliest_row = row;
-        return w;
-    }
-    window
-}
-
-fn with_latest(window: Window, row: u32, m: i64) -> Window
-    ensures { λ r. ⌜ r ≡ laterIn window row m ⌝ }
-{
-    if window.latest < m {
-        let mut w = window;
-        w.latest = m;
-        w.latest_row = row;
-        return w;
-    }
-    window
-}
-
-pub fn seen(window: Window, row: u32, minute: Minute) -> Window
-    ensures { λ r. ⌜ r ≡ seenOf window row minute ⌝ }
-{
-    match minute {
-        Minute::Some(m) => {
-            if window.refused {
-                return refused(window.first);
-            }
-            with_latest(with_earliest(window, row, m), row, m)
+impl Extremes {
+    fn with_earliest(self, row: usize, minute: i64) -> Extremes
+        ensures { λ r. ⌜ r ≡ earlierIn self row minute ⌝ }
+    {
+        if minute < self.earliest {
+            let mut found = self;
+            found.earliest = minute;
+            found.earliest_row = row;
+            return found;
         }
-        Minute::Nothing => refused(window.first),
+        self
+    }
+
+    fn with_latest(self, row: usize, minute: i64) -> Extremes
+        ensures { λ r. ⌜ r ≡ laterIn self row minute ⌝ }
+    {
+        if self.latest < minute {
+            let mut found = self;
+            found.latest = minute;
+            found.latest_row = row;
+            return found;
+        }
+        self
+    }
+}
+
+impl Window {
+    // A window's first row by itself.
+    fn begin(row: usize, minute: Minute) -> Window
+        ensures { λ r. ⌜ r ≡ beginOf row minute ⌝ }
+    {
+        match minute {
+            Minute::Some(m) => Window::Found(Extremes {
+                earliest: m,
+                earliest_row: row,
+                latest: m,
+                latest_row: row,
+            }),
+            Minute::Nothing => Window::Refused,
+        }
+    }
+
+    // A row more.
+    fn seen(self, row: usize, minute: Minute) -> Window
+        ensures { λ r. ⌜ r ≡ seenOf self row minute ⌝ }
+    {
+        match self {
+            Window::Found(found) => match minute {
+                Minute::Some(m) => Window::Found(found.with_earliest(row, m).with_latest(row, m)),
+                Minute::Nothing => Window::Refused,
+            },
+            Window::Refused => Window::Refused,
+        }
+    }
+
+    // The seven rows from `first` on.
+    pub fn new(minutes: &[i64; ROWS], refused: &[bool; ROWS], first: usize) -> Window
+        requires { ⌜ first + 7 ≤ 400 ⌝ }
+        ensures { λ r. ⌜ r ≡ windowOf (minuteAt (now (minutes .entry)) (now (refused .entry))) first ⌝ }
+    {
+        let mut window = Window::begin(first, minute_at(minutes, refused, first));
+        let mut row = first + 1;
+        while row < first + 7 {
+            window = window.seen(row, minute_at(minutes, refused, row));
+            row = row + 1;
+        }
+        window
     }
 }

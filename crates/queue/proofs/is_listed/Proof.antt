@@ -1,3 +1,4 @@
+-- Invariant: the id is among the first n if it is among those from i on.
 use Rattle.prelude.proofs.Logic.{_≡_, sym, _∙_, _≤_, _-_, arith, length, slice, slice-empty, needs, eq-eqb, ne-eqb}
 use Rattle.queue.proofs.Lists.{listed-first}
 use Rattle.prelude.specs.Lists.{listed}
@@ -38,5 +39,6 @@ returns-2 c =
 pub is-listed-spec : {M : Type 1} → this.Statement.statement M
 is-listed-spec =
     this.Tie.close
-    (this.Tie.spec Inv-loop μ-loop (λ c. search needs) (λ c. search needs) (λ c. search needs) returns (λ c. search needs) (λ c. search needs)
+    (this.Tie.spec Inv-loop μ-loop (λ c. search needs) (λ c. search needs) (λ c. search needs) returns (λ c. search needs)
+    (λ c. search needs)
     loop-again returns-2)

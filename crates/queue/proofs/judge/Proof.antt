@@ -1,3 +1,4 @@
+-- The tests in their order: 17 for a job that is unfit or waits already, then 16 for a full queue.
 use Rattle.prelude.proofs.Logic.{sym, _∙_, needs}
 use Rattle.queue.proofs.Abstraction.{Whole}
 use Rattle.queue.proofs.Answers.{judged-waiting, judged-full, judged-free}
@@ -14,7 +15,8 @@ returns c =
     let q = start .args .queue in
     let w : Whole q = record { ids = search needs; pages = search needs } in
     c .new .ensures
-    ∙ judged-waiting q w (n .result) (n .ensures .0) (start .args .id) (start .args .pages) (sym (range .ensures) ∙ tested .before .before .if1 .taken) (sym (among .ensures) ∙ tested .if2 .taken)
+    ∙ judged-waiting q w (n .result) (n .ensures .0) (start .args .id) (start .args .pages)
+    (sym (range .ensures) ∙ tested .before .before .if1 .taken) (sym (among .ensures) ∙ tested .if2 .taken)
 
 returns-2 : this.Tie.Need-returns-2
 returns-2 c =
@@ -26,7 +28,8 @@ returns-2 c =
     let q = start .args .queue in
     let w : Whole q = record { ids = search needs; pages = search needs } in
     c .none .ensures
-    ∙ judged-free q w (n .result) (n .ensures .0) (start .args .id) (start .args .pages) (sym (range .ensures) ∙ tested .before .before .before .if1 .taken)
+    ∙ judged-free q w (n .result) (n .ensures .0) (start .args .id) (start .args .pages)
+    (sym (range .ensures) ∙ tested .before .before .before .if1 .taken)
     (sym (among .ensures) ∙ tested .before .if2 .left) (tested .if3 .taken)
 
 returns-3 : this.Tie.Need-returns-3
@@ -39,7 +42,8 @@ returns-3 c =
     let q = start .args .queue in
     let w : Whole q = record { ids = search needs; pages = search needs } in
     c .new2 .ensures
-    ∙ judged-full q w (n .result) (n .ensures .0) (start .args .id) (start .args .pages) (sym (range .ensures) ∙ tested .before .before .before .if1 .taken)
+    ∙ judged-full q w (n .result) (n .ensures .0) (start .args .id) (start .args .pages)
+    (sym (range .ensures) ∙ tested .before .before .before .if1 .taken)
     (sym (among .ensures) ∙ tested .before .if2 .left) (tested .if3 .left)
 
 returns-4 : this.Tie.Need-returns-4
@@ -51,5 +55,6 @@ returns-4 c =
 pub judge-spec : {M : Type 1} → this.Statement.statement M
 judge-spec =
     this.Tie.close
-    (this.Tie.spec (λ c κs. tt) (λ c κs. tt) (λ c κs. search needs) (λ c κs. tt) returns (λ c κs. tt) returns-2 (λ c κs. tt) returns-3 (λ c κs. tt)
+    (this.Tie.spec (λ c κs. tt) (λ c κs. tt) (λ c κs. search needs) (λ c κs. tt) returns (λ c κs. tt) returns-2 (λ c κs. tt) returns-3
+    (λ c κs. tt)
     returns-4)

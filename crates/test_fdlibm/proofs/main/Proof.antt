@@ -9,5 +9,6 @@ abbrev μ-loop : this.Tie.MeasureT-loop
 
 pub main-spec : {M : Type 1} → this.Statement.statement M
 main-spec = this.Tie.close (this.Tie.spec Inv-loop μ-loop (λ c. search needs) (λ c κs. tt) (λ c. cc) (λ c. cc) (λ c. search needs) (λ c. cc)
-    (λ c. search needs) (λ c. search needs) (λ c. ⊎-elim (λ w. omega arith) (λ w. omega arith) (c .match .came)) (λ c κs. tt) (λ c. cc) (λ c κs. tt)
+    (λ c. search needs) (λ c. search needs) (λ c. ⊎-elim (λ w. omega arith) (λ w. omega arith) (c .match .came)) (λ c κs. tt) (λ c. cc)
+    (λ c κs. tt)
     (λ c κs. tt) (λ c. cc) (λ c κs. tt) (λ c. tt))

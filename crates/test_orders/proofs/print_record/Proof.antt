@@ -19,5 +19,7 @@ array-copy-out-print-signed c = omega arith
 
 pub print-record-spec : {M : Type 1} → this.Statement.statement M
 print-record-spec = this.Tie.close (this.Tie.spec Inv-loop μ-loop Inv-loop2 μ-loop2 (λ c κs. tt) (λ c. search needs) (λ c. search needs)
-    (λ c. search needs) (λ c κs. tt) (λ c. search needs) (λ c. search needs) (λ c. search needs) (λ c κs. tt) (λ c. search needs) (λ c. search needs)
-    array-copy-out-print-signed (λ c κs. tt) (λ c. search needs) (λ c. search needs) (λ c. search needs) (λ c κs. tt) (λ c κs. tt) (λ c. tt))
+    (λ c. search needs) (λ c κs. tt) (λ c. search needs) (λ c. search needs) (λ c. search needs) (λ c κs. tt) (λ c. search needs)
+    (λ c. search needs)
+    array-copy-out-print-signed (λ c κs. tt) (λ c. search needs) (λ c. search needs) (λ c. search needs) (λ c κs. tt) (λ c κs. tt)
+    (λ c. tt))

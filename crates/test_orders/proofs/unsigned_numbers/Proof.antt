@@ -1,3 +1,4 @@
+-- Each number of the list is what its call returns.
 use Rattle.test_orders.specs.Numbers.{unsignedNumbersOf}
 use Rattle.test_orders.proofs.unsigned_numbers as this
 
@@ -31,6 +32,8 @@ returns c =
     )
 
 pub unsigned-numbers-spec : {M : Type 1} → this.Statement.statement M
-unsigned-numbers-spec = this.Tie.close (this.Tie.spec (λ c κs. tt) (λ c κs. tt) (λ c κs. tt) (λ c κs. tt) (λ c κs. tt) (λ c κs. tt) (λ c κs. tt)
-    (λ c κs. tt) (λ c κs. tt) (λ c κs. tt) (λ c κs. tt) (λ c κs. tt) (λ c κs. tt) (λ c κs. tt) (λ c κs. tt) (λ c κs. tt) (λ c κs. tt) (λ c κs. tt)
+unsigned-numbers-spec =
+    this.Tie.close (this.Tie.spec (λ c κs. tt) (λ c κs. tt) (λ c κs. tt) (λ c κs. tt) (λ c κs. tt) (λ c κs. tt) (λ c κs. tt)
+    (λ c κs. tt) (λ c κs. tt) (λ c κs. tt) (λ c κs. tt) (λ c κs. tt) (λ c κs. tt) (λ c κs. tt) (λ c κs. tt) (λ c κs. tt) (λ c κs. tt)
+    (λ c κs. tt)
     (λ c κs. tt) (λ c κs. tt) (λ c κs. tt) returns)

@@ -16,4 +16,5 @@ returns c =
 pub time-cells-spec : {M : Type 1} → this.Statement.statement M
 time-cells-spec =
     this.Tie.close
-    (this.Tie.spec (λ c κs. search needs) (λ c κs. search needs) (λ c κs. search needs) (λ c κs. search needs) (λ c κs. search needs) returns)
+    (this.Tie.spec (λ c κs. search needs) (λ c κs. search needs) (λ c κs. search needs) (λ c κs. search needs)
+    (λ c κs. search needs) returns)

@@ -1,3 +1,4 @@
+-- Invariant: behind the row's first three cells are those of the first i times.
 use Rattle.prelude.proofs.Logic.{_≡_, refl, ap, _∙_, _-_, _≤_, arith, pos, length, getD, take, replicate, needs, w32, w64, toZ}
 use Rattle.integers.proofs.Ranges.{readBack, read}
 use Rattle.text.specs.Text.{putOf}
@@ -34,7 +35,8 @@ loop-again c =
       omega arith,
       put .kept .0 ∙ l .inv .1,
       l .inv .2,
-      time-put clock six (l .i) (pos 0) day (l .cells) (put .last .0) (time .result) h n (l .inv .2) (l .inv .3) (time .ensures ∙ ap (timeCells clock) k) (put .ensures),
+      time-put clock six (l .i) (pos 0) day (l .cells) (put .last .0) (time .result) h n (l .inv .2) (l .inv .3)
+          (time .ensures ∙ ap (timeCells clock) k) (put .ensures),
     )
 
 returns : this.Tie.Need-returns Inv-loop μ-loop
@@ -47,12 +49,14 @@ returns c =
     let day = c .before .before .before .before .before .before .day-cells in
     let end : l .i ≡ 6 = omega (arith, l .inv .0, c .loop-test .left) in
     let front = day-put (a .date) (replicate 39 0) (put .last .0) (day .result) refl (day .ensures) (put .ensures) in
-    row-done (a .date) (a .times) (readBack w32 (a .clock)) (six .result) (l .i) (put .last .0) (l .cells) (six .ensures) end front (l .inv .3)
+    row-done (a .date) (a .times) (readBack w32 (a .clock)) (six .result) (l .i) (put .last .0) (l .cells) (six .ensures) end front
+    (l .inv .3)
     ∙ ap (rowCells (a .date) (Times (a .times))) (read w32 (a .clock) (t .fits .clock))
 
 pub full-row-spec : {M : Type 1} → this.Statement.statement M
 full-row-spec =
     this.Tie.close
-    (this.Tie.spec Inv-loop μ-loop (λ c. search needs) (λ c κs. search needs) (λ c. search needs) (λ c κs. search needs) (λ c κs. search needs)
+    (this.Tie.spec Inv-loop μ-loop (λ c. search needs) (λ c κs. search needs) (λ c. search needs) (λ c κs. search needs)
+    (λ c κs. search needs)
     loop-holds (λ c. search needs) (λ c. search needs) (λ c. search needs) (λ c. search needs) (λ c. search needs) (λ c κs. search needs)
     (λ c. search needs) (λ c κs. search needs) (λ c. search needs) (λ c. search needs) loop-again returns)

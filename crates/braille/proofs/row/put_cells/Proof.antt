@@ -1,3 +1,4 @@
+-- The row's cells are put at the front of the buffer, and their dots are counted.
 use Rattle.prelude.proofs.Logic.{sym, ap, subst, _∙_, arith, length, needs, w32}
 use Rattle.integers.proofs.Ranges.{read, readBack}
 use Rattle.braille.specs.Braille.{dotsOf, SixDots}
@@ -19,10 +20,12 @@ returns : this.Tie.Need-returns
 returns c =
     let t = c .before .before .before .before .before .before .before .before .before in
     let a = t .args in
-    let row = c .before .before .before .before .before .before .before .row-cells .ensures ∙ ap (rowCells (a .date) (a .worked)) (read w32 (a .clock) (t .fits .clock)) in
+    let row = c .before .before .before .before .before .before .before .row-cells .ensures
+    ∙ ap (rowCells (a .date) (a .worked)) (read w32 (a .clock) (t .fits .clock)) in
     (c .dots .ensures ∙ ap dotsOf row, rw row at (c .before .before .before .before .put .ensures))
 
 pub put-cells-spec : {M : Type 1} → this.Statement.statement M
 put-cells-spec =
     this.Tie.close
-    (this.Tie.spec (λ c κs. search needs) (λ c. search needs) (λ c κs. search needs) (λ c. search needs) dots-requires (λ c. search needs) returns)
+    (this.Tie.spec (λ c κs. search needs) (λ c. search needs) (λ c κs. search needs) (λ c. search needs) dots-requires
+    (λ c. search needs) returns)

@@ -1,3 +1,4 @@
+-- Before 1970 the remainder is below zero, and the distance from it to a day is the second of the day.
 use Rattle.prelude.proofs.Logic.{arith, needs, w64}
 use Rattle.integers.proofs.Integers.{read}
 use Rattle.calendar.proofs.Remainders as remainders
@@ -22,4 +23,5 @@ returns-2 c =
     rw (rw r at (c .above .ensures)) (remainders.from-zero (t .args .seconds) (rw r at (c .before .if1 .left)))
 
 pub second-of-day-spec : {M : Type 1} → this.Statement.statement M
-second-of-day-spec = this.Tie.close (this.Tie.spec (λ c κs. search needs) sub-result (λ c. search needs) returns (λ c κs. search needs) returns-2)
+second-of-day-spec =
+    this.Tie.close (this.Tie.spec (λ c κs. search needs) sub-result (λ c. search needs) returns (λ c κs. search needs) returns-2)

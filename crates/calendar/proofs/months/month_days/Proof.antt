@@ -7,6 +7,12 @@ month-days-spec =
     let returns-3 : this.Tie.Need-returns-3 = λ c.
     let s = c .before .before in let m : s .args .month ≡ 12 = omega arith in rw m (sym (length-december (s .args .leap))) in
     this.Tie.close (this.Tie.spec (λ c. search needs) (λ c κs. tt) (λ c κs. tt)
-    (λ c. omega (arith, before-next (c .before .before .before .args .leap) (c .before .before .before .args .month) (c .before .before .if1 .taken)))
-    (λ c. omega (arith, before-next (c .before .before .before .args .leap) (c .before .before .before .args .month) (c .before .before .if1 .taken)))
+    (λ c. omega (
+      arith,
+      before-next (c .before .before .before .args .leap) (c .before .before .before .args .month) (c .before .before .if1 .taken),
+    ))
+    (λ c. omega (
+      arith,
+      before-next (c .before .before .before .args .leap) (c .before .before .before .args .month) (c .before .before .if1 .taken),
+    ))
     (λ c. sym (length-past (c .before .before .args .leap) (c .before .before .args .month) (c .if2 .taken))) returns-3)

@@ -4,7 +4,8 @@ use Rattle.fdlibm_root.proofs.Certificate.{halves, residue-is}
 use Rattle.fdlibm_root.proofs.certify.residue as this
 
 pub residue-spec : {M : Type 1} → this.Statement.statement M
-residue-spec = this.Tie.close (this.Tie.spec (λ c. search needs) (λ c. let h = halves (c .args .s) (c .pre .1) in record { fits = omega arith })
+residue-spec =
+    this.Tie.close (this.Tie.spec (λ c. search needs) (λ c. let h = halves (c .args .s) (c .pre .1) in record { fits = omega arith })
     (λ c. search needs) (λ c. let h = halves (c .args .s) (c .pre .1) in record { fits = omega arith })
     (λ c. let h = halves (c .args .s) (c .pre .1) in record { fits = omega arith })
     (λ c. let h = halves (c .args .s) (c .pre .1) in record { fits = omega arith })

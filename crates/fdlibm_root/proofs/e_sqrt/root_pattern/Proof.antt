@@ -14,6 +14,7 @@ returns c =
 pub root-pattern-spec : {M : Type 1} → this.Statement.statement M
 root-pattern-spec = this.Tie.close (this.Tie.spec (λ c. search needs) (λ c. search needs) (λ c κs. search needs)
     (λ c. let a = c .before .args in
-    let small = scaled-fits (a .significand) (a .exponent) (c .nearest .result) (c .before .pre .1) (c .before .pre .3) (c .nearest .ensures) in
+    let small =
+    scaled-fits (a .significand) (a .exponent) (c .nearest .result) (c .before .pre .1) (c .before .pre .3) (c .nearest .ensures) in
     record { fits = omega arith })
     returns)

@@ -10,9 +10,11 @@ pub sqrt-spec : {M : Type 1} → this.Statement.statement M
 unfolding ofBits div
 sqrt-spec =
     let returns : this.Tie.Need-returns = λ c. let start = c .before .before .before in
-    c .subnormal-pattern .ensures .0 ∙ sym (subnormal-root (start .args .x) (start .good .0 .1) (c .before .before .if1 .taken) (c .before .if2 .taken)) in
+    c .subnormal-pattern .ensures .0
+    ∙ sym (subnormal-root (start .args .x) (start .good .0 .1) (c .before .before .if1 .taken) (c .before .if2 .taken)) in
     let returns-2 : this.Tie.Need-returns-2 = λ c. let start = c .before .before .before .before in
-    c .root-pattern .ensures .0 ∙ sym (normal-root (start .args .x) (start .good .0 .1) (c .before .before .before .if1 .taken) (c .before .before .if2 .left) (c .before .if3 .taken)) in
+    c .root-pattern .ensures .0 ∙ sym (normal-root (start .args .x) (start .good .0 .1) (c .before .before .before .if1 .taken)
+    (c .before .before .if2 .left) (c .before .if3 .taken)) in
     let returns-3 : this.Tie.Need-returns-3 = λ c. let start = c .before .before .before in
     infinite-root (start .args .x) (start .good .0 .1) (c .before .before .if1 .taken) (c .if3 .left) in
     let returns-4 : this.Tie.Need-returns-4 = λ c. zero-root (c .before .before .args .x) (c .if4 .taken) in

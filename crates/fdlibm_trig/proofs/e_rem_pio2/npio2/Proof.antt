@@ -21,6 +21,8 @@ pub npio2-spec : {M : Type 1} → this.Statement.statement M
 unfolding npio2Of npio2
 npio2-spec =
     let returns : this.Tie.Need-returns = λ c. simp (c .if1 .taken) in
-    let returns-2 : this.Tie.Need-returns-2 = λ c. c .high-word .ensures ∙ high (c .before .before .before .before .args .n) (omega (arith, c .before .before .before .if1 .left)) (c .before .before .if2 .taken) in
-    let returns-3 : this.Tie.Need-returns-3 = λ c. let n = c .before .before .args .n in sym (List·getD-eq-default npio2 0 {n = n - 1} (omega (arith, c .if2 .left))) in
+    let returns-2 : this.Tie.Need-returns-2 = λ c. c .high-word .ensures ∙ high (c .before .before .before .before .args .n)
+    (omega (arith, c .before .before .before .if1 .left)) (c .before .before .if2 .taken) in
+    let returns-3 : this.Tie.Need-returns-3 = λ c. let n = c .before .before .args .n in
+    sym (List·getD-eq-default npio2 0 {n = n - 1} (omega (arith, c .if2 .left))) in
     this.Tie.close (this.Tie.spec returns (λ c. search needs) (λ c κs. tt) returns-2 returns-3)

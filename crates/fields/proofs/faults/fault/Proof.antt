@@ -26,6 +26,8 @@ fault-spec =
     let returns-3 : this.Tie.Need-returns-3 = λ c. let known = c .before in
     simp (c .if3 .taken, sym (known .before .known .ensures), known .if2 .left, le-ltb _ _ (known .before .before .if1 .left)) in
     let returns-4 : this.Tie.Need-returns-4 = λ c. rw (← length-holds (c .before)) (simp (c .if4 .taken)) in
-    let returns-5 : this.Tie.Need-returns-5 = λ c. rw (← length-holds (c .before .before)) (simp (c .before .if4 .left, lt-ltb _ _ (c .if5 .taken))) in
-    let returns-6 : this.Tie.Need-returns-6 = λ c. rw (← length-holds (c .before .before)) (simp (c .before .if4 .left, le-ltb _ _ (c .if5 .left))) in
+    let returns-5 : this.Tie.Need-returns-5 =
+    λ c. rw (← length-holds (c .before .before)) (simp (c .before .if4 .left, lt-ltb _ _ (c .if5 .taken))) in
+    let returns-6 : this.Tie.Need-returns-6 =
+    λ c. rw (← length-holds (c .before .before)) (simp (c .before .if4 .left, le-ltb _ _ (c .if5 .left))) in
     this.Tie.close (this.Tie.spec returns (λ c κs. tt) returns-2 returns-3 (λ c κs. tt) returns-4 returns-5 returns-6)

@@ -16,5 +16,6 @@ pub unsigned-spec : {M : Type 1} → this.Statement.statement M
 unfolding unsignedOf
 unsigned-spec =
     let returns : this.Tie.Need-returns = λ c. search needs in
-    this.Tie.close (this.Tie.spec (λ c κs. search needs) (λ c. search needs) (λ c. search needs) (λ c κs. search needs) (λ c. search needs) returns
+    this.Tie.close (this.Tie.spec (λ c κs. search needs) (λ c. search needs) (λ c. search needs) (λ c κs. search needs)
+    (λ c. search needs) returns
     returns-2)

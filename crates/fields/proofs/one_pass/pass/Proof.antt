@@ -1,10 +1,11 @@
--- `fields::one_pass::pass` meets its contract. The invariant: with what was collected, which says the tags seen, both passes of the definition answer
--- from here on what they answer from the start.
+-- `fields::one_pass::pass` meets its contract. The invariant: with what was collected, which says the tags seen, both passes of the
+-- definition answer from here on what they answer from the start.
 use Rattle.prelude.proofs.Logic.{_≡_, sym, ap, _∙_, ℕ, _-_, arith, length, needs, now}
 use Rattle.refusals.specs.Refusals.{refusal}
 use Rattle.fields.specs.Fields.{lengthAt, longestOrder, faultOf}
 use Rattle.fields.proofs.FieldsLaws.{Good, fault-none, good-row, good-short}
-use Rattle.fields.proofs.Collecting.{Collecting, seenIn, seen-collected, collect-first, fault-is, refused-here, nothing-refused, collected-on, collected-all, check-walk, checked-not, checked-all}
+use Rattle.fields.proofs.Collecting.{Collecting, seenIn, seen-collected, collect-first, fault-is, refused-here, nothing-refused}
+use Rattle.fields.proofs.Collecting.{collected-on, collected-all, check-walk, checked-not, checked-all}
 use Rattle.fields.proofs.one_pass.pass as this
 
 abbrev Inv-loop : this.Tie.InvT-loop
@@ -31,8 +32,10 @@ fault-holds : (f : this.Tie.After-fault Inv-loop μ-loop) → let l = in-loop f 
 fault-holds f =
     let tag = f .before .before .before .before .byte in
     let l = in-loop f .before .loop in
-    fault-is (now (start f .args .order)) (l .at) (seenIn (l .starts)) (tag .result) (f .before .before .before .unsigned .result) (f .fault .result)
-    (f .before .stands .result) (tag .ensures .0) (size-here f) (f .before .stands .ensures ∙ seen-collected (l .starts) (tag .result)) (f .fault .ensures)
+    fault-is (now (start f .args .order)) (l .at) (seenIn (l .starts)) (tag .result) (f .before .before .before .unsigned .result)
+    (f .fault .result)
+    (f .before .stands .result) (tag .ensures .0) (size-here f) (f .before .stands .ensures ∙ seen-collected (l .starts) (tag .result))
+    (f .fault .ensures)
 
 good : (f : this.Tie.After-fault Inv-loop μ-loop) → f .fault .result ≡ 0 → Good (now (start f .args .order)) (in-loop f .before .loop .at)
 good f none =
@@ -45,14 +48,17 @@ returns c =
     let l = in-loop f .before .loop in
     let s = now (start f .args .order) in
     let e = fault-holds f in
-    let stop = refused-here s (l .at) (l .starts) (l .lengths) (l .inv) (in-loop f .loop-test .taken) (λ z. c .before .if1 .taken (e ∙ z)) in
+    let stop =
+    refused-here s (l .at) (l .starts) (l .lengths) (l .inv) (in-loop f .loop-test .taken) (λ z. c .before .if1 .taken (e ∙ z)) in
     c .refused .ensures
-    ∙ checked-not s (f .fault .result) (l .at) (check-walk s (start f .pre) ∙ stop ∙ ap (λ (n : ℕ). refusal n (l .at)) (sym e)) (c .before .if1 .taken)
+    ∙ checked-not s (f .fault .result) (l .at) (check-walk s (start f .pre) ∙ stop ∙ ap (λ (n : ℕ). refusal n (l .at)) (sym e))
+    (c .before .if1 .taken)
 
 room : this.Tie.Need-array-write-starts Inv-loop μ-loop
 room c =
     let f = c .before in
-    rw (f .before .before .before .before .byte .ensures .0) (good-row (now (start f .args .order)) (in-loop f .before .loop .at) (good f (c .if1 .left)))
+    rw (f .before .before .before .before .byte .ensures .0)
+    (good-row (now (start f .args .order)) (in-loop f .before .loop .at) (good f (c .if1 .left)))
 
 short : this.Tie.Need-cast-lengths Inv-loop μ-loop
 short c =
@@ -65,7 +71,8 @@ loop-again c =
     let f = c .before in
     let l = in-loop f .before .loop in
     rw (f .before .before .before .before .byte .ensures .0, size-here f)
-    (collected-on (now (start f .args .order)) (l .at) (l .starts) (l .lengths) (l .inv) (in-loop f .loop-test .taken) (sym (fault-holds f) ∙ c .if1 .left))
+    (collected-on (now (start f .args .order)) (l .at) (l .starts) (l .lengths) (l .inv) (in-loop f .loop-test .taken)
+    (sym (fault-holds f) ∙ c .if1 .left))
 
 returns-2 : this.Tie.Need-returns-2 Inv-loop μ-loop
 returns-2 c =

@@ -1,5 +1,5 @@
--- `fields::plain::collect` meets its contract. The invariant: with what was collected, the definition collects from here on what it collects from the
--- start.
+-- `fields::plain::collect` meets its contract. The invariant: with what was collected, the definition collects from here on what it
+-- collects from the start.
 use Rattle.prelude.proofs.Logic.{_≡_, sym, ap, _∙_, _-_, arith, length, needs, now}
 use Rattle.refusals.specs.declared.Refusal.{Refusal}
 use Rattle.fields.specs.Fields.{faultOf}
@@ -18,7 +18,8 @@ passes : (t : this.Tie.In-loop Inv-loop μ-loop) → let l = t .before .loop in
     faultOf (now (t .before .before .before .args .order)) (seenIn (l .starts)) (l .at) ≡ 0
 passes t =
     let l = t .before .loop in
-    sound-here (now (t .before .before .before .args .order)) (l .at) (l .starts) (l .lengths) (l .inv .0) (l .inv .1 .walk) (t .loop-test .taken)
+    sound-here (now (t .before .before .before .args .order)) (l .at) (l .starts) (l .lengths) (l .inv .0) (l .inv .1 .walk)
+    (t .loop-test .taken)
 
 good : (t : this.Tie.In-loop Inv-loop μ-loop) → Good (now (t .before .before .before .args .order)) (t .before .loop .at)
 good t = fault-none (now (t .before .before .before .args .order)) (seenIn (t .before .loop .starts)) (t .before .loop .at) (passes t) .0
@@ -38,8 +39,11 @@ loop-again : this.Tie.Need-loop-again Inv-loop μ-loop
 loop-again c =
     let t = c .before .before in
     let l = t .before .loop in
-    rw (c .before .byte .ensures .0, c .length-at .ensures .0)
-    (collected-on (now (t .before .before .before .args .order)) (l .at) (l .starts) (l .lengths) (l .inv .0) (t .loop-test .taken) (passes t), l .inv .1)
+    rw (c .before .byte .ensures .0, c .length-at .ensures .0) (
+      collected-on (now (t .before .before .before .args .order)) (l .at) (l .starts) (l .lengths) (l .inv .0) (t .loop-test .taken)
+          (passes t),
+      l .inv .1,
+    )
 
 pub collect-spec : {M : Type 1} → this.Statement.statement M
 collect-spec = this.Tie.close (this.Tie.spec Inv-loop μ-loop
@@ -48,4 +52,5 @@ collect-spec = this.Tie.close (this.Tie.spec Inv-loop μ-loop
     (λ c κs. tt) (λ c. search needs) (λ c κs. search needs) (λ c. search needs) (λ c. search needs) (λ c. search needs) room short room
     (λ c. search needs) (λ c. search needs) (λ c. search needs) (λ c. search needs) loop-again
     (λ c. let l = c .before in
-    collected-all (now (l .before .before .args .order)) (l .loop .at) (l .loop .starts) (l .loop .lengths) (l .loop .inv .0) (c .loop-test .left)))
+    collected-all (now (l .before .before .args .order)) (l .loop .at) (l .loop .starts) (l .loop .lengths) (l .loop .inv .0)
+    (c .loop-test .left)))

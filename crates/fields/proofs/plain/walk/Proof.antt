@@ -1,4 +1,5 @@
--- `fields::plain::walk` meets its contract. The invariant: with the tags seen, the definition answers from here on what it answers from the start.
+-- `fields::plain::walk` meets its contract. The invariant: with the tags seen, the definition answers from here on what it answers from the
+-- start.
 use Rattle.prelude.proofs.Logic.{_≡_, sym, ap, _∙_, ℕ, _-_, arith, length, needs, now}
 use Rattle.refusals.specs.Refusals.{refusal}
 use Rattle.fields.specs.Fields.{faultOf}
@@ -26,7 +27,8 @@ fault-holds f =
     let size = f .before .before .before .length-at in
     let tag = f .before .before .before .before .byte in
     let l = in-loop f .before .loop in
-    fault-is (now (start f .args .order)) (l .at) (l .seen) (tag .result) (size .result) (f .fault .result) (f .before .is-seen .result) (tag .ensures .0)
+    fault-is (now (start f .args .order)) (l .at) (l .seen) (tag .result) (size .result) (f .fault .result) (f .before .is-seen .result)
+    (tag .ensures .0)
     (size .ensures .0) (f .before .is-seen .ensures) (f .fault .ensures)
 
 returns : this.Tie.Need-returns Inv-loop μ-loop
@@ -57,10 +59,12 @@ loop-again c =
 returns-2 : this.Tie.Need-returns-2 Inv-loop μ-loop
 returns-2 c =
     let l = c .before .before .loop in
-    c .none .ensures ∙ checked-end (now (c .before .before .before .before .args .order)) (l .at) (l .seen) (l .inv) (c .before .loop-test .left)
+    c .none .ensures
+    ∙ checked-end (now (c .before .before .before .before .args .order)) (l .at) (l .seen) (l .inv) (c .before .loop-test .left)
 
 pub walk-spec : {M : Type 1} → this.Statement.statement M
 walk-spec = this.Tie.close (this.Tie.spec Inv-loop μ-loop (λ c. check-first (now (c .before .args .order))) (λ c κs. search needs)
-    (λ c κs. search needs) (λ c. sym (c .before .before .before .before .loop .inv .size)) (λ c κs. search needs) (λ c. search needs) (λ c κs. search needs)
+    (λ c κs. search needs) (λ c. sym (c .before .before .before .before .loop .inv .size)) (λ c κs. search needs) (λ c. search needs)
+    (λ c κs. search needs)
     (λ c. search needs) (λ c κs. search needs) returns (λ c. search needs) room (λ c. search needs) (λ c. search needs) (λ c. search needs)
     (λ c. search needs) loop-again (λ c κs. search needs) returns-2)

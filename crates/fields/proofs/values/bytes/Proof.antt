@@ -11,6 +11,7 @@ bytes-spec =
     part-rest (now (a .order)) (a .part .at) (a .part .length) (c .before .if2 .taken) in
     let returns-3 : this.Tie.Need-returns-3 = λ c. let a = c .before .before .before .before .before .args in
     part-whole (now (a .order)) (a .part .at) (a .part .length) in
-    this.Tie.close (this.Tie.spec (λ c. search needs) (λ c. search needs) (λ c. search needs) (λ c. search needs) returns (λ c. search needs)
+    this.Tie.close (this.Tie.spec (λ c. search needs) (λ c. search needs) (λ c. search needs) (λ c. search needs) returns
+    (λ c. search needs)
     (λ c. search needs) (λ c. search needs) (λ c. search needs) (λ c. search needs) returns-2 (λ c. search needs) (λ c. search needs)
     (λ c. search needs) returns-3)

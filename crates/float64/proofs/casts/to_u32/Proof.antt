@@ -1,3 +1,4 @@
+-- Below 2 ^ 32 the whole part is cast by one instruction (`cast-below`); the ends are the definition's.
 use Rattle.prelude.proofs.Logic.{_≡_, refl, true, false, lit≤}
 use Rattle.prelude.proofs.Ieee.{Float, binary64, fits, ofBits, lt, HasValue, passes}
 use Rattle.float64.specs.Whole.{truncOf}
@@ -19,9 +20,11 @@ small r x e f = cast-below 32 4294967296 end end-value (lit≤ tt) (lit≤ tt) r
 
 pub to-u32-spec : {M : Type 1} → this.Statement.statement M
 to-u32-spec =
-    let returns-2 : this.Tie.Need-returns-2 = λ c. cast-end 32 end end-value (c .before .before .args .x) (c .before .if1 .taken) (c .if2 .left) in
+    let returns-2 : this.Tie.Need-returns-2 =
+    λ c. cast-end 32 end end-value (c .before .before .args .x) (c .before .if1 .taken) (c .if2 .left) in
     this.Tie.close (this.Tie.spec (λ c κs. tt)
     (λ c. let t = c .before in let b = t .before .before in
     small (t .trunc .result) (b .before .args .x) (t .trunc .ensures) (b .before .good .0 .1) (b .if1 .taken) (t .before .if2 .taken) .0)
-    (λ c. let t = c .before in let b = t .before .before in small (t .trunc .result) (b .before .args .x) (t .trunc .ensures) (b .before .good .0 .1) (b .if1 .taken) (t .before .if2 .taken) .1)
+    (λ c. let t = c .before in let b = t .before .before in small (t .trunc .result) (b .before .args .x) (t .trunc .ensures)
+    (b .before .good .0 .1) (b .if1 .taken) (t .before .if2 .taken) .1)
     returns-2 (λ c. cast-zero 32 (c .before .args .x) (c .if1 .left)))

@@ -1,3 +1,4 @@
+-- Below 2 ^ 52 the whole part is cast by one instruction (`cast-below`), above it by std; the ends are the definition's.
 use Rattle.prelude.proofs.Logic.{_≡_, refl, sym, subst, true, false, T, lit≤}
 use Rattle.prelude.proofs.Ieee.{Float, binary64, fits, ofBits, lt, HasValue, passes}
 use Rattle.float64.specs.Whole.{truncOf}
@@ -26,6 +27,7 @@ to-u64-spec =
     this.Tie.close (this.Tie.spec (λ c κs. tt)
     (λ c. let t = c .before in let b = t .before .before in
     small (t .trunc .result) (b .before .args .x) (t .trunc .ensures) (b .before .good .0 .1) (b .if1 .taken) (t .before .if2 .taken) .0)
-    (λ c. let t = c .before in let b = t .before .before in small (t .trunc .result) (b .before .args .x) (t .trunc .ensures) (b .before .good .0 .1) (b .if1 .taken) (t .before .if2 .taken) .1)
+    (λ c. let t = c .before in let b = t .before .before in small (t .trunc .result) (b .before .args .x) (t .trunc .ensures)
+    (b .before .good .0 .1) (b .if1 .taken) (t .before .if2 .taken) .1)
     (λ c κs. (above-minus-one (c .before .before .before .args .x) (c .before .before .if1 .taken), subst T (sym (c .if3 .taken)) tt))
     (λ c. c .truncating-f64-to-u64 .ensures) returns-3 (λ c. cast-zero 64 (c .before .args .x) (c .if1 .left)))

@@ -11,5 +11,6 @@ abs-spec =
     size-bits x (passes (fits binary64 x) (c .before .good .0 .1)) in
     this.Tie.close (this.Tie.spec (λ c. no-nan (c .before .args .x) (c .if1 .left))
     (λ c. let x = c .before .args .x in
-    no-larger x (toBits binary64 x % 0x8000_0000_0000_0000) (passes (fits binary64 x) (c .before .good .0 .1)) (no-nan x (c .if1 .left)) (omega arith))
+    no-larger x (toBits binary64 x % 0x8000_0000_0000_0000) (passes (fits binary64 x) (c .before .good .0 .1)) (no-nan x (c .if1 .left))
+    (omega arith))
     (λ c. let e = is-nan (c .before .args .x) (c .if1 .taken) in e ∙ sym (ap absOf e)) returns-2)

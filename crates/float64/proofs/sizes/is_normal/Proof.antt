@@ -1,4 +1,6 @@
-use Rattle.prelude.proofs.Logic.{_≡_, refl, sym, ap, _∙_, Bool, true, false, not, true≢false, false≢true, ℕ, _*_, _^_, one-mul, leb, ltb, ltb-true, ltb-false, lt-leb, le-leb}
+-- The two tests on floats are the definition's test on the exponent: finite, and at least 2 ^ -1022.
+use Rattle.prelude.proofs.Logic.{_≡_, refl, sym, ap, _∙_, Bool, true, false, not, true≢false, false≢true, ℕ, _*_, _^_, one-mul, leb, ltb}
+use Rattle.prelude.proofs.Logic.{ltb-true, ltb-false, lt-leb, le-leb}
 use Rattle.prelude.proofs.Ieee.{Float, nan, inf, fin, up, down, binary64, lt, div, round, ofBits}
 use Rattle.float64.specs.Sizes.{absOf, isNormalOf}
 use Rattle.float64.proofs.sizes.is_normal as this
@@ -33,4 +35,5 @@ pub is-normal-spec : {M : Type 1} → this.Statement.statement M
 is-normal-spec =
     let returns : this.Tie.Need-returns = λ c.
     rw (c .before .abs .ensures) (finite (c .before .before .args .x) (rw (c .before .abs .ensures) at (c .if1 .taken))) in
-    this.Tie.close (this.Tie.spec (λ c κs. tt) returns (λ c. infinite (c .before .before .args .x) (rw (c .before .abs .ensures) at (c .if1 .left))))
+    this.Tie.close (this.Tie.spec (λ c κs. tt) returns
+    (λ c. infinite (c .before .before .args .x) (rw (c .before .abs .ensures) at (c .if1 .left))))

@@ -10,4 +10,5 @@ above-spec =
     let returns-2 : this.Tie.Need-returns-2 = λ c.
     let z = c .before .args .z in let f = c .before .fits .z in unsigned.not-above z _ (read w64 z f) (c .if1 .left) in
     this.Tie.close (this.Tie.spec
-    (λ c. let z = c .before .args .z in let f = c .before .fits .z in unsigned.above-is z _ f (read w64 z f) (c .if1 .taken) .0) returns returns-2)
+    (λ c. let z = c .before .args .z in let f = c .before .fits .z in
+    unsigned.above-is z _ f (read w64 z f) (c .if1 .taken) .0) returns returns-2)

@@ -14,8 +14,11 @@ returns : this.Tie.Need-returns
 returns c =
     let a = c .before .before .before .before .before .before .before .before .before .before .args in
     let d = c .before .before .put-decimal .ensures in
-    let p = c .before .before .before .before .before .before .before .before .before .before .pre in
-    (number-end (now (a .word)) (a .at) (a .n) _ (d .0), number-made (now (a .line)) _ _ (now (a .word)) (a .at) (a .n) (p .1) (c .before .before .before .before .before .before .put .ensures) (d .1))
+    let p = c .before .before .before .before .before .before .before .before .before .before .pre in (
+      number-end (now (a .word)) (a .at) (a .n) _ (d .0),
+      number-made (now (a .line)) _ _ (now (a .word)) (a .at) (a .n) (p .1)
+          (c .before .before .before .before .before .before .put .ensures) (d .1),
+    )
 
 pub put-number-spec : {M : Type 1} → this.Statement.statement M
 put-number-spec =

@@ -18,16 +18,19 @@ slice-aggregate-put : this.Tie.Need-slice-aggregate-put
 slice-aggregate-put c =
     let a = c .before .before .before .before .before .before .before .before .args in
     let m = c .before .before .before .make-line in
-    m .ensures .0 ∙ sym (ap length (cut-front (refusedText (now (a .whose)) (now (a .word)) (a .refusal)) _ (m .last .0) (m .result) (m .ensures .0) (m .ensures .1)))
+    m .ensures .0 ∙ sym (ap length
+    (cut-front (refusedText (now (a .whose)) (now (a .word)) (a .refusal)) _ (m .last .0) (m .result) (m .ensures .0) (m .ensures .1)))
 
 returns : this.Tie.Need-returns
 returns c =
     let a = c .before .before .before .before .before .before .before .before .before .before .before .args in
     let m = c .before .before .before .before .before .before .make-line in
-    let t = cut-front (refusedText (now (a .whose)) (now (a .word)) (a .refusal)) _ (m .last .0) (m .result) (m .ensures .0) (m .ensures .1) in
+    let t =
+    cut-front (refusedText (now (a .whose)) (now (a .word)) (a .refusal)) _ (m .last .0) (m .result) (m .ensures .0) (m .ensures .1) in
     (m .ensures .0, rw t at (c .before .before .put .ensures))
 
 pub put-refused-spec : {M : Type 1} → this.Statement.statement M
 put-refused-spec =
     this.Tie.close
-    (this.Tie.spec (λ c. search needs) (λ c κs. search needs) array-share-prefix-line slice-aggregate-put (λ c κs. search needs) (λ c. search needs) returns)
+    (this.Tie.spec (λ c. search needs) (λ c κs. search needs) array-share-prefix-line slice-aggregate-put (λ c κs. search needs)
+    (λ c. search needs) returns)

@@ -22,10 +22,14 @@ returns-3 c =
     let a = t .before .before .before .args in
     let n = row-length (a .date) (now (a .times)) in
     let k = a .at + (10 + 12 * length (now (a .times)) + 1) - a .at in
-    let part : List ℕ → List ℕ = λ text. take (a .at) (now (a .buffer)) ++ (text ++ drop k (drop (a .at) (now (a .buffer)))) in
-    (sym n, ap part (c .before .before .fill-row .ensures) ∙ filled-put (now (a .buffer)) (rowText (a .date) (now (a .times))) (a .at) k (omega arith) (omega (arith, t .if2 .left, t .before .if1 .left)))
+    let part : List ℕ → List ℕ = λ text. take (a .at) (now (a .buffer)) ++ (text ++ drop k (drop (a .at) (now (a .buffer)))) in (
+      sym n,
+      ap part (c .before .before .fill-row .ensures) ∙ filled-put (now (a .buffer)) (rowText (a .date) (now (a .times))) (a .at) k
+          (omega arith) (omega (arith, t .if2 .left, t .before .if1 .left)),
+    )
 
 pub put-columns-spec : {M : Type 1} → this.Statement.statement M
 put-columns-spec =
     this.Tie.close
-    (this.Tie.spec (λ c. search needs) (λ c. search needs) (λ c. search needs) returns (λ c. search needs) returns-2 (λ c. search needs) (λ c. search needs) (λ c. search needs) (λ c. search needs) (λ c κs. search needs) (λ c. search needs) returns-3)
+    (this.Tie.spec (λ c. search needs) (λ c. search needs) (λ c. search needs) returns (λ c. search needs) returns-2 (λ c. search needs)
+    (λ c. search needs) (λ c. search needs) (λ c. search needs) (λ c κs. search needs) (λ c. search needs) returns-3)

@@ -9,7 +9,8 @@ sub-result c =
     let q : readBack w64 (c .before .before .day-of .result) ≡ c .before .before .day-of .result = search needs in
     let n : readBack w64 (t .args .dated .day) ≡ t .args .dated .day = search needs in
     let day = q ∙ c .before .before .day-of .ensures ∙ ap (λ (z : ℤ). floorQuot z 86400) (read w64 (t .args .time) (t .fits .time)) in
-    let e = ap (λ (z : ℤ). z -ℤ readBack w64 (t .args .dated .day)) day ∙ ap (λ (z : ℤ). floorQuot (t .args .time) 86400 -ℤ z) (n ∙ t .pre) in
+    let e = ap (λ (z : ℤ). z -ℤ readBack w64 (t .args .dated .day)) day
+    ∙ ap (λ (z : ℤ). floorQuot (t .args .time) 86400 -ℤ z) (n ∙ t .pre) in
     let y : t .args .dated .date .year < 2 ^ 32 = search needs in
     subst (SFits w64) (sym e) (instants.days-fit (t .args .time) (t .args .dated .date) (t .fits .time) y)
 
@@ -19,7 +20,8 @@ returns c =
     let q : readBack w64 (c .before .before .day-of .result) ≡ c .before .before .day-of .result = search needs in
     let n : readBack w64 (t .args .dated .day) ≡ t .args .dated .day = search needs in
     let day = q ∙ c .before .before .day-of .ensures ∙ ap (λ (z : ℤ). floorQuot z 86400) (read w64 (t .args .time) (t .fits .time)) in
-    let e = ap (λ (z : ℤ). z -ℤ readBack w64 (t .args .dated .day)) day ∙ ap (λ (z : ℤ). floorQuot (t .args .time) 86400 -ℤ z) (n ∙ t .pre) in
+    let e = ap (λ (z : ℤ). z -ℤ readBack w64 (t .args .dated .day)) day
+    ∙ ap (λ (z : ℤ). floorQuot (t .args .time) 86400 -ℤ z) (n ∙ t .pre) in
     read w64 _ (sub-result c) ∙ e
 
 pub days-from-spec : {M : Type 1} → this.Statement.statement M

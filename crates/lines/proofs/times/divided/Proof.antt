@@ -17,10 +17,14 @@ returns c =
     let days = c .before .before .before .before .days-from in
     let r = read w64 (t .args .time) (t .fits .time) in
     let k : readBack w64 (days .result) ≡ days .result = search needs in
-    let d = k ∙ days .ensures ∙ ap (λ (z : ℤ). daysOf (t .args .dated .date) z) r in
-    (c .before .before .before .sign .ensures ∙ ap signOf d, c .before .digit .ensures ∙ ap digitOf (c .before .before .size .ensures ∙ ap natAbs d), c .second-of-day .ensures ∙ ap (λ (z : ℤ). floorRem z 86400) r)
+    let d = k ∙ days .ensures ∙ ap (λ (z : ℤ). daysOf (t .args .dated .date) z) r in (
+      c .before .before .before .sign .ensures ∙ ap signOf d,
+      c .before .digit .ensures ∙ ap digitOf (c .before .before .size .ensures ∙ ap natAbs d),
+      c .second-of-day .ensures ∙ ap (λ (z : ℤ). floorRem z 86400) r,
+    )
 
 pub divided-spec : {M : Type 1} → this.Statement.statement M
 divided-spec =
     this.Tie.close
-    (this.Tie.spec (λ c κs. search needs) (λ c κs. search needs) (λ c κs. search needs) (λ c κs. search needs) (λ c κs. search needs) cast-t8 returns)
+    (this.Tie.spec (λ c κs. search needs) (λ c κs. search needs) (λ c κs. search needs) (λ c κs. search needs)
+    (λ c κs. search needs) cast-t8 returns)

@@ -10,7 +10,8 @@ mul-t3 c =
     let k : readBack w64 (c .day-number .result) ≡ c .day-number .result = search needs in
     let y : date .year < 2 ^ 32 = search needs in
     let n = start-near date y in
-    subst (λ (z : ℤ). SFits w64 (z *ℤ pos 86400)) (sym (k ∙ c .day-number .ensures)) (fits w64 (dayNumberOf date *ℤ pos 86400) (omega (arith, n .to)) (omega (arith, n .from)))
+    subst (λ (z : ℤ). SFits w64 (z *ℤ pos 86400)) (sym (k ∙ c .day-number .ensures))
+    (fits w64 (dayNumberOf date *ℤ pos 86400) (omega (arith, n .to)) (omega (arith, n .from)))
 
 returns : this.Tie.Need-returns
 returns c =

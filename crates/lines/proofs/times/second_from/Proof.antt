@@ -5,9 +5,12 @@ use Rattle.lines.proofs.times.second_from as this
 
 needs-met : this.Tie.Need-sub-result × this.Tie.Need-cast-result × this.Tie.Need-returns
 needs-met = (
-  λ c. second-fits (c .args .start) (c .args .time) _ _ (read w64 (c .args .start) (c .fits .start)) (read w64 (c .args .time) (c .fits .time)) (c .pre .0) (c .pre .1),
-  λ c. second-cast (c .args .start) (c .args .time) _ _ (read w64 (c .args .start) (c .fits .start)) (read w64 (c .args .time) (c .fits .time)) (c .pre .0) (c .pre .1),
-  λ c. second-since (c .args .start) (c .args .time) _ _ (read w64 (c .args .start) (c .fits .start)) (read w64 (c .args .time) (c .fits .time)) (c .pre .0) (c .pre .1),
+  λ c. second-fits (c .args .start) (c .args .time) _ _ (read w64 (c .args .start) (c .fits .start))
+      (read w64 (c .args .time) (c .fits .time)) (c .pre .0) (c .pre .1),
+  λ c. second-cast (c .args .start) (c .args .time) _ _ (read w64 (c .args .start) (c .fits .start))
+      (read w64 (c .args .time) (c .fits .time)) (c .pre .0) (c .pre .1),
+  λ c. second-since (c .args .start) (c .args .time) _ _ (read w64 (c .args .start) (c .fits .start))
+      (read w64 (c .args .time) (c .fits .time)) (c .pre .0) (c .pre .1),
 )
 
 pub second-from-spec : {M : Type 1} → this.Statement.statement M

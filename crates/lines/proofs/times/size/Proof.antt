@@ -9,7 +9,8 @@ add-result c =
     let z = read w64 (t .args .days) (t .fits .days) in
     let a = c .before .above .ensures ∙ ap P z in
     let b = c .below .ensures ∙ ap N z in
-    subst (Fits w64) (sym (ap (λ (n : ℕ). n + c .below .result) a ∙ ap (λ (n : ℕ). P (t .args .days) + n) b)) (instants.size-fits (t .args .days) (t .fits .days))
+    subst (Fits w64) (sym (ap (λ (n : ℕ). n + c .below .result) a ∙ ap (λ (n : ℕ). P (t .args .days) + n) b))
+    (instants.size-fits (t .args .days) (t .fits .days))
 
 returns : this.Tie.Need-returns
 returns c =

@@ -25,5 +25,6 @@ returns-3 c =
 
 pub degrees-of-spec : {M : Type 1} → this.Statement.statement M
 unfolding inFloat
-degrees-of-spec = this.Tie.close (this.Tie.spec (λ c κs. search needs) (λ c. le→leb (c .before .size .result) (2 ^ 53) (omega arith)) returns
+degrees-of-spec =
+    this.Tie.close (this.Tie.spec (λ c κs. search needs) (λ c. le→leb (c .before .size .result) (2 ^ 53) (omega arith)) returns
     returns-2 returns-3)

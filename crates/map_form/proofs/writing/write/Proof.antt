@@ -10,7 +10,8 @@ returns c =
     let i = n .before .before in
     let a = i .before .args in
     rw (c .parts .ensures, c .before .before .none .ensures)
-    (inside (a .tag) (a .most) (a .x) (n .nearest .result) (c .before .sign-of .result) (sym (i .in-range .ensures) ∙ n .before .if1 .taken) (n .nearest .ensures .0) (c .before .sign-of .ensures))
+    (inside (a .tag) (a .most) (a .x) (n .nearest .result) (c .before .sign-of .result) (sym (i .in-range .ensures) ∙ n .before .if1 .taken)
+    (n .nearest .ensures .0) (c .before .sign-of .ensures))
 
 pub write-spec : {M : Type 1} → this.Statement.statement M
 write-spec = this.Tie.close (this.Tie.spec (λ c κs. search needs)

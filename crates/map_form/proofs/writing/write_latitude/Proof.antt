@@ -9,6 +9,8 @@ use Rattle.map_form.proofs.writing.write_latitude as this
 
 pub write-latitude-spec : {M : Type 1} → this.Statement.statement M
 write-latitude-spec =
-    let returns : this.Tie.Need-returns = λ c. let x = c .before .args .x in
-    (c .write .ensures, subst (λ (w : Written). Owed latitudeTag mostLatitude x w) (sym (c .write .ensures)) (owed latitudeTag mostLatitude x)) in
+    let returns : this.Tie.Need-returns = λ c. let x = c .before .args .x in (
+      c .write .ensures,
+      subst (λ (w : Written). Owed latitudeTag mostLatitude x w) (sym (c .write .ensures)) (owed latitudeTag mostLatitude x),
+    ) in
     this.Tie.close (this.Tie.spec (λ c κs. search needs) returns)

@@ -9,6 +9,8 @@ use Rattle.map_form.proofs.writing.write_longitude as this
 
 pub write-longitude-spec : {M : Type 1} → this.Statement.statement M
 write-longitude-spec =
-    let returns : this.Tie.Need-returns = λ c. let x = c .before .args .x in
-    (c .write .ensures, subst (λ (w : Written). Owed longitudeTag mostLongitude x w) (sym (c .write .ensures)) (owed longitudeTag mostLongitude x)) in
+    let returns : this.Tie.Need-returns = λ c. let x = c .before .args .x in (
+      c .write .ensures,
+      subst (λ (w : Written). Owed longitudeTag mostLongitude x w) (sym (c .write .ensures)) (owed longitudeTag mostLongitude x),
+    ) in
     this.Tie.close (this.Tie.spec (λ c κs. search needs) returns)

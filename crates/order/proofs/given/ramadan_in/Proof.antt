@@ -38,5 +38,6 @@ returns-2 c = simp (sym (c .before .has .ensures), c .if1 .left)
 pub ramadan-in-spec : {M : Type 1} → this.Statement.statement M
 ramadan-in-spec =
     this.Tie.close
-    (this.Tie.spec (λ c κs. tt) (λ c κs. tt) (λ c κs. tt) (λ c κs. tt) (λ c. search needs) (λ c. less-fits (c .byte2 .result) (c .byte2 .ensures .1))
+    (this.Tie.spec (λ c κs. tt) (λ c κs. tt) (λ c κs. tt) (λ c κs. tt) (λ c. search needs)
+    (λ c. less-fits (c .byte2 .result) (c .byte2 .ensures .1))
     returns returns-2)

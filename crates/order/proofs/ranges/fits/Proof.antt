@@ -31,8 +31,10 @@ pub fits-spec : {M : Type 1} → this.Statement.statement M
 unfolding lookUp dec round ofBits neg
 fits-spec =
     let returns : this.Tie.Need-returns = λ c. simp (c .text-fits .ensures, c .before .match .keys1) in
-    let returns-2 : this.Tie.Need-returns-2 = λ c. simp (c .date-fits .ensures, c .before .date-in .ensures, c .before .before .match .keys2) in
-    let returns-3 : this.Tie.Need-returns-3 = λ c. simp (c .ramadan-rows .ensures, c .before .rows-fit .ensures, c .before .before .match .keys3) in
+    let returns-2 : this.Tie.Need-returns-2 =
+    λ c. simp (c .date-fits .ensures, c .before .date-in .ensures, c .before .before .match .keys2) in
+    let returns-3 : this.Tie.Need-returns-3 =
+    λ c. simp (c .ramadan-rows .ensures, c .before .rows-fit .ensures, c .before .before .match .keys3) in
     let returns-4 : this.Tie.Need-returns-4 = λ c. simp (c .degrees-fit .ensures, c .before .match .keys4) in
     let returns-5 : this.Tie.Need-returns-5 = λ c. simp (c .degrees-fit2 .ensures, c .before .match .keys5) in
     let returns-6 : this.Tie.Need-returns-6 = λ c.
@@ -47,6 +49,8 @@ fits-spec =
     simp (c .longitude-fits .ensures, c .before .form-in2 .ensures, c .before .before .match .keys12) in
     let returns-13 : this.Tie.Need-returns-13 = λ c. simp (c .ramadan-fits .ensures, c .before .match .keys13) in
     this.Tie.close
-    (this.Tie.spec (λ c κs. tt) (λ c κs. tt) (λ c κs. tt) (λ c κs. tt) (λ c κs. tt) (λ c κs. tt) (λ c κs. tt) (λ c κs. tt) (λ c κs. tt) (λ c κs. tt)
-    (λ c κs. tt) (λ c κs. tt) (λ c κs. tt) (λ c κs. tt) (λ c κs. tt) (λ c κs. tt) (λ c κs. tt) (λ c κs. tt) (λ c κs. tt) (λ c κs. tt) returns
+    (this.Tie.spec (λ c κs. tt) (λ c κs. tt) (λ c κs. tt) (λ c κs. tt) (λ c κs. tt) (λ c κs. tt) (λ c κs. tt) (λ c κs. tt) (λ c κs. tt)
+    (λ c κs. tt)
+    (λ c κs. tt) (λ c κs. tt) (λ c κs. tt) (λ c κs. tt) (λ c κs. tt) (λ c κs. tt) (λ c κs. tt) (λ c κs. tt) (λ c κs. tt)
+    (λ c κs. tt) returns
     returns-2 returns-3 returns-4 returns-5 returns-6 returns-7 returns-8 returns-9 returns-10 returns-11 returns-12 returns-13 returns-14)

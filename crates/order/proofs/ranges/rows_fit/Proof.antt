@@ -14,7 +14,8 @@ returns-3 : this.Tie.Need-returns-3
 returns-3 c =
     let m = c .before .before .before .before in
     let a = m .before .before .before .args in
-    sym (rows-early (a .date) (now (a .bytes)) (m .before .rows-in .result) (m .most-in .result) (m .before .rows-in .ensures) (m .most-in .ensures) (c .if3 .taken) (c .before .before .before .if1 .left) (c .before .before .if2 .left))
+    sym (rows-early (a .date) (now (a .bytes)) (m .before .rows-in .result) (m .most-in .result) (m .before .rows-in .ensures)
+    (m .most-in .ensures) (c .if3 .taken) (c .before .before .before .if1 .left) (c .before .before .if2 .left))
 
 returns-4 : this.Tie.Need-returns-4
 unfolding rowsFit

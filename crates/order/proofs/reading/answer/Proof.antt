@@ -12,7 +12,17 @@ returns c =
     let d = t .before .before in
     let m = d .before .before in
     refused-alone (o .or3 .result) (m .before .record-in .result) (c .if1 .taken)
-    ∙ sym (simp (first-or, sym (m .before .record-in .ensures), sym (m .missing .ensures), sym (d .before .both-forms .ensures), sym (d .or .ensures), sym (t .before .out-of-range .ensures), sym (t .or2 .ensures), sym (o .before .wrong-start .ensures), sym (o .or3 .ensures)))
+    ∙ sym (simp (
+      first-or,
+      sym (m .before .record-in .ensures),
+      sym (m .missing .ensures),
+      sym (d .before .both-forms .ensures),
+      sym (d .or .ensures),
+      sym (t .before .out-of-range .ensures),
+      sym (t .or2 .ensures),
+      sym (o .before .wrong-start .ensures),
+      sym (o .or3 .ensures),
+    ))
 
 returns-2 : this.Tie.Need-returns-2
 unfolding valuesIn
@@ -22,7 +32,18 @@ returns-2 c =
     let d = t .before .before in
     let m = d .before .before in
     read-alone (o .or3 .result) (m .before .record-in .result) (c .if1 .left)
-    ∙ sym (simp (first-or, sym (m .before .record-in .ensures), sym (m .missing .ensures), sym (d .before .both-forms .ensures), sym (d .or .ensures), sym (t .before .out-of-range .ensures), sym (t .or2 .ensures), sym (o .before .wrong-start .ensures), sym (o .or3 .ensures)))
+    ∙ sym (simp (
+      first-or,
+      sym (m .before .record-in .ensures),
+      sym (m .missing .ensures),
+      sym (d .before .both-forms .ensures),
+      sym (d .or .ensures),
+      sym (t .before .out-of-range .ensures),
+      sym (t .or2 .ensures),
+      sym (o .before .wrong-start .ensures),
+      sym (o .or3 .ensures),
+    ))
 
 pub answer-spec : {M : Type 1} → this.Statement.statement M
-answer-spec = this.Tie.close (this.Tie.spec (λ c κs. tt) (λ c κs. tt) (λ c κs. tt) (λ c κs. tt) (λ c κs. tt) (λ c κs. tt) (λ c κs. tt) (λ c κs. tt) returns returns-2)
+answer-spec = this.Tie.close (this.Tie.spec (λ c κs. tt) (λ c κs. tt) (λ c κs. tt) (λ c κs. tt) (λ c κs. tt) (λ c κs. tt) (λ c κs. tt)
+    (λ c κs. tt) returns returns-2)

@@ -14,14 +14,30 @@ unfolding bothFormsOf
 returns-2 c =
     let h = c .before .before in
     let l = h .before .before in
-    simp (c .new2 .ensures, sym (h .has4 .ensures), sym (h .before .has3 .ensures), sym (l .before .has2 .ensures), sym (l .before .before .has .ensures), c .before .if2 .taken, l .if1 .left)
+    simp (
+      c .new2 .ensures,
+      sym (h .has4 .ensures),
+      sym (h .before .has3 .ensures),
+      sym (l .before .has2 .ensures),
+      sym (l .before .before .has .ensures),
+      c .before .if2 .taken,
+      l .if1 .left,
+    )
 
 returns-3 : this.Tie.Need-returns-3
 unfolding bothFormsOf
 returns-3 c =
     let h = c .before .before in
     let l = h .before .before in
-    simp (c .none .ensures, sym (h .has4 .ensures), sym (h .before .has3 .ensures), sym (l .before .has2 .ensures), sym (l .before .before .has .ensures), c .before .if2 .left, l .if1 .left)
+    simp (
+      c .none .ensures,
+      sym (h .has4 .ensures),
+      sym (h .before .has3 .ensures),
+      sym (l .before .has2 .ensures),
+      sym (l .before .before .has .ensures),
+      c .before .if2 .left,
+      l .if1 .left,
+    )
 
 pub both-forms-spec : {M : Type 1} → this.Statement.statement M
 both-forms-spec =

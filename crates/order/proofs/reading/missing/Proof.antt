@@ -15,18 +15,23 @@ returns : this.Tie.Need-returns Inv-loop μ-loop
 returns c =
     let h = c .before .before in
     let l = h .before .before in
-    c .new .ensures ∙ sym (fails 4 (isGivenOf (hasIn (l .before .args .fields))) required (l .loop .i) (h .before .loop-test .taken) _ refl (sym (h .is-given .ensures) ∙ not-true _ (c .before .if1 .taken))) ∙ l .loop .inv .1
+    c .new .ensures ∙ sym (fails 4 (isGivenOf (hasIn (l .before .args .fields))) required (l .loop .i) (h .before .loop-test .taken) _ refl
+    (sym (h .is-given .ensures) ∙ not-true _ (c .before .if1 .taken))) ∙ l .loop .inv .1
 
 loop-again : this.Tie.Need-loop-again Inv-loop μ-loop
 loop-again c =
     let h = c .before in
-    let l = h .before .before in
-    (search needs, sym (on 4 (isGivenOf (hasIn (l .before .args .fields))) required (l .loop .i) (h .before .loop-test .taken) _ refl (sym (h .is-given .ensures) ∙ not-false _ (c .if1 .left))) ∙ l .loop .inv .1)
+    let l = h .before .before in (
+      search needs,
+      sym (on 4 (isGivenOf (hasIn (l .before .args .fields))) required (l .loop .i) (h .before .loop-test .taken) _ refl
+          (sym (h .is-given .ensures) ∙ not-false _ (c .if1 .left))) ∙ l .loop .inv .1,
+    )
 
 returns-2 : this.Tie.Need-returns-2 Inv-loop μ-loop
 returns-2 c =
     let l = c .before .before in
-    c .none .ensures ∙ sym (none 4 (isGivenOf (hasIn (l .before .args .fields))) required (l .loop .i) (c .before .loop-test .left)) ∙ l .loop .inv .1
+    c .none .ensures ∙ sym (none 4 (isGivenOf (hasIn (l .before .args .fields))) required (l .loop .i) (c .before .loop-test .left))
+    ∙ l .loop .inv .1
 
 pub missing-spec : {M : Type 1} → this.Statement.statement M
 unfolding missingOf

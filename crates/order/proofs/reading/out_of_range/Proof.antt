@@ -1,5 +1,6 @@
 -- `order::reading::out_of_range` meets its contract. The invariant: the first that fails from here on is the first of all.
-use Rattle.prelude.proofs.Logic.{_≡_, refl, sym, _∙_, Bool, true, cond, List, ℕ, _-_, _≤_, arith, ltb, length, drop, getD, needs, not-true, not-false, now}
+use Rattle.prelude.proofs.Logic.{_≡_, refl, sym, _∙_, Bool, true, cond, List, ℕ, _-_, _≤_, arith, ltb, length, drop, getD, needs, not-true}
+use Rattle.prelude.proofs.Logic.{not-false, now}
 use Rattle.calendar.specs.declared.dates.Date.{Date}
 use Rattle.fields.specs.Tags.{lastTag}
 use Rattle.fields.specs.declared.values.Fields.{Fields}
@@ -17,7 +18,8 @@ all = tags-length lastTag 1
 -- whether a tag passes, by what the code holds in the loop
 abbrev passes : List ℕ → List ℕ → List ℕ → Date → Bool → ℕ → Bool
 passes s starts lengths date ramadan tag =
-    cond (ltb 0 (getD starts tag 0)) (fitsIn tag (partIn s (record { at = getD starts tag 0; length = getD lengths tag 0 })) date ramadan) true
+    cond (ltb 0 (getD starts tag 0))
+    (fitsIn tag (partIn s (record { at = getD starts tag 0; length = getD lengths tag 0 })) date ramadan) true
 
 held : (s : List ℕ) (f : Fields) (date : Date) (ramadan : Bool) → date ≡ dateIn (partIn s (partFor f 2)) → ramadan ≡ hasIn f 20
     → firstFailing 5 (passes s (f .at) (f .length) date ramadan) (tagsFrom lastTag 1) ≡ outOfRangeOf (valuesIn s f)
@@ -27,7 +29,8 @@ held s f date ramadan d r = rw (d, r) refl
 abbrev Inv-loop : this.Tie.InvT-loop
 Inv-loop order starts lengths date ramadan passed₀ passed =
     (passed ≤ lastTag)
-    × (firstFailing 5 (passes order starts lengths date ramadan) (drop passed (tagsFrom lastTag 1)) ≡ firstFailing 5 (passes order starts lengths date ramadan) (tagsFrom lastTag 1))
+    × (firstFailing 5 (passes order starts lengths date ramadan) (drop passed (tagsFrom lastTag 1))
+    ≡ firstFailing 5 (passes order starts lengths date ramadan) (tagsFrom lastTag 1))
 
 abbrev μ-loop : this.Tie.MeasureT-loop
 μ-loop order starts lengths date ramadan passed₀ passed = lastTag - passed
@@ -45,7 +48,8 @@ first c =
     let d = c .before .before in
     let a = d .before .before .before .before .before .args in
     c .loop .inv .1
-    ∙ held (now (a .order)) (a .fields) (d .date-in .result) (c .before .has .result) (rw (← d .before .value .ensures) (d .date-in .ensures))
+    ∙ held (now (a .order)) (a .fields) (d .date-in .result) (c .before .has .result)
+    (rw (← d .before .value .ensures) (d .date-in .ensures))
     (c .before .has .ensures)
 
 returns : this.Tie.Need-returns Inv-loop μ-loop
@@ -73,7 +77,8 @@ loop-again c =
 returns-2 : this.Tie.Need-returns-2 Inv-loop μ-loop
 returns-2 c =
     let l = c .before .before in
-    c .none .ensures ∙ sym (none 5 (passing l) (tagsFrom lastTag 1) (l .loop .passed) (omega (arith, all, c .before .loop-test .left))) ∙ first l
+    c .none .ensures ∙ sym (none 5 (passing l) (tagsFrom lastTag 1) (l .loop .passed) (omega (arith, all, c .before .loop-test .left)))
+    ∙ first l
 
 pub out-of-range-spec : {M : Type 1} → this.Statement.statement M
 out-of-range-spec =

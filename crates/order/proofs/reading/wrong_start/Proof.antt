@@ -19,11 +19,13 @@ told c =
 
 returns : this.Tie.Need-returns
 unfolding wrongStartOf
-returns c = simp (c .none .ensures, c .before .before .before .before .before .if1 .taken, sym (told (c .before .before)), c .before .if2 .taken)
+returns c =
+    simp (c .none .ensures, c .before .before .before .before .before .if1 .taken, sym (told (c .before .before)), c .before .if2 .taken)
 
 returns-2 : this.Tie.Need-returns-2
 unfolding wrongStartOf
-returns-2 c = simp (c .new .ensures, c .before .before .before .before .before .if1 .taken, sym (told (c .before .before)), c .before .if2 .left)
+returns-2 c =
+    simp (c .new .ensures, c .before .before .before .before .before .if1 .taken, sym (told (c .before .before)), c .before .if2 .left)
 
 returns-3 : this.Tie.Need-returns-3
 unfolding wrongStartOf
@@ -31,4 +33,5 @@ returns-3 c = cc
 
 pub wrong-start-spec : {M : Type 1} → this.Statement.statement M
 wrong-start-spec =
-    this.Tie.close (this.Tie.spec (λ c κs. search needs) (λ c κs. search needs) (λ c κs. tt) returns (λ c κs. tt) returns-2 (λ c κs. tt) returns-3)
+    this.Tie.close (this.Tie.spec (λ c κs. search needs) (λ c κs. search needs) (λ c κs. tt) returns (λ c κs. tt) returns-2
+    (λ c κs. tt) returns-3)

@@ -1,14 +1,10 @@
-use mathlib.Core.Path.{refl}
+use Rattle.prelude.proofs.Logic.{needs, refl}
 use Rattle.order_numbers.specs.Bytes.{eightBytes}
-use borrow.Author.Needs.{needs}
-use Rattle.order_numbers.proofs.bytes.eight_bytes.Statement.{statement}
-use Rattle.order_numbers.proofs.bytes.eight_bytes.Tie as tie
+use Rattle.order_numbers.proofs.bytes.eight_bytes as this
 
-returns : tie.Need-returns
+pub eight-bytes-spec : {M : Type 1} → this.Statement.statement M
 unfolding eightBytes
-returns c = refl
-
-pub eight-bytes-spec : {M : Type 1} → statement M
 eight-bytes-spec =
-    tie.close
-    (tie.spec (λ c. search needs) (λ c. search needs) (λ c. search needs) (λ c. search needs) (λ c. search needs) (λ c. search needs) (λ c. search needs) (λ c. search needs) returns)
+    let returns : this.Tie.Need-returns = λ c. refl in
+    this.Tie.close (this.Tie.spec (λ c. search needs) (λ c. search needs) (λ c. search needs) (λ c. search needs)
+    (λ c. search needs) (λ c. search needs) (λ c. search needs) (λ c. search needs) returns)

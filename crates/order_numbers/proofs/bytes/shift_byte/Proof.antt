@@ -2,20 +2,14 @@ use Rattle.prelude.proofs.Logic.{_∙_}
 use Rattle.integers.proofs.Integers.{wide}
 use Rattle.order_numbers.specs.Bytes.{shiftFor}
 use Rattle.order_numbers.proofs.PutLaws.{parts-kept}
-use Rattle.order_numbers.proofs.bytes.shift_byte.Statement.{statement}
-use Rattle.order_numbers.proofs.bytes.shift_byte.Tie as tie
+use Rattle.order_numbers.proofs.bytes.shift_byte as this
 
-cast-above : tie.Need-cast-above
-cast-above c = wide (c .args .z) (c .fits .z)
-
-cast-below : tie.Need-cast-below
-cast-below c = wide (c .before .args .z) (c .before .fits .z)
-
-returns : tie.Need-returns
-returns c = let z = c .before .before .before .args .z in
-    c .shift-from .ensures ∙ parts-kept shiftFor z (c .before .before .before .fits .z) _ _ (c .before .before .above .ensures) (c .before .below .ensures)
-
-pub shift-byte-spec : {M : Type 1} → statement M
+pub shift-byte-spec : {M : Type 1} → this.Statement.statement M
 shift-byte-spec =
-    tie.close
-    (tie.spec cast-above (λ c κs. tt) cast-below (λ c κs. tt) (λ c κs. tt) returns)
+    let returns : this.Tie.Need-returns = λ c. let parts = c .before in
+    let start = parts .before .before in
+    c .shift-for .ensures
+    ∙ parts-kept shiftFor (start .args .z) (start .fits .z) _ _ (parts .before .above .ensures) (parts .below .ensures) in
+    let above : this.Tie.Need-cast-above = λ c. wide (c .args .z) (c .fits .z) in
+    let below : this.Tie.Need-cast-below = λ c. wide (c .before .args .z) (c .before .fits .z) in
+    this.Tie.close (this.Tie.spec above (λ c κs. tt) below (λ c κs. tt) (λ c κs. tt) returns)

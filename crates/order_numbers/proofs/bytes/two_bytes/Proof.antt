@@ -1,12 +1,8 @@
-use mathlib.Core.Path.{refl}
+use Rattle.prelude.proofs.Logic.{needs, refl}
 use Rattle.order_numbers.specs.Bytes.{twoBytes}
-use borrow.Author.Needs.{needs}
-use Rattle.order_numbers.proofs.bytes.two_bytes.Statement.{statement}
-use Rattle.order_numbers.proofs.bytes.two_bytes.Tie as tie
+use Rattle.order_numbers.proofs.bytes.two_bytes as this
 
-returns : tie.Need-returns
+pub two-bytes-spec : {M : Type 1} → this.Statement.statement M
 unfolding twoBytes
-returns c = refl
-
-pub two-bytes-spec : {M : Type 1} → statement M
-two-bytes-spec = tie.close (tie.spec (λ c. search needs) (λ c. search needs) returns)
+two-bytes-spec = let returns : this.Tie.Need-returns = λ c. refl in
+    this.Tie.close (this.Tie.spec (λ c. search needs) (λ c. search needs) returns)

@@ -6,7 +6,7 @@ returns c =
     let known = c .before .struct-told .given in
     let also = c .struct-told2 .given in
     let s = c .before .before in
-    let o = s .before .before .before .before .before .args .order in
+    let o = s .before .before .before .before .before .before .args .order in
     let f : SFits w32 (o .clock) = search needs in
     let g : SFits w32 (o .ramadan .shift) = search needs in
     simp (toZ-ofZ f, toZ-ofZ g, s .is-set .ensures, s .before .number2 .ensures, s .before .before .number .ensures)

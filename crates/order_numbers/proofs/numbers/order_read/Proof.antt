@@ -9,7 +9,7 @@ returns c =
     let read = n .before .before .before .before .before in
     let parts = read .before .before in
     let told = c .before .before .struct-told .given in
-    let f : SFits w32 (parts .before .before .before .before .args .order .parameters .«isha_interval») = search needs in
+    let f : SFits w32 (parts .before .before .before .before .before .args .order .setting .parameters .«isha_interval») = search needs in
     simp (
       toZ-ofZ f,
       c .choices-read .ensures,
@@ -24,4 +24,5 @@ returns c =
 
 pub order-read-spec : {M : Type 1} → this.Statement.statement M
 order-read-spec =
-    this.Tie.close (this.Tie.spec (λ c κs. tt) (λ c κs. tt) (λ c κs. tt) (λ c κs. tt) (λ c κs. tt) (λ c κs. tt) (λ c κs. tt) (λ c κs. tt) returns)
+    this.Tie.close (this.Tie.spec (λ c κs. tt) (λ c κs. tt) (λ c κs. tt) (λ c κs. tt) (λ c κs. tt) (λ c κs. tt) (λ c κs. tt)
+    (λ c κs. tt) returns)

@@ -1,30 +1,34 @@
-use Rattle.prelude.proofs.Logic.{w32, SFits}
+use Rattle.prelude.proofs.Logic.{needs, w32, SFits}
 use Rattle.order_numbers.specs.Bytes.{twoBytes}
 use Rattle.order_numbers.specs.Values.{minutesBytes}
 use Rattle.order_numbers.proofs.PutLaws.{bytes-told}
-use borrow.Author.Needs.{needs}
-use Rattle.order_numbers.proofs.put.minutes_bytes.Statement.{statement}
-use Rattle.order_numbers.proofs.put.minutes_bytes.Tie as tie
+use Rattle.order_numbers.proofs.put.minutes_bytes as this
 
-returns : tie.Need-returns
+returns : this.Tie.Need-returns
 unfolding minutesBytes twoBytes
-returns c = let m = c .before .before .before .before .before .before .before .before .before .before .before .before .args .m in
-    let f1 : SFits w32 (m .fajr) = search needs in
-    let f2 : SFits w32 (m .sunrise) = search needs in
-    let f3 : SFits w32 (m .dhuhr) = search needs in
-    let f4 : SFits w32 (m .asr) = search needs in
-    let f5 : SFits w32 (m .maghrib) = search needs in
-    let f6 : SFits w32 (m .isha) = search needs in
+returns c =
+    let m = c .before .before .before .before .before .before .before .before .before .before .before .before .args .m in
+    let fajr-fits : SFits w32 (m .fajr) = search needs in
+    let sunrise-fits : SFits w32 (m .sunrise) = search needs in
+    let dhuhr-fits : SFits w32 (m .dhuhr) = search needs in
+    let asr-fits : SFits w32 (m .asr) = search needs in
+    let maghrib-fits : SFits w32 (m .maghrib) = search needs in
+    let isha-fits : SFits w32 (m .isha) = search needs in
+    let maghrib = c .before .before in
+    let asr = maghrib .before .before in
+    let dhuhr = asr .before .before in
+    let sunrise = dhuhr .before .before in
     simp (
-      bytes-told (m .fajr) _ f1 (c .before .before .before .before .before .before .before .before .before .before .signed-bytes .ensures),
-      bytes-told (m .sunrise) _ f2 (c .before .before .before .before .before .before .before .before .signed-bytes2 .ensures),
-      bytes-told (m .dhuhr) _ f3 (c .before .before .before .before .before .before .signed-bytes3 .ensures),
-      bytes-told (m .asr) _ f4 (c .before .before .before .before .signed-bytes4 .ensures),
-      bytes-told (m .maghrib) _ f5 (c .before .before .signed-bytes5 .ensures),
-      bytes-told (m .isha) _ f6 (c .signed-bytes6 .ensures),
+      bytes-told (m .fajr) _ fajr-fits (sunrise .before .before .signed-bytes .ensures),
+      bytes-told (m .sunrise) _ sunrise-fits (sunrise .signed-bytes2 .ensures),
+      bytes-told (m .dhuhr) _ dhuhr-fits (dhuhr .signed-bytes3 .ensures),
+      bytes-told (m .asr) _ asr-fits (asr .signed-bytes4 .ensures),
+      bytes-told (m .maghrib) _ maghrib-fits (maghrib .signed-bytes5 .ensures),
+      bytes-told (m .isha) _ isha-fits (c .signed-bytes6 .ensures),
     )
 
-pub minutes-bytes-spec : {M : Type 1} → statement M
+pub minutes-bytes-spec : {M : Type 1} → this.Statement.statement M
 minutes-bytes-spec =
-    tie.close
-    (tie.spec (λ c κs. tt) (λ c κs. tt) (λ c κs. tt) (λ c κs. tt) (λ c κs. tt) (λ c κs. tt) (λ c. search needs) (λ c. search needs) (λ c. search needs) (λ c. search needs) (λ c. search needs) (λ c. search needs) (λ c. search needs) (λ c. search needs) (λ c. search needs) (λ c. search needs) (λ c. search needs) (λ c. search needs) returns)
+    this.Tie.close (this.Tie.spec (λ c κs. tt) (λ c κs. tt) (λ c κs. tt) (λ c κs. tt) (λ c κs. tt) (λ c κs. tt) (λ c. search needs)
+    (λ c. search needs) (λ c. search needs) (λ c. search needs) (λ c. search needs) (λ c. search needs) (λ c. search needs)
+    (λ c. search needs) (λ c. search needs) (λ c. search needs) (λ c. search needs) (λ c. search needs) returns)

@@ -21,7 +21,8 @@ write-read-requires c κs =
 returns-2 : this.Tie.Need-returns-2
 returns-2 c =
     let a = c .before .before .before .before .before .before .before .before .before .before .before .args in
-    let e = sym (c .before .before .before .before .before .before .before .read .ensures) ∙ c .before .before .before .before .before .order .given .1 in
+    let e = sym (c .before .before .before .before .before .before .before .read .ensures)
+    ∙ c .before .before .before .before .before .order .given .1 in
     let there = c .before .before .before .before .before .before .before .before .if1 .left in
     let n = sym (order-read (oneRow (a .row)) rowLength (now (a .order)) (now (a .buffer)) there _ e) in
     let p = c .before .before .write-read .ensures in

@@ -5,7 +5,8 @@ use Rattle.probes.proofs.days.parameters as this
 returns : this.Tie.Need-returns
 unfolding parametersFrom
 returns c =
-    let f0 : SFits w32 (c .before .before .before .before .before .before .before .before .before .args .s .«isha_interval») = search needs in
+    let f0 : SFits w32 (c .before .before .before .before .before .before .before .before .before .args .s .«isha_interval») =
+    search needs in
     let e0 = c .before .of-number5 .ensures in
     let e1 = c .before .before .of-number4 .ensures in
     let e2 = c .before .before .before .minutes .ensures in
@@ -16,4 +17,5 @@ returns c =
     simp (toZ-ofZ f0, e0, e1, e2, e3, e4, e5, e6)
 
 pub parameters-spec : {M : Type 1} → this.Statement.statement M
-parameters-spec = this.Tie.close (this.Tie.spec (λ c κs. tt) (λ c κs. tt) (λ c κs. tt) (λ c κs. tt) (λ c κs. tt) (λ c κs. tt) (λ c κs. tt) returns)
+parameters-spec =
+    this.Tie.close (this.Tie.spec (λ c κs. tt) (λ c κs. tt) (λ c κs. tt) (λ c κs. tt) (λ c κs. tt) (λ c κs. tt) (λ c κs. tt) returns)

@@ -1,15 +1,16 @@
+use Rattle.float64.proofs.Floats.{round, ofBits, dec}
 use Rattle.probes.proofs.days.probe_day as this
 
 returns : this.Tie.Need-returns
+unfolding dec round ofBits
 returns c =
     simp (
       c .answered .ensures,
       c .before .new2 .ensures,
-      c .before .before .rules .ensures,
-      c .before .before .before .parameters .ensures,
-      c .before .before .before .before .new .ensures,
-      c .before .before .before .before .before .row .ensures,
+      c .before .before .setting .ensures,
+      c .before .before .before .new .ensures,
+      c .before .before .before .before .row .ensures,
     )
 
 pub probe-day-spec : {M : Type 1} → this.Statement.statement M
-probe-day-spec = this.Tie.close (this.Tie.spec (λ c κs. tt) (λ c κs. tt) (λ c κs. tt) (λ c κs. tt) (λ c κs. tt) (λ c κs. tt) returns)
+probe-day-spec = this.Tie.close (this.Tie.spec (λ c κs. tt) (λ c κs. tt) (λ c κs. tt) (λ c κs. tt) (λ c κs. tt) returns)

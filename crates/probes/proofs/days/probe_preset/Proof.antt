@@ -5,13 +5,20 @@ use Rattle.probes.proofs.days.probe_preset as this
 returns : this.Tie.Need-returns
 unfolding settingsOf
 returns c =
-    let f0 : SFits w32 (c .before .before .before .before .before .before .before .before .parameters .result .adjustments .fajr) = search needs in
-    let f1 : SFits w32 (c .before .before .before .before .before .before .before .before .parameters .result .adjustments .sunrise) = search needs in
-    let f2 : SFits w32 (c .before .before .before .before .before .before .before .before .parameters .result .adjustments .dhuhr) = search needs in
-    let f3 : SFits w32 (c .before .before .before .before .before .before .before .before .parameters .result .adjustments .asr) = search needs in
-    let f4 : SFits w32 (c .before .before .before .before .before .before .before .before .parameters .result .adjustments .maghrib) = search needs in
-    let f5 : SFits w32 (c .before .before .before .before .before .before .before .before .parameters .result .adjustments .isha) = search needs in
-    let f6 : SFits w32 (c .before .before .before .before .before .before .before .before .parameters .result .«isha_interval») = search needs in
+    let f0 : SFits w32 (c .before .before .before .before .before .before .before .before .parameters .result .adjustments .fajr) =
+    search needs in
+    let f1 : SFits w32 (c .before .before .before .before .before .before .before .before .parameters .result .adjustments .sunrise) =
+    search needs in
+    let f2 : SFits w32 (c .before .before .before .before .before .before .before .before .parameters .result .adjustments .dhuhr) =
+    search needs in
+    let f3 : SFits w32 (c .before .before .before .before .before .before .before .before .parameters .result .adjustments .asr) =
+    search needs in
+    let f4 : SFits w32 (c .before .before .before .before .before .before .before .before .parameters .result .adjustments .maghrib) =
+    search needs in
+    let f5 : SFits w32 (c .before .before .before .before .before .before .before .before .parameters .result .adjustments .isha) =
+    search needs in
+    let f6 : SFits w32 (c .before .before .before .before .before .before .before .before .parameters .result .«isha_interval») =
+    search needs in
     let e0 = c .before .before .number5 .ensures in
     let e1 = c .before .before .before .number4 .ensures in
     let e2 = c .before .before .before .before .number3 .ensures in
@@ -37,4 +44,5 @@ returns c =
     )
 
 pub probe-preset-spec : {M : Type 1} → this.Statement.statement M
-probe-preset-spec = this.Tie.close (this.Tie.spec (λ c κs. tt) (λ c κs. tt) (λ c κs. tt) (λ c κs. tt) (λ c κs. tt) (λ c κs. tt) (λ c κs. tt) returns)
+probe-preset-spec =
+    this.Tie.close (this.Tie.spec (λ c κs. tt) (λ c κs. tt) (λ c κs. tt) (λ c κs. tt) (λ c κs. tt) (λ c κs. tt) (λ c κs. tt) returns)

@@ -11,7 +11,8 @@ returns c =
     let i = c .before .before .instant in
     let e0 : c .probe-hours-minutes .result ≡ probeRemainingOf (c .before .time-remaining .result) = c .probe-hours-minutes .ensures in
     let e1 : c .before .time-remaining .result ≡ timeRemainingOf (a .times) (i .result) = c .before .time-remaining .ensures in
-    e0 ∙ ap probeRemainingOf (e1 ∙ at (timeRemainingOf (a .times)) (a .seconds) (a .nanoseconds) (i .result) (start .fits .seconds) (i .ensures))
+    e0 ∙ ap probeRemainingOf
+    (e1 ∙ at (timeRemainingOf (a .times)) (a .seconds) (a .nanoseconds) (i .result) (start .fits .seconds) (i .ensures))
 
 pub probe-remaining-spec : {M : Type 1} → this.Statement.statement M
 probe-remaining-spec = this.Tie.close (this.Tie.spec (λ c κs. tt) (λ c κs. tt) (λ c κs. tt) returns)

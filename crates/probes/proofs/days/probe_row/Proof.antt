@@ -8,13 +8,11 @@ returns c =
     simp (
       c .answered .ensures,
       c .before .work .ensures,
-      c .before .before .new3 .ensures,
-      c .before .before .before .new2 .ensures,
-      c .before .before .before .before .rules .ensures,
-      c .before .before .before .before .before .parameters .ensures,
-      c .before .before .before .before .before .before .new .ensures,
+      c .before .before .new2 .ensures,
+      c .before .before .before .setting .ensures,
+      c .before .before .before .before .new .ensures,
     )
-    (ap probeDayOf (first-row _ _ _ _))
+    (ap probeDayOf (first-row _ _))
 
 pub probe-row-spec : {M : Type 1} → this.Statement.statement M
-probe-row-spec = this.Tie.close (this.Tie.spec (λ c κs. tt) (λ c κs. tt) (λ c κs. tt) (λ c κs. tt) (λ c κs. tt) (λ c κs. tt) (λ c κs. tt) returns)
+probe-row-spec = this.Tie.close (this.Tie.spec (λ c κs. tt) (λ c κs. tt) (λ c κs. tt) (λ c κs. tt) (λ c κs. tt) returns)

@@ -7,7 +7,8 @@ returns : this.Tie.Need-returns
 returns c =
     let t = c .before in
     let k : readBack w64 (c .season-adjusted-morning-twilight .result) ≡ c .season-adjusted-morning-twilight .result = search needs in
-    k ∙ c .season-adjusted-morning-twilight .ensures ∙ ap (seasonAdjustedMorningTwilightOf (t .args .latitude) (t .args .day) (t .args .year)) (read w64 (t .args .sunrise) (t .fits .sunrise))
+    k ∙ c .season-adjusted-morning-twilight .ensures ∙ ap (seasonAdjustedMorningTwilightOf (t .args .latitude) (t .args .day)
+    (t .args .year)) (read w64 (t .args .sunrise) (t .fits .sunrise))
 
 pub probe-morning-twilight-spec : {M : Type 1} → this.Statement.statement M
 probe-morning-twilight-spec = this.Tie.close (this.Tie.spec (λ c κs. tt) returns)

@@ -1,4 +1,4 @@
--- `probes::readers::probe_plain` meets its contract: a match on what reading answers.
+-- `probes::readers::probe_plain` meets its contract: a match on what reading returns.
 use Rattle.prelude.proofs.Logic.{needs}
 use Rattle.probes.specs.Readers.{plainIn}
 use Rattle.probes.proofs.readers.probe_plain as this
@@ -12,4 +12,5 @@ unfolding plainIn
 returns-2 c = cc
 
 pub probe-plain-spec : {M : Type 1} → this.Statement.statement M
-probe-plain-spec = this.Tie.close (this.Tie.spec (λ c κs. tt) (λ c. search needs) (λ c κs. tt) (λ c. search needs) (λ c κs. tt) returns returns-2)
+probe-plain-spec =
+    this.Tie.close (this.Tie.spec (λ c κs. tt) (λ c. search needs) (λ c κs. tt) (λ c. search needs) (λ c κs. tt) returns returns-2)

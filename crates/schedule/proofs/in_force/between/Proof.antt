@@ -30,11 +30,13 @@ returns c =
     omega (arith, parts (c .before), due.between-is (a .time) (a .seconds), c .if1 .taken)
 
 returns-2 : this.Tie.Need-returns-2
-returns-2 c = let a = c .before .before .before .before .before .args in omega (arith, parts (c .before), due.between-is (a .time) (a .seconds), c .if1 .left)
+returns-2 c = let a = c .before .before .before .before .before .args in
+    omega (arith, parts (c .before), due.between-is (a .time) (a .seconds), c .if1 .left)
 
 pub between-spec : {M : Type 1} → this.Statement.statement M
 between-spec =
     this.Tie.close
     (this.Tie.spec (λ c κs. tt) (λ c κs. tt) add-to (λ c κs. tt) (λ c κs. tt)
-    (λ c. let t = c .before .before .before .before in let p = parts c in due.sum-fits _ _ _ _ (t .fits .seconds) (t .fits .time) (p .2) (p .3))
+    (λ c. let t = c .before .before .before .before in let p = parts c in
+    due.sum-fits _ _ _ _ (t .fits .seconds) (t .fits .time) (p .2) (p .3))
     returns returns-2)

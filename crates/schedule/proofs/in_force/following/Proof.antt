@@ -14,4 +14,5 @@ following-spec =
     let returns-7 : this.Tie.Need-returns-7 = λ c. simp (c .enum-told7 .given .1) in
     let returns-8 : this.Tie.Need-returns-8 = λ c. simp (c .enum-told8 .given .1) in
     this.Tie.close (this.Tie.spec (λ c. search needs) (λ c. search needs) (λ c. search needs) (λ c. search needs) (λ c. search needs)
-    (λ c. search needs) (λ c. search needs) (λ c. search needs) returns returns-2 returns-3 returns-4 returns-5 returns-6 returns-7 returns-8)
+    (λ c. search needs) (λ c. search needs)
+    (λ c. search needs) returns returns-2 returns-3 returns-4 returns-5 returns-6 returns-7 returns-8)

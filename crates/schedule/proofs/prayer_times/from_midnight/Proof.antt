@@ -39,7 +39,8 @@ returns c =
     let fajr = held-as (of-near (c5 .final-time2 .ensures) (lit≤ tt)) (ap (finalOf p Fajr) (u .is)) in
     let rise = held-as (of-near (c4 .final-time3 .ensures) (lit≤ tt)) (ap (finalOf p Sunrise) (read-wide _ (sunrise t))) in
     let dhuhr = held-as (of-near (c3 .final-time4 .ensures) (lit≤ tt)) (ap (finalOf p Dhuhr) (read-wide _ (transit t))) in
-    let asr = held-as (of-near (c2 .final-time5 .ensures) (lit≤ tt)) (ap (finalOf p Asr) (o .is ∙ ap (orOf (t .args .hours .asr)) (read-wide _ (transit t)))) in
+    let asr = held-as (of-near (c2 .final-time5 .ensures) (lit≤ tt))
+    (ap (finalOf p Asr) (o .is ∙ ap (orOf (t .args .hours .asr)) (read-wide _ (transit t)))) in
     let maghrib = held-as (of-near (c8 .final-time .ensures) (lit≤ tt)) (ap (finalOf p Maghrib) (read-wide _ (sunset t))) in
     let isha = held-as (of-near (c1 .final-time6 .ensures) (lit≤ tt)) (ap (finalOf p Isha) (e .is)) in
     let next = of-near (c7 .next-fajr .ensures) (lit≤ tt) in

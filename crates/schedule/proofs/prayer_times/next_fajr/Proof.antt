@@ -3,8 +3,8 @@ use Rattle.integers.proofs.Held.{constant, held-sum, held-as, held-fits, stored
 use Rattle.calendar.specs.declared.dates.Date.{Date}
 use Rattle.models.specs.declared.prayer.Prayer.the-variants.{Fajr}
 use Rattle.models.specs.Settings.{timeAdjustmentsOf}
-use Rattle.stride.specs.Times.{adjustedOf}
-use Rattle.stride.proofs.TimesLaws.{none-stays}
+use Rattle.rounding.specs.Times.{adjustedOf}
+use Rattle.rounding.proofs.TimesLaws.{none-stays}
 use Rattle.schedule.proofs.Schedule.{fajrTomorrowOf, nextDayOf, unadjustedFajrOf, of-near}
 use Rattle.schedule.proofs.prayer_times.next_fajr as this
 
@@ -14,9 +14,11 @@ returns c =
     let t = c .before .before .before in
     let p = t .args .parameters in
     let u = of-near (c .before .unadjusted-fajr .ensures) (lit≤ tt) in
-    let fajr = u .is ∙ ap (λ (d : Date). unadjustedFajrOf p (t .args .season) d (t .args .tomorrow) (t .args .after) (t .args .hour)) (c .before .before .tomorrow .ensures) in
+    let fajr = u .is ∙ ap (λ (d : Date). unadjustedFajrOf p (t .args .season) d (t .args .tomorrow) (t .args .after) (t .args .hour))
+    (c .before .before .tomorrow .ensures) in
     let adjusted = none-stays _ ∙ ap (λ (z : ℤ). adjustedOf z (timeAdjustmentsOf p Fajr)) fajr in
-    promised (held-as (stored (held-sum (of-near (c .final-time .ensures) (lit≤ tt)) (constant 86400)) (lit≤ tt)) (ap nextDayOf adjusted)) (lit≤ tt)
+    promised (held-as (stored (held-sum (of-near (c .final-time .ensures) (lit≤ tt)) (constant 86400)) (lit≤ tt)) (ap nextDayOf adjusted))
+    (lit≤ tt)
 
 pub next-fajr-spec : {M : Type 1} → this.Statement.statement M
 next-fajr-spec =

@@ -9,7 +9,8 @@ mul-result c =
     let d = c .before .args .date in
     let y : d .year < 2 ^ 32 = search needs in
     let k : readBack w64 (c .day-number .result) ≡ c .day-number .result = search needs in
-    let h : Held (2 ^ 58) (readBack w64 (c .day-number .result) *ℤ pos 86400) (dayNumberOf d *ℤ pos 86400) = record { is = ap (λ (z : ℤ). z *ℤ pos 86400) (k ∙ c .day-number .ensures); near = start-near d y } in
+    let h : Held (2 ^ 58) (readBack w64 (c .day-number .result) *ℤ pos 86400) (dayNumberOf d *ℤ pos 86400) =
+    record { is = ap (λ (z : ℤ). z *ℤ pos 86400) (k ∙ c .day-number .ensures); near = start-near d y } in
     held-fits h (lit≤ tt)
 
 returns : this.Tie.Need-returns
@@ -18,7 +19,8 @@ returns c =
     let d = c .before .args .date in
     let y : d .year < 2 ^ 32 = search needs in
     let k : readBack w64 (c .day-number .result) ≡ c .day-number .result = search needs in
-    let h : Held (2 ^ 58) (readBack w64 (c .day-number .result) *ℤ pos 86400) (dayNumberOf d *ℤ pos 86400) = record { is = ap (λ (z : ℤ). z *ℤ pos 86400) (k ∙ c .day-number .ensures); near = start-near d y } in
+    let h : Held (2 ^ 58) (readBack w64 (c .day-number .result) *ℤ pos 86400) (dayNumberOf d *ℤ pos 86400) =
+    record { is = ap (λ (z : ℤ). z *ℤ pos 86400) (k ∙ c .day-number .ensures); near = start-near d y } in
     promised (stored h (lit≤ tt)) (lit≤ tt)
 
 pub start-spec : {M : Type 1} → this.Statement.statement M

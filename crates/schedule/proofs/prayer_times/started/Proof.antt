@@ -9,7 +9,8 @@ fits s h = held-fits (on-start (s .start .ensures) h) (lit≤ tt)
 returns : this.Tie.Need-returns
 unfolding startedOf
 returns c =
-    let s = c .before .before .before .before .before .before .before .before .before .before .before .before .before .before .before .before .before .before in
+    let s = c .before .before .before .before .before .before .before .before .before .before .before .before .before .before .before
+    .before .before .before in
     let h = s .before .pre in
     simp (
       stored (on-start (s .start .ensures) (h .fajr)) (lit≤ tt) .is,
@@ -31,11 +32,14 @@ started-spec =
     (λ c. let s = c .before .before .before .before .before .before in fits s (s .before .pre .dhuhr))
     (λ c. let s = c .before .before .before .before .before .before .before .before in fits s (s .before .pre .asr))
     (λ c. let s = c .before .before .before .before .before .before .before .before .before .before in fits s (s .before .pre .maghrib))
-    (λ c. let s = c .before .before .before .before .before .before .before .before .before .before .before .before in fits s (s .before .pre .isha))
+    (λ c. let s = c .before .before .before .before .before .before .before .before .before .before .before .before in
+    fits s (s .before .pre .isha))
     (λ c. let s = c .before .before .before .before .before .before .before .before .before .before .before .before .before .before in
     fits s (s .before .pre .«middle_of_the_night»))
-    (λ c. let s = c .before .before .before .before .before .before .before .before .before .before .before .before .before .before .before .before in
+    (λ c. let s =
+    c .before .before .before .before .before .before .before .before .before .before .before .before .before .before .before .before in
     fits s (s .before .pre .qiyam))
-    (λ c. let s = c .before .before .before .before .before .before .before .before .before .before .before .before .before .before .before .before .before .before in
+    (λ c. let s = c .before .before .before .before .before .before .before .before .before .before .before .before .before .before .before
+    .before .before .before in
     fits s (s .before .pre .«fajr_tomorrow»))
     returns)

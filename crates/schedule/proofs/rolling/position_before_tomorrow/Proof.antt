@@ -1,5 +1,5 @@
 use Rattle.prelude.proofs.Logic.{_∙_, ap, sym}
-use Rattle.solar.specs.Coordinates.{positionOf}
+use Rattle.ops.specs.Coordinates.{positionOf}
 use Rattle.schedule.proofs.RowSunsLaws.{back-to}
 use Rattle.schedule.proofs.rolling.position_before_tomorrow as this
 
@@ -7,5 +7,6 @@ pub position-before-tomorrow-spec : {M : Type 1} → this.Statement.statement M
 position-before-tomorrow-spec =
     let returns : this.Tie.Need-returns = λ c. let start = c .before .before in
     start .pre ∙ ap positionOf (sym (back-to (start .args .date) (c .if1 .taken))) in
-    let returns-2 : this.Tie.Need-returns-2 = λ c. simp (c .position .ensures, c .before .yesterday .ensures, c .before .before .tomorrow .ensures) in
+    let returns-2 : this.Tie.Need-returns-2 =
+    λ c. simp (c .position .ensures, c .before .yesterday .ensures, c .before .before .tomorrow .ensures) in
     this.Tie.close (this.Tie.spec returns (λ c κs. tt) (λ c κs. tt) (λ c κs. tt) returns-2)

@@ -4,7 +4,8 @@ use Rattle.schedule.proofs.Schedule.{shortOf, of-near}
 use Rattle.schedule.proofs.twilight.moved as this
 
 shortened : (c : this.Tie.After-short) → Held (2 ^ 31) (readBack w64 (c .short .result)) (shortOf (c .before .args .seconds))
-shortened c = let t = c .before in held-as (of-near (c .short .ensures) (lit≤ tt)) (ap shortOf (read w64 (t .args .seconds) (t .fits .seconds)))
+shortened c = let t = c .before in
+    held-as (of-near (c .short .ensures) (lit≤ tt)) (ap shortOf (read w64 (t .args .seconds) (t .fits .seconds)))
 
 pub moved-spec : {M : Type 1} → this.Statement.statement M
 moved-spec =

@@ -16,7 +16,8 @@ next-day t = held-sum (of-wide _ (sunrise t)) (constant 86400)
 
 from-sunset : (t : this.Tie.Start)
     → Held (2 ^ 31 + 86400 + 2 ^ 31)
-    (readBack w64 (readBack w64 (readBack w32 (t .args .next .sunrise)) +ℤ pos 86400) -ℤ readBack w64 (readBack w32 (t .args .today .sunset)))
+    (readBack w64 (readBack w64 (readBack w32 (t .args .next .sunrise)) +ℤ pos 86400) -ℤ readBack w64
+    (readBack w32 (t .args .today .sunset)))
     (t .args .next .sunrise +ℤ pos 86400 -ℤ t .args .today .sunset)
 from-sunset t = held-difference (stored (next-day t) (lit≤ tt)) (of-wide _ (sunset t))
 
@@ -25,4 +26,5 @@ unfolding nightOf
 night-spec =
     let returns : this.Tie.Need-returns = λ c. promised (stored (from-sunset (c .before .before .before .before)) (lit≤ tt)) (lit≤ tt) in
     this.Tie.close (this.Tie.spec (λ c. wide _ (sunrise (c .before .before))) (λ c. held-fits (next-day (c .before .before)) (lit≤ tt))
-    (λ c. wide _ (sunset (c .before .before .before .before))) (λ c. held-fits (from-sunset (c .before .before .before .before)) (lit≤ tt)) returns)
+    (λ c. wide _ (sunset (c .before .before .before .before)))
+    (λ c. held-fits (from-sunset (c .before .before .before .before)) (lit≤ tt)) returns)

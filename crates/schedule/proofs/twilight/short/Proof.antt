@@ -5,7 +5,8 @@ use Rattle.schedule.proofs.twilight.short as this
 
 pub short-spec : {M : Type 1} → this.Statement.statement M
 short-spec =
-    let back : (t : this.Tie.Start) → readBack w64 (t .args .seconds) ≡ t .args .seconds = λ t. read w64 (t .args .seconds) (t .fits .seconds) in
+    let back : (t : this.Tie.Start) → readBack w64 (t .args .seconds) ≡ t .args .seconds =
+    λ t. read w64 (t .args .seconds) (t .fits .seconds) in
     let returns : this.Tie.Need-returns = λ c. let t = c .before in short.high (t .args .seconds) (rw (back t) at (c .if1 .taken)) in
     let returns-2 : this.Tie.Need-returns-2 = λ c. let t = c .before .before in
     short.low (t .args .seconds) (rw (back t) at (c .before .if1 .left)) (rw (back t) at (c .if2 .taken)) in

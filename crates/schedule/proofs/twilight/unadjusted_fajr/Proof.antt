@@ -32,7 +32,11 @@ returns c =
 pub unadjusted-fajr-spec : {M : Type 1} → this.Statement.statement M
 unadjusted-fajr-spec =
     this.Tie.close
-    (this.Tie.spec (λ c κs. search needs) (λ c κs. search needs) (λ c. wide _ (sunrise (c .before .before .before .before))) (λ c κs. search needs)
+    (this.Tie.spec (λ c κs. search needs) (λ c κs. search needs) (λ c. wide _ (sunrise (c .before .before .before .before)))
+    (λ c κs. search needs)
     (λ c. held-fits (by-night c) (lit≤ tt))
-    (λ c κs. (asked (stored (by-night c) (lit≤ tt)) (lit≤ tt), asked (of-near (c .before .before .before .fajr-bound .ensures) (lit≤ tt)) (lit≤ tt)))
+    (λ c κs. (
+      asked (stored (by-night c) (lit≤ tt)) (lit≤ tt),
+      asked (of-near (c .before .before .before .fajr-bound .ensures) (lit≤ tt)) (lit≤ tt),
+    ))
     (λ c κs. search needs) returns)

@@ -34,5 +34,6 @@ pub unadjusted-isha-spec : {M : Type 1} → this.Statement.statement M
 unadjusted-isha-spec =
     this.Tie.close (this.Tie.spec
     (λ c. let f : SFits w32 (c .before .before .before .before .before .args .today .sunset) = search needs in wide _ f) (λ c.
-    let f : SFits w32 (c .before .before .before .before .before .before .before .args .parameters .«isha_interval») = search needs in wide _ f)
+    let f : SFits w32 (c .before .before .before .before .before .before .before .args .parameters .«isha_interval») = search needs in
+    wide _ f)
     mul-result add-result returns (λ c κs. search needs) returns-2)

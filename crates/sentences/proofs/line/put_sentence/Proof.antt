@@ -1,3 +1,4 @@
+-- The words, a blank and the place's digits, put one behind the other, are the sentence; 0 for a number without words.
 use Rattle.prelude.proofs.Logic.{_≡_, sym, ap, _∙_, List, ℕ, _+_, _<_, arith, length, needs, now}
 use Rattle.text.specs.Text.{ascii, decimalOf, putOf, frontOf}
 use Rattle.text.proofs.TextLaws.{digits-short}
@@ -15,9 +16,11 @@ returns c =
 
 returns-2 : this.Tie.Need-returns-2
 returns-2 c =
-    let a = c .before .before .before .before .before .before .before .before .args in let w = c .before .before .before .before .before .before .put-words in let b = c .before .before .put in let d = c .put-decimal in
+    let a = c .before .before .before .before .before .before .before .before .args in
+    let w = c .before .before .before .before .before .before .put-words in let b = c .before .before .put in let d = c .put-decimal in
     let h : a .place < none = search needs in let long : length (w .last .0) ≡ 100 = search needs in
-    let line = as-long (wordsOf (a .number) (a .place)) (now (a .line)) (w .last .0) (w .ensures .1) long (words-short (a .number) (a .place)) in
+    let line =
+    as-long (wordsOf (a .number) (a .place)) (now (a .line)) (w .last .0) (w .ensures .1) long (words-short (a .number) (a .place)) in
     let k = known-by-words (a .number) (a .place) (λ z. c .before .before .before .before .before .if1 .left (w .ensures .0 ∙ z)) in
     let e = sentence-length (a .number) (a .place) k in
     let q = b .ensures ∙ ap (λ (m : ℕ). putOf (w .last .0) m (ascii " ")) (w .ensures .0) in
@@ -33,6 +36,7 @@ put-sentence-spec = this.Tie.close (this.Tie.spec (λ c κs. search needs) retur
     (λ c. let a = c .before .before .before .before .before .before .before .args in let s = words-short (a .number) (a .place) in
     record { fits = omega (arith, c .before .before .before .before .before .put-words .ensures .0) })
     (λ c κs. search needs)
-    (λ c. let a = c .before .before .before .before .before .before .before .before .args in let s = words-short (a .number) (a .place) in let d = digits-short 20 (a .place) in
+    (λ c. let a = c .before .before .before .before .before .before .before .before .args in let s = words-short (a .number) (a .place) in
+    let d = digits-short 20 (a .place) in
     record { fits = omega (arith, c .before .before .before .before .before .before .put-words .ensures .0, c .put-decimal .ensures .0) })
     returns-2)

@@ -19,4 +19,5 @@ place-in-spec = this.Tie.close (this.Tie.spec Inv-loop μ-loop (λ c. (omega ari
           ∙ l .inv .2,
     ))
     (λ c. let l = c .before .loop in
-    sym (place-end (now (c .before .before .before .args .bytes)) (l .v) (l .i) (omega (arith, l .inv .1, c .loop-test .left))) ∙ l .inv .2))
+    sym (place-end (now (c .before .before .before .args .bytes)) (l .v) (l .i) (omega (arith, l .inv .1, c .loop-test .left)))
+    ∙ l .inv .2))

@@ -1,3 +1,4 @@
+-- Three ends: no such number, no room, or the sentence at the front and the other bytes as they were.
 use Rattle.prelude.proofs.Logic.{refl, sym, ap, subst, _∙_, ℕ, _<_, arith, length, needs, now}
 use Rattle.sentences.specs.Guess.{none}
 use Rattle.sentences.specs.Sentences.{SentenceCall}
@@ -16,7 +17,8 @@ returns-2 c =
     let a = c .before .before .before .before .before .before .args in
     let s = c .before .before .before .put-sentence in
     let k = known-by-sentence (a .number) (a .place) (λ z. c .before .before .if1 .left (s .ensures .0 ∙ z)) in
-    let w = sym (writes-no-room (a .number) (a .place) (now (a .buffer)) k (subst (λ (m : ℕ). length (now (a .buffer)) < m) (s .ensures .0) (c .before .if2 .taken))) in
+    let w = sym (writes-no-room (a .number) (a .place) (now (a .buffer)) k
+    (subst (λ (m : ℕ). length (now (a .buffer)) < m) (s .ensures .0) (c .before .if2 .taken))) in
     (c .refuse2 .ensures ∙ ap (λ (call : SentenceCall). call .answer) w, ap (λ (call : SentenceCall). call .buffer) w)
 
 array-share-prefix-line : this.Tie.Need-array-share-prefix-line
@@ -48,9 +50,13 @@ returns-3 c =
     let s = c .before .before .before .before .before .before .before .put-sentence in
     let h : a .place < none = search needs in
     let l = line-of _ (s .last .0) (a .number) (a .place) (s .result) (s .ensures .0) (s .ensures .1) refl h in
-    let k = known-by-sentence (a .number) (a .place) (λ z. c .before .before .before .before .before .before .if1 .left (s .ensures .0 ∙ z)) in
-    let w = sym (writes (a .number) (a .place) (s .result) (now (a .buffer)) k (l .ends) (c .before .before .before .before .before .if2 .left)) in
-    (ap (λ (call : SentenceCall). call .answer) w, rw (l .text) at (c .before .before .put .ensures) ∙ ap (λ (call : SentenceCall). call .buffer) w)
+    let k =
+    known-by-sentence (a .number) (a .place) (λ z. c .before .before .before .before .before .before .if1 .left (s .ensures .0 ∙ z)) in
+    let w = sym
+    (writes (a .number) (a .place) (s .result) (now (a .buffer)) k (l .ends) (c .before .before .before .before .before .if2 .left)) in (
+      ap (λ (call : SentenceCall). call .answer) w,
+      rw (l .text) at (c .before .before .put .ensures) ∙ ap (λ (call : SentenceCall). call .buffer) w,
+    )
 
 pub write-sentence-spec : {M : Type 1} → this.Statement.statement M
 write-sentence-spec = this.Tie.close (this.Tie.spec (λ c κs. search needs) (λ c κs. search needs) returns (λ c κs. search needs) returns-2

@@ -16,7 +16,8 @@ returns-2 c =
     let h = c .before .before .before in
     let p = h .before .args .p in
     let from : SolarHour → SolarHour = λ r. carriedFrom r (p .ahead) in
-    c .next-midnight .ensures ∙ sym (carry-from p (h .before .args .minute) ∙ ap from (sym (h .hour .ensures) ∙ c .before .enum-told .given .1))
+    c .next-midnight .ensures
+    ∙ sym (carry-from p (h .before .args .minute) ∙ ap from (sym (h .hour .ensures) ∙ c .before .enum-told .given .1))
 
 pub carried-spec : {M : Type 1} → this.Statement.statement M
 carried-spec =

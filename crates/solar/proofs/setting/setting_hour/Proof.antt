@@ -17,5 +17,6 @@ pub setting-hour-spec : {M : Type 1} → this.Statement.statement M
 unfolding dec round ofBits settingHourOf
 setting-hour-spec =
     let returns-3 : this.Tie.Need-returns-3 = λ c. let e0 = c .before .is-normal .ensures in simp (sym e0, c .if3 .left) in
-    this.Tie.close (this.Tie.spec (λ c κs. (c .before .if1 .taken, c .if2 .taken)) (λ c. search needs) (λ c κs. tt) (λ c κs. tt) (λ c κs. tt)
+    this.Tie.close (this.Tie.spec (λ c κs. (c .before .if1 .taken, c .if2 .taken)) (λ c. search needs) (λ c κs. tt) (λ c κs. tt)
+    (λ c κs. tt)
     (λ c κs. tt) (λ c κs. tt) returns-2 returns-3)

@@ -1,3 +1,4 @@
+-- The number is made in an array of its own, and its bytes are put at the offset.
 use Rattle.prelude.proofs.Logic.{_≡_, sym, ap, _∙_, arith, length, needs, w64}
 use Rattle.integers.proofs.Ranges.{read}
 use Rattle.text.specs.Signed.{signedOf}
@@ -33,4 +34,5 @@ returns c =
 pub put-signed-spec : {M : Type 1} → this.Statement.statement M
 put-signed-spec =
     this.Tie.close
-    (this.Tie.spec (λ c. search needs) (λ c κs. search needs) array-share-prefix-text slice-aggregate-put (λ c κs. search needs) (λ c. search needs) returns)
+    (this.Tie.spec (λ c. search needs) (λ c κs. search needs) array-share-prefix-text slice-aggregate-put (λ c κs. search needs)
+    (λ c. search needs) returns)

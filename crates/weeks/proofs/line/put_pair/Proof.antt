@@ -1,24 +1,48 @@
-use Rattle.prelude.proofs.Logic.{_≡_, arith, length, needs, w64, now}
+-- `weeks::line::put_pair` meets its contract: four pieces, each put where the one before it ends.
+use Rattle.prelude.proofs.Logic.{_≡_, _+_, _≤_, arith, length, needs, w64, now}
 use Rattle.integers.proofs.Ranges.{read}
-use Rattle.weeks.proofs.LineLaws.{minute-length, pair-made}
+use Rattle.text.specs.Signed.{signedOf}
+use Rattle.text.specs.Text.{decimalOf}
+use Rattle.weeks.proofs.LineLaws.{pair-bytes, pair-made}
 use Rattle.weeks.proofs.line.put_pair as this
 
-put-row-requires : this.Tie.Need-put-row-requires
-put-row-requires c κs =
-    let s = c .before .before .before .before .before .before in
-    let n = c .before .before .before .put-minute in
-    let x = minute-length (s .args .minute) in
-    let e = rw (read w64 (s .args .minute) (s .fits .minute)) at (n .ensures .0) in
-    let k : length (n .last .0) ≡ length (now (s .args .line)) = n .kept .0 in
-    (omega (arith, s .pre .0), omega (arith, s .pre .1))
+-- a sum up to any piece fits, since the whole text has room
+signed-bytes : (c : this.Tie.After-put-signed)
+    → let start = c .before .before .before .before .before .before .before .before in
+    (c .put-signed .result ≡ length (signedOf (start .args .minute)))
+    × (start .args .at + (2 + length (signedOf (start .args .minute)) + length (decimalOf (start .args .row)))
+    ≤ length (now (start .args .buffer)))
+signed-bytes c =
+    let start = c .before .before .before .before .before .before .before .before in
+    let bytes = pair-bytes (start .args .minute) (start .args .row) in
+    let x = read w64 (start .args .minute) (start .fits .minute) in
+    (rw x at (c .put-signed .ensures .0), omega (arith, start .pre))
+
+add-end-2 : this.Tie.Need-add-end-2
+add-end-2 c = let s = signed-bytes (c .before .before) in record { fits = omega arith }
+
+add-end-3 : this.Tie.Need-add-end-3
+add-end-3 c = let s = signed-bytes (c .before .before .before .before .before .before .before) in record { fits = omega arith }
+
+add-result : this.Tie.Need-add-result
+add-result c = let s = signed-bytes (c .before .before .before .before .before .before .before .before .before .before .before) in
+    record { fits = omega (arith, c .before .before .put-decimal .ensures .0) }
 
 returns : this.Tie.Need-returns
 returns c =
-    let s = c .before .before .before .before .before .before .before .before .before in
-    let n = c .before .before .before .before .before .before .put-minute .ensures in
-    let e = c .before .before .put-row .ensures in
-    let x = read w64 (s .args .minute) (s .fits .minute) in
-    pair-made (now (s .args .line)) _ _ (s .args .at) _ _ (s .args .row) (s .args .minute) (s .pre .0) (rw x at (n .0)) (rw x at (n .1)) (e .0) (e .1)
+    let row-put = c .before .before in
+    let blank-put = row-put .before .before .before .before in
+    let minute-put = blank-put .before .before .before .before .before in
+    let first-put = minute-put .before .before .before .before in
+    let start = first-put .before .before .before .before in
+    let a = start .args in
+    let decimal = row-put .put-decimal .ensures in
+    pair-made (now (a .buffer)) (a .at) (a .minute) (a .row) (start .pre) _ _ _ _ _ _ (first-put .put .ensures) (signed-bytes minute-put .0)
+    (rw (read w64 (a .minute) (start .fits .minute)) at (minute-put .put-signed .ensures .1)) (blank-put .put2 .ensures) (decimal .0)
+    (decimal .1)
 
 pub put-pair-spec : {M : Type 1} → this.Statement.statement M
-put-pair-spec = this.Tie.close (this.Tie.spec (λ c κs. search needs) put-row-requires (λ c. search needs) returns)
+put-pair-spec =
+    this.Tie.close
+    (this.Tie.spec (λ c. search needs) (λ c κs. search needs) (λ c. search needs) (λ c κs. search needs) add-end-2 (λ c. search needs)
+    (λ c κs. search needs) add-end-3 (λ c κs. search needs) add-result (λ c. search needs) returns)

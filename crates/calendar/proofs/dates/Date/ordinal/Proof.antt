@@ -16,6 +16,11 @@ add-result c =
 pub ordinal-spec : {M : Type 1} → this.Statement.statement M
 unfolding ordinalOf
 ordinal-spec =
-    let returns : this.Tie.Need-returns = λ c. simp (sym (c .before .days-before .ensures), sym (c .before .before .is-leap-year .ensures), sym (c .before .before .before .before .exists .ensures), c .before .before .before .if1 .taken) in
+    let returns : this.Tie.Need-returns = λ c. simp (
+      sym (c .before .days-before .ensures),
+      sym (c .before .before .is-leap-year .ensures),
+      sym (c .before .before .before .before .exists .ensures),
+      c .before .before .before .if1 .taken,
+    ) in
     let returns-2 : this.Tie.Need-returns-2 = λ c. simp (sym (c .before .exists .ensures), c .if1 .left) in
     this.Tie.close (this.Tie.spec (λ c κs. tt) (λ c κs. tt) (λ c κs. tt) add-result returns returns-2)

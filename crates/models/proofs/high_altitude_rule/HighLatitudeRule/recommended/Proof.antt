@@ -1,5 +1,5 @@
 use Rattle.float64.proofs.Floats.{round, ofBits, dec}
-use Rattle.models.specs.Rules.{recommendedOf}
+use Rattle.models.specs.Recommended.{recommendedOf}
 use Rattle.models.proofs.high_altitude_rule.HighLatitudeRule.recommended as this
 
 pub recommended-spec : {M : Type 1} → this.Statement.statement M

@@ -20,4 +20,5 @@ configuration-spec =
     (λ c. simp (c .isha-interval2 .ensures, c .before .preset9 .ensures, c .before .before .enum-told9 .given .1))
     (λ c. simp (c .rounding .ensures, c .before .preset10 .ensures, c .before .before .enum-told10 .given .1))
     (λ c. simp (c .maghrib-angle .ensures, c .before .preset11 .ensures, c .before .before .enum-told11 .given .1))
-    (λ c. simp (c .preset12 .ensures, c .before .enum-told12 .given .1)) (λ c. simp (c .preset13 .ensures, c .before .enum-told13 .given .1)))
+    (λ c. simp (c .preset12 .ensures, c .before .enum-told12 .given .1))
+    (λ c. simp (c .preset13 .ensures, c .before .enum-told13 .given .1)))

@@ -21,14 +21,16 @@ looked : (c : this.Tie.After-ahead Inv-loop μ-loop) → let a = c .before .befo
 looked c =
     let a = c .before .before .before .before .before .args in
     let k : readBack w64 (c .before .time .result) ≡ c .before .time .result = search needs in
-    c .ahead .ensures ∙ ap (λ (z : ℤ). aheadOf z (a .instant)) (k ∙ c .before .time .ensures ∙ ap (timeOf (a .self)) (c .before .before .of-number .ensures))
+    c .ahead .ensures ∙ ap (λ (z : ℤ). aheadOf z (a .instant))
+    (k ∙ c .before .time .ensures ∙ ap (timeOf (a .self)) (c .before .before .of-number .ensures))
 
 returns : this.Tie.Need-returns Inv-loop μ-loop
 returns c =
     let a = c .before .before .before .before .before .before .args in
     let l = c .before .before .before .before .before .loop in
     ap Some (c .before .before .before .of-number .ensures)
-    ∙ sym (due.found (a .self) (a .instant) (l .n) (c .before .before .before .before .loop-test .taken) (sym (looked (c .before)) ∙ c .if1 .taken)) ∙ l .inv .1
+    ∙ sym (due.found (a .self) (a .instant) (l .n) (c .before .before .before .before .loop-test .taken)
+    (sym (looked (c .before)) ∙ c .if1 .taken)) ∙ l .inv .1
 
 loop-again : this.Tie.Need-loop-again Inv-loop μ-loop
 loop-again c =
@@ -47,5 +49,6 @@ returns-2 c =
 pub current-time-spec : {M : Type 1} → this.Statement.statement M
 current-time-spec =
     this.Tie.close
-    (this.Tie.spec Inv-loop μ-loop loop-holds (λ c κs. tt) (λ c κs. tt) (λ c κs. tt) returns (λ c. search needs) (λ c. search needs) loop-again
+    (this.Tie.spec Inv-loop μ-loop loop-holds (λ c κs. tt) (λ c κs. tt) (λ c κs. tt) returns (λ c. search needs)
+    (λ c. search needs) loop-again
     returns-2)

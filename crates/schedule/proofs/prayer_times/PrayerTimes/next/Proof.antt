@@ -5,7 +5,8 @@ use Rattle.schedule.proofs.prayer_times.PrayerTimes.next as this
 returns : this.Tie.Need-returns
 unfolding followingCurrentOf
 returns c =
-    ap Some (c .following .ensures) ∙ ap followingCurrentOf (sym (c .before .before .prayer .given .1) ∙ c .before .before .before .before .current-time .ensures)
+    ap Some (c .following .ensures)
+    ∙ ap followingCurrentOf (sym (c .before .before .prayer .given .1) ∙ c .before .before .before .before .current-time .ensures)
 
 pub next-spec : {M : Type 1} → this.Statement.statement M
 unfolding followingCurrentOf

@@ -10,7 +10,8 @@ returns c =
     let t = c .before .before .before .before .before .before .before in
     let k : readBack w64 (c .before .before .time .result) ≡ c .before .before .time .result = search needs in
     let a = c .before .ahead .ensures ∙ ap (λ (z : ℤ). aheadOf z (t .args .instant)) (k ∙ c .before .before .time .ensures) in
-    ap Some (c .hours-minutes .ensures ∙ ap hoursMinutesOf a) ∙ ap (untilOf (t .args .self) (t .args .instant)) (sym (c .before .before .before .before .prayer .given .1) ∙ c .before .before .before .before .before .before .next .ensures)
+    ap Some (c .hours-minutes .ensures ∙ ap hoursMinutesOf a) ∙ ap (untilOf (t .args .self) (t .args .instant))
+    (sym (c .before .before .before .before .prayer .given .1) ∙ c .before .before .before .before .before .before .next .ensures)
 
 returns-2 : this.Tie.Need-returns-2
 unfolding untilOf
@@ -20,4 +21,5 @@ returns-2 c =
 
 pub time-remaining-spec : {M : Type 1} → this.Statement.statement M
 time-remaining-spec =
-    this.Tie.close (this.Tie.spec (λ c κs. tt) (λ c. search needs) (λ c κs. tt) (λ c κs. tt) (λ c κs. tt) (λ c. search needs) returns returns-2)
+    this.Tie.close (this.Tie.spec (λ c κs. tt) (λ c. search needs) (λ c κs. tt) (λ c κs. tt) (λ c κs. tt)
+    (λ c. search needs) returns returns-2)

@@ -1,0 +1,10 @@
+-- This file need not be believed: the days that the code counts from 1-1-1. proofs/ByCount.antt says that they give the date of Days.
+use Prim.Native.Nat.{ℕ}
+use mathlib.Core.Bool.{cond}
+use lib.Dec.{leb}
+use lib.IntN.{ℤ, pos, _+ℤ_}
+use Rattle.integers.specs.Parts.{P}
+
+-- at most as many as to the last date of the year 4294967295
+unfoldable pub sinceFirstOf : ℤ → ℕ
+sinceFirstOf day = let n = P (day +ℤ pos 492148) in cond (leb n 1521993243770) n 1521993243770

@@ -1,0 +1,5 @@
+pub mod Counted
+pub mod JulianLaws
+pub mod MeeusLaws
+pub mod Products
+pub mod Wide

@@ -1,0 +1,2 @@
+pub mod Julian
+pub mod Meeus

@@ -1,0 +1,69 @@
+// unit.rs's rounded_minute and adjust_time. A time is whole seconds from 1970-01-01 0h UTC. If the result would leave an i64's range, it is
+// the range's end: chrono's own range ends earlier, and there it panics.
+ghost use mathlib.Core.Path.{_≡_};
+ghost use lib.IntN.{_+ℤ_};
+ghost use Rattle.rounding.specs.Times.{satOf, secondOf, shiftOf, roundedOf, adjustedOf};
+use models::rounding::Rounding;
+
+const MOST64: i64 = 9223372036854775807;
+
+const LEAST64: i64 = -9223372036854775808;
+
+// The sum, which is chrono's checked_add_signed while it stays in range.
+pub fn plus(a: i64, b: i64) -> i64
+    ensures { λ r. ⌜ r ≡ satOf (a +ℤ b) ⌝ }
+{
+    if b >= 0 {
+        if a > MOST64 - b {
+            return MOST64;
+        }
+        return a + b;
+    }
+    if a < LEAST64 - b {
+        return LEAST64;
+    }
+    a + b
+}
+
+pub fn second(t: i64) -> u32
+    ensures { λ r. ⌜ r ≡ secondOf t ⌝ }
+{
+    let r = t % 60;
+    if r < 0 { (r + 60) as u32 } else { r as u32 }
+}
+
+fn shift(rounding: Rounding, s: u32) -> i64
+    ensures { λ r. ⌜ r ≡ shiftOf rounding s ⌝ }
+{
+    let n = s as i64;
+    match rounding {
+        Rounding::Nearest => {
+            if s < 30 {
+                return 0 - n;
+            }
+            60 - n
+        }
+        Rounding::Up => 60 - n,
+        Rounding::None => 0,
+    }
+}
+
+pub fn rounded_minute(t: i64, rounding: Rounding) -> i64
+    ensures { λ r. ⌜ r ≡ satOf (roundedOf rounding t) ⌝ }
+{
+    plus(t, shift(rounding, second(t)))
+}
+
+// Past 2^64 / 60 minutes no time stays in range. Up to there an i64 holds 30 seconds for each minute; 60 may be too many.
+pub fn adjust_time(t: i64, minutes: i64) -> i64
+    ensures { λ r. ⌜ r ≡ satOf (adjustedOf t minutes) ⌝ }
+{
+    if minutes > 307445734561825860 {
+        return MOST64;
+    }
+    if minutes < -307445734561825860 {
+        return LEAST64;
+    }
+    let half = minutes * 30;
+    plus(plus(t, half), half)
+}

@@ -1,8 +1,0 @@
-use Rattle.schedule.specs.RowSuns.{dayHoursOf}
-use Rattle.schedule.proofs.hours.DayHours.new as this
-
-pub new-spec : {M : Type 1} → this.Statement.statement M
-unfolding dayHoursOf
-new-spec =
-    let returns : this.Tie.Need-returns = λ c. cc in
-    this.Tie.close (this.Tie.spec (λ c κs. tt) (λ c κs. tt) returns)

@@ -1,0 +1,25 @@
+use Rattle.prelude.proofs.Logic.{refl, _∙_, [], arith, needs, now}
+use Rattle.lines.specs.Lines.{columnsOf, rowText}
+use Rattle.lines.proofs.LinesLaws.{columns-length}
+use Rattle.text.proofs.TextLaws.{put-next}
+use Rattle.sheets.specs.Rows.{workedCallOf}
+use Rattle.sheets.proofs.row.write_worked as this
+
+returns : this.Tie.Need-returns
+unfolding workedCallOf
+returns c =
+    let put = c .before .before .before .put-row in
+    let w = c .before .before .before .before .before .before .worked .given in
+    let start = c .before .before .before .before .before .before .before .before .before in
+    let a = start .args in
+    let n = columns-length (a .ramadan) (a .date) (w .0 .0) in
+    let p = put-next (now (a .buffer)) [] (rowText (a .date) (columnsOf (a .ramadan) (w .0 .0))) (now (a .buffer)) _ 0 refl refl
+    (put .ensures .1) (omega (arith, start .pre)) in
+    (c .none .ensures ∙ simp (w .1), simp (w .1) p)
+
+pub write-worked-spec : {M : Type 1} → this.Statement.statement M
+unfolding workedCallOf
+write-worked-spec =
+    let returns-2 : this.Tie.Need-returns-2 = λ c. let e = c .before .worked2 .given .1 in (simp e, simp e) in
+    this.Tie.close (this.Tie.spec (λ c. search needs) (λ c κs. search needs) (λ c κs. tt) (λ c. search needs)
+    (λ c. search needs) returns returns-2)

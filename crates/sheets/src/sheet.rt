@@ -1,0 +1,123 @@
+// The whole sheet of an order at the front of a lent buffer.
+ghost use mathlib.Core.Path.{_≡_};
+ghost use Prim.Native.Nat.{_+_, _*_, _≤_};
+ghost use lib.ListN.{length};
+ghost use Rattle.fields.specs.Tags.{longestTown};
+ghost use Rattle.lines.specs.Lines.{rowRoom, lineText};
+ghost use Rattle.order.specs.Accepted.{Accepted};
+ghost use Rattle.text.specs.Text.{putOf, frontOf};
+ghost use Rattle.sheets.specs.Rows.{headerText, headText, linesText, acceptedText, longestSheet, sheetLengthOf, sheetBufferOf};
+use calendar::dates::Date;
+use fields::tags::LONGEST_TOWN;
+use hijri::ramadan::Ramadan;
+use lines::refused::put_refused_day;
+use lines::refused::put_refused_order;
+use lines::row::ROW_BYTES;
+use lines::row::put_row;
+use order::reading::MOST_ROWS;
+use order::reading::Order;
+use order::reading::Reading;
+use order::reading::read;
+use order::reading::town;
+use schedule::prayer_times::Worked;
+use schedule::rolling::RowSuns;
+use text::put::put;
+
+// The header and a newline before and behind it.
+const HEADER_BYTES: usize = 64;
+
+const RAMADAN_HEADER_BYTES: usize = 70;
+
+// What the longest sheet takes; a Ramadan sheet has thirty rows and is shorter.
+pub const SHEET_BYTES: usize = LONGEST_TOWN as usize
+    + HEADER_BYTES
+    + ROW_BYTES * MOST_ROWS as usize;
+
+// A row's line, or its refusal's.
+fn put_line(buffer: &mut [u8], at: usize, ramadan: Ramadan, date: Date, worked: Worked) -> usize
+    ensures { λ r. ⌜ r ≡ length (lineText ramadan date worked) ⌝ }
+    ensures { λ _. ⌜ now (buffer .exit) ≡ putOf (now (buffer .entry)) at (lineText ramadan date worked) ⌝ }
+{
+    match worked {
+        Worked::Times(times) => put_row(&mut buffer[..], at, ramadan, date, times),
+        Worked::Refused(refusal) => put_refused_day(&mut buffer[..], at, date, refusal),
+    }
+}
+
+fn put_header(buffer: &mut [u8], at: usize, ramadan: Ramadan) -> usize
+    ensures { λ r. ⌜ r ≡ length (headerText ramadan) ⌝ }
+    ensures { λ _. ⌜ now (buffer .exit) ≡ putOf (now (buffer .entry)) at (headerText ramadan) ⌝ }
+{
+    if ramadan.set {
+        put(
+            &mut buffer[..],
+            at,
+            b"\ndate imsak fajr sunrise dhuhr asr maghrib isha middle qiyam tomorrow\n",
+        );
+        return RAMADAN_HEADER_BYTES;
+    }
+    put(
+        &mut buffer[..],
+        at,
+        b"\ndate fajr sunrise dhuhr asr maghrib isha middle qiyam tomorrow\n",
+    );
+    HEADER_BYTES
+}
+
+// The town and the header.
+fn put_head(buffer: &mut [u8], ramadan: Ramadan, town: &[u8]) -> usize
+    requires { ⌜ (length (now town) ≤ longestTown) × (longestSheet ≤ length (now buffer)) ⌝ }
+    ensures { λ r. ⌜ r ≡ length (headText ramadan (now (town .entry))) ⌝ }
+    ensures { λ _. ⌜ now (buffer .exit) ≡ frontOf (headText ramadan (now (town .entry))) (now (buffer .entry)) ⌝ }
+{
+    let end = town.len();
+    put(&mut buffer[..], 0, town);
+    end + put_header(&mut buffer[..], end, ramadan)
+}
+
+// Writes the lines of all rows from an offset on and returns where they end. Each row takes over what it can from the one before it.
+fn put_rows(buffer: &mut [u8], at: usize, order: Order) -> usize
+    requires { ⌜ Accepted order × (at + order .rows * rowRoom (order .ramadan) ≤ length (now buffer)) ⌝ }
+    ensures { λ r. ⌜ r ≡ at + length (linesText order (order .rows)) ⌝ }
+    ensures { λ _. ⌜ now (buffer .exit) ≡ putOf (now (buffer .entry)) at (linesText order (order .rows)) ⌝ }
+{
+    let setting = order.setting;
+    let ramadan = order.ramadan;
+    let mut suns = RowSuns::new(order.date, setting);
+    let mut row = 0;
+    let mut end = at;
+    loop {
+        let worked = suns.work(setting);
+        end = end + put_line(&mut buffer[..], end, ramadan, suns.date, worked);
+        row = row + 1;
+        if row >= order.rows {
+            return end;
+        }
+        suns = suns.next(setting);
+    }
+}
+
+fn put_accepted(buffer: &mut [u8], town: &[u8], order: Order) -> usize
+    requires { ⌜ Accepted order × (length (now town) ≤ longestTown) × (longestSheet ≤ length (now buffer)) ⌝ }
+    ensures { λ r. ⌜ r ≡ length (acceptedText (now (town .entry)) order) ⌝ }
+    ensures { λ _. ⌜ now (buffer .exit) ≡ frontOf (acceptedText (now (town .entry)) order) (now (buffer .entry)) ⌝ }
+{
+    let head = put_head(&mut buffer[..], order.ramadan, town);
+    put_rows(&mut buffer[..], head, order)
+}
+
+// Returns the length of the text. A buffer under SHEET_BYTES, which might not hold it, is left as it was, and 0 is returned.
+pub fn write_sheet(order: &[u8], buffer: &mut [u8]) -> usize
+    ensures { λ r. ⌜ r ≡ sheetLengthOf (now (order .entry)) (now (buffer .entry)) ⌝ }
+    ensures { λ _. ⌜ now (buffer .exit) ≡ sheetBufferOf (now (order .entry)) (now (buffer .entry)) ⌝ }
+{
+    if buffer.len() < SHEET_BYTES {
+        return 0;
+    }
+    let reading = read(order);
+    let name = town(order, reading);
+    match reading {
+        Reading::Read(record) => put_accepted(&mut buffer[..], name, record),
+        Reading::Refused(refusal) => put_refused_order(&mut buffer[..], 0, refusal),
+    }
+}

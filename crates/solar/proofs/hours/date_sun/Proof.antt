@@ -1,7 +1,0 @@
-use Rattle.solar.proofs.hours.date_sun as this
-
-returns : this.Tie.Need-returns
-returns c = simp (c .sun .ensures, c .before .new .ensures, c .before .before .position3 .ensures, c .before .before .before .tomorrow .ensures, c .before .before .before .before .position2 .ensures, c .before .before .before .before .before .position .ensures, c .before .before .before .before .before .before .yesterday .ensures)
-
-pub date-sun-spec : {M : Type 1} → this.Statement.statement M
-date-sun-spec = this.Tie.close (this.Tie.spec (λ c κs. tt) (λ c κs. tt) (λ c κs. tt) (λ c κs. tt) (λ c κs. tt) (λ c κs. tt) (λ c κs. tt) returns)

@@ -1,8 +1,0 @@
-pub mod TimesLaws
-pub mod Counted
-pub mod JulianLaws
-pub mod MeeusLaws
-pub mod Minutes
-pub mod Products
-pub mod Saturation
-pub mod Wide

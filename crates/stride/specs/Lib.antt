@@ -1,3 +1,0 @@
-pub mod Julian
-pub mod Meeus
-pub mod Times
