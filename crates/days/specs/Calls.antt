@@ -1,4 +1,4 @@
--- Document 01, "What each call owes": what each call answers on the bytes of an order, a row and an instant. "Buffer and instant are
+-- Document 01, "What each call owes": what each call returns for the bytes of an order, a row and an instant. "Buffer and instant are
 -- checked before anything else in their calls. Then the order is read, then the row .. Then comes the day, then 11."
 use Prim.Native.Nat.{ℕ}
 use mathlib.Core.Bool.{Bool, _&&_, cond}

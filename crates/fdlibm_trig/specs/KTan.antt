@@ -1,4 +1,4 @@
--- k_tan.c: the tangent on [-π/4, π/4], or -1 / tan where `odd` (iy = -1).
+-- k_tan.c: the tangent on [-π/4, π/4], or -1 / tan if `odd` (iy = -1).
 use mathlib.Core.Bool.{Bool, cond}
 use lib.Dec.{ltb, leb}
 use lib.Ieee.{Float, neg, eq, lt}
@@ -91,7 +91,7 @@ tanMiddleOf x y odd =
     let r = tanRestOf x y in
     cond odd (reciprocalOf (x +ᶠ r) x r) (x +ᶠ r)
 
--- x from 0.6744 on, by π/4 - x; v is 1, or -1 where odd
+-- x from 0.6744 on, by π/4 - x; v is 1, or -1 if odd
 unfoldable pub tanLargeOf : Float → Float → Float → Float
 tanLargeOf x y v =
     let u = pio4 -ᶠ x +ᶠ (pio4lo -ᶠ y) in

@@ -58,7 +58,7 @@ lessOf n p =
     let y0 = p .r -ᶠ p .w in
     record { n = n; y0 = y0; y1 = p .r -ᶠ y0 -ᶠ p .w }
 
--- y0 = r + w and the tail y1: the same where x is negative
+-- y0 = r + w and the tail y1: the same if x is negative
 abbrev pub moreOf : ℕ → Parts → Reduced
 moreOf n p =
     let y0 = p .r +ᶠ p .w in
@@ -82,7 +82,7 @@ refineOf k j t =
     (cond (ltb (exponentOf (second .r -ᶠ second .w) + 49) j) third second)
     first
 
--- the further iterations are looked at from n = 32 on, and below that only where t's high word is that of n * π/2
+-- the further iterations are looked at from n = 32 on, and below that only if t's high word is that of n * π/2
 unfoldable pub differenceOf : Float → ℕ → ℕ → Parts
 differenceOf t ix n =
     let k = ofInt binary64 (pos n) in
@@ -100,7 +100,7 @@ mediumOf t ix =
 abbrev pub oppositeOf : Reduced → Reduced
 oppositeOf p = record { n = p .n % 4 * 3 % 4; y0 = neg (p .y0); y1 = neg (p .y1) }
 
--- |x| < 3π/4, x positive: x - π/2, with more bits of π where x is near it
+-- |x| < 3π/4, x positive: x - π/2, with more bits of π if x is near it
 unfoldable pub nearOf : Float → ℕ → Parts
 nearOf x ix =
     cond (eqb ix 0x3ff9_21fb) (record { r = x -ᶠ pio2-1 -ᶠ pio2-2; w = pio2-2t })

@@ -113,7 +113,7 @@ fn refine(k: f64, j: u32, t: f64) -> Parts
     }
 }
 
-// t less n * π/2. The further turns are looked at from n = 32 on, and below that only where t is near n * π/2.
+// t less n * π/2. The further turns are looked at from n = 32 on, and below that only if t is near n * π/2.
 fn difference(t: f64, ix: u32, n: u32) -> Parts
     ensures { λ r. ⌜ r ≡ differenceOf t ix n ⌝ }
 {

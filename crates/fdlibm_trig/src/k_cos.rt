@@ -39,7 +39,7 @@ fn quarter(ix: u32) -> f64
     }
 }
 
-// The cosine of x + y where x is not tiny, from z = x^2 and the high word of |x|.
+// The cosine of x + y if x is not tiny, from z = x^2 and the high word of |x|.
 pub(crate) fn cos_polynomial(x: f64, y: f64, z: f64, ix: u32) -> f64
     requires { ⌜ (0x3e40_0000 ≤ highOf x) × (z ≡ x *ᶠ x) × (ix ≡ highOf x) ⌝ }
     ensures { λ r. ⌜ r ≡ kernelCosOf x y ⌝ }

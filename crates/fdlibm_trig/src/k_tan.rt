@@ -1,7 +1,7 @@
 // k_tan.c: the tangent on [-π/4, π/4], by the odd polynomial of degree 27
 //     tan x ~ x + T0 x^3 + .. + T12 x^27,   |tan x / x - (1 + T0 x^2 + .. + T12 x^26)| < 2^-59.2.
 // From 0.6744 on by π/4: tan x = 1 - 2 tan (π/4 - x) / (1 + tan (π/4 - x)).
-// Where the reduction took off an odd number of quarter turns, -1 / tan is wanted.
+// If the reduction took off an odd number of quarter turns, -1 / tan is wanted.
 ghost use mathlib.Core.Path.{_≡_};
 ghost use mathlib.Core.Bool.{cond};
 ghost use Rattle.fdlibm_trig.specs.KCos.{one};
@@ -109,7 +109,7 @@ fn side(odd: bool) -> f64
     if odd { MINUS_ONE } else { ONE }
 }
 
-// The tangent of x + y, or -1 / tan where `odd`.
+// The tangent of x + y, or -1 / tan if `odd`.
 pub fn kernel_tan(x: f64, y: f64, odd: bool) -> f64
     ensures { λ k. ⌜ k ≡ kernelTanOf x y odd ⌝ }
 {

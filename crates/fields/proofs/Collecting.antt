@@ -1,5 +1,5 @@
 -- Where the walks of the two readers have come to: what is left of them, from here on, gives what the whole gives. What was collected says
--- which tags were seen, so one walk serves as both. Assumes nothing.
+-- which tags were seen, so one walk does for both. Assumes nothing.
 use Rattle.prelude.proofs.Logic.{_≡_, refl, sym, ap, _∙_, Bool, true, false, List, [], _∷_, ℕ, zero, suc, _≤_, _<_, _+_, _-_, arith, ltb}
 use Rattle.prelude.proofs.Logic.{map, length, getD, set, replicate, length-set, List·getD-map, lt-ltb, le-ltb, eq-eqb, ne-eqb}
 use Rattle.refusals.specs.Refusals.{refusal, noRefusal}

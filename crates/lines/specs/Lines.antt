@@ -70,7 +70,7 @@ rowBytes columns = 10 + 12 * columns + 1
 abbrev pub fullRow : ℕ
 fullRow = rowBytes 9
 
--- request 12: "so a full row has 131 bytes", where tag 20 is set
+-- request 12: "so a full row has 131 bytes", if tag 20 is set
 unfoldable pub rowRoom : Ramadan → ℕ
 rowRoom ramadan = rowBytes (cond (ramadan .set) 10 9)
 

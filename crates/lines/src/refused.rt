@@ -10,7 +10,7 @@ use refusals::Refusal;
 use text::decimal::put_decimal;
 use text::put::put;
 
-// A word and a number behind it; answers where they end.
+// Writes a word and a number behind it. Returns where they end.
 fn put_number(line: &mut [u8], at: usize, word: &[u8], n: u32) -> usize
     requires { ⌜ (length (now word) ≤ 10) × (at + length (now word) + 20 ≤ length (now line)) × (length (now line) ≤ 70) ⌝ }
     ensures { λ r. ⌜ r ≡ at + length (numberText (now (word .entry)) n) ⌝ }
@@ -21,7 +21,7 @@ fn put_number(line: &mut [u8], at: usize, word: &[u8], n: u32) -> usize
     end + put_decimal(&mut line[..], end, n as u64)
 }
 
-// A refusal's line at the front of seventy bytes; answers its length. A number has twenty digits at most.
+// Writes a refusal's line at the front of seventy bytes. Returns its length. A number has twenty digits at most.
 fn make_line(line: &mut [u8], whose: &[u8], word: &[u8], refusal: Refusal) -> usize
     requires { ⌜ (length (now whose) ≤ 10) × (length (now word) ≤ 10) × (length (now line) ≡ 70) ⌝ }
     ensures { λ r. ⌜ r ≡ length (refusedText (now (whose .entry)) (now (word .entry)) refusal) ⌝ }
@@ -46,7 +46,7 @@ fn put_refused(buffer: &mut [u8], at: usize, whose: &[u8], word: &[u8], refusal:
     end
 }
 
-// As `put` does; answers the line's length.
+// As `put` does. Returns the line's length.
 pub fn put_refused_day(buffer: &mut [u8], at: usize, date: Date, refusal: Refusal) -> usize
     ensures { λ r. ⌜ r ≡ length (refusedDayText date refusal) ⌝ }
     ensures { λ _. ⌜ now (buffer .exit) ≡ putOf (now (buffer .entry)) at (refusedDayText date refusal) ⌝ }
@@ -54,7 +54,7 @@ pub fn put_refused_day(buffer: &mut [u8], at: usize, date: Date, refusal: Refusa
     put_refused(&mut buffer[..], at, &date_text(date), b" day ", refusal)
 }
 
-// As `put` does; answers the line's length.
+// As `put` does. Returns the line's length.
 pub fn put_refused_order(buffer: &mut [u8], at: usize, refusal: Refusal) -> usize
     ensures { λ r. ⌜ r ≡ length (refusedOrderText refusal) ⌝ }
     ensures { λ _. ⌜ now (buffer .exit) ≡ putOf (now (buffer .entry)) at (refusedOrderText refusal) ⌝ }

@@ -82,7 +82,7 @@ fn fill_row(line: &mut [u8], date: Date, times: &[i64])
     put(&mut line[..], DATE_BYTES + TIME_BYTES * i, b"\n");
 }
 
-// The line is written where it stands, once the buffer is known to have room for all of it.
+// The line is written in its place, once the buffer is known to have room for all of it.
 fn put_columns(buffer: &mut [u8], at: usize, date: Date, times: &[i64]) -> usize
     requires { ⌜ length (now times) ≤ 10 ⌝ }
     ensures { λ r. ⌜ r ≡ length (rowText date (now (times .entry))) ⌝ }

@@ -108,7 +108,7 @@ unfoldable pub movedTransitOf : Float → Float → Bool → Float
 unfolding dec
 movedTransitOf transit arc after = cond after (transit +ᶠ arc /ᶠ dec 360 0) (transit -ᶠ arc /ᶠ dec 360 0)
 
--- the hour number at which the sun stands at the altitude, from its half arc
+-- the hour number at which the sun is at the altitude, from its half arc
 unfoldable pub hourNumberOf : Course → Angle → Float → Bool → Float
 unfolding dec
 hourNumberOf c angle arc after =

@@ -1,4 +1,4 @@
--- ops.rs: when the sun crosses the meridian and when it stands at a given altitude, by Meeus, Astronomical Algorithms.
+-- ops.rs: when the sun crosses the meridian and when it is at a given altitude, by Meeus, Astronomical Algorithms.
 -- Each operation is rounded once, in the source's order. m is a fraction of the day.
 use mathlib.Core.Bool.{Bool, cond}
 use lib.Ieee.{Float, neg}
@@ -63,7 +63,7 @@ correctedTransitOf m longitude sidereal ascension previous next =
     let delta = overOf angles (angleOf (neg (dec 360 0))) in
     (m +ᶠ delta .degrees) *ᶠ dec 24 0
 
--- page 102: the hour number at which the sun stands at an altitude, before or after its transit
+-- page 102: the hour number at which the sun is at an altitude, before or after its transit
 unfoldable pub correctedHourAngleOf : Float → Angle → Coordinates → Bool → Angle → Angle → Angle → Angle → Angle → Angle → Angle → Float
 unfolding dec
 correctedHourAngleOf transit angle place after sidereal ascension previous next declination previous-declination next-declination =

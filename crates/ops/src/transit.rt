@@ -1,4 +1,4 @@
-// ops.rs: when the sun crosses the meridian and when it stands at a given altitude, by Meeus, Astronomical Algorithms.
+// ops.rs: when the sun crosses the meridian and when it is at a given altitude, by Meeus, Astronomical Algorithms.
 // What several hour numbers of a day share is worked once: the sine and cosine of the latitude (Observer), the differences
 // of the interpolations and the products of the sines and of the cosines (Course).
 ghost use mathlib.Core.Path.{_≡_};
@@ -175,7 +175,7 @@ impl Course {
         self.arc_to_sine(sin(angle.radians()))
     }
 
-    // The hour number at which the sun stands at the altitude, from its half arc.
+    // The hour number at which the sun is at the altitude, from its half arc.
     pub fn hour_number(self, angle: Angle, arc: f64, after_transit: bool) -> f64
         ensures { λ r. ⌜ r ≡ hourNumberOf self angle arc «after_transit» ⌝ }
     {

@@ -142,7 +142,7 @@ module _ (v : Values) where
       (leb-true m 30 (e .0), by-balance 1 1 (pos k -ℤ pos 1) (omega (arith, d .0, d .1)) (omega (arith, d .0, d .1))))
       (λ t. (lit≤ tt, record { from = lit≤ tt; to = lit≤ tt }))
 
-  -- tag 20 is set where it stands
+  -- Ramadan is set if tag 20 is there
   ramadan-set : ramadanIn v .set ≡ true → v .has 20 ≡ true
   unfolding ramadanIn ramadanGiven
   ramadan-set e = cases (v .has 20) (λ t. t) (λ t. cc)

@@ -109,12 +109,12 @@ refused-by s r e =
     (λ no. let z : _≡_ {A = ℕ} 0 1 = cc in absurd (omega arith))))))
     e
 
--- ---- where no tag fails, each passes
+-- ---- if no tag fails, each passes
 pub has-required : (has : ℕ → Bool) → missingOf has .number ≡ 0 → (i : ℕ) → i < 6 → isGivenOf has (getD required i 0) ≡ true
 unfolding missingOf
 has-required has e i l = all-pass 4 (isGivenOf has) required (lit≤ tt) e i l
 
--- a coordinate that is not missing and stands in no more than one form stands in one of the two
+-- a coordinate that is not missing and is in no more than one form is in one of the two
 pub one-form : (has : ℕ → Bool) (float map : ℕ) → (has float || has map) ≡ true → has map ≡ false → has float ≡ true
 one-form has float map either other = cases (has float) (λ t. t) (λ t. cc)
 

@@ -1,4 +1,4 @@
--- The first of some tags that does not pass, tag by tag: what the reader's two loops go by. Assumes nothing.
+-- The first of some tags that does not pass, tag by tag: which the reader's two loops use. Assumes nothing.
 use Rattle.prelude.proofs.Logic.{_≡_, refl, ap, _∙_, Bool, true, false, cond, List, [], _∷_, ℕ, zero, suc, _+_, _≤_, _<_, add-one, arith}
 use Rattle.prelude.proofs.Logic.{length, getD, drop, drop-of-length-le, drop-cons, arms}
 use Rattle.refusals.specs.Refusals.{refusal, noRefusal}
@@ -19,7 +19,7 @@ module _ (number : ℕ) (passes : ℕ → Bool) (tags : List ℕ) (i : ℕ) wher
   unfolding firstFailing
   none h = rw (drop-of-length-le tags h)
 
--- where none is refused, each passes
+-- if none is refused, each passes
 pub all-pass : (number : ℕ) (passes : ℕ → Bool) (tags : List ℕ) → 1 ≤ number → firstFailing number passes tags .number ≡ 0
     → (i : ℕ) → i < length tags → passes (getD tags i 0) ≡ true
 unfolding firstFailing

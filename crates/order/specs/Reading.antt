@@ -1,4 +1,4 @@
--- Document 01, "The order": what reading any bytes answers.
+-- Document 01, "The order": what reading any bytes returns.
 use Prim.Native.Nat.{ℕ, zero, suc, _+_}
 use mathlib.Core.Bool.{Bool, cond, not, _&&_, _||_}
 use mathlib.Core.List.{List, [], _∷_}

@@ -60,7 +60,7 @@ fits-same tag n = cases (eqb tag 3) three (λ t. inl (simp t))
         (λ e. ⊎-elim (λ (f : lengthFits 3 n ≡ false). inl (rw is (e ∙ sym f))) (λ (f : eqb n 2 ≡ true). inr (rw t e, t, f))
         (length-three n e))
 
--- by a field's tag and length, whether its tag stands before it, and how many bytes are left
+-- by a field's tag and length, whether its tag was seen before, and how many bytes are left
 module _ (tag n left : ℕ) (again : Bool) where
   abbrev formerIn : ℕ
   formerIn =

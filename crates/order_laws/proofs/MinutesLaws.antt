@@ -71,7 +71,7 @@ module _ (first : Order) (town : Part) (minutes : TimeAdjustment) (row : ℕ) wh
           later-minutes-move-the-row (rowDateOf (first .date) row) (first .setting .coordinates) (first .setting .rules) p q later
       by-test false = alike-refused p q lacksRow
 
--- ---- what naming the prayer answers
+-- ---- what naming the prayer returns
 record OfTimes (w : Worked) (i : Instant) (x : Current) : Type 0 where
   times : PrayerTimes
   worked-are : w ≡ worked.Times times

@@ -35,7 +35,7 @@ pub record SamePlace (a b : List ℕ) : Type 0 where
   pub longitude : first .setting .coordinates .longitude ≡ second .setting .coordinates .longitude
   pub others : (tag : ℕ) → tag ≤ lastTag → saysPlace tag ≡ false → (hasOf a tag ≡ hasOf b tag) × (valueOf a tag ≡ valueOf b tag)
 
--- an order whose town stands elsewhere in its bytes
+-- an order whose town is elsewhere in its bytes
 abbrev pub withTown : Order → Part → Order
 withTown order town =
     record {

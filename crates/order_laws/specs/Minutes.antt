@@ -31,7 +31,7 @@ use Rattle.schedule_laws.specs.Later.{withMinutes, laterBy, Moved}
 use Rattle.days.specs.declared.in_force.InForce.the-variants as force
 use Rattle.days.specs.Calls.{workDayOf, instantFits, prayerAtOf}
 
--- an order with other own minutes, tag 11's, whose town stands elsewhere in its bytes, and all else as it was
+-- an order with other own minutes, tag 11's, whose town is elsewhere in its bytes, and all else as it was
 abbrev pub withOwnMinutes : Order → Part → TimeAdjustment → Order
 withOwnMinutes order town minutes =
     record {
@@ -65,13 +65,13 @@ pub record ImsakMoved (first second : Order) (t u : PrayerTimes) : Type 0 where
       ≡ imsakOf (first .ramadan .imsak) (t .fajr) +ℤ laterBy (first .setting .parameters) (second .setting .parameters) Fajr
 
 pub record MovedRow (a b : List ℕ) (orders : LaterOrder a b) (row : ℕ) : Type 0 where
-  -- what working the row answers: refused alike, none earlier, six times and tomorrow's Fajr by exactly the difference
+  -- what working the row returns: refused alike, none earlier, six times and tomorrow's Fajr by exactly the difference
   -- (crates/schedule_laws/specs/Later)
   pub day : Moved (orders .first .setting .parameters) (orders .second .setting .parameters) (workDayOf a row) (workDayOf b row)
   -- request 12: "Raising Fajr's minutes moves imsak by as much": imsak, which is no earlier, by exactly Fajr's difference
   pub imsak : (t u : PrayerTimes) → workDayOf a row ≡ Times t → workDayOf b row ≡ Times u
       → ImsakMoved (orders .first) (orders .second) t u
-  -- what naming the prayer answers, at t for the first and at u for the second
+  -- what naming the prayer returns, at t for the first and at u for the second
   pub «in_force» : (t u : Instant) → instantFits t ≡ true → instantFits u ≡ true → NotAfter u t → (x y : Current)
       → prayerAtOf a row t ≡ force.Prayer x → prayerAtOf b row u ≡ force.Prayer y → currentNumberOf y ≤ currentNumberOf x
   -- and it is refused alike

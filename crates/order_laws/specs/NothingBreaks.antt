@@ -55,7 +55,7 @@ threeDays o date =
     let rule = o .setting .rules .midnight in
     solarTimeOf rule (numbers .today) ∷ solarTimeOf rule (numbers .tomorrow) ∷ solarTimeOf rule (numbers .after) ∷ []
 
--- of some days the first that lacks a time: what it lacks, and how many days stand before it
+-- of some days the first that lacks a time: what it lacks, and how many days are before it
 pub data FirstLacking (number : ℕ) : ℕ → List SolarDay → Type 0 where
   here : {rest : List SolarDay} → FirstLacking number 0 (sun.Lacks number ∷ rest)
   later : {place : ℕ} {whole : SolarTime} {rest : List SolarDay} → FirstLacking number place rest
@@ -106,7 +106,7 @@ pub record NothingBreaks (s : List ℕ) : Type 0 where
       → RefusedDay o (rowDateOf (o .date) row) r
   pub lacking : (o : Order) (row : ℕ) (r : Refusal) → readingOf s ≡ reading.Read o → row < o .rows
       → FirstLacking (r .number) (r .place) (threeDays o (rowDateOf (o .date) row)) → workDayOf s row ≡ worked.Refused r
-  -- the sheet has a line for each row, which goes by that row alone
+  -- the sheet has a line for each row, which depends on that row alone
   pub sheet : (o : Order) → readingOf s ≡ reading.Read o → sheetText s ≡ headText (o .ramadan) (townOf s) ++ eachOf (rowLine o) (o .rows)
   pub only : (o : Order) (row : ℕ) → readingOf s ≡ reading.Read o → row < o .rows → OthersStay o row
   -- the calls that write: a row, a row of cells, a page of cells or a piece of it

@@ -1,4 +1,4 @@
--- Where the fields of joined fields stand, and that their form is right where their tags rise. Assumes nothing.
+-- Where the fields of joined fields are, and that their form is right if their tags rise. Assumes nothing.
 use Rattle.prelude.proofs.Logic.{_≡_, refl, sym, ap, _∙_, Bool, true, false, cond, _&&_, List, [], _∷_, _++_, ℕ, zero, suc, _+_, _-_, _*_}
 use Rattle.prelude.proofs.Logic.{_/_, _%_, _≤_, _<_, div-add-mod', arith, leb, ltb, eqb, length, getD, take, drop, set, replicate}
 use Rattle.prelude.proofs.Logic.{getD-replicate, length-append, length-drop, drop-drop, drop-at, drop-of-length-le, take-nil, take-at}
@@ -26,7 +26,7 @@ unfoldable pub rising : ℕ → List (ℕ × List ℕ) → Bool
 rising low [] = true
 rising low (f ∷ rest) = leb low (f .0) && (lengthFits (f .0) (length (f .1)) && rising (f .0 + 1) rest)
 
--- ---- a field that stands at an offset
+-- ---- a field at an offset
 pub record Here (s : List ℕ) (at tag : ℕ) (v rest : List ℕ) : Type 0 where
   pub named : byteOf s at ≡ tag
   pub size : lengthAt s at ≡ length v

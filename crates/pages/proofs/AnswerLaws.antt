@@ -1,4 +1,4 @@
--- What a call that asks for rows answers, case by case. Assumes nothing.
+-- What a call that asks for rows returns, case by case. Assumes nothing.
 use Rattle.prelude.proofs.Logic.{_≡_, refl, sym, ap, _∙_, List, [], _∷_, ℕ, _+_, _-_, _≤_, _<_, arith, length, lt-ltb, le-ltb}
 use Rattle.braille.specs.Braille.{dotsOf}
 use Rattle.days.specs.Calls.{lacksRow}

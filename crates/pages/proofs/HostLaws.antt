@@ -35,7 +35,7 @@ rest rows first room =
 
 -- an order that is read
 module _ (s : List ℕ) (page : ℕ) (o : Order) (e : readingOf s ≡ Read o) where
-  -- What a call answers that has its row: the piece's rows, not none, their dots and their cells.
+  -- What a call that has its row returns: the piece's rows, not none, their dots and their cells.
   record Piece (first : ℕ) (scratch : List ℕ) : Type 0 where
     none : pageCallOf s page first scratch .answer .refusal ≡ noRefusal
     some : 1 ≤ pageCallOf s page first scratch .answer .rows

@@ -36,7 +36,7 @@ module _ (o : Order) where
       ∙ ap (rowsFrom o (25 * p)) (sym (suc-length p))
       ∙ ap (λ (k : ℕ). rowsFrom o k (length (pageOf o (suc p)))) e
 
-  -- where a page has rows it is a page of the order, and they are the order's
+  -- if a page has rows it is a page of the order, and they are the order's
   pub page-within : (page : ℕ) → 1 ≤ length (pageOf o page) → (1 ≤ page) × (25 * (page - 1) + length (pageOf o page) ≤ o .rows)
       × (length (pageOf o page) ≤ 25)
   unfolding pageOf

@@ -24,7 +24,7 @@ punchedOf rows = record { refusal = noRefusal; rows = length rows; dots = dotsOf
 abbrev pub refusedOf : Refusal → Punched
 refusedOf r = record { refusal = r; rows = 0; dots = 0 }
 
--- ---- what a call answers, and every byte of the lent buffer after it
+-- ---- what a call returns, and every byte of the lent buffer after it
 pub record CellsCall : Type 0 where
   pub answer : Punched
   pub buffer : List ℕ

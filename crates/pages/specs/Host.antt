@@ -17,7 +17,7 @@ use Rattle.pages.specs.Pages.{pageRows, pageOf}
 abbrev pub pageLength : ℕ
 pageLength = rowLength * pageRows
 
--- the cells that a call has put at the scratch's front, by the rows that it answers
+-- the cells that a call has put at the scratch's front, by the rows that it returns
 abbrev pub cellsGot : ℕ → ℕ → List ℕ → List ℕ → List ℕ
 cellsGot page first s scratch = take (rowLength * pageCallOf s page first scratch .answer .rows) (pageCallOf s page first scratch .buffer)
 

@@ -1,4 +1,4 @@
--- Document 02, request 2: what is stated of the pages of an order beyond what each call answers.
+-- Document 02, request 2: what is stated of the pages of an order beyond what each call returns.
 use Prim.Native.Nat.{ℕ, _-_, _*_, _≤_, _<_}
 use mathlib.Core.Path.{_≡_}
 use mathlib.Core.List.{[]}

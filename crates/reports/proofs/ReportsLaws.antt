@@ -1,4 +1,4 @@
--- What a program's call answers and leaves in its buffer, by the order's reading, and that it fits. Assumes nothing.
+-- What a program's call returns and leaves in its buffer, by the order's reading, and that it fits. Assumes nothing.
 use Rattle.prelude.proofs.Logic.{_≡_, refl, sym, ap, _∙_, List, [], ℕ, _≤_, arith, length}
 use Rattle.lines.proofs.LinesLaws.{refused-length}
 use Rattle.lines.specs.Lines.{refusedOrderText}

@@ -56,7 +56,7 @@ lastOf t i (suc n) = cond (eqb (aheadOf (timeOf t (prayerOf (suc n))) i) 0) (Som
 abbrev pub currentTimeOf : PrayerTimes → Instant → Current
 currentTimeOf t i = lastOf t i 8
 
--- its number in the list of eight, Fajr's 1; "none" stands before Fajr
+-- its number in the list of eight, Fajr's 1; "none" is before Fajr
 unfoldable pub currentNumberOf : Current → ℕ
 currentNumberOf (Some prayer) = prayerNumberOf prayer
 currentNumberOf Nothing = 0

@@ -85,7 +85,7 @@ startedOf start t =
 abbrev pub timesOf : Parameters → Season → Date → ThreeSuns → RowHours → PrayerTimes
 timesOf p season date suns h = startedOf (startOf date) (fromMidnightOf p season date suns h)
 
--- a date is refused where one of the three days lacks a time
+-- a date is refused if one of the three days lacks a time
 unfoldable pub workedFrom : Suns → RowHours → Date → Season → Parameters → Worked
 workedFrom (suns.Refused r) h date season p = Refused r
 workedFrom (suns.Whole three) h date season p = Times (timesOf p season date three h)

@@ -36,7 +36,7 @@ laterOf a b = cond (ltZ a b) b a
 unfoldable pub earlierOf : ℤ → ℤ → ℤ
 earlierOf a b = cond (ltZ b a) b a
 
--- `unwrap_or`: the other one serves without a time of its own
+-- `unwrap_or`: the other one if there is no time
 unfoldable pub orOf : SolarHour → ℤ → ℤ
 orOf (Some t) other = t
 orOf Nothing other = other
@@ -67,7 +67,7 @@ unfoldable pub ownOf : Method → Float → ℤ → SolarHour → ℤ → ℤ
 ownOf method latitude seventh hour bound = cond (bySeventhOf method latitude) seventh (orOf hour bound)
 
 -- Seconds, held at the ends of an i32, so that every sum has its place. An order's are never near those ends (before-source and
--- after-source of schedule_laws); the source panics where a sum leaves chrono's range.
+-- after-source of schedule_laws); the source panics if a sum leaves chrono's range.
 unfoldable pub shortOf : ℤ → ℤ
 shortOf z = cond (ltZ most32 z) most32 (cond (ltZ z least32) least32 z)
 

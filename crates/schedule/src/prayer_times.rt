@@ -33,7 +33,7 @@ use rounding::times::rounded_minute;
 use solar::setting::SolarHour;
 use solar::times::SolarTime;
 
-// In seconds from 1970-01-01 0h UTC. They stand in this order and are not sorted.
+// In seconds from 1970-01-01 0h UTC. They are in this order and are not sorted.
 #[repr(C)]
 pub struct PrayerTimes {
     pub fajr: i64,

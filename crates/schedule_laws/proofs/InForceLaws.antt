@@ -1,4 +1,4 @@
--- The prayer in force where no time is earlier and the instant is not after: what is due under the second is due under the first. Assumes
+-- The prayer in force if no time is earlier and the instant is not after: what is due under the second is due under the first. Assumes
 -- nothing.
 use Rattle.prelude.proofs.Logic.{_≡_, refl, ap, Bool, true, false, cond, inl, inr, ⊎-elim, ℕ, zero, suc, _≤_, _<_, arith, eqb, eqb→eq, lit≤}
 use Rattle.prelude.proofs.Logic.{ℤ, pos, negsuc, _+ℤ_, _-ℤ_, _*ℤ_, ltZ, eqb-true, eqb-false}
@@ -90,7 +90,7 @@ place-is : (n : ℕ) → suc n ≤ 8 → prayerNumberOf (prayerOf (suc n)) ≡ s
 unfolding placeTest prayerNumberOf prayerOf
 place-is n h = eqb→eq _ _ (at placeTest 8 tt n h)
 
--- no prayer of the first n stands after the n-th place
+-- no prayer of the first n is after the n-th place
 first-places : (t : PrayerTimes) (i : Instant) (n : ℕ) → n ≤ 8 → currentNumberOf (lastOf t i n) ≤ n
 unfolding lastOf currentNumberOf
 first-places t i zero h = lit≤ tt

@@ -12,7 +12,7 @@ use Rattle.solar.specs.declared.setting.SolarHour.the-variants.{Some, Nothing}
 use Rattle.schedule.proofs.Schedule.{finalOf, nextDayOf, nightOf, laterOf, earlierOf, orOf, bySeventhOf, ownOf, beforeSunriseOf}
 use Rattle.schedule.proofs.Schedule.{unadjustedFajrOf}
 
--- an hour's time, where it has one
+-- an hour's time, if it has one
 pub record HourBetween (a b : ℕ) (hour : SolarHour) : Type 0 where
   pub at : (t : ℤ) → hour ≡ Some t → Between a b t
 

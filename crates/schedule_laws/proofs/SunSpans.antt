@@ -152,7 +152,7 @@ module _ (p : Parameters) (season : Season) (allowed : ParametersInOrder p) (the
       (allowed .«isha_angle»)) (wider l (lit≤ tt) (lit≤ tt)) in
       record { from = omega (arith, b .1); to = omega (arith, b .0) }
 
-  -- an i32 holds them: the bounds go by the source's seconds
+  -- an i32 holds them: the bounds use the source's seconds
   pub before-source : beforeSunriseOf p season date night ≡ before-cast
   unfolding beforeSunriseOf
   before-source = short-is before-cast (wider before-days (lit≤ tt) (lit≤ tt))

@@ -31,7 +31,7 @@ texts =
     ∷ ascii "Refusal 18: the sheet does not begin on the 1st of Ramadan:"
     ∷ []
 
--- the first stands for every tag that has no name here; one between that has not come yet has the same
+-- the first is for every tag that has no name here; a tag between that has not come yet has the same
 unfoldable pub names : List (List ℕ)
 names =
     ascii " tag"

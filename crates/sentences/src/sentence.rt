@@ -55,8 +55,8 @@ fn no_sentence() -> Meaning
     }
 }
 
-// The number and the place are taken from where a sentence has them, and their sentence is compared whole: so no byte can be wrong, and
-// leading zeros, signs and what stands behind need no rule of their own.
+// The number and the place are taken from where a sentence has them, and their sentence is compared whole. So no byte can be wrong, and
+// leading zeros, signs and bytes behind the sentence need no rule of their own.
 pub fn read_sentence(bytes: &[u8]) -> Meaning
     ensures { λ r. ⌜ r ≡ meaningOf (now (bytes .entry)) ⌝ }
 {

@@ -1,4 +1,4 @@
--- What a call on a row answers, by the order's reading. Assumes nothing.
+-- What a call on a row returns, by the order's reading. Assumes nothing.
 use Rattle.prelude.proofs.Logic.{_≡_, List, ℕ, _≤_, _<_, length, lt-ltb, le-ltb}
 use Rattle.calendar.specs.Answers.{rowDateOf}
 use Rattle.calendar.specs.declared.dates.Date.{Date}

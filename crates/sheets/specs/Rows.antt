@@ -1,4 +1,4 @@
--- Document 01, "The sheet": what writing a row answers and leaves in the buffer, and the whole text of an order's sheet.
+-- Document 01, "The sheet": what writing a row returns and leaves in the buffer, and the whole text of an order's sheet.
 use Prim.Native.Nat.{ℕ, zero, suc, _+_, _*_}
 use mathlib.Core.Bool.{cond}
 use mathlib.Core.List.{List, [], _++_}
@@ -23,7 +23,7 @@ use Rattle.schedule.specs.declared.prayer_times.Worked.the-variants as worked
 use Rattle.text.specs.Printed.{printedLength, printedBuffer}
 use Rattle.text.specs.Text.{ascii, frontOf}
 
--- ---- a row: what a call answers, and every byte of the lent buffer after it
+-- ---- a row: what a call returns, and every byte of the lent buffer after it
 pub record RowCall : Type 0 where
   pub answer : Refusal
   pub buffer : List ℕ

@@ -1,4 +1,4 @@
--- The nearest minute where minutes and seconds both lie between 0 and 60: the whole minutes, and one more from 30 seconds on. Assumes
+-- The nearest minute if minutes and seconds both lie between 0 and 60: the whole minutes, and one more from 30 seconds on. Assumes
 -- nothing.
 use Rattle.prelude.proofs.Logic.{_≡_, refl, sym, _∙_, Bool, true, false, not, ℕ, _+_, _*_, _^_, _<_, div-lt-iff-lt-mul, arith, T, ltb, eqb}
 use Rattle.prelude.proofs.Logic.{eqb→eq, le→leb, lit<, boolByte}

@@ -67,7 +67,7 @@ no-time-not-normal : (value : Float) → isNormalOf value ≡ false → settingH
 unfolding settingHourOf
 no-time-not-normal value n = rw n
 
--- where document 01 has a time, and the number is from -24 to below 48, both times are the same
+-- if document 01 has a time, and the number is from -24 to below 48, both times are the same
 pub carried-agrees : (value : Float) (t : ℤ) → hasTimeOf value ≡ true → settingHourOf value ≡ Some t → carriedHourOf value ≡ Some t
 carried-agrees value t h e = by-test (isNormalOf value) refl
   where
@@ -82,7 +82,7 @@ carried-agrees value t h e = by-test (isNormalOf value) refl
         none-not-at : (u : ℤ) → Nothing ≡ Some u → ⊥
         none-not-at u q = subst Timed q (lit≤ tt)
 
--- where document 01 has none for a normal number from -24 to below 48, it is 0h of the date after the one taken
+-- if document 01 has none for a normal number from -24 to below 48, it is 0h of the date after the one taken
 pub carried-past : (value : Float) → hasTimeOf value ≡ true → isNormalOf value ≡ true → settingHourOf value ≡ Nothing
     → carriedHourOf value ≡ nextMidnightOf (takenOf value)
 carried-past value h n e = carried-from value h n ∙ ap (λ (r : SolarHour). carriedFrom r (takenOf value)) e

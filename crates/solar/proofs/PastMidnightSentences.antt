@@ -110,7 +110,7 @@ hour-24-carried value h n l =
     ∙ ap (λ (b : Bool). cond b (Some (daySecondOf (dateTaken value) (hourSum value) (minuteLeft value))) (nextMidnightOf (dateTaken value)))
     (le-ltb (hourSum value) 24 (omega arith))
 
--- where document 01 has no time
+-- if document 01 has no time
 pub lost-carried : (value : Float) → hasTimeOf value ≡ true → isNormalOf value ≡ true → settingHourOf value ≡ Nothing
     → carriedHourOf value ≡ nextMidnightOf (dateTaken value)
 lost-carried value h n e = carried-past value h n e ∙ ap nextMidnightOf (taken-is value h)

@@ -17,7 +17,7 @@ latestSun = 172800
 abbrev pub OfThreeDays : ℤ → Type 0
 OfThreeDays t = Between earliestSun latestSun t
 
--- an hour's time, where it has one
+-- an hour's time, if it has one
 abbrev pub HourOfThreeDays : SolarHour → Type 0
 HourOfThreeDays (Some t) = OfThreeDays t
 HourOfThreeDays Nothing = 0 ≤ 0

@@ -56,7 +56,7 @@ floor-up m e h = go (eqb (fraction m e) 0) refl
     go true z = (refl, omega (arith, div-add-mod' (m * up e) (down e), eqb-true (fraction m e) 0 z))
     go false z = round-whole binary64 false (wholePart m e) h
 
--- a float is below a whole number where its whole part is
+-- a float is below a whole number if its whole part is
 pub below-whole : (b m : ℕ) (e : ℤ) → ltb (m * up e * 1) (b * down e) ≡ ltb (wholePart m e) b
 below-whole b m e = go (ltb (wholePart m e) b) refl
   where

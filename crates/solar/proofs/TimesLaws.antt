@@ -21,7 +21,7 @@ hour-held Carries number = carried-held number
 pub hour-range : (rule : Midnight) (number : Float) (t : ℤ) → solarHourOf rule number ≡ Some t → OfThreeDays t
 hour-range rule number t e = subst HourOfThreeDays e (hour-held rule number)
 
--- ---- and so of a day's sun, where it is whole
+-- ---- and so of a day's sun, if it is whole
 pub record SunOfThreeDays (sun : SolarTime) : Type 0 where
   pub transit : OfThreeDays (sun .transit)
   pub sunrise : OfThreeDays (sun .sunrise)

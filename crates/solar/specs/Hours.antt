@@ -41,7 +41,7 @@ transitNumberOf s =
     correctedTransitOf (approxTransitOf s) (longitudeAngleOf (s .place)) (s .today .«apparent_sidereal_time»)
     (s .today .«right_ascension») (s .previous .«right_ascension») (s .next .«right_ascension»)
 
--- time_for_solar_angle: `hours`, at which the sun stands at an angle, before or after its transit
+-- time_for_solar_angle: `hours`, at which the sun is at an angle, before or after its transit
 unfoldable pub angleNumberOf : Sun → Angle → Bool → Float
 angleNumberOf s angle after =
     correctedHourAngleOf (approxTransitOf s) angle (s .place) after (s .today .«apparent_sidereal_time»)

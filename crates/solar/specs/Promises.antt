@@ -31,7 +31,7 @@ pub record CarriesPastMidnight : Type 0 where
   pub most : (value : Float) → hasTimeOf value ≡ true → hourSum value ≤ 24
   pub «on_date» : (value : Float) → hasTimeOf value ≡ true → isNormalOf value ≡ true → hourSum value < 24
       → carriedHourOf value ≡ Some (daySecondOf (dateTaken value) (hourSum value) (minuteLeft value))
-  -- which is document 01's time, where that has one
+  -- which is document 01's time, if that has one
   pub same : (value : Float) (t : ℤ) → hasTimeOf value ≡ true → settingHourOf value ≡ Some t → carriedHourOf value ≡ Some t
   -- "Zero and subnormal numbers are 00:00 of the date."
   pub small : (s : Bool) (m : ℕ) (e : ℤ) → isNormalOf (fin s m e) ≡ false → carriedHourOf (fin s m e) ≡ Some (pos 0)

@@ -39,14 +39,14 @@ pub fn date_course(date: Date, coordinates: Coordinates) -> Course
     Course::new(Observer::new(coordinates), previous, today, next)
 }
 
-// The hour number at which the sun stands at an angle whose sine is at hand.
+// The hour number at which the sun is at an angle whose sine is at hand.
 pub fn sine_number(course: Course, sine: f64, angle: Angle, after_transit: bool) -> f64
     ensures { λ r. ⌜ r ≡ courseSineNumberOf course sine angle «after_transit» ⌝ }
 {
     course.hour_number(angle, course.arc_to_sine(sine), after_transit)
 }
 
-// The hour number at which the sun stands at an angle.
+// The hour number at which the sun is at an angle.
 pub fn angle_number(course: Course, angle: Angle, after_transit: bool) -> f64
     ensures { λ r. ⌜ r ≡ courseAngleNumberOf course angle «after_transit» ⌝ }
 {

@@ -23,7 +23,7 @@ fn next_midnight(ahead: u8) -> SolarHour
     SolarHour::Some(((ahead as u32) * 86400) as i32)
 }
 
-// Where the source's rule has an hour of the date taken it stands; else the sum came to 24.
+// The hour that the source's rule gives, if it gives one; else the sum came to 24.
 fn carried(p: Placed, minute: u32) -> SolarHour
     ensures { λ r. ⌜ r ≡ carriedOf p minute ⌝ }
 {
@@ -34,7 +34,7 @@ fn carried(p: Placed, minute: u32) -> SolarHour
     }
 }
 
-// The time of an hour number, where it has one. What has one and is not normal is zero or subnormal.
+// The time of an hour number, if it has one. One that has a time and is not normal is zero or subnormal.
 pub fn carried_hour(value: f64) -> SolarHour
     ensures { λ r. ⌜ r ≡ carriedHourOf value ⌝ }
 {

@@ -21,7 +21,7 @@ pub struct Placed {
     pub hour: u32,
 }
 
-// The hour brought to 0..=23 of the date or of its neighbour, where it is not further off.
+// The hour brought to 0..=23 of the date or of the day beside it, if it is not further off.
 pub fn hour_adjustment(calculated_hours: f64) -> Placed
     ensures { λ r. ⌜ r ≡ hourAdjustmentOf «calculated_hours» ⌝ }
 {
@@ -104,7 +104,7 @@ fn date_hour(value: f64) -> SolarHour
     hour(placed, date_minute(value, calculated_hours))
 }
 
-// The time of an hour number, where it has one.
+// The time of an hour number, if it has one.
 pub fn setting_hour(value: f64) -> SolarHour
     ensures { λ r. ⌜ r ≡ settingHourOf value ⌝ }
 {

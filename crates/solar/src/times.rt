@@ -18,7 +18,7 @@ use refusals::NO_TRANSIT;
 use unit::Angle;
 use unit::Coordinates;
 
-// The time of an hour number by a rule, where it has one. No other place asks for the rule.
+// The time of an hour number by a rule, if it has one. No other place asks for the rule.
 pub fn solar_hour(rule: Midnight, number: f64) -> SolarHour
     ensures { λ r. ⌜ r ≡ solarHourOf rule number ⌝ }
 {
@@ -72,7 +72,7 @@ impl SolarTime {
     }
 }
 
-// The time at which the sun stands at an angle, on a date over a place.
+// The time at which the sun is at an angle, on a date over a place.
 pub fn time_for_solar_angle(
     rule: Midnight,
     date: Date,

@@ -1,4 +1,4 @@
--- What a line says of an order that is read, number by number. A float stands by its bits.
+-- What a line says of an order that is read, number by number. A float is given by its bits.
 use Prim.Native.Nat.{ℕ}
 use mathlib.Core.List.{List, [], _∷_}
 use lib.Ieee.{binary64, toBits}
@@ -6,7 +6,7 @@ use lib.IntN.{ℤ}
 use Rattle.models.specs.Numbers.{methodNumberOf, madhabNumberOf, ruleNumberOf, roundingNumberOf, shafaqNumberOf}
 use Rattle.order.specs.declared.reading.Order.{Order}
 
--- where tag 1's value stands, tags 2 to 10, 12 and 13, and the angle that no tag sets
+-- where tag 1's value is, tags 2 to 10, 12 and 13, and the angle that no tag sets
 unfoldable pub unsignedNumbersOf : Order → List ℕ
 unsignedNumbersOf order =
     let p = order .setting .parameters in

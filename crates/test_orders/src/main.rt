@@ -1,7 +1,7 @@
 // Reads orders, good and damaged, each behind two bytes of its length, made by
 //     tests/orders/cases.py stdin stdout
-// and writes two lines for each, what the reader answers and what the plain reader does: number and place of its refusal; or 0, 0 and what
-// it gives. A float stands by its bits.
+// and writes two lines for each, what the reader returns and what the plain reader does: number and place of its refusal; or 0, 0 and what
+// it gives. A float is given by its bits.
 ghost use mathlib.Core.Path.{_≡_};
 ghost use lib.IntN.{natAbs};
 ghost use Rattle.test_orders.specs.Numbers.{unsignedNumbersOf, signedNumbersOf};
@@ -20,7 +20,7 @@ fn wide(n: u32) -> u64
     n as u64
 }
 
-// Where the town stands, date, rows, place, choices and angles.
+// The town's place, date, rows, place, choices and angles.
 fn unsigned_numbers(order: Order) -> [u64; 16]
     ensures { λ r. ⌜ r ≡ unsignedNumbersOf order ⌝ }
 {

@@ -1,4 +1,4 @@
--- An angle above 0 and below 359 degrees is unwound as it stands: a full turn goes into it no time. Assumes nothing.
+-- An angle above 0 and below 359 degrees is unwound as it is: it holds no full turn. Assumes nothing.
 use Rattle.prelude.proofs.Logic.{_≡_, refl, sym, ap, _∙_, Bool, true, false, cond, true≢false, ℕ, _*_, _^_, _<_, div-add-mod', div-eq-of-lt}
 use Rattle.prelude.proofs.Logic.{arith, T, eqb, lit<, lit≤, ℤ, eqb-true}
 use Rattle.float64.proofs.Floats.{Float, nan, inf, fin, binary64, up, down, round, ofBits, ofInt, mul, sub, div, fits, lt, HasValue}

@@ -1,4 +1,4 @@
--- A window that is looked through row by row answers what the rows say. Assumes nothing.
+-- A window that is looked through row by row gives what the rows say. Assumes nothing.
 use Rattle.prelude.proofs.Logic.{_≡_, refl, subst, Bool, true, false, cond, ℕ, zero, suc, _+_, _≤_, _<_, arith, ℤ, ltZ}
 use borrow.Author.Count.{below-more}
 use Rattle.integers.proofs.OrderLaws.{lt-yes, lt-no, to-lt, to-not-lt}

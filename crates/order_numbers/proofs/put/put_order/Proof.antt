@@ -1,4 +1,4 @@
--- The five groups stand behind one another.
+-- The five groups follow one another.
 use Rattle.prelude.proofs.Logic.{needs, now}
 use Rattle.order_numbers.specs.Values.{startFields, settingFields, timeFields, ruleFields, ramadanFields, encode}
 use Rattle.order_numbers.proofs.PutLaws.{groups}

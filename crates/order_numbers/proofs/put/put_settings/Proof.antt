@@ -1,4 +1,4 @@
--- The seven fields stand behind one another: each put adds its own to those before.
+-- The seven fields follow one another: each put adds its own to those before.
 use Rattle.prelude.proofs.Logic.{needs, arith, take, now}
 use Rattle.order_numbers.specs.Values.{settingFields}
 use Rattle.order_numbers.proofs.PutLaws.{laid}

@@ -1,4 +1,4 @@
--- The three fields stand behind one another.
+-- The three fields follow one another.
 use Rattle.prelude.proofs.Logic.{needs, [], arith, now}
 use Rattle.order_numbers.specs.Values.{startFields}
 use Rattle.order_numbers.proofs.PutLaws.{laid, rows-long}
