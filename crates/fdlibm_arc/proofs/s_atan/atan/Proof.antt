@@ -1,3 +1,4 @@
+-- The tests of the code are those of `atanOf`, in the same order.
 use Rattle.prelude.proofs.Logic.{sym, lt-ltb, le-ltb, le-leb, lt-leb}
 use Rattle.fdlibm_arc.specs.Atan.{atanOf}
 use Rattle.fdlibm_arc.proofs.s_atan.atan as this

@@ -1,3 +1,4 @@
+-- The high word of the product is the table's entry, computed for each n from 1 to 32.
 use Rattle.prelude.proofs.Logic.{_≡_, sym, _∙_, Bool, ℕ, zero, suc, _≤_, _<_, _-_, arith, T, eqb, eqb→eq, pos, needs, List·getD-eq-default}
 use Rattle.prelude.proofs.Computed.{below, at}
 use Rattle.float64.proofs.Floats.{binary64, round, ofInt, ofBits, mul, toBits, highOf, _*ᶠ_}

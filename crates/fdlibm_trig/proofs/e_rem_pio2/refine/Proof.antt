@@ -1,3 +1,4 @@
+-- The tests of the code are those of `refineOf`, in the same order.
 use Rattle.prelude.proofs.Logic.{needs, lt-ltb, le-ltb}
 use Rattle.fdlibm_trig.specs.RemPio2.{refineOf}
 use Rattle.fdlibm_trig.proofs.e_rem_pio2.refine as this

@@ -1,3 +1,4 @@
+-- The tests of the code are those of `remPio2Of`, in the same order; x or -x is the size of x (`Signs`).
 use Rattle.prelude.proofs.Logic.{sym, arith, lt-ltb, le-ltb, le-leb, lt-leb}
 use Rattle.fdlibm_trig.specs.RemPio2.{remPio2Of}
 use Rattle.fdlibm_trig.proofs.Signs.{negative-size, plain-size}

@@ -1,3 +1,4 @@
+-- Each operation is the definition's, in its order; the casts are to i32 in both.
 use Rattle.prelude.proofs.Logic.{needs, w32, w64, SFits}
 use Rattle.float64.proofs.Floats.{round, ofBits, dec}
 use Rattle.integers.proofs.Integers.{read}

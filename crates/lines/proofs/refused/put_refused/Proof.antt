@@ -1,3 +1,4 @@
+-- The line is made in an array of its own, and its bytes are put at the offset.
 use Rattle.prelude.proofs.Logic.{_≡_, sym, ap, _∙_, arith, length, needs, now}
 use Rattle.text.proofs.TextLaws.{cut-front}
 use Rattle.lines.specs.Lines.{refusedText}

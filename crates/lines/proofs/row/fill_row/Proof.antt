@@ -1,3 +1,4 @@
+-- Invariant: the front of the line is the date and the first i columns.
 use Rattle.prelude.proofs.Logic.{_≡_, sym, ap, _∙_, List, ℕ, _+_, _-_, _*_, _≤_, arith, pos, _*ℤ_, length, getD, needs, w64}
 use Rattle.calendar.specs.Days.{dayNumberOf}
 use Rattle.calendar.specs.declared.dates.Date.{Date}

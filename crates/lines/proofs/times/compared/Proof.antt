@@ -1,3 +1,4 @@
+-- A time on the row's date or on a day beside it: comparisons with 0h give the day and the second that division gives.
 use Rattle.prelude.proofs.Logic.{refl, _^_, _<_, lit≤, pos, negsuc, needs, w64}
 use Rattle.integers.proofs.Ranges.{readBack, read}
 use Rattle.lines.proofs.Moments as moments

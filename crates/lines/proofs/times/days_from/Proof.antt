@@ -1,3 +1,4 @@
+-- The time's day less the row's: the difference of two day numbers fits an i64.
 use Rattle.prelude.proofs.Logic.{_≡_, sym, ap, subst, _∙_, _^_, _<_, ℤ, _-ℤ_, needs, w64, SFits}
 use Rattle.integers.proofs.Integers.{readBack, read, floorQuot}
 use Rattle.lines.proofs.Instants as instants

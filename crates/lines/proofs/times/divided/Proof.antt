@@ -1,3 +1,4 @@
+-- Any other time, by its day's number and its second of the day.
 use Rattle.prelude.proofs.Logic.{_≡_, ap, _∙_, ℤ, natAbs, arith, lit<, needs, w64}
 use Rattle.integers.proofs.Integers.{floorRem, floored, readBack, read}
 use Rattle.text.specs.Text.{digitOf}

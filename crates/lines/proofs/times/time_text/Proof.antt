@@ -1,3 +1,4 @@
+-- Two ends: a time near the row's date is compared, any other is divided. Both give the same text.
 use Rattle.prelude.proofs.Logic.{_≡_, ap, _∙_, ℕ, _-_, _*_, _/_, _%_, ℤ, natAbs, arith, lit<, needs, w64}
 use Rattle.integers.proofs.Integers.{floorRem, floored, readBack, read}
 use Rattle.text.specs.Text.{digitOf}

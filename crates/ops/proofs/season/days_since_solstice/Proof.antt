@@ -1,3 +1,4 @@
+-- Each arm is the definition's; the wrapping difference comes back to the plain one.
 use Rattle.prelude.proofs.Logic.{sym, ap, _∙_, ℕ, _+_, _%_, _<_, needs, le-leb, lt-leb}
 use Rattle.float64.proofs.Floats.{round, ofBits, dec}
 use Rattle.ops.specs.Season.{daysSinceSolsticeOf}

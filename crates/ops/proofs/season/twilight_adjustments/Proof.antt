@@ -1,3 +1,4 @@
+-- The six parts of the year, one after the other, as in the definition.
 use Rattle.prelude.proofs.Logic.{sym, _∙_}
 use Rattle.float64.proofs.Floats.{round, ofBits, dec}
 use Rattle.ops.specs.Season.{twilightAdjustmentsOf}

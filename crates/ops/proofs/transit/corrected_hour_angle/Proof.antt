@@ -1,3 +1,4 @@
+-- The formula over a course gives the definition's number (`hour-number-shared`).
 use Rattle.ops.specs.declared.coordinates.SolarCoordinates.{SolarCoordinates}
 use Rattle.unit.specs.declared.Angle.{Angle}
 use Rattle.ops.proofs.SharedLaws.{hour-number-shared}

@@ -1,3 +1,4 @@
+-- Each field of the struct is what its call returns.
 use Rattle.order_numbers.specs.Numbers.{orderRead}
 use Rattle.prelude.proofs.Logic.{needs, w32, SFits, toZ-ofZ}
 use Rattle.order_numbers.proofs.numbers.order_read as this

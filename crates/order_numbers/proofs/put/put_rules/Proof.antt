@@ -1,3 +1,4 @@
+-- The fields of tags 15 to 17 follow one another: each put adds its own to those before.
 use Rattle.prelude.proofs.Logic.{needs, arith, w32, SFits, take, now}
 use Rattle.order_numbers.specs.Values.{ruleFields}
 use Rattle.order_numbers.proofs.PutLaws.{bytes-told, laid}

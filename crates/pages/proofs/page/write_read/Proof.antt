@@ -1,3 +1,4 @@
+-- Two ends: a row that the page lacks is 5, else the rows that fit are written from the first on.
 use Rattle.prelude.proofs.Logic.{_≡_, sym, ap, _∙_, _+_, _-_, _*_, _/_, arith, length, needs, now}
 use Rattle.pages.specs.Answers.{refusedOf, pieceIn}
 use Rattle.pages.proofs.AnswerLaws.{same-answer, same-buffer, rows-none, rows-answered}

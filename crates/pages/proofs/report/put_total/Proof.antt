@@ -1,3 +1,4 @@
+-- The word and the sum of the dots are the report's text.
 use Rattle.prelude.proofs.Logic.{arith, needs, now}
 use Rattle.text.proofs.TextLaws.{digits-short}
 use Rattle.pages.proofs.ReportLaws.{total-length, total-made}

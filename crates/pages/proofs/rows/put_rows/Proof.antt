@@ -1,3 +1,4 @@
+-- Invariant: the suns are the row's, the rows before it are in the buffer if they have room, and their dots are counted.
 use Rattle.prelude.proofs.Logic.{_≡_, refl, ap, _∙_, _+_, _-_, _<_, arith, needs, w32, now}
 use Rattle.braille.specs.Cells.{rowCells}
 use Rattle.calendar.specs.declared.dates.Date.{Date}

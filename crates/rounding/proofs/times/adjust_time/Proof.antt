@@ -1,3 +1,4 @@
+-- Past the two ends nothing stays in range; between them two halves, each held, are the whole sum, held.
 use Rattle.prelude.proofs.Logic.{_≡_, needs, w64}
 use Rattle.integers.proofs.Integers.{readBack}
 use Rattle.rounding.proofs.Minutes as minutes

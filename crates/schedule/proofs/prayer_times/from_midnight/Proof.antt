@@ -1,3 +1,4 @@
+-- Each of the nine is the definition's, and is within 2 ^ 43 seconds of 0h, so that the date can be added.
 use Rattle.prelude.proofs.Logic.{ap, _∙_, lit≤, needs, w32, SFits}
 use Rattle.integers.proofs.Integers.{wide, read-wide, of-wide, held-as, asked}
 use Rattle.models.specs.declared.prayer.Prayer.the-variants.{Fajr, Sunrise, Dhuhr, Asr, Maghrib, Isha}

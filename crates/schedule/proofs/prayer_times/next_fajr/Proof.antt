@@ -1,3 +1,4 @@
+-- Tomorrow's Fajr from its own sun, a day later; the sum is small.
 use Rattle.prelude.proofs.Logic.{ap, _∙_, lit≤, ℤ, needs}
 use Rattle.integers.proofs.Held.{constant, held-sum, held-as, held-fits, stored, promised}
 use Rattle.calendar.specs.declared.dates.Date.{Date}

@@ -1,3 +1,4 @@
+-- The day's number times 86,400 fits an i64 for every date.
 use Rattle.prelude.proofs.Logic.{_≡_, ap, _∙_, _^_, _<_, lit≤, ℤ, pos, _*ℤ_, needs, w64}
 use Rattle.integers.proofs.Integers.{readBack, Held, held-fits, stored, promised}
 use Rattle.calendar.specs.Days.{dayNumberOf}

@@ -1,3 +1,4 @@
+-- The difference of two times of the sun, a day apart, fits.
 use Rattle.prelude.proofs.Logic.{_+_, _^_, lit≤, pos, _+ℤ_, _-ℤ_, needs, w32, w64, SFits}
 use Rattle.integers.proofs.Integers.{readBack, wide, Held, constant, of-wide, held-sum, held-difference, held-fits, stored, promised}
 use Rattle.schedule.specs.Twilight.{nightOf}

@@ -1,3 +1,4 @@
+-- An interval above 0 replaces the rule; else it is `bounded_isha`.
 use Rattle.prelude.proofs.Logic.{lit≤, needs, w32, SFits}
 use Rattle.integers.proofs.Integers.{read, wide, of-wide, held-sum, held-product, held-as, held-fits, stored, promised}
 use Rattle.schedule.proofs.Schedule.{unadjustedIshaOf, of-near}

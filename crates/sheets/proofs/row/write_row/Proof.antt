@@ -1,3 +1,4 @@
+-- The cases of `rowCallOf` in the code's order: a short buffer, a refused order, a read one.
 use Rattle.prelude.proofs.Logic.{sym, _∙_, needs, now}
 use Rattle.sheets.proofs.Answers.{row-short, row-read, row-refused}
 use Rattle.sheets.proofs.row.write_row as this

@@ -1,3 +1,4 @@
+-- Two ends: a refused day changes no byte, a row with times is put at the front.
 use Rattle.prelude.proofs.Logic.{refl, _∙_, [], arith, needs, now}
 use Rattle.lines.specs.Lines.{columnsOf, rowText}
 use Rattle.lines.proofs.LinesLaws.{columns-length}

@@ -1,3 +1,4 @@
+-- The head and then the lines of all rows are the order's text.
 use Rattle.prelude.proofs.Logic.{_≡_, arith, length, needs, now}
 use Rattle.sheets.proofs.Lengths.{room-enough, head-length, sheet-made}
 use Rattle.sheets.proofs.sheet.put_accepted as this

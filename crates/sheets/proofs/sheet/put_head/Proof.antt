@@ -1,3 +1,4 @@
+-- The town, a newline and the header that the order asks for.
 use Rattle.prelude.proofs.Logic.{arith, needs, now}
 use Rattle.sheets.proofs.Lengths.{header-short, head-length, head-made}
 use Rattle.sheets.proofs.sheet.put_head as this

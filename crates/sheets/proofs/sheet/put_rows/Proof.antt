@@ -1,3 +1,4 @@
+-- Invariant: the suns are the row's, and the lines before it are in the buffer, up to `end`.
 use Rattle.prelude.proofs.Logic.{_≡_, refl, ap, _∙_, _+_, _-_, _^_, _<_, arith, length, needs, now}
 use Rattle.days.proofs.RowStates.{first-state, next-state}
 use Rattle.lines.specs.Lines.{lineText}

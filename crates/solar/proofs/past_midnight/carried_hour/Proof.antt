@@ -1,3 +1,4 @@
+-- The tests of the code are those of `carriedHourOf`, in the same order.
 use Rattle.prelude.proofs.Logic.{sym}
 use Rattle.solar.specs.PastMidnight.{carriedHourOf}
 use Rattle.solar.proofs.past_midnight.carried_hour as this

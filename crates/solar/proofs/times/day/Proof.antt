@@ -1,3 +1,4 @@
+-- Transit, sunrise, sunset: the first that is missing is the refusal.
 use Rattle.prelude.proofs.Logic.{needs, w32, SFits, toZ-ofZ}
 use Rattle.solar.specs.Times.{dayOf}
 use Rattle.solar.proofs.times.day as this

@@ -1,3 +1,4 @@
+-- A day with a Fajr stores its minute, a refused day its mark; the other rows stay.
 use Rattle.prelude.proofs.Logic.{_≡_, refl, sym, ap, _∙_, ℤ, pos, length, needs, w64, SFits, now, arith}
 use Rattle.integers.proofs.Integers.{readBack, read, floorQuot}
 use Rattle.weeks.specs.Kept.{minuteFrom}

@@ -1,3 +1,4 @@
+-- The year of the count, and then the month and the day, are the date of the day (`ByCount`).
 use Rattle.prelude.proofs.Logic.{arith, w64}
 use Rattle.integers.proofs.Integers.{read}
 use Rattle.hijri.specs.Days.{dateAtOf}

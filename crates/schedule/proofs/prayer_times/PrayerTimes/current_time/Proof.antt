@@ -1,3 +1,4 @@
+-- Invariant: the last of the first n whose instant is due is the last of all eight.
 use Rattle.prelude.proofs.Logic.{_≡_, refl, sym, ap, _∙_, _≤_, arith, ℤ, needs, w64}
 use Rattle.integers.proofs.Ranges.{readBack}
 use Rattle.models.specs.Numbers.{prayerOf}

@@ -1,3 +1,4 @@
+-- Case by case: the time of each prayer of the list.
 use Rattle.prelude.proofs.Logic.{needs, w64, SFits, toZ-ofZ}
 use Rattle.schedule.proofs.Schedule.{timeOf, Each}
 use Rattle.schedule.proofs.prayer_times.PrayerTimes.time as this

@@ -1,3 +1,4 @@
+-- The seconds to the next prayer, as hours and minutes; zeros if it has passed.
 use Rattle.prelude.proofs.Logic.{_≡_, sym, ap, _∙_, ℤ, needs, w64}
 use Rattle.integers.proofs.Ranges.{readBack}
 use Rattle.schedule.proofs.Schedule.{aheadOf, hoursMinutesOf, untilOf}
