@@ -20,12 +20,12 @@ use Rattle.schedule.specs.declared.prayer_times.Worked.{Worked}
 use Rattle.schedule.specs.declared.prayer_times.Worked.the-variants.{Times, Refused}
 use Rattle.schedule.specs.declared.in_force.Remaining.{Remaining}
 use Rattle.schedule.specs.declared.in_force.Remaining.the-variants.{Some, Nothing}
-use Rattle.probes.specs.declared.days.ProbeSun.{ProbeSun}
-use Rattle.probes.specs.declared.days.ProbeNumbers.{ProbeNumbers}
-use Rattle.probes.specs.declared.days.ProbeSettings.{ProbeSettings}
-use Rattle.probes.specs.declared.days.ProbeRules.{ProbeRules}
-use Rattle.probes.specs.declared.days.ProbeDay.{ProbeDay}
-use Rattle.probes.specs.declared.days.ProbeRemaining.{ProbeRemaining}
+use Rattle.probes.specs.declared.worked.ProbeSun.{ProbeSun}
+use Rattle.probes.specs.declared.worked.ProbeNumbers.{ProbeNumbers}
+use Rattle.probes.specs.declared.worked.ProbeSettings.{ProbeSettings}
+use Rattle.probes.specs.declared.worked.ProbeRules.{ProbeRules}
+use Rattle.probes.specs.declared.worked.ProbeDay.{ProbeDay}
+use Rattle.probes.specs.declared.worked.ProbeRemaining.{ProbeRemaining}
 
 abbrev pub sunOf : ProbeSun → HourNumbers
 sunOf s = record { transit = s .transit; sunrise = s .sunrise; sunset = s .sunset }

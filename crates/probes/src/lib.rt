@@ -1,6 +1,6 @@
 // Functions of the crates below as exports, for the runs against the crate that is ported and for measurements: no part of what a host
 // links.
-pub mod days;
 pub mod functions;
+pub mod printed;
 pub mod readers;
-pub mod sheets;
+pub mod worked;

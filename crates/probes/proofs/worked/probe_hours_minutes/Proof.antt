@@ -1,6 +1,6 @@
 use Rattle.probes.specs.Days.{probeRemainingOf}
 use Rattle.prelude.proofs.Logic.{needs}
-use Rattle.probes.proofs.days.probe_hours_minutes as this
+use Rattle.probes.proofs.worked.probe_hours_minutes as this
 
 pub probe-hours-minutes-spec : {M : Type 1} → this.Statement.statement M
 unfolding probeRemainingOf

@@ -1,6 +1,6 @@
 use Rattle.prelude.proofs.Logic.{needs, w32, SFits, toZ-ofZ}
 use Rattle.probes.specs.Days.{parametersFrom}
-use Rattle.probes.proofs.days.parameters as this
+use Rattle.probes.proofs.worked.parameters as this
 
 returns : this.Tie.Need-returns
 unfolding parametersFrom

@@ -1,6 +1,6 @@
 use Rattle.prelude.proofs.Logic.{needs}
 use Rattle.schedule.specs.InForce.{currentNumberOf}
-use Rattle.probes.proofs.days.number as this
+use Rattle.probes.proofs.worked.number as this
 
 pub number-spec : {M : Type 1} → this.Statement.statement M
 unfolding currentNumberOf

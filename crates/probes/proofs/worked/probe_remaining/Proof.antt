@@ -2,7 +2,7 @@ use Rattle.prelude.proofs.Logic.{_≡_, ap, _∙_}
 use Rattle.schedule.specs.InForce.{timeRemainingOf}
 use Rattle.probes.specs.Days.{probeRemainingOf}
 use Rattle.probes.proofs.At.{at}
-use Rattle.probes.proofs.days.probe_remaining as this
+use Rattle.probes.proofs.worked.probe_remaining as this
 
 returns : this.Tie.Need-returns
 returns c =

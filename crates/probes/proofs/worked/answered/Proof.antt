@@ -1,6 +1,6 @@
 use Rattle.prelude.proofs.Logic.{needs}
 use Rattle.probes.specs.Days.{probeDayOf}
-use Rattle.probes.proofs.days.answered as this
+use Rattle.probes.proofs.worked.answered as this
 
 pub answered-spec : {M : Type 1} → this.Statement.statement M
 unfolding probeDayOf

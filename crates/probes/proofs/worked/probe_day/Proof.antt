@@ -1,5 +1,5 @@
 use Rattle.float64.proofs.Floats.{round, ofBits, dec}
-use Rattle.probes.proofs.days.probe_day as this
+use Rattle.probes.proofs.worked.probe_day as this
 
 returns : this.Tie.Need-returns
 unfolding dec round ofBits

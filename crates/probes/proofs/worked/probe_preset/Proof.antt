@@ -1,7 +1,7 @@
 -- Each field of the struct is what its call returns, for the method of the number.
 use Rattle.prelude.proofs.Logic.{sym, needs, w32, SFits, toZ-ofZ}
 use Rattle.probes.specs.Days.{settingsOf}
-use Rattle.probes.proofs.days.probe_preset as this
+use Rattle.probes.proofs.worked.probe_preset as this
 
 returns : this.Tie.Need-returns
 unfolding settingsOf

@@ -1,4 +1,4 @@
-use Rattle.probes.proofs.days.rules as this
+use Rattle.probes.proofs.worked.rules as this
 
 returns : this.Tie.Need-returns
 returns c = simp (c .of-number2 .ensures, c .before .of-number .ensures)

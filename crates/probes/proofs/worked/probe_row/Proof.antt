@@ -1,7 +1,7 @@
 use Rattle.prelude.proofs.Logic.{ap}
 use Rattle.schedule.proofs.RowSunsLaws.{first-row}
 use Rattle.probes.specs.Days.{probeDayOf}
-use Rattle.probes.proofs.days.probe_row as this
+use Rattle.probes.proofs.worked.probe_row as this
 
 returns : this.Tie.Need-returns
 returns c =
