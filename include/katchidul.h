@@ -285,8 +285,7 @@ katchidul_remaining katchidul_remaining_at(const uint8_t *order, size_t length, 
 
 /* Writes a row's line at the front of a buffer of `size` bytes, at least KATCHIDUL_ROW_BYTES (9 below that): the row's date, then the nine
    times, each as signed days from that date, T and the UTC time (`+0T05:12:00`), with a blank before each and a newline at the end. A full
-   row has 119 bytes with its newline and no zero byte after it; the buffer's bytes after them stay. Where the call is refused no byte
-   of the buffer changes. A Ramadan sheet's row has imsak between the date and Fajr, written as a time, and so 131 bytes: a buffer that
+   row has 119 bytes with its newline and no zero byte after it; the buffer's bytes after them stay. A refused call changes no byte of the buffer. A Ramadan sheet's row has imsak between the date and Fajr, written as a time, and so 131 bytes: a buffer that
    has fewer is 9 for it. The buffer and the order must not overlap. Refusals 1 to 9, 15 and 18. */
 katchidul_reply katchidul_write_row(const uint8_t *order, size_t length, uint32_t row, uint8_t *buffer, size_t size);
 
@@ -313,8 +312,7 @@ katchidul_cells katchidul_write_cells(const uint8_t *order, size_t length, uint3
    A page may be taken at once, with KATCHIDUL_PAGE_CELLS bytes, or by pieces of any lengths: each call goes on at `first` plus the
    `rows` of the one before, until 5, place 3. Whatever the lengths, the cells are the same in the same order, and the dots add up to
    the same.
-   Pieces cost time: the first row of a call works three suns and each row behind it one, so a page taken row by row costs some 2.7
-   times what it costs at once (docs/SPEED.md). */
+   Pieces cost time: the first row of a call works three suns and each row behind it one, so a page taken row by row costs some 2.6 times what it costs at once (docs/SPEED.md). */
 katchidul_cells katchidul_write_page(const uint8_t *order, size_t length, uint32_t page, uint32_t first, uint8_t *scratch, size_t size);
 
 /* The print queue. Jobs wait for the embosser, each with an id and its pages left, and each turn sends one page of the job at the front,
