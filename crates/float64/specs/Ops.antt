@@ -1,5 +1,4 @@
--- binary64's operations by short names, so that a definition reads like its formula: "each operation rounded once in its order" (document
--- 01).
+-- binary64's operations by short names, so that a definition reads like its formula: "each operation rounded once in its order" (document 01).
 use Prim.Native.Nat.{ℕ, _^_}
 use mathlib.Core.Bool.{false}
 use lib.Ieee.{Float, binary64, add, sub, mul, div, round, ofBits}

@@ -1,7 +1,6 @@
 -- Request 6, the calls: what each returns, and every byte of both lent buffers after it. A log is the first `used` bytes of its buffer.
--- "The log refuses with 12 if the second buffer is too short for what compaction writes, with 13 for a record out of turn, and with 14 for
--- a count outside those bounds; they are tried as 13, 14, 12, and the place is the record's page, or for 14, and for 12 at restart, the
--- count."
+-- "The log refuses with 12 if the second buffer is too short for what compaction writes, with 13 for a record out of turn, and with 14 for a count
+-- outside those bounds; they are tried as 13, 14, 12, and the place is the record's page, or for 14, and for 12 at restart, the count."
 use Prim.Native.Nat.{ℕ, _+_}
 use mathlib.Core.Bool.{Bool, false, cond, _&&_}
 use mathlib.Core.List.{List, _++_}
@@ -40,8 +39,7 @@ pub record LogCall : Type 0 where
 abbrev pub refusing : ℕ → ℕ → List ℕ → List ℕ → LogCall
 refusing number place log second = record { answer = refused number place; log = log; second = second }
 
--- "compacted into a second lent buffer ..; the first buffer stays as it was"; 12, and nothing is put, if the second is too short for all of
--- it
+-- "compacted into a second lent buffer ..; the first buffer stays as it was"; 12, and nothing is put, if the second is too short for all of it
 unfoldable pub compactAnswer : State → List ℕ → ℕ → List ℕ → Log
 compactAnswer s text place second = cond (leb (length text) (length second)) (answered 1 s (length text)) (refused logSecondShort place)
 

@@ -1,5 +1,5 @@
--- Request 6, the log: bytes, the records that they hold, and what the records say. "A job has a log of five-byte records .., each formed as
--- an order's field: tag 1 sent, 2 done, 3 finished through (compaction's first record only); length 2; page number."
+-- Request 6, the log: bytes, the records that they hold, and what the records say. "A job has a log of five-byte records .., each formed as an order's
+-- field: tag 1 sent, 2 done, 3 finished through (compaction's first record only); length 2; page number."
 use Prim.Native.Nat.{ℕ, zero, suc, _+_, _-_, _*_, _/_, _%_}
 use mathlib.Core.Bool.{Bool, true, false, cond, _&&_}
 use mathlib.Core.List.{List, [], _∷_, _++_}
@@ -46,8 +46,8 @@ abbrev pub wholeOf : ℕ → ℕ
 wholeOf used = used / 5 * 5
 
 -- ---- what a log says
--- "Pages are sent in rising order from 1"; "a done names the lowest page sent and not done"; a finished record is right as the log's first
--- one alone; "an unknown tag or another length counts as out of turn"
+-- "Pages are sent in rising order from 1"; "a done names the lowest page sent and not done"; a finished record is right as the log's first one alone;
+-- "an unknown tag or another length counts as out of turn"
 unfoldable pub inTurn : Bool → State → Record → Bool
 inTurn first s r =
     eqb (r .length) 2
@@ -57,8 +57,7 @@ inTurn first s r =
 -- what a log says with one record more
 unfoldable pub afterOf : State → Record → State
 afterOf s r =
-    cond (eqb (r .tag) sentTag) (state (s .finished) (r .page))
-    (cond (eqb (r .tag) doneTag) (state (r .page) (s .sent)) (state (r .page) (r .page)))
+    cond (eqb (r .tag) sentTag) (state (s .finished) (r .page)) (cond (eqb (r .tag) doneTag) (state (r .page) (s .sent)) (state (r .page) (r .page)))
 
 -- the records from the first on, each after those before it; the page of the first that is out of turn
 unfoldable pub readOf : Bool → State → List Record → LogReading

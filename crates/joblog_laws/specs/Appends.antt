@@ -20,10 +20,8 @@ Unchanged c log second = (c .log ≡ log) × (c .second ≡ second)
 abbrev pub RefusedLogStays : Type 0
 RefusedLogStays =
     (log : List ℕ) (used : ℕ) (second : List ℕ)
-    → ((tag page : ℕ) → eqb (appendOf log used tag page second .answer .number) 0 ≡ false
-    → Unchanged (appendOf log used tag page second) log second)
-    × ((count : ℕ) → eqb (restartOf log used count second .answer .number) 0 ≡ false
-    → Unchanged (restartOf log used count second) log second)
+    → ((tag page : ℕ) → eqb (appendOf log used tag page second .answer .number) 0 ≡ false → Unchanged (appendOf log used tag page second) log second)
+    × ((count : ℕ) → eqb (restartOf log used count second .answer .number) 0 ≡ false → Unchanged (restartOf log used count second) log second)
 
 -- "the first buffer stays as it was", when an append compacts and at every restart
 abbrev pub FirstBufferStays : Type 0
@@ -39,8 +37,8 @@ FiveBytesChange =
     → (appendOf log used tag page second .log ≡ take (wholeOf used) log ++ bytesOf tag page ++ drop (wholeOf used + 5) log)
     × (appendOf log used tag page second .second ≡ second)
 
--- ---- "A record cut at the end of the log is ignored and the next append begins in its place, so a cut at any byte of an append leaves the
--- log before or after that record."
+-- ---- "A record cut at the end of the log is ignored and the next append begins in its place, so a cut at any byte of an append leaves the log before
+-- or after that record."
 -- k of the new record's bytes in the buffer
 abbrev pub cutAt : List ℕ → ℕ → ℕ → ℕ → ℕ → List ℕ
 cutAt log used tag page k = putOf log (wholeOf used) (take k (bytesOf tag page))
@@ -49,8 +47,7 @@ cutAt log used tag page k = putOf log (wholeOf used) (take k (bytesOf tag page))
 abbrev pub CutAtAnyByte : Type 0
 CutAtAnyByte =
     (log : List ℕ) (used tag page : ℕ) (second : List ℕ) (k : ℕ) → inPlace (appendOf log used tag page second) ≡ true → k ≤ 5
-    → readLogOf (cutAt log used tag page k) (wholeOf used + k)
-    ≡ cond (ltb k 5) (readLogOf log used) (appendOf log used tag page second .answer)
+    → readLogOf (cutAt log used tag page k) (wholeOf used + k) ≡ cond (ltb k 5) (readLogOf log used) (appendOf log used tag page second .answer)
 
 -- and the next append, of any record, returns what it would if nothing had been cut, and leaves the same bytes if it is not refused
 abbrev pub NextTakesItsPlace : Type 0
@@ -58,8 +55,7 @@ NextTakesItsPlace =
     (log : List ℕ) (used tag page : ℕ) (second : List ℕ) (k : ℕ) → inPlace (appendOf log used tag page second) ≡ true → k < 5
     → (tag' page' : ℕ) (second' : List ℕ)
     → let next = appendOf (cutAt log used tag page k) (wholeOf used + k) tag' page' second' in
-    (next .answer ≡ appendOf log used tag' page' second' .answer)
-    × (eqb (next .answer .number) 0 ≡ true → next .log ≡ appendOf log used tag' page' second' .log)
+    (next .answer ≡ appendOf log used tag' page' second' .answer) × (eqb (next .answer .number) 0 ≡ true → next .log ≡ appendOf log used tag' page' second' .log)
 
 -- ---- a second buffer with room for one record and the open pages, and for an append one record more, is never too short
 abbrev pub LogRoomIsEnough : Type 0
@@ -67,13 +63,11 @@ LogRoomIsEnough =
     (log : List ℕ) (used : ℕ) (second : List ℕ)
     → ((tag page : ℕ) → 10 + 5 * (readLogOf log used .sent - readLogOf log used .finished) ≤ length second
     → eqb (appendOf log used tag page second .answer .number) logSecondShort ≡ false)
-    × ((count : ℕ) → 5 + 5 * (readLogOf log used .sent - count) ≤ length second
-    → eqb (restartOf log used count second .answer .number) logSecondShort ≡ false)
+    × ((count : ℕ) → 5 + 5 * (readLogOf log used .sent - count) ≤ length second → eqb (restartOf log used count second .answer .number) logSecondShort ≡ false)
 
 -- ---- "one finished record (page 0 if none is done), then the open pages": what compaction writes says what it was written from
 abbrev pub CompactionSaysTheSame : Type 0
-CompactionSaysTheSame =
-    (finished sent : ℕ) → finished ≤ sent → logReadingOf (compactedOf (state finished sent)) ≡ Says (state finished sent)
+CompactionSaysTheSame = (finished sent : ℕ) → finished ≤ sent → logReadingOf (compactedOf (state finished sent)) ≡ Says (state finished sent)
 
 -- ---- what the log says after a call that is not refused: what the call returns
 abbrev pub SaysSo : LogCall → ℕ → Type 0

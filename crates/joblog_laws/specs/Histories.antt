@@ -32,8 +32,7 @@ pub record Kept (w : World) : Type 0 where
   -- a restart with the true count is accepted, or refused by 12 if the second buffer has no room for one record and the open pages
   pub accepted : (second : List ℕ)
       → restartOf (w .host .log) (w .host .used) (length (w .embosser .finished)) second .answer .number
-      ≡ cond
-      (leb (5 + 5 * (readLogOf (w .host .log) (w .host .used) .sent - length (w .embosser .finished))) (length second)) 0 logSecondShort
+      ≡ cond (leb (5 + 5 * (readLogOf (w .host .log) (w .host .used) .sent - length (w .embosser .finished))) (length second)) 0 logSecondShort
 
 abbrev pub KeptBy : HostRules → Type 0
 KeptBy rules = (buffer : List ℕ) (steps : List Step) → Kept (run rules (begun buffer) steps)
@@ -41,8 +40,8 @@ KeptBy rules = (buffer : List ℕ) (steps : List Step) → Kept (run rules (begu
 abbrev pub HistoriesAreKept : Type 0
 HistoriesAreKept = KeptBy asRequested
 
--- ---- and none is skipped for good: after any history, a restart with room and then each open page out and finished leaves every page
--- finished of which the log has a sent record
+-- ---- and none is skipped for good: after any history, a restart with room and then each open page out and finished leaves every page finished of
+-- which the log has a sent record
 unfoldable pub sendAll : ℕ → List Step
 sendAll zero = []
 sendAll (suc n) = goes ∷ finishes ∷ sendAll n

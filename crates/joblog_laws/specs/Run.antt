@@ -1,20 +1,18 @@
--- Request 6, a run: a host with its log, and an embosser. What the calls write and return are crates/joblog's definitions, which its code
--- equals.
+-- Request 6, a run: a host with its log, and an embosser. What the calls write and return are crates/joblog's definitions, which its code equals.
 --
--- What the request's promise rests on, beside the log (each is a choice of this model, to hold against the request). What the host may
--- record and send, what it sends again and what the embosser drops are a value, `HostRules`; the others are how the steps go:
---   the link    pages reach the embosser in the order in which they go out. What is lost is lost from the end, and then nothing more gets
---               through until a restart (the step `crash`, also if only the link or the embosser failed).
---   embosser    it finishes its pages in the order in which they reached it, also while the host is down, and no crash takes a finished
---   page back. a count     it is true if it is the number of pages finished, and the embosser drops what it has not finished when it
---   reports it: the open
+-- What the request's promise rests on, beside the log (each is a choice of this model, to hold against the request). What the host may record and send,
+-- what it sends again and what the embosser drops are a value, `HostRules`; the others are how the steps go:
+--   the link    pages reach the embosser in the order in which they go out. What is lost is lost from the end, and then nothing more gets through
+--               until a restart (the step `crash`, also if only the link or the embosser failed).
+--   embosser    it finishes its pages in the order in which they reached it, also while the host is down, and no crash takes a finished page back.
+--   a count     it is true if it is the number of pages finished, and the embosser drops what it has not finished when it reports it: the open
 --               pages go out again, and one still in its tray would be finished twice (`keeps-its-tray` in proofs/WrongRules).
 --   the host    after any crash it restarts before it appends or sends: `up` says so. It sends no page while it is in an append.
---   a done      is recorded only of a page whose acknowledgement, or a later page's, the host has heard. A later one will do, since pages
---               are finished in order. The embosser gives one when it has finished a page; it may be lost on its way, or come late, after a
---               crash and a restart too (the steps `hears` and `lost`).
---   the buffer  an append's bytes become lasting one by one, from the first on, and `used` never counts a byte that is not lasting; the
---               move to the second buffer is lasting at once, when the call has returned and before a page goes out.
+--   a done      is recorded only of a page whose acknowledgement, or a later page's, the host has heard. A later one will do, since pages are
+--               finished in order. The embosser gives one when it has finished a page; it may be lost on its way, or come late, after a crash and a
+--               restart too (the steps `hears` and `lost`).
+--   the buffer  an append's bytes become lasting one by one, from the first on, and `used` never counts a byte that is not lasting; the move to the
+--               second buffer is lasting at once, when the call has returned and before a page goes out.
 use Prim.Native.Nat.{ℕ, _+_}
 use mathlib.Core.Bool.{Bool, true, false, cond, _&&_, _||_}
 use mathlib.Core.List.{List, [], _∷_, _++_}
@@ -25,8 +23,7 @@ use Rattle.joblog.specs.Records.{doneTag, bytesOf, wholeOf}
 use Rattle.joblog.specs.Calls.{LogCall, readLogOf, appendOf, restartOf}
 
 -- ---- what there is at a moment
--- whether the host is in an append: its record's tag and page, what the call returns and leaves, and how many of the record's bytes are
--- lasting
+-- whether the host is in an append: its record's tag and page, what the call returns and leaves, and how many of the record's bytes are lasting
 pub data Writing : Type 0 where
   idle : Writing
   within : ℕ → ℕ → LogCall → ℕ → Writing
@@ -35,8 +32,8 @@ pub record Host : Type 0 where
   -- lasting: the buffer that is the log now, and how many of its bytes are the log
   pub log : List ℕ
   pub used : ℕ
-  -- its memory: whether it runs and has restarted since the last crash, the last page that went out, the append that it is in, and the
-  -- pages whose acknowledgement it has heard
+  -- its memory: whether it runs and has restarted since the last crash, the last page that went out, the append that it is in, and the pages whose
+  -- acknowledgement it has heard
   pub up : Bool
   pub out : ℕ
   pub writing : Writing
@@ -58,8 +55,7 @@ world host embosser = record { host = host; embosser = embosser }
 
 -- a job begins: any buffer, and an empty log in it
 abbrev pub begun : List ℕ → World
-begun buffer = world (record { log = buffer; used = 0; up = true; out = 0; writing = idle; heard = [] })
-    (record { tray = []; finished = []; coming = [] })
+begun buffer = world (record { log = buffer; used = 0; up = true; out = 0; writing = idle; heard = [] }) (record { tray = []; finished = []; coming = [] })
 
 pub data Step : Type 0 where
   -- the host calls append with a record, its tag and page, and lends a second buffer
@@ -75,8 +71,8 @@ pub data Step : Type 0 where
   -- the first acknowledgement on its way reaches the host; it is lost
   hears : Step
   lost : Step
-  -- host, link or embosser fail: of the tray that many pages are left, the first ones; if the host was in an append, `used` may be any
-  -- number of the bytes that are there
+  -- host, link or embosser fail: of the tray that many pages are left, the first ones; if the host was in an append, `used` may be any number of the
+  -- bytes that are there
   crash : ℕ → ℕ → Step
   -- the embosser reports its count, and the host restarts with it (the second buffer that it lends)
   restart : List ℕ → Step

@@ -24,17 +24,7 @@ version = 1 * 65536 + 0
 
 -- ---- a day
 abbrev pub noTimes : PrayerTimes
-noTimes = record {
-  fajr = pos 0;
-  sunrise = pos 0;
-  dhuhr = pos 0;
-  asr = pos 0;
-  maghrib = pos 0;
-  isha = pos 0;
-  «middle_of_the_night» = pos 0;
-  qiyam = pos 0;
-  «fajr_tomorrow» = pos 0;
-}
+noTimes = record { fajr = pos 0; sunrise = pos 0; dhuhr = pos 0; asr = pos 0; maghrib = pos 0; isha = pos 0; «middle_of_the_night» = pos 0; qiyam = pos 0; «fajr_tomorrow» = pos 0 }
 
 unfoldable pub dayAnswerOf : Worked → KatchidulDay
 dayAnswerOf (worked.Times t) = record { refusal = noRefusal; times = t }

@@ -10,11 +10,11 @@ use Rattle.map_form.specs.declared.writing.Written.{Written}
 use Rattle.map_form.specs.Hundredths.{inDegree, signed, atMost}
 use Rattle.map_form.specs.Owed.{noParts}
 
-abbrev pub latitudeTag : ℕ
-latitudeTag = 18
+abbrev pub mapLatitudeTag : ℕ
+mapLatitudeTag = 18
 
-abbrev pub longitudeTag : ℕ
-longitudeTag = 19
+abbrev pub mapLongitudeTag : ℕ
+mapLongitudeTag = 19
 
 -- n hundredths as degrees, minutes, seconds and hundredths
 abbrev pub partsOf : ℕ → ℕ → MapForm

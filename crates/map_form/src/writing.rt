@@ -5,7 +5,7 @@ ghost use Prim.Native.Nat.{_≤_};
 ghost use Rattle.float64.specs.Words.{isNegativeOf};
 ghost use Rattle.map_form.specs.Hundredths.{mostLatitude, mostLongitude, atMost};
 ghost use Rattle.map_form.specs.Owed.{signFor, noParts, Owed};
-ghost use Rattle.map_form.specs.Written.{latitudeTag, longitudeTag, partsOf, writtenOf};
+ghost use Rattle.map_form.specs.Written.{mapLatitudeTag, mapLongitudeTag, partsOf, writtenOf};
 use super::LATITUDE;
 use super::LONGITUDE;
 use super::MOST_LATITUDE;
@@ -81,15 +81,15 @@ fn write(x: f64, tag: u32, most: u64) -> Written
 }
 
 pub fn write_latitude(x: f64) -> Written
-    ensures { λ r. ⌜ r ≡ writtenOf latitudeTag mostLatitude x ⌝ }
-    ensures { λ r. ⌜ Owed latitudeTag mostLatitude x r ⌝ }
+    ensures { λ r. ⌜ r ≡ writtenOf mapLatitudeTag mostLatitude x ⌝ }
+    ensures { λ r. ⌜ Owed mapLatitudeTag mostLatitude x r ⌝ }
 {
     write(x, LATITUDE, MOST_LATITUDE)
 }
 
 pub fn write_longitude(x: f64) -> Written
-    ensures { λ r. ⌜ r ≡ writtenOf longitudeTag mostLongitude x ⌝ }
-    ensures { λ r. ⌜ Owed longitudeTag mostLongitude x r ⌝ }
+    ensures { λ r. ⌜ r ≡ writtenOf mapLongitudeTag mostLongitude x ⌝ }
+    ensures { λ r. ⌜ Owed mapLongitudeTag mostLongitude x r ⌝ }
 {
     write(x, LONGITUDE, MOST_LONGITUDE)
 }

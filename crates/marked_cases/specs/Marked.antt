@@ -86,8 +86,7 @@ marked =
     eqb (daysSinceSolsticeOf 171 2025 south) 364 ∷
     eqb (daysSinceSolsticeOf 172 2025 south) 365 ∷
     eqb (daysSinceSolsticeOf 365 2025 south) 558 ∷
-    -- the southern count that starts again: on the solstice, the day before it, the first day and the last, of a common year and of a leap
-    -- year
+    -- the southern count that starts again: on the solstice, the day before it, the first day and the last, of a common year and of a leap year
     southAgain 172 2025 0 ∷
     southAgain 171 2025 364 ∷
     southAgain 1 2025 194 ∷
@@ -111,8 +110,7 @@ marked =
     gives (carriedHourOf (dec 23995 3)) (pos 86400) ∷
     gives (carriedHourOf (neg (dec 1 4))) (pos 0) ∷
     gives (carriedHourOf (dec 47995 3)) (pos 172800) ∷
-    -- both zeros and the smallest subnormal are 00:00 of the date; yesterday's 00:00 is the first time, and what lies beyond, or is no
-    -- number, has none
+    -- both zeros and the smallest subnormal are 00:00 of the date; yesterday's 00:00 is the first time, and what lies beyond, or is no number, has none
     gives (carriedHourOf (dec 0 0)) (pos 0) ∷
     gives (carriedHourOf (neg (dec 0 0))) (pos 0) ∷
     gives (carriedHourOf (ofBits binary64 1)) (pos 0) ∷
@@ -137,8 +135,5 @@ all [] = true
 all (t ∷ ts) = t && all ts
 
 pub all-hold : T (all marked)
-unfolding marked all timeOf nanosecondsOf aheadOf lastOf followingOf followingCurrentOf hoursMinutesOf untilOf prayerNumberOf prayerOf
-    truncOf settingHourOf hourOf hourAdjustmentOf minuteOf hasTimeOf carriedOf carriedHourOf isNormalOf floorOf roundOf toUnsigned dec round
-    ofBits eq le lt add sub mul div neg ofInt toSigned dateJulianDayOf julianDayOf fromMarchOf yearProductOf monthProductOf correctionOf
-    toI32Of daysSinceSolsticeOf southernOffsetOf southernCountOf daysByRule daysInYearOf leapOf
+unfolding marked all timeOf nanosecondsOf aheadOf lastOf followingOf followingCurrentOf hoursMinutesOf untilOf prayerNumberOf prayerOf truncOf settingHourOf hourOf hourAdjustmentOf minuteOf hasTimeOf carriedOf carriedHourOf isNormalOf floorOf roundOf toUnsigned dec round ofBits eq le lt add sub mul div neg ofInt toSigned dateJulianDayOf julianDayOf fromMarchOf yearProductOf monthProductOf correctionOf toI32Of daysSinceSolsticeOf southernOffsetOf southernCountOf daysByRule daysInYearOf leapOf
 all-hold = tt

@@ -15,8 +15,7 @@ use Rattle.models.specs.Builder.{chosenOf, numberedOf}
 use Rattle.models.specs.Minutes.{sixMinutesOf}
 use Rattle.models.specs.Settings.{parametersNewOf}
 
--- the Fajr, Isha and Maghrib angles in tenths of a degree, the Isha interval, the method's minutes and its rounding; the rest as in
--- Parameters::new
+-- the Fajr, Isha and Maghrib angles in tenths of a degree, the Isha interval, the method's minutes and its rounding; the rest as in Parameters::new
 unfoldable pub preset : Method → ℕ → ℕ → ℕ → ℕ → TimeAdjustment → Rounding → Parameters
 unfolding dec parametersNewOf
 preset method fajr isha maghrib interval minutes rounding =

@@ -17,7 +17,7 @@ use Rattle.fields.specs.Tags.{townTag, dateTag, rowsTag, latitudeTag, longitude
 use Rattle.fields.specs.Tags.{clockTag, ramadanTag, choiceFits}
 use Rattle.fields.specs.Values.{Values}
 use Rattle.map_form.specs.Hundredths.{mostLatitude, mostLongitude, formFits}
-use Rattle.map_form.specs.Written as map
+use Rattle.map_form.specs.Written.{mapLatitudeTag, mapLongitudeTag}
 use Rattle.text.specs.Text.{printable}
 use Rattle.models.specs.declared.adjustments.TimeAdjustment.{TimeAdjustment}
 use Rattle.order.specs.Given.{dateIn, rowsIn, degreesIn, formIn, minutesIn}
@@ -104,8 +104,8 @@ ranges v date ramadan =
     ∷ (ishaAngleTag, degreesFit (dec 0 0) (dec mostAngle 0) v)
     ∷ (ishaIntervalTag, intervalFits v)
     ∷ (clockTag, clockFits v)
-    ∷ (map.latitudeTag, formFits mostLatitude (formIn v))
-    ∷ (map.longitudeTag, formFits mostLongitude (formIn v))
+    ∷ (mapLatitudeTag, formFits mostLatitude (formIn v))
+    ∷ (mapLongitudeTag, formFits mostLongitude (formIn v))
     ∷ (ramadanTag, ramadanFits v)
     ∷ []
 

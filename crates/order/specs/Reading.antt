@@ -10,7 +10,7 @@ use Rattle.fields.specs.Tags.{townTag, dateTag, rowsTag, latitudeTag, longitude
 use Rattle.fields.specs.Values.{partIn, Values, valuesOf}
 use Rattle.hijri.specs.Ramadan.{ramadanStartOf}
 use Rattle.hijri.specs.declared.ramadan.Ramadan.{Ramadan}
-use Rattle.map_form.specs.Written as map
+use Rattle.map_form.specs.Written.{mapLatitudeTag, mapLongitudeTag}
 use Rattle.models.specs.Chosen.{settingOf}
 use Rattle.refusals.specs.Refusals.{refusal, noRefusal, tagMissing, outOfRange, bothForms, notFirstOfRamadan}
 use Rattle.refusals.specs.declared.Refusal.{Refusal}
@@ -33,7 +33,7 @@ required = townTag ∷ dateTag ∷ rowsTag ∷ latitudeTag ∷ longitudeTag ∷ 
 -- request 7: "Either form keeps a coordinate from being missing"
 unfoldable pub isGivenOf : (ℕ → Bool) → ℕ → Bool
 isGivenOf has tag =
-    lookUp tag ((latitudeTag, has latitudeTag || has map.latitudeTag) ∷ (longitudeTag, has longitudeTag || has map.longitudeTag) ∷ [])
+    lookUp tag ((latitudeTag, has latitudeTag || has mapLatitudeTag) ∷ (longitudeTag, has longitudeTag || has mapLongitudeTag) ∷ [])
     (has tag)
 
 unfoldable pub missingOf : (ℕ → Bool) → Refusal
@@ -42,8 +42,8 @@ missingOf has = firstFailing tagMissing (isGivenOf has) required
 -- request 7: "Both forms for one coordinate are refused by 15, with 18 or 19 as place, latitude first"
 unfoldable pub bothFormsOf : (ℕ → Bool) → Refusal
 bothFormsOf has =
-    cond (has latitudeTag && has map.latitudeTag) (refusal bothForms map.latitudeTag)
-    (cond (has longitudeTag && has map.longitudeTag) (refusal bothForms map.longitudeTag) noRefusal)
+    cond (has latitudeTag && has mapLatitudeTag) (refusal bothForms mapLatitudeTag)
+    (cond (has longitudeTag && has mapLongitudeTag) (refusal bothForms mapLongitudeTag) noRefusal)
 
 -- 5 is "value out of range, or a day the month lacks"; "both by rising tag"
 unfoldable pub tagsFrom : ℕ → ℕ → List ℕ
@@ -61,7 +61,7 @@ orderOf v =
       date = dateIn (v .value dateTag);
       rows = rowsIn (v .value rowsTag);
       setting =
-          settingOf (coordinatesOf (coordinateIn v latitudeTag map.latitudeTag) (coordinateIn v longitudeTag map.longitudeTag))
+          settingOf (coordinatesOf (coordinateIn v latitudeTag mapLatitudeTag) (coordinateIn v longitudeTag mapLongitudeTag))
           (parametersIn v) (rulesIn v);
       clock = clockIn v;
       ramadan = ramadanIn v;

@@ -7,10 +7,10 @@ use mathlib.Core.Bool.{Bool, false, _||_}
 use mathlib.Core.List.{List}
 use lib.Dec.{eqb}
 use Rattle.days.specs.Calls.{workDayOf, prayerAtOf, nextAtOf, remainingAtOf}
-use Rattle.fields.specs.Tags.{lastTag}
+use Rattle.fields.specs.Tags.{latitudeTag, longitudeTag, lastTag}
 use Rattle.fields.specs.Values.{hasOf, valueOf}
 use Rattle.fields.specs.declared.values.Part.{Part}
-use Rattle.map_form.specs.Written.{latitudeTag, longitudeTag}
+use Rattle.map_form.specs.Written.{mapLatitudeTag, mapLongitudeTag}
 use Rattle.order.specs.declared.reading.Order.{Order}
 use Rattle.order.specs.declared.reading.Reading.the-variants.{Read}
 use Rattle.order.specs.Reading.{readingOf, townOf}
@@ -23,7 +23,7 @@ use Rattle.order_laws.specs.Minutes.{LaterOrder}
 
 -- the tags that say the place, in either form
 abbrev pub saysPlace : ℕ → Bool
-saysPlace tag = eqb tag 4 || eqb tag 5 || eqb tag latitudeTag || eqb tag longitudeTag
+saysPlace tag = eqb tag latitudeTag || eqb tag longitudeTag || eqb tag mapLatitudeTag || eqb tag mapLongitudeTag
 
 -- the two orders are read, with the same f64 for each coordinate, in whichever form; every other tag gives the same
 pub record SamePlace (a b : List ℕ) : Type 0 where

@@ -1,6 +1,6 @@
--- Request 4: "A one-byte value means what it did, and every order accepted before gives the same values and prints the same sheet." What
--- document 01 alone read and printed: tags 1 to 14, "rows, 1 byte, 1 to 250", the crate's own rules, nine columns; and the statement.
--- Proved in proofs/FormerRowsLaws.
+-- Request 4: "A one-byte value means what it did, and every order accepted before gives the same values and prints the same sheet." What document 01
+-- alone read and printed: tags 1 to 14, "rows, 1 byte, 1 to 250", the crate's own rules, nine columns; and the statement. Proved in
+-- proofs/FormerRowsLaws.
 use Prim.Native.Nat.{ℕ, zero, suc, _-_}
 use mathlib.Core.Path.{_≡_}
 use mathlib.Core.Bool.{Bool, true, false, cond, not, _&&_, _||_}
@@ -55,8 +55,7 @@ unfoldable pub formerWalkOf : ℕ → List ℕ → (seen : List Bool) → ℕ �
 formerWalkOf zero s seen at = noRefusal
 formerWalkOf (suc k) s seen at =
     cond (ltb at (length s))
-    (cond (eqb (formerFaultOf s seen at) 0) (formerWalkOf k s (set seen (byteOf s at) true) (nextFieldAt s at))
-    (refusal (formerFaultOf s seen at) at))
+    (cond (eqb (formerFaultOf s seen at) 0) (formerWalkOf k s (set seen (byteOf s at) true) (nextFieldAt s at)) (refusal (formerFaultOf s seen at) at))
     noRefusal
 
 unfoldable pub formerCheckOf : List ℕ → Refusal
@@ -67,8 +66,7 @@ unfoldable pub formerRowsFit : Date → List ℕ → Bool
 formerRowsFit date v = between 1 250 (byteOf v 0) && leb (rowDateOf date (byteOf v 0 - 1) .year) lastYear
 
 unfoldable pub formerInRange : Values → ℕ → Bool
-formerInRange v tag =
-    cond (v .has tag) (cond (eqb tag rowsTag) (formerRowsFit (dateIn (v .value dateTag)) (v .value rowsTag)) (fitsOf v tag)) true
+formerInRange v tag = cond (v .has tag) (cond (eqb tag rowsTag) (formerRowsFit (dateIn (v .value dateTag)) (v .value rowsTag)) (fitsOf v tag)) true
 
 -- ---- the record
 unfoldable pub formerOrderOf : Values → Order
@@ -112,8 +110,7 @@ newAt s at = between midnightTag lastTag (byteOf s at) || (eqb (byteOf s at) row
 
 pub record AsBefore (s : List ℕ) : Type 0 where
   -- "every order accepted before gives the same values and prints the same sheet"
-  pub accepted : (o : Order) → formerReadingOf s ≡ reading.Read o
-      → (readingOf s ≡ reading.Read o) × (sheetText s ≡ formerText (valueOf s townTag) o)
+  pub accepted : (o : Order) → formerReadingOf s ≡ reading.Read o → (readingOf s ≡ reading.Read o) × (sheetText s ≡ formerText (valueOf s townTag) o)
   -- and what was refused is refused by the same number and place, but for a field that was unknown and no longer is
   pub refused : (r : Refusal) → formerReadingOf s ≡ reading.Refused r
       → (readingOf s ≡ reading.Refused r) ⊎ ((r .number ≡ fieldUnknown) × (newAt s (r .place) ≡ true))

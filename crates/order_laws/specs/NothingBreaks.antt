@@ -1,7 +1,7 @@
--- Demand 1, whole, for any bytes that a school sends: "Nothing that a school sends breaks a run: every order is read or refused by number;
--- a day lacking transit, sunrise or sunset, its own or the next two days', is refused as that day only; the first broken rule in the stated
--- order gives the number; a refused call changes no lent byte; every call returns." That every call returns is a matter of the language: no
--- function is built that is not proved to end. Proved in proofs/NothingBreaksLaws.
+-- Demand 1, whole, for any bytes that a school sends: "Nothing that a school sends breaks a run: every order is read or refused by number; a day lacking
+-- transit, sunrise or sunset, its own or the next two days', is refused as that day only; the first broken rule in the stated order gives the number;
+-- a refused call changes no lent byte; every call returns." That every call returns is a matter of the language: no function is built that is not
+-- proved to end. Proved in proofs/NothingBreaksLaws.
 use Prim.Native.Nat.{ℕ, zero, suc, _≤_, _<_}
 use mathlib.Core.Path.{_≡_}
 use mathlib.Core.Bool.{true, false, cond}
@@ -58,8 +58,7 @@ threeDays o date =
 -- of some days the first that lacks a time: what it lacks, and how many days are before it
 pub data FirstLacking (number : ℕ) : ℕ → List SolarDay → Type 0 where
   here : {rest : List SolarDay} → FirstLacking number 0 (sun.Lacks number ∷ rest)
-  later : {place : ℕ} {whole : SolarTime} {rest : List SolarDay} → FirstLacking number place rest
-      → FirstLacking number (suc place) (sun.Whole whole ∷ rest)
+  later : {place : ℕ} {whole : SolarTime} {rest : List SolarDay} → FirstLacking number place rest → FirstLacking number (suc place) (sun.Whole whole ∷ rest)
 
 pub record RefusedDay (o : Order) (date : Date) (r : Refusal) : Type 0 where
   pub number : listed dayNumbers (r .number) ≡ true
@@ -111,19 +110,15 @@ pub record NothingBreaks (s : List ℕ) : Type 0 where
   pub only : (o : Order) (row : ℕ) → readingOf s ≡ reading.Read o → row < o .rows → OthersStay o row
   -- the calls that write: a row, a row of cells, a page of cells or a piece of it
   pub row : (row : ℕ) (buffer : List ℕ)
-      → Lent (rowCallOf s row buffer .answer .number) (writtenFor (λ o. rowLine o row) (readingOf s)) buffer
-      (rowCallOf s row buffer .buffer)
+      → Lent (rowCallOf s row buffer .answer .number) (writtenFor (λ o. rowLine o row) (readingOf s)) buffer (rowCallOf s row buffer .buffer)
   pub cells : (row : ℕ) (buffer : List ℕ)
-      → Lent (cellsCallOf s row buffer .answer .refusal .number) (writtenFor (λ o. cellsOf (oneRow row o)) (readingOf s)) buffer
-      (cellsCallOf s row buffer .buffer)
+      → Lent (cellsCallOf s row buffer .answer .refusal .number) (writtenFor (λ o. cellsOf (oneRow row o)) (readingOf s)) buffer (cellsCallOf s row buffer .buffer)
   pub page : (page first : ℕ) (scratch : List ℕ)
-      → Lent (pageCallOf s page first scratch .answer .refusal .number)
-      (writtenFor (λ o. cellsOf (pieceIn page first scratch o)) (readingOf s)) scratch
+      → Lent (pageCallOf s page first scratch .answer .refusal .number) (writtenFor (λ o. cellsOf (pieceIn page first scratch o)) (readingOf s)) scratch
       (pageCallOf s page first scratch .buffer)
   -- and the sentence of a refusal
   pub sentence : (number place : ℕ) (buffer : List ℕ)
-      → Lent (sentenceCallOf number place buffer .answer .number) (sentenceOf number place) buffer
-      (sentenceCallOf number place buffer .buffer)
+      → Lent (sentenceCallOf number place buffer .answer .number) (sentenceOf number place) buffer (sentenceCallOf number place buffer .buffer)
 
 abbrev pub NothingBreaksARun : Type 0
 NothingBreaksARun = (s : List ℕ) → NothingBreaks s

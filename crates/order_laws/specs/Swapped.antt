@@ -6,11 +6,11 @@ use mathlib.Core.Path.{_≡_}
 use mathlib.Core.Bool.{true, false}
 use mathlib.Core.List.{List}
 use Rattle.fields.specs.Fields.{checkOf}
-use Rattle.fields.specs.Tags.{lastTag}
+use Rattle.fields.specs.Tags.{latitudeTag, longitudeTag, lastTag}
 use Rattle.fields.specs.Values.{hasOf, valueOf, valuesOf}
 use Rattle.map_form.specs.Hundredths.{mostLatitude, mostLongitude, formFits}
 use Rattle.map_form.specs.Promises.{asWritten}
-use Rattle.map_form.specs.Written.{latitudeTag, longitudeTag, writtenOf}
+use Rattle.map_form.specs.Written.{mapLatitudeTag, mapLongitudeTag, writtenOf}
 use Rattle.order.specs.Given.{coordinateIn, formIn}
 use Rattle.order.specs.Reading.{readingOf}
 use Rattle.order.specs.declared.reading.Order.{Order}
@@ -30,10 +30,10 @@ pub record Swapped (a b : List ℕ) : Type 0 where
   pub order : Order
   pub «first_read» : readingOf a ≡ Read order
   pub fields : checkOf b .number ≡ 0
-  pub latitude : Sent a b 4 latitudeTag mostLatitude
-  pub longitude : Sent a b 5 longitudeTag mostLongitude
-  pub «same_latitude» : order .setting .coordinates .latitude ≡ coordinateIn (valuesOf b) 4 latitudeTag
-  pub «same_longitude» : order .setting .coordinates .longitude ≡ coordinateIn (valuesOf b) 5 longitudeTag
+  pub latitude : Sent a b latitudeTag mapLatitudeTag mostLatitude
+  pub longitude : Sent a b longitudeTag mapLongitudeTag mostLongitude
+  pub «same_latitude» : order .setting .coordinates .latitude ≡ coordinateIn (valuesOf b) latitudeTag mapLatitudeTag
+  pub «same_longitude» : order .setting .coordinates .longitude ≡ coordinateIn (valuesOf b) longitudeTag mapLongitudeTag
   pub others : (tag : ℕ) → tag ≤ lastTag → saysPlace tag ≡ false → (hasOf a tag ≡ hasOf b tag) × (valueOf a tag ≡ valueOf b tag)
 
 -- then the second is read too, and what EitherForm says of the two holds
@@ -42,10 +42,10 @@ OtherFormIsRead = (a b : List ℕ) → Swapped a b → SamePlace a b
 
 -- ---- "writing back a read coordinate gives its bytes, where zero is written with sign 0": the parts of `formIn` are the bytes
 pub record BackOnTheMap (s : List ℕ) (o : Order) : Type 0 where
-  pub latitude : hasOf s latitudeTag ≡ true → writtenOf latitudeTag mostLatitude (o .setting .coordinates .latitude)
-      ≡ record { refusal = noRefusal; form = asWritten (formIn (valueOf s latitudeTag)) }
-  pub longitude : hasOf s longitudeTag ≡ true → writtenOf longitudeTag mostLongitude (o .setting .coordinates .longitude)
-      ≡ record { refusal = noRefusal; form = asWritten (formIn (valueOf s longitudeTag)) }
+  pub latitude : hasOf s mapLatitudeTag ≡ true → writtenOf mapLatitudeTag mostLatitude (o .setting .coordinates .latitude)
+      ≡ record { refusal = noRefusal; form = asWritten (formIn (valueOf s mapLatitudeTag)) }
+  pub longitude : hasOf s mapLongitudeTag ≡ true → writtenOf mapLongitudeTag mostLongitude (o .setting .coordinates .longitude)
+      ≡ record { refusal = noRefusal; form = asWritten (formIn (valueOf s mapLongitudeTag)) }
 
 abbrev pub ReadIsWrittenBack : Type 0
 ReadIsWrittenBack = (s : List ℕ) (o : Order) → readingOf s ≡ Read o → BackOnTheMap s o

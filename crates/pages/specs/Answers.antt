@@ -33,8 +33,8 @@ pub record CellsCall : Type 0 where
 abbrev pub refusing : Refusal → List ℕ → CellsCall
 refusing r buffer = record { answer = refusedOf r; buffer = buffer }
 
--- the rows that were asked for, at the front; "Here and later, bytes of a lent buffer after what is written stay". "A page that the order
--- lacks gets 5 with place 3", and so does a row.
+-- the rows that were asked for, at the front; "Here and later, bytes of a lent buffer after what is written stay". "A page that the order lacks gets 5
+-- with place 3", and so does a row.
 unfoldable pub putCallOf : Rows → List ℕ → CellsCall
 putCallOf [] buffer = refusing lacksRow buffer
 putCallOf (row ∷ rows) buffer = record { answer = punchedOf (row ∷ rows); buffer = frontOf (cellsOf (row ∷ rows)) buffer }
@@ -55,9 +55,8 @@ oneRow row o = cond (ltb row (o .rows)) (rowOf o row ∷ []) []
 abbrev pub cellsCallOf : List ℕ → ℕ → List ℕ → CellsCall
 cellsCallOf s row buffer = askedCallOf (oneRow row) rowLength s buffer
 
--- ---- a page, or a piece of it. Request 9: "The page call now also takes the page's row to begin at, from 0, puts in as many whole rows as
--- have room and are left, and answers how many and their dots. .. Of scratches only one under 39 gets 9; a row that the page lacks gets 5
--- with place 3."
+-- ---- a page, or a piece of it. Request 9: "The page call now also takes the page's row to begin at, from 0, puts in as many whole rows as have
+-- room and are left, and answers how many and their dots. .. Of scratches only one under 39 gets 9; a row that the page lacks gets 5 with place 3."
 abbrev pub pieceIn : ℕ → ℕ → List ℕ → Order → Rows
 pieceIn page first scratch o = pieceOf (pageOf o page) first (length scratch / rowLength)
 

@@ -21,16 +21,15 @@ pageLength = rowLength * pageRows
 abbrev pub cellsGot : ℕ → ℕ → List ℕ → List ℕ → List ℕ
 cellsGot page first s scratch = take (rowLength * pageCallOf s page first scratch .answer .rows) (pageCallOf s page first scratch .buffer)
 
--- A host's calls on a page: call n is lent the scratch `lent n`, each begins at the row where the last one ended, and they end at 5, place
--- 3. From row `first` on they have got these cells, one call's behind another's, and this total of dots.
+-- A host's calls on a page: call n is lent the scratch `lent n`, each begins at the row where the last one ended, and they end at 5, place 3.
+-- From row `first` on they have got these cells, one call's behind another's, and this total of dots.
 pub data Calls (s : List ℕ) (page : ℕ) (lent : ℕ → List ℕ) : ℕ → ℕ → List ℕ → ℕ → Type 0 where
   ended : {n first : ℕ} → pageCallOf s page first (lent n) .answer .refusal ≡ lacksRow → Calls s page lent n first [] 0
   called : {n first dots : ℕ} {cells : List ℕ} → pageCallOf s page first (lent n) .answer .refusal ≡ noRefusal
       → Calls s page lent (n + 1) (first + pageCallOf s page first (lent n) .answer .rows) cells dots
       → Calls s page lent n first (cellsGot page first s (lent n) ++ cells) (pageCallOf s page first (lent n) .answer .dots + dots)
 
--- of every order that is read the calls from row 0 on end; and on any bytes, however they went, they have got what one call with the whole
--- scratch gives
+-- of every order that is read the calls from row 0 on end; and on any bytes, however they went, they have got what one call with the whole scratch gives
 pub record GiveThePage (s : List ℕ) (page : ℕ) (lent : ℕ → List ℕ) (whole : List ℕ) : Type 0 where
   pub ends : (o : Order) → readingOf s ≡ Read o → (cells : List ℕ) × (dots : ℕ) × Calls s page lent 0 0 cells dots
   pub same : (cells : List ℕ) (dots : ℕ) → Calls s page lent 0 0 cells dots
@@ -42,8 +41,8 @@ PiecesAreThePage =
     (s : List ℕ) (page : ℕ) (lent : ℕ → List ℕ) (whole : List ℕ) → ((n : ℕ) → rowLength ≤ length (lent n)) → pageLength ≤ length whole
     → GiveThePage s page lent whole
 
--- a call from row 0 on with a scratch of 975 bytes or more is what the page call was before request 9: the whole page, every byte of the
--- scratch, and every refusal
+-- a call from row 0 on with a scratch of 975 bytes or more is what the page call was before request 9: the whole page, every byte of the scratch, and
+-- every refusal
 abbrev pub AtOnceAsBefore : Type 0
 AtOnceAsBefore =
     (s : List ℕ) (page : ℕ) (scratch : List ℕ) → pageLength ≤ length scratch

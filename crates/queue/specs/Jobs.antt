@@ -60,8 +60,7 @@ refuses q number id = record { event = refused (refusal number id); queue = q }
 -- "refused by 16 when 16 jobs wait, and by 17 for id 0, an id still waiting or pages outside 1 to 16, with 17 tried first"
 unfoldable pub joinOf : List Job → ℕ → ℕ → QueueStep
 joinOf q id pages =
-    cond (proper id pages && not (waits id q)) (cond (ltb (length q) mostJobs) (admits q id pages) (refuses q queueFull id))
-    (refuses q jobUnfit id)
+    cond (proper id pages && not (waits id q)) (cond (ltb (length q) mostJobs) (admits q id pages) (refuses q queueFull id)) (refuses q jobUnfit id)
 
 -- ---- turn
 -- A job after a page is sent of it. One that has none left, as no calls leave it, sends its last one all the same.

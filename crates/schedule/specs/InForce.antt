@@ -39,8 +39,7 @@ inSecond = 1000000000
 unfoldable pub nanosecondsOf : Instant → ℤ
 nanosecondsOf i = i .seconds *ℤ pos inSecond +ℤ pos (i .nanoseconds)
 
--- an instant is not after another, "ordered by whole seconds, then nanoseconds": its seconds are fewer, or the same and its nanoseconds no
--- more
+-- an instant is not after another, "ordered by whole seconds, then nanoseconds": its seconds are fewer, or the same and its nanoseconds no more
 abbrev pub NotAfter : Instant → Instant → Type 0
 NotAfter j i = (ltZ (j .seconds) (i .seconds) ≡ true) ⊎ ((j .seconds ≡ i .seconds) × (j .nanoseconds ≤ i .nanoseconds))
 

@@ -37,11 +37,9 @@ finalOf p prayer t = roundedOf (p .rounding) (adjustedOf t (timeAdjustmentsOf p 
 
 -- "Tomorrow's Fajr is worked as the next date's, from that date's sun and the night after it; it is adjusted, not rounded."
 unfoldable pub fajrTomorrowOf : Parameters → Season → Date → SolarTime → SolarTime → SolarHour → ℤ
-fajrTomorrowOf p season date tomorrow after hour =
-    nextDayOf (adjustedOf (unadjustedFajrOf p season (tomorrowOf date) tomorrow after hour) (timeAdjustmentsOf p Fajr))
+fajrTomorrowOf p season date tomorrow after hour = nextDayOf (adjustedOf (unadjustedFajrOf p season (tomorrowOf date) tomorrow after hour) (timeAdjustmentsOf p Fajr))
 
--- "Middle of night and qiyam start at rounded maghrib, go 1/2 and 2.0/3.0 (f64) of the seconds to tomorrow's Fajr, cut toward zero, and
--- round to Nearest."
+-- "Middle of night and qiyam start at rounded maghrib, go 1/2 and 2.0/3.0 (f64) of the seconds to tomorrow's Fajr, cut toward zero, and round to Nearest."
 unfoldable pub middleOfTheNightOf : ℤ → ℤ → ℤ
 middleOfTheNightOf maghrib tomorrow = roundedOf Nearest (maghrib +ℤ middleOf (tomorrow -ℤ maghrib))
 

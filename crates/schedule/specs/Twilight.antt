@@ -1,5 +1,5 @@
--- schedule.rs: Fajr and Isha, before their minutes are added. Each is the time of an angle, bounded by a portion of the night or by the
--- season. Times are seconds from 0h of the date.
+-- schedule.rs: Fajr and Isha, before their minutes are added. Each is the time of an angle, bounded by a portion of the night or by the season.
+-- Times are seconds from 0h of the date.
 use mathlib.Core.Bool.{Bool, true, false, _&&_, cond}
 use lib.IntN.{ℤ, pos, _+ℤ_, _-ℤ_, _*ℤ_}
 use lib.Signed.{ltZ}
@@ -66,8 +66,8 @@ bySeventhOf method latitude = le (dec 55 0) latitude && bySeasonOf method
 unfoldable pub ownOf : Method → Float → ℤ → SolarHour → ℤ → ℤ
 ownOf method latitude seventh hour bound = cond (bySeventhOf method latitude) seventh (orOf hour bound)
 
--- Seconds, held at the ends of an i32, so that every sum has its place. An order's are never near those ends (before-source and
--- after-source of schedule_laws); the source panics if a sum leaves chrono's range.
+-- Seconds, held at the ends of an i32, so that every sum has its place. An order's are never near those ends (before-source and after-source of
+-- schedule_laws); the source panics if a sum leaves chrono's range.
 unfoldable pub shortOf : ℤ → ℤ
 shortOf z = cond (ltZ most32 z) most32 (cond (ltZ z least32) least32 z)
 
@@ -75,8 +75,7 @@ shortOf z = cond (ltZ most32 z) most32 (cond (ltZ z least32) least32 z)
 -- from sunrise to its bound
 unfoldable pub beforeSunriseOf : Parameters → Season → Date → ℤ → ℤ
 beforeSunriseOf p season date night =
-    shortOf (cond (bySeasonOf (p .method)) (morningSecondsOf season (ordinalOf date) (date .year))
-    (portionBeforeOf (nightPortionsOf p .fajr) night))
+    shortOf (cond (bySeasonOf (p .method)) (morningSecondsOf season (ordinalOf date) (date .year)) (portionBeforeOf (nightPortionsOf p .fajr) night))
 
 abbrev pub fajrBoundOf : Parameters → Season → Date → SolarTime → ℤ → ℤ
 fajrBoundOf p season date today night = today .sunrise +ℤ beforeSunriseOf p season date night
@@ -92,8 +91,7 @@ unadjustedFajrOf p season date today next hour =
 -- from sunset to its bound
 unfoldable pub afterSunsetOf : Parameters → Season → Date → ℤ → ℤ
 afterSunsetOf p season date night =
-    shortOf (cond (bySeasonOf (p .method)) (eveningSecondsOf season (ordinalOf date) (date .year) (p .shafaq))
-    (portionAfterOf (nightPortionsOf p .isha) night))
+    shortOf (cond (bySeasonOf (p .method)) (eveningSecondsOf season (ordinalOf date) (date .year) (p .shafaq)) (portionAfterOf (nightPortionsOf p .isha) night))
 
 -- "Only the evening season bound is itself rounded (Nearest)."
 unfoldable pub ishaBoundOf : Parameters → Season → Date → SolarTime → ℤ → ℤ

@@ -1,5 +1,5 @@
--- solar.rs: the hour numbers of a day over a place, by the source's calls of corrected_transit and corrected_hour_angle on the sun's
--- position on the day, the day before and the day after.
+-- solar.rs: the hour numbers of a day over a place, by the source's calls of corrected_transit and corrected_hour_angle on the sun's position on
+-- the day, the day before and the day after.
 use mathlib.Core.Bool.{Bool, true, false}
 use lib.Ieee.{Float, neg}
 use Rattle.float64.specs.Ops.{_+ᶠ_, _-ᶠ_, _/ᶠ_, dec}
@@ -25,8 +25,7 @@ pub record Sun : Type 0 where
 
 -- SolarTime::new: `yesterday`, `today` and `tomorrow`, each at 0h
 abbrev pub sunOn : Coordinates → Date → Sun
-sunOn place date =
-    record { place = place; previous = positionOf (yesterdayOf date); today = positionOf date; next = positionOf (tomorrowOf date) }
+sunOn place date = record { place = place; previous = positionOf (yesterdayOf date); today = positionOf date; next = positionOf (tomorrowOf date) }
 
 -- `solar_altitude`: the sun's center is 50 minutes of arc below the horizon at sunrise and sunset
 unfoldable pub solarAltitude : Angle

@@ -3,7 +3,7 @@ use Rattle.prelude.proofs.Logic.{sym, subst, needs}
 use Rattle.map_form.specs.declared.writing.Written.{Written}
 use Rattle.map_form.specs.Hundredths.{mostLatitude}
 use Rattle.map_form.specs.Owed.{Owed}
-use Rattle.map_form.specs.Written.{latitudeTag}
+use Rattle.map_form.specs.Written.{mapLatitudeTag}
 use Rattle.map_form.proofs.NearestLaws.{owed}
 use Rattle.map_form.proofs.writing.write_latitude as this
 
@@ -11,6 +11,6 @@ pub write-latitude-spec : {M : Type 1} → this.Statement.statement M
 write-latitude-spec =
     let returns : this.Tie.Need-returns = λ c. let x = c .before .args .x in (
       c .write .ensures,
-      subst (λ (w : Written). Owed latitudeTag mostLatitude x w) (sym (c .write .ensures)) (owed latitudeTag mostLatitude x),
+      subst (λ (w : Written). Owed mapLatitudeTag mostLatitude x w) (sym (c .write .ensures)) (owed mapLatitudeTag mostLatitude x),
     ) in
     this.Tie.close (this.Tie.spec (λ c κs. search needs) returns)

@@ -3,7 +3,7 @@ use Rattle.prelude.proofs.Logic.{sym, subst, needs}
 use Rattle.map_form.specs.declared.writing.Written.{Written}
 use Rattle.map_form.specs.Hundredths.{mostLongitude}
 use Rattle.map_form.specs.Owed.{Owed}
-use Rattle.map_form.specs.Written.{longitudeTag}
+use Rattle.map_form.specs.Written.{mapLongitudeTag}
 use Rattle.map_form.proofs.NearestLaws.{owed}
 use Rattle.map_form.proofs.writing.write_longitude as this
 
@@ -11,6 +11,6 @@ pub write-longitude-spec : {M : Type 1} → this.Statement.statement M
 write-longitude-spec =
     let returns : this.Tie.Need-returns = λ c. let x = c .before .args .x in (
       c .write .ensures,
-      subst (λ (w : Written). Owed longitudeTag mostLongitude x w) (sym (c .write .ensures)) (owed longitudeTag mostLongitude x),
+      subst (λ (w : Written). Owed mapLongitudeTag mostLongitude x w) (sym (c .write .ensures)) (owed mapLongitudeTag mostLongitude x),
     ) in
     this.Tie.close (this.Tie.spec (λ c κs. search needs) returns)
