@@ -4,10 +4,10 @@ use Rattle.integers.proofs.Ranges.{readBack}
 use Rattle.lines.specs.Lines.{imsakOf, nineOf, columnsOf}
 use Rattle.lines.proofs.row.put_row as this
 
-ten-is : (c : this.Tie.After-ten)
+ten-holds : (c : this.Tie.After-ten)
     → let a = c .before .before .before .before .args in
     c .ten .result ≡ imsakOf (a .ramadan .imsak) (a .times .fajr) ∷ nineOf (a .times)
-ten-is c =
+ten-holds c =
     let a = c .before .before .before .before .args in
     let i = c .before .imsak in
     let known = c .before .before .struct-told .given in
@@ -19,14 +19,14 @@ returns : this.Tie.Need-returns
 unfolding columnsOf
 returns c =
     let put = c .before .before .put-columns .ensures in
-    let is = ten-is (c .before .before .before .before .before .before) in
+    let is = ten-holds (c .before .before .before .before .before .before) in
     simp (c .before .before .before .before .before .if1 .taken) (rw is at (put .0), rw is at (put .1))
 
 returns-2 : this.Tie.Need-returns-2
 unfolding columnsOf
 returns-2 c =
     let put = c .before .before .put-columns2 .ensures in
-    let is = ten-is (c .before .before .before .before .before .before .before) in
+    let is = ten-holds (c .before .before .before .before .before .before .before) in
     simp (c .before .before .before .before .before .before .if1 .left) (rw is at (put .0), rw is at (put .1))
 
 pub put-row-spec : {M : Type 1} → this.Statement.statement M

@@ -1,12 +1,13 @@
 -- `pages::report::write_wear` meets its contract, by the laws of every report.
-use Rattle.prelude.proofs.Logic.{sym, _∙_, lit≤, needs}
+use Rattle.prelude.proofs.Logic.{sym, _∙_, lit≤, needs, now}
 use Rattle.order.proofs.AcceptedLaws.{read-accepted}
 use Rattle.text.proofs.PrintedLaws.{printed-short}
 use Rattle.reports.proofs.ReportsLaws.{report-read, report-refused}
+use Rattle.pages.specs.Reports.{longestWear}
 use Rattle.pages.proofs.report.write_wear as this
 
 returns : this.Tie.Need-returns
-returns c = printed-short _ _ _ (c .if1 .taken)
+returns c = printed-short longestWear _ (now (c .before .before .before .args .buffer)) (c .if1 .taken)
 
 all-dots-requires : this.Tie.Need-all-dots-requires
 all-dots-requires c κs =

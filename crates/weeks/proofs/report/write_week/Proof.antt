@@ -1,12 +1,13 @@
 -- `weeks::report::write_week` meets its contract, by the laws of every report.
-use Rattle.prelude.proofs.Logic.{sym, _∙_, lit≤, needs}
+use Rattle.prelude.proofs.Logic.{sym, _∙_, lit≤, needs, now}
 use Rattle.order.proofs.AcceptedLaws.{read-accepted}
 use Rattle.text.proofs.PrintedLaws.{printed-short}
 use Rattle.reports.proofs.ReportsLaws.{report-read, report-refused}
+use Rattle.weeks.specs.Report.{longestWeek}
 use Rattle.weeks.proofs.report.write_week as this
 
 returns : this.Tie.Need-returns
-returns c = printed-short _ _ _ (c .if1 .taken)
+returns c = printed-short longestWeek _ (now (c .before .before .before .args .buffer)) (c .if1 .taken)
 
 put-report-requires : this.Tie.Need-put-report-requires
 put-report-requires c κs =
