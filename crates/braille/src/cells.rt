@@ -3,6 +3,7 @@ ghost use mathlib.Core.Path.{_≡_};
 ghost use Rattle.braille.specs.Braille.{digitCell};
 ghost use Rattle.braille.specs.Cells.{dayCells, clockMinuteOf, timeCells};
 use calendar::dates::Date;
+use calendar::instants::MINUTES_IN_DAY;
 use calendar::instants::second_of_day;
 
 // Dots 3456.
@@ -25,13 +26,11 @@ pub fn day_cells(date: Date) -> [u8; 3]
     [NUMBER_SIGN, digit(day / 10), digit(day)]
 }
 
-const MINUTES_IN_DAY: u64 = 1440;
-
 // The minute of the day by the clock. Both are taken within the day before they are added, so that no instant and no clock are too large.
 fn minute_of_day(clock: i32, time: i64) -> u64
     ensures { λ r. ⌜ r ≡ clockMinuteOf clock time ⌝ }
 {
-    (second_of_day(time) + second_of_day(clock as i64 * 60)) / 60 % MINUTES_IN_DAY
+    (second_of_day(time) + second_of_day(clock as i64 * 60)) / 60 % MINUTES_IN_DAY as u64
 }
 
 // A blank, the number sign, hour and minute.

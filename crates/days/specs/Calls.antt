@@ -10,6 +10,7 @@ use Rattle.refusals.specs.Refusals.{refusal, outOfRange, instantBeyond, noneInF
 use Rattle.refusals.specs.declared.Refusal.{Refusal}
 use Rattle.calendar.specs.Answers.{rowDateOf}
 use Rattle.calendar.specs.declared.dates.Date.{Date}
+use Rattle.fields.specs.Tags.{rowsTag}
 use Rattle.order.specs.declared.reading.Order.{Order}
 use Rattle.order.specs.declared.reading.Reading.{Reading}
 use Rattle.order.specs.declared.reading.Reading.the-variants as reading
@@ -36,7 +37,7 @@ workDateOf order date = workedAt date (order .setting)
 
 -- "rows count from 0, and a row that the order lacks is 5, place 3"
 abbrev pub lacksRow : Refusal
-lacksRow = refusal outOfRange 3
+lacksRow = refusal outOfRange rowsTag
 
 unfoldable pub workRowOf : Order → ℕ → Worked
 workRowOf order row = cond (ltb row (order .rows)) (workDateOf order (rowDateOf (order .date) row)) (worked.Refused lacksRow)

@@ -2,6 +2,7 @@
 ghost use mathlib.Core.Path.{_≡_};
 ghost use Rattle.days.specs.Calls.{workDateOf, lacksRow, workRowOf, workDayOf};
 use calendar::dates::Date;
+use fields::tags;
 use order::reading::Order;
 use order::reading::Reading;
 use order::reading::read;
@@ -9,9 +10,6 @@ use refusals::OUT_OF_RANGE;
 use refusals::Refusal;
 use schedule::prayer_times::Worked;
 use schedule::rolling::RowSuns;
-
-// The tag of an order's rows: the place of a row that it lacks.
-const ROWS_TAG: u32 = 3;
 
 // A date by the order's setting: the first row of a run of rows.
 pub fn work_date(order: Order, date: Date) -> Worked
@@ -21,10 +19,11 @@ pub fn work_date(order: Order, date: Date) -> Worked
     RowSuns::new(date, setting).work(setting)
 }
 
+// Its place is the tag of an order's rows.
 pub fn lacks_row() -> Refusal
     ensures { λ r. ⌜ r ≡ lacksRow ⌝ }
 {
-    Refusal::new(OUT_OF_RANGE, ROWS_TAG)
+    Refusal::new(OUT_OF_RANGE, tags::ROWS)
 }
 
 // Rows count from 0.

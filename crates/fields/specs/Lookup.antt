@@ -1,4 +1,4 @@
--- Look-up by tag, a second reading of what is collected. Its definitions need not be believed: nothing is defined by them.
+-- Look-up by tag, a second reading of what is collected; nothing is defined by it.
 use Prim.Native.Nat.{ℕ, zero, suc, _+_}
 use mathlib.Core.Path.{_≡_}
 use mathlib.Core.Bool.{true, cond}

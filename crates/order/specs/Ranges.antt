@@ -38,11 +38,14 @@ lastYear = 2199
 abbrev pub dateFits : Date → Bool
 dateFits date = between firstYear lastYear (date .year) && existsOf date
 
-abbrev pub mostRows : ℕ  -- "1 to 250", and of "two bytes, 1 to 400"
+abbrev pub mostRows : ℕ  -- request 4: "two bytes, 1 to 400"
 mostRows = 400
 
+abbrev pub mostInByte : ℕ  -- "rows, 1 byte, 1 to 250"
+mostInByte = 250
+
 abbrev pub mostIn : List ℕ → ℕ
-mostIn v = cond (eqb (length v) 2) mostRows 250
+mostIn v = cond (eqb (length v) 2) mostRows mostInByte
 
 -- "last row by 2199-12-31"; rows count from 0
 unfoldable pub rowsFit : Date → List ℕ → Bool

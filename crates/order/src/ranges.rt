@@ -11,6 +11,7 @@ use super::given::degrees_in;
 use super::given::form_in;
 use super::given::minutes_in;
 use super::given::rows_in;
+use super::reading::MOST_IN_BYTE;
 use super::reading::MOST_ROWS;
 use calendar::dates::Date;
 use fields::numbers::byte;
@@ -27,9 +28,6 @@ use models::adjustments::TimeAdjustment;
 const FIRST_YEAR: u32 = 1900;
 
 const LAST_YEAR: u32 = 2199;
-
-// Rows whose number has one byte, as every order had them once.
-const MOST_IN_ONE_BYTE: u32 = 250;
 
 // The most minutes that a school adds to a prayer or takes from it, those of an Isha interval, and those from UTC to a clock, ahead or
 // behind.
@@ -76,7 +74,7 @@ fn most_in(bytes: &[u8]) -> u32
     if bytes.len() == 2 {
         return MOST_ROWS;
     }
-    MOST_IN_ONE_BYTE
+    MOST_IN_BYTE
 }
 
 // The last row is the one with one less row before it than there are; its year decides, since the last year is allowed to its end. No order

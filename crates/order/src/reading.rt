@@ -33,6 +33,9 @@ use unit::Coordinates;
 // The most rows that an order has.
 pub const MOST_ROWS: u32 = 400;
 
+// The most rows that an order gives in one byte, as every order had them once.
+pub const MOST_IN_BYTE: u32 = 250;
+
 // The tags that an order may not lack.
 const REQUIRED: [u32; 6] = [
     tags::TOWN,

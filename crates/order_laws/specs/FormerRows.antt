@@ -21,7 +21,7 @@ use Rattle.lines.specs.Lines.{nineOf, rowText, refusedDayText}
 use Rattle.models.specs.Chosen.{sourceRules, settingOf}
 use Rattle.models.specs.declared.setting.Setting.{Setting}
 use Rattle.order.specs.Given.{dateIn, degreesIn, parametersIn, noRamadan}
-use Rattle.order.specs.Ranges.{between, lastYear, fitsOf}
+use Rattle.order.specs.Ranges.{between, lastYear, mostInByte, fitsOf}
 use Rattle.order.specs.Reading.{firstFailing, required, tagsFrom, firstOf, readingOf}
 use Rattle.order.specs.declared.reading.Order.{Order}
 use Rattle.order.specs.declared.reading.Reading.{Reading}
@@ -63,7 +63,7 @@ formerCheckOf s = cond (ltb longestOrder (length s)) (refusal fieldCut 0) (forme
 
 -- ---- the ranges: "rows, 1 byte, 1 to 250, last row by 2199-12-31"; those of the other tags are today's
 unfoldable pub formerRowsFit : Date → List ℕ → Bool
-formerRowsFit date v = between 1 250 (byteOf v 0) && leb (rowDateOf date (byteOf v 0 - 1) .year) lastYear
+formerRowsFit date v = between 1 mostInByte (byteOf v 0) && leb (rowDateOf date (byteOf v 0 - 1) .year) lastYear
 
 unfoldable pub formerInRange : Values → ℕ → Bool
 formerInRange v tag = cond (v .has tag) (cond (eqb tag rowsTag) (formerRowsFit (dateIn (v .value dateTag)) (v .value rowsTag)) (fitsOf v tag)) true

@@ -12,6 +12,7 @@ use Rattle.fields.specs.Tags.{townTag, dateTag, rowsTag, latitudeTag, longitude
 use Rattle.fields.specs.Tags.{shafaqTag, minutesTag, fajrAngleTag, ishaAngleTag, ishaIntervalTag, midnightTag, clockTag, southernTag}
 use Rattle.fields.specs.Tags.{ramadanTag, longestTown}
 use Rattle.models.specs.declared.adjustments.TimeAdjustment.{TimeAdjustment}
+use Rattle.order.specs.Ranges.{mostInByte}
 use Rattle.order_numbers.specs.declared.numbers.Choices.{Choices}
 use Rattle.order_numbers.specs.declared.numbers.OrderNumbers.{OrderNumbers}
 use Rattle.order_numbers.specs.Bytes.{byteFor, wordFor, twoBytes, signedBytes, shiftByte, floatBytes, joined}
@@ -26,7 +27,7 @@ dateBytes d = twoBytes (wordFor (d .year)) ++ (byteFor (d .month) ∷ byteFor (d
 
 -- "rows, 1 byte, 1 to 250"; request 4: "its value may now also have two bytes"
 unfoldable pub rowsBytes : ℕ → List ℕ
-rowsBytes n = cond (leb n 250) (n ∷ []) (twoBytes (wordFor n))
+rowsBytes n = cond (leb n mostInByte) (n ∷ []) (twoBytes (wordFor n))
 
 -- "six minutes, Fajr to Isha"
 unfoldable pub minutesBytes : TimeAdjustment → List ℕ

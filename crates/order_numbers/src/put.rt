@@ -17,6 +17,7 @@ use calendar::dates::Date;
 use fields::tags;
 use fields::tags::LONGEST_TOWN;
 use models::adjustments::TimeAdjustment;
+use order::reading::MOST_IN_BYTE;
 use text::put::put;
 
 // The longest order that is written has 157 bytes, and one more if its town is cut.
@@ -24,9 +25,6 @@ pub const LINE_LENGTH: usize = 158;
 
 // A town is cut behind the byte that makes it too long.
 const TOWN_CUT: usize = LONGEST_TOWN as usize + 1;
-
-// The most rows that one byte says.
-const MOST_IN_BYTE: u32 = 250;
 
 // A field of any kind: its header, and its value behind it.
 fn put_field(line: &mut [u8], at: usize, tag: u32, value: &[u8]) -> usize

@@ -104,13 +104,19 @@ module _ (o : Order) where
   no-rows [] e = refl
   no-rows (row ∷ rows) e = absurd (omega arith)
 
+  other-page : (page : ℕ) → (1 ≤ page → pageCount o < page) → pageOf o page ≡ []
+  other-page zero h = no-rows (pageOf o 0) (sym (page-none 0 refl))
+  other-page (suc page) h =
+      let past = h (omega arith) in
+      let e = page-length (suc page) (omega arith) in
+      no-rows (pageOf o (suc page)) (omega arith)
+
   pub pages-hold-the-rows : PagesHoldTheRows o
   pages-hold-the-rows =
       record {
         full = λ page from to. let e = page-length page from in omega arith;
         last = λ some. let e = page-length (pageCount o) (omega arith) in (omega arith, omega arith);
-        none = no-rows (pageOf o 0) (sym (page-none 0 refl));
-        lacking = λ page h. let e = page-length page (omega arith) in no-rows (pageOf o page) (omega arith);
+        none = other-page;
         held = all-cells;
         six = subst SixDots (sym all-cells) (cells-six o 0 (o .rows));
       }

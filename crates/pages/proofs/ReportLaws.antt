@@ -7,7 +7,7 @@ use Rattle.order.proofs.AcceptedLaws.{read-accepted}
 use Rattle.order.specs.declared.reading.Order.{Order}
 use Rattle.reports.proofs.ReportsLaws.{report-fits}
 use Rattle.text.proofs.TextLaws.{put-next, digits-short}
-use Rattle.text.specs.Printed.{printedLength}
+use Rattle.text.specs.Printed.{printedOf}
 use Rattle.text.specs.Text.{ascii, decimalOf, putOf, frontOf}
 use Rattle.pages.specs.Pages.{rowsFrom, cellsOf, allCells}
 use Rattle.pages.specs.Reports.{totalText, wearOf, wearText, cellsText, longestWear, longestCells}
@@ -44,11 +44,11 @@ pub all-length : (o : Order) → length (allCells o) ≡ rowLength * o .rows
 all-length o = ap length (all-cells o) ∙ cells-length o 0 (o .rows)
 
 module _ (s buffer after : List ℕ) (n : ℕ) where
-  pub wear-fits : n ≡ printedLength longestWear (wearText s) buffer → length after ≡ length buffer → n ≤ length after
+  pub wear-fits : n ≡ printedOf longestWear (wearText s) buffer .answer → length after ≡ length buffer → n ≤ length after
   wear-fits = report-fits wearOf longestWear s (λ o e. let t = total-length (dotsOf (allCells o)) _ refl in omega (arith, t .1))
       (lit≤ tt) buffer after n
 
-  pub pages-fit : n ≡ printedLength longestCells (cellsText s) buffer → length after ≡ length buffer → n ≤ length after
+  pub pages-fit : n ≡ printedOf longestCells (cellsText s) buffer .answer → length after ≡ length buffer → n ≤ length after
   pages-fit =
       report-fits allCells longestCells s
       (λ o e. let most = read-accepted s o e .rows .1 in

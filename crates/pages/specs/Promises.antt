@@ -13,8 +13,7 @@ pub record PagesHoldTheRows (o : Order) : Type 0 where
   pub full : (page : ℕ) → 1 ≤ page → page < pageCount o → length (pageOf o page) ≡ pageRows
   pub last : 1 ≤ o .rows → (1 ≤ length (pageOf o (pageCount o))) × (length (pageOf o (pageCount o)) ≡ o .rows - pageRows * (pageCount o - 1))
   -- "pages count from 1"
-  pub none : pageOf o 0 ≡ []
-  pub lacking : (page : ℕ) → pageCount o < page → pageOf o page ≡ []
+  pub none : (page : ℕ) → (1 ≤ page → pageCount o < page) → pageOf o page ≡ []
   pub held : allCells o ≡ cellsOf (rowsOf o)
   -- "the other two bits are 0"
   pub six : SixDots (allCells o)

@@ -4,7 +4,7 @@ ghost use Prim.Native.Nat.{_≤_};
 ghost use lib.ListN.{length};
 ghost use Rattle.braille.specs.Braille.{dotsOf};
 ghost use Rattle.order.specs.Accepted.{Accepted};
-ghost use Rattle.text.specs.Printed.{printedLength, printedBuffer};
+ghost use Rattle.text.specs.Printed.{printedOf};
 ghost use Rattle.text.specs.Text.{frontOf};
 ghost use Rattle.pages.specs.Pages.{allCells};
 ghost use Rattle.pages.specs.Reports.{wearText, totalText, cellsText, longestWear, longestCells};
@@ -45,8 +45,8 @@ fn put_total(buffer: &mut [u8], dots: u32) -> usize
 
 // Returns the length of the text. A buffer under WEAR_BYTES, which might not hold it, is left as it was, and 0 is returned.
 pub fn write_wear(order: &[u8], buffer: &mut [u8]) -> usize
-    ensures { λ r. ⌜ r ≡ printedLength longestWear (wearText (now (order .entry))) (now (buffer .entry)) ⌝ }
-    ensures { λ _. ⌜ now (buffer .exit) ≡ printedBuffer longestWear (wearText (now (order .entry))) (now (buffer .entry)) ⌝ }
+    ensures { λ r. ⌜ r ≡ printedOf longestWear (wearText (now (order .entry))) (now (buffer .entry)) .answer ⌝ }
+    ensures { λ _. ⌜ now (buffer .exit) ≡ printedOf longestWear (wearText (now (order .entry))) (now (buffer .entry)) .buffer ⌝ }
 {
     if buffer.len() < WEAR_BYTES {
         return 0;
@@ -68,8 +68,8 @@ fn put_pages(buffer: &mut [u8], order: Order) -> usize
 
 // Returns how many bytes it wrote. A buffer under CELLS_BYTES, which might not hold them, is left as it was, and 0 is returned.
 pub fn write_pages(order: &[u8], buffer: &mut [u8]) -> usize
-    ensures { λ r. ⌜ r ≡ printedLength longestCells (cellsText (now (order .entry))) (now (buffer .entry)) ⌝ }
-    ensures { λ _. ⌜ now (buffer .exit) ≡ printedBuffer longestCells (cellsText (now (order .entry))) (now (buffer .entry)) ⌝ }
+    ensures { λ r. ⌜ r ≡ printedOf longestCells (cellsText (now (order .entry))) (now (buffer .entry)) .answer ⌝ }
+    ensures { λ _. ⌜ now (buffer .exit) ≡ printedOf longestCells (cellsText (now (order .entry))) (now (buffer .entry)) .buffer ⌝ }
 {
     if buffer.len() < CELLS_BYTES {
         return 0;

@@ -9,7 +9,7 @@ use Rattle.order.specs.Reading.{readingOf}
 use Rattle.refusals.specs.declared.Refusal.{Refusal}
 use Rattle.text.proofs.PrintedLaws.{printed, printed-fits}
 use Rattle.text.proofs.TextLaws.{put-next}
-use Rattle.text.specs.Printed.{printedLength, printedBuffer}
+use Rattle.text.specs.Printed.{printedOf}
 use Rattle.text.specs.Text.{ascii, putOf, frontOf}
 use Rattle.reports.specs.Reports.{reportIn, reportText, longestRefused}
 
@@ -20,13 +20,13 @@ module _ (text : Order → List ℕ) (most : ℕ) (s : List ℕ) where
   -- an order that is read, and one that is refused
   module _ (buffer : List ℕ) (room : most ≤ length buffer) (n : ℕ) (after : List ℕ) where
     pub report-read : (o : Order) → readingOf s ≡ Read o → (n ≡ length (text o)) × (after ≡ frontOf (text o) buffer)
-        → (n ≡ printedLength most (reportText text s) buffer) × (after ≡ printedBuffer most (reportText text s) buffer)
+        → (n ≡ printedOf most (reportText text s) buffer .answer) × (after ≡ printedOf most (reportText text s) buffer .buffer)
     unfolding reportIn
     report-read o e p = rw e (printed most (text o) buffer room n after (p .0) (p .1))
 
     pub report-refused : longestRefused ≤ most → (r : Refusal) → readingOf s ≡ Refused r
         → (n ≡ length (refusedOrderText r)) × (after ≡ putOf buffer 0 (refusedOrderText r))
-        → (n ≡ printedLength most (reportText text s) buffer) × (after ≡ printedBuffer most (reportText text s) buffer)
+        → (n ≡ printedOf most (reportText text s) buffer .answer) × (after ≡ printedOf most (reportText text s) buffer .buffer)
     unfolding reportIn
     report-refused m r e p =
         let l = refused-short r in
@@ -44,6 +44,6 @@ module _ (text : Order → List ℕ) (most : ℕ) (s : List ℕ) where
         by-reading (Refused r) e = let l = refused-short r in omega arith
 
     -- what is answered fits the buffer after the call
-    pub report-fits : (buffer after : List ℕ) (n : ℕ) → n ≡ printedLength most (reportText text s) buffer → length after ≡ length buffer
+    pub report-fits : (buffer after : List ℕ) (n : ℕ) → n ≡ printedOf most (reportText text s) buffer .answer → length after ≡ length buffer
         → n ≤ length after
     report-fits buffer after n e l = let f = printed-fits most (reportText text s) buffer report-length in omega arith

@@ -66,8 +66,7 @@ bySeventhOf method latitude = le (dec 55 0) latitude && bySeasonOf method
 unfoldable pub ownOf : Method → Float → ℤ → SolarHour → ℤ → ℤ
 ownOf method latitude seventh hour bound = cond (bySeventhOf method latitude) seventh (orOf hour bound)
 
--- Seconds, held at the ends of an i32, so that every sum has its place. An order's are never near those ends (before-source and after-source of
--- schedule_laws); the source panics if a sum leaves chrono's range.
+-- Seconds, held at the ends of an i32, so that every sum has its place. No order's are near those ends (schedule_laws, SunSpans.antt).
 unfoldable pub shortOf : ℤ → ℤ
 shortOf z = cond (ltZ most32 z) most32 (cond (ltZ z least32) least32 z)
 

@@ -5,8 +5,8 @@ use Rattle.text.specs.Text.{ascii, decimalOf, putOf, frontOf}
 use Rattle.text.proofs.TextLaws.{put-next, put-nothing, cut-front}
 use Rattle.text.proofs.TextLaws as laws
 use Rattle.refusals.specs.Refusals.{outOfRange, bufferShort}
-use Rattle.sentences.specs.Table.{textOf, nameOf, known, widest, widestName}
-use Rattle.sentences.specs.Rows.{filled, endOf}
+use Rattle.sentences.specs.Table.{textOf, nameOf, known}
+use Rattle.sentences.specs.Rows.{filled, endOf, widest, widestName}
 use Rattle.sentences.specs.Guess.{none, numberIn, placeIn, guessedOf}
 use Rattle.sentences.specs.Sentences.{endsInColon, wordsOf, sentenceOf, written, refusing, sentenceCallOf, meant, noSentence, same}
 use Rattle.sentences.specs.Sentences.{meaningOf}

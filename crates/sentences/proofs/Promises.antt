@@ -10,7 +10,8 @@ use Rattle.refusals.specs.Refusals.{numbers}
 use Rattle.text.specs.Text.{ascii, printable, digitOf, digitsOf, decimalOf, frontOf}
 use Rattle.text.proofs.TextLaws.{cut-front}
 use Rattle.sentences.specs.declared.Meaning.{Meaning}
-use Rattle.sentences.specs.Table.{texts, textOf, nameOf, known, widest, widestName}
+use Rattle.sentences.specs.Rows.{widest, widestName}
+use Rattle.sentences.specs.Table.{texts, textOf, nameOf, known}
 use Rattle.sentences.specs.Guess.{none, numberIn, placeIn, guessedOf}
 use Rattle.sentences.specs.Sentences.{endsInColon, wordsOf, sentenceOf, sentenceCallOf, meant, noSentence, same, amongPlaces}
 use Rattle.sentences.specs.Sentences.{amongNumbers, meaningOf}

@@ -5,6 +5,13 @@ use mathlib.Core.List.{List, [], _∷_}
 use lib.Dec.{eqb}
 use lib.ListN.{getD}
 
+-- the longest that a text can be, and that a name can be: with a blank and ten digits they make a hundred bytes
+abbrev pub widest : ℕ
+widest = 64
+
+abbrev pub widestName : ℕ
+widestName = 25
+
 unfoldable pub filled : ℕ → List ℕ → List ℕ
 filled zero text = []
 filled (suc k) [] = 32 ∷ filled k []

@@ -65,10 +65,3 @@ nameOf tag = getD names tag (ascii " tag")
 
 abbrev pub known : ℕ → Bool
 known n = ltb 0 (length (textOf n))
-
--- the longest that a text can be, and that a name can be: with a blank and ten digits they make a hundred bytes
-abbrev pub widest : ℕ
-widest = 64
-
-abbrev pub widestName : ℕ
-widestName = 25

@@ -4,7 +4,7 @@ ghost use Prim.Native.Nat.{_≤_};
 ghost use lib.ListN.{length, take};
 ghost use Rattle.text.specs.Text.{frontOf};
 ghost use Rattle.sentences.specs.Sentences.{endsInColon, wordsOf, sentenceOf};
-ghost use Rattle.sentences.specs.Table.{widest};
+ghost use Rattle.sentences.specs.Rows.{widest};
 use super::table::WIDEST;
 use super::table::end_of;
 use super::table::name_row;

@@ -1,7 +1,7 @@
 // The words of the refusals, by number and by tag. They are those of specs/Table.antt, each line filled up with blanks.
 ghost use mathlib.Core.Path.{_≡_};
-ghost use Rattle.sentences.specs.Table.{textOf, nameOf, widest};
-ghost use Rattle.sentences.specs.Rows.{filled, endOf};
+ghost use Rattle.sentences.specs.Table.{textOf, nameOf};
+ghost use Rattle.sentences.specs.Rows.{filled, endOf, widest};
 
 // One more than the last number, and than the last tag.
 const NUMBERS: usize = 19;

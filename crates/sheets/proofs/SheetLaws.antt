@@ -4,10 +4,10 @@ use Rattle.order.proofs.AcceptedLaws.{read-accepted}
 use Rattle.order.proofs.ReadingLaws.{read-town}
 use Rattle.order.specs.Reading.{townOf}
 use Rattle.reports.proofs.ReportsLaws.{report-fits}
-use Rattle.sheets.specs.Rows.{headText, linesText, acceptedText, longestSheet, sheetLengthOf}
+use Rattle.sheets.specs.Rows.{headText, linesText, acceptedText, longestSheet, sheetCallOf}
 use Rattle.sheets.proofs.Lengths.{room-enough, head-length, lines-length}
 
-pub answer-fits : (s buffer after : List ℕ) (n : ℕ) → n ≡ sheetLengthOf s buffer → length after ≡ length buffer → n ≤ length after
+pub answer-fits : (s buffer after : List ℕ) (n : ℕ) → n ≡ sheetCallOf s buffer .answer → length after ≡ length buffer → n ≤ length after
 unfolding acceptedText
 answer-fits s =
     report-fits (acceptedText (townOf s)) longestSheet s

@@ -20,7 +20,7 @@ use Rattle.order.specs.Ranges.{mostRows}
 use Rattle.order.specs.Reading.{readingOf, townOf}
 use Rattle.schedule.specs.declared.prayer_times.Worked.{Worked}
 use Rattle.schedule.specs.declared.prayer_times.Worked.the-variants as worked
-use Rattle.text.specs.Printed.{printedLength, printedBuffer}
+use Rattle.text.specs.Printed.{Printed, printedOf}
 use Rattle.text.specs.Text.{ascii, frontOf}
 
 -- ---- a row: what a call returns, and every byte of the lent buffer after it
@@ -82,9 +82,5 @@ headerBytes = 64
 abbrev pub longestSheet : ℕ
 longestSheet = longestTown + headerBytes + fullRow * mostRows
 
--- a buffer that it might not fit is left as it was, and the answer is 0
-abbrev pub sheetLengthOf : List ℕ → List ℕ → ℕ
-sheetLengthOf s buffer = printedLength longestSheet (sheetText s) buffer
-
-abbrev pub sheetBufferOf : List ℕ → List ℕ → List ℕ
-sheetBufferOf s buffer = printedBuffer longestSheet (sheetText s) buffer
+abbrev pub sheetCallOf : List ℕ → List ℕ → Printed
+sheetCallOf s buffer = printedOf longestSheet (sheetText s) buffer

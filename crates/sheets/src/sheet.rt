@@ -6,7 +6,7 @@ ghost use Rattle.fields.specs.Tags.{longestTown};
 ghost use Rattle.lines.specs.Lines.{rowRoom, lineText};
 ghost use Rattle.order.specs.Accepted.{Accepted};
 ghost use Rattle.text.specs.Text.{putOf, frontOf};
-ghost use Rattle.sheets.specs.Rows.{headerText, headText, linesText, acceptedText, longestSheet, sheetLengthOf, sheetBufferOf};
+ghost use Rattle.sheets.specs.Rows.{headerText, headText, linesText, acceptedText, longestSheet, sheetCallOf};
 use calendar::dates::Date;
 use fields::tags::LONGEST_TOWN;
 use hijri::ramadan::Ramadan;
@@ -108,8 +108,8 @@ fn put_accepted(buffer: &mut [u8], town: &[u8], order: Order) -> usize
 
 // Returns the length of the text. A buffer under SHEET_BYTES, which might not hold it, is left as it was, and 0 is returned.
 pub fn write_sheet(order: &[u8], buffer: &mut [u8]) -> usize
-    ensures { λ r. ⌜ r ≡ sheetLengthOf (now (order .entry)) (now (buffer .entry)) ⌝ }
-    ensures { λ _. ⌜ now (buffer .exit) ≡ sheetBufferOf (now (order .entry)) (now (buffer .entry)) ⌝ }
+    ensures { λ r. ⌜ r ≡ sheetCallOf (now (order .entry)) (now (buffer .entry)) .answer ⌝ }
+    ensures { λ _. ⌜ now (buffer .exit) ≡ sheetCallOf (now (order .entry)) (now (buffer .entry)) .buffer ⌝ }
 {
     if buffer.len() < SHEET_BYTES {
         return 0;

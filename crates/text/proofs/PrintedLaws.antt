@@ -1,22 +1,22 @@
 -- A text at the front of a buffer, and that it fits. Assumes nothing.
 use Rattle.prelude.proofs.Logic.{_≡_, refl, Bool, true, false, cond, List, ℕ, _≤_, _<_, arith, ltb, length, ltb-false, lt-ltb, le-ltb}
 use Rattle.text.specs.Text.{frontOf}
-use Rattle.text.specs.Printed.{printedLength, printedBuffer}
+use Rattle.text.specs.Printed.{printedOf}
 
 module _ (longest : ℕ) (text buffer : List ℕ) where
-  pub printed-short : length buffer < longest → (0 ≡ printedLength longest text buffer) × (buffer ≡ printedBuffer longest text buffer)
-  unfolding printedLength printedBuffer
+  pub printed-short : length buffer < longest → (0 ≡ printedOf longest text buffer .answer) × (buffer ≡ printedOf longest text buffer .buffer)
+  unfolding printedOf
   printed-short h = (simp (lt-ltb (length buffer) longest h), simp (lt-ltb (length buffer) longest h))
 
   pub printed : longest ≤ length buffer → (n : ℕ) (after : List ℕ) → n ≡ length text → after ≡ frontOf text buffer
-      → (n ≡ printedLength longest text buffer) × (after ≡ printedBuffer longest text buffer)
-  unfolding printedLength printedBuffer
+      → (n ≡ printedOf longest text buffer .answer) × (after ≡ printedOf longest text buffer .buffer)
+  unfolding printedOf
   printed h n after e f = (simp (le-ltb (length buffer) longest h) e, simp (le-ltb (length buffer) longest h) f)
 
-  pub printed-fits : length text ≤ longest → printedLength longest text buffer ≤ length buffer
-  unfolding printedLength
+  pub printed-fits : length text ≤ longest → printedOf longest text buffer .answer ≤ length buffer
+  unfolding printedOf
   printed-fits h = by-room (ltb (length buffer) longest) refl
     where
-      by-room : (b : Bool) → ltb (length buffer) longest ≡ b → cond b 0 (length text) ≤ length buffer
-      by-room true e = omega arith
-      by-room false e = let r = ltb-false (length buffer) longest e in omega arith
+      by-room : (b : Bool) → ltb (length buffer) longest ≡ b → printedOf longest text buffer .answer ≤ length buffer
+      by-room true e = rw e (omega arith)
+      by-room false e = let r = ltb-false (length buffer) longest e in rw e (omega arith)

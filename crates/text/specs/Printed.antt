@@ -1,5 +1,5 @@
--- A whole text at the front of a lent buffer. A buffer that is shorter than the longest text of its kind stays as it was, and the call
--- returns 0.
+-- A whole text at the front of a lent buffer: what the call returns, and every byte of the buffer after it. A buffer that is shorter than
+-- the longest text of its kind stays as it was, and the call returns 0.
 use Prim.Native.Nat.{ℕ}
 use mathlib.Core.Bool.{cond}
 use mathlib.Core.List.{List}
@@ -7,8 +7,11 @@ use lib.Dec.{ltb}
 use lib.ListN.{length}
 use Rattle.text.specs.Text.{frontOf}
 
-unfoldable pub printedLength : ℕ → List ℕ → List ℕ → ℕ
-printedLength longest text buffer = cond (ltb (length buffer) longest) 0 (length text)
+pub record Printed : Type 0 where
+  pub answer : ℕ
+  pub buffer : List ℕ
 
-unfoldable pub printedBuffer : ℕ → List ℕ → List ℕ → List ℕ
-printedBuffer longest text buffer = cond (ltb (length buffer) longest) buffer (frontOf text buffer)
+unfoldable pub printedOf : ℕ → List ℕ → List ℕ → Printed
+printedOf longest text buffer =
+    cond (ltb (length buffer) longest) (record { answer = 0; buffer = buffer })
+    (record { answer = length text; buffer = frontOf text buffer })

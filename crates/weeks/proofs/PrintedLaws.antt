@@ -2,11 +2,11 @@
 use Rattle.prelude.proofs.Logic.{_≡_, List, ℕ, _-_, _≤_, arith, lit≤, length}
 use Rattle.order.proofs.AcceptedLaws.{read-accepted}
 use Rattle.reports.proofs.ReportsLaws.{report-fits}
-use Rattle.text.specs.Printed.{printedLength}
+use Rattle.text.specs.Printed.{printedOf}
 use Rattle.weeks.specs.Report.{rowMinute, ordersReport, weekText, longestWeek}
 use Rattle.weeks.proofs.ReportLaws.{lines-length}
 
-pub week-fits : (s buffer after : List ℕ) (n : ℕ) → n ≡ printedLength longestWeek (weekText s) buffer → length after ≡ length buffer
+pub week-fits : (s buffer after : List ℕ) (n : ℕ) → n ≡ printedOf longestWeek (weekText s) buffer .answer → length after ≡ length buffer
     → n ≤ length after
 week-fits s =
     report-fits ordersReport longestWeek s

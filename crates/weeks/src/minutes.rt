@@ -6,8 +6,10 @@ ghost use lib.Dec.{eqb};
 ghost use lib.ListN.{length};
 ghost use Rattle.integers.specs.Quotients.{floorQuot};
 ghost use Rattle.order.specs.Accepted.{Accepted};
+ghost use Rattle.order.specs.Ranges.{mostRows};
 ghost use Rattle.weeks.specs.Kept.{minuteFrom, minuteAt};
 ghost use Rattle.weeks.specs.Report.{rowMinute};
+use calendar::instants::MINUTES_IN_DAY;
 use calendar::instants::day_of;
 use calendar::instants::second_of_day;
 use order::reading::MOST_ROWS;
@@ -23,13 +25,11 @@ pub enum Minute {
     Nothing,
 }
 
-const MINUTES_IN_DAY: i64 = 1440;
-
 // Whole minutes, rounded down, also below zero.
 fn whole_minutes(seconds: i64) -> i64
     ensures { λ r. ⌜ r ≡ floorQuot seconds 60 ⌝ }
 {
-    day_of(seconds) * MINUTES_IN_DAY + (second_of_day(seconds) / 60) as i64
+    day_of(seconds) * MINUTES_IN_DAY as i64 + (second_of_day(seconds) / 60) as i64
 }
 
 fn store(fajr: FajrAlone, row: usize, minutes: &mut [i64], refused: &mut [bool])
@@ -48,7 +48,7 @@ fn store(fajr: FajrAlone, row: usize, minutes: &mut [i64], refused: &mut [bool])
 
 // Works the rows of an order. Each row takes over what it can from the one before it.
 pub fn work_minutes(order: Order, minutes: &mut [i64], refused: &mut [bool])
-    requires { ⌜ Accepted order × (length (now minutes) ≡ 400) × (length (now refused) ≡ 400) ⌝ }
+    requires { ⌜ Accepted order × (length (now minutes) ≡ mostRows) × (length (now refused) ≡ mostRows) ⌝ }
     ensures { λ _. ⌜ ((k : ℕ) → k < order .rows → minuteAt (now (minutes .exit)) (now (refused .exit)) k ≡ rowMinute order k) ⌝ }
 {
     let setting = order.setting;
@@ -70,7 +70,7 @@ pub fn work_minutes(order: Order, minutes: &mut [i64], refused: &mut [bool])
 }
 
 pub fn minute_at(minutes: &[i64; ROWS], refused: &[bool; ROWS], row: usize) -> Minute
-    requires { ⌜ row < 400 ⌝ }
+    requires { ⌜ row < mostRows ⌝ }
     ensures { λ r. ⌜ r ≡ minuteAt (now (minutes .entry)) (now (refused .entry)) row ⌝ }
 {
     if refused[row] {

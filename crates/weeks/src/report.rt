@@ -3,7 +3,8 @@ ghost use mathlib.Core.Path.{_≡_};
 ghost use Prim.Native.Nat.{_≤_};
 ghost use lib.ListN.{length};
 ghost use Rattle.order.specs.Accepted.{Accepted};
-ghost use Rattle.text.specs.Printed.{printedLength, printedBuffer};
+ghost use Rattle.order.specs.Ranges.{mostRows};
+ghost use Rattle.text.specs.Printed.{printedOf};
 ghost use Rattle.text.specs.Text.{frontOf};
 ghost use Rattle.weeks.specs.Kept.{minuteAt};
 ghost use Rattle.weeks.specs.Lines.{reportOf};
@@ -30,7 +31,7 @@ fn put_windows(
     refused: &[bool; ROWS],
     rows: usize,
 ) -> usize
-    requires { ⌜ (rows ≤ 400) × (longestWeek ≤ length (now buffer)) ⌝ }
+    requires { ⌜ (rows ≤ mostRows) × (longestWeek ≤ length (now buffer)) ⌝ }
     ensures { λ r. ⌜ r ≡ length (reportOf (minuteAt (now (minutes .entry)) (now (refused .entry))) rows) ⌝ }
     ensures { λ _.
         ⌜ now (buffer .exit) ≡ frontOf (reportOf (minuteAt (now (minutes .entry)) (now (refused .entry))) rows) (now (buffer .entry)) ⌝ }
@@ -58,8 +59,8 @@ fn put_report(buffer: &mut [u8], order: Order) -> usize
 
 // Returns the length of the text, which may be 0. A buffer under WEEK_BYTES, which might not hold it, is left as it was, and 0 is returned.
 pub fn write_week(order: &[u8], buffer: &mut [u8]) -> usize
-    ensures { λ r. ⌜ r ≡ printedLength longestWeek (weekText (now (order .entry))) (now (buffer .entry)) ⌝ }
-    ensures { λ _. ⌜ now (buffer .exit) ≡ printedBuffer longestWeek (weekText (now (order .entry))) (now (buffer .entry)) ⌝ }
+    ensures { λ r. ⌜ r ≡ printedOf longestWeek (weekText (now (order .entry))) (now (buffer .entry)) .answer ⌝ }
+    ensures { λ _. ⌜ now (buffer .exit) ≡ printedOf longestWeek (weekText (now (order .entry))) (now (buffer .entry)) .buffer ⌝ }
 {
     if buffer.len() < WEEK_BYTES {
         return 0;

@@ -1,6 +1,7 @@
 // Seven successive rows, looked through one by one: the earliest and the latest Fajr, and the first row that has each.
 ghost use mathlib.Core.Path.{_≡_};
 ghost use Prim.Native.Nat.{_+_, _≤_};
+ghost use Rattle.order.specs.Ranges.{mostRows};
 ghost use Rattle.weeks.specs.Kept.{minuteAt};
 ghost use Rattle.weeks.specs.Windows.{beginOf, earlierIn, laterIn, seenOf, windowOf};
 use super::minutes::Minute;
@@ -77,7 +78,7 @@ impl Window {
 
     // The seven rows from `first` on.
     pub fn new(minutes: &[i64; ROWS], refused: &[bool; ROWS], first: usize) -> Window
-        requires { ⌜ first + 7 ≤ 400 ⌝ }
+        requires { ⌜ first + 7 ≤ mostRows ⌝ }
         ensures { λ r. ⌜ r ≡ windowOf (minuteAt (now (minutes .entry)) (now (refused .entry))) first ⌝ }
     {
         let mut window = Window::begin(first, minute_at(minutes, refused, first));
