@@ -4,6 +4,7 @@ use mathlib.Core.List.{List, [], _∷_, _++_}
 use lib.IntN.{ℤ, pos, _+ℤ_, _*ℤ_}
 use lib.ListN.{replicate}
 use Rattle.integers.specs.Quotients.{floorQuot, floorRem}
+use Rattle.calendar.specs.Days.{minutesInDay}
 use Rattle.calendar.specs.declared.dates.Date.{Date}
 use Rattle.schedule.specs.declared.prayer_times.PrayerTimes.{PrayerTimes}
 use Rattle.schedule.specs.declared.prayer_times.Worked.{Worked}
@@ -20,9 +21,6 @@ twoCells n = digitCell (n / 10) ∷ digitCell n ∷ []
 -- "number sign, two digits of the day", the row's own date's
 unfoldable pub dayCells : Date → List ℕ
 dayCells date = numberSign ∷ twoCells (date .day)
-
-abbrev minutesInDay : ℕ
-minutesInDay = 1440
 
 -- the clock's minutes are "added to the UTC instant before the hour is taken; seconds are dropped", down, also before 1970
 unfoldable pub clockMinuteOf : ℤ → ℤ → ℕ

@@ -73,3 +73,7 @@ dateOfDayOf day = dateAtOf (P (day +ℤ pos 719528))
 -- 0 is Sunday; 1970-01-01 was a Thursday
 unfoldable pub weekdayOf : ℤ → ℕ
 weekdayOf day = (floorRem day 7 + 4) % 7
+
+-- ---- the parts of a day
+abbrev pub minutesInDay : ℕ
+minutesInDay = 1440

@@ -1,6 +1,6 @@
 -- Document 01, "What each call owes": what each call returns for the bytes of an order, a row and an instant. "Buffer and instant are
 -- checked before anything else in their calls. Then the order is read, then the row .. Then comes the day, then 11."
-use Prim.Native.Nat.{ℕ}
+use Prim.Native.Nat.{ℕ, _-_}
 use mathlib.Core.Bool.{Bool, _&&_, cond}
 use mathlib.Core.List.{List}
 use lib.Dec.{ltb, leb}
@@ -22,7 +22,7 @@ use Rattle.schedule.specs.declared.in_force.Remaining.{Remaining}
 use Rattle.schedule.specs.declared.in_force.Remaining.the-variants as remaining
 use Rattle.schedule.specs.declared.prayer_times.Worked.{Worked}
 use Rattle.schedule.specs.declared.prayer_times.Worked.the-variants as worked
-use Rattle.schedule.specs.InForce.{currentTimeOf, nextOf, timeRemainingOf}
+use Rattle.schedule.specs.InForce.{inSecond, currentTimeOf, nextOf, timeRemainingOf}
 use Rattle.schedule.specs.Times.{workedAt}
 use Rattle.days.specs.declared.in_force.InForce.{InForce}
 use Rattle.days.specs.declared.in_force.InForce.the-variants as force
@@ -62,7 +62,7 @@ abbrev pub mostSeconds : ℤ
 mostSeconds = pos 1000000000000
 
 abbrev pub mostNanoseconds : ℕ
-mostNanoseconds = 999999999
+mostNanoseconds = inSecond - 1
 
 unfoldable pub instantFits : Instant → Bool
 instantFits i = leZ leastSeconds (i .seconds) && leZ (i .seconds) mostSeconds && leb (i .nanoseconds) mostNanoseconds

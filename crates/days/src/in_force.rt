@@ -9,6 +9,7 @@ use refusals::NONE_IN_FORCE;
 use refusals::Refusal;
 use schedule::in_force::Current;
 use schedule::in_force::HoursMinutes;
+use schedule::in_force::IN_SECOND;
 use schedule::in_force::Instant;
 use schedule::in_force::Remaining;
 use schedule::prayer_times::PrayerTimes;
@@ -35,7 +36,7 @@ const LEAST_SECONDS: i64 = -1000000000000;
 
 const MOST_SECONDS: i64 = 1000000000000;
 
-const MOST_NANOSECONDS: u32 = 999999999;
+const MOST_NANOSECONDS: u32 = IN_SECOND as u32 - 1;
 
 fn instant_fits(seconds: i64, nanoseconds: u32) -> bool
     ensures { λ r. ⌜ r ≡ instantFits (instantOf seconds nanoseconds) ⌝ }

@@ -2,7 +2,8 @@
 use Rattle.prelude.proofs.Logic.{_≡_, refl, sym, ap, _∙_, Bool, true, false, false≢true, true≢false, _&&_, _||_, inl, inr, ℕ, _+_, _-_, _*_}
 use Rattle.prelude.proofs.Logic.{_/_, _%_, _^_, _≤_, mul-pos, eq-zero-or-pos, zero-mul, zero-div, arith, ltb, eqb, ℤ, eq-eqb, ltb-true}
 use Rattle.prelude.proofs.Logic.{ltb-false, eqb-true, cases}
-use Rattle.float64.proofs.Floats.{Float, nan, inf, fin, up, down, up-pos, neg, le, lt, toBits, size, ofBits, absOf, highOf}
+use Rattle.float64.proofs.Floats.{Float, nan, inf, fin, up, down, up-pos, neg, le, lt, toBits, size, round, ofBits, absOf, highOf}
+use Rattle.float64.specs.Ops.{bits, dec}
 use Rattle.fdlibm_trig.specs.KTan.{zero}
 use Rattle.fdlibm_trig.specs.Trig.{seventy}
 
@@ -31,8 +32,12 @@ between-limits n d (fin false m e) = rw (low-high (n * up d * down e) (m * up e 
 between-limits n d (fin true m e) =
     rw (low-high (m * up e * down d) (n * up d * down e), same (m * up e * down d) (n * up d * down e)) (and-true _)
 
-pub within-seventy : (x : Float) → le (absOf x) seventy ≡ (le (neg seventy) x && le x seventy)
-unfolding ofBits neg
+-- as the code holds it
+abbrev held : Float
+held = bits 0x4051_8000_0000_0000
+
+pub within-seventy : (x : Float) → le (absOf x) seventy ≡ (le (neg held) x && le x held)
+unfolding dec round ofBits neg
 within-seventy x = between-limits _ _ x
 
 pub negative-size : (x : Float) → lt x zero ≡ true → absOf x ≡ neg x

@@ -1,9 +1,9 @@
--- s_sin.c, s_cos.c and s_tan.c. Beyond 70 radians in size, where fdlibm goes on to its large case, they are NaN here.
+-- s_sin.c, s_cos.c and s_tan.c. "sin, cos and tan are NaN for arguments beyond 70 radians in size".
 use Prim.Native.Nat.{ℕ, _+_, _%_}
 use mathlib.Core.Bool.{true, false, cond}
 use lib.Dec.{leb, eqb}
 use lib.Ieee.{Float, nan, neg, le}
-use Rattle.float64.specs.Ops.{bits}
+use Rattle.float64.specs.Ops.{dec}
 use Rattle.float64.specs.Sizes.{absOf}
 use Rattle.float64.specs.Words.{highOf}
 use Rattle.fdlibm_trig.specs.declared.s_sincos.Both.{Both}
@@ -13,7 +13,7 @@ use Rattle.fdlibm_trig.specs.KTan.{kernelTanOf, zero}
 use Rattle.fdlibm_trig.specs.RemPio2.{remPio2Of}
 
 abbrev pub seventy : Float
-seventy = bits 0x4051_8000_0000_0000
+seventy = dec 70 0
 
 -- the sine of n quarter turns and y0 + y1
 unfoldable pub quarterTurnsOf : ℕ → Float → Float → Float

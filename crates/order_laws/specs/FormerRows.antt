@@ -13,7 +13,7 @@ use Rattle.refusals.specs.Refusals.{refusal, noRefusal, fieldCut, fieldUnknown,
 use Rattle.refusals.specs.declared.Refusal.{Refusal}
 use Rattle.calendar.specs.Answers.{rowDateOf}
 use Rattle.calendar.specs.declared.dates.Date.{Date}
-use Rattle.fields.specs.Fields.{lengthAt, nextFieldAt, longestOrder}
+use Rattle.fields.specs.Fields.{headerLength, lengthAt, nextFieldAt, longestOrder}
 use Rattle.fields.specs.Numbers.{byteOf}
 use Rattle.fields.specs.Tags.{townTag, dateTag, rowsTag, latitudeTag, longitudeTag, midnightTag, tags, lastTag, lengthFits}
 use Rattle.fields.specs.Values.{valueOf, Values, valuesOf}
@@ -21,7 +21,7 @@ use Rattle.lines.specs.Lines.{nineOf, rowText, refusedDayText}
 use Rattle.models.specs.Chosen.{sourceRules, settingOf}
 use Rattle.models.specs.declared.setting.Setting.{Setting}
 use Rattle.order.specs.Given.{dateIn, degreesIn, parametersIn, noRamadan}
-use Rattle.order.specs.Ranges.{between, lastYear, mostInByte, fitsOf}
+use Rattle.order.specs.Ranges.{between, lastYear, fitsOf}
 use Rattle.order.specs.Reading.{firstFailing, required, tagsFrom, firstOf, readingOf}
 use Rattle.order.specs.declared.reading.Order.{Order}
 use Rattle.order.specs.declared.reading.Reading.{Reading}
@@ -38,18 +38,18 @@ abbrev pub formerLast : ℕ
 formerLast = 14
 
 unfoldable pub formerLengthFits : ℕ → ℕ → Bool
-formerLengthFits tag n = cond (eqb tag 3) (eqb n 1) (lengthFits tag n)
+formerLengthFits tag n = cond (eqb tag rowsTag) (eqb n 1) (lengthFits tag n)
 
 -- "header cut, unknown tag, tag again, wrong length, value cut"
 unfoldable pub formerFaultOf : List ℕ → (seen : List Bool) → ℕ → ℕ
 formerFaultOf s seen at =
     let tag = byteOf s at in
     let n = lengthAt s at in
-    cond (ltb (length s - at) 3) fieldCut
+    cond (ltb (length s - at) headerLength) fieldCut
     (cond (not (between 1 formerLast tag)) fieldUnknown
     (cond (getD seen tag false) fieldAgain
     (cond (not (formerLengthFits tag n)) fieldUnknown
-    (cond (ltb (length s - at - 3) n) fieldCut 0))))
+    (cond (ltb (length s - at - headerLength) n) fieldCut 0))))
 
 unfoldable pub formerWalkOf : ℕ → List ℕ → (seen : List Bool) → ℕ → Refusal
 formerWalkOf zero s seen at = noRefusal
@@ -63,7 +63,7 @@ formerCheckOf s = cond (ltb longestOrder (length s)) (refusal fieldCut 0) (forme
 
 -- ---- the ranges: "rows, 1 byte, 1 to 250, last row by 2199-12-31"; those of the other tags are today's
 unfoldable pub formerRowsFit : Date → List ℕ → Bool
-formerRowsFit date v = between 1 mostInByte (byteOf v 0) && leb (rowDateOf date (byteOf v 0 - 1) .year) lastYear
+formerRowsFit date v = between 1 250 (byteOf v 0) && leb (rowDateOf date (byteOf v 0 - 1) .year) lastYear
 
 unfoldable pub formerInRange : Values → ℕ → Bool
 formerInRange v tag = cond (v .has tag) (cond (eqb tag rowsTag) (formerRowsFit (dateIn (v .value dateTag)) (v .value rowsTag)) (fitsOf v tag)) true

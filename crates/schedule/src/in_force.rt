@@ -14,7 +14,7 @@ use models::prayer::Prayer;
 use std::num::nearest_u64_to_f64;
 
 // The nanoseconds of a second.
-const IN_SECOND: u64 = 1000000000;
+pub const IN_SECOND: u64 = 1000000000;
 
 // One nanosecond of a second makes it count, so that a quotient is rounded up.
 const ALL_BUT_ONE: u64 = IN_SECOND - 1;

@@ -24,4 +24,5 @@ returns c =
 
 pub whole-minutes-spec : {M : Type 1} → this.Statement.statement M
 whole-minutes-spec =
-    this.Tie.close (this.Tie.spec (λ c κs. search needs) mul-result (λ c κs. search needs) (λ c. search needs) add-result returns)
+    this.Tie.close
+    (this.Tie.spec (λ c κs. search needs) (λ c. search needs) mul-result (λ c κs. search needs) (λ c. search needs) add-result returns)
