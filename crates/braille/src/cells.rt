@@ -30,7 +30,7 @@ pub fn day_cells(date: Date) -> [u8; 3]
 fn minute_of_day(clock: i32, time: i64) -> u64
     ensures { λ r. ⌜ r ≡ clockMinuteOf clock time ⌝ }
 {
-    (second_of_day(time) + second_of_day(clock as i64 * 60)) / 60 % MINUTES_IN_DAY as u64
+    (second_of_day(time) + second_of_day(clock as i64 * 60)) / 60 % MINUTES_IN_DAY
 }
 
 // A blank, the number sign, hour and minute.

@@ -4,7 +4,7 @@ ghost use Rattle.integers.specs.Quotients.{floorQuot, floorRem};
 use integers::parts::above;
 use integers::parts::below;
 
-pub const MINUTES_IN_DAY: u32 = 1440;
+pub const MINUTES_IN_DAY: u64 = 1440;
 
 // The number of its day: rounded down, also before 1970.
 pub fn day_of(seconds: i64) -> i64
