@@ -1,4 +1,4 @@
--- s_sin.c, s_cos.c and s_tan.c. Beyond 70 radians in size, where fdlibm goes on to its large case, they are NaN here.
+-- s_sin.c, s_cos.c and s_tan.c. Beyond 70 radians in size they are NaN here; fdlibm goes on.
 use Prim.Native.Nat.{ℕ, _+_, _%_}
 use mathlib.Core.Bool.{true, false, cond}
 use lib.Dec.{leb, eqb}
