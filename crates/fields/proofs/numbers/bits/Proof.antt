@@ -1,4 +1,4 @@
--- `fields::numbers::bits` meets its contract. Invariant: x is the number that the first i bytes write, and has at most 8 i bits.
+-- Invariant: x is the number that the first i bytes write, and has at most 8 i bits.
 use Rattle.prelude.proofs.Logic.{_≡_, ap, _∙_, ℕ, _≤_, _<_, _-_, _*_, _^_, arith, needs, now}
 use Rattle.fields.specs.Numbers.{bytesNumberOf, bitsOf}
 use Rattle.fields.proofs.Joining.{join-on, shift-in, shift-room}

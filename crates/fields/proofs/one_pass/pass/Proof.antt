@@ -1,4 +1,4 @@
--- `fields::one_pass::pass` meets its contract. The invariant: with what was collected, which tells the tags seen, both passes of the
+-- Invariant: with what was collected, which tells the tags seen, both passes of the
 -- definition give from here on what they give from the start.
 use Rattle.prelude.proofs.Logic.{_≡_, sym, ap, _∙_, ℕ, _-_, arith, length, needs, now}
 use Rattle.refusals.specs.Refusals.{refusal}

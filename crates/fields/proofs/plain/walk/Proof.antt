@@ -1,4 +1,4 @@
--- `fields::plain::walk` meets its contract. The invariant: with the tags seen, the definition gives from here on what it gives from the
+-- Invariant: with the tags seen, the definition gives from here on what it gives from the
 -- start.
 use Rattle.prelude.proofs.Logic.{_≡_, sym, ap, _∙_, ℕ, _-_, arith, length, needs, now}
 use Rattle.refusals.specs.Refusals.{refusal}

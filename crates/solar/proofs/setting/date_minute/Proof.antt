@@ -1,4 +1,4 @@
--- `solar::setting::date_minute` meets its contract: the nearest minute if minutes and seconds lie between 0 and 60.
+-- The nearest minute if minutes and seconds lie between 0 and 60.
 use Rattle.prelude.proofs.Logic.{sym, needs}
 use lib.Ieee.{round, ofBits}
 use Rattle.float64.specs.Ops.{dec}
