@@ -1,5 +1,4 @@
--- Invariant: with the tags seen, the definition gives from here on what it gives from the
--- start.
+-- Invariant: with the tags seen, the definition gives from here on what it gives from the start.
 use Rattle.prelude.proofs.Logic.{_≡_, sym, ap, _∙_, ℕ, _-_, arith, length, needs, now}
 use Rattle.refusals.specs.Refusals.{refusal}
 use Rattle.fields.specs.Fields.{faultOf}

@@ -1,4 +1,4 @@
--- Two bytes.
+-- A test for each of the two bytes.
 use Rattle.order.specs.Ranges.{ramadanFits}
 use Rattle.order.proofs.ranges.ramadan_fits as this
 

@@ -1,4 +1,4 @@
--- The latitude first.
+-- The latitude is checked first.
 use Rattle.prelude.proofs.Logic.{sym}
 use Rattle.order.specs.Reading.{bothFormsOf}
 use Rattle.order.proofs.reading.both_forms as this
