@@ -57,7 +57,7 @@ unfoldable pub lastBy : ℕ → ℕ → ℕ
 lastBy zero n = 0
 lastBy (suc y) n = cond (leb (daysBeforeYearOf (suc y)) n) (suc y) (lastBy y n)
 
--- the year of the day n days after 0000-01-01. A year has at least 365 days, so it is at most n / 365
+-- the year of the day n days after 0000-01-01. It is at most n / 365, because a year has at least 365 days
 unfoldable pub yearOf : ℕ → ℕ
 yearOf n = lastBy (n / 365) n
 

@@ -14,7 +14,7 @@ pub record CalendarIsGregorian : Type 0 where
   -- day 0 is 1970-01-01; the day after a date exists, and its number is one more
   pub zero : dayNumberOf (dateOf 1970 1 1) ≡ pos 0
   pub next : (d : Date) → existsOf d ≡ true → (existsOf (dayAfterOf d) ≡ true) × (dayNumberOf (dayAfterOf d) ≡ dayNumberOf d +ℤ pos 1)
-  -- the day before undoes the day after; 0000-01-01 alone has none
+  -- the day before undoes the day after; only 0000-01-01 has no day before
   pub before : (d : Date) → existsOf d ≡ true → dayBeforeOf (dayAfterOf d) ≡ d
   pub after : (d : Date) → existsOf d ≡ true → (d ≡ dateOf 0 1 1 → ⊥) → (existsOf (dayBeforeOf d) ≡ true) × (dayAfterOf (dayBeforeOf d) ≡ d)
   -- from date to number and back; every day from 0000-01-01 on has a date

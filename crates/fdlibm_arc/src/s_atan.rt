@@ -1,5 +1,5 @@
 // s_atan.c: the arctangent. Below 7/16 it is the odd polynomial of degree 23,
-//     atan x ~ x - x (A0 x^2 + .. + A10 x^22);
+//     atan x ~ x - x (A0 x^2 + .. + A10 x^22).
 // From 7/16 on it uses the arctangent of b, the nearest of 1/2, 1, 3/2 and ∞:
 //     atan t = atan b + atan ((t - b) / (1 + t b)).
 ghost use mathlib.Core.Path.{_≡_};

@@ -1,5 +1,5 @@
--- No other float is as near to the exact root, said of whole numbers alone: how `sqrtOf` rounds need not be believed. The unit of a size is
--- the smallest float, 2 ^ -1074. If x has the size a, the exact root has the size √(a * 2 ^ 1074).
+-- No other float is as near to the exact root. This is said of whole numbers alone, so a reader need not trust how `sqrtOf` rounds. The
+-- unit of a size is the smallest float, 2 ^ -1074. If x has the size a, the exact root has the size √(a * 2 ^ 1074).
 use Prim.Native.Nat.{ℕ, _+_, _*_, _^_, _<_}
 use mathlib.Core.Bool.{false}
 use lib.Dec.{T}

@@ -21,7 +21,7 @@ withSign x = cond (ltb x 32768) (pos x) (pos x -ℤ pos 65536)
 unfoldable pub signedAtOf : List ℕ → ℕ → ℤ
 signedAtOf v at = withSign (unsignedOf v at)
 
--- the number that the first bytes write
+-- the number that the first n bytes write
 unfoldable pub bytesNumberOf : ℕ → List ℕ → ℕ
 bytesNumberOf zero v = 0
 bytesNumberOf (suc k) v = bytesNumberOf k v * 256 + byteOf v k

@@ -6,7 +6,7 @@ ghost use lib.Ieee.{lt, neg};
 ghost use Rattle.float64.specs.Ops.{bits};
 ghost use Rattle.float64.specs.Whole.{floorOf, truncOf, roundOf};
 
-// 2^52. From here on a float has no fraction, so to add it to x and subtract it again leaves a whole number next to x.
+// 2^52. From here on a float has no fraction, so adding it to x and subtracting it again leaves a whole number next to x.
 const WHOLE: f64 = 4503599627370496.0;
 
 // The whole part of x > 0. The test's 0 or 1 is subtracted: a branch on it would be mispredicted half of the time.

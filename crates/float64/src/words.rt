@@ -31,7 +31,7 @@ pub fn high_word(x: f64) -> u32
     }
 }
 
-// x with its low word cleared: the product of two such numbers is exact.
+// x with its low word cleared. The product of two of these numbers is exact.
 pub fn cut(x: f64) -> f64
     ensures { λ r. ⌜ r ≡ lowClearedOf x ⌝ }
 {

@@ -86,7 +86,7 @@ owed tag most x =
       outside = λ h. rw h refl;
     }
 
--- parts in their limits that make the same count are the same
+-- parts in their limits with the same sign and the same count are the same
 parts-of : (most : ℕ) (f g : MapForm) → formFits most f ≡ true → formFits most g ≡ true → f .sign ≡ g .sign → sizeOf f ≡ sizeOf g → f ≡ g
 parts-of most f g p q s e =
     let a = fits most f p in

@@ -15,7 +15,7 @@ use Rattle.models.specs.Builder.{chosenOf, numberedOf}
 use Rattle.models.specs.Minutes.{sixMinutesOf}
 use Rattle.models.specs.Settings.{parametersNewOf}
 
--- the Fajr, Isha and Maghrib angles in tenths of a degree, the Isha interval, its minutes and rounding; Parameters::new gives the rest
+-- a method's Fajr, Isha and Maghrib angles in tenths of a degree, its Isha interval, minutes and rounding; Parameters::new gives the rest
 unfoldable pub preset : Method → ℕ → ℕ → ℕ → ℕ → TimeAdjustment → Rounding → Parameters
 unfolding dec parametersNewOf
 preset method fajr isha maghrib interval minutes rounding =

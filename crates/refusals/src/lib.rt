@@ -3,7 +3,7 @@
 ghost use mathlib.Core.Path.{_≡_};
 ghost use Rattle.refusals.specs.Refusals.{refusal, noRefusal, orOf};
 
-// The order has over 1,024 bytes (place 0), or a field is cut (its offset).
+// The order has over 1,024 bytes: 0. A field is cut: its offset.
 pub const FIELD_CUT: u32 = 1;
 
 // A tag is not in the table, or its value can't have the field's length: the field's offset.

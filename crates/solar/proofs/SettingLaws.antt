@@ -1,4 +1,4 @@
--- The range of the times of `setting_hour`: from 0h of yesterday to 24h of tomorrow, for every hour number. Assumes nothing.
+-- The range of the times of `setting_hour`: from 0h of yesterday to 24h of tomorrow, if the hour number has a time. Assumes nothing.
 use Rattle.prelude.proofs.Logic.{_≡_, refl, Bool, true, false, cond, ℕ, _+_, _*_, _≤_, _<_, arith, ltb, lit≤, ℤ, pos, _-ℤ_, ltb-true}
 use Rattle.float64.proofs.Floats.{Float, lt, dec, isNormalOf, floorOf}
 use Rattle.integers.proofs.Integers.{Between, difference, by-balance}
