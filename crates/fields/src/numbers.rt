@@ -1,4 +1,5 @@
-// The numbers that bytes write, high byte first. A byte past the end counts as 0, so no caller has to prove that an index is in range.
+// The numbers that bytes write, high byte first. A byte past the end counts as 0: every call has a result, and no caller has to prove that
+// an index is in range.
 ghost use mathlib.Core.Path.{_≡_};
 ghost use Prim.Native.Nat.{_<_};
 ghost use Rattle.fields.specs.Numbers.{byteOf, unsignedOf, signedAtOf, bitsOf, floatOf};

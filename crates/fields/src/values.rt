@@ -1,4 +1,5 @@
-// The part of the order that is a tag's value, by tag. After the fields are collected, reading uses nothing else.
+// What an order's fields give: by tag, the part of the order that is the tag's value. After the fields are collected, reading uses nothing
+// else.
 ghost use mathlib.Core.Path.{_≡_};
 ghost use Rattle.fields.specs.Values.{noFields, hasIn, partFor, partIn, valuesIn};
 use super::tags::TAGS;

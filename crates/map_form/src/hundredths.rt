@@ -18,9 +18,8 @@ fn scaled(m: u64) -> u64
     m / 1048576 * 360000 + m % 1048576 * 360000 / 1048576
 }
 
-// The count nearest to |x| * 360,000; a half goes up. |x| is m / 2^s with s = 1075 - e, so twice that product is
-// m * 360,000 / 2^20 / 2^(s - 21). Its whole part plus one is halved. Below 2^-23 the count is 0. The e of 180 is 1030, so the shift is
-// from 24 to 54.
+// |x| is m / 2^s with s = 1075 - e, so twice |x| * 360,000 is m * 360,000 / 2^20 / 2^(s - 21). Its whole part plus one, halved, is the
+// nearest count; a half goes up. Below 2^-23 the count is 0. The e of 180 is 1030, so the shift is from 24 to 54.
 pub(crate) fn nearest(x: f64) -> u64
     requires { ⌜ atMost 180 x ≡ true ⌝ }
     ensures { λ r. ⌜ (r ≡ hundredthsOf x) × (r ≤ 64800000) ⌝ }

@@ -54,8 +54,7 @@ pub fn rounded_minute(t: i64, rounding: Rounding) -> i64
     plus(t, shift(rounding, second(t)))
 }
 
-// More than 2^64 / 60 minutes take every time out of range. For fewer an i64 holds 30 seconds for each minute, but maybe not 60, so half
-// of the seconds are added twice.
+// Beyond 2^64 / 60 minutes no time stays in range. Up to there an i64 holds half of the seconds, but maybe not all: half is added twice.
 pub fn adjust_time(t: i64, minutes: i64) -> i64
     ensures { λ r. ⌜ r ≡ satOf (adjustedOf t minutes) ⌝ }
 {
