@@ -3,13 +3,13 @@ use Rattle.prelude.proofs.Logic.{_≡_, sym, _∙_, ℕ, zero, suc, _+_, _*_, _
 use Rattle.prelude.proofs.Logic.{mul-assoc, mul-comm, mul-left-comm, mul-add, add-mul, mul-zero, zero-mul, mul-one, one-mul, pow-zero}
 use Rattle.prelude.proofs.Logic.{pow-succ', pow-add}
 
--- `omega` multiplies out up to four factors. Past that both sides are multiplied out by these first.
+-- `omega` multiplies out up to four factors. For more, these rules first multiply both sides out.
 pub ruleset ring = (mul-assoc, mul-comm, mul-left-comm, mul-add, add-mul)
 
--- and without zeros and ones
+-- the same, and zeros and ones are removed
 pub ruleset flat = (ring, mul-zero, zero-mul, mul-one, one-mul, add-zero, zero-add)
 
--- and with the summands in order, so that two sides that are equal are the same
+-- the same, and the summands are put in order: two equal sides become the same text
 pub ruleset sorted = (flat, add-assoc, add-comm, add-left-comm)
 
 pub mul-pow : (a b n : ℕ) → (a * b) ^ n ≡ a ^ n * b ^ n

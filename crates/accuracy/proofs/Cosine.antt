@@ -1,6 +1,6 @@
--- The bound of the cosine, in units of 2 ^ -64. k_cos.c gives 1 - (z / 2 - z z (C1 + z (C2 + ..))) with z = x x, from 0.3 on by way of q,
--- about x / 4. Roundings put it at most 7,297 units off, below 0.3 at most 3,713. Done exactly it is 1 + z p, and p lies within 2 ^ 10
--- units of nine terms of the series, which makes at most 577 units more. Together they are less than 2 ^ 13 units, 2 ^ -51. Assumes
+-- The bound of the cosine, in units of 2 ^ -64. k_cos.c computes 1 - (z / 2 - z z (C1 + z (C2 + ..))) with z = x x; from 0.3 on it uses q,
+-- about x / 4. The rounding errors are at most 7,297 units, and below 0.3 at most 3,713. Without rounding the result is 1 + z p, and p is
+-- within 2 ^ 10 units of nine terms of the series: at most 577 units more. Together this is less than 2 ^ 13 units, 2 ^ -51. Assumes
 -- nothing.
 use Rattle.prelude.proofs.Logic.{_≡_, refl, sym, _∙_, Bool, true, false, cond, List, [], _∷_, ℕ, _+_, _*_, _^_, _≤_, _<_, le-trans, mul-pos}
 use Rattle.prelude.proofs.Logic.{one-mul, one-le-pow, pow-zero, pow-succ', arith, T, ltb, lit<, lit≤, ℤ, le-leb}
@@ -23,7 +23,7 @@ use Rattle.accuracy.proofs.Integers.{is-sum, within}
 use Rattle.accuracy.proofs.Kernels.{for-moderate, Inputs, Input, x, q, sizes, z, Kernel, ten, tenOff, floats, of, run-near, ten-near}
 use Rattle.accuracy.proofs.Kernels.{ten-tiny}
 
--- ---- k_cos.c's two ways, 1 - (z / 2 - r) with z z (C1 + z ..) - x 0 for r, and the same with q taken off both 1 and z / 2
+-- ---- k_cos.c's two formulas: 1 - (z / 2 - r), where r is z z (C1 + z ..) - x 0; and the same with q subtracted from both 1 and z / 2
 abbrev higher : List Float
 higher = C2 ∷ C3 ∷ C4 ∷ C5 ∷ C6 ∷ []
 
@@ -39,7 +39,7 @@ plain = const one unity ⊖ (hz ⊖ r)
 abbrev split : Expr Input
 split = const one unity ⊖ var q ⊖ (hz ⊖ var q ⊖ r)
 
--- ---- either is 1 + z (-1/2 + z (C1 + z ..)), and the series 1 - x ^ 2 / 2! + x ^ 4 / 4! - ..
+-- ---- both are 1 + z (-1/2 + z (C1 + z ..)), and the series is 1 - x ^ 2 / 2! + x ^ 4 / 4! - ..
 abbrev minus-half : Float
 minus-half = neg half
 
@@ -130,7 +130,7 @@ series-stated : (s : Bool) (A D : ℕ) (p : 0 < D) → Same (ten kernel (signed 
 series-stated false A D p = series-is A D _ p _ (omega arith)
 series-stated true A D p = series-is A D _ p _ (omega arith)
 
--- ---- which way cos takes
+-- ---- which branch cos takes
 module _ (s : Bool) (m : ℕ) (e : ℤ) (h : Within (fin s m e) 3 4) where
   abbrev inputs : Inputs
   inputs = record {

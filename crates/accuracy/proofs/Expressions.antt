@@ -1,5 +1,5 @@
--- How roundings add up: expressions, what they give when each operation is rounded, what they are exactly, and how far the one can be from
--- the other. Assumes nothing.
+-- How rounding errors add up: the value of an expression if each operation is rounded, its exact value, and how far apart the two can be.
+-- Assumes nothing.
 use Rattle.prelude.proofs.Logic.{Bool, true, _&&_, ℕ, _+_, _*_, _/_, _≤_, add-comm, lt-div-mul-add, arith, T, leb, leb→le, eqb, eqb→eq}
 use Rattle.prelude.proofs.Logic.{and-l, and-r}
 use Rattle.float64.proofs.Floats.{Float, binary64, add, sub, mul, finite}
@@ -8,7 +8,7 @@ use Rattle.accuracy.proofs.Fractions.{Sized, sized-sum, sized-times}
 use Rattle.accuracy.proofs.Rounding.{value, NearFraction, halfPlace}
 use Rattle.accuracy.proofs.Operations.{add-near, sub-near, mul-near}
 
--- variables out of A, and constants with the fraction that each is
+-- variables of A, and constants with their fractions
 infixl 60 _⊕_ _⊖_
 infixl 70 _⊗_
 pub data Expr (A : Type 0) : Type 0 where
@@ -35,19 +35,19 @@ exact x (a ⊗ b) = exact x a ⊠ exact x b
 abbrev pub units : ℕ → ℕ
 units n = n / unit + 1
 
--- what a constant's fraction is at most
+-- a bound of a constant's size
 abbrev constantSize : Fraction → ℕ
 constantSize f = unit * (f .more + f .less) / f .parts + 1
 
--- what a product's operands are off makes it off: y's error as often as x, and x's as often as y is exactly
+-- the error of a product x * y from those of x and y: y's error times the rounded x, plus x's error times the exact y
 abbrev productOff : ℕ → ℕ → ℕ → ℕ → ℕ
 productOff S E R F = units ((S + E) * F) + units (R * E)
 
--- what is off by E, at a size of S, and then rounded
+-- the error of a number of size S with the error E, after it is rounded
 abbrev rounded : ℕ → ℕ → ℕ
 rounded S E = halfPlace (E + S) + E
 
--- the variables' sizes s are given; they have no error
+-- s gives the sizes of the variables, which have no error
 unfoldable pub bound : {A : Type 0} → (A → ℕ) → Expr A → ℕ
 bound s (var v) = s v
 bound s (const k f) = constantSize f
@@ -117,7 +117,7 @@ module _ {x y : Float} {f g : Fraction} {S E R F : ℕ} (p : Known x f S E) (q :
       let n = mul-near x y (productOff S E R F + units (S * R)) (p .near .real) (q .near .real) (through c z) t in
       record { near = record { real = n .real; close = through (n .close) c }; sized = z }
 
--- ---- the whole of it: run with rounding, an expression that is fine is at most its error off
+-- ---- all together: the rounded value of an expression that is `fine` is at most its error from the exact value
 module _ {A : Type 0} (x : A → Float) (f : A → Fraction) (s : A → ℕ) (given : (v : A) → Known (x v) (f v) (s v) 0) where
   both : (a b : Expr A) (t : Bool) → T (fine s a && fine s b && t) → T (fine s a) × T (fine s b) × T t
   both a b t h = let u = and-l (fine s a && fine s b) t h in

@@ -1,5 +1,5 @@
--- Polynomials in y / w with natural coefficients, compared for y / w from 0 to 9 / 16. With u = 9 w - 16 y, which is no less than 0, both
--- are sums of products of y and u. If no coefficient of the one exceeds the other's, the one does not exceed the other. Assumes nothing.
+-- Polynomials in y / w with natural coefficients, compared for y / w from 0 to 9 / 16. With u = 9 w - 16 y, which is at least 0, both are
+-- sums of products of y and u. If no coefficient of the first is above the second's, the first is not above the second. Assumes nothing.
 use Rattle.prelude.proofs.Logic.{_≡_, _∙_, Bool, true, _&&_, List, [], _∷_, ℕ, zero, suc, _+_, _*_, _^_, _≤_, add-le-add, mul-pos}
 use Rattle.prelude.proofs.Logic.{mul-le-mul-right, mul-le-mul-left, le-of-mul-le-mul-right, one-le-pow, pow-zero, pow-succ', arith, T, leb}
 use Rattle.prelude.proofs.Logic.{leb→le, lit<, length, and-l, and-r}
@@ -24,7 +24,7 @@ pub data Form : ℕ → Type 0 where
   _▸_ : {n : ℕ} → ℕ → Form n → Form (suc n)
 
 infixr 50 _▸_
--- f times 9 w = u + 16 y; p is what comes before f's first coefficient
+-- f times 9 w = u + 16 y; p is the coefficient before f's first
 abbrev times9w : {n : ℕ} → ℕ → Form n → Form (suc n)
 times9w p none = 16 * p ▸ none
 times9w p (c ▸ f) = (c + 16 * p) ▸ times9w c f
@@ -52,7 +52,7 @@ abbrev under : {n : ℕ} → Form n → Form n → Bool
 under none none = true
 under (b ▸ f) (c ▸ g) = leb b c && under f g
 
--- f's polynomial is nowhere above g's and d
+-- f's polynomial is nowhere above g's plus d
 abbrev pub notAbove : {A : Type 0} → (f g : A → ℕ) → ℕ → List A → Bool
 notAbove f g d l = under (mix 0 (power9w (length l)) (form f l)) (mix (9 * d) (power9w (length l)) (form g l))
 

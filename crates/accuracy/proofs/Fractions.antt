@@ -48,7 +48,7 @@ pub unit-pos : 0 < unit
 unfolding unit
 unit-pos = pow-pos 64
 
--- f is at most g and E units
+-- f is at most g plus E units
 abbrev AtMost : Fraction → Fraction → ℕ → Type 0
 AtMost f g E =
     unit * (f .more * g .parts + g .less * f .parts) ≤ unit * (f .less * g .parts + g .more * f .parts) + E * (f .parts * g .parts)
@@ -82,7 +82,7 @@ through {f} {g} {h} {E} {F} p q = record {
 pub record Same (f g : Fraction) : Type 0 where
   pub balance : f .more * g .parts + g .less * f .parts ≡ f .less * g .parts + g .more * f .parts
 
--- each of f's three is k times g's
+-- each of f's three numbers is k times g's
 pub scaled : (f g : Fraction) (k : ℕ) → f .more ≡ g .more * k → f .less ≡ g .less * k → f .parts ≡ g .parts * k → Same f g
 scaled f g k e i p = record { balance = rw (e, i, p) (simp ring (omega arith)) }
 
@@ -118,11 +118,11 @@ Sized f S = Close f nought S
 pub sized-sum : {f g : Fraction} {S R : ℕ} → Sized f S → Sized g R → Sized (f ⊞ g) (S + R)
 sized-sum p q = let c = sum p q in record { upper = c .upper; lower = c .lower }
 
--- a summand is as far off as it is large
+-- to add g moves f by at most g's size
 pub beside : (f : Fraction) {g : Fraction} {S : ℕ} → Sized g S → Close f (f ⊞ g) S
 beside f {g} {S} z = turned (written (rw (zero-add S) at (sum (itself f) z)) (record { balance = simp flat (omega arith) }))
 
--- ---- products: two fractions that are F units apart, each times f, which is d / parts
+-- ---- products: two fractions that are F units apart, both multiplied by f, which is d / parts
 few : (d p S F G : ℕ) → unit * d ≤ S * p → S * F ≤ G * unit → d * F ≤ G * p
 few d p S F G h l = le-of-mul-le-mul-right {k = unit}
     (simp ring (omega (arith, simp ring at (mul-le-mul-right F h), simp ring at (mul-le-mul-right p l)))) unit-pos
@@ -131,7 +131,7 @@ at-most-times : (f h k : Fraction) (d F G : ℕ) → d * F ≤ G * f .parts → 
 at-most-times f h k d F G l e p = rw (← e) (simp ring
     (omega (arith, simp ring at (mul-le-mul-right (f .parts * d) p), simp ring at (mul-le-mul-right (f .parts * h .parts * k .parts) l))))
 
--- where f is -d / parts
+-- the same if f is -d / parts
 at-most-times-less : (f h k : Fraction) (d F G : ℕ) → d * F ≤ G * f .parts → f .more + d ≡ f .less → AtMost k h F → AtMost (f ⊠ h) (f ⊠ k) G
 at-most-times-less f h k d F G l e p = rw (← e) (simp ring
     (omega (arith, simp ring at (mul-le-mul-right (f .parts * d) p), simp ring at (mul-le-mul-right (f .parts * h .parts * k .parts) l))))

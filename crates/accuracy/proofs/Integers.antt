@@ -1,4 +1,4 @@
--- From fractions to the statement: the sides of an alternating sum of integers, and what a float near a fraction is within. Assumes
+-- From fractions to the statement: the two sides of an alternating sum of integers, and `WithinSum` for a float near a fraction. Assumes
 -- nothing.
 use Rattle.prelude.proofs.Logic.{_≡_, refl, ap, Bool, true, false, not, _&&_, cond, List, [], _∷_, ℕ, zero, suc, _+_, _-_, _*_, _/_, _^_}
 use Rattle.prelude.proofs.Logic.{_≤_, le-trans, zero-mul, mul-zero, mul-le-mul-right, le-of-mul-le-mul-right, pow-zero, pow-suc, arith, ℤ}
@@ -53,7 +53,7 @@ power true a zero = rw (pow-zero a)
 power false a (suc k) = rw (power false a k, pow-suc a k)
 power true a (suc k) = rw (power true a k, pow-suc a k) (by-minus (odd k) a (a ^ k))
 
--- ---- the sum's two sides: what is added, and what is taken off if b
+-- ---- the sum's two sides: what is added, or what is subtracted if b
 module _ (s : Bool) (n a d : ℕ) where
   abbrev pub sides : Bool → List ℕ → ℕ
   sides b [] = 0

@@ -1,5 +1,5 @@
 -- What the two kernels share: an argument x of at most 3 / 4 in size, a second float q of at most 1 / 4, the square z of x, and a
--- polynomial 1 + z * (k + z * ..) beside the first ten terms of a series. Assumes nothing.
+-- polynomial 1 + z * (k + z * ..) that is compared with the first ten terms of a series. Assumes nothing.
 use Rattle.prelude.proofs.Logic.{_≡_, refl, sym, _∙_, Bool, true, false, List, _∷_, ℕ, _+_, _*_, _^_, _≤_, _<_, zero-add, one-mul, mul-one}
 use Rattle.prelude.proofs.Logic.{zero-mul, mul-le-mul, mul-le-mul-right, mul-le-mul-left, le-of-mul-le-mul-right, arith, T, lit<, lit≤, ℤ}
 use Rattle.float64.proofs.Floats.{Float, nan, inf, fin, up, down, size, round, HasValue, dec, within-limits, Within}
@@ -19,14 +19,14 @@ three-quarters = (refl, refl)
 moderate : (x : Float) → Moderate x → Within x 3 4
 moderate x h = within-limits x (dec 75 2) 3 4 (lit< tt) three-quarters (h .0) (h .1)
 
--- what holds of each finite one of at most 3 / 4 in size, holds of each
+-- a property of every finite float of at most 3 / 4 in size holds of every argument in the range
 pub for-moderate : (P : Float → Type 0) → ((s : Bool) (m : ℕ) (e : ℤ) → Within (fin s m e) 3 4 → P (fin s m e)) → (x : Float) → Moderate x
     → P x
 for-moderate P f nan h = absurd (moderate nan h)
 for-moderate P f (inf s) h = absurd (moderate (inf s) h)
 for-moderate P f (fin s m e) h = f s m e (moderate (fin s m e) h)
 
--- a float of at most a / c, which is S units, is exactly itself
+-- a float of at most a / c in size, which is S units, is known without error
 pub exactly : (x : Float) (a c S : ℕ) → 0 < c → a * unit ≤ S * c → Within x a c → Known x (value x) S 0
 exactly nan a c S p l h = absurd h
 exactly (inf s) a c S p l h = absurd h
@@ -75,7 +75,7 @@ pub record Kernel : Type 0 where
   pub n : ℕ
   pub some : 0 < n
   pub ts : List Term
-  -- done exactly, k + z * .. is at most `off` units from the nine
+  -- without rounding, k + z * .. is at most `off` units from the nine
   pub off : ℕ
   pub close : T (near n (rows (k ∷ l) ts) off)
   pub runs : T (fine sizes (horner z k l))
@@ -84,7 +84,7 @@ pub record Kernel : Type 0 where
 abbrev pub ten : Kernel → Fraction → Fraction
 ten c f = polynomial f added taken (c .n) (c .some) (row 0 0 (plus (c .n)) ∷ rows (c .k ∷ c .l) (c .ts))
 
--- how far 1 + z * (k + z * ..), done exactly, can be from the ten
+-- how far 1 + z * (k + z * ..) without rounding can be from the ten
 abbrev pub tenOff : Kernel → ℕ
 tenOff c = 0 + units (bound sizes z * c .off)
 
@@ -129,7 +129,7 @@ module _ (i : Inputs) where
         (rows (c .k ∷ c .l) (c .ts))
         (one-mul (c .n) ∙ sym (mul-one (c .n))) (zero-mul (c .n))
 
-    -- the polynomial, done exactly, beside the ten terms
+    -- the polynomial without rounding is near the ten terms
     pub ten-near : Close (unity ⊞ exact of z ⊠ inner) (ten c (exact of z)) (tenOff c)
     ten-near = written (sum (itself unity) (times z-sized nine-near (units-enough (bound sizes z * c .off)))) ten-is
 

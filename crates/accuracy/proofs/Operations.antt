@@ -1,4 +1,4 @@
--- Each operation of binary64 is the exact result rounded once: within half of the last place of it, for results up to 2 in size. Assumes
+-- Each operation of binary64 is the exact result rounded once: at most half of a last place away, for results up to 2 in size. Assumes
 -- nothing.
 use Rattle.prelude.proofs.Logic.{_≡_, refl, ap, Bool, true, false, not, cond, ℕ, _+_, _-_, _*_, _≤_, _<_, arith, T, ltb, ltb→lt, nltb→le}
 use Rattle.float64.proofs.Floats.{Float, nan, inf, fin, binary64, up, down, round, neg, sum, add, sub, mul, finite}
@@ -27,7 +27,7 @@ mul-near (fin false m e) (fin true n d) S p q z t = exactly true (m * up e * (n 
 mul-near (fin true m e) (fin false n d) S p q z t = exactly true (m * up e * (n * up d)) _ S (omega arith) z t
 mul-near (fin true m e) (fin true n d) S p q z t = exactly false (m * up e * (n * up d)) _ S (omega arith) z t
 
--- ---- sums: of two numbers with unlike signs the smaller is taken off the larger, and a zero is positive
+-- ---- sums: if the signs differ, the smaller is subtracted from the larger; a zero is positive
 module _ (a b : ℕ) (f : Fraction) (S : ℕ) (z : Sized f S) (t : S ≤ 2 * unit) where
   a-less-b : f .more + b ≡ f .less + a
       → NearFraction (cond (ltb a b) (round binary64 true (b - a) (f .parts)) (round binary64 false (a - b) (f .parts))) f (halfPlace S)

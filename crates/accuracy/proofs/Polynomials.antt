@@ -52,7 +52,7 @@ abbrev pub horner : {A : Type 0} → Expr A → Float → List Float → Expr A
 horner z k [] = const k (per k)
 horner z k (j ∷ l) = const k (per k) ⊕ z ⊗ horner z j l
 
--- each beside the series' coefficient, and nothing if the kernel has no more
+-- each with the series' coefficient; 0 if the kernel has no more
 pub data Row : Type 0 where
   row : (up down : ℕ) → Term → Row
 
@@ -88,7 +88,7 @@ no-more : (y w : ℕ) (l : List Term) → (poly y w up (rows [] l) ≡ 0) × (po
 no-more y w [] = (refl, refl)
 no-more y w (t ∷ l) = let h = no-more y w l in (rw (h .0) (omega arith), rw (h .1) (omega arith))
 
--- ---- Horner's rule, done exactly, gives the kernel's polynomial
+-- ---- Horner's rule without rounding gives the kernel's polynomial
 horner-is : {A : Type 0} (f : A → Fraction) (z : Expr A) {S : ℕ} → Sized (exact f z) S → exact f z .less ≡ 0
     → (k : Float) (l : List Float) (ts : List Term) → Close (exact f (horner z k l)) (kernel (exact f z) (rows (k ∷ l) ts)) 0
 horner-is f z s even k [] ts =

@@ -1,4 +1,4 @@
--- One rounding: a fraction of up to S units, at most 2 in size, goes to a finite float that is no further off than half of S's last place.
+-- One rounding: a fraction of up to S units, at most 2 in size, is rounded to a finite float at most half of S's last place away.
 -- Assumes nothing.
 use Rattle.prelude.proofs.Logic.{_≡_, refl, sym, ap, _∙_, subst, Bool, true, false, not, ℕ, _+_, _-_, _*_, _/_, _%_, _^_, _≤_, _<_, compare}
 use Rattle.prelude.proofs.Logic.{Ordering, Ordering·lt, Ordering·eq, Ordering·gt, le-trans, le-of-eq, lt-of-le-of-lt, add-le-add, mul-assoc}
@@ -23,8 +23,8 @@ pub record NearFraction (x : Float) (f : Fraction) (E : ℕ) : Type 0 where
   pub real : T (finite x)
   pub close : Close (value x) f E
 
--- A number of up to S units has `size S` binary digits, and a float keeps 53 of them: half of the last one's place, in units, and no less
--- than one.
+-- A number of up to S units has `size S` binary digits, and a float keeps 53 of them. `halfPlace` is half of the last one's place, in
+-- units, and at least one.
 abbrev halfDigits : ℕ → ℕ
 halfDigits S = size S - 54
 
@@ -43,7 +43,7 @@ closest-half a b B = by-order (compare (a % b * 2) b) (leb→le (a % b * 2) b) (
         (omega (arith, div-add-mod' a b, e tt, mul-le-mul-right b one), omega (arith, div-add-mod' a b, e tt))
     by-order Ordering·gt l g e = (omega (arith, div-add-mod' a b, g tt), omega (arith, div-add-mod' a b, mod-lt a B))
 
--- ---- a / c rounds to `grid` of the smallest values, 2 ^ -1074, of which `low` are a unit
+-- ---- a / c rounds to `grid` times the smallest value, 2 ^ -1074; `low` of these are a unit
 abbrev low : ℕ
 low = 2 ^ 1010
 
@@ -58,7 +58,7 @@ module _ (a c S : ℕ) (C : 0 < c) (h : a * unit ≤ S * c) (t : S ≤ 2 * unit)
   abbrev n : ℕ
   n = a * 2 ^ 1074
 
-  -- so many digits are dropped
+  -- the number of digits that are dropped
   abbrev places : ℕ
   places = drop 53 n c
 
@@ -95,7 +95,7 @@ module _ (a c S : ℕ) (C : 0 < c) (h : a * unit ≤ S * c) (t : S ≤ 2 * unit)
       under : (G L U M E : ℕ) → L ≡ U * M → a * U ≤ S * c → G * c ≤ a * L + c * (M * E) → G * c ≤ M * (S + E) * c
       under G L U M E e h l = omega (arith, mul-le-mul-right M h, ap (λ (z : ℕ). a * z) e)
 
-  -- the float that is that many smallest values
+  -- the float that is `grid` times the smallest value
   of-grid : (s : Bool) (m : ℕ) (e : ℤ) → m * up e * 2 ^ 1074 ≡ grid binary64 a c * down e
       → NearFraction (fin s m e) (signed s a c C) (halfPlace S)
   of-grid s m e v =

@@ -22,7 +22,7 @@ abbrev pub from : ℕ → ℕ → List ℕ
 from k zero = []
 from k (suc m) = k ∷ from (suc (suc k)) m
 
--- n! / k! for each, with alternating signs, the first one taken off if b
+-- n! / k! for each, with alternating signs; the first one is subtracted if b
 abbrev pub terms : ℕ → Bool → List ℕ → List Term
 terms n b [] = []
 terms n b (k ∷ l) = cond b (minus (n ! / k !)) (plus (n ! / k !)) ∷ terms n (not b) l
@@ -35,7 +35,7 @@ terms-length : (n : ℕ) (b : Bool) (l : List ℕ) → length (terms n b l) ≡ 
 terms-length n b [] = refl
 terms-length n b (k ∷ l) = ap suc (terms-length n (not b) l)
 
--- what is taken off is what would be added with the other sign
+-- what is subtracted is what is added if the signs are swapped
 pub fall-is : (y w n : ℕ) (b : Bool) (l : List ℕ) → poly y w fall (terms n b l) ≡ poly y w rise (terms n (not b) l)
 fall-is y w n b [] = refl
 fall-is y w n true (k ∷ l) = rw (terms-length n true l, terms-length n false l, fall-is y w n false l)
@@ -46,12 +46,12 @@ module _ (n a d : ℕ) where
   abbrev pub amount : ℕ → ℕ
   amount k = a ^ k * (n ! / k ! * d ^ (n - k))
 
-  -- those that are added, or those that are taken off if b
+  -- those that are added, or those that are subtracted if b
   abbrev pub side : Bool → List ℕ → ℕ
   side b [] = 0
   side b (k ∷ l) = cond b 0 (amount k) + side (not b) l
 
-  -- up to the power n, with a ^ k taken out
+  -- up to the power n, with the factor a ^ k taken out
   pub side-is : (y : ℕ) → y ≡ a * a → (b : Bool) (m k : ℕ) → k + (m + m) ≡ suc (suc n)
       → side b (from k m) * (d * d) ≡ a ^ k * poly y (d * d) rise (terms n b (from k m))
   side-is y Y b zero k e = omega arith

@@ -1,6 +1,6 @@
--- The bound of the sine, in units of 2 ^ -64. k_sin.c gives x + z x (S1 + z (S2 + ..)) with z = x x, which roundings put at most 1,493
--- units off. Done exactly it is x (1 + z p), and p lies within 2 ^ 13 units of nine terms of the series, which makes at most 3,457 units
--- more. Together they are less than 2 ^ 13 units, 2 ^ -51. Assumes nothing.
+-- The bound of the sine, in units of 2 ^ -64. k_sin.c computes x + z x (S1 + z (S2 + ..)) with z = x x. The rounding errors are at most
+-- 1,493 units. Without rounding the result is x (1 + z p), and p is within 2 ^ 13 units of nine terms of the series: at most 3,457 units
+-- more. Together this is less than 2 ^ 13 units, 2 ^ -51. Assumes nothing.
 use Rattle.prelude.proofs.Logic.{_≡_, refl, _∙_, Bool, true, false, not, cond, List, [], _∷_, ℕ, _+_, _*_, _^_, _≤_, _<_, le-trans}
 use Rattle.prelude.proofs.Logic.{add-comm, mul-pos, one-le-pow, pow-zero, pow-succ', arith, T, ltb, lit<, lit≤, ℤ, pos, le-leb}
 use Rattle.float64.proofs.Floats.{Float, fin, up, down, size, ofBits, down-pos, highOf, Within}
@@ -80,7 +80,7 @@ module _ (a : Float) (h : Within a 3 4) where
       let r : Close (value a ⊠ unity) (series (value a)) 1 = times (k .sized) (ten-tiny i kernel t) (lit≤ tt) in
       record { real = k .near .real; close = looser (lit≤ tt) (through (same-close (record { balance = omega arith })) r) }
 
--- ---- the statement's sum of the powers 1, 3, .. 19, which x's sign turns
+-- ---- the statement's sum of the powers 1, 3, .. 19, which has x's sign
 abbrev stated : Bool → (A D : ℕ) → 0 < D → Fraction
 stated s A D p = record {
   more = side 19 A D s (from 1 10);
@@ -116,7 +116,7 @@ series-stated true A D p =
     scaled (series (signed true A D p)) (stated true A D p) (D * D) (add-comm _ _ ∙ falls A D _ (omega arith))
     (add-comm _ _ ∙ rises A D _ (omega arith)) (whole D)
 
--- ---- which way sin takes
+-- ---- which branch sin takes
 module _ (s : Bool) (m : ℕ) (e : ℤ) (h : Within (fin s m e) 3 4) where
   kernel-near : NearFraction (kernelSinOf (fin s m e) KTan.zero false) (series (value (fin s m e))) (2 ^ 13)
   unfolding kernelSinOf

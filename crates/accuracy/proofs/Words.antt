@@ -7,7 +7,7 @@ use Rattle.float64.proofs.Floats.{Float, nan, inf, fin, binary64, up, down, siz
 use Rattle.float64.proofs.Floats.{odd-sign, kept-lt, down-pos, transfer, highOf, Within}
 use Rattle.fdlibm_trig.specs.KCos.{quarterOf}
 
--- ---- n smallest values, as a pattern without its sign; a size of 3 / 4 is the pattern 0x3fe8_0000_0000_0000
+-- ---- the pattern of n smallest values, without its sign; that of 3 / 4 is 0x3fe8_0000_0000_0000
 abbrev pattern : ℕ → ℕ
 pattern n = (size n - 53) * 2 ^ 52 + n / 2 ^ (size n - 53)
 

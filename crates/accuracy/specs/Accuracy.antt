@@ -1,4 +1,4 @@
--- How near the sine and the cosine lie to their series, request 13 of document 02:
+-- How near the sine and the cosine are to their series, request 13 of document 02:
 -- "For each f64 argument from -0.75 to 0.75, the sine that we added lies within 2^-40 of the sum of the first ten terms of its series, up
 -- to the nineteenth power over 19 factorial with alternating signs. The statement is over whole numbers: the argument and answer are whole
 -- numbers scaled by powers of two, with every denominator multiplied out. The same is wanted of the cosine with its first ten terms. The
@@ -16,7 +16,7 @@ use Rattle.float64.specs.Ranges.{Inside}
 use Rattle.fdlibm_trig.specs.Trig.{sinOf, cosOf}
 
 -- ---- argument and answer
--- A finite float `fin s m e` is m * 2 ^ e, negative if s: the whole number `top` over the power of two `bottom`, for 2 ^ e is `up e` /
+-- A finite float `fin s m e` is m * 2 ^ e, negative if s: the whole number `top` over the power of two `bottom`. 2 ^ e is `up e` /
 -- `down e`.
 abbrev pub top : Float → ℤ
 top nan = pos 0
@@ -29,7 +29,7 @@ bottom nan = 1
 bottom (inf s) = 1
 bottom (fin s m e) = down e
 
--- from -0.75 to 0.75: both ends, both zeros and every subnormal are among them, and no NaN is
+-- from -0.75 to 0.75, with both ends, both zeros and every subnormal, and without NaN
 abbrev pub Moderate : Float → Type 0
 Moderate x = Inside (neg (dec 75 2)) (dec 75 2) x
 
@@ -67,7 +67,7 @@ SineWithin k = (x : Float) → Moderate x → WithinSum k (sinOf x) (sineSum (to
 abbrev pub CosineWithin : ℕ → Type 0
 CosineWithin k = (x : Float) → Moderate x → WithinSum k (cosOf x) (cosineSum (top x) (bottom x)) (18 ! * bottom x ^ 18)
 
--- what is asked for, and what the same proof gives
+-- the bounds that request 13 asks for, and the better ones that the same proof gives
 abbrev pub SineAndCosineAreNear : Type 0
 SineAndCosineAreNear = SineWithin 40 × CosineWithin 40
 

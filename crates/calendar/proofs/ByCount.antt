@@ -17,14 +17,14 @@ since-small : (z : ℤ) → sinceFirstOf z < 1568704592610
 unfolding sinceFirstOf
 since-small z = let c = capped (P (z +ℤ pos 719528)) 1568704592609 in omega arith
 
--- a day before the year 4294967296 lies in a year that a u32 holds, and a later one does not
+-- a day before the year 4294967296 is in a year that a u32 holds, and a later day is not
 year-held : (n : ℕ) → n < 1568704592610 → yearOf n ≤ 4294967295
 year-held n h = let l = year-before n (yearOf n) 4294967296 (year-found n .from) (omega (arith, last-year)) in omega arith
 
 year-past : (n : ℕ) → 1568704592609 < n → 4294967295 < yearOf n
 year-past n h = let l = year-before n 4294967296 (yearOf n + 1) (omega (arith, last-year)) (year-found n .before) in omega arith
 
--- the code's numbers: the n days of a day z, their year y and the days b before it
+-- the code's numbers: the count n of the day z, the year y of that day, and the days b before that year
 module _ (z : ℤ) (n : ℕ) (s : n ≡ sinceFirstOf z) where
   pub days-fit : n < 1568704592610
   days-fit = let l = since-small z in omega arith

@@ -1,4 +1,4 @@
--- The day after a date by the step that the code takes, month by month. Assumes nothing.
+-- The code's step from a date to the day after it is the calendar's rule. Assumes nothing.
 use Rattle.prelude.proofs.Logic.{_≡_, sym, ap, subst, true, _+_, _≤_, _<_, arith, lt-ltb, le-ltb, le-leb, lt-leb}
 use Rattle.calendar.specs.Gregorian.{dateOf, leapOf, lengthOf, daysInMonthOf, existsOf, dayAfterOf}
 use Rattle.calendar.specs.Answers.{heldOf, fromOf, tomorrowOf}
@@ -7,7 +7,7 @@ use Rattle.calendar.proofs.MonthTables.{length-december}
 use Rattle.calendar.proofs.Existing.{exists-yes, to-exists, month-of-date}
 use Rattle.calendar.proofs.Successors.{from-is}
 
--- ---- a date that does not exist gives itself
+-- ---- the result for a date that does not exist is the date itself
 pub before-first : (d : Date) → d .day < 1 → d ≡ tomorrowOf d
 unfolding fromOf existsOf
 before-first d l = rw (lt-leb 1 (d .day) l)
@@ -16,7 +16,7 @@ pub past-last : (d : Date) → daysInMonthOf (d .year) (d .month) < d .day → d
 unfolding fromOf existsOf
 past-last d l = rw (le-leb 1 (d .day) (omega arith), lt-leb (d .day) (daysInMonthOf (d .year) (d .month)) l)
 
--- ---- and one that exists
+-- ---- a date that exists
 module _ (d : Date) (first : 1 ≤ d .day) (small : d .year ≤ 4294967295) where
   stepped : existsOf d ≡ true → (e : Date) → e ≡ dayAfterOf d → e .year ≤ 4294967295 → e ≡ tomorrowOf d
   stepped h e i l = subst (λ (x : Date). e ≡ fromOf d x) i (sym (from-is d e h l))

@@ -1,4 +1,4 @@
--- The neighbours of a date by its day of the year: the way that the code takes is the calendar's rule. Assumes nothing.
+-- The code finds the day before a date by its day of the year; this is the calendar's rule. Assumes nothing.
 use Rattle.prelude.proofs.Logic.{_≡_, ap, _∙_, subst, true, _+_, _-_, _≤_, _<_, arith, le-leb, cases}
 use Rattle.calendar.specs.Gregorian.{dateOf, existsOf, dayBeforeOf}
 use Rattle.calendar.specs.Days.{daysBeforeYearOf, ordinalOf, ofOrdinalOf}
@@ -9,7 +9,7 @@ use Rattle.calendar.proofs.Existing.{ordinal-within, ordinal-forth, cou
 use Rattle.calendar.proofs.Neighbours.{before, new-year, year-end}
 use Rattle.calendar.proofs.CalendarLaws.{ordinal-first, ordinal-last}
 
--- ---- what is answered of a date, and of its neighbours
+-- ---- what the functions return for a date that exists
 held : (d : Date) → d .year ≤ 4294967295 → d ≡ heldOf d
 unfolding heldOf
 held d h = rw (le-leb (d .year) 4294967295 h)

@@ -1,4 +1,4 @@
--- What the crates above use of this one, from one place. Nothing is added.
+-- The names of this crate that the crates above use, in one place. Nothing is added.
 pub use Rattle.calendar.proofs.CalendarLaws.{row-first, row-next, number-of-date, date-of-day-exists, days-between}
 pub use Rattle.prelude.proofs.Computed.{tested, when}
 pub use Rattle.calendar.proofs.Existing.{count, ordinal-within, ordinal-short, exists-yes, month-of-date, ordinal-is}

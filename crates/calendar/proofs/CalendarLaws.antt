@@ -1,5 +1,5 @@
 -- The laws of the calendar: the formulas of Days give the calendar of Gregorian, in every year. Assumes nothing.
--- That the rows are the running sums of the months' lengths is before-january, before-next and before-december of MonthTables.
+-- MonthTables' before-january, before-next and before-december say that the rows are the running sums of the months' lengths.
 use Rattle.prelude.proofs.Logic.{_≡_, refl, sym, ap, _∙_, true, ℕ, _+_, _%_, _≤_, arith, lit<, ℤ, pos, negsuc, _+ℤ_, +ℤ-idr, leZ}
 use Rattle.integers.proofs.Integers.{P, N, same, not-negative, sum, difference, le-yes, to-le, floored}
 use Rattle.calendar.specs.Gregorian.{dateOf, leapOf, existsOf, dayAfterOf, dayBeforeOf}
@@ -26,7 +26,7 @@ pub day-zero : dayNumberOf (dateOf 1970 1 1) ≡ pos 0
 unfolding dayNumberOf daysBeforeYearOf
 day-zero = rw (ordinal-is (dateOf 1970 1 1) (new-year 1970), before-january) refl
 
--- d counts as the number of its day, and 719529 more
+-- d's count is the number of its day plus 719529
 balance : (d : Date) → P (dayNumberOf d) + 719529 ≡ N (dayNumberOf d) + count d
 unfolding dayNumberOf
 balance d = let s = difference (pos (count d)) (pos 719529) in omega (arith, s .0, s .1)
@@ -40,7 +40,7 @@ day-after d h = numbered (dayAfterOf d) (dayNumberOf d +ℤ pos 1) (omega (arith
 pub day-after-exists : (d : Date) → existsOf d ≡ true → existsOf (dayAfterOf d) ≡ true
 day-after-exists d h = after d h .there
 
--- ---- yesterday and tomorrow undo each other; only 0000-01-01 has no day before
+-- ---- the day before and the day after are inverses; only 0000-01-01 has no day before
 pub day-before-exists : (d : Date) → existsOf d ≡ true → (d ≡ dateOf 0 1 1 → ⊥) → existsOf (dayBeforeOf d) ≡ true
 day-before-exists d h n = before d h n .there
 
@@ -59,7 +59,7 @@ before-after d h =
         let a = after d h in let o = ordinal-within d h in let c : count (dayAfterOf d) ≡ count (dateOf 0 1 1) = ap count e in
         omega (arith, year-zero, ordinal-first 0)
 
--- ---- a date and the number of its day give each other
+-- ---- from a date to the number of its day and back
 pub date-of-number : (d : Date) → existsOf d ≡ true → dateOfDayOf (dayNumberOf d) ≡ d
 unfolding dateOfDayOf
 date-of-number d h =

@@ -1,10 +1,10 @@
--- The number of a day, an i64, beside a count of days from a calendar's first one on: no step of the code loses anything, in either
--- calendar. Assumes nothing.
+-- The number of a day is an i64, and its count from a calendar's first day is a natural number. No step of the code from one to the other
+-- loses anything, in either calendar. Assumes nothing.
 use Rattle.prelude.proofs.Logic.{_≡_, sym, ap, _∙_, true, false, cond, ℕ, suc, _+_, _^_, _≤_, _<_, le-refl, arith, T, leb, ℤ, pos, negsuc}
 use Rattle.prelude.proofs.Logic.{natAbs, _+ℤ_, _-ℤ_, ltZ, nonNeg, leb-true, le-leb, lt-leb, w64, SFits, Fits, toZ, cases}
 use Rattle.integers.proofs.Integers.{P, N, natural, not-negative, not-positive, sum, difference, lt-yes, lt-no, range, fits, readBack, read}
 
--- n, or the last if n is beyond it
+-- n, or `last` if n is above it
 pub capped : (n last : ℕ) → cond (leb n last) n last ≤ last
 capped n last = cases (leb n last) (λ e. rw e (leb-true n last e)) (λ e. rw e (le-refl last))
 
@@ -23,7 +23,7 @@ module _ (origin n : ℕ) (h : origin < 2 ^ 62) (l : n < 2 ^ 62) where
   pub number-read : readBack w64 (toZ w64 n -ℤ pos origin) ≡ pos n -ℤ pos origin
   number-read = rw (seen, read w64 (pos n -ℤ pos origin) number-fits)
 
--- ---- the days from the calendar's first, whose number is -(k + 1), to the day z, and at most to `last`
+-- ---- the days from the calendar's first day, whose number is -(k + 1), to the day z, but at most `last`
 module _ (k last : ℕ) (room : k + last < 2 ^ 62) (z : ℤ) (f : SFits w64 z) where
   abbrev since : ℕ
   since = P (z +ℤ pos (suc k))

@@ -46,7 +46,7 @@ ordinal-short d =
     cases (existsOf d) (λ h. let e = exists-yes d h in let m = month-of-date d e in rw h (omega (arith, year-short (leapOf (d .year)))))
     (λ h. rw h (lit≤ tt))
 
--- a date is found again by its year and its ordinal
+-- a date's year and ordinal give the date back
 pub ordinal-back : (d : Date) → existsOf d ≡ true → ofOrdinalOf (d .year) (ordinalOf d) ≡ d
 unfolding ofOrdinalOf
 ordinal-back d h =
@@ -56,7 +56,7 @@ ordinal-back d h =
     let o = ordinal-is d h in let g : ordinalOf d - daysBeforeOf leap (d .month) ≡ d .day = omega arith in
     rw (f, g)
 
--- and an ordinal gives a date of its year, whose ordinal it is
+-- and each ordinal is the ordinal of a date of its year
 pub record Dated (y n : ℕ) (d : Date) : Type 0 where
   pub year : d .year ≡ y
   pub there : existsOf d ≡ true
@@ -79,7 +79,7 @@ in-year d h =
     let o = ordinal-within d h in let s = year-step (d .year) in
     record { from = omega arith; before = omega arith }
 
--- a date is found again by its count
+-- a date's count gives the date back
 pub count-back : (d : Date) → existsOf d ≡ true → (n : ℕ) → n + 1 ≡ count d → dateAtOf n ≡ d
 unfolding dateAtOf
 count-back d h n e =
@@ -93,7 +93,7 @@ count-injective d e p q h =
     let o = ordinal-within d p in
     sym (count-back d p (count d - 1) (omega arith)) ∙ count-back e q (count d - 1) (omega arith)
 
--- and every number is the count of a date, less 1
+-- and every number plus 1 is the count of a date
 pub record Counted (n : ℕ) (d : Date) : Type 0 where
   pub there : existsOf d ≡ true
   pub number : count d ≡ n + 1

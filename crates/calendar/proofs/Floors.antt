@@ -1,4 +1,4 @@
--- A quotient toward zero, less one if the remainder is negative, is the quotient rounded down; and it fits. Assumes nothing.
+-- A quotient rounded toward zero, less one if the remainder is negative, is the quotient rounded down, and it fits. Assumes nothing.
 use Rattle.prelude.proofs.Logic.{_≡_, refl, sym, ap, subst, _∙_, true, false, suc, _/_, _%_, arith, lit<, ℤ, pos, negsuc, negℤ, _-ℤ_, ltZ}
 use Rattle.prelude.proofs.Logic.{quotZ, remZ, w64, SFits}
 use Rattle.integers.proofs.Integers.{same, flip, difference, floorQuot, divided, lt-yes, lt-no, readBack, read, range, fits}

@@ -12,7 +12,7 @@ use Rattle.calendar.proofs.Existing.{count, ordinal-short}
 pub count-room : (d : Date) → d .year ≤ 4294967295 → count d < 1568704592977
 count-room d h = let o = ordinal-short d in let m = year-mono (d .year) 4294967296 (omega arith) in omega (arith, last-year)
 
--- by the days b before its year and the day o of the year
+-- from the days b before its year and the day o of the year
 module _ (d : Date) (small : d .year ≤ 4294967295) (b o : ℕ) (e : b ≡ daysBeforeYearOf (d .year)) (f : o ≡ ordinalOf d) where
   pub count-fits : b + o < 2 ^ 62
   count-fits = let r = count-room d small in omega arith

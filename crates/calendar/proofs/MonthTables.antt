@@ -1,4 +1,4 @@
--- The rows of days before each month, held to the months' lengths by tests that antt computes. Assumes nothing.
+-- The rows of days before each month, compared with the months' lengths by tests that antt computes. Assumes nothing.
 use Rattle.prelude.proofs.Logic.{_≡_, refl, sym, Bool, true, false, cond, not, _&&_, _||_, ℕ, zero, suc, _+_, _-_, _/_, _≤_, _<_, arith, T}
 use Rattle.prelude.proofs.Logic.{eqb, ltb, leb, eqb→eq, leb→le, ltb→lt, le→leb, lit≤, List·getD-eq-default, ltb-true, ltb-false, and-l}
 use Rattle.prelude.proofs.Logic.{and-r, cases}
@@ -6,7 +6,7 @@ use Rattle.calendar.specs.Gregorian.{lengthsOf, lengthOf}
 use Rattle.calendar.specs.Days.{monthStartsOf, daysBeforeOf, countBelow, monthOf}
 use Rattle.prelude.proofs.Computed.{below, at, tested, when}
 
--- a year is short
+-- a year has at most 366 days
 pub year-short : (leap : Bool) → cond leap 366 365 ≤ 366
 year-short true = lit≤ tt
 year-short false = lit≤ tt
@@ -58,7 +58,7 @@ pub length-some : (leap : Bool) (k : ℕ) → k < 12 → 0 < lengthOf leap (k + 
 unfolding someTest lengthOf
 length-some leap k h = ltb→lt 0 _ (tested someTest 12 tt leap k h)
 
--- a month that has days is one of the twelve, with at most 31, and the row allows for them
+-- a month that has days is one of the twelve, has at most 31 days, and ends within the year
 pub record Month (leap : Bool) (m : ℕ) : Type 0 where
   pub first : 0 < m
   pub last : m ≤ 12
@@ -82,7 +82,7 @@ month leap (suc k) d p q =
     })
 
 -- ---- the month of an ordinal
--- a date's month is the one that its ordinal names
+-- `monthOf` of a date's ordinal is the date's month
 findTest : Bool → ℕ → ℕ → Bool
 findTest leap m d = not (leb 1 d) || (not (leb d (lengthOf leap m)) || eqb (monthOf leap (daysBeforeOf leap m + d)) m)
 
@@ -93,7 +93,7 @@ month-found leap m d p q =
     let t = at (findTest leap m) 32 (tested (λ (b : Bool) (k : ℕ). below (findTest b k) 32) 13 tt leap m (omega arith)) d (omega arith) in
     eqb→eq _ _ (when (leb d (lengthOf leap m)) _ (when (leb 1 d) _ t (le→leb 1 d p)) (le→leb d (lengthOf leap m) q))
 
--- each day of the year lies in the month that its ordinal names
+-- each day of the year is in the month that `monthOf` gives for it
 pub record Place (leap : Bool) (n m : ℕ) : Type 0 where
   pub first : 0 < m
   pub last : m ≤ 12
@@ -124,12 +124,12 @@ month-place leap n p q =
 afterTest : Bool → ℕ → Bool
 afterTest leap n = leb (daysBeforeOf leap (monthOf leap n)) n
 
--- the days before an ordinal's month are no more than the ordinal, whatever it is
+-- the days before an ordinal's month are at most the ordinal, also for 0
 pub month-after : (leap : Bool) (n : ℕ) → n ≤ 366 → daysBeforeOf leap (monthOf leap n) ≤ n
 unfolding afterTest daysBeforeOf monthOf countBelow
 month-after leap n h = leb→le _ _ (tested afterTest 367 tt leap n (omega arith))
 
--- the search: where the months were 32 days long, or one later
+-- the code's search: the month if each had 32 days, or the next one
 searchOf : Bool → ℕ → ℕ
 searchOf leap n = let guess = n / 32 + 1 in cond (ltb guess 12 && ltb (daysBeforeOf leap (guess + 1)) n) (guess + 1) guess
 

@@ -1,4 +1,4 @@
--- The day after a date that exists, by the calendar's rule, exists and counts one more; the day before it one less. Assumes nothing.
+-- By the calendar's rule the days after and before a date that exists exist too. Their counts are one more and one less. Assumes nothing.
 use Rattle.prelude.proofs.Logic.{_≡_, refl, sym, ap, _∙_, subst, true, ℕ, _+_, _-_, _<_, arith, ltb, ltb-true, ltb-false, cases}
 use Rattle.calendar.specs.Gregorian.{dateOf, leapOf, lengthOf, daysInMonthOf, existsOf, dayAfterOf, dayBeforeOf}
 use Rattle.calendar.specs.Days.{daysInYearOf}
@@ -7,12 +7,12 @@ use Rattle.calendar.proofs.MonthTables.{before-next, before-january, be
 use Rattle.calendar.proofs.YearSteps.{year-step}
 use Rattle.calendar.proofs.Existing.{exists-yes, to-exists, month-of-date, ordinal-is, count}
 
--- e exists, and is the next in the count
+-- e exists, and its count is one more than d's
 pub record Follows (d e : Date) : Type 0 where
   pub there : existsOf e ≡ true
   pub number : count e ≡ count d + 1
 
--- the first day of a month after the last of the month before, in one year
+-- from the last day of a month to the first of the next, in one year
 next-month : (y m : ℕ) → 0 < m → m < 12 → (d : ℕ) → d ≡ daysInMonthOf y m → existsOf (dateOf y m d) ≡ true
     → Follows (dateOf y m d) (dateOf y (m + 1) 1)
 next-month y m p q d e h =

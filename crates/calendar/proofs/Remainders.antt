@@ -1,4 +1,4 @@
--- A second of the day by an instant's parts. Assumes nothing.
+-- The second of the day, from an instant's parts. Assumes nothing.
 use Rattle.prelude.proofs.Logic.{_≡_, refl, true, false, _+_, _-_, _%_, arith, ℤ, pos, negsuc, ltZ}
 use Rattle.integers.proofs.Integers.{P, N, floorRem, lt-yes, lt-no}
 

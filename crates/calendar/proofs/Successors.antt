@@ -1,4 +1,4 @@
--- The days before and after a date, and the dates of rows, while every year fits a u32. Assumes nothing.
+-- The days before and after a date, and the dates of rows, while a u32 holds every year. Assumes nothing.
 use Rattle.prelude.proofs.Logic.{_≡_, sym, ap, subst, _∙_, true, ℕ, _+_, _≤_, _<_, arith, leb, ltb, pos, _+ℤ_, le-leb, cases, either}
 use Rattle.calendar.specs.Answers.{heldOf, fromOf, tomorrowOf, yesterdayOf, rowDateOf}
 use Rattle.calendar.specs.Days.{dayNumberOf, dateOfDayOf}
@@ -6,7 +6,7 @@ use Rattle.calendar.specs.Gregorian.{existsOf, daysInMonthOf, dayAfterOf
 use Rattle.calendar.specs.declared.dates.Date.{Date}
 use Rattle.calendar.proofs.CalendarLaws.{before-after, day-after-exists, row-first, row-next, date-of-day-exists}
 
--- a year holds, or the next one begins
+-- the day after a date is in the same year or in the next
 pub year-after : (d : Date) → (d .year ≤ dayAfterOf d .year) × (dayAfterOf d .year ≤ d .year + 1)
 unfolding dayAfterOf
 year-after d =
@@ -37,7 +37,7 @@ module _ (d : Date) (h : existsOf d ≡ true) (l : d .year + 1 ≤ 4294967295) w
       from-is (tomorrowOf d) (dayBeforeOf (tomorrowOf d)) tomorrow-exists (subst (λ (x : Date). x .year ≤ 4294967295) (sym e) (omega arith))
       ∙ e
 
--- a row's date is so many days later, and the next row's is the day after it
+-- row k has the date k days later, and row k + 1 the day after it
 module _ (d : Date) (h : existsOf d ≡ true) where
   pub row-is : (k : ℕ) → dateOfDayOf (dayNumberOf d +ℤ pos k) .year ≤ 4294967295 → rowDateOf d k ≡ dateOfDayOf (dayNumberOf d +ℤ pos k)
   row-is k l = from-is d (dateOfDayOf (dayNumberOf d +ℤ pos k)) h l
@@ -52,7 +52,7 @@ module _ (d : Date) (h : existsOf d ≡ true) where
       ∙ sym (tomorrow-is e (date-of-day-exists (dayNumberOf d +ℤ pos k)) l)
       ∙ ap tomorrowOf (sym (row-is k (omega arith)))
 
-  -- a row whose year a u32 holds, and the next one's
+  -- a u32 holds the year of this row and the year after it
   row-held : (k : ℕ) → rowDateOf d k .year < 4294967295 → dateOfDayOf (dayNumberOf d +ℤ pos k) .year + 1 ≤ 4294967295
   unfolding fromOf heldOf
   row-held k l =

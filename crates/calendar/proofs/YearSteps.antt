@@ -6,7 +6,7 @@ use Rattle.calendar.specs.Gregorian.{divides, leapOf}
 use Rattle.calendar.specs.Days.{daysInYearOf, daysBeforeYearOf, lastBy, yearOf}
 
 -- ---- a year later
--- each of the three rules adds a day after a year that it names
+-- each of the three quotients grows by one after a year that its number divides
 fourth : (y : ℕ) (b : Bool) → divides 4 y ≡ b → (y + 1 + 3) / 4 ≡ (y + 3) / 4 + cond b 1 0
 fourth y true h = omega (arith, eqb-true (y % 4) 0 h)
 fourth y false h = omega (arith, eqb-false (y % 4) 0 h)
@@ -19,7 +19,7 @@ four-hundredth : (y : ℕ) (b : Bool) → divides 400 y ≡ b → (y + 1 + 399) 
 four-hundredth y true h = omega (arith, eqb-true (y % 400) 0 h)
 four-hundredth y false h = omega (arith, eqb-false (y % 400) 0 h)
 
--- a hundredth year is a fourth one, and a four-hundredth a hundredth one
+-- a hundredth year is also a fourth one, and a four-hundredth year also a hundredth one
 nested : {X : Type 0} (y : ℕ) (a b c : Bool) → divides 4 y ≡ a → divides 100 y ≡ b → divides 400 y ≡ c → T (b && not a || c && not b) → X
 nested y true true true p q r t = absurd t
 nested y true true false p q r t = absurd t
@@ -81,7 +81,7 @@ pub record In (n y : ℕ) : Type 0 where
   pub from : daysBeforeYearOf y ≤ n
   pub before : n < daysBeforeYearOf (y + 1)
 
--- a year's share of 400 years, which have 146097 days
+-- the days before the year y are near 146097 * y / 400, since 400 years have 146097 days
 spread : (y : ℕ) → (146097 * y ≤ 400 * daysBeforeYearOf y + 396) × (400 * daysBeforeYearOf y ≤ 146097 * y + 699)
 unfolding daysBeforeYearOf
 spread y = shares ((y + 3) / 4) ((y + 99) / 100) ((y + 399) / 400) (omega arith) (omega arith) (omega arith) (omega arith) (omega arith)
@@ -106,7 +106,7 @@ pub year-found : (n : ℕ) → In n (yearOf n)
 unfolding yearOf
 year-found n = last-found (n / 365) n (omega (arith, not-short (n / 365 + 1)))
 
--- a year that begins by a day comes before one that begins after it
+-- a year that begins at a day or before it is before a year that begins after that day
 pub year-before : (n y z : ℕ) → daysBeforeYearOf y ≤ n → n < daysBeforeYearOf z → y < z
 year-before n y z p q = lt-of-not-le (λ l. let m = year-mono z y l in omega arith)
 

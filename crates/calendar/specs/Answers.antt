@@ -7,11 +7,11 @@ use Rattle.calendar.specs.Gregorian.{dateOf, existsOf, dayAfterOf, dayBe
 use Rattle.calendar.specs.Days.{dayNumberOf, dateOfDayOf}
 use Rattle.calendar.specs.declared.dates.Date.{Date}
 
--- the last date that a u32 holds, for a date after it
+-- d, or the last date that a u32 holds if d is after it
 unfoldable pub heldOf : Date → Date
 heldOf d = cond (leb (d .year) 4294967295) d (dateOf 4294967295 12 31)
 
--- a date that does not exist has no day before or after: it gives itself
+-- a date that does not exist has no day before or after it: d itself
 unfoldable pub fromOf : Date → Date → Date
 fromOf d e = cond (existsOf d) (heldOf e) d
 
@@ -27,6 +27,6 @@ nextDateOf d fwd = cond fwd (tomorrowOf d) (yesterdayOf d)
 abbrev pub ofDayOf : ℤ → Date
 ofDayOf day = heldOf (dateOfDayOf day)
 
--- "rows count from 0" (document 01): so many days after the first
+-- "rows count from 0" (document 01): `row` days after the first
 abbrev pub rowDateOf : Date → ℕ → Date
 rowDateOf first row = fromOf first (dateOfDayOf (dayNumberOf first +ℤ pos row))

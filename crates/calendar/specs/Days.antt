@@ -1,5 +1,5 @@
--- Days by number: of the year from 1 on, from 1970-01-01 on, and of the week. That these formulas are the calendar of Gregorian is stated
--- in Promises.
+-- Days by number: in the year from 1 on, from 1970-01-01 on, and in the week. Promises states that these formulas give the calendar of
+-- Gregorian.
 use Prim.Native.Nat.{ℕ, zero, suc, _+_, _-_, _*_, _/_, _%_}
 use mathlib.Core.Bool.{Bool, cond}
 use mathlib.Core.List.{List, [], _∷_}
@@ -18,7 +18,7 @@ monthStartsOf leap =
     cond leap (0 ∷ 31 ∷ 60 ∷ 91 ∷ 121 ∷ 152 ∷ 182 ∷ 213 ∷ 244 ∷ 274 ∷ 305 ∷ 335 ∷ [])
     (0 ∷ 31 ∷ 59 ∷ 90 ∷ 120 ∷ 151 ∷ 181 ∷ 212 ∷ 243 ∷ 273 ∷ 304 ∷ 334 ∷ [])
 
--- 0 if there is no such month
+-- 0 for a month that is not from 1 to 12
 unfoldable pub daysBeforeOf : Bool → ℕ → ℕ
 daysBeforeOf leap month = getD (monthStartsOf leap) (month - 1) 0
 
@@ -34,7 +34,7 @@ unfoldable pub countBelow : List ℕ → ℕ → ℕ
 countBelow [] n = 0
 countBelow (x ∷ xs) n = cond (ltb x n) 1 0 + countBelow xs n
 
--- the month of a day of the year: as many months as begin before it ends
+-- the month of a day of the year: the number of months that begin on that day or before
 unfoldable pub monthOf : Bool → ℕ → ℕ
 monthOf leap ordinal = countBelow (monthStartsOf leap) ordinal
 
@@ -52,12 +52,12 @@ daysBeforeYearOf year = 365 * year + (year + 3) / 4 - (year + 99) / 100 + (year 
 unfoldable pub dayNumberOf : Date → ℤ
 dayNumberOf d = pos (daysBeforeYearOf (d .year) + ordinalOf d) -ℤ pos 719529
 
--- the last of the years up to y that begins by the day n days after 0000-01-01
+-- the last of the years up to y that begins at most n days after 0000-01-01
 unfoldable pub lastBy : ℕ → ℕ → ℕ
 lastBy zero n = 0
 lastBy (suc y) n = cond (leb (daysBeforeYearOf (suc y)) n) (suc y) (lastBy y n)
 
--- that day's year: the last that begins by it. A year has 365 days at least
+-- the year of the day n days after 0000-01-01. It is at most n / 365, because a year has at least 365 days
 unfoldable pub yearOf : ℕ → ℕ
 yearOf n = lastBy (n / 365) n
 

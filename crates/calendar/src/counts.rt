@@ -4,7 +4,7 @@ ghost use Prim.Native.Nat.{_≤_, _<_};
 ghost use Rattle.calendar.specs.Counted.{sinceFirstOf};
 ghost use Rattle.calendar.specs.Days.{daysBeforeYearOf, yearOf};
 
-// 0000-01-01 and the last date of the year 4294967295 by their numbers, and the days from the one to the other.
+// The day numbers of 0000-01-01 and of the last date of the year 4294967295, and the days from the first to the second.
 const FIRST: i64 = -719528;
 
 const LAST: i64 = 1568703873081;

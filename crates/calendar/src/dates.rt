@@ -19,7 +19,7 @@ pub struct Date {
     pub day: u32,
 }
 
-// The date of a day of the year, by a search of the row.
+// The date of a day of the year.
 fn of_ordinal(year: u32, ordinal: u32) -> Date
     requires { ⌜ (0 < ordinal) × (ordinal ≤ 366) ⌝ }
     ensures { λ r. ⌜ r ≡ ofOrdinalOf year ordinal ⌝ }
@@ -89,7 +89,7 @@ impl Date {
         Date::new(year + 1, 1, 1)
     }
 
-    // The ordinal before, or December 31 of the year before.
+    // The date with the ordinal before, or December 31 of the year before.
     pub fn yesterday(self) -> Date
         ensures { λ r. ⌜ r ≡ yesterdayOf self ⌝ }
     {
@@ -138,7 +138,7 @@ impl Date {
         of_ordinal(year as u32, (n + 1 - days_before_year(year)) as u32)
     }
 
-    // The date of a row of a timetable that begins on this date: so many days later.
+    // The date of a row of a timetable that begins on this date: `row` days later.
     pub fn row(self, row: u32) -> Date
         ensures { λ r. ⌜ r ≡ rowDateOf self row ⌝ }
     {

@@ -1,4 +1,4 @@
-// The day of an instant, which is given in whole seconds from 1970-01-01 0h UTC, and its second of that day.
+// The day of an instant, and its second of that day. An instant is given in whole seconds from 1970-01-01 0h UTC.
 ghost use mathlib.Core.Path.{_≡_};
 ghost use Rattle.integers.specs.Quotients.{floorQuot, floorRem};
 use integers::parts::above;
@@ -6,7 +6,7 @@ use integers::parts::below;
 
 pub const MINUTES_IN_DAY: u64 = 1440;
 
-// The number of its day: rounded down, also before 1970.
+// The number of the instant's day: rounded down, also before 1970.
 pub fn day_of(seconds: i64) -> i64
     ensures { λ r. ⌜ r ≡ floorQuot seconds 86400 ⌝ }
 {
@@ -14,7 +14,7 @@ pub fn day_of(seconds: i64) -> i64
     if seconds % 86400 < 0 { day - 1 } else { day }
 }
 
-// The second of its day, from 0 to 86,399, also before 1970.
+// The second of the instant's day, from 0 to 86,399, also before 1970.
 pub fn second_of_day(seconds: i64) -> u64
     ensures { λ r. ⌜ r ≡ floorRem seconds 86400 ⌝ }
 {

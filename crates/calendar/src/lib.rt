@@ -1,5 +1,5 @@
-// The Gregorian calendar on whole numbers: dates by year, month and day, days by number, and the way between them.
-// Every function returns for every argument; specs/Answers.antt says what it returns outside the calendar.
+// The Gregorian calendar on whole numbers: dates by year, month and day, days by number, and the conversions between them.
+// Every public function has a result for every argument; specs/Answers.antt says what it returns outside the calendar.
 mod counts;
 pub mod dates;
 pub mod instants;

@@ -9,7 +9,7 @@ const COMMON: [u32; 12] = [0, 31, 59, 90, 120, 151, 181, 212, 243, 273, 304, 334
 
 const LEAP: [u32; 12] = [0, 31, 60, 91, 121, 152, 182, 213, 244, 274, 305, 335];
 
-// 0 if there is no such month. Both rows are read before the choice: that takes fewer instructions than choosing a row first.
+// 0 for a month that is not from 1 to 12. Both rows are read before the choice: that takes fewer instructions than choosing a row first.
 pub fn days_before(leap: bool, month: u32) -> u32
     ensures { λ r. ⌜ r ≡ daysBeforeOf leap month ⌝ }
 {
@@ -25,7 +25,7 @@ pub fn days_before(leap: bool, month: u32) -> u32
     if leap { leap_year } else { common }
 }
 
-// The difference of two neighbours in the row; 0 if there is no such month.
+// The difference of two neighbours in the row; 0 for a month that is not from 1 to 12.
 pub fn month_days(leap: bool, month: u32) -> u32
     ensures { λ r. ⌜ r ≡ lengthOf leap month ⌝ }
 {

@@ -58,7 +58,7 @@ ratioOf t =
     let q = one +ᶠ t *ᶠ (Q1 +ᶠ t *ᶠ (Q2 +ᶠ t *ᶠ (Q3 +ᶠ t *ᶠ Q4))) in
     p /ᶠ q
 
--- asin x for x from 1/2 up and below 1, as π/2 less twice the arcsine of the root of (1 - x) / 2; ix is x's high word
+-- asin x for an x from 1/2 to below 1: π/2 less twice the arcsine of the root of (1 - x) / 2. ix is x's high word
 unfoldable pub asinLargeOf : Float → ℕ → Float
 asinLargeOf x ix =
     let t = (one -ᶠ x) *ᶠ half in

@@ -81,7 +81,7 @@ A9 = bits 0xbfa2_b444_2c6a_6c2f
 abbrev pub A10 : Float
 A10 = bits 0x3f90_ad3a_e322_da11
 
--- x - atan x, by the even and the odd coefficients apart
+-- x - atan x, with separate sums for the even and the odd coefficients
 unfoldable pub atanRestOf : Float → Float
 atanRestOf x =
     let z = x *ᶠ x in

@@ -1,5 +1,5 @@
-// e_acos.c: the arccosine. Below 1/2 in size as π/2 - asin x;
-// up to -1/2 as π - 2 asin (sqrt ((1 + x) / 2)), and from 1/2 on as 2 asin (sqrt ((1 - x) / 2)).
+// e_acos.c: the arccosine. It is π/2 - asin x for an x below 1/2 in size,
+// π - 2 asin (sqrt ((1 + x) / 2)) for an x up to -1/2, and 2 asin (sqrt ((1 - x) / 2)) for an x from 1/2 on.
 ghost use mathlib.Core.Path.{_≡_};
 ghost use Rattle.fdlibm_arc.specs.Acos.{acosLowOf, acosHighOf, acosOf};
 use super::e_asin::ratio;

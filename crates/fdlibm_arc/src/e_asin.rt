@@ -1,5 +1,5 @@
-// e_asin.c: the arcsine. Below 1/2 as x + x R(x^2), R a rational approximation of (asin x - x) / x within 2^-58.75;
-// from 1/2 on by asin x = π/2 - 2 asin (sqrt ((1 - x) / 2)), below 0.975 with the root's error made good.
+// e_asin.c: the arcsine. Below 1/2 it is x + x R(x^2), where R is a rational approximation of (asin x - x) / x within 2^-58.75.
+// From 1/2 on asin x = π/2 - 2 asin (sqrt ((1 - x) / 2)); below 0.975 the root's error is corrected.
 ghost use mathlib.Core.Path.{_≡_};
 ghost use Rattle.fdlibm_arc.specs.Asin.{ratioOf, asinLargeOf, asinOf};
 use fdlibm_root::e_sqrt::sqrt;

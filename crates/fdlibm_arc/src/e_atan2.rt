@@ -1,4 +1,4 @@
-// e_atan2.c: the angle of the point (x, y), from -π to π: the arctangent of |y / x|, put into its quadrant by the two signs.
+// e_atan2.c: the angle of the point (x, y), from -π to π: the arctangent of |y / x|, moved to its quadrant by the two signs.
 ghost use mathlib.Core.Path.{_≡_};
 ghost use Rattle.fdlibm_arc.specs.Atan2.{quadrantOf, uprightOf, levelOf, infiniteOf, quotientOf, finiteOf, atan2Of};
 use super::s_atan::atan;

@@ -1,6 +1,6 @@
-// s_atan.c: the arctangent. Below 7/16 by the odd polynomial of degree 23,
-//     atan x ~ x - x (A0 x^2 + .. + A10 x^22);
-// from there on by the arctangent of the nearest of 1/2, 1, 3/2 and ∞:
+// s_atan.c: the arctangent. Below 7/16 it is the odd polynomial of degree 23,
+//     atan x ~ x - x (A0 x^2 + .. + A10 x^22).
+// From 7/16 on it uses the arctangent of b, the nearest of 1/2, 1, 3/2 and ∞:
 //     atan t = atan b + atan ((t - b) / (1 + t b)).
 ghost use mathlib.Core.Path.{_≡_};
 ghost use Rattle.fdlibm_arc.specs.Atan.{atanRestOf, atanFromOf, atanLargeOf, atanOf};

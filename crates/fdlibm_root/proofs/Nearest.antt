@@ -1,7 +1,7 @@
 -- The root is the float that is nearest to the exact root: specs/Nearest.antt's `SqrtIsNearest`.
--- In units of w = 2 ^ j the exact root is √M and the float is s, where s * (s - 1) < M ≤ s * (s + 1). Another float is a multiple of w,
--- so that the middle is s - 1/2 at most or s + 1/2 at least; or it lies below 2 ^ 52 * w, where floats are closer to each other, and s is
--- then 2 ^ 52 at least.
+-- In units of w = 2 ^ j the exact root is √M and the float is s, where s * (s - 1) < M ≤ s * (s + 1). Another float is either a multiple of
+-- w, and then the middle is at most s - 1/2 or at least s + 1/2; or it is below 2 ^ 52 * w, where floats are closer to each other, and then
+-- s is at least 2 ^ 52.
 use Rattle.prelude.proofs.Logic.{_≡_, refl, sym, ap, _∙_, subst, Bool, true, false, _⊎_, inl, inr, ℕ, zero, suc, _+_, _-_, _*_, _/_, _%_}
 use Rattle.prelude.proofs.Logic.{_^_, _≤_, _<_, le-trans, le-add-left, lt-irrefl, lt-of-not-le, not-le-of-lt, zero-lt-suc, zero-mul}
 use Rattle.prelude.proofs.Logic.{suc-mul, le-of-lt, lt-of-le-of-lt, lt-of-lt-of-le, lt-of-mul-lt-mul-right, mul-assoc, mul-comm}
@@ -35,7 +35,7 @@ module _ (s M : ℕ) (low : s * s < M + s) (high : M ≤ s * s + s) where
   over : (t : ℕ) → 2 * s + 1 ≤ t → 4 * M < t * t
   over t h = lt-of-lt-of-le (odd-above s M high) (mul-le-mul h h)
 
-  -- below k, the least s, where √M is k at least
+  -- the middle between s and k is at most √M, for a k that is at most s and at most √M
   under-least : (k : ℕ) → k ≤ s → k * k ≤ M → (s + k) * (s + k) ≤ 4 * M
   under-least k k-le least =
       elim (split s k) [

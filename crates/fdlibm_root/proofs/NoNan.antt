@@ -1,4 +1,4 @@
--- When a float or a pattern is no NaN's: what `f64::to_bits` and `f64::from_bits` ask.
+-- When a float is no NaN, and when a pattern is no NaN's: `f64::to_bits` and `f64::from_bits` require this.
 use Rattle.prelude.proofs.Logic.{_≡_, sym, _∙_, subst, Bool, true, not, false≢true, ℕ, _%_, _^_, _<_, le-of-lt, lt-trans, mod-eq-of-lt, T}
 use Rattle.prelude.proofs.Logic.{lit<, le-ltb}
 use Rattle.prelude.proofs.Ieee.{Float, nan, inf, fin, binary64, isNan, lt, eq, nanBits, nanBits-above}

@@ -1,4 +1,4 @@
--- From the pattern of a float above 0 to the whole number whose root `sqrtOf` takes.
+-- From the pattern of a float above 0 to the whole number whose root `sqrtOf` rounds.
 use Rattle.prelude.proofs.Logic.{_≡_, refl, sym, ap, _∙_, subst, Bool, true, false, cond, false≢true, inl, inr, ℕ, zero, suc, _+_, _-_, _*_}
 use Rattle.prelude.proofs.Logic.{_/_, _%_, _^_, _≤_, _<_, add-comm, eq-zero-or-pos, lt-irrefl, mod-eq-of-lt, mul-assoc, mul-div-cancel}
 use Rattle.prelude.proofs.Logic.{mul-one, mul-pos, mul-right-comm, arith, T, leb, eqb, pos, pow-add, pow-pos, leb-false, eqb-true}

@@ -1,4 +1,4 @@
--- `round` of a number in the binade of s, and within half a unit of s, is s; and the pattern of that float.
+-- `round` gives s for a number in the binade of s and within half a unit of s; and the pattern of that float.
 use Rattle.prelude.proofs.Logic.{_≡_, sym, ap, _∙_, subst, true, false, not, true≢false, ℕ, _+_, _-_, _*_, _/_, _%_, _^_, _≤_, _<_, compare}
 use Rattle.prelude.proofs.Logic.{Ordering, Ordering·lt, Ordering·eq, Ordering·gt, lt-of-lt-of-le, lt-of-not-le, not-le-of-lt}
 use Rattle.prelude.proofs.Logic.{lt-of-mul-lt-mul-right, mul-assoc, mul-pos, mul-div-cancel, mul-le-mul-right, div-add-mod', mod-lt, arith}
@@ -46,7 +46,7 @@ closest-is a b s B lo hi =
     nearest-is (a / b) (a % b) b s (compare (a % b * 2) b) (compared (a % b * 2) b) (mod-lt a B)
     (rw whole lo) (rw whole hi)
 
--- ---- U smallest floats, rounded: j digits are dropped
+-- ---- rounding U units of the smallest float drops j digits
 dropped : (n j : ℕ) → 2 ^ (52 + j) ≤ n → n < 2 ^ (53 + j) → size n - 53 ≡ j
 dropped n j lo hi =
     let most : size n ≤ 53 + j = size-le n (53 + j) hi in
@@ -66,7 +66,7 @@ round-to U D s j e lo hi near-lo near-hi =
     (closest-same (U * 2 ^ 1074) (D * 2 ^ j) U (2 ^ j) (mul-pos P (pow-pos j)) (pow-pos j) scaled
     ∙ closest-is U (2 ^ j) s (pow-pos j) near-lo near-hi)
 
--- ---- the pattern of s * 2 ^ j smallest floats, s having 53 digits
+-- ---- the pattern of s * 2 ^ j units of the smallest float, for an s of 53 digits
 pattern-is : (v : Float) (s j : ℕ) → 2 ^ (52 + j) ≤ s * 2 ^ j → s * 2 ^ j < 2 ^ (53 + j) → HasValue v false (s * 2 ^ j) (2 ^ 1074)
     → toBits binary64 v ≡ j * 2 ^ 52 + s
 unfolding toBits
@@ -82,7 +82,7 @@ pattern-is (fin false m e) s j lo hi v =
     tidy a b = omega arith
 pattern-is (fin true m e) s j lo hi v = absurd (true≢false (v .0))
 
--- s has all 53 digits, and j places more are a float's
+-- s has all 53 digits, and j is small enough: s * 2 ^ j is a float's size
 pub record FullWidth (s j : ℕ) : Type 0 where
   pub low : 2 ^ 52 ≤ s
   pub high : s < 2 ^ 53

@@ -1,4 +1,4 @@
--- Each float is a significand of at most 53 digits, moved up by some places: how many smallest floats it is, as that product.
+-- Each float's size, in units of the smallest float, is a significand of at most 53 digits times a power of two.
 use Rattle.prelude.proofs.Logic.{_≡_, sym, ap, _∙_, subst, Bool, false, _&&_, ℕ, zero, suc, _+_, _-_, _*_, _%_, _^_, _≤_, _<_}
 use Rattle.prelude.proofs.Logic.{lt-of-lt-of-le, not-le-of-lt, zero-mul, mul-one, mul-assoc, mul-right-comm, mul-pos, mul-le-mul-right}
 use Rattle.prelude.proofs.Logic.{mul-lt-mul-of-pos-right, lt-of-mul-lt-mul-right, eq-of-mul-eq-mul-right, arith, T, eqb, leb, ltb, leb→le}
@@ -11,7 +11,7 @@ pub record Written (a : ℕ) : Type 0 where
   pub is : a ≡ digits * 2 ^ places
   pub few : digits < 2 ^ 53
 
--- down to the smallest float
+-- from units of 2 ^ -k to units of 2 ^ -l
 down-to : (m a k l : ℕ) → 2 ^ k ≤ 2 ^ l → m * 1 * 2 ^ l ≡ a * 2 ^ k → a ≡ m * 2 ^ (l - k)
 down-to m a k l h e =
     let over : l < k → ⊥ = λ g. not-le-of-lt (pow-lt g) h in let k-le : k ≤ l = omega (arith, over) in
@@ -89,7 +89,7 @@ multiple b j w h =
         let top : q * 2 ^ k < 2 ^ (53 + k) = shl-lt 53 k few in let room : 2 ^ (53 + k) ≤ 2 ^ (52 + j) = pow-mono (omega arith) in
         rw (is, ← pow-add 2 52 j) (lt-of-lt-of-le top room)
 
--- every float is below 2 ^ 2098 of the smallest
+-- every float is below 2 ^ 2098 units of the smallest
 pub bounded : (x : Float) (a : ℕ) → T (fits binary64 x) → HasValue x false a (2 ^ 1074) → a < 2 ^ 2098
 unfolding fits
 bounded (fin s zero e) a h v =

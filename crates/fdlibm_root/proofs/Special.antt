@@ -1,10 +1,10 @@
--- The roots that are no numbers above 0: a zero's is the zero itself, and what is neither above 0 nor a zero has none.
+-- The root of a zero is that zero. A float that is neither above 0 nor a zero has no root.
 use Rattle.prelude.proofs.Logic.{_≡_, refl, sym, ap, _∙_, subst, Bool, true, false, _&&_, _||_, Bool·beq, false≢true, true≢false, ℕ, zero}
 use Rattle.prelude.proofs.Logic.{suc, _*_, _<_, lt-irrefl, mul-pos, zero-lt-suc, zero-mul, T, eqb, ltb, eqb→eq, lt→ltb, ℤ, pos, and-l}
 use Rattle.prelude.proofs.Ieee.{Float, nan, inf, fin, up, down, lt, eq, is-true, up-pos}
 use Rattle.fdlibm_root.specs.Root.{sqrtOf}
 
--- a number's size, and a zero's, as the comparisons take them
+-- the size of a number and of a zero, as the comparisons see them
 size-above : (m : ℕ) (e : ℤ) → 0 < suc m * up e * 1
 size-above m e = mul-pos (mul-pos (zero-lt-suc m) (up-pos e)) (zero-lt-suc 0)
 

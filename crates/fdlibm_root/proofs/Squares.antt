@@ -1,4 +1,4 @@
--- What a turn of the digit loop keeps, what it gives at the end, and how its last digit rounds.
+-- The invariant of the digit loop, what follows from it at the end, and how the last digit rounds.
 use Rattle.prelude.proofs.Logic.{_≡_, refl, ap, _⊎_, inl, inr, ℕ, zero, suc, _+_, _-_, _*_, _/_, _%_, _^_, _≤_, _<_, lt-of-lt-of-le}
 use Rattle.prelude.proofs.Logic.{pow-le-pow-right, pow-suc, add-one, arith, lit<}
 use Rattle.fdlibm_root.specs.Root.{Root}
@@ -16,7 +16,7 @@ pub record Kept (m q left rest i : ℕ) : Type 0 where
 fits : (i q : ℕ) → i ≤ 54 → q < 2 ^ i → q < 2 ^ 54
 fits i q h l = lt-of-lt-of-le l (pow-le-pow-right (lit< tt) h)
 
--- the next digit is 1 if p, what is left with two more digits of m, is 4 * q + 1 at least, else 0
+-- p is `left` with two more digits of m. The next digit is 1 if p is at least 4 * q + 1, else 0
 one : (m q left rest w p : ℕ) → (q * q + left) * 2 ^ 54 + rest ≡ m * w → p ≡ left * 4 + rest / 2 ^ 52 → q * 4 + 1 ≤ p
     → ((q * 2 + 1) * (q * 2 + 1) + (p - (q * 4 + 1))) * 2 ^ 54 + rest % 2 ^ 52 * 4 ≡ m * (w * 4)
 one m q left rest w p e is h = omega arith
@@ -56,7 +56,7 @@ last m q left rest i k h =
     let n : q * q + left ≡ m * 2 ^ 54 = omega (arith, k .room) in
     record { within = omega arith; above = omega (arith, k .whole) }
 
--- ---- half of the root of 4 * M, rounded: (2 s - 1)² and (2 s + 1)² are odd, so that neither is 4 * M, and there is no tie
+-- ---- half of the root of 4 * M, rounded. There is no tie: (2 s - 1)² and (2 s + 1)² are odd, so neither is 4 * M
 halves : (M q s : ℕ) → q * q ≤ 4 * M → 4 * M < (q + 1) * (q + 1) → 0 < s → (q ≡ 2 * s) ⊎ (q + 1 ≡ 2 * s) → (s * s < M + s) × (M ≤ s * s + s)
 halves M q s lo hi h (inl e) =
     let squares : q * q ≡ 2 * s * (2 * s) = ap (λ (z : ℕ). z * z) e in

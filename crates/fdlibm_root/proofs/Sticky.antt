@@ -1,6 +1,6 @@
 -- From the whole number s nearest to the root of m * 2 ^ 52 to the float that `roundedRoot` defines.
--- With n = 4 * m * 2 ^ 52 * P * P the root of n lies strictly between (2 s - 1) * P and (2 s + 1) * P,
--- and so does half of what is rounded, the cut root with the digit that stands for the rest.
+-- With n = 4 * m * 2 ^ 52 * P * P the root of n is strictly between (2 s - 1) * P and (2 s + 1) * P.
+-- So is half of the number that is rounded: the cut root, with one more digit for the rest.
 use Rattle.prelude.proofs.Logic.{_≡_, refl, sym, ap, _∙_, Bool, true, false, cond, ℕ, _+_, _-_, _*_, _^_, _≤_, _<_, lt-trans}
 use Rattle.prelude.proofs.Logic.{lt-of-le-of-lt, lt-of-not-le, mul-comm, mul-assoc, mul-left-comm, mul-add, add-mul, mul-pos, mul-le-mul}
 use Rattle.prelude.proofs.Logic.{mul-le-mul-left, mul-le-mul-right, mul-lt-mul-of-pos-right, arith, T, eqb, lit≤, pow-add, pow-pos}
@@ -62,7 +62,7 @@ near-lo m s near h =
 pub near-hi : (m s : ℕ) → NearRoot m s → m ≤ 18014398509481982 → s < 2 ^ 53
 near-hi m s near h = lt-of-not-le (λ (g : 2 ^ 53 ≤ s). too-many s (m * 2 ^ 52) 9007199254740991 g (near .low) (mul-le-mul-right (2 ^ 52) h))
 
--- ---- v between 2 * t * P and 2 * (2 * s + 1) * P, in the units of `round`: Q of them to each of v's
+-- ---- v between 2 * t * P and 2 * (2 * s + 1) * P, in the units of `round`: one of v's units is Q of these
 module _ (s t P Q v w : ℕ) (Q-pos : 0 < Q) (odd : t + 1 ≡ 2 * s) (unit : w ≡ 4 * (P * Q)) where
   unit-lo : 2 * (t * P) < v → 2 * s * w < 2 * (v * Q) + w
   unit-lo h =
@@ -79,7 +79,7 @@ module _ (s t P Q v w : ℕ) (Q-pos : 0 < Q) (odd : t + 1 ≡ 2 * s) (unit : w �
   digits-hi : (k : ℕ) → v < k * 4 * P → v * Q < k * w
   digits-hi k h = let a : v * Q < k * 4 * P * Q = mul-lt-mul-of-pos-right h Q-pos in rw unit (omega arith)
 
--- ---- the whole of it: P is 2 ^ i, Q is 2 ^ 473, and round drops i + 475 digits
+-- ---- all together: P is 2 ^ i, Q is 2 ^ 473, and round drops i + 475 digits
 pub odd-below : (s t M : ℕ) → t + 1 ≡ 2 * s → s * s < M + s → t * t < 4 * M
 odd-below s t M odd h = let squares : (t + 1) * (t + 1) ≡ 2 * s * (2 * s) = ap (λ (z : ℕ). z * z) odd in omega arith
 
@@ -121,7 +121,7 @@ rounded-units m s i n near m-lo d is =
         room : (s : ℕ) → s < 2 ^ 53 → 2 * s + 1 ≤ 2 ^ 54
         room s h = omega arith
 
--- what `roundedRoot` gives is a float
+-- `roundedRoot` gives a float
 rounded-fits : (n : ℕ) → T (fits binary64 (roundedRoot n))
 unfolding roundedRoot
 rounded-fits n = round-fits binary64 false (2 * wholeRoot n + rest n (wholeRoot n)) (2 ^ 601)

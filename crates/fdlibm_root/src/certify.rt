@@ -1,19 +1,19 @@
-// A candidate for the whole number nearest to the root of m * 2^52, by floats, and whole-number arithmetic that decides whether it is
-// right.
+// A candidate for the whole number nearest to the root of m * 2^52, computed with floats. Whole-number arithmetic then decides whether it
+// is right.
 ghost use mathlib.Core.Path.{_≡_};
 ghost use Prim.Native.Nat.{_+_, _*_, _^_, _<_};
 ghost use Rattle.fdlibm_root.specs.Near.{NearRoot};
 
-// 1 / sqrt(f) is within 4 % of the float whose pattern is this less half of f's
+// 1 / sqrt(f) is within 4 % of the float whose pattern is GUESS less half of f's pattern
 const GUESS: u64 = 0x5fe6_eb50_c7b5_37a9;
 
 // the leading digit of a normal float's significand, which its pattern leaves out
 pub const LEADING: u64 = 0x0010_0000_0000_0000;
 
-// what is added to a residue, so that no number here is negative
+// is added to a residue: no number here may be negative
 const OFFSET: u64 = 0x0080_0000_0000_0000;
 
-// sqrt(f) * 2^52 for the f in [1, 4) with this pattern, nearly always right to a unit; only its size is promised.
+// sqrt(f) * 2^52 for the f in [1, 4) with this pattern. It is nearly always right to a unit, but the contract promises only its size.
 // g and y are near sqrt(f) and 1 / sqrt(f). Each of two steps multiplies them by 1 / sqrt(1 - e) = 1 + e * (1/2 + 3/8 e + 5/16 e^2 + ..),
 // where g * y = 1 - e.
 pub fn estimate(pattern: u64) -> u64
@@ -34,7 +34,7 @@ pub fn estimate(pattern: u64) -> u64
     }
 }
 
-// OFFSET + m * 2^52 - s * s, or 0 if the tests do not show that it is near OFFSET and can be worked out without a carry.
+// OFFSET + m * 2^52 - s * s, or 0 if the tests do not show that it is near OFFSET and that no sum or product overflows.
 // With s = a * 2^27 + b the difference is e * 2^52 - 2 * a * b * 2^27 - b * b, where e = m - 4 * a * a.
 // `over` and `under` count the multiples of 2^27 in OFFSET and e * 2^52, and in the rest.
 fn residue(m: u64, s: u64) -> u64
@@ -57,8 +57,8 @@ fn residue(m: u64, s: u64) -> u64
     0
 }
 
-// The whole number nearest to the root of m * 2^52 if that is s or a neighbour of s, else 0. It is s + 1, for example, if
-// m * 2^52 - s * s is above s, from s * (s + 1) on, and at most 3 * s + 2, up to (s + 1) * (s + 2).
+// The whole number nearest to the root of m * 2^52 if that is s or a neighbour of s, else 0. For example, it is s + 1 if
+// m * 2^52 - s * s is above s and at most 3 * s + 2: then m * 2^52 is above s * (s + 1) and at most (s + 1) * (s + 2).
 pub fn corrected(m: u64, s: u64) -> u64
     requires { ⌜ (m < 2 ^ 54) × (s < 2 ^ 53) ⌝ }
     ensures { λ r. ⌜ (0 < r → NearRoot m r) ⌝ }

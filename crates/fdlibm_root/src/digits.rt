@@ -3,8 +3,8 @@ ghost use Prim.Native.Nat.{_*_, _^_, _<_};
 ghost use Rattle.fdlibm_root.specs.Root.{Root};
 ghost use Rattle.fdlibm_root.specs.Near.{NearRoot};
 
-// The whole root of m * 2^54. Of its first 2 i digits q is the root and `left` what q's square leaves; `rest` has those of m that are
-// still to come, the next two at the top of its 54.
+// The whole root of m * 2^54. After i turns q is the root of the first 2 i digits of that number, and `left` is those digits less q's
+// square. `rest` has the digits of m that are still to come; the next two are at the top of its 54 digits.
 fn root(m: u64) -> u64
     requires { ⌜ m < 2 ^ 54 ⌝ }
     ensures { λ r. ⌜ (Root (m * 2 ^ 54) r) × (r < 2 ^ 54) ⌝ }
@@ -28,7 +28,7 @@ fn root(m: u64) -> u64
     q
 }
 
-// That root has one digit more than the one that is asked for, and it rounds. There is no tie: m * 2^54 is no odd number's square.
+// Half of that root, rounded by its last digit. There is no tie: m * 2^54 is not the square of an odd number.
 pub fn by_digits(m: u64) -> u64
     requires { ⌜ (0 < m) × (m < 2 ^ 54) ⌝ }
     ensures { λ r. ⌜ NearRoot m r ⌝ }

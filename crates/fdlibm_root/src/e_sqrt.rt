@@ -1,15 +1,15 @@
 // sqrt(x): the exact root, rounded once to the nearest float, with no square root instruction.
 //
 // Method.
-//   1. A NaN and a number below zero have no root; a zero and the infinity are their own.
+//   1. A NaN and a number below zero have no root. A zero and the infinity are their own roots.
 //   2. Any other x is m * 4^k for a whole m with 2^52 <= m < 2^54: its significand, moved up to 53 digits if x is subnormal, and
-//      doubled if the exponent is odd. The root is sqrt(m * 2^52) * 2^(k - 26), and sqrt(m * 2^52) lies in [2^52, 2^53).
+//      doubled if the exponent is odd. The root is sqrt(m * 2^52) * 2^(k - 26), and sqrt(m * 2^52) is in [2^52, 2^53).
 //      So the significand of the rounded root is the whole number s nearest to it: s * (s - 1) < m * 2^52 <= s * (s + 1).
 //      It is never a tie, since the square of s + 1/2 is not whole.
-//   3. certify.rt has a candidate for s, made by floats with no bound on their errors, and the exact difference of its square and
-//      m * 2^52 in whole numbers, which tells whether the candidate or a neighbour of it is s.
-//   4. If neither is, which is rare, digits.rt finds s one binary digit at a time.
-//   Both promise of s what step 2 says, and the proof takes no more of them: the result does not depend on the candidate.
+//   3. certify.rt makes a candidate for s with floats. Nothing bounds their errors. It computes the exact difference of the candidate's
+//      square and m * 2^52 in whole numbers, which tells whether the candidate or a neighbour of it is s.
+//   4. If none of them is s, which is rare, digits.rt finds s one binary digit at a time.
+//   Both promise of s what step 2 says, and the proof uses nothing else of them: the result does not depend on the candidate.
 ghost use mathlib.Core.Path.{_≡_};
 ghost use Prim.Native.Nat.{_+_, _*_, _-_, _^_, _≤_, _<_};
 ghost use lib.Ieee.{ofBits, binary64};

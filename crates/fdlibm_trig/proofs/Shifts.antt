@@ -1,4 +1,4 @@
--- A high word moved up to its place: no bit is lost, and no NaN's pattern comes of it. Assumes nothing.
+-- A high word shifted up by 32 bits: no bit is lost, and the result is no NaN's pattern. Assumes nothing.
 use Rattle.prelude.proofs.Logic.{_≡_, sym, subst, _∙_, Bool, not, ℕ, _%_, _*_, _<_, _≤_, mod-le, mod-eq-of-lt, arith, T, le-ltb}
 use Rattle.float64.proofs.Floats.{binary64, nanBits, nanBits-above}
 

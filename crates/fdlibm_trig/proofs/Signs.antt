@@ -1,4 +1,4 @@
--- A size by the number itself: its test against 70 as two comparisons, and `abs` by the sign that a test has found. Assumes nothing.
+-- The test of a size against 70 as two comparisons, and `abs` as x or -x after a test of the sign. Assumes nothing.
 use Rattle.prelude.proofs.Logic.{_≡_, refl, sym, ap, _∙_, Bool, true, false, false≢true, true≢false, _&&_, _||_, inl, inr, ℕ, _+_, _-_, _*_}
 use Rattle.prelude.proofs.Logic.{_/_, _%_, _^_, _≤_, mul-pos, eq-zero-or-pos, zero-mul, zero-div, arith, ltb, eqb, ℤ, eq-eqb, ltb-true}
 use Rattle.prelude.proofs.Logic.{ltb-false, eqb-true, cases}
@@ -7,7 +7,7 @@ use Rattle.float64.specs.Ops.{bits, dec}
 use Rattle.fdlibm_trig.specs.KTan.{zero}
 use Rattle.fdlibm_trig.specs.Trig.{seventy}
 
--- no number below zero is above one that is not
+-- a number below zero is not above one that is not below zero
 low-high : (a b : ℕ) → (ltb 0 (a + b) || (eqb a b && (false || eqb a 0))) ≡ true
 low-high a b =
     cases (ltb 0 (a + b)) (λ h. rw h refl)

@@ -28,11 +28,11 @@ C5 = bits 0x3e21_ee9e_bdb4_b1c4
 abbrev pub C6 : Float
 C6 = bits 0xbda8_fae9_be88_38d4
 
--- qx for the high word ix of |x|: 0.28125 above 0.78125, and |x| / 4 with its low word cleared below
+-- qx for the high word ix of |x|: 0.28125 if |x| is above 0.78125, else |x| / 4 with its low word cleared
 unfoldable pub quarterOf : ℕ → Float
 quarterOf ix = cond (ltb 0x3fe9_0000 ix) (bits 0x3fd2_0000_0000_0000) (bits ((ix - 0x0020_0000) * 2 ^ 32))
 
--- cos (x + y), where y is the tail of x; below 2 ^ -27 it is 1, and from 0.3 on a quarter of x is taken off 1 and off x² / 2 first
+-- cos (x + y) for the tail y of x. Below 2 ^ -27 it is 1; from 0.3 on qx is first subtracted from 1 and from x² / 2
 unfoldable pub kernelCosOf : Float → Float → Float
 kernelCosOf x y =
     let ix = highOf x in

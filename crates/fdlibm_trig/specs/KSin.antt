@@ -26,7 +26,7 @@ S5 = bits 0xbe5a_e5e6_8a2b_9ceb
 abbrev pub S6 : Float
 S6 = bits 0x3de5_d93a_5acf_d57c
 
--- sin (x + y), where y is the tail of x and `tail` (iy) says whether there is one; below 2 ^ -27 it is x itself
+-- sin (x + y) for the tail y of x. `tail` (iy) says whether there is one. Below 2 ^ -27 it is x itself
 unfoldable pub kernelSinOf : Float → Float → Bool → Float
 kernelSinOf x y tail =
     let z = x *ᶠ x in

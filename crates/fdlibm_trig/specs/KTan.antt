@@ -61,7 +61,7 @@ T11 = bits 0xbef3_75cb_db60_5373
 abbrev pub T12 : Float
 T12 = bits 0x3efb_2a70_74bf_7ad4
 
--- tan (x + y) - x, by the odd and the even coefficients apart
+-- tan (x + y) - x, with separate sums for the odd and the even coefficients
 unfoldable pub tanRestOf : Float → Float → Float
 tanRestOf x y =
     let z = x *ᶠ x in
@@ -71,7 +71,7 @@ tanRestOf x y =
     let s = z *ᶠ x in
     y +ᶠ z *ᶠ (s *ᶠ (r +ᶠ v) +ᶠ y) +ᶠ T0 *ᶠ s
 
--- -1 / w for w = x + r, with the error of the division made good
+-- -1 / w for w = x + r, with the error of the division corrected
 unfoldable pub reciprocalOf : Float → Float → Float → Float
 reciprocalOf w x r =
     let z = lowClearedOf w in

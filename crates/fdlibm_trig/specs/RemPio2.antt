@@ -17,7 +17,7 @@ use Rattle.fdlibm_trig.specs.KTan.{zero}
 abbrev pub invpio2 : Float
 invpio2 = bits 0x3fe4_5f30_6dc9_c883
 
--- π/2 by its first, second and third 33 bits; each tail, with a t, is what is left of it
+-- the first, second and third 33 bits of π/2; a name with t is the tail: what is left of π/2 after these bits
 abbrev pub pio2-1 : Float
 pio2-1 = bits 0x3ff9_21fb_5440_0000
 
@@ -44,11 +44,11 @@ npio2 =
     0x403a_b41b ∷ 0x403c_463a ∷ 0x403d_d85a ∷ 0x403f_6a7a ∷ 0x4040_7e4c ∷ 0x4041_475c ∷ 0x4042_106c ∷ 0x4042_d97c ∷
     0x4043_a28c ∷ 0x4044_6b9c ∷ 0x4045_34ac ∷ 0x4045_fdbb ∷ 0x4046_c6cb ∷ 0x4047_8fdb ∷ 0x4048_58eb ∷ 0x4049_21fb ∷ []
 
--- npio2_hw[n - 1]; past the table 0
+-- npio2_hw[n - 1]; 0 beyond the table
 unfoldable pub npio2Of : ℕ → ℕ
 npio2Of n = getD npio2 (n - 1) 0
 
--- the field of the exponent: __HI(y) >> 20 & 0x7ff
+-- the exponent field: __HI(y) >> 20 & 0x7ff
 abbrev pub exponentOf : Float → ℕ
 exponentOf y = highOf y / 2 ^ 20
 
@@ -82,7 +82,7 @@ refineOf k j t =
     (cond (ltb (exponentOf (second .r -ᶠ second .w) + 49) j) third second)
     first
 
--- the further iterations are looked at from n = 32 on, and below that only if t's high word is that of n * π/2
+-- further iterations are considered for n from 32 on, and for smaller n only if t's high word is that of n * π/2
 unfoldable pub differenceOf : Float → ℕ → ℕ → Parts
 differenceOf t ix n =
     let k = ofInt binary64 (pos n) in

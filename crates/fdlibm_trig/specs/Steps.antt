@@ -1,4 +1,4 @@
--- This file need not be believed: the steps by which the code works a sine and a cosine together. Trig's sincosOf says what it gives.
+-- This file need not be believed: the steps by which the code computes a sine and a cosine together. Trig's sincosOf says what they are.
 use Prim.Native.Nat.{ℕ, _+_, _%_}
 use mathlib.Core.Bool.{Bool}
 use lib.Ieee.{Float}

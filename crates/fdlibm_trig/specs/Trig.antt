@@ -1,4 +1,4 @@
--- s_sin.c, s_cos.c and s_tan.c. "sin, cos and tan are NaN for arguments beyond 70 radians in size".
+-- s_sin.c, s_cos.c and s_tan.c. "sin, cos and tan are NaN for arguments beyond 70 radians in size"; fdlibm goes on.
 use Prim.Native.Nat.{ℕ, _+_, _%_}
 use mathlib.Core.Bool.{true, false, cond}
 use lib.Dec.{leb, eqb}

@@ -1,7 +1,7 @@
 // e_rem_pio2.c up to its medium case: x = n * π/2 + (y0 + y1), |y0| at most about π/4.
-// π/2 is held in three parts of 33 bits with their tails. Taking off the first is enough for most x;
-// near a multiple of π/2 bits cancel, and one or two further turns bring the next parts in.
-// fdlibm's medium case goes on to 2^19 π/2. Its large case is not here: sin, cos and tan ask for no x beyond 70.
+// π/2 is held in three parts of 33 bits with their tails. For most x it is enough to subtract the first.
+// Near a multiple of π/2 bits cancel, and one or two further turns subtract the next parts.
+// fdlibm's medium case goes on to 2^19 π/2. Its large case is not here: sin, cos and tan need no x beyond 70.
 ghost use mathlib.Core.Path.{_≡_};
 ghost use Prim.Native.Nat.{_<_};
 ghost use Rattle.fdlibm_trig.specs.RemPio2.{npio2Of, exponentOf, lessOf, moreOf, iterationOf, refineOf, differenceOf, mediumOf};
@@ -33,15 +33,15 @@ pub struct Parts {
     pub w: f64,
 }
 
-// n quarter turns, by n's remainder by 4, and the rest of the angle, y0 with its tail y1.
+// n quarter turns, as n's remainder by 4, and the rest of the angle: y0 with its tail y1.
 pub struct Reduced {
     pub n: u32,
     pub y0: f64,
     pub y1: f64,
 }
 
-// The high word of n * π/2, n from 1 to 32: fdlibm's npio2_hw[n - 1]. The first part of π/2 alone gives each of them. 0 is taken as 1, and
-// beyond its end the row has 0.
+// The high word of n * π/2, n from 1 to 32: fdlibm's npio2_hw[n - 1]. The first part of π/2 alone gives each of them. n = 0 is taken as 1.
+// Returns 0 beyond the table's end.
 fn npio2(n: u32) -> u32
     ensures { λ r. ⌜ r ≡ npio2Of n ⌝ }
 {
@@ -54,7 +54,7 @@ fn npio2(n: u32) -> u32
     0
 }
 
-// The field of y's exponent.
+// The exponent field of y's bit pattern.
 fn exponent(y: f64) -> u32
     ensures { λ r. ⌜ (r ≡ exponentOf y) × (r < 4096) ⌝ }
 {
@@ -95,7 +95,7 @@ fn turn(t: f64, k: f64, a: f64, b: f64) -> Parts
     }
 }
 
-// t less k * π/2, with as many turns as the cancelled bits ask for.
+// t less k * π/2. The number of cancelled bits decides how many turns are taken.
 fn refine(k: f64, j: u32, t: f64) -> Parts
     ensures { λ r. ⌜ r ≡ refineOf k j t ⌝ }
 {
@@ -113,7 +113,7 @@ fn refine(k: f64, j: u32, t: f64) -> Parts
     }
 }
 
-// t less n * π/2. The further turns are looked at from n = 32 on, and below that only if t is near n * π/2.
+// t less n * π/2. Further turns are considered for n from 32 on, and for smaller n only if t is near n * π/2.
 fn difference(t: f64, ix: u32, n: u32) -> Parts
     ensures { λ r. ⌜ r ≡ differenceOf t ix n ⌝ }
 {

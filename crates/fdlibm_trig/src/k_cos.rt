@@ -1,6 +1,6 @@
 // k_cos.c: the cosine on [-π/4, π/4], by the even polynomial of degree 14
 //     cos x ~ 1 - x^2 / 2 + C1 x^4 + .. + C6 x^14,   within 2^-58.
-// From 0.3 on 1 - x^2 / 2 would lose bits, so qx, about x / 4 and exact, is taken off both first:
+// From 0.3 on 1 - x^2 / 2 would lose bits, so qx, about x / 4 and exact, is subtracted from both first:
 //     (1 - qx) - ((x^2 / 2 - qx) - r).
 ghost use mathlib.Core.Path.{_≡_};
 ghost use Prim.Native.Nat.{_≤_};
@@ -39,7 +39,7 @@ fn quarter(ix: u32) -> f64
     }
 }
 
-// The cosine of x + y if x is not tiny, from z = x^2 and the high word of |x|.
+// The cosine of x + y for an x that is not tiny, from z = x^2 and the high word of |x|.
 pub(crate) fn cos_polynomial(x: f64, y: f64, z: f64, ix: u32) -> f64
     requires { ⌜ (0x3e40_0000 ≤ highOf x) × (z ≡ x *ᶠ x) × (ix ≡ highOf x) ⌝ }
     ensures { λ r. ⌜ r ≡ kernelCosOf x y ⌝ }

@@ -1,7 +1,7 @@
 // k_tan.c: the tangent on [-π/4, π/4], by the odd polynomial of degree 27
 //     tan x ~ x + T0 x^3 + .. + T12 x^27,   |tan x / x - (1 + T0 x^2 + .. + T12 x^26)| < 2^-59.2.
-// From 0.6744 on by π/4: tan x = 1 - 2 tan (π/4 - x) / (1 + tan (π/4 - x)).
-// If the reduction took off an odd number of quarter turns, -1 / tan is wanted.
+// From 0.6744 on it uses tan x = 1 - 2 tan (π/4 - x) / (1 + tan (π/4 - x)).
+// If the reduction subtracted an odd number of quarter turns, the result is -1 / tan.
 ghost use mathlib.Core.Path.{_≡_};
 ghost use mathlib.Core.Bool.{cond};
 ghost use Rattle.fdlibm_trig.specs.KCos.{one};
@@ -48,7 +48,7 @@ const T11: f64 = -1.85586374855275456654e-05; // 0xbef375cb db605373
 
 const T12: f64 = 2.59073051863633712884e-05; // 0x3efb2a70 74bf7ad4
 
-// -1 / w for w = x + r, with the error of the division made good.
+// -1 / w for w = x + r, with the error of the division corrected.
 fn reciprocal(w: f64, x: f64, r: f64) -> f64
     ensures { λ k. ⌜ k ≡ reciprocalOf w x r ⌝ }
 {

@@ -1,4 +1,4 @@
-// The sine and the cosine of one angle (added): one reduction and two kernels serve both.
+// The sine and the cosine of one angle (added): both use one reduction and two kernels.
 ghost use mathlib.Core.Path.{_≡_};
 ghost use Prim.Native.Nat.{_<_};
 ghost use Rattle.fdlibm_trig.specs.Steps.{kernelsOf, bothTurnsOf};
@@ -20,7 +20,7 @@ pub struct Both {
     pub cos: f64,
 }
 
-// Of x + y on [-π/4, π/4]: the kernels, with one test and one square for both.
+// Sine and cosine of x + y on [-π/4, π/4]: the two kernels, with one test and one square for both.
 fn kernels(x: f64, y: f64, tail: bool) -> Both
     ensures { λ r. ⌜ r ≡ kernelsOf x y tail ⌝ }
 {
@@ -35,7 +35,7 @@ fn kernels(x: f64, y: f64, tail: bool) -> Both
     }
 }
 
-// Of n quarter turns and y0 + y1.
+// Sine and cosine of n quarter turns and y0 + y1.
 fn both_turns(n: u32, y0: f64, y1: f64) -> Both
     requires { ⌜ n < 4 ⌝ }
     ensures { λ r. ⌜ r ≡ bothTurnsOf n y0 y1 ⌝ }
@@ -66,7 +66,7 @@ fn both_turns(n: u32, y0: f64, y1: f64) -> Both
     }
 }
 
-// Of x radians; NaN beyond 70 in size.
+// Sine and cosine of x radians; NaN beyond 70 in size.
 pub fn sincos(x: f64) -> Both
     ensures { λ r. ⌜ r ≡ sincosOf x ⌝ }
 {

@@ -1,5 +1,5 @@
--- Where the walks of the two readers have come to: what is left of them, from here on, gives what the whole gives. What was collected says
--- which tags were seen, so one walk does for both. Assumes nothing.
+-- The invariants of the two readers: the rest of a walk, from here on, gives what the whole walk gives. The collected values tell which
+-- tags were seen, so one walk is enough for both. Assumes nothing.
 use Rattle.prelude.proofs.Logic.{_≡_, refl, sym, ap, _∙_, Bool, true, false, List, [], _∷_, ℕ, zero, suc, _≤_, _<_, _+_, _-_, arith, ltb}
 use Rattle.prelude.proofs.Logic.{map, length, getD, set, replicate, length-set, List·getD-map, lt-ltb, le-ltb, eq-eqb, ne-eqb}
 use Rattle.refusals.specs.Refusals.{refusal, noRefusal}
@@ -16,7 +16,7 @@ abbrev pub noneSeen : List Bool
 noneSeen = replicate (length tags) false
 
 -- ---- the walk that checks
--- what a field is refused by, from its parts
+-- the number of a field's refusal, from its parts
 pub fault-is : (s : List ℕ) (at : ℕ) (seen : List Bool) (tag size n : ℕ) (again : Bool) → tag ≡ byteOf s at → size ≡ lengthAt s at
     → again ≡ getD seen tag false → n ≡ faultIn tag size again (length s - at) → n ≡ faultOf s seen at
 unfolding faultOf
@@ -52,7 +52,7 @@ module _ (s : List ℕ) (at : ℕ) (seen : List Bool) (c : Checking s at seen) w
             size = length-set seen (byteOf s at) true ∙ c .size;
           }
 
--- ---- the walk that collects, which knows the tags seen by what it has collected: no value begins at 0
+-- ---- the walk that collects. A tag was seen if its collected value begins above 0
 abbrev pub seenIn : List ℕ → List Bool
 seenIn starts = map (ltb 0) starts
 

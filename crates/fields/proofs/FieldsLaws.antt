@@ -1,4 +1,4 @@
--- The table's limits, and what checking says of a field that it passes. Assumes nothing.
+-- The table's limits, and what is known of a field that is not refused. Assumes nothing.
 use Rattle.prelude.proofs.Logic.{_≡_, refl, Bool, true, false, cond, not, _&&_, and-eq-true-iff, List, [], _∷_, ℕ, zero, suc, _≤_, _<_, _+_}
 use Rattle.prelude.proofs.Logic.{_-_, arith, ltb, leb, eqb, lit≤, length, getD, set, replicate, List·getD-eq-default, lt-ltb, ltb-false}
 use Rattle.prelude.proofs.Logic.{leb-true, eqb-true, eqb-false, not-false, cases, either, both}
@@ -18,7 +18,7 @@ fits-between tag n e =
     let h = and-eq-true-iff (leb (column tag 0) n) (leb n (column tag 1)) .0 (and-eq-true-iff (leb tag lastTag) limits .0 e .1) in
     (leb-true (column tag 0) n (h .0), leb-true n (column tag 1) (h .1))
 
--- the table's rule, which antt computes over the whole of it: no number needs more than a byte
+-- every number of the table fits a byte: a test that antt computes
 all-small : List ℕ → Bool
 all-small [] = true
 all-small (n ∷ row) = leb n 255 && all-small row
@@ -46,13 +46,13 @@ column-small = in-row tags refl
 pub length-short : (tag n : ℕ) → lengthFits tag n ≡ true → n ≤ 255
 length-short tag n e = let f = fits-between tag n e in let l = column-small tag 1 in omega (arith, f .1, l)
 
--- ---- a field that is passed: its form is right, and no field before it has its tag
+-- ---- a field that is not refused: its form is right, and no field before it has its tag
 pub record Good (s : List ℕ) (at : ℕ) : Type 0 where
   pub known : knownTag (byteOf s at) ≡ true
   pub fits : lengthFits (byteOf s at) (lengthAt s at) ≡ true
   pub whole : nextFieldAt s at ≤ length s
 
--- a check that refuses nothing is passed
+-- if a chain of checks refuses nothing, its first check is passed, and the rest refuses nothing
 pub passed : (b : Bool) (x y : ℕ) → 1 ≤ x → cond b x y ≡ 0 → (b ≡ false) × (y ≡ 0)
 passed true x y l e = absurd (omega arith)
 passed false x y l e = (refl, e)
@@ -77,7 +77,7 @@ good-row s at g = let h = known-last (byteOf s at) (g .known) in omega arith
 pub good-short : (s : List ℕ) (at : ℕ) → Good s at → lengthAt s at ≤ 255
 good-short s at g = length-short (byteOf s at) (lengthAt s at) (g .fits)
 
--- a walk that refuses nothing passes its first field, and goes on so
+-- a walk that refuses nothing does not refuse its first field, nor any after it
 pub walk-good : (k : ℕ) (s : List ℕ) (seen : List Bool) (at : ℕ) → at < length s → walkOf (suc k) s seen at .number ≡ 0
     → (faultOf s seen at ≡ 0) × (walkOf k s (set seen (byteOf s at) true) (nextFieldAt s at) .number ≡ 0)
 unfolding walkOf
@@ -96,7 +96,7 @@ check-none s e =
     cases (ltb 1024 (length s)) (λ h. let z = simp h at e in absurd (omega arith))
     (λ h. record { short = ltb-false 1024 (length s) h; walk = simp h at e })
 
--- ---- the fields give no number over 3
+-- ---- the form of the fields gives no number above 3
 fault-small : (s : List ℕ) (seen : List Bool) (at : ℕ) → faultOf s seen at ≤ 3
 unfolding faultOf faultIn
 fault-small s seen at =

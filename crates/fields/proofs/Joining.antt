@@ -1,4 +1,4 @@
--- Laws of the numbers that bytes write: a byte put behind others by a shift, and sixteen bits with a sign in an i32.
+-- Laws of the numbers that bytes write: a byte put behind others by a shift, and sixteen signed bits in an i32.
 use Rattle.prelude.proofs.Logic.{_≡_, sym, ap, _∙_, List, ℕ, _≤_, _<_, _+_, _*_, _^_, _%_, mod-eq-of-lt, lt-of-lt-of-le, add-one, arith}
 use Rattle.prelude.proofs.Logic.{pos, _-ℤ_, pow-mono, pow-add, lt-ltb, le-ltb, w32, toZ, ofZ, SFits, toZ-pos, toZ-ofZ}
 use lib.Bits.{bitOr, or-shifted}
@@ -20,7 +20,7 @@ shift-room x b i l s =
     let e : 2 ^ (8 * i) * 256 ≡ 2 ^ (8 * (i + 1)) = sym (pow-add 2 (8 * i) 8) ∙ ap (λ (n : ℕ). 2 ^ n) (omega arith) in
     rw (sym e) (omega arith)
 
--- sixteen bits less 65,536 fit
+-- a number of sixteen bits less 65,536 fits an i32
 pub less-fits : (x : ℕ) → x < 65536 → SFits w32 (toZ w32 x -ℤ pos 65536)
 less-fits x h = rw (toZ-pos w32 {n = x} (omega arith)) (rw (lt-ltb x 65536 h) (record { sfits = omega arith }))
 

@@ -1,5 +1,5 @@
--- What is collected of an order whose form is right, tag by tag: the value of the first field with the tag, whole, and nothing if there is
--- none. The law goes by recursion over both walks and the search. Assumes nothing.
+-- What is collected of an order whose form is right, tag by tag: the whole value of the first field with the tag, and nothing if there is
+-- none. Proved by recursion over both walks and the search. Assumes nothing.
 use Rattle.prelude.proofs.Logic.{_≡_, refl, sym, ap, _∙_, Bool, true, false, List, [], ℕ, zero, suc, _≤_, _<_, _+_, arith, ltb, eqb, length}
 use Rattle.prelude.proofs.Logic.{getD, set, take, drop, replicate, getD-replicate, length-set, List·getD-eq-default, length-take}
 use Rattle.prelude.proofs.Logic.{length-drop, drop-of-length-le, take-nil, getD-set-same, getD-set-other, lt-ltb, le-ltb, eq-eqb, ne-eqb}
@@ -34,20 +34,20 @@ find-none (suc k) s tag at h = simp (le-ltb _ _ h)
 abbrev part : ℕ → ℕ → Part
 part at length = record { at = at; length = length }
 
--- no field has the tag, and its part stays; or one has, and its part was none before
+-- no field has the tag, and its part stays; or a field has it, and there was no part before
 data Under (s : List ℕ) (tag found : ℕ) (before after : Part) : Type 0 where
   stays : found ≡ length s → after ≡ before → Under s tag found before after
   comes : found < length s → byteOf s found ≡ tag → Good s found → before .at ≡ 0 → after ≡ part (found + 3) (lengthAt s found)
       → Under s tag found before after
 
--- the field at an offset has the tag, so no later one has
+-- the field at an offset has the tag, so no later field has it
 first-comes : (s : List ℕ) (tag at later : ℕ) (before own after : Part) → at < length s → byteOf s at ≡ tag → Good s at → before .at ≡ 0
     → own ≡ part (at + 3) (lengthAt s at) → Under s tag later own after → Under s tag at before after
 first-comes s tag at later before own after l e g unset is (stays found same) = comes l e g unset (same ∙ is)
 first-comes s tag at later before own after l e g unset is (comes found named good again same) =
     let none : at + 3 ≡ 0 = ap (λ (p : Part). p .at) (sym is) ∙ again in absurd (omega arith)
 
--- a walk that goes on: what it does at the field here, and what it collects from the next on
+-- a step of the walk: what it does at this field, and what it collects from the next field on
 module _ (s : List ℕ) (tag k at : ℕ) (fields : Fields) (l : at < length s) (enough : length s ≤ at + suc k) where
   abbrev put : Fields
   put = putOf fields (byteOf s at) (at + 3) (lengthAt s at)
@@ -97,13 +97,13 @@ under (suc k) s tag at fields enough starts lengths e =
     (λ h. let end = ltb-false at (length s) h in
     rw (find-none (suc k) s tag at end, collect-end s at (suc k) fields end) (stays refl refl))
 
--- ---- of an order whose form is right
+-- ---- for an order whose form is right
 none-at : (tag : ℕ) → _≡_ {A = ℕ} (getD (replicate (length tags) 0) tag 0) 0
 none-at tag =
     cases (ltb tag (length tags)) (λ e. getD-replicate (length tags) tag 0 0 (ltb-true tag (length tags) e))
     (λ e. List·getD-eq-default (replicate (length tags) 0) 0 (ltb-false tag (length tags) e))
 
--- the value of a whole field has the length that the field says
+-- the value of a field that is not cut has the length that the field gives
 pub whole-length : (s : List ℕ) (at : ℕ) → nextFieldAt s at ≤ length s → length (take (lengthAt s at) (drop (at + 3) s)) ≡ lengthAt s at
 whole-length s at h = length-take (lengthAt s at) (drop (at + 3) s) ∙ omega (arith, length-drop (at + 3) s)
 

@@ -1,4 +1,4 @@
--- The slices that `fields::values::bytes` may hand out are the bytes of the part. Assumes nothing.
+-- Each slice that `fields::values::bytes` may return is the bytes of the part. Assumes nothing.
 use Rattle.prelude.proofs.Logic.{_≡_, sym, ap, _∙_, List, ℕ, _≤_, _+_, _-_, add-sub-cancel-left, arith, length, take, drop}
 use Rattle.prelude.proofs.Logic.{drop-of-length-le, length-drop, take-nil, take-all, drop-length}
 

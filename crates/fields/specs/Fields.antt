@@ -13,7 +13,7 @@ use Rattle.fields.specs.Tags.{tags, knownTag, lengthFits}
 abbrev pub headerLength : ℕ  -- the bytes before a value: its tag and its length
 headerLength = 3
 
--- the length that the field at an offset says its value has
+-- the length of the value, as the field at an offset gives it
 unfoldable pub lengthAt : List ℕ → ℕ → ℕ
 lengthAt s at = unsignedOf s (at + 1)
 
@@ -21,8 +21,8 @@ lengthAt s at = unsignedOf s (at + 1)
 abbrev pub nextFieldAt : List ℕ → ℕ → ℕ
 nextFieldAt s at = at + headerLength + lengthAt s at
 
--- "field by field: header cut, unknown tag, tag again, wrong length, value cut": what a field is refused by, or 0. Its value has n bytes,
--- as it says itself; `again` if a field before it has its tag; `left` bytes remain from its tag byte on
+-- "field by field: header cut, unknown tag, tag again, wrong length, value cut": the number of a field's refusal, or 0. n is the length
+-- that the field gives; `again` is true if a field before it has its tag; `left` bytes remain from its tag byte on
 unfoldable pub faultIn : (tag n : ℕ) → (again : Bool) → (left : ℕ) → ℕ
 faultIn tag n again left =
     cond (ltb left headerLength) fieldCut  -- header cut
@@ -31,15 +31,15 @@ faultIn tag n again left =
     (cond (not (lengthFits tag n)) fieldUnknown  -- wrong length
     (cond (ltb (left - headerLength) n) fieldCut 0))))  -- value cut
 
--- the field at an offset; `seen` has by tag whether a field before it has the tag
+-- the same for the field at an offset; `seen` has by tag whether a field before it has the tag
 unfoldable pub faultOf : List ℕ → (seen : List Bool) → ℕ → ℕ
 faultOf s seen at =
     let tag = byteOf s at in
     faultIn tag (lengthAt s at) (getD seen tag false) (length s - at)
 
 -- Request 5: "A plain reader, which checks in one pass and collects in another, is kept beside it as its definition". This pass checks: the
--- first field that is refused, from an offset on. "Offsets are those of a field's tag byte." k counts the fields that may follow: there are
--- no more than the order has bytes.
+-- first field that is refused, from an offset on. "Offsets are those of a field's tag byte." k counts the fields that may follow: an order
+-- has at most as many fields as bytes.
 unfoldable pub walkOf : (k : ℕ) → List ℕ → (seen : List Bool) → (at : ℕ) → Refusal
 walkOf zero s seen at = noRefusal
 walkOf (suc k) s seen at =

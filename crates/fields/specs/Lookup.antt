@@ -1,4 +1,4 @@
--- Look-up by tag, a second reading of what is collected; nothing is defined by it.
+-- Look-up by tag, which says in another way what is collected. No definition uses it.
 use Prim.Native.Nat.{ℕ, zero, suc, _+_}
 use mathlib.Core.Path.{_≡_}
 use mathlib.Core.Bool.{true, cond}
@@ -9,7 +9,7 @@ use Rattle.fields.specs.Numbers.{byteOf}
 use Rattle.fields.specs.Fields.{headerLength, lengthAt, nextFieldAt, checkOf}
 use Rattle.fields.specs.Values.{valuesOf, hasOf, valueOf}
 
--- the offset of the first field with the tag, from one on; the order's length if there is none
+-- the offset of the first field with the tag, from the offset `at` on; the order's length if there is none
 unfoldable pub firstFrom : (k : ℕ) → List ℕ → (tag at : ℕ) → ℕ
 firstFrom zero s tag at = length s
 firstFrom (suc k) s tag at =
@@ -18,7 +18,7 @@ firstFrom (suc k) s tag at =
 unfoldable pub offsetOf : List ℕ → ℕ → ℕ
 offsetOf s tag = firstFrom (length s) s tag 0
 
--- an order has a tag if it has a field with it, and the tag's part is the value of the first one, whole
+-- an order has a tag if it has a field with that tag, and the tag's part is the whole value of the first one
 pub record FirstField (s : List ℕ) (tag : ℕ) : Type 0 where
   pub has : hasOf s tag ≡ ltb (offsetOf s tag) (length s)
   pub value : valueOf s tag ≡ take (lengthAt s (offsetOf s tag)) (drop (offsetOf s tag + headerLength) s)

@@ -14,7 +14,7 @@ byteOf v at = getD v at 0
 unfoldable pub unsignedOf : List ℕ → ℕ → ℕ
 unsignedOf v at = byteOf v at * 256 + byteOf v (at + 1)
 
--- sixteen bits with a sign: from 32768 on they are a number below zero
+-- sixteen bits as a signed number: from 32768 on it is below zero
 abbrev pub withSign : ℕ → ℤ
 withSign x = cond (ltb x 32768) (pos x) (pos x -ℤ pos 65536)
 

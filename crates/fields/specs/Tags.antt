@@ -1,5 +1,5 @@
--- Document 01's table of tags, as far as it gives a value's length, and its range if it is a choice. The names of tags 18 and 19 are
--- map_form's.
+-- Document 01's table of tags: the length of each value, and its range if it is a choice. The names of tags 18 and 19 are in map_form's
+-- specs/.
 use Prim.Native.Nat.{ℕ, _-_}
 use mathlib.Core.Bool.{Bool, _&&_}
 use mathlib.Core.List.{List, [], _∷_}
@@ -67,9 +67,9 @@ longestTown = 40
 abbrev pub row : (shortest longest lowest highest : ℕ) → List ℕ
 row shortest longest lowest highest = shortest ∷ longest ∷ lowest ∷ highest ∷ []
 
--- a row for each tag from 0 on: the shortest and the longest value, and, for a value of one byte that is the number of a choice, the lowest
--- and the highest. There is no tag 0, and nothing fits it. "Month and day are one byte each, tags 6 to 10 one byte, tags 4, 5, 12 and 13 a
--- float." Of rows: "its value may now also have two bytes".
+-- a row for each tag from 0 on: the shortest and the longest value; and the lowest and the highest number if the value is one byte for a
+-- choice. There is no tag 0, and nothing fits it. "Month and day are one byte each, tags 6 to 10 one byte, tags 4, 5, 12 and 13 a float."
+-- On rows: "its value may now also have two bytes".
 abbrev pub tags : List (List ℕ)
 tags =
     row 1 0 1 0

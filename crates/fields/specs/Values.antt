@@ -1,5 +1,5 @@
 -- Request 5's second pass, which collects, and what it gives by tag: document 01's column "missing" and its "that part of the order
--- itself". Of an order whose form is right a tag's part is the value of its first field, which is its only one (Lookup.antt).
+-- itself". If an order's form is right, a tag's part is the value of its first field, which is its only one (Lookup.antt).
 use Prim.Native.Nat.{ℕ, zero, suc, _+_}
 use mathlib.Core.List.{List}
 use mathlib.Core.Bool.{Bool, cond}
@@ -30,7 +30,7 @@ collectOf (suc k) s fields at =
 unfoldable pub fieldsOf : List ℕ → Fields
 fieldsOf s = collectOf (length s) s noFields 0
 
--- what refuses the form of the fields, and the fields if nothing does
+-- the refusal of the fields' form, and the fields if nothing is refused
 unfoldable pub checkedOf : List ℕ → Checked
 checkedOf s = record { refusal = checkOf s; fields = cond (eqb (checkOf s .number) 0) (fieldsOf s) noFields }
 
@@ -38,7 +38,7 @@ checkedOf s = record { refusal = checkOf s; fields = cond (eqb (checkOf s .numbe
 abbrev pub partFor : Fields → ℕ → Part
 partFor fields tag = record { at = getD (fields .at) tag 0; length = getD (fields .length) tag 0 }
 
--- no value begins at 0: a header is before it
+-- no value begins at 0, because its header is before it
 abbrev pub hasIn : Fields → ℕ → Bool
 hasIn fields tag = ltb 0 (partFor fields tag .at)
 

@@ -1,5 +1,5 @@
-// What the form of a single field is refused by. Both readers ask in the same order: header cut, unknown tag, tag again, wrong length,
-// value cut.
+// The refusals of a single field's form. Both readers check in the same order: header cut, unknown tag, tag again, wrong length, value
+// cut.
 ghost use mathlib.Core.Path.{_≡_};
 ghost use Rattle.fields.specs.Fields.{faultIn};
 use super::tags::known;
@@ -13,7 +13,7 @@ pub(crate) const LONGEST_ORDER: usize = 1024;
 // The bytes before a value: its tag and its length.
 pub(crate) const HEADER_LENGTH: usize = 3;
 
-// The refusal's number for a field when `left` bytes remain from its tag byte on, or 0; `again` if a field before it has its tag.
+// The number of the refusal of a field, or 0. `left` bytes remain from its tag byte on. `again` is true if a field before it has its tag.
 pub(crate) fn fault(tag: u32, length: u32, again: bool, left: usize) -> u32
     ensures { λ r. ⌜ r ≡ faultIn tag length again left ⌝ }
 {

@@ -1,5 +1,5 @@
 // The bytes of an order as fields (added): which bytes break the fields' form, where a tag's value is, and what numbers its bytes write.
-// The ranges of values that are no choices, and what a missing tag means, are the crate order's.
+// The crate order has the ranges of all other values than choices, and what a missing tag means.
 mod faults;
 pub mod numbers;
 pub mod one_pass;

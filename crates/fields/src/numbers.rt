@@ -1,5 +1,5 @@
-// The numbers that bytes write, high byte first. A byte past the end counts as 0, so every call has an answer and no caller has an index to
-// prove.
+// The numbers that bytes write, high byte first. A byte past the end counts as 0: every call has a result, and no caller has to prove that
+// an index is in range.
 ghost use mathlib.Core.Path.{_≡_};
 ghost use Prim.Native.Nat.{_<_};
 ghost use Rattle.fields.specs.Numbers.{byteOf, unsignedOf, signedAtOf, bitsOf, floatOf};
@@ -28,7 +28,7 @@ pub fn unsigned(bytes: &[u8], at: usize) -> u32
     }
 }
 
-// The same two bytes, as a number with a sign.
+// The same two bytes as a signed number.
 pub fn signed(bytes: &[u8], at: usize) -> i32
     ensures { λ r. ⌜ r ≡ signedAtOf (now (bytes .entry)) at ⌝ }
 {

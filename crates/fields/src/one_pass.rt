@@ -1,4 +1,4 @@
-// The reader of the fields (request 5): it goes over them once and collects as it checks. What it has collected says which tags it has
+// The reader of the fields (request 5). It goes over them once, and collects as it checks. The collected values tell which tags it has
 // seen.
 ghost use mathlib.Core.Path.{_≡_};
 ghost use Prim.Native.Nat.{_≤_};

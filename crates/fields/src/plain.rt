@@ -1,5 +1,5 @@
-// The plain reader of the fields (request 5), and their definition line by line: one pass checks, another collects. `one_pass` is proved
-// equal to it.
+// The plain reader of the fields (request 5), which follows their definition line by line: one pass checks, another collects. `one_pass` is
+// proved equal to it.
 ghost use mathlib.Core.Path.{_≡_};
 ghost use mathlib.Core.Bool.{false};
 ghost use Prim.Native.Nat.{_≤_, _<_};
@@ -18,7 +18,7 @@ use super::values::Fields;
 use refusals::FIELD_CUT;
 use refusals::Refusal;
 
-// The length that the field at an offset says its value has.
+// The length of the value, as the field at an offset gives it.
 fn length_at(order: &[u8], at: usize) -> u32
     requires { ⌜ at ≤ length (now order) ⌝ }
     ensures { λ r. ⌜ r ≡ lengthAt (now (order .entry)) at ⌝ }
@@ -27,7 +27,7 @@ fn length_at(order: &[u8], at: usize) -> u32
     unsigned(order, at + 1)
 }
 
-// False for a number that is no tag.
+// Whether a field had the tag. False for a number that is no tag.
 fn is_seen(seen: &[bool], tag: u32) -> bool
     ensures { λ r. ⌜ r ≡ getD (now (seen .entry)) tag false ⌝ }
 {
@@ -57,7 +57,7 @@ fn walk(order: &[u8]) -> Refusal
     Refusal::none()
 }
 
-// Number 0 if the form of every field is right.
+// The first refusal of the fields' form. Its number is 0 if the form of every field is right.
 fn check(order: &[u8]) -> Refusal
     ensures { λ r. ⌜ r ≡ checkOf (now (order .entry)) ⌝ }
 {
@@ -67,7 +67,7 @@ fn check(order: &[u8]) -> Refusal
     walk(order)
 }
 
-// The fields of an order that `check` passes.
+// The fields of an order that `check` does not refuse.
 fn collect(order: &[u8]) -> Fields
     requires { ⌜ checkOf (now order) .number ≡ 0 ⌝ }
     ensures { λ r. ⌜ r ≡ fieldsOf (now (order .entry)) ⌝ }

@@ -1,5 +1,5 @@
-// The tags by what they give, and their table: a new tag is a new name, a new row and a new last tag. The names of tags 18 and 19 are
-// map_form's.
+// The names of the tags, and their table. A new tag needs a new name, a new row and a new last tag. The names of tags 18 and 19 are in
+// map_form.
 ghost use mathlib.Core.Path.{_≡_};
 ghost use Rattle.fields.specs.Tags.{knownTag, lengthFits, choiceFits};
 
@@ -46,7 +46,7 @@ pub const TAGS: usize = LAST_TAG as usize + 1;
 
 pub const LONGEST_TOWN: u32 = 40;
 
-// By tag: the shortest and the longest value, and the lowest and the highest number if the value is one byte that chooses.
+// By tag: the shortest and the longest value; and the lowest and the highest number if the value is one byte for a choice.
 const TABLE: [[u8; 4]; TAGS] = [
     [1, 0, 1, 0],
     // Town, date, rows.

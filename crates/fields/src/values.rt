@@ -1,24 +1,24 @@
-// What an order's fields give: by tag, the part of the order that is the tag's value. Reading uses nothing else once the fields are
-// collected.
+// What an order's fields give: by tag, the part of the order that is the tag's value. After the fields are collected, reading uses nothing
+// else.
 ghost use mathlib.Core.Path.{_≡_};
 ghost use Rattle.fields.specs.Values.{noFields, hasIn, partFor, partIn, valuesIn};
 use super::tags::TAGS;
 use refusals::Refusal;
 
-// Where a value is in its order. Both are 0 if there is none: no value begins at 0, since its header is before it.
+// Where a value is in its order. Both are 0 if there is none: no value begins at 0, because its header is before it.
 #[repr(C)]
 pub struct Part {
     pub at: u32,
     pub length: u32,
 }
 
-// The part of each tag, by tag, in as few bytes as will do: no order is longer than LONGEST_ORDER, and no value than LONGEST_TOWN.
+// The part of each tag, by tag. A u16 and a u8 are enough: no order is longer than LONGEST_ORDER, and no value than LONGEST_TOWN.
 pub struct Fields {
     pub at: [u16; TAGS],
     pub length: [u8; TAGS],
 }
 
-// What refuses the form of the fields, and the fields if nothing does.
+// The refusal of the fields' form, and the fields if nothing is refused.
 pub struct Checked {
     pub refusal: Refusal,
     pub fields: Fields,
@@ -55,7 +55,7 @@ impl Fields {
     }
 }
 
-// The bytes of a part, as that part of the order itself; of a part that ends behind the order, those that there are.
+// The bytes of a part, as a slice of the order itself. A part that ends beyond the order gives only the bytes that are in it.
 pub fn bytes(order: &[u8], part: Part) -> &[u8]
     ensures { λ r. ⌜ now r ≡ partIn (now (order .entry)) part ⌝ }
 {
@@ -71,7 +71,7 @@ pub fn bytes(order: &[u8], part: Part) -> &[u8]
     &order[start..end]
 }
 
-// An empty part if the tag is missing.
+// The bytes of a tag's value; none if the tag is missing.
 pub fn value(order: &[u8], fields: Fields, tag: u32) -> &[u8]
     ensures { λ r. ⌜ now r ≡ valuesIn (now (order .entry)) fields .value tag ⌝ }
 {

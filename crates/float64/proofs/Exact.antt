@@ -1,5 +1,5 @@
--- When binary64's operations lose nothing: on known fractions each is one rounding of the exact result, on whole numbers, halves, quarters
--- and so on it is exact, and a zero may be added or taken away. Assumes nothing.
+-- When binary64's operations lose nothing. On known fractions each is one rounding of the exact result. On whole numbers, halves, quarters
+-- and so on it is exact. To add or subtract a zero changes nothing. Assumes nothing.
 use Rattle.prelude.proofs.Logic.{_≡_, refl, sym, ap, _∙_, Bool, true, false, true≢false, ℕ, zero, suc, _+_, _-_, _*_, _^_, _≤_, _<_}
 use Rattle.prelude.proofs.Logic.{mul-one, mul-assoc, mul-comm, mul-left-comm, mul-right-comm, add-mul, mul-pos, mul-le-mul-right}
 use Rattle.prelude.proofs.Logic.{lt-of-le-of-lt, le-of-mul-le-mul-right, mul-sub, zero-lt-suc, arith, T, lit<, ℤ, pos, pow-pos, le-ltb}
@@ -9,7 +9,7 @@ use Rattle.prelude.proofs.Ieee.{mul, HasValue, round-same, down-pos, up-pos}
 use Rattle.float64.proofs.Values.{big, value-unique, dyadic-value, round-own}
 
 -- ---- the operations on values that are not negative: one rounding of the exact result
--- a / c and b / c with the sign clear, brought to the denominator of the floats themselves
+-- a / c and b / c, both not negative, brought to the denominator of the floats themselves
 module _ (f : Format) (a b c : ℕ) (p : 0 < c) where
   module _ (m n : ℕ) (e d : ℤ) (v : m * up e * c ≡ a * down e) (w : n * up d * c ≡ b * down d) where
     first : m * up e * down d * c ≡ a * (down e * down d)
@@ -65,7 +65,7 @@ mul-same f (fin u m e) (fin r n k) s t a b c d p q v w =
     mul-mul : (a b c d : ℕ) → a * b * (c * d) ≡ a * c * (b * d)
     mul-mul a b c d = simp (mul-assoc, mul-left-comm)
 
--- ---- n / 2 ^ k as a float, and sums and differences of such
+-- ---- n / 2 ^ k as a float, and sums and differences of these
 abbrev pub dyadic : ℕ → ℕ → Float
 dyadic k n = round binary64 false n (2 ^ k)
 
@@ -81,7 +81,7 @@ pub sub-dyadic : (k p q : ℕ) → k ≤ 1074 → p < big → q ≤ p → sub bi
 sub-dyadic k p q h i l = sub-same binary64 p q (2 ^ k) (pow-pos k) l (dyadic k p) (dyadic k q) (dyadic-value false p k i h)
     (dyadic-value false q k (lt-of-le-of-lt l i) h)
 
--- ---- adding nothing
+-- ---- adding a zero
 own-again : (s : Bool) (m : ℕ) (e : ℤ) → T (fits binary64 (fin s m e)) → (a c : ℕ) → a ≡ m * up e → c ≡ down e
     → round binary64 s a c ≡ fin s m e
 own-again s m e h a c p q = ap (λ (z : ℕ). round binary64 s z c) p ∙ ap (round binary64 s (m * up e)) q ∙ round-own s m e h

@@ -1,4 +1,4 @@
--- What the crates above use of this one and of the kit's floats, from one place. Nothing is added.
+-- The names of this crate and of the kit's floats that the crates above use, in one place. Nothing is added.
 unfoldable pub use Rattle.prelude.proofs.Ieee.{neg, le, toSigned, ofInt, round, ofBits, div, sum, add, sub, lt, eq, toUnsigned, units, fits}
 unfoldable pub use Rattle.prelude.proofs.Ieee.{odd, ofFields, toBits, size, isNan, nanBits, inFloat, mul, inUnsigned, ne, whole}
 pub use Rattle.prelude.proofs.Ieee.{down-pos, up-pos, round-is, round-fits, nearest-le, kept-lt, neg-fits, Float, binary64, nan, inf, fin}

@@ -1,4 +1,4 @@
--- What tests against limits say of a float's size, and back. Assumes nothing.
+-- From tests against limits to a float's size, and back. Assumes nothing.
 use Rattle.prelude.proofs.Logic.{_≡_, refl, sym, ap, _∙_, subst, Bool, true, false, _&&_, _||_, true≢false, false≢true, inl, inr, ℕ, _+_}
 use Rattle.prelude.proofs.Logic.{_*_, _≤_, _<_, mul-pos, le-of-mul-le-mul-right, le-of-lt, le-of-eq, eq-zero-or-pos, zero-mul, arith, T}
 use Rattle.prelude.proofs.Logic.{ltb, eqb, eqb→eq, lit<, pos, ltb-true, ltb-false, eq-eqb, and-l}
@@ -35,7 +35,7 @@ within-limits (fin false m e) (fin false n d) a c p v i j =
     transfer (m * up e) a (down e) c (m * up e) (n * up d) (down e) (down d) (down-pos e) (down-pos d) refl (sym (v .1))
     (le-sizes (m * up e * down d) (n * up d * down e) true (holds _ j))
 
--- from 0 to a / c, where a zero may have either sign
+-- from 0 to a / c; a zero may have either sign
 abbrev pub FromZero : Float → ℕ → ℕ → Type 0
 FromZero nan a c = ⊥
 FromZero (inf s) a c = ⊥
@@ -62,7 +62,7 @@ from-fin (fin false m e) h a c p v i j = under-value (fin false m e) h a c p ref
 pub from-zero : (x h : Float) (a c : ℕ) → 0 < c → HasValue h false a c → le (dec 0 0) x ≡ true → le x h ≡ true → FromZero x a c
 from-zero x h a c p v i j = from-fin x h a c p v (ap (λ (z : Float). le z x) (sym zero-is) ∙ i) j
 
--- and back
+-- from a size to the test
 zero-under : (a b : ℕ) → a ≡ 0 → (ltb 0 (a + b) || (eqb a b && eqb a 0)) ≡ true
 zero-under a b z = go (ltb 0 (a + b)) refl
   where
@@ -91,7 +91,7 @@ to-fin (fin false m e) h a c p v f = (
 pub to-tests : (x h : Float) (a c : ℕ) → 0 < c → HasValue h false a c → FromZero x a c → (le (dec 0 0) x ≡ true) × (le x h ≡ true)
 to-tests x h a c p v f = let t = to-fin x h a c p v f in (ap (λ (z : Float). le z x) zero-is ∙ t .0, t .1)
 
--- two whole numbers
+-- a test of two whole numbers
 pub le-whole : (a b : ℕ) → a ≤ big → b ≤ big → le (ofInt binary64 (pos a)) (ofInt binary64 (pos b)) ≡ true → a ≤ b
 unfolding ofInt
 le-whole a b p q h =

@@ -1,5 +1,5 @@
--- (x + 2 ^ 52) - 2 ^ 52, for 0 ≤ x < 2 ^ 52: a whole number that lies on the same side of every whole number as x.
--- The sum is rounded into [2 ^ 52, 2 ^ 53], where all floats are whole numbers, and rounding keeps the order; the difference is exact.
+-- (x + 2 ^ 52) - 2 ^ 52, for 0 ≤ x < 2 ^ 52: a whole number that is on the same side of every whole number as x.
+-- The sum is rounded into [2 ^ 52, 2 ^ 53]. All floats there are whole numbers, and rounding keeps the order. The difference is exact.
 -- Assumes nothing.
 use Rattle.prelude.proofs.Logic.{_≡_, refl, sym, true, false, ℕ, suc, _+_, _-_, _*_, _^_, _≤_, _<_, mul-one, add-mul}
 use Rattle.prelude.proofs.Logic.{le-of-mul-le-mul-right, arith, T, lit<, lit≤, ℤ, pos, negsuc}

@@ -1,4 +1,4 @@
--- What the three definitions of specs/Whole.antt have in common: a number with no fraction is its own result, and two of them are odd.
+-- What the definitions of specs/Whole.antt share: each returns a number with no fraction as it is, and two of them are odd functions.
 -- Assumes nothing.
 use Rattle.prelude.proofs.Logic.{_≡_, refl, sym, ap, _∙_, Bool, true, false, cond, false≢true, ℕ, suc, _+_, _*_, _%_, _^_, _≤_, zero-mod}
 use Rattle.prelude.proofs.Logic.{mod-one, div-add-mod', arith, T, eqb, lit<, ℤ, pos, negsuc, ltb-true, ltb-false, lt-ltb, eq-eqb}
@@ -65,7 +65,7 @@ still : (s : Bool) (m : ℕ) (e : ℤ) → fraction m e ≡ 0 → Still (fin s m
 unfolding floorOf truncOf roundOf
 still s m e h = let t = eq-eqb (fraction m e) 0 h in (rw t, rw t, rw t)
 
--- neither above nor below zero: a zero, or a NaN
+-- a float that is neither above nor below zero is a zero or a NaN
 pub still-zero : (x : Float) → lt zero64 x ≡ false → lt x zero64 ≡ false → Still x
 unfolding lt ofBits
 still-zero nan h k = unfold floorOf truncOf roundOf in (refl, refl, refl)
@@ -77,7 +77,7 @@ still-zero (fin true m e) h k =
     let l = ltb-false 0 (m * up e * 1 + 0 * down e) k in let z : m * up e ≡ 0 = omega arith in
     still true m e (ap (λ (n : ℕ). n % down e) z ∙ zero-mod (down e))
 
--- from 2 ^ 52 on a float has no fraction, and so has its opposite
+-- from 2 ^ 52 on a float has no fraction, and its opposite has none
 pub still-far : (x : Float) → T (fits binary64 x) → lt zero64 x ≡ true → lt x whole64 ≡ false → Still x × Still (neg x)
 unfolding lt ofBits neg
 still-far nan f h k = absurd (false≢true h)

@@ -1,4 +1,4 @@
--- What a float's bit pattern says of it: the sign, the size, and that a pattern which is no larger than a number's is no NaN's. Assumes
+-- What a float's bit pattern says of it: the sign and the size; and a pattern that is no larger than a number's is no NaN's. Assumes
 -- nothing.
 use Rattle.prelude.proofs.Logic.{_≡_, refl, sym, ap, subst, _∙_, Bool, true, false, not, cond, ℕ, zero, suc, _+_, _/_, _%_, _^_, _≤_, _<_}
 use Rattle.prelude.proofs.Logic.{le-trans, mod-lt, mod-eq-of-lt, arith, T, leb, ltb, eqb, lit<, le-ltb, ltb-false, lt-leb}
@@ -20,7 +20,7 @@ no-nan (fin s m d) e = tt
 abbrev sign : ℕ
 sign = 0x8000_0000_0000_0000
 
--- the sign aside, a pattern is a NaN's from the infinity's on
+-- without their sign bits, the patterns above the infinity's are the NaNs'
 pub no-larger : (x : Float) (n : ℕ) → T (fits binary64 x) → T (not (isNan x)) → n % sign ≤ toBits binary64 x % sign
     → T (not (nanBits binary64 n))
 no-larger x n h t l =

@@ -1,5 +1,5 @@
--- Saturating casts: of x > 0 to an unsigned number, by its whole part as a float; and from that to a signed one of as many bits. Assumes
--- nothing.
+-- Saturating casts: of x > 0 to an unsigned number, through the whole part as a float; and from that to a signed number of the same
+-- width. Assumes nothing.
 use Rattle.prelude.proofs.Logic.{_≡_, refl, sym, ap, _∙_, subst, Bool, true, false, false≢true, ℕ, zero, suc, _+_, _-_, _*_, _/_, _^_, _≤_}
 use Rattle.prelude.proofs.Logic.{_<_, min, zero-le, min-eq-left, min-eq-right, le-of-lt, lt-of-lt-of-le, zero-div, mul-le-mul-right}
 use Rattle.prelude.proofs.Logic.{div-lt-iff-lt-mul, le-div-iff-mul-le, arith, T, leb, le→leb, lt→ltb, lit<, ℤ, pos, negℤ, _-ℤ_, +ℤ-idl}
@@ -23,7 +23,7 @@ min-min a b c h = go (leb a b) refl
         ∙ sym (min-eq-right {n = c} {m = a} (omega arith))
 
 -- ---- an unsigned cast
--- below 2 ^ 52 and 2 ^ w the whole part is a float that `as` takes
+-- below 2 ^ 52 and 2 ^ w the whole part is a float that `as` casts
 abbrev pub Casts : ℕ → Float → Float → Type 0
 Casts w r x = T (inUnsigned binary64 w r) × (toUnsigned w r ≡ toUnsigned w x)
 
@@ -61,7 +61,7 @@ cast-zero w (fin false m e) h =
     let l = ltb-false (0 * down e) (m * up e * 1) h in let z : m * up e ≡ 0 = omega arith in
     rw (z, zero-div (down e)) (sym (min-eq-left zero-le))
 
--- what std's function asks of x
+-- x > -1, as std's function requires
 pub above-minus-one : (x : Float) → lt zero64 x ≡ true → T (lt (fin true 1 (pos 0)) x)
 unfolding lt ofBits
 above-minus-one nan h = absurd (false≢true h)
@@ -70,7 +70,7 @@ above-minus-one (inf false) h = tt
 above-minus-one (fin true m e) h = absurd (false≢true h)
 above-minus-one (fin false m e) h = let d = down-pos e in lt→ltb 0 (1 * down e + m * up e * 1) (omega arith)
 
--- ---- a signed cast from the unsigned one of as many bits
+-- ---- a signed cast from the unsigned one of the same width
 not-negative : (h w : ℕ) (x : Float) → h ≤ w → lt x zero64 ≡ false → pos (min (toUnsigned w x) (2 ^ h - 1)) ≡ toSigned h x
 unfolding toUnsigned toSigned lt ofBits
 not-negative h w nan g t = ap pos (min-eq-left zero-le)
@@ -90,7 +90,7 @@ negative h w (fin true m e) g t = let p = pow-lt g in
     ap (λ (n : ℕ). negℤ (pos n)) (min-min (m * up e / down e) (2 ^ w - 1) (2 ^ h) (omega arith))
 negative h w (fin false m e) g t = absurd (omega (arith, ltb-true (m * up e * 1) (0 * down e) t))
 
--- ---- a signed cast, as the code makes it: n is the unsigned one of x's size
+-- ---- a signed cast as the code does it: n is the unsigned cast of x's size
 shorter : (w : Width) → hbits w < bits w
 shorter w8 = lit< tt
 shorter w16 = lit< tt

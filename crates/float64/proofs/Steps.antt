@@ -12,7 +12,7 @@ use Rattle.float64.proofs.Exact.{sub-same, add-dyadic, sub-dyadic}
 use Rattle.float64.proofs.Near.{W, at, at-value, Near, near, whole64, whole64-value}
 use Rattle.float64.proofs.Parts.{own-whole, zero64}
 
--- the code's 0 or 1
+-- a test as the code adds it
 abbrev bit : Bool → Float
 bit b = ofInt binary64 (pos (boolByte b))
 
@@ -53,7 +53,7 @@ module _ (m : ℕ) (e : ℤ) (fit : T (fits binary64 (fin false m e))) (small : 
   abbrev q : ℕ
   q = wholePart m e
 
-  -- a is q * d and less than d more
+  -- a is from q * d to below (q + 1) * d
   q-small : q < W
   q-small = div-lt-iff-lt-mul (down-pos e) .1 small
 
@@ -106,7 +106,7 @@ module _ (m : ℕ) (e : ℤ) (fit : T (fits binary64 (fin false m e))) (small : 
             let o = z-under in
             (omega arith, omega arith)
 
-    -- z, or one more if z is below x
+    -- z plus 1 if z is below x
     counted : (t u : Bool) → eqb (fraction m e) 0 ≡ t → ltb (z * d) (a * 1) ≡ u → z + boolByte u ≡ cond t q (suc q)
     counted true u h i =
         let r = eqb-true (fraction m e) 0 h in let g = div-add-mod' a d in let l = q-small in
@@ -131,7 +131,7 @@ module _ (m : ℕ) (e : ℤ) (fit : T (fits binary64 (fin false m e))) (small : 
         go true h = ap neg (whole (eqb-true (fraction m e) 0 h))
         go false h = let l = q-small in neg-at (suc q) (omega arith)
 
-  -- ---- the nearest: what is left of x, and whether it is a half or more
+  -- ---- the nearest: the fraction of x, and whether it is a half or more
   abbrev rest : Float
   rest = round binary64 false (fraction m e) (down e)
 
@@ -171,7 +171,7 @@ module _ (m : ℕ) (e : ℤ) (fit : T (fits binary64 (fin false m e))) (small : 
           ∙ ap (ltb (fraction m e * 2)) (sym (one-mul d)) ∙ i in
           rw g (ap at (last u))
 
--- ---- the same of a float that passed the code's tests
+-- ---- the same for a float that passed the code's tests
 pub inside : (P : Float → Type 0) (b : ℕ) (y : Float) → HasValue y false b 1
     → ((m : ℕ) (e : ℤ) → T (fits binary64 (fin false m e)) → m * up e < b * down e → P (fin false m e))
     → (x : Float) → T (fits binary64 x) → lt zero64 x ≡ true → lt x y ≡ true → P x

@@ -8,7 +8,7 @@ use Rattle.prelude.proofs.Logic.{ltb-false, and-l, and-r}
 use Rattle.prelude.proofs.Ieee.{Float, nan, inf, fin, Format, binary64, prec, low, hid, top, up, down, size, fits, toBits, ofBits, round}
 use Rattle.prelude.proofs.Ieee.{lt, ofBits-toBits, HasValue, round-exact, transfer, div-same, down-pos, round-fits}
 
--- ---- a value is written in one way
+-- ---- a value has only one pattern
 pattern : Format → Bool → ℕ → ℕ
 pattern f s n = let k = size n - prec f in cond s (top f) 0 + k * hid f + n / 2 ^ k
 
@@ -27,7 +27,7 @@ pub value-unique : (f : Format) (x y : Float) (s : Bool) (a c : ℕ) → 0 < c �
 value-unique f x y s a c p h k v w =
     sym (ofBits-toBits f x h) ∙ ap (ofBits f) (pattern-is f x s a c p v ∙ sym (pattern-is f y s a c p w)) ∙ ofBits-toBits f y k
 
--- ---- what is a value exactly
+-- ---- numbers that a float holds exactly
 -- 2 ^ 53
 abbrev pub big : ℕ
 big = 9007199254740992
@@ -76,7 +76,7 @@ places s (suc m) k t = go (ltb 1074 (suc k)) refl (parts s m (negsuc k) t .1)
     go true g l = absurd (not-le-of-lt (pow-lt (ltb-true 1074 (suc k) g)) l)
     go false g l = ltb-false 1074 (suc k) g
 
--- a float with digits below one is smaller than 2 ^ 52
+-- a float with a negative exponent is smaller than 2 ^ 52
 pub fraction-below : (s : Bool) (m k : ℕ) → T (fits binary64 (fin s m (negsuc k))) → m * 1 < 4503599627370496 * 2 ^ suc k
 fraction-below s m k t =
     let d = digits s m (negsuc k) t in let p = mul-le-mul-left 4503599627370496 (pow-pos k) in

@@ -1,4 +1,4 @@
--- The whole part of a float of known size, and what a cast and the nearest whole number give of it. Assumes nothing.
+-- The whole part of a float of known size, its cast, and the whole number nearest to it. Assumes nothing.
 use Rattle.prelude.proofs.Logic.{_≡_, refl, sym, ap, Bool, true, false, cond, true≢false, false≢true, inl, inr, ℕ, _+_, _*_, _/_, _^_, _≤_}
 use Rattle.prelude.proofs.Logic.{_<_, mul-one, lt-of-mul-lt-mul-right, mul-right-comm, div-mul-le-self, mul-le-mul-right}
 use Rattle.prelude.proofs.Logic.{le-of-mul-le-mul-right, le-trans, le-of-lt, le-of-eq, eq-zero-or-pos, min-eq-left, div-add-mod'}
@@ -51,7 +51,7 @@ whole-neg nan = refl
 whole-neg (inf s) = refl
 whole-neg (fin s m e) = refl
 
--- if nothing saturates, a cast is the whole part with the sign
+-- if a cast does not saturate, it is the whole part with the sign
 pub cast-is : (h : ℕ) (s : Bool) (x : Float) → Signed s x → (a c : ℕ) → Within x a c → wholeSize x < 2 ^ h
     → toSigned h x ≡ signed s (wholeSize x)
 unfolding toSigned
@@ -62,7 +62,7 @@ cast-is h false (fin false m e) g a c w l = ap pos (min-eq-left (le-ones h l))
 cast-is h true (fin false m e) g a c w l = absurd (false≢true g)
 cast-is h false (fin true m e) g a c w l = absurd (true≢false g)
 
--- the nearest whole number does not pass a whole bound
+-- if x is within a whole bound, so is the whole number nearest to it
 pub nearest-within : (x : Float) (a : ℕ) → a < big → Within x a 1 → Within (roundOf x) a 1
 unfolding roundOf
 nearest-within nan a p h = absurd h

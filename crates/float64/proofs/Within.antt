@@ -1,5 +1,5 @@
--- Sizes through the operations: a float is finite, and no more than a / c in size. Each bound is n / 2 ^ k with n below 2 ^ 53, a float
--- itself, so rounding, which keeps the order, does not pass it. Assumes nothing.
+-- Bounds of sizes through the operations: a float is finite, and no more than a / c in size. Each bound is n / 2 ^ k with n below 2 ^ 53,
+-- which is a float. Rounding keeps the order, so a rounded result does not pass the bound. Assumes nothing.
 use Rattle.prelude.proofs.Logic.{_≡_, refl, sym, ap, _∙_, subst, Bool, true, false, _&&_, _||_, cond, true≢false, ℕ, zero, suc, _+_, _-_}
 use Rattle.prelude.proofs.Logic.{_*_, _/_, _%_, _^_, _≤_, _<_, compare, mul-one, mul-assoc, mul-comm, mul-left-comm, add-mul, mul-pos}
 use Rattle.prelude.proofs.Logic.{mul-le-mul, mul-le-mul-right, le-of-mul-le-mul-right, le-trans, le-of-eq, le-of-lt, arith, T, ltb, eqb}
@@ -16,7 +16,7 @@ Within nan a c = ⊥
 Within (inf s) a c = ⊥
 Within (fin s m e) a c = m * up e * c ≤ a * down e
 
--- no NaN, and with the sign s
+-- not a NaN, and with the sign s
 abbrev pub Signed : Bool → Float → Type 0
 Signed s nan = ⊥
 Signed s (inf t) = t ≡ s
@@ -39,7 +39,7 @@ abs-within nan a c h = h
 abs-within (inf s) a c h = h
 abs-within (fin s m e) a c h = h
 
--- what has a size has a sign
+-- a float that has a bound is not a NaN, so it has a sign
 pub within-signed : (x : Float) (a c : ℕ) → Within x a c → Signed (isNegativeOf x) x
 unfolding isNegativeOf
 within-signed nan a c h = absurd h
@@ -53,7 +53,7 @@ widen (inf s) a b c l h = h
 widen (fin s m e) a b c l h = le-trans h (mul-le-mul-right (down e) l)
 
 -- ---- rounding
--- the sign goes through
+-- rounding keeps the sign
 odd-neg : (d q k l : ℕ) → odd d true q k l ≡ neg (odd d false q k l)
 unfolding odd neg
 odd-neg d zero k l = refl
@@ -87,7 +87,7 @@ module _ (a b : ℕ) where
       go true (suc r) = refl
       go false r = refl
 
--- what a test says of the sizes
+-- from a test to the sizes
 pub le-sizes : (a b : ℕ) (t : Bool) → T (ltb a b || (eqb a b && t)) → a ≤ b
 le-sizes a b t h = go (ltb a b) refl h
   where
@@ -95,7 +95,7 @@ le-sizes a b t h = go (ltb a b) refl h
     go true l h = le-of-lt (ltb-true a b l)
     go false l h = le-of-eq (eqb→eq a b (and-l (eqb a b) t h))
 
--- no more than a float that is a / c
+-- x is at most y, and y is a / c
 pub under-value : (x y : Float) (a c : ℕ) → 0 < c → Signed false x → HasValue y false a c → T (le x y) → Within x a c
 unfolding le
 under-value nan y a c p n v h = absurd n
@@ -127,7 +127,7 @@ module _ (a b n k : ℕ) (p : 0 < b) (h : n < big) (g : k ≤ 1074) (l : a * 2 ^
 -- ---- the operations
 ruleset ring = (mul-assoc, mul-comm, mul-left-comm)
 
--- M / E ≤ a / c and N / D ≤ b / d, so that the product is at most q / w
+-- if M / E ≤ a / c and N / D ≤ b / d, the product is at most q / w
 product : (M N E D a b c d q w : ℕ) → 0 < c → 0 < d → M * c ≤ a * E → N * d ≤ b * D → a * b * w ≤ q * (c * d) → M * N * w ≤ q * (E * D)
 product M N E D a b c d q w C D' h k l =
     let u : M * N * w * (c * d) ≡ M * c * (N * d) * w = simp ring in
@@ -150,7 +150,7 @@ mul-within (fin s m e) (fin t r f) a b c d n k C D h i p q l =
     (product (m * up e) (r * up f) (down e) (down f) a b c d n (2 ^ k) C D h i l)
     (unlike s t)
 
--- by a divisor that is b / d
+-- a quotient whose divisor is b / d
 pub div-within : (x y : Float) (t : Bool) (a b c d n k : ℕ) → 0 < b → 0 < c → 0 < d → Within x a c → HasValue y t b d → n < big → k ≤ 1074
     → a * d * 2 ^ k ≤ n * (b * c) → Within (div binary64 x y) n (2 ^ k)
 unfolding div

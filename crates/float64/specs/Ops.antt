@@ -1,4 +1,4 @@
--- binary64's operations by short names, so that a definition reads like its formula: "each operation rounded once in its order" (document 01).
+-- Short names of binary64's operations: a definition reads like its formula. "each operation rounded once in its order" (document 01).
 use Prim.Native.Nat.{ℕ, _^_}
 use mathlib.Core.Bool.{false}
 use lib.Ieee.{Float, binary64, add, sub, mul, div, round, ofBits}
@@ -21,7 +21,7 @@ x /ᶠ y = div binary64 x y
 abbrev pub bits : ℕ → Float
 bits n = ofBits binary64 n
 
--- the f64 nearest to n / 10 ^ k, as a decimal literal of the source is read
+-- the f64 nearest to n / 10 ^ k: a decimal literal of the source
 unfoldable pub dec : ℕ → ℕ → Float
 unfolding round
 dec n k = round binary64 false n (10 ^ k)

@@ -1,4 +1,4 @@
--- A closed range of floats, as a test and as a fact. No comparison with a NaN holds, so a NaN is in none.
+-- A closed range of floats, as a test and as a fact. No comparison with a NaN holds, so no range has a NaN.
 use mathlib.Core.Path.{_≡_}
 use mathlib.Core.Bool.{Bool, true, _&&_}
 use lib.Ieee.{Float, le}

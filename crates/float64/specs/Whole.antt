@@ -18,17 +18,17 @@ floorOf nan = nan
 floorOf (inf s) = inf s
 floorOf (fin s m e) = cond (eqb (fraction m e) 0) (fin s m e) (ofInt binary64 (cond s (negsuc (wholePart m e)) (pos (wholePart m e))))
 
--- x without its fraction; it keeps x's sign, so that -0.5 gives -0.0
+-- x without its fraction; it keeps x's sign: -0.5 gives -0.0
 unfoldable pub truncOf : Float → Float
 truncOf nan = nan
 truncOf (inf s) = inf s
 truncOf (fin s m e) = cond (eqb (fraction m e) 0) (fin s m e) (cond s (neg (ofInt binary64 (pos (wholePart m e)))) (ofInt binary64 (pos (wholePart m e))))
 
--- the whole part, and one more from a half on
+-- the whole part, or one more if the fraction is a half or more
 abbrev pub halfUp : ℕ → ℤ → ℕ
 halfUp m e = cond (ltb (2 * fraction m e) (down e)) (wholePart m e) (wholePart m e + 1)
 
--- the nearest whole number, and of two the one further from zero; it keeps x's sign
+-- the nearest whole number, or the one further from zero if two are as near; it keeps x's sign
 unfoldable pub roundOf : Float → Float
 roundOf nan = nan
 roundOf (inf s) = inf s

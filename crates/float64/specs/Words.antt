@@ -1,11 +1,11 @@
 -- The two words of a float's bit pattern, which fdlibm reads and writes as __HI(x) and __LO(x).
--- At a NaN, which has many patterns, these are the words of the one that the model writes: 0x7ff8_0000 and 0.
+-- A NaN has many patterns. These are the words of the one that the model writes: 0x7ff8_0000 and 0.
 use Prim.Native.Nat.{ℕ, _/_, _%_, _*_, _^_}
 use mathlib.Core.Bool.{Bool, false}
 use lib.Ieee.{Float, nan, inf, fin, binary64, toBits}
 use Rattle.float64.specs.Ops.{bits}
 
--- the sign bit, clear at a NaN
+-- the sign bit; false for a NaN
 unfoldable pub isNegativeOf : Float → Bool
 isNegativeOf nan = false
 isNegativeOf (inf s) = s

@@ -1,9 +1,9 @@
-// A float's bit pattern and back, for every float and every pattern. All NaNs are one.
+// From a float to its bit pattern and back, for every float and every pattern. All NaNs are the same float.
 ghost use mathlib.Core.Path.{_≡_};
 ghost use lib.Ieee.{binary64, toBits, ofBits};
 use super::words::not_a_number;
 
-// x's pattern; a NaN's is the quiet one with nothing else set.
+// x's pattern. A NaN's is that of a quiet NaN with no other bit set.
 pub fn to_bits(x: f64) -> u64
     ensures { λ r. ⌜ r ≡ toBits binary64 x ⌝ }
 {

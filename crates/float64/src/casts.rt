@@ -1,10 +1,10 @@
-// Rust's saturating casts: toward zero, to the nearest end of the range, and 0 for a NaN.
+// Rust's saturating casts: rounded toward zero, the nearest end of the range for a number beyond it, and 0 for a NaN.
 ghost use mathlib.Core.Path.{_≡_};
 ghost use lib.Ieee.{toSigned, toUnsigned};
 use crate::whole::trunc;
 
-// Rust's `x as u64`. Below 2^52 the whole part is a float that one instruction casts; std's function, which shifts the bit pattern, is used
-// above that.
+// Rust's `x as u64`. Below 2^52 one instruction casts the whole part, which is a float. From there on std's function shifts the bit
+// pattern.
 pub fn to_u64(x: f64) -> u64
     ensures { λ r. ⌜ r ≡ toUnsigned 64 x ⌝ }
 {

@@ -1,4 +1,4 @@
-// What Rust's f64 has as methods and casts, as total functions, and the words of a bit pattern.
+// The methods and casts of Rust's f64 as total functions, and the words of a bit pattern.
 pub mod bits;
 pub mod casts;
 pub mod sizes;

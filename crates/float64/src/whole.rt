@@ -1,15 +1,15 @@
-// Whole numbers near a float. The work is done on positive numbers: a negative x is taken by its opposite, and a zero, whose sign must
-// stay, and a NaN are their own results.
+// Whole numbers near a float. The work is done on positive numbers: for a negative x, on -x. A zero and a NaN are returned as they are,
+// because a zero must keep its sign.
 ghost use mathlib.Core.Path.{_≡_};
 ghost use mathlib.Core.Bool.{true};
 ghost use lib.Ieee.{lt, neg};
 ghost use Rattle.float64.specs.Ops.{bits};
 ghost use Rattle.float64.specs.Whole.{floorOf, truncOf, roundOf};
 
-// 2^52. From here on a float has no fraction, so adding it to x and taking it away leaves a whole number next to x.
+// 2^52. From here on a float has no fraction, so adding it to x and subtracting it again leaves a whole number next to x.
 const WHOLE: f64 = 4503599627370496.0;
 
-// The whole part of x > 0. The test is taken off as a number: a branch on it would be mispredicted half of the time.
+// The whole part of x > 0. The test's 0 or 1 is subtracted: a branch on it would be mispredicted half of the time.
 fn lower(x: f64) -> f64
     requires { ⌜ lt (bits 0) x ≡ true ⌝ }
     ensures { λ r. ⌜ r ≡ truncOf x ⌝ }
@@ -35,7 +35,7 @@ fn upper(x: f64) -> f64
     }
 }
 
-// The whole part of x > 0, and one more from a half on. The difference x - k is exact.
+// The whole part of x > 0, or one more if the fraction is a half or more. The difference x - k is exact.
 fn half_up(x: f64) -> f64
     requires { ⌜ lt (bits 0) x ≡ true ⌝ }
     ensures { λ r. ⌜ r ≡ roundOf x ⌝ }
@@ -74,7 +74,7 @@ pub fn trunc(x: f64) -> f64
     x
 }
 
-// The whole number nearest to x, and of two the one further from zero.
+// The whole number nearest to x; if two are as near, the one further from zero.
 pub fn round(x: f64) -> f64
     ensures { λ r. ⌜ r ≡ roundOf x ⌝ }
 {

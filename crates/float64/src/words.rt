@@ -1,4 +1,4 @@
-// The words of a bit pattern, as fdlibm reads and writes them. `f64::to_bits` is undefined at a NaN, so each function asks for one first.
+// The words of a bit pattern, as fdlibm reads and writes them. `f64::to_bits` is undefined at a NaN, so each function tests for one first.
 ghost use mathlib.Core.Path.{_≡_};
 ghost use lib.Ieee.{nan};
 ghost use Rattle.float64.specs.Words.{isNegativeOf, highOf, lowClearedOf};
@@ -9,7 +9,7 @@ pub fn not_a_number() -> f64
     0.0 / 0.0
 }
 
-// The sign bit, which tells -0.0 from 0.0; clear at a NaN.
+// The sign bit, which tells -0.0 from 0.0. False for a NaN.
 pub fn is_negative(x: f64) -> bool
     ensures { λ r. ⌜ r ≡ isNegativeOf x ⌝ }
 {
@@ -31,7 +31,7 @@ pub fn high_word(x: f64) -> u32
     }
 }
 
-// x with its low word cleared: the product of two such numbers is exact.
+// x with its low word cleared. The product of two of these numbers is exact.
 pub fn cut(x: f64) -> f64
     ensures { λ r. ⌜ r ≡ lowClearedOf x ⌝ }
 {

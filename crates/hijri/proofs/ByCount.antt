@@ -21,14 +21,14 @@ last-date : dateAtOf 1521993243770 ≡ dateOf 4294967295 12 29
 unfolding dateAtOf inYearOf yearOf monthOf yearStartOf monthStartOf
 last-date = refl
 
--- what the code returns is the calendar's date, up to the last date of the year 4294967295
+-- the code returns the calendar's date, up to the last date of the year 4294967295
 pub of-day-is : (z : ℤ) → P (z +ℤ pos 492148) ≤ 1521993243770 → ofDayOf z ≡ dateOfDayOf z
 unfolding heldOf dateOfDayOf
 of-day-is z h =
     let n = P (z +ℤ pos 492148) in
     rw (year-at n, le-leb (yearOf n) 4294967295 (year-held n h))
 
--- and from there on that date
+-- and after it that last date
 of-day-last : (z : ℤ) → 1521993243770 < P (z +ℤ pos 492148) → ofDayOf z ≡ dateAtOf 1521993243770
 unfolding heldOf dateOfDayOf
 of-day-last z h =
@@ -42,7 +42,7 @@ since-held z =
     cases (leb n 1521993243770) (λ e. rw e (sym (of-day-is z (leb-true n 1521993243770 e))))
     (λ e. rw e (sym (of-day-last z (leb-false n 1521993243770 e))))
 
--- outside the calendar it is the nearer end
+-- outside the calendar it returns the nearer end
 pub of-day-below : (z : ℤ) → P z + 492148 ≤ N z → ofDayOf z ≡ dateAtOf 0
 unfolding dateOfDayOf
 of-day-below z h =
@@ -53,7 +53,7 @@ of-day-below z h =
 pub of-day-above : (z : ℤ) → N z + 1521992751622 < P z → ofDayOf z ≡ dateAtOf 1521993243770
 of-day-above z h = let s = sum z (pos 492148) in of-day-last z (omega arith)
 
--- the code's numbers: the n days of a day z, their year y and the days b before it
+-- the code's numbers: the count n of the day z, the year y of that day, and the days b before that year
 module _ (z : ℤ) (n : ℕ) (s : n ≡ sinceFirstOf z) where
   pub days-fit : n ≤ 1521993243770
   days-fit = let l = since-small z in omega arith

@@ -7,7 +7,7 @@ use Rattle.hijri.specs.declared.dates.Tabular.{Tabular}
 use Rattle.hijri.proofs.YearSteps.{year-mono, last-year}
 use Rattle.hijri.proofs.Existing.{count-is}
 
--- of any three u32
+-- for any year, month and day that are u32
 module _ (d : Tabular) (y : d .year ≤ 4294967295) (m : d .month ≤ 4294967295) (k : d .day ≤ 4294967295) where
   pub count-room : countOf d < 2000000000000
   unfolding monthStartOf

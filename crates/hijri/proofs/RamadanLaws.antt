@@ -1,4 +1,4 @@
--- The code's test for the first day of Ramadan: it says yes of each year's first of month 9, moved by the shift, and of no other day.
+-- The code's test for the first day of Ramadan: true for each year's first of month 9, moved by the shift, and for no other day.
 -- Assumes nothing.
 use Rattle.prelude.proofs.Logic.{_≡_, refl, sym, ap, _∙_, true, true≢false, and-eq-true-iff, ℕ, _≤_, arith, eqb, ℤ, pos, negsuc, _+ℤ_, _-ℤ_}
 use Rattle.prelude.proofs.Logic.{leZ, eqb-true, cases}
@@ -21,7 +21,7 @@ first-of-1447 = refl
 first-exists : (y : ℕ) → 1 ≤ y → existsOf (dateOf y 9 1) ≡ true
 first-exists y h = to-exists (dateOf y 9 1) (record { year = h; from = omega arith; to = length-some (leapOf y) 8 (omega arith) })
 
--- the first of month 9, and the shift more
+-- the test is true for the first of month 9 plus the shift
 pub start-yes : (y : ℕ) → 1 ≤ y → y ≤ 4294967295 → (shift : ℤ) → ramadanStartOf (shiftedStartOf y shift) shift ≡ true
 unfolding ramadanStartOf
 start-yes y l h shift =
@@ -36,7 +36,7 @@ opened d h =
     let t = and-eq-true-iff (eqb (d .month) 9) (eqb (d .day) 1) .0 h in
     rw (eqb-true (d .month) 9 (t .0), eqb-true (d .day) 1 (t .1))
 
--- no other day: one that the test takes is the first of month 9 of its year, and the shift more
+-- and for no other day: if it is true for a day, the day less the shift is the first of month 9 of its year
 pub start-only : (z shift : ℤ) → ramadanStartOf z shift ≡ true → firstOfRamadanOf (ofDayOf (z -ℤ shift) .year) ≡ z -ℤ shift
 unfolding ramadanStartOf
 start-only z shift h = by-place (z -ℤ shift) h

@@ -1,11 +1,11 @@
--- The day less the shift as i64, and the days so far away that no shift brings them into the calendar. Assumes nothing.
+-- The day less the shift fits an i64, and some days are so far away that no shift brings them into the calendar. Assumes nothing.
 use Rattle.prelude.proofs.Logic.{_≡_, refl, sym, ap, _∙_, true, false, ℕ, _+_, _≤_, arith, ℤ, pos, negsuc, _-ℤ_, ltZ, w64, w32, SFits}
 use Rattle.integers.proofs.Integers.{P, N, difference, lt-yes, lt-no, range, fits, readBack, read, read-wide}
 use Rattle.hijri.specs.Days.{yearStartOf, monthStartOf, yearOf, monthOf, inYearOf, dateAtOf}
 use Rattle.hijri.specs.Ramadan.{opensRamadan, ramadanStartOf}
 use Rattle.hijri.proofs.ByCount.{of-day-below, of-day-above}
 
--- neither the first date of the calendar nor the last
+-- neither the first date of the calendar nor the last opens a Ramadan
 pub first-not : opensRamadan (dateAtOf 0) ≡ false
 unfolding dateAtOf inYearOf yearOf monthOf yearStartOf monthStartOf
 first-not = refl
@@ -14,7 +14,7 @@ pub last-not : opensRamadan (dateAtOf 1521993243770) ≡ false
 unfolding dateAtOf inYearOf yearOf monthOf yearStartOf monthStartOf
 last-not = refl
 
--- one part of an integer is 0
+-- a bound of a part, which holds because one of the two parts is 0
 high-part : (z : ℤ) (k : ℕ) → P z ≤ N z + k → P z ≤ k
 high-part (pos n) k h = omega arith
 high-part (negsuc n) k h = omega arith

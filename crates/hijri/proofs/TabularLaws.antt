@@ -1,5 +1,5 @@
 -- The laws of the calendar: the formulas of Days give the calendar of Rule, in every year from 1 on. Assumes nothing.
--- first-day and day-after give every date's number by the rule alone; the last two say that dates and day numbers give each other.
+-- first-day and day-after give every date's number by the rule alone. The last two laws go from a date to its number and back.
 use Rattle.prelude.proofs.Logic.{_≡_, refl, ap, true, _+_, arith, ltb, ℤ, pos, negsuc, _+ℤ_, leZ, ltb-true, ltb-false, cases}
 use Rattle.integers.proofs.Integers.{P, N, same, not-negative, sum, difference, le-yes}
 use Rattle.hijri.specs.Rule.{dateOf, leapOf, lengthOf, monthDaysOf, existsOf, dayAfterOf}
@@ -46,7 +46,7 @@ first-day = refl
 pub first-exists : existsOf (dateOf 1 1 1) ≡ true
 first-exists = to-exists (dateOf 1 1 1) (record { year = omega arith; from = omega arith; to = length-some (leapOf 1) 0 (omega arith) })
 
--- d counts as the number of its day, and 492532 more
+-- d's count is the number of its day plus 492532
 pub balance : (d : Tabular) → P (dayNumberOf d) + 492532 ≡ N (dayNumberOf d) + countOf d
 unfolding dayNumberOf
 balance d = let s = difference (pos (countOf d)) (pos 492532) in omega (arith, s .0, s .1)
@@ -60,7 +60,7 @@ day-after d h = numbered (dayAfterOf d) (dayNumberOf d +ℤ pos 1) (omega (arith
 pub day-after-exists : (d : Tabular) → existsOf d ≡ true → existsOf (dayAfterOf d) ≡ true
 day-after-exists d h = after d h .there
 
--- ---- a date and the number of its day give each other
+-- ---- from a date to the number of its day and back
 pub date-of-number : (d : Tabular) → existsOf d ≡ true → dateOfDayOf (dayNumberOf d) ≡ d
 unfolding dateOfDayOf
 date-of-number d h =

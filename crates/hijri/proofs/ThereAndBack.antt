@@ -14,8 +14,8 @@ use Rattle.hijri.proofs.Existing.{exists-yes, month-of-date, count-is, 
 use Rattle.hijri.proofs.TabularLaws.{balance, date-of-number, number-of-date}
 use Rattle.hijri.proofs.ByCount.{of-day-is}
 
--- ---- the code's answers, in the years that a u32 holds
--- every date that exists is found again by its number
+-- ---- what the code returns, in the years that a u32 holds
+-- the number of a date that exists gives the date back
 pub of-day-back : (d : Tabular) → existsOf d ≡ true → d .year ≤ 4294967295 → ofDayOf (dayNumberOf d) ≡ d
 of-day-back d h y =
     let m = month-of-date d (exists-yes d h) in
@@ -28,7 +28,7 @@ of-day-back d h y =
     let n = not-negative (dayNumberOf d +ℤ pos 492148) (omega arith) in
     of-day-is (dayNumberOf d) (omega (arith, count-is d, last-year)) ∙ date-of-number d h
 
--- and every day from 1-1-1 to the last of the year 4294967295 has its number again
+-- and the date of a day from 1-1-1 to the last of the year 4294967295 gives the day's number back
 pub of-day-forth : (z : ℤ) → leZ (negsuc 492147) z ≡ true → leZ z (pos 1521992751622) ≡ true → dayNumberOf (ofDayOf z) ≡ z
 of-day-forth z l h =
     let a = le-yes (negsuc 492147) z l in
@@ -52,7 +52,7 @@ back-and-there d h =
     ap dateOfDayOf (gregorian-laws.number-of-date (dayNumberOf d) (to-le (negsuc 719527) (dayNumberOf d) (omega arith)))
     ∙ date-of-number d h
 
--- ---- the same by the functions of the code, for every date of 1899 to 2200: an order's dates, with those that a shift and 30 rows reach
+-- ---- the same by the functions of the code, for every date of 1899 to 2200: an order's dates, with all that a shift and 30 rows reach
 module _ (d : Date) (h : gregorian.existsOf d ≡ true) (p : 1899 ≤ d .year) (q : d .year ≤ 2200) where
   number-kept : dayNumberOf (ofDayOf (gregorian-days.dayNumberOf d)) ≡ gregorian-days.dayNumberOf d
   number-kept =

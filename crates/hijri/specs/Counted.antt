@@ -5,6 +5,6 @@ use lib.Dec.{leb}
 use lib.IntN.{ℤ, pos, _+ℤ_}
 use Rattle.integers.specs.Parts.{P}
 
--- at most as many as to the last date of the year 4294967295
+-- the days from 1-1-1 to a day, or to the last date of the year 4294967295 if the day is after it
 unfoldable pub sinceFirstOf : ℤ → ℕ
 sinceFirstOf day = let n = P (day +ℤ pos 492148) in cond (leb n 1521993243770) n 1521993243770

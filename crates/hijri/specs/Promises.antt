@@ -1,5 +1,5 @@
--- Request 12: the tabular Islamic calendar. What Days counts is the calendar of Rule, from 1-1-1 on, which is Julian Day 1948439.5; and a
--- start of Ramadan is the first of its ninth month, moved by the shift. Proved in proofs/Promises.
+-- Request 12: the tabular Islamic calendar. Days counts the calendar of Rule, from 1-1-1 on, which is Julian Day 1948439.5. A start of
+-- Ramadan is the first of a year's ninth month, moved by the shift. Proved in proofs/Promises.
 use Prim.Native.Nat.{ℕ, _≤_}
 use mathlib.Core.Path.{_≡_}
 use mathlib.Core.Bool.{true}
@@ -16,7 +16,7 @@ use Rattle.hijri.specs.declared.dates.Tabular.{Tabular}
 
 pub record CalendarIsTabular : Type 0 where
   pub first : (existsOf (dateOf 1 1 1) ≡ true) × (dayNumberOf (dateOf 1 1 1) ≡ negsuc 492147)
-  -- the day after a date is a date and has the number one more
+  -- the day after a date exists, and its number is one more
   pub next : (d : Tabular) → existsOf d ≡ true → (existsOf (dayAfterOf d) ≡ true) × (dayNumberOf (dayAfterOf d) ≡ dayNumberOf d +ℤ pos 1)
   -- from date to number and back; every day from 1-1-1 on has a date
   pub date : (d : Tabular) → existsOf d ≡ true → dateOfDayOf (dayNumberOf d) ≡ d

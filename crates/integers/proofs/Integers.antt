@@ -1,4 +1,4 @@
--- What the crates above use of this one, from one place. Nothing is added.
+-- The names of this crate that the crates above use, in one place. Nothing is added.
 pub use Rattle.integers.proofs.Held.{Held, held-sum, stored, constant, held-as, held-fits, promised, of-i64, held-by}
 pub use Rattle.integers.proofs.Held.{held-difference, asked, of-wide, held-product}
 pub use Rattle.integers.proofs.Intervals.{by-balance, Inside, wider, natural-between, sum-between, difference-between}

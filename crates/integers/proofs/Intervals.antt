@@ -1,10 +1,10 @@
--- Integers from -a to b, through the operations that a time is worked by. Assumes nothing.
+-- Integers from -a to b, and the bounds of sums, differences and products of them. Assumes nothing.
 use Rattle.prelude.proofs.Logic.{_≡_, Bool, true, false, cond, ℕ, _+_, _*_, _≤_, mul-le-mul-right, arith, ℤ, pos, negsuc, _+ℤ_, _-ℤ_, _*ℤ_}
 use Rattle.integers.specs.Parts.{P, N, Between}
 use Rattle.integers.specs.Order.{_≼_}
 use Rattle.integers.proofs.Sums.{sum, difference, times}
 
--- by the balance of z's parts alone
+-- from the balance of z's parts alone
 pub by-balance : (a b : ℕ) (z : ℤ) → N z ≤ P z + a → P z ≤ N z + b → Between a b z
 by-balance a b (pos n) l h = record { from = omega arith; to = omega arith }
 by-balance a b (negsuc n) l h = record { from = omega arith; to = omega arith }
@@ -31,7 +31,7 @@ pub either-between : {a b : ℕ} {x y : ℤ} (t : Bool) → Between a b x → Be
 either-between true h k = h
 either-between false h k = k
 
--- what lies within k of a number of an interval
+-- an integer within k of one that is between -a and b
 pub shifted-between : {a b : ℕ} {t : ℤ} (k : ℕ) (x : ℤ) → Between a b t → x ≼ t +ℤ pos k → t ≼ x +ℤ pos k → Between (a + k) (b + k) x
 shifted-between {a} {b} {t} k x h u v = let s = sum t (pos k) in let r = sum x (pos k) in
     by-balance (a + k) (b + k) x (omega arith) (omega arith)
@@ -44,7 +44,7 @@ pub record Inside (w z : ℤ) : Type 0 where
 pub inside-between : {a b : ℕ} {w z : ℤ} → Inside w z → Between a b z → Between a b w
 inside-between i h = record { from = omega arith; to = omega arith }
 
--- so what goes from m toward f, and no further, lies between them
+-- so what goes from m toward f, and no further, is between them
 pub toward-between : {a b : ℕ} (m f w : ℤ) → Between a b m → Between a b f → Inside w (f -ℤ m) → Between a b (m +ℤ w)
 toward-between {a} {b} m f w h k i = let d = difference f m in by-sign (f -ℤ m) (omega (arith, d .0, d .1)) (i .over) (i .under)
   where

@@ -1,10 +1,10 @@
--- What a test of the order that passed or failed says of the parts, and back. Assumes nothing.
+-- From the result of a comparison to the parts of the integers compared, and back. Assumes nothing.
 use Rattle.prelude.proofs.Logic.{_≡_, refl, subst, Bool, true, false, not, _+_, _<_, arith, T, ℤ, pos, negsuc, leZ, ltZ, ltb-true}
 use Rattle.prelude.proofs.Logic.{ltb-false, leb-true, leb-false, lt-ltb, le-ltb, le-leb, lt-leb}
 use Rattle.integers.specs.Parts.{P, N}
 use Rattle.integers.specs.Order.{_≼_}
 
--- a test is not both
+-- a truth value is not both
 no : {X : Type 0} → _≡_ {A = Bool} false true → X
 no e = absurd (subst (λ (b : Bool). T (not b)) e tt)
 

@@ -1,8 +1,8 @@
--- Integers by the balance of their parts. Assumes nothing.
+-- What the balance of an integer's parts says of it. Assumes nothing.
 use Rattle.prelude.proofs.Logic.{_≡_, refl, ap, _+_, _≤_, arith, ℤ, pos, negsuc}
 use Rattle.integers.specs.Parts.{P, N}
 
--- equality: two integers with the same balance are one
+-- two integers with the same balance are equal
 pub same : (x y : ℤ) → P x + N y ≡ P y + N x → x ≡ y
 same (pos a) (pos b) h = ap pos (omega arith)
 same (pos a) (negsuc b) h = absurd (omega arith)

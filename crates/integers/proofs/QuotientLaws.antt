@@ -1,4 +1,4 @@
--- Quotients and remainders by a natural number above 0, toward zero and rounded down, by their parts. Assumes nothing.
+-- Quotients and remainders by a natural number above 0, rounded toward zero and rounded down, by their parts. Assumes nothing.
 use Rattle.prelude.proofs.Logic.{_≡_, sym, ap, subst, _∙_, ℕ, suc, _+_, _*_, _/_, _%_, _<_, zero-mul, div-add-mod', mod-lt, arith, ℤ, pos}
 use Rattle.prelude.proofs.Logic.{negsuc, negℤ, quotZ, remZ}
 use Rattle.integers.specs.Parts.{P, N}

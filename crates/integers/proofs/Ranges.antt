@@ -1,4 +1,4 @@
--- Which integers an i32 or an i64 holds, by their parts, and what the machine reads back of one that it holds. Assumes nothing.
+-- Which integers an i32 or an i64 holds, by their parts; and that the machine reads back an integer that it holds. Assumes nothing.
 use Rattle.prelude.proofs.Logic.{_≡_, sym, subst, _∙_, _^_, _≤_, _<_, arith, ℤ, pos, negsuc, Width, w32, w64, SFits, toZ, ofZ, hbits}
 use Rattle.prelude.proofs.Logic.{sfits-widen}
 use mir.ValLaws.{toZ-ofZ}
@@ -17,7 +17,7 @@ pub range : (w : Width) (z : ℤ) → SFits w z → Range w z
 range w (pos n) h = record { high = h .sfits; low = omega arith }
 range w (negsuc n) h = record { high = omega (arith, h .sfits); low = h .sfits }
 
--- what the machine reads back of z's bits
+-- the integer that the machine reads from z's bits
 abbrev pub readBack : Width → ℤ → ℤ
 readBack w z = toZ w (ofZ w z)
 

@@ -34,7 +34,7 @@ sum (negsuc a) (negsuc b) = record { balance = omega arith; high = omega arith; 
 pub summands : {x y u v : ℤ} → x ≡ u → y ≡ v → x +ℤ y ≡ u +ℤ v
 summands {x} {y} {u} {v} p q = ap (λ (z : ℤ). z +ℤ y) p ∙ ap (λ (z : ℤ). u +ℤ z) q
 
--- and differences
+-- differences of equal numbers
 pub differences : {x y u v : ℤ} → x ≡ u → y ≡ v → x -ℤ y ≡ u -ℤ v
 differences {x} {y} {u} {v} p q = ap (λ (z : ℤ). z -ℤ y) p ∙ ap (λ (z : ℤ). u -ℤ z) q
 

@@ -19,7 +19,7 @@ pub not-above : (z x : ℤ) → x ≡ z → ltZ (pos 0) x ≡ false → 0 ≡ P 
 not-above (pos n) x e t = let l = lt-no (pos 0) (pos n) (sym (ap (ltZ (pos 0)) e) ∙ t) in omega arith
 not-above (negsuc n) x e t = refl
 
--- z below 0: its size is that of -(z + 1), and one more
+-- for z below 0, its size is one more than that of -(z + 1)
 module _ (z : ℤ) (h : SFits w64 z) (t : ltZ (readBack w64 z) (pos 0) ≡ true) where
   negative : (P z ≡ 0) × (0 < N z)
   negative = by-sign z (lt-yes z (pos 0) (sym (ap (λ (x : ℤ). ltZ x (pos 0)) (read w64 z h)) ∙ t))

@@ -1,5 +1,5 @@
--- An integer by its parts, z = P z - N z, one of which is 0: `omega` reads only natural numbers, so what is said of integers is said of
--- these. The laws (proofs/) say what each operation does to the two. Assumes nothing.
+-- An integer as the difference of two natural numbers, z = P z - N z, one of them 0. `omega` reads only natural numbers, so statements
+-- about integers use P and N. The laws (proofs/) say what each operation does to the two. Assumes nothing.
 use Prim.Native.Nat.{ℕ, suc, _≤_}
 use lib.IntN.{ℤ, pos, negsuc}
 

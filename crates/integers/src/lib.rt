@@ -1,2 +1,2 @@
-// Laws about whole numbers, stated once for the crates above (specs/), and the parts of a number with a sign.
+// Definitions (specs/) and laws (proofs/) of whole numbers, stated once for the crates above, and the two parts of a signed number.
 pub mod parts;

@@ -2,7 +2,7 @@
 ghost use mathlib.Core.Path.{_≡_};
 ghost use Rattle.integers.specs.Parts.{P, N};
 
-// How far a number lies above 0, and how far below it.
+// How far a number is above 0 (`above`) or below 0 (`below`). Each is 0 on the other side.
 pub fn above(z: i64) -> u64
     ensures { λ r. ⌜ r ≡ P z ⌝ }
 {

@@ -7,7 +7,7 @@ use Rattle.calendar.proofs.Calendar.{exists-yes, month-of-date, ordinal-is, cou
 use Rattle.calendar.specs.declared.dates.Date.{Date}
 use Rattle.julian.specs.Meeus.{yearDaysOf, monthTermOf, meeusOf}
 
--- ---- the years: Y's term with B, from the days before the next year
+-- ---- the years: Y's term and B, from the days before the next year
 years : (y : ℕ) → yearDaysOf y + 2 + y / 100 / 4 - y / 100 ≡ daysBeforeYearOf (y + 1) + 1722155
 unfolding daysBeforeYearOf
 years y =
@@ -69,7 +69,7 @@ counted d h l =
         → daysBeforeYearOf (d .year - 1 + 1) + v + d .day ≡ count d + 428
     early-days v k = let z : d .year - 1 + 1 ≡ d .year = omega arith in omega (arith, ordinal-is d h, ap daysBeforeYearOf z)
 
--- twice the Julian Day is twice the number of the day, and 4881175: day 0 begins at 2440587.5
+-- twice the Julian Day is twice the number of the day plus 4881175: day 0 begins at 2440587.5
 pub meeus-number : (d : Date) → existsOf d ≡ true → 1 ≤ d .year → pos (meeusOf d) ≡ dayNumberOf d *ℤ pos 2 +ℤ pos 4881175
 unfolding dayNumberOf
 meeus-number d h l =

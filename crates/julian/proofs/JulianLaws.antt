@@ -1,5 +1,5 @@
--- The Julian Day of the f64 formula is the one of Meeus's whole numbers and of the calendar's count of days, for every date of the years
--- 1899 to 2200: its sums of whole numbers and halves lose nothing. Assumes nothing.
+-- For every date of the years 1899 to 2200 the f64 formula, Meeus's whole numbers and the calendar's count of days give the same Julian
+-- Day. The f64 sums are of whole numbers and halves, which lose nothing. Assumes nothing.
 use Rattle.prelude.proofs.Logic.{_≡_, refl, ap, _∙_, true, ℕ, suc, _+_, _-_, _*_, _/_, _≤_, _<_, arith, ltb, lit<, lit≤, ℤ, pos, negsuc}
 use Rattle.prelude.proofs.Logic.{_+ℤ_, _-ℤ_, _*ℤ_, ltb-true, ltb-false, lt-ltb, cases}
 use Rattle.float64.proofs.Floats.{Float, binary64, ofInt, round, sub, div, _+ᶠ_, _-ᶠ_, _/ᶠ_, dec, dyadic, int-dyadic, add-dyadic}
@@ -12,7 +12,7 @@ use Rattle.julian.specs.Meeus.{yearDaysOf, monthTermOf, meeusOf}
 use Rattle.julian.proofs.Products.{year-cut, month-cut}
 use Rattle.julian.proofs.Counted.{meeus-number}
 
--- so many halves as an f64
+-- n halves as an f64
 abbrev pub halves : ℕ → Float
 halves n = dyadic 1 n
 
@@ -31,14 +31,14 @@ no-hours : dec 0 0 /ᶠ dec 24 0 ≡ halves 0
 unfolding dec round div
 no-hours = refl
 
--- a whole number of B's size and sign is taken away
+-- adding B, which is -b, loses nothing
 taken : (x b : ℕ) → x < 100000000 → 0 < b → b * 2 ≤ x → halves x +ᶠ real (negsuc (b - 1)) ≡ halves (x - b * 2)
 unfolding sub ofInt
 taken x b h p l =
     let s : suc (b - 1) ≡ b = omega arith in
     rw (s, ← neg-at b (omega arith)) (ap (sub binary64 (halves x)) (whole b) ∙ sub-dyadic 1 x (b * 2) (lit≤ tt) (omega arith) l)
 
--- u, v: the days of the years and of the months; b: what the centuries take away
+-- u, v: the days of the years and of the months; b: the days that the centuries subtract
 exact : (u v day b : ℕ) → u + v + day < 10000000 → 0 < b → b + 1525 ≤ u + v + day →
     real (pos u) +ᶠ real (pos v) +ᶠ at-midnight day +ᶠ real (negsuc (b - 1)) -ᶠ dec 15245 1
     ≡ halves (2 * (u + v + day - b) - 3049)

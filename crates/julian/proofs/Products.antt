@@ -1,5 +1,5 @@
--- The f64 products of the Julian Day, cut to whole numbers, are quotients of whole numbers at every year and month in use: two tests that
--- antt computes. Assumes nothing.
+-- The f64 products of the Julian Day, cut to whole numbers, are quotients of whole numbers for every year and month in use. Two tests that
+-- antt computes prove it. Assumes nothing.
 use Rattle.prelude.proofs.Logic.{_≡_, sym, ap, _∙_, Bool, _&&_, ℕ, _+_, _-_, _≤_, arith, T, eqb, eqb→eq, ℤ, pos, natAbs, nonNeg, pos-natAbs}
 use Rattle.prelude.proofs.Logic.{and-l, and-r}
 use Rattle.float64.proofs.Floats.{add, mul, ofInt, toSigned, round, dec}

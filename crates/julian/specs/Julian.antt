@@ -1,5 +1,5 @@
--- ops.rs's julian_day, operation by operation in f64: Meeus, Astronomical Algorithms, page 60. Whole numbers are integers that nothing
--- wraps.
+-- ops.rs's julian_day, operation by operation in f64: Meeus, Astronomical Algorithms, page 60. Whole numbers are integers, which never
+-- wrap.
 use Prim.Native.Nat.{ℕ}
 use mathlib.Core.Bool.{cond}
 use lib.Dec.{ltb}
@@ -37,10 +37,10 @@ julianDayOf year month day hours =
     let d = real day +ᶠ hours /ᶠ dec 24 0 in
     cond (ltZ (pos 2) month) (fromMarchOf year month d) (fromMarchOf (year -ℤ pos 1) (month +ℤ pos 12) d)
 
--- saturated at the largest i32
+-- n, or the largest i32 if n is above it
 unfoldable pub toI32Of : ℕ → ℤ
 toI32Of n = cond (ltb n 2147483648) (pos n) (pos 2147483647)
 
--- at 0 h
+-- the Julian Day of a date at 0 h
 unfoldable pub dateJulianDayOf : Date → Float
 dateJulianDayOf d = julianDayOf (toI32Of (d .year)) (toI32Of (d .month)) (toI32Of (d .day)) (dec 0 0)

@@ -13,7 +13,7 @@ fn correction(year: i64) -> i64
     2 - a + a / 4
 }
 
-// The month is 3 to 14, counted from the start of the year in which its March is.
+// The month is 3 to 14: January and February are months 13 and 14 of the year before.
 fn from_march(year: i64, month: i64, day: f64) -> f64
     ensures { λ r. ⌜ r ≡ fromMarchOf year month day ⌝ }
 {
@@ -23,7 +23,7 @@ fn from_march(year: i64, month: i64, day: f64) -> f64
     (i0 as f64) + (i1 as f64) + day + nearest_i64_to_f64(b) - 1524.5
 }
 
-// The crate's i32 year and month are i64 here, so that the year before the least i32 and the months after the largest are not wrapped.
+// The source's i32 year and month are i64 here: the year before the least i32 and a month above the largest do not wrap.
 pub fn julian_day(year: i32, month: i32, day: i32, hours: f64) -> f64
     ensures { λ r. ⌜ r ≡ julianDayOf year month day hours ⌝ }
 {
@@ -35,7 +35,7 @@ pub fn julian_day(year: i32, month: i32, day: i32, hours: f64) -> f64
     }
 }
 
-// n, or the largest i32 if n is beyond it.
+// n, or the largest i32 if n is above it.
 fn saturated(n: u32) -> i32
     ensures { λ r. ⌜ r ≡ toI32Of n ⌝ }
 {

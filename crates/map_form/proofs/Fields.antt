@@ -1,4 +1,4 @@
--- From a bit pattern to the nearest count: what the pattern's fields say of a float up to 180, and the whole-number arithmetic on them.
+-- From a bit pattern to the nearest count: what the fields of the pattern say of a float up to 180, and the arithmetic on them.
 -- Assumes nothing.
 use Rattle.prelude.proofs.Logic.{_≡_, sym, ap, _∙_, subst, Bool, true, false, cond, false≢true, ℕ, zero, suc, _+_, _-_, _*_, _/_, _%_, _^_}
 use Rattle.prelude.proofs.Logic.{_≤_, _<_, mul-one, mul-assoc, mul-comm, mul-left-comm, mul-add, add-mul, mul-pos, mul-le-mul}
@@ -12,7 +12,7 @@ use Rattle.map_form.specs.Written.{nearestTo, hundredthsOf}
 
 ruleset ring = (mul-assoc, mul-comm, mul-left-comm, mul-add, add-mul)
 
--- ---- what a value says
+-- ---- the nearest count from a float's value
 pub count-by-value : (x : Float) (s : Bool) (a c : ℕ) → 0 < c → HasValue x s a c → hundredthsOf x ≡ nearestTo (a * 360000) c
 unfolding hundredthsOf
 count-by-value nan s a c p v = absurd v
@@ -32,7 +32,7 @@ size-by-value (fin t m e) s n a c h v = go (m * up e) (down e) (down-pos e) (v .
     go : (A d : ℕ) → 0 < d → A * c ≡ a * d → A ≤ n * d → a ≤ n * c
     go A d q e l = le-of-mul-le-mul-right {k = d} (simp ring (omega (arith, simp ring at e, simp ring at (mul-le-mul-right c l)))) q
 
--- ---- the value of the exponent's field E and the digits t, in units of the smallest float
+-- ---- the value of the exponent field E and the digits t, in units of the smallest float
 abbrev pub units : ℕ → ℕ → ℕ
 units zero t = t
 units (suc E) t = (2 ^ 52 + t) * 2 ^ E
@@ -72,7 +72,7 @@ few-units (suc E) t e h =
     let k : 53 + E ≤ 1052 = omega arith in
     lt-of-lt-of-le (shl-lt 53 E m) (pow-mono k)
 
--- 180 has the exponent's field 1030
+-- 180 has the exponent field 1030
 most-units : (E t : ℕ) → units E t ≤ 180 * 2 ^ 1074 → E ≤ 1030
 most-units zero t h = lit≤ tt
 most-units (suc E) t h = omega (arith, low)
@@ -90,7 +90,7 @@ halved a r p =
     rw (u, v)
     (mul-div-mul-left (a + r) (r * 2) (lit< tt) ∙ sym (div-div-eq-div-mul (a + r) r 2) ∙ ap (λ (z : ℕ). z / 2) (add-div-right a p))
 
--- a common factor goes
+-- a common factor cancels
 reduced : (a d k : ℕ) → 0 < k → nearestTo (a * k) (d * k) ≡ nearestTo a d
 reduced a d k p =
     let u : 2 * (a * k) + d * k ≡ (2 * a + d) * k = omega arith in
@@ -118,7 +118,7 @@ shifted (suc E) t p h =
     ∙ ap (λ (z : ℕ). (z + 1) / 2) (sym (div-div-eq-div-mul ((t + 2 ^ 52) * 360000) (2 ^ 20) (2 ^ (1053 - E))))
     ∙ ap (λ (z : ℕ). ((t + 2 ^ 52) * 360000 / 2 ^ 20 / 2 ^ z + 1) / 2) k
 
--- ---- what the code works out from the pattern
+-- ---- what the code computes from the pattern
 module _ (x : Float) (f : fits binary64 x ≡ true) (h : atMost 180 x ≡ true) where
   pub highest-field : toBits binary64 x % 2 ^ 63 / 2 ^ 52 ≤ 1030
   highest-field =

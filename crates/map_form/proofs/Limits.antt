@@ -1,4 +1,4 @@
--- What a range of exact values says by comparisons with its two ends. Assumes nothing.
+-- A value in a range passes the comparisons with the range's two ends. Assumes nothing.
 use Rattle.prelude.proofs.Logic.{_≡_, refl, true, false, _&&_, _||_, true≢false, false≢true, ℕ, _+_, _*_, _≤_, arith, ltb, eqb, lit<}
 use Rattle.prelude.proofs.Logic.{leb-true, ltb-false, eq-eqb, cases}
 use Rattle.float64.proofs.Floats.{Float, nan, inf, fin, binary64, up, down, neg, le, round, HasValue, round-whole, down-pos, transfer, dec}

@@ -1,4 +1,4 @@
--- The law of the writer: the answer's parts are the hundredths nearest to x, a half away from zero, with x's sign. Assumes nothing.
+-- The law of the writer: its parts are the hundredths nearest to x, with x's sign; a half goes away from zero. Assumes nothing.
 use Rattle.prelude.proofs.Logic.{_≡_, refl, sym, ap, _∙_, subst, Bool, true, false, cond, false≢true, ℕ, zero, suc, _+_, _*_, _/_, _%_, _≤_}
 use Rattle.prelude.proofs.Logic.{_<_, div-mul-le-self, lt-div-mul-add, lt-of-mul-lt-mul-right, arith, le-leb, cases}
 use Rattle.float64.proofs.Floats.{Float, nan, inf, fin, up, down, down-pos, isNegativeOf}
@@ -77,7 +77,7 @@ form-fits most true zero h = parts-fit most 0 0 (omega arith) h
 form-fits most true (suc n) h = parts-fit most 1 (suc n) (omega arith) h
 form-fits most false n h = parts-fit most 0 n (omega arith) h
 
--- ---- what the writer works out is what it owes, and nothing else is
+-- ---- the writer computes the answer that it owes, and no other answer is owed
 pub owed : WrittenIsOwed
 unfolding writtenOf
 owed tag most x =
@@ -86,7 +86,7 @@ owed tag most x =
       outside = λ h. rw h refl;
     }
 
--- four parts in their limits are those of their count
+-- parts in their limits with the same sign and the same count are the same
 parts-of : (most : ℕ) (f g : MapForm) → formFits most f ≡ true → formFits most g ≡ true → f .sign ≡ g .sign → sizeOf f ≡ sizeOf g → f ≡ g
 parts-of most f g p q s e =
     let a = fits most f p in

@@ -23,7 +23,7 @@ quotient : (n : ℕ) → n ≤ big → div binary64 (ofInt binary64 (pos n)) div
 unfolding ofInt
 quotient n h = by-value (round binary64 false n 1) n (round-whole binary64 false n h)
 
--- ---- the reader's branches: n is the size that the code worked out, and k the definition's
+-- ---- the reader's branches: n is the size that the code computed, and k the definition's
 module _ (sign n k : ℕ) (e : n ≡ k) (small : n ≤ big) where
   pub negative : sign ≡ 1 → 0 < n → neg (div binary64 (ofInt binary64 (pos n)) divisor) ≡ degreesOf (signed (eqb sign 1) k)
   unfolding degreesOf

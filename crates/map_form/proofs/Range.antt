@@ -1,4 +1,4 @@
--- A float's range: the code's test is that of the exact value, and what it says of the float and of its hundredths. Assumes nothing.
+-- The code's test of the range is that of the exact value; and what it says of the float and of its hundredths. Assumes nothing.
 use Rattle.prelude.proofs.Logic.{_≡_, refl, Bool, true, false, not, false≢true, ℕ, _+_, _*_, _≤_, _<_, mul-le-mul-right, div-lt-iff-lt-mul}
 use Rattle.prelude.proofs.Logic.{arith, T, leb, leb→le, le→leb, lit<, pos, leb-true, le-leb}
 use Rattle.float64.proofs.Floats.{Float, nan, inf, fin, binary64, up, down, ofInt, le, lt, eq, isNan, HasValue, down-pos, round-whole}
@@ -32,7 +32,7 @@ pub whole-value : (n : ℕ) → n ≤ 180 → HasValue (ofInt binary64 (pos n)) 
 unfolding ofInt
 whole-value n h = round-whole binary64 false n (omega arith)
 
--- ---- what the range says
+-- ---- what follows for a float in the range
 pub no-nan : (x : Float) (n : ℕ) → atMost n x ≡ true → T (not (isNan x))
 unfolding atMost isNan
 no-nan nan n h = absurd (false≢true h)

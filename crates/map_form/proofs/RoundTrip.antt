@@ -11,7 +11,7 @@ use Rattle.map_form.specs.Promises.{WritingGivesBack}
 use Rattle.map_form.specs.Owed.{signFor}
 use Rattle.map_form.proofs.Rounding.{round-back}
 
--- ---- the rounding is in range if the count is, and has its sign
+-- ---- if the count is in range, so is the rounded float, and it has the count's sign
 within-at-most : (x : Float) (n : ℕ) → Within x n 1 → atMost n x ≡ true
 unfolding atMost
 within-at-most nan n w = absurd w
@@ -32,14 +32,14 @@ module _ (most : ℕ) (small : most ≤ 180) where
   in-range s n h =
       within-at-most (round binary64 s n inDegree) most (round-within n inDegree most 0 (lit< tt) (omega arith) (lit≤ tt) (omega arith) s)
 
-  -- ---- a count in range comes back
+  -- ---- a count in range is written back
   written-back : (tag : ℕ) (s : Bool) (n : ℕ) → n ≤ most * inDegree
       → writtenOf tag most (round binary64 s n inDegree) ≡ accepted (formOf (signed s n))
   unfolding writtenOf
   written-back tag s n h =
       rw (in-range s n h, signed-negative (round binary64 s n inDegree) s (round-signed n inDegree s), round-back s n (omega arith))
 
-  -- how many hundredths a count has
+  -- the size of a count
   abbrev size : ℤ → ℕ
   size (pos n) = n
   size (negsuc n) = suc n
@@ -115,7 +115,7 @@ writing-gives-back tag most f small t =
     count-back most small tag (signedHundredthsOf f) (rw (size-signed most small (eqb (f .sign) 1) n) (a .whole-in))
     ∙ ap accepted (signs (f .sign) n (a .sign-in) ∙ parts-back (signFor n (f .sign)) f (a .minutes-in) (a .seconds-in) (a .hundredths-in))
 
--- a coordinate that is taken is in range as a float too
+-- a coordinate that is accepted is in range as a float too
 pub read-in-range : (most : ℕ) → most ≤ 180 → (f : MapForm) → formFits most f ≡ true → atMost most (degreesOf (signedHundredthsOf f)) ≡ true
 read-in-range most small f t =
     count-in-range most small (signedHundredthsOf f) (rw (size-signed most small (eqb (f .sign) 1) (sizeOf f)) (fits most f t .whole-in))

@@ -1,5 +1,5 @@
--- One rounding: a fraction of at most 256 rounds to a finite float of the same sign that is within 2 ^ -44 of it. (An ulp there is 2 ^ -45;
--- half of it would do too.) So the nearest whole number to 360,000 times the rounding of n / 360,000 is n. Assumes nothing.
+-- One rounding: a fraction of at most 256 rounds to a finite float of the same sign within 2 ^ -44 of it. (An ulp there is 2 ^ -45; half of
+-- it is the true bound.) So the whole number nearest to 360,000 times the rounding of n / 360,000 is n. Assumes nothing.
 use Rattle.prelude.proofs.Logic.{_≡_, sym, subst, ap, Bool, ℕ, suc, _+_, _-_, _*_, _/_, _%_, _^_, _≤_, _<_, compare, lt-of-le-of-lt}
 use Rattle.prelude.proofs.Logic.{mul-le-mul-right, mul-le-mul-left, le-of-mul-le-mul-right, lt-of-mul-lt-mul-right, mul-pos}
 use Rattle.prelude.proofs.Logic.{div-mul-le-self, lt-div-mul-add, div-lt-iff-lt-mul, div-eq-of-lt-le, mul-assoc, mul-comm, mul-left-comm}
@@ -9,7 +9,7 @@ use Rattle.float64.proofs.Floats.{nearest-ge, drop, kept, HasValue, units-val, 
 use Rattle.map_form.specs.Hundredths.{inDegree}
 use Rattle.map_form.specs.Written.{nearestTo, hundredthsOf}
 
--- `omega` multiplies out up to four factors. Past that both sides are brought to one form by these first.
+-- `omega` multiplies out up to four factors. For more, these rules first bring both sides to one form.
 ruleset ring = (mul-assoc, mul-comm, mul-left-comm, mul-add, add-mul)
 
 -- ---- the nearest whole number to a / b is at most 1 away
@@ -32,7 +32,7 @@ drop-le a c C h =
     bound : (L M : ℕ) → 256 * L < M → a * L < M * c
     bound L M l = omega (arith, mul-le-mul-right L h, mul-le-mul-right c l)
 
--- q whole numbers of b = c * P units, P = 2 ^ k up to K
+-- q times b = c * P units, where P = 2 ^ k is at most K
 spread : (q n c P K : ℕ) → P ≤ K → (q * (c * P) ≤ n + c * P) × (n ≤ q * (c * P) + c * P) → (q * P * c ≤ n + c * K) × (n ≤ q * P * c + c * K)
 spread q n c P K l h = omega (arith, mul-le-mul-left c l)
 

@@ -1,4 +1,4 @@
--- The writer's answers: in range, with the sign of a count that is not zero, and out of range. Assumes nothing.
+-- What the writer returns: in range, with the sign of a count that is not zero; and out of range. Assumes nothing.
 use Rattle.prelude.proofs.Logic.{_≡_, refl, Bool, true, false, cond, ℕ, zero, suc, arith}
 use Rattle.float64.proofs.Floats.{Float, isNegativeOf}
 use Rattle.refusals.specs.Refusals.{refusal, noRefusal}

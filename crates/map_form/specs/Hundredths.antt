@@ -7,7 +7,7 @@ use lib.Ieee.{Float, nan, inf, fin, binary64, up, down, round}
 use lib.IntN.{ℤ, pos, negsuc, negℤ}
 use Rattle.map_form.specs.declared.MapForm.{MapForm}
 
--- hundredths of a second: 100 to the second, 60 seconds to the minute, 60 minutes to the degree
+-- the hundredths of a second in a degree: 60 minutes of 60 seconds of 100 hundredths
 abbrev pub inDegree : ℕ
 inDegree = 360000
 
@@ -23,7 +23,7 @@ mostLongitude = 180
 abbrev pub sizeOf : MapForm → ℕ
 sizeOf f = ((f .degrees * 60 + f .minutes) * 60 + f .seconds) * 100 + f .hundredths
 
--- n, or its opposite; a zero has no sign
+-- n, or -n if `s`; a zero has no sign
 abbrev pub signed : Bool → ℕ → ℤ
 signed s n = cond s (negℤ (pos n)) (pos n)
 
@@ -36,13 +36,13 @@ unfolding round
 degreesOf (pos n) = round binary64 false n inDegree
 degreesOf (negsuc n) = round binary64 true (suc n) inDegree
 
--- "A part outside its limit, or a coordinate outside 90 or 180 degrees, is refused": what is not
+-- "A part outside its limit, or a coordinate outside 90 or 180 degrees, is refused": true if it is not refused
 unfoldable pub formFits : ℕ → MapForm → Bool
 formFits most f =
     leb (f .sign) 1 && leb (f .minutes) 59 && leb (f .seconds) 59 && leb (f .hundredths) 99 && leb (sizeOf f) (most * inDegree)
 
 -- ---- writing: `fin s m e` is m * 2 ^ e, which is m * up e / down e, in size
--- finite, and no more than n in size
+-- finite, and at most n in size
 unfoldable pub atMost : ℕ → Float → Bool
 atMost n nan = false
 atMost n (inf s) = false

@@ -1,4 +1,4 @@
--- What request 7 promises beside what the writer owes. Proved in proofs/: NearestLaws, RoundTrip.
+-- What request 7 promises besides Owed. Proved in proofs/: NearestLaws, RoundTrip.
 use Prim.Native.Nat.{ℕ, _≤_}
 use mathlib.Core.Path.{_≡_}
 use mathlib.Core.Bool.{true}
@@ -11,7 +11,7 @@ use Rattle.map_form.specs.Owed.{signFor, Nearest, Owed}
 use Rattle.map_form.specs.Written.{writtenOf}
 
 -- ---- the writer
--- what is worked out is what is owed
+-- the answer that specs/Written computes is owed
 abbrev pub WrittenIsOwed : Type 0
 WrittenIsOwed = (tag most : ℕ) (x : Float) → Owed tag most x (writtenOf tag most x)
 
@@ -19,16 +19,16 @@ WrittenIsOwed = (tag most : ℕ) (x : Float) → Owed tag most x (writtenOf tag 
 abbrev pub OneIsNearest : Type 0
 OneIsNearest = (a d b c : ℕ) → Nearest a d b → Nearest a d c → b ≡ c
 
--- nor is another answer owed
+-- no other answer is owed
 abbrev pub OneIsOwed : Type 0
 OneIsOwed = (tag most : ℕ) (x : Float) (v w : Written) → Owed tag most x v → Owed tag most x w → v ≡ w
 
 -- ---- there and back
--- five parts with the sign that they are written with
+-- the five parts as the writer writes them: the sign of a zero is 0
 abbrev pub asWritten : MapForm → MapForm
 asWritten f = record { sign = signFor (sizeOf f) (f .sign); degrees = f .degrees; minutes = f .minutes; seconds = f .seconds; hundredths = f .hundredths }
 
--- "writing back a read coordinate gives its bytes, where zero is written with sign 0": of every coordinate that is taken for a latitude
+-- "writing back a read coordinate gives its bytes, where zero is written with sign 0": for every coordinate that is accepted as a latitude
 -- (most is 90) or a longitude (180)
 abbrev pub WritingGivesBack : Type 0
 WritingGivesBack =

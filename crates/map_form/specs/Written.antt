@@ -1,4 +1,4 @@
--- What specs/Owed asks of the writer, worked out.
+-- The answer that specs/Owed asks of the writer, computed.
 use Prim.Native.Nat.{ℕ, suc, _+_, _*_, _/_, _%_}
 use mathlib.Core.Bool.{cond}
 use lib.IntN.{ℤ, pos, negsuc}

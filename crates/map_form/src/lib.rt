@@ -8,7 +8,7 @@ pub const LATITUDE: u32 = 18;
 
 pub const LONGITUDE: u32 = 19;
 
-// The most degrees that each may have, either way.
+// The most degrees that each may have, north or south, east or west.
 const MOST_LATITUDE: u64 = 90;
 
 const MOST_LONGITUDE: u64 = 180;
@@ -16,7 +16,7 @@ const MOST_LONGITUDE: u64 = 180;
 // Hundredths of a second in a degree.
 const IN_DEGREE: u64 = 360000;
 
-// The sign 1 is south or west. Each part may be any number; `latitude_fits` and `longitude_fits` say which are allowed.
+// The sign 1 is south or west. Each part may be any number here; `latitude_fits` and `longitude_fits` say which are allowed.
 #[repr(C)]
 pub struct MapForm {
     pub sign: u32,

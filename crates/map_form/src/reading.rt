@@ -1,4 +1,4 @@
-// Reading a coordinate as on the map: whether its parts are allowed, and the f64 that they say.
+// Reading a coordinate as on the map: whether its parts are allowed, and the f64 that they give.
 ghost use mathlib.Core.Path.{_≡_};
 ghost use Prim.Native.Nat.{_≤_, _^_};
 ghost use Rattle.map_form.specs.Hundredths.{mostLatitude, mostLongitude, sizeOf, signedHundredthsOf, degreesOf, formFits};
@@ -7,7 +7,7 @@ use super::MOST_LATITUDE;
 use super::MOST_LONGITUDE;
 use super::MapForm;
 
-// Without its sign. Four parts of 32 bits make less than 2^53 hundredths, so that an f64 holds them exactly.
+// The hundredths without the sign. Four parts of 32 bits make less than 2^53 hundredths, so an f64 holds the count exactly.
 fn size(form: MapForm) -> u64
     ensures { λ r. ⌜ (r ≡ sizeOf form) × (r ≤ 2 ^ 53) ⌝ }
 {
@@ -16,7 +16,7 @@ fn size(form: MapForm) -> u64
     seconds * 100 + form.hundredths as u64
 }
 
-// Each part in its limit, and the whole in the most degrees.
+// Whether each part is in its limit, and all of them at most `most` degrees.
 fn fits(form: MapForm, most: u64) -> bool
     requires { ⌜ most ≤ 180 ⌝ }
     ensures { λ r. ⌜ r ≡ formFits most form ⌝ }
@@ -40,7 +40,7 @@ pub fn longitude_fits(form: MapForm) -> bool
     fits(form, MOST_LONGITUDE)
 }
 
-// Both numbers are exact as floats, so that the division rounds once. A zero is 0.0 under either sign.
+// Both numbers are exact as floats, so the division rounds once. A zero is 0.0 with either sign.
 pub fn degrees_of(form: MapForm) -> f64
     ensures { λ r. ⌜ r ≡ degreesOf (signedHundredthsOf form) ⌝ }
 {

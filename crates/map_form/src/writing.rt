@@ -1,4 +1,4 @@
-// Writing a coordinate as on the map: the nearest hundredth of a second to an f64, a half going away from zero.
+// Writing a coordinate as on the map: the hundredth of a second nearest to an f64. A half goes away from zero.
 ghost use mathlib.Core.Path.{_≡_};
 ghost use mathlib.Core.Bool.{cond};
 ghost use Prim.Native.Nat.{_≤_};
@@ -42,7 +42,7 @@ fn no_parts() -> MapForm
     parts(0, 0)
 }
 
-// The sign that n hundredths of x are written with: a zero has none.
+// The sign of x as it is written with n hundredths: 0 for a zero.
 fn sign_of(x: f64, n: u64) -> u32
     ensures { λ r. ⌜ r ≡ signFor n (cond (isNegativeOf x) 1 0) ⌝ }
 {
@@ -55,7 +55,7 @@ fn sign_of(x: f64, n: u64) -> u32
     0
 }
 
-// A NaN is in no range.
+// Whether |x| is at most `most`. False for a NaN.
 fn in_range(x: f64, most: u64) -> bool
     requires { ⌜ most ≤ 180 ⌝ }
     ensures { λ r. ⌜ r ≡ atMost most x ⌝ }

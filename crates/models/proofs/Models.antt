@@ -1,4 +1,4 @@
--- What the functions of this crate and the crates above use of it, from one place. Nothing is added.
+-- The names that the proofs of this crate and of the crates above use, in one place. Nothing is added.
 pub use Rattle.models.proofs.Rows.{inside, beyond}
 unfoldable pub use Rattle.models.specs.Builder.{setIshaInterval}
 pub use Rattle.models.specs.Minutes.{noMinutes}

@@ -1,4 +1,4 @@
--- A row of cases by their numbers, and one case for every number beyond it. Assumes nothing.
+-- A row of cases by their numbers; a number beyond the row gives one given case. Assumes nothing.
 use Rattle.prelude.proofs.Logic.{_≡_, refl, sym, List, [], _∷_, ℕ, zero, suc, _≤_, _<_, le-of-suc-le-suc, not-suc-le-zero, getD, length}
 use Rattle.prelude.proofs.Logic.{List·getD-eq-default}
 

@@ -14,7 +14,7 @@ use Rattle.models.specs.declared.shafaq.Shafaq.{Shafaq}
 abbrev pub configurationOf : Parameters → Configuration
 configurationOf p = record { parameters = p }
 
--- the choices as given, the numbers as they were
+-- the parameters with the given choices; the numbers stay
 abbrev pub chosenOf : Parameters → Method → Madhab → HighLatitudeRule → Rounding → Shafaq → Parameters
 chosenOf p method madhab rule rounding shafaq =
     record {
@@ -31,7 +31,7 @@ chosenOf p method madhab rule rounding shafaq =
       shafaq = shafaq;
     }
 
--- the Maghrib and Isha angles, the Isha interval and the method's minutes as given, the rest as it was
+-- the parameters with the given Maghrib and Isha angles, Isha interval and method's minutes; the rest stays
 abbrev pub numberedOf : Parameters → Float → Float → ℤ → TimeAdjustment → Parameters
 numberedOf p maghrib isha interval minutes =
     record {

@@ -1,4 +1,4 @@
--- The rules that an order chooses in place of the source's: those of an order that chooses none, and what the season follows beside the date.
+-- The rules of an order that chooses none of its own, and what the season depends on besides the date.
 use Rattle.unit.specs.declared.Coordinates.{Coordinates}
 use Rattle.models.specs.declared.parameters.Parameters.{Parameters}
 use Rattle.models.specs.declared.rules.Midnight.the-variants.{Stops}

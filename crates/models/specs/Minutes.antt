@@ -10,6 +10,6 @@ sixMinutesOf fajr sunrise dhuhr asr maghrib isha =
 abbrev pub noMinutes : TimeAdjustment
 noMinutes = sixMinutesOf (pos 0) (pos 0) (pos 0) (pos 0) (pos 0) (pos 0)
 
--- the builder holds them, and gives them back
+-- the builder holds the minutes and returns them
 abbrev pub builderOf : TimeAdjustment → Adjustment
 builderOf m = record { minutes = m }

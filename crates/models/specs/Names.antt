@@ -11,7 +11,7 @@ use Rattle.models.specs.declared.prayer.Prayer.the-variants as prayer
 use Rattle.models.specs.declared.prayer.Name.{Name}
 use Rattle.models.specs.declared.prayer.Name.the-variants as name
 
--- whether the day of an instant, in seconds from 1970-01-01 0h UTC, is a Friday: day 5 of the days from 0, Sunday, to 6
+-- whether the day of an instant, in seconds from 1970-01-01 0h UTC, is a Friday: day 5, if Sunday is day 0
 unfoldable pub isFridayOf : ℤ → Bool
 isFridayOf seconds = eqb (weekdayOf (floorQuot seconds 86400)) 5
 
@@ -25,7 +25,7 @@ prayerNameOf prayer.Isha seconds = name.Isha
 prayerNameOf prayer.Qiyam seconds = name.Qiyam
 prayerNameOf prayer.FajrTomorrow seconds = name.Fajr
 
--- seven letters, with blanks behind a shorter name
+-- seven letters: a shorter name has blanks behind it
 unfoldable pub lettersOf : Name → List ℕ
 lettersOf name.Fajr = 70 ∷ 97 ∷ 106 ∷ 114 ∷ 32 ∷ 32 ∷ 32 ∷ []
 lettersOf name.Sunrise = 83 ∷ 117 ∷ 110 ∷ 114 ∷ 105 ∷ 115 ∷ 101 ∷ []

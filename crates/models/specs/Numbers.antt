@@ -1,5 +1,5 @@
--- The numbers by which an order and an answer name the cases of each enum, in the words of document 01's table, and the case of each number.
--- A number that names no case gives the last one. An order with such a number is refused before.
+-- The numbers by which an order and an answer name the cases of each enum, in the words of document 01's table; and each number's case.
+-- A number that names no case gives the last one, but an order with that number is refused before.
 use Prim.Native.Nat.{ℕ}
 use mathlib.Core.List.{List, [], _∷_}
 use lib.ListN.{getD}

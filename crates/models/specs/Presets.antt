@@ -1,4 +1,4 @@
--- method.rs: "each method brings its own angles, minutes and rounding" (document 01), a line a method.
+-- method.rs: "each method brings its own angles, minutes and rounding" (document 01), one line for each method.
 use Prim.Native.Nat.{ℕ}
 use lib.IntN.{pos, negℤ}
 use Rattle.float64.specs.Ops.{dec}
@@ -15,7 +15,7 @@ use Rattle.models.specs.Builder.{chosenOf, numberedOf}
 use Rattle.models.specs.Minutes.{sixMinutesOf}
 use Rattle.models.specs.Settings.{parametersNewOf}
 
--- the Fajr, Isha and Maghrib angles in tenths of a degree, the Isha interval, the method's minutes and its rounding; the rest as in Parameters::new
+-- a method's Fajr, Isha and Maghrib angles in tenths of a degree, its Isha interval, minutes and rounding; Parameters::new gives the rest
 unfoldable pub preset : Method → ℕ → ℕ → ℕ → ℕ → TimeAdjustment → Rounding → Parameters
 unfolding dec parametersNewOf
 preset method fajr isha maghrib interval minutes rounding =
@@ -23,7 +23,7 @@ preset method fajr isha maghrib interval minutes rounding =
     let p = numberedOf new (dec maghrib 1) (dec isha 1) (pos interval) minutes in
     chosenOf p method (p .madhab) (p .«high_latitude_rule») rounding (p .shafaq)
 
--- minutes of sunrise (taken off), Dhuhr, Asr and Maghrib (added)
+-- minutes of sunrise (subtracted), Dhuhr, Asr and Maghrib (added)
 abbrev pub offset : ℕ → ℕ → ℕ → ℕ → TimeAdjustment
 offset sunrise dhuhr asr maghrib = sixMinutesOf (pos 0) (negℤ (pos sunrise)) (pos dhuhr) (pos asr) (pos maghrib) (pos 0)
 

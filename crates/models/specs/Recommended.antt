@@ -6,7 +6,7 @@ use Rattle.unit.specs.declared.Coordinates.{Coordinates}
 use Rattle.models.specs.declared.high_altitude_rule.HighLatitudeRule.{HighLatitudeRule}
 use Rattle.models.specs.declared.high_altitude_rule.HighLatitudeRule.the-variants.{MiddleOfTheNight, SeventhOfTheNight}
 
--- above 48 degrees north a seventh of the night
+-- a seventh of the night above 48 degrees north, else the middle of the night
 unfoldable pub recommendedOf : Coordinates → HighLatitudeRule
 unfolding dec
 recommendedOf c = cond (lt (dec 48 0) (c .latitude)) SeventhOfTheNight MiddleOfTheNight

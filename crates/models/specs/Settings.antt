@@ -1,4 +1,4 @@
--- parameters.rs: what the times are worked by, and its builder.
+-- parameters.rs: the parameters of the times.
 use lib.IntN.{ℤ, pos, _+ℤ_}
 use lib.Ieee.{Float}
 use Rattle.float64.specs.Ops.{_/ᶠ_, dec}
@@ -15,7 +15,7 @@ use Rattle.models.specs.declared.rounding.Rounding.the-variants.{Nearest
 use Rattle.models.specs.declared.shafaq.Shafaq.the-variants.{General}
 use Rattle.models.specs.Minutes.{noMinutes}
 
--- `Parameters::new`: both angles given, and the rest by default
+-- `Parameters::new`: both angles are given, and the rest has default values
 unfoldable pub parametersNewOf : Float → Float → Parameters
 unfolding dec
 parametersNewOf fajr isha =
@@ -33,7 +33,7 @@ parametersNewOf fajr isha =
       shafaq = General;
     }
 
--- `night_portions`, by which the night is multiplied
+-- `night_portions`: the night's length is multiplied by them
 unfoldable pub portionsOf : HighLatitudeRule → Float → Float → NightPortions
 unfolding dec
 portionsOf MiddleOfTheNight fajr isha = record { fajr = dec 1 0 /ᶠ dec 2 0; isha = dec 1 0 /ᶠ dec 2 0 }

@@ -1,4 +1,4 @@
-// adjustments.rs: minutes to add to each of six times, negative ones too. They are i32 here, so that the sum of two fits an i64.
+// adjustments.rs: minutes to add to each of six times; they may be negative. They are i32 here because the sum of two then fits an i64.
 ghost use mathlib.Core.Path.{_≡_};
 ghost use Rattle.models.specs.Minutes.{sixMinutesOf, noMinutes, builderOf};
 

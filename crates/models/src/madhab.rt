@@ -9,7 +9,7 @@ pub enum Madhab {
 }
 
 impl Madhab {
-    // How many times its own length a shadow grows until Asr.
+    // At Asr a shadow is this many times its object's length longer than at noon.
     pub fn shadow(self) -> i32
         ensures { λ r. ⌜ r ≡ pos (madhabNumberOf self) ⌝ }
     {

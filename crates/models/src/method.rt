@@ -35,12 +35,12 @@ pub enum Method {
     Tehran,
     // An approximation of the Diyanet's.
     Turkey,
-    // Angles of 0, for values of one's own.
+    // Angles of 0, for a caller that sets its own values.
     Other,
 }
 
 impl Method {
-    // Degrees of the sun below the horizon at Fajr and at Isha.
+    // How many degrees the sun is below the horizon at Fajr and at Isha.
     pub const MUSLIM_WORLD_LEAGUE_ANGLES: [f64; 2] = [18.0, 17.0];
 
     pub const EGYPTIAN_ANGLES: [f64; 2] = [19.5, 17.5];
@@ -77,7 +77,7 @@ impl Method {
 
     pub const SINGAPORE_ROUNDING: Rounding = Rounding::Up;
 
-    // Five methods move Dhuhr alone, by a minute.
+    // Five methods move only Dhuhr, by a minute.
     pub const DHUHR_MINUTES: TimeAdjustment = TimeAdjustment {
         fajr: 0,
         sunrise: 0,
@@ -172,7 +172,7 @@ impl Method {
             .method_adjustments(minutes)
     }
 
-    // The method's constants put together; what it does not set is as in Parameters::new.
+    // The method's constants put together. The rest is as in Parameters::new.
     fn configuration(self) -> Configuration
         ensures { λ r. ⌜ r ≡ configurationOf (presetOf self) ⌝ }
     {

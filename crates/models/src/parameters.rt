@@ -1,4 +1,4 @@
-// parameters.rs: what the times are worked by, and its builder.
+// parameters.rs: the parameters of the times, and their builder.
 ghost use mathlib.Core.Path.{_≡_};
 ghost use Prim.Native.Nat.{_^_};
 ghost use lib.IntN.{_+ℤ_};
@@ -36,7 +36,7 @@ fn sum(a: i32, b: i32) -> i64
     a as i64 + b as i64
 }
 
-// A prayer's minutes of one kind; Qiyam and tomorrow's Fajr have none of their own.
+// A prayer's minutes of one kind, its own or the method's. Qiyam and tomorrow's Fajr have none.
 fn minutes_for(prayer: Prayer, minutes: TimeAdjustment) -> i32
     ensures { λ r. ⌜ r ≡ minutesFor prayer minutes ⌝ }
 {
@@ -93,7 +93,7 @@ impl Parameters {
         }
     }
 
-    // The choices as given, the numbers as they were.
+    // These parameters with the given choices. The numbers stay.
     fn choosing(
         self,
         method: Method,
@@ -121,7 +121,7 @@ impl Parameters {
         }
     }
 
-    // The portions of the night by which Fajr and Isha are bounded.
+    // The portions of the night that bound Fajr and Isha.
     pub fn night_portions(self) -> NightPortions
         ensures { λ r. ⌜ r ≡ nightPortionsOf self ⌝ }
     {

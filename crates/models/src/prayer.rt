@@ -16,7 +16,7 @@ pub enum Prayer {
     FajrTomorrow,
 }
 
-// The names, in letters. Friday's Dhuhr has one of its own.
+// The names. Friday's Dhuhr has a name of its own.
 pub enum Name {
     Fajr,
     Sunrise,
@@ -29,7 +29,7 @@ pub enum Name {
 }
 
 impl Name {
-    // Seven letters, with blanks behind a shorter name.
+    // Seven letters: a shorter name has blanks behind it.
     pub fn letters(self) -> [u8; 7]
         ensures { λ r. ⌜ r ≡ lettersOf self ⌝ }
     {
@@ -76,7 +76,7 @@ impl Prayer {
         }
     }
 
-    // Its place in the list, from 1.
+    // Its position in the list, from 1.
     pub fn number(self) -> u32
         ensures { λ r. ⌜ r ≡ prayerNumberOf self ⌝ }
     {

@@ -1,9 +1,9 @@
-// The rules that an order chooses in place of the source's (added). They are kept beside Parameters, which stay the source's own.
+// The rules that an order may choose in place of the source's (added). They are kept apart from Parameters, which stay the source's own.
 ghost use mathlib.Core.Path.{_≡_};
 ghost use Rattle.models.specs.Numbers.{midnightNumberOf, midnightOf, southernNumberOf, southernOf};
 ghost use Rattle.models.specs.Chosen.{sourceRules};
 
-// What becomes of an hour number that rounds to hour 24.
+// What an hour number that rounds to hour 24 gives.
 pub enum Midnight {
     // It has no time: the source's rule.
     Stops,
@@ -37,7 +37,7 @@ impl Midnight {
 pub enum Southern {
     // From the June solstice, and not reduced: the source's count.
     Unreduced,
-    // From the June solstice, at which it starts again at 0.
+    // From the June solstice, where the count starts again at 0.
     StartsAgain,
 }
 
@@ -68,14 +68,14 @@ pub struct Rules {
     pub southern: Southern,
 }
 
-// What the season depends on beside the date.
+// What the season depends on besides the date.
 pub struct Season {
     pub latitude: f64,
     pub southern: Southern,
 }
 
 impl Rules {
-    // The source's.
+    // The source's rules.
     pub fn source() -> Rules
         ensures { λ r. ⌜ r ≡ sourceRules ⌝ }
     {

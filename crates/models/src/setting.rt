@@ -1,5 +1,5 @@
-// What every day of an order shares (added): its place, its parameters and its rules. They travel together from the order's record to a
-// date's times.
+// What every day of an order shares (added): its place, its parameters and its rules. They are passed together from the order's record to
+// a date's times.
 ghost use mathlib.Core.Path.{_≡_};
 ghost use Rattle.models.specs.Chosen.{seasonOf};
 use super::parameters::Parameters;

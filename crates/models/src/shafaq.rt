@@ -1,13 +1,13 @@
-// shafaq.rs: the twilight in the sky, by which the MoonsightingCommittee method places Isha.
+// shafaq.rs: the twilight glow that sets Isha in the MoonsightingCommittee method.
 ghost use mathlib.Core.Path.{_≡_};
 ghost use Rattle.models.specs.Numbers.{shafaqNumberOf, shafaqOf};
 
 pub enum Shafaq {
-    // Both of the others together.
+    // A combination of the other two.
     General,
-    // The red glow, by which the Shafi, Maliki and Hanbali madhabs go.
+    // The red glow, which the Shafi, Maliki and Hanbali madhabs use.
     Ahmer,
-    // The white glow, by which the Hanafi madhab goes.
+    // The white glow, which the Hanafi madhab uses.
     Abyad,
 }
 

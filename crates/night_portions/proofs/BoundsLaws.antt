@@ -1,5 +1,5 @@
--- The portions by which Fajr and Isha are bounded: what an order's parameters give is no more than half, so a bound lies in its half of the
--- night. Over the definitions of `Portions`. Assumes nothing.
+-- The portions that bound Fajr and Isha. An order's parameters give at most a half, so each bound is in its half of the night. Laws of the
+-- definitions of `Portions`. Assumes nothing.
 use Rattle.prelude.proofs.Logic.{_≡_, refl, sym, ap, _∙_, Bool, true, false, not, ℕ, suc, _*_, _^_, _≤_, le-trans, arith, lit<, lit≤, ℤ}
 use Rattle.prelude.proofs.Logic.{pos, negsuc, negℤ, negℤ-negℤ}
 use Rattle.float64.proofs.Floats.{Float, round, le, ofInt, HasValue, dec, from-zero, signed}
@@ -62,7 +62,7 @@ module _ (p : Float) (n : ℤ) (h : Portion p) (k : Short n) where
   unfolding portionBeforeOf
   before-is = cuts .opposite 63 (le-trans (seconds-most n k) (lit≤ tt)) (lit< tt)
 
-  -- no more than half of the night: after sunset for Isha, before sunrise for Fajr
+  -- at most half of the night: after sunset for Isha, before sunrise for Fajr
   pub after-half : (P (portionAfterOf p n) * 2 ≤ P n) × (N (portionAfterOf p n) * 2 ≤ N n)
   after-half = rw after-is (after-parts n (cuts .whole) (cuts .half))
 

@@ -1,12 +1,12 @@
--- A portion of d seconds that is from 0 to a half: whatever it is, it is cut to no more than half of d, the same by each cast, and with the
--- sign of the night. Assumes nothing.
+-- Any portion from 0 to a half of d seconds is cut to at most half of d. Each cast gives the same number, with the sign of the night.
+-- Assumes nothing.
 use Rattle.prelude.proofs.Logic.{_≡_, refl, sym, ap, _∙_, subst, Bool, true, false, not, ℕ, _*_, _^_, _≤_, _<_, zero-mul, arith, lit<, lit≤}
 use Rattle.prelude.proofs.Logic.{ℤ}
 use Rattle.float64.proofs.Floats.{Float, nan, inf, fin, binary64, up, down, unlike, round, neg, toSigned, HasValue, round-whole, down-pos}
 use Rattle.float64.proofs.Floats.{_*ᶠ_, mul-same, Within, Signed, round-signed, value-within, neg-within, mul-within, FromZero, wholeSize}
 use Rattle.float64.proofs.Floats.{signed, whole-most, whole-neg, cast-is}
 
--- x is d / 2 or less in size: its casts, and those of its opposite, to any integers that hold d
+-- x is at most d / 2 in size: its casts, and those of its opposite, to any integers that hold d
 pub record Halved (x : Float) (s : Bool) (d : ℕ) : Type 0 where
   pub whole : ℕ
   pub half : whole * 2 ≤ d
@@ -30,7 +30,7 @@ halved s x d g w =
           ∙ ap (signed (not s)) (whole-neg x);
     }
 
--- a zero's sign is lost
+-- a zero has no sign
 unsigned-zero : (s t : Bool) (n : ℕ) → n ≡ 0 → signed s n ≡ signed t n
 unsigned-zero true true n z = refl
 unsigned-zero false false n z = refl

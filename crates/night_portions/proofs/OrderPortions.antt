@@ -5,7 +5,7 @@ use Rattle.float64.proofs.Floats.{Float, nan, inf, fin, binary64, up, down, rou
 use Rattle.float64.proofs.Floats.{Within, Signed, round-signed, div-within, FromZero, from-zero, to-tests}
 use Rattle.night_portions.proofs.BoundsLaws.{Portion, half-value}
 
--- by the middle of the night, and by its seventh
+-- for the middle of the night, and for its seventh
 pub half-portion : Portion (dec 1 0 /ᶠ dec 2 0)
 unfolding dec round div le
 half-portion = (refl, refl)
@@ -14,7 +14,7 @@ pub seventh-portion : Portion (dec 1 0 /ᶠ dec 7 0)
 unfolding dec round div le
 seventh-portion = (refl, refl)
 
--- by the twilight's angle, from 0 to 30 degrees
+-- for the twilight's angle, from 0 to 30 degrees
 sixty-value : HasValue (dec 60 0) false 60 1
 unfolding dec
 sixty-value = round-whole binary64 false 60 (lit≤ tt)

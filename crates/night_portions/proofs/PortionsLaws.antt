@@ -1,5 +1,5 @@
--- A seventh of a night, its middle and its last third lie in the night, and a later maghrib and a later Fajr never bring the last two
--- forward. Over the definitions of `Portions`. Assumes nothing.
+-- A seventh of a night, its middle and its last third are in the night. A later maghrib and a later Fajr never make the last two earlier.
+-- Laws of the definitions of `Portions`. Assumes nothing.
 use Rattle.prelude.proofs.Logic.{_≡_, refl, ap, _∙_, Bool, true, false, ℕ, suc, _+_, _*_, _/_, _^_, _≤_, _<_, arith, lit<, lit≤, ℤ, pos}
 use Rattle.prelude.proofs.Logic.{negsuc, _+ℤ_, _-ℤ_, quotZ}
 use Rattle.float64.proofs.Floats.{Float, nan, inf, fin, binary64, up, down, unlike, round, div, ofInt, toSigned, HasValue, round-whole}
@@ -14,7 +14,7 @@ unlike-plus : (s : Bool) → unlike s false ≡ s
 unlike-plus true = refl
 unlike-plus false = refl
 
--- a rounded fraction cut to whole seconds: the sign aside, the same for both signs
+-- a rounded fraction that is cut to whole seconds has the same size for both signs
 cut-signed : (s : Bool) (a b n c : ℕ) → Within (round binary64 s a b) n c → wholeSize (round binary64 s a b) < 2 ^ 63
     → toSigned 63 (round binary64 s a b) ≡ signed s (wholeSize (round binary64 false a b))
 cut-signed s a b n c w l = cast-is 63 s (round binary64 s a b) (round-signed a b s) n c w l ∙ ap (signed s) (same s)
@@ -44,7 +44,7 @@ module _ (s : Bool) (d : ℕ) (h : d ≤ longest) where
       ∙ cast-is 63 s x (round-signed d 2 s) d 2 (value-within x s d 2 half-value) (rw e (omega arith))
       ∙ ap (signed s) e
 
--- in whole numbers, toward zero
+-- the same in whole numbers, rounded toward zero
 pub middle-is : (z : ℤ) → Small z → middleOf z ≡ quotZ z (pos 2)
 unfolding middleOf ofInt
 middle-is (pos d) h = half-cut false d (h .to)
@@ -82,7 +82,7 @@ third-share (pos d) h = third-cut false d (h .to)
 third-share (negsuc k) h = third-cut true (suc k) (h .from)
 
 -- ---- the laws
--- never outside the night
+-- they are never outside the night
 pub seventh-inside : (z : ℤ) → Inside (seventhOf z) z
 unfolding seventhOf
 seventh-inside z = let d = divided z 7 (lit< tt) in record { over = omega arith; under = omega arith }
@@ -93,7 +93,7 @@ middle-inside z h = rw (middle-is z h, half-share z) (share-inside (λ (d : ℕ)
 pub last-third-inside : (z : ℤ) → Small z → Inside (lastThirdOf z) z
 last-third-inside z h = rw (third-share z h) (share-inside third third-steady z h)
 
--- never forward, if maghrib goes from m to m' and tomorrow's Fajr from f to f'
+-- they are never earlier, if maghrib moves from m to a later m' and tomorrow's Fajr from f to a later f'
 pub middle-later : (m f m' f' : ℤ) → m ≼ m' → f ≼ f' → Small (f -ℤ m) → Small (f' -ℤ m')
     → m +ℤ middleOf (f -ℤ m) ≼ m' +ℤ middleOf (f' -ℤ m')
 middle-later m f m' f' hm hf hz hw =

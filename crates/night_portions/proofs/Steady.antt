@@ -1,5 +1,5 @@
--- A share of a night that grows with the night, and no faster. The instant that it marks lies in the night, and later ends of the night
--- never bring it forward. Assumes nothing.
+-- A share of a night that grows with the night, and no faster. The instant that it marks is in the night, and later ends of the night
+-- never make it earlier. Assumes nothing.
 use Rattle.prelude.proofs.Logic.{_≡_, refl, Bool, true, false, _⊎_, inl, inr, ⊎-elim, ℕ, suc, _+_, _-_, _≤_, zero-le, le-of-lt, arith, leb}
 use Rattle.prelude.proofs.Logic.{ℤ, pos, negsuc, negℤ, _+ℤ_, _-ℤ_, leb-true, leb-false}
 use Rattle.integers.proofs.Integers.{P, N, Near, sum, flip, difference, _≼_, Inside}
@@ -17,7 +17,7 @@ pub record Steady (f : ℕ → ℕ) : Type 0 where
   pub grows : (d e : ℕ) → e ≤ longest → d ≤ e → f d ≤ f e
   pub slow : (d e : ℕ) → e ≤ longest → d ≤ e → f e ≤ f d + (e - d)
 
--- of a signed number of seconds, toward zero
+-- the share of a signed number of seconds, rounded toward zero
 abbrev pub share : (ℕ → ℕ) → ℤ → ℤ
 share f (pos d) = pos (f d)
 share f (negsuc k) = negℤ (pos (f (suc k)))

@@ -1,4 +1,4 @@
--- Two thirds of d seconds in f64, cut to whole seconds: between the bounds that whole numbers give, so they grow with d and no faster.
+-- Two thirds of d seconds in f64, cut to whole seconds, are between the bounds that whole numbers give: they grow with d, and no faster.
 -- Assumes nothing.
 use Rattle.prelude.proofs.Logic.{_≡_, ap, subst, Bool, false, ⊎-elim, ℕ, _+_, _-_, _*_, _/_, _≤_, _<_, zero-le, le-refl, eq-or-lt-of-le}
 use Rattle.prelude.proofs.Logic.{arith, lit<, lit≤}
@@ -13,7 +13,7 @@ twoThirds = 6004799503160661
 unfoldable pub third : ℕ → ℕ
 third d = wholeSize (round binary64 false (d * twoThirds) 9007199254740992)
 
--- no more than three quarters above the whole part of 2 * d / 3
+-- at most three quarters above the whole part of 2 * d / 3
 pub third-within : (d : ℕ) (s : Bool) → d ≤ longest → Within (round binary64 s (d * twoThirds) 9007199254740992) (4 * (2 * d / 3) + 3) 4
 third-within d s h = round-within (d * twoThirds) 9007199254740992 (4 * (2 * d / 3) + 3) 2 (lit< tt) (omega arith) (lit≤ tt) (omega arith) s
 

@@ -4,7 +4,7 @@ ghost use Rattle.night_portions.specs.Portions.{portionAfterOf, portionB
 use float64::casts::to_i64;
 use std::num::nearest_i64_to_f64;
 
-// Two thirds, worked once.
+// The source's `2.0 / 3.0`.
 const TWO_THIRDS: f64 = 2.0 / 3.0;
 
 // What Isha's bound adds to sunset.
@@ -23,14 +23,14 @@ pub fn portion_before(portion: f64, night: i64) -> i64
     to_i64(-night_fraction)
 }
 
-// A seventh, which the MoonsightingCommittee method takes from latitude 55 on; in whole numbers.
+// A seventh in whole numbers, which the MoonsightingCommittee method uses from latitude 55 on.
 pub fn seventh(night: i64) -> i64
     ensures { λ r. ⌜ r ≡ seventhOf night ⌝ }
 {
     night / 7
 }
 
-// From maghrib to the middle of the night, which ends at tomorrow's Fajr.
+// The seconds from maghrib to the middle of the night, which ends at tomorrow's Fajr.
 pub fn middle(night: i64) -> i64
     ensures { λ r. ⌜ r ≡ middleOf night ⌝ }
 {
@@ -38,7 +38,7 @@ pub fn middle(night: i64) -> i64
     to_i64(night_duration / 2.0)
 }
 
-// From maghrib to the last third of the same night.
+// The seconds from maghrib to the last third of the same night.
 pub fn last_third(night: i64) -> i64
     ensures { λ r. ⌜ r ≡ lastThirdOf night ⌝ }
 {

@@ -1,4 +1,4 @@
--- What a caller may rely on once an order is read: its record is one of Accepted.antt. Assumes nothing.
+-- After an order is read, a caller may rely on this: its record is as Accepted.antt says. Assumes nothing.
 use Rattle.prelude.proofs.Logic.{_≡_, refl, sym, ap, subst, true, _&&_, _||_, List, ℕ, _+_, _-_, _≤_, _<_, arith, leb, lit≤, ℤ, pos, negsuc}
 use Rattle.prelude.proofs.Logic.{_-ℤ_, getD, leZ, leb-true, eqb-true, arms, cases, both}
 use Rattle.float64.proofs.Floats.{Float, neg, le, round, dec, Inside}
@@ -32,7 +32,7 @@ use Rattle.order.proofs.ReadingLaws.{read-passed, has-required, one-for
 of-natural : {n : ℕ} → n ≤ 1440 → Between 0 1440 (pos n)
 of-natural h = record { from = lit≤ tt; to = h }
 
--- ---- what each test says
+-- ---- what follows from each test
 degrees-inside : (low high : Float) (v : List ℕ) → degreesFit low high v ≡ true → Inside low high (degreesIn v)
 degrees-inside low high v e = both (le low (degreesIn v)) (le (degreesIn v) high) e
 
@@ -90,7 +90,7 @@ minutes-within m e prayer =
     go Qiyam a b c d e f = record { from = lit≤ tt; to = lit≤ tt }
     go FajrTomorrow a b c d e f = record { from = lit≤ tt; to = lit≤ tt }
 
--- ---- what a tag gives, or stands for it, is in range
+-- ---- what a tag gives, or what is read if it is missing, is in range
 module _ (v : Values) where
   angle-or : (tag : ℕ) (missing : Float) → (v .has tag ≡ true → degreesFit (dec 0 0) (dec 30 0) (v .value tag) ≡ true)
       → Inside (dec 0 0) (dec 30 0) missing → Inside (dec 0 0) (dec 30 0) (degreesOr v tag missing)
@@ -158,7 +158,7 @@ started ramadan date e set =
     let start = ramadanStartOf (dayNumberOf date) (ramadan .shift) in
     cases start (λ t. t) (λ t. let z : _≡_ {A = ℕ} 18 0 = simp (set, t) at e in absurd (omega arith))
 
--- the method's angles and interval, and its name
+-- the angles and the interval of a method's preset are in range, and the preset has the method's name
 pub record Brought (method : Method) : Type 0 where
   pub named : presetOf method .method ≡ method
   pub fajr : Inside (dec 0 0) (dec 30 0) (presetOf method .«fajr_angle»)

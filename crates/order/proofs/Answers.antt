@@ -1,4 +1,4 @@
--- What both readers answer, from the fields as they were checked and collected. Assumes nothing.
+-- What both readers return, from the fields that they checked and collected. Assumes nothing.
 use Rattle.prelude.proofs.Logic.{_≡_, sym, ap, _∙_, List, [], _∷_, ℕ, eqb, eq-eqb, ne-eqb, cases}
 use Rattle.fields.specs.declared.values.Checked.{Checked}
 use Rattle.fields.specs.Fields.{checkOf}

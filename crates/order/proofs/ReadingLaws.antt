@@ -1,4 +1,4 @@
--- What reading an order and refusing one say of the checks, and of the town. Assumes nothing.
+-- What follows for the checks and for the town if an order is read, or if it is refused. Assumes nothing.
 use Rattle.prelude.proofs.Logic.{_≡_, refl, sym, ap, subst, _∙_, Bool, true, false, not, _&&_, _||_, List, [], _∷_, ℕ, _+_, _-_, _≤_, _<_}
 use Rattle.prelude.proofs.Logic.{arith, eqb, lit≤, length, getD, eqb-true, eqb-false, arms, cases}
 use Rattle.calendar.specs.Days.{dayNumberOf}
@@ -37,14 +37,14 @@ pub record Refusing (n : ℕ) : Type 0 where
 up-to-five : (n : ℕ) → n ≤ 5 → Small n
 up-to-five n l h = absurd (omega arith)
 
--- ---- one of the refusals after another
+-- ---- the refusals, one after another
 module _ (r : Refusal) (rest : List Refusal) (o : Order) where
   pub passed-on : (order : Order) → firstOf (r ∷ rest) o ≡ Read order → (r .number ≡ 0) × (firstOf rest o ≡ Read order)
   unfolding firstOf
   passed-on order e =
       cases (eqb (r .number) 0) (λ h. (eqb-true (r .number) 0 h, simp h at e)) (λ h. let z : _≡_ {A = ℕ} 0 1 = cc in absurd (omega arith))
 
-  -- a refusal is one of them that has a number
+  -- the result is one of the refusals whose number is not 0
   refused-one : (x : Refusal) → Small (r .number) → (firstOf rest o ≡ Refused x → Refusing (x .number))
       → firstOf (r ∷ rest) o ≡ Refused x → Refusing (x .number)
   unfolding firstOf
@@ -114,7 +114,7 @@ pub has-required : (has : ℕ → Bool) → missingOf has .number ≡ 0 → (i :
 unfolding missingOf
 has-required has e i l = all-pass 4 (isGivenOf has) required (lit≤ tt) e i l
 
--- a coordinate that is not missing and is in no more than one form is in one of the two
+-- a coordinate that is given, but not as on the map, is given as a float
 pub one-form : (has : ℕ → Bool) (float map : ℕ) → (has float || has map) ≡ true → has map ≡ false → has float ≡ true
 one-form has float map either other = cases (has float) (λ t. t) (λ t. cc)
 

@@ -1,4 +1,4 @@
--- The dates of an order's rows: where the first and the last lie in an order's years, all do. Assumes nothing.
+-- The dates of an order's rows: if the first and the last are in an order's years, all are. Assumes nothing.
 use Rattle.prelude.proofs.Logic.{_≡_, refl, sym, ap, subst, true, List, ℕ, zero, suc, _+_, _-_, _≤_, _<_, arith, leb, ltb, eqb, pos, negsuc}
 use Rattle.prelude.proofs.Logic.{_+ℤ_, length, le-leb, ltb-true, ltb-false, arms, cases}
 use Rattle.integers.proofs.Integers.{P, N, sum, difference, to-le}
@@ -10,7 +10,7 @@ use Rattle.order.specs.Given.{rowsIn}
 use Rattle.order.specs.Ranges.{mostIn, rowsFit}
 use Rattle.order.specs.Accepted.{DateInOrder}
 
--- the date so many days after another
+-- the date k days after d
 abbrev daysAfter : Date → ℕ → Date
 daysAfter d k = dateOfDayOf (dayNumberOf d +ℤ pos k)
 
@@ -46,7 +46,7 @@ module _ (d : Date) (there : existsOf d ≡ true) where
       subst DateInOrder (sym (row-is d there row (omega arith)))
       (record { there = date-of-day-exists (dayNumberOf d +ℤ pos row); from = low; to = high })
 
--- ---- an order has 400 rows at most, so that one which begins before 2198 ends by 2199
+-- ---- an order has at most 400 rows, so an order that begins before 2198 ends by 2199
 balance : (d : Date) → P (dayNumberOf d) + 719529 ≡ N (dayNumberOf d) + count d
 unfolding dayNumberOf
 balance d = let s = difference (pos (count d)) (pos 719529) in omega arith

@@ -1,4 +1,4 @@
--- The first of some tags that does not pass, tag by tag: which the reader's two loops use. Assumes nothing.
+-- The first tag that does not pass, tag by tag. The reader's two loops use these laws. Assumes nothing.
 use Rattle.prelude.proofs.Logic.{_≡_, refl, ap, _∙_, Bool, true, false, cond, List, [], _∷_, ℕ, zero, suc, _+_, _≤_, _<_, add-one, arith}
 use Rattle.prelude.proofs.Logic.{length, getD, drop, drop-of-length-le, drop-cons, arms}
 use Rattle.refusals.specs.Refusals.{refusal, noRefusal}
@@ -30,7 +30,7 @@ all-pass number passes (tag ∷ rest) l e (suc i) h =
     arms (λ (x : Refusal). x .number ≡ 0 → passes (getD rest i 0) ≡ true) (passes tag)
     (λ p f. all-pass number passes rest l f i (omega arith)) (λ p f. absurd (omega arith)) e
 
--- and none is refused by a rule that is passed wherever that one is
+-- and none is refused by a weaker rule, which passes every tag that the first rule passes
 pub passing-more : (number : ℕ) (passes more : ℕ → Bool) → 1 ≤ number → ((tag : ℕ) → passes tag ≡ true → more tag ≡ true)
     → (tags : List ℕ) → firstFailing number passes tags .number ≡ 0 → firstFailing number more tags .number ≡ 0
 unfolding firstFailing
@@ -39,14 +39,14 @@ passing-more number passes more l m (tag ∷ rest) e =
     arms (λ (x : Refusal). x .number ≡ 0 → cond (more tag) (firstFailing number more rest) (refusal number tag) .number ≡ 0) (passes tag)
     (λ p f. simp (m tag p) (passing-more number passes more l m rest f)) (λ p f. absurd (omega arith)) e
 
--- and a refusal has the number
+-- a refusal has the given number
 pub failing-number : (number : ℕ) (passes : ℕ → Bool) (tags : List ℕ) → firstFailing number passes tags .number ≤ number
 unfolding firstFailing
 failing-number number passes [] = omega arith
 failing-number number passes (tag ∷ rest) =
     arms (λ (x : Refusal). x .number ≤ number) (passes tag) (λ p. failing-number number passes rest) (λ p. omega arith)
 
--- ---- the tags from one on
+-- ---- the list of tags from a first tag on
 pub tags-from : (k from i : ℕ) → i < k → getD (tagsFrom k from) i 0 ≡ i + from
 unfolding tagsFrom
 tags-from zero from i h = absurd (omega arith)

@@ -1,4 +1,4 @@
--- A text from one of its bytes on: which the loop over a town's bytes uses. Assumes nothing.
+-- A text from its byte i on. The loop over a town's bytes uses these laws. Assumes nothing.
 use Rattle.prelude.proofs.Logic.{_≡_, true, false, List, ℕ, _+_, _≤_, _<_, add-one, length, getD, drop, drop-of-length-le, drop-cons}
 use Rattle.prelude.proofs.Logic.{le-leb, lt-leb}
 use Rattle.text.specs.Text.{printable}

@@ -1,4 +1,4 @@
--- What the record of an order that is read can hold: each value in the range that its tag allows. Proved in proofs/AcceptedLaws.
+-- What the record of an order can hold: each value is in the range that its tag allows. Proved in proofs/AcceptedLaws.
 use Prim.Native.Nat.{ℕ, _≤_, _<_}
 use mathlib.Core.Path.{_≡_}
 use mathlib.Core.Bool.{true}
@@ -31,7 +31,7 @@ pub record RamadanSheet (order : Order) : Type 0 where
   pub rows : order .rows ≡ rowsOfRamadan
   pub start : ramadanStartOf (dayNumberOf (order .date)) (order .ramadan .shift) ≡ true
 
--- an order's own, or the method's; the method's minutes are as the method brings them
+-- each value is the order's own or the method's; the method's minutes are those of its preset
 pub record ParametersInOrder (p : Parameters) : Type 0 where
   pub «fajr_angle» : Inside (dec 0 0) (dec mostAngle 0) (p .«fajr_angle»)
   pub «isha_angle» : Inside (dec 0 0) (dec mostAngle 0) (p .«isha_angle»)

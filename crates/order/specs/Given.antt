@@ -45,7 +45,7 @@ formIn v = record { sign = byteOf v 0; degrees = byteOf v 1; minutes = byteOf v 
 unfoldable pub minutesIn : List ℕ → TimeAdjustment
 minutesIn v = sixMinutesOf (signedAtOf v 0) (signedAtOf v 2) (signedAtOf v 4) (signedAtOf v 6) (signedAtOf v 8) (signedAtOf v 10)
 
--- ---- what a tag gives; of a missing one: "refused", a number, "zeros", or "the method's"
+-- ---- what a tag gives; if it is missing: "refused", a number, "zeros", or "the method's"
 unfoldable pub byteOr : Values → ℕ → ℕ → ℕ
 byteOr v tag missing = cond (v .has tag) (byteOf (v .value tag) 0) missing
 
@@ -61,7 +61,7 @@ minutesOr v missing = cond (v .has minutesTag) (minutesIn (v .value minutesTag))
 unfoldable pub intervalOr : Values → ℤ → ℤ
 intervalOr v missing = cond (v .has ishaIntervalTag) (pos (unsignedOf (v .value ishaIntervalTag) 0)) missing
 
--- request 7: "Tags 18 and 19 stand for latitude and longitude": a coordinate by its form on the map if that is given, and else by its float
+-- request 7: "Tags 18 and 19 stand for latitude and longitude": the form on the map if it is given, else the float
 unfoldable pub coordinateIn : Values → (float map : ℕ) → Float
 coordinateIn v float map = cond (v .has map) (degreesOf (signedHundredthsOf (formIn (v .value map)))) (degreesIn (v .value float))
 

@@ -34,7 +34,7 @@ firstYear = 1900
 abbrev pub lastYear : ℕ
 lastYear = 2199
 
--- "1900-01-01 to 2199-12-31"; "a day the month lacks" is out of range too, and so is a month that there is not
+-- "1900-01-01 to 2199-12-31"; "a day the month lacks" is out of range too, and so is a month that is not from 1 to 12
 abbrev pub dateFits : Date → Bool
 dateFits date = between firstYear lastYear (date .year) && existsOf date
 
@@ -93,8 +93,8 @@ rowsOfRamadan = 30
 unfoldable pub ramadanRows : Bool → List ℕ → Bool
 ramadanRows set v = cond set (eqb (rowsIn v) rowsOfRamadan) true
 
--- the ranges by tag of a value; those of a choice's number are in the table of tags. The range of rows depends on the order's date too, and
--- on whether it has tag 20. A town's length is the fields' matter.
+-- whether a value is in range, by tag. The ranges of choices are in the table of tags. The range of rows also depends on the order's date,
+-- and on whether it has tag 20. The form of the fields checks a town's length.
 abbrev pub ranges : List ℕ → (date : Date) → (ramadan : Bool) → List (ℕ × Bool)
 ranges v date ramadan =
     (townTag, printable v)
@@ -112,7 +112,7 @@ ranges v date ramadan =
     ∷ (ramadanTag, ramadanFits v)
     ∷ []
 
--- what a list by tag has for a tag, or another answer
+-- what the list has for a tag; `otherwise` if it has nothing
 unfoldable pub lookUp : ℕ → List (ℕ × Bool) → Bool → Bool
 lookUp tag [] otherwise = otherwise
 lookUp tag (entry ∷ rest) otherwise = cond (eqb tag (entry .0)) (entry .1) (lookUp tag rest otherwise)
@@ -123,6 +123,6 @@ fitsIn tag v date ramadan = lookUp tag (ranges v date ramadan) (choiceFits tag (
 unfoldable pub fitsOf : Values → ℕ → Bool
 fitsOf v tag = fitsIn tag (v .value tag) (dateIn (v .value dateTag)) (v .has ramadanTag)
 
--- a tag that the order lacks has nothing out of range
+-- true if the order lacks the tag
 unfoldable pub inRangeOf : Values → ℕ → Bool
 inRangeOf v tag = cond (v .has tag) (fitsOf v tag) true

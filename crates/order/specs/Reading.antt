@@ -21,7 +21,7 @@ use Rattle.order.specs.declared.reading.Reading.the-variants.{Read, Refu
 use Rattle.order.specs.Given.{dateIn, rowsIn, coordinateIn, parametersIn, rulesIn, clockIn, ramadanIn}
 use Rattle.order.specs.Ranges.{lookUp, inRangeOf}
 
--- the refusal of the first of some tags that does not pass, by a number and the tag
+-- the refusal of the first tag that does not pass: `number`, with the tag as its place
 unfoldable pub firstFailing : ℕ → (ℕ → Bool) → List ℕ → Refusal
 firstFailing number passes [] = noRefusal
 firstFailing number passes (tag ∷ rest) = cond (passes tag) (firstFailing number passes rest) (refusal number tag)
@@ -72,7 +72,7 @@ unfoldable pub wrongStartOf : Ramadan → Date → Refusal
 wrongStartOf ramadan date =
     cond (ramadan .set && not (ramadanStartOf (dayNumberOf date) (ramadan .shift))) (refusal notFirstOfRamadan dateTag) noRefusal
 
--- the first of some refusals that refuses; if none does, what is read
+-- the first refusal that refuses something; if none does, the record
 unfoldable pub firstOf : List Refusal → Order → Reading
 firstOf [] order = Read order
 firstOf (r ∷ rest) order = cond (eqb (r .number) 0) (firstOf rest order) (Refused r)
@@ -82,7 +82,7 @@ firstOf (r ∷ rest) order = cond (eqb (r .number) 0) (firstOf rest order) (Refu
 abbrev pub checksOf : Values → List Refusal
 checksOf v = missingOf (v .has) ∷ bothFormsOf (v .has) ∷ outOfRangeOf v ∷ wrongStartOf (orderOf v .ramadan) (orderOf v .date) ∷ []
 
--- "Order of checks: length over 1,024; then field by field", and then those
+-- "Order of checks: length over 1,024; then field by field", and then the checks above
 unfoldable pub readingOf : List ℕ → Reading
 readingOf s = firstOf (checkOf s ∷ checksOf (valuesOf s)) (orderOf (valuesOf s))
 

@@ -1,4 +1,4 @@
-// What each tag gives if its value is in range, and what a missing one means.
+// What each tag's value gives if it is in range, and what a missing tag means.
 ghost use mathlib.Core.Path.{_≡_};
 ghost use Rattle.fields.specs.Values.{valuesIn};
 ghost use Rattle.order.specs.Given.{dateIn, rowsIn, degreesIn, formIn, coordinateIn, minutesIn, byteOr, degreesOr, roundingOr};
@@ -40,7 +40,7 @@ pub fn rows_in(bytes: &[u8]) -> u32
     byte(bytes, 0)
 }
 
-// -0.0 equals 0.0 and is read as it; a NaN equals nothing and stays.
+// -0.0 equals 0.0, so it is read as 0.0. A NaN equals nothing and stays.
 pub fn degrees_in(bytes: &[u8]) -> f64
     ensures { λ r. ⌜ r ≡ degreesIn (now (bytes .entry)) ⌝ }
 {
@@ -61,7 +61,7 @@ pub fn form_in(bytes: &[u8]) -> MapForm
     }
 }
 
-// What either form of a coordinate gives: the float of the one tag, or the form on the map of the other.
+// A coordinate in either form: as on the map if the order has the tag `map`, else the float of the tag `float`.
 pub fn coordinate_in(order: &[u8], fields: Fields, float: u32, map: u32) -> f64
     ensures { λ r. ⌜ r ≡ coordinateIn (valuesIn (now (order .entry)) fields) float map ⌝ }
 {
@@ -135,7 +135,7 @@ fn interval_or(order: &[u8], fields: Fields, missing: i32) -> i32
     }
 }
 
-// The method's parameters; tags 7 to 14 set their one field each, so the interval leaves the Isha angle.
+// The method's parameters. Tags 7 to 14 then set one field each, so the interval does not change the Isha angle.
 pub fn parameters_in(order: &[u8], fields: Fields) -> Parameters
     ensures { λ r. ⌜ r ≡ parametersIn (valuesIn (now (order .entry)) fields) ⌝ }
 {
@@ -163,7 +163,7 @@ pub fn parameters_in(order: &[u8], fields: Fields) -> Parameters
     }
 }
 
-// Tags 15 and 17. A missing one is 0, the source's rule.
+// Tags 15 and 17. A missing tag is read as 0, the source's rule.
 pub fn rules_in(order: &[u8], fields: Fields) -> Rules
     ensures { λ r. ⌜ r ≡ rulesIn (valuesIn (now (order .entry)) fields) ⌝ }
 {

@@ -1,4 +1,4 @@
-// The reader of an order (added): bytes in, and out a record of what they order, or a refusal by its number and place.
+// The reader of an order (added): from bytes to a record of what they order, or to a refusal with its number and place.
 mod given;
 pub mod plain;
 mod ranges;

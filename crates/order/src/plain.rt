@@ -1,5 +1,5 @@
 // The plain reader (request 5): it checks the fields in one pass and collects them in another. `reading` is proved to return the same for
-// any bytes: both have one definition, which is this one's.
+// any bytes: both have the same definition, which describes these two passes.
 ghost use mathlib.Core.Path.{_≡_};
 ghost use Rattle.order.specs.Reading.{readingOf};
 use super::reading::Reading;

@@ -29,8 +29,8 @@ const FIRST_YEAR: u32 = 1900;
 
 const LAST_YEAR: u32 = 2199;
 
-// The most minutes that a school adds to a prayer or takes from it, those of an Isha interval, and those from UTC to a clock, ahead or
-// behind.
+// The most minutes that a school adds to a prayer or subtracts from it, the most of an Isha interval, and the most from UTC to a clock,
+// ahead or behind.
 const MOST_MINUTES: i32 = 720;
 
 const MOST_INTERVAL: u32 = 1440;
@@ -67,7 +67,7 @@ fn date_fits(date: Date) -> bool
     (FIRST_YEAR <= date.year) & (date.year <= LAST_YEAR) & date.exists()
 }
 
-// The most rows that the bytes of their number may say.
+// The most rows that a value in two bytes or in one may give.
 fn most_in(bytes: &[u8]) -> u32
     ensures { λ r. ⌜ r ≡ mostIn (now (bytes .entry)) ⌝ }
 {
@@ -77,8 +77,8 @@ fn most_in(bytes: &[u8]) -> u32
     MOST_IN_BYTE
 }
 
-// The last row is the one with one less row before it than there are; its year decides, since the last year is allowed to its end. No order
-// that begins two years or more before the last has rows enough to pass it.
+// The year of the last row decides, because every day of LAST_YEAR is allowed. An order that begins before LAST_YEAR - 1 has too few rows
+// to pass it.
 fn rows_fit(date: Date, bytes: &[u8]) -> bool
     ensures { λ r. ⌜ r ≡ rowsFit date (now (bytes .entry)) ⌝ }
 {
@@ -97,7 +97,7 @@ fn rows_fit(date: Date, bytes: &[u8]) -> bool
     last.year <= LAST_YEAR
 }
 
-// A NaN passes no comparison.
+// False for a NaN: it passes no comparison.
 fn degrees_fit(bytes: &[u8], low: f64, high: f64) -> bool
     ensures { λ r. ⌜ r ≡ degreesFit low high (now (bytes .entry)) ⌝ }
 {
@@ -131,7 +131,7 @@ fn clock_fits(bytes: &[u8]) -> bool
     (-MOST_CLOCK <= minutes) & (minutes <= MOST_CLOCK)
 }
 
-// Minutes from imsak to Fajr, and the shift.
+// The minutes from imsak to Fajr, and the stored shift.
 fn ramadan_fits(bytes: &[u8]) -> bool
     ensures { λ r. ⌜ r ≡ ramadanFits (now (bytes .entry)) ⌝ }
 {
@@ -170,7 +170,7 @@ fn fits(tag: u32, bytes: &[u8], date: Date, ramadan: bool) -> bool
     }
 }
 
-// A tag that the order lacks has nothing out of range.
+// Whether the value of a tag is in range. True if the order lacks the tag.
 pub fn in_range(tag: u32, order: &[u8], part: Part, date: Date, ramadan: bool) -> bool
     ensures { λ r. ⌜ r ≡ cond (ltb 0 (part .at)) (fitsIn tag (partIn (now (order .entry)) part) date ramadan) true ⌝ }
 {

@@ -1,5 +1,5 @@
-// Reading an order: the form of its fields, then missing tags, then coordinates in both forms, then ranges, then the first day of a Ramadan
-// sheet.
+// Reading an order. The checks, in this order: the form of its fields, missing tags, coordinates in both forms, ranges, the first day of a
+// Ramadan sheet.
 ghost use mathlib.Core.Path.{_≡_};
 ghost use Rattle.fields.specs.Values.{hasIn, valuesIn};
 ghost use Rattle.order.specs.Reading.{isGivenOf, missingOf, bothFormsOf, outOfRangeOf, orderOf, wrongStartOf, firstOf, checksOf};
@@ -33,7 +33,7 @@ use unit::Coordinates;
 // The most rows that an order has.
 pub const MOST_ROWS: u32 = 400;
 
-// The most rows that an order gives in one byte, as every order had them once.
+// The most rows that an order may give in one byte.
 pub const MOST_IN_BYTE: u32 = 250;
 
 // The tags that an order may not lack.
@@ -46,7 +46,7 @@ const REQUIRED: [u32; 6] = [
     tags::METHOD,
 ];
 
-// What an order asks for: timetables of so many rows from a date on, for a place. The town is a part of the order's own bytes.
+// What an order asks for: a timetable of `rows` rows from a date on, for a place. The town is a part of the order's own bytes.
 pub struct Order {
     pub town: Part,
     pub date: Date,
@@ -73,7 +73,7 @@ fn is_given(fields: Fields, tag: u32) -> bool
     }
 }
 
-// By the lowest tag that is missing and may not be.
+// The refusal of the lowest required tag that is missing.
 fn missing(fields: Fields) -> Refusal
     ensures { λ r. ⌜ r ≡ missingOf (hasIn fields) ⌝ }
 {
@@ -88,7 +88,7 @@ fn missing(fields: Fields) -> Refusal
     Refusal::none()
 }
 
-// By the first coordinate that is given in both forms, whatever they say.
+// The refusal of the first coordinate that is given in both forms, whatever their values are.
 fn both_forms(fields: Fields) -> Refusal
     ensures { λ r. ⌜ r ≡ bothFormsOf (hasIn fields) ⌝ }
 {
@@ -101,7 +101,7 @@ fn both_forms(fields: Fields) -> Refusal
     Refusal::none()
 }
 
-// By the lowest tag whose value is out of range.
+// The refusal of the lowest tag whose value is out of range.
 fn out_of_range(order: &[u8], fields: Fields) -> Refusal
     ensures { λ r. ⌜ r ≡ outOfRangeOf (valuesIn (now (order .entry)) fields) ⌝ }
 {
@@ -145,7 +145,7 @@ fn record_in(order: &[u8], fields: Fields) -> Order
     }
 }
 
-// A Ramadan sheet begins on the 1st of Ramadan, moved by its shift; its place is the tag of the date.
+// The refusal of a Ramadan sheet that does not begin on the 1st of Ramadan, moved by its shift. Its place is the tag of the date.
 fn wrong_start(ramadan: Ramadan, date: Date) -> Refusal
     ensures { λ r. ⌜ r ≡ wrongStartOf ramadan date ⌝ }
 {
@@ -158,7 +158,7 @@ fn wrong_start(ramadan: Ramadan, date: Date) -> Refusal
     Refusal::none()
 }
 
-// Reads the fields once their form is right, whichever reader collected them.
+// Reads fields whose form is right. Both readers use it after they have collected them.
 pub(crate) fn answer(order: &[u8], fields: Fields) -> Reading
     ensures { λ r. ⌜ r ≡ firstOf (checksOf (valuesIn (now (order .entry)) fields)) (orderOf (valuesIn (now (order .entry)) fields)) ⌝ }
 {

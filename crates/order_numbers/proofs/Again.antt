@@ -1,4 +1,4 @@
--- What was read from any bytes is written as bytes that are read, as the same struct. Assumes nothing.
+-- A struct that was read from any bytes is written as bytes that are read as the same struct. Assumes nothing.
 use Rattle.prelude.proofs.Logic.{_≡_, refl, sym, ap, subst, _∙_, Bool, true, false, not, _&&_, List, _∷_, ℕ, _+_, _-_, _≤_, arith, leb}
 use Rattle.prelude.proofs.Logic.{ℤ, pos, negsuc, leZ, length, take-all, le-leb, leb-true, eq-eqb, cases, lit<}
 use Rattle.prelude.proofs.Ieee.{Float, neg}
@@ -60,7 +60,7 @@ minutes-fit m o =
 degrees-fit : (low high x : Float) → Plain x → Inside low high x → insideOf low high (degreesIn (floatBytes x)) ≡ true
 degrees-fit low high x p i = ap (insideOf low high) (float x (p .f64) (p .other)) ∙ simp (i .0, i .1)
 
--- ---- of a record that was read, each value passes
+-- ---- each value of a record that was read passes
 module _ (order : Order) (a : Accepted order) (g : Given order) where
   abbrev n : OrderNumbers
   n = orderRead order

@@ -15,13 +15,13 @@ use Rattle.order_numbers.proofs.Again.{written-again}
 abbrev number : OrderCall → ℕ
 number call = call .answer .refusal .number
 
--- bytes that are read and have room are written
+-- if the bytes are not refused and have room, they are written
 pub room : (s buffer : List ℕ) (o : Order) → readingOf s ≡ Read o → length s ≤ length buffer
     → callIn (readingOf s) s buffer ≡ record { answer = writtenOf (length s); buffer = frontOf s buffer }
 unfolding callIn
 room s buffer o e h = simp (e, le-leb (length s) (length buffer) h)
 
--- and a call that is not refused has such bytes; one that is changes nothing
+-- and if a call is not refused, its bytes are not refused and have room; a refused call changes nothing
 record Called (s buffer : List ℕ) : Type 0 where
   written : number (callIn (readingOf s) s buffer) ≡ 0 → (o : Order) × (readingOf s ≡ Read o) × (length s ≤ length buffer)
   refused : 1 ≤ number (callIn (readingOf s) s buffer) → callIn (readingOf s) s buffer .buffer ≡ buffer

@@ -1,4 +1,4 @@
--- Where the fields of joined fields are, and that their form is right if their tags rise. Assumes nothing.
+-- Where each field is in joined fields, and that their form is right if their tags rise. Assumes nothing.
 use Rattle.prelude.proofs.Logic.{_≡_, refl, sym, ap, _∙_, Bool, true, false, cond, _&&_, List, [], _∷_, _++_, ℕ, zero, suc, _+_, _-_, _*_}
 use Rattle.prelude.proofs.Logic.{_/_, _%_, _≤_, _<_, div-add-mod', arith, leb, ltb, eqb, length, getD, take, drop, set, replicate}
 use Rattle.prelude.proofs.Logic.{getD-replicate, length-append, length-drop, drop-drop, drop-at, drop-of-length-le, take-nil, take-at}
@@ -56,7 +56,7 @@ here s at tag v rest e =
       inside = omega arith;
     }
 
--- ---- a tag is found where the fields have it
+-- ---- a tag is found if and only if the fields have it
 record Finding (s : List ℕ) (tag at : ℕ) (fs : List (ℕ × List ℕ)) : Type 0 where
   has : ltb at (length s) ≡ standsIn fs tag
   value : take (lengthAt s at) (drop (at + 3) s) ≡ valueIn fs tag
@@ -93,7 +93,7 @@ module _ (fs : List (ℕ × List ℕ)) (right : checkOf (joined fs) .number ≡ 
   value-joined : valueOf (joined fs) tag ≡ valueIn fs tag
   value-joined = first (joined fs) tag right .value ∙ found .value
 
--- so what they give by tag is known
+-- so the joined bytes give by tag what the list of fields gives
 abbrev pub saidIn : List (ℕ × List ℕ) → (ℕ → Part) → Values
 saidIn fs part = record { has = standsIn fs; value = valueIn fs; part = part }
 

@@ -1,4 +1,4 @@
--- What the bytes of a number are read as, by its kind: the number itself, if it is in range or what is read is. Assumes nothing.
+-- The bytes of a number are read as that number, if it or the number read is in range: a law for each kind of number. Assumes nothing.
 use Rattle.prelude.proofs.Logic.{_≡_, refl, sym, ap, _∙_, true, false, ℕ, zero, suc, _+_, _-_, _*_, _%_, _^_, _≤_, _<_, div-add-mod'}
 use Rattle.prelude.proofs.Logic.{pow-pos, arith, T, leb, ltb, eqb, ℤ, pos, negsuc, _-ℤ_, lt-ltb, le-ltb, leb-false, ltb-true, ltb-false}
 use Rattle.prelude.proofs.Logic.{eqb→eq, eqb-true, eq-eqb, ne-eqb, cases, both}
@@ -16,11 +16,11 @@ pub record Kept {A : Type 0} (In : A → Type 0) (read x : A) : Type 0 where
 same-read : {A : Type 0} {In : A → Type 0} {read x : A} → read ≡ x → Kept In read x
 same-read e = record { held = λ h. e; is = λ h. e }
 
--- both are out of range
+-- the law, if both are out of range
 neither : {A : Type 0} {In : A → Type 0} {read x : A} → (In read → ⊥) → (In x → ⊥) → Kept In read x
 neither f g = record { held = λ h. absurd (f h); is = λ h. absurd (g h) }
 
--- ---- without a sign: at most k, where the bytes hold more
+-- ---- unsigned numbers of at most k, if the bytes hold more than k
 pub unsigned : (k most n : ℕ) → k < most → Kept (λ (m : ℕ). m ≤ k) (upTo most n) n
 unfolding upTo
 unsigned k most n l =
@@ -34,7 +34,7 @@ two-back n = div-add-mod' n 256
 pub word : (k n : ℕ) → k < 65535 → Kept (λ (m : ℕ). m ≤ k) (unsignedOf (twoBytes (wordFor n)) 0) n
 word k n l = rw (two-back (wordFor n)) (unsigned k 65535 n l)
 
--- ---- sixteen bits with a sign: from -k to k
+-- ---- signed numbers in sixteen bits, from -k to k
 sixteen-is : (z : ℤ) → N z ≤ 32768 → P z ≤ 32767 → withSign (sixteenFor (P z) (N z)) ≡ z
 unfolding sixteenFor
 sixteen-is (pos n) l h =
@@ -74,7 +74,7 @@ shift z =
 pub stored-small : (x : ℕ) → Near 1 (pos x -ℤ pos 1) → x ≤ 2
 stored-small x h = let d = difference (pos x) (pos 1) in omega (arith, d .0, d .1, h .from, h .to)
 
--- ---- a float: none but -0.0 is read as another
+-- ---- floats: only -0.0 is read as another float
 pub no : {X : Type 0} → true ≡ false → X
 no e = let z : _≡_ {A = ℕ} 0 1 = cc in absurd (omega arith)
 

@@ -1,4 +1,4 @@
--- Of an order that is read, town_at and town_length are the town's own offset and length, and the Isha interval is the record's. Assumes
+-- If an order is read, town_at and town_length are the town's own offset and length, and the Isha interval is the record's. Assumes
 -- nothing.
 use Rattle.prelude.proofs.Logic.{_≡_, sym, List, ℕ, _+_, arith, pos, length}
 use Rattle.order_numbers.proofs.Reader.{offsetOf, Order, Read, readingOf, townOf, read-accepted, read-town}

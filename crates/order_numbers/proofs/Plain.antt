@@ -70,7 +70,7 @@ map-plain most small f t =
     by-sign true zero h = count-plain false 0 h (λ e. no (sym e))
     by-sign true (suc n) h = count-plain true (suc n) h (λ e. omega arith)
 
--- ---- what a method brings, tested at every byte that is a method's number
+-- ---- what a method brings, tested for every byte that is a method's number
 abbrev isPlain : Float → Bool
 isPlain x = fits binary64 x && not (eqb (toBits binary64 x) minusZero)
 
@@ -94,7 +94,7 @@ brings b f =
     let y = presetOf (methodOf b) .«isha_angle» in
     (plain x (and-l (isPlain x) (isPlain y) told), plain y (and-r (isPlain x) (isPlain y) told))
 
--- ---- the numbers of choices: f is what a number is read as, and told again
+-- ---- the numbers of choices: f reads a number as a choice and gives the choice's number
 abbrev fitsAgain : ℕ → (ℕ → ℕ) → ℕ → Bool
 fitsAgain tag f b = not (choiceFits tag b) || choiceFits tag (f b)
 

@@ -1,4 +1,4 @@
--- A field that is put at an offset is behind what is before it. Assumes nothing.
+-- A field that is put at an offset follows the bytes before it. Assumes nothing.
 use Rattle.prelude.proofs.Logic.{_≡_, refl, sym, ap, _∙_, List, [], _∷_, _++_, append-assoc, append-nil, ℕ, _+_, _≤_, arith, leb, lit≤}
 use Rattle.prelude.proofs.Logic.{arms, length, take, drop, length-append, take-at, length-take-le, le-leb, ℤ, w32, w64, SFits, toZ, ofZ}
 use Rattle.prelude.proofs.Logic.{toZ-ofZ}
@@ -30,14 +30,14 @@ field-taken buffer one two at tag header v whole three a b room =
     ap (λ (n : ℕ). take n two) both ∙ ap (take (at + length (header ++ v))) put ∙ taken-put buffer (header ++ v) at (omega arith)
     ∙ ap (λ (l : List ℕ). take at buffer ++ l) whole
 
--- an i32 that is handed on as an i64 keeps its parts
+-- an i32 that is passed on as an i64 keeps its parts
 pub parts-kept : (f : ℕ → ℕ → ℕ) (z : ℤ) → SFits w32 z → (above below : ℕ) → above ≡ P (toZ w64 (ofZ w64 (toZ w32 (ofZ w32 z))))
     → below ≡ N (toZ w64 (ofZ w64 (toZ w32 (ofZ w32 z)))) → f above below ≡ f (P z) (N z)
 parts-kept f z h above below a b =
     let e = read-wide z h in
     ap (λ (n : ℕ). f n below) (a ∙ ap P e) ∙ ap (f (P z)) (b ∙ ap N e)
 
--- a field of a struct that is an i32 is told by its bits
+-- an i32 of a struct is passed on as it is read back from its bits
 pub bytes-told : (z : ℤ) (v : List ℕ) → SFits w32 z → v ≡ signedBytes (toZ w32 (ofZ w32 z)) → v ≡ signedBytes z
 bytes-told z v f e = e ∙ ap signedBytes (toZ-ofZ f)
 
@@ -49,7 +49,7 @@ joined-append (f ∷ a) b =
     ap (λ (l : List ℕ). fieldBytes (f .0) (f .1) ++ l) (joined-append a b)
     ∙ sym (append-assoc (fieldBytes (f .0) (f .1)) (joined a) (joined b))
 
--- fields put behind what is there, one by one, and groups of fields
+-- fields that are put behind what is there, one by one and in groups
 abbrev behind : List ℕ → List (ℕ × List ℕ) → List ℕ
 behind base [] = base
 behind base (f ∷ fs) = behind (base ++ fieldBytes (f .0) (f .1)) fs

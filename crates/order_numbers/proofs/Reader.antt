@@ -1,4 +1,4 @@
--- The names of the reader and of what it reads that the proofs of this crate use, from one place. Nothing is added.
+-- The names of the reader and of what it reads that the proofs of this crate use, in one place. Nothing is added.
 pub use Rattle.calendar.proofs.Calendar.{dateOf, exists-yes, month-of-date, rowDateOf}
 pub use Rattle.calendar.specs.declared.dates.Date.{Date}
 pub use Rattle.fields.proofs.FieldsLaws.{column-small, fits-between}

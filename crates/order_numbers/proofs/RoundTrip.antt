@@ -1,4 +1,4 @@
--- What the order's bytes are read as: each field of the struct, if what is read lies in its range. Assumes nothing.
+-- The order's bytes are read as the struct, field by field, if what is read is in range. Assumes nothing.
 use Rattle.prelude.proofs.Logic.{_≡_, refl, sym, ap, subst, _∙_, Bool, true, false, not, cond, List, [], _∷_, _++_, ℕ, _+_, _≤_, arith}
 use Rattle.prelude.proofs.Logic.{length, T}
 use Rattle.prelude.proofs.Logic.{lit<, lit≤}
@@ -50,7 +50,7 @@ module _ (n : OrderNumbers) (town : List ℕ) (part : ℕ → Part) where
   ramadan-said true = refl
   ramadan-said false = refl
 
-  -- ---- what is read in range is the struct
+  -- ---- if what is read is in range, it is the struct
   module _ (f : Floats n) (a : Accepted (orderOf (said (unsaid (n .choices)))))
       (ranges : outOfRangeOf (said (unsaid (n .choices))) .number ≡ 0) where
     abbrev v : Values
@@ -104,7 +104,7 @@ module _ (n : OrderNumbers) (town : List ℕ) (part : ℕ → Part) where
           };
         }
 
--- ---- of the bytes, whose form is right
+-- ---- for bytes whose form is right
 module _ (n : OrderNumbers) (town : List ℕ) (right : checkOf (encode n town) .number ≡ 0) where
   pub encoded : valuesOf (encode n town) ≡ said n town (valuesOf (encode n town) .part) (unsaid (n .choices))
   unfolding encode ramadanFields
@@ -131,7 +131,7 @@ module _ (n : OrderNumbers) (town : List ℕ) (right : checkOf (encode n town) .
       let long = field .long ∙ ap (length {A = ℕ}) town-whole in
       λ i. record { at = at i; length = long i }
 
--- a reading that refuses nothing is one that reads
+-- a reading that refuses nothing gives a record
 pub was-read : (s : List ℕ) → orderNumbersOf s .refusal .number ≡ 0 → (o : Order) × (readingOf s ≡ Read o)
 unfolding orderNumbersOf orderNumbersIn orderRefused
 was-read s z = by (readingOf s) refl

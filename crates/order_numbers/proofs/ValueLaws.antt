@@ -1,4 +1,4 @@
--- What the bytes of each value are read as: the value, if it is in range or what is read is. Assumes nothing.
+-- The bytes of each value are read as that value, if it or the value read is in range. Assumes nothing.
 use Rattle.prelude.proofs.Logic.{_≡_, refl, sym, ap, subst, _∙_, Bool, true, false, not, cond, _&&_, _||_, List, ℕ, _≤_, _<_, arith, T}
 use Rattle.prelude.proofs.Logic.{and-l, and-r}
 use Rattle.prelude.proofs.Logic.{leb, ltb, eqb, ℤ, pos, leZ, length, take-all, length-take, le-leb, leb-true, eqb-true, eqb→eq, ltb→lt}
@@ -96,7 +96,7 @@ minutes m =
           ∙ same-each m (Near mostMinutes) (λ z. one z .is) (o Fajr) (o Sunrise) (o Dhuhr) (o Asr) (o Maghrib) (o Isha);
     }
 
--- ---- a choice: f is what its number is read as, and told again. Its rule is tested at every byte.
+-- ---- a choice: f reads its number and gives the choice's number. The rule is tested for every byte.
 abbrev choiceBack : ℕ → (ℕ → ℕ) → ℕ → Bool
 choiceBack tag f b = not (choiceFits tag b) || (eqb (f b) b && ltb b 255)
 

@@ -1,6 +1,6 @@
 -- Document 01, "The order": "A float is read from its eight bytes, high byte first. Integers likewise; minutes are signed 16-bit." A number
--- that the bytes can't hold is written as one that is out of range for every tag that has such bytes, so that the reader refuses it: no
--- number becomes another.
+-- that the bytes can't hold is written as one that is out of range for every tag with these bytes. The reader refuses it: no number becomes
+-- another.
 use Prim.Native.Nat.{ℕ, _+_, _-_, _/_, _%_}
 use mathlib.Core.Bool.{cond}
 use mathlib.Core.List.{List, [], _∷_, _++_}
@@ -10,7 +10,7 @@ use lib.IntN.{ℤ}
 use lib.ListN.{length}
 use Rattle.integers.specs.Parts.{P, N}
 
--- a number without a sign, in one byte and in two
+-- an unsigned number in one byte and in two; `most` if it is above that
 unfoldable pub upTo : (most n : ℕ) → ℕ
 upTo most n = cond (leb n most) n most
 
@@ -23,7 +23,7 @@ wordFor n = upTo 65535 n
 unfoldable pub twoBytes : ℕ → List ℕ
 twoBytes n = n / 256 ∷ n % 256 ∷ []
 
--- sixteen bits with a sign, of a number by how far it is above and below zero: they count around at 65,536
+-- a signed number in sixteen bits, from how far it is above and below zero, modulo 65,536
 unfoldable pub sixteenFor : (above below : ℕ) → ℕ
 sixteenFor above below = cond (ltb 32768 below) 32767 (cond (ltb 32767 above) 32767 ((above + (65536 - below)) % 65536))
 
@@ -49,7 +49,7 @@ eightBytes n =
     let h = g / 256 in
     h % 256 ∷ g % 256 ∷ f % 256 ∷ e % 256 ∷ d % 256 ∷ c % 256 ∷ b % 256 ∷ n % 256 ∷ []
 
--- -0.0, which is read as 0.0, is written as a NaN, which is out of range
+-- -0.0 would be read as 0.0, so it is written as a NaN, which is out of range
 abbrev pub minusZero : ℕ
 minusZero = 0x8000_0000_0000_0000
 

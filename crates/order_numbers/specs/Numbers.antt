@@ -1,5 +1,5 @@
--- What an order asks for, in numbers: what a host gets of its bytes. Number and place are 0 and 0 if nothing is refused; each other field
--- is 0 if the order is refused.
+-- What an order asks for, in numbers, as a host gets it. The refusal's number and place are 0 if nothing is refused. Each other field is 0
+-- if the order is refused.
 use Prim.Native.Nat.{ℕ}
 use mathlib.Core.Bool.{Bool, cond}
 use mathlib.Core.List.{List}

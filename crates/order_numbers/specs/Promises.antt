@@ -12,14 +12,14 @@ use Rattle.order_numbers.specs.Numbers.{orderNumbersOf}
 use Rattle.order_numbers.specs.Values.{encode}
 use Rattle.order_numbers.specs.Writing.{OrderCall, writtenOf, orderCallOf}
 
--- each float of the struct is an f64, as it is wherever a program has one
+-- each float of the struct is an f64, as every float of a program is
 pub record Floats (n : OrderNumbers) : Type 0 where
   pub latitude : T (fits binary64 (n .coordinates .latitude))
   pub longitude : T (fits binary64 (n .coordinates .longitude))
   pub «fajr_angle» : T (fits binary64 (n .«fajr_angle»))
   pub «isha_angle» : T (fits binary64 (n .«isha_angle»))
 
--- the same struct, but for where the town is: the writer puts it first, behind a field's three bytes of tag and length
+-- the same struct with the town at its new place: the writer puts it first, behind a field's three bytes of tag and length
 abbrev pub again : OrderNumbers → List ℕ → OrderNumbers
 again n town =
     record {
@@ -45,7 +45,7 @@ pub record ReadAs (bytes : List ℕ) (n : OrderNumbers) (town : List ℕ) : Type
   pub numbers : orderNumbersOf bytes ≡ again n town
   pub named : townOf bytes ≡ town
 
--- what the bytes of a struct are read as, if they are not refused
+-- if the bytes of a struct are not refused, they are read as that struct
 abbrev pub RoundTrip : Type 0
 RoundTrip = (n : OrderNumbers) (town : List ℕ) → Floats n → orderNumbersOf (encode n town) .refusal .number ≡ 0
     → ReadAs (encode n town) n town
@@ -56,7 +56,7 @@ WritesWhatIsRead = (n : OrderNumbers) (town buffer : List ℕ) → Floats n
     → let call = orderCallOf n town buffer in
     call .answer .refusal .number ≡ 0 → ReadAs (take (call .answer .length) (call .buffer)) n town
 
--- what was read from any bytes is written as bytes that are read as the same: nothing that an order can say is refused
+-- a struct that was read from any bytes is written as bytes that are read as the same struct: nothing that an order can say is refused
 abbrev pub WrittenAgain : Type 0
 WrittenAgain = (bytes : List ℕ) → orderNumbersOf bytes .refusal .number ≡ 0
     → ReadAs (encode (orderNumbersOf bytes) (townOf bytes)) (orderNumbersOf bytes) (townOf bytes)

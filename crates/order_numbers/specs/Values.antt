@@ -1,5 +1,5 @@
--- The fields of an order that says all that the struct holds: every tag but those of the map form, by rising tag, and tag 20 for a Ramadan
--- sheet. What no order can say is written out of range, under the tag that it belongs to.
+-- The fields of an order that says all that the struct holds, by rising tag: every tag but those of the map form, and tag 20 only for a
+-- Ramadan sheet. A value that no order can have is written out of range, under its own tag.
 use Prim.Native.Nat.{ℕ, _+_}
 use mathlib.Core.Bool.{Bool, cond, _&&_}
 use mathlib.Core.List.{List, [], _∷_, _++_}
@@ -61,8 +61,8 @@ timeFields n =
 abbrev pub ruleFields : Choices → List (ℕ × List ℕ)
 ruleFields c = (midnightTag, byteFor (c .carry) ∷ []) ∷ (clockTag, signedBytes (c .clock)) ∷ (southernTag, byteFor (c .southern) ∷ []) ∷ []
 
--- "Tag 20 holds imsak minutes and shift, one byte each, the shift stored plus 1." A sheet that is not Ramadan's has neither, and no third
--- kind is one.
+-- "Tag 20 holds imsak minutes and shift, one byte each, the shift stored plus 1." A sheet that is not Ramadan's has neither. Any other
+-- struct is written out of range.
 unfoldable pub ramadanBytes : Choices → List ℕ
 ramadanBytes c = cond (eqb (c .ramadan) 1) (byteFor (c .imsak) ∷ shiftByte (c .shift) ∷ []) (255 ∷ 255 ∷ [])
 
@@ -80,6 +80,6 @@ fieldsFor n town =
 unfoldable pub encode : OrderNumbers → List ℕ → List ℕ
 encode n town = joined (fieldsFor n town)
 
--- room for them all, the town cut
+-- room for all of them, with a town that is cut
 abbrev pub lineLength : ℕ
 lineLength = 158

@@ -25,7 +25,7 @@ refusedOf r = record { refusal = r; length = 0 }
 abbrev pub writtenOf : ℕ → WrittenOrder
 writtenOf length = record { refusal = noRefusal; length = length }
 
--- what reading the bytes refuses is refused alike, then 9 if the buffer has no room for them; a refused call changes no byte. Else the
+-- the refusal of reading the bytes, if there is one, then 9 if the buffer has no room for them; a refused call changes no byte. Else the
 -- bytes are at the front, and the bytes after them stay.
 unfoldable pub callIn : Reading → (text buffer : List ℕ) → OrderCall
 callIn (reading.Refused r) text buffer = record { answer = refusedOf r; buffer = buffer }

@@ -1,5 +1,5 @@
-// Numbers as the bytes of a field's value, high byte first, one function for each kind. A number that the bytes can't hold is written out
-// of range, so that the reader refuses it.
+// Numbers as the bytes of a field's value, high byte first, one function for each kind. A number that the bytes can't hold is written as
+// one out of range, and the reader refuses it.
 ghost use mathlib.Core.Path.{_≡_};
 ghost use Prim.Native.Nat.{_≤_};
 ghost use Rattle.order_numbers.specs.Bytes.{upTo, byteFor, wordFor, twoBytes, sixteenFor, signedBytes, shiftFor, shiftByte};
@@ -8,7 +8,7 @@ use float64::bits::to_bits;
 use integers::parts::above;
 use integers::parts::below;
 
-// -0.0, and the NaN that is written for it: -0.0 would be read as 0.0.
+// -0.0, and the NaN that is written in its place: -0.0 would be read as 0.0.
 const MINUS_ZERO: u64 = 0x8000_0000_0000_0000;
 
 const NAN: u64 = 0x7ff8_0000_0000_0000;
@@ -42,7 +42,7 @@ pub fn word_bytes(n: u32) -> [u8; 2]
     two_bytes(up_to(65535, n))
 }
 
-// Sixteen bits with a sign, of a number by how far it is above and below zero.
+// A signed number in sixteen bits, from how far it is above and below zero.
 fn sixteen_for(above: u64, below: u64) -> u32
     ensures { λ r. ⌜ r ≡ sixteenFor above below ⌝ }
     ensures { λ r. ⌜ r ≤ 65535 ⌝ }

@@ -13,7 +13,7 @@ use order::reading::read;
 use refusals::Refusal;
 use unit::Coordinates;
 
-// What tags 15 to 17 and 20 choose; in C six fields of the order.
+// What tags 15 to 17 and 20 choose. In C these are six fields of the order.
 #[repr(C)]
 pub struct Choices {
     pub carry: u32,
@@ -145,7 +145,7 @@ fn order_refused(refusal: Refusal) -> OrderNumbers
     }
 }
 
-// What the bytes of an order ask for, or by what they are refused.
+// What the bytes of an order ask for, or their refusal.
 pub fn read_numbers(order: &[u8]) -> OrderNumbers
     ensures { λ r. ⌜ r ≡ orderNumbersOf (now (order .entry)) ⌝ }
 {

@@ -1,4 +1,4 @@
-// The fields of an order, put one behind the other at the front of a line: each put returns where it ended.
+// The fields of an order, put one behind the other at the front of a line. Each put returns the offset behind its field.
 ghost use mathlib.Core.Path.{_≡_};
 ghost use mathlib.Core.List.{[], _∷_, _++_};
 ghost use Prim.Native.Nat.{_+_, _≤_};
@@ -23,10 +23,10 @@ use text::put::put;
 // The longest order that is written has 157 bytes, and one more if its town is cut.
 pub const LINE_LENGTH: usize = 158;
 
-// A town is cut behind the byte that makes it too long.
+// A longer town is cut to this length, which is one too long: the reader refuses it.
 const TOWN_CUT: usize = LONGEST_TOWN as usize + 1;
 
-// A field of any kind: its header, and its value behind it.
+// Puts a field: its header, and its value behind it.
 fn put_field(line: &mut [u8], at: usize, tag: u32, value: &[u8]) -> usize
     requires { ⌜ (length (now line) ≡ lineLength) × (at + 3 + length (now value) ≤ lineLength) × (tag ≤ 255) ⌝ }
     ensures { λ r. ⌜ r ≡ at + 3 + length (now (value .entry)) ⌝ }
@@ -200,7 +200,7 @@ fn put_ramadan(line: &mut [u8], at: usize, c: Choices) -> usize
     put_field(&mut line[..], at, tags::RAMADAN, &bytes)
 }
 
-// All of them.
+// All fields.
 pub fn put_order(line: &mut [u8], n: OrderNumbers, town: &[u8]) -> usize
     requires { ⌜ length (now line) ≡ lineLength ⌝ }
     ensures { λ r. ⌜ r ≤ lineLength ⌝ }

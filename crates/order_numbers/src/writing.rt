@@ -14,7 +14,7 @@ use refusals::BUFFER_SHORT;
 use refusals::Refusal;
 use text::put::put;
 
-// What writing returns: what is refused, or how many bytes the order has.
+// What writing returns: the refusal, or how many bytes the order has.
 #[repr(C)]
 pub struct WrittenOrder {
     pub refusal: Refusal,
@@ -30,7 +30,7 @@ fn refuse(refusal: Refusal) -> WrittenOrder
     }
 }
 
-// An order's bytes are read back: what the reader refuses is refused, before the buffer is looked at.
+// Reads the order's bytes back. A refusal of the reader is returned before the buffer's length is checked.
 fn hand_out(text: &[u8], buffer: &mut [u8]) -> WrittenOrder
     requires { ⌜ length (now text) ≤ lineLength ⌝ }
     ensures { λ r. ⌜ r ≡ callIn (readingOf (now (text .entry))) (now (text .entry)) (now (buffer .entry)) .answer ⌝ }
@@ -51,8 +51,8 @@ fn hand_out(text: &[u8], buffer: &mut [u8]) -> WrittenOrder
     }
 }
 
-// The order's bytes are made by themselves first. The refusal and the town's place in the struct are not looked at: the town is given by
-// itself.
+// The order's bytes are made in a line of their own: a refused call leaves the buffer as it was. The refusal and the town's place in the
+// struct are not used, because the town is given by itself.
 pub fn write_order(numbers: OrderNumbers, town: &[u8], buffer: &mut [u8]) -> WrittenOrder
     ensures { λ r. ⌜ r ≡ orderCallOf numbers (now (town .entry)) (now (buffer .entry)) .answer ⌝ }
     ensures { λ _. ⌜ now (buffer .exit) ≡ orderCallOf numbers (now (town .entry)) (now (buffer .entry)) .buffer ⌝ }

@@ -1,4 +1,4 @@
--- A rule for each number below n, by one test that antt computes. Assumes nothing.
+-- A rule for each number below n, proved by one test that antt computes. Assumes nothing.
 use Rattle.prelude.proofs.Logic.{_≡_, subst, sym, Bool, true, false, not, _&&_, _||_, ⊎-elim, ℕ, zero, suc, _<_, eq-or-lt-of-le}
 use Rattle.prelude.proofs.Logic.{le-of-suc-le-suc, not-suc-le-zero, T, and-l, and-r}
 
@@ -19,7 +19,7 @@ pub tested : (f : Bool → ℕ → Bool) (n : ℕ) → T (below (f true) n && be
 tested f n t true k h = at (f true) n (and-l (below (f true) n) (below (f false) n) t) k h
 tested f n t false k h = at (f false) n (and-r (below (f true) n) (below (f false) n) t) k h
 
--- a test that is asked under a condition
+-- a test that need pass only if another one does
 pub when : (a b : Bool) → T (not a || b) → T a → T b
 when true b t h = t
 when false b t h = absurd h

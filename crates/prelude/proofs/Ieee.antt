@@ -1,4 +1,4 @@
--- The names of the kit's floats that proofs use, from one place. Nothing is added to them.
+-- The names of the kit's floats that proofs use, in one place. Nothing is added to them.
 unfoldable pub use lib.Ieee.{neg, le, toSigned, ofInt, round, ofBits, div, sum, add, sub, lt, eq, toUnsigned, units, fits, odd, ofFields}
 unfoldable pub use lib.Ieee.{toBits, size, isNan, nanBits, inFloat, mul, inUnsigned, ne, whole}
 pub use lib.Ieee.{Float, binary64, nan, inf, fin, up, down, unlike, nearest, Format, prec, low, hid, ones, top}

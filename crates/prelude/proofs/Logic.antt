@@ -1,5 +1,5 @@
--- The names of the logic that proofs use, from one place: equality, truth values, lists, whole numbers and their arithmetic, memory's
--- words, and the searches, with the few of Cases.
+-- The names of the logic that proofs use, in one place: equality, truth values, lists, whole numbers and their arithmetic, memory's
+-- words, the searches, and the few names of Cases.
 pub use mathlib.Core.Path.{_≡_, refl, ap, sym, _∙_, subst, fun-ext}
 pub use mathlib.Core.Bool.{Bool, true, false, not, cond, _&&_, true≢false, _||_, Bool·beq, false≢true, and-eq-true-iff}
 pub use mathlib.Core.List.{List, [], _∷_, _++_, append-assoc, append-nil, map}

@@ -1,2 +1,2 @@
-// The names of the logic that proofs use, laws of truth values and of rules that are computed, in proofs/; a definition that crates share,
-// in specs/. There is no code here.
+// There is no code here. proofs/ has the names of the logic that proofs use, and laws of truth values and of rules that are computed.
+// specs/ has a definition that crates share.

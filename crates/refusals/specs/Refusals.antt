@@ -1,5 +1,5 @@
--- Document 01's table of refusals, and the numbers that document 02 adds: a number and a place. The numbers under the names that the code
--- gives them.
+-- Document 01's table of refusals, and the numbers that document 02 adds. A refusal is a number and a place. The numbers have the code's
+-- names; each has the paper's words for its condition, and after the semicolon its place.
 use Prim.Native.Nat.{ℕ}
 use mathlib.Core.Bool.{cond}
 use mathlib.Core.List.{List, [], _∷_}
@@ -13,7 +13,7 @@ refusal number place = record { number = number; place = place }
 abbrev pub noRefusal : Refusal
 noRefusal = refusal 0 0
 
--- the first of two that refuses
+-- the first if it refuses something, else the second
 unfoldable pub orOf : Refusal → Refusal → Refusal
 orOf first second = cond (eqb (first .number) 0) second first
 
@@ -87,7 +87,7 @@ jobUnfit = 17
 abbrev pub notFirstOfRamadan : ℕ
 notFirstOfRamadan = 18
 
--- all of them
+-- every number of the table
 abbrev pub numbers : List ℕ
 numbers =
     fieldCut ∷ fieldUnknown ∷ fieldAgain ∷ tagMissing ∷ outOfRange ∷ noTransit ∷ noSunrise

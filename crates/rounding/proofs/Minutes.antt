@@ -1,4 +1,4 @@
--- The second of the minute, what rounding adds, and minutes as two halves, as the code works them. Assumes nothing.
+-- The second of the minute, what rounding adds, and minutes as two halves, as the code computes them. Assumes nothing.
 use Rattle.prelude.proofs.Logic.{_≡_, ap, _∙_, true, false, ℕ, suc, _-_, _%_, _≤_, arith, T, lit<, ℤ, pos, negsuc, negℤ, natAbs, _+ℤ_, _-ℤ_}
 use Rattle.prelude.proofs.Logic.{_*ℤ_, ltZ, quotZ, remZ, nonNeg, w32, w64, SFits, Fits, toZ}
 use Rattle.integers.proofs.Integers.{same, sum, difference, times, flip, divided, floored, lt-yes, lt-no, readBack, read, range, fits}
@@ -64,7 +64,7 @@ less-fits k s h f =
 pub less-is : (k s : ℕ) → k ≤ 60 → Fits w32 s → readBack w64 (pos k -ℤ toZ w64 s) ≡ pos k -ℤ pos s
 less-is k s h f = read w64 (pos k -ℤ toZ w64 s) (less-fits k s h f) ∙ rw (read w64 (pos s) (record { sfits = omega (arith, f .fits) }))
 
--- ---- minutes: past 2 ^ 64 / 60 no time stays in range, and up to there half of their seconds fits
+-- ---- minutes: more than 2 ^ 64 / 60 take every time out of range; for fewer half of the seconds fits
 abbrev far-ahead : ℤ
 far-ahead = pos 307445734561825860
 

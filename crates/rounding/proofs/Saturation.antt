@@ -83,7 +83,7 @@ module _ (a b : ℤ) (ha : SFits w64 a) (hb : SFits w64 b) where
         let u = down in
         rw (ra, rb) (between (a +ℤ b) (omega (arith, d .0, d .1)) (omega (arith, d .0, d .1)))
 
--- a sum that saturates stays at its end under a second step of the same sign
+-- a saturated sum stays at that end of the range if a number of the same sign is added
 module _ (t h : ℤ) (f : SFits w64 t) where
   abbrev Twice : Type 0
   Twice = satOf (satOf (t +ℤ h) +ℤ h) ≡ satOf (t +ℤ h +ℤ h)

@@ -1,4 +1,4 @@
--- What rounding and adjusting keep, and when nothing saturates. Over the definitions of `Times`. Assumes nothing.
+-- Laws of the definitions of `Times`: what rounding and adjusting keep, and when nothing saturates. Assumes nothing.
 use Rattle.prelude.proofs.Logic.{_≡_, refl, sym, ap, _∙_, cond, ℕ, _+_, _*_, _^_, _≤_, _<_, arith, ltb, lit<, ℤ, pos, negsuc, _+ℤ_, _*ℤ_}
 use Rattle.prelude.proofs.Logic.{+ℤ-idr, +ℤ-assoc, +ℤ-comm, ltb-true, ltb-false, lt-ltb, w64, SFits, cases, either}
 use Rattle.integers.proofs.Integers.{P, N, Between, Near, sum, difference, times, floorQuot, Floored, floored, _≼_, to-not-lt, range}
@@ -8,7 +8,7 @@ use Rattle.models.specs.declared.rounding.Rounding.the-variants.{Nearest, Up, N
 use Rattle.integers.specs.Ends.{least64, most64}
 use Rattle.rounding.specs.Times.{satOf, secondOf, shiftOf, roundedOf, adjustedOf}
 
--- an i64 holds what lies between the ends of its range
+-- an i64 holds every integer between the ends of its range
 pub between : (z : ℤ) → least64 ≼ z → z ≼ most64 → SFits w64 z
 between (pos n) l h = record { sfits = omega arith }
 between (negsuc n) l h = record { sfits = omega arith }
@@ -43,7 +43,7 @@ rounded-adjusted r t k =
     ap (λ (s : ℕ). t +ℤ m +ℤ shiftOf r s) (second-adjusted t k) ∙ +ℤ-assoc t m d ∙ ap (λ (z : ℤ). t +ℤ z) (+ℤ-comm m d)
     ∙ sym (+ℤ-assoc t d m)
 
--- how far above the start of its minute a time at second s is rounded to
+-- how many seconds after the start of its minute a time at second s is after it is rounded
 heightOf : Rounding → ℕ → ℕ
 heightOf Nearest s = cond (ltb s 30) 0 60
 heightOf Up s = 60
@@ -86,7 +86,7 @@ rounded-mono r t u h =
     cases (ltb (secondOf u) (secondOf t)) (λ p. omega (arith, height-most r (secondOf t) (a .below), ltb-true (secondOf u) (secondOf t) p))
     (λ p. omega (arith, height-mono r (secondOf t) (secondOf u) (ltb-false (secondOf u) (secondOf t) p)))
 
--- a rounded time lies no more than a minute from the time
+-- a rounded time is at most a minute from the time
 pub rounded-high : (r : Rounding) (t : ℤ) → roundedOf r t ≼ t +ℤ pos 60
 rounded-high r t =
     let a = minute t in
@@ -104,7 +104,7 @@ second-nearest t =
     (λ b. let k = rw b at h in let s = sum (floorQuot t 60) (pos 1) in
     second-unique (roundedOf Nearest t) (floorQuot t 60 +ℤ pos 1) 0 (record { balance = omega arith; below = lit< tt }))
 
--- Nearest and None, done again, change nothing
+-- a second rounding by Nearest or None changes nothing
 stays : (t : ℤ) → secondOf t ≡ 0 → roundedOf Nearest t ≡ t
 unfolding roundedOf shiftOf
 stays t h = ap (λ (s : ℕ). t +ℤ shiftOf Nearest s) h ∙ +ℤ-idr t
@@ -116,7 +116,7 @@ pub none-stays : (t : ℤ) → roundedOf None t ≡ t
 unfolding roundedOf shiftOf
 none-stays t = +ℤ-idr t
 
--- ---- how far they lie, and that nothing saturates within 2 ^ 62 seconds
+-- ---- bounds of rounded and adjusted times, and that nothing saturates within 2 ^ 62 seconds
 pub rounded-between : {a b : ℕ} {t : ℤ} (r : Rounding) → Between a b t → Between (a + 60) (b + 60) (roundedOf r t)
 rounded-between {a} {b} {t} r h = shifted-between 60 (roundedOf r t) h (rounded-high r t) (rounded-low r t)
 

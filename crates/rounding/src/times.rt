@@ -1,5 +1,5 @@
-// unit.rs's rounded_minute and adjust_time. A time is whole seconds from 1970-01-01 0h UTC. If the result would leave an i64's range, it is
-// the range's end: chrono's own range ends earlier, and there it panics.
+// unit.rs's rounded_minute and adjust_time. A time is whole seconds from 1970-01-01 0h UTC. A result beyond an i64's range is the range's
+// end. chrono's own range is smaller, and chrono panics at its end.
 ghost use mathlib.Core.Path.{_≡_};
 ghost use lib.IntN.{_+ℤ_};
 ghost use Rattle.rounding.specs.Times.{satOf, secondOf, shiftOf, roundedOf, adjustedOf};
@@ -9,7 +9,7 @@ const MOST64: i64 = 9223372036854775807;
 
 const LEAST64: i64 = -9223372036854775808;
 
-// The sum, which is chrono's checked_add_signed while it stays in range.
+// The sum, as chrono's checked_add_signed gives it in its range.
 pub fn plus(a: i64, b: i64) -> i64
     ensures { λ r. ⌜ r ≡ satOf (a +ℤ b) ⌝ }
 {
@@ -54,7 +54,7 @@ pub fn rounded_minute(t: i64, rounding: Rounding) -> i64
     plus(t, shift(rounding, second(t)))
 }
 
-// Past 2^64 / 60 minutes no time stays in range. Up to there an i64 holds 30 seconds for each minute; 60 may be too many.
+// Beyond 2^64 / 60 minutes no time stays in range. Up to there an i64 holds half of the seconds, but maybe not all: half is added twice.
 pub fn adjust_time(t: i64, minutes: i64) -> i64
     ensures { λ r. ⌜ r ≡ satOf (adjustedOf t minutes) ⌝ }
 {

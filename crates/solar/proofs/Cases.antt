@@ -1,4 +1,4 @@
--- The arithmetic of `hour` and `next_midnight` at what the machine reads, and their times. Assumes nothing.
+-- The arithmetic of `hour` and `next_midnight` on the numbers that the machine reads, and their times. Assumes nothing.
 use Rattle.prelude.proofs.Logic.{_≡_, sym, ap, subst, _∙_, ℕ, _+_, _*_, _≤_, _<_, arith, ℤ, pos, negsuc, _-ℤ_, lt-ltb, le-ltb, w32, SFits}
 use Rattle.prelude.proofs.Logic.{toZ, ofZ}
 use Rattle.integers.proofs.Integers.{same, sum, difference, fits, read}
@@ -7,7 +7,7 @@ use Rattle.solar.specs.PastMidnight.{nextMidnightOf}
 use Rattle.solar.specs.declared.setting.SolarHour.the-variants.{Some, Nothing}
 use Rattle.solar.specs.declared.setting.Placed.{Placed}
 
--- a day before the second n
+-- the second n less a day
 module _ (n : ℕ) (h : n < 2147483648) where
   pub n-is : toZ w32 n ≡ pos n
   n-is = read w32 (pos n) (record { sfits = omega arith })

@@ -1,4 +1,4 @@
--- The nearest minute if minutes and seconds both lie between 0 and 60: the whole minutes, and one more from 30 seconds on. Assumes
+-- The nearest minute if minutes and seconds are both between 0 and 60: the whole minutes, and one more from 30 seconds on. Assumes
 -- nothing.
 use Rattle.prelude.proofs.Logic.{_≡_, refl, sym, _∙_, Bool, true, false, not, ℕ, _+_, _*_, _^_, _<_, div-lt-iff-lt-mul, arith, T, ltb, eqb}
 use Rattle.prelude.proofs.Logic.{eqb→eq, le→leb, lit<, boolByte}
@@ -15,7 +15,7 @@ use Rattle.float64.proofs.Values.{lt-values}
 use Rattle.prelude.proofs.Computed as Computed
 use Rattle.solar.proofs.Taken.{below-whole}
 
--- ---- of k whole minutes and q whole seconds, one by one
+-- ---- for each k whole minutes and q whole seconds
 nearestTest : ℕ → ℕ → Bool
 nearestTest k q = eqb (k + boolByte (not (ltb q 30))) (toUnsigned 32 (roundOf (at k +ᶠ at q /ᶠ dec 60 0)))
 
@@ -53,7 +53,7 @@ under60 = inside Under60 60 (dec 60 0) minute-value
           ∙ below-whole 30 m e;
     })
 
--- ---- the floored minutes are cast as they are, and with one more from 30 seconds on they are the nearest
+-- ---- a cast does not change the floored minutes; with one more from 30 seconds on they are the nearest
 pub record Minute (k s : Float) : Type 0 where
   pub cast : T (inUnsigned binary64 32 k)
   pub room : toUnsigned 32 k + boolByte (not (lt s (dec 30 0))) < 2 ^ 32

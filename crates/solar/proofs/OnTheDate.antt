@@ -1,4 +1,4 @@
--- An hour number above 1 and below 24 is normal, and its floored hours are placed on the date, a whole number that a cast takes as it is.
+-- An hour number above 1 and below 24 is normal. Its floored hours are an hour of the date, a whole number that a cast does not change.
 -- Assumes nothing.
 use Rattle.prelude.proofs.Logic.{_≡_, refl, sym, ap, _∙_, true, false, true≢false, false≢true, ℕ, _*_, _/_, _%_, _^_, _≤_, _<_}
 use Rattle.prelude.proofs.Logic.{mul-div-cancel, mul-le-mul-left, div-add-mod', div-lt-iff-lt-mul, arith, T, lit<, ℤ, pow-pos, ltb-true}
@@ -28,7 +28,7 @@ module _ (P : Float → Type 0) (a b : ℕ) (low high : Float) (v : HasValue low
           (sym (lt-values (fin false m e) high (m * up e) b (down e) 1 (down-pos e) (lit< tt) (refl, refl) w) ∙ k) in
           g m e (omega arith) (omega arith)
 
--- ---- a whole number is cast as it is
+-- ---- a cast does not change a whole number
 whole-cast : (x : Float) (n : ℕ) → HasValue x false n 1 → n < 2 ^ 32 → T (inUnsigned binary64 32 x)
 unfolding whole inUnsigned
 whole-cast nan n v h = absurd v

@@ -1,4 +1,4 @@
--- What the carried times are: where they lie, where they are document 01's, and what they are where it has none. Assumes nothing.
+-- The carried times: their range, when they are document 01's, and what they are if document 01 has none. Assumes nothing.
 use Rattle.prelude.proofs.Logic.{_≡_, refl, sym, ap, subst, _∙_, Bool, true, false, cond, ℕ, _+_, _*_, _≤_, arith, ltb, lit≤, ℤ, pos}
 use Rattle.prelude.proofs.Logic.{ltb-true}
 use Rattle.float64.proofs.Floats.{Float, isNormalOf, floorOf}
@@ -33,8 +33,8 @@ carried-held value = by-tests (hasTimeOf value) (isNormalOf value)
     by-tests true false = record { from = lit≤ tt; to = lit≤ tt }
     by-tests false b = lit≤ tt
 
--- ---- beside document 01's rule
--- what carrying makes of document 01's hour: a time stays, and none is 0h of the date after the one taken
+-- ---- compared with document 01's rule
+-- from document 01's result to the carried one: a time stays, and no time becomes 0h of the date after the one taken
 abbrev pub carriedFrom : SolarHour → ℕ → SolarHour
 carriedFrom (Some t) ahead = Some t
 carriedFrom Nothing ahead = nextMidnightOf ahead
@@ -57,7 +57,7 @@ carry-from p minute = by-test (ltb hour 24)
 abbrev pub takenOf : Float → ℕ
 takenOf value = hourAdjustmentOf (floorOf value) .ahead
 
--- a normal number from -24 to below 48 has document 01's time, and where that rule has none, 0h of the date after the one taken
+-- a normal number from -24 to below 48 has document 01's time, or 0h of the date after the one taken if that rule has none
 pub carried-from : (value : Float) → hasTimeOf value ≡ true → isNormalOf value ≡ true
     → carriedHourOf value ≡ carriedFrom (settingHourOf value) (takenOf value)
 unfolding carriedHourOf settingHourOf
@@ -87,7 +87,7 @@ pub carried-past : (value : Float) → hasTimeOf value ≡ true → isNormalOf v
     → carriedHourOf value ≡ nextMidnightOf (takenOf value)
 carried-past value h n e = carried-from value h n ∙ ap (λ (r : SolarHour). carriedFrom r (takenOf value)) e
 
--- any other number that has a time has 0h of the date, and what has none has none
+-- a number from -24 to below 48 that is not normal is 0h of the date; any number outside has no time
 pub carried-small : (value : Float) → hasTimeOf value ≡ true → isNormalOf value ≡ false → carriedHourOf value ≡ Some (pos 0)
 unfolding carriedHourOf
 carried-small value h n = rw (h, n)

@@ -1,4 +1,4 @@
--- Request 1's sentences, each as a law over every number. Assumes nothing.
+-- Request 1's sentences, each as a law of every number. Assumes nothing.
 use Rattle.prelude.proofs.Logic.{_≡_, refl, ap, _∙_, Bool, true, false, cond, _&&_, _||_, false≢true, ℕ, _+_, _*_, _^_, _≤_, _<_}
 use Rattle.prelude.proofs.Logic.{mul-le-mul-left, arith, ltb, eqb, ℤ, pos, pow-pos, ltb-true, lt-ltb, le-ltb, leb-false, eqb-true, ne-eqb}
 use Rattle.float64.proofs.Floats.{Float, nan, inf, fin, up, down, round, neg, le, lt, eq, down-pos, dec, isNormalOf, floorOf}
@@ -79,7 +79,7 @@ unfolding carriedHourOf hasTimeOf dec round neg le lt eq
 infinite-none true = refl
 infinite-none false = refl
 
--- ---- an hour that comes to 24 is 00:00 of the date after the one taken, and every other is that date's
+-- ---- an hour that comes to 24 is 00:00 of the date after the one taken; every other hour is one of the date taken
 pub sum-held : (value : Float) → hasTimeOf value ≡ true → hourSum value ≤ 24
 sum-held value h = go (ltb (minuteOf value (floorOf value)) 60)
   where
@@ -115,7 +115,7 @@ pub lost-carried : (value : Float) → hasTimeOf value ≡ true → isNormalOf v
     → carriedHourOf value ≡ nextMidnightOf (dateTaken value)
 lost-carried value h n e = carried-past value h n e ∙ ap nextMidnightOf (taken-is value h)
 
--- ---- all of them
+-- ---- all sentences together
 pub carries-past-midnight : CarriesPastMidnight
 carries-past-midnight =
     record {

@@ -1,4 +1,4 @@
--- Where the times of `setting_hour` lie: from 0h of yesterday to 24h of tomorrow, for every hour number that has a time. Assumes nothing.
+-- The range of the times of `setting_hour`: from 0h of yesterday to 24h of tomorrow, if the hour number has a time. Assumes nothing.
 use Rattle.prelude.proofs.Logic.{_≡_, refl, Bool, true, false, cond, ℕ, _+_, _*_, _≤_, _<_, arith, ltb, lit≤, ℤ, pos, _-ℤ_, ltb-true}
 use Rattle.float64.proofs.Floats.{Float, lt, dec, isNormalOf, floorOf}
 use Rattle.integers.proofs.Integers.{Between, difference, by-balance}
@@ -6,8 +6,8 @@ use Rattle.solar.specs.declared.{setting.SolarHour.SolarHour, setting.Pl
 use Rattle.solar.specs.declared.setting.SolarHour.the-variants.{Some, Nothing}
 use Rattle.solar.specs.Setting.{hourAdjustmentOf, minuteOf, daySecondOf, sumOf, restOf, hourOf, settingHourOf}
 
--- the earliest time of the sun, in seconds before 0h of its date, and the latest, which only a number that is carried past midnight comes
--- to
+-- the earliest time of the sun, in seconds before 0h of its date, and the latest. Only a number that is carried past midnight has the
+-- latest
 abbrev pub earliestSun : ℕ
 earliestSun = 86400
 
@@ -22,7 +22,7 @@ abbrev pub HourOfThreeDays : SolarHour → Type 0
 HourOfThreeDays (Some t) = OfThreeDays t
 HourOfThreeDays Nothing = 0 ≤ 0
 
--- so many seconds from 0h of yesterday
+-- n seconds from 0h of yesterday
 pub counted : (n : ℕ) → n ≤ earliestSun + latestSun → OfThreeDays (pos n -ℤ pos 86400)
 counted n h = let d = difference (pos n) (pos 86400) in
     by-balance earliestSun latestSun (pos n -ℤ pos 86400) (omega (arith, d .0, d .1)) (omega (arith, d .0, d .1))

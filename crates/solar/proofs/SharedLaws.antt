@@ -10,7 +10,7 @@ use Rattle.solar.specs.Hours.{Sun, approxTransitOf, solarAltitude, trans
 use Rattle.solar.specs.Hours.{afternoonNumberOf}
 use Rattle.solar.specs.Shared.{courseAngleNumberOf, courseNumbersOf, courseAfternoonNumberOf}
 
--- a sun's course
+-- the course that the code computes from the three positions
 abbrev pub courseOfSun : Sun → Course
 courseOfSun s = courseOf (observerOf (s .place)) (s .previous) (s .today) (s .next)
 

@@ -1,5 +1,5 @@
--- The date that an hour number takes, told by the number itself, and its hour in that date: for every number that has a time the hour is at
--- most 23, so that the sum with minute 60 is at most 24. Assumes nothing.
+-- The date that an hour number takes, from the number itself, and its hour of that date. For every number that has a time the hour is at
+-- most 23, so the sum with minute 60 is at most 24. Assumes nothing.
 use Rattle.prelude.proofs.Logic.{_≡_, refl, sym, ap, subst, _∙_, Bool, true, false, cond, _&&_, _||_, true≢false, false≢true, ℕ, suc, _+_}
 use Rattle.prelude.proofs.Logic.{_-_, _*_, _/_, _^_, _≤_, _<_, div-one, min-eq-left, div-add-mod', mod-lt, mul-one, mul-le-mul-right}
 use Rattle.prelude.proofs.Logic.{lt-of-mul-lt-mul-right, div-lt-iff-lt-mul, arith, ltb, eqb, lit<, ℤ, pos, ltb-true, ltb-false, lt-ltb}
@@ -56,7 +56,7 @@ floor-up m e h = go (eqb (fraction m e) 0) refl
     go true z = (refl, omega (arith, div-add-mod' (m * up e) (down e), eqb-true (fraction m e) 0 z))
     go false z = round-whole binary64 false (wholePart m e) h
 
--- a float is below a whole number if its whole part is
+-- a float is below a whole number if and only if its whole part is
 pub below-whole : (b m : ℕ) (e : ℤ) → ltb (m * up e * 1) (b * down e) ≡ ltb (wholePart m e) b
 below-whole b m e = go (ltb (wholePart m e) b) refl
   where
@@ -108,7 +108,7 @@ cast-whole (fin false m e) k v h =
     let w : m * up e / down e ≡ k = whole-value (fin false m e) false k 1 (lit< tt) v ∙ div-one k in
     rw w (min-eq-left (omega arith))
 
--- y and where it is placed
+-- where a number is placed
 record PlacedAs (p : Placed) (ahead hour : ℕ) : Type 0 where
   taken : p .ahead ≡ ahead
   hours : p .hour ≡ hour
@@ -190,7 +190,7 @@ place-down (fin true m e) k v h g =
         let d : 1 * down e ≤ k * down e = mul-le-mul-right (down e) h in
         unfold lt in lt-ltb 0 (m * up e * 1 + 0 * down e) (omega (arith, down-pos e, v .1))
 
--- and the zero with a sign
+-- and -0.0
 place-zero : (y : Float) → HasValue y true 0 1 → PlacedAs (hourAdjustmentOf y) 1 0
 unfolding hourAdjustmentOf toUnsigned
 place-zero nan v = absurd v
@@ -276,12 +276,12 @@ right (inf false) h = absurd (false≢true (unfold hasTimeOf dec round neg le lt
 right (fin true m e) h = right-down m e h
 right (fin false m e) h = right-up m e h
 
--- LAW the date taken is yesterday below 0, tomorrow from 24 on, and else the date
+-- the date taken is yesterday below 0, tomorrow from 24 on, and else the date
 pub taken-is : (value : Float) → hasTimeOf value ≡ true → takenOf value ≡ dateTaken value
 unfolding Right
 taken-is value h = right value h .0
 
--- LAW the hour in it is at most 23
+-- the hour of that date is at most 23
 pub hour-in-day : (value : Float) → hasTimeOf value ≡ true → hourAdjustmentOf (floorOf value) .hour < 24
 unfolding Right
 hour-in-day value h = right value h .1

@@ -1,4 +1,4 @@
--- Where the times of the sun lie by either rule: from 0h of yesterday to 24h of tomorrow. Assumes nothing.
+-- The range of the times of the sun by either rule: from 0h of yesterday to 24h of tomorrow. Assumes nothing.
 use Rattle.prelude.proofs.Logic.{_≡_, subst, _≤_, lit≤, ℤ}
 use lib.Ieee.{Float}
 use Rattle.models.specs.declared.rules.Midnight.{Midnight}
@@ -21,7 +21,7 @@ hour-held Carries number = carried-held number
 pub hour-range : (rule : Midnight) (number : Float) (t : ℤ) → solarHourOf rule number ≡ Some t → OfThreeDays t
 hour-range rule number t e = subst HourOfThreeDays e (hour-held rule number)
 
--- ---- and so of a day's sun, if it is whole
+-- ---- the same for the sun of a day that lacks no time
 pub record SunOfThreeDays (sun : SolarTime) : Type 0 where
   pub transit : OfThreeDays (sun .transit)
   pub sunrise : OfThreeDays (sun .sunrise)

@@ -1,5 +1,5 @@
--- solar.rs: the hour numbers of a day over a place, by the source's calls of corrected_transit and corrected_hour_angle on the sun's position on
--- the day, the day before and the day after.
+-- solar.rs: the hour numbers of a day over a place. They are the source's calls of corrected_transit and corrected_hour_angle with the
+-- sun's positions on the day, the day before and the day after.
 use mathlib.Core.Bool.{Bool, true, false}
 use lib.Ieee.{Float, neg}
 use Rattle.float64.specs.Ops.{_+ᶠ_, _-ᶠ_, _/ᶠ_, dec}
@@ -55,12 +55,12 @@ hourNumbersOf s =
       sunset = angleNumberOf s solarAltitude true;
     }
 
--- afternoon: `angle`, at which a shadow has grown by so many lengths, at a latitude and under a declination
+-- afternoon: `angle`, at which a shadow has grown by `shadow` lengths
 unfoldable pub shadowAngleOf : Float → Float → Float → Angle
 unfolding dec
 shadowAngleOf latitude declination shadow =
     fromRadiansOf (atanOf (dec 1 0 /ᶠ (shadow +ᶠ tanOf (radiansOf (angleOf (absOf (latitude -ᶠ declination)))))))
 
--- Asr's
+-- the hour number of Asr
 unfoldable pub afternoonNumberOf : Sun → Float → Float
 afternoonNumberOf s shadow = angleNumberOf s (shadowAngleOf (s .place .latitude) (s .today .declination .degrees) shadow) true

@@ -14,7 +14,7 @@ use Rattle.solar.specs.declared.setting.SolarHour.the-variants.{Some, No
 use Rattle.solar.specs.declared.setting.Placed.{Placed}
 use Rattle.solar.specs.Setting.{hourAdjustmentOf, minuteOf, daySecondOf, sumOf, restOf}
 
--- a NaN passes neither test
+-- false for a NaN, which passes no test
 unfoldable pub hasTimeOf : Float → Bool
 unfolding dec
 hasTimeOf value = le (neg (dec 24 0)) value && lt value (dec 48 0)
@@ -23,13 +23,13 @@ hasTimeOf value = le (neg (dec 24 0)) value && lt value (dec 48 0)
 abbrev pub nextMidnightOf : ℕ → SolarHour
 nextMidnightOf taken = Some (daySecondOf (taken + 1) 0 0)
 
--- hour and minute as document 01 finds them, on the date taken; a sum of 24 goes on to the next
+-- document 01's hour and minute on the date taken; a sum of 24 is 00:00 of the date after it
 unfoldable pub carriedOf : Placed → ℕ → SolarHour
 carriedOf p minute =
     let hour = sumOf (p .hour) minute in
     cond (ltb hour 24) (Some (daySecondOf (p .ahead) hour (restOf minute))) (nextMidnightOf (p .ahead))
 
--- what has a time and is not normal is zero or subnormal
+-- a number that has a time and is not normal is zero or subnormal
 unfoldable pub carriedHourOf : Float → SolarHour
 carriedHourOf value =
     let hours = floorOf value in

@@ -1,5 +1,5 @@
--- This file need not be believed: proofs/SharedLaws.antt says that it gives the hour numbers of Hours. What a day's numbers share is worked
--- once.
+-- This file need not be believed: proofs/SharedLaws.antt says that it gives the hour numbers of Hours. What a day's numbers share is
+-- computed once.
 use mathlib.Core.Bool.{Bool, true, false}
 use lib.Ieee.{Float}
 use Rattle.calendar.specs.Answers.{yesterdayOf, tomorrowOf}
@@ -12,11 +12,11 @@ use Rattle.ops.specs.Shared.{observerOf, courseOf, courseTransitNumberOf, arcTo
 use Rattle.solar.specs.declared.hours.HourNumbers.{HourNumbers}
 use Rattle.solar.specs.Hours.{solarAltitude, shadowAngleOf}
 
--- the sun's course over a place on a date, by itself
+-- the sun's course over a place on one date alone
 abbrev pub dateCourseOf : Date → Coordinates → Course
 dateCourseOf d place = courseOf (observerOf place) (positionOf (yesterdayOf d)) (positionOf d) (positionOf (tomorrowOf d))
 
--- the hour number of an angle: from its sine, and by itself
+-- the hour number of an angle, with its sine given and without
 unfoldable pub courseSineNumberOf : Course → Float → Angle → Bool → Float
 courseSineNumberOf c sine angle after = hourNumberOf c angle (arcToSineOf c sine) after
 

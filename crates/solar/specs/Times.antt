@@ -1,4 +1,4 @@
--- solar.rs: the times of a day's transit, sunrise and sunset, or the number of the first that it lacks. All in seconds from 0h of the day's date.
+-- solar.rs: the times of a day's transit, sunrise and sunset, in seconds from 0h of the date; or the number of the first that it lacks.
 use mathlib.Core.Bool.{Bool}
 use lib.Ieee.{Float}
 use Rattle.refusals.specs.Refusals.{noTransit, noSunrise, noSunset}

@@ -19,7 +19,7 @@ pub struct HourNumbers {
     pub sunset: f64,
 }
 
-// The sine of the altitude below, as `sin` gives it (proofs/AltitudeSine.antt).
+// The sine of `solar_altitude`, as `sin` gives it (proofs/AltitudeSine.antt).
 const SOLAR_ALTITUDE_SINE: f64 = -0.014543897651582656; // 0xbf8dc930 e628cb24
 
 // The altitude of the sun's center at sunrise and sunset.
@@ -29,7 +29,7 @@ fn solar_altitude() -> Angle
     Angle::new(-50.0 / 60.0)
 }
 
-// The sun's course over a place on a date, by itself: rows that follow one another hand their positions on instead.
+// The sun's course over a place on one date alone. Rows that follow one another pass their positions on instead.
 pub fn date_course(date: Date, coordinates: Coordinates) -> Course
     ensures { λ r. ⌜ r ≡ dateCourseOf date coordinates ⌝ }
 {
@@ -39,7 +39,7 @@ pub fn date_course(date: Date, coordinates: Coordinates) -> Course
     Course::new(Observer::new(coordinates), previous, today, next)
 }
 
-// The hour number at which the sun is at an angle whose sine is at hand.
+// The hour number at which the sun is at an angle whose sine is given.
 pub fn sine_number(course: Course, sine: f64, angle: Angle, after_transit: bool) -> f64
     ensures { λ r. ⌜ r ≡ courseSineNumberOf course sine angle «after_transit» ⌝ }
 {
@@ -53,7 +53,7 @@ pub fn angle_number(course: Course, angle: Angle, after_transit: bool) -> f64
     course.hour_number(angle, course.half_arc(angle), after_transit)
 }
 
-// Sunrise and sunset lie half of one arc before and after the transit.
+// Sunrise and sunset are half of one arc before and after the transit, so the arc is computed once.
 pub fn hour_numbers(course: Course) -> HourNumbers
     ensures { λ r. ⌜ r ≡ courseNumbersOf course ⌝ }
 {
@@ -66,7 +66,7 @@ pub fn hour_numbers(course: Course) -> HourNumbers
     }
 }
 
-// The angle at which a shadow has grown by so many lengths.
+// The angle at which a shadow has grown by `shadow_length` lengths.
 fn shadow_angle(latitude: f64, declination: f64, shadow_length: f64) -> Angle
     ensures { λ r. ⌜ r ≡ shadowAngleOf latitude declination «shadow_length» ⌝ }
 {

@@ -9,7 +9,7 @@ use super::setting::minute;
 use float64::sizes::is_normal;
 use float64::whole::floor;
 
-// From -24 to below 48; a NaN is neither.
+// Whether a number is from -24 to below 48. False for a NaN.
 fn has_time(value: f64) -> bool
     ensures { λ r. ⌜ r ≡ hasTimeOf value ⌝ }
 {
@@ -23,7 +23,7 @@ fn next_midnight(ahead: u8) -> SolarHour
     SolarHour::Some(((ahead as u32) * 86400) as i32)
 }
 
-// The hour that the source's rule gives, if it gives one; else the sum came to 24.
+// The time by the source's rule. If that has none, the hour came to 24, and the time is the next midnight.
 fn carried(p: Placed, minute: u32) -> SolarHour
     ensures { λ r. ⌜ r ≡ carriedOf p minute ⌝ }
 {
@@ -34,7 +34,7 @@ fn carried(p: Placed, minute: u32) -> SolarHour
     }
 }
 
-// The time of an hour number, if it has one. One that has a time and is not normal is zero or subnormal.
+// The time of an hour number, if it has one. A number in the range that is not normal is zero or subnormal.
 pub fn carried_hour(value: f64) -> SolarHour
     ensures { λ r. ⌜ r ≡ carriedHourOf value ⌝ }
 {

@@ -1,4 +1,4 @@
-// solar.rs: an hour number as a time, in seconds from 0h of its date. An i32 holds them, so that no sum of them needs an end of a range.
+// solar.rs: an hour number as a time, in seconds from 0h of its date. An i32 holds these seconds, so no sum of them has to saturate.
 ghost use mathlib.Core.Path.{_≡_};
 ghost use mathlib.Core.Bool.{true};
 ghost use lib.Ieee.{lt};
@@ -10,7 +10,7 @@ use float64::whole::floor;
 use float64::whole::round;
 
 pub enum SolarHour {
-    // Below 0 yesterday's, from 86,400 on tomorrow's.
+    // Below 0 a time of yesterday, from 86,400 on one of tomorrow.
     Some(i32),
     Nothing,
 }
@@ -21,7 +21,7 @@ pub struct Placed {
     pub hour: u32,
 }
 
-// The hour brought to 0..=23 of the date or of the day beside it, if it is not further off.
+// The hour as one of yesterday, of the date or of tomorrow. It is 0 to 23 if the number is not beyond these three days.
 pub fn hour_adjustment(calculated_hours: f64) -> Placed
     ensures { λ r. ⌜ r ≡ hourAdjustmentOf «calculated_hours» ⌝ }
 {
@@ -43,7 +43,7 @@ pub fn hour_adjustment(calculated_hours: f64) -> Placed
     }
 }
 
-// The nearest minute. All stays in floats, since the floored seconds can be -1.
+// The nearest minute. It is computed in floats because the floored seconds can be -1.
 pub(crate) fn minute(value: f64, calculated_hours: f64) -> u32
     ensures { λ r. ⌜ r ≡ minuteOf value «calculated_hours» ⌝ }
 {
@@ -52,8 +52,8 @@ pub(crate) fn minute(value: f64, calculated_hours: f64) -> u32
     to_u32(round(calculated_minutes + floor(seconds) / 60.0))
 }
 
-// The same. If minutes and seconds both lie between 0 and 60, which is nearly always, there is one minute more from 30 seconds on, and
-// nothing is divided and rounded to find it. The tests are before the floor, which then needs none of its own.
+// The same, without a division and a rounding if minutes and seconds are both between 0 and 60, which is nearly always so: then one minute
+// is added from 30 seconds on. The tests are before the floor, which then needs no tests of its own.
 fn date_minute(value: f64, calculated_hours: f64) -> u32
     ensures { λ r. ⌜ r ≡ minuteOf value «calculated_hours» ⌝ }
 {
@@ -91,7 +91,7 @@ pub(crate) fn hour(p: Placed, minute: u32) -> SolarHour
     SolarHour::Nothing
 }
 
-// Above 1 and below 24 a number is normal, and its floored hours are an hour of the date.
+// A number above 1 and below 24 is normal, and its floored hours are an hour of the date.
 fn date_hour(value: f64) -> SolarHour
     requires { ⌜ (lt (dec 1 0) value ≡ true) × (lt value (dec 24 0) ≡ true) ⌝ }
     ensures { λ r. ⌜ r ≡ settingHourOf value ⌝ }

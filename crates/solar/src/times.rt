@@ -1,5 +1,5 @@
-// solar.rs: the times of the sun on a day, each in seconds from 0h of its date. Where SolarTime::new panics, the day lacks a time and is
-// refused by a number.
+// solar.rs: the times of the sun on a day, each in seconds from 0h of its date. If the source's SolarTime::new would panic, the day lacks a
+// time and is refused with a number.
 ghost use mathlib.Core.Path.{_≡_};
 ghost use Rattle.solar.specs.Hours.{sunOn};
 ghost use Rattle.solar.specs.Times.{solarHourOf, dayOf, solarTimeOf, timeForSolarAngleOf, afternoonOf};
@@ -18,7 +18,7 @@ use refusals::NO_TRANSIT;
 use unit::Angle;
 use unit::Coordinates;
 
-// The time of an hour number by a rule, if it has one. No other place asks for the rule.
+// The time of an hour number by a rule, if it has one. Only this function looks at the rule.
 pub fn solar_hour(rule: Midnight, number: f64) -> SolarHour
     ensures { λ r. ⌜ r ≡ solarHourOf rule number ⌝ }
 {

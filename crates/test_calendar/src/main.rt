@@ -1,5 +1,5 @@
-// Walks every date from 1899-12-31 to 2200-01-03 by tomorrow() and folds what the calendar says of each into a few numbers; and the seconds
-// of the two hours around 1970-01-01 0h, each rounded in the three ways. The expected numbers are those of Python's datetime:
+// Walks every date from 1899-12-31 to 2200-01-03 by tomorrow() and folds what the calendar says of each into a few numbers. Does the same
+// with the seconds of the two hours around 1970-01-01 0h, each rounded in the three ways. The expected numbers are from Python's datetime:
 //     python3 tests/calendar/dates.py > crates/test_calendar/stdout
 use calendar::dates::Date;
 use calendar::dates::weekday;
@@ -23,17 +23,17 @@ struct Folds {
     julian: u64,
 }
 
-// The earlier values count with a higher power of 31, so that an exchange of two is seen.
+// Earlier values count with a higher power of 31, so two values in the wrong order change the sum.
 fn fold(sum: u64, value: u64) -> u64 {
     (sum % 1000000007 * 31 + value % 1000000007) % 1000000007
 }
 
-// The digits of the date in one number.
+// The date's digits as one number.
 fn digits(d: Date) -> u64 {
     d.year as u64 * 10000 + d.month as u64 * 100 + d.day as u64
 }
 
-// A day number as a number above 0, through f64, which holds both.
+// A day number as a number above 0, through f64, which holds both exactly.
 fn shifted(day: i64) -> u64 {
     to_u64(nearest_i64_to_f64(day) + 1000000.0)
 }

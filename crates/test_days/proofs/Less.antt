@@ -1,4 +1,4 @@
--- What a list gives more than it is, taken off again: an i32 and an i64 hold it. Assumes nothing.
+-- A listed number less what the list adds to it: an i32 and an i64 hold it. Assumes nothing.
 use Rattle.prelude.proofs.Logic.{ℕ, _^_, _≤_, _<_, arith, pos, _-ℤ_, Width, SFits, toZ, hbits}
 use Rattle.integers.proofs.Integers.{difference, fits, read}
 

@@ -1,7 +1,7 @@
-// Holds the days to those of the crate that is ported: reads a list of the crate's, made by
+// Compares the days with those of the source crate: reads a list of the crate's days, made by
 //     tests/crate/list-days --seed 1 --lines 3000
-// which also says what a line holds. Writes each line of which an answer differs here, and then how many lines there were, how many
-// answers were compared and how many differ.
+// which also says what a line holds. Writes each line with an answer that differs here, and then the number of lines, of compared answers
+// and of different ones.
 use float64::bits::from_bits;
 use libc::STDIN_FILENO;
 use libc::STDOUT_FILENO;
@@ -18,7 +18,7 @@ use std::num::wrapping_add_u64;
 use test_lists::decimal;
 use test_lists::hex;
 
-// None comes near 2^64, so they are added without a proof that they fit.
+// No count comes near 2^64, so they are added without a proof that they fit.
 struct Counts {
     compared: u64,
     different: u64,
@@ -57,7 +57,7 @@ fn numbers(line: &[u8]) -> ProbeNumbers {
     }
 }
 
-// A part of a field's digits. Here and below the remainders change nothing that a list holds: they show that the casts lose nothing.
+// A part of a field's digits. Here and below the remainders change no number of a list: they prove that the casts lose nothing.
 fn part(digits: u64) -> u32 {
     (digits % 10000) as u32
 }
@@ -89,12 +89,12 @@ fn settings(line: &[u8]) -> ProbeSettings {
     }
 }
 
-// Seconds from 1970, of which a list gives 10^10 more.
+// Seconds from 1970. A list has them plus 10^10.
 fn seconds(listed: u64) -> i64 {
     (listed % 100000000000) as i64 - 10000000000
 }
 
-// A time of the line's date: 0h and the seconds from there.
+// A time of the line's date: its 0h plus the listed seconds.
 fn time(line: &[u8], at: usize) -> i64 {
     let start = hex(line, 326) % 100000000000;
     seconds(start + decimal(line, at) % 100000000)

@@ -1,5 +1,5 @@
-// Holds fdlibm's functions to Java's StrictMath: reads the lines that tests/fdlibm/Values.java prints, writes each line
-// whose function has another result here, and then how many lines there were and how many differ.
+// Compares fdlibm's functions with Java's StrictMath: reads the lines that tests/fdlibm/Values.java prints, writes each line whose function
+// has another result here, and then the number of lines and of different ones.
 use fdlibm_arc::e_acos::acos;
 use fdlibm_arc::e_asin::asin;
 use fdlibm_arc::e_atan2::atan2;
@@ -20,7 +20,7 @@ enum Line {
     End,
 }
 
-// The function with the letter f, of x, or of x and y.
+// The function with the letter f, applied to x, or to x and y.
 fn apply(f: u8, x: f64, y: f64) -> f64 {
     match f {
         b's' => sin(x),
@@ -35,7 +35,7 @@ fn apply(f: u8, x: f64, y: f64) -> f64 {
     }
 }
 
-// One line: the letter, two arguments and the result, a blank between them, a newline behind.
+// One line: the letter, two arguments and the result, with blanks between them and a newline at the end.
 fn check_line() -> Line {
     let mut line = [0u8; 53];
     let n = io::read_full(STDIN_FILENO, &mut line);

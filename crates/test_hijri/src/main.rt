@@ -1,6 +1,6 @@
-// Walks every date from 1899-12-31 to 2200-01-03 and folds into a few numbers what the tabular calendar says of each: its date there, the
-// day of that date again, the Gregorian date of that day, the days that begin a Ramadan with each shift, and the first of Ramadan of the
-// date's year. The expected numbers are those of node's calendar `islamic-civil`, which is another program's:
+// Walks every date from 1899-12-31 to 2200-01-03 and folds what the tabular calendar says of each into a few numbers: its tabular date, the
+// day number of that date, the Gregorian date of that day, the days that begin a Ramadan with each shift, and the first of Ramadan of the
+// date's year. The expected numbers are from node's calendar `islamic-civil`, an independent program:
 //     node tests/hijri/dates.mjs > crates/test_hijri/stdout
 use calendar::dates::Date;
 use float64::casts::to_u64;
@@ -22,7 +22,7 @@ struct Folds {
     starts: u64,
 }
 
-// The earlier values count with a higher power of 31, so that an exchange of two is seen.
+// Earlier values count with a higher power of 31, so two values in the wrong order change the sum.
 fn fold(sum: u64, value: u64) -> u64 {
     (sum % 1000000007 * 31 + value % 1000000007) % 1000000007
 }
@@ -31,7 +31,7 @@ fn digits(year: u32, month: u32, day: u32) -> u64 {
     year as u64 * 10000 + month as u64 * 100 + day as u64
 }
 
-// A day number as a number above 0, through f64, which holds both.
+// A day number as a number above 0, through f64, which holds both exactly.
 fn shifted(day: i64) -> u64 {
     to_u64(nearest_i64_to_f64(day) + 1000000.0)
 }

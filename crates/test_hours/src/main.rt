@@ -1,7 +1,7 @@
-// Holds the hour numbers to those of the crate that is ported: reads a list of the crate's, made by
+// Compares the hour numbers with those of the source crate: reads a list of the crate's hour numbers, made by
 //     tests/crate/list --seed 1 --lines 3000
-// which also says what a line holds and which numbers it marks as skipped. Writes each line of which a number differs here, and
-// then how many lines there were, how many numbers were compared, how many were skipped and how many differ.
+// which also says what a line holds and which numbers it marks as skipped. Writes each line with a number that differs here, and then the
+// number of lines, and of compared, skipped and different numbers.
 use calendar::dates::Date;
 use float64::bits::from_bits;
 use float64::bits::to_bits;
@@ -20,17 +20,17 @@ use unit::Coordinates;
 
 const SKIPPED: u64 = 0x7ff8_0000_0000_0001;
 
-// In hours.
+// How far a number may be from the listed one, in hours.
 const NEAR: f64 = 0.0001;
 
-// Counts of numbers, not of lines. At six a line none comes near 2^64, so they are added without a proof that they fit.
+// Counts of numbers, not of lines. With six in a line no count comes near 2^64, so they are added without a proof that they fit.
 struct Counts {
     compared: u64,
     skipped: u64,
     different: u64,
 }
 
-// Equal bits are two infinities or two NaN as well; to a NaN or an infinity nothing else is near.
+// Equal bits agree, also those of two infinities or two NaN. Nothing else is near a NaN or an infinity.
 fn agrees(ours: f64, listed: u64) -> bool {
     if to_bits(ours) == listed {
         return true;
@@ -55,7 +55,7 @@ fn counted(mut c: Counts, ours: f64, listed: u64) -> Counts {
     c
 }
 
-// The remainders change no date of the list: they show that the casts lose nothing.
+// The remainders change no date of the list: they prove that the casts lose nothing.
 fn date(line: &[u8]) -> Date {
     let digits = decimal(line, 0);
     Date::new(

@@ -5,11 +5,11 @@ use mathlib.Core.List.{List}
 use lib.Dec.{ltb}
 use lib.ListN.{getD}
 
--- `0` to `9` have the codes 48 to 57, and `a` to `f` 97 to 102; any other code gives some digit too
+-- `0` to `9` have the codes 48 to 57, and `a` to `f` 97 to 102. Any other code gives a digit too, but no list has one
 unfoldable pub digitValueOf : ℕ → ℕ
 digitValueOf code = cond (ltb code 97) (code % 16) ((code - 87) % 16)
 
--- the first k digits from `at` on, the first of them the highest; past the line's end each is 0
+-- the number of the first k digits from `at` on, high digit first; a digit past the line's end is 0
 unfoldable pub numberOf : ℕ → List ℕ → ℕ → ℕ → ℕ
 numberOf base line at zero = 0
 numberOf base line at (suc k) = numberOf base line at k * base + digitValueOf (getD line (at + k) 0)

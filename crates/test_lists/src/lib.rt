@@ -4,7 +4,7 @@ ghost use Prim.Native.Nat.{_+_, _≤_};
 ghost use lib.ListN.{getD};
 ghost use Rattle.test_lists.specs.Listed.{digitValueOf, numberOf, hexAt, decimalAt};
 
-// The byte k places after `at`. The sum of the two is worked only if it lies in the line, so that it cannot wrap.
+// The byte k places after `at`. The two are added only if the sum is in the line, so it cannot wrap.
 fn byte(line: &[u8], at: usize, k: usize) -> u64
     ensures { λ r. ⌜ r ≡ getD (now (line .entry)) (at + k) 0 ⌝ }
 {
@@ -41,7 +41,7 @@ fn number(base: u64, line: &[u8], at: usize, digits: usize) -> u64
     v
 }
 
-// The sixteen hexadecimal digits from `at` on, a to f small: an f64's bits.
+// The sixteen hexadecimal digits from `at` on, with lower-case a to f: an f64's bits.
 pub fn hex(line: &[u8], at: usize) -> u64
     ensures { λ r. ⌜ r ≡ hexAt (now (line .entry)) at ⌝ }
 {

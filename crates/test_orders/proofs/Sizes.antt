@@ -1,4 +1,4 @@
--- The size of an i32, worked as an i64, as a u64. Assumes nothing.
+-- The size of an i32 as a u64, computed as an i64. Assumes nothing.
 use Rattle.prelude.proofs.Logic.{_≡_, sym, ap, _∙_, true, false, _+_, _<_, arith, T, ℤ, pos, negsuc, natAbs, _-ℤ_, ltZ, nonNeg, w32, w64}
 use Rattle.prelude.proofs.Logic.{SFits, Fits}
 use Rattle.integers.proofs.Integers.{P, N, same, natural, not-positive, lt-yes, lt-no, range, fits, readBack, read, wide, read-wide}

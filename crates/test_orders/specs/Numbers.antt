@@ -1,4 +1,4 @@
--- What a line says of an order that is read, number by number. A float is given by its bits.
+-- What a line says of an order that is read, number by number. A float is given as its bits.
 use Prim.Native.Nat.{ℕ}
 use mathlib.Core.List.{List, [], _∷_}
 use lib.Ieee.{binary64, toBits}

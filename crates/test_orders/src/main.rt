@@ -1,7 +1,7 @@
-// Reads orders, good and damaged, each behind two bytes of its length, made by
+// Reads good and damaged orders, each after two bytes with its length, made by
 //     tests/orders/cases.py stdin stdout
-// and writes two lines for each, what the reader returns and what the plain reader does: number and place of its refusal; or 0, 0 and what
-// it gives. A float is given by its bits.
+// and writes two lines for each, one for what the reader returns and one for the plain reader: the number and place of the refusal; or 0, 0
+// and the record. A float is written as its bits.
 ghost use mathlib.Core.Path.{_≡_};
 ghost use lib.IntN.{natAbs};
 ghost use Rattle.test_orders.specs.Numbers.{unsignedNumbersOf, signedNumbersOf};
@@ -79,7 +79,7 @@ fn signed_numbers(order: Order) -> [i32; 13]
     ]
 }
 
-// Worked as an i64, which holds the size of every i32.
+// Computed as an i64, which holds the size of every i32.
 fn size(m: i32) -> u64
     ensures { λ r. ⌜ r ≡ natAbs m ⌝ }
 {
@@ -157,7 +157,7 @@ fn answer(order: &[u8]) {
     print_answer(order, plain::read(order));
 }
 
-// The next order, of so many bytes, and its line. One that is longer than the space, which the list has none of, is left unread.
+// Reads the next order, of `size` bytes, and writes its lines. An order longer than the space is not read; the list has none.
 fn replay(space: &mut [u8], size: usize) {
     if size <= space.len() {
         let n = io::read_full(STDIN_FILENO, &mut space[..size]);

@@ -1,4 +1,4 @@
--- A number with a sign, by what is put. Assumes nothing.
+-- A minus and the digits of the size, or the digits alone, make the signed number. Assumes nothing.
 use Rattle.prelude.proofs.Logic.{_≡_, refl, sym, ap, _∙_, true, false, List, [], _++_, ℕ, suc, _+_, _≤_, arith, ℤ, pos, negsuc, length}
 use Rattle.prelude.proofs.Logic.{length-append, ltZ}
 use Rattle.integers.proofs.Integers.{P, N, lt-yes, lt-no}
@@ -24,7 +24,7 @@ signed-length (negsuc n) =
     let a = length-append (ascii "-") (decimalOf (suc n)) in
     omega arith
 
--- `x` is z as the test reads it
+-- `x` is z, as the code's test reads it
 module _ (text : List ℕ) (room : length text ≡ 21) (z x : ℤ) (is : x ≡ z) where
   pub minus-made : (one two : List ℕ) (n k : ℕ) → ltZ x (pos 0) ≡ true → n ≡ N x → one ≡ putOf text 0 (ascii "-") → k ≡ length (decimalOf n)
       → two ≡ putOf one 1 (decimalOf n) → (1 + k ≡ length (signedOf z)) × (two ≡ frontOf (signedOf z) text)

@@ -1,4 +1,4 @@
-// Numbers with a sign by their decimal digits: a minus only below zero.
+// Signed numbers by their decimal digits. Only a number below zero has a minus.
 ghost use mathlib.Core.Path.{_≡_};
 ghost use lib.ListN.{length};
 ghost use Rattle.text.specs.Text.{putOf, frontOf};
@@ -11,7 +11,7 @@ use integers::parts::below;
 // A minus and twenty digits.
 const MOST_BYTES: usize = 21;
 
-// Writes a number at the front of its own room. Returns how many bytes it has.
+// Writes a number at the front of `text`. Returns how many bytes it has.
 fn make_signed(text: &mut [u8], z: i64) -> usize
     requires { ⌜ length (now text) ≡ 21 ⌝ }
     ensures { λ r. ⌜ r ≡ length (signedOf z) ⌝ }
@@ -24,8 +24,8 @@ fn make_signed(text: &mut [u8], z: i64) -> usize
     put_decimal(&mut text[..], 0, above(z))
 }
 
-// A number into a lent buffer, as `put` does, and how many bytes it has. It is made by itself first, so that a buffer without room for all
-// of it keeps every byte.
+// Writes a number into a lent buffer, as `put` does. Returns how many bytes it has. The number is made in an array first: a buffer
+// without room for all of it keeps every byte.
 pub fn put_signed(buffer: &mut [u8], at: usize, z: i64) -> usize
     ensures { λ r. ⌜ r ≡ length (signedOf z) ⌝ }
     ensures { λ _. ⌜ now (buffer .exit) ≡ putOf (now (buffer .entry)) at (signedOf z) ⌝ }

@@ -1,4 +1,4 @@
--- An angle above 0 and below 359 degrees is unwound as it is: it holds no full turn. Assumes nothing.
+-- `unwound` does not change an angle above 0 and below 359 degrees: it has no full turn. Assumes nothing.
 use Rattle.prelude.proofs.Logic.{_≡_, refl, sym, ap, _∙_, Bool, true, false, cond, true≢false, ℕ, _*_, _^_, _<_, div-add-mod', div-eq-of-lt}
 use Rattle.prelude.proofs.Logic.{arith, T, eqb, lit<, lit≤, ℤ, eqb-true}
 use Rattle.float64.proofs.Floats.{Float, nan, inf, fin, binary64, up, down, round, ofBits, ofInt, mul, sub, div, fits, lt, HasValue}
@@ -17,7 +17,7 @@ nearly-value : HasValue nearly false 359 1
 unfolding dec round
 nearly-value = (refl, refl)
 
--- ---- the quotient lies below 1, so its floor is 0
+-- ---- the quotient is below 1, so its floor is 0
 floor-zero : (q : Float) → Within q 1022 (2 ^ 10) → Signed false q → HasValue (floorOf q) false 0 1
 unfolding floorOf ofInt round
 floor-zero nan w s = absurd w

@@ -16,7 +16,7 @@ half-turn = dec 180 0
 abbrev pub full-turn : Float
 full-turn = dec 360 0
 
--- x less the whole multiples of max below it
+-- x less the largest whole multiple of max that is not above it
 unfoldable pub normalizedToScaleOf : Float → Float → Float
 normalizedToScaleOf x max = x -ᶠ max *ᶠ floorOf (x /ᶠ max)
 
@@ -29,11 +29,11 @@ fromRadiansOf x = angleOf (x *ᶠ half-turn /ᶠ pi)
 abbrev pub radiansOf : Angle → Float
 radiansOf a = a .degrees *ᶠ pi /ᶠ half-turn
 
--- from 0 to 360 degrees
+-- the angle from 0 to 360 degrees
 abbrev pub unwoundOf : Angle → Angle
 unwoundOf a = angleOf (normalizedToScaleOf (a .degrees) full-turn)
 
--- from -180 to 180 degrees
+-- the angle from -180 to 180 degrees
 unfoldable pub quadrantShiftedOf : Angle → Angle
 quadrantShiftedOf a =
     let x = a .degrees in
@@ -48,7 +48,7 @@ minusOf a b = angleOf (a .degrees -ᶠ b .degrees)
 abbrev pub productOf : Angle → Angle → Angle
 productOf a b = angleOf (a .degrees *ᶠ b .degrees)
 
--- divided by 0: an infinity or NaN, as f64 has it
+-- a division by 0 gives an infinity or NaN, as f64 does
 abbrev pub overOf : Angle → Angle → Angle
 overOf a b = angleOf (a .degrees /ᶠ b .degrees)
 

@@ -1,5 +1,5 @@
-// unit.rs: angles in degrees and places on the earth. The operators on Angle are functions of the type; dates and
-// times (Stride) are the crates calendar's, julian's and rounding's.
+// unit.rs: angles in degrees and places on the earth. The operators on Angle are functions of the type.
+// Dates and times (Stride) are in the crates calendar, julian and rounding.
 ghost use mathlib.Core.Path.{_≡_};
 ghost use Rattle.unit.specs.Unit.{normalizedToScaleOf, angleOf, fromRadiansOf, radiansOf, unwoundOf, quadrantShiftedOf, plusOf};
 ghost use Rattle.unit.specs.Unit.{minusOf, productOf, overOf, coordinatesOf, latitudeAngleOf, longitudeAngleOf};
@@ -8,7 +8,7 @@ use float64::whole::round;
 
 const PI: f64 = 3.14159265358979323846;
 
-// value less the whole multiples of max below it.
+// value less the largest whole multiple of max that is not above it.
 pub fn normalized_to_scale(value: f64, max: f64) -> f64
     ensures { λ r. ⌜ r ≡ normalizedToScaleOf value max ⌝ }
 {
@@ -40,7 +40,7 @@ impl Angle {
         (self.degrees * PI) / 180.0
     }
 
-    // From 0 to 360 degrees. Below 359 there is no turn to take off, so nothing is divided.
+    // The angle from 0 to 360 degrees. An angle above 0 and below 359 is returned as it is, which saves a division.
     pub fn unwound(self) -> Angle
         ensures { λ r. ⌜ r ≡ unwoundOf self ⌝ }
     {
@@ -55,7 +55,7 @@ impl Angle {
         }
     }
 
-    // From -180 to 180 degrees.
+    // The angle from -180 to 180 degrees.
     pub fn quadrant_shifted(self) -> Angle
         ensures { λ r. ⌜ r ≡ quadrantShiftedOf self ⌝ }
     {
@@ -93,7 +93,7 @@ impl Angle {
         }
     }
 
-    // The crate panics at a zero here. Nothing in it divides by anything but 360 and -360.
+    // The source's operator panics if rhs is zero. The source divides only by 360 and -360.
     pub fn div(self, rhs: Angle) -> Angle
         ensures { λ r. ⌜ r ≡ overOf self rhs ⌝ }
     {

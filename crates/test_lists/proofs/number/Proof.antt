@@ -1,4 +1,4 @@
--- Invariant: `v` is the number of the first k digits, and is below 16 ^ k, so that nothing wraps.
+-- Invariant: `v` is the number of the first k digits and is below 16 ^ k, so nothing wraps.
 use Rattle.prelude.proofs.Logic.{_≡_, sym, _-_, _^_, _≤_, _<_, arith, needs}
 use Rattle.test_lists.specs.Listed.{numberOf}
 use Rattle.test_lists.proofs.Digits.{number-on, digit-small, room, fits}

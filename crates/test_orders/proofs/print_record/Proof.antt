@@ -1,4 +1,4 @@
--- The loops stay within their lists.
+-- Invariant: the index stays within the list.
 use Rattle.prelude.proofs.Logic.{_≤_, _-_, arith, needs}
 use Rattle.test_orders.proofs.print_record as this
 

@@ -1,4 +1,4 @@
--- Before 1970 the remainder is below zero, and the distance from it to a day is the second of the day.
+-- Before 1970 the remainder counts back from the day's last second, so it is subtracted from 86,399.
 use Rattle.prelude.proofs.Logic.{arith, needs, w64}
 use Rattle.integers.proofs.Integers.{read}
 use Rattle.calendar.proofs.Remainders as remainders

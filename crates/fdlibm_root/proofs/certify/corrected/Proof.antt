@@ -1,4 +1,4 @@
--- If the tests pass, the residue is one, and its size tells that s or a neighbour is the nearest.
+-- If the tests pass, the residue is exact, and its size tells whether s or a neighbour is the nearest.
 use Rattle.prelude.proofs.Logic.{arith, needs, leb-true}
 use Rattle.fdlibm_root.proofs.Certificate.{up-fits, down-fits, chosen}
 use Rattle.fdlibm_root.proofs.certify.corrected as this

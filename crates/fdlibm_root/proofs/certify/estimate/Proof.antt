@@ -1,4 +1,4 @@
--- No pattern here is a NaN's, and what is no NaN has a pattern.
+-- No pattern here is a NaN's. The float whose pattern is read passed the test `r == r`, so it is no NaN.
 use Rattle.prelude.proofs.Logic.{arith, needs}
 use Rattle.fdlibm_root.proofs.NoNan.{no-nan-bits, self-equal}
 use Rattle.fdlibm_root.proofs.certify.estimate as this

@@ -1,4 +1,4 @@
--- Every product fits, and the difference is the one that the comment derives.
+-- Every product fits, and the difference is the one that the comment of `residue` derives.
 use Rattle.prelude.proofs.Logic.{arith, needs}
 use Rattle.fdlibm_root.proofs.Certificate.{halves, residue-is}
 use Rattle.fdlibm_root.proofs.certify.residue as this

@@ -1,4 +1,4 @@
--- The loop keeps `Kept`, which at its 54th turn is that q is the root.
+-- The loop keeps `Kept`. After the 54th turn it says that q is the root.
 use Rattle.prelude.proofs.Logic.{refl, ⊎-elim, _-_, arith, lit<, lit≤, needs}
 use Rattle.fdlibm_root.proofs.Squares.{Kept, next-one, next-none, last}
 use Rattle.fdlibm_root.proofs.digits.root as this

@@ -1,4 +1,4 @@
--- Either the certificate or the digit loop.
+-- Either the certificate or the digit loop gives the nearest whole number.
 use Rattle.prelude.proofs.Logic.{arith, needs}
 use Rattle.fdlibm_root.proofs.Scaled.{doubled}
 use Rattle.fdlibm_root.proofs.e_sqrt.nearest as this

@@ -1,4 +1,4 @@
--- Each branch's result is the root by the definition's clause for its floats.
+-- Each branch returns the root by the definition's clause for its floats.
 use Rattle.prelude.proofs.Logic.{_∙_, sym, needs}
 use Rattle.prelude.proofs.Ieee.{ofBits, div}
 use Rattle.fdlibm_root.proofs.NoNan.{no-nan, no-nan-bits}

@@ -1,4 +1,4 @@
--- One reduction gives what the sine and the cosine get from their own; -70 to 70 is the test of the size (`Signs`).
+-- One reduction gives what the sine and the cosine get from theirs. From -70 to 70 is the definition's test of the size (`Signs`).
 use Rattle.prelude.proofs.Logic.{sym, subst, _<_, le-leb, lt-leb}
 use Rattle.fdlibm_trig.specs.declared.e_rem_pio2.Reduced.{Reduced}
 use Rattle.fdlibm_trig.specs.Trig.{sinOf, cosOf}

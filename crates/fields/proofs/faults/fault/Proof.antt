@@ -1,4 +1,4 @@
--- `fields::faults::fault` meets its contract: a line for each check, with those before it passed.
+-- A proof for each check, if those before it passed.
 use Rattle.prelude.proofs.Logic.{_≡_, sym, not, cond, _-_, ltb, needs, lt-ltb, le-ltb}
 use Rattle.fields.specs.Fields.{faultIn}
 use Rattle.fields.proofs.faults.fault as this

@@ -1,4 +1,4 @@
--- `fields::numbers::byte` meets its contract: past the end `getD` gives 0.
+-- Past the end `getD` gives 0.
 use Rattle.prelude.proofs.Logic.{sym, arith, List·getD-eq-default, needs}
 use Rattle.fields.proofs.numbers.byte as this
 

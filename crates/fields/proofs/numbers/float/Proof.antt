@@ -1,4 +1,3 @@
--- `fields::numbers::float` meets its contract.
 use Rattle.fields.specs.Numbers.{floatOf}
 use Rattle.prelude.proofs.Logic.{needs}
 use Rattle.fields.proofs.numbers.float as this

@@ -1,4 +1,3 @@
--- `fields::numbers::signed` meets its contract.
 use Rattle.prelude.proofs.Logic.{needs, now}
 use Rattle.fields.proofs.Joining.{less-fits, signed-low, signed-high}
 use Rattle.fields.proofs.numbers.signed as this

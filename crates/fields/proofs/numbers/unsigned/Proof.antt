@@ -1,4 +1,4 @@
--- `fields::numbers::unsigned` meets its contract: past the end both bytes are 0.
+-- Past the end both bytes are 0.
 use Rattle.prelude.proofs.Logic.{_≡_, _+_, arith, getD, List·getD-eq-default, needs}
 use Rattle.fields.specs.Numbers.{unsignedOf}
 use Rattle.fields.proofs.numbers.unsigned as this

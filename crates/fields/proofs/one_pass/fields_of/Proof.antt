@@ -1,4 +1,4 @@
--- `fields::one_pass::fields_of` meets its contract: the pass asks that the order is no longer than 1,024 bytes.
+-- The pass needs an order of at most 1,024 bytes.
 use Rattle.prelude.proofs.Logic.{_∙_, needs}
 use Rattle.fields.proofs.Collecting.{checked-not, too-long}
 use Rattle.fields.proofs.one_pass.fields_of as this

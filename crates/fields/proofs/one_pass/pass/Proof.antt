@@ -1,5 +1,5 @@
--- `fields::one_pass::pass` meets its contract. The invariant: with what was collected, which says the tags seen, both passes of the
--- definition answer from here on what they answer from the start.
+-- Invariant: with what was collected, which tells the tags seen, both passes of the definition give from here on what they give from the
+-- start.
 use Rattle.prelude.proofs.Logic.{_≡_, sym, ap, _∙_, ℕ, _-_, arith, length, needs, now}
 use Rattle.refusals.specs.Refusals.{refusal}
 use Rattle.fields.specs.Fields.{lengthAt, longestOrder, faultOf}
@@ -14,7 +14,7 @@ Inv-loop order starts₀ lengths₀ at₀ starts lengths at = Collecting order a
 abbrev μ-loop : this.Tie.MeasureT-loop
 μ-loop order starts₀ lengths₀ at₀ starts lengths at = length order - at
 
--- the field's offset, and before it the loop's start and the function's
+-- the state at the field's offset, and before it that of the loop's start and of the function's
 abbrev in-loop : this.Tie.After-fault Inv-loop μ-loop → this.Tie.In-loop Inv-loop μ-loop
 in-loop f = f .before .before .before .before .before
 
@@ -26,7 +26,7 @@ size-here : (f : this.Tie.After-fault Inv-loop μ-loop)
 unfolding lengthAt
 size-here f = f .before .before .before .unsigned .ensures .0
 
--- what refuses the field is what the definition says
+-- the refusal of the field is the definition's
 fault-holds : (f : this.Tie.After-fault Inv-loop μ-loop) → let l = in-loop f .before .loop in
     f .fault .result ≡ faultOf (now (start f .args .order)) (seenIn (l .starts)) (l .at)
 fault-holds f =

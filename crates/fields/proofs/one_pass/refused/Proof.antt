@@ -1,4 +1,3 @@
--- `fields::one_pass::refused` meets its contract.
 use Rattle.prelude.proofs.Logic.{needs}
 use Rattle.fields.proofs.one_pass.refused as this
 

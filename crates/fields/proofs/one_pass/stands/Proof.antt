@@ -1,4 +1,4 @@
--- `fields::one_pass::stands` meets its contract: past the end `getD` gives 0.
+-- Past the end `getD` gives 0.
 use Rattle.prelude.proofs.Logic.{_≡_, getD, List·getD-eq-default, needs, now}
 use Rattle.fields.proofs.one_pass.stands as this
 

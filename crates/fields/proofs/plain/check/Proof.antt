@@ -1,4 +1,4 @@
--- `fields::plain::check` meets its contract: the walk asks that the order is no longer than 1,024 bytes.
+-- The walk needs an order of at most 1,024 bytes.
 use Rattle.prelude.proofs.Logic.{sym, needs, lt-ltb, le-ltb}
 use Rattle.fields.specs.Fields.{checkOf}
 use Rattle.fields.proofs.plain.check as this

@@ -1,5 +1,4 @@
--- `fields::plain::collect` meets its contract. The invariant: with what was collected, the definition collects from here on what it
--- collects from the start.
+-- Invariant: with what was collected, the definition collects from here on what it collects from the start.
 use Rattle.prelude.proofs.Logic.{_≡_, sym, ap, _∙_, _-_, arith, length, needs, now}
 use Rattle.refusals.specs.declared.Refusal.{Refusal}
 use Rattle.fields.specs.Fields.{faultOf}

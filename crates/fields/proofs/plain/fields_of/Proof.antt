@@ -1,4 +1,3 @@
--- `fields::plain::fields_of` meets its contract.
 use Rattle.prelude.proofs.Logic.{sym, eq-eqb, ne-eqb}
 use Rattle.fields.specs.Values.{checkedOf}
 use Rattle.fields.proofs.plain.fields_of as this

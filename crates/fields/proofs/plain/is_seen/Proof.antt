@@ -1,4 +1,4 @@
--- `fields::plain::is_seen` meets its contract: past the end `getD` gives false.
+-- Past the end `getD` gives false.
 use Rattle.prelude.proofs.Logic.{_≡_, sym, false, getD, List·getD-eq-default, needs, now}
 use Rattle.fields.proofs.plain.is_seen as this
 

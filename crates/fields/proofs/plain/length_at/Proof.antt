@@ -1,4 +1,3 @@
--- `fields::plain::length_at` meets its contract.
 use Rattle.fields.specs.Fields.{lengthAt}
 use Rattle.prelude.proofs.Logic.{needs}
 use Rattle.fields.proofs.plain.length_at as this

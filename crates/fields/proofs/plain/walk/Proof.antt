@@ -1,5 +1,4 @@
--- `fields::plain::walk` meets its contract. The invariant: with the tags seen, the definition gives from here on what it gives from the
--- start.
+-- Invariant: with the tags seen, the definition gives from here on what it gives from the start.
 use Rattle.prelude.proofs.Logic.{_≡_, sym, ap, _∙_, ℕ, _-_, arith, length, needs, now}
 use Rattle.refusals.specs.Refusals.{refusal}
 use Rattle.fields.specs.Fields.{faultOf}
@@ -13,14 +12,14 @@ Inv-loop order seen₀ at₀ seen at = Checking order at seen
 abbrev μ-loop : this.Tie.MeasureT-loop
 μ-loop order seen₀ at₀ seen at = length order - at
 
--- the field's offset, and before it the loop's start and the function's
+-- the state at the field's offset, and before it that of the loop's start and of the function's
 abbrev in-loop : this.Tie.After-fault Inv-loop μ-loop → this.Tie.In-loop Inv-loop μ-loop
 in-loop f = f .before .before .before .before .before
 
 abbrev start : this.Tie.After-fault Inv-loop μ-loop → this.Tie.Start Inv-loop μ-loop
 start f = in-loop f .before .before .before
 
--- what refuses the field is what the definition says
+-- the refusal of the field is the definition's
 fault-holds : (f : this.Tie.After-fault Inv-loop μ-loop) → let l = in-loop f .before .loop in
     f .fault .result ≡ faultOf (now (start f .args .order)) (l .seen) (l .at)
 fault-holds f =

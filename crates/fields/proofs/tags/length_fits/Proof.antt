@@ -1,4 +1,4 @@
--- `fields::tags::length_fits` meets its contract: the code's table is the definition's, and each of its numbers fits a byte.
+-- The code's table is the definition's, and each of its numbers fits a byte.
 use Rattle.prelude.proofs.Logic.{arith, needs, le-leb, lt-leb}
 use Rattle.fields.specs.Tags.{lengthFits}
 use Rattle.fields.proofs.FieldsLaws.{column-small}

@@ -1,4 +1,4 @@
--- `fields::values::bytes` meets its contract: each slice that it may hand out is the part.
+-- Each slice that it may return is the part.
 use Rattle.prelude.proofs.Logic.{needs, now}
 use Rattle.fields.proofs.Parts.{part-none, part-rest, part-whole}
 use Rattle.fields.proofs.values.bytes as this

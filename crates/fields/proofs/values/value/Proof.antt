@@ -1,4 +1,3 @@
--- `fields::values::value` meets its contract.
 use Rattle.prelude.proofs.Logic.{ap, _∙_, now}
 use Rattle.fields.specs.Values.{partIn, valuesIn}
 use Rattle.fields.proofs.values.value as this

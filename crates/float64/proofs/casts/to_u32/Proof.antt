@@ -1,4 +1,4 @@
--- Below 2 ^ 32 the whole part is cast by one instruction (`cast-below`); the ends are the definition's.
+-- Below 2 ^ 32 one instruction casts the whole part (`cast-below`). The definition gives the ends of the range.
 use Rattle.prelude.proofs.Logic.{_≡_, refl, true, false, lit≤}
 use Rattle.prelude.proofs.Ieee.{Float, binary64, fits, ofBits, lt, HasValue, passes}
 use Rattle.float64.specs.Whole.{truncOf}
@@ -14,7 +14,7 @@ end-value : HasValue end false 4294967296 1
 unfolding ofBits
 end-value = (refl, refl)
 
--- the whole part, as the cast takes it
+-- the whole part is what the cast needs
 small : (r x : Float) → r ≡ truncOf x → fits binary64 x ≡ true → lt zero64 x ≡ true → lt x end ≡ true → Casts 32 r x
 small r x e f = cast-below 32 4294967296 end end-value (lit≤ tt) (lit≤ tt) r x e (passes (fits binary64 x) f)
 

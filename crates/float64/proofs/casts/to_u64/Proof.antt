@@ -1,4 +1,4 @@
--- Below 2 ^ 52 the whole part is cast by one instruction (`cast-below`), above it by std; the ends are the definition's.
+-- Below 2 ^ 52 one instruction casts the whole part (`cast-below`), above it std does. The definition gives the ends of the range.
 use Rattle.prelude.proofs.Logic.{_≡_, refl, sym, subst, true, false, T, lit≤}
 use Rattle.prelude.proofs.Ieee.{Float, binary64, fits, ofBits, lt, HasValue, passes}
 use Rattle.float64.specs.Whole.{truncOf}
@@ -15,7 +15,7 @@ end-value : HasValue end false 18446744073709551616 1
 unfolding ofBits
 end-value = (refl, refl)
 
--- the whole part, as the cast takes it
+-- the whole part is what the cast needs
 small : (r x : Float) → r ≡ truncOf x → fits binary64 x ≡ true → lt zero64 x ≡ true → lt x whole64 ≡ true → Casts 64 r x
 small r x e f = cast-below 64 W whole64 (whole64-value 1) (lit≤ tt) (lit≤ tt) r x e (passes (fits binary64 x) f)
 

@@ -1,4 +1,4 @@
--- A day far outside the calendar is no start whatever the shift is; for the others the difference fits, and the date decides.
+-- A day far outside the calendar is no start, whatever the shift. For any other day the difference fits, and the date decides.
 use Rattle.prelude.proofs.Logic.{_≡_, sym, ap, _∙_, _-ℤ_, eq-eqb, ne-eqb}
 use Rattle.integers.proofs.Integers.{wide}
 use Rattle.hijri.specs.Days.{ofDayOf}
@@ -26,7 +26,7 @@ returns-4 c =
     let e : q .of-day .result ≡ ofDayOf (s .args .day -ℤ s .args .shift) = q .of-day .ensures ∙ ap ofDayOf r in
     simp (sym e, ne-eqb _ _ (c .if3 .left))
 
--- the difference's need goes in by its place, so that a sum there is refused by what it says and not by its name
+-- the need of the difference is given by its position, not by its name: an edit that adds the shift is then refused by what it says
 pub is-ramadan-start-spec : {M : Type 1} → this.Statement.statement M
 is-ramadan-start-spec =
     let returns : this.Tie.Need-returns = λ c. let s = c .before in

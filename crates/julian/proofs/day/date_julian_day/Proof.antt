@@ -1,4 +1,4 @@
--- The parts of the date are held at the ends of an i32, in the code as in the definition.
+-- The parts of the date saturate at the largest i32, in the code as in the definition.
 use Rattle.prelude.proofs.Logic.{needs, w32, SFits}
 use Rattle.float64.proofs.Floats.{round, ofBits, dec}
 use Rattle.integers.proofs.Integers.{read}

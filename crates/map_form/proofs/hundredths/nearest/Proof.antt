@@ -1,4 +1,4 @@
--- `map_form::hundredths::nearest` meets its contract: laws of the bit pattern, for what is under the smallest count and for the rest.
+-- A law for a float so small that its count is 0, and one for the rest.
 use Rattle.prelude.proofs.Logic.{_-_, _/_, _%_, _^_, div-le-self, arith, lit≤, needs}
 use Rattle.float64.proofs.Floats.{binary64, toBits}
 use Rattle.map_form.proofs.Fields.{none, some, highest-field}

@@ -1,4 +1,4 @@
--- `map_form::reading::degrees_of` meets its contract: a law for each branch.
+-- A law for each branch.
 use Rattle.prelude.proofs.Logic.{_^_, arith, le→leb, needs}
 use Rattle.float64.proofs.Floats.{inFloat}
 use Rattle.map_form.specs.Hundredths.{sizeOf}

@@ -1,4 +1,3 @@
--- `map_form::reading::fits` meets its contract.
 use Rattle.map_form.specs.Hundredths.{formFits}
 use Rattle.prelude.proofs.Logic.{needs}
 use Rattle.map_form.proofs.reading.fits as this

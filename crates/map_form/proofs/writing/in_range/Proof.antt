@@ -1,4 +1,4 @@
--- `map_form::writing::in_range` meets its contract: one comparison of sizes.
+-- One comparison of sizes.
 use Rattle.prelude.proofs.Logic.{_^_, arith, le→leb, needs}
 use Rattle.float64.proofs.Floats.{inFloat}
 use Rattle.map_form.proofs.Range.{at-most, whole-value}

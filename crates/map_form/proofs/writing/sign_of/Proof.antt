@@ -1,4 +1,4 @@
--- `map_form::writing::sign_of` meets its contract: a law for a zero and one for all else.
+-- A law for a zero and one for any other count.
 use Rattle.prelude.proofs.Logic.{sym, ap, _∙_, Bool, cond, needs}
 use Rattle.float64.proofs.Floats.{isNegativeOf}
 use Rattle.map_form.proofs.Signs.{naught, some}

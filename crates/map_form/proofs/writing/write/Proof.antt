@@ -1,4 +1,4 @@
--- `map_form::writing::write` meets its contract: in range and out of it.
+-- Two cases: in range and out of range.
 use Rattle.prelude.proofs.Logic.{sym, _∙_, needs}
 use Rattle.map_form.proofs.Range.{wider}
 use Rattle.map_form.proofs.Signs.{inside, outside}

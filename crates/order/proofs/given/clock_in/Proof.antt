@@ -1,4 +1,3 @@
--- `order::given::clock_in` meets its contract.
 use Rattle.prelude.proofs.Logic.{sym, needs, w32, SFits, toZ-ofZ}
 use Rattle.fields.specs.Values.{valuesIn}
 use Rattle.order.specs.Given.{clockIn}

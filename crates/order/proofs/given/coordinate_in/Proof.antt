@@ -1,4 +1,4 @@
--- `order::given::coordinate_in` meets its contract: one form or the other.
+-- Two cases: one form or the other.
 use Rattle.prelude.proofs.Logic.{sym}
 use Rattle.fields.specs.Values.{valuesIn}
 use Rattle.order.specs.Given.{coordinateIn}

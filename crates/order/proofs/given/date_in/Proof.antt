@@ -1,4 +1,3 @@
--- `order::given::date_in` meets its contract.
 use Rattle.order.specs.Given.{dateIn}
 use Rattle.order.proofs.given.date_in as this
 

@@ -1,4 +1,3 @@
--- `order::given::degrees_in` meets its contract.
 use Rattle.float64.proofs.Floats.{round, ofBits, dec}
 use Rattle.prelude.proofs.Logic.{sym}
 use Rattle.order.specs.Given.{degreesIn}

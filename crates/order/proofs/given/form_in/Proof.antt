@@ -1,4 +1,4 @@
--- `order::given::form_in` meets its contract: five bytes.
+-- The form is read from five bytes.
 use Rattle.order.specs.Given.{formIn}
 use Rattle.order.proofs.given.form_in as this
 

@@ -1,4 +1,4 @@
--- `order::given::interval_or` meets its contract: two bytes are no less as an i32.
+-- A number of two bytes is the same number as an i32.
 use Rattle.prelude.proofs.Logic.{_≡_, sym, _∙_, ℕ, _<_, arith, pos, needs, w32, SFits, toZ, toZ-ofZ, toZ-pos}
 use Rattle.fields.specs.Values.{valuesIn}
 use Rattle.order.specs.Given.{intervalOr}

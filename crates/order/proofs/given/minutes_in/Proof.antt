@@ -1,4 +1,3 @@
--- `order::given::minutes_in` meets its contract.
 use Rattle.prelude.proofs.Logic.{sym, needs, w32, SFits, toZ-ofZ}
 use Rattle.order.specs.Given.{minutesIn}
 use Rattle.order.proofs.given.minutes_in as this

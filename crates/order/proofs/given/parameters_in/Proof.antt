@@ -1,4 +1,4 @@
--- `order::given::parameters_in` meets its contract: each field by its call.
+-- Each field of the parameters is the result of its call.
 use Rattle.prelude.proofs.Logic.{sym, ap, _∙_, needs, w32, SFits, toZ-ofZ, now}
 use Rattle.fields.specs.Values.{valuesIn}
 use Rattle.order.specs.Given.{intervalOr, parametersIn}

@@ -1,4 +1,4 @@
--- `order::given::ramadan_in` meets its contract: a stored shift is a byte, so that it fits less 1.
+-- The stored shift is a byte, so the shift, which is one less, fits an i32.
 use Rattle.prelude.proofs.Logic.{_≡_, sym, ℕ, _<_, arith, pos, _-ℤ_, needs, w32, SFits, toZ}
 use Rattle.fields.specs.Values.{valuesIn}
 use Rattle.integers.proofs.Integers.{fits, readBack, read, difference}

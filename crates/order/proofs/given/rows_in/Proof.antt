@@ -1,4 +1,3 @@
--- `order::given::rows_in` meets its contract.
 use Rattle.prelude.proofs.Logic.{eq-eqb, ne-eqb}
 use Rattle.order.specs.Given.{rowsIn}
 use Rattle.order.proofs.given.rows_in as this

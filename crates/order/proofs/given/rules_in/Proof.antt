@@ -1,4 +1,3 @@
--- `order::given::rules_in` meets its contract.
 use Rattle.order.specs.Given.{rulesIn}
 use Rattle.order.proofs.given.rules_in as this
 

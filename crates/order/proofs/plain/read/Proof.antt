@@ -1,4 +1,4 @@
--- `order::plain::read` meets its contract: the form of the fields first, then what they give.
+-- The form of the fields first, then what they give.
 use Rattle.prelude.proofs.Logic.{_∙_, now}
 use Rattle.order.proofs.Answers.{by-fields, by-values}
 use Rattle.order.proofs.plain.read as this

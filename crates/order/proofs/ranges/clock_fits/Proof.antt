@@ -1,4 +1,4 @@
--- `order::ranges::clock_fits` meets its contract: a signed number is compared as it is read back from its bits.
+-- A signed number is compared as it is read back from its bits.
 use Rattle.prelude.proofs.Logic.{needs, w32, SFits, toZ-ofZ}
 use Rattle.order.specs.Ranges.{clockFits}
 use Rattle.order.proofs.ranges.clock_fits as this

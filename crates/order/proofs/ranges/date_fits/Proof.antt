@@ -1,4 +1,3 @@
--- `order::ranges::date_fits` meets its contract.
 use Rattle.order.proofs.ranges.date_fits as this
 
 pub date-fits-spec : {M : Type 1} → this.Statement.statement M

@@ -1,4 +1,3 @@
--- `order::ranges::degrees_fit` meets its contract.
 use Rattle.order.proofs.ranges.degrees_fit as this
 
 pub degrees-fit-spec : {M : Type 1} → this.Statement.statement M

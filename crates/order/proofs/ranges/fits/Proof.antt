@@ -1,4 +1,4 @@
--- `order::ranges::fits` meets its contract: a line for each row of the table.
+-- A proof for each row of the table.
 use Rattle.prelude.proofs.Logic.{ne-eqb}
 use Rattle.float64.proofs.Floats.{neg, ofBits, round, dec}
 use Rattle.order.specs.Ranges.{lookUp}

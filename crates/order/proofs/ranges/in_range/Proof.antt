@@ -1,4 +1,3 @@
--- `order::ranges::in_range` meets its contract.
 use Rattle.prelude.proofs.Logic.{lt-ltb, le-ltb}
 use Rattle.order.proofs.ranges.in_range as this
 

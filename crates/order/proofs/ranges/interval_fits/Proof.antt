@@ -1,4 +1,4 @@
--- `order::ranges::interval_fits` meets its contract: no number is below 0.
+-- An unsigned number is not below 0, so one comparison is enough.
 use Rattle.prelude.proofs.Logic.{sym, zero-le, le-leb}
 use Rattle.order.specs.Ranges.{intervalFits}
 use Rattle.order.proofs.ranges.interval_fits as this

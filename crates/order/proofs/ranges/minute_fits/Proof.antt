@@ -1,4 +1,4 @@
--- `order::ranges::minute_fits` meets its contract: a signed number is compared as it is read back from its bits.
+-- A signed number is compared as it is read back from its bits.
 use Rattle.prelude.proofs.Logic.{needs, toZ-ofZ}
 use Rattle.order.specs.Ranges.{minuteFits}
 use Rattle.order.proofs.ranges.minute_fits as this

@@ -1,9 +1,8 @@
--- `order::ranges::minutes_fit` meets its contract.
 use Rattle.prelude.proofs.Logic.{_≡_, ap, _∙_, Bool, ℤ, needs, w32, SFits, toZ, ofZ, toZ-ofZ}
 use Rattle.order.specs.Ranges.{minuteFits, minutesFit}
 use Rattle.order.proofs.ranges.minutes_fit as this
 
--- a minute is handed on as it is read back from its bits
+-- a minute is passed on as it is read back from its bits
 told : (m : ℤ) (r : Bool) → SFits w32 m → r ≡ minuteFits (toZ w32 (ofZ w32 m)) → r ≡ minuteFits m
 told m r f e = e ∙ ap minuteFits (toZ-ofZ f)
 

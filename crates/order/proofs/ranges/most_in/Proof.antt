@@ -1,4 +1,3 @@
--- `order::ranges::most_in` meets its contract.
 use Rattle.prelude.proofs.Logic.{eq-eqb, ne-eqb}
 use Rattle.order.proofs.ranges.most_in as this
 

@@ -1,4 +1,3 @@
--- `order::ranges::ramadan_rows` meets its contract.
 use Rattle.order.specs.Ranges.{ramadanRows}
 use Rattle.order.proofs.ranges.ramadan_rows as this
 

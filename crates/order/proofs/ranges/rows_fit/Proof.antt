@@ -1,4 +1,4 @@
--- `order::ranges::rows_fit` meets its contract: a line for each test, with those before it passed.
+-- A proof for each test, if those before it passed.
 use Rattle.prelude.proofs.Logic.{sym, needs, le-leb, lt-leb, now}
 use Rattle.order.specs.Ranges.{rowsFit}
 use Rattle.order.proofs.RowDates.{rows-early}

@@ -1,4 +1,4 @@
--- `order::ranges::text_fits` meets its contract. The invariant: what is left of the text decides as the whole does.
+-- Invariant: the rest of the text is printable if and only if the whole text is.
 use Rattle.prelude.proofs.Logic.{_≡_, sym, _∙_, _≤_, _-_, length, drop, needs, now}
 use Rattle.text.specs.Text.{printable}
 use Rattle.order.proofs.Text.{byte-low, byte-high, byte-on, text-end}

@@ -1,4 +1,4 @@
--- `order::reading::answer` meets its contract: the four checks in a chain are one check, which refuses or does not.
+-- The four checks in a chain are one check, which refuses or does not.
 use Rattle.prelude.proofs.Logic.{sym, _∙_}
 use Rattle.fields.specs.Values.{valuesIn}
 use Rattle.order.proofs.Answers.{first-or, refused-alone, read-alone}

@@ -1,4 +1,4 @@
--- `order::reading::both_forms` meets its contract: the latitude first.
+-- The latitude is checked first.
 use Rattle.prelude.proofs.Logic.{sym}
 use Rattle.order.specs.Reading.{bothFormsOf}
 use Rattle.order.proofs.reading.both_forms as this

@@ -1,4 +1,4 @@
--- `order::reading::is_given` meets its contract: a line for each coordinate, and one for every other tag.
+-- A proof for each coordinate, and one for all other tags.
 use Rattle.prelude.proofs.Logic.{ne-eqb}
 use Rattle.order.specs.Ranges.{lookUp}
 use Rattle.order.specs.Reading.{isGivenOf}

@@ -1,4 +1,4 @@
--- `order::reading::missing` meets its contract. The invariant: the first that fails from here on is the first of all.
+-- Invariant: the first tag that fails from here on is the first of all that fails.
 use Rattle.prelude.proofs.Logic.{_≡_, refl, sym, _∙_, _-_, _≤_, arith, drop, needs, not-true, not-false}
 use Rattle.fields.specs.Values.{hasIn}
 use Rattle.order.specs.Reading.{firstFailing, required, isGivenOf, missingOf}

@@ -1,4 +1,4 @@
--- `order::reading::out_of_range` meets its contract. The invariant: the first that fails from here on is the first of all.
+-- Invariant: the first tag that fails from here on is the first of all that fails.
 use Rattle.prelude.proofs.Logic.{_≡_, refl, sym, _∙_, Bool, true, cond, List, ℕ, _-_, _≤_, arith, ltb, length, drop, getD, needs, not-true}
 use Rattle.prelude.proofs.Logic.{not-false, now}
 use Rattle.calendar.specs.declared.dates.Date.{Date}
@@ -11,11 +11,11 @@ use Rattle.order.specs.Reading.{firstFailing, tagsFrom, outOfRangeOf}
 use Rattle.order.proofs.Tags.{fails, on, none, tags-from, tags-length}
 use Rattle.order.proofs.reading.out_of_range as this
 
--- as many as there are
+-- the list has every tag
 all : length (tagsFrom lastTag 1) ≡ lastTag
 all = tags-length lastTag 1
 
--- whether a tag passes, by what the code holds in the loop
+-- whether a tag passes, from the values that the loop uses
 abbrev passes : List ℕ → List ℕ → List ℕ → Date → Bool → ℕ → Bool
 passes s starts lengths date ramadan tag =
     cond (ltb 0 (getD starts tag 0))
@@ -35,7 +35,7 @@ Inv-loop order starts lengths date ramadan passed₀ passed =
 abbrev μ-loop : this.Tie.MeasureT-loop
 μ-loop order starts lengths date ramadan passed₀ passed = lastTag - passed
 
--- whether a tag passes, and what the first that does not means, at the loop
+-- at the loop: whether a tag passes, and what the first tag that does not pass gives
 passing : (c : this.Tie.At-loop Inv-loop μ-loop) → ℕ → Bool
 passing c =
     let a = c .before .before .before .before .before .before .before .args in

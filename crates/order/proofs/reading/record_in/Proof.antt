@@ -1,4 +1,4 @@
--- `order::reading::record_in` meets its contract: each field by its call.
+-- Each field of the record is the result of its call.
 use Rattle.prelude.proofs.Logic.{sym, _∙_, needs, w32, SFits, toZ-ofZ, now}
 use Rattle.fields.proofs.Collecting.{part-for}
 use Rattle.order.specs.Reading.{orderOf}

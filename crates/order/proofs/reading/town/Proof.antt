@@ -1,4 +1,4 @@
--- `order::reading::town` meets its contract: a match on what was read.
+-- Two cases: a record was read, or a refusal.
 use Rattle.prelude.proofs.Logic.{refl, needs}
 use Rattle.order.specs.Reading.{townIn}
 use Rattle.order.proofs.reading.town as this

@@ -1,4 +1,4 @@
--- `order::reading::wrong_start` meets its contract: the day's number and the shift are handed on as they are read back from their bits.
+-- The day's number and the shift are passed on as they are read back from their bits.
 use Rattle.prelude.proofs.Logic.{_≡_, sym, ap, _∙_, ℤ, needs, w32, w64, SFits, toZ-ofZ}
 use Rattle.calendar.specs.Days.{dayNumberOf}
 use Rattle.hijri.specs.Ramadan.{ramadanStartOf}

@@ -1,4 +1,4 @@
--- Six times two bytes, from Fajr to Isha.
+-- The six minutes, two bytes each, from Fajr to Isha.
 use Rattle.prelude.proofs.Logic.{needs, w32, SFits}
 use Rattle.order_numbers.specs.Bytes.{twoBytes}
 use Rattle.order_numbers.specs.Values.{minutesBytes}

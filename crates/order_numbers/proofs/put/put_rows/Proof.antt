@@ -1,4 +1,4 @@
--- One byte up to 250, and two from there on.
+-- One byte for up to 250 rows, and two bytes for more.
 use Rattle.prelude.proofs.Logic.{needs, ap, _∙_, List, ℕ, _+_, _++_, arith, length, take, le-leb, lt-leb, now}
 use Rattle.order_numbers.specs.Bytes.{upTo, fieldBytes}
 use Rattle.order_numbers.specs.Values.{rowsBytes}

@@ -1,4 +1,4 @@
--- A town of up to 41 bytes is put as it is, a longer one as far as it is taken.
+-- A town of up to 41 bytes is put as it is. Only the first 41 bytes of a longer one are put.
 use Rattle.prelude.proofs.Logic.{needs, sym, ap, _∙_, arith, lit≤, take-all, length-take, now}
 use Rattle.order_numbers.specs.Bytes.{fieldBytes}
 use Rattle.order_numbers.proofs.put.put_town as this

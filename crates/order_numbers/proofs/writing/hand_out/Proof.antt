@@ -1,4 +1,4 @@
--- What reading returned decides, then the buffer's room.
+-- The result of reading decides first, then the buffer's room.
 use Rattle.prelude.proofs.Logic.{needs, refl, sym, ap, _∙_, [], arith, length, le-leb, lt-leb, now}
 use Rattle.text.proofs.TextLaws.{put-front}
 use Rattle.order_numbers.specs.Writing.{refusedOf, callIn}

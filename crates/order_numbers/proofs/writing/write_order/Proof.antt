@@ -1,4 +1,4 @@
--- The line holds the order's bytes, and they are what is handed out.
+-- The line has the order's bytes, and `hand_out` writes them to the buffer.
 use Rattle.prelude.proofs.Logic.{needs, sym, ap, _∙_, List, ℕ, arith, length-take, length-take-le, now}
 use Rattle.order.specs.Reading.{readingOf}
 use Rattle.order_numbers.specs.Writing.{callIn}

@@ -1,4 +1,3 @@
--- `refusals::Refusal::or` meets its contract.
 use Rattle.prelude.proofs.Logic.{eq-eqb, ne-eqb}
 use Rattle.refusals.specs.Refusals.{orOf}
 use Rattle.refusals.proofs.Refusal.or as this

@@ -1,4 +1,4 @@
--- Past the two ends nothing stays in range; between them two halves, each held, are the whole sum, held.
+-- Beyond the code's two limits no time stays in range. Between them the two saturated sums of a half make the saturated sum.
 use Rattle.prelude.proofs.Logic.{_≡_, needs, w64}
 use Rattle.integers.proofs.Integers.{readBack}
 use Rattle.rounding.proofs.Minutes as minutes

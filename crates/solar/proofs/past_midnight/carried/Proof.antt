@@ -1,4 +1,4 @@
--- The source's hour if there is one; else the sum is 24, and the time is 0h of the date after.
+-- The time by the source's rule if there is one. Else the sum is 24, and the time is 0h of the date after the one taken.
 use Rattle.prelude.proofs.Logic.{sym, ap, _∙_, needs, w32, SFits, toZ-ofZ}
 use Rattle.solar.specs.declared.setting.SolarHour.{SolarHour}
 use Rattle.solar.proofs.PastMidnightLaws.{carriedFrom, carry-from}

@@ -1,4 +1,4 @@
--- `solar::setting::date_minute` meets its contract: the nearest minute if minutes and seconds lie between 0 and 60.
+-- If minutes and seconds are between 0 and 60, the short way gives the nearest minute (`NearestMinute`).
 use Rattle.prelude.proofs.Logic.{sym, needs}
 use lib.Ieee.{round, ofBits}
 use Rattle.float64.specs.Ops.{dec}

@@ -1,4 +1,4 @@
--- Minute 60 adds an hour; a sum of 24 has no time; every other hour and minute is a second of its day.
+-- Minute 60 adds an hour. A sum of 24 has no time. Every other hour and minute is a second of its day.
 use Rattle.prelude.proofs.Logic.{ap, _∙_, _+_, _*_, _<_, needs, lt-ltb, le-ltb}
 use Rattle.solar.specs.declared.setting.SolarHour.the-variants.{Some}
 use Rattle.solar.proofs.Cases as cases

@@ -1,4 +1,3 @@
--- `solar::setting::minute` meets its contract.
 use Rattle.prelude.proofs.Logic.{needs}
 use lib.Ieee.{round, ofBits}
 use Rattle.float64.specs.Ops.{dec}

@@ -1,4 +1,4 @@
--- Two ends: a minus sign and the digits of the size, or the digits alone.
+-- Two returns: a minus sign and the digits of the size, or the digits alone.
 use Rattle.prelude.proofs.Logic.{arith, needs, w64, now}
 use Rattle.integers.proofs.Ranges.{read}
 use Rattle.text.proofs.SignedLaws.{minus-made, plain-made}

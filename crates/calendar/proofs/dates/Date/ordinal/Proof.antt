@@ -1,4 +1,4 @@
--- Each test of the code is the same test of `ordinalOf`; the sum fits, since a date that exists has few days.
+-- Each test of the code is the same test of `ordinalOf`. The sum fits because the days of a month are few.
 use Rattle.calendar.proofs.MonthTables.{year-short}
 use Rattle.prelude.proofs.Logic.{ap, _∙_, sym, Bool, arith}
 use Rattle.calendar.specs.Gregorian.{leapOf}

@@ -1,4 +1,4 @@
--- The cases of `tomorrowOf` in the code's order: no such date, within a month, the last of a month, of a year, of all years.
+-- The cases of `tomorrowOf` in the code's order: the date does not exist, within a month, the last of a month, of a year, of all years.
 use Rattle.prelude.proofs.Logic.{_≡_, ap, _∙_, Bool, _≤_, arith, needs}
 use Rattle.calendar.specs.Gregorian.{lengthOf, daysInMonthOf}
 use Rattle.calendar.proofs.ByMonth.{before-first, past-last, within, next-month, next-year, last-of-all}

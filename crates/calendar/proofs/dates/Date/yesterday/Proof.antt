@@ -1,4 +1,4 @@
--- The cases of `yesterdayOf` in the code's order: no such date, within a year, January 1st, 0000-01-01.
+-- The cases of `yesterdayOf` in the code's order: the date does not exist, within a year, January 1st, 0000-01-01.
 use Rattle.prelude.proofs.Logic.{sym, ap, _∙_, ℕ, _-_, _≤_, arith, needs}
 use Rattle.calendar.specs.Gregorian.{dayBeforeOf}
 use Rattle.calendar.specs.Days.{ofOrdinalOf}

@@ -1,4 +1,3 @@
--- `fields::values::Fields::has` meets its contract.
 use Rattle.fields.proofs.values.Fields.has as this
 
 pub has-spec : {M : Type 1} → this.Statement.statement M

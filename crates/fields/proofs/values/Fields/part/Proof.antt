@@ -1,4 +1,4 @@
--- `fields::values::Fields::part` meets its contract: past the table's end `getD` gives 0.
+-- Past the table's end `getD` gives 0.
 use Rattle.prelude.proofs.Logic.{_≡_, arith, length, getD, List·getD-eq-default, needs}
 use Rattle.fields.specs.Tags.{tags}
 use Rattle.fields.proofs.values.Fields.part as this
