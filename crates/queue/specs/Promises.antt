@@ -1,5 +1,5 @@
--- What request 10 promises of every history of calls on an empty queue, over the list of jobs and then over what a host keeps and is told. Proved in
--- proofs/: Invariant, Pages, Fairness, Stay, Host.
+-- What request 10 promises of every history of calls on an empty queue: first for the list of jobs, then for what a host keeps and is told.
+-- Proved in proofs/: Invariant, Pages, Fairness, Stay, Host.
 use mathlib.Core.Path.{_≡_}
 use mathlib.Core.List.{List, [], _∷_, _++_}
 use Prim.Native.Nat.{ℕ, _+_, _-_, _<_}
@@ -19,8 +19,8 @@ QueuesAreSound = (h : List Call) → Sound (after [] h)
 abbrev pub PagesAreKept : Type 0
 PagesAreKept = (of : Ids) (h : List Call) → pagesSent of (events [] h) + pagesLeft of (after [] h) ≡ pagesAdmitted of (events [] h)
 
--- "A job with k jobs ahead of it has its page sent at turn k + 1, counted from then, whoever joins meanwhile": h are the calls until then, c any calls
--- that follow with k turns among them
+-- "A job with k jobs ahead of it has its page sent at turn k + 1, counted from then, whoever joins meanwhile": h are the calls until then,
+-- c any calls after them with k turns among them
 abbrev pub TurnsAreFair : Type 0
 TurnsAreFair =
     (h c : List Call) (ahead after-it : List Job) (j : Job) → after [] h ≡ ahead ++ (j ∷ after-it) → turns c ≡ length ahead
@@ -35,7 +35,7 @@ JobsLeaveWhenSent =
     × (waits id (after (s .queue) c) ≡ ltb (pagesSent (onlyId id) (events (s .queue) c)) pages)
 
 -- ---- of a host's own calls
--- the arrays hold the jobs, with zeros behind them, and the answers tell what was done
+-- the arrays have the jobs at their front, then zeros, and the results tell what was done
 abbrev pub HostsHoldTheQueue : Type 0
 HostsHoldTheQueue = (h : List Call) → (heldAfterAll empty h ≡ queueOf (after [] h)) × (toldAll empty h ≡ events [] h)
 

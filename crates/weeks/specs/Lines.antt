@@ -25,6 +25,6 @@ unfoldable pub linesOf : (ℕ → Minute) → ℕ → List ℕ
 linesOf f zero = []
 linesOf f (suc n) = linesOf f n ++ lineOf n (windowOf f n)
 
--- every run of seven successive rows; under seven rows there is none
+-- a line for every run of seven successive rows; under seven rows there is none
 abbrev pub reportOf : (ℕ → Minute) → ℕ → List ℕ
 reportOf f rows = linesOf f (rows - 6)
