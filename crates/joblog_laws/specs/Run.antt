@@ -85,7 +85,7 @@ pub record HostRules : Type 0 where
   pub ready : ℕ → ℕ → Bool
   -- given the log's finished pages and the embosser's count: after which page do the open pages go out again?
   pub resume : ℕ → ℕ → ℕ
-  -- what is left of the embosser's tray once it has reported its count
+  -- what is left of the embosser's tray when it has reported its count
   pub kept : List ℕ → List ℕ
 
 -- an acknowledgement of a page tells that it and all earlier pages are finished; theirs may be lost

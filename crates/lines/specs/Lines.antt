@@ -25,7 +25,7 @@ fourDigits n = digitOf (n / 1000) ∷ digitOf (n / 100) ∷ twoDigits n
 unfoldable pub dateText : Date → List ℕ
 dateText date = fourDigits (date .year) ++ (45 ∷ twoDigits (date .month)) ++ (45 ∷ twoDigits (date .day))
 
--- ---- a time: "signed days from the row's date, T, UTC time (`+0T05:12:00`)", behind a blank
+-- ---- a time: "signed days from the row's date, T, UTC time (`+0T05:12:00`)", after a blank
 abbrev pub daysOf : Date → ℤ → ℤ
 daysOf date time = floorQuot time 86400 -ℤ dayNumberOf date
 
@@ -74,7 +74,7 @@ fullRow = rowBytes 9
 unfoldable pub rowRoom : Ramadan → ℕ
 rowRoom ramadan = rowBytes (cond (ramadan .set) 10 9)
 
--- ---- a refusal's line: what is refused, its number, and its place behind a word
+-- ---- a refusal's line: what is refused, its number, and its place after a word
 unfoldable pub numberText : List ℕ → ℕ → List ℕ
 numberText word n = word ++ decimalOf n
 

@@ -13,7 +13,7 @@ use Rattle.pages.specs.Pages.{Rows, rowsFrom, cellsOf}
 use Rattle.pages.specs.declared.answer.Punched.{Punched}
 use Rattle.pages.proofs.RowsLaws.{rows-length}
 
--- equal calls have the same answer, and leave the same buffer
+-- equal calls return the same, and leave the same buffer
 pub same-answer : {c d : CellsCall} → c ≡ d → c .answer ≡ d .answer
 same-answer e = ap (λ (c : CellsCall). c .answer) e
 

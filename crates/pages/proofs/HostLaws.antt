@@ -1,4 +1,4 @@
--- A host's calls on a page, whatever scratches it lends, give the page. Assumes nothing.
+-- A host's calls on a page give the page, for all scratches that it lends. Assumes nothing.
 use Rattle.prelude.proofs.Logic.{_≡_, refl, sym, ap, _∙_, List, [], _∷_, _++_, ℕ, zero, suc, _+_, _-_, _*_, _/_, _≤_, _<_, min, arith, ltb}
 use Rattle.prelude.proofs.Logic.{length, take, drop, drop-of-length-le, take-all, take-at, drop-drop, ltb-true, ltb-false, cases}
 use Rattle.braille.specs.Braille.{dotsOf}
@@ -18,13 +18,13 @@ use Rattle.pages.proofs.AnswerLaws.{same-answer, rows-some, rows-none, 
 use Rattle.pages.proofs.PageLaws.{page-most, piece-none, piece-written}
 use Rattle.pages.proofs.RowsLaws.{dots-append, cells-append, rows-length, cells-length}
 
--- the first rows, and the rest behind them, are all the rows
+-- the first rows, and the rest after them, are all the rows
 took : (k : ℕ) (rows : Rows) → take k rows ++ drop (length (take k rows)) rows ≡ rows
 took zero rows = refl
 took (suc k) [] = refl
 took (suc k) (row ∷ rows) = ap (λ (l : Rows). row ∷ l) (took k rows)
 
--- the cells of a piece, and of the rows behind it
+-- the cells of a piece, and of the rows after it
 rest : (rows : Rows) (first room : ℕ) → cellsOf (pieceOf rows first room)
     ++ cellsOf (drop (first + length (pieceOf rows first room)) rows) ≡ cellsOf (drop first rows)
 rest rows first room =

@@ -48,7 +48,7 @@ module _ (o : Order) where
   page-most zero = omega arith
   page-most (suc p) = let e = suc-length p in omega arith
 
-  -- a piece of a page: rows of the order, and none behind the page's end
+  -- a piece of a page: rows of the order, and none after the page's end
   piece-rows : (page first room : ℕ) → 1 ≤ page
       → pieceOf (pageOf o page) first room ≡ rowsFrom o (25 * (page - 1) + first) (min room (length (pageOf o page) - first))
   piece-rows page first room h =

@@ -17,7 +17,6 @@ use Rattle.text.specs.Text.{frontOf}
 use Rattle.pages.specs.Pages.{Rows, rowOf, cellsOf, pageOf, pieceOf}
 use Rattle.pages.specs.declared.answer.Punched.{Punched}
 
--- rows that were written, and their dots
 abbrev pub punchedOf : Rows → Punched
 punchedOf rows = record { refusal = noRefusal; rows = length rows; dots = dotsOf (cellsOf rows) }
 
@@ -55,8 +54,9 @@ oneRow row o = cond (ltb row (o .rows)) (rowOf o row ∷ []) []
 abbrev pub cellsCallOf : List ℕ → ℕ → List ℕ → CellsCall
 cellsCallOf s row buffer = askedCallOf (oneRow row) rowLength s buffer
 
--- ---- a page, or a piece of it. Request 9: "The page call now also takes the page's row to begin at, from 0, puts in as many whole rows as have
--- room and are left, and answers how many and their dots. .. Of scratches only one under 39 gets 9; a row that the page lacks gets 5 with place 3."
+-- ---- a page, or a piece of it. Request 9: "The page call now also takes the page's row to begin at, from 0, puts in as many whole rows as
+-- have room and are left, and answers how many and their dots. .. Of scratches only one under 39 gets 9; a row that the page lacks gets 5
+-- with place 3."
 abbrev pub pieceIn : ℕ → ℕ → List ℕ → Order → Rows
 pieceIn page first scratch o = pieceOf (pageOf o page) first (length scratch / rowLength)
 

@@ -23,7 +23,7 @@ rowsFrom o k (suc n) = rowOf o k ∷ rowsFrom o (k + 1) n
 abbrev pub rowsOf : Order → Rows
 rowsOf o = rowsFrom o 0 (o .rows)
 
--- the cells of rows, one row behind another
+-- the cells of rows, one row after another
 unfoldable pub cellsOf : Rows → List ℕ
 cellsOf [] = []
 cellsOf (row ∷ rows) = row ++ cellsOf rows
@@ -43,7 +43,7 @@ pieceOf rows first room = take room (drop first rows)
 abbrev pub pageCount : Order → ℕ
 pageCount o = (o .rows + (pageRows - 1)) / pageRows
 
--- the cells of the first n pages, one page behind another
+-- the cells of the first n pages, one page after another
 unfoldable pub pagesCells : Order → ℕ → List ℕ
 pagesCells o zero = []
 pagesCells o (suc p) = pagesCells o p ++ cellsOf (pageOf o (suc p))

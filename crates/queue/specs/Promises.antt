@@ -15,7 +15,7 @@ use Rattle.queue.specs.Host.{empty, heldAfterAll, toldAll, total}
 abbrev pub QueuesAreSound : Type 0
 QueuesAreSound = (h : List Call) → Sound (after [] h)
 
--- "pages sent plus pages left equal the pages ever admitted, sent and admitted summed from the history of calls": of all jobs (everyId), and of each id
+-- "pages sent plus pages left equal the pages ever admitted, sent and admitted summed from the history of calls", of all jobs and of each
 abbrev pub PagesAreKept : Type 0
 PagesAreKept = (of : Ids) (h : List Call) → pagesSent of (events [] h) + pagesLeft of (after [] h) ≡ pagesAdmitted of (events [] h)
 
@@ -26,7 +26,7 @@ TurnsAreFair =
     (h c : List Call) (ahead after-it : List Job) (j : Job) → after [] h ≡ ahead ++ (j ∷ after-it) → turns c ≡ length ahead
     → turnOf (after (after [] h) c) .event ≡ sent (less j)
 
--- A job leaves when as many of its pages are sent as it was admitted with, and not before: h are the calls until it joins, c any calls during its stay.
+-- A job leaves when all pages that it was admitted with are sent, and not before: h are the calls until it joins, c any during its stay.
 abbrev pub JobsLeaveWhenSent : Type 0
 JobsLeaveWhenSent =
     (h c : List Call) (id pages : ℕ)

@@ -10,7 +10,7 @@ use Rattle.weeks.specs.declared.window.Window.{Window}
 use Rattle.weeks.specs.declared.window.Window.the-variants.{Found, Refused}
 use Rattle.weeks.specs.Windows.{windowOf}
 
--- a minute and its row, each behind a blank
+-- a minute and its row, with a blank before each
 unfoldable pub pairText : ℤ → ℕ → List ℕ
 pairText minute row = ascii " " ++ signedOf minute ++ ascii " " ++ decimalOf row
 

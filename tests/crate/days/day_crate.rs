@@ -1,4 +1,4 @@
-//! What the crate gives: its own `PrayerTimes` from given hour numbers. A panic counts as a refusal, number 0 if document 01 has none for it.
+//! What the crate gives: its own `PrayerTimes` from given hour numbers. A panic counts as a refusal, 0 if document 01 has none for it.
 use crate::day_draw::DayCase;
 use crate::in_force::in_force_of;
 use crate::settings::parameters_of;
