@@ -6,13 +6,13 @@
 
 #define SENTENCE_BYTES 200
 
-/* The text behind a word and its blank, or NULL. */
+/* The text after a word and its blank, or NULL. */
 static const char *behind(const char *line, const char *word) {
   size_t length = strlen(word);
   return strncmp(line, word, length) == 0 && line[length] == ' ' ? line + length + 1 : NULL;
 }
 
-/* Takes a number, 1 to 10 digits up to 4,294,967,295, that ends before `end`. Returns what follows that, or NULL. */
+/* Takes a number of 1 to 10 digits, up to 4,294,967,295, that `end` follows. Returns the text after `end`, or NULL. */
 static const char *take_number(const char *line, char end, uint32_t *number) {
   uint64_t value = 0;
   size_t digits = strspn(line, "0123456789");

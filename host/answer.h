@@ -4,7 +4,7 @@
 
 #include "link.h"
 
-/* Reads a line without its newline; false if it is no answer. */
+/* Reads a line without its newline. Returns false if it is no answer. */
 bool answer_read(const char *line, answer *a);
 
 /* The sentence of a line `says TEXT`, or NULL. */

@@ -9,7 +9,7 @@ typedef struct {
   bool gone; /* its last page was finished meanwhile */
 } stopped;
 
-/* Takes a job in jobs/ out of work. The embosser drops what of it is not finished, and the log says how far it came. */
+/* Takes a job in jobs/ out of work. The embosser drops its unfinished pages, and the log says how far it came. */
 static course stop_job(room *r, uint32_t id, stopped *s) {
   static job read;
   uint32_t count;
@@ -50,7 +50,7 @@ static course stop_and_move(room *r, uint32_t id, const char *to, const char *wh
 
 /* ---- the three words */
 
-/* Whether there is such a job in jobs/. A folder whose order did not come is none, and goes. */
+/* Whether jobs/ has this job. A folder without an order is no job, and is removed. */
 static bool is_in_work(room *r, uint32_t id) {
   static job read;
   text why;
@@ -99,7 +99,7 @@ static course take_ask(room *r, const char *name) {
     size_t length = strlen(words[i].word);
     uint32_t id = strncmp(name, words[i].word, length) == 0 ? id_of(name + length) : 0;
     if (id == 0) continue;
-    if (!is_regular(r->spool, path_of("asks/%s", name).text)) break; /* a folder would be an ask without end */
+    if (!is_regular(r->spool, path_of("asks/%s", name).text)) break; /* a folder would be asked for without end */
     course c = words[i].take(r, id);
     if (c == GOES_ON) remove_lasting(r->spool, "asks", name);
     return c;

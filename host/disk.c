@@ -12,7 +12,7 @@
 
 #include "say.h"
 
-/* The file that is written before it takes its name. It is in the spool itself: what someone puts into a job's folder is not in its way. */
+/* A file is written under this name before it gets its own. It is in the spool itself, so nothing in a job's folder can have its name. */
 #define UNFINISHED ".new"
 
 path path_of(const char *format, ...) {
@@ -86,7 +86,7 @@ bool is_regular(int spool, const char *name) {
   return TEMP_FAILURE_RETRY(fstatat(spool, name, &is, AT_SYMLINK_NOFOLLOW)) == 0 && S_ISREG(is.st_mode);
 }
 
-/* What of an open file there is, up to `size` bytes, in `length`. */
+/* Reads an open file, up to `size` bytes; `length` is how many there are. */
 static int read_open(int file, bool flush, uint8_t *bytes, size_t size, size_t *length) {
   struct stat is;
   if (TEMP_FAILURE_RETRY(fstat(file, &is)) != 0) return errno;

@@ -23,14 +23,14 @@ void hold(room *r, uint32_t id, const char *label, const char *why) {
 
 /* ---- jobs */
 
-/* The queue with what the job has left to send; as it is when that is nothing. */
+/* The queue with the pages that the job has left to send. If it has none, the queue stays as it is. */
 static katchidul_joined join(const room *r, const job *j) {
   uint32_t left = pages_of(&j->order) - job_log(j).sent;
   if (left == 0) return (katchidul_joined){.queue = r->queue};
   return katchidul_join(r->queue, j->id, left);
 }
 
-/* The job's log is restarted with what the embosser has finished, and its open pages go out again without a record. */
+/* Restarts the job's log with the embosser's count. The open pages go out again; their sent records are in the log already. */
 static course restart(room *r, job *j) {
   uint32_t count;
   course c = hear_count(r, j->id, &count);
@@ -46,7 +46,7 @@ static course restart(room *r, job *j) {
   return c;
 }
 
-/* Takes a job into work. One for which there is no place stays in its folder and is tried again. */
+/* Takes a job into work. If the queue has no place for it, it stays in its folder and is tried again. */
 static course begin(room *r, uint32_t id) {
   job j;
   text why;
@@ -77,8 +77,8 @@ static course begin_jobs(room *r) {
 
 /* ---- orders */
 
-/* An id for a new job, or 0 when all are used. Folders may have been cleared, so an id of which the embosser has finished pages is passed
-   over. */
+/* An id for a new job, or 0 if all are used. Folders may have been cleared, so an id is passed over if the embosser has finished pages
+   of it. */
 static course new_id(room *r, uint32_t *id) {
   uint32_t count;
   for (; r->next_id <= KATCHIDUL_ID_MAX; r->next_id++) {
@@ -97,7 +97,8 @@ static void refuse(room *r, const char *name, const char *why) {
   r->refused = true;
 }
 
-/* Reads an order that waits. What cannot be read for a moment waits; what nobody may read, and what the library refuses, is refused. */
+/* Reads an order that waits. If it cannot be read now but may be later, it waits on. If the host may not read it, or the library refuses
+   it, it is refused. */
 static bool read_order(room *r, const char *name, order *o) {
   int why = read_file(r->spool, path_of("in/%s", name).text, true, o->bytes, sizeof o->bytes, &o->length);
   if (o->length > sizeof o->bytes) o->length = sizeof o->bytes;
@@ -134,13 +135,13 @@ static course take(room *r, const char *name) {
     return GOES_ON;
   }
   int why = claim_order(r->spool, name, id);
-  if (why == EEXIST) return take(r, name); /* a job came back under this id, and the next one is tried */
+  if (why == EEXIST) return take(r, name); /* a job came back under this id, so the next id is tried */
   if (why != 0) return GOES_ON;
   say_taken(id, name, &o);
   return begin(r, id);
 }
 
-/* Said once of each order that comes to the front while the queue is full. */
+/* Says once, for each order that comes to the front while the queue is full, that it waits. */
 static void say_waits(room *r, const char *name) {
   if (name == NULL || strcmp(r->told_to_wait.text, name) == 0) return;
   say("%s waits: %u jobs are in the queue.", name, r->queue.jobs);

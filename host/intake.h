@@ -4,13 +4,13 @@
 
 #include "room.h"
 
-/* Takes what the operator asks for, then begins jobs, by their ids, then orders, by their names, as long as the queue has a place. */
+/* Takes what the operator asks for, then begins jobs in the order of their ids, then orders by their names, while the queue has a place. */
 course admit(room *r);
 
 /* Says something once. */
 void say_once(room *r, const char *line);
 
-/* Puts a job that cannot go on into held/, with its sentence; if that is not possible, it is passed over. */
+/* Moves a job that cannot go on to held/, with its sentence. If it cannot be moved, it is passed over. */
 void hold(room *r, uint32_t id, const char *label, const char *why);
 
 /* asks.c: takes the files in asks/. */

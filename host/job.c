@@ -10,7 +10,7 @@
 
 #include "disk.h"
 
-/* A new file that is flushed takes the log's name: the log's bytes and how many they are last as one. */
+/* A new file is flushed and then renamed to the log's name, so the log's bytes and their number last together. */
 static void keep(int spool, job *j, katchidul_log now) {
   path folder = path_of("jobs/%u", j->id);
   j->at ^= now.moved;
@@ -38,7 +38,7 @@ text job_label(const job *j) {
   return text_of("job %u (%s, %s)", j->id, j->name, town.text);
 }
 
-/* A want of files or memory is no fault of the job. */
+/* If the system lacks files or memory, that is no fault of the job. */
 static bool is_of_the_system(int why) { return why == EMFILE || why == ENFILE || why == ENOMEM; }
 
 static int read_part(int spool, const path *folder, const char *part, void *bytes, size_t size, size_t *length) {

@@ -20,8 +20,8 @@ typedef struct {
 
 typedef enum { JOB_READ, JOB_UNCLAIMED, JOB_UNFIT } job_state;
 
-/* Reads a job from a folder of the spool. JOB_UNCLAIMED: it has neither order nor log. JOB_UNFIT: the job cannot go on, and `why` says the
-   reason: a file that cannot be read, a refusal of order or log, or a log with a page that the order lacks. */
+/* Reads a job from a folder of the spool. JOB_UNCLAIMED: it has neither order nor log. JOB_UNFIT: the job cannot go on, and `why` says
+   why: a file cannot be read, order or log are refused, or the log has a page that the order lacks. */
 job_state job_read(int spool, const char *folder, uint32_t id, job *j, text *why);
 
 /* What a message calls the job: `job 7 (leeds.order, Leeds)`. */
@@ -29,7 +29,7 @@ text job_label(const job *j);
 
 katchidul_log job_log(const job *j);
 
-/* These two last when they return. A refused record or count changes nothing. */
+/* What these two write lasts when they return. A refused record or count changes nothing. */
 katchidul_log job_append(int spool, job *j, uint32_t tag, uint32_t page);
 katchidul_log job_restart(int spool, job *j, uint32_t count);
 

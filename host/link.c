@@ -25,7 +25,7 @@ course link_lost(embosser *e, const char *format, ...) {
 
 /* ---- opening */
 
-/* EAGAIN: the embosser is there and takes no connection. It has as long as for an answer. */
+/* EAGAIN: the embosser is there but takes no connection now. It gets as much time as for an answer. */
 static bool connect_in_time(embosser *e, const struct sockaddr_un *at) {
   moment end = after(e->patience);
   for (;;) {
@@ -58,7 +58,7 @@ void link_close(embosser *e) {
 
 /* ---- sending */
 
-/* A signal does not interrupt this: the host ends between two messages. */
+/* A signal does not interrupt this, since the host ends only between two messages. */
 static course send_all(embosser *e, const char *bytes, size_t length) {
   moment end = after(e->patience);
   while (length > 0) {
@@ -109,7 +109,7 @@ course link_send_page(embosser *e, uint32_t id, uint32_t page, const uint8_t *ce
 
 /* ---- hearing */
 
-/* More of what comes. */
+/* Reads more of what the embosser sends. */
 static course read_more(embosser *e, moment end) {
   course c = wait_until(end, e->socket, POLLIN, true);
   if (c != GOES_ON) return c;
@@ -121,7 +121,7 @@ static course read_more(embosser *e, moment end) {
   return GOES_ON;
 }
 
-/* The next line, without its newline. Nothing in it is a zero byte or unprintable. */
+/* The next line, without its newline. It has no zero byte and no unprintable one. */
 static course take_line(embosser *e, moment end, char line[LINE_BYTES]) {
   char *newline;
   while ((newline = memchr(e->bytes, '\n', e->held)) == NULL) {

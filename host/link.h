@@ -2,14 +2,14 @@
 
        host       spool NAME            the spool's name, first on every link; answered by
        embosser   serves NAME           the spool that it serves
-       host       restart ID            drop what of this job is not finished; answered by
-       embosser   count ID PAGES        so many of its pages are finished, for good
+       host       restart ID            drop this job's unfinished pages; answered by
+       embosser   count ID PAGES        PAGES of its pages are finished, for good
        host       job ID BYTES FILE     and the order's bytes, before the job's first page on this link
-       host       page ID PAGE ROWS     and the cells of so many rows; answered by
+       host       page ID PAGE ROWS     and the cells of ROWS rows; answered by
        embosser   done ID PAGE          this page and the job's pages before it are finished
        embosser   says TEXT             a sentence for the operator
 
-   Each answer has one deadline. LINK_LOST means that what the embosser has finished must be asked for again. */
+   Each answer has one deadline. After LINK_LOST the host must ask again what the embosser has finished. */
 #ifndef LINK_H
 #define LINK_H
 
@@ -38,7 +38,7 @@ typedef struct {
   char name[SPOOL_NAME_MAX + 1];
 } answer;
 
-/* False with errno if there is no embosser. */
+/* Returns false and sets errno if there is no embosser. */
 bool link_open(embosser *e, const char *path);
 void link_close(embosser *e);
 
@@ -48,7 +48,7 @@ course link_ask_count(embosser *e, uint32_t id);
 course link_send_order(embosser *e, const job *j);
 course link_send_page(embosser *e, uint32_t id, uint32_t page, const uint8_t *cells, uint32_t rows);
 
-/* The next answer. What the embosser says to the operator is said on the way, and does not move the deadline. */
+/* The next answer. A sentence for the operator that comes before it is said at once, and does not move the deadline. */
 course link_hear(embosser *e, moment end, answer *a);
 
 /* Notes why the link is lost, and returns LINK_LOST. */

@@ -11,12 +11,12 @@
 #define PATIENCE 60000        /* milliseconds, if -p is not given */
 #define PATIENCE_MAX 86400000 /* a day */
 #define SOON 250              /* milliseconds between the first tries to reach the embosser */
-#define SOON_TRIES 4          /* with such a pause behind them: a driver that was started a moment ago listens soon */
+#define SOON_TRIES 4          /* with that pause after them: a driver that was started a moment ago listens soon */
 #define TRIES 14              /* in all, without -s */
 
 /* ---- the embosser comes and goes */
 
-/* Milliseconds between two tries: a tenth of the patience, and never nothing. */
+/* Milliseconds between two tries: a tenth of the patience, and never 0. */
 static int pause_of(const room *r) { return r->embosser.patience / 10 + 1; }
 
 static int pause_after(const room *r, int tries) { return tries <= SOON_TRIES && SOON < pause_of(r) ? SOON : pause_of(r); }
@@ -47,7 +47,7 @@ static course meet(room *r, const char *path) {
   return c;
 }
 
-/* Without -s the host gives up after some tries; with it the host waits, and says so once for each reason. */
+/* Without -s the host gives up after some tries. With -s it waits, and says so once for each reason. */
 static course find_embosser(room *r, const char *path) {
   text told = {""};
   for (int tries = 1;; tries++) {
@@ -81,7 +81,7 @@ static course work(room *r) {
   }
 }
 
-/* Said once, until a page is finished or the reason is another: a driver may ask its operator for a count for hours. */
+/* Says it once, until a page is finished or the reason changes: a driver may ask its operator for a count for hours. */
 static void say_lost(room *r) {
   static text told;
   if (r->news || strcmp(told.text, r->embosser.lost.text) != 0)
@@ -90,7 +90,7 @@ static void say_lost(room *r) {
   r->news = false;
 }
 
-/* A link that is lost is a start like any other. */
+/* After a lost link the host starts again, as at any other start. */
 static int serve(room *r, const char *path) {
   for (;;) {
     course c = find_embosser(r, path);
@@ -113,7 +113,7 @@ static int usage(void) {
   return ENDED_BY_DISK;
 }
 
-/* Digits alone, 1 to a day; else 0. */
+/* Milliseconds from 1 to a day, in digits alone; else 0. */
 static int patience_of(const char *word) {
   if (strlen(word) > 8 || strspn(word, "0123456789") != strlen(word)) return 0;
   long patience = strtol(word, NULL, 10);

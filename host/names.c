@@ -18,7 +18,7 @@ static DIR *open_names(int spool, const char *folder) {
   return list;
 }
 
-/* The end of a folder and an error look alike but for errno. */
+/* readdir returns NULL at the end of a folder and at an error; only errno tells which. */
 static struct dirent *next_entry(DIR *list, const char *folder) {
   struct dirent *entry;
   do errno = 0, entry = readdir(list);

@@ -9,16 +9,16 @@
 typedef struct {
   char **names;
   size_t count, room;
-  size_t next; /* of a list that is taken from its front: the first that is not taken */
+  size_t next; /* if names are taken from the front: the first that is not taken */
 } names;
 
-/* Calls `visit` with each name of a folder but those that begin with a dot. A folder that cannot be read to its end ends the host. */
+/* Calls `visit` with each name of a folder but those that begin with a dot. If the folder cannot be read to its end, the host ends. */
 void each_name(int spool, const char *folder, void (*visit)(void *with, const char *name), void *with);
 
 /* Reads a folder's names, in the order of their bytes. */
 void names_read(names *n, int spool, const char *folder);
 
-/* Takes the first name that is not taken; NULL if there is none. It is there until the list is read again. */
+/* Takes the first name that is not taken; NULL if there is none. The name is valid until the list is read again. */
 const char *names_take(names *n);
 
 /* The name that would be taken, or NULL. */

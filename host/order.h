@@ -23,7 +23,7 @@ katchidul_cells page_cells(const order *o, uint32_t page, uint8_t cells[KATCHIDU
 /* The dots of the pages up to this one. */
 uint32_t dots_through(const order *o, uint32_t page);
 
-/* Says which days of the order are refused, days that follow one another and are refused alike in one line. */
+/* Says which days of the order are refused. Days that follow one another and are refused alike are in one line. */
 void say_refused_days(const order *o, const char *about);
 
 #endif

@@ -37,7 +37,7 @@ course send_page(room *r, const job *j, uint32_t page) {
   return c == GOES_ON ? link_send_page(&r->embosser, j->id, page, cells, made.rows) : c;
 }
 
-/* A record is in turn by the log that it is made for, so a refused one is this host's own mistake, and the last thing it does. */
+/* The host makes each record from the log, so it is in turn. If it is refused, that is the host's own mistake, and the host ends. */
 static katchidul_log append(room *r, job *j, uint32_t tag, uint32_t page) {
   katchidul_log now = job_append(r->spool, j, tag, page);
   if (now.number != 0) stop(job_label(j).text, refusal(now.number, now.place).text);
@@ -81,8 +81,8 @@ void leave(room *r, job *j) {
   room_drop(r, id);
 }
 
-/* A page is finished, and those of the job before it, whose acknowledgements may be lost. A page that was not sent is no answer. `news` is
-   whether more pages are finished than before. */
+/* A page is finished, and so are the job's earlier pages, whose acknowledgements may be lost. An answer about a page that was not sent
+   is wrong. `news` is whether more pages are finished than before. */
 static course note_done(room *r, const answer *a, bool *news) {
   job *j = room_find(r, a->id);
   *news = false;
@@ -97,7 +97,7 @@ static course note_done(room *r, const answer *a, bool *news) {
   return GOES_ON;
 }
 
-/* An answer in time; a late one is a lost link. */
+/* An answer in time. If it is late, the link is lost. */
 static course hear(room *r, moment end, answer *a) {
   course c = link_hear(&r->embosser, end, a);
   if (c == TOO_LATE) return link_lost(&r->embosser, "it gave no answer for %d ms", r->embosser.patience);

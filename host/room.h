@@ -1,4 +1,5 @@
-/* The jobs in work: which page goes out next, and what becomes of an acknowledgement. How far a job is, is asked of its log each time. */
+/* The jobs in work: which page goes out next, and what an acknowledgement does. Only the log says how far a job is, and it is read each
+   time. */
 #ifndef ROOM_H
 #define ROOM_H
 

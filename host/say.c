@@ -48,7 +48,7 @@ text text_of(const char *format, ...) {
   return made;
 }
 
-/* A reader who is gone keeps no page from going out. */
+/* If nobody reads the messages any more, pages still go out. */
 void say(const char *format, ...) {
   char line[TIME_BYTES + 4 * TEXT_BYTES];
   va_list words;

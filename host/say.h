@@ -17,7 +17,7 @@ enum { ENDED_WELL = 0, ENDED_WITH_REFUSALS = 1, ENDED_BY_DISK = 2, ENDED_WITHOUT
 
 #define LIKE_PRINTF(at, first) __attribute__((format(printf, at, first)))
 
-/* Writes a line. Whatever it is made of, it stays one line of printable ASCII: every other byte, and the backslash, is written as \xHH. */
+/* Writes a line. It is always one line of printable ASCII: every other byte, and the backslash, is written as \xHH. */
 LIKE_PRINTF(1, 2) void say(const char *format, ...);
 
 LIKE_PRINTF(1, 2) text text_of(const char *format, ...);
@@ -25,7 +25,7 @@ LIKE_PRINTF(1, 2) text text_of(const char *format, ...);
 /* A refusal in the library's words. */
 text refusal(uint32_t number, uint32_t place);
 
-/* Says what failed and ends the host. A host that went on would send a page that its log does not have. */
+/* Says what failed and ends the host. If it went on, it would send a page that its log does not have. */
 _Noreturn void stop(const char *about, const char *why);
 
 /* Opens /dev/null for each standard stream that is closed, so that no message goes into a file that gets its number. */

@@ -16,15 +16,15 @@
 
 #define WHY ".why"
 
-/* The folders of jobs. The operator may move a job out of held/ at any time, to jobs/ or cancelled/. So held/ is looked at before them, and
-   no job is missed. */
+/* The folders of jobs. The operator may move a job out of held/ at any time, to jobs/ or cancelled/. So held/ is read before them, and no
+   job is missed. */
 static const char *const job_folders[] = {"held", "done", "cancelled", "jobs"};
 
 #define JOB_FOLDERS (sizeof job_folders / sizeof *job_folders)
 
 /* ---- the spool itself */
 
-/* A lock of the open file, and not of the process: it stays when another name of the file is opened and closed. */
+/* A lock of the open file, not of the process: it stays when the file is opened and closed once more. */
 static void lock_spool(int spool, const char *folder) {
   struct flock whole = {.l_type = F_WRLCK, .l_whence = SEEK_SET};
   int file = TEMP_FAILURE_RETRY(openat(spool, "lock", O_RDWR | O_CREAT | O_NOFOLLOW | O_NONBLOCK | O_CLOEXEC, 0666));
@@ -98,7 +98,7 @@ bool id_is_used(int spool, uint32_t id) {
 
 /* ---- orders and jobs */
 
-/* The order's name is in the job's folder before the order is. */
+/* The order's name is written into the job's folder before the order is moved there. */
 int claim_order(int spool, const char *name, uint32_t id) {
   path folder = path_of("jobs/%u", id);
   if (!make_folder(spool, folder.text)) return EEXIST;
@@ -122,7 +122,7 @@ static void write_why(int spool, const char *folder, const char *name, const cha
   write_lasting(spool, folder, file.text, line.text, strlen(line.text));
 }
 
-/* The sentence is there before the job is. */
+/* The sentence is written before the job is moved. */
 int move_job(int spool, uint32_t id, const char *from, const char *to, const char *why) {
   path name = path_of("%u", id), old = path_of("%u" WHY, id);
   if (why != NULL) write_why(spool, to, name.text, why);
@@ -131,8 +131,8 @@ int move_job(int spool, uint32_t id, const char *from, const char *to, const cha
   return failed;
 }
 
-/* The name that a refused order gets: its own, then with a number. It leaves room for the name of its sentence, and is never the name of a
-   sentence. False if it may not have the number's name. */
+/* The name that a refused order gets: its own, then with a number. It leaves room for the name of its sentence, and is never the name of
+   a sentence. Returns false if it may not have the name with this number. */
 static bool refused_name(const char *name, uint32_t number, path *kept) {
   const size_t longest = NAME_MAX - (sizeof WHY - 1), length = strlen(name);
   *kept = number == 1 ? path_of("%s", name) : path_of("%.*s.%u", (int)longest - 11, name, number); /* a dot and ten digits */

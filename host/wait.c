@@ -37,7 +37,7 @@ void keep_back_signals(void) {
   sigaction(SIGTERM, &noted, NULL);
   sigaction(SIGINT, &noted, NULL);
   sigaction(SIGPIPE, &ignored, NULL); /* a message that nobody reads */
-  sigaction(SIGXFSZ, &ignored, NULL); /* a write over a limit fails, and is told */
+  sigaction(SIGXFSZ, &ignored, NULL); /* a write over a limit fails, and the host says so */
 }
 
 course wait_until(moment end, int file, short events, bool interrupted) {

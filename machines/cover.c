@@ -23,7 +23,7 @@ static void date_in_words(const order *o, uint32_t row, char *text, size_t size)
 
 /* ---- lines */
 
-/* Room for a word on the cover's last line, else on a new one. A word longer than a line goes on in the next. */
+/* Puts a word on the cover's last line if it has room, else on a new line. A word longer than a line goes on in the next. */
 static void add_word(cover *c, const paper *p, uint32_t *used, const uint8_t *word, size_t length) {
   if (*used > 0 && *used + 1 + length > p->width) c->count++, *used = 0;
   else if (*used > 0) ++*used;
@@ -33,7 +33,7 @@ static void add_word(cover *c, const paper *p, uint32_t *used, const uint8_t *wo
   }
 }
 
-/* A paragraph, with its words put on lines. A line that the paper lacks is left out. */
+/* Puts the words of a paragraph on lines. Lines that the paper has no room for are left out. */
 static void add(cover *c, const paper *p, const char *text) {
   uint8_t cells[4096];
   size_t length = braille(text, cells, sizeof cells);
@@ -96,7 +96,7 @@ static void months_of(const order *o, uint32_t page, char *text, size_t size) {
   else snprintf(text, size, "%.3s-%.3s", months[first.tm_mon], months[last.tm_mon]);
 }
 
-/* Town, month, and which page of how many. A town that is too long for the line is cut, the rest is not. */
+/* Town, month, and which page of how many. If the line is too short, only the town is cut. */
 void heading_write(const order *o, uint32_t page, const paper *p, uint8_t cells[PAPER_MAX]) {
   char text[160], when[32];
   uint8_t made[1024];

@@ -17,7 +17,7 @@ const char *cups_why(void) { return why; }
 
 static const char *no_password(const char *prompt, http_t *http, const char *method, const char *resource, void *own) {
   (void)prompt, (void)http, (void)method, (void)resource, (void)own;
-  return NULL; /* nobody is asked for one at a terminal */
+  return NULL; /* no password is asked for at a terminal */
 }
 
 void cups_open(const options *o) {
@@ -42,7 +42,7 @@ static http_t *connect_to_server(void) {
   return httpConnect2(cupsServer(), ippPort(), NULL, AF_UNSPEC, cupsEncryption(), 1, CONNECT_MS, NULL);
 }
 
-/* A connection on which nothing is said ends when CUPS does, however soon another CUPS begins. */
+/* An idle connection ends when CUPS ends, even if another CUPS starts at once. */
 void cups_watch(void) {
   cups_unwatch();
   watched = connect_to_server();
@@ -58,7 +58,7 @@ bool cups_was_there(void) {
   return watched != NULL && recv(httpGetFd(watched), &none, 1, MSG_PEEK | MSG_DONTWAIT) < 0 && (errno == EAGAIN || errno == EINTR);
 }
 
-/* Each request has a connection of its own: one that was kept may have died with its CUPS, and libcups would send the request twice. */
+/* Each request has a connection of its own: an old one may have ended with its CUPS, and then libcups would send the request twice. */
 static bool connect_anew(void) {
   disconnect();
   server = connect_to_server();
@@ -91,7 +91,7 @@ static ipp_t *request_for_job(ipp_op_t what, uint32_t number) {
   return request_for(what, "job-uri", path);
 }
 
-/* What an answer says. A server that is busy or that failed may do better later; another refusal is its last word. */
+/* What an answer says. If the server is busy or failed, it may accept later; any other refusal is final. */
 static cups_reply reply_of(ipp_t *answer) {
   ipp_status_t status = answer == NULL ? cupsLastError() : ippGetStatusCode(answer);
   bool failed = status >= IPP_STATUS_ERROR_BAD_REQUEST;
@@ -100,7 +100,7 @@ static cups_reply reply_of(ipp_t *answer) {
   return answer == NULL || status >= IPP_STATUS_ERROR_INTERNAL ? CUPS_AWAY : CUPS_REFUSED;
 }
 
-/* Sends a request with a document, or without one, and takes both. The caller deletes the answer. */
+/* Sends a request, with a document or without one, and deletes the request. The caller deletes the answer. */
 static ipp_t *ask(ipp_t *request, const char *path, const uint8_t *bytes, size_t length) {
   ipp_t *answer = NULL;
   if (connect_anew()) {
@@ -132,7 +132,7 @@ static void want(ipp_t *request, int count, const char *const *parts) {
   ippAddStrings(request, IPP_TAG_OPERATION, IPP_TAG_KEYWORD, "requested-attributes", count, NULL, parts);
 }
 
-/* One attribute of a job into its place. */
+/* Notes one attribute of a job. */
 static void note(ipp_attribute_t *a, cups_job *job) {
   const char *name = ippGetName(a);
   if (strcmp(name, "job-id") == 0) job->number = (uint32_t)ippGetInteger(a, 0);
@@ -142,7 +142,7 @@ static void note(ipp_attribute_t *a, cups_job *job) {
   if (strcmp(name, "job-state-reasons") == 0) snprintf(job->reason, sizeof job->reason, "%s", ippGetString(a, 0, NULL));
 }
 
-/* Jobs come one behind another, with a nameless attribute between them. */
+/* The jobs follow one another, with a nameless attribute between them. */
 static void see_all(ipp_t *answer, void (*see)(const cups_job *, void *), void *own) {
   cups_job job = {0};
   for (ipp_attribute_t *a = ippFirstAttribute(answer); a != NULL; a = ippNextAttribute(answer)) {
@@ -217,12 +217,12 @@ cups_reply cups_is_ghost(uint32_t number, bool *ghost) {
   cups_reply reply = list_which("not-completed", 1, look_for, &s);
   *ghost = false;
   if (reply != CUPS_ANSWERED) return reply;
-  reply = cups_look(number, &job); /* after the list: it may be over since */
+  reply = cups_look(number, &job); /* after the list: the job may be over by now */
   *ghost = reply == CUPS_ANSWERED && job.state < IPP_JSTATE_CANCELED && (!s.found || cups_waits_for_document(&job));
   return reply;
 }
 
-/* A CUPS that began again has forgotten the reason. Other reasons are those of a job that someone or something holds. */
+/* After its own restart CUPS has forgotten the reason. With any other reason, someone or something holds the job. */
 bool cups_waits_for_document(const cups_job *job) {
   return job->state == IPP_JSTATE_HELD && (strcmp(job->reason, "job-incoming") == 0 || strcmp(job->reason, "none") == 0);
 }
@@ -247,7 +247,7 @@ cups_reply cups_look_at_queue(cups_queue *queue) {
 
 /* ---- a page */
 
-/* No banner sheets, whatever the queue's own choice is: a page is what the host sent. */
+/* No banner sheets, even if the queue asks for them: a page is only what the host sent. */
 cups_reply cups_create(const char *title, uint32_t *number) {
   static const char *const none[] = {"none", "none"};
   char path[256];

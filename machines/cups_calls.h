@@ -1,4 +1,4 @@
-/* What katchidul-cups asks of CUPS, each call one request with a limit on its time. */
+/* What katchidul-cups asks of CUPS. Each call is one request, with a limit on its time. */
 #ifndef CUPS_CALLS_H
 #define CUPS_CALLS_H
 
@@ -12,7 +12,7 @@ typedef struct {
   uint32_t number;
   char title[TITLE_BYTES];
   int state;                /* an ipp_jstate_t */
-  bool begun;               /* it was once being printed; cups_look tells, cups_list does not */
+  bool begun;               /* CUPS has begun to print it; set by cups_look, not by cups_list */
   char reason[WORDS_BYTES]; /* the first of its job-state-reasons */
 } cups_job;
 
@@ -26,22 +26,22 @@ typedef enum { CUPS_ANSWERED, CUPS_REFUSED, CUPS_AWAY } cups_reply;
 
 void cups_open(const options *o);
 
-/* Whether CUPS has been there without a break since cups_watch. It says no after some minutes, when CUPS drops an idle connection. */
+/* Whether CUPS has run without a break since cups_watch. After some minutes it is false, since CUPS drops an idle connection. */
 void cups_watch(void);
 bool cups_was_there(void);
 void cups_unwatch(void);
 
-/* Why the last call was refused, or CUPS is away. */
+/* Why the last call was refused, or CUPS could not be reached. */
 const char *cups_why(void);
 
-/* Hands each job of this user to `see`, also those that are long over. */
+/* Calls `see` with each job of this user, also with old ones. */
 cups_reply cups_list(void (*see)(const cups_job *job, void *own), void *own);
 
 /* A job that CUPS does not have is CUPS_REFUSED. */
 cups_reply cups_look(uint32_t number, cups_job *job);
 
-/* Whether a job whose document was sent is a ghost: CUPS says that it waits, and never prints it. It becomes one when CUPS ends in order
-   while it waits for the machine to finish the page, or is killed before it has noted that it took the document. */
+/* Whether a job whose document was sent is a ghost: CUPS says that it waits, but never prints it. A job becomes a ghost if CUPS is stopped
+   while the machine finishes the page, or is killed before it has noted that it has the document. */
 cups_reply cups_is_ghost(uint32_t number, bool *ghost);
 bool cups_waits_for_document(const cups_job *job);
 

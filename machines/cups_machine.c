@@ -3,12 +3,12 @@
        katchidul SPOOL job 7 page 3
 
    A page goes to CUPS only when CUPS has completed the one before it, so the highest page that CUPS has completed is the job's count.
-   CUPS keeps it when the driver dies, and the driver's record keeps it when CUPS forgets.
+   CUPS keeps it if the driver dies, and the driver's record keeps it if CUPS forgets.
 
-   CUPS makes a job first and takes its document later. The record has the CUPS job's number before the document goes out: a CUPS job
-   that the record does not have has printed nothing. One that the record has and CUPS no longer knows may have been printed, and only the
-   operator can say. The same holds for a page that CUPS had in work when it ended: CUPS aborts a job whose document it has removed, also
-   when it had completed it and could not note that any more; and a ghost (cups_calls.h) says nothing. */
+   CUPS makes a job first and takes its document later. The record has the CUPS job's number before the document goes out, so a CUPS job
+   that is not in the record has printed nothing. If a job is in the record but CUPS no longer knows it, it may have been printed, and only
+   the operator can say. The same is true of a page that CUPS had in work when it ended. CUPS aborts a job whose document it has removed,
+   even one that it had completed but could not note as completed. And a ghost (cups_calls.h) tells nothing. */
 #include "cups_calls.h"
 #include "machine.h"
 
@@ -17,7 +17,7 @@
 #include <string.h>
 
 #define LOOK_MS 200    /* between two looks at a page in work */
-#define RETRY_MS 2000  /* until CUPS is asked again when it was away */
+#define RETRY_MS 2000  /* until CUPS is asked again after it could not be reached */
 #define SLOW_MS 30000  /* after which the operator is told that a page takes long */
 
 static const options *given;
@@ -73,7 +73,7 @@ static void write_title(const char *spool, uint32_t id, uint32_t page, char titl
   snprintf(title, TITLE_BYTES, "katchidul %s job %u page %u", spool, id, page);
 }
 
-/* The page that a title names, 0 when it is not one of this job's. */
+/* The page that a title names, or 0 if the title is not of this job. */
 static uint32_t page_of(const char *title, const char *spool, uint32_t id) {
   char wanted[TITLE_BYTES];
   for (uint32_t page = 1; page <= KATCHIDUL_PAGES_MAX; page++) {
@@ -92,7 +92,7 @@ static void tell_stopped(const cups_queue *queue, uint32_t id, uint32_t page) {
             given->machine);
 }
 
-/* A page that a stopped queue had would be cancelled each time the host begins again. */
+/* If a stopped queue had a page, the page would be cancelled each time the host starts again. */
 static bool queue_goes(const sheet *s) {
   cups_queue queue;
   if (cups_look_at_queue(&queue) != CUPS_ANSWERED || !queue.stopped) return true;
@@ -139,14 +139,14 @@ static progress lose(const char *why) {
   return LOST;
 }
 
-/* CUPS was there all the time, so its word that the page was aborted is true, and lasts. */
+/* CUPS ran all the time, so what it says of the page is true: it was aborted. That is noted for good. */
 static progress note_aborted(void) {
   work.record.sent = work.record.finished;
   record_write(state, work.id, &work.record);
   return lose("was aborted by CUPS");
 }
 
-/* What keeps a page that CUPS has not begun, or that takes long. */
+/* Tells why CUPS has not begun a page, or why the page takes long. */
 static void tell_what_keeps(const cups_job *job) {
   cups_queue queue;
   uint32_t number = work.record.cups;
@@ -189,7 +189,7 @@ void machine_forget(void) {
 
 wait_for machine_waits_for(void) { return (wait_for){-1, 0, LOOK_MS}; }
 
-int machine_last_wait(void) { return 0; } /* CUPS goes on without the driver, and the record says with what */
+int machine_last_wait(void) { return 0; } /* CUPS goes on without the driver, and the record has its job */
 
 /* ---- a job's count */
 
@@ -202,21 +202,21 @@ typedef struct {
   bool queue_processes;
 } tally;
 
-/* Waits for a page that is being printed, for its time: a page that is cancelled then lies in the tray half punched. */
+/* Waits some time for a page that is being printed: a page that is cancelled then is in the tray half punched. */
 static bool may_finish(const tally *t, const cups_job *job, uint32_t page) {
   if (job->state != IPP_JSTATE_PROCESSING || now_ms() - asked.since >= given->finish * 1000LL) return false;
   tell_once("job %u: CUPS is printing page %u (job %u); the driver waits up to %u seconds for it", t->id, page, job->number, given->finish);
   return true;
 }
 
-/* CUPS says at once that a job is cancelled, and ends what prints it a little later. A job that never began has the same reason. */
+/* CUPS says at once that a job is cancelled, and stops its printing a little later. A job that never began has the same reason. */
 static bool still_stops(const cups_job *job) {
   cups_job now;
   if (strcmp(job->reason, "processing-to-stop-point") != 0) return false;
   return cups_look(job->number, &now) != CUPS_ANSWERED || now.begun;
 }
 
-/* Whether CUPS has been there since it was given the page that the record has, so that its word on it is true. */
+/* Whether CUPS has run since it was given the page in the record. Then what it says of the page is true. */
 static bool is_certain(const tally *t) { return work.record.cups == t->cups && cups_was_there(); }
 
 /* A job that is not over is waited for or cancelled, and looked at again. */
@@ -241,7 +241,7 @@ static void count_job(const cups_job *job, void *own) {
   if (job->state == IPP_JSTATE_CANCELED && job->number == t->cups && t->queue_processes && still_stops(job)) t->open = true;
 }
 
-/* CUPS forgot a page that it was given: whether it was printed is asked of the operator. */
+/* CUPS has forgotten a page that it was given: the operator is asked whether it was printed. */
 static bool ask_operator(uint32_t id, const record *r, uint32_t highest, uint32_t *finished) {
   question q = {.id = id, .least = highest, .most = r->sent};
   snprintf(q.about, sizeof q.about,
@@ -252,7 +252,7 @@ static bool ask_operator(uint32_t id, const record *r, uint32_t highest, uint32_
   return question_answered(state, &q, finished);
 }
 
-/* What the operator answered lasts before the CUPS job that was asked about is cancelled, so that the next CUPS does not print it. */
+/* The operator's answer is noted for good before the CUPS job is cancelled. It is cancelled so that CUPS does not print it after all. */
 static void keep(uint32_t id, record *r, uint32_t finished) {
   uint32_t number = r->cups;
   bool same = r->finished == finished && r->sent == finished && number == 0;

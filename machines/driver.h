@@ -10,7 +10,7 @@
        questions/ID        a question to the operator that is open
        answers/ID          the operator's answer, which the driver takes and removes
 
-   The rule that everything else serves: before a byte of a page goes to the machine, jobs/ID says so and lasts. */
+   The rule behind all others: before a byte of a page goes to the machine, jobs/ID says so, and that lasts. */
 #ifndef DRIVER_H
 #define DRIVER_H
 
@@ -60,7 +60,7 @@ void remove_lasting(int state, const char *folder, const char *name);
 
 typedef struct {
   uint32_t finished;       /* pages that are finished for good */
-  uint32_t sent;           /* pages whose bytes may have gone to the machine; at least `finished` */
+  uint32_t sent;           /* pages of which bytes may have gone to the machine; at least `finished` */
   uint32_t cups;           /* the CUPS job of page `sent` while it is not finished, or 0 */
   char file[FILE_MAX + 1]; /* the order's file name, as the link writes it */
   char town[KATCHIDUL_TOWN_MAX + 1];
@@ -140,7 +140,7 @@ message link_next(void);
 int link_patience(bool reads);
 void link_answer(const char *format, ...) __attribute__((format(printf, 1, 2)));
 
-/* Says a sentence to the operator by the host's log and on standard error. */
+/* Says a sentence to the operator, in the host's log and on standard error. */
 void tell(const char *format, ...) __attribute__((format(printf, 1, 2)));
 
 /* ---- question.c: questions to the operator */

@@ -1,5 +1,5 @@
-/* The state folder, and what lasts in it. A write, a flush or a rename that fails ends the driver: one that went on would send a page
-   that its state does not have. */
+/* The state folder, and what lasts in it. If a write, a flush or a rename fails, the driver ends. If it went on, it would send a page that
+   its state does not have. */
 #include "driver.h"
 
 #include <errno.h>
@@ -24,7 +24,7 @@ static void make_folder(int state, const char *name) {
   if (mkdirat(state, name, 0777) != 0 && errno != EEXIST) stop_at(name);
 }
 
-/* An open file description lock ends with the process, and no other file that is closed drops it. */
+/* An open file description lock ends with the process, and closing another file does not drop it. */
 static void lock(int state, const char *name) {
   int file = openat(state, "lock", O_RDWR | O_CREAT | O_NOFOLLOW | O_CLOEXEC, 0666);
   struct flock whole = {.l_type = F_WRLCK, .l_whence = SEEK_SET};
@@ -34,7 +34,7 @@ static void lock(int state, const char *name) {
   stop_at("lock");
 }
 
-/* The state folder; `alone` is for a driver, the command `answer` works beside one. */
+/* Opens the state folder. A driver is `alone` there; the command `answer` works beside one. */
 int open_state(const char *name, bool alone) {
   static const char *const folders[] = {"jobs", "questions", "answers"};
   if (alone && mkdir(name, 0777) != 0 && errno != EEXIST) stop_at(name);
@@ -47,7 +47,7 @@ int open_state(const char *name, bool alone) {
   return state;
 }
 
-/* Reads a file of fewer than `size` bytes and ends it with a zero byte. Returns its length, 0 when there is no such file. */
+/* Reads a file of fewer than `size` bytes and ends it with a zero byte. Returns its length, or 0 if the file does not exist. */
 size_t read_small(int state, const char *name, char *bytes, size_t size) {
   struct stat is;
   size_t length = 0;
@@ -76,7 +76,7 @@ static void write_all(int file, const char *name, const char *bytes, size_t leng
   }
 }
 
-/* The bytes take the name as one: it has all of the old ones or all of the new ones. */
+/* Replaces the file's bytes at once: it has all of the old ones or all of the new ones. */
 void write_lasting(int state, const char *folder, const char *name, const char *bytes, size_t length) {
   char made[PATH_BYTES], meant[PATH_BYTES];
   snprintf(made, sizeof made, "%s/.%s.new", folder, name);

@@ -5,8 +5,8 @@
        job ID BYTES FILE      and then the order's bytes; not answered
        page ID PAGE ROWS      and then ROWS * 39 cells; answered by   done ID PAGE
 
-   and `says TEXT` goes to it at any time. Whatever else comes closes the link. So does a message that is begun and not whole in time, and
-   a host that does not take its answers. */
+   and the driver may send `says TEXT` at any time. Any other message closes the link. So does a message that is begun but not whole in
+   time, and a host that does not read its answers. */
 #include "driver.h"
 
 #include <errno.h>
@@ -29,11 +29,11 @@ static struct sockaddr_un address = {.sun_family = AF_UNIX};
 static char text[TEXT_BYTES]; /* what came */
 static size_t held, taken;    /* bytes in `text`, and those at its front that link_next has returned */
 static long long begun;       /* when the message that is not whole began */
-static bool waits;            /* for the rest of a message */
+static bool waits;            /* whether a message is begun and not whole */
 
 /* ---- the socket */
 
-/* A socket that nobody listens on is left over from a driver that was killed. */
+/* If nobody listens on a socket, it is left from a driver that was killed. */
 static void remove_leftover(const char *path) {
   struct stat is;
   if (lstat(path, &is) != 0) return;
@@ -63,7 +63,7 @@ bool link_is_open(void) { return host >= 0; }
 
 void link_accept(void) {
   host = accept4(listener, NULL, NULL, SOCK_NONBLOCK | SOCK_CLOEXEC);
-  if (host < 0 && errno != EAGAIN) poll(NULL, 0, 100); /* no file is free, as it may be again soon */
+  if (host < 0 && errno != EAGAIN) poll(NULL, 0, 100); /* no file is free; one may be soon */
   held = taken = 0;
   waits = host >= 0;
   begun = now_ms();
@@ -108,7 +108,7 @@ void tell(const char *format, ...) {
 
 /* ---- what comes in */
 
-/* Drops what link_next has returned, and reads what there is and has room. */
+/* Drops the bytes that link_next has returned, and reads what has come, as far as there is room. */
 void link_read(void) {
   memmove(text, text + taken, held - taken);
   held -= taken;
@@ -120,7 +120,7 @@ void link_read(void) {
   else held += (size_t)some;
 }
 
-/* Milliseconds until the message that is not whole must be, or -1. While the driver does not read, no time passes for the host. */
+/* Milliseconds until a begun message must be whole, or -1. Time in which the driver does not read does not count. */
 int link_patience(bool reads) {
   if (!reads) begun = now_ms();
   if (host < 0 || !waits || !reads) return -1;
@@ -181,7 +181,7 @@ static message message_of(char *line) {
   return m;
 }
 
-/* The message at the front of what came. Its body is good until link_read. */
+/* The message at the front of what came. Its body is valid until link_read. */
 static message front(size_t *length) {
   char line[LINE_MAX_BYTES];
   const char *from = text + taken, *end = memchr(from, '\n', held - taken);

@@ -12,7 +12,7 @@ static const char *table;
 
 static void be_silent(logLevels level, const char *message) { (void)level, (void)message; }
 
-/* Every byte that a cover can have. A table that lacks one, or gives it eight dots, is refused before any page goes out. */
+/* Tries every byte that a cover can have. If the table lacks one, or gives it eight dots, it is refused before any page goes out. */
 static bool table_serves(void) {
   char all[96];
   uint8_t cells[CELLS_MAX];
@@ -28,7 +28,7 @@ void braille_open(const char *name) {
   if (!table_serves()) stop(name, "this table does not put English text into cells of six dots");
 }
 
-/* Returns how many cells the text has, 0 when the table can't set it or `size` is too small. */
+/* Returns how many cells the text has, or 0 if the table cannot set it or `size` is too small. */
 size_t braille(const char *text, uint8_t *cells, size_t size) {
   widechar from[TEXT_MAX], to[CELLS_MAX];
   int length = (int)strlen(text), made = CELLS_MAX;

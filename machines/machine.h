@@ -1,5 +1,5 @@
-/* What a driver asks of its machine. cups_machine.c and port_machine.c have these functions, a program one of them. A machine has one
-   page in work at a time. */
+/* What a driver asks of its machine. cups_machine.c and port_machine.c both have these functions, and each program has one of them. A
+   machine has one page in work at a time. */
 #ifndef MACHINE_H
 #define MACHINE_H
 
@@ -7,7 +7,7 @@
 
 typedef enum { GOES_ON, FINISHED, LOST } progress;
 
-/* What to wait for beside the host: a file, or -1, its events, and the most milliseconds until machine_look. */
+/* What to wait for beside the host: a file, or -1, and its events; and the most milliseconds until machine_look. */
 typedef struct {
   int file;
   short events;
@@ -16,14 +16,14 @@ typedef struct {
 
 void machine_open(const options *o, int state);
 
-/* Takes a page into work. False when the machine can't take it now: the operator is told, and it is tried again. */
+/* Takes a page into work. Returns false if the machine cannot take it now: the operator is told, and the page is tried again. */
 bool machine_take(const char *spool, const sheet *s);
 
-/* How the page in work is. LOST means that it is not finished, and that the operator was told why. */
+/* How far the page in work is. LOST means that it is not finished, and that the operator was told why. */
 progress machine_look(void);
 
-/* After `restart`: drops what of the job is not finished, and sets how many of its pages are. False when this is not known yet: it is
-   asked again until it is. While it is asked, it also looks after the page in work if that is the job's. */
+/* After `restart`: drops the job's unfinished pages, and sets `finished` to the number of the others. Returns false while that number is
+   not known, and is then called again. In this time it also looks after the page in work, if that is the job's. */
 bool machine_settle(const char *spool, uint32_t id, uint32_t *finished);
 
 /* The page in work, if there is one, is no longer looked after. */

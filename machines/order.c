@@ -1,5 +1,5 @@
-/* The orders that the host has told of on this link. The oldest is forgotten for a new one: the host has far fewer in work, and one that
-   sends a page of a forgotten job loses its link, begins again and tells of the job again. */
+/* The orders that the host has sent on this link. If there is no room, the oldest is forgotten: the host has far fewer in work. If it
+   sends a page of a forgotten job, it loses its link, starts again and sends the order again. */
 #include "driver.h"
 
 #include <string.h>
@@ -15,7 +15,7 @@ const order *order_find(uint32_t id) {
   return NULL;
 }
 
-/* False when the library refuses the order. */
+/* Returns false if the library refuses the order. */
 bool order_keep(uint32_t id, const char *file, const uint8_t *bytes, size_t length) {
   katchidul_order asks = katchidul_read_order(bytes, length);
   if (asks.number != 0) return false;
@@ -33,7 +33,7 @@ void orders_forget(void) { memset(orders, 0, sizeof orders); }
 
 uint32_t order_pages(const order *o) { return (o->asks.rows + KATCHIDUL_PAGE_ROWS - 1) / KATCHIDUL_PAGE_ROWS; }
 
-/* The rows of a page, 0 when the order lacks the page. */
+/* The rows of a page, or 0 if the order lacks the page. */
 uint32_t order_page_rows(const order *o, uint32_t page) {
   if (page < 1 || page > order_pages(o)) return 0;
   uint32_t left = o->asks.rows - (page - 1) * KATCHIDUL_PAGE_ROWS;

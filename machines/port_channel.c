@@ -1,5 +1,6 @@
-/* The way to a machine. A device stays open from page to page. A network port gets a connection a page, whose end says that the page is
-   whole; it is drained when the machine's side has acknowledged every byte and closed too, or has not closed for a while. */
+/* The way to a machine. A device stays open from page to page. A network port gets a connection for each page, and the connection's end
+   says that the page is whole. The page is drained when the machine has acknowledged every byte, and has closed its side too or has not
+   closed it for a while. */
 #include "port_channel.h"
 
 #include <errno.h>
@@ -15,14 +16,14 @@
 #include <unistd.h>
 
 #define CONNECT_MS 10000
-#define CLOSE_MS 5000 /* that a machine may take to close when it has every byte; some never do */
+#define CLOSE_MS 5000 /* that a machine may take to close its side when it has every byte; some never close */
 
 static const char *name;
 static bool network;
 static char host[256], port[8];
 static int file = -1;
 static bool connected, shut;
-static long long since; /* when the connection was asked for, or the machine had all or closed */
+static long long since; /* when the connection was begun, or when the machine had every byte or closed */
 static char why[160];
 
 int channel_fd(void) { return file; }
@@ -80,7 +81,7 @@ static channel_state open_device(void) {
   return CHANNEL_READY;
 }
 
-/* A printer's device is ready to write again when it has handed on what it had; a line also tells how much it has left. */
+/* A printer's device is ready to write again when it has passed on what it had. A line also tells how much it has left. */
 static channel_state drain_device(void) {
   int left = 0;
   struct pollfd ready = {.fd = file, .events = POLLOUT};
@@ -120,7 +121,7 @@ static channel_state open_network(void) {
   socklen_t length = sizeof reason;
   if (connected) return CHANNEL_READY;
   if (file < 0 && begin_connection() == CHANNEL_FAILED) return CHANNEL_FAILED;
-  if (now_ms() - since >= CONNECT_MS) return fail("no connection in time"); /* also one that no page came for meanwhile */
+  if (now_ms() - since >= CONNECT_MS) return fail("no connection in time"); /* also if no page waits for it any more */
   struct pollfd ready = {.fd = file, .events = POLLOUT};
   if (poll(&ready, 1, 0) <= 0) return CHANNEL_WAITS;
   if (getsockopt(file, SOL_SOCKET, SO_ERROR, &reason, &length) != 0 || reason != 0) return fail(strerror(reason));
@@ -128,7 +129,7 @@ static channel_state open_network(void) {
   return CHANNEL_READY;
 }
 
-/* Takes what the machine says, which means nothing here. Returns whether it has closed its side; `failed` says that the connection did. */
+/* Reads and drops what the machine sends. Returns whether it has closed its side; `failed` is whether the connection failed. */
 static bool has_closed(bool *failed) {
   char nothing[256];
   ssize_t some;

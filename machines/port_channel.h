@@ -6,16 +6,16 @@
 
 typedef enum { CHANNEL_WAITS, CHANNEL_READY, CHANNEL_FAILED } channel_state;
 
-/* Ends the driver if the name is neither a device's path nor HOST:PORT. */
+/* Notes the name. The driver ends if it is neither a device's path nor HOST:PORT. */
 void channel_name(const char *name);
 
 /* Opens the way. CHANNEL_WAITS until the machine has taken the connection. */
 channel_state channel_open(void);
 
-/* Writes some bytes, and returns how many; -1 when the machine failed. */
+/* Writes some bytes, and returns how many, or -1 if the machine failed. */
 ssize_t channel_write(const uint8_t *bytes, size_t length);
 
-/* After the last byte of a page: CHANNEL_READY when the machine has taken all. */
+/* Called after the last byte of a page: CHANNEL_READY when the machine has taken all bytes. */
 channel_state channel_drain(void);
 
 void channel_close(void);

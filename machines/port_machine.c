@@ -1,6 +1,6 @@
-/* A device or a network port as the machine. It takes bytes and reports nothing, so a page counts as done when its bytes are drained, and
-   after a restart only the operator can say how many pages lie finished. The record says that a page is sent before its first byte goes
-   out; a job that has no record has had none. */
+/* A device or a network port as the machine. It takes bytes and reports nothing. So a page counts as done when its bytes are drained, and
+   after a restart only the operator can say how many pages are finished. The record says that a page is sent before its first byte goes
+   out, so a job without a record has had no page. */
 #include "machine.h"
 #include "port_channel.h"
 
@@ -10,7 +10,7 @@
 #define RETRY_MS 2000    /* until the machine is tried again */
 #define LOOK_MS 100      /* between two looks at what drains */
 #define SLOW_MS 30000    /* without a byte taken, after which the operator is told */
-#define LAST_WAIT 20000  /* for the page in work when the driver is told to end: a page that is cut lies half punched */
+#define LAST_WAIT 20000  /* for the page in work when the driver is told to end: a page that is cut is half punched */
 
 static const options *given;
 static int state;
@@ -43,7 +43,7 @@ static void write_question(uint32_t id, const record *r, question *q) {
            id, r->file, r->town, pages, given->machine, r->sent);
 }
 
-/* Whether it is known how many pages of a job are finished: none was sent since that was known, or the operator has answered. */
+/* Whether it is known how many pages of a job are finished: no page was sent since it was known, or the operator has answered. */
 static bool ask_about(uint32_t id, uint32_t *finished) {
   record r;
   question q;
@@ -100,7 +100,7 @@ static progress lose(void) {
 }
 
 progress machine_look(void) {
-  if (work.id == 0) return LOST; /* the host asked for its job's count, and went away before it had it */
+  if (work.id == 0) return LOST; /* the host asked for the job's count, and went away before it was told */
   ssize_t some = written < work.length ? channel_write(work.bytes + written, work.length - written) : 0;
   if (some < 0) return lose();
   if (some > 0) moved_at = now_ms(), written += (size_t)some;
@@ -126,7 +126,7 @@ int machine_last_wait(void) { return LAST_WAIT; }
 
 /* ---- a job's count */
 
-/* A page of the job whose bytes are on their way goes out first: nothing else can go into the machine before it. */
+/* If bytes of the job's page are on their way, the rest goes out first: nothing else can go into the machine before it. */
 bool machine_settle(const char *spool, uint32_t id, uint32_t *finished) {
   (void)spool;
   if (work.id == id && machine_look() == GOES_ON) {

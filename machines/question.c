@@ -1,6 +1,6 @@
-/* Questions to the operator: how many pages of a job lie finished. A question is a file questions/ID, and its answer comes as a file
-   answers/ID, which the command `answer` writes. A driver that has a terminal asks there too. No answer is taken for granted: one that
-   is not a number of pages within the question's limits is asked for again.
+/* Questions to the operator: how many pages of a job are finished. A question is a file questions/ID, and its answer is a file
+   answers/ID, which the command `answer` writes. A driver that has a terminal asks there too. If an answer is not a number of pages within
+   the question's limits, the question is asked again.
 
    questions/ID has three lines for the command (job, from, to), and then the question in words. */
 #include "driver.h"
@@ -21,7 +21,7 @@ int question_fd(void) { return shown != 0 && isatty(STDIN_FILENO) && tcgetpgrp(S
 
 static void file_name(const char *folder, uint32_t id, char name[32]) { snprintf(name, 32, "%s/%u", folder, id); }
 
-/* Opens a question, once. An answer that is there belongs to it only if the question is the same as before. */
+/* Opens a question, once. An answer that is there already belongs to it only if the question has not changed. */
 void question_ask(int state, const char *folder, const question *q) {
   char file[32], id[16], text[QUESTION_BYTES], old[QUESTION_BYTES];
   int length = snprintf(text, sizeof text,
@@ -51,7 +51,7 @@ static bool fits(const char *text, const question *q, uint32_t *pages) {
   return false;
 }
 
-/* A line from the terminal; it is never waited for. The terminal hands out whole lines. */
+/* Reads a line from the terminal without waiting. A terminal gives whole lines. */
 static bool read_terminal(const question *q, uint32_t *pages) {
   char line[64];
   struct pollfd ready = {.fd = question_fd(), .events = POLLIN};
@@ -87,7 +87,7 @@ bool question_answered(int state, const question *q, uint32_t *pages) {
   return true;
 }
 
-/* The question goes first: an answer without one means nothing. */
+/* The question is removed first: an answer without a question means nothing. */
 void question_close(int state, uint32_t id) {
   char name[16];
   snprintf(name, sizeof name, "%u", id);
@@ -98,7 +98,7 @@ void question_close(int state, uint32_t id) {
 
 /* ---- the command `answer` */
 
-/* The number behind `word` at the front of `at`, which moves behind the line. */
+/* The number after `word` at the front of `at`, which then moves to the next line. */
 static bool take_number(const char **at, const char *word, uint32_t *number) {
   size_t length = strlen(word);
   const char *end = strchr(*at, '\n');

@@ -11,7 +11,7 @@
 
 #define RECORD_BYTES 256
 
-/* The value behind a line's word, or NULL; `at` moves behind the line. */
+/* The value after a line's word, or NULL; `at` then moves to the next line. */
 static char *value_of(char **at, const char *word) {
   size_t length = strlen(word);
   char *line = *at, *end = strchr(line, '\n');
@@ -33,7 +33,7 @@ static bool text_of(char **at, const char *word, char *text, size_t size) {
   return true;
 }
 
-/* False when this machine has had no page of the job. */
+/* Returns false if this machine has had no page of the job. */
 bool record_read(int state, uint32_t id, record *r) {
   char name[32], bytes[RECORD_BYTES], *at = bytes;
   memset(r, 0, sizeof *r);

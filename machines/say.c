@@ -9,7 +9,7 @@
 
 const char *program = "katchidul";
 
-/* A stream that is closed is opened to nowhere, so that no file of the state takes its place and gets the messages. */
+/* Opens /dev/null for each standard stream that is closed. Else a file of the state could get its number, and then the messages. */
 void open_streams(void) {
   int file;
   do file = open("/dev/null", O_RDWR | O_CLOEXEC);
@@ -18,7 +18,7 @@ void open_streams(void) {
   close(file);
 }
 
-/* A reader who is gone keeps no page from going out. */
+/* If nobody reads the messages any more, pages still go out. */
 static void put(const char *line, size_t length) {
   ssize_t gone = write(STDERR_FILENO, line, length);
   (void)gone;

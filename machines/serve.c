@@ -1,5 +1,5 @@
-/* The driver at work: the host's messages, the pages that wait, the page in work. The host's link and the machine are looked at in turn,
-   and neither is waited for alone. */
+/* The driver at work: the host's messages, the pages that wait, the page in work. It looks at the host's link and at the machine in turn,
+   and never waits for one of them alone. */
 #include "machine.h"
 
 #include <poll.h>
@@ -7,7 +7,7 @@
 #include <string.h>
 
 #define TRAY 8      /* pages that wait; the host has fewer open */
-#define DROPPED 255 /* a job with a lost page: what comes of it is not taken until the host asks for its count */
+#define DROPPED 255 /* a job with a lost page: its pages are not taken until the host asks for its count */
 #define ASK_MS 250  /* between two looks for an operator's answer */
 
 static const options *given;
@@ -17,13 +17,13 @@ static volatile sig_atomic_t ending;
 
 /* Of the present link. */
 static bool named;                          /* the host has said its spool, and it is the right one */
-static uint8_t next[KATCHIDUL_ID_MAX + 1];  /* the page that a job's next one must be, 0 before its count was told */
+static uint8_t next[KATCHIDUL_ID_MAX + 1];  /* the number that a job's next page must have, 0 before its count was told */
 static uint32_t asked;                      /* the job whose count the host waits for, or 0 */
 static sheet tray[TRAY];
 static size_t waiting;
 
-/* The page in work. It stays when the host is gone. */
-static bool busy, known; /* known: the host that sent it is there and waits for it */
+/* The page in work. It stays if the host goes away. */
+static bool busy, known; /* known: the host that sent the page is still connected and waits for it */
 static uint32_t work_id, work_page;
 
 /* ---- the tray */
@@ -40,7 +40,7 @@ static void drop_job(uint32_t id) {
 
 /* ---- the host's messages */
 
-/* What belongs to a link that is closed. */
+/* Forgets what belongs to a closed link. */
 static void part(void) {
   named = known = false;
   asked = 0;
@@ -97,7 +97,7 @@ static const char *take(const message *m) {
   return m->kind == JOB ? take_job(m) : take_page(m);
 }
 
-/* Nothing is read while the host waits for a count, or no more pages have room. */
+/* Nothing is read while the host waits for a count, or while there is no room for another page. */
 static bool reads(void) { return asked == 0 && waiting < TRAY && !ending; }
 
 static void take_all(void) {
@@ -111,7 +111,7 @@ static void take_all(void) {
 
 /* ---- the machine */
 
-/* The pages behind a lost one wait for the host, which begins again when its deadline has passed. */
+/* The pages after a lost one wait for the host, which starts again when its deadline has passed. */
 static void look(void) {
   progress p = machine_look();
   if (p == GOES_ON) return;
@@ -162,7 +162,7 @@ static void wait_and_read(const sigset_t *while_waiting) {
 
 static void end(int signal) { (void)signal, ending = 1; }
 
-/* Signals that end the driver come in while it waits, and at no other time. */
+/* Signals that end the driver are taken only while it waits. */
 static sigset_t hear_signals(void) {
   struct sigaction action = {.sa_handler = end};
   sigset_t blocked, before;
@@ -173,7 +173,7 @@ static sigset_t hear_signals(void) {
   sigaction(SIGTERM, &action, NULL);
   sigaction(SIGINT, &action, NULL);
   signal(SIGPIPE, SIG_IGN);
-  signal(SIGXFSZ, SIG_IGN); /* a write over a limit fails, and is told */
+  signal(SIGXFSZ, SIG_IGN); /* a write over a limit fails, and the driver says so */
   sigdelset(&before, SIGTERM);
   sigdelset(&before, SIGINT);
   return before;

@@ -16,7 +16,7 @@ static void put_line(sheet *s, const uint8_t *cells, size_t length) {
   put(s, "\r\n", 2);
 }
 
-/* Without the blanks at its end, so that no machine wraps a full line. */
+/* The line without the blanks at its end, so that no machine wraps a full line. */
 static void put_text(sheet *s, const uint8_t *cells, size_t length) {
   while (length > 0 && cells[length - 1] == 0) length--;
   put_line(s, cells, length);
@@ -40,7 +40,7 @@ static void put_heading(const order *o, uint32_t page, const paper *p, sheet *s)
   put(s, "\r\n", 2);
 }
 
-/* The cover travels with page 1, so the log's pages are the order's pages. */
+/* The cover is sent with page 1, so the log's pages are the order's pages. */
 void sheet_write(const order *o, uint32_t page, uint32_t rows, const uint8_t *cells, const paper *p, sheet *s) {
   s->id = o->id;
   s->page = page;

@@ -1,4 +1,4 @@
-"""The words behind a command: files, options with a value, flags."""
+"""The words after a command: files, options with a value, flags."""
 import os
 from typing import List, NamedTuple, Optional, Set, Tuple
 
@@ -17,7 +17,7 @@ class Arguments(NamedTuple):
 
 
 def parse(command, words, flags=()):
-    """--name value or --name=value is an option; behind -- every word is a file."""
+    """--name value or --name=value is an option; after -- every word is a file."""
     files, options, given, out, words = [], [], set(), None, list(words)
     while words:
         word = words.pop(0)

@@ -51,7 +51,7 @@ def dots(cells):
 
 
 def number(cells):
-    """The digits behind a number sign; a question mark for what is none, and nothing for blanks."""
+    """The digits after a number sign; a question mark for a cell that is no digit, and nothing for blanks."""
     if not any(cells):
         return ""
     digits = "".join(DIGITS.get(cell, "?") for cell in cells[1:])
@@ -59,7 +59,7 @@ def number(cells):
 
 
 def time(cells):
-    """A blank, the number sign, hour and minute; a question mark before it when the first two are others."""
+    """A blank, the number sign, hour and minute; with a question mark before it if the first two cells are others."""
     if not any(cells):
         return "--:--"
     digits = number(bytes([NUMBER_SIGN]) + cells[2:])

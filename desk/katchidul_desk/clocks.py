@@ -5,7 +5,7 @@ import zoneinfo
 from .errors import ZoneError
 from .wording import did_you_mean, quoted, utc_offset
 
-# Folders of the time zone data whose clocks count leap seconds, or are there twice.
+# Folders of the time zone data whose clocks count leap seconds, or are in another folder too.
 OTHER_CLOCKS = ("right/", "posix/")
 # An order's clock is at most this far from UTC.
 MOST_MINUTES = 840

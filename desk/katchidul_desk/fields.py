@@ -1,4 +1,4 @@
-"""The fields of an order: docs/ORDERS.md has the same tables, and tests/order_document holds both to the library."""
+"""The fields of an order. docs/ORDERS.md has the same tables, and tests/order_document compares both with the library."""
 from typing import Any, NamedTuple, Sequence
 
 from .dates import Day

@@ -24,7 +24,7 @@ class Given(NamedTuple):
 
     @property
     def lacks_clock(self):
-        """Whether a text says nothing about its clock. An order that was made before is not asked again."""
+        """Whether a text says nothing about its clock. It is false for an order that was made before."""
         return self.is_made and not self.zone and CLOCK not in read(self.order).values
 
     def check(self):
@@ -45,7 +45,7 @@ class Given(NamedTuple):
 
 
 def given(arguments, command):
-    """At least one. Options decide over each text and each order."""
+    """What the command is given, at least one. An option replaces the field of each text and each order."""
     if arguments.files:
         return [from_file(path, arguments.options) for path in arguments.files]
     if arguments.options:

@@ -24,7 +24,7 @@ def make(words):
 
 
 def write_split(made, out, anyway):
-    """Writes the orders of a split. One with a wrong time on its pages is written when that is asked for, and not else."""
+    """Writes the orders of a split. An order with a wrong time on its pages is written only if that is asked for."""
     several = len(made.parts) > 1
     if several and out in (None, "-"):
         raise Unreadable("%s changes its clock within these rows, which takes %d orders; give a name for them with --out"
@@ -51,7 +51,7 @@ def numbered(out, number):
 
 
 def tell_no_clock(given):
-    """Pages in UTC are seldom meant."""
+    """Says that the pages will be in UTC, which is seldom meant."""
     if given.lacks_clock and not given.refusal:
         streams.say("katchidul: note: there is no zone and no clock, so the pages show UTC; "
                     "write zone: Europe/London or its like, or clock: 0")

@@ -1,4 +1,4 @@
-"""Refusals in words. The sentences are the library's own, which tests/order_document holds them to."""
+"""Refusals in words. The sentences are the library's own; tests/order_document compares them."""
 import datetime
 from typing import NamedTuple
 

@@ -20,8 +20,8 @@ class Made(NamedTuple):
 
 
 def make(text, options=()):
-    """The order of a text and of options, pairs of a name and a value, which decide over the text. Raises Unreadable for what is not
-    understood. An order that the programs refuse is made too, and `warnings` say why they do."""
+    """The order of a text and of options, pairs of a name and a value, which replace the text's. Raises Unreadable for what is not
+    understood. An order that the programs refuse is made too, and `warnings` say why they refuse it."""
     from_options = [part for name, value in options for part in texts.option_parts(name, value)]
     texts.say_what_is_given_twice(from_options)
     parts, as_listed = texts.text_parts(text)
@@ -32,7 +32,7 @@ def make(text, options=()):
 
 
 def faults(options):
-    """A sentence for each field that is wrong, by its name; for a form that shows it at the field. What concerns none has the name ''."""
+    """A sentence for each field that is wrong, by its name, for a form that shows it at the field. A fault of no field has the name ''."""
     wrong = {}
     for name, value in options:
         try:
@@ -69,7 +69,7 @@ def fields(order):
 
 
 def field_line(tag, value):
-    """A field as make reads it: by its bytes when words would not give the same ones back, as for a NaN of another pattern."""
+    """A field as make reads it. It is given by its bytes if words would not give the same bytes back, as for a NaN of another pattern."""
     name, words = TAGS[FLOATS.get(tag.number, tag.number)].name, tag.kind.words(value)
     try:
         same = [(part.tag, part.value) for part in texts.parts_of(name, words)] == [(tag.number, value)]

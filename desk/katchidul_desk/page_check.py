@@ -11,7 +11,7 @@ NOON = "dhuhr"
 
 
 class Wrong(NamedTuple):
-    """A time that one clock for its row does not show right: what is shown, and what the zone's clock says. With the column "day" it is
+    """A time that one clock for its row does not show right: what is shown, and what the zone's clock says. With the column "day" these are
     the row's date and the date there at noon: a zone across the date line is a day ahead of its place."""
     date: datetime.date
     column: str

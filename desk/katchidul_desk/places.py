@@ -72,7 +72,7 @@ LONGITUDE = Axis("longitude", 5, 19, OnMap(180, "EW"))
 
 
 def tidied(text):
-    """One mark for each meaning, and the letter of the direction behind the numbers."""
+    """The text with one mark for each meaning, and the letter of the direction after the numbers."""
     text = DIRECTIONS.sub(lambda word: word[0][0], signs(text).translate(MARKS)).strip().upper()
     front = re.fullmatch(r"([NSEW]) *(\d.*)", text, re.DOTALL)
     return "%s %s" % (front[2], front[1]) if front else text
@@ -134,7 +134,7 @@ def place(text):
 
 
 def halves(text):
-    """A place's two texts: by a comma, else behind the letter of the first, else by the blank between two numbers."""
+    """A place's two texts: split at a comma, else after the letter of the first, else at the blank between two numbers."""
     parts = re.split("[,;]", text)
     with_commas = re.fullmatch(r"([+-]?\d+),(\d+) *[,; ] *([+-]?\d+),(\d+)", text)
     if with_commas:

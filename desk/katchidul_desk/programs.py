@@ -19,7 +19,7 @@ REFUSED = re.compile(rb"order refused (\d+) place (\d+)\n")
 
 
 class Printed(NamedTuple):
-    """What a program printed. Of a refused order that is the refusal's line, and `refusal` has number and place."""
+    """What a program printed. For a refused order this is the refusal's line, and `refusal` has number and place."""
     text: bytes
     refusal: Optional[Refusal]
 
@@ -33,7 +33,7 @@ def run(name, order):
         raise ProgramError("the program %s can't be run: %s" % (program, why.strerror)) from None
     if ended.returncode != 0:
         raise ProgramError("the program %s ended with status %d, so nothing is printed" % (name, ended.returncode))
-    # A refused order is this one line and nothing else, whatever a town is called.
+    # A refused order prints this one line and nothing else, so no town's name can look like it.
     refused = REFUSED.fullmatch(ended.stdout)
     return Printed(ended.stdout, Refusal(int(refused[1]), int(refused[2])) if refused else None)
 
@@ -77,7 +77,7 @@ def proved(root, name):
 
 
 def is_current(root, program, checked):
-    """Whether no crate is newer than the last proof. The program's own age does not tell: rt leaves it when a change does not touch it."""
+    """Whether no crate is newer than the last proof. The program's own age does not tell: rt leaves it if a change does not touch it."""
     try:
         since = checked.stat().st_mtime_ns
         return os.access(program, os.X_OK) and all(path.lstat().st_mtime_ns <= since for path in sources(root))

@@ -54,7 +54,7 @@ def watched(root, name, log):
 
 
 def crates_below(root, name):
-    """The crates of this repository that the program stands on, itself among them."""
+    """The crates of this repository that the program uses, itself among them."""
     lines = [line.partition(":") for line in (root / "crates.txt").read_text().splitlines() if ":" in line and not line.startswith("#")]
     uses = {crate: direct.split() for crate, _, direct in lines}
     found, left = set(), [name]
@@ -67,7 +67,7 @@ def crates_below(root, name):
 
 
 def lines_of(stream):
-    """The lines of a stream, and an empty one for each second without any, so that a clock can go on."""
+    """The lines of a stream, and an empty one for each second without a line, so that a clock can go on."""
     left = b""
     while True:
         if not select.select([stream], [], [], 1)[0]:
@@ -106,7 +106,7 @@ class Progress:
             self.rewrite()
 
     def go_on(self):
-        """Only time went by."""
+        """Shows the time so far, since no crate was done meanwhile."""
         self.begin()
         if self.is_terminal and self.last:
             self.rewrite()

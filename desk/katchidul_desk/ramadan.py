@@ -5,7 +5,7 @@ ROWS = 30
 MONTH = 9
 LEAP_YEARS = (2, 5, 7, 10, 13, 16, 18, 21, 24, 26, 29)
 SHIFTS = (-1, 0, 1)
-# Those whose first of Ramadan an order can have: from 1900-01-03 to 2199-10-21. None of them is an order's Gregorian year.
+# The years whose first of Ramadan an order can have: from 1900-01-03 to 2199-10-21. None of them is an order's Gregorian year too.
 ISLAMIC_YEARS = range(1317, 1627)
 
 

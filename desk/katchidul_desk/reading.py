@@ -1,4 +1,4 @@
-"""Reads an order as document 01 has it: its fields, and its refusal with the reason in words."""
+"""Reads an order as document 01 says: its fields, and its refusal with the reason in words."""
 import datetime
 import struct
 from typing import List, NamedTuple, Optional, Tuple
@@ -15,7 +15,7 @@ HEADER = 3
 
 
 class Reading(NamedTuple):
-    """The fields as (offset, tag, value); then what is left from a field on whose form is broken."""
+    """The fields as (offset, tag, value), and then what is left from the first field whose form is broken."""
     fields: List[Tuple[int, Tag, bytes]]
     rest: bytes
     refusal: Optional[Refusal]

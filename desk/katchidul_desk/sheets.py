@@ -21,7 +21,7 @@ class Row(NamedTuple):
 
 
 class Sheet(NamedTuple):
-    """`columns` are those behind the date: nine, and imsak before them on a Ramadan sheet."""
+    """`columns` are those after the date: nine, and imsak before them on a Ramadan sheet."""
     town: str
     columns: Tuple[str, ...]
     rows: Tuple[Row, ...]
@@ -33,7 +33,7 @@ def sheet(order):
 
 
 def accepted(name, order):
-    """What a program prints of an order that it accepts."""
+    """What a program prints for an order that it accepts."""
     printed = programs.run(name, order)
     if printed.refusal:
         raise Refused(reason(order, printed.refusal))

@@ -15,12 +15,12 @@ def show(words):
 
 
 def sheet(words):
-    """What the program prints, also of a refused order. The sheet is in UTC, so a zone's orders have the sheet of the whole."""
+    """What the program prints, also for a refused order. The sheet is in UTC, so it is one sheet for all of a zone's orders."""
     return plain("sheet", parse("sheet", words, {"plain"}), lambda given: [given.order])
 
 
 def plain(program, arguments, orders_of):
-    """What a program itself prints, of all orders."""
+    """What a program itself prints, for all orders."""
     text, told = b"", []
     for given in inputs.given(arguments, program):
         for order in orders_of(given):
@@ -105,7 +105,7 @@ def wear(words):
 
 
 def orders_or_refused(given):
-    """The orders for the embosser; of a refused one itself, which its program tells."""
+    """The orders for the embosser. A refused order is given as it is, and its program refuses it."""
     return [given.order] if given.refusal else [order for _, order in given.orders()]
 
 

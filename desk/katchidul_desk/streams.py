@@ -1,4 +1,4 @@
-"""Files and standard streams, whatever state they are in: each fault is a sentence."""
+"""Files and standard streams in any state: each fault is a sentence."""
 import os
 import stat
 import sys
@@ -6,7 +6,7 @@ import sys
 from .errors import DeskError
 from .wording import shown
 
-# Over any text that makes an order. It bounds what is read of a device without an end.
+# More than any text that makes an order. It limits what is read from a device without an end.
 MOST = 65536
 closed = set()
 
@@ -34,7 +34,7 @@ def read(path):
                 raise DeskError("standard input is closed; give an order or a text")
             data = read_all(0)
         else:
-            # A pipe or a terminal is waited for, as other commands do.
+            # It waits for a pipe or a terminal, as other commands do.
             number = os.open(path, os.O_RDONLY)
             try:
                 data = read_all(number)
@@ -73,7 +73,7 @@ def write(data, out=None):
 
 
 def write_bytes(data, out=None):
-    """The same for what is no text, and would upset a terminal."""
+    """The same for bytes that are no text and would confuse a terminal."""
     if out is None and 1 not in closed and os.isatty(1):
         raise DeskError("these bytes are no text for a terminal; give a file's name with --out")
     write(data, out)

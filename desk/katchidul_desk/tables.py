@@ -1,4 +1,4 @@
-"""The sheet by the order's clock: a table to read, and to hold against the braille page."""
+"""The sheet by the order's clock: a table to read, and to compare with the braille page."""
 import datetime
 
 from .messages import refused_day

@@ -15,9 +15,9 @@ from .wording import BLANKS, as_bytes, did_you_mean, plain, quoted
 # Longer than any value in words. It keeps a pasted file from being worked on as one.
 LONGEST_VALUE = 400
 ROWS_TAG = 3
-# Bytes at the end sort behind every tag; the zone is no part of the order's bytes.
+# Bytes at the end sort after every tag; the zone is no part of the order's bytes.
 END, ZONE = 256, 257
-# Names that are no field's own: each gives one field or two.
+# Names that are not a field's own: each gives one field or two.
 OTHERS = ("place", "month", "from", "to", "zone")
 
 
@@ -122,7 +122,7 @@ WAYS = {"place": from_place, "month": from_month, "from": from_first, "to": to_l
 def text_parts(text):
     """The parts that a text gives, and whether they keep their order."""
     parts, as_listed = [], False
-    # Only a newline ends a line: a town may hold what Unicode calls a line's end too, to be told of it.
+    # Only a newline ends a line. A town may have another of Unicode's line ends; then the clerk is told of it.
     for number, line in enumerate(text.lstrip("\ufeff").split("\n"), 1):
         line = line.strip(BLANKS)
         if not line or line.startswith("#"):

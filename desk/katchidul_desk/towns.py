@@ -43,7 +43,7 @@ class Town:
         return "a town is written in ASCII, " + self.advice(value)
 
     def advice(self, value):
-        """What to write in the place of letters outside ASCII."""
+        """What to write in place of letters outside ASCII."""
         try:
             name = value.decode("utf-8")
         except UnicodeDecodeError:

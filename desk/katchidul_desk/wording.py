@@ -12,7 +12,7 @@ def plain(name):
 
 
 def as_bytes(text):
-    """The bytes that a text was read from. Half a pair of UTF-16, which no file gives, is kept too."""
+    """The bytes that a text was read from. Half a pair of UTF-16, which comes from no file, is kept too."""
     try:
         return text.encode("utf-8", "surrogateescape")
     except UnicodeEncodeError:

@@ -65,8 +65,8 @@ def split(order, name):
 
 
 def row_clocks(whole, zone):
-    """Each row's clock: the one that is right for most of its times on the page, of two alike the later one. A refused row has no times,
-    and goes with the row before it."""
+    """Each row's clock: the one that is right for most of its times on the page, or the later one if two are equally right. A refused row
+    has no times, and gets the clock of the row before it."""
     clocks = [row_clock(row, zone) if row.times else None for row in whole.rows]
     noon = datetime.datetime.combine(whole.rows[0].date, datetime.time(12), datetime.timezone.utc)
     before = next((clock for clock in clocks if clock is not None), None)
@@ -82,7 +82,7 @@ def row_clock(row, zone):
 
 
 def part(order, whole, clocks, run, divided):
-    """The order of a run of rows. Every other field stays, but for tag 20 of an order that is divided."""
+    """The order of a run of rows. Every other field stays, except tag 20 of an order that is divided."""
     first, last = whole.rows[run[0]].date, whole.rows[run[-1]].date
     values = {CLOCK: struct.pack(">h", clocks[run[0]])}
     if divided:
@@ -96,7 +96,7 @@ def part(order, whole, clocks, run, divided):
 
 
 def lines(made, names):
-    """What a split made, for the desk. `names` are the parts' files, and behind them the Ramadan order's if it is written."""
+    """What a split made, for the desk. `names` are the parts' files, and after them the Ramadan order's if it is written."""
     if len(made.parts) == 1:
         only = made.parts[0]
         yield "%s is %s for all rows, %s to %s" % (made.zone, utc_offset(only.clock), only.first, only.last)

@@ -2,13 +2,13 @@
 
 #include <string.h>
 
-/* The text behind a word and its blank, or NULL. */
+/* The text after a word and its blank, or NULL. */
 static const char *behind(const char *line, const char *word) {
   size_t length = strlen(word);
   return strncmp(line, word, length) == 0 && line[length] == ' ' ? line + length + 1 : NULL;
 }
 
-/* Takes a number of 1 to 10 digits from 1 to `most`. Returns what follows it and a blank, or its end, or NULL. */
+/* Takes a number of 1 to 10 digits from 1 to `most`. Returns the text after it and a blank, or the line's end, or NULL. */
 static const char *take_number(const char *line, uint32_t most, uint32_t *number) {
   uint64_t value = 0;
   size_t digits = line == NULL ? 0 : strspn(line, "0123456789");

@@ -39,7 +39,7 @@ bool punched_append(const sheet *s) {
 
 uint32_t punched_count(uint32_t id) { return counts[id]; }
 
-/* Kept as the host keeps a log: a new file that is flushed takes the name. */
+/* Written as the host writes a log: a new file is flushed and then renamed. */
 static bool keep_serves(const char *name) {
   int made = open(unfinished, O_WRONLY | O_CREAT | O_TRUNC | O_CLOEXEC, 0666);
   bool kept = made >= 0 && write(made, name, strlen(name)) == (ssize_t)strlen(name) && fsync(made) == 0;

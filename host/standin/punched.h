@@ -13,15 +13,15 @@ typedef struct {
   char bytes[LINE_BYTES + PAGE_ROWS_MAX * ROW_CELLS];
 } sheet;
 
-/* Opens the file and counts its pages; one that is cut at the end is dropped. */
+/* Opens the file and counts its pages. A page that is cut at the end is dropped. */
 bool punched_open(const char *name);
 
-/* Appends a page. It is finished when this returns, and not before. */
+/* Appends a page. The page is finished when this returns, and not before. */
 bool punched_append(const sheet *s);
 
 uint32_t punched_count(uint32_t id);
 
-/* The spool that is served: the first that asked, for good. False if that cannot be kept or read. */
+/* The spool that is served: the first that asked, for good. Returns false if its name cannot be written or read. */
 bool punched_serves(const char *asking, char name[NAME_BYTES + 1]);
 
 #endif

@@ -1,9 +1,9 @@
 /* katchidul-standin [-t MILLISECONDS] [-a PERCENT] [-l PERCENT] [-r SEED] SOCKET PUNCHED: a stand-in for the machine. It takes pages over
-   a socket, as host/link.h has it, finishes them in the order in which they came, each in -t milliseconds, and appends them to PUNCHED,
-   whatever they are: that none comes twice is the host's business. It serves one host at a time, and one spool for good. A host that is
-   gone leaves its pages in the tray, and they are still finished.
-   -a: so many acknowledgements of a hundred are lost. -l: of a hundred pages in work so many are lost, with all of the tray, and the link
-   closes; so many trays are lost too when a host is gone. -r begins another row of such accidents. */
+   a socket, as host/link.h says. It finishes them in the order in which they came, each in -t milliseconds, and appends all of them to
+   PUNCHED: that no page comes twice is the host's task. It serves one host at a time, and one spool for good. If a host goes away, its
+   pages stay in the tray and are still finished.
+   -a: how many acknowledgements in a hundred are lost. -l: how many pages in work in a hundred are lost, with all of the tray; then the
+   link closes. As many trays are lost when a host goes away. -r is the seed of these accidents. */
 #define _GNU_SOURCE
 #include "punched.h"
 
@@ -73,7 +73,7 @@ static void remove_at(size_t at) {
   waiting--;
 }
 
-/* What is not finished of the job is dropped before its count is told. */
+/* The job's unfinished pages are dropped before its count is told. */
 static void restart(uint32_t id) {
   for (size_t i = waiting; i-- > 0;)
     if (tray[i].id == id) remove_at(i);
@@ -108,7 +108,7 @@ static bool take(void) {
   if (m.kind == SPOOL) meet(m.name);
   if (m.kind == RESTART) restart(m.id);
   if (m.kind == PAGE) lay_in_tray(&m);
-  if (host < 0) return false; /* it was gone before its answer, and so is what it said */
+  if (host < 0) return false; /* the host went away before its answer, so what it said is dropped */
   held -= m.length;
   memmove(text, text + m.length, held);
   return true;

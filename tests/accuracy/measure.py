@@ -22,7 +22,7 @@ def pattern_of(x):
 
 
 def marked():
-    """Both ends, both zeros, subnormals, and each place where the code takes another way, with the floats on either side of it."""
+    """Both ends, both zeros, subnormals, and each point at which the code takes another branch, with the floats on either side of it."""
     places = [0.75, 0.0, 2.0**-1022, 2.0**-27, float_of(0x3FD33333_00000000)]
     patterns = {pattern_of(x) + step for x in places for step in range(-2, 3)} | {1, 2, 3, (1 << 51) + 1}
     for pattern in sorted(p for p in patterns if 0 <= p <= pattern_of(0.75)):
@@ -46,7 +46,7 @@ def arguments(count, seed):
 
 
 def coefficients(n):
-    """n! / k! for k = n, n - 2, .., the ten of them with the signs that they have in the series."""
+    """n! / k! for k = n, n - 2, .., ten of them, with the signs that they have in the series."""
     return [(-1) ** (9 - i) * (math.factorial(n) // math.factorial(n - 2 * i)) for i in range(10)]
 
 

@@ -43,7 +43,7 @@ class Walk:
         self.check("the sentence at %s" % name, bool(found), True)
 
     def quiet(self):
-        """The browser has nothing to complain of: no file that is missing, nothing against the page's policy."""
+        """The browser reports no error: no missing file, and nothing against the page's policy."""
         self.check("the browser's complaints", [one["message"] for one in self.browser.log() if one["level"] == "SEVERE"], [])
 
     def overflow(self, name):
@@ -155,7 +155,7 @@ def downloaded(walk, name):
 
 
 def small_screen(walk):
-    """On a screen of 1280 pixels the tables are seen whole, the braille's digits too."""
+    """On a screen of 1280 pixels the tables are seen whole, with the braille's digits."""
     walk.browser.ask("POST", "/window/rect", {"width": 1280, "height": 900})
     hidden = walk.browser.run("return [...document.querySelectorAll('.preview .scroll')].map((one) => one.scrollWidth - one.clientWidth)")
     walk.check("a small screen: what is hidden of the tables", hidden, [0, 0])
@@ -246,7 +246,7 @@ def stop(walk, name, role, label):
 
 
 def room(walk):
-    """Into the spool once, whatever is pressed; and the jobs' progress while the page is open."""
+    """An order goes into the spool once, even if the button is pressed again; and the jobs' progress while the page is open."""
     browser = walk.browser
     browser.open(walk.address + "?open=durham.text")
     browser.click("button.main")

@@ -14,7 +14,7 @@ KEYS = {"tab": "\ue004", "enter": "\ue007", "control": "\ue009", "delete": "\ue0
 
 
 class Failed(Exception):
-    """What the driver answers when it can't do what it is asked."""
+    """The driver's answer if it can't do what it is asked."""
 
 
 def free_port():
@@ -100,7 +100,7 @@ class Browser:
         self.ask("POST", "/actions", {"actions": [{"type": "key", "id": "keys", "actions": actions}]})
 
     def wait(self, script, *arguments, seconds=20):
-        """Waits until a script returns what is true, and returns that."""
+        """Waits until a script returns a true value, and returns that."""
         end = time.monotonic() + seconds
         while True:
             try:
@@ -112,7 +112,7 @@ class Browser:
             time.sleep(0.1)
 
     def log(self):
-        """What the browser wrote to its console since the last question."""
+        """What the browser wrote to its console since the last call."""
         return self.ask("POST", "/se/log", {"type": "browser"})
 
     def chromium(self, command, **parameters):

@@ -44,7 +44,7 @@ def ended(words):
 
 
 def started(*words, given=b"", **more):
-    """The same of the command as it is started by a person."""
+    """The same for the command as a person starts it."""
     run = subprocess.run([COMMAND, *words], input=given, capture_output=True, check=False, **more)
     return run.returncode, run.stdout, run.stderr.decode("utf-8", "replace")
 
@@ -58,5 +58,5 @@ def draw(seed):
     return random.Random(seed)
 
 
-# The second reader of orders, written from the paper on its own.
+# The second reader of orders, written from the paper alone.
 cases = module("cases", "tests", "orders", "cases.py")

@@ -1,4 +1,4 @@
-"""Streams that are closed, full, folders or without an end, and terminals of ASCII: a sentence each, and no traceback."""
+"""Streams that are closed, full, a folder or without an end, and terminals of ASCII: each gets a sentence, and no traceback."""
 import fcntl
 import os
 import pathlib
@@ -110,7 +110,7 @@ def messages_can_not_command_a_terminal():
 
 
 def long_values():
-    """Bounded, and at once."""
+    """A long value gets a short sentence, and at once."""
     began = time.process_time()
     for name in ("latitude", "place", "fajr angle", "rows", "clock", "method", "minutes", "first day", "month", "from", "to", "zone",
                  "ramadan", "town", "nothing", "9" * 300000):
@@ -125,7 +125,7 @@ def long_values():
 
 
 def signals():
-    """An order on the way is stopped by the keyboard without a word, and leaves no file."""
+    """The keyboard stops the making of an order without a message, and no file is left."""
     with tempfile.TemporaryDirectory() as folder:
         run = subprocess.Popen([COMMAND, "make", "-", "--out", os.path.join(folder, "x.order")], stdin=subprocess.PIPE,
                                stderr=subprocess.PIPE)
@@ -142,7 +142,7 @@ def signals():
 
 
 def printed():
-    """tools/printed, which runs the installed programs: a closed or a folder's input is no empty order, and a signal leaves no file."""
+    """tools/printed, which runs the installed programs: a closed input or a folder is no empty order, and a signal leaves no file."""
     sheet = os.path.join(PROGRAMS, "sheet")
     for line, status, part in [("tools/printed $S <&-", 2, "standard input is closed"),
                                ("tools/printed $S </", 2, "standard input is a folder"),

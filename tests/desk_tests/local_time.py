@@ -1,4 +1,4 @@
-"""Orders by a zone's clock, held to a second reading of the time zone files."""
+"""Orders by a zone's clock, compared with a second reading of the time zone files."""
 import calendar
 import datetime
 import os
@@ -87,7 +87,7 @@ def local(at, zone):
 
 
 def compare(name, order, zone):
-    """The parts of a split against the sheet's rows; the rows that are wrong are those that are named. Returns how many parts there are."""
+    """The parts of a split against the sheet's rows: exactly the named rows are wrong. Returns how many parts there are."""
     made = zones.split(order, name)
     values = [cases.fields_of(part.order)[0] for part in made.parts]
     pages = [row for part in made.parts for row in cell_times(program("cells", part.order))]
@@ -140,8 +140,8 @@ def date_line():
 
 
 def leeds():
-    """October in Leeds from nothing, in one command. The days around the change are held to other sources: the sun to the Astronomical
-    Almanac's formulas, the clock to the command date."""
+    """October in Leeds from nothing, in one command. The days around the change are compared with other sources: the sun with the
+    Astronomical Almanac's formulas, the clock with the command date."""
     with tempfile.TemporaryDirectory() as folder:
         out = os.path.join(folder, "leeds.order")
         status, printed, said = run("make", *[word for name, value in LEEDS for word in ("--" + name, value)], "--out", out)

@@ -71,7 +71,7 @@ def every_way(order, whole):
 
 
 def no_traceback(what, given, steps):
-    """Only sentences may come of it, and short ones."""
+    """It may give only sentences, and short ones."""
     said = "none"
     try:
         steps()

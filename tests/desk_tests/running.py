@@ -11,8 +11,8 @@ import time
 
 from .checks import ROOT, check
 
-# It reads its input, to show that the order is not there; it keeps an old program, as rt does when a change does not touch it; it counts
-# its runs, and is slow while the file `slow` is there.
+# It reads its input, to show that the order is not there. It keeps an old program, as rt does if a change does not touch it. It counts its
+# runs, and is slow while the file `slow` is there.
 RT = """#!/bin/sh
 echo "fn $2::main: proved"
 echo "rt: $2 proved (1 s)" >&2
@@ -40,7 +40,7 @@ class Checkout:
         self.touch("crates.txt")
         (self.bin / "rt").write_text(RT)
         (self.bin / "rt").chmod(0o755)
-        # Nothing else is found than what the command and the stand-ins need: no other rt.
+        # Only what the command and the stand-ins need is found, and no other rt.
         for command in ("sh", "dirname", "readlink", "cat", "sleep", "mkdir", "chmod"):
             (self.bin / command).symlink_to(shutil.which(command))
         (self.bin / "python3").symlink_to(sys.executable)
@@ -107,7 +107,7 @@ def proofs(checkout):
     check("without rt", (status, printed, "rt, the command of the Rattle kit, is not there" in said), (2, b"", True))
 
 
-# What rt says of three crates, with the prover's notes between; the first was proved before.
+# What rt says of three crates, with the prover's notes between. The first was proved before.
 SAYS = """rt: prelude proved (unchanged since it was last proved)
 note: a note of the prover
 fn lines::row: proved
@@ -136,7 +136,7 @@ def told(checkout, is_terminal):
 
 @in_checkout
 def progress_in_lines(checkout):
-    """A line a crate that was proved now, how many there are, and nothing of the prover's notes."""
+    """A line for each crate that was proved now, how many there are, and none of the prover's notes."""
     said = told(checkout, False).splitlines()
     check("lines of progress", len(said), 3)
     check("how many crates", said[0].startswith("proving the 3 crates of the program sheet"), True)
@@ -195,7 +195,7 @@ def two_at_once(checkout):
 
 @in_checkout
 def stopped(checkout):
-    """A proof that is stopped counts as none."""
+    """A proof that is stopped does not count."""
     checkout.touch("slow")
     run = checkout.start("sheet")
     run.stdin.write(GIVEN)
@@ -213,7 +213,7 @@ def stopped(checkout):
 
 @in_checkout
 def refused(checkout):
-    """A refused order is told by its status. A town of that name, and a cell with a newline's byte, are not."""
+    """The status tells that an order is refused. A town with the text of a refusal, and a cell with a newline's byte, are not refused."""
     checkout.run("sheet")
     program = checkout.root / "target" / "bin" / "sheet"
     for text, status in [("order refused 5 place 16\\n", 1), ("order refused 99 place 7\\n", 1),
@@ -234,7 +234,7 @@ def refused(checkout):
 
 
 def installed():
-    """Beside the package, under whatever folder."""
+    """The programs are found beside the package, in any folder."""
     with tempfile.TemporaryDirectory(prefix="a folder's ") as folder:
         library = pathlib.Path(folder) / "lib"
         shutil.copytree(ROOT / "desk", library, ignore=shutil.ignore_patterns("__pycache__"))

@@ -113,7 +113,7 @@ def written():
 
 
 def tables():
-    """The desk has the names and presets once more; here they are held to the port's and the other reader's."""
+    """The desk has the names and presets once more; here they are compared with the port's and the other reader's."""
     for tag, name in [(6, "method"), (7, "madhab"), (8, "high_altitude_rule"), (9, "rounding"), (10, "shafaq")]:
         with open(os.path.join(ROOT, "crates", "models", "src", name + ".rt")) as file:
             numbers = file.read().partition("pub fn number(self)")[2].partition("of_number")[0]
@@ -158,7 +158,7 @@ def in_words():
 
 
 def unread_lines():
-    """Each must be refused by its line's number, and nothing be written."""
+    """Each must be refused with its line's number, and nothing written."""
     for line in ["town Durham", "villages: 3", "first day: 1 June 2026", "first day: 2026-06", "first day: 70000-01-01",
                  "first day: 2026-256-01", "rows: many",
                  "rows: 65536", "rows: 256, in one byte", "rows: 3, in three bytes", "rows: -1", "rows: 1.0", "latitude: 54,7",
@@ -224,7 +224,7 @@ def options(text):
 
 
 def refused(text, out):
-    """What the programs would refuse is not written, unless that is asked for."""
+    """An order that the programs would refuse is not written, unless that is asked for."""
     os.unlink(out)
     status, printed, said = run("make", text, "--first-day", "2026-13-01", "--out", out)
     check("what the sheet refuses is not written", (status, printed, os.path.exists(out)), (1, b"", False))
@@ -241,7 +241,7 @@ FAST = POLE.replace(b"2026-06-21", b"2026-02-18").replace(b"rows: 1", b"rows: 30
 
 
 def ramadan():
-    """The first days that are printed are those that an order may have, and no others are."""
+    """The first days that are printed are exactly those that an order may have."""
     printed = {}
     for year in range(1900, 2200):
         for islamic, shift, day in first_days(year):

@@ -50,7 +50,7 @@ class Zone:
 
     @functools.lru_cache(maxsize=None)
     def rule_changes(self, years):
-        """(instant, offset from it on) by the rule; without summer time one from the beginning on."""
+        """(instant, offset from it on) by the rule. Without summer time there is one, from the beginning on."""
         found = RULE.fullmatch(self.rule).groups()
         standard = -seconds(*found[:4])
         if not found[4]:

@@ -15,7 +15,7 @@ TIME = re.compile(r"([+-]\d)T(\d\d):(\d\d):\d\d")
 
 
 def unchanged():
-    """Byte for byte what the programs print, of orders that are accepted and of one that is refused."""
+    """Byte for byte what the programs print, for accepted orders and for a refused one."""
     for path in EXAMPLES:
         order, status = path.read_bytes(), 1 if path.stem == "cut" else 0
         for name in ("sheet", "wear"):
@@ -75,7 +75,7 @@ def table():
 
 
 def pages():
-    """The page's digits are the table's, for every example: one can be held against the other."""
+    """The page's digits are the table's, for every example, so the two can be compared."""
     for path in EXAMPLES:
         if path.stem == "cut":
             continue

@@ -1,5 +1,5 @@
-/* Every call on one order. The order is lent from a page with a forbidden page on each side; in every second call it ends where
-   the forbidden page begins, so that a byte read past it ends the run, and otherwise canary bytes stand on both sides. */
+/* Every call on one order. The order is lent from a page with a forbidden page on each side. In every second call it ends where the
+   forbidden page begins, so that a byte read past it ends the run. In the other calls canary bytes are on both sides. */
 #define _DEFAULT_SOURCE
 #include <string.h>
 #include <sys/mman.h>
@@ -49,7 +49,7 @@ bool order_kept(const order_bytes *order, const uint8_t *lent) {
          all_canaries(lent + order->length, room + room_size);
 }
 
-/* The sizes go from the least that a row takes on; buffers under it are asked for by themselves. */
+/* The sizes begin with the least that a row needs; shorter buffers are tried apart. */
 static void ask_row(answers *all, const order_bytes *order, const uint8_t *lent, uint32_t row) {
   static const size_t sizes[] = {ROW_LENGTH, ROW_LENGTH + 1, 200, BUFFER_MOST};
   static uint32_t call;

@@ -1,6 +1,6 @@
-/* Buffers to lend, and a row asked into one. A buffer stands in pages with a forbidden page on each side: at their start, between bytes that
-   are not lent, or at their end, in turn. All those bytes, lent or not, differ from place to place and from call to call, and after
-   the call each is held against what it must be. */
+/* Buffers to lend, and a row written into one. A buffer is in pages with a forbidden page on each side: at their start, between bytes that
+   are not lent, or at their end, in turn. All those bytes, lent or not, differ from place to place and from call to call, and after the
+   call each is compared with what it must be. */
 #define _DEFAULT_SOURCE
 #include <string.h>
 #include <sys/mman.h>
@@ -11,7 +11,7 @@
 static uint8_t *room, *expected;
 static size_t room_size, buffer_at;
 
-/* The pages to lend from, and behind the second forbidden page as many for what they must hold. */
+/* The pages to lend from. After the second forbidden page there are as many for the bytes that they must have. */
 bool buffer_start(void) {
   size_t page = (size_t)sysconf(_SC_PAGESIZE);
   room_size = 2 * page;

@@ -1,5 +1,5 @@
-/* A row's cells, and a page's, whole and by pieces, in a lent buffer. What they must be is written from requests 2 and 9 of document 02 alone: a cell by its raised dots, the
-   times by what katchidul_work_day answers. */
+/* A row's cells, and a page's, whole and by pieces, in a lent buffer. What they must be is written from requests 2 and 9 of document 02
+   alone: a cell by its raised dots, the times by what katchidul_work_day returns. */
 #include <stdio.h>
 #include <string.h>
 
@@ -91,7 +91,7 @@ static void one_row(const order_bytes *order, uint32_t row, size_t size, uint32_
   check(right, whole);
 }
 
-/* The rows of a page from one on, as many as the scratch has room for and are left of so many. */
+/* The rows of a page from one on, as many as fit the scratch and are left. */
 static bool piece_given(const katchidul_cells *answer, uint32_t first, size_t size, uint32_t rows, const uint8_t *cells) {
   uint32_t left = rows - first, room = (uint32_t)(size / 39);
   return first < rows && cells_given(answer, room < left ? room : left, cells + 39 * first);
@@ -126,7 +126,7 @@ bool page_agrees(const order_bytes *order, uint32_t page, uint32_t first, size_t
   return piece_given(&answer, first, size, rows, cells);
 }
 
-/* Every size that is too short, before anything else; then the order, and then the row or the page. */
+/* Every size that is too short is refused first; then the order is checked, and then the row or the page. */
 static void check_order_of_checks(void) {
   order_bytes good = good_order(), cut = good, empty = {0};
   put_byte(&cut, 99);

@@ -55,7 +55,7 @@ static order_bytes sound_order(void) {
   return ramadan_sheet(&order, (uint32_t)(1317 + below(310)), (uint8_t)below(31), (uint8_t)below(3));
 }
 
-/* Makes place for bytes at an offset; what would pass the room's end is lost. */
+/* Makes room for bytes at an offset; bytes that would pass the end are lost. */
 static void insert(order_bytes *order, size_t at, const uint8_t *bytes, size_t count) {
   if (order->length + count > ORDER_ROOM) return;
   memmove(order->bytes + at + count, order->bytes + at, order->length - at);
@@ -98,7 +98,7 @@ static order_bytes any_order(void) {
   return order;
 }
 
-/* An instant near the day's times where there are any, else anywhere; sometimes beyond the ends. */
+/* An instant near the day's times if it has times, else anywhere; sometimes beyond the ends. */
 static int64_t any_instant(const katchidul_order *order, uint32_t row) {
   if (order->number == 0 && below(8)) {
     return (days_to(order->year, order->month, order->day) + row) * 86400 + (int64_t)below(4 * 86400) - 86400;

@@ -85,8 +85,8 @@ static void mark(bool seen[3][3], double latitude, double longitude) {
   }
 }
 
-/* A transit that rounds to midnight, a sun that does not rise, a sunset that rounds to midnight: as the rows come near, each is met
-   on day 2 first, then on day 1, then on day 0. */
+/* A transit that rounds to midnight, a sun that does not rise, a sunset that rounds to midnight. As the rows come near it, each is met on
+   day 2 first, then on day 1, then on day 0. */
 static void check_every_day(void) {
   bool seen[3][3] = {{false}};
   for (int i = 0; i < 20; i++) mark(seen, 0, -180 + 0.25 * i);

@@ -1,5 +1,5 @@
-/* The floating-point environment: the header's question tells every change of it that could reach an answer, the calls leave it as it is, and
-   an answer that it changed is right again once it is restored. */
+/* The floating-point environment. The header's question tells every change of it that could change a result. The calls leave it as it is.
+   When it is restored, the results are right again. */
 #include <fenv.h>
 #include <stdio.h>
 #include <xmmintrin.h>

@@ -32,7 +32,7 @@ void put_interval(order_bytes *order, uint16_t minutes);
 void put_clock(order_bytes *order, int16_t minutes);
 /* Sign, degrees, minutes, seconds and hundredths. */
 void put_map(order_bytes *order, uint8_t tag, const uint8_t parts[5]);
-/* The number of rows in so many bytes. */
+/* The number of rows, in this many bytes. */
 void put_rows(order_bytes *order, uint16_t rows, uint16_t size);
 /* Minutes from imsak to Fajr, and the shift as it is stored. */
 void put_ramadan(order_bytes *order, uint8_t imsak, uint8_t stored);
@@ -73,9 +73,9 @@ bool prayer_refused(const katchidul_prayer *answer, uint32_t number, uint32_t pl
 bool remaining_refused(const katchidul_remaining *answer, uint32_t number, uint32_t place);
 /* Writing the row gives this number and place, and the buffer is as they say. */
 bool line_answered(const answers *all, uint32_t number, uint32_t place);
-/* The same of its cells, which are given where this number is a day's. */
+/* The same for its cells, which are written if this number is a day's. */
 bool cells_answered(const answers *all, uint32_t number, uint32_t place);
-/* The six calls on a row and its times give this number and place and nothing else; its cells' call where it is not the day's. */
+/* The six calls on a row and its times give this number and place and nothing else, and so does its cells' call, unless it is a day's. */
 bool row_refused(const answers *all, uint32_t number, uint32_t place);
 /* The three calls on an instant give this number and place and nothing else. */
 bool instant_refused(const answers *all, uint32_t number, uint32_t place);
@@ -84,7 +84,7 @@ bool instant_refused(const answers *all, uint32_t number, uint32_t place);
 int64_t first_of_ramadan(uint32_t year);
 order_bytes ramadan_sheet(const order_bytes *order, uint32_t year, uint8_t imsak, uint8_t stored);
 
-/* line.c: the line of a row that the order has, from what the other calls answer. Times that no order has make a longer one. */
+/* line.c: the line of a row that the order has, from what the other calls return. Times that no order has make a longer one. */
 typedef struct {
   char text[512];
   size_t length;
@@ -101,18 +101,19 @@ row_date date_of(const katchidul_order *order, uint32_t row);
 /* buffer.c: a row asked into a lent buffer of up to BUFFER_MOST bytes. */
 bool buffer_start(void);
 katchidul_reply write_lent(const uint8_t *order, size_t length, uint32_t row, size_t size);
-/* After write_lent: no byte has changed; or the line stands at the buffer's front and no byte after it has changed. */
+/* After write_lent: no byte has changed; or the line is at the buffer's front and no byte after it has changed. */
 bool buffer_kept(void);
 bool buffer_has(const row_line *line);
 /* The whole of a call: its answer, its buffer, its order. */
 bool row_written(const order_bytes *order, uint32_t row, size_t size, const row_line *line);
 bool row_unwritten(const order_bytes *order, uint32_t row, size_t size, uint32_t number, uint32_t place);
 
-/* buffer.c: a buffer of up to BUFFER_MOST bytes, lent until the next one is; and that these bytes stand at its front and no other has changed. */
+/* buffer.c: a buffer of up to BUFFER_MOST bytes, lent until the next one is; and whether these bytes are at its front and no other byte has
+   changed. */
 uint8_t *lend_buffer(size_t size);
 bool buffer_holds(const uint8_t *bytes, size_t count);
 
-/* cells.c: the cells of a row that the order has, from what the other calls answer. */
+/* cells.c: the cells of a row that the order has, from what the other calls return. */
 typedef struct {
   uint8_t cells[39];
 } row_cells;
@@ -120,14 +121,14 @@ typedef struct {
 row_cells cells_of(const katchidul_order *order, uint32_t row, const katchidul_day *day);
 uint32_t dots_in(const uint8_t *cells, size_t count);
 bool cells_refused(const katchidul_cells *answer, uint32_t number, uint32_t place);
-/* A whole call on a page, whatever the order, the row to begin at and the scratch. */
+/* A whole call on a page, for any order, first row and scratch. */
 bool page_agrees(const order_bytes *order, uint32_t page, uint32_t first, size_t size);
 
-/* write_order.c: an order that is read, written again into a buffer of so many bytes; and what the calls answer of it. */
+/* write_order.c: an order that is read, written again into a buffer of this many bytes; and what the calls return for it. */
 bool written_agrees(const order_bytes *bytes, size_t size);
 bool written_answers_alike(const order_bytes *bytes, const answers *all, uint32_t row, int64_t seconds, uint32_t nanoseconds);
 
-/* sense.c: what holds of every answer, whatever the order. */
+/* sense.c: what is true of every result, for any order. */
 bool answers_agree(const answers *all, uint32_t row, int64_t seconds, uint32_t nanoseconds);
 /* The days from 1970-01-01 to a date. */
 int64_t days_to(int64_t year, int64_t month, int64_t day);

@@ -1,4 +1,4 @@
-/* Instants: 10 before anything else, 11 after everything, and the marked cases of the prayer in force and of what remains. */
+/* Instants: 10 is checked first and 11 last; and the marked cases of the prayer in force and of the time remaining. */
 #include <math.h>
 
 #include "host.h"
@@ -74,7 +74,7 @@ static void check_remaining(const order_bytes *order, const katchidul_day *day) 
   remains(order, SECONDS_END, LAST_NANOSECOND, 0, 0, "nothing remains at 10^12");
 }
 
-/* Half a minute goes up in the last hour; before that it goes as the doubles of the header's expression fall. */
+/* Half a minute is rounded up in the last hour. Before that, the doubles of the header's expression decide. */
 static void check_halves(const order_bytes *order, const katchidul_day *day) {
   uint32_t down = 0;
   for (uint32_t ahead = 30; ahead < 6 * 3600; ahead += 60) {

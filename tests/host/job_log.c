@@ -1,6 +1,6 @@
-/* The job log: request 6's words one by one; random jobs in lent buffers of every size from 0 to 60 bytes, with a crash after every byte that
-   an append makes lasting and a restart after every step; and calls on damaged logs. Each answer, and each byte of both buffers and around
-   them, is held to a log of its own that is written from those words. */
+/* The job log: request 6's words one by one; random jobs in lent buffers of every size from 0 to 60 bytes, with a crash after every byte
+   that an append makes lasting and a restart after every step; and calls on damaged logs. Each result, and each byte of both buffers and
+   around them, is compared with a second log that is written here from those words. */
 #include <stdio.h>
 #include <string.h>
 
@@ -122,7 +122,7 @@ static outcome owed_restart(lent log, size_t used, uint32_t count, lent second) 
   return owed;
 }
 
-/* ---- each call, held to what is owed */
+/* ---- each call, compared with what is owed */
 
 static bool same(katchidul_log a, katchidul_log b) {
   return a.number == b.number && a.place == b.place && a.moved == b.moved && a.finished == b.finished && a.sent == b.sent && a.used == b.used;
@@ -153,7 +153,7 @@ static katchidul_log restart(lent *log, size_t used, uint32_t count, lent *secon
   return got;
 }
 
-/* ---- examples. A log is written as its records, `1 7` for page 7 sent; what stands behind it is left as it was. */
+/* ---- examples. A log is written as its records, `1 7` for page 7 sent; the bytes after it are left as they were. */
 
 typedef struct {
   uint32_t records[4][2]; /* tag and page; tag 0 ends them */
@@ -269,8 +269,8 @@ static bool restarted(job *j) {
 
 static bool say_the_same(const katchidul_log *a, const katchidul_log *b) { return a->finished == b->finished && a->sent == b->sent; }
 
-/* A crash: the log says what it said before the append or what it said after, and whatever the embosser has finished meanwhile, a restart goes
-   on with the page behind it. */
+/* A crash: the log says what it said before the append or what it said after. A restart goes on with the page after those that the embosser
+   has finished meanwhile. */
 static void crash(job j, const katchidul_log *before, const katchidul_log *after) {
   katchidul_log got = read_log(&j.disk.buffers[j.disk.at], j.disk.used);
   crashes++;
@@ -285,8 +285,8 @@ static void crash(job j, const katchidul_log *before, const katchidul_log *after
   }
 }
 
-/* An append whose bytes, and then the place, become lasting; with a crash after each byte, before the place is written and after. A host that
-   tells `used` by the length of a file may find any number of the bytes that are there. */
+/* An append whose bytes, and then the place, become lasting, with a crash after each byte, before the place is written and after. A host
+   that takes `used` from the length of a file may find any number of the bytes that are there. */
 static katchidul_log append_lasting(job *j, uint32_t tag, uint32_t page) {
   disk *d = &j->disk, made = *d;
   katchidul_log before = read_log(&d->buffers[d->at], d->used), after = append(&made.buffers[d->at], d->used, tag, page, &made.buffers[!d->at]);
@@ -309,8 +309,8 @@ static katchidul_log append_lasting(job *j, uint32_t tag, uint32_t page) {
   return after;
 }
 
-/* Every count to two above the sent pages: from 0 on, but where over 1,000 pages are finished, or over 70 at a step that is not a job's last, from two
-   below those. And records of any tag. */
+/* Every count up to two above the sent pages. It begins at 0; if over 1,000 pages are finished, or over 70 at a step that is not a job's
+   last, it begins two below those. And records of any tag. */
 static void try_others(const job *j, bool last) {
   katchidul_log now = read_log(&((job *)j)->disk.buffers[j->disk.at], j->disk.used);
   uint32_t low = now.finished > (last ? 1000 : 70) ? now.finished - 2 : 0;

@@ -1,5 +1,5 @@
-/* A row's line from the answers of the other calls, written from document 01's section on the sheet alone: the row's date, then each
-   time as signed days from that date, T and the time of day; on a Ramadan sheet imsak before them, which is Fajr less its minutes. */
+/* A row's line from what the other calls return, written from document 01's section on the sheet alone: the row's date, then each time as
+   signed days from that date, T and the time of day. A Ramadan sheet has imsak before them, which is Fajr less its minutes. */
 #include <stdio.h>
 
 #include "host.h"
@@ -12,7 +12,7 @@ static uint32_t month_days(uint32_t year, uint32_t month) {
   return month == 4 || month == 6 || month == 9 || month == 11 ? 30 : 31;
 }
 
-/* A time before 1970 belongs to the day that it lies in: the days are rounded down. */
+/* A time before 1970 belongs to the day that it is in, so the days are rounded down. */
 static int put_time(char *text, int64_t time, int64_t date) {
   int64_t second = (time % DAY + DAY) % DAY, days = (time - second) / DAY - date;
   return sprintf(text, " %c%lldT%02d:%02d:%02d", days < 0 ? '-' : '+', (long long)(days < 0 ? -days : days), (int)(second / 3600),

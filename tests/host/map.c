@@ -1,4 +1,4 @@
-/* Coordinates as on the map: the writer held to whole numbers of 128 bits, orders in either form to one another, and 15. */
+/* Coordinates as on the map: the writer compared with whole numbers of 128 bits, orders in either form with one another, and 15. */
 #include <stdio.h>
 
 #include "../map_form/exact.h"
@@ -32,7 +32,7 @@ static void check_writer(const coordinate *which) {
     double size = (double)(random_bits() >> 11) * 0x1p-53 * which->most, side = i % 2 ? -1 : 1;
     written(which, any_float());
     around(which, side * ldexp(size, -(int)(random_bits() % 40)));
-    around(which, side * (floor(size * 64) + 0.5) / 64); /* j / 128 is a half where j is odd */
+    around(which, side * (floor(size * 64) + 0.5) / 64); /* j / 128 is a half if j is odd */
     around(which, side * (floor(size * IN_DEGREE) + 0.5) / IN_DEGREE);
   }
 }
@@ -101,7 +101,7 @@ static void judged(const order_bytes *order, uint32_t number, uint32_t place, co
   check(all.lent_kept && order_refused(&all.order, number, place) && row_refused(&all, number, place), what);
 }
 
-/* 15: after missing tags, before ranges, latitude first, whatever stands in the two. */
+/* 15: after missing tags, before ranges, latitude first, for any values of the two. */
 static void check_both_forms(void) {
   static const uint8_t bad[5] = {2, 99, 99, 99, 99}, far[5] = {0, 91, 0, 0, 0};
   order_bytes good = good_order(), both = good, wild = place_order("Makkah", 2026, 13, 21, 10, NAN, NAN, 13), lone = without(&good, 4);

@@ -1,4 +1,4 @@
-/* The header's constants, each held to what the library does. */
+/* The header's constants, each compared with what the library does. */
 #include <string.h>
 
 #include "host.h"

@@ -1,5 +1,5 @@
-/* Request 9 on the examples: every page of each by calls on from row 0, with every scratch length from 39 to 1,000 and with lengths that differ
-   from call to call, against the same page at once. What a page is at once, cells.c holds to the other calls. */
+/* Request 9 on the examples: every page of each, by calls from row 0 on, with every scratch length from 39 to 1,000 and with lengths that
+   differ from call to call, against the same page in one call. cells.c compares the page in one call with the other calls. */
 #include <dirent.h>
 #include <stdio.h>
 #include <string.h>
@@ -14,7 +14,7 @@ typedef struct {
   uint32_t rows, dots;
 } page_cells;
 
-/* The calls on from row 0 to 5, place 3. The scratch is as long as said, or, where that is 0, of another length at each call. */
+/* The calls from row 0 on until 5, place 3. The scratch has the given length, or, if that is 0, another length at each call. */
 static bool by_pieces(const order_bytes *order, uint32_t page, size_t size, page_cells *got) {
   got->rows = got->dots = 0;
   for (uint32_t call = 0;; call++) {

@@ -1,5 +1,5 @@
-/* The print queue: request 10's words one by one, every history of a few calls, and random calls, also on queues that no calls give. Each
-   answer is held, every byte of it, to a queue of its own that is written from those words. */
+/* The print queue: request 10's words one by one, every history of a few calls, and random calls, also on queues that no calls give. Every
+   byte of each result is compared with a second queue that is written here from those words. */
 #include <stdio.h>
 #include <string.h>
 
@@ -15,7 +15,7 @@ static bool is_waiting(const katchidul_queue *queue, uint32_t jobs, uint32_t id)
   return false;
 }
 
-/* Of more than 16 jobs the first 16 count. */
+/* At most the first 16 jobs count. */
 static uint32_t counted(const katchidul_queue *queue) {
   return queue->jobs > KATCHIDUL_JOBS_MAX ? KATCHIDUL_JOBS_MAX : queue->jobs;
 }
@@ -49,7 +49,7 @@ static katchidul_turned owed_turn(katchidul_queue queue) {
   return owed;
 }
 
-/* A call, held to what is owed. All of a struct is numbers, so all its bytes are compared. */
+/* A call, compared with what is owed. A struct has only numbers, so all its bytes are compared. */
 static bool right;
 
 static katchidul_joined join(katchidul_queue queue, uint32_t id, uint32_t pages) {
@@ -104,12 +104,12 @@ static void check_full(void) {
   check(sends(&queue, 1, 0) && joins(&queue, 17, 1, 0) && joins(&queue, 1, 1, 16), "one leaves and one joins");
 }
 
-/* ---- every history of up to so many calls: a turn, or a join of one of three ids with one or two pages */
+/* ---- every history of a few calls: each a turn, or a join of one of three ids with one or two pages */
 
 #define IDS 3
 #define PAGES 2
 
-/* What the history has come to. `due` is the turn that a waiting job's next page must be sent at, by id, from when it came to its place. */
+/* The state of the history. `due` is, by id, the number of the turn at which a waiting job's next page must be sent. */
 typedef struct {
   katchidul_queue queue;
   uint32_t turns, admitted, sent, due[IDS + 1], left[IDS + 1];

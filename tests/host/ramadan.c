@@ -70,8 +70,8 @@ static void check_record(void) {
   check(read.number == 0 && read.ramadan == 1 && read.imsak == 0 && read.shift == -1, "imsak 0, shift -1");
 }
 
-/* Each row into buffers of every length: 9 below 131 bytes, and at 131 the row with imsak. The full order's Fajr keeps its seconds and lies on the day
-   before. */
+/* Each row into buffers of every length: 9 below 131 bytes, and at 131 the row with imsak. The full order's Fajr keeps its seconds and is
+   on the day before. */
 static void check_rows_of(const order_bytes *order, const char *what) {
   katchidul_order read = katchidul_read_order(order->bytes, order->length);
   for (uint32_t row = 0; row < 30; row++) {

@@ -1,4 +1,4 @@
-/* Ranges: both ends of each are allowed, and what lies beyond them is 5 with the tag. */
+/* Ranges: both ends of each are allowed, and a value beyond them is 5 with the tag. */
 #include <math.h>
 #include <stdio.h>
 #include <string.h>
@@ -137,7 +137,7 @@ static void check_clock(void) {
   }
 }
 
-/* Of two values out of range the lower tag is named, wherever its field stands. */
+/* If two values are out of range, the lower tag is named, wherever its field is. */
 static void check_rising(void) {
   order_bytes order = {0}, rest = place_order("Makkah", 2026, 13, 1, 0, 91, 181, 13);
   put_small(&order, 7, 3);

@@ -1,4 +1,4 @@
-/* A row's line in a lent buffer: 9 before anything else, buffers of every size, the line's bytes, and every refusal's silence. */
+/* A row's line in a lent buffer: 9 first, buffers of every size, the line's bytes, and that no refusal writes a byte. */
 #include <stdio.h>
 #include <string.h>
 

@@ -1,11 +1,11 @@
-/* What holds of the seven answers on any bytes at all, from document 01's rules for the calls: no second reader of orders and no
-   second sun is needed for it. */
+/* What is true of the seven results on any bytes at all, from document 01's rules for the calls. It needs no second reader of orders and no
+   second sun. */
 #include "host.h"
 
 #define DAY 86400
 #define SECONDS_END INT64_C(1000000000000)
 
-/* Where each of the eight prayers stands among the nine times: the middle of the night is a time and no prayer. */
+/* Where each of the eight prayers is among the nine times: the middle of the night is a time but no prayer. */
 static const int time_of[9] = {-1, 0, 1, 2, 3, 4, 5, 7, 8};
 
 int64_t days_to(int64_t year, int64_t month, int64_t day) {
@@ -84,7 +84,7 @@ bool answers_agree(const answers *all, uint32_t row, int64_t seconds, uint32_t n
   bool instant = seconds >= -SECONDS_END && seconds <= SECONDS_END && nanoseconds <= 999999999;
   const katchidul_day *day = &all->day;
   if (!all->lent_kept || !number_fits(&all->order)) return false;
-  /* A buffer that a full row of the order fits: the row is refused as the day is, and written where it is not. */
+  /* In a buffer with room for a full row of the order, the row is refused if the day is, and else written. */
   if (!line_answered(all, day->number, day->place)) return false;
   if (!cells_answered(all, day->number, day->place)) return false;
   if (!instant && !instant_refused(all, 10, 0)) return false;

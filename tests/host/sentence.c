@@ -1,11 +1,11 @@
-/* Refusals in words: each sentence held to words that are written down here once more, and read back; other bytes and short buffers. */
+/* Refusals in words: each sentence compared with words that are written here once more, and read back; other bytes and short buffers. */
 #include <stdio.h>
 #include <string.h>
 
 #include "host.h"
 
 #define NO_NAME " tag"
-#define BEFORE 32 /* bytes of the room that stand before a lent buffer */
+#define BEFORE 32 /* bytes before a lent buffer */
 #define ROOM (BEFORE + KATCHIDUL_SENTENCE_MAX + 32)
 
 /* By number; a number without words is not known. */
@@ -93,7 +93,7 @@ static bool says_nothing(const uint8_t *bytes, size_t length) {
   return meaning.number == KATCHIDUL_OUT_OF_RANGE && meaning.place == 0 && meaning.of_number == 0 && meaning.of_place == 0;
 }
 
-/* Another sentence than the given one may come of a changed byte or a cut: then it is that of what is read. */
+/* A changed byte or a cut may make another sentence: then it must be the sentence of what is read. */
 static bool says_nothing_else(const uint8_t *bytes, size_t length, uint32_t number, uint32_t place) {
   katchidul_meaning meaning = katchidul_read_sentence(bytes, length);
   if (meaning.number != 0) return says_nothing(bytes, length);
@@ -187,7 +187,7 @@ static void check_known(uint32_t number) {
   }
 }
 
-/* Told before the buffer. */
+/* Refused before the buffer is checked. */
 static void check_unknown(uint32_t number) {
   for (size_t size = 0; size <= KATCHIDUL_SENTENCE_MAX; size++)
     writes(number, 7, size, KATCHIDUL_OUT_OF_RANGE, NULL, "an unknown number, whatever the buffer");

@@ -10,7 +10,7 @@
 #define PAINT 0xA5
 #define STACK_MOST 4096 /* the header's promise */
 #define CALLS 17
-/* With the sanitizers no two calls' answers share their place, so that the caller's frame, which is counted too, is as large as a call's. */
+/* With the sanitizers no two results share their place on the stack, so the caller's frame, which is counted too, is larger. */
 #ifdef __SANITIZE_ADDRESS__
 #define SANITIZED true
 #else

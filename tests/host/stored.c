@@ -1,5 +1,5 @@
-/* Stored answers of the crate, held to the library's: tests/crate/list-orders made the file, and says what its lines are. A library whose
-   answers fit each other, but all lie a minute late, fails here. */
+/* The crate's stored answers, compared with the library's. tests/crate/list-orders made the file, and says what its lines are. A library
+   whose answers agree with each other, but are all a minute late, fails here. */
 #include <inttypes.h>
 #include <stdio.h>
 #include <string.h>
@@ -9,7 +9,7 @@
 #define DAY 86400
 #define LINE_ROOM 1024
 
-/* The order that the next lines speak of, and the row that an instant is of. */
+/* The order of the next lines, and the row of an instant. */
 typedef struct {
   order_bytes order;
   katchidul_order read;

@@ -39,7 +39,7 @@ static void call_all(const order_bytes *order, uint32_t row, called *all) {
   all->page = katchidul_write_page(bytes, length, 1, 0, all->page_cells, sizeof all->page_cells);
 }
 
-/* Each thread begins elsewhere in the list, so that different orders are worked at the same moment. Returns NULL where all was the same. */
+/* Each thread begins elsewhere in the list, so that different orders are worked at the same moment. Returns NULL if all was the same. */
 static void *run(void *from) {
   size_t first = (size_t)from;
   called all;

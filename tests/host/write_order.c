@@ -1,4 +1,4 @@
-/* Orders written from a struct: held to orders built field by field, read back, and asked again by every call. */
+/* Orders written from a struct: compared with orders built field by field, read back, and given to every call again. */
 #include <math.h>
 #include <string.h>
 
@@ -59,7 +59,7 @@ bool written_agrees(const order_bytes *bytes, size_t size) {
   return answer.length <= KATCHIDUL_WRITTEN_MAX && again.town_at == 3 && same_order(again, order);
 }
 
-/* What was read and written is answered as what was read, whatever form and order its fields had. */
+/* Every call returns the same for the written order as for the one that was read, for any form and order of its fields. */
 bool written_answers_alike(const order_bytes *bytes, const answers *all, uint32_t row, int64_t seconds, uint32_t nanoseconds) {
   if (all->order.number != 0) return true;
   order_bytes other = {0};
@@ -81,7 +81,7 @@ static void refuses(katchidul_order order, const char *town, size_t length, uint
   check(refused_by(&answer, number, place), what);
   buffer = lend_buffer(0);
   answer = katchidul_write_order(order, (const uint8_t *)town, length, buffer, 0);
-  check(refused_by(&answer, number, place), what); /* before the buffer is looked at */
+  check(refused_by(&answer, number, place), what); /* before the buffer is checked */
 }
 
 /* One field changed to what no order can say. */

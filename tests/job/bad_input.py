@@ -1,5 +1,5 @@
-# Bad input: refused orders, damaged logs, a full disk, a missing embosser. Each is told in the library's words or the system's, nothing is
-# sent twice, and what can't go on is held and not lost.
+# Bad input: refused orders, damaged logs, a full disk, a missing embosser. Each is told in the library's words or the system's. Nothing is
+# sent twice, and a job that can't go on is held and not lost.
 import ctypes
 import os
 import random
@@ -52,7 +52,7 @@ def refused_again(checks, built):
 
 
 def drop_rights():
-    """A root that may read and write by the files' modes alone, as a user may: CAP_DAC_OVERRIDE and CAP_DAC_READ_SEARCH are gone."""
+    """Root, but bound by the files' modes as a user is: without CAP_DAC_OVERRIDE and CAP_DAC_READ_SEARCH."""
     for right in (1, 2):
         ctypes.CDLL(None).prctl(24, right, 0, 0, 0)  # PR_CAPBSET_DROP
 
@@ -120,7 +120,7 @@ class Stopped:
                      for name in os.listdir(self.kept / "spool/jobs") if (self.kept / "spool/jobs" / name / "log").exists()}
 
     def faults_with(self, name, log):
-        """A job has another log: whatever the library says of it, the host says, and then holds the job or ends it."""
+        """A job has another log: the host says what the library says of it, and then holds the job or ends it."""
         trial = Trial(self.built, ORDERS)
         shutil.rmtree(trial.spool)
         shutil.copytree(self.kept / "spool", trial.spool)
@@ -154,7 +154,7 @@ class Stopped:
         return wrong or self.release_faults(trial, name)
 
     def release_faults(self, trial, name):
-        """With its own log again and moved back, the held job comes to its end."""
+        """If the held job gets its own log again and is moved back, it comes to its end."""
         (trial.spool / "held" / name / "log").write_bytes(self.logs[name])
         (trial.spool / "held" / name).rename(trial.spool / "jobs" / name)
         trial.run()
@@ -236,7 +236,8 @@ def embosser_dies(checks, built, seed, long):
 
 
 def asked(trial, stopped=False):
-    """What the embosser answers to a host that asks for job 1; nothing if it is stopped, and the host gone before it goes on."""
+    """What the embosser answers to a host that asks for job 1. Nothing, if the embosser is stopped and the host goes away before it goes
+    on."""
     with socket.socket(socket.AF_UNIX) as host:
         host.settimeout(5)
         host.connect(trial.socket)
@@ -248,8 +249,8 @@ def asked(trial, stopped=False):
 
 
 def gone_hosts(checks, built):
-    """A host that asks and is gone before the embosser looks: it answers the next one, and has the pages that it had. Built so that the
-    compiler's checks end it if it goes beyond its buffer."""
+    """A host asks and goes away before the embosser looks: the embosser answers the next host, and has the pages that it had. It is built
+    so that the compiler's checks end it if it goes beyond its buffer."""
     with Trial(built, [GOOD]) as trial:
         trial.run()
         trial.stop_embosser()

@@ -70,7 +70,7 @@ class Library:
         return (made.rows, scratch.raw[:39 * made.rows]) if made.number == 0 else None
 
     def refusal(self, order):
-        """An order's refusal in words; of a right one there is none."""
+        """An order's refusal in words, or none for a right order."""
         made = self.write_page(order, 1, ctypes.create_string_buffer(975))
         return self.sentence(made.number, made.place) if made.number else None
 
@@ -93,7 +93,7 @@ class Library:
         return sum(self.write_page(order, at, scratch).dots for at in range(1, page + 1))
 
     def turns(self, pages):
-        """Job and page of each turn, if the jobs 1, 2, 3, .. have so many pages and all wait from the beginning."""
+        """Job and page of each turn, if the jobs 1, 2, 3, .. have these numbers of pages and all wait from the beginning."""
         queue, turns = Queue(), []
         for job, count in enumerate(pages, 1):
             queue = self.calls["join"](queue, job, count).queue
@@ -141,7 +141,7 @@ class Built:
         return self.build("checked", ROOT / "host", "-fsanitize=address,undefined")[1]
 
     def objects(self):
-        """The host's parts, compiled once for all hosts that differ in one of them."""
+        """The host's parts, compiled once for all hosts that differ in one part."""
         folder = self.folder / "objects"
         if not folder.exists():
             folder.mkdir()

@@ -1,4 +1,4 @@
-# The crash runs: hosts that are killed and begun again until all is done. Most of their time is waiting, so several run at once.
+# The crash runs: hosts that are killed and started again until all is done. Most of their time is waiting, so several run at once.
 import concurrent.futures
 import errno
 import itertools
@@ -55,7 +55,7 @@ def habits(draw, kind=None):
 
 
 def in_turn(built, seed, how="kill", host=None, step=1, first_fault=False, kind=None, seconds=30):
-    """Killed after every call that writes, in turn; begun again, and then to the end."""
+    """Killed after every call that writes, in turn; started again, and then run to the end."""
 
     def one(at):
         with Trial(built, ORDERS, host, habits(draw_of(seed, at), kind), seconds) as trial:
@@ -74,7 +74,7 @@ def in_turn(built, seed, how="kill", host=None, step=1, first_fault=False, kind=
 
 
 def killed_again(built, seed, trials, orders=ORDERS):
-    """Killed after some call, or half of one, or at some moment; begun again and killed again, until a host comes to its end."""
+    """Killed after some call, or half of one, or at some moment; started again and killed again, until a host comes to its end."""
 
     def one(number):
         draw, kills = draw_of(seed, number), 0
@@ -89,7 +89,7 @@ def killed_again(built, seed, trials, orders=ORDERS):
 
 
 def with_asks(built, seed, trials):
-    """The same while the operator holds, releases and cancels jobs at any moment, and the embosser is killed and begun again too."""
+    """The same while the operator holds, releases and cancels jobs at any moment, and the embosser is killed and started again too."""
 
     def one(number):
         draw, kills, faults = draw_of("asks", seed, number), 0, []
@@ -112,7 +112,7 @@ def with_asks(built, seed, trials):
 
 
 def asked_somehow(trial, draw, cancels):
-    """Runs a host, asks it for changes while it is at work, and kills it or its embosser; how many were killed."""
+    """Runs a host, asks it for changes while it is at work, and kills it or its embosser. Returns how many were killed."""
     after, kills = draw.choice([0, draw.randint(20, 300)]), 0
     host = trial.begin(after=after, how=draw.choice(["kill", "torn"]))
     (trial.spool / "asks").mkdir(exist_ok=True)
@@ -132,7 +132,7 @@ def asked_somehow(trial, draw, cancels):
 
 
 def killed_somehow(trial, draw):
-    """Runs a host to some call or some moment, or kills its embosser; how many were killed."""
+    """Runs a host to some call or some moment, or kills its embosser. Returns how many were killed."""
     if draw.random() < 0.3:
         host = trial.begin()
         time.sleep(draw.expovariate(200))
@@ -148,7 +148,7 @@ def killed_somehow(trial, draw):
 
 
 def without_power(built, seed, trials, host=None, seconds=30):
-    """Killed after some call, and of the spool there is what lasted; begun again, until a host comes to its end."""
+    """Killed after some call, and the spool has only what lasted; started again, until a host comes to its end."""
 
     def one(number):
         draw, kills = draw_of(seed, number), 0
@@ -166,7 +166,7 @@ def without_power(built, seed, trials, host=None, seconds=30):
 
 
 def without_accidents(built, orders=ORDERS, host=None):
-    """Nothing happens: all is punched, in the queue's turns, and the host says how far each job is."""
+    """Without accidents all is punched, in the queue's turns, and the host says how far each job is."""
     with Trial(built, orders, host, ["-t", 1]) as trial:
         trial.run(patience=5000)
         return trial.faults() + trial.turn_faults() + trial.progress_faults()
@@ -192,8 +192,8 @@ def lay_asks(trial):
 
 
 def failing(built, seed, step=1, errors=ERRORS, lay=lambda trial: None):
-    """Each call fails once, in turn, by each error: the host says so and ends, or the order waits, or the job is held, or the link is begun
-    again; then a host to the end."""
+    """Each call fails once, in turn, by each error: the host says so and ends, or the order waits, or the job is held, or the link is
+    opened again. Then a host runs to the end."""
 
     def one(number):
         at, error = number // len(errors) + 1, errors[number % len(errors)]
@@ -235,8 +235,8 @@ def in_pieces(built, seed, trials):
 
 
 def order_of_calls(built, seed, trials, host=None):
-    """No page goes out before its record and its order last, though whoever put the order in did not flush it. Gives the faults, and how
-    many pages were looked at."""
+    """No page goes out before its record and its order last, even if the order was put in without a flush. Returns the faults, and how many
+    pages were looked at."""
 
     def one(number):
         with Trial(built, ORDERS, host, habits(draw_of(seed, number)), 5) as trial:

@@ -1,6 +1,6 @@
 # What lasts of a spool when the power fails: a model of a disk that follows the calls of a host, line by line as stopper.c traces them. A
-# file has the bytes of its last flush, and a name lasts once the folder that it is in is flushed; until then either may be as before or
-# as after. A rename is in both of its folders or in neither, as on every file system that has a journal.
+# file has the bytes of its last flush, and a name lasts when its folder is flushed. Until then either may be as before or as after. A
+# rename is in both of its folders or in neither, as on every file system that has a journal.
 import os
 
 
@@ -27,7 +27,7 @@ class Change:
 
 class Disk:
     def __init__(self, spool, unflushed=None):
-        """unflushed: a folder whose files have their names, and none of their bytes lasts."""
+        """unflushed: a folder whose files have lasting names and no lasting bytes."""
         self.root, self.changes = Folder(), []
         self.begin(self.root, spool)
         for file in self.node(unflushed).seen.values() if unflushed else ():
@@ -88,7 +88,7 @@ class Disk:
             change.lasts = change.lasts or any(node is folder for folder, _, _ in change.entries)
 
     def names(self, draw=None):
-        """The folders' names: those that last, and of the others those that are drawn."""
+        """The folders' names: those that last, and some of the others, drawn at random."""
         names = {}
         for change in self.changes:
             if change.lasts or (draw and draw.random() < 0.5):
@@ -96,7 +96,7 @@ class Disk:
         return names
 
     def lasting(self, path):
-        """The bytes of a file that are there whatever happens, or None."""
+        """The bytes of a file that are there in any case, or None."""
         names, node = self.names(), self.root
         for name in path.split("/"):
             node = names.get(node, {}).get(name)

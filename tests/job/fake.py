@@ -1,4 +1,4 @@
-# An embosser in a few lines of Python that does what a test wants of it: stays away, answers nonsense, or touches the spool in between.
+# An embosser in a few lines of Python that does what a test wants: it stays away, answers nonsense, or touches the spool in between.
 import socket
 import threading
 

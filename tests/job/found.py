@@ -1,4 +1,4 @@
-# Faults that were found in an earlier host, each with its way to see it. A test is named by what it would catch, and returns the faults.
+# Faults that were found in an earlier host, each with a way to see it. A test is named by what it would catch, and returns the faults.
 import errno
 import os
 import pathlib
@@ -50,7 +50,7 @@ def lost_when_a_job_comes_back(built):
 
 def each_failing(built, calls, lay, judge, error=errno.EIO):
     """Each of these calls of a run fails, in turn, on a spool of its own; `judge` then gives the faults. The calls of each name are counted
-    apart: on a busy machine a host waits more often, and its hundredth call is another one."""
+    apart: on a busy machine a host waits more often, so its hundredth call would be another one."""
     with Trial(built, [FIRST, SECOND]) as trial:
         lay(trial)
         trial.run(count=trial.folder / "count")
@@ -196,7 +196,7 @@ def count_that_is_never_0(built):
 
 
 def answers_of_unknown_jobs(built):
-    """An embosser that only says that pages of job 999 are done: the host begins again after its patience."""
+    """An embosser that only says that pages of job 999 are done: the host starts again after its patience."""
     def answer(line, link):
         if not line.startswith(b"page") or trial.fake.links > 1:
             return None
@@ -214,7 +214,7 @@ def answers_of_unknown_jobs(built):
 
 
 def answer_that_is_no_number(built):
-    """The log says that one page is sent; a count that is read as 1 would have it finished."""
+    """The log says that one page is sent. If the count were read as 1, the page would count as finished."""
     wrong = []
     for count in (b"4294967297", b"+1", b"-1", b" 1", b"1 ", b"0x1", b"1.", b"", b"\xd9\xa1", b"00000000001", b"1\0"):
         def answer(line, link):
@@ -287,7 +287,7 @@ def seconds_of(process):
 
 
 def slow_with_many_orders(built):
-    """10,000 orders wait: 150 at least are done in a second of the processor's time, however busy it is otherwise."""
+    """10,000 orders wait: at least 150 are done in a second of the processor's time, even on a busy machine."""
     with Trial(built, []) as trial:
         for at in range(10000):
             (trial.spool / "in" / f"{at:05}").write_bytes(SECOND)

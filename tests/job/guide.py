@@ -1,4 +1,4 @@
-# docs/PRINT_ROOM.md as an operator follows it: the commands of its first page, and what it says that the host then says.
+# docs/PRINT_ROOM.md as an operator follows it: the commands of its first page, and the host's lines that it shows.
 import os
 import pathlib
 import re

@@ -144,7 +144,7 @@ def odd_orders(built):
 
 
 def submit_that_is_killed(built, step):
-    """Whatever ends it: the order waits whole or not at all, and nothing that comes later writes into a job's order."""
+    """However it ends, the order waits whole or not at all, and nothing that comes later writes into a job's order."""
     wrong, ended = [], 0
     for at in range(1, 40, step):
         with Trial(built, []) as trial:
@@ -277,7 +277,7 @@ def reprinted(built):
 
 
 def replace_machine(trial):
-    """A new machine in place of the old one; what the old one punched lies in old.punched."""
+    """A new machine in place of the old one. What the old one punched is in old.punched."""
     trial.stop_embosser()
     trial.punched.rename(trial.folder / "old.punched")
     (trial.folder / "punched.serves").unlink()

@@ -12,7 +12,7 @@ GOOD, POLE = order("Ayr", 26), order("Park", 16, first="07ea0601", latitude="405
 
 
 def stays_and_waits(built):
-    """No embosser, then one, then none while nothing is to do, then one: each is said once."""
+    """No embosser, then one, then none while there is nothing to do, then one: each is said once."""
     with Trial(built, [GOOD], None, ["-t", 1]) as trial:
         trial.stop_embosser()
         output = open(trial.folder / "said", "wb+")
@@ -36,7 +36,7 @@ def stays_and_waits(built):
 
 
 def machine_that_is_late(built):
-    """A machine that listens a moment after the host began is not waited for long, whatever the patience."""
+    """If a machine listens a moment after the host has started, it is not waited for long, even with much patience."""
     with Trial(built, [GOOD], None, ["-t", 1]) as trial:
         trial.stop_embosser()
         began, host = time.monotonic(), trial.begin(patience=60000)

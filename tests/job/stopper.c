@@ -5,8 +5,8 @@
    kill and torn count the calls that write, to the disk, to the link or to a person; fail counts every call, or those of the one name that
    STOPPER_CALL says.
    STOPPER_SHORT: reads and writes take that many bytes at most, each time.
-   STOPPER_TRACE names a file to which each call that writes is appended when it came to its end, a line each, with names from the spool on:
-   what the spool is, STOPPER_SPOOL says. STOPPER_COUNT names a file that gets a line for each call, of whatever kind.
+   STOPPER_TRACE names a file that gets a line for each call that writes, when it has ended, with names from the spool on; STOPPER_SPOOL
+   says which folder is the spool. STOPPER_COUNT names a file that gets a line for each call of any kind.
    STOPPER_MOVE is three names: when the first, a folder, is opened for the first time, the second is renamed to the third, as an operator
    may do it at any moment. */
 #define _GNU_SOURCE
@@ -111,7 +111,7 @@ static int write_fails(const char *call) {
   return 0;
 }
 
-/* The process ends here when its turn has come. A torn call that has no bytes is a whole one. */
+/* The process ends here if its turn has come. A torn call that has no bytes is made whole. */
 static void after_write(void) {
   if (is_now('k') || is_now('t')) end_here();
 }

@@ -1,5 +1,5 @@
-# The host's system calls as strace sees them, in the lines of the stopper's trace: so the order of the calls is judged without the stopper,
-# and the stopper is held to strace.
+# The host's system calls as strace sees them, in the lines of the stopper's trace. So the order of the calls is judged without the stopper,
+# and the stopper is compared with strace.
 import re
 import shutil
 import subprocess

@@ -82,7 +82,7 @@ class Trial:
                                 stdout=output, stderr=subprocess.STDOUT)
 
     def end(self, host, delay=None):
-        """Waits for a host, or ends it by its id after a delay; a host that does not come to its end counts as status 99."""
+        """Waits for a host, or ends it by its id after a delay. A host that does not come to its end counts as status 99."""
         try:
             if delay is not None:
                 time.sleep(delay)
@@ -98,7 +98,7 @@ class Trial:
         return self.status
 
     def run(self, **words):
-        """A host from its start to its end. On a busy machine the embosser may be late for all tries of a host; then another is begun."""
+        """A host from its start to its end. On a busy machine the embosser may be late for all tries of a host; then another is started."""
         for _ in range(20):
             self.end(self.begin(**words))
             if self.status != 3 or not self.embosser:
@@ -127,7 +127,7 @@ class Trial:
     # ---- what is wrong
 
     def names(self, folder):
-        """The names in a folder, without the sentences beside them and without what was left unfinished."""
+        """The names in a folder, without the sentences beside them and without unfinished files."""
         names = os.listdir(self.spool / folder) if (self.spool / folder).exists() else []
         return sorted((name for name in names if not name.endswith(".why") and name[0] != "."), key=lambda name: (len(name), name))
 
@@ -166,7 +166,7 @@ class Trial:
 
     def asked_faults(self):
         """After the last host, when jobs were held, released and cancelled: each order is done whole, or it is cancelled. Of a cancelled
-        one the pages that its log says are punched, and no other."""
+        order the pages that its log says are punched, and no others."""
         wrong, library, jobs, texts = [], self.built.library, self.pages_by_job(), []
         wrong += [f"{folder} has {self.names(folder)}" for folder in FOLDERS if folder not in ("done", "cancelled") and self.names(folder)]
         for folder in ("done", "cancelled"):
@@ -180,13 +180,13 @@ class Trial:
         return wrong + ([] if sorted(texts) == sorted(self.orders) else ["an order is lost or there twice"])
 
     def turn_faults(self):
-        """Of a run without accidents: the jobs' pages do not come in the turns of the library's queue."""
+        """A fault of a run without accidents: the jobs' pages do not come in the turns of the library's queue."""
         owed = self.built.library.turns([len(self.built.library.pages(text)) for text in self.orders])
         punched = [(job, page) for job, page, *_ in punched_pages(self.punched)]
         return [] if punched == owed else [f"punched in the order {punched}, not {owed}"]
 
     def progress_faults(self):
-        """Of a run without accidents: the host does not say of each page that is punched how far its job is."""
+        """A fault of a run without accidents: the host does not say, for each page that is punched, how far its job is."""
         library, owed = self.built.library, []
         for job, page, *_ in punched_pages(self.punched):
             text = self.orders[job - 1]
@@ -197,7 +197,7 @@ class Trial:
         return [f"told {line}, not {right}" for line, right in itertools.zip_longest(told, owed) if line != right]
 
     def out_of_order(self):
-        """Of jobs that may have stopped halfway: pages that are not the first ones of their order, each once."""
+        """A fault of jobs that may have stopped halfway: pages that are not the first ones of their order, each once."""
         wrong = []
         for job, pages in self.pages_by_job().items():
             for folder in ("jobs", "held", "done", "cancelled"):
@@ -226,7 +226,7 @@ class Trial:
         return wrong, sent
 
     def lose_power(self, disk, trace, draw):
-        """The host is gone, and of the spool there is what lasted, and what is drawn of the rest."""
+        """The host is gone. The spool has what lasted, and some of the rest, drawn at random."""
         for line in trace.read_text().splitlines():
             disk.follow(line)
         shutil.rmtree(self.spool)

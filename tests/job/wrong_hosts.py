@@ -1,4 +1,4 @@
-# Hosts with one thing wrong, each an edit of the host's text, and which runs must notice: `kills`, lost `power`, the order of the calls
+# Hosts with one thing wrong, each an edit of the host's text, and which runs must notice it: `kills`, lost `power`, the order of the calls
 # (`calls`), a run without accidents (`plain`), or one in which the operator cancels a job (`asks`).
 SEND_NEXT = """  append(r, j, KATCHIDUL_RECORD_SENT, page);
   r->queue = turn.queue;

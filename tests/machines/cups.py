@@ -21,7 +21,7 @@ SystemGroup root
 FatalErrors none
 """
 
-# Jobs are their owners' as in Debian's own file; queues are anyone's, since the socket is in the test's own folder.
+# Jobs belong to their owners, as in Debian's own file. Anyone may change queues, since the socket is in the test's own folder.
 SETTINGS = """LogLevel debug
 MaxLogSize 0
 Listen {root}/socket
@@ -107,7 +107,7 @@ class Printer:
         self.root = pathlib.Path(root)
         self.root.mkdir(parents=True, exist_ok=True)
         os.chmod(self.root, 0o777)
-        # ippeveprinter wants a system bus, to announce itself; this one is its own, and nobody hears it.
+        # ippeveprinter needs a system bus to announce itself. It gets one of its own, which nobody listens to.
         bus = "unix:path=%s" % (self.root.parent / "bus")
         out = (self.root.parent / "ippeveprinter.out").open("ab")
         self.bus = subprocess.Popen(["dbus-daemon", "--session", "--nofork", "--address=" + bus], stdout=out, stderr=out)

@@ -33,7 +33,7 @@ class Room:
         return wait_until(lambda: words in self.driver.said(), seconds)
 
     def last_job(self):
-        """The number of the newest CUPS job that the driver's record has, once it has one."""
+        """Waits until the driver's record has a CUPS job, and returns the number of the newest."""
         wait_until(lambda: re.search(r"cups [1-9]", self.record()))
         return re.search(r"cups (\d+)", self.record())[1]
 
@@ -45,7 +45,7 @@ class Room:
         return '[Job %s] Canceled by "katchidul"' % number in self.cups.log()
 
     def keep_busy(self):
-        """Somebody else's job is in the queue's front, and its machine takes nothing: what comes waits."""
+        """Somebody else's job is at the queue's front, and its machine takes nothing: all other jobs wait."""
         self.port.stuck = True
         words = ["lp", "-d", "braille", "-o", "raw", "-U", "someone"]
         subprocess.run(words, input=b"else\f", env=self.cups.environment, capture_output=True)
@@ -144,7 +144,7 @@ def check_not_accepting(check, place):
 
 
 def check_restart(check, place):
-    """A restart cancels a page that waits at once, and one that is printed after its time."""
+    """A restart cancels a page that waits at once, and a page that is being printed after its time has passed."""
     room = Room(place, "restarts", options=("--finish", "2"))
     room.keep_busy()
     link = room.begin_page()
@@ -178,7 +178,7 @@ def check_restart(check, place):
 
 
 def check_history(check, place):
-    """CUPS forgets what it has completed, and the driver its state; never both."""
+    """CUPS forgets what it has completed, or the driver forgets its state; never both."""
     room = Room(place, "history")
     link = room.begin_page()
     link.hear()
@@ -227,7 +227,7 @@ def check_forgotten(check, place):
 
 
 def check_killed_at_completion(check, place):
-    """cupsd is killed when it has completed a page and not noted it on the disk: it aborts the job later, and the driver asks."""
+    """cupsd is killed when it has completed a page but not noted it on the disk: it aborts the job later, and the driver asks."""
     room = Room(place, "unsaved")
     link = room.begin_page()
     wait_until(lambda: "Started backend" in room.cups.log())
@@ -250,7 +250,7 @@ def check_killed_at_completion(check, place):
 
 
 def check_ended_in_order(check, place):
-    """CUPS is stopped in order while it prints a page, and started again: before the machine is connected, while it finishes, and with a
+    """CUPS is stopped by SIGTERM while it prints a page, and started again: before the machine is connected, while it finishes, and with a
     new driver."""
     room = Room(place, "in-order", options=("--finish", "5"))
     link = ended_while_it_finishes(check, room, ended_before_it_connects(check, room))
@@ -301,7 +301,7 @@ def ended_with_the_driver(check, room, link):
     room.driver.start()
     link = begin(room.driver)
     link.send(b"restart 5\n")
-    # CUPS prints the page again, or it saw that all was sent, and does not know.
+    # CUPS prints the page again; or it saw that all was sent, and does not know whether it is finished.
     wait_until(lambda: room.driver.questions() == [5] or len(room.port.arrived) == 4)
     room.driver.answer(5, 3)
     check("in order: the count of a new driver", link.hear(), ["count", "5", "3"])
@@ -329,7 +329,7 @@ def check_cups_away(check, place):
 
 
 def check_unsent(check, place):
-    """CUPS makes the job and refuses the document: nothing is printed, and nothing waits."""
+    """CUPS makes the job but refuses the document: nothing is printed, and nothing waits."""
     room = Room(place, "unsent", options=("--format", "application/x-nothing"))
     link = room.begin_page()
     check("a document that CUPS refuses: told", room.told("CUPS did not say that it has page 1"), True)

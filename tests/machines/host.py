@@ -1,4 +1,4 @@
-"""A small host: it sends the pages of jobs to a driver, a page of each in turn, and keeps of each job what a job log keeps."""
+"""A small host: it sends the pages of jobs to a driver, a page of each in turn, and keeps for each job what a job log keeps."""
 import socket
 import threading
 import time

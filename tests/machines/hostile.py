@@ -12,7 +12,7 @@ JOB = b"job 5 %d durham.order\n" % len(ORDER) + ORDER
 
 
 def closes(link, seconds=4.0):
-    """Whether the driver closes the link, whatever it says before that."""
+    """Whether the driver closes the link. It may say something before that."""
     link.patience = seconds
     try:
         while True:
@@ -71,7 +71,7 @@ def run(check, place):
 
 
 def check_silent(check, driver):
-    """A host that asks and asks and takes no answer does not hold the driver."""
+    """A host that asks again and again and reads no answer does not stop the driver."""
     link = begin(driver)
     link.socket.setblocking(False)
     try:

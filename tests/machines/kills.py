@@ -1,8 +1,8 @@
 """Whole jobs over CUPS while host, driver and cupsd are killed at random moments.
 
 What is owed: every page of every order arrives, the first time in rising order; and a page that CUPS has completed is not given to CUPS
-again. What CUPS does by itself is counted apart: a cupsd that is killed leaves its backend at work, and the next cupsd prints the job
-anew, so such a page can arrive twice."""
+again. What CUPS does by itself is counted apart: if cupsd is killed, its backend stays at work and the next cupsd prints the job again, so
+the page can arrive twice."""
 import random
 import re
 import threading
@@ -14,7 +14,8 @@ from driver import Driver
 from sinks import Port
 
 # CUPS logs that a job is completed just before it removes the document, and then that its list of jobs has changed. If it is killed between
-# the two, it has told nobody, and the next CUPS prints the job anew like one that was in work. So both lines make a completed job.
+# the two, it has told nobody, and the next CUPS prints the job again like one that was in work. So a job is completed if both lines are
+# there.
 EVENT = re.compile(r'\[Job (\d+)\] (?:argv\[3\]="(katchidul [^"]*)"|(Started backend)|(Job completed\.\n.* cupsdMarkDirty)'
                    r'|(Job aborted|Aborting job))')
 
@@ -36,12 +37,12 @@ class Orders:
         return name, made, pages
 
     def named(self, bytes):
-        """The page that arrived: what is behind its cover."""
+        """The page that arrived, without its cover."""
         return self.of_page.get(bytes.split(b"\f")[-2] + b"\f")
 
 
 class Operator(threading.Thread):
-    """Answers the driver's questions by what lies in the tray, once the machine is quiet."""
+    """Answers the driver's questions by what is in the tray, when the machine is quiet."""
 
     def __init__(self, driver, port, orders, room):
         super().__init__(daemon=True)
@@ -79,7 +80,7 @@ class Run:
         self.killed = {"host": 0, "driver": 0, "cupsd": 0, "cupsd in order": 0}
 
     def kill_one(self):
-        """One in ten ends of cupsd is in order, as at a restart of the service."""
+        """One in ten times cupsd is stopped by SIGTERM, as at a restart of the service."""
         what = self.draw.choice(["host", "driver", "cupsd"])
         thing = {"host": self.room, "driver": self.driver, "cupsd": self.cups}[what]
         if what == "cupsd" and self.draw.random() < 0.1:

@@ -89,7 +89,7 @@ def check_question(check, place):
 
 
 def check_late_answer(check, place):
-    """The host's deadline passes while the operator is away: it asks again, and the answer that came meanwhile is there at once."""
+    """The host's deadline passes while the operator is away: it asks again, and gets at once the answer that came meanwhile."""
     port = Port()
     driver = with_two_pages(place, "late", "127.0.0.1:%d" % port.number)
     link = begin(driver, 0.5)
@@ -259,7 +259,7 @@ def check_names(check, place):
 
 
 def check_kills(check, place, kills=25):
-    """Kills of host and driver at random; the operator answers by what lies in the tray."""
+    """Host and driver are killed at random; the operator answers by what is in the tray."""
     draw, port = random.Random(7), Port(0.05)
     driver = Driver(place.fast_port, place.folder / "port-kills", "127.0.0.1:%d" % port.number)
     orders = Orders(place.lib, draw)

@@ -1,4 +1,4 @@
-"""What stands in for a machine: a TCP port that keeps each connection's bytes, and a pseudo-terminal."""
+"""In place of a machine: a TCP port that keeps each connection's bytes, and a pseudo-terminal."""
 import os
 import pty
 import select
@@ -20,7 +20,7 @@ class Port:
         self.listen()
 
     def listen(self):
-        """Also again, at the same number, after `end`."""
+        """Starts it, or starts it again after `end` at the same port."""
         self.server = socket.socket()
         self.server.setsockopt(socket.SOL_SOCKET, socket.SO_REUSEADDR, 1)
         self.server.bind(("127.0.0.1", self.number))

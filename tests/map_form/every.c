@@ -1,5 +1,5 @@
-/* Every latitude and every longitude that the map form can say, there and back: its five bytes in an order, the double that is read of them, and the
-   five numbers that are written of that; then so many doubles of all sizes against whole numbers of 128 bits. */
+/* Every latitude and every longitude that the map form can say, there and back: its five bytes in an order, the double that is read from
+   them, and the five numbers that are written for it; then doubles of all sizes against whole numbers of 128 bits. */
 #include <stdio.h>
 #include <stdlib.h>
 
@@ -35,7 +35,7 @@ static uint64_t every(const coordinate *which, const char *name) {
   return failed;
 }
 
-/* Any bit pattern; a number in range of any size; a half, and what stands next to it. */
+/* Any bit pattern; a number in range of any size; a half, and its neighbours. */
 static double some_double(const coordinate *which, uint64_t i) {
   uint64_t bits = random_bits();
   double x, size = (double)(bits >> 11) * 0x1p-53 * which->most;

@@ -1,4 +1,4 @@
-/* The hundredths of a second nearest to a double, in whole numbers of 128 bits, and five parts from a count: what the library is held to. */
+/* The hundredths of a second nearest to a double, in whole numbers of 128 bits, and five parts from a count: what the library must give. */
 #ifndef EXACT_H
 #define EXACT_H
 
@@ -18,8 +18,8 @@ typedef struct {
   katchidul_map (*write)(double degrees);
 } coordinate;
 
-/* A half goes up: with x = digits / 2^places the count is the whole part of (2 * digits * 360,000 + 2^places) / 2^(places + 1). Where x has
-   more than 74 places it is under 2^-21, and the count is 0. */
+/* A half goes up: with x = digits / 2^places the count is the whole part of (2 * digits * 360,000 + 2^places) / 2^(places + 1). If x has
+   more than 74 places, it is under 2^-21, and the count is 0. */
 static inline uint64_t nearest(double x) {
   int exponent;
   uint64_t digits = (uint64_t)ldexp(frexp(fabs(x), &exponent), 53);

@@ -37,7 +37,7 @@ def real(value):
 
 
 def hundredths(value):
-    """Of a coordinate as on the map, without its sign."""
+    """The hundredths of a coordinate as on the map, without its sign."""
     _, degrees, minutes, seconds, parts = value
     return degrees * 360000 + minutes * 6000 + seconds * 100 + parts
 
@@ -281,8 +281,8 @@ WHOLE = but({})
 
 
 def marked():
-    """Document 01's own examples, the ends of each range and what lies beyond them, what stands for a missing tag, and points where the
-    order of the checks tells."""
+    """Document 01's own examples, the ends of each range and the values beyond them, the values of a missing tag, and orders for which the
+    order of the checks decides."""
     return broken() + dates_and_rows() + numbers() + on_the_map() + ramadan_sheets()
 
 
@@ -290,7 +290,7 @@ def broken():
     """Refusals 1 to 4, and a town's bytes."""
     town, long = field(1, b"Pole"), WHOLE + bytes(1024 - len(WHOLE))
     orders = [WHOLE, b""]
-    # 1: a field cut, in its header or its value; over 1,024 bytes, whatever they are
+    # 1: a field cut, in its header or its value; over 1,024 bytes, of any kind
     orders += [b"\1\0", b"\x63", b"\1\0\2A", WHOLE + b"\7\0", WHOLE + b"\7\0\1", bytes(1025), long, long + b"\0"]
     # 2: a tag that is none, and a length that the tag's value can't have
     lengths = ((99, 0), (0, 0), (16, 1), (16, 3), (15, 0), (15, 2), (18, 1), (17, 0))
@@ -334,7 +334,7 @@ def numbers():
     orders += [but({14: struct.pack(">H", n)}) for n in (0, 1440, 1441)]
     # the clock, signed 16-bit
     orders += [but({16: struct.pack(">h", n)}) for n in (-841, -840, -1, 0, 60, 840, 841, 32767, -32768)]
-    # what stands for a missing tag comes from the method, and a tag sets its one field
+    # the value of a missing tag comes from the method, and a tag sets its one field
     orders += [but({6: bytes([method])}) for method in range(12)]
     return orders + [but({6: b"\11", 9: b"\2"}), but({6: b"\13", 11: minutes_bytes(-1, 2)})]
 
@@ -352,12 +352,12 @@ def on_the_map():
     longitudes = ((0, 180, 0, 0, 0), (1, 180, 0, 0, 1), (1, 179, 59, 59, 99), (0, 181, 0, 0, 0), (1, 0, 60, 0, 0))
     orders += [on_map((18, (0, 0, 0, 0, 0)), (19, part)) for part in longitudes]
     orders += [WHOLE + field(18, bytes(length)) for length in (0, 4, 6)]
-    # one coordinate in each form; both forms, which is 15 whatever stands in them, behind missing tags and before ranges, latitude first
+    # one coordinate in each form; both forms, which is 15 for any values, after missing tags and before ranges, latitude first
     north, east, wild = field(18, bytes(5)), field(19, bytes(5)), field(18, b"\2\x63\x63\x63\x63")
     orders += [without(4) + north, without(5) + east, WHOLE + north, WHOLE + east, WHOLE + east + north, WHOLE + wild]
     orders += [but({1: b"\37"}) + north, but({4: real_bytes(float("nan"))}) + wild, without(6) + north, without(5) + north,
                without(4) + east]
-    # the map form's range is judged in its own tag's turn, behind tag 5's
+    # the map form's range is judged in its own tag's turn, after tag 5's
     return orders + [join([*given, (5, real_bytes(181.0)), (18, bytes([0, 91, 0, 0, 0]))])]
 
 

@@ -1,4 +1,4 @@
-"""A strict reading of HTML for the tests: every element ends where it should, and nothing is loaded from elsewhere."""
+"""A strict reading of HTML for the tests: every element ends as it should, and nothing is loaded from elsewhere."""
 import html.parser
 import re
 
@@ -67,7 +67,7 @@ def read(text):
 
 
 def form_faults(root):
-    """What a browser or a screen reader would stumble over: ids twice or missing, headings that skip a level, tables without scopes."""
+    """What would confuse a browser or a screen reader: ids twice or missing, headings that skip a level, tables without scopes."""
     elements = list(root.all())
     ids = [element.attributes["id"] for element in elements if "id" in element.attributes]
     faults = ["id %s twice" % one for one in set(ids) if ids.count(one) > 1]

@@ -1,4 +1,4 @@
-"""Holds the preview to the programs: its dots to the cells, its table to the sheet with the clock added, its counts to wear."""
+"""Compares the preview with the programs: its dots with the cells, its table with the sheet and the clock, its counts with wear."""
 import datetime
 import functools
 import os
@@ -57,7 +57,7 @@ def wanted_row(line, clock):
 
 
 def drawn_cells(picture):
-    """The cells that a row's path draws: its dots counted back from their places."""
+    """The cells that a row's path draws, worked back from the places of its dots."""
     cells = bytearray(39)
     path = picture.one("path", class_="raised").attributes["d"]
     assert re.fullmatch(r"(M\d+ \d+h0)*", path), path
@@ -78,7 +78,7 @@ def said(row):
 
 
 def check_orders(check, name, page, orders):
-    """Holds a preview's tables to the programs. `page` is the element that has them."""
+    """Compares a preview's tables with the programs. `page` is the element that has them."""
     cells = [program("cells", order) for order in orders]
     rows = [one[at:at + 39] for one in cells for at in range(0, len(one), 39)]
     sections = list(page.all("section", class_="page"))
@@ -173,7 +173,7 @@ def by_zone(check, desk, folder):
 
 
 def ramadan(check, desk, folder):
-    """A Ramadan sheet that a clock's change divides keeps its imsak in the table, and its cells are the plain orders'."""
+    """A Ramadan sheet that a change of the clock divides keeps its imsak in the table, and its cells are those of plain orders."""
     text = folder / "chicago.text"
     text.write_text("town: Chicago\nfirst day: 2026-02-18\nrows: 30\nplace: 41.8781, -87.6298\nmethod: ISNA\nzone: America/Chicago\n"
                     "ramadan: imsak 10, shift 0\n")

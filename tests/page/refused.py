@@ -86,7 +86,7 @@ def methods(check, port):
 
 
 def slow_clients(check, port, seconds):
-    """A client that sends a byte at a time, or nothing, is sent away in time; meanwhile others are served."""
+    """A client that sends a byte at a time, or nothing, is closed in time; meanwhile others are served."""
     ends = []
 
     def trickle(start, piece):
@@ -131,7 +131,7 @@ def lingering(check, port):
 
 
 def crowd(check, port):
-    """More clients than threads: some are told to come back, and the page is there after them."""
+    """More clients than threads: some are told to come back, and afterwards the page is still served."""
     idle = [socket.create_connection(("127.0.0.1", port), 30) for _ in range(60)]
     answers = {ask(port, "GET", "/style.css").status for _ in range(5)}
     check("told to come back in a crowd", answers <= {503, 0} and 503 in answers, True)

@@ -5,6 +5,6 @@ import sys
 
 sys.dont_write_bytecode = True
 ROOT = pathlib.Path(__file__).resolve().parent.parent.parent
-# A shell's background job has the keyboard's signal ignored, nohup the terminal's, and so would every program that a test starts.
+# A shell's background job ignores the keyboard's signal, and nohup the terminal's. Every program that a test starts would ignore them too.
 signal.signal(signal.SIGINT, signal.default_int_handler)
 signal.signal(signal.SIGHUP, signal.SIG_DFL)

@@ -38,7 +38,7 @@ pub dots-most : (c : ℕ) → dotsIn c ≤ 6
 unfolding dotsIn
 dots-most c = omega arith
 
--- ---- dots of the cells before an index
+-- ---- the dots of the cells before an index
 dots-suc : (cells : List ℕ) (i : ℕ) → i < length cells → dotsOf (take (suc i) cells) ≡ dotsOf (take i cells) + dotsIn (getD cells i 0)
 unfolding dotsOf
 dots-suc [] i h = absurd (omega arith)

@@ -1,4 +1,4 @@
--- The minute of the day by the clock, from what is left of both within the day. Assumes nothing.
+-- The minute of the day by the clock: instant and clock may each be taken within the day before they are added. Assumes nothing.
 use Rattle.prelude.proofs.Logic.{_≡_, sym, ap, subst, _∙_, _+_, _/_, _%_, arith, ℤ, pos, _+ℤ_, _*ℤ_, w32, w64, SFits}
 use Rattle.integers.proofs.Integers.{floored, range, fits, readBack, read, read-wide, sum, times, floorQuot, floorRem}
 use Rattle.braille.specs.Cells.{clockMinuteOf}

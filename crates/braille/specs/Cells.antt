@@ -18,11 +18,11 @@ rowLength = 39
 abbrev twoCells : ℕ → List ℕ
 twoCells n = digitCell (n / 10) ∷ digitCell n ∷ []
 
--- "number sign, two digits of the day", the row's own date's
+-- "number sign, two digits of the day": the day of the row's own date
 unfoldable pub dayCells : Date → List ℕ
 dayCells date = numberSign ∷ twoCells (date .day)
 
--- the clock's minutes are "added to the UTC instant before the hour is taken; seconds are dropped", down, also before 1970
+-- the clock's minutes are "added to the UTC instant before the hour is taken; seconds are dropped": rounded down, also before 1970
 unfoldable pub clockMinuteOf : ℤ → ℤ → ℕ
 clockMinuteOf clock time = floorRem (floorQuot (time +ℤ clock *ℤ pos 60) 60) minutesInDay
 

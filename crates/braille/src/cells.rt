@@ -26,14 +26,15 @@ pub fn day_cells(date: Date) -> [u8; 3]
     [NUMBER_SIGN, digit(day / 10), digit(day)]
 }
 
-// The minute of the day by the clock. Both are taken within the day before they are added, so that no instant and no clock are too large.
+// The minute of the day by the clock. Instant and clock are each taken within the day before they are added, so the sum fits for all
+// values.
 fn minute_of_day(clock: i32, time: i64) -> u64
     ensures { λ r. ⌜ r ≡ clockMinuteOf clock time ⌝ }
 {
     (second_of_day(time) + second_of_day(clock as i64 * 60)) / 60 % MINUTES_IN_DAY
 }
 
-// A blank, the number sign, hour and minute.
+// A blank, the number sign, the hour and the minute.
 pub fn time_cells(clock: i32, time: i64) -> [u8; 6]
     ensures { λ r. ⌜ r ≡ timeCells clock time ⌝ }
 {

@@ -19,7 +19,7 @@ const DAY_CELLS: usize = 3;
 // A blank, the number sign and four digits.
 const TIME_CELLS: usize = 6;
 
-// What a row takes: its day and six times.
+// A row's cells: its day and six times.
 pub const ROW_CELLS: usize = DAY_CELLS + 6 * TIME_CELLS;
 
 fn six(times: PrayerTimes) -> [i64; 6]
@@ -72,7 +72,7 @@ fn row_cells(date: Date, worked: Worked, clock: i32) -> [u8; ROW_CELLS]
     }
 }
 
-// A cell's raised dots are its set bits.
+// The raised dots of cells. A cell's raised dots are its set bits.
 fn dots(cells: &[u8]) -> u32
     requires { ⌜ (length (now cells) ≤ rowLength) × SixDots (now cells) ⌝ }
     ensures { λ r. ⌜ r ≡ dotsOf (now (cells .entry)) ⌝ }
@@ -86,7 +86,7 @@ fn dots(cells: &[u8]) -> u32
     sum
 }
 
-// As `put` does. Returns the row's dots.
+// Writes the row's cells at an offset, as `put` does. Returns their dots, whether they have room or not.
 pub fn put_cells(buffer: &mut [u8], at: usize, date: Date, worked: Worked, clock: i32) -> u32
     ensures { λ r. ⌜ r ≡ dotsOf (rowCells date worked clock) ⌝ }
     ensures { λ _. ⌜ now (buffer .exit) ≡ putOf (now (buffer .entry)) at (rowCells date worked clock) ⌝ }

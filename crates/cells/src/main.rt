@@ -1,5 +1,5 @@
-// Reads an order on standard input and writes the cells of all its pages, one byte a cell, for the embosser. One byte more than an order
-// may have is enough to know that it is too long.
+// Reads an order from standard input and writes the cells of all its pages for the embosser, one byte a cell. The buffer has one byte
+// more than an order may have, so that a longer order is refused.
 use pages::report::write_pages;
 
 fn main() {

@@ -1,4 +1,4 @@
--- Demand 3 over what a host gets: each answer is one of a call's two cases, and order_laws has proved it of those. Assumes nothing.
+-- Demand 3 for what a host gets: each result is one of a call's two cases, and order_laws proves it for those. Assumes nothing.
 use Rattle.prelude.proofs.Logic.{_≡_, refl, sym, ap, _∙_, subst, true, List, ℕ, _≤_, arith, ltb, ltb-true, ltb-false, le-ltb, cases}
 use Rattle.prelude.proofs.Logic.{true≢false}
 use Rattle.prelude.specs.Lists.{listed}
@@ -49,7 +49,7 @@ module _ (a b : List ℕ) (orders : LaterOrder a b) (row : ℕ) where
       absurd (omega arith)
   refused-same (Refused r) v e f = rw (e, moved .day .refused r e)
 
-  -- the times of both, if the first has some
+  -- the times of both orders, if the first has times
   record Got : Type 0 where
     t : PrayerTimes
     u : PrayerTimes

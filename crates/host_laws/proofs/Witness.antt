@@ -1,4 +1,4 @@
--- A struct that the writer takes, so that what its promises ask for can be met: what the first order of order_laws' Witness is read as.
+-- A struct that the writer takes, so the conditions of its promises can be met. It is read from the first order of order_laws' Witness.
 -- Assumes nothing.
 use Rattle.prelude.proofs.Logic.{_≡_, ap, List, ℕ, _≤_, length}
 use Rattle.order.specs.declared.reading.Reading.{Reading}

@@ -25,7 +25,7 @@ use Rattle.order_laws.specs.EitherForm.{withTown}
 use Rattle.order_laws.proofs.EitherFormLaws.{answered-alike}
 use Rattle.host_laws.specs.Written.{WrittenAnswersAlike}
 
--- what a method brings and no tag changes
+-- the angle of maghrib is the method's, since no tag changes it
 maghrib-own : (v : Values)
     → orderOf v .setting .parameters .«maghrib_angle» ≡ presetOf (orderOf v .setting .parameters .method) .«maghrib_angle»
 unfolding orderOf parametersIn
@@ -45,7 +45,7 @@ module _ (s t : List ℕ) (o p : Order) (x : readingOf s ≡ Read o) (y : readin
   own q l z = subst (λ (r : Order). r .setting .parameters .«maghrib_angle» ≡ presetOf (r .setting .parameters .method) .«maghrib_angle»)
       (read-passed l q z .same) (maghrib-own (valuesOf l))
 
-  -- an interval that is read is its number
+  -- an interval that is read is not negative
   interval : (q : Order) (l : List ℕ) → readingOf l ≡ Read q
       → q .setting .parameters .«isha_interval» ≡ pos (P (q .setting .parameters .«isha_interval»))
   interval q l z =

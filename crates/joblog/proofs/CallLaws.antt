@@ -1,4 +1,4 @@
--- What the calls' definitions are under the tests that the code makes. Assumes nothing.
+-- The calls' definitions, in each case that the code's tests find. Assumes nothing.
 use Rattle.prelude.proofs.Logic.{_≡_, refl, ap, _∙_, Bool, true, false, cond, _&&_, List, [], _++_, ℕ, _+_, _-_, _*_, _≤_, _<_, arith, eqb}
 use Rattle.prelude.proofs.Logic.{leb, length, take, length-append, le-leb, lt-leb, leb-true, eqb-true, cases, both}
 use Rattle.refusals.specs.Refusals.{bufferShort, logSecondShort, logOutOfTurn}
@@ -99,7 +99,7 @@ new-fits s tag page h =
     by-tests false e false f false x y h = let z : _≡_ {A = ℕ} 0 1 = cc in absurd (omega arith)
 
 -- ---- restart
--- what it returns and writes depends on the first buffer only by what its log says
+-- what it returns and writes depends on the log's reading, not on the bytes of the first buffer
 pub restarted-any : (x : LogReading) (log : List ℕ) (count : ℕ) (second : List ℕ)
     → (restartedOf x [] count second .answer ≡ restartedOf x log count second .answer)
     × (restartedOf x [] count second .second ≡ restartedOf x log count second .second)

@@ -67,7 +67,7 @@ put-open buffer now first page at e a low room =
     ∙ put-behind buffer (openOf first n) (bytesOf 1 (page + 1)) 5 (omega arith)
     ∙ ap (putOf buffer 5) (sym more)
 
--- the whole of it
+-- the finished record and all open pages
 pub put-whole : (entry start exit : List ℕ) (s : State) (page : ℕ) → start ≡ putOf entry 0 (bytesOf 3 (s .finished))
     → exit ≡ putOf start 5 (openOf (s .finished) (page - s .finished)) → page - s .finished ≡ s .sent - s .finished
     → length (compactedOf s) ≤ length entry → exit ≡ putOf entry 0 (compactedOf s)

@@ -1,6 +1,6 @@
--- Request 6, the calls: what each returns, and every byte of both lent buffers after it. A log is the first `used` bytes of its buffer.
--- "The log refuses with 12 if the second buffer is too short for what compaction writes, with 13 for a record out of turn, and with 14 for a count
--- outside those bounds; they are tried as 13, 14, 12, and the place is the record's page, or for 14, and for 12 at restart, the count."
+-- Request 6, the calls: what each returns, and both lent buffers after it. A log is the first `used` bytes of its buffer. "The log refuses
+-- with 12 if the second buffer is too short for what compaction writes, with 13 for a record out of turn, and with 14 for a count outside
+-- those bounds; they are tried as 13, 14, 12, and the place is the record's page, or for 14, and for 12 at restart, the count."
 use Prim.Native.Nat.{ℕ, _+_}
 use mathlib.Core.Bool.{Bool, false, cond, _&&_}
 use mathlib.Core.List.{List, _++_}
@@ -17,7 +17,7 @@ use Rattle.joblog.specs.Records.{state, recordAs, bytesOf, wholeOf, inTu
 abbrev pub refused : ℕ → ℕ → Log
 refused number place = record { number = number; place = place; moved = 0; finished = 0; sent = 0; used = 0 }
 
--- finished and sent after the call; `used` the bytes of the whole records; moved is 1 if the log is now in the second buffer
+-- `finished` and `sent` after the call; `used` is the bytes of the whole records; `moved` is 1 if the log is now in the second buffer
 abbrev pub answered : ℕ → State → ℕ → Log
 answered moved s used = record { number = 0; place = 0; moved = moved; finished = s .finished; sent = s .sent; used = used }
 
@@ -26,7 +26,7 @@ unfoldable pub readAnswer : ℕ → LogReading → Log
 readAnswer used (Says s) = answered 0 s (wholeOf used)
 readAnswer used (OutOfTurn page) = refused logOutOfTurn page
 
--- a `used` over the buffer's size is 9, before anything else
+-- a `used` over the buffer's size is 9; this is checked first
 unfoldable pub readLogOf : List ℕ → ℕ → Log
 readLogOf log used = cond (leb used (length log)) (readAnswer used (logReadingOf (take used log))) (refused bufferShort 0)
 
@@ -39,7 +39,7 @@ pub record LogCall : Type 0 where
 abbrev pub refusing : ℕ → ℕ → List ℕ → List ℕ → LogCall
 refusing number place log second = record { answer = refused number place; log = log; second = second }
 
--- "compacted into a second lent buffer ..; the first buffer stays as it was"; 12, and nothing is put, if the second is too short for all of it
+-- "compacted into a second lent buffer ..; the first buffer stays as it was"; 12 if the second is too short for all of it: nothing is put
 unfoldable pub compactAnswer : State → List ℕ → ℕ → List ℕ → Log
 compactAnswer s text place second = cond (leb (length text) (length second)) (answered 1 s (length text)) (refused logSecondShort place)
 
@@ -47,11 +47,11 @@ abbrev pub compactingOf : State → List ℕ → ℕ → List ℕ → List ℕ �
 compactingOf s text place log second = record { answer = compactAnswer s text place second; log = log; second = putOf second 0 text }
 
 -- ---- append
--- an append takes tag 1 or 2, and a page that two bytes hold
+-- an append takes tag 1 or 2, and a page of at most two bytes
 unfoldable pub newInTurn : State → ℕ → ℕ → Bool
 newInTurn s tag page = leb page 65535 && inTurn false s (recordAs tag page)
 
--- "A full log .. is compacted": full is fewer than five bytes after the last whole record, where the next record begins
+-- "A full log .. is compacted": a log is full if fewer than five bytes are left after its last whole record
 unfoldable pub loggedOf : State → List ℕ → ℕ → ℕ → ℕ → List ℕ → LogCall
 loggedOf s log used tag page second =
     let t = afterOf s (recordAs tag page) in

@@ -1,4 +1,4 @@
--- What the functions of this crate hand one another on the way; it need not be believed.
+-- This file need not be believed: what the functions of this crate pass to one another.
 use Prim.Native.Nat.{ℕ, _+_, _*_, _≤_}
 use mathlib.Core.List.{List}
 use lib.ListN.{getD}
@@ -14,7 +14,7 @@ recordAt log at = record {
   page = getD log (at + 3) 0 * 256 + getD log (at + 4) 0;
 }
 
--- two bytes hold each page of a log of bytes
+-- each page that a log says fits two bytes
 abbrev pub Bounded : LogReading → Type 0
 Bounded (Says s) = (s .finished ≤ 65535) × (s .sent ≤ 65535)
 Bounded (OutOfTurn page) = page ≤ 65535

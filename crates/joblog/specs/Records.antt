@@ -1,5 +1,5 @@
--- Request 6, the log: bytes, the records that they hold, and what the records say. "A job has a log of five-byte records .., each formed as an order's
--- field: tag 1 sent, 2 done, 3 finished through (compaction's first record only); length 2; page number."
+-- Request 6, the log: bytes, the records that they hold, and what the records say. "A job has a log of five-byte records .., each formed as
+-- an order's field: tag 1 sent, 2 done, 3 finished through (compaction's first record only); length 2; page number."
 use Prim.Native.Nat.{ℕ, zero, suc, _+_, _-_, _*_, _/_, _%_}
 use mathlib.Core.Bool.{Bool, true, false, cond, _&&_}
 use mathlib.Core.List.{List, [], _∷_, _++_}
@@ -19,7 +19,7 @@ doneTag = 2
 abbrev pub finishedTag : ℕ
 finishedTag = 3
 
--- a State: pages 1 to `finished` are done, pages 1 to `sent` are sent; those between are open
+-- a State: pages 1 to `finished` are done, pages 1 to `sent` are sent, and the pages between are open
 abbrev pub state : ℕ → ℕ → State
 state finished sent = record { finished = finished; sent = sent }
 
@@ -46,20 +46,20 @@ abbrev pub wholeOf : ℕ → ℕ
 wholeOf used = used / 5 * 5
 
 -- ---- what a log says
--- "Pages are sent in rising order from 1"; "a done names the lowest page sent and not done"; a finished record is right as the log's first one alone;
--- "an unknown tag or another length counts as out of turn"
+-- "Pages are sent in rising order from 1"; "a done names the lowest page sent and not done"; a finished record is in turn only as the log's
+-- first one; "an unknown tag or another length counts as out of turn"
 unfoldable pub inTurn : Bool → State → Record → Bool
 inTurn first s r =
     eqb (r .length) 2
     && cond (eqb (r .tag) sentTag) (eqb (r .page) (s .sent + 1))
     (cond (eqb (r .tag) doneTag) (eqb (r .page) (s .finished + 1) && leb (r .page) (s .sent)) (eqb (r .tag) finishedTag && first))
 
--- what a log says with one record more
+-- what a log says after one record more
 unfoldable pub afterOf : State → Record → State
 afterOf s r =
     cond (eqb (r .tag) sentTag) (state (s .finished) (r .page)) (cond (eqb (r .tag) doneTag) (state (r .page) (s .sent)) (state (r .page) (r .page)))
 
--- the records from the first on, each after those before it; the page of the first that is out of turn
+-- what the records say, read in order, or the page of the first one that is out of turn
 unfoldable pub readOf : Bool → State → List Record → LogReading
 readOf first s [] = Says s
 readOf first s (r ∷ rest) = cond (inTurn first s r) (readOf false (afterOf s r) rest) (OutOfTurn (r .page))

@@ -1,4 +1,4 @@
-// What a host asks of a log: the first `used` bytes of its buffer.
+// The calls of a host on a log, which is the first `used` bytes of its buffer.
 ghost use mathlib.Core.Path.{_≡_};
 ghost use mathlib.Core.Bool.{_&&_};
 ghost use mathlib.Core.List.{[], _++_};
@@ -24,8 +24,8 @@ use refusals::LOG_COUNT_OUTSIDE;
 use refusals::LOG_OUT_OF_TURN;
 use refusals::LOG_SECOND_SHORT;
 
-// What each call returns: number 0, or a refusal with its place and every other field 0. `moved` is 1 if the log is now in the second
-// buffer.
+// What each call returns. `number` is 0, or that of a refusal; then `place` is its place and every other field is 0. `moved` is 1 if the
+// log is now in the second buffer.
 #[repr(C)]
 pub struct Log {
     pub number: u32,
@@ -62,7 +62,7 @@ fn answer(moved: u32, says: State, used: usize) -> Log
     }
 }
 
-// The bytes of the whole records: where the next one begins.
+// The bytes of the whole records. The next record begins after them.
 fn whole(used: usize) -> usize
     ensures { λ r. ⌜ r ≡ wholeOf used ⌝ }
 {
@@ -88,7 +88,7 @@ pub fn read_log(log: &[u8], used: usize) -> Log
     read_answer(scan(&log[..used]), used)
 }
 
-// Compaction into the second buffer, or 12.
+// Compacts the log into the second buffer. Returns 12 if it is too short.
 fn compact(s: State, place: u32, second: &mut [u8]) -> Log
     requires { ⌜ (s .finished ≤ 65535) × (s .sent ≤ 65535) ⌝ }
     ensures { λ r. ⌜ r ≡ compactAnswer s (compactedOf s) place (now (second .entry)) ⌝ }
@@ -101,7 +101,7 @@ fn compact(s: State, place: u32, second: &mut [u8]) -> Log
     answer(1, s, used)
 }
 
-// The same, and the new record behind the open pages.
+// The same, with the new record after the open pages.
 fn compact_with(s: State, tag: u32, page: u32, second: &mut [u8]) -> Log
     requires { ⌜ (s .finished ≤ 65535) × (s .sent ≤ 65535) × (tag ≤ 255) × (page ≤ 65535) ⌝ }
     ensures { λ r. ⌜ r ≡ compactAnswer (afterOf s (recordAs tag page)) (compactedOf s ++ bytesOf tag page) page (now (second .entry)) ⌝ }
@@ -115,7 +115,7 @@ fn compact_with(s: State, tag: u32, page: u32, second: &mut [u8]) -> Log
     answer(1, after(s, new_record(tag, page)), at + 5)
 }
 
-// Writes the new record in its place, or into the second buffer if the log is full.
+// Writes the new record after the whole ones. If the log is full, it is compacted into the second buffer with the new record.
 fn write(s: State, log: &mut [u8], used: usize, tag: u32, page: u32, second: &mut [u8]) -> Log
     requires { ⌜ (s .finished ≤ 65535) × (s .sent ≤ 65535) × (tag ≤ 255) × (page ≤ 65535) × (used ≤ length (now log)) ⌝ }
     ensures { λ r. ⌜ r ≡ loggedOf s (now (log .entry)) used tag page (now (second .entry)) .answer ⌝ }
@@ -130,7 +130,7 @@ fn write(s: State, log: &mut [u8], used: usize, tag: u32, page: u32, second: &mu
     compact_with(s, tag, page, &mut second[..])
 }
 
-// A page over two bytes would be another one in its record.
+// A record has two bytes for its page, so a larger page would be written as another one.
 fn new_in_turn(s: State, tag: u32, page: u32) -> bool
     ensures { λ r. ⌜ r ≡ newInTurn s tag page ⌝ }
 {
@@ -140,7 +140,7 @@ fn new_in_turn(s: State, tag: u32, page: u32) -> bool
     in_turn(false, s, new_record(tag, page))
 }
 
-// What an append does with a log that says this.
+// Appends a record to a log that has been read.
 fn append_read(
     reading: LogReading,
     log: &mut [u8],
@@ -167,7 +167,7 @@ fn append_read(
     }
 }
 
-// The log with one record more. Its own records are tried before the new one.
+// Appends a record to the log. The log's own records are checked before the new one.
 pub fn append(log: &mut [u8], used: usize, tag: u32, page: u32, second: &mut [u8]) -> Log
     ensures { λ r. ⌜ r ≡ appendOf (now (log .entry)) used tag page (now (second .entry)) .answer ⌝ }
     ensures { λ _. ⌜ now (log .exit) ≡ appendOf (now (log .entry)) used tag page (now (second .entry)) .log ⌝ }
@@ -186,7 +186,7 @@ fn between(low: u32, count: u32, high: u32) -> bool
     (low <= count) & (count <= high)
 }
 
-// What a restart writes hangs on what the log says alone, so the contract has no bytes of the first buffer.
+// What a restart writes depends only on what the log says, so the contract has no bytes of the first buffer.
 fn restart_read(reading: LogReading, count: u32, second: &mut [u8]) -> Log
     requires { ⌜ Bounded reading ⌝ }
     ensures { λ r. ⌜ r ≡ restartedOf reading [] count (now (second .entry)) .answer ⌝ }
@@ -209,7 +209,7 @@ fn restart_read(reading: LogReading, count: u32, second: &mut [u8]) -> Log
     }
 }
 
-// The log compacted with the number of pages that the embosser has finished; the open pages after it go out again.
+// Compacts the log with `count`, the pages that the embosser has finished. The open pages after them are sent again.
 pub fn restart(log: &[u8], used: usize, count: u32, second: &mut [u8]) -> Log
     ensures { λ r. ⌜ r ≡ restartOf (now (log .entry)) used count (now (second .entry)) .answer ⌝ }
     ensures { λ _. ⌜ now (second .exit) ≡ restartOf (now (log .entry)) used count (now (second .entry)) .second ⌝ }

@@ -1,4 +1,4 @@
--- What a single call leaves of both buffers, and a cut at any byte of an append. Assumes nothing.
+-- Both buffers after a single call, and a cut at any byte of an append. Assumes nothing.
 use Rattle.prelude.proofs.Logic.{_≡_, refl, sym, ap, _∙_, Bool, true, false, cond, _&&_, List, [], _++_, append-nil, ℕ, _+_, _-_, _*_, _≤_}
 use Rattle.prelude.proofs.Logic.{_<_, arith, leb, ltb, eqb, length, take, drop, length-append, drop-append-add, drop-drop, length-take-le}
 use Rattle.prelude.proofs.Logic.{le-leb, leb-true, leb-false, ltb-true, ltb-false, arms, both}
@@ -151,7 +151,7 @@ pub cut-at-any-byte : CutAtAnyByte
 cut-at-any-byte log used tag page second k i five =
     cut-read log used tag page second (in-place log used tag page second i) k five (ltb k 5) refl
 
--- bytes that are put over others in the same place
+-- bytes that are put over others at the same offset
 put-over : (buffer x y : List ℕ) (at : ℕ) → length x ≤ length y → at + length y ≤ length buffer
     → putOf (putOf buffer at x) at y ≡ putOf buffer at y
 unfolding putOf
@@ -264,7 +264,7 @@ unfolding recordsOf readOf
 compaction-says-the-same finished sent ordered =
     ap logReadingOf (sym (append-nil (compactedOf (state finished sent)))) ∙ compacted-read (state finished sent) [] ordered
 
--- ---- what the log says then
+-- ---- what the log says after a call
 held-says : (log : List ℕ) (used : ℕ) (s : State) → Held log used s
     → (readLogOf log used .number ≡ 0) × (readLogOf log used .finished ≡ s .finished) × (readLogOf log used .sent ≡ s .sent)
 held-says log used s h = let e = held-read log used s h in

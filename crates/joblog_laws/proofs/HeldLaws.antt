@@ -80,14 +80,14 @@ change-ordered sent h = omega arith
 change-ordered (done a b c) h = c
 
 -- ---- append
--- the whole records of a log are all that it says
+-- a log says what its whole records say
 whole-reads : (log : List ℕ) (used : ℕ) (s : State) → Held log used s → logReadingOf (take (wholeOf used) log) ≡ Says s
 whole-reads log used s h =
     let f = h .fits in
     ap (readOf true (state 0 0)) (sym (cut-records (used / 5) log used (omega arith) (omega arith) (omega arith))) ∙ h .reads
 
 module _ (log : List ℕ) (used : ℕ) (s : State) (h : Held log used s) (tag page : ℕ) (turn : inTurn false s (recordAs tag page) ≡ true) where
-  -- a record behind the last whole one
+  -- a record after the last whole one
   pub put-held : wholeOf used + 5 ≤ length log
       → Held (putOf log (wholeOf used) (bytesOf tag page)) (wholeOf used + 5) (afterOf s (recordAs tag page))
   unfolding bytesOf
@@ -105,7 +105,7 @@ module _ (log : List ℕ) (used : ℕ) (s : State) (h : Held log used s) (tag pa
         ordered = change-ordered (in-turn-change s tag page turn) (h .ordered);
       }
 
-  -- compacted, with the record behind the open pages
+  -- the compacted log, with the record after the open pages
   pub moved-held : (second : List ℕ) → length (compactedOf s ++ bytesOf tag page) ≤ length second
       → Held (putOf second 0 (compactedOf s ++ bytesOf tag page)) (length (compactedOf s ++ bytesOf tag page))
       (afterOf s (recordAs tag page))
@@ -120,7 +120,7 @@ module _ (log : List ℕ) (used : ℕ) (s : State) (h : Held log used s) (tag pa
         ordered = change-ordered (in-turn-change s tag page turn) (h .ordered);
       }
 
--- a restart's log
+-- the log after a restart
 pub restart-held : (s : State) (second : List ℕ) → s .finished ≤ s .sent → length (compactedOf s) ≤ length second
     → Held (putOf second 0 (compactedOf s)) (length (compactedOf s)) s
 unfolding recordsOf readOf
@@ -132,8 +132,8 @@ restart-held s second ordered room =
       ordered = ordered;
     }
 
--- ---- a cut at any byte of an append that fits. `k` of the record's five bytes are there.
--- If `used` says less than the whole record, the log is as it was before.
+-- ---- a cut at any byte of an append that fits. `k` of the record's five bytes are written.
+-- If `used` does not count the whole record, the log is as it was before.
 pub cut-before : (log : List ℕ) (used : ℕ) (s : State) → Held log used s → (tag page k u : ℕ) → k ≤ 5 → wholeOf used ≤ u
     → u < wholeOf used + 5
     → wholeOf used + 5 ≤ length log → Held (putOf log (wholeOf used) (take k (bytesOf tag page))) u s
@@ -151,7 +151,7 @@ cut-before log used s h tag page k u short low high room =
       ordered = h .ordered;
     }
 
--- the log's buffer while an append is under way, with k of the record's bytes there
+-- the log's buffer during an append, with k of the record's bytes written
 abbrev pub cutLog : List ℕ → ℕ → LogCall → ℕ → ℕ → ℕ → List ℕ
 cutLog log used c tag page k = cond (inPlace c) (putOf log (wholeOf used) (take k (bytesOf tag page))) log
 
@@ -165,7 +165,7 @@ unchanged : {s : State} {tag page : ℕ} {log : List ℕ} {used : ℕ} → Held 
 unchanged {s} h = record { to = s; held = h; how = same }
 
 module _ (log : List ℕ) (used : ℕ) (s : State) (tag page : ℕ) (second : List ℕ) where
-  -- the three ways of an append on a log that can be read
+  -- the three outcomes of an append on a log that can be read
   pub data Outcome : LogCall → Type 0 where
     refusal : (number : ℕ) (after : List ℕ) → eqb number 0 ≡ false → Outcome (refusing number page log after)
     placed : inTurn false s (recordAs tag page) ≡ true → wholeOf used + 5 ≤ length log
@@ -214,13 +214,13 @@ module _ (log : List ℕ) (used : ℕ) (s : State) (tag page : ℕ) (second : Li
     how = in-turn-change s tag page turn;
   }
 
-  -- one that is under way, with k of the record's bytes there
+  -- during an append, with k of the record's bytes written
   pub cut-now : Held log used s → {c : LogCall} → Outcome c → (k : ℕ) → k ≤ 5 → Held (cutLog log used c tag page k) used s
   cut-now h (refusal number after e) k five = rw e h
   cut-now h (moved turn room) k five = h
   cut-now h (placed turn room) k five = cut-before log used s h tag page k used five (omega arith) (omega arith) room
 
-  -- one that a crash cuts
+  -- an append that a crash cuts
   pub cut-after : Held log used s → {c : LogCall} → Outcome c → (k u : ℕ) → k ≤ 5
       → After s tag page (cutLog log used c tag page k) (cond (inPlace c && mayBeUsed used k u) u used)
   unfolding bytesOf

@@ -14,7 +14,7 @@ use Rattle.joblog_laws.proofs.HeldLaws.{held-read, sent, restart-held}
 use Rattle.joblog_laws.proofs.PageLaws.{pages-front, listed-pages}
 use Rattle.joblog_laws.proofs.StepLaws.{count, Inv, counted, held-now, count-between, restarted, restart-kept, run-kept, begun-kept}
 
--- ---- what the request promises follows
+-- ---- the request's promise follows
 not-listed : (b : Bool) → (b ≡ true → ⊥) → b ≡ false
 not-listed true h = absurd (h refl)
 not-listed false h = refl
@@ -52,8 +52,8 @@ kept w i =
 pub histories-are-kept : HistoriesAreKept
 histories-are-kept buffer steps = kept (run asRequested (begun buffer) steps) (run-kept (begun buffer) (begun-kept buffer) steps)
 
--- ---- the open pages come
--- a host that runs and is in no append
+-- ---- the open pages are finished
+-- a host that runs and is not in an append
 abbrev resting : (log : List ℕ) (used out : ℕ) (heard tray finished coming : List ℕ) → World
 resting log used out heard tray finished coming =
     world (record { log = log; used = used; up = true; out = out; writing = idle; heard = heard })

@@ -1,4 +1,4 @@
--- What every step of a run keeps. Assumes nothing.
+-- The invariant that every step of a run keeps. Assumes nothing.
 use Rattle.prelude.proofs.Logic.{_≡_, refl, sym, ap, subst, _∙_, Bool, true, false, cond, _&&_, false≢true, List, [], _∷_, _++_}
 use Rattle.prelude.proofs.Logic.{append-assoc, append-nil, ℕ, suc, _+_, _≤_, _<_, arith, leb, ltb, eqb, length, take, drop, length-append}
 use Rattle.prelude.proofs.Logic.{length-drop, take-append-drop, take-add, length-take-le, leb-true, ltb-true, arms, cases, both}
@@ -18,7 +18,7 @@ use Rattle.joblog_laws.proofs.HeldLaws.{Held, held-read, cutLog, Change
 use Rattle.joblog_laws.proofs.HeldLaws.{append-outcome, append-after, cut-now, cut-after, restart-outcome, restart-held}
 use Rattle.joblog_laws.proofs.PageLaws.{pages-length, pages-front, first-page}
 
--- ---- an append that is under way: `base` is the buffer when it began
+-- ---- during an append: `base` is the buffer when it began
 pub record Within (base log : List ℕ) (used : ℕ) (s : State) (count tag page : ℕ) (c : LogCall) (k : ℕ) : Type 0 where
   pub second : List ℕ
   pub outcome : Outcome base used s tag page second c
@@ -42,7 +42,7 @@ flight-more base log used s n m idle h f = f
 flight-more base log used s n m (within tag page c k) h f =
     record { second = f .second; outcome = f .outcome; there = f .there; few = f .few; told = λ two. let t = f .told two in omega arith }
 
--- ---- pages that are no later than one
+-- ---- no page is later than page n
 abbrev pub Below : ℕ → List ℕ → Type 0
 Below n [] = Unit
 Below n (page ∷ pages) = (page ≤ n) × Below n pages
@@ -81,7 +81,7 @@ pub record Inv (w : World) : Type 0 where
   pub heard : Below (count w) (w .host .heard)
   pub coming : Below (count w) (w .embosser .coming)
 
--- with another host
+-- the invariant with another host
 abbrev HostInv : World → Host → Type 0
 HostInv w h = Inv (world h (w .embosser))
 
@@ -95,14 +95,14 @@ counted w i =
 pub held-now : (w : World) (i : Inv w) → Held (w .host .log) (w .host .used) (i .says)
 held-now w i = flight-held (i .base) (w .host .log) (w .host .used) (i .says) (count w) (w .host .writing) (i .held) (i .flight)
 
--- a done is of a finished page, so that the count stays between
+-- a done is of a finished page, so the count stays between finished and sent
 change-between : {s t : State} {tag page : ℕ} → Change s tag page t → (n : ℕ) → s .finished ≤ n → (tag ≡ 2 → page ≤ n)
     → (t .finished ≤ n) × (s .sent ≤ t .sent)
 change-between same n h d = (h, omega arith)
 change-between sent n h d = (h, omega arith)
 change-between (done a b c) n h d = let k = d a in (omega arith, omega arith)
 
--- the log goes on, and the pages stay where they are
+-- a step that changes the log and no page
 log-kept : (w : World) (i : Inv w) {log : List ℕ} {used : ℕ} {writing : Writing} (s : State) (base : List ℕ) → Held base used s
     → Flight base log used s (count w) writing → s .finished ≤ count w → i .last ≤ s .sent
     → Inv (world (writes (w .host) log used writing) (w .embosser))
@@ -121,7 +121,7 @@ log-kept w i s base h f b a =
       coming = i .coming;
     }
 
--- pages or what is heard of them go on, and the log stays
+-- a step that changes pages or acknowledgements and not the log
 pages-kept : (w : World) (i : Inv w) {heard tray finished coming : List ℕ} → count w ≤ length finished
     → finished ++ tray ≡ w .embosser .finished ++ w .embosser .tray
     → Below (length finished) heard → Below (length finished) coming
@@ -143,7 +143,7 @@ pages-kept w i {finished = finished} more all h c =
       coming = c;
     }
 
--- the append that is under way
+-- the append that the host is in
 in-flight : (w : World) (i : Inv w) {tag page : ℕ} {c : LogCall} {k : ℕ} → w .host .writing ≡ within tag page c k
     → Within (i .base) (w .host .log) (w .host .used) (i .says) (count w) tag page c k
 in-flight w i e = subst (Flight (i .base) (w .host .log) (w .host .used) (i .says) (count w)) e (i .flight)
@@ -244,7 +244,7 @@ restart-kept w i second = rw (restarted w i second) (by-room (leb (length (compa
     t : State
     t = state n (i .says .sent)
 
-    -- the count is the log's, and the tray is empty
+    -- the log's finished pages are the count, and the tray is empty
     begun-again : (log : List ℕ) (used : ℕ) (up : Bool) (s : State) → Held log used s → s .finished ≤ n → n ≤ s .sent
         → Inv (world (record { log = log; used = used; up = up; out = n; writing = idle; heard = w .host .heard }) (holds (w .embosser) []))
     begun-again log used up s h b a =
@@ -338,7 +338,7 @@ goes-kept w i =
     (λ e. i)
 
 -- ---- a crash
--- what the log says then
+-- what the log says after the crash
 record Left (w : World) (s : State) (used : ℕ) : Type 0 where
   pub to : State
   pub held : Held (w .host .log) used to

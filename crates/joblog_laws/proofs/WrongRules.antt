@@ -1,5 +1,5 @@
--- Other rules than the request's, under which the promise fails: for each a short history that breaks it. So `Kept` says something, and
--- each rule of `asRequested` is needed. Assumes nothing.
+-- Rules other than the request's, under which the promise fails: for each, a short history that breaks it. So `Kept` can fail, and each
+-- rule of `asRequested` is needed. Assumes nothing.
 use Rattle.prelude.proofs.Logic.{_≡_, refl, ap, true, List, [], _∷_, _++_, ℕ, arith, leb, getD, replicate}
 use Rattle.text.specs.Text.{putOf}
 use Rattle.joblog.specs.Records.{state, bytesOf, recordsOf, inTurn, afterOf, readOf, openOf, compactedOf}
@@ -20,7 +20,7 @@ started tag page = begins tag page [] ∷ byte ∷ byte ∷ byte ∷ byte ∷ []
 abbrev appended : ℕ → ℕ → List Step
 appended tag page = started tag page ++ (byte ∷ completes ∷ [])
 
--- where a history ends; to unfold this is to unfold all that a run computes
+-- where a history ends; unfolding this unfolds all that a run computes
 ends : HostRules → List Step → World
 unfolding run next beginning writingByte completing finishing arriving crashUsed isIdle acknowledged putOf bytesOf recordsOf inTurn afterOf
     readOf openOf compactedOf readLogOf readAnswer newInTurn compactAnswer loggedOf appendedOf appendOf restartedOf restartOf pagesTo
@@ -37,7 +37,7 @@ as-requested : ends asRequested one-lost .embosser .finished ≡ 1 ∷ 2 ∷ 3 �
 unfolding ends one-lost
 as-requested = refl
 
--- page 1's acknowledgement is lost and page 2's is heard, which tells of both: both dones are recorded
+-- page 1's acknowledgement is lost and page 2's is heard. It tells that both are finished, so both dones are recorded
 later-heard : List Step
 later-heard =
     appended 1 1 ++ (goes ∷ []) ++ appended 1 2 ++ (goes ∷ finishes ∷ finishes ∷ lost ∷ hears ∷ []) ++ appended 2 1 ++ appended 2 2
@@ -46,7 +46,7 @@ both-done : readLogOf (ends asRequested later-heard .host .log) (ends asRequeste
 unfolding ends later-heard
 both-done = refl
 
--- ---- the open pages after the last done go out again, whatever the count: page 1, finished and not recorded as done, is finished twice
+-- ---- the open pages after the last done go out again for any count: page 1, finished and not recorded as done, is finished twice
 abbrev pub from-the-last-done : HostRules
 from-the-last-done = record { told = acknowledged; ready = leb; resume = λ done count. done; kept = λ tray. [] }
 
@@ -96,7 +96,7 @@ pub not-done-before-finished : KeptBy done-before-finished → ⊥
 unfolding ends too-early
 not-done-before-finished h = let e : _≡_ {A = ℕ} 14 0 = h buffer too-early .accepted buffer in omega arith
 
--- ---- a page goes out before its sent record is whole: it is finished, the count is over the log's sent pages, and refused by 14
+-- ---- a page goes out before its sent record is whole: it is finished, so the count is over the log's sent pages and is refused by 14
 abbrev pub goes-before-its-record : HostRules
 goes-before-its-record = record { told = acknowledged; ready = λ page sent. true; resume = λ done count. count; kept = λ tray. [] }
 

@@ -1,4 +1,4 @@
--- Request 6, what a single call leaves of both buffers, and a cut at any byte of an append. Proved in proofs/AppendLaws.
+-- Request 6: both buffers after a single call, and a cut at any byte of an append. Proved in proofs/AppendLaws.
 use Prim.Native.Nat.{ℕ, _+_, _-_, _*_, _≤_, _<_}
 use mathlib.Core.Path.{_≡_}
 use mathlib.Core.Bool.{true, false, cond}
@@ -30,15 +30,15 @@ FirstBufferStays =
     → ((tag page : ℕ) → inPlace (appendOf log used tag page second) ≡ false → appendOf log used tag page second .log ≡ log)
     × ((count : ℕ) → restartOf log used count second .log ≡ log)
 
--- an append in the log's own place changes the five bytes behind the last whole record, and no other
+-- an append in the log's own buffer changes the five bytes after the last whole record and no others
 abbrev pub FiveBytesChange : Type 0
 FiveBytesChange =
     (log : List ℕ) (used tag page : ℕ) (second : List ℕ) → inPlace (appendOf log used tag page second) ≡ true
     → (appendOf log used tag page second .log ≡ take (wholeOf used) log ++ bytesOf tag page ++ drop (wholeOf used + 5) log)
     × (appendOf log used tag page second .second ≡ second)
 
--- ---- "A record cut at the end of the log is ignored and the next append begins in its place, so a cut at any byte of an append leaves the log before
--- or after that record."
+-- ---- "A record cut at the end of the log is ignored and the next append begins in its place, so a cut at any byte of an append leaves the
+-- log before or after that record."
 -- k of the new record's bytes in the buffer
 abbrev pub cutAt : List ℕ → ℕ → ℕ → ℕ → ℕ → List ℕ
 cutAt log used tag page k = putOf log (wholeOf used) (take k (bytesOf tag page))
@@ -49,7 +49,7 @@ CutAtAnyByte =
     (log : List ℕ) (used tag page : ℕ) (second : List ℕ) (k : ℕ) → inPlace (appendOf log used tag page second) ≡ true → k ≤ 5
     → readLogOf (cutAt log used tag page k) (wholeOf used + k) ≡ cond (ltb k 5) (readLogOf log used) (appendOf log used tag page second .answer)
 
--- and the next append, of any record, returns what it would if nothing had been cut, and leaves the same bytes if it is not refused
+-- the next append, of any record, returns what it would without the cut. If it is not refused, it leaves the same bytes too
 abbrev pub NextTakesItsPlace : Type 0
 NextTakesItsPlace =
     (log : List ℕ) (used tag page : ℕ) (second : List ℕ) (k : ℕ) → inPlace (appendOf log used tag page second) ≡ true → k < 5
@@ -57,7 +57,7 @@ NextTakesItsPlace =
     → let next = appendOf (cutAt log used tag page k) (wholeOf used + k) tag' page' second' in
     (next .answer ≡ appendOf log used tag' page' second' .answer) × (eqb (next .answer .number) 0 ≡ true → next .log ≡ appendOf log used tag' page' second' .log)
 
--- ---- a second buffer with room for one record and the open pages, and for an append one record more, is never too short
+-- ---- a second buffer is never too short if it has room for one record and the open pages, and for an append one record more
 abbrev pub LogRoomIsEnough : Type 0
 LogRoomIsEnough =
     (log : List ℕ) (used : ℕ) (second : List ℕ)
@@ -65,17 +65,17 @@ LogRoomIsEnough =
     → eqb (appendOf log used tag page second .answer .number) logSecondShort ≡ false)
     × ((count : ℕ) → 5 + 5 * (readLogOf log used .sent - count) ≤ length second → eqb (restartOf log used count second .answer .number) logSecondShort ≡ false)
 
--- ---- "one finished record (page 0 if none is done), then the open pages": what compaction writes says what it was written from
+-- ---- "one finished record (page 0 if none is done), then the open pages": the compacted log says what the log said before
 abbrev pub CompactionSaysTheSame : Type 0
 CompactionSaysTheSame = (finished sent : ℕ) → finished ≤ sent → logReadingOf (compactedOf (state finished sent)) ≡ Says (state finished sent)
 
--- ---- what the log says after a call that is not refused: what the call returns
+-- ---- after a call that is not refused, the log says what the call returns
 abbrev pub SaysSo : LogCall → ℕ → Type 0
 SaysSo c used =
     let now = readLogOf (logAfter c) (usedAfter c used) in
     (now .number ≡ 0) × (now .finished ≡ c .answer .finished) × (now .sent ≡ c .answer .sent)
 
--- an append, whether it compacts or not; and a restart: "the log is compacted with the count as finished", its open pages as they were
+-- after an append, whether it compacts or not, and after a restart: "the log is compacted with the count as finished", with its open pages
 abbrev pub LogSaysSo : Type 0
 LogSaysSo =
     (log : List ℕ) (used : ℕ) (second : List ℕ)

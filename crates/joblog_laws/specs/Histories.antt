@@ -1,5 +1,5 @@
--- Request 6's promise, over every history: "So, if the embosser's count is true, no finished page is sent again and none is skipped."
--- Proved in proofs/HistoryLaws. A step that the rules do not allow does not happen, so no history is left out.
+-- Request 6's promise, for every history: "So, if the embosser's count is true, no finished page is sent again and none is skipped."
+-- Proved in proofs/HistoryLaws. A step that the rules do not allow changes nothing, so every list of steps is a history.
 use Prim.Native.Nat.{ℕ, zero, suc, _+_, _-_, _*_, _≤_}
 use mathlib.Core.Path.{_≡_}
 use mathlib.Core.Bool.{true, false, cond}
@@ -19,13 +19,13 @@ pagesTo (suc n) = pagesTo n ++ (suc n ∷ [])
 pub record Kept (w : World) : Type 0 where
   -- the embosser has finished the pages 1, 2, 3, .., in order and each once
   pub «in_order» : w .embosser .finished ≡ pagesTo (length (w .embosser .finished))
-  -- and will, with those in its tray: none is skipped and none is there twice
+  -- with those in its tray they are 1, 2, 3, .. too: none is skipped and none is there twice
   pub «none_skipped» : w .embosser .finished ++ w .embosser .tray ≡ pagesTo (length (w .embosser .finished ++ w .embosser .tray))
-  -- the page that goes out next is the one after all those
+  -- the page that goes out next is the one after all of these
   pub «next_out» : w .host .up ≡ true → w .host .out ≡ length (w .embosser .finished ++ w .embosser .tray)
-  -- and is no finished one
+  -- and it is not finished
   pub «none_again» : w .host .up ≡ true → listed (w .embosser .finished) (w .host .out + 1) ≡ false
-  -- the log can be read, and has the count and the tray between its finished and its sent pages
+  -- the log can be read. Its finished pages are at most the count, and its sent pages at least the count with the tray
   pub readable : readLogOf (w .host .log) (w .host .used) .number ≡ 0
   pub behind : readLogOf (w .host .log) (w .host .used) .finished ≤ length (w .embosser .finished)
   pub ahead : length (w .embosser .finished ++ w .embosser .tray) ≤ readLogOf (w .host .log) (w .host .used) .sent
@@ -40,8 +40,8 @@ KeptBy rules = (buffer : List ℕ) (steps : List Step) → Kept (run rules (begu
 abbrev pub HistoriesAreKept : Type 0
 HistoriesAreKept = KeptBy asRequested
 
--- ---- and none is skipped for good: after any history, a restart with room and then each open page out and finished leaves every page finished of
--- which the log has a sent record
+-- ---- and none is skipped for good: after any history, if there is a restart with room, and then each open page goes out and is finished,
+-- every page that has a sent record in the log is finished
 unfoldable pub sendAll : ℕ → List Step
 sendAll zero = []
 sendAll (suc n) = goes ∷ finishes ∷ sendAll n

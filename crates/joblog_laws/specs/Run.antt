@@ -1,18 +1,18 @@
--- Request 6, a run: a host with its log, and an embosser. What the calls write and return are crates/joblog's definitions, which its code equals.
+-- Request 6, a run: a host with its log, and an embosser. What the calls write and return are crates/joblog's definitions.
 --
--- What the request's promise rests on, beside the log (each is a choice of this model, to hold against the request). What the host may record and send,
--- what it sends again and what the embosser drops are a value, `HostRules`; the others are how the steps go:
---   the link    pages reach the embosser in the order in which they go out. What is lost is lost from the end, and then nothing more gets through
---               until a restart (the step `crash`, also if only the link or the embosser failed).
---   embosser    it finishes its pages in the order in which they reached it, also while the host is down, and no crash takes a finished page back.
---   a count     it is true if it is the number of pages finished, and the embosser drops what it has not finished when it reports it: the open
---               pages go out again, and one still in its tray would be finished twice (`keeps-its-tray` in proofs/WrongRules).
+-- What the request's promise needs beside the log. Each point is a choice of this model, to compare with the request. `HostRules` has what
+-- the host may record and send, what it sends again and what the embosser drops. The steps have the other points:
+--   the link    pages reach the embosser in the order in which they go out. Pages are lost only from the end, and then no page gets
+--               through until a restart (the step `crash`, also if only the link or the embosser failed).
+--   embosser    it finishes its pages in the order in which they reached it, also while the host is down. No crash undoes a finished page.
+--   a count     it is true if it is the number of pages finished, and the embosser drops its other pages when it reports it: the open pages
+--               go out again, and one still in its tray would be finished twice (`keeps-its-tray` in proofs/WrongRules).
 --   the host    after any crash it restarts before it appends or sends: `up` says so. It sends no page while it is in an append.
---   a done      is recorded only of a page whose acknowledgement, or a later page's, the host has heard. A later one will do, since pages are
---               finished in order. The embosser gives one when it has finished a page; it may be lost on its way, or come late, after a crash and a
---               restart too (the steps `hears` and `lost`).
---   the buffer  an append's bytes become lasting one by one, from the first on, and `used` never counts a byte that is not lasting; the move to the
---               second buffer is lasting at once, when the call has returned and before a page goes out.
+--   a done      is recorded only if the host has heard the page's acknowledgement, or a later page's: pages are finished in order. The
+--               embosser acknowledges a page when it has finished it. The acknowledgement may be lost on its way, or come late, also after
+--               a crash and a restart (the steps `hears` and `lost`).
+--   the buffer  an append's bytes become lasting one by one, from the first on. `used` never counts a byte that is not lasting. The move to
+--               the second buffer is lasting at once, when the call has returned and before a page goes out.
 use Prim.Native.Nat.{ℕ, _+_}
 use mathlib.Core.Bool.{Bool, true, false, cond, _&&_, _||_}
 use mathlib.Core.List.{List, [], _∷_, _++_}
@@ -23,7 +23,7 @@ use Rattle.joblog.specs.Records.{doneTag, bytesOf, wholeOf}
 use Rattle.joblog.specs.Calls.{LogCall, readLogOf, appendOf, restartOf}
 
 -- ---- what there is at a moment
--- whether the host is in an append: its record's tag and page, what the call returns and leaves, and how many of the record's bytes are lasting
+-- whether the host is in an append: the record's tag and page, what the call returns and leaves, and how many of its bytes are lasting
 pub data Writing : Type 0 where
   idle : Writing
   within : ℕ → ℕ → LogCall → ℕ → Writing
@@ -32,8 +32,8 @@ pub record Host : Type 0 where
   -- lasting: the buffer that is the log now, and how many of its bytes are the log
   pub log : List ℕ
   pub used : ℕ
-  -- its memory: whether it runs and has restarted since the last crash, the last page that went out, the append that it is in, and the pages whose
-  -- acknowledgement it has heard
+  -- its memory: whether it runs and has restarted since the last crash, the last page that went out, the append that it is in, and the
+  -- pages whose acknowledgement it has heard
   pub up : Bool
   pub out : ℕ
   pub writing : Writing
@@ -62,33 +62,33 @@ pub data Step : Type 0 where
   begins : ℕ → ℕ → List ℕ → Step
   -- one more byte of the record is lasting in the log's buffer
   byte : Step
-  -- the record is complete and the call returns: what `used` says then, or the move to the second buffer, is lasting
+  -- the record is complete and the call returns: the new `used`, or the move to the second buffer, is lasting
   completes : Step
   -- the page after the last one goes out, and reaches the embosser
   goes : Step
   -- the embosser finishes the first page of its tray, and acknowledges it
   finishes : Step
-  -- the first acknowledgement on its way reaches the host; it is lost
+  -- the first acknowledgement on its way reaches the host, or it is lost
   hears : Step
   lost : Step
-  -- host, link or embosser fail: of the tray that many pages are left, the first ones; if the host was in an append, `used` may be any number of the
-  -- bytes that are there
+  -- host, link or embosser fail. The first number is how many pages, the oldest ones, are left in the tray. If the host was in an append,
+  -- the second number is `used` after the crash, if so many bytes can be lasting
   crash : ℕ → ℕ → Step
-  -- the embosser reports its count, and the host restarts with it (the second buffer that it lends)
+  -- the embosser reports its count, and the host restarts with it and lends this second buffer
   restart : List ℕ → Step
 
--- ---- the rules of host and embosser. Those of the request are below; proofs/WrongRules has others, under which the promise fails.
+-- ---- the rules of host and embosser. The request's rules are below; proofs/WrongRules has others, under which the promise fails.
 pub record HostRules : Type 0 where
-  -- the pages whose acknowledgements were heard, a page: may the host record it as done?
+  -- given the pages whose acknowledgements were heard, and a page: may the host record it as done?
   pub told : List ℕ → ℕ → Bool
-  -- a page, the pages that the log says are sent: may it go out?
+  -- given a page, and the pages that the log says are sent: may it go out?
   pub ready : ℕ → ℕ → Bool
-  -- the log's finished pages, the embosser's count: the open pages after which page go out again?
+  -- given the log's finished pages and the embosser's count: after which page do the open pages go out again?
   pub resume : ℕ → ℕ → ℕ
-  -- what is left of the embosser's tray once it has reported its count
+  -- what is left of the embosser's tray when it has reported its count
   pub kept : List ℕ → List ℕ
 
--- an acknowledgement of a page tells that it and those before it are finished; theirs may be lost
+-- an acknowledgement of a page tells that it and all earlier pages are finished; theirs may be lost
 unfoldable pub acknowledged : List ℕ → ℕ → Bool
 acknowledged [] page = false
 acknowledged (p ∷ heard) page = leb page p || acknowledged heard page
@@ -97,7 +97,7 @@ acknowledged (p ∷ heard) page = leb page p || acknowledged heard page
 abbrev pub asRequested : HostRules
 asRequested = record { told = acknowledged; ready = leb; resume = λ done count. count; kept = λ tray. [] }
 
--- ---- steps. One that the rules do not allow at that moment does not happen.
+-- ---- steps. A step that the rules do not allow at that moment changes nothing.
 -- "the first buffer stays as it was and is the log until the call returns"
 abbrev pub logAfter : LogCall → List ℕ
 logAfter c = cond (eqb (c .answer .moved) 1) (c .second) (c .log)
@@ -109,7 +109,7 @@ usedAfter c used = cond (eqb (c .answer .number) 0) (c .answer .used) used
 abbrev pub inPlace : LogCall → Bool
 inPlace c = eqb (c .answer .number) 0 && eqb (c .answer .moved) 0
 
--- a host whose append goes on: its log and the append that it is in; a host that sends a page; a host that hears
+-- a host with another log and append; one that has sent a page; one that has heard acknowledgements
 abbrev pub writes : Host → List ℕ → ℕ → Writing → Host
 writes h log used writing = record { log = log; used = used; up = h .up; out = h .out; writing = writing; heard = h .heard }
 
@@ -135,7 +135,7 @@ beginning rules h (within t p c k) tag page second = h
 beginning rules h idle tag page second =
     cond (mayAppend rules h tag page) (writes h (h .log) (h .used) (within tag page (appendOf (h .log) (h .used) tag page second) 0)) h
 
--- the next one of the record's five bytes, behind the last whole record and those that are there
+-- the next of the record's five bytes, after the last whole record and the k bytes that are written
 abbrev pub withByte : List ℕ → ℕ → ℕ → ℕ → ℕ → List ℕ
 withByte log used tag page k = putOf log (wholeOf used + k) (take 1 (drop k (bytesOf tag page)))
 
@@ -161,13 +161,13 @@ unfoldable pub finishing : Embosser → List ℕ → Embosser
 finishing e [] = e
 finishing e (page ∷ rest) = record { tray = rest; finished = e .finished ++ (page ∷ []); coming = e .coming ++ (page ∷ []) }
 
--- the first acknowledgement on its way: the pages that the host has then heard of, or those of before if it is lost
+-- the first acknowledgement on its way: `heard` gives the pages that the host has heard of after it; these stay the same if it is lost
 unfoldable pub arriving : World → (List ℕ → ℕ → List ℕ) → List ℕ → World
 arriving w heard [] = w
 arriving w heard (page ∷ rest) = world (hasHeard (w .host) (heard (w .host .heard) page)) (awaits (w .embosser) rest)
 
 -- ---- a crash and a restart
--- what `used` may be after a crash in an append with k of the record's bytes lasting
+-- what `used` may be after a crash in an append, if k of the record's bytes are lasting
 abbrev pub mayBeUsed : ℕ → ℕ → ℕ → Bool
 mayBeUsed used k u = leb (wholeOf used) u && (leb u used || leb u (wholeOf used + k))
 
@@ -175,7 +175,7 @@ unfoldable pub crashUsed : ℕ → Writing → ℕ → ℕ
 crashUsed used idle u = used
 crashUsed used (within tag page c k) u = cond (inPlace c && mayBeUsed used k u) u used
 
--- of the host only its log is left
+-- only the host's log is left
 abbrev pub crashed : Host → ℕ → Host
 crashed h u = record { log = h .log; used = crashUsed (h .used) (h .writing) u; up = false; out = 0; writing = idle; heard = [] }
 

@@ -1,5 +1,5 @@
--- Document 01: "A host program in C calls the port on numbers and bytes", "A refusal gives number and place, no times". Number and place
--- are 0 if nothing is refused; every other field is 0 if the call is.
+-- Document 01: "A host program in C calls the port on numbers and bytes", "A refusal gives number and place, no times". If the call is not
+-- refused, number and place are 0. If it is refused, every other field is 0.
 use Prim.Native.Nat.{ℕ, _+_, _*_}
 use lib.IntN.{pos}
 use Rattle.models.specs.Numbers.{prayerNumberOf}

@@ -1,4 +1,4 @@
-// A coordinate as on the map, from C.
+// A coordinate as it is on the map.
 ghost use mathlib.Core.Path.{_≡_};
 ghost use Rattle.map_form.specs.Hundredths.{mostLatitude, mostLongitude};
 ghost use Rattle.map_form.specs.Written.{mapLatitudeTag, mapLongitudeTag, writtenOf};

@@ -1,4 +1,4 @@
-// The print queue, which the host keeps and hands over by value.
+// The print queue, which the host keeps and passes by value.
 ghost use mathlib.Core.Path.{_≡_};
 ghost use Rattle.queue.specs.Arrays.{joinedOf, turnedOf};
 use queue::Joined;

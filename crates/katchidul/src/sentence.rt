@@ -1,4 +1,4 @@
-// Refusals in words, from C.
+// Refusals in words.
 ghost use mathlib.Core.Path.{_≡_};
 ghost use Rattle.sentences.specs.Sentences.{sentenceCallOf, meaningOf};
 use sentences::Meaning;

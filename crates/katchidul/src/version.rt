@@ -2,7 +2,7 @@
 ghost use mathlib.Core.Path.{_≡_};
 ghost use Rattle.katchidul.specs.Exports.{version};
 
-// KATCHIDUL_VERSION of include/katchidul.h: the major number times 65,536, and the minor.
+// KATCHIDUL_VERSION of include/katchidul.h: the major number times 65,536, plus the minor number.
 const VERSION: u32 = 0x1_0000;
 
 #[no_mangle]

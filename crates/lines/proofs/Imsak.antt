@@ -1,4 +1,4 @@
--- Imsak in the machine's numbers: 60 times a u32, and what is left of an instant. Assumes nothing.
+-- Imsak in the machine's numbers: 60 times a u32, taken from an instant. Assumes nothing.
 use Rattle.prelude.proofs.Logic.{_≡_, sym, ap, _∙_, true, false, ℕ, _*_, _^_, _<_, arith, ℤ, pos, _+ℤ_, _-ℤ_, _*ℤ_, ltZ, w64, SFits, toZ}
 use Rattle.integers.proofs.Integers.{by-balance, lt-yes, lt-no, to-le, to-not-le, same, range, fits, readBack, read, sum, difference}
 use Rattle.integers.proofs.Integers.{differences, times}

@@ -36,7 +36,7 @@ module _ (start time x y : ℤ) (a : x ≡ start) (b : y ≡ time) (from : P sta
       subst (λ (z : ℤ). (natAbs z < 86400) × (P time + N start ≡ N time + P start + natAbs z)) (sym second-is)
       (omega (arith, held .1), omega (arith, held .0, d .0 .balance, d .1 .over, d .1 .under, z, n))
 
--- ---- so many seconds into the day that lies k days from the date
+-- ---- s seconds into the day that is k days from the date
 on-day : (date : Date) (time k : ℤ) (s : ℕ) → s < 86400
     → P time + (N (dayNumberOf date) + N k) * 86400 ≡ N time + (P (dayNumberOf date) + P k) * 86400 + s
     → (daysOf date time ≡ k) × (floorRem time 86400 ≡ s)

@@ -84,7 +84,7 @@ date-put date times line after text l e p =
     put-next line [] (dateText date) line after 0 refl refl (p ∙ ap (putOf line 0) e) (omega arith)
     ∙ ap (λ (t : List ℕ). frontOf t line) (sym (append-nil (dateText date)))
 
--- the newline behind all times is the line's last byte
+-- the newline after all times is the line's last byte
 pub newline-put : (date : Date) (times : List ℤ) (i : ℕ) (line before after : List ℕ) → i ≡ length times
     → length line ≡ rowBytes (length times)
     → before ≡ frontOf (partText date times i) line → after ≡ putOf before (10 + 12 * i) (ascii "\n") → after ≡ rowText date times

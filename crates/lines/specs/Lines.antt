@@ -25,7 +25,7 @@ fourDigits n = digitOf (n / 1000) ∷ digitOf (n / 100) ∷ twoDigits n
 unfoldable pub dateText : Date → List ℕ
 dateText date = fourDigits (date .year) ++ (45 ∷ twoDigits (date .month)) ++ (45 ∷ twoDigits (date .day))
 
--- ---- a time: "signed days from the row's date, T, UTC time (`+0T05:12:00`)", behind a blank
+-- ---- a time: "signed days from the row's date, T, UTC time (`+0T05:12:00`)", after a blank
 abbrev pub daysOf : Date → ℤ → ℤ
 daysOf date time = floorQuot time 86400 -ℤ dayNumberOf date
 
@@ -46,8 +46,8 @@ abbrev pub nineOf : PrayerTimes → List ℤ
 nineOf t =
     t .fajr ∷ t .sunrise ∷ t .dhuhr ∷ t .asr ∷ t .maghrib ∷ t .isha ∷ t .«middle_of_the_night» ∷ t .qiyam ∷ t .«fajr_tomorrow» ∷ []
 
--- request 12: "Imsak is the printed Fajr less those minutes". An instant that 64 bits do not hold gives way to the earliest that they do;
--- no order's imsak is one (crates/order_laws/specs/Imsak.antt)
+-- request 12: "Imsak is the printed Fajr less those minutes". If 64 bits do not hold that instant, it is the earliest one that they hold.
+-- No order's imsak is so early (crates/order_laws/specs/Imsak.antt).
 unfoldable pub imsakOf : ℕ → ℤ → ℤ
 imsakOf minutes fajr = let time = fajr -ℤ pos (60 * minutes) in cond (leZ least64 time) time least64
 
@@ -62,7 +62,7 @@ timesText date (time ∷ times) = timeText date time ++ timesText date times
 unfoldable pub rowText : Date → List ℤ → List ℕ
 rowText date times = dateText date ++ timesText date times ++ ascii "\n"
 
--- the bytes of a row by its columns: a date has 10, a time 12 with its blank, and the line ends in a newline
+-- the bytes of a row by its columns: a date has 10 bytes and a time 12 with its blank; a newline ends the line
 abbrev pub rowBytes : ℕ → ℕ
 rowBytes columns = 10 + 12 * columns + 1
 
@@ -74,7 +74,7 @@ fullRow = rowBytes 9
 unfoldable pub rowRoom : Ramadan → ℕ
 rowRoom ramadan = rowBytes (cond (ramadan .set) 10 9)
 
--- ---- a refusal's line: whose it is, its number, and its place by a word
+-- ---- a refusal's line: what is refused, its number, and its place after a word
 unfoldable pub numberText : List ℕ → ℕ → List ℕ
 numberText word n = word ++ decimalOf n
 

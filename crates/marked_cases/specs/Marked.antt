@@ -1,4 +1,4 @@
--- The marked cases of the definitions, in one table. Each row is a test; that all of them hold is one statement, which antt computes.
+-- The marked cases of the definitions, in one table. Each row is a test. One statement says that all of them hold, and antt computes it.
 use mathlib.Core.Bool.{Bool, true, false, _&&_}
 use mathlib.Core.List.{List, [], _∷_}
 use lib.Dec.{T, eqb}
@@ -28,7 +28,7 @@ use Rattle.solar.specs.declared.setting.SolarHour.the-variants.{Some, Nothing}
 use Rattle.solar.specs.Setting.{settingHourOf, hourOf, hourAdjustmentOf, minuteOf}
 use Rattle.solar.specs.PastMidnight.{hasTimeOf, carriedOf, carriedHourOf}
 
--- the latitudes of a place on the equator, which counts as northern, and of one south of it
+-- the latitude of a place on the equator, which counts as northern, and of one south of it
 abbrev north : Float
 north = dec 0 0
 
@@ -48,7 +48,7 @@ abbrev misses : SolarHour → Bool
 misses (Some s) = false
 misses Nothing = true
 
--- nine times, four thousand seconds apart from 4000 on, but for the middle of the night, which is no prayer
+-- eight times, from 4000 on and 4000 seconds apart, and the middle of the night, which is no prayer
 abbrev times : PrayerTimes
 times =
     record {
@@ -66,7 +66,7 @@ times =
 abbrev instant : ℕ → ℕ → Instant
 instant seconds nanoseconds = record { seconds = pos seconds; nanoseconds = nanoseconds }
 
--- whether the n-th prayer of the list is named, and none if n is 0
+-- whether this is the n-th prayer of the list, or none if n is 0
 abbrev isNumbered : Current → ℕ → Bool
 isNumbered (current.Some prayer) n = eqb (prayerNumberOf prayer) n
 isNumbered current.Nothing n = eqb n 0
@@ -86,7 +86,7 @@ marked =
     eqb (daysSinceSolsticeOf 171 2025 south) 364 ∷
     eqb (daysSinceSolsticeOf 172 2025 south) 365 ∷
     eqb (daysSinceSolsticeOf 365 2025 south) 558 ∷
-    -- the southern count that starts again: on the solstice, the day before it, the first day and the last, of a common year and of a leap year
+    -- the southern count that starts again: on the solstice, the day before it, the first and the last day of a common and a leap year
     southAgain 172 2025 0 ∷
     southAgain 171 2025 364 ∷
     southAgain 1 2025 194 ∷
@@ -106,11 +106,11 @@ marked =
     misses (settingHourOf (dec 0 0)) ∷
     misses (settingHourOf (dec 23995 3)) ∷
     misses (settingHourOf (dec 48 0)) ∷
-    -- carried past midnight: 00:00 of tomorrow, of the date after a floored hour below 0, of the day after tomorrow after hour 47
+    -- carried past midnight: 00:00 of tomorrow; of the date, from an hour just below 0; of the day after tomorrow, from hour 47.995
     gives (carriedHourOf (dec 23995 3)) (pos 86400) ∷
     gives (carriedHourOf (neg (dec 1 4))) (pos 0) ∷
     gives (carriedHourOf (dec 47995 3)) (pos 172800) ∷
-    -- both zeros and the smallest subnormal are 00:00 of the date; yesterday's 00:00 is the first time, and what lies beyond, or is no number, has none
+    -- both zeros and the smallest subnormal are 00:00 of the date; yesterday's 00:00 is the first time; hours -25, 48 and NaN have none
     gives (carriedHourOf (dec 0 0)) (pos 0) ∷
     gives (carriedHourOf (neg (dec 0 0))) (pos 0) ∷
     gives (carriedHourOf (ofBits binary64 1)) (pos 0) ∷
@@ -118,14 +118,14 @@ marked =
     misses (carriedHourOf (neg (dec 25 0))) ∷
     misses (carriedHourOf (dec 48 0)) ∷
     misses (carriedHourOf nan) ∷
-    -- and what needs no carrying stays
+    -- and an hour that needs no carrying stays
     gives (carriedHourOf (dec 55 1)) (pos 19800) ∷
-    -- half a second before Fajr it is in force, a full second before it is not
+    -- Fajr is in force half a second before its time, but not a full second before it
     isNumbered (currentTimeOf times (instant 3999 500000000)) 1 ∷
     isNumbered (currentTimeOf times (instant 3999 0)) 0 ∷
     -- next after FajrTomorrow is FajrTomorrow
     isNumbered (nextOf times (instant 32000 0)) 8 ∷
-    -- `time_remaining` 3,599 s before sunrise is 0 hours 60 minutes; after FajrTomorrow, which is the next itself, it is 0 and 0
+    -- `time_remaining` 3,599 s before sunrise is 0 hours 60 minutes; after FajrTomorrow, which is its own next prayer, it is 0 and 0
     lasts (timeRemainingOf times (instant 4401 0)) 0 60 ∷
     lasts (timeRemainingOf times (instant 32001 0)) 0 0 ∷
     []

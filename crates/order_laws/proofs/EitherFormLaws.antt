@@ -1,4 +1,4 @@
--- A place sent either way: the record but for where the town stands, and from it all that is answered. Assumes nothing.
+-- A place sent either way gives the same record but for where the town is, and so every call returns the same. Assumes nothing.
 use Rattle.prelude.proofs.Logic.{_≡_, refl, sym, ap, _∙_, subst, fun-ext, true, false, List, _∷_, _++_, ℕ, zero, suc, _+_, _≤_, lit≤, leZ}
 use Rattle.calendar.specs.Answers.{rowDateOf}
 use Rattle.days.specs.Calls.{workRowOf, workReadingOf, workDayOf, workAtOf, prayerAtOf, nextAtOf, remainingAtOf}
@@ -28,7 +28,7 @@ use Rattle.weeks.specs.declared.minutes.Minute.{Minute}
 use Rattle.order_laws.specs.Minutes.{withOwnMinutes}
 use Rattle.order_laws.specs.EitherForm.{saysPlace, SamePlace, withTown, SameAnswers, EitherFormAnswersAlike, EitherFormMovesAlike}
 
--- ---- where the town stands changes nothing
+-- ---- where the town is in the bytes changes nothing
 lines-same : (o : Order) (town : Part) (n : ℕ) → linesText (withTown o town) n ≡ linesText o n
 unfolding linesText workRowOf
 lines-same o town zero = refl
@@ -62,7 +62,7 @@ minutes-same : (o : Order) (town : Part) → rowMinute (withTown o town) ≡ row
 unfolding workRowOf
 minutes-same o town = fun-ext (λ row. minute-same o town row (workRowOf o row))
 
--- a call on some rows of an order that do not hang on its town
+-- a call on some rows of an order that do not depend on its town
 module _ (asked : Order → Rows) (town-free : (o : Order) (town : Part) → asked (withTown o town) ≡ asked o) (least : ℕ) where
   asked-alike : (a b : List ℕ) (o p : Order) → readingOf a ≡ Read o → readingOf b ≡ Read p → withTown o (p .town) ≡ p → (buffer : List ℕ)
       → askedCallOf asked least a buffer ≡ askedCallOf asked least b buffer
@@ -77,7 +77,7 @@ piece-same : (page first : ℕ) (scratch : List ℕ) (o : Order) (town : Part)
     → pieceIn page first scratch (withTown o town) ≡ pieceIn page first scratch o
 piece-same page first scratch o town = rw (page-same o town page)
 
--- ---- what is answered, of two orders whose records are the same but for where the town is
+-- ---- what the calls return for two orders whose records are the same but for where the town is
 module _ (a b : List ℕ) (o p : Order) (x : readingOf a ≡ Read o) (y : readingOf b ≡ Read p) (given : withTown o (p .town) ≡ p)
     (town : townOf a ≡ townOf b) where
   sheet-same : sheetText a ≡ sheetText b

@@ -1,4 +1,4 @@
--- What document 01 alone read is read as it was. Assumes nothing.
+-- An order that was read by document 01 alone is still read as it was. Assumes nothing.
 use Rattle.prelude.proofs.Logic.{_≡_, refl, sym, ap, _∙_, Bool, true, false, not, cond, _&&_, _||_, true≢false, List, [], _∷_, ℕ, zero, suc}
 use Rattle.prelude.proofs.Logic.{_-_, _≤_, _<_, arith, leb, ltb, eqb, lit≤, length, getD, set, replicate, inl, inr, _⊎_, ltb-true, lt-ltb}
 use Rattle.prelude.proofs.Logic.{leb-true, leb-false, eq-eqb, eqb-true, eqb-false, le-leb, lt-leb, not-false, cases, both, ⊎-elim}
@@ -31,7 +31,7 @@ use Rattle.order_laws.specs.FormerRows.{formerLengthFits, formerFaultOf,
 use Rattle.order_laws.specs.FormerRows.{formerSetting, formerOrderOf, formerReadingOf, formerLine, formerLines, formerText, newAt}
 use Rattle.order_laws.specs.FormerRows.{OrdersAreAsBefore}
 
--- ---- the form of the fields: the same fault, or a field that was unknown and is new
+-- ---- the form of the fields: the same fault, or a field that was unknown and is now read
 abbrev New : List ℕ → Refusal → Type 0
 New s r = (r .number ≡ 2) × (newAt s (r .place) ≡ true)
 
@@ -144,7 +144,7 @@ module _ (s : List ℕ) where
       (λ h. ⊎-elim (λ (w : formerWalkOf (length s) s none 0 ≡ walkOf (length s) s none 0). inl (simp (h, w)))
       (λ (w : New s (formerWalkOf (length s) s none 0)). inr (simp h w)) (walk-same (length s) none 0))
 
-  -- ---- a walk that refused nothing came to no other field
+  -- ---- a walk that refused nothing met no new field
   passed : (b : Bool) (x y : ℕ) → 1 ≤ x → cond b x y ≡ 0 → (b ≡ false) × (y ≡ 0)
   passed true x y l e = absurd (omega arith)
   passed false x y l e = (refl, e)

@@ -78,7 +78,7 @@ lacks-number : (rule : Midnight) (n : HourNumbers) (k : ℕ) → solarTimeOf rul
 unfolding solarTimeOf
 lacks-number rule n k e = lacked (solarHourOf rule (n .transit)) (solarHourOf rule (n .sunrise)) (solarHourOf rule (n .sunset)) k e
 
--- what a row is refused by is the first of its days that lacks a time, and that refuses it
+-- a row is refused by the first of its days that lacks a time, and only by it
 module _ (h : RowHours) (date : Date) (season : Season) (p : Parameters) (r : Refusal) where
   abbrev Listed : SolarDay → Type 0
   Listed day = (k : ℕ) → day ≡ sun.Lacks k → listed dayNumbers k ≡ true
@@ -127,7 +127,7 @@ module _ (o : Order) (date : Date) (r : Refusal) where
   unfolding workedOf workedFrom hoursOf
   lacking-day l = by-lacking (hoursOf (o .setting .rules .midnight) numbers) date (seasonOf (o .setting)) (o .setting .parameters) r l
 
--- a row that the order has is its date's
+-- working a row that the order has is working its date
 row-of : (s : List ℕ) (o : Order) (row : ℕ) → readingOf s ≡ reading.Read o → row < o .rows
     → workDayOf s row ≡ workDateOf o (rowDateOf (o .date) row)
 unfolding workDayOf workReadingOf workRowOf
@@ -190,7 +190,7 @@ row-lent s row buffer =
     by-reading (reading.Refused r) e h = let no = row-refused s buffer row h r e in
         rw (← no .0, ← no .1) (refused-lent (order-number s r e))
 
--- ---- rows of cells: those that are asked for have room
+-- ---- rows of cells: the rows that are asked for have room
 module _ (asked : Order → Rows) (s buffer : List ℕ)
     (fit : (o : Order) → rowLength ≤ length buffer → length (cellsOf (asked o)) ≤ length buffer) where
   rows-lent : (rows : Rows) → length (cellsOf rows) ≤ length buffer
@@ -241,7 +241,7 @@ sentence-lent n p buffer =
     (λ k. rw k (refused-lent refl))
 
 -- ---- a row and the others
--- what the n rows from one on give
+-- what the n rows from row k on give
 fromOf : (ℕ → List ℕ) → ℕ → ℕ → List ℕ
 fromOf of k zero = []
 fromOf of k (suc n) = fromOf of k n ++ of (k + n)

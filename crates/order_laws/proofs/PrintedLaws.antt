@@ -1,4 +1,4 @@
--- Times that lie by their date have days of one digit, and so has imsak. Assumes nothing.
+-- Times near their date have days of one digit, and so has imsak. Assumes nothing.
 use Rattle.prelude.proofs.Logic.{_≡_, refl, sym, subst, Bool, true, false, cond, ℕ, zero, suc, _+_, _*_, _^_, _≤_, _<_, arith, T, ltb, lit<}
 use Rattle.prelude.proofs.Logic.{ℤ, pos, negsuc, natAbs, _-ℤ_, _*ℤ_, getD, ltb-true}
 use Rattle.integers.specs.Ends.{least64}
@@ -51,7 +51,7 @@ abbrev isTimes : Worked → Type 0
 isTimes (Times t) = T true
 isTimes (Refused r) = T false
 
--- the times of a row lie by its date
+-- the times of a row are near its date
 pub by-its-date : (order : Order) (row : ℕ) (t : PrayerTimes) → Accepted order → workRowOf order row ≡ Times t
     → AllOfDate (rowDateOf (order .date) row) t
 unfolding workRowOf
@@ -72,7 +72,7 @@ pub days-are-printed-whole : DaysArePrintedWhole
 days-are-printed-whole order row t i h e l = nine-digits (rowDateOf (order .date) row) t (by-its-date order row t h e) i l
 
 -- ---- imsak
--- within so many seconds of Fajr
+-- it is exactly the minutes before Fajr
 imsak-exact : (date : Date) (fajr : ℤ) (m : ℕ) → date .year < 2 ^ 32 → m ≤ 30 → OfDate date fajr → imsakOf m fajr ≡ fajr -ℤ pos (60 * m)
 unfolding imsakOf startOf
 imsak-exact date fajr m y l h =

@@ -1,4 +1,4 @@
--- An order that is read stays one if a coordinate is sent in the other form, and its coordinates are written back. Assumes nothing.
+-- An order that is read is still read if a coordinate is sent in the other form, and its coordinates are written back. Assumes nothing.
 use Rattle.prelude.proofs.Logic.{_≡_, refl, sym, ap, _∙_, true, false, _&&_, _||_, List, ℕ, _-_, _≤_, _<_, arith, lit≤, getD, eq-eqb, cases}
 use Rattle.float64.proofs.Floats.{Float, neg, dec, Inside}
 use Rattle.fields.specs.Fields.{checkOf}
@@ -87,7 +87,7 @@ module _ (a b : List ℕ) (w : Swapped a b) where
         in-map = missing-range map lacks;
       }
 
-  -- what the first passed
+  -- the checks that the first order passed
   either-given : (i : ℕ) → i < 6 → isGivenOf (hasOf a) (getD required i 0) ≡ true
   either-given i l = has-required (hasOf a) (passed .given) i l
 
@@ -98,7 +98,7 @@ module _ (a b : List ℕ) (w : Swapped a b) where
       cases (hasOf a 4 && hasOf a 18) (λ t. let z = simp t at e in absurd (omega arith))
       (λ t. cases (hasOf a 5 && hasOf a 19) (λ u. let z = simp (t, u) at e in absurd (omega arith)) (λ u. (t, u)))
 
-  -- a float that is what an order read has is in its range
+  -- a float that is the coordinate of an order that is read is in its range
   float-fits : (most float map : ℕ) (x : Float) → Inside (neg (dec most 0)) (dec most 0) x → x ≡ coordinateIn (valuesOf b) float map
       → hasOf b map ≡ false → degreesFit (neg (dec most 0)) (dec most 0) (valueOf b float) ≡ true
   unfolding coordinateIn
@@ -191,7 +191,7 @@ other-form-is-read a b w =
       others = w .others;
     }
 
--- ---- what was read on the map is written back
+-- ---- a coordinate that was read as on the map is written back
 module _ (s : List ℕ) (o : Order) (e : readingOf s ≡ Read o) where
   was-passed : Passed s o
   was-passed = read-passed s o e

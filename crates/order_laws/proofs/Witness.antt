@@ -1,6 +1,6 @@
--- Two orders of which demand 3 speaks, so that its hypothesis can be met: town P, 2026-06-21, one row, 10.0, 20.0, method 0; the second
--- with a minute more for Fajr, and with its place as on the map, 10 degrees north and 20 degrees east. And the first with its place so, all
--- else the same. The first is one that document 01 alone accepts.
+-- Two orders that meet the hypothesis of demand 3, so it can be met. The first has town P, 2026-06-21, one row, 10.0, 20.0, method 0. The
+-- second has one minute more for Fajr, and its place as on the map, 10 degrees north and 20 degrees east. A third is the first with its
+-- place as on the map. Document 01 alone accepts the first.
 use Rattle.prelude.proofs.Logic.{_≡_, refl, sym, subst, Bool, true, false, true≢false, List, [], _∷_, _++_, ℕ, zero, suc, _≤_, arith, leb}
 use Rattle.prelude.proofs.Logic.{leZ, replicate, leb-true, leb-false}
 use Rattle.float64.proofs.Floats.{le, neg, ofBits, round, dec}
@@ -200,7 +200,7 @@ and-back =
       others = λ tag l e. let same = of-each Same 20 each-same tag l e in (sym (same .0), sym (same .1));
     }
 
--- ---- the first was accepted when document 01 stood alone
+-- ---- document 01 alone accepted the first
 pub was-accepted : formerReadingOf earlier ≡ Read (formerOrderOf (valuesOf earlier))
 unfolding formerReadingOf formerCheckOf formerWalkOf formerFaultOf formerLengthFits formerRowsFit formerInRange formerOrderOf
     readingOf firstOf isGivenOf bothFormsOf formIn coordinateIn formFits degreesOf checkOf walkOf faultOf faultIn lengthAt unsignedOf

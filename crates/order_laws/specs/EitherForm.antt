@@ -1,5 +1,5 @@
--- Request 7: "a place sent either way with the same f64 gets the same sheet, shifts by minutes included." About the bytes of any two
--- orders, over the record, the sheet and what the calls answer; and demand 3's two orders may differ in the form. Proved in
+-- Request 7: "a place sent either way with the same f64 gets the same sheet, shifts by minutes included." Stated for the bytes of any two
+-- orders: the record, the sheet and what the calls return are the same. Demand 3's two orders may differ in the form too. Proved in
 -- proofs/EitherFormLaws.
 use Prim.Native.Nat.{ℕ, _≤_}
 use mathlib.Core.Path.{_≡_}
@@ -25,7 +25,7 @@ use Rattle.order_laws.specs.Minutes.{LaterOrder}
 abbrev pub saysPlace : ℕ → Bool
 saysPlace tag = eqb tag latitudeTag || eqb tag longitudeTag || eqb tag mapLatitudeTag || eqb tag mapLongitudeTag
 
--- the two orders are read, with the same f64 for each coordinate, in whichever form; every other tag gives the same
+-- the two orders are read. Each coordinate is the same f64, in either form, and every other tag gives the same
 pub record SamePlace (a b : List ℕ) : Type 0 where
   pub first : Order
   pub second : Order
@@ -50,7 +50,7 @@ withTown order town =
 pub record SameAnswers (a b : List ℕ) : Type 0 where
   pub town : townOf a ≡ townOf b
   pub sheet : sheetText a ≡ sheetText b
-  -- the calls on a row, on an instant, and on a row buffer: answer and buffer
+  -- the calls on a row, on an instant, and on a row buffer: what they return, and the buffer
   pub day : (row : ℕ) → workDayOf a row ≡ workDayOf b row
   pub prayer : (row : ℕ) (i : Instant) → prayerAtOf a row i ≡ prayerAtOf b row i
   pub next : (row : ℕ) (i : Instant) → nextAtOf a row i ≡ nextAtOf b row i
@@ -68,6 +68,6 @@ abbrev pub EitherFormAnswersAlike : Type 0
 EitherFormAnswersAlike = (a b : List ℕ) (orders : SamePlace a b)
     → (withTown (orders .first) (orders .second .town) ≡ orders .second) × SameAnswers a b
 
--- "shifts by minutes included": where demand 3 speaks of two orders, it speaks of them with the place sent the other way too
+-- "shifts by minutes included": if demand 3 applies to two orders, it applies to them with the place sent the other way too
 abbrev pub EitherFormMovesAlike : Type 0
 EitherFormMovesAlike = (a b c d : List ℕ) → SamePlace a c → SamePlace b d → LaterOrder a b → LaterOrder c d

@@ -1,6 +1,6 @@
--- Request 4: "A one-byte value means what it did, and every order accepted before gives the same values and prints the same sheet." What document 01
--- alone read and printed: tags 1 to 14, "rows, 1 byte, 1 to 250", the crate's own rules, nine columns; and the statement. Proved in
--- proofs/FormerRowsLaws.
+-- Request 4: "A one-byte value means what it did, and every order accepted before gives the same values and prints the same sheet." First
+-- what document 01 alone read and printed: tags 1 to 14, "rows, 1 byte, 1 to 250", the crate's own rules, nine columns. Then the statement,
+-- which is proved in proofs/FormerRowsLaws.
 use Prim.Native.Nat.{ℕ, zero, suc, _-_}
 use mathlib.Core.Path.{_≡_}
 use mathlib.Core.Bool.{Bool, true, false, cond, not, _&&_, _||_}
@@ -104,14 +104,14 @@ formerLines o (suc n) = let date = rowDateOf (o .date) n in formerLines o n ++ f
 unfoldable pub formerText : List ℕ → Order → List ℕ
 formerText town o = (town ++ ascii "\ndate fajr sunrise dhuhr asr maghrib isha middle qiyam tomorrow\n") ++ formerLines o (o .rows)
 
--- ---- a field at an offset that document 02 brought: tags 15 to 20, or rows in two bytes
+-- ---- whether the field at an offset is new in document 02: tags 15 to 20, or rows in two bytes
 unfoldable pub newAt : List ℕ → ℕ → Bool
 newAt s at = between midnightTag lastTag (byteOf s at) || (eqb (byteOf s at) rowsTag && eqb (lengthAt s at) 2)
 
 pub record AsBefore (s : List ℕ) : Type 0 where
   -- "every order accepted before gives the same values and prints the same sheet"
   pub accepted : (o : Order) → formerReadingOf s ≡ reading.Read o → (readingOf s ≡ reading.Read o) × (sheetText s ≡ formerText (valueOf s townTag) o)
-  -- and what was refused is refused by the same number and place, but for a field that was unknown and no longer is
+  -- a refused order is refused by the same number and place, but for a field that was unknown and no longer is
   pub refused : (r : Refusal) → formerReadingOf s ≡ reading.Refused r
       → (readingOf s ≡ reading.Refused r) ⊎ ((r .number ≡ fieldUnknown) × (newAt s (r .place) ≡ true))
 

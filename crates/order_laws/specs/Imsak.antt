@@ -1,5 +1,5 @@
--- Request 12: "Imsak is the printed Fajr less those minutes", to the second, on every row that an order can have; and its days from the
--- row's date are one digit, as those of the nine times are (Printed). Proved in proofs/PrintedLaws.
+-- Request 12: "Imsak is the printed Fajr less those minutes", to the second, on every row that an order can have. Its days from the row's
+-- date are one digit, as those of the nine times are (Printed). Proved in proofs/PrintedLaws.
 use mathlib.Core.Path.{_≡_}
 use Prim.Native.Nat.{ℕ, _*_, _≤_}
 use lib.IntN.{pos, natAbs, _-ℤ_}

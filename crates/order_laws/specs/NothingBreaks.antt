@@ -1,7 +1,7 @@
--- Demand 1, whole, for any bytes that a school sends: "Nothing that a school sends breaks a run: every order is read or refused by number; a day lacking
--- transit, sunrise or sunset, its own or the next two days', is refused as that day only; the first broken rule in the stated order gives the number;
--- a refused call changes no lent byte; every call returns." That every call returns is a matter of the language: no function is built that is not
--- proved to end. Proved in proofs/NothingBreaksLaws.
+-- Demand 1, whole, for any bytes that a school sends: "Nothing that a school sends breaks a run: every order is read or refused by number;
+-- a day lacking transit, sunrise or sunset, its own or the next two days', is refused as that day only; the first broken rule in the stated
+-- order gives the number; a refused call changes no lent byte; every call returns." The language gives that every call returns: it builds
+-- no function that is not proved to end. Proved in proofs/NothingBreaksLaws.
 use Prim.Native.Nat.{ℕ, zero, suc, _≤_, _<_}
 use mathlib.Core.Path.{_≡_}
 use mathlib.Core.Bool.{true, false, cond}
@@ -39,7 +39,7 @@ use Rattle.text.specs.Text.{frontOf}
 abbrev pub orderNumbers : List ℕ
 orderNumbers = fieldCut ∷ fieldUnknown ∷ fieldAgain ∷ tagMissing ∷ outOfRange ∷ bothForms ∷ notFirstOfRamadan ∷ []
 
--- "the first broken rule in the stated order gives the number": of some rules, each by its refusal, those before it refuse nothing
+-- "the first broken rule in the stated order gives the number": each rule is given by its refusal, and the rules before r refuse nothing
 pub data FirstBroken (r : Refusal) : List Refusal → Type 0 where
   here : {rest : List Refusal} → eqb (r .number) 0 ≡ false → FirstBroken r (r ∷ rest)
   later : {kept : Refusal} {rest : List Refusal} → eqb (kept .number) 0 ≡ true → FirstBroken r rest → FirstBroken r (kept ∷ rest)
@@ -48,14 +48,14 @@ pub data FirstBroken (r : Refusal) : List Refusal → Type 0 where
 abbrev pub dayNumbers : List ℕ
 dayNumbers = noTransit ∷ noSunrise ∷ noSunset ∷ []
 
--- a date's own day and the next two: the sun's times of each, or the number of what it lacks
+-- a date's own day and the next two: each has the sun's times, or the number of the time that it lacks
 abbrev pub threeDays : Order → Date → List SolarDay
 threeDays o date =
     let numbers = numbersOf date (o .setting .coordinates) (o .setting .parameters) in
     let rule = o .setting .rules .midnight in
     solarTimeOf rule (numbers .today) ∷ solarTimeOf rule (numbers .tomorrow) ∷ solarTimeOf rule (numbers .after) ∷ []
 
--- of some days the first that lacks a time: what it lacks, and how many days are before it
+-- the first of some days that lacks a time: the number of what it lacks, and how many days are before it
 pub data FirstLacking (number : ℕ) : ℕ → List SolarDay → Type 0 where
   here : {rest : List SolarDay} → FirstLacking number 0 (sun.Lacks number ∷ rest)
   later : {place : ℕ} {whole : SolarTime} {rest : List SolarDay} → FirstLacking number place rest → FirstLacking number (suc place) (sun.Whole whole ∷ rest)
@@ -65,42 +65,42 @@ pub record RefusedDay (o : Order) (date : Date) (r : Refusal) : Type 0 where
   pub place : r .place ≤ 2
   pub lacking : FirstLacking (r .number) (r .place) (threeDays o date)
 
--- ---- "as that day only": the line of a row by its own date
+-- ---- "as that day only": the line of a row depends on its own date
 abbrev pub rowLine : Order → ℕ → List ℕ
 rowLine o row = let date = rowDateOf (o .date) row in lineText (o .ramadan) date (workDateOf o date)
 
--- what each of the rows 0 to n - 1 gives, one behind another
+-- what the rows 0 to n - 1 give, one after another
 unfoldable pub eachOf : (ℕ → List ℕ) → ℕ → List ℕ
 eachOf of zero = []
 eachOf of (suc n) = eachOf of n ++ of n
 
--- the lines, if working one row gave w
+-- the line of a row, if working row `one` gave w
 abbrev pub insteadOf : Order → ℕ → Worked → ℕ → List ℕ
 insteadOf o one w row = cond (eqb row one) (lineText (o .ramadan) (rowDateOf (o .date) one) w) (rowLine o row)
 
--- whatever working that row gives, times or a refusal, the lines before and after its own are the same
+-- the lines before and after row `one` are the same, whether working it gives times or a refusal
 pub record OthersStay (o : Order) (one : ℕ) : Type 0 where
   pub before : List ℕ
   pub after : List ℕ
   pub now : eachOf (rowLine o) (o .rows) ≡ before ++ rowLine o one ++ after
   pub instead : (w : Worked) → eachOf (insteadOf o one w) (o .rows) ≡ before ++ lineText (o .ramadan) (rowDateOf (o .date) one) w ++ after
 
--- ---- "a refused call changes no lent byte"; else what is written is at the front, has room there, and the bytes behind it stay
+-- ---- "a refused call changes no lent byte"; else the text is at the front, has room there, and the bytes after it stay
 pub record Lent (number : ℕ) (text before after : List ℕ) : Type 0 where
   pub refused : eqb number 0 ≡ false → after ≡ before
   pub written : eqb number 0 ≡ true → (length text ≤ length before) × (after ≡ frontOf text before)
 
--- what is written of an order: of a refused one nothing
+-- what is written for an order: nothing if it is refused
 abbrev pub writtenFor : (Order → List ℕ) → Reading → List ℕ
 writtenFor of (reading.Read o) = of o
 writtenFor of (reading.Refused r) = []
 
--- ---- all of it
+-- ---- the whole demand
 pub record NothingBreaks (s : List ℕ) : Type 0 where
   pub order : (r : Refusal) → readingOf s ≡ reading.Refused r → listed orderNumbers (r .number) ≡ true
   -- the form of the fields, missing tags, both forms of a coordinate, ranges, the start of a Ramadan sheet
   pub first : (r : Refusal) → readingOf s ≡ reading.Refused r → FirstBroken r (checkOf s ∷ checksOf (valuesOf s))
-  -- a row that the order has gives nine times, or is refused by 6, 7 or 8 and the day; and where a day lacks a time, it is
+  -- a row that the order has gives nine times, or is refused by 6, 7 or 8 and the day; and it is refused if a day lacks a time
   pub day : (o : Order) (row : ℕ) (r : Refusal) → readingOf s ≡ reading.Read o → row < o .rows → workDayOf s row ≡ worked.Refused r
       → RefusedDay o (rowDateOf (o .date) row) r
   pub lacking : (o : Order) (row : ℕ) (r : Refusal) → readingOf s ≡ reading.Read o → row < o .rows

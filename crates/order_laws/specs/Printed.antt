@@ -1,5 +1,5 @@
--- Document 01, "The sheet": "each as signed days from the row's date". The days of every time that a sheet prints are one digit, so nothing
--- of them is cut. Proved in proofs/PrintedLaws.
+-- Document 01, "The sheet": "each as signed days from the row's date". The days of every time that a sheet prints have one digit, so no
+-- digit is lost. Proved in proofs/PrintedLaws.
 use mathlib.Core.Path.{_≡_}
 use Prim.Native.Nat.{ℕ, _≤_, _<_}
 use lib.IntN.{pos, natAbs}

@@ -1,5 +1,5 @@
--- Request 7: "Tags 18 and 19 stand for latitude and longitude". An order that is read stays one if a coordinate is sent in the other form,
--- beside EitherForm, which is of two orders that are read; and the coordinates of one that is read are written back. Proved in
+-- Request 7: "Tags 18 and 19 stand for latitude and longitude". An order that is read is still read if a coordinate is sent in the other
+-- form; EitherForm begins with two orders that are read. And the coordinates of an order that is read are written back. Proved in
 -- proofs/SwappedLaws.
 use Prim.Native.Nat.{ℕ, _≤_}
 use mathlib.Core.Path.{_≡_}
@@ -18,7 +18,7 @@ use Rattle.order.specs.declared.reading.Reading.the-variants.{Read}
 use Rattle.refusals.specs.Refusals.{noRefusal}
 use Rattle.order_laws.specs.EitherForm.{SamePlace, saysPlace}
 
--- a coordinate, by its two tags: the second order gives it as the first does, or on the map by a value that fits, or by a float
+-- a coordinate, by its two tags: the second order gives it as the first does, or as on the map by a value that fits, or by a float
 pub data Sent (a b : List ℕ) (float map most : ℕ) : Type 0 where
   alike : hasOf a float ≡ hasOf b float → valueOf a float ≡ valueOf b float → hasOf a map ≡ hasOf b map → valueOf a map ≡ valueOf b map
       → Sent a b float map most
@@ -36,7 +36,7 @@ pub record Swapped (a b : List ℕ) : Type 0 where
   pub «same_longitude» : order .setting .coordinates .longitude ≡ coordinateIn (valuesOf b) longitudeTag mapLongitudeTag
   pub others : (tag : ℕ) → tag ≤ lastTag → saysPlace tag ≡ false → (hasOf a tag ≡ hasOf b tag) × (valueOf a tag ≡ valueOf b tag)
 
--- then the second is read too, and what EitherForm says of the two holds
+-- then the second is read too, and EitherForm applies to the two
 abbrev pub OtherFormIsRead : Type 0
 OtherFormIsRead = (a b : List ℕ) → Swapped a b → SamePlace a b
 

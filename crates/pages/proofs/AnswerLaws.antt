@@ -13,14 +13,14 @@ use Rattle.pages.specs.Pages.{Rows, rowsFrom, cellsOf}
 use Rattle.pages.specs.declared.answer.Punched.{Punched}
 use Rattle.pages.proofs.RowsLaws.{rows-length}
 
--- equal calls have the same answer, and leave the same buffer
+-- equal calls return the same, and leave the same buffer
 pub same-answer : {c d : CellsCall} → c ≡ d → c .answer ≡ d .answer
 same-answer e = ap (λ (c : CellsCall). c .answer) e
 
 pub same-buffer : {c d : CellsCall} → c ≡ d → c .buffer ≡ d .buffer
 same-buffer e = ap (λ (c : CellsCall). c .buffer) e
 
--- some rows, and none
+-- a call that asks for some rows, and one that asks for none
 pub rows-some : (rows : Rows) (buffer : List ℕ) → 1 ≤ length rows
     → putCallOf rows buffer ≡ record { answer = punchedOf rows; buffer = frontOf (cellsOf rows) buffer }
 unfolding putCallOf
@@ -32,7 +32,7 @@ unfolding putCallOf
 rows-none [] buffer e = refl
 rows-none (row ∷ rows) buffer e = absurd (omega arith)
 
--- rows that were written are those that were asked for
+-- if the rows that are written are those that were asked for, the call returns and leaves what it must
 pub rows-answered : (rows asked : Rows) (result : Punched) (buffer after : List ℕ) → 1 ≤ length asked → rows ≡ asked
     → result ≡ punchedOf rows
     → after ≡ frontOf (cellsOf rows) buffer → (result ≡ putCallOf asked buffer .answer) × (after ≡ putCallOf asked buffer .buffer)
@@ -42,7 +42,7 @@ rows-answered rows asked result buffer after h e r f =
       f ∙ ap (λ (l : Rows). frontOf (cellsOf l) buffer) e ∙ same-buffer some,
     )
 
--- rows by their first and the one behind their last
+-- the same rows, by their first row and their number
 pub rows-counted : (o : Order) (row count dots : ℕ) (none : Refusal) (buffer after : List ℕ) → none ≡ noRefusal
     → dots ≡ dotsOf (cellsOf (rowsFrom o row (row + count - row))) → after ≡ frontOf (cellsOf (rowsFrom o row (row + count - row))) buffer
     → (record { refusal = none; rows = count; dots = dots } ≡ punchedOf (rowsFrom o row count))

@@ -1,4 +1,4 @@
--- A host's calls on a page, whatever scratches it lends, give the page. Assumes nothing.
+-- A host's calls on a page give the page, for all scratches that it lends. Assumes nothing.
 use Rattle.prelude.proofs.Logic.{_≡_, refl, sym, ap, _∙_, List, [], _∷_, _++_, ℕ, zero, suc, _+_, _-_, _*_, _/_, _≤_, _<_, min, arith, ltb}
 use Rattle.prelude.proofs.Logic.{length, take, drop, drop-of-length-le, take-all, take-at, drop-drop, ltb-true, ltb-false, cases}
 use Rattle.braille.specs.Braille.{dotsOf}
@@ -18,13 +18,13 @@ use Rattle.pages.proofs.AnswerLaws.{same-answer, rows-some, rows-none, 
 use Rattle.pages.proofs.PageLaws.{page-most, piece-none, piece-written}
 use Rattle.pages.proofs.RowsLaws.{dots-append, cells-append, rows-length, cells-length}
 
--- what is taken, and the rest from its length on
+-- the first rows, and the rest after them, are all the rows
 took : (k : ℕ) (rows : Rows) → take k rows ++ drop (length (take k rows)) rows ≡ rows
 took zero rows = refl
 took (suc k) [] = refl
 took (suc k) (row ∷ rows) = ap (λ (l : Rows). row ∷ l) (took k rows)
 
--- a piece, and the rest from the row behind it
+-- the cells of a piece, and of the rows after it
 rest : (rows : Rows) (first room : ℕ) → cellsOf (pieceOf rows first room)
     ++ cellsOf (drop (first + length (pieceOf rows first room)) rows) ≡ cellsOf (drop first rows)
 rest rows first room =
@@ -35,7 +35,7 @@ rest rows first room =
 
 -- an order that is read
 module _ (s : List ℕ) (page : ℕ) (o : Order) (e : readingOf s ≡ Read o) where
-  -- What a call that has its row returns: the piece's rows, not none, their dots and their cells.
+  -- What a call returns if the page has the row `first`: how many rows the piece has, at least one, their dots and their cells.
   record Piece (first : ℕ) (scratch : List ℕ) : Type 0 where
     none : pageCallOf s page first scratch .answer .refusal ≡ noRefusal
     some : 1 ≤ pageCallOf s page first scratch .answer .rows
@@ -73,7 +73,7 @@ module _ (s : List ℕ) (page : ℕ) (o : Order) (e : readingOf s ≡ Read o) wh
       let none = piece-none o page first (length scratch / 39) h in
       same-answer (order-read (pieceIn page first scratch) 39 s scratch long o e ∙ rows-none (pieceIn page first scratch o) scratch none)
 
-  -- the cells and the dots of the page's rows from one on
+  -- the cells and the dots of the page's rows from `first` on
   abbrev Rest : ℕ → List ℕ → ℕ → Type 0
   Rest first cells dots = (cells ≡ cellsOf (drop first (pageOf o page))) × (dots ≡ dotsOf (cellsOf (drop first (pageOf o page))))
 
@@ -107,7 +107,7 @@ module _ (s : List ℕ) (page : ℕ) (o : Order) (e : readingOf s ≡ Read o) wh
         let five : _≡_ {A = ℕ} 0 5 = ap (λ (r : Refusal). r .number) (sym z ∙ ap (λ (p : Punched). p .refusal) l) in
         absurd (omega arith))
 
-    -- calls from any row on have got the rest of the page
+    -- calls from any row on get the rest of the page
     got : {n first dots : ℕ} {cells : List ℕ} → Calls s page lent n first cells dots → Rest first cells dots
     got (ended {n} {first} z) = at-end n first z
     got (called {n} {first} {dots} {cells} z r) = one-more n first cells dots z (got r)
@@ -115,7 +115,7 @@ module _ (s : List ℕ) (page : ℕ) (o : Order) (e : readingOf s ≡ Read o) wh
     ends-here : (n first : ℕ) → length (pageOf o page) ≤ first → (cells : List ℕ) × (dots : ℕ) × Calls s page lent n first cells dots
     ends-here n first h = ([], 0, ended (ap (λ (p : Punched). p .refusal) (lacks-row first (lent n) (long n) h)))
 
-    -- with k rows to go they end
+    -- the calls end if at most k rows are left
     ends-after : (k n first : ℕ) → length (pageOf o page) ≤ first + k → (cells : List ℕ) × (dots : ℕ) × Calls s page lent n first cells dots
     ends-after zero n first h = ends-here n first (omega arith)
     ends-after (suc k) n first h =
@@ -184,7 +184,7 @@ module _ (s : List ℕ) (page : ℕ) (r : Refusal) (e : readingOf s ≡ Refused 
       let w = nothing-got 0 whole (omega arith) in
       (g .0 ∙ sym (w .0), g .1 ∙ sym (w .1))
 
--- request 9
+-- request 9: the calls on a page, put together, give the page
 pub pieces-are-the-page : PiecesAreThePage
 pieces-are-the-page s page lent whole long room =
     record {

@@ -36,7 +36,7 @@ module _ (o : Order) where
       ∙ ap (rowsFrom o (25 * p)) (sym (suc-length p))
       ∙ ap (λ (k : ℕ). rowsFrom o k (length (pageOf o (suc p)))) e
 
-  -- if a page has rows it is a page of the order, and they are the order's
+  -- a page that has rows is a page of the order, and its rows are the order's
   pub page-within : (page : ℕ) → 1 ≤ length (pageOf o page) → (1 ≤ page) × (25 * (page - 1) + length (pageOf o page) ≤ o .rows)
       × (length (pageOf o page) ≤ 25)
   unfolding pageOf
@@ -48,7 +48,7 @@ module _ (o : Order) where
   page-most zero = omega arith
   page-most (suc p) = let e = suc-length p in omega arith
 
-  -- a piece of a page: rows of the order, and none behind the page's end
+  -- a piece of a page: rows of the order, and none after the page's end
   piece-rows : (page first room : ℕ) → 1 ≤ page
       → pieceOf (pageOf o page) first room ≡ rowsFrom o (25 * (page - 1) + first) (min room (length (pageOf o page) - first))
   piece-rows page first room h =
@@ -61,7 +61,7 @@ module _ (o : Order) where
       let e : drop first (pageOf o page) ≡ [] = drop-of-length-le (pageOf o page) h in
       ap (λ (l : Rows). length (take room l)) e ∙ ap length (take-nil {A = List ℕ} room)
 
-  -- what is written of a page that has the row: as many rows as have room and are left, and they are the order's
+  -- what a call writes if the page has the row `first`: the order's rows from there on, as many as fit and are left
   pub record Written (page first room taken : ℕ) : Type 0 where
     pub from : 1 ≤ page
     pub some : 1 ≤ taken

@@ -1,4 +1,4 @@
--- Rows that roll, and their cells behind one another. Assumes nothing.
+-- The suns roll from row to row, and the rows' cells follow one another. Assumes nothing.
 use Rattle.prelude.proofs.Logic.{_≡_, refl, sym, ap, _∙_, List, [], _∷_, _++_, append-nil, ℕ, _+_, _-_, _*_, _≤_, _<_, arith, length, w32}
 use Rattle.prelude.proofs.Logic.{SFits}
 use Rattle.braille.proofs.Bits.{dots-bound}
@@ -35,7 +35,7 @@ state-row o a k h = ap (λ (w : Worked). rowCells (rowDateOf (o .date) k) w (o .
 abbrev pub cellsBefore : Order → ℕ → ℕ → List ℕ
 cellsBefore o row next = cellsOf (rowsFrom o row (next - row))
 
--- Before a row its suns are there, the cells of those before it and their dots.
+-- Before a row: `suns` are its suns, the cells of the earlier rows are in the buffer, and `dots` are their dots.
 pub record Run (o : Order) (row end : ℕ) (buffer now : List ℕ) (suns : RowSuns) (next dots : ℕ) : Type 0 where
   pub from : row ≤ next
   pub within : next < end
@@ -44,7 +44,7 @@ pub record Run (o : Order) (row end : ℕ) (buffer now : List ℕ) (suns : RowSu
   pub punched : dots ≡ dotsOf (cellsBefore o row next)
   pub same : length now ≡ length buffer
 
--- behind a row: the cells up to it, their dots, and that these are not many
+-- after a row: the cells up to it are in the buffer, `dots` are their dots, and these are few enough for a u32
 abbrev pub Behind : Order → ℕ → ℕ → List ℕ → ℕ → List ℕ → ℕ → Type 0
 Behind o row end buffer next now dots =
     (rowLength * (end - row) ≤ length buffer → now ≡ frontOf (cellsBefore o row next) buffer) × (dots ≡ dotsOf (cellsBefore o row next))

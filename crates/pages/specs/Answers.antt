@@ -1,4 +1,4 @@
--- Document 02, requests 2 and 9: what the calls on a row and on a page of cells answer, and every byte of the lent buffer after them.
+-- Document 02, requests 2 and 9: what the calls on a row and on a page of cells return, and every byte of the lent buffer after them.
 use Prim.Native.Nat.{ℕ, _/_}
 use mathlib.Core.Bool.{cond}
 use mathlib.Core.List.{List, [], _∷_}
@@ -17,7 +17,6 @@ use Rattle.text.specs.Text.{frontOf}
 use Rattle.pages.specs.Pages.{Rows, rowOf, cellsOf, pageOf, pieceOf}
 use Rattle.pages.specs.declared.answer.Punched.{Punched}
 
--- rows that were written, and their dots
 abbrev pub punchedOf : Rows → Punched
 punchedOf rows = record { refusal = noRefusal; rows = length rows; dots = dotsOf (cellsOf rows) }
 
@@ -33,8 +32,8 @@ pub record CellsCall : Type 0 where
 abbrev pub refusing : Refusal → List ℕ → CellsCall
 refusing r buffer = record { answer = refusedOf r; buffer = buffer }
 
--- the rows that were asked for, at the front; "Here and later, bytes of a lent buffer after what is written stay". "A page that the order lacks gets 5
--- with place 3", and so does a row.
+-- the rows that were asked for, at the front; "Here and later, bytes of a lent buffer after what is written stay". "A page that the order
+-- lacks gets 5 with place 3", and so does a row.
 unfoldable pub putCallOf : Rows → List ℕ → CellsCall
 putCallOf [] buffer = refusing lacksRow buffer
 putCallOf (row ∷ rows) buffer = record { answer = punchedOf (row ∷ rows); buffer = frontOf (cellsOf (row ∷ rows)) buffer }
@@ -43,7 +42,7 @@ abbrev pub callIn : (Order → Rows) → Reading → List ℕ → CellsCall
 callIn asked (reading.Read o) buffer = putCallOf (asked o) buffer
 callIn asked (reading.Refused r) buffer = refusing r buffer
 
--- a call on an order's bytes that asks for some of its rows, and takes a buffer of some length at least: 9 before anything else
+-- a call on an order's bytes that asks for some of its rows. A buffer under `least` bytes is 9; this is checked first
 unfoldable pub askedCallOf : (Order → Rows) → ℕ → List ℕ → List ℕ → CellsCall
 askedCallOf asked least s buffer =
     cond (ltb (length buffer) least) (refusing (refusal bufferShort 0) buffer) (callIn asked (readingOf s) buffer)
@@ -55,8 +54,9 @@ oneRow row o = cond (ltb row (o .rows)) (rowOf o row ∷ []) []
 abbrev pub cellsCallOf : List ℕ → ℕ → List ℕ → CellsCall
 cellsCallOf s row buffer = askedCallOf (oneRow row) rowLength s buffer
 
--- ---- a page, or a piece of it. Request 9: "The page call now also takes the page's row to begin at, from 0, puts in as many whole rows as have
--- room and are left, and answers how many and their dots. .. Of scratches only one under 39 gets 9; a row that the page lacks gets 5 with place 3."
+-- ---- a page, or a piece of it. Request 9: "The page call now also takes the page's row to begin at, from 0, puts in as many whole rows as
+-- have room and are left, and answers how many and their dots. .. Of scratches only one under 39 gets 9; a row that the page lacks gets 5
+-- with place 3."
 abbrev pub pieceIn : ℕ → ℕ → List ℕ → Order → Rows
 pieceIn page first scratch o = pieceOf (pageOf o page) first (length scratch / rowLength)
 

@@ -13,36 +13,36 @@ use Rattle.refusals.specs.Refusals.{noRefusal}
 use Rattle.pages.specs.Answers.{askedCallOf, pageCallOf}
 use Rattle.pages.specs.Pages.{pageRows, pageOf}
 
--- a scratch that a whole page fits
+-- the bytes of a scratch that holds a whole page
 abbrev pub pageLength : ℕ
 pageLength = rowLength * pageRows
 
--- the cells that a call has put at the scratch's front, by the rows that it returns
+-- the cells that a call has put at the scratch's front, by the number of rows that it returns
 abbrev pub cellsGot : ℕ → ℕ → List ℕ → List ℕ → List ℕ
 cellsGot page first s scratch = take (rowLength * pageCallOf s page first scratch .answer .rows) (pageCallOf s page first scratch .buffer)
 
--- A host's calls on a page: call n is lent the scratch `lent n`, each begins at the row where the last one ended, and they end at 5, place 3.
--- From row `first` on they have got these cells, one call's behind another's, and this total of dots.
+-- A host's calls on a page. Call n is lent the scratch `lent n`. Each call begins at the row where the one before it ended, until one
+-- returns 5, place 3. From row `first` on the calls have got these cells, put together in turn, and this total of dots.
 pub data Calls (s : List ℕ) (page : ℕ) (lent : ℕ → List ℕ) : ℕ → ℕ → List ℕ → ℕ → Type 0 where
   ended : {n first : ℕ} → pageCallOf s page first (lent n) .answer .refusal ≡ lacksRow → Calls s page lent n first [] 0
   called : {n first dots : ℕ} {cells : List ℕ} → pageCallOf s page first (lent n) .answer .refusal ≡ noRefusal
       → Calls s page lent (n + 1) (first + pageCallOf s page first (lent n) .answer .rows) cells dots
       → Calls s page lent n first (cellsGot page first s (lent n) ++ cells) (pageCallOf s page first (lent n) .answer .dots + dots)
 
--- of every order that is read the calls from row 0 on end; and on any bytes, however they went, they have got what one call with the whole scratch gives
+-- the calls from row 0 on end for every order that is read; and on any bytes, calls that end have got what one call with `whole` gives
 pub record GiveThePage (s : List ℕ) (page : ℕ) (lent : ℕ → List ℕ) (whole : List ℕ) : Type 0 where
   pub ends : (o : Order) → readingOf s ≡ Read o → (cells : List ℕ) × (dots : ℕ) × Calls s page lent 0 0 cells dots
   pub same : (cells : List ℕ) (dots : ℕ) → Calls s page lent 0 0 cells dots
       → (cells ≡ cellsGot page 0 s whole) × (dots ≡ pageCallOf s page 0 whole .answer .dots)
 
--- for any page, with scratches of 39 bytes or more, of any length at each call, and a whole one of 975 or more
+-- for any page, if each scratch has 39 bytes or more, of any length at each call, and `whole` has 975 or more
 abbrev pub PiecesAreThePage : Type 0
 PiecesAreThePage =
     (s : List ℕ) (page : ℕ) (lent : ℕ → List ℕ) (whole : List ℕ) → ((n : ℕ) → rowLength ≤ length (lent n)) → pageLength ≤ length whole
     → GiveThePage s page lent whole
 
--- a call from row 0 on with a scratch of 975 bytes or more is what the page call was before request 9: the whole page, every byte of the scratch, and
--- every refusal
+-- a call from row 0 on with a scratch of 975 bytes or more is what the page call was before request 9: the whole page, every byte of the
+-- scratch, and every refusal
 abbrev pub AtOnceAsBefore : Type 0
 AtOnceAsBefore =
     (s : List ℕ) (page : ℕ) (scratch : List ℕ) → pageLength ≤ length scratch

@@ -7,7 +7,7 @@ use Rattle.calendar.specs.Answers.{rowDateOf}
 use Rattle.days.specs.Calls.{workRowOf}
 use Rattle.order.specs.declared.reading.Order.{Order}
 
--- the cells of a row: of its own date and its day's times, or of its date alone where the day is refused
+-- the cells of a row: its own date and that day's times, or the date alone if the day is refused
 abbrev pub rowOf : Order → ℕ → List ℕ
 rowOf o row = rowCells (rowDateOf (o .date) row) (workRowOf o row) (o .clock)
 
@@ -23,7 +23,7 @@ rowsFrom o k (suc n) = rowOf o k ∷ rowsFrom o (k + 1) n
 abbrev pub rowsOf : Order → Rows
 rowsOf o = rowsFrom o 0 (o .rows)
 
--- the cells of rows, one row behind another
+-- the cells of rows, one row after another
 unfoldable pub cellsOf : Rows → List ℕ
 cellsOf [] = []
 cellsOf (row ∷ rows) = row ++ cellsOf rows
@@ -31,7 +31,7 @@ cellsOf (row ∷ rows) = row ++ cellsOf rows
 abbrev pub pageRows : ℕ
 pageRows = 25
 
--- "A page is 25 rows, the last one those left; pages count from 1". A page that the order lacks, and page 0, has no rows.
+-- "A page is 25 rows, the last one those left; pages count from 1". Page 0 and a page that the order lacks have no rows.
 unfoldable pub pageOf : Order → ℕ → Rows
 pageOf o zero = []
 pageOf o (suc p) = take pageRows (drop (pageRows * p) (rowsOf o))
@@ -40,15 +40,13 @@ pageOf o (suc p) = take pageRows (drop (pageRows * p) (rowsOf o))
 abbrev pub pieceOf : Rows → ℕ → ℕ → Rows
 pieceOf rows first room = take room (drop first rows)
 
--- how many pages an order has
 abbrev pub pageCount : Order → ℕ
 pageCount o = (o .rows + (pageRows - 1)) / pageRows
 
--- the cells of the first n pages, one page behind another
+-- the cells of the first n pages, one page after another
 unfoldable pub pagesCells : Order → ℕ → List ℕ
 pagesCells o zero = []
 pagesCells o (suc p) = pagesCells o p ++ cellsOf (pageOf o (suc p))
 
--- the cells of all its pages
 abbrev pub allCells : Order → List ℕ
 allCells o = pagesCells o (pageCount o)

@@ -1,4 +1,4 @@
--- Document 02, request 2: what the programs wear and cells print of any bytes.
+-- Document 02, request 2: what the programs wear and cells print for any bytes.
 use Prim.Native.Nat.{ℕ, _*_}
 use mathlib.Core.List.{List, _++_}
 use Rattle.braille.specs.Braille.{dotsOf}
@@ -25,7 +25,7 @@ wearText s = reportText wearOf s
 abbrev pub cellsText : List ℕ → List ℕ
 cellsText s = reportText allCells s
 
--- no total is longer either
+-- the bytes of the longest text: a refused order's line. A total's line is shorter
 abbrev pub longestWear : ℕ
 longestWear = longestRefused
 

@@ -18,7 +18,7 @@ use refusals::Refusal;
 
 const PAGE_ROWS: u32 = 25;
 
-// How many rows a page has. Pages count from 1; one that the order lacks has none.
+// The number of rows on a page. Pages count from 1. A page that the order lacks has no rows.
 fn rows_on(order: Order, page: u32) -> u32
     ensures { λ r. ⌜ r ≡ length (pageOf order page) ⌝ }
 {
@@ -62,7 +62,7 @@ fn write_read(scratch: &mut [u8], order: Order, page: u32, first: u32) -> Punche
     )
 }
 
-// Writes the rows of a page from its row `first` on, as many as fit the scratch and are left. Returns 9 if the scratch is shorter than a
+// Writes the rows of a page from its row `first` on, as many as fit the scratch and are left. Returns 9 if the scratch is shorter than one
 // row of cells. This is checked first.
 pub fn write_page(order: &[u8], page: u32, first: u32, scratch: &mut [u8]) -> Punched
     ensures { λ r. ⌜ r ≡ pageCallOf (now (order .entry)) page first (now (scratch .entry)) .answer ⌝ }

@@ -18,12 +18,12 @@ use order::reading::read;
 use text::decimal::put_decimal;
 use text::put::put;
 
-// What the longest of these texts takes.
+// The bytes of the longest of these texts.
 pub const WEAR_BYTES: usize = 62;
 
 pub const CELLS_BYTES: usize = ROW_CELLS * MOST_ROWS as usize;
 
-// The dots of all pages: those of all rows, whatever page each is on. No cell is kept.
+// The dots of all pages, which are those of all rows. The empty buffer keeps no cell.
 fn all_dots(order: Order) -> u32
     requires { ⌜ Accepted order ⌝ }
     ensures { λ r. ⌜ r ≡ dotsOf (allCells order) ⌝ }
@@ -43,7 +43,7 @@ fn put_total(buffer: &mut [u8], dots: u32) -> usize
     end + 1
 }
 
-// Returns the length of the text. A buffer under WEAR_BYTES, which might not hold it, is left as it was, and 0 is returned.
+// Returns the length of the text. If the buffer is shorter than WEAR_BYTES, the longest text, it stays as it is and 0 is returned.
 pub fn write_wear(order: &[u8], buffer: &mut [u8]) -> usize
     ensures { λ r. ⌜ r ≡ printedOf longestWear (wearText (now (order .entry))) (now (buffer .entry)) .answer ⌝ }
     ensures { λ _. ⌜ now (buffer .exit) ≡ printedOf longestWear (wearText (now (order .entry))) (now (buffer .entry)) .buffer ⌝ }
@@ -66,7 +66,7 @@ fn put_pages(buffer: &mut [u8], order: Order) -> usize
     ROW_CELLS * order.rows as usize
 }
 
-// Returns how many bytes it wrote. A buffer under CELLS_BYTES, which might not hold them, is left as it was, and 0 is returned.
+// Returns how many bytes it wrote. If the buffer is shorter than CELLS_BYTES, all an order can need, it stays as it is and 0 is returned.
 pub fn write_pages(order: &[u8], buffer: &mut [u8]) -> usize
     ensures { λ r. ⌜ r ≡ printedOf longestCells (cellsText (now (order .entry))) (now (buffer .entry)) .answer ⌝ }
     ensures { λ _. ⌜ now (buffer .exit) ≡ printedOf longestCells (cellsText (now (order .entry))) (now (buffer .entry)) .buffer ⌝ }

@@ -26,7 +26,7 @@ fn write_read(buffer: &mut [u8], order: Order, row: u32) -> Punched
     Punched::refused(lacks_row())
 }
 
-// Returns 9 if the buffer is shorter than a row of cells. This is checked first. A row is not refused for its day.
+// Returns 9 if the buffer is shorter than a row of cells. This is checked first. If the day is refused, the row shows its date alone.
 pub fn write_cells(order: &[u8], row: u32, buffer: &mut [u8]) -> Punched
     ensures { λ r. ⌜ r ≡ cellsCallOf (now (order .entry)) row (now (buffer .entry)) .answer ⌝ }
     ensures { λ _. ⌜ now (buffer .exit) ≡ cellsCallOf (now (order .entry)) row (now (buffer .entry)) .buffer ⌝ }

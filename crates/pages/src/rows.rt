@@ -15,8 +15,8 @@ use order::reading::Order;
 use refusals::Refusal;
 use schedule::rolling::RowSuns;
 
-// Writes the rows from `row` to before `end`, if the buffer has room for them, and returns their dots, if it has or not. Each row takes
-// over what it can from the one before it.
+// Returns the dots of the rows from `row` to before `end`, and writes these rows at the front of the buffer. A row without room is counted
+// but not written. Each row uses what the row before it has worked.
 pub fn put_rows(buffer: &mut [u8], order: Order, row: u32, end: u32) -> u32
     requires { ⌜ Accepted order × (row < end) × (end ≤ order .rows) ⌝ }
     ensures { λ r. ⌜ r ≡ dotsOf (cellsOf (rowsFrom order row (end - row))) ⌝ }
@@ -40,7 +40,7 @@ pub fn put_rows(buffer: &mut [u8], order: Order, row: u32, end: u32) -> u32
     }
 }
 
-// Writes `count` rows from `row` on and returns how many dots they have.
+// Writes `count` rows from `row` on. Returns `count` and their dots.
 pub fn write_rows(buffer: &mut [u8], order: Order, row: u32, count: u32) -> Punched
     requires { ⌜ Accepted order × (0 < count) × (row + count ≤ order .rows) × (rowLength * count ≤ length (now buffer)) ⌝ }
     ensures { λ r. ⌜ r ≡ punchedOf (rowsFrom order row count) ⌝ }

@@ -1,4 +1,4 @@
--- What is asked of times at an instant that comes as an export's arguments. Assumes nothing.
+-- A function of an instant, at the two arguments of an export that make the instant. Assumes nothing.
 use Rattle.prelude.proofs.Logic.{_≡_, ap, _∙_, ℕ, ℤ, w64, SFits}
 use Rattle.integers.proofs.Ranges.{readBack, read}
 use Rattle.schedule.specs.declared.in_force.Instant.{Instant}

@@ -44,7 +44,7 @@ rowNumbersOf n = record {
 abbrev pub minutesFrom : ProbeSettings → TimeAdjustment
 minutesFrom s = sixMinutesOf (s .fajr) (s .sunrise) (s .dhuhr) (s .asr) (s .maghrib) (s .isha)
 
--- the preset with each field set that an order can set
+-- the preset, with each field that an order can set taken from the settings
 unfoldable pub parametersFrom : ProbeSettings → Parameters
 parametersFrom s =
     let p = presetOf (methodOf (s .method)) in

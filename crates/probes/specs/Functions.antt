@@ -1,4 +1,4 @@
--- The hour numbers and times as the exports hand them out.
+-- The hour numbers and times as the exports return them.
 use Prim.Native.Nat.{ℕ}
 use mathlib.Core.Bool.{true, false}
 use lib.IntN.{pos}

@@ -1,4 +1,4 @@
-// The leaf functions as exports, for benchmarks and for runs against other libraries: no part of what a host links.
+// The leaf functions as exports, for benchmarks and for runs against other libraries. A host does not link them.
 ghost use mathlib.Core.Path.{_≡_};
 ghost use lib.Ieee.{toSigned, toUnsigned};
 ghost use Rattle.float64.specs.Sizes.{absOf, isNormalOf};
@@ -228,7 +228,7 @@ pub extern "C" fn probe_afternoon_number(
     )
 }
 
-// A time, or none: then `seconds` is 0.
+// A time. If there is none, `seconds` is 0.
 #[repr(C)]
 pub struct ProbeTime {
     pub found: bool,
@@ -258,7 +258,7 @@ pub extern "C" fn probe_setting_hour(value: f64) -> ProbeTime
     time(setting_hour(value))
 }
 
-// By the rule of a number.
+// The same, by the rule at midnight with the number `carry`.
 #[no_mangle]
 pub extern "C" fn probe_solar_hour(carry: u32, value: f64) -> ProbeTime
     ensures { λ r. ⌜ r ≡ probeTimeOf (solarHourOf (midnightOf carry) value) ⌝ }
@@ -280,7 +280,7 @@ pub extern "C" fn probe_morning_twilight(latitude: f64, day: u32, year: u32, sun
     season_adjusted_morning_twilight(latitude, day, year, sunrise)
 }
 
-// The shafaq by its number.
+// `shafaq` is a number.
 #[no_mangle]
 pub extern "C" fn probe_evening_twilight(
     latitude: f64,

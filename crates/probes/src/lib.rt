@@ -1,5 +1,4 @@
-// Functions of the crates below as exports, for the runs against the crate that is ported and for measurements: no part of what a host
-// links.
+// Functions of the crates below as exports, for the runs against the crate that is ported and for measurements. A host does not link them.
 pub mod functions;
 pub mod printed;
 pub mod readers;

@@ -1,4 +1,4 @@
-// What the plain reader returns, as an export for the runs on drawn and damaged orders: a host asks the other one.
+// What the plain reader returns, as an export for the runs on random and damaged orders. A host calls the other reader.
 ghost use mathlib.Core.Path.{_≡_};
 ghost use Rattle.order.specs.Reading.{readingOf};
 ghost use Rattle.probes.specs.Readers.{plainRead, plainRefused, plainIn};
@@ -10,7 +10,7 @@ use order::reading::Reading;
 use refusals::Refusal;
 use unit::Coordinates;
 
-// The first of a host's fields.
+// The first fields of the struct that a host gets.
 #[repr(C)]
 pub struct ProbePlain {
     pub refusal: Refusal,

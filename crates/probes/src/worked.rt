@@ -1,4 +1,4 @@
-// A day and the prayer in force as exports, for runs against the crate that is ported: no part of what a host links.
+// A day and the prayer in force as exports, for runs against the crate that is ported. A host does not link them.
 ghost use mathlib.Core.Path.{_≡_};
 ghost use Rattle.calendar.specs.Gregorian.{dateOf};
 ghost use Rattle.models.specs.Numbers.{methodOf};
@@ -50,7 +50,7 @@ pub struct ProbeNumbers {
     pub fajr_tomorrow: f64,
 }
 
-// What an order can set, by its numbers. Nothing is left to the method but its own minutes.
+// What an order can set, by its numbers. Only the method's own minutes come from the method.
 #[repr(C)]
 pub struct ProbeSettings {
     pub method: u32,
@@ -76,7 +76,7 @@ pub struct ProbeRules {
     pub southern: u32,
 }
 
-// A refusal's number and place, and no times; or 0, 0 and the times.
+// A refusal's number and place, and times that are 0; or 0, 0 and the times.
 #[repr(C)]
 pub struct ProbeDay {
     pub refusal: Refusal,
@@ -224,7 +224,7 @@ fn answered(worked: Worked) -> ProbeDay
     }
 }
 
-// The day of a date, from the hour numbers. Beside them no longitude is needed.
+// The day of a date, from the hour numbers. They hold what the longitude gives, so it is not needed.
 #[no_mangle]
 pub extern "C" fn probe_day(
     numbers: ProbeNumbers,
@@ -289,7 +289,7 @@ pub extern "C" fn probe_current(times: PrayerTimes, seconds: i64, nanoseconds: u
     number(times.current_time(instant(seconds, nanoseconds)))
 }
 
-// And of the next one.
+// The number of the next prayer, or 0 if none is in force.
 #[no_mangle]
 pub extern "C" fn probe_next(times: PrayerTimes, seconds: i64, nanoseconds: u32) -> u32
     ensures { λ r. ⌜ r ≡ currentNumberOf (nextOf times (instantOf seconds nanoseconds)) ⌝ }
@@ -297,7 +297,7 @@ pub extern "C" fn probe_next(times: PrayerTimes, seconds: i64, nanoseconds: u32)
     number(times.next(instant(seconds, nanoseconds)))
 }
 
-// The time until the next prayer, or zeros if none is in force.
+// The time until the next prayer. If none is in force, `found` is false and the numbers are 0.
 #[repr(C)]
 pub struct ProbeRemaining {
     pub found: bool,

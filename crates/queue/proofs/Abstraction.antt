@@ -1,4 +1,4 @@
--- The arrays and the list of jobs: `shown`, a list comes back from its arrays; what the parts of the code make, as lists. Assumes nothing.
+-- The arrays and the list of jobs. `shown`: a list put into arrays is read back. What parts of the code make, as lists. Assumes nothing.
 use Rattle.prelude.proofs.Logic.{_≡_, refl, sym, ap, _∙_, Bool, _||_, List, [], _∷_, _++_, map, ℕ, suc, _-_, _≤_, _<_, arith, ltb, eqb}
 use Rattle.prelude.proofs.Logic.{lit≤, length, getD, set, replicate, length-append, length-map, slice, slice-cons, length-slice, take-at}
 use Rattle.prelude.proofs.Logic.{ltb-true, ltb-false, arms}
@@ -45,7 +45,7 @@ map-more : (f : Job → ℕ) (l : List Job) (j : Job) → map f (atBack l j) ≡
 map-more f [] j = refl
 map-more f (x ∷ l) j = ap (λ (m : List ℕ). f x ∷ m) (map-more f l j)
 
--- ---- the jobs of a queue from one place to another
+-- ---- the jobs of a queue from place `from` to before `to`
 module _ (q : Queue) (w : Whole q) (from to : ℕ) (up : to ≤ 16) where
   ids-long : length (slice from to (q .ids)) ≡ to - from
   ids-long = length-slice from to (q .ids) (omega (arith, w .ids))
@@ -71,7 +71,7 @@ module _ (q : Queue) (w : Whole q) (from to : ℕ) (up : to ≤ 16) where
         paired-pages (slice from to (q .ids)) (slice from to (q .pages)) e,
       )
 
-  -- the job at the front of them
+  -- the first of them
   pub jobs-first : from < to → jobsIn q from to ≡ job (getD (q .ids) from 0) (getD (q .pages) from 0) ∷ jobsIn q (suc from) to
   jobs-first h =
       let a : to ≤ length (q .ids) = omega (arith, w .ids) in
@@ -88,7 +88,7 @@ last-of f l j h =
 pub last-jobs : (l : List Job) (id pages : ℕ) → length l < 16 → withLast (queueOf l) id pages ≡ queueOf (atBack l (job id pages))
 last-jobs l id pages h = rw (last-of idOf l (job id pages), last-of pagesOf l (job id pages), length-append)
 
--- ---- a list comes back from its arrays
+-- ---- a list put into arrays is read back
 pub counted-small : (n : ℕ) → n ≤ 16 → counted n ≡ n
 counted-small n h = arms (λ (x : ℕ). x ≡ n) (ltb n mostJobs) (λ t. refl) (λ t. omega (arith, ltb-false n mostJobs t))
 

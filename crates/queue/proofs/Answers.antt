@@ -1,4 +1,4 @@
--- Each answer of the code is the definition's, in the case that its tests show. Assumes nothing.
+-- What the code returns is the definition's value, in each case that its tests find. Assumes nothing.
 use Rattle.prelude.proofs.Logic.{_≡_, refl, sym, _∙_, true, false, List, _∷_, ℕ, _-_, _≤_, _<_, arith, length, getD, slice, lt-ltb, le-ltb}
 use Rattle.queue.specs.declared.Queue.{Queue}
 use Rattle.queue.specs.declared.Joined.{Joined}
@@ -11,7 +11,7 @@ use Rattle.refusals.specs.Refusals.{refusal, noRefusal, queueFull, jobUnfit}
 use Rattle.queue.proofs.Steps.{join-cases}
 use Rattle.queue.proofs.Abstraction.{Whole, counted-most, jobs-length, jobs-waits, jobs-first, last-jobs}
 
--- ---- joins of a list of jobs
+-- ---- joins to a list of jobs
 admitted-when : (l : List Job) (id pages : ℕ) → refusalIn (joinOf l id pages .event) .number ≡ 0
     → (length l < mostJobs) × (joinOf l id pages ≡ admits l id pages)
 admitted-when l id pages =
@@ -60,7 +60,7 @@ module _ (q : Queue) (w : Whole q) (n : ℕ) (e : n ≡ counted (q .jobs)) where
     unfolding joinOf
     judged-free a h = rw (sym e, p, jobs-waits q w 0 n small id, a, jobs-count, lt-ltb _ _ h)
 
-  -- a job that is not refused has room
+  -- if a job is not refused, the queue has room for it
   pub room : (id pages : ℕ) → refusalIn (joinOf (jobsOf q) id pages .event) .number ≡ 0 → n < 16
   room id pages free =
       let k : length (jobsIn q 0 n) < 16 = rw e (admitted-when (jobsOf q) id pages free .0) in

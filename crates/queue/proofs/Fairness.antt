@@ -1,4 +1,4 @@
--- `turns-are-fair`: a job that joins is behind, and a turn takes one job from ahead. Assumes nothing.
+-- `turns-are-fair`: a job that joins comes after the others, and a turn takes one job from ahead of them. Assumes nothing.
 use Rattle.prelude.proofs.Logic.{_≡_, refl, List, [], _∷_, _++_, append-assoc, ℕ, suc, arith, length}
 use Rattle.queue.specs.Jobs.{Job, job, less, sent, QueueStep, atBack, joinOf, turnOf}
 use Rattle.queue.specs.History.{Call, join, turn, after, turns}

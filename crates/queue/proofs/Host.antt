@@ -1,4 +1,4 @@
--- A host's calls do to its arrays what the steps do to the list, so what holds of every history holds of what a host keeps and is told:
+-- A host's calls do to its arrays what the steps do to the list. So what is true of every history is true of what a host keeps and is told:
 -- `hosts-hold-the-queue`, `hosts-keep-pages`, `hosts-turn-fairly`. Assumes nothing.
 use Rattle.prelude.proofs.Logic.{_≡_, refl, sym, ap, _∙_, cond, List, [], _∷_, _++_, map, ℕ, zero, suc, _+_, _-_, _<_, arith, eqb, length}
 use Rattle.prelude.proofs.Logic.{getD, take, drop, replicate, length-map, List·getD-append, List·getD-map, split-at, length-take-le, ne-eqb}
@@ -79,7 +79,7 @@ hosts-keep-pages h =
     rw (held .0, held .1, left-shown (after [] h)) (pages-are-kept everyId h)
 
 -- ---- the turns
--- the job with k ahead of it is at k in the arrays
+-- the job with k jobs ahead of it is at k in the arrays
 array-at : (f : Job → ℕ) (l : List Job) (k : ℕ) (d : Job) → f d ≡ 0 → k < length l → getD (padded (map f l)) k 0 ≡ f (getD l k d)
 array-at f l k d z h =
     let n : length (map f l) ≡ length l = length-map l f in

@@ -1,4 +1,4 @@
--- `queues-are-sound`, since each step keeps it. Assumes nothing.
+-- `queues-are-sound`, since each step keeps a queue sound. Assumes nothing.
 use Rattle.prelude.proofs.Logic.{_≡_, refl, sym, Bool, true, false, true≢false, _||_, List, [], _∷_, ℕ, _<_, arith, eqb, lit≤, length}
 use Rattle.prelude.proofs.Logic.{length-append, eqb-false, ne-eqb}
 use Rattle.queue.specs.Jobs.{Job, job, less, QueueStep, waits, atBack, turnOf, mostJobs}
@@ -10,7 +10,7 @@ pub neither : (a b : Bool) → (a || b) ≡ false → (a ≡ false) × (b ≡ fa
 neither true b h = absurd (true≢false h)
 neither false b h = (refl, h)
 
--- ---- a job more at the back
+-- ---- one job more at the back
 waits-more : (id : ℕ) (q : List Job) (j : Job) → waits id q ≡ false → eqb (j .id) id ≡ false → waits id (atBack q j) ≡ false
 waits-more id [] j w e = rw e
 waits-more id (x ∷ q) j w e =
@@ -34,7 +34,7 @@ sound-more : (q : List Job) (j : Job) → NoIdTwice q → AllProper q → length
     → InRange (j .id) (j .pages) → Sound (atBack q j)
 sound-more q j o a l w r = record { few = simp length-append (omega arith); once = once-more q j o w; proper = proper-more q j a r }
 
--- ---- each step keeps it
+-- ---- each step keeps a queue sound
 pub step-sound : (q : List Job) (c : Call) → Sound q → Sound (stepOf q c .queue)
 unfolding turnOf
 step-sound q (join id pages) s =

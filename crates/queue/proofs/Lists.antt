@@ -11,7 +11,7 @@ slice-more from i a h k =
     let n = length-take-le i a (omega arith) in
     rw (take-suc a i 0) (drop-append-le from (take i a) (getD a i 0 ∷ []) (omega arith))
 
--- one zero behind becomes an element
+-- the first of the zeros becomes an element
 pub padded-more : (l : List ℕ) (v : ℕ) → length l < 16 → set (padded l) (length l) v ≡ padded (l ++ (v ∷ []))
 padded-more l v h =
     let e : 16 - length l ≡ suc (15 - length l) = omega arith in

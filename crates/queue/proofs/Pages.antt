@@ -1,4 +1,4 @@
--- `pages-are-kept`, by a law of one step. Assumes nothing.
+-- `pages-are-kept`, by a law about one step. Assumes nothing.
 use Rattle.prelude.proofs.Logic.{_≡_, refl, sym, ap, _∙_, Bool, true, false, List, [], _∷_, ℕ, _+_, _-_, _≤_, arith}
 use Rattle.queue.specs.Jobs.{Job, job, less, QueueStep, atBack, turnOf}
 use Rattle.queue.specs.History.{Call, join, turn, stepOf, after, events, Ids, when, admittedBy, sentBy, pagesAdmitted, pagesSent}
@@ -19,7 +19,7 @@ pub left-more : (of : Ids) (q : List Job) (j : Job) → pagesLeft of (atBack q j
 left-more of [] j = omega arith
 left-more of (x ∷ q) j = let e = left-more of q j in omega arith
 
--- what a step sends and leaves is what was left and what it admits
+-- the pages that a step sends, and those left after it, are those left before it and those that it admits
 abbrev Kept : Ids → List Job → QueueStep → Type 0
 Kept of q s = sentBy of (s .event) + pagesLeft of (s .queue) ≡ pagesLeft of q + admittedBy of (s .event)
 

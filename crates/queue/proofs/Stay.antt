@@ -1,5 +1,5 @@
--- `jobs-leave-when-sent`: while an id waits it is not admitted again, so what is sent of it and left of it is what it joined with. Assumes
--- nothing.
+-- `jobs-leave-when-sent`: while an id waits it is not admitted again. So its pages sent and its pages left are those that it joined with.
+-- Assumes nothing.
 use Rattle.prelude.proofs.Logic.{_≡_, refl, sym, ap, _∙_, Bool, true, false, true≢false, false≢true, _||_, List, [], _∷_, ℕ, _+_, _≤_}
 use Rattle.prelude.proofs.Logic.{arith, eqb, ltb, eqb-true, eq-eqb, lt-ltb, le-ltb, arms}
 use Rattle.queue.specs.Jobs.{Job, job, Event, admitted, refused, sent, nothing, QueueStep, waits, joinOf, turnOf}
@@ -63,7 +63,7 @@ admitted-left q id pages =
     (λ r w l e. let a = left-more (onlyId id) q (job id pages) in let b = none-left id q w in
     let c : when (onlyId id id) pages ≡ pages = rw (eq-eqb id id refl) in omega arith)
 
--- it waits as long as fewer pages are sent than it joined with
+-- it waits while fewer pages are sent than it joined with
 waits-until : (id gone pages : ℕ) (q : List Job) → AllProper q → gone + pagesLeft (onlyId id) q ≡ pages → waits id q ≡ ltb gone pages
 waits-until id gone pages q a e = go (waits id q) refl
   where

@@ -1,4 +1,4 @@
--- The cases of a step: what holds of each outcome of a join, and of a turn, holds of the step. Assumes nothing.
+-- The cases of a step: what is true of each outcome of a join or a turn is true of the step. Assumes nothing.
 use Rattle.prelude.proofs.Logic.{_≡_, true, false, not, _&&_, List, _∷_, ℕ, _-_, _≤_, _<_, arith, ltb, lit<, length, ltb-true, ltb-false}
 use Rattle.prelude.proofs.Logic.{leb-true, not-true, arms, both}
 use Rattle.queue.specs.Jobs.{Job, sent, QueueStep, mostJobs, waits, proper, atBack, admits, refuses, less, joinOf, turnOf}
@@ -23,7 +23,7 @@ join-cases P q id pages r a =
     arms P (ltb (length q) mostJobs) (λ u. a (in-range id pages (b .0)) (not-true _ (b .1)) (ltb-true _ _ u)) (λ u. r 16 (lit< tt)))
     (λ t. r 17 (lit< tt))
 
--- the front job's page is sent and the queue is then q
+-- the front job's page is sent, and then the queue is q
 abbrev pub sends : Job → List Job → QueueStep
 sends j q = record { event = sent (less j); queue = q }
 

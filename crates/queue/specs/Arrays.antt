@@ -1,4 +1,4 @@
--- Request 10: "A queue of up to 16 jobs, each with an id .. and its pages left", in a host's two arrays, whatever numbers are in them.
+-- Request 10: "A queue of up to 16 jobs, each with an id .. and its pages left", in a host's two arrays, which may hold any numbers.
 use mathlib.Core.Bool.{cond}
 use mathlib.Core.List.{List, [], _∷_, _++_, map}
 use Prim.Native.Nat.{ℕ, _-_}
@@ -13,7 +13,7 @@ use Rattle.queue.specs.declared.Turned.{Turned}
 use Rattle.queue.specs.Jobs.{Job, job, Event, admitted, refused, sent, nothing, QueueStep, mostJobs, joinOf, turnOf}
 
 -- ---- from the arrays to the list
--- of more than 16 jobs, which no calls leave, the first 16 count
+-- at most the first 16 jobs count; no calls leave more
 abbrev pub counted : ℕ → ℕ
 counted jobs = cond (ltb jobs mostJobs) jobs mostJobs
 
@@ -22,7 +22,7 @@ paired [] pages = []
 paired (i ∷ ids) [] = []
 paired (i ∷ ids) (p ∷ pages) = job i p ∷ paired ids pages
 
--- the jobs from one place to another
+-- the jobs from place `from` to before `to`
 abbrev pub jobsIn : Queue → ℕ → ℕ → List Job
 jobsIn q from to = paired (slice from to (q .ids)) (slice from to (q .pages))
 
@@ -30,7 +30,7 @@ abbrev pub jobsOf : Queue → List Job
 jobsOf q = jobsIn q 0 (counted (q .jobs))
 
 -- ---- from the list to the arrays
--- zeros behind them
+-- zeros fill the rest of an array
 abbrev pub padded : List ℕ → List ℕ
 padded l = l ++ replicate (mostJobs - length l) 0
 
@@ -57,7 +57,7 @@ sentIn (refused r) = job 0 0
 sentIn (sent j) = j
 sentIn nothing = job 0 0
 
--- a refused job, and a turn with no job, hand the queue back as it was, every number of it
+-- a refused job, and a turn with no job, leave every number of the queue as it was
 abbrev pub heldAfter : Queue → Event → List Job → Queue
 heldAfter q (admitted j) l = queueOf l
 heldAfter q (refused r) l = q

@@ -75,7 +75,7 @@ abbrev pub WaitsThrough : ℕ → List Job → List Call → Type 0
 WaitsThrough id q [] = Unit
 WaitsThrough id q (c ∷ h) = (waits id q ≡ true) × WaitsThrough id (stepOf q c .queue) h
 
--- ---- what holds of every queue that calls on an empty one leave
+-- ---- what is true of every queue that calls leave, if they begin with an empty one
 abbrev pub NoIdTwice : List Job → Type 0
 NoIdTwice [] = Unit
 NoIdTwice (j ∷ q) = (waits (j .id) q ≡ false) × NoIdTwice q

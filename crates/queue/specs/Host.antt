@@ -1,4 +1,4 @@
--- Histories of a host's calls: each on the arrays that the last one left, and what the answers tell it.
+-- Histories of a host's calls: each is on the arrays that the last one left. And what their results tell the host.
 use mathlib.Core.Bool.{cond}
 use mathlib.Core.List.{List, [], _∷_}
 use Prim.Native.Nat.{ℕ, _+_}
@@ -29,7 +29,6 @@ abbrev pub toldAll : Queue → List Call → List Event
 toldAll q [] = []
 toldAll q (c ∷ h) = told q c ∷ toldAll (heldAfterOne q c) h
 
--- an array added up
 abbrev pub total : List ℕ → ℕ
 total [] = 0
 total (p ∷ pages) = p + total pages

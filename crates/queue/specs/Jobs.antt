@@ -1,4 +1,4 @@
--- Document 02, request 10: the print queue as a list of jobs, the front first; what a join and a turn do to it.
+-- Document 02, request 10: the print queue as a list of jobs, the front one first, and what a join and a turn do to it.
 use mathlib.Core.Bool.{Bool, false, cond, not, _&&_, _||_}
 use mathlib.Core.List.{List, [], _∷_, _++_}
 use Prim.Native.Nat.{ℕ, _-_}
@@ -63,7 +63,7 @@ joinOf q id pages =
     cond (proper id pages && not (waits id q)) (cond (ltb (length q) mostJobs) (admits q id pages) (refuses q queueFull id)) (refuses q jobUnfit id)
 
 -- ---- turn
--- A job after a page is sent of it. One that has none left, as no calls leave it, sends its last one all the same.
+-- A job after one of its pages is sent. No calls leave a job with 0 pages; if a host passes one, its turn sends a page all the same.
 abbrev pub less : Job → Job
 less j = job (j .id) (j .pages - 1)
 

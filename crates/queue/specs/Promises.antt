@@ -1,5 +1,5 @@
--- What request 10 promises of every history of calls on an empty queue, over the list of jobs and then over what a host keeps and is told. Proved in
--- proofs/: Invariant, Pages, Fairness, Stay, Host.
+-- What request 10 promises of every history of calls on an empty queue: first for the list of jobs, then for what a host keeps and is told.
+-- Proved in proofs/: Invariant, Pages, Fairness, Stay, Host.
 use mathlib.Core.Path.{_≡_}
 use mathlib.Core.List.{List, [], _∷_, _++_}
 use Prim.Native.Nat.{ℕ, _+_, _-_, _<_}
@@ -15,18 +15,18 @@ use Rattle.queue.specs.Host.{empty, heldAfterAll, toldAll, total}
 abbrev pub QueuesAreSound : Type 0
 QueuesAreSound = (h : List Call) → Sound (after [] h)
 
--- "pages sent plus pages left equal the pages ever admitted, sent and admitted summed from the history of calls": of all jobs (everyId), and of each id
+-- "pages sent plus pages left equal the pages ever admitted, sent and admitted summed from the history of calls", of all jobs and of each
 abbrev pub PagesAreKept : Type 0
 PagesAreKept = (of : Ids) (h : List Call) → pagesSent of (events [] h) + pagesLeft of (after [] h) ≡ pagesAdmitted of (events [] h)
 
--- "A job with k jobs ahead of it has its page sent at turn k + 1, counted from then, whoever joins meanwhile": h are the calls until then, c any calls
--- that follow with k turns among them
+-- "A job with k jobs ahead of it has its page sent at turn k + 1, counted from then, whoever joins meanwhile": h are the calls until then,
+-- c any calls after them with k turns among them
 abbrev pub TurnsAreFair : Type 0
 TurnsAreFair =
     (h c : List Call) (ahead after-it : List Job) (j : Job) → after [] h ≡ ahead ++ (j ∷ after-it) → turns c ≡ length ahead
     → turnOf (after (after [] h) c) .event ≡ sent (less j)
 
--- A job leaves when as many of its pages are sent as it was admitted with, and not before: h are the calls until it joins, c any calls during its stay.
+-- A job leaves when all pages that it was admitted with are sent, and not before: h are the calls until it joins, c any during its stay.
 abbrev pub JobsLeaveWhenSent : Type 0
 JobsLeaveWhenSent =
     (h c : List Call) (id pages : ℕ)
@@ -35,7 +35,7 @@ JobsLeaveWhenSent =
     × (waits id (after (s .queue) c) ≡ ltb (pagesSent (onlyId id) (events (s .queue) c)) pages)
 
 -- ---- of a host's own calls
--- the arrays hold the jobs, with zeros behind them, and the answers tell what was done
+-- the arrays have the jobs at their front, then zeros, and the results tell what was done
 abbrev pub HostsHoldTheQueue : Type 0
 HostsHoldTheQueue = (h : List Call) → (heldAfterAll empty h ≡ queueOf (after [] h)) × (toldAll empty h ≡ events [] h)
 

@@ -1,4 +1,4 @@
-// The print queue (added): a value that the host keeps. A job joins at the back; a turn sends one page of the job at the front.
+// The print queue (added): a value that the host keeps. A job joins at the back. A turn sends one page of the job at the front.
 ghost use mathlib.Core.Path.{_≡_};
 ghost use Prim.Native.Nat.{_-_, _≤_, _<_};
 ghost use lib.Seq.{slice};
@@ -16,7 +16,7 @@ const MOST_ID: u32 = 65535;
 
 const MOST_PAGES: u32 = 16;
 
-// How many jobs wait, and the id and the pages left of each, the front first. The rest of the arrays is 0.
+// How many jobs wait, and each one's id and pages left, with the front job first. The rest of the arrays is 0.
 #[repr(C)]
 pub struct Queue {
     pub jobs: u32,
@@ -66,7 +66,7 @@ fn is_listed(ids: [u32; MOST_JOBS], n: usize, id: u32) -> bool
     false
 }
 
-// The numbers from one place to another, moved to the front.
+// The numbers from place `from` to before `to`, moved to the front. The rest is 0.
 fn part(a: [u32; MOST_JOBS], from: usize, to: usize) -> [u32; MOST_JOBS]
     requires { ⌜ (from ≤ to) × (to ≤ mostJobs) ⌝ }
     ensures { λ r. ⌜ r ≡ padded (slice from to a) ⌝ }
@@ -105,7 +105,7 @@ fn with_last(queue: Queue, id: u32, pages: u32) -> Queue
     q
 }
 
-// The refusal of a job that would join, or none: 17 is tried before 16.
+// The refusal of a job that would join, or none. 17 is tried before 16.
 fn judge(queue: Queue, id: u32, pages: u32) -> Refusal
     ensures { λ r. ⌜ r ≡ refusalIn (joinOf (jobsOf queue) id pages .event) ⌝ }
 {
@@ -142,7 +142,7 @@ pub fn join(queue: Queue, id: u32, pages: u32) -> Joined
     }
 }
 
-// The front job sends a page, and goes to the back if it has pages left.
+// Sends a page of the front job, which then goes to the back if it has pages left.
 pub fn turn(queue: Queue) -> Turned
     ensures { λ r. ⌜ r ≡ turnedOf queue ⌝ }
 {

@@ -43,7 +43,7 @@ module _ (text : Order → List ℕ) (most : ℕ) (s : List ℕ) where
         by-reading (Read o) e = fits o e
         by-reading (Refused r) e = let l = refused-short r in omega arith
 
-    -- what is answered fits the buffer after the call
+    -- the length that a call returns fits the buffer after it
     pub report-fits : (buffer after : List ℕ) (n : ℕ) → n ≡ printedOf most (reportText text s) buffer .answer → length after ≡ length buffer
         → n ≤ length after
     report-fits buffer after n e l = let f = printed-fits most (reportText text s) buffer report-length in omega arith

@@ -1,5 +1,5 @@
--- Documents 01 and 02: each program "reads an order as the sheet program does, prints a refused one alike", and of one that is read its own
--- text.
+-- Documents 01 and 02: each program "reads an order as the sheet program does, prints a refused one alike", and prints a text of its own
+-- for an order that is read.
 use Prim.Native.Nat.{ℕ}
 use mathlib.Core.List.{List}
 use Rattle.lines.specs.Lines.{refusedOrderText}
@@ -15,6 +15,6 @@ reportIn text (Refused r) = refusedOrderText r
 abbrev pub reportText : (Order → List ℕ) → List ℕ → List ℕ
 reportText text s = reportIn text (readingOf s)
 
--- no refused order's line is longer
+-- the bytes of the longest line of a refused order
 abbrev pub longestRefused : ℕ
 longestRefused = 62

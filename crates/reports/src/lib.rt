@@ -1,2 +1,2 @@
-// What each program prints of an order: a refused one is printed alike by all. Definitions and laws alone (specs/Reports.antt,
-// proofs/ReportsLaws.antt).
+// What each program prints for an order. All print a refused order alike. There is no code here: only definitions (specs/Reports.antt) and
+// laws (proofs/ReportsLaws.antt).

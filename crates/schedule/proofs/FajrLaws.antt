@@ -13,7 +13,7 @@ use Rattle.schedule.specs.Fajr.{fajrIn, fajrAloneOf}
 use Rattle.schedule.specs.Times.{startOf, finalOf, fromMidnightOf, startedOf, workedFrom, workedOf}
 use Rattle.schedule.specs.Twilight.{unadjustedFajrOf}
 
--- what is added is taken off again
+-- an addend that is subtracted again
 back-off : (a z : ℤ) → (a +ℤ z) -ℤ a ≡ z
 back-off a z =
     let s = sum a z in

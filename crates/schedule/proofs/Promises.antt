@@ -1,11 +1,11 @@
--- What the private functions promise, as the code that called them reads it; and the night's portions as they are worked. Assumes nothing.
+-- What the private functions promise, as their callers read it, and the night's portions as they are worked. Assumes nothing.
 use Rattle.prelude.proofs.Logic.{_≡_, refl, ap, subst, _∙_, ℕ, _+_, _^_, _≤_, lit≤, ℤ, _+ℤ_, w64}
 use Rattle.integers.proofs.Integers.{Near, wider, inside-between, readBack, Held, held-sum, stored}
 use Rattle.night_portions.specs.Portions.{seventhOf, middleOf, lastThirdOf}
 use Rattle.night_portions.proofs.Steady.{longest}
 use Rattle.night_portions.proofs.PortionsLaws.{seventh-inside, middle-inside, last-third-inside}
 
--- of equal arguments
+-- equal arguments give equal results
 pub both : (f : ℤ → ℤ → ℤ) {x y u v : ℤ} → x ≡ u → y ≡ v → f x y ≡ f u v
 both f {x} {y} {u} {v} p q = ap (λ (z : ℤ). f z y) p ∙ ap (λ (z : ℤ). f u z) q
 

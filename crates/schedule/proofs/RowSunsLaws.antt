@@ -1,4 +1,4 @@
--- What rolls is what each row would work by itself. Assumes nothing.
+-- The suns that roll from row to row are those that each row would work by itself. Assumes nothing.
 use Rattle.prelude.proofs.Logic.{_≡_, sym, ap, subst, _∙_, true, false, _+_, _≤_, _<_, arith, cases}
 use Rattle.calendar.proofs.Calendar.{tomorrowOf, fromOf, existsOf, back}
 use Rattle.calendar.proofs.Successors.{tomorrow-exists, tomorrow-year}
@@ -21,7 +21,7 @@ pub back-to : (date : Date) → date .year < 4294967295 → yesterdayOf (tomorro
 unfolding fromOf
 back-to date l = cases (existsOf date) (λ there. back date there (omega arith)) (λ lacks. simp (lacks))
 
--- the day of the first row is the date's own
+-- the times of the first row are those of its date
 pub first-row : (date : Date) (s : Setting) → rowSunsWorkedOf s (rowSunsOf date s) ≡ workedAt date s
 unfolding rowSunsOf
 first-row date s =
@@ -29,7 +29,7 @@ first-row date s =
     ap (λ (h : RowHours). workedOf h date (seasonOf s) p) (row-shared date s)
     ∙ worked-unasked (hoursOf (s .rules .midnight) (numbersOf date (s .coordinates) p)) date (seasonOf s) p
 
--- the Fajr that suns give by itself is that of the times that they give
+-- the Fajr that suns give by itself is the Fajr of the nine times that they give
 pub suns-fajr : (s : Setting) (r : RowSuns) → rowSunsFajrOf s r ≡ fajrIn (r .date) (rowSunsWorkedOf s r)
 unfolding rowSunsFajrOf rowSunsHoursOf
 suns-fajr s r = fajr-alone (rowSunsHoursOf s r) (r .date) (seasonOf s) (s .parameters)

@@ -1,5 +1,5 @@
--- A row's times from the courses of its three days are those of its hour numbers. What is shared changes no number, and what is left out
--- changes no time. Assumes nothing.
+-- A row's times from the courses of its three days are those of its hour numbers. Values that are shared change no number, and hours that
+-- are left out change no time. Assumes nothing.
 use Rattle.prelude.proofs.Logic.{_≡_, refl, ap, true, false, cases, ltZ, pos}
 use Rattle.calendar.specs.Answers.{tomorrowOf}
 use Rattle.calendar.specs.declared.dates.Date.{Date}
@@ -59,7 +59,7 @@ module _ (h : RowHours) (date : Date) (season : Season) (p : Parameters) where
   by-suns (Refused r) = refl
   by-suns (Whole suns) = ap (λ (t : PrayerTimes). Times (startedOf (startOf date) t)) (nine-unasked suns)
 
-  -- a row's times are the same from the hours that are asked for
+  -- a row's times are the same without the hours that no time needs
   pub worked-unasked : workedOf asked date season p ≡ workedOf h date season p
   unfolding workedOf
   worked-unasked = by-suns (h .suns)

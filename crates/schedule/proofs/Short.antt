@@ -10,7 +10,7 @@ within : (z : ℤ) → z ≼ pos 2147483647 → negsuc 2147483647 ≼ z → Near
 within (pos n) over under = record { from = omega arith; to = omega arith }
 within (negsuc n) over under = record { from = omega arith; to = omega arith }
 
--- by the two tests
+-- case by case, by the code's two tests
 pub high : (z : ℤ) → ltZ (pos 2147483647) z ≡ true → Short (pos 2147483647) z
 unfolding shortOf
 high z over = (rw over refl, record { from = omega arith; to = omega arith })
@@ -33,7 +33,7 @@ short-near z =
     near : {r : ℤ} → Short r z → Near (2 ^ 31) (shortOf z)
     near h = subst (Near (2 ^ 31)) (h .0) (h .1)
 
--- what an i32 holds stays
+-- seconds that an i32 holds stay as they are
 pub short-is : (z : ℤ) → Near 2147483647 z → shortOf z ≡ z
 unfolding shortOf
 short-is z h =

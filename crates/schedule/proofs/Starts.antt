@@ -1,4 +1,4 @@
--- 0h of any date that a u32's year can name lies within 2 ^ 58 seconds of 1970. Assumes nothing.
+-- 0h of any date whose year is a u32 is within 2 ^ 58 seconds of 1970. Assumes nothing.
 use Rattle.prelude.proofs.Logic.{ℕ, _+_, _*_, _^_, _≤_, _<_, arith, pos, _-ℤ_, _*ℤ_}
 use Rattle.integers.proofs.Integers.{Near, difference, times}
 use Rattle.calendar.proofs.Calendar.{daysBeforeYearOf, ordinalOf, dayNumberOf, ordinal-short}

@@ -1,5 +1,5 @@
--- This file need not be believed: the hours of Fajr, Asr and Isha as the code works them. One that no time asks for is left out, and Fajr's
--- and Isha's start from the sines of their angles. proofs/SharedLaws.antt says that the times are those of Numbers.
+-- This file need not be believed: the hours of Fajr, Asr and Isha as the code works them. An hour that no time needs is left out. Fajr's
+-- and Isha's start from the sines of their angles. proofs/SharedLaws.antt proves that the times are those of Numbers.
 use mathlib.Core.Bool.{true, false, cond}
 use lib.IntN.{pos}
 use lib.Signed.{ltZ}
@@ -22,11 +22,11 @@ use Rattle.schedule.specs.Twilight.{bySeventhOf}
 unfoldable pub fajrAskedOf : Parameters → Float → SolarHour → SolarHour
 fajrAskedOf p latitude hour = cond (bySeventhOf (p .method) latitude) Nothing hour
 
--- and if an interval does
+-- none if an interval or a seventh of the night takes the angle's place
 unfoldable pub ishaAskedOf : Parameters → Float → SolarHour → SolarHour
 ishaAskedOf p latitude hour = cond (ltZ (pos 0) (p .«isha_interval»)) Nothing (cond (bySeventhOf (p .method) latitude) Nothing hour)
 
--- of a row's hours those that are asked for
+-- a row's hours without those that no time needs
 abbrev pub askedOf : Parameters → Float → RowHours → RowHours
 askedOf p latitude h =
     record {
@@ -40,7 +40,7 @@ askedOf p latitude h =
 abbrev pub twilightSinesOf : Parameters → TwilightSines
 twilightSinesOf p = record { fajr = sinOf (radiansOf (fajrAngleOf p)); isha = sinOf (radiansOf (ishaAngleOf p)) }
 
--- over a course, from the sine of the angle
+-- from the sine of the angle, over the day's course
 abbrev pub fajrHourOf : Setting → Float → Course → SolarHour
 fajrHourOf s sine course =
     fajrAskedOf (s .parameters) (s .coordinates .latitude)

@@ -1,5 +1,5 @@
--- A date's Fajr by itself, in seconds from 0h of the date. What the code works need not be believed: proofs/FajrLaws.antt says that it is
--- the Fajr of the nine.
+-- A date's Fajr by itself, in seconds from 0h of the date. `fajrAloneOf` need not be believed: proofs/FajrLaws.antt proves that it is the
+-- Fajr of the nine times.
 use lib.IntN.{_-ℤ_}
 use Rattle.calendar.specs.declared.dates.Date.{Date}
 use Rattle.models.specs.declared.parameters.Parameters.{Parameters}
@@ -15,12 +15,12 @@ use Rattle.schedule.specs.declared.prayer_times.Worked.the-variants as w
 use Rattle.schedule.specs.Times.{startOf, finalOf}
 use Rattle.schedule.specs.Twilight.{unadjustedFajrOf}
 
--- of a date's times
+-- the Fajr among a date's times
 unfoldable pub fajrIn : Date → Worked → FajrAlone
 fajrIn date (worked.Times t) = alone.Some (t .fajr -ℤ startOf date)
 fajrIn date (worked.Refused r) = alone.Nothing
 
--- as it is worked
+-- the Fajr as the code works it, without the other times
 unfoldable pub fajrAloneOf : Suns → Date → Season → Parameters → SolarHour → FajrAlone
 fajrAloneOf (Refused r) date season p hour = alone.Nothing
 fajrAloneOf (Whole suns) date season p hour =

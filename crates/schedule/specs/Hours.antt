@@ -1,4 +1,4 @@
--- The sun's times that a row is worked from, by the rule that its order chooses at midnight, each in seconds from 0h of its own date.
+-- The sun's times that a row is worked from, by the order's rule at midnight. Each is in seconds from 0h of its own date.
 use Rattle.models.specs.declared.rules.Midnight.{Midnight}
 use Rattle.refusals.specs.Refusals.{refusal}
 use Rattle.solar.specs.declared.times.SolarDay.{SolarDay}

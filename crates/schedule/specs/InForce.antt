@@ -31,7 +31,6 @@ timeOf t Isha = t .isha
 timeOf t Qiyam = t .qiyam
 timeOf t FajrTomorrow = t .«fajr_tomorrow»
 
--- the nanoseconds of a second
 abbrev pub inSecond : ℕ
 inSecond = 1000000000
 
@@ -39,7 +38,7 @@ inSecond = 1000000000
 unfoldable pub nanosecondsOf : Instant → ℤ
 nanosecondsOf i = i .seconds *ℤ pos inSecond +ℤ pos (i .nanoseconds)
 
--- an instant is not after another, "ordered by whole seconds, then nanoseconds": its seconds are fewer, or the same and its nanoseconds no more
+-- j is not after i, "ordered by whole seconds, then nanoseconds": it has fewer seconds, or the same seconds and no more nanoseconds
 abbrev pub NotAfter : Instant → Instant → Type 0
 NotAfter j i = (ltZ (j .seconds) (i .seconds) ≡ true) ⊎ ((j .seconds ≡ i .seconds) × (j .nanoseconds ≤ i .nanoseconds))
 
@@ -55,7 +54,7 @@ lastOf t i (suc n) = cond (eqb (aheadOf (timeOf t (prayerOf (suc n))) i) 0) (Som
 abbrev pub currentTimeOf : PrayerTimes → Instant → Current
 currentTimeOf t i = lastOf t i 8
 
--- its number in the list of eight, Fajr's 1; "none" is before Fajr
+-- its number in the list of eight: Fajr is 1, and "none" is 0, before Fajr
 unfoldable pub currentNumberOf : Current → ℕ
 currentNumberOf (Some prayer) = prayerNumberOf prayer
 currentNumberOf Nothing = 0
@@ -78,7 +77,7 @@ followingCurrentOf Nothing = Nothing
 abbrev pub nextOf : PrayerTimes → Instant → Current
 nextOf t i = followingCurrentOf (currentTimeOf t i)
 
--- so many seconds as hours and minutes, by the crate's `whole`, `fract` and casts: "`time_remaining` in 3,599 s is 0 hours 60 minutes"
+-- seconds as hours and minutes, by the crate's `whole`, `fract` and casts: "`time_remaining` in 3,599 s is 0 hours 60 minutes"
 unfoldable pub hoursMinutesOf : ℕ → HoursMinutes
 unfolding dec
 hoursMinutesOf seconds =

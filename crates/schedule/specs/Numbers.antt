@@ -1,5 +1,5 @@
--- schedule.rs: the hour numbers that PrayerTimes::new asks for, from date, place and parameters: those of the date's sun and of the next
--- two days' suns, and those of Fajr, Asr and Isha.
+-- schedule.rs: the hour numbers that PrayerTimes::new needs, from date, place and parameters. They are those of the sun on the date and on
+-- the next two days, and those of Fajr, Asr and Isha.
 use mathlib.Core.Bool.{true, false}
 use lib.IntN.{pos}
 use lib.Ieee.{Float, binary64, neg, ofInt}

@@ -1,4 +1,4 @@
--- schedule.rs: the nine times of a date. Inside, times are seconds from 0h of the date; in the end its 0h is added.
+-- schedule.rs: the nine times of a date. They are worked in seconds from 0h of the date, and its 0h is added last.
 use lib.IntN.{ℤ, pos, _+ℤ_, _-ℤ_, _*ℤ_}
 use Rattle.calendar.specs.Answers.{tomorrowOf}
 use Rattle.calendar.specs.Days.{dayNumberOf}
@@ -39,7 +39,8 @@ finalOf p prayer t = roundedOf (p .rounding) (adjustedOf t (timeAdjustmentsOf p 
 unfoldable pub fajrTomorrowOf : Parameters → Season → Date → SolarTime → SolarTime → SolarHour → ℤ
 fajrTomorrowOf p season date tomorrow after hour = nextDayOf (adjustedOf (unadjustedFajrOf p season (tomorrowOf date) tomorrow after hour) (timeAdjustmentsOf p Fajr))
 
--- "Middle of night and qiyam start at rounded maghrib, go 1/2 and 2.0/3.0 (f64) of the seconds to tomorrow's Fajr, cut toward zero, and round to Nearest."
+-- "Middle of night and qiyam start at rounded maghrib, go 1/2 and 2.0/3.0 (f64) of the seconds to tomorrow's Fajr, cut toward zero, and
+-- round to Nearest."
 unfoldable pub middleOfTheNightOf : ℤ → ℤ → ℤ
 middleOfTheNightOf maghrib tomorrow = roundedOf Nearest (maghrib +ℤ middleOf (tomorrow -ℤ maghrib))
 
@@ -65,7 +66,7 @@ fromMidnightOf p season date suns h =
       «fajr_tomorrow» = next-fajr;
     }
 
--- from 1970 on, where the date begins at `start`
+-- the nine times in seconds from 1970 on; the date begins at `start`
 unfoldable pub startedOf : ℤ → PrayerTimes → PrayerTimes
 startedOf start t =
     record {
@@ -91,10 +92,9 @@ workedFrom (suns.Whole three) h date season p = Times (timesOf p season date thr
 unfoldable pub workedOf : RowHours → Date → Season → Parameters → Worked
 workedOf h date season p = workedFrom (h .suns) h date season p
 
--- from hour numbers
 abbrev pub workedBy : RowNumbers → Date → Setting → Worked
 workedBy numbers date s = workedOf (hoursOf (s .rules .midnight) numbers) date (seasonOf s) (s .parameters)
 
--- the whole way: from a date and its setting
+-- from a date and its setting alone
 abbrev pub workedAt : Date → Setting → Worked
 workedAt date s = workedBy (numbersOf date (s .coordinates) (s .parameters)) date s

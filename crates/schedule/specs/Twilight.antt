@@ -1,5 +1,5 @@
--- schedule.rs: Fajr and Isha, before their minutes are added. Each is the time of an angle, bounded by a portion of the night or by the season.
--- Times are seconds from 0h of the date.
+-- schedule.rs: Fajr and Isha, before their minutes are added. Each is the time of an angle, bounded by a portion of the night or by the
+-- season. Times are seconds from 0h of the date.
 use mathlib.Core.Bool.{Bool, true, false, _&&_, cond}
 use lib.IntN.{ℤ, pos, _+ℤ_, _-ℤ_, _*ℤ_}
 use lib.Signed.{ltZ}
@@ -36,7 +36,7 @@ laterOf a b = cond (ltZ a b) b a
 unfoldable pub earlierOf : ℤ → ℤ → ℤ
 earlierOf a b = cond (ltZ b a) b a
 
--- `unwrap_or`: the other one if there is no time
+-- `unwrap_or`: `other` if there is no time
 unfoldable pub orOf : SolarHour → ℤ → ℤ
 orOf (Some t) other = t
 orOf Nothing other = other
@@ -62,11 +62,11 @@ unfoldable pub bySeventhOf : Method → Float → Bool
 unfolding dec
 bySeventhOf method latitude = le (dec 55 0) latitude && bySeasonOf method
 
--- the time that its bound is held against. "Without an angle time the bound serves."
+-- the time that is compared with its bound. "Without an angle time the bound serves."
 unfoldable pub ownOf : Method → Float → ℤ → SolarHour → ℤ → ℤ
 ownOf method latitude seventh hour bound = cond (bySeventhOf method latitude) seventh (orOf hour bound)
 
--- Seconds, held at the ends of an i32, so that every sum has its place. No order's are near those ends (schedule_laws, SunSpans.antt).
+-- seconds limited to the range of an i32, so that every sum fits. No order's seconds are near its ends (schedule_laws, SunSpans.antt).
 unfoldable pub shortOf : ℤ → ℤ
 shortOf z = cond (ltZ most32 z) most32 (cond (ltZ z least32) least32 z)
 

@@ -12,7 +12,7 @@ use solar::setting::SolarHour;
 use solar::times::solar_hour;
 use unit::Angle;
 
-// The sines of Fajr's and Isha's angles: the same on every day, and so worked once for all of them.
+// The sines of Fajr's and Isha's angles. They are the same on every day, so they are worked once.
 pub struct TwilightSines {
     pub fajr: f64,
     pub isha: f64,

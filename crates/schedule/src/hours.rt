@@ -9,7 +9,7 @@ use solar::times::SolarDay;
 use solar::times::SolarTime;
 use solar::times::solar_hour;
 
-// Of the date, the next one and the one after that; and of the date's Fajr, Asr and Isha and the next date's Fajr.
+// The numbers of the date and of the two dates after it, of the date's Fajr, Asr and Isha, and of the next date's Fajr.
 pub struct RowNumbers {
     pub today: HourNumbers,
     pub tomorrow: HourNumbers,
@@ -20,7 +20,7 @@ pub struct RowNumbers {
     pub fajr_tomorrow: f64,
 }
 
-// Of the date, the next one and the one after that.
+// The sun's times on the date and on the two dates after it.
 pub struct ThreeSuns {
     pub today: SolarTime,
     pub tomorrow: SolarTime,
@@ -29,11 +29,11 @@ pub struct ThreeSuns {
 
 pub enum Suns {
     Whole(ThreeSuns),
-    // 6, 7 or 8 with the day: the first of days 0, 1 and 2 that lacks a time.
+    // Number 6, 7 or 8. The place is the first of days 0, 1 and 2 that lacks a time.
     Refused(Refusal),
 }
 
-// Each counted from 0h of its own date.
+// Each time is counted from 0h of its own date.
 pub struct RowHours {
     pub suns: Suns,
     pub fajr: SolarHour,

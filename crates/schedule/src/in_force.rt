@@ -1,5 +1,5 @@
-// schedule.rs: the prayer in force, the next one and the time until it. Where the crate reads the clock, the instant is given; where it
-// panics, since no prayer is in force, there is an answer that says so.
+// schedule.rs: the prayer in force, the next one and the time until it. The crate reads the clock; here the instant is given. The crate
+// panics if no prayer is in force; here the result says so.
 ghost use mathlib.Core.Path.{_≡_};
 ghost use lib.IntN.{_-ℤ_};
 ghost use Rattle.integers.specs.Parts.{P};
@@ -16,7 +16,7 @@ use std::num::nearest_u64_to_f64;
 // The nanoseconds of a second.
 pub const IN_SECOND: u64 = 1000000000;
 
-// One nanosecond of a second makes it count, so that a quotient is rounded up.
+// Added before the division by IN_SECOND, so that the quotient is rounded up.
 const ALL_BUT_ONE: u64 = IN_SECOND - 1;
 
 // Seconds from 1970-01-01 0h UTC, rounded down, and the nanoseconds after them.
@@ -41,7 +41,7 @@ pub enum Remaining {
     Nothing,
 }
 
-// Seconds from one to the other, 0 where the other is not later. The difference of two i64 fits a u64, and not always an i64.
+// The seconds from `seconds` to `time`, or 0 if `time` is not later. The difference of two i64 fits a u64, but not always an i64.
 fn between(seconds: i64, time: i64) -> u64
     ensures { λ r. ⌜ r ≡ P (time -ℤ seconds) ⌝ }
 {
@@ -53,7 +53,7 @@ fn between(seconds: i64, time: i64) -> u64
     to - from
 }
 
-// Whole seconds from an instant to a time. A second that has begun by some nanoseconds is not whole.
+// The whole seconds from an instant to a time. If the instant has nanoseconds, the second that they begin is not counted.
 fn ahead(time: i64, instant: Instant) -> u64
     ensures { λ r. ⌜ r ≡ aheadOf time instant ⌝ }
 {
@@ -108,7 +108,7 @@ impl PrayerTimes {
         }
     }
 
-    // The last in the list whose time lies less than a second ahead. The times need not rise along the list.
+    // The last prayer in the list whose time is less than a second ahead. A later one in the list may have an earlier time.
     pub fn current_time(self, instant: Instant) -> Current
         ensures { λ r. ⌜ r ≡ currentTimeOf self instant ⌝ }
     {

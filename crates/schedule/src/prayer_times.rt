@@ -33,7 +33,7 @@ use rounding::times::rounded_minute;
 use solar::setting::SolarHour;
 use solar::times::SolarTime;
 
-// In seconds from 1970-01-01 0h UTC. They are in this order and are not sorted.
+// In seconds from 1970-01-01 0h UTC, always in this order. They are not sorted.
 #[repr(C)]
 pub struct PrayerTimes {
     pub fajr: i64,
@@ -49,7 +49,7 @@ pub struct PrayerTimes {
 
 pub enum Worked {
     Times(PrayerTimes),
-    // 6, 7 or 8 with the day.
+    // Number 6, 7 or 8, with the day as its place.
     Refused(Refusal),
 }
 
@@ -60,13 +60,13 @@ pub enum FajrAlone {
     Nothing,
 }
 
-// What is counted from maghrib to tomorrow's Fajr.
+// Two times of the night, which is from maghrib to tomorrow's Fajr.
 struct Night {
     middle: i64,
     last_third: i64,
 }
 
-// A prayer's own minutes and the method's are added, then the time is rounded.
+// Adds the prayer's own minutes and the method's, then rounds.
 fn final_time(parameters: Parameters, prayer: Prayer, time: i64, rounding: Rounding) -> i64
     requires { ⌜ Near (2 ^ 38) time ⌝ }
     ensures { λ r. ⌜ (r ≡ roundedOf rounding (adjustedOf time (timeAdjustmentsOf parameters prayer))) × Near (2 ^ 40) r ⌝ }
@@ -77,7 +77,7 @@ fn final_time(parameters: Parameters, prayer: Prayer, time: i64, rounding: Round
     )
 }
 
-// Adjusted and not rounded.
+// Tomorrow's Fajr is adjusted but not rounded.
 fn next_fajr(
     parameters: Parameters,
     season: Season,
@@ -92,7 +92,7 @@ fn next_fajr(
     final_time(parameters, Prayer::Fajr, fajr, Rounding::None) + 86400
 }
 
-// So many seconds after maghrib, to the nearest minute.
+// The time `seconds` after maghrib, to the nearest minute.
 fn into_the_night(maghrib: i64, seconds: i64) -> i64
     requires { ⌜ Near (2 ^ 40) maghrib × Near (2 ^ 42) seconds ⌝ }
     ensures { λ r. ⌜ (r ≡ roundedOf Nearest (maghrib +ℤ seconds)) × Near (2 ^ 43) r ⌝ }
@@ -112,7 +112,7 @@ fn calculate_qiyam(maghrib: i64, fajr: i64) -> Night
     }
 }
 
-// The nine in seconds from 0h of the date.
+// The nine times, in seconds from 0h of the date.
 fn from_midnight(
     parameters: Parameters,
     season: Season,
@@ -151,7 +151,7 @@ fn from_midnight(
     }
 }
 
-// Fajr as the nine have it.
+// The Fajr of the nine times. The other eight are not worked.
 fn final_fajr(
     parameters: Parameters,
     season: Season,
@@ -166,14 +166,14 @@ fn final_fajr(
     final_time(parameters, Prayer::Fajr, fajr, rule)
 }
 
-// 0h of a date, from 1970 on.
+// 0h of a date, in seconds from 1970-01-01 0h UTC.
 fn start(date: Date) -> i64
     ensures { λ r. ⌜ (r ≡ startOf date) × Near (2 ^ 58) r ⌝ }
 {
     date.day_number() * 86400
 }
 
-// The nine from 1970 on.
+// The nine times, in seconds from 1970-01-01 0h UTC.
 fn started(date: Date, times: PrayerTimes) -> PrayerTimes
     requires { ⌜ Each (Near (2 ^ 43)) times ⌝ }
     ensures { λ r. ⌜ r ≡ startedOf (startOf date) times ⌝ }
@@ -209,7 +209,7 @@ impl RowHours {
 }
 
 impl Suns {
-    // The Fajr of the date that these suns are of, and none of its other times.
+    // Works the Fajr of `date` and none of its other times. `date` is the first of the three dates of these suns.
     pub fn fajr(
         self,
         date: Date,

@@ -1,5 +1,5 @@
 // schedule.rs: Fajr and Isha, before their minutes are added. Each is the time of an angle, bounded by a portion of the night or by the
-// season. Times are seconds from 0h of the date. The sun's are i32, so that an i64 holds every sum here, whatever the parameters.
+// season. Times are seconds from 0h of the date. The sun's times are i32, so an i64 holds every sum here for all parameters.
 ghost use mathlib.Core.Path.{_≡_};
 ghost use Prim.Native.Nat.{_^_};
 ghost use lib.IntN.{_+ℤ_};
@@ -24,7 +24,7 @@ const MOST32: i64 = 2147483647;
 
 const LEAST32: i64 = -2147483648;
 
-// Seconds, held at the ends of an i32: no order's come near them.
+// Seconds limited to the range of an i32. No order's seconds come near its ends.
 fn short(seconds: i64) -> i64
     ensures { λ r. ⌜ (r ≡ shortOf seconds) × Near (2 ^ 31) r ⌝ }
 {
@@ -37,7 +37,7 @@ fn short(seconds: i64) -> i64
     seconds
 }
 
-// A time of the sun, moved by so many seconds.
+// A time of the sun, moved by `seconds`.
 fn moved(time: i32, seconds: i64) -> i64
     ensures { λ r. ⌜ (r ≡ time +ℤ shortOf seconds) × Near (2 ^ 32) r ⌝ }
 {
@@ -103,7 +103,7 @@ fn by_season(method: Method) -> bool
     }
 }
 
-// And from latitude 55 on it takes a seventh of the night in place of the angle.
+// From latitude 55 on, MoonsightingCommittee takes a seventh of the night in place of the angle.
 pub fn by_seventh(method: Method, latitude: f64) -> bool
     ensures { λ r. ⌜ r ≡ bySeventhOf method latitude ⌝ }
 {
@@ -113,7 +113,7 @@ pub fn by_seventh(method: Method, latitude: f64) -> bool
     false
 }
 
-// The time that a bound is held against: what a seventh of the night gives, or the angle's.
+// The time that is compared with `bound`: the one by a seventh of the night, or the angle's.
 fn own(method: Method, latitude: f64, seventh: i64, hour: SolarHour, bound: i64) -> i64
     requires { ⌜ Near (2 ^ 38) seventh × Near (2 ^ 38) bound ⌝ }
     ensures { λ r. ⌜ (r ≡ ownOf method latitude seventh hour bound) × Near (2 ^ 38) r ⌝ }

@@ -1,5 +1,5 @@
--- The prayer in force if no time is earlier and the instant is not after: what is due under the second is due under the first. Assumes
--- nothing.
+-- The prayer in force if no time is earlier and the instant is not after: a prayer that is due under the second is due under the first.
+-- Assumes nothing.
 use Rattle.prelude.proofs.Logic.{_≡_, refl, ap, Bool, true, false, cond, inl, inr, ⊎-elim, ℕ, zero, suc, _≤_, _<_, arith, eqb, eqb→eq, lit≤}
 use Rattle.prelude.proofs.Logic.{ℤ, pos, negsuc, _+ℤ_, _-ℤ_, _*ℤ_, ltZ, eqb-true, eqb-false}
 use Rattle.integers.proofs.Integers.{P, N, same, sum, difference, times, le-yes, lt-yes, lt-no, to-le, _≼_}
@@ -54,7 +54,7 @@ not-after-by-nanoseconds j i h k = (
   λ o. from-nanoseconds j i k (le-yes (nanosecondsOf j) (nanosecondsOf i) o),
 )
 
--- ---- the whole seconds that lie ahead
+-- ---- the whole seconds ahead
 positive-grows : (x y : ℤ) → x ≼ y → P x ≤ P y
 positive-grows (pos a) (pos b) h = omega arith
 positive-grows (pos a) (negsuc b) h = omega arith
@@ -90,7 +90,7 @@ place-is : (n : ℕ) → suc n ≤ 8 → prayerNumberOf (prayerOf (suc n)) ≡ s
 unfolding placeTest prayerNumberOf prayerOf
 place-is n h = eqb→eq _ _ (at placeTest 8 tt n h)
 
--- no prayer of the first n is after the n-th place
+-- the last due prayer among the first n has a number of at most n
 first-places : (t : PrayerTimes) (i : Instant) (n : ℕ) → n ≤ 8 → currentNumberOf (lastOf t i n) ≤ n
 unfolding lastOf currentNumberOf
 first-places t i zero h = lit≤ tt

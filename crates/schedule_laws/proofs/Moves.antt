@@ -1,5 +1,5 @@
--- If a school's minutes are later and nothing else changes: each time is later by exactly their seconds, and none of the nine is
--- earlier. Assumes nothing.
+-- If a school's minutes are later and nothing else changes, each time is later by exactly their seconds, and none of the nine is earlier.
+-- Assumes nothing.
 use Rattle.prelude.proofs.Logic.{_≡_, refl, sym, ap, subst, _∙_, _^_, _<_, arith, lit≤, ℤ, pos, negsuc, _+ℤ_, _-ℤ_, _*ℤ_, +ℤ-assoc}
 use Rattle.integers.proofs.Integers.{Near, _≼_, same, sum, difference, times, wider, natural-between, sum-between, difference-between}
 use Rattle.integers.proofs.Integers.{to-le}
@@ -24,7 +24,7 @@ use Rattle.schedule_laws.specs.Later.{withMinutes, NoneEarlier, laterBy,
 use Rattle.schedule_laws.proofs.Spans.{fajr-between, final-between}
 use Rattle.schedule_laws.proofs.SunSpans.{Days, SunHour, Sun, Three, night-days, seventh-days}
 
--- ---- adjusting by one number of minutes and by another
+-- ---- a time adjusted by two numbers of minutes
 adjusted-again : (t a b : ℤ) → adjustedOf t b ≡ adjustedOf t a +ℤ (b -ℤ a) *ℤ pos 60
 unfolding adjustedOf
 adjusted-again t a b =
@@ -41,14 +41,14 @@ rounded-again : (r : Rounding) (t a b : ℤ) → roundedOf r (adjustedOf t b) �
 rounded-again r t a b =
     rounded-adjusted r t b ∙ adjusted-again (roundedOf r t) a b ∙ ap (λ (x : ℤ). x +ℤ (b -ℤ a) *ℤ pos 60) (sym (rounded-adjusted r t a))
 
--- from 0h of the date on
+-- the same with 0h of the date added to both
 moved-on : (start x y d : ℤ) → y ≡ x +ℤ d → start +ℤ y ≡ start +ℤ x +ℤ d
 moved-on start x y d e = ap (λ (z : ℤ). start +ℤ z) e ∙ sym (+ℤ-assoc start x d)
 
 later-on : (start x y : ℤ) → x ≼ y → start +ℤ x ≼ start +ℤ y
 later-on start x y h = let s = sum start x in let r = sum start y in omega arith
 
--- what is later by more minutes is not earlier
+-- a time with no fewer minutes is not earlier
 not-earlier : (x y a b : ℤ) → a ≼ b → y ≡ x +ℤ (b -ℤ a) *ℤ pos 60 → x ≼ y
 not-earlier x y a b h e =
     let d = difference b a in
@@ -56,7 +56,7 @@ not-earlier x y a b h e =
     let s = sum x ((b -ℤ a) *ℤ pos 60) in
     subst (λ (w : ℤ). x ≼ w) (sym e) (omega (arith, d .0, d .1))
 
--- ---- maghrib and tomorrow's Fajr are near enough that every night is short, whatever the parameters
+-- ---- for all parameters, maghrib and tomorrow's Fajr are near 0h, so every night is short enough
 before-near : (p : Parameters) (season : Season) (date : Date) (night : ℤ) → Near (2 ^ 31) (beforeSunriseOf p season date night)
 unfolding beforeSunriseOf
 before-near p season date night = short-near _
@@ -88,7 +88,7 @@ module _ (m f m' f' : ℤ) (later : m ≼ m') (later-fajr : f ≼ f') (h : Small
   qiyam-moved =
       rounded-mono Nearest (m +ℤ lastThirdOf (f -ℤ m)) (m' +ℤ lastThirdOf (f' -ℤ m')) (last-third-later m f m' f' later later-fajr h h')
 
--- ---- each time, where the minutes are others and nothing else is
+-- ---- each time, if only the minutes change
 module _ (p : Parameters) (minutes : TimeAdjustment) where
   abbrev pub q : Parameters
   q = withMinutes p minutes

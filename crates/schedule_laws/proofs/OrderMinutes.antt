@@ -1,4 +1,4 @@
--- How large the sums of an order's minutes can be: no method brings more than 7 minutes, and no order more than 720. Assumes nothing.
+-- How large the sums of an order's minutes can be: no method adds more than 7 minutes, and no order more than 720. Assumes nothing.
 use Rattle.prelude.proofs.Logic.{_≡_, sym, subst, ℕ, _^_, _≤_, arith, lit≤, pos}
 use Rattle.integers.proofs.Integers.{Near, flip, wider, sum-between}
 use Rattle.models.specs.declared.{adjustments.TimeAdjustment.TimeAdjustment, method.Method.Method, parameters.Parameters.Parameters}
@@ -55,6 +55,6 @@ module _ (p : Parameters) (allowed : ParametersInOrder p) (prayer : Prayer) wher
       sum-between (allowed .own prayer)
       (subst (λ (m : TimeAdjustment). Near 7 (minutesFor prayer m)) (sym (allowed .preset)) (presets-near (p .method) prayer))
 
-  -- so the laws of later minutes hold of them
+  -- so the laws of later minutes apply to them
   pub sums-held : Near (2 ^ 32) (timeAdjustmentsOf p prayer)
   sums-held = wider sums-near (lit≤ tt) (lit≤ tt)

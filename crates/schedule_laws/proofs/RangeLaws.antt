@@ -1,4 +1,4 @@
--- Every time lies by its date, and its days print as one digit: the statements of specs/Range. Assumes nothing.
+-- Every time is near its date, and its days print as one digit: the statements of specs/Range. Assumes nothing.
 use Rattle.prelude.proofs.Logic.{_≡_, subst, ℕ, _-_, _*_, _≤_, _<_, arith, lit≤, ℤ, pos, negsuc, _+ℤ_, _-ℤ_}
 use Rattle.integers.proofs.Integers.{P, N, Between, Near, floorQuot, same, sum, difference, wider, sum-between, difference-between}
 use Rattle.integers.proofs.Integers.{natural-between, toward-between}
@@ -53,7 +53,7 @@ unfolding startedOf
 started-close date t h =
     record { named = λ prayer. started-named date t h prayer; «middle_of_the_night» = on-date date (h .«middle_of_the_night») }
 
--- ---- what lies between maghrib and tomorrow's Fajr, and is rounded
+-- ---- the middle of the night and qiyam: they are between maghrib and tomorrow's Fajr, and are rounded
 abbrev Closer : ℤ → Type 0
 Closer x = Between (4 * 86400 - 60) (5 * 86400 - 61) x
 
@@ -79,7 +79,7 @@ module _ (p : Parameters) (allowed : ParametersInOrder p) (season : Season) (the
   final : (prayer : Prayer) {x : ℤ} → Days 1 2 x → Closer (finalOf p prayer x)
   final prayer h = wider (final-between p prayer h (minutes prayer)) (lit≤ tt) (lit≤ tt)
 
-  -- of the next date, from 0h of this one
+  -- the next date's Fajr, from 0h of this date
   tomorrow : (today next : SolarTime) (hour : SolarHour) → Sun today → Sun next → SunHour hour
       → Closer (fajrTomorrowOf p season date today next hour)
   unfolding fajrTomorrowOf

@@ -1,4 +1,4 @@
--- How far Fajr and Isha lie from 0h of their date, by how far the sun's times lie and what is added to them. Assumes nothing.
+-- How far Fajr and Isha are from 0h of their date, by how far the sun's times are and what is added to them. Assumes nothing.
 use Rattle.prelude.proofs.Logic.{_≡_, refl, ℕ, _+_, _*_, _≤_, arith, ℤ, pos, _+ℤ_, ltZ}
 use lib.Ieee.{Float}
 use Rattle.integers.proofs.Integers.{Between, Near, sum, by-balance, wider, sum-between, difference-between, either-between}
@@ -41,7 +41,7 @@ earlier-between {a} {b} {x} {y} h k = either-between (ltZ y x) k h
 pub next-day-between : (a : ℕ) {b : ℕ} {x : ℤ} → Between (86400 + a) b x → Between a (b + 86400) (nextDayOf x)
 next-day-between a {b} {x} h = let s = sum x (pos 86400) in by-balance a (b + 86400) (x +ℤ pos 86400) (omega arith) (omega arith)
 
--- what is added to sunrise lies from -c to d, and so does what a seventh of the night adds
+-- -c to d seconds are added to sunrise, by the bound and also by a seventh of the night
 pub fajr-between : {a b c d : ℕ} (p : Parameters) (season : Season) (date : Date) (today next : SolarTime) (hour : SolarHour)
     → HourBetween a b hour → Between a b (today .sunrise)
     → Between d c (seventhOf (nightOf today next)) → Between c d (beforeSunriseOf p season date (nightOf today next))

@@ -1,5 +1,5 @@
--- The definitions round a time counted from 0h of its date, and add the date in the end. Counted from 1970 on, as the papers and the crate
--- count, it is rounded to the same. Assumes nothing.
+-- The definitions round a time counted from 0h of its date, and add the date last. The papers and the crate count from 1970 on: the rounded
+-- time is the same. Assumes nothing.
 use Rattle.prelude.proofs.Logic.{_≡_, sym, ap, _∙_, arith, ℤ, pos, _+ℤ_, _*ℤ_, +ℤ-comm}
 use Rattle.integers.proofs.Integers.{same, times}
 use Rattle.calendar.specs.Days.{dayNumberOf}
@@ -9,7 +9,7 @@ use Rattle.rounding.specs.Times.{roundedOf, adjustedOf}
 use Rattle.rounding.proofs.TimesLaws.{rounded-adjusted}
 use Rattle.schedule.specs.Times.{startOf}
 
--- 0h of a date is so many whole minutes from 1970
+-- 0h of a date is a whole number of minutes from 1970
 minutes-to : (date : Date) → startOf date ≡ dayNumberOf date *ℤ pos 1440 *ℤ pos 60
 unfolding startOf
 minutes-to date =

@@ -1,5 +1,5 @@
--- How far the sun's times, Fajr and Isha lie from 0h of their date, for what an order can hold. All in whole days: the sun's times go no
--- further than a day back and two days on. Assumes nothing.
+-- How far the sun's times, Fajr and Isha are from 0h of their date, for all values that an order can hold. All bounds are whole days: the
+-- sun's times are from one day before 0h to two days after it. Assumes nothing.
 use Rattle.prelude.proofs.Logic.{_≡_, sym, subst, cond, ℕ, _+_, _*_, _≤_, arith, lit<, lit≤, ℤ, pos, ltZ, cases}
 use lib.Ieee.{Float}
 use Rattle.float64.specs.Ops.{dec}
@@ -30,7 +30,7 @@ use Rattle.order.specs.Ranges.{mostAngle}
 use Rattle.order.specs.Accepted.{LatitudeInOrder, ParametersInOrder}
 use Rattle.schedule_laws.proofs.Spans.{HourBetween, hour-wider, own-between, earlier-between, next-day-between, fajr-between}
 
--- from so many days before 0h of a date to so many after it
+-- from `a` days before 0h of a date to `b` days after it
 abbrev pub Days : ℕ → ℕ → ℤ → Type 0
 Days a b z = Between (a * 86400) (b * 86400) z
 
@@ -58,7 +58,7 @@ pub record Three (suns : ThreeSuns) : Type 0 where
   pub tomorrow : Sun (suns .tomorrow)
   pub after : Sun (suns .after)
 
--- where the row is not refused
+-- if the row is not refused
 abbrev pub Row : Suns → Type 0
 Row (Whole suns) = Three suns
 Row (Refused r) = 0 ≤ 0
@@ -122,7 +122,7 @@ module _ (p : Parameters) (season : Season) (allowed : ParametersInOrder p) (the
   long : Days 2 4 night
   long = night-days today next sun sun-next
 
-  -- what the source's casts give
+  -- the seconds that the source's casts give
   abbrev before-cast : ℤ
   before-cast = cond (bySeasonOf (p .method)) (morningSecondsOf season (ordinalOf date) (date .year))
       (portionBeforeOf (nightPortionsOf p .fajr) night)
@@ -152,7 +152,7 @@ module _ (p : Parameters) (season : Season) (allowed : ParametersInOrder p) (the
       (allowed .«isha_angle»)) (wider l (lit≤ tt) (lit≤ tt)) in
       record { from = omega (arith, b .1); to = omega (arith, b .0) }
 
-  -- an i32 holds them: the bounds use the source's seconds
+  -- an i32 holds them, so the bounds use the source's seconds
   pub before-source : beforeSunriseOf p season date night ≡ before-cast
   unfolding beforeSunriseOf
   before-source = short-is before-cast (wider before-days (lit≤ tt) (lit≤ tt))

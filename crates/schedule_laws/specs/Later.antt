@@ -1,6 +1,6 @@
 -- Two sets of parameters that differ only in a school's own minutes (demand 3): what the second's larger sums do to the days that are
--- refused, to the nine times and to the prayer in force. For all hour numbers, either rule at midnight and in the south, every date and
--- every latitude. Proved in proofs/LaterLaws.
+-- refused, to the nine times and to the prayer in force. This holds for all hour numbers, both rules at midnight and in the south, every
+-- date and every latitude. Proved in proofs/LaterLaws.
 use mathlib.Core.Path.{_≡_}
 use Prim.Native.Nat.{_^_, _≤_, _<_}
 use mathlib.Core.Bool.{true}
@@ -45,7 +45,7 @@ withMinutes p minutes =
       shafaq = p .shafaq;
     }
 
--- Qiyam and tomorrow's Fajr have no minutes: their sums are 0. Any two i32 have a sum within 2 ^ 32.
+-- Qiyam and tomorrow's Fajr have no minutes, so their sums are 0. The sum of two i32 is always within 2 ^ 32.
 pub record LaterMinutes (p q : Parameters) : Type 0 where
   pub alike : withMinutes p (q .adjustments) ≡ q
   pub more : (prayer : Prayer) → leZ (timeAdjustmentsOf p prayer) (timeAdjustmentsOf q prayer) ≡ true
@@ -65,7 +65,7 @@ pub record NoneEarlier (t u : PrayerTimes) : Type 0 where
   pub «fajr_tomorrow» : leZ (t .«fajr_tomorrow») (u .«fajr_tomorrow») ≡ true
 
 -- ---- "each of its six daily times is later by exactly the difference of the two sums for it, and tomorrow's Fajr by exactly Fajr's
--- difference" 60 seconds for each minute of difference
+-- difference": 60 seconds for each minute
 abbrev pub laterBy : Parameters → Parameters → Prayer → ℤ
 laterBy p q prayer = (timeAdjustmentsOf q prayer -ℤ timeAdjustmentsOf p prayer) *ℤ pos 60
 
@@ -78,14 +78,14 @@ pub record ExactlyLater (p q : Parameters) (t u : PrayerTimes) : Type 0 where
   pub isha : u .isha ≡ t .isha +ℤ laterBy p q Isha
   pub «fajr_tomorrow» : u .«fajr_tomorrow» ≡ t .«fajr_tomorrow» +ℤ laterBy p q Fajr
 
--- ---- "an instant .. ordered by whole seconds, then nanoseconds": which is the order by the nanoseconds from 1970 on, since an instant's
--- are less than a second
+-- ---- "an instant .. ordered by whole seconds, then nanoseconds": this is the order by nanoseconds from 1970 on, since the nanoseconds of
+-- an instant are less than a second
 abbrev pub NotAfterByNanoseconds : Type 0
 NotAfterByNanoseconds =
     (j i : Instant) → j .nanoseconds < inSecond → i .nanoseconds < inSecond
     → (NotAfter j i → leZ (nanosecondsOf j) (nanosecondsOf i) ≡ true) × (leZ (nanosecondsOf j) (nanosecondsOf i) ≡ true → NotAfter j i)
 
--- ---- demand 3 of one day, w under the first and v under the second
+-- ---- demand 3 for one day: w is the day under the first parameters, v under the second
 pub record Moved (p q : Parameters) (w v : Worked) : Type 0 where
   -- the same days are refused, with the same number and place
   pub refused : (r : Refusal) → w ≡ Refused r → v ≡ Refused r
@@ -102,7 +102,7 @@ LaterMinutesMoveTheDay =
     (rule : Midnight) (n : RowNumbers) (date : Date) (season : Season) (p q : Parameters) → LaterMinutes p q
     → Moved p q (workedOf (hoursOf rule n) date season p) (workedOf (hoursOf rule n) date season q)
 
--- from date and place on: the minutes change no hour number
+-- the same from a date and a place: the minutes change no hour number
 abbrev pub LaterMinutesMoveTheRow : Type 0
 LaterMinutesMoveTheRow =
     (date : Date) (place : Coordinates) (rules : Rules) (p q : Parameters) → LaterMinutes p q

@@ -1,5 +1,5 @@
--- Document 01: nine times, "each as signed days from the row's date". Those days have one digit: for all hour numbers, either rule at
--- midnight and in the south, every date, and every latitude and parameters that an order can hold. Proved in proofs/RangeLaws.
+-- Document 01: nine times, "each as signed days from the row's date". Those days have one digit, for all hour numbers, both rules at
+-- midnight and in the south, every date, and all latitudes and parameters that an order can hold. Proved in proofs/RangeLaws.
 use mathlib.Core.Path.{_≡_}
 use Prim.Native.Nat.{_*_, _≤_, _<_}
 use lib.IntN.{ℤ, _-ℤ_}
@@ -23,7 +23,7 @@ pub record OfDate (date : Date) (time : ℤ) : Type 0 where
   pub from : N (time -ℤ startOf date) ≤ 4 * 86400
   pub before : P (time -ℤ startOf date) < 5 * 86400
 
--- all nine: those that a prayer names, and the middle of the night
+-- all nine times: the eight that a prayer names, and the middle of the night
 pub record AllOfDate (date : Date) (t : PrayerTimes) : Type 0 where
   pub named : (prayer : Prayer) → OfDate date (timeOf t prayer)
   pub «middle_of_the_night» : OfDate date (t .«middle_of_the_night»)

@@ -1,4 +1,4 @@
--- A sentence has its number and its place where they are looked for; a place has ten digits at most. Assumes nothing.
+-- The code looks for a sentence's number and place where they are; a place has ten digits at most. Assumes nothing.
 use Rattle.prelude.proofs.Logic.{_≡_, refl, ap, subst, _∙_, true, cond, List, [], _∷_, _++_, ℕ, zero, suc, _+_, _-_, _*_, _/_, _^_, _≤_}
 use Rattle.prelude.proofs.Logic.{_<_, pow-suc, div-lt-iff-lt-mul, arith, ltb, length, List·getD-append, lt-ltb, le-leb, ltb-true, cases}
 use Rattle.text.specs.Text.{ascii, digitOf, digitsOf, decimalOf}
@@ -11,7 +11,7 @@ number-append t r h =
     let a = List·getD-append t r 0 8 (omega arith) in let b = List·getD-append t r 0 9 (omega arith) in
     rw (a, b)
 
--- ---- ten digits are enough below 2^32: more than a number has change nothing
+-- ---- ten digits are enough below 2^32: one digit more than a number has changes nothing
 more : (k n : ℕ) → n < 10 ^ suc k → digitsOf (suc k) n ≡ digitsOf (suc (suc k)) n
 unfolding digitsOf
 more zero n h = rw (lt-ltb n 10 (omega arith))
@@ -55,7 +55,7 @@ digits-back (suc k) n h f =
     ∙ ap (λ (v : ℕ). longer v (digitOf n)) (digits-back k (n / 10) (div-lt-iff-lt-mul (omega arith) .1 below) (omega arith))
     ∙ last-digit (n / 10) n refl f))
 
--- the blank begins the place anew, whatever the words are
+-- the blank starts the place again, so the words do not matter
 pub place-back : (words : List ℕ) (p : ℕ) → p < none → placeIn 0 (words ++ ascii " " ++ decimalOf p) ≡ p
 unfolding placeIn
 place-back words p h =

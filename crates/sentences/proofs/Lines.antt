@@ -1,4 +1,4 @@
--- What holds of each line of the two tables, by tests that antt computes over them: a new line needs no new proof. Assumes nothing.
+-- What is true of each line of the two tables, by tests that antt computes over them. A new line needs no new proof. Assumes nothing.
 use Rattle.prelude.proofs.Logic.{_≡_, refl, sym, ap, subst, _∙_, Bool, true, false, _&&_, List, [], _∷_, ℕ, zero, suc, _+_, _≤_, _<_}
 use Rattle.prelude.proofs.Logic.{zero-add, add-zero, suc-add, add-suc, arith, T, leb, eqb, leb→le, eqb→eq, length, getD, take, ltb-true}
 use Rattle.prelude.proofs.Logic.{and-l, and-r}

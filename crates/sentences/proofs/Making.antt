@@ -1,4 +1,4 @@
--- The line that is made of the words, a blank and the place's digits, and the answers of the two calls. Assumes nothing.
+-- The line that is made of the words, a blank and the place's digits, and what the two calls return. Assumes nothing.
 use Rattle.prelude.proofs.Logic.{_≡_, refl, sym, ap, _∙_, true, false, cond, _&&_, List, [], _∷_, _++_, ℕ, _+_, _≤_, _<_, arith, ltb}
 use Rattle.prelude.proofs.Logic.{length, take, drop, length-append, length-drop, lt-ltb, le-ltb, le-leb, lt-leb, ltb-false, cases}
 use Rattle.text.specs.Text.{ascii, decimalOf, putOf, frontOf}

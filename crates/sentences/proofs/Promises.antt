@@ -23,7 +23,7 @@ use Rattle.sentences.proofs.Guessing.{number-append, ten-digits, place-
 use Rattle.sentences.proofs.Comparing.{same-itself, same-only}
 
 -- ---- the numbers that have a sentence
--- a number over the largest of some is none of them
+-- a number over the largest in a list is not in the list
 upTo : ℕ → List ℕ → Bool
 upTo most [] = true
 upTo most (x ∷ xs) = leb x most && upTo most xs
@@ -79,7 +79,7 @@ pub words-alone : (n p : ℕ) → endsInColon (textOf n) ≡ false → wordsOf n
 unfolding wordsOf
 words-alone n p e = rw e
 
--- what holds of the words that begin with a text
+-- what is true of the words that begin with a text
 record Begun (text words : List ℕ) : Type 0 where
   short : length words ≤ widest + widestName
   long : length text ≤ length words
@@ -128,7 +128,7 @@ printed n p h =
     (omega arith, rw (sentence-known n p k) (printable-append (wordsOf n p ++ ascii " ") (decimalOf p) c (printable-digits 20 p))))
     (λ k. rw (sentence-unknown n p k) (omega arith, refl))
 
--- ---- a sentence is read back, by what the code does
+-- ---- the code's way reads a sentence back
 guessed-at : (bytes : List ℕ) (n p : ℕ) → numberIn bytes ≡ n → placeIn 0 bytes ≡ p → p < none → known n ≡ true
     → same (sentenceOf n p) bytes ≡ true
     → guessedOf bytes ≡ meant n p
@@ -153,7 +153,7 @@ guessed-back bytes n p s =
     k
     (ap (same (sentenceOf n p)) (s .sentence) ∙ same-itself (sentenceOf n p))
 
--- ---- and no other bytes are
+-- ---- and it reads no other bytes
 module _ (bytes : List ℕ) where
   abbrev n : ℕ
   n = numberIn bytes
@@ -174,8 +174,8 @@ module _ (bytes : List ℕ) where
       let u = and-eq-true-iff (ltb p none) (known n) .0 (t .0) in
       record { number = u .1; place = ltb-true p none (u .0); sentence = sym (same-only (sentenceOf n p) bytes (t .1)) }
 
--- ---- which is what the definition finds among all sentences. A sentence that it meets is the guessed one, since that is read back; so
--- going on changes nothing, and the guessed one is met.
+-- ---- the definition, which tries all sentences, finds the same. Each sentence that it finds is the guessed one, since that one is read
+-- back. So the search meets the guessed one, and going on changes nothing.
 module _ (bytes : List ℕ) where
   met : (n p : ℕ) → known n ≡ true → p < none → same (sentenceOf n p) bytes ≡ true → meant n p ≡ guessedOf bytes
   met n p k h s = sym (guessed-back bytes n p (record { number = k; place = h; sentence = sym (same-only (sentenceOf n p) bytes s) }))
@@ -244,7 +244,7 @@ different bytes n m p q s u =
     let e : meant n p ≡ meant m q = sym (read-back bytes n p s) ∙ read-back bytes m q u in
     (ap (λ (r : Meaning). r .«of_number») e, ap (λ (r : Meaning). r .«of_place») e)
 
--- ---- nothing else is read
+-- ---- nothing but sentences is read
 pub reads-only-sentences : ReadsOnlySentences
 reads-only-sentences bytes =
     cases (test bytes)

@@ -23,16 +23,16 @@ numberIn bytes =
 abbrev pub none : ℕ
 none = 2 ^ 32
 
--- a number and one byte more: a digit makes it longer, as far as a place can be, and any other byte begins anew
+-- a number and one byte more: a digit makes it longer, up to `none`, and any other byte starts again from 0
 abbrev pub longer : ℕ → ℕ → ℕ
 longer v b = cond (isDigit b) (cond (ltb (10 * v + (b - 48)) none) (10 * v + (b - 48)) none) 0
 
--- the number at the end of the bytes, v being the one that was read before them
+-- the number at the end of the bytes; v is the number that was read before them
 unfoldable pub placeIn : ℕ → List ℕ → ℕ
 placeIn v [] = v
 placeIn v (b ∷ bs) = placeIn (longer v b) bs
 
--- the bytes say the number and the place found in them, if they are the sentence of these two, byte for byte
+-- the bytes say the number and the place found in them if they are exactly the sentence of these two
 unfoldable pub guessedOf : List ℕ → Meaning
 guessedOf bytes =
     let n = numberIn bytes in

@@ -41,7 +41,7 @@ pub data ReadAsSentence (bytes : List ℕ) : Meaning → Type 0 where
 abbrev pub ReadsOnlySentences : Type 0
 ReadsOnlySentences = (bytes : List ℕ) → ReadAsSentence bytes (meaningOf bytes)
 
--- "is written at the front of a lent buffer": a buffer with room has the sentence there and else its own bytes, and it is read back
+-- "is written at the front of a lent buffer": a buffer with room has the sentence there, then its own bytes, and the sentence is read back
 abbrev pub WrittenAndRead : Type 0
 WrittenAndRead = (buffer : List ℕ) (n p : ℕ) → known n ≡ true → p < 2 ^ 32 → length (sentenceOf n p) ≤ length buffer
     → (sentenceCallOf n p buffer .buffer ≡ frontOf (sentenceOf n p) buffer)

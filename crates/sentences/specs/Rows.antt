@@ -5,7 +5,7 @@ use mathlib.Core.List.{List, [], _∷_}
 use lib.Dec.{eqb}
 use lib.ListN.{getD}
 
--- the longest that a text can be, and that a name can be: with a blank and ten digits they make a hundred bytes
+-- the longest text and the longest name: with a blank and ten digits they are a hundred bytes
 abbrev pub widest : ℕ
 widest = 64
 
@@ -17,7 +17,7 @@ filled zero text = []
 filled (suc k) [] = 32 ∷ filled k []
 filled (suc k) (b ∷ bs) = b ∷ filled k bs
 
--- behind the last byte of the first k that is not a blank
+-- where a row's text ends: after the last of the first k bytes that is not a blank
 unfoldable pub endOf : List ℕ → ℕ → ℕ
 endOf row zero = 0
 endOf row (suc k) = cond (eqb (getD row k 0) 32) (endOf row k) (suc k)

@@ -18,7 +18,7 @@ endsInColon text = eqb (getD text (length text - 1) 0) 58
 unfoldable pub wordsOf : ℕ → ℕ → List ℕ
 wordsOf n p = cond (endsInColon (textOf n)) (textOf n ++ nameOf p) (textOf n)
 
--- the words, a blank and the place: `Refusal 4: the order lacks a field: method, tag 6`. A number that is not known has none
+-- the words, a blank and the place: `Refusal 4: the order lacks a field: method, tag 6`. An unknown number has no sentence
 unfoldable pub sentenceOf : ℕ → ℕ → List ℕ
 sentenceOf n p = cond (known n) (wordsOf n p ++ ascii " " ++ decimalOf p) []
 
@@ -60,12 +60,12 @@ same [] (b ∷ bs) = false
 same (a ∷ ts) [] = false
 same (a ∷ ts) (b ∷ bs) = cond (eqb a b) (same ts bs) false
 
--- the bytes are the sentence of number n and one of the k lowest places; else what is given
+-- the meaning of bytes that are the sentence of number n and one of the k lowest places; else `other`
 unfoldable pub amongPlaces : List ℕ → ℕ → ℕ → Meaning → Meaning
 amongPlaces bytes n zero other = other
 amongPlaces bytes n (suc k) other = cond (same (sentenceOf n k) bytes) (meant n k) (amongPlaces bytes n k other)
 
--- they are the sentence of one of some numbers and any place, which is a u32; else none
+-- the meaning of bytes that are the sentence of one of some numbers and any place, which is a u32; else none
 unfoldable pub amongNumbers : List ℕ → List ℕ → Meaning
 amongNumbers bytes [] = noSentence
 amongNumbers bytes (n ∷ rest) = amongPlaces bytes n (2 ^ 32) (amongNumbers bytes rest)

@@ -1,4 +1,4 @@
--- The words of the refusals: a line a number, and a line a tag, both from 0 on. A new one is a line here and the same in src/table.rt.
+-- The words of the refusals: a line for each number and for each tag, from 0 on. A new one is a line here and one in src/table.rt.
 use Prim.Native.Nat.{ℕ}
 use mathlib.Core.Bool.{Bool}
 use mathlib.Core.List.{List, [], _∷_}
@@ -6,8 +6,8 @@ use lib.Dec.{ltb}
 use lib.ListN.{length, getD}
 use Rattle.text.specs.Text.{ascii}
 
--- Each begins with its number, and behind it comes the place. One that ends in a colon has a tag as its place, whose name comes between.
--- A number that is not known has an empty line.
+-- Each text begins with its number, and the place follows it. If it ends in a colon, its place is a tag, and the tag's name comes before
+-- the place. An unknown number has an empty line.
 unfoldable pub texts : List (List ℕ)
 texts =
     []
@@ -31,7 +31,7 @@ texts =
     ∷ ascii "Refusal 18: the sheet does not begin on the 1st of Ramadan:"
     ∷ []
 
--- the first is for every tag that has no name here; a tag between that has not come yet has the same
+-- the first line is for every tag that has no name; a tag number that is skipped has the same line
 unfoldable pub names : List (List ℕ)
 names =
     ascii " tag"

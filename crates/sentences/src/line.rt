@@ -12,7 +12,7 @@ use super::table::text_row;
 use text::decimal::put_decimal;
 use text::put::put;
 
-// Whether the text that ends there has a tag as its place.
+// Whether the text ends in a colon. If it does, its place is a tag.
 fn ends_in_colon(row: [u8; WIDEST], end: usize) -> bool
     requires { ⌜ end ≤ widest ⌝ }
     ensures { λ r. ⌜ r ≡ endsInColon (take end row) ⌝ }
@@ -23,7 +23,7 @@ fn ends_in_colon(row: [u8; WIDEST], end: usize) -> bool
     row[end - 1] == 58
 }
 
-// Writes the words before the place. Returns their length, or 0 for a number that is not known.
+// Writes the words before the place. Returns their length, or 0 for an unknown number.
 fn put_words(line: &mut [u8; 100], number: u32, place: u32) -> usize
     ensures { λ r. ⌜ r ≡ length (wordsOf number place) ⌝ }
     ensures { λ _. ⌜ now (line .exit) ≡ frontOf (wordsOf number place) (now (line .entry)) ⌝ }
@@ -40,7 +40,7 @@ fn put_words(line: &mut [u8; 100], number: u32, place: u32) -> usize
     end + length
 }
 
-// Writes the sentence. Returns its length, or 0 for a number that is not known.
+// Writes the sentence. Returns its length, or 0 for an unknown number.
 pub fn put_sentence(line: &mut [u8; 100], number: u32, place: u32) -> usize
     ensures { λ r. ⌜ r ≡ length (sentenceOf number place) ⌝ }
     ensures { λ _. ⌜ now (line .exit) ≡ frontOf (sentenceOf number place) (now (line .entry)) ⌝ }

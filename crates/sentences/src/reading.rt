@@ -5,7 +5,7 @@ ghost use lib.ListN.{getD};
 ghost use Rattle.sentences.specs.Guess.{isDigit, numberIn, none, longer, placeIn};
 ghost use Rattle.sentences.specs.Sentences.{same};
 
-// No place: a place has 32 bits.
+// Not a place, since a place has 32 bits.
 pub const NONE: u64 = 0x1_0000_0000;
 
 fn is_digit(b: u8) -> bool
@@ -14,7 +14,7 @@ fn is_digit(b: u8) -> bool
     (48 <= b) & (b <= 57)
 }
 
-// A digit's number; 0 for a byte before the digits.
+// The value of a digit, or 0 for a byte below the digits.
 fn value(b: u8) -> u64
     ensures { λ r. ⌜ (r ≡ b - 48) × (r ≤ 207) ⌝ }
 {
@@ -24,7 +24,7 @@ fn value(b: u8) -> u64
     (b - 48) as u64
 }
 
-// A byte; 0 past the end.
+// The byte at `at`, or 0 past the end.
 fn byte(bytes: &[u8], at: usize) -> u8
     ensures { λ r. ⌜ r ≡ getD (now (bytes .entry)) at 0 ⌝ }
 {
@@ -34,7 +34,7 @@ fn byte(bytes: &[u8], at: usize) -> u8
     0
 }
 
-// The number that a sentence would say.
+// The number that the bytes say if they are a sentence.
 pub fn number_in(bytes: &[u8]) -> u32
     ensures { λ r. ⌜ r ≡ numberIn (now (bytes .entry)) ⌝ }
 {
@@ -46,7 +46,7 @@ pub fn number_in(bytes: &[u8]) -> u32
     tens
 }
 
-// A number and one byte more.
+// The number with one byte more. A byte that is not a digit starts it again from 0.
 fn lengthen(v: u64, b: u8) -> u64
     requires { ⌜ v ≤ none ⌝ }
     ensures { λ r. ⌜ (r ≡ longer v b) × (r ≤ none) ⌝ }
@@ -61,7 +61,7 @@ fn lengthen(v: u64, b: u8) -> u64
     NONE
 }
 
-// The place that a sentence would say, or NONE.
+// The place that the bytes say if they are a sentence, or NONE.
 pub fn place_in(bytes: &[u8]) -> u64
     ensures { λ r. ⌜ r ≡ placeIn 0 (now (bytes .entry)) ⌝ }
 {

@@ -22,7 +22,7 @@ fn refuse(number: u32) -> WrittenSentence
     }
 }
 
-// The sentence is made by itself first: so a number that is not known is told before the buffer is looked at, and a buffer without room
+// The sentence is made apart from the buffer first. So an unknown number is refused before the buffer is checked, and a buffer without room
 // keeps every byte.
 pub fn write_sentence(number: u32, place: u32, buffer: &mut [u8]) -> WrittenSentence
     ensures { λ r. ⌜ r ≡ sentenceCallOf number place (now (buffer .entry)) .answer ⌝ }
@@ -55,8 +55,8 @@ fn no_sentence() -> Meaning
     }
 }
 
-// The number and the place are taken from where a sentence has them, and their sentence is compared whole. So no byte can be wrong, and
-// leading zeros, signs and bytes behind the sentence need no rule of their own.
+// The number and the place are read where a sentence has them, and then their whole sentence is compared with the bytes. So no wrong byte
+// passes, and leading zeros, signs and bytes after the sentence need no rule of their own.
 pub fn read_sentence(bytes: &[u8]) -> Meaning
     ensures { λ r. ⌜ r ≡ meaningOf (now (bytes .entry)) ⌝ }
 {

@@ -1,14 +1,14 @@
-// The words of the refusals, by number and by tag. They are those of specs/Table.antt, each line filled up with blanks.
+// The words of the refusals, by number and by tag. They are those of specs/Table.antt, but each line is filled up with blanks.
 ghost use mathlib.Core.Path.{_≡_};
 ghost use Rattle.sentences.specs.Table.{textOf, nameOf};
 ghost use Rattle.sentences.specs.Rows.{filled, endOf, widest};
 
-// One more than the last number, and than the last tag.
+// Each is one more than the last number, or the last tag.
 const NUMBERS: usize = 19;
 
 const TAGS: usize = 21;
 
-// The longest that a text can be.
+// The bytes of a line, the longest that a text can be.
 pub const WIDEST: usize = 64;
 
 const TEXTS: [[u8; WIDEST]; NUMBERS] = [
@@ -57,7 +57,7 @@ const NAMES: [[u8; WIDEST]; TAGS] = [
     *b" ramadan, tag                                                   ",
 ];
 
-// A number's text; blanks alone for a number that is not known.
+// A number's text. An unknown number has only blanks.
 pub fn text_row(number: u32) -> [u8; WIDEST]
     ensures { λ r. ⌜ r ≡ filled widest (textOf number) ⌝ }
 {
@@ -79,7 +79,7 @@ pub fn name_row(tag: u32) -> [u8; WIDEST]
     NAMES[0]
 }
 
-// Where a row's text ends: behind the last byte that is not a blank.
+// Where a row's text ends: after the last byte that is not a blank.
 pub fn end_of(row: [u8; WIDEST]) -> usize
     ensures { λ r. ⌜ r ≡ endOf row widest ⌝ }
 {

@@ -1,4 +1,5 @@
-// Reads an order on standard input and prints its sheet. One byte more than an order may have is enough to know that it is too long.
+// Reads an order from standard input and prints its sheet. The buffer has one byte more than an order may have, so that a longer order is
+// refused.
 use sheets::sheet::write_sheet;
 
 fn main() {

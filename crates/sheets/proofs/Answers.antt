@@ -26,7 +26,7 @@ module _ (o : Order) (row : ℕ) (buffer : List ℕ) where
   unfolding workRowOf workedCallOf
   row-lacking h = (simp (le-ltb row (o .rows) h), simp (le-ltb row (o .rows) h))
 
-  -- the room that the order's rows take
+  -- the buffer is shorter than a row of this order
   pub room-short : length buffer < rowRoom (o .ramadan) → (refusal 9 0 ≡ readCallOf o row buffer .answer)
       × (buffer ≡ readCallOf o row buffer .buffer)
   unfolding readCallOf

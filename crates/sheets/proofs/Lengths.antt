@@ -13,7 +13,7 @@ use Rattle.text.specs.Text.{putOf, frontOf}
 use Rattle.text.proofs.TextLaws.{put-behind, put-next, put-nothing}
 use Rattle.sheets.specs.Rows.{headerText, headText, linesText, acceptedText}
 
--- 64 bytes without imsak, 70 with it; and with all rows of the order no more than the longest sheet has room for
+-- the header has 64 bytes, or 70 with imsak. With all rows of the order it is no longer than the longest sheet
 pub room-enough : (o : Order) → Accepted o → length (headerText (o .ramadan)) + o .rows * rowRoom (o .ramadan) ≤ 64 + fullRow * mostRows
 unfolding headerText rowRoom
 room-enough o a =

@@ -1,4 +1,4 @@
--- Rows that roll, and the lines behind one another. Assumes nothing.
+-- The suns roll from row to row, and the rows' lines follow one another. Assumes nothing.
 use Rattle.prelude.proofs.Logic.{_≡_, ap, _∙_, List, ℕ, _+_, _*_, _≤_, _<_, mul-le-mul-right, arith, length}
 use Rattle.calendar.specs.Answers.{rowDateOf}
 use Rattle.days.proofs.RowStates.{stateOf, workedBySuns, state-worked}
@@ -22,7 +22,7 @@ state-line o a k h = ap (lineText (o .ramadan) (rowDateOf (o .date) k)) (state-w
 add-one-le : {k n : ℕ} → k < n → k + 1 ≤ n
 add-one-le h = omega arith
 
--- Before a row its suns are there, and the lines of those before it.
+-- Before a row: `suns` are its suns, and the lines of the earlier rows are in the buffer.
 pub record Run (o : Order) (buffer : List ℕ) (at : ℕ) (now : List ℕ) (suns : RowSuns) (row end : ℕ) : Type 0 where
   pub within : row < o .rows
   pub state : suns ≡ stateOf o row
@@ -30,7 +30,7 @@ pub record Run (o : Order) (buffer : List ℕ) (at : ℕ) (now : List ℕ) (suns
   pub place : end ≡ at + length (linesText o row)
   pub same : length now ≡ length buffer
 
--- behind it: the lines up to it, where they end, and that this is in the buffer
+-- after a row: the lines up to it are in the buffer, and `end` is where they end
 abbrev pub Behind : Order → List ℕ → ℕ → List ℕ → ℕ → ℕ → Type 0
 Behind o buffer at now row end = (now ≡ putOf buffer at (linesText o row)) × (end ≡ at + length (linesText o row)) × (end ≤ length buffer)
 

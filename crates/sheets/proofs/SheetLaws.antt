@@ -1,4 +1,4 @@
--- What is written of a sheet fits the buffer. Assumes nothing.
+-- A sheet that is written fits the buffer. Assumes nothing.
 use Rattle.prelude.proofs.Logic.{_≡_, List, ℕ, _≤_, arith, lit≤, length, length-append}
 use Rattle.order.proofs.AcceptedLaws.{read-accepted}
 use Rattle.order.proofs.ReadingLaws.{read-town}

@@ -38,7 +38,7 @@ workedCallOf ramadan date (worked.Times t) buffer =
     record { answer = noRefusal; buffer = frontOf (rowText date (columnsOf ramadan t)) buffer }
 workedCallOf ramadan date (worked.Refused r) buffer = refusing r buffer
 
--- of an order that is read. Request 12: a buffer "of 119 to 130" bytes is 9 "once the order is accepted with tag 20, before the row"
+-- for an order that is read. Request 12: a buffer "of 119 to 130" bytes is 9 "once the order is accepted with tag 20, before the row"
 unfoldable pub readCallOf : Order → ℕ → List ℕ → RowCall
 readCallOf o row buffer =
     cond (ltb (length buffer) (rowRoom (o .ramadan))) (refusing (refusal bufferShort 0) buffer)
@@ -74,11 +74,11 @@ acceptedText town o = headText (o .ramadan) town ++ linesText o (o .rows)
 abbrev pub sheetText : List ℕ → List ℕ
 sheetText s = reportText (acceptedText (townOf s)) s
 
--- the header, its newline and the town's
+-- the header, and a newline before and after it
 abbrev headerBytes : ℕ
 headerBytes = 64
 
--- the longest sheet: the longest town, the header, and all full rows that an order can have; a Ramadan sheet has thirty
+-- the longest sheet: the longest town, the header, and as many full rows as an order can have; a Ramadan sheet has thirty rows
 abbrev pub longestSheet : ℕ
 longestSheet = longestTown + headerBytes + fullRow * mostRows
 

@@ -1,4 +1,4 @@
-// A row's line at the front of a lent buffer. What is refused changes no byte of it.
+// A row's line at the front of a lent buffer. A refused call changes no byte of it.
 ghost use mathlib.Core.Path.{_≡_};
 ghost use Prim.Native.Nat.{_≤_};
 ghost use lib.ListN.{length};
@@ -50,7 +50,7 @@ fn work_and_write(order: Order, row: u32, buffer: &mut [u8]) -> Refusal
     lacks_row()
 }
 
-// A row of a Ramadan sheet is longer. Returns 9 if the buffer is shorter than it. This is checked before the row.
+// Returns 9 if the buffer is shorter than a row of this order: a row of a Ramadan sheet is longer. This is checked before the row.
 fn write_read(order: Order, row: u32, buffer: &mut [u8]) -> Refusal
     ensures { λ r. ⌜ r ≡ readCallOf order row (now (buffer .entry)) .answer ⌝ }
     ensures { λ _. ⌜ now (buffer .exit) ≡ readCallOf order row (now (buffer .entry)) .buffer ⌝ }

@@ -23,17 +23,17 @@ use schedule::prayer_times::Worked;
 use schedule::rolling::RowSuns;
 use text::put::put;
 
-// The header and a newline before and behind it.
+// The header, and a newline before and after it.
 const HEADER_BYTES: usize = 64;
 
 const RAMADAN_HEADER_BYTES: usize = 70;
 
-// What the longest sheet takes; a Ramadan sheet has thirty rows and is shorter.
+// The bytes of the longest sheet. A Ramadan sheet has thirty rows, so it is shorter.
 pub const SHEET_BYTES: usize = LONGEST_TOWN as usize
     + HEADER_BYTES
     + ROW_BYTES * MOST_ROWS as usize;
 
-// A row's line, or its refusal's.
+// Writes a row's line, or the line of its refusal. Returns its length.
 fn put_line(buffer: &mut [u8], at: usize, ramadan: Ramadan, date: Date, worked: Worked) -> usize
     ensures { λ r. ⌜ r ≡ length (lineText ramadan date worked) ⌝ }
     ensures { λ _. ⌜ now (buffer .exit) ≡ putOf (now (buffer .entry)) at (lineText ramadan date worked) ⌝ }
@@ -64,7 +64,7 @@ fn put_header(buffer: &mut [u8], at: usize, ramadan: Ramadan) -> usize
     HEADER_BYTES
 }
 
-// The town and the header.
+// Writes the town and the header. Returns their length.
 fn put_head(buffer: &mut [u8], ramadan: Ramadan, town: &[u8]) -> usize
     requires { ⌜ (length (now town) ≤ longestTown) × (longestSheet ≤ length (now buffer)) ⌝ }
     ensures { λ r. ⌜ r ≡ length (headText ramadan (now (town .entry))) ⌝ }
@@ -75,7 +75,7 @@ fn put_head(buffer: &mut [u8], ramadan: Ramadan, town: &[u8]) -> usize
     end + put_header(&mut buffer[..], end, ramadan)
 }
 
-// Writes the lines of all rows from an offset on and returns where they end. Each row takes over what it can from the one before it.
+// Writes the lines of all rows from `at` on, and returns where they end. Each row uses what the row before it has worked.
 fn put_rows(buffer: &mut [u8], at: usize, order: Order) -> usize
     requires { ⌜ Accepted order × (at + order .rows * rowRoom (order .ramadan) ≤ length (now buffer)) ⌝ }
     ensures { λ r. ⌜ r ≡ at + length (linesText order (order .rows)) ⌝ }
@@ -106,7 +106,7 @@ fn put_accepted(buffer: &mut [u8], town: &[u8], order: Order) -> usize
     put_rows(&mut buffer[..], head, order)
 }
 
-// Returns the length of the text. A buffer under SHEET_BYTES, which might not hold it, is left as it was, and 0 is returned.
+// Returns the length of the text. If the buffer is shorter than SHEET_BYTES, the longest text, it stays as it is and 0 is returned.
 pub fn write_sheet(order: &[u8], buffer: &mut [u8]) -> usize
     ensures { λ r. ⌜ r ≡ sheetCallOf (now (order .entry)) (now (buffer .entry)) .answer ⌝ }
     ensures { λ _. ⌜ now (buffer .exit) ≡ sheetCallOf (now (order .entry)) (now (buffer .entry)) .buffer ⌝ }

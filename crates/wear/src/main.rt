@@ -1,5 +1,5 @@
-// Reads an order on standard input and prints the dots that its pages punch. One byte more than an order may have is enough to know that it
-// is too long.
+// Reads an order from standard input and prints how many dots its pages punch. The buffer has one byte more than an order may have, so that
+// a longer order is refused.
 use pages::report::write_wear;
 
 fn main() {

@@ -1,5 +1,5 @@
-// Reads an order on standard input and prints the earliest and the latest Fajr of every seven successive rows. One byte more than an order
-// may have is enough to know that it is too long.
+// Reads an order from standard input and prints the earliest and the latest Fajr of every seven successive rows. The buffer has one
+// byte more than an order may have, so that a longer order is refused.
 use weeks::report::write_week;
 
 fn main() {

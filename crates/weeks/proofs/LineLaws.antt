@@ -8,11 +8,11 @@ use Rattle.weeks.specs.declared.window.Window.{Window}
 use Rattle.weeks.specs.declared.window.Window.the-variants.{Found, Refused}
 use Rattle.weeks.specs.Lines.{pairText, lineOf}
 
--- where a text that is put ends, and what it leaves in the buffer
+-- a text is put at `at`: it ends at `end`, and `now` is the buffer after it
 abbrev Put : List ℕ → ℕ → List ℕ → List ℕ → ℕ → Type 0
 Put buffer at text now end = (end ≡ at + length text) × (now ≡ putOf buffer at text)
 
--- a piece more
+-- one piece more
 more : (buffer now after : List ℕ) (at end k : ℕ) (text piece : List ℕ) → Put buffer at text now end → after ≡ putOf now end piece
     → k ≡ length piece → at + length text + length piece ≤ length buffer → Put buffer at (text ++ piece) after (end + k)
 more buffer now after at end k text piece p q e room =
@@ -23,7 +23,7 @@ more buffer now after at end k text piece p q e room =
           ∙ put-behind buffer text piece at (omega arith),
     )
 
--- the same by where the piece ends
+-- the same, if the end of the piece is given and not its length
 next : (buffer now after : List ℕ) (at end last : ℕ) (text piece : List ℕ) → Put buffer at text now end → after ≡ putOf now end piece
     → last ≡ end + length piece → at + length text + length piece ≤ length buffer → Put buffer at (text ++ piece) after last
 next buffer now after at end last text piece p q e room =
@@ -43,7 +43,7 @@ pub refused-bytes : (first : ℕ) → length (lineOf first Refused) ≡ length (
 unfolding lineOf
 refused-bytes first = simp length-append (omega arith)
 
--- either line begins with its first row
+-- both kinds of line begin with the window's first row
 pub line-front : (first : ℕ) (w : Window) → length (decimalOf first) ≤ length (lineOf first w)
 line-front first (Found x) = let n = found-bytes first x in omega arith
 line-front first Refused = let n = refused-bytes first in omega arith

@@ -1,4 +1,4 @@
--- A window that is looked through row by row gives what the rows say. Assumes nothing.
+-- Looking through a window row by row finds what is true of its rows. Assumes nothing.
 use Rattle.prelude.proofs.Logic.{_≡_, refl, subst, Bool, true, false, cond, ℕ, zero, suc, _+_, _≤_, _<_, arith, ℤ, ltZ}
 use borrow.Author.Count.{below-more}
 use Rattle.integers.proofs.OrderLaws.{lt-yes, lt-no, to-lt, to-not-lt}
@@ -84,7 +84,7 @@ answers-begin f first (Some m) e =
       late = best-begin later lt-itself gt-ahead gt-behind f first m e;
     }
 
--- ---- a row more
+-- ---- one row more
 module _ (f : ℕ → Minute) (first next : ℕ) (x : Extremes) (m : ℤ) (e : f next ≡ Some m) (k : RightWindow f first next x) where
   none-refused : (r : ℕ) → r < next + 1 → first ≤ r → f r ≡ Nothing → ⊥
   none-refused = below-more (λ (r : ℕ). first ≤ r → f r ≡ Nothing → ⊥) next (k .none-refused) (λ g z. not-both (f next) m e z)
@@ -125,7 +125,7 @@ answers-look f first w row zero last e h a = subst (λ (n : ℕ). Answers f firs
 answers-look f first w row (suc k) last e h a =
     answers-look f first (seenOf w row (f row)) (row + 1) k last (omega arith) (omega arith) (answers-step f first row w (f row) refl h a)
 
--- a window is refused if one of its seven rows is, or else has the earliest and the latest and the first row of each
+-- a window is refused if one of its seven rows is; else it has the earliest, the latest and the first row of each
 pub window-answers : (f : ℕ → Minute) (first : ℕ) → Answers f first (first + 7) (windowOf f first)
 unfolding windowOf
 window-answers f first =

@@ -21,7 +21,7 @@ use Rattle.weeks.specs.declared.minutes.Minute.the-variants.{Some, Nothi
 use Rattle.weeks.specs.Kept.{minuteFrom, minuteAt}
 use borrow.Author.Count.{below-more}
 
--- ---- whole minutes, by whole days and what is left of one
+-- ---- whole minutes, from whole days and the seconds after them
 pub by-days : (z : ℤ) → floorQuot z 86400 *ℤ pos 1440 +ℤ pos (floorRem z 86400 / 60) ≡ floorQuot z 60
 by-days (pos a) =
     let t = times (pos (a / 86400)) 1440 in
@@ -33,12 +33,12 @@ by-days (negsuc a) =
     let s = sum (negsuc (a / 86400) *ℤ pos 1440) (pos r) in
     same _ (negsuc (a / 60)) (omega (arith, t .over, t .under, s .balance))
 
--- an i64's days
+-- the whole days of an i64 of seconds
 pub days-near : (z : ℤ) → SFits w64 z → Near (2 ^ 48) (floorQuot z 86400)
 days-near (pos a) h = let r = range w64 (pos a) h in record { from = omega arith; to = omega (arith, r) }
 days-near (negsuc a) h = let r = range w64 (negsuc a) h in record { from = omega (arith, r); to = omega arith }
 
--- the same at the values that the machine reads back: `d` the days, `n` the seconds that are left of one
+-- the same at the values that the machine reads back: `d` is the days, `n` the seconds after them
 module _ (z : ℤ) (f : SFits w64 z) (d : ℤ) (n : ℕ) (k : readBack w64 d ≡ d) (days : d ≡ floorQuot (readBack w64 z) 86400)
     (rest : n ≡ floorRem (readBack w64 z) 86400) where
   whole : Held (2 ^ 48) (readBack w64 d) (floorQuot z 86400)
@@ -97,14 +97,14 @@ module _ (minutes : List ℤ) (refused : List Bool) (row : ℕ) (b : row < lengt
       cases (eqb k row) (λ t. simp (eqb-true k row t, eq-eqb row row refl, getD-set-same refused row true false b))
       (λ t. simp (t, getD-set-other refused row k true false (eqb-false k row t)))
 
--- Before a row its suns are there, and the minutes of the rows before it.
+-- Before a row: `suns` are its suns, and the minutes of the earlier rows are stored.
 pub record Run (o : Order) (minutes : List ℤ) (refused : List Bool) (suns : RowSuns) (row : ℕ) : Type 0 where
   pub within : row < o .rows
   pub state : suns ≡ stateOf o row
   pub long : (length minutes ≡ 400) × (length refused ≡ 400)
   pub done : (k : ℕ) → k < row → minuteAt minutes refused k ≡ rowMinute o k
 
--- and that of the row behind it
+-- after a row: its minute is stored too
 pub row-done : (o : Order) → Accepted o → (minutes after : List ℤ) (refused after' : List Bool) (suns : RowSuns) (row : ℕ)
     → Run o minutes refused suns row → (fajr : FajrAlone) → fajr ≡ rowSunsFajrOf (o .setting) suns
     → ((k : ℕ) → minuteAt after after' k ≡ cond (eqb k row) (minuteFrom fajr) (minuteAt minutes refused k))

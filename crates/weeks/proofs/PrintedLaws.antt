@@ -1,4 +1,4 @@
--- That the report fits. Assumes nothing.
+-- The report fits the buffer. Assumes nothing.
 use Rattle.prelude.proofs.Logic.{_≡_, List, ℕ, _-_, _≤_, arith, lit≤, length}
 use Rattle.order.proofs.AcceptedLaws.{read-accepted}
 use Rattle.reports.proofs.ReportsLaws.{report-fits}

@@ -1,4 +1,4 @@
--- The windows of an order mean what they say. Assumes nothing.
+-- The windows of an order keep their promise (specs/Promises.antt). Assumes nothing.
 use Rattle.order.specs.declared.reading.Order.{Order}
 use Rattle.weeks.specs.Promises.{WindowsMeanIt}
 use Rattle.weeks.specs.Report.{rowMinute}

@@ -1,4 +1,4 @@
--- Windows and lines by the rows that they look at, and how long lines can be. Assumes nothing.
+-- Windows and lines depend only on the rows that they look at; and how long lines can be. Assumes nothing.
 use Rattle.prelude.proofs.Logic.{_≡_, refl, ap, _∙_, List, [], _∷_, _++_, ℕ, zero, suc, _+_, _-_, _*_, _/_, _≤_, _<_, add-one, arith, ltb}
 use Rattle.prelude.proofs.Logic.{length, length-append, lt-ltb, arms, ℤ}
 use Rattle.text.proofs.SignedLaws.{signed-length}
@@ -96,7 +96,7 @@ lines-length f (suc n) h =
     let a = length-append (linesOf f n) (lineOf n (windowOf f n)) in
     omega arith
 
--- ---- the lines of the windows before `first` are there
+-- ---- the lines of the windows before `first` are at the buffer's front
 pub record Lined (f : ℕ → Minute) (rows : ℕ) (buffer now : List ℕ) (first end : ℕ) : Type 0 where
   pub within : first ≤ rows - 6
   pub text : now ≡ frontOf (linesOf f first) buffer

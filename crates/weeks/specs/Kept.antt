@@ -15,6 +15,6 @@ unfoldable pub minuteFrom : FajrAlone → Minute
 minuteFrom (alone.Some seconds) = Some (floorQuot seconds 60)
 minuteFrom alone.Nothing = Nothing
 
--- a row's minute, by the minutes and by whether each day is refused
+-- a row's minute, from the rows' minutes and from the marks of refused days
 unfoldable pub minuteAt : List ℤ → List Bool → ℕ → Minute
 minuteAt minutes refused row = cond (getD refused row false) Nothing (Some (getD minutes row (pos 0)))

@@ -10,7 +10,7 @@ use Rattle.weeks.specs.declared.window.Window.{Window}
 use Rattle.weeks.specs.declared.window.Window.the-variants.{Found, Refused}
 use Rattle.weeks.specs.Windows.{windowOf}
 
--- a minute and its row, each behind a blank
+-- a minute and its row, with a blank before each
 unfoldable pub pairText : ℤ → ℕ → List ℕ
 pairText minute row = ascii " " ++ signedOf minute ++ ascii " " ++ decimalOf row
 
@@ -25,6 +25,6 @@ unfoldable pub linesOf : (ℕ → Minute) → ℕ → List ℕ
 linesOf f zero = []
 linesOf f (suc n) = linesOf f n ++ lineOf n (windowOf f n)
 
--- every run of seven successive rows; under seven rows there is none
+-- a line for every run of seven successive rows; under seven rows there is none
 abbrev pub reportOf : (ℕ → Minute) → ℕ → List ℕ
 reportOf f rows = linesOf f (rows - 6)

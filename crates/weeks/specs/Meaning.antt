@@ -1,4 +1,4 @@
--- Document 02, request 11: "the earliest and latest Fajr by the clock .. and the first row having each", said by the rows alone.
+-- Document 02, request 11: "the earliest and latest Fajr by the clock .. and the first row having each", as a property of the rows.
 use Prim.Native.Nat.{ℕ, _≤_, _<_}
 use mathlib.Core.Path.{_≡_}
 use mathlib.Core.Bool.{Bool, true, false}
@@ -10,7 +10,7 @@ use Rattle.weeks.specs.declared.window.Extremes.{Extremes}
 use Rattle.weeks.specs.declared.window.Window.{Window}
 use Rattle.weeks.specs.declared.window.Window.the-variants.{Found, Refused}
 
--- of the rows from `first` to before `next`: `minute` is in `row`, no row goes before it, and it goes before each row above its own
+-- among the rows from `first` to before `next`, `row` has `minute`: no row's is before it, and it is before that of each earlier row
 pub record Best (before : ℤ → ℤ → Bool) (f : ℕ → Minute) (first next : ℕ) (minute : ℤ) (row : ℕ) : Type 0 where
   pub from : first ≤ row
   pub to : row < next
@@ -35,7 +35,7 @@ pub record RightWindow (f : ℕ → Minute) (first next : ℕ) (x : Extremes) : 
   pub early : Best earlier f first next (x .earliest) (x .«earliest_row»)
   pub late : Best later f first next (x .latest) (x .«latest_row»)
 
--- a window's answer: refused, and a row is; or right, and none is
+-- a window is refused and one of its rows is, or it has the right rows and none is refused
 abbrev pub Answers : (ℕ → Minute) → ℕ → ℕ → Window → Type 0
 Answers f first next Refused = SomeRefused f first next
 Answers f first next (Found x) = RightWindow f first next x

@@ -31,6 +31,6 @@ ordersReport o = reportOf (rowMinute o) (o .rows)
 abbrev pub weekText : List ℕ → List ℕ
 weekText s = reportText ordersReport s
 
--- no line is longer than 56 bytes: three digits of its first row; twice a blank, a minute of 64 bits, a blank and three digits; a newline
+-- a line has at most 56 bytes: 3 digits of its first row; twice a blank, a minute (a sign and 20 digits), a blank and 3 digits; a newline
 abbrev pub longestWeek : ℕ
 longestWeek = 56 * (mostRows - 6)

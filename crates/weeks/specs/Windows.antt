@@ -17,20 +17,20 @@ abbrev pub beginOf : ℕ → Minute → Window
 beginOf row Nothing = Refused
 beginOf row (Some m) = Found (extremes m row m row)
 
--- "the earliest and latest Fajr .., and the first row having each", so that an equal minute changes nothing
+-- "the earliest and latest Fajr .., and the first row having each": so an equal minute changes nothing
 unfoldable pub earlierIn : Extremes → ℕ → ℤ → Extremes
 earlierIn x row m = cond (ltZ m (x .earliest)) (extremes m row (x .latest) (x .«latest_row»)) x
 
 unfoldable pub laterIn : Extremes → ℕ → ℤ → Extremes
 laterIn x row m = cond (ltZ (x .latest) m) (extremes (x .earliest) (x .«earliest_row») m row) x
 
--- a row more: "a window with a refused day" is refused
+-- one row more: "a window with a refused day" is refused
 abbrev pub seenOf : Window → ℕ → Minute → Window
 seenOf Refused row minute = Refused
 seenOf (Found x) row Nothing = Refused
 seenOf (Found x) row (Some m) = Found (laterIn (earlierIn x row m) row m)
 
--- k rows more, from a row on
+-- k rows more, from `row` on
 abbrev pub lookOf : (ℕ → Minute) → Window → ℕ → ℕ → Window
 lookOf f w row zero = w
 lookOf f w row (suc k) = lookOf f (seenOf w row (f row)) (row + 1) k

@@ -9,7 +9,7 @@ use text::decimal::put_decimal;
 use text::put::put;
 use text::signed::put_signed;
 
-// Writes a minute and its row, each behind a blank, and returns where they end.
+// Writes a minute and its row, with a blank before each. Returns where they end.
 fn put_pair(buffer: &mut [u8], at: usize, minute: i64, row: usize) -> usize
     requires { ⌜ at + length (pairText minute row) ≤ length (now buffer) ⌝ }
     ensures { λ r. ⌜ r ≡ at + length (pairText minute row) ⌝ }
@@ -23,7 +23,7 @@ fn put_pair(buffer: &mut [u8], at: usize, minute: i64, row: usize) -> usize
     end + put_decimal(&mut buffer[..], end, row as u64)
 }
 
-// Writes the line of the window that starts at row `first`, and returns where it ends.
+// Writes the line of the window that starts at row `first`. Returns where it ends.
 pub fn put_window(buffer: &mut [u8], at: usize, first: usize, window: Window) -> usize
     requires { ⌜ at + length (lineOf first window) ≤ length (now buffer) ⌝ }
     ensures { λ r. ⌜ r ≡ at + length (lineOf first window) ⌝ }

@@ -1,4 +1,4 @@
-// The minutes of all rows, each row's Fajr by the clock, in two plain arrays.
+// The minutes of all rows: each row's Fajr by the clock. They are kept in two plain arrays.
 ghost use mathlib.Core.Path.{_≡_};
 ghost use Prim.Native.Nat.{ℕ, _<_};
 ghost use mathlib.Core.Bool.{cond};
@@ -19,7 +19,7 @@ use schedule::rolling::RowSuns;
 
 pub const ROWS: usize = MOST_ROWS as usize;
 
-// In minutes after the row's own 0h UTC, or a refused day.
+// In minutes after the row's own 0h UTC, or nothing for a refused day.
 pub enum Minute {
     Some(i64),
     Nothing,
@@ -46,7 +46,7 @@ fn store(fajr: FajrAlone, row: usize, minutes: &mut [i64], refused: &mut [bool])
     }
 }
 
-// Works the rows of an order. Each row takes over what it can from the one before it.
+// Works the rows of an order. Each row uses what the row before it has worked.
 pub fn work_minutes(order: Order, minutes: &mut [i64], refused: &mut [bool])
     requires { ⌜ Accepted order × (length (now minutes) ≡ mostRows) × (length (now refused) ≡ mostRows) ⌝ }
     ensures { λ _. ⌜ ((k : ℕ) → k < order .rows → minuteAt (now (minutes .exit)) (now (refused .exit)) k ≡ rowMinute order k) ⌝ }

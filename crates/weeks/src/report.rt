@@ -18,13 +18,13 @@ use order::reading::Order;
 use order::reading::Reading;
 use order::reading::read;
 
-// Three digits of a row, twice a minute and its row behind blanks, and the newline.
+// Three digits of the first row; twice a blank, a minute, a blank and a row; and a newline.
 const LINE_BYTES: usize = 56;
 
-// What the longest report takes.
+// The bytes of the longest report.
 pub const WEEK_BYTES: usize = LINE_BYTES * (ROWS - 6);
 
-// A line for every row that has six rows behind it.
+// Writes a line for every row that has six rows after it. Returns where the lines end.
 fn put_windows(
     buffer: &mut [u8],
     minutes: &[i64; ROWS],
@@ -57,7 +57,8 @@ fn put_report(buffer: &mut [u8], order: Order) -> usize
     put_windows(&mut buffer[..], &minutes, &refused, order.rows as usize)
 }
 
-// Returns the length of the text, which may be 0. A buffer under WEEK_BYTES, which might not hold it, is left as it was, and 0 is returned.
+// Returns the length of the text, which may be 0. If the buffer is shorter than WEEK_BYTES, the longest text, it stays as it is and 0 is
+// returned.
 pub fn write_week(order: &[u8], buffer: &mut [u8]) -> usize
     ensures { λ r. ⌜ r ≡ printedOf longestWeek (weekText (now (order .entry))) (now (buffer .entry)) .answer ⌝ }
     ensures { λ _. ⌜ now (buffer .exit) ≡ printedOf longestWeek (weekText (now (order .entry))) (now (buffer .entry)) .buffer ⌝ }

@@ -1,4 +1,4 @@
-// Seven successive rows, looked through one by one: the earliest and the latest Fajr, and the first row that has each.
+// The earliest and the latest Fajr of seven successive rows, and the first row that has each. The rows are looked through one by one.
 ghost use mathlib.Core.Path.{_≡_};
 ghost use Prim.Native.Nat.{_+_, _≤_};
 ghost use Rattle.order.specs.Ranges.{mostRows};
@@ -15,7 +15,7 @@ pub struct Extremes {
     pub latest_row: usize,
 }
 
-// Refused if one of its days is.
+// Refused if one of its seven days is.
 pub enum Window {
     Found(Extremes),
     Refused,
@@ -48,7 +48,7 @@ impl Extremes {
 }
 
 impl Window {
-    // A window's first row by itself.
+    // The window after its first row.
     fn begin(row: usize, minute: Minute) -> Window
         ensures { λ r. ⌜ r ≡ beginOf row minute ⌝ }
     {
@@ -63,7 +63,7 @@ impl Window {
         }
     }
 
-    // A row more.
+    // The window after one row more.
     fn seen(self, row: usize, minute: Minute) -> Window
         ensures { λ r. ⌜ r ≡ seenOf self row minute ⌝ }
     {
@@ -76,7 +76,7 @@ impl Window {
         }
     }
 
-    // The seven rows from `first` on.
+    // The window of the seven rows from `first` on.
     pub fn new(minutes: &[i64; ROWS], refused: &[bool; ROWS], first: usize) -> Window
         requires { ⌜ first + 7 ≤ mostRows ⌝ }
         ensures { λ r. ⌜ r ≡ windowOf (minuteAt (now (minutes .entry)) (now (refused .entry))) first ⌝ }

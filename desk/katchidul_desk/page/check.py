@@ -10,7 +10,7 @@ from . import form
 
 # What an order must have, by the field that asks for it.
 NEEDED = {"town": "Write the town's name.", "place": "Write the place's latitude and longitude.", "method": "Choose a method."}
-# The form's field for one that the form has in another way.
+# The form's field in place of an order's field that the form does not have.
 FIELD = {"firstday": "from", "rows": "to", "latitude": "place", "longitude": "place"}
 
 
@@ -45,7 +45,7 @@ def single(filled):
 
 @functools.lru_cache(maxsize=None)
 def known_zones():
-    """The system's list takes longer to read than a clerk to type."""
+    """Kept, since reading the system's list takes longer than typing a name."""
     return zoneinfo.available_timezones()
 
 
@@ -82,7 +82,7 @@ def twice(filled):
 
 
 def field_of(name, filled):
-    """The form's field for the name in a fault. A fault of no field is told at the town: a sentence needs a place."""
+    """The form's field for the name in a fault. A fault of no field is shown at the town, since a sentence needs a place."""
     name = FIELD.get(plain(name), plain(name))
     if name in ("from", "to") and filled["month"]:
         name = "month"
@@ -90,7 +90,7 @@ def field_of(name, filled):
 
 
 def whole(filled):
-    """The fault of a form whose fields are right one by one, as rows that are too many."""
+    """The fault of a form whose fields are each right, as when there are too many rows."""
     return {field_of(name, filled): as_sentence(fault) for name, fault in orders.faults(form.options(filled)).items()}
 
 

@@ -55,7 +55,7 @@ def server(words):
     port, folder = port_of(given["port"]), folder_of(given["folder"], "texts and orders")
     spool = folder_of(given["spool"], "spool") if given["spool"] is not None else None
     for name in ("sheet", "cells"):
-        # A first proof takes minutes, and belongs before the page rather than into its first answer.
+        # A first proof takes minutes, so it is done before the page is served and not at its first answer.
         programs.find(name)
     try:
         return Server(Page(folder, spool), port)

@@ -13,7 +13,7 @@ def control(field, value, wrong):
 
 
 def one(field, value, wrong):
-    """The sentence's element is there while it is empty: only then does a screen reader speak what comes into it."""
+    """The sentence's element is there even if it is empty: only then does a screen reader speak a sentence that comes into it."""
     hint = element("p", field.hint, id=field.id + "-hint", class_="hint") if field.hint else None
     sentence = element("p", wrong or "", id=field.id + "-wrong", class_="wrong", aria_live="polite")
     return element("div", element("label", field.label, for_=field.id), hint, control(field, value, wrong), sentence, class_="field")

@@ -39,7 +39,7 @@ def content(folder, name):
     if not is_ours(name):
         raise Unreadable("the page opens only the texts and orders of its folder")
     try:
-        # Without waiting, as a pipe would make it, and without following a link.
+        # Without waiting, as a pipe would make it wait, and without following a link.
         descriptor = os.open(os.path.join(folder, name), os.O_RDONLY | os.O_NOFOLLOW | os.O_NONBLOCK | os.O_CLOEXEC)
         with open(descriptor, "rb") as file:
             if not stat.S_ISREG(os.fstat(descriptor).st_mode):

@@ -11,7 +11,7 @@ MOST_FIELDS = 60
 
 
 class Field(NamedTuple):
-    """`name` is the one that a text has; `choices` are the values of a list with their labels, and what a blank stands for comes first."""
+    """`name` is the one that a text has; `choices` are the values of a list with their labels. What a blank means comes first."""
     name: str
     label: str
     hint: str

@@ -20,7 +20,7 @@ class Page:
 
     def __init__(self, folder, spool):
         self.folder, self.spool, self.tokens, self.putting = folder, spool, Tokens(), threading.Lock()
-        # Those of a place. The others are old names.
+        # Zones named by a place. The others are old names.
         self.zones = sorted(name for name in check.known_zones() if name.partition("/")[0] in AREAS)
 
     def answer(self, method, target, body):
@@ -48,7 +48,7 @@ class Page:
                 return self.page(opened.values(self.folder, sent["open"]), {})
             except DeskError as why:
                 return self.page(BLANK, {}, layout.notice(check.as_sentence(why)))
-        # Only what is true: a link of another page may say anything.
+        # It is said only if it is true: a link of another page may say anything.
         names = dict.fromkeys(job.name for job in self.jobs() if ("sent", job.name) in query)
         if names:
             return self.page(BLANK, {}, layout.notice("In the spool: %s." % ", ".join(names), "status"))
@@ -69,7 +69,7 @@ class Page:
         printing = layout.no_printing(NO_SPOOL)
         if self.spool:
             printing = layout.printing(text, len(timetable.shown), self.tokens.new(), self.doubts(timetable))
-        # The focus goes to what is told, and else to the pages.
+        # The focus goes to the notice if there is one, and else to the pages.
         pages = layout.pages(timetable, layout.downloads(text, list(contents(timetable, text))), printing, told is None)
         return self.page(values, {}, told, pages, code)
 
@@ -126,7 +126,7 @@ class Page:
             timetable = made_of(text)
             if not self.tokens.use(sent.get("token", "")):
                 raise DeskError(USED)
-            # One at a time: of two presses in two windows the second sees what the first put there.
+            # One at a time: if two windows press at once, the second sees what the first put there.
             with self.putting:
                 if self.doubts(timetable) and sent.get("anyway") != "yes":
                     raise DeskError(UNTICKED)
@@ -140,7 +140,7 @@ class Page:
 
 
 def split(target):
-    """The path of a request's target, and its query's names and values. Raises Refused for a target that is none of this page's."""
+    """The path of a request's target, and its query's names and values. Raises Refused for a target that is not of this page."""
     try:
         parts = urlsplit(target)
         if parts.scheme or parts.netloc or not target.startswith("/"):

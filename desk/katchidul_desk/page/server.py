@@ -25,7 +25,7 @@ SENTENCES = {
 
 
 class Timed(io.RawIOBase):
-    """Reads from a connection until a moment that does not move, however slowly the client sends."""
+    """Reads from a connection until a fixed moment, even if the client sends slowly."""
 
     def __init__(self, connection, seconds):
         super().__init__()
@@ -81,7 +81,7 @@ class Handler(http.server.BaseHTTPRequestHandler):
 
     def reply(self, answer):
         self.connection.settimeout(self.server.seconds)
-        # Whatever the client speaks, the answer has a status and headers.
+        # The answer has a status and headers, whatever protocol the client speaks.
         self.request_version = "HTTP/1.0"
         self.send_response(answer.status)
         for name, value in {**answers.HEADERS, **answer.headers, "Content-Type": answer.kind, "Content-Length": len(answer.body)}.items():
@@ -92,7 +92,7 @@ class Handler(http.server.BaseHTTPRequestHandler):
         self.close_connection = True
 
     def finish(self):
-        """Reads on for a moment. A connection that is closed over unread bytes can lose the answer on its way to the client."""
+        """Reads on for a moment. If a connection is closed with unread bytes, the answer can be lost on its way to the client."""
         super().finish()
         try:
             self.connection.shutdown(socket.SHUT_WR)
@@ -108,7 +108,7 @@ class Handler(http.server.BaseHTTPRequestHandler):
         self.reply(answers.sentence(SENTENCES.get(code, "The request is refused."), code))
 
     def log_message(self, format, *arguments):  # pylint: disable=redefined-builtin
-        """The terminal is for what a clerk should know; requests are not."""
+        """Requests are not printed: the terminal is for what a clerk should know."""
 
 
 class Server(socketserver.ThreadingMixIn, http.server.HTTPServer):
@@ -122,7 +122,7 @@ class Server(socketserver.ThreadingMixIn, http.server.HTTPServer):
         super().__init__((safety.ADDRESS, port), Handler)
 
     def server_bind(self):
-        """Without http.server's question for the machine's name, which may go out to the network."""
+        """Binds without asking for the machine's name, as http.server does: that may go out to the network."""
         socketserver.TCPServer.server_bind(self)
         self.server_name, self.server_port = self.server_address
 
@@ -152,4 +152,4 @@ class Server(socketserver.ThreadingMixIn, http.server.HTTPServer):
         self.shutdown_request(request)
 
     def handle_error(self, request, client_address):
-        """A client that went away, most often. There is nobody left to tell."""
+        """Most often a client that went away. There is nobody left to tell."""

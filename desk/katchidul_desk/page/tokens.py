@@ -20,7 +20,7 @@ class Tokens:
             return token
 
     def use(self, token):
-        """Whether the token is good. It is used up by this."""
+        """Whether the token is good. This uses it up."""
         with self.lock:
             known = token in self.unused
             self.unused.pop(token, None)

@@ -117,7 +117,7 @@ def clock_changes(scale, days):
 
 
 def spread(wanted, low, high):
-    """The places of labels that want to be at these rising places, moved so that none covers another."""
+    """The places of labels, moved from these rising places so that none covers another."""
     placed = []
     for place in wanted:
         placed.append(max(place, placed[-1] + LABEL if placed else low))

@@ -6,13 +6,13 @@ from .markup import element
 
 
 def mark(days):
-    """What the days behind a time mean."""
+    """What the days after a time mean."""
     near = {-1: "on the date before", 1: "on the next date"}
     return "%+d: %s." % (days, near.get(days, "%d dates %s" % (abs(days), "later" if days > 0 else "before")))
 
 
 def time_cell(moment):
-    """HH:MM, and behind it the days from the row's date when there are any."""
+    """HH:MM, and after it the days from the row's date if there are any."""
     if not moment.days:
         return element("td", moment.text)
     return element("td", moment.text, element("span", "%+d" % moment.days, class_="days"))

@@ -1,4 +1,4 @@
-"""Dates and counts in the words of the preview. The names of days and months are English whatever the system's language is."""
+"""Dates and counts in the words of the preview. The names of days and months are English in every language of the system."""
 from ..dates import MONTHS
 
 WEEKDAYS = ("Mon", "Tue", "Wed", "Thu", "Fri", "Sat", "Sun")

@@ -1,4 +1,4 @@
-"""Pages again: of a job whose pages were spoilt, and of one that a replaced machine cannot go on with."""
+"""Pages that are printed again: of a job whose pages were spoilt, and of one that a new machine cannot go on with."""
 from __future__ import annotations
 
 import os
@@ -43,8 +43,8 @@ def reprint(spool: pathlib.Path, number: int, pages: list[int]) -> list[str]:
     return [submit_free(spool, name, part) for name, part in parts]
 
 
-# ---- reissue. The new order is put into the job's folder, the job is moved to cancelled/, and then the order is linked into in/. Whatever
-# ends this in between, the same command goes on from there. The file's count of links says whether the link was made.
+# ---- reissue. The new order is put into the job's folder, the job is moved to cancelled/, and then the order is linked into in/. If this
+# ends in between, the same command goes on from there. The file's count of links says whether the link was made.
 
 LEFT, REISSUED = "reissue", "reissued"
 

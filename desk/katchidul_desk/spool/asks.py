@@ -15,7 +15,7 @@ ALLOWED = {"cancel": ("jobs", "held"), "hold": ("jobs",), "release": ("held",)}
 
 
 def ask(spool: pathlib.Path, word: str, number: int) -> pathlib.Path:
-    """Asks the host; SpoolError if the job is in a folder for which that makes no sense."""
+    """Asks the host. SpoolError if that makes no sense for the folder that the job is in."""
     folder = find(spool, number)
     if folder not in ALLOWED[word]:
         state = "in work" if folder == "jobs" else folder

@@ -72,7 +72,7 @@ def show_status(spool, words):
 
 
 def why_not(order):
-    """Why the host would refuse these bytes, or None: it is better told here than in the spool."""
+    """Why the host would refuse these bytes, or None: the operator should know it before they are in the spool."""
     if not order:
         return "is empty"
     if len(order) > ORDER_MAX:
@@ -92,7 +92,7 @@ def submit_file(spool, word):
 
 
 def submit_files(spool, words):
-    """Each order by itself: one that fails does not hold up the rest."""
+    """Each order by itself: if one fails, the others still go in."""
     if not words:
         raise Usage("submit takes orders")
     failed = 0
@@ -184,7 +184,7 @@ COMMANDS = {"status": show_status, "submit": submit_files, "reprint": reprint, "
 
 
 def complain(error, about=None):
-    """A sentence on standard error; of an error of the system also what it is about."""
+    """A sentence on standard error; for an error of the system also the file that it is about."""
     if isinstance(error, OSError):
         about = error.filename if about is None else about
         error = error.strerror if about is None else f"{shown(os.fspath(about)) or 'an empty name'}: {error.strerror}"

@@ -1,4 +1,4 @@
-"""Files that last, regular files alone, and names that can be shown."""
+"""Files that last, regular files only, and names that can be shown."""
 from __future__ import annotations
 
 import errno
@@ -14,7 +14,7 @@ def shown(name: str) -> str:
 
 
 def read_regular(path, most: int) -> bytes:
-    """Up to `most` bytes of a regular file. It is opened without following a link and without waiting; OSError if it is none."""
+    """Up to `most` bytes of a regular file. It is opened without following a link and without waiting. OSError if it is no regular file."""
     file = os.open(path, os.O_RDONLY | os.O_NOFOLLOW | os.O_NONBLOCK | os.O_NOCTTY | os.O_CLOEXEC)
     try:
         if not stat.S_ISREG(os.fstat(file).st_mode):
@@ -40,7 +40,7 @@ def write_unfinished(folder: pathlib.Path, text: bytes) -> pathlib.Path:
     path = folder / f".unfinished-{os.getpid()}-{secrets.token_hex(8)}"
     file = os.open(path, os.O_WRONLY | os.O_CREAT | os.O_EXCL | os.O_CLOEXEC, 0o664)
     try:
-        os.fchmod(file, 0o664)  # whatever the umask: the host is another user
+        os.fchmod(file, 0o664)  # for any umask: the host is another user
         left = memoryview(text)
         while left:
             left = left[os.write(file, left):]
@@ -54,13 +54,13 @@ def write_unfinished(folder: pathlib.Path, text: bytes) -> pathlib.Path:
 
 
 def replace(folder: pathlib.Path, name: str, text: bytes) -> None:
-    """Gives a file these bytes as one, lasting."""
+    """Replaces a file's bytes at once, so that they last."""
     os.rename(write_unfinished(folder, text), folder / name)
     flush_folder(folder)
 
 
 def add(folder: pathlib.Path, name: str, text: bytes) -> None:
-    """Adds a file, lasting and whole from the first moment. FileExistsError if the name is taken."""
+    """Adds a file that is whole from the first moment and lasts. FileExistsError if the name is taken."""
     unfinished = write_unfinished(folder, text)
     try:
         os.link(unfinished, folder / name)

@@ -44,7 +44,7 @@ def names(folder: pathlib.Path) -> list[str]:
 
 
 def text(path: pathlib.Path, most: int) -> bytes:
-    """A file's bytes; empty if it cannot be read, which then is for the host to say."""
+    """A file's bytes; empty if it cannot be read: then the host says so."""
     try:
         return read_regular(path, most)
     except OSError:
@@ -124,7 +124,7 @@ def settled(spool: pathlib.Path, folder: str, number: int) -> Job | None:
 
 
 def status(spool: pathlib.Path, done: int | None = 100) -> list[Job]:
-    """Orders that wait and the jobs, by their ids; of the jobs that are done or cancelled the last ones, or all for None."""
+    """Orders that wait, and the jobs by their ids. Of the jobs that are done or cancelled only the last ones, or all for None."""
     spool = pathlib.Path(spool)
     check(spool)
     waiting = [read_order(spool, "in", name) for name in names(spool / "in")]

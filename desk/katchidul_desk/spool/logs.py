@@ -8,7 +8,7 @@ LOG_MAX = 25  # bytes of the host's log: host/job.h
 
 
 def read(log: bytes) -> tuple[int, int] | None:
-    """The pages that are finished and those that are sent; None if a record is out of turn. A cut record at the end is not looked at."""
+    """The pages that are finished and those that are sent; None if a record is out of turn. A cut record at the end is ignored."""
     finished = sent = 0
     for at in range(0, len(log) - 4, 5):
         tag, length, page = struct.unpack(">BHH", log[at:at + 5])

@@ -1,4 +1,4 @@
-"""An order's bytes, as far as the operator needs them. docs/ORDERS.md has the whole format; what an order asks for, the library says."""
+"""An order's bytes, as far as the operator needs them. docs/ORDERS.md has the whole format, and the library reads the rest."""
 from __future__ import annotations
 
 import dataclasses

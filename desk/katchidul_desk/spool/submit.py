@@ -1,4 +1,5 @@
-"""Orders into a spool. An order is written under a name that the host passes over, flushed, and linked to its own without replacing one."""
+"""Puts orders into a spool. An order is written under a name that the host passes over, flushed, and then linked to its own name. No
+order is replaced."""
 from __future__ import annotations
 
 import itertools
@@ -38,13 +39,13 @@ def submit(spool: pathlib.Path, name: str, order: bytes) -> str:
 
 
 def numbered(name: str):
-    """The name, then with .2, .3, .. behind it."""
+    """The name, then the name with .2, .3, .. after it."""
     yield name
     yield from (f"{name}.{number}" for number in itertools.count(2))
 
 
 def submit_free(spool: pathlib.Path, name: str, order: bytes) -> str:
-    """The same, with a number behind the name if an order of that name waits."""
+    """The same, with a number after the name if an order of that name waits."""
     return submit(spool, next(each for each in numbered(name) if not (spool / "in" / each).exists()), order)
 
 

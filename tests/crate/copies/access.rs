@@ -1,6 +1,6 @@
 
-/// Appended to both copies of solar.rs: the hour numbers, which the crate turns into times without handing them out, and the values
-/// that decide document 01's zones. Each expression is the crate's.
+/// Appended to the copies of solar.rs: the hour numbers, which the crate turns into times but does not return, and the values that decide
+/// document 01's zones. Each expression is the crate's.
 pub mod access {
     use super::*;
 
@@ -13,7 +13,7 @@ pub mod access {
         SolarTime::setting_hour(value, &date).map(|time| time.timestamp())
     }
 
-    /// A place's sun on a date, its times not set, so that it stands also where `SolarTime::new` panics.
+    /// A place's sun on a date, without its times, so that it exists also if `SolarTime::new` panics.
     pub struct Day(SolarTime);
 
     impl Day {
@@ -69,7 +69,7 @@ pub mod access {
             )
         }
 
-        /// The angle that `afternoon` hands to `time_for_solar_angle`, after transit.
+        /// The angle that `afternoon` passes to `time_for_solar_angle`, after transit.
         pub fn afternoon_angle(&self, shadow_length: f64) -> f64 {
             let absolute_degrees = (self.0.observer.latitude - self.0.solar.declination.degrees).abs();
             let tangent = Angle::new(absolute_degrees);
@@ -112,8 +112,8 @@ pub mod access {
             (term1 / term2, adjusted_angles.radians().sin())
         }
 
-        /// Whether the crate's own calls give the times of the hour numbers above: so nothing here strays from what the crate
-        /// works out. `SolarTime::new` is not asked where it would panic.
+        /// Whether the crate's own calls give the times of the hour numbers above, so that nothing here differs from what the crate
+        /// works out. `SolarTime::new` is not called if it would panic.
         pub fn is_the_crates(&self, before: f64, after: f64, shadow_length: f64) -> bool {
             let set = |hours: f64| SolarTime::setting_hour(hours, &self.0.date);
             let (transit, sunrise, sunset) =

@@ -1,4 +1,4 @@
-//! A module of each copy of the crate: an instant that is handed in, in place of the clock that schedule.rs reads.
+//! A module of each copy of the crate: a given instant, in place of the clock that schedule.rs reads.
 use chrono::{DateTime, TimeZone, Utc};
 use std::cell::Cell;
 

@@ -1,9 +1,9 @@
-//! A module of the copy salah_given: hour numbers that are handed in, in place of what ops works out.
-//! Each call of the crate is told by its sun and its place in that sun's calls, and must ask for what that call asks for.
+//! A module of the copy salah_given: given hour numbers, in place of what ops works out.
+//! Each call of the crate is known by its sun and its place among that sun's calls, and must ask for what that call asks for.
 use crate::astronomy::unit::{Angle, Coordinates};
 use std::cell::RefCell;
 
-/// A sun's three numbers stand at `3 * day`: transit, sunrise, sunset, for the date, the next one and the one after that.
+/// A sun's three numbers begin at `3 * day`: transit, sunrise, sunset, for the date, the next one and the one after that.
 pub const FAJR: usize = 9;
 pub const ASR: usize = 10;
 pub const ISHA: usize = 11;
@@ -43,7 +43,7 @@ pub fn suns_begun() -> usize {
     GIVEN.with_borrow(|given| given.suns.len())
 }
 
-/// How often a call was none of those that schedule.rs makes: the numbers handed out then say nothing.
+/// How often a call was none of those that schedule.rs makes: the numbers that it got mean nothing.
 pub fn strayed() -> u64 {
     GIVEN.with_borrow(|given| given.strayed)
 }
@@ -69,7 +69,7 @@ pub fn corrected_transit(
 }
 
 impl Given {
-    /// The number, angle and side of transit of a sun's next hour angle. Asr's angle is the crate's own affair.
+    /// The number, angle and side of transit of a sun's next hour angle. Asr's angle is not checked: the crate works it out.
     fn next_asked(&mut self, day: usize, angle: f64) -> Option<(f64, f64, bool)> {
         let (number, angle, after_transit) = match (day, self.asked[day]) {
             (_, 0) => (3 * day + 1, HORIZON, false),

@@ -1,5 +1,5 @@
-// Appended to root.rs as a program: reads an order, which must be one that is read, and prints its sheet by the crate. The crate's
-// panic in SolarTime::new, on the line of the time that has none, stands for the refusal of a day.
+// Appended to root.rs as a program: reads an order, which must not be refused, and prints its sheet by the crate. If the crate panics in
+// SolarTime::new, on the line of the missing time, the day is refused.
 use astronomy::solar::SolarTime;
 use astronomy::unit::Coordinates;
 use chrono::{Duration, NaiveDate};

@@ -1,4 +1,4 @@
-//! What the crate answers: its own `PrayerTimes` from hour numbers that are handed in; a panic stands for a refusal or for none.
+//! What the crate gives: its own `PrayerTimes` from given hour numbers. A panic counts as a refusal, 0 if document 01 has none for it.
 use crate::day_draw::DayCase;
 use crate::in_force::in_force_of;
 use crate::settings::parameters_of;
@@ -22,7 +22,7 @@ thread_local! {
     static PANIC: RefCell<(String, u32)> = const { RefCell::new((String::new(), 0)) };
 }
 
-/// Panics are answers here: their places are kept and nothing is printed.
+/// Panics are results here: their places are kept and nothing is printed.
 pub fn keep_panics() {
     set_hook(Box::new(|info| {
         let place = info.location().map(|place| (place.file().to_string(), place.line()));
@@ -30,7 +30,7 @@ pub fn keep_panics() {
     }));
 }
 
-/// By the line of `SolarTime::new` that panicked, in the text of solar.rs; 0 where it was another.
+/// By the line of `SolarTime::new` that panicked, in the text of solar.rs; 0 if it was another.
 pub fn refused_number(solar: &str) -> u32 {
     let (file, line) = PANIC.with_borrow(|last| last.clone());
     let text = solar.lines().nth(line as usize - 1).unwrap_or_default().trim_start();
@@ -41,7 +41,7 @@ pub fn refused_number(solar: &str) -> u32 {
     }
 }
 
-/// The day is told by the suns begun.
+/// The day is known by how many suns were begun.
 fn refusal() -> Refusal {
     match refused_number(SOLAR) {
         0 => Refusal { number: 0, place: 0 },

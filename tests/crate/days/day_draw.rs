@@ -22,7 +22,7 @@ pub const METHODS: [Method; 13] = [
 ];
 pub const MOONSIGHTING: u32 = 5;
 
-/// The number that stands for no prayer in force; the prayers count from 1.
+/// The number for no prayer in force; the prayers count from 1.
 pub const NONE: u32 = 0;
 
 /// Parameters by document 01's numbers, none left to the method.
@@ -68,13 +68,13 @@ const EDGES: [f64; 16] = [
     0.0, -0.0, 1.0, 23.99, 23.991666666666667, 23.995, 24.0, 24.25, 47.99, 47.991666666666667, 48.0, -0.5, -1e-17, -24.001, -25.0, -50.0,
 ];
 
-/// Far below 0, where the hour is clamped, and those that are not normal or nearly so.
+/// Far below 0, so that the hour is clamped, and those that are not normal or nearly so.
 const FAR: [f64; 12] = [
     -1e300, -1e15, -4294967297.5, -4294967319.9999, -1000.3, f64::NEG_INFINITY, f64::INFINITY, f64::NAN, 1e-310, -1e-310,
     f64::MIN_POSITIVE, -f64::MIN_POSITIVE,
 ];
 
-/// From 2^32 on, where the crate's hour can wrap.
+/// From 2^32 on, so that the crate's hour can wrap.
 const WRAPPING: [f64; 6] = [4294967296.0, 4294967319.9999, 4294967320.995, 4294967319.0, 1e12 + 0.9990234375, 1e300];
 
 impl Draw {

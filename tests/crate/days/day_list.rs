@@ -9,8 +9,8 @@ use salah_given::schedule::{access, PrayerTimes};
 
 const INSTANTS: usize = 4;
 
-/// What a line's times and its instants are given more than they are, so that none is negative. Of 0h it is the difference, so that
-/// 0h and a time give the sum.
+/// What is added to a line's times and instants, so that none is negative. To 0h the difference of the two is added, so that 0h and a time
+/// have the right sum.
 const LATER: i64 = 50_000_000;
 const SINCE: i64 = 10_000_000_000;
 

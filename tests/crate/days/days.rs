@@ -58,7 +58,7 @@ pub fn answer(day: Result<[i64; 9], Refusal>) -> Answer {
     rows
 }
 
-/// The crate's answer without the numbers from 2^32 on, where the day has such: where the port answers so, a difference is the listed one.
+/// The crate's result without the numbers from 2^32 on, if the day has any. If this is the port's result, a difference is the listed one.
 pub fn without_wrapping(c: &DayCase) -> Option<Answer> {
     let numbers = c.numbers.map(|number| if number >= LISTED_FROM { f64::NAN } else { number });
     let wrapping = c.numbers.iter().any(|&number| number >= LISTED_FROM && number.is_finite());
@@ -81,7 +81,7 @@ impl Days {
         }
     }
 
-    /// Counts a day's answers, and returns the times where both have all nine alike.
+    /// Counts a day's results, and returns the times if both have all nine alike.
     fn day(&mut self, c: &DayCase) -> Option<(PrayerTimes, ProbeTimes)> {
         let without = without_wrapping(c);
         let (ours, theirs) = (day_port::day(c, Rules::default()), day_crate::day(c));
@@ -100,7 +100,7 @@ impl Days {
                 });
             }
         }
-        // where no number needs carrying, the rule that carries answers as the crate does
+        // if no number needs carrying, the rule that carries gives what the crate gives
         if c.numbers.iter().all(|number| day_port::needs_no_carrying(*number)) {
             let carried = answer(day_port::day(c, Rules { carry: 1, ..Rules::default() }).map(|times| times.0));
             self.count(CARRIED, carried == by_crate, listed, || format!("port {carried:?}, crate {their_day:?}, {c:?}"));
@@ -172,7 +172,7 @@ pub fn days(seed: u64, size: u64, instants: u64) -> Days {
     days.presets();
     for _ in 0..size {
         let c = draw.day_case();
-        // so that the days drawn do not hang on answers
+        // so that the days drawn do not depend on results
         let mut near = Draw(draw.bits());
         if let Some((theirs, ours)) = days.day(&c) {
             days.with_times += 1;

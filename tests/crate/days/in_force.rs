@@ -10,7 +10,7 @@ pub struct InForce {
 
 macro_rules! in_force_of {
     ($salah:ident) => {
-        /// The crate's `next` and `time_remaining` panic where no prayer is in force.
+        /// The crate's `next` and `time_remaining` panic if no prayer is in force.
         pub fn in_force(times: &$salah::schedule::PrayerTimes, at: crate::day_draw::Instant) -> crate::in_force::InForce {
             use std::panic::{catch_unwind, AssertUnwindSafe};
             $salah::clock::set_now(at.seconds, at.nanoseconds);

@@ -42,7 +42,7 @@ impl Hours {
     }
 }
 
-/// Prints the list for replay. Zones are taken twice as wide, so that no value stands on a zone's edge.
+/// Prints the list for replay. Zones are taken twice as wide, so that no value is on a zone's edge.
 pub fn list(seed: u64, lines: u64) {
     let mut draw = Draw(seed);
     for _ in 0..lines {

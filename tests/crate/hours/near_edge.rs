@@ -1,5 +1,5 @@
-//! Rows on an edge of rounding: places where an hour number lies within 10^-13 of a half minute, so that the last bit of a sine can
-//! move a printed time. No drawn row would meet one in a lifetime; here the longitude is worked out from the half minute.
+//! Rows on an edge of rounding: places at which an hour number is within 10^-13 of a half minute, so that the last bit of a sine can
+//! move a printed time. No random row would ever meet one; here the longitude is worked out from the half minute.
 use crate::day_draw::Settings;
 use crate::draw::{Case, Draw};
 use crate::plain::{half_minute, Plain, Verdict, NEAR};
@@ -9,8 +9,8 @@ use crate::summary::Line;
 /// Longitudes on either side of the edge that are tried, one float after the other: more than last bits part the two sides by.
 const STEPS: i64 = 40;
 
-/// The case with its longitude moved, by less than a degree, to where the number lies on a half minute; none where it does not get
-/// there, at a date line or where the number has no time.
+/// The case with its longitude moved, by less than a degree, so that the number is on a half minute. None if it does not get there, at a
+/// date line or if the number has no time.
 fn on_edge(c: &Case, settings: &Settings, number: usize) -> Option<Case> {
     let value = |c: &Case| by_port(c, settings)[number];
     let (mut c, edge) = (*c, half_minute(value(c)));

@@ -28,7 +28,7 @@ fn time(seconds: i64) -> DateTime<Utc> {
 
 const LINES: [&str; 4] = ["setting_hour", "days_since_solstice", "morning twilight", "evening twilight"];
 
-/// Seconds from 0h of the date; none where there is no time.
+/// Seconds from 0h of the date; none if there is no time.
 pub fn port_setting_hour(value: f64) -> Option<i64> {
     let time = unsafe { probe_setting_hour(value) };
     if time.found { Some(time.seconds as i64) } else { None }

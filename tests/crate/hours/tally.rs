@@ -1,4 +1,4 @@
-//! Holds the port's hour numbers to the crate's, counts, and prints what is against demand 2.
+//! Compares the port's hour numbers with the crate's, counts, and prints what breaks demand 2.
 use crate::draw::Case;
 use crate::numbers::VALUES;
 use crate::summary::Line;
@@ -11,7 +11,7 @@ fn same_bits(a: f64, b: f64) -> bool {
     a.to_bits() == b.to_bits() || (a.is_nan() && b.is_nan())
 }
 
-/// Infinite where one is a number and the other is none, and between a NaN and an infinity.
+/// Infinite if one is a number and the other is none, and between a NaN and an infinity.
 fn difference(a: f64, b: f64) -> f64 {
     if same_bits(a, b) {
         0.0
@@ -43,7 +43,7 @@ struct Count {
     not_equal_on_probes: u64,
 }
 
-/// A value that lies in two zones counts in both.
+/// A value that is in two zones counts in both.
 #[derive(Default, Clone, Copy)]
 struct ZoneCount {
     values: u64,
@@ -126,7 +126,7 @@ impl Tally {
         }
     }
 
-    /// A value in a zone counts there only where it is over the tolerance.
+    /// A value in a zone counts there only if it is over the tolerance.
     pub fn lines(&self, pairs: u64) -> Vec<Line> {
         let sum = |of: fn(&Count) -> u64| self.counts.iter().map(of).sum();
         let compared = pairs * VALUES.len() as u64;

@@ -4,11 +4,11 @@ use salah_plain::astronomy::solar::access::{Day, HORIZON};
 
 pub const ZONES: [&str; 4] = ["arc cosine's argument", "transit fraction", "latitude", "hour angle's sine"];
 
-/// The zones that a value lies in.
+/// The zones that a value is in.
 pub type Inside = [bool; 4];
 
-/// The transit is worked from neither latitude nor hour angle, so only the fraction takes it out of judgement. A margin over 1
-/// widens the zone.
+/// The transit is worked from neither latitude nor hour angle, so only the fraction can put it in a zone. A margin over 1 widens the
+/// zone.
 pub fn of_transit(day: &Day, margin: f64) -> Inside {
     let fraction = day.transit_fraction();
     [false, fraction <= margin * 1e-9 || fraction >= 1.0 - margin * 1e-9, false, false]

@@ -17,7 +17,7 @@ const TWO_DEFECTS: usize = 14;
 
 const FLOATS: [u8; 4] = [4, 5, 12, 13];
 
-/// Puts a tag's value, at the end where the order lacks the tag.
+/// Puts a tag's value, at the end if the order lacks the tag.
 fn put(fields: &mut Vec<Field>, field: Field) {
     match fields.iter().position(|there| there.tag == field.tag) {
         Some(at) => fields[at] = field,
@@ -86,7 +86,7 @@ impl Draw {
         }
     }
 
-    /// What lies just out of each range; the ends themselves are in good orders.
+    /// Values just out of each range; the ends themselves are in good orders.
     fn just_out(&mut self, fields: &mut Vec<Field>) {
         let tag = [1, 3, 4, 5, 6, 7, 8, 9, 10, 11, 12, 13, 14, 15, 16, 17, 18, 19, 20][self.index(19)];
         // a coordinate in this form alone
@@ -165,7 +165,7 @@ impl Draw {
         put(fields, Field::new(3, &self.rows_value(rows)));
     }
 
-    /// A coordinate in its other form too, whatever stands there.
+    /// A coordinate in its other form too, with any value.
     fn both_forms(&mut self, fields: &mut Vec<Field>) {
         for (float, map) in FORMS {
             if self.coin() {

@@ -98,7 +98,7 @@ impl Draw {
         (*starts[self.index(starts.len())] + Duration::days(stored as i64 - 1), 30)
     }
 
-    /// The fields that an order must have, a coordinate in either form; those of a Ramadan sheet where its tag is there.
+    /// The fields that an order must have, a coordinate in either form; those of a Ramadan sheet if its tag is there.
     fn must_have(&mut self, method: usize, ramadan: Option<[u8; 2]>) -> Vec<Field> {
         let (town, dates) = (self.town(), self.dates());
         let (date, rows) = ramadan.map_or(dates, |[_, stored]| self.ramadan(stored));

@@ -14,7 +14,7 @@ use salah_plain::schedule::{access, PrayerTimes};
 const LONGEST: usize = 160;
 const ROWS: u32 = 10;
 
-/// Whether no last bit of a sine can change the row: none of the hour numbers that it uses lies in a zone, or by an edge of rounding.
+/// Whether no last bit of a sine can change the row: none of the hour numbers that it uses is in a zone, or near an edge of rounding.
 fn is_certain(asked: &Asked, date: NaiveDate, refused: Option<Refusal>) -> bool {
     let settings = asked.settings();
     let case = Case {

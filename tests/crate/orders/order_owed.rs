@@ -8,7 +8,7 @@ use crate::row_crate::on_probes;
 use chrono::{Datelike, Duration};
 use salah_probes::schedule::PrayerTimes;
 
-/// An instant's whole seconds lie no farther from 1970 than this.
+/// An instant's whole seconds are no farther from 1970 than this.
 pub const FARTHEST: i64 = 1_000_000_000_000;
 
 pub struct Order<'a> {
@@ -97,7 +97,7 @@ impl InstantAnswers {
         InstantAnswers { prayer: refusal.into(), next: refusal.into(), remaining: refusal.into() }
     }
 
-    /// None in force is an answer; the next one and the time until it are refused then.
+    /// None in force is a result; then the next one and the time until it are refused.
     fn of_times(times: &PrayerTimes, at: Instant) -> InstantAnswers {
         let found = on_probes::in_force(times, at);
         let (number, place) = (0, 0);

@@ -1,4 +1,4 @@
-//! Document 01's reading of an order ("The order"), in plain Rust and from its text alone: what katchidul_read_order is held to.
+//! Document 01's reading of an order ("The order"), in plain Rust and from its text alone: katchidul_read_order is compared with it.
 use crate::day_crate::Refusal;
 use crate::day_draw::{NaiveDate, Settings, METHODS};
 use chrono::{Datelike, Duration};
@@ -12,7 +12,7 @@ pub const FORMS: [(u8, u8); 2] = [(4, 18), (5, 19)];
 pub const LONGEST: usize = 1_024;
 pub const LAST_TAG: u8 = 20;
 
-/// What an order asks for. The tags that a method answers for where they are missing are none then.
+/// What an order asks for. A missing tag whose value comes from the method is none.
 #[derive(Debug)]
 pub struct Asked {
     pub town: Range<usize>,
@@ -32,12 +32,12 @@ pub struct Asked {
     pub carry: u32,
     pub clock: i32,
     pub southern: u32,
-    /// Minutes of imsak and shift, where the sheet is Ramadan's.
+    /// Minutes of imsak and shift, if the sheet is Ramadan's.
     pub ramadan: Option<(i32, i32)>,
 }
 
 impl Asked {
-    /// The minutes from imsak to Fajr, where the sheet is Ramadan's.
+    /// The minutes from imsak to Fajr, if the sheet is Ramadan's.
     pub fn imsak(&self) -> Option<i32> {
         self.ramadan.map(|(imsak, _)| imsak)
     }
@@ -74,7 +74,7 @@ fn refused<T>(number: u32, place: usize) -> Result<T, Refusal> {
     Err(Refusal { number, place: place as u32 })
 }
 
-/// The lengths that a tag's value can have; none where there is no such tag.
+/// The lengths that a tag's value can have; none for an unknown tag.
 pub fn lengths(tag: u8) -> Option<RangeInclusive<usize>> {
     match tag {
         1 => Some(1..=40),
@@ -89,7 +89,7 @@ pub fn lengths(tag: u8) -> Option<RangeInclusive<usize>> {
     }
 }
 
-/// Where each tag's value stands, by tag.
+/// Where each tag's value is, by tag.
 type Values = [Option<Range<usize>>; LAST_TAG as usize + 1];
 
 /// Field by field, the checks of one in the order of the paper's sentence.
@@ -134,7 +134,7 @@ pub fn ramadan_starts() -> &'static [NaiveDate] {
     })
 }
 
-/// An order whose fields are whole; a tag's value is none where it is missing.
+/// An order whose fields are whole; a missing tag's value is none.
 struct Whole<'a> {
     order: &'a [u8],
     values: Values,
@@ -169,7 +169,7 @@ impl Whole<'_> {
         Ok(self.values[1].clone().unwrap())
     }
 
-    /// By chrono's calendar, which is none of the port's.
+    /// By chrono's calendar, which is not the port's.
     fn date(&self) -> Result<NaiveDate, Refusal> {
         let value = self.bytes(2).unwrap();
         let year = u16::from_be_bytes([value[0], value[1]]) as i32;
@@ -239,8 +239,8 @@ impl Whole<'_> {
         Ok(Some((imsak as i32, stored as i32 - 1)))
     }
 
-    /// The ranges by rising tag, which is the order in which a struct's fields are worked out; a coordinate as on the map and
-    /// what makes a Ramadan sheet stand last, and behind them its start.
+    /// The ranges by rising tag, which is the order in which a struct's fields are worked out. A coordinate as on the map and what makes a
+    /// Ramadan sheet come last, and after them the sheet's start.
     fn ranges(&self) -> Result<Asked, Refusal> {
         let (town, date) = (self.town()?, self.date()?);
         let asked = Asked {

@@ -1,4 +1,4 @@
-//! Orders: what the port's calls answer on an order's bytes must be what document 01 and the crate have.
+//! Orders: what the port's calls return on an order's bytes must be what document 01 and the crate say.
 use crate::counts::Counts;
 use crate::day_crate::Refusal;
 use crate::day_draw::Instant;
@@ -111,7 +111,7 @@ impl Orders {
     }
 
     fn written(&mut self, draw: &Draw, order: &Order, row: u32, day: &Result<PrayerTimes, Refusal>) {
-        // by its own draw, so that the instants do not hang on buffers
+        // by its own draw, so that the instants do not depend on buffers
         let before = Draw(draw.0).row_buffer();
         let (ours, owed) = (Written::by_port(order.bytes, row, &before), Written::owed(order, row, day, &before));
         let what = || format!("port {ours:?}, owed {owed:?}, row {row}, order {}", hexadecimal(order.bytes));

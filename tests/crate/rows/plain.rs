@@ -1,6 +1,6 @@
 //! Whole rows against the crate as it is, whose sin, cos and the others are the platform's. A row that differs is explained only by
-//! its hour numbers: from the crate's numbers the port must give the crate's row, and each number that moved a time must lie in a zone
-//! of document 01, or so near its fellow that nothing but the last bits parts them, with an edge of setting_hour between the two.
+//! its hour numbers: from the crate's numbers the port must give the crate's row, and each number that moved a time must be in a zone
+//! of document 01, or differ from the other's only in its last bits, with an edge of setting_hour between the two.
 use crate::day_crate::Refusal;
 use crate::day_draw::{DayCase, Settings};
 use crate::day_port::{self, Rules};
@@ -50,7 +50,7 @@ pub fn half_minute(number: f64) -> f64 {
     ((number * 60.0).floor() + 0.5) / 60.0
 }
 
-/// Where setting_hour's answer jumps: at the half minutes, and where the date changes. The edge itself is worked in floats, here and
+/// Where setting_hour's result jumps: at the half minutes, and where the date changes. The edge itself is worked in floats, here and
 /// in setting_hour.
 fn edge_between(a: f64, b: f64) -> bool {
     let edges = [half_minute(a), (a / 24.0).round() * 24.0];

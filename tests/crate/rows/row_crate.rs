@@ -1,5 +1,5 @@
-//! What a copy of the crate answers, from date, place and parameters on; a panic stands for a refusal or for none. Each copy's
-//! types are its own, so each gets its functions by this macro.
+//! What a copy of the crate gives, from date, place and parameters on. A panic counts as a refusal, number 0 if document 01 has none for
+//! it. Each copy's types are its own, so each gets its functions by this macro.
 
 macro_rules! rows_of {
     ($salah:ident) => {

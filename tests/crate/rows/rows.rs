@@ -44,7 +44,7 @@ pub fn rows(seed: u64, rows: u64) -> Rows {
         let (ours, theirs) = (by_port(&c, &settings, Rules::default()), by_crate(&c, &settings));
         let again = (by_port(&c, &settings, Rules { southern: 1, ..Rules::default() }), by_southern_crate(&c, &settings));
         moved += (again.0 != ours) as u64;
-        // only the method that goes by the season moves, and only in the south
+        // only the method that uses the season moves, and only in the south
         let may_move = settings.method == SEASONAL && c.latitude < 0.0;
         let wrong = again.0 != again.1 || again.0 != ours && !may_move;
         southern += wrong as u64;

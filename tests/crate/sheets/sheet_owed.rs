@@ -14,7 +14,7 @@ fn time_text(seconds: i64) -> String {
     format!("{days:+}T{:02}:{:02}:{:02}", seconds / 3600, seconds / 60 % 60, seconds % 60)
 }
 
-/// A row's line, with its newline; before Fajr stands imsak, so many minutes earlier, where the sheet is Ramadan's.
+/// A row's line, with its newline. If the sheet is Ramadan's, imsak is before Fajr, and earlier by its minutes.
 pub fn row_text(date: NaiveDate, row: &Row, imsak: Option<i32>) -> String {
     let day = date.format("%Y-%m-%d");
     match row {

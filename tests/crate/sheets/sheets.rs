@@ -10,7 +10,7 @@ use crate::threads::shared;
 
 const LINES: [&str; 3] = ["buffer, every byte", "sheet, line by line", "printed sheet"];
 
-/// One order in so many is also given to the program.
+/// One order in this many is also given to the program.
 const PRINTED: u64 = 10;
 
 pub struct Sheets(Counts<{ LINES.len() }>);
@@ -34,7 +34,7 @@ impl Sheets {
         }
     }
 
-    /// The sheet stands at the front of the buffer, and the bytes after it stay. Returns the sheet.
+    /// The sheet is at the front of the buffer, and the bytes after it stay. Returns the sheet.
     fn buffer(&mut self, draw: &mut Draw, order: &[u8], owed: &[u8]) -> Vec<u8> {
         let before: Vec<u8> = vec![draw.bits() as u8; LONGEST + draw.index(2) * draw.index(100)];
         let mut buffer = before.clone();

@@ -38,7 +38,7 @@ use std::process::exit;
 use summary::Line;
 
 struct Words {
-    /// Which comparison; all of them where it is empty.
+    /// Which comparison; all of them if it is empty.
     what: String,
     seed: u64,
     size: u64,

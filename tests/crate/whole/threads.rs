@@ -9,7 +9,7 @@ pub fn strayed() -> ! {
     exit(2)
 }
 
-/// Compares cases 0 to `size`, each drawn from a seed of its own, and returns what each thread has. The cases do not hang on how many
+/// Compares cases 0 to `size`, each drawn from a seed of its own, and returns what each thread has. The cases do not depend on how many
 /// threads there are.
 pub fn shared<T: Send>(seed: u64, size: u64, new: fn() -> T, compare: impl Fn(&mut T, u64, &mut Draw) + Sync) -> Vec<T> {
     let threads = thread::available_parallelism().map_or(1, |count| count.get() as u64);

@@ -1,4 +1,4 @@
-/* Linked with -ffast-math, whose start-up code has subnormal numbers flushed: the header's question must say so. */
+/* Linked with -ffast-math, whose start-up code flushes subnormal numbers: the header's question must say so. */
 #include "katchidul.h"
 
 int main(void) { return katchidul_environment_is_default() == 0 ? 0 : 1; }

@@ -125,7 +125,7 @@ static int work(void) {
   }
 }
 
-/* A process that ends before its n-th write: 0 where it comes to its end, 1 where it does not, and else what is wrong. */
+/* A process that ends before its n-th write: 0 if it came to its own end before that, 1 if it did not, and else what is wrong. */
 static int work_until(unsigned long n) {
   int status;
   pid_t child = fork();
@@ -141,8 +141,8 @@ static void forget(void) {
   for (size_t i = 0; i < sizeof names / sizeof *names; i++) unlink(names[i]);
 }
 
-/* A job whose host ends before its n-th write, soon after that once more, and then comes to its end. Meanwhile the embosser finishes what it has,
-   or loses it at the next start. */
+/* A job whose host ends before its n-th write, soon after that once more, and then comes to its end. Meanwhile the embosser finishes its
+   pages, or loses them at the next start. */
 static bool is_right(unsigned long n, bool finishes, bool *whole) {
   const unsigned long ends[] = {n, n * 7 % 61, ULONG_MAX};
   int ended = 1;

@@ -1,4 +1,4 @@
--- Invariant: the id is among the first n if it is among those from i on.
+-- Invariant: the id is among the first n if and only if it is among those from i on.
 use Rattle.prelude.proofs.Logic.{_≡_, sym, _∙_, _≤_, _-_, arith, length, slice, slice-empty, needs, eq-eqb, ne-eqb}
 use Rattle.queue.proofs.Lists.{listed-first}
 use Rattle.prelude.specs.Lists.{listed}

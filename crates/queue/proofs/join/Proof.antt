@@ -1,4 +1,4 @@
--- A job that is judged good has room behind the others (`room`); one that is refused leaves the queue as it was.
+-- A job that is not refused has room at the back (`room`). A refused job leaves the queue as it was.
 use Rattle.prelude.proofs.Logic.{sym, ap, _∙_, ℕ, arith, needs}
 use Rattle.refusals.specs.declared.Refusal.{Refusal}
 use Rattle.queue.proofs.Abstraction.{Whole}

@@ -1,4 +1,4 @@
--- Invariant: behind the row's first three cells are those of the first i times.
+-- Invariant: the cells of the first i times follow the row's first three cells.
 use Rattle.prelude.proofs.Logic.{_≡_, refl, ap, _∙_, _-_, _≤_, arith, pos, length, getD, take, replicate, needs, w32, w64, toZ}
 use Rattle.integers.proofs.Ranges.{readBack, read}
 use Rattle.text.specs.Text.{putOf}

@@ -1,4 +1,4 @@
--- The words and the two numbers, put one behind the other, are the refusal's text.
+-- The words and the two numbers, put one after another, are the refusal's text.
 use Rattle.prelude.proofs.Logic.{_≡_, arith, length, needs, now}
 use Rattle.text.specs.Text.{ascii}
 use Rattle.lines.proofs.LinesLaws.{number-length}

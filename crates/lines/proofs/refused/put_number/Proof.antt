@@ -1,4 +1,4 @@
--- A word and a number behind it are one text; a number has twenty digits at most.
+-- A word and the number after it are one text; a number has at most twenty digits.
 use Rattle.prelude.proofs.Logic.{arith, needs, now}
 use Rattle.text.proofs.TextLaws.{digits-short}
 use Rattle.lines.proofs.Making.{number-made, number-end}

@@ -1,4 +1,4 @@
--- The difference of minutes fits, or gives way to the earliest instant, as in `imsakOf`.
+-- Fajr less the minutes if an i64 holds it, else the earliest instant, as in `imsakOf`.
 use Rattle.prelude.proofs.Logic.{_^_, _<_, needs}
 use Rattle.lines.proofs.Imsak as law
 use Rattle.lines.proofs.row.imsak as this

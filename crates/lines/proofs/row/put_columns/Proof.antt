@@ -1,4 +1,4 @@
--- Three ends: no room at the offset, twice, or the part of the buffer there becomes the row's text.
+-- Three ends: two without room at the offset, and one in which that part of the buffer becomes the row's text.
 use Rattle.prelude.proofs.Logic.{sym, ap, _∙_, _+_, _-_, _*_, _++_, List, ℕ, arith, length, take, drop, needs, now}
 use Rattle.lines.specs.Lines.{rowText}
 use Rattle.lines.proofs.LinesLaws.{row-length}

@@ -1,4 +1,4 @@
--- Three ends: no such page, a full page, or the last page with the rows that are left.
+-- Three ends: the order lacks the page, a full page, or the last page with the rows that are left.
 use Rattle.prelude.proofs.Logic.{arith, needs}
 use Rattle.pages.proofs.PageLaws.{page-none, page-length}
 use Rattle.pages.proofs.page.rows_on as this

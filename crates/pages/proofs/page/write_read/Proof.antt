@@ -1,4 +1,4 @@
--- Two ends: a row that the page lacks is 5, else the rows that fit are written from the first on.
+-- Two ends: 5 if the page lacks the row; else the rows that fit are written, from row `first` on.
 use Rattle.prelude.proofs.Logic.{_≡_, sym, ap, _∙_, _+_, _-_, _*_, _/_, arith, length, needs, now}
 use Rattle.pages.specs.Answers.{refusedOf, pieceIn}
 use Rattle.pages.proofs.AnswerLaws.{same-answer, same-buffer, rows-none, rows-answered}
@@ -14,7 +14,7 @@ returns c =
     let n = sym (rows-none (pieceIn (a .page) (a .first) (now (a .scratch)) (a .order)) (now (a .scratch)) none) in
     (c .refused .ensures ∙ ap refusedOf (c .before .lacks-row .ensures) ∙ same-answer n, same-buffer n)
 
--- what is written of a page that has the row
+-- what is written if the page has the row
 piece-holds : (c : this.Tie.After-rows-that-fit) → let a = c .before .before .before .before .args in
     Written (a .order) (a .page) (a .first) (length (now (a .scratch)) / 39) (c .rows-that-fit .result)
 piece-holds c =

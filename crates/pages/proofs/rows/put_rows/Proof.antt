@@ -1,4 +1,4 @@
--- Invariant: the suns are the row's, the rows before it are in the buffer if they have room, and their dots are counted.
+-- Invariant: the suns are the row's, and the dots of the earlier rows are counted. These rows are in the buffer if it has room for all.
 use Rattle.prelude.proofs.Logic.{_≡_, refl, ap, _∙_, _+_, _-_, _<_, arith, needs, w32, now}
 use Rattle.braille.specs.Cells.{rowCells}
 use Rattle.calendar.specs.declared.dates.Date.{Date}
@@ -17,11 +17,11 @@ abbrev μ-loop : this.Tie.MeasureT-loop
 μ-loop buffer₀ order row end setting suns₀ next₀ dots₀ buffer suns next dots =
     end - next
 
--- an order has few rows, so that every number here fits
+-- an order has few rows, so every number here fits
 few : (c : this.Tie.At-loop Inv-loop μ-loop) → c .loop .next < 400
 few c = let p = c .before .before .before .before .before .before .pre in omega (arith, c .loop .inv .within, p .2, p .0 .rows .1)
 
--- behind the row that is put
+-- after the row that is put
 row-holds : (c : this.Tie.After-put-cells Inv-loop μ-loop)
     → let a = c .before .before .before .before .before .before .before .before .before .before .args in
     let l = c .before .before .before .before .loop in

@@ -1,4 +1,4 @@
--- The distance of two i64 by their parts without a sign, so that nothing wraps.
+-- The distance of two i64, from their parts without a sign: so no sum wraps.
 use Rattle.prelude.proofs.Logic.{_≡_, ap, _∙_, arith, w64}
 use Rattle.integers.proofs.Integers.{read, P, N}
 use Rattle.schedule.proofs.Due as due

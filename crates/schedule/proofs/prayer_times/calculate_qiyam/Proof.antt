@@ -1,4 +1,4 @@
--- Both times start at rounded maghrib; the night's parts are small, so that no sum leaves an i64.
+-- Both times start at rounded maghrib. The night's parts are small, so each sum fits an i64.
 use Rattle.prelude.proofs.Logic.{_≡_, ap, _∙_, lit≤, needs, w64}
 use Rattle.integers.proofs.Integers.{summands, readBack, of-i64, held-difference, held-by, held-as, held-fits, stored, asked, promised}
 use Rattle.models.specs.declared.rounding.Rounding.the-variants.{Nearest}

@@ -1,4 +1,4 @@
--- Each of the nine is the definition's, and is within 2 ^ 43 seconds of 0h, so that the date can be added.
+-- Each of the nine times is the definition's. It is within 2 ^ 43 seconds of 0h, so the date's start can be added.
 use Rattle.prelude.proofs.Logic.{ap, _∙_, lit≤, needs, w32, SFits}
 use Rattle.integers.proofs.Integers.{wide, read-wide, of-wide, held-as, asked}
 use Rattle.models.specs.declared.prayer.Prayer.the-variants.{Fajr, Sunrise, Dhuhr, Asr, Maghrib, Isha}
@@ -14,7 +14,7 @@ sunrise t = search needs
 sunset : (t : this.Tie.Start) → SFits w32 (t .args .suns .today .sunset)
 sunset t = search needs
 
--- where the arguments are known, from behind the first call
+-- the start, which has the arguments, from the state after the first call
 abbrev start : this.Tie.After-unadjusted-fajr → this.Tie.Start
 start c = c .before .before .before .before .before .before .before .before .before
 

@@ -1,4 +1,4 @@
--- 0h of the date is added to each of the nine; no sum leaves an i64.
+-- 0h of the date is added to each of the nine times; each sum fits an i64.
 use Rattle.prelude.proofs.Logic.{_^_, lit≤, ℤ, _+ℤ_, needs, w64, SFits}
 use Rattle.integers.proofs.Integers.{Near, readBack, held-fits, stored}
 use Rattle.schedule.proofs.Schedule.{startedOf, on-start}

@@ -10,7 +10,7 @@ sunrise t = search needs
 sunset : (t : this.Tie.Start) → SFits w32 (t .args .today .sunset)
 sunset t = search needs
 
--- tomorrow's sunrise, and from the sunset to it
+-- tomorrow's sunrise from 0h of today, then the night from sunset to it
 next-day : (t : this.Tie.Start) → Held (2 ^ 31 + 86400) (readBack w64 (readBack w32 (t .args .next .sunrise)) +ℤ pos 86400)
     (t .args .next .sunrise +ℤ pos 86400)
 next-day t = held-sum (of-wide _ (sunrise t)) (constant 86400)

@@ -1,4 +1,4 @@
--- The words, a blank and the place's digits, put one behind the other, are the sentence; 0 for a number without words.
+-- The words, a blank and the place's digits, put one after the other, are the sentence. A number without words gives 0.
 use Rattle.prelude.proofs.Logic.{_≡_, sym, ap, _∙_, List, ℕ, _+_, _<_, arith, length, needs, now}
 use Rattle.text.specs.Text.{ascii, decimalOf, putOf, frontOf}
 use Rattle.text.proofs.TextLaws.{digits-short}

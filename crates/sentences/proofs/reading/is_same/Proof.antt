@@ -1,4 +1,4 @@
--- Invariant: the two are the same if they are the same from i on.
+-- Invariant: the two byte strings are the same if they are the same from i on.
 use Rattle.prelude.proofs.Logic.{_≡_, refl, sym, _∙_, _-_, _≤_, arith, length, drop, needs, now}
 use Rattle.sentences.specs.Sentences.{same}
 use Rattle.sentences.proofs.Comparing.{longer-differs, same-next, same-differs, same-ends}

@@ -1,4 +1,4 @@
--- What is found is compared as a whole sentence (`Guessing`): if it is the bytes, they say it, else they say nothing.
+-- The sentence of the number and place that are found is compared whole (`Guessing`). If it is the bytes, they say it; else nothing.
 use Rattle.prelude.proofs.Logic.{refl, sym, ap, _∙_, List, ℕ, arith, length, needs, not-true, not-false, now}
 use Rattle.sentences.specs.Sentences.{same}
 use Rattle.sentences.proofs.Making.{known-by-sentence, unknown-by-sentence, line-of, reads-no-place, reads-unknown, reads-other}

@@ -1,4 +1,4 @@
--- Three ends: no such number, no room, or the sentence at the front and the other bytes as they were.
+-- Three ends: an unknown number, no room, or the sentence at the front and the other bytes as they were.
 use Rattle.prelude.proofs.Logic.{refl, sym, ap, subst, _∙_, ℕ, _<_, arith, length, needs, now}
 use Rattle.sentences.specs.Guess.{none}
 use Rattle.sentences.specs.Sentences.{SentenceCall}

@@ -1,4 +1,4 @@
--- Two ends: a buffer that is too short for a row of this order, or the row.
+-- Two ends: the buffer is too short for a row of this order, or the row is written.
 use Rattle.prelude.proofs.Logic.{_∙_, needs, now}
 use Rattle.sheets.proofs.Answers.{room-short, room-there}
 use Rattle.sheets.proofs.row.write_read as this

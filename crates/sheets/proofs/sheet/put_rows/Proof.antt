@@ -1,4 +1,4 @@
--- Invariant: the suns are the row's, and the lines before it are in the buffer, up to `end`.
+-- Invariant: the suns are the row's, and the lines of the earlier rows are in the buffer, up to `end`.
 use Rattle.prelude.proofs.Logic.{_≡_, refl, ap, _∙_, _+_, _-_, _^_, _<_, arith, length, needs, now}
 use Rattle.days.proofs.RowStates.{first-state, next-state}
 use Rattle.lines.specs.Lines.{lineText}
@@ -13,7 +13,7 @@ Inv-loop buffer₀ at order setting ramadan rolling₀ row₀ end₀ buffer suns
 abbrev μ-loop : this.Tie.MeasureT-loop
 μ-loop buffer₀ at order setting ramadan rolling₀ row₀ end₀ buffer suns row end = order .rows - row
 
--- behind the row whose line is put
+-- after the row whose line is put
 line-holds : (c : this.Tie.After-put-line Inv-loop μ-loop) → let a =
     c .before .before .before .before .before .before .before .before .args in
     let l = c .before .before .before .loop in

@@ -1,4 +1,4 @@
--- The day's minutes and those of its second, each rounded down, are the seconds' minutes rounded down.
+-- The minutes of the whole days, and those of the second of the day rounded down, are the seconds' minutes rounded down.
 use Rattle.prelude.proofs.Logic.{_≡_, refl, needs, w64}
 use Rattle.integers.proofs.Ranges.{readBack}
 use Rattle.weeks.proofs.MinuteLaws.{whole-fits, minutes-fit, minutes-read}

@@ -1,4 +1,4 @@
--- `weeks::minutes::work_minutes` meets its contract. The loop's invariant: the suns are the row's, and the rows before it are stored.
+-- `weeks::minutes::work_minutes` meets its contract. The loop's invariant: the suns are the row's, and the earlier rows are stored.
 use Rattle.prelude.proofs.Logic.{_≡_, sym, ap, _∙_, ℕ, _+_, _-_, _<_, arith, length, needs, now}
 use Rattle.days.proofs.RowStates.{first-state, next-state}
 use Rattle.schedule.specs.RowSuns.{nextRowSunsOf}
@@ -14,7 +14,7 @@ Inv-loop order minutes₀ refused₀ setting suns₀ row₀ minutes refused suns
 abbrev μ-loop : this.Tie.MeasureT-loop
 μ-loop order minutes₀ refused₀ setting suns₀ row₀ minutes refused suns row = order .rows - row
 
--- behind the row that is stored
+-- after the row that is stored
 stored : (c : this.Tie.After-store Inv-loop μ-loop)
     → let order = c .before .before .before .before .before .before .before .before .args .order in
     (k : ℕ) → k < c .before .before .before .before .loop .row + 1
@@ -39,7 +39,7 @@ loop-holds c =
       done = λ k h. absurd (omega arith);
     }
 
--- an order has few rows, so that every number here fits
+-- an order has few rows, so every number here fits
 few : (c : this.Tie.At-loop Inv-loop μ-loop) → c .loop .row < 400
 few c = omega (arith, c .loop .inv .within, c .before .before .before .before .pre .0 .rows .1)
 

@@ -1,4 +1,4 @@
--- Date, place and parameters are asked in their order; with all three it is the first row of a run (`first-row`).
+-- Date, place and parameters are tested in this order. With all three, the result is the first row of a run (`first-row`).
 use Rattle.prelude.proofs.Logic.{ap, needs}
 use Rattle.schedule.specs.declared.prayer_schedule.Calculated.the-variants.{Some}
 use Rattle.schedule.specs.Builder.{calculatedFrom}

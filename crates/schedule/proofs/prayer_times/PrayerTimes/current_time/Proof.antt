@@ -1,4 +1,4 @@
--- Invariant: the last of the first n whose instant is due is the last of all eight.
+-- Invariant: the last of the first n times that is due is the last of all eight that is due.
 use Rattle.prelude.proofs.Logic.{_≡_, refl, sym, ap, _∙_, _≤_, arith, ℤ, needs, w64}
 use Rattle.integers.proofs.Ranges.{readBack}
 use Rattle.models.specs.Numbers.{prayerOf}
@@ -16,7 +16,7 @@ abbrev μ-loop : this.Tie.MeasureT-loop
 loop-holds : this.Tie.Need-loop-holds Inv-loop μ-loop
 loop-holds c = (omega arith, refl)
 
--- the time of the prayer that is looked at
+-- the seconds to the prayer that is looked at
 looked : (c : this.Tie.After-ahead Inv-loop μ-loop) → let a = c .before .before .before .before .before .args in
     c .ahead .result ≡ aheadOf (timeOf (a .self) (prayerOf (c .before .before .before .before .loop .n))) (a .instant)
 looked c =
