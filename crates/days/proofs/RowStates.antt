@@ -33,9 +33,10 @@ module _ (o : Order) (a : Accepted o) where
         let d = o .date in
         let there = a .date .there in
         let r = a .row k h in
+        let from = r .from in
         let to = r .to in
         let y = row-year d there k to in
-        rolls (rowDateOf d k) (o .setting) (r .there) (omega arith)
+        rolls (rowDateOf d k) (o .setting) (r .there) (omega arith) to
         ∙ ap (λ (x : Date). rowSunsOf x (o .setting)) (sym (row-tomorrow d there k (omega arith)))
 
     pub state-worked : workedBySuns o (stateOf o k) ≡ workRowOf o k

@@ -3,7 +3,9 @@ use Rattle.prelude.proofs.Logic.{_≡_, refl, ap, Bool, true, false, cond, not,
 use Rattle.prelude.proofs.Logic.{eqb→eq, lt→ltb, pos, _+ℤ_, _-ℤ_, _*ℤ_, ltb-true, ltb-false, cases}
 use Rattle.integers.proofs.Integers.{same, sum, difference, times}
 use Rattle.calendar.proofs.Calendar.{leapOf, existsOf, daysBeforeOf, daysInYearOf, daysBeforeYearOf, dayNumberOf, tested, when, year-step}
-use Rattle.calendar.proofs.Calendar.{exists-yes, month-of-date, ordinal-is, count}
+use Rattle.calendar.proofs.Calendar.{exists-yes, month-of-date, ordinal-is, count, year-after}
+use Rattle.calendar.proofs.Neighbours.{after}
+use Rattle.calendar.specs.Gregorian.{dayAfterOf}
 use Rattle.calendar.specs.declared.dates.Date.{Date}
 use Rattle.julian.specs.Meeus.{yearDaysOf, monthTermOf, meeusOf}
 
@@ -68,6 +70,13 @@ counted d h l =
     early-days : (v : ℕ) → v ≡ daysBeforeOf (leapOf (d .year)) (d .month) + 428
         → daysBeforeYearOf (d .year - 1 + 1) + v + d .day ≡ count d + 428
     early-days v k = let z : d .year - 1 + 1 ≡ d .year = omega arith in omega (arith, ordinal-is d h, ap daysBeforeYearOf z)
+
+-- so Meeus's number of the next day is one day more, which is two halves
+pub meeus-after : (d : Date) → existsOf d ≡ true → 1 ≤ d .year → meeusOf (dayAfterOf d) ≡ meeusOf d + 2
+meeus-after d h l =
+    let a = after d h in
+    let y = year-after d in
+    omega (arith, counted d h l, counted (dayAfterOf d) (a .there) (omega arith), a .number)
 
 -- twice the Julian Day is twice the number of the day plus 4881175: day 0 begins at 2440587.5
 pub meeus-number : (d : Date) → existsOf d ≡ true → 1 ≤ d .year → pos (meeusOf d) ≡ dayNumberOf d *ℤ pos 2 +ℤ pos 4881175

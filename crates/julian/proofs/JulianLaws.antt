@@ -1,16 +1,17 @@
--- For every date of the years 1899 to 2200 the f64 formula, Meeus's whole numbers and the calendar's count of days give the same Julian
+-- For every date of the years 1899 to 2204 the f64 formula, Meeus's whole numbers and the calendar's count of days give the same Julian
 -- Day. The f64 sums are of whole numbers and halves, which lose nothing. Assumes nothing.
-use Rattle.prelude.proofs.Logic.{_≡_, refl, ap, _∙_, true, ℕ, suc, _+_, _-_, _*_, _/_, _≤_, _<_, arith, ltb, lit<, lit≤, ℤ, pos, negsuc}
+use Rattle.prelude.proofs.Logic.{_≡_, refl, sym, ap, _∙_, true, ℕ, suc, _+_, _-_, _*_, _/_, _≤_, _<_, arith, ltb, lit<, lit≤, ℤ, pos, negsuc}
 use Rattle.prelude.proofs.Logic.{_+ℤ_, _-ℤ_, _*ℤ_, ltb-true, ltb-false, lt-ltb, cases}
-use Rattle.float64.proofs.Floats.{Float, binary64, ofInt, round, sub, div, _+ᶠ_, _-ᶠ_, _/ᶠ_, dec, dyadic, int-dyadic, add-dyadic}
+use Rattle.float64.proofs.Floats.{Float, binary64, ofInt, round, sub, div, _+ᶠ_, _-ᶠ_, _/ᶠ_, dec, big, dyadic, int-dyadic, add-dyadic}
 use Rattle.float64.proofs.Floats.{sub-dyadic, neg-at}
 use Rattle.integers.proofs.Integers.{P, same, sum, difference}
-use Rattle.calendar.proofs.Calendar.{existsOf, dayNumberOf, exists-yes, month-of-date}
+use Rattle.calendar.proofs.Calendar.{existsOf, dayNumberOf, tomorrowOf, exists-yes, month-of-date, year-after}
+use Rattle.calendar.proofs.Successors.{tomorrow-is, tomorrow-exists}
 use Rattle.calendar.specs.declared.dates.Date.{Date}
 use Rattle.julian.specs.Julian.{real, correctionOf, fromMarchOf, julianDayOf, toI32Of, dateJulianDayOf}
 use Rattle.julian.specs.Meeus.{yearDaysOf, monthTermOf, meeusOf}
 use Rattle.julian.proofs.Products.{year-cut, month-cut}
-use Rattle.julian.proofs.Counted.{meeus-number}
+use Rattle.julian.proofs.Counted.{meeus-number, meeus-after}
 
 -- n halves as an f64
 abbrev pub halves : ℕ → Float
@@ -56,14 +57,14 @@ exact u v day b small p large =
     rw (whole u, whole v, whole day, no-hours, offset, e0, e1, e2, e3, e4) (ap halves e5)
 
 -- ---- the formula
-correction : (y : ℕ) → 1898 ≤ y → y ≤ 2200 → correctionOf (pos y) ≡ negsuc (y / 100 - 2 - y / 100 / 4 - 1)
+correction : (y : ℕ) → 1898 ≤ y → y ≤ 2204 → correctionOf (pos y) ≡ negsuc (y / 100 - 2 - y / 100 / 4 - 1)
 unfolding correctionOf
 correction y p q =
     let a = y / 100 in
     let d = difference (pos 2) (pos a) in
     same ((pos 2 -ℤ pos a) +ℤ pos (a / 4)) (negsuc (a - 2 - a / 4 - 1)) (omega (arith, sum (pos 2 -ℤ pos a) (pos (a / 4)), d .0, d .1))
 
-from-march : (y m day : ℕ) → 1898 ≤ y → y ≤ 2200 → 3 ≤ m → m ≤ 14 → day ≤ 31 →
+from-march : (y m day : ℕ) → 1898 ≤ y → y ≤ 2204 → 3 ≤ m → m ≤ 14 → day ≤ 31 →
     fromMarchOf (pos y) (pos m) (at-midnight day)
     ≡ halves (2 * (yearDaysOf y + monthTermOf m + day + 2 + y / 100 / 4 - y / 100) - 3049)
 unfolding fromMarchOf
@@ -90,7 +91,7 @@ before : (y : ℕ) → 1 ≤ y → pos y -ℤ pos 1 ≡ pos (y - 1)
 before y h = let d = difference (pos y) (pos 1) in same (pos y -ℤ pos 1) (pos (y - 1)) (omega (arith, d .0, d .1))
 
 -- the f64 formula and the whole-number one
-pub julian-meeus : (d : Date) → existsOf d ≡ true → 1899 ≤ d .year → d .year ≤ 2200 → dateJulianDayOf d ≡ halves (meeusOf d)
+pub julian-meeus : (d : Date) → existsOf d ≡ true → 1899 ≤ d .year → d .year ≤ 2204 → dateJulianDayOf d ≡ halves (meeusOf d)
 unfolding dateJulianDayOf julianDayOf meeusOf
 julian-meeus d h p q =
     let x = exists-yes d h in let m = month-of-date d x in
@@ -102,6 +103,28 @@ julian-meeus d h p q =
     (from-march (d .year - 1) (d .month + 12) (d .day) (omega arith) (omega arith) (omega arith) (omega arith) (omega arith))))
 
 -- and the calendar's count of days: day 0 begins at 2440587.5
-pub julian-number : (d : Date) → existsOf d ≡ true → 1899 ≤ d .year → d .year ≤ 2200
+pub julian-number : (d : Date) → existsOf d ≡ true → 1899 ≤ d .year → d .year ≤ 2204
     → dateJulianDayOf d ≡ halves (P (dayNumberOf d *ℤ pos 2 +ℤ pos 4881175))
 julian-number d h p q = julian-meeus d h p q ∙ ap (λ (z : ℤ). halves (P z)) (meeus-number d h (omega arith))
+
+-- ---- the next date
+pub meeus-small : (d : Date) → existsOf d ≡ true → d .year ≤ 2204 → meeusOf d < big
+unfolding meeusOf
+meeus-small d h q =
+    let x = exists-yes d h in let m = month-of-date d x in
+    cases (ltb 2 (d .month)) (λ e. rw e (omega arith)) (λ e. rw e (omega arith))
+
+one : dec 1 0 ≡ halves 2
+unfolding dec round
+one = refl
+
+-- the Julian Day of the next date is one more
+pub julian-tomorrow : (d : Date) → existsOf d ≡ true → 1899 ≤ d .year → d .year ≤ 2203
+    → dateJulianDayOf (tomorrowOf d) ≡ dateJulianDayOf d +ᶠ dec 1 0
+julian-tomorrow d h p q =
+    let is = tomorrow-is d h (omega arith) in
+    let y : (d .year ≤ tomorrowOf d .year) × (tomorrowOf d .year ≤ d .year + 1) = rw is (year-after d) in
+    let next = julian-meeus (tomorrowOf d) (tomorrow-exists d h (omega arith)) (omega arith) (omega arith) in
+    let two : halves (meeusOf d) +ᶠ halves 2 ≡ halves (meeusOf d + 2) =
+    add-dyadic 1 (meeusOf d) 2 (lit≤ tt) (meeus-small d h (omega arith)) (lit< tt) in
+    next ∙ ap halves (ap meeusOf is ∙ meeus-after d h (omega arith)) ∙ sym (rw (julian-meeus d h p (omega arith), one) two)

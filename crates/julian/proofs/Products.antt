@@ -21,11 +21,11 @@ yearTest k = is (cutOf (yearProductOf (pos (k + 1898)))) (yearDaysOf (k + 1898))
 monthTest : ℕ → Bool
 monthTest k = is (cutOf (monthProductOf (pos (k + 3)))) (monthTermOf (k + 3))
 
-pub year-cut : (y : ℕ) → 1898 ≤ y → y ≤ 2200 → cutOf (yearProductOf (pos y)) ≡ pos (yearDaysOf y)
+pub year-cut : (y : ℕ) → 1898 ≤ y → y ≤ 2204 → cutOf (yearProductOf (pos y)) ≡ pos (yearDaysOf y)
 unfolding is yearTest yearProductOf toSigned mul add ofInt dec round
 year-cut y p q =
     let e : y - 1898 + 1898 ≡ y = omega arith in
-    let t = at yearTest 303 tt (y - 1898) (omega arith) in
+    let t = at yearTest 307 tt (y - 1898) (omega arith) in
     rw e at (is-pos (cutOf (yearProductOf (pos (y - 1898 + 1898)))) (yearDaysOf (y - 1898 + 1898)) t)
 
 pub month-cut : (m : ℕ) → 3 ≤ m → m ≤ 14 → cutOf (monthProductOf (pos m)) ≡ pos (monthTermOf m)

@@ -4,25 +4,25 @@ use Rattle.float64.proofs.Floats.{Float}
 use Rattle.unit.specs.declared.Angle.{Angle}
 use Rattle.unit.specs.declared.Coordinates.{Coordinates}
 use Rattle.unit.specs.Unit.{longitudeAngleOf}
-use Rattle.ops.specs.declared.coordinates.SolarCoordinates.{SolarCoordinates}
+use Rattle.ops.specs.declared.coordinates.Equatorial.{Equatorial}
 use Rattle.ops.specs.declared.transit.Course.{Course}
 use Rattle.ops.specs.Transit.{interpolateOf, interpolateAnglesOf, altitudeOfCelestialBodyOf, hourAngleAtOf, correctedTransitOf}
 use Rattle.ops.specs.Transit.{correctedHourAngleOf}
 use Rattle.ops.specs.Shared.{interpolatedOf, observerOf, courseThroughOf, hourAngleOf, courseTransitNumberOf, arcToSineOf, halfArcOf}
 use Rattle.ops.specs.Shared.{movedTransitOf, hourNumberOf}
 
-module _ (transit : Float) (place : Coordinates) (previous today next : SolarCoordinates) where
+module _ (transit : Float) (place : Coordinates) (sidereal : Angle) (previous today next : Equatorial) where
   abbrev course : Course
-  course = courseThroughOf transit (observerOf place) previous today next
+  course = courseThroughOf transit (observerOf place) sidereal previous today next
 
   pub transit-shared : courseTransitNumberOf course
-      ≡ correctedTransitOf transit (longitudeAngleOf place) (today .«apparent_sidereal_time»)
+      ≡ correctedTransitOf transit (longitudeAngleOf place) sidereal
       (today .«right_ascension») (previous .«right_ascension») (next .«right_ascension»)
   unfolding courseTransitNumberOf correctedTransitOf hourAngleOf hourAngleAtOf interpolatedOf interpolateAnglesOf
   transit-shared = refl
 
   pub hour-number-shared : (angle : Angle) (after : Bool) → hourNumberOf course angle (halfArcOf course angle) after
-      ≡ correctedHourAngleOf transit angle place after (today .«apparent_sidereal_time»)
+      ≡ correctedHourAngleOf transit angle place after sidereal
       (today .«right_ascension») (previous .«right_ascension») (next .«right_ascension»)
       (today .declination) (previous .declination) (next .declination)
   unfolding hourNumberOf movedTransitOf halfArcOf arcToSineOf correctedHourAngleOf hourAngleOf hourAngleAtOf interpolatedOf

@@ -35,6 +35,13 @@ abbrev pub equatorialOf : Float → Float → Equatorial
 equatorialOf obliquity longitude =
     record { declination = declinationOf obliquity longitude; «right_ascension» = rightAscensionOf obliquity longitude }
 
+-- a position without its sidereal time, and the sidereal time
+abbrev pub placeOf : SolarCoordinates → Equatorial
+placeOf p = record { declination = p .declination; «right_ascension» = p .«right_ascension» }
+
+abbrev pub siderealTimeOf : SolarCoordinates → Angle
+siderealTimeOf p = p .«apparent_sidereal_time»
+
 -- the differences of an interpolation: a + b and c
 abbrev pub differencesOf : Float → Float → Float → Interpolation
 differencesOf value previous next =
@@ -64,23 +71,22 @@ unfolding dec
 transitFromOf west sidereal ascension =
     normalizedToScaleOf ((overOf (minusOf (plusOf ascension west) sidereal) (angleOf (dec 360 0))) .degrees) (dec 1 0)
 
--- the sun's course over a place on a day, from its transit and its position on the day before, on the day and on the day after
-abbrev pub courseThroughOf : Float → Observer → SolarCoordinates → SolarCoordinates → SolarCoordinates → Course
-courseThroughOf transit observer previous today next =
+-- the sun's course over a place on a day, from its transit, the sidereal time, and the positions of the day before, the day and the day after
+abbrev pub courseThroughOf : Float → Observer → Angle → Equatorial → Equatorial → Equatorial → Course
+courseThroughOf transit observer sidereal previous today next =
     record {
       observer = observer;
       transit = transit;
-      «sidereal_time» = today .«apparent_sidereal_time»;
+      «sidereal_time» = sidereal;
       «right_ascension» = angleDifferencesOf (today .«right_ascension») (previous .«right_ascension») (next .«right_ascension»);
       declination = differencesOf (today .declination .degrees) (previous .declination .degrees) (next .declination .degrees);
       sines = observer .sine *ᶠ sinOf (radiansOf (today .declination));
       cosines = observer .cosine *ᶠ cosOf (radiansOf (today .declination));
     }
 
-abbrev pub courseOf : Observer → SolarCoordinates → SolarCoordinates → SolarCoordinates → Course
-courseOf observer previous today next =
-    courseThroughOf (transitFromOf (observer .west) (today .«apparent_sidereal_time») (today .«right_ascension»)) observer previous today
-    next
+abbrev pub courseOf : Observer → Angle → Equatorial → Equatorial → Equatorial → Course
+courseOf observer sidereal previous today next =
+    courseThroughOf (transitFromOf (observer .west) sidereal (today .«right_ascension»)) observer sidereal previous today next
 
 -- the sun's hour angle at m
 unfoldable pub hourAngleOf : Course → Float → Angle

@@ -1,7 +1,7 @@
 // solar.rs: the sun's position at 0h of a day. It is in this crate since a course is made from three positions.
 ghost use mathlib.Core.Path.{_≡_};
 ghost use Rattle.ops.specs.Coordinates.{apparentSiderealTimeOf, solarCoordinatesOf, positionOf};
-ghost use Rattle.ops.specs.Shared.{equatorialOf};
+ghost use Rattle.ops.specs.Shared.{equatorialOf, placeOf, siderealTimeOf};
 use super::sun::apparent_position;
 use super::sun::ascending_lunar_node_longitude;
 use super::sun::julian_century;
@@ -27,6 +27,7 @@ pub struct SolarCoordinates {
     pub apparent_sidereal_time: Angle,
 }
 
+// The position without the sidereal time: all that a course takes of the days beside its own.
 pub struct Equatorial {
     pub declination: Angle,
     pub right_ascension: Angle,
@@ -61,9 +62,9 @@ fn apparent_sidereal_time(
     Angle::new(sidereal.degrees + ((nutation.longitude * 3600.0) * cosine) / 3600.0)
 }
 
-impl SolarCoordinates {
-    pub fn new(julian_day: f64) -> SolarCoordinates
-        ensures { λ r. ⌜ r ≡ solarCoordinatesOf «julian_day» ⌝ }
+impl Equatorial {
+    pub fn new(julian_day: f64) -> Equatorial
+        ensures { λ r. ⌜ r ≡ placeOf (solarCoordinatesOf «julian_day») ⌝ }
     {
         let century = julian_century(julian_day);
         let mean_longitude = mean_solar_longitude(century);
@@ -71,20 +72,38 @@ impl SolarCoordinates {
         let apparent = apparent_position(century, mean_longitude, mean_obliquity);
         let longitude = apparent.longitude;
         let obliquity = apparent.obliquity;
-        let position = on_the_sphere(obliquity.radians(), longitude.radians());
-        let declination = position.declination;
-        let right_ascension = position.right_ascension;
+        on_the_sphere(obliquity.radians(), longitude.radians())
+    }
+}
+
+// The apparent sidereal time of a Julian Day.
+pub fn sidereal_time(julian_day: f64) -> Angle
+    ensures { λ r. ⌜ r ≡ siderealTimeOf (solarCoordinatesOf «julian_day») ⌝ }
+{
+    let century = julian_century(julian_day);
+    let mean_longitude = mean_solar_longitude(century);
+    let mean_obliquity = mean_obliquity_of_the_ecliptic(century);
+    apparent_sidereal_time(century, mean_longitude, mean_obliquity)
+}
+
+impl SolarCoordinates {
+    pub fn new(julian_day: f64) -> SolarCoordinates
+        ensures { λ r. ⌜ r ≡ solarCoordinatesOf «julian_day» ⌝ }
+    {
+        let place = Equatorial::new(julian_day);
+        let declination = place.declination;
+        let right_ascension = place.right_ascension;
         SolarCoordinates {
             declination: declination,
             right_ascension: right_ascension,
-            apparent_sidereal_time: apparent_sidereal_time(century, mean_longitude, mean_obliquity),
+            apparent_sidereal_time: sidereal_time(julian_day),
         }
     }
 }
 
-// The sun's position at 0h of a date.
-pub fn position(date: Date) -> SolarCoordinates
-    ensures { λ r. ⌜ r ≡ positionOf date ⌝ }
+// The sun's position at 0h of a date, without the sidereal time.
+pub fn place(date: Date) -> Equatorial
+    ensures { λ r. ⌜ r ≡ placeOf (positionOf date) ⌝ }
 {
-    SolarCoordinates::new(date_julian_day(date))
+    Equatorial::new(date_julian_day(date))
 }

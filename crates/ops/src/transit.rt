@@ -6,7 +6,7 @@ ghost use Rattle.ops.specs.Transit.{altitudeOfCelestialBodyOf, westOf, a
 ghost use Rattle.ops.specs.Transit.{correctedHourAngleOf};
 ghost use Rattle.ops.specs.Shared.{observerOf, transitFromOf, courseThroughOf, courseOf, hourAngleOf, movedTransitOf};
 ghost use Rattle.ops.specs.Shared.{courseTransitNumberOf, arcToSineOf, halfArcOf, hourNumberOf};
-use super::coordinates::SolarCoordinates;
+use super::coordinates::Equatorial;
 use super::interpolation::Interpolation;
 use super::interpolation::interpolate_angles;
 use fdlibm_arc::e_acos::acos;
@@ -90,13 +90,13 @@ impl Course {
     fn through(
         transit: f64,
         observer: Observer,
-        previous: SolarCoordinates,
-        today: SolarCoordinates,
-        next: SolarCoordinates,
+        sidereal_time: Angle,
+        previous: Equatorial,
+        today: Equatorial,
+        next: Equatorial,
     ) -> Course
-        ensures { λ r. ⌜ r ≡ courseThroughOf transit observer previous today next ⌝ }
+        ensures { λ r. ⌜ r ≡ courseThroughOf transit observer «sidereal_time» previous today next ⌝ }
     {
-        let sidereal_time = today.apparent_sidereal_time;
         let declination = today.declination;
         let declination_before = previous.declination;
         let declination_after = next.declination;
@@ -120,21 +120,18 @@ impl Course {
         }
     }
 
-    // From the sun's position on the day before, on the day and on the day after.
+    // From the day's sidereal time, and the sun's position on the day before, on the day and on the day after.
     pub fn new(
         observer: Observer,
-        previous: SolarCoordinates,
-        today: SolarCoordinates,
-        next: SolarCoordinates,
+        sidereal_time: Angle,
+        previous: Equatorial,
+        today: Equatorial,
+        next: Equatorial,
     ) -> Course
-        ensures { λ r. ⌜ r ≡ courseOf observer previous today next ⌝ }
+        ensures { λ r. ⌜ r ≡ courseOf observer «sidereal_time» previous today next ⌝ }
     {
-        let transit = transit_from(
-            observer.west,
-            today.apparent_sidereal_time,
-            today.right_ascension,
-        );
-        Course::through(transit, observer, previous, today, next)
+        let transit = transit_from(observer.west, sidereal_time, today.right_ascension);
+        Course::through(transit, observer, sidereal_time, previous, today, next)
     }
 
     // The sun's hour angle at a fraction of the day.
@@ -249,22 +246,26 @@ pub fn corrected_hour_angle(
     ensures { λ r. ⌜ r ≡ correctedHourAngleOf «approximate_transit» angle coordinates «after_transit» «sidereal_time» «right_ascension»
         «previous_right_ascension» «next_right_ascension» declination «previous_declination» «next_declination» ⌝ }
 {
-    let previous = SolarCoordinates {
+    let previous = Equatorial {
         declination: previous_declination,
         right_ascension: previous_right_ascension,
-        apparent_sidereal_time: sidereal_time,
     };
-    let today = SolarCoordinates {
+    let today = Equatorial {
         declination: declination,
         right_ascension: right_ascension,
-        apparent_sidereal_time: sidereal_time,
     };
-    let next = SolarCoordinates {
+    let next = Equatorial {
         declination: next_declination,
         right_ascension: next_right_ascension,
-        apparent_sidereal_time: sidereal_time,
     };
     let observer = Observer::new(coordinates);
-    let course = Course::through(approximate_transit, observer, previous, today, next);
+    let course = Course::through(
+        approximate_transit,
+        observer,
+        sidereal_time,
+        previous,
+        today,
+        next,
+    );
     course.hour_number(angle, course.half_arc(angle), after_transit)
 }

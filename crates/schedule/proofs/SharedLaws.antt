@@ -23,7 +23,7 @@ use Rattle.schedule.specs.declared.prayer_times.PrayerTimes.{PrayerTimes
 use Rattle.schedule.specs.declared.prayer_times.Worked.the-variants.{Times}
 use Rattle.schedule.specs.Hours.{hoursOf}
 use Rattle.schedule.specs.Numbers.{fajrAngleOf, ishaAngleOf, shadowOf, numbersOf}
-use Rattle.schedule.specs.RowSuns.{daySunOf, rowSunsOf, rowSunsHoursOf}
+use Rattle.schedule.specs.RowSuns.{coursesOf, daySunOf, rowSunsOf, rowSunsHoursOf}
 use Rattle.schedule.specs.Times.{startOf, fajrTomorrowOf, fromMidnightOf, startedOf, workedFrom, workedOf}
 use Rattle.schedule.specs.Twilight.{bySeventhOf, ownOf, unadjustedFajrOf, boundedIshaOf, unadjustedIshaOf}
 
@@ -81,7 +81,7 @@ module _ (s : Setting) (c : Course) where
 -- ---- the row
 pub row-shared : (date : Date) (s : Setting) → rowSunsHoursOf s (rowSunsOf date s)
     ≡ askedOf (s .parameters) (s .coordinates .latitude) (hoursOf (s .rules .midnight) (numbersOf date (s .coordinates) (s .parameters)))
-unfolding rowSunsHoursOf rowSunsOf daySunOf hoursOf numbersOf
+unfolding rowSunsHoursOf rowSunsOf coursesOf daySunOf hoursOf numbersOf
 row-shared date s =
     let place = s .coordinates in
     let p = s .parameters in

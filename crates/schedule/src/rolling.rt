@@ -2,8 +2,10 @@
 // and the hour of its Fajr, are the row's own. What depends on the place or on the parameters alone is worked with the first row's.
 ghost use mathlib.Core.Path.{_≡_};
 ghost use Rattle.calendar.specs.Answers.{yesterdayOf, tomorrowOf};
+ghost use Rattle.julian.specs.Julian.{dateJulianDayOf};
 ghost use Rattle.ops.specs.Coordinates.{positionOf};
-ghost use Rattle.schedule.specs.RowSuns.{daySunOf, rowSunsOf, nextRowSunsOf, threeSunsOf, rowSunsWorkedOf, rowSunsFajrOf};
+ghost use Rattle.ops.specs.Shared.{placeOf};
+ghost use Rattle.schedule.specs.RowSuns.{coursesOf, daySunOf, rowSunsOf, nextRowSunsOf, threeSunsOf, rowSunsWorkedOf, rowSunsFajrOf};
 use super::angles::TwilightSines;
 use super::angles::asr_hour;
 use super::hours::RowHours;
@@ -11,16 +13,19 @@ use super::hours::Suns;
 use super::prayer_times::FajrAlone;
 use super::prayer_times::Worked;
 use calendar::dates::Date;
+use julian::day::date_julian_day;
 use models::rules::Rules;
 use models::setting::Setting;
-use ops::coordinates::SolarCoordinates;
-use ops::coordinates::position;
+use ops::coordinates::Equatorial;
+use ops::coordinates::place;
+use ops::coordinates::sidereal_time;
 use ops::transit::Course;
 use ops::transit::Observer;
 use solar::hours::hour_numbers;
 use solar::setting::SolarHour;
 use solar::times::SolarDay;
 use solar::times::SolarTime;
+use unit::Coordinates;
 
 // The sun's course over the place on a day, and its times.
 pub struct DaySun {
@@ -29,13 +34,13 @@ pub struct DaySun {
 }
 
 // What a row is worked from: the sun of its date and of the two days after it, and the hours of Fajr's angle on the date and on the next.
-// The positions at 0h of the second and the third day after the date are kept for the next row.
+// The positions at 0h of the second and the third day after the date, and the Julian Day of the third, are kept for the next row.
 pub struct RowSuns {
     pub date: Date,
-    pub third: Date,
+    pub third: f64,
     pub sines: TwilightSines,
-    pub at_second: SolarCoordinates,
-    pub at_third: SolarCoordinates,
+    pub at_second: Equatorial,
+    pub at_third: Equatorial,
     pub today: DaySun,
     pub tomorrow: DaySun,
     pub after: DaySun,
@@ -43,18 +48,87 @@ pub struct RowSuns {
     pub fajr_tomorrow: SolarHour,
 }
 
+// The sun's courses on a date and on the two days after it, and what the next one is made from.
+pub struct Courses {
+    pub today: Course,
+    pub tomorrow: Course,
+    pub after: Course,
+    pub third: f64,
+    pub at_second: Equatorial,
+    pub at_third: Equatorial,
+}
+
 // The last year that a u32 holds. Its last date is its own tomorrow.
 const LAST_YEAR: u32 = 4294967295;
 
+// The years in which each Julian Day is known to be the one before it and 1.0: those of an order, and some on either side.
+const ROLLS_FROM: u32 = 1899;
+
+const ROLLS_TO: u32 = 2203;
+
 // The position on the day before the date's tomorrow. In every year but the last that day is the date itself, whose position is at hand.
-fn position_before_tomorrow(date: Date, at_date: SolarCoordinates) -> SolarCoordinates
-    requires { ⌜ «at_date» ≡ positionOf date ⌝ }
-    ensures { λ r. ⌜ r ≡ positionOf (yesterdayOf (tomorrowOf date)) ⌝ }
+fn place_before_tomorrow(date: Date, at_date: Equatorial) -> Equatorial
+    requires { ⌜ «at_date» ≡ placeOf (positionOf date) ⌝ }
+    ensures { λ r. ⌜ r ≡ placeOf (positionOf (yesterdayOf (tomorrowOf date))) ⌝ }
 {
     if date.year < LAST_YEAR {
         return at_date;
     }
-    position(date.tomorrow().yesterday())
+    place(date.tomorrow().yesterday())
+}
+
+// The Julian Day of a date's tomorrow, from the date's own. A date that does not exist is its own tomorrow.
+fn julian_day_after(date: Date, tomorrow: Date, julian_day: f64) -> f64
+    requires { ⌜ (tomorrow ≡ tomorrowOf date) × («julian_day» ≡ dateJulianDayOf date) ⌝ }
+    ensures { λ r. ⌜ r ≡ dateJulianDayOf (tomorrowOf date) ⌝ }
+{
+    if date.day != tomorrow.day {
+        if date.year >= ROLLS_FROM {
+            if date.year <= ROLLS_TO {
+                return julian_day + 1.0;
+            }
+        }
+    }
+    date_julian_day(tomorrow)
+}
+
+impl Courses {
+    fn new(date: Date, coordinates: Coordinates) -> Courses
+        ensures { λ r. ⌜ r ≡ coursesOf date coordinates ⌝ }
+    {
+        let observer = Observer::new(coordinates);
+        let next = date.tomorrow();
+        let second = next.tomorrow();
+        let third = second.tomorrow();
+        let day = date_julian_day(date);
+        let next_day = julian_day_after(date, next, day);
+        let second_day = julian_day_after(next, second, next_day);
+        let third_day = julian_day_after(second, third, second_day);
+        let before = place(date.yesterday());
+        let at_date = Equatorial::new(day);
+        let at_next = Equatorial::new(next_day);
+        let at_second = Equatorial::new(second_day);
+        let at_third = Equatorial::new(third_day);
+        let before_next = place_before_tomorrow(date, at_date);
+        let before_second = place_before_tomorrow(next, at_next);
+        let sidereal = sidereal_time(day);
+        let sidereal_next = sidereal_time(next_day);
+        let sidereal_second = sidereal_time(second_day);
+        Courses {
+            today: Course::new(observer, sidereal, before, at_date, at_next),
+            tomorrow: Course::new(observer, sidereal_next, before_next, at_next, at_second),
+            after: Course::new(
+                observer,
+                sidereal_second,
+                before_second,
+                at_second,
+                at_third,
+            ),
+            third: third_day,
+            at_second: at_second,
+            at_third: at_third,
+        }
+    }
 }
 
 impl DaySun {
@@ -74,27 +148,17 @@ impl RowSuns {
     pub fn new(date: Date, setting: Setting) -> RowSuns
         ensures { λ r. ⌜ r ≡ rowSunsOf date setting ⌝ }
     {
-        let coordinates = setting.coordinates;
-        let parameters = setting.parameters;
         let rules = setting.rules;
-        let observer = Observer::new(coordinates);
-        let sines = TwilightSines::new(parameters);
-        let next = date.tomorrow();
-        let second = next.tomorrow();
-        let third = second.tomorrow();
-        let at_date = position(date);
-        let at_next = position(next);
-        let before_next = position_before_tomorrow(date, at_date);
-        let before_second = position_before_tomorrow(next, at_next);
-        let at_second = position(second);
-        let at_third = position(third);
-        let before = position(date.yesterday());
-        let today = Course::new(observer, before, at_date, at_next);
-        let tomorrow = Course::new(observer, before_next, at_next, at_second);
-        let after = Course::new(observer, before_second, at_second, at_third);
+        let sines = TwilightSines::new(setting.parameters);
+        let courses = Courses::new(date, setting.coordinates);
+        let today = courses.today;
+        let tomorrow = courses.tomorrow;
+        let after = courses.after;
+        let at_second = courses.at_second;
+        let at_third = courses.at_third;
         RowSuns {
             date: date,
-            third: third,
+            third: courses.third,
             sines: sines,
             at_second: at_second,
             at_third: at_third,
@@ -119,9 +183,10 @@ impl RowSuns {
         let tomorrow = self.after;
         let fajr = self.fajr_tomorrow;
         let course = tomorrow.course;
-        let fourth = third.tomorrow();
-        let at_fourth = position(fourth);
-        let after = Course::new(course.observer, at_second, at_third, at_fourth);
+        let fourth = third + 1.0;
+        let at_fourth = Equatorial::new(fourth);
+        let sidereal = sidereal_time(third);
+        let after = Course::new(course.observer, sidereal, at_second, at_third, at_fourth);
         RowSuns {
             date: date.tomorrow(),
             third: fourth,

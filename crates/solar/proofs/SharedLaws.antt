@@ -3,7 +3,7 @@ use Rattle.prelude.proofs.Logic.{_≡_, Bool, true, false}
 use lib.Ieee.{Float}
 use Rattle.unit.specs.declared.Angle.{Angle}
 use Rattle.ops.specs.declared.transit.Course.{Course}
-use Rattle.ops.specs.Shared.{observerOf, transitFromOf, courseOf, courseTransitNumberOf}
+use Rattle.ops.specs.Shared.{placeOf, siderealTimeOf, observerOf, transitFromOf, courseOf, courseTransitNumberOf}
 use Rattle.ops.specs.Transit.{approximateTransitOf}
 use Rattle.ops.proofs.SharedLaws.{transit-shared, hour-number-shared}
 use Rattle.solar.specs.Hours.{Sun, approxTransitOf, solarAltitude, transitNumberOf, angleNumberOf, hourNumbersOf, shadowAngleOf}
@@ -12,16 +12,18 @@ use Rattle.solar.specs.Shared.{courseAngleNumberOf, courseNumbersOf, cou
 
 -- the course that the code computes from the three positions
 abbrev pub courseOfSun : Sun → Course
-courseOfSun s = courseOf (observerOf (s .place)) (s .previous) (s .today) (s .next)
+courseOfSun s = courseOf (observerOf (s .place)) (siderealTimeOf (s .today)) (placeOf (s .previous)) (placeOf (s .today)) (placeOf (s .next))
 
 module _ (s : Sun) where
   transit-number-shared : courseTransitNumberOf (courseOfSun s) ≡ transitNumberOf s
   unfolding transitNumberOf approximateTransitOf transitFromOf
-  transit-number-shared = transit-shared (approxTransitOf s) (s .place) (s .previous) (s .today) (s .next)
+  transit-number-shared =
+      transit-shared (approxTransitOf s) (s .place) (siderealTimeOf (s .today)) (placeOf (s .previous)) (placeOf (s .today)) (placeOf (s .next))
 
   pub angle-shared : (angle : Angle) (after : Bool) → courseAngleNumberOf (courseOfSun s) angle after ≡ angleNumberOf s angle after
   unfolding courseAngleNumberOf angleNumberOf approximateTransitOf transitFromOf
-  angle-shared angle after = hour-number-shared (approxTransitOf s) (s .place) (s .previous) (s .today) (s .next) angle after
+  angle-shared angle after = hour-number-shared (approxTransitOf s) (s .place) (siderealTimeOf (s .today)) (placeOf (s .previous))
+      (placeOf (s .today)) (placeOf (s .next)) angle after
 
   pub numbers-shared : courseNumbersOf (courseOfSun s) ≡ hourNumbersOf s
   unfolding courseNumbersOf hourNumbersOf

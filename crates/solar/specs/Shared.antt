@@ -8,13 +8,15 @@ use Rattle.unit.specs.declared.Angle.{Angle}
 use Rattle.unit.specs.declared.Coordinates.{Coordinates}
 use Rattle.ops.specs.declared.transit.Course.{Course}
 use Rattle.ops.specs.Coordinates.{positionOf}
-use Rattle.ops.specs.Shared.{observerOf, courseOf, courseTransitNumberOf, arcToSineOf, halfArcOf, hourNumberOf}
+use Rattle.ops.specs.Shared.{placeOf, siderealTimeOf, observerOf, courseOf, courseTransitNumberOf, arcToSineOf, halfArcOf, hourNumberOf}
 use Rattle.solar.specs.declared.hours.HourNumbers.{HourNumbers}
 use Rattle.solar.specs.Hours.{solarAltitude, shadowAngleOf}
 
 -- the sun's course over a place on one date alone
 abbrev pub dateCourseOf : Date → Coordinates → Course
-dateCourseOf d place = courseOf (observerOf place) (positionOf (yesterdayOf d)) (positionOf d) (positionOf (tomorrowOf d))
+dateCourseOf d place =
+    courseOf (observerOf place) (siderealTimeOf (positionOf d)) (placeOf (positionOf (yesterdayOf d))) (placeOf (positionOf d))
+    (placeOf (positionOf (tomorrowOf d)))
 
 -- the hour number of an angle, with its sine given and without
 unfoldable pub courseSineNumberOf : Course → Float → Angle → Bool → Float

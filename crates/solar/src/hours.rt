@@ -6,7 +6,9 @@ use calendar::dates::Date;
 use fdlibm_arc::s_atan::atan;
 use fdlibm_trig::s_tan::tan;
 use float64::sizes::abs;
-use ops::coordinates::position;
+use julian::day::date_julian_day;
+use ops::coordinates::place;
+use ops::coordinates::sidereal_time;
 use ops::transit::Course;
 use ops::transit::Observer;
 use unit::Angle;
@@ -33,10 +35,17 @@ fn solar_altitude() -> Angle
 pub fn date_course(date: Date, coordinates: Coordinates) -> Course
     ensures { λ r. ⌜ r ≡ dateCourseOf date coordinates ⌝ }
 {
-    let previous = position(date.yesterday());
-    let today = position(date);
-    let next = position(date.tomorrow());
-    Course::new(Observer::new(coordinates), previous, today, next)
+    let sidereal_time = sidereal_time(date_julian_day(date));
+    let previous = place(date.yesterday());
+    let today = place(date);
+    let next = place(date.tomorrow());
+    Course::new(
+        Observer::new(coordinates),
+        sidereal_time,
+        previous,
+        today,
+        next,
+    )
 }
 
 // The hour number at which the sun is at an angle whose sine is given.

@@ -1,6 +1,0 @@
-use Rattle.ops.proofs.coordinates.position as this
-
-pub position-spec : {M : Type 1} → this.Statement.statement M
-position-spec =
-    let returns : this.Tie.Need-returns = λ c. cc in
-    this.Tie.close (this.Tie.spec (λ c κs. tt) (λ c κs. tt) returns)
