@@ -16,12 +16,12 @@ is-same-spec =
     sym (longer-differs (now (c .before .args .text)) (now (c .before .args .bytes)) (c .if1 .taken)) in
     this.Tie.close (this.Tie.spec Inv-loop μ-loop returns (λ c. (omega arith, c .if1 .left, refl)) (λ c. search needs) (λ c. search needs)
     (λ c.
-    let l = c .before .before .before .before .loop in let a = c .before .before .before .before .before .before .args in
+    let at-loop = c .before .before .before .before in let l = at-loop .loop in let a = at-loop .before .before .args in
     let t = c .before .before .before .loop-test .taken in let e = l .inv .1 in
     sym (same-differs (now (a .text)) (now (a .bytes)) (l .i) t (omega arith) (c .if2 .taken)) ∙ l .inv .2)
     (λ c. search needs) (λ c. search needs)
     (λ c.
-    let l = c .before .before .before .before .loop in let a = c .before .before .before .before .before .before .args in
+    let at-loop = c .before .before .before .before in let l = at-loop .loop in let a = at-loop .before .before .args in
     let t = c .before .before .before .loop-test .taken in let e = l .inv .1 in
     (omega arith, e, same-next (now (a .text)) (now (a .bytes)) (l .i) t (omega arith) (c .if2 .left) ∙ l .inv .2))
     (λ c.
