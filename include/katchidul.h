@@ -377,7 +377,7 @@ katchidul_turned katchidul_turn(katchidul_queue queue);
    embosser has finished, from 0, and restarts with that count before it appends or sends. The embosser drops what it has not finished, also
    what is still on its way: a page that waits in a spooler and arrives after the count was told would be finished twice. Then the pages
    finished + 1 to sent of the answer go out again, in rising order and without a record. If the embosser serves several jobs, each of them
-   restarts. A done is appended only of a page that the embosser has finished.
+   restarts. A done is appended only of a page that the embosser has finished, as its acknowledgement or that of a later page tells.
 
    If the host follows these rules, every count is true, and pages are lost only from the end of what was sent, then no finished page is sent
    again and none is skipped: the embosser finishes 1, 2, 3, .., each once. A crash within a call or within what follows it is one of these

@@ -1,5 +1,5 @@
 -- Request 6's promise, for every history: "So, if the embosser's count is true, no finished page is sent again and none is skipped."
--- Proved in proofs/HistoryLaws. A step that the rules do not allow changes nothing, so every list of steps is a history.
+-- Proved in proofs/HistoryLaws. A step that the conduct does not allow changes nothing, so every list of steps is a history.
 use Prim.Native.Nat.{ℕ, zero, suc, _+_, _-_, _*_, _≤_}
 use mathlib.Core.Path.{_≡_}
 use mathlib.Core.Bool.{true, false, cond}
@@ -9,7 +9,7 @@ use lib.ListN.{length}
 use Rattle.refusals.specs.Refusals.{logSecondShort}
 use Rattle.joblog.specs.Calls.{readLogOf, restartOf}
 use Rattle.prelude.specs.Lists.{listed}
-use Rattle.joblog_laws.specs.Run.{World, begun, Step, goes, finishes, restart, HostRules, asRequested, run}
+use Rattle.joblog_laws.specs.Run.{World, begun, Step, goes, finishes, restart, HostConduct, asRequested, run}
 
 -- 1, 2, .. n
 unfoldable pub pagesTo : ℕ → List ℕ
@@ -34,8 +34,8 @@ pub record Kept (w : World) : Type 0 where
       → restartOf (w .host .log) (w .host .used) (length (w .embosser .finished)) second .answer .number
       ≡ cond (leb (5 + 5 * (readLogOf (w .host .log) (w .host .used) .sent - length (w .embosser .finished))) (length second)) 0 logSecondShort
 
-abbrev pub KeptBy : HostRules → Type 0
-KeptBy rules = (buffer : List ℕ) (steps : List Step) → Kept (run rules (begun buffer) steps)
+abbrev pub KeptBy : HostConduct → Type 0
+KeptBy conduct = (buffer : List ℕ) (steps : List Step) → Kept (run conduct (begun buffer) steps)
 
 abbrev pub HistoriesAreKept : Type 0
 HistoriesAreKept = KeptBy asRequested

@@ -1,12 +1,12 @@
 -- Request 6, a run: a host with its log, and an embosser. What the calls write and return are crates/joblog's definitions.
 --
--- What the request's promise needs beside the log. Each point is a choice of this model, to compare with the request. `HostRules` has what
+-- What the request's promise needs beside the log. Each point is a choice of this model, to compare with the request. `HostConduct` has what
 -- the host may record and send, what it sends again and what the embosser drops. The steps have the other points:
 --   the link    pages reach the embosser in the order in which they go out. Pages are lost only from the end, and then no page gets
 --               through until a restart (the step `crash`, also if only the link or the embosser failed).
 --   embosser    it finishes its pages in the order in which they reached it, also while the host is down. No crash undoes a finished page.
 --   a count     it is true if it is the number of pages finished, and the embosser drops its other pages when it reports it: the open pages
---               go out again, and one still in its tray would be finished twice (`keeps-its-tray` in proofs/WrongRules).
+--               go out again, and one still in its tray would be finished twice (`keeps-its-tray` in proofs/WrongConduct).
 --   the host    after any crash it restarts before it appends or sends: `up` says so. It sends no page while it is in an append.
 --   a done      is recorded only if the host has heard the page's acknowledgement, or a later page's: pages are finished in order. The
 --               embosser acknowledges a page when it has finished it. The acknowledgement may be lost on its way, or come late, also after
@@ -77,8 +77,8 @@ pub data Step : Type 0 where
   -- the embosser reports its count, and the host restarts with it and lends this second buffer
   restart : List ℕ → Step
 
--- ---- the rules of host and embosser. The request's rules are below; proofs/WrongRules has others, under which the promise fails.
-pub record HostRules : Type 0 where
+-- ---- what host and embosser keep to. What the request asks for is below; under the others, in proofs/WrongConduct, the promise fails.
+pub record HostConduct : Type 0 where
   -- given the pages whose acknowledgements were heard, and a page: may the host record it as done?
   pub told : List ℕ → ℕ → Bool
   -- given a page, and the pages that the log says are sent: may it go out?
@@ -94,10 +94,10 @@ acknowledged [] page = false
 acknowledged (p ∷ heard) page = leb page p || acknowledged heard page
 
 -- "a page goes out only after its sent record is whole"; "the log is compacted with the count as finished, its open pages go out again"
-abbrev pub asRequested : HostRules
+abbrev pub asRequested : HostConduct
 asRequested = record { told = acknowledged; ready = leb; resume = λ done count. count; kept = λ tray. [] }
 
--- ---- steps. A step that the rules do not allow at that moment changes nothing.
+-- ---- steps. A step that is not allowed at that moment changes nothing.
 -- "the first buffer stays as it was and is the log until the call returns"
 abbrev pub logAfter : LogCall → List ℕ
 logAfter c = cond (eqb (c .answer .moved) 1) (c .second) (c .log)
@@ -127,13 +127,13 @@ abbrev pub awaits : Embosser → List ℕ → Embosser
 awaits e coming = record { tray = e .tray; finished = e .finished; coming = coming }
 
 -- ---- an append
-abbrev pub mayAppend : HostRules → Host → ℕ → ℕ → Bool
-mayAppend rules h tag page = h .up && cond (eqb tag doneTag) (rules .told (h .heard) page) true
+abbrev pub mayAppend : HostConduct → Host → ℕ → ℕ → Bool
+mayAppend conduct h tag page = h .up && cond (eqb tag doneTag) (conduct .told (h .heard) page) true
 
-unfoldable pub beginning : HostRules → Host → Writing → ℕ → ℕ → List ℕ → Host
-beginning rules h (within t p c k) tag page second = h
-beginning rules h idle tag page second =
-    cond (mayAppend rules h tag page) (writes h (h .log) (h .used) (within tag page (appendOf (h .log) (h .used) tag page second) 0)) h
+unfoldable pub beginning : HostConduct → Host → Writing → ℕ → ℕ → List ℕ → Host
+beginning conduct h (within t p c k) tag page second = h
+beginning conduct h idle tag page second =
+    cond (mayAppend conduct h tag page) (writes h (h .log) (h .used) (within tag page (appendOf (h .log) (h .used) tag page second) 0)) h
 
 -- the next of the record's five bytes, after the last whole record and the k bytes that are written
 abbrev pub withByte : List ℕ → ℕ → ℕ → ℕ → ℕ → List ℕ
@@ -154,8 +154,8 @@ isIdle idle = true
 isIdle (within tag page c k) = false
 
 -- "a page goes out only after its sent record is whole"
-abbrev pub maySend : HostRules → Host → Bool
-maySend rules h = h .up && isIdle (h .writing) && rules .ready (h .out + 1) (readLogOf (h .log) (h .used) .sent)
+abbrev pub maySend : HostConduct → Host → Bool
+maySend conduct h = h .up && isIdle (h .writing) && conduct .ready (h .out + 1) (readLogOf (h .log) (h .used) .sent)
 
 unfoldable pub finishing : Embosser → List ℕ → Embosser
 finishing e [] = e
@@ -179,33 +179,33 @@ crashUsed used (within tag page c k) u = cond (inPlace c && mayBeUsed used k u) 
 abbrev pub crashed : Host → ℕ → Host
 crashed h u = record { log = h .log; used = crashUsed (h .used) (h .writing) u; up = false; out = 0; writing = idle; heard = [] }
 
-abbrev pub restarting : HostRules → Host → ℕ → List ℕ → Host
-restarting rules h count second =
+abbrev pub restarting : HostConduct → Host → ℕ → List ℕ → Host
+restarting conduct h count second =
     let c = restartOf (h .log) (h .used) count second in
     record {
       log = logAfter c;
       used = usedAfter c (h .used);
       up = eqb (c .answer .number) 0;
-      out = rules .resume (readLogOf (h .log) (h .used) .finished) count;
+      out = conduct .resume (readLogOf (h .log) (h .used) .finished) count;
       writing = idle;
       heard = h .heard;
     }
 
 -- ---- a step, and a run
-unfoldable pub next : HostRules → World → Step → World
-next rules w (begins tag page second) = world (beginning rules (w .host) (w .host .writing) tag page second) (w .embosser)
-next rules w byte = world (writingByte (w .host) (w .host .writing)) (w .embosser)
-next rules w completes = world (completing (w .host) (w .host .writing)) (w .embosser)
-next rules w goes =
+unfoldable pub next : HostConduct → World → Step → World
+next conduct w (begins tag page second) = world (beginning conduct (w .host) (w .host .writing) tag page second) (w .embosser)
+next conduct w byte = world (writingByte (w .host) (w .host .writing)) (w .embosser)
+next conduct w completes = world (completing (w .host) (w .host .writing)) (w .embosser)
+next conduct w goes =
     let page = w .host .out + 1 in
-    cond (maySend rules (w .host)) (world (sends (w .host) page) (holds (w .embosser) (w .embosser .tray ++ (page ∷ [])))) w
-next rules w finishes = world (w .host) (finishing (w .embosser) (w .embosser .tray))
-next rules w hears = arriving w (λ heard page. page ∷ heard) (w .embosser .coming)
-next rules w lost = arriving w (λ heard page. heard) (w .embosser .coming)
-next rules w (crash left u) = world (crashed (w .host) u) (holds (w .embosser) (take left (w .embosser .tray)))
-next rules w (restart second) =
-    world (restarting rules (w .host) (length (w .embosser .finished)) second) (holds (w .embosser) (rules .kept (w .embosser .tray)))
+    cond (maySend conduct (w .host)) (world (sends (w .host) page) (holds (w .embosser) (w .embosser .tray ++ (page ∷ [])))) w
+next conduct w finishes = world (w .host) (finishing (w .embosser) (w .embosser .tray))
+next conduct w hears = arriving w (λ heard page. page ∷ heard) (w .embosser .coming)
+next conduct w lost = arriving w (λ heard page. heard) (w .embosser .coming)
+next conduct w (crash left u) = world (crashed (w .host) u) (holds (w .embosser) (take left (w .embosser .tray)))
+next conduct w (restart second) =
+    world (restarting conduct (w .host) (length (w .embosser .finished)) second) (holds (w .embosser) (conduct .kept (w .embosser .tray)))
 
-unfoldable pub run : HostRules → World → List Step → World
-run rules w [] = w
-run rules w (step ∷ steps) = run rules (next rules w step) steps
+unfoldable pub run : HostConduct → World → List Step → World
+run conduct w [] = w
+run conduct w (step ∷ steps) = run conduct (next conduct w step) steps

@@ -1,11 +1,12 @@
--- Rules other than the request's, under which the promise fails: for each, a short history that breaks it. So `Kept` can fail, and each
--- rule of `asRequested` is needed. Assumes nothing.
+-- Two histories of a host that does what the request asks: one acknowledgement lost, and one lost and a later one heard. Then other conduct,
+-- under which the promise fails, each with a short history that breaks it. So `Kept` can fail, and each part of `asRequested` is needed.
+-- Assumes nothing.
 use Rattle.prelude.proofs.Logic.{_≡_, refl, ap, true, List, [], _∷_, _++_, ℕ, arith, leb, getD, replicate}
 use Rattle.text.specs.Text.{putOf}
 use Rattle.joblog.specs.Records.{state, bytesOf, recordsOf, inTurn, afterOf, readOf, openOf, compactedOf}
 use Rattle.joblog.specs.Calls.{answered, readLogOf, readAnswer, newInTurn, compactAnswer, loggedOf, appendedOf, appendOf, restartedOf}
 use Rattle.joblog.specs.Calls.{restartOf}
-use Rattle.joblog_laws.specs.Run.{World, begun, Step, begins, byte, completes, goes, finishes, hears, lost, crash, restart, HostRules}
+use Rattle.joblog_laws.specs.Run.{World, begun, Step, begins, byte, completes, goes, finishes, hears, lost, crash, restart, HostConduct}
 use Rattle.joblog_laws.specs.Run.{acknowledged, asRequested, beginning, writingByte, completing, finishing, arriving, crashUsed}
 use Rattle.joblog_laws.specs.Run.{isIdle, next, run}
 use Rattle.joblog_laws.specs.Histories.{pagesTo, KeptBy}
@@ -21,10 +22,10 @@ abbrev appended : ℕ → ℕ → List Step
 appended tag page = started tag page ++ (byte ∷ completes ∷ [])
 
 -- where a history ends; unfolding this unfolds all that a run computes
-ends : HostRules → List Step → World
+ends : HostConduct → List Step → World
 unfolding run next beginning writingByte completing finishing arriving crashUsed isIdle acknowledged putOf bytesOf recordsOf inTurn afterOf
     readOf openOf compactedOf readLogOf readAnswer newInTurn compactAnswer loggedOf appendedOf appendOf restartedOf restartOf pagesTo
-ends rules steps = run rules (begun buffer) steps
+ends conduct steps = run conduct (begun buffer) steps
 
 -- ---- by the request: pages 1 and 2 go out and are finished, page 1's done is recorded, page 2's acknowledgement is lost, the host crashes
 -- in the append of page 3's sent record, and after the restart page 3 goes out
@@ -42,12 +43,12 @@ later-heard : List Step
 later-heard =
     appended 1 1 ++ (goes ∷ []) ++ appended 1 2 ++ (goes ∷ finishes ∷ finishes ∷ lost ∷ hears ∷ []) ++ appended 2 1 ++ appended 2 2
 
-both-done : readLogOf (ends asRequested later-heard .host .log) (ends asRequested later-heard .host .used) ≡ answered 0 (state 2 2) 20
+pub both-done : readLogOf (ends asRequested later-heard .host .log) (ends asRequested later-heard .host .used) ≡ answered 0 (state 2 2) 20
 unfolding ends later-heard
 both-done = refl
 
 -- ---- the open pages after the last done go out again for any count: page 1, finished and not recorded as done, is finished twice
-abbrev pub from-the-last-done : HostRules
+abbrev pub from-the-last-done : HostConduct
 from-the-last-done = record { told = acknowledged; ready = leb; resume = λ done count. done; kept = λ tray. [] }
 
 sent-again : List Step
@@ -64,7 +65,7 @@ not-from-the-last-done h =
     omega arith
 
 -- ---- the embosser keeps its tray when it reports its count: page 1, in the tray and sent again, is finished twice
-abbrev pub keeps-its-tray : HostRules
+abbrev pub keeps-its-tray : HostConduct
 keeps-its-tray = record { told = acknowledged; ready = leb; resume = λ done count. count; kept = λ tray. tray }
 
 in-the-tray : List Step
@@ -81,7 +82,7 @@ not-with-its-tray h =
     omega arith
 
 -- ---- a done is recorded before its page is finished: the true count is then refused by 14
-abbrev pub done-before-finished : HostRules
+abbrev pub done-before-finished : HostConduct
 done-before-finished = record { told = λ heard page. true; ready = leb; resume = λ done count. count; kept = λ tray. [] }
 
 too-early : List Step
@@ -97,7 +98,7 @@ unfolding ends too-early
 not-done-before-finished h = let e : _≡_ {A = ℕ} 14 0 = h buffer too-early .accepted buffer in omega arith
 
 -- ---- a page goes out before its sent record is whole: it is finished, so the count is over the log's sent pages and is refused by 14
-abbrev pub goes-before-its-record : HostRules
+abbrev pub goes-before-its-record : HostConduct
 goes-before-its-record = record { told = acknowledged; ready = λ page sent. true; resume = λ done count. count; kept = λ tray. [] }
 
 no-record : List Step
