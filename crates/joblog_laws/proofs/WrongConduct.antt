@@ -22,7 +22,7 @@ abbrev appended : ℕ → ℕ → List Step
 appended tag page = started tag page ++ (byte ∷ completes ∷ [])
 
 -- where a history ends; unfolding this unfolds all that a run computes
-ends : HostConduct → List Step → World
+pub ends : HostConduct → List Step → World
 unfolding run next beginning writingByte completing finishing arriving crashUsed isIdle acknowledged putOf bytesOf recordsOf inTurn afterOf
     readOf openOf compactedOf readLogOf readAnswer newInTurn compactAnswer loggedOf appendedOf appendOf restartedOf restartOf pagesTo
 ends conduct steps = run conduct (begun buffer) steps
@@ -39,7 +39,7 @@ unfolding ends one-lost
 as-requested = refl
 
 -- page 1's acknowledgement is lost and page 2's is heard. It tells that both are finished, so both dones are recorded
-later-heard : List Step
+pub later-heard : List Step
 later-heard =
     appended 1 1 ++ (goes ∷ []) ++ appended 1 2 ++ (goes ∷ finishes ∷ finishes ∷ lost ∷ hears ∷ []) ++ appended 2 1 ++ appended 2 2
 
