@@ -1,5 +1,5 @@
 -- The rows of days before each month, compared with the months' lengths by tests that antt computes. Assumes nothing.
-use Rattle.prelude.proofs.Logic.{_≡_, refl, sym, Bool, true, false, cond, not, _&&_, _||_, ℕ, zero, suc, _+_, _-_, _/_, _≤_, _<_, arith, T}
+use Rattle.prelude.proofs.Logic.{_≡_, refl, Bool, true, false, cond, not, _&&_, _||_, ℕ, zero, suc, _+_, _-_, _/_, _≤_, _<_, arith, T}
 use Rattle.prelude.proofs.Logic.{eqb, ltb, leb, eqb→eq, leb→le, ltb→lt, le→leb, lit≤, List·getD-eq-default, ltb-true, ltb-false, and-l}
 use Rattle.prelude.proofs.Logic.{and-r, cases}
 use Rattle.calendar.specs.Gregorian.{lengthsOf, lengthOf}

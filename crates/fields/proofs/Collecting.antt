@@ -5,10 +5,10 @@ use Rattle.prelude.proofs.Logic.{map, length, getD, set, replicate, length-set,
 use Rattle.refusals.specs.Refusals.{refusal, noRefusal}
 use Rattle.refusals.specs.declared.Refusal.{Refusal}
 use Rattle.fields.specs.declared.{values.Checked.Checked, values.Fields.Fields}
-use Rattle.fields.specs.Numbers.{byteOf, unsignedOf}
+use Rattle.fields.specs.Numbers.{byteOf}
 use Rattle.fields.specs.Tags.{tags}
 use Rattle.fields.specs.Fields.{lengthAt, nextFieldAt, faultIn, faultOf, walkOf, checkOf}
-use Rattle.fields.specs.Values.{noFields, putOf, collectOf, fieldsOf, checkedOf, valuesIn, valuesOf, partFor, hasIn}
+use Rattle.fields.specs.Values.{noFields, collectOf, fieldsOf, checkedOf, valuesIn, valuesOf, partFor, hasIn}
 use Rattle.fields.proofs.FieldsLaws.{walk-good}
 use Rattle.fields.proofs.Walking.{walk-stop, walk-on, walk-end, collect-on, collect-end}
 

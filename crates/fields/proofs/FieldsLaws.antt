@@ -1,6 +1,6 @@
 -- The table's limits, and what is known of a field that is not refused. Assumes nothing.
-use Rattle.prelude.proofs.Logic.{_≡_, refl, Bool, true, false, cond, not, _&&_, and-eq-true-iff, List, [], _∷_, ℕ, zero, suc, _≤_, _<_, _+_}
-use Rattle.prelude.proofs.Logic.{_-_, arith, ltb, leb, eqb, lit≤, length, getD, set, replicate, List·getD-eq-default, lt-ltb, ltb-false}
+use Rattle.prelude.proofs.Logic.{_≡_, refl, Bool, true, false, cond, not, _&&_, and-eq-true-iff, List, [], _∷_, ℕ, zero, suc, _≤_, _<_}
+use Rattle.prelude.proofs.Logic.{_-_, arith, ltb, leb, eqb, lit≤, length, getD, set, replicate, lt-ltb, ltb-false}
 use Rattle.prelude.proofs.Logic.{leb-true, eqb-true, eqb-false, not-false, cases, either, both}
 use Rattle.refusals.specs.declared.Refusal.{Refusal}
 use Rattle.fields.specs.Numbers.{byteOf}

@@ -1,6 +1,6 @@
 -- What is collected of an order whose form is right, tag by tag: the whole value of the first field with the tag, and nothing if there is
 -- none. Proved by recursion over both walks and the search. Assumes nothing.
-use Rattle.prelude.proofs.Logic.{_≡_, refl, sym, ap, _∙_, Bool, true, false, List, [], ℕ, zero, suc, _≤_, _<_, _+_, arith, ltb, eqb, length}
+use Rattle.prelude.proofs.Logic.{_≡_, refl, sym, ap, _∙_, true, false, List, [], ℕ, zero, suc, _≤_, _<_, _+_, arith, ltb, eqb, length}
 use Rattle.prelude.proofs.Logic.{getD, set, take, drop, replicate, getD-replicate, length-set, List·getD-eq-default, length-take}
 use Rattle.prelude.proofs.Logic.{length-drop, drop-of-length-le, take-nil, getD-set-same, getD-set-other, lt-ltb, le-ltb, eq-eqb, ne-eqb}
 use Rattle.prelude.proofs.Logic.{ltb-true, ltb-false, eqb-true, eqb-false, cases}
@@ -8,7 +8,7 @@ use Rattle.fields.specs.declared.{values.Fields.Fields, values.Part.Part
 use Rattle.fields.specs.Numbers.{byteOf}
 use Rattle.fields.specs.Tags.{tags, lengthFits}
 use Rattle.fields.specs.Fields.{lengthAt, nextFieldAt, walkOf, checkOf}
-use Rattle.fields.specs.Values.{noFields, putOf, collectOf, fieldsOf, partFor, valuesIn, valuesOf, hasOf, valueOf}
+use Rattle.fields.specs.Values.{noFields, putOf, collectOf, fieldsOf, partFor, valuesIn, hasOf, valueOf}
 use Rattle.fields.specs.Lookup.{firstFrom, offsetOf, FirstField, FirstFieldIsCollected}
 use Rattle.fields.proofs.FieldsLaws.{Good, fault-none, good-row, walk-good, check-none}
 use Rattle.fields.proofs.Collecting.{seenIn, seen-set, seen-collected}

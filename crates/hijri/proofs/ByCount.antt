@@ -1,5 +1,5 @@
 -- The date of a day by its number, within the years that a u32 holds. Assumes nothing.
-use Rattle.prelude.proofs.Logic.{_≡_, refl, sym, ap, _∙_, true, cond, ℕ, _+_, _-_, _≤_, _<_, arith, leb, ℤ, pos, _+ℤ_, leb-true, leb-false}
+use Rattle.prelude.proofs.Logic.{_≡_, refl, sym, ap, _∙_, true, ℕ, _+_, _-_, _≤_, _<_, arith, leb, ℤ, pos, _+ℤ_, leb-true, leb-false}
 use Rattle.prelude.proofs.Logic.{le-leb, lt-leb, cases}
 use Rattle.integers.proofs.Integers.{P, N, not-positive, sum}
 use Rattle.calendar.proofs.Counting.{capped}

@@ -9,7 +9,7 @@ use Rattle.joblog.specs.declared.records.State.{State}
 use Rattle.joblog.specs.Records.{state, bytesOf, wholeOf, recordsOf, readOf, compactedOf}
 use Rattle.joblog.proofs.CompactLaws.{bytes-length}
 use Rattle.joblog.specs.Calls.{LogCall, answered, refused, readLogOf, compactAnswer, compactingOf, appendOf, restartOf}
-use Rattle.joblog_laws.specs.Run.{Writing, idle, within, Host, Embosser, World, world, begun, writes, hasHeard, holds, maySend, Step}
+use Rattle.joblog_laws.specs.Run.{Writing, idle, within, Host, World, world, begun, writes, hasHeard, holds, maySend, Step}
 use Rattle.joblog_laws.specs.Run.{begins, byte, completes, goes, finishes, hears, lost, crash, restart, acknowledged, asRequested}
 use Rattle.joblog_laws.specs.Run.{logAfter, usedAfter, inPlace, mayAppend, beginning, withByte, writingByte, completing, mayBeUsed}
 use Rattle.joblog_laws.specs.Run.{crashUsed, isIdle, finishing, arriving, next, run}

@@ -1,5 +1,5 @@
 -- The names that the proofs of this crate and of the crates above use, in one place. Nothing is added.
-pub use Rattle.models.proofs.Rows.{inside, beyond}
+pub use Rattle.models.proofs.Rows.{inside, beyond, second}
 unfoldable pub use Rattle.models.specs.Builder.{setIshaInterval}
 pub use Rattle.models.specs.Minutes.{noMinutes}
 unfoldable pub use Rattle.models.specs.Numbers.{methodOf, roundingNumberOf, roundingOf, shafaqNumberOf, shafaqOf, madhabNumberOf}

@@ -9,40 +9,40 @@ use Rattle.models.proofs.Models.{madhabNumberOf, madhabOf, ruleNumberOf
 use Rattle.models.proofs.Models.{southernOf, methodNumberOf, methodOf, prayerNumberOf, prayerOf}
 
 pub rounding-back : (c : Rounding) → roundingOf (roundingNumberOf c) ≡ c
-unfolding roundingNumberOf roundingOf
+unfolding roundingOf
 rounding-back Nearest = refl
 rounding-back Up = refl
 rounding-back None = refl
 
 pub shafaq-back : (c : Shafaq) → shafaqOf (shafaqNumberOf c) ≡ c
-unfolding shafaqNumberOf shafaqOf
+unfolding shafaqOf
 shafaq-back General = refl
 shafaq-back Ahmer = refl
 shafaq-back Abyad = refl
 
 pub madhab-back : (c : Madhab) → madhabOf (madhabNumberOf c) ≡ c
-unfolding madhabNumberOf madhabOf
+unfolding madhabOf
 madhab-back Shafi = refl
 madhab-back Hanafi = refl
 
 pub rule-back : (c : HighLatitudeRule) → ruleOf (ruleNumberOf c) ≡ c
-unfolding ruleNumberOf ruleOf
+unfolding ruleOf
 rule-back MiddleOfTheNight = refl
 rule-back SeventhOfTheNight = refl
 rule-back TwilightAngle = refl
 
 pub midnight-back : (c : Midnight) → midnightOf (midnightNumberOf c) ≡ c
-unfolding midnightNumberOf midnightOf
+unfolding midnightOf
 midnight-back Stops = refl
 midnight-back Carries = refl
 
 pub southern-back : (c : Southern) → southernOf (southernNumberOf c) ≡ c
-unfolding southernNumberOf southernOf
+unfolding southernOf
 southern-back Unreduced = refl
 southern-back StartsAgain = refl
 
 pub method-back : (c : Method) → methodOf (methodNumberOf c) ≡ c
-unfolding methodNumberOf methodOf
+unfolding methodOf
 method-back MuslimWorldLeague = refl
 method-back Egyptian = refl
 method-back Karachi = refl
@@ -58,7 +58,7 @@ method-back Turkey = refl
 method-back Other = refl
 
 pub prayer-back : (c : Prayer) → prayerOf (prayerNumberOf c) ≡ c
-unfolding prayerNumberOf prayerOf
+unfolding prayerOf
 prayer-back Fajr = refl
 prayer-back Sunrise = refl
 prayer-back Dhuhr = refl

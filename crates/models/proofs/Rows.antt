@@ -9,3 +9,9 @@ inside (x ∷ row) d e (suc n) h = inside row d e n (le-of-suc-le-suc h)
 
 pub beyond : {A : Type 0} (row : List A) (d : A) (n : ℕ) → length row ≤ n → d ≡ getD row n d
 beyond row d n h = sym (List·getD-eq-default row d h)
+
+-- of two cases, every number but 0 gives the second
+pub second : {A : Type 0} (a b : A) (n : ℕ) → (n ≡ 0 → ⊥) → b ≡ getD (a ∷ b ∷ []) n b
+second a b zero f = absurd (f refl)
+second a b (suc zero) f = refl
+second a b (suc (suc n)) f = refl

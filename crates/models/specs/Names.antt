@@ -26,7 +26,7 @@ prayerNameOf prayer.Qiyam seconds = name.Qiyam
 prayerNameOf prayer.FajrTomorrow seconds = name.Fajr
 
 -- seven letters: a shorter name has blanks behind it
-unfoldable pub lettersOf : Name → List ℕ
+abbrev pub lettersOf : Name → List ℕ
 lettersOf name.Fajr = 70 ∷ 97 ∷ 106 ∷ 114 ∷ 32 ∷ 32 ∷ 32 ∷ []
 lettersOf name.Sunrise = 83 ∷ 117 ∷ 110 ∷ 114 ∷ 105 ∷ 115 ∷ 101 ∷ []
 lettersOf name.Dhuhr = 68 ∷ 104 ∷ 117 ∷ 104 ∷ 114 ∷ 32 ∷ 32 ∷ []

@@ -23,7 +23,7 @@ use Rattle.models.specs.declared.prayer.Prayer.{Prayer}
 use Rattle.models.specs.declared.prayer.Prayer.the-variants.{Fajr, Sunrise, Dhuhr, Asr, Maghrib, Isha, Qiyam, FajrTomorrow}
 
 -- "rounding 0 to 2 (Nearest, Up, None)"
-unfoldable pub roundingNumberOf : Rounding → ℕ
+abbrev pub roundingNumberOf : Rounding → ℕ
 roundingNumberOf Nearest = 0
 roundingNumberOf Up = 1
 roundingNumberOf None = 2
@@ -32,7 +32,7 @@ unfoldable pub roundingOf : ℕ → Rounding
 roundingOf n = getD (Nearest ∷ Up ∷ None ∷ []) n None
 
 -- "shafaq 0 to 2, in its enum's order"
-unfoldable pub shafaqNumberOf : Shafaq → ℕ
+abbrev pub shafaqNumberOf : Shafaq → ℕ
 shafaqNumberOf General = 0
 shafaqNumberOf Ahmer = 1
 shafaqNumberOf Abyad = 2
@@ -41,7 +41,7 @@ unfoldable pub shafaqOf : ℕ → Shafaq
 shafaqOf n = getD (General ∷ Ahmer ∷ Abyad ∷ []) n Abyad
 
 -- "madhab 1 or 2"
-unfoldable pub madhabNumberOf : Madhab → ℕ
+abbrev pub madhabNumberOf : Madhab → ℕ
 madhabNumberOf Shafi = 1
 madhabNumberOf Hanafi = 2
 
@@ -49,7 +49,7 @@ unfoldable pub madhabOf : ℕ → Madhab
 madhabOf n = getD (Hanafi ∷ Shafi ∷ Hanafi ∷ []) n Hanafi
 
 -- "high latitude rule 0 to 2, in its enum's order"
-unfoldable pub ruleNumberOf : HighLatitudeRule → ℕ
+abbrev pub ruleNumberOf : HighLatitudeRule → ℕ
 ruleNumberOf MiddleOfTheNight = 0
 ruleNumberOf SeventhOfTheNight = 1
 ruleNumberOf TwilightAngle = 2
@@ -58,7 +58,7 @@ unfoldable pub ruleOf : ℕ → HighLatitudeRule
 ruleOf n = getD (MiddleOfTheNight ∷ SeventhOfTheNight ∷ TwilightAngle ∷ []) n TwilightAngle
 
 -- request 1, tag 15
-unfoldable pub midnightNumberOf : Midnight → ℕ
+abbrev pub midnightNumberOf : Midnight → ℕ
 midnightNumberOf Stops = 0
 midnightNumberOf Carries = 1
 
@@ -66,7 +66,7 @@ unfoldable pub midnightOf : ℕ → Midnight
 midnightOf n = getD (Stops ∷ Carries ∷ []) n Carries
 
 -- request 3, tag 17
-unfoldable pub southernNumberOf : Southern → ℕ
+abbrev pub southernNumberOf : Southern → ℕ
 southernNumberOf Unreduced = 0
 southernNumberOf StartsAgain = 1
 
@@ -74,7 +74,7 @@ unfoldable pub southernOf : ℕ → Southern
 southernOf n = getD (Unreduced ∷ StartsAgain ∷ []) n StartsAgain
 
 -- "method 0 to 12, in `Method`'s order"
-unfoldable pub methodNumberOf : Method → ℕ
+abbrev pub methodNumberOf : Method → ℕ
 methodNumberOf MuslimWorldLeague = 0
 methodNumberOf Egyptian = 1
 methodNumberOf Karachi = 2
@@ -96,7 +96,7 @@ unfoldable pub methodOf : ℕ → Method
 methodOf n = getD methods n Other
 
 -- "the list Fajr, Sunrise, Dhuhr, Asr, Maghrib, Isha, Qiyam, FajrTomorrow", from 1; 0 is none in force
-unfoldable pub prayerNumberOf : Prayer → ℕ
+abbrev pub prayerNumberOf : Prayer → ℕ
 prayerNumberOf Fajr = 1
 prayerNumberOf Sunrise = 2
 prayerNumberOf Dhuhr = 3

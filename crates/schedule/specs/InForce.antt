@@ -60,7 +60,7 @@ currentNumberOf (Some prayer) = prayerNumberOf prayer
 currentNumberOf Nothing = 0
 
 -- "Next after FajrTomorrow is FajrTomorrow."
-unfoldable pub followingOf : Prayer → Prayer
+abbrev pub followingOf : Prayer → Prayer
 followingOf Fajr = Sunrise
 followingOf Sunrise = Dhuhr
 followingOf Dhuhr = Asr

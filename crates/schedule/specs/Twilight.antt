@@ -42,7 +42,7 @@ orOf (Some t) other = t
 orOf Nothing other = other
 
 -- "MoonsightingCommittee bounds by season"
-unfoldable pub bySeasonOf : Method → Bool
+abbrev pub bySeasonOf : Method → Bool
 bySeasonOf MuslimWorldLeague = false
 bySeasonOf Egyptian = false
 bySeasonOf Karachi = false

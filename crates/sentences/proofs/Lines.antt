@@ -2,11 +2,10 @@
 use Rattle.prelude.proofs.Logic.{_≡_, refl, sym, ap, subst, _∙_, Bool, true, false, _&&_, List, [], _∷_, ℕ, zero, suc, _+_, _≤_, _<_}
 use Rattle.prelude.proofs.Logic.{zero-add, add-zero, suc-add, add-suc, arith, T, leb, eqb, leb→le, eqb→eq, length, getD, take, ltb-true}
 use Rattle.prelude.proofs.Logic.{and-l, and-r}
-use Rattle.text.specs.Text.{ascii}
+use Rattle.text.specs.Text.{ascii, printable}
 use Rattle.sentences.specs.Table.{texts, names, textOf, nameOf, known}
 use Rattle.sentences.specs.Rows.{filled, endOf, widest, widestName}
 use Rattle.sentences.specs.Guess.{numberIn}
-use Rattle.text.specs.Text.{printable}
 
 is-true : (b : Bool) → T b → b ≡ true
 is-true true t = refl

@@ -2,7 +2,7 @@
 use Rattle.prelude.proofs.Logic.{_≡_, refl, sym, ap, _∙_, true, false, cond, _&&_, List, [], _∷_, _++_, ℕ, _+_, _≤_, _<_, arith, ltb}
 use Rattle.prelude.proofs.Logic.{length, take, drop, length-append, length-drop, lt-ltb, le-ltb, le-leb, lt-leb, ltb-false, cases}
 use Rattle.text.specs.Text.{ascii, decimalOf, putOf, frontOf}
-use Rattle.text.proofs.TextLaws.{put-next, put-nothing, cut-front}
+use Rattle.text.proofs.TextLaws.{put-next, cut-front}
 use Rattle.text.proofs.TextLaws as laws
 use Rattle.refusals.specs.Refusals.{outOfRange, bufferShort}
 use Rattle.sentences.specs.Table.{textOf, nameOf, known}

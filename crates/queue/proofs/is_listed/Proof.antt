@@ -37,8 +37,5 @@ returns-2 c =
     sym (c .before .loop .inv .1 ∙ rw (e, slice-empty))
 
 pub is-listed-spec : {M : Type 1} → this.Statement.statement M
-is-listed-spec =
-    this.Tie.close
-    (this.Tie.spec Inv-loop μ-loop (λ c. search needs) (λ c. search needs) (λ c. search needs) returns (λ c. search needs)
-    (λ c. search needs)
-    loop-again returns-2)
+is-listed-spec = this.Tie.close (this.Tie.spec Inv-loop μ-loop (λ c. search needs) (λ c. search needs) (λ c. search needs) returns
+    (λ c. search needs) (λ c. search needs) loop-again returns-2)

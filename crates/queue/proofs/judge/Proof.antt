@@ -5,46 +5,38 @@ use Rattle.queue.proofs.Answers.{judged-waiting, judged-full, judged-fr
 use Rattle.queue.specs.Jobs.{joinOf}
 use Rattle.queue.proofs.judge as this
 
+whole : (t : this.Tie.Start) → Whole (t .args .queue)
+whole t = record { ids = search needs; pages = search needs }
+
+-- where the arguments are known, from behind the search through the queue
+abbrev start : this.Tie.After-is-listed → this.Tie.Start
+start x = x .before .before .before .before .before
+
 returns : this.Tie.Need-returns
 returns c =
-    let tested = c .before in
-    let among = tested .before .is-listed in
-    let range = tested .before .before .before .in-range in
-    let n = tested .before .before .before .before .before .count in
-    let start = tested .before .before .before .before .before .before in
-    let q = start .args .queue in
-    let w : Whole q = record { ids = search needs; pages = search needs } in
-    c .new .ensures
-    ∙ judged-waiting q w (n .result) (n .ensures .0) (start .args .id) (start .args .pages)
-    (sym (range .ensures) ∙ tested .before .before .if1 .taken) (sym (among .ensures) ∙ tested .if2 .taken)
+    let x = c .before .before in
+    let a = start x .args in
+    let n = x .before .before .before .before .count in
+    c .new .ensures ∙ judged-waiting (a .queue) (whole (start x)) (n .result) (n .ensures .0) (a .id) (a .pages)
+    (sym (x .before .before .in-range .ensures) ∙ x .before .if1 .taken) (sym (x .is-listed .ensures) ∙ c .before .if2 .taken)
 
 returns-2 : this.Tie.Need-returns-2
 returns-2 c =
-    let tested = c .before in
-    let among = tested .before .before .is-listed in
-    let range = tested .before .before .before .before .in-range in
-    let n = tested .before .before .before .before .before .before .count in
-    let start = tested .before .before .before .before .before .before .before in
-    let q = start .args .queue in
-    let w : Whole q = record { ids = search needs; pages = search needs } in
-    c .none .ensures
-    ∙ judged-free q w (n .result) (n .ensures .0) (start .args .id) (start .args .pages)
-    (sym (range .ensures) ∙ tested .before .before .before .if1 .taken)
-    (sym (among .ensures) ∙ tested .before .if2 .left) (tested .if3 .taken)
+    let x = c .before .before .before in
+    let a = start x .args in
+    let n = x .before .before .before .before .count in
+    c .none .ensures ∙ judged-free (a .queue) (whole (start x)) (n .result) (n .ensures .0) (a .id) (a .pages)
+    (sym (x .before .before .in-range .ensures) ∙ x .before .if1 .taken) (sym (x .is-listed .ensures) ∙ c .before .before .if2 .left)
+    (c .before .if3 .taken)
 
 returns-3 : this.Tie.Need-returns-3
 returns-3 c =
-    let tested = c .before in
-    let among = tested .before .before .is-listed in
-    let range = tested .before .before .before .before .in-range in
-    let n = tested .before .before .before .before .before .before .count in
-    let start = tested .before .before .before .before .before .before .before in
-    let q = start .args .queue in
-    let w : Whole q = record { ids = search needs; pages = search needs } in
-    c .new2 .ensures
-    ∙ judged-full q w (n .result) (n .ensures .0) (start .args .id) (start .args .pages)
-    (sym (range .ensures) ∙ tested .before .before .before .if1 .taken)
-    (sym (among .ensures) ∙ tested .before .if2 .left) (tested .if3 .left)
+    let x = c .before .before .before in
+    let a = start x .args in
+    let n = x .before .before .before .before .count in
+    c .new2 .ensures ∙ judged-full (a .queue) (whole (start x)) (n .result) (n .ensures .0) (a .id) (a .pages)
+    (sym (x .before .before .in-range .ensures) ∙ x .before .if1 .taken) (sym (x .is-listed .ensures) ∙ c .before .before .if2 .left)
+    (c .before .if3 .left)
 
 returns-4 : this.Tie.Need-returns-4
 unfolding joinOf
@@ -53,8 +45,5 @@ returns-4 c =
     rw (c .new3 .ensures) (simp (sym range, c .before .if1 .left))
 
 pub judge-spec : {M : Type 1} → this.Statement.statement M
-judge-spec =
-    this.Tie.close
-    (this.Tie.spec (λ c κs. tt) (λ c κs. tt) (λ c κs. search needs) (λ c κs. tt) returns (λ c κs. tt) returns-2 (λ c κs. tt) returns-3
-    (λ c κs. tt)
-    returns-4)
+judge-spec = this.Tie.close (this.Tie.spec (λ c κs. tt) (λ c κs. tt) (λ c κs. search needs) (λ c κs. tt) returns (λ c κs. tt) returns-2
+    (λ c κs. tt) returns-3 (λ c κs. tt) returns-4)

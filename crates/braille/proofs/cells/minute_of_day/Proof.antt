@@ -18,7 +18,5 @@ returns c =
     rw (a, b) (minute-within (t .args .clock) (t .args .time))
 
 pub minute-of-day-spec : {M : Type 1} → this.Statement.statement M
-minute-of-day-spec =
-    this.Tie.close
-    (this.Tie.spec (λ c κs. search needs) (λ c. wide (c .before .args .clock) (c .before .fits .clock))
+minute-of-day-spec = this.Tie.close (this.Tie.spec (λ c κs. search needs) (λ c. wide (c .before .args .clock) (c .before .fits .clock))
     (λ c. clock-fits (c .before .args .clock) (c .before .fits .clock)) (λ c κs. search needs) add-result returns)

@@ -14,7 +14,5 @@ returns c =
     simp (c .digit4 .ensures, c .before .digit3 .ensures, c .before .before .digit2 .ensures, c .before .before .before .digit .ensures, m)
 
 pub time-cells-spec : {M : Type 1} → this.Statement.statement M
-time-cells-spec =
-    this.Tie.close
-    (this.Tie.spec (λ c κs. search needs) (λ c κs. search needs) (λ c κs. search needs) (λ c κs. search needs)
+time-cells-spec = this.Tie.close (this.Tie.spec (λ c κs. search needs) (λ c κs. search needs) (λ c κs. search needs) (λ c κs. search needs)
     (λ c κs. search needs) returns)

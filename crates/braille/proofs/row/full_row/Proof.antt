@@ -22,41 +22,39 @@ loop-holds c =
 
 loop-again : this.Tie.Need-loop-again Inv-loop μ-loop
 loop-again c =
-    let t = c .before .before .before .before .before .before .before .before .before .before .before .before .before .before in
-    let clock = readBack w32 (t .args .clock) in
-    let l = c .before .before .before .before .before .before .before .loop in
-    let six = c .before .before .before .before .before .before .before .before .six .result in
-    let n : length six ≡ 6 = search needs in
-    let h = c .before .before .before .before .before .before .loop-test .taken in
-    let k : readBack w64 (getD six (l .i) (pos 0)) ≡ getD six (l .i) (pos 0) = search needs in
     let time = c .before .before .before .time-cells in
-    let put = c .before .put2 in
-    let day = c .before .before .before .before .before .before .before .before .before .before .put .last .0 in (
+    let at-test = c .before .before .before .before .before .before in
+    let l = at-test .before .loop in
+    let at-six = at-test .before .before in
+    let at-day = at-six .before .before in
+    let clock = readBack w32 (at-day .before .before .before .before .args .clock) in
+    let six = at-six .six .result in
+    let n : length six ≡ 6 = search needs in
+    let k : readBack w64 (getD six (l .i) (pos 0)) ≡ getD six (l .i) (pos 0) = search needs in
+    let put = c .before .put2 in (
       omega arith,
       put .kept .0 ∙ l .inv .1,
       l .inv .2,
-      time-put clock six (l .i) (pos 0) day (l .cells) (put .last .0) (time .result) h n (l .inv .2) (l .inv .3)
-          (time .ensures ∙ ap (timeCells clock) k) (put .ensures),
+      time-put clock six (l .i) (pos 0) (at-day .put .last .0) (l .cells) (put .last .0) (time .result) (at-test .loop-test .taken) n
+          (l .inv .2) (l .inv .3) (time .ensures ∙ ap (timeCells clock) k) (put .ensures),
     )
 
 returns : this.Tie.Need-returns Inv-loop μ-loop
 returns c =
-    let t = c .before .before .before .before .before .before .before .before in
+    let at-put = c .before .before .before .before in
+    let day = at-put .before .before .day-cells in
+    let t = at-put .before .before .before .before in
     let a = t .args in
     let l = c .before .loop in
     let six = c .before .before .six in
-    let put = c .before .before .before .before .put in
-    let day = c .before .before .before .before .before .before .day-cells in
+    let put = at-put .put in
     let end : l .i ≡ 6 = omega (arith, l .inv .0, c .loop-test .left) in
     let front = day-put (a .date) (replicate 39 0) (put .last .0) (day .result) refl (day .ensures) (put .ensures) in
     row-done (a .date) (a .times) (readBack w32 (a .clock)) (six .result) (l .i) (put .last .0) (l .cells) (six .ensures) end front
-    (l .inv .3)
-    ∙ ap (rowCells (a .date) (Times (a .times))) (read w32 (a .clock) (t .fits .clock))
+    (l .inv .3) ∙ ap (rowCells (a .date) (Times (a .times))) (read w32 (a .clock) (t .fits .clock))
 
 pub full-row-spec : {M : Type 1} → this.Statement.statement M
-full-row-spec =
-    this.Tie.close
-    (this.Tie.spec Inv-loop μ-loop (λ c. search needs) (λ c κs. search needs) (λ c. search needs) (λ c κs. search needs)
-    (λ c κs. search needs)
-    loop-holds (λ c. search needs) (λ c. search needs) (λ c. search needs) (λ c. search needs) (λ c. search needs) (λ c κs. search needs)
-    (λ c. search needs) (λ c κs. search needs) (λ c. search needs) (λ c. search needs) loop-again returns)
+full-row-spec = this.Tie.close (this.Tie.spec Inv-loop μ-loop (λ c. search needs) (λ c κs. search needs) (λ c. search needs)
+    (λ c κs. search needs) (λ c κs. search needs) loop-holds (λ c. search needs) (λ c. search needs) (λ c. search needs) (λ c. search needs)
+    (λ c. search needs) (λ c κs. search needs) (λ c. search needs) (λ c κs. search needs) (λ c. search needs) (λ c. search needs) loop-again
+    returns)

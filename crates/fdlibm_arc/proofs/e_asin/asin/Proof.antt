@@ -11,12 +11,8 @@ asin-spec =
     (le-ltb _ _ (c .before .if4 .left), lt-ltb _ _ (c .before .before .if3 .taken), lt-leb _ _ (c .before .before .before .if1 .left)))
     in
     this.Tie.close (this.Tie.spec (λ c κs. tt) (λ c κs. tt) (λ c κs. tt) (λ c κs. tt) (λ c κs. tt) (λ c κs. tt) (λ c κs. tt) (λ c κs. tt)
-    (λ c. simp (
-      sym (c .before .abs .ensures),
-      sym (c .before .before .before .high-word .ensures),
-      c .if2 .taken,
-      le-leb _ _ (c .before .before .if1 .taken),
-    ))
+    (λ c. let at-if1 = c .before .before in
+    simp (sym (c .before .abs .ensures), sym (at-if1 .before .high-word .ensures), c .if2 .taken, le-leb _ _ (at-if1 .if1 .taken)))
     (λ c. simp
     (sym (c .not-a-number .ensures), sym (c .before .before .abs .ensures), sym (c .before .before .before .before .high-word .ensures))
     (simp (c .before .if2 .left, le-leb _ _ (c .before .before .before .if1 .taken))))

@@ -15,13 +15,8 @@ unfolding atan2Of
 returns-5 c =
     let d = c .before .before .before .before in
     simp (sym (c .upright .ensures), sym (c .before .before .before .is-negative2 .ensures), sym (d .is-negative .ensures))
-    (simp (
-      c .before .if5 .taken,
-      c .before .before .if4 .left,
-      d .before .if3 .left,
-      d .before .before .if2 .left,
-      d .before .before .before .if1 .left,
-    ))
+    (let at-if2 = d .before .before in
+    simp (c .before .if5 .taken, c .before .before .if4 .left, d .before .if3 .left, at-if2 .if2 .left, at-if2 .before .if1 .left))
 
 returns-6 : this.Tie.Need-returns-6
 unfolding atan2Of
@@ -34,14 +29,8 @@ returns-6 c =
       sym (d .before .before .is-negative2 .ensures),
       sym (d .before .before .before .is-negative .ensures),
     )
-    (simp (
-      eq-eqb _ _ (c .before .if6 .taken),
-      d .if5 .left,
-      d .before .if4 .left,
-      h .if3 .left,
-      h .before .if2 .left,
-      h .before .before .if1 .left,
-    ))
+    (let at-if1 = h .before .before in
+    simp (eq-eqb _ _ (c .before .if6 .taken), d .if5 .left, d .before .if4 .left, h .if3 .left, h .before .if2 .left, at-if1 .if1 .left))
 
 returns-7 : this.Tie.Need-returns-7
 unfolding atan2Of

@@ -12,18 +12,10 @@ atan-spec =
     in
     this.Tie.close (this.Tie.spec (λ c κs. tt) (λ c κs. tt) (λ c κs. tt) (λ c κs. tt) (λ c κs. tt) (λ c κs. tt)
     (λ c. simp (sym (c .before .before .high-word .ensures), c .if2 .taken, le-leb _ _ (c .before .if1 .taken)))
-    (λ c. simp (
-      sym (c .before .before .before .high-word .ensures),
-      c .if3 .taken,
-      c .before .if2 .left,
-      le-leb _ _ (c .before .before .if1 .taken),
-    ))
-    (λ c. simp (
-      sym (c .before .before .before .high-word .ensures),
-      c .if3 .left,
-      c .before .if2 .left,
-      le-leb _ _ (c .before .before .if1 .taken),
-    ))
+    (λ c. let at-if2 = c .before in
+    simp (sym (at-if2 .before .before .high-word .ensures), c .if3 .taken, at-if2 .if2 .left, le-leb _ _ (at-if2 .before .if1 .taken)))
+    (λ c. let at-if2 = c .before in
+    simp (sym (at-if2 .before .before .high-word .ensures), c .if3 .left, at-if2 .if2 .left, le-leb _ _ (at-if2 .before .if1 .taken)))
     (λ c. simp (
       sym (c .before .before .before .high-word .ensures),
       lt-ltb _ _ (c .if5 .taken),

@@ -9,14 +9,10 @@ returns c =
     λ h. chosen (start .args .m) (start .args .s) (z .result) (z .ensures .1 (omega arith)) (omega arith) (omega (arith, leb-true))
 
 pub corrected-spec : {M : Type 1} → this.Statement.statement M
-corrected-spec =
-    this.Tie.close (this.Tie.spec (λ c κs. search needs) (λ c. search needs) (λ c. search needs) (λ c. search needs) (λ c. search needs)
-    (λ c. search needs) (λ c. search needs) (λ c. search needs) (λ c. search needs)
-    (λ c. record {
+corrected-spec = this.Tie.close (this.Tie.spec (λ c κs. search needs) (λ c. search needs) (λ c. search needs) (λ c. search needs)
+    (λ c. search needs) (λ c. search needs) (λ c. search needs) (λ c. search needs) (λ c. search needs) (λ c. record {
       fits =
           up-fits (c .before .before .before .args .s) (c .before .before .residue .result) (c .before .before .before .pre .1);
-    })
-    (λ c. search needs) (λ c. search needs)
+    }) (λ c. search needs) (λ c. search needs)
     (λ c. down-fits (c .before .before .before .args .s) (c .before .before .residue .result) (omega arith) (omega (arith, leb-true)))
-    returns
-    (λ c. search needs))
+    returns (λ c. search needs))

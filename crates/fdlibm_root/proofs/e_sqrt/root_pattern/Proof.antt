@@ -16,5 +16,4 @@ root-pattern-spec = this.Tie.close (this.Tie.spec (λ c. search needs) (λ c. se
     (λ c. let a = c .before .args in
     let small =
     scaled-fits (a .significand) (a .exponent) (c .nearest .result) (c .before .pre .1) (c .before .pre .3) (c .nearest .ensures) in
-    record { fits = omega arith })
-    returns)
+    record { fits = omega arith }) returns)

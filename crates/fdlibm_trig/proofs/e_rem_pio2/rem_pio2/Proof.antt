@@ -30,9 +30,8 @@ returns-5 c =
 
 pub rem-pio2-spec : {M : Type 1} → this.Statement.statement M
 unfolding remPio2Of
-rem-pio2-spec =
-    this.Tie.close (this.Tie.spec (λ c κs. tt) (λ c. simp (sym (c .before .high-word .ensures), le-leb _ _ (c .if1 .taken))) (λ c κs. tt)
-    (λ c κs. tt) (λ c κs. tt) (λ c κs. tt) (λ c κs. tt) (λ c κs. tt) (λ c κs. tt) returns-2 returns-3
+rem-pio2-spec = this.Tie.close (this.Tie.spec (λ c κs. tt) (λ c. simp (sym (c .before .high-word .ensures), le-leb _ _ (c .if1 .taken)))
+    (λ c κs. tt) (λ c κs. tt) (λ c κs. tt) (λ c κs. tt) (λ c κs. tt) (λ c κs. tt) (λ c κs. tt) returns-2 returns-3
     (λ c. let d = c .before .before .before in let size = negative-size (d .before .before .before .args .x)
     (c .before .before .if4 .taken) in let e3 = d .before .before .high-word .ensures in
     simp (
@@ -43,5 +42,4 @@ rem-pio2-spec =
       (c .before .before .if4 .taken),
       le-ltb _ _ (simp (e3) at (d .if2 .left)),
       lt-leb _ _ (simp (e3) at (d .before .if1 .left)),
-    ))
-    returns-5)
+    )) returns-5)

@@ -1,5 +1,5 @@
 -- A proof for each check, if those before it passed.
-use Rattle.prelude.proofs.Logic.{_≡_, sym, not, cond, _-_, ltb, needs, lt-ltb, le-ltb}
+use Rattle.prelude.proofs.Logic.{_≡_, sym, not, cond, _-_, ltb, lt-ltb, le-ltb}
 use Rattle.fields.specs.Fields.{faultIn}
 use Rattle.fields.proofs.faults.fault as this
 

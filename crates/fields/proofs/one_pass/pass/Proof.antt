@@ -2,7 +2,7 @@
 -- start.
 use Rattle.prelude.proofs.Logic.{_≡_, sym, ap, _∙_, ℕ, _-_, arith, length, needs, now}
 use Rattle.refusals.specs.Refusals.{refusal}
-use Rattle.fields.specs.Fields.{lengthAt, longestOrder, faultOf}
+use Rattle.fields.specs.Fields.{lengthAt, faultOf}
 use Rattle.fields.proofs.FieldsLaws.{Good, fault-none, good-row, good-short}
 use Rattle.fields.proofs.Collecting.{Collecting, seenIn, seen-collected, collect-first, fault-is, refused-here, nothing-refused}
 use Rattle.fields.proofs.Collecting.{collected-on, collected-all, check-walk, checked-not, checked-all}

@@ -1,6 +1,5 @@
 -- Invariant: with what was collected, the definition collects from here on what it collects from the start.
-use Rattle.prelude.proofs.Logic.{_≡_, sym, ap, _∙_, _-_, arith, length, needs, now}
-use Rattle.refusals.specs.declared.Refusal.{Refusal}
+use Rattle.prelude.proofs.Logic.{_≡_, _-_, arith, length, needs, now}
 use Rattle.fields.specs.Fields.{faultOf}
 use Rattle.fields.proofs.FieldsLaws.{Good, Sound, check-none, fault-none, good-row, good-short}
 use Rattle.fields.proofs.Collecting.{Collecting, seenIn, collect-first, sound-here, collected-on, collected-all}
@@ -45,11 +44,9 @@ loop-again c =
     )
 
 pub collect-spec : {M : Type 1} → this.Statement.statement M
-collect-spec = this.Tie.close (this.Tie.spec Inv-loop μ-loop
-    (λ c. let s = now (c .before .args .order) in
-    (collect-first s, check-none s (c .before .pre)))
-    (λ c κs. tt) (λ c. search needs) (λ c κs. search needs) (λ c. search needs) (λ c. search needs) (λ c. search needs) room short room
-    (λ c. search needs) (λ c. search needs) (λ c. search needs) (λ c. search needs) loop-again
-    (λ c. let l = c .before in
+collect-spec = this.Tie.close (this.Tie.spec Inv-loop μ-loop (λ c. let s = now (c .before .args .order) in
+    (collect-first s, check-none s (c .before .pre))) (λ c κs. tt) (λ c. search needs) (λ c κs. search needs) (λ c. search needs)
+    (λ c. search needs) (λ c. search needs) room short room (λ c. search needs) (λ c. search needs) (λ c. search needs) (λ c. search needs)
+    loop-again (λ c. let l = c .before in
     collected-all (now (l .before .before .args .order)) (l .loop .at) (l .loop .starts) (l .loop .lengths) (l .loop .inv .0)
     (c .loop-test .left)))

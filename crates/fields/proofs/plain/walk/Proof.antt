@@ -1,5 +1,5 @@
 -- Invariant: with the tags seen, the definition gives from here on what it gives from the start.
-use Rattle.prelude.proofs.Logic.{_≡_, sym, ap, _∙_, ℕ, _-_, arith, length, needs, now}
+use Rattle.prelude.proofs.Logic.{_≡_, sym, ap, _∙_, ℕ, _-_, length, needs, now}
 use Rattle.refusals.specs.Refusals.{refusal}
 use Rattle.fields.specs.Fields.{faultOf}
 use Rattle.fields.proofs.FieldsLaws.{fault-none, good-row}
@@ -64,6 +64,5 @@ returns-2 c =
 pub walk-spec : {M : Type 1} → this.Statement.statement M
 walk-spec = this.Tie.close (this.Tie.spec Inv-loop μ-loop (λ c. check-first (now (c .before .args .order))) (λ c κs. search needs)
     (λ c κs. search needs) (λ c. sym (c .before .before .before .before .loop .inv .size)) (λ c κs. search needs) (λ c. search needs)
-    (λ c κs. search needs)
-    (λ c. search needs) (λ c κs. search needs) returns (λ c. search needs) room (λ c. search needs) (λ c. search needs) (λ c. search needs)
-    (λ c. search needs) loop-again (λ c κs. search needs) returns-2)
+    (λ c κs. search needs) (λ c. search needs) (λ c κs. search needs) returns (λ c. search needs) room (λ c. search needs)
+    (λ c. search needs) (λ c. search needs) (λ c. search needs) loop-again (λ c κs. search needs) returns-2)

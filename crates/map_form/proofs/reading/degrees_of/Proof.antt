@@ -7,14 +7,16 @@ use Rattle.map_form.proofs.reading.degrees_of as this
 
 returns : this.Tie.Need-returns
 returns c =
-    let n = c .before .before .before .before .size in
-    let f = c .before .before .before .before .before .args .form in
+    let at-size = c .before .before .before .before in
+    let n = at-size .size in
+    let f = at-size .before .args .form in
     negative (f .sign) (n .result) (sizeOf f) (n .ensures .0) (n .ensures .1) (c .before .if1 .taken) (c .if2 .taken)
 
 returns-2 : this.Tie.Need-returns-2
 returns-2 c =
-    let n = c .before .before .before .before .size in
-    let f = c .before .before .before .before .before .args .form in
+    let at-size = c .before .before .before .before in
+    let n = at-size .size in
+    let f = at-size .before .args .form in
     naught (f .sign) (n .result) (sizeOf f) (n .ensures .0) (n .ensures .1) (c .before .if1 .taken) (c .if2 .left)
 
 returns-3 : this.Tie.Need-returns-3
@@ -25,6 +27,5 @@ returns-3 c =
 
 pub degrees-of-spec : {M : Type 1} → this.Statement.statement M
 unfolding inFloat
-degrees-of-spec =
-    this.Tie.close (this.Tie.spec (λ c κs. search needs) (λ c. le→leb (c .before .size .result) (2 ^ 53) (omega arith)) returns
-    returns-2 returns-3)
+degrees-of-spec = this.Tie.close (this.Tie.spec (λ c κs. search needs) (λ c. le→leb (c .before .size .result) (2 ^ 53) (omega arith))
+    returns returns-2 returns-3)

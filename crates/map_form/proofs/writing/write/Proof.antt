@@ -14,10 +14,9 @@ returns c =
     (n .nearest .ensures .0) (c .before .sign-of .ensures))
 
 pub write-spec : {M : Type 1} → this.Statement.statement M
-write-spec = this.Tie.close (this.Tie.spec (λ c κs. search needs)
-    (λ c κs. let s = c .before .before in
-    wider (s .args .x) (s .args .most) 180 (s .pre) (sym (c .before .in-range .ensures) ∙ c .if1 .taken))
-    (λ c κs. search needs) (λ c κs. search needs) (λ c κs. search needs) returns (λ c κs. search needs) (λ c κs. search needs)
+write-spec = this.Tie.close (this.Tie.spec (λ c κs. search needs) (λ c κs. let s = c .before .before in
+    wider (s .args .x) (s .args .most) 180 (s .pre) (sym (c .before .in-range .ensures) ∙ c .if1 .taken)) (λ c κs. search needs)
+    (λ c κs. search needs) (λ c κs. search needs) returns (λ c κs. search needs) (λ c κs. search needs)
     (λ c. let i = c .before .before .before in
     let a = i .before .args in
     rw (c .no-parts .ensures, c .before .new .ensures)

@@ -35,9 +35,6 @@ returns-2 c = let a = c .before .before .before .before .before .args in
     omega (arith, parts (c .before), due.between-is (a .time) (a .seconds), c .if1 .left)
 
 pub between-spec : {M : Type 1} → this.Statement.statement M
-between-spec =
-    this.Tie.close
-    (this.Tie.spec (λ c κs. tt) (λ c κs. tt) add-to (λ c κs. tt) (λ c κs. tt)
+between-spec = this.Tie.close (this.Tie.spec (λ c κs. tt) (λ c κs. tt) add-to (λ c κs. tt) (λ c κs. tt)
     (λ c. let t = c .before .before .before .before in let p = parts c in
-    due.sum-fits _ _ _ _ (t .fits .seconds) (t .fits .time) (p .2) (p .3))
-    returns returns-2)
+    due.sum-fits _ _ _ _ (t .fits .seconds) (t .fits .time) (p .2) (p .3)) returns returns-2)

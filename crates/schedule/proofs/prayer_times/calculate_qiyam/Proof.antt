@@ -45,6 +45,5 @@ returns c =
     )
 
 pub calculate-qiyam-spec : {M : Type 1} → this.Statement.statement M
-calculate-qiyam-spec =
-    this.Tie.close (this.Tie.spec sub-night (λ c κs. search needs) into-the-night-requires
-    (λ c κs. search needs) into-the-night-requires-2 returns)
+calculate-qiyam-spec = this.Tie.close (this.Tie.spec sub-night (λ c κs. search needs) into-the-night-requires (λ c κs. search needs)
+    into-the-night-requires-2 returns)

@@ -22,6 +22,5 @@ returns c =
     (lit≤ tt)
 
 pub next-fajr-spec : {M : Type 1} → this.Statement.statement M
-next-fajr-spec =
-    this.Tie.close (this.Tie.spec (λ c κs. search needs) (λ c κs. search needs) (λ c κs. search needs)
+next-fajr-spec = this.Tie.close (this.Tie.spec (λ c κs. search needs) (λ c κs. search needs) (λ c κs. search needs)
     (λ c. held-fits (held-sum (of-near (c .final-time .ensures) (lit≤ tt)) (constant 86400)) (lit≤ tt)) returns)

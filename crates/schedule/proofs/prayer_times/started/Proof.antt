@@ -26,9 +26,7 @@ returns c =
     )
 
 pub started-spec : {M : Type 1} → this.Statement.statement M
-started-spec =
-    this.Tie.close
-    (this.Tie.spec (λ c κs. search needs) (λ c. let s = c .before .before in fits s (s .before .pre .fajr))
+started-spec = this.Tie.close (this.Tie.spec (λ c κs. search needs) (λ c. let s = c .before .before in fits s (s .before .pre .fajr))
     (λ c. let s = c .before .before .before .before in fits s (s .before .pre .sunrise))
     (λ c. let s = c .before .before .before .before .before .before in fits s (s .before .pre .dhuhr))
     (λ c. let s = c .before .before .before .before .before .before .before .before in fits s (s .before .pre .asr))
@@ -36,11 +34,9 @@ started-spec =
     (λ c. let s = c .before .before .before .before .before .before .before .before .before .before .before .before in
     fits s (s .before .pre .isha))
     (λ c. let s = c .before .before .before .before .before .before .before .before .before .before .before .before .before .before in
-    fits s (s .before .pre .«middle_of_the_night»))
-    (λ c. let s =
+    fits s (s .before .pre .«middle_of_the_night»)) (λ c. let s =
     c .before .before .before .before .before .before .before .before .before .before .before .before .before .before .before .before in
     fits s (s .before .pre .qiyam))
     (λ c. let s = c .before .before .before .before .before .before .before .before .before .before .before .before .before .before .before
     .before .before .before in
-    fits s (s .before .pre .«fajr_tomorrow»))
-    returns)
+    fits s (s .before .pre .«fajr_tomorrow»)) returns)

@@ -31,13 +31,8 @@ returns c =
     promised (held-as (of-near (c .earlier .ensures) (lit≤ tt)) (both earlierOf own bound)) (lit≤ tt)
 
 pub bounded-isha-spec : {M : Type 1} → this.Statement.statement M
-bounded-isha-spec =
-    this.Tie.close
-    (this.Tie.spec (λ c κs. search needs) (λ c κs. search needs) (λ c. wide _ (sunset (c .before .before .before .before)))
-    (λ c κs. search needs)
-    (λ c. held-fits (by-night c) (lit≤ tt))
-    (λ c κs. (
+bounded-isha-spec = this.Tie.close (this.Tie.spec (λ c κs. search needs) (λ c κs. search needs)
+    (λ c. wide _ (sunset (c .before .before .before .before))) (λ c κs. search needs) (λ c. held-fits (by-night c) (lit≤ tt)) (λ c κs. (
       asked (stored (by-night c) (lit≤ tt)) (lit≤ tt),
       asked (of-near (c .before .before .before .isha-bound .ensures) (lit≤ tt)) (lit≤ tt),
-    ))
-    (λ c κs. search needs) returns)
+    )) (λ c κs. search needs) returns)

@@ -32,8 +32,5 @@ returns-2 c =
     promised (held-as (of-near (c .moved2 .ensures) (lit≤ tt)) (summands (read w32 _ f) e)) (lit≤ tt)
 
 pub fajr-bound-spec : {M : Type 1} → this.Statement.statement M
-fajr-bound-spec =
-    this.Tie.close
-    (this.Tie.spec (λ c κs. search needs) (λ c κs. search needs) (λ c κs. search needs) (λ c κs. search needs) returns
-    (λ c κs. search needs)
-    (λ c κs. search needs) (λ c κs. search needs) returns-2)
+fajr-bound-spec = this.Tie.close (this.Tie.spec (λ c κs. search needs) (λ c κs. search needs) (λ c κs. search needs) (λ c κs. search needs)
+    returns (λ c κs. search needs) (λ c κs. search needs) (λ c κs. search needs) returns-2)

@@ -40,8 +40,5 @@ returns-2 c =
     (summands (read w32 _ f) e ∙ simp (sym (season .before .by-season .ensures), season .if1 .left))) (lit≤ tt)
 
 pub isha-bound-spec : {M : Type 1} → this.Statement.statement M
-isha-bound-spec =
-    this.Tie.close
-    (this.Tie.spec (λ c κs. search needs) (λ c κs. search needs) (λ c κs. search needs) (λ c κs. search needs)
-    (λ c κs. search needs) returns
-    (λ c κs. search needs) (λ c κs. search needs) (λ c κs. search needs) returns-2)
+isha-bound-spec = this.Tie.close (this.Tie.spec (λ c κs. search needs) (λ c κs. search needs) (λ c κs. search needs) (λ c κs. search needs)
+    (λ c κs. search needs) returns (λ c κs. search needs) (λ c κs. search needs) (λ c κs. search needs) returns-2)

@@ -1,4 +1,4 @@
-use Rattle.prelude.proofs.Logic.{ap, lit≤, w64, _^_, ℤ}
+use Rattle.prelude.proofs.Logic.{ap, lit≤, w64, _^_}
 use Rattle.integers.proofs.Integers.{Held, readBack, read, wide, of-wide, held-as, held-sum, held-fits, stored, promised}
 use Rattle.schedule.proofs.Schedule.{shortOf, of-near}
 use Rattle.schedule.proofs.twilight.moved as this

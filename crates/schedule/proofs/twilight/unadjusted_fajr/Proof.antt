@@ -31,13 +31,8 @@ returns c =
     promised (held-as (of-near (c .later .ensures) (lit≤ tt)) (both laterOf own bound)) (lit≤ tt)
 
 pub unadjusted-fajr-spec : {M : Type 1} → this.Statement.statement M
-unadjusted-fajr-spec =
-    this.Tie.close
-    (this.Tie.spec (λ c κs. search needs) (λ c κs. search needs) (λ c. wide _ (sunrise (c .before .before .before .before)))
-    (λ c κs. search needs)
-    (λ c. held-fits (by-night c) (lit≤ tt))
-    (λ c κs. (
+unadjusted-fajr-spec = this.Tie.close (this.Tie.spec (λ c κs. search needs) (λ c κs. search needs)
+    (λ c. wide _ (sunrise (c .before .before .before .before))) (λ c κs. search needs) (λ c. held-fits (by-night c) (lit≤ tt)) (λ c κs. (
       asked (stored (by-night c) (lit≤ tt)) (lit≤ tt),
       asked (of-near (c .before .before .before .fajr-bound .ensures) (lit≤ tt)) (lit≤ tt),
-    ))
-    (λ c κs. search needs) returns)
+    )) (λ c κs. search needs) returns)

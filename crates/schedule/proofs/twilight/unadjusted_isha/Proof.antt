@@ -32,9 +32,7 @@ returns-2 c =
     promised (held-as (of-near (c .bounded-isha .ensures) (lit≤ tt)) (simp (rw (read w32 _ f) at (c .before .if1 .left)))) (lit≤ tt)
 
 pub unadjusted-isha-spec : {M : Type 1} → this.Statement.statement M
-unadjusted-isha-spec =
-    this.Tie.close (this.Tie.spec
+unadjusted-isha-spec = this.Tie.close (this.Tie.spec
     (λ c. let f : SFits w32 (c .before .before .before .before .before .args .today .sunset) = search needs in wide _ f) (λ c.
     let f : SFits w32 (c .before .before .before .before .before .before .before .args .parameters .«isha_interval») = search needs in
-    wide _ f)
-    mul-result add-result returns (λ c κs. search needs) returns-2)
+    wide _ f) mul-result add-result returns (λ c κs. search needs) returns-2)

@@ -1,8 +1,8 @@
 -- The sentence of the number and place that are found is compared whole (`Guessing`). If it is the bytes, they say it; else nothing.
 use Rattle.prelude.proofs.Logic.{_≡_, refl, sym, ap, _∙_, List, ℕ, arith, length, needs, not-true, not-false, now}
 use Rattle.sentences.specs.Sentences.{sentenceOf, same}
-use Rattle.sentences.proofs.Making.{known-by-sentence, unknown-by-sentence, Line, line-of, reads-no-place, reads-unknown, reads-other}
-use Rattle.sentences.proofs.Making.{reads-it}
+use Rattle.sentences.proofs.Making.{known-by-sentence, unknown-by-sentence, Line, line-of, reads-no-place, reads-unknown}
+use Rattle.sentences.proofs.Making.{reads-other, reads-it}
 use Rattle.sentences.proofs.sentence.read_sentence as this
 
 -- the sentence that is guessed, at the front of its line
@@ -10,13 +10,13 @@ line : (c : this.Tie.After-put-sentence) → let at-place = c .before .before .b
     Line (at-place .before .number-in .result) (at-place .place-in .result) (c .put-sentence .result) (c .put-sentence .last .0)
 line c =
     let s = c .put-sentence in let at-place = c .before .before .before in
-    line-of _ (s .last .0) (at-place .before .number-in .result) (at-place .place-in .result) (s .result) (s .ensures .0) (s .ensures .1) refl
-    (c .before .before .if1 .left)
+    line-of _ (s .last .0) (at-place .before .number-in .result) (at-place .place-in .result) (s .result) (s .ensures .0) (s .ensures .1)
+    refl (c .before .before .if1 .left)
 
 -- whether the sentence is the bytes, as it is tested
 compared : (c : this.Tie.After-is-same) → let at-place = c .before .before .before .before .before .before in
-    same (sentenceOf (at-place .before .number-in .result) (at-place .place-in .result)) (now (at-place .before .before .before .args .bytes))
-    ≡ c .is-same .result
+    same (sentenceOf (at-place .before .number-in .result) (at-place .place-in .result))
+    (now (at-place .before .before .before .args .bytes)) ≡ c .is-same .result
 compared c =
     let at-put = c .before .before .before in let bytes = now (at-put .before .before .before .before .before .before .args .bytes) in
     sym (ap (λ (t : List ℕ). same t bytes) (line at-put .text)) ∙ sym (c .is-same .ensures)

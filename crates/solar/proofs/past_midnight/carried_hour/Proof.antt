@@ -12,16 +12,8 @@ returns c =
     let e3 = c .before .before .before .floor .ensures in
     let e4 = c .before .before .before .before .before .is-normal .ensures in
     let e5 = c .before .before .before .before .before .before .before .has-time .ensures in
-    simp (
-      sym e0,
-      sym e1,
-      sym e2,
-      sym e3,
-      sym e4,
-      sym e5,
-      c .before .before .before .before .if2 .taken,
-      c .before .before .before .before .before .before .if1 .taken,
-    )
+    let at-if2 = c .before .before .before .before in
+    simp (sym e0, sym e1, sym e2, sym e3, sym e4, sym e5, at-if2 .if2 .taken, at-if2 .before .before .if1 .taken)
 
 returns-2 : this.Tie.Need-returns-2
 unfolding carriedHourOf

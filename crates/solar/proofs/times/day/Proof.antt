@@ -6,11 +6,8 @@ use Rattle.solar.proofs.times.day as this
 returns-3 : this.Tie.Need-returns-3
 unfolding dayOf
 returns-3 c =
-    simp (
-      c .enum-told3 .given .1,
-      c .before .before .before .sunrise .given .1,
-      c .before .before .before .before .before .before .transit .given .1,
-    )
+    let at-sunrise = c .before .before .before in
+    simp (c .enum-told3 .given .1, at-sunrise .sunrise .given .1, at-sunrise .before .before .before .transit .given .1)
 
 returns-4 : this.Tie.Need-returns-4
 unfolding dayOf
@@ -18,14 +15,9 @@ returns-4 c =
     let f0 : SFits w32 (c .before .before .before .before .before .before .before .transit .given .0 .0) = search needs in
     let f1 : SFits w32 (c .before .before .before .before .sunrise .given .0 .0) = search needs in
     let f2 : SFits w32 (c .before .sunset .given .0 .0) = search needs in
-    simp (
-      toZ-ofZ f0,
-      toZ-ofZ f1,
-      toZ-ofZ f2,
-      c .before .sunset .given .1,
-      c .before .before .before .before .sunrise .given .1,
-      c .before .before .before .before .before .before .before .transit .given .1,
-    )
+    let at-sunrise = c .before .before .before .before in
+    let at-transit = at-sunrise .before .before .before in
+    simp (toZ-ofZ f0, toZ-ofZ f1, toZ-ofZ f2, c .before .sunset .given .1, at-sunrise .sunrise .given .1, at-transit .transit .given .1)
 
 pub day-spec : {M : Type 1} → this.Statement.statement M
 unfolding dayOf

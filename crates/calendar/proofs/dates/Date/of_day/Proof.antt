@@ -31,6 +31,5 @@ returns c =
     simp (o, b, y, s, read w64 z (c .before .before .before .before .fits .day)) (since-held z)
 
 pub of-day-spec : {M : Type 1} → this.Statement.statement M
-of-day-spec =
-    this.Tie.close (this.Tie.spec (λ c κs. search needs) (needs-met .0) (needs-met .1) (needs-met .2) (needs-met .3) (needs-met .4)
-    (needs-met .5) (needs-met .6) returns)
+of-day-spec = this.Tie.close (this.Tie.spec (λ c κs. search needs) (needs-met .0) (needs-met .1) (needs-met .2) (needs-met .3)
+    (needs-met .4) (needs-met .5) (needs-met .6) returns)

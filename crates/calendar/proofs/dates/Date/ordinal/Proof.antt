@@ -8,8 +8,9 @@ use Rattle.calendar.proofs.dates.Date.ordinal as this
 
 add-result : this.Tie.Need-add-result
 add-result c =
-    let d = c .before .before .before .before .before .args .self in
-    let x = exists-yes d (sym (c .before .before .before .before .exists .ensures) ∙ c .before .before .before .if1 .taken) in
+    let at-if = c .before .before .before in
+    let d = at-if .before .before .args .self in
+    let x = exists-yes d (sym (at-if .before .exists .ensures) ∙ at-if .if1 .taken) in
     let m = month-of-date d x in
     let e = c .before .days-before .ensures ∙ ap (λ (b : Bool). daysBeforeOf b (d .month)) (c .before .before .is-leap-year .ensures) in
     omega (arith, year-short (leapOf (d .year)))

@@ -13,6 +13,5 @@ returns-2 c =
     simp (low, high)
 
 pub part-spec : {M : Type 1} → this.Statement.statement M
-part-spec =
-    this.Tie.close (this.Tie.spec (λ c. search needs) (λ c. search needs) (λ c. search needs) (λ c. search needs) (λ c. search needs)
-    (λ c. search needs) returns-2)
+part-spec = this.Tie.close (this.Tie.spec (λ c. search needs) (λ c. search needs) (λ c. search needs) (λ c. search needs)
+    (λ c. search needs) (λ c. search needs) returns-2)

@@ -25,5 +25,4 @@ of-day-spec = this.Tie.close (this.Tie.spec (λ c κs. tt) (λ c κs. days-fit _
     (λ c. rest _ (c .before .before .since-first .result) (c .before .before .since-first .ensures) (c .before .year-of .result)
     (c .before .year-of .ensures) (c .year-start .result) (c .year-start .ensures) .less)
     (λ c κs. rest _ (c .before .before .since-first .result) (c .before .before .since-first .ensures) (c .before .year-of .result)
-    (c .before .year-of .ensures) (c .year-start .result) (c .year-start .ensures) .short)
-    returns)
+    (c .before .year-of .ensures) (c .year-start .result) (c .year-start .ensures) .short) returns)

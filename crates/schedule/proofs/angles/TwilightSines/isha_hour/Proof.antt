@@ -15,11 +15,8 @@ returns-2 : this.Tie.Need-returns-2
 unfolding ishaAskedOf
 returns-2 c =
     let none = c .before .before in
-    simp (
-      rw (read w32 _ (interval (none .before .before .before .before .before .before))) at (none .if1 .left),
-      sym (c .before .by-seventh .ensures),
-      c .if2 .taken,
-    )
+    let at-here = none .before .before .before .before .before .before in
+    simp (rw (read w32 _ (interval (at-here))) at (none .if1 .left), sym (c .before .by-seventh .ensures), c .if2 .taken)
 
 returns-3 : this.Tie.Need-returns-3
 unfolding ishaAskedOf

@@ -23,8 +23,7 @@ returns-4 c =
       params .params .given .1,
       place .place .given .1,
       place .before .before .before .date .given .1,
-    )
-    (ap Some (first-row _ _))
+    ) (ap Some (first-row _ _))
 
 pub calculate-spec : {M : Type 1} → this.Statement.statement M
 unfolding calculatedFrom

@@ -1,9 +1,0 @@
-use Rattle.models.specs.Numbers.{midnightNumberOf}
-use Rattle.prelude.proofs.Logic.{needs}
-use Rattle.models.proofs.rules.Midnight.number as this
-
-pub number-spec : {M : Type 1} → this.Statement.statement M
-unfolding midnightNumberOf
-number-spec =
-    let returns-2 : this.Tie.Need-returns-2 = λ c. simp (c .enum-told2 .given .1) in
-    this.Tie.close (this.Tie.spec (λ c. search needs) (λ c. search needs) (λ c. simp (c .enum-told .given .1)) returns-2)
