@@ -261,8 +261,9 @@ katchidul_order katchidul_read_order(const uint8_t *order, size_t length);
    The call refuses what katchidul_read_order would refuse of these bytes, before it looks at the buffer. Then it returns 9, place 0, if the
    buffer is too short. What no order can say is refused by 5, with its tag as place: a number that no choice has, 70,000 rows, -0.0 degrees
    (which would be read as 0.0), or minutes of imsak on a sheet that is not Ramadan's. A refused call changes no byte of the buffer. Otherwise
-   the bytes behind the order stay. Reading what was written returns the same struct, but for `town_at`, which is 3. If an order is read and
-   written again, every call returns the same for both. The buffer and the town must not overlap. Refusals 2, 5, 9 and 18. */
+   the bytes behind the order stay. Reading what was written returns the same struct, but for `town_at`, which is 3. And writing what was
+   read gives an order that every call answers as it answers the one that was read. The buffer and the town must not overlap. Refusals 2, 5, 9
+   and 18. */
 katchidul_written katchidul_write_order(katchidul_order order, const uint8_t *town, size_t town_length, uint8_t *buffer, size_t size);
 
 /* Returns the nine times of a row's date. Rows count from 0. Refusals 1 to 8, 15 and 18. */
