@@ -1,5 +1,8 @@
 // Working the day of an order's row.
 ghost use mathlib.Core.Path.{_≡_};
+ghost use Prim.Native.Nat.{_^_};
+ghost use Rattle.integers.specs.Parts.{Near};
+ghost use Rattle.schedule.specs.Since.{startedIn, fajrSince};
 ghost use Rattle.days.specs.Calls.{workDateOf, lacksRow, workRowOf, workDayOf};
 use calendar::dates::Date;
 use fields::tags;
@@ -17,6 +20,13 @@ pub fn work_date(order: Order, date: Date) -> Worked
 {
     let setting = order.setting;
     RowSuns::new(date, setting).work(setting)
+}
+
+// The same in seconds from 0h of the date.
+pub fn since_midnight(order: Order, date: Date) -> Worked
+    ensures { λ r. ⌜ (startedIn date r ≡ workDateOf order date) × Near (2 ^ 43) (fajrSince r) ⌝ }
+{
+    RowSuns::new(date, order.setting).since_midnight(order.setting)
 }
 
 // Its place is the tag of an order's rows.

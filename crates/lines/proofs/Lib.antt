@@ -4,3 +4,4 @@ pub mod Making
 pub mod Parts
 pub mod Imsak
 pub mod Moments
+pub mod SinceLaws

@@ -10,6 +10,7 @@ use Rattle.text.specs.Text.{ascii, decimalOf}
 use Rattle.text.proofs.TextLaws.{digits-short}
 use Rattle.lines.specs.Lines.{dateText, timeText, timesText, imsakOf, nineOf, columnsOf, rowText, rowBytes, fullRow, rowRoom}
 use Rattle.lines.specs.Lines.{numberText, refusedText, lineText}
+use Rattle.lines.specs.Since.{epoch, rowSince}
 
 pub date-length : (date : Date) → length (dateText date) ≡ 10
 unfolding dateText
@@ -28,14 +29,23 @@ times-length date (time ∷ times) =
     let c = time-length date time in
     omega arith
 
+-- the date, and the times of some date
+pub dated-length : (date day : Date) (times : List ℤ)
+    → length (dateText date ++ timesText day times ++ ascii "\n") ≡ rowBytes (length times)
+dated-length date day times =
+    let d = date-length date in
+    let c = times-length day times in
+    let a = length-append (dateText date) (timesText day times) in
+    let b = length-append (dateText date ++ timesText day times) (ascii "\n") in
+    omega arith
+
 pub row-length : (date : Date) (times : List ℤ) → length (rowText date times) ≡ rowBytes (length times)
 unfolding rowText
-row-length date times =
-    let d = date-length date in
-    let c = times-length date times in
-    let a = length-append (dateText date) (timesText date times) in
-    let b = length-append (dateText date ++ timesText date times) (ascii "\n") in
-    omega arith
+row-length date times = dated-length date date times
+
+pub since-length : (date : Date) (times : List ℤ) → length (rowSince date times) ≡ rowBytes (length times)
+unfolding rowSince
+since-length date times = dated-length date epoch times
 
 pub number-length : (word : List ℕ) (n : ℕ) → length (numberText word n) ≤ length word + 20
 unfolding numberText

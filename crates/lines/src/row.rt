@@ -4,9 +4,9 @@ ghost use mathlib.Core.List.{_∷_};
 ghost use Prim.Native.Nat.{_≤_};
 ghost use lib.ListN.{length};
 ghost use Rattle.text.specs.Text.{putOf};
-ghost use Rattle.lines.specs.Lines.{imsakOf, nineOf, columnsOf, rowText, rowBytes, rowRoom};
+ghost use Rattle.lines.specs.Lines.{imsakOf, nineOf, columnsOf, rowBytes, rowRoom};
+ghost use Rattle.lines.specs.Since.{rowSince};
 use super::times::date_text;
-use super::times::on_date;
 use super::times::time_text;
 use calendar::dates::Date;
 use hijri::ramadan::Ramadan;
@@ -68,15 +68,14 @@ fn ten(imsak: i64, times: PrayerTimes) -> [i64; 10]
 
 fn fill_row(line: &mut [u8], date: Date, times: &[i64])
     requires { ⌜ (length (now times) ≤ 10) × (length (now line) ≡ rowBytes (length (now times))) ⌝ }
-    ensures { λ _. ⌜ now (line .exit) ≡ rowText date (now (times .entry)) ⌝ }
+    ensures { λ _. ⌜ now (line .exit) ≡ rowSince date (now (times .entry)) ⌝ }
 {
-    let dated = on_date(date);
     put(&mut line[..], 0, &date_text(date));
     let mut i = 0;
     while i < times.len() {
         let at = DATE_BYTES + TIME_BYTES * i;
         let end = at + TIME_BYTES;
-        put(&mut line[at..end], 0, &time_text(dated, times[i]));
+        put(&mut line[at..end], 0, &time_text(times[i]));
         i = i + 1;
     }
     put(&mut line[..], DATE_BYTES + TIME_BYTES * i, b"\n");
@@ -85,8 +84,8 @@ fn fill_row(line: &mut [u8], date: Date, times: &[i64])
 // The line is written in its place, once the buffer is known to have room for all of it.
 fn put_columns(buffer: &mut [u8], at: usize, date: Date, times: &[i64]) -> usize
     requires { ⌜ length (now times) ≤ 10 ⌝ }
-    ensures { λ r. ⌜ r ≡ length (rowText date (now (times .entry))) ⌝ }
-    ensures { λ _. ⌜ now (buffer .exit) ≡ putOf (now (buffer .entry)) at (rowText date (now (times .entry))) ⌝ }
+    ensures { λ r. ⌜ r ≡ length (rowSince date (now (times .entry))) ⌝ }
+    ensures { λ _. ⌜ now (buffer .exit) ≡ putOf (now (buffer .entry)) at (rowSince date (now (times .entry))) ⌝ }
 {
     let bytes = DATE_BYTES + TIME_BYTES * times.len() + 1;
     if at > buffer.len() {
@@ -100,7 +99,7 @@ fn put_columns(buffer: &mut [u8], at: usize, date: Date, times: &[i64]) -> usize
     bytes
 }
 
-// As `put` does; returns the line's length. A row without imsak has the nine times behind it.
+// As `put` does; returns the line's length. The times are in seconds from 0h of the date. A row without imsak has the nine behind it.
 pub fn put_row(
     buffer: &mut [u8],
     at: usize,
@@ -108,8 +107,8 @@ pub fn put_row(
     date: Date,
     times: PrayerTimes,
 ) -> usize
-    ensures { λ r. ⌜ r ≡ length (rowText date (columnsOf ramadan times)) ⌝ }
-    ensures { λ _. ⌜ now (buffer .exit) ≡ putOf (now (buffer .entry)) at (rowText date (columnsOf ramadan times)) ⌝ }
+    ensures { λ r. ⌜ r ≡ length (rowSince date (columnsOf ramadan times)) ⌝ }
+    ensures { λ _. ⌜ now (buffer .exit) ≡ putOf (now (buffer .entry)) at (rowSince date (columnsOf ramadan times)) ⌝ }
 {
     let ten = ten(imsak(ramadan.imsak, times.fajr), times);
     if ramadan.set {

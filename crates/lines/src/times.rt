@@ -1,12 +1,12 @@
 // The parts of a row's line: its date and its times.
 ghost use mathlib.Core.Path.{_≡_};
 ghost use Prim.Native.Nat.{_+_, _/_, _≤_, _<_};
-ghost use lib.IntN.{pos, natAbs, _*ℤ_};
+ghost use lib.IntN.{natAbs};
 ghost use Rattle.integers.specs.Parts.{P, N};
 ghost use Rattle.integers.specs.Quotients.{floorRem};
-ghost use Rattle.calendar.specs.Days.{dayNumberOf};
 ghost use Rattle.text.specs.Text.{digitOf};
 ghost use Rattle.lines.specs.Lines.{dateText, signOf, daysOf, timeText};
+ghost use Rattle.lines.specs.Since.{epoch};
 use calendar::dates::Date;
 use calendar::instants::day_of;
 use calendar::instants::second_of_day;
@@ -34,32 +34,6 @@ pub fn date_text(date: Date) -> [u8; 10]
     ]
 }
 
-// A row's date with the number of its day and 0h of it, which are worked once for all its times.
-pub struct Dated {
-    pub date: Date,
-    pub day: i64,
-    pub start: i64,
-}
-
-pub fn on_date(date: Date) -> Dated
-    ensures { λ r. ⌜ (r .date ≡ date) × (r .day ≡ dayNumberOf date) × (r .start ≡ dayNumberOf date *ℤ pos 86400) ⌝ }
-{
-    let day = date.day_number();
-    Dated {
-        date: date,
-        day: day,
-        start: day * 86400,
-    }
-}
-
-// Days from the date to the day of an instant.
-fn days_from(dated: Dated, time: i64) -> i64
-    requires { ⌜ dated .day ≡ dayNumberOf (dated .date) ⌝ }
-    ensures { λ r. ⌜ r ≡ daysOf (dated .date) time ⌝ }
-{
-    day_of(time) - dated.day
-}
-
 fn sign(days: i64) -> u8
     ensures { λ r. ⌜ r ≡ signOf days ⌝ }
 {
@@ -80,12 +54,11 @@ struct Moment {
 }
 
 // Any time, by divisions.
-fn divided(dated: Dated, time: i64) -> Moment
-    requires { ⌜ dated .day ≡ dayNumberOf (dated .date) ⌝ }
-    ensures { λ r. ⌜ (r .sign ≡ signOf (daysOf (dated .date) time)) × (r .days ≡ digitOf (natAbs (daysOf (dated .date) time)))
+fn divided(time: i64) -> Moment
+    ensures { λ r. ⌜ (r .sign ≡ signOf (daysOf epoch time)) × (r .days ≡ digitOf (natAbs (daysOf epoch time)))
         × (r .second ≡ floorRem time 86400) ⌝ }
 {
-    let days = days_from(dated, time);
+    let days = day_of(time);
     Moment {
         sign: sign(days),
         days: digit(size(days)),
@@ -102,40 +75,35 @@ fn second_from(start: i64, time: i64) -> u32
 }
 
 // Nearly every time is on the date or on a day beside it: there comparisons are enough.
-fn compared(dated: Dated, time: i64) -> Moment
-    requires { ⌜ (dated .day ≡ dayNumberOf (dated .date)) × (dated .start ≡ dayNumberOf (dated .date) *ℤ pos 86400) ⌝ }
-    ensures { λ r. ⌜ (r .sign ≡ signOf (daysOf (dated .date) time)) × (r .days ≡ digitOf (natAbs (daysOf (dated .date) time)))
+fn compared(time: i64) -> Moment
+    ensures { λ r. ⌜ (r .sign ≡ signOf (daysOf epoch time)) × (r .days ≡ digitOf (natAbs (daysOf epoch time)))
         × (r .second ≡ floorRem time 86400) ⌝ }
 {
-    let today = dated.start;
-    let yesterday = today - 86400;
-    let tomorrow = today + 86400;
-    let after = today + 172800;
-    if time < today {
-        if time < yesterday {
-            return divided(dated, time);
+    if time < 0 {
+        if time < -86400 {
+            return divided(time);
         }
         return Moment {
             sign: b'-',
             days: b'1',
-            second: second_from(yesterday, time),
+            second: second_from(-86400, time),
         };
     }
-    if time < tomorrow {
+    if time < 86400 {
         return Moment {
             sign: b'+',
             days: b'0',
-            second: second_from(today, time),
+            second: second_from(0, time),
         };
     }
-    if time < after {
+    if time < 172800 {
         return Moment {
             sign: b'+',
             days: b'1',
-            second: second_from(tomorrow, time),
+            second: second_from(86400, time),
         };
     }
-    divided(dated, time)
+    divided(time)
 }
 
 struct TwoDigits {
@@ -169,12 +137,11 @@ fn second_digits(second: u32) -> TwoDigits
     two_digits(second)
 }
 
-// A blank, then as +0T05:12:00.
-pub fn time_text(dated: Dated, time: i64) -> [u8; 12]
-    requires { ⌜ (dated .day ≡ dayNumberOf (dated .date)) × (dated .start ≡ dayNumberOf (dated .date) *ℤ pos 86400) ⌝ }
-    ensures { λ r. ⌜ r ≡ timeText (dated .date) time ⌝ }
+// A blank, then as +0T05:12:00. The time is in seconds from 0h of the row's date.
+pub fn time_text(time: i64) -> [u8; 12]
+    ensures { λ r. ⌜ r ≡ timeText epoch time ⌝ }
 {
-    let moment = compared(dated, time);
+    let moment = compared(time);
     let second = moment.second;
     let minutes = second / 60;
     let hours = second / 3600;

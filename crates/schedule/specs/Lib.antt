@@ -8,3 +8,4 @@ pub mod RowSuns
 pub mod Builder
 pub mod Asked
 pub mod Each
+pub mod Since

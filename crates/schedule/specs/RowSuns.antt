@@ -23,6 +23,7 @@ use Rattle.schedule.specs.declared.rolling.RowSuns.{RowSuns}
 use Rattle.schedule.specs.Asked.{twilightSinesOf, fajrHourOf, asrHourOf, ishaHourOf}
 use Rattle.schedule.specs.Fajr.{fajrAloneOf}
 use Rattle.schedule.specs.Hours.{sunsOf}
+use Rattle.schedule.specs.Since.{sinceOf}
 use Rattle.schedule.specs.Times.{workedOf}
 
 -- those of a date and of the two days after it
@@ -99,6 +100,10 @@ rowSunsHoursOf s r =
 -- the row's day
 abbrev pub rowSunsWorkedOf : Setting → RowSuns → Worked
 rowSunsWorkedOf s r = workedOf (rowSunsHoursOf s r) (r .date) (seasonOf s) (s .parameters)
+
+-- the same in seconds from 0h of the row's date
+abbrev pub rowSunsSinceOf : Setting → RowSuns → Worked
+rowSunsSinceOf s r = sinceOf (rowSunsHoursOf s r) (r .date) (seasonOf s) (s .parameters)
 
 -- the row's Fajr by itself
 unfoldable pub rowSunsFajrOf : Setting → RowSuns → FajrAlone

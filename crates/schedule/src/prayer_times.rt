@@ -10,6 +10,7 @@ ghost use Rattle.rounding.specs.Times.{roundedOf, adjustedOf};
 ghost use Rattle.schedule.specs.Fajr.{fajrAloneOf};
 ghost use Rattle.schedule.specs.Times.{startOf, finalOf, fajrTomorrowOf, middleOfTheNightOf, qiyamOf, fromMidnightOf, startedOf};
 ghost use Rattle.schedule.specs.Times.{workedOf, workedBy};
+ghost use Rattle.schedule.specs.Since.{sinceOf, fajrSince};
 ghost use Rattle.schedule.specs.Each.{Each};
 ghost use Rattle.schedule.specs.Twilight.{unadjustedFajrOf};
 use super::hours::RowHours;
@@ -193,6 +194,19 @@ fn started(date: Date, times: PrayerTimes) -> PrayerTimes
 }
 
 impl RowHours {
+    // The nine in seconds from 0h of the date, or its refusal.
+    pub fn since_midnight(self, date: Date, season: Season, parameters: Parameters) -> Worked
+        ensures { λ r. ⌜ (r ≡ sinceOf self date season parameters) × Near (2 ^ 43) (fajrSince r) ⌝ }
+    {
+        let suns = self.suns;
+        match suns {
+            Suns::Whole(three) => {
+                Worked::Times(from_midnight(parameters, season, date, three, self))
+            }
+            Suns::Refused(lacking) => Worked::Refused(lacking),
+        }
+    }
+
     // The nine times of a date, or its refusal.
     pub fn work(self, date: Date, season: Season, parameters: Parameters) -> Worked
         ensures { λ r. ⌜ r ≡ workedOf self date season parameters ⌝ }

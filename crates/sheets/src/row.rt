@@ -1,14 +1,16 @@
 // A row's line at the front of a lent buffer. A refused call changes no byte of it.
 ghost use mathlib.Core.Path.{_≡_};
-ghost use Prim.Native.Nat.{_≤_};
+ghost use Prim.Native.Nat.{_≤_, _^_};
 ghost use lib.ListN.{length};
 ghost use Rattle.lines.specs.Lines.{rowRoom};
 ghost use Rattle.sheets.specs.Rows.{workedCallOf, readCallOf, rowCallOf};
 ghost use Rattle.days.specs.Calls.{workRowOf};
 ghost use Rattle.calendar.specs.Answers.{rowDateOf};
+ghost use Rattle.integers.specs.Parts.{Near};
+ghost use Rattle.schedule.specs.Since.{startedIn, fajrSince};
 use calendar::dates::Date;
 use days::day::lacks_row;
-use days::day::work_date;
+use days::day::since_midnight;
 use hijri::ramadan::Ramadan;
 use lines::row::ROW_BYTES;
 use lines::row::put_row;
@@ -20,11 +22,11 @@ use refusals::BUFFER_SHORT;
 use refusals::Refusal;
 use schedule::prayer_times::Worked;
 
-// Returns number 0 if the row is written.
+// Returns number 0 if the row is written. Its times are in seconds from 0h of the date.
 fn write_worked(ramadan: Ramadan, date: Date, worked: Worked, buffer: &mut [u8]) -> Refusal
-    requires { ⌜ rowRoom ramadan ≤ length (now buffer) ⌝ }
-    ensures { λ r. ⌜ r ≡ workedCallOf ramadan date worked (now (buffer .entry)) .answer ⌝ }
-    ensures { λ _. ⌜ now (buffer .exit) ≡ workedCallOf ramadan date worked (now (buffer .entry)) .buffer ⌝ }
+    requires { ⌜ (rowRoom ramadan ≤ length (now buffer)) × Near (2 ^ 43) (fajrSince worked) ⌝ }
+    ensures { λ r. ⌜ r ≡ workedCallOf ramadan date (startedIn date worked) (now (buffer .entry)) .answer ⌝ }
+    ensures { λ _. ⌜ now (buffer .exit) ≡ workedCallOf ramadan date (startedIn date worked) (now (buffer .entry)) .buffer ⌝ }
 {
     match worked {
         Worked::Times(times) => {
@@ -45,7 +47,8 @@ fn work_and_write(order: Order, row: u32, buffer: &mut [u8]) -> Refusal
     if row < order.rows {
         let first = order.date;
         let date = first.row(row);
-        return write_worked(order.ramadan, date, work_date(order, date), &mut buffer[..]);
+        let worked = since_midnight(order, date);
+        return write_worked(order.ramadan, date, worked, &mut buffer[..]);
     }
     lacks_row()
 }

@@ -3,7 +3,8 @@ ghost use mathlib.Core.Path.{_≡_};
 ghost use Prim.Native.Nat.{_+_, _*_, _≤_};
 ghost use lib.ListN.{length};
 ghost use Rattle.fields.specs.Tags.{longestTown};
-ghost use Rattle.lines.specs.Lines.{rowRoom, lineText};
+ghost use Rattle.lines.specs.Lines.{rowRoom};
+ghost use Rattle.lines.specs.Since.{lineSince};
 ghost use Rattle.order.specs.Accepted.{Accepted};
 ghost use Rattle.text.specs.Text.{putOf, frontOf};
 ghost use Rattle.sheets.specs.Rows.{headerText, headText, linesText, acceptedText, longestSheet, sheetCallOf};
@@ -33,10 +34,10 @@ pub const SHEET_BYTES: usize = LONGEST_TOWN as usize
     + HEADER_BYTES
     + ROW_BYTES * MOST_ROWS as usize;
 
-// Writes a row's line, or the line of its refusal. Returns its length.
+// Writes a row's line, or the line of its refusal. Returns its length. The times are in seconds from 0h of the date.
 fn put_line(buffer: &mut [u8], at: usize, ramadan: Ramadan, date: Date, worked: Worked) -> usize
-    ensures { λ r. ⌜ r ≡ length (lineText ramadan date worked) ⌝ }
-    ensures { λ _. ⌜ now (buffer .exit) ≡ putOf (now (buffer .entry)) at (lineText ramadan date worked) ⌝ }
+    ensures { λ r. ⌜ r ≡ length (lineSince ramadan date worked) ⌝ }
+    ensures { λ _. ⌜ now (buffer .exit) ≡ putOf (now (buffer .entry)) at (lineSince ramadan date worked) ⌝ }
 {
     match worked {
         Worked::Times(times) => put_row(&mut buffer[..], at, ramadan, date, times),
@@ -87,7 +88,7 @@ fn put_rows(buffer: &mut [u8], at: usize, order: Order) -> usize
     let mut row = 0;
     let mut end = at;
     loop {
-        let worked = suns.work(setting);
+        let worked = suns.since_midnight(setting);
         end = end + put_line(&mut buffer[..], end, ramadan, suns.date, worked);
         row = row + 1;
         if row >= order.rows {

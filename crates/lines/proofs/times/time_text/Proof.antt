@@ -3,6 +3,7 @@ use Rattle.prelude.proofs.Logic.{_≡_, ap, _∙_, ℕ, _-_, _*_, _/_, _%_, ℤ
 use Rattle.integers.proofs.Integers.{floorRem, floored, readBack, read}
 use Rattle.text.specs.Text.{digitOf}
 use Rattle.lines.specs.Lines.{daysOf, signOf, timeText}
+use Rattle.lines.specs.Since.{epoch}
 use Rattle.lines.proofs.times.time_text as this
 
 returns : this.Tie.Need-returns
@@ -14,7 +15,7 @@ returns c =
     let minute = c .before .two-digits2 in
     let rest = c .second-digits in
     let r = read w64 (t .args .time) (t .fits .time) in
-    let days = ap (daysOf (t .args .dated .date)) r in
+    let days = ap (daysOf epoch) r in
     let s = moment .ensures .2 ∙ ap (λ (z : ℤ). floorRem z 86400) r in
     let n : ℕ = moment .result .second in
     let m : n / 60 - 60 * (n / 3600) ≡ n / 60 % 60 = omega arith in
@@ -31,6 +32,6 @@ returns c =
 
 pub time-text-spec : {M : Type 1} → this.Statement.statement M
 time-text-spec =
-    this.Tie.close (this.Tie.spec (λ c κs. c .pre)
+    this.Tie.close (this.Tie.spec (λ c κs. search needs)
     (λ c κs. let h = floored (readBack w64 (c .before .args .time)) 86400 (lit< tt) .below in omega (arith, h, c .compared .ensures .2))
     (λ c. search needs) (λ c. search needs) (λ c κs. search needs) (λ c. search needs) (λ c. search needs) (λ c κs. search needs) returns)

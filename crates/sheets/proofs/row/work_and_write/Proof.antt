@@ -7,7 +7,7 @@ returns c =
     let a = c .before .before .before .before .before .before .before .before .before .before .args in
     let w = c .before .before .write-worked .ensures in
     let l = row-there (a .order) (a .row) (now (a .buffer)) _ _ (c .before .before .before .before .before .before .before .if1 .taken)
-    (c .before .before .before .before .before .row .ensures) (c .before .before .before .before .work-date .ensures) in
+    (c .before .before .before .before .before .row .ensures) (c .before .before .before .before .since-midnight .ensures .0) in
     (w .0 ∙ l .0, w .1 ∙ l .1)
 
 returns-2 : this.Tie.Need-returns-2
@@ -19,5 +19,6 @@ returns-2 c =
 pub work-and-write-spec : {M : Type 1} → this.Statement.statement M
 work-and-write-spec =
     this.Tie.close
-    (this.Tie.spec (λ c κs. search needs) (λ c κs. search needs) (λ c κs. search needs) (λ c. search needs) returns
-    (λ c κs. search needs) returns-2)
+    (this.Tie.spec (λ c κs. search needs) (λ c κs. search needs)
+    (λ c κs. (c .before .before .before .before .before .before .before .pre, c .before .since-midnight .ensures .1)) (λ c. search needs)
+    returns (λ c κs. search needs) returns-2)

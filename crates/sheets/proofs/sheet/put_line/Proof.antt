@@ -1,9 +1,9 @@
-use Rattle.lines.specs.Lines.{lineText}
+use Rattle.lines.specs.Since.{lineSince}
 use Rattle.prelude.proofs.Logic.{needs}
 use Rattle.sheets.proofs.sheet.put_line as this
 
 pub put-line-spec : {M : Type 1} → this.Statement.statement M
-unfolding lineText
+unfolding lineSince
 put-line-spec =
     let returns : this.Tie.Need-returns = λ c.
     simp (c .before .before .before .before .before .worked .given .1) (c .before .before .put-row .ensures) in

@@ -1,10 +1,9 @@
 -- Invariant: the suns are the row's, and the lines of the earlier rows are in the buffer, up to `end`.
 use Rattle.prelude.proofs.Logic.{_≡_, refl, ap, _∙_, _+_, _-_, _^_, _<_, arith, length, needs, now}
 use Rattle.days.proofs.RowStates.{first-state, next-state}
-use Rattle.lines.specs.Lines.{lineText}
 use Rattle.schedule.specs.RowSuns.{nextRowSunsOf}
 use Rattle.sheets.proofs.Lengths.{lines-none}
-use Rattle.sheets.proofs.Rolled.{Run, Behind, run-line}
+use Rattle.sheets.proofs.Rolled.{Run, Behind, since-line, run-line}
 use Rattle.sheets.proofs.sheet.put_rows as this
 
 abbrev Inv-loop : this.Tie.InvT-loop
@@ -23,9 +22,10 @@ line-holds c =
     let o = t .args .order in
     let l = c .before .before .before .loop in
     let put = c .put-line in
+    let e = c .before .before .since-midnight .ensures in
     run-line o (t .pre .0) (now (t .args .buffer)) (t .args .at) (t .pre .1) (l .buffer) (l .suns) (l .row) (l .end) (l .inv) _
     (put .last .0) (put .result)
-    (ap (lineText (o .ramadan) (l .suns .date)) (c .before .before .work .ensures)) (put .ensures .0) (put .ensures .1)
+    (since-line o (t .pre .0) (l .suns) (l .row) (l .inv .within) (l .inv .state) _ (e .0) (e .1)) (put .ensures .0) (put .ensures .1)
 
 loop-holds : this.Tie.Need-loop-holds Inv-loop μ-loop
 loop-holds c =
