@@ -1,13 +1,11 @@
 -- Demand 3 for what a host gets: each result is one of a call's two cases, and order_laws proves it for those. Assumes nothing.
-use Rattle.prelude.proofs.Logic.{_≡_, refl, sym, ap, _∙_, subst, true, List, ℕ, _≤_, arith, ltb, ltb-true, ltb-false, le-ltb, cases}
-use Rattle.prelude.proofs.Logic.{true≢false}
+use Rattle.prelude.proofs.Logic.{_≡_, refl, sym, ap, _∙_, true, List, ℕ, _≤_, arith, ltb, ltb-true, ltb-false, le-ltb, cases, true≢false}
 use Rattle.prelude.specs.Lists.{listed}
 use Rattle.days.specs.Calls.{lacksRow, workRowOf, workReadingOf, workDayOf, instantFits, prayerAtOf}
 use Rattle.days.specs.declared.in_force.InForce.{InForce}
 use Rattle.days.specs.declared.in_force.InForce.the-variants as force
 use Rattle.katchidul.specs.Exports.{dayAnswerOf, prayerAnswerOf}
 use Rattle.order_laws.specs.Minutes.{LaterOrder, MovedRow}
-use Rattle.order_laws.specs.NothingBreaks.{dayNumbers}
 use Rattle.order_laws.proofs.MinutesLaws.{later-orders-move-their-rows}
 use Rattle.order_laws.proofs.NothingBreaksLaws.{nothing-breaks-a-run}
 use Rattle.refusals.specs.declared.Refusal.{Refusal}

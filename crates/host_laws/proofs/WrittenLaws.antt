@@ -1,20 +1,17 @@
 -- Two orders that are read as the same numbers have the same record, except for the town's offset. Assumes nothing.
-use Rattle.prelude.proofs.Logic.{_≡_, refl, sym, ap, subst, _∙_, Bool, true, false, List, ℕ, _+_, _≤_, arith, ℤ, pos}
-use Rattle.integers.proofs.Integers.{P, N, natural}
-use Rattle.unit.specs.declared.Coordinates.{Coordinates}
+use Rattle.prelude.proofs.Logic.{_≡_, refl, sym, ap, subst, _∙_, Bool, true, false, List, ℕ, arith, pos}
+use Rattle.integers.proofs.Integers.{P, natural}
 use Rattle.fields.specs.Values.{Values, valuesOf}
 use Rattle.fields.specs.Numbers.{byteOf}
-use Rattle.models.specs.declared.{method.Method.Method, madhab.Madhab.Madhab, parameters.Parameters.Parameters, rules.Rules.Rules}
+use Rattle.models.specs.declared.{method.Method.Method}
 use Rattle.models.proofs.Models.{methodOf, madhabOf, ruleOf, roundingOf, shafaqOf, midnightOf, southernOf, presetOf}
 use Rattle.models.proofs.NumbersLaws.{method-back, madhab-back, rule-back, rounding-back, shafaq-back, midnight-back, southern-back}
 use Rattle.order.specs.declared.reading.Order.{Order}
 use Rattle.order.specs.declared.reading.Reading.the-variants.{Read}
 use Rattle.order.specs.Given.{parametersIn}
 use Rattle.order.specs.Reading.{orderOf, readingOf, townOf}
-use Rattle.order.specs.Accepted.{ParametersInOrder}
 use Rattle.order.proofs.AcceptedLaws.{brought, read-accepted}
 use Rattle.order.proofs.ReadingLaws.{read-passed}
-use Rattle.order_numbers.specs.declared.numbers.Choices.{Choices}
 use Rattle.order_numbers.specs.declared.numbers.OrderNumbers.{OrderNumbers}
 use Rattle.order_numbers.specs.Numbers.{setNumberOf, orderRead, orderNumbersIn, orderNumbersOf}
 use Rattle.order_numbers.specs.Values.{encode}

@@ -19,7 +19,7 @@ use Rattle.schedule.specs.declared.in_force.Instant.{Instant}
 use Rattle.schedule.specs.declared.in_force.Remaining.{Remaining}
 use Rattle.schedule.specs.declared.in_force.Remaining.the-variants as remaining
 use Rattle.schedule.specs.declared.prayer_times.PrayerTimes.{PrayerTimes}
-use Rattle.schedule.specs.InForce.{timeOf, nanosecondsOf, aheadOf, lastOf, currentTimeOf, followingOf, followingCurrentOf, nextOf}
+use Rattle.schedule.specs.InForce.{timeOf, nanosecondsOf, aheadOf, lastOf, currentTimeOf, followingCurrentOf, nextOf}
 use Rattle.schedule.specs.InForce.{hoursMinutesOf, untilOf, timeRemainingOf}
 use Rattle.models.specs.declared.rules.Southern.the-variants.{StartsAgain}
 use Rattle.ops.specs.Season.{daysSinceSolsticeOf, southernOffsetOf, southernCountOf, daysByRule}
@@ -135,5 +135,5 @@ all [] = true
 all (t ∷ ts) = t && all ts
 
 pub all-hold : T (all marked)
-unfolding marked all timeOf nanosecondsOf aheadOf lastOf followingOf followingCurrentOf hoursMinutesOf untilOf prayerNumberOf prayerOf truncOf settingHourOf hourOf hourAdjustmentOf minuteOf hasTimeOf carriedOf carriedHourOf isNormalOf floorOf roundOf toUnsigned dec round ofBits eq le lt add sub mul div neg ofInt toSigned dateJulianDayOf julianDayOf fromMarchOf yearProductOf monthProductOf correctionOf toI32Of daysSinceSolsticeOf southernOffsetOf southernCountOf daysByRule daysInYearOf leapOf
+unfolding marked all timeOf nanosecondsOf aheadOf lastOf followingCurrentOf hoursMinutesOf untilOf prayerOf truncOf settingHourOf hourOf hourAdjustmentOf minuteOf hasTimeOf carriedOf carriedHourOf isNormalOf floorOf roundOf toUnsigned dec round ofBits eq le lt add sub mul div neg ofInt toSigned dateJulianDayOf julianDayOf fromMarchOf yearProductOf monthProductOf correctionOf toI32Of daysSinceSolsticeOf southernOffsetOf southernCountOf daysByRule daysInYearOf leapOf
 all-hold = tt

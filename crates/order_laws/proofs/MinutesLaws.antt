@@ -1,6 +1,6 @@
 -- Demand 3: from the bytes of two orders to the parameters of one row's day, for which crates/schedule_laws proves it. Assumes nothing.
 use Rattle.prelude.proofs.Logic.{_≡_, refl, sym, ap, subst, _∙_, Bool, true, false, cond, _&&_, List, ℕ, _*_, _≤_, _<_, _^_, arith, ltb}
-use Rattle.prelude.proofs.Logic.{leb, ℤ, pos, negsuc, _+ℤ_, _-ℤ_, leZ, leb-true, both}
+use Rattle.prelude.proofs.Logic.{leb, ℤ, pos, _+ℤ_, _-ℤ_, leZ, leb-true, both}
 use Rattle.integers.proofs.Integers.{P, N, Near, same, sum, difference, le-yes, to-le}
 use Rattle.calendar.specs.Answers.{rowDateOf}
 use Rattle.fields.specs.declared.values.Part.{Part}

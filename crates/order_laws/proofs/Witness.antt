@@ -54,13 +54,18 @@ more-minutes Isha = refl
 more-minutes Qiyam = refl
 more-minutes FajrTomorrow = refl
 
-pub can-be-met : LaterOrder earlier later
+-- one name for all that an order is read by: what opens it opens them
+opened : ℕ
 unfolding readingOf firstOf isGivenOf bothFormsOf formIn coordinateIn formFits degreesOf checkOf walkOf faultOf faultIn lengthAt unsignedOf
     lengthFits choiceFits valuesIn fieldsOf collectOf missingOf firstFailing tagsFrom outOfRangeOf inRangeOf fitsOf lookUp printable rowsFit
     ramadanRows minuteFits minutesFit intervalFits dateIn rowsIn degreesIn minutesIn byteOr degreesOr roundingOr minutesOr intervalOr
     parametersIn rulesIn clockIn ramadanIn orderOf wrongStartOf townIn townOf signedAtOf bytesNumberOf bitsOf floatOf timeAdjustmentsOf
     existsOf leapOf lengthOf daysBeforeOf ordinalOf countBelow monthOf ofOrdinalOf daysBeforeYearOf dayNumberOf lastBy yearOf dateAtOf
     dateOfDayOf heldOf fromOf le neg ofBits round dec
+opened = 0
+
+pub can-be-met : LaterOrder earlier later
+unfolding opened
 can-be-met =
     record {
       first = orderOf (valuesOf earlier);
@@ -85,72 +90,24 @@ of-each P (suc n) each tag l = go (leb tag n) refl (λ h. of-each P n (each .1) 
     go true h below = below (leb-true tag n h)
     go false h below = let k = leb-false tag n h in let e : suc n ≡ tag = omega arith in subst P e (each .0)
 
+infixr 20 _&_
+_&_ : {A B : Type 0} → A → B → A × B
+_&_ a b = (a, b)
+
 abbrev Same : ℕ → Type 0
 Same tag = saysPlace tag ≡ false → (hasOf earlier tag ≡ hasOf onTheMap tag) × (valueOf earlier tag ≡ valueOf onTheMap tag)
 
 -- from tag 20 down
 each-same : UpTo 20 Same
 unfolding valuesIn fieldsOf collectOf lengthAt unsignedOf
-each-same = (
-  λ e. (refl, refl),
-  (
-    λ e. absurd (true≢false e),
-    (
-      λ e. absurd (true≢false e),
-      (
-        λ e. (refl, refl),
-        (
-          λ e. (refl, refl),
-          (
-            λ e. (refl, refl),
-            (
-              λ e. (refl, refl),
-              (
-                λ e. (refl, refl),
-                (
-                  λ e. (refl, refl),
-                  (
-                    λ e. (refl, refl),
-                    (
-                      λ e. (refl, refl),
-                      (
-                        λ e. (refl, refl),
-                        (
-                          λ e. (refl, refl),
-                          (
-                            λ e. (refl, refl),
-                            (
-                              λ e. (refl, refl),
-                              (
-                                λ e. absurd (true≢false e),
-                                (
-                                  λ e. absurd (true≢false e),
-                                  (λ e. (refl, refl), (λ e. (refl, refl), (λ e. (refl, refl), λ e. (refl, refl)))),
-                                ),
-                              ),
-                            ),
-                          ),
-                        ),
-                      ),
-                    ),
-                  ),
-                ),
-              ),
-            ),
-          ),
-        ),
-      ),
-    ),
-  ),
-)
+each-same =
+    (λ e. (refl, refl)) & (λ e. absurd (true≢false e)) & (λ e. absurd (true≢false e)) & (λ e. (refl, refl)) & (λ e. (refl, refl))
+    & (λ e. (refl, refl)) & (λ e. (refl, refl)) & (λ e. (refl, refl)) & (λ e. (refl, refl)) & (λ e. (refl, refl)) & (λ e. (refl, refl))
+    & (λ e. (refl, refl)) & (λ e. (refl, refl)) & (λ e. (refl, refl)) & (λ e. (refl, refl)) & (λ e. absurd (true≢false e))
+    & (λ e. absurd (true≢false e)) & (λ e. (refl, refl)) & (λ e. (refl, refl)) & (λ e. (refl, refl)) & (λ e. (refl, refl))
 
 pub can-be-sent-either-way : SamePlace earlier onTheMap
-unfolding readingOf firstOf isGivenOf bothFormsOf formIn coordinateIn formFits degreesOf checkOf walkOf faultOf faultIn lengthAt unsignedOf
-    lengthFits choiceFits valuesIn fieldsOf collectOf missingOf firstFailing tagsFrom outOfRangeOf inRangeOf fitsOf lookUp printable rowsFit
-    ramadanRows minuteFits minutesFit intervalFits dateIn rowsIn degreesIn minutesIn byteOr degreesOr roundingOr minutesOr intervalOr
-    parametersIn rulesIn clockIn ramadanIn orderOf wrongStartOf townIn townOf signedAtOf bytesNumberOf bitsOf floatOf timeAdjustmentsOf
-    existsOf leapOf lengthOf daysBeforeOf ordinalOf countBelow monthOf ofOrdinalOf daysBeforeYearOf dayNumberOf lastBy yearOf dateAtOf
-    dateOfDayOf heldOf fromOf le neg ofBits round dec
+unfolding opened
 can-be-sent-either-way =
     record {
       first = orderOf (valuesOf earlier);
@@ -163,12 +120,7 @@ can-be-sent-either-way =
     }
 
 pub can-be-swapped : Swapped earlier onTheMap
-unfolding readingOf firstOf isGivenOf bothFormsOf formIn coordinateIn formFits degreesOf checkOf walkOf faultOf faultIn lengthAt unsignedOf
-    lengthFits choiceFits valuesIn fieldsOf collectOf missingOf firstFailing tagsFrom outOfRangeOf inRangeOf fitsOf lookUp printable rowsFit
-    ramadanRows minuteFits minutesFit intervalFits dateIn rowsIn degreesIn minutesIn byteOr degreesOr roundingOr minutesOr intervalOr
-    parametersIn rulesIn clockIn ramadanIn orderOf wrongStartOf townIn townOf signedAtOf bytesNumberOf bitsOf floatOf timeAdjustmentsOf
-    existsOf leapOf lengthOf daysBeforeOf ordinalOf countBelow monthOf ofOrdinalOf daysBeforeYearOf dayNumberOf lastBy yearOf dateAtOf
-    dateOfDayOf heldOf fromOf le neg ofBits round dec
+unfolding opened
 can-be-swapped =
     record {
       order = orderOf (valuesOf earlier);
@@ -182,12 +134,7 @@ can-be-swapped =
     }
 
 pub and-back : Swapped onTheMap earlier
-unfolding readingOf firstOf isGivenOf bothFormsOf formIn coordinateIn formFits degreesOf checkOf walkOf faultOf faultIn lengthAt unsignedOf
-    lengthFits choiceFits valuesIn fieldsOf collectOf missingOf firstFailing tagsFrom outOfRangeOf inRangeOf fitsOf lookUp printable rowsFit
-    ramadanRows minuteFits minutesFit intervalFits dateIn rowsIn degreesIn minutesIn byteOr degreesOr roundingOr minutesOr intervalOr
-    parametersIn rulesIn clockIn ramadanIn orderOf wrongStartOf townIn townOf signedAtOf bytesNumberOf bitsOf floatOf timeAdjustmentsOf
-    existsOf leapOf lengthOf daysBeforeOf ordinalOf countBelow monthOf ofOrdinalOf daysBeforeYearOf dayNumberOf lastBy yearOf dateAtOf
-    dateOfDayOf heldOf fromOf le neg ofBits round dec
+unfolding opened
 and-back =
     record {
       order = orderOf (valuesOf onTheMap);
@@ -202,11 +149,5 @@ and-back =
 
 -- ---- document 01 alone accepted the first
 pub was-accepted : formerReadingOf earlier ≡ Read (formerOrderOf (valuesOf earlier))
-unfolding formerReadingOf formerCheckOf formerWalkOf formerFaultOf formerLengthFits formerRowsFit formerInRange formerOrderOf
-    readingOf firstOf isGivenOf bothFormsOf formIn coordinateIn formFits degreesOf checkOf walkOf faultOf faultIn lengthAt unsignedOf
-    lengthFits choiceFits valuesIn fieldsOf collectOf missingOf firstFailing tagsFrom outOfRangeOf inRangeOf fitsOf lookUp printable rowsFit
-    ramadanRows minuteFits minutesFit intervalFits dateIn rowsIn degreesIn minutesIn byteOr degreesOr roundingOr minutesOr intervalOr
-    parametersIn rulesIn clockIn ramadanIn orderOf wrongStartOf townIn townOf signedAtOf bytesNumberOf bitsOf floatOf timeAdjustmentsOf
-    existsOf leapOf lengthOf daysBeforeOf ordinalOf countBelow monthOf ofOrdinalOf daysBeforeYearOf dayNumberOf lastBy yearOf dateAtOf
-    dateOfDayOf heldOf fromOf le neg ofBits round dec
+unfolding formerReadingOf formerCheckOf formerWalkOf formerFaultOf formerLengthFits formerRowsFit formerInRange formerOrderOf opened
 was-accepted = refl

@@ -1,7 +1,7 @@
 -- The prayer in force if no time is earlier and the instant is not after: a prayer that is due under the second is due under the first.
 -- Assumes nothing.
 use Rattle.prelude.proofs.Logic.{_≡_, refl, ap, Bool, true, false, cond, inl, inr, ⊎-elim, ℕ, zero, suc, _≤_, _<_, arith, eqb, eqb→eq, lit≤}
-use Rattle.prelude.proofs.Logic.{ℤ, pos, negsuc, _+ℤ_, _-ℤ_, _*ℤ_, ltZ, eqb-true, eqb-false}
+use Rattle.prelude.proofs.Logic.{ℤ, pos, negsuc, _-ℤ_, _*ℤ_, ltZ, eqb-true, eqb-false}
 use Rattle.integers.proofs.Integers.{P, N, same, sum, difference, times, le-yes, lt-yes, lt-no, to-le, _≼_}
 use Rattle.prelude.proofs.Computed.{at}
 use Rattle.models.specs.declared.prayer.Prayer.{Prayer}
@@ -87,7 +87,7 @@ placeTest : ℕ → Bool
 placeTest n = eqb (prayerNumberOf (prayerOf (suc n))) (suc n)
 
 place-is : (n : ℕ) → suc n ≤ 8 → prayerNumberOf (prayerOf (suc n)) ≡ suc n
-unfolding placeTest prayerNumberOf prayerOf
+unfolding placeTest prayerOf
 place-is n h = eqb→eq _ _ (at placeTest 8 tt n h)
 
 -- the last due prayer among the first n has a number of at most n

@@ -1,6 +1,6 @@
 -- If a school's minutes are later and nothing else changes, each time is later by exactly their seconds, and none of the nine is earlier.
 -- Assumes nothing.
-use Rattle.prelude.proofs.Logic.{_≡_, refl, sym, ap, subst, _∙_, _^_, _<_, arith, lit≤, ℤ, pos, negsuc, _+ℤ_, _-ℤ_, _*ℤ_, +ℤ-assoc}
+use Rattle.prelude.proofs.Logic.{_≡_, refl, sym, ap, subst, _∙_, _^_, arith, lit≤, ℤ, pos, _+ℤ_, _-ℤ_, _*ℤ_, +ℤ-assoc}
 use Rattle.integers.proofs.Integers.{Near, _≼_, same, sum, difference, times, wider, natural-between, sum-between, difference-between}
 use Rattle.integers.proofs.Integers.{to-le}
 use Rattle.calendar.specs.Answers.{tomorrowOf}

@@ -1,5 +1,5 @@
 -- How large the sums of an order's minutes can be: no method adds more than 7 minutes, and no order more than 720. Assumes nothing.
-use Rattle.prelude.proofs.Logic.{_≡_, sym, subst, ℕ, _^_, _≤_, arith, lit≤, pos}
+use Rattle.prelude.proofs.Logic.{sym, subst, ℕ, _^_, _≤_, arith, lit≤, pos}
 use Rattle.integers.proofs.Integers.{Near, flip, wider, sum-between}
 use Rattle.models.specs.declared.{adjustments.TimeAdjustment.TimeAdjustment, method.Method.Method, parameters.Parameters.Parameters}
 use Rattle.models.specs.declared.{prayer.Prayer.Prayer}
