@@ -1,11 +1,10 @@
 -- Document 01: "A host program in C calls the port on numbers and bytes", "A refusal gives number and place, no times". If the call is not
 -- refused, number and place are 0. If it is refused, every other field is 0.
 use Prim.Native.Nat.{ℕ, _+_, _*_}
-use lib.IntN.{pos}
 use Rattle.models.specs.Numbers.{prayerNumberOf}
 use Rattle.refusals.specs.Refusals.{noRefusal}
 use Rattle.schedule.specs.InForce.{currentNumberOf}
-use Rattle.schedule.specs.declared.prayer_times.PrayerTimes.{PrayerTimes}
+use Rattle.schedule.specs.Times.{noTimes}
 use Rattle.schedule.specs.declared.prayer_times.Worked.{Worked}
 use Rattle.schedule.specs.declared.prayer_times.Worked.the-variants as worked
 use Rattle.days.specs.declared.in_force.InForce.{InForce}
@@ -23,9 +22,6 @@ abbrev pub version : ℕ
 version = 1 * 65536 + 0
 
 -- ---- a day
-abbrev pub noTimes : PrayerTimes
-noTimes = record { fajr = pos 0; sunrise = pos 0; dhuhr = pos 0; asr = pos 0; maghrib = pos 0; isha = pos 0; «middle_of_the_night» = pos 0; qiyam = pos 0; «fajr_tomorrow» = pos 0 }
-
 unfoldable pub dayAnswerOf : Worked → KatchidulDay
 dayAnswerOf (worked.Times t) = record { refusal = noRefusal; times = t }
 dayAnswerOf (worked.Refused r) = record { refusal = r; times = noTimes }

@@ -1,7 +1,7 @@
 // Working the day of a row.
 ghost use mathlib.Core.Path.{_≡_};
 ghost use Rattle.days.specs.Calls.{workDayOf};
-ghost use Rattle.katchidul.specs.Exports.{noTimes, dayAnswerOf};
+ghost use Rattle.katchidul.specs.Exports.{dayAnswerOf};
 use days::day::work_day;
 use refusals::Refusal;
 use schedule::prayer_times::PrayerTimes;
@@ -14,22 +14,6 @@ pub struct KatchidulDay {
     pub times: PrayerTimes,
 }
 
-fn no_times() -> PrayerTimes
-    ensures { λ r. ⌜ r ≡ noTimes ⌝ }
-{
-    PrayerTimes {
-        fajr: 0,
-        sunrise: 0,
-        dhuhr: 0,
-        asr: 0,
-        maghrib: 0,
-        isha: 0,
-        middle_of_the_night: 0,
-        qiyam: 0,
-        fajr_tomorrow: 0,
-    }
-}
-
 fn day_answer(worked: Worked) -> KatchidulDay
     ensures { λ r. ⌜ r ≡ dayAnswerOf worked ⌝ }
 {
@@ -40,7 +24,7 @@ fn day_answer(worked: Worked) -> KatchidulDay
         },
         Worked::Refused(refusal) => KatchidulDay {
             refusal: refusal,
-            times: no_times(),
+            times: PrayerTimes::NONE,
         },
     }
 }

@@ -6,17 +6,13 @@ use lib.Ieee.{Float}
 use Rattle.calendar.specs.Gregorian.{dateOf}
 use Rattle.solar.specs.declared.setting.SolarHour.{SolarHour}
 use Rattle.solar.specs.declared.setting.SolarHour.the-variants.{Some, Nothing}
-use Rattle.solar.specs.Hours.{Sun, sunOn, hourNumbersOf}
+use Rattle.solar.specs.Hours.{Sun, sunOn}
 use Rattle.unit.specs.Unit.{coordinatesOf}
-use Rattle.probes.specs.declared.functions.ProbeHours.{ProbeHours}
 use Rattle.probes.specs.declared.functions.ProbeTime.{ProbeTime}
 
 -- the sun of a date over a place
 abbrev pub probeSunOf : ℕ → ℕ → ℕ → Float → Float → Sun
 probeSunOf year month day latitude longitude = sunOn (coordinatesOf latitude longitude) (dateOf year month day)
-
-abbrev pub probeHoursOf : Sun → ProbeHours
-probeHoursOf s = let n = hourNumbersOf s in record { transit = n .transit; sunrise = n .sunrise; sunset = n .sunset }
 
 unfoldable pub probeTimeOf : SolarHour → ProbeTime
 probeTimeOf (Some s) = record { found = true; seconds = s }

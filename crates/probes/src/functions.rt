@@ -1,7 +1,6 @@
 // The leaf functions as exports, for benchmarks and for runs against other libraries. A host does not link them.
 ghost use mathlib.Core.Path.{_≡_};
 ghost use lib.Ieee.{toSigned, toUnsigned};
-ghost use Rattle.float64.specs.Sizes.{absOf, isNormalOf};
 ghost use Rattle.float64.specs.Whole.{floorOf, truncOf, roundOf};
 ghost use Rattle.fdlibm_root.specs.Root.{sqrtOf};
 ghost use Rattle.fdlibm_trig.specs.Trig.{sinOf, cosOf, tanOf};
@@ -11,13 +10,13 @@ ghost use Rattle.fdlibm_arc.specs.Acos.{acosOf};
 ghost use Rattle.fdlibm_arc.specs.Atan2.{atan2Of};
 ghost use Rattle.calendar.specs.Gregorian.{dateOf};
 ghost use Rattle.unit.specs.Unit.{angleOf, coordinatesOf};
-ghost use Rattle.solar.specs.Hours.{angleNumberOf, afternoonNumberOf};
+ghost use Rattle.solar.specs.Hours.{hourNumbersOf, angleNumberOf, afternoonNumberOf};
 ghost use Rattle.solar.specs.Shared.{dateCourseOf};
 ghost use Rattle.models.specs.Numbers.{shafaqOf, midnightOf};
 ghost use Rattle.ops.specs.Season.{daysSinceSolsticeOf, seasonAdjustedMorningTwilightOf, seasonAdjustedEveningTwilightOf};
 ghost use Rattle.solar.specs.Setting.{settingHourOf};
 ghost use Rattle.solar.specs.Times.{solarHourOf};
-ghost use Rattle.probes.specs.Functions.{probeSunOf, probeHoursOf, probeTimeOf};
+ghost use Rattle.probes.specs.Functions.{probeSunOf, probeTimeOf};
 use calendar::dates::Date;
 use models::rules::Midnight;
 use models::shafaq::Shafaq;
@@ -25,6 +24,7 @@ use ops::season::days_since_solstice;
 use ops::season::season_adjusted_evening_twilight;
 use ops::season::season_adjusted_morning_twilight;
 use ops::transit::Course;
+use solar::hours::HourNumbers;
 use solar::hours::afternoon_number;
 use solar::hours::angle_number;
 use solar::hours::date_course;
@@ -113,20 +113,6 @@ pub extern "C" fn probe_round(x: f64) -> f64
 }
 
 #[no_mangle]
-pub extern "C" fn probe_abs(x: f64) -> f64
-    ensures { λ r. ⌜ r ≡ absOf x ⌝ }
-{
-    float64::sizes::abs(x)
-}
-
-#[no_mangle]
-pub extern "C" fn probe_is_normal(x: f64) -> bool
-    ensures { λ r. ⌜ r ≡ isNormalOf x ⌝ }
-{
-    float64::sizes::is_normal(x)
-}
-
-#[no_mangle]
 pub extern "C" fn probe_to_i32(x: f64) -> i32
     ensures { λ r. ⌜ r ≡ toSigned 31 x ⌝ }
 {
@@ -154,13 +140,6 @@ pub extern "C" fn probe_to_u64(x: f64) -> u64
     float64::casts::to_u64(x)
 }
 
-#[repr(C)]
-pub struct ProbeHours {
-    pub transit: f64,
-    pub sunrise: f64,
-    pub sunset: f64,
-}
-
 fn course(year: u32, month: u32, day: u32, latitude: f64, longitude: f64) -> Course
     ensures { λ r. ⌜ r ≡ dateCourseOf (dateOf year month day) (coordinatesOf latitude longitude) ⌝ }
 {
@@ -178,15 +157,10 @@ pub extern "C" fn probe_hour_numbers(
     day: u32,
     latitude: f64,
     longitude: f64,
-) -> ProbeHours
-    ensures { λ r. ⌜ r ≡ probeHoursOf (probeSunOf year month day latitude longitude) ⌝ }
+) -> HourNumbers
+    ensures { λ r. ⌜ r ≡ hourNumbersOf (probeSunOf year month day latitude longitude) ⌝ }
 {
-    let numbers = hour_numbers(course(year, month, day, latitude, longitude));
-    ProbeHours {
-        transit: numbers.transit,
-        sunrise: numbers.sunrise,
-        sunset: numbers.sunset,
-    }
+    hour_numbers(course(year, month, day, latitude, longitude))
 }
 
 // The hour number at which the sun is at an angle.

@@ -7,8 +7,7 @@ ghost use Rattle.float64.specs.Ops.{dec};
 ghost use Rattle.schedule.specs.Times.{workedBy, workedAt};
 ghost use Rattle.schedule.specs.InForce.{currentTimeOf, currentNumberOf, nextOf, timeRemainingOf};
 ghost use Rattle.days.specs.Calls.{instantOf};
-ghost use Rattle.probes.specs.Days.{sunOf, rowNumbersOf, minutesFrom, parametersFrom, rulesFrom, settingFrom, settingsOf, noTimes};
-ghost use Rattle.probes.specs.Days.{probeDayOf, probeRemainingOf};
+ghost use Rattle.probes.specs.Days.{parametersFrom, rulesFrom, settingFrom, settingsOf, probeDayOf, probeRemainingOf};
 use calendar::dates::Date;
 use models::adjustments::TimeAdjustment;
 use models::high_altitude_rule::HighLatitudeRule;
@@ -29,26 +28,7 @@ use schedule::in_force::Remaining;
 use schedule::prayer_times::PrayerTimes;
 use schedule::prayer_times::Worked;
 use schedule::rolling::RowSuns;
-use solar::hours::HourNumbers;
 use unit::Coordinates;
-
-#[repr(C)]
-pub struct ProbeSun {
-    pub transit: f64,
-    pub sunrise: f64,
-    pub sunset: f64,
-}
-
-#[repr(C)]
-pub struct ProbeNumbers {
-    pub today: ProbeSun,
-    pub tomorrow: ProbeSun,
-    pub after: ProbeSun,
-    pub fajr: f64,
-    pub asr: f64,
-    pub isha: f64,
-    pub fajr_tomorrow: f64,
-}
 
 // What an order can set, by its numbers. Only the method's own minutes come from the method.
 #[repr(C)]
@@ -58,12 +38,7 @@ pub struct ProbeSettings {
     pub high_latitude_rule: u32,
     pub rounding: u32,
     pub shafaq: u32,
-    pub fajr: i32,
-    pub sunrise: i32,
-    pub dhuhr: i32,
-    pub asr: i32,
-    pub maghrib: i32,
-    pub isha: i32,
+    pub minutes: TimeAdjustment,
     pub isha_interval: i32,
     pub fajr_angle: f64,
     pub isha_angle: f64,
@@ -83,52 +58,13 @@ pub struct ProbeDay {
     pub times: PrayerTimes,
 }
 
-fn sun(s: ProbeSun) -> HourNumbers
-    ensures { λ r. ⌜ r ≡ sunOf s ⌝ }
-{
-    HourNumbers {
-        transit: s.transit,
-        sunrise: s.sunrise,
-        sunset: s.sunset,
-    }
-}
-
-fn row(n: ProbeNumbers) -> RowNumbers
-    ensures { λ r. ⌜ r ≡ rowNumbersOf n ⌝ }
-{
-    let today = n.today;
-    let tomorrow = n.tomorrow;
-    let after = n.after;
-    RowNumbers {
-        today: sun(today),
-        tomorrow: sun(tomorrow),
-        after: sun(after),
-        fajr: n.fajr,
-        asr: n.asr,
-        isha: n.isha,
-        fajr_tomorrow: n.fajr_tomorrow,
-    }
-}
-
-fn minutes(s: ProbeSettings) -> TimeAdjustment
-    ensures { λ r. ⌜ r ≡ minutesFrom s ⌝ }
-{
-    TimeAdjustment {
-        fajr: s.fajr,
-        sunrise: s.sunrise,
-        dhuhr: s.dhuhr,
-        asr: s.asr,
-        maghrib: s.maghrib,
-        isha: s.isha,
-    }
-}
-
 fn parameters(s: ProbeSettings) -> Parameters
     ensures { λ r. ⌜ r ≡ parametersFrom s ⌝ }
 {
     let preset = Method::of_number(s.method).parameters();
     let method = preset.method;
     let method_adjustments = preset.method_adjustments;
+    let minutes = s.minutes;
     Parameters {
         method: method,
         fajr_angle: s.fajr_angle,
@@ -137,7 +73,7 @@ fn parameters(s: ProbeSettings) -> Parameters
         isha_interval: s.isha_interval,
         madhab: Madhab::of_number(s.madhab),
         high_latitude_rule: HighLatitudeRule::of_number(s.high_latitude_rule),
-        adjustments: minutes(s),
+        adjustments: minutes,
         method_adjustments: method_adjustments,
         rounding: Rounding::of_number(s.rounding),
         shafaq: Shafaq::of_number(s.shafaq),
@@ -181,31 +117,10 @@ pub extern "C" fn probe_preset(method: u32) -> ProbeSettings
         high_latitude_rule: high_latitude_rule.number(),
         rounding: rounding.number(),
         shafaq: shafaq.number(),
-        fajr: own.fajr,
-        sunrise: own.sunrise,
-        dhuhr: own.dhuhr,
-        asr: own.asr,
-        maghrib: own.maghrib,
-        isha: own.isha,
+        minutes: own,
         isha_interval: preset.isha_interval,
         fajr_angle: preset.fajr_angle,
         isha_angle: preset.isha_angle,
-    }
-}
-
-fn no_times() -> PrayerTimes
-    ensures { λ r. ⌜ r ≡ noTimes ⌝ }
-{
-    PrayerTimes {
-        fajr: 0,
-        sunrise: 0,
-        dhuhr: 0,
-        asr: 0,
-        maghrib: 0,
-        isha: 0,
-        middle_of_the_night: 0,
-        qiyam: 0,
-        fajr_tomorrow: 0,
     }
 }
 
@@ -219,7 +134,7 @@ fn answered(worked: Worked) -> ProbeDay
         },
         Worked::Refused(refusal) => ProbeDay {
             refusal: refusal,
-            times: no_times(),
+            times: PrayerTimes::NONE,
         },
     }
 }
@@ -227,7 +142,7 @@ fn answered(worked: Worked) -> ProbeDay
 // The day of a date, from the hour numbers. They hold what the longitude gives, so it is not needed.
 #[no_mangle]
 pub extern "C" fn probe_day(
-    numbers: ProbeNumbers,
+    numbers: RowNumbers,
     year: u32,
     month: u32,
     day: u32,
@@ -236,10 +151,10 @@ pub extern "C" fn probe_day(
     chosen: ProbeRules,
 ) -> ProbeDay
     ensures { λ r.
-        ⌜ r ≡ probeDayOf (workedBy (rowNumbersOf numbers) (dateOf year month day) (settingFrom latitude (dec 0 0) settings chosen)) ⌝ }
+        ⌜ r ≡ probeDayOf (workedBy numbers (dateOf year month day) (settingFrom latitude (dec 0 0) settings chosen)) ⌝ }
 {
     answered(PrayerTimes::new(
-        row(numbers),
+        numbers,
         Date::new(year, month, day),
         setting(latitude, 0.0, settings, chosen),
     ))

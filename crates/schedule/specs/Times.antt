@@ -98,3 +98,7 @@ workedBy numbers date s = workedOf (hoursOf (s .rules .midnight) numbers) date (
 -- from a date and its setting alone
 abbrev pub workedAt : Date → Setting → Worked
 workedAt date s = workedBy (numbersOf date (s .coordinates) (s .parameters)) date s
+
+-- document 01: "A refusal gives number and place, no times"
+abbrev pub noTimes : PrayerTimes
+noTimes = record { fajr = pos 0; sunrise = pos 0; dhuhr = pos 0; asr = pos 0; maghrib = pos 0; isha = pos 0; «middle_of_the_night» = pos 0; qiyam = pos 0; «fajr_tomorrow» = pos 0 }

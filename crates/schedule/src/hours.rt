@@ -10,6 +10,7 @@ use solar::times::SolarTime;
 use solar::times::solar_hour;
 
 // The numbers of the date and of the two dates after it, of the date's Fajr, Asr and Isha, and of the next date's Fajr.
+#[repr(C)]
 pub struct RowNumbers {
     pub today: HourNumbers,
     pub tomorrow: HourNumbers,

@@ -247,6 +247,19 @@ impl Suns {
 }
 
 impl PrayerTimes {
+    // What a host finds in place of the times of a refused day.
+    pub const NONE: PrayerTimes = PrayerTimes {
+        fajr: 0,
+        sunrise: 0,
+        dhuhr: 0,
+        asr: 0,
+        maghrib: 0,
+        isha: 0,
+        middle_of_the_night: 0,
+        qiyam: 0,
+        fajr_tomorrow: 0,
+    };
+
     pub fn new(numbers: RowNumbers, date: Date, setting: Setting) -> Worked
         ensures { λ r. ⌜ r ≡ workedBy numbers date setting ⌝ }
     {

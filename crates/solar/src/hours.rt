@@ -15,6 +15,7 @@ use unit::Angle;
 use unit::Coordinates;
 
 // The hours of the transit, of sunrise and of sunset, from 0h of the day in universal time: not yet times.
+#[repr(C)]
 pub struct HourNumbers {
     pub transit: f64,
     pub sunrise: f64,

@@ -5,15 +5,16 @@
 use float64::bits::from_bits;
 use libc::STDIN_FILENO;
 use libc::STDOUT_FILENO;
-use probes::worked::ProbeNumbers;
+use models::adjustments::TimeAdjustment;
 use probes::worked::ProbeRules;
 use probes::worked::ProbeSettings;
-use probes::worked::ProbeSun;
 use probes::worked::probe_current;
 use probes::worked::probe_day;
 use probes::worked::probe_next;
 use probes::worked::probe_remaining;
+use schedule::hours::RowNumbers;
 use schedule::prayer_times::PrayerTimes;
+use solar::hours::HourNumbers;
 use std::num::wrapping_add_u64;
 use test_lists::decimal;
 use test_lists::hex;
@@ -37,16 +38,16 @@ fn real(line: &[u8], at: usize) -> f64 {
     from_bits(hex(line, at))
 }
 
-fn sun(line: &[u8], transit: usize, sunrise: usize, sunset: usize) -> ProbeSun {
-    ProbeSun {
+fn sun(line: &[u8], transit: usize, sunrise: usize, sunset: usize) -> HourNumbers {
+    HourNumbers {
         transit: real(line, transit),
         sunrise: real(line, sunrise),
         sunset: real(line, sunset),
     }
 }
 
-fn numbers(line: &[u8]) -> ProbeNumbers {
-    ProbeNumbers {
+fn numbers(line: &[u8]) -> RowNumbers {
+    RowNumbers {
         today: sun(line, 9, 26, 43),
         tomorrow: sun(line, 60, 77, 94),
         after: sun(line, 111, 128, 145),
@@ -77,12 +78,14 @@ fn settings(line: &[u8]) -> ProbeSettings {
         high_latitude_rule: part(choices / 100 % 10),
         rounding: part(choices / 10 % 10),
         shafaq: part(choices % 10),
-        fajr: minutes(morning / 10000),
-        sunrise: minutes(morning),
-        dhuhr: minutes(noon / 10000),
-        asr: minutes(noon),
-        maghrib: minutes(evening / 10000),
-        isha: minutes(evening),
+        minutes: TimeAdjustment {
+            fajr: minutes(morning / 10000),
+            sunrise: minutes(morning),
+            dhuhr: minutes(noon / 10000),
+            asr: minutes(noon),
+            maghrib: minutes(evening / 10000),
+            isha: minutes(evening),
+        },
         isha_interval: (decimal(line, 317) % 10000) as i32,
         fajr_angle: real(line, 247),
         isha_angle: real(line, 264),

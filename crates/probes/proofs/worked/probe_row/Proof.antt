@@ -5,13 +5,9 @@ use Rattle.probes.proofs.worked.probe_row as this
 
 returns : this.Tie.Need-returns
 returns c =
-    simp (
-      c .answered .ensures,
-      c .before .work .ensures,
-      c .before .before .new2 .ensures,
-      c .before .before .before .setting .ensures,
-      c .before .before .before .before .new .ensures,
-    )
+    let at-new2 = c .before .before in
+    let at-new = at-new2 .before .before in
+    simp (c .answered .ensures, c .before .work .ensures, at-new2 .new2 .ensures, at-new2 .before .setting .ensures, at-new .new .ensures)
     (ap probeDayOf (first-row _ _))
 
 pub probe-row-spec : {M : Type 1} → this.Statement.statement M
