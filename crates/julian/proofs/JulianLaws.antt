@@ -1,7 +1,7 @@
 -- For every date of the years 1899 to 2204 the f64 formula, Meeus's whole numbers and the calendar's count of days give the same Julian
 -- Day. The f64 sums are of whole numbers and halves, which lose nothing. Assumes nothing.
-use Rattle.prelude.proofs.Logic.{_≡_, refl, sym, ap, _∙_, true, ℕ, suc, _+_, _-_, _*_, _/_, _≤_, _<_, arith, ltb, lit<, lit≤, ℤ, pos, negsuc}
-use Rattle.prelude.proofs.Logic.{_+ℤ_, _-ℤ_, _*ℤ_, ltb-true, ltb-false, lt-ltb, cases}
+use Rattle.prelude.proofs.Logic.{_≡_, refl, sym, ap, _∙_, true, ℕ, suc, _+_, _-_, _*_, _/_, _≤_, _<_, arith, ltb, lit<, lit≤, ℤ, pos}
+use Rattle.prelude.proofs.Logic.{negsuc, _+ℤ_, _-ℤ_, _*ℤ_, ltb-true, ltb-false, lt-ltb, cases}
 use Rattle.float64.proofs.Floats.{Float, binary64, ofInt, round, sub, div, _+ᶠ_, _-ᶠ_, _/ᶠ_, dec, big, dyadic, int-dyadic, add-dyadic}
 use Rattle.float64.proofs.Floats.{sub-dyadic, neg-at}
 use Rattle.integers.proofs.Integers.{P, same, sum, difference}

@@ -74,8 +74,8 @@ module _ (date : Date) where
         ∙ ap (λ (text : List ℕ). dateText date ++ text ++ ascii "\n") (times-since (columnsOf ramadan t))
 
 -- ---- a line, whether the day has times or not
-pub line-since : (ramadan : Ramadan) (date : Date) (w : Worked) → ramadan .imsak < 2 ^ 32 → date .year < 2 ^ 32 → Near (2 ^ 43) (fajrSince w)
-    → lineText ramadan date (startedIn date w) ≡ lineSince ramadan date w
+pub line-since : (ramadan : Ramadan) (date : Date) (w : Worked) → ramadan .imsak < 2 ^ 32 → date .year < 2 ^ 32
+    → Near (2 ^ 43) (fajrSince w) → lineText ramadan date (startedIn date w) ≡ lineSince ramadan date w
 unfolding lineText lineSince startedIn fajrSince
 line-since ramadan date (Times t) small year near = row-since date ramadan t small year near
 line-since ramadan date (Refused r) small year near = refl

@@ -71,7 +71,7 @@ unfolding dec
 transitFromOf west sidereal ascension =
     normalizedToScaleOf ((overOf (minusOf (plusOf ascension west) sidereal) (angleOf (dec 360 0))) .degrees) (dec 1 0)
 
--- the sun's course over a place on a day, from its transit, the sidereal time, and the positions of the day before, the day and the day after
+-- the sun's course over a place on a day, from its transit, the sidereal time, and the positions of the day and of the days beside it
 abbrev pub courseThroughOf : Float → Observer → Angle → Equatorial → Equatorial → Equatorial → Course
 courseThroughOf transit observer sidereal previous today next =
     record {

@@ -12,13 +12,15 @@ use Rattle.solar.specs.Shared.{courseAngleNumberOf, courseNumbersOf, cou
 
 -- the course that the code computes from the three positions
 abbrev pub courseOfSun : Sun → Course
-courseOfSun s = courseOf (observerOf (s .place)) (siderealTimeOf (s .today)) (placeOf (s .previous)) (placeOf (s .today)) (placeOf (s .next))
+courseOfSun s =
+    courseOf (observerOf (s .place)) (siderealTimeOf (s .today)) (placeOf (s .previous)) (placeOf (s .today)) (placeOf (s .next))
 
 module _ (s : Sun) where
   transit-number-shared : courseTransitNumberOf (courseOfSun s) ≡ transitNumberOf s
   unfolding transitNumberOf approximateTransitOf transitFromOf
   transit-number-shared =
-      transit-shared (approxTransitOf s) (s .place) (siderealTimeOf (s .today)) (placeOf (s .previous)) (placeOf (s .today)) (placeOf (s .next))
+      transit-shared (approxTransitOf s) (s .place) (siderealTimeOf (s .today)) (placeOf (s .previous)) (placeOf (s .today))
+      (placeOf (s .next))
 
   pub angle-shared : (angle : Angle) (after : Bool) → courseAngleNumberOf (courseOfSun s) angle after ≡ angleNumberOf s angle after
   unfolding courseAngleNumberOf angleNumberOf approximateTransitOf transitFromOf

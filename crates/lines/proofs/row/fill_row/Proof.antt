@@ -49,8 +49,8 @@ loop-again c =
       c .before .line2 .given .1 ∙ l .inv .1,
       l .inv .2,
       l .inv .3,
-      time-put (take 10 (first .put .last .0)) (ap length (dated first .0) ∙ date-length (a .date)) (a .times .now) (l .i) (pos 0) (l .inv .2)
-          (l .line) _ (text .result) h (l .inv .3) (l .inv .4) e after,
+      time-put (take 10 (first .put .last .0)) (ap length (dated first .0) ∙ date-length (a .date)) (a .times .now) (l .i) (pos 0)
+          (l .inv .2) (l .line) _ (text .result) h (l .inv .3) (l .inv .4) e after,
     )
 
 returns : this.Tie.Need-returns Inv-loop μ-loop

@@ -17,8 +17,9 @@ returns c =
       c .before .before .through .ensures,
       c .before .before .before .new .ensures,
     )
-    (hour-number-shared (a .approximate-transit) (a .coordinates) (a .sidereal-time) (at (a .previous-declination) (a .previous-right-ascension))
-    (at (a .declination) (a .right-ascension)) (at (a .next-declination) (a .next-right-ascension)) (a .angle) (a .after-transit))
+    (hour-number-shared (a .approximate-transit) (a .coordinates) (a .sidereal-time)
+    (at (a .previous-declination) (a .previous-right-ascension)) (at (a .declination) (a .right-ascension))
+    (at (a .next-declination) (a .next-right-ascension)) (a .angle) (a .after-transit))
 
 pub corrected-hour-angle-spec : {M : Type 1} → this.Statement.statement M
 corrected-hour-angle-spec = this.Tie.close (this.Tie.spec (λ c κs. tt) (λ c κs. tt) (λ c κs. tt) (λ c κs. tt) returns)

@@ -35,11 +35,12 @@ returns c =
       dates .before .before .before .new .ensures,
     )
 
--- where the dates and their Julian Days are known
+-- the position at hand is tomorrow's
 at-next : this.Tie.Need-place-before-tomorrow-requires-2
 at-next c κs =
     let days = c .before .before .before .before .before .before .before .before .before in
-    simp (c .before .before .before .new3 .ensures, days .julian-day-after .ensures, days .before .before .before .before .tomorrow .ensures)
+    let next = days .before .before .before .before .tomorrow in
+    simp (c .before .before .before .new3 .ensures, days .julian-day-after .ensures, next .ensures)
 
 pub new-spec : {M : Type 1} → this.Statement.statement M
 new-spec = this.Tie.close (this.Tie.spec (λ c κs. tt) (λ c κs. tt) (λ c κs. tt) (λ c κs. tt) (λ c κs. tt)
