@@ -1,12 +1,13 @@
--- Two histories of a host that does what the request asks: one acknowledgement lost, and one lost and a later one heard. Then other conduct,
--- under which the promise fails, each with a short history that breaks it. So `Kept` can fail, and each part of `asRequested` is needed.
--- Assumes nothing.
+-- Two histories of a host that does what the request asks: one acknowledgement lost, and one lost and a later one heard. Then other
+-- conduct, under which the promise fails, each with a short history that breaks it. So `Kept` can fail, and each part of `asRequested` is
+-- needed. Assumes nothing.
 use Rattle.prelude.proofs.Logic.{_≡_, refl, ap, true, List, [], _∷_, _++_, ℕ, arith, leb, getD, replicate}
 use Rattle.text.specs.Text.{putOf}
 use Rattle.joblog.specs.Records.{state, bytesOf, recordsOf, inTurn, afterOf, readOf, openOf, compactedOf}
 use Rattle.joblog.specs.Calls.{answered, readLogOf, readAnswer, newInTurn, compactAnswer, loggedOf, appendedOf, appendOf, restartedOf}
 use Rattle.joblog.specs.Calls.{restartOf}
-use Rattle.joblog_laws.specs.Run.{World, begun, Step, begins, byte, completes, goes, finishes, hears, lost, crash, restart, HostConduct}
+use Rattle.joblog_laws.specs.Run.{World, begun, Step, begins, byte, completes, goes, finishes, hears, lost, crash}
+use Rattle.joblog_laws.specs.Run.{restart, HostConduct}
 use Rattle.joblog_laws.specs.Run.{acknowledged, asRequested, beginning, writingByte, completing, finishing, arriving, crashUsed}
 use Rattle.joblog_laws.specs.Run.{isIdle, next, run}
 use Rattle.joblog_laws.specs.Histories.{pagesTo, KeptBy}

@@ -4,7 +4,8 @@ use Rattle.text.specs.Text.{frontOf}
 use Rattle.text.specs.Printed.{printedOf}
 
 module _ (longest : ℕ) (text buffer : List ℕ) where
-  pub printed-short : length buffer < longest → (0 ≡ printedOf longest text buffer .answer) × (buffer ≡ printedOf longest text buffer .buffer)
+  pub printed-short : length buffer < longest
+      → (0 ≡ printedOf longest text buffer .answer) × (buffer ≡ printedOf longest text buffer .buffer)
   unfolding printedOf
   printed-short h = (simp (lt-ltb (length buffer) longest h), simp (lt-ltb (length buffer) longest h))
 
