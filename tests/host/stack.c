@@ -9,7 +9,7 @@
 #define OWN_FRAME 512 /* more than the painting function's own part */
 #define PAINT 0xA5
 #define STACK_MOST 4096 /* the header's promise */
-#define CALLS 17
+#define CALLS 19
 /* With the sanitizers no two results share their place on the stack, so the caller's frame, which is counted too, is larger. */
 #ifdef __SANITIZE_ADDRESS__
 #define SANITIZED true
@@ -20,6 +20,7 @@
 static volatile uint8_t *caller;
 static uint8_t page[PAGE_LENGTH];
 static uint8_t logs[2][10] = {{1, 0, 2, 0, 1, 1, 0, 2, 0, 2}};
+static katchidul_order numbers;
 static const katchidul_queue queues[2] = {{0}, {15, {20, 21, 22, 23, 24, 25, 26, 27, 28, 29, 30, 31, 32, 33, 34}, {2}}};
 
 /* One call by its place in the header, counted from this function's frame on. */
@@ -44,6 +45,8 @@ __attribute__((noinline)) static void call(int which, const order_bytes *order, 
     case 13: katchidul_write_cells(bytes, length, row, line, ROW_LENGTH); break;
     case 14: katchidul_map_latitude((double)row); break;
     case 15: katchidul_map_longitude((double)seconds); break;
+    case 16: katchidul_write_order(numbers, bytes, numbers.town_length, page, sizeof page); break;
+    case 17: katchidul_version(); break;
     default: katchidul_write_page(bytes, length, 1, 0, page, sizeof page);
   }
 }
@@ -72,6 +75,7 @@ static void *measure(void *given) {
   uint8_t line[ROW_LENGTH] = {0};
   for (uint32_t i = 0; i < 400; i++) {
     order_bytes order = some_order(i);
+    numbers = katchidul_read_order(order.bytes, order.length);
     int64_t seconds = katchidul_work_day(order.bytes, order.length, i % 11).times[i % 9];
     for (int which = 0; which < CALLS; which++) {
       size_t used = used_by(which, &order, i % 11, seconds, line);

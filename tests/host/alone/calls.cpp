@@ -20,6 +20,7 @@ int main() {
                katchidul_restart(nullptr, 0, 0, 1, line, sizeof line).number == KATCHIDUL_LOG_COUNT_OUTSIDE &&
                katchidul_append(nullptr, 0, 0, KATCHIDUL_RECORD_SENT, 1, line, sizeof line).used == 2 * KATCHIDUL_RECORD_BYTES &&
                katchidul_write_sentence(KATCHIDUL_NO_SUNSET, 1, line, KATCHIDUL_SENTENCE_MAX).number == 0 &&
+               katchidul_write_order(katchidul_order(), nullptr, 0, line, sizeof line).number != 0 && katchidul_version() != 0 &&
                katchidul_read_sentence(nullptr, 0).number == KATCHIDUL_OUT_OF_RANGE;
   return right && katchidul_environment_is_default() == 1 ? 0 : 1;
 }
