@@ -110,7 +110,7 @@ progress machine_look(void) {
     if (now == CHANNEL_READY) return work.id = 0, FINISHED;
   }
   if (now_ms() - moved_at < SLOW_MS || told_slow) return GOES_ON;
-  tell("job %u: the machine at %s has taken nothing of page %u for 30 seconds: paper, power?", work.id, given->machine, work.page);
+  tell("job %u: the machine at %s has taken nothing of page %u for 30 seconds: check its paper and its power", work.id, given->machine, work.page);
   told_slow = true;
   return GOES_ON;
 }

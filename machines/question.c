@@ -26,7 +26,7 @@ void question_ask(int state, const char *folder, const question *q) {
   char file[32], id[16], text[QUESTION_BYTES], old[QUESTION_BYTES];
   int length = snprintf(text, sizeof text,
                         "job %u\nfrom %u\nto %u\n%s\n"
-                        "How many pages of this job lie finished, counted from page 1? A number from %u to %u. To answer:\n"
+                        "How many pages of this job are finished, counted from page 1? A number from %u to %u. To answer:\n"
                         "%s answer %s %u PAGES\n",
                         q->id, q->least, q->most, q->about, q->least, q->most, program, folder, q->id);
   if (length < 0 || length >= (int)sizeof text) stop(folder, "the folder's name is too long for a question");
@@ -41,7 +41,7 @@ void question_ask(int state, const char *folder, const question *q) {
   shown = q->id;
   tcflush(STDIN_FILENO, TCIFLUSH); /* what was typed before the question is no answer to it */
   say("%s", q->about);
-  tell("job %u waits for the operator: how many of its pages lie finished, %u to %u? %s answer %s %u PAGES", q->id, q->least, q->most,
+  tell("job %u waits for the operator: how many of its pages are finished, %u to %u? %s answer %s %u PAGES", q->id, q->least, q->most,
        program, folder, q->id);
 }
 
@@ -83,7 +83,7 @@ static bool read_answer(int state, const question *q, uint32_t *pages) {
 
 bool question_answered(int state, const question *q, uint32_t *pages) {
   if (!read_terminal(q, pages) && !read_answer(state, q, pages)) return false;
-  tell("job %u: pages that lie finished, by the operator's answer: %u", q->id, *pages);
+  tell("job %u: pages that are finished, by the operator's answer: %u", q->id, *pages);
   return true;
 }
 
