@@ -17,10 +17,10 @@ abbrev μ-loop : this.Tie.MeasureT-loop
 μ-loop line₀ times i₀ t8 line i = length times - i
 
 -- the line once the date is put
-dated : (c : this.Tie.After-put Inv-loop μ-loop) → let start = c .before .before .before .before .before in
+date-holds : (c : this.Tie.After-put Inv-loop μ-loop) → let start = c .before .before .before .before .before in
     (take 10 (c .put .last .0) ≡ dateText (start .args .date))
     × (c .put .last .0 ≡ frontOf (partText (take 10 (c .put .last .0)) (start .args .times .now) 0) (start .args .line .now))
-dated c =
+date-holds c =
     let start = c .before .before .before .before .before in
     let a = start .args in
     let text = c .before .before .date-text in
@@ -29,7 +29,7 @@ dated c =
 loop-holds : this.Tie.Need-loop-holds Inv-loop μ-loop
 loop-holds c =
     let start = c .before .before .before .before .before .before .before in
-    (omega arith, c .before .before .put .kept .0 ∙ start .pre .1, start .args .line .now, start .pre .1, dated (c .before .before) .1)
+    (omega arith, c .before .before .put .kept .0 ∙ start .pre .1, start .args .line .now, start .pre .1, date-holds (c .before .before) .1)
 
 loop-again : this.Tie.Need-loop-again Inv-loop μ-loop
 loop-again c =
@@ -49,7 +49,7 @@ loop-again c =
       c .before .line2 .given .1 ∙ l .inv .1,
       l .inv .2,
       l .inv .3,
-      time-put (take 10 (first .put .last .0)) (ap length (dated first .0) ∙ date-length (a .date)) (a .times .now) (l .i) (pos 0)
+      time-put (take 10 (first .put .last .0)) (ap length (date-holds first .0) ∙ date-length (a .date)) (a .times .now) (l .i) (pos 0)
           (l .inv .2) (l .line) _ (text .result) h (l .inv .3) (l .inv .4) e after,
     )
 
@@ -60,7 +60,7 @@ returns c =
     let a = first .before .before .before .before .before .args in
     let l = c .before .before .before .before .before .before .loop in
     let put = c .before .before .put3 in
-    let date = dated first .0 in
+    let date = date-holds first .0 in
     let end : l .i ≡ length (a .times .now) = omega (arith, l .inv .0, c .before .before .before .before .before .loop-test .left) in
     newline-put (take 10 (first .put .last .0)) (ap length date ∙ date-length (a .date)) (a .times .now) (l .i) (l .inv .2) (l .line)
     (put .last .0) end (l .inv .3) (l .inv .4) (put .ensures)
