@@ -349,7 +349,7 @@ katchidul_joined katchidul_join(katchidul_queue queue, uint32_t id, uint32_t pag
 /* Takes a page from the job at the front. The job then goes to the back if it has pages left, and leaves otherwise. Nothing is refused.
 
    A queue that no calls return is accepted too. Of more than 16 jobs the first 16 count. A job with 0 pages left sends one and leaves. For a
-   job with id 0, `id` is 0 as if no job waited: only `queue` shows the difference. */
+   job with id 0, `id` is 0 as if no job waited, and `pages` are its pages left: `queue` always shows the difference. */
 katchidul_turned katchidul_turn(katchidul_queue queue);
 
 /* The job log: which pages of a job are sent and which are done, so that a page goes out only once, also if an acknowledgement is lost or the

@@ -1,5 +1,5 @@
--- This file need not be believed: what rolls is a working value, and proofs/RowSunsLaws.antt says that it is what each row's own date
--- gives.
+-- This file need not be believed: what rolls is a working value, and proofs/RowSunsLaws.antt says that in the years of an order it is what
+-- each row's own date gives.
 use Rattle.calendar.specs.Answers.{tomorrowOf}
 use Rattle.calendar.specs.declared.dates.Date.{Date}
 use Rattle.models.specs.declared.rules.Midnight.{Midnight}

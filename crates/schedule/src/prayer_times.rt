@@ -34,7 +34,7 @@ use rounding::times::rounded_minute;
 use solar::setting::SolarHour;
 use solar::times::SolarTime;
 
-// In seconds from 1970-01-01 0h UTC, always in this order. They are not sorted.
+// In seconds from 1970-01-01 0h UTC, or from 0h of the date if a function says so. Always in this order: they are not sorted.
 #[repr(C)]
 pub struct PrayerTimes {
     pub fajr: i64,

@@ -174,7 +174,7 @@ impl RowSuns {
         }
     }
 
-    // The next row's, in the same setting.
+    // The next row's, in the same setting, for the years of an order: there each Julian Day is one more.
     pub fn next(self, setting: Setting) -> RowSuns
         ensures { λ r. ⌜ r ≡ nextRowSunsOf setting self ⌝ }
     {
