@@ -5,6 +5,7 @@ import random
 import struct
 
 from shared.floats import bits
+from shared.orders import field, join
 
 LENGTHS = {1: range(1, 41), 2: [4], 3: [1, 2], 4: [8], 5: [8], 6: [1], 7: [1], 8: [1], 9: [1], 10: [1], 11: [12], 12: [8], 13: [8], 14: [2],
            15: [1],
@@ -20,14 +21,6 @@ METHODS = [(18.0, 17.0, 0.0, 0, 0, (0, 1, 0, 0)), (19.5, 17.5, 0.0, 0, 0, (0, 1,
 LAST = datetime.date(2199, 12, 31)
 # The tags of a coordinate as a float and as on the map.
 FORMS = ((4, 18), (5, 19))
-
-
-def field(tag, value):
-    return bytes([tag]) + struct.pack(">H", len(value)) + value
-
-
-def join(fields):
-    return b"".join(field(tag, value) for tag, value in fields)
 
 
 def real(value):

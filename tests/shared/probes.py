@@ -1,11 +1,10 @@
 """The exports of crates/probes, declared for Python as the sources declare them."""
 import ctypes
 import re
-import tempfile
 
 from . import ROOT
 from .floats import bits
-from .library import shared_object
+from .library import load
 
 STRUCT = re.compile(r"^#\[repr\(C\)\]\npub struct (\w+) \{\n(.*?)^\}", re.M | re.S)
 FIELD = re.compile(r"^    pub (\w+): (\w+),$", re.M)
@@ -30,9 +29,7 @@ class Probes:
     """probes = Probes(); probes.probe_weekday(3); probes.types["Date"](2026, 6, 21). Bytes are two arguments, with their length."""
 
     def __init__(self):
-        self.types = Types()
-        with tempfile.TemporaryDirectory() as folder:
-            loaded = ctypes.CDLL(shared_object(folder, "probes"))
+        self.types, loaded = Types(), load("probes")
         for file in (ROOT / "crates/probes/src").glob("*.rt"):
             for name, arguments, answer in EXPORT.findall(file.read_text()):
                 call = getattr(loaded, name)

@@ -1,7 +1,6 @@
 //! What a host asks of the port: the six calls of include/katchidul.h, each answer as it declares it.
 use crate::day_crate::Refusal;
 use crate::day_draw::{Instant, Settings};
-use crate::day_port::Rules;
 
 #[derive(Debug, Clone, Copy, Default)]
 #[repr(C)]
@@ -105,7 +104,8 @@ struct ProbeOrder {
     settings: Settings,
     maghrib_angle: f64,
     method_minutes: [i32; 6],
-    rules: Rules,
+    /// carry, southern
+    rules: [u32; 2],
     clock: i32,
     ramadan: bool,
     imsak: u32,
@@ -117,7 +117,7 @@ impl ProbeOrder {
     fn of_host(&self) -> KatchidulOrder {
         let Settings { method, madhab, high_latitude_rule, rounding, shafaq, fajr_angle, isha_angle, .. } = self.settings;
         let Settings { fajr, sunrise, dhuhr, asr, maghrib, isha, isha_interval, .. } = self.settings;
-        let Rules { carry, southern } = self.rules;
+        let [carry, southern] = self.rules;
         let ([number, place], [town_at, town_length], [year, month, day]) = (self.refusal, self.town, self.date);
         let ([latitude, longitude], rows, isha_interval) = (self.place, self.rows, isha_interval as u32);
         let minutes = [fajr, sunrise, dhuhr, asr, maghrib, isha];

@@ -188,7 +188,7 @@ impl Orders {
             self.counts.line("orders: nine times of a row, or the refusal", NUMBER..PRAYER),
             self.counts.line("orders: prayer, next and remaining at an instant", PRAYER..REPLY),
             self.counts.line("orders: a row written, and every byte of the buffer", REPLY..PLAIN),
-            self.counts.line("orders: the plain reader's first fields, or its refusal", PLAIN..LINES.len()),
+            self.counts.line("orders: the plain reader's fields, or its refusal", PLAIN..LINES.len()),
         ]
     }
 }
