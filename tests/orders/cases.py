@@ -139,6 +139,11 @@ def refusal_of(order):
     return values, refusal
 
 
+def refused_by(order):
+    """The refusal's number and place; 0 and 0 for an order that is read."""
+    return refusal_of(order)[1] or (0, 0)
+
+
 def reading(order):
     """What reading returns: number and place of the refusal, then every field of the record, in the order of crates/probes' ProbeOrder, a
     float by its bits. A refused order has 0 in each. And the first line of the order's sheet."""
