@@ -217,7 +217,7 @@ def both_ways():
                  "method: " + draw.choice(list(SHORT)), "clock: " + draw.choice(["+01:00", "-330", "7 minutes", "0"])]
         draw.shuffle(lines)
         made = orders.make("\n".join(lines))
-        check("accepted: %s" % lines, cases.line(made.order)[:4], b"0 0 ")
+        check("accepted: %s" % lines, cases.refused_by(made.order), (0, 0))
         check("shown and made again: %s" % lines, orders.make(orders.show(made.order)).order, made.order)
         values, _ = cases.fields_of(made.order)
         check("the place of %s" % lines, (struct.unpack(">d", values[4])[0], struct.unpack(">d", values[5])[0]), (latitude, longitude))

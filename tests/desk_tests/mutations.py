@@ -58,7 +58,7 @@ def every_way(order, whole):
     refusal = reading.read(order).refusal
     if refusal:
         messages.sentence(refusal.number, refusal.place, {})
-    own = int(cases.line(order).split()[0])
+    own = cases.refused_by(order)[0]
     if (refusal.number if refusal else 0) != own:
         raise AssertionError("the second reader returns %d" % own)
     if whole:

@@ -31,7 +31,7 @@ def shown(order):
 
 def by_the_paper(order):
     """Number and place by the other reader; 0 and 0 if it accepts the order."""
-    return tuple(map(int, cases.line(order).split()[:2]))
+    return cases.refused_by(order)
 
 
 def check_order(order):

@@ -3,66 +3,22 @@ import ctypes
 import os
 import pathlib
 import subprocess
-import sys
 
-sys.path.insert(0, str(pathlib.Path(__file__).resolve().parent.parent))
-from shared import ROOT, library  # noqa: E402
+from shared import ROOT, library
+from shared.header import STRUCTS, declared
 
 FLAGS = ["gcc", "-std=c11", "-Wall", "-Wextra", "-Wpedantic", "-Werror", "-O2"]
-
-
-class Cells(ctypes.Structure):
-    _fields_ = [(name, ctypes.c_uint32) for name in ("number", "place", "rows", "dots")]
-
-
-class Order(ctypes.Structure):
-    """The front of what an order asks for; the rest is not looked at."""
-    _fields_ = [(name, ctypes.c_uint32) for name in ("number", "place", "town_at", "town_length", "year", "month", "day", "rows")] + [
-        ("rest", ctypes.c_uint8 * 104)]
-
-
-class Log(ctypes.Structure):
-    _fields_ = [(name, ctypes.c_uint32) for name in ("number", "place", "moved", "finished", "sent")] + [("used", ctypes.c_size_t)]
-
-
-class Queue(ctypes.Structure):
-    _fields_ = [("jobs", ctypes.c_uint32), ("ids", ctypes.c_uint32 * 16), ("pages", ctypes.c_uint32 * 16)]
-
-
-class Joined(ctypes.Structure):
-    _fields_ = [("number", ctypes.c_uint32), ("place", ctypes.c_uint32), ("queue", Queue)]
-
-
-class Turned(ctypes.Structure):
-    _fields_ = [("id", ctypes.c_uint32), ("pages", ctypes.c_uint32), ("queue", Queue)]
-
-
-class Written(ctypes.Structure):
-    _fields_ = [(name, ctypes.c_uint32) for name in ("number", "place", "length")]
 
 
 class Library:
     """The calls that the runs judge by."""
 
     def __init__(self, shared):
-        loaded = ctypes.CDLL(shared)
-        buffer, size, word = ctypes.c_char_p, ctypes.c_size_t, ctypes.c_uint32
-        self.calls = {}
-        for name, answer, words in [
-                ("read_order", Order, [buffer, size]),
-                ("write_page", Cells, [buffer, size, word, word, buffer, size]),
-                ("join", Joined, [Queue, word, word]),
-                ("turn", Turned, [Queue]),
-                ("read_log", Log, [buffer, size, size]),
-                ("restart", Log, [buffer, size, size, word, buffer, size]),
-                ("write_sentence", Written, [word, word, buffer, size])]:
-            call = getattr(loaded, "katchidul_" + name)
-            call.restype, call.argtypes = answer, words
-            self.calls[name] = call
+        self.loaded = declared(ctypes.CDLL(shared))
         self.known = {}
 
     def write_page(self, order, page, scratch):
-        return self.calls["write_page"](order, len(order), page, 0, scratch, len(scratch))
+        return self.loaded.katchidul_write_page(order, len(order), page, 0, scratch, len(scratch))
 
     def page(self, order, page):
         scratch = ctypes.create_string_buffer(975)
@@ -84,7 +40,7 @@ class Library:
         return self.known[order]
 
     def town(self, order):
-        read = self.calls["read_order"](order, len(order))
+        read = self.loaded.katchidul_read_order(order, len(order))
         return order[read.town_at:read.town_at + read.town_length].decode()
 
     def dots(self, order, page):
@@ -94,23 +50,23 @@ class Library:
 
     def turns(self, pages):
         """Job and page of each turn, if the jobs 1, 2, 3, .. have these numbers of pages and all wait from the beginning."""
-        queue, turns = Queue(), []
+        queue, turns = STRUCTS["katchidul_queue"](), []
         for job, count in enumerate(pages, 1):
-            queue = self.calls["join"](queue, job, count).queue
-        while (turn := self.calls["turn"](queue)).id != 0:
+            queue = self.loaded.katchidul_join(queue, job, count).queue
+        while (turn := self.loaded.katchidul_turn(queue)).id != 0:
             turns.append((turn.id, pages[turn.id - 1] - turn.pages))
             queue = turn.queue
         return turns
 
     def log(self, log, size):
-        return self.calls["read_log"](log.ljust(size, b"\0")[:size], size, len(log))
+        return self.loaded.katchidul_read_log(log.ljust(size, b"\0")[:size], size, len(log))
 
     def restart(self, log, size, count):
-        return self.calls["restart"](log.ljust(size, b"\0")[:size], size, len(log), count, ctypes.create_string_buffer(size), size)
+        return self.loaded.katchidul_restart(log.ljust(size, b"\0")[:size], size, len(log), count, ctypes.create_string_buffer(size), size)
 
     def sentence(self, number, place):
         words = ctypes.create_string_buffer(100)
-        length = self.calls["write_sentence"](number, place, words, 100).length
+        length = self.loaded.katchidul_write_sentence(number, place, words, 100).length
         return words.raw[:length].decode()
 
 

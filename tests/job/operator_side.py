@@ -84,7 +84,7 @@ def pages_of_a_part(built, seed, trials):
         allowed = {at for tag, length in ((2, 4), (3, 2)) for at in range(orders.fields(text)[tag], orders.fields(text)[tag] + length)}
         if len(part) != len(text) or not changed <= allowed:
             wrong.append(f"other bytes are changed: {text.hex()}, {part.hex()}")
-        read = built.library.calls["read_order"](text, len(text))
+        read = built.library.loaded.katchidul_read_order(text, len(text))
         asks = orders.read(text)
         if (asks.town, asks.rows, asks.first) != (built.library.town(text), read.rows, datetime.date(read.year, read.month, read.day)):
             wrong.append(f"{text.hex()} is read as {asks}")

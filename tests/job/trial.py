@@ -9,6 +9,7 @@ import tempfile
 import time
 
 from disk import Disk
+from shared.orders import join
 
 LOG_SIZE = 25  # of the host's log, KATCHIDUL_LOG_ROOM of three pages
 PATIENCE = 30  # milliseconds
@@ -20,7 +21,7 @@ def order(town, rows, clock=0, first="07ea0101", latitude="404b633d07c84b5e"):
     """An order for some rows: Durham's, from 2026-01-01 on."""
     fields = [(1, town.encode()), (2, bytes.fromhex(first)), (3, rows.to_bytes(2, "big")), (4, bytes.fromhex(latitude)),
               (5, bytes.fromhex("bff95bc01a36e2eb")), (6, b"\0"), (16, clock.to_bytes(2, "big"))]
-    return b"".join(bytes([tag]) + len(value).to_bytes(2, "big") + value for tag, value in fields)
+    return join(fields)
 
 
 def punched_pages(file):

@@ -2,19 +2,16 @@
 import ctypes
 import struct
 
+from shared.header import declared
+from shared.orders import join
+
 ROW, PAGE = 39, 25
 BRF = " A1B'K2L@CIF/MSP\"E3H9O6R^DJG>NTQ,*5<-U8V.%[$+X!&;:4\\0Z7(_?W]#Y)="
 
 
-class Cells(ctypes.Structure):
-    _fields_ = [(name, ctypes.c_uint32) for name in ("number", "place", "rows", "dots")]
-
-
 class Library:
     def __init__(self, shared):
-        self.write = ctypes.CDLL(shared).katchidul_write_page
-        self.write.restype = Cells
-        self.write.argtypes = [ctypes.c_char_p, ctypes.c_size_t, ctypes.c_uint32, ctypes.c_uint32, ctypes.c_char_p, ctypes.c_size_t]
+        self.write = declared(ctypes.CDLL(shared)).katchidul_write_page
 
     def pages(self, order):
         """The cells of each page."""
@@ -27,15 +24,9 @@ class Library:
             made.append(scratch.raw[:reply.rows * ROW])
 
 
-def field(tag, value):
-    return struct.pack(">BH", tag, len(value)) + value
-
-
 def order(town, rows=30, first=(2026, 6, 1), clock=60, latitude=54.7753, longitude=-1.5849):
-    return b"".join([
-        field(1, town.encode("ascii")), field(2, struct.pack(">HBB", *first)), field(3, struct.pack(">H", rows)),
-        field(4, struct.pack(">d", latitude)), field(5, struct.pack(">d", longitude)), field(6, b"\0"),
-        field(16, struct.pack(">h", clock))])
+    return join([(1, town.encode("ascii")), (2, struct.pack(">HBB", *first)), (3, struct.pack(">H", rows)),
+                 (4, struct.pack(">d", latitude)), (5, struct.pack(">d", longitude)), (6, b"\0"), (16, struct.pack(">h", clock))])
 
 
 def brf(cells):

@@ -1,11 +1,11 @@
-#!/usr/bin/env python3
-# Makes the orders that crates/test_orders reads, good ones and ones damaged in every way, and what it must write of them:
-#     tests/orders/cases.py ORDERS LINES
-# The lines come from a reader written here from document 01 and the crate's method.rs alone. Deterministic.
+"""Good orders, orders damaged in every way, and a second reader of orders, written here from document 01 and the Rust crate's method.rs
+alone. tests/orders/run compares both of the library's readers with it; other tests draw orders from here."""
 import datetime
 import random
 import struct
-import sys
+
+from shared.floats import bits
+from shared.orders import field, join
 
 LENGTHS = {1: range(1, 41), 2: [4], 3: [1, 2], 4: [8], 5: [8], 6: [1], 7: [1], 8: [1], 9: [1], 10: [1], 11: [12], 12: [8], 13: [8], 14: [2],
            15: [1],
@@ -21,14 +21,6 @@ METHODS = [(18.0, 17.0, 0.0, 0, 0, (0, 1, 0, 0)), (19.5, 17.5, 0.0, 0, 0, (0, 1,
 LAST = datetime.date(2199, 12, 31)
 # The tags of a coordinate as a float and as on the map.
 FORMS = ((4, 18), (5, 19))
-
-
-def field(tag, value):
-    return bytes([tag]) + struct.pack(">H", len(value)) + value
-
-
-def join(fields):
-    return b"".join(field(tag, value) for tag, value in fields)
 
 
 def real(value):
@@ -133,7 +125,8 @@ def in_range(values, tag):
     return low <= value[0] <= high
 
 
-def line(order):
+def refusal_of(order):
+    """The values by tag, and the refusal's number and place, or None."""
     values, refusal = fields_of(order)
     if refusal is None:
         refusal = next(((4, tag) for tag in range(1, 7) if tag not in values and dict(FORMS).get(tag) not in values), None)
@@ -143,23 +136,31 @@ def line(order):
         refusal = next(((5, tag) for tag in sorted(values) if not in_range(values, tag)), None)
     if refusal is None and 20 in values and not opens_ramadan(values):
         refusal = 18, 2
+    return values, refusal
+
+
+def refused_by(order):
+    """The refusal's number and place; 0 and 0 for an order that is read."""
+    return refusal_of(order)[1] or (0, 0)
+
+
+def reading(order):
+    """What reading returns: number and place of the refusal, then every field of the record, in the order of crates/probes' ProbeOrder, a
+    float by its bits. A refused order has 0 in each. And the first line of the order's sheet."""
+    values, refusal = refusal_of(order)
     if refusal is not None:
-        return b"%d %d \n" % refusal
+        return (*refusal, *[0] * 35), b"order refused %d place %d" % refusal
     date, method = date_of(values[2]), values[6][0]
     fajr, isha, maghrib, interval, rounding, brought = METHODS[method]
     angle = lambda tag, missing: real(values[tag]) if tag in values else missing
     one = lambda tag, missing: values[tag][0] if tag in values else missing
-    bits = lambda x: struct.unpack(">Q", struct.pack(">d", x))[0]
-    own = struct.unpack(">6h", values.get(11, bytes(12)))
-    minutes = struct.unpack(">H", values[14])[0] if 14 in values else interval
     town = next(at for at, tag in offsets(order) if tag == 1) + 3
-    numbers = [0, 0, town, len(values[1]), date.year, date.month, date.day, int.from_bytes(values[3], "big"),
-               bits(coordinate(values, 4, 18)),
-               bits(coordinate(values, 5, 19)), method, one(7, 1), one(8, 0), one(9, rounding), one(10, 0), bits(angle(12, fajr)),
-               bits(angle(13, isha)),
-               bits(maghrib), minutes, *own, 0, *brought, 0, one(15, 0), *struct.unpack(">h", values.get(16, bytes(2))), one(17, 0),
-               *([1, values[20][0], values[20][1] - 1] if 20 in values else [0, 0, 0])]
-    return b"".join(b"%d " % n for n in numbers) + values[1] + b"\n"
+    record = (0, 0, town, len(values[1]), date.year, date.month, date.day, int.from_bytes(values[3], "big"),
+              bits(coordinate(values, 4, 18)), bits(coordinate(values, 5, 19)), method, one(7, 1), one(8, 0), one(9, rounding), one(10, 0),
+              *struct.unpack(">6h", values.get(11, bytes(12))), struct.unpack(">H", values[14])[0] if 14 in values else interval,
+              bits(angle(12, fajr)), bits(angle(13, isha)), bits(maghrib), 0, *brought, 0, one(15, 0), one(17, 0),
+              *struct.unpack(">h", values.get(16, bytes(2))), *([1, values[20][0], values[20][1] - 1] if 20 in values else [0, 0, 0]))
+    return record, values[1]
 
 
 def good(draw):
@@ -376,15 +377,7 @@ def ramadan_sheets():
     return orders + [WHOLE + field(20, bytes(length)) for length in (0, 1, 3)] + [fast((2026, 2, 18)) + field(20, b"\x0a\1")]
 
 
-def main():
+def every():
+    """The orders that tests/orders/run compares: the marked ones, good ones and damaged ones. Deterministic."""
     draw = random.Random(1)
-    orders = marked() + [join(good(draw)) for _ in range(1000)] + [damaged(draw) for _ in range(3000)]
-    with open(sys.argv[1], "wb") as out:
-        out.write(b"".join(struct.pack(">H", len(order)) + order for order in orders))
-    with open(sys.argv[2], "wb") as out:
-        # by the reader, and by the plain one
-        out.write(b"".join(2 * line(order) for order in orders))
-
-
-if __name__ == "__main__":
-    main()
+    return marked() + [join(good(draw)) for _ in range(1000)] + [damaged(draw) for _ in range(3000)]

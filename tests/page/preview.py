@@ -9,6 +9,7 @@ import struct
 import subprocess
 
 import document
+from shared.orders import join
 
 ROOT = pathlib.Path(__file__).resolve().parent.parent.parent
 EXAMPLES = ROOT / "examples"
@@ -117,7 +118,7 @@ def random_order(dice):
     values = {1: town, 2: struct.pack(">HBB", day.year, day.month, day.day), 3: bytes([rows]), 4: struct.pack(">d", dice.uniform(-75, 75)),
               5: struct.pack(">d", dice.uniform(-180, 180)), 6: bytes([dice.randrange(13)]), 15: bytes([dice.randrange(2)]),
               16: struct.pack(">h", dice.choice([0, 60, -840, 840, dice.randint(-840, 840)]))}
-    return b"".join(bytes([tag]) + len(value).to_bytes(2, "big") + value for tag, value in values.items())
+    return join(values.items())
 
 
 def check_opened(check, name, order, again):

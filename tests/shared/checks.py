@@ -1,4 +1,6 @@
 """Counts checks: a line for each that fails, and the counts as the last line."""
+import itertools
+
 MOST_TOLD = 40
 LONGEST = 500
 
@@ -22,6 +24,14 @@ class Checks:
         self.failed += 1
         if self.failed <= MOST_TOLD:
             print("%s: %s, not %s" % (what, shown(got), shown(wanted)), flush=True)
+
+    def each(self, what, names, got, wanted):
+        """A check for each of some named values, all of the same thing: three tuples of one length."""
+        if got == wanted:
+            self.count += len(wanted)
+            return
+        for name, one, other in itertools.zip_longest(names, got, wanted):
+            self("%s of %s" % (name, what), one, other)
 
     def end(self):
         """Prints the last line, which tests/run adds up, and returns the exit status."""

@@ -1,6 +1,8 @@
 """The library that is tested: its archive, and a shared object that Python can load."""
+import ctypes
 import os
 import subprocess
+import tempfile
 
 from . import ROOT
 
@@ -22,3 +24,9 @@ def shared_object(folder, crate="katchidul"):
     made = os.path.join(folder, "lib%s.so" % crate)
     subprocess.run(["gcc", "-shared", "-o", made, "-Wl,--whole-archive", archive(crate), "-Wl,--no-whole-archive"], check=True)
     return made
+
+
+def load(crate):
+    """The crate's archive, loaded into this process."""
+    with tempfile.TemporaryDirectory() as folder:
+        return ctypes.CDLL(shared_object(folder, crate))

@@ -1,3 +1,4 @@
+pub mod Dates
 pub mod Functions
 pub mod Days
 pub mod Readers

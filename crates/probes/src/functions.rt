@@ -14,7 +14,6 @@ ghost use Rattle.solar.specs.Hours.{hourNumbersOf, angleNumberOf, afternoonNumb
 ghost use Rattle.solar.specs.Shared.{dateCourseOf};
 ghost use Rattle.models.specs.Numbers.{shafaqOf, midnightOf};
 ghost use Rattle.ops.specs.Season.{daysSinceSolsticeOf, seasonAdjustedMorningTwilightOf, seasonAdjustedEveningTwilightOf};
-ghost use Rattle.solar.specs.Setting.{settingHourOf};
 ghost use Rattle.solar.specs.Times.{solarHourOf};
 ghost use Rattle.probes.specs.Functions.{probeSunOf, probeTimeOf};
 use calendar::dates::Date;
@@ -30,7 +29,6 @@ use solar::hours::angle_number;
 use solar::hours::date_course;
 use solar::hours::hour_numbers;
 use solar::setting::SolarHour;
-use solar::setting::setting_hour;
 use solar::times::solar_hour;
 use unit::Angle;
 use unit::Coordinates;
@@ -224,15 +222,7 @@ fn time(hour: SolarHour) -> ProbeTime
     }
 }
 
-// The time of an hour number, in seconds from 0h of its date.
-#[no_mangle]
-pub extern "C" fn probe_setting_hour(value: f64) -> ProbeTime
-    ensures { λ r. ⌜ r ≡ probeTimeOf (settingHourOf value) ⌝ }
-{
-    time(setting_hour(value))
-}
-
-// The same, by the rule at midnight with the number `carry`.
+// The time of an hour number, in seconds from 0h of its date, by the rule at midnight with the number `carry`. 0 is the source's.
 #[no_mangle]
 pub extern "C" fn probe_solar_hour(carry: u32, value: f64) -> ProbeTime
     ensures { λ r. ⌜ r ≡ probeTimeOf (solarHourOf (midnightOf carry) value) ⌝ }

@@ -99,18 +99,16 @@ fn setting(latitude: f64, longitude: f64, settings: ProbeSettings, chosen: Probe
     }
 }
 
-// A method's own settings.
-#[no_mangle]
-pub extern "C" fn probe_preset(method: u32) -> ProbeSettings
-    ensures { λ r. ⌜ r ≡ settingsOf (presetOf (methodOf method)) ⌝ }
+// What the exports take of parameters. The rest is the method's.
+pub(crate) fn settings_of(parameters: Parameters) -> ProbeSettings
+    ensures { λ r. ⌜ r ≡ settingsOf parameters ⌝ }
 {
-    let preset = Method::of_number(method).parameters();
-    let method = preset.method;
-    let madhab = preset.madhab;
-    let high_latitude_rule = preset.high_latitude_rule;
-    let rounding = preset.rounding;
-    let shafaq = preset.shafaq;
-    let own = preset.adjustments;
+    let method = parameters.method;
+    let madhab = parameters.madhab;
+    let high_latitude_rule = parameters.high_latitude_rule;
+    let rounding = parameters.rounding;
+    let shafaq = parameters.shafaq;
+    let own = parameters.adjustments;
     ProbeSettings {
         method: method.number(),
         madhab: madhab.number(),
@@ -118,10 +116,18 @@ pub extern "C" fn probe_preset(method: u32) -> ProbeSettings
         rounding: rounding.number(),
         shafaq: shafaq.number(),
         minutes: own,
-        isha_interval: preset.isha_interval,
-        fajr_angle: preset.fajr_angle,
-        isha_angle: preset.isha_angle,
+        isha_interval: parameters.isha_interval,
+        fajr_angle: parameters.fajr_angle,
+        isha_angle: parameters.isha_angle,
     }
+}
+
+// A method's own settings.
+#[no_mangle]
+pub extern "C" fn probe_preset(method: u32) -> ProbeSettings
+    ensures { λ r. ⌜ r ≡ settingsOf (presetOf (methodOf method)) ⌝ }
+{
+    settings_of(Method::of_number(method).parameters())
 }
 
 fn answered(worked: Worked) -> ProbeDay
@@ -220,7 +226,7 @@ pub struct ProbeRemaining {
     pub minutes: u32,
 }
 
-fn probe_hours_minutes(remaining: Remaining) -> ProbeRemaining
+fn hours_minutes(remaining: Remaining) -> ProbeRemaining
     ensures { λ r. ⌜ r ≡ probeRemainingOf remaining ⌝ }
 {
     match remaining {
@@ -245,5 +251,5 @@ pub extern "C" fn probe_remaining(
 ) -> ProbeRemaining
     ensures { λ r. ⌜ r ≡ probeRemainingOf (timeRemainingOf times (instantOf seconds nanoseconds)) ⌝ }
 {
-    probe_hours_minutes(times.time_remaining(instant(seconds, nanoseconds)))
+    hours_minutes(times.time_remaining(instant(seconds, nanoseconds)))
 }

@@ -16,7 +16,7 @@ struct ProbeTime {
 // The library is linked with salah_probes.
 #[rustfmt::skip]
 extern "C" {
-    fn probe_setting_hour(value: f64) -> ProbeTime;
+    fn probe_solar_hour(carry: u32, value: f64) -> ProbeTime;
     fn probe_days_since_solstice(day: u32, year: u32, latitude: f64) -> u32;
     fn probe_morning_twilight(latitude: f64, day: u32, year: u32, sunrise: i64) -> i64;
     fn probe_evening_twilight(latitude: f64, day: u32, year: u32, sunset: i64, shafaq: u32) -> i64;
@@ -30,7 +30,7 @@ const LINES: [&str; 4] = ["setting_hour", "days_since_solstice", "morning twilig
 
 /// Seconds from 0h of the date; none if there is no time.
 pub fn port_setting_hour(value: f64) -> Option<i64> {
-    let time = unsafe { probe_setting_hour(value) };
+    let time = unsafe { probe_solar_hour(0, value) };
     if time.found { Some(time.seconds as i64) } else { None }
 }
 

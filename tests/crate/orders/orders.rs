@@ -5,7 +5,7 @@ use crate::day_draw::Instant;
 use crate::draw::Draw;
 use crate::order_damage::KINDS;
 use crate::order_owed::{InstantAnswers, Order, FARTHEST};
-use crate::order_port::{self, KatchidulDay, KatchidulOrder, ORDER_FIELDS, PLAIN_FIELDS};
+use crate::order_port::{self, KatchidulDay, KatchidulOrder, ORDER_FIELDS};
 use crate::row_written::Written;
 use crate::summary::Line;
 use crate::threads::shared;
@@ -89,8 +89,10 @@ impl Orders {
                 format!("port {ours:?}, owed {owed:?}, order {}", hexadecimal(order.bytes))
             });
         }
-        let plain = order_port::read_plainly(order.bytes).fields();
-        self.counts.add(PLAIN, plain == owed_fields[..PLAIN_FIELDS], || format!("owed {owed:?}, order {}", hexadecimal(order.bytes)));
+        let plain = order_port::read_plainly(order.bytes);
+        self.counts.add(PLAIN, plain.fields() == owed_fields, || {
+            format!("plain {plain:?}, owed {owed:?}, order {}", hexadecimal(order.bytes))
+        });
     }
 
     fn day(&mut self, order: &Order, row: u32, day: &Result<PrayerTimes, Refusal>) {
@@ -186,7 +188,7 @@ impl Orders {
             self.counts.line("orders: nine times of a row, or the refusal", NUMBER..PRAYER),
             self.counts.line("orders: prayer, next and remaining at an instant", PRAYER..REPLY),
             self.counts.line("orders: a row written, and every byte of the buffer", REPLY..PLAIN),
-            self.counts.line("orders: the plain reader's first fields, or its refusal", PLAIN..LINES.len()),
+            self.counts.line("orders: the plain reader's fields, or its refusal", PLAIN..LINES.len()),
         ]
     }
 }

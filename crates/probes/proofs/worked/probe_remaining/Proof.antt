@@ -9,7 +9,7 @@ returns c =
     let start = c .before .before .before in
     let a = start .args in
     let i = c .before .before .instant in
-    let e0 : c .probe-hours-minutes .result ≡ probeRemainingOf (c .before .time-remaining .result) = c .probe-hours-minutes .ensures in
+    let e0 : c .hours-minutes .result ≡ probeRemainingOf (c .before .time-remaining .result) = c .hours-minutes .ensures in
     let e1 : c .before .time-remaining .result ≡ timeRemainingOf (a .times) (i .result) = c .before .time-remaining .ensures in
     e0 ∙ ap probeRemainingOf
     (e1 ∙ at (timeRemainingOf (a .times)) (a .seconds) (a .nanoseconds) (i .result) (start .fits .seconds) (i .ensures))
