@@ -71,20 +71,20 @@ twilightAdjustmentValuesOf Morning x shafaq =
     valuesOf (moreMinutes 75 x 28650) (moreMinutes 75 x 19440) (moreMinutes 75 x 32740) (moreMinutes 75 x 48100)
 twilightAdjustmentValuesOf Evening x shafaq = eveningValuesOf x shafaq
 
--- so many of the days on the way from one value to the next
-abbrev pub onTheWayOf : Float → Float → Float → Float → Float
-onTheWayOf from to days lapsed = from +ᶠ (to -ᶠ from) /ᶠ days *ᶠ lapsed
+-- the value after `lapsed` of `days` days, on a straight line from one value to the next
+abbrev pub interpolateLinearlyOf : Float → Float → Float → Float → Float
+interpolateLinearlyOf from to days lapsed = from +ᶠ (to -ᶠ from) /ᶠ days *ᶠ lapsed
 
 -- twilight_adjustments: the minutes on a day, by the six parts of the year
 unfoldable pub twilightAdjustmentsOf : TwilightAdjustmentValues → Float → Float
 unfolding dec
 twilightAdjustmentsOf v days =
-    cond (insideOf (dec 0 0) (dec 90 0) days) (onTheWayOf (v .a) (v .b) (dec 91 0) days)
-    (cond (insideOf (dec 91 0) (dec 136 0) days) (onTheWayOf (v .b) (v .c) (dec 46 0) (days -ᶠ dec 91 0))
-    (cond (insideOf (dec 137 0) (dec 182 0) days) (onTheWayOf (v .c) (v .d) (dec 46 0) (days -ᶠ dec 137 0))
-    (cond (insideOf (dec 183 0) (dec 228 0) days) (onTheWayOf (v .d) (v .c) (dec 46 0) (days -ᶠ dec 183 0))
-    (cond (insideOf (dec 229 0) (dec 274 0) days) (onTheWayOf (v .c) (v .b) (dec 46 0) (days -ᶠ dec 229 0))
-    (onTheWayOf (v .b) (v .a) (dec 91 0) (days -ᶠ dec 275 0))))))
+    cond (insideOf (dec 0 0) (dec 90 0) days) (interpolateLinearlyOf (v .a) (v .b) (dec 91 0) days)
+    (cond (insideOf (dec 91 0) (dec 136 0) days) (interpolateLinearlyOf (v .b) (v .c) (dec 46 0) (days -ᶠ dec 91 0))
+    (cond (insideOf (dec 137 0) (dec 182 0) days) (interpolateLinearlyOf (v .c) (v .d) (dec 46 0) (days -ᶠ dec 137 0))
+    (cond (insideOf (dec 183 0) (dec 228 0) days) (interpolateLinearlyOf (v .d) (v .c) (dec 46 0) (days -ᶠ dec 183 0))
+    (cond (insideOf (dec 229 0) (dec 274 0) days) (interpolateLinearlyOf (v .c) (v .b) (dec 46 0) (days -ᶠ dec 229 0))
+    (interpolateLinearlyOf (v .b) (v .a) (dec 91 0) (days -ᶠ dec 275 0))))))
 
 -- the minutes on a day of a year, of which the Morning's are the same for every shafaq
 abbrev pub seasonMinutesOf : AdjustmentDaytime → Season → ℕ → ℕ → Shafaq → Float
