@@ -16,8 +16,8 @@ use Rattle.float64.specs.Ranges.{Inside}
 use Rattle.fdlibm_trig.specs.Trig.{sinOf, cosOf}
 
 -- ---- argument and answer
--- A finite float `fin s m e` is m * 2 ^ e, negative if s: the whole number `top` over the power of two `bottom`. 2 ^ e is `up e` /
--- `down e`.
+-- A finite float `fin s m e` is m * 2 ^ e, negative if s: the whole number `top` over the power of two `bottom`. 2 ^ e is
+-- `up e` / `down e`.
 abbrev pub top : Float → ℤ
 top nan = pos 0
 top (inf s) = pos 0

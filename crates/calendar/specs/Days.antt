@@ -11,8 +11,7 @@ use Rattle.integers.specs.Quotients.{floorRem}
 use Rattle.calendar.specs.Gregorian.{dateOf, leapOf, existsOf}
 use Rattle.calendar.specs.declared.dates.Date.{Date}
 
--- ---- days of the year
--- "the days before each month, for common and leap years" (document 01), here the leap year's first
+-- ---- days of the year: "the days before each month, for common and leap years" (document 01), here the leap year's first
 abbrev pub monthStartsOf : Bool → List ℕ
 monthStartsOf leap =
     cond leap (0 ∷ 31 ∷ 60 ∷ 91 ∷ 121 ∷ 152 ∷ 182 ∷ 213 ∷ 244 ∷ 274 ∷ 305 ∷ 335 ∷ [])
@@ -43,8 +42,7 @@ ofOrdinalOf year ordinal =
     let month = monthOf (leapOf year) ordinal in
     dateOf year month (ordinal - daysBeforeOf (leapOf year) month)
 
--- ---- days from 1970-01-01
--- the days from 0000-01-01 to a year's January 1st
+-- ---- days from 1970-01-01, by the days from 0000-01-01 to a year's January 1st
 unfoldable pub daysBeforeYearOf : ℕ → ℕ
 daysBeforeYearOf year = 365 * year + (year + 3) / 4 - (year + 99) / 100 + (year + 399) / 400
 
@@ -69,8 +67,7 @@ dateAtOf n = ofOrdinalOf (yearOf n) (n + 1 - daysBeforeYearOf (yearOf n))
 unfoldable pub dateOfDayOf : ℤ → Date
 dateOfDayOf day = dateAtOf (P (day +ℤ pos 719528))
 
--- ---- days of the week
--- 0 is Sunday; 1970-01-01 was a Thursday
+-- ---- days of the week: 0 is Sunday; 1970-01-01 was a Thursday
 unfoldable pub weekdayOf : ℤ → ℕ
 weekdayOf day = (floorRem day 7 + 4) % 7
 

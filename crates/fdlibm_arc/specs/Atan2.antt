@@ -43,8 +43,7 @@ infiniteOf xs ys ix iy =
     cond (eqb ix 0x7ff0_0000)
     (cond (eqb iy 0x7ff0_0000)
     (quadrantOf xs ys (pi-o-4 +ᶠ tiny) (neg pi-o-4 -ᶠ tiny) (three *ᶠ pi-o-4 +ᶠ tiny) (neg (three *ᶠ pi-o-4) -ᶠ tiny))
-    (quadrantOf xs ys zero (minus-one *ᶠ zero) (pi +ᶠ tiny) (neg pi -ᶠ tiny)))
-    (uprightOf ys)
+    (quadrantOf xs ys zero (minus-one *ᶠ zero) (pi +ᶠ tiny) (neg pi -ᶠ tiny))) (uprightOf ys)
 
 -- atan |y / x|, both finite and neither 0: π/2 if y is over 2 ^ 60 times x, and 0 if x is below 0 and over 2 ^ 60 times y
 unfoldable pub quotientOf : Float → Float → Bool → ℕ → ℕ → Float

@@ -79,8 +79,7 @@ refineOf k j t =
     let second = iterationOf (first .r) k pio2-2 pio2-2t in
     let third = iterationOf (second .r) k pio2-3 pio2-3t in
     cond (ltb (exponentOf (first .r -ᶠ first .w) + 16) j)
-    (cond (ltb (exponentOf (second .r -ᶠ second .w) + 49) j) third second)
-    first
+    (cond (ltb (exponentOf (second .r -ᶠ second .w) + 49) j) third second) first
 
 -- further iterations are considered for n from 32 on, and for smaller n only if t's high word is that of n * π/2
 unfoldable pub differenceOf : Float → ℕ → ℕ → Parts

@@ -25,8 +25,7 @@ quarterTurnsOf n y0 y1 =
 unfoldable pub sinOf : Float → Float
 sinOf x =
     let p = remPio2Of x in
-    cond (leb (highOf x) 0x3fe9_21fb) (kernelSinOf x zero false)
-    (cond (le (absOf x) seventy) (quarterTurnsOf (p .n) (p .y0) (p .y1)) nan)
+    cond (leb (highOf x) 0x3fe9_21fb) (kernelSinOf x zero false) (cond (le (absOf x) seventy) (quarterTurnsOf (p .n) (p .y0) (p .y1)) nan)
 
 -- the cosine is the sine a quarter turn further
 unfoldable pub cosOf : Float → Float

@@ -12,8 +12,7 @@ use Rattle.fields.specs.Values.{valuesOf, hasOf, valueOf}
 -- the offset of the first field with the tag, from the offset `at` on; the order's length if there is none
 unfoldable pub firstFrom : (k : ℕ) → List ℕ → (tag at : ℕ) → ℕ
 firstFrom zero s tag at = length s
-firstFrom (suc k) s tag at =
-    cond (ltb at (length s)) (cond (eqb (byteOf s at) tag) at (firstFrom k s tag (nextFieldAt s at))) (length s)
+firstFrom (suc k) s tag at = cond (ltb at (length s)) (cond (eqb (byteOf s at) tag) at (firstFrom k s tag (nextFieldAt s at))) (length s)
 
 unfoldable pub offsetOf : List ℕ → ℕ → ℕ
 offsetOf s tag = firstFrom (length s) s tag 0

@@ -24,8 +24,7 @@ unfoldable pub collectOf : (k : ℕ) → List ℕ → Fields → (at : ℕ) → 
 collectOf zero s fields at = fields
 collectOf (suc k) s fields at =
     cond (ltb at (length s))
-    (collectOf k s (putOf fields (byteOf s at) (at + headerLength) (lengthAt s at)) (nextFieldAt s at))
-    fields
+    (collectOf k s (putOf fields (byteOf s at) (at + headerLength) (lengthAt s at)) (nextFieldAt s at)) fields
 
 unfoldable pub fieldsOf : List ℕ → Fields
 fieldsOf s = collectOf (length s) s noFields 0

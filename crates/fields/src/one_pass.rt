@@ -28,7 +28,7 @@ fn refused(number: u32, place: u32) -> Checked
 }
 
 // Whether the tag was collected: no value begins at 0.
-fn stands(starts: &[u16], tag: u32) -> bool
+fn collected(starts: &[u16], tag: u32) -> bool
     ensures { λ r. ⌜ r ≡ ltb 0 (getD (now (starts .entry)) tag 0) ⌝ }
 {
     let row = tag as usize;
@@ -48,7 +48,7 @@ fn pass(order: &[u8]) -> Checked
     while at < order.len() {
         let tag = byte(order, at);
         let length = unsigned(order, at + 1);
-        let number = fault(tag, length, stands(&starts, tag), order.len() - at);
+        let number = fault(tag, length, collected(&starts, tag), order.len() - at);
         if number != 0 {
             return refused(number, at as u32);
         }

@@ -22,7 +22,7 @@ floorOf (fin s m e) = cond (eqb (fraction m e) 0) (fin s m e) (ofInt binary64 (c
 unfoldable pub truncOf : Float → Float
 truncOf nan = nan
 truncOf (inf s) = inf s
-truncOf (fin s m e) = cond (eqb (fraction m e) 0) (fin s m e) (cond s (neg (ofInt binary64 (pos (wholePart m e)))) (ofInt binary64 (pos (wholePart m e))))
+truncOf (fin s m e) = let whole = ofInt binary64 (pos (wholePart m e)) in cond (eqb (fraction m e) 0) (fin s m e) (cond s (neg whole) whole)
 
 -- the whole part, or one more if the fraction is a half or more
 abbrev pub halfUp : ℕ → ℤ → ℕ
@@ -32,4 +32,4 @@ halfUp m e = cond (ltb (2 * fraction m e) (down e)) (wholePart m e) (wholePart m
 unfoldable pub roundOf : Float → Float
 roundOf nan = nan
 roundOf (inf s) = inf s
-roundOf (fin s m e) = cond (eqb (fraction m e) 0) (fin s m e) (cond s (neg (ofInt binary64 (pos (halfUp m e)))) (ofInt binary64 (pos (halfUp m e))))
+roundOf (fin s m e) = let whole = ofInt binary64 (pos (halfUp m e)) in cond (eqb (fraction m e) 0) (fin s m e) (cond s (neg whole) whole)

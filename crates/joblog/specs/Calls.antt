@@ -46,8 +46,7 @@ compactAnswer s text place second = cond (leb (length text) (length second)) (an
 abbrev pub compactingOf : State → List ℕ → ℕ → List ℕ → List ℕ → LogCall
 compactingOf s text place log second = record { answer = compactAnswer s text place second; log = log; second = putOf second 0 text }
 
--- ---- append
--- an append takes tag 1 or 2, and a page of at most two bytes
+-- ---- append: it takes tag 1 or 2, and a page of at most two bytes
 unfoldable pub newInTurn : State → ℕ → ℕ → Bool
 newInTurn s tag page = leb page 65535 && inTurn false s (recordAs tag page)
 

@@ -27,8 +27,7 @@ state finished sent = record { finished = finished; sent = sent }
 abbrev pub recordAs : ℕ → ℕ → Record
 recordAs tag page = record { tag = tag; length = 2; page = page }
 
--- ---- bytes
--- a record's five bytes, numbers with the high byte first
+-- ---- a record's five bytes, numbers with the high byte first
 unfoldable pub bytesOf : ℕ → ℕ → List ℕ
 bytesOf tag page = tag ∷ 0 ∷ 2 ∷ page / 256 ∷ page % 256 ∷ []
 
@@ -57,7 +56,8 @@ inTurn first s r =
 -- what a log says after one record more
 unfoldable pub afterOf : State → Record → State
 afterOf s r =
-    cond (eqb (r .tag) sentTag) (state (s .finished) (r .page)) (cond (eqb (r .tag) doneTag) (state (r .page) (s .sent)) (state (r .page) (r .page)))
+    cond (eqb (r .tag) sentTag) (state (s .finished) (r .page))
+    (cond (eqb (r .tag) doneTag) (state (r .page) (s .sent)) (state (r .page) (r .page)))
 
 -- what the records say, read in order, or the page of the first one that is out of turn
 unfoldable pub readOf : Bool → State → List Record → LogReading
@@ -67,8 +67,7 @@ readOf first s (r ∷ rest) = cond (inTurn first s r) (readOf false (afterOf s r
 abbrev pub logReadingOf : List ℕ → LogReading
 logReadingOf log = readOf true (state 0 0) (recordsOf log)
 
--- ---- what compaction writes
--- the sent records of the n pages after `page`
+-- ---- what compaction writes: the sent records of the n pages after `page`
 unfoldable pub openOf : ℕ → ℕ → List ℕ
 openOf page zero = []
 openOf page (suc n) = bytesOf sentTag (page + 1) ++ openOf (page + 1) n

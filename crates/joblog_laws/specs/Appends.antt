@@ -20,8 +20,8 @@ Unchanged c log second = (c .log ≡ log) × (c .second ≡ second)
 abbrev pub RefusedLogStays : Type 0
 RefusedLogStays =
     (log : List ℕ) (used : ℕ) (second : List ℕ)
-    → ((tag page : ℕ) → eqb (appendOf log used tag page second .answer .number) 0 ≡ false → Unchanged (appendOf log used tag page second) log second)
-    × ((count : ℕ) → eqb (restartOf log used count second .answer .number) 0 ≡ false → Unchanged (restartOf log used count second) log second)
+    → ((tag page : ℕ) → let c = appendOf log used tag page second in eqb (c .answer .number) 0 ≡ false → Unchanged c log second)
+    × ((count : ℕ) → let c = restartOf log used count second in eqb (c .answer .number) 0 ≡ false → Unchanged c log second)
 
 -- "the first buffer stays as it was", when an append compacts and at every restart
 abbrev pub FirstBufferStays : Type 0
@@ -47,7 +47,8 @@ cutAt log used tag page k = putOf log (wholeOf used) (take k (bytesOf tag page))
 abbrev pub CutAtAnyByte : Type 0
 CutAtAnyByte =
     (log : List ℕ) (used tag page : ℕ) (second : List ℕ) (k : ℕ) → inPlace (appendOf log used tag page second) ≡ true → k ≤ 5
-    → readLogOf (cutAt log used tag page k) (wholeOf used + k) ≡ cond (ltb k 5) (readLogOf log used) (appendOf log used tag page second .answer)
+    → readLogOf (cutAt log used tag page k) (wholeOf used + k)
+    ≡ cond (ltb k 5) (readLogOf log used) (appendOf log used tag page second .answer)
 
 -- the next append, of any record, returns what it would without the cut. If it is not refused, it leaves the same bytes too
 abbrev pub NextTakesItsPlace : Type 0
@@ -55,7 +56,8 @@ NextTakesItsPlace =
     (log : List ℕ) (used tag page : ℕ) (second : List ℕ) (k : ℕ) → inPlace (appendOf log used tag page second) ≡ true → k < 5
     → (tag' page' : ℕ) (second' : List ℕ)
     → let next = appendOf (cutAt log used tag page k) (wholeOf used + k) tag' page' second' in
-    (next .answer ≡ appendOf log used tag' page' second' .answer) × (eqb (next .answer .number) 0 ≡ true → next .log ≡ appendOf log used tag' page' second' .log)
+    let whole = appendOf log used tag' page' second' in
+    (next .answer ≡ whole .answer) × (eqb (next .answer .number) 0 ≡ true → next .log ≡ whole .log)
 
 -- ---- a second buffer is never too short if it has room for one record and the open pages, and for an append one record more
 abbrev pub LogRoomIsEnough : Type 0
@@ -63,11 +65,12 @@ LogRoomIsEnough =
     (log : List ℕ) (used : ℕ) (second : List ℕ)
     → ((tag page : ℕ) → 10 + 5 * (readLogOf log used .sent - readLogOf log used .finished) ≤ length second
     → eqb (appendOf log used tag page second .answer .number) logSecondShort ≡ false)
-    × ((count : ℕ) → 5 + 5 * (readLogOf log used .sent - count) ≤ length second → eqb (restartOf log used count second .answer .number) logSecondShort ≡ false)
+    × ((count : ℕ) → 5 + 5 * (readLogOf log used .sent - count) ≤ length second
+    → eqb (restartOf log used count second .answer .number) logSecondShort ≡ false)
 
 -- ---- "one finished record (page 0 if none is done), then the open pages": the compacted log says what the log said before
 abbrev pub CompactionSaysTheSame : Type 0
-CompactionSaysTheSame = (finished sent : ℕ) → finished ≤ sent → logReadingOf (compactedOf (state finished sent)) ≡ Says (state finished sent)
+CompactionSaysTheSame = (finished sent : ℕ) → finished ≤ sent → let s = state finished sent in logReadingOf (compactedOf s) ≡ Says s
 
 -- ---- after a call that is not refused, the log says what the call returns
 abbrev pub SaysSo : LogCall → ℕ → Type 0

@@ -30,9 +30,9 @@ pub record Kept (w : World) : Type 0 where
   pub behind : readLogOf (w .host .log) (w .host .used) .finished ≤ length (w .embosser .finished)
   pub ahead : length (w .embosser .finished ++ w .embosser .tray) ≤ readLogOf (w .host .log) (w .host .used) .sent
   -- a restart with the true count is accepted, or refused by 12 if the second buffer has no room for one record and the open pages
-  pub accepted : (second : List ℕ)
-      → restartOf (w .host .log) (w .host .used) (length (w .embosser .finished)) second .answer .number
-      ≡ cond (leb (5 + 5 * (readLogOf (w .host .log) (w .host .used) .sent - length (w .embosser .finished))) (length second)) 0 logSecondShort
+  pub accepted : (second : List ℕ) → let count = length (w .embosser .finished) in
+      restartOf (w .host .log) (w .host .used) count second .answer .number
+      ≡ cond (leb (5 + 5 * (readLogOf (w .host .log) (w .host .used) .sent - count)) (length second)) 0 logSecondShort
 
 abbrev pub KeptBy : HostConduct → Type 0
 KeptBy conduct = (buffer : List ℕ) (steps : List Step) → Kept (run conduct (begun buffer) steps)

@@ -1,7 +1,7 @@
 -- Request 6, a run: a host with its log, and an embosser. What the calls write and return are crates/joblog's definitions.
 --
--- What the request's promise needs beside the log. Each point is a choice of this model, to compare with the request. `HostConduct` has what
--- the host may record and send, what it sends again and what the embosser drops. The steps have the other points:
+-- What the request's promise needs beside the log. Each point is a choice, to compare with the request. `HostConduct` has what the host may
+-- record and send, what it sends again and what the embosser drops. The steps have the other points:
 --   the link    pages reach the embosser in the order in which they go out. Pages are lost only from the end, and then no page gets
 --               through until a restart (the step `crash`, also if only the link or the embosser failed).
 --   embosser    it finishes its pages in the order in which they reached it, also while the host is down. No crash undoes a finished page.
@@ -55,7 +55,9 @@ world host embosser = record { host = host; embosser = embosser }
 
 -- a job begins: any buffer, and an empty log in it
 abbrev pub begun : List ℕ → World
-begun buffer = world (record { log = buffer; used = 0; up = true; out = 0; writing = idle; heard = [] }) (record { tray = []; finished = []; coming = [] })
+begun buffer =
+    world (record { log = buffer; used = 0; up = true; out = 0; writing = idle; heard = [] })
+    (record { tray = []; finished = []; coming = [] })
 
 pub data Step : Type 0 where
   -- the host calls append with a record, its tag and page, and lends a second buffer
@@ -166,8 +168,7 @@ unfoldable pub arriving : World → (List ℕ → ℕ → List ℕ) → List ℕ
 arriving w heard [] = w
 arriving w heard (page ∷ rest) = world (hasHeard (w .host) (heard (w .host .heard) page)) (awaits (w .embosser) rest)
 
--- ---- a crash and a restart
--- what `used` may be after a crash in an append, if k of the record's bytes are lasting
+-- ---- a crash and a restart: what `used` may be after a crash in an append, if k of the record's bytes are lasting
 abbrev pub mayBeUsed : ℕ → ℕ → ℕ → Bool
 mayBeUsed used k u = leb (wholeOf used) u && (leb u used || leb u (wholeOf used + k))
 

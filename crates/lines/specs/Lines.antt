@@ -43,8 +43,7 @@ timeText date time =
 
 -- ---- "one line a row: date, then nine times in the header's order"
 abbrev pub nineOf : PrayerTimes → List ℤ
-nineOf t =
-    t .fajr ∷ t .sunrise ∷ t .dhuhr ∷ t .asr ∷ t .maghrib ∷ t .isha ∷ t .«middle_of_the_night» ∷ t .qiyam ∷ t .«fajr_tomorrow» ∷ []
+nineOf t = t .fajr ∷ t .sunrise ∷ t .dhuhr ∷ t .asr ∷ t .maghrib ∷ t .isha ∷ t .«middle_of_the_night» ∷ t .qiyam ∷ t .«fajr_tomorrow» ∷ []
 
 -- request 12: "Imsak is the printed Fajr less those minutes". If 64 bits do not hold that instant, it is the earliest one that they hold.
 -- No order's imsak is so early (crates/order_laws/specs/Imsak.antt).

@@ -18,8 +18,7 @@ mostLatitude = 90
 abbrev pub mostLongitude : ℕ
 mostLongitude = 180
 
--- ---- reading
--- the hundredths of the four parts
+-- ---- reading: the hundredths of the four parts
 abbrev pub sizeOf : MapForm → ℕ
 sizeOf f = ((f .degrees * 60 + f .minutes) * 60 + f .seconds) * 100 + f .hundredths
 

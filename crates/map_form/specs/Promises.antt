@@ -10,8 +10,7 @@ use Rattle.map_form.specs.Hundredths.{sizeOf, signedHundredthsOf, degree
 use Rattle.map_form.specs.Owed.{signFor, Nearest, Owed}
 use Rattle.map_form.specs.Written.{writtenOf}
 
--- ---- the writer
--- the answer that specs/Written computes is owed
+-- ---- the writer: the answer that specs/Written computes is owed
 abbrev pub WrittenIsOwed : Type 0
 WrittenIsOwed = (tag most : ℕ) (x : Float) → Owed tag most x (writtenOf tag most x)
 
@@ -23,10 +22,11 @@ OneIsNearest = (a d b c : ℕ) → Nearest a d b → Nearest a d c → b ≡ c
 abbrev pub OneIsOwed : Type 0
 OneIsOwed = (tag most : ℕ) (x : Float) (v w : Written) → Owed tag most x v → Owed tag most x w → v ≡ w
 
--- ---- there and back
--- the five parts as the writer writes them: the sign of a zero is 0
+-- ---- there and back: the five parts as the writer writes them, the sign of a zero 0
 abbrev pub asWritten : MapForm → MapForm
-asWritten f = record { sign = signFor (sizeOf f) (f .sign); degrees = f .degrees; minutes = f .minutes; seconds = f .seconds; hundredths = f .hundredths }
+asWritten f =
+    let sign = signFor (sizeOf f) (f .sign) in
+    record { sign = sign; degrees = f .degrees; minutes = f .minutes; seconds = f .seconds; hundredths = f .hundredths }
 
 -- "writing back a read coordinate gives its bytes, where zero is written with sign 0": for every coordinate that is accepted as a latitude
 -- (most is 90) or a longitude (180)

@@ -135,5 +135,8 @@ all [] = true
 all (t ∷ ts) = t && all ts
 
 pub all-hold : T (all marked)
-unfolding marked all timeOf nanosecondsOf aheadOf lastOf followingCurrentOf hoursMinutesOf untilOf prayerOf truncOf settingHourOf hourOf hourAdjustmentOf minuteOf hasTimeOf carriedOf carriedHourOf isNormalOf floorOf roundOf toUnsigned dec round ofBits eq le lt add sub mul div neg ofInt toSigned dateJulianDayOf julianDayOf fromMarchOf yearProductOf monthProductOf correctionOf toI32Of daysSinceSolsticeOf southernOffsetOf southernCountOf daysByRule daysInYearOf leapOf
+unfolding marked all timeOf nanosecondsOf aheadOf lastOf followingCurrentOf hoursMinutesOf untilOf prayerOf truncOf settingHourOf hourOf
+    hourAdjustmentOf minuteOf hasTimeOf carriedOf carriedHourOf isNormalOf floorOf roundOf toUnsigned dec round ofBits eq le lt add sub mul
+    div neg ofInt toSigned dateJulianDayOf julianDayOf fromMarchOf yearProductOf monthProductOf correctionOf toI32Of daysSinceSolsticeOf
+    southernOffsetOf southernCountOf daysByRule daysInYearOf leapOf
 all-hold = tt

@@ -64,10 +64,12 @@ abbrev pub setShafaq : Configuration → Shafaq → Configuration
 setShafaq c x = let p = c .parameters in configurationOf (chosenOf p (p .method) (p .madhab) (p .«high_latitude_rule») (p .rounding) x)
 
 abbrev pub setMaghribAngle : Configuration → Float → Configuration
-setMaghribAngle c x = let p = c .parameters in configurationOf (numberedOf p x (p .«isha_angle») (p .«isha_interval») (p .«method_adjustments»))
+setMaghribAngle c x =
+    let p = c .parameters in configurationOf (numberedOf p x (p .«isha_angle») (p .«isha_interval») (p .«method_adjustments»))
 
 abbrev pub setMethodAdjustments : Configuration → TimeAdjustment → Configuration
-setMethodAdjustments c x = let p = c .parameters in configurationOf (numberedOf p (p .«maghrib_angle») (p .«isha_angle») (p .«isha_interval») x)
+setMethodAdjustments c x =
+    let p = c .parameters in configurationOf (numberedOf p (p .«maghrib_angle») (p .«isha_angle») (p .«isha_interval») x)
 
 -- "isha_interval" sets the Isha angle to 0: an interval takes its place
 unfoldable pub setIshaInterval : Configuration → ℤ → Configuration

@@ -90,7 +90,9 @@ methodNumberOf Turkey = 11
 methodNumberOf Other = 12
 
 abbrev pub methods : List Method
-methods = MuslimWorldLeague ∷ Egyptian ∷ Karachi ∷ UmmAlQura ∷ Dubai ∷ MoonsightingCommittee ∷ NorthAmerica ∷ Kuwait ∷ Qatar ∷ Singapore ∷ Tehran ∷ Turkey ∷ Other ∷ []
+methods =
+    MuslimWorldLeague ∷ Egyptian ∷ Karachi ∷ UmmAlQura ∷ Dubai ∷ MoonsightingCommittee ∷ NorthAmerica ∷ Kuwait ∷ Qatar ∷ Singapore ∷
+    Tehran ∷ Turkey ∷ Other ∷ []
 
 unfoldable pub methodOf : ℕ → Method
 methodOf n = getD methods n Other

@@ -11,7 +11,7 @@ use Rattle.models.specs.declared.shafaq.Shafaq.the-variants.{General, Ahmer, Ab
 use Rattle.ops.specs.declared.{season.AdjustmentDaytime.AdjustmentDaytime, season.TwilightAdjustmentValues.TwilightAdjustmentValues}
 use Rattle.ops.specs.declared.season.AdjustmentDaytime.the-variants.{Morning, Evening}
 use Rattle.ops.specs.Season.{southernOffsetOf, daysSinceSolsticeOf, moreMinutes, fewerMinutes, eveningValuesOf}
-use Rattle.ops.specs.Season.{twilightAdjustmentValuesOf, onTheWayOf, twilightAdjustmentsOf}
+use Rattle.ops.specs.Season.{twilightAdjustmentValuesOf, interpolateLinearlyOf, twilightAdjustmentsOf}
 
 pub whole-value : (n : ℕ) → n ≤ big → HasValue (dec n 0) false n 1
 unfolding dec
@@ -99,14 +99,14 @@ days-most day year latitude h =
 -- ---- the minutes on a day
 -- from a value of at most f to one of at most t in `days` days, no more than q minutes a day, for at most l of them
 way-within : (from to lapsed : Float) (days f t q l : ℕ) → 0 < days → days ≤ 91 → q ≤ 12 → t ≤ 255 → t + f ≤ q * days → f + q * l ≤ 1301
-    → Within from f 1 → Within to t 1 → Within lapsed l 1 → Within (onTheWayOf from to (dec days 0) lapsed) 1301 1
+    → Within from f 1 → Within to t 1 → Within lapsed l 1 → Within (interpolateLinearlyOf from to (dec days 0) lapsed) 1301 1
 way-within from to lapsed days f t q l z p i j e g hf ht hl =
     let difference = sub-within to from t f ht hf (omega arith) in
     let daily = div-within (to -ᶠ from) (dec days 0) false (t + f) days 1 1 q 0 z (lit< tt) (lit< tt) difference
     (whole-value days (omega arith)) (omega arith) (lit≤ tt) (omega arith) in
     let change = mul-within ((to -ᶠ from) /ᶠ dec days 0) lapsed q l 1 1 (q * l) 0 (lit< tt) (lit< tt) daily hl (omega arith) (lit≤ tt)
     (omega arith) in
-    widen (onTheWayOf from to (dec days 0) lapsed) (f + q * l) 1301 1 g
+    widen (interpolateLinearlyOf from to (dec days 0) lapsed) (f + q * l) 1301 1 g
     (add-within from ((to -ᶠ from) /ᶠ dec days 0 *ᶠ lapsed) f (q * l) hf change (omega arith))
 
 choice : (t : Bool) (x y : Float) (a : ℕ) → (t ≡ true → Within x a 1) → Within y a 1 → Within (cond t x y) a 1
@@ -125,7 +125,7 @@ module _ (v : TwilightAdjustmentValues) (w : Bounded v) (n : ℕ) (h : n ≤ 559
   lapsed-within start l p i j k = apart-within days (dec start 0) n start l days-value (whole-value start (omega arith)) i j (omega arith)
 
   -- the first part of the year, from winter's solstice
-  first-part : insideOf (dec 0 0) (dec 90 0) days ≡ true → Within (onTheWayOf (v .a) (v .b) (dec 91 0) days) 1301 1
+  first-part : insideOf (dec 0 0) (dec 90 0) days ≡ true → Within (interpolateLinearlyOf (v .a) (v .b) (dec 91 0) days) 1301 1
   unfolding days
   first-part e =
       let t = test-within 0 90 n (lit≤ tt) (lit≤ tt) (omega arith) e in
@@ -134,8 +134,8 @@ module _ (v : TwilightAdjustmentValues) (w : Bounded v) (n : ℕ) (h : n ≤ 559
 
   -- the four of 46 days
   part : (from to : Float) (f t q start : ℕ) → start ≤ 275 → q ≤ 12 → t ≤ 255 → t + f ≤ q * 46 → f + q * 45 ≤ 1301 → Within from f 1
-      → Within to t 1
-      → insideOf (dec start 0) (dec (start + 45) 0) days ≡ true → Within (onTheWayOf from to (dec 46 0) (days -ᶠ dec start 0)) 1301 1
+      → Within to t 1 → insideOf (dec start 0) (dec (start + 45) 0) days ≡ true
+      → Within (interpolateLinearlyOf from to (dec 46 0) (days -ᶠ dec start 0)) 1301 1
   unfolding days
   part from to f t q start p i j k g hf ht e =
       let u = test-within start (start + 45) n (omega arith) (omega arith) (omega arith) e in
@@ -143,7 +143,7 @@ module _ (v : TwilightAdjustmentValues) (w : Bounded v) (n : ℕ) (h : n ≤ 559
       (lapsed-within start 45 p (u .1) (omega (arith, u .0)) (lit≤ tt))
 
   -- the last, which is the longest in the south
-  last-part : Within (onTheWayOf (v .b) (v .a) (dec 91 0) (days -ᶠ dec 275 0)) 1301 1
+  last-part : Within (interpolateLinearlyOf (v .b) (v .a) (dec 91 0) (days -ᶠ dec 275 0)) 1301 1
   last-part =
       way-within (v .b) (v .a) (days -ᶠ dec 275 0) 91 165 165 4 284 (lit< tt) (lit≤ tt) (lit≤ tt) (lit≤ tt) (lit≤ tt) (lit≤ tt) (w .second)
       (w .first)

@@ -25,8 +25,8 @@ use Rattle.ops.specs.declared.season.TwilightAdjustmentValues.{TwilightA
 unfoldable pub southernOffsetOf : ℕ → ℕ
 southernOffsetOf year = cond (leapOf year) 173 172
 
--- `days_since_solstice`, "latitude 0 northern: day 354 of a common year gives 364, day 355 gives 0. South it isn't reduced". "The u32 that wraps in the
--- southern count: wrapping subtract."
+-- `days_since_solstice`, "latitude 0 northern: day 354 of a common year gives 364, day 355 gives 0. South it isn't reduced". "The u32 that
+-- wraps in the southern count: wrapping subtract."
 unfoldable pub daysSinceSolsticeOf : ℕ → ℕ → Float → ℕ
 unfolding dec
 daysSinceSolsticeOf day year latitude =
@@ -34,7 +34,7 @@ daysSinceSolsticeOf day year latitude =
     let lapsed = (day + 10) % 2 ^ 32 in
     cond (le (dec 0 0) latitude) (cond (leb days lapsed) (lapsed - days) lapsed) ((day + days - southernOffsetOf year) % 2 ^ 32)
 
--- Request 3: "The southern count is then the day of the year less 172 (173 in a leap year), plus the days in the year only when that is negative."
+-- "The southern count is then the day of the year less 172 (173 in a leap year), plus the days in the year only when that is negative."
 unfoldable pub southernCountOf : ℕ → ℕ → ℕ
 southernCountOf day year =
     cond (leb (southernOffsetOf year) day) (day - southernOffsetOf year) (day + daysInYearOf year - southernOffsetOf year)
@@ -67,28 +67,30 @@ eveningValuesOf x Ahmer = valuesOf (moreMinutes 62 x 17400) (fewerMinutes 62 x 7
 eveningValuesOf x Abyad = valuesOf (moreMinutes 75 x 25600) (moreMinutes 75 x 7160) (moreMinutes 75 x 36840) (moreMinutes 75 x 81840)
 
 unfoldable pub twilightAdjustmentValuesOf : AdjustmentDaytime → Float → Shafaq → TwilightAdjustmentValues
-twilightAdjustmentValuesOf Morning x shafaq = valuesOf (moreMinutes 75 x 28650) (moreMinutes 75 x 19440) (moreMinutes 75 x 32740) (moreMinutes 75 x 48100)
+twilightAdjustmentValuesOf Morning x shafaq =
+    valuesOf (moreMinutes 75 x 28650) (moreMinutes 75 x 19440) (moreMinutes 75 x 32740) (moreMinutes 75 x 48100)
 twilightAdjustmentValuesOf Evening x shafaq = eveningValuesOf x shafaq
 
--- so many of the days on the way from one value to the next
-abbrev pub onTheWayOf : Float → Float → Float → Float → Float
-onTheWayOf from to days lapsed = from +ᶠ (to -ᶠ from) /ᶠ days *ᶠ lapsed
+-- the value after `lapsed` of `days` days, on a straight line from one value to the next
+abbrev pub interpolateLinearlyOf : Float → Float → Float → Float → Float
+interpolateLinearlyOf from to days lapsed = from +ᶠ (to -ᶠ from) /ᶠ days *ᶠ lapsed
 
 -- twilight_adjustments: the minutes on a day, by the six parts of the year
 unfoldable pub twilightAdjustmentsOf : TwilightAdjustmentValues → Float → Float
 unfolding dec
 twilightAdjustmentsOf v days =
-    cond (insideOf (dec 0 0) (dec 90 0) days) (onTheWayOf (v .a) (v .b) (dec 91 0) days)
-    (cond (insideOf (dec 91 0) (dec 136 0) days) (onTheWayOf (v .b) (v .c) (dec 46 0) (days -ᶠ dec 91 0))
-    (cond (insideOf (dec 137 0) (dec 182 0) days) (onTheWayOf (v .c) (v .d) (dec 46 0) (days -ᶠ dec 137 0))
-    (cond (insideOf (dec 183 0) (dec 228 0) days) (onTheWayOf (v .d) (v .c) (dec 46 0) (days -ᶠ dec 183 0))
-    (cond (insideOf (dec 229 0) (dec 274 0) days) (onTheWayOf (v .c) (v .b) (dec 46 0) (days -ᶠ dec 229 0))
-    (onTheWayOf (v .b) (v .a) (dec 91 0) (days -ᶠ dec 275 0))))))
+    cond (insideOf (dec 0 0) (dec 90 0) days) (interpolateLinearlyOf (v .a) (v .b) (dec 91 0) days)
+    (cond (insideOf (dec 91 0) (dec 136 0) days) (interpolateLinearlyOf (v .b) (v .c) (dec 46 0) (days -ᶠ dec 91 0))
+    (cond (insideOf (dec 137 0) (dec 182 0) days) (interpolateLinearlyOf (v .c) (v .d) (dec 46 0) (days -ᶠ dec 137 0))
+    (cond (insideOf (dec 183 0) (dec 228 0) days) (interpolateLinearlyOf (v .d) (v .c) (dec 46 0) (days -ᶠ dec 183 0))
+    (cond (insideOf (dec 229 0) (dec 274 0) days) (interpolateLinearlyOf (v .c) (v .b) (dec 46 0) (days -ᶠ dec 229 0))
+    (interpolateLinearlyOf (v .b) (v .a) (dec 91 0) (days -ᶠ dec 275 0))))))
 
 -- the minutes on a day of a year, of which the Morning's are the same for every shafaq
 abbrev pub seasonMinutesOf : AdjustmentDaytime → Season → ℕ → ℕ → Shafaq → Float
 seasonMinutesOf daytime season day year shafaq =
-    twilightAdjustmentsOf (twilightAdjustmentValuesOf daytime (season .latitude) shafaq) (ofInt binary64 (pos (seasonDaysOf season day year)))
+    let days = ofInt binary64 (pos (seasonDaysOf season day year)) in
+    twilightAdjustmentsOf (twilightAdjustmentValuesOf daytime (season .latitude) shafaq) days
 
 -- `(adjustment * -60.0).round() as i64` seconds from sunrise
 unfoldable pub morningSecondsOf : Season → ℕ → ℕ → ℤ
@@ -108,4 +110,5 @@ seasonAdjustedMorningTwilightOf latitude day year sunrise = satOf (sunrise +ℤ 
 
 -- "Only the evening season bound is itself rounded (Nearest)."
 abbrev pub seasonAdjustedEveningTwilightOf : Float → ℕ → ℕ → ℤ → Shafaq → ℤ
-seasonAdjustedEveningTwilightOf latitude day year sunset shafaq = satOf (roundedOf Nearest (satOf (sunset +ℤ eveningSecondsOf (sourceSeason latitude) day year shafaq)))
+seasonAdjustedEveningTwilightOf latitude day year sunset shafaq =
+    satOf (roundedOf Nearest (satOf (sunset +ℤ eveningSecondsOf (sourceSeason latitude) day year shafaq)))

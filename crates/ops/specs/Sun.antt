@@ -63,8 +63,7 @@ apparentSolarLongitudeOf t longitude =
 -- page 147
 unfoldable pub meanObliquityOfTheEclipticOf : Float → Angle
 unfolding dec
-meanObliquityOfTheEclipticOf t =
-    angleOf (dec 23439291 6 -ᶠ dec 13004167 9 *ᶠ t -ᶠ dec 1639 10 *ᶠ square t +ᶠ dec 5036 10 *ᶠ cube t)
+meanObliquityOfTheEclipticOf t = angleOf (dec 23439291 6 -ᶠ dec 13004167 9 *ᶠ t -ᶠ dec 1639 10 *ᶠ square t +ᶠ dec 5036 10 *ᶠ cube t)
 
 -- page 165
 unfoldable pub apparentObliquityOfTheEclipticOf : Float → Angle → Angle
@@ -76,8 +75,7 @@ unfoldable pub meanSiderealTimeOf : Float → Angle
 unfolding dec
 meanSiderealTimeOf t =
     let day = t *ᶠ dec 36525 0 +ᶠ dec 2451545 0 in
-    unwoundOf
-    (angleOf
+    unwoundOf (angleOf
     (dec 28046061837 8 +ᶠ dec 36098564736629 11 *ᶠ (day -ᶠ dec 2451545 0) +ᶠ dec 387933 9 *ᶠ square t -ᶠ cube t /ᶠ dec 38710000 0))
 
 -- page 144, in degrees: by the mean longitudes of the sun and the moon and that of the ascending node

@@ -2,8 +2,8 @@
 ghost use mathlib.Core.Path.{_≡_};
 ghost use Rattle.float64.specs.Ranges.{insideOf};
 ghost use Rattle.ops.specs.Season.{southernOffsetOf, daysSinceSolsticeOf, southernCountOf, seasonDaysOf, sourceSeason};
-ghost use Rattle.ops.specs.Season.{eveningValuesOf, twilightAdjustmentValuesOf, onTheWayOf, twilightAdjustmentsOf, seasonMinutesOf};
-ghost use Rattle.ops.specs.Season.{morningSecondsOf, eveningSecondsOf, seasonAdjustedMorningTwilightOf};
+ghost use Rattle.ops.specs.Season.{eveningValuesOf, twilightAdjustmentValuesOf, interpolateLinearlyOf, twilightAdjustmentsOf};
+ghost use Rattle.ops.specs.Season.{seasonMinutesOf, morningSecondsOf, eveningSecondsOf, seasonAdjustedMorningTwilightOf};
 ghost use Rattle.ops.specs.Season.{seasonAdjustedEveningTwilightOf};
 use calendar::years::days_in_year;
 use calendar::years::is_leap_year;
@@ -132,9 +132,9 @@ fn twilight_adjustment_values(
     }
 }
 
-// So many of the days on the way from one value to the next.
-fn on_the_way(from: f64, to: f64, days: f64, lapsed: f64) -> f64
-    ensures { λ r. ⌜ r ≡ onTheWayOf from to days lapsed ⌝ }
+// The value after `lapsed` of `days` days, on a straight line from one value to the next.
+fn interpolate_linearly(from: f64, to: f64, days: f64, lapsed: f64) -> f64
+    ensures { λ r. ⌜ r ≡ interpolateLinearlyOf from to days lapsed ⌝ }
 {
     from + (to - from) / days * lapsed
 }
@@ -151,17 +151,17 @@ fn twilight_adjustments(values: TwilightAdjustmentValues, dyy: f64) -> f64
     ensures { λ r. ⌜ r ≡ twilightAdjustmentsOf values dyy ⌝ }
 {
     if within(0.0, 90.0, dyy) {
-        on_the_way(values.a, values.b, 91.0, dyy)
+        interpolate_linearly(values.a, values.b, 91.0, dyy)
     } else if within(91.0, 136.0, dyy) {
-        on_the_way(values.b, values.c, 46.0, dyy - 91.0)
+        interpolate_linearly(values.b, values.c, 46.0, dyy - 91.0)
     } else if within(137.0, 182.0, dyy) {
-        on_the_way(values.c, values.d, 46.0, dyy - 137.0)
+        interpolate_linearly(values.c, values.d, 46.0, dyy - 137.0)
     } else if within(183.0, 228.0, dyy) {
-        on_the_way(values.d, values.c, 46.0, dyy - 183.0)
+        interpolate_linearly(values.d, values.c, 46.0, dyy - 183.0)
     } else if within(229.0, 274.0, dyy) {
-        on_the_way(values.c, values.b, 46.0, dyy - 229.0)
+        interpolate_linearly(values.c, values.b, 46.0, dyy - 229.0)
     } else {
-        on_the_way(values.b, values.a, 91.0, dyy - 275.0)
+        interpolate_linearly(values.b, values.a, 91.0, dyy - 275.0)
     }
 }
 

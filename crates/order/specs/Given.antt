@@ -24,8 +24,7 @@ use Rattle.models.specs.Minutes.{sixMinutesOf, noMinutes}
 use Rattle.models.specs.Numbers.{methodOf, madhabOf, ruleOf, roundingOf, shafaqOf, midnightOf, southernOf}
 use Rattle.models.specs.Presets.{presetOf}
 
--- ---- what the bytes of a value give
--- "year (2 bytes), month, day"
+-- ---- what the bytes of a value give: "year (2 bytes), month, day"
 unfoldable pub dateIn : List ℕ → Date
 dateIn v = dateOf (unsignedOf v 0) (byteOf v 2) (byteOf v 3)
 

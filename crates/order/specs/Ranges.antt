@@ -109,8 +109,7 @@ ranges v date ramadan =
     ∷ (clockTag, clockFits v)
     ∷ (mapLatitudeTag, formFits mostLatitude (formIn v))
     ∷ (mapLongitudeTag, formFits mostLongitude (formIn v))
-    ∷ (ramadanTag, ramadanFits v)
-    ∷ []
+    ∷ (ramadanTag, ramadanFits v) ∷ []
 
 -- what the list has for a tag; `otherwise` if it has nothing
 unfoldable pub lookUp : ℕ → List (ℕ × Bool) → Bool → Bool

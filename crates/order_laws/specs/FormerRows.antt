@@ -54,9 +54,9 @@ formerFaultOf s seen at =
 unfoldable pub formerWalkOf : ℕ → List ℕ → (seen : List Bool) → ℕ → Refusal
 formerWalkOf zero s seen at = noRefusal
 formerWalkOf (suc k) s seen at =
-    cond (ltb at (length s))
-    (cond (eqb (formerFaultOf s seen at) 0) (formerWalkOf k s (set seen (byteOf s at) true) (nextFieldAt s at)) (refusal (formerFaultOf s seen at) at))
-    noRefusal
+    let fault = formerFaultOf s seen at in
+    let rest = formerWalkOf k s (set seen (byteOf s at) true) (nextFieldAt s at) in
+    cond (ltb at (length s)) (cond (eqb fault 0) rest (refusal fault at)) noRefusal
 
 unfoldable pub formerCheckOf : List ℕ → Refusal
 formerCheckOf s = cond (ltb longestOrder (length s)) (refusal fieldCut 0) (formerWalkOf (length s) s (replicate (length tags) false) 0)
@@ -66,7 +66,8 @@ unfoldable pub formerRowsFit : Date → List ℕ → Bool
 formerRowsFit date v = between 1 250 (byteOf v 0) && leb (rowDateOf date (byteOf v 0 - 1) .year) lastYear
 
 unfoldable pub formerInRange : Values → ℕ → Bool
-formerInRange v tag = cond (v .has tag) (cond (eqb tag rowsTag) (formerRowsFit (dateIn (v .value dateTag)) (v .value rowsTag)) (fitsOf v tag)) true
+formerInRange v tag =
+    cond (v .has tag) (cond (eqb tag rowsTag) (formerRowsFit (dateIn (v .value dateTag)) (v .value rowsTag)) (fitsOf v tag)) true
 
 -- ---- the record
 unfoldable pub formerOrderOf : Values → Order
@@ -110,7 +111,8 @@ newAt s at = between midnightTag lastTag (byteOf s at) || (eqb (byteOf s at) row
 
 pub record AsBefore (s : List ℕ) : Type 0 where
   -- "every order accepted before gives the same values and prints the same sheet"
-  pub accepted : (o : Order) → formerReadingOf s ≡ reading.Read o → (readingOf s ≡ reading.Read o) × (sheetText s ≡ formerText (valueOf s townTag) o)
+  pub accepted : (o : Order) → formerReadingOf s ≡ reading.Read o
+      → (readingOf s ≡ reading.Read o) × (sheetText s ≡ formerText (valueOf s townTag) o)
   -- a refused order is refused by the same number and place, but for a field that was unknown and no longer is
   pub refused : (r : Refusal) → formerReadingOf s ≡ reading.Refused r
       → (readingOf s ≡ reading.Refused r) ⊎ ((r .number ≡ fieldUnknown) × (newAt s (r .place) ≡ true))

@@ -53,7 +53,8 @@ pub record LaterOrder (a b : List ℕ) : Type 0 where
   pub town : townOf a ≡ townOf b
   pub alike : withOwnMinutes first (second .town) (second .setting .parameters .adjustments) ≡ second
   -- "the six prayers are tag 11's"; Qiyam and tomorrow's Fajr have no minutes, so their sums are equal
-  pub more : (prayer : Prayer) → leZ (timeAdjustmentsOf (first .setting .parameters) prayer) (timeAdjustmentsOf (second .setting .parameters) prayer) ≡ true
+  pub more : (prayer : Prayer)
+      → leZ (timeAdjustmentsOf (first .setting .parameters) prayer) (timeAdjustmentsOf (second .setting .parameters) prayer) ≡ true
 
 -- the two imsaks, as the sheets have them
 pub record ImsakMoved (first second : Order) (t u : PrayerTimes) : Type 0 where
@@ -66,8 +67,7 @@ pub record MovedRow (a b : List ℕ) (orders : LaterOrder a b) (row : ℕ) : Typ
   -- working the row: refused alike, none earlier, six times and tomorrow's Fajr later by exactly the difference (schedule_laws, Later)
   pub day : Moved (orders .first .setting .parameters) (orders .second .setting .parameters) (workDayOf a row) (workDayOf b row)
   -- request 12: "Raising Fajr's minutes moves imsak by as much": imsak is no earlier, and later by exactly Fajr's difference
-  pub imsak : (t u : PrayerTimes) → workDayOf a row ≡ Times t → workDayOf b row ≡ Times u
-      → ImsakMoved (orders .first) (orders .second) t u
+  pub imsak : (t u : PrayerTimes) → workDayOf a row ≡ Times t → workDayOf b row ≡ Times u → ImsakMoved (orders .first) (orders .second) t u
   -- what naming the prayer returns, at t for the first and at u for the second
   pub «in_force» : (t u : Instant) → instantFits t ≡ true → instantFits u ≡ true → NotAfter u t → (x y : Current)
       → prayerAtOf a row t ≡ force.Prayer x → prayerAtOf b row u ≡ force.Prayer y → currentNumberOf y ≤ currentNumberOf x

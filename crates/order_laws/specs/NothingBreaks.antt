@@ -58,7 +58,8 @@ threeDays o date =
 -- the first of some days that lacks a time: the number of what it lacks, and how many days are before it
 pub data FirstLacking (number : ℕ) : ℕ → List SolarDay → Type 0 where
   here : {rest : List SolarDay} → FirstLacking number 0 (sun.Lacks number ∷ rest)
-  later : {place : ℕ} {whole : SolarTime} {rest : List SolarDay} → FirstLacking number place rest → FirstLacking number (suc place) (sun.Whole whole ∷ rest)
+  later : {place : ℕ} {day : SolarTime} {rest : List SolarDay}
+      → FirstLacking number place rest → FirstLacking number (suc place) (sun.Whole day ∷ rest)
 
 pub record RefusedDay (o : Order) (date : Date) (r : Refusal) : Type 0 where
   pub number : listed dayNumbers (r .number) ≡ true
@@ -109,16 +110,15 @@ pub record NothingBreaks (s : List ℕ) : Type 0 where
   pub sheet : (o : Order) → readingOf s ≡ reading.Read o → sheetText s ≡ headText (o .ramadan) (townOf s) ++ eachOf (rowLine o) (o .rows)
   pub only : (o : Order) (row : ℕ) → readingOf s ≡ reading.Read o → row < o .rows → OthersStay o row
   -- the calls that write: a row, a row of cells, a page of cells or a piece of it
-  pub row : (row : ℕ) (buffer : List ℕ)
-      → Lent (rowCallOf s row buffer .answer .number) (writtenFor (λ o. rowLine o row) (readingOf s)) buffer (rowCallOf s row buffer .buffer)
-  pub cells : (row : ℕ) (buffer : List ℕ)
-      → Lent (cellsCallOf s row buffer .answer .refusal .number) (writtenFor (λ o. cellsOf (oneRow row o)) (readingOf s)) buffer (cellsCallOf s row buffer .buffer)
-  pub page : (page first : ℕ) (scratch : List ℕ)
-      → Lent (pageCallOf s page first scratch .answer .refusal .number) (writtenFor (λ o. cellsOf (pieceIn page first scratch o)) (readingOf s)) scratch
-      (pageCallOf s page first scratch .buffer)
+  pub row : (row : ℕ) (buffer : List ℕ) → let call = rowCallOf s row buffer in
+      Lent (call .answer .number) (writtenFor (λ o. rowLine o row) (readingOf s)) buffer (call .buffer)
+  pub cells : (row : ℕ) (buffer : List ℕ) → let call = cellsCallOf s row buffer in
+      Lent (call .answer .refusal .number) (writtenFor (λ o. cellsOf (oneRow row o)) (readingOf s)) buffer (call .buffer)
+  pub page : (page first : ℕ) (scratch : List ℕ) → let call = pageCallOf s page first scratch in
+      Lent (call .answer .refusal .number) (writtenFor (λ o. cellsOf (pieceIn page first scratch o)) (readingOf s)) scratch (call .buffer)
   -- and the sentence of a refusal
-  pub sentence : (number place : ℕ) (buffer : List ℕ)
-      → Lent (sentenceCallOf number place buffer .answer .number) (sentenceOf number place) buffer (sentenceCallOf number place buffer .buffer)
+  pub sentence : (number place : ℕ) (buffer : List ℕ) → let call = sentenceCallOf number place buffer in
+      Lent (call .answer .number) (sentenceOf number place) buffer (call .buffer)
 
 abbrev pub NothingBreaksARun : Type 0
 NothingBreaksARun = (s : List ℕ) → NothingBreaks s

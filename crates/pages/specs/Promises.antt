@@ -11,7 +11,8 @@ use Rattle.pages.specs.Pages.{rowsOf, cellsOf, pageRows, pageOf, pageCou
 pub record PagesHoldTheRows (o : Order) : Type 0 where
   -- "A page is 25 rows, the last one those left"
   pub full : (page : ℕ) → 1 ≤ page → page < pageCount o → length (pageOf o page) ≡ pageRows
-  pub last : 1 ≤ o .rows → (1 ≤ length (pageOf o (pageCount o))) × (length (pageOf o (pageCount o)) ≡ o .rows - pageRows * (pageCount o - 1))
+  pub last : 1 ≤ o .rows
+      → (1 ≤ length (pageOf o (pageCount o))) × (length (pageOf o (pageCount o)) ≡ o .rows - pageRows * (pageCount o - 1))
   -- "pages count from 1"
   pub none : (page : ℕ) → (1 ≤ page → pageCount o < page) → pageOf o page ≡ []
   pub held : allCells o ≡ cellsOf (rowsOf o)

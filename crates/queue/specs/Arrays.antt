@@ -12,8 +12,7 @@ use Rattle.queue.specs.declared.Joined.{Joined}
 use Rattle.queue.specs.declared.Turned.{Turned}
 use Rattle.queue.specs.Jobs.{Job, job, Event, admitted, refused, sent, nothing, QueueStep, mostJobs, joinOf, turnOf}
 
--- ---- from the arrays to the list
--- at most the first 16 jobs count; no calls leave more
+-- ---- from the arrays to the list: at most the first 16 jobs count; no calls leave more
 abbrev pub counted : ℕ → ℕ
 counted jobs = cond (ltb jobs mostJobs) jobs mostJobs
 
@@ -29,8 +28,7 @@ jobsIn q from to = paired (slice from to (q .ids)) (slice from to (q .pages))
 abbrev pub jobsOf : Queue → List Job
 jobsOf q = jobsIn q 0 (counted (q .jobs))
 
--- ---- from the list to the arrays
--- zeros fill the rest of an array
+-- ---- from the list to the arrays: zeros fill the rest of an array
 abbrev pub padded : List ℕ → List ℕ
 padded l = l ++ replicate (mostJobs - length l) 0
 

@@ -22,7 +22,7 @@ heldAfterAll q (c ∷ h) = heldAfterAll (heldAfterOne q c) h
 
 -- a job is admitted if the number is 0; a page is sent if the id is not 0
 abbrev pub told : Queue → Call → Event
-told q (join id pages) = cond (eqb (joinedOf q id pages .refusal .number) 0) (admitted (job id pages)) (refused (joinedOf q id pages .refusal))
+told q (join id pages) = let r = joinedOf q id pages .refusal in cond (eqb (r .number) 0) (admitted (job id pages)) (refused r)
 told q turn = cond (eqb (turnedOf q .id) 0) nothing (sent (job (turnedOf q .id) (turnedOf q .pages)))
 
 abbrev pub toldAll : Queue → List Call → List Event

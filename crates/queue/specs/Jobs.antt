@@ -34,8 +34,7 @@ mostJobs = 16
 abbrev pub atBack : List Job → Job → List Job
 atBack q j = q ++ (j ∷ [])
 
--- ---- join
--- "an id still waiting"
+-- ---- join: "an id still waiting"
 abbrev pub waits : ℕ → List Job → Bool
 waits id [] = false
 waits id (j ∷ q) = eqb (j .id) id || waits id q
@@ -60,7 +59,8 @@ refuses q number id = record { event = refused (refusal number id); queue = q }
 -- "refused by 16 when 16 jobs wait, and by 17 for id 0, an id still waiting or pages outside 1 to 16, with 17 tried first"
 unfoldable pub joinOf : List Job → ℕ → ℕ → QueueStep
 joinOf q id pages =
-    cond (proper id pages && not (waits id q)) (cond (ltb (length q) mostJobs) (admits q id pages) (refuses q queueFull id)) (refuses q jobUnfit id)
+    cond (proper id pages && not (waits id q)) (cond (ltb (length q) mostJobs) (admits q id pages) (refuses q queueFull id))
+    (refuses q jobUnfit id)
 
 -- ---- turn
 -- A job after one of its pages is sent. No calls leave a job with 0 pages; if a host passes one, its turn sends a page all the same.

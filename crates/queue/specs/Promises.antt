@@ -34,13 +34,13 @@ JobsLeaveWhenSent =
     → (pagesSent (onlyId id) (events (s .queue) c) + pagesLeft (onlyId id) (after (s .queue) c) ≡ pages)
     × (waits id (after (s .queue) c) ≡ ltb (pagesSent (onlyId id) (events (s .queue) c)) pages)
 
--- ---- of a host's own calls
--- the arrays have the jobs at their front, then zeros, and the results tell what was done
+-- ---- of a host's own calls: the arrays have the jobs at their front, then zeros, and the results tell what was done
 abbrev pub HostsHoldTheQueue : Type 0
 HostsHoldTheQueue = (h : List Call) → (heldAfterAll empty h ≡ queueOf (after [] h)) × (toldAll empty h ≡ events [] h)
 
 abbrev pub HostsKeepPages : Type 0
-HostsKeepPages = (h : List Call) → pagesSent everyId (toldAll empty h) + total (heldAfterAll empty h .pages) ≡ pagesAdmitted everyId (toldAll empty h)
+HostsKeepPages =
+    (h : List Call) → pagesSent everyId (toldAll empty h) + total (heldAfterAll empty h .pages) ≡ pagesAdmitted everyId (toldAll empty h)
 
 -- the job at place k of the arrays, after any calls with k turns among them
 abbrev pub HostsTurnFairly : Type 0

@@ -37,7 +37,8 @@ finalOf p prayer t = roundedOf (p .rounding) (adjustedOf t (timeAdjustmentsOf p 
 
 -- "Tomorrow's Fajr is worked as the next date's, from that date's sun and the night after it; it is adjusted, not rounded."
 unfoldable pub fajrTomorrowOf : Parameters → Season → Date → SolarTime → SolarTime → SolarHour → ℤ
-fajrTomorrowOf p season date tomorrow after hour = nextDayOf (adjustedOf (unadjustedFajrOf p season (tomorrowOf date) tomorrow after hour) (timeAdjustmentsOf p Fajr))
+fajrTomorrowOf p season date tomorrow after hour =
+    nextDayOf (adjustedOf (unadjustedFajrOf p season (tomorrowOf date) tomorrow after hour) (timeAdjustmentsOf p Fajr))
 
 -- "Middle of night and qiyam start at rounded maghrib, go 1/2 and 2.0/3.0 (f64) of the seconds to tomorrow's Fajr, cut toward zero, and
 -- round to Nearest."
@@ -101,4 +102,6 @@ workedAt date s = workedBy (numbersOf date (s .coordinates) (s .parameters)) dat
 
 -- document 01: "A refusal gives number and place, no times"
 abbrev pub noTimes : PrayerTimes
-noTimes = record { fajr = pos 0; sunrise = pos 0; dhuhr = pos 0; asr = pos 0; maghrib = pos 0; isha = pos 0; «middle_of_the_night» = pos 0; qiyam = pos 0; «fajr_tomorrow» = pos 0 }
+noTimes =
+    let o = pos 0 in
+    record { fajr = o; sunrise = o; dhuhr = o; asr = o; maghrib = o; isha = o; «middle_of_the_night» = o; qiyam = o; «fajr_tomorrow» = o }

@@ -70,11 +70,11 @@ ownOf method latitude seventh hour bound = cond (bySeventhOf method latitude) se
 unfoldable pub shortOf : ℤ → ℤ
 shortOf z = cond (ltZ most32 z) most32 (cond (ltZ z least32) least32 z)
 
--- ---- Fajr
--- from sunrise to its bound
+-- ---- Fajr, from sunrise to its bound
 unfoldable pub beforeSunriseOf : Parameters → Season → Date → ℤ → ℤ
 beforeSunriseOf p season date night =
-    shortOf (cond (bySeasonOf (p .method)) (morningSecondsOf season (ordinalOf date) (date .year)) (portionBeforeOf (nightPortionsOf p .fajr) night))
+    let seconds = morningSecondsOf season (ordinalOf date) (date .year) in
+    shortOf (cond (bySeasonOf (p .method)) seconds (portionBeforeOf (nightPortionsOf p .fajr) night))
 
 abbrev pub fajrBoundOf : Parameters → Season → Date → SolarTime → ℤ → ℤ
 fajrBoundOf p season date today night = today .sunrise +ℤ beforeSunriseOf p season date night
@@ -86,11 +86,11 @@ unadjustedFajrOf p season date today next hour =
     let bound = fajrBoundOf p season date today night in
     laterOf (ownOf (p .method) (season .latitude) (today .sunrise -ℤ seventhOf night) hour bound) bound
 
--- ---- Isha
--- from sunset to its bound
+-- ---- Isha, from sunset to its bound
 unfoldable pub afterSunsetOf : Parameters → Season → Date → ℤ → ℤ
 afterSunsetOf p season date night =
-    shortOf (cond (bySeasonOf (p .method)) (eveningSecondsOf season (ordinalOf date) (date .year) (p .shafaq)) (portionAfterOf (nightPortionsOf p .isha) night))
+    let seconds = eveningSecondsOf season (ordinalOf date) (date .year) (p .shafaq) in
+    shortOf (cond (bySeasonOf (p .method)) seconds (portionAfterOf (nightPortionsOf p .isha) night))
 
 -- "Only the evening season bound is itself rounded (Nearest)."
 unfoldable pub ishaBoundOf : Parameters → Season → Date → SolarTime → ℤ → ℤ

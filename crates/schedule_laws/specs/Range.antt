@@ -35,5 +35,4 @@ TimesLieByTheirDate =
 
 -- the days that the sheet prints, rounded down, are from -4 to 4
 abbrev pub DaysAreOneDigit : Type 0
-DaysAreOneDigit =
-    (date : Date) (time : ℤ) → OfDate date time → Near 4 (floorQuot (time -ℤ startOf date) 86400)
+DaysAreOneDigit = (date : Date) (time : ℤ) → OfDate date time → Near 4 (floorQuot (time -ℤ startOf date) 86400)

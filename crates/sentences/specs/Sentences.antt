@@ -44,8 +44,7 @@ sentenceCallOf n p buffer =
     let sentence = sentenceOf n p in
     cond (known n)
     (cond (leb (length sentence) (length buffer)) (record { answer = written (length sentence); buffer = frontOf sentence buffer })
-    (refusing bufferShort buffer))
-    (refusing outOfRange buffer)
+    (refusing bufferShort buffer)) (refusing outOfRange buffer)
 
 -- ---- reading
 abbrev pub meant : ℕ → ℕ → Meaning

@@ -28,8 +28,7 @@ texts =
     ∷ ascii "Refusal 15: a coordinate is given in both forms:"
     ∷ ascii "Refusal 16: the print queue is full, job id"
     ∷ ascii "Refusal 17: the job's id or its pages are not allowed, job id"
-    ∷ ascii "Refusal 18: the sheet does not begin on the 1st of Ramadan:"
-    ∷ []
+    ∷ ascii "Refusal 18: the sheet does not begin on the 1st of Ramadan:" ∷ []
 
 -- the first line is for every tag that has no name; a tag number that is skipped has the same line
 unfoldable pub names : List (List ℕ)
@@ -54,8 +53,7 @@ names =
     ∷ ascii " southern, tag"
     ∷ ascii " map latitude, tag"
     ∷ ascii " map longitude, tag"
-    ∷ ascii " ramadan, tag"
-    ∷ []
+    ∷ ascii " ramadan, tag" ∷ []
 
 unfoldable pub textOf : ℕ → List ℕ
 textOf n = getD texts n []

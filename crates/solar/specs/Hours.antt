@@ -25,7 +25,8 @@ pub record Sun : Type 0 where
 
 -- SolarTime::new: `yesterday`, `today` and `tomorrow`, each at 0h
 abbrev pub sunOn : Coordinates → Date → Sun
-sunOn place date = record { place = place; previous = positionOf (yesterdayOf date); today = positionOf date; next = positionOf (tomorrowOf date) }
+sunOn place date =
+    record { place = place; previous = positionOf (yesterdayOf date); today = positionOf date; next = positionOf (tomorrowOf date) }
 
 -- `solar_altitude`: the sun's center is 50 minutes of arc below the horizon at sunrise and sunset
 unfoldable pub solarAltitude : Angle

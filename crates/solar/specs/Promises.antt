@@ -23,7 +23,8 @@ abbrev pub minuteLeft : Float → ℕ
 minuteLeft value = restOf (minuteOf value (floorOf value))
 
 pub record CarriesPastMidnight : Type 0 where
-  -- "an hour number that rounds to hour 24 is 00:00 of the date after the one taken. This also holds when the floored hour was below 0 or reached 47."
+  -- "an hour number that rounds to hour 24 is 00:00 of the date after the one taken. This also holds when the floored hour was below 0 or
+  -- reached 47."
   pub carried : (value : Float) → hasTimeOf value ≡ true → isNormalOf value ≡ true → hourSum value ≡ 24
       → carriedHourOf value ≡ nextMidnightOf (dateTaken value)
   -- no number rounds to a later hour; a number that rounds to an earlier hour has that hour and minute of the date taken

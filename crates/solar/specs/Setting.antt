@@ -17,7 +17,8 @@ unfoldable pub hourAdjustmentOf : Float → Placed
 unfolding dec
 hourAdjustmentOf hours =
     cond (lt hours (dec 0 0)) (record { ahead = 0; hour = toUnsigned 32 (hours +ᶠ dec 24 0) })
-    (cond (lt hours (dec 24 0)) (record { ahead = 1; hour = toUnsigned 32 hours }) (record { ahead = 2; hour = toUnsigned 32 (hours -ᶠ dec 24 0) }))
+    (cond (lt hours (dec 24 0)) (record { ahead = 1; hour = toUnsigned 32 hours })
+    (record { ahead = 2; hour = toUnsigned 32 (hours -ᶠ dec 24 0) }))
 
 -- "Hours, minutes, seconds are floored; seconds round the minute"
 unfoldable pub minuteOf : Float → Float → ℕ

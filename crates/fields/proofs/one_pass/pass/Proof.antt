@@ -33,9 +33,8 @@ fault-holds f =
     let tag = f .before .before .before .before .byte in
     let l = in-loop f .before .loop in
     fault-is (now (start f .args .order)) (l .at) (seenIn (l .starts)) (tag .result) (f .before .before .before .unsigned .result)
-    (f .fault .result)
-    (f .before .stands .result) (tag .ensures .0) (size-here f) (f .before .stands .ensures ∙ seen-collected (l .starts) (tag .result))
-    (f .fault .ensures)
+    (f .fault .result) (f .before .collected .result) (tag .ensures .0) (size-here f)
+    (f .before .collected .ensures ∙ seen-collected (l .starts) (tag .result)) (f .fault .ensures)
 
 good : (f : this.Tie.After-fault Inv-loop μ-loop) → f .fault .result ≡ 0 → Good (now (start f .args .order)) (in-loop f .before .loop .at)
 good f none =

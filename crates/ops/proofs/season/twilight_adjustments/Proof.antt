@@ -10,16 +10,16 @@ twilight-adjustments-spec =
     this.Tie.close (this.Tie.spec (λ c κs. tt) (λ c κs. tt) (λ c κs. tt) (λ c κs. tt) (λ c κs. tt) (λ c κs. tt) (λ c κs. tt)
     (λ c κs. tt) (λ c κs. tt) (λ c κs. tt) (λ c κs. tt)
     (λ c. let first = c .before in
-    simp (c .on-the-way .ensures, sym (first .before .within .ensures) ∙ first .if1 .taken))
+    simp (c .interpolate-linearly .ensures, sym (first .before .within .ensures) ∙ first .if1 .taken))
     (λ c. let second = c .before in let first = second .before .before in
     simp (
-      c .on-the-way2 .ensures,
+      c .interpolate-linearly2 .ensures,
       sym (first .before .within .ensures) ∙ first .if1 .left,
       sym (second .before .within2 .ensures) ∙ second .if2 .taken,
     ))
     (λ c. let third = c .before in let second = third .before .before in let first = second .before .before in
     simp (
-      c .on-the-way3 .ensures,
+      c .interpolate-linearly3 .ensures,
       sym (first .before .within .ensures) ∙ first .if1 .left,
       sym (second .before .within2 .ensures) ∙ second .if2 .left,
       sym (third .before .within3 .ensures) ∙ third .if3 .taken,
@@ -27,7 +27,7 @@ twilight-adjustments-spec =
     (λ c. let fourth = c .before in let third = fourth .before .before in let second = third .before .before in
     let first = second .before .before in
     simp (
-      c .on-the-way4 .ensures,
+      c .interpolate-linearly4 .ensures,
       sym (first .before .within .ensures) ∙ first .if1 .left,
       sym (second .before .within2 .ensures) ∙ second .if2 .left,
       sym (third .before .within3 .ensures) ∙ third .if3 .left,
@@ -36,7 +36,7 @@ twilight-adjustments-spec =
     (λ c. let fifth = c .before in let fourth = fifth .before .before in let third = fourth .before .before in
     let second = third .before .before in let first = second .before .before in
     simp (
-      c .on-the-way5 .ensures,
+      c .interpolate-linearly5 .ensures,
       sym (first .before .within .ensures) ∙ first .if1 .left,
       sym (second .before .within2 .ensures) ∙ second .if2 .left,
       sym (third .before .within3 .ensures) ∙ third .if3 .left,
@@ -46,7 +46,7 @@ twilight-adjustments-spec =
     (λ c. let fifth = c .before in let fourth = fifth .before .before in let third = fourth .before .before in
     let second = third .before .before in let first = second .before .before in
     simp (
-      c .on-the-way6 .ensures,
+      c .interpolate-linearly6 .ensures,
       sym (first .before .within .ensures) ∙ first .if1 .left,
       sym (second .before .within2 .ensures) ∙ second .if2 .left,
       sym (third .before .within3 .ensures) ∙ third .if3 .left,
