@@ -26,13 +26,13 @@
    17      KATCHIDUL_JOB_UNFIT          the job's id or its pages are not allowed, job id      the job's id
    18      KATCHIDUL_NOT_FIRST_OF_RAMADAN  the sheet does not begin on the 1st of Ramadan:     2, the tag of the date
 
-   More about some of them. 5: a row or a page that the order lacks, and a row that the page lacks, have place 3, the tag of the rows; a number
-   that has no sentence, and bytes that are no sentence, have place 0. 9: a row buffer has fewer than 119 bytes, or 131 for a Ramadan sheet; a
-   cell buffer or a page's scratch has fewer than 39; a sentence's buffer is shorter than the sentence; a job log's buffer is shorter than the
-   bytes that it is said to hold. 10: the seconds are beyond 10^12 either way, or the nanoseconds are over 999,999,999. 11: only
-   katchidul_next_at and katchidul_remaining_at refuse by it; katchidul_prayer_at returns KATCHIDUL_PRAYER_NONE. 13 and 14: see the job log
-   below. 16: 16 jobs wait. 17: the id is 0, over 65,535 or that of a job that waits, or the pages are not 1 to 16. katchidul_write_sentence
-   puts a refusal in words.
+   More about some of them. 5: a row or a page that the order lacks, and a row that the page lacks, have place 3, the tag of the rows; a
+   number that has no sentence, and bytes that are no sentence, have place 0. 9: a row buffer has fewer than 119 bytes, or 131 for a Ramadan
+   sheet; a cell buffer or a page's scratch has fewer than 39; a sentence's buffer is shorter than the sentence; a job log's buffer is
+   shorter than the bytes that it is said to hold. 10: the seconds are beyond 10^12 either way, or the nanoseconds are over 999,999,999. 11:
+   only katchidul_next_at and katchidul_remaining_at refuse by it; katchidul_prayer_at returns KATCHIDUL_PRAYER_NONE. 13 and 14: see the job
+   log below. 16: 16 jobs wait. 17: the id is 0, over 65,535 or that of a job that waits, or the pages are not 1 to 16.
+   katchidul_write_sentence puts a refusal in words.
 
    The order of the checks. First a lent buffer (9) and an instant (10). Then the order (1 to 4, 15, then 5, then 18), a Ramadan sheet's
    row buffer of 119 to 130 bytes (9), the row or the page (5, place 3), the day (6 to 8), and 11. A job log is checked for 9, then 13, 14
@@ -58,9 +58,9 @@ extern "C" {
 #endif
 
 /* The version of this header; katchidul_version() returns that of the library. The major number is raised if a program that was built with
-   the header before could go wrong: a call, a struct, a limit or the meaning of a number has changed or is gone. It is the number in the name
-   of the shared object. The minor number is raised if something is added, and goes back to 0 with a new major number. So a host works with a
-   library that has the same major number, and the same minor number or a higher one. */
+   the header before could go wrong: a call, a struct, a limit or the meaning of a number has changed or is gone. It is the number in the
+   name of the shared object. The minor number is raised if something is added, and goes back to 0 with a new major number. So a host works
+   with a library that has the same major number, and the same minor number or a higher one. */
 #define KATCHIDUL_VERSION_MAJOR 1
 #define KATCHIDUL_VERSION_MINOR 0
 #define KATCHIDUL_VERSION (KATCHIDUL_VERSION_MAJOR * 65536u + KATCHIDUL_VERSION_MINOR)
@@ -154,7 +154,8 @@ enum katchidul_minutes_index {
   KATCHIDUL_MINUTES_ISHA = 5
 };
 
-/* The values of `method`, `madhab`, `high_latitude_rule`, `rounding`, `shafaq`, `southern` and `carry`. The bytes of an order have the same. */
+/* The values of `method`, `madhab`, `high_latitude_rule`, `rounding`, `shafaq`, `southern` and `carry`. The bytes of an order have the
+   same. */
 enum katchidul_method {
   KATCHIDUL_METHOD_MUSLIM_WORLD_LEAGUE = 0,
   KATCHIDUL_METHOD_EGYPTIAN = 1,
@@ -220,9 +221,9 @@ typedef struct katchidul_prayer {
   uint32_t number, place, prayer;
 } katchidul_prayer;
 
-/* Whole hours, and the rest in minutes, rounded: 3,599 seconds are 0 hours and 60 minutes. In the last hour half a minute is rounded up (30
-   seconds are a minute). Before that it is rounded up or down as the double (t / 60 / 60 - hours) * 60 has it (3,630 seconds are 1 hour and 0
-   minutes). */
+/* Whole hours, and the rest in minutes, rounded: 3,599 seconds are 0 hours and 60 minutes. Below an hour, half a minute is rounded up: 30
+   seconds are a minute. From an hour on, the double (t / 60 / 60 - hours) * 60 is rounded, whose last bit may bring half a minute down:
+   3,630 seconds are 1 hour and 0 minutes. */
 typedef struct katchidul_remaining {
   uint32_t number, place, hours, minutes;
 } katchidul_remaining;
@@ -254,16 +255,17 @@ uint32_t katchidul_version(void);
 /* Reads an order. Refusals 1 to 5, 15 and 18. */
 katchidul_order katchidul_read_order(const uint8_t *order, size_t length);
 
-/* Writes an order at the front of a buffer of `size` bytes: every field of `order`, as katchidul_read_order returns it, and the town's name,
-   `town_length` bytes at `town`. The fields `number`, `place`, `town_at` and `town_length` of the struct are not looked at. `length` is how many
-   bytes the order has, KATCHIDUL_WRITTEN_MAX at most. Latitude and longitude are written as two floats, also if they were read as on the map.
+/* Writes an order at the front of a buffer of `size` bytes: every field of `order`, as katchidul_read_order returns it, and the town's
+   name, `town_length` bytes at `town`. The fields `number`, `place`, `town_at` and `town_length` of the struct are not looked at. `length`
+   is how many bytes the order has, KATCHIDUL_WRITTEN_MAX at most. Latitude and longitude are written as two floats, also if they were read
+   as on the map.
 
    The call refuses what katchidul_read_order would refuse of these bytes, before it looks at the buffer. Then it returns 9, place 0, if the
    buffer is too short. What no order can say is refused by 5, with its tag as place: a number that no choice has, 70,000 rows, -0.0 degrees
-   (which would be read as 0.0), or minutes of imsak on a sheet that is not Ramadan's. A refused call changes no byte of the buffer. Otherwise
-   the bytes behind the order stay. Reading what was written returns the same struct, but for `town_at`, which is 3. And writing what was
-   read gives an order that every call answers as it answers the one that was read. The buffer and the town must not overlap. Refusals 2, 5, 9
-   and 18. */
+   (which would be read as 0.0), or minutes of imsak on a sheet that is not Ramadan's. A refused call changes no byte of the buffer.
+   Otherwise the bytes behind the order stay. Reading what was written returns the same struct, but for `town_at`, which is 3. And writing
+   what was read gives an order that every call answers as it answers the one that was read. The buffer and the town must not overlap.
+   Refusals 2, 5, 9 and 18. */
 katchidul_written katchidul_write_order(katchidul_order order, const uint8_t *town, size_t town_length, uint8_t *buffer, size_t size);
 
 /* Returns the nine times of a row's date. Rows count from 0. Refusals 1 to 8, 15 and 18. */
@@ -280,15 +282,15 @@ katchidul_prayer katchidul_prayer_at(const uint8_t *order, size_t length, uint32
    Refusals 1 to 8, 10, 11, 15 and 18. */
 katchidul_prayer katchidul_next_at(const uint8_t *order, size_t length, uint32_t row, int64_t seconds, uint32_t nanoseconds);
 
-/* Returns the time until the next prayer. It is 0 and 0 if the next prayer's time has passed, and so after FajrTomorrow. Refusals 1 to 8, 10,
-   11, 15 and 18. */
+/* Returns the time until the next prayer. It is 0 and 0 if the next prayer's time has passed, and so after FajrTomorrow. Refusals 1 to 8,
+   10, 11, 15 and 18. */
 katchidul_remaining katchidul_remaining_at(const uint8_t *order, size_t length, uint32_t row, int64_t seconds, uint32_t nanoseconds);
 
 /* Writes a row's line at the front of a buffer of `size` bytes, at least KATCHIDUL_ROW_BYTES (9 below that): the row's date, then the nine
-   times, each as signed days from that date, T and the UTC time (`+0T05:12:00`), with a blank before each and a newline at the end. A row has
-   119 bytes with its newline, and no zero byte after it. A Ramadan sheet's row has imsak between the date and Fajr, written as a time, and so
-   131 bytes; a shorter buffer is then 9. The buffer's bytes behind the row stay. A refused call changes no byte of the buffer. The buffer and
-   the order must not overlap. Refusals 1 to 9, 15 and 18. */
+   times, each as signed days from that date, T and the UTC time (`+0T05:12:00`), with a blank before each and a newline at the end. A row
+   has 119 bytes with its newline, and no zero byte after it. A Ramadan sheet's row has imsak between the date and Fajr, written as a time,
+   and so 131 bytes; a shorter buffer is then 9. The buffer's bytes behind the row stay. A refused call changes no byte of the buffer. The
+   buffer and the order must not overlap. Refusals 1 to 9, 15 and 18. */
 katchidul_reply katchidul_write_row(const uint8_t *order, size_t length, uint32_t row, uint8_t *buffer, size_t size);
 
 /* What a call that writes cells returns: how many rows it wrote, and how many dots they punch. */
@@ -299,10 +301,10 @@ typedef struct katchidul_cells {
 /* Writes a row in braille at the front of a buffer of `size` bytes, at least KATCHIDUL_ROW_CELLS (9 below that), a byte a cell as the
    embosser takes it: bit 0 is dot 1, bit 5 is dot 6, and the other two bits are 0. A row is 39 cells: the number sign (dots 3456) and two
    digits of the day; then the six times from Fajr to Isha, each a blank, the number sign, and hour and minute as four digits. Digits are
-   the letters a to j of the literary code. The day is that of the row's own date. The times are by the order's clock: its `clock` minutes are
-   added to the UTC instant, and the seconds are dropped. If the day is refused (6 to 8), its row is the day and 36 blanks, and the call is
-   not refused. `rows` is 1. The buffer's bytes behind the cells stay. A refused call changes no byte of the buffer. The buffer and the order
-   must not overlap. Refusals 1 to 5, 9, 15 and 18. */
+   the letters a to j of the literary code. The day is that of the row's own date. The times are by the order's clock: its `clock` minutes
+   are added to the UTC instant, and the seconds are dropped. If the day is refused (6 to 8), its row is the day and 36 blanks, and the call
+   is not refused. `rows` is 1. The buffer's bytes behind the cells stay. A refused call changes no byte of the buffer. The buffer and the
+   order must not overlap. Refusals 1 to 5, 9, 15 and 18. */
 katchidul_cells katchidul_write_cells(const uint8_t *order, size_t length, uint32_t row, uint8_t *buffer, size_t size);
 
 /* Writes rows of a page in braille, one behind another, at the front of a scratch of `size` bytes, at least KATCHIDUL_ROW_CELLS (9 below
@@ -311,15 +313,15 @@ katchidul_cells katchidul_write_cells(const uint8_t *order, size_t length, uint3
    those that are left. So an order has (rows + 24) / 25 pages. A page that the order lacks (page 0 too) and a row that the page lacks (the
    one behind its last too) are 5, place 3. All else is as with katchidul_write_cells.
 
-   A page may be written at once, with KATCHIDUL_PAGE_CELLS bytes, or in pieces of any length: each call begins at `first` plus the `rows` of
-   the one before, until one returns 5, place 3. The cells and their order, and the sum of the dots, do not depend on the lengths. Pieces cost
-   time: the first row of a call works three suns and each later row one, so a page written row by row costs about 2.6 times as much as at
-   once (docs/SPEED.md). */
+   A page may be written at once, with KATCHIDUL_PAGE_CELLS bytes, or in pieces of any length: each call begins at `first` plus the `rows`
+   of the one before, until one returns 5, place 3. The cells and their order, and the sum of the dots, do not depend on the lengths. Pieces
+   cost time: the first row of a call works three suns and each later row one, so a page written row by row costs about 2.2 times as much as
+   at once (docs/SPEED.md). */
 katchidul_cells katchidul_write_page(const uint8_t *order, size_t length, uint32_t page, uint32_t first, uint8_t *scratch, size_t size);
 
-/* The print queue. Jobs wait for the embosser, each with an id and its pages left. Each turn sends one page of the job at the front, so that
-   a long job does not hold up the rest. The host keeps the queue: it passes the queue by value and goes on with the one that is returned. An
-   empty queue is all zeros: katchidul_queue queue = {0}.
+/* The print queue. Jobs wait for the embosser, each with an id and its pages left. Each turn sends one page of the job at the front, so
+   that a long job does not hold up the rest. The host keeps the queue: it passes the queue by value and goes on with the one that is
+   returned. An empty queue is all zeros: katchidul_queue queue = {0}.
 
    If a host begins with an empty queue, and each call is on the queue that the last one returned, then: a job with k jobs ahead of it has
    its next page sent at turn k + 1 counted from then, whoever joins meanwhile. It leaves when all its pages are sent. Pages sent plus pages
@@ -348,25 +350,25 @@ katchidul_joined katchidul_join(katchidul_queue queue, uint32_t id, uint32_t pag
 
 /* Takes a page from the job at the front. The job then goes to the back if it has pages left, and leaves otherwise. Nothing is refused.
 
-   A queue that no calls return is accepted too. Of more than 16 jobs the first 16 count. A job with 0 pages left sends one and leaves. For a
-   job with id 0, `id` is 0 as if no job waited, and `pages` are its pages left: `queue` always shows the difference. */
+   A queue that no calls return is accepted too. Of more than 16 jobs the first 16 count. A job with 0 pages left sends one and leaves. For
+   a job with id 0, `id` is 0 as if no job waited, and `pages` are its pages left: `queue` always shows the difference. */
 katchidul_turned katchidul_turn(katchidul_queue queue);
 
-/* The job log: which pages of a job are sent and which are done, so that a page goes out only once, also if an acknowledgement is lost or the
-   host crashes. A log is the first `used` bytes of a buffer that the host lends, at first 0 bytes. It has records of five bytes: a tag
-   (KATCHIDUL_RECORD_SENT, ..), the length 0, 2, and the page, high byte first. Pages are sent in rising order from 1. A done names the lowest
-   page that is sent and not done. A record that is cut at the end is not looked at, and the next append begins in its place.
+/* The job log: which pages of a job are sent and which are done, so that a page goes out only once, also if an acknowledgement is lost or
+   the host crashes. A log is the first `used` bytes of a buffer that the host lends, at first 0 bytes. It has records of five bytes: a tag
+   (KATCHIDUL_RECORD_SENT, ..), the length 0, 2, and the page, high byte first. Pages are sent in rising order from 1. A done names the
+   lowest page that is sent and not done. A record that is cut at the end is not looked at, and the next append begins in its place.
 
    A full log (fewer than five bytes behind its last whole record), and every log at a restart, is compacted into the second buffer: one
-   finished record (page 0 if none is done), a sent record for each open page (sent and not done), and the new record. The first buffer stays
-   as it was, and is the log until the call returns. Then `moved` is 1, and the second buffer is the log. Two buffers of KATCHIDUL_LOG_ROOM(n)
-   bytes are never too short while no more than n pages are open.
+   finished record (page 0 if none is done), a sent record for each open page (sent and not done), and the new record. The first buffer
+   stays as it was, and is the log until the call returns. Then `moved` is 1, and the second buffer is the log. Two buffers of
+   KATCHIDUL_LOG_ROOM(n) bytes are never too short while no more than n pages are open.
 
-   What the host makes lasting on its disk: first the log's bytes; then, in one step, which buffer is the log and `used`; last it sends the
-   page. One step is a new file that is flushed, then renamed, then its folder flushed, or a write that lasts whole or not at all. Below, a
-   write or a flush that fails does not return: a host that went on would send a page that its log does not have. `used` cannot be found from
-   the bytes, because old records may be behind the log. A call reads each record of the log once, so a buffer much larger than
-   KATCHIDUL_LOG_ROOM costs time.
+   The host makes the log's bytes lasting on its disk. Then, in one step, it makes lasting which buffer is the log, and `used`. Only then it
+   sends the page. One step is a new file that is flushed and renamed, and its folder flushed; or a write that lasts whole or not at all. In
+   the code below a write or a flush that fails ends the host. If it went on, it would send a page that its log does not have.
+   `used` cannot be found from the bytes, because old records may be behind the log. A call reads each record of the log once, so a buffer
+   much larger than KATCHIDUL_LOG_ROOM costs time.
 
        katchidul_log a = katchidul_append(buffer[at], SIZE, used, KATCHIDUL_RECORD_SENT, page, buffer[!at], SIZE);
        if (a.number != 0) return a.number;                         // no byte has changed, and the page does not go out
@@ -380,9 +382,9 @@ katchidul_turned katchidul_turn(katchidul_queue queue);
    finished + 1 to sent of the answer go out again, in rising order and without a record. If the embosser serves several jobs, each of them
    restarts. A done is appended only of a page that the embosser has finished, as its acknowledgement or that of a later page tells.
 
-   If the host follows these rules, every count is true, and pages are lost only from the end of what was sent, then no finished page is sent
-   again and none is skipped: the embosser finishes 1, 2, 3, .., each once. A crash within a call or within what follows it is one of these
-   failures: until the place is lasting, the log is what it was. */
+   This needs three things: the host follows these rules, every count is true, and pages are lost only from the end of what was sent. Then
+   no finished page is sent again and none is skipped: the embosser finishes 1, 2, 3, .., each once. A crash within a call, or within what
+   follows it, is one of these failures: until the place is lasting, the log is what it was. */
 typedef struct katchidul_log {
   uint32_t number, place;
   uint32_t moved;          /* 1 if the log is now in the second buffer: after every restart, and after an append that compacted */
@@ -391,38 +393,39 @@ typedef struct katchidul_log {
 } katchidul_log;
 
 /* Reads the log that is the first `used` bytes of a buffer of `size` bytes. It changes no byte, and `moved` is 0. Returns 9, place 0, if
-   `used` is over `size`, and 13, with its page as place, for a record out of turn: a sent that does not name the page after the last sent, a
-   done that does not name the lowest page sent and not done, a finished record that is not the first, an unknown tag, another length.
+   `used` is over `size`, and 13, with its page as place, for a record out of turn: a sent that does not name the page after the last sent,
+   a done that does not name the lowest page sent and not done, a finished record that is not the first, an unknown tag, another length.
    Refusals 9 and 13. */
 katchidul_log katchidul_read_log(const uint8_t *log, size_t size, size_t used);
 
-/* Appends a record, KATCHIDUL_RECORD_SENT or KATCHIDUL_RECORD_DONE. In a log that is not full it changes the five bytes behind the last whole
-   record, and no byte of the second buffer. A full log is compacted, see above. The log's own records are checked before the new one.
+/* Appends a record, KATCHIDUL_RECORD_SENT or KATCHIDUL_RECORD_DONE. In a log that is not full it changes the five bytes behind the last
+   whole record, and no byte of the second buffer. A full log is compacted, see above. The log's own records are checked before the new one.
    Returns 13, with the page as place, for a record out of turn, another tag or a page over KATCHIDUL_PAGE_MAX, and 12, with the page as
-   place, if the second buffer is too short. The buffers must not overlap. A refused call changes no byte of either. Refusals 9, 12 and 13. */
+   place, if the second buffer is too short. The buffers must not overlap. A refused call changes no byte of either. Refusals 9, 12 and 13.
+   */
 katchidul_log katchidul_append(uint8_t *log, size_t size, size_t used, uint32_t tag, uint32_t page, uint8_t *second, size_t second_size);
 
 /* Restarts with the number of pages that the embosser has finished: compacts the log, with that count as finished, into the second buffer.
    Returns 14 if the count is below the log's finished pages or above its sent ones, and 12 if the second buffer is too short, each with the
-   count as place. The first buffer stays as it is. A refused call changes no byte of the second buffer either. The buffers must not overlap.
-   Refusals 9 and 12 to 14. */
+   count as place. The first buffer stays as it is. A refused call changes no byte of the second buffer either. The buffers must not
+   overlap. Refusals 9 and 12 to 14. */
 katchidul_log katchidul_restart(const uint8_t *log, size_t size, size_t used, uint32_t count, uint8_t *second, size_t second_size);
 
 /* Writes a refusal's sentence for the desk at the front of a buffer of `size` bytes: `Refusal 4: the order lacks a field: method, tag 6`.
    `number` and `place` are those that a call returned. Every number of the table above has a sentence for every place, and no two are the
    same. A sentence is printable ASCII, KATCHIDUL_SENTENCE_MAX bytes at most, with no newline and no zero byte after it. The buffer's bytes
-   behind it stay. Returns 5, place 0, if the number is not in the table (0 is not), whatever the buffer. Returns 9, place 0, if the buffer is
-   shorter than the sentence. A refused call changes no byte of the buffer. Refusals 5 and 9. */
+   behind it stay. Returns 5, place 0, if the number is not in the table (0 is not), whatever the buffer. Returns 9, place 0, if the buffer
+   is shorter than the sentence. A refused call changes no byte of the buffer. Refusals 5 and 9. */
 katchidul_written katchidul_write_sentence(uint32_t number, uint32_t place, uint8_t *buffer, size_t size);
 
 /* Reads a sentence back: `of_number` and `of_place` are those that it was written for. Returns 5, place 0, if the bytes are no refusal's
    sentence. */
 katchidul_meaning katchidul_read_sentence(const uint8_t *sentence, size_t length);
 
-/* Returns a coordinate as on the map: the hundredth of a second that is nearest to the number's exact value, a half away from zero. Zero has
-   sign 0, also if it is a number below zero that is nearest to it. Returns 5, with place 18 for a latitude and 19 for a longitude, if the
-   number is a NaN or is beyond 90 or 180 degrees either way before it is rounded. The five numbers are those of an order's tag 18 or 19. What
-   was read from such a tag is written back as it was, but a zero always has sign 0. */
+/* Returns a coordinate as on the map: the hundredth of a second that is nearest to the number's exact value. A half is rounded away from
+   zero. Zero has sign 0, also if a number below zero is rounded to it. Returns 5, with place 18 for a latitude and 19 for a longitude, if
+   the number is a NaN or is beyond 90 or 180 degrees either way before it is rounded. The five numbers are those of an order's tag 18 or
+   19. What was read from such a tag is written back as it was, but a zero always has sign 0. */
 katchidul_map katchidul_map_latitude(double degrees);
 katchidul_map katchidul_map_longitude(double degrees);
 

@@ -12,7 +12,7 @@ static const char common[] = "  --width CELLS    cells a line of the paper, 39 t
 
 static const char of_cups[] = "  --user NAME      the user whose jobs they are in CUPS; katchidul if not given\n"
                               "  --format TYPE    the document's MIME type; application/vnd.cups-raw if not given\n"
-                              "  --finish SECONDS that CUPS may take for a page in work when the host begins again; 30 if not given\n";
+                              "  --finish SECONDS how long CUPS may go on with a page when the host begins again; 30 if not given\n";
 
 static void usage(FILE *to, bool cups) {
   fprintf(to, "usage: %s [options] SOCKET STATE %s\n", program, cups ? "QUEUE" : "DEVICE");

@@ -20,8 +20,8 @@ katchidul COMMAND --help says more. katchidul --version prints the version.
 
 Exit status: 0 done; 1 the order is refused, or a time on its pages would be wrong; 2 nothing was done, and a line says why."""
 
-INPUT = """An order is the bytes that make writes. A text is taken in its place, and made on the way. So are options alone, one for each
-field, as --town Leeds; with a text or an order they decide over its fields. - is standard input."""
+INPUT = """ORDER is a file that make wrote, or a text, from which the order is made first. It may be left out if there is an option for each
+field, as --town Leeds. With an order or a text, an option replaces its field. - is standard input."""
 
 MAKE = """katchidul make TEXT [--NAME VALUE ...] [--out ORDER] [--anyway]
 katchidul make --NAME VALUE ... [--out ORDER] [--anyway]
@@ -35,7 +35,7 @@ Makes the order of a text. A text has a line for each field, NAME: VALUE, as in
     method: MWL
     zone: Europe/London
 
-Names are read in capitals or small letters, with or without blanks. An option, as --month 2026-11, decides over the text's line.
+Names are read in capitals or small letters, with or without blanks. An option, as --month 2026-11, replaces the text's line.
 Without --out the order goes to standard output. An order that the programs would refuse is not written; --anyway writes it.
 
 Days     first day: 2026-10-01 and rows: 31; or month: 2026-10; or from: 2026-09-01 and to: 2027-07-31
@@ -107,7 +107,8 @@ rows, each order has its own report, and seven days with the change among them a
 
 RAMADAN = """katchidul ramadan YEAR
 
-Prints the first day of a Ramadan sheet for each shift: of an Islamic year as 1447, or of those that begin in a year as 2026."""
+Prints the first day of a Ramadan sheet for each shift. YEAR is an Islamic year, as 1447, or a year, as 2026: then each
+Ramadan that begins in it is printed."""
 
 
 def field_lines():
