@@ -29,7 +29,7 @@ pub fn put_rows(buffer: &mut [u8], order: Order, row: u32, end: u32) -> u32
     let mut next = row;
     let mut dots = 0;
     loop {
-        let worked = suns.work(setting);
+        let worked = suns.since_midnight(setting);
         let at = ROW_CELLS * (next - row) as usize;
         dots = dots + put_cells(&mut buffer[..], at, suns.date, worked, order.clock);
         next = next + 1;
