@@ -60,8 +60,8 @@ pub struct Courses {
     pub at_third: Equatorial,
 }
 
-// The last year that a u32 holds. Its last date is its own tomorrow.
-const LAST_YEAR: u32 = 4294967295;
+// The greatest year that a u32 holds. Its last date is its own tomorrow.
+const GREATEST_YEAR: u32 = 4294967295;
 
 // The years in which each Julian Day is known to be the one before it and 1.0: those of an order, and some on either side.
 const ROLLS_FROM: u32 = 1899;
@@ -73,7 +73,7 @@ fn place_before_tomorrow(date: Date, at_date: Equatorial) -> Equatorial
     requires { ⌜ «at_date» ≡ placeOf (positionOf date) ⌝ }
     ensures { λ r. ⌜ r ≡ placeOf (positionOf (yesterdayOf (tomorrowOf date))) ⌝ }
 {
-    if date.year < LAST_YEAR {
+    if date.year < GREATEST_YEAR {
         return at_date;
     }
     place(date.tomorrow().yesterday())
