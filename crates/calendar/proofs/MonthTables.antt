@@ -51,12 +51,12 @@ unfolding daysBeforeOf
 before-past true m h = let k : 12 ≤ m - 1 = omega arith in List·getD-eq-default (monthStartsOf true) 0 k
 before-past false m h = let k : 12 ≤ m - 1 = omega arith in List·getD-eq-default (monthStartsOf false) 0 k
 
-someTest : Bool → ℕ → Bool
-someTest leap k = ltb 0 (lengthOf leap (k + 1))
+leastTest : Bool → ℕ → Bool
+leastTest leap k = leb 28 (lengthOf leap (k + 1))
 
-pub length-some : (leap : Bool) (k : ℕ) → k < 12 → 0 < lengthOf leap (k + 1)
-unfolding someTest lengthOf
-length-some leap k h = ltb→lt 0 _ (tested someTest 12 tt leap k h)
+pub length-least : (leap : Bool) (k : ℕ) → k < 12 → 28 ≤ lengthOf leap (k + 1)
+unfolding leastTest lengthOf
+length-least leap k h = leb→le 28 _ (tested leastTest 12 tt leap k h)
 
 -- a month that has days is one of the twelve, has at most 31 days, and ends within the year
 pub record Month (leap : Bool) (m : ℕ) : Type 0 where

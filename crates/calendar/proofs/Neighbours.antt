@@ -1,9 +1,9 @@
 -- By the calendar's rule the days after and before a date that exists exist too. Their counts are one more and one less. Assumes nothing.
-use Rattle.prelude.proofs.Logic.{_≡_, refl, sym, ap, _∙_, subst, true, ℕ, _+_, _-_, _<_, arith, ltb, ltb-true, ltb-false, cases}
+use Rattle.prelude.proofs.Logic.{_≡_, refl, sym, ap, _∙_, subst, true, ℕ, _+_, _-_, _≤_, _<_, arith, ltb, ltb-true, ltb-false, cases}
 use Rattle.calendar.specs.Gregorian.{dateOf, leapOf, lengthOf, daysInMonthOf, existsOf, dayAfterOf, dayBeforeOf}
 use Rattle.calendar.specs.Days.{daysInYearOf}
 use Rattle.calendar.specs.declared.dates.Date.{Date}
-use Rattle.calendar.proofs.MonthTables.{before-next, before-january, before-december, length-january, length-december, length-some}
+use Rattle.calendar.proofs.MonthTables.{before-next, before-january, before-december, length-january, length-december, length-least}
 use Rattle.calendar.proofs.YearSteps.{year-step}
 use Rattle.calendar.proofs.Existing.{exists-yes, to-exists, month-of-date, ordinal-is, count}
 
@@ -16,7 +16,8 @@ pub record Follows (d e : Date) : Type 0 where
 next-month : (y m : ℕ) → 0 < m → m < 12 → (d : ℕ) → d ≡ daysInMonthOf y m → existsOf (dateOf y m d) ≡ true
     → Follows (dateOf y m d) (dateOf y (m + 1) 1)
 next-month y m p q d e h =
-    let t = to-exists (dateOf y (m + 1) 1) (record { from = omega arith; to = length-some (leapOf y) m q }) in
+    let l = length-least (leapOf y) m q in
+    let t = to-exists (dateOf y (m + 1) 1) (record { from = omega arith; to = omega arith }) in
     record { there = t; number = omega (arith, before-next (leapOf y) m q, ordinal-is (dateOf y m d) h, ordinal-is (dateOf y (m + 1) 1) t) }
 
 pub new-year : (y : ℕ) → existsOf (dateOf y 1 1) ≡ true
@@ -75,8 +76,8 @@ before d h n =
     (λ q. let l = ltb-true 1 (d .month) q in
     let days = daysInMonthOf (d .year) (d .month - 1) in let e = dateOf (d .year) (d .month - 1) days in
     let k : d .month - 2 + 1 ≡ d .month - 1 = omega arith in
-    let s : 0 < days = subst (λ (i : ℕ). 0 < daysInMonthOf (d .year) i) k (length-some (leapOf (d .year)) (d .month - 2) (omega arith)) in
-    let t = to-exists e (record { from = s; to = omega arith }) in let i : d .month - 1 + 1 ≡ d .month = omega arith in
+    let s : 28 ≤ days = subst (λ (i : ℕ). 28 ≤ daysInMonthOf (d .year) i) k (length-least (leapOf (d .year)) (d .month - 2) (omega arith)) in
+    let t = to-exists e (record { from = omega (arith, s); to = omega arith }) in let i : d .month - 1 + 1 ≡ d .month = omega arith in
     let f : dateOf (d .year) (d .month - 1 + 1) 1 ≡ d = rw (i, j) in
     rw (p, q) (record {
       there = t;

@@ -70,10 +70,18 @@ impl Date {
         let year = self.year;
         let month = self.month;
         let day = self.day;
-        let days = month_days(is_leap_year(year), month);
         if day < 1 {
             return self;
         }
+        // Every month has 28 days.
+        if day < 28 {
+            if month >= 1 {
+                if month <= 12 {
+                    return Date::new(year, month, day + 1);
+                }
+            }
+        }
+        let days = month_days(is_leap_year(year), month);
         if day > days {
             return self;
         }

@@ -23,7 +23,7 @@ use Rattle.schedule.specs.declared.in_force.Remaining.the-variants as remaining
 use Rattle.schedule.specs.declared.prayer_times.Worked.{Worked}
 use Rattle.schedule.specs.declared.prayer_times.Worked.the-variants as worked
 use Rattle.schedule.specs.InForce.{inSecond, currentTimeOf, nextOf, timeRemainingOf}
-use Rattle.schedule.specs.Times.{workedAt}
+use Rattle.schedule.specs.Times.{sinceAt, workedAt}
 use Rattle.days.specs.declared.in_force.InForce.{InForce}
 use Rattle.days.specs.declared.in_force.InForce.the-variants as force
 use Rattle.days.specs.declared.in_force.NextPrayer.{NextPrayer}
@@ -34,6 +34,10 @@ use Rattle.days.specs.declared.in_force.TimeUntil.the-variants as until
 -- ---- a day
 abbrev pub workDateOf : Order → Date → Worked
 workDateOf order date = workedAt date (order .setting)
+
+-- in seconds from 0h of the date; once the date's 0h is added they are those of `workDateOf`
+abbrev pub sinceDateOf : Order → Date → Worked
+sinceDateOf order date = sinceAt date (order .setting)
 
 -- "rows count from 0, and a row that the order lacks is 5, place 3"
 abbrev pub lacksRow : Refusal

@@ -1,9 +1,7 @@
 // Working the day of an order's row.
 ghost use mathlib.Core.Path.{_≡_};
-ghost use Prim.Native.Nat.{_^_};
-ghost use Rattle.integers.specs.Parts.{Near};
-ghost use Rattle.schedule.specs.Since.{startedIn, fajrSince};
-ghost use Rattle.days.specs.Calls.{workDateOf, lacksRow, workRowOf, workDayOf};
+ghost use Rattle.schedule.specs.Each.{NearIn};
+ghost use Rattle.days.specs.Calls.{workDateOf, sinceDateOf, lacksRow, workRowOf, workDayOf};
 use calendar::dates::Date;
 use fields::tags;
 use order::reading::Order;
@@ -24,7 +22,7 @@ pub fn work_date(order: Order, date: Date) -> Worked
 
 // The same in seconds from 0h of the date.
 pub fn since_midnight(order: Order, date: Date) -> Worked
-    ensures { λ r. ⌜ (startedIn date r ≡ workDateOf order date) × Near (2 ^ 43) (fajrSince r) ⌝ }
+    ensures { λ r. ⌜ (r ≡ sinceDateOf order date) × NearIn r ⌝ }
 {
     RowSuns::new(date, order.setting).since_midnight(order.setting)
 }

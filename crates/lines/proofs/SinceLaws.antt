@@ -7,8 +7,8 @@ use Rattle.calendar.specs.Days.{dayNumberOf}
 use Rattle.calendar.specs.declared.dates.Date.{Date}
 use Rattle.hijri.specs.declared.ramadan.Ramadan.{Ramadan}
 use Rattle.schedule.proofs.Starts.{start-near}
-use Rattle.schedule.specs.Since.{startedIn, fajrSince}
-use Rattle.schedule.specs.Times.{startOf, startedOf}
+use Rattle.schedule.specs.Each.{NearIn}
+use Rattle.schedule.specs.Times.{startOf, startedOf, startedIn}
 use Rattle.schedule.specs.declared.prayer_times.PrayerTimes.{PrayerTimes}
 use Rattle.schedule.specs.declared.prayer_times.Worked.{Worked}
 use Rattle.schedule.specs.declared.prayer_times.Worked.the-variants.{Times, Refused}
@@ -75,7 +75,7 @@ module _ (date : Date) where
 
 -- ---- a line, whether the day has times or not
 pub line-since : (ramadan : Ramadan) (date : Date) (w : Worked) → ramadan .imsak < 2 ^ 32 → date .year < 2 ^ 32
-    → Near (2 ^ 43) (fajrSince w) → lineText ramadan date (startedIn date w) ≡ lineSince ramadan date w
-unfolding lineText lineSince startedIn fajrSince
-line-since ramadan date (Times t) small year near = row-since date ramadan t small year near
+    → NearIn w → lineText ramadan date (startedIn date w) ≡ lineSince ramadan date w
+unfolding lineText lineSince startedIn NearIn
+line-since ramadan date (Times t) small year near = row-since date ramadan t small year (near .fajr)
 line-since ramadan date (Refused r) small year near = refl

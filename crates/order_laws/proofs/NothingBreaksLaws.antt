@@ -28,7 +28,7 @@ use Rattle.refusals.specs.declared.Refusal.{Refusal}
 use Rattle.reports.specs.Reports.{reportIn}
 use Rattle.sheets.proofs.Answers.{row-short, row-read, row-refused}
 use Rattle.sheets.specs.Rows.{workedCallOf, readCallOf, rowCallOf, headText, linesText, acceptedText, sheetText}
-use Rattle.schedule.proofs.Schedule.{sunsOf, hoursOf, numbersOf, seasonOf, workedFrom, workedOf}
+use Rattle.schedule.proofs.Schedule.{sunsOf, hoursOf, numbersOf, seasonOf, startedIn, sinceFrom, sinceOf}
 use Rattle.schedule.specs.declared.hours.RowHours.{RowHours}
 use Rattle.schedule.specs.declared.hours.RowNumbers.{RowNumbers}
 use Rattle.schedule.specs.declared.prayer_times.Worked.{Worked}
@@ -83,9 +83,10 @@ module _ (h : RowHours) (date : Date) (season : Season) (p : Parameters) (r : Re
   abbrev Listed : SolarDay → Type 0
   Listed day = (k : ℕ) → day ≡ sun.Lacks k → listed dayNumbers k ≡ true
 
-  by-days : (a b c : SolarDay) → Listed a → Listed b → Listed c → workedFrom (sunsOf a b c) h date season p ≡ worked.Refused r
+  by-days : (a b c : SolarDay) → Listed a → Listed b → Listed c
+      → startedIn date (sinceFrom (sunsOf a b c) h date season p) ≡ worked.Refused r
       → (listed dayNumbers (r .number) ≡ true) × (r .place ≤ 2) × FirstLacking (r .number) (r .place) (a ∷ b ∷ c ∷ [])
-  unfolding workedFrom sunsOf
+  unfolding startedIn sinceFrom sunsOf
   by-days (sun.Lacks n) b c x y z e =
       let same : refusal n 0 ≡ r = cc in
       subst (λ (q : Refusal). (listed dayNumbers (q .number) ≡ true) × (q .place ≤ 2)
@@ -104,8 +105,8 @@ module _ (h : RowHours) (date : Date) (season : Season) (p : Parameters) (r : Re
   by-days (sun.Whole t) (sun.Whole u) (sun.Whole v) x y z e = let w : _≡_ {A = ℕ} 0 1 = cc in absurd (omega arith)
 
   by-lacking : {number place : ℕ} {a b c : SolarDay} → FirstLacking number place (a ∷ b ∷ c ∷ [])
-      → workedFrom (sunsOf a b c) h date season p ≡ worked.Refused (refusal number place)
-  unfolding workedFrom sunsOf
+      → startedIn date (sinceFrom (sunsOf a b c) h date season p) ≡ worked.Refused (refusal number place)
+  unfolding startedIn sinceFrom sunsOf
   by-lacking FirstLacking.here = refl
   by-lacking (FirstLacking.later FirstLacking.here) = refl
   by-lacking (FirstLacking.later (FirstLacking.later FirstLacking.here)) = refl
@@ -115,7 +116,7 @@ module _ (o : Order) (date : Date) (r : Refusal) where
   numbers = numbersOf date (o .setting .coordinates) (o .setting .parameters)
 
   refused-day : workDateOf o date ≡ worked.Refused r → RefusedDay o date r
-  unfolding workedOf workedFrom hoursOf
+  unfolding startedIn sinceOf sinceFrom hoursOf
   refused-day e =
       let rule = o .setting .rules .midnight in
       let f = by-days (hoursOf rule numbers) date (seasonOf (o .setting)) (o .setting .parameters) r
@@ -124,7 +125,7 @@ module _ (o : Order) (date : Date) (r : Refusal) where
       record { number = f .0; place = f .1; lacking = f .2 }
 
   lacking-day : FirstLacking (r .number) (r .place) (threeDays o date) → workDateOf o date ≡ worked.Refused r
-  unfolding workedOf workedFrom hoursOf
+  unfolding startedIn sinceOf sinceFrom hoursOf
   lacking-day l = by-lacking (hoursOf (o .setting .rules .midnight) numbers) date (seasonOf (o .setting)) (o .setting .parameters) r l
 
 -- working a row that the order has is working its date

@@ -2,16 +2,17 @@
 use Rattle.prelude.proofs.Logic.{_≡_, refl, sym, ap, _∙_, List, [], _∷_, _++_, append-nil, ℕ, _+_, _-_, _*_, _≤_, _<_, arith, length, w32}
 use Rattle.prelude.proofs.Logic.{SFits}
 use Rattle.braille.proofs.Bits.{dots-bound}
+use Rattle.braille.proofs.Clock.{cells-since}
 use Rattle.braille.proofs.Parts.{row-length}
 use Rattle.braille.specs.Braille.{dotsOf}
 use Rattle.braille.specs.Cells.{rowLength, rowCells}
 use Rattle.calendar.specs.Answers.{rowDateOf}
-use Rattle.days.proofs.RowStates.{stateOf, workedBySuns, state-worked}
+use Rattle.days.proofs.RowStates.{stateOf, state-worked}
 use Rattle.days.specs.Calls.{workRowOf}
 use Rattle.integers.proofs.Ranges.{fits}
 use Rattle.order.specs.Accepted.{Accepted}
 use Rattle.order.specs.declared.reading.Order.{Order}
-use Rattle.schedule.specs.RowSuns.{rowSunsOf}
+use Rattle.schedule.specs.RowSuns.{rowSunsOf, rowSunsSinceOf}
 use Rattle.schedule.specs.declared.rolling.RowSuns.{RowSuns}
 use Rattle.schedule.specs.declared.prayer_times.Worked.{Worked}
 use Rattle.text.specs.Text.{putOf, frontOf}
@@ -23,13 +24,16 @@ use Rattle.pages.proofs.RowsLaws.{dots-append, cells-append, cells-leng
 pub clock-fits : (o : Order) → Accepted o → SFits w32 (o .clock)
 clock-fits o a = let n = a .clock in fits w32 (o .clock) (omega (arith, n .from, n .to)) (omega (arith, n .from, n .to))
 
--- the cells that a row's suns give
+-- the cells that a row's suns give, from times since 0h of its date
 abbrev pub madeRow : Order → RowSuns → List ℕ
-madeRow o suns = rowCells (suns .date) (workedBySuns o suns) (o .clock)
+madeRow o suns = rowCells (suns .date) (rowSunsSinceOf (o .setting) suns) (o .clock)
 
 state-row : (o : Order) → Accepted o → (k : ℕ) → k < o .rows → madeRow o (stateOf o k) ≡ rowOf o k
 unfolding rowSunsOf
-state-row o a k h = ap (λ (w : Worked). rowCells (rowDateOf (o .date) k) w (o .clock)) (state-worked o a k h)
+state-row o a k h =
+    let date = rowDateOf (o .date) k in
+    sym (cells-since date (o .clock) (rowSunsSinceOf (o .setting) (stateOf o k)))
+    ∙ ap (λ (w : Worked). rowCells date w (o .clock)) (state-worked o a k h)
 
 -- the cells from row `row` to before `next`
 abbrev pub cellsBefore : Order → ℕ → ℕ → List ℕ

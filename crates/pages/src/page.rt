@@ -44,7 +44,7 @@ fn rows_that_fit(room: usize, left: u32) -> u32
     }
 }
 
-fn write_read(scratch: &mut [u8], order: Order, page: u32, first: u32) -> Punched
+fn write_read(order: Order, page: u32, first: u32, scratch: &mut [u8]) -> Punched
     requires { ⌜ Accepted order × (rowLength ≤ length (now scratch)) ⌝ }
     ensures { λ r. ⌜ r ≡ putCallOf (pieceIn page first (now (scratch .entry)) order) (now (scratch .entry)) .answer ⌝ }
     ensures { λ _. ⌜ now (scratch .exit) ≡ putCallOf (pieceIn page first (now (scratch .entry)) order) (now (scratch .entry)) .buffer ⌝ }
@@ -55,10 +55,10 @@ fn write_read(scratch: &mut [u8], order: Order, page: u32, first: u32) -> Punche
     }
     let taken = rows_that_fit(scratch.len() / ROW_CELLS, count - first);
     write_rows(
-        &mut scratch[..],
         order,
         PAGE_ROWS * (page - 1) + first,
         taken,
+        &mut scratch[..],
     )
 }
 
@@ -72,7 +72,7 @@ pub fn write_page(order: &[u8], page: u32, first: u32, scratch: &mut [u8]) -> Pu
         return Punched::refused(Refusal::new(BUFFER_SHORT, 0));
     }
     match read(order) {
-        Reading::Read(order) => write_read(&mut scratch[..], order, page, first),
+        Reading::Read(order) => write_read(order, page, first, &mut scratch[..]),
         Reading::Refused(refusal) => Punched::refused(refusal),
     }
 }

@@ -15,13 +15,13 @@ use order::reading::read;
 use refusals::BUFFER_SHORT;
 use refusals::Refusal;
 
-fn write_read(buffer: &mut [u8], order: Order, row: u32) -> Punched
+fn write_read(order: Order, row: u32, buffer: &mut [u8]) -> Punched
     requires { ⌜ Accepted order × (rowLength ≤ length (now buffer)) ⌝ }
     ensures { λ r. ⌜ r ≡ putCallOf (oneRow row order) (now (buffer .entry)) .answer ⌝ }
     ensures { λ _. ⌜ now (buffer .exit) ≡ putCallOf (oneRow row order) (now (buffer .entry)) .buffer ⌝ }
 {
     if row < order.rows {
-        return write_rows(&mut buffer[..], order, row, 1);
+        return write_rows(order, row, 1, &mut buffer[..]);
     }
     Punched::refused(lacks_row())
 }
@@ -35,7 +35,7 @@ pub fn write_cells(order: &[u8], row: u32, buffer: &mut [u8]) -> Punched
         return Punched::refused(Refusal::new(BUFFER_SHORT, 0));
     }
     match read(order) {
-        Reading::Read(order) => write_read(&mut buffer[..], order, row),
+        Reading::Read(order) => write_read(order, row, &mut buffer[..]),
         Reading::Refused(refusal) => Punched::refused(refusal),
     }
 }

@@ -29,7 +29,7 @@ pub fn put_rows(buffer: &mut [u8], order: Order, row: u32, end: u32) -> u32
     let mut next = row;
     let mut dots = 0;
     loop {
-        let worked = suns.work(setting);
+        let worked = suns.since_midnight(setting);
         let at = ROW_CELLS * (next - row) as usize;
         dots = dots + put_cells(&mut buffer[..], at, suns.date, worked, order.clock);
         next = next + 1;
@@ -41,7 +41,7 @@ pub fn put_rows(buffer: &mut [u8], order: Order, row: u32, end: u32) -> u32
 }
 
 // Writes `count` rows from `row` on. Returns `count` and their dots.
-pub fn write_rows(buffer: &mut [u8], order: Order, row: u32, count: u32) -> Punched
+pub fn write_rows(order: Order, row: u32, count: u32, buffer: &mut [u8]) -> Punched
     requires { ⌜ Accepted order × (0 < count) × (row + count ≤ order .rows) × (rowLength * count ≤ length (now buffer)) ⌝ }
     ensures { λ r. ⌜ r ≡ punchedOf (rowsFrom order row count) ⌝ }
     ensures { λ _. ⌜ now (buffer .exit) ≡ frontOf (cellsOf (rowsFrom order row count)) (now (buffer .entry)) ⌝ }

@@ -7,11 +7,12 @@ use Rattle.calendar.specs.declared.dates.Date.{Date}
 use Rattle.models.specs.declared.setting.Setting.{Setting}
 use Rattle.models.specs.Chosen.{seasonOf}
 use Rattle.julian.proofs.JulianLaws.{julian-tomorrow}
-use Rattle.schedule.proofs.Schedule.{fajr-alone, fajrIn, hoursOf, numbersOf, workedOf, row-shared, worked-unasked}
-use Rattle.schedule.specs.Times.{workedAt}
+use Rattle.schedule.proofs.Schedule.{fajr-alone, fajrIn, hoursOf, numbersOf, sinceOf, startedIn, row-shared, since-unasked}
+use Rattle.schedule.specs.Times.{sinceAt, workedAt}
 use Rattle.schedule.specs.declared.hours.RowHours.{RowHours}
 use Rattle.schedule.specs.declared.rolling.RowSuns.{RowSuns}
-use Rattle.schedule.specs.RowSuns.{coursesOf, daySunOf, rowSunsOf, nextRowSunsOf, rowSunsHoursOf, rowSunsWorkedOf, rowSunsFajrOf}
+use Rattle.schedule.specs.RowSuns.{coursesOf, daySunOf, rowSunsOf, nextRowSunsOf, rowSunsHoursOf, rowSunsSinceOf, rowSunsWorkedOf}
+use Rattle.schedule.specs.RowSuns.{rowSunsFajrOf}
 
 -- the day before a date's tomorrow is the date, in all years but the last that a u32 holds; a date that does not exist is its own neighbour
 pub back-to : (date : Date) → date .year < 4294967295 → yesterdayOf (tomorrowOf date) ≡ date
@@ -19,12 +20,16 @@ unfolding fromOf
 back-to date l = cases (existsOf date) (λ there. back date there (omega arith)) (λ lacks. simp (lacks))
 
 -- the times of the first row are those of its date
+pub first-since : (date : Date) (s : Setting) → rowSunsSinceOf s (rowSunsOf date s) ≡ sinceAt date s
+unfolding rowSunsOf
+first-since date s =
+    let p = s .parameters in
+    ap (λ (h : RowHours). sinceOf h date (seasonOf s) p) (row-shared date s)
+    ∙ since-unasked (hoursOf (s .rules .midnight) (numbersOf date (s .coordinates) p)) date (seasonOf s) p
+
 pub first-row : (date : Date) (s : Setting) → rowSunsWorkedOf s (rowSunsOf date s) ≡ workedAt date s
 unfolding rowSunsOf
-first-row date s =
-    let p = s .parameters in
-    ap (λ (h : RowHours). workedOf h date (seasonOf s) p) (row-shared date s)
-    ∙ worked-unasked (hoursOf (s .rules .midnight) (numbersOf date (s .coordinates) p)) date (seasonOf s) p
+first-row date s = ap (startedIn date) (first-since date s)
 
 -- the Fajr that suns give by itself is the Fajr of the nine times that they give
 pub suns-fajr : (s : Setting) (r : RowSuns) → rowSunsFajrOf s r ≡ fajrIn (r .date) (rowSunsWorkedOf s r)

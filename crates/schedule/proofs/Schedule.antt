@@ -1,7 +1,7 @@
 -- What the functions of this crate and the crates above use of it, from one place. Nothing is added.
 pub use Rattle.schedule.proofs.FajrLaws.{fajr-alone}
 pub use Rattle.schedule.proofs.Promises.{of-near, held-middle, held-last-third, both, on-start, held-seventh}
-pub use Rattle.schedule.proofs.SharedLaws.{row-shared, worked-unasked}
+pub use Rattle.schedule.proofs.SharedLaws.{row-shared, since-unasked}
 pub use Rattle.schedule.proofs.Short.{short-near, short-is}
 pub use Rattle.schedule.proofs.Starts.{start-near}
 unfoldable pub use Rattle.schedule.specs.Fajr.{fajrIn, fajrAloneOf}
@@ -10,11 +10,12 @@ unfoldable pub use Rattle.schedule.specs.InForce.{currentNumberOf, lastO
 unfoldable pub use Rattle.schedule.specs.InForce.{untilOf}
 pub use Rattle.schedule.specs.InForce.{currentTimeOf, nextOf, NotAfter}
 unfoldable pub use Rattle.schedule.specs.Numbers.{numbersOf}
-unfoldable pub use Rattle.schedule.specs.Times.{startOf, workedOf, workedFrom, finalOf, fajrTomorrowOf, middleOfTheNightOf, qiyamOf}
-unfoldable pub use Rattle.schedule.specs.Times.{fromMidnightOf, startedOf}
+unfoldable pub use Rattle.schedule.specs.Times.{startOf, finalOf, fajrTomorrowOf, middleOfTheNightOf, qiyamOf, fromMidnightOf, startedOf}
+unfoldable pub use Rattle.schedule.specs.Times.{startedIn, sinceFrom, sinceOf}
 pub use Rattle.models.specs.Chosen.{seasonOf, settingOf}
-pub use Rattle.schedule.specs.Times.{workedBy, workedAt, timesOf}
+pub use Rattle.schedule.specs.Times.{workedOf, workedBy, sinceAt, workedAt}
 pub use Rattle.schedule.specs.Each.{Each}
+unfoldable pub use Rattle.schedule.specs.Each.{NearIn}
 unfoldable pub use Rattle.schedule.specs.Twilight.{nightOf, orOf, bySeasonOf, shortOf, beforeSunriseOf, unadjustedFajrOf}
 unfoldable pub use Rattle.schedule.specs.Twilight.{afterSunsetOf, ishaBoundOf, boundedIshaOf, unadjustedIshaOf, laterOf, earlierOf}
 unfoldable pub use Rattle.schedule.specs.Twilight.{bySeventhOf, ownOf}

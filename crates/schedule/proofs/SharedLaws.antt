@@ -19,12 +19,11 @@ use Rattle.schedule.specs.declared.hours.RowHours.{RowHours}
 use Rattle.schedule.specs.declared.hours.Suns.{Suns}
 use Rattle.schedule.specs.declared.hours.Suns.the-variants.{Whole, Refused}
 use Rattle.schedule.specs.declared.hours.ThreeSuns.{ThreeSuns}
-use Rattle.schedule.specs.declared.prayer_times.PrayerTimes.{PrayerTimes}
 use Rattle.schedule.specs.declared.prayer_times.Worked.the-variants.{Times}
 use Rattle.schedule.specs.Hours.{hoursOf}
 use Rattle.schedule.specs.Numbers.{fajrAngleOf, ishaAngleOf, shadowOf, numbersOf}
 use Rattle.schedule.specs.RowSuns.{coursesOf, daySunOf, rowSunsOf, rowSunsHoursOf}
-use Rattle.schedule.specs.Times.{startOf, fajrTomorrowOf, fromMidnightOf, startedOf, workedFrom, workedOf}
+use Rattle.schedule.specs.Times.{fajrTomorrowOf, fromMidnightOf, sinceFrom, sinceOf}
 use Rattle.schedule.specs.Twilight.{bySeventhOf, ownOf, unadjustedFajrOf, boundedIshaOf, unadjustedIshaOf}
 
 -- ---- no time depends on an hour that is left out
@@ -54,15 +53,15 @@ module _ (h : RowHours) (date : Date) (season : Season) (p : Parameters) where
         isha-unasked p season date (suns .today) (suns .tomorrow) (h .isha),
       )
 
-  by-suns : (suns : Suns) → workedFrom suns asked date season p ≡ workedFrom suns h date season p
-  unfolding workedFrom
+  by-suns : (suns : Suns) → sinceFrom suns asked date season p ≡ sinceFrom suns h date season p
+  unfolding sinceFrom
   by-suns (Refused r) = refl
-  by-suns (Whole suns) = ap (λ (t : PrayerTimes). Times (startedOf (startOf date) t)) (nine-unasked suns)
+  by-suns (Whole suns) = ap Times (nine-unasked suns)
 
   -- a row's times are the same without the hours that no time needs
-  pub worked-unasked : workedOf asked date season p ≡ workedOf h date season p
-  unfolding workedOf
-  worked-unasked = by-suns (h .suns)
+  pub since-unasked : sinceOf asked date season p ≡ sinceOf h date season p
+  unfolding sinceOf
+  since-unasked = by-suns (h .suns)
 
 -- ---- an hour from the angle's sine is the angle's
 module _ (s : Setting) (c : Course) where

@@ -8,4 +8,3 @@ pub mod RowSuns
 pub mod Builder
 pub mod Asked
 pub mod Each
-pub mod Since

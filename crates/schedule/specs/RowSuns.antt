@@ -23,8 +23,7 @@ use Rattle.schedule.specs.declared.rolling.RowSuns.{RowSuns}
 use Rattle.schedule.specs.Asked.{twilightSinesOf, fajrHourOf, asrHourOf, ishaHourOf}
 use Rattle.schedule.specs.Fajr.{fajrAloneOf}
 use Rattle.schedule.specs.Hours.{sunsOf}
-use Rattle.schedule.specs.Since.{sinceOf}
-use Rattle.schedule.specs.Times.{workedOf}
+use Rattle.schedule.specs.Times.{sinceOf, startedIn}
 
 -- those of a date and of the two days after it
 unfoldable pub coursesOf : Date → Coordinates → Courses
@@ -97,13 +96,13 @@ rowSunsHoursOf s r =
       «fajr_tomorrow» = r .«fajr_tomorrow»;
     }
 
--- the row's day
-abbrev pub rowSunsWorkedOf : Setting → RowSuns → Worked
-rowSunsWorkedOf s r = workedOf (rowSunsHoursOf s r) (r .date) (seasonOf s) (s .parameters)
-
--- the same in seconds from 0h of the row's date
+-- the row's day, in seconds from 0h of its date
 abbrev pub rowSunsSinceOf : Setting → RowSuns → Worked
 rowSunsSinceOf s r = sinceOf (rowSunsHoursOf s r) (r .date) (seasonOf s) (s .parameters)
+
+-- from 1970 on
+abbrev pub rowSunsWorkedOf : Setting → RowSuns → Worked
+rowSunsWorkedOf s r = startedIn (r .date) (rowSunsSinceOf s r)
 
 -- the row's Fajr by itself
 unfoldable pub rowSunsFajrOf : Setting → RowSuns → FajrAlone

@@ -82,23 +82,30 @@ startedOf start t =
       «fajr_tomorrow» = start +ℤ t .«fajr_tomorrow»;
     }
 
-abbrev pub timesOf : Parameters → Season → Date → ThreeSuns → RowHours → PrayerTimes
-timesOf p season date suns h = startedOf (startOf date) (fromMidnightOf p season date suns h)
+unfoldable pub startedIn : Date → Worked → Worked
+startedIn date (Times t) = Times (startedOf (startOf date) t)
+startedIn date (Refused r) = Refused r
 
 -- a date is refused if one of the three days lacks a time
-unfoldable pub workedFrom : Suns → RowHours → Date → Season → Parameters → Worked
-workedFrom (suns.Refused r) h date season p = Refused r
-workedFrom (suns.Whole three) h date season p = Times (timesOf p season date three h)
+unfoldable pub sinceFrom : Suns → RowHours → Date → Season → Parameters → Worked
+sinceFrom (suns.Refused r) h date season p = Refused r
+sinceFrom (suns.Whole three) h date season p = Times (fromMidnightOf p season date three h)
 
-unfoldable pub workedOf : RowHours → Date → Season → Parameters → Worked
-workedOf h date season p = workedFrom (h .suns) h date season p
+unfoldable pub sinceOf : RowHours → Date → Season → Parameters → Worked
+sinceOf h date season p = sinceFrom (h .suns) h date season p
+
+abbrev pub workedOf : RowHours → Date → Season → Parameters → Worked
+workedOf h date season p = startedIn date (sinceOf h date season p)
 
 abbrev pub workedBy : RowNumbers → Date → Setting → Worked
 workedBy numbers date s = workedOf (hoursOf (s .rules .midnight) numbers) date (seasonOf s) (s .parameters)
 
--- from a date and its setting alone
+-- from a date and its setting alone: in seconds from 0h of the date, and from 1970 on
+abbrev pub sinceAt : Date → Setting → Worked
+sinceAt date s = sinceOf (hoursOf (s .rules .midnight) (numbersOf date (s .coordinates) (s .parameters))) date (seasonOf s) (s .parameters)
+
 abbrev pub workedAt : Date → Setting → Worked
-workedAt date s = workedBy (numbersOf date (s .coordinates) (s .parameters)) date s
+workedAt date s = startedIn date (sinceAt date s)
 
 -- document 01: "A refusal gives number and place, no times"
 abbrev pub noTimes : PrayerTimes

@@ -9,9 +9,8 @@ ghost use Rattle.models.specs.Settings.{timeAdjustmentsOf};
 ghost use Rattle.rounding.specs.Times.{roundedOf, adjustedOf};
 ghost use Rattle.schedule.specs.Fajr.{fajrAloneOf};
 ghost use Rattle.schedule.specs.Times.{startOf, finalOf, fajrTomorrowOf, middleOfTheNightOf, qiyamOf, fromMidnightOf, startedOf};
-ghost use Rattle.schedule.specs.Times.{workedOf, workedBy};
-ghost use Rattle.schedule.specs.Since.{sinceOf, fajrSince};
-ghost use Rattle.schedule.specs.Each.{Each};
+ghost use Rattle.schedule.specs.Times.{sinceOf, workedOf, workedBy};
+ghost use Rattle.schedule.specs.Each.{Each, NearIn};
 ghost use Rattle.schedule.specs.Twilight.{unadjustedFajrOf};
 use super::hours::RowHours;
 use super::hours::RowNumbers;
@@ -196,14 +195,14 @@ fn started(date: Date, times: PrayerTimes) -> PrayerTimes
 impl RowHours {
     // The nine in seconds from 0h of the date, or its refusal.
     pub fn since_midnight(self, date: Date, season: Season, parameters: Parameters) -> Worked
-        ensures { λ r. ⌜ (r ≡ sinceOf self date season parameters) × Near (2 ^ 43) (fajrSince r) ⌝ }
+        ensures { λ r. ⌜ (r ≡ sinceOf self date season parameters) × NearIn r ⌝ }
     {
         let suns = self.suns;
         match suns {
             Suns::Whole(three) => {
                 Worked::Times(from_midnight(parameters, season, date, three, self))
             }
-            Suns::Refused(lacking) => Worked::Refused(lacking),
+            Suns::Refused(refusal) => Worked::Refused(refusal),
         }
     }
 
@@ -211,13 +210,9 @@ impl RowHours {
     pub fn work(self, date: Date, season: Season, parameters: Parameters) -> Worked
         ensures { λ r. ⌜ r ≡ workedOf self date season parameters ⌝ }
     {
-        let suns = self.suns;
-        match suns {
-            Suns::Whole(three) => Worked::Times(started(
-                date,
-                from_midnight(parameters, season, date, three, self),
-            )),
-            Suns::Refused(refusal) => Worked::Refused(refusal),
+        match self.since_midnight(date, season, parameters) {
+            Worked::Times(times) => Worked::Times(started(date, times)),
+            Worked::Refused(refusal) => Worked::Refused(refusal),
         }
     }
 }

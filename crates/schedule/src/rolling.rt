@@ -1,15 +1,13 @@
 // Rows that follow one another (added). The date of the next row is worked from the next position of the sun alone: two of its three days,
 // and the hour of its Fajr, are the row's own. What depends on the place or on the parameters alone is worked with the first row's.
 ghost use mathlib.Core.Path.{_≡_};
-ghost use Prim.Native.Nat.{_^_};
 ghost use Rattle.calendar.specs.Answers.{yesterdayOf, tomorrowOf};
-ghost use Rattle.integers.specs.Parts.{Near};
 ghost use Rattle.julian.specs.Julian.{dateJulianDayOf};
 ghost use Rattle.ops.specs.Coordinates.{positionOf};
 ghost use Rattle.ops.specs.Shared.{placeOf};
-ghost use Rattle.schedule.specs.RowSuns.{coursesOf, daySunOf, rowSunsOf, nextRowSunsOf, threeSunsOf, rowSunsWorkedOf, rowSunsFajrOf};
-ghost use Rattle.schedule.specs.RowSuns.{rowSunsSinceOf};
-ghost use Rattle.schedule.specs.Since.{fajrSince};
+ghost use Rattle.schedule.specs.Each.{NearIn};
+ghost use Rattle.schedule.specs.RowSuns.{coursesOf, daySunOf, rowSunsOf, nextRowSunsOf, threeSunsOf, rowSunsHoursOf, rowSunsSinceOf};
+ghost use Rattle.schedule.specs.RowSuns.{rowSunsWorkedOf, rowSunsFajrOf};
 use super::angles::TwilightSines;
 use super::angles::asr_hour;
 use super::hours::RowHours;
@@ -62,8 +60,8 @@ pub struct Courses {
     pub at_third: Equatorial,
 }
 
-// The last year that a u32 holds. Its last date is its own tomorrow.
-const LAST_YEAR: u32 = 4294967295;
+// The greatest year that a u32 holds. Its last date is its own tomorrow.
+const GREATEST_YEAR: u32 = 4294967295;
 
 // The years in which each Julian Day is known to be the one before it and 1.0: those of an order, and some on either side.
 const ROLLS_FROM: u32 = 1899;
@@ -75,7 +73,7 @@ fn place_before_tomorrow(date: Date, at_date: Equatorial) -> Equatorial
     requires { ⌜ «at_date» ≡ placeOf (positionOf date) ⌝ }
     ensures { λ r. ⌜ r ≡ placeOf (positionOf (yesterdayOf (tomorrowOf date))) ⌝ }
 {
-    if date.year < LAST_YEAR {
+    if date.year < GREATEST_YEAR {
         return at_date;
     }
     place(date.tomorrow().yesterday())
@@ -227,41 +225,37 @@ impl RowSuns {
             .fajr(self.date, season, setting.parameters, hour)
     }
 
-    // The row's times, or its refusal.
-    pub fn work(self, setting: Setting) -> Worked
-        ensures { λ r. ⌜ r ≡ rowSunsWorkedOf setting self ⌝ }
+    // What the row's times are worked from.
+    fn hours(self, setting: Setting) -> RowHours
+        ensures { λ r. ⌜ r ≡ rowSunsHoursOf setting self ⌝ }
     {
         let sines = self.sines;
         let today = self.today;
         let course = today.course;
         let fajr = self.fajr;
         let fajr_tomorrow = self.fajr_tomorrow;
-        let hours = RowHours {
+        RowHours {
             suns: self.suns(),
             fajr: fajr,
             asr: asr_hour(setting, course),
             isha: sines.isha_hour(setting, course),
             fajr_tomorrow: fajr_tomorrow,
-        };
-        hours.work(self.date, setting.season(), setting.parameters)
+        }
     }
 
-    // The same in seconds from 0h of the row's date. To share the hours with `work` would copy all that rolls.
+    // The row's times in seconds from 0h of its date, or its refusal.
     pub fn since_midnight(self, setting: Setting) -> Worked
-        ensures { λ r. ⌜ (r ≡ rowSunsSinceOf setting self) × Near (2 ^ 43) (fajrSince r) ⌝ }
+        ensures { λ r. ⌜ (r ≡ rowSunsSinceOf setting self) × NearIn r ⌝ }
     {
-        let sines = self.sines;
-        let today = self.today;
-        let course = today.course;
-        let fajr = self.fajr;
-        let next = self.fajr_tomorrow;
-        let hours = RowHours {
-            suns: self.suns(),
-            fajr: fajr,
-            asr: asr_hour(setting, course),
-            isha: sines.isha_hour(setting, course),
-            fajr_tomorrow: next,
-        };
-        hours.since_midnight(self.date, setting.season(), setting.parameters)
+        self.hours(setting)
+            .since_midnight(self.date, setting.season(), setting.parameters)
+    }
+
+    // The row's times, or its refusal.
+    pub fn work(self, setting: Setting) -> Worked
+        ensures { λ r. ⌜ r ≡ rowSunsWorkedOf setting self ⌝ }
+    {
+        self.hours(setting)
+            .work(self.date, setting.season(), setting.parameters)
     }
 }

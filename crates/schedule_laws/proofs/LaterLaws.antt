@@ -12,7 +12,7 @@ use Rattle.schedule.specs.declared.{prayer_times.PrayerTimes.PrayerTimes, in_fo
 use Rattle.schedule.specs.declared.hours.Suns.the-variants as suns
 use Rattle.schedule.specs.declared.prayer_times.Worked.the-variants.{Times, Refused}
 use Rattle.schedule.specs.InForce.{inSecond}
-use Rattle.schedule.proofs.Schedule.{hoursOf, NotAfter, numbersOf, workedFrom, seasonOf, settingOf, workedOf}
+use Rattle.schedule.proofs.Schedule.{hoursOf, NotAfter, numbersOf, startedIn, sinceFrom, sinceOf, seasonOf, settingOf, workedOf}
 use Rattle.schedule_laws.specs.Later.{withMinutes, NoneEarlier, ExactlyLater, Moved, LaterMinutesMoveTheDay, LaterMinutesMoveTheRow}
 use Rattle.schedule_laws.proofs.SunSpans.{SunHour, Row, hours}
 use Rattle.schedule_laws.proofs.Moves.{exactly, none-earlier}
@@ -57,8 +57,9 @@ module _ (p : Parameters) (minutes : TimeAdjustment)
     (held-q : (prayer : Prayer) → Near (2 ^ 32) (timeAdjustmentsOf (withMinutes p minutes) prayer))
     (season : Season) (date : Date) where
   by-suns : (s : Suns) (h : RowHours) → Row s → SunHour (h .«fajr_tomorrow»)
-      → Moved p (withMinutes p minutes) (workedFrom s h date season p) (workedFrom s h date season (withMinutes p minutes))
-  unfolding workedFrom
+      → Moved p (withMinutes p minutes) (startedIn date (sinceFrom s h date season p))
+      (startedIn date (sinceFrom s h date season (withMinutes p minutes)))
+  unfolding startedIn sinceFrom
   by-suns (suns.Refused r) h x k = refused-alike p (withMinutes p minutes) r
   by-suns (suns.Whole three) h x k =
       worked-alike p (withMinutes p minutes) _ _ (none-earlier p minutes season date three h more held held-q x k)
@@ -66,7 +67,7 @@ module _ (p : Parameters) (minutes : TimeAdjustment)
 
   by-numbers : (rule : Midnight) (n : RowNumbers) → Moved p (withMinutes p minutes) (workedOf (hoursOf rule n) date season p)
       (workedOf (hoursOf rule n) date season (withMinutes p minutes))
-  unfolding workedOf
+  unfolding sinceOf
   by-numbers rule n = let h = hours rule n in by-suns (hoursOf rule n .suns) (hoursOf rule n) (h .suns) (h .«fajr_tomorrow»)
 
 pub later-minutes-move-the-day : LaterMinutesMoveTheDay

@@ -17,7 +17,7 @@ use Rattle.night_portions.proofs.Steady.{Small}
 use Rattle.night_portions.proofs.PortionsLaws.{middle-later, last-third-later}
 use Rattle.solar.specs.declared.{setting.SolarHour.SolarHour, times.SolarTime.SolarTime}
 use Rattle.schedule.specs.declared.{hours.ThreeSuns.ThreeSuns, hours.RowHours.RowHours, prayer_times.PrayerTimes.PrayerTimes}
-use Rattle.schedule.proofs.Schedule.{startOf, finalOf, fajrTomorrowOf, middleOfTheNightOf, qiyamOf, fromMidnightOf, startedOf, timesOf}
+use Rattle.schedule.proofs.Schedule.{startOf, finalOf, fajrTomorrowOf, middleOfTheNightOf, qiyamOf, fromMidnightOf, startedOf}
 use Rattle.schedule.proofs.Schedule.{nightOf, nextDayOf, orOf, beforeSunriseOf, short-near, unadjustedFajrOf, afterSunsetOf, ishaBoundOf}
 use Rattle.schedule.proofs.Schedule.{boundedIshaOf, unadjustedIshaOf}
 use Rattle.schedule_laws.specs.Later.{withMinutes, NoneEarlier, laterBy, ExactlyLater}
@@ -132,10 +132,10 @@ module _ (p : Parameters) (minutes : TimeAdjustment) where
   -- ---- the day
   module _ (season : Season) (date : Date) (suns : ThreeSuns) (h : RowHours) where
     abbrev pub first : PrayerTimes
-    first = timesOf p season date suns h
+    first = startedOf (startOf date) (fromMidnightOf p season date suns h)
 
     abbrev pub second : PrayerTimes
-    second = timesOf q season date suns h
+    second = startedOf (startOf date) (fromMidnightOf q season date suns h)
 
     abbrev sun : SolarTime
     sun = suns .today

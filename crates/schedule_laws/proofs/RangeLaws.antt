@@ -17,7 +17,7 @@ use Rattle.schedule.specs.declared.{prayer_times.PrayerTimes.PrayerTimes}
 use Rattle.schedule.specs.declared.hours.Suns.the-variants.{Whole, Refused}
 use Rattle.schedule.specs.declared.prayer_times.Worked.the-variants.{Times}
 use Rattle.schedule.proofs.Schedule.{hoursOf, startOf, finalOf, fajrTomorrowOf, middleOfTheNightOf, qiyamOf, fromMidnightOf, startedOf}
-use Rattle.schedule.proofs.Schedule.{timesOf, workedFrom, workedOf, timeOf, Each}
+use Rattle.schedule.proofs.Schedule.{startedIn, sinceFrom, sinceOf, workedOf, timeOf, Each}
 use Rattle.order.specs.Accepted.{LatitudeInOrder, ParametersInOrder}
 use Rattle.schedule_laws.specs.Range.{OfDate, AllOfDate, TimesLieByTheirDate, DaysAreOneDigit}
 use Rattle.schedule_laws.proofs.OrderMinutes.{sums-near}
@@ -108,15 +108,16 @@ module _ (p : Parameters) (allowed : ParametersInOrder p) (season : Season) (the
         «fajr_tomorrow» = wider f (lit≤ tt) (lit≤ tt);
       }
 
-  worked : (s : Suns) (h : RowHours) (t : PrayerTimes) → Row s → Hours h → workedFrom s h date season p ≡ Times t → AllOfDate date t
-  unfolding workedFrom
+  worked : (s : Suns) (h : RowHours) (t : PrayerTimes) → Row s → Hours h → startedIn date (sinceFrom s h date season p) ≡ Times t
+      → AllOfDate date t
+  unfolding startedIn sinceFrom
   worked (Refused r) h t x k e = let w : _≡_ {A = ℕ} 0 1 = cc in absurd (omega arith)
   worked (Whole suns) h t x k e =
-      let same-times : timesOf p season date suns h ≡ t = cc in
+      let same-times : startedOf (startOf date) (fromMidnightOf p season date suns h) ≡ t = cc in
       subst (AllOfDate date) same-times (started-close date (fromMidnightOf p season date suns h) (nine suns h x k))
 
 pub times-lie-by-their-date : TimesLieByTheirDate
-unfolding workedOf
+unfolding sinceOf
 times-lie-by-their-date rule n date season p t there allowed e =
     let h = hours rule n in
     worked p allowed season there date (hoursOf rule n .suns) (hoursOf rule n) t (h .suns) h e

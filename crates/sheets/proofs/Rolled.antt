@@ -1,6 +1,5 @@
 -- The suns roll from row to row, and the rows' lines follow one another. Assumes nothing.
-use Rattle.prelude.proofs.Logic.{_≡_, sym, ap, _∙_, List, ℕ, _+_, _*_, _^_, _≤_, _<_, mul-le-mul-right, arith, length}
-use Rattle.integers.proofs.Integers.{Near}
+use Rattle.prelude.proofs.Logic.{_≡_, sym, ap, _∙_, List, ℕ, _+_, _*_, _≤_, _<_, mul-le-mul-right, arith, length}
 use Rattle.calendar.specs.Answers.{rowDateOf}
 use Rattle.days.proofs.RowStates.{stateOf, workedBySuns, state-worked}
 use Rattle.order.specs.Accepted.{Accepted}
@@ -8,9 +7,9 @@ use Rattle.order.specs.declared.reading.Order.{Order}
 use Rattle.lines.proofs.SinceLaws.{line-since}
 use Rattle.lines.specs.Lines.{rowRoom, lineText}
 use Rattle.lines.specs.Since.{lineSince}
-use Rattle.schedule.proofs.SinceLaws.{suns-since}
 use Rattle.schedule.specs.RowSuns.{rowSunsOf, rowSunsSinceOf}
-use Rattle.schedule.specs.Since.{startedIn, fajrSince}
+use Rattle.schedule.specs.Each.{NearIn}
+use Rattle.schedule.specs.Times.{startedIn}
 use Rattle.schedule.specs.declared.prayer_times.Worked.{Worked}
 use Rattle.schedule.specs.declared.rolling.RowSuns.{RowSuns}
 use Rattle.text.specs.Text.{putOf}
@@ -27,7 +26,7 @@ state-line o a k h = ap (lineText (o .ramadan) (rowDateOf (o .date) k)) (state-w
 
 -- and from its times since 0h
 pub since-line : (o : Order) → Accepted o → (suns : RowSuns) (k : ℕ) → k < o .rows → suns ≡ stateOf o k
-    → (w : Worked) → w ≡ rowSunsSinceOf (o .setting) suns → Near (2 ^ 43) (fajrSince w)
+    → (w : Worked) → w ≡ rowSunsSinceOf (o .setting) suns → NearIn w
     → lineSince (o .ramadan) (suns .date) w ≡ madeLine o suns
 unfolding rowSunsOf
 since-line o a suns k h s w e near =
@@ -36,7 +35,6 @@ since-line o a suns k h s w e near =
     let year : suns .date .year ≡ rowDateOf (o .date) k .year = ap (λ (r : RowSuns). r .date .year) s in
     sym (line-since (o .ramadan) (suns .date) w (omega arith) (omega arith) near)
     ∙ ap (λ (x : Worked). lineText (o .ramadan) (suns .date) (startedIn (suns .date) x)) e
-    ∙ ap (lineText (o .ramadan) (suns .date)) (sym (suns-since (o .setting) suns))
 
 add-one-le : {k n : ℕ} → k < n → k + 1 ≤ n
 add-one-le h = omega arith

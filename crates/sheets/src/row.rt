@@ -1,13 +1,13 @@
 // A row's line at the front of a lent buffer. A refused call changes no byte of it.
 ghost use mathlib.Core.Path.{_≡_};
-ghost use Prim.Native.Nat.{_≤_, _^_};
+ghost use Prim.Native.Nat.{_≤_};
 ghost use lib.ListN.{length};
 ghost use Rattle.lines.specs.Lines.{rowRoom};
 ghost use Rattle.sheets.specs.Rows.{workedCallOf, readCallOf, rowCallOf};
 ghost use Rattle.days.specs.Calls.{workRowOf};
 ghost use Rattle.calendar.specs.Answers.{rowDateOf};
-ghost use Rattle.integers.specs.Parts.{Near};
-ghost use Rattle.schedule.specs.Since.{startedIn, fajrSince};
+ghost use Rattle.schedule.specs.Each.{NearIn};
+ghost use Rattle.schedule.specs.Times.{startedIn};
 use calendar::dates::Date;
 use days::day::lacks_row;
 use days::day::since_midnight;
@@ -24,7 +24,7 @@ use schedule::prayer_times::Worked;
 
 // Returns number 0 if the row is written. Its times are in seconds from 0h of the date.
 fn write_worked(ramadan: Ramadan, date: Date, worked: Worked, buffer: &mut [u8]) -> Refusal
-    requires { ⌜ (rowRoom ramadan ≤ length (now buffer)) × Near (2 ^ 43) (fajrSince worked) ⌝ }
+    requires { ⌜ (rowRoom ramadan ≤ length (now buffer)) × NearIn worked ⌝ }
     ensures { λ r. ⌜ r ≡ workedCallOf ramadan date (startedIn date worked) (now (buffer .entry)) .answer ⌝ }
     ensures { λ _. ⌜ now (buffer .exit) ≡ workedCallOf ramadan date (startedIn date worked) (now (buffer .entry)) .buffer ⌝ }
 {

@@ -1,4 +1,4 @@
--- `calls::day::work_date` meets its contract: the first row's suns give the date's own day.
+-- The first row's suns give the date's own day.
 use Rattle.prelude.proofs.Logic.{_∙_}
 use Rattle.schedule.proofs.RowSunsLaws.{first-row}
 use Rattle.days.proofs.day.work_date as this

@@ -45,7 +45,9 @@ returns-4 c =
 returns-5 : this.Tie.Need-returns-5
 returns-5 c =
     let t = c .before .before .before .before in
-    moments.told-by (t .args .time) (readBack w64 (t .args .time)) _ _ _ (read w64 (t .args .time) (t .fits .time)) (c .divided2 .ensures)
+    let r = c .divided2 .result in
+    moments.told-by (t .args .time) (readBack w64 (t .args .time)) (r .sign) (r .days) (r .second)
+    (read w64 (t .args .time) (t .fits .time)) (c .divided2 .ensures)
 
 pub compared-spec : {M : Type 1} → this.Statement.statement M
 compared-spec =

@@ -44,7 +44,6 @@ pub write-read-spec : {M : Type 1} → this.Statement.statement M
 write-read-spec =
     this.Tie.close
     (this.Tie.spec (λ c κs. search needs) (λ c κs. search needs) (λ c κs. search needs) returns (λ c. search needs) (λ c κs. search needs)
-    (λ c. piece-holds (c .before) .from)
-    (λ c. omega (arith, piece-holds (c .before) .within, c .before .before .before .before .before .pre .0 .rows .1))
-    (λ c. omega (arith, piece-holds (c .before) .within, c .before .before .before .before .before .pre .0 .rows .1)) write-rows-requires
+    (λ c. piece-holds c .from) (λ c. omega (arith, piece-holds c .within, c .before .before .before .before .pre .0 .rows .1))
+    (λ c. omega (arith, piece-holds c .within, c .before .before .before .before .pre .0 .rows .1)) write-rows-requires
     (λ c. search needs) returns-2)

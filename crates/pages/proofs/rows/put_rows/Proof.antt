@@ -35,7 +35,8 @@ row-holds c =
     let k = read w32 (o .clock) (clock-fits o (p .0)) in
     run-row o (t .args .row) (t .args .end) (p .0) (p .2) (now (t .args .buffer)) (l .buffer) (l .suns) (l .next) (l .dots) (l .inv)
     _ (put .last .0) (put .result) _
-    (ap (λ (w : Worked). rowCells (l .suns .date) w (o .clock)) (c .before .before .before .work .ensures)) (rw k at (put .ensures .0)) refl
+    (ap (λ (w : Worked). rowCells (l .suns .date) w (o .clock)) (c .before .before .before .since-midnight .ensures .0))
+    (rw k at (put .ensures .0)) refl
     (rw k at (put .ensures .1))
 
 loop-holds : this.Tie.Need-loop-holds Inv-loop μ-loop

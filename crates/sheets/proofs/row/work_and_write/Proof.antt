@@ -1,4 +1,5 @@
-use Rattle.prelude.proofs.Logic.{_∙_, needs, now}
+use Rattle.prelude.proofs.Logic.{ap, _∙_, needs, now}
+use Rattle.schedule.specs.Times.{startedIn}
 use Rattle.sheets.proofs.Answers.{row-there, row-lacking}
 use Rattle.sheets.proofs.row.work_and_write as this
 
@@ -7,7 +8,7 @@ returns c =
     let a = c .before .before .before .before .before .before .before .before .before .before .args in
     let w = c .before .before .write-worked .ensures in
     let l = row-there (a .order) (a .row) (now (a .buffer)) _ _ (c .before .before .before .before .before .before .before .if1 .taken)
-    (c .before .before .before .before .before .row .ensures) (c .before .before .before .before .since-midnight .ensures .0) in
+    (c .before .before .before .before .before .row .ensures) (ap (startedIn _) (c .before .before .before .before .since-midnight .ensures .0)) in
     (w .0 ∙ l .0, w .1 ∙ l .1)
 
 returns-2 : this.Tie.Need-returns-2

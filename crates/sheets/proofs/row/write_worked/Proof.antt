@@ -1,19 +1,17 @@
 -- Two ends: a refused day changes no byte, a row with times is put at the front.
 use Rattle.prelude.proofs.Logic.{refl, sym, ap, subst, _∙_, [], _^_, _<_, arith, needs, now}
-use Rattle.integers.proofs.Integers.{Near}
 use Rattle.lines.specs.Lines.{columnsOf, rowText}
 use Rattle.lines.proofs.LinesLaws.{columns-length}
 use Rattle.lines.proofs.SinceLaws.{row-since}
-use Rattle.schedule.specs.Since.{startedIn, fajrSince}
-use Rattle.schedule.specs.Times.{startOf, startedOf}
-use Rattle.schedule.specs.declared.prayer_times.Worked.{Worked}
+use Rattle.schedule.specs.Each.{NearIn}
+use Rattle.schedule.specs.Times.{startOf, startedOf, startedIn}
 use Rattle.text.proofs.TextLaws.{put-next}
 use Rattle.text.specs.Text.{putOf}
 use Rattle.sheets.specs.Rows.{workedCallOf}
 use Rattle.sheets.proofs.row.write_worked as this
 
 returns : this.Tie.Need-returns
-unfolding workedCallOf startedIn fajrSince
+unfolding workedCallOf startedIn NearIn
 returns c =
     let put = c .before .before .before .put-row in
     let w = c .before .before .before .before .before .before .worked .given in
@@ -21,11 +19,11 @@ returns c =
     let a = start .args in
     let imsak : a .ramadan .imsak < 2 ^ 32 = search needs in
     let year : a .date .year < 2 ^ 32 = search needs in
-    let near = subst (λ (x : Worked). Near (2 ^ 43) (fajrSince x)) (w .1) (start .pre .1) in
+    let near = subst NearIn (w .1) (start .pre .1) in
     let t = startedOf (startOf (a .date)) (w .0 .0) in
     let n = columns-length (a .ramadan) (a .date) t in
     let p = put-next (now (a .buffer)) [] (rowText (a .date) (columnsOf (a .ramadan) t)) (now (a .buffer)) _ 0 refl refl
-    (put .ensures .1 ∙ ap (putOf (now (a .buffer)) 0) (sym (row-since (a .date) (a .ramadan) (w .0 .0) imsak year near)))
+    (put .ensures .1 ∙ ap (putOf (now (a .buffer)) 0) (sym (row-since (a .date) (a .ramadan) (w .0 .0) imsak year (near .fajr))))
     (omega (arith, start .pre .0)) in
     (c .none .ensures ∙ simp (w .1), simp (w .1) p)
 
