@@ -10,7 +10,7 @@ use lib.Dec.{eqb}
 use lib.ListN.{length}
 use Rattle.prelude.specs.Lists.{listed}
 use Rattle.refusals.specs.Refusals.{fieldCut, fieldUnknown, fieldAgain, tagMissing, outOfRange, noTransit, noSunrise, noSunset, bothForms}
-use Rattle.refusals.specs.Refusals.{notFirstOfRamadan}
+use Rattle.refusals.specs.Refusals.{notFirstOfRamadan, refusal}
 use Rattle.refusals.specs.declared.Refusal.{Refusal}
 use Rattle.calendar.specs.Answers.{rowDateOf}
 use Rattle.calendar.specs.declared.dates.Date.{Date}
@@ -40,6 +40,11 @@ abbrev pub orderNumbers : List ℕ
 orderNumbers = fieldCut ∷ fieldUnknown ∷ fieldAgain ∷ tagMissing ∷ outOfRange ∷ bothForms ∷ notFirstOfRamadan ∷ []
 
 -- "the first broken rule in the stated order gives the number": each rule is given by its refusal, and the rules before r refuse nothing
+-- and each of these numbers refuses some order
+abbrev pub EachRefusalIsGiven : Type 0
+EachRefusalIsGiven = (number : ℕ) → listed orderNumbers number ≡ true
+    → (bytes : List ℕ) × (place : ℕ) × (readingOf bytes ≡ reading.Refused (refusal number place))
+
 pub data FirstBroken (r : Refusal) : List Refusal → Type 0 where
   here : {rest : List Refusal} → eqb (r .number) 0 ≡ false → FirstBroken r (r ∷ rest)
   later : {kept : Refusal} {rest : List Refusal} → eqb (kept .number) 0 ≡ true → FirstBroken r rest → FirstBroken r (kept ∷ rest)
