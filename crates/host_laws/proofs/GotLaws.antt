@@ -4,7 +4,7 @@ use Rattle.prelude.specs.Lists.{listed}
 use Rattle.days.specs.Calls.{lacksRow, workRowOf, workReadingOf, workDayOf, instantFits, prayerAtOf}
 use Rattle.days.specs.declared.in_force.InForce.{InForce}
 use Rattle.days.specs.declared.in_force.InForce.the-variants as force
-use Rattle.katchidul.specs.Exports.{dayAnswerOf, prayerAnswerOf}
+use Rattle.katchidul.specs.Exports.{dayAnswerOf, prayerAnswerOf, dayGot, prayerGot}
 use Rattle.order_laws.specs.Minutes.{LaterOrder, MovedRow}
 use Rattle.order_laws.proofs.MinutesLaws.{later-orders-move-their-rows}
 use Rattle.order_laws.proofs.NothingBreaksLaws.{nothing-breaks-a-run}
@@ -15,7 +15,7 @@ use Rattle.schedule.specs.declared.prayer_times.PrayerTimes.{PrayerTimes}
 use Rattle.schedule.specs.declared.prayer_times.Worked.{Worked}
 use Rattle.schedule.specs.declared.prayer_times.Worked.the-variants.{Times, Refused}
 use Rattle.schedule_laws.specs.Later.{NoneEarlier, ExactlyLater}
-use Rattle.host_laws.specs.Got.{dayGot, prayerGot, LaterOrdersMoveForHost}
+use Rattle.host_laws.specs.Got.{LaterOrdersMoveForHost}
 
 module _ (a b : List ℕ) (orders : LaterOrder a b) (row : ℕ) where
   moved : MovedRow a b orders row

@@ -1,24 +1,15 @@
 -- Demand 3 to the last step: "compares what the calls answer". The calls of a host in C are `katchidul_work_day` and `katchidul_prayer_at`;
--- their contracts (crates/katchidul/src) say that they return `dayGot` and `prayerGot`. Proved in proofs/GotLaws from order_laws'
--- LaterOrdersMoveTheirRows.
+-- their contracts say that they return `dayGot` and `prayerGot`. Proved in proofs/GotLaws from order_laws' LaterOrdersMoveTheirRows.
 use Prim.Native.Nat.{ℕ, _≤_}
 use mathlib.Core.Path.{_≡_}
 use mathlib.Core.Bool.{true}
 use mathlib.Core.List.{List}
-use Rattle.days.specs.Calls.{workDayOf, instantFits, prayerAtOf}
-use Rattle.katchidul.specs.Exports.{dayAnswerOf, prayerAnswerOf}
-use Rattle.katchidul.specs.declared.prayer_at.KatchidulPrayer.{KatchidulPrayer}
-use Rattle.katchidul.specs.declared.work_day.KatchidulDay.{KatchidulDay}
+use Rattle.days.specs.Calls.{instantFits}
+use Rattle.katchidul.specs.Exports.{dayGot, prayerGot}
 use Rattle.order_laws.specs.Minutes.{LaterOrder}
 use Rattle.schedule.specs.InForce.{NotAfter}
 use Rattle.schedule.specs.declared.in_force.Instant.{Instant}
 use Rattle.schedule_laws.specs.Later.{NoneEarlier, ExactlyLater}
-
-abbrev pub dayGot : List ℕ → ℕ → KatchidulDay
-dayGot s row = dayAnswerOf (workDayOf s row)
-
-abbrev pub prayerGot : List ℕ → ℕ → Instant → KatchidulPrayer
-prayerGot s row i = prayerAnswerOf (prayerAtOf s row i)
 
 pub record MovedForHost (a b : List ℕ) (orders : LaterOrder a b) (row : ℕ) : Type 0 where
   -- "the same days are refused, with the same number and place"

@@ -1,12 +1,15 @@
 -- Document 01: "A host program in C calls the port on numbers and bytes", "A refusal gives number and place, no times". If the call is not
 -- refused, number and place are 0. If it is refused, every other field is 0.
 use Prim.Native.Nat.{ℕ, _+_, _*_}
+use mathlib.Core.List.{List}
 use Rattle.models.specs.Numbers.{prayerNumberOf}
 use Rattle.refusals.specs.Refusals.{noRefusal}
 use Rattle.schedule.specs.InForce.{currentNumberOf}
 use Rattle.schedule.specs.Times.{noTimes}
+use Rattle.schedule.specs.declared.in_force.Instant.{Instant}
 use Rattle.schedule.specs.declared.prayer_times.Worked.{Worked}
 use Rattle.schedule.specs.declared.prayer_times.Worked.the-variants as worked
+use Rattle.days.specs.Calls.{workDayOf, prayerAtOf}
 use Rattle.days.specs.declared.in_force.InForce.{InForce}
 use Rattle.days.specs.declared.in_force.InForce.the-variants as force
 use Rattle.days.specs.declared.in_force.NextPrayer.{NextPrayer}
@@ -26,10 +29,16 @@ unfoldable pub dayAnswerOf : Worked → KatchidulDay
 dayAnswerOf (worked.Times t) = record { refusal = noRefusal; times = t }
 dayAnswerOf (worked.Refused r) = record { refusal = r; times = noTimes }
 
+abbrev pub dayGot : List ℕ → ℕ → KatchidulDay
+dayGot s row = dayAnswerOf (workDayOf s row)
+
 -- ---- a prayer: "else none", which is 0 and no refusal
 unfoldable pub prayerAnswerOf : InForce → KatchidulPrayer
 prayerAnswerOf (force.Prayer p) = record { refusal = noRefusal; prayer = currentNumberOf p }
 prayerAnswerOf (force.Refused r) = record { refusal = r; prayer = 0 }
+
+abbrev pub prayerGot : List ℕ → ℕ → Instant → KatchidulPrayer
+prayerGot s row i = prayerAnswerOf (prayerAtOf s row i)
 
 unfoldable pub nextAnswerOf : NextPrayer → KatchidulPrayer
 nextAnswerOf (next.Prayer p) = record { refusal = noRefusal; prayer = prayerNumberOf p }

@@ -1,7 +1,7 @@
 // The prayer in force at an instant, and the next one.
 ghost use mathlib.Core.Path.{_≡_};
-ghost use Rattle.days.specs.Calls.{instantOf, prayerAtOf, nextAtOf};
-ghost use Rattle.katchidul.specs.Exports.{prayerAnswerOf, nextAnswerOf};
+ghost use Rattle.days.specs.Calls.{instantOf, nextAtOf};
+ghost use Rattle.katchidul.specs.Exports.{prayerAnswerOf, prayerGot, nextAnswerOf};
 ghost use Rattle.schedule.specs.InForce.{currentNumberOf};
 use days::in_force::InForce;
 use days::in_force::NextPrayer;
@@ -57,7 +57,7 @@ pub extern "C" fn katchidul_prayer_at(
     seconds: i64,
     nanoseconds: u32,
 ) -> KatchidulPrayer
-    ensures { λ r. ⌜ r ≡ prayerAnswerOf (prayerAtOf (now (order .entry)) row (instantOf seconds nanoseconds)) ⌝ }
+    ensures { λ r. ⌜ r ≡ prayerGot (now (order .entry)) row (instantOf seconds nanoseconds) ⌝ }
 {
     prayer_answer(prayer_at(order, row, instant(seconds, nanoseconds)))
 }

@@ -1,7 +1,6 @@
 // Working the day of a row.
 ghost use mathlib.Core.Path.{_≡_};
-ghost use Rattle.days.specs.Calls.{workDayOf};
-ghost use Rattle.katchidul.specs.Exports.{dayAnswerOf};
+ghost use Rattle.katchidul.specs.Exports.{dayAnswerOf, dayGot};
 use days::day::work_day;
 use refusals::Refusal;
 use schedule::prayer_times::PrayerTimes;
@@ -31,7 +30,7 @@ fn day_answer(worked: Worked) -> KatchidulDay
 
 #[no_mangle]
 pub extern "C" fn katchidul_work_day(order: &[u8], row: u32) -> KatchidulDay
-    ensures { λ r. ⌜ r ≡ dayAnswerOf (workDayOf (now (order .entry)) row) ⌝ }
+    ensures { λ r. ⌜ r ≡ dayGot (now (order .entry)) row ⌝ }
 {
     day_answer(work_day(order, row))
 }

@@ -2,6 +2,7 @@
 use Rattle.prelude.proofs.Logic.{_≡_, refl, sym, ap, _∙_, subst, true, false, true≢false, List, [], _∷_, _++_, append-assoc, append-nil, ℕ}
 use Rattle.prelude.proofs.Logic.{zero, suc, _+_, _-_, _/_, _≤_, _<_, arith, leb, ltb, eqb, lit≤, length, take, drop, ltb-true, ltb-false}
 use Rattle.prelude.proofs.Logic.{lt-ltb, leb-true, eq-eqb, ne-eqb, eqb-true, eqb-false, take-nil, drop-of-length-le, cases, arms}
+use Rattle.prelude.proofs.Logic.{le-ltb, length-take, length-drop}
 use Rattle.prelude.specs.Lists.{listed}
 use Rattle.braille.specs.Cells.{rowLength}
 use Rattle.calendar.specs.Answers.{rowDateOf}
@@ -23,7 +24,7 @@ use Rattle.pages.specs.Answers as pages
 use Rattle.pages.specs.Answers.{putCallOf, askedCallOf, oneRow, pieceIn}
 use Rattle.pages.specs.Pages.{Rows, rowsFrom, cellsOf, pageOf, pieceOf}
 use Rattle.pages.proofs.RowsLaws.{cells-length, take-rows, drop-rows}
-use Rattle.refusals.specs.Refusals.{refusal}
+use Rattle.refusals.specs.Refusals.{refusal, noRefusal}
 use Rattle.refusals.specs.declared.Refusal.{Refusal}
 use Rattle.reports.specs.Reports.{reportIn}
 use Rattle.sheets.proofs.Answers.{row-short, row-read, row-refused}
@@ -156,7 +157,7 @@ written-lent h = record { refused = λ e. absurd (true≢false e); written = λ 
 order-number : (s : List ℕ) (r : Refusal) → readingOf s ≡ reading.Refused r → eqb (r .number) 0 ≡ false
 order-number s r e = let h = refused-by s r e .some in ne-eqb (r .number) 0 (omega arith)
 
-day-number : (n : ℕ) → listed dayNumbers n ≡ true → eqb n 0 ≡ false
+pub day-number : (n : ℕ) → listed dayNumbers n ≡ true → eqb n 0 ≡ false
 unfolding listed
 day-number zero e = absurd (true≢false (sym e))
 day-number (suc n) e = ne-eqb (suc n) 0 (omega arith)
@@ -231,6 +232,29 @@ piece-fits zero first scratch o h =
 piece-fits (suc p) first scratch o h =
     rw (drop-rows, take-rows, drop-rows, take-rows, cells-length) (omega arith)
 
+-- a row that is asked for and that there is, is not refused
+module _ (asked : Order → Rows) (s buffer : List ℕ) (o : Order) (e : readingOf s ≡ reading.Read o) (h : rowLength ≤ length buffer) where
+  put-shown : (rows : Rows) → 1 ≤ length rows → putCallOf rows buffer .answer .refusal ≡ noRefusal
+  unfolding putCallOf
+  put-shown [] l = absurd (omega arith)
+  put-shown (row ∷ rows) l = refl
+
+  asked-shown : 1 ≤ length (asked o) → askedCallOf asked rowLength s buffer .answer .refusal ≡ noRefusal
+  unfolding askedCallOf
+  asked-shown l = rw (le-ltb (length buffer) rowLength h, e) (put-shown (asked o) l)
+
+one-asked : (row : ℕ) (o : Order) → row < o .rows → 1 ≤ length (oneRow row o)
+unfolding oneRow
+one-asked row o h = rw (lt-ltb row (o .rows) h) (lit≤ tt)
+
+piece-asked : (page first : ℕ) (scratch : List ℕ) (o : Order) → first < length (pageOf o page) → rowLength ≤ length scratch
+    → 1 ≤ length (pieceIn page first scratch o)
+piece-asked page first scratch o h l =
+    let rows = drop first (pageOf o page) in
+    let t = length-take (length scratch / rowLength) rows in
+    let d = length-drop first (pageOf o page) in
+    omega arith
+
 -- ---- a sentence
 sentence-lent : (n p : ℕ) (buffer : List ℕ)
     → Lent (sentenceCallOf n p buffer .answer .number) (sentenceOf n p) buffer (sentenceCallOf n p buffer .buffer)
@@ -293,6 +317,9 @@ nothing-breaks-a-run s =
       first = λ r e. first-broken (checkOf s ∷ checksOf (valuesOf s)) (orderOf (valuesOf s)) r e;
       day = λ o row r e h w. refused-day o (rowDateOf (o .date) row) r (sym (row-of s o row e h) ∙ w);
       lacking = λ o row r e h l. row-of s o row e h ∙ lacking-day o (rowDateOf (o .date) row) r l;
+      shown = λ o row buffer e h l. asked-shown (oneRow row) s buffer o e l (one-asked row o h);
+      «page_shown» = λ o page first scratch e h l.
+          asked-shown (pieceIn page first scratch) s scratch o e l (piece-asked page first scratch o h l);
       sheet = sheet-each s;
       only = λ o row e h. others-stay o row h;
       row = row-lent s;

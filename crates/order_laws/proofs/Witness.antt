@@ -1,8 +1,9 @@
 -- Two orders that meet the hypothesis of demand 3, so it can be met. The first has town P, 2026-06-21, one row, 10.0, 20.0, method 0. The
 -- second has one minute more for Fajr, and its place as on the map, 10 degrees north and 20 degrees east. A third is the first with its
--- place as on the map. Document 01 alone accepts the first.
+-- place as on the map. Document 01 alone accepts the first. At the end: an order of 400 rows, and an order for each refusal.
 use Rattle.prelude.proofs.Logic.{_≡_, refl, sym, subst, Bool, true, false, true≢false, List, [], _∷_, _++_, ℕ, zero, suc, _≤_, arith, leb}
-use Rattle.prelude.proofs.Logic.{leZ, replicate, leb-true, leb-false}
+use Rattle.prelude.proofs.Logic.{leZ, T, replicate, leb-true, leb-false, map, eqb, eqb-true, cases}
+use Rattle.prelude.specs.Lists.{listed}
 use Rattle.float64.proofs.Floats.{le, neg, ofBits, round, dec}
 use Rattle.calendar.proofs.Calendar.{leapOf, lengthOf, existsOf, daysBeforeOf, ordinalOf, countBelow, monthOf, ofOrdinalOf}
 use Rattle.calendar.proofs.Calendar.{daysBeforeYearOf, dayNumberOf, lastBy, yearOf, dateAtOf, dateOfDayOf, heldOf, fromOf}
@@ -10,20 +11,26 @@ use Rattle.fields.specs.Numbers.{unsignedOf, signedAtOf, bytesNumberOf, bitsOf,
 use Rattle.fields.specs.Tags.{lengthFits, choiceFits}
 use Rattle.fields.specs.Fields.{lengthAt, faultIn, faultOf, walkOf, checkOf}
 use Rattle.fields.specs.Values.{collectOf, fieldsOf, valuesIn, hasOf, valueOf, valuesOf}
+use Rattle.hijri.specs.Days as hijri
+use Rattle.hijri.specs.Ramadan.{ramadanStartOf}
 use Rattle.map_form.specs.Hundredths.{degreesOf, formFits}
 use Rattle.models.specs.declared.prayer.Prayer.{Prayer}
 use Rattle.models.specs.declared.prayer.Prayer.the-variants.{Fajr, Sunrise, Dhuhr, Asr, Maghrib, Isha, Qiyam, FajrTomorrow}
 use Rattle.models.proofs.Models.{methodOf, preset, presetOf, minutesFor, timeAdjustmentsOf}
 use Rattle.order.specs.Given.{dateIn, rowsIn, degreesIn, formIn, coordinateIn, minutesIn, byteOr, degreesOr, roundingOr, minutesOr}
-use Rattle.order.specs.Given.{intervalOr, parametersIn, rulesIn, clockIn, ramadanIn}
+use Rattle.order.specs.Given.{intervalOr, parametersIn, rulesIn, clockIn, ramadanGiven, ramadanIn}
 use Rattle.text.specs.Text.{printable}
-use Rattle.order.specs.Ranges.{rowsFit, ramadanRows, minuteFits, minutesFit, intervalFits, lookUp, fitsOf, inRangeOf}
+use Rattle.order.specs.Ranges.{rowsFit, ramadanRows, ramadanFits, minuteFits, minutesFit, intervalFits, lookUp, fitsOf, inRangeOf}
 use Rattle.order.specs.Reading.{firstFailing, isGivenOf, missingOf, bothFormsOf, tagsFrom, outOfRangeOf, orderOf, wrongStartOf, firstOf}
 use Rattle.order.specs.Reading.{readingOf, townIn, townOf}
-use Rattle.order.specs.declared.reading.Reading.the-variants.{Read}
+use Rattle.order.specs.declared.reading.Reading.{Reading}
+use Rattle.order.specs.declared.reading.Reading.the-variants.{Read, Refused}
+use Rattle.refusals.specs.Refusals.{refusal}
+use Rattle.refusals.specs.declared.Refusal.{Refusal}
 use Rattle.order_laws.specs.FormerRows.{formerLengthFits, formerFaultOf, formerWalkOf, formerCheckOf, formerRowsFit, formerInRange}
 use Rattle.order_laws.specs.FormerRows.{formerOrderOf, formerReadingOf}
 use Rattle.order_laws.specs.Minutes.{LaterOrder}
+use Rattle.order_laws.specs.NothingBreaks.{EachRefusalIsGiven}
 use Rattle.order_laws.specs.EitherForm.{saysPlace, SamePlace}
 use Rattle.order_laws.specs.Swapped.{Sent, Swapped}
 
@@ -151,3 +158,56 @@ and-back =
 pub was-accepted : formerReadingOf earlier ≡ Read (formerOrderOf (valuesOf earlier))
 unfolding formerReadingOf formerCheckOf formerWalkOf formerFaultOf formerLengthFits formerRowsFit formerInRange formerOrderOf opened
 was-accepted = refl
+
+-- ---- request 4: a year in one order. Town P, 2026 in this month, on the 21st, with these rows, 10.0, 20.0, method 0; then further fields
+abbrev orderWith : ℕ → List ℕ → List ℕ → List ℕ
+orderWith month rows further =
+    (1 ∷ 0 ∷ 1 ∷ 80 ∷ []) ++ (2 ∷ 0 ∷ 4 ∷ 7 ∷ 234 ∷ month ∷ 21 ∷ []) ++ rows ++ (4 ∷ 0 ∷ 8 ∷ 64 ∷ 36 ∷ replicate 6 0)
+    ++ (5 ∷ 0 ∷ 8 ∷ 64 ∷ 52 ∷ replicate 6 0) ++ (6 ∷ 0 ∷ 1 ∷ 0 ∷ []) ++ further
+
+abbrev year : List ℕ
+year = orderWith 6 (3 ∷ 0 ∷ 2 ∷ 1 ∷ 144 ∷ []) []
+
+pub year-read : (readingOf year ≡ Read (orderOf (valuesOf year))) × (orderOf (valuesOf year) .rows ≡ 400)
+unfolding opened
+year-read = (refl, refl)
+
+-- ---- an order for each refusal: document 01's examples, both forms of the latitude, and a Ramadan sheet that starts in June
+abbrev Example : Type 0
+Example = List ℕ × Refusal
+
+abbrev month : ℕ → List ℕ → List ℕ
+month number further = orderWith number (3 ∷ 0 ∷ 1 ∷ 30 ∷ []) further
+
+abbrev examples : List Example
+examples =
+    (1 ∷ 0 ∷ [], refusal 1 0)
+    ∷ (99 ∷ 0 ∷ 0 ∷ [], refusal 2 0)
+    ∷ (1 ∷ 0 ∷ 1 ∷ 80 ∷ 1 ∷ 0 ∷ 1 ∷ 80 ∷ [], refusal 3 4)
+    ∷ ([], refusal 4 1)
+    ∷ (month 13 [], refusal 5 2)
+    ∷ (month 6 (18 ∷ 0 ∷ 5 ∷ 0 ∷ 10 ∷ replicate 3 0), refusal 15 18)
+    ∷ (month 6 (20 ∷ 0 ∷ 2 ∷ 10 ∷ 1 ∷ []), refusal 18 2)
+    ∷ []
+
+abbrev AllRefused : List Example → Type 0
+AllRefused [] = T true
+AllRefused (example ∷ rest) = (readingOf (example .0) ≡ Refused (example .1)) × AllRefused rest
+
+pub examples-are-refused : AllRefused examples
+unfolding opened ramadanFits ramadanGiven ramadanStartOf hijri.heldOf hijri.dateOfDayOf hijri.dateAtOf hijri.inYearOf hijri.yearOf
+    hijri.monthOf hijri.yearStartOf
+examples-are-refused = (refl, (refl, (refl, (refl, (refl, (refl, (refl, tt)))))))
+
+from-examples : (given : List Example) → AllRefused given → (number : ℕ) → listed (map (λ (e : Example). e .1 .number) given) number ≡ true
+    → (bytes : List ℕ) × (place : ℕ) × (readingOf bytes ≡ Refused (refusal number place))
+unfolding listed
+from-examples [] all number l = absurd (true≢false (sym l))
+from-examples (example ∷ rest) all number l =
+    cases (eqb (example .1 .number) number)
+    (λ h. let same : example .1 .number ≡ number = eqb-true (example .1 .number) number h in
+    (example .0, example .1 .place, rw (← same) (all .0)))
+    (λ h. from-examples rest (all .1) number (simp h at l))
+
+pub each-refusal-is-given : EachRefusalIsGiven
+each-refusal-is-given number l = from-examples examples examples-are-refused number l

@@ -1,4 +1,5 @@
 pub mod NothingBreaks
+pub mod RulesInOrder
 pub mod Printed
 pub mod Imsak
 pub mod Minutes

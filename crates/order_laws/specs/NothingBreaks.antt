@@ -10,10 +10,11 @@ use lib.Dec.{eqb}
 use lib.ListN.{length}
 use Rattle.prelude.specs.Lists.{listed}
 use Rattle.refusals.specs.Refusals.{fieldCut, fieldUnknown, fieldAgain, tagMissing, outOfRange, noTransit, noSunrise, noSunset, bothForms}
-use Rattle.refusals.specs.Refusals.{notFirstOfRamadan}
+use Rattle.refusals.specs.Refusals.{notFirstOfRamadan, refusal, noRefusal}
 use Rattle.refusals.specs.declared.Refusal.{Refusal}
 use Rattle.calendar.specs.Answers.{rowDateOf}
 use Rattle.calendar.specs.declared.dates.Date.{Date}
+use Rattle.braille.specs.Cells.{rowLength}
 use Rattle.days.specs.Calls.{workDateOf, workDayOf}
 use Rattle.fields.specs.Fields.{checkOf}
 use Rattle.fields.specs.Values.{valuesOf}
@@ -23,7 +24,7 @@ use Rattle.order.specs.declared.reading.Order.{Order}
 use Rattle.order.specs.declared.reading.Reading.{Reading}
 use Rattle.order.specs.declared.reading.Reading.the-variants as reading
 use Rattle.pages.specs.Answers.{oneRow, pieceIn, cellsCallOf, pageCallOf}
-use Rattle.pages.specs.Pages.{cellsOf}
+use Rattle.pages.specs.Pages.{cellsOf, pageOf}
 use Rattle.sheets.specs.Rows.{rowCallOf, headText, sheetText}
 use Rattle.schedule.specs.Numbers.{numbersOf}
 use Rattle.schedule.specs.declared.prayer_times.Worked.{Worked}
@@ -38,6 +39,11 @@ use Rattle.text.specs.Text.{frontOf}
 -- ---- "every order is read or refused by number"
 abbrev pub orderNumbers : List ℕ
 orderNumbers = fieldCut ∷ fieldUnknown ∷ fieldAgain ∷ tagMissing ∷ outOfRange ∷ bothForms ∷ notFirstOfRamadan ∷ []
+
+-- and each of these numbers refuses some order
+abbrev pub EachRefusalIsGiven : Type 0
+EachRefusalIsGiven = (number : ℕ) → listed orderNumbers number ≡ true
+    → (bytes : List ℕ) × (place : ℕ) × (readingOf bytes ≡ reading.Refused (refusal number place))
 
 -- "the first broken rule in the stated order gives the number": each rule is given by its refusal, and the rules before r refuse nothing
 pub data FirstBroken (r : Refusal) : List Refusal → Type 0 where
@@ -106,6 +112,11 @@ pub record NothingBreaks (s : List ℕ) : Type 0 where
       → RefusedDay o (rowDateOf (o .date) row) r
   pub lacking : (o : Order) (row : ℕ) (r : Refusal) → readingOf s ≡ reading.Read o → row < o .rows
       → FirstLacking (r .number) (r .place) (threeDays o (rowDateOf (o .date) row)) → workDayOf s row ≡ worked.Refused r
+  -- request 2: "a row or page of cells is not itself refused for it", a refused day
+  pub shown : (o : Order) (row : ℕ) (buffer : List ℕ) → readingOf s ≡ reading.Read o → row < o .rows → rowLength ≤ length buffer
+      → cellsCallOf s row buffer .answer .refusal ≡ noRefusal
+  pub «page_shown» : (o : Order) (page first : ℕ) (scratch : List ℕ) → readingOf s ≡ reading.Read o → first < length (pageOf o page)
+      → rowLength ≤ length scratch → pageCallOf s page first scratch .answer .refusal ≡ noRefusal
   -- the sheet has a line for each row, which depends on that row alone
   pub sheet : (o : Order) → readingOf s ≡ reading.Read o → sheetText s ≡ headText (o .ramadan) (townOf s) ++ eachOf (rowLine o) (o .rows)
   pub only : (o : Order) (row : ℕ) → readingOf s ≡ reading.Read o → row < o .rows → OthersStay o row
