@@ -76,7 +76,8 @@ before d h n =
     (λ q. let l = ltb-true 1 (d .month) q in
     let days = daysInMonthOf (d .year) (d .month - 1) in let e = dateOf (d .year) (d .month - 1) days in
     let k : d .month - 2 + 1 ≡ d .month - 1 = omega arith in
-    let s : 28 ≤ days = subst (λ (i : ℕ). 28 ≤ daysInMonthOf (d .year) i) k (length-least (leapOf (d .year)) (d .month - 2) (omega arith)) in
+    let least = length-least (leapOf (d .year)) (d .month - 2) (omega arith) in
+    let s : 28 ≤ days = subst (λ (i : ℕ). 28 ≤ daysInMonthOf (d .year) i) k least in
     let t = to-exists e (record { from = omega (arith, s); to = omega arith }) in let i : d .month - 1 + 1 ≡ d .month = omega arith in
     let f : dateOf (d .year) (d .month - 1 + 1) 1 ≡ d = rw (i, j) in
     rw (p, q) (record {

@@ -10,8 +10,8 @@ unfoldable pub use Rattle.schedule.specs.InForce.{currentNumberOf, lastO
 unfoldable pub use Rattle.schedule.specs.InForce.{untilOf}
 pub use Rattle.schedule.specs.InForce.{currentTimeOf, nextOf, NotAfter}
 unfoldable pub use Rattle.schedule.specs.Numbers.{numbersOf}
-unfoldable pub use Rattle.schedule.specs.Times.{startOf, finalOf, fajrTomorrowOf, middleOfTheNightOf, qiyamOf, fromMidnightOf, startedOf}
-unfoldable pub use Rattle.schedule.specs.Times.{startedIn, sinceFrom, sinceOf}
+unfoldable pub use Rattle.schedule.specs.Times.{startOf, finalOf, fajrTomorrowOf, middleOfTheNightOf, qiyamOf, fromMidnightOf}
+unfoldable pub use Rattle.schedule.specs.Times.{startedOf, startedIn, sinceFrom, sinceOf}
 pub use Rattle.models.specs.Chosen.{seasonOf, settingOf}
 pub use Rattle.schedule.specs.Times.{workedOf, workedBy, sinceAt, workedAt}
 pub use Rattle.schedule.specs.Each.{Each}

@@ -7,8 +7,9 @@ returns : this.Tie.Need-returns
 returns c =
     let a = c .before .before .before .before .before .before .before .before .before .before .args in
     let w = c .before .before .write-worked .ensures in
-    let l = row-there (a .order) (a .row) (now (a .buffer)) _ _ (c .before .before .before .before .before .before .before .if1 .taken)
-    (c .before .before .before .before .before .row .ensures) (ap (startedIn _) (c .before .before .before .before .since-midnight .ensures .0)) in
+    let since = c .before .before .before .before in
+    let l = row-there (a .order) (a .row) (now (a .buffer)) _ _ (since .before .before .before .if1 .taken)
+    (since .before .row .ensures) (ap (startedIn _) (since .since-midnight .ensures .0)) in
     (w .0 ∙ l .0, w .1 ∙ l .1)
 
 returns-2 : this.Tie.Need-returns-2
