@@ -1,4 +1,4 @@
--- `lines::row::put_row` meets its contract: the ten columns, or all but the first of them.
+-- The line has the ten columns, or all but the first of them.
 use Rattle.prelude.proofs.Logic.{_≡_, ap, _∙_, _∷_, ℤ, needs, w64, SFits, toZ-ofZ}
 use Rattle.integers.proofs.Ranges.{readBack}
 use Rattle.lines.specs.Lines.{imsakOf, nineOf, columnsOf}

@@ -1,4 +1,4 @@
--- `sheets::sheet::write_sheet` meets its contract, by the laws of every report. The town is read as a part of the order's bytes.
+-- A refused order and a read one, each by the law of every report. The town is read as a part of the order's bytes.
 use Rattle.prelude.proofs.Logic.{_≡_, sym, ap, _∙_, lit≤, needs, now}
 use Rattle.order.specs.Reading.{townIn, townOf}
 use Rattle.order.proofs.AcceptedLaws.{read-accepted}

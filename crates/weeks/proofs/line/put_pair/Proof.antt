@@ -1,4 +1,4 @@
--- `weeks::line::put_pair` meets its contract: four pieces, each put where the one before it ends.
+-- Four pieces, each put where the one before it ends.
 use Rattle.prelude.proofs.Logic.{_≡_, _+_, _≤_, arith, length, needs, w64, now}
 use Rattle.integers.proofs.Ranges.{read}
 use Rattle.text.specs.Signed.{signedOf}

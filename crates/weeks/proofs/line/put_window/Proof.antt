@@ -1,4 +1,4 @@
--- `weeks::line::put_window` meets its contract: the pieces of either line, each put where the one before it ends.
+-- The pieces of either line, each put where the one before it ends.
 use Rattle.prelude.proofs.Logic.{_≡_, arith, length, needs, w64, SFits, now}
 use Rattle.integers.proofs.Ranges.{read}
 use Rattle.weeks.proofs.LineLaws.{line-front, found-bytes, refused-bytes, found-made, refused-made}

@@ -1,4 +1,4 @@
--- `weeks::minutes::work_minutes` meets its contract. The loop's invariant: the suns are the row's, and the earlier rows are stored.
+-- The loop's invariant: the suns are the row's, and the earlier rows are stored.
 use Rattle.prelude.proofs.Logic.{_≡_, sym, ap, _∙_, ℕ, _+_, _-_, _<_, arith, length, needs, now}
 use Rattle.days.proofs.RowStates.{first-state, next-state}
 use Rattle.schedule.specs.RowSuns.{nextRowSunsOf}

@@ -1,4 +1,4 @@
--- `weeks::report::put_report` meets its contract: the rows' minutes in the two arrays are those of the definition.
+-- The rows' minutes in the two arrays are those of the definition.
 use Rattle.prelude.proofs.Logic.{_≡_, sym, ap, _∙_, List, ℕ, arith, length, needs, now}
 use Rattle.text.specs.Text.{frontOf}
 use Rattle.weeks.specs.Kept.{minuteAt}

@@ -1,4 +1,4 @@
--- `weeks::report::put_windows` meets its contract. The loop's invariant: the lines of the windows before `first` are at the buffer's front.
+-- The loop's invariant: the lines of the windows before `first` are at the buffer's front.
 use Rattle.prelude.proofs.Logic.{_≡_, sym, ap, _∙_, ℕ, _+_, _-_, _≤_, arith, length, needs, now}
 use Rattle.text.specs.Text.{frontOf}
 use Rattle.weeks.specs.declared.window.Window.{Window}

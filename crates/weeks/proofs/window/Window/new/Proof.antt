@@ -1,4 +1,4 @@
--- `weeks::window::Window::new` meets its contract. The loop's invariant: with the rows that are left, the window becomes the definition's.
+-- The loop's invariant: with the rows that are left, the window becomes the definition's.
 use Rattle.prelude.proofs.Logic.{ap, _∙_, _+_, _-_, arith, needs, now}
 use Rattle.weeks.specs.declared.minutes.Minute.{Minute}
 use Rattle.weeks.specs.declared.window.Window.{Window}
