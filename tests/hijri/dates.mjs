@@ -1,6 +1,6 @@
 // What tests/hijri/run compares the library with, by node's calendar `islamic-civil` alone: the count of the dates from 1899-12-31 to
-// 2200-01-03, and a fold over them of the tabular date, the day from 1970-01-01, the Gregorian date, the day of that Islamic year's first of
-// Ramadan, and whether the day begins a Ramadan with the shift -1, 0 and 1; then how many do with the shift 0.
+// 2200-01-03, and a fold over them of the tabular date, the day from 1970-01-01, the Gregorian date, the day of that Islamic year's first
+// of Ramadan, and whether the day begins a Ramadan with the shift -1, 0 and 1; then how many do with the shift 0.
 //     node tests/hijri/dates.mjs > tests/hijri/folds.txt
 const DAY = 86400000;
 const first = Date.UTC(1899, 11, 31) / DAY, last = Date.UTC(2200, 0, 3) / DAY;
