@@ -315,8 +315,8 @@ katchidul_cells katchidul_write_cells(const uint8_t *order, size_t length, uint3
 
    A page may be written at once, with KATCHIDUL_PAGE_CELLS bytes, or in pieces of any length: each call begins at `first` plus the `rows`
    of the one before, until one returns 5, place 3. The cells and their order, and the sum of the dots, do not depend on the lengths. Pieces
-   cost time: the first row of a call works three suns and each later row one, so a page written row by row costs about 2.2 times as much as
-   at once (docs/SPEED.md). */
+   cost time: the first row of a call works three suns and each later row one, so a page written row by row costs about twice as much as at
+   once (docs/SPEED.md). */
 katchidul_cells katchidul_write_page(const uint8_t *order, size_t length, uint32_t page, uint32_t first, uint8_t *scratch, size_t size);
 
 /* The print queue. Jobs wait for the embosser, each with an id and its pages left. Each turn sends one page of the job at the front, so
