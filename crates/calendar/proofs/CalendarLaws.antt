@@ -34,8 +34,12 @@ balance d = let s = difference (pos (count d)) (pos 719529) in omega (arith, s .
 numbered : (d : Date) (z : ℤ) → P z + 719529 ≡ N z + count d → dayNumberOf d ≡ z
 numbered d z h = let b = balance d in same (dayNumberOf d) z (omega arith)
 
+-- a date whose count is k more has a number that is k more
+pub later : (d e : Date) (k : ℕ) → count e ≡ count d + k → dayNumberOf e ≡ dayNumberOf d +ℤ pos k
+later d e k h = numbered e (dayNumberOf d +ℤ pos k) (omega (arith, balance d, sum (dayNumberOf d) (pos k)))
+
 pub day-after : (d : Date) → existsOf d ≡ true → dayNumberOf (dayAfterOf d) ≡ dayNumberOf d +ℤ pos 1
-day-after d h = numbered (dayAfterOf d) (dayNumberOf d +ℤ pos 1) (omega (arith, after d h, balance d, sum (dayNumberOf d) (pos 1)))
+day-after d h = later d (dayAfterOf d) 1 (after d h .number)
 
 pub day-after-exists : (d : Date) → existsOf d ≡ true → existsOf (dayAfterOf d) ≡ true
 day-after-exists d h = after d h .there

@@ -1,7 +1,7 @@
 -- The rows of days before each month, compared with the months' lengths by tests that antt computes. Assumes nothing.
 use Rattle.prelude.proofs.Logic.{_≡_, refl, Bool, true, false, cond, not, _&&_, _||_, ℕ, zero, suc, _+_, _-_, _/_, _≤_, _<_, arith, T}
 use Rattle.prelude.proofs.Logic.{eqb, ltb, leb, eqb→eq, leb→le, ltb→lt, le→leb, lit≤, List·getD-eq-default, ltb-true, ltb-false, and-l}
-use Rattle.prelude.proofs.Logic.{and-r, cases}
+use Rattle.prelude.proofs.Logic.{and-r, cases, sym, subst, le-leb, lt-leb, leb-true, leb-false}
 use Rattle.calendar.specs.Gregorian.{lengthsOf, lengthOf}
 use Rattle.calendar.specs.Days.{monthStartsOf, daysBeforeOf, countBelow, monthOf}
 use Rattle.prelude.proofs.Computed.{below, at, tested, when}
@@ -42,6 +42,10 @@ pub length-december : (leap : Bool) → lengthOf leap 12 ≡ 31
 unfolding lengthOf
 length-december leap = refl
 
+length-none : (leap : Bool) → lengthOf leap 0 ≡ 0
+unfolding lengthOf
+length-none leap = refl
+
 pub length-past : (leap : Bool) (m : ℕ) → 12 < m → lengthOf leap m ≡ 0
 unfolding lengthOf
 length-past leap m h = List·getD-eq-default (lengthsOf leap) 0 h
@@ -57,6 +61,19 @@ leastTest leap k = leb 28 (lengthOf leap (k + 1))
 pub length-least : (leap : Bool) (k : ℕ) → k < 12 → 28 ≤ lengthOf leap (k + 1)
 unfolding leastTest lengthOf
 length-least leap k h = leb→le 28 _ (tested leastTest 12 tt leap k h)
+
+pub least : (leap : Bool) (m : ℕ) → 0 < m → m ≤ 12 → 28 ≤ lengthOf leap m
+least leap m p q = let k : m - 1 + 1 ≡ m = omega arith in subst (λ (i : ℕ). 28 ≤ lengthOf leap i) k (length-least leap (m - 1) (omega arith))
+
+-- a day up to the 28th is in a month if the month is one of the twelve
+pub early : (leap : Bool) (m d : ℕ) → 1 ≤ d → d ≤ 28 → (leb 1 m && leb m 12) ≡ leb d (lengthOf leap m)
+early leap zero d p q = sym (lt-leb d (lengthOf leap 0) (omega (arith, length-none leap)))
+early leap (suc k) d p q =
+    cases (leb (suc k) 12)
+    (λ e. let l = least leap (suc k) (omega arith) (leb-true (suc k) 12 e) in
+    rw (le-leb 1 (suc k) (omega arith), e, le-leb d (lengthOf leap (suc k)) (omega arith)))
+    (λ e. let z = length-past leap (suc k) (leb-false (suc k) 12 e) in
+    rw (le-leb 1 (suc k) (omega arith), e, lt-leb d (lengthOf leap (suc k)) (omega arith)))
 
 -- a month that has days is one of the twelve, has at most 31 days, and ends within the year
 pub record Month (leap : Bool) (m : ℕ) : Type 0 where

@@ -48,8 +48,16 @@ impl Date {
     pub fn exists(self) -> bool
         ensures { λ r. ⌜ r ≡ existsOf self ⌝ }
     {
-        let days = month_days(is_leap_year(self.year), self.month);
-        self.day >= 1 && self.day <= days
+        let month = self.month;
+        let day = self.day;
+        if day < 1 {
+            return false;
+        }
+        // Every month has 28 days.
+        if day <= 28 {
+            return (1 <= month) & (month <= 12);
+        }
+        day <= month_days(is_leap_year(self.year), month)
     }
 
     // The day of the year; 0 for a date that does not exist, so callers need not check first.
@@ -70,22 +78,13 @@ impl Date {
         let year = self.year;
         let month = self.month;
         let day = self.day;
-        if day < 1 {
+        if !self.exists() {
             return self;
         }
-        // Every month has 28 days.
         if day < 28 {
-            if month >= 1 {
-                if month <= 12 {
-                    return Date::new(year, month, day + 1);
-                }
-            }
+            return Date::new(year, month, day + 1);
         }
-        let days = month_days(is_leap_year(year), month);
-        if day > days {
-            return self;
-        }
-        if day < days {
+        if day < month_days(is_leap_year(year), month) {
             return Date::new(year, month, day + 1);
         }
         if month < 12 {
@@ -97,26 +96,26 @@ impl Date {
         Date::new(year + 1, 1, 1)
     }
 
-    // The date with the ordinal before, or December 31 of the year before.
+    // The day of the month before, or the last of the month or year before.
     pub fn yesterday(self) -> Date
         ensures { λ r. ⌜ r ≡ yesterdayOf self ⌝ }
     {
         let year = self.year;
-        let ordinal = self.ordinal();
-        if ordinal == 0 {
+        let month = self.month;
+        let day = self.day;
+        if !self.exists() {
             return self;
         }
-        if ordinal > 1 {
-            return of_ordinal(year, ordinal - 1);
+        if day > 1 {
+            return Date::new(year, month, day - 1);
+        }
+        if month > 1 {
+            return Date::new(year, month - 1, month_days(is_leap_year(year), month - 1));
         }
         if year == 0 {
             return self;
         }
-        Date {
-            year: year - 1,
-            month: 12,
-            day: 31,
-        }
+        Date::new(year - 1, 12, 31)
     }
 
     pub fn next_date(self, fwd: bool) -> Date
@@ -150,11 +149,16 @@ impl Date {
     pub fn row(self, row: u32) -> Date
         ensures { λ r. ⌜ r ≡ rowDateOf self row ⌝ }
     {
-        if self.exists() {
-            Date::of_day(self.day_number() + row as i64)
-        } else {
-            self
+        let day = self.day;
+        if !self.exists() {
+            return self;
         }
+        if day < 28 {
+            if row <= 28 - day {
+                return Date::new(self.year, self.month, day + row);
+            }
+        }
+        Date::of_day(self.day_number() + row as i64)
     }
 }
 

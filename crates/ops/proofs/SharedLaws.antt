@@ -6,10 +6,19 @@ use Rattle.unit.specs.declared.Coordinates.{Coordinates}
 use Rattle.unit.specs.Unit.{longitudeAngleOf}
 use Rattle.ops.specs.declared.coordinates.Equatorial.{Equatorial}
 use Rattle.ops.specs.declared.transit.Course.{Course}
+use Rattle.ops.specs.Coordinates.{solarCoordinatesOf}
 use Rattle.ops.specs.Transit.{interpolateOf, interpolateAnglesOf, altitudeOfCelestialBodyOf, hourAngleAtOf, correctedTransitOf}
 use Rattle.ops.specs.Transit.{correctedHourAngleOf}
 use Rattle.ops.specs.Shared.{interpolatedOf, observerOf, courseThroughOf, hourAngleOf, courseTransitNumberOf, arcToSineOf, halfArcOf}
-use Rattle.ops.specs.Shared.{movedTransitOf, hourNumberOf}
+use Rattle.ops.specs.Shared.{movedTransitOf, hourNumberOf, placeOf, siderealTimeOf, meanSunOf, meanPlaceOf, meanSiderealOf}
+
+pub mean-place : (day : Float) → meanPlaceOf (meanSunOf day) ≡ placeOf (solarCoordinatesOf day)
+unfolding meanPlaceOf solarCoordinatesOf
+mean-place day = refl
+
+pub mean-sidereal : (day : Float) → meanSiderealOf (meanSunOf day) ≡ siderealTimeOf (solarCoordinatesOf day)
+unfolding meanSiderealOf solarCoordinatesOf
+mean-sidereal day = refl
 
 module _ (transit : Float) (place : Coordinates) (sidereal : Angle) (previous today next : Equatorial) where
   abbrev course : Course

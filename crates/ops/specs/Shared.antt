@@ -11,14 +11,16 @@ use Rattle.unit.specs.declared.Coordinates.{Coordinates}
 use Rattle.unit.specs.Unit.{angleOf, fromRadiansOf, radiansOf, unwoundOf, quadrantShiftedOf, plusOf, minusOf, overOf, latitudeAngleOf}
 use Rattle.unit.specs.Unit.{longitudeAngleOf, normalizedToScaleOf}
 use Rattle.ops.specs.declared.coordinates.Equatorial.{Equatorial}
+use Rattle.ops.specs.declared.coordinates.MeanSun.{MeanSun}
 use Rattle.ops.specs.declared.coordinates.SolarCoordinates.{SolarCoordinates}
 use Rattle.ops.specs.declared.interpolation.Interpolation.{Interpolation}
 use Rattle.ops.specs.declared.sun.Nutation.{Nutation}
 use Rattle.ops.specs.declared.sun.Apparent.{Apparent}
 use Rattle.ops.specs.declared.transit.Observer.{Observer}
 use Rattle.ops.specs.declared.transit.Course.{Course}
-use Rattle.ops.specs.Coordinates.{declinationOf, rightAscensionOf}
+use Rattle.ops.specs.Coordinates.{declinationOf, rightAscensionOf, apparentSiderealTimeOf}
 use Rattle.ops.specs.Sun.{apparentSolarLongitudeOf, apparentObliquityOfTheEclipticOf, nutationInLongitudeOf, nutationInObliquityOf}
+use Rattle.ops.specs.Sun.{julianCenturyOf, meanSolarLongitudeOf, meanObliquityOfTheEclipticOf}
 use Rattle.ops.specs.Transit.{westOf}
 
 -- what the sine and the cosine of one angle correct together
@@ -34,6 +36,20 @@ apparentPositionOf t longitude obliquity =
 abbrev pub equatorialOf : Float → Float → Equatorial
 equatorialOf obliquity longitude =
     record { declination = declinationOf obliquity longitude; «right_ascension» = rightAscensionOf obliquity longitude }
+
+-- what the position and the sidereal time of a day both begin with, and each of the two from it
+abbrev pub meanSunOf : Float → MeanSun
+meanSunOf day =
+    let t = julianCenturyOf day in
+    record { century = t; longitude = meanSolarLongitudeOf t; obliquity = meanObliquityOfTheEclipticOf t }
+
+unfoldable pub meanPlaceOf : MeanSun → Equatorial
+meanPlaceOf m =
+    let apparent = apparentPositionOf (m .century) (m .longitude) (m .obliquity) in
+    equatorialOf (radiansOf (apparent .obliquity)) (radiansOf (apparent .longitude))
+
+unfoldable pub meanSiderealOf : MeanSun → Angle
+meanSiderealOf m = apparentSiderealTimeOf (m .century) (m .longitude) (m .obliquity)
 
 -- a position without its sidereal time, and the sidereal time
 abbrev pub placeOf : SolarCoordinates → Equatorial

@@ -1,7 +1,7 @@
 // solar.rs: the sun's position at 0h of a day. It is in this crate since a course is made from three positions.
 ghost use mathlib.Core.Path.{_≡_};
 ghost use Rattle.ops.specs.Coordinates.{apparentSiderealTimeOf, solarCoordinatesOf, positionOf};
-ghost use Rattle.ops.specs.Shared.{equatorialOf, placeOf, siderealTimeOf};
+ghost use Rattle.ops.specs.Shared.{equatorialOf, placeOf, siderealTimeOf, meanSunOf, meanPlaceOf, meanSiderealOf};
 use super::sun::apparent_position;
 use super::sun::ascending_lunar_node_longitude;
 use super::sun::julian_century;
@@ -62,17 +62,51 @@ fn apparent_sidereal_time(
     Angle::new(sidereal.degrees + ((nutation.longitude * 3600.0) * cosine) / 3600.0)
 }
 
+// What the position and the sidereal time of a day both begin with.
+pub struct MeanSun {
+    pub century: f64,
+    pub longitude: Angle,
+    pub obliquity: Angle,
+}
+
+impl MeanSun {
+    pub fn new(julian_day: f64) -> MeanSun
+        ensures { λ r. ⌜ r ≡ meanSunOf «julian_day» ⌝ }
+    {
+        let century = julian_century(julian_day);
+        MeanSun {
+            century: century,
+            longitude: mean_solar_longitude(century),
+            obliquity: mean_obliquity_of_the_ecliptic(century),
+        }
+    }
+
+    pub fn place(self) -> Equatorial
+        ensures { λ r. ⌜ r ≡ meanPlaceOf self ⌝ }
+    {
+        let mean_longitude = self.longitude;
+        let mean_obliquity = self.obliquity;
+        let apparent = apparent_position(self.century, mean_longitude, mean_obliquity);
+        let longitude = apparent.longitude;
+        let obliquity = apparent.obliquity;
+        on_the_sphere(obliquity.radians(), longitude.radians())
+    }
+
+    // The apparent sidereal time.
+    pub fn sidereal_time(self) -> Angle
+        ensures { λ r. ⌜ r ≡ meanSiderealOf self ⌝ }
+    {
+        let longitude = self.longitude;
+        let obliquity = self.obliquity;
+        apparent_sidereal_time(self.century, longitude, obliquity)
+    }
+}
+
 impl Equatorial {
     pub fn new(julian_day: f64) -> Equatorial
         ensures { λ r. ⌜ r ≡ placeOf (solarCoordinatesOf «julian_day») ⌝ }
     {
-        let century = julian_century(julian_day);
-        let mean_longitude = mean_solar_longitude(century);
-        let mean_obliquity = mean_obliquity_of_the_ecliptic(century);
-        let apparent = apparent_position(century, mean_longitude, mean_obliquity);
-        let longitude = apparent.longitude;
-        let obliquity = apparent.obliquity;
-        on_the_sphere(obliquity.radians(), longitude.radians())
+        MeanSun::new(julian_day).place()
     }
 }
 
@@ -80,23 +114,21 @@ impl Equatorial {
 pub fn sidereal_time(julian_day: f64) -> Angle
     ensures { λ r. ⌜ r ≡ siderealTimeOf (solarCoordinatesOf «julian_day») ⌝ }
 {
-    let century = julian_century(julian_day);
-    let mean_longitude = mean_solar_longitude(century);
-    let mean_obliquity = mean_obliquity_of_the_ecliptic(century);
-    apparent_sidereal_time(century, mean_longitude, mean_obliquity)
+    MeanSun::new(julian_day).sidereal_time()
 }
 
 impl SolarCoordinates {
     pub fn new(julian_day: f64) -> SolarCoordinates
         ensures { λ r. ⌜ r ≡ solarCoordinatesOf «julian_day» ⌝ }
     {
-        let place = Equatorial::new(julian_day);
+        let mean = MeanSun::new(julian_day);
+        let place = mean.place();
         let declination = place.declination;
         let right_ascension = place.right_ascension;
         SolarCoordinates {
             declination: declination,
             right_ascension: right_ascension,
-            apparent_sidereal_time: sidereal_time(julian_day),
+            apparent_sidereal_time: mean.sidereal_time(),
         }
     }
 }

@@ -19,6 +19,7 @@ use julian::day::date_julian_day;
 use models::rules::Rules;
 use models::setting::Setting;
 use ops::coordinates::Equatorial;
+use ops::coordinates::MeanSun;
 use ops::coordinates::place;
 use ops::coordinates::sidereal_time;
 use ops::transit::Course;
@@ -106,16 +107,19 @@ impl Courses {
         let next_day = julian_day_after(date, next, day);
         let second_day = julian_day_after(next, second, next_day);
         let third_day = julian_day_after(second, third, second_day);
+        let mean = MeanSun::new(day);
+        let mean_next = MeanSun::new(next_day);
+        let mean_second = MeanSun::new(second_day);
         let before = place(date.yesterday());
-        let at_date = Equatorial::new(day);
-        let at_next = Equatorial::new(next_day);
-        let at_second = Equatorial::new(second_day);
+        let at_date = mean.place();
+        let at_next = mean_next.place();
+        let at_second = mean_second.place();
         let at_third = Equatorial::new(third_day);
         let before_next = place_before_tomorrow(date, at_date);
         let before_second = place_before_tomorrow(next, at_next);
-        let sidereal = sidereal_time(day);
-        let sidereal_next = sidereal_time(next_day);
-        let sidereal_second = sidereal_time(second_day);
+        let sidereal = mean.sidereal_time();
+        let sidereal_next = mean_next.sidereal_time();
+        let sidereal_second = mean_second.sidereal_time();
         Courses {
             today: Course::new(observer, sidereal, before, at_date, at_next),
             tomorrow: Course::new(observer, sidereal_next, before_next, at_next, at_second),

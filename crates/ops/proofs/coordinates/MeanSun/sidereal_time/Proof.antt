@@ -1,0 +1,7 @@
+use Rattle.ops.specs.Shared.{meanSiderealOf}
+use Rattle.ops.proofs.coordinates.MeanSun.sidereal_time as this
+
+pub sidereal-time-spec : {M : Type 1} → this.Statement.statement M
+unfolding meanSiderealOf
+sidereal-time-spec =
+    this.Tie.close (this.Tie.spec (λ c κs. tt) (λ c. c .apparent-sidereal-time .ensures))
