@@ -28,16 +28,12 @@ pub fn unsigned(bytes: &[u8], at: usize) -> u32
     }
 }
 
-// The same two bytes as a signed number.
+// The same two bytes as a signed number: adding 32,768 and taking it away behind the remainder puts the upper half below zero.
 pub fn signed(bytes: &[u8], at: usize) -> i32
     ensures { λ r. ⌜ r ≡ signedAtOf (now (bytes .entry)) at ⌝ }
 {
     let x = unsigned(bytes, at);
-    if x < 32768 {
-        x as i32
-    } else {
-        x as i32 - 65536
-    }
+    ((x + 32768) % 65536) as i32 - 32768
 }
 
 // The first eight bytes, if not all of them are there.
