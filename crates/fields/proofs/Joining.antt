@@ -1,6 +1,7 @@
 -- Laws of the numbers that bytes write: a byte put behind others by a shift, and sixteen signed bits in an i32.
 use Rattle.prelude.proofs.Logic.{_≡_, sym, ap, _∙_, List, ℕ, _≤_, _<_, _+_, _*_, _^_, _%_, mod-eq-of-lt, lt-of-lt-of-le, add-one, arith}
-use Rattle.prelude.proofs.Logic.{pos, negsuc, _-ℤ_, pow-mono, pow-add, ltb, ltb-true, ltb-false, lt-ltb, le-ltb, cases, w32, toZ, ofZ, SFits, toZ-pos, toZ-ofZ}
+use Rattle.prelude.proofs.Logic.{pos, negsuc, _-ℤ_, pow-mono, pow-add, ltb, ltb-true, ltb-false, lt-ltb, le-ltb, cases}
+use Rattle.prelude.proofs.Logic.{w32, toZ, ofZ, SFits, toZ-pos, toZ-ofZ}
 use lib.Bits.{bitOr, or-shifted}
 use Rattle.fields.specs.Numbers.{byteOf, unsignedOf, signedAtOf, bytesNumberOf}
 
@@ -34,4 +35,5 @@ signed-wraps v at x is-x u =
     toZ-ofZ (less-fits (x + 32768)) ∙ rw (toZ-pos w32 {n = (x + 32768) % 65536} (omega arith), sym is-x)
     (cases (ltb x 32768)
     (λ e. let h = ltb-true x 32768 e in rw (e, le-ltb ((x + 32768) % 65536) 32768 (omega arith)) (ap pos (omega arith)))
-    (λ e. let h = ltb-false x 32768 e in rw (e, lt-ltb ((x + 32768) % 65536) 32768 (omega arith), lt-ltb x 65536 u) (ap negsuc (omega arith))))
+    (λ e. let h = ltb-false x 32768 e in rw (e, lt-ltb ((x + 32768) % 65536) 32768 (omega arith), lt-ltb x 65536 u)
+    (ap negsuc (omega arith))))

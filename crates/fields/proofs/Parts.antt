@@ -1,6 +1,7 @@
 -- The slice that `fields::values::bytes` returns is the bytes of the part. Assumes nothing.
 use Rattle.prelude.proofs.Logic.{_≡_, sym, ap, _∙_, List, ℕ, _≤_, _+_, _-_, min, min-eq-left, min-eq-right, le-of-lt, arith, leb, leb-true}
-use Rattle.prelude.proofs.Logic.{leb-false, length, take, drop, add-sub-cancel-left, drop-of-length-le, length-drop, take-all, drop-length, cases}
+use Rattle.prelude.proofs.Logic.{leb-false, length, take, drop, add-sub-cancel-left, drop-of-length-le, length-drop, take-all}
+use Rattle.prelude.proofs.Logic.{drop-length, cases}
 
 -- a start past the end is the end
 drop-least : (s : List ℕ) (at : ℕ) → drop (min at (length s)) s ≡ drop at s

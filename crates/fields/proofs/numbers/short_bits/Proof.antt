@@ -30,5 +30,5 @@ returns c =
 
 pub short-bits-spec : {M : Type 1} → this.Statement.statement M
 unfolding bytesNumberOf
-short-bits-spec = this.Tie.close (this.Tie.spec Inv-loop μ-loop (λ c. search needs) (λ c κs. search needs) (λ c. search needs) (λ c. search needs)
-    (λ c. search needs) loop-again returns)
+short-bits-spec = this.Tie.close (this.Tie.spec Inv-loop μ-loop (λ c. search needs) (λ c κs. search needs) (λ c. search needs)
+    (λ c. search needs) (λ c. search needs) loop-again returns)
