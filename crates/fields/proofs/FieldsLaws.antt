@@ -57,6 +57,10 @@ pub passed : (b : Bool) (x y : ℕ) → 1 ≤ x → cond b x y ≡ 0 → (b ≡ 
 passed true x y l e = absurd (omega arith)
 passed false x y l e = (refl, e)
 
+pub fault-cut : (s : List ℕ) (seen : List Bool) (at : ℕ) → length s - at < 3 → 1 ≡ faultOf s seen at
+unfolding faultOf faultIn
+fault-cut s seen at h = rw (lt-ltb _ _ h) refl
+
 pub fault-none : (s : List ℕ) (seen : List Bool) (at : ℕ) → faultOf s seen at ≡ 0 → Good s at × (getD seen (byteOf s at) false ≡ false)
 unfolding faultOf faultIn
 fault-none s seen at e =

@@ -46,9 +46,14 @@ fn pass(order: &[u8]) -> Checked
     let mut lengths = [0u8; TAGS];
     let mut at = 0;
     while at < order.len() {
+        // A cut header is refused before anything is read, so reading it needs no test of its own.
+        let left = order.len() - at;
+        if left < HEADER_LENGTH {
+            return refused(FIELD_CUT, at as u32);
+        }
         let tag = byte(order, at);
         let length = unsigned(order, at + 1);
-        let number = fault(tag, length, collected(&starts, tag), order.len() - at);
+        let number = fault(tag, length, collected(&starts, tag), left);
         if number != 0 {
             return refused(number, at as u32);
         }

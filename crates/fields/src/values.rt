@@ -1,6 +1,7 @@
 // What an order's fields give: by tag, the part of the order that is the tag's value. After the fields are collected, reading uses nothing
 // else.
 ghost use mathlib.Core.Path.{_≡_};
+ghost use Prim.Native.Nat.{min, _≤_};
 ghost use Rattle.fields.specs.Values.{noFields, hasIn, partFor, partIn, valuesIn};
 use super::tags::TAGS;
 use refusals::Refusal;
@@ -55,20 +56,20 @@ impl Fields {
     }
 }
 
+fn least(a: usize, b: usize) -> usize
+    ensures { λ r. ⌜ r ≡ min a b ⌝ }
+    ensures { λ r. ⌜ r ≤ b ⌝ }
+{
+    if a < b { a } else { b }
+}
+
 // The bytes of a part, as a slice of the order itself. A part that ends beyond the order gives only the bytes that are in it.
 pub fn bytes(order: &[u8], part: Part) -> &[u8]
     ensures { λ r. ⌜ now r ≡ partIn (now (order .entry)) part ⌝ }
 {
-    let n = order.len();
-    let start = part.at as usize;
-    if n <= start {
-        return &order[n..];
-    }
-    let end = start + part.length as usize;
-    if n <= end {
-        return &order[start..];
-    }
-    &order[start..end]
+    let start = least(part.at as usize, order.len());
+    let length = least(part.length as usize, order.len() - start);
+    &order[start..start + length]
 }
 
 // The bytes of a tag's value; none if the tag is missing.

@@ -27,37 +27,34 @@ unfolding outOfRangeOf inRangeOf fitsOf valuesIn
 held s f date ramadan d r = rw (d, r) refl
 
 abbrev Inv-loop : this.Tie.InvT-loop
-Inv-loop order starts lengths date ramadan passed₀ passed =
+Inv-loop order date fields ramadan passed₀ passed =
     (passed ≤ lastTag)
-    × (firstFailing 5 (passes order starts lengths date ramadan) (drop passed (tagsFrom lastTag 1))
-    ≡ firstFailing 5 (passes order starts lengths date ramadan) (tagsFrom lastTag 1))
+    × (firstFailing 5 (passes order (fields .at) (fields .length) date ramadan) (drop passed (tagsFrom lastTag 1))
+    ≡ firstFailing 5 (passes order (fields .at) (fields .length) date ramadan) (tagsFrom lastTag 1))
 
 abbrev μ-loop : this.Tie.MeasureT-loop
-μ-loop order starts lengths date ramadan passed₀ passed = lastTag - passed
+μ-loop order date fields ramadan passed₀ passed = lastTag - passed
 
 -- at the loop: whether a tag passes, and what the first tag that does not pass gives
 passing : (c : this.Tie.At-loop Inv-loop μ-loop) → ℕ → Bool
 passing c =
-    let a = c .before .before .before .before .before .before .before .args in
-    passes (now (a .order)) (a .fields .at) (a .fields .length) (c .before .before .date-in .result) (c .before .has .result)
+    let a = c .before .before .before .args in
+    passes (now (a .order)) (a .t2 .at) (a .t2 .length) (a .date) (c .before .has .result)
 
-first : (c : this.Tie.At-loop Inv-loop μ-loop) → let a = c .before .before .before .before .before .before .before .args in
-    firstFailing 5 (passing c) (drop (c .loop .passed) (tagsFrom lastTag 1)) ≡ outOfRangeOf (valuesIn (now (a .order)) (a .fields))
+first : (c : this.Tie.At-loop Inv-loop μ-loop) → let a = c .before .before .before .args in
+    firstFailing 5 (passing c) (drop (c .loop .passed) (tagsFrom lastTag 1)) ≡ outOfRangeOf (valuesIn (now (a .order)) (a .t2))
 unfolding passing valuesIn
 first c =
-    let d = c .before .before in
-    let a = d .before .before .before .before .before .args in
+    let a = c .before .before .before .args in
     c .loop .inv .1
-    ∙ held (now (a .order)) (a .fields) (d .date-in .result) (c .before .has .result)
-    (rw (← d .before .value .ensures) (d .date-in .ensures))
-    (c .before .has .ensures)
+    ∙ held (now (a .order)) (a .t2) (a .date) (c .before .has .result) (c .before .before .before .pre) (c .before .has .ensures)
 
 returns : this.Tie.Need-returns Inv-loop μ-loop
 unfolding passing
 returns c =
     let h = c .before .before in
-    let l = h .before .before in
-    let t = h .before .loop-test .taken in
+    let l = h .before .before .before .before in
+    let t = h .before .before .before .loop-test .taken in
     c .new .ensures
     ∙ sym (fails 5 (passing l) (tagsFrom lastTag 1) (l .loop .passed) (omega (arith, all)) _ (tags-from lastTag 1 (l .loop .passed) t)
     (sym (h .in-range .ensures) ∙ not-true _ (c .before .if1 .taken)))
@@ -67,8 +64,8 @@ loop-again : this.Tie.Need-loop-again Inv-loop μ-loop
 unfolding passing
 loop-again c =
     let h = c .before in
-    let l = h .before .before in
-    let t = h .before .loop-test .taken in (
+    let l = h .before .before .before .before in
+    let t = h .before .before .before .loop-test .taken in (
       search needs,
       sym (on 5 (passing l) (tagsFrom lastTag 1) (l .loop .passed) (omega (arith, all)) _ (tags-from lastTag 1 (l .loop .passed) t)
           (sym (h .in-range .ensures) ∙ not-false _ (c .if1 .left))) ∙ l .loop .inv .1,
@@ -83,6 +80,6 @@ returns-2 c =
 pub out-of-range-spec : {M : Type 1} → this.Statement.statement M
 out-of-range-spec =
     let loop-holds : this.Tie.Need-loop-holds Inv-loop μ-loop = λ c. (omega arith, refl) in
-    this.Tie.close (this.Tie.spec Inv-loop μ-loop (λ c κs. tt) (λ c κs. tt) (λ c κs. tt) loop-holds (λ c. search needs) (λ c. search needs)
+    this.Tie.close (this.Tie.spec Inv-loop μ-loop (λ c κs. tt) loop-holds (λ c. search needs) (λ c. search needs)
     (λ c. search needs) (λ c. search needs) (λ c. search needs) (λ c. search needs) (λ c. search needs) (λ c κs. tt) (λ c κs. tt) returns
     (λ c. search needs) loop-again (λ c κs. tt) returns-2)
