@@ -1,7 +1,7 @@
 -- The second of the minute, what rounding adds, and minutes as two halves, as the code computes them. Assumes nothing.
-use Rattle.prelude.proofs.Logic.{_≡_, ap, _∙_, true, false, ℕ, suc, _-_, _%_, _≤_, arith, T, lit<, ℤ, pos, negsuc, negℤ, natAbs, _+ℤ_, _-ℤ_}
-use Rattle.prelude.proofs.Logic.{_*ℤ_, ltZ, quotZ, remZ, nonNeg, w32, w64, SFits, Fits, toZ}
-use Rattle.integers.proofs.Integers.{same, sum, difference, times, flip, divided, floored, lt-yes, lt-no, readBack, read, range, fits}
+use Rattle.prelude.proofs.Logic.{_≡_, refl, ap, _∙_, true, false, ℕ, suc, _-_, _%_, _≤_, arith, T, lit<, ℤ, pos, negsuc, negℤ, natAbs, _+ℤ_, _-ℤ_}
+use Rattle.prelude.proofs.Logic.{_*ℤ_, ltZ, leZ, quotZ, remZ, nonNeg, w32, w64, SFits, Fits, toZ}
+use Rattle.integers.proofs.Integers.{same, sum, difference, times, flip, divided, floored, le-yes, lt-yes, lt-no, readBack, read, range, fits}
 use Rattle.integers.specs.Ends.{least64, most64}
 use Rattle.rounding.specs.Times.{satOf, secondOf, adjustedOf}
 use Rattle.rounding.proofs.TimesLaws.{between}
@@ -52,6 +52,12 @@ module _ (t : ℤ) (h : SFits w64 t) where
 
 pub as-u32 : (t x : ℤ) → x ≡ pos (secondOf t) → T (nonNeg x) × Fits w32 (natAbs x)
 as-u32 t x e = let l = floored t 60 (lit< tt) in rw e (tt, record { fits = omega arith })
+
+-- a time from 0 on, in the range that the code's two tests leave
+pub ahead : (x : ℤ) → leZ (pos 0) x ≡ true → leZ x (pos 4294967000) ≡ true
+    → (T (nonNeg x) × Fits w32 (natAbs x)) × ((pos (natAbs x) ≡ x) × (natAbs x ≤ 4294967000))
+ahead (pos n) from to = let b = le-yes (pos n) (pos 4294967000) to in ((tt, record { fits = omega arith }), (refl, omega arith))
+ahead (negsuc n) from to = absurd (omega (arith, le-yes (pos 0) (negsuc n) from))
 
 -- ---- what rounding adds: k less the second
 pub less-fits : (k s : ℕ) → k ≤ 60 → Fits w32 s → SFits w64 (pos k -ℤ toZ w64 s)

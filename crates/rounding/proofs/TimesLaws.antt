@@ -1,7 +1,7 @@
 -- Laws of the definitions of `Times`: what rounding and adjusting keep, and when nothing saturates. Assumes nothing.
-use Rattle.prelude.proofs.Logic.{_≡_, refl, sym, ap, _∙_, cond, ℕ, _+_, _*_, _^_, _≤_, _<_, arith, ltb, lit<, ℤ, pos, negsuc, _+ℤ_, _*ℤ_}
+use Rattle.prelude.proofs.Logic.{_≡_, refl, sym, ap, _∙_, cond, ℕ, _+_, _*_, _/_, _^_, _≤_, _<_, arith, ltb, lit<, ℤ, pos, negsuc, _+ℤ_, _*ℤ_}
 use Rattle.prelude.proofs.Logic.{+ℤ-idr, +ℤ-assoc, +ℤ-comm, ltb-true, ltb-false, lt-ltb, w64, SFits, cases, either}
-use Rattle.integers.proofs.Integers.{P, N, Between, Near, sum, difference, times, floorQuot, Floored, floored, _≼_, to-not-lt, range}
+use Rattle.integers.proofs.Integers.{P, N, Between, Near, same, sum, difference, times, floorQuot, Floored, floored, _≼_, to-not-lt, range}
 use Rattle.integers.proofs.Integers.{sum-between, product-between, shifted-between, Held, held-fits}
 use Rattle.models.specs.declared.rounding.Rounding.{Rounding}
 use Rattle.models.specs.declared.rounding.Rounding.the-variants.{Nearest, Up, None}
@@ -115,6 +115,19 @@ nearest-again t = stays (roundedOf Nearest t) (second-nearest t)
 pub none-stays : (t : ℤ) → roundedOf None t ≡ t
 unfolding roundedOf shiftOf
 none-stays t = +ℤ-idr t
+
+-- a time from 0 on is rounded by a quotient
+pub nearest-ahead : (n : ℕ) → pos ((n + 30) / 60 * 60) ≡ roundedOf Nearest (pos n)
+unfolding heightOf
+nearest-ahead n =
+    let h = rounded Nearest (pos n) in
+    cases (ltb (secondOf (pos n)) 30)
+    (λ b. let k = rw b at h in same _ (roundedOf Nearest (pos n)) (omega (arith, ltb-true (secondOf (pos n)) 30 b)))
+    (λ b. let k = rw b at h in same _ (roundedOf Nearest (pos n)) (omega (arith, ltb-false (secondOf (pos n)) 30 b)))
+
+pub up-ahead : (n : ℕ) → pos (n / 60 * 60 + 60) ≡ roundedOf Up (pos n)
+unfolding heightOf
+up-ahead n = let h = rounded Up (pos n) in same _ (roundedOf Up (pos n)) (omega arith)
 
 -- ---- bounds of rounded and adjusted times, and that nothing saturates within 2 ^ 62 seconds
 pub rounded-between : {a b : ℕ} {t : ℤ} (r : Rounding) → Between a b t → Between (a + 60) (b + 60) (roundedOf r t)

@@ -1,7 +1,8 @@
 // unit.rs's rounded_minute and adjust_time. A time is whole seconds from 1970-01-01 0h UTC. A result beyond an i64's range is the range's
 // end. chrono's own range is smaller, and chrono panics at its end.
 ghost use mathlib.Core.Path.{_≡_};
-ghost use lib.IntN.{_+ℤ_};
+ghost use Prim.Native.Nat.{_≤_};
+ghost use lib.IntN.{pos, _+ℤ_};
 ghost use Rattle.rounding.specs.Times.{satOf, secondOf, shiftOf, roundedOf, adjustedOf};
 use models::rounding::Rounding;
 
@@ -48,9 +49,27 @@ fn shift(rounding: Rounding, s: u32) -> i64
     }
 }
 
+// The rounded time of one from 0 on, by a quotient.
+fn rounded_ahead(t: u32, rounding: Rounding) -> u32
+    requires { ⌜ t ≤ 4294967000 ⌝ }
+    ensures { λ r. ⌜ pos r ≡ roundedOf rounding (pos t) ⌝ }
+{
+    match rounding {
+        Rounding::Nearest => (t + 30) / 60 * 60,
+        Rounding::Up => t / 60 * 60 + 60,
+        Rounding::None => t,
+    }
+}
+
+// Nearly every time is one of a few days from 0h on: there 32 bits are enough, and nothing saturates.
 pub fn rounded_minute(t: i64, rounding: Rounding) -> i64
     ensures { λ r. ⌜ r ≡ satOf (roundedOf rounding t) ⌝ }
 {
+    if t >= 0 {
+        if t <= 4294967000 {
+            return rounded_ahead(t as u32, rounding) as i64;
+        }
+    }
     plus(t, shift(rounding, second(t)))
 }
 
