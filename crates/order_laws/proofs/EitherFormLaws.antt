@@ -1,5 +1,6 @@
 -- A place sent either way gives the same record but for where the town is, and so every call returns the same. Assumes nothing.
 use Rattle.prelude.proofs.Logic.{_≡_, refl, sym, ap, _∙_, subst, fun-ext, true, false, List, _∷_, _++_, ℕ, zero, suc, _+_, _≤_, lit≤, leZ}
+use Rattle.float64.proofs.Floats.{Float}
 use Rattle.calendar.specs.Answers.{rowDateOf}
 use Rattle.days.specs.Calls.{workRowOf, workReadingOf, workDayOf, workAtOf, prayerAtOf, nextAtOf, remainingAtOf}
 use Rattle.fields.specs.Tags.{lastTag}
@@ -188,19 +189,17 @@ module _ (a b : List ℕ) (orders : SamePlace a b) where
   second-same : orderOf (valuesOf b) ≡ orders .second
   second-same = read-passed b (orders .second) (orders .«second_read») .same
 
+  -- what the two orders have alike, their values have alike
+  alike : (f : Order → Float) → f (orders .first) ≡ f (orders .second) → f (orderOf (valuesOf a)) ≡ f (orderOf (valuesOf b))
+  alike f e = ap f first-same ∙ e ∙ sym (ap f second-same)
+
   latitude-same : coordinateIn (valuesOf a) 4 18 ≡ coordinateIn (valuesOf b) 4 18
   unfolding orderOf
-  latitude-same =
-      ap (λ (o : Order). o .setting .coordinates .latitude) first-same
-      ∙ orders .latitude
-      ∙ sym (ap (λ (o : Order). o .setting .coordinates .latitude) second-same)
+  latitude-same = alike (λ (o : Order). o .setting .coordinates .latitude) (orders .latitude)
 
   longitude-same : coordinateIn (valuesOf a) 5 19 ≡ coordinateIn (valuesOf b) 5 19
   unfolding orderOf
-  longitude-same =
-      ap (λ (o : Order). o .setting .coordinates .longitude) first-same
-      ∙ orders .longitude
-      ∙ sym (ap (λ (o : Order). o .setting .coordinates .longitude) second-same)
+  longitude-same = alike (λ (o : Order). o .setting .coordinates .longitude) (orders .longitude)
 
   given-same : withTown (orderOf (valuesOf a)) (orderOf (valuesOf b) .town) ≡ orderOf (valuesOf b)
   unfolding orderOf

@@ -228,35 +228,14 @@ module _ (s : List ℕ) where
     unfolding inRangeOf formerInRange
     range-same tag = cases (eqb tag 3) (λ t. let is : tag ≡ 3 = eqb-true tag 3 t in rw (is, three-same)) (λ t. simp t)
 
-    in-range : (tag : ℕ) → 15 ≤ tag → inRangeOf (valuesOf s) tag ≡ true
+    in-range : (tag : ℕ) → leb 15 tag ≡ true → inRangeOf (valuesOf s) tag ≡ true
     unfolding inRangeOf
-    in-range tag l = simp (has-none tag l)
+    in-range tag l = simp (has-none tag (leb-true 15 tag l))
 
     ranges-same : outOfRangeOf (valuesOf s) ≡ firstFailing 5 (formerInRange (valuesOf s)) (tagsFrom 14 1)
     unfolding outOfRangeOf firstFailing tagsFrom
     ranges-same =
-        simp (
-          range-same 1,
-          range-same 2,
-          range-same 3,
-          range-same 4,
-          range-same 5,
-          range-same 6,
-          range-same 7,
-          range-same 8,
-          range-same 9,
-          range-same 10,
-          range-same 11,
-          range-same 12,
-          range-same 13,
-          range-same 14,
-          in-range 15 (lit≤ tt),
-          in-range 16 (lit≤ tt),
-          in-range 17 (lit≤ tt),
-          in-range 18 (lit≤ tt),
-          in-range 19 (lit≤ tt),
-          in-range 20 (lit≤ tt),
-        )
+        simp (in-range 15 refl, in-range 16 refl, in-range 17 refl, in-range 18 refl, in-range 19 refl, in-range 20 refl, range-same)
 
     -- ---- the record
     order-same : orderOf (valuesOf s) ≡ formerOrderOf (valuesOf s)

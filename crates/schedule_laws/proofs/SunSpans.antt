@@ -98,19 +98,13 @@ pub seventh-days : (night : ℤ) → Days 2 4 night → Days 1 1 (seventhOf nigh
 unfolding seventhOf
 seventh-days night h = let d = divided night 7 (lit< tt) in record { from = omega arith; to = omega arith }
 
-fajr-portion : (rule : HighLatitudeRule) (fajr isha : Float) → Inside (dec 0 0) (dec mostAngle 0) fajr
-    → Portion (portionsOf rule fajr isha .fajr)
+-- Fajr's portion and Isha's
+portions : (rule : HighLatitudeRule) (fajr isha : Float) → Inside (dec 0 0) (dec mostAngle 0) fajr → Inside (dec 0 0) (dec mostAngle 0) isha
+    → Portion (portionsOf rule fajr isha .fajr) × Portion (portionsOf rule fajr isha .isha)
 unfolding portionsOf
-fajr-portion MiddleOfTheNight fajr isha h = half-portion
-fajr-portion SeventhOfTheNight fajr isha h = seventh-portion
-fajr-portion TwilightAngle fajr isha h = angle-portion fajr (h .0) (h .1)
-
-isha-portion : (rule : HighLatitudeRule) (fajr isha : Float) → Inside (dec 0 0) (dec mostAngle 0) isha
-    → Portion (portionsOf rule fajr isha .isha)
-unfolding portionsOf
-isha-portion MiddleOfTheNight fajr isha h = half-portion
-isha-portion SeventhOfTheNight fajr isha h = seventh-portion
-isha-portion TwilightAngle fajr isha h = angle-portion isha (h .0) (h .1)
+portions MiddleOfTheNight fajr isha h k = (half-portion, half-portion)
+portions SeventhOfTheNight fajr isha h k = (seventh-portion, seventh-portion)
+portions TwilightAngle fajr isha h k = (angle-portion fajr (h .0) (h .1), angle-portion isha (k .0) (k .1))
 
 -- ---- Fajr and Isha, not adjusted yet
 module _ (p : Parameters) (season : Season) (allowed : ParametersInOrder p) (there : LatitudeInOrder (season .latitude)) (date : Date)
@@ -131,12 +125,14 @@ module _ (p : Parameters) (season : Season) (allowed : ParametersInOrder p) (the
   after-cast = cond (bySeasonOf (p .method)) (eveningSecondsOf season (ordinalOf date) (date .year) (p .shafaq))
       (portionAfterOf (nightPortionsOf p .isha) night)
 
+  both : Portion (nightPortionsOf p .fajr) × Portion (nightPortionsOf p .isha)
+  both = portions (p .«high_latitude_rule») (p .«fajr_angle») (p .«isha_angle») (allowed .«fajr_angle») (allowed .«isha_angle»)
+
   before-days : Days 2 1 before-cast
   before-days =
       let l = long in
       let m = morning-small season (ordinalOf date) (date .year) (there .0) (there .1) (ordinal-short date) in
-      let b = before-half (nightPortionsOf p .fajr) night (fajr-portion (p .«high_latitude_rule») (p .«fajr_angle») (p .«isha_angle»)
-      (allowed .«fajr_angle»)) (wider l (lit≤ tt) (lit≤ tt)) in
+      let b = before-half (nightPortionsOf p .fajr) night (both .0) (wider l (lit≤ tt) (lit≤ tt)) in
       either-between (bySeasonOf (p .method)) (record { from = omega (arith, m .1); to = m .0 })
       (record { from = omega (arith, b .1); to = omega (arith, b .0) })
 
@@ -148,8 +144,7 @@ module _ (p : Parameters) (season : Season) (allowed : ParametersInOrder p) (the
   portion : Days 1 2 (portionAfterOf (nightPortionsOf p .isha) night)
   portion =
       let l = long in
-      let b = after-half (nightPortionsOf p .isha) night (isha-portion (p .«high_latitude_rule») (p .«fajr_angle») (p .«isha_angle»)
-      (allowed .«isha_angle»)) (wider l (lit≤ tt) (lit≤ tt)) in
+      let b = after-half (nightPortionsOf p .isha) night (both .1) (wider l (lit≤ tt) (lit≤ tt)) in
       record { from = omega (arith, b .1); to = omega (arith, b .0) }
 
   -- an i32 holds them, so the bounds use the source's seconds
