@@ -2,8 +2,7 @@
 use Rattle.prelude.proofs.Logic.{_≡_, refl, sym, ap, _∙_, List, [], _∷_, _++_, append-assoc, append-nil, ℕ, _+_, _*_, _<_, add-one, arith}
 use Rattle.prelude.proofs.Logic.{ℤ, length, getD, take, drop, replicate, length-append, take-suc, length-take-le}
 use Rattle.calendar.specs.declared.dates.Date.{Date}
-use Rattle.schedule.specs.declared.prayer_times.PrayerTimes.{PrayerTimes}
-use Rattle.schedule.specs.declared.prayer_times.Worked.{Worked}
+use Rattle.schedule.specs.declared.prayer_times.{PrayerTimes.PrayerTimes, Worked.Worked}
 use Rattle.schedule.specs.declared.prayer_times.Worked.the-variants.{Times, Refused}
 use Rattle.text.specs.Text.{putOf, frontOf}
 use Rattle.text.proofs.TextLaws.{put-front, put-next, put-behind, put-nothing}

@@ -7,12 +7,10 @@ use Rattle.fields.specs.Tags.{lastTag}
 use Rattle.fields.specs.Values.{hasOf, valueOf, valuesOf}
 use Rattle.fields.specs.declared.values.Part.{Part}
 use Rattle.lines.specs.Lines.{lineText}
-use Rattle.models.specs.declared.prayer.Prayer.{Prayer}
-use Rattle.models.specs.Settings.{timeAdjustmentsOf}
+use Rattle.models.specs.{declared.prayer.Prayer.Prayer, Settings.timeAdjustmentsOf}
 use Rattle.order.specs.Given.{coordinateIn, byteOr, degreesOr, roundingOr, minutesOr, intervalOr, parametersIn, rulesIn, clockIn, ramadanIn}
 use Rattle.order.specs.Reading.{orderOf, readingOf, townOf}
-use Rattle.order.specs.declared.reading.Order.{Order}
-use Rattle.order.specs.declared.reading.Reading.the-variants.{Read}
+use Rattle.order.specs.declared.reading.{Order.Order, Reading.the-variants.Read}
 use Rattle.order.proofs.ReadingLaws.{read-passed, town-value}
 use Rattle.braille.specs.Cells.{rowLength}
 use Rattle.pages.specs.Pages.{Rows, rowOf, rowsFrom, pageOf, pageCount, pagesCells, allCells}
@@ -20,8 +18,7 @@ use Rattle.pages.specs.Answers.{askedCallOf, oneRow, pieceIn}
 use Rattle.pages.specs.Reports.{wearText, cellsText}
 use Rattle.reports.specs.Reports.{reportIn}
 use Rattle.sheets.specs.Rows.{linesText, acceptedText, sheetText, readCallOf, rowCallOf}
-use Rattle.schedule.specs.declared.in_force.Instant.{Instant}
-use Rattle.schedule.specs.declared.prayer_times.Worked.{Worked}
+use Rattle.schedule.specs.declared.{in_force.Instant.Instant, prayer_times.Worked.Worked}
 use Rattle.schedule.specs.declared.prayer_times.Worked.the-variants.{Times, Refused}
 use Rattle.weeks.specs.Lines.{reportOf}
 use Rattle.weeks.specs.Report.{minuteIn, rowMinute, ordersReport, weekText}
@@ -216,9 +213,7 @@ module _ (a b : List ℕ) (orders : SamePlace a b) where
       )
 
   given : withTown (orders .first) (orders .second .town) ≡ orders .second
-  given =
-      subst (λ (o : Order). withTown o (orders .second .town) ≡ orders .second) first-same
-      (subst (λ (o : Order). withTown (orderOf (valuesOf a)) (o .town) ≡ o) second-same given-same)
+  given = rw (← first-same, ← second-same) given-same
 
   town-same : townOf a ≡ townOf b
   town-same = town-value a (orders .first) (orders .«first_read») ∙ value 1 (lit≤ tt) refl
@@ -246,15 +241,6 @@ either-form-moves-alike a b c d p q later =
       «first_read» = p .«second_read»;
       «second_read» = q .«second_read»;
       town = sym (town-same a c p) ∙ later .town ∙ town-same b d q;
-      alike =
-          subst (λ (o : Order). withOwnMinutes o (q .second .town) (q .second .setting .parameters .adjustments) ≡ q .second) x
-          (subst (λ (o : Order). withOwnMinutes (withTown (later .first) (p .second .town)) (q .second .town)
-          (o .setting .parameters .adjustments) ≡ o) y
-          (moved-town (later .first) (later .second) (p .second .town) (q .second .town) (later .alike)));
-      more =
-          λ (prayer : Prayer).
-          subst (λ (o : Order). leZ (timeAdjustmentsOf (o .setting .parameters) prayer)
-          (timeAdjustmentsOf (q .second .setting .parameters) prayer) ≡ true) x
-          (subst (λ (o : Order). leZ (timeAdjustmentsOf (later .first .setting .parameters) prayer)
-          (timeAdjustmentsOf (o .setting .parameters) prayer) ≡ true) y (later .more prayer));
+      alike = rw (← x, ← y) (moved-town (later .first) (later .second) (p .second .town) (q .second .town) (later .alike));
+      more = λ (prayer : Prayer). rw (← x, ← y) (later .more prayer);
     }

@@ -2,16 +2,14 @@
 -- sun's times are from one day before 0h to two days after it. Assumes nothing.
 use Rattle.prelude.proofs.Logic.{_≡_, sym, subst, cond, ℕ, _+_, _*_, _≤_, arith, lit<, lit≤, ℤ, pos, ltZ, cases}
 use lib.Ieee.{Float}
-use Rattle.float64.specs.Ops.{dec}
-use Rattle.float64.specs.Ranges.{Inside}
+use Rattle.float64.specs.{Ops.dec, Ranges.Inside}
 use Rattle.integers.proofs.Integers.{Between, divided, wider, sum-between, difference-between, product-between, either-between}
 use Rattle.calendar.proofs.Calendar.{ordinalOf, ordinal-short}
 use Rattle.calendar.specs.declared.dates.Date.{Date}
 use Rattle.models.specs.declared.{high_altitude_rule.HighLatitudeRule.HighLatitudeRule, parameters.Parameters.Parameters}
 use Rattle.models.specs.declared.{rules.Season.Season, rules.Midnight.Midnight}
 use Rattle.models.specs.declared.high_altitude_rule.HighLatitudeRule.the-variants.{MiddleOfTheNight, SeventhOfTheNight, TwilightAngle}
-use Rattle.models.specs.declared.rounding.Rounding.the-variants.{Nearest}
-use Rattle.models.specs.Settings.{portionsOf, nightPortionsOf}
+use Rattle.models.specs.{declared.rounding.Rounding.the-variants.Nearest, Settings.portionsOf, Settings.nightPortionsOf}
 use Rattle.rounding.proofs.TimesLaws.{rounded-between}
 use Rattle.night_portions.specs.Portions.{portionBeforeOf, portionAfterOf, seventhOf}
 use Rattle.night_portions.proofs.BoundsLaws.{Portion, after-half, before-half}
@@ -26,8 +24,7 @@ use Rattle.schedule.specs.declared.{hours.ThreeSuns.ThreeSuns, hours.Suns.Suns,
 use Rattle.schedule.specs.declared.hours.Suns.the-variants.{Whole, Refused}
 use Rattle.schedule.proofs.Schedule.{sunsOf, hoursOf, nightOf, bySeasonOf, short-is, beforeSunriseOf, unadjustedFajrOf, afterSunsetOf}
 use Rattle.schedule.proofs.Schedule.{ishaBoundOf, boundedIshaOf, unadjustedIshaOf}
-use Rattle.order.specs.Ranges.{mostAngle}
-use Rattle.order.specs.Accepted.{LatitudeInOrder, ParametersInOrder}
+use Rattle.order.specs.{Ranges.mostAngle, Accepted.LatitudeInOrder, Accepted.ParametersInOrder}
 use Rattle.schedule_laws.proofs.Spans.{HourBetween, hour-wider, own-between, earlier-between, next-day-between, fajr-between}
 
 -- from `a` days before 0h of a date to `b` days after it
