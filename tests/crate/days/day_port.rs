@@ -59,7 +59,8 @@ pub fn preset(method: u32) -> Settings {
     let isha_interval = order.isha_interval as i32;
     #[rustfmt::skip]
     let settings = Settings {
-        method, madhab, high_latitude_rule, rounding, shafaq, fajr, sunrise, dhuhr, asr, maghrib, isha, isha_interval, fajr_angle, isha_angle,
+        method, madhab, high_latitude_rule, rounding, shafaq, fajr, sunrise, dhuhr, asr, maghrib, isha,
+        isha_interval, fajr_angle, isha_angle,
     };
     settings
 }
