@@ -156,10 +156,10 @@ def reading(order):
     one = lambda tag, missing: values[tag][0] if tag in values else missing
     town = next(at for at, tag in offsets(order) if tag == 1) + 3
     record = (0, 0, town, len(values[1]), date.year, date.month, date.day, int.from_bytes(values[3], "big"),
-              bits(coordinate(values, 4, 18)), bits(coordinate(values, 5, 19)), method, one(7, 1), one(8, 0), one(9, rounding), one(10, 0),
-              *struct.unpack(">6h", values.get(11, bytes(12))), struct.unpack(">H", values[14])[0] if 14 in values else interval,
-              bits(angle(12, fajr)), bits(angle(13, isha)), bits(maghrib), 0, *brought, 0, one(15, 0), one(17, 0),
-              *struct.unpack(">h", values.get(16, bytes(2))), *([1, values[20][0], values[20][1] - 1] if 20 in values else [0, 0, 0]))
+              bits(coordinate(values, 4, 18)), bits(coordinate(values, 5, 19)), bits(angle(12, fajr)), bits(angle(13, isha)),
+              method, one(7, 1), one(8, 0), one(9, rounding), one(10, 0), struct.unpack(">H", values[14])[0] if 14 in values else interval,
+              *struct.unpack(">6h", values.get(11, bytes(12))), one(15, 0), *struct.unpack(">h", values.get(16, bytes(2))), one(17, 0),
+              *([1, values[20][0], values[20][1] - 1] if 20 in values else [0, 0, 0]), bits(maghrib), 0, *brought, 0)
     return record, values[1]
 
 

@@ -12,9 +12,7 @@
 --   Sine, Cosine  the two bounds
 use Rattle.prelude.proofs.Logic.{lit≤}
 use Rattle.accuracy.specs.Accuracy.{SineAndCosineAreNear, SineAndCosineAreNearer}
-use Rattle.accuracy.proofs.Integers.{wider}
-use Rattle.accuracy.proofs.Sine.{sine-within}
-use Rattle.accuracy.proofs.Cosine.{cosine-within}
+use Rattle.accuracy.proofs.{Integers.wider, Sine.sine-within, Cosine.cosine-within}
 
 pub sine-and-cosine-are-nearer : SineAndCosineAreNearer
 sine-and-cosine-are-nearer = (sine-within, cosine-within)

@@ -9,8 +9,7 @@ use Rattle.integers.proofs.Integers.{P, N}
 use Rattle.integers.proofs.Sums as integers
 use Rattle.accuracy.specs.Accuracy.{top, bottom, _!, term, alternating, WithinSum}
 use Rattle.accuracy.proofs.Fractions.{Fraction, unit, unit-pos}
-use Rattle.accuracy.proofs.Rounding.{value, NearFraction}
-use Rattle.accuracy.proofs.Series.{amount}
+use Rattle.accuracy.proofs.{Rounding.value, Rounding.NearFraction, Series.amount}
 
 -- z is p - n
 pub record Is (z : ℤ) (p n : ℕ) : Type 0 where

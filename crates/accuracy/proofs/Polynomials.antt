@@ -4,8 +4,7 @@ use Rattle.prelude.proofs.Logic.{mul-le-mul-left, sub-add-cancel, one-le-pow, p
 use Rattle.float64.proofs.Floats.{Float}
 use Rattle.accuracy.proofs.Algebra.{ring, flat}
 use Rattle.accuracy.proofs.Fractions.{Fraction, _⊞_, _⊠_, unit, Close, itself, same-close, through, Same, scaled, written, sum}
-use Rattle.accuracy.proofs.Fractions.{times, Sized}
-use Rattle.accuracy.proofs.Rounding.{value}
+use Rattle.accuracy.proofs.{Fractions.times, Fractions.Sized, Rounding.value}
 use Rattle.accuracy.proofs.Expressions.{Expr, const, _⊕_, _⊗_, exact}
 use Rattle.accuracy.proofs.Forms.{poly, poly-sum, notAbove, poly-le}
 use Rattle.accuracy.proofs.Series.{Term, plus, rise, fall}

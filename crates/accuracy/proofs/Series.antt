@@ -2,8 +2,7 @@
 use Rattle.prelude.proofs.Logic.{_≡_, refl, ap, Bool, true, false, not, cond, List, [], _∷_, ℕ, zero, suc, _+_, _-_, _*_, _/_, _^_}
 use Rattle.prelude.proofs.Logic.{pow-succ', arith, length}
 use Rattle.accuracy.specs.Accuracy.{_! }
-use Rattle.accuracy.proofs.Algebra.{ring, square-power}
-use Rattle.accuracy.proofs.Forms.{poly}
+use Rattle.accuracy.proofs.{Algebra.ring, Algebra.square-power, Forms.poly}
 
 -- ---- coefficients with their signs
 pub data Term : Type 0 where

@@ -17,8 +17,7 @@ use Rattle.accuracy.proofs.Expressions.{Expr, var, _⊕_, _⊗_, run, e
 use Rattle.accuracy.proofs.Forms.{poly}
 use Rattle.accuracy.proofs.Series.{rise, fall, from, terms, fall-is, side, side-is}
 use Rattle.accuracy.proofs.Polynomials.{horner, rows, near}
-use Rattle.accuracy.proofs.Words.{high-le, high-tiny}
-use Rattle.accuracy.proofs.Integers.{is-sum, within}
+use Rattle.accuracy.proofs.{Words.high-le, Words.high-tiny, Integers.is-sum, Integers.within}
 use Rattle.accuracy.proofs.Kernels.{for-moderate, exactly, Inputs, Input, x, sizes, z, Kernel, ten, tenOff, floats, given, of}
 use Rattle.accuracy.proofs.Kernels.{run-near, ten-near, ten-tiny}
 

@@ -3,8 +3,7 @@ use Rattle.prelude.proofs.Logic.{_≡_, ap, _∙_, List, [], _∷_, _++_, ℕ, 
 use Rattle.prelude.proofs.Logic.{getD, take, replicate}
 use lib.Count.{ones, ones-step}
 use Rattle.calendar.specs.declared.dates.Date.{Date}
-use Rattle.schedule.specs.declared.prayer_times.Worked.{Worked}
-use Rattle.schedule.specs.declared.prayer_times.Worked.the-variants.{Times, Refused}
+use Rattle.schedule.specs.declared.prayer_times.Worked.{Worked, the-variants.Times, the-variants.Refused}
 use Rattle.braille.specs.Braille.{digitCells, digitCell, dotsIn, dotsOf, SixDots}
 use Rattle.braille.specs.Cells.{dayCells, timeCells, timesCells, clockMinuteOf, sixOf, refusedCells, rowCells}
 

@@ -1,11 +1,9 @@
 -- The minute of the day by the clock: instant and clock may each be taken within the day before they are added. Assumes nothing.
 use Rattle.prelude.proofs.Logic.{_≡_, refl, sym, ap, subst, _∙_, ℕ, _+_, _/_, _%_, arith, ℤ, pos, _+ℤ_, _*ℤ_, w32, w64, SFits}
 use Rattle.integers.proofs.Integers.{floored, range, fits, readBack, read, read-wide, sum, times, floorQuot, floorRem}
-use Rattle.calendar.specs.Days.{dayNumberOf}
-use Rattle.calendar.specs.declared.dates.Date.{Date}
+use Rattle.calendar.specs.{Days.dayNumberOf, declared.dates.Date.Date}
 use Rattle.schedule.specs.Times.{startOf, startedOf, startedIn}
-use Rattle.schedule.specs.declared.prayer_times.Worked.{Worked}
-use Rattle.schedule.specs.declared.prayer_times.Worked.the-variants.{Times, Refused}
+use Rattle.schedule.specs.declared.prayer_times.Worked.{Worked, the-variants.Times, the-variants.Refused}
 use Rattle.braille.specs.Cells.{clockMinuteOf, timeCells, timesCells, rowCells}
 
 -- the clock in seconds, as the machine reads it

@@ -2,8 +2,7 @@
 use Rattle.prelude.proofs.Logic.{_≡_, refl, sym, ap, _∙_, List, [], _∷_, _++_, append-assoc, append-nil, ℕ, _+_, _*_, _<_, add-one, arith}
 use Rattle.prelude.proofs.Logic.{ℤ, length, getD, take, drop, replicate, length-append, take-suc, length-take-le}
 use Rattle.calendar.specs.declared.dates.Date.{Date}
-use Rattle.schedule.specs.declared.prayer_times.PrayerTimes.{PrayerTimes}
-use Rattle.schedule.specs.declared.prayer_times.Worked.{Worked}
+use Rattle.schedule.specs.declared.prayer_times.{PrayerTimes.PrayerTimes, Worked.Worked}
 use Rattle.schedule.specs.declared.prayer_times.Worked.the-variants.{Times, Refused}
 use Rattle.text.specs.Text.{putOf, frontOf}
 use Rattle.text.proofs.TextLaws.{put-front, put-next, put-behind, put-nothing}
@@ -20,23 +19,12 @@ time-length clock time = refl
 times-length : (clock : ℤ) (times : List ℤ) → length (timesCells clock times) ≡ 6 * length times
 unfolding timesCells
 times-length clock [] = refl
-times-length clock (time ∷ times) =
-    let i = times-length clock times in
-    let a = length-append (timeCells clock time) (timesCells clock times) in
-    let c = time-length clock time in
-    omega arith
+times-length clock (time ∷ times) = simp (length-append, time-length clock time, times-length clock times) (omega arith)
 
 pub row-length : (date : Date) (worked : Worked) (clock : ℤ) → length (rowCells date worked clock) ≡ 39
 unfolding rowCells refusedCells
-row-length date (Times t) clock =
-    let d = day-length date in
-    let c = times-length clock (sixOf t) in
-    let a = length-append (dayCells date) (timesCells clock (sixOf t)) in
-    omega arith
-row-length date (Refused r) clock =
-    let d = day-length date in
-    let a = length-append (dayCells date) (replicate 36 0) in
-    omega arith
+row-length date (Times t) clock = simp (length-append, day-length date, times-length clock (sixOf t)) (omega arith)
+row-length date (Refused r) clock = simp (length-append, day-length date) (omega arith)
 
 times-append : (clock : ℤ) (xs ys : List ℤ) → timesCells clock (xs ++ ys) ≡ timesCells clock xs ++ timesCells clock ys
 unfolding timesCells

@@ -6,14 +6,10 @@ use Rattle.days.specs.declared.in_force.InForce.{InForce}
 use Rattle.days.specs.declared.in_force.InForce.the-variants as force
 use Rattle.katchidul.specs.Exports.{dayAnswerOf, prayerAnswerOf, dayGot, prayerGot}
 use Rattle.order_laws.specs.Minutes.{LaterOrder, MovedRow}
-use Rattle.order_laws.proofs.MinutesLaws.{later-orders-move-their-rows}
-use Rattle.order_laws.proofs.NothingBreaksLaws.{nothing-breaks-a-run}
+use Rattle.order_laws.proofs.{MinutesLaws.later-orders-move-their-rows, NothingBreaksLaws.nothing-breaks-a-run}
 use Rattle.refusals.specs.declared.Refusal.{Refusal}
-use Rattle.schedule.specs.InForce.{NotAfter}
-use Rattle.schedule.specs.declared.in_force.Instant.{Instant}
-use Rattle.schedule.specs.declared.prayer_times.PrayerTimes.{PrayerTimes}
-use Rattle.schedule.specs.declared.prayer_times.Worked.{Worked}
-use Rattle.schedule.specs.declared.prayer_times.Worked.the-variants.{Times, Refused}
+use Rattle.schedule.specs.{InForce.NotAfter, declared.in_force.Instant.Instant, declared.prayer_times.PrayerTimes.PrayerTimes}
+use Rattle.schedule.specs.declared.prayer_times.Worked.{Worked, the-variants.Times, the-variants.Refused}
 use Rattle.schedule_laws.specs.Later.{NoneEarlier, ExactlyLater}
 use Rattle.host_laws.specs.Got.{LaterOrdersMoveForHost}
 

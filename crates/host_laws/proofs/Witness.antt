@@ -1,8 +1,7 @@
 -- A struct that the writer takes, so the conditions of its promises can be met. It is read from the first order of order_laws' Witness.
 -- Assumes nothing.
 use Rattle.prelude.proofs.Logic.{_≡_, ap, List, ℕ, _≤_, length}
-use Rattle.order.specs.declared.reading.Reading.{Reading}
-use Rattle.order.specs.Reading.{townOf}
+use Rattle.order.specs.{declared.reading.Reading.Reading, Reading.townOf}
 use Rattle.order_numbers.specs.declared.writing.WrittenOrder.{WrittenOrder}
 use Rattle.order_numbers.specs.Numbers.{orderRead, orderNumbersIn, orderNumbersOf}
 use Rattle.order_numbers.specs.Writing.{orderCallOf}

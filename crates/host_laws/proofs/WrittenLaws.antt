@@ -1,23 +1,17 @@
 -- Two orders that are read as the same numbers have the same record, except for the town's offset. Assumes nothing.
 use Rattle.prelude.proofs.Logic.{_≡_, refl, sym, ap, subst, _∙_, Bool, true, false, List, ℕ, arith, pos}
 use Rattle.integers.proofs.Integers.{P, natural}
-use Rattle.fields.specs.Values.{Values, valuesOf}
-use Rattle.fields.specs.Numbers.{byteOf}
+use Rattle.fields.specs.{Values.Values, Values.valuesOf, Numbers.byteOf}
 use Rattle.models.specs.declared.{method.Method.Method}
 use Rattle.models.proofs.Models.{methodOf, madhabOf, ruleOf, roundingOf, shafaqOf, midnightOf, southernOf, presetOf}
 use Rattle.models.proofs.NumbersLaws.{method-back, madhab-back, rule-back, rounding-back, shafaq-back, midnight-back, southern-back}
-use Rattle.order.specs.declared.reading.Order.{Order}
-use Rattle.order.specs.declared.reading.Reading.the-variants.{Read}
-use Rattle.order.specs.Given.{parametersIn}
+use Rattle.order.specs.{declared.reading.Order.Order, declared.reading.Reading.the-variants.Read, Given.parametersIn}
 use Rattle.order.specs.Reading.{orderOf, readingOf, townOf}
-use Rattle.order.proofs.AcceptedLaws.{brought, read-accepted}
-use Rattle.order.proofs.ReadingLaws.{read-passed}
+use Rattle.order.proofs.{AcceptedLaws.brought, AcceptedLaws.read-accepted, ReadingLaws.read-passed}
 use Rattle.order_numbers.specs.declared.numbers.OrderNumbers.{OrderNumbers}
 use Rattle.order_numbers.specs.Numbers.{setNumberOf, orderRead, orderNumbersIn, orderNumbersOf}
-use Rattle.order_numbers.specs.Values.{encode}
-use Rattle.order_numbers.specs.Promises.{again}
-use Rattle.order_numbers.proofs.RoundTrip.{was-read}
-use Rattle.order_numbers.proofs.Again.{written-again}
+use Rattle.order_numbers.specs.{Values.encode, Promises.again}
+use Rattle.order_numbers.proofs.{RoundTrip.was-read, Again.written-again}
 use Rattle.order_laws.specs.EitherForm.{withTown}
 use Rattle.order_laws.proofs.EitherFormLaws.{answered-alike}
 use Rattle.host_laws.specs.Written.{WrittenAnswersAlike}

@@ -4,8 +4,7 @@ use Rattle.prelude.proofs.Logic.{leb, length, take, length-append, le-leb, lt-l
 use Rattle.refusals.specs.Refusals.{bufferShort, logSecondShort, logOutOfTurn}
 use Rattle.text.specs.Text.{putOf}
 use Rattle.text.proofs.TextLaws.{put-behind}
-use Rattle.joblog.specs.declared.records.State.{State}
-use Rattle.joblog.specs.declared.records.LogReading.{LogReading}
+use Rattle.joblog.specs.declared.records.{State.State, LogReading.LogReading}
 use Rattle.joblog.specs.declared.records.LogReading.the-variants.{Says, OutOfTurn}
 use Rattle.joblog.specs.Records.{recordAs, bytesOf, wholeOf, inTurn, afterOf, logReadingOf, compactedOf}
 use Rattle.joblog.specs.Calls.{refused, answered, refusing, readAnswer, readLogOf, compactAnswer, compactingOf, newInTurn, loggedOf}

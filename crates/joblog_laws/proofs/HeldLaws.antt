@@ -4,9 +4,7 @@ use Rattle.prelude.proofs.Logic.{append-nil, ℕ, _+_, _/_, _≤_, _<_, arith, 
 use Rattle.prelude.proofs.Logic.{take-at, length-take-le, le-leb, lt-leb, leb-true, ltb-true, ltb-false, eqb-true, arms, cases, both}
 use Rattle.refusals.specs.Refusals.{logSecondShort, logOutOfTurn}
 use Rattle.text.specs.Text.{putOf}
-use Rattle.joblog.specs.declared.records.State.{State}
-use Rattle.joblog.specs.declared.records.Record.{Record}
-use Rattle.joblog.specs.declared.records.LogReading.the-variants.{Says}
+use Rattle.joblog.specs.declared.records.{State.State, Record.Record, LogReading.the-variants.Says}
 use Rattle.joblog.specs.Records.{state, recordAs, bytesOf, recordsOf, wholeOf, inTurn, afterOf, readOf, logReadingOf, compactedOf}
 use Rattle.joblog.specs.Calls.{LogCall, refused, refusing, answered, readLogOf, readAnswer, newInTurn, compactAnswer, compactingOf}
 use Rattle.joblog.specs.Calls.{loggedOf, appendedOf, appendOf, restartedOf, restartOf}

@@ -2,9 +2,7 @@
 use Rattle.prelude.proofs.Logic.{_≡_, refl, sym, ap, subst, _∙_, Bool, true, false, cond, List, [], _∷_, _++_, ℕ, zero, suc, _+_, _-_, _*_}
 use Rattle.prelude.proofs.Logic.{_≤_, arith, leb, length, length-append, le-leb, cases}
 use Rattle.text.specs.Text.{putOf}
-use Rattle.joblog.specs.declared.records.State.{State}
-use Rattle.joblog.specs.Records.{state, compactedOf}
-use Rattle.joblog.specs.declared.calls.Log.{Log}
+use Rattle.joblog.specs.{declared.records.State.State, Records.state, Records.compactedOf, declared.calls.Log.Log}
 use Rattle.joblog.specs.Calls.{readLogOf, compactAnswer, compactingOf}
 use Rattle.prelude.specs.Lists.{listed}
 use Rattle.joblog_laws.specs.Run.{idle, World, world, begun, goes, finishes, restart, asRequested, isIdle, finishing, next, run}

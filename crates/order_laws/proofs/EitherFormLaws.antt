@@ -1,17 +1,16 @@
 -- A place sent either way gives the same record but for where the town is, and so every call returns the same. Assumes nothing.
 use Rattle.prelude.proofs.Logic.{_≡_, refl, sym, ap, _∙_, subst, fun-ext, true, false, List, _∷_, _++_, ℕ, zero, suc, _+_, _≤_, lit≤, leZ}
+use Rattle.float64.proofs.Floats.{Float}
 use Rattle.calendar.specs.Answers.{rowDateOf}
 use Rattle.days.specs.Calls.{workRowOf, workReadingOf, workDayOf, workAtOf, prayerAtOf, nextAtOf, remainingAtOf}
 use Rattle.fields.specs.Tags.{lastTag}
 use Rattle.fields.specs.Values.{hasOf, valueOf, valuesOf}
 use Rattle.fields.specs.declared.values.Part.{Part}
 use Rattle.lines.specs.Lines.{lineText}
-use Rattle.models.specs.declared.prayer.Prayer.{Prayer}
-use Rattle.models.specs.Settings.{timeAdjustmentsOf}
+use Rattle.models.specs.{declared.prayer.Prayer.Prayer, Settings.timeAdjustmentsOf}
 use Rattle.order.specs.Given.{coordinateIn, byteOr, degreesOr, roundingOr, minutesOr, intervalOr, parametersIn, rulesIn, clockIn, ramadanIn}
 use Rattle.order.specs.Reading.{orderOf, readingOf, townOf}
-use Rattle.order.specs.declared.reading.Order.{Order}
-use Rattle.order.specs.declared.reading.Reading.the-variants.{Read}
+use Rattle.order.specs.declared.reading.{Order.Order, Reading.the-variants.Read}
 use Rattle.order.proofs.ReadingLaws.{read-passed, town-value}
 use Rattle.braille.specs.Cells.{rowLength}
 use Rattle.pages.specs.Pages.{Rows, rowOf, rowsFrom, pageOf, pageCount, pagesCells, allCells}
@@ -19,8 +18,7 @@ use Rattle.pages.specs.Answers.{askedCallOf, oneRow, pieceIn}
 use Rattle.pages.specs.Reports.{wearText, cellsText}
 use Rattle.reports.specs.Reports.{reportIn}
 use Rattle.sheets.specs.Rows.{linesText, acceptedText, sheetText, readCallOf, rowCallOf}
-use Rattle.schedule.specs.declared.in_force.Instant.{Instant}
-use Rattle.schedule.specs.declared.prayer_times.Worked.{Worked}
+use Rattle.schedule.specs.declared.{in_force.Instant.Instant, prayer_times.Worked.Worked}
 use Rattle.schedule.specs.declared.prayer_times.Worked.the-variants.{Times, Refused}
 use Rattle.weeks.specs.Lines.{reportOf}
 use Rattle.weeks.specs.Report.{minuteIn, rowMinute, ordersReport, weekText}
@@ -188,19 +186,17 @@ module _ (a b : List ℕ) (orders : SamePlace a b) where
   second-same : orderOf (valuesOf b) ≡ orders .second
   second-same = read-passed b (orders .second) (orders .«second_read») .same
 
+  -- what the two orders have alike, their values have alike
+  alike : (f : Order → Float) → f (orders .first) ≡ f (orders .second) → f (orderOf (valuesOf a)) ≡ f (orderOf (valuesOf b))
+  alike f e = ap f first-same ∙ e ∙ sym (ap f second-same)
+
   latitude-same : coordinateIn (valuesOf a) 4 18 ≡ coordinateIn (valuesOf b) 4 18
   unfolding orderOf
-  latitude-same =
-      ap (λ (o : Order). o .setting .coordinates .latitude) first-same
-      ∙ orders .latitude
-      ∙ sym (ap (λ (o : Order). o .setting .coordinates .latitude) second-same)
+  latitude-same = alike (λ (o : Order). o .setting .coordinates .latitude) (orders .latitude)
 
   longitude-same : coordinateIn (valuesOf a) 5 19 ≡ coordinateIn (valuesOf b) 5 19
   unfolding orderOf
-  longitude-same =
-      ap (λ (o : Order). o .setting .coordinates .longitude) first-same
-      ∙ orders .longitude
-      ∙ sym (ap (λ (o : Order). o .setting .coordinates .longitude) second-same)
+  longitude-same = alike (λ (o : Order). o .setting .coordinates .longitude) (orders .longitude)
 
   given-same : withTown (orderOf (valuesOf a)) (orderOf (valuesOf b) .town) ≡ orderOf (valuesOf b)
   unfolding orderOf
@@ -217,9 +213,7 @@ module _ (a b : List ℕ) (orders : SamePlace a b) where
       )
 
   given : withTown (orders .first) (orders .second .town) ≡ orders .second
-  given =
-      subst (λ (o : Order). withTown o (orders .second .town) ≡ orders .second) first-same
-      (subst (λ (o : Order). withTown (orderOf (valuesOf a)) (o .town) ≡ o) second-same given-same)
+  given = rw (← first-same, ← second-same) given-same
 
   town-same : townOf a ≡ townOf b
   town-same = town-value a (orders .first) (orders .«first_read») ∙ value 1 (lit≤ tt) refl
@@ -247,15 +241,6 @@ either-form-moves-alike a b c d p q later =
       «first_read» = p .«second_read»;
       «second_read» = q .«second_read»;
       town = sym (town-same a c p) ∙ later .town ∙ town-same b d q;
-      alike =
-          subst (λ (o : Order). withOwnMinutes o (q .second .town) (q .second .setting .parameters .adjustments) ≡ q .second) x
-          (subst (λ (o : Order). withOwnMinutes (withTown (later .first) (p .second .town)) (q .second .town)
-          (o .setting .parameters .adjustments) ≡ o) y
-          (moved-town (later .first) (later .second) (p .second .town) (q .second .town) (later .alike)));
-      more =
-          λ (prayer : Prayer).
-          subst (λ (o : Order). leZ (timeAdjustmentsOf (o .setting .parameters) prayer)
-          (timeAdjustmentsOf (q .second .setting .parameters) prayer) ≡ true) x
-          (subst (λ (o : Order). leZ (timeAdjustmentsOf (later .first .setting .parameters) prayer)
-          (timeAdjustmentsOf (o .setting .parameters) prayer) ≡ true) y (later .more prayer));
+      alike = rw (← x, ← y) (moved-town (later .first) (later .second) (p .second .town) (q .second .town) (later .alike));
+      more = λ (prayer : Prayer). rw (← x, ← y) (later .more prayer);
     }

@@ -4,8 +4,7 @@ use Rattle.prelude.proofs.Logic.{_-_, _≤_, _<_, arith, leb, ltb, eqb, lit≤,
 use Rattle.prelude.proofs.Logic.{leb-true, leb-false, eq-eqb, eqb-true, eqb-false, le-leb, lt-leb, not-false, cases, both, ⊎-elim}
 use Rattle.calendar.specs.Answers.{rowDateOf}
 use Rattle.fields.specs.Fields.{lengthAt, nextFieldAt, faultIn, faultOf, walkOf, checkOf}
-use Rattle.fields.specs.Numbers.{byteOf}
-use Rattle.fields.specs.Tags.{tags, lengthFits}
+use Rattle.fields.specs.{Numbers.byteOf, Tags.tags, Tags.lengthFits}
 use Rattle.fields.specs.Values.{hasOf, valueOf, valuesOf}
 use Rattle.fields.specs.Lookup.{firstFrom, offsetOf}
 use Rattle.fields.proofs.LookupLaws.{first, has-good, whole-length, value-missing}
@@ -15,16 +14,13 @@ use Rattle.calendar.specs.declared.dates.Date.{Date}
 use Rattle.order.specs.Given.{dateIn, rowsIn, coordinateIn, byteOr, rulesIn, clockIn, noRamadan, ramadanIn}
 use Rattle.order.specs.Ranges.{between, rowsFit, ramadanRows, lookUp, fitsOf, inRangeOf}
 use Rattle.order.specs.Reading.{firstFailing, required, isGivenOf, missingOf, bothFormsOf, tagsFrom, outOfRangeOf, orderOf, wrongStartOf}
-use Rattle.order.specs.Reading.{firstOf, readingOf}
-use Rattle.order.specs.declared.reading.Order.{Order}
+use Rattle.order.specs.{Reading.firstOf, Reading.readingOf, declared.reading.Order.Order}
 use Rattle.order.specs.declared.reading.Reading.the-variants as reading
 use Rattle.order.proofs.ReadingLaws.{passed-on, town-value}
-use Rattle.refusals.specs.Refusals.{noRefusal}
-use Rattle.refusals.specs.declared.Refusal.{Refusal}
+use Rattle.refusals.specs.{Refusals.noRefusal, declared.Refusal.Refusal}
 use Rattle.reports.specs.Reports.{reportIn}
 use Rattle.sheets.specs.Rows.{headerText, headText, linesText, acceptedText, sheetText}
-use Rattle.schedule.specs.Times.{workedAt}
-use Rattle.schedule.specs.declared.prayer_times.Worked.{Worked}
+use Rattle.schedule.specs.{Times.workedAt, declared.prayer_times.Worked.Worked}
 use Rattle.schedule.specs.declared.prayer_times.Worked.the-variants as worked
 use Rattle.days.specs.Calls.{workRowOf}
 use Rattle.order_laws.specs.FormerRows.{formerLengthFits, formerFaultOf, formerWalkOf, formerCheckOf, formerRowsFit, formerInRange}
@@ -228,35 +224,14 @@ module _ (s : List ℕ) where
     unfolding inRangeOf formerInRange
     range-same tag = cases (eqb tag 3) (λ t. let is : tag ≡ 3 = eqb-true tag 3 t in rw (is, three-same)) (λ t. simp t)
 
-    in-range : (tag : ℕ) → 15 ≤ tag → inRangeOf (valuesOf s) tag ≡ true
+    in-range : (tag : ℕ) → leb 15 tag ≡ true → inRangeOf (valuesOf s) tag ≡ true
     unfolding inRangeOf
-    in-range tag l = simp (has-none tag l)
+    in-range tag l = simp (has-none tag (leb-true 15 tag l))
 
     ranges-same : outOfRangeOf (valuesOf s) ≡ firstFailing 5 (formerInRange (valuesOf s)) (tagsFrom 14 1)
     unfolding outOfRangeOf firstFailing tagsFrom
     ranges-same =
-        simp (
-          range-same 1,
-          range-same 2,
-          range-same 3,
-          range-same 4,
-          range-same 5,
-          range-same 6,
-          range-same 7,
-          range-same 8,
-          range-same 9,
-          range-same 10,
-          range-same 11,
-          range-same 12,
-          range-same 13,
-          range-same 14,
-          in-range 15 (lit≤ tt),
-          in-range 16 (lit≤ tt),
-          in-range 17 (lit≤ tt),
-          in-range 18 (lit≤ tt),
-          in-range 19 (lit≤ tt),
-          in-range 20 (lit≤ tt),
-        )
+        simp (in-range 15 refl, in-range 16 refl, in-range 17 refl, in-range 18 refl, in-range 19 refl, in-range 20 refl, range-same)
 
     -- ---- the record
     order-same : orderOf (valuesOf s) ≡ formerOrderOf (valuesOf s)

@@ -10,8 +10,7 @@ use Rattle.lines.specs.Lines.{imsakOf}
 use Rattle.models.specs.declared.prayer.Prayer.the-variants.{Fajr}
 use Rattle.refusals.specs.declared.Refusal.{Refusal}
 use Rattle.models.specs.Settings.{timeAdjustmentsOf}
-use Rattle.order.specs.declared.{reading.Order.Order, reading.Reading.Reading}
-use Rattle.order.specs.Accepted.{Accepted}
+use Rattle.order.specs.{declared.reading.Order.Order, declared.reading.Reading.Reading, Accepted.Accepted}
 use Rattle.order.proofs.AcceptedLaws.{read-accepted}
 use Rattle.schedule.specs.declared.{in_force.Current.Current, in_force.Instant.Instant, prayer_times.PrayerTimes.PrayerTimes}
 use Rattle.schedule.specs.declared.{prayer_times.Worked.Worked}
@@ -137,10 +136,7 @@ module _ (a b : List ℕ) (orders : LaterOrder a b) (row : ℕ) where
       let m = row-moved (orders .first) (orders .second .town) (orders .second .setting .parameters .adjustments) row h k more in
       let n = subst (λ (x : Order). Moved (orders .first .setting .parameters) (x .setting .parameters) (workRowOf (orders .first) row)
       (workRowOf x row)) e m in
-      subst (λ (w : Worked). Moved (orders .first .setting .parameters) (orders .second .setting .parameters) w (workDayOf b row))
-      (sym day-of-first)
-      (subst (λ (w : Worked). Moved (orders .first .setting .parameters) (orders .second .setting .parameters)
-      (workRowOf (orders .first) row) w) (sym day-of-second) n)
+      rw (day-of-first, day-of-second) n
 
 -- imsak is Fajr less the same minutes on both sheets
 shifted : (f g d : ℤ) (m : ℕ) → g ≡ f +ℤ d → g -ℤ pos m ≡ (f -ℤ pos m) +ℤ d
@@ -187,9 +183,7 @@ module _ (a b : List ℕ) (orders : LaterOrder a b) (row : ℕ) (t u : PrayerTim
       let none = moved .«none_earlier» t u at bu .fajr in
       record {
         same = ramadan-same;
-        «not_earlier» =
-            subst (λ (z : ℤ). leZ z (imsakOf (orders .second .ramadan .imsak) (u .fajr)) ≡ true) (sym first-imsak)
-            (subst (λ (z : ℤ). leZ (t .fajr -ℤ pos m) z ≡ true) (sym second-imsak) (kept (t .fajr) (u .fajr) m none));
+        «not_earlier» = rw (first-imsak, second-imsak) (kept (t .fajr) (u .fajr) m none);
         exactly =
             second-imsak
             ∙ shifted (t .fajr) (u .fajr) (laterBy (orders .first .setting .parameters) (orders .second .setting .parameters) Fajr) m exact
@@ -208,8 +202,7 @@ later-orders-move-their-rows a b orders row =
           let f = prayer-times (workDayOf a row) t x (sym (asked a row t ht) ∙ ex) in
           let g = prayer-times (workDayOf b row) u y (sym (asked b row u hu) ∙ ey) in
           let l = moved .«in_force» (f .times) (g .times) (f .worked-are) (g .worked-are) t u (less-than-a-second u hu) after in
-          subst (λ (z : Current). currentNumberOf y ≤ currentNumberOf z) (f .current-is)
-          (subst (λ (z : Current). currentNumberOf z ≤ currentNumberOf (currentTimeOf (f .times) t)) (g .current-is) l);
+          rw (← f .current-is, ← g .current-is) l;
       «in_force_refused» = λ t u ht hu r e. refused-alike a b row t u r ht hu (moved .refused r) e;
       «in_force_refused_too» = λ t u ht hu r e. refused-alike b a row u t r hu ht (moved .«refused_too» r) e;
     }

@@ -5,42 +5,31 @@ use Rattle.prelude.proofs.Logic.{lt-ltb, leb-true, eq-eqb, ne-eqb, eqb-true, eq
 use Rattle.prelude.proofs.Logic.{le-ltb, length-take, length-drop}
 use Rattle.prelude.specs.Lists.{listed}
 use Rattle.braille.specs.Cells.{rowLength}
-use Rattle.calendar.specs.Answers.{rowDateOf}
-use Rattle.calendar.specs.declared.dates.Date.{Date}
+use Rattle.calendar.specs.{Answers.rowDateOf, declared.dates.Date.Date}
 use Rattle.days.specs.Calls.{workDateOf, workRowOf, workReadingOf, workDayOf}
-use Rattle.fields.specs.Fields.{checkOf}
-use Rattle.fields.specs.Values.{valuesOf}
+use Rattle.fields.specs.{Fields.checkOf, Values.valuesOf}
 use Rattle.lines.specs.Lines.{fullRow, rowRoom, lineText}
 use Rattle.lines.proofs.LinesLaws.{columns-length}
-use Rattle.models.specs.declared.parameters.Parameters.{Parameters}
-use Rattle.models.specs.declared.rules.Midnight.{Midnight}
-use Rattle.models.specs.declared.rules.Season.{Season}
+use Rattle.models.specs.declared.{parameters.Parameters.Parameters, rules.Midnight.Midnight, rules.Season.Season}
 use Rattle.order.specs.Reading.{checksOf, orderOf, firstOf, readingOf, townOf}
-use Rattle.order.specs.declared.reading.Order.{Order}
-use Rattle.order.specs.declared.reading.Reading.{Reading}
+use Rattle.order.specs.declared.reading.{Order.Order, Reading.Reading}
 use Rattle.order.specs.declared.reading.Reading.the-variants as reading
 use Rattle.order.proofs.ReadingLaws.{Refusing, refused-by}
 use Rattle.pages.specs.Answers as pages
 use Rattle.pages.specs.Answers.{putCallOf, askedCallOf, oneRow, pieceIn}
 use Rattle.pages.specs.Pages.{Rows, rowsFrom, cellsOf, pageOf, pieceOf}
 use Rattle.pages.proofs.RowsLaws.{cells-length, take-rows, drop-rows}
-use Rattle.refusals.specs.Refusals.{refusal, noRefusal}
-use Rattle.refusals.specs.declared.Refusal.{Refusal}
+use Rattle.refusals.specs.{Refusals.refusal, Refusals.noRefusal, declared.Refusal.Refusal}
 use Rattle.reports.specs.Reports.{reportIn}
 use Rattle.sheets.proofs.Answers.{row-short, row-read, row-refused}
 use Rattle.sheets.specs.Rows.{workedCallOf, readCallOf, rowCallOf, headText, linesText, acceptedText, sheetText}
 use Rattle.schedule.proofs.Schedule.{sunsOf, hoursOf, numbersOf, seasonOf, startedIn, sinceFrom, sinceOf}
-use Rattle.schedule.specs.declared.hours.RowHours.{RowHours}
-use Rattle.schedule.specs.declared.hours.RowNumbers.{RowNumbers}
-use Rattle.schedule.specs.declared.prayer_times.Worked.{Worked}
+use Rattle.schedule.specs.declared.{hours.RowHours.RowHours, hours.RowNumbers.RowNumbers, prayer_times.Worked.Worked}
 use Rattle.schedule.specs.declared.prayer_times.Worked.the-variants as worked
-use Rattle.sentences.specs.Sentences.{sentenceOf, sentenceCallOf}
-use Rattle.sentences.specs.Table.{known}
+use Rattle.sentences.specs.{Sentences.sentenceOf, Sentences.sentenceCallOf, Table.known}
 use Rattle.solar.specs.Times.{dayOf, solarTimeOf, solarHourOf}
-use Rattle.solar.specs.declared.hours.HourNumbers.{HourNumbers}
-use Rattle.solar.specs.declared.setting.SolarHour.{SolarHour}
-use Rattle.solar.specs.declared.setting.SolarHour.the-variants.{Some, Nothing}
-use Rattle.solar.specs.declared.times.SolarDay.{SolarDay}
+use Rattle.solar.specs.declared.{hours.HourNumbers.HourNumbers, setting.SolarHour.SolarHour}
+use Rattle.solar.specs.declared.{setting.SolarHour.the-variants.Some, setting.SolarHour.the-variants.Nothing, times.SolarDay.SolarDay}
 use Rattle.solar.specs.declared.times.SolarDay.the-variants as sun
 use Rattle.text.specs.Text.{frontOf}
 use Rattle.order_laws.specs.NothingBreaks.{orderNumbers, dayNumbers, FirstBroken, FirstLacking, threeDays, RefusedDay, rowLine}
@@ -88,21 +77,11 @@ module _ (h : RowHours) (date : Date) (season : Season) (p : Parameters) (r : Re
       → startedIn date (sinceFrom (sunsOf a b c) h date season p) ≡ worked.Refused r
       → (listed dayNumbers (r .number) ≡ true) × (r .place ≤ 2) × FirstLacking (r .number) (r .place) (a ∷ b ∷ c ∷ [])
   unfolding startedIn sinceFrom sunsOf
-  by-days (sun.Lacks n) b c x y z e =
-      let same : refusal n 0 ≡ r = cc in
-      subst (λ (q : Refusal). (listed dayNumbers (q .number) ≡ true) × (q .place ≤ 2)
-      × FirstLacking (q .number) (q .place) (sun.Lacks n ∷ b ∷ c ∷ [])) same
-      (x n refl, lit≤ tt, FirstLacking.here)
+  by-days (sun.Lacks n) b c x y z e = let same : refusal n 0 ≡ r = cc in rw (← same) (x n refl, lit≤ tt, FirstLacking.here)
   by-days (sun.Whole t) (sun.Lacks n) c x y z e =
-      let same : refusal n 1 ≡ r = cc in
-      subst (λ (q : Refusal). (listed dayNumbers (q .number) ≡ true) × (q .place ≤ 2)
-      × FirstLacking (q .number) (q .place) (sun.Whole t ∷ sun.Lacks n ∷ c ∷ [])) same
-      (y n refl, lit≤ tt, FirstLacking.later FirstLacking.here)
+      let same : refusal n 1 ≡ r = cc in rw (← same) (y n refl, lit≤ tt, FirstLacking.later FirstLacking.here)
   by-days (sun.Whole t) (sun.Whole u) (sun.Lacks n) x y z e =
-      let same : refusal n 2 ≡ r = cc in
-      subst (λ (q : Refusal). (listed dayNumbers (q .number) ≡ true) × (q .place ≤ 2)
-      × FirstLacking (q .number) (q .place) (sun.Whole t ∷ sun.Whole u ∷ sun.Lacks n ∷ [])) same
-      (z n refl, lit≤ tt, FirstLacking.later (FirstLacking.later FirstLacking.here))
+      let same : refusal n 2 ≡ r = cc in rw (← same) (z n refl, lit≤ tt, FirstLacking.later (FirstLacking.later FirstLacking.here))
   by-days (sun.Whole t) (sun.Whole u) (sun.Whole v) x y z e = let w : _≡_ {A = ℕ} 0 1 = cc in absurd (omega arith)
 
   by-lacking : {number place : ℕ} {a b c : SolarDay} → FirstLacking number place (a ∷ b ∷ c ∷ [])

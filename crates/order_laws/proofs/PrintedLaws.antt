@@ -8,16 +8,14 @@ use Rattle.calendar.specs.declared.dates.Date.{Date}
 use Rattle.days.specs.Calls.{workRowOf}
 use Rattle.refusals.specs.Refusals.{refusal}
 use Rattle.lines.specs.Lines.{daysOf, nineOf, imsakOf}
-use Rattle.order.specs.Accepted.{Accepted}
-use Rattle.order.specs.declared.reading.Order.{Order}
+use Rattle.order.specs.{Accepted.Accepted, declared.reading.Order.Order}
 use Rattle.models.specs.declared.prayer.Prayer.the-variants.{Fajr, Sunrise, Dhuhr, Asr, Maghrib, Isha, Qiyam, FajrTomorrow}
 use Rattle.schedule.proofs.Schedule.{start-near, numbersOf, startOf, seasonOf, workedAt, timeOf}
 use Rattle.schedule.specs.declared.{prayer_times.PrayerTimes.PrayerTimes, prayer_times.Worked.Worked}
 use Rattle.schedule.specs.declared.prayer_times.Worked.the-variants.{Times, Refused}
 use Rattle.schedule_laws.specs.Range.{OfDate, AllOfDate}
 use Rattle.schedule_laws.proofs.RangeLaws.{times-lie-by-their-date}
-use Rattle.order_laws.specs.Imsak.{ImsakIsPrintedWhole}
-use Rattle.order_laws.specs.Printed.{DaysArePrintedWhole}
+use Rattle.order_laws.specs.{Imsak.ImsakIsPrintedWhole, Printed.DaysArePrintedWhole}
 
 -- one of the two parts is 0
 small : (k : ℕ) (z : ℤ) → P z ≤ N z + k → N z ≤ P z + k → natAbs z ≤ k

@@ -7,22 +7,17 @@ use Rattle.days.specs.Calls.{nextPrayerIn, nextPrayerOf, nextAtOf, timeUntilIn,
 use Rattle.days.specs.declared.in_force.InForce.the-variants as force
 use Rattle.days.specs.declared.in_force.NextPrayer.the-variants as next
 use Rattle.days.specs.declared.in_force.TimeUntil.the-variants as until
-use Rattle.fields.specs.Fields.{checkOf}
-use Rattle.fields.specs.Values.{valuesOf}
+use Rattle.fields.specs.{Fields.checkOf, Values.valuesOf}
 use Rattle.lines.specs.Lines.{fullRow, rowRoom}
 use Rattle.order.specs.Reading.{checksOf, orderOf, firstOf, readingOf}
-use Rattle.order.specs.declared.reading.Order.{Order}
-use Rattle.order.specs.declared.reading.Reading.{Reading}
+use Rattle.order.specs.declared.reading.{Order.Order, Reading.Reading}
 use Rattle.order.specs.declared.reading.Reading.the-variants as reading
 use Rattle.order.proofs.ReadingLaws.{read-passed}
-use Rattle.refusals.specs.Refusals.{refusal, noRefusal}
-use Rattle.refusals.specs.declared.Refusal.{Refusal}
+use Rattle.refusals.specs.{Refusals.refusal, Refusals.noRefusal, declared.Refusal.Refusal}
 use Rattle.schedule.specs.InForce.{currentTimeOf, followingCurrentOf, untilOf}
 use Rattle.schedule.specs.declared.in_force.Current.{Current}
 use Rattle.schedule.specs.declared.in_force.Current.the-variants as current
-use Rattle.schedule.specs.declared.in_force.Instant.{Instant}
-use Rattle.schedule.specs.declared.prayer_times.PrayerTimes.{PrayerTimes}
-use Rattle.schedule.specs.declared.prayer_times.Worked.{Worked}
+use Rattle.schedule.specs.declared.{in_force.Instant.Instant, prayer_times.PrayerTimes.PrayerTimes, prayer_times.Worked.Worked}
 use Rattle.schedule.specs.declared.prayer_times.Worked.the-variants as worked
 use Rattle.sheets.proofs.Answers.{row-short, row-read, row-refused}
 use Rattle.sheets.specs.Rows.{workedCallOf, readCallOf, rowCallOf}

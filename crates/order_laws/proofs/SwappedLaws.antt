@@ -9,9 +9,7 @@ use Rattle.map_form.proofs.RoundTrip.{writing-gives-back}
 use Rattle.order.specs.Given.{formIn, coordinateIn, ramadanIn}
 use Rattle.order.specs.Ranges.{degreesFit, lookUp, fitsOf, inRangeOf}
 use Rattle.order.specs.Reading.{firstFailing, required, isGivenOf, missingOf, bothFormsOf, tagsFrom, outOfRangeOf, orderOf, wrongStartOf}
-use Rattle.order.specs.Reading.{firstOf, readingOf}
-use Rattle.order.specs.Accepted.{Accepted}
-use Rattle.order.specs.declared.reading.Order.{Order}
+use Rattle.order.specs.{Reading.firstOf, Reading.readingOf, Accepted.Accepted, declared.reading.Order.Order}
 use Rattle.order.specs.declared.reading.Reading.the-variants.{Read}
 use Rattle.order.proofs.AcceptedLaws.{read-accepted}
 use Rattle.order.proofs.ReadingLaws.{Passed, read-passed, has-required, fits-given}

@@ -2,7 +2,7 @@
 ghost use mathlib.Core.Path.{_≡_};
 ghost use Rattle.integers.specs.Parts.{P};
 ghost use Rattle.order_numbers.specs.Numbers.{setNumberOf, choicesNumbersOf, noChoicesNumbers, orderRead, orderRefused};
-ghost use Rattle.order_numbers.specs.Numbers.{orderNumbersOf};
+ghost use Rattle.order_numbers.specs.Numbers.{orderNumbersIn, orderNumbersOf};
 use calendar::dates::Date;
 use fields::values::Part;
 use integers::parts::above;
@@ -145,12 +145,19 @@ fn order_refused(refusal: Refusal) -> OrderNumbers
     }
 }
 
+// What a reading gives: the record in numbers, or its refusal.
+pub fn numbers_of(reading: Reading) -> OrderNumbers
+    ensures { λ r. ⌜ r ≡ orderNumbersIn reading ⌝ }
+{
+    match reading {
+        Reading::Read(order) => order_read(order),
+        Reading::Refused(refusal) => order_refused(refusal),
+    }
+}
+
 // What the bytes of an order ask for, or their refusal.
 pub fn read_numbers(order: &[u8]) -> OrderNumbers
     ensures { λ r. ⌜ r ≡ orderNumbersOf (now (order .entry)) ⌝ }
 {
-    match read(order) {
-        Reading::Read(record) => order_read(record),
-        Reading::Refused(refusal) => order_refused(refusal),
-    }
+    numbers_of(read(order))
 }

@@ -2,11 +2,9 @@
 use Rattle.prelude.proofs.Logic.{_≡_, refl, sym, ap, _∙_, List, [], _∷_, ℕ, _+_, _-_, _≤_, _<_, arith, length, lt-ltb, le-ltb}
 use Rattle.braille.specs.Braille.{dotsOf}
 use Rattle.days.specs.Calls.{lacksRow}
-use Rattle.order.specs.declared.reading.Order.{Order}
-use Rattle.order.specs.declared.reading.Reading.the-variants.{Read, Refused}
+use Rattle.order.specs.declared.reading.{Order.Order, Reading.the-variants.Read, Reading.the-variants.Refused}
 use Rattle.order.specs.Reading.{readingOf}
-use Rattle.refusals.specs.Refusals.{refusal, noRefusal}
-use Rattle.refusals.specs.declared.Refusal.{Refusal}
+use Rattle.refusals.specs.{Refusals.refusal, Refusals.noRefusal, declared.Refusal.Refusal}
 use Rattle.text.specs.Text.{frontOf}
 use Rattle.pages.specs.Answers.{CellsCall, punchedOf, refusing, putCallOf, askedCallOf, oneRow}
 use Rattle.pages.specs.Pages.{Rows, rowsFrom, cellsOf}

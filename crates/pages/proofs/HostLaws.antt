@@ -3,12 +3,9 @@ use Rattle.prelude.proofs.Logic.{_≡_, refl, sym, ap, _∙_, List, [], _∷_, 
 use Rattle.prelude.proofs.Logic.{length, take, drop, drop-of-length-le, take-all, take-at, drop-drop, ltb-true, ltb-false, cases}
 use Rattle.braille.specs.Braille.{dotsOf}
 use Rattle.days.specs.Calls.{lacksRow}
-use Rattle.order.specs.declared.reading.Order.{Order}
-use Rattle.order.specs.declared.reading.Reading.{Reading}
-use Rattle.order.specs.declared.reading.Reading.the-variants.{Read, Refused}
+use Rattle.order.specs.declared.reading.{Order.Order, Reading.Reading, Reading.the-variants.Read, Reading.the-variants.Refused}
 use Rattle.order.specs.Reading.{readingOf}
-use Rattle.refusals.specs.Refusals.{noRefusal}
-use Rattle.refusals.specs.declared.Refusal.{Refusal}
+use Rattle.refusals.specs.{Refusals.noRefusal, declared.Refusal.Refusal}
 use Rattle.text.specs.Text.{frontOf}
 use Rattle.pages.specs.Answers.{CellsCall, punchedOf, refusedOf, putCallOf, askedCallOf, pieceIn, pageCallOf}
 use Rattle.pages.specs.Host.{cellsGot, Calls, ended, called, PiecesAreThePage, AtOnceAsBefore}

@@ -1,7 +1,6 @@
 -- What the reports print, and that it fits. Assumes nothing.
 use Rattle.prelude.proofs.Logic.{_≡_, refl, sym, ap, _∙_, List, [], _++_, ℕ, _+_, _-_, _*_, _≤_, arith, lit≤, length, length-append}
-use Rattle.braille.specs.Braille.{dotsOf}
-use Rattle.braille.specs.Cells.{rowLength}
+use Rattle.braille.specs.{Braille.dotsOf, Cells.rowLength}
 use Rattle.lines.specs.Lines.{numberText}
 use Rattle.order.proofs.AcceptedLaws.{read-accepted}
 use Rattle.order.specs.declared.reading.Order.{Order}
@@ -11,8 +10,7 @@ use Rattle.text.specs.Printed.{printedOf}
 use Rattle.text.specs.Text.{ascii, decimalOf, putOf, frontOf}
 use Rattle.pages.specs.Pages.{rowsFrom, cellsOf, allCells}
 use Rattle.pages.specs.Reports.{totalText, wearOf, wearText, cellsText, longestWear, longestCells}
-use Rattle.pages.proofs.PageLaws.{all-cells}
-use Rattle.pages.proofs.RowsLaws.{cells-length}
+use Rattle.pages.proofs.{PageLaws.all-cells, RowsLaws.cells-length}
 
 -- ---- the total's line, part by part
 pub total-length : (dots k : ℕ) → k ≡ length (decimalOf dots) → (5 + k + 1 ≡ length (totalText dots)) × (length (totalText dots) ≤ 26)

@@ -1,20 +1,14 @@
 -- The suns roll from row to row, and the rows' cells follow one another. Assumes nothing.
 use Rattle.prelude.proofs.Logic.{_≡_, refl, sym, ap, _∙_, List, [], _∷_, _++_, append-nil, ℕ, _+_, _-_, _*_, _≤_, _<_, arith, length, w32}
 use Rattle.prelude.proofs.Logic.{SFits}
-use Rattle.braille.proofs.Bits.{dots-bound}
-use Rattle.braille.proofs.Clock.{cells-since}
-use Rattle.braille.proofs.Parts.{row-length}
-use Rattle.braille.specs.Braille.{dotsOf}
-use Rattle.braille.specs.Cells.{rowLength, rowCells}
+use Rattle.braille.proofs.{Bits.dots-bound, Clock.cells-since, Parts.row-length}
+use Rattle.braille.specs.{Braille.dotsOf, Cells.rowLength, Cells.rowCells}
 use Rattle.calendar.specs.Answers.{rowDateOf}
 use Rattle.days.proofs.RowStates.{stateOf, state-worked}
 use Rattle.days.specs.Calls.{workRowOf}
 use Rattle.integers.proofs.Ranges.{fits}
-use Rattle.order.specs.Accepted.{Accepted}
-use Rattle.order.specs.declared.reading.Order.{Order}
-use Rattle.schedule.specs.RowSuns.{rowSunsOf, rowSunsSinceOf}
-use Rattle.schedule.specs.declared.rolling.RowSuns.{RowSuns}
-use Rattle.schedule.specs.declared.prayer_times.Worked.{Worked}
+use Rattle.order.specs.{Accepted.Accepted, declared.reading.Order.Order}
+use Rattle.schedule.specs.{RowSuns.rowSunsOf, RowSuns.rowSunsSinceOf, declared.rolling.RowSuns.RowSuns, declared.prayer_times.Worked.Worked}
 use Rattle.text.specs.Text.{putOf, frontOf}
 use Rattle.text.proofs.TextLaws.{put-next}
 use Rattle.pages.specs.Pages.{rowOf, rowsFrom, cellsOf}

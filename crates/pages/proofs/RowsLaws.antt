@@ -1,10 +1,8 @@
 -- The rows of an order as a list, and their cells. Assumes nothing.
 use Rattle.prelude.proofs.Logic.{_≡_, refl, sym, ap, _∙_, List, [], _∷_, _++_, append-assoc, ℕ, zero, suc, _+_, _-_, _*_, min, add-one}
 use Rattle.prelude.proofs.Logic.{arith, length, take, drop, length-append}
-use Rattle.braille.proofs.Bits.{six-append, row-six}
-use Rattle.braille.proofs.Parts.{row-length}
-use Rattle.braille.specs.Braille.{dotsOf, SixDots}
-use Rattle.braille.specs.Cells.{rowLength}
+use Rattle.braille.proofs.{Bits.six-append, Bits.row-six, Parts.row-length}
+use Rattle.braille.specs.{Braille.dotsOf, Braille.SixDots, Cells.rowLength}
 use Rattle.calendar.specs.Answers.{rowDateOf}
 use Rattle.days.specs.Calls.{workRowOf}
 use Rattle.order.specs.declared.reading.Order.{Order}

@@ -2,8 +2,7 @@
 use mathlib.Core.Bool.{true, false}
 use lib.Ieee.{Float}
 use Rattle.models.specs.Chosen.{settingOf}
-use Rattle.models.specs.Numbers.{methodOf, methodNumberOf, madhabOf, madhabNumberOf, ruleOf, ruleNumberOf, roundingOf, roundingNumberOf}
-use Rattle.models.specs.Numbers.{shafaqOf, shafaqNumberOf, midnightOf, southernOf}
+use Rattle.models.specs.Numbers.{methodOf, madhabOf, ruleOf, roundingOf, shafaqOf, midnightOf, southernOf}
 use Rattle.models.specs.Presets.{presetOf}
 use Rattle.models.specs.declared.parameters.Parameters.{Parameters}
 use Rattle.models.specs.declared.rules.Rules.{Rules}
@@ -43,20 +42,6 @@ rulesFrom r = record { midnight = midnightOf (r .carry); southern = southernOf (
 
 abbrev pub settingFrom : Float → Float → ProbeSettings → ProbeRules → Setting
 settingFrom latitude longitude settings chosen = settingOf (coordinatesOf latitude longitude) (parametersFrom settings) (rulesFrom chosen)
-
-unfoldable pub settingsOf : Parameters → ProbeSettings
-settingsOf p =
-    record {
-      method = methodNumberOf (p .method);
-      madhab = madhabNumberOf (p .madhab);
-      «high_latitude_rule» = ruleNumberOf (p .«high_latitude_rule»);
-      rounding = roundingNumberOf (p .rounding);
-      shafaq = shafaqNumberOf (p .shafaq);
-      minutes = p .adjustments;
-      «isha_interval» = p .«isha_interval»;
-      «fajr_angle» = p .«fajr_angle»;
-      «isha_angle» = p .«isha_angle»;
-    }
 
 unfoldable pub probeDayOf : Worked → ProbeDay
 probeDayOf (Times t) = record { refusal = noRefusal; times = t }

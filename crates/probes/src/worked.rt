@@ -1,13 +1,11 @@
 // A day and the prayer in force as exports, for runs against the crate that is ported. A host does not link them.
 ghost use mathlib.Core.Path.{_≡_};
 ghost use Rattle.calendar.specs.Gregorian.{dateOf};
-ghost use Rattle.models.specs.Numbers.{methodOf};
-ghost use Rattle.models.specs.Presets.{presetOf};
 ghost use Rattle.float64.specs.Ops.{dec};
 ghost use Rattle.schedule.specs.Times.{workedBy, workedAt};
 ghost use Rattle.schedule.specs.InForce.{currentTimeOf, currentNumberOf, nextOf, timeRemainingOf};
 ghost use Rattle.days.specs.Calls.{instantOf};
-ghost use Rattle.probes.specs.Days.{parametersFrom, rulesFrom, settingFrom, settingsOf, probeDayOf, probeRemainingOf};
+ghost use Rattle.probes.specs.Days.{parametersFrom, rulesFrom, settingFrom, probeDayOf, probeRemainingOf};
 use calendar::dates::Date;
 use models::adjustments::TimeAdjustment;
 use models::high_altitude_rule::HighLatitudeRule;
@@ -97,37 +95,6 @@ fn setting(latitude: f64, longitude: f64, settings: ProbeSettings, chosen: Probe
         parameters: parameters(settings),
         rules: rules(chosen),
     }
-}
-
-// What the exports take of parameters. The rest is the method's.
-pub(crate) fn settings_of(parameters: Parameters) -> ProbeSettings
-    ensures { λ r. ⌜ r ≡ settingsOf parameters ⌝ }
-{
-    let method = parameters.method;
-    let madhab = parameters.madhab;
-    let high_latitude_rule = parameters.high_latitude_rule;
-    let rounding = parameters.rounding;
-    let shafaq = parameters.shafaq;
-    let own = parameters.adjustments;
-    ProbeSettings {
-        method: method.number(),
-        madhab: madhab.number(),
-        high_latitude_rule: high_latitude_rule.number(),
-        rounding: rounding.number(),
-        shafaq: shafaq.number(),
-        minutes: own,
-        isha_interval: parameters.isha_interval,
-        fajr_angle: parameters.fajr_angle,
-        isha_angle: parameters.isha_angle,
-    }
-}
-
-// A method's own settings.
-#[no_mangle]
-pub extern "C" fn probe_preset(method: u32) -> ProbeSettings
-    ensures { λ r. ⌜ r ≡ settingsOf (presetOf (methodOf method)) ⌝ }
-{
-    settings_of(Method::of_number(method).parameters())
 }
 
 fn answered(worked: Worked) -> ProbeDay

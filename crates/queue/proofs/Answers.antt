@@ -1,8 +1,6 @@
 -- What the code returns is the definition's value, in each case that its tests find. Assumes nothing.
 use Rattle.prelude.proofs.Logic.{_≡_, refl, sym, _∙_, true, false, List, _∷_, ℕ, _-_, _≤_, _<_, arith, length, getD, slice, lt-ltb, le-ltb}
-use Rattle.queue.specs.declared.Queue.{Queue}
-use Rattle.queue.specs.declared.Joined.{Joined}
-use Rattle.queue.specs.declared.Turned.{Turned}
+use Rattle.queue.specs.declared.{Queue.Queue, Joined.Joined, Turned.Turned}
 use Rattle.queue.specs.Jobs.{Job, job, QueueStep, mostJobs, proper, admits, joinOf, turnOf}
 use Rattle.queue.specs.Arrays.{counted, jobsIn, jobsOf, queueOf, refusalIn, heldAfter, joinedOf, turnedOf}
 use Rattle.prelude.specs.Lists.{listed}

@@ -2,8 +2,7 @@
 -- `hosts-hold-the-queue`, `hosts-keep-pages`, `hosts-turn-fairly`. Assumes nothing.
 use Rattle.prelude.proofs.Logic.{_≡_, refl, sym, ap, _∙_, cond, List, [], _∷_, _++_, map, ℕ, zero, suc, _+_, _-_, _<_, arith, eqb, length}
 use Rattle.prelude.proofs.Logic.{getD, take, drop, replicate, length-map, List·getD-append, List·getD-map, split-at, length-take-le, ne-eqb}
-use Rattle.queue.specs.declared.Joined.{Joined}
-use Rattle.queue.specs.declared.Turned.{Turned}
+use Rattle.queue.specs.declared.{Joined.Joined, Turned.Turned}
 use Rattle.queue.specs.Jobs.{Job, job, less, admitted, refused, sent, QueueStep, joinOf, turnOf}
 use Rattle.queue.specs.History.{Call, join, turn, stepOf, after, events, turns, everyId, pagesLeft, Sound}
 use Rattle.queue.specs.Arrays.{padded, idOf, pagesOf, queueOf, sentIn, joinedBy, joinedOf, turnedBy, turnedOf}
@@ -11,9 +10,7 @@ use Rattle.queue.specs.Host.{heldAfterOne, heldAfterAll, told, toldAll, 
 use Rattle.queue.specs.Promises.{HostsHoldTheQueue, HostsKeepPages, HostsTurnFairly}
 use Rattle.queue.proofs.Steps.{join-cases}
 use Rattle.queue.proofs.Invariant.{step-sound, sound-from, empty-sound, queues-are-sound}
-use Rattle.queue.proofs.Pages.{pages-are-kept}
-use Rattle.queue.proofs.Fairness.{turns-are-fair}
-use Rattle.queue.proofs.Abstraction.{shown}
+use Rattle.queue.proofs.{Pages.pages-are-kept, Fairness.turns-are-fair, Abstraction.shown}
 
 -- ---- one call
 join-shown : (l : List Job) (id pages : ℕ) → Sound l → joinedOf (queueOf l) id pages ≡ joinedBy (queueOf l) (joinOf l id pages)

@@ -2,10 +2,8 @@
 use Rattle.prelude.proofs.Logic.{_≡_, refl, sym, ap, _∙_, Bool, true, false, List, [], _∷_, ℕ, _+_, _-_, _≤_, arith}
 use Rattle.queue.specs.Jobs.{Job, job, less, QueueStep, atBack, turnOf}
 use Rattle.queue.specs.History.{Call, join, turn, stepOf, after, events, Ids, when, admittedBy, sentBy, pagesAdmitted, pagesSent}
-use Rattle.queue.specs.History.{pagesLeft, Sound}
-use Rattle.queue.specs.Promises.{PagesAreKept}
-use Rattle.queue.proofs.Steps.{join-cases, turn-cases}
-use Rattle.queue.proofs.Invariant.{step-sound, empty-sound}
+use Rattle.queue.specs.{History.pagesLeft, History.Sound, Promises.PagesAreKept}
+use Rattle.queue.proofs.{Steps.join-cases, Steps.turn-cases, Invariant.step-sound, Invariant.empty-sound}
 
 when-more : (t : Bool) (m n : ℕ) → when t (m + n) ≡ when t m + when t n
 when-more true m n = refl

@@ -7,8 +7,7 @@ use Rattle.prelude.proofs.Computed.{at}
 use Rattle.models.specs.declared.prayer.Prayer.{Prayer}
 use Rattle.models.specs.declared.prayer.Prayer.the-variants.{Fajr, Sunrise, Dhuhr, Asr, Maghrib, Isha, Qiyam, FajrTomorrow}
 use Rattle.models.specs.Numbers.{prayerNumberOf, prayerOf}
-use Rattle.schedule.specs.declared.{in_force.Instant.Instant, prayer_times.PrayerTimes.PrayerTimes}
-use Rattle.schedule.specs.declared.in_force.Current.the-variants.{Some}
+use Rattle.schedule.specs.declared.{in_force.Instant.Instant, prayer_times.PrayerTimes.PrayerTimes, in_force.Current.the-variants.Some}
 use Rattle.schedule.specs.InForce.{timeOf, inSecond, nanosecondsOf, NotAfter, aheadOf, lastOf, currentTimeOf, currentNumberOf}
 use Rattle.schedule_laws.specs.Later.{NoneEarlier, NotAfterByNanoseconds}
 

@@ -15,8 +15,11 @@ use Rattle.schedule.specs.InForce.{inSecond}
 use Rattle.schedule.proofs.Schedule.{hoursOf, NotAfter, numbersOf, startedIn, sinceFrom, sinceOf, seasonOf, settingOf, workedOf}
 use Rattle.schedule_laws.specs.Later.{withMinutes, NoneEarlier, ExactlyLater, Moved, LaterMinutesMoveTheDay, LaterMinutesMoveTheRow}
 use Rattle.schedule_laws.proofs.SunSpans.{SunHour, Row, hours}
-use Rattle.schedule_laws.proofs.Moves.{exactly, none-earlier}
-use Rattle.schedule_laws.proofs.InForceLaws.{to-nanoseconds, in-force-no-later}
+use Rattle.schedule_laws.proofs.{Moves.exactly, Moves.none-earlier, InForceLaws.to-nanoseconds, InForceLaws.in-force-no-later}
+
+-- a day is either refused or worked
+never : (r : Refusal) (t : PrayerTimes) → Refused r ≡ Times t → ⊥
+never r t e = let z : _≡_ {A = ℕ} 0 1 = cc in omega arith
 
 -- ---- the day, refused or worked
 refused-alike : (p q : Parameters) (x : Refusal) → Moved p q (Refused x) (Refused x)
@@ -24,31 +27,23 @@ refused-alike p q x =
     record {
       refused = λ (r : Refusal) (e : Refused x ≡ Refused r). e;
       «refused_too» = λ (r : Refusal) (e : Refused x ≡ Refused r). e;
-      «none_earlier» = λ (t u : PrayerTimes) (e : Refused x ≡ Times t) (f : Refused x ≡ Times u). let z : _≡_ {A = ℕ} 0 1 = cc in
-          absurd (omega arith);
-      «exactly_later» = λ (t u : PrayerTimes) (e : Refused x ≡ Times t) (f : Refused x ≡ Times u). let z : _≡_ {A = ℕ} 0 1 = cc in
-          absurd (omega arith);
-      «in_force» = λ (t u : PrayerTimes) (e : Refused x ≡ Times t) (f : Refused x ≡ Times u). let z : _≡_ {A = ℕ} 0 1 = cc in
-          absurd (omega arith);
+      «none_earlier» = λ (t u : PrayerTimes) (e : Refused x ≡ Times t) (f : Refused x ≡ Times u). absurd (never x t e);
+      «exactly_later» = λ (t u : PrayerTimes) (e : Refused x ≡ Times t) (f : Refused x ≡ Times u). absurd (never x t e);
+      «in_force» = λ (t u : PrayerTimes) (e : Refused x ≡ Times t) (f : Refused x ≡ Times u). absurd (never x t e);
     }
 
 worked-alike : (p q : Parameters) (x y : PrayerTimes) → NoneEarlier x y → ExactlyLater p q x y → Moved p q (Times x) (Times y)
 worked-alike p q x y none exact =
     record {
-      refused = λ (r : Refusal) (e : Times x ≡ Refused r). let z : _≡_ {A = ℕ} 0 1 = cc in absurd (omega arith);
-      «refused_too» = λ (r : Refusal) (e : Times y ≡ Refused r). let z : _≡_ {A = ℕ} 0 1 = cc in absurd (omega arith);
+      refused = λ (r : Refusal) (e : Times x ≡ Refused r). absurd (never r x (sym e));
+      «refused_too» = λ (r : Refusal) (e : Times y ≡ Refused r). absurd (never r y (sym e));
       «none_earlier» = λ (t u : PrayerTimes) (e : Times x ≡ Times t) (f : Times y ≡ Times u).
-          let a : x ≡ t = cc in let b : y ≡ u = cc in
-          subst (λ (k : PrayerTimes). NoneEarlier t k) b (subst (λ (k : PrayerTimes). NoneEarlier k y) a none);
+          let a : x ≡ t = cc in let b : y ≡ u = cc in rw (← a, ← b) none;
       «exactly_later» = λ (t u : PrayerTimes) (e : Times x ≡ Times t) (f : Times y ≡ Times u).
-          let a : x ≡ t = cc in let b : y ≡ u = cc in
-          subst (λ (k : PrayerTimes). ExactlyLater p q t k) b (subst (λ (k : PrayerTimes). ExactlyLater p q k y) a exact);
+          let a : x ≡ t = cc in let b : y ≡ u = cc in rw (← a, ← b) exact;
       «in_force» = λ (t u : PrayerTimes) (e : Times x ≡ Times t) (f : Times y ≡ Times u) (i j : Instant) (h : j .nanoseconds < inSecond)
           (l : NotAfter j i).
-          let a : x ≡ t = cc in
-          let b : y ≡ u = cc in
-          in-force-no-later t u i j (subst (λ (k : PrayerTimes). NoneEarlier t k) b (subst (λ (k : PrayerTimes). NoneEarlier k y) a none))
-          (to-nanoseconds j i h l);
+          let a : x ≡ t = cc in let b : y ≡ u = cc in in-force-no-later t u i j (rw (← a, ← b) none) (to-nanoseconds j i h l);
     }
 
 module _ (p : Parameters) (minutes : TimeAdjustment)

@@ -3,18 +3,15 @@
 use Rattle.prelude.proofs.Logic.{_≡_, refl, sym, ap, subst, _∙_, _^_, arith, lit≤, ℤ, pos, _+ℤ_, _-ℤ_, _*ℤ_, +ℤ-assoc}
 use Rattle.integers.proofs.Integers.{Near, _≼_, same, sum, difference, times, wider, natural-between, sum-between, difference-between}
 use Rattle.integers.proofs.Integers.{to-le}
-use Rattle.calendar.specs.Answers.{tomorrowOf}
-use Rattle.calendar.specs.declared.dates.Date.{Date}
+use Rattle.calendar.specs.{Answers.tomorrowOf, declared.dates.Date.Date}
 use Rattle.models.specs.declared.{adjustments.TimeAdjustment.TimeAdjustment, parameters.Parameters.Parameters, rules.Season.Season}
 use Rattle.models.specs.declared.{prayer.Prayer.Prayer, rounding.Rounding.Rounding}
 use Rattle.models.specs.declared.prayer.Prayer.the-variants.{Fajr, Sunrise, Dhuhr, Asr, Maghrib, Isha}
-use Rattle.models.specs.declared.rounding.Rounding.the-variants.{Nearest}
-use Rattle.models.specs.Settings.{timeAdjustmentsOf}
+use Rattle.models.specs.{declared.rounding.Rounding.the-variants.Nearest, Settings.timeAdjustmentsOf}
 use Rattle.rounding.specs.Times.{roundedOf, adjustedOf}
 use Rattle.rounding.proofs.TimesLaws.{rounded-adjusted, rounded-mono, adjusted-between}
 use Rattle.night_portions.specs.Portions.{middleOf, lastThirdOf}
-use Rattle.night_portions.proofs.Steady.{Small}
-use Rattle.night_portions.proofs.PortionsLaws.{middle-later, last-third-later}
+use Rattle.night_portions.proofs.{Steady.Small, PortionsLaws.middle-later, PortionsLaws.last-third-later}
 use Rattle.solar.specs.declared.{setting.SolarHour.SolarHour, times.SolarTime.SolarTime}
 use Rattle.schedule.specs.declared.{hours.ThreeSuns.ThreeSuns, hours.RowHours.RowHours, prayer_times.PrayerTimes.PrayerTimes}
 use Rattle.schedule.proofs.Schedule.{startOf, finalOf, fajrTomorrowOf, middleOfTheNightOf, qiyamOf, fromMidnightOf, startedOf}

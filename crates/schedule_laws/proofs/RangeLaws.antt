@@ -2,26 +2,22 @@
 use Rattle.prelude.proofs.Logic.{_≡_, subst, ℕ, _-_, _*_, _≤_, _<_, arith, lit≤, ℤ, pos, negsuc, _+ℤ_, _-ℤ_}
 use Rattle.integers.proofs.Integers.{P, N, Between, Near, floorQuot, same, sum, difference, wider, sum-between, difference-between}
 use Rattle.integers.proofs.Integers.{natural-between, toward-between}
-use Rattle.calendar.specs.Answers.{tomorrowOf}
-use Rattle.calendar.specs.declared.dates.Date.{Date}
+use Rattle.calendar.specs.{Answers.tomorrowOf, declared.dates.Date.Date}
 use Rattle.models.specs.declared.{parameters.Parameters.Parameters, rules.Season.Season, prayer.Prayer.Prayer}
 use Rattle.models.specs.declared.prayer.Prayer.the-variants.{Fajr, Sunrise, Dhuhr, Asr, Maghrib, Isha, Qiyam, FajrTomorrow}
-use Rattle.models.specs.declared.rounding.Rounding.the-variants.{Nearest}
-use Rattle.models.specs.Settings.{timeAdjustmentsOf}
+use Rattle.models.specs.{declared.rounding.Rounding.the-variants.Nearest, Settings.timeAdjustmentsOf}
 use Rattle.rounding.proofs.TimesLaws.{rounded-between, adjusted-between}
 use Rattle.night_portions.specs.Portions.{middleOf, lastThirdOf}
 use Rattle.night_portions.proofs.PortionsLaws.{middle-inside, last-third-inside}
 use Rattle.solar.specs.declared.{setting.SolarHour.SolarHour, times.SolarTime.SolarTime}
 use Rattle.schedule.specs.declared.{hours.ThreeSuns.ThreeSuns, hours.Suns.Suns, hours.RowHours.RowHours}
-use Rattle.schedule.specs.declared.{prayer_times.PrayerTimes.PrayerTimes}
-use Rattle.schedule.specs.declared.hours.Suns.the-variants.{Whole, Refused}
+use Rattle.schedule.specs.declared.{prayer_times.PrayerTimes.PrayerTimes, hours.Suns.the-variants.Whole, hours.Suns.the-variants.Refused}
 use Rattle.schedule.specs.declared.prayer_times.Worked.the-variants.{Times}
 use Rattle.schedule.proofs.Schedule.{hoursOf, startOf, finalOf, fajrTomorrowOf, middleOfTheNightOf, qiyamOf, fromMidnightOf, startedOf}
 use Rattle.schedule.proofs.Schedule.{startedIn, sinceFrom, sinceOf, workedOf, timeOf, Each}
 use Rattle.order.specs.Accepted.{LatitudeInOrder, ParametersInOrder}
 use Rattle.schedule_laws.specs.Range.{OfDate, AllOfDate, TimesLieByTheirDate, DaysAreOneDigit}
-use Rattle.schedule_laws.proofs.OrderMinutes.{sums-near}
-use Rattle.schedule_laws.proofs.Spans.{or-between, final-between}
+use Rattle.schedule_laws.proofs.{OrderMinutes.sums-near, Spans.or-between, Spans.final-between}
 use Rattle.schedule_laws.proofs.SunSpans.{Days, SunHour, Sun, Three, Row, Hours, hours, fajr-days, isha-days}
 
 -- from 4 days before 0h of the date to before 5 days after it

@@ -2,8 +2,7 @@
 -- time is the same. Assumes nothing.
 use Rattle.prelude.proofs.Logic.{_≡_, sym, ap, _∙_, arith, ℤ, pos, _+ℤ_, _*ℤ_, +ℤ-comm}
 use Rattle.integers.proofs.Integers.{same, times}
-use Rattle.calendar.specs.Days.{dayNumberOf}
-use Rattle.calendar.specs.declared.dates.Date.{Date}
+use Rattle.calendar.specs.{Days.dayNumberOf, declared.dates.Date.Date}
 use Rattle.models.specs.declared.rounding.Rounding.{Rounding}
 use Rattle.rounding.specs.Times.{roundedOf, adjustedOf}
 use Rattle.rounding.proofs.TimesLaws.{rounded-adjusted}

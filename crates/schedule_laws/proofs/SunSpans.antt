@@ -2,16 +2,14 @@
 -- sun's times are from one day before 0h to two days after it. Assumes nothing.
 use Rattle.prelude.proofs.Logic.{_≡_, sym, subst, cond, ℕ, _+_, _*_, _≤_, arith, lit<, lit≤, ℤ, pos, ltZ, cases}
 use lib.Ieee.{Float}
-use Rattle.float64.specs.Ops.{dec}
-use Rattle.float64.specs.Ranges.{Inside}
+use Rattle.float64.specs.{Ops.dec, Ranges.Inside}
 use Rattle.integers.proofs.Integers.{Between, divided, wider, sum-between, difference-between, product-between, either-between}
 use Rattle.calendar.proofs.Calendar.{ordinalOf, ordinal-short}
 use Rattle.calendar.specs.declared.dates.Date.{Date}
 use Rattle.models.specs.declared.{high_altitude_rule.HighLatitudeRule.HighLatitudeRule, parameters.Parameters.Parameters}
 use Rattle.models.specs.declared.{rules.Season.Season, rules.Midnight.Midnight}
 use Rattle.models.specs.declared.high_altitude_rule.HighLatitudeRule.the-variants.{MiddleOfTheNight, SeventhOfTheNight, TwilightAngle}
-use Rattle.models.specs.declared.rounding.Rounding.the-variants.{Nearest}
-use Rattle.models.specs.Settings.{portionsOf, nightPortionsOf}
+use Rattle.models.specs.{declared.rounding.Rounding.the-variants.Nearest, Settings.portionsOf, Settings.nightPortionsOf}
 use Rattle.rounding.proofs.TimesLaws.{rounded-between}
 use Rattle.night_portions.specs.Portions.{portionBeforeOf, portionAfterOf, seventhOf}
 use Rattle.night_portions.proofs.BoundsLaws.{Portion, after-half, before-half}
@@ -26,8 +24,7 @@ use Rattle.schedule.specs.declared.{hours.ThreeSuns.ThreeSuns, hours.Suns.Suns,
 use Rattle.schedule.specs.declared.hours.Suns.the-variants.{Whole, Refused}
 use Rattle.schedule.proofs.Schedule.{sunsOf, hoursOf, nightOf, bySeasonOf, short-is, beforeSunriseOf, unadjustedFajrOf, afterSunsetOf}
 use Rattle.schedule.proofs.Schedule.{ishaBoundOf, boundedIshaOf, unadjustedIshaOf}
-use Rattle.order.specs.Ranges.{mostAngle}
-use Rattle.order.specs.Accepted.{LatitudeInOrder, ParametersInOrder}
+use Rattle.order.specs.{Ranges.mostAngle, Accepted.LatitudeInOrder, Accepted.ParametersInOrder}
 use Rattle.schedule_laws.proofs.Spans.{HourBetween, hour-wider, own-between, earlier-between, next-day-between, fajr-between}
 
 -- from `a` days before 0h of a date to `b` days after it
@@ -98,19 +95,13 @@ pub seventh-days : (night : ℤ) → Days 2 4 night → Days 1 1 (seventhOf nigh
 unfolding seventhOf
 seventh-days night h = let d = divided night 7 (lit< tt) in record { from = omega arith; to = omega arith }
 
-fajr-portion : (rule : HighLatitudeRule) (fajr isha : Float) → Inside (dec 0 0) (dec mostAngle 0) fajr
-    → Portion (portionsOf rule fajr isha .fajr)
+-- Fajr's portion and Isha's
+portions : (rule : HighLatitudeRule) (fajr isha : Float) → Inside (dec 0 0) (dec mostAngle 0) fajr → Inside (dec 0 0) (dec mostAngle 0) isha
+    → Portion (portionsOf rule fajr isha .fajr) × Portion (portionsOf rule fajr isha .isha)
 unfolding portionsOf
-fajr-portion MiddleOfTheNight fajr isha h = half-portion
-fajr-portion SeventhOfTheNight fajr isha h = seventh-portion
-fajr-portion TwilightAngle fajr isha h = angle-portion fajr (h .0) (h .1)
-
-isha-portion : (rule : HighLatitudeRule) (fajr isha : Float) → Inside (dec 0 0) (dec mostAngle 0) isha
-    → Portion (portionsOf rule fajr isha .isha)
-unfolding portionsOf
-isha-portion MiddleOfTheNight fajr isha h = half-portion
-isha-portion SeventhOfTheNight fajr isha h = seventh-portion
-isha-portion TwilightAngle fajr isha h = angle-portion isha (h .0) (h .1)
+portions MiddleOfTheNight fajr isha h k = (half-portion, half-portion)
+portions SeventhOfTheNight fajr isha h k = (seventh-portion, seventh-portion)
+portions TwilightAngle fajr isha h k = (angle-portion fajr (h .0) (h .1), angle-portion isha (k .0) (k .1))
 
 -- ---- Fajr and Isha, not adjusted yet
 module _ (p : Parameters) (season : Season) (allowed : ParametersInOrder p) (there : LatitudeInOrder (season .latitude)) (date : Date)
@@ -131,12 +122,14 @@ module _ (p : Parameters) (season : Season) (allowed : ParametersInOrder p) (the
   after-cast = cond (bySeasonOf (p .method)) (eveningSecondsOf season (ordinalOf date) (date .year) (p .shafaq))
       (portionAfterOf (nightPortionsOf p .isha) night)
 
+  both : Portion (nightPortionsOf p .fajr) × Portion (nightPortionsOf p .isha)
+  both = portions (p .«high_latitude_rule») (p .«fajr_angle») (p .«isha_angle») (allowed .«fajr_angle») (allowed .«isha_angle»)
+
   before-days : Days 2 1 before-cast
   before-days =
       let l = long in
       let m = morning-small season (ordinalOf date) (date .year) (there .0) (there .1) (ordinal-short date) in
-      let b = before-half (nightPortionsOf p .fajr) night (fajr-portion (p .«high_latitude_rule») (p .«fajr_angle») (p .«isha_angle»)
-      (allowed .«fajr_angle»)) (wider l (lit≤ tt) (lit≤ tt)) in
+      let b = before-half (nightPortionsOf p .fajr) night (both .0) (wider l (lit≤ tt) (lit≤ tt)) in
       either-between (bySeasonOf (p .method)) (record { from = omega (arith, m .1); to = m .0 })
       (record { from = omega (arith, b .1); to = omega (arith, b .0) })
 
@@ -148,8 +141,7 @@ module _ (p : Parameters) (season : Season) (allowed : ParametersInOrder p) (the
   portion : Days 1 2 (portionAfterOf (nightPortionsOf p .isha) night)
   portion =
       let l = long in
-      let b = after-half (nightPortionsOf p .isha) night (isha-portion (p .«high_latitude_rule») (p .«fajr_angle») (p .«isha_angle»)
-      (allowed .«isha_angle»)) (wider l (lit≤ tt) (lit≤ tt)) in
+      let b = after-half (nightPortionsOf p .isha) night (both .1) (wider l (lit≤ tt) (lit≤ tt)) in
       record { from = omega (arith, b .1); to = omega (arith, b .0) }
 
   -- an i32 holds them, so the bounds use the source's seconds

@@ -9,15 +9,13 @@ use Rattle.prelude.proofs.Computed.{at}
 use Rattle.refusals.specs.Refusals.{numbers}
 use Rattle.text.specs.Text.{ascii, printable, digitOf, digitsOf, decimalOf, frontOf}
 use Rattle.text.proofs.TextLaws.{cut-front}
-use Rattle.sentences.specs.declared.Meaning.{Meaning}
-use Rattle.sentences.specs.Rows.{widest, widestName}
+use Rattle.sentences.specs.{declared.Meaning.Meaning, Rows.widest, Rows.widestName}
 use Rattle.sentences.specs.Table.{texts, textOf, nameOf, known}
 use Rattle.sentences.specs.Guess.{none, numberIn, placeIn, guessedOf}
 use Rattle.sentences.specs.Sentences.{endsInColon, wordsOf, sentenceOf, sentenceCallOf, meant, noSentence, same, amongPlaces}
 use Rattle.sentences.specs.Sentences.{amongNumbers, meaningOf}
 use Rattle.sentences.specs.Promises.{EachHasASentence, Says, Different, Printed, ReadBack, ReadAsSentence, ReadsOnlySentences}
-use Rattle.sentences.specs.Promises.{WrittenAndRead}
-use Rattle.sentences.specs.Promises.ReadAsSentence.{says, other}
+use Rattle.sentences.specs.Promises.{WrittenAndRead, ReadAsSentence.says, ReadAsSentence.other}
 use Rattle.sentences.proofs.Lines.{text-fine, name-fine, text-says}
 use Rattle.sentences.proofs.Guessing.{number-append, ten-digits, place-back}
 use Rattle.sentences.proofs.Comparing.{same-itself, same-only}

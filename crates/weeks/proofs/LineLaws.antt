@@ -3,9 +3,7 @@ use Rattle.prelude.proofs.Logic.{_≡_, refl, ap, _∙_, List, _++_, ℕ, _+_, 
 use Rattle.text.proofs.TextLaws.{put-behind}
 use Rattle.text.specs.Signed.{signedOf}
 use Rattle.text.specs.Text.{ascii, decimalOf, putOf}
-use Rattle.weeks.specs.declared.window.Extremes.{Extremes}
-use Rattle.weeks.specs.declared.window.Window.{Window}
-use Rattle.weeks.specs.declared.window.Window.the-variants.{Found, Refused}
+use Rattle.weeks.specs.declared.window.{Extremes.Extremes, Window.Window, Window.the-variants.Found, Window.the-variants.Refused}
 use Rattle.weeks.specs.Lines.{pairText, lineOf}
 
 -- a text is put at `at`: it ends at `end`, and `now` is the buffer after it

@@ -2,11 +2,8 @@
 use Rattle.prelude.proofs.Logic.{_≡_, refl, subst, Bool, true, false, cond, ℕ, zero, suc, _+_, _≤_, _<_, arith, ℤ, ltZ}
 use borrow.Author.Count.{below-more}
 use Rattle.integers.proofs.OrderLaws.{lt-yes, lt-no, to-lt, to-not-lt}
-use Rattle.weeks.specs.declared.minutes.Minute.{Minute}
-use Rattle.weeks.specs.declared.minutes.Minute.the-variants.{Some, Nothing}
-use Rattle.weeks.specs.declared.window.Extremes.{Extremes}
-use Rattle.weeks.specs.declared.window.Window.{Window}
-use Rattle.weeks.specs.declared.window.Window.the-variants.{Found, Refused}
+use Rattle.weeks.specs.declared.minutes.Minute.{Minute, the-variants.Some, the-variants.Nothing}
+use Rattle.weeks.specs.declared.window.{Extremes.Extremes, Window.Window, Window.the-variants.Found, Window.the-variants.Refused}
 use Rattle.weeks.specs.Windows.{extremes, beginOf, earlierIn, laterIn, seenOf, lookOf, windowOf}
 use Rattle.weeks.specs.Meaning.{Best, earlier, later, RightWindow, Answers}
 

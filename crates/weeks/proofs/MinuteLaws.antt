@@ -7,16 +7,12 @@ use Rattle.days.proofs.RowStates.{stateOf, state-worked}
 use Rattle.days.specs.Calls.{workRowOf}
 use Rattle.integers.proofs.Integers.{Near, floorQuot, floorRem, Held, held-sum, held-product, held-fits, stored, same, floored, range, read}
 use Rattle.integers.proofs.Integers.{readBack, sum, times}
-use Rattle.order.specs.Accepted.{Accepted}
-use Rattle.order.specs.declared.reading.Order.{Order}
+use Rattle.order.specs.{Accepted.Accepted, declared.reading.Order.Order}
 use Rattle.schedule.proofs.RowSunsLaws.{suns-fajr}
-use Rattle.schedule.specs.RowSuns.{rowSunsOf, rowSunsFajrOf}
-use Rattle.schedule.specs.declared.prayer_times.Worked.{Worked}
-use Rattle.schedule.specs.declared.prayer_times.Worked.the-variants.{Times, Refused}
-use Rattle.schedule.specs.Fajr.{fajrIn}
+use Rattle.schedule.specs.{RowSuns.rowSunsOf, RowSuns.rowSunsFajrOf, declared.prayer_times.Worked.Worked}
+use Rattle.schedule.specs.{declared.prayer_times.Worked.the-variants.Times, declared.prayer_times.Worked.the-variants.Refused, Fajr.fajrIn}
 use Rattle.weeks.specs.Report.{minuteIn, rowMinute}
-use Rattle.schedule.specs.declared.prayer_times.FajrAlone.{FajrAlone}
-use Rattle.schedule.specs.declared.rolling.RowSuns.{RowSuns}
+use Rattle.schedule.specs.declared.{prayer_times.FajrAlone.FajrAlone, rolling.RowSuns.RowSuns}
 use Rattle.weeks.specs.declared.minutes.Minute.the-variants.{Some, Nothing}
 use Rattle.weeks.specs.Kept.{minuteFrom, minuteAt}
 use borrow.Author.Count.{below-more}

@@ -1,15 +1,12 @@
 -- Windows and lines depend only on the rows that they look at; and how long lines can be. Assumes nothing.
 use Rattle.prelude.proofs.Logic.{_≡_, refl, ap, _∙_, List, [], _∷_, _++_, ℕ, zero, suc, _+_, _-_, _*_, _/_, _≤_, _<_, add-one, arith, ltb}
 use Rattle.prelude.proofs.Logic.{length, length-append, lt-ltb, arms, ℤ}
-use Rattle.text.proofs.SignedLaws.{signed-length}
-use Rattle.text.proofs.TextLaws.{put-next}
+use Rattle.text.proofs.{SignedLaws.signed-length, TextLaws.put-next}
 use Rattle.text.specs.Text.{digitOf, digitsOf, decimalOf, putOf, frontOf}
-use Rattle.weeks.specs.declared.minutes.Minute.{Minute}
-use Rattle.weeks.specs.declared.window.Window.{Window}
+use Rattle.weeks.specs.declared.{minutes.Minute.Minute, window.Window.Window}
 use Rattle.weeks.specs.declared.window.Window.the-variants.{Found, Refused}
 use Rattle.weeks.specs.Lines.{pairText, lineOf, linesOf, reportOf}
-use Rattle.weeks.specs.Meaning.{Answers}
-use Rattle.weeks.specs.Report.{longestWeek}
+use Rattle.weeks.specs.{Meaning.Answers, Report.longestWeek}
 use Rattle.weeks.specs.Windows.{beginOf, seenOf, lookOf, windowOf}
 use Rattle.weeks.proofs.MeaningLaws.{window-answers}
 

@@ -3,6 +3,8 @@ use crate::day_crate::Refusal;
 use crate::day_draw::{DayCase, Instant, Settings, NONE};
 use crate::draw::Case;
 use crate::in_force::InForce;
+use crate::order_draw::{date_value, written, Field};
+use crate::order_port::{read_plainly, KatchidulOrder};
 use crate::steps::port_setting_hour;
 use chrono::Datelike;
 use salah_given::given::Numbers;
@@ -40,7 +42,6 @@ struct ProbeRemaining {
 #[rustfmt::skip]
 #[link(name = "probes", kind = "static")]
 extern "C" {
-    fn probe_preset(method: u32) -> Settings;
     fn probe_day(numbers: ProbeNumbers, year: u32, month: u32, day: u32, latitude: f64, settings: Settings, rules: Rules) -> ProbeDay;
     fn probe_row(year: u32, month: u32, day: u32, latitude: f64, longitude: f64, settings: Settings, rules: Rules) -> ProbeDay;
     fn probe_current(times: ProbeTimes, seconds: i64, nanoseconds: u32) -> u32;
@@ -48,9 +49,20 @@ extern "C" {
     fn probe_remaining(times: ProbeTimes, seconds: i64, nanoseconds: u32) -> ProbeRemaining;
 }
 
-/// A method's own parameters; own minutes are 0.
+/// A method's own parameters: those of an order that sets nothing else.
 pub fn preset(method: u32) -> Settings {
-    unsafe { probe_preset(method) }
+    let date = date_value(2026, 6, 21);
+    let fields = [(1, b"A".as_slice()), (2, &date), (3, &[1]), (4, &[0; 8]), (5, &[0; 8]), (6, &[method as u8])];
+    let order = read_plainly(&written(&fields.map(|(tag, value)| Field::new(tag, value))));
+    let [fajr, sunrise, dhuhr, asr, maghrib, isha] = order.minutes;
+    let KatchidulOrder { method, madhab, high_latitude_rule, rounding, shafaq, fajr_angle, isha_angle, .. } = order;
+    let isha_interval = order.isha_interval as i32;
+    #[rustfmt::skip]
+    let settings = Settings {
+        method, madhab, high_latitude_rule, rounding, shafaq, fajr, sunrise, dhuhr, asr, maghrib, isha,
+        isha_interval, fajr_angle, isha_angle,
+    };
+    settings
 }
 
 pub fn day(c: &DayCase, rules: Rules) -> Result<ProbeTimes, Refusal> {

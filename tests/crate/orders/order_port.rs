@@ -1,6 +1,6 @@
 //! What a host asks of the port: the six calls of include/katchidul.h, each answer as it declares it.
 use crate::day_crate::Refusal;
-use crate::day_draw::{Instant, Settings};
+use crate::day_draw::Instant;
 
 #[derive(Debug, Clone, Copy, Default)]
 #[repr(C)]
@@ -93,42 +93,12 @@ extern "C" {
     fn katchidul_write_row(order: *const u8, length: usize, row: u32, buffer: *mut u8, size: usize) -> KatchidulReply;
 }
 
-/// What the plain reader answers: the whole record.
+/// What the plain reader answers: what a host gets, and what the method brings.
 #[repr(C)]
 struct ProbeOrder {
-    refusal: [u32; 2],
-    town: [u32; 2],
-    date: [u32; 3],
-    rows: u32,
-    place: [f64; 2],
-    settings: Settings,
-    maghrib_angle: f64,
-    method_minutes: [i32; 6],
-    /// carry, southern
-    rules: [u32; 2],
-    clock: i32,
-    ramadan: bool,
-    imsak: u32,
-    shift: i32,
-}
-
-impl ProbeOrder {
-    /// The same as a host gets it.
-    fn of_host(&self) -> KatchidulOrder {
-        let Settings { method, madhab, high_latitude_rule, rounding, shafaq, fajr_angle, isha_angle, .. } = self.settings;
-        let Settings { fajr, sunrise, dhuhr, asr, maghrib, isha, isha_interval, .. } = self.settings;
-        let [carry, southern] = self.rules;
-        let ([number, place], [town_at, town_length], [year, month, day]) = (self.refusal, self.town, self.date);
-        let ([latitude, longitude], rows, isha_interval) = (self.place, self.rows, isha_interval as u32);
-        let minutes = [fajr, sunrise, dhuhr, asr, maghrib, isha];
-        let choices = [carry as i32, self.clock, southern as i32, self.ramadan as i32, self.imsak as i32, self.shift];
-        #[rustfmt::skip]
-        let order = KatchidulOrder {
-            number, place, town_at, town_length, year, month, day, rows, latitude, longitude, fajr_angle, isha_angle, method, madhab,
-            high_latitude_rule, rounding, shafaq, isha_interval, minutes, choices,
-        };
-        order
-    }
+    order: KatchidulOrder,
+    _maghrib_angle: f64,
+    _method_minutes: [i32; 6],
 }
 
 #[link(name = "probes", kind = "static")]
@@ -137,7 +107,7 @@ extern "C" {
 }
 
 pub fn read_plainly(order: &[u8]) -> KatchidulOrder {
-    unsafe { probe_plain(order.as_ptr(), order.len()) }.of_host()
+    unsafe { probe_plain(order.as_ptr(), order.len()) }.order
 }
 
 pub fn read_order(order: &[u8]) -> KatchidulOrder {

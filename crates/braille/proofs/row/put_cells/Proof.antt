@@ -1,10 +1,8 @@
 -- The row's cells are put at the front of the buffer, and their dots are counted.
 use Rattle.prelude.proofs.Logic.{sym, ap, subst, _∙_, arith, length, needs, w32}
 use Rattle.integers.proofs.Ranges.{read, readBack}
-use Rattle.braille.specs.Braille.{dotsOf, SixDots}
-use Rattle.braille.specs.Cells.{rowCells}
-use Rattle.braille.proofs.Bits.{row-six}
-use Rattle.braille.proofs.Parts.{row-length}
+use Rattle.braille.specs.{Braille.dotsOf, Braille.SixDots, Cells.rowCells}
+use Rattle.braille.proofs.{Bits.row-six, Parts.row-length}
 use Rattle.braille.proofs.row.put_cells as this
 
 dots-requires : this.Tie.Need-dots-requires

@@ -8,10 +8,8 @@ returns c =
     let t = c .before .before .before .before in
     simp (c .before .before .worked .given .1) (rw (read w32 (t .args .clock) (t .fits .clock)) at (c .full-row .ensures))
 
-returns-2 : this.Tie.Need-returns-2
-unfolding rowCells
-returns-2 c = simp (c .before .enum-told .given .1) (c .day-alone .ensures)
-
 pub row-cells-spec : {M : Type 1} → this.Statement.statement M
+unfolding rowCells
 row-cells-spec =
+    let returns-2 : this.Tie.Need-returns-2 = λ c. simp (c .before .enum-told .given .1) (c .day-alone .ensures) in
     this.Tie.close (this.Tie.spec (λ c. search needs) (λ c κs. search needs) (λ c. search needs) (λ c κs. search needs) returns returns-2)

@@ -4,7 +4,4 @@ use Rattle.katchidul.proofs.remaining_at.remaining_answer as this
 
 pub remaining-answer-spec : {M : Type 1} → this.Statement.statement M
 unfolding remainingAnswerOf
-remaining-answer-spec =
-    let returns : this.Tie.Need-returns = λ c. cc in
-    let returns-2 : this.Tie.Need-returns-2 = λ c. cc in
-    this.Tie.close (this.Tie.spec (λ c. search needs) (λ c κs. tt) (λ c. search needs) returns returns-2)
+remaining-answer-spec = this.Tie.close (this.Tie.spec (λ c. search needs) (λ c κs. tt) (λ c. search needs) (λ c. cc) (λ c. cc))

@@ -4,8 +4,7 @@ use Rattle.braille.specs.Cells.{rowCells}
 use Rattle.calendar.specs.declared.dates.Date.{Date}
 use Rattle.days.proofs.RowStates.{next-state}
 use Rattle.integers.proofs.Ranges.{read}
-use Rattle.schedule.specs.RowSuns.{rowSunsOf, nextRowSunsOf}
-use Rattle.schedule.specs.declared.prayer_times.Worked.{Worked}
+use Rattle.schedule.specs.{RowSuns.rowSunsOf, RowSuns.nextRowSunsOf, declared.prayer_times.Worked.Worked}
 use Rattle.pages.proofs.Rolled.{clock-fits, Run, Behind, done-none, run-row}
 use Rattle.pages.proofs.rows.put_rows as this
 

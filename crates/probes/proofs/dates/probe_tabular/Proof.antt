@@ -1,8 +1,7 @@
 use Rattle.prelude.proofs.Logic.{_≡_, ap, _∙_, w64}
 use Rattle.integers.proofs.Ranges.{read}
 use Rattle.calendar.specs.Gregorian.{dateOf}
-use Rattle.hijri.specs.Days.{ofDayOf}
-use Rattle.hijri.specs.declared.dates.Tabular.{Tabular}
+use Rattle.hijri.specs.{Days.ofDayOf, declared.dates.Tabular.Tabular}
 use Rattle.probes.specs.Dates.{tabularOfDay}
 use Rattle.probes.proofs.dates.probe_tabular as this
 

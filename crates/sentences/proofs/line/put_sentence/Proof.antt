@@ -2,8 +2,7 @@
 use Rattle.prelude.proofs.Logic.{_≡_, sym, ap, _∙_, List, ℕ, _+_, _≤_, _<_, arith, length, needs, now}
 use Rattle.text.specs.Text.{ascii, decimalOf, putOf, frontOf}
 use Rattle.text.proofs.TextLaws.{digits-short}
-use Rattle.sentences.specs.Guess.{none}
-use Rattle.sentences.specs.Sentences.{wordsOf}
+use Rattle.sentences.specs.{Guess.none, Sentences.wordsOf}
 use Rattle.sentences.proofs.Promises.{words-short, sentence-unknown, sentence-length}
 use Rattle.sentences.proofs.Making.{unknown-by-words, known-by-words, empty, sentence-made, as-long}
 use Rattle.sentences.proofs.line.put_sentence as this

@@ -1,8 +1,7 @@
 -- The row of the table, cut at its text's end, is the text; a text that ends in a colon is followed by the tag's name.
 use Rattle.prelude.proofs.Logic.{_≡_, sym, ap, _∙_, arith, length, needs, not-true, not-false, now}
 use Rattle.text.specs.Text.{frontOf}
-use Rattle.sentences.specs.Table.{textOf, nameOf}
-use Rattle.sentences.specs.Sentences.{endsInColon}
+use Rattle.sentences.specs.{Table.textOf, Table.nameOf, Sentences.endsInColon}
 use Rattle.sentences.proofs.Lines.{text-fine}
 use Rattle.sentences.proofs.Making.{Cut, cut-text, cut-name, first-put, words-of-text, words-of-both}
 use Rattle.sentences.proofs.line.put_words as this

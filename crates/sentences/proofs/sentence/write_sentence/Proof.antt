@@ -1,7 +1,6 @@
 -- Three ends: an unknown number, no room, or the sentence at the front and the other bytes as they were.
 use Rattle.prelude.proofs.Logic.{refl, sym, ap, subst, _∙_, ℕ, _<_, arith, length, needs, now}
-use Rattle.sentences.specs.Guess.{none}
-use Rattle.sentences.specs.Sentences.{SentenceCall}
+use Rattle.sentences.specs.{Guess.none, Sentences.SentenceCall}
 use Rattle.sentences.proofs.Making.{known-by-sentence, unknown-by-sentence, Line, line-of, writes, writes-unknown, writes-no-room}
 use Rattle.sentences.proofs.sentence.write_sentence as this
 

@@ -1,7 +1,6 @@
 use Rattle.prelude.proofs.Logic.{sym, ap, [], List·getD-eq-default, needs}
 use Rattle.text.specs.Text.{ascii}
-use Rattle.sentences.specs.Table.{names, nameOf}
-use Rattle.sentences.specs.Rows.{filled, widest}
+use Rattle.sentences.specs.{Table.names, Table.nameOf, Rows.filled, Rows.widest}
 use Rattle.sentences.proofs.Steps.{mapped}
 use Rattle.sentences.proofs.table.name_row as this
 

@@ -1,6 +1,5 @@
 use Rattle.prelude.proofs.Logic.{sym, ap, [], List·getD-eq-default, needs}
-use Rattle.sentences.specs.Table.{texts, textOf}
-use Rattle.sentences.specs.Rows.{filled, widest}
+use Rattle.sentences.specs.{Table.texts, Table.textOf, Rows.filled, Rows.widest}
 use Rattle.sentences.proofs.Steps.{mapped}
 use Rattle.sentences.proofs.table.text_row as this
 

@@ -1,8 +1,7 @@
 -- Four pieces, each put where the one before it ends.
 use Rattle.prelude.proofs.Logic.{_≡_, _+_, _≤_, arith, length, needs, w64, now}
 use Rattle.integers.proofs.Ranges.{read}
-use Rattle.text.specs.Signed.{signedOf}
-use Rattle.text.specs.Text.{decimalOf}
+use Rattle.text.specs.{Signed.signedOf, Text.decimalOf}
 use Rattle.weeks.proofs.LineLaws.{pair-bytes, pair-made}
 use Rattle.weeks.proofs.line.put_pair as this
 

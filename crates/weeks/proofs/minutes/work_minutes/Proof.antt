@@ -2,8 +2,7 @@
 use Rattle.prelude.proofs.Logic.{_≡_, sym, ap, _∙_, ℕ, _+_, _-_, _<_, arith, length, needs, now}
 use Rattle.days.proofs.RowStates.{first-state, next-state}
 use Rattle.schedule.specs.RowSuns.{nextRowSunsOf}
-use Rattle.weeks.specs.Kept.{minuteAt}
-use Rattle.weeks.specs.Report.{rowMinute}
+use Rattle.weeks.specs.{Kept.minuteAt, Report.rowMinute}
 use Rattle.weeks.proofs.MinuteLaws.{Run, row-done}
 use Rattle.weeks.proofs.minutes.work_minutes as this
 

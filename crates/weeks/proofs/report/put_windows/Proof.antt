@@ -1,9 +1,7 @@
 -- The loop's invariant: the lines of the windows before `first` are at the buffer's front.
 use Rattle.prelude.proofs.Logic.{_≡_, sym, ap, _∙_, ℕ, _+_, _-_, _≤_, arith, length, needs, now}
 use Rattle.text.specs.Text.{frontOf}
-use Rattle.weeks.specs.declared.window.Window.{Window}
-use Rattle.weeks.specs.Kept.{minuteAt}
-use Rattle.weeks.specs.Lines.{lineOf, linesOf}
+use Rattle.weeks.specs.{declared.window.Window.Window, Kept.minuteAt, Lines.lineOf, Lines.linesOf}
 use Rattle.weeks.proofs.ReportLaws.{Lined, no-lines, line-room, lined-next}
 use Rattle.weeks.proofs.report.put_windows as this
 

@@ -1,23 +1,14 @@
-use Rattle.prelude.proofs.Logic.{sym, needs, w64, SFits}
+use Rattle.prelude.proofs.Logic.{needs, w64}
 use Rattle.integers.proofs.Ranges.{read}
 use Rattle.weeks.specs.Windows.{earlierIn}
 use Rattle.weeks.proofs.window.Extremes.with_earliest as this
 
-returns : this.Tie.Need-returns
-unfolding earlierIn
-returns c =
-    let start = c .before .before .before in
-    let minute = read w64 (start .args .minute) (start .fits .minute) in
-    let fits : SFits w64 (start .args .self .earliest) = search needs in
-    simp (minute, rw (minute, read w64 (start .args .self .earliest) fits) at (c .if1 .taken))
-
-returns-2 : this.Tie.Need-returns-2
-unfolding earlierIn
-returns-2 c =
-    let start = c .before .before .before in
-    let minute = read w64 (start .args .minute) (start .fits .minute) in
-    let fits : SFits w64 (start .args .self .earliest) = search needs in
-    simp (rw (minute, read w64 (start .args .self .earliest) fits) at (c .if1 .left))
-
 pub with-earliest-spec : {M : Type 1} → this.Statement.statement M
-with-earliest-spec = this.Tie.close (this.Tie.spec returns returns-2)
+unfolding earlierIn
+with-earliest-spec =
+    let returns : this.Tie.Need-returns = λ c. let start = c .before .before .before in
+    let minute = read w64 _ (start .fits .minute) in
+    simp (minute, rw (minute, read w64 (start .args .self .earliest) (search needs)) at (c .if1 .taken)) in
+    let returns-2 : this.Tie.Need-returns-2 = λ c. let start = c .before .before .before in
+    simp (rw (read w64 _ (start .fits .minute), read w64 (start .args .self .earliest) (search needs)) at (c .if1 .left)) in
+    this.Tie.close (this.Tie.spec returns returns-2)

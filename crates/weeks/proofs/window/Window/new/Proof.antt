@@ -1,9 +1,6 @@
 -- The loop's invariant: with the rows that are left, the window becomes the definition's.
 use Rattle.prelude.proofs.Logic.{ap, _∙_, _+_, _-_, arith, needs, now}
-use Rattle.weeks.specs.declared.minutes.Minute.{Minute}
-use Rattle.weeks.specs.declared.window.Window.{Window}
-use Rattle.weeks.specs.Kept.{minuteAt}
-use Rattle.weeks.specs.Windows.{beginOf, seenOf}
+use Rattle.weeks.specs.{declared.minutes.Minute.Minute, declared.window.Window.Window, Kept.minuteAt, Windows.beginOf, Windows.seenOf}
 use Rattle.weeks.proofs.ReportLaws.{Looking, look-first, look-next, look-last}
 use Rattle.weeks.proofs.window.Window.new as this
 
