@@ -16,7 +16,7 @@ use Rattle.models.specs.declared.rules.Southern.{Southern}
 use Rattle.models.specs.declared.rules.Southern.the-variants.{Unreduced, StartsAgain}
 use Rattle.models.specs.declared.shafaq.Shafaq.{Shafaq}
 use Rattle.models.specs.declared.shafaq.Shafaq.the-variants.{General, Ahmer, Abyad}
-use Rattle.rounding.specs.Times.{satOf, roundedOf}
+use Rattle.whole_minutes.specs.Times.{satOf, roundedOf}
 use Rattle.ops.specs.declared.season.AdjustmentDaytime.{AdjustmentDaytime}
 use Rattle.ops.specs.declared.season.AdjustmentDaytime.the-variants.{Morning, Evening}
 use Rattle.ops.specs.declared.season.TwilightAdjustmentValues.{TwilightAdjustmentValues}

@@ -14,8 +14,8 @@ use models::rounding::Rounding;
 use models::rules::Season;
 use models::rules::Southern;
 use models::shafaq::Shafaq;
-use rounding::times::plus;
-use rounding::times::rounded_minute;
+use whole_minutes::times::plus;
+use whole_minutes::times::rounded_minute;
 
 pub enum AdjustmentDaytime {
     Morning,

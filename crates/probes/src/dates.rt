@@ -5,7 +5,7 @@ ghost use Rattle.calendar.specs.Days.{ordinalOf, dayNumberOf, weekdayOf};
 ghost use Rattle.hijri.specs.Ramadan.{firstOfRamadanOf, ramadanStartOf};
 ghost use Rattle.julian.specs.Julian.{dateJulianDayOf};
 ghost use Rattle.models.specs.Numbers.{roundingOf};
-ghost use Rattle.rounding.specs.Times.{satOf, roundedOf};
+ghost use Rattle.whole_minutes.specs.Times.{satOf, roundedOf};
 ghost use Rattle.probes.specs.Dates.{tabularOfDay, tabularDayOf};
 use calendar::dates::Date;
 use calendar::dates::weekday;
@@ -14,7 +14,7 @@ use hijri::ramadan::first_of_ramadan;
 use hijri::ramadan::is_ramadan_start;
 use julian::day::date_julian_day;
 use models::rounding::Rounding;
-use rounding::times::rounded_minute;
+use whole_minutes::times::rounded_minute;
 
 #[no_mangle]
 pub extern "C" fn probe_tomorrow(date: Date) -> Date

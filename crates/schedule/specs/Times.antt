@@ -11,7 +11,7 @@ use Rattle.models.specs.declared.rules.Season.{Season}
 use Rattle.models.specs.declared.setting.Setting.{Setting}
 use Rattle.models.specs.Chosen.{seasonOf}
 use Rattle.models.specs.Settings.{timeAdjustmentsOf}
-use Rattle.rounding.specs.Times.{roundedOf, adjustedOf}
+use Rattle.whole_minutes.specs.Times.{roundedOf, adjustedOf}
 use Rattle.night_portions.specs.Portions.{middleOf, lastThirdOf}
 use Rattle.solar.specs.declared.setting.SolarHour.{SolarHour}
 use Rattle.solar.specs.declared.times.SolarTime.{SolarTime}

@@ -15,7 +15,7 @@ use Rattle.models.specs.declared.parameters.Parameters.{Parameters}
 use Rattle.models.specs.declared.rounding.Rounding.the-variants.{Nearest}
 use Rattle.models.specs.declared.rules.Season.{Season}
 use Rattle.models.specs.Settings.{nightPortionsOf}
-use Rattle.rounding.specs.Times.{roundedOf}
+use Rattle.whole_minutes.specs.Times.{roundedOf}
 use Rattle.night_portions.specs.Portions.{portionBeforeOf, portionAfterOf, seventhOf}
 use Rattle.ops.specs.Season.{morningSecondsOf, eveningSecondsOf}
 use Rattle.solar.specs.declared.setting.SolarHour.{SolarHour}

@@ -6,7 +6,7 @@ ghost use Rattle.integers.specs.Parts.{Near};
 ghost use Rattle.models.specs.declared.prayer.Prayer.the-variants.{Fajr};
 ghost use Rattle.models.specs.declared.rounding.Rounding.the-variants.{Nearest};
 ghost use Rattle.models.specs.Settings.{timeAdjustmentsOf};
-ghost use Rattle.rounding.specs.Times.{roundedOf, adjustedOf};
+ghost use Rattle.whole_minutes.specs.Times.{roundedOf, adjustedOf};
 ghost use Rattle.schedule.specs.Fajr.{fajrAloneOf};
 ghost use Rattle.schedule.specs.Times.{startOf, finalOf, fajrTomorrowOf, middleOfTheNightOf, qiyamOf, fromMidnightOf, startedOf};
 ghost use Rattle.schedule.specs.Times.{sinceOf, workedOf, workedBy};
@@ -28,10 +28,10 @@ use models::setting::Setting;
 use night_portions::portions::last_third;
 use night_portions::portions::middle;
 use refusals::Refusal;
-use rounding::times::adjust_time;
-use rounding::times::rounded_minute;
 use solar::setting::SolarHour;
 use solar::times::SolarTime;
+use whole_minutes::times::adjust_time;
+use whole_minutes::times::rounded_minute;
 
 // In seconds from 1970-01-01 0h UTC, or from 0h of the date if a function says so. Always in this order: they are not sorted.
 #[repr(C)]

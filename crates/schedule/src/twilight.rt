@@ -16,9 +16,9 @@ use night_portions::portions::portion_before;
 use night_portions::portions::seventh;
 use ops::season::evening_twilight_seconds;
 use ops::season::morning_twilight_seconds;
-use rounding::times::rounded_minute;
 use solar::setting::SolarHour;
 use solar::times::SolarTime;
+use whole_minutes::times::rounded_minute;
 
 const MOST32: i64 = 2147483647;
 

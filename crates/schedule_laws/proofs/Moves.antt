@@ -8,8 +8,8 @@ use Rattle.models.specs.declared.{adjustments.TimeAdjustment.TimeAdjustment, pa
 use Rattle.models.specs.declared.{prayer.Prayer.Prayer, rounding.Rounding.Rounding}
 use Rattle.models.specs.declared.prayer.Prayer.the-variants.{Fajr, Sunrise, Dhuhr, Asr, Maghrib, Isha}
 use Rattle.models.specs.{declared.rounding.Rounding.the-variants.Nearest, Settings.timeAdjustmentsOf}
-use Rattle.rounding.specs.Times.{roundedOf, adjustedOf}
-use Rattle.rounding.proofs.TimesLaws.{rounded-adjusted, rounded-mono, adjusted-between}
+use Rattle.whole_minutes.specs.Times.{roundedOf, adjustedOf}
+use Rattle.whole_minutes.proofs.TimesLaws.{rounded-adjusted, rounded-mono, adjusted-between}
 use Rattle.night_portions.specs.Portions.{middleOf, lastThirdOf}
 use Rattle.night_portions.proofs.{Steady.Small, PortionsLaws.middle-later, PortionsLaws.last-third-later}
 use Rattle.solar.specs.declared.{setting.SolarHour.SolarHour, times.SolarTime.SolarTime}

@@ -6,7 +6,7 @@ use Rattle.calendar.specs.{Answers.tomorrowOf, declared.dates.Date.Date}
 use Rattle.models.specs.declared.{parameters.Parameters.Parameters, rules.Season.Season, prayer.Prayer.Prayer}
 use Rattle.models.specs.declared.prayer.Prayer.the-variants.{Fajr, Sunrise, Dhuhr, Asr, Maghrib, Isha, Qiyam, FajrTomorrow}
 use Rattle.models.specs.{declared.rounding.Rounding.the-variants.Nearest, Settings.timeAdjustmentsOf}
-use Rattle.rounding.proofs.TimesLaws.{rounded-between, adjusted-between}
+use Rattle.whole_minutes.proofs.TimesLaws.{rounded-between, adjusted-between}
 use Rattle.night_portions.specs.Portions.{middleOf, lastThirdOf}
 use Rattle.night_portions.proofs.PortionsLaws.{middle-inside, last-third-inside}
 use Rattle.solar.specs.declared.{setting.SolarHour.SolarHour, times.SolarTime.SolarTime}

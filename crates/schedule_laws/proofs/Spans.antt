@@ -5,7 +5,7 @@ use Rattle.integers.proofs.Integers.{Between, Near, sum, by-balance, wider, sum
 use Rattle.calendar.specs.declared.dates.Date.{Date}
 use Rattle.models.specs.declared.{method.Method.Method, parameters.Parameters.Parameters, rules.Season.Season, prayer.Prayer.Prayer}
 use Rattle.models.specs.Settings.{timeAdjustmentsOf}
-use Rattle.rounding.proofs.TimesLaws.{rounded-between, adjusted-between}
+use Rattle.whole_minutes.proofs.TimesLaws.{rounded-between, adjusted-between}
 use Rattle.night_portions.specs.Portions.{seventhOf}
 use Rattle.solar.specs.declared.{setting.SolarHour.SolarHour, times.SolarTime.SolarTime}
 use Rattle.solar.specs.declared.setting.SolarHour.the-variants.{Some, Nothing}

@@ -4,8 +4,8 @@ use Rattle.prelude.proofs.Logic.{_≡_, sym, ap, _∙_, arith, ℤ, pos, _+ℤ_
 use Rattle.integers.proofs.Integers.{same, times}
 use Rattle.calendar.specs.{Days.dayNumberOf, declared.dates.Date.Date}
 use Rattle.models.specs.declared.rounding.Rounding.{Rounding}
-use Rattle.rounding.specs.Times.{roundedOf, adjustedOf}
-use Rattle.rounding.proofs.TimesLaws.{rounded-adjusted}
+use Rattle.whole_minutes.specs.Times.{roundedOf, adjustedOf}
+use Rattle.whole_minutes.proofs.TimesLaws.{rounded-adjusted}
 use Rattle.schedule.specs.Times.{startOf}
 
 -- 0h of a date is a whole number of minutes from 1970

@@ -10,7 +10,7 @@ use Rattle.models.specs.declared.{high_altitude_rule.HighLatitudeRule.HighLatit
 use Rattle.models.specs.declared.{rules.Season.Season, rules.Midnight.Midnight}
 use Rattle.models.specs.declared.high_altitude_rule.HighLatitudeRule.the-variants.{MiddleOfTheNight, SeventhOfTheNight, TwilightAngle}
 use Rattle.models.specs.{declared.rounding.Rounding.the-variants.Nearest, Settings.portionsOf, Settings.nightPortionsOf}
-use Rattle.rounding.proofs.TimesLaws.{rounded-between}
+use Rattle.whole_minutes.proofs.TimesLaws.{rounded-between}
 use Rattle.night_portions.specs.Portions.{portionBeforeOf, portionAfterOf, seventhOf}
 use Rattle.night_portions.proofs.BoundsLaws.{Portion, after-half, before-half}
 use Rattle.night_portions.proofs.OrderPortions.{half-portion, seventh-portion, angle-portion}

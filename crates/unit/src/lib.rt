@@ -1,5 +1,5 @@
 // unit.rs: angles in degrees and places on the earth. The operators on Angle are functions of the type.
-// Dates and times (Stride) are in the crates calendar, julian and rounding.
+// Dates and times (Stride) are in the crates calendar, julian and whole_minutes.
 ghost use mathlib.Core.Path.{_≡_};
 ghost use Rattle.unit.specs.Unit.{normalizedToScaleOf, angleOf, fromRadiansOf, radiansOf, unwoundOf, quadrantShiftedOf, plusOf};
 ghost use Rattle.unit.specs.Unit.{minusOf, productOf, overOf, coordinatesOf, latitudeAngleOf, longitudeAngleOf};

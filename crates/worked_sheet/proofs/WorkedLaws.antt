@@ -26,7 +26,7 @@ use Rattle.models.specs.Numbers.{roundingOf, shafaqOf, madhabOf, ruleOf, midnig
 use Rattle.models.specs.Presets.{preset, presetOf}
 use Rattle.models.specs.Settings.{parametersNewOf, portionsOf, minutesFor, timeAdjustmentsOf}
 use Rattle.julian.specs.Julian.{yearProductOf, monthProductOf, correctionOf, fromMarchOf, julianDayOf, toI32Of, dateJulianDayOf}
-use Rattle.rounding.specs.Times.{shiftOf, roundedOf, adjustedOf}
+use Rattle.whole_minutes.specs.Times.{shiftOf, roundedOf, adjustedOf}
 use Rattle.fields.specs.Fields.{lengthAt, faultIn, faultOf, walkOf, checkOf}
 use Rattle.fields.specs.Numbers.{unsignedOf, signedAtOf, bytesNumberOf, bitsOf, floatOf}
 use Rattle.fields.specs.Tags.{lengthFits, choiceFits}

@@ -2,7 +2,7 @@ use Rattle.prelude.proofs.Logic.{_≡_, ap, _∙_, ℤ, needs, w64}
 use Rattle.integers.proofs.Integers.{readBack, read, summands}
 use Rattle.models.specs.declared.rounding.Rounding.the-variants.{Nearest}
 use Rattle.models.specs.declared.rules.Season.{Season}
-use Rattle.rounding.specs.Times.{satOf, roundedOf}
+use Rattle.whole_minutes.specs.Times.{satOf, roundedOf}
 use Rattle.ops.specs.Season.{eveningSecondsOf}
 use Rattle.ops.proofs.season.season_adjusted_evening_twilight as this
 

@@ -1,7 +1,7 @@
 use Rattle.prelude.proofs.Logic.{_≡_, ap, _∙_, needs, w64}
 use Rattle.integers.proofs.Integers.{readBack, read, summands}
 use Rattle.models.specs.declared.rules.Season.{Season}
-use Rattle.rounding.specs.Times.{satOf}
+use Rattle.whole_minutes.specs.Times.{satOf}
 use Rattle.ops.specs.Season.{morningSecondsOf}
 use Rattle.ops.proofs.season.season_adjusted_morning_twilight as this
 

@@ -1,7 +1,7 @@
 use Rattle.prelude.proofs.Logic.{_≡_, ap, _∙_, ℤ, needs, w64}
 use Rattle.integers.proofs.Ranges.{readBack, read}
 use Rattle.models.specs.declared.rounding.Rounding.{Rounding}
-use Rattle.rounding.specs.Times.{satOf, roundedOf}
+use Rattle.whole_minutes.specs.Times.{satOf, roundedOf}
 use Rattle.probes.proofs.dates.probe_rounded_minute as this
 
 returns : this.Tie.Need-returns

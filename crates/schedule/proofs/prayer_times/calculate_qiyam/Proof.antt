@@ -2,7 +2,7 @@
 use Rattle.prelude.proofs.Logic.{_≡_, ap, _∙_, lit≤, needs, w64}
 use Rattle.integers.proofs.Integers.{summands, readBack, of-i64, held-difference, held-by, held-as, held-fits, stored, asked, promised}
 use Rattle.models.specs.declared.rounding.Rounding.the-variants.{Nearest}
-use Rattle.rounding.specs.Times.{roundedOf}
+use Rattle.whole_minutes.specs.Times.{roundedOf}
 use Rattle.schedule.proofs.Schedule.{middleOfTheNightOf, qiyamOf, of-near, held-middle, held-last-third}
 use Rattle.schedule.proofs.prayer_times.calculate_qiyam as this
 

@@ -1,6 +1,6 @@
 use Rattle.prelude.proofs.Logic.{_≡_, _∙_, lit≤, needs, w64}
 use Rattle.integers.proofs.Integers.{readBack, of-i64, held-by, promised}
-use Rattle.rounding.proofs.TimesLaws.{held-rounded, held-adjusted}
+use Rattle.whole_minutes.proofs.TimesLaws.{held-rounded, held-adjusted}
 use Rattle.schedule.proofs.Promises.{of-near}
 use Rattle.schedule.proofs.prayer_times.final_time as this
 

@@ -1,7 +1,7 @@
 use Rattle.prelude.proofs.Logic.{_≡_, _∙_, lit≤, needs, w64}
 use Rattle.integers.proofs.Integers.{readBack, of-i64, held-sum, held-by, held-fits, stored, promised}
 use Rattle.models.specs.declared.rounding.Rounding.the-variants.{Nearest}
-use Rattle.rounding.proofs.TimesLaws.{held-rounded}
+use Rattle.whole_minutes.proofs.TimesLaws.{held-rounded}
 use Rattle.schedule.proofs.prayer_times.into_the_night as this
 
 add-rounded-minute : this.Tie.Need-add-rounded-minute

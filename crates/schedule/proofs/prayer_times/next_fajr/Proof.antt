@@ -4,8 +4,8 @@ use Rattle.integers.proofs.Held.{constant, held-sum, held-as, held-fits, stored
 use Rattle.calendar.specs.declared.dates.Date.{Date}
 use Rattle.models.specs.declared.prayer.Prayer.the-variants.{Fajr}
 use Rattle.models.specs.Settings.{timeAdjustmentsOf}
-use Rattle.rounding.specs.Times.{adjustedOf}
-use Rattle.rounding.proofs.TimesLaws.{none-stays}
+use Rattle.whole_minutes.specs.Times.{adjustedOf}
+use Rattle.whole_minutes.proofs.TimesLaws.{none-stays}
 use Rattle.schedule.proofs.Schedule.{fajrTomorrowOf, nextDayOf, unadjustedFajrOf, of-near}
 use Rattle.schedule.proofs.prayer_times.next_fajr as this
 

@@ -2,7 +2,7 @@
 use Rattle.prelude.proofs.Logic.{_≡_, sym, ap, _∙_, lit≤, needs, w32, w64, SFits}
 use Rattle.integers.proofs.Integers.{summands, readBack, read, held-by, held-as, promised}
 use Rattle.models.specs.declared.rounding.Rounding.the-variants.{Nearest}
-use Rattle.rounding.proofs.TimesLaws.{held-rounded}
+use Rattle.whole_minutes.proofs.TimesLaws.{held-rounded}
 use Rattle.schedule.proofs.Schedule.{afterSunsetOf, ishaBoundOf, shortOf, of-near}
 use Rattle.schedule.proofs.twilight.isha_bound as this
 

@@ -1,7 +1,7 @@
 use Rattle.prelude.proofs.Logic.{_∙_, arith, lit≤, needs, lt-ltb, le-ltb}
-use Rattle.rounding.specs.Times.{shiftOf}
-use Rattle.rounding.proofs.Minutes as minutes
-use Rattle.rounding.proofs.times.shift as this
+use Rattle.whole_minutes.specs.Times.{shiftOf}
+use Rattle.whole_minutes.proofs.Minutes as minutes
+use Rattle.whole_minutes.proofs.times.shift as this
 
 pub shift-spec : {M : Type 1} → this.Statement.statement M
 unfolding shiftOf

@@ -3,8 +3,8 @@ use Rattle.prelude.proofs.Logic.{_≡_, sym, _∙_, true, false, _+_, _<_, arit
 use Rattle.integers.proofs.Integers.{P, N, not-negative, not-positive, sum, difference, le-yes, le-no, lt-yes, lt-no, to-lt, to-not-lt}
 use Rattle.integers.proofs.Integers.{readBack, read, range}
 use Rattle.integers.specs.Ends.{least64, most64}
-use Rattle.rounding.specs.Times.{satOf}
-use Rattle.rounding.proofs.TimesLaws.{between, sat-in}
+use Rattle.whole_minutes.specs.Times.{satOf}
+use Rattle.whole_minutes.proofs.TimesLaws.{between, sat-in}
 
 pub sat-high : (z : ℤ) → P most64 + N z < P z → most64 ≡ satOf z
 unfolding satOf

@@ -3,7 +3,7 @@
 ghost use mathlib.Core.Path.{_≡_};
 ghost use Prim.Native.Nat.{_≤_};
 ghost use lib.IntN.{pos, _+ℤ_};
-ghost use Rattle.rounding.specs.Times.{satOf, secondOf, shiftOf, roundedOf, adjustedOf};
+ghost use Rattle.whole_minutes.specs.Times.{satOf, secondOf, shiftOf, roundedOf, adjustedOf};
 use models::rounding::Rounding;
 
 const MOST64: i64 = 9223372036854775807;

@@ -3,9 +3,9 @@ use Rattle.prelude.proofs.Logic.{_≡_, refl, ap, _∙_, true, false, ℕ, suc,
 use Rattle.prelude.proofs.Logic.{_*ℤ_, ltZ, leZ, quotZ, remZ, nonNeg, w32, w64, SFits, Fits, toZ}
 use Rattle.integers.proofs.Integers.{same, sum, difference, times, flip, divided, floored, le-yes, lt-yes, lt-no, readBack, read, range, fits}
 use Rattle.integers.specs.Ends.{least64, most64}
-use Rattle.rounding.specs.Times.{satOf, secondOf, adjustedOf}
-use Rattle.rounding.proofs.TimesLaws.{between}
-use Rattle.rounding.proofs.Saturation.{sat-high, sat-low, sat-twice}
+use Rattle.whole_minutes.specs.Times.{satOf, secondOf, adjustedOf}
+use Rattle.whole_minutes.proofs.TimesLaws.{between}
+use Rattle.whole_minutes.proofs.Saturation.{sat-high, sat-low, sat-twice}
 
 -- ---- the second
 abbrev rem : ℤ → ℤ

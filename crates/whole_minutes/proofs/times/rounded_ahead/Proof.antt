@@ -1,6 +1,6 @@
 use Rattle.prelude.proofs.Logic.{sym, pos, needs}
-use Rattle.rounding.proofs.TimesLaws.{nearest-ahead, up-ahead, none-stays}
-use Rattle.rounding.proofs.times.rounded_ahead as this
+use Rattle.whole_minutes.proofs.TimesLaws.{nearest-ahead, up-ahead, none-stays}
+use Rattle.whole_minutes.proofs.times.rounded_ahead as this
 
 pub rounded-ahead-spec : {M : Type 1} → this.Statement.statement M
 rounded-ahead-spec =

@@ -1,6 +1,6 @@
 use Rattle.prelude.proofs.Logic.{ap, lit<, natAbs}
-use Rattle.rounding.proofs.Minutes as minutes
-use Rattle.rounding.proofs.times.second as this
+use Rattle.whole_minutes.proofs.Minutes as minutes
+use Rattle.whole_minutes.proofs.times.second as this
 
 pub second-spec : {M : Type 1} → this.Statement.statement M
 second-spec =

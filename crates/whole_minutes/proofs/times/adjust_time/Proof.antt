@@ -1,8 +1,8 @@
 -- Beyond the code's two limits no time stays in range. Between them the two saturated sums of a half make the saturated sum.
 use Rattle.prelude.proofs.Logic.{_≡_, needs, w64}
 use Rattle.integers.proofs.Integers.{readBack}
-use Rattle.rounding.proofs.Minutes as minutes
-use Rattle.rounding.proofs.times.adjust_time as this
+use Rattle.whole_minutes.proofs.Minutes as minutes
+use Rattle.whole_minutes.proofs.times.adjust_time as this
 
 mul-half : this.Tie.Need-mul-half
 mul-half c = let s = c .before .before in

@@ -6,7 +6,7 @@ use Rattle.integers.proofs.Integers.{sum-between, product-between, shifted-betw
 use Rattle.models.specs.declared.rounding.Rounding.{Rounding}
 use Rattle.models.specs.declared.rounding.Rounding.the-variants.{Nearest, Up, None}
 use Rattle.integers.specs.Ends.{least64, most64}
-use Rattle.rounding.specs.Times.{satOf, secondOf, shiftOf, roundedOf, adjustedOf}
+use Rattle.whole_minutes.specs.Times.{satOf, secondOf, shiftOf, roundedOf, adjustedOf}
 
 -- an i64 holds every integer between the ends of its range
 pub between : (z : ℤ) → least64 ≼ z → z ≼ most64 → SFits w64 z

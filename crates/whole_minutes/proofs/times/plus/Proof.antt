@@ -1,5 +1,5 @@
-use Rattle.rounding.proofs.Saturation as saturation
-use Rattle.rounding.proofs.times.plus as this
+use Rattle.whole_minutes.proofs.Saturation as saturation
+use Rattle.whole_minutes.proofs.times.plus as this
 
 add-result : this.Tie.Need-add-result
 add-result c = let s = c .before .before in

@@ -1,10 +1,10 @@
 -- A time ahead of 0 is rounded by a quotient, any other by its second.
 use Rattle.prelude.proofs.Logic.{_≡_, sym, ap, _∙_, ℤ, pos, needs, w64, SFits}
 use Rattle.integers.proofs.Integers.{readBack, read}
-use Rattle.rounding.specs.Times.{satOf, roundedOf}
-use Rattle.rounding.proofs.Minutes.{ahead}
-use Rattle.rounding.proofs.TimesLaws.{sat-in}
-use Rattle.rounding.proofs.times.rounded_minute as this
+use Rattle.whole_minutes.specs.Times.{satOf, roundedOf}
+use Rattle.whole_minutes.proofs.Minutes.{ahead}
+use Rattle.whole_minutes.proofs.TimesLaws.{sat-in}
+use Rattle.whole_minutes.proofs.times.rounded_minute as this
 
 returns : this.Tie.Need-returns
 returns c =
