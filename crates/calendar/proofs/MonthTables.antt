@@ -63,7 +63,9 @@ unfolding leastTest lengthOf
 length-least leap k h = leb→le 28 _ (tested leastTest 12 tt leap k h)
 
 pub least : (leap : Bool) (m : ℕ) → 0 < m → m ≤ 12 → 28 ≤ lengthOf leap m
-least leap m p q = let k : m - 1 + 1 ≡ m = omega arith in subst (λ (i : ℕ). 28 ≤ lengthOf leap i) k (length-least leap (m - 1) (omega arith))
+least leap m p q =
+    let k : m - 1 + 1 ≡ m = omega arith in
+    subst (λ (i : ℕ). 28 ≤ lengthOf leap i) k (length-least leap (m - 1) (omega arith))
 
 -- a day up to the 28th is in a month if the month is one of the twelve
 pub early : (leap : Bool) (m d : ℕ) → 1 ≤ d → d ≤ 28 → (leb 1 m && leb m 12) ≡ leb d (lengthOf leap m)

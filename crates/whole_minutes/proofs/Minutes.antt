@@ -1,7 +1,8 @@
 -- The second of the minute, what rounding adds, and minutes as two halves, as the code computes them. Assumes nothing.
-use Rattle.prelude.proofs.Logic.{_≡_, refl, ap, _∙_, true, false, ℕ, suc, _-_, _%_, _≤_, arith, T, lit<, ℤ, pos, negsuc, negℤ, natAbs, _+ℤ_, _-ℤ_}
-use Rattle.prelude.proofs.Logic.{_*ℤ_, ltZ, leZ, quotZ, remZ, nonNeg, w32, w64, SFits, Fits, toZ}
-use Rattle.integers.proofs.Integers.{same, sum, difference, times, flip, divided, floored, le-yes, lt-yes, lt-no, readBack, read, range, fits}
+use Rattle.prelude.proofs.Logic.{_≡_, refl, ap, _∙_, true, false, ℕ, suc, _-_, _%_, _≤_, arith, T, lit<, ℤ, pos, negsuc, negℤ, natAbs}
+use Rattle.prelude.proofs.Logic.{_+ℤ_, _-ℤ_, _*ℤ_, ltZ, leZ, quotZ, remZ, nonNeg, w32, w64, SFits, Fits, toZ}
+use Rattle.integers.proofs.Integers.{same, sum, difference, times, flip, divided, floored, le-yes, lt-yes, lt-no, readBack, read, range}
+use Rattle.integers.proofs.Integers.{fits}
 use Rattle.integers.specs.Ends.{least64, most64}
 use Rattle.whole_minutes.specs.Times.{satOf, secondOf, adjustedOf}
 use Rattle.whole_minutes.proofs.TimesLaws.{between}

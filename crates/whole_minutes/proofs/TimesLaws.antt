@@ -1,6 +1,6 @@
 -- Laws of the definitions of `Times`: what rounding and adjusting keep, and when nothing saturates. Assumes nothing.
-use Rattle.prelude.proofs.Logic.{_≡_, refl, sym, ap, _∙_, cond, ℕ, _+_, _*_, _/_, _^_, _≤_, _<_, arith, ltb, lit<, ℤ, pos, negsuc, _+ℤ_, _*ℤ_}
-use Rattle.prelude.proofs.Logic.{+ℤ-idr, +ℤ-assoc, +ℤ-comm, ltb-true, ltb-false, lt-ltb, w64, SFits, cases, either}
+use Rattle.prelude.proofs.Logic.{_≡_, refl, sym, ap, _∙_, cond, ℕ, _+_, _*_, _/_, _^_, _≤_, _<_, arith, ltb, lit<, ℤ, pos, negsuc, _+ℤ_}
+use Rattle.prelude.proofs.Logic.{_*ℤ_, +ℤ-idr, +ℤ-assoc, +ℤ-comm, ltb-true, ltb-false, lt-ltb, w64, SFits, cases, either}
 use Rattle.integers.proofs.Integers.{P, N, Between, Near, same, sum, difference, times, floorQuot, Floored, floored, _≼_, to-not-lt, range}
 use Rattle.integers.proofs.Integers.{sum-between, product-between, shifted-between, Held, held-fits}
 use Rattle.models.specs.declared.rounding.Rounding.{Rounding}
