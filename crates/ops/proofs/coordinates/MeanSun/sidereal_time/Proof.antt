@@ -4,4 +4,5 @@ use Rattle.ops.proofs.coordinates.MeanSun.sidereal_time as this
 pub sidereal-time-spec : {M : Type 1} → this.Statement.statement M
 unfolding meanSiderealOf
 sidereal-time-spec =
-    this.Tie.close (this.Tie.spec (λ c κs. tt) (λ c. c .apparent-sidereal-time .ensures))
+    let returns : this.Tie.Need-returns = λ c. c .apparent-sidereal-time .ensures in
+    this.Tie.close (this.Tie.spec (λ c κs. tt) returns)
