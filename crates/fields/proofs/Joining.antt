@@ -1,7 +1,6 @@
 -- Laws of the numbers that bytes write: a byte put behind others by a shift, and sixteen signed bits in an i32.
 use Rattle.prelude.proofs.Logic.{_≡_, sym, ap, _∙_, List, ℕ, _≤_, _<_, _+_, _*_, _^_, _%_, mod-eq-of-lt, lt-of-lt-of-le, add-one, arith}
-use Rattle.prelude.proofs.Logic.{pos, negsuc, _-ℤ_, pow-mono, pow-add, ltb, ltb-true, ltb-false, lt-ltb, le-ltb, cases}
-use Rattle.prelude.proofs.Logic.{w32, toZ, ofZ, SFits, toZ-pos, toZ-ofZ}
+use Rattle.prelude.proofs.Logic.{refl, zero, suc, take, getD-take, pos, _-ℤ_, pow-mono, pow-add, lt-ltb, le-ltb, w32, toZ, ofZ, SFits, toZ-pos, toZ-ofZ}
 use lib.Bits.{bitOr, or-shifted}
 use Rattle.fields.specs.Numbers.{byteOf, unsignedOf, signedAtOf, bytesNumberOf}
 
@@ -21,19 +20,21 @@ shift-room x b i l s =
     let e : 2 ^ (8 * i) * 256 ≡ 2 ^ (8 * (i + 1)) = sym (pow-add 2 (8 * i) 8) ∙ ap (λ (n : ℕ). 2 ^ n) (omega arith) in
     rw (sym e) (omega arith)
 
--- a remainder by 65,536 less 32,768 fits an i32
-pub less-fits : (x : ℕ) → SFits w32 (toZ w32 (x % 65536) -ℤ pos 32768)
-less-fits x =
-    rw (toZ-pos w32 {n = x % 65536} (omega arith))
-    (cases (ltb (x % 65536) 32768) (λ e. rw e (record { sfits = omega (arith, ltb-true (x % 65536) 32768 e) }))
-    (λ e. rw e (record { sfits = omega (arith, ltb-false (x % 65536) 32768 e) })))
+-- a number of sixteen bits less 65,536 fits an i32
+pub less-fits : (x : ℕ) → x < 65536 → SFits w32 (toZ w32 x -ℤ pos 65536)
+less-fits x h = rw (toZ-pos w32 {n = x} (omega arith)) (rw (lt-ltb x 65536 h) (record { sfits = omega arith }))
 
-pub signed-wraps : (v : List ℕ) (at x : ℕ) → x ≡ unsignedOf v at → x < 65536
-    → toZ w32 (ofZ w32 (toZ w32 ((x + 32768) % 65536) -ℤ pos 32768)) ≡ signedAtOf v at
-unfolding signedAtOf
-signed-wraps v at x is-x u =
-    toZ-ofZ (less-fits (x + 32768)) ∙ rw (toZ-pos w32 {n = (x + 32768) % 65536} (omega arith), sym is-x)
-    (cases (ltb x 32768)
-    (λ e. let h = ltb-true x 32768 e in rw (e, le-ltb ((x + 32768) % 65536) 32768 (omega arith)) (ap pos (omega arith)))
-    (λ e. let h = ltb-false x 32768 e in rw (e, lt-ltb ((x + 32768) % 65536) 32768 (omega arith), lt-ltb x 65536 u)
-    (ap negsuc (omega arith))))
+module _ (v : List ℕ) (at x : ℕ) (is-x : x ≡ unsignedOf v at) where
+  pub signed-low : x < 32768 → toZ w32 x ≡ signedAtOf v at
+  unfolding signedAtOf
+  signed-low h = toZ-pos w32 {n = x} (omega arith) ∙ simp (sym is-x, lt-ltb _ _ h)
+
+  pub signed-high : x < 65536 → 32768 ≤ x → toZ w32 (ofZ w32 (toZ w32 x -ℤ pos 65536)) ≡ signedAtOf v at
+  unfolding signedAtOf
+  signed-high u h = toZ-ofZ (less-fits x u) ∙ rw (toZ-pos w32 {n = x} (omega arith)) (simp (sym is-x, le-ltb _ _ h))
+
+-- the first n of more bytes write the same number as all of them
+pub cut-joined : (v : List ℕ) (k n : ℕ) → n ≤ k → bytesNumberOf n (take k v) ≡ bytesNumberOf n v
+unfolding bytesNumberOf
+cut-joined v k zero l = refl
+cut-joined v k (suc n) l = rw (cut-joined v k n (omega arith), getD-take k v n 0 (omega arith))

@@ -28,16 +28,19 @@ pub fn unsigned(bytes: &[u8], at: usize) -> u32
     }
 }
 
-// The same two bytes as a signed number: adding 32,768 and taking it away behind the remainder puts the upper half below zero.
+// The same two bytes as a signed number.
 pub fn signed(bytes: &[u8], at: usize) -> i32
     ensures { λ r. ⌜ r ≡ signedAtOf (now (bytes .entry)) at ⌝ }
 {
     let x = unsigned(bytes, at);
-    ((x + 32768) % 65536) as i32 - 32768
+    if x < 32768 {
+        x as i32
+    } else {
+        x as i32 - 65536
+    }
 }
 
-// The first eight bytes, if not all of them are there.
-fn short_bits(bytes: &[u8]) -> u64
+fn joined(bytes: &[u8]) -> u64
     ensures { λ r. ⌜ r ≡ bitsOf (now (bytes .entry)) ⌝ }
 {
     let mut x: u64 = 0;
@@ -49,18 +52,14 @@ fn short_bits(bytes: &[u8]) -> u64
     x
 }
 
-// The first eight bytes. After the one test of their number, reading them takes no test of each.
+// The first eight bytes. Of a part that is known to have eight each is read without a test.
 pub fn bits(bytes: &[u8]) -> u64
     ensures { λ r. ⌜ r ≡ bitsOf (now (bytes .entry)) ⌝ }
 {
     if bytes.len() < 8 {
-        return short_bits(bytes);
+        return joined(bytes);
     }
-    let high = ((byte(bytes, 0) * 256 + byte(bytes, 1)) * 256 + byte(bytes, 2)) * 256
-        + byte(bytes, 3);
-    let low = ((byte(bytes, 4) * 256 + byte(bytes, 5)) * 256 + byte(bytes, 6)) * 256
-        + byte(bytes, 7);
-    high as u64 * 4294967296 + low as u64
+    joined(&bytes[..8])
 }
 
 // The float whose bit pattern is the first eight bytes.

@@ -2,7 +2,7 @@
 use Rattle.prelude.proofs.Logic.{_≡_, ap, _∙_, ℕ, _≤_, _<_, _-_, _*_, _^_, arith, needs, now}
 use Rattle.fields.specs.Numbers.{bytesNumberOf, bitsOf}
 use Rattle.fields.proofs.Joining.{join-on, shift-in, shift-room}
-use Rattle.fields.proofs.numbers.short_bits as this
+use Rattle.fields.proofs.numbers.joined as this
 
 abbrev Inv-loop : this.Tie.InvT-loop
 Inv-loop bytes x₀ i₀ x i = (i ≤ 8) × (x ≡ bytesNumberOf i bytes) × (x < 2 ^ (8 * i))
@@ -28,7 +28,7 @@ returns c =
     let e : l .i ≡ 8 = omega arith in
     l .inv .1 ∙ ap (λ (n : ℕ). bytesNumberOf n v) e
 
-pub short-bits-spec : {M : Type 1} → this.Statement.statement M
+pub joined-spec : {M : Type 1} → this.Statement.statement M
 unfolding bytesNumberOf
-short-bits-spec = this.Tie.close (this.Tie.spec Inv-loop μ-loop (λ c. search needs) (λ c κs. search needs) (λ c. search needs)
+joined-spec = this.Tie.close (this.Tie.spec Inv-loop μ-loop (λ c. search needs) (λ c κs. search needs) (λ c. search needs)
     (λ c. search needs) (λ c. search needs) loop-again returns)
