@@ -134,16 +134,8 @@ fn record_in(order: &[u8], fields: Fields) -> Order
         rows: rows_in(value(order, fields, tags::ROWS)),
         setting: Setting {
             coordinates: Coordinates::new(
-                coordinate_in(
-                    order,
-                    fields.part(tags::LATITUDE),
-                    fields.part(map_form::LATITUDE),
-                ),
-                coordinate_in(
-                    order,
-                    fields.part(tags::LONGITUDE),
-                    fields.part(map_form::LONGITUDE),
-                ),
+                coordinate_in(order, fields, tags::LATITUDE, map_form::LATITUDE),
+                coordinate_in(order, fields, tags::LONGITUDE, map_form::LONGITUDE),
             ),
             parameters: parameters_in(order, fields),
             rules: rules_in(order, fields),

@@ -1,19 +1,16 @@
 -- Each field of the record is the result of its call.
 use Rattle.prelude.proofs.Logic.{sym, _∙_, needs, w32, SFits, toZ-ofZ, now}
 use Rattle.fields.proofs.Collecting.{part-for}
-use Rattle.fields.specs.Values.{valuesIn}
-use Rattle.order.specs.Given.{coordinateIn}
 use Rattle.order.specs.Reading.{orderOf}
 use Rattle.order.proofs.reading.record_in as this
 
 returns : this.Tie.Need-returns
-unfolding orderOf coordinateIn valuesIn
+unfolding orderOf
 returns c =
     let k = c .before in
     let r = k .before in
     let q = r .before .before in
-    let near = q .before .before .before .before in
-    let rows = near .before .before .before in
+    let rows = q .before .before .before in
     let d = rows .before .before in
     let p = d .before .before in
     let a = p .before .before .args in
@@ -27,11 +24,7 @@ returns c =
       r .before .parameters-in .ensures,
       q .new .ensures,
       q .before .coordinate-in2 .ensures,
-      q .before .before .part5 .ensures,
-      q .before .before .before .part4 .ensures,
-      near .coordinate-in .ensures,
-      near .before .part3 .ensures,
-      near .before .before .part2 .ensures,
+      q .before .before .coordinate-in .ensures,
       rows .rows-in .ensures,
       rows .before .value2 .ensures,
       d .date-in .ensures,
@@ -44,4 +37,4 @@ record-in-spec =
     this.Tie.close
     (this.Tie.spec (λ c κs. tt) (λ c κs. tt) (λ c κs. tt) (λ c κs. tt) (λ c κs. tt) (λ c κs. tt) (λ c κs. tt) (λ c κs. tt) (λ c κs. tt)
     (λ c κs. tt)
-    (λ c κs. tt) (λ c κs. tt) (λ c κs. tt) (λ c κs. tt) (λ c κs. tt) (λ c κs. tt) returns)
+    (λ c κs. tt) (λ c κs. tt) returns)
