@@ -5,7 +5,7 @@ use Rattle.calendar.specs.Gregorian.{dateOf, leapOf, lengthOf, daysInMon
 use Rattle.calendar.specs.Days.{dayNumberOf, dateOfDayOf}
 use Rattle.calendar.specs.Answers.{heldOf, fromOf, tomorrowOf, yesterdayOf, rowDateOf}
 use Rattle.calendar.specs.declared.dates.Date.{Date}
-use Rattle.calendar.proofs.MonthTables.{length-december, least}
+use Rattle.calendar.proofs.MonthTables.{length-december, month-has-28}
 use Rattle.calendar.proofs.Existing.{exists-yes, to-exists, month-of-date, ordinal-is}
 use Rattle.calendar.proofs.CalendarLaws.{date-of-number, later}
 use Rattle.calendar.proofs.Successors.{from-is}
@@ -30,7 +30,7 @@ module _ (d : Date) (h : existsOf d ≡ true) (small : d .year ≤ 4294967295) w
   pub day-later-early : d .day < 28 → dateOf (d .year) (d .month) (d .day + 1) ≡ tomorrowOf d
   day-later-early l =
       let m = month-of-date d (exists-yes d h) in
-      let n = least (leapOf (d .year)) (d .month) (m .first) (m .last) in
+      let n = month-has-28 (leapOf (d .year)) (d .month) (m .first) (m .last) in
       day-later (omega arith)
 
   module _ (last : daysInMonthOf (d .year) (d .month) ≤ d .day) where
@@ -86,7 +86,7 @@ module _ (d : Date) (h : existsOf d ≡ true) (small : d .year ≤ 4294967295) w
   row-early k l =
       let x = exists-yes d h in
       let m = month-of-date d x in
-      let n = least (leapOf (d .year)) (d .month) (m .first) (m .last) in
+      let n = month-has-28 (leapOf (d .year)) (d .month) (m .first) (m .last) in
       let e = dateOf (d .year) (d .month) (d .day + k) in
       let t = to-exists e (record { from = omega arith; to = omega arith }) in
       let number = later d e k (omega (arith, ordinal-is d h, ordinal-is e t)) in

@@ -62,17 +62,17 @@ pub length-least : (leap : Bool) (k : ℕ) → k < 12 → 28 ≤ lengthOf leap (
 unfolding leastTest lengthOf
 length-least leap k h = leb→le 28 _ (tested leastTest 12 tt leap k h)
 
-pub least : (leap : Bool) (m : ℕ) → 0 < m → m ≤ 12 → 28 ≤ lengthOf leap m
-least leap m p q =
+pub month-has-28 : (leap : Bool) (m : ℕ) → 0 < m → m ≤ 12 → 28 ≤ lengthOf leap m
+month-has-28 leap m p q =
     let k : m - 1 + 1 ≡ m = omega arith in
     subst (λ (i : ℕ). 28 ≤ lengthOf leap i) k (length-least leap (m - 1) (omega arith))
 
 -- a day up to the 28th is in a month if the month is one of the twelve
-pub early : (leap : Bool) (m d : ℕ) → 1 ≤ d → d ≤ 28 → (leb 1 m && leb m 12) ≡ leb d (lengthOf leap m)
-early leap zero d p q = sym (lt-leb d (lengthOf leap 0) (omega (arith, length-none leap)))
-early leap (suc k) d p q =
+pub exists-up-to-28 : (leap : Bool) (m d : ℕ) → 1 ≤ d → d ≤ 28 → (leb 1 m && leb m 12) ≡ leb d (lengthOf leap m)
+exists-up-to-28 leap zero d p q = sym (lt-leb d (lengthOf leap 0) (omega (arith, length-none leap)))
+exists-up-to-28 leap (suc k) d p q =
     cases (leb (suc k) 12)
-    (λ e. let l = least leap (suc k) (omega arith) (leb-true (suc k) 12 e) in
+    (λ e. let l = month-has-28 leap (suc k) (omega arith) (leb-true (suc k) 12 e) in
     rw (le-leb 1 (suc k) (omega arith), e, le-leb d (lengthOf leap (suc k)) (omega arith)))
     (λ e. let z = length-past leap (suc k) (leb-false (suc k) 12 e) in
     rw (le-leb 1 (suc k) (omega arith), e, lt-leb d (lengthOf leap (suc k)) (omega arith)))

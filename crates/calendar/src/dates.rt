@@ -12,6 +12,9 @@ use super::months::month_days;
 use super::months::month_of;
 use super::years::is_leap_year;
 
+// Every month has these days, so up to there no month has to be looked up.
+const SHORTEST_MONTH: u32 = 28;
+
 #[repr(C)]
 pub struct Date {
     pub year: u32,
@@ -53,8 +56,7 @@ impl Date {
         if day < 1 {
             return false;
         }
-        // Every month has 28 days.
-        if day <= 28 {
+        if day <= SHORTEST_MONTH {
             return (1 <= month) & (month <= 12);
         }
         day <= month_days(is_leap_year(self.year), month)
@@ -81,7 +83,7 @@ impl Date {
         if !self.exists() {
             return self;
         }
-        if day < 28 {
+        if day < SHORTEST_MONTH {
             return Date::new(year, month, day + 1);
         }
         if day < month_days(is_leap_year(year), month) {
@@ -96,7 +98,7 @@ impl Date {
         Date::new(year + 1, 1, 1)
     }
 
-    // The day of the month before, or the last of the month or year before.
+    // The previous day of the month, or the last of the previous month or year.
     pub fn yesterday(self) -> Date
         ensures { λ r. ⌜ r ≡ yesterdayOf self ⌝ }
     {
@@ -153,8 +155,8 @@ impl Date {
         if !self.exists() {
             return self;
         }
-        if day < 28 {
-            if row <= 28 - day {
+        if day <= SHORTEST_MONTH {
+            if row <= SHORTEST_MONTH - day {
                 return Date::new(self.year, self.month, day + row);
             }
         }

@@ -1,6 +1,7 @@
 -- Laws of the numbers that bytes write: a byte put behind others by a shift, and sixteen signed bits in an i32.
 use Rattle.prelude.proofs.Logic.{_≡_, sym, ap, _∙_, List, ℕ, _≤_, _<_, _+_, _*_, _^_, _%_, mod-eq-of-lt, lt-of-lt-of-le, add-one, arith}
-use Rattle.prelude.proofs.Logic.{refl, zero, suc, take, getD-take, pos, _-ℤ_, pow-mono, pow-add, lt-ltb, le-ltb, w32, toZ, ofZ, SFits, toZ-pos, toZ-ofZ}
+use Rattle.prelude.proofs.Logic.{refl, zero, suc, take, getD-take}
+use Rattle.prelude.proofs.Logic.{pos, _-ℤ_, pow-mono, pow-add, lt-ltb, le-ltb, w32, toZ, ofZ, SFits, toZ-pos, toZ-ofZ}
 use lib.Bits.{bitOr, or-shifted}
 use Rattle.fields.specs.Numbers.{byteOf, unsignedOf, signedAtOf, bytesNumberOf}
 

@@ -46,7 +46,7 @@ fn pass(order: &[u8]) -> Checked
     let mut lengths = [0u8; TAGS];
     let mut at = 0;
     while at < order.len() {
-        // A cut header is refused before anything is read, so reading it needs no test of its own.
+        // `fault` tests this too. Here it spares `byte` and `unsigned` their own tests.
         let left = order.len() - at;
         if left < HEADER_LENGTH {
             return refused(FIELD_CUT, at as u32);

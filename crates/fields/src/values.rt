@@ -56,7 +56,8 @@ impl Fields {
     }
 }
 
-fn least(a: usize, b: usize) -> usize
+// That it is at most b keeps the slice below in the order.
+fn smaller(a: usize, b: usize) -> usize
     ensures { λ r. ⌜ r ≡ min a b ⌝ }
     ensures { λ r. ⌜ r ≤ b ⌝ }
 {
@@ -67,8 +68,8 @@ fn least(a: usize, b: usize) -> usize
 pub fn bytes(order: &[u8], part: Part) -> &[u8]
     ensures { λ r. ⌜ now r ≡ partIn (now (order .entry)) part ⌝ }
 {
-    let start = least(part.at as usize, order.len());
-    let length = least(part.length as usize, order.len() - start);
+    let start = smaller(part.at as usize, order.len());
+    let length = smaller(part.length as usize, order.len() - start);
     &order[start..start + length]
 }
 

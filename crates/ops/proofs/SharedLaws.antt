@@ -10,13 +10,13 @@ use Rattle.ops.specs.Coordinates.{solarCoordinatesOf}
 use Rattle.ops.specs.Transit.{interpolateOf, interpolateAnglesOf, altitudeOfCelestialBodyOf, hourAngleAtOf, correctedTransitOf}
 use Rattle.ops.specs.Transit.{correctedHourAngleOf}
 use Rattle.ops.specs.Shared.{interpolatedOf, observerOf, courseThroughOf, hourAngleOf, courseTransitNumberOf, arcToSineOf, halfArcOf}
-use Rattle.ops.specs.Shared.{movedTransitOf, hourNumberOf, placeOf, siderealTimeOf, meanSunOf, meanPlaceOf, meanSiderealOf}
+use Rattle.ops.specs.Shared.{movedTransitOf, hourNumberOf, placeOf, siderealTimeOf, meanElementsOf, meanPlaceOf, meanSiderealOf}
 
-pub mean-place : (day : Float) → meanPlaceOf (meanSunOf day) ≡ placeOf (solarCoordinatesOf day)
+pub mean-place : (day : Float) → meanPlaceOf (meanElementsOf day) ≡ placeOf (solarCoordinatesOf day)
 unfolding meanPlaceOf solarCoordinatesOf
 mean-place day = refl
 
-pub mean-sidereal : (day : Float) → meanSiderealOf (meanSunOf day) ≡ siderealTimeOf (solarCoordinatesOf day)
+pub mean-sidereal : (day : Float) → meanSiderealOf (meanElementsOf day) ≡ siderealTimeOf (solarCoordinatesOf day)
 unfolding meanSiderealOf solarCoordinatesOf
 mean-sidereal day = refl
 

@@ -1,5 +1,6 @@
 -- This file need not be believed: it is Sun's and Transit's formulas over what several calls share and is worked once: the sine and cosine
--- of an angle, the differences of an interpolation, the products of sines and of cosines. proofs/SharedLaws.antt says so of Transit's.
+-- of an angle, the differences of an interpolation, the products of sines and of cosines. proofs/SharedLaws.antt says so of Transit's,
+-- and of what a position and a sidereal time begin with.
 use mathlib.Core.Bool.{Bool, cond}
 use lib.Ieee.{Float, neg}
 use Rattle.float64.specs.Ops.{_+ᶠ_, _-ᶠ_, _*ᶠ_, _/ᶠ_, dec}
@@ -11,7 +12,7 @@ use Rattle.unit.specs.declared.Coordinates.{Coordinates}
 use Rattle.unit.specs.Unit.{angleOf, fromRadiansOf, radiansOf, unwoundOf, quadrantShiftedOf, plusOf, minusOf, overOf, latitudeAngleOf}
 use Rattle.unit.specs.Unit.{longitudeAngleOf, normalizedToScaleOf}
 use Rattle.ops.specs.declared.coordinates.Equatorial.{Equatorial}
-use Rattle.ops.specs.declared.coordinates.MeanSun.{MeanSun}
+use Rattle.ops.specs.declared.coordinates.MeanElements.{MeanElements}
 use Rattle.ops.specs.declared.coordinates.SolarCoordinates.{SolarCoordinates}
 use Rattle.ops.specs.declared.interpolation.Interpolation.{Interpolation}
 use Rattle.ops.specs.declared.sun.Nutation.{Nutation}
@@ -38,17 +39,17 @@ equatorialOf obliquity longitude =
     record { declination = declinationOf obliquity longitude; «right_ascension» = rightAscensionOf obliquity longitude }
 
 -- what the position and the sidereal time of a day both begin with, and each of the two from it
-abbrev pub meanSunOf : Float → MeanSun
-meanSunOf day =
+abbrev pub meanElementsOf : Float → MeanElements
+meanElementsOf day =
     let t = julianCenturyOf day in
     record { century = t; longitude = meanSolarLongitudeOf t; obliquity = meanObliquityOfTheEclipticOf t }
 
-unfoldable pub meanPlaceOf : MeanSun → Equatorial
+unfoldable pub meanPlaceOf : MeanElements → Equatorial
 meanPlaceOf m =
     let apparent = apparentPositionOf (m .century) (m .longitude) (m .obliquity) in
     equatorialOf (radiansOf (apparent .obliquity)) (radiansOf (apparent .longitude))
 
-unfoldable pub meanSiderealOf : MeanSun → Angle
+unfoldable pub meanSiderealOf : MeanElements → Angle
 meanSiderealOf m = apparentSiderealTimeOf (m .century) (m .longitude) (m .obliquity)
 
 -- a position without its sidereal time, and the sidereal time

@@ -1,7 +1,7 @@
 // solar.rs: the sun's position at 0h of a day. It is in this crate since a course is made from three positions.
 ghost use mathlib.Core.Path.{_≡_};
 ghost use Rattle.ops.specs.Coordinates.{apparentSiderealTimeOf, solarCoordinatesOf, positionOf};
-ghost use Rattle.ops.specs.Shared.{equatorialOf, placeOf, siderealTimeOf, meanSunOf, meanPlaceOf, meanSiderealOf};
+ghost use Rattle.ops.specs.Shared.{equatorialOf, placeOf, siderealTimeOf, meanElementsOf, meanPlaceOf, meanSiderealOf};
 use super::sun::apparent_position;
 use super::sun::ascending_lunar_node_longitude;
 use super::sun::julian_century;
@@ -63,18 +63,18 @@ fn apparent_sidereal_time(
 }
 
 // What the position and the sidereal time of a day both begin with.
-pub struct MeanSun {
+pub struct MeanElements {
     pub century: f64,
     pub longitude: Angle,
     pub obliquity: Angle,
 }
 
-impl MeanSun {
-    pub fn new(julian_day: f64) -> MeanSun
-        ensures { λ r. ⌜ r ≡ meanSunOf «julian_day» ⌝ }
+impl MeanElements {
+    pub fn new(julian_day: f64) -> MeanElements
+        ensures { λ r. ⌜ r ≡ meanElementsOf «julian_day» ⌝ }
     {
         let century = julian_century(julian_day);
-        MeanSun {
+        MeanElements {
             century: century,
             longitude: mean_solar_longitude(century),
             obliquity: mean_obliquity_of_the_ecliptic(century),
@@ -106,7 +106,7 @@ impl Equatorial {
     pub fn new(julian_day: f64) -> Equatorial
         ensures { λ r. ⌜ r ≡ placeOf (solarCoordinatesOf «julian_day») ⌝ }
     {
-        MeanSun::new(julian_day).place()
+        MeanElements::new(julian_day).place()
     }
 }
 
@@ -114,14 +114,14 @@ impl Equatorial {
 pub fn sidereal_time(julian_day: f64) -> Angle
     ensures { λ r. ⌜ r ≡ siderealTimeOf (solarCoordinatesOf «julian_day») ⌝ }
 {
-    MeanSun::new(julian_day).sidereal_time()
+    MeanElements::new(julian_day).sidereal_time()
 }
 
 impl SolarCoordinates {
     pub fn new(julian_day: f64) -> SolarCoordinates
         ensures { λ r. ⌜ r ≡ solarCoordinatesOf «julian_day» ⌝ }
     {
-        let mean = MeanSun::new(julian_day);
+        let mean = MeanElements::new(julian_day);
         let place = mean.place();
         let declination = place.declination;
         let right_ascension = place.right_ascension;

@@ -103,7 +103,7 @@ fn both_forms(fields: Fields) -> Refusal
     Refusal::none()
 }
 
-// The refusal of the lowest tag whose value is out of range. The date is the order's own.
+// The refusal of the lowest tag whose value is out of range. The date is passed on, since the record has read it.
 fn out_of_range(order: &[u8], fields: Fields, date: Date) -> Refusal
     requires { ⌜ date ≡ dateIn (valuesIn (now order) fields .value dateTag) ⌝ }
     ensures { λ r. ⌜ r ≡ outOfRangeOf (valuesIn (now (order .entry)) fields) ⌝ }

@@ -55,10 +55,10 @@ pub as-u32 : (t x : ℤ) → x ≡ pos (secondOf t) → T (nonNeg x) × Fits w32
 as-u32 t x e = let l = floored t 60 (lit< tt) in rw e (tt, record { fits = omega arith })
 
 -- a time from 0 on, in the range that the code's two tests leave
-pub ahead : (x : ℤ) → leZ (pos 0) x ≡ true → leZ x (pos 4294967000) ≡ true
+pub fits-32-bits : (x : ℤ) → leZ (pos 0) x ≡ true → leZ x (pos 4294967000) ≡ true
     → (T (nonNeg x) × Fits w32 (natAbs x)) × ((pos (natAbs x) ≡ x) × (natAbs x ≤ 4294967000))
-ahead (pos n) from to = let b = le-yes (pos n) (pos 4294967000) to in ((tt, record { fits = omega arith }), (refl, omega arith))
-ahead (negsuc n) from to = absurd (omega (arith, le-yes (pos 0) (negsuc n) from))
+fits-32-bits (pos n) from to = let b = le-yes (pos n) (pos 4294967000) to in ((tt, record { fits = omega arith }), (refl, omega arith))
+fits-32-bits (negsuc n) from to = absurd (omega (arith, le-yes (pos 0) (negsuc n) from))
 
 -- ---- what rounding adds: k less the second
 pub less-fits : (k s : ℕ) → k ≤ 60 → Fits w32 s → SFits w64 (pos k -ℤ toZ w64 s)

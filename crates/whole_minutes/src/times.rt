@@ -10,6 +10,9 @@ const MOST64: i64 = 9223372036854775807;
 
 const LEAST64: i64 = -9223372036854775808;
 
+// A minute more is still below 2^32.
+const MOST_SHORT: i64 = 4294967000;
+
 // The sum, as chrono's checked_add_signed gives it in its range.
 pub fn plus(a: i64, b: i64) -> i64
     ensures { λ r. ⌜ r ≡ satOf (a +ℤ b) ⌝ }
@@ -49,8 +52,8 @@ fn shift(rounding: Rounding, s: u32) -> i64
     }
 }
 
-// The rounded time of one from 0 on, by a quotient.
-fn rounded_ahead(t: u32, rounding: Rounding) -> u32
+// A time that 32 bits hold, and its rounded one too: one division is enough.
+fn rounded_short(t: u32, rounding: Rounding) -> u32
     requires { ⌜ t ≤ 4294967000 ⌝ }
     ensures { λ r. ⌜ pos r ≡ roundedOf rounding (pos t) ⌝ }
 {
@@ -61,13 +64,13 @@ fn rounded_ahead(t: u32, rounding: Rounding) -> u32
     }
 }
 
-// Nearly every time is one of a few days from 0h on: there 32 bits are enough, and nothing saturates.
+// Nearly every time that is rounded counts from 0h of its date, so 32 bits hold it.
 pub fn rounded_minute(t: i64, rounding: Rounding) -> i64
     ensures { λ r. ⌜ r ≡ satOf (roundedOf rounding t) ⌝ }
 {
     if t >= 0 {
-        if t <= 4294967000 {
-            return rounded_ahead(t as u32, rounding) as i64;
+        if t <= MOST_SHORT {
+            return rounded_short(t as u32, rounding) as i64;
         }
     }
     plus(t, shift(rounding, second(t)))

@@ -54,6 +54,7 @@ pub fn preset(method: u32) -> Settings {
     let date = date_value(2026, 6, 21);
     let fields = [(1, b"A".as_slice()), (2, &date), (3, &[1]), (4, &[0; 8]), (5, &[0; 8]), (6, &[method as u8])];
     let order = read_plainly(&written(&fields.map(|(tag, value)| Field::new(tag, value))));
+    assert_eq!(order.number, 0, "the order of method {method} is refused");
     let [fajr, sunrise, dhuhr, asr, maghrib, isha] = order.minutes;
     let KatchidulOrder { method, madhab, high_latitude_rule, rounding, shafaq, fajr_angle, isha_angle, .. } = order;
     let isha_interval = order.isha_interval as i32;

@@ -1,7 +1,7 @@
 -- A day below the first is none; up to the 28th the month decides alone.
 use Rattle.prelude.proofs.Logic.{sym, le-leb, lt-leb}
 use Rattle.calendar.specs.Gregorian.{leapOf, existsOf}
-use Rattle.calendar.proofs.MonthTables.{early}
+use Rattle.calendar.proofs.MonthTables.{exists-up-to-28}
 use Rattle.calendar.proofs.dates.Date.exists as this
 
 returns-2 : this.Tie.Need-returns-2
@@ -9,7 +9,7 @@ unfolding existsOf
 returns-2 c =
     let first = c .before in
     let d = first .before .args .self in
-    rw (le-leb 1 (d .day) (first .if1 .left)) (early (leapOf (d .year)) (d .month) (d .day) (first .if1 .left) (c .if2 .taken))
+    rw (le-leb 1 (d .day) (first .if1 .left)) (exists-up-to-28 (leapOf (d .year)) (d .month) (d .day) (first .if1 .left) (c .if2 .taken))
 
 returns-3 : this.Tie.Need-returns-3
 unfolding existsOf

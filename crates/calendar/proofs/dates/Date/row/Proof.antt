@@ -38,7 +38,7 @@ returns-3 c =
     (ap ofDayOf (row-read (t .args .self) (year t) z f (number .day-number .ensures) (t .args .row) (search needs)))
 
 pub row-spec : {M : Type 1} → this.Statement.statement M
-row-spec = this.Tie.close (this.Tie.spec (λ c κs. tt) returns (λ c. search needs) (λ c. search needs) (λ c κs. tt) returns-2 (λ c κs. tt)
+row-spec = this.Tie.close (this.Tie.spec (λ c κs. tt) returns (λ c. search needs) (λ c κs. tt) returns-2 (λ c κs. tt)
     (λ c. search needs)
     (λ c. let t = c .before .before .before .before in
     row-fits (t .args .self) (year t) (c .day-number .result) (search needs) (c .day-number .ensures) (t .args .row) (search needs))

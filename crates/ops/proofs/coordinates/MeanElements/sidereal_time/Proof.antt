@@ -1,5 +1,5 @@
 use Rattle.ops.specs.Shared.{meanSiderealOf}
-use Rattle.ops.proofs.coordinates.MeanSun.sidereal_time as this
+use Rattle.ops.proofs.coordinates.MeanElements.sidereal_time as this
 
 pub sidereal-time-spec : {M : Type 1} → this.Statement.statement M
 unfolding meanSiderealOf

@@ -1,5 +1,5 @@
 use Rattle.ops.specs.Shared.{meanPlaceOf}
-use Rattle.ops.proofs.coordinates.MeanSun.place as this
+use Rattle.ops.proofs.coordinates.MeanElements.place as this
 
 pub place-spec : {M : Type 1} → this.Statement.statement M
 unfolding meanPlaceOf

@@ -1,4 +1,4 @@
-use Rattle.ops.proofs.coordinates.MeanSun.new as this
+use Rattle.ops.proofs.coordinates.MeanElements.new as this
 
 pub new-spec : {M : Type 1} → this.Statement.statement M
 new-spec =
