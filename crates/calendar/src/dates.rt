@@ -12,7 +12,7 @@ use super::years::is_leap_year;
 const SHORTEST_MONTH: u32 = 28;
 
 #[repr(C)]
-#[derive(Drop)]
+#[derive(Clone, Copy)]
 pub struct Date {
     pub year: u32,
     pub month: u32,

@@ -1,5 +1,7 @@
 // Reads an order from standard input and writes the cells of all its pages for the embosser, one byte a cell. The buffer has one byte
 // more than an order may have, so that a longer order is refused.
+#![tactic(auto)]
+
 use pages::report::write_pages;
 
 fn main() {

@@ -10,19 +10,19 @@ use schedule::in_force::{Current, HoursMinutes, IN_SECOND, Instant, Remaining};
 use schedule::prayer_times::{PrayerTimes, Worked};
 
 // None in force is an answer, and no refusal.
-#[derive(Drop)]
+#[derive(Clone, Copy)]
 pub enum InForce {
     Prayer(Current),
     Refused(Refusal),
 }
 
-#[derive(Drop)]
+#[derive(Clone, Copy)]
 pub enum NextPrayer {
     Prayer(Prayer),
     Refused(Refusal),
 }
 
-#[derive(Drop)]
+#[derive(Clone, Copy)]
 pub enum TimeUntil {
     Time(HoursMinutes),
     Refused(Refusal),

@@ -28,14 +28,14 @@ const PIO2_3: f64 = 2.02226624871116645580e-21; // 0x3ba3198a 2e000000
 const PIO2_3T: f64 = 8.47842766036889956997e-32; // 0x397b839a 252049c1
 
 // A difference or a sum that is still in two parts.
-#[derive(Drop)]
+#[derive(Clone, Copy)]
 pub struct Parts {
     pub r: f64,
     pub w: f64,
 }
 
 // n quarter turns, as n's remainder by 4, and the rest of the angle: y0 with its tail y1.
-#[derive(Drop)]
+#[derive(Clone, Copy)]
 pub struct Reduced {
     pub n: u32,
     pub y0: f64,

@@ -1,5 +1,7 @@
 // Sun's fdlibm 5.3, the sine, the cosine and the tangent: a module for each of its files.
 // The definitions in specs/ have the same names, operation by operation.
+#![tactic(auto)]
+
 pub mod e_rem_pio2;
 pub mod k_cos;
 pub mod k_sin;

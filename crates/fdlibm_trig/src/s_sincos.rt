@@ -14,7 +14,7 @@ const ONE: f64 = 1.0;
 
 const SEVENTY: f64 = 70.0;
 
-#[derive(Drop)]
+#[derive(Clone, Copy)]
 pub struct Both {
     pub sin: f64,
     pub cos: f64,

@@ -8,21 +8,21 @@ use refusals::Refusal;
 
 // Where a value is in its order. Both are 0 if there is none: no value begins at 0, because its header is before it.
 #[repr(C)]
-#[derive(Drop)]
+#[derive(Clone, Copy)]
 pub struct Part {
     pub at: u32,
     pub length: u32,
 }
 
 // The part of each tag, by tag. A u16 and a u8 are enough: no order is longer than LONGEST_ORDER, and no value than LONGEST_TOWN.
-#[derive(Drop)]
+#[derive(Clone, Copy)]
 pub struct Fields {
     pub at: [u16; TAGS],
     pub length: [u8; TAGS],
 }
 
 // The refusal of the fields' form, and the fields if nothing is refused.
-#[derive(Drop)]
+#[derive(Clone, Copy)]
 pub struct Checked {
     pub refusal: Refusal,
     pub fields: Fields,

@@ -13,7 +13,7 @@ use refusals::{BUFFER_SHORT, LOG_COUNT_OUTSIDE, LOG_OUT_OF_TURN, LOG_SECOND_SHOR
 // What each call returns. `number` is 0, or that of a refusal; then `place` is its place and every other field is 0. `moved` is 1 if the
 // log is now in the second buffer.
 #[repr(C)]
-#[derive(Drop)]
+#[derive(Clone, Copy)]
 pub struct Log {
     pub number: u32,
     pub place: u32,

@@ -1,4 +1,6 @@
 // What a host calls from C (added). Each result is a struct by value, as include/katchidul.h declares it, and has a module of its own.
+#![tactic(auto)]
+
 pub mod job_log;
 pub mod map;
 pub mod prayer_at;

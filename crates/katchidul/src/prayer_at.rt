@@ -9,7 +9,7 @@ use refusals::Refusal;
 use schedule::in_force::{Current, Instant};
 
 #[repr(C)]
-#[derive(Drop)]
+#[derive(Clone, Copy)]
 pub struct KatchidulPrayer {
     pub refusal: Refusal,
     pub prayer: u32,

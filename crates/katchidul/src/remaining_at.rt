@@ -9,7 +9,7 @@ use refusals::Refusal;
 use schedule::in_force::HoursMinutes;
 
 #[repr(C)]
-#[derive(Drop)]
+#[derive(Clone, Copy)]
 pub struct KatchidulRemaining {
     pub refusal: Refusal,
     pub time: HoursMinutes,

@@ -8,7 +8,7 @@ use schedule::prayer_times::{PrayerTimes, Worked};
 
 // In C the times are an array of nine.
 #[repr(C)]
-#[derive(Drop)]
+#[derive(Clone, Copy)]
 pub struct KatchidulDay {
     pub refusal: Refusal,
     pub times: PrayerTimes,

@@ -44,7 +44,7 @@ fn size(days: i64) -> u64
 }
 
 // A time by the sign and the digit of its days, and the second of its day.
-#[derive(Drop)]
+#[derive(Clone, Copy)]
 struct Moment {
     sign: u8,
     days: u8,
@@ -104,7 +104,7 @@ fn compared(time: i64) -> Moment
     divided(time)
 }
 
-#[derive(Drop)]
+#[derive(Clone, Copy)]
 struct TwoDigits {
     tens: u8,
     units: u8,

@@ -1,4 +1,6 @@
 // A coordinate as on the map (added): a sign, degrees, minutes, seconds and hundredths of a second, to degrees as an f64 and back.
+#![tactic(auto)]
+
 mod hundredths;
 pub mod reading;
 pub mod writing;
@@ -18,7 +20,7 @@ const IN_DEGREE: u64 = 360000;
 
 // The sign 1 is south or west. Each part may be any number here; `latitude_fits` and `longitude_fits` say which are allowed.
 #[repr(C)]
-#[derive(Drop)]
+#[derive(Clone, Copy)]
 pub struct MapForm {
     pub sign: u32,
     pub degrees: u32,

@@ -12,7 +12,7 @@ use float64::words::is_negative;
 use refusals::{OUT_OF_RANGE, Refusal};
 
 #[repr(C)]
-#[derive(Drop)]
+#[derive(Clone, Copy)]
 pub struct Written {
     pub refusal: Refusal,
     pub form: MapForm,

@@ -3,7 +3,7 @@ ghost use Rattle.std.specs.Prelude.{◌≡◌};
 ghost use Rattle.models.specs.Minutes.{six_minutes_of, no_minutes, builder_of};
 
 #[repr(C)]
-#[derive(Drop)]
+#[derive(Clone, Copy)]
 pub struct TimeAdjustment {
     pub fajr: i32,
     pub sunrise: i32,
@@ -51,7 +51,7 @@ impl TimeAdjustment {
 }
 
 // Builds a TimeAdjustment, a field at a time.
-#[derive(Drop)]
+#[derive(Clone, Copy)]
 pub struct Adjustment {
     pub minutes: TimeAdjustment,
 }

@@ -5,7 +5,7 @@ ghost use Rattle.models.specs.Recommended.{recommended_of};
 
 use unit::Coordinates;
 
-#[derive(Drop)]
+#[derive(Clone, Copy)]
 pub enum HighLatitudeRule {
     // Fajr is never before the middle of the night, and Isha never after it.
     MiddleOfTheNight,

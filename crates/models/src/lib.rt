@@ -1,4 +1,6 @@
 // models/: what a school chooses, and the names of the prayers. A module for each of the crate's files, and `rules` and `setting` (added).
+#![tactic(auto)]
+
 pub mod adjustments;
 pub mod high_altitude_rule;
 pub mod madhab;

@@ -2,7 +2,7 @@
 ghost use Rattle.std.specs.Prelude.{◌≡◌, pos};
 ghost use Rattle.models.specs.Numbers.{madhab_number_of, madhab_of};
 
-#[derive(Drop)]
+#[derive(Clone, Copy)]
 pub enum Madhab {
     Shafi,
     Hanafi,

@@ -10,7 +10,7 @@ use super::adjustments::TimeAdjustment;
 use super::parameters::{Configuration, Parameters};
 use super::rounding::Rounding;
 
-#[derive(Drop)]
+#[derive(Clone, Copy)]
 pub enum Method {
     // Muslim World League.
     MuslimWorldLeague,

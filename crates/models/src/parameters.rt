@@ -14,7 +14,7 @@ use super::prayer::Prayer;
 use super::rounding::Rounding;
 use super::shafaq::Shafaq;
 
-#[derive(Drop)]
+#[derive(Clone, Copy)]
 pub struct Parameters {
     pub method: Method,
     pub fajr_angle: f64,
@@ -52,7 +52,7 @@ fn minutes_for(prayer: Prayer, minutes: TimeAdjustment) -> i32
     }
 }
 
-#[derive(Drop)]
+#[derive(Clone, Copy)]
 pub struct NightPortions {
     pub fajr: f64,
     pub isha: f64,
@@ -154,7 +154,7 @@ impl Parameters {
 }
 
 // Builds Parameters, a field at a time.
-#[derive(Drop)]
+#[derive(Clone, Copy)]
 pub struct Configuration {
     pub parameters: Parameters,
 }

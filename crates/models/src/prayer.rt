@@ -6,7 +6,7 @@ ghost use Rattle.models.specs.Names.{is_friday_of, prayer_name_of, letters_of};
 use calendar::dates::weekday;
 use calendar::instants::day_of;
 
-#[derive(Drop)]
+#[derive(Clone, Copy)]
 pub enum Prayer {
     Fajr,
     Sunrise,
@@ -19,7 +19,7 @@ pub enum Prayer {
 }
 
 // The names. Friday's Dhuhr has a name of its own.
-#[derive(Drop)]
+#[derive(Clone, Copy)]
 pub enum Name {
     Fajr,
     Sunrise,

@@ -2,7 +2,7 @@
 ghost use Rattle.std.specs.Prelude.{◌≡◌};
 ghost use Rattle.models.specs.Numbers.{rounding_number_of, rounding_of};
 
-#[derive(Drop)]
+#[derive(Clone, Copy)]
 pub enum Rounding {
     Nearest,
     Up,

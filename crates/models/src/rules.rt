@@ -4,7 +4,7 @@ ghost use Rattle.models.specs.Numbers.{midnight_number_of, midnight_of, southern
 ghost use Rattle.models.specs.Chosen.{source_rules};
 
 // What an hour number that rounds to hour 24 gives.
-#[derive(Drop)]
+#[derive(Clone, Copy)]
 pub enum Midnight {
     // It has no time: the source's rule.
     Stops,
@@ -35,7 +35,7 @@ impl Midnight {
 }
 
 // How the days of the season are counted south of the equator.
-#[derive(Drop)]
+#[derive(Clone, Copy)]
 pub enum Southern {
     // From the June solstice, and not reduced: the source's count.
     Unreduced,
@@ -65,14 +65,14 @@ impl Southern {
     }
 }
 
-#[derive(Drop)]
+#[derive(Clone, Copy)]
 pub struct Rules {
     pub midnight: Midnight,
     pub southern: Southern,
 }
 
 // What the season depends on besides the date.
-#[derive(Drop)]
+#[derive(Clone, Copy)]
 pub struct Season {
     pub latitude: f64,
     pub southern: Southern,

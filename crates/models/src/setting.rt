@@ -7,7 +7,7 @@ use super::parameters::Parameters;
 use super::rules::{Rules, Season};
 use unit::Coordinates;
 
-#[derive(Drop)]
+#[derive(Clone, Copy)]
 pub struct Setting {
     pub coordinates: Coordinates,
     pub parameters: Parameters,

@@ -2,7 +2,7 @@
 ghost use Rattle.std.specs.Prelude.{◌≡◌};
 ghost use Rattle.models.specs.Numbers.{shafaq_number_of, shafaq_of};
 
-#[derive(Drop)]
+#[derive(Clone, Copy)]
 pub enum Shafaq {
     // A combination of the other two.
     General,

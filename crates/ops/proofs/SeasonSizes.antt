@@ -27,9 +27,6 @@ pub record Bounded (v : TwilightAdjustmentValues) : Type 0 where
   pub third : Within v.c 255 1
   pub fourth : Within v.d 255 1
 
-four : {v : TwilightAdjustmentValues} → Within v.a 165 1 → Within v.b 165 1 → Within v.c 255 1 → Within v.d 255 1 → Bounded v
-four first second third fourth = record { first = first; second = second; third = third; fourth = fourth }
-
 -- a slope of n thousandths for 55 degrees, no more than s minutes a degree
 module _ (x : Float) (h : Within x 90 1) where
   change-within : (n s : ℕ) → n ≤ 55000 * s → s ≤ 2 → Within (dec n 3 /ᶠ dec 55 0 *ᶠ abs_of x) (s * 90) 1
@@ -53,14 +50,30 @@ module _ (x : Float) (h : Within x 90 1) where
 
   pub values-bounded : (t : AdjustmentDaytime) (s : Shafaq) → Bounded (twilight_adjustment_values_of t x s)
   unfolding twilight_adjustment_values_of evening_values_of dec
-  values-bounded Morning s =
-      four (up 75 28650 1 tt tt tt) (up 75 19440 1 tt tt tt) (up 75 32740 2 tt tt tt) (up 75 48100 2 tt tt tt)
-  values-bounded Evening General =
-      four (up 75 25600 1 tt tt tt) (up 75 2050 1 tt tt tt) (down 75 9210 2 tt tt tt) (up 75 6140 2 tt tt tt)
-  values-bounded Evening Ahmer =
-      four (up 62 17400 1 tt tt tt) (down 62 7160 1 tt tt tt) (up 62 5120 2 tt tt tt) (up 62 19440 2 tt tt tt)
-  values-bounded Evening Abyad =
-      four (up 75 25600 1 tt tt tt) (up 75 7160 1 tt tt tt) (up 75 36840 2 tt tt tt) (up 75 81840 2 tt tt tt)
+  values-bounded Morning s = record {
+    first = up 75 28650 1 tt tt tt;
+    second = up 75 19440 1 tt tt tt;
+    third = up 75 32740 2 tt tt tt;
+    fourth = up 75 48100 2 tt tt tt;
+  }
+  values-bounded Evening General = record {
+    first = up 75 25600 1 tt tt tt;
+    second = up 75 2050 1 tt tt tt;
+    third = down 75 9210 2 tt tt tt;
+    fourth = up 75 6140 2 tt tt tt;
+  }
+  values-bounded Evening Ahmer = record {
+    first = up 62 17400 1 tt tt tt;
+    second = down 62 7160 1 tt tt tt;
+    third = up 62 5120 2 tt tt tt;
+    fourth = up 62 19440 2 tt tt tt;
+  }
+  values-bounded Evening Abyad = record {
+    first = up 75 25600 1 tt tt tt;
+    second = up 75 7160 1 tt tt tt;
+    third = up 75 36840 2 tt tt tt;
+    fourth = up 75 81840 2 tt tt tt;
+  }
 
 -- ---- the days
 -- of whole numbers, the test says what it seems to

@@ -105,23 +105,18 @@ abbrev pub course_of : Observer → Angle → Equatorial → Equatorial → Equa
 course_of observer sidereal previous today next =
     course_through_of (transit_from_of observer.west sidereal today.right_ascension) observer sidereal previous today next
 
--- the sun's hour angle at m, from its right ascension there
-unfoldable pub hour_angle_of : Angle → Angle → Angle → Float → Angle
+-- the sun's hour angle at m
+unfoldable pub hour_angle_of : Course → Float → Angle
 unfolding dec
-hour_angle_of sidereal west ascension m =
-    let plane = unwound_of (angle_of (sidereal.degrees +ᶠ dec 360985647 6 *ᶠ m)) in
-    minus_of (minus_of plane west) (unwound_of ascension)
-
--- the same of a course
-abbrev pub course_hour_angle_of : Course → Float → Angle
-course_hour_angle_of c m =
-    hour_angle_of c.sidereal_time c.observer.west (angle_of (interpolated_of c.right_ascension m)) m
+hour_angle_of c m =
+    let plane = unwound_of (angle_of (c.sidereal_time.degrees +ᶠ dec 360985647 6 *ᶠ m)) in
+    minus_of (minus_of plane c.observer.west) (unwound_of (angle_of (interpolated_of c.right_ascension m)))
 
 -- the hour number of the transit
 unfoldable pub course_transit_number_of : Course → Float
 unfolding dec
 course_transit_number_of c =
-    let delta = over_of (quadrant_shifted_of (course_hour_angle_of c c.transit)) (angle_of (neg (dec 360 0))) in
+    let delta = over_of (quadrant_shifted_of (hour_angle_of c c.transit)) (angle_of (neg (dec 360 0))) in
     (c.transit +ᶠ delta.degrees) *ᶠ dec 24 0
 
 -- how much of a turn lies between the transit and an altitude, in degrees: from the altitude's sine, and from the altitude
@@ -141,7 +136,7 @@ unfoldable pub hour_number_of : Course → Angle → Float → Bool → Float
 unfolding dec
 hour_number_of c angle arc after =
     let m = moved_transit_of c.transit arc after in
-    let hour = radians_of (course_hour_angle_of c m) in
+    let hour = radians_of (hour_angle_of c m) in
     let declination = radians_of (angle_of (interpolated_of c.declination m)) in
     let cosine = cos_of declination in
     let term1 = c.observer.sine *ᶠ sin_of declination in

@@ -15,7 +15,7 @@ use fdlibm_trig::s_sincos::sincos;
 use julian::day::date_julian_day;
 use unit::Angle;
 
-#[derive(Drop)]
+#[derive(Clone, Copy)]
 pub struct SolarCoordinates {
     // The angle between the rays of the sun and the plane of the equator.
     pub declination: Angle,
@@ -26,7 +26,7 @@ pub struct SolarCoordinates {
 }
 
 // The position without the sidereal time: all that a course takes of the days beside its own.
-#[derive(Drop)]
+#[derive(Clone, Copy)]
 pub struct Equatorial {
     pub declination: Angle,
     pub right_ascension: Angle,
@@ -62,7 +62,7 @@ fn apparent_sidereal_time(
 }
 
 // What the position and the sidereal time of a day both begin with.
-#[derive(Drop)]
+#[derive(Clone, Copy)]
 pub struct MeanElements {
     pub century: f64,
     pub longitude: Angle,

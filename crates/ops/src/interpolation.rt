@@ -6,7 +6,7 @@ ghost use Rattle.ops.specs.Shared.{differences_of, angle_differences_of, interpo
 use unit::Angle;
 
 // A value and the differences to its equidistant neighbours: a + b and c.
-#[derive(Drop)]
+#[derive(Clone, Copy)]
 pub struct Interpolation {
     pub value: f64,
     pub sum: f64,

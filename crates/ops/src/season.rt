@@ -15,14 +15,14 @@ use models::rules::{Season, Southern};
 use models::shafaq::Shafaq;
 use whole_minutes::times::{plus, rounded_minute};
 
-#[derive(Drop)]
+#[derive(Clone, Copy)]
 pub enum AdjustmentDaytime {
     Morning,
     Evening,
 }
 
 // Observed minutes at four points of the year.
-#[derive(Drop)]
+#[derive(Clone, Copy)]
 pub struct TwilightAdjustmentValues {
     pub a: f64,
     pub b: f64,

@@ -142,7 +142,7 @@ pub fn apparent_obliquity_of_the_ecliptic(
     corrected_obliquity(julian_century, mean_obliquity_of_the_ecliptic, node)
 }
 
-#[derive(Drop)]
+#[derive(Clone, Copy)]
 pub struct Apparent {
     pub longitude: Angle,
     pub obliquity: Angle,
@@ -178,7 +178,7 @@ pub fn mean_sidereal_time(julian_century: f64) -> Angle
 }
 
 // In degrees.
-#[derive(Drop)]
+#[derive(Clone, Copy)]
 pub struct Nutation {
     pub longitude: f64,
     pub obliquity: f64,

@@ -51,16 +51,8 @@ pub fn approximate_transit(longitude: Angle, sidereal_time: Angle, right_ascensi
     transit_from(west(longitude), sidereal_time, right_ascension)
 }
 
-// The sun's hour angle at a fraction of the day, from its right ascension there and the longitude counted to the west.
-fn hour_angle(sidereal_time: Angle, west: Angle, right_ascension: Angle, at: f64) -> Angle
-    ensures { result ≡ hour_angle_of sidereal_time west right_ascension at }
-{
-    let plane_angle = Angle::new(sidereal_time.degrees + (360.985647 * at)).unwound();
-    plane_angle.sub(west).sub(right_ascension.unwound())
-}
-
 // A place, with what its latitude brings.
-#[derive(Drop)]
+#[derive(Clone, Copy)]
 pub struct Observer {
     pub west: Angle,
     pub sine: f64,
@@ -82,7 +74,7 @@ impl Observer {
 }
 
 // The sun's course over a place on a day.
-#[derive(Drop)]
+#[derive(Clone, Copy)]
 pub struct Course {
     pub observer: Observer,
     pub transit: f64,
@@ -142,20 +134,25 @@ impl Course {
         Course::through(transit, observer, sidereal_time, previous, today, next)
     }
 
+    // The sun's hour angle at a fraction of the day.
+    fn hour_angle(self, at: f64) -> Angle
+        ensures { result ≡ hour_angle_of self at }
+    {
+        let sidereal_time = self.sidereal_time;
+        let right_ascension = self.right_ascension;
+        let observer = self.observer;
+        let west = observer.west;
+        let plane_angle = Angle::new(sidereal_time.degrees + (360.985647 * at)).unwound();
+        let interpolated_angles = Angle::new(right_ascension.at(at)).unwound();
+        plane_angle.sub(west).sub(interpolated_angles)
+    }
+
     // The hour number of the transit.
     pub fn transit_number(self) -> f64
         ensures { result ≡ course_transit_number_of self }
     {
         let transit = self.transit;
-        let observer = self.observer;
-        let ascension = self.right_ascension;
-        let right_ascension = Angle::new(ascension.at(transit));
-        let angles = hour_angle(
-            self.sidereal_time,
-            observer.west,
-            right_ascension,
-            transit,
-        ).quadrant_shifted();
+        let angles = self.hour_angle(transit).quadrant_shifted();
         let angle_delta = angles.div(Angle::new(-360.0));
         (transit + angle_delta.degrees) * 24.0
     }
@@ -181,14 +178,9 @@ impl Course {
     {
         let at = moved_transit(self.transit, arc, after_transit);
         let observer = self.observer;
-        let ascension = self.right_ascension;
         let interpolation = self.declination;
-        // Both angles are worked before the first sine, so that fewer numbers wait in memory.
-        let right_ascension = Angle::new(ascension.at(at));
-        let declination_there = Angle::new(interpolation.at(at)).radians();
-        let local_hour_angle = hour_angle(self.sidereal_time, observer.west, right_ascension, at);
-        let hour = sincos(local_hour_angle.radians());
-        let declination = sincos(declination_there);
+        let hour = sincos(self.hour_angle(at).radians());
+        let declination = sincos(Angle::new(interpolation.at(at)).radians());
         let cosine = declination.cos;
         let term1 = observer.sine * declination.sin;
         let term2 = observer.cosine * cosine * hour.cos;
@@ -221,20 +213,20 @@ pub fn corrected_transit(
     ensures { result ≡ corrected_transit_of approximate_transit longitude sidereal_time right_ascension previous_right_ascension
         next_right_ascension }
 {
+    let plane_angle = Angle::new(
+        sidereal_time.degrees + (360.985647 * approximate_transit),
+    ).unwound();
     let interpolated_angles = interpolate_angles(
         right_ascension,
         previous_right_ascension,
         next_right_ascension,
         approximate_transit,
-    );
-    let west = west(longitude);
-    let angles = hour_angle(
-        sidereal_time,
-        west,
-        interpolated_angles,
-        approximate_transit,
     )
-    .quadrant_shifted();
+    .unwound();
+    let angles = plane_angle
+        .sub(west(longitude))
+        .sub(interpolated_angles)
+        .quadrant_shifted();
     let angle_delta = angles.div(Angle::new(-360.0));
     (approximate_transit + angle_delta.degrees) * 24.0
 }

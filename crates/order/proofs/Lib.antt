@@ -3,5 +3,4 @@ pub mod Text
 pub mod ReadingLaws
 pub mod RowDates
 pub mod AcceptedLaws
-pub mod InRange
 pub mod Answers

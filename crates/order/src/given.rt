@@ -1,14 +1,13 @@
 // What each tag's value gives if it is in range, and what a missing tag means.
-ghost use Rattle.std.specs.Prelude.{◌≡◌, cond, ltb};
-ghost use Rattle.fields.specs.Values.{part_in, values_in};
-ghost use Rattle.map_form.specs.Hundredths.{signed_hundredths_of, degrees_of};
-ghost use Rattle.order.specs.Given.{date_in, rows_in, degrees_in, form_in, minutes_in, byte_or, degrees_or, rounding_or};
+ghost use Rattle.std.specs.Prelude.{◌≡◌};
+ghost use Rattle.fields.specs.Values.{values_in};
+ghost use Rattle.order.specs.Given.{date_in, rows_in, degrees_in, form_in, coordinate_in, minutes_in, byte_or, degrees_or, rounding_or};
 ghost use Rattle.order.specs.Given.{minutes_or, interval_or, parameters_in, rules_in, clock_in, ramadan_in};
 
 use calendar::dates::Date;
 use fields::numbers::{byte, float, signed, unsigned};
 use fields::tags;
-use fields::values::{Fields, Part, bytes, value};
+use fields::values::{Fields, value};
 use hijri::ramadan::Ramadan;
 use map_form::MapForm;
 use map_form::reading::degrees_of;
@@ -57,15 +56,14 @@ pub fn form_in(bytes: &[u8]) -> MapForm
     }
 }
 
-// A coordinate in either form: as on the map if the order has the part `map`, else the float of the part `float`.
-pub(crate) fn coordinate_in(order: &[u8], float: Part, map: Part) -> f64
-    ensures { let v = part_in order.now in
-        result ≡ cond (ltb 0 map.at) (degrees_of (signed_hundredths_of (form_in (v map)))) (degrees_in (v float)) }
+// A coordinate in either form: as on the map if the order has the tag `map`, else the float of the tag `float`.
+pub fn coordinate_in(order: &[u8], fields: Fields, float: u32, map: u32) -> f64
+    ensures { result ≡ coordinate_in (values_in order.now fields) float map }
 {
-    if map.at > 0 {
-        degrees_of(form_in(bytes(order, map)))
+    if fields.has(map) {
+        degrees_of(form_in(value(order, fields, map)))
     } else {
-        degrees_in(bytes(order, float))
+        degrees_in(value(order, fields, float))
     }
 }
 
@@ -82,7 +80,7 @@ pub fn minutes_in(bytes: &[u8]) -> TimeAdjustment
     )
 }
 
-pub(crate) fn byte_or(order: &[u8], fields: Fields, tag: u32, missing: u32) -> u32
+fn byte_or(order: &[u8], fields: Fields, tag: u32, missing: u32) -> u32
     ensures { result ≡ byte_or (values_in order.now fields) tag missing }
 {
     if fields.has(tag) {

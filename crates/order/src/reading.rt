@@ -1,21 +1,24 @@
 // Reading an order. The checks, in this order: the form of its fields, missing tags, coordinates in both forms, ranges, the first day of a
 // Ramadan sheet.
 ghost use Rattle.std.specs.Prelude.{◌≡◌};
+ghost use Rattle.fields.specs.Tags.{date_tag};
 ghost use Rattle.fields.specs.Values.{has_in, values_in};
-ghost use Rattle.order.specs.Reading.{is_given_of, missing_of, both_forms_of, order_of, wrong_start_of, first_of, checks_of};
+ghost use Rattle.order.specs.Given.{date_in};
+ghost use Rattle.order.specs.Reading.{is_given_of, missing_of, both_forms_of, out_of_range_of, order_of, wrong_start_of, first_of, checks_of};
 ghost use Rattle.order.specs.Reading.{reading_of, town_in};
 
 use super::given::{
     clock_in, coordinate_in, date_in, parameters_in, ramadan_in, rows_in, rules_in,
 };
-use super::ranges::out_of_range;
+use super::ranges::in_range;
 use calendar::dates::Date;
 use fields::one_pass::fields_of;
 use fields::tags;
+use fields::tags::LAST_TAG;
 use fields::values::{Fields, Part, bytes, value};
 use hijri::ramadan::{Ramadan, is_ramadan_start};
 use models::setting::Setting;
-use refusals::{BOTH_FORMS, NOT_FIRST_OF_RAMADAN, Refusal, TAG_MISSING};
+use refusals::{BOTH_FORMS, NOT_FIRST_OF_RAMADAN, OUT_OF_RANGE, Refusal, TAG_MISSING};
 use unit::Coordinates;
 
 // The most rows that an order has.
@@ -35,7 +38,7 @@ const REQUIRED: [u32; 6] = [
 ];
 
 // What an order asks for: a timetable of `rows` rows from a date on, for a place. The town is a part of the order's own bytes.
-#[derive(Drop)]
+#[derive(Clone, Copy)]
 pub struct Order {
     pub town: Part,
     pub date: Date,
@@ -46,7 +49,7 @@ pub struct Order {
     pub ramadan: Ramadan,
 }
 
-#[derive(Drop)]
+#[derive(Clone, Copy)]
 pub enum Reading {
     Read(Order),
     Refused(Refusal),
@@ -91,6 +94,28 @@ fn both_forms(fields: Fields) -> Refusal
     Refusal::none()
 }
 
+// The refusal of the lowest tag whose value is out of range. The date is passed on, since the record has read it.
+fn out_of_range(order: &[u8], fields: Fields, date: Date) -> Refusal
+    requires { date ≡ date_in ((values_in order.now fields).value date_tag) }
+    ensures { result ≡ out_of_range_of (values_in order.now fields) }
+{
+    let ramadan = fields.has(tags::RAMADAN);
+    let mut passed = 0;
+    while passed < LAST_TAG {
+        let tag = passed + 1;
+        let row = tag as usize;
+        let part = Part {
+            at: fields.at[row] as u32,
+            length: fields.length[row] as u32,
+        };
+        if !in_range(tag, order, part, date, ramadan) {
+            return Refusal::new(OUT_OF_RANGE, tag);
+        }
+        passed = tag;
+    }
+    Refusal::none()
+}
+
 fn record_in(order: &[u8], fields: Fields) -> Order
     ensures { result ≡ order_of (values_in order.now fields) }
 {
@@ -100,16 +125,8 @@ fn record_in(order: &[u8], fields: Fields) -> Order
         rows: rows_in(value(order, fields, tags::ROWS)),
         setting: Setting {
             coordinates: Coordinates::new(
-                coordinate_in(
-                    order,
-                    fields.part(tags::LATITUDE),
-                    fields.part(map_form::LATITUDE),
-                ),
-                coordinate_in(
-                    order,
-                    fields.part(tags::LONGITUDE),
-                    fields.part(map_form::LONGITUDE),
-                ),
+                coordinate_in(order, fields, tags::LATITUDE, map_form::LATITUDE),
+                coordinate_in(order, fields, tags::LONGITUDE, map_form::LONGITUDE),
             ),
             parameters: parameters_in(order, fields),
             rules: rules_in(order, fields),
@@ -139,7 +156,7 @@ pub(crate) fn answer(order: &[u8], fields: Fields) -> Reading
     let record = record_in(order, fields);
     let refusal = missing(fields)
         .or(both_forms(fields))
-        .or(out_of_range(order, fields, record))
+        .or(out_of_range(order, fields, record.date))
         .or(wrong_start(record.ramadan, record.date));
     if refusal.number != 0 {
         return Reading::Refused(refusal);

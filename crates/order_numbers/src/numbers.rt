@@ -14,7 +14,7 @@ use unit::Coordinates;
 
 // What tags 15 to 17 and 20 choose. In C these are six fields of the order.
 #[repr(C)]
-#[derive(Drop)]
+#[derive(Clone, Copy)]
 pub struct Choices {
     pub carry: u32,
     pub clock: i32,
@@ -25,7 +25,7 @@ pub struct Choices {
 }
 
 #[repr(C)]
-#[derive(Drop)]
+#[derive(Clone, Copy)]
 pub struct OrderNumbers {
     pub refusal: Refusal,
     pub town: Part,

@@ -12,7 +12,7 @@ use text::put::put;
 
 // What writing returns: the refusal, or how many bytes the order has.
 #[repr(C)]
-#[derive(Drop)]
+#[derive(Clone, Copy)]
 pub struct WrittenOrder {
     pub refusal: Refusal,
     pub length: u32,

@@ -6,7 +6,7 @@ use refusals::Refusal;
 
 // How many rows were written, and their dots. Both are 0 if the call is refused.
 #[repr(C)]
-#[derive(Drop)]
+#[derive(Clone, Copy)]
 pub struct Punched {
     pub refusal: Refusal,
     pub rows: u32,

@@ -198,7 +198,7 @@ pub extern "C" fn probe_afternoon_number(
 
 // A time. If there is none, `seconds` is 0.
 #[repr(C)]
-#[derive(Drop)]
+#[derive(Clone, Copy)]
 pub struct ProbeTime {
     pub found: bool,
     pub seconds: i32,

@@ -10,7 +10,7 @@ use order_numbers::numbers::{OrderNumbers, numbers_of};
 
 // What a host gets, and what the method brings to the record: 0 if the order is refused.
 #[repr(C)]
-#[derive(Drop)]
+#[derive(Clone, Copy)]
 pub struct ProbeOrder {
     pub numbers: OrderNumbers,
     pub maghrib_angle: f64,

@@ -26,7 +26,7 @@ use unit::Coordinates;
 
 // What an order can set, by its numbers. Only the method's own minutes come from the method.
 #[repr(C)]
-#[derive(Drop)]
+#[derive(Clone, Copy)]
 pub struct ProbeSettings {
     pub method: u32,
     pub madhab: u32,
@@ -41,7 +41,7 @@ pub struct ProbeSettings {
 
 // The rules by their numbers.
 #[repr(C)]
-#[derive(Drop)]
+#[derive(Clone, Copy)]
 pub struct ProbeRules {
     pub carry: u32,
     pub southern: u32,
@@ -49,7 +49,7 @@ pub struct ProbeRules {
 
 // A refusal's number and place, and times that are 0; or 0, 0 and the times.
 #[repr(C)]
-#[derive(Drop)]
+#[derive(Clone, Copy)]
 pub struct ProbeDay {
     pub refusal: Refusal,
     pub times: PrayerTimes,
@@ -185,7 +185,7 @@ pub extern "C" fn probe_next(times: PrayerTimes, seconds: i64, nanoseconds: u32)
 
 // The time until the next prayer. If none is in force, `found` is false and the numbers are 0.
 #[repr(C)]
-#[derive(Drop)]
+#[derive(Clone, Copy)]
 pub struct ProbeRemaining {
     pub found: bool,
     pub hours: u32,

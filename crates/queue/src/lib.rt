@@ -1,4 +1,6 @@
 // The print queue (added): a value that the host keeps. A job joins at the back. A turn sends one page of the job at the front.
+#![tactic(auto)]
+
 ghost use Rattle.std.specs.Prelude.{◌≡◌, ◌-◌, ◌≤◌, ◌<◌};
 ghost use Rattle.std.proofs.Math.Seq.{slice};
 ghost use Rattle.prelude.specs.Lists.{listed};
@@ -16,7 +18,7 @@ const MOST_PAGES: u32 = 16;
 
 // How many jobs wait, and each one's id and pages left, with the front job first. The rest of the arrays is 0.
 #[repr(C)]
-#[derive(Drop)]
+#[derive(Clone, Copy)]
 pub struct Queue {
     pub jobs: u32,
     pub ids: [u32; MOST_JOBS],
@@ -24,7 +26,7 @@ pub struct Queue {
 }
 
 #[repr(C)]
-#[derive(Drop)]
+#[derive(Clone, Copy)]
 pub struct Joined {
     pub refusal: Refusal,
     pub queue: Queue,
@@ -32,7 +34,7 @@ pub struct Joined {
 
 // The job whose page was sent, and its pages then left. Both are 0 if no job waits.
 #[repr(C)]
-#[derive(Drop)]
+#[derive(Clone, Copy)]
 pub struct Turned {
     pub id: u32,
     pub pages: u32,

@@ -1,5 +1,7 @@
 // Refusals (added): a number, 0 if nothing is refused, and a place. This is the one table of the numbers. A test compares the header with
 // it. Each number has its condition, and after the colon its place.
+#![tactic(auto)]
+
 ghost use Rattle.std.specs.Prelude.{◌≡◌};
 ghost use Rattle.refusals.specs.Refusals.{refusal, no_refusal, or_of};
 
@@ -56,7 +58,7 @@ pub const JOB_UNFIT: u32 = 17;
 pub const NOT_FIRST_OF_RAMADAN: u32 = 18;
 
 #[repr(C)]
-#[derive(Drop)]
+#[derive(Clone, Copy)]
 pub struct Refusal {
     pub number: u32,
     pub place: u32,

@@ -7,7 +7,6 @@ use Rattle.calendar.specs.declared.dates.Date.{Date}
 use Rattle.models.specs.declared.setting.Setting.{Setting}
 use Rattle.models.specs.Chosen.{season_of}
 use Rattle.julian.proofs.JulianLaws.{julian_tomorrow}
-use Rattle.ops.proofs.SharedLaws.{mean_place, mean_sidereal}
 use Rattle.schedule.proofs.Schedule.{fajr-alone, fajr_in, hours_of, numbers_of, since_of, started_in, row_shared, since-unasked}
 use Rattle.schedule.specs.Times.{since_at, worked_at}
 use Rattle.schedule.specs.declared.hours.RowHours.{RowHours}
@@ -60,4 +59,4 @@ rolls date s h from to =
     let b = follows next a.0 (omega arith) in
     let c = follows second b.0 (omega arith) in
     let fourth = julian_tomorrow (tomorrow_of second) c.0 (omega arith) (omega arith) in
-    simp (back_to second (omega arith), fourth, mean_place, mean_sidereal)
+    simp (back_to second (omega arith), fourth)

@@ -1,11 +1,10 @@
 -- What the functions of this crate and the crates above use of it, from one place. Nothing is added.
-pub use Rattle.schedule.proofs.FajrLaws.{within, fajr-alone}
+pub use Rattle.schedule.proofs.FajrLaws.{fajr-alone}
 pub use Rattle.schedule.proofs.Promises.{of_near, held_middle, held_last_third, both, on_start, held_seventh}
 pub use Rattle.schedule.proofs.SharedLaws.{row_shared, since-unasked}
 pub use Rattle.schedule.proofs.Short.{short_near, short_is}
 pub use Rattle.schedule.proofs.Starts.{start_near}
-unfoldable pub use Rattle.schedule.specs.Fajr.{fajr_in}
-unfoldable pub use Rattle.schedule.specs.FajrWorked.{bound_within_of, fajr_within_of, fajr_alone_of}
+unfoldable pub use Rattle.schedule.specs.Fajr.{fajr_in, fajr_alone_of}
 unfoldable pub use Rattle.schedule.specs.Hours.{hours_of, suns_of}
 unfoldable pub use Rattle.schedule.specs.InForce.{current_number_of, last_of, ahead_of, time_of, following_current_of, hours_minutes_of}
 unfoldable pub use Rattle.schedule.specs.InForce.{until_of}

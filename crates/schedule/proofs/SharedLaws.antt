@@ -88,7 +88,15 @@ row_shared date s =
     let today = sun_on place date in
     let tomorrow = sun_on place next in
     let after = sun_on place (tomorrow_of next) in
-    simp (fajr-by-sine s (date_course_of date place), fajr-by-sine s (date_course_of next place))
-    (simp (isha-by-sine s (date_course_of date place), numbers-shared today, numbers-shared tomorrow, numbers-shared after)
-    (simp (angle-shared today (fajr_angle_of p) false, angle-shared today (isha_angle_of p) true)
-    (simp (angle-shared tomorrow (fajr_angle_of p) false, afternoon-shared today (shadow_of p)))))
+    simp (
+      fajr-by-sine s (date_course_of date place),
+      fajr-by-sine s (date_course_of next place),
+      isha-by-sine s (date_course_of date place),
+      numbers-shared today,
+      numbers-shared tomorrow,
+      numbers-shared after,
+      angle-shared today (fajr_angle_of p) false,
+      angle-shared today (isha_angle_of p) true,
+      angle-shared tomorrow (fajr_angle_of p) false,
+      afternoon-shared today (shadow_of p),
+    )

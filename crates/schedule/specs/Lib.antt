@@ -2,7 +2,6 @@ pub mod Hours
 pub mod Twilight
 pub mod Times
 pub mod Fajr
-pub mod FajrWorked
 pub mod InForce
 pub mod Numbers
 pub mod RowSuns

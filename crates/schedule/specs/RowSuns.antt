@@ -8,8 +8,8 @@ use Rattle.models.specs.Chosen.{season_of}
 use Rattle.float64.specs.Ops.{◌+ᶠ◌, dec}
 use Rattle.julian.specs.Julian.{date_julian_day_of}
 use Rattle.ops.specs.declared.transit.Course.{Course}
-use Rattle.ops.specs.Coordinates.{position_of}
-use Rattle.ops.specs.Shared.{place_of, mean_elements_of, mean_place_of, mean_sidereal_of, course_of}
+use Rattle.ops.specs.Coordinates.{solar_coordinates_of, position_of}
+use Rattle.ops.specs.Shared.{place_of, sidereal_time_of, course_of}
 use Rattle.solar.specs.Times.{solar_time_of}
 use Rattle.solar.specs.Shared.{date_course_of, course_numbers_of}
 use Rattle.schedule.specs.declared.hours.RowHours.{RowHours}
@@ -21,7 +21,7 @@ use Rattle.schedule.specs.declared.rolling.Courses.{Courses}
 use Rattle.schedule.specs.declared.rolling.DaySun.{DaySun}
 use Rattle.schedule.specs.declared.rolling.RowSuns.{RowSuns}
 use Rattle.schedule.specs.Asked.{twilight_sines_of, fajr_hour_of, asr_hour_of, isha_hour_of}
-use Rattle.schedule.specs.FajrWorked.{fajr_alone_of}
+use Rattle.schedule.specs.Fajr.{fajr_alone_of}
 use Rattle.schedule.specs.Hours.{suns_of}
 use Rattle.schedule.specs.Times.{since_of, started_in}
 
@@ -36,7 +36,6 @@ courses_of date place =
       tomorrow = date_course_of next place;
       after = date_course_of second place;
       third = date_julian_day_of third;
-      mean_third = mean_elements_of (date_julian_day_of third);
       at_second = place_of (position_of second);
       at_third = place_of (position_of third);
     }
@@ -53,7 +52,6 @@ row_suns_of date s =
     record {
       date = date;
       third = courses.third;
-      mean_third = courses.mean_third;
       sines = sines;
       at_second = courses.at_second;
       at_third = courses.at_third;
@@ -68,14 +66,12 @@ row_suns_of date s =
 unfoldable pub next_row_suns_of : Setting → RowSuns → RowSuns
 next_row_suns_of s r =
     let fourth = r.third +ᶠ dec 1 0 in
-    let mean_fourth = mean_elements_of fourth in
-    let at_fourth = mean_place_of mean_fourth in
-    let sidereal = mean_sidereal_of r.mean_third in
+    let at_fourth = place_of (solar_coordinates_of fourth) in
+    let sidereal = sidereal_time_of (solar_coordinates_of r.third) in
     let course = r.after.course in
     record {
       date = tomorrow_of r.date;
       third = fourth;
-      mean_third = mean_fourth;
       sines = r.sines;
       at_second = r.at_third;
       at_third = at_fourth;

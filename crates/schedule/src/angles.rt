@@ -13,7 +13,7 @@ use solar::times::solar_hour;
 use unit::Angle;
 
 // The sines of Fajr's and Isha's angles. They are the same on every day, so they are worked once.
-#[derive(Drop)]
+#[derive(Clone, Copy)]
 pub struct TwilightSines {
     pub fajr: f64,
     pub isha: f64,

@@ -10,7 +10,7 @@ use solar::times::{SolarDay, SolarTime, solar_hour};
 
 // The numbers of the date and of the two dates after it, of the date's Fajr, Asr and Isha, and of the next date's Fajr.
 #[repr(C)]
-#[derive(Drop)]
+#[derive(Clone, Copy)]
 pub struct RowNumbers {
     pub today: HourNumbers,
     pub tomorrow: HourNumbers,
@@ -22,14 +22,14 @@ pub struct RowNumbers {
 }
 
 // The sun's times on the date and on the two dates after it.
-#[derive(Drop)]
+#[derive(Clone, Copy)]
 pub struct ThreeSuns {
     pub today: SolarTime,
     pub tomorrow: SolarTime,
     pub after: SolarTime,
 }
 
-#[derive(Drop)]
+#[derive(Clone, Copy)]
 pub enum Suns {
     Whole(ThreeSuns),
     // Number 6, 7 or 8. The place is the first of days 0, 1 and 2 that lacks a time.
@@ -37,7 +37,7 @@ pub enum Suns {
 }
 
 // Each time is counted from 0h of its own date.
-#[derive(Drop)]
+#[derive(Clone, Copy)]
 pub struct RowHours {
     pub suns: Suns,
     pub fajr: SolarHour,

@@ -18,26 +18,26 @@ pub const IN_SECOND: u64 = 1000000000;
 const ALL_BUT_ONE: u64 = IN_SECOND - 1;
 
 // Seconds from 1970-01-01 0h UTC, rounded down, and the nanoseconds after them.
-#[derive(Drop)]
+#[derive(Clone, Copy)]
 pub struct Instant {
     pub seconds: i64,
     pub nanoseconds: u32,
 }
 
-#[derive(Drop)]
+#[derive(Clone, Copy)]
 pub enum Current {
     Some(Prayer),
     Nothing,
 }
 
 #[repr(C)]
-#[derive(Drop)]
+#[derive(Clone, Copy)]
 pub struct HoursMinutes {
     pub hours: u32,
     pub minutes: u32,
 }
 
-#[derive(Drop)]
+#[derive(Clone, Copy)]
 pub enum Remaining {
     Some(HoursMinutes),
     Nothing,

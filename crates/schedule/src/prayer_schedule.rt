@@ -10,32 +10,32 @@ use models::rules::Rules;
 use models::setting::Setting;
 use unit::Coordinates;
 
-#[derive(Drop)]
+#[derive(Clone, Copy)]
 pub enum ChosenDate {
     Some(Date),
     Nothing,
 }
 
-#[derive(Drop)]
+#[derive(Clone, Copy)]
 pub enum ChosenPlace {
     Some(Coordinates),
     Nothing,
 }
 
-#[derive(Drop)]
+#[derive(Clone, Copy)]
 pub enum ChosenParameters {
     Some(Parameters),
     Nothing,
 }
 
-#[derive(Drop)]
+#[derive(Clone, Copy)]
 pub struct PrayerSchedule {
     pub date: ChosenDate,
     pub coordinates: ChosenPlace,
     pub params: ChosenParameters,
 }
 
-#[derive(Drop)]
+#[derive(Clone, Copy)]
 pub enum Calculated {
     Some(Worked),
     // Date, coordinates and parameters are all needed.

@@ -5,7 +5,7 @@ ghost use Rattle.models.specs.declared.prayer.Prayer.TheVariants.{Fajr};
 ghost use Rattle.models.specs.declared.rounding.Rounding.TheVariants.{Nearest};
 ghost use Rattle.models.specs.Settings.{time_adjustments_of};
 ghost use Rattle.whole_minutes.specs.Times.{rounded_of, adjusted_of};
-ghost use Rattle.schedule.specs.FajrWorked.{fajr_alone_of};
+ghost use Rattle.schedule.specs.Fajr.{fajr_alone_of};
 ghost use Rattle.schedule.specs.Times.{start_of, final_of, fajr_tomorrow_of, middle_of_the_night_of, qiyam_of, from_midnight_of, started_of};
 ghost use Rattle.schedule.specs.Times.{since_of, worked_of, worked_by};
 ghost use Rattle.schedule.specs.Each.{Each, NearIn};
@@ -27,7 +27,7 @@ use whole_minutes::times::{adjust_time, rounded_minute};
 
 // In seconds from 1970-01-01 0h UTC, or from 0h of the date if a function says so. Always in this order: they are not sorted.
 #[repr(C)]
-#[derive(Drop)]
+#[derive(Clone, Copy)]
 pub struct PrayerTimes {
     pub fajr: i64,
     pub sunrise: i64,
@@ -40,7 +40,7 @@ pub struct PrayerTimes {
     pub fajr_tomorrow: i64,
 }
 
-#[derive(Drop)]
+#[derive(Clone, Copy)]
 pub enum Worked {
     Times(PrayerTimes),
     // Number 6, 7 or 8, with the day as its place.
@@ -48,7 +48,7 @@ pub enum Worked {
 }
 
 // A date's Fajr by itself, in seconds from 0h of the date.
-#[derive(Drop)]
+#[derive(Clone, Copy)]
 pub enum FajrAlone {
     Some(i64),
     // The date's times are refused.
@@ -56,7 +56,7 @@ pub enum FajrAlone {
 }
 
 // Two times of the night, which is from maghrib to tomorrow's Fajr.
-#[derive(Drop)]
+#[derive(Clone, Copy)]
 struct Night {
     middle: i64,
     last_third: i64,
@@ -84,10 +84,7 @@ fn next_fajr(
 ) -> i64
     ensures { (result ≡ fajr_tomorrow_of parameters season date tomorrow after hour) × Near (2 ^ 41) result }
 {
-    let method = parameters.method;
-    let portions = parameters.night_portions();
-    let date = date.tomorrow();
-    let fajr = unadjusted_fajr(method, portions.fajr, season, date, tomorrow, after, hour);
+    let fajr = unadjusted_fajr(parameters, season, date.tomorrow(), tomorrow, after, hour);
     final_time(parameters, Prayer::Fajr, fajr, Rounding::None) + 86400
 }
 
@@ -121,8 +118,6 @@ fn from_midnight(
 ) -> PrayerTimes
     ensures { (result ≡ from_midnight_of parameters season date suns hours) × Each (Near (2 ^ 43)) result }
 {
-    let method = parameters.method;
-    let portions = parameters.night_portions();
     let rounding = parameters.rounding;
     let today = suns.today;
     let tomorrow = suns.tomorrow;
@@ -133,7 +128,7 @@ fn from_midnight(
     let sunrise = today.sunrise as i64;
     let transit = today.transit as i64;
     let sunset = today.sunset as i64;
-    let fajr = unadjusted_fajr(method, portions.fajr, season, date, today, tomorrow, hour);
+    let fajr = unadjusted_fajr(parameters, season, date, today, tomorrow, hour);
     let asr = or(afternoon, transit);
     let isha = unadjusted_isha(parameters, season, date, today, tomorrow, evening);
     let maghrib = final_time(parameters, Prayer::Maghrib, sunset, rounding);
@@ -162,18 +157,8 @@ fn final_fajr(
 ) -> i64
     ensures { result ≡ final_of parameters Fajr (unadjusted_fajr_of parameters season date suns.today suns.tomorrow hour) }
 {
-    let method = parameters.method;
-    let portions = parameters.night_portions();
     let rule = parameters.rounding;
-    let fajr = unadjusted_fajr(
-        method,
-        portions.fajr,
-        season,
-        date,
-        suns.today,
-        suns.tomorrow,
-        hour,
-    );
+    let fajr = unadjusted_fajr(parameters, season, date, suns.today, suns.tomorrow, hour);
     final_time(parameters, Prayer::Fajr, fajr, rule)
 }
 

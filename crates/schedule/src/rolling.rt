@@ -16,7 +16,7 @@ use calendar::dates::Date;
 use julian::day::date_julian_day;
 use models::rules::Rules;
 use models::setting::Setting;
-use ops::coordinates::{Equatorial, MeanElements, place};
+use ops::coordinates::{Equatorial, MeanElements, place, sidereal_time};
 use ops::transit::{Course, Observer};
 use solar::hours::hour_numbers;
 use solar::setting::SolarHour;
@@ -24,20 +24,18 @@ use solar::times::{SolarDay, SolarTime};
 use unit::Coordinates;
 
 // The sun's course over the place on a day, and its times.
-#[derive(Drop)]
+#[derive(Clone, Copy)]
 pub struct DaySun {
     pub course: Course,
     pub times: SolarDay,
 }
 
 // What a row is worked from: the sun of its date and of the two days after it, and the hours of Fajr's angle on the date and on the next.
-// The positions at 0h of the second and the third day after the date, the Julian Day of the third and what its position began with are kept
-// for the next row.
-#[derive(Drop)]
+// The positions at 0h of the second and the third day after the date, and the Julian Day of the third, are kept for the next row.
+#[derive(Clone, Copy)]
 pub struct RowSuns {
     pub date: Date,
     pub third: f64,
-    pub mean_third: MeanElements,
     pub sines: TwilightSines,
     pub at_second: Equatorial,
     pub at_third: Equatorial,
@@ -49,13 +47,12 @@ pub struct RowSuns {
 }
 
 // The sun's courses on a date and on the two days after it, and what the next one is made from.
-#[derive(Drop)]
+#[derive(Clone, Copy)]
 pub struct Courses {
     pub today: Course,
     pub tomorrow: Course,
     pub after: Course,
     pub third: f64,
-    pub mean_third: MeanElements,
     pub at_second: Equatorial,
     pub at_third: Equatorial,
 }
@@ -101,19 +98,19 @@ impl Courses {
         let observer = Observer::new(coordinates);
         let next = date.tomorrow();
         let second = next.tomorrow();
+        let third = second.tomorrow();
         let day = date_julian_day(date);
         let next_day = julian_day_after(date, next, day);
         let second_day = julian_day_after(next, second, next_day);
-        let third_day = julian_day_after(second, second.tomorrow(), second_day);
+        let third_day = julian_day_after(second, third, second_day);
         let mean = MeanElements::new(day);
         let mean_next = MeanElements::new(next_day);
         let mean_second = MeanElements::new(second_day);
-        let mean_third = MeanElements::new(third_day);
         let before = place(date.yesterday());
         let at_date = mean.place();
         let at_next = mean_next.place();
         let at_second = mean_second.place();
-        let at_third = mean_third.place();
+        let at_third = Equatorial::new(third_day);
         let before_next = place_before_tomorrow(date, at_date);
         let before_second = place_before_tomorrow(next, at_next);
         let sidereal = mean.sidereal_time();
@@ -130,7 +127,6 @@ impl Courses {
                 at_third,
             ),
             third: third_day,
-            mean_third: mean_third,
             at_second: at_second,
             at_third: at_third,
         }
@@ -160,13 +156,11 @@ impl RowSuns {
         let today = courses.today;
         let tomorrow = courses.tomorrow;
         let after = courses.after;
-        let mean_third = courses.mean_third;
         let at_second = courses.at_second;
         let at_third = courses.at_third;
         RowSuns {
             date: date,
             third: courses.third,
-            mean_third: mean_third,
             sines: sines,
             at_second: at_second,
             at_third: at_third,
@@ -184,7 +178,6 @@ impl RowSuns {
     {
         let date = self.date;
         let third = self.third;
-        let mean_third = self.mean_third;
         let sines = self.sines;
         let at_second = self.at_second;
         let at_third = self.at_third;
@@ -193,14 +186,12 @@ impl RowSuns {
         let fajr = self.fajr_tomorrow;
         let course = tomorrow.course;
         let fourth = third + 1.0;
-        let mean_fourth = MeanElements::new(fourth);
-        let at_fourth = mean_fourth.place();
-        let sidereal = mean_third.sidereal_time();
+        let at_fourth = Equatorial::new(fourth);
+        let sidereal = sidereal_time(third);
         let after = Course::new(course.observer, sidereal, at_second, at_third, at_fourth);
         RowSuns {
             date: date.tomorrow(),
             third: fourth,
-            mean_third: mean_fourth,
             sines: sines,
             at_second: at_third,
             at_third: at_fourth,

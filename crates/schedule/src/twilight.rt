@@ -2,9 +2,8 @@
 // season. Times are seconds from 0h of the date. The sun's times are i32, so an i64 holds every sum here for all parameters.
 ghost use Rattle.std.specs.Prelude.{◌≡◌, ◌^◌, ◌+ℤ◌};
 ghost use Rattle.integers.specs.Parts.{Near};
-ghost use Rattle.schedule.specs.FajrWorked.{bound_within_of, fajr_within_of};
-ghost use Rattle.schedule.specs.Twilight.{night_of, later_of, earlier_of, or_of, by_season_of, by_seventh_of, short_of, isha_bound_of};
-ghost use Rattle.schedule.specs.Twilight.{bounded_isha_of, unadjusted_isha_of};
+ghost use Rattle.schedule.specs.Twilight.{night_of, later_of, earlier_of, or_of, by_season_of, by_seventh_of, own_of, short_of, fajr_bound_of};
+ghost use Rattle.schedule.specs.Twilight.{unadjusted_fajr_of, isha_bound_of, bounded_isha_of, unadjusted_isha_of};
 
 use calendar::dates::Date;
 use models::method::Method;
@@ -110,41 +109,50 @@ pub fn by_seventh(method: Method, latitude: f64) -> bool
     false
 }
 
+// The time that is compared with `bound`: the one by a seventh of the night, or the angle's.
+fn own(method: Method, latitude: f64, seventh: i64, hour: SolarHour, bound: i64) -> i64
+    requires { Near (2 ^ 38) seventh × Near (2 ^ 38) bound }
+    ensures { (result ≡ own_of method latitude seventh hour bound) × Near (2 ^ 38) result }
+{
+    if by_seventh(method, latitude) {
+        return seventh;
+    }
+    or(hour, bound)
+}
+
 fn fajr_bound(
-    method: Method,
-    portion: f64,
+    parameters: Parameters,
     season: Season,
     date: Date,
     today: SolarTime,
     night: i64,
 ) -> i64
-    ensures { (result ≡ bound_within_of method portion season date today night) × Near (2 ^ 38) result }
+    ensures { (result ≡ fajr_bound_of parameters season date today night) × Near (2 ^ 38) result }
 {
+    let method = parameters.method;
     if by_season(method) {
         let seconds = morning_twilight_seconds(season, date.ordinal(), date.year);
         return moved(today.sunrise, seconds);
     }
-    moved(today.sunrise, portion_before(portion, night))
+    let portions = parameters.night_portions();
+    moved(today.sunrise, portion_before(portions.fajr, night))
 }
 
-// Of the parameters Fajr takes the method and a portion of the night. Only these are passed, since a call copies its structs.
 pub fn unadjusted_fajr(
-    method: Method,
-    portion: f64,
+    parameters: Parameters,
     season: Season,
     date: Date,
     today: SolarTime,
     next: SolarTime,
     hour: SolarHour,
 ) -> i64
-    ensures { (result ≡ fajr_within_of method portion season date today next hour) × Near (2 ^ 38) result }
+    ensures { (result ≡ unadjusted_fajr_of parameters season date today next hour) × Near (2 ^ 38) result }
 {
+    let method = parameters.method;
     let night = night(today, next);
-    let bound = fajr_bound(method, portion, season, date, today, night);
-    if by_seventh(method, season.latitude) {
-        return later(today.sunrise as i64 - seventh(night), bound);
-    }
-    later(or(hour, bound), bound)
+    let bound = fajr_bound(parameters, season, date, today, night);
+    let by_night = today.sunrise as i64 - seventh(night);
+    later(own(method, season.latitude, by_night, hour, bound), bound)
 }
 
 fn isha_bound(
@@ -180,10 +188,8 @@ fn bounded_isha(
     let method = parameters.method;
     let night = night(today, next);
     let bound = isha_bound(parameters, season, date, today, night);
-    if by_seventh(method, season.latitude) {
-        return earlier(today.sunset as i64 + seventh(night), bound);
-    }
-    earlier(or(hour, bound), bound)
+    let by_night = today.sunset as i64 + seventh(night);
+    earlier(own(method, season.latitude, by_night, hour, bound), bound)
 }
 
 pub fn unadjusted_isha(

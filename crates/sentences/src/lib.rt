@@ -1,4 +1,6 @@
 // Refusals in words (added): a sentence for each refusal, and the refusal that a sentence says.
+#![tactic(auto)]
+
 mod line;
 mod reading;
 pub mod sentence;
@@ -6,7 +8,7 @@ mod table;
 
 // What writing returns.
 #[repr(C)]
-#[derive(Drop)]
+#[derive(Clone, Copy)]
 pub struct WrittenSentence {
     pub number: u32,
     pub place: u32,
@@ -15,7 +17,7 @@ pub struct WrittenSentence {
 
 // What reading returns: the number and the place that the sentence says, or why it says none.
 #[repr(C)]
-#[derive(Drop)]
+#[derive(Clone, Copy)]
 pub struct Meaning {
     pub number: u32,
     pub place: u32,

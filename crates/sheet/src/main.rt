@@ -1,5 +1,7 @@
 // Reads an order from standard input and prints its sheet. The buffer has one byte more than an order may have, so that a longer order is
 // refused.
+#![tactic(auto)]
+
 use sheets::sheet::write_sheet;
 
 fn main() {

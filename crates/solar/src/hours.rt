@@ -14,7 +14,7 @@ use unit::{Angle, Coordinates};
 
 // The hours of the transit, of sunrise and of sunset, from 0h of the day in universal time: not yet times.
 #[repr(C)]
-#[derive(Drop)]
+#[derive(Clone, Copy)]
 pub struct HourNumbers {
     pub transit: f64,
     pub sunrise: f64,

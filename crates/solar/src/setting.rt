@@ -8,7 +8,7 @@ use float64::casts::to_u32;
 use float64::sizes::is_normal;
 use float64::whole::{floor, round};
 
-#[derive(Drop)]
+#[derive(Clone, Copy)]
 pub enum SolarHour {
     // Below 0 a time of yesterday, from 86,400 on one of tomorrow.
     Some(i32),
@@ -16,7 +16,7 @@ pub enum SolarHour {
 }
 
 // An hour of yesterday (0), of the date (1) or of tomorrow (2).
-#[derive(Drop)]
+#[derive(Clone, Copy)]
 pub struct Placed {
     pub ahead: u8,
     pub hour: u32,

@@ -22,14 +22,14 @@ pub fn solar_hour(rule: Midnight, number: f64) -> SolarHour
     }
 }
 
-#[derive(Drop)]
+#[derive(Clone, Copy)]
 pub struct SolarTime {
     pub transit: i32,
     pub sunrise: i32,
     pub sunset: i32,
 }
 
-#[derive(Drop)]
+#[derive(Clone, Copy)]
 pub enum SolarDay {
     Whole(SolarTime),
     // 6 the transit, 7 the sunrise, 8 the sunset.

@@ -1,5 +1,7 @@
 // unit.rs: angles in degrees and places on the earth. The operators on Angle are functions of the type.
 // Dates and times (Stride) are in the crates calendar, julian and whole_minutes.
+#![tactic(auto)]
+
 ghost use Rattle.std.specs.Prelude.{◌≡◌};
 ghost use Rattle.unit.specs.Unit.{normalized_to_scale_of, angle_of, from_radians_of, radians_of, unwound_of, quadrant_shifted_of, plus_of};
 ghost use Rattle.unit.specs.Unit.{minus_of, product_of, over_of, coordinates_of, latitude_angle_of, longitude_angle_of};
@@ -15,7 +17,7 @@ pub fn normalized_to_scale(value: f64, max: f64) -> f64
     value - (max * floor(value / max))
 }
 
-#[derive(Drop)]
+#[derive(Clone, Copy)]
 pub struct Angle {
     pub degrees: f64,
 }
@@ -106,7 +108,7 @@ impl Angle {
 
 // Latitude and longitude, in degrees.
 #[repr(C)]
-#[derive(Drop)]
+#[derive(Clone, Copy)]
 pub struct Coordinates {
     pub latitude: f64,
     pub longitude: f64,

@@ -1,5 +1,7 @@
 // Reads an order from standard input and prints how many dots its pages punch. The buffer has one byte more than an order may have, so that
 // a longer order is refused.
+#![tactic(auto)]
+
 use pages::report::write_wear;
 
 fn main() {

@@ -1,5 +1,7 @@
 // Reads an order from standard input and prints the earliest and the latest Fajr of every seven successive rows. The buffer has one
 // byte more than an order may have, so that a longer order is refused.
+#![tactic(auto)]
+
 use weeks::report::write_week;
 
 fn main() {

@@ -14,7 +14,7 @@ use schedule::rolling::RowSuns;
 pub const ROWS: usize = MOST_ROWS as usize;
 
 // In minutes after the row's own 0h UTC, or nothing for a refused day.
-#[derive(Drop)]
+#[derive(Clone, Copy)]
 pub enum Minute {
     Some(i64),
     Nothing,

@@ -6,7 +6,7 @@ ghost use Rattle.weeks.specs.Windows.{begin_of, earlier_in, later_in, seen_of, w
 
 use super::minutes::{Minute, ROWS, minute_at};
 
-#[derive(Drop)]
+#[derive(Clone, Copy)]
 pub struct Extremes {
     pub earliest: i64,
     pub earliest_row: usize,
@@ -15,7 +15,7 @@ pub struct Extremes {
 }
 
 // Refused if one of its seven days is.
-#[derive(Drop)]
+#[derive(Clone, Copy)]
 pub enum Window {
     Found(Extremes),
     Refused,

@@ -6,10 +6,16 @@ returns : this.Tie.Need-returns
 unfolding apparent_sidereal_time_of dec round of_bits
 returns c =
     let b = c.before.before.before.before.before.before.before.before.before in
-    simp (c.new2.ensures, c.before.before.before.mean-sidereal-time.ensures)
-    (simp (c.before.before.before.before.cos.ensures, c.before.before.before.before.before.radians.ensures)
-    (simp (c.before.before.before.before.before.before.new.ensures, b.nutations.ensures)
-    (simp (b.before.ascending-lunar-node-longitude.ensures, b.before.before.mean-lunar-longitude.ensures))))
+    simp (
+      c.new2.ensures,
+      c.before.before.before.mean-sidereal-time.ensures,
+      c.before.before.before.before.cos.ensures,
+      c.before.before.before.before.before.radians.ensures,
+      c.before.before.before.before.before.before.new.ensures,
+      b.nutations.ensures,
+      b.before.ascending-lunar-node-longitude.ensures,
+      b.before.before.mean-lunar-longitude.ensures,
+    )
 
 pub apparent-sidereal-time-spec : {M : Type 1} → this.Statement.statement M
 apparent-sidereal-time-spec = this.Tie.close

@@ -20,10 +20,16 @@ returns-3 c =
 pub days-since-solstice-spec : {M : Type 1} → this.Statement.statement M
 unfolding days_since_solstice_of dec round of_bits
 days-since-solstice-spec =
-    let returns : this.Tie.Need-returns = λ c.
-    simp (sym c.before.wrapping-add-u32.ensures, sym c.before.before.before.days-in-year.ensures)
-    (simp (c.before.before.if1.taken, le-leb _ _ c.if2.taken)) in
-    let returns-2 : this.Tie.Need-returns-2 = λ c.
-    simp (sym c.before.wrapping-add-u32.ensures, sym c.before.before.before.days-in-year.ensures)
-    (simp (c.before.before.if1.taken, lt-leb _ _ c.if2.left)) in
+    let returns : this.Tie.Need-returns = λ c. simp (
+      sym c.before.wrapping-add-u32.ensures,
+      sym c.before.before.before.days-in-year.ensures,
+      c.before.before.if1.taken,
+      le-leb _ _ c.if2.taken,
+    ) in
+    let returns-2 : this.Tie.Need-returns-2 = λ c. simp (
+      sym c.before.wrapping-add-u32.ensures,
+      sym c.before.before.before.days-in-year.ensures,
+      c.before.before.if1.taken,
+      lt-leb _ _ c.if2.left,
+    ) in
     this.Tie.close (this.Tie.spec (λ c κs. tt) (λ c κs. tt) (λ c κs. tt) (λ c κs. tt) (λ c κs. tt) returns returns-2 returns-3)

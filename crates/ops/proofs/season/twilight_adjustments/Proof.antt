@@ -18,22 +18,38 @@ twilight-adjustments-spec =
       sym second.before.within2.ensures ∙ second.if2.taken,
     ))
     (λ c. let third = c.before in let second = third.before.before in let first = second.before.before in
-    simp (c.interpolate-linearly3.ensures, sym first.before.within.ensures ∙ first.if1.left)
-    (simp (sym second.before.within2.ensures ∙ second.if2.left)
-    (simp (sym third.before.within3.ensures ∙ third.if3.taken))))
+    simp (
+      c.interpolate-linearly3.ensures,
+      sym first.before.within.ensures ∙ first.if1.left,
+      sym second.before.within2.ensures ∙ second.if2.left,
+      sym third.before.within3.ensures ∙ third.if3.taken,
+    ))
     (λ c. let fourth = c.before in let third = fourth.before.before in let second = third.before.before in
     let first = second.before.before in
-    simp (c.interpolate-linearly4.ensures, sym first.before.within.ensures ∙ first.if1.left)
-    (simp (sym second.before.within2.ensures ∙ second.if2.left, sym third.before.within3.ensures ∙ third.if3.left)
-    (simp (sym fourth.before.within4.ensures ∙ fourth.if4.taken))))
+    simp (
+      c.interpolate-linearly4.ensures,
+      sym first.before.within.ensures ∙ first.if1.left,
+      sym second.before.within2.ensures ∙ second.if2.left,
+      sym third.before.within3.ensures ∙ third.if3.left,
+      sym fourth.before.within4.ensures ∙ fourth.if4.taken,
+    ))
     (λ c. let fifth = c.before in let fourth = fifth.before.before in let third = fourth.before.before in
     let second = third.before.before in let first = second.before.before in
-    simp (c.interpolate-linearly5.ensures, sym first.before.within.ensures ∙ first.if1.left)
-    (simp (sym second.before.within2.ensures ∙ second.if2.left, sym third.before.within3.ensures ∙ third.if3.left)
-    (simp (sym fourth.before.within4.ensures ∙ fourth.if4.left)
-    (simp (sym fifth.before.within5.ensures ∙ fifth.if5.taken)))))
+    simp (
+      c.interpolate-linearly5.ensures,
+      sym first.before.within.ensures ∙ first.if1.left,
+      sym second.before.within2.ensures ∙ second.if2.left,
+      sym third.before.within3.ensures ∙ third.if3.left,
+      sym fourth.before.within4.ensures ∙ fourth.if4.left,
+      sym fifth.before.within5.ensures ∙ fifth.if5.taken,
+    ))
     (λ c. let fifth = c.before in let fourth = fifth.before.before in let third = fourth.before.before in
     let second = third.before.before in let first = second.before.before in
-    simp (c.interpolate-linearly6.ensures, sym first.before.within.ensures ∙ first.if1.left)
-    (simp (sym second.before.within2.ensures ∙ second.if2.left, sym third.before.within3.ensures ∙ third.if3.left)
-    (simp (sym fourth.before.within4.ensures ∙ fourth.if4.left, sym fifth.before.within5.ensures ∙ fifth.if5.left)))))
+    simp (
+      c.interpolate-linearly6.ensures,
+      sym first.before.within.ensures ∙ first.if1.left,
+      sym second.before.within2.ensures ∙ second.if2.left,
+      sym third.before.within3.ensures ∙ third.if3.left,
+      sym fourth.before.within4.ensures ∙ fourth.if4.left,
+      sym fifth.before.within5.ensures ∙ fifth.if5.left,
+    )))

@@ -5,8 +5,12 @@ use Rattle.order.proofs.given.byte_or as this
 
 returns : this.Tie.Need-returns
 unfolding byte_or values_in
-returns c = simp (sym c.byte.ensures.0, sym c.before.value.ensures)
-    (simp (sym c.before.before.before.has.ensures, c.before.before.if1.true))
+returns c = simp (
+  sym c.byte.ensures.0,
+  sym c.before.value.ensures,
+  sym c.before.before.before.has.ensures,
+  c.before.before.if1.true,
+)
 
 pub byte-or-spec : {M : Type 1} → this.Statement.statement M
 unfolding byte_or values_in

@@ -7,8 +7,13 @@ returns : this.Tie.Need-returns
 unfolding clock_in values_in
 returns c =
     let f : SFits w32 c.signed.result = search needs in
-    simp (to_z-of_z f, sym c.signed.ensures, sym c.before.value.ensures)
-    (simp (sym c.before.before.before.has.ensures, c.before.before.if1.true))
+    simp (
+      to_z-of_z f,
+      sym c.signed.ensures,
+      sym c.before.value.ensures,
+      sym c.before.before.before.has.ensures,
+      c.before.before.if1.true,
+    )
 
 returns-2 : this.Tie.Need-returns-2
 unfolding clock_in values_in

@@ -5,8 +5,12 @@ use Rattle.order.proofs.given.degrees_or as this
 
 returns : this.Tie.Need-returns
 unfolding degrees_or values_in
-returns c = simp (sym c.degrees-in.ensures, sym c.before.value.ensures)
-    (simp (sym c.before.before.before.has.ensures, c.before.before.if1.true))
+returns c = simp (
+  sym c.degrees-in.ensures,
+  sym c.before.value.ensures,
+  sym c.before.before.before.has.ensures,
+  c.before.before.if1.true,
+)
 
 pub degrees-or-spec : {M : Type 1} → this.Statement.statement M
 unfolding degrees_or values_in

@@ -5,8 +5,12 @@ use Rattle.order.proofs.given.minutes_or as this
 
 returns : this.Tie.Need-returns
 unfolding minutes_or values_in
-returns c = simp (sym c.minutes-in.ensures, sym c.before.value.ensures)
-    (simp (sym c.before.before.before.has.ensures, c.before.before.if1.true))
+returns c = simp (
+  sym c.minutes-in.ensures,
+  sym c.before.value.ensures,
+  sym c.before.before.before.has.ensures,
+  c.before.before.if1.true,
+)
 
 pub minutes-or-spec : {M : Type 1} → this.Statement.statement M
 unfolding minutes_or values_in

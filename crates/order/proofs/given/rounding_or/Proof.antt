@@ -6,8 +6,13 @@ use Rattle.order.proofs.given.rounding_or as this
 returns : this.Tie.Need-returns
 unfolding rounding_or values_in
 returns c =
-    simp (sym c.of_number.ensures, sym c.before.byte.ensures.0, sym c.before.before.value.ensures)
-    (simp (sym c.before.before.before.before.has.ensures, c.before.before.before.if1.true))
+    simp (
+      sym c.of_number.ensures,
+      sym c.before.byte.ensures.0,
+      sym c.before.before.value.ensures,
+      sym c.before.before.before.before.has.ensures,
+      c.before.before.before.if1.true,
+    )
 
 pub rounding-or-spec : {M : Type 1} → this.Statement.statement M
 unfolding rounding_or values_in

@@ -1,6 +1,8 @@
 -- The four checks in a chain are one check, which refuses or does not.
-use Rattle.prelude.proofs.Logic.{sym, ◌∙◌}
+use Rattle.prelude.proofs.Logic.{sym, ap, ◌∙◌}
 use Rattle.fields.specs.Values.{values_in}
+use Rattle.order.specs.Reading.{order_of}
+use Rattle.order.specs.declared.reading.Order.{Order}
 use Rattle.order.proofs.Answers.{first_or, refused-alone, read-alone}
 use Rattle.order.proofs.reading.answer as this
 
@@ -44,8 +46,11 @@ returns-2 c =
       sym o.or3.ensures,
     ))
 
+-- the record's date is the date of the values
+date-given : this.Tie.Need-out-of-range-requires
+unfolding order_of
+date-given c κs = ap (λ (o : Order). o.date) c.before.before.before.record-in.ensures
+
 pub answer-spec : {M : Type 1} → this.Statement.statement M
-answer-spec =
-    let asked-given : this.Tie.Need-out-of-range-requires = λ c κs. c.before.before.before.record-in.ensures in
-    this.Tie.close (this.Tie.spec (λ c κs. tt) (λ c κs. tt) (λ c κs. tt) (λ c κs. tt) asked-given (λ c κs. tt) (λ c κs. tt) (λ c κs. tt)
-    returns returns-2)
+answer-spec = this.Tie.close (this.Tie.spec (λ c κs. tt) (λ c κs. tt) (λ c κs. tt) (λ c κs. tt) date-given (λ c κs. tt) (λ c κs. tt)
+    (λ c κs. tt) returns returns-2)

@@ -1,20 +1,16 @@
 -- Each field of the record is the result of its call.
 use Rattle.prelude.proofs.Logic.{sym, ◌∙◌, needs, w32, SFits, to_z-of_z, now}
 use Rattle.fields.proofs.Collecting.{part_for_lem}
-use Rattle.fields.specs.Values.{values_in}
-use Rattle.order.specs.Given.{coordinate_in}
 use Rattle.order.specs.Reading.{order_of}
 use Rattle.order.proofs.reading.record_in as this
 
 returns : this.Tie.Need-returns
-unfolding order_of coordinate_in values_in
+unfolding order_of
 returns c =
     let k = c.before in
     let r = k.before in
     let q = r.before.before in
-    let second = q.before in
-    let first = second.before.before.before in
-    let rows = first.before.before.before in
+    let rows = q.before.before.before in
     let d = rows.before.before in
     let p = d.before.before in
     let a = p.before.before.args in
@@ -27,12 +23,8 @@ returns c =
       r.rules-in.ensures,
       r.before.parameters-in.ensures,
       q.new.ensures,
-      second.coordinate-in2.ensures,
-      second.before.part5.ensures,
-      second.before.before.part4.ensures,
-      first.coordinate-in.ensures,
-      first.before.part3.ensures,
-      first.before.before.part2.ensures,
+      q.before.coordinate-in2.ensures,
+      q.before.before.coordinate-in.ensures,
       rows.rows_in_lem.ensures,
       rows.before.value2.ensures,
       d.date_in_lem.ensures,
@@ -45,4 +37,4 @@ record-in-spec =
     this.Tie.close
     (this.Tie.spec (λ c κs. tt) (λ c κs. tt) (λ c κs. tt) (λ c κs. tt) (λ c κs. tt) (λ c κs. tt) (λ c κs. tt) (λ c κs. tt) (λ c κs. tt)
     (λ c κs. tt)
-    (λ c κs. tt) (λ c κs. tt) (λ c κs. tt) (λ c κs. tt) (λ c κs. tt) (λ c κs. tt) returns)
+    (λ c κs. tt) (λ c κs. tt) returns)

@@ -2,7 +2,7 @@
 use Rattle.prelude.proofs.Logic.{ap, ◌∙◌, lit≤, needs, w32, SFits}
 use Rattle.integers.proofs.Integers.{wide, read_wide, of_wide, held_as, asked}
 use Rattle.models.specs.declared.prayer.Prayer.TheVariants.{Fajr, Sunrise, Dhuhr, Asr, Maghrib, Isha}
-use Rattle.schedule.proofs.Schedule.{final_of, middle_of_the_night_of, qiyam_of, from_midnight_of, or_of, within, both, of_near}
+use Rattle.schedule.proofs.Schedule.{final_of, middle_of_the_night_of, qiyam_of, from_midnight_of, or_of, both, of_near}
 use Rattle.schedule.proofs.prayer_times.from_midnight as this
 
 transit : (t : this.Tie.Start) → SFits w32 t.args.suns.today.transit
@@ -16,7 +16,7 @@ sunset t = search needs
 
 -- the start, which has the arguments, from the state after the first call
 abbrev start : this.Tie.After-unadjusted-fajr → this.Tie.Start
-start c = c.before.before.before.before.before.before.before.before.before.before
+start c = c.before.before.before.before.before.before.before.before.before
 
 returns : this.Tie.Need-returns
 unfolding from_midnight_of final_of
@@ -34,12 +34,10 @@ returns c =
     let c11 = c10.before in
     let t = start c11 in
     let p = t.args.parameters in
-    let portions = c11.before.before.before.before.before.before.before.before.before in
-    let u = (of_near c11.unadjusted-fajr.ensures (lit≤ tt)).is ∙ within p _ t.args.season t.args.date t.args.suns.today
-    t.args.suns.tomorrow t.args.hours.fajr portions.night-portions.ensures in
+    let u = of_near c11.unadjusted-fajr.ensures (lit≤ tt) in
     let o = of_near c10.or.ensures (lit≤ tt) in
     let e = of_near c9.unadjusted-isha.ensures (lit≤ tt) in
-    let fajr = held_as (of_near c5.final-time2.ensures (lit≤ tt)) (ap (final_of p Fajr) u) in
+    let fajr = held_as (of_near c5.final-time2.ensures (lit≤ tt)) (ap (final_of p Fajr) u.is) in
     let rise = held_as (of_near c4.final-time3.ensures (lit≤ tt)) (ap (final_of p Sunrise) (read_wide _ (sunrise t))) in
     let dhuhr = held_as (of_near c3.final-time4.ensures (lit≤ tt)) (ap (final_of p Dhuhr) (read_wide _ (transit t))) in
     let asr = held_as (of_near c2.final-time5.ensures (lit≤ tt))
@@ -64,10 +62,9 @@ returns c =
     )
 
 pub from-midnight-spec : {M : Type 1} → this.Statement.statement M
-from-midnight-spec = this.Tie.close (this.Tie.spec (λ c κs. search needs)
-    (λ c. wide _ (sunrise c.before.before.before.before.before))
-    (λ c. wide _ (transit c.before.before.before.before.before.before.before))
-    (λ c. wide _ (sunset c.before.before.before.before.before.before.before.before.before)) (λ c κs. search needs)
+from-midnight-spec = this.Tie.close (this.Tie.spec (λ c. wide _ (sunrise c.before.before.before.before))
+    (λ c. wide _ (transit c.before.before.before.before.before.before))
+    (λ c. wide _ (sunset c.before.before.before.before.before.before.before.before)) (λ c κs. search needs)
     (λ c κs. asked (of_wide _ (transit (start c))) (lit≤ tt)) (λ c κs. search needs)
     (λ c κs. asked (of_wide _ (sunset (start c.before.before))) (lit≤ tt)) (λ c κs. search needs) (λ c κs. search needs)
     (λ c κs. asked (of_near c.before.before.before.before.before.unadjusted-fajr.ensures (lit≤ tt)) (lit≤ tt))

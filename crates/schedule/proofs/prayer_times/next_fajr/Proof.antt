@@ -6,22 +6,21 @@ use Rattle.models.specs.declared.prayer.Prayer.TheVariants.{Fajr}
 use Rattle.models.specs.Settings.{time_adjustments_of}
 use Rattle.whole_minutes.specs.Times.{adjusted_of}
 use Rattle.whole_minutes.proofs.TimesLaws.{none_stays}
-use Rattle.schedule.proofs.Schedule.{fajr_tomorrow_of, next_day_of, unadjusted_fajr_of, within, of_near}
+use Rattle.schedule.proofs.Schedule.{fajr_tomorrow_of, next_day_of, unadjusted_fajr_of, of_near}
 use Rattle.schedule.proofs.prayer_times.next_fajr as this
 
 returns : this.Tie.Need-returns
 unfolding fajr_tomorrow_of
 returns c =
-    let next = c.before.before in
-    let a = next.before.before.args in
-    let p = a.parameters in
+    let t = c.before.before.before in
+    let p = t.args.parameters in
     let u = of_near c.before.unadjusted-fajr.ensures (lit≤ tt) in
-    let fajr = u.is ∙ within p _ a.season _ a.tomorrow a.after a.hour next.before.night-portions.ensures
-    ∙ ap (λ (d : Date). unadjusted_fajr_of p a.season d a.tomorrow a.after a.hour) next.tomorrow.ensures in
+    let fajr = u.is ∙ ap (λ (d : Date). unadjusted_fajr_of p t.args.season d t.args.tomorrow t.args.after t.args.hour)
+    c.before.before.tomorrow.ensures in
     let adjusted = none_stays _ ∙ ap (λ (z : ℤ). adjusted_of z (time_adjustments_of p Fajr)) fajr in
     promised (held_as (stored (held_sum (of_near c.final-time.ensures (lit≤ tt)) (constant 86400)) (lit≤ tt)) (ap next_day_of adjusted))
     (lit≤ tt)
 
 pub next-fajr-spec : {M : Type 1} → this.Statement.statement M
-next-fajr-spec = this.Tie.close (this.Tie.spec (λ c κs. search needs) (λ c κs. search needs) (λ c κs. search needs) (λ c κs. search needs)
+next-fajr-spec = this.Tie.close (this.Tie.spec (λ c κs. search needs) (λ c κs. search needs) (λ c κs. search needs)
     (λ c. held_fits (held_sum (of_near c.final-time.ensures (lit≤ tt)) (constant 86400)) (lit≤ tt)) returns)

@@ -12,15 +12,17 @@ unfolding started_of
 returns c =
     let s = c.before.before.before.before.before.before.before.before.before.before.before.before.before.before.before.before.before.before in
     let h = s.before.pre in
-    simp (stored (on_start s.start.ensures h.fajr) (lit≤ tt)).is
-    (simp (stored (on_start s.start.ensures h.sunrise) (lit≤ tt)).is
-    (simp (stored (on_start s.start.ensures h.dhuhr) (lit≤ tt)).is
-    (simp (stored (on_start s.start.ensures h.asr) (lit≤ tt)).is
-    (simp (stored (on_start s.start.ensures h.maghrib) (lit≤ tt)).is
-    (simp (stored (on_start s.start.ensures h.isha) (lit≤ tt)).is
-    (simp (stored (on_start s.start.ensures h.middle_of_the_night) (lit≤ tt)).is
-    (simp (stored (on_start s.start.ensures h.qiyam) (lit≤ tt)).is
-    (simp (stored (on_start s.start.ensures h.fajr_tomorrow) (lit≤ tt)).is))))))))
+    simp (
+      (stored (on_start s.start.ensures h.fajr) (lit≤ tt)).is,
+      (stored (on_start s.start.ensures h.sunrise) (lit≤ tt)).is,
+      (stored (on_start s.start.ensures h.dhuhr) (lit≤ tt)).is,
+      (stored (on_start s.start.ensures h.asr) (lit≤ tt)).is,
+      (stored (on_start s.start.ensures h.maghrib) (lit≤ tt)).is,
+      (stored (on_start s.start.ensures h.isha) (lit≤ tt)).is,
+      (stored (on_start s.start.ensures h.middle_of_the_night) (lit≤ tt)).is,
+      (stored (on_start s.start.ensures h.qiyam) (lit≤ tt)).is,
+      (stored (on_start s.start.ensures h.fajr_tomorrow) (lit≤ tt)).is,
+    )
 
 pub started-spec : {M : Type 1} → this.Statement.statement M
 started-spec = this.Tie.close (this.Tie.spec (λ c κs. search needs) (λ c. let s = c.before.before in fits s s.before.pre.fajr)

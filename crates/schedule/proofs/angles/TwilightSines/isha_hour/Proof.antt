@@ -23,9 +23,14 @@ unfolding isha_asked_of
 returns-3 c =
     let angle = c.before.before.before.before in
     let none = angle.before.before in
-    simp (c.solar-hour.ensures, c.before.sine-number.ensures, c.before.before.new.ensures)
-    (simp (rw (read w32 _ (interval none.before.before.before.before.before.before)) at none.if1.left)
-    (simp (sym angle.before.by-seventh.ensures, angle.if2.left)))
+    simp (
+      c.solar-hour.ensures,
+      c.before.sine-number.ensures,
+      c.before.before.new.ensures,
+      rw (read w32 _ (interval none.before.before.before.before.before.before)) at none.if1.left,
+      sym angle.before.by-seventh.ensures,
+      angle.if2.left,
+    )
 
 pub isha-hour-spec : {M : Type 1} → this.Statement.statement M
 isha-hour-spec = this.Tie.close (this.Tie.spec returns (λ c κs. tt) returns-2 (λ c κs. tt) (λ c κs. tt) (λ c κs. tt) returns-3)

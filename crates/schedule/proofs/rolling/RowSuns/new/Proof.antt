@@ -7,7 +7,14 @@ unfolding row_suns_of
 new_spec =
     let returns : this.Tie.Need-returns = λ c.
     let suns = c.before.before in
-    let courses = suns.before.before.before.before.before.before.before.before.before in
-    simp (c.fajr-hour2.ensures, c.before.fajr-hour.ensures, suns.new5.ensures, suns.before.new4.ensures)
-    (simp (suns.before.before.new3.ensures, courses.new2.ensures, courses.before.new.ensures)) in
+    let courses = suns.before.before.before.before.before.before.before.before in
+    simp (
+      c.fajr-hour2.ensures,
+      c.before.fajr-hour.ensures,
+      suns.new5.ensures,
+      suns.before.new4.ensures,
+      suns.before.before.new3.ensures,
+      courses.new2.ensures,
+      courses.before.new.ensures,
+    ) in
     this.Tie.close (this.Tie.spec (λ c κs. tt) (λ c κs. tt) (λ c κs. tt) (λ c κs. tt) (λ c κs. tt) (λ c κs. tt) (λ c κs. tt) returns)
