@@ -1,0 +1,11 @@
+use Rattle.prelude.proofs.Logic.{sym, rules}
+use Rattle.days.specs.Calls.{next_prayer_in}
+use Rattle.days.proofs.in_force.next_in.Goals as goal
+
+pub returns-in-Some : goal.returns-in-Some
+unfolding next_prayer_in
+returns-in-Some c = simp c.in-Some.is
+
+pub returns-in-Nothing : goal.returns-in-Nothing
+unfolding next_prayer_in
+returns-in-Nothing c = let e0 = c.none_in_force.ensures in simp (sym e0, c.in-Nothing.is)

@@ -1,0 +1,20 @@
+-- The loop keeps `Kept`. After the 54th turn it says that q is the root.
+use Rattle.prelude.proofs.Logic.{refl, ⊎_elim, ◌-◌, arith, lit<, lit≤, rules}
+use Rattle.fdlibm_root.proofs.Squares.{Kept, next_one, next-none, last}
+use Rattle.fdlibm_root.proofs.digits.root.Goals as goal
+
+pub loop-i-init : goal.loop-i-init
+loop-i-init c =
+    record { turns = lit≤ tt; digits = lit< tt; small = lit< tt; whole = lit≤ tt; room = c.requires; taken = omega arith }
+
+pub loop-i-preserved : goal.loop-i-preserved
+loop-i-preserved c =
+    let m = c.args.m in let l = c.loop-i in let t = c.loop-i-test.true in
+    ⊎_elim (λ w. rw (w.1, w.2) (next_one m l.q l.false l.rest l.i _ l.invariant t refl w.0.taken))
+    (λ w. rw (w.1, w.2) (next-none m l.q l.false l.rest l.i _ l.invariant t refl w.0.left))
+    c.if-q-p.came
+
+pub returns : goal.returns
+returns c =
+    let l = c.loop-i in
+    (last c.args.m l.q l.false l.rest l.i l.invariant c.loop-i-test.false, l.invariant.small)

@@ -1,0 +1,46 @@
+-- A proof for each check, if those before it passed.
+use Rattle.prelude.proofs.Logic.{◌≡◌, sym, not, cond, ◌-◌, ltb, lt-ltb, le-ltb}
+use Rattle.fields.specs.Fields.{fault_in}
+use Rattle.fields.proofs.faults.fault.Goals as goal
+
+-- the first three checks are passed
+length-holds : (l : goal.After-length-fits) → let a = l.args in
+    cond (not l.length_fits.result) 2 (cond (ltb (a.left - 3) a.length) 1 0) ≡ fault_in a.tag a.length a.again a.left
+unfolding fault_in
+length-holds l =
+    let known = l.before.before in
+    simp (
+      sym l.length_fits.ensures,
+      l.if-again.false,
+      sym known.known.ensures,
+      known.if-not-known.false,
+      le-ltb _ _ known.if-left-lt-HEADER_LENGTH.false,
+    )
+
+pub returns-then-left-lt-HEADER_LENGTH : goal.returns-then-left-lt-HEADER_LENGTH
+unfolding fault_in
+returns-then-left-lt-HEADER_LENGTH c = simp (lt-ltb _ _ c.if-left-lt-HEADER_LENGTH.true)
+
+pub returns-then-not-known : goal.returns-then-not-known
+unfolding fault_in
+returns-then-not-known c = simp (sym c.known.ensures, c.if-not-known.true, le-ltb _ _ c.if-left-lt-HEADER_LENGTH.false)
+
+pub returns-then-again : goal.returns-then-again
+unfolding fault_in
+returns-then-again c =
+    let known = c.before in
+    simp (c.if-again.true, sym known.known.ensures, known.if-not-known.false, le-ltb _ _ known.if-left-lt-HEADER_LENGTH.false)
+
+pub returns-then-not-length_fits : goal.returns-then-not-length_fits
+unfolding fault_in
+returns-then-not-length_fits c = rw (← length-holds c.before) (simp c.if-not-length_fits.true)
+
+pub returns-then-left-length : goal.returns-then-left-length
+unfolding fault_in
+returns-then-left-length c =
+    rw (← length-holds c.before.before) (simp (c.if-not-length_fits.false, lt-ltb _ _ c.if-left-length.true))
+
+pub returns : goal.returns
+unfolding fault_in
+returns c =
+    rw (← length-holds c.before.before) (simp (c.if-not-length_fits.false, le-ltb _ _ c.if-left-length.false))

@@ -1,0 +1,21 @@
+use Rattle.prelude.proofs.Logic.{ap, ◌∙◌}
+use Rattle.prelude.proofs.Ieee.{neg}
+use Rattle.float64.proofs.Parts.{neg_neg, neg_positive, round_odd, still_zero}
+use Rattle.float64.proofs.whole.round.Goals as goal
+
+pub half_up-requires : goal.half_up-requires
+half_up-requires c = c.if-x.true
+
+pub returns-then-x : goal.returns-then-x
+returns-then-x c = c.half_up.ensures
+
+pub half_up-requires-then-x-2 : goal.half_up-requires-then-x-2
+half_up-requires-then-x-2 c = neg_positive c.args.x c.if-x-2.true
+
+pub returns-then-x-2 : goal.returns-then-x-2
+returns-then-x-2 c =
+    let x = c.args.x in
+    ap neg (c.half_up-then-x-2.ensures ∙ round_odd x) ∙ neg_neg _
+
+pub returns : goal.returns
+returns c = (still_zero c.args.x c.if-x.false c.if-x-2.false).2

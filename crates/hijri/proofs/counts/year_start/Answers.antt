@@ -1,0 +1,7 @@
+use Rattle.prelude.proofs.Logic.{refl, rules}
+use Rattle.hijri.specs.Days.{year_start_of}
+use Rattle.hijri.proofs.counts.year_start.Goals as goal
+
+pub returns : goal.returns
+unfolding year_start_of
+returns c = refl

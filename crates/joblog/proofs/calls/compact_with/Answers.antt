@@ -1,0 +1,43 @@
+-- As in `compact`, with the new record after the open pages: the two puts are one put of the two texts.
+use Rattle.prelude.proofs.Logic.{◌≡◌, sym, ◌++◌, ◌+◌, ◌≤◌, ◌<◌, arith, length, rules, le-leb, lt-leb, now}
+use Rattle.joblog.proofs.CallLaws.{with_length, put_with}
+use Rattle.joblog.proofs.CompactLaws.{compacted_length, put_none}
+use Rattle.joblog.specs.{Records.bytes_of, Records.compactedOf, Calls.compactAnswer}
+use Rattle.joblog.proofs.calls.compact_with.Goals as goal
+
+pub returns-then-open_pages-second : goal.returns-then-open_pages-second
+unfolding compactAnswer
+returns-then-open_pages-second c =
+    let a = c.args in
+    let text = compactedOf a.s ++ bytes_of a.tag a.page in
+    let n = with_length a.s a.tag a.page in
+    let o = c.open_pages.ensures in
+    let h : length (now a.second) < length text = omega (arith, c.if-open_pages-second.true) in
+    (simp (lt-leb _ _ h) c.refuse.ensures, sym (put_none (now a.second) text h))
+
+pub put_compacted-at-requires : goal.put_compacted-at-requires
+put_compacted-at-requires c =
+    let a = c.args in let n = compacted_length a.s in
+    omega (arith, c.open_pages.ensures, c.if-open_pages-second.false)
+
+pub overflow_add-at : goal.overflow_add-at
+overflow_add-at c =
+    let at-put = c.before.before.before.before.before.before.before.before in let at-if = at-put.before.before in
+    let n = compacted_length at-if.args.s in
+    omega (arith, at-if.open_pages.ensures, at-put.put_compacted-at.ensures.value, at-if.if-open_pages-second.false)
+
+pub returns : goal.returns
+unfolding compactAnswer
+returns c =
+    let at-record = c.before.before.before.before.before in let at-put = at-record.before.before.before.before in
+    let at-if = at-put.before.before in let a = at-if.args in
+    let first = at-put.put_compacted-at in let at = first.result in
+    let text = compactedOf a.s ++ bytes_of a.tag a.page in
+    let n = with_length a.s a.tag a.page in let m = compacted_length a.s in
+    let o = at-if.open_pages.ensures in let e = first.ensures.value in
+    let h : length text ≤ length (now a.second) = omega (arith, at-if.if-open_pages-second.false) in
+    let k : at + 5 ≡ length text = omega arith in (
+      simp (c.answer.ensures, c.after.ensures, c.new_record.ensures, le-leb _ _ h, k),
+      put_with a.s a.tag a.page at (now a.second) first.last.0 at-record.put_record.last.0
+          first.ensures.buffer_after e at-record.put_record.ensures h,
+    )

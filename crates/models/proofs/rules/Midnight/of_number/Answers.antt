@@ -1,0 +1,10 @@
+use Rattle.models.proofs.Models.{Stops, Carries, midnight_of, second}
+use Rattle.models.proofs.rules.Midnight.of_number.Goals as goal
+
+pub returns-in-0 : goal.returns-in-0
+unfolding midnight_of
+returns-in-0 c = simp c.in-0.is
+
+pub returns-in_default : goal.returns-in_default
+unfolding midnight_of
+returns-in_default c = second Stops Carries c.args.n c.in-0.rest.1

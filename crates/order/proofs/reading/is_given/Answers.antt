@@ -1,0 +1,19 @@
+-- A proof for each coordinate, and one for all other tags.
+use Rattle.prelude.proofs.Logic.{ne_eqb}
+use Rattle.order.specs.Ranges.{look_up}
+use Rattle.order.specs.Reading.{is_given_of}
+use Rattle.order.proofs.reading.is_given.Goals as goal
+
+pub returns-in-4 : goal.returns-in-4
+unfolding is_given_of look_up
+returns-in-4 c = simp (c.has-in-4.ensures, c.has.ensures, c.in-4.is)
+
+pub returns-in-5 : goal.returns-in-5
+unfolding is_given_of look_up
+returns-in-5 c = simp (c.has-in-5-2.ensures, c.has-in-5.ensures, c.in-5.is)
+
+pub returns-in_default : goal.returns-in_default
+unfolding is_given_of look_up
+returns-in_default c =
+    let r = c.in-4.rest in
+    simp (c.has-in_default.ensures, ne_eqb _ 4 r.0.1, ne_eqb _ 5 r.1)

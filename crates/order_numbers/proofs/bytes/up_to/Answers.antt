@@ -1,0 +1,11 @@
+use Rattle.prelude.proofs.Logic.{arith, le-leb, lt-leb}
+use Rattle.order_numbers.specs.Bytes.{up_to}
+use Rattle.order_numbers.proofs.bytes.up_to.Goals as goal
+
+pub returns-then-n-most : goal.returns-then-n-most
+unfolding up_to
+returns-then-n-most c = (simp (le-leb _ _ c.if-n-most.true), omega arith)
+
+pub returns : goal.returns
+unfolding up_to
+returns c = (simp (lt-leb _ _ c.if-n-most.false), omega arith)

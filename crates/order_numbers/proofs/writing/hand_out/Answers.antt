@@ -1,0 +1,37 @@
+-- The result of reading decides first, then the buffer's room.
+use Rattle.prelude.proofs.Logic.{rules, refl, sym, ap, ◌∙◌, [], arith, length, le-leb, lt-leb, now}
+use Rattle.text.proofs.TextLaws.{put_front}
+use Rattle.order_numbers.specs.Writing.{refused_of, call_in}
+use Rattle.order_numbers.proofs.writing.hand_out.Goals as goal
+
+pub returns-then-text-buffer : goal.returns-then-text-buffer
+unfolding call_in
+returns-then-text-buffer c =
+    let tested = c.before.before in
+    let told = tested.before in
+    let read = told.before.before in
+    let a = read.args in
+    let short = lt-leb (length (now a.text)) (length (now a.buffer)) tested.if-text-buffer.true in
+    let why = c.refuse-then-text-buffer.ensures ∙ ap refused_of c.new.ensures in
+    simp (sym read.read.ensures ∙ told.in-Read.is, short) (why, refl)
+
+pub returns-in-Refused : goal.returns-in-Refused
+unfolding call_in
+returns-in-Refused c =
+    let told = c.before.before in
+    simp (sym told.read.ensures ∙ told.in-Refused.is) (c.refuse.ensures, refl)
+
+pub returns-else-text-buffer : goal.returns-else-text-buffer
+unfolding call_in
+returns-else-text-buffer c =
+    let put = c.before.before.before in
+    let tested = put.before.before in
+    let told = tested.before in
+    let read = told.before.before in
+    let a = read.args in
+    let fits = tested.if-text-buffer.false in
+    let room = le-leb (length (now a.text)) (length (now a.buffer)) fits in
+    let none = c.none.ensures in
+    let copied = put.put.ensures ∙ put_front [] (now a.text) (now a.buffer) (omega arith) in
+    simp (sym read.read.ensures ∙ told.in-Read.is, room)
+    (λ i. record { refusal = none i; length = length (now a.text) }, copied)

@@ -1,0 +1,18 @@
+-- A refused order and a read one, each by the law of every report; a buffer that is too short stays.
+use Rattle.prelude.proofs.Logic.{lit≤, rules}
+use Rattle.text.proofs.PrintedLaws.{printed-short}
+use Rattle.reports.proofs.ReportsLaws.{returned, taken, report-read, report-refused}
+use Rattle.pages.proofs.report.write_pages.Goals as goal
+
+pub returns-then-buffer-lt-CELLS_BYTES : goal.returns-then-buffer-lt-CELLS_BYTES
+returns-then-buffer-lt-CELLS_BYTES c = printed-short _ _ _ c.if-buffer-lt-CELLS_BYTES.true
+
+pub put_pages-requires : goal.put_pages-requires
+put_pages-requires c = search (taken, rules)
+
+pub returns-in-Read : goal.returns-in-Read
+returns-in-Read c = report-read _ _ _ _ (search rules) _ _ _ (search returned) c.put_pages.ensures
+
+pub returns-in-Refused : goal.returns-in-Refused
+returns-in-Refused c =
+    report-refused _ _ _ _ (search rules) _ _ (lit≤ tt) _ (search returned) c.put_refused_order.ensures

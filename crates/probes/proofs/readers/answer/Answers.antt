@@ -1,0 +1,15 @@
+use Rattle.prelude.proofs.Logic.{rules}
+use Rattle.float64.proofs.Floats.{round, of_bits, dec}
+use Rattle.order_numbers.specs.Numbers.{order_numbers_in}
+use Rattle.probes.specs.Readers.{answer_of}
+use Rattle.probes.proofs.readers.answer.Goals as goal
+
+pub returns-in-Read : goal.returns-in-Read
+unfolding answer_of order_numbers_in
+returns-in-Read c =
+    let matched = c.before.before.before in
+    simp (matched.Numbers-of.ensures, matched.in-Read.is)
+
+pub returns-in-Refused : goal.returns-in-Refused
+unfolding answer_of order_numbers_in dec round of_bits
+returns-in-Refused c = simp (c.Numbers-of.ensures, c.in-Refused.is)

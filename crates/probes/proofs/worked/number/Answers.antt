@@ -1,0 +1,11 @@
+use Rattle.prelude.proofs.Logic.{rules}
+use Rattle.schedule.specs.InForce.{current_number_of}
+use Rattle.probes.proofs.worked.number.Goals as goal
+
+pub returns-in-Some : goal.returns-in-Some
+unfolding current_number_of
+returns-in-Some c = cc
+
+pub returns-in-Nothing : goal.returns-in-Nothing
+unfolding current_number_of
+returns-in-Nothing c = cc

@@ -1,0 +1,20 @@
+use Rattle.prelude.proofs.Logic.{◌≡◌, ap, ◌∙◌, arith, ◌-ℤ◌, rules, w64, SFits}
+use Rattle.integers.proofs.Integers.{differences, read, P}
+use Rattle.schedule.proofs.Due as due
+use Rattle.schedule.proofs.in_force.ahead.Goals as goal
+
+told : (c : goal.After-between-whole) → let a = c.args in c.between-whole.result ≡ P (a.time -ℤ a.instant.seconds)
+told c =
+    let t = c.before.before in
+    let f : SFits w64 t.args.instant.seconds = search rules in
+    c.between-whole.ensures ∙ ap P (differences (read w64 t.args.time t.ranges.time) (read w64 t.args.instant.seconds f))
+
+pub returns-then-whole-begun : goal.returns-then-whole-begun
+returns-then-whole-begun c =
+    let a = c.args in
+    omega (arith, told c.before.before, due.ahead_is a.time a.instant, c.if-whole-begun.true)
+
+pub returns : goal.returns
+returns c =
+    let a = c.args in
+    omega (arith, told c.before.before, due.ahead_is a.time a.instant)

@@ -1,0 +1,34 @@
+-- Date, place and parameters are tested in this order. With all three, the result is the first row of a run (`first_row`).
+use Rattle.prelude.proofs.Logic.{ap, rules}
+use Rattle.schedule.specs.declared.prayer_schedule.Calculated.TheVariants.{Some}
+use Rattle.schedule.specs.Builder.{calculated_from}
+use Rattle.schedule.proofs.RowSunsLaws.{first_row}
+use Rattle.schedule.proofs.prayer_schedule.PrayerSchedule.calculate.Goals as goal
+
+pub returns-in_default : goal.returns-in_default
+unfolding calculated_from
+returns-in_default c = simp c.in_default.is
+
+pub returns-in_default-place : goal.returns-in_default-place
+unfolding calculated_from
+returns-in_default-place c = simp (c.in_default-place.is, c.in-Some.is)
+
+pub returns-in_default-params : goal.returns-in_default-params
+unfolding calculated_from
+returns-in_default-params c =
+    let place = c.before.before.before in
+    simp (c.in_default-params.is, place.in-Some-place.is, place.in-Some.is)
+
+pub returns : goal.returns
+unfolding calculated_from
+returns c =
+    let params = c.before.before.before.before in
+    let place = params.before.before.before in
+    simp (
+      c.work.ensures,
+      c.new.ensures,
+      c.source.ensures,
+      params.in-Some-params.is,
+      place.in-Some-place.is,
+      place.in-Some.is,
+    ) (ap Some (first_row _ _))

@@ -1,0 +1,23 @@
+-- The seconds to the next prayer, as hours and minutes; zeros if it has passed.
+use Rattle.prelude.proofs.Logic.{◌≡◌, sym, ap, ◌∙◌, ℤ, rules, w64}
+use Rattle.integers.proofs.Ranges.{read_back}
+use Rattle.schedule.proofs.Schedule.{ahead_of, hours_minutes_of, until_of}
+use Rattle.schedule.specs.declared.in_force.Remaining.TheVariants.{Some}
+use Rattle.schedule.proofs.prayer_times.PrayerTimes.time_remaining.Goals as goal
+
+pub returns-in-Some : goal.returns-in-Some
+unfolding until_of
+returns-in-Some c =
+    let at-prayer = c.before.before.before.before in
+    let t = at-prayer.before.before.before in
+    let time = c.time in
+    let k : read_back w64 time.result ≡ time.result = search rules in
+    let a = c.ahead-seconds.ensures ∙ ap (λ (z : ℤ). ahead_of z t.args.instant) (k ∙ time.ensures) in
+    ap Some (c.hours_minutes.ensures ∙ ap hours_minutes_of a)
+    ∙ ap (until_of t.args.self t.args.instant) (sym at-prayer.in-Some.is ∙ at-prayer.next.ensures)
+
+pub returns-in-Nothing : goal.returns-in-Nothing
+unfolding until_of
+returns-in-Nothing c =
+    let t = c.before.before.before in
+    ap (until_of t.args.self t.args.instant) (sym c.in-Nothing.is ∙ c.next.ensures)

@@ -1,0 +1,25 @@
+-- Tomorrow's Fajr from its own sun, a day later; the sum is small.
+use Rattle.prelude.proofs.Logic.{ap, ◌∙◌, lit≤, ℤ, rules}
+use Rattle.integers.proofs.Held.{constant, held_sum, held_as, held_fits, stored, promised}
+use Rattle.calendar.specs.declared.dates.Date.{Date}
+use Rattle.models.specs.declared.prayer.Prayer.TheVariants.{Fajr}
+use Rattle.models.specs.Settings.{time_adjustments_of}
+use Rattle.whole_minutes.specs.Times.{adjusted_of}
+use Rattle.whole_minutes.proofs.TimesLaws.{none_stays}
+use Rattle.schedule.proofs.Schedule.{fajr_tomorrow_of, next_day_of, unadjusted_fajr_of, of_near}
+use Rattle.schedule.proofs.prayer_times.next_fajr.Goals as goal
+
+pub overflow_add-result : goal.overflow_add-result
+overflow_add-result c = held_fits (held_sum (of_near c.final_time.ensures (lit≤ tt)) (constant 86400)) (lit≤ tt)
+
+pub returns : goal.returns
+unfolding fajr_tomorrow_of
+returns c =
+    let t = c.before.before.before in
+    let p = t.args.parameters in
+    let u = of_near c.unadjusted_fajr-fajr.ensures (lit≤ tt) in
+    let fajr = u.is ∙ ap (λ (d : Date). unadjusted_fajr_of p t.args.season d t.args.tomorrow t.args.after t.args.hour)
+    c.tomorrow.ensures in
+    let adjusted = none_stays _ ∙ ap (λ (z : ℤ). adjusted_of z (time_adjustments_of p Fajr)) fajr in
+    promised (held_as (stored (held_sum (of_near c.final_time.ensures (lit≤ tt)) (constant 86400)) (lit≤ tt)) (ap next_day_of adjusted))
+    (lit≤ tt)

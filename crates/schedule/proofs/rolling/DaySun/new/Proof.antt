@@ -1,8 +1,0 @@
-use Rattle.schedule.specs.RowSuns.{day_sun_of}
-use Rattle.schedule.proofs.rolling.DaySun.new as this
-
-pub new_spec : {M : Type 1} → this.Statement.statement M
-unfolding day_sun_of
-new_spec =
-    let returns : this.Tie.Need-returns = λ c. cc in
-    this.Tie.close (this.Tie.spec (λ c κs. tt) (λ c κs. tt) returns)

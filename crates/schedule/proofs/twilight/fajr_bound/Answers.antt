@@ -1,0 +1,32 @@
+-- By season for the Moonsighting Committee, else by the portion of the night; each is small.
+use Rattle.prelude.proofs.Logic.{◌≡◌, sym, ap, ◌∙◌, lit≤, rules, w32, w64, SFits}
+use Rattle.integers.proofs.Integers.{summands, read_back, read, held_as, promised}
+use Rattle.schedule.proofs.Schedule.{before_sunrise_of, short_of, of_near}
+use Rattle.schedule.proofs.twilight.fajr_bound.Goals as goal
+
+pub returns-then-by_season : goal.returns-then-by_season
+unfolding before_sunrise_of
+returns-then-by_season c =
+    let m = c.before.before in
+    let t = m.before.before.before.before in
+    let f : SFits w32 t.args.today.sunrise = search rules in
+    let k : read_back w64 m.morning_twilight_seconds-seconds.result ≡ m.morning_twilight_seconds-seconds.result = search rules in
+    let e : short_of (read_back w64 m.morning_twilight_seconds-seconds.result) ≡ before_sunrise_of t.args.parameters t.args.season
+    t.args.date t.args.night =
+    ap short_of (k ∙ m.morning_twilight_seconds-seconds.ensures
+    ∙ simp (m.ordinal.ensures, sym m.by_season.ensures, m.if-by_season.true)) in
+    promised (held_as (of_near c.moved.ensures (lit≤ tt)) (summands (read w32 _ f) e)) (lit≤ tt)
+
+pub returns : goal.returns
+unfolding before_sunrise_of
+returns c =
+    let m = c.before.before in
+    let t = m.before.before.before.before in
+    let f : SFits w32 t.args.today.sunrise = search rules in
+    let k : read_back w64 m.portion_before.result ≡ m.portion_before.result = search rules in
+    let n = read w64 t.args.night t.ranges.night in
+    let e : short_of (read_back w64 m.portion_before.result) ≡ before_sunrise_of t.args.parameters t.args.season t.args.date
+    t.args.night =
+    ap short_of (k ∙ m.portion_before.ensures ∙ simp
+    (n, m.night_portions-portions.ensures, sym m.by_season.ensures, m.if-by_season.false)) in
+    promised (held_as (of_near c.moved-2.ensures (lit≤ tt)) (summands (read w32 _ f) e)) (lit≤ tt)

@@ -1,0 +1,32 @@
+-- Two ends: a refused day changes no byte, a row with times is put at the front.
+use Rattle.prelude.proofs.Logic.{refl, sym, ap, subst, ◌∙◌, [], ◌^◌, ◌<◌, arith, rules, now}
+use Rattle.lines.specs.Lines.{columns_of, row_text}
+use Rattle.lines.proofs.LinesLaws.{columns_length}
+use Rattle.lines.proofs.SinceLaws.{row-since}
+use Rattle.schedule.specs.Each.{NearIn}
+use Rattle.schedule.specs.Times.{start_of, started_of, started_in}
+use Rattle.text.proofs.TextLaws.{put_next}
+use Rattle.text.specs.Text.{put_of}
+use Rattle.sheets.specs.Rows.{worked_call_of}
+use Rattle.sheets.proofs.row.write_worked.Goals as goal
+
+pub returns-in-Times : goal.returns-in-Times
+unfolding worked_call_of started_in NearIn
+returns-in-Times c =
+    let put = c.put_row in
+    let w = c.worked-1.given in
+    let start = c.before.before.before.before.before.before.before.before.before in
+    let a = start.args in
+    let imsak : a.ramadan.imsak < 2 ^ 32 = search rules in
+    let year : a.date.year < 2 ^ 32 = search rules in
+    let near = subst NearIn w.1 start.requires.1 in
+    let t = started_of (start_of a.date) w.0.0 in
+    let n = columns_length a.ramadan a.date t in
+    let p = put_next (now a.buffer) [] (row_text a.date (columns_of a.ramadan t)) (now a.buffer) _ 0 refl refl
+    (put.ensures.buffer_after ∙ ap (put_of (now a.buffer) 0) (sym (row-since a.date a.ramadan w.0.0 imsak year near.fajr)))
+    (omega (arith, start.requires.0)) in
+    (c.none.ensures ∙ simp w.1, simp w.1 p)
+
+pub returns-in-Refused : goal.returns-in-Refused
+unfolding worked_call_of started_in
+returns-in-Refused c = let e = c.in-Refused.is in (simp e, simp e)

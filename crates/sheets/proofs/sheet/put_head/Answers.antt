@@ -1,0 +1,23 @@
+-- The town, a newline and the header that the order asks for.
+use Rattle.prelude.proofs.Logic.{arith, rules, now}
+use Rattle.sheets.proofs.Lengths.{header_short, head_length, head_made}
+use Rattle.sheets.proofs.sheet.put_head.Goals as goal
+
+pub overflow_add-result : goal.overflow_add-result
+overflow_add-result c =
+    let t = c.before.before.before.before.before.before.before.before.before.before in
+    let h = c.put_header.ensures.value in
+    let n = header_short t.args.ramadan in
+    record { fits = omega (arith, t.requires.0) }
+
+pub returns : goal.returns
+returns c =
+    let t = c.before.before.before.before.before.before.before.before.before.before in
+    let a = t.args in
+    let h = c.put_header.ensures in
+    let n = header_short a.ramadan in
+    let l = head_length a.ramadan (now a.town) in (
+      omega (arith, h.0),
+      head_made a.ramadan (now a.town) (now a.buffer) _ _ (omega (arith, t.requires.0, t.requires.1))
+          c.put.ensures h.1,
+    )

@@ -1,0 +1,73 @@
+-- Invariant: the suns are the row's, and the lines of the earlier rows are in the buffer, up to `end`.
+use Rattle.prelude.proofs.Logic.{◌≡◌, refl, ap, ◌∙◌, ◌+◌, ◌-◌, ◌^◌, ◌<◌, arith, length, rules, now}
+use Rattle.days.proofs.RowStates.{first-state, next-state}
+use Rattle.schedule.specs.RowSuns.{next_row_suns_of}
+use Rattle.sheets.proofs.Lengths.{lines_none}
+use Rattle.sheets.proofs.Rolled.{Run, Behind, since_line, run-line}
+use Rattle.sheets.proofs.sheet.put_rows.Goals as goal
+
+-- after the row whose line is put
+line-holds : (c : goal.After-put-line) → let a =
+    c.args in
+    let l = c.loop-row in
+    Behind a.order (now a.buffer) a.at c.put_line-end.last.0 (l.row + 1) (l.end + c.put_line-end.result)
+line-holds c =
+    let t = c.before.before.before.before.before.before.before.before in
+    let o = t.args.order in
+    let l = c.loop-row in
+    let put = c.put_line-end in
+    let e = c.since_midnight-worked.ensures in
+    run-line o t.requires.0 (now t.args.buffer) t.args.at t.requires.1 l.buffer l.suns l.row l.end l.invariant _
+    put.last.0 put.result
+    (since_line o t.requires.0 l.suns l.row l.invariant.within l.invariant.state _ e.0 e.1) put.ensures.value put.ensures.buffer_after
+
+pub loop-row-init : goal.loop-row-init
+loop-row-init c =
+    let t = c.before.before.before.before in
+    let o = t.args.order in
+    let p = t.requires in
+    let n = lines_none o (now t.args.buffer) t.args.at (omega (arith, p.1)) in
+    record { within = p.0.rows.0; state = c.new-suns.ensures ∙ first-state o p.0; text = n.0; place = n.1; same = refl }
+
+pub overflow_add-end : goal.overflow_add-end
+overflow_add-end c =
+    let t = c.before.before.before.before.before.before.before.before.before.before in
+    let f : length (now t.args.buffer) < 2 ^ 64 = search rules in
+    omega (arith, (line-holds c.before.before).2)
+
+pub overflow_add-row : goal.overflow_add-row
+overflow_add-row c =
+    omega (
+      arith,
+      c.loop-row.invariant.within,
+      c.requires.0.rows.1,
+    )
+
+pub shape_of-buffer-then-row-order : goal.shape_of-buffer-then-row-order
+shape_of-buffer-then-row-order c = c.put_line-end.kept.0 ∙ c.loop-row.invariant.same
+
+pub returns-then-row-order : goal.returns-then-row-order
+returns-then-row-order c =
+    let l = c.loop-row in
+    let n = line-holds c.before.before.before.before in
+    let t = c.before.before.before.before.before.before.before.before.before.before.before.before in
+    let e : l.row + 1 ≡ t.args.order.rows = omega (arith, c.if-row-order.true, l.invariant.within) in
+    (rw e at n.1, rw e at n.0)
+
+pub loop-row-smaller : goal.loop-row-smaller
+loop-row-smaller c = omega (arith, c.loop-row.invariant.within)
+
+pub loop-row-preserved : goal.loop-row-preserved
+loop-row-preserved c =
+    let t = c.before.before.before.before.before.before.before.before.before.before.before.before.before in
+    let o = t.args.order in
+    let l = c.loop-row in
+    let n = line-holds c.before.before.before.before.before in
+    record {
+      within = c.if-row-order.false;
+      state = c.next-suns.ensures ∙ ap (next_row_suns_of o.setting) l.invariant.state ∙ next-state o t.requires.0 l.row
+          l.invariant.within;
+      text = n.0;
+      place = n.1;
+      same = c.put_line-end.kept.0 ∙ l.invariant.same;
+    }

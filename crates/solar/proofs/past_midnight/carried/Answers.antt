@@ -1,0 +1,21 @@
+-- The time by the source's rule if there is one. Else the sum is 24, and the time is 0h of the date after the one taken.
+use Rattle.prelude.proofs.Logic.{sym, ap, ◌∙◌, rules, w32, SFits, to_z-of_z}
+use Rattle.solar.specs.declared.setting.SolarHour.{SolarHour}
+use Rattle.solar.proofs.PastMidnightLaws.{carried_from, carry_from}
+use Rattle.solar.proofs.past_midnight.carried.Goals as goal
+
+pub returns-in-Some : goal.returns-in-Some
+returns-in-Some c =
+    let h = c.before.before.before in
+    let p = h.args.p in
+    let f : SFits w32 c.in-Some.time = search rules in
+    let from : SolarHour → SolarHour = λ r. carried_from r p.ahead in
+    rw (to_z-of_z f) (sym (carry_from p h.args.minute ∙ ap from (sym h.hour.ensures ∙ c.in-Some.is)))
+
+pub returns-in-Nothing : goal.returns-in-Nothing
+returns-in-Nothing c =
+    let h = c.before.before.before in
+    let p = h.args.p in
+    let from : SolarHour → SolarHour = λ r. carried_from r p.ahead in
+    c.next_midnight.ensures
+    ∙ sym (carry_from p h.args.minute ∙ ap from (sym h.hour.ensures ∙ c.in-Nothing.is))

@@ -1,0 +1,18 @@
+-- A refused order and a read one, each by the law of every report; a buffer that is too short stays.
+use Rattle.prelude.proofs.Logic.{lit≤, rules}
+use Rattle.text.proofs.PrintedLaws.{printed-short}
+use Rattle.reports.proofs.ReportsLaws.{returned, taken, report-read, report-refused}
+use Rattle.weeks.proofs.report.write_week.Goals as goal
+
+pub returns-then-buffer-lt-WEEK_BYTES : goal.returns-then-buffer-lt-WEEK_BYTES
+returns-then-buffer-lt-WEEK_BYTES c = printed-short _ _ _ c.if-buffer-lt-WEEK_BYTES.true
+
+pub put_report-requires : goal.put_report-requires
+put_report-requires c = search (taken, rules)
+
+pub returns-in-Read : goal.returns-in-Read
+returns-in-Read c = report-read _ _ _ _ (search rules) _ _ _ (search returned) c.put_report.ensures
+
+pub returns-in-Refused : goal.returns-in-Refused
+returns-in-Refused c =
+    report-refused _ _ _ _ (search rules) _ _ (lit≤ tt) _ (search returned) c.put_refused_order.ensures
